@@ -1,0 +1,78 @@
+ghost use Rattle.std.specs.Prelude.{◌≡◌, ℕ, ◌+◌, ◌<◌, ◌≤◌, ◌^◌, ◌++◌, List, length, take, IfOk, IfErr, OnOk, OnErr, vec_capacity, vec_len};
+ghost use Rattle.orc_bits.specs.Varint.{IsVarint, IsShortest, NoVarint, varint_text};
+ghost use Rattle.orc_bits.specs.declared.fault.BitFault.{BitFault};
+ghost use Rattle.orc_bits.specs.declared.fault.BitFault.TheVariants.{OutOfMemory};
+
+use crate::fault::BitFault;
+
+/// A varint of 64 bits has at most this many bytes, of seven bits each.
+const MOST_BYTES: usize = 10;
+
+/// The number of the varint at the front of `bytes`, and how many bytes it takes. Longer spellings
+/// than the shortest are varints too.
+///
+/// Refusals: `Short` where `bytes` end within the varint, `TooLong` where its tenth byte is above
+/// 1. It takes no memory.
+pub fn read_varint(bytes: &[u8]) -> Result<(u64, usize), BitFault>
+    ensures within { IfOk result (λ found. found.1 ≤ length bytes.now) }
+    ensures found { IfOk result (λ found. IsVarint (take found.1 bytes.now) found.0) }
+    ensures only { (front rest : List ℕ) (n : ℕ) → IsVarint front n → bytes.now ≡ front ++ rest → result ≡ Ok (n, length front) }
+
+    ensures fault { IfErr result (NoVarint bytes.now) }
+    ensures refused { (fault : BitFault) → NoVarint bytes.now fault → result ≡ Err fault }
+{
+    let mut value: u64 = 0;
+    let mut scale: u64 = 1;
+    for (i, byte) in bytes.iter().enumerate() {
+        let byte = *byte;
+        if i == MOST_BYTES - 1 {
+            if byte > 1 {
+                return Err(BitFault::TooLong);
+            }
+            return Ok((value + u64::from(byte) * scale, i + 1));
+        }
+        if byte < 128 {
+            return Ok((value + u64::from(byte) * scale, i + 1));
+        }
+        value += u64::from(byte % 128) * scale;
+        scale *= 128;
+    }
+    Err(BitFault::Short)
+}
+
+/// Appends the shortest varint of `n`. A refusal, which is `OutOfMemory`, leaves `out` as it was,
+/// and comes only where `out` had no room left for the varint.
+pub fn put_varint(n: u64, out: &mut Vec<u8>) -> Result<(), BitFault>
+    ensures text { OnOk result (out.new.items ≡ out.old.items ++ varint_text n) }
+    ensures shortest { OnOk result (IsShortest (varint_text n) n) }
+
+    ensures refused { IfErr result (λ fault. fault ≡ OutOfMemory) }
+    ensures unchanged { OnErr result (out.new.items ≡ out.old.items) }
+    ensures full { OnErr result (vec_capacity out.old < vec_len out.old + length (varint_text n)) }
+{
+    let mut text = [0u8; MOST_BYTES];
+    let mut len = 0;
+    let mut rest = n;
+    while rest >= 128 {
+        text[len] = (rest % 128) as u8 + 128;
+        rest /= 128;
+        len += 1;
+    }
+    text[len] = rest as u8;
+    match out.extend_from_slice(&text[..len + 1]) {
+        Ok(()) => Ok(()),
+        Err(_) => Err(BitFault::OutOfMemory),
+    }
+}
+
+/// Laws of varints: none is a proper prefix of another, so bytes have at most one varint in front;
+/// every number below 2^64 has one shortest varint, the one that `put_varint` appends; and where a
+/// fault of `read_varint` applies no varint stands, nor another fault.
+pub fn varint_laws()
+    ensures prefix { (a b x y : List ℕ) (m n : ℕ) → IsVarint a m → IsVarint b n → a ++ x ≡ b ++ y → (a ≡ b) × (m ≡ n) }
+    ensures written { (n : ℕ) → n < 2 ^ 64 → IsShortest (varint_text n) n }
+    ensures one_shortest { (a : List ℕ) (n : ℕ) → IsShortest a n → a ≡ varint_text n }
+    ensures none { (a x : List ℕ) (n : ℕ) (fault : BitFault) → NoVarint (a ++ x) fault → IsVarint a n → ⊥ }
+    ensures one_fault { (bytes : List ℕ) (e f : BitFault) → NoVarint bytes e → NoVarint bytes f → e ≡ f }
+{
+}
