@@ -25,14 +25,15 @@ pub fn read_varint(bytes: &[u8]) -> Result<(u64, usize), BitFault>
     let mut scale: u64 = 1;
     for (i, byte) in bytes.iter().enumerate() {
         let byte = *byte;
+        let used = i + 1;
         if i == MOST_BYTES - 1 {
             if byte > 1 {
                 return Err(BitFault::TooLong);
             }
-            return Ok((value + u64::from(byte) * scale, i + 1));
+            return Ok((value + u64::from(byte) * scale, used));
         }
         if byte < 128 {
-            return Ok((value + u64::from(byte) * scale, i + 1));
+            return Ok((value + u64::from(byte) * scale, used));
         }
         value += u64::from(byte % 128) * scale;
         scale *= 128;
@@ -74,5 +75,4 @@ pub fn varint_laws()
     ensures one_shortest { (a : List ℕ) (n : ℕ) → IsShortest a n → a ≡ varint_text n }
     ensures none { (a x : List ℕ) (n : ℕ) (fault : BitFault) → NoVarint (a ++ x) fault → IsVarint a n → ⊥ }
     ensures one_fault { (bytes : List ℕ) (e f : BitFault) → NoVarint bytes e → NoVarint bytes f → e ≡ f }
-{
-}
+{}

@@ -1,5 +1,5 @@
 use Rattle.std.proofs.Common.{arith, ◌≡◌, ◌+◌, ◌++◌, take, ◌%◌, [], ◌∷◌, refl, set, ap, ◌∙◌, List, ℕ, length, ◌<◌, ◌^◌}
-use Rattle.std.proofs.lemmas.List.{take_more_set, length-take, length-set}
+use Rattle.std.proofs.lemmas.List.{take_more_set, length-set}
 use Rattle.orc_bits.specs.Varint.{varint_text}
 use Rattle.orc_bits.proofs.VarintLemmas.{IsText, few_bytes, grows, text_more, varint_text-is, text_is}
 use Rattle.orc_bits.proofs.varint.put_varint.Goals as goal
