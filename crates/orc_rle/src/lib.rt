@@ -13,3 +13,6 @@ pub use fault::RunFault;
 pub use run::Run;
 pub use sign::{Rle, Sign};
 pub use v1::{V1, run_one_laws};
+
+#[cfg(test)]
+mod tests;
