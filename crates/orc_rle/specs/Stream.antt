@@ -1,5 +1,5 @@
 -- Streams of runs, whatever a run is (ORC specification, "Run Length Encoding").
-use Rattle.std.specs.Prelude.{◌≡◌, ℕ, List, [], ◌∷◌, ◌++◌, ◌+◌, ◌<◌, ◌≤◌, length, ℤ, ◌⊎◌}
+use Rattle.std.specs.Prelude.{◌≡◌, ℕ, List, [], ◌∷◌, ◌++◌, ◌+◌, ◌<◌, ◌≤◌, length, ℤ, ◌⊎◌, Result, Ok, Err}
 use Rattle.orc_rle.specs.declared.fault.RunFault.{RunFault}
 use Rattle.orc_rle.specs.declared.fault.RunFault.TheVariants.{Short, BadVarint, ValueRange, BadDelta, PatchOrder, PatchPlace, PatchRange, TooFew, TooMany, BadPosition, OutOfMemory}
 
@@ -59,3 +59,8 @@ pub record StopsWithin (is_run : List ℕ → List ℤ → Type 0) (fails : List
   pub stream : IsStream is_run front values
   pub few : length values ≤ n
   pub reason : IsTooFew n bytes rest values fault ⊎ (IsNoRun fails front rest fault ⊎ IsTooMany is_run n front rest values fault)
+
+-- the answer is this fault, or want of memory
+abbrev pub Refuses : {T : Type 0} → Result T RunFault → RunFault → Type 0
+Refuses (Ok answer) fault = ⊥
+Refuses (Err other) fault = (other ≡ fault) ⊎ (other ≡ OutOfMemory)

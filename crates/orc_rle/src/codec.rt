@@ -3,7 +3,7 @@ ghost use Rattle.orc_rle.specs.declared.sign.Sign.{Sign};
 ghost use Rattle.orc_rle.specs.declared.fault.RunFault.{RunFault};
 ghost use Rattle.orc_rle.specs.declared.fault.RunFault.TheVariants.{OutOfMemory};
 ghost use Rattle.orc_rle.specs.Values.{AllInRange, AppendsBytes};
-ghost use Rattle.orc_rle.specs.Stream.{IsStream, StopsAt, StopsWithin};
+ghost use Rattle.orc_rle.specs.Stream.{IsStream, StopsAt, StopsWithin, Refuses};
 
 use crate::fault::RunFault;
 use crate::run::Run;
@@ -55,6 +55,7 @@ pub trait RunCodec {
             → MatchResult result (λ decoded. decoded.items ≡ values) (λ fault. fault ≡ OutOfMemory) }
 
         ensures fault { IfErr result (λ fault. (fault ≡ OutOfMemory) ⊎ StopsAt (is_run sign) (fails sign) bytes.now fault) }
+        ensures refused { (fault : RunFault) → StopsAt (is_run sign) (fails sign) bytes.now fault → Refuses result fault }
     {
         let mut run = Run::new();
         let mut values = Vec::new(alloc);
@@ -84,6 +85,7 @@ pub trait RunCodec {
             → MatchResult result (λ decoded. decoded.items ≡ values) (λ fault. fault ≡ OutOfMemory) }
 
         ensures fault { IfErr result (λ fault. (fault ≡ OutOfMemory) ⊎ StopsWithin (is_run sign) (fails sign) n bytes.now fault) }
+        ensures refused { (fault : RunFault) → StopsWithin (is_run sign) (fails sign) n bytes.now fault → Refuses result fault }
     {
         let mut run = Run::new();
         let mut values = Vec::new(alloc);
