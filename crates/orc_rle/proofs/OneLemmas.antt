@@ -4,13 +4,16 @@ use Rattle.std.specs.Prelude.{FitsSigned}
 use Rattle.std.proofs.Common.{to_z, of_z}
 use Rattle.std.proofs.lemmas.Int.{to_z-of_z, of_z-to_z, ints}
 use Rattle.std.specs.Int.{w8, w64}
-use Rattle.std.proofs.lemmas.List.{append-nil, take-append-drop}
+use Rattle.std.proofs.lemmas.List.{take-append-drop}
 use Rattle.orc_rle.specs.declared.sign.Sign.{Sign}
 use Rattle.orc_rle.specs.declared.sign.Sign.TheVariants.{Signed, Unsigned}
 use Rattle.orc_rle.specs.Values.{InRange, AllInRange, IsSpelled}
 use Rattle.orc_rle.specs.Reading.{Reads}
-use Rattle.orc_rle.specs.RunOne.{progression, IsSteps, IsStepRun, IsRunOne, HasShapeOutOfRange}
-use Rattle.orc_rle.proofs.ValuesLemmas.{AllInRange-parts}
+use Rattle.orc_rle.specs.declared.fault.RunFault.{RunFault}
+use Rattle.orc_rle.specs.declared.fault.RunFault.TheVariants.{Short, BadVarint, ValueRange, BadDelta, PatchOrder, PatchPlace, PatchRange, TooFew, TooMany, BadPosition, OutOfMemory}
+use Rattle.orc_rle.specs.Stream.{at_place}
+use Rattle.orc_rle.specs.RunOne.{progression, IsSteps, IsStepRun, IsRunOne, HasShapeOutOfRange, NoRunOne}
+use Rattle.orc_rle.specs.WrittenLaws.{AllInRange-parts}
 
 pub InRange-fits : (sign : Sign) (v : ℤ) → InRange sign v → FitsSigned w64 v
 InRange-fits Signed v h = h
@@ -29,11 +32,6 @@ steps_out sign kept all last step more i lt h out every =
     let k : more - i ≡ suc (more - (i + 1)) = omega arith in
     let e : all ≡ kept ++ (last +ℤ step) ∷ progression ((last +ℤ step) +ℤ step) step (more - (i + 1)) = sym h ∙ ap (λ (n : ℕ). kept ++ progression (last +ℤ step) step n) k in
     out (AllInRange-parts sign kept _ (rw e at every)).1.0
-
-pub steps_done : (kept all : List ℤ) (next step : ℤ) (more i : ℕ) → more ≤ i → kept ++ progression next step (more - i) ≡ all → kept ≡ all
-steps_done kept all next step more i le h =
-    let k : more - i ≡ 0 = omega arith in
-    sym (append-nil kept) ∙ sym (ap (λ (n : ℕ). kept ++ progression next step n) k) ∙ h
 
 -- literals out of range
 pub literals_out : (sign : Sign) (control len : ℕ) (rest : List ℕ) (kept : List ℤ) → 128 ≤ control → control < 256
@@ -138,3 +136,17 @@ steps_run sign control step text kept got new s lt small h is s-is all =
     let e2 : to_z w8 (of_z w8 s) ≡ to_z w8 step = rw s-is (to_z-of_z w8 (to_z w8 step) (to_z-fits step small)) in
     let are : new ≡ progression first (to_z w8 step) (control + 3) = rw (e1, e2, k) at all.0 in
     record { shape = inl (rw are (steps_shape sign control step text first lt small f.0)); in_range = all.1 }
+
+-- the fault of a run is at its first byte
+pub NoRunOne-place : (sign : Sign) (bytes : List ℕ) (fault : RunFault) → NoRunOne sign bytes fault → fault ≡ at_place fault 0
+NoRunOne-place sign bytes (Short place) h = ap Short h.0
+NoRunOne-place sign bytes (BadVarint place) h = ap BadVarint h.0
+NoRunOne-place sign bytes (ValueRange place) h = ap ValueRange h.0
+NoRunOne-place sign bytes (BadDelta place) h = absurd h
+NoRunOne-place sign bytes (PatchOrder place) h = absurd h
+NoRunOne-place sign bytes (PatchPlace place) h = absurd h
+NoRunOne-place sign bytes (PatchRange place) h = absurd h
+NoRunOne-place sign bytes (TooFew place) h = absurd h
+NoRunOne-place sign bytes (TooMany place) h = absurd h
+NoRunOne-place sign bytes (BadPosition place) h = absurd h
+NoRunOne-place sign bytes OutOfMemory h = absurd h

@@ -12,12 +12,6 @@ use Rattle.orc_rle.specs.WrittenLaws.{same_steps, longer}
 use Rattle.orc_rle.proofs.OneLemmas.{are_steps, length-progression}
 use Rattle.std.proofs.lemmas.Bool.{cases_lt}
 
-pub start_from : (vs : List ℤ) (step : ℤ) → 3 ≤ length vs → get_or vs 1 (pos 0) ≡ get_or vs 0 (pos 0) +ℤ step → get_or vs 2 (pos 0) ≡ get_or vs 1 (pos 0) +ℤ step → IsStart step vs
-start_from [] step len p q = absurd (omega (arith, len))
-start_from (x ∷ []) step len p q = absurd (omega (arith, len))
-start_from (x ∷ y ∷ []) step len p q = absurd (omega (arith, len))
-start_from (x ∷ y ∷ z ∷ vs) step len p q = (p, q)
-
 pub record Start (vs : List ℤ) (step : ℤ) : Type 0 where
   pub len : 3 ≤ length vs
   pub second : get_or vs 1 (pos 0) ≡ get_or vs 0 (pos 0) +ℤ step

@@ -1,4 +1,4 @@
--- What the writer of version 1 knows in the midst of a cut (ORC specification, "Integer Run Length Encoding, version 1").
+-- What the writer knows in the midst of a cut (ORC specification, "Integer Run Length Encoding, version 1").
 use Rattle.std.specs.Prelude.{◌≡◌, ℕ, zero, suc, ◌-◌, ◌<◌, ◌≤◌, List, [], ◌∷◌, ◌++◌, length, take, drop, ℤ, ◌+ℤ◌, FitsSigned, ◌⊎◌}
 use Rattle.std.specs.Int.{w8, cast_unsigned}
 use Rattle.orc_rle.specs.declared.sign.Sign.{Sign}

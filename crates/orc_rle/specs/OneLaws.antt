@@ -1,5 +1,5 @@
--- Laws of runs of version 1 (ORC specification, "Integer Run Length Encoding, version 1"): no run begins another, and where a
--- fault applies no run stands, nor another fault.
+-- Laws of runs (ORC specification, "Integer Run Length Encoding, version 1").
+-- No run begins another, and where a fault applies no run stands, nor another fault.
 use Rattle.std.proofs.Common.{◌≡◌, ℕ, ◌-◌, ◌<◌, List, [], ◌∷◌, ◌++◌, length, refl, sym, ap, subst, ◌∙◌, arith, inl, inr, ◌⊎◌, append_assoc, ℤ, to_z, of_z}
 use Rattle.std.specs.Int.{w8}
 use Rattle.std.proofs.lemmas.Int.{to_z-of_z}

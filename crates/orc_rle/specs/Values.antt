@@ -1,5 +1,4 @@
--- Values of integer streams, and the varints that stand for them (ORC specification, "Base 128 Varint" and
--- "Integer Run Length Encoding").
+-- Values, and the varints that stand for them (ORC specification, "Base 128 Varint").
 use Rattle.std.specs.Prelude.{◌≡◌, ℕ, ◌^◌, ◌<◌, List, [], ◌∷◌, ◌++◌, length, ℤ, pos, negsuc, FitsSigned}
 use Rattle.std.specs.List.{AllByRecursion}
 use Rattle.std.specs.Int.{w64}

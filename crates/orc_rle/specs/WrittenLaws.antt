@@ -1,7 +1,6 @@
--- Laws of the text that the writer of version 1 makes (ORC specification, "Integer Run Length Encoding, version 1"): it is a
--- stream of the values, and the values have no other.
-use Rattle.std.proofs.Common.{◌≡◌, ℕ, suc, ◌+◌, ◌-◌, ◌<◌, ◌≤◌, List, [], ◌∷◌, ◌++◌, length, refl, sym, ap, subst, ◌∙◌, arith, inl, inr, ℤ, pos, ◌+ℤ◌, length-append}
-use Rattle.std.specs.Int.{w8, cast_unsigned}
+-- Laws of what the writer makes of values (ORC specification, "Integer Run Length Encoding, version 1").
+-- It is a stream of the values, and the values have no other text.
+use Rattle.std.proofs.Common.{◌≡◌, ℕ, suc, ◌-◌, ◌<◌, ◌≤◌, List, [], ◌∷◌, ◌++◌, length, refl, sym, ap, subst, ◌∙◌, arith, inl, inr, ℤ, pos, ◌+ℤ◌, length-append}
 use Rattle.std.proofs.Math.IntN.{◌-ℤ◌, +ℤ_comm, +ℤ-neg_ℤ_cancel}
 use Rattle.std.proofs.lemmas.Bool.{cases_lt}
 use Rattle.std.proofs.lemmas.List.{append-nil, nil_from_length}
@@ -18,9 +17,9 @@ text_spelled : (sign : Sign) (vs : List ℤ) (text : List ℕ) → IsText sign v
 text_spelled sign [] text h = h
 text_spelled sign (v ∷ vs) text h = (h.0, h.1, h.2, h.3, h.4.varint, h.5, text_spelled sign vs h.2 h.6)
 
-parts_in_range : (sign : Sign) (vs ws : List ℤ) → AllInRange sign (vs ++ ws) → AllInRange sign vs × AllInRange sign ws
-parts_in_range sign [] ws h = (tt, h)
-parts_in_range sign (x ∷ vs) ws h = let r = parts_in_range sign vs ws h.1 in ((h.0, r.0), r.1)
+pub AllInRange-parts : (sign : Sign) (vs ws : List ℤ) → AllInRange sign (vs ++ ws) → AllInRange sign vs × AllInRange sign ws
+AllInRange-parts sign [] ws h = (tt, h)
+AllInRange-parts sign (x ∷ vs) ws h = let r = AllInRange-parts sign vs ws h.1 in ((h.0, r.0), r.1)
 
 piece_shape : (sign : Sign) (piece rest : List ℤ) (text : List ℕ) → IsPiece sign piece rest text → IsShape sign text piece
 piece_shape sign piece rest text (inl p) = inl (record {
@@ -42,7 +41,7 @@ piece_shape sign piece rest text (inr p) = inr (record {
 are_runs : (sign : Sign) (pieces : List (List ℤ)) (values : List ℤ) (bytes : List ℕ) → AreWritten sign pieces values bytes → AllInRange sign values → IsStream (IsRunOne sign) bytes values
 are_runs sign [] values bytes h r = ([], (h.1, h.0))
 are_runs sign (piece ∷ pieces) values bytes h r =
-    let ranges = parts_in_range sign piece h.0 (subst (λ (t : List ℤ). AllInRange sign t) h.3 r) in
+    let ranges = AllInRange-parts sign piece h.0 (subst (λ (t : List ℤ). AllInRange sign t) h.3 r) in
     let k = are_runs sign pieces h.0 h.2 h.6 ranges.1 in
     ((h.1, piece) ∷ k.0, (h.2, h.0, record { shape = piece_shape sign piece h.0 h.1 h.5; in_range = ranges.0 }, h.4, h.3, k.1))
 

@@ -1,5 +1,6 @@
--- The text of version 1 that the writer makes (ORC specification, "Integer Run Length Encoding, version 1", which leaves
--- the cut to the writer): from the left the longest run of steps, and where none begins literals until one does.
+-- What the writer makes of values (ORC specification, "Integer Run Length Encoding, version 1").
+-- The specification leaves the cut to the writer. Ours takes, from the left, the longest run of steps, and where none begins
+-- literals until one does.
 use Rattle.std.specs.Prelude.{◌≡◌, ℕ, ◌-◌, ◌<◌, ◌≤◌, List, [], ◌∷◌, ◌++◌, length, ℤ, ◌⊎◌}
 use Rattle.std.specs.Int.{w8, cast_unsigned}
 use Rattle.orc_rle.specs.declared.sign.Sign.{Sign}

@@ -1,9 +1,9 @@
-ghost use Rattle.std.specs.Prelude.{◌≡◌, ℕ, ℤ, List, [], ◌++◌, ◌≤◌, length, take, Result, Ok, Err, ◌⊎◌, IfOk, IfErr, OnOk, OnErr, MatchResult};
+ghost use Rattle.std.specs.Prelude.{◌≡◌, ℕ, ℤ, List, [], ◌++◌, ◌<◌, ◌≤◌, length, take, Result, Ok, Err, ◌⊎◌, IfOk, IfErr, OnOk, OnErr, MatchResult};
 ghost use Rattle.orc_rle.specs.declared.sign.Sign.{Sign};
 ghost use Rattle.orc_rle.specs.declared.fault.RunFault.{RunFault};
 ghost use Rattle.orc_rle.specs.declared.fault.RunFault.TheVariants.{OutOfMemory};
 ghost use Rattle.orc_rle.specs.Values.{AllInRange, AppendsBytes};
-ghost use Rattle.orc_rle.specs.Stream.{IsStream, StopsAt, StopsWithin, Refuses};
+ghost use Rattle.orc_rle.specs.Stream.{IsStream, StopsAt, StopsWithin, Refuses, at_place};
 
 use crate::fault::RunFault;
 use crate::run::Run;
@@ -28,11 +28,13 @@ pub trait RunCodec {
     fn next_run(bytes: &[u8], sign: Sign, run: &mut Run) -> Result<usize, RunFault>
         ensures found { IfOk result (λ len. is_run sign (take len bytes.now) run.new.values) }
         ensures within { IfOk result (λ len. len ≤ length bytes.now) }
+        ensures some { IfOk result (λ len. 0 < len) }
         ensures only { (front rest : List ℕ) (v : List ℤ) → is_run sign front v → bytes.now ≡ front ++ rest
             → (result ≡ Ok (length front)) × (run.new.values ≡ v) }
 
         ensures fault { IfErr result (fails sign bytes.now) }
         ensures refused { (fault : RunFault) → fails sign bytes.now fault → result ≡ Err fault }
+        ensures place { IfErr result (λ fault. fault ≡ at_place fault 0) }
         ensures empty { OnErr result (run.new.values ≡ []) };
 
     /// Appends the one text that the writer makes of the values. Each has to be in the sign's range.
