@@ -1,4 +1,4 @@
-use Rattle.std.proofs.Common.{pos, arith, get_or, rules, take, take_all, subst, sym, refl, List, ℤ}
+use Rattle.std.proofs.Common.{pos, get_or, rules, take, take_all, subst, refl, List, ℤ}
 use Rattle.std.specs.Prelude.{FitsSigned}
 use Rattle.std.specs.Int.{w64}
 use Rattle.std.proofs.lemmas.Int.{to_z-of_z}
