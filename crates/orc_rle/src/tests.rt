@@ -314,7 +314,8 @@ fn runs_are_read_one_by_one(rt: HostRuntime) {
 }
 
 #[test]
-fn fault_texts(rt: HostRuntime) -> Result<(), std::alloc::AllocError> {
+fn fault_texts(rt: HostRuntime) {
+    let mut refused = false;
     let table = [
         (Short(1), "run 1 Short at 1"),
         (BadVarint(0), "run 2 BadVarint at 0"),
@@ -329,8 +330,12 @@ fn fault_texts(rt: HostRuntime) -> Result<(), std::alloc::AllocError> {
         (OutOfMemory, "run 11 OutOfMemory"),
     ];
     for (fault, text) in table {
-        let shown = format!(in rt.alloc(); "{fault}")?;
-        assert_eq!(rt; shown.as_str(), text);
+        match format!(in rt.alloc(); "{fault}") {
+            Ok(shown) => assert_eq!(rt; shown.as_str(), text),
+            Err(_) => {
+                assert!(rt; !refused);
+                refused = true;
+            }
+        }
     }
-    Ok(())
 }
