@@ -1,0 +1,5 @@
+pub mod RunLemmas
+pub mod ValuesLemmas
+pub mod OneLemmas
+pub mod WrittenLemmas
+pub mod StreamLemmas

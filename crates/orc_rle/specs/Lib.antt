@@ -1,0 +1,9 @@
+pub mod Content
+pub mod Values
+pub mod RunOne
+pub mod WrittenOne
+pub mod Stream
+pub mod Reading
+pub mod Cutting
+pub mod OneLaws
+pub mod WrittenLaws
