@@ -1,0 +1,4 @@
+pub mod Output
+pub mod Ints
+pub mod FirstFile
+pub mod Rows
