@@ -37,15 +37,17 @@ fn zigzag_of_the_ends_and_the_middle(rt: HostRuntime) {
 
 #[test]
 fn shortest_varints_both_ways(rt: HostRuntime) {
+    let mut refused = false;
     for (number, text) in SHORTEST {
         assert_eq!(rt; read_varint(text), Ok((number, text.len())), "at {number}");
         let mut out = Vec::new(rt.alloc());
-        match put_varint(number, &mut out) {
-            Ok(()) => assert_eq!(rt; out.as_slice(), text, "at {number}"),
-            Err(fault) => {
-                assert_eq!(rt; fault, BitFault::OutOfMemory);
-                assert_eq!(rt; out.len(), 0);
-            }
+        if out.push(0xff).is_err() || put_varint(number, &mut out).is_err() {
+            assert!(rt; !refused, "memory is refused once at most");
+            assert!(rt; out.is_empty() || out.as_slice() == [0xff], "at {number}");
+            refused = true;
+        } else {
+            assert_eq!(rt; out.first(), Some(&0xff), "at {number}");
+            assert_eq!(rt; out.get(1..), Some(text), "at {number}");
         }
     }
 }

@@ -14,8 +14,8 @@ const MOST_BYTES: usize = 10;
 /// Refusals: `Short` where `bytes` end within the varint, `TooLong` where its tenth byte is above
 /// 1. It takes no memory.
 pub fn read_varint(bytes: &[u8]) -> Result<(u64, usize), BitFault>
-    ensures within { IfOk result (λ found. found.1 ≤ length bytes.now) }
     ensures found { IfOk result (λ found. IsVarint (take found.1 bytes.now) found.0) }
+    ensures within { IfOk result (λ found. found.1 ≤ length bytes.now) }
     ensures only { (front rest : List ℕ) (n : ℕ) → IsVarint front n → bytes.now ≡ front ++ rest → result ≡ Ok (n, length front) }
 
     ensures fault { IfErr result (NoVarint bytes.now) }

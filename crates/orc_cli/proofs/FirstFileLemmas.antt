@@ -1,5 +1,5 @@
 -- The parts of a file of the first form, told apart from its ends.
-use Rattle.std.proofs.Common.{◌≡◌, ℕ, ◌+◌, ◌-◌, ◌≤◌, List, [], ◌∷◌, ◌++◌, length, take, drop, refl, sym, ap, subst, ◌∙◌, append_assoc, arith, true, false, Option, Some, None, MatchOption, IfSome, IsSomeAnd, length-append, length-drop, get_or, inl, inr, ◌⊎◌, ℤ}
+use Rattle.std.proofs.Common.{◌<◌, ◌≡◌, ℕ, ◌+◌, ◌-◌, ◌≤◌, List, [], ◌∷◌, ◌++◌, length, take, drop, refl, sym, ap, subst, ◌∙◌, append_assoc, arith, true, false, Option, Some, None, MatchOption, IfSome, IsSomeAnd, length-append, length-drop, get_or, slice_index, inl, inr, ◌⊎◌, ℤ}
 use Rattle.std.specs.Cmp.Lexicographic.{pointwise}
 use Rattle.std.proofs.Math.Dec.{eqb}
 use Rattle.std.proofs.Common.{Bor}
@@ -101,8 +101,8 @@ room file stripe end body ends e long whole =
     let metadata : get_or end 9 0 ≡ length ends.metadata = ap (λ (t : List ℕ). get_or t 9 0) is in
     omega (arith, footer, metadata, simp length-append at (ap (λ (t : List ℕ). length t) whole))
 
-pub found_tail : (file body text : List ℕ) (f m len : ℕ) → file ≡ body ++ text → text ≡ tail f m → f ≤ 127 → m ≤ 127 → f + m + len ≡ length body → EndsWithTail file (take len body)
-found_tail file body text f m len parts made few_f few_m lens =
+pub found_tail : (file body text : List ℕ) (f m len : ℕ) → ((i : ℕ) → slice_index file i < 256) → file ≡ body ++ text → text ≡ tail f m → f ≤ 127 → m ≤ 127 → f + m + len ≡ length body → EndsWithTail file (take len body)
+found_tail file body text f m len bytes parts made few_f few_m lens =
     let rest = drop len body in
     let rest_len : length rest ≡ f + m = omega (arith, length-drop len body, lens) in
     let metadata_len : length (take m rest) ≡ m = length-take-le m rest (omega (arith, rest_len)) in
@@ -113,6 +113,7 @@ found_tail file body text f m len parts made few_f few_m lens =
     ap (λ (t : List ℕ). take len body ++ t) (sym (append_assoc (take m rest) (drop m rest) end) ∙ ap (λ (t : List ℕ). t ++ end) (take-append-drop m rest))
     ∙ (sym (append_assoc (take len body) rest end) ∙ ap (λ (t : List ℕ). t ++ end) (take-append-drop len body)) in
     record {
+      are_bytes = bytes;
       metadata = take m rest;
       footer = drop m rest;
       parts = parts ∙ (ap (λ (t : List ℕ). body ++ t) text_is ∙ sym joined);

@@ -1,6 +1,6 @@
 -- The one form of file that is read so far, as its named parts one after the other (ORC
 -- specification, "File Tail"): header, one stripe, metadata, footer, postscript, its length.
-use Rattle.std.specs.Prelude.{◌≡◌, ℕ, ◌≤◌, ◌<◌, List, [], ◌∷◌, ◌++◌, length, ℤ, codes}
+use Rattle.std.specs.Prelude.{◌≡◌, ℕ, ◌≤◌, ◌<◌, List, [], ◌∷◌, ◌++◌, length, slice_index, ℤ, codes}
 use Rattle.orc_rle.specs.declared.fault.RunFault.{RunFault}
 use Rattle.orc_rle.specs.declared.fault.RunFault.TheVariants.{OutOfMemory as RunOutOfMemory}
 use Rattle.orc_rle.specs.declared.sign.Sign.TheVariants.{Signed}
@@ -9,7 +9,7 @@ use Rattle.orc_rle.specs.Stream.{IsStream, StopsAt}
 use Rattle.orc_cli.specs.declared.fault.FirstFault.{FirstFault}
 use Rattle.orc_cli.specs.declared.fault.FirstFault.TheVariants.{NotFirstForm, Run, OutOfMemory}
 
--- the magic in front
+-- "File Tail": the magic in front
 abbrev pub header : List ℕ
 header = codes "ORC"
 
@@ -24,16 +24,18 @@ abbrev pub tail : ℕ → ℕ → List ℕ
 tail footer metadata =
     8 ∷ footer ∷ 16 ∷ 0 ∷ 34 ∷ 2 ∷ 0 ∷ 11 ∷ 40 ∷ metadata ∷ 48 ∷ 6 ∷ 130 ∷ 244 ∷ 3 ∷ 3 ∷ 79 ∷ 82 ∷ 67 ∷ 19 ∷ []
 
--- header, DATA and stripe footer
+-- "Stripes": header, DATA (a stream of version 1 integer runs, "Integer Run Length Encoding, version 1") and
+-- stripe footer
 pub record IsStripe (stripe bytes : List ℕ) : Type 0 where
   pub parts : stripe ≡ header ++ (bytes ++ stripe_footer (length bytes))
   pub some : 1 ≤ length bytes
   pub few : length bytes < 128
 
--- a file is such a stripe part, then metadata, footer and tail
+-- "File Tail": a file is such a stripe part, then metadata, footer and tail
 pub record EndsWithTail (file stripe : List ℕ) : Type 0 where
   pub metadata : List ℕ
   pub footer : List ℕ
+  pub are_bytes : (i : ℕ) → slice_index file i < 256
   pub parts : file ≡ stripe ++ (metadata ++ (footer ++ tail (length footer) (length metadata)))
   pub short_metadata : length metadata < 128
   pub short_footer : length footer < 128

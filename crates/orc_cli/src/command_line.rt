@@ -23,11 +23,11 @@ pub enum Request<'a> {
 /// How the program ends, but for a request that was carried out.
 #[derive(Clone, Copy)]
 pub enum Ending {
-    /// The request was refused, or memory wanted before it was read.
+    /// The request was refused, or memory ran out before the words were read.
     Refused(CliFault),
     /// The words asked for help, and have it.
     Helped,
-    /// The words are no request, and the standard error says why.
+    /// The words are no request. Where the parser found that, the standard error says why.
     NotUnderstood,
 }
 
@@ -79,6 +79,7 @@ pub fn matches_of<'a, R: AllocGlobal + Print + Eprint>(
 
 fn parsed<'a>(alloc: Global, words: &'a [String]) -> Result<ArgMatches<'a>, Error> {
     Command::new(alloc, "orcm")
+        .bin_name("orcm")?
         .about("Reads Apache ORC files without compression, and shows what they hold")
         .subcommand_required(true)
         .subcommand(ints_command(alloc)?)?
@@ -133,10 +134,14 @@ pub fn request_of<'a>(matches: &ArgMatches<'a>) -> Option<Request<'a>> {
     let (name, found) = matches.subcommand()?;
     match name {
         "ints" => Some(Request::Ints {
-            rle: Rle::One,
+            rle: match found.get_str("rle")? {
+                "1" => Rle::One,
+                _ => return None,
+            },
             sign: match found.get_str("sign")? {
                 "s" => Sign::Signed,
-                _ => Sign::Unsigned,
+                "u" => Sign::Unsigned,
+                _ => return None,
             },
             hex: found.get_str("hex")?,
         }),

@@ -11,7 +11,7 @@ pub enum CliFault {
     /// The bytes are no stream of runs.
     #[error("{0}")]
     Run(RunFault),
-    /// The file isn't read.
+    /// The file was not read: it has another form, its DATA is no stream, or memory ran out.
     #[error("{0}")]
     First(FirstFault),
     /// The digits aren't hexadecimal.

@@ -1,5 +1,5 @@
-//! The one form of file that is read so far: a single column `n` of bigint in a single stripe of
-//! version 1 runs, with neither nulls nor an index.
+//! The one form of file that is read so far: a single stripe with a single stream, of version 1 runs,
+//! and a tail whose metadata and footer aren't read.
 ghost use Rattle.std.specs.Prelude.{◌≡◌, ℕ, ℤ, List, [], ◌∷◌, ◌++◌, ◌<◌, length, IfSome, IsSomeAnd, IfOk, IfErr, IsErrAnd, MatchResult, ◌⊎◌};
 ghost use Rattle.orc_cli.specs.FirstFile.{header, stripe_footer, tail, IsStripe, EndsWithTail, HasParts, FirstFile, StopsFile, RefusesForm, first_fault};
 ghost use Rattle.orc_rle.specs.declared.fault.RunFault.{RunFault};

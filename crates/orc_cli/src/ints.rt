@@ -56,7 +56,8 @@ fn values_of(alloc: Global, rle: Rle, sign: Sign, text: &str) -> Result<Vec<i64>
 /// decoded.
 ///
 /// Refusals: `BadHex` where `text` isn't hexadecimal, `Run` where its bytes are no stream of runs,
-/// `WriteFailed` with a part of the line written, `OutOfMemory`.
+/// `WriteFailed` with a part of the line written; for want of memory `OutOfMemory`, or `Run` with
+/// that of the decoder.
 pub fn ints_to<W: Write>(
     alloc: Global,
     rle: Rle,

@@ -43,10 +43,11 @@ fn lines_of_file(alloc: Global, file: &[u8]) -> Result<String, FirstFault>
     }
 }
 
-/// Writes a line of JSON for each row of the file, in order. Nothing is written before all rows are
-/// decoded.
+/// Writes the line `{"n":X}` for each value X of the file's DATA, in order. Nothing is written before
+/// all are decoded.
 ///
-/// Refusals: `First` where the file isn't read, `WriteFailed` with a part of the lines written.
+/// Refusals: `First` where the file has another form, or its DATA is no stream, or memory ran out;
+/// `WriteFailed` with a part of the lines written.
 pub fn rows_to<W: Write>(alloc: Global, file: &[u8], out: &mut W) -> Result<(), CliFault>
     ensures written { OnOk result ((values : List ℤ) × FirstFile file.now values
         × Appends (W.contents out.old) (W.contents out.new) (row_lines values)) }

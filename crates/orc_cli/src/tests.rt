@@ -7,11 +7,12 @@ use std::process::Abort;
 use trickle::{AtItsEnd, Trickle};
 
 /// Integer streams in hexadecimal digits, and what `ints` prints of them.
-const STREAMS: [(Sign, &str, Result<&str, CliFault>); 12] = [
+const STREAMS: [(Sign, &str, Result<&str, CliFault>); 16] = [
     (Sign::Unsigned, "fb020306070b", Ok("2 3 6 7 11\n")),
     (Sign::Unsigned, "FB020306070B", Ok("2 3 6 7 11\n")),
     (Sign::Unsigned, "", Ok("\n")),
     (Sign::Unsigned, "000101fe0303", Ok("1 2 3 3 3\n")),
+    (Sign::Unsigned, "01ff64", Ok("100 99 98 97\n")),
     (Sign::Signed, "000001", Ok("-1 -1 -1\n")),
     (Sign::Unsigned, "ff8700", Ok("7\n")),
     (
@@ -27,6 +28,21 @@ const STREAMS: [(Sign, &str, Result<&str, CliFault>); 12] = [
     (
         Sign::Unsigned,
         "ffffffffffffffffffff02",
+        Err(CliFault::Run(RunFault::BadVarint(0))),
+    ),
+    (
+        Sign::Unsigned,
+        "feffffffffffffffffff01",
+        Err(CliFault::Run(RunFault::Short(0))),
+    ),
+    (
+        Sign::Unsigned,
+        "feffffffffffffffffff0100",
+        Err(CliFault::Run(RunFault::ValueRange(0))),
+    ),
+    (
+        Sign::Unsigned,
+        "feffffffffffffffffff01ffffffffffffffffff02",
         Err(CliFault::Run(RunFault::BadVarint(0))),
     ),
     (Sign::Unsigned, "0001 01fe0303", Err(CliFault::BadHex)),
@@ -77,27 +93,34 @@ const DATA: std::ops::Range<usize> = 3..6;
 
 const UNREAD: std::ops::Range<usize> = 22..100;
 
-fn is_want_of_memory(fault: CliFault) -> bool {
-    matches!(
+/// Whether memory was wanted, which a test with memory to spare allows once at most.
+fn is_first_refusal(fault: CliFault, refused: &mut bool) -> bool {
+    let wanted = matches!(
         fault,
         CliFault::OutOfMemory
             | CliFault::Run(RunFault::OutOfMemory)
             | CliFault::First(FirstFault::OutOfMemory)
-    )
+    );
+    let first = wanted && !*refused;
+    if first {
+        *refused = true;
+    }
+    first
 }
 
 #[test]
 fn numbers_of_streams(rt: HostRuntime) {
+    let mut refused = false;
     for (sign, hex, answer) in STREAMS {
         let mut out = Trickle::new(1, 512, AtItsEnd::Fails);
         match ints_to(rt.alloc(), Rle::One, sign, hex, &mut out) {
-            Ok(()) => {
-                let line = answer.unwrap_or("");
-                assert_eq!(rt; out.written(), line.as_bytes(), "of {hex}");
-            }
+            Ok(()) => match answer {
+                Ok(line) => assert_eq!(rt; out.written(), line.as_bytes(), "of {hex}"),
+                Err(fault) => assert_eq!(rt; Ok(()), Err(fault), "of {hex}"),
+            },
             Err(fault) => {
                 assert_eq!(rt; out.written().len(), 0, "of {hex}");
-                if !is_want_of_memory(fault) {
+                if !is_first_refusal(fault, &mut refused) {
                     assert_eq!(rt; Some(fault), answer.err(), "of {hex}");
                 }
             }
@@ -108,13 +131,14 @@ fn numbers_of_streams(rt: HostRuntime) {
 /// An output that stops after each number of bytes has got these, and the refusal says so.
 #[test]
 fn outputs_that_stop(rt: HostRuntime) {
+    let mut refused = false;
     let line = b"2 3 6 7 11\n";
     let rows = b"{\"n\":7}\n{\"n\":7}\n{\"n\":7}\n";
     for at_its_end in [AtItsEnd::Fails, AtItsEnd::TakesNothing] {
         for stop in 0..rows.len() {
             let mut out = Trickle::new(3, stop, at_its_end);
             let answer = rows_to(rt.alloc(), &THREE_SEVENS, &mut out);
-            check_stop(&rt, answer, out.written(), &rows[..stop]);
+            check_stop(&rt, answer, out.written(), &rows[..stop], &mut refused);
             if stop < line.len() {
                 let mut out = Trickle::new(3, stop, at_its_end);
                 let answer = ints_to(
@@ -124,15 +148,21 @@ fn outputs_that_stop(rt: HostRuntime) {
                     "fb020306070b",
                     &mut out,
                 );
-                check_stop(&rt, answer, out.written(), &line[..stop]);
+                check_stop(&rt, answer, out.written(), &line[..stop], &mut refused);
             }
         }
     }
 }
 
-fn check_stop(rt: &impl Abort, answer: Result<(), CliFault>, written: &[u8], front: &[u8]) {
+fn check_stop(
+    rt: &impl Abort,
+    answer: Result<(), CliFault>,
+    written: &[u8],
+    front: &[u8],
+    refused: &mut bool,
+) {
     match answer {
-        Err(fault) if is_want_of_memory(fault) => assert_eq!(rt; written.len(), 0),
+        Err(fault) if is_first_refusal(fault, refused) => assert_eq!(rt; written.len(), 0),
         other => {
             assert_eq!(rt; other, Err(CliFault::WriteFailed));
             assert_eq!(rt; written, front);
@@ -140,8 +170,8 @@ fn check_stop(rt: &impl Abort, answer: Result<(), CliFault>, written: &[u8], fro
     }
 }
 
-/// Whether the rows are so many sevens, if memory was there.
-fn check_sevens(rt: &impl Abort, alloc: Global, file: &[u8], count: u8) {
+/// Whether the rows are so many sevens.
+fn check_sevens(rt: &impl Abort, alloc: Global, file: &[u8], count: u8, refused: &mut bool) {
     let mut out = Trickle::new(512, 512, AtItsEnd::Fails);
     match rows_to(alloc, file, &mut out) {
         Ok(()) => {
@@ -151,7 +181,7 @@ fn check_sevens(rt: &impl Abort, alloc: Global, file: &[u8], count: u8) {
                 assert_eq!(rt; line, SEVEN.as_slice());
             }
         }
-        Err(fault) => assert_eq!(rt; fault, CliFault::First(FirstFault::OutOfMemory)),
+        Err(fault) => assert!(rt; is_first_refusal(fault, refused), "{fault}"),
     }
 }
 
@@ -164,10 +194,11 @@ fn check_refused(rt: &impl Abort, alloc: Global, file: &[u8]) {
 
 #[test]
 fn rows_of_files(rt: HostRuntime) {
-    check_sevens(&rt, rt.alloc(), &THREE_SEVENS, 3);
+    let mut refused = false;
+    check_sevens(&rt, rt.alloc(), &THREE_SEVENS, 3, &mut refused);
     let mut four = THREE_SEVENS;
     four[3] = 1;
-    check_sevens(&rt, rt.alloc(), &four, 4);
+    check_sevens(&rt, rt.alloc(), &four, 4, &mut refused);
     check_refused(&rt, rt.alloc(), &NO_ROWS);
     check_refused(&rt, rt.alloc(), &SIX_SEVENS);
     for len in 0..THREE_SEVENS.len() {
@@ -179,25 +210,30 @@ fn rows_of_files(rt: HostRuntime) {
 /// rows or a fault of its runs, and elsewhere the form is no longer there.
 #[test]
 fn files_changed_in_one_byte(rt: HostRuntime) {
+    let mut refused = false;
     for place in 0..THREE_SEVENS.len() {
         for change in 1..=255u8 {
             let mut file = THREE_SEVENS;
             file[place] ^= change;
             if UNREAD.contains(&place) {
-                check_sevens(&rt, rt.alloc(), &file, 3);
+                check_sevens(&rt, rt.alloc(), &file, 3, &mut refused);
             } else if DATA.contains(&place) {
-                let mut out = Trickle::new(512, 512, AtItsEnd::Fails);
-                match rows_to(rt.alloc(), &file, &mut out) {
-                    Ok(()) => assert!(rt; out.written().ends_with(b"}\n")),
-                    Err(CliFault::First(FirstFault::Run(_) | FirstFault::OutOfMemory)) => {
-                        assert_eq!(rt; out.written().len(), 0)
-                    }
-                    Err(fault) => assert_eq!(rt; fault, CliFault::WriteFailed),
-                }
+                check_other_rows(&rt, rt.alloc(), &file, &mut refused);
             } else {
                 check_refused(&rt, rt.alloc(), &file);
             }
         }
+    }
+}
+
+/// Whether there are rows, perhaps more than the output takes, or a fault of DATA's runs and nothing.
+fn check_other_rows(rt: &impl Abort, alloc: Global, file: &[u8], refused: &mut bool) {
+    let mut out = Trickle::new(512, 512, AtItsEnd::Fails);
+    match rows_to(alloc, file, &mut out) {
+        Ok(()) => assert!(rt; out.written().ends_with(b"}\n")),
+        Err(CliFault::WriteFailed) => assert_eq!(rt; out.written().len(), 512),
+        Err(CliFault::First(FirstFault::Run(_))) => assert_eq!(rt; out.written().len(), 0),
+        Err(fault) => assert!(rt; is_first_refusal(fault, refused), "{fault}"),
     }
 }
 

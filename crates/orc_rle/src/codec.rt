@@ -1,4 +1,4 @@
-ghost use Rattle.std.specs.Prelude.{◌≡◌, ℕ, ℤ, List, [], ◌++◌, ◌<◌, ◌≤◌, length, take, Result, Ok, Err, ◌⊎◌, IfOk, IfErr, OnOk, OnErr, MatchResult};
+ghost use Rattle.std.specs.Prelude.{◌≡◌, ◌≢◌, ℕ, ℤ, List, [], ◌++◌, ◌<◌, ◌≤◌, length, take, Result, Ok, Err, ◌⊎◌, IfOk, IfErr, OnOk, OnErr, MatchResult};
 ghost use Rattle.orc_rle.specs.declared.sign.Sign.{Sign};
 ghost use Rattle.orc_rle.specs.declared.fault.RunFault.{RunFault};
 ghost use Rattle.orc_rle.specs.declared.fault.RunFault.TheVariants.{OutOfMemory};
@@ -35,6 +35,7 @@ pub trait RunCodec {
         ensures fault { IfErr result (fails sign bytes.now) }
         ensures refused { (fault : RunFault) → fails sign bytes.now fault → result ≡ Err fault }
         ensures place { IfErr result (λ fault. fault ≡ at_place fault 0) }
+        ensures no_memory { IfErr result (λ fault. fault ≢ OutOfMemory) }
         ensures empty { OnErr result (run.new.values ≡ []) };
 
     /// Appends the one text that the writer makes of the values. Each has to be in the sign's range.
@@ -152,6 +153,9 @@ pub fn stream_laws<C: RunCodec>()
 
     ensures none_within { (sign : Sign) (n : ℕ) (bytes : List ℕ) (v : List ℤ) (fault : RunFault) → StopsWithin (C.is_run sign) (C.fails sign) n bytes fault
         → IsStream (C.is_run sign) bytes v → length v ≡ n → ⊥ }
+    ensures one_text { (sign : Sign) (values : List ℤ) (a b : List ℕ) → C.is_written sign values a → C.is_written sign values b → a ≡ b }
+    ensures again { (sign : Sign) (values : List ℤ) (bytes : List ℕ) → C.is_written sign values bytes → AllInRange sign values → IsStream (C.is_run sign) bytes values }
+
     ensures one_fault_within { (sign : Sign) (n : ℕ) (bytes : List ℕ) (e f : RunFault) → StopsWithin (C.is_run sign) (C.fails sign) n bytes e
         → StopsWithin (C.is_run sign) (C.fails sign) n bytes f → e ≡ f }
 {}

@@ -108,13 +108,14 @@ const STREAMS: [(Sign, &[u8], Result<&[i64], RunFault>); 26] = [
 ];
 
 /// Unsigned streams, how many values are asked for, and what is answered.
-const COUNTED: [(&[u8], usize, Result<&[i64], RunFault>); 12] = [
+const COUNTED: [(&[u8], usize, Result<&[i64], RunFault>); 13] = [
     (&[], 0, Ok(&[])),
     (&[], 1, Err(TooFew(0))),
     (&[0xfe, 1, 2], 2, Ok(&[1, 2])),
     (&[0xfe, 1, 2], 1, Err(TooMany(0))),
     (&[0xfe, 1, 2], 3, Err(TooFew(3))),
     (&[0xfe, 1, 2], usize::MAX, Err(TooFew(3))),
+    (&[0xff, 7], usize::MAX - 1, Err(TooFew(2))),
     (&[0xff, 7, 0xfe, 1, 2], 3, Ok(&[7, 1, 2])),
     (&[0xff, 7, 0xfe, 1, 2], 2, Err(TooMany(2))),
     (&[0xff, 7, 0xfe, 1, 2], 1, Err(TooMany(2))),

@@ -26,7 +26,7 @@ pub returns-clause-found : goal.returns-clause-found
 returns-clause-found c =
     let end = c.in_ok-end.end.now in
     let sub = c.in_ok-len.ensures in
-    found_tail c.args.file.now c.in_ok-body.body.now c.tail_of.result (get_or end 1 0) (get_or end 9 0) c.in_ok-len.len c.in_ok-body.ensures.found c.tail_of.ensures
+    found_tail c.args.file.now c.in_ok-body.body.now c.tail_of.result (get_or end 1 0) (get_or end 9 0) c.in_ok-len.len (λ i. omega (arith, c.type_inv.file i)) c.in_ok-body.ensures.found c.tail_of.ensures
     (omega (arith, c.from.ensures, c.if-from-gt-MOST.false)) (omega (arith, c.from-else-from-gt-MOST.ensures, c.if-from-gt-MOST-2.false))
     (omega (arith, sub.0, sub.1, c.from-2.ensures, c.from-3.ensures))
 
