@@ -1,0 +1,10 @@
+pub mod Fields
+pub mod FieldValue
+pub mod FieldItem
+pub mod FieldLaws
+pub mod Members
+pub mod Spells
+pub mod SpellsLaws
+pub mod Kinds
+pub mod Messages
+pub mod FieldsNext
