@@ -1,0 +1,5 @@
+pub mod Views
+pub mod ByColumn
+pub mod Trees
+pub mod Exclusion
+pub mod Together
