@@ -3,3 +3,4 @@ pub mod ByColumn
 pub mod Trees
 pub mod Exclusion
 pub mod Together
+pub mod KeptFields

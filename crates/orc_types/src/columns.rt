@@ -56,9 +56,10 @@ fn field_at<'r, 'a>(row: &'r Row<'a>, i: usize) -> Option<&'r Row<'a>>
 fn lend_field<'r, 'a>(found: &mut Vec<&'r Row<'a>>, row: &'r Row<'a>, i: usize) -> Result<(), AllocError>
     ensures { OnOk result (seen found.new.items ≡ seen found.old.items ++ take 1 (drop i (parts (view row.now)))) }
 {
-    if let Some(field) = field_at(row, i) {
-        found.push(field)?;
-    }
+    let Some(field) = field_at(row, i) else {
+        return Ok(());
+    };
+    found.push(field)?;
     Ok(())
 }
 

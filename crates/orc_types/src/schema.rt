@@ -1,7 +1,7 @@
-ghost use Rattle.std.specs.Prelude.{◌≡◌, IfOk, IfErr, MatchResult, ◌==◌};
+ghost use Rattle.std.specs.Prelude.{◌≡◌, ◌≤◌, IfOk, IfErr, MatchResult, ◌==◌};
 ghost use Rattle.std.specs.Cmp.{partial_equiv_from_equiv};
 ghost use Rattle.std.specs.Cmp.Lexicographic.{pointwise};
-ghost use Rattle.orc_types.specs.Shapes.{Shape};
+ghost use Rattle.orc_types.specs.Shapes.{Shape, width};
 ghost use Rattle.orc_types.specs.Types.{types as types_of};
 ghost use Rattle.orc_types.specs.Schemas.{IsSchema, HasTypes, AllKept, same_node, same_types, same_types_equiv};
 ghost use Rattle.orc_types.specs.Faults.{TypesFault};
@@ -65,6 +65,14 @@ impl Schema {
         ensures schema { IsSchema self.now }
     {
         &self.types
+    }
+
+    /// The number of columns: each type is one, the root column 0.
+    pub fn width(&self) -> usize
+        ensures same { result ≡ width self.now }
+        ensures most { result ≤ 4096 }
+    {
+        self.types.len()
     }
 
     /// The tree of types, for what goes down it.

@@ -2,6 +2,7 @@ ghost use Rattle.std.specs.Prelude.{◌≡◌, [], IfOk};
 ghost use Rattle.orc_types.specs.Kept.{IsKept};
 ghost use Rattle.orc_types.specs.Schemas.{AllKept};
 
+use crate::copies::copied_bytes;
 use crate::*;
 use orc_wire::{Bytes, Items, TypeMsg};
 use std::alloc::{AllocError, Global};
@@ -20,7 +21,7 @@ const LISTS: [Listed; 4] = [(12, &[1], &[b"a"]), (10, &[2], &[]), (10, &[3], &[]
 fn field_five(alloc: Global) -> Result<Bytes, AllocError>
     ensures { IfOk result IsKept }
 {
-    Ok(Items::from_vec([0x28u8, 0x01].to_vec(alloc)?))
+    Ok(Items::from_vec(copied_bytes(alloc, &[0x28, 0x01])?))
 }
 
 fn names_of(alloc: Global, names: &[&'static [u8]]) -> Result<Vec<Bytes>, AllocError> {
@@ -85,7 +86,9 @@ fn check_schemas(rt: &impl Abort, alloc: Global) -> Result<(), TypeFault> {
     let schema = schema_of(alloc, &LISTS)?;
     let types = schema.types();
     assert_eq!(rt; types.len(), 4);
-    assert_eq!(rt; types[0].field_names.as_slice()[0].as_slice(), b"a".as_slice());
+    let names = types[0].field_names.as_slice();
+    assert_eq!(rt; names.len(), 1);
+    assert_eq!(rt; names[0].as_slice(), b"a".as_slice());
     let again = schema_of(alloc, &LISTS)?;
     assert!(rt; schema == again, "the same types");
     let other = schema_of(alloc, &[(12, &[1], &[b"b"]), (10, &[2], &[]), (10, &[3], &[]), (3, &[], &[])])?;

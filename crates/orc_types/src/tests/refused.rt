@@ -1,3 +1,6 @@
+ghost use Rattle.std.specs.Prelude.{◌≡◌, [], IfOk};
+ghost use Rattle.orc_types.specs.Schemas.{AllKept};
+
 use super::*;
 
 /// Types that are no schema's, and why.
@@ -41,9 +44,9 @@ fn nested(alloc: Global, lists: u32) -> Result<Vec<TypeMsg>, AllocError>
     Ok(types)
 }
 
-/// A struct of that many fields.
-fn wide(alloc: Global, fields: u32) -> Result<Vec<TypeMsg>, AllocError>
-    ensures { IfOk result (λ types. AllKept types.items) }
+/// A struct's type with that many fields.
+fn wide_root(alloc: Global, fields: u32) -> Result<TypeMsg, AllocError>
+    ensures { IfOk result (λ t. t.kept ≡ []) }
 {
     let mut subtypes = Vec::new(alloc);
     let mut names = Vec::new(alloc);
@@ -51,11 +54,20 @@ fn wide(alloc: Global, fields: u32) -> Result<Vec<TypeMsg>, AllocError>
         subtypes.push(i % 65536 + 1)?;
         names.push(Items::from_vec(Vec::new(alloc)))?;
     }
+    Ok(TypeMsg {
+        kind: 12,
+        subtypes: Items::from_vec(subtypes),
+        field_names: Items::from_vec(names),
+        kept: Items::from_vec(Vec::new(alloc)),
+    })
+}
+
+/// A struct of that many fields.
+fn wide(alloc: Global, fields: u32) -> Result<Vec<TypeMsg>, AllocError>
+    ensures { IfOk result (λ types. AllKept types.items) }
+{
     let mut types = Vec::new(alloc);
-    let mut root = type_msg(alloc, &(12, &[], &[]))?;
-    root.subtypes = Items::from_vec(subtypes);
-    root.field_names = Items::from_vec(names);
-    types.push(root)?;
+    types.push(wide_root(alloc, fields)?)?;
     for _ in 0..fields {
         types.push(type_msg(alloc, &(15, &[], &[]))?)?;
     }
@@ -81,6 +93,22 @@ fn check_refusals(rt: &impl Abort, alloc: Global) -> Result<(), TypeFault> {
             Err(found) => assert_eq!(rt; found, fault),
         }
     }
+    Ok(())
+}
+
+#[test]
+fn limits(rt: HostRuntime) {
+    let alloc = rt.alloc();
+    let tried = check_limits(&rt, alloc);
+    if tried == Err(TypeFault::OutOfMemory) {
+        assert_eq!(rt; check_limits(&rt, alloc), Ok(()), "once memory is there");
+    } else {
+        assert_eq!(rt; tried, Ok(()));
+    }
+}
+
+/// 32 levels and 4,096 types are a schema, 33 and 4,097 aren't.
+fn check_limits(rt: &impl Abort, alloc: Global) -> Result<(), TypeFault> {
     assert_eq!(rt; Schema::from_types(alloc, &nested(alloc, 30)?)?.types().len(), 32);
     assert!(rt; is_refused(alloc, &nested(alloc, 31)?, TypeFault::TooDeep)?, "33 levels");
     assert_eq!(rt; Schema::from_types(alloc, &wide(alloc, 4095)?)?.types().len(), 4096);

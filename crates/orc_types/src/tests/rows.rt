@@ -1,9 +1,22 @@
-ghost use Rattle.std.specs.Prelude.{◌<◌};
-
 use super::*;
 use std::borrow::{CowSlice, CowStr};
 
-/// A struct of a field of every kind, in the order of their numbers.
+/// Rows in postfix: a list or a struct is made of so many rows that stand before it.
+#[derive(Clone, Copy)]
+enum Token {
+    Null,
+    Truth,
+    Int(i64),
+    Date(i32),
+    Text,
+    Bytes,
+    List(usize),
+    Struct(usize),
+}
+
+use Token::{Bytes as Blob, Date, Int, List, Null, Struct, Text, Truth};
+
+/// A struct of a field of every kind, in the order of their numbers but for DATE.
 const KINDS: [Listed; 11] = [
     (12, &[1, 2, 3, 4, 5, 6, 7, 8, 10], &[b"b", b"y", b"s", b"i", b"l", b"t", b"v", b"a", b"d"]),
     (0, &[], &[]),
@@ -21,35 +34,99 @@ const KINDS: [Listed; 11] = [
 /// A struct of a struct of one number: `struct<s:struct<n:int>>`.
 const STRUCTS: [Listed; 3] = [(12, &[1], &[b"s"]), (12, &[2], &[b"n"]), (3, &[], &[])];
 
-fn ints(alloc: Global, numbers: &[i64]) -> Result<Row<'static>, AllocError> {
-    let mut items = Vec::new(alloc);
-    for number in numbers {
-        items.push(Some(Value::Int(*number)))?;
+/// A struct of a list of lists: a list of two, null, the empty list, a list with a null, a list of
+/// one; and a row that is null.
+const LIST_ROWS: [Token; 22] = [
+    Int(1), Int(2), List(2), List(0), List(2), Struct(1), Null, Struct(1), List(0), Struct(1), Null,
+    Int(3), List(1), List(2), Struct(1), Int(4), Int(5), Int(6), List(3), List(1), Struct(1), Null,
+];
+
+/// A struct in a struct, a null struct, and a struct of null.
+const STRUCT_ROWS: [Token; 8] =
+    [Int(1), Struct(1), Struct(1), Null, Struct(1), Null, Struct(1), Struct(1)];
+
+/// A schema's types, rows, a column, and its cells.
+const CELLS: [(&'static [Listed], &'static [Token], usize, &'static [Token]); 9] = [
+    (&LISTS, &LIST_ROWS, 0, &LIST_ROWS),
+    (
+        &LISTS,
+        &LIST_ROWS,
+        1,
+        &[
+            Int(1), Int(2), List(2), List(0), List(2), Null, List(0), Null, Int(3), List(1), List(2),
+            Int(4), Int(5), Int(6), List(3), List(1),
+        ],
+    ),
+    (
+        &LISTS,
+        &LIST_ROWS,
+        2,
+        &[Int(1), Int(2), List(2), List(0), Null, Int(3), List(1), Int(4), Int(5), Int(6), List(3)],
+    ),
+    (&LISTS, &LIST_ROWS, 3, &[Int(1), Int(2), Int(3), Int(4), Int(5), Int(6)]),
+    (&STRUCTS, &STRUCT_ROWS, 1, &[Int(1), Struct(1), Null, Null, Struct(1)]),
+    (&STRUCTS, &STRUCT_ROWS, 2, &[Int(1), Null]),
+    (&KINDS, &[Null, Truth, Int(1), Int(2), Int(3), Int(4), Text, Blob, Int(8), Int(9), List(2), Date(3), Struct(9)], 9, &[Int(8), Int(9)]),
+    (&KINDS, &[Truth, Int(1), Int(2), Int(3), Int(4), Text, Blob, Int(8), Int(9), List(2), Date(3), Struct(9)], 10, &[Date(3)]),
+    (&KINDS, &[Null, Null, Null, Null, Int(5), Text, Blob, List(0), Null, Struct(9)], 5, &[Int(5)]),
+];
+
+/// Values and the fields of KINDS that they fit.
+const FITTING: [(Token, &'static [usize]); 19] = [
+    (Null, &[0, 1, 2, 3, 4, 5, 6, 7, 8]),
+    (Truth, &[0]),
+    (Int(-128), &[1, 2, 3, 4]),
+    (Int(-129), &[2, 3, 4]),
+    (Int(127), &[1, 2, 3, 4]),
+    (Int(128), &[2, 3, 4]),
+    (Int(-32768), &[2, 3, 4]),
+    (Int(-32769), &[3, 4]),
+    (Int(32767), &[2, 3, 4]),
+    (Int(32768), &[3, 4]),
+    (Int(-2147483648), &[3, 4]),
+    (Int(-2147483649), &[4]),
+    (Int(2147483647), &[3, 4]),
+    (Int(2147483648), &[4]),
+    (Int(i64::MIN), &[4]),
+    (Text, &[5]),
+    (Blob, &[6]),
+    (List(0), &[7]),
+    (Date(i32::MIN), &[8]),
+];
+
+/// The value of a token that stands for no list and no struct.
+fn value_of(token: Token) -> Row<'static> {
+    match token {
+        Truth => Some(Value::Bool(true)),
+        Int(number) => Some(Value::Int(number)),
+        Date(day) => Some(Value::Date(day)),
+        Text => Some(Value::Text(CowStr::Borrowed("x"))),
+        Blob => Some(Value::Bytes(CowSlice::Borrowed(b"x"))),
+        _ => None,
     }
-    Ok(Some(Value::List(items)))
 }
 
-/// The row that has this field alone.
-fn record(alloc: Global, field: Row<'static>) -> Result<Row<'static>, AllocError> {
-    Ok(Some(Value::Struct(vec![in alloc; field]?)))
-}
-
-fn list(items: Vec<Row<'static>>) -> Row<'static> {
-    Some(Value::List(items))
-}
-
-/// A row of KINDS whose fields are null but for one.
-fn only(alloc: Global, at: usize, value: Row<'static>) -> Result<Row<'static>, AllocError> {
-    let mut fields = Vec::new(alloc);
-    let mut value = Some(value);
-    for i in 0..9usize {
-        if i == at {
-            fields.push(value.take().flatten())?;
-        } else {
-            fields.push(None)?;
-        }
+/// The last rows, taken off.
+fn taken(rows: &mut Vec<Row<'static>>, count: usize) -> Result<Vec<Row<'static>>, AllocError> {
+    if count <= rows.len() {
+        rows.split_off(rows.len() - count)
+    } else {
+        rows.split_off(0)
     }
-    Ok(Some(Value::Struct(fields)))
+}
+
+/// The rows that stand in postfix.
+fn rows_of(alloc: Global, tokens: &[Token]) -> Result<Vec<Row<'static>>, AllocError> {
+    let mut rows = Vec::new(alloc);
+    for token in tokens {
+        let row = match *token {
+            List(count) => Some(Value::List(taken(&mut rows, count)?)),
+            Struct(count) => Some(Value::Struct(taken(&mut rows, count)?)),
+            plain => value_of(plain),
+        };
+        rows.push(row)?;
+    }
+    Ok(rows)
 }
 
 #[test]
@@ -63,150 +140,49 @@ fn ranges(rt: HostRuntime) {
     }
 }
 
-/// The least and the most of each kind fit, and not those one further.
+/// Each value fits the fields that it is to fit, and no other.
 fn check_ranges(rt: &impl Abort, alloc: Global) -> Result<(), TypeFault> {
     let schema = schema_of(alloc, &KINDS)?;
-    let numbers = [
-        (1usize, -128i64, true),
-        (1, -129, false),
-        (1, 127, true),
-        (1, 128, false),
-        (2, -32768, true),
-        (2, -32769, false),
-        (2, 32767, true),
-        (2, 32768, false),
-        (3, -2147483648, true),
-        (3, -2147483649, false),
-        (3, 2147483647, true),
-        (3, 2147483648, false),
-        (4, i64::MIN, true),
-        (4, i64::MAX, true),
-        (0, 0, false),
-        (5, 0, false),
-        (6, 0, false),
-        (7, 0, false),
-        (8, 0, false),
-    ];
-    for (at, number, fit) in numbers {
-        let row = only(alloc, at, Some(Value::Int(number)))?;
-        assert_eq!(rt; fits(&schema, &row), fit, "{number} at {at}");
-    }
-    for at in 0..9usize {
-        let text = only(alloc, at, Some(Value::Text(CowStr::Borrowed("x"))))?;
-        assert_eq!(rt; fits(&schema, &text), at == 5, "a text at {at}");
-        let bytes = only(alloc, at, Some(Value::Bytes(CowSlice::Borrowed(b"x"))))?;
-        assert_eq!(rt; fits(&schema, &bytes), at == 6, "bytes at {at}");
-        let list = only(alloc, at, ints(alloc, &[])?)?;
-        assert_eq!(rt; fits(&schema, &list), at == 7, "a list at {at}");
-        let date = only(alloc, at, Some(Value::Date(i32::MIN)))?;
-        assert_eq!(rt; fits(&schema, &date), at == 8, "a date at {at}");
-        let truth = only(alloc, at, Some(Value::Bool(true)))?;
-        assert_eq!(rt; fits(&schema, &truth), at == 0, "a truth value at {at}");
-        assert!(rt; fits(&schema, &only(alloc, at, None)?), "null at {at}");
-    }
-    assert!(rt; fits(&schema, &None), "a row that is null");
-    assert!(rt; !fits(&schema, &record(alloc, None)?), "fields too few");
-    assert!(rt; !fits(&schema, &ints(alloc, &[])?), "a list for a struct");
-    Ok(())
-}
-
-#[test]
-fn cells_of_lists(rt: HostRuntime) {
-    let alloc = rt.alloc();
-    let tried = check_lists(&rt, alloc);
-    if tried == Err(TypeFault::OutOfMemory) {
-        assert_eq!(rt; check_lists(&rt, alloc), Ok(()), "once memory is there");
-    } else {
-        assert_eq!(rt; tried, Ok(()));
-    }
-}
-
-/// Lists in lists: null, the empty list, a null in a list.
-fn check_lists(rt: &impl Abort, alloc: Global) -> Result<(), TypeFault> {
-    let schema = schema_of(alloc, &LISTS)?;
-    let rows = vec![in alloc;
-        record(alloc, list(vec![in alloc; ints(alloc, &[1, 2])?, ints(alloc, &[])?]?))?,
-        record(alloc, None)?,
-        record(alloc, list(Vec::new(alloc)))?,
-        record(alloc, list(vec![in alloc; None, ints(alloc, &[3])?]?))?,
-        record(alloc, list(vec![in alloc; ints(alloc, &[4, 5, 6])?]?))?,
-        None,
-    ]?;
-    let lists = [
-        list(vec![in alloc; ints(alloc, &[1, 2])?, ints(alloc, &[])?]?),
-        None,
-        list(Vec::new(alloc)),
-        list(vec![in alloc; None, ints(alloc, &[3])?]?),
-        list(vec![in alloc; ints(alloc, &[4, 5, 6])?]?),
-    ];
-    let inner = [
-        ints(alloc, &[1, 2])?,
-        ints(alloc, &[])?,
-        None,
-        ints(alloc, &[3])?,
-        ints(alloc, &[4, 5, 6])?,
-    ];
-    let numbers = ints(alloc, &[1, 2, 3, 4, 5, 6])?;
-    assert!(rt; have(alloc, &schema, 0, &rows, &rows)?, "the rows");
-    assert!(rt; have(alloc, &schema, 1, &rows, &lists)?, "the lists");
-    assert!(rt; have(alloc, &schema, 2, &rows, &inner)?, "the lists in lists");
-    if let Some(Value::List(numbers)) = &numbers {
-        assert!(rt; have(alloc, &schema, 3, &rows, numbers)?, "the numbers");
-    }
-    Ok(())
-}
-
-#[test]
-fn cells_of_structs(rt: HostRuntime) {
-    let alloc = rt.alloc();
-    let tried = check_structs(&rt, alloc);
-    if tried == Err(TypeFault::OutOfMemory) {
-        assert_eq!(rt; check_structs(&rt, alloc), Ok(()), "once memory is there");
-    } else {
-        assert_eq!(rt; tried, Ok(()));
-    }
-}
-
-/// Structs in structs: a null struct has no cell below it, a null field has one.
-fn check_structs(rt: &impl Abort, alloc: Global) -> Result<(), TypeFault> {
-    let schema = schema_of(alloc, &STRUCTS)?;
-    let one = Some(Value::Int(1));
-    let rows = vec![in alloc;
-        record(alloc, record(alloc, one)?)?,
-        record(alloc, None)?,
-        record(alloc, record(alloc, None)?)?,
-    ]?;
-    let structs = [record(alloc, Some(Value::Int(1)))?, None, record(alloc, None)?];
-    assert!(rt; have(alloc, &schema, 0, &rows, &rows)?, "the rows");
-    assert!(rt; have(alloc, &schema, 1, &rows, &structs)?, "the structs");
-    assert!(rt; have(alloc, &schema, 2, &rows, &[Some(Value::Int(1)), None])?, "the numbers");
-
-    let wide = schema_of(alloc, &KINDS)?;
-    let row = vec![in alloc; only(alloc, 7, ints(alloc, &[8, 9])?)?, only(alloc, 8, Some(Value::Date(3)))?]?;
-    assert!(rt; have(alloc, &wide, 9, &row, &[Some(Value::Int(8)), Some(Value::Int(9))])?, "elements");
-    assert!(rt; have(alloc, &wide, 10, &row, &[None, Some(Value::Date(3))])?, "the last field");
-    Ok(())
-}
-
-/// Whether a column has these cells, when they are lent too.
-fn have(
-    alloc: Global,
-    schema: &Schema,
-    column: usize,
-    rows: &[Row<'static>],
-    wanted: &[Row<'static>],
-) -> Result<bool, TypeFault> {
-    if column >= schema.types().len() {
-        return Ok(false);
-    }
-    let found = lend(alloc, cells(alloc, schema, column, rows)?)?;
-    if found.len() != wanted.len() {
-        return Ok(false);
-    }
-    for (i, cell) in found.iter().enumerate() {
-        if *cell.0 != wanted[i] {
-            return Ok(false);
+    for (token, fields) in FITTING {
+        for at in 0..9usize {
+            let mut tokens = [Null; 10];
+            tokens[at] = token;
+            tokens[9] = Struct(9);
+            let rows = rows_of(alloc, &tokens)?;
+            assert_eq!(rt; rows.len(), 1);
+            assert_eq!(rt; fits(&schema, &rows[0]), fields.contains(&at), "at {at}");
         }
     }
-    Ok(true)
+    for row in rows_of(alloc, &[Null, Struct(1), List(0), Truth])? {
+        assert!(rt; !fits(&schema, &row), "of another shape");
+    }
+    assert!(rt; fits(&schema, &None), "a row that is null");
+    Ok(())
+}
+
+#[test]
+fn cells_of_columns(rt: HostRuntime) {
+    let alloc = rt.alloc();
+    let tried = check_cells(&rt, alloc);
+    if tried == Err(TypeFault::OutOfMemory) {
+        assert_eq!(rt; check_cells(&rt, alloc), Ok(()), "once memory is there");
+    } else {
+        assert_eq!(rt; tried, Ok(()));
+    }
+}
+
+/// A null list or struct has no cell below it, an empty list none, and a null in them one.
+fn check_cells(rt: &impl Abort, alloc: Global) -> Result<(), TypeFault> {
+    for (types, rows, column, wanted) in CELLS {
+        let schema = schema_of(alloc, types)?;
+        let rows = rows_of(alloc, rows)?;
+        let wanted = rows_of(alloc, wanted)?;
+        assert!(rt; column < schema.width());
+        let found = lend(alloc, cells(alloc, &schema, column, &rows)?)?;
+        assert_eq!(rt; found.len(), wanted.len(), "of column {column}");
+        for (i, cell) in found.iter().enumerate() {
+            assert_eq!(rt; *cell.0, wanted[i], "of column {column}");
+        }
+    }
+    Ok(())
 }

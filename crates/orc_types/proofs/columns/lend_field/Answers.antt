@@ -16,8 +16,8 @@ missing [] (suc i) h = refl
 missing (x ∷ xs) zero h = cc
 missing (x ∷ xs) (suc i) h = missing xs i h
 
-pub returns-in_ok-push : goal.returns-in_ok-push
-returns-in_ok-push c =
+pub returns : goal.returns
+returns c =
     ap seen c.in_ok-push.ensures.items ∙ map-append (λ r. view r.now) c.args.found.now.items (c.in-Some.field ∷ []) ∙ ap (λ xs. seen c.args.found.now.items ++ xs) (there (parts (view c.args.row.now)) c.args.i (view c.in-Some.field.now) c.in-Some.ensures)
 
 pub returns-in_default : goal.returns-in_default
