@@ -1,13 +1,12 @@
 -- Cells of columns, and the fields of structs.
-use Rattle.std.proofs.Common.{◌≡◌, ℕ, zero, suc, ◌+◌, ◌-◌, ◌<◌, ◌≤◌, List, [], ◌∷◌, ◌++◌, length, get_or, map, take, drop, Bool, true, false, cond, ltb, Option, Some, None, Vec, Global, refl, sym, ap, ◌∙◌, subst, arith, rules, drop-cons, add-one, sub-one, Box}
+use Rattle.std.proofs.Common.{◌≡◌, ℕ, zero, suc, ◌+◌, ◌-◌, ◌<◌, ◌≤◌, List, [], ◌∷◌, ◌++◌, length, get_or, map, take, drop, true, false, ltb, Option, Vec, Global, refl, sym, ap, ◌∙◌, subst, arith, drop-cons, sub-one, Box}
 use Rattle.std.proofs.lemmas.Bool.{lt-ltb, le-ltb}
 use Rattle.orc_types.specs.declared.tree.Tree.{Tree, List as TreeList, Struct as TreeStruct}
 use Rattle.std.specs.List.{flat_map}
-use Rattle.std.proofs.lemmas.Bool.Decides.{nat_tests}
-use Rattle.orc_types.specs.Shapes.{Shape, scalar, list_of, struct_of, Fields, no_field, field, width, widths}
-use Rattle.orc_types.specs.Cells.{Cell, null, leaf, list, struct, Cells, end, more, cells_of, parts, values}
+use Rattle.orc_types.specs.Shapes.{Shape, Fields, no_field, field, width, widths}
+use Rattle.orc_types.specs.Cells.{Cell, null, leaf, list, struct, cells_of, parts, values}
 use Rattle.orc_types.specs.Columns.{cells, cells_within, IsLocated}
-use Rattle.orc_types.specs.Fits.{fits, all_fit, each_fits}
+use Rattle.orc_types.specs.Fits.{fits, each_fits}
 use Rattle.orc_types.specs.Views.{shape, named, fields, view, views}
 use Rattle.orc_types.specs.declared.tree.Field.{Field}
 use Rattle.orc_types.specs.declared.value.Value.{Value}

@@ -1,11 +1,10 @@
 -- A fault that stands leaves no schema, and schemas compare equal exactly where they are one tree.
-use Rattle.std.proofs.Common.{◌≡◌, ℕ, zero, suc, max, ◌+◌, ◌-◌, ◌<◌, ◌≤◌, ◌++◌, List, [], ◌∷◌, length, drop, Bool, true, false, ◌&&◌, ◌==◌, Option, Some, None, refl, sym, ap, ◌∙◌, subst, append_assoc, arith, rules, append-nil, inl, inr}
+use Rattle.std.proofs.Common.{◌≡◌, ℕ, zero, suc, ◌+◌, ◌<◌, ◌++◌, List, [], ◌∷◌, length, drop, Bool, true, false, ◌&&◌, ◌==◌, Some, refl, sym, ap, ◌∙◌, subst, append_assoc, arith, append-nil, inl, inr}
 use Rattle.std.specs.Prelude.{slice_get, ◌↔◌}
 use Rattle.std.specs.List.{AllByRecursion}
 use Rattle.std.specs.Str.{is_utf8}
 use Rattle.std.specs.Cmp.Lexicographic.{pointwise}
 use Rattle.std.proofs.lemmas.Bool.{eqb-true, eq-eqb}
-use Rattle.std.proofs.lemmas.List.{drop-drop, drop_at}
 use Rattle.orc_wire.specs.declared.type_msg.TypeMsg.{TypeMsg}
 use Rattle.orc_types.specs.declared.fault.TypeFault.{TypeFault}
 use Rattle.orc_types.specs.declared.fault.TypeFault.TheVariants as fault
@@ -168,6 +167,7 @@ node_self : (x : TypeMsg) → same_node x x ≡ true
 node_self x = rw (eq-eqb x.kind x.kind refl, numbers_self x.subtypes, pointwise_self (pointwise ◌==◌) numbers_self x.field_names, numbers_self x.kept) refl
 
 pub equal_schemas : (s t : Shape) → (same_types s t ≡ true) ↔ (s ≡ t)
-equal_schemas s t =
-    (λ h. one_list s t 0 (pointwise_same same_node node_same (types s 0) (types t 0) h),
-     λ e. subst (λ (x : Shape). same_types s x ≡ true) e (pointwise_self same_node node_self (types s 0)))
+equal_schemas s t = (
+  λ h. one_list s t 0 (pointwise_same same_node node_same (types s 0) (types t 0) h),
+  λ e. subst (λ (x : Shape). same_types s x ≡ true) e (pointwise_self same_node node_self (types s 0)),
+)

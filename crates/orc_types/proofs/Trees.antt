@@ -1,5 +1,5 @@
 -- A list of types is of one tree at most, and what stands where it is of none.
-use Rattle.std.proofs.Common.{◌≡◌, ℕ, zero, suc, max, ◌+◌, ◌-◌, ◌<◌, ◌≤◌, ◌++◌, List, [], ◌∷◌, length, get_or, drop, take, map, Bool, true, false, cond, eqb, ◌==◌, Option, Some, None, refl, sym, ap, ◌∙◌, subst, append_assoc, arith, rules, length-append, add-one, sub-one, append-nil, drop-cons, inl, inr}
+use Rattle.std.proofs.Common.{◌≡◌, ℕ, zero, suc, ◌+◌, ◌-◌, ◌<◌, ◌≤◌, ◌++◌, List, [], ◌∷◌, length, get_or, drop, take, true, false, cond, eqb, Option, Some, None, refl, sym, ap, ◌∙◌, subst, append_assoc, arith, length-append, add-one, sub-one, append-nil, drop-cons, inl, inr}
 use Rattle.std.specs.Prelude.{slice_get, is_some}
 use Rattle.std.specs.List.{AllByRecursion}
 use Rattle.std.specs.Str.{is_utf8}
@@ -12,10 +12,10 @@ use Rattle.orc_types.specs.declared.fault.TypeFault.TheVariants as fault
 use Rattle.orc_types.specs.Kinds.{number, scalar_of, IsKind}
 use Rattle.orc_types.specs.Types.{starts, types, fields_types}
 use Rattle.orc_wire.specs.declared.type_msg.TypeMsg.{TypeMsg}
-use Rattle.orc_types.specs.Shapes.{Shape, scalar, list_of, struct_of, Fields, no_field, field, width, widths, depth, depths, HasTextNames, HaveTextNames, names_of, IsStruct}
-use Rattle.orc_types.specs.Schemas.{IsSchema, HasTypes, AllKept}
-use Rattle.orc_types.specs.Faults.{HasForeignKind, IsNoTree, IsBelow, Descends, HasBadName, HasNoRoot, TypesFault}
-use Rattle.orc_types.specs.Preorder.{Found, FoundFields, NoneAt, NoFieldsAt, NameFault, HasBadAmong, PlaceFault, FieldDescends, FieldsFault}
+use Rattle.orc_types.specs.Shapes.{Shape, scalar, list_of, struct_of, Fields, no_field, field, width, widths, names_of, IsStruct}
+use Rattle.orc_types.specs.Schemas.{HasTypes, AllKept}
+use Rattle.orc_types.specs.Faults.{IsBelow, Descends, HasNoRoot, TypesFault}
+use Rattle.orc_types.specs.Preorder.{Found, FoundFields, NoneAt, NoFieldsAt, NameFault, PlaceFault, FieldsFault}
 use Rattle.orc_types.specs.Views.{fields_of}
 
 -- ---- kinds and their numbers

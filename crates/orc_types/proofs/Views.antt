@@ -1,11 +1,11 @@
 -- Trees and values, level by level.
-use Rattle.std.proofs.Common.{◌≡◌, ℕ, List, [], ◌∷◌, map, Option, Some, None, Vec, Box, String, string_bytes, Global, refl, sym, ap, ◌∙◌, arith, rules}
-use Rattle.orc_types.specs.Shapes.{Shape, scalar, list_of, struct_of}
-use Rattle.orc_types.specs.Cells.{Cell, null, leaf, list, struct, Cells, end, more, cells_of, list_of_cells, is_value, parts}
-use Rattle.orc_types.specs.Views.{shape, named, fields, fields_of, shape_step, field_step, view, views, or_null, cell_of_value, cell_step}
+use Rattle.std.proofs.Common.{◌≡◌, ℕ, List, [], ◌∷◌, map, Option, Some, None, Vec, Box, string_bytes, Global, refl, ap, rules}
+use Rattle.orc_types.specs.Shapes.{scalar, list_of, struct_of}
+use Rattle.orc_types.specs.Cells.{Cell, null, list, struct, Cells, end, more, cells_of, list_of_cells}
+use Rattle.orc_types.specs.Views.{shape, named, fields, view, views, or_null, cell_of_value, cell_step}
 use Rattle.orc_types.specs.declared.kind.Scalar.{Scalar as Kind}
 use Rattle.orc_types.specs.declared.tree.Tree.{Tree, Scalar, List as TreeList, Struct as TreeStruct}
-use Rattle.orc_types.specs.declared.tree.Tree.TheFolds.{the_lemmas as tree_lemmas, fold-Tree, fold-Field}
+use Rattle.orc_types.specs.declared.tree.Tree.TheFolds.{the_lemmas as tree_lemmas}
 use Rattle.orc_types.specs.declared.tree.Field.{Field}
 use Rattle.orc_types.specs.declared.value.Value.{Value, List as ListOf, Struct, the_lemmas}
 use Rattle.orc_types.specs.declared.value.Value.TheFolds.{fold-Value}

@@ -1,5 +1,5 @@
 -- Schemas (ORC specification, "Types"), within the limits that this project sets.
-use Rattle.std.specs.Prelude.{◌≡◌, ◌≤◌, ℕ, List, Bool, ◌==◌}
+use Rattle.std.specs.Prelude.{◌≡◌, ◌≤◌, List, Bool, ◌==◌}
 use Rattle.std.specs.List.{AllByRecursion}
 use Rattle.std.specs.Ordering.{eq_of_both, on}
 use Rattle.std.specs.Cmp.{IsEquivalence}

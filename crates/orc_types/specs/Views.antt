@@ -1,9 +1,6 @@
 -- What the program's trees and values stand for (ORC specification, "Types").
 use Rattle.std.specs.Prelude.{ℕ, List, [], ◌∷◌, map, Option, Some, None, string_bytes}
 use Rattle.std.specs.Borrow.{Bor}
-use Rattle.std.specs.declared.borrow.CowStr.{CowStr}
-use Rattle.std.specs.declared.borrow.CowSlice.{CowSlice}
-use Rattle.std.specs.declared.alloc.Global.{Global}
 use Rattle.std.specs.Cow.{cow_str_bytes, cow_slice_items}
 use Rattle.orc_types.specs.Shapes.{Shape, scalar, list_of, struct_of, Fields, no_field, field}
 use Rattle.orc_types.specs.Cells.{bool, int, date, text, bytes, Cell, null, leaf, list, struct, cells_of}

@@ -53,7 +53,11 @@ fn field_at<'r, 'a>(row: &'r Row<'a>, i: usize) -> Option<&'r Row<'a>>
 }
 
 /// Adds the field at a place of a struct that is not null.
-fn lend_field<'r, 'a>(found: &mut Vec<&'r Row<'a>>, row: &'r Row<'a>, i: usize) -> Result<(), AllocError>
+fn lend_field<'r, 'a>(
+    found: &mut Vec<&'r Row<'a>>,
+    row: &'r Row<'a>,
+    i: usize,
+) -> Result<(), AllocError>
     ensures { OnOk result (seen found.new.items ≡ seen found.old.items ++ take 1 (drop i (parts (view row.now)))) }
 {
     let Some(field) = field_at(row, i) else {
@@ -64,7 +68,11 @@ fn lend_field<'r, 'a>(found: &mut Vec<&'r Row<'a>>, row: &'r Row<'a>, i: usize) 
 }
 
 /// The fields at a place of the structs that are not null, in order.
-fn members<'r, 'a>(alloc: Global, rows: Vec<&'r Row<'a>>, i: usize) -> Result<Vec<&'r Row<'a>>, AllocError>
+fn members<'r, 'a>(
+    alloc: Global,
+    rows: Vec<&'r Row<'a>>,
+    i: usize,
+) -> Result<Vec<&'r Row<'a>>, AllocError>
     ensures { IfOk result (λ v. seen v.items ≡ flat_map (λ c. take 1 (drop i (parts c))) (seen rows.entry.items)) }
 {
     let mut found = Vec::new(alloc);

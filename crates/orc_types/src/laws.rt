@@ -16,13 +16,11 @@ pub fn schema_laws()
     ensures one_tree { (s t : Shape) → types s 0 ≡ types t 0 → s ≡ t }
     ensures equal { (s t : Shape) → (same_types s t ≡ true) ↔ (s ≡ t) }
     ensures none { (ts : List TypeMsg) (s : Shape) (fault : TypeFault) → HasTypes s ts → TypesFault ts fault → fault ≡ OutOfMemory }
-{
-}
+{}
 
 /// Laws of cells: the cells of rows one after the other stand one after the other, and those of a
 /// column of rows that fit are rows of the column's type.
 pub fn cells_laws()
     ensures append { (s : Shape) (column : ℕ) (a b : List Cell) → cells s column (a ++ b) ≡ cells s column a ++ cells s column b }
     ensures fit { (s : Shape) (column : ℕ) (rows : List Cell) → column < width s → RowsFit s rows → RowsFit (shape_at s column) (cells s column rows) }
-{
-}
+{}

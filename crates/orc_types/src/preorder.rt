@@ -17,6 +17,7 @@ use std::str;
 
 /// The most types that a schema has, and the most levels.
 const MOST_TYPES: usize = 4096;
+
 const MOST_LEVELS: u32 = 32;
 
 /// The type at a place.

@@ -15,7 +15,12 @@ mod rows;
 type Listed = (u32, &'static [u32], &'static [&'static [u8]]);
 
 /// A struct of one list of lists of numbers: `struct<a:array<array<int>>>`.
-const LISTS: [Listed; 4] = [(12, &[1], &[b"a"]), (10, &[2], &[]), (10, &[3], &[]), (3, &[], &[])];
+const LISTS: [Listed; 4] = [
+    (12, &[1], &[b"a"]),
+    (10, &[2], &[]),
+    (10, &[3], &[]),
+    (3, &[], &[]),
+];
 
 /// The bytes of field 5, a varint, of value 1.
 fn field_five(alloc: Global) -> Result<Bytes, AllocError>
@@ -91,7 +96,15 @@ fn check_schemas(rt: &impl Abort, alloc: Global) -> Result<(), TypeFault> {
     assert_eq!(rt; names[0].as_slice(), b"a".as_slice());
     let again = schema_of(alloc, &LISTS)?;
     assert!(rt; schema == again, "the same types");
-    let other = schema_of(alloc, &[(12, &[1], &[b"b"]), (10, &[2], &[]), (10, &[3], &[]), (3, &[], &[])])?;
+    let other = schema_of(
+        alloc,
+        &[
+            (12, &[1], &[b"b"]),
+            (10, &[2], &[]),
+            (10, &[3], &[]),
+            (3, &[], &[]),
+        ],
+    )?;
     assert!(rt; schema != other, "another name");
     let plain = schema_of(alloc, &[(12, &[1], &[b"n"]), (4, &[], &[])])?;
     let with_kept = Schema::from_types(alloc, &number_that_keeps(alloc)?)?;

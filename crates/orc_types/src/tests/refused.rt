@@ -8,25 +8,74 @@ const REFUSED: [(&'static [Listed], TypeFault); 22] = [
     (&[], TypeFault::RootNotStruct),
     (&[(1, &[], &[])], TypeFault::RootNotStruct),
     (&[(10, &[1], &[]), (3, &[], &[])], TypeFault::RootNotStruct),
-    (&[(12, &[1], &[b"f"]), (5, &[], &[])], TypeFault::UnsupportedKind(5)),
-    (&[(12, &[1], &[b"m"]), (11, &[2, 3], &[]), (3, &[], &[]), (3, &[], &[])], TypeFault::UnsupportedKind(11)),
-    (&[(12, &[1], &[b"x"]), (18, &[], &[])], TypeFault::UnsupportedKind(18)),
+    (
+        &[(12, &[1], &[b"f"]), (5, &[], &[])],
+        TypeFault::UnsupportedKind(5),
+    ),
+    (
+        &[
+            (12, &[1], &[b"m"]),
+            (11, &[2, 3], &[]),
+            (3, &[], &[]),
+            (3, &[], &[]),
+        ],
+        TypeFault::UnsupportedKind(11),
+    ),
+    (
+        &[(12, &[1], &[b"x"]), (18, &[], &[])],
+        TypeFault::UnsupportedKind(18),
+    ),
     (&[(12, &[1], &[b"a"]), (10, &[], &[])], TypeFault::BadTree),
-    (&[(12, &[1], &[b"a"]), (10, &[2, 3], &[]), (3, &[], &[]), (3, &[], &[])], TypeFault::BadTree),
-    (&[(12, &[1], &[b"a"]), (10, &[2], &[b"e"]), (3, &[], &[])], TypeFault::BadTree),
-    (&[(12, &[1], &[b"a"]), (10, &[0], &[]), (3, &[], &[])], TypeFault::BadTree),
+    (
+        &[
+            (12, &[1], &[b"a"]),
+            (10, &[2, 3], &[]),
+            (3, &[], &[]),
+            (3, &[], &[]),
+        ],
+        TypeFault::BadTree,
+    ),
+    (
+        &[(12, &[1], &[b"a"]), (10, &[2], &[b"e"]), (3, &[], &[])],
+        TypeFault::BadTree,
+    ),
+    (
+        &[(12, &[1], &[b"a"]), (10, &[0], &[]), (3, &[], &[])],
+        TypeFault::BadTree,
+    ),
     (&[(12, &[0], &[b"a"]), (3, &[], &[])], TypeFault::BadTree),
     (&[(12, &[2], &[b"a"]), (3, &[], &[])], TypeFault::BadTree),
     (&[(12, &[1], &[b"a"])], TypeFault::BadTree),
-    (&[(12, &[1, 1], &[b"a", b"b"]), (3, &[], &[])], TypeFault::BadTree),
-    (&[(12, &[2, 1], &[b"a", b"b"]), (3, &[], &[]), (3, &[], &[])], TypeFault::BadTree),
+    (
+        &[(12, &[1, 1], &[b"a", b"b"]), (3, &[], &[])],
+        TypeFault::BadTree,
+    ),
+    (
+        &[(12, &[2, 1], &[b"a", b"b"]), (3, &[], &[]), (3, &[], &[])],
+        TypeFault::BadTree,
+    ),
     (&[(12, &[1], &[]), (3, &[], &[])], TypeFault::BadTree),
-    (&[(12, &[1], &[b"a", b"b"]), (3, &[], &[])], TypeFault::BadTree),
+    (
+        &[(12, &[1], &[b"a", b"b"]), (3, &[], &[])],
+        TypeFault::BadTree,
+    ),
     (&[(12, &[], &[]), (3, &[], &[])], TypeFault::BadTree),
-    (&[(12, &[1], &[b"a"]), (3, &[2], &[]), (3, &[], &[])], TypeFault::BadTree),
-    (&[(12, &[1], &[b"a"]), (7, &[], &[b"a"])], TypeFault::BadTree),
-    (&[(12, &[1], &[b"\xff"]), (3, &[], &[])], TypeFault::BadText(0)),
-    (&[(12, &[1], &[b"\xc0\x80"]), (3, &[], &[])], TypeFault::BadText(0)),
+    (
+        &[(12, &[1], &[b"a"]), (3, &[2], &[]), (3, &[], &[])],
+        TypeFault::BadTree,
+    ),
+    (
+        &[(12, &[1], &[b"a"]), (7, &[], &[b"a"])],
+        TypeFault::BadTree,
+    ),
+    (
+        &[(12, &[1], &[b"\xff"]), (3, &[], &[])],
+        TypeFault::BadText(0),
+    ),
+    (
+        &[(12, &[1], &[b"\xc0\x80"]), (3, &[], &[])],
+        TypeFault::BadText(0),
+    ),
 ];
 
 /// A struct of lists within lists, of that many levels and one.
@@ -109,10 +158,26 @@ fn limits(rt: HostRuntime) {
 
 /// 32 levels and 4,096 types are a schema, 33 and 4,097 aren't.
 fn check_limits(rt: &impl Abort, alloc: Global) -> Result<(), TypeFault> {
-    assert_eq!(rt; Schema::from_types(alloc, &nested(alloc, 30)?)?.types().len(), 32);
-    assert!(rt; is_refused(alloc, &nested(alloc, 31)?, TypeFault::TooDeep)?, "33 levels");
-    assert_eq!(rt; Schema::from_types(alloc, &wide(alloc, 4095)?)?.types().len(), 4096);
-    assert!(rt; is_refused(alloc, &wide(alloc, 4096)?, TypeFault::TooMany)?, "4,097 types");
+    assert_eq!(rt;
+        Schema::from_types(alloc, &nested(alloc, 30)?)?
+            .types()
+            .len(),
+        32
+    );
+    assert!(rt;
+        is_refused(alloc, &nested(alloc, 31)?, TypeFault::TooDeep)?,
+        "33 levels"
+    );
+    assert_eq!(rt;
+        Schema::from_types(alloc, &wide(alloc, 4095)?)?
+            .types()
+            .len(),
+        4096
+    );
+    assert!(rt;
+        is_refused(alloc, &wide(alloc, 4096)?, TypeFault::TooMany)?,
+        "4,097 types"
+    );
     Ok(())
 }
 

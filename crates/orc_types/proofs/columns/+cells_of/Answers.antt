@@ -1,11 +1,11 @@
-use Rattle.std.proofs.Common.{◌≡◌, ℕ, suc, ◌+◌, ◌-◌, ◌<◌, ◌≤◌, List, [], take, drop, map, sym, ap, ◌∙◌, arith, rules}
+use Rattle.std.proofs.Common.{◌≡◌, ◌+◌, ◌-◌, map, sym, ap, ◌∙◌, arith}
 use Rattle.std.specs.List.{flat_map}
 use Rattle.std.proofs.lemmas.Result.{IfOk-weaker}
-use Rattle.orc_types.specs.Shapes.{width, widths, list_of, struct_of}
+use Rattle.orc_types.specs.Shapes.{width, widths}
 use Rattle.orc_types.specs.Cells.{parts, values}
-use Rattle.orc_types.specs.Columns.{cells, cells_within}
+use Rattle.orc_types.specs.Columns.{cells}
 use Rattle.orc_types.specs.Views.{shape, fields, seen}
-use Rattle.orc_types.proofs.Views.{shape-List, shape-Struct}
+use Rattle.orc_types.proofs.Views.{shape-Struct}
 use Rattle.orc_types.proofs.ByColumn.{located_cells, not_located, struct_cells, list_cells, members_values, width_within}
 use Rattle.orc_types.proofs.columns.+cells_of.Goals as goal
 

@@ -1,4 +1,4 @@
-use Rattle.std.proofs.Common.{rules, arith}
+use Rattle.std.proofs.Common.{arith}
 use Rattle.orc_types.proofs.Views.{list_of-views, view-List, view-Struct}
 use Rattle.orc_types.proofs.columns.elements_of.Goals as goal
 

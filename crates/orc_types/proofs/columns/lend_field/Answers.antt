@@ -1,4 +1,4 @@
-use Rattle.std.proofs.Common.{◌≡◌, ℕ, zero, suc, Some, None, Option, List, [], ◌∷◌, ◌++◌, take, drop, refl, sym, ap, ◌∙◌, arith, rules, append-nil, slice_get}
+use Rattle.std.proofs.Common.{◌≡◌, ℕ, zero, suc, Some, None, List, [], ◌∷◌, ◌++◌, take, drop, refl, sym, ap, ◌∙◌, append-nil, slice_get}
 use Rattle.std.proofs.lemmas.List.{map-append}
 use Rattle.orc_types.specs.Cells.{Cell, parts}
 use Rattle.orc_types.specs.Views.{seen, view}

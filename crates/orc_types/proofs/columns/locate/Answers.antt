@@ -1,6 +1,5 @@
-use Rattle.std.proofs.Common.{◌≡◌, ℕ, suc, add-one, add-zero, ◌+◌, ◌<◌, ◌≤◌, length, drop, sym, ap, ◌∙◌, arith, rules}
+use Rattle.std.proofs.Common.{suc, add-one, add-zero, ◌<◌, ◌≤◌, length, ap, arith}
 use Rattle.orc_types.specs.Shapes.{width, widths}
-use Rattle.orc_types.specs.Columns.{IsLocated}
 use Rattle.orc_types.specs.Views.{shape, fields}
 use Rattle.orc_types.proofs.ByColumn.{width_within, located_here, located_more, past_more, located_next}
 use Rattle.orc_types.proofs.columns.locate.Goals as goal
@@ -22,6 +21,6 @@ loop-i-preserved c =
     let w : width (shape c.field-item.result.tree) ≤ c.loop-i.left = omega (arith, c.if-left-width.false, c.width_of-width.ensures) in
     rw (add-one, c.width_of-width.ensures) record {
       found = λ j d l. located_next c.deref-field-items.result.now c.args.column c.loop-i.i j d (c.loop-i.invariant.found (suc j) d
-      (located_more c.deref-field-items.result.now c.loop-i.i c.loop-i.left c.field-item.result c.loop-i-test.true c.field-item.is w j d l));
+          (located_more c.deref-field-items.result.now c.loop-i.i c.loop-i.left c.field-item.result c.loop-i-test.true c.field-item.is w j d l));
       past = λ p. c.loop-i.invariant.past (past_more c.deref-field-items.result.now c.loop-i.i c.loop-i.left c.field-item.result c.loop-i-test.true c.field-item.is w p);
     }

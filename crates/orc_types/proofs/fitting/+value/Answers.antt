@@ -1,4 +1,4 @@
-use Rattle.std.proofs.Common.{add-one, rules, get_or, ◌≡◌, Some, None, ℕ, ◌+◌, ◌-◌, ◌*◌, ◌<◌, ◌≤◌, length, Bool, true, false, nat_eq, nat_lt, List, [], ◌∷◌, ◌++◌, take, drop, refl, sym, ap, ◌∙◌, arith, Bor, ℤ, pos}
+use Rattle.std.proofs.Common.{add-one, ◌≡◌, ◌<◌, length, true, false, refl, sym, ap, ◌∙◌, arith}
 use Rattle.std.proofs.lemmas.Grind.{common_steps}
 use Rattle.orc_types.specs.Cells.{cells_of}
 use Rattle.orc_types.specs.Views.{view, views, shape, fields}

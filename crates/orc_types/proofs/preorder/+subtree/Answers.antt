@@ -1,11 +1,11 @@
-use Rattle.std.proofs.Common.{rules, slice_get, ◌≡◌, Some, None, ℕ, suc, ◌+◌, ◌-◌, ◌<◌, ◌≤◌, length, get_or, Bool, true, false, List, [], ◌∷◌, ◌++◌, map, drop, refl, sym, ap, ◌∙◌, subst, arith, add-one, Vec, Global, IsTrue}
+use Rattle.std.proofs.Common.{◌≡◌, ℕ, ◌<◌, length, get_or, List, [], ◌∷◌, ◌++◌, map, sym, ap, ◌∙◌, arith, add-one}
 use Rattle.orc_types.specs.declared.tree.Field.{Field}
 use Rattle.std.proofs.lemmas.Result.{err_from_is_err_and}
 use Rattle.std.proofs.lemmas.List.{map-append}
-use Rattle.orc_types.specs.Views.{named, shape, fields, fields_of}
-use Rattle.orc_types.specs.Preorder.{Found, FoundFields, NoFieldsAt}
+use Rattle.orc_types.specs.Views.{named, shape, fields}
+use Rattle.orc_types.specs.Preorder.{NoFieldsAt}
 use Rattle.orc_types.proofs.Views.{named-is, shape-Scalar, shape-List, shape-Struct}
-use Rattle.orc_types.proofs.Trees.{Reached, get_or-any, number-scalar_of, past_end, list_wrong, list_fault, list_found, struct_fault, struct_found, scalar_wrong, scalar_found, lengths_wrong, name_fault, field_fault, reached_place, reached_more, reached_all}
+use Rattle.orc_types.proofs.Trees.{get_or-any, number-scalar_of, past_end, list_wrong, list_fault, list_found, struct_fault, struct_found, scalar_wrong, scalar_found, lengths_wrong, name_fault, field_fault, reached_place, reached_more, reached_all}
 use Rattle.orc_types.proofs.preorder.+subtree.Goals as goal
 
 pub subtree-returns-in_default-clause-fault : goal.subtree-returns-in_default-clause-fault

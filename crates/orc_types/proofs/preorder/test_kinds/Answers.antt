@@ -1,5 +1,5 @@
-use Rattle.std.proofs.Common.{rules, ◌≡◌, Some, None, ℕ, ◌+◌, ◌-◌, ◌<◌, ◌≤◌, length, List, refl, sym, ap, ◌∙◌, arith, add-one, inl, inr}
-use Rattle.std.specs.Prelude.{is_some, true}
+use Rattle.std.proofs.Common.{refl, sym, ap, ◌∙◌, add-one, inl, inr}
+use Rattle.std.specs.Prelude.{is_some}
 use Rattle.orc_types.specs.Kinds.{IsKind}
 use Rattle.orc_types.proofs.Trees.{known, unknown, node_at, kinds_more}
 use Rattle.orc_types.proofs.preorder.test_kinds.Goals as goal

@@ -1,4 +1,4 @@
-use Rattle.std.proofs.Common.{rules, ◌≡◌, Some, None, ℕ, ◌+◌, ◌-◌, ◌<◌, ◌≤◌, length, List, refl, sym, ap, ◌∙◌, arith}
+use Rattle.std.proofs.Common.{sym, arith}
 use Rattle.std.proofs.lemmas.Result.{err_from_is_err_and}
 use Rattle.orc_types.specs.Views.{shape}
 use Rattle.orc_types.proofs.Trees.{root_fault, more_types, schema_from, no_root, empty_root}

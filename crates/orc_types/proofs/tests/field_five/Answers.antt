@@ -1,4 +1,4 @@
-use Rattle.std.proofs.Common.{◌≡◌, ℕ, List, [], ◌∷◌, ◌++◌, ◌<◌, refl, sym, ap, ◌∙◌, subst, arith}
+use Rattle.std.proofs.Common.{ℕ, [], ◌∷◌, ◌<◌, refl, sym, ◌∙◌, subst, arith}
 use Rattle.orc_bits.specs.Varint.{IsVarint}
 use Rattle.orc_wire.specs.Fields.{Item, varint, IsField}
 use Rattle.orc_types.specs.Kept.{IsKept}
