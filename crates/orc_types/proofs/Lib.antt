@@ -4,3 +4,4 @@ pub mod Trees
 pub mod Exclusion
 pub mod Together
 pub mod KeptFields
+pub mod Texts

@@ -11,3 +11,4 @@ pub mod Coding
 pub mod Views
 pub mod Preorder
 pub mod Lent
+pub mod SchemaText

@@ -10,6 +10,7 @@ mod laws;
 mod lent;
 mod preorder;
 mod schema;
+mod schema_text;
 mod tree;
 mod value;
 
