@@ -1,10 +1,8 @@
 -- Members of a message: what the fields say of each, as a function or relation of their list alone.
-use Rattle.std.specs.Prelude.{◌≡◌, ℕ, ◌+◌, ◌-◌, ◌*◌, ◌^◌, ◌<◌, ◌≤◌, List, [], ◌∷◌, length, ◌++◌, ◌⊎◌, Option, Some, None, Bool, true, false, refl, ℤ}
-use Rattle.std.specs.Option.{unwrap_or, option_or, option_map, IfSome, IsSome}
-use Rattle.std.specs.Bool.{MatchBool}
-use Rattle.std.proofs.Common.{sym, ◌∙◌, ap, subst, inl, inr, arith}
+use Rattle.std.specs.Prelude.{◌≡◌, List, [], ◌∷◌, ◌⊎◌, refl}
+use Rattle.std.proofs.Common.{sym, ◌∙◌, ap, subst, inl, inr}
 use Rattle.orc_wire.specs.declared.fault.WireFault.{WireFault}
-use Rattle.orc_wire.specs.Fields.{Payload, varint, eight, four, sized, Item}
+use Rattle.orc_wire.specs.Fields.{Item}
 
 -- What the fields say, joined in order from what each of them gives. The last field stands first in the list.
 abbrev pub Joined : {V P : Type 0} → V → (V → P → V → Type 0) → (Item → P → Type 0) → List Item → V → Type 0

@@ -1,5 +1,5 @@
 -- The messages of ORC (orc_proto.proto), a line a member.
-use Rattle.std.specs.Prelude.{ℕ, ◌^◌, List, [], Option, ℤ, Bool, refl}
+use Rattle.std.specs.Prelude.{ℕ, ◌^◌, List, [], Option, refl}
 use Rattle.orc_wire.specs.declared.encoding.Encoding.{Encoding}
 use Rattle.orc_wire.specs.declared.stripe_footer.StreamMsg.{StreamMsg}
 use Rattle.orc_wire.specs.declared.stripe_footer.StripeFooter.{StripeFooter}

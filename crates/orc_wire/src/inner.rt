@@ -19,13 +19,13 @@ pub(crate) fn take_only<M: Message>(
     ensures ok { OnOk result ((only M.members M.REQUIRED n).steps (item_of field.now) slot.old slot.new) }
     ensures fault { IfErr result (λ fault. (fault ≡ OutOfMemory) ⊎ (only M.members M.REQUIRED n).refuses (item_of field.now) slot.old fault) }
 {
-    match field.bytes(n) {
+    match field.message(n) {
         None => Ok(()),
-        Some(bytes) => {
+        Some(fields) => {
             if slot.is_some() {
                 return Err(WireFault::RepeatedMessage(field.place));
             }
-            match M::read_at(alloc, bytes, field.inside(bytes)) {
+            match M::read_fields(alloc, fields) {
                 Ok(message) => {
                     *slot = Some(message);
                     Ok(())
@@ -46,9 +46,9 @@ pub(crate) fn take_each<M: Message>(
     ensures ok { OnOk result ((each (message M.members M.REQUIRED n)).steps (item_of field.now) slot.old slot.new) }
     ensures fault { IfErr result (λ fault. (fault ≡ OutOfMemory) ⊎ (each (message M.members M.REQUIRED n)).refuses (item_of field.now) slot.old fault) }
 {
-    match field.bytes(n) {
+    match field.message(n) {
         None => Ok(()),
-        Some(bytes) => match M::read_at(alloc, bytes, field.inside(bytes)) {
+        Some(fields) => match M::read_fields(alloc, fields) {
             Ok(message) => {
                 slot.push(message)?;
                 Ok(())

@@ -1,18 +1,22 @@
-ghost use Rattle.std.specs.Prelude.{◌≡◌, ℕ, List, ◌++◌, ◌<◌, ◌≤◌, ◌+◌, ◌^◌, ◌⊎◌, length, take, IfOk, IfErr, OnOk, MatchResult};
+ghost use Rattle.std.specs.Prelude.{◌≡◌, ℕ, List, ◌++◌, ◌<◌, ◌≤◌, ◌+◌, ◌^◌, ◌⊎◌, length, take, IfOk, IfErr, OnOk, OnErr, MatchResult};
+ghost use Rattle.orc_wire.specs.declared.fault.WireFault.{WireFault};
 ghost use Rattle.orc_wire.specs.declared.fault.WireFault.TheVariants.{OutOfMemory};
 ghost use Rattle.orc_wire.specs.FieldItem.{item_of};
 ghost use Rattle.orc_wire.specs.Members.{Member};
 ghost use Rattle.orc_wire.specs.Spells.{Spells, Faults};
+ghost use Rattle.orc_wire.specs.Canonical.{Canonical, KeepsFront};
 
 use crate::fault::WireFault;
 use crate::field::Field;
-use crate::fields::first_field;
+use crate::iter::Fields;
 use std::alloc::Global;
 
 /// A message of ORC.
 pub trait Message: Sized + Drop {
     // what fields say of it
     ghost members: { Member Self };
+    // its canonical text
+    ghost canonical: { Canonical members };
     // the number that must be there, or 0
     ghost REQUIRED: { ℕ };
 
@@ -27,19 +31,27 @@ pub trait Message: Sized + Drop {
         ensures ok { OnOk result (members.steps (item_of field.now) self.old self.new) }
         ensures fault { IfErr result (λ e. (e ≡ OutOfMemory) ⊎ members.refuses (item_of field.now) self.old e) };
 
-    /// The message that the bytes spell. Its places are counted from `base`.
-    final fn read_at(alloc: Global, bytes: &[u8], base: usize) -> Result<Self, WireFault>
-        requires { base + length bytes.now < 2 ^ 64 }
-        ensures found { IfOk result (λ message. Spells members REQUIRED base bytes.now message) }
-        ensures only { (content : Self) → Spells members REQUIRED base bytes.now content → MatchResult result (λ message. message ≡ content) (λ e. e ≡ OutOfMemory) }
-        ensures fault { IfErr result (λ e. (e ≡ OutOfMemory) ⊎ Faults members REQUIRED base bytes.now e) }
+    /// Appends the canonical text. After a refusal a part of it may stand there.
+    fn put_members(&self, out: &mut Vec<u8>) -> Result<(), WireFault>
+        ensures text { OnOk result (out.new.items ≡ out.old.items ++ canonical.text self.now) }
+        ensures bounded { OnOk result (canonical.bounded self.now) }
+        ensures refused { IfErr result (λ fault. fault ≡ OutOfMemory) }
+        ensures front { KeepsFront out.old.items out.new.items };
+
+    // the required number is always written
+    ghost complete: { (REQUIRED ≡ 0) ⊎ canonical.always REQUIRED };
+
+    /// The message of the fields, whose places count on from where they stand.
+    final fn read_fields(alloc: Global, fields: Fields<'_>) -> Result<Self, WireFault>
+        ensures found { IfOk result (λ message. Spells members REQUIRED fields.entry.place fields.entry.rest.now message) }
+        ensures only { (content : Self) → Spells members REQUIRED fields.entry.place fields.entry.rest.now content → MatchResult result (λ message. message ≡ content) (λ e. e ≡ OutOfMemory) }
+        ensures fault { IfErr result (λ e. (e ≡ OutOfMemory) ⊎ Faults members REQUIRED fields.entry.place fields.entry.rest.now e) }
+        ensures refused { (fault : WireFault) → Faults members REQUIRED fields.entry.place fields.entry.rest.now fault → MatchResult result (λ _. ⊥) (λ e. (e ≡ OutOfMemory) ⊎ (e ≡ fault)) }
     {
         let mut message = Self::empty(alloc);
         let mut complete = Self::REQUIRED == 0;
-        let mut at = 0;
-        while at < bytes.len() {
-            let (_, rest) = bytes.split_at(at);
-            let field = match first_field(rest, base + at) {
+        for next in fields {
+            let field = match next {
                 Ok(field) => field,
                 Err(fault) => return Err(fault),
             };
@@ -49,7 +61,6 @@ pub trait Message: Sized + Drop {
             }
             let found = field.varint(Self::REQUIRED).is_some();
             complete = complete || found;
-            at += field.text.len();
         }
         if !complete {
             return Err(WireFault::Missing);
@@ -62,7 +73,27 @@ pub trait Message: Sized + Drop {
         ensures found { IfOk result (λ message. Spells members REQUIRED 0 bytes.now message) }
         ensures only { (content : Self) → Spells members REQUIRED 0 bytes.now content → MatchResult result (λ message. message ≡ content) (λ e. e ≡ OutOfMemory) }
         ensures fault { IfErr result (λ e. (e ≡ OutOfMemory) ⊎ Faults members REQUIRED 0 bytes.now e) }
+        ensures refused { (fault : WireFault) → Faults members REQUIRED 0 bytes.now fault → MatchResult result (λ _. ⊥) (λ e. (e ≡ OutOfMemory) ⊎ (e ≡ fault)) }
     {
-        Self::read_at(alloc, bytes, 0)
+        Self::read_fields(alloc, Fields::new(bytes))
+    }
+
+    /// Appends the canonical text of the message. A refusal, which is `OutOfMemory`, leaves `out` as
+    /// it was.
+    final fn put(&self, out: &mut Vec<u8>) -> Result<(), WireFault>
+        ensures text { OnOk result (out.new.items ≡ out.old.items ++ canonical.text self.now) }
+        ensures again { OnOk result (canonical.whole self.now → Spells members REQUIRED 0 (canonical.text self.now) self.now) }
+
+        ensures refused { IfErr result (λ fault. fault ≡ OutOfMemory) }
+        ensures unchanged { OnErr result (out.new.items ≡ out.old.items) }
+    {
+        let start = out.len();
+        match self.put_members(out) {
+            Ok(()) => Ok(()),
+            Err(fault) => {
+                out.truncate(start);
+                Err(fault)
+            }
+        }
     }
 }

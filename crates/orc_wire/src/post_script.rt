@@ -1,3 +1,4 @@
+use crate::canonical::{put_known_u32, put_number, put_packed_u32, put_text};
 use crate::fault::WireFault;
 use crate::field::Field;
 use crate::items::{Bytes, Items};
@@ -20,8 +21,11 @@ pub struct PostScript {
 impl Message for PostScript {
     ghost use Rattle.std.specs.Prelude.{ℕ};
     ghost use Rattle.orc_wire.specs.Messages.{post_script};
+    ghost use Rattle.orc_wire.specs.CanonicalMessages.{post_script_text, post_script_complete};
 
     ghost members = { post_script };
+
+    ghost canonical = { post_script_text };
 
     ghost REQUIRED = { 0 };
 
@@ -46,4 +50,15 @@ impl Message for PostScript {
         take_known_u32(&mut self.writer_version, 6, field)?;
         take_text(&mut self.magic, 8000, field)
     }
+
+    fn put_members(&self, out: &mut Vec<u8>) -> Result<(), WireFault> {
+        put_number(1, self.footer_length, out)?;
+        put_number(2, u64::from(self.compression), out)?;
+        put_packed_u32(4, self.version.as_slice(), out)?;
+        put_number(5, self.metadata_length, out)?;
+        put_known_u32(6, self.writer_version, out)?;
+        put_text(8000, &self.magic, out)
+    }
+
+    ghost complete = { post_script_complete };
 }

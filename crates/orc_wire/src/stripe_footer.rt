@@ -1,8 +1,9 @@
+use crate::canonical::{put_each, put_number};
 use crate::encoding::Encoding;
 use crate::fault::WireFault;
 use crate::field::Field;
-use crate::items::Items;
 use crate::inner::take_each;
+use crate::items::Items;
 use crate::members::{take_u32, take_u64};
 use crate::message::Message;
 use std::alloc::Global;
@@ -18,8 +19,11 @@ pub struct StreamMsg {
 impl Message for StreamMsg {
     ghost use Rattle.std.specs.Prelude.{ℕ};
     ghost use Rattle.orc_wire.specs.Messages.{stream};
+    ghost use Rattle.orc_wire.specs.CanonicalMessages.{stream_text, stream_complete};
 
     ghost members = { stream };
+
+    ghost canonical = { stream_text };
 
     ghost REQUIRED = { 1 };
 
@@ -39,6 +43,14 @@ impl Message for StreamMsg {
         take_u64(&mut self.length, 3, field);
         Ok(())
     }
+
+    fn put_members(&self, out: &mut Vec<u8>) -> Result<(), WireFault> {
+        put_number(1, u64::from(self.kind), out)?;
+        put_number(2, u64::from(self.column), out)?;
+        put_number(3, self.length, out)
+    }
+
+    ghost complete = { stream_complete };
 }
 
 /// The directory of a stripe.
@@ -51,8 +63,11 @@ pub struct StripeFooter {
 impl Message for StripeFooter {
     ghost use Rattle.std.specs.Prelude.{ℕ};
     ghost use Rattle.orc_wire.specs.Messages.{stripe_footer};
+    ghost use Rattle.orc_wire.specs.CanonicalMessages.{stripe_footer_text, stripe_footer_complete};
 
     ghost members = { stripe_footer };
+
+    ghost canonical = { stripe_footer_text };
 
     ghost REQUIRED = { 0 };
 
@@ -69,4 +84,11 @@ impl Message for StripeFooter {
         take_each(alloc, &mut self.streams, 1, field)?;
         take_each(alloc, &mut self.columns, 2, field)
     }
+
+    fn put_members(&self, out: &mut Vec<u8>) -> Result<(), WireFault> {
+        put_each(1, self.streams.as_slice(), out)?;
+        put_each(2, self.columns.as_slice(), out)
+    }
+
+    ghost complete = { stripe_footer_complete };
 }

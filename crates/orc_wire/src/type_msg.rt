@@ -1,3 +1,4 @@
+use crate::canonical::{put_kept, put_number, put_packed_u32, put_texts};
 use crate::fault::WireFault;
 use crate::field::Field;
 use crate::items::{Bytes, Items};
@@ -22,8 +23,11 @@ pub struct TypeMsg {
 impl Message for TypeMsg {
     ghost use Rattle.std.specs.Prelude.{ℕ};
     ghost use Rattle.orc_wire.specs.Messages.{type_msg};
+    ghost use Rattle.orc_wire.specs.CanonicalMessages.{type_text, type_complete};
 
     ghost members = { type_msg };
+
+    ghost canonical = { type_text };
 
     ghost REQUIRED = { 1 };
 
@@ -44,4 +48,13 @@ impl Message for TypeMsg {
         take_texts(alloc, &mut self.field_names, 3, field)?;
         take_kept(&mut self.kept, 4, field)
     }
+
+    fn put_members(&self, out: &mut Vec<u8>) -> Result<(), WireFault> {
+        put_number(1, u64::from(self.kind), out)?;
+        put_packed_u32(2, self.subtypes.as_slice(), out)?;
+        put_texts(3, self.field_names.as_slice(), out)?;
+        put_kept(&self.kept, out)
+    }
+
+    ghost complete = { type_complete };
 }

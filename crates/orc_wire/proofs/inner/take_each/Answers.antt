@@ -7,6 +7,6 @@ pub returns-in_ok-push-in-Ok-clause-ok : goal.returns-in_ok-push-in-Ok-clause-ok
 returns-in_ok-push-in-Ok-clause-ok g c =
     let m = g.M.Message in (
       Some c.in-Ok.message,
-      message_read m.members m.REQUIRED c.args.n (item_of c.args.field.now) c.in-Some.bytes.now c.inside.result c.in-Ok.message c.in-Some.ensures.is c.inside.ensures c.in-Ok.ensures.found,
+      message_read m.members m.REQUIRED c.args.n (item_of c.args.field.now) c.in-Some.fields.rest.now c.in-Some.fields.place c.in-Ok.message c.in-Some.ensures.bytes c.in-Some.ensures.place c.in-Ok.ensures.found,
       c.in_ok-push-in-Ok.ensures.ok,
     )

@@ -1,4 +1,4 @@
-use Rattle.std.proofs.Common.{inr, arith, ◌^◌, length-drop, take, drop, ap, ◌∙◌, ℕ, ◌++◌, ◌∷◌, []}
+use Rattle.std.proofs.Common.{inr, arith, ◌^◌, length-drop, ap, ◌∙◌, ℕ, ◌++◌, ◌∷◌, []}
 use Rattle.orc_wire.proofs.ListLemmas.{appends_next, large_next}
 use Rattle.orc_wire.proofs.lists.take_varints.Goals as goal
 
