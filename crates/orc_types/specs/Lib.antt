@@ -1,7 +1,6 @@
 pub mod Kinds
 pub mod Shapes
 pub mod Types
-pub mod Kept
 pub mod Schemas
 pub mod Faults
 pub mod Cells

@@ -8,11 +8,11 @@ use Rattle.std.proofs.lemmas.Cmp.{on_equiv, and_equiv, lists_equiv, nat_eq_equiv
 use Rattle.orc_wire.specs.declared.type_msg.TypeMsg.{TypeMsg}
 use Rattle.orc_types.specs.Shapes.{Shape, width, depth, IsStruct, HasTextNames}
 use Rattle.orc_types.specs.Types.{types}
-use Rattle.orc_types.specs.Kept.{IsKept}
+use Rattle.orc_wire.specs.CanonicalKinds.{AreKept}
 
 -- what each type keeps is fields above 3
 abbrev pub AllKept : List TypeMsg → Type 0
-AllKept ts = AllByRecursion (λ t. IsKept t.kept) ts
+AllKept ts = AllByRecursion (λ t. AreKept 4 t.kept) ts
 
 -- a schema's tree
 pub record IsSchema (s : Shape) : Type 0 where

@@ -1,5 +1,5 @@
 ghost use Rattle.std.specs.Prelude.{◌≡◌, [], IfOk};
-ghost use Rattle.orc_types.specs.Kept.{IsKept};
+ghost use Rattle.orc_wire.specs.CanonicalKinds.{AreKept};
 ghost use Rattle.orc_types.specs.Schemas.{AllKept};
 
 use crate::copies::copied_bytes;
@@ -24,7 +24,7 @@ const LISTS: [Listed; 4] = [
 
 /// The bytes of field 5, a varint, of value 1.
 fn field_five(alloc: Global) -> Result<Bytes, AllocError>
-    ensures { IfOk result IsKept }
+    ensures { IfOk result (AreKept 4) }
 {
     Ok(Items::from_vec(copied_bytes(alloc, &[0x28, 0x01])?))
 }
@@ -94,6 +94,8 @@ fn check_schemas(rt: &impl Abort, alloc: Global) -> Result<(), TypeFault> {
     let names = types[0].field_names.as_slice();
     assert_eq!(rt; names.len(), 1);
     assert_eq!(rt; names[0].as_slice(), b"a".as_slice());
+    let text = schema.text(alloc)?;
+    assert_eq!(rt; text.as_str(), "struct<a:array<array<int>>>");
     let again = schema_of(alloc, &LISTS)?;
     assert!(rt; schema == again, "the same types");
     let other = schema_of(

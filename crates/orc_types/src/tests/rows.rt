@@ -35,6 +35,8 @@ const KINDS: [Listed; 11] = [
     (15, &[], &[]),
 ];
 
+const KINDS_TEXT: &str = "struct<b:boolean,y:tinyint,s:smallint,i:int,l:bigint,t:string,v:binary,a:array<int>,d:date>";
+
 /// A struct of a struct of one number: `struct<s:struct<n:int>>`.
 const STRUCTS: [Listed; 3] = [(12, &[1], &[b"s"]), (12, &[2], &[b"n"]), (3, &[], &[])];
 
@@ -264,6 +266,8 @@ fn ranges(rt: HostRuntime) {
 /// Each value fits the fields that it is to fit, and no other.
 fn check_ranges(rt: &impl Abort, alloc: Global) -> Result<(), TypeFault> {
     let schema = schema_of(alloc, &KINDS)?;
+    let text = schema.text(alloc)?;
+    assert_eq!(rt; text.as_str(), KINDS_TEXT);
     for (token, fields) in FITTING {
         for at in 0..9usize {
             let mut tokens = [Null; 10];

@@ -1,7 +1,7 @@
 use Rattle.std.proofs.Common.{ℕ, [], ◌∷◌, ◌<◌, refl, sym, ◌∙◌, subst, arith}
 use Rattle.orc_bits.specs.Varint.{IsVarint}
 use Rattle.orc_wire.specs.Fields.{Item, varint, IsField}
-use Rattle.orc_types.specs.Kept.{IsKept}
+use Rattle.orc_wire.specs.CanonicalKinds.{AreKept}
 use Rattle.orc_types.proofs.tests.field_five.Goals as goal
 
 small_varint : (n : ℕ) → n < 128 → IsVarint (n ∷ []) n
@@ -14,9 +14,9 @@ is_field : IsField 0 five
 unfolding five
 is_field = record { key = 40 ∷ []; rest = 1 ∷ []; parts = refl; keyed = small_varint 40 (omega arith); least = omega arith; most = omega arith; holds = small_varint 1 (omega arith); at_place = refl }
 
-kept : IsKept (40 ∷ 1 ∷ [])
+kept : AreKept 4 (40 ∷ 1 ∷ [])
 unfolding five
-kept = record { items = five ∷ []; fields = ([], refl, refl, is_field); numbers = (omega arith, tt) }
+kept = record { fields = five ∷ []; are = ([], refl, refl, is_field); from = ((omega arith, omega arith), tt) }
 
 pub returns : goal.returns
-returns c = subst IsKept (sym (c.from_vec.ensures ∙ c.in_ok-copied_bytes.ensures)) kept
+returns c = subst (AreKept 4) (sym (c.from_vec.ensures ∙ c.in_ok-copied_bytes.ensures)) kept
