@@ -35,7 +35,8 @@ const KINDS: [Listed; 11] = [
     (15, &[], &[]),
 ];
 
-const KINDS_TEXT: &str = "struct<b:boolean,y:tinyint,s:smallint,i:int,l:bigint,t:string,v:binary,a:array<int>,d:date>";
+const KINDS_TEXT: &str =
+    "struct<b:boolean,y:tinyint,s:smallint,i:int,l:bigint,t:string,v:binary,a:array<int>,d:date>";
 
 /// A struct of a struct of one number: `struct<s:struct<n:int>>`.
 const STRUCTS: [Listed; 3] = [(12, &[1], &[b"s"]), (12, &[2], &[b"n"]), (3, &[], &[])];

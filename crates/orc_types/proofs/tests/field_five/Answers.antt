@@ -16,7 +16,7 @@ is_field = record { key = 40 ∷ []; rest = 1 ∷ []; parts = refl; keyed = smal
 
 kept : AreKept 4 (40 ∷ 1 ∷ [])
 unfolding five
-kept = record { fields = five ∷ []; are = ([], refl, refl, is_field); from = ((omega arith, omega arith), tt) }
+kept = record { fields = five ∷ []; are = ([], refl, refl, is_field); from = (record { least = omega arith; most = omega arith }, tt) }
 
 pub returns : goal.returns
 returns c = subst (AreKept 4) (sym (c.from_vec.ensures ∙ c.in_ok-copied_bytes.ensures)) kept
