@@ -1,8 +1,8 @@
 -- The text of fields, one after the other.
-use Rattle.std.proofs.Common.{◌≡◌, ℕ, suc, ◌+◌, ◌<◌, List, [], ◌∷◌, ◌++◌, length, get_or, drop, ◌==◌, true, false, string_bytes, refl, sym, ap, ◌∙◌, append_assoc, drop-cons}
+use Rattle.std.proofs.Common.{◌≡◌, ℕ, suc, ◌<◌, List, ◌++◌, length, get_or, drop, ◌==◌, string_bytes, append_assoc, drop-cons}
 use Rattle.std.proofs.Math.Dec.{eqb-suc-zero}
 use Rattle.orc_types.specs.SchemaText.{text, fields_text, comma, colon}
-use Rattle.orc_types.specs.Views.{shape, named, fields}
+use Rattle.orc_types.specs.Views.{shape, fields}
 use Rattle.orc_types.specs.declared.tree.Field.{Field}
 use Rattle.orc_types.proofs.Views.{named-is}
 

@@ -1,4 +1,4 @@
-use Rattle.std.proofs.Common.{◌*◌, ◌≡◌, ℕ, ◌+◌, ◌<◌, sym, ap, ◌∙◌, arith, rules, add-one, string_bytes}
+use Rattle.std.proofs.Common.{◌*◌, ◌+◌, ◌<◌, ap, ◌∙◌, arith, add-one, string_bytes}
 use Rattle.orc_types.specs.Shapes.{width, widths}
 use Rattle.orc_types.specs.Views.{shape, fields}
 use Rattle.orc_types.proofs.ByColumn.{width_within}
