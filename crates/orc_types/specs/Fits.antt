@@ -1,0 +1,106 @@
+-- Rows of a schema (ORC specification, "Types": the values of each kind).
+use Rattle.std.specs.List.{AllByRecursion}
+use Rattle.std.specs.Prelude.{◌≡◌, List, ℕ, ◌^◌, ℤ, pos, negsuc, Bool, true, false, ◌&&◌, nat_lt}
+use Rattle.orc_types.specs.declared.kind.Scalar.{Scalar}
+use Rattle.orc_types.specs.declared.kind.Scalar.TheVariants as kind
+use Rattle.orc_types.specs.Shapes.{Shape, scalar, list_of, struct_of, Fields, no_field, field}
+use Rattle.orc_types.specs.Cells.{Atom, bool, int, date, text, bytes, Cell, null, leaf, list, struct, Cells, end, more}
+
+-- a whole number of that many bits, and a sign
+abbrev pub signed_fits : ℕ → ℤ → Bool
+signed_fits bits (pos n) = nat_lt n (2 ^ bits)
+signed_fits bits (negsuc n) = nat_lt n (2 ^ bits)
+
+-- a whole number of a column of that kind
+abbrev pub int_fits : Scalar → ℤ → Bool
+int_fits kind.Boolean z = false
+int_fits kind.Byte z = signed_fits 7 z
+int_fits kind.Short z = signed_fits 15 z
+int_fits kind.Int z = signed_fits 31 z
+int_fits kind.Long z = signed_fits 63 z
+int_fits kind.String z = false
+int_fits kind.Binary z = false
+int_fits kind.Date z = false
+
+abbrev pub is_boolean : Scalar → Bool
+is_boolean kind.Boolean = true
+is_boolean kind.Byte = false
+is_boolean kind.Short = false
+is_boolean kind.Int = false
+is_boolean kind.Long = false
+is_boolean kind.String = false
+is_boolean kind.Binary = false
+is_boolean kind.Date = false
+
+abbrev pub is_string : Scalar → Bool
+is_string kind.Boolean = false
+is_string kind.Byte = false
+is_string kind.Short = false
+is_string kind.Int = false
+is_string kind.Long = false
+is_string kind.String = true
+is_string kind.Binary = false
+is_string kind.Date = false
+
+abbrev pub is_binary : Scalar → Bool
+is_binary kind.Boolean = false
+is_binary kind.Byte = false
+is_binary kind.Short = false
+is_binary kind.Int = false
+is_binary kind.Long = false
+is_binary kind.String = false
+is_binary kind.Binary = true
+is_binary kind.Date = false
+
+abbrev pub is_date : Scalar → Bool
+is_date kind.Boolean = false
+is_date kind.Byte = false
+is_date kind.Short = false
+is_date kind.Int = false
+is_date kind.Long = false
+is_date kind.String = false
+is_date kind.Binary = false
+is_date kind.Date = true
+
+-- a value of a column of that kind; a date is a number of days, of 32 bits
+abbrev pub atom_fits : Scalar → Atom → Bool
+atom_fits k (bool b) = is_boolean k
+atom_fits k (int z) = int_fits k z
+atom_fits k (date z) = is_date k && signed_fits 31 z
+atom_fits k (text s) = is_string k
+atom_fits k (bytes s) = is_binary k
+
+-- A row has its schema's shape, any part may be null, and numbers are in their kind's range.
+abbrev mutual
+  pub fits : Cell → Shape → Bool
+  fits null s = true
+  fits (leaf a) (scalar k o) = atom_fits k a
+  fits (leaf a) (list_of s o) = false
+  fits (leaf a) (struct_of fs o) = false
+  fits (list cs) (scalar k o) = false
+  fits (list cs) (list_of s o) = all_fit cs s
+  fits (list cs) (struct_of fs o) = false
+  fits (struct cs) (scalar k o) = false
+  fits (struct cs) (list_of s o) = false
+  fits (struct cs) (struct_of fs o) = each_fits cs fs
+
+  pub all_fit : Cells → Shape → Bool
+  all_fit end s = true
+  all_fit (more c cs) s = fits c s && all_fit cs s
+
+  -- one cell for each field
+  pub each_fits : Cells → Fields → Bool
+  each_fits end no_field = true
+  each_fits end (field name s fs) = false
+  each_fits (more c cs) no_field = false
+  each_fits (more c cs) (field name s fs) = fits c s && each_fits cs fs
+
+-- all rows are of the type
+abbrev pub RowsFit : Shape → List Cell → Type 0
+RowsFit s rows = AllByRecursion (λ c. fits c s ≡ true) rows
+
+abbrev pub scalar_fits : Scalar → Cell → Bool
+scalar_fits k null = true
+scalar_fits k (leaf a) = atom_fits k a
+scalar_fits k (list cs) = false
+scalar_fits k (struct cs) = false

@@ -1,0 +1,13 @@
+pub mod Kinds
+pub mod Shapes
+pub mod Types
+pub mod Schemas
+pub mod Faults
+pub mod Cells
+pub mod Fits
+pub mod Columns
+pub mod Coding
+pub mod Views
+pub mod Preorder
+pub mod Lent
+pub mod SchemaText

@@ -1,0 +1,61 @@
+-- What the program's trees and values stand for (ORC specification, "Types").
+use Rattle.std.specs.Prelude.{ℕ, List, [], ◌∷◌, map, Option, Some, None, string_bytes}
+use Rattle.std.specs.Borrow.{Bor}
+use Rattle.std.specs.Cow.{cow_str_bytes, cow_slice_items}
+use Rattle.orc_types.specs.Shapes.{Shape, scalar, list_of, struct_of, Fields, no_field, field}
+use Rattle.orc_types.specs.Cells.{bool, int, date, text, bytes, Cell, null, leaf, list, struct, cells_of}
+use Rattle.orc_types.specs.declared.tree.Tree.{Tree, fold-Tree}
+use Rattle.orc_types.specs.declared.tree.Field.{Field, fold-Field}
+use Rattle.orc_types.specs.declared.tree.Tree.TheOpen.{Tree-F, Field-F}
+use Rattle.orc_types.specs.declared.value.Value.{Value, fold-Value}
+use Rattle.orc_types.specs.declared.value.Value.TheOpen.{Value-F}
+
+abbrev pub fields_of : List (List ℕ × Shape) → Fields
+fields_of [] = no_field
+fields_of (f ∷ fs) = field f.0 f.1 (fields_of fs)
+
+abbrev pub shape_step : Tree-F Shape (List ℕ × Shape) → Shape
+shape_step (Tree-F.Scalar k o) = scalar k o.items
+shape_step (Tree-F.List s o) = list_of s.value o.items
+shape_step (Tree-F.Struct fs o) = struct_of (fields_of fs.items) o.items
+
+abbrev pub field_step : Field-F Shape (List ℕ × Shape) → List ℕ × Shape
+field_step f = (string_bytes f.name, f.tree)
+
+abbrev pub shape : Tree → Shape
+shape = fold-Tree Shape (List ℕ × Shape) shape_step field_step
+
+-- a field's name and type
+abbrev pub named : Field → List ℕ × Shape
+named = fold-Field Shape (List ℕ × Shape) shape_step field_step
+
+abbrev pub fields : List Field → Fields
+fields fs = fields_of (map named fs)
+
+abbrev pub or_null : Option Cell → Cell
+or_null None = null
+or_null (Some c) = c
+
+abbrev pub cell_step : Value-F Cell → Cell
+cell_step (Value-F.Bool b) = leaf (bool b)
+cell_step (Value-F.Int n) = leaf (int n)
+cell_step (Value-F.Date n) = leaf (date n)
+cell_step (Value-F.Text s) = leaf (text (cow_str_bytes s))
+cell_step (Value-F.Bytes s) = leaf (bytes (cow_slice_items s))
+cell_step (Value-F.List v) = list (cells_of (map or_null v.items))
+cell_step (Value-F.Struct v) = struct (cells_of (map or_null v.items))
+
+abbrev pub cell_of_value : Value → Cell
+cell_of_value = fold-Value Cell cell_step
+
+-- the cell of a row
+abbrev pub view : Option Value → Cell
+view None = null
+view (Some v) = cell_of_value v
+
+abbrev pub views : List (Option Value) → List Cell
+views rs = map view rs
+
+-- the cells of rows that are lent
+abbrev pub seen : List (Bor (Option Value)) → List Cell
+seen rs = map (λ r. view r.now) rs

@@ -1,0 +1,149 @@
+ghost use Rattle.std.specs.Prelude.{◌≡◌, ◌<◌, ◌^◌, ◌++◌, ◌≤◌, IfOk, IfErr, OnOk, IfSome, IfNone, take, drop, map, length, option_map, slice_get};
+ghost use Rattle.std.specs.List.{flat_map};
+ghost use Rattle.orc_types.specs.Shapes.{width, widths};
+ghost use Rattle.orc_types.specs.Cells.{parts, values};
+ghost use Rattle.orc_types.specs.Columns as spec;
+ghost use Rattle.orc_types.specs.Columns.{IsLocated};
+ghost use Rattle.orc_types.specs.Views.{view, views, seen, shape, fields as fields_view};
+ghost use Rattle.orc_types.specs.declared.fault.TypeFault.TheVariants.{OutOfMemory};
+
+use crate::fault::TypeFault;
+use crate::schema::Schema;
+use crate::tree::{Field, Tree, width_of};
+use crate::value::{Row, Value};
+use std::alloc::{AllocError, Global};
+
+/// The elements of a list, and none of null.
+fn elements_of<'r, 'a>(row: &'r Row<'a>) -> &'r [Row<'a>]
+    ensures { views result.now ≡ parts (view row.now) }
+{
+    match row {
+        Some(Value::List(items)) => items,
+        Some(Value::Struct(items)) => items,
+        _ => &[],
+    }
+}
+
+/// Adds each of the rows at the end.
+fn lend_all<'r, 'a>(found: &mut Vec<&'r Row<'a>>, rows: &'r [Row<'a>]) -> Result<(), AllocError>
+    ensures { OnOk result (seen found.new.items ≡ seen found.old.items ++ views rows.now) }
+{
+    for row in rows {
+        found.push(row)?;
+    }
+    Ok(())
+}
+
+/// The elements of the lists that are not null, in order.
+fn elements<'r, 'a>(alloc: Global, rows: Vec<&'r Row<'a>>) -> Result<Vec<&'r Row<'a>>, AllocError>
+    ensures { IfOk result (λ v. seen v.items ≡ flat_map parts (seen rows.entry.items)) }
+{
+    let mut found = Vec::new(alloc);
+    for row in rows {
+        lend_all(&mut found, elements_of(row))?;
+    }
+    Ok(found)
+}
+
+/// The field at a place of a struct that is not null.
+fn field_at<'r, 'a>(row: &'r Row<'a>, i: usize) -> Option<&'r Row<'a>>
+    ensures { option_map (λ r. view r.now) result ≡ slice_get (parts (view row.now)) i }
+{
+    elements_of(row).get(i)
+}
+
+/// Adds the field at a place of a struct that is not null.
+fn lend_field<'r, 'a>(
+    found: &mut Vec<&'r Row<'a>>,
+    row: &'r Row<'a>,
+    i: usize,
+) -> Result<(), AllocError>
+    ensures { OnOk result (seen found.new.items ≡ seen found.old.items ++ take 1 (drop i (parts (view row.now)))) }
+{
+    let Some(field) = field_at(row, i) else {
+        return Ok(());
+    };
+    found.push(field)?;
+    Ok(())
+}
+
+/// The fields at a place of the structs that are not null, in order.
+fn members<'r, 'a>(
+    alloc: Global,
+    rows: Vec<&'r Row<'a>>,
+    i: usize,
+) -> Result<Vec<&'r Row<'a>>, AllocError>
+    ensures { IfOk result (λ v. seen v.items ≡ flat_map (λ c. take 1 (drop i (parts c))) (seen rows.entry.items)) }
+{
+    let mut found = Vec::new(alloc);
+    for row in rows {
+        lend_field(&mut found, row, i)?;
+    }
+    Ok(found)
+}
+
+/// Which field has a column of the fields, and the column's number in that field.
+fn locate(fields: &Vec<Field>, column: usize) -> Option<(usize, usize)>
+    requires { widths (fields_view fields.now.items) < 2 ^ 32 }
+    ensures some { IfSome result (λ p. (p.0 < length fields.now.items) × IsLocated (fields_view fields.now.items) column p.0 p.1) }
+    ensures none { IfNone result (widths (fields_view fields.now.items) ≤ column) }
+{
+    let mut left = column;
+    for (i, field) in fields.iter().enumerate() {
+        let width = width_of(&field.tree);
+        if left < width {
+            return Some((i, left));
+        }
+        left -= width;
+    }
+    None
+}
+
+/// The cells of a column of a type, from the cells of the type.
+fn cells_of<'r, 'a>(
+    alloc: Global,
+    tree: &Tree,
+    column: usize,
+    rows: Vec<&'r Row<'a>>,
+) -> Result<Vec<&'r Row<'a>>, AllocError>
+    requires { width (shape tree.now) < 2 ^ 32 }
+    ensures { IfOk result (λ v. seen v.items ≡ spec.cells (shape tree.now) column (seen rows.entry.items)) }
+{
+    if column == 0 {
+        return Ok(rows);
+    }
+    match tree {
+        Tree::Scalar(_, _) => Ok(rows),
+        Tree::List(element, _) => {
+            let below = elements(alloc, rows)?;
+            cells_of(alloc, element, column - 1, below)
+        }
+        Tree::Struct(fields, _) => {
+            let Some((i, below)) = locate(fields, column - 1) else {
+                return Ok(Vec::new(alloc));
+            };
+            let structs = members(alloc, rows, i)?;
+            cells_of(alloc, &fields[i].tree, below, structs)
+        }
+    }
+}
+
+/// The cells of a column: of the root all the rows, of a list's child the elements of the lists that
+/// are not null, of a struct's field that field of the structs that are not null, in order (ORC
+/// specification, "Column Encodings").
+///
+/// Refusal: `OutOfMemory`.
+pub fn cells<'r, 'a>(
+    alloc: Global,
+    schema: &Schema,
+    column: usize,
+    rows: &'r [Row<'a>],
+) -> Result<Vec<&'r Row<'a>>, TypeFault>
+    requires { column < width schema.now }
+    ensures found { IfOk result (λ found. seen found.items ≡ spec.cells schema.now column (views rows.now)) }
+    ensures fault { IfErr result (λ fault. fault ≡ OutOfMemory) }
+{
+    let mut found = Vec::new(alloc);
+    lend_all(&mut found, rows)?;
+    Ok(cells_of(alloc, schema.tree(), column, found)?)
+}

@@ -1,0 +1,103 @@
+ghost use Rattle.std.specs.Prelude.{◌≡◌};
+ghost use Rattle.orc_types.specs.Cells.{cells_of};
+ghost use Rattle.orc_types.specs.Views.{view, views, cell_of_value, shape, fields as fields_view};
+ghost use Rattle.orc_types.specs.Fits as spec;
+
+use crate::kind::Scalar;
+use crate::schema::Schema;
+use crate::tree::{Field, Tree};
+use crate::value::{Row, Value};
+
+/// Whether the number lies in the range of a column of this kind: 8, 16, 32 or 64 bits, the sign
+/// among them, and never for a kind that has no whole numbers.
+pub fn int_fits(kind: Scalar, number: i64) -> bool
+    ensures { result ≡ spec.int_fits kind number }
+{
+    match kind {
+        Scalar::Byte => -128 <= number && number <= 127,
+        Scalar::Short => -32768 <= number && number <= 32767,
+        Scalar::Int => -2147483648 <= number && number <= 2147483647,
+        Scalar::Long => true,
+        Scalar::Boolean | Scalar::String | Scalar::Binary | Scalar::Date => false,
+    }
+}
+
+/// Whether the value is one of a kind that contains no other.
+fn scalar_fits(kind: Scalar, value: &Value<'_>) -> bool
+    ensures { result ≡ spec.scalar_fits kind (cell_of_value value.now) }
+{
+    match value {
+        Value::Bool(_) => matches!(kind, Scalar::Boolean),
+        Value::Int(number) => int_fits(kind, *number),
+        Value::Date(day) => {
+            let _day = *day;
+            matches!(kind, Scalar::Date)
+        }
+        Value::Text(_) => matches!(kind, Scalar::String),
+        Value::Bytes(_) => matches!(kind, Scalar::Binary),
+        Value::List(_) | Value::Struct(_) => false,
+    }
+}
+
+/// Whether the row is one of the schema: it has the schema's shape, any part may be null, and
+/// numbers are in their kind's range.
+pub fn fits(schema: &Schema, row: &Row<'_>) -> bool
+    ensures { result ≡ spec.fits (view row.now) schema.now }
+{
+    match row {
+        None => true,
+        Some(value) => value_fits(schema.tree(), value),
+    }
+}
+
+/// Whether the value is one of the type.
+#[cycle(value)]
+fn value_fits(tree: &Tree, value: &Value<'_>) -> bool
+    ensures { result ≡ spec.fits (cell_of_value value.now) (shape tree.now) }
+{
+    match tree {
+        Tree::Scalar(kind, _) => scalar_fits(*kind, value),
+        Tree::List(element, _) => match value {
+            Value::List(items) => all_fit(element, items),
+            _ => false,
+        },
+        Tree::Struct(fields, _) => match value {
+            Value::Struct(items) => each_fits(fields, items),
+            _ => false,
+        },
+    }
+}
+
+/// Whether all the rows are of the type.
+#[cycle(value)]
+fn all_fit(tree: &Tree, rows: &Vec<Row<'_>>) -> bool
+    ensures { result ≡ spec.all_fit (cells_of (views rows.now.items)) (shape tree.now) }
+{
+    for row in rows {
+        if let Some(value) = row {
+            if !value_fits(tree, value) {
+                return false;
+            }
+        }
+    }
+    true
+}
+
+/// Whether the rows are of the fields, one of each.
+#[cycle(value)]
+fn each_fits(fields: &Vec<Field>, rows: &Vec<Row<'_>>) -> bool
+    ensures { result ≡ spec.each_fits (cells_of (views rows.now.items)) (fields_view fields.now.items) }
+{
+    if fields.len() != rows.len() {
+        return false;
+    }
+    for (i, row) in rows.iter().enumerate() {
+        let field = &fields[i];
+        if let Some(value) = row {
+            if !value_fits(&field.tree, value) {
+                return false;
+            }
+        }
+    }
+    true
+}

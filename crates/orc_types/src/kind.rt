@@ -1,0 +1,41 @@
+ghost use Rattle.std.specs.Prelude.{◌≡◌};
+ghost use Rattle.orc_types.specs.Kinds.{scalar_of};
+
+/// The kinds of types that contain no other type.
+#[derive(Clone, Copy, Debug, PartialEq, Eq)]
+pub enum Scalar {
+    Boolean,
+    Byte,
+    Short,
+    Int,
+    Long,
+    String,
+    Binary,
+    Date,
+}
+
+/// The number of kind LIST in a list of types.
+pub(crate) const LIST: u32 = 10;
+
+/// The number of kind STRUCT in a list of types.
+pub(crate) const STRUCT: u32 = 12;
+
+impl Scalar {
+    /// The kind that has this number in a list of types, if one of these has it (ORC
+    /// specification, "Types").
+    pub fn from_number(number: u32) -> Option<Scalar>
+        ensures { result ≡ scalar_of number }
+    {
+        match number {
+            0 => Some(Scalar::Boolean),
+            1 => Some(Scalar::Byte),
+            2 => Some(Scalar::Short),
+            3 => Some(Scalar::Int),
+            4 => Some(Scalar::Long),
+            7 => Some(Scalar::String),
+            8 => Some(Scalar::Binary),
+            15 => Some(Scalar::Date),
+            _ => None,
+        }
+    }
+}

@@ -1,0 +1,26 @@
+ghost use Rattle.std.specs.Prelude.{◌≡◌, ◌↔◌, ◌++◌, ◌<◌, ℕ, List, true};
+ghost use Rattle.orc_types.specs.Shapes.{Shape, width, shape_at};
+ghost use Rattle.orc_types.specs.Types.{types};
+ghost use Rattle.orc_wire.specs.declared.type_msg.TypeMsg.{TypeMsg};
+ghost use Rattle.orc_types.specs.Schemas.{HasTypes, same_types};
+ghost use Rattle.orc_types.specs.Faults.{TypesFault};
+ghost use Rattle.orc_types.specs.Cells.{Cell};
+ghost use Rattle.orc_types.specs.Columns.{cells};
+ghost use Rattle.orc_types.specs.Fits.{RowsFit};
+ghost use Rattle.orc_types.specs.declared.fault.TypeFault.{TypeFault};
+ghost use Rattle.orc_types.specs.declared.fault.TypeFault.TheVariants.{OutOfMemory};
+
+/// Laws of schemas: a list of types is of one tree at most; schemas compare equal exactly where they
+/// are one tree; and of the faults that stand, none but want of memory goes with a schema.
+pub fn schema_laws()
+    ensures one_tree { (s t : Shape) → types s 0 ≡ types t 0 → s ≡ t }
+    ensures equal { (s t : Shape) → (same_types s t ≡ true) ↔ (s ≡ t) }
+    ensures none { (ts : List TypeMsg) (s : Shape) (fault : TypeFault) → HasTypes s ts → TypesFault ts fault → fault ≡ OutOfMemory }
+{}
+
+/// Laws of cells: the cells of rows one after the other stand one after the other, and those of a
+/// column of rows that fit are rows of the column's type.
+pub fn cells_laws()
+    ensures append { (s : Shape) (column : ℕ) (a b : List Cell) → cells s column (a ++ b) ≡ cells s column a ++ cells s column b }
+    ensures fit { (s : Shape) (column : ℕ) (rows : List Cell) → column < width s → RowsFit s rows → RowsFit (shape_at s column) (cells s column rows) }
+{}

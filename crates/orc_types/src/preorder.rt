@@ -1,0 +1,164 @@
+ghost use Rattle.std.specs.Prelude.{◌≡◌, ◌<◌, ◌↔◌, IsTrue, IfOk, IfErr, IfSome, slice_get, option_map, [], ◌∷◌, true, string_bytes};
+ghost use Rattle.std.specs.List.{AllByRecursion};
+ghost use Rattle.std.specs.Str.{is_utf8};
+ghost use Rattle.orc_types.specs.Kinds.{IsKind};
+ghost use Rattle.orc_types.specs.Schemas.{HasTypes, AllKept};
+ghost use Rattle.orc_types.specs.Faults.{TypesFault};
+ghost use Rattle.orc_types.specs.Preorder.{Found, FoundFields, NameFault, PlaceFault, FieldsFault};
+ghost use Rattle.orc_types.specs.Views.{shape, fields as fields_view};
+
+use crate::copies::copied_bytes;
+use crate::fault::TypeFault;
+use crate::kind::{LIST, STRUCT, Scalar};
+use crate::tree::{Field, Tree};
+use orc_wire::TypeMsg;
+use std::alloc::Global;
+use std::str;
+
+/// The most types that a schema has, and the most levels.
+const MOST_TYPES: usize = 4096;
+
+const MOST_LEVELS: u32 = 32;
+
+/// The type at a place.
+fn type_at(types: &[TypeMsg], at: usize) -> Option<&TypeMsg>
+    ensures node { option_map (λ t. t.now) result ≡ slice_get types.now at }
+    ensures below { IfSome result (λ _. at < usize.MAX) }
+{
+    types.get(at)
+}
+
+/// A field's name as text.
+fn name_of(alloc: Global, bytes: &[u8]) -> Result<String, TypeFault>
+    ensures text { IfOk result (λ name. string_bytes name ≡ bytes.now) }
+    ensures utf8 { IfOk result (λ _. is_utf8 bytes.now ≡ true) }
+    ensures fault { IfErr result (NameFault bytes.now) }
+{
+    match str::from_utf8(bytes) {
+        Ok(text) => Ok(String::from_str(alloc, text)?),
+        Err(_) => Err(TypeFault::BadText(0)),
+    }
+}
+
+/// Whether a type has one subtype, which begins at a place, and no name.
+fn has_one_subtype(t: &TypeMsg, next: usize) -> bool
+    ensures { IsTrue result ↔ ((t.now.subtypes ≡ next ∷ []) × (t.now.field_names ≡ [])) }
+{
+    let subtypes = t.subtypes.as_slice();
+    subtypes.len() == 1 && t.field_names.as_slice().len() == 0 && subtypes[0] as usize == next
+}
+
+/// Whether a type has no subtype and no name.
+fn has_no_subtype(t: &TypeMsg) -> bool
+    ensures { IsTrue result ↔ ((t.now.subtypes ≡ []) × (t.now.field_names ≡ [])) }
+{
+    t.subtypes.as_slice().len() == 0 && t.field_names.as_slice().len() == 0
+}
+
+/// The tree whose types begin at a place, and where they end, if it has at most that many levels.
+#[cycle(subtree)]
+fn subtree(
+    alloc: Global,
+    types: &[TypeMsg],
+    at: usize,
+    levels: u32,
+) -> Result<(Tree, usize), TypeFault>
+    ensures found { IfOk result (λ found. Found types.now at levels (shape found.0) found.1) }
+    ensures fault { IfErr result (PlaceFault types.now at levels) }
+{
+    if levels == 0 {
+        return Err(TypeFault::TooDeep);
+    }
+    let Some(t) = type_at(types, at) else {
+        return Err(TypeFault::BadTree);
+    };
+    let next = at + 1;
+    if t.kind == LIST {
+        if !has_one_subtype(t, next) {
+            return Err(TypeFault::BadTree);
+        }
+        let (element, end) = subtree(alloc, types, next, levels - 1)?;
+        let kept = copied_bytes(alloc, t.kept.as_slice())?;
+        return Ok((Tree::List(Box::new(alloc, element)?, kept), end));
+    }
+    if t.kind == STRUCT {
+        let (fields, end) = fields_from(alloc, types, t, next, levels - 1)?;
+        let kept = copied_bytes(alloc, t.kept.as_slice())?;
+        return Ok((Tree::Struct(fields, kept), end));
+    }
+    let Some(kind) = Scalar::from_number(t.kind) else {
+        return Err(TypeFault::UnsupportedKind(t.kind));
+    };
+    if !has_no_subtype(t) {
+        return Err(TypeFault::BadTree);
+    }
+    let kept = copied_bytes(alloc, t.kept.as_slice())?;
+    Ok((Tree::Scalar(kind, kept), next))
+}
+
+/// The fields of a struct, whose types begin at a place, and where they end.
+#[cycle(subtree)]
+fn fields_from(
+    alloc: Global,
+    types: &[TypeMsg],
+    t: &TypeMsg,
+    from: usize,
+    levels: u32,
+) -> Result<(Vec<Field>, usize), TypeFault>
+    ensures found { IfOk result (λ found. FoundFields types.now from levels t.now.subtypes t.now.field_names (fields_view found.0.items) found.1) }
+    ensures fault { IfErr result (FieldsFault types.now from levels t.now.subtypes t.now.field_names) }
+{
+    let subtypes = t.subtypes.as_slice();
+    let names = t.field_names.as_slice();
+    if subtypes.len() != names.len() {
+        return Err(TypeFault::BadTree);
+    }
+    let mut fields = Vec::new(alloc);
+    let mut next = from;
+    for (i, subtype) in subtypes.iter().enumerate() {
+        let name = name_of(alloc, names[i].as_slice())?;
+        if *subtype as usize != next {
+            return Err(TypeFault::BadTree);
+        }
+        let (tree, end) = subtree(alloc, types, next, levels)?;
+        fields.push(Field { name, tree })?;
+        next = end;
+    }
+    Ok((fields, next))
+}
+
+/// Tests that each type has a kind that a column can have.
+fn test_kinds(types: &[TypeMsg]) -> Result<(), TypeFault>
+    ensures found { IfOk result (λ _. AllByRecursion (λ t. IsKind t.kind) types.now) }
+    ensures fault { IfErr result (TypesFault types.now) }
+{
+    for t in types {
+        if t.kind != LIST && t.kind != STRUCT && Scalar::from_number(t.kind).is_none() {
+            return Err(TypeFault::UnsupportedKind(t.kind));
+        }
+    }
+    Ok(())
+}
+
+/// The tree of a schema's types.
+pub(crate) fn tree_of(alloc: Global, types: &[TypeMsg]) -> Result<Tree, TypeFault>
+    requires { AllKept types.now }
+    ensures found { IfOk result (λ tree. HasTypes (shape tree) types.now) }
+    ensures fault { IfErr result (TypesFault types.now) }
+{
+    let Some(root) = type_at(types, 0) else {
+        return Err(TypeFault::RootNotStruct);
+    };
+    if root.kind != STRUCT {
+        return Err(TypeFault::RootNotStruct);
+    }
+    if types.len() > MOST_TYPES {
+        return Err(TypeFault::TooMany);
+    }
+    test_kinds(types)?;
+    let (tree, end) = subtree(alloc, types, 0, MOST_LEVELS)?;
+    if end != types.len() {
+        return Err(TypeFault::BadTree);
+    }
+    Ok(tree)
+}

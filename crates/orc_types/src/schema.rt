@@ -1,0 +1,142 @@
+ghost use Rattle.std.specs.Prelude.{◌≡◌, ◌≤◌, IfOk, IfErr, MatchResult, ◌==◌};
+ghost use Rattle.std.specs.Cmp.{partial_equiv_from_equiv};
+ghost use Rattle.std.specs.Cmp.Lexicographic.{pointwise};
+ghost use Rattle.orc_types.specs.Shapes.{Shape, width};
+ghost use Rattle.orc_types.specs.Types.{types as types_of};
+ghost use Rattle.orc_types.specs.Schemas.{IsSchema, HasTypes, AllKept, same_node, same_types, same_types_equiv};
+ghost use Rattle.orc_types.specs.Faults.{TypesFault};
+ghost use Rattle.orc_types.specs.Views.{shape};
+ghost use Rattle.orc_types.specs.declared.fault.TypeFault.TheVariants.{OutOfMemory};
+
+use crate::copies::copied_types;
+use crate::fault::TypeFault;
+use crate::preorder::tree_of;
+use crate::tree::Tree;
+use orc_wire::{Bytes, TypeMsg};
+use std::alloc::Global;
+use std::marker::Model;
+
+/// A schema: a tree of types whose root is a STRUCT, within the limits of 4,096 types and 32
+/// levels, and the list of the types in pre-order.
+#[derive(Debug, Drop)]
+pub struct Schema {
+    types: Vec<TypeMsg>,
+    tree: Tree,
+}
+
+impl Model for Schema {
+    ghost use Rattle.orc_types.specs.Shapes.{Shape};
+    ghost use Rattle.orc_types.specs.Schemas.{HasTypes};
+    ghost use Rattle.orc_types.specs.Views.{shape};
+    ghost use Rattle.orc_types.specs.Coding.{coded_shape};
+
+    ghost Value = { Shape };
+
+    ghost coded = { coded_shape };
+
+    ghost view = { λ s. shape s.tree };
+
+    ghost invariant = { λ s. HasTypes (shape s.tree) s.types.items };
+}
+
+impl Schema {
+    /// The schema whose types these are, in pre-order. What each type keeps of its message has to be
+    /// the fields above 3, as they stood.
+    ///
+    /// Refusals: `UnsupportedKind` of a kind that a column can't have here, `BadTree` where the kinds
+    /// are known and yet the types are no tree's list (ORC specification, "Types"), `TooDeep` above
+    /// 32 levels, `TooMany` above 4,096 types, `RootNotStruct`, `BadText(0)` where a field's name isn't
+    /// UTF-8, and `OutOfMemory`. Which of several is answered is open.
+    pub fn from_types(alloc: Global, types: &[TypeMsg]) -> Result<Schema, TypeFault>
+        requires { AllKept types.now }
+        ensures found { IfOk result (λ found. HasTypes found types.now) }
+        ensures only { (s : Shape) → HasTypes s types.now → MatchResult result (λ found. found ≡ s) (λ fault. fault ≡ OutOfMemory) }
+
+        ensures fault { IfErr result (TypesFault types.now) }
+    {
+        let tree = tree_of(alloc, types)?;
+        let types = copied_types(alloc, types)?;
+        Ok(Schema { types, tree })
+    }
+
+    /// The types, in pre-order.
+    pub fn types(&self) -> &[TypeMsg]
+        ensures same { result.now ≡ types_of self.now 0 }
+        ensures schema { IsSchema self.now }
+    {
+        &self.types
+    }
+
+    /// The number of columns: each type is one, the root column 0.
+    pub fn width(&self) -> usize
+        ensures same { result ≡ width self.now }
+        ensures most { result ≤ 4096 }
+    {
+        self.types.len()
+    }
+
+    /// The tree of types, for what goes down it.
+    pub fn tree(&self) -> &Tree
+        ensures same { shape result.now ≡ self.now }
+        ensures schema { IsSchema self.now }
+    {
+        &self.tree
+    }
+}
+
+/// Whether two lists have the same names.
+fn equal_names(a: &[Bytes], b: &[Bytes]) -> bool
+    ensures { result ≡ pointwise (pointwise ◌==◌) a.now b.now }
+{
+    if a.len() != b.len() {
+        return false;
+    }
+    for (i, name) in a.iter().enumerate() {
+        let other = &b[i];
+        if name.as_slice() != other.as_slice() {
+            return false;
+        }
+    }
+    true
+}
+
+/// Whether two types are equal in each part, the bytes that they keep too.
+fn equal_types(a: &TypeMsg, b: &TypeMsg) -> bool
+    ensures { result ≡ same_node a.now b.now }
+{
+    a.kind == b.kind
+        && a.subtypes.as_slice() == b.subtypes.as_slice()
+        && equal_names(a.field_names.as_slice(), b.field_names.as_slice())
+        && a.kept.as_slice() == b.kept.as_slice()
+}
+
+/// Whether two lists have the same types.
+fn equal_lists(a: &[TypeMsg], b: &[TypeMsg]) -> bool
+    ensures { result ≡ pointwise same_node a.now b.now }
+{
+    if a.len() != b.len() {
+        return false;
+    }
+    for (i, t) in a.iter().enumerate() {
+        let other = &b[i];
+        if !equal_types(t, other) {
+            return false;
+        }
+    }
+    true
+}
+
+/// Schemas are equal where their types are, the bytes that these keep too.
+impl PartialEq for Schema {
+    ghost eq = { same_types };
+
+    ghost laws = { partial_equiv_from_equiv same_types_equiv };
+
+    fn eq(&self, other: &Schema) -> bool {
+        equal_lists(self.types(), other.types())
+    }
+}
+
+impl Eq for Schema {
+    ghost laws = { same_types_equiv };
+}

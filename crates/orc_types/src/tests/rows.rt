@@ -1,0 +1,314 @@
+use super::*;
+use std::borrow::{CowSlice, CowStr};
+
+/// Rows in postfix: a list or a struct is made of so many rows that stand before it.
+#[derive(Clone, Copy)]
+enum Token {
+    Null,
+    Truth,
+    Int(i64),
+    Date(i32),
+    Text,
+    Bytes,
+    List(usize),
+    Struct(usize),
+}
+
+use Token::{Bytes as Blob, Date, Int, List, Null, Struct, Text, Truth};
+
+/// A struct of a field of every kind, in the order of their numbers but for DATE.
+const KINDS: [Listed; 11] = [
+    (
+        12,
+        &[1, 2, 3, 4, 5, 6, 7, 8, 10],
+        &[b"b", b"y", b"s", b"i", b"l", b"t", b"v", b"a", b"d"],
+    ),
+    (0, &[], &[]),
+    (1, &[], &[]),
+    (2, &[], &[]),
+    (3, &[], &[]),
+    (4, &[], &[]),
+    (7, &[], &[]),
+    (8, &[], &[]),
+    (10, &[9], &[]),
+    (3, &[], &[]),
+    (15, &[], &[]),
+];
+
+const KINDS_TEXT: &str =
+    "struct<b:boolean,y:tinyint,s:smallint,i:int,l:bigint,t:string,v:binary,a:array<int>,d:date>";
+
+/// A struct of a struct of one number: `struct<s:struct<n:int>>`.
+const STRUCTS: [Listed; 3] = [(12, &[1], &[b"s"]), (12, &[2], &[b"n"]), (3, &[], &[])];
+
+/// A struct of a list of lists: a list of two, null, the empty list, a list with a null, a list of
+/// one; and a row that is null.
+const LIST_ROWS: [Token; 22] = [
+    Int(1),
+    Int(2),
+    List(2),
+    List(0),
+    List(2),
+    Struct(1),
+    Null,
+    Struct(1),
+    List(0),
+    Struct(1),
+    Null,
+    Int(3),
+    List(1),
+    List(2),
+    Struct(1),
+    Int(4),
+    Int(5),
+    Int(6),
+    List(3),
+    List(1),
+    Struct(1),
+    Null,
+];
+
+/// A struct in a struct, a null struct, and a struct of null.
+const STRUCT_ROWS: [Token; 8] = [
+    Int(1),
+    Struct(1),
+    Struct(1),
+    Null,
+    Struct(1),
+    Null,
+    Struct(1),
+    Struct(1),
+];
+
+/// A schema's types, rows, a column, and its cells.
+const CELLS: [(&'static [Listed], &'static [Token], usize, &'static [Token]); 9] = [
+    (&LISTS, &LIST_ROWS, 0, &LIST_ROWS),
+    (
+        &LISTS,
+        &LIST_ROWS,
+        1,
+        &[
+            Int(1),
+            Int(2),
+            List(2),
+            List(0),
+            List(2),
+            Null,
+            List(0),
+            Null,
+            Int(3),
+            List(1),
+            List(2),
+            Int(4),
+            Int(5),
+            Int(6),
+            List(3),
+            List(1),
+        ],
+    ),
+    (
+        &LISTS,
+        &LIST_ROWS,
+        2,
+        &[
+            Int(1),
+            Int(2),
+            List(2),
+            List(0),
+            Null,
+            Int(3),
+            List(1),
+            Int(4),
+            Int(5),
+            Int(6),
+            List(3),
+        ],
+    ),
+    (
+        &LISTS,
+        &LIST_ROWS,
+        3,
+        &[Int(1), Int(2), Int(3), Int(4), Int(5), Int(6)],
+    ),
+    (
+        &STRUCTS,
+        &STRUCT_ROWS,
+        1,
+        &[Int(1), Struct(1), Null, Null, Struct(1)],
+    ),
+    (&STRUCTS, &STRUCT_ROWS, 2, &[Int(1), Null]),
+    (
+        &KINDS,
+        &[
+            Null,
+            Truth,
+            Int(1),
+            Int(2),
+            Int(3),
+            Int(4),
+            Text,
+            Blob,
+            Int(8),
+            Int(9),
+            List(2),
+            Date(3),
+            Struct(9),
+        ],
+        9,
+        &[Int(8), Int(9)],
+    ),
+    (
+        &KINDS,
+        &[
+            Truth,
+            Int(1),
+            Int(2),
+            Int(3),
+            Int(4),
+            Text,
+            Blob,
+            Int(8),
+            Int(9),
+            List(2),
+            Date(3),
+            Struct(9),
+        ],
+        10,
+        &[Date(3)],
+    ),
+    (
+        &KINDS,
+        &[
+            Null,
+            Null,
+            Null,
+            Null,
+            Int(5),
+            Text,
+            Blob,
+            List(0),
+            Null,
+            Struct(9),
+        ],
+        5,
+        &[Int(5)],
+    ),
+];
+
+/// Values and the fields of KINDS that they fit.
+const FITTING: [(Token, &'static [usize]); 19] = [
+    (Null, &[0, 1, 2, 3, 4, 5, 6, 7, 8]),
+    (Truth, &[0]),
+    (Int(-128), &[1, 2, 3, 4]),
+    (Int(-129), &[2, 3, 4]),
+    (Int(127), &[1, 2, 3, 4]),
+    (Int(128), &[2, 3, 4]),
+    (Int(-32768), &[2, 3, 4]),
+    (Int(-32769), &[3, 4]),
+    (Int(32767), &[2, 3, 4]),
+    (Int(32768), &[3, 4]),
+    (Int(-2147483648), &[3, 4]),
+    (Int(-2147483649), &[4]),
+    (Int(2147483647), &[3, 4]),
+    (Int(2147483648), &[4]),
+    (Int(i64::MIN), &[4]),
+    (Text, &[5]),
+    (Blob, &[6]),
+    (List(0), &[7]),
+    (Date(i32::MIN), &[8]),
+];
+
+/// The value of a token that stands for no list and no struct.
+fn value_of(token: Token) -> Row<'static> {
+    match token {
+        Truth => Some(Value::Bool(true)),
+        Int(number) => Some(Value::Int(number)),
+        Date(day) => Some(Value::Date(day)),
+        Text => Some(Value::Text(CowStr::Borrowed("x"))),
+        Blob => Some(Value::Bytes(CowSlice::Borrowed(b"x"))),
+        _ => None,
+    }
+}
+
+/// The last rows, taken off.
+fn taken(rows: &mut Vec<Row<'static>>, count: usize) -> Result<Vec<Row<'static>>, AllocError> {
+    if count <= rows.len() {
+        rows.split_off(rows.len() - count)
+    } else {
+        rows.split_off(0)
+    }
+}
+
+/// The rows that stand in postfix.
+fn rows_of(alloc: Global, tokens: &[Token]) -> Result<Vec<Row<'static>>, AllocError> {
+    let mut rows = Vec::new(alloc);
+    for token in tokens {
+        let row = match *token {
+            List(count) => Some(Value::List(taken(&mut rows, count)?)),
+            Struct(count) => Some(Value::Struct(taken(&mut rows, count)?)),
+            plain => value_of(plain),
+        };
+        rows.push(row)?;
+    }
+    Ok(rows)
+}
+
+#[test]
+fn ranges(rt: HostRuntime) {
+    let alloc = rt.alloc();
+    let tried = check_ranges(&rt, alloc);
+    if tried == Err(TypeFault::OutOfMemory) {
+        assert_eq!(rt; check_ranges(&rt, alloc), Ok(()), "once memory is there");
+    } else {
+        assert_eq!(rt; tried, Ok(()));
+    }
+}
+
+/// Each value fits the fields that it is to fit, and no other.
+fn check_ranges(rt: &impl Abort, alloc: Global) -> Result<(), TypeFault> {
+    let schema = schema_of(alloc, &KINDS)?;
+    let text = schema.text(alloc)?;
+    assert_eq!(rt; text.as_str(), KINDS_TEXT);
+    for (token, fields) in FITTING {
+        for at in 0..9usize {
+            let mut tokens = [Null; 10];
+            tokens[at] = token;
+            tokens[9] = Struct(9);
+            let rows = rows_of(alloc, &tokens)?;
+            assert_eq!(rt; rows.len(), 1);
+            assert_eq!(rt; fits(&schema, &rows[0]), fields.contains(&at), "at {at}");
+        }
+    }
+    for row in rows_of(alloc, &[Null, Struct(1), List(0), Truth])? {
+        assert!(rt; !fits(&schema, &row), "of another shape");
+    }
+    assert!(rt; fits(&schema, &None), "a row that is null");
+    Ok(())
+}
+
+#[test]
+fn cells_of_columns(rt: HostRuntime) {
+    let alloc = rt.alloc();
+    let tried = check_cells(&rt, alloc);
+    if tried == Err(TypeFault::OutOfMemory) {
+        assert_eq!(rt; check_cells(&rt, alloc), Ok(()), "once memory is there");
+    } else {
+        assert_eq!(rt; tried, Ok(()));
+    }
+}
+
+/// A null list or struct has no cell below it, an empty list none, and a null in them one.
+fn check_cells(rt: &impl Abort, alloc: Global) -> Result<(), TypeFault> {
+    for (types, rows, column, wanted) in CELLS {
+        let schema = schema_of(alloc, types)?;
+        let rows = rows_of(alloc, rows)?;
+        let wanted = rows_of(alloc, wanted)?;
+        assert!(rt; column < schema.width());
+        let found = lend(alloc, cells(alloc, &schema, column, &rows)?)?;
+        assert_eq!(rt; found.len(), wanted.len(), "of column {column}");
+        for (i, cell) in found.iter().enumerate() {
+            assert_eq!(rt; *cell.0, wanted[i], "of column {column}");
+        }
+    }
+    Ok(())
+}

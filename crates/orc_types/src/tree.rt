@@ -1,0 +1,48 @@
+ghost use Rattle.std.specs.Prelude.{◌≡◌, ◌<◌, ◌^◌};
+ghost use Rattle.orc_types.specs.Shapes.{width, widths};
+ghost use Rattle.orc_types.specs.Views.{shape, fields as fields_view};
+
+use crate::kind::Scalar;
+
+/// A type with all that it contains. Each type keeps the bytes of the fields of its message that
+/// have no meaning here, as they stood.
+#[cycle(tree)]
+#[derive(Debug, Drop)]
+pub enum Tree {
+    Scalar(Scalar, Vec<u8>),
+    List(Box<Tree>, Vec<u8>),
+    Struct(Vec<Field>, Vec<u8>),
+}
+
+/// A field of a struct.
+#[cycle(tree)]
+#[derive(Debug, Drop)]
+pub struct Field {
+    pub name: String,
+    pub tree: Tree,
+}
+
+/// The number of columns of a type, itself the first.
+#[cycle(widths)]
+pub fn width_of(tree: &Tree) -> usize
+    requires { width (shape tree.now) < 2 ^ 32 }
+    ensures { result ≡ width (shape tree.now) }
+{
+    match tree {
+        Tree::Scalar(_, _) => 1,
+        Tree::List(element, _) => 1 + width_of(element),
+        Tree::Struct(fields, _) => 1 + widths_of(fields),
+    }
+}
+
+/// The number of columns of some fields.
+#[cycle(widths)]
+fn widths_of(fields: &[Field]) -> usize
+    requires { widths (fields_view fields.now) < 2 ^ 32 }
+    ensures { result ≡ widths (fields_view fields.now) }
+{
+    match fields {
+        [] => 0,
+        [first, others @ ..] => width_of(&first.tree) + widths_of(others),
+    }
+}

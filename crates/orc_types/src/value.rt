@@ -1,0 +1,17 @@
+use std::borrow::{CowSlice, CowStr};
+
+/// A value that is not null. Texts and bytes are borrowed from a file's bytes or owned. A date is a
+/// number of days since 1970-01-01.
+#[derive(Debug, PartialEq, Drop)]
+pub enum Value<'a> {
+    Bool(bool),
+    Int(i64),
+    Date(i32),
+    Text(CowStr<'a>),
+    Bytes(CowSlice<'a, u8>),
+    List(Vec<Row<'a>>),
+    Struct(Vec<Row<'a>>),
+}
+
+/// A value or null.
+pub type Row<'a> = Option<Value<'a>>;

@@ -1,0 +1,670 @@
+-- The canonical text of each kind of member.
+use Rattle.std.specs.Prelude.{◌≡◌, ℕ, ◌+◌, ◌*◌, ◌^◌, ◌<◌, ◌≤◌, List, [], ◌∷◌, length, ◌++◌, ◌⊎◌, Option, Some, None, Bool, true, false, not, cond, ◌==◌, nat_eq, nat_le, refl, ⊤}
+use Rattle.std.specs.Option.{option_map, IfSome}
+use Rattle.std.specs.Bool.{MatchBool}
+use Rattle.std.specs.List.{AllByRecursion}
+use Rattle.std.proofs.Common.{sym, ◌∙◌, ap, subst, inl, inr, arith, append_assoc, length-append, ◌||◌, lit≤}
+use Rattle.std.proofs.lemmas.List.{append-nil}
+use Rattle.std.proofs.lemmas.Bool.{cases_lt}
+use Rattle.std.proofs.lemmas.Bool.Decides.{nat_tests}
+use Rattle.orc_bits.specs.Varint.{IsVarint, NoVarint, varint_text}
+use Rattle.orc_bits.specs.Zigzag.{zig}
+use Rattle.orc_bits.proofs.VarintLemmas.{varint_text-is}
+use Rattle.orc_bits.proofs.VarintLaws.{no_varint, one_fault}
+use Rattle.orc_wire.specs.declared.fault.WireFault.{WireFault}
+use Rattle.orc_wire.specs.Fields.{Payload, varint, eight, four, sized, Item, wire, IsPayload, IsField, IsFields, fault_at}
+use Rattle.orc_wire.specs.FieldLaws.{one_varint}
+use Rattle.orc_wire.specs.Members.{Member}
+use Rattle.orc_wire.specs.Spells.{as_number, as_bytes, number_in, bytes_in, has_number, Spells}
+use Rattle.orc_wire.specs.SpellsLaws.{one_refusal}
+use Rattle.orc_wire.specs.Kinds.{Part, number, small, signed, small_signed, flag, text, packed, message, kept_from, inside, AreVarints, FailsNext, PackedFails, MessageIn, MessageFails, OnlyFails, no_front, last, known, all, each, only}
+use Rattle.orc_wire.specs.Canonical.{payload_text, field_text, some_text, known_text, list_text, varints_text, packed_text, IsOutside, IsBetween, Adds, Canonical, spells_again}
+
+-- a number that a field may have
+pub record IsNumber (n : ℕ) : Type 0 where
+  pub least : 1 ≤ n
+  pub most : n < 2 ^ 29
+
+pub eqb_same : (n : ℕ) → nat_eq n n ≡ true
+eqb_same n = grind (arith, nat_tests)
+
+pub eqb_other : (m n : ℕ) → IsOutside n (n + 1) m → nat_eq m n ≡ false
+eqb_other m n (inl lt) = grind (arith, nat_tests)
+eqb_other m n (inr ge) = grind (arith, nat_tests)
+
+pub eqb_is : (m n : ℕ) → nat_eq m n ≡ true → m ≡ n
+eqb_is m n e = grind (arith, nat_tests)
+
+pub no_number : (n : ℕ) (item : Item) → IsOutside n (n + 1) item.number → None ≡ number_in n item
+no_number n item out = rw (eqb_other item.number n out) refl
+
+pub no_bytes : (n : ℕ) (item : Item) → IsOutside n (n + 1) item.number → None ≡ bytes_in n item
+no_bytes n item out = rw (eqb_other item.number n out) refl
+
+cond_some : {X : Type 0} (b : Bool) (o : Option X) (x : X) → cond b o None ≡ Some x → b ≡ true
+cond_some true o x e = refl
+cond_some false o x e = absurd cc
+
+at_number : (n m : ℕ) → m ≡ n → (item : Item) → item.number ≡ m → IsBetween n (n + 1) item
+at_number n m e item f = record { least = omega (arith, e, f); most = omega (arith, e, f) }
+
+pub number_hears : (n : ℕ) (item : Item) (v : ℕ) → number_in n item ≡ Some v → IsBetween n (n + 1) item
+number_hears n item v e = at_number n item.number (eqb_is item.number n (cond_some (item.number == n) (as_number item.payload) v e)) item refl
+
+pub bytes_hears : (n : ℕ) (item : Item) (b : List ℕ) → bytes_in n item ≡ Some b → IsBetween n (n + 1) item
+bytes_hears n item b e = at_number n item.number (eqb_is item.number n (cond_some (item.number == n) (as_bytes item.payload) b e)) item refl
+
+-- a field of a payload, written shortly
+abbrev pub item_at : ℕ → Payload → ℕ → Item
+item_at n payload place = record { number = n; place = place; payload = payload; text = field_text n payload }
+
+pub wire_most : (p : Payload) → wire p ≤ 5
+wire_most (varint n) = omega arith
+wire_most (eight n) = omega arith
+wire_most (four n) = omega arith
+wire_most (sized n) = omega arith
+
+pub field_at : (n : ℕ) (payload : Payload) (place : ℕ) → IsNumber n → IsPayload payload (payload_text payload) → IsField place (item_at n payload place)
+field_at n payload place is holds = record {
+  key = varint_text (n * 8 + wire payload);
+  rest = payload_text payload;
+  parts = refl;
+  keyed = (let m = is.most in varint_text-is (n * 8 + wire payload) (omega (arith, m, wire_most payload))).varint;
+  least = is.least;
+  most = is.most;
+  holds = holds;
+  at_place = refl;
+}
+
+pub varint_holds : (v : ℕ) → v < 2 ^ 64 → IsPayload (varint v) (payload_text (varint v))
+varint_holds v lt = (varint_text-is v lt).varint
+
+pub sized_holds : (b : List ℕ) → length b < 2 ^ 64 → IsPayload (sized b) (payload_text (sized b))
+sized_holds b lt = record { size = varint_text (length b); sized = (varint_text-is (length b) lt).varint; parts = refl }
+
+pub payload_shorter : (n : ℕ) (b : List ℕ) → length (field_text n (sized b)) < 2 ^ 64 → length b < 2 ^ 64
+payload_shorter n b lt =
+    omega (arith, lt, length-append (varint_text (n * 8 + 2)) (varint_text (length b) ++ b), length-append (varint_text (length b)) b)
+
+pub or_true : (b : Bool) → (b || true) ≡ true
+or_true true = refl
+or_true false = refl
+
+pub number_is : (n v place : ℕ) → Some v ≡ number_in n (item_at n (varint v) place)
+number_is n v place = rw (eqb_same n) refl
+
+pub bytes_is : (n : ℕ) (b : List ℕ) (place : ℕ) → Some b ≡ bytes_in n (item_at n (sized b) place)
+bytes_is n b place = rw (eqb_same n) refl
+
+pub shows_number : (n v place m : ℕ) (before : List Item) → m ≡ n → has_number m (item_at n (varint v) place ∷ before) ≡ true
+shows_number n v place m before e =
+    let here : has_number n (item_at n (varint v) place ∷ before) ≡ true = rw (eqb_same n) (or_true (has_number n before)) in
+    subst (λ (k : ℕ). has_number k (item_at n (varint v) place ∷ before) ≡ true) (sym e) here
+
+-- ---- what one field gives
+
+-- a value that one field holds
+pub record Single {V : Type 0} (n : ℕ) (part : Part (Option V)) : Type 1 where
+  pub payload : V → Payload
+  pub bounded : V → Type 0
+  pub whole : V → Type 0
+  pub counts : ℕ → Type 0
+  pub holds : (v : V) → bounded v → length (field_text n (payload v)) < 2 ^ 64 → IsPayload (payload v) (payload_text (payload v))
+  pub gives : (v : V) (place : ℕ) → bounded v → whole v → length (field_text n (payload v)) < 2 ^ 64 → part.gives (item_at n (payload v) place) (Some v)
+  pub silent : (item : Item) → IsOutside n (n + 1) item.number → part.gives item None
+  pub shows : (v : V) (place m : ℕ) (before : List Item) → counts m → has_number m (item_at n (payload v) place ∷ before) ≡ true
+  pub hears : (item : Item) (fault : WireFault) → part.refuses item fault → IsBetween n (n + 1) item
+  pub single : (item : Item) (e f : WireFault) → part.refuses item e → part.refuses item f → e ≡ f
+
+abbrev pub a_number : (n : ℕ) → Single n (number n)
+a_number n = record {
+  payload = λ v. varint v;
+  bounded = λ v. v < 2 ^ 64;
+  whole = λ v. ⊤;
+  counts = λ m. m ≡ n;
+  holds = λ v lt len. varint_holds v lt;
+  gives = λ v place lt whole len. number_is n v place;
+  silent = λ item out. no_number n item out;
+  shows = λ v place m before e. shows_number n v place m before e;
+  hears = λ item fault bad. absurd bad;
+  single = λ item e f p q. absurd p;
+}
+
+abbrev pub a_small : (n : ℕ) → Single n (small n)
+a_small n = record {
+  payload = λ v. varint v;
+  bounded = λ v. v < 2 ^ 32;
+  whole = λ v. ⊤;
+  counts = λ m. m ≡ n;
+  holds = λ v lt len. varint_holds v (omega (arith, lt));
+  gives = λ v place lt whole len. (number_is n v place, lt);
+  silent = λ item out. (no_number n item out, tt);
+  shows = λ v place m before e. shows_number n v place m before e;
+  hears = λ item fault bad. number_hears n item bad.value bad.is;
+  single = λ item e f p q. p.fails ∙ sym q.fails;
+}
+
+abbrev pub a_signed : (n : ℕ) → Single n (signed n)
+a_signed n = record {
+  payload = λ v. varint (zig v);
+  bounded = λ v. zig v < 2 ^ 64;
+  whole = λ v. ⊤;
+  counts = λ m. m ≡ n;
+  holds = λ v lt len. varint_holds (zig v) lt;
+  gives = λ v place lt whole len. number_is n (zig v) place;
+  silent = λ item out. no_number n item out;
+  shows = λ v place m before e. shows_number n (zig v) place m before e;
+  hears = λ item fault bad. absurd bad;
+  single = λ item e f p q. absurd p;
+}
+
+abbrev pub a_small_signed : (n : ℕ) → Single n (small_signed n)
+a_small_signed n = record {
+  payload = λ v. varint (zig v);
+  bounded = λ v. zig v < 2 ^ 32;
+  whole = λ v. ⊤;
+  counts = λ m. m ≡ n;
+  holds = λ v lt len. varint_holds (zig v) (omega (arith, lt));
+  gives = λ v place lt whole len. (number_is n (zig v) place, lt);
+  silent = λ item out. (no_number n item out, tt);
+  shows = λ v place m before e. shows_number n (zig v) place m before e;
+  hears = λ item fault bad. number_hears n item bad.value bad.is;
+  single = λ item e f p q. p.fails ∙ sym q.fails;
+}
+
+-- 1 for true
+abbrev pub flag_number : Bool → ℕ
+flag_number true = 1
+flag_number false = 0
+
+pub flag_is : (n : ℕ) (b : Bool) (place : ℕ) → (flag n).gives (item_at n (varint (flag_number b)) place) (Some b)
+flag_is n true place = rw (eqb_same n) refl
+flag_is n false place = rw (eqb_same n) refl
+
+pub flag_fits : (b : Bool) → flag_number b < 2 ^ 64
+flag_fits true = omega arith
+flag_fits false = omega arith
+
+abbrev pub a_flag : (n : ℕ) → Single n (flag n)
+a_flag n = record {
+  payload = λ v. varint (flag_number v);
+  bounded = λ v. ⊤;
+  whole = λ v. ⊤;
+  counts = λ m. m ≡ n;
+  holds = λ v lt len. varint_holds (flag_number v) (flag_fits v);
+  gives = λ v place lt whole len. flag_is n v place;
+  silent = λ item out. ap (option_map (λ (v : ℕ). not (v == 0))) (no_number n item out);
+  shows = λ v place m before e. shows_number n (flag_number v) place m before e;
+  hears = λ item fault bad. absurd bad;
+  single = λ item e f p q. absurd p;
+}
+
+abbrev pub a_text : (n : ℕ) → Single n (text n)
+a_text n = record {
+  payload = λ v. sized v;
+  bounded = λ v. ⊤;
+  whole = λ v. ⊤;
+  counts = λ m. ⊥;
+  holds = λ v lt len. sized_holds v (payload_shorter n v len);
+  gives = λ v place lt whole len. bytes_is n v place;
+  silent = λ item out. no_bytes n item out;
+  shows = λ v place m before e. absurd e;
+  hears = λ item fault bad. absurd bad;
+  single = λ item e f p q. absurd p;
+}
+
+module _ {C : Type 0} (members : Member C) (w : Canonical members) (required : ℕ) (there : (required ≡ 0) ⊎ w.always required) (n : ℕ) where
+  pub message_is : (c : C) (place : ℕ) → w.bounded c → w.whole c → length (w.text c) < 2 ^ 64
+      → MessageIn members required n (item_at n (sized (w.text c)) place) (bytes_in n (item_at n (sized (w.text c)) place)) (Some c)
+  message_is c place can whole len =
+      let item = item_at n (sized (w.text c)) place in
+      let is : Spells members required (inside item (w.text c)) (w.text c) c = spells_again members w required (inside item (w.text c)) c can whole len there in
+      subst (λ (t : Option (List ℕ)). MessageIn members required n item t (Some c)) (bytes_is n (w.text c) place) (c, refl, is)
+
+  pub message_silent : (item : Item) → IsOutside n (n + 1) item.number → MessageIn members required n item (bytes_in n item) None
+  message_silent item out = subst (λ (t : Option (List ℕ)). MessageIn members required n item t None) (no_bytes n item out) refl
+
+  fails_some : (item : Item) (bytes : Option (List ℕ)) (fault : WireFault) → MessageFails members required n item bytes fault → (b : List ℕ) × (bytes ≡ Some b)
+  fails_some item None fault bad = absurd bad
+  fails_some item (Some b) fault bad = (b, refl)
+
+  pub message_hears : (item : Item) (fault : WireFault) → MessageFails members required n item (bytes_in n item) fault → IsBetween n (n + 1) item
+  message_hears item fault bad = let s = fails_some item (bytes_in n item) fault bad in bytes_hears n item s.0 s.1
+
+  one_message : (item : Item) (bytes : Option (List ℕ)) (e f : WireFault) → MessageFails members required n item bytes e → MessageFails members required n item bytes f → e ≡ f
+  one_message item None e f p q = absurd p
+  one_message item (Some b) e f p q = one_refusal members required (inside item b) w.single b e f p q
+
+  pub message_single : (item : Item) (e f : WireFault) → MessageFails members required n item (bytes_in n item) e → MessageFails members required n item (bytes_in n item) f → e ≡ f
+  message_single item e f p q = one_message item (bytes_in n item) e f p q
+
+  abbrev pub a_message : Single n (message members required n)
+  a_message = record {
+    payload = λ c. sized (w.text c);
+    bounded = λ c. w.bounded c;
+    whole = λ c. w.whole c;
+    counts = λ m. ⊥;
+    holds = λ c can len. sized_holds (w.text c) (payload_shorter n (w.text c) len);
+    gives = λ c place can whole len. message_is c place can whole (payload_shorter n (w.text c) len);
+    silent = message_silent;
+    shows = λ c place m before e. absurd e;
+    hears = message_hears;
+    single = message_single;
+  }
+
+-- ---- how a member is written
+
+pub between_push : {low high : ℕ} (more : List Item) (item : Item) → IsBetween low high item → AllByRecursion (IsBetween low high) more → AllByRecursion (IsBetween low high) (more ++ item ∷ [])
+between_push [] item is h = (is, tt)
+between_push (x ∷ more) item is h = (h.0, between_push more item is h.1)
+
+pub one_between : (n : ℕ) (payload : Payload) (place : ℕ) → AllByRecursion (IsBetween n (n + 1)) (item_at n payload place ∷ [])
+one_between n payload place = (record { least = omega arith; most = omega arith }, tt)
+
+pub next_number : (n : ℕ) → n ≤ n + 1
+next_number n = omega arith
+
+pub last_number : (n : ℕ) → IsNumber n → n + 1 ≤ 2 ^ 29
+last_number n is = let m = is.most in omega (arith, m)
+
+-- nothing is added
+pub adds_none : {V : Type 0} (member : Member V) (low high base : ℕ) (before : List Item) (front : List ℕ) (v : V) → IsFields base before front → member.says before v → Adds member low high (λ m. ⊥) base before front [] v
+adds_none member low high base before front v are says = record {
+  more = [];
+  are = subst (λ (t : List ℕ). IsFields base before t) (sym (append-nil front)) are;
+  says = says;
+  between = tt;
+  shows = λ m e. absurd e;
+}
+
+module _ {V : Type 0} (n : ℕ) (is : IsNumber n) (part : Part (Option V)) (s : Single n part) where
+  pub last_again : (default v : V) → s.bounded v → s.whole v → length (field_text n (s.payload v)) < 2 ^ 64 → (base : ℕ) (before : List Item) (front : List ℕ) → IsFields base before front
+      → (last default part).says before default → Adds (last default part) n (n + 1) s.counts base before front (field_text n (s.payload v)) v
+  last_again default v can whole len base before front are says = record {
+    more = item_at n (s.payload v) (base + length front) ∷ [];
+    are = (front, refl, are, field_at n (s.payload v) (base + length front) is (s.holds v can len));
+    says = (default, Some v, says, s.gives v (base + length front) can whole len, refl);
+    between = one_between n (s.payload v) (base + length front);
+    shows = λ m e. s.shows v (base + length front) m before e;
+  }
+
+  -- always, also where it is the default
+  abbrev pub written_always : (default : V) → Canonical (last default part)
+  written_always default = record {
+    text = λ v. field_text n (s.payload v);
+    bounded = s.bounded;
+    whole = s.whole;
+    low = n;
+    high = n + 1;
+    ordered = next_number n;
+    few = last_number n is;
+    always = s.counts;
+    deaf = λ item before v few out says. (v, None, says, s.silent item out, refl);
+    again = last_again default;
+    hears = λ item v fault. s.hears item fault;
+    single = λ item v. s.single item;
+  }
+
+  pub known_again : (v : Option V) → IfSome v s.bounded → IfSome v s.whole → length (known_text s.payload n v) < 2 ^ 64 → (base : ℕ) (before : List Item) (front : List ℕ) → IsFields base before front
+      → (known part).says before None → Adds (known part) n (n + 1) (λ m. ⊥) base before front (known_text s.payload n v) v
+  known_again None can whole len base before front are says = adds_none (known part) n (n + 1) base before front None are says
+  known_again (Some v) can whole len base before front are says = record {
+    more = item_at n (s.payload v) (base + length front) ∷ [];
+    are = (front, refl, are, field_at n (s.payload v) (base + length front) is (s.holds v can len));
+    says = (None, Some v, says, s.gives v (base + length front) can whole len, refl);
+    between = one_between n (s.payload v) (base + length front);
+    shows = λ m e. absurd e;
+  }
+
+  -- where it is known
+  abbrev pub where_known : Canonical (known part)
+  where_known = record {
+    text = known_text s.payload n;
+    bounded = λ v. IfSome v s.bounded;
+    whole = λ v. IfSome v s.whole;
+    low = n;
+    high = n + 1;
+    ordered = next_number n;
+    few = last_number n is;
+    always = λ m. ⊥;
+    deaf = λ item before v few out says. (v, None, says, s.silent item out, refl);
+    again = known_again;
+    hears = λ item v fault. s.hears item fault;
+    single = λ item v. s.single item;
+  }
+
+  pub each_adds : (vs : List V) → AllByRecursion s.bounded vs → AllByRecursion s.whole vs → length (list_text s.payload n vs) < 2 ^ 64 → (old : List V) (base : ℕ) (before : List Item) (front : List ℕ)
+      → IsFields base before front → (each part).says before old → Adds (each part) n (n + 1) (λ m. ⊥) base before front (list_text s.payload n vs) (old ++ vs)
+  each_adds [] can whole len old base before front are says =
+      adds_none (each part) n (n + 1) base before front (old ++ []) are (subst (λ (t : List V). (each part).says before t) (sym (append-nil old)) says)
+  each_adds (v ∷ vs) can whole len old base before front are says =
+      let place = base + length front in
+      let item = item_at n (s.payload v) place in
+      let sum = length-append item.text (list_text s.payload n vs) in
+      let first : length item.text < 2 ^ 64 = omega (arith, len, sum) in
+      let rest = each_adds vs can.1 whole.1 (omega (arith, len, sum)) (old ++ v ∷ []) base (item ∷ before) (front ++ item.text)
+      (front, refl, are, field_at n (s.payload v) place is (s.holds v can.0 first)) (old, Some v, says, s.gives v place can.0 whole.0 first, refl) in
+      let assoc : rest.more ++ (item ∷ before) ≡ (rest.more ++ item ∷ []) ++ before = sym (append_assoc rest.more (item ∷ []) before) in
+      let values : (old ++ v ∷ []) ++ vs ≡ old ++ (v ∷ vs) = append_assoc old (v ∷ []) vs in
+      record {
+        more = rest.more ++ item ∷ [];
+        are = subst (λ (t : List Item). IsFields base t (front ++ list_text s.payload n (v ∷ vs))) assoc
+            (subst (λ (t : List ℕ). IsFields base (rest.more ++ (item ∷ before)) t) (append_assoc front item.text (list_text s.payload n vs)) rest.are);
+        says = subst (λ (t : List Item). (each part).says t (old ++ (v ∷ vs))) assoc
+            (subst (λ (t : List V). (each part).says (rest.more ++ (item ∷ before)) t) values rest.says);
+        between = between_push rest.more item (record { least = omega arith; most = omega arith }) rest.between;
+        shows = λ m e. absurd e;
+      }
+
+  abbrev pub for_each : Canonical (each part)
+  for_each = record {
+    text = list_text s.payload n;
+    bounded = λ vs. AllByRecursion s.bounded vs;
+    whole = λ vs. AllByRecursion s.whole vs;
+    low = n;
+    high = n + 1;
+    ordered = next_number n;
+    few = last_number n is;
+    always = λ m. ⊥;
+    deaf = λ item before v few out says. (v, None, says, s.silent item out, sym (append-nil v));
+    again = λ vs can whole len base before front are says. each_adds vs can whole len [] base before front are says;
+    hears = λ item v fault. s.hears item fault;
+    single = λ item v. s.single item;
+  }
+
+-- ---- packed lists
+
+abbrev pub AreBelow : ℕ → List ℕ → Type 0
+AreBelow limit ns = AllByRecursion (λ n. n < limit) ns
+
+pub varints_are : (limit : ℕ) → limit ≤ 2 ^ 64 → (ns : List ℕ) → AreBelow limit ns → AreVarints limit ns (varints_text ns)
+varints_are limit le [] h = refl
+varints_are limit le (n ∷ ns) h = (varint_text n, varints_text ns, (let b = h.0 in varint_text-is n (omega (arith, b, le))).varint, h.0, refl, varints_are limit le ns h.1)
+
+pub packed_other : (limit n : ℕ) (item : Item) → IsOutside n (n + 1) item.number → (packed limit n).gives item []
+packed_other limit n item out = rw (eqb_other item.number n out) refl
+
+pub packed_is : (limit n : ℕ) (ns : List ℕ) (place : ℕ) → AreVarints limit ns (varints_text ns) → (packed limit n).gives (item_at n (sized (varints_text ns)) place) ns
+packed_is limit n ns place are = rw (eqb_same n) are
+
+no_values : (limit : ℕ) (ns : List ℕ) → AreVarints limit ns [] → [] ≡ ns
+no_values limit [] are = refl
+no_values limit (n ∷ ns) are = absurd (no_front are.0 are.1 n are.2 are.4)
+
+packed_adds : (limit n : ℕ) (is : IsNumber n) (ns bytes : List ℕ) → AreVarints limit ns bytes → (bytes ≡ varints_text ns) → length (some_text n bytes) < 2 ^ 64 → (base : ℕ) (before : List Item) (front : List ℕ)
+    → IsFields base before front → (all (packed limit n)).says before [] → Adds (all (packed limit n)) n (n + 1) (λ m. ⊥) base before front (some_text n bytes) ns
+packed_adds limit n is ns [] are e len base before front fields says =
+    adds_none (all (packed limit n)) n (n + 1) base before front ns fields (subst (λ (t : List ℕ). (all (packed limit n)).says before t) (no_values limit ns are) says)
+packed_adds limit n is ns (b ∷ bytes) are e len base before front fields says = record {
+  more = item_at n (sized (b ∷ bytes)) (base + length front) ∷ [];
+  are = (front, refl, fields, field_at n (sized (b ∷ bytes)) (base + length front) is (sized_holds (b ∷ bytes) (payload_shorter n (b ∷ bytes) len)));
+  says = ([], ns, says, subst (λ (t : List ℕ). (packed limit n).gives (item_at n (sized t) (base + length front)) ns) (sym e) (packed_is limit n ns (base + length front) (subst (λ (t : List ℕ). AreVarints limit ns t) e are)), refl);
+  between = one_between n (sized (b ∷ bytes)) (base + length front);
+  shows = λ m e. absurd e;
+}
+
+same_next : (limit : ℕ) (bytes : List ℕ) (place : ℕ) (e f : WireFault) → FailsNext limit bytes place e → FailsNext limit bytes place f → e ≡ f
+same_next limit bytes place e f (inl p) (inl q) = p.3 ∙ (ap (fault_at place) (one_fault bytes p.1 q.1 p.2 q.2) ∙ sym q.3)
+same_next limit bytes place e f (inl p) (inr q) = absurd (no_varint q.0.front q.0.rest q.0.value p.1 (subst (λ (t : List ℕ). NoVarint t p.1) q.0.parts p.2) q.0.is)
+same_next limit bytes place e f (inr p) (inl q) = absurd (no_varint p.0.front p.0.rest p.0.value q.1 (subst (λ (t : List ℕ). NoVarint t q.1) p.0.parts q.2) p.0.is)
+same_next limit bytes place e f (inr p) (inr q) = p.1 ∙ sym q.1
+
+-- a good varint in front, so no fault
+good_next : (limit : ℕ) (bytes front rest : List ℕ) (n place : ℕ) (e : WireFault) → FailsNext limit bytes place e → IsVarint front n → n < limit → bytes ≡ front ++ rest → ⊥
+good_next limit bytes front rest n place e (inl p) is lt parts = no_varint front rest n p.1 (subst (λ (t : List ℕ). NoVarint t p.1) parts p.2) is
+good_next limit bytes front rest n place e (inr p) is lt parts =
+    let t = one_varint front p.0.front rest p.0.rest n p.0.value is p.0.is (sym parts ∙ p.0.parts) in
+    omega (arith, t.number, lt, p.0.large)
+
+same_within : (limit : ℕ) (ns ms a b x y bytes : List ℕ) (place : ℕ) (e f : WireFault) → AreVarints limit ns a → AreVarints limit ms b → bytes ≡ a ++ x → bytes ≡ b ++ y
+    → FailsNext limit x place e → FailsNext limit y place f → e ≡ f
+same_within limit [] [] a b x y bytes place e f p q u v g h =
+    let at : x ≡ y = sym (u ∙ ap (λ (t : List ℕ). t ++ x) p) ∙ (v ∙ ap (λ (t : List ℕ). t ++ y) q) in
+    same_next limit y place e f (subst (λ (t : List ℕ). FailsNext limit t place e) at g) h
+same_within limit [] (m ∷ ms) a b x y bytes place e f p q u v g h =
+    let at : x ≡ q.0 ++ (q.1 ++ y) = sym (u ∙ ap (λ (t : List ℕ). t ++ x) p) ∙ (v ∙ (ap (λ (t : List ℕ). t ++ y) q.4 ∙ append_assoc q.0 q.1 y)) in
+    absurd (good_next limit x q.0 (q.1 ++ y) m place e g q.2 q.3 at)
+same_within limit (n ∷ ns) [] a b x y bytes place e f p q u v g h =
+    let at : y ≡ p.0 ++ (p.1 ++ x) = sym (v ∙ ap (λ (t : List ℕ). t ++ y) q) ∙ (u ∙ (ap (λ (t : List ℕ). t ++ x) p.4 ∙ append_assoc p.0 p.1 x)) in
+    absurd (good_next limit y p.0 (p.1 ++ x) n place f h p.2 p.3 at)
+same_within limit (n ∷ ns) (m ∷ ms) a b x y bytes place e f p q u v g h =
+    let left : bytes ≡ p.0 ++ (p.1 ++ x) = u ∙ (ap (λ (t : List ℕ). t ++ x) p.4 ∙ append_assoc p.0 p.1 x) in
+    let right : bytes ≡ q.0 ++ (q.1 ++ y) = v ∙ (ap (λ (t : List ℕ). t ++ y) q.4 ∙ append_assoc q.0 q.1 y) in
+    let t = one_varint p.0 q.0 (p.1 ++ x) (q.1 ++ y) n m p.2 q.2 (sym left ∙ right) in
+    same_within limit ns ms p.1 q.1 x y (p.1 ++ x) place e f p.5 q.5 refl t.rest g h
+
+one_packed_fault : (limit : ℕ) (payload : Payload) (place : ℕ) (e f : WireFault) → PackedFails limit payload place e → PackedFails limit payload place f → e ≡ f
+one_packed_fault limit (varint v) place e f p q = p.1 ∙ sym q.1
+one_packed_fault limit (eight b) place e f p q = absurd p
+one_packed_fault limit (four b) place e f p q = absurd p
+one_packed_fault limit (sized b) place e f p q = same_within limit p.values q.values p.front q.front p.rest q.rest b place e f p.are q.are p.parts q.parts p.fails q.fails
+
+one_if_fault : (test : Bool) (limit : ℕ) (payload : Payload) (place : ℕ) (e f : WireFault) → MatchBool test (PackedFails limit payload place e) ⊥ → MatchBool test (PackedFails limit payload place f) ⊥ → e ≡ f
+one_if_fault true limit payload place e f p q = one_packed_fault limit payload place e f p q
+one_if_fault false limit payload place e f p q = absurd p
+
+test_true : (test : Bool) (P : Type 0) → MatchBool test P ⊥ → test ≡ true
+test_true true P h = refl
+test_true false P h = absurd h
+
+module _ (limit n : ℕ) (few : limit ≤ 2 ^ 64) (is : IsNumber n) where
+  pub packed_again : (ns : List ℕ) → AreBelow limit ns → ⊤ → length (packed_text n ns) < 2 ^ 64 → (base : ℕ) (before : List Item) (front : List ℕ) → IsFields base before front
+      → (all (packed limit n)).says before [] → Adds (all (packed limit n)) n (n + 1) (λ m. ⊥) base before front (packed_text n ns) ns
+  packed_again ns can whole len base before front are says = packed_adds limit n is ns (varints_text ns) (varints_are limit few ns can) refl len base before front are says
+
+  pub packed_hears : (item : Item) (v : List ℕ) (fault : WireFault) → (packed limit n).refuses item fault → IsBetween n (n + 1) item
+  packed_hears item v fault bad = at_number n item.number (eqb_is item.number n (test_true (item.number == n) (PackedFails limit item.payload item.place fault) bad)) item refl
+
+  pub packed_single : (item : Item) (v : List ℕ) (e f : WireFault) → (packed limit n).refuses item e → (packed limit n).refuses item f → e ≡ f
+  packed_single item v e f p q = one_if_fault (item.number == n) limit item.payload item.place e f p q
+
+  -- one packed list, or nothing for an empty one
+  abbrev pub as_packed : Canonical (all (packed limit n))
+  as_packed = record {
+    text = packed_text n;
+    bounded = AreBelow limit;
+    whole = λ ns. ⊤;
+    low = n;
+    high = n + 1;
+    ordered = next_number n;
+    few = last_number n is;
+    always = λ m. ⊥;
+    deaf = λ item before v few out says. (v, [], says, packed_other limit n item out, sym (append-nil v));
+    again = packed_again;
+    hears = packed_hears;
+    single = packed_single;
+  }
+
+-- ---- fields that are kept
+
+-- bytes that are fields with numbers from n on
+pub record AreKept (n : ℕ) (bytes : List ℕ) : Type 0 where
+  pub fields : List Item
+  pub are : IsFields 0 fields bytes
+  pub from : AllByRecursion (IsBetween n (2 ^ 29)) fields
+
+pub le_yes : (m n : ℕ) → m ≤ n → nat_le m n ≡ true
+le_yes m n le = grind (arith, nat_tests)
+
+pub le_no : (m n : ℕ) → n < m → nat_le m n ≡ false
+le_no m n lt = grind (arith, nat_tests)
+
+pub kept_silent : (n : ℕ) (item : Item) → item.number < 2 ^ 29 → IsOutside n (2 ^ 29) item.number → (kept_from n).gives item []
+kept_silent n item most (inl lt) = rw (le_no n item.number lt) refl
+kept_silent n item most (inr ge) = absurd (omega (arith, ge, most))
+
+-- the field at another place
+abbrev pub moved : ℕ → Item → Item
+moved place item = record { number = item.number; place = place; payload = item.payload; text = item.text }
+
+pub moved_field : (place at : ℕ) (item : Item) → IsField at item → IsField place (moved place item)
+moved_field place at item is = record { key = is.key; rest = is.rest; parts = is.parts; keyed = is.keyed; least = is.least; most = is.most; holds = is.holds; at_place = refl }
+
+record KeptBehind (n base : ℕ) (before : List Item) (front bytes : List ℕ) : Type 0 where
+  more : List Item
+  are : IsFields base (more ++ before) (front ++ bytes)
+  says : (all (kept_from n)).says (more ++ before) bytes
+  between : AllByRecursion (IsBetween n (2 ^ 29)) more
+
+kept_behind : (n base : ℕ) (before : List Item) (front : List ℕ) → IsFields base before front → (all (kept_from n)).says before []
+    → (fields : List Item) (bytes : List ℕ) → IsFields 0 fields bytes → AllByRecursion (IsBetween n (2 ^ 29)) fields → KeptBehind n base before front bytes
+kept_behind n base before front are says [] bytes e from = record {
+  more = [];
+  are = subst (λ (t : List ℕ). IsFields base before t) (sym (ap (λ (t : List ℕ). front ++ t) e ∙ append-nil front)) are;
+  says = subst (λ (t : List ℕ). (all (kept_from n)).says before t) (sym e) says;
+  between = tt;
+}
+kept_behind n base before front are says (item ∷ fields) bytes h from =
+    let r = kept_behind n base before front are says fields h.0 h.2 from.1 in
+    let place = base + length (front ++ h.0) in
+    let parts : front ++ bytes ≡ (front ++ h.0) ++ item.text = ap (λ (t : List ℕ). front ++ t) h.1 ∙ sym (append_assoc front h.0 item.text) in
+    let b = from.0 in
+    record {
+      more = moved place item ∷ r.more;
+      are = (front ++ h.0, parts, r.are, moved_field place (0 + length h.0) item h.3);
+      says = (h.0, item.text, r.says, rw (le_yes n item.number b.least) refl, h.1);
+      between = (record { least = b.least; most = b.most }, r.between);
+    }
+
+pub kept_again : (n : ℕ) (bytes : List ℕ) → AreKept n bytes → (base : ℕ) (before : List Item) (front : List ℕ) → IsFields base before front → (all (kept_from n)).says before []
+    → Adds (all (kept_from n)) n (2 ^ 29) (λ m. ⊥) base before front bytes bytes
+kept_again n bytes kept base before front are says =
+    let r = kept_behind n base before front are says kept.fields bytes kept.are kept.from in
+    record { more = r.more; are = r.are; says = r.says; between = r.between; shows = λ m e. absurd e }
+
+module _ (n : ℕ) (is : IsNumber n) where
+  pub kept_ordered : n ≤ 2 ^ 29
+  kept_ordered = let m = is.most in omega (arith, m)
+
+  -- as they stood
+  abbrev pub as_kept : Canonical (all (kept_from n))
+  as_kept = record {
+    text = λ v. v;
+    bounded = λ v. ⊤;
+    whole = AreKept n;
+    low = n;
+    high = 2 ^ 29;
+    ordered = kept_ordered;
+    few = omega arith;
+    always = λ m. ⊥;
+    deaf = λ item before v few out says. (v, [], says, kept_silent n item few out, sym (append-nil v));
+    again = λ v can whole len base before front are says. kept_again n v whole base before front are says;
+    hears = λ item v fault bad. absurd bad;
+    single = λ item v e f p q. absurd p;
+  }
+
+-- what the fields of a message say that is kept are fields with kept numbers
+pub says_kept : (n base : ℕ) (fields : List Item) (bytes kept : List ℕ) → IsFields base fields bytes → (all (kept_from n)).says fields kept → AreKept n kept
+says_kept n base [] bytes kept are e = record { fields = []; are = e; from = tt }
+says_kept n base (item ∷ before) bytes kept are says =
+    let old = says_kept n base before are.0 says.0 are.2 says.2 in
+    let most = are.3.most in
+    elim (cases_lt item.number n) [
+      | inr le ↦
+          let part : says.1 ≡ item.text = says.3 ∙ rw (le_yes n item.number le) refl in
+          record {
+            fields = moved (0 + length says.0) item ∷ old.fields;
+            are = (says.0, says.4 ∙ ap (λ (t : List ℕ). says.0 ++ t) part, old.are, moved_field (0 + length says.0) (base + length are.0) item are.3);
+            from = (record { least = le; most = most }, old.from);
+          }
+      | inl lt ↦
+          let part : says.1 ≡ [] = says.3 ∙ rw (le_no n item.number lt) refl in
+          let same : kept ≡ says.0 = says.4 ∙ (ap (λ (t : List ℕ). says.0 ++ t) part ∙ append-nil says.0) in
+          subst (λ (t : List ℕ). AreKept n t) (sym same) old
+    ]
+
+-- ---- a message that stands once, written where its text is not empty
+
+module _ {C : Type 0} (members : Member C) (w : Canonical members) (required : ℕ) (there : (required ≡ 0) ⊎ w.always required) (n : ℕ) (is : IsNumber n) where
+  abbrev pub only_text : Option C → List ℕ
+  only_text None = []
+  only_text (Some c) = some_text n (w.text c)
+
+  abbrev pub IsShown : C → Type 0
+  IsShown c = w.whole c × (w.text c ≡ [] → ⊥)
+
+  only_some : (c : C) (bytes : List ℕ) → bytes ≡ w.text c → w.bounded c → w.whole c → (bytes ≡ [] → ⊥) → length (some_text n bytes) < 2 ^ 64 → (base : ℕ) (before : List Item) (front : List ℕ)
+      → IsFields base before front → (only members required n).says before None → Adds (only members required n) n (n + 1) (λ m. ⊥) base before front (some_text n bytes) (Some c)
+  only_some c [] e can whole some len base before front are says = absurd (some refl)
+  only_some c (b ∷ bytes) e can whole some len base before front are says =
+      let place = base + length front in
+      let size = payload_shorter n (b ∷ bytes) len in
+      let gives = message_is members w required there n c place can whole (subst (λ (t : List ℕ). length t < 2 ^ 64) e size) in
+      record {
+        more = item_at n (sized (b ∷ bytes)) place ∷ [];
+        are = (front, refl, are, field_at n (sized (b ∷ bytes)) place is (sized_holds (b ∷ bytes) size));
+        says = (None, Some c, says, subst (λ (t : List ℕ). MessageIn members required n (item_at n (sized t) place) (bytes_in n (item_at n (sized t) place)) (Some c)) (sym e) gives, refl);
+        between = one_between n (sized (b ∷ bytes)) place;
+        shows = λ m e. absurd e;
+      }
+
+  pub only_again : (v : Option C) → IfSome v w.bounded → IfSome v IsShown → length (only_text v) < 2 ^ 64 → (base : ℕ) (before : List Item) (front : List ℕ) → IsFields base before front
+      → (only members required n).says before None → Adds (only members required n) n (n + 1) (λ m. ⊥) base before front (only_text v) v
+  only_again None can whole len base before front are says = adds_none (only members required n) n (n + 1) base before front None are says
+  only_again (Some c) can whole len base before front are says = only_some c (w.text c) refl can whole.0 whole.1 len base before front are says
+
+  pub only_deaf : (item : Item) (before : List Item) (v : Option C) → IsOutside n (n + 1) item.number → (only members required n).says before v → (only members required n).says (item ∷ before) v
+  only_deaf item before None out says = (None, None, says, message_silent members w required there n item out, refl)
+  only_deaf item before (Some c) out says = (Some c, None, says, message_silent members w required there n item out, (refl, refl))
+
+  pub only_hears : (item : Item) (v : Option C) (fault : WireFault) → OnlyFails members required n item v fault → IsBetween n (n + 1) item
+  only_hears item None fault bad = message_hears members w required there n item fault bad
+  only_hears item (Some c) fault bad = bytes_hears n item bad.0 bad.1
+
+  pub only_single : (item : Item) (v : Option C) (e f : WireFault) → OnlyFails members required n item v e → OnlyFails members required n item v f → e ≡ f
+  only_single item None e f p q = message_single members w required there n item e f p q
+  only_single item (Some c) e f p q = p.2 ∙ sym q.2
+
+  abbrev pub where_shown : Canonical (only members required n)
+  where_shown = record {
+    text = only_text;
+    bounded = λ v. IfSome v w.bounded;
+    whole = λ v. IfSome v IsShown;
+    low = n;
+    high = n + 1;
+    ordered = next_number n;
+    few = last_number n is;
+    always = λ m. ⊥;
+    deaf = λ item before v few. only_deaf item before v;
+    again = only_again;
+    hears = only_hears;
+    single = only_single;
+  }
+
+-- ---- one name for each line of the table of messages
+
+abbrev pub always_number : (n : ℕ) → IsNumber n → Canonical (last 0 (number n))
+always_number n is = written_always n is (number n) (a_number n) 0
+
+abbrev pub always_small : (n : ℕ) → IsNumber n → Canonical (last 0 (small n))
+always_small n is = written_always n is (small n) (a_small n) 0
+
+abbrev pub always_text : (n : ℕ) → IsNumber n → Canonical (last [] (text n))
+always_text n is = written_always n is (text n) (a_text n) []
+
+abbrev pub known_small : (n : ℕ) → IsNumber n → Canonical (known (small n))
+known_small n is = where_known n is (small n) (a_small n)
+
+abbrev pub known_signed : (n : ℕ) → IsNumber n → Canonical (known (signed n))
+known_signed n is = where_known n is (signed n) (a_signed n)
+
+abbrev pub known_small_signed : (n : ℕ) → IsNumber n → Canonical (known (small_signed n))
+known_small_signed n is = where_known n is (small_signed n) (a_small_signed n)
+
+abbrev pub known_flag : (n : ℕ) → IsNumber n → Canonical (known (flag n))
+known_flag n is = where_known n is (flag n) (a_flag n)
+
+abbrev pub text_where_known : (n : ℕ) → IsNumber n → Canonical (known (text n))
+text_where_known n is = where_known n is (text n) (a_text n)
+
+abbrev pub each_as_text : (n : ℕ) → IsNumber n → Canonical (each (text n))
+each_as_text n is = for_each n is (text n) (a_text n)
+
+abbrev pub each_message : {C : Type 0} (members : Member C) (w : Canonical members) (required : ℕ) → (required ≡ 0) ⊎ w.always required → (n : ℕ) → IsNumber n → Canonical (each (message members required n))
+each_message members w required there n is = for_each n is (message members required n) (a_message members w required there n)
+
+abbrev pub small_list : (n : ℕ) → IsNumber n → Canonical (all (packed (2 ^ 32) n))
+small_list n is = as_packed (2 ^ 32) n (lit≤ tt) is
+
+abbrev pub number_list : (n : ℕ) → IsNumber n → Canonical (all (packed (2 ^ 64) n))
+number_list n is = as_packed (2 ^ 64) n (lit≤ tt) is

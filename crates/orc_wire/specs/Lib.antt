@@ -1,0 +1,15 @@
+pub mod Fields
+pub mod FieldValue
+pub mod FieldItem
+pub mod FieldLaws
+pub mod FaultLaws
+pub mod Members
+pub mod Spells
+pub mod SpellsLaws
+pub mod Kinds
+pub mod Table
+pub mod Messages
+pub mod Canonical
+pub mod CanonicalKinds
+pub mod CanonicalMessages
+pub mod FieldsNext

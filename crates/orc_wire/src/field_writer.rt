@@ -1,0 +1,46 @@
+ghost use Rattle.std.specs.Prelude.{◌≡◌, ℕ, ◌++◌, ◌<◌, ◌≤◌, ◌^◌, IfErr, OnOk, OnErr};
+ghost use Rattle.orc_wire.specs.declared.fault.WireFault.TheVariants.{OutOfMemory};
+ghost use Rattle.orc_wire.specs.Fields.{IsField};
+ghost use Rattle.orc_wire.specs.FieldValue.{payload_of};
+ghost use Rattle.orc_wire.specs.Canonical.{field_text};
+ghost use Rattle.orc_wire.specs.CanonicalKinds.{item_at};
+
+use crate::canonical::put_field;
+use crate::fault::WireFault;
+use crate::field::Value;
+
+/// Appends fields to a vector, each with the shortest varints.
+#[derive(Drop)]
+pub struct FieldWriter<'a> {
+    out: &'a mut Vec<u8>,
+}
+
+impl<'a> FieldWriter<'a> {
+    /// A writer that appends to `out`.
+    pub fn new(out: &'a mut Vec<u8>) -> FieldWriter<'a>
+        ensures bytes { result.out.now.items ≡ out.old.items }
+        ensures same_vector { result.out.ghost_name ≡ out.entry.ghost_name }
+    {
+        FieldWriter { out }
+    }
+
+    /// Appends one field: its key, number * 8 + wire type, and its payload. For a number of 1 to
+    /// 2^29-1 `Fields` reads it back. A refusal, which is `OutOfMemory`, leaves the vector as it was.
+    pub fn put(&mut self, number: u32, value: Value<'_>) -> Result<(), WireFault>
+        ensures text { OnOk result (self.new.out.now.items ≡ self.old.out.now.items ++ field_text number (payload_of value.entry)) }
+        ensures again { OnOk result (1 ≤ number → number < 2 ^ 29 → (place : ℕ) → IsField place (item_at number (payload_of value.entry) place)) }
+
+        ensures refused { IfErr result (λ fault. fault ≡ OutOfMemory) }
+        ensures unchanged { OnErr result (self.new.out.now.items ≡ self.old.out.now.items) }
+        ensures same_vector { self.new.out.ghost_name ≡ self.old.out.ghost_name }
+    {
+        let start = self.out.len();
+        match put_field(number, value, self.out) {
+            Ok(()) => Ok(()),
+            Err(fault) => {
+                self.out.truncate(start);
+                Err(fault)
+            }
+        }
+    }
+}

@@ -1,0 +1,81 @@
+//! Laws of fields and messages. Each function does nothing: its contract is what it is for.
+ghost use Rattle.std.specs.Prelude.{◌≡◌, ℕ, ℤ, ◌++◌, ◌<◌, ◌≤◌, ◌^◌, List, [], Option, Bool, true, false, not, ◌==◌};
+ghost use Rattle.std.specs.Option.{option_map, unwrap_or};
+ghost use Rattle.orc_bits.specs.Zigzag.{zig};
+ghost use Rattle.orc_wire.specs.declared.fault.WireFault.{WireFault};
+ghost use Rattle.orc_wire.specs.declared.encoding.Encoding.{Encoding};
+ghost use Rattle.orc_wire.specs.declared.stripe_footer.StreamMsg.{StreamMsg};
+ghost use Rattle.orc_wire.specs.declared.stripe_footer.StripeFooter.{StripeFooter};
+ghost use Rattle.orc_wire.specs.declared.post_script.PostScript.{PostScript};
+ghost use Rattle.orc_wire.specs.declared.type_msg.TypeMsg.{TypeMsg};
+ghost use Rattle.orc_wire.specs.Fields.{varint, sized, Item, IsField, IsFields, NoField};
+ghost use Rattle.orc_wire.specs.Spells.{number_in, bytes_in, Spells, Faults};
+ghost use Rattle.orc_wire.specs.Kinds.{number, small, signed, small_signed, flag, text, packed, message, kept_from, last, known, all, each, only};
+ghost use Rattle.orc_wire.specs.Table.{newest, in_order, kept_texts, JoinsParts, JoinsSome, OnlyMessage};
+ghost use Rattle.orc_wire.specs.Messages.{type_msg};
+ghost use Rattle.orc_wire.specs.Canonical.{number_text, sized_text, known_text, list_text, packed_text};
+ghost use Rattle.orc_wire.specs.CanonicalKinds.{AreKept};
+ghost use Rattle.orc_wire.specs.CanonicalMessages.{is_dictionary, encoding_text, stream_text, stripe_footer_text, post_script_text, type_text};
+
+use crate::message::Message;
+
+/// No field begins another, so bytes have one list of fields at most; and where no field stands,
+/// one fault says why.
+pub fn field_laws()
+    ensures one_field { (place : ℕ) (a b : Item) (x y : List ℕ) → IsField place a → IsField place b → a.text ++ x ≡ b.text ++ y → a ≡ b }
+    ensures one_list { (base : ℕ) (a b : List Item) (bytes : List ℕ) → IsFields base a bytes → IsFields base b bytes → a ≡ b }
+    ensures none { (place : ℕ) (item : Item) (rest : List ℕ) (fault : WireFault) → NoField place (item.text ++ rest) fault → IsField place item → ⊥ }
+    ensures one_fault { (place : ℕ) (bytes : List ℕ) (e f : WireFault) → NoField place bytes e → NoField place bytes f → e ≡ f }
+{}
+
+/// What the fields of a message say of each kind of member: the newest number or text of that field
+/// number, a list's parts or texts or messages in their order, a message that stands once at most,
+/// kept fields as they stood.
+pub fn table_laws()
+    ensures number_last { (n default : ℕ) (fields : List Item) (v : ℕ) → (last default (number n)).says fields v → v ≡ unwrap_or (newest (number_in n) fields) default }
+    ensures small_last { (n default : ℕ) (fields : List Item) (v : ℕ) → (last default (small n)).says fields v → v ≡ unwrap_or (newest (number_in n) fields) default }
+    ensures text_last { (n : ℕ) (default : List ℕ) (fields : List Item) (v : List ℕ) → (last default (text n)).says fields v → v ≡ unwrap_or (newest (bytes_in n) fields) default }
+
+    ensures small_known { (n : ℕ) (fields : List Item) (v : Option ℕ) → (known (small n)).says fields v → v ≡ newest (number_in n) fields }
+    ensures signed_known { (n : ℕ) (fields : List Item) (v : Option ℤ) → (known (signed n)).says fields v → option_map zig v ≡ newest (number_in n) fields }
+    ensures small_signed_known { (n : ℕ) (fields : List Item) (v : Option ℤ) → (known (small_signed n)).says fields v → option_map zig v ≡ newest (number_in n) fields }
+    ensures flag_known { (n : ℕ) (fields : List Item) (v : Option Bool) → (known (flag n)).says fields v → v ≡ option_map (λ k. not (k == 0)) (newest (number_in n) fields) }
+    ensures text_known { (n : ℕ) (fields : List Item) (v : Option (List ℕ)) → (known (text n)).says fields v → v ≡ newest (bytes_in n) fields }
+
+    ensures packed_list { (limit n : ℕ) (fields : List Item) (v : List ℕ) → (all (packed limit n)).says fields v → JoinsParts (packed limit n).gives fields v }
+    ensures texts { (n : ℕ) (fields : List Item) (v : List (List ℕ)) → (each (text n)).says fields v → v ≡ in_order (bytes_in n) fields }
+    ensures kept { (n : ℕ) (fields : List Item) (v : List ℕ) → (all (kept_from n)).says fields v → v ≡ kept_texts n fields }
+{}
+
+/// Bytes spell one message at most, and where a fault applies none, and no other fault. A list of
+/// messages in one has them in the order of their fields; a message that may stand once stands in one
+/// field at most.
+pub fn message_laws<M: Message>()
+    ensures one { (base : ℕ) (bytes : List ℕ) (a b : M) → Spells M.members M.REQUIRED base bytes a → Spells M.members M.REQUIRED base bytes b → a ≡ b }
+    ensures none { (base : ℕ) (bytes : List ℕ) (a : M) (fault : WireFault) → Faults M.members M.REQUIRED base bytes fault → Spells M.members M.REQUIRED base bytes a → ⊥ }
+    ensures one_fault { (base : ℕ) (bytes : List ℕ) (e f : WireFault) → Faults M.members M.REQUIRED base bytes e → Faults M.members M.REQUIRED base bytes f → e ≡ f }
+
+    ensures each { (n : ℕ) (fields : List Item) (v : List M) → (each (message M.members M.REQUIRED n)).says fields v → JoinsSome (message M.members M.REQUIRED n).gives fields v }
+    ensures only { (n : ℕ) (fields : List Item) (v : Option M) → (only M.members M.REQUIRED n).says fields v → OnlyMessage M.members M.REQUIRED n fields v }
+{}
+
+/// When a message's canonical text holds all of it, so that it reads back: always, but for an
+/// encoding's dictionary size, which is written for dictionary kinds alone, and for kept bytes, which
+/// must be fields with kept numbers. What is read keeps such fields.
+pub fn whole_laws()
+    ensures stream { (m : StreamMsg) → stream_text.whole m }
+    ensures encoding { (m : Encoding) → (is_dictionary m.kind ≡ false → m.dictionary_size ≡ 0) → encoding_text.whole m }
+    ensures script { (m : PostScript) → post_script_text.whole m }
+    ensures type_of_kept { (m : TypeMsg) → AreKept 4 m.kept → type_text.whole m }
+    ensures type_read { (base : ℕ) (bytes : List ℕ) (m : TypeMsg) → Spells type_msg 1 base bytes m → AreKept 4 m.kept }
+{}
+
+/// The canonical texts, written out.
+pub fn canonical_laws()
+    ensures stream { (m : StreamMsg) → stream_text.text m ≡ number_text 1 m.kind ++ (number_text 2 m.column ++ number_text 3 m.length) }
+    ensures dictionary { (m : Encoding) → is_dictionary m.kind ≡ true → encoding_text.text m ≡ number_text 1 m.kind ++ number_text 2 m.dictionary_size }
+    ensures direct { (m : Encoding) → is_dictionary m.kind ≡ false → encoding_text.text m ≡ number_text 1 m.kind }
+    ensures footer { (m : StripeFooter) → stripe_footer_text.text m ≡ list_text (λ s. sized (stream_text.text s)) 1 m.streams ++ list_text (λ e. sized (encoding_text.text e)) 2 m.columns }
+    ensures script { (m : PostScript) → post_script_text.text m ≡ number_text 1 m.footer_length ++ (number_text 2 m.compression ++ (packed_text 4 m.version ++ (number_text 5 m.metadata_length ++ (known_text (λ v. varint v) 6 m.writer_version ++ sized_text 8000 m.magic)))) }
+    ensures type_of { (m : TypeMsg) → type_text.text m ≡ number_text 1 m.kind ++ (packed_text 2 m.subtypes ++ (list_text (λ t. sized t) 3 m.field_names ++ m.kept)) }
+{}

@@ -1,0 +1,93 @@
+ghost use Rattle.std.specs.Prelude.{◌≡◌, ℕ, List, [], ◌<◌, ◌^◌, ◌⊎◌, None, IfErr, OnOk, OnErr, IfOk};
+ghost use Rattle.orc_wire.specs.declared.fault.WireFault.TheVariants.{OutOfMemory};
+ghost use Rattle.orc_wire.specs.FieldItem.{item_of};
+ghost use Rattle.orc_wire.specs.Kinds.{text, packed, kept_from, last, known, all, each, FailsWithin, AppendsVarints};
+
+use crate::fault::{WireFault, fault_of};
+use crate::field::{Field, Value};
+use crate::items::{Bytes, Items};
+use orc_bits::read_varint;
+use std::alloc::Global;
+
+/// The last text, or none of its bytes.
+pub(crate) fn take_text(slot: &mut Bytes, n: u32, field: &Field) -> Result<(), WireFault>
+    ensures ok { OnOk result ((last [] (text n)).steps (item_of field.now) slot.old slot.new) }
+    ensures fault { IfErr result (λ fault. fault ≡ OutOfMemory) }
+{
+    if let Some(bytes) = field.bytes(n) {
+        slot.replace(bytes)?;
+    }
+    Ok(())
+}
+
+/// Each text.
+pub(crate) fn take_texts(
+    alloc: Global,
+    slot: &mut Items<Bytes>,
+    n: u32,
+    field: &Field,
+) -> Result<(), WireFault>
+    ensures ok { OnOk result ((each (text n)).steps (item_of field.now) slot.old slot.new) }
+    ensures fault { IfErr result (λ fault. fault ≡ OutOfMemory) }
+{
+    if let Some(bytes) = field.bytes(n) {
+        let mut copy = Items::empty(alloc);
+        copy.append(bytes)?;
+        slot.push(copy)?;
+    }
+    Ok(())
+}
+
+/// Fields from a number on, as they stand.
+pub(crate) fn take_kept(slot: &mut Bytes, n: u32, field: &Field) -> Result<(), WireFault>
+    ensures ok { OnOk result ((all (kept_from n)).steps (item_of field.now) slot.old slot.new) }
+    ensures fault { IfErr result (λ fault. fault ≡ OutOfMemory) }
+{
+    if field.number >= n {
+        slot.append(field.text)?;
+    }
+    Ok(())
+}
+
+/// Adds the numbers of a packed list.
+fn take_varints(slot: &mut Items<u32>, bytes: &[u8], place: usize) -> Result<(), WireFault>
+    ensures ok { OnOk result (AppendsVarints (2 ^ 32) slot.old slot.new bytes.now) }
+    ensures fault { IfErr result (λ fault. (fault ≡ OutOfMemory) ⊎ FailsWithin (2 ^ 32) bytes.now place fault) }
+{
+    let mut at = 0;
+    while at < bytes.len() {
+        let (_, rest) = bytes.split_at(at);
+        let (value, len) = match read_varint(rest) {
+            Ok(found) => found,
+            Err(fault) => return Err(fault_of(fault, place)),
+        };
+        let value = match u32::try_from(value) {
+            Ok(value) => value,
+            Err(_) => return Err(WireFault::ValueRange(place)),
+        };
+        slot.push(value)?;
+        at += len;
+    }
+    Ok(())
+}
+
+/// All parts of a packed list.
+pub(crate) fn take_packed(slot: &mut Items<u32>, n: u32, field: &Field) -> Result<(), WireFault>
+    ensures ok { OnOk result ((all (packed (2 ^ 32) n)).steps (item_of field.now) slot.old slot.new) }
+    ensures fault { IfErr result (λ fault. (fault ≡ OutOfMemory) ⊎ (all (packed (2 ^ 32) n)).refuses (item_of field.now) slot.old fault) }
+{
+    if field.number != n {
+        return Ok(());
+    }
+    match field.value {
+        Value::Varint(value) => match u32::try_from(value) {
+            Ok(value) => {
+                slot.push(value)?;
+                Ok(())
+            }
+            Err(_) => Err(WireFault::ValueRange(field.place)),
+        },
+        Value::Bytes(bytes) => take_varints(slot, bytes, field.place),
+        _ => Ok(()),
+    }
+}

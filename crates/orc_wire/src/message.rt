@@ -1,0 +1,99 @@
+ghost use Rattle.std.specs.Prelude.{◌≡◌, ℕ, List, ◌++◌, ◌<◌, ◌≤◌, ◌+◌, ◌^◌, ◌⊎◌, length, take, IfOk, IfErr, OnOk, OnErr, MatchResult};
+ghost use Rattle.orc_wire.specs.declared.fault.WireFault.{WireFault};
+ghost use Rattle.orc_wire.specs.declared.fault.WireFault.TheVariants.{OutOfMemory};
+ghost use Rattle.orc_wire.specs.FieldItem.{item_of};
+ghost use Rattle.orc_wire.specs.Members.{Member};
+ghost use Rattle.orc_wire.specs.Spells.{Spells, Faults};
+ghost use Rattle.orc_wire.specs.Canonical.{Canonical, KeepsFront};
+
+use crate::fault::WireFault;
+use crate::field::Field;
+use crate::iter::Fields;
+use std::alloc::Global;
+
+/// A message of ORC.
+pub trait Message: Sized + Drop {
+    // what fields say of it
+    ghost members: { Member Self };
+    // its canonical text
+    ghost canonical: { Canonical members };
+    // the number that must be there, or 0
+    ghost REQUIRED: { ℕ };
+
+    const REQUIRED: u32;
+
+    /// The message of no fields.
+    fn empty(alloc: Global) -> Self
+        ensures { result ≡ members.start };
+
+    /// Takes one more field.
+    fn take(&mut self, alloc: Global, field: &Field) -> Result<(), WireFault>
+        ensures ok { OnOk result (members.steps (item_of field.now) self.old self.new) }
+        ensures fault { IfErr result (λ e. (e ≡ OutOfMemory) ⊎ members.refuses (item_of field.now) self.old e) };
+
+    /// Appends the canonical text. After a refusal a part of it may stand there.
+    fn put_members(&self, out: &mut Vec<u8>) -> Result<(), WireFault>
+        ensures text { OnOk result (out.new.items ≡ out.old.items ++ canonical.text self.now) }
+        ensures bounded { OnOk result (canonical.bounded self.now) }
+        ensures refused { IfErr result (λ fault. fault ≡ OutOfMemory) }
+        ensures front { KeepsFront out.old.items out.new.items };
+
+    // the required number is always written
+    ghost complete: { (REQUIRED ≡ 0) ⊎ canonical.always REQUIRED };
+
+    /// The message of the fields, whose places count on from where they stand.
+    final fn read_fields(alloc: Global, fields: Fields<'_>) -> Result<Self, WireFault>
+        ensures found { IfOk result (λ message. Spells members REQUIRED fields.entry.place fields.entry.rest.now message) }
+        ensures only { (content : Self) → Spells members REQUIRED fields.entry.place fields.entry.rest.now content → MatchResult result (λ message. message ≡ content) (λ e. e ≡ OutOfMemory) }
+        ensures fault { IfErr result (λ e. (e ≡ OutOfMemory) ⊎ Faults members REQUIRED fields.entry.place fields.entry.rest.now e) }
+        ensures refused { (fault : WireFault) → Faults members REQUIRED fields.entry.place fields.entry.rest.now fault → MatchResult result (λ _. ⊥) (λ e. (e ≡ OutOfMemory) ⊎ (e ≡ fault)) }
+    {
+        let mut message = Self::empty(alloc);
+        let mut complete = Self::REQUIRED == 0;
+        for next in fields {
+            let field = match next {
+                Ok(field) => field,
+                Err(fault) => return Err(fault),
+            };
+            match message.take(alloc, &field) {
+                Ok(()) => {}
+                Err(fault) => return Err(fault),
+            }
+            let found = field.varint(Self::REQUIRED).is_some();
+            complete = complete || found;
+        }
+        if !complete {
+            return Err(WireFault::Missing);
+        }
+        Ok(message)
+    }
+
+    /// The message that the bytes spell.
+    final fn read(alloc: Global, bytes: &[u8]) -> Result<Self, WireFault>
+        ensures found { IfOk result (λ message. Spells members REQUIRED 0 bytes.now message) }
+        ensures only { (content : Self) → Spells members REQUIRED 0 bytes.now content → MatchResult result (λ message. message ≡ content) (λ e. e ≡ OutOfMemory) }
+        ensures fault { IfErr result (λ e. (e ≡ OutOfMemory) ⊎ Faults members REQUIRED 0 bytes.now e) }
+        ensures refused { (fault : WireFault) → Faults members REQUIRED 0 bytes.now fault → MatchResult result (λ _. ⊥) (λ e. (e ≡ OutOfMemory) ⊎ (e ≡ fault)) }
+    {
+        Self::read_fields(alloc, Fields::new(bytes))
+    }
+
+    /// Appends the canonical text of the message. A refusal, which is `OutOfMemory`, leaves `out` as
+    /// it was.
+    final fn put(&self, out: &mut Vec<u8>) -> Result<(), WireFault>
+        ensures text { OnOk result (out.new.items ≡ out.old.items ++ canonical.text self.now) }
+        ensures again { OnOk result (canonical.whole self.now → Spells members REQUIRED 0 (canonical.text self.now) self.now) }
+
+        ensures refused { IfErr result (λ fault. fault ≡ OutOfMemory) }
+        ensures unchanged { OnErr result (out.new.items ≡ out.old.items) }
+    {
+        let start = out.len();
+        match self.put_members(out) {
+            Ok(()) => Ok(()),
+            Err(fault) => {
+                out.truncate(start);
+                Err(fault)
+            }
+        }
+    }
+}

@@ -1,0 +1,94 @@
+use crate::canonical::{put_each, put_number};
+use crate::encoding::Encoding;
+use crate::fault::WireFault;
+use crate::field::Field;
+use crate::inner::take_each;
+use crate::items::Items;
+use crate::members::{take_u32, take_u64};
+use crate::message::Message;
+use std::alloc::Global;
+
+/// A stream of a stripe.
+#[derive(Clone, Copy, Debug, PartialEq, Eq)]
+pub struct StreamMsg {
+    pub kind: u32,
+    pub column: u32,
+    pub length: u64,
+}
+
+impl Message for StreamMsg {
+    ghost use Rattle.std.specs.Prelude.{ℕ};
+    ghost use Rattle.orc_wire.specs.Messages.{stream};
+    ghost use Rattle.orc_wire.specs.CanonicalMessages.{stream_text, stream_complete};
+
+    ghost members = { stream };
+
+    ghost canonical = { stream_text };
+
+    ghost REQUIRED = { 1 };
+
+    const REQUIRED: u32 = 1;
+
+    fn empty(_alloc: Global) -> StreamMsg {
+        StreamMsg {
+            kind: 0,
+            column: 0,
+            length: 0,
+        }
+    }
+
+    fn take(&mut self, _alloc: Global, field: &Field) -> Result<(), WireFault> {
+        take_u32(&mut self.kind, 1, field)?;
+        take_u32(&mut self.column, 2, field)?;
+        take_u64(&mut self.length, 3, field);
+        Ok(())
+    }
+
+    fn put_members(&self, out: &mut Vec<u8>) -> Result<(), WireFault> {
+        put_number(1, u64::from(self.kind), out)?;
+        put_number(2, u64::from(self.column), out)?;
+        put_number(3, self.length, out)
+    }
+
+    ghost complete = { stream_complete };
+}
+
+/// The directory of a stripe.
+#[derive(Debug, Drop)]
+pub struct StripeFooter {
+    pub streams: Items<StreamMsg>,
+    pub columns: Items<Encoding>,
+}
+
+impl Message for StripeFooter {
+    ghost use Rattle.std.specs.Prelude.{ℕ};
+    ghost use Rattle.orc_wire.specs.Messages.{stripe_footer};
+    ghost use Rattle.orc_wire.specs.CanonicalMessages.{stripe_footer_text, stripe_footer_complete};
+
+    ghost members = { stripe_footer };
+
+    ghost canonical = { stripe_footer_text };
+
+    ghost REQUIRED = { 0 };
+
+    const REQUIRED: u32 = 0;
+
+    fn empty(alloc: Global) -> StripeFooter {
+        StripeFooter {
+            streams: Items::empty(alloc),
+            columns: Items::empty(alloc),
+        }
+    }
+
+    fn take(&mut self, alloc: Global, field: &Field) -> Result<(), WireFault> {
+        take_each(alloc, &mut self.streams, 1, field)?;
+        take_each(alloc, &mut self.columns, 2, field)
+    }
+
+    fn put_members(&self, out: &mut Vec<u8>) -> Result<(), WireFault> {
+        put_each(1, self.streams.as_slice(), out)?;
+        put_each(2, self.columns.as_slice(), out)
+    }
+
+    ghost complete = { stripe_footer_complete };
+}
