@@ -1,4 +1,5 @@
--- The canonical text of each kind of member.
+-- The canonical text of each kind of member (Protocol Buffers encoding; packed lists as in "Packed
+-- Repeated Fields", signed numbers as in "Signed Integers").
 use Rattle.std.specs.Prelude.{◌≡◌, ℕ, ◌+◌, ◌*◌, ◌^◌, ◌<◌, ◌≤◌, List, [], ◌∷◌, length, ◌++◌, ◌⊎◌, Option, Some, None, Bool, true, false, not, cond, ◌==◌, nat_eq, nat_le, refl, ⊤}
 use Rattle.std.specs.Option.{option_map, IfSome}
 use Rattle.std.specs.Bool.{MatchBool}

@@ -1,4 +1,5 @@
--- The canonical text of each message of ORC, a line a member.
+-- The canonical text of each message of ORC (orc_proto.proto), a line a member: which are always
+-- written, and which where they are known.
 use Rattle.std.specs.Prelude.{ℕ, ◌≡◌, refl, Bool, ◌==◌, ◌||◌}
 use Rattle.std.proofs.Common.{inl, inr, lit<, lit≤, ◌⊎◌}
 use Rattle.orc_wire.specs.Messages.{encoding, encoding_shape, stream, stream_shape, stripe_footer, stripe_footer_shape, post_script, post_script_shape, type_msg, type_shape, stripe_info, stripe_info_shape, integer_stats, integer_stats_shape, string_stats, string_stats_shape, bucket_stats, bucket_stats_shape, date_stats, date_stats_shape, binary_stats, binary_stats_shape, column_stats, column_stats_shape, stripe_stats, stripe_stats_shape, metadata, metadata_shape, row_index_entry, row_index_entry_shape, row_index, row_index_shape, user_metadata, user_metadata_shape, footer, footer_shape}

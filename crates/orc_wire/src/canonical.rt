@@ -2,7 +2,7 @@
 //!
 //! After a refusal, which is `OutOfMemory`, each function has left what was there in front; a part
 //! of its own text may follow.
-ghost use Rattle.std.specs.Prelude.{◌≡◌, ℕ, List, ◌++◌, ◌<◌, ◌^◌, IfErr, IfSome, OnOk};
+ghost use Rattle.std.specs.Prelude.{◌≡◌, ◌++◌, ◌<◌, ◌^◌, IfErr, IfSome, OnOk};
 ghost use Rattle.std.specs.List.{AllByRecursion};
 ghost use Rattle.orc_bits.specs.Varint.{varint_text};
 ghost use Rattle.orc_bits.specs.Zigzag.{zig};

@@ -31,7 +31,6 @@ pub struct ColumnStats {
 }
 
 impl Message for ColumnStats {
-    ghost use Rattle.std.specs.Prelude.{ℕ};
     ghost use Rattle.orc_wire.specs.Messages.{column_stats};
     ghost use Rattle.orc_wire.specs.CanonicalMessages.{column_stats_text, column_stats_complete};
 
@@ -87,7 +86,6 @@ pub struct StripeStatistics {
 }
 
 impl Message for StripeStatistics {
-    ghost use Rattle.std.specs.Prelude.{ℕ};
     ghost use Rattle.orc_wire.specs.Messages.{stripe_stats};
     ghost use Rattle.orc_wire.specs.CanonicalMessages.{stripe_stats_text, stripe_stats_complete};
 
@@ -124,7 +122,6 @@ pub struct Metadata {
 }
 
 impl Message for Metadata {
-    ghost use Rattle.std.specs.Prelude.{ℕ};
     ghost use Rattle.orc_wire.specs.Messages.{metadata};
     ghost use Rattle.orc_wire.specs.CanonicalMessages.{metadata_text, metadata_complete};
 

@@ -16,7 +16,6 @@ pub struct Encoding {
 }
 
 impl Message for Encoding {
-    ghost use Rattle.std.specs.Prelude.{ℕ};
     ghost use Rattle.orc_wire.specs.Messages.{encoding};
     ghost use Rattle.orc_wire.specs.CanonicalMessages.{encoding_text, encoding_complete};
 

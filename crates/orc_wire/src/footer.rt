@@ -21,7 +21,6 @@ pub struct UserMetadataItem {
 }
 
 impl Message for UserMetadataItem {
-    ghost use Rattle.std.specs.Prelude.{ℕ};
     ghost use Rattle.orc_wire.specs.Messages.{user_metadata};
     ghost use Rattle.orc_wire.specs.CanonicalMessages.{user_metadata_text, user_metadata_complete};
 
@@ -79,7 +78,6 @@ pub struct Footer {
 }
 
 impl Message for Footer {
-    ghost use Rattle.std.specs.Prelude.{ℕ};
     ghost use Rattle.orc_wire.specs.Messages.{footer};
     ghost use Rattle.orc_wire.specs.CanonicalMessages.{footer_text, footer_complete};
 

@@ -1,5 +1,5 @@
 //! Laws of fields and messages. Each function does nothing: its contract is what it is for.
-ghost use Rattle.std.specs.Prelude.{◌≡◌, ℕ, ℤ, ◌++◌, ◌<◌, ◌≤◌, ◌^◌, List, [], Option, Bool, ◌⊎◌, true, false, not, ◌==◌};
+ghost use Rattle.std.specs.Prelude.{◌≡◌, ℕ, ℤ, ◌++◌, ◌^◌, List, [], Option, Bool, ◌⊎◌, true, false, not, ◌==◌};
 ghost use Rattle.std.specs.List.{AllByRecursion};
 ghost use Rattle.std.specs.Option.{option_map, unwrap_or, IfSome, IsSome};
 ghost use Rattle.orc_bits.specs.Zigzag.{zig};

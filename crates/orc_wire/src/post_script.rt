@@ -25,7 +25,6 @@ pub struct PostScript {
 }
 
 impl Message for PostScript {
-    ghost use Rattle.std.specs.Prelude.{ℕ};
     ghost use Rattle.orc_wire.specs.Messages.{post_script};
     ghost use Rattle.orc_wire.specs.CanonicalMessages.{post_script_text, post_script_complete};
 

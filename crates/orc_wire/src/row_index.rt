@@ -19,7 +19,6 @@ pub struct RowIndexEntry {
 }
 
 impl Message for RowIndexEntry {
-    ghost use Rattle.std.specs.Prelude.{ℕ};
     ghost use Rattle.orc_wire.specs.Messages.{row_index_entry};
     ghost use Rattle.orc_wire.specs.CanonicalMessages.{row_index_entry_text, row_index_entry_complete};
 
@@ -59,7 +58,6 @@ pub struct RowIndexMsg {
 }
 
 impl Message for RowIndexMsg {
-    ghost use Rattle.std.specs.Prelude.{ℕ};
     ghost use Rattle.orc_wire.specs.Messages.{row_index};
     ghost use Rattle.orc_wire.specs.CanonicalMessages.{row_index_text, row_index_complete};
 

@@ -21,7 +21,6 @@ pub struct IntegerStatistics {
 }
 
 impl Message for IntegerStatistics {
-    ghost use Rattle.std.specs.Prelude.{ℕ};
     ghost use Rattle.orc_wire.specs.Messages.{integer_stats};
     ghost use Rattle.orc_wire.specs.CanonicalMessages.{integer_stats_text, integer_stats_complete};
 
@@ -69,7 +68,6 @@ pub struct StringStatistics {
 }
 
 impl Message for StringStatistics {
-    ghost use Rattle.std.specs.Prelude.{ℕ};
     ghost use Rattle.orc_wire.specs.Messages.{string_stats};
     ghost use Rattle.orc_wire.specs.CanonicalMessages.{string_stats_text, string_stats_complete};
 
@@ -113,7 +111,6 @@ pub struct BucketStatistics {
 }
 
 impl Message for BucketStatistics {
-    ghost use Rattle.std.specs.Prelude.{ℕ};
     ghost use Rattle.orc_wire.specs.Messages.{bucket_stats};
     ghost use Rattle.orc_wire.specs.CanonicalMessages.{bucket_stats_text, bucket_stats_complete};
 
@@ -152,7 +149,6 @@ pub struct DateStatistics {
 }
 
 impl Message for DateStatistics {
-    ghost use Rattle.std.specs.Prelude.{ℕ};
     ghost use Rattle.orc_wire.specs.Messages.{date_stats};
     ghost use Rattle.orc_wire.specs.CanonicalMessages.{date_stats_text, date_stats_complete};
 
@@ -192,7 +188,6 @@ pub struct BinaryStatistics {
 }
 
 impl Message for BinaryStatistics {
-    ghost use Rattle.std.specs.Prelude.{ℕ};
     ghost use Rattle.orc_wire.specs.Messages.{binary_stats};
     ghost use Rattle.orc_wire.specs.CanonicalMessages.{binary_stats_text, binary_stats_complete};
 

@@ -20,7 +20,6 @@ pub struct StreamMsg {
 }
 
 impl Message for StreamMsg {
-    ghost use Rattle.std.specs.Prelude.{ℕ};
     ghost use Rattle.orc_wire.specs.Messages.{stream};
     ghost use Rattle.orc_wire.specs.CanonicalMessages.{stream_text, stream_complete};
 
@@ -66,7 +65,6 @@ pub struct StripeFooter {
 }
 
 impl Message for StripeFooter {
-    ghost use Rattle.std.specs.Prelude.{ℕ};
     ghost use Rattle.orc_wire.specs.Messages.{stripe_footer};
     ghost use Rattle.orc_wire.specs.CanonicalMessages.{stripe_footer_text, stripe_footer_complete};
 

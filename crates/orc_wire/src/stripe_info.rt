@@ -21,7 +21,6 @@ pub struct StripeInfo {
 }
 
 impl Message for StripeInfo {
-    ghost use Rattle.std.specs.Prelude.{ℕ};
     ghost use Rattle.orc_wire.specs.Messages.{stripe_info};
     ghost use Rattle.orc_wire.specs.CanonicalMessages.{stripe_info_text, stripe_info_complete};
 
