@@ -15,6 +15,9 @@ use Rattle.orc_wire.specs.declared.stats_records.BucketStatistics.{BucketStatist
 use Rattle.orc_wire.specs.declared.stats_records.DateStatistics.{DateStatistics}
 use Rattle.orc_wire.specs.declared.stats_records.IntegerStatistics.{IntegerStatistics}
 use Rattle.orc_wire.specs.declared.stats_records.StringStatistics.{StringStatistics}
+use Rattle.orc_wire.specs.declared.row_index.RowIndexEntry.{RowIndexEntry}
+use Rattle.orc_wire.specs.declared.stripe_footer.StreamMsg.{StreamMsg}
+use Rattle.orc_wire.specs.declared.stripe_footer.StripeFooter.{StripeFooter}
 use Rattle.orc_wire.specs.declared.stripe_info.StripeInfo.{StripeInfo}
 use Rattle.orc_wire.specs.declared.type_msg.TypeMsg.{TypeMsg}
 use Rattle.orc_wire.specs.Fields.{Payload, varint, sized, wire, Item}
@@ -23,7 +26,7 @@ use Rattle.orc_wire.specs.Kinds.{small, last, each, message, MessageIn}
 use Rattle.orc_wire.specs.Messages.{type_msg, footer}
 use Rattle.orc_wire.specs.Canonical.{payload_text, field_text, known_text, some_text, varints_text, WholeIf}
 use Rattle.orc_wire.specs.CanonicalKinds.{IsNumber, AreBelow, always_small, AreKept, says_kept, wire_most}
-use Rattle.orc_wire.specs.CanonicalMessages.{one, two, three, is_dictionary, type_text, stripe_info_text, user_metadata_text, footer_text, integer_stats_text, string_stats_text, bucket_stats_text, date_stats_text, binary_stats_text, column_stats_text}
+use Rattle.orc_wire.specs.CanonicalMessages.{one, two, three, is_dictionary, encoding_text, stream_text, stripe_footer_text, row_index_entry_text, type_text, stripe_info_text, user_metadata_text, footer_text, integer_stats_text, string_stats_text, bucket_stats_text, date_stats_text, binary_stats_text, column_stats_text}
 
 pub encoding_whole : (test : Bool) (m : Encoding) → (test ≡ false → m.dictionary_size ≡ 0)
     → WholeIf (last 0 (small 1)) (last 0 (small 2)) (always_small 1 one) (always_small 2 two) is_dictionary (lit≤ tt) test (m.kind, m.dictionary_size)
@@ -59,6 +62,12 @@ type_whole m kept = (tt, (tt, (all_top m.field_names, kept)))
 
 stripe_whole : (m : StripeInfo) → stripe_info_text.whole m
 stripe_whole m = (tt, (tt, (tt, (tt, tt))))
+
+stream_whole : (m : StreamMsg) → stream_text.whole m
+stream_whole m = (tt, (tt, tt))
+
+pub directory_whole : (m : StripeFooter) → AllByRecursion encoding_text.whole m.columns → stripe_footer_text.whole m
+directory_whole m h = (all_of stream_text.whole stream_whole m.streams, h)
 
 pair_whole : (m : UserMetadataItem) → user_metadata_text.whole m
 pair_whole m = (tt, tt)
@@ -177,6 +186,13 @@ bucket_shown m below some e = some (numbers_empty m.count below (some_empty 1 (v
 
 pub column_shown : (m : ColumnStats) → column_stats_text.text m ≡ [] → ⊥
 column_shown m e = field_some 1 (varint m.number_of_values) one (front_empty (field_text 1 (varint m.number_of_values)) _ e)
+
+shown_column : (o : Option ColumnStats) → IfSome o column_stats_text.whole → IfSome o (λ s. column_stats_text.whole s × (column_stats_text.text s ≡ [] → ⊥))
+shown_column None h = tt
+shown_column (Some s) h = (h, column_shown s)
+
+pub entry_whole : (m : RowIndexEntry) → IfSome m.statistics column_stats_text.whole → row_index_entry_text.whole m
+entry_whole m h = (tt, shown_column m.statistics h)
 
 -- ---- what is kept
 

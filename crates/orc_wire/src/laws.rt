@@ -80,6 +80,7 @@ pub fn message_laws<M: Message>()
 pub fn whole_laws()
     ensures stream { (m : StreamMsg) → stream_text.whole m }
     ensures encoding { (m : Encoding) → (is_dictionary m.kind ≡ false → m.dictionary_size ≡ 0) → encoding_text.whole m }
+    ensures directory { (m : StripeFooter) → AllByRecursion encoding_text.whole m.columns → stripe_footer_text.whole m }
     ensures script { (m : PostScript) → post_script_text.whole m }
     ensures type_of_kept { (m : TypeMsg) → AreKept 4 m.kept → type_text.whole m }
     ensures type_read { (base : ℕ) (bytes : List ℕ) (m : TypeMsg) → Spells type_msg 1 base bytes m → AreKept 4 m.kept }
@@ -95,6 +96,7 @@ pub fn whole_laws()
     ensures bucket_shown { (m : BucketStatistics) → AreBelow (2 ^ 64) m.count → (m.count ≡ [] → ⊥) → bucket_stats_text.text m ≡ [] → ⊥ }
     ensures date_shown { (m : DateStatistics) → IsSome m.minimum ⊎ IsSome m.maximum → date_stats_text.text m ≡ [] → ⊥ }
     ensures binary_shown { (m : BinaryStatistics) → IsSome m.sum → binary_stats_text.text m ≡ [] → ⊥ }
+    ensures entry { (m : RowIndexEntry) → IfSome m.statistics column_stats_text.whole → row_index_entry_text.whole m }
     ensures column_shown { (m : ColumnStats) → column_stats_text.text m ≡ [] → ⊥ }
 {}
 

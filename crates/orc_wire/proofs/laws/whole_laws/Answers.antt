@@ -1,6 +1,6 @@
 use Rattle.orc_wire.specs.CanonicalKinds.{says_kept}
 use Rattle.orc_wire.specs.CanonicalMessages.{is_dictionary}
-use Rattle.orc_wire.proofs.WholeLaws.{encoding_whole, footer_whole, footer_kept, column_whole, integer_shown, string_shown, bucket_shown, date_shown, binary_shown, column_shown}
+use Rattle.orc_wire.proofs.WholeLaws.{encoding_whole, footer_whole, footer_kept, column_whole, directory_whole, entry_whole, integer_shown, string_shown, bucket_shown, date_shown, binary_shown, column_shown}
 use Rattle.orc_wire.proofs.laws.whole_laws.Goals as goal
 
 pub returns-clause-encoding : goal.returns-clause-encoding
@@ -35,3 +35,9 @@ returns-clause-binary_shown c = binary_shown
 
 pub returns-clause-column_shown : goal.returns-clause-column_shown
 returns-clause-column_shown c = column_shown
+
+pub returns-clause-directory : goal.returns-clause-directory
+returns-clause-directory c = directory_whole
+
+pub returns-clause-entry : goal.returns-clause-entry
+returns-clause-entry c = entry_whole
