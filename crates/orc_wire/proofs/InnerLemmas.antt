@@ -1,3 +1,4 @@
+-- A message in a field.
 use Rattle.std.proofs.Common.{◌≡◌, ℕ, List, Option, Some, None, true, false, refl, subst}
 use Rattle.std.specs.Option.{is_some}
 use Rattle.orc_wire.specs.Fields.{Item}

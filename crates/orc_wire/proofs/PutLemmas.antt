@@ -21,6 +21,14 @@ pub on_ok_any : {T E : Type 0} (r : Result T E) (P : Type 0) → P → OnOk r P
 on_ok_any (Ok x) P h = h
 on_ok_any (Err e) P h = tt
 
+pub on_ok_then : {T E P Q : Type 0} (r : Result T E) → OnOk r P → (P → Q) → OnOk r Q
+on_ok_then (Ok x) h f = f h
+on_ok_then (Err e) h f = tt
+
+-- one text behind another
+pub and_then : (old mid text rest new : List ℕ) → mid ≡ old ++ text → new ≡ mid ++ rest → new ≡ old ++ (text ++ rest)
+and_then old mid text rest new e f = f ∙ (ap (λ (t : List ℕ). t ++ rest) e ∙ append_assoc old text rest)
+
 pub front_taken : (front bytes : List ℕ) (n : ℕ) → IsFront front bytes → n ≡ length front → take n bytes ≡ front
 front_taken front bytes n h e = rw (h.parts, e) (take-append_seam front h.more)
 

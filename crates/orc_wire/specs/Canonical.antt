@@ -46,6 +46,11 @@ abbrev pub list_text : {V : Type 0} → (V → Payload) → ℕ → List V → L
 list_text payload n [] = []
 list_text payload n (v ∷ vs) = field_text n (payload v) ++ list_text payload n vs
 
+-- a message's text, or nothing where there is no message or its text is empty
+abbrev pub shown_text : {C : Type 0} → (C → List ℕ) → ℕ → Option C → List ℕ
+shown_text inner n None = []
+shown_text inner n (Some c) = some_text n (inner c)
+
 -- shortest varints, one after the other
 abbrev pub varints_text : List ℕ → List ℕ
 varints_text [] = []

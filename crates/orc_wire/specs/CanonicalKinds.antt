@@ -1,4 +1,5 @@
--- The canonical text of each kind of member.
+-- The canonical text of each kind of member (Protocol Buffers encoding; packed lists as in "Packed
+-- Repeated Fields", signed numbers as in "Signed Integers").
 use Rattle.std.specs.Prelude.{◌≡◌, ℕ, ◌+◌, ◌*◌, ◌^◌, ◌<◌, ◌≤◌, List, [], ◌∷◌, length, ◌++◌, ◌⊎◌, Option, Some, None, Bool, true, false, not, cond, ◌==◌, nat_eq, nat_le, refl, ⊤}
 use Rattle.std.specs.Option.{option_map, IfSome}
 use Rattle.std.specs.Bool.{MatchBool}
@@ -18,7 +19,7 @@ use Rattle.orc_wire.specs.Members.{Member}
 use Rattle.orc_wire.specs.Spells.{as_number, as_bytes, number_in, bytes_in, has_number, Spells}
 use Rattle.orc_wire.specs.SpellsLaws.{one_refusal}
 use Rattle.orc_wire.specs.Kinds.{Part, number, small, signed, small_signed, flag, text, packed, message, kept_from, inside, AreVarints, FailsNext, PackedFails, MessageIn, MessageFails, OnlyFails, no_front, last, known, all, each, only}
-use Rattle.orc_wire.specs.Canonical.{payload_text, field_text, some_text, known_text, list_text, varints_text, packed_text, IsOutside, IsBetween, Adds, Canonical, spells_again}
+use Rattle.orc_wire.specs.Canonical.{payload_text, field_text, some_text, shown_text, known_text, list_text, varints_text, packed_text, IsOutside, IsBetween, Adds, Canonical, spells_again}
 
 -- a number that a field may have
 pub record IsNumber (n : ℕ) : Type 0 where
@@ -576,10 +577,6 @@ says_kept n base (item ∷ before) bytes kept are says =
 -- ---- a message that stands once, written where its text is not empty
 
 module _ {C : Type 0} (members : Member C) (w : Canonical members) (required : ℕ) (there : (required ≡ 0) ⊎ w.always required) (n : ℕ) (is : IsNumber n) where
-  abbrev pub only_text : Option C → List ℕ
-  only_text None = []
-  only_text (Some c) = some_text n (w.text c)
-
   abbrev pub IsShown : C → Type 0
   IsShown c = w.whole c × (w.text c ≡ [] → ⊥)
 
@@ -598,8 +595,8 @@ module _ {C : Type 0} (members : Member C) (w : Canonical members) (required : �
         shows = λ m e. absurd e;
       }
 
-  pub only_again : (v : Option C) → IfSome v w.bounded → IfSome v IsShown → length (only_text v) < 2 ^ 64 → (base : ℕ) (before : List Item) (front : List ℕ) → IsFields base before front
-      → (only members required n).says before None → Adds (only members required n) n (n + 1) (λ m. ⊥) base before front (only_text v) v
+  pub only_again : (v : Option C) → IfSome v w.bounded → IfSome v IsShown → length (shown_text w.text n v) < 2 ^ 64 → (base : ℕ) (before : List Item) (front : List ℕ) → IsFields base before front
+      → (only members required n).says before None → Adds (only members required n) n (n + 1) (λ m. ⊥) base before front (shown_text w.text n v) v
   only_again None can whole len base before front are says = adds_none (only members required n) n (n + 1) base before front None are says
   only_again (Some c) can whole len base before front are says = only_some c (w.text c) refl can whole.0 whole.1 len base before front are says
 
@@ -617,7 +614,7 @@ module _ {C : Type 0} (members : Member C) (w : Canonical members) (required : �
 
   abbrev pub where_shown : Canonical (only members required n)
   where_shown = record {
-    text = only_text;
+    text = shown_text w.text n;
     bounded = λ v. IfSome v w.bounded;
     whole = λ v. IfSome v IsShown;
     low = n;

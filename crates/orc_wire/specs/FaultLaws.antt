@@ -1,4 +1,4 @@
--- Where no field stands, one fault says why.
+-- Where no field stands, one fault says why (Protocol Buffers encoding, "Message Structure").
 use Rattle.std.proofs.Common.{◌≡◌, ℕ, ◌%◌, List, refl, sym, ap, ◌∙◌, subst, arith, inl, inr, ◌⊎◌}
 use Rattle.orc_bits.specs.Varint.{NoVarint}
 use Rattle.orc_bits.specs.declared.fault.BitFault.{BitFault}

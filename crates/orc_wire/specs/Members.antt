@@ -1,4 +1,5 @@
--- Members of a message: what the fields say of each, as a function or relation of their list alone.
+-- Members of a message: what the fields say of each, as a relation of their list alone (Protocol
+-- Buffers encoding, "Message Structure").
 use Rattle.std.specs.Prelude.{◌≡◌, List, [], ◌∷◌, ◌⊎◌, refl}
 use Rattle.std.proofs.Common.{sym, ◌∙◌, ap, subst, inl, inr}
 use Rattle.orc_wire.specs.declared.fault.WireFault.{WireFault}

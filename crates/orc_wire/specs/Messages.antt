@@ -1,12 +1,25 @@
 -- The messages of ORC (orc_proto.proto), a line a member.
-use Rattle.std.specs.Prelude.{ℕ, ◌^◌, List, [], Option, refl}
+use Rattle.std.specs.Prelude.{ℕ, ◌^◌, List, [], Option, ℤ, Bool, refl}
 use Rattle.orc_wire.specs.declared.encoding.Encoding.{Encoding}
 use Rattle.orc_wire.specs.declared.stripe_footer.StreamMsg.{StreamMsg}
 use Rattle.orc_wire.specs.declared.stripe_footer.StripeFooter.{StripeFooter}
 use Rattle.orc_wire.specs.declared.post_script.PostScript.{PostScript}
 use Rattle.orc_wire.specs.declared.type_msg.TypeMsg.{TypeMsg}
+use Rattle.orc_wire.specs.declared.stripe_info.StripeInfo.{StripeInfo}
+use Rattle.orc_wire.specs.declared.stats_records.IntegerStatistics.{IntegerStatistics}
+use Rattle.orc_wire.specs.declared.stats_records.StringStatistics.{StringStatistics}
+use Rattle.orc_wire.specs.declared.stats_records.BucketStatistics.{BucketStatistics}
+use Rattle.orc_wire.specs.declared.stats_records.DateStatistics.{DateStatistics}
+use Rattle.orc_wire.specs.declared.stats_records.BinaryStatistics.{BinaryStatistics}
+use Rattle.orc_wire.specs.declared.column_stats.ColumnStats.{ColumnStats}
+use Rattle.orc_wire.specs.declared.column_stats.StripeStatistics.{StripeStatistics}
+use Rattle.orc_wire.specs.declared.column_stats.Metadata.{Metadata}
+use Rattle.orc_wire.specs.declared.row_index.RowIndexEntry.{RowIndexEntry}
+use Rattle.orc_wire.specs.declared.row_index.RowIndexMsg.{RowIndexMsg}
+use Rattle.orc_wire.specs.declared.footer.UserMetadataItem.{UserMetadataItem}
+use Rattle.orc_wire.specs.declared.footer.Footer.{Footer}
 use Rattle.orc_wire.specs.Members.{Member, Shape, shaped, ◌and◌}
-use Rattle.orc_wire.specs.Kinds.{number, small, text, packed, message, kept_from, last, known, all, each}
+use Rattle.orc_wire.specs.Kinds.{number, small, signed, small_signed, flag, text, packed, message, kept_from, last, known, all, each, only}
 
 abbrev pub encoding_shape : Shape (ℕ × ℕ) Encoding
 encoding_shape = record {
@@ -62,3 +75,146 @@ type_shape = record {
 
 abbrev pub type_msg : Member TypeMsg
 type_msg = shaped type_shape (last 0 (small 1) and all (packed (2 ^ 32) 2) and each (text 3) and all (kept_from 4))
+
+abbrev pub stripe_info_shape : Shape (ℕ × (ℕ × (ℕ × (ℕ × ℕ)))) StripeInfo
+stripe_info_shape = record {
+  into = λ m. (m.offset, (m.index_length, (m.data_length, (m.footer_length, m.number_of_rows))));
+  from = λ p. record { offset = p.0; index_length = p.1.0; data_length = p.1.1.0; footer_length = p.1.1.1.0; number_of_rows = p.1.1.1.1 };
+  there = λ m. refl;
+  here = λ p. refl;
+}
+
+abbrev pub stripe_info : Member StripeInfo
+stripe_info = shaped stripe_info_shape (last 0 (number 1) and last 0 (number 2) and last 0 (number 3) and last 0 (number 4) and last 0 (number 5))
+
+abbrev pub integer_stats_shape : Shape (Option ℤ × (Option ℤ × Option ℤ)) IntegerStatistics
+integer_stats_shape = record {
+  into = λ m. (m.minimum, (m.maximum, m.sum));
+  from = λ p. record { minimum = p.0; maximum = p.1.0; sum = p.1.1 };
+  there = λ m. refl;
+  here = λ p. refl;
+}
+
+abbrev pub integer_stats : Member IntegerStatistics
+integer_stats = shaped integer_stats_shape (known (signed 1) and known (signed 2) and known (signed 3))
+
+abbrev pub string_stats_shape : Shape (Option (List ℕ) × (Option (List ℕ) × Option ℤ)) StringStatistics
+string_stats_shape = record {
+  into = λ m. (m.minimum, (m.maximum, m.sum));
+  from = λ p. record { minimum = p.0; maximum = p.1.0; sum = p.1.1 };
+  there = λ m. refl;
+  here = λ p. refl;
+}
+
+abbrev pub string_stats : Member StringStatistics
+string_stats = shaped string_stats_shape (known (text 1) and known (text 2) and known (signed 3))
+
+abbrev pub bucket_stats_shape : Shape (List ℕ) BucketStatistics
+bucket_stats_shape = record {
+  into = λ m. m.count;
+  from = λ p. record { count = p };
+  there = λ m. refl;
+  here = λ p. refl;
+}
+
+abbrev pub bucket_stats : Member BucketStatistics
+bucket_stats = shaped bucket_stats_shape (all (packed (2 ^ 64) 1))
+
+abbrev pub date_stats_shape : Shape (Option ℤ × Option ℤ) DateStatistics
+date_stats_shape = record {
+  into = λ m. (m.minimum, m.maximum);
+  from = λ p. record { minimum = p.0; maximum = p.1 };
+  there = λ m. refl;
+  here = λ p. refl;
+}
+
+abbrev pub date_stats : Member DateStatistics
+date_stats = shaped date_stats_shape (known (small_signed 1) and known (small_signed 2))
+
+abbrev pub binary_stats_shape : Shape (Option ℤ) BinaryStatistics
+binary_stats_shape = record {
+  into = λ m. m.sum;
+  from = λ p. record { sum = p };
+  there = λ m. refl;
+  here = λ p. refl;
+}
+
+abbrev pub binary_stats : Member BinaryStatistics
+binary_stats = shaped binary_stats_shape (known (signed 1))
+
+abbrev pub column_stats_shape : Shape (ℕ × (Option IntegerStatistics × (Option StringStatistics × (Option BucketStatistics × (Option DateStatistics × (Option BinaryStatistics × Option Bool)))))) ColumnStats
+column_stats_shape = record {
+  into = λ m. (m.number_of_values, (m.int_statistics, (m.string_statistics, (m.bucket_statistics, (m.date_statistics, (m.binary_statistics, m.has_null))))));
+  from = λ p. record { number_of_values = p.0; int_statistics = p.1.0; string_statistics = p.1.1.0; bucket_statistics = p.1.1.1.0; date_statistics = p.1.1.1.1.0; binary_statistics = p.1.1.1.1.1.0; has_null = p.1.1.1.1.1.1 };
+  there = λ m. refl;
+  here = λ p. refl;
+}
+
+abbrev pub column_stats : Member ColumnStats
+column_stats = shaped column_stats_shape (last 0 (number 1) and only integer_stats 0 2 and only string_stats 0 4 and only bucket_stats 0 5 and only date_stats 0 7 and only binary_stats 0 8 and known (flag 10))
+
+abbrev pub stripe_stats_shape : Shape (List ColumnStats) StripeStatistics
+stripe_stats_shape = record {
+  into = λ m. m.col_stats;
+  from = λ p. record { col_stats = p };
+  there = λ m. refl;
+  here = λ p. refl;
+}
+
+abbrev pub stripe_stats : Member StripeStatistics
+stripe_stats = shaped stripe_stats_shape (each (message column_stats 0 1))
+
+abbrev pub metadata_shape : Shape (List StripeStatistics) Metadata
+metadata_shape = record {
+  into = λ m. m.stripe_stats;
+  from = λ p. record { stripe_stats = p };
+  there = λ m. refl;
+  here = λ p. refl;
+}
+
+abbrev pub metadata : Member Metadata
+metadata = shaped metadata_shape (each (message stripe_stats 0 1))
+
+abbrev pub row_index_entry_shape : Shape (List ℕ × Option ColumnStats) RowIndexEntry
+row_index_entry_shape = record {
+  into = λ m. (m.positions, m.statistics);
+  from = λ p. record { positions = p.0; statistics = p.1 };
+  there = λ m. refl;
+  here = λ p. refl;
+}
+
+abbrev pub row_index_entry : Member RowIndexEntry
+row_index_entry = shaped row_index_entry_shape (all (packed (2 ^ 64) 1) and only column_stats 0 2)
+
+abbrev pub row_index_shape : Shape (List RowIndexEntry) RowIndexMsg
+row_index_shape = record {
+  into = λ m. m.entries;
+  from = λ p. record { entries = p };
+  there = λ m. refl;
+  here = λ p. refl;
+}
+
+abbrev pub row_index : Member RowIndexMsg
+row_index = shaped row_index_shape (each (message row_index_entry 0 1))
+
+abbrev pub user_metadata_shape : Shape (List ℕ × List ℕ) UserMetadataItem
+user_metadata_shape = record {
+  into = λ m. (m.name, m.value);
+  from = λ p. record { name = p.0; value = p.1 };
+  there = λ m. refl;
+  here = λ p. refl;
+}
+
+abbrev pub user_metadata : Member UserMetadataItem
+user_metadata = shaped user_metadata_shape (last [] (text 1) and last [] (text 2))
+
+abbrev pub footer_shape : Shape (ℕ × (ℕ × (List StripeInfo × (List TypeMsg × (List UserMetadataItem × (ℕ × (List ColumnStats × (ℕ × (Option ℕ × List ℕ))))))))) Footer
+footer_shape = record {
+  into = λ m. (m.header_length, (m.content_length, (m.stripes, (m.types, (m.metadata, (m.number_of_rows, (m.statistics, (m.row_index_stride, (m.writer, m.kept)))))))));
+  from = λ p. record { header_length = p.0; content_length = p.1.0; stripes = p.1.1.0; types = p.1.1.1.0; metadata = p.1.1.1.1.0; number_of_rows = p.1.1.1.1.1.0; statistics = p.1.1.1.1.1.1.0; row_index_stride = p.1.1.1.1.1.1.1.0; writer = p.1.1.1.1.1.1.1.1.0; kept = p.1.1.1.1.1.1.1.1.1 };
+  there = λ m. refl;
+  here = λ p. refl;
+}
+
+abbrev pub footer : Member Footer
+footer = shaped footer_shape (last 0 (number 1) and last 0 (number 2) and each (message stripe_info 0 3) and each (message type_msg 1 4) and each (message user_metadata 0 5) and last 0 (number 6) and each (message column_stats 0 7) and last 0 (small 8) and known (small 9) and all (kept_from 10))

@@ -2,14 +2,14 @@
 //!
 //! After a refusal, which is `OutOfMemory`, each function has left what was there in front; a part
 //! of its own text may follow.
-ghost use Rattle.std.specs.Prelude.{◌≡◌, ℕ, List, ◌++◌, ◌<◌, ◌^◌, IfErr, IfSome, OnOk};
+ghost use Rattle.std.specs.Prelude.{◌≡◌, ◌++◌, ◌<◌, ◌^◌, IfErr, IfSome, OnOk};
 ghost use Rattle.std.specs.List.{AllByRecursion};
 ghost use Rattle.orc_bits.specs.Varint.{varint_text};
 ghost use Rattle.orc_bits.specs.Zigzag.{zig};
 ghost use Rattle.orc_wire.specs.declared.fault.WireFault.TheVariants.{OutOfMemory};
 ghost use Rattle.orc_wire.specs.Fields.{varint, sized, wire, IsPayload};
 ghost use Rattle.orc_wire.specs.FieldValue.{payload_of};
-ghost use Rattle.orc_wire.specs.Canonical.{payload_text, field_text, some_text, known_text, list_text, packed_text, KeepsFront};
+ghost use Rattle.orc_wire.specs.Canonical.{payload_text, field_text, some_text, known_text, list_text, packed_text, shown_text, KeepsFront};
 ghost use Rattle.orc_wire.specs.CanonicalKinds.{AreBelow, flag_number};
 
 use crate::fault::WireFault;
@@ -91,6 +91,64 @@ pub(crate) fn put_known_u32(n: u32, value: Option<u32>, out: &mut Vec<u8>) -> Re
     }
 }
 
+/// Appends a signed number that is known.
+pub(crate) fn put_known_i64(n: u32, value: Option<i64>, out: &mut Vec<u8>) -> Result<(), WireFault>
+    ensures text { OnOk result (out.new.items ≡ out.old.items ++ known_text (λ v. varint (zig v)) n value) }
+    ensures bounded { OnOk result (IfSome value (λ v. zig v < 2 ^ 64)) }
+    ensures refused { IfErr result (λ fault. fault ≡ OutOfMemory) }
+    ensures front { KeepsFront out.old.items out.new.items }
+{
+    match value {
+        None => Ok(()),
+        Some(value) => put_number(n, zigzag(value), out),
+    }
+}
+
+/// Appends a signed number of 32 bits that is known.
+pub(crate) fn put_known_i32(n: u32, value: Option<i32>, out: &mut Vec<u8>) -> Result<(), WireFault>
+    ensures text { OnOk result (out.new.items ≡ out.old.items ++ known_text (λ v. varint (zig v)) n value) }
+    ensures bounded { OnOk result (IfSome value (λ v. zig v < 2 ^ 32)) }
+    ensures refused { IfErr result (λ fault. fault ≡ OutOfMemory) }
+    ensures front { KeepsFront out.old.items out.new.items }
+{
+    match value {
+        None => Ok(()),
+        Some(value) => put_number(n, zigzag(i64::from(value)), out),
+    }
+}
+
+/// Appends a flag that is known.
+pub(crate) fn put_known_flag(
+    n: u32,
+    value: Option<bool>,
+    out: &mut Vec<u8>,
+) -> Result<(), WireFault>
+    ensures text { OnOk result (out.new.items ≡ out.old.items ++ known_text (λ v. varint (flag_number v)) n value) }
+    ensures refused { IfErr result (λ fault. fault ≡ OutOfMemory) }
+    ensures front { KeepsFront out.old.items out.new.items }
+{
+    match value {
+        None => Ok(()),
+        Some(value) => put_number(n, u64::from(value), out),
+    }
+}
+
+/// Appends a text that is known.
+pub(crate) fn put_known_text(
+    n: u32,
+    value: &Option<Bytes>,
+    out: &mut Vec<u8>,
+) -> Result<(), WireFault>
+    ensures text { OnOk result (out.new.items ≡ out.old.items ++ known_text (λ t. sized t) n value.now) }
+    ensures refused { IfErr result (λ fault. fault ≡ OutOfMemory) }
+    ensures front { KeepsFront out.old.items out.new.items }
+{
+    match value {
+        None => Ok(()),
+        Some(text) => put_text(n, text, out),
+    }
+}
+
 /// Appends a text, also an empty one.
 pub(crate) fn put_text(n: u32, text: &Bytes, out: &mut Vec<u8>) -> Result<(), WireFault>
     ensures text { OnOk result (out.new.items ≡ out.old.items ++ field_text n (sized text.now)) }
@@ -146,6 +204,41 @@ pub(crate) fn put_packed_u32(n: u32, numbers: &[u32], out: &mut Vec<u8>) -> Resu
         put_one(u64::from(*number), &mut text)?;
     }
     put_some(n, &text, out)
+}
+
+/// Appends a packed list of 64-bit numbers, or nothing for an empty one.
+pub(crate) fn put_packed_u64(n: u32, numbers: &[u64], out: &mut Vec<u8>) -> Result<(), WireFault>
+    ensures text { OnOk result (out.new.items ≡ out.old.items ++ packed_text n numbers.now) }
+    ensures bounded { OnOk result (AreBelow (2 ^ 64) numbers.now) }
+    ensures refused { IfErr result (λ fault. fault ≡ OutOfMemory) }
+    ensures front { KeepsFront out.old.items out.new.items }
+{
+    let mut text = Vec::new(*out.allocator());
+    for number in numbers {
+        put_one(*number, &mut text)?;
+    }
+    put_some(n, &text, out)
+}
+
+/// Appends a message, or nothing where there is none or its text is empty.
+pub(crate) fn put_shown<M: Message>(
+    n: u32,
+    message: &Option<M>,
+    out: &mut Vec<u8>,
+) -> Result<(), WireFault>
+    ensures text { OnOk result (out.new.items ≡ out.old.items ++ shown_text M.canonical.text n message.now) }
+    ensures bounded { OnOk result (IfSome message.now M.canonical.bounded) }
+    ensures refused { IfErr result (λ fault. fault ≡ OutOfMemory) }
+    ensures front { KeepsFront out.old.items out.new.items }
+{
+    match message {
+        None => Ok(()),
+        Some(message) => {
+            let mut text = Vec::new(*out.allocator());
+            message.put_members(&mut text)?;
+            put_some(n, &text, out)
+        }
+    }
 }
 
 /// Appends a field for each message.

@@ -5,15 +5,17 @@ use crate::members::take_u32;
 use crate::message::Message;
 use std::alloc::Global;
 
-/// How a column is encoded.
+/// How a column is encoded in a stripe (ORC specification, "Stripe Footer", ColumnEncoding). Its kind
+/// must be there; the size of its dictionary is written for dictionary kinds alone.
 #[derive(Clone, Copy, Debug, PartialEq, Eq)]
 pub struct Encoding {
+    /// 0 DIRECT, 1 DICTIONARY, 2 DIRECT_V2, 3 DICTIONARY_V2.
     pub kind: u32,
+    /// How many entries the dictionary has.
     pub dictionary_size: u32,
 }
 
 impl Message for Encoding {
-    ghost use Rattle.std.specs.Prelude.{ℕ};
     ghost use Rattle.orc_wire.specs.Messages.{encoding};
     ghost use Rattle.orc_wire.specs.CanonicalMessages.{encoding_text, encoding_complete};
 

@@ -1,9 +1,23 @@
 //! Laws of fields and messages. Each function does nothing: its contract is what it is for.
-ghost use Rattle.std.specs.Prelude.{◌≡◌, ℕ, ℤ, ◌++◌, ◌<◌, ◌≤◌, ◌^◌, List, [], Option, Bool, true, false, not, ◌==◌};
-ghost use Rattle.std.specs.Option.{option_map, unwrap_or};
+ghost use Rattle.std.specs.Prelude.{◌≡◌, ℕ, ℤ, ◌++◌, ◌^◌, List, [], Option, Bool, ◌⊎◌, true, false, not, ◌==◌};
+ghost use Rattle.std.specs.List.{AllByRecursion};
+ghost use Rattle.std.specs.Option.{option_map, unwrap_or, IfSome, IsSome};
 ghost use Rattle.orc_bits.specs.Zigzag.{zig};
 ghost use Rattle.orc_wire.specs.declared.fault.WireFault.{WireFault};
+ghost use Rattle.orc_wire.specs.declared.column_stats.ColumnStats.{ColumnStats};
+ghost use Rattle.orc_wire.specs.declared.column_stats.Metadata.{Metadata};
+ghost use Rattle.orc_wire.specs.declared.column_stats.StripeStatistics.{StripeStatistics};
+ghost use Rattle.orc_wire.specs.declared.row_index.RowIndexEntry.{RowIndexEntry};
+ghost use Rattle.orc_wire.specs.declared.row_index.RowIndexMsg.{RowIndexMsg};
 ghost use Rattle.orc_wire.specs.declared.encoding.Encoding.{Encoding};
+ghost use Rattle.orc_wire.specs.declared.footer.Footer.{Footer};
+ghost use Rattle.orc_wire.specs.declared.footer.UserMetadataItem.{UserMetadataItem};
+ghost use Rattle.orc_wire.specs.declared.stats_records.BinaryStatistics.{BinaryStatistics};
+ghost use Rattle.orc_wire.specs.declared.stats_records.BucketStatistics.{BucketStatistics};
+ghost use Rattle.orc_wire.specs.declared.stats_records.DateStatistics.{DateStatistics};
+ghost use Rattle.orc_wire.specs.declared.stats_records.IntegerStatistics.{IntegerStatistics};
+ghost use Rattle.orc_wire.specs.declared.stats_records.StringStatistics.{StringStatistics};
+ghost use Rattle.orc_wire.specs.declared.stripe_info.StripeInfo.{StripeInfo};
 ghost use Rattle.orc_wire.specs.declared.stripe_footer.StreamMsg.{StreamMsg};
 ghost use Rattle.orc_wire.specs.declared.stripe_footer.StripeFooter.{StripeFooter};
 ghost use Rattle.orc_wire.specs.declared.post_script.PostScript.{PostScript};
@@ -12,10 +26,10 @@ ghost use Rattle.orc_wire.specs.Fields.{varint, sized, Item, IsField, IsFields, 
 ghost use Rattle.orc_wire.specs.Spells.{number_in, bytes_in, Spells, Faults};
 ghost use Rattle.orc_wire.specs.Kinds.{number, small, signed, small_signed, flag, text, packed, message, kept_from, last, known, all, each, only};
 ghost use Rattle.orc_wire.specs.Table.{newest, in_order, kept_texts, JoinsParts, JoinsSome, OnlyMessage};
-ghost use Rattle.orc_wire.specs.Messages.{type_msg};
-ghost use Rattle.orc_wire.specs.Canonical.{number_text, sized_text, known_text, list_text, packed_text};
-ghost use Rattle.orc_wire.specs.CanonicalKinds.{AreKept};
-ghost use Rattle.orc_wire.specs.CanonicalMessages.{is_dictionary, encoding_text, stream_text, stripe_footer_text, post_script_text, type_text};
+ghost use Rattle.orc_wire.specs.Messages.{type_msg, footer};
+ghost use Rattle.orc_wire.specs.Canonical.{number_text, sized_text, known_text, list_text, packed_text, shown_text};
+ghost use Rattle.orc_wire.specs.CanonicalKinds.{AreBelow, AreKept, flag_number};
+ghost use Rattle.orc_wire.specs.CanonicalMessages.{is_dictionary, encoding_text, stream_text, stripe_footer_text, post_script_text, type_text, stripe_info_text, user_metadata_text, footer_text, integer_stats_text, string_stats_text, bucket_stats_text, date_stats_text, binary_stats_text, column_stats_text, stripe_stats_text, metadata_text, row_index_entry_text, row_index_text};
 
 use crate::message::Message;
 
@@ -61,13 +75,29 @@ pub fn message_laws<M: Message>()
 
 /// When a message's canonical text holds all of it, so that it reads back: always, but for an
 /// encoding's dictionary size, which is written for dictionary kinds alone, and for kept bytes, which
-/// must be fields with kept numbers. What is read keeps such fields.
+/// must be fields with kept numbers, and for a record of statistics, which is written where one of
+/// its parts is known. What is read keeps such fields.
 pub fn whole_laws()
     ensures stream { (m : StreamMsg) → stream_text.whole m }
     ensures encoding { (m : Encoding) → (is_dictionary m.kind ≡ false → m.dictionary_size ≡ 0) → encoding_text.whole m }
+    ensures directory { (m : StripeFooter) → AllByRecursion encoding_text.whole m.columns → stripe_footer_text.whole m }
     ensures script { (m : PostScript) → post_script_text.whole m }
     ensures type_of_kept { (m : TypeMsg) → AreKept 4 m.kept → type_text.whole m }
     ensures type_read { (base : ℕ) (bytes : List ℕ) (m : TypeMsg) → Spells type_msg 1 base bytes m → AreKept 4 m.kept }
+
+    ensures stripe { (m : StripeInfo) → stripe_info_text.whole m }
+    ensures pair { (m : UserMetadataItem) → user_metadata_text.whole m }
+    ensures footer_of_kept { (m : Footer) → AllByRecursion (λ t. AreKept 4 t.kept) m.types → AllByRecursion column_stats_text.whole m.statistics → AreKept 10 m.kept → footer_text.whole m }
+    ensures footer_read { (base : ℕ) (bytes : List ℕ) (m : Footer) → Spells footer 0 base bytes m → AreKept 10 m.kept × AllByRecursion (λ t. AreKept 4 t.kept) m.types }
+
+    ensures column { (m : ColumnStats) → IfSome m.int_statistics (λ s. integer_stats_text.text s ≡ [] → ⊥) → IfSome m.string_statistics (λ s. string_stats_text.text s ≡ [] → ⊥) → IfSome m.bucket_statistics (λ s. bucket_stats_text.text s ≡ [] → ⊥) → IfSome m.date_statistics (λ s. date_stats_text.text s ≡ [] → ⊥) → IfSome m.binary_statistics (λ s. binary_stats_text.text s ≡ [] → ⊥) → column_stats_text.whole m }
+    ensures integer_shown { (m : IntegerStatistics) → IsSome m.minimum ⊎ (IsSome m.maximum ⊎ IsSome m.sum) → integer_stats_text.text m ≡ [] → ⊥ }
+    ensures string_shown { (m : StringStatistics) → IsSome m.minimum ⊎ (IsSome m.maximum ⊎ IsSome m.sum) → string_stats_text.text m ≡ [] → ⊥ }
+    ensures bucket_shown { (m : BucketStatistics) → AreBelow (2 ^ 64) m.count → (m.count ≡ [] → ⊥) → bucket_stats_text.text m ≡ [] → ⊥ }
+    ensures date_shown { (m : DateStatistics) → IsSome m.minimum ⊎ IsSome m.maximum → date_stats_text.text m ≡ [] → ⊥ }
+    ensures binary_shown { (m : BinaryStatistics) → IsSome m.sum → binary_stats_text.text m ≡ [] → ⊥ }
+    ensures entry { (m : RowIndexEntry) → IfSome m.statistics column_stats_text.whole → row_index_entry_text.whole m }
+    ensures column_shown { (m : ColumnStats) → column_stats_text.text m ≡ [] → ⊥ }
 {}
 
 /// The canonical texts, written out.
@@ -77,5 +107,18 @@ pub fn canonical_laws()
     ensures direct { (m : Encoding) → is_dictionary m.kind ≡ false → encoding_text.text m ≡ number_text 1 m.kind }
     ensures footer { (m : StripeFooter) → stripe_footer_text.text m ≡ list_text (λ s. sized (stream_text.text s)) 1 m.streams ++ list_text (λ e. sized (encoding_text.text e)) 2 m.columns }
     ensures script { (m : PostScript) → post_script_text.text m ≡ number_text 1 m.footer_length ++ (number_text 2 m.compression ++ (packed_text 4 m.version ++ (number_text 5 m.metadata_length ++ (known_text (λ v. varint v) 6 m.writer_version ++ sized_text 8000 m.magic)))) }
+    ensures stripe { (m : StripeInfo) → stripe_info_text.text m ≡ number_text 1 m.offset ++ (number_text 2 m.index_length ++ (number_text 3 m.data_length ++ (number_text 4 m.footer_length ++ number_text 5 m.number_of_rows))) }
+    ensures pair { (m : UserMetadataItem) → user_metadata_text.text m ≡ sized_text 1 m.name ++ sized_text 2 m.value }
+    ensures integers { (m : IntegerStatistics) → integer_stats_text.text m ≡ known_text (λ v. varint (zig v)) 1 m.minimum ++ (known_text (λ v. varint (zig v)) 2 m.maximum ++ known_text (λ v. varint (zig v)) 3 m.sum) }
+    ensures strings { (m : StringStatistics) → string_stats_text.text m ≡ known_text (λ v. sized v) 1 m.minimum ++ (known_text (λ v. sized v) 2 m.maximum ++ known_text (λ v. varint (zig v)) 3 m.sum) }
+    ensures buckets { (m : BucketStatistics) → bucket_stats_text.text m ≡ packed_text 1 m.count }
+    ensures dates { (m : DateStatistics) → date_stats_text.text m ≡ known_text (λ v. varint (zig v)) 1 m.minimum ++ known_text (λ v. varint (zig v)) 2 m.maximum }
+    ensures binaries { (m : BinaryStatistics) → binary_stats_text.text m ≡ known_text (λ v. varint (zig v)) 1 m.sum }
+    ensures column { (m : ColumnStats) → column_stats_text.text m ≡ number_text 1 m.number_of_values ++ (shown_text integer_stats_text.text 2 m.int_statistics ++ (shown_text string_stats_text.text 4 m.string_statistics ++ (shown_text bucket_stats_text.text 5 m.bucket_statistics ++ (shown_text date_stats_text.text 7 m.date_statistics ++ (shown_text binary_stats_text.text 8 m.binary_statistics ++ known_text (λ v. varint (flag_number v)) 10 m.has_null))))) }
+    ensures stripes { (m : StripeStatistics) → stripe_stats_text.text m ≡ list_text (λ c. sized (column_stats_text.text c)) 1 m.col_stats }
+    ensures metadata { (m : Metadata) → metadata_text.text m ≡ list_text (λ s. sized (stripe_stats_text.text s)) 1 m.stripe_stats }
+    ensures entry { (m : RowIndexEntry) → row_index_entry_text.text m ≡ packed_text 1 m.positions ++ shown_text column_stats_text.text 2 m.statistics }
+    ensures index { (m : RowIndexMsg) → row_index_text.text m ≡ list_text (λ e. sized (row_index_entry_text.text e)) 1 m.entries }
+    ensures file { (m : Footer) → footer_text.text m ≡ number_text 1 m.header_length ++ (number_text 2 m.content_length ++ (list_text (λ s. sized (stripe_info_text.text s)) 3 m.stripes ++ (list_text (λ t. sized (type_text.text t)) 4 m.types ++ (list_text (λ p. sized (user_metadata_text.text p)) 5 m.metadata ++ (number_text 6 m.number_of_rows ++ (list_text (λ c. sized (column_stats_text.text c)) 7 m.statistics ++ (number_text 8 m.row_index_stride ++ (known_text (λ v. varint v) 9 m.writer ++ m.kept)))))))) }
     ensures type_of { (m : TypeMsg) → type_text.text m ≡ number_text 1 m.kind ++ (packed_text 2 m.subtypes ++ (list_text (λ t. sized t) 3 m.field_names ++ m.kept)) }
 {}

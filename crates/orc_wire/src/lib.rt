@@ -1,12 +1,15 @@
-//! Protocol Buffers fields and the messages of ORC.
+//! Protocol Buffers fields and the messages of ORC: each message is read where its bytes spell it and
+//! nowhere else, and written as its one canonical text.
 #![tactic(auto)]
 
 mod canonical;
+mod column_stats;
 mod encoding;
 mod fault;
 mod field;
 mod field_writer;
 mod fields;
+mod footer;
 mod inner;
 mod items;
 mod iter;
@@ -15,19 +18,29 @@ mod lists;
 mod members;
 mod message;
 mod post_script;
+mod row_index;
+mod stats_records;
 mod stripe_footer;
+mod stripe_info;
 mod type_msg;
 
+pub use column_stats::{ColumnStats, Metadata, StripeStatistics};
 pub use encoding::Encoding;
 pub use fault::WireFault;
 pub use field::{Field, Value};
 pub use field_writer::FieldWriter;
+pub use footer::{Footer, UserMetadataItem};
 pub use items::{Bytes, Items};
 pub use iter::Fields;
 pub use laws::{canonical_laws, field_laws, message_laws, table_laws, whole_laws};
 pub use message::Message;
 pub use post_script::PostScript;
+pub use row_index::{RowIndexEntry, RowIndexMsg};
+pub use stats_records::{
+    BinaryStatistics, BucketStatistics, DateStatistics, IntegerStatistics, StringStatistics,
+};
 pub use stripe_footer::{StreamMsg, StripeFooter};
+pub use stripe_info::StripeInfo;
 pub use type_msg::TypeMsg;
 
 #[cfg(test)]

@@ -1,4 +1,4 @@
-ghost use Rattle.std.specs.Prelude.{◌≡◌, ℕ, List, [], ◌<◌, ◌^◌, ◌⊎◌, None, IfErr, OnOk, OnErr, IfOk};
+ghost use Rattle.std.specs.Prelude.{◌≡◌, [], ◌^◌, ◌⊎◌, IfErr, OnOk};
 ghost use Rattle.orc_wire.specs.declared.fault.WireFault.TheVariants.{OutOfMemory};
 ghost use Rattle.orc_wire.specs.FieldItem.{item_of};
 ghost use Rattle.orc_wire.specs.Kinds.{text, packed, kept_from, last, known, all, each, FailsWithin, AppendsVarints};
@@ -89,5 +89,56 @@ pub(crate) fn take_packed(slot: &mut Items<u32>, n: u32, field: &Field) -> Resul
         },
         Value::Bytes(bytes) => take_varints(slot, bytes, field.place),
         _ => Ok(()),
+    }
+}
+
+/// The last text, if there is one.
+pub(crate) fn take_known_text(
+    alloc: Global,
+    slot: &mut Option<Bytes>,
+    n: u32,
+    field: &Field,
+) -> Result<(), WireFault>
+    ensures ok { OnOk result ((known (text n)).steps (item_of field.now) slot.old slot.new) }
+    ensures fault { IfErr result (λ fault. fault ≡ OutOfMemory) }
+{
+    if let Some(bytes) = field.bytes(n) {
+        let mut copy = Items::empty(alloc);
+        copy.append(bytes)?;
+        *slot = Some(copy);
+    }
+    Ok(())
+}
+
+/// Adds the numbers of a packed list, of 64 bits.
+fn take_wide_varints(slot: &mut Items<u64>, bytes: &[u8], place: usize) -> Result<(), WireFault>
+    ensures ok { OnOk result (AppendsVarints (2 ^ 64) slot.old slot.new bytes.now) }
+    ensures fault { IfErr result (λ fault. (fault ≡ OutOfMemory) ⊎ FailsWithin (2 ^ 64) bytes.now place fault) }
+{
+    let mut at = 0;
+    while at < bytes.len() {
+        let (_, rest) = bytes.split_at(at);
+        let (value, len) = match read_varint(rest) {
+            Ok(found) => found,
+            Err(fault) => return Err(fault_of(fault, place)),
+        };
+        slot.push(value)?;
+        at += len;
+    }
+    Ok(())
+}
+
+/// All parts of a packed list of 64-bit numbers.
+pub(crate) fn take_packed_u64(slot: &mut Items<u64>, n: u32, field: &Field) -> Result<(), WireFault>
+    ensures ok { OnOk result ((all (packed (2 ^ 64) n)).steps (item_of field.now) slot.old slot.new) }
+    ensures fault { IfErr result (λ fault. (fault ≡ OutOfMemory) ⊎ (all (packed (2 ^ 64) n)).refuses (item_of field.now) slot.old fault) }
+{
+    if field.number != n {
+        return Ok(());
+    }
+    match field.value {
+        Value::Varint(value) => slot.push(value),
+        Value::Bytes(bytes) => take_wide_varints(slot, bytes, field.place),
+        Value::Eight(_) | Value::Four(_) => Ok(()),
     }
 }

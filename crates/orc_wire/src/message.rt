@@ -1,4 +1,4 @@
-ghost use Rattle.std.specs.Prelude.{◌≡◌, ℕ, List, ◌++◌, ◌<◌, ◌≤◌, ◌+◌, ◌^◌, ◌⊎◌, length, take, IfOk, IfErr, OnOk, OnErr, MatchResult};
+ghost use Rattle.std.specs.Prelude.{◌≡◌, ℕ, ◌++◌, ◌+◌, ◌⊎◌, IfOk, IfErr, OnOk, OnErr, MatchResult};
 ghost use Rattle.orc_wire.specs.declared.fault.WireFault.{WireFault};
 ghost use Rattle.orc_wire.specs.declared.fault.WireFault.TheVariants.{OutOfMemory};
 ghost use Rattle.orc_wire.specs.FieldItem.{item_of};
@@ -11,7 +11,11 @@ use crate::field::Field;
 use crate::iter::Fields;
 use std::alloc::Global;
 
-/// A message of ORC.
+/// A message of ORC: what the fields of its bytes say, and its canonical text.
+///
+/// Its members say what a list of fields gives: the last number or text of a field number, the parts
+/// of a list in order, the one message, the kept fields. They are a table line each in `specs/`, and
+/// `take` and `put_members` are a call each.
 pub trait Message: Sized + Drop {
     // what fields say of it
     ghost members: { Member Self };
@@ -69,6 +73,10 @@ pub trait Message: Sized + Drop {
     }
 
     /// The message that the bytes spell.
+    ///
+    /// Refusals: the first field from the left that is none, or that a member refuses, names the
+    /// fault, with the place of its key (of the innermost key, in a message within); `Missing` comes
+    /// last within its message. `OutOfMemory` may come instead.
     final fn read(alloc: Global, bytes: &[u8]) -> Result<Self, WireFault>
         ensures found { IfOk result (λ message. Spells members REQUIRED 0 bytes.now message) }
         ensures only { (content : Self) → Spells members REQUIRED 0 bytes.now content → MatchResult result (λ message. message ≡ content) (λ e. e ≡ OutOfMemory) }

@@ -7,19 +7,24 @@ use crate::members::{take_known_u32, take_u32, take_u64};
 use crate::message::Message;
 use std::alloc::Global;
 
-/// The end of a file.
+/// The end of a file (ORC specification, "Postscript").
 #[derive(Debug, Drop)]
 pub struct PostScript {
+    /// How many bytes the footer has.
     pub footer_length: u64,
+    /// 0 where nothing is compressed.
     pub compression: u32,
+    /// The version of the format, as 0 and 11.
     pub version: Items<u32>,
+    /// How many bytes the metadata has.
     pub metadata_length: u64,
+    /// The version of the writer.
     pub writer_version: Option<u32>,
+    /// `ORC` in a file that is right.
     pub magic: Bytes,
 }
 
 impl Message for PostScript {
-    ghost use Rattle.std.specs.Prelude.{ℕ};
     ghost use Rattle.orc_wire.specs.Messages.{post_script};
     ghost use Rattle.orc_wire.specs.CanonicalMessages.{post_script_text, post_script_complete};
 

@@ -8,16 +8,18 @@ use crate::members::{take_u32, take_u64};
 use crate::message::Message;
 use std::alloc::Global;
 
-/// A stream of a stripe.
+/// A stream of a stripe (ORC specification, "Stripe Footer", Stream). Its kind must be there.
 #[derive(Clone, Copy, Debug, PartialEq, Eq)]
 pub struct StreamMsg {
+    /// What it holds: 0 for PRESENT to 8 for BLOOM_FILTER_UTF8.
     pub kind: u32,
+    /// The column that it belongs to.
     pub column: u32,
+    /// How many bytes it has.
     pub length: u64,
 }
 
 impl Message for StreamMsg {
-    ghost use Rattle.std.specs.Prelude.{ℕ};
     ghost use Rattle.orc_wire.specs.Messages.{stream};
     ghost use Rattle.orc_wire.specs.CanonicalMessages.{stream_text, stream_complete};
 
@@ -53,15 +55,16 @@ impl Message for StreamMsg {
     ghost complete = { stream_complete };
 }
 
-/// The directory of a stripe.
+/// The directory of a stripe (ORC specification, "Stripe Footer").
 #[derive(Debug, Drop)]
 pub struct StripeFooter {
+    /// The streams, in the order of their bytes.
     pub streams: Items<StreamMsg>,
+    /// The encodings of the columns, in the order of the types.
     pub columns: Items<Encoding>,
 }
 
 impl Message for StripeFooter {
-    ghost use Rattle.std.specs.Prelude.{ℕ};
     ghost use Rattle.orc_wire.specs.Messages.{stripe_footer};
     ghost use Rattle.orc_wire.specs.CanonicalMessages.{stripe_footer_text, stripe_footer_complete};
 

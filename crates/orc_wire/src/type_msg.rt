@@ -21,7 +21,6 @@ pub struct TypeMsg {
 }
 
 impl Message for TypeMsg {
-    ghost use Rattle.std.specs.Prelude.{ℕ};
     ghost use Rattle.orc_wire.specs.Messages.{type_msg};
     ghost use Rattle.orc_wire.specs.CanonicalMessages.{type_text, type_complete};
 

@@ -1,6 +1,6 @@
 use Rattle.orc_wire.specs.CanonicalKinds.{says_kept}
 use Rattle.orc_wire.specs.CanonicalMessages.{is_dictionary}
-use Rattle.orc_wire.proofs.WholeLaws.{encoding_whole}
+use Rattle.orc_wire.proofs.WholeLaws.{encoding_whole, footer_whole, footer_kept, column_whole, directory_whole, entry_whole, integer_shown, string_shown, bucket_shown, date_shown, binary_shown, column_shown}
 use Rattle.orc_wire.proofs.laws.whole_laws.Goals as goal
 
 pub returns-clause-encoding : goal.returns-clause-encoding
@@ -8,3 +8,36 @@ returns-clause-encoding c = λ m h. encoding_whole (is_dictionary m.kind) m h
 
 pub returns-clause-type_read : goal.returns-clause-type_read
 returns-clause-type_read c = λ base bytes m is. says_kept 4 base is.fields bytes m.kept is.are is.says.1.1.1
+
+pub returns-clause-footer_of_kept : goal.returns-clause-footer_of_kept
+returns-clause-footer_of_kept c = footer_whole
+
+pub returns-clause-footer_read : goal.returns-clause-footer_read
+returns-clause-footer_read c = footer_kept
+
+pub returns-clause-column : goal.returns-clause-column
+returns-clause-column c = column_whole
+
+pub returns-clause-integer_shown : goal.returns-clause-integer_shown
+returns-clause-integer_shown c = integer_shown
+
+pub returns-clause-string_shown : goal.returns-clause-string_shown
+returns-clause-string_shown c = string_shown
+
+pub returns-clause-bucket_shown : goal.returns-clause-bucket_shown
+returns-clause-bucket_shown c = bucket_shown
+
+pub returns-clause-date_shown : goal.returns-clause-date_shown
+returns-clause-date_shown c = date_shown
+
+pub returns-clause-binary_shown : goal.returns-clause-binary_shown
+returns-clause-binary_shown c = binary_shown
+
+pub returns-clause-column_shown : goal.returns-clause-column_shown
+returns-clause-column_shown c = column_shown
+
+pub returns-clause-directory : goal.returns-clause-directory
+returns-clause-directory c = directory_whole
+
+pub returns-clause-entry : goal.returns-clause-entry
+returns-clause-entry c = entry_whole
