@@ -300,9 +300,10 @@ joined_end (g ∷ gs) = ap (field g.0 g.1) (joined_end gs)
 pub record Reached (ts : List TypeMsg) (from d : ℕ) (subtypes : List ℕ) (names : List (List ℕ)) (gs : List (List ℕ × Shape)) (left : List ℕ) (named : List (List ℕ)) (next : ℕ) : Type 0 where
   pub whole : (fs : Fields) (e : ℕ) → FoundFields ts next d left named fs e → FoundFields ts from d subtypes names (joined gs fs) e
   pub none : NoFieldsAt ts next left named → NoFieldsAt ts from subtypes names
+  pub later : from ≤ next
 
 pub reached_none : (ts : List TypeMsg) (from d : ℕ) (subtypes : List ℕ) (names : List (List ℕ)) → Reached ts from d subtypes names [] subtypes names from
-reached_none ts from d subtypes names = record { whole = λ fs e h. h; none = λ h. h }
+reached_none ts from d subtypes names = record { whole = λ fs e h. h; none = λ h. h; later = omega arith }
 
 pub reached_more : (ts : List TypeMsg) (from d : ℕ) (subtypes : List ℕ) (names : List (List ℕ)) (gs : List (List ℕ × Shape)) (i next e : ℕ) (name : List ℕ) (s : Shape)
     → i < length subtypes → i < length names → get_or subtypes i 0 ≡ next → get_or names i [] ≡ name → is_utf8 name ≡ true → Found ts next d s e
@@ -314,6 +315,7 @@ reached_more ts from d subtypes names gs i next e name s h k here called u found
     record {
       whole = λ fs z more. rw (joined_push gs (name, s) fs) (r.whole (field name s fs) z (rw (ss, ns) (one_more ts next e z d name s fs _ _ u found more)));
       none = λ later. r.none (rw (ss, ns) (next_none ts next d e s name _ _ found later));
+      later = omega (arith, r.later, found.ends_at);
     }
 
 pub reached_all : (ts : List TypeMsg) (from d : ℕ) (subtypes : List ℕ) (names : List (List ℕ)) (gs : List (List ℕ × Shape)) (i next : ℕ) → length subtypes ≤ i → length names ≤ i
@@ -356,7 +358,7 @@ field_fault ts from d ss names gs i next (fault.UnsupportedKind k) h here r bad 
 field_fault ts from d ss names gs i next fault.BadTree h here r bad =
     r.none (rw (drop-cons ss i 0 h) (child_none ts next (get_or ss i 0) (drop (suc i) ss) (drop i names) bad))
 field_fault ts from d ss names gs i next fault.TooDeep h here r bad =
-    record { below = next; index = i; subtype = slice_get_within ss i 0 h ∙ ap Some here; deeper = bad }
+    record { below = next; index = i; subtype = slice_get_within ss i 0 h ∙ ap Some here; later = r.later; deeper = bad }
 field_fault ts from d ss names gs i next fault.TooMany h here r bad = absurd bad
 field_fault ts from d ss names gs i next fault.RootNotStruct h here r bad = absurd bad
 field_fault ts from d ss names gs i next (fault.BadText place) h here r bad = (bad.0, inr bad.1)
@@ -370,7 +372,7 @@ deeper ts n below (suc d) p is way = (below, is, rw sub-one at way)
 pub list_fault : (ts : List TypeMsg) (n d : ℕ) (y : TypeMsg) (f : TypeFault) → 0 < d → slice_get ts n ≡ Some y → y.kind ≡ 10 → y.subtypes ≡ (n + 1) ∷ [] → PlaceFault ts (n + 1) (d - 1) f → PlaceFault ts n d f
 list_fault ts n d y (fault.UnsupportedKind k) p at is ss bad = bad
 list_fault ts n d y fault.BadTree p at is ss bad = list_none ts n y at is bad
-list_fault ts n d y fault.TooDeep p at is ss bad = deeper ts n (n + 1) d p record { type = y; index = 0; stands = at; subtype = ap (λ xs. slice_get xs 0) ss } bad
+list_fault ts n d y fault.TooDeep p at is ss bad = deeper ts n (n + 1) d p record { type = y; index = 0; stands = at; subtype = ap (λ xs. slice_get xs 0) ss; later = omega arith } bad
 list_fault ts n d y fault.TooMany p at is ss bad = bad
 list_fault ts n d y fault.RootNotStruct p at is ss bad = bad
 list_fault ts n d y (fault.BadText place) p at is ss bad = bad
@@ -380,11 +382,11 @@ list_fault ts n d y fault.OutOfMemory p at is ss bad = tt
 pub struct_fault : (ts : List TypeMsg) (n d : ℕ) (y : TypeMsg) (f : TypeFault) → 0 < d → slice_get ts n ≡ Some y → y.kind ≡ 12 → FieldsFault ts (n + 1) (d - 1) y.subtypes y.field_names f → PlaceFault ts n d f
 struct_fault ts n d y (fault.UnsupportedKind k) p at is bad = bad
 struct_fault ts n d y fault.BadTree p at is bad = struct_none ts n y at is bad
-struct_fault ts n d y fault.TooDeep p at is bad = deeper ts n bad.below d p record { type = y; index = bad.index; stands = at; subtype = bad.subtype } bad.deeper
+struct_fault ts n d y fault.TooDeep p at is bad = deeper ts n bad.below d p record { type = y; index = bad.index; stands = at; subtype = bad.subtype; later = omega (arith, bad.later) } bad.deeper
 struct_fault ts n d y fault.TooMany p at is bad = bad
 struct_fault ts n d y fault.RootNotStruct p at is bad = bad
 struct_fault ts n d y (fault.BadText place) p at is (zero_place, inl among) =
-    (zero_place, record { place = n; type = y; index = among.index; name = among.name; stands = at; named = among.named; bad = among.bad })
+    (zero_place, record { place = n; type = y; index = among.index; name = among.name; stands = at; named = among.named; is_struct = is; bad = among.bad })
 struct_fault ts n d y (fault.BadText place) p at is (zero_place, inr bad) = (zero_place, bad)
 struct_fault ts n d y fault.OutOfMemory p at is bad = tt
 

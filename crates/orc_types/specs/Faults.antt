@@ -22,19 +22,20 @@ pub record IsNoTree (ts : List TypeMsg) : Type 0 where
   pub kinds : AllByRecursion (λ t. IsKind t.kind) ts
   pub none : (s : Shape) → ts ≡ types s 0 → ⊥
 
--- one type is a subtype of another
+-- one type is a subtype of another, and listed behind it
 pub record IsBelow (ts : List TypeMsg) (above below : ℕ) : Type 0 where
   pub type : TypeMsg
   pub index : ℕ
   pub stands : slice_get ts above ≡ Some type
   pub subtype : slice_get type.subtypes index ≡ Some below
+  pub later : above < below
 
 -- a way down from a type, of so many steps
 abbrev pub Descends : List TypeMsg → ℕ → ℕ → Type 0
 Descends ts at zero = Unit {0}
 Descends ts at (suc steps) = (below : ℕ) × IsBelow ts at below × Descends ts below steps
 
--- some field's name isn't text in UTF-8
+-- some STRUCT's field has a name that isn't text in UTF-8
 pub record HasBadName (ts : List TypeMsg) : Type 0 where
   pub place : ℕ
   pub type : TypeMsg
@@ -42,6 +43,7 @@ pub record HasBadName (ts : List TypeMsg) : Type 0 where
   pub name : List ℕ
   pub stands : slice_get ts place ≡ Some type
   pub named : slice_get type.field_names index ≡ Some name
+  pub is_struct : type.kind ≡ struct_number
   pub bad : is_utf8 name ≡ false
 
 -- there is a first type only if it is no STRUCT

@@ -59,18 +59,19 @@ PlaceFault ts n d fault.RootNotStruct = ⊥
 PlaceFault ts n d (fault.BadText place) = (place ≡ 0) × HasBadName ts
 PlaceFault ts n d fault.OutOfMemory = Unit {0}
 
--- a way down from one of the subtypes
-pub record FieldDescends (ts : List TypeMsg) (subtypes : List ℕ) (d : ℕ) : Type 0 where
+-- a way down from one of the subtypes, none of which begins before a place
+pub record FieldDescends (ts : List TypeMsg) (n : ℕ) (subtypes : List ℕ) (d : ℕ) : Type 0 where
   pub below : ℕ
   pub index : ℕ
   pub subtype : slice_get subtypes index ≡ Some below
+  pub later : n ≤ below
   pub deeper : Descends ts below d
 
 -- why there are no such fields
 abbrev pub FieldsFault : List TypeMsg → ℕ → ℕ → List ℕ → List (List ℕ) → TypeFault → Type 0
 FieldsFault ts n d subtypes names (fault.UnsupportedKind k) = HasForeignKind ts k
 FieldsFault ts n d subtypes names fault.BadTree = NoFieldsAt ts n subtypes names
-FieldsFault ts n d subtypes names fault.TooDeep = FieldDescends ts subtypes d
+FieldsFault ts n d subtypes names fault.TooDeep = FieldDescends ts n subtypes d
 FieldsFault ts n d subtypes names fault.TooMany = ⊥
 FieldsFault ts n d subtypes names fault.RootNotStruct = ⊥
 FieldsFault ts n d subtypes names (fault.BadText place) = (place ≡ 0) × (HasBadAmong names ⊎ HasBadName ts)

@@ -1,6 +1,5 @@
 -- The text of a schema, as ORC's tools write it (ORC specification, "Types": the example's schema text).
-use Rattle.std.specs.Prelude.{◌≡◌, ℕ, List, [], ◌∷◌, ◌++◌, Bool, true, false, ◌&&◌, ◌||◌, ◌==◌, nat_le, codes}
-use Rattle.std.specs.List.{AllByRecursion}
+use Rattle.std.specs.Prelude.{ℕ, List, [], ◌∷◌, ◌++◌, Bool, true, false, codes}
 use Rattle.orc_types.specs.declared.kind.Scalar.{Scalar}
 use Rattle.orc_types.specs.declared.kind.Scalar.TheVariants as kind
 use Rattle.orc_types.specs.Shapes.{Shape, scalar, list_of, struct_of, Fields, no_field, field}
@@ -32,23 +31,3 @@ abbrev mutual
   pub fields_text : Bool → Fields → List ℕ
   fields_text first no_field = []
   fields_text first (field name s fs) = comma first ++ name ++ colon ++ text s ++ fields_text false fs
-
--- an ASCII letter, a digit or an underscore
-abbrev pub is_word : ℕ → Bool
-is_word b = (nat_le 48 b && nat_le b 57) || (nat_le 65 b && nat_le b 90) || (b == 95) || (nat_le 97 b && nat_le b 122)
-
--- one or more of these
-abbrev pub IsName : List ℕ → Type 0
-IsName [] = ⊥
-IsName (b ∷ bs) = AllByRecursion (λ x. is_word x ≡ true) (b ∷ bs)
-
--- what a text can say: names of that kind, and nothing kept
-abbrev mutual
-  pub IsPlain : Shape → Type 0
-  IsPlain (scalar k o) = o ≡ []
-  IsPlain (list_of s o) = (o ≡ []) × IsPlain s
-  IsPlain (struct_of fs o) = (o ≡ []) × ArePlain fs
-
-  pub ArePlain : Fields → Type 0
-  ArePlain no_field = Unit {0}
-  ArePlain (field name s fs) = IsName name × IsPlain s × ArePlain fs

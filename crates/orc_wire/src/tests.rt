@@ -17,6 +17,15 @@ const SCRIPTS: [[u8; 19]; 3] = [
     ],
 ];
 
+/// Whether memory was wanted, which a test with memory to spare allows once at most.
+fn is_first_refusal(fault: WireFault, refused: &mut bool) -> bool {
+    let first = fault == WireFault::OutOfMemory && !*refused;
+    if first {
+        *refused = true;
+    }
+    first
+}
+
 /// The message of the text, and its canonical text.
 fn both_ways<M: Message>(alloc: Global, text: &[u8]) -> Result<(M, Vec<u8>), WireFault> {
     let message = M::read(alloc, text)?;
@@ -102,13 +111,14 @@ fn numbers_alone(rt: HostRuntime) {
 #[test]
 fn written_and_read(rt: HostRuntime) {
     let alloc = rt.alloc();
+    let mut refused = false;
     let footers = [(36, 0), (56, 22), (68, 44)];
     for (text, (footer, metadata)) in SCRIPTS.iter().zip(footers) {
         let (script, out) = match both_ways::<PostScript>(alloc, text) {
             Ok(both) => both,
             Err(fault) => {
-                assert_eq!(rt; fault, WireFault::OutOfMemory);
-                return;
+                assert!(rt; is_first_refusal(fault, &mut refused), "{fault}");
+                continue;
             }
         };
         assert_eq!(rt; out.as_slice(), text.as_slice());
@@ -127,7 +137,7 @@ fn written_and_read(rt: HostRuntime) {
     let (footer, out) = match both_ways::<StripeFooter>(alloc, &directory) {
         Ok(both) => both,
         Err(fault) => {
-            assert_eq!(rt; fault, WireFault::OutOfMemory);
+            assert!(rt; is_first_refusal(fault, &mut refused), "{fault}");
             return;
         }
     };
@@ -146,7 +156,7 @@ fn written_and_read(rt: HostRuntime) {
     for text in texts {
         match both_ways::<TypeMsg>(alloc, text) {
             Ok((_message, out)) => assert_eq!(rt; out.as_slice(), text),
-            Err(fault) => assert_eq!(rt; fault, WireFault::OutOfMemory),
+            Err(fault) => assert!(rt; is_first_refusal(fault, &mut refused), "{fault}"),
         }
     }
     let encodings: [(u32, &[u8]); 4] = [
@@ -164,7 +174,7 @@ fn written_and_read(rt: HostRuntime) {
         match encoding.put(&mut out) {
             Ok(()) => assert_eq!(rt; out.as_slice(), text),
             Err(fault) => {
-                assert_eq!(rt; fault, WireFault::OutOfMemory);
+                assert!(rt; is_first_refusal(fault, &mut refused), "{fault}");
                 assert_eq!(rt; out.len(), 0);
             }
         }
@@ -174,16 +184,21 @@ fn written_and_read(rt: HostRuntime) {
 #[test]
 fn lists_kept_fields_and_inner_places(rt: HostRuntime) {
     let alloc = rt.alloc();
+    let mut refused = false;
     // a packed list plain, packed and in three parts, before and behind other fields
     let version = [
         0x20, 0x00, 0x22, 0x02, 0x0b, 0x05, 0x08, 0x01, 0x22, 0x00, 0x20, 0x07,
     ];
+    match PostScript::read(alloc, &[0x20, 0x00, 0x20, 0x0b]) {
+        Ok(script) => assert_eq!(rt; script.version.as_slice(), [0, 11].as_slice()),
+        Err(fault) => assert!(rt; is_first_refusal(fault, &mut refused), "{fault}"),
+    }
     match PostScript::read(alloc, &version) {
         Ok(script) => {
             assert_eq!(rt; script.version.as_slice(), [0, 11, 5, 7].as_slice());
             assert_eq!(rt; (script.footer_length, script.writer_version), (1, None));
         }
-        Err(fault) => assert_eq!(rt; fault, WireFault::OutOfMemory),
+        Err(fault) => assert!(rt; is_first_refusal(fault, &mut refused), "{fault}"),
     }
     // kept fields between known ones
     let kept = [
@@ -194,6 +209,7 @@ fn lists_kept_fields_and_inner_places(rt: HostRuntime) {
         Ok(message) => {
             assert_eq!(rt; message.kind, 12);
             assert_eq!(rt; message.subtypes.as_slice(), [1].as_slice());
+            assert_eq!(rt; message.field_names.as_slice().len(), 1);
             for name in message.field_names.as_slice() {
                 assert_eq!(rt; name.as_slice(), b"n".as_slice());
             }
@@ -202,7 +218,7 @@ fn lists_kept_fields_and_inner_places(rt: HostRuntime) {
             let back = Items::from_vec(message.kept.into_vec());
             assert_eq!(rt; back.as_slice(), fields.as_slice());
         }
-        Err(fault) => assert_eq!(rt; fault, WireFault::OutOfMemory),
+        Err(fault) => assert!(rt; is_first_refusal(fault, &mut refused), "{fault}"),
     }
     let footers: [(&[u8], WireFault); 6] = [
         (&[0x0a, 0x02, 0x08, 0x80], WireFault::Short(2)),
@@ -229,7 +245,7 @@ fn lists_kept_fields_and_inner_places(rt: HostRuntime) {
     for (text, answer) in footers {
         match StripeFooter::read(alloc, text) {
             Ok(_) => assert!(rt; false, "of {text:?}"),
-            Err(WireFault::OutOfMemory) => {}
+            Err(fault) if is_first_refusal(fault, &mut refused) => {}
             Err(fault) => assert_eq!(rt; fault, answer, "of {text:?}"),
         }
     }
@@ -249,12 +265,15 @@ fn fields_and_their_writer(rt: HostRuntime) {
     ];
     let mut out = Vec::new(rt.alloc());
     let mut writer = FieldWriter::new(&mut out);
+    let mut refused = false;
     for (number, value) in fields {
-        if writer.put(number, value).is_err() {
+        if let Err(fault) = writer.put(number, value) {
+            assert!(rt; is_first_refusal(fault, &mut refused), "{fault}");
             return;
         }
     }
     assert_eq!(rt; out.as_slice(), text.as_slice());
+    assert_eq!(rt; Fields::new(&text).count(), 4);
     let places = [0, 3, 13, 19];
     for (read, ((number, value), place)) in Fields::new(&text).zip(fields.iter().zip(places)) {
         match read {
@@ -290,6 +309,7 @@ fn fields_and_their_writer(rt: HostRuntime) {
 #[test]
 fn footers_both_ways(rt: HostRuntime) {
     let alloc = rt.alloc();
+    let mut refused = false;
     // of a file without rows, of one stripe and of two; and one with a user's pair whose value is
     // empty, a writer, and unknown fields
     let footers: [(&[u8], (u64, u64, Option<u32>)); 4] = [
@@ -335,7 +355,7 @@ fn footers_both_ways(rt: HostRuntime) {
                 assert_eq!(rt; is, seen, "of {text:?}");
                 assert_eq!(rt; out.as_slice(), text);
             }
-            Err(fault) => assert_eq!(rt; fault, WireFault::OutOfMemory),
+            Err(fault) => assert!(rt; is_first_refusal(fault, &mut refused), "{fault}"),
         }
     }
     // unknown fields between known ones, and a known number with another wire type
@@ -348,11 +368,11 @@ fn footers_both_ways(rt: HostRuntime) {
             let kept = &[0x58, 0x01, 0x62, 0x01, 0xff, 0xc0, 0xb8, 0x02, 0x05];
             assert_eq!(rt; footer.kept.as_slice(), kept.as_slice());
         }
-        Err(fault) => assert_eq!(rt; fault, WireFault::OutOfMemory),
+        Err(fault) => assert!(rt; is_first_refusal(fault, &mut refused), "{fault}"),
     }
     match Footer::read(alloc, &[0x3a, 0x04, 0x12, 0x02, 0x08, 0x80]) {
         Ok(_footer) => assert!(rt; false),
-        Err(WireFault::OutOfMemory) => {}
+        Err(fault) if is_first_refusal(fault, &mut refused) => {}
         Err(fault) => assert_eq!(rt; fault, WireFault::Short(4)),
     }
 }
@@ -360,21 +380,33 @@ fn footers_both_ways(rt: HostRuntime) {
 #[test]
 fn statistics_both_ways(rt: HostRuntime) {
     let alloc = rt.alloc();
+    let mut refused = false;
     let metadata = &[
         0x0a, 0x14, 0x0a, 0x04, 0x08, 0x03, 0x50, 0x00, 0x0a, 0x0c, 0x08, 0x03, 0x12, 0x06, 0x08,
         0x0e, 0x10, 0x0e, 0x18, 0x2a, 0x50, 0x00,
     ];
-    match both_ways::<Metadata>(alloc, metadata) {
-        Ok((_message, out)) => assert_eq!(rt; out.as_slice(), metadata.as_slice()),
-        Err(fault) => assert_eq!(rt; fault, WireFault::OutOfMemory),
+    // of a file without stripes, of one and of two
+    let twice = [*metadata, *metadata];
+    let all = twice.as_flattened();
+    for (text, stripes) in [(&all[..0], 0), (&all[..22], 1), (all, 2)] {
+        match both_ways::<Metadata>(alloc, text) {
+            Ok((message, out)) => {
+                assert_eq!(rt; message.stripe_stats.as_slice().len(), stripes);
+                assert_eq!(rt; out.as_slice(), text);
+            }
+            Err(fault) => assert!(rt; is_first_refusal(fault, &mut refused), "{fault}"),
+        }
     }
     let index = &[
         0x0a, 0x12, 0x0a, 0x02, 0x00, 0x00, 0x12, 0x0c, 0x08, 0x02, 0x12, 0x06, 0x08, 0x02, 0x10,
         0x04, 0x18, 0x06, 0x50, 0x00,
     ];
     match both_ways::<RowIndexMsg>(alloc, index) {
-        Ok((_message, out)) => assert_eq!(rt; out.as_slice(), index.as_slice()),
-        Err(fault) => assert_eq!(rt; fault, WireFault::OutOfMemory),
+        Ok((message, out)) => {
+            assert_eq!(rt; message.entries.as_slice().len(), 1);
+            assert_eq!(rt; out.as_slice(), index.as_slice());
+        }
+        Err(fault) => assert!(rt; is_first_refusal(fault, &mut refused), "{fault}"),
     }
     // a record of each kind, some with a part missing, and 2^64-1 values; a record without a part
     // is not written
@@ -415,7 +447,7 @@ fn statistics_both_ways(rt: HostRuntime) {
     for (text, canonical) in columns {
         match both_ways::<ColumnStats>(alloc, text) {
             Ok((_message, out)) => assert_eq!(rt; out.as_slice(), canonical),
-            Err(fault) => assert_eq!(rt; fault, WireFault::OutOfMemory, "of {text:?}"),
+            Err(fault) => assert!(rt; is_first_refusal(fault, &mut refused), "of {text:?}"),
         }
     }
     match ColumnStats::read(
@@ -431,7 +463,7 @@ fn statistics_both_ways(rt: HostRuntime) {
             };
             assert_eq!(rt; stats.int_statistics, Some(integers));
         }
-        Err(fault) => assert_eq!(rt; fault, WireFault::OutOfMemory),
+        Err(fault) => assert!(rt; is_first_refusal(fault, &mut refused), "{fault}"),
     }
     let faults: [(&[u8], WireFault); 5] = [
         (&[0x12, 0x00, 0x12, 0x00], WireFault::RepeatedMessage(2)),
@@ -449,7 +481,7 @@ fn statistics_both_ways(rt: HostRuntime) {
     for (text, answer) in faults {
         match ColumnStats::read(alloc, text) {
             Ok(_stats) => assert!(rt; false, "of {text:?}"),
-            Err(WireFault::OutOfMemory) => {}
+            Err(fault) if is_first_refusal(fault, &mut refused) => {}
             Err(fault) => assert_eq!(rt; fault, answer, "of {text:?}"),
         }
     }

@@ -80,8 +80,92 @@ const STRUCT_ROWS: [Token; 8] = [
     Struct(1),
 ];
 
+/// A struct of a list of structs of one number: `struct<a:array<struct<n:int>>>`.
+const STRUCTS_IN_LISTS: [Listed; 4] = [
+    (12, &[1], &[b"a"]),
+    (10, &[2], &[]),
+    (12, &[3], &[b"n"]),
+    (3, &[], &[]),
+];
+
+/// A list of a struct of 1, a struct of null, and null; a list that is null; a row that is null; a
+/// list of nothing.
+const STRUCTS_IN_LISTS_ROWS: [Token; 12] = [
+    Int(1),
+    Struct(1),
+    Null,
+    Struct(1),
+    Null,
+    List(3),
+    Struct(1),
+    Null,
+    Struct(1),
+    Null,
+    List(0),
+    Struct(1),
+];
+
+/// A value of each kind.
+const KINDS_ROW: [Token; 12] = [
+    Truth,
+    Int(1),
+    Int(2),
+    Int(3),
+    Int(4),
+    Text,
+    Blob,
+    Int(8),
+    Int(9),
+    List(2),
+    Date(3),
+    Struct(9),
+];
+
 /// A schema's types, rows, a column, and its cells.
-const CELLS: [(&'static [Listed], &'static [Token], usize, &'static [Token]); 9] = [
+const CELLS: [(&'static [Listed], &'static [Token], usize, &'static [Token]); 23] = [
+    (&STRUCTS, &STRUCT_ROWS, 0, &STRUCT_ROWS),
+    (&LISTS, &[Null, List(1), List(1), Struct(1)], 3, &[Null]),
+    (
+        &STRUCTS_IN_LISTS,
+        &STRUCTS_IN_LISTS_ROWS,
+        0,
+        &STRUCTS_IN_LISTS_ROWS,
+    ),
+    (
+        &STRUCTS_IN_LISTS,
+        &STRUCTS_IN_LISTS_ROWS,
+        1,
+        &[
+            Int(1),
+            Struct(1),
+            Null,
+            Struct(1),
+            Null,
+            List(3),
+            Null,
+            List(0),
+        ],
+    ),
+    (
+        &STRUCTS_IN_LISTS,
+        &STRUCTS_IN_LISTS_ROWS,
+        2,
+        &[Int(1), Struct(1), Null, Struct(1), Null],
+    ),
+    (
+        &STRUCTS_IN_LISTS,
+        &STRUCTS_IN_LISTS_ROWS,
+        3,
+        &[Int(1), Null],
+    ),
+    (&KINDS, &KINDS_ROW, 0, &KINDS_ROW),
+    (&KINDS, &KINDS_ROW, 1, &[Truth]),
+    (&KINDS, &KINDS_ROW, 2, &[Int(1)]),
+    (&KINDS, &KINDS_ROW, 3, &[Int(2)]),
+    (&KINDS, &KINDS_ROW, 4, &[Int(3)]),
+    (&KINDS, &KINDS_ROW, 6, &[Text]),
+    (&KINDS, &KINDS_ROW, 7, &[Blob]),
+    (&KINDS, &KINDS_ROW, 8, &[Int(8), Int(9), List(2)]),
     (&LISTS, &LIST_ROWS, 0, &LIST_ROWS),
     (
         &LISTS,
@@ -218,6 +302,30 @@ const FITTING: [(Token, &'static [usize]); 19] = [
     (Date(i32::MIN), &[8]),
 ];
 
+/// A schema's types, a row, and whether it fits: within a list of lists, and within an inner struct.
+const NESTED: [(&'static [Listed], &'static [Token], bool); 8] = [
+    (
+        &LISTS,
+        &[Int(2147483647), List(1), List(1), Struct(1)],
+        true,
+    ),
+    (
+        &LISTS,
+        &[Int(2147483648), List(1), List(1), Struct(1)],
+        false,
+    ),
+    (
+        &LISTS,
+        &[Int(0), Int(-2147483649), List(2), List(1), Struct(1)],
+        false,
+    ),
+    (&LISTS, &[Null, List(1), Null, List(2), Struct(1)], true),
+    (&LISTS, &[Int(1), List(1), Struct(1)], false),
+    (&STRUCTS, &[Int(-2147483648), Struct(1), Struct(1)], true),
+    (&STRUCTS, &[Int(2147483648), Struct(1), Struct(1)], false),
+    (&STRUCTS, &[Null, Null, Struct(2), Struct(1)], false),
+];
+
 /// The value of a token that stands for no list and no struct.
 fn value_of(token: Token) -> Row<'static> {
     match token {
@@ -277,6 +385,12 @@ fn check_ranges(rt: &impl Abort, alloc: Global) -> Result<(), TypeFault> {
             let rows = rows_of(alloc, &tokens)?;
             assert_eq!(rt; rows.len(), 1);
             assert_eq!(rt; fits(&schema, &rows[0]), fields.contains(&at), "at {at}");
+        }
+    }
+    for (types, tokens, fitting) in NESTED {
+        let nesting = schema_of(alloc, types)?;
+        for row in rows_of(alloc, tokens)? {
+            assert_eq!(rt; fits(&nesting, &row), fitting);
         }
     }
     for row in rows_of(alloc, &[Null, Struct(1), List(0), Truth])? {
