@@ -5,3 +5,6 @@ pub mod Exclusion
 pub mod Together
 pub mod KeptFields
 pub mod Texts
+pub mod JsonLeaves
+pub mod JsonFronts
+pub mod JsonLaws

@@ -11,3 +11,8 @@ pub mod Views
 pub mod Preorder
 pub mod Lent
 pub mod SchemaText
+pub mod FieldNames
+pub mod JsonLeaves
+pub mod JsonRows
+pub mod JsonPrinting
+pub mod JsonFaults
