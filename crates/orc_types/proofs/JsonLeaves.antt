@@ -5,7 +5,6 @@ use Rattle.orc_types.specs.declared.kind.Scalar.{Scalar}
 use Rattle.orc_types.specs.Cells.{Atom}
 use Rattle.orc_types.specs.Fits.{atom_fits}
 use Rattle.orc_types.specs.JsonLeaves.{atom_json, LeafSpells, IsMisfit, IsOutOfRange, IsBadDate, IsBadHex}
-use Rattle.orc_types.specs.JsonPrinting.{AtomHasBytes}
 
 pub one_leaf : (k : Scalar) (d : Data) (a b : Atom) → LeafSpells k d a → LeafSpells k d b → a ≡ b
 one_leaf = ?
@@ -13,7 +12,7 @@ one_leaf = ?
 pub leaf_fits : (k : Scalar) (d : Data) (a : Atom) → LeafSpells k d a → atom_fits k a ≡ true
 leaf_fits = ?
 
-pub leaf_back : (k : Scalar) (a : Atom) → AtomHasBytes a → atom_fits k a ≡ true → LeafSpells k (atom_json a) a
+pub leaf_back : (k : Scalar) (a : Atom) → atom_fits k a ≡ true → LeafSpells k (atom_json a) a
 leaf_back = ?
 
 pub null_no_leaf : (k : Scalar) (a : Atom) → LeafSpells k nothing a → ⊥

@@ -8,3 +8,6 @@ pub mod Texts
 pub mod JsonLeaves
 pub mod JsonFronts
 pub mod JsonLaws
+pub mod JsonPrints
+pub mod Bytes
+pub mod JsonBack

@@ -1,8 +1,8 @@
 -- stub
 use Rattle.std.specs.Prelude.{ℕ, ℤ, List, ◌≡◌}
-use Rattle.serde_json.specs.Data.{Data, null as nothing}
+use Rattle.serde_json.specs.Data.{Data, null as nothing, boolean}
 use Rattle.orc_types.specs.declared.kind.Scalar.{Scalar}
-use Rattle.orc_types.specs.Cells.{Atom}
+use Rattle.orc_types.specs.Cells.{Atom, Cell, null, leaf, list, struct}
 use Rattle.orc_types.specs.declared.json_fault.JsonFault.{JsonFault}
 use Rattle.orc_types.specs.declared.json_fault.JsonFault.TheVariants as fault
 
@@ -34,3 +34,17 @@ LeafFault fault.DuplicateField k d = ⊥
 LeafFault fault.BadDate k d = IsBadDate k d
 LeafFault fault.BadHex k d = IsBadHex k d
 LeafFault fault.OutOfMemory k d = Unit {0}
+
+-- a cell that contains no other, and is not null
+abbrev pub IsLeaf : Cell → Type 0
+IsLeaf null = ⊥
+IsLeaf (leaf a) = Unit {0}
+IsLeaf (list cs) = ⊥
+IsLeaf (struct cs) = ⊥
+
+-- the value of JSON is that of the leaf
+abbrev pub LeafPrints : Cell → Data → Type 0
+LeafPrints null d = ⊥
+LeafPrints (leaf a) d = d ≡ atom_json a
+LeafPrints (list cs) d = ⊥
+LeafPrints (struct cs) d = ⊥

@@ -1,6 +1,5 @@
 -- The JSON that a row prints as (values by RFC 8259, types by the ORC specification, "Types").
-use Rattle.std.specs.Prelude.{ℕ, ◌<◌, List, Bool, true, false}
-use Rattle.std.specs.List.{AllByRecursion}
+use Rattle.std.specs.Prelude.{ℕ, List}
 use Rattle.serde_json.specs.Data.{Data, null as nothing, array, object, Items, no_items, item, Members, no_members, put}
 use Rattle.orc_types.specs.Shapes.{Shape, scalar, list_of, struct_of, Fields, no_field, field}
 use Rattle.orc_types.specs.Cells.{Atom, bool, int, date, text, bytes, Cell, null, leaf, list, struct, Cells, end, more}
@@ -41,22 +40,3 @@ abbrev mutual
   members_json no_field cs ms = ms
   members_json (field name s fs) end ms = ms
   members_json (field name s fs) (more c cs) ms = members_json fs cs (put name (json_of s c) ms)
-
--- what a binary value holds are bytes
-abbrev pub AtomHasBytes : Atom → Type 0
-AtomHasBytes (bool b) = Unit {0}
-AtomHasBytes (int z) = Unit {0}
-AtomHasBytes (date z) = Unit {0}
-AtomHasBytes (text s) = Unit {0}
-AtomHasBytes (bytes s) = AllByRecursion (λ b. b < 256) s
-
-abbrev mutual
-  pub HasBytes : Cell → Type 0
-  HasBytes null = Unit {0}
-  HasBytes (leaf a) = AtomHasBytes a
-  HasBytes (list cs) = HaveBytes cs
-  HasBytes (struct cs) = HaveBytes cs
-
-  pub HaveBytes : Cells → Type 0
-  HaveBytes end = Unit {0}
-  HaveBytes (more c cs) = HasBytes c × HaveBytes cs

@@ -3,8 +3,7 @@ ghost use Rattle.serde_json.specs.Data.{null as nothing};
 ghost use Rattle.serde_json.specs.View.{view as json_view};
 ghost use Rattle.orc_types.specs.Cells.{Atom, Cell, leaf};
 ghost use Rattle.orc_types.specs.Views.{cell_of_value, view};
-ghost use Rattle.orc_types.specs.JsonLeaves.{LeafSpells, LeafFault};
-ghost use Rattle.orc_types.specs.JsonPrinting.{scalar_json, HasBytes};
+ghost use Rattle.orc_types.specs.JsonLeaves.{LeafSpells, LeafFault, IsLeaf, LeafPrints};
 
 use crate::json_fault::JsonFault;
 use crate::kind::Scalar;
@@ -23,8 +22,8 @@ pub fn leaf_from_json(alloc: Global, kind: Scalar, json: &Json) -> Result<Value<
 
 /// stub
 pub fn leaf_to_json(alloc: Global, value: &Value<'_>) -> Result<Json, AllocError>
-    ensures found { IfOk result (λ j. json_view j ≡ scalar_json (cell_of_value value.now)) }
-    ensures bytes { IfOk result (λ j. HasBytes (cell_of_value value.now)) }
+    requires { IsLeaf (cell_of_value value.now) }
+    ensures found { IfOk result (λ j. LeafPrints (cell_of_value value.now) (json_view j)) }
 {
     Err(AllocError)
 }

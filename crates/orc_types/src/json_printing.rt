@@ -2,7 +2,7 @@ ghost use Rattle.std.specs.Prelude.{◌≡◌, ◌≢◌, IfOk, IfErr, OnOk, tru
 ghost use Rattle.serde_json.specs.Data.{no_members, put as spec_put};
 ghost use Rattle.serde_json.specs.View.{view as json_view, members_view};
 ghost use Rattle.orc_types.specs.Cells.{cells_of};
-ghost use Rattle.orc_types.specs.Fits.{fits};
+ghost use Rattle.orc_types.specs.Fits.{fits, all_fit, each_fits};
 ghost use Rattle.orc_types.specs.Views.{view, views, shape, fields as fields_view};
 ghost use Rattle.orc_types.specs.FieldNames.{is_distinct as spec_distinct};
 ghost use Rattle.orc_types.specs.JsonRows.{Spells};
@@ -40,8 +40,8 @@ pub fn row_to_json(alloc: Global, schema: &Schema, row: &Row<'_>) -> Result<Json
 /// The JSON of a row of the type.
 #[cycle(printing)]
 fn json_of(alloc: Global, tree: &Tree, row: &Row<'_>) -> Result<Json, AllocError>
-    ensures found { IfOk result (λ json. json_view json ≡ spec.json_of (shape tree.now) (view row.now)) }
-    ensures bytes { IfOk result (λ json. fits (view row.now) (shape tree.now) ≡ true → spec.HasBytes (view row.now)) }
+    requires { fits (view row.now) (shape tree.now) ≡ true }
+    ensures { IfOk result (λ json. json_view json ≡ spec.json_of (shape tree.now) (view row.now)) }
 {
     let Some(value) = row else {
         return Ok(Json::Null);
@@ -50,11 +50,11 @@ fn json_of(alloc: Global, tree: &Tree, row: &Row<'_>) -> Result<Json, AllocError
         Tree::Scalar(_, _) => leaf_to_json(alloc, value),
         Tree::List(element, _) => match value {
             Value::List(rows) => Ok(Json::Array(array_of(alloc, element, rows)?)),
-            _ => Ok(Json::Null),
+            _ => unreachable!(),
         },
         Tree::Struct(fields, _) => match value {
             Value::Struct(rows) => Ok(Json::Object(object_of(alloc, fields, rows)?)),
-            _ => Ok(Json::Null),
+            _ => unreachable!(),
         },
     }
 }
@@ -62,7 +62,8 @@ fn json_of(alloc: Global, tree: &Tree, row: &Row<'_>) -> Result<Json, AllocError
 /// The elements of a list's array.
 #[cycle(printing)]
 fn array_of(alloc: Global, tree: &Tree, rows: &Vec<Row<'_>>) -> Result<Vec<Json>, AllocError>
-    ensures found { IfOk result (λ array. map json_view array.items ≡ map (spec.json_of (shape tree.now)) (views rows.now.items)) }
+    requires { all_fit (cells_of (views rows.now.items)) (shape tree.now) ≡ true }
+    ensures { IfOk result (λ array. map json_view array.items ≡ map (spec.json_of (shape tree.now)) (views rows.now.items)) }
 {
     let mut array = Vec::new(alloc);
     for row in rows {
@@ -74,14 +75,13 @@ fn array_of(alloc: Global, tree: &Tree, rows: &Vec<Row<'_>>) -> Result<Vec<Json>
 /// The members of a struct's object.
 #[cycle(printing)]
 fn object_of(alloc: Global, fields: &Vec<Field>, rows: &Vec<Row<'_>>) -> Result<Map<String, Json>, AllocError>
-    ensures found { IfOk result (λ object. members_view object.entries ≡ spec.members_json (fields_view fields.now.items) (cells_of (views rows.now.items)) no_members) }
+    requires { each_fits (cells_of (views rows.now.items)) (fields_view fields.now.items) ≡ true }
+    ensures { IfOk result (λ object. members_view object.entries ≡ spec.members_json (fields_view fields.now.items) (cells_of (views rows.now.items)) no_members) }
 {
     let mut object = Map::new(alloc);
     for (i, field) in fields.iter().enumerate() {
-        if i < rows.len() {
-            let json = json_of(alloc, &field.tree, &rows[i])?;
-            put(alloc, &mut object, field.name.as_str(), json)?;
-        }
+        let json = json_of(alloc, &field.tree, &rows[i])?;
+        put(alloc, &mut object, field.name.as_str(), json)?;
     }
     Ok(object)
 }
