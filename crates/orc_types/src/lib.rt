@@ -3,9 +3,11 @@
 
 mod columns;
 mod copies;
+mod day_text;
 mod fault;
 mod fitting;
 mod json_fault;
+mod json_leaf;
 mod kind;
 mod laws;
 mod lent;
@@ -16,6 +18,7 @@ mod tree;
 mod value;
 
 pub use columns::cells;
+pub use day_text::{day_of_text, has_text};
 pub use fault::TypeFault;
 pub use fitting::{fits, int_fits};
 pub use json_fault::JsonFault;
