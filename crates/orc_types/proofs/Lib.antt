@@ -6,3 +6,4 @@ pub mod Together
 pub mod KeptFields
 pub mod Texts
 pub mod Days
+pub mod JsonLeaves

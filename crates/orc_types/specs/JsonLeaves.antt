@@ -1,6 +1,6 @@
 -- Values of JSON under columns that contain no other (ORC specification, "Types"; a date is RFC 3339's full-date or a number, and binary is hexadecimal digits).
 use Rattle.std.specs.Prelude.{◌≡◌, ℕ, ℤ, List, Bool, true, false, Some, None, option_and_then, Ok, ◌||◌, ◌⊎◌, if◌then◌else◌}
-use Rattle.hex.specs.Hex.{decode_of, encode_lower}
+use Rattle.hex.specs.Hex.{decode_of, encode_lower, IsBytes}
 use Rattle.serde_json.specs.Data.{Data, null, boolean, number, string, array, object}
 use Rattle.serde_json.specs.Find.{as_number, as_integer, of_integer}
 use Rattle.orc_types.specs.declared.kind.Scalar.{Scalar}
@@ -105,14 +105,31 @@ atom_json (date n) = date_json n
 atom_json (text s) = string s
 atom_json (bytes bs) = string (encode_lower bs)
 
+-- a cell that contains no other, and is not null
 abbrev pub IsLeaf : Cell → Type 0
 IsLeaf null_cell = ⊥
 IsLeaf (leaf a) = Unit {0}
 IsLeaf (list cs) = ⊥
 IsLeaf (struct cs) = ⊥
 
+-- the value of JSON is that of the leaf
 abbrev pub LeafPrints : Cell → Data → Type 0
 LeafPrints null_cell d = ⊥
 LeafPrints (leaf a) d = d ≡ atom_json a
 LeafPrints (list cs) d = ⊥
 LeafPrints (struct cs) d = ⊥
+
+-- the value of JSON spells the leaf under each kind that has it
+abbrev pub LeafReadsBack : Cell → Data → Type 0
+LeafReadsBack null_cell d = ⊥
+LeafReadsBack (leaf a) d = (k : Scalar) → atom_fits k a ≡ true → LeafSpells k d a
+LeafReadsBack (list cs) d = ⊥
+LeafReadsBack (struct cs) d = ⊥
+
+-- the atom's bytes, where it has some, are below 256
+abbrev pub HasBytes : Atom → Type 0
+HasBytes (bool b) = Unit {0}
+HasBytes (int z) = Unit {0}
+HasBytes (date n) = Unit {0}
+HasBytes (text s) = Unit {0}
+HasBytes (bytes bs) = IsBytes bs

@@ -1,6 +1,7 @@
 ghost use Rattle.std.specs.Prelude.{◌≡◌, IfOk, IfErr};
-ghost use Rattle.serde_json.specs.Data.{number, string};
+ghost use Rattle.serde_json.specs.Data.{number as json_number, string as json_string};
 ghost use Rattle.serde_json.specs.View.{view as json_view, number_view};
+ghost use Rattle.orc_types.specs.Cells.{bytes};
 ghost use Rattle.orc_types.specs.Views.{view, cell_of_value};
 ghost use Rattle.orc_types.specs.JsonLeaves as spec;
 ghost use Rattle.orc_types.specs.declared.kind.Scalar.TheVariants as kinds;
@@ -53,8 +54,8 @@ fn takes_numbers(kind: Scalar) -> bool
 
 /// The value that a number spells.
 fn from_number(kind: Scalar, number: &Number) -> Result<Row<'static>, JsonFault>
-    ensures found { IfOk result (λ row. spec.ScalarSpells kind (number (number_view number.now)) (view row)) }
-    ensures fault { IfErr result (λ fault. spec.LeafFault kind (number (number_view number.now)) fault) }
+    ensures found { IfOk result (λ row. spec.ScalarSpells kind (json_number (number_view number.now)) (view row)) }
+    ensures fault { IfErr result (λ fault. spec.LeafFault kind (json_number (number_view number.now)) fault) }
 {
     if !takes_numbers(kind) {
         return Err(JsonFault::WrongShape);
@@ -82,8 +83,8 @@ fn from_number(kind: Scalar, number: &Number) -> Result<Row<'static>, JsonFault>
 
 /// The value that a string spells.
 fn from_string(alloc: Global, kind: Scalar, text: &str) -> Result<Row<'static>, JsonFault>
-    ensures found { IfOk result (λ row. spec.ScalarSpells kind (string text.now) (view row)) }
-    ensures fault { IfErr result (λ fault. spec.LeafFault kind (string text.now) fault) }
+    ensures found { IfOk result (λ row. spec.ScalarSpells kind (json_string text.now) (view row)) }
+    ensures fault { IfErr result (λ fault. spec.LeafFault kind (json_string text.now) fault) }
 {
     match kind {
         Scalar::String => Ok(Some(Value::Text(CowStr::Owned(String::from_str(alloc, text)?)))),
@@ -100,8 +101,8 @@ fn from_string(alloc: Global, kind: Scalar, text: &str) -> Result<Row<'static>, 
 
 /// The bytes that hexadecimal digits spell.
 fn from_hex(alloc: Global, text: &str) -> Result<Row<'static>, JsonFault>
-    ensures found { IfOk result (λ row. spec.ScalarSpells kinds.Binary (string text.now) (view row)) }
-    ensures fault { IfErr result (λ fault. spec.LeafFault kinds.Binary (string text.now) fault) }
+    ensures found { IfOk result (λ row. spec.ScalarSpells kinds.Binary (json_string text.now) (view row)) }
+    ensures fault { IfErr result (λ fault. spec.LeafFault kinds.Binary (json_string text.now) fault) }
 {
     match hex::decode(alloc, text) {
         Ok(bytes) => Ok(Some(Value::Bytes(CowSlice::Owned(bytes)))),
@@ -117,13 +118,14 @@ fn from_hex(alloc: Global, text: &str) -> Result<Row<'static>, JsonFault>
 pub(crate) fn leaf_to_json(alloc: Global, value: &Value<'_>) -> Result<Json, AllocError>
     requires { spec.IsLeaf (cell_of_value value.now) }
     ensures found { IfOk result (λ json. spec.LeafPrints (cell_of_value value.now) (json_view json)) }
+    ensures reads_back { IfOk result (λ json. spec.LeafReadsBack (cell_of_value value.now) (json_view json)) }
 {
     match value {
         Value::Bool(truth) => Ok(Json::Bool(*truth)),
         Value::Int(number) => Ok(Json::from(*number)),
         Value::Date(day) => date_to_json(alloc, *day),
         Value::Text(text) => Ok(Json::String(String::from_str(alloc, text.as_str())?)),
-        Value::Bytes(bytes) => Ok(Json::String(hex::encode(alloc, bytes.as_slice())?)),
+        Value::Bytes(bytes) => bytes_to_json(alloc, bytes.as_slice()),
         Value::List(_) | Value::Struct(_) => unreachable!(),
     }
 }
@@ -137,4 +139,12 @@ fn date_to_json(alloc: Global, day: i32) -> Result<Json, AllocError>
     } else {
         Ok(Json::from(day))
     }
+}
+
+/// The value of JSON for bytes.
+fn bytes_to_json(alloc: Global, octets: &[u8]) -> Result<Json, AllocError>
+    ensures found { IfOk result (λ json. json_view json ≡ spec.atom_json (bytes octets.now)) }
+    ensures reads_back { IfOk result (λ json. spec.Spells (json_view json) (bytes octets.now)) }
+{
+    Ok(Json::String(hex::encode(alloc, octets)?))
 }
