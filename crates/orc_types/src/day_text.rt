@@ -14,7 +14,7 @@ const LAST_DAY: i32 = 2_932_896;
 
 /// Whether the day is one of the years 0001 to 9999, whose dates have texts `YYYY-MM-DD`. Day 0 is
 /// 1970-01-01.
-pub fn has_text(day: i32) -> bool
+pub(crate) fn has_text(day: i32) -> bool
     ensures { result ≡ spec.has_text day }
 {
     FIRST_DAY <= day && day <= LAST_DAY
@@ -24,7 +24,7 @@ pub fn has_text(day: i32) -> bool
 /// specification, "Types").
 ///
 /// Refusal: memory that ran out.
-pub fn day_text(alloc: Global, day: i32) -> Result<String, AllocError>
+pub(crate) fn day_text(alloc: Global, day: i32) -> Result<String, AllocError>
     requires { spec.has_text day ≡ true }
     ensures found { IfOk result (λ text. string_bytes text ≡ spec.day_text day) }
 {
@@ -36,7 +36,7 @@ pub fn day_text(alloc: Global, day: i32) -> Result<String, AllocError>
 
 /// The day whose text this is, where day 0 is 1970-01-01; none where the text is no date of the
 /// years 0001 to 9999, written `YYYY-MM-DD`.
-pub fn day_of_text(text: &str) -> Option<i32>
+pub(crate) fn day_of_text(text: &str) -> Option<i32>
     ensures { MatchOption result ((day : ℤ) → spec.IsDayText text.now day → ⊥) (λ day. spec.IsDayText text.now day) }
 {
     let Ok(date) = text.parse::<Date>() else {

@@ -18,7 +18,6 @@ mod tree;
 mod value;
 
 pub use columns::cells;
-pub use day_text::{day_of_text, has_text};
 pub use fault::TypeFault;
 pub use fitting::{fits, int_fits};
 pub use json_fault::JsonFault;
