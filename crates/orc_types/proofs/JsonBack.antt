@@ -12,11 +12,8 @@ use Rattle.orc_types.specs.Fits.{fits, all_fit, each_fits}
 use Rattle.orc_types.specs.FieldNames.{is_among, all_differ, is_distinct, are_distinct, all_known}
 use Rattle.orc_types.specs.JsonRows.{Spells, EachSpells, MemberSpells, FieldsSpell}
 use Rattle.orc_types.specs.JsonPrinting.{json_of, each_json, members_json}
+use Rattle.orc_types.proofs.Booleans.{both}
 use Rattle.orc_types.proofs.JsonLeaves.{leaf_back}
-
-both : (a b : Bool) → (a && b) ≡ true → (a ≡ true) × (b ≡ true)
-both true b h = (refl, h)
-both false b h = cc
 
 -- ---- names
 
@@ -87,8 +84,8 @@ each_back Is g s r (more c cs) h =
 
 mutual
   pub reads_back : (s : Shape) (c : Cell) → is_distinct s ≡ true → fits c s ≡ true → Spells s (json_of s c) c
-  reads_back (scalar k o) null u h = inl (refl, refl)
-  reads_back (scalar k o) (leaf a) u h = inr (a, refl, leaf_back k a h)
+  reads_back (scalar k o) null u h = refl
+  reads_back (scalar k o) (leaf a) u h = leaf_back k a h
   reads_back (scalar k o) (list cs) u h = cc
   reads_back (scalar k o) (struct cs) u h = cc
   reads_back (list_of s o) null u h = inl (refl, refl)

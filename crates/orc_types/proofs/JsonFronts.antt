@@ -78,3 +78,6 @@ object_spells t fs o j m rows it is known h =
 pub array_fault : (Is : Shape → Data → Type 0) (t : Tree) (b : Box Tree Global) (o : Vec ℕ Global) (j : Json) (js : Vec Json Global) → t ≡ TreeList b o → j ≡ Array js
     → InElement (Somewhere Is (shape b.value)) (array (items_view js.items)) → Somewhere Is (shape t) (json_view j)
 array_fault Is t b o j js it is h = rw (it, is, shape-List b o, view-Array js) (inr h)
+
+pub object_fault : (Is : Shape → Data → Type 0) (t : Tree) (fs : Vec Field Global) (o : Vec ℕ Global) (d : Data) → t ≡ TreeStruct fs o → InField Is (fields_view fs.items) d → Somewhere Is (shape t) d
+object_fault Is t fs o d it h = rw (it, shape-Struct fs o) (inr h)

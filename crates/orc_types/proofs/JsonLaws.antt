@@ -10,9 +10,9 @@ use Rattle.orc_types.specs.Shapes.{Shape, scalar, list_of, struct_of, Fields, no
 use Rattle.orc_types.specs.Fits.{fits, all_fit, each_fits, atom_fits}
 use Rattle.orc_types.specs.FieldNames.{all_known}
 use Rattle.orc_types.specs.JsonRows.{Spells, EachSpells, MemberSpells, FieldsSpell}
-use Rattle.orc_types.specs.JsonFaults.{IsWrongShape, HasUnknownKey, AtLeaf, FaultAt, Somewhere, InElement, InField}
-use Rattle.orc_types.specs.JsonLeaves.{LeafSpells, IsMisfit, IsOutOfRange, IsBadDate, IsBadHex}
-use Rattle.orc_types.proofs.JsonLeaves.{one_leaf, leaf_fits, null_no_leaf, misfit_none, misfit_value, out_of_range_none, out_of_range_value, bad_date_none, bad_date_value, bad_hex_none, bad_hex_value}
+use Rattle.orc_types.specs.JsonFaults.{HasUnknownKey, FaultAt, Somewhere, InField}
+use Rattle.orc_types.specs.JsonLeaves.{LeafSpells, ScalarSpells, LeafFault}
+use Rattle.orc_types.proofs.JsonLeaves.{one_leaf, leaf_fits, leaf_none, null_no_leaf, null_no_fault}
 
 -- ---- one row
 
@@ -31,12 +31,19 @@ one_member : (Is : Data → Cell → Type 0) → One Is → (o : Option Data) (c
 one_member Is u None c b h k = h ∙ sym k
 one_member Is u (Some d) c b h k = u d c b h k
 
+one_scalar : (k : Scalar) → One (ScalarSpells k)
+one_scalar k d null null h g = refl
+one_scalar k d null (leaf b) h g = absurd (null_no_leaf k b (subst (λ x. LeafSpells k x b) h g))
+one_scalar k d (leaf a) null h g = absurd (null_no_leaf k a (subst (λ x. LeafSpells k x a) g h))
+one_scalar k d (leaf a) (leaf b) h g = ap leaf (one_leaf k d a b h g)
+one_scalar k d (list cs) b h g = absurd h
+one_scalar k d (struct cs) b h g = absurd h
+one_scalar k d c (list cs) h g = absurd g
+one_scalar k d c (struct cs) h g = absurd g
+
 mutual
   pub one_row : (s : Shape) → One (Spells s)
-  one_row (scalar k o) d c b (inl h) (inl g) = h.1 ∙ sym g.1
-  one_row (scalar k o) d c b (inl h) (inr g) = absurd (null_no_leaf k g.0 (subst (λ x. LeafSpells k x g.0) h.0 g.2))
-  one_row (scalar k o) d c b (inr h) (inl g) = absurd (null_no_leaf k h.0 (subst (λ x. LeafSpells k x h.0) g.0 h.2))
-  one_row (scalar k o) d c b (inr h) (inr g) = h.1 ∙ ap leaf (one_leaf k d h.0 g.0 h.2 g.2) ∙ sym g.1
+  one_row (scalar k o) d c b h g = one_scalar k d c b h g
   one_row (list_of s o) d c b (inl h) (inl g) = h.1 ∙ sym g.1
   one_row (list_of s o) d c b (inl h) (inr g) = let e = g.2 in cc
   one_row (list_of s o) d c b (inr h) (inl g) = let e = h.2 in cc
@@ -74,8 +81,10 @@ member_fit Is s u (Some d) c h = u d c h
 
 mutual
   pub row_fits : (s : Shape) → Fit (Spells s) s
-  row_fits (scalar k o) d c (inl h) = rw h.1 refl
-  row_fits (scalar k o) d c (inr h) = rw h.1 (leaf_fits k d h.0 h.2)
+  row_fits (scalar k o) d null h = refl
+  row_fits (scalar k o) d (leaf a) h = leaf_fits k d a h
+  row_fits (scalar k o) d (list cs) h = absurd h
+  row_fits (scalar k o) d (struct cs) h = absurd h
   row_fits (list_of s o) d c (inl h) = rw h.1 refl
   row_fits (list_of s o) d c (inr h) = rw h.3 (each_fit (λ e x. Spells s e x) s (λ e x p. row_fits s e x p) h.0 h.1 h.4)
   row_fits (struct_of fs o) d c (inl h) = rw h.1 refl
@@ -93,38 +102,26 @@ mutual
 abbrev pub Excludes : (Shape → Data → Type 0) → Type 0
 Excludes Is = (s : Shape) (d : Data) (c : Cell) → Is s d → Spells s d c → ⊥
 
-leaf_excludes : (Is : Scalar → Data → Type 0) → ((k : Scalar) (d : Data) (a : Atom) → Is k d → LeafSpells k d a → ⊥) → ((k : Scalar) (d : Data) → Is k d → d ≢ nothing) → Excludes (AtLeaf Is)
-leaf_excludes Is none value (scalar k o) d c h (inl g) = value k d h g.0
-leaf_excludes Is none value (scalar k o) d c h (inr g) = none k d g.0 h g.2
-leaf_excludes Is none value (list_of s o) d c h g = absurd h
-leaf_excludes Is none value (struct_of fs o) d c h g = absurd h
+scalar_excludes : (e : JsonFault) (k : Scalar) (d : Data) (c : Cell) → e ≢ fault.OutOfMemory → LeafFault k d e → ScalarSpells k d c → ⊥
+scalar_excludes e k d null m h g = m (null_no_fault k e (subst (λ x. LeafFault k x e) g h))
+scalar_excludes e k d (leaf a) m h g = m (leaf_none k d a e g h)
+scalar_excludes e k d (list cs) m h g = g
+scalar_excludes e k d (struct cs) m h g = g
 
-wrong_shape_excludes : Excludes IsWrongShape
-wrong_shape_excludes (scalar k o) d c h (inl g) = misfit_value k d h g.0
-wrong_shape_excludes (scalar k o) d c h (inr g) = misfit_none k d g.0 h g.2
-wrong_shape_excludes (list_of s o) d c h (inl g) = h.0 g.0
-wrong_shape_excludes (list_of s o) d c h (inr g) = h.1 g.0 g.2
-wrong_shape_excludes (struct_of fs o) d c h (inl g) = h.0 g.0
-wrong_shape_excludes (struct_of fs o) d c h (inr g) = h.1 g.0 g.2
-
-unknown_key_excludes : Excludes HasUnknownKey
-unknown_key_excludes (scalar k o) d c h g = absurd h
-unknown_key_excludes (list_of s o) d c h g = absurd h
-unknown_key_excludes (struct_of fs o) d c h (inl g) = let e = h.1 in cc
-unknown_key_excludes (struct_of fs o) d c h (inr g) =
+unknown_key_excludes : (fs : Fields) (o : List ℕ) (d : Data) (c : Cell) → HasUnknownKey (names_of fs) d → Spells (struct_of fs o) d c → ⊥
+unknown_key_excludes fs o d c h (inl g) = let e = h.1 in cc
+unknown_key_excludes fs o d c h (inr g) =
     let same : g.0 ≡ h.0 = cc in
     let known : all_known (names_of fs) h.0 ≡ true = subst (λ ms. all_known (names_of fs) ms ≡ true) same g.4 in
     let unknown = h.2 in cc
 
-pub fault_excludes : (e : JsonFault) → Excludes (FaultAt e)
-fault_excludes fault.Syntax s d c h g = h
-fault_excludes fault.WrongShape s d c h g = wrong_shape_excludes s d c h g
-fault_excludes fault.Range s d c h g = leaf_excludes IsOutOfRange out_of_range_none out_of_range_value s d c h g
-fault_excludes fault.UnknownField s d c h g = unknown_key_excludes s d c h g
-fault_excludes fault.DuplicateField s d c h g = h
-fault_excludes fault.BadDate s d c h g = leaf_excludes IsBadDate bad_date_none bad_date_value s d c h g
-fault_excludes fault.BadHex s d c h g = leaf_excludes IsBadHex bad_hex_none bad_hex_value s d c h g
-fault_excludes fault.OutOfMemory s d c h g = h
+pub fault_excludes : (e : JsonFault) → e ≢ fault.OutOfMemory → Excludes (FaultAt e)
+fault_excludes e m (scalar k o) d c h g = scalar_excludes e k d c m h g
+fault_excludes e m (list_of s o) d c h (inl g) = h.1.0 g.0
+fault_excludes e m (list_of s o) d c h (inr g) = h.1.1 g.0 g.2
+fault_excludes e m (struct_of fs o) d c (inl h) (inl g) = h.1.0 g.0
+fault_excludes e m (struct_of fs o) d c (inl h) (inr g) = h.1.1 g.0 g.2
+fault_excludes e m (struct_of fs o) d c (inr h) g = unknown_key_excludes fs o d c h.1 g
 
 each_at : (Is : Data → Cell → Type 0) (ds : Items) (cs : Cells) (i : ℕ) (e : Data) → EachSpells Is ds cs → get_item i ds ≡ Some e → (c : Cell) × Is e c
 each_at Is no_items cs i e h there = let q : ◌≡◌ {A = Option Data} None (Some e) = there in cc
@@ -182,3 +179,9 @@ mutual
   in_no_field Is u no_field d h = h
   in_no_field Is u (field name s fs) d (inl h) = nowhere Is u s h.0 h.2
   in_no_field Is u (field name s fs) d (inr h) = in_no_field Is u fs d h
+
+pub no_duplicate : (s : Shape) (d : Data) → FaultAt fault.DuplicateField s d → ⊥
+no_duplicate (scalar k o) d h = h
+no_duplicate (list_of s o) d h = cc (h.0)
+no_duplicate (struct_of fs o) d (inl h) = cc (h.0)
+no_duplicate (struct_of fs o) d (inr h) = cc (h.0)

@@ -12,6 +12,7 @@ use Rattle.orc_types.specs.declared.tree.Tree.{Tree, List as TreeList, Struct as
 use Rattle.orc_types.specs.declared.value.Value.{Value, List as ListOf, Struct as StructOf}
 use Rattle.orc_types.specs.Fits.{fits, all_fit, each_fits}
 use Rattle.orc_types.specs.JsonPrinting.{json_of, each_json, members_json}
+use Rattle.orc_types.proofs.Booleans.{both}
 use Rattle.orc_types.proofs.Views.{named-is, shape-List, shape-Struct, view-List, view-Struct}
 
 each_json-cells_of : (f : Cell → Data) (cs : List Cell) → each_json f (cells_of cs) ≡ items_of (map f cs)
@@ -24,10 +25,6 @@ pub members_more : (fs : List Field) (rs : List (Option Value)) (i : ℕ) (f : F
 members_more fs rs i f r ms h k is at = rw (drop-cons fs i f, drop-cons rs i r, ← is, ← at, named-is f) refl
 
 -- ---- rows that fit
-
-both : (a b : Bool) → (a && b) ≡ true → (a ≡ true) × (b ≡ true)
-both true b h = (refl, h)
-both false b h = cc
 
 pub element_fits : (rs : List (Option Value)) (s : Shape) (i : ℕ) (r : Option Value) → i < length rs → r ≡ get_or rs i r → all_fit (cells_of (views rs)) s ≡ true → fits (view r) s ≡ true
 element_fits [] s i r h is e = absurd (omega (arith, h))

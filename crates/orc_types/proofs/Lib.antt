@@ -5,9 +5,11 @@ pub mod Exclusion
 pub mod Together
 pub mod KeptFields
 pub mod Texts
+pub mod Booleans
+pub mod Bytes
+pub mod Days
 pub mod JsonLeaves
 pub mod JsonFronts
 pub mod JsonLaws
 pub mod JsonPrints
-pub mod Bytes
 pub mod JsonBack

@@ -1,41 +1,29 @@
 -- What stands where a JSON value spells no row of a schema (values by RFC 8259, types by the ORC specification, "Types").
-use Rattle.std.specs.Prelude.{ℕ, ◌≡◌, ◌⊎◌, ◌≢◌, false, Option, Some}
+use Rattle.std.specs.Prelude.{ℕ, List, ◌≡◌, ◌≢◌, ◌⊎◌, false, Option, Some}
 use Rattle.serde_json.specs.Data.{Data, null as nothing, array, object, Items, Members}
 use Rattle.serde_json.specs.Find.{at, get}
-use Rattle.orc_types.specs.declared.kind.Scalar.{Scalar}
 use Rattle.orc_types.specs.declared.json_fault.JsonFault.{JsonFault}
 use Rattle.orc_types.specs.declared.json_fault.JsonFault.TheVariants as fault
 use Rattle.orc_types.specs.Shapes.{Shape, scalar, list_of, struct_of, Fields, no_field, field, names_of}
 use Rattle.orc_types.specs.FieldNames.{all_known}
-use Rattle.orc_types.specs.JsonLeaves.{IsMisfit, IsOutOfRange, IsBadDate, IsBadHex}
+use Rattle.orc_types.specs.JsonLeaves.{LeafFault}
 
--- JSON of a type that the column's type doesn't take
-abbrev pub IsWrongShape : Shape → Data → Type 0
-IsWrongShape (scalar k o) d = IsMisfit k d
-IsWrongShape (list_of s o) d = (d ≢ nothing) × ((ds : Items) → d ≢ array ds)
-IsWrongShape (struct_of fs o) d = (d ≢ nothing) × ((ms : Members) → d ≢ object ms)
+-- neither null nor an array, an object
+abbrev pub IsNoArray : Data → Type 0
+IsNoArray d = (d ≢ nothing) × ((ds : Items) → d ≢ array ds)
 
--- some key of the object is no field's name
-abbrev pub HasUnknownKey : Shape → Data → Type 0
-HasUnknownKey (scalar k o) d = ⊥
-HasUnknownKey (list_of s o) d = ⊥
-HasUnknownKey (struct_of fs o) d = (ms : Members) × (d ≡ object ms) × (all_known (names_of fs) ms ≡ false)
+abbrev pub IsNoObject : Data → Type 0
+IsNoObject d = (d ≢ nothing) × ((ms : Members) → d ≢ object ms)
 
-abbrev pub AtLeaf : (Scalar → Data → Type 0) → Shape → Data → Type 0
-AtLeaf Is (scalar k o) d = Is k d
-AtLeaf Is (list_of s o) d = ⊥
-AtLeaf Is (struct_of fs o) d = ⊥
+-- some key of the object is none of the names
+abbrev pub HasUnknownKey : List (List ℕ) → Data → Type 0
+HasUnknownKey names d = (ms : Members) × (d ≡ object ms) × (all_known names ms ≡ false)
 
--- what of this JSON value itself, and not of one inside it, is such a fault
+-- the fault is of this value itself, and not of one inside it
 abbrev pub FaultAt : JsonFault → Shape → Data → Type 0
-FaultAt fault.Syntax s d = ⊥
-FaultAt fault.WrongShape s d = IsWrongShape s d
-FaultAt fault.Range s d = AtLeaf IsOutOfRange s d
-FaultAt fault.UnknownField s d = HasUnknownKey s d
-FaultAt fault.DuplicateField s d = ⊥
-FaultAt fault.BadDate s d = AtLeaf IsBadDate s d
-FaultAt fault.BadHex s d = AtLeaf IsBadHex s d
-FaultAt fault.OutOfMemory s d = ⊥
+FaultAt e (scalar k o) d = LeafFault k d e
+FaultAt e (list_of s o) d = (e ≡ fault.WrongShape) × IsNoArray d
+FaultAt e (struct_of fs o) d = ((e ≡ fault.WrongShape) × IsNoObject d) ⊎ ((e ≡ fault.UnknownField) × HasUnknownKey (names_of fs) d)
 
 abbrev pub InElement : (Data → Type 0) → Data → Type 0
 InElement Is d = (i : ℕ) × (e : Data) × (at i d ≡ Some e) × Is e

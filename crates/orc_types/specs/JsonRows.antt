@@ -3,9 +3,9 @@ use Rattle.std.specs.Prelude.{ℕ, ◌≡◌, ◌⊎◌, List, true, Option, Som
 use Rattle.serde_json.specs.Data.{Data, null as nothing, array, object, Items, no_items, item, Members}
 use Rattle.serde_json.specs.Find.{get}
 use Rattle.orc_types.specs.Shapes.{Shape, scalar, list_of, struct_of, Fields, no_field, field, names_of}
-use Rattle.orc_types.specs.Cells.{Atom, Cell, null, leaf, list, struct, Cells, end, more}
+use Rattle.orc_types.specs.Cells.{Cell, null, list, struct, Cells, end, more}
 use Rattle.orc_types.specs.FieldNames.{all_known}
-use Rattle.orc_types.specs.JsonLeaves.{LeafSpells}
+use Rattle.orc_types.specs.JsonLeaves.{ScalarSpells}
 
 -- whatever the type, null spells null
 abbrev pub OrNull : Data → Cell → Type 0 → Type 0
@@ -32,7 +32,7 @@ ObjectSpells names Are d c = (ms : Members) × (cs : Cells) × (d ≡ object ms)
 
 abbrev mutual
   pub Spells : Shape → Data → Cell → Type 0
-  Spells (scalar k o) d c = OrNull d c ((a : Atom) × (c ≡ leaf a) × LeafSpells k d a)
+  Spells (scalar k o) d c = ScalarSpells k d c
   Spells (list_of s o) d c = OrNull d c (ArraySpells (λ e x. Spells s e x) d c)
   Spells (struct_of fs o) d c = OrNull d c (ObjectSpells (names_of fs) (λ cs. FieldsSpell fs d cs) d c)
 

@@ -11,8 +11,9 @@ pub mod Views
 pub mod Preorder
 pub mod Lent
 pub mod SchemaText
+pub mod Days
 pub mod FieldNames
 pub mod JsonLeaves
 pub mod JsonRows
-pub mod JsonPrinting
 pub mod JsonFaults
+pub mod JsonPrinting

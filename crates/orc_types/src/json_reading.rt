@@ -54,7 +54,7 @@ fn row_of(alloc: Global, tree: &Tree, json: &Json) -> Result<Row<'static>, JsonF
         return Ok(None);
     }
     match tree {
-        Tree::Scalar(kind, _) => Ok(Some(leaf_from_json(alloc, *kind, json)?)),
+        Tree::Scalar(kind, _) => leaf_from_json(alloc, *kind, json),
         Tree::List(element, _) => match json {
             Json::Array(items) => Ok(Some(Value::List(elements_of(alloc, element, items)?))),
             _ => Err(JsonFault::WrongShape),

@@ -1,4 +1,4 @@
-ghost use Rattle.std.specs.Prelude.{◌≡◌, ◌↔◌, ◌++◌, ◌<◌, ℕ, List, true};
+ghost use Rattle.std.specs.Prelude.{◌≡◌, ◌≢◌, ◌↔◌, ◌++◌, ◌<◌, ℕ, List, true};
 ghost use Rattle.orc_types.specs.Shapes.{Shape, width, shape_at};
 ghost use Rattle.orc_types.specs.Types.{types};
 ghost use Rattle.orc_wire.specs.declared.type_msg.TypeMsg.{TypeMsg};
@@ -6,7 +6,14 @@ ghost use Rattle.orc_types.specs.Schemas.{HasTypes, same_types};
 ghost use Rattle.orc_types.specs.Faults.{TypesFault};
 ghost use Rattle.orc_types.specs.Cells.{Cell};
 ghost use Rattle.orc_types.specs.Columns.{cells};
-ghost use Rattle.orc_types.specs.Fits.{RowsFit};
+ghost use Rattle.orc_types.specs.Fits.{RowsFit, fits};
+ghost use Rattle.orc_types.specs.FieldNames.{is_distinct};
+ghost use Rattle.orc_types.specs.JsonRows.{Spells};
+ghost use Rattle.orc_types.specs.JsonFaults.{FaultAt, Somewhere};
+ghost use Rattle.orc_types.specs.JsonPrinting.{json_of};
+ghost use Rattle.serde_json.specs.Data.{Data};
+ghost use Rattle.orc_types.specs.declared.json_fault.JsonFault.{JsonFault};
+ghost use Rattle.orc_types.specs.declared.json_fault.JsonFault.TheVariants.{OutOfMemory as NoMemory};
 ghost use Rattle.orc_types.specs.declared.fault.TypeFault.{TypeFault};
 ghost use Rattle.orc_types.specs.declared.fault.TypeFault.TheVariants.{OutOfMemory};
 
@@ -23,4 +30,14 @@ pub fn schema_laws()
 pub fn cells_laws()
     ensures append { (s : Shape) (column : ℕ) (a b : List Cell) → cells s column (a ++ b) ≡ cells s column a ++ cells s column b }
     ensures fit { (s : Shape) (column : ℕ) (rows : List Cell) → column < width s → RowsFit s rows → RowsFit (shape_at s column) (cells s column rows) }
+{}
+
+/// Laws of JSON rows: a JSON value spells one row at most, which fits; a fault that stands somewhere
+/// in it leaves none, but for want of memory; and where no struct names a field twice, a row that
+/// fits is spelled by its JSON.
+pub fn json_laws()
+    ensures one_row { (s : Shape) (json : Data) (a b : Cell) → Spells s json a → Spells s json b → a ≡ b }
+    ensures fit { (s : Shape) (json : Data) (row : Cell) → Spells s json row → fits row s ≡ true }
+    ensures none { (fault : JsonFault) (s : Shape) (json : Data) (row : Cell) → fault ≢ NoMemory → Somewhere (FaultAt fault) s json → Spells s json row → ⊥ }
+    ensures again { (s : Shape) (row : Cell) → is_distinct s ≡ true → fits row s ≡ true → Spells s (json_of s row) row }
 {}

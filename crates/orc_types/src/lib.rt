@@ -3,6 +3,7 @@
 
 mod columns;
 mod copies;
+mod day_text;
 mod fault;
 mod field_names;
 mod fitting;
@@ -26,7 +27,7 @@ pub use json_fault::JsonFault;
 pub use json_printing::row_to_json;
 pub use json_reading::row_from_json;
 pub use kind::Scalar;
-pub use laws::{cells_laws, schema_laws};
+pub use laws::{cells_laws, json_laws, schema_laws};
 pub use lent::{Lent, lend};
 pub use schema::Schema;
 pub use tree::{Field, Tree, width_of};

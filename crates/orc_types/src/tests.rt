@@ -8,6 +8,7 @@ use orc_wire::{Bytes, Items, TypeMsg};
 use std::alloc::{AllocError, Global};
 use std::process::Abort;
 
+mod json_leaves;
 mod json_rows;
 mod refused;
 mod rows;

@@ -11,7 +11,7 @@ use Rattle.orc_types.specs.FieldNames.{all_known}
 use Rattle.orc_types.specs.JsonRows.{Spells, EachSpells, MemberSpells, FieldsSpell}
 use Rattle.orc_types.specs.JsonFaults.{FaultAt, Somewhere, InElement, InField}
 use Rattle.orc_types.proofs.ByColumn.{width_within}
-use Rattle.orc_types.proofs.JsonFronts.{ElementsRead, FieldsRead, elements_more, elements_all, element_at, fields_more, fields_all, in_field, array_spells, object_spells, array_fault}
+use Rattle.orc_types.proofs.JsonFronts.{ElementsRead, FieldsRead, elements_more, elements_all, element_at, fields_more, fields_all, in_field, array_spells, object_spells, array_fault, object_fault}
 use Rattle.orc_types.proofs.json_reading.+reading.Goals as goal
 use Rattle.orc_types.proofs.json_reading.+reading.Goals.{fields_of-in-None, fields_of-in-Some+in_ok-row-in-Some}
 
@@ -60,7 +60,7 @@ fields_of-returns-clause-found t c =
 
 pub row_of-returns-in_err-elements_of-in-Array-clause-fault : goal.row_of-returns-in_err-elements_of-in-Array-clause-fault
 row_of-returns-in_err-elements_of-in-Array-clause-fault t c =
-    let p = err_from_is_err_and c.from_residual-in_err-elements_of-in-Array.result c.from_residual-in_err-elements_of-in-Array.ensures.1 in
+    let p = err_from_is_err_and c.from_residual.result c.from_residual.ensures.1 in
     rw (p.1, p.2) (λ memory. array_fault (FaultAt c.in_err-elements_of-in-Array.field-0.0) c.args.tree.now c.in-List.element c.in-List.field-1 c.args.json.now c.in-Array.items c.in-List.is c.in-Array.is
     (subst (λ x. InElement (Somewhere (FaultAt c.in_err-elements_of-in-Array.field-0.0) (shape x)) (array (items_view c.in-Array.items.items))) c.deref.ensures (c.in_err-elements_of-in-Array.ensures.fault memory)))
 
@@ -74,3 +74,8 @@ row_of-returns-in_ok-fields_of-in-Object-clause-found t c =
     let known : all_known (names_of (fields_view c.in-Struct.fields.items)) (members_view c.in-Object.members.entries) ≡ true =
     ap (λ fs. all_known (names_of (fields_view fs)) (members_view c.in-Object.members.entries)) (sym c.deref-in-Object.ensures.value) ∙ sym c.all_known.ensures ∙ c.if-not-all_known.false in
     object_spells c.args.tree.now c.in-Struct.fields c.in-Struct.field-1 c.args.json.now c.in-Object.members c.in_ok-fields_of-in-Object.field-0 c.in-Struct.is c.in-Object.is known c.in_ok-fields_of-in-Object.ensures.found
+
+pub row_of-returns-in_err-fields_of-in-Object-clause-fault : goal.row_of-returns-in_err-fields_of-in-Object-clause-fault
+row_of-returns-in_err-fields_of-in-Object-clause-fault t c =
+    let p = err_from_is_err_and c.from_residual-in_err-fields_of-in-Object.result c.from_residual-in_err-fields_of-in-Object.ensures.1 in
+    rw (p.1, p.2) (λ memory. object_fault (FaultAt c.in_err-fields_of-in-Object.field-0.0) c.args.tree.now c.in-Struct.fields c.in-Struct.field-1 (json_view c.args.json.now) c.in-Struct.is (c.in_err-fields_of-in-Object.ensures.fault memory))

@@ -7,7 +7,7 @@ use Rattle.orc_types.specs.Views.{view, shape}
 use Rattle.orc_types.specs.JsonRows.{Spells}
 use Rattle.orc_types.specs.JsonFaults.{FaultAt, Somewhere}
 use Rattle.orc_types.specs.declared.json_fault.JsonFault.TheVariants as fault
-use Rattle.orc_types.proofs.JsonLaws.{one_row, row_fits, fault_excludes, somewhere_excludes, nowhere}
+use Rattle.orc_types.proofs.JsonLaws.{one_row, row_fits, fault_excludes, somewhere_excludes, nowhere, no_duplicate}
 use Rattle.orc_types.proofs.json_reading.row_from_json.Goals as goal
 
 pub returns-clause-only : goal.returns-clause-only
@@ -20,8 +20,8 @@ returns-clause-fits c =
 
 pub returns-clause-refused : goal.returns-clause-refused
 returns-clause-refused c =
-    IfErr-weaker c.row_of.result _ _ (λ e stands memory distinct other h. somewhere_excludes (FaultAt e) (fault_excludes e) c.args.schema.now (json_view c.args.json.now) other (subst (λ s. Somewhere (FaultAt e) s (json_view c.args.json.now)) c.tree-2.ensures.same (stands memory)) h) c.row_of.ensures.fault
+    IfErr-weaker c.row_of.result _ _ (λ e stands memory distinct other h. somewhere_excludes (FaultAt e) (fault_excludes e memory) c.args.schema.now (json_view c.args.json.now) other (subst (λ s. Somewhere (FaultAt e) s (json_view c.args.json.now)) c.tree-2.ensures.same (stands memory)) h) c.row_of.ensures.fault
 
 pub returns-clause-duplicate : goal.returns-clause-duplicate
 returns-clause-duplicate c =
-    IfErr-weaker c.row_of.result _ _ (λ e stands is. absurd (nowhere (FaultAt fault.DuplicateField) (λ s d h. h) (shape c.tree-2.result.now) (json_view c.args.json.now) (subst (λ x. Somewhere (FaultAt x) (shape c.tree-2.result.now) (json_view c.args.json.now)) is (stands (λ q. cc))))) c.row_of.ensures.fault
+    IfErr-weaker c.row_of.result _ _ (λ e stands is. absurd (nowhere (FaultAt fault.DuplicateField) no_duplicate (shape c.tree-2.result.now) (json_view c.args.json.now) (subst (λ x. Somewhere (FaultAt x) (shape c.tree-2.result.now) (json_view c.args.json.now)) is (stands (λ q. cc))))) c.row_of.ensures.fault
