@@ -14,29 +14,16 @@ use Outcome::{Prints, Refused};
 /// The texts of a schema and of JSON, and what it comes to.
 type Case = (&'static str, &'static str, Outcome);
 
-const LEAVES: [Case; 19] = [
+const LEAF_ROWS: [Case; 10] = [
     ("struct<b:tinyint>", r#"{"b":128}"#, Refused(Range)),
-    ("struct<b:tinyint>", r#"{"b":-129}"#, Refused(Range)),
     ("struct<b:tinyint>", r#"{"b":"1"}"#, Refused(WrongShape)),
-    ("struct<b:tinyint>", r#"{"b":-128}"#, Prints(r#"{"b":-128}"#)),
-    ("struct<s:smallint>", r#"{"s":32768}"#, Refused(Range)),
-    ("struct<s:smallint>", r#"{"s":32767}"#, Prints(r#"{"s":32767}"#)),
-    ("struct<i:int>", r#"{"i":-2147483649}"#, Refused(Range)),
-    ("struct<i:int>", r#"{"i":2147483647}"#, Prints(r#"{"i":2147483647}"#)),
+    ("struct<b:tinyint>", r#"{"x":1}"#, Refused(UnknownField)),
+    ("struct<b:tinyint>", "{}", Prints(r#"{"b":null}"#)),
     ("struct<n:bigint>", r#"{"n":9223372036854775808}"#, Refused(Range)),
     ("struct<n:bigint>", r#"{"n":18446744073709551616}"#, Refused(WrongShape)),
-    (
-        "struct<n:bigint>",
-        r#"{"n":-9223372036854775808}"#,
-        Prints(r#"{"n":-9223372036854775808}"#),
-    ),
-    ("struct<n:bigint>", r#"{"n":-0}"#, Refused(WrongShape)),
-    ("struct<n:bigint>", r#"{"n":1.0}"#, Refused(WrongShape)),
-    ("struct<o:boolean>", r#"{"o":true}"#, Prints(r#"{"o":true}"#)),
-    ("struct<o:boolean>", r#"{"o":0}"#, Refused(WrongShape)),
     ("struct<v:binary>", r#"{"v":"0F"}"#, Prints(r#"{"v":"0f"}"#)),
     ("struct<v:binary>", r#"{"v":"0"}"#, Refused(JsonFault::BadHex)),
-    ("struct<d:date>", r#"{"d":19782}"#, Prints(r#"{"d":"2024-02-29"}"#)),
+    ("struct<d:date>", r#"{"d":2932896}"#, Prints(r#"{"d":"9999-12-31"}"#)),
     (
         "struct<t:string>",
         r#"{"t":"\"\\\/\b\f\n\r\t\u0041\ud83d\ude00\u0001"}"#,
@@ -44,10 +31,8 @@ const LEAVES: [Case; 19] = [
     ),
 ];
 
-const NESTED_ROWS: [Case; 18] = [
-    ("struct<b:tinyint>", r#"{"x":1}"#, Refused(UnknownField)),
+const NESTED_ROWS: [Case; 16] = [
     ("struct<b:tinyint>", r#"{"b":1,"x":2}"#, Refused(UnknownField)),
-    ("struct<b:tinyint>", "{}", Prints(r#"{"b":null}"#)),
     ("struct<b:tinyint>", "null", Prints("null")),
     ("struct<b:tinyint>", "[1]", Refused(WrongShape)),
     ("struct<>", "{}", Prints("{}")),
@@ -73,7 +58,7 @@ const NESTED_ROWS: [Case; 18] = [
 fn json_rows(rt: HostRuntime) {
     let alloc = rt.alloc();
     let mut refused = false;
-    for case in LEAVES {
+    for case in LEAF_ROWS {
         check_case(&rt, alloc, &case, &mut refused);
     }
     for case in NESTED_ROWS {
