@@ -5,3 +5,5 @@ pub mod Exclusion
 pub mod Together
 pub mod KeptFields
 pub mod Texts
+pub mod OneText
+pub mod TextExclusion

@@ -11,3 +11,5 @@ pub mod Views
 pub mod Preorder
 pub mod Lent
 pub mod SchemaText
+pub mod TextFaults
+pub mod TextFronts

@@ -18,7 +18,7 @@ pub use columns::cells;
 pub use fault::TypeFault;
 pub use fitting::{fits, int_fits};
 pub use kind::Scalar;
-pub use laws::{cells_laws, schema_laws};
+pub use laws::{cells_laws, schema_laws, schema_text_laws};
 pub use lent::{Lent, lend};
 pub use schema::Schema;
 pub use tree::{Field, Tree, width_of};
