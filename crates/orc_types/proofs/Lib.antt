@@ -5,5 +5,6 @@ pub mod Exclusion
 pub mod Together
 pub mod KeptFields
 pub mod Texts
+pub mod Listed
 pub mod OneText
 pub mod TextExclusion

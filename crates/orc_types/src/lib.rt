@@ -8,6 +8,7 @@ mod fitting;
 mod kind;
 mod laws;
 mod lent;
+mod listing;
 mod preorder;
 mod schema;
 mod schema_text;
