@@ -5,7 +5,7 @@ use Rattle.orc_types.specs.declared.fault.TypeFault.{TypeFault}
 use Rattle.orc_types.specs.declared.fault.TypeFault.TheVariants as fault
 use Rattle.orc_types.specs.Shapes.{Shape, scalar, list_of, struct_of, Fields, no_field, field, width, depth, depths, IsStruct}
 use Rattle.orc_types.specs.SchemaText.{comma, colon, text, fields_text, IsName, IsPlain, ArePlain, HasText}
-use Rattle.orc_types.specs.TextFaults.{is_none, EntersField, Enters, element, member, Opens, IsTextOf, TextFault}
+use Rattle.orc_types.specs.TextFaults.{is_empty, EntersField, Enters, element, member, Opens, IsTextOf, TextFault}
 use Rattle.orc_types.proofs.Exclusion.{depth_pos}
 use Rattle.orc_types.proofs.OneText.{kind_or_array, kind_or_struct, array_or_struct, array_text, struct_text, field_text, no_field_closes, one_field, one_text, one_whole}
 
@@ -18,7 +18,7 @@ begins_later : (fs : Fields) → begins false fs ≡ false
 begins_later no_field = refl
 begins_later (field name s fs) = refl
 
-begins_first : (fs : Fields) → begins true fs ≡ is_none fs
+begins_first : (fs : Fields) → begins true fs ≡ is_empty fs
 begins_first no_field = refl
 begins_first (field name s fs) = refl
 
@@ -66,5 +66,5 @@ no_text_schema bytes s fault.TooMany h bad =
     absurd (omega (arith, h.schema.count, bad.wrong))
 no_text_schema bytes s fault.RootNotStruct h bad =
     absurd (bad.wrong (subst IsStruct (one_whole s bad.shape h.plain bad.plain (sym h.spelled ∙ bad.spelled)) h.schema.root))
-no_text_schema bytes s (fault.BadText place) h bad = absurd (bad s h.plain h.spelled)
+no_text_schema bytes s (fault.BadText place) h bad = absurd (bad.1 s h.plain h.spelled)
 no_text_schema bytes s fault.OutOfMemory h bad = refl

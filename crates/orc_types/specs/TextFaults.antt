@@ -1,13 +1,13 @@
 -- Why a text is no schema's (ORC specification, "Types", and this project's limits).
-use Rattle.std.specs.Prelude.{◌≡◌, ◌<◌, ◌⊎◌, ℕ, zero, suc, List, ◌++◌, Bool, true, false, codes}
+use Rattle.std.specs.Prelude.{◌≡◌, ◌<◌, ◌≤◌, ℕ, zero, suc, List, ◌++◌, length, Bool, true, false, codes}
 use Rattle.orc_types.specs.Shapes.{Shape, Fields, no_field, field, width, IsStruct}
 use Rattle.orc_types.specs.SchemaText.{text, fields_text, comma, colon, IsName, IsPlain, ArePlain}
 use Rattle.orc_types.specs.declared.fault.TypeFault.{TypeFault}
 use Rattle.orc_types.specs.declared.fault.TypeFault.TheVariants as fault
 
-abbrev pub is_none : Fields → Bool
-is_none no_field = true
-is_none (field name s fs) = false
+abbrev pub is_empty : Fields → Bool
+is_empty no_field = true
+is_empty (field name s fs) = false
 
 -- the text up to a field's type, and then the inner text
 pub record EntersField (bytes inner : List ℕ) : Type 0 where
@@ -15,7 +15,7 @@ pub record EntersField (bytes inner : List ℕ) : Type 0 where
   pub name : List ℕ
   pub plain : ArePlain before
   pub named : IsName name
-  pub spelled : bytes ≡ fields_text true before ++ (comma (is_none before) ++ (name ++ (colon ++ inner)))
+  pub spelled : bytes ≡ fields_text true before ++ (comma (is_empty before) ++ (name ++ (colon ++ inner)))
 
 -- the text up to an array's element or to a struct's field's type, and then the inner text
 pub data Enters (bytes inner : List ℕ) : Type 0 where
@@ -41,5 +41,5 @@ TextFault bytes fault.BadTree = ⊥
 TextFault bytes fault.TooDeep = Opens bytes 32
 TextFault bytes fault.TooMany = IsTextOf (λ s. 4096 < width s) bytes
 TextFault bytes fault.RootNotStruct = IsTextOf (λ s. IsStruct s → ⊥) bytes
-TextFault bytes (fault.BadText place) = (s : Shape) → IsPlain s → bytes ≡ text s → ⊥
+TextFault bytes (fault.BadText place) = (place ≤ length bytes) × ((s : Shape) → IsPlain s → bytes ≡ text s → ⊥)
 TextFault bytes fault.OutOfMemory = Unit {0}

@@ -1,5 +1,5 @@
 -- The type whose text stands at the front of some bytes (ORC specification, "Types").
-use Rattle.std.specs.Prelude.{◌≡◌, ◌≤◌, ℕ, List, ◌++◌, Bool, codes}
+use Rattle.std.specs.Prelude.{◌≡◌, ◌≤◌, ℕ, List, ◌++◌, length, Bool, true, codes}
 use Rattle.orc_types.specs.Shapes.{Shape, Fields, depth, depths}
 use Rattle.orc_types.specs.SchemaText.{text, fields_text, comma, colon, IsName, IsPlain, ArePlain}
 use Rattle.orc_types.specs.TextFaults.{Opens, EntersField}
@@ -35,14 +35,24 @@ NoFieldFront bytes first = (name : List ℕ) (s : Shape) (rest : List ℕ) → I
 abbrev pub NoFieldsFront : List ℕ → Bool → Type 0
 NoFieldsFront bytes first = (fs : Fields) (rest : List ℕ) → ArePlain fs → bytes ≡ fields_text first fs ++ (codes ">" ++ rest) → ⊥
 
--- why no type of so many levels is in front
+-- a text that is wrong, where so many bytes of it are left
+abbrev pub IsBad : List ℕ → Type 0 → TypeFault → Type 0
+IsBad bytes P (fault.UnsupportedKind k) = ⊥
+IsBad bytes P fault.BadTree = ⊥
+IsBad bytes P fault.TooDeep = ⊥
+IsBad bytes P fault.TooMany = ⊥
+IsBad bytes P fault.RootNotStruct = ⊥
+IsBad bytes P (fault.BadText left) = (left ≤ length bytes) × P
+IsBad bytes P fault.OutOfMemory = ⊥
+
+-- why no type of so many levels is in front; BadText has the number of bytes that are left
 abbrev pub FrontFault : List ℕ → ℕ → TypeFault → Type 0
 FrontFault bytes levels (fault.UnsupportedKind k) = ⊥
 FrontFault bytes levels fault.BadTree = ⊥
 FrontFault bytes levels fault.TooDeep = Opens bytes levels
 FrontFault bytes levels fault.TooMany = ⊥
 FrontFault bytes levels fault.RootNotStruct = ⊥
-FrontFault bytes levels (fault.BadText place) = NoFront bytes
+FrontFault bytes levels (fault.BadText left) = (left ≤ length bytes) × NoFront bytes
 FrontFault bytes levels fault.OutOfMemory = Unit {0}
 
 -- the name and the colon of a field, whose type goes deeper
@@ -60,7 +70,7 @@ FieldFault bytes first levels fault.BadTree = ⊥
 FieldFault bytes first levels fault.TooDeep = FieldOpens bytes first levels
 FieldFault bytes first levels fault.TooMany = ⊥
 FieldFault bytes first levels fault.RootNotStruct = ⊥
-FieldFault bytes first levels (fault.BadText place) = NoFieldFront bytes first
+FieldFault bytes first levels (fault.BadText left) = (left ≤ length bytes) × NoFieldFront bytes first
 FieldFault bytes first levels fault.OutOfMemory = Unit {0}
 
 -- why no fields are in front
@@ -70,5 +80,5 @@ FieldsFault bytes levels fault.BadTree = ⊥
 FieldsFault bytes levels fault.TooDeep = (inner : List ℕ) × EntersField bytes inner × Opens inner levels
 FieldsFault bytes levels fault.TooMany = ⊥
 FieldsFault bytes levels fault.RootNotStruct = ⊥
-FieldsFault bytes levels (fault.BadText place) = NoFieldsFront bytes true
+FieldsFault bytes levels (fault.BadText left) = (left ≤ length bytes) × NoFieldsFront bytes true
 FieldsFault bytes levels fault.OutOfMemory = Unit {0}

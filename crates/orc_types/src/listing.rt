@@ -80,11 +80,7 @@ fn list_tree(alloc: Global, types: &mut Vec<TypeMsg>, tree: &Tree) -> Result<(),
 
 /// Adds the types of the fields, one field after the other.
 #[cycle(list)]
-fn list_fields(
-    alloc: Global,
-    types: &mut Vec<TypeMsg>,
-    fields: &[Field],
-) -> Result<(), AllocError>
+fn list_fields(alloc: Global, types: &mut Vec<TypeMsg>, fields: &[Field]) -> Result<(), AllocError>
     requires { length types.old.items + widths (fields_view fields.now) < 2 ^ 32 }
     ensures { OnOk result (types.new.items ≡ types.old.items ++ fields_types (fields_view fields.now) (length types.old.items)) }
 {
