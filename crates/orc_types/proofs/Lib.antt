@@ -7,4 +7,5 @@ pub mod KeptFields
 pub mod Texts
 pub mod Listed
 pub mod OneText
+pub mod TextFronts
 pub mod TextExclusion

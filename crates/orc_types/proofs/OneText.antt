@@ -77,7 +77,7 @@ one_front (c ∷ v) (d ∷ w) a b x y vs ws na nb h =
     let r = one_front v w a b x y vs.1 ws.1 na nb f in
     (rw (e, r.0) refl, r.1, r.2)
 
-colon_ends : is_word 58 ≡ false
+pub colon_ends : is_word 58 ≡ false
 unfolding is_word
 colon_ends = refl
 
