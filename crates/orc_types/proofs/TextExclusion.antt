@@ -10,15 +10,15 @@ use Rattle.orc_types.proofs.Exclusion.{depth_pos}
 use Rattle.orc_types.proofs.OneText.{kind_or_array, kind_or_struct, array_or_struct, array_text, struct_text, field_text, no_field_closes, one_field, one_text, one_whole}
 
 -- whether a field would be the first behind these
-abbrev begins : Bool → Fields → Bool
+abbrev pub begins : Bool → Fields → Bool
 begins first no_field = first
 begins first (field name s fs) = false
 
-begins_later : (fs : Fields) → begins false fs ≡ false
+pub begins_later : (fs : Fields) → begins false fs ≡ false
 begins_later no_field = refl
 begins_later (field name s fs) = refl
 
-begins_first : (fs : Fields) → begins true fs ≡ is_empty fs
+pub begins_first : (fs : Fields) → begins true fs ≡ is_empty fs
 begins_first no_field = refl
 begins_first (field name s fs) = refl
 
