@@ -8,4 +8,5 @@ pub mod Texts
 pub mod Listed
 pub mod OneText
 pub mod TextFronts
+pub mod TextSchemas
 pub mod TextExclusion

@@ -1,6 +1,9 @@
 -- What stands at the front of a text, and what stands there not.
-use Rattle.std.proofs.Common.{◌≡◌, ◌≢◌, ℕ, zero, suc, ◌+◌, ◌-◌, ◌<◌, ◌≤◌, ◌⊎◌, List, [], ◌∷◌, ◌++◌, length, get_or, take, drop, Bool, true, false, codes, refl, sym, ap, ◌∙◌, subst, arith, length-append, sub-one, drop-cons, inl, inr}
-use Rattle.std.specs.List.{AllByRecursion}
+use Rattle.std.proofs.Common.{◌≡◌, ◌≢◌, ℕ, zero, suc, ◌+◌, ◌-◌, ◌<◌, ◌≤◌, ◌⊎◌, List, [], ◌∷◌, ◌++◌, length, get_or, take, drop, Bool, true, false, ◌==◌, codes, refl, sym, ap, ◌∙◌, subst, arith, length-append, sub-one, drop-cons, inl, inr}
+use Rattle.std.specs.List.{AllByRecursion, All}
+use Rattle.std.specs.Str.{is_utf8}
+use Rattle.std.proofs.lemmas.Str.{is_utf8-from_IsUtf8, IsUtf8-from_ascii}
+use Rattle.std.proofs.lemmas.Str.Ascii.{IsAscii-from_all}
 use Rattle.std.proofs.lemmas.List.{append_cancel_left, take-append-drop, take_all, drop_all}
 use Rattle.orc_types.specs.declared.kind.Scalar.{Scalar}
 use Rattle.orc_types.specs.declared.kind.Scalar.TheVariants as kind
@@ -11,7 +14,10 @@ use Rattle.orc_types.specs.SchemaText.{kind_name, comma, colon, text, fields_tex
 use Rattle.orc_types.specs.TextFaults.{Opens, Enters, element, member, EntersField, is_empty}
 use Rattle.orc_types.specs.TextFronts.{IsFront, IsFieldFront, IsFieldsFront, NoFront, NoFieldFront, NoFieldsFront, IsBad, FrontFault, FieldOpens, FieldFault, FieldsFault}
 use Rattle.orc_types.specs.Preorder.{NameFault}
-use Rattle.orc_types.specs.Views.{fields_of}
+use Rattle.orc_types.specs.Views.{fields_of, fields}
+use Rattle.orc_types.specs.declared.tree.Field.{Field}
+use Rattle.std.proofs.Math.Dec.{eqb-suc-zero}
+use Rattle.std.proofs.lemmas.Bool.Decides.{nat_tests}
 use Rattle.orc_types.proofs.OneText.{colon_ends, one_front, kind_or_array, kind_or_struct, array_or_struct, array_text, struct_text, field_text, no_field_closes, one_field, one_text}
 use Rattle.orc_types.proofs.TextExclusion.{begins, begins_later, begins_first}
 
@@ -168,6 +174,28 @@ pub nameless : (bytes named : List ℕ) (first : Bool) → bytes ≡ comma first
 nameless bytes named first h none =
     (behind bytes (comma first) named h, λ name s rest is plain e. none name (text s ++ rest) is (append_cancel_left (comma first) _ _ (sym h ∙ e)))
 
+word_ascii : (b : ℕ) → is_word b ≡ true → b < 128
+unfolding is_word
+word_ascii b h = grind (arith, nat_tests)
+
+ascii : (bytes : List ℕ) → AreWords bytes → All (λ b. b < 128) bytes
+ascii [] words k d h = absurd (omega arith)
+ascii (b ∷ bytes) words zero d h = word_ascii b words.0
+ascii (b ∷ bytes) words (suc k) d h = ascii bytes words.1 k d (omega arith)
+
+-- names are text
+pub name_text : (name : List ℕ) → IsName name → is_utf8 name ≡ true
+name_text name is = is_utf8-from_IsUtf8 name (IsUtf8-from_ascii name (IsAscii-from_all name (ascii name is.words)))
+
+pub name_fault : (bytes : List ℕ) (first : Bool) (d : ℕ) (name : List ℕ) (f : TypeFault) → IsName name → NameFault name f → FieldFault bytes first d f
+name_fault bytes first d name (fault.UnsupportedKind k) is bad = bad
+name_fault bytes first d name fault.BadTree is bad = bad
+name_fault bytes first d name fault.TooDeep is bad = absurd bad
+name_fault bytes first d name fault.TooMany is bad = bad
+name_fault bytes first d name fault.RootNotStruct is bad = bad
+name_fault bytes first d name (fault.BadText left) is bad = (let wrong : true ≡ false = sym (name_text name is) ∙ bad.1 in cc)
+name_fault bytes first d name fault.OutOfMemory is bad = tt
+
 -- why a field is refused for its type
 pub type_fault : (bytes named inner : List ℕ) (first : Bool) (d : ℕ) (name : List ℕ) (f : TypeFault) → bytes ≡ comma first ++ named → named ≡ name ++ (colon ++ inner) → IsName name → FrontFault inner d f → FieldFault bytes first d f
 type_fault bytes named inner first d name (fault.UnsupportedKind k) h e is bad = bad
@@ -204,6 +232,10 @@ depths_push (g ∷ gs) name s d all h = omega (arith, depths_push gs name s d (o
 not_empty : (gs : List (List ℕ × Shape)) (g : List ℕ × Shape) → is_empty (fields_of (gs ++ g ∷ [])) ≡ false
 not_empty [] g = refl
 not_empty (h ∷ gs) g = refl
+
+pub none_yet : (fs : List Field) (n : ℕ) → n ≡ length fs → (n == 0) ≡ is_empty (fields fs)
+none_yet [] n h = rw h refl
+none_yet (f ∷ fs) n h = rw h (eqb-suc-zero (length fs))
 
 -- Some fields stand in front of what is left, and where no fields stand there, none stand at all.
 pub record Reached (bytes : List ℕ) (d : ℕ) (gs : List (List ℕ × Shape)) (left : List ℕ) : Type 0 where

@@ -1,5 +1,5 @@
-ghost use Rattle.std.specs.Prelude.{◌≡◌, ◌≢◌, ◌++◌, ℕ, List, [], IfOk, IfErr, IfSome, IfNone, OnOk, MatchOption, MatchResult, true, string_bytes};
-ghost use Rattle.orc_types.specs.Shapes.{Shape};
+ghost use Rattle.std.specs.Prelude.{◌↔◌, IsTrue, ◌≡◌, ◌≢◌, ◌++◌, ℕ, List, [], IfOk, IfErr, IfSome, IfNone, OnOk, MatchOption, MatchResult, true, string_bytes};
+ghost use Rattle.orc_types.specs.Shapes.{Shape, IsStruct};
 ghost use Rattle.orc_types.specs.SchemaText as spec;
 ghost use Rattle.orc_types.specs.SchemaText.{HasText};
 ghost use Rattle.orc_types.specs.TextFaults.{TextFault};
@@ -42,7 +42,7 @@ impl Schema {
         ensures fault { IfErr result (TextFault text.now) }
     {
         let tree = whole_tree(alloc, text.as_bytes())?;
-        if !matches!(tree, Tree::Struct(_, _)) {
+        if !is_struct(&tree) {
             return Err(TypeFault::RootNotStruct);
         }
         if width_of(&tree) > MOST_TYPES {
@@ -263,6 +263,12 @@ fn fields_from<'t>(
         fields.push(field)?;
         left = rest;
     }
+}
+
+fn is_struct(tree: &Tree) -> bool
+    ensures { IsTrue result ↔ IsStruct (shape tree.now) }
+{
+    matches!(tree, Tree::Struct(_, _))
 }
 
 /// The fault with its place counted from the front of the text.
