@@ -77,7 +77,7 @@ below_of ts n y rest below h b =
     let e : b.type ≡ y = cc in
     (b.index, subst (λ (t : TypeMsg). slice_get t.subtypes b.index ≡ Some below) e b.subtype)
 
-depth_pos : (s : Shape) → 0 < depth s
+pub depth_pos : (s : Shape) → 0 < depth s
 depth_pos (scalar k o) = omega arith
 depth_pos (list_of s o) = omega arith
 depth_pos (struct_of fs o) = omega arith

@@ -5,6 +5,11 @@ pub mod Exclusion
 pub mod Together
 pub mod KeptFields
 pub mod Texts
+pub mod Listed
+pub mod OneText
+pub mod TextFronts
+pub mod TextSchemas
+pub mod TextExclusion
 pub mod Booleans
 pub mod Bytes
 pub mod Days

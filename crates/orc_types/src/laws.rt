@@ -4,6 +4,8 @@ ghost use Rattle.orc_types.specs.Types.{types};
 ghost use Rattle.orc_wire.specs.declared.type_msg.TypeMsg.{TypeMsg};
 ghost use Rattle.orc_types.specs.Schemas.{HasTypes, same_types};
 ghost use Rattle.orc_types.specs.Faults.{TypesFault};
+ghost use Rattle.orc_types.specs.SchemaText.{HasText};
+ghost use Rattle.orc_types.specs.TextFaults.{TextFault};
 ghost use Rattle.orc_types.specs.Cells.{Cell};
 ghost use Rattle.orc_types.specs.Columns.{cells};
 ghost use Rattle.orc_types.specs.Fits.{RowsFit, fits};
@@ -23,6 +25,13 @@ pub fn schema_laws()
     ensures one_tree { (s t : Shape) → types s 0 ≡ types t 0 → s ≡ t }
     ensures equal { (s t : Shape) → (same_types s t ≡ true) ↔ (s ≡ t) }
     ensures none { (ts : List TypeMsg) (s : Shape) (fault : TypeFault) → HasTypes s ts → TypesFault ts fault → fault ≡ OutOfMemory }
+{}
+
+/// Laws of schemas' texts: a text is of one schema at most; and of the faults that stand, none but
+/// want of memory goes with a schema.
+pub fn schema_text_laws()
+    ensures one_schema { (bytes : List ℕ) (s t : Shape) → HasText s bytes → HasText t bytes → s ≡ t }
+    ensures none { (bytes : List ℕ) (s : Shape) (fault : TypeFault) → HasText s bytes → TextFault bytes fault → fault ≡ OutOfMemory }
 {}
 
 /// Laws of cells: the cells of rows one after the other stand one after the other, and those of a

@@ -12,6 +12,7 @@ mod json_leaves;
 mod json_rows;
 mod refused;
 mod rows;
+mod texts;
 
 /// A type of a table: its kind's number, its subtypes, its fields' names.
 type Listed = (u32, &'static [u32], &'static [&'static [u8]]);
