@@ -18,9 +18,11 @@ mod tree;
 mod value;
 
 pub use columns::cells;
+pub use day_text::day_laws;
 pub use fault::TypeFault;
 pub use fitting::{fits, int_fits};
 pub use json_fault::JsonFault;
+pub use json_leaf::leaf_laws;
 pub use kind::Scalar;
 pub use laws::{cells_laws, schema_laws};
 pub use lent::{Lent, lend};

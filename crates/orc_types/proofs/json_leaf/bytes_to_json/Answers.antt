@@ -12,4 +12,4 @@ view-String s = search (rules, the_lemmas)
 pub returns-clause-reads_back : goal.returns-clause-reads_back
 returns-clause-reads_back c =
     let below : IsBytes c.args.octets.now = λ i. (c.type_inv.octets i).fits in
-    (encode_lower c.args.octets.now, view-String c.in_ok-encode.field-0 ∙ ap string c.in_ok-encode.ensures, decode_of-encode_lower c.args.octets.now below)
+    (encode_lower c.args.octets.now, view-String c.in_ok-digits.digits ∙ ap string c.in_ok-digits.ensures, decode_of-encode_lower c.args.octets.now below)
