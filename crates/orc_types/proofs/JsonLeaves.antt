@@ -1,9 +1,9 @@
 -- Values of JSON spell one value of a kind at most, what is printed is read back, and what is refused spells none.
-use Rattle.std.proofs.Common.{◌≡◌, ℕ, ℤ, pos, negsuc, List, Bool, true, false, Some, None, Ok, ◌⊎◌, inl, inr, refl, sym, ap, ◌∙◌, subst, arith}
+use Rattle.std.proofs.Common.{◌≡◌, ℕ, ℤ, pos, negsuc, List, Bool, true, false, ◌⊎◌, inl, inr, refl, sym, ap, ◌∙◌, subst}
 use Rattle.hex.specs.Hex.{encode_lower}
 use Rattle.hex.proofs.HexLemmas.{decode_of-encode_lower}
 use Rattle.serde_json.specs.Data.{Data, null, boolean, number, string, array, object}
-use Rattle.serde_json.specs.Find.{as_integer, of_integer}
+use Rattle.serde_json.specs.Find.{of_integer}
 use Rattle.orc_types.specs.declared.kind.Scalar.{Scalar}
 use Rattle.orc_types.specs.declared.kind.Scalar.TheVariants as kind
 use Rattle.orc_types.specs.declared.json_fault.JsonFault.{JsonFault}
@@ -227,3 +227,63 @@ null_no_fault k fault.BadDate h = cc (h.1.1)
 null_no_fault k fault.BadHex h = cc (h.1.1)
 null_no_fault k fault.OutOfMemory h = refl
 null_no_fault k _ h = absurd h
+
+-- ---- one fault at most, but for memory
+
+misfit_range : (k : Scalar) (d : Data) → IsMisfit k d → IsOutOfRange k d → ⊥
+misfit_range k null m r = absurd m
+misfit_range k (boolean b) m r = cc (r.1.1)
+misfit_range k (number n) (inl m) r = cc (r.0)
+misfit_range k (number n) (inr m) r = cc (r.1.1)
+misfit_range k (string s) m r = cc (r.1.1)
+misfit_range k (array ds) m r = cc (r.1.1)
+misfit_range k (object ms) m r = cc (r.1.1)
+
+misfit_string : (k : Scalar) (d : Data) (s : List ℕ) → IsMisfit k d → d ≡ string s → takes_strings k ≡ false
+misfit_string k null s m e = absurd m
+misfit_string k (boolean b) s m e = cc
+misfit_string k (number n) s m e = cc
+misfit_string k (string t) s m e = m
+misfit_string k (array ds) s m e = cc
+misfit_string k (object ms) s m e = cc
+
+misfit_date : (k : Scalar) (d : Data) → IsMisfit k d → IsBadDate k d → ⊥
+misfit_date k d m b = cc (b.0, (no_strings k (misfit_string k d b.1.0 m b.1.1)).2)
+
+misfit_hex : (k : Scalar) (d : Data) → IsMisfit k d → IsBadHex k d → ⊥
+misfit_hex k d m b = cc (b.0, (no_strings k (misfit_string k d b.1.0 m b.1.1)).1)
+
+range_date : (k : Scalar) (d : Data) → IsOutOfRange k d → IsBadDate k d → ⊥
+range_date k d r b = no_integer d b.1.0 r.1.0 b.1.1 r.1.1
+
+range_hex : (k : Scalar) (d : Data) → IsOutOfRange k d → IsBadHex k d → ⊥
+range_hex k d r b = no_integer d b.1.0 r.1.0 b.1.1 r.1.1
+
+date_hex : (k : Scalar) (d : Data) → IsBadDate k d → IsBadHex k d → ⊥
+date_hex k d a b = let same = sym (date_kind k a.0) ∙ binary_kind k b.0 in cc
+
+pub one_fault : (k : Scalar) (d : Data) (f g : JsonFault) → LeafFault k d f → LeafFault k d g → (f ≡ g) ⊎ ((f ≡ fault.OutOfMemory) ⊎ (g ≡ fault.OutOfMemory))
+one_fault k d fault.OutOfMemory g x y = inr (inl refl)
+one_fault k d f fault.OutOfMemory x y = inr (inr refl)
+one_fault k d fault.WrongShape fault.WrongShape x y = inl refl
+one_fault k d fault.Range fault.Range x y = inl refl
+one_fault k d fault.BadDate fault.BadDate x y = inl refl
+one_fault k d fault.BadHex fault.BadHex x y = inl refl
+one_fault k d fault.WrongShape fault.Range x y = absurd (misfit_range k d x y)
+one_fault k d fault.WrongShape fault.BadDate x y = absurd (misfit_date k d x y)
+one_fault k d fault.WrongShape fault.BadHex x y = absurd (misfit_hex k d x y)
+one_fault k d fault.Range fault.WrongShape x y = absurd (misfit_range k d y x)
+one_fault k d fault.Range fault.BadDate x y = absurd (range_date k d x y)
+one_fault k d fault.Range fault.BadHex x y = absurd (range_hex k d x y)
+one_fault k d fault.BadDate fault.WrongShape x y = absurd (misfit_date k d y x)
+one_fault k d fault.BadDate fault.Range x y = absurd (range_date k d y x)
+one_fault k d fault.BadDate fault.BadHex x y = absurd (date_hex k d x y)
+one_fault k d fault.BadHex fault.WrongShape x y = absurd (misfit_hex k d y x)
+one_fault k d fault.BadHex fault.Range x y = absurd (range_hex k d y x)
+one_fault k d fault.BadHex fault.BadDate x y = absurd (date_hex k d y x)
+one_fault k d fault.Syntax g x y = absurd x
+one_fault k d fault.UnknownField g x y = absurd x
+one_fault k d fault.DuplicateField g x y = absurd x
+one_fault k d f fault.Syntax x y = absurd y
+one_fault k d f fault.UnknownField x y = absurd y
+one_fault k d f fault.DuplicateField x y = absurd y

@@ -1,5 +1,5 @@
 -- Days as dates of the calendar (ORC specification, "Types": a date is the days since 1970-01-01; RFC 3339, full-date).
-use Rattle.std.specs.Prelude.{◌≡◌, ℕ, zero, suc, ◌+◌, ◌-◌, ◌++◌, ◌<◌, ◌≤◌, List, [], ◌∷◌, ℤ, pos, negsuc, ◌+ℤ◌, Bool, true, nat_lt, nat_le, if◌then◌else◌}
+use Rattle.std.specs.Prelude.{◌≡◌, ℕ, zero, suc, ◌+◌, ◌-◌, ◌++◌, List, [], ◌∷◌, ℤ, pos, negsuc, ◌+ℤ◌, Bool, true, nat_lt, nat_le, if◌then◌else◌}
 use Rattle.jiff_core.specs.Calendar.{days_in_month}
 use Rattle.jiff_fmt.specs.Temporal.{DateParts}
 use Rattle.jiff_fmt.specs.Text.{year_text, pad2}

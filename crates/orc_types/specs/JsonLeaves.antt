@@ -1,5 +1,5 @@
 -- Values of JSON under columns that contain no other (ORC specification, "Types"; a date is RFC 3339's full-date or a number, and binary is hexadecimal digits).
-use Rattle.std.specs.Prelude.{◌≡◌, ℕ, ℤ, List, Bool, true, false, Some, None, option_and_then, Ok, ◌||◌, ◌⊎◌, if◌then◌else◌}
+use Rattle.std.specs.Prelude.{◌≡◌, ℕ, ℤ, List, Bool, true, false, Some, None, option_and_then, Ok, ◌⊎◌, if◌then◌else◌}
 use Rattle.hex.specs.Hex.{decode_of, encode_lower}
 use Rattle.serde_json.specs.Data.{Data, null, boolean, number, string, array, object}
 use Rattle.serde_json.specs.Find.{as_number, as_integer, of_integer}
@@ -9,7 +9,7 @@ use Rattle.orc_types.specs.declared.json_fault.JsonFault.{JsonFault}
 use Rattle.orc_types.specs.declared.json_fault.JsonFault.TheVariants as fault
 use Rattle.orc_types.specs.Cells.{Atom, bool, int, date, text, bytes, Cell, null as null_cell, leaf, list, struct}
 use Rattle.orc_types.specs.Days.{has_text, day_text, IsDayText}
-use Rattle.orc_types.specs.Fits.{atom_fits, is_boolean, is_string, is_binary, is_date}
+use Rattle.orc_types.specs.Fits.{atom_fits, is_boolean, is_binary, is_date}
 
 -- a number without fraction and exponent that 64 bits hold, with a sign or without
 abbrev pub IsInteger : Data → ℤ → Type 0

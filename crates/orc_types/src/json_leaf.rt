@@ -60,13 +60,12 @@ fn from_number(kind: Scalar, number: &Number) -> Result<Row<'static>, JsonFault>
     if !takes_numbers(kind) {
         return Err(JsonFault::WrongShape);
     }
-    let Some(integer) = number.as_i64() else {
-        // What 64 bits hold only without a sign lies above every kind's range.
-        return Err(if number.is_u64() {
-            JsonFault::Range
-        } else {
-            JsonFault::WrongShape
-        });
+    // A number of 64 bits without a sign may lie above every kind's range.
+    let Some(integer) = number.as_i128() else {
+        return Err(JsonFault::WrongShape);
+    };
+    let Ok(integer) = i64::try_from(integer) else {
+        return Err(JsonFault::Range);
     };
     if matches!(kind, Scalar::Date) {
         return match i32::try_from(integer) {

@@ -1,4 +1,4 @@
-ghost use Rattle.std.specs.Prelude.{◌≡◌, ◌≢◌, ◌↔◌, ◌++◌, ◌<◌, ℕ, List, true};
+ghost use Rattle.std.specs.Prelude.{◌≡◌, ◌≢◌, ◌↔◌, ◌++◌, ◌<◌, ◌⊎◌, ℕ, ℤ, List, true};
 ghost use Rattle.orc_types.specs.Shapes.{Shape, width, shape_at};
 ghost use Rattle.orc_types.specs.Types.{types};
 ghost use Rattle.orc_wire.specs.declared.type_msg.TypeMsg.{TypeMsg};
@@ -9,6 +9,11 @@ ghost use Rattle.orc_types.specs.TextFaults.{TextFault};
 ghost use Rattle.orc_types.specs.Cells.{Cell};
 ghost use Rattle.orc_types.specs.Columns.{cells};
 ghost use Rattle.orc_types.specs.Fits.{RowsFit, fits};
+ghost use Rattle.orc_types.specs.Days.{has_text, day_text, IsDayText};
+ghost use Rattle.jiff.specs.Words.{epoch_day, date_text};
+ghost use Rattle.jiff_core.specs.declared.civil.date.Date.{Date};
+ghost use Rattle.orc_types.specs.declared.kind.Scalar.{Scalar};
+ghost use Rattle.orc_types.specs.JsonLeaves.{LeafFault};
 ghost use Rattle.orc_types.specs.FieldNames.{is_distinct};
 ghost use Rattle.orc_types.specs.JsonRows.{Spells};
 ghost use Rattle.orc_types.specs.JsonFaults.{FaultAt, Somewhere};
@@ -41,12 +46,20 @@ pub fn cells_laws()
     ensures fit { (s : Shape) (column : ℕ) (rows : List Cell) → column < width s → RowsFit s rows → RowsFit (shape_at s column) (cells s column rows) }
 {}
 
+/// Laws of days: a text is one day's, and the text of a day is that of the calendar's date with this
+/// day number.
+pub fn day_laws()
+    ensures one { (s : List ℕ) (m n : ℤ) → IsDayText s m → IsDayText s n → m ≡ n }
+    ensures calendar { (d : Date) → has_text (epoch_day d) ≡ true → day_text (epoch_day d) ≡ date_text d }
+{}
+
 /// Laws of JSON rows: a JSON value spells one row at most, which fits; a fault that stands somewhere
-/// in it leaves none, but for want of memory; and where no struct names a field twice, a row that
-/// fits is spelled by its JSON.
+/// in it leaves none, but for want of memory; a value that contains no other is refused in one way;
+/// and where no struct names a field twice, a row that fits is spelled by its JSON.
 pub fn json_laws()
     ensures one_row { (s : Shape) (json : Data) (a b : Cell) → Spells s json a → Spells s json b → a ≡ b }
     ensures fit { (s : Shape) (json : Data) (row : Cell) → Spells s json row → fits row s ≡ true }
     ensures none { (fault : JsonFault) (s : Shape) (json : Data) (row : Cell) → fault ≢ NoMemory → Somewhere (FaultAt fault) s json → Spells s json row → ⊥ }
+    ensures one_fault { (kind : Scalar) (json : Data) (a b : JsonFault) → LeafFault kind json a → LeafFault kind json b → (a ≡ b) ⊎ ((a ≡ NoMemory) ⊎ (b ≡ NoMemory)) }
     ensures again { (s : Shape) (row : Cell) → is_distinct s ≡ true → fits row s ≡ true → Spells s (json_of s row) row }
 {}

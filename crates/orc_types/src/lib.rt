@@ -28,7 +28,7 @@ pub use json_fault::JsonFault;
 pub use json_printing::row_to_json;
 pub use json_reading::row_from_json;
 pub use kind::Scalar;
-pub use laws::{cells_laws, json_laws, schema_laws, schema_text_laws};
+pub use laws::{cells_laws, day_laws, json_laws, schema_laws, schema_text_laws};
 pub use lent::{Lent, lend};
 pub use schema::Schema;
 pub use tree::{Field, Tree, width_of};

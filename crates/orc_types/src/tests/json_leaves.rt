@@ -158,3 +158,23 @@ fn check_leaves(rt: &impl Abort, alloc: Global) -> Result<(), JsonFault> {
     }
     Ok(())
 }
+
+#[test]
+fn json_fault_texts(rt: HostRuntime) {
+    let alloc = rt.alloc();
+    let table = [
+        (JsonFault::Syntax, "json 1 Syntax"),
+        (JsonFault::WrongShape, "json 2 WrongShape"),
+        (JsonFault::Range, "json 3 Range"),
+        (JsonFault::UnknownField, "json 4 UnknownField"),
+        (JsonFault::DuplicateField, "json 5 DuplicateField"),
+        (JsonFault::BadDate, "json 6 BadDate"),
+        (JsonFault::BadHex, "json 7 BadHex"),
+        (JsonFault::OutOfMemory, "json 8 OutOfMemory"),
+    ];
+    for (fault, text) in table {
+        if let Ok(shown) = format!(in alloc; "{fault}") {
+            assert_eq!(rt; shown.as_str(), text);
+        }
+    }
+}

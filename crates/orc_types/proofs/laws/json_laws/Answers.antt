@@ -1,5 +1,6 @@
 use Rattle.orc_types.specs.JsonFaults.{FaultAt}
 use Rattle.orc_types.proofs.JsonBack.{reads_back}
+use Rattle.orc_types.proofs.JsonLeaves.{one_fault}
 use Rattle.orc_types.proofs.JsonLaws.{one_row, row_fits, fault_excludes, somewhere_excludes}
 use Rattle.orc_types.proofs.laws.json_laws.Goals as goal
 
@@ -14,3 +15,6 @@ returns-clause-none c = λ e s d row memory there spelled. somewhere_excludes (F
 
 pub returns-clause-again : goal.returns-clause-again
 returns-clause-again c = reads_back
+
+pub returns-clause-one_fault : goal.returns-clause-one_fault
+returns-clause-one_fault c = one_fault
