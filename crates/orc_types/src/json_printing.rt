@@ -74,7 +74,11 @@ fn array_of(alloc: Global, tree: &Tree, rows: &Vec<Row<'_>>) -> Result<Vec<Json>
 
 /// The members of a struct's object.
 #[cycle(printing)]
-fn object_of(alloc: Global, fields: &Vec<Field>, rows: &Vec<Row<'_>>) -> Result<Map<String, Json>, AllocError>
+fn object_of(
+    alloc: Global,
+    fields: &Vec<Field>,
+    rows: &Vec<Row<'_>>,
+) -> Result<Map<String, Json>, AllocError>
     requires { each_fits (cells_of (views rows.now.items)) (fields_view fields.now.items) ≡ true }
     ensures { IfOk result (λ object. members_view object.entries ≡ spec.members_json (fields_view fields.now.items) (cells_of (views rows.now.items)) no_members) }
 {
@@ -87,7 +91,12 @@ fn object_of(alloc: Global, fields: &Vec<Field>, rows: &Vec<Row<'_>>) -> Result<
 }
 
 /// Puts a value at a key.
-fn put(alloc: Global, object: &mut Map<String, Json>, key: &str, json: Json) -> Result<(), AllocError>
+fn put(
+    alloc: Global,
+    object: &mut Map<String, Json>,
+    key: &str,
+    json: Json,
+) -> Result<(), AllocError>
     ensures { OnOk result (members_view object.new.entries ≡ spec_put key.now (json_view json) (members_view object.old.entries)) }
 {
     let key = String::from_str(alloc, key)?;

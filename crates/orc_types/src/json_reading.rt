@@ -73,7 +73,11 @@ fn row_of(alloc: Global, tree: &Tree, json: &Json) -> Result<Row<'static>, JsonF
 
 /// The rows that the elements of an array spell.
 #[cycle(reading)]
-fn elements_of(alloc: Global, tree: &Tree, items: &Vec<Json>) -> Result<Vec<Row<'static>>, JsonFault>
+fn elements_of(
+    alloc: Global,
+    tree: &Tree,
+    items: &Vec<Json>,
+) -> Result<Vec<Row<'static>>, JsonFault>
     ensures found { IfOk result (λ rows. EachSpells (Spells (shape tree.now)) (items_view items.now.items) (cells_of (views rows.items))) }
     ensures fault { IfErr result (λ e. e ≢ fault.OutOfMemory → InElement (Somewhere (FaultAt e) (shape tree.now)) (array (items_view items.now.items))) }
 {
@@ -86,7 +90,11 @@ fn elements_of(alloc: Global, tree: &Tree, items: &Vec<Json>) -> Result<Vec<Row<
 
 /// The rows that the members of an object spell, field by field.
 #[cycle(reading)]
-fn fields_of(alloc: Global, fields: &Vec<Field>, json: &Json) -> Result<Vec<Row<'static>>, JsonFault>
+fn fields_of(
+    alloc: Global,
+    fields: &Vec<Field>,
+    json: &Json,
+) -> Result<Vec<Row<'static>>, JsonFault>
     ensures found { IfOk result (λ rows. FieldsSpell (fields_view fields.now.items) (json_view json.now) (cells_of (views rows.items))) }
     ensures fault { IfErr result (λ e. e ≢ fault.OutOfMemory → InField (FaultAt e) (fields_view fields.now.items) (json_view json.now)) }
 {

@@ -19,11 +19,27 @@ const LEAF_ROWS: [Case; 10] = [
     ("struct<b:tinyint>", r#"{"b":"1"}"#, Refused(WrongShape)),
     ("struct<b:tinyint>", r#"{"x":1}"#, Refused(UnknownField)),
     ("struct<b:tinyint>", "{}", Prints(r#"{"b":null}"#)),
-    ("struct<n:bigint>", r#"{"n":9223372036854775808}"#, Refused(Range)),
-    ("struct<n:bigint>", r#"{"n":18446744073709551616}"#, Refused(WrongShape)),
+    (
+        "struct<n:bigint>",
+        r#"{"n":9223372036854775808}"#,
+        Refused(Range),
+    ),
+    (
+        "struct<n:bigint>",
+        r#"{"n":18446744073709551616}"#,
+        Refused(WrongShape),
+    ),
     ("struct<v:binary>", r#"{"v":"0F"}"#, Prints(r#"{"v":"0f"}"#)),
-    ("struct<v:binary>", r#"{"v":"0"}"#, Refused(JsonFault::BadHex)),
-    ("struct<d:date>", r#"{"d":2932896}"#, Prints(r#"{"d":"9999-12-31"}"#)),
+    (
+        "struct<v:binary>",
+        r#"{"v":"0"}"#,
+        Refused(JsonFault::BadHex),
+    ),
+    (
+        "struct<d:date>",
+        r#"{"d":2932896}"#,
+        Prints(r#"{"d":"9999-12-31"}"#),
+    ),
     (
         "struct<t:string>",
         r#"{"t":"\"\\\/\b\f\n\r\t\u0041\ud83d\ude00\u0001"}"#,
@@ -32,26 +48,62 @@ const LEAF_ROWS: [Case; 10] = [
 ];
 
 const NESTED_ROWS: [Case; 16] = [
-    ("struct<b:tinyint>", r#"{"b":1,"x":2}"#, Refused(UnknownField)),
+    (
+        "struct<b:tinyint>",
+        r#"{"b":1,"x":2}"#,
+        Refused(UnknownField),
+    ),
     ("struct<b:tinyint>", "null", Prints("null")),
     ("struct<b:tinyint>", "[1]", Refused(WrongShape)),
     ("struct<>", "{}", Prints("{}")),
-    ("struct<b:int,a:int>", r#"{"b":1,"a":2}"#, Prints(r#"{"a":2,"b":1}"#)),
-    ("struct<a:array<int>>", r#"{"a":[1,null,3]}"#, Prints(r#"{"a":[1,null,3]}"#)),
+    (
+        "struct<b:int,a:int>",
+        r#"{"b":1,"a":2}"#,
+        Prints(r#"{"a":2,"b":1}"#),
+    ),
+    (
+        "struct<a:array<int>>",
+        r#"{"a":[1,null,3]}"#,
+        Prints(r#"{"a":[1,null,3]}"#),
+    ),
     ("struct<a:array<int>>", r#"{"a":[]}"#, Prints(r#"{"a":[]}"#)),
     ("struct<a:array<int>>", r#"{"a":{}}"#, Refused(WrongShape)),
-    ("struct<a:array<int>>", r#"{"a":[1,[2]]}"#, Refused(WrongShape)),
+    (
+        "struct<a:array<int>>",
+        r#"{"a":[1,[2]]}"#,
+        Refused(WrongShape),
+    ),
     (
         "struct<a:array<struct<n:int>>>",
         r#"{"a":[{"n":1},{},null,{"n":null}]}"#,
         Prints(r#"{"a":[{"n":1},{"n":null},null,{"n":null}]}"#),
     ),
-    ("struct<a:array<struct<n:int>>>", r#"{"a":[{"m":1}]}"#, Refused(UnknownField)),
-    ("struct<s:struct<d:date>>", r#"{"s":{"d":"x"}}"#, Refused(JsonFault::BadDate)),
-    ("struct<s:struct<v:binary>>", r#"{"s":{"v":"0g"}}"#, Refused(JsonFault::BadHex)),
+    (
+        "struct<a:array<struct<n:int>>>",
+        r#"{"a":[{"m":1}]}"#,
+        Refused(UnknownField),
+    ),
+    (
+        "struct<s:struct<d:date>>",
+        r#"{"s":{"d":"x"}}"#,
+        Refused(JsonFault::BadDate),
+    ),
+    (
+        "struct<s:struct<v:binary>>",
+        r#"{"s":{"v":"0g"}}"#,
+        Refused(JsonFault::BadHex),
+    ),
     ("struct<a:int,a:int>", r#"{"a":1}"#, Refused(DuplicateField)),
-    ("struct<a:array<struct<b:int,c:int,b:date>>>", "null", Refused(DuplicateField)),
-    ("struct<a:struct<a:int>>", r#"{"a":{"a":1}}"#, Prints(r#"{"a":{"a":1}}"#)),
+    (
+        "struct<a:array<struct<b:int,c:int,b:date>>>",
+        "null",
+        Refused(DuplicateField),
+    ),
+    (
+        "struct<a:struct<a:int>>",
+        r#"{"a":{"a":1}}"#,
+        Prints(r#"{"a":{"a":1}}"#),
+    ),
 ];
 
 #[test]

@@ -48,8 +48,10 @@ pub fields_of-loop-field-preserved : goal.fields_of-loop-field-preserved
 fields_of-loop-field-preserved t c =
     let named = ap (λ n. get n (json_view c.args.json.now)) (sym c.as_str.ensures.value) in
     let found : MemberSpells (λ e x. Spells (shape c.field-item.result.tree) e x) (get (string_bytes c.field-item.result.name) (json_view c.args.json.now)) (view c.match-get.row) =
-    elim c.match-get.branch [ fields_of-in-None w ↦ rw (named, ← w.in-None.ensures, w.row-is) refl
-    | fields_of-in-Some+in_ok-row-in-Some w ↦ rw (named, ← w.in-Some.ensures, w.row-is) w.in_ok-row-in-Some.ensures.found ] in
+    elim c.match-get.branch [
+      | fields_of-in-None w ↦ rw (named, ← w.in-None.ensures, w.row-is) refl
+      | fields_of-in-Some+in_ok-row-in-Some w ↦ rw (named, ← w.in-Some.ensures, w.row-is) w.in_ok-row-in-Some.ensures.found
+    ] in
     let pushed : views c.push.new.self.items ≡ views c.loop-field.rows.items ++ view c.match-get.row ∷ [] = ap views c.in_ok-push.ensures.items ∙ map-append view c.loop-field.rows.items (c.match-get.row ∷ []) in
     rw (pushed, add-one) (fields_more c.deref-field-items.result.now (json_view c.args.json.now) c.loop-field.field-index c.field-item.result (views c.loop-field.rows.items) (view c.match-get.row) c.loop-field-test.true c.field-item.is found c.loop-field.invariant)
 
