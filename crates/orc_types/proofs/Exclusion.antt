@@ -14,6 +14,7 @@ use Rattle.orc_types.specs.Shapes.{Shape, scalar, list_of, struct_of, Fields, no
 use Rattle.orc_types.specs.Schemas.{HasTypes, same_node, same_types}
 use Rattle.orc_types.specs.Faults.{HasNoRoot, IsBelow, Descends, TypesFault}
 use Rattle.orc_types.proofs.Trees.{past, slice_get_at, drop_suc, length-types, one_list}
+use Rattle.orc_types.proofs.Booleans.{both}
 
 -- ---- facts of all elements
 
@@ -76,7 +77,7 @@ below_of ts n y rest below h b =
     let e : b.type ≡ y = cc in
     (b.index, subst (λ (t : TypeMsg). slice_get t.subtypes b.index ≡ Some below) e b.subtype)
 
-depth_pos : (s : Shape) → 0 < depth s
+pub depth_pos : (s : Shape) → 0 < depth s
 depth_pos (scalar k o) = omega arith
 depth_pos (list_of s o) = omega arith
 depth_pos (struct_of fs o) = omega arith
@@ -133,10 +134,6 @@ no_schema ts s (fault.BadText place) h bad =
 no_schema ts s fault.OutOfMemory h bad = refl
 
 -- ---- equality
-
-both : (a b : Bool) → (a && b) ≡ true → (a ≡ true) × (b ≡ true)
-both true b h = (refl, h)
-both false b h = cc
 
 pointwise_same : {X : Type 0} (E : X → X → Bool) → ((x y : X) → E x y ≡ true → x ≡ y) → (xs ys : List X) → pointwise E xs ys ≡ true → xs ≡ ys
 pointwise_same E same [] [] h = refl

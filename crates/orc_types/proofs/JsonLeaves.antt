@@ -9,10 +9,12 @@ use Rattle.orc_types.specs.declared.kind.Scalar.TheVariants as kind
 use Rattle.orc_types.specs.declared.json_fault.JsonFault.{JsonFault}
 use Rattle.orc_types.specs.declared.json_fault.JsonFault.TheVariants as fault
 use Rattle.orc_types.specs.Cells.{Atom, bool, int, date, text, bytes}
-use Rattle.orc_types.specs.Fits.{atom_fits, is_boolean, is_string, is_binary, is_date}
+use Rattle.orc_types.specs.Fits.{atom_fits, are_bytes, is_boolean, is_string, is_binary, is_date}
 use Rattle.orc_types.specs.Days.{has_text, day_text, IsDayText}
-use Rattle.orc_types.specs.JsonLeaves.{IsInteger, IsHex, Spells, LeafSpells, IsMisfit, IsOutOfRange, IsBadDate, IsBadHex, LeafFault, takes_numbers, takes_strings, date_json, atom_json, HasBytes}
+use Rattle.orc_types.specs.JsonLeaves.{IsInteger, IsHex, SpellsAtom, LeafSpells, IsMisfit, IsOutOfRange, IsBadDate, IsBadHex, LeafFault, takes_numbers, takes_strings, date_json, atom_json}
 use Rattle.orc_types.proofs.Days.{one_day}
+use Rattle.orc_types.proofs.Booleans.{both}
+use Rattle.orc_types.proofs.Bytes.{bytes_below}
 
 -- ---- one value at most
 
@@ -56,7 +58,7 @@ sorted _ _ h = cc
 no_integer : (d : Data) (s : List ℕ) (z : ℤ) → d ≡ string s → IsInteger d z → ⊥
 no_integer d s z e h = let none = rw e at h in cc
 
-one_date : (d : Data) (m n : ℤ) → Spells d (date m) → Spells d (date n) → m ≡ n
+one_date : (d : Data) (m n : ℤ) → SpellsAtom d (date m) → SpellsAtom d (date n) → m ≡ n
 one_date d m n (inl x) (inl y) = cc
 one_date d m n (inl x) (inr y) = absurd (no_integer d y.0 m y.1 x)
 one_date d m n (inr x) (inl y) = absurd (no_integer d x.0 n x.1 y)
@@ -81,19 +83,19 @@ integer_back : (z : ℤ) → IsInteger (number (of_integer z)) z
 integer_back (pos n) = refl
 integer_back (negsuc n) = refl
 
-date_back : (n : ℤ) (b : Bool) → has_text n ≡ b → Spells (date_json n) (date n)
+date_back : (n : ℤ) (b : Bool) → has_text n ≡ b → SpellsAtom (date_json n) (date n)
 date_back n true h = rw h (inr (day_text n, refl, (refl, refl)))
 date_back n false h = rw h (inl (integer_back n))
 
-pub spells_back : (a : Atom) → HasBytes a → Spells (atom_json a) a
-spells_back (bool b) h = refl
-spells_back (int z) h = integer_back z
-spells_back (date n) h = date_back n (has_text n) refl
-spells_back (text s) h = refl
-spells_back (bytes bs) h = (encode_lower bs, refl, decode_of-encode_lower bs h)
+spells_back : (k : Scalar) (a : Atom) → atom_fits k a ≡ true → SpellsAtom (atom_json a) a
+spells_back k (bool b) h = refl
+spells_back k (int z) h = integer_back z
+spells_back k (date n) h = date_back n (has_text n) refl
+spells_back k (text s) h = refl
+spells_back k (bytes bs) h = (encode_lower bs, refl, decode_of-encode_lower bs (bytes_below bs (both (is_binary k) (are_bytes bs) h).1))
 
-pub leaf_back : (k : Scalar) (a : Atom) → HasBytes a → atom_fits k a ≡ true → LeafSpells k (atom_json a) a
-leaf_back k a h fits = (spells_back a h, fits)
+pub leaf_back : (k : Scalar) (a : Atom) → atom_fits k a ≡ true → LeafSpells k (atom_json a) a
+leaf_back k a h = (spells_back k a h, h)
 
 -- ---- what is refused spells nothing
 
@@ -166,7 +168,7 @@ range_none k d (date z) r h = elim h.0 [
 one_string : (s t : List ℕ) (d : Data) → d ≡ string s → d ≡ string t → s ≡ t
 one_string s t d x y = cc
 
-bad_date_at : (k : Scalar) (d : Data) (a : Atom) (b : IsBadDate k d) → sort_of a ≡ dates → Spells d a → ⊥
+bad_date_at : (k : Scalar) (d : Data) (a : Atom) (b : IsBadDate k d) → sort_of a ≡ dates → SpellsAtom d a → ⊥
 bad_date_at k d (bool b) x e h = cc
 bad_date_at k d (int z) x e h = cc
 bad_date_at k d (date n) x e (inl h) = not_string d n h x.1.0 x.1.1
@@ -187,7 +189,7 @@ binary_kind _ h = cc
 pub bad_date_none : (k : Scalar) (d : Data) (a : Atom) → IsBadDate k d → LeafSpells k d a → ⊥
 bad_date_none k d a b h = bad_date_at k d a b (sorted k a h.1 ∙ date_kind k b.0) h.0
 
-bad_hex_at : (k : Scalar) (d : Data) (a : Atom) → IsBadHex k d → sort_of a ≡ blobs → Spells d a → ⊥
+bad_hex_at : (k : Scalar) (d : Data) (a : Atom) → IsBadHex k d → sort_of a ≡ blobs → SpellsAtom d a → ⊥
 bad_hex_at k d (bool b) x e h = cc
 bad_hex_at k d (int z) x e h = cc
 bad_hex_at k d (date n) x e h = cc
@@ -209,6 +211,22 @@ leaf_none k d a fault.DuplicateField h x = absurd x
 leaf_none k d a fault.BadDate h x = absurd (bad_date_none k d a x h)
 leaf_none k d a fault.BadHex h x = absurd (bad_hex_none k d a x h)
 leaf_none k d a fault.OutOfMemory h x = refl
+
+-- ---- null
+
+pub null_no_leaf : (k : Scalar) (a : Atom) → LeafSpells k null a → ⊥
+null_no_leaf k (bool b) h = cc (h.0)
+null_no_leaf k (int z) h = cc (h.0)
+null_no_leaf k (date n) h = elim h.0 [ inl x ↦ cc x | inr x ↦ cc (x.1) ]
+null_no_leaf k (text s) h = cc (h.0)
+null_no_leaf k (bytes bs) h = cc (h.0.1)
+
+pub null_no_fault : (k : Scalar) (f : JsonFault) → LeafFault k null f → f ≡ fault.OutOfMemory
+null_no_fault k fault.Range h = cc (h.1.1)
+null_no_fault k fault.BadDate h = cc (h.1.1)
+null_no_fault k fault.BadHex h = cc (h.1.1)
+null_no_fault k fault.OutOfMemory h = refl
+null_no_fault k _ h = absurd h
 
 -- ---- one fault at most, but for memory
 

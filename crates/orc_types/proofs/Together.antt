@@ -9,6 +9,7 @@ use Rattle.orc_types.specs.Columns.{cells, cells_within}
 use Rattle.orc_types.specs.Fits.{fits, all_fit, each_fits, RowsFit}
 use Rattle.orc_types.proofs.Exclusion.{all_append}
 use Rattle.orc_types.proofs.Views.{cells_of-list_of_cells}
+use Rattle.orc_types.proofs.Booleans.{both}
 
 -- ---- one after the other
 
@@ -46,10 +47,6 @@ mutual
       ]
 
 -- ---- rows that fit
-
-both : (a b : Bool) → (a && b) ≡ true → (a ≡ true) × (b ≡ true)
-both true b h = (refl, h)
-both false b h = cc
 
 -- the fields of each struct are rows of the fields
 abbrev pub StructsFit : Fields → List (List Cell) → Type 0

@@ -1,6 +1,6 @@
 -- Values of JSON under columns that contain no other (ORC specification, "Types"; a date is RFC 3339's full-date or a number, and binary is hexadecimal digits).
 use Rattle.std.specs.Prelude.{◌≡◌, ℕ, ℤ, List, Bool, true, false, Some, None, option_and_then, Ok, ◌⊎◌, if◌then◌else◌}
-use Rattle.hex.specs.Hex.{decode_of, encode_lower, IsBytes}
+use Rattle.hex.specs.Hex.{decode_of, encode_lower}
 use Rattle.serde_json.specs.Data.{Data, null, boolean, number, string, array, object}
 use Rattle.serde_json.specs.Find.{as_number, as_integer, of_integer}
 use Rattle.orc_types.specs.declared.kind.Scalar.{Scalar}
@@ -20,16 +20,16 @@ abbrev pub IsHex : List ℕ → List ℕ → Type 0
 IsHex s bs = decode_of s ≡ Ok bs
 
 -- the value of JSON spells the atom
-abbrev pub Spells : Data → Atom → Type 0
-Spells d (bool b) = d ≡ boolean b
-Spells d (int z) = IsInteger d z
-Spells d (date n) = IsInteger d n ⊎ ((s : List ℕ) × (d ≡ string s) × IsDayText s n)
-Spells d (text s) = d ≡ string s
-Spells d (bytes bs) = (s : List ℕ) × (d ≡ string s) × IsHex s bs
+abbrev pub SpellsAtom : Data → Atom → Type 0
+SpellsAtom d (bool b) = d ≡ boolean b
+SpellsAtom d (int z) = IsInteger d z
+SpellsAtom d (date n) = IsInteger d n ⊎ ((s : List ℕ) × (d ≡ string s) × IsDayText s n)
+SpellsAtom d (text s) = d ≡ string s
+SpellsAtom d (bytes bs) = (s : List ℕ) × (d ≡ string s) × IsHex s bs
 
 -- and that atom is a value of the kind
 abbrev pub LeafSpells : Scalar → Data → Atom → Type 0
-LeafSpells k d a = Spells d a × (atom_fits k a ≡ true)
+LeafSpells k d a = SpellsAtom d a × (atom_fits k a ≡ true)
 
 -- null spells the null cell under every kind
 abbrev pub ScalarSpells : Scalar → Data → Cell → Type 0
@@ -118,18 +118,3 @@ LeafPrints null_cell d = ⊥
 LeafPrints (leaf a) d = d ≡ atom_json a
 LeafPrints (list cs) d = ⊥
 LeafPrints (struct cs) d = ⊥
-
--- the value of JSON spells the leaf under each kind that has it
-abbrev pub LeafReadsBack : Cell → Data → Type 0
-LeafReadsBack null_cell d = ⊥
-LeafReadsBack (leaf a) d = (k : Scalar) → atom_fits k a ≡ true → LeafSpells k d a
-LeafReadsBack (list cs) d = ⊥
-LeafReadsBack (struct cs) d = ⊥
-
--- the atom's bytes, where it has some, are below 256
-abbrev pub HasBytes : Atom → Type 0
-HasBytes (bool b) = Unit {0}
-HasBytes (int z) = Unit {0}
-HasBytes (date n) = Unit {0}
-HasBytes (text s) = Unit {0}
-HasBytes (bytes bs) = IsBytes bs

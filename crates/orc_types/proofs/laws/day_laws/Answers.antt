@@ -1,6 +1,6 @@
 use Rattle.std.proofs.Common.{sym}
 use Rattle.orc_types.proofs.Days.{one_day, day_text-date, has_text-year}
-use Rattle.orc_types.proofs.day_text.day_laws.Goals as goal
+use Rattle.orc_types.proofs.laws.day_laws.Goals as goal
 
 pub returns-clause-one : goal.returns-clause-one
 returns-clause-one c = one_day
