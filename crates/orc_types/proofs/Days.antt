@@ -1,6 +1,7 @@
 -- The calendar's dates, one after the other, are those of the days in order.
-use Rattle.std.proofs.Common.{◌≡◌, ℕ, zero, suc, ◌+◌, ◌<◌, ◌≤◌, List, ℤ, pos, negsuc, ◌+ℤ◌, ◌≤ℤ◌, Bool, true, false, Ok, nat_lt, cond, refl, sym, ap, ◌∙◌, arith}
+use Rattle.std.proofs.Common.{◌≡◌, ℕ, zero, suc, ◌+◌, ◌<◌, ◌≤◌, List, ℤ, pos, negsuc, neg_ℤ, ◌+ℤ◌, ◌≤ℤ◌, Bool, true, false, Ok, nat_lt, cond, refl, sym, ap, ◌∙◌, arith}
 use Rattle.std.specs.Int.{IsInRange}
+use Rattle.std.specs.Prelude.{◌↔◌}
 use Rattle.std.proofs.lemmas.Bool.Decides.{nat_tests}
 use Rattle.std.proofs.lemmas.Int.{by_lt_z}
 use Rattle.jiff_core.specs.declared.civil.date.Date.{Date}
@@ -8,7 +9,7 @@ use Rattle.jiff_core.specs.Calendar.{days_in_month, day_count, days_from_civil}
 use Rattle.jiff_core.specs.Date.{epoch_day}
 use Rattle.jiff_core.proofs.CalendarLemmas.{day_count-day, day_count-next_month, day_count-next_year, day_count-last_of_year, day_count-later_year, day_count-day_of_year, day_count-end, days_from_civil-day_count, days_in_month_bounds}
 use Rattle.jiff_core.proofs.MarchLemmas.{day_count-early}
-use Rattle.jiff_core.proofs.DateLemmas.{epoch_day_injective}
+use Rattle.jiff_core.proofs.DateLemmas.{epoch_day_injective, epoch_day_range}
 use Rattle.jiff_core.proofs.SignedLemmas.{signed_arith}
 use Rattle.jiff_fmt.specs.Temporal.{DateParts, date_parts, parse_date}
 use Rattle.jiff_fmt.specs.Text.{date_text}
@@ -105,6 +106,7 @@ from_first-is (negsuc n) h = let lt : n < 719162 = later n 719162 h in omega (ar
 record HasDate (n : ℤ) : Type 0 where
   date : Date
   day : epoch_day date ≡ n
+  year : pos 1 ≤ℤ date.year
   text : date_text date ≡ day_text n
 
 date_of : (n : ℤ) → has_text n ≡ true → HasDate n
@@ -116,6 +118,7 @@ date_of n h =
     record {
       date = d;
       day = omega (arith, signed_arith, days_from_civil-day_count (date_after k).year (date_after k).month (date_after k).day, is.count, from_first-is n h);
+      year = is.year;
       text = refl;
     }
 
@@ -133,6 +136,27 @@ pub day_text-date : (d : Date) → has_text (epoch_day d) ≡ true → date_text
 day_text-date d h =
     let found = date_of (epoch_day d) h in
     same_text d found.date (parts_of d found.date (epoch_day_injective d found.date (sym found.day))) ∙ found.text
+
+above_first : (n : ℤ) → neg_ℤ (pos 719162) ≤ℤ n → n ≤ℤ pos 2932896 → has_text n ≡ true
+above_first (pos n) low high = let le : n ≤ 2932896 = omega (arith, signed_arith) in grind (arith, nat_tests)
+above_first (negsuc n) low high = let lt : n < 719162 = omega (arith, signed_arith) in grind (arith, nat_tests)
+
+from_year_one : (d : Date) → pos 1 ≤ℤ d.year → 3652791 ≤ day_count d.year d.month d.day
+from_year_one d h =
+    by_lt_z (pos 1) d.year
+    (λ later. omega (arith, first_count, day_count-later_year (pos 1) d.year (omega (arith, signed_arith)) later, day_count-day_of_year d.year d.month d.day d.day_in.0))
+    (λ le. let one : d.year ≡ pos 1 = omega (arith, signed_arith) in
+    rw one (omega (arith, first_count, day_count-day_of_year (pos 1) d.month d.day d.day_in.0)))
+
+-- the days that have a text are those of the years from 0001 on
+pub has_text-year : (d : Date) → (has_text (epoch_day d) ≡ true) ↔ (pos 1 ≤ℤ d.year)
+has_text-year d = (
+  λ h.
+      let found = date_of (epoch_day d) h in
+      let same = epoch_day_injective d found.date (sym found.day) in
+      rw same.0 found.year,
+  λ h. above_first (epoch_day d) (omega (arith, signed_arith, days_from_civil-day_count d.year d.month d.day, from_year_one d h)) (epoch_day_range d).1,
+)
 
 -- a date has the parts that its text is read as
 pub parts_read : (s : List ℕ) (n : ℤ) → IsDayText s n → (d : Date) × (epoch_day d ≡ n) × (s ≡ date_text d) × (parse_date s ≡ Ok (date_parts d))

@@ -1,4 +1,4 @@
-ghost use Rattle.std.specs.Prelude.{◌≡◌, ◌≢◌, ◌↔◌, ◌++◌, ◌<◌, ◌⊎◌, ℕ, ℤ, List, true};
+ghost use Rattle.std.specs.Prelude.{◌≡◌, ◌≢◌, ◌↔◌, ◌++◌, ◌<◌, ◌≤ℤ◌, ◌⊎◌, ℕ, ℤ, pos, List, true};
 ghost use Rattle.orc_types.specs.Shapes.{Shape, width, shape_at};
 ghost use Rattle.orc_types.specs.Types.{types};
 ghost use Rattle.orc_wire.specs.declared.type_msg.TypeMsg.{TypeMsg};
@@ -46,10 +46,11 @@ pub fn cells_laws()
     ensures fit { (s : Shape) (column : ℕ) (rows : List Cell) → column < width s → RowsFit s rows → RowsFit (shape_at s column) (cells s column rows) }
 {}
 
-/// Laws of days: a text is one day's, and the text of a day is that of the calendar's date with this
-/// day number.
+/// Laws of days: a text is one day's; the days that have a text are those of the calendar's dates from
+/// the year 1 on, which ends with the year 9999; and the text is that of the date.
 pub fn day_laws()
     ensures one { (s : List ℕ) (m n : ℤ) → IsDayText s m → IsDayText s n → m ≡ n }
+    ensures years { (d : Date) → (has_text (epoch_day d) ≡ true) ↔ (pos 1 ≤ℤ d.year) }
     ensures calendar { (d : Date) → has_text (epoch_day d) ≡ true → day_text (epoch_day d) ≡ date_text d }
 {}
 
