@@ -85,10 +85,6 @@ pub bracket_ends : is_word 62 ≡ false
 unfolding is_word
 bracket_ends = refl
 
-pub comma_ends : is_word 44 ≡ false
-unfolding is_word
-comma_ends = refl
-
 pub one_name : (v w x y : List ℕ) → AreWords v → AreWords w → v ++ (colon ++ x) ≡ w ++ (colon ++ y) → (v ≡ w) × (x ≡ y)
 one_name v w x y vs ws h = let r = one_front v w 58 58 x y vs ws colon_ends colon_ends h in (r.0, r.2)
 

@@ -76,9 +76,6 @@ kinds_all bytes ks i h left = left (subst (AllByRecursion (NoKind bytes)) (sym (
 behind : (bytes front rest : List ℕ) → bytes ≡ front ++ rest → length rest ≤ length bytes
 behind bytes front rest h = omega (arith, ap length h ∙ length-append front rest)
 
-pub kind_front : (bytes : List ℕ) (d : ℕ) (k : Scalar) (rest : List ℕ) → 0 < d → bytes ≡ kind_name k ++ rest → IsFront bytes d (scalar k []) rest
-kind_front bytes d k rest p h = record { plain = refl; depth = omega arith; spelled = h }
-
 pub array_front : (bytes inner : List ℕ) (d : ℕ) (s : Shape) (left rest : List ℕ) → 0 < d → bytes ≡ codes "array<" ++ inner → IsFront inner (d - 1) s left → left ≡ codes ">" ++ rest → IsFront bytes d (list_of s []) rest
 array_front bytes inner d s left rest p h found closes =
     record {
@@ -151,28 +148,6 @@ struct_fault bytes inner d (fault.BadText left) p h bad = (omega (arith, bad.0, 
 struct_fault bytes inner d fault.OutOfMemory p h bad = tt
 
 -- ---- a field
-
-pub field_front : (bytes named inner : List ℕ) (first : Bool) (d : ℕ) (name : List ℕ) (s : Shape) (rest : List ℕ) → bytes ≡ comma first ++ named → named ≡ name ++ (colon ++ inner) → IsName name → IsFront inner d s rest → IsFieldFront bytes first d name s rest
-field_front bytes named inner first d name s rest h e is found =
-    record {
-      named = is;
-      plain = found.plain;
-      depth = found.depth;
-      spelled = h ∙ ap (λ (r : List ℕ). comma first ++ r) (e ∙ ap (λ (r : List ℕ). name ++ (colon ++ r)) found.spelled);
-    }
-
-pub comma_fault : (bytes : List ℕ) (first : Bool) (d : ℕ) (f : TypeFault) → IsBad bytes ((rest : List ℕ) → bytes ≢ comma first ++ rest) f → FieldFault bytes first d f
-comma_fault bytes first d (fault.UnsupportedKind k) bad = bad
-comma_fault bytes first d fault.BadTree bad = bad
-comma_fault bytes first d fault.TooDeep bad = absurd bad
-comma_fault bytes first d fault.TooMany bad = bad
-comma_fault bytes first d fault.RootNotStruct bad = bad
-comma_fault bytes first d (fault.BadText left) bad = (bad.0, λ name s rest is plain h. bad.1 _ h)
-comma_fault bytes first d fault.OutOfMemory bad = tt
-
-pub nameless : (bytes named : List ℕ) (first : Bool) → bytes ≡ comma first ++ named → ((name rest : List ℕ) → IsName name → named ≢ name ++ (colon ++ rest)) → (length named ≤ length bytes) × NoFieldFront bytes first
-nameless bytes named first h none =
-    (behind bytes (comma first) named h, λ name s rest is plain e. none name (text s ++ rest) is (append_cancel_left (comma first) _ _ (sym h ∙ e)))
 
 word_ascii : (b : ℕ) → is_word b ≡ true → b < 128
 unfolding is_word

@@ -49,9 +49,6 @@ kind_long kind.String = omega arith
 kind_long kind.Binary = omega arith
 kind_long kind.Date = omega arith
 
-longer : (a b c : List ℕ) → length b ≤ length (a ++ b ++ c)
-longer a b c = omega (arith, length-append (a ++ b) c, length-append a b)
-
 field_long : (a b c d e : List ℕ) → length d + length e ≤ length (a ++ b ++ c ++ d ++ e)
 field_long a b c d e = omega (arith, length-append (a ++ b ++ c ++ d) e, length-append (a ++ b ++ c) d)
 
