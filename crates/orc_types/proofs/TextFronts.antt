@@ -1,5 +1,5 @@
 -- What stands at the front of a text, and what stands there not.
-use Rattle.std.proofs.Common.{◌≡◌, ◌≢◌, ℕ, zero, suc, ◌+◌, ◌-◌, ◌<◌, ◌≤◌, ◌⊎◌, List, [], ◌∷◌, ◌++◌, length, get_or, take, drop, Bool, true, false, ◌==◌, codes, refl, sym, ap, ◌∙◌, subst, arith, length-append, sub-one, drop-cons, inl, inr}
+use Rattle.std.proofs.Common.{◌≡◌, ◌≢◌, ℕ, zero, suc, ◌-◌, ◌<◌, ◌≤◌, ◌⊎◌, List, [], ◌∷◌, ◌++◌, length, get_or, take, drop, Bool, true, false, ◌==◌, codes, refl, sym, ap, ◌∙◌, subst, arith, length-append, sub-one, drop-cons, inl, inr}
 use Rattle.std.specs.List.{AllByRecursion, All}
 use Rattle.std.specs.Str.{is_utf8}
 use Rattle.std.proofs.lemmas.Str.{is_utf8-from_IsUtf8, IsUtf8-from_ascii}
@@ -11,8 +11,8 @@ use Rattle.orc_types.specs.declared.fault.TypeFault.{TypeFault}
 use Rattle.orc_types.specs.declared.fault.TypeFault.TheVariants as fault
 use Rattle.orc_types.specs.Shapes.{Shape, scalar, list_of, struct_of, Fields, no_field, field, depth, depths}
 use Rattle.orc_types.specs.SchemaText.{kind_name, comma, colon, text, fields_text, is_word, AreWords, IsName, IsPlain, ArePlain}
-use Rattle.orc_types.specs.TextFaults.{Opens, Enters, element, member, EntersField, is_empty}
-use Rattle.orc_types.specs.TextFronts.{IsFront, IsFieldFront, IsFieldsFront, NoFront, NoFieldFront, NoFieldsFront, IsBad, FrontFault, FieldOpens, FieldFault, FieldsFault}
+use Rattle.orc_types.specs.TextFaults.{Opens, Enters, element, member, is_empty}
+use Rattle.orc_types.specs.TextFronts.{IsFront, IsFieldFront, IsFieldsFront, NoFront, NoFieldFront, NoFieldsFront, IsBad, FrontFault, FieldFault, FieldsFault}
 use Rattle.orc_types.specs.Preorder.{NameFault}
 use Rattle.orc_types.specs.Views.{fields_of, fields}
 use Rattle.orc_types.specs.declared.tree.Field.{Field}
