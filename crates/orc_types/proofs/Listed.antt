@@ -1,6 +1,6 @@
 -- The types of fields, one after the other.
-use Rattle.std.proofs.Common.{◌≡◌, ℕ, suc, ◌+◌, ◌<◌, List, [], ◌∷◌, ◌++◌, length, get_or, drop, string_bytes, refl, sym, ap, ◌∙◌, append_assoc, length-append, drop-cons, arith}
-use Rattle.orc_types.specs.Shapes.{Fields, field, width, widths}
+use Rattle.std.proofs.Common.{◌≡◌, ℕ, suc, ◌+◌, ◌<◌, List, ◌++◌, length, get_or, drop, string_bytes, refl, ap, ◌∙◌, append_assoc, length-append, drop-cons}
+use Rattle.orc_types.specs.Shapes.{field, width, widths}
 use Rattle.orc_types.specs.Types.{types, fields_types}
 use Rattle.orc_types.specs.Views.{shape, fields}
 use Rattle.orc_types.specs.declared.tree.Field.{Field}

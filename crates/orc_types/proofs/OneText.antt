@@ -1,6 +1,5 @@
 -- A text is of one plain type at most, whatever stands behind it.
-use Rattle.std.proofs.Common.{◌≡◌, ℕ, ◌<◌, List, [], ◌∷◌, ◌++◌, length, Bool, true, false, cond, ◌==◌, Option, Some, None, codes, refl, sym, ap, ◌∙◌, subst, append_assoc, arith, get_or, append-nil}
-use Rattle.std.specs.List.{AllByRecursion}
+use Rattle.std.proofs.Common.{◌≡◌, ℕ, List, [], ◌∷◌, ◌++◌, Bool, true, false, cond, ◌==◌, Option, Some, None, codes, refl, sym, ap, ◌∙◌, subst, append_assoc, arith, get_or, append-nil}
 use Rattle.std.proofs.lemmas.List.{append_cancel_left}
 use Rattle.orc_types.specs.declared.kind.Scalar.{Scalar}
 use Rattle.orc_types.specs.declared.kind.Scalar.TheVariants as kind
@@ -84,10 +83,6 @@ colon_ends = refl
 pub bracket_ends : is_word 62 ≡ false
 unfolding is_word
 bracket_ends = refl
-
-pub comma_ends : is_word 44 ≡ false
-unfolding is_word
-comma_ends = refl
 
 pub one_name : (v w x y : List ℕ) → AreWords v → AreWords w → v ++ (colon ++ x) ≡ w ++ (colon ++ y) → (v ≡ w) × (x ≡ y)
 one_name v w x y vs ws h = let r = one_front v w 58 58 x y vs ws colon_ends colon_ends h in (r.0, r.2)

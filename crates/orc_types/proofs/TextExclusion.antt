@@ -1,11 +1,11 @@
 -- A fault that stands leaves no schema of which the text is.
-use Rattle.std.proofs.Common.{◌≡◌, ℕ, zero, suc, ◌<◌, ◌≤◌, List, [], ◌++◌, Bool, true, false, codes, refl, sym, ap, ◌∙◌, subst, arith, append-nil}
+use Rattle.std.proofs.Common.{◌≡◌, ℕ, zero, suc, ◌<◌, List, [], ◌++◌, Bool, true, false, codes, refl, sym, ap, ◌∙◌, subst, arith, append-nil}
 use Rattle.std.proofs.lemmas.List.{append_cancel_left}
 use Rattle.orc_types.specs.declared.fault.TypeFault.{TypeFault}
 use Rattle.orc_types.specs.declared.fault.TypeFault.TheVariants as fault
 use Rattle.orc_types.specs.Shapes.{Shape, scalar, list_of, struct_of, Fields, no_field, field, width, depth, depths, IsStruct}
 use Rattle.orc_types.specs.SchemaText.{comma, colon, text, fields_text, IsName, IsPlain, ArePlain, HasText}
-use Rattle.orc_types.specs.TextFaults.{is_empty, EntersField, Enters, element, member, Opens, IsTextOf, TextFault}
+use Rattle.orc_types.specs.TextFaults.{is_empty, element, member, Opens, TextFault}
 use Rattle.orc_types.proofs.Exclusion.{depth_pos}
 use Rattle.orc_types.proofs.OneText.{kind_or_array, kind_or_struct, array_or_struct, array_text, struct_text, field_text, no_field_closes, one_field, one_text, one_whole}
 

@@ -1,5 +1,5 @@
 -- What stands at the front of a text, and what stands there not.
-use Rattle.std.proofs.Common.{◌≡◌, ◌≢◌, ℕ, zero, suc, ◌+◌, ◌-◌, ◌<◌, ◌≤◌, ◌⊎◌, List, [], ◌∷◌, ◌++◌, length, get_or, take, drop, Bool, true, false, ◌==◌, codes, refl, sym, ap, ◌∙◌, subst, arith, length-append, sub-one, drop-cons, inl, inr}
+use Rattle.std.proofs.Common.{◌≡◌, ◌≢◌, ℕ, zero, suc, ◌-◌, ◌<◌, ◌≤◌, ◌⊎◌, List, [], ◌∷◌, ◌++◌, length, get_or, take, drop, Bool, true, false, ◌==◌, codes, refl, sym, ap, ◌∙◌, subst, arith, length-append, sub-one, drop-cons, inl, inr}
 use Rattle.std.specs.List.{AllByRecursion, All}
 use Rattle.std.specs.Str.{is_utf8}
 use Rattle.std.proofs.lemmas.Str.{is_utf8-from_IsUtf8, IsUtf8-from_ascii}
@@ -11,8 +11,8 @@ use Rattle.orc_types.specs.declared.fault.TypeFault.{TypeFault}
 use Rattle.orc_types.specs.declared.fault.TypeFault.TheVariants as fault
 use Rattle.orc_types.specs.Shapes.{Shape, scalar, list_of, struct_of, Fields, no_field, field, depth, depths}
 use Rattle.orc_types.specs.SchemaText.{kind_name, comma, colon, text, fields_text, is_word, AreWords, IsName, IsPlain, ArePlain}
-use Rattle.orc_types.specs.TextFaults.{Opens, Enters, element, member, EntersField, is_empty}
-use Rattle.orc_types.specs.TextFronts.{IsFront, IsFieldFront, IsFieldsFront, NoFront, NoFieldFront, NoFieldsFront, IsBad, FrontFault, FieldOpens, FieldFault, FieldsFault}
+use Rattle.orc_types.specs.TextFaults.{Opens, Enters, element, member, is_empty}
+use Rattle.orc_types.specs.TextFronts.{IsFront, IsFieldFront, IsFieldsFront, NoFront, NoFieldFront, NoFieldsFront, IsBad, FrontFault, FieldFault, FieldsFault}
 use Rattle.orc_types.specs.Preorder.{NameFault}
 use Rattle.orc_types.specs.Views.{fields_of, fields}
 use Rattle.orc_types.specs.declared.tree.Field.{Field}
@@ -75,9 +75,6 @@ kinds_all bytes ks i h left = left (subst (AllByRecursion (NoKind bytes)) (sym (
 -- what stands behind a front is no longer
 behind : (bytes front rest : List ℕ) → bytes ≡ front ++ rest → length rest ≤ length bytes
 behind bytes front rest h = omega (arith, ap length h ∙ length-append front rest)
-
-pub kind_front : (bytes : List ℕ) (d : ℕ) (k : Scalar) (rest : List ℕ) → 0 < d → bytes ≡ kind_name k ++ rest → IsFront bytes d (scalar k []) rest
-kind_front bytes d k rest p h = record { plain = refl; depth = omega arith; spelled = h }
 
 pub array_front : (bytes inner : List ℕ) (d : ℕ) (s : Shape) (left rest : List ℕ) → 0 < d → bytes ≡ codes "array<" ++ inner → IsFront inner (d - 1) s left → left ≡ codes ">" ++ rest → IsFront bytes d (list_of s []) rest
 array_front bytes inner d s left rest p h found closes =
@@ -151,28 +148,6 @@ struct_fault bytes inner d (fault.BadText left) p h bad = (omega (arith, bad.0, 
 struct_fault bytes inner d fault.OutOfMemory p h bad = tt
 
 -- ---- a field
-
-pub field_front : (bytes named inner : List ℕ) (first : Bool) (d : ℕ) (name : List ℕ) (s : Shape) (rest : List ℕ) → bytes ≡ comma first ++ named → named ≡ name ++ (colon ++ inner) → IsName name → IsFront inner d s rest → IsFieldFront bytes first d name s rest
-field_front bytes named inner first d name s rest h e is found =
-    record {
-      named = is;
-      plain = found.plain;
-      depth = found.depth;
-      spelled = h ∙ ap (λ (r : List ℕ). comma first ++ r) (e ∙ ap (λ (r : List ℕ). name ++ (colon ++ r)) found.spelled);
-    }
-
-pub comma_fault : (bytes : List ℕ) (first : Bool) (d : ℕ) (f : TypeFault) → IsBad bytes ((rest : List ℕ) → bytes ≢ comma first ++ rest) f → FieldFault bytes first d f
-comma_fault bytes first d (fault.UnsupportedKind k) bad = bad
-comma_fault bytes first d fault.BadTree bad = bad
-comma_fault bytes first d fault.TooDeep bad = absurd bad
-comma_fault bytes first d fault.TooMany bad = bad
-comma_fault bytes first d fault.RootNotStruct bad = bad
-comma_fault bytes first d (fault.BadText left) bad = (bad.0, λ name s rest is plain h. bad.1 _ h)
-comma_fault bytes first d fault.OutOfMemory bad = tt
-
-pub nameless : (bytes named : List ℕ) (first : Bool) → bytes ≡ comma first ++ named → ((name rest : List ℕ) → IsName name → named ≢ name ++ (colon ++ rest)) → (length named ≤ length bytes) × NoFieldFront bytes first
-nameless bytes named first h none =
-    (behind bytes (comma first) named h, λ name s rest is plain e. none name (text s ++ rest) is (append_cancel_left (comma first) _ _ (sym h ∙ e)))
 
 word_ascii : (b : ℕ) → is_word b ≡ true → b < 128
 unfolding is_word

@@ -1,6 +1,5 @@
 -- The schema that a text tells.
-use Rattle.std.proofs.Common.{◌≡◌, ◌≢◌, ℕ, ◌+◌, ◌-◌, ◌<◌, ◌≤◌, ◌^◌, List, [], ◌∷◌, ◌++◌, length, Bool, true, false, codes, refl, sym, ap, ◌∙◌, subst, arith, length-append, append-nil}
-use Rattle.std.specs.List.{AllByRecursion}
+use Rattle.std.proofs.Common.{◌≡◌, ◌≢◌, ℕ, ◌+◌, ◌≤◌, List, [], ◌++◌, length, Bool, true, false, codes, sym, ap, ◌∙◌, arith, length-append, append-nil}
 use Rattle.orc_wire.specs.declared.type_msg.TypeMsg.{TypeMsg}
 use Rattle.orc_wire.specs.CanonicalKinds.{AreKept}
 use Rattle.orc_types.specs.declared.kind.Scalar.{Scalar}
@@ -9,7 +8,7 @@ use Rattle.orc_types.specs.declared.fault.TypeFault.{TypeFault}
 use Rattle.orc_types.specs.declared.fault.TypeFault.TheVariants as fault
 use Rattle.orc_types.specs.Shapes.{Shape, scalar, list_of, struct_of, Fields, no_field, field, width, widths, IsStruct, HasTextNames, HaveTextNames}
 use Rattle.orc_types.specs.Types.{types, fields_types}
-use Rattle.orc_types.specs.Schemas.{IsSchema, AllKept}
+use Rattle.orc_types.specs.Schemas.{AllKept}
 use Rattle.orc_types.specs.SchemaText.{kind_name, comma, colon, text, fields_text, IsPlain, ArePlain, HasText}
 use Rattle.orc_types.specs.TextFaults.{TextFault}
 use Rattle.orc_types.specs.TextFronts.{IsFront, FrontFault}
@@ -48,9 +47,6 @@ kind_long kind.Long = omega arith
 kind_long kind.String = omega arith
 kind_long kind.Binary = omega arith
 kind_long kind.Date = omega arith
-
-longer : (a b c : List ℕ) → length b ≤ length (a ++ b ++ c)
-longer a b c = omega (arith, length-append (a ++ b) c, length-append a b)
 
 field_long : (a b c d e : List ℕ) → length d + length e ≤ length (a ++ b ++ c ++ d ++ e)
 field_long a b c d e = omega (arith, length-append (a ++ b ++ c ++ d) e, length-append (a ++ b ++ c) d)

@@ -34,7 +34,8 @@ impl Schema {
     /// underscores. Its types keep nothing else.
     ///
     /// Refusals: `BadText` with the place where the text goes wrong, `TooDeep` above 32 levels,
-    /// `RootNotStruct` of another type's text, `TooMany` above 4,096 types, and `OutOfMemory`.
+    /// `RootNotStruct` of another type's text, `TooMany` above 4,096 types, and `OutOfMemory`. Which
+    /// of several is answered is open.
     pub fn parse(alloc: Global, text: &str) -> Result<Schema, TypeFault>
         ensures found { IfOk result (λ found. HasText found text.now) }
         ensures only { (s : Shape) → HasText s text.now → MatchResult result (λ found. found ≡ s) (λ fault. fault ≡ OutOfMemory) }
@@ -45,7 +46,8 @@ impl Schema {
         if !is_struct(&tree) {
             return Err(TypeFault::RootNotStruct);
         }
-        if width_of(&tree) > MOST_TYPES {
+        let width = width_of(&tree);
+        if width > MOST_TYPES {
             return Err(TypeFault::TooMany);
         }
         Ok(Schema::from_tree(alloc, tree)?)
@@ -144,8 +146,8 @@ fn after<'t>(text: &'t [u8], word: &str) -> Option<&'t [u8]>
     text.strip_prefix(word.as_bytes())
 }
 
-/// What stands behind a word, with which the text has to begin. As in all that follows, `BadText`
-/// has the number of bytes that are left where the text goes wrong.
+/// What stands behind a word, with which the text has to begin. Here and where a text is read from the
+/// front, `BadText` has the number of bytes that are left where it goes wrong.
 fn behind<'t>(text: &'t [u8], word: &str) -> Result<&'t [u8], TypeFault>
     ensures found { IfOk result (λ rest. text.now ≡ word.now ++ rest.now) }
     ensures fault { IfErr result (IsBad text.now ((rest : List ℕ) → text.now ≢ word.now ++ rest)) }
@@ -177,7 +179,8 @@ fn name_from(text: &[u8]) -> Option<(&[u8], &[u8])>
 {
     for (i, byte) in text.iter().enumerate() {
         if !is_word(*byte) {
-            if i == 0 || *byte != b':' {
+            let empty = i == 0;
+            if empty || *byte != b':' {
                 return None;
             }
             return Some((&text[..i], &text[i + 1..]));
@@ -265,6 +268,7 @@ fn fields_from<'t>(
     }
 }
 
+/// Whether a type is a STRUCT.
 fn is_struct(tree: &Tree) -> bool
     ensures { IsTrue result ↔ IsStruct (shape tree.now) }
 {

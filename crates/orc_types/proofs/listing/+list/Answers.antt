@@ -1,7 +1,7 @@
-use Rattle.std.proofs.Common.{◌≡◌, ◌+◌, ◌*◌, ◌<◌, suc, drop, length, ap, ◌∙◌, arith, add-one, length-append}
-use Rattle.orc_types.specs.Shapes.{width, widths}
+use Rattle.std.proofs.Common.{◌≡◌, ◌+◌, ◌*◌, ◌<◌, length, ap, ◌∙◌, arith, add-one, length-append}
+use Rattle.orc_types.specs.Shapes.{width}
 use Rattle.orc_types.specs.Types.{types}
-use Rattle.orc_types.specs.Views.{shape, fields}
+use Rattle.orc_types.specs.Views.{shape}
 use Rattle.orc_types.proofs.ByColumn.{width_within}
 use Rattle.orc_types.proofs.Trees.{length-types}
 use Rattle.orc_types.proofs.Listed.{widths_from, types_more}

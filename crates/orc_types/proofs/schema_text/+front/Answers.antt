@@ -1,9 +1,7 @@
-use Rattle.std.proofs.Common.{◌≡◌, ℕ, ◌+◌, ◌<◌, ◌==◌, List, [], ◌∷◌, ◌++◌, length, map, Bool, refl, sym, ap, ◌∙◌, subst, arith, string_bytes}
+use Rattle.std.proofs.Common.{◌≡◌, [], ◌∷◌, ◌++◌, map, ap, ◌∙◌, arith, string_bytes}
 use Rattle.std.proofs.lemmas.Result.{err_from_is_err_and}
 use Rattle.std.proofs.lemmas.List.{map-append}
-use Rattle.orc_types.specs.declared.tree.Field.{Field}
-use Rattle.orc_types.specs.TextFaults.{is_empty}
-use Rattle.orc_types.specs.Views.{named, shape, fields, fields_of}
+use Rattle.orc_types.specs.Views.{named, shape, fields}
 use Rattle.orc_types.proofs.Views.{named-is, shape-List, shape-Struct}
 use Rattle.orc_types.proofs.TextFronts.{array_front, struct_front, no_front, array_fault, open_array, struct_fault, name_fault, type_fault, reached_none, reached_more, none_yet, field_fault}
 use Rattle.orc_types.proofs.schema_text.+front.Goals as goal

@@ -1,4 +1,4 @@
-use Rattle.std.proofs.Common.{◌≢◌, ℕ, List, [], ◌++◌, subst, add-one, arith}
+use Rattle.std.proofs.Common.{◌≢◌, ℕ, List, ◌++◌, subst, add-one, arith}
 use Rattle.orc_types.proofs.TextFronts.{all_kinds, kinds_more, kinds_all}
 use Rattle.orc_types.proofs.schema_text.kind_from.Goals as goal
 

@@ -1,4 +1,4 @@
-use Rattle.std.proofs.Common.{◌≢◌, List, ℕ, [], length, ap, sym, arith}
+use Rattle.std.proofs.Common.{◌≢◌, [], length, ap, arith}
 use Rattle.orc_types.specs.Views.{shape}
 use Rattle.orc_types.proofs.TextSchemas.{front_fault, more_text}
 use Rattle.orc_types.proofs.schema_text.whole_tree.Goals as goal
