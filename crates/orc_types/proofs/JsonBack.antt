@@ -1,5 +1,6 @@
 -- A row that fits reads back from its JSON.
 use Rattle.std.proofs.Common.{◌≡◌, List, [], ◌∷◌, Bool, true, false, ◌&&◌, ◌||◌, not, Some, bytes_eq, inl, inr, refl, sym, ap, ◌∙◌, subst, rules, Ordering, Less, Equal, Greater, ℕ}
+use Rattle.std.proofs.lemmas.Bool.{and_parts, or_right, or_parts, not-true}
 use Rattle.std.specs.Ordering.{nat_cmp, match_ordering}
 use Rattle.std.specs.Cmp.Lexicographic.{slice_cmp}
 use Rattle.std.proofs.lemmas.Slice.Eq.{bytes_eq-Decides}
@@ -12,22 +13,9 @@ use Rattle.orc_types.specs.Fits.{fits, all_fit, each_fits}
 use Rattle.orc_types.specs.FieldNames.{is_among, all_differ, is_distinct, are_distinct, all_known}
 use Rattle.orc_types.specs.JsonRows.{Spells, EachSpells, MemberSpells, FieldsSpell}
 use Rattle.orc_types.specs.JsonPrinting.{json_of, each_json, members_json}
-use Rattle.orc_types.proofs.Booleans.{both}
 use Rattle.orc_types.proofs.JsonLeaves.{leaf_back}
 
 -- ---- names
-
-or_right : (a b : Bool) → b ≡ true → (a || b) ≡ true
-or_right true b h = refl
-or_right false b h = h
-
-or_false : (a b : Bool) → (a || b) ≡ false → (a ≡ false) × (b ≡ false)
-or_false true b h = cc
-or_false false b h = (refl, h)
-
-not_true : (b : Bool) → not b ≡ true → b ≡ false
-not_true true h = cc
-not_true false h = refl
 
 same_bytes : (n : List ℕ) → bytes_eq n n ≡ true
 same_bytes n = (bytes_eq-Decides n n).1 refl
@@ -58,7 +46,7 @@ put_known_at Greater ns k l d e ms a b h r = rw (b, r) refl
 put_known : (ns : List (List ℕ)) (k : List ℕ) (d : Data) (ms : Members) → is_among ns k ≡ true → all_known ns ms ≡ true → all_known ns (put k d ms) ≡ true
 put_known ns k d no_members a h = rw a refl
 put_known ns k d (member l e ms) a h =
-    let p = both (is_among ns l) (all_known ns ms) h in
+    let p = and_parts (is_among ns l) (all_known ns ms) h in
     put_known_at (slice_cmp nat_cmp k l) ns k l d e ms a p.0 p.1 (put_known ns k d ms a p.1)
 
 members_known : (ns : List (List ℕ)) (fs : Fields) (cs : Cells) (ms : Members) → AllAmong ns (names_of fs) → all_known ns ms ≡ true → all_known ns (members_json fs cs ms) ≡ true
@@ -71,7 +59,7 @@ later_keeps : (name : List ℕ) (fs : Fields) (cs : Cells) (ms : Members) → is
 later_keeps name no_field cs ms h = refl
 later_keeps name (field n s fs) end ms h = refl
 later_keeps name (field n s fs) (more c cs) ms h =
-    let p = or_false (bytes_eq n name) (is_among (names_of fs) name) h in
+    let p = or_parts (bytes_eq n name) (is_among (names_of fs) name) h in
     later_keeps name fs cs (put n (json_of s c) ms) p.1 ∙ get_member-put_other name n (json_of s c) ms (other_bytes n name p.0)
 
 -- ---- what fits reads back
@@ -79,7 +67,7 @@ later_keeps name (field n s fs) (more c cs) ms h =
 each_back : (Is : Data → Cell → Type 0) (g : Cell → Data) (s : Shape) → ((c : Cell) → fits c s ≡ true → Is (g c) c) → (cs : Cells) → all_fit cs s ≡ true → EachSpells Is (each_json g cs) cs
 each_back Is g s r end h = tt
 each_back Is g s r (more c cs) h =
-    let q = both (fits c s) (all_fit cs s) h in
+    let q = and_parts (fits c s) (all_fit cs s) h in
     (r c q.0, each_back Is g s r cs q.1)
 
 mutual
@@ -96,7 +84,7 @@ mutual
   reads_back (struct_of fs o) (leaf a) u h = cc
   reads_back (struct_of fs o) (list cs) u h = cc
   reads_back (struct_of fs o) (struct cs) u h =
-      let q = both (all_differ (names_of fs)) (are_distinct fs) u in
+      let q = and_parts (all_differ (names_of fs)) (are_distinct fs) u in
       inr (members_json fs cs no_members, cs, refl, refl, members_known (names_of fs) fs cs no_members (all_among (names_of fs)) refl, fields_back fs cs no_members q.0 q.1 h)
 
   fields_back : (fs : Fields) (cs : Cells) (ms : Members) → all_differ (names_of fs) ≡ true → are_distinct fs ≡ true → each_fits cs fs ≡ true → FieldsSpell fs (object (members_json fs cs ms)) cs
@@ -104,9 +92,9 @@ mutual
   fields_back no_field (more c cs) ms n u h = cc
   fields_back (field name s fs) end ms n u h = cc
   fields_back (field name s fs) (more c cs) ms n u h =
-      let ns = both (not (is_among (names_of fs) name)) (all_differ (names_of fs)) n in
-      let us = both (is_distinct s) (are_distinct fs) u in
-      let hs = both (fits c s) (each_fits cs fs) h in
+      let ns = and_parts (not (is_among (names_of fs) name)) (all_differ (names_of fs)) n in
+      let us = and_parts (is_distinct s) (are_distinct fs) u in
+      let hs = and_parts (fits c s) (each_fits cs fs) h in
       let here : get_member name (members_json fs cs (put name (json_of s c) ms)) ≡ Some (json_of s c) =
-      later_keeps name fs cs (put name (json_of s c) ms) (not_true (is_among (names_of fs) name) ns.0) ∙ get_member-put name (json_of s c) ms in
+      later_keeps name fs cs (put name (json_of s c) ms) (not-true (is_among (names_of fs) name) ns.0) ∙ get_member-put name (json_of s c) ms in
       (rw here (reads_back s c us.0 hs.0), fields_back fs cs (put name (json_of s c) ms) ns.1 us.1 hs.1)

@@ -165,6 +165,21 @@ mutual
   null_in_field Is (field name s fs) d is (inl h) = no_member d h.0 name is h.1
   null_in_field Is (field name s fs) d is (inr h) = null_in_field Is fs d is h
 
+is_memory : (e : JsonFault) → (e ≡ fault.OutOfMemory) ⊎ (e ≢ fault.OutOfMemory)
+is_memory fault.OutOfMemory = inl refl
+is_memory fault.Syntax = inr (λ q. cc)
+is_memory fault.WrongShape = inr (λ q. cc)
+is_memory fault.Range = inr (λ q. cc)
+is_memory fault.UnknownField = inr (λ q. cc)
+is_memory fault.DuplicateField = inr (λ q. cc)
+is_memory fault.BadDate = inr (λ q. cc)
+is_memory fault.BadHex = inr (λ q. cc)
+
+-- of the faults that stand, none but want of memory goes with a row
+pub only_memory : (s : Shape) (d : Data) (c : Cell) (e : JsonFault) → Spells s d c → (e ≢ fault.OutOfMemory → Somewhere (FaultAt e) s d) → e ≡ fault.OutOfMemory
+only_memory s d c e h stands =
+    elim (is_memory e) [ inl m ↦ m | inr m ↦ absurd (somewhere_excludes (FaultAt e) (fault_excludes e m) s d c (stands m) h) ]
+
 -- ---- a fault that no value has is nowhere
 
 mutual

@@ -1,5 +1,6 @@
 -- Values of JSON spell one value of a kind at most, what is printed is read back, and what is refused spells none.
 use Rattle.std.proofs.Common.{◌≡◌, ℕ, ℤ, pos, negsuc, List, Bool, true, false, ◌⊎◌, inl, inr, refl, sym, ap, ◌∙◌, subst}
+use Rattle.std.proofs.lemmas.Bool.{and_parts}
 use Rattle.hex.specs.Hex.{encode_lower}
 use Rattle.hex.proofs.HexLemmas.{decode_of-encode_lower}
 use Rattle.serde_json.specs.Data.{Data, null, boolean, number, string, array, object}
@@ -13,7 +14,6 @@ use Rattle.orc_types.specs.Fits.{atom_fits, are_bytes, is_boolean, is_string, is
 use Rattle.orc_types.specs.Days.{has_text, day_text, IsDayText}
 use Rattle.orc_types.specs.JsonLeaves.{IsInteger, IsHex, SpellsAtom, LeafSpells, IsMisfit, IsOutOfRange, IsBadDate, IsBadHex, LeafFault, takes_numbers, takes_strings, date_json, atom_json}
 use Rattle.orc_types.proofs.Days.{one_day}
-use Rattle.orc_types.proofs.Booleans.{both}
 use Rattle.orc_types.proofs.Bytes.{bytes_below}
 
 -- ---- one value at most
@@ -92,7 +92,7 @@ spells_back k (bool b) h = refl
 spells_back k (int z) h = integer_back z
 spells_back k (date n) h = date_back n (has_text n) refl
 spells_back k (text s) h = refl
-spells_back k (bytes bs) h = (encode_lower bs, refl, decode_of-encode_lower bs (bytes_below bs (both (is_binary k) (are_bytes bs) h).1))
+spells_back k (bytes bs) h = (encode_lower bs, refl, decode_of-encode_lower bs (bytes_below bs (and_parts (is_binary k) (are_bytes bs) h).1))
 
 pub leaf_back : (k : Scalar) (a : Atom) → atom_fits k a ≡ true → LeafSpells k (atom_json a) a
 leaf_back k a h = (spells_back k a h, h)

@@ -10,7 +10,6 @@ pub mod OneText
 pub mod TextFronts
 pub mod TextSchemas
 pub mod TextExclusion
-pub mod Booleans
 pub mod Bytes
 pub mod Days
 pub mod JsonLeaves

@@ -28,7 +28,7 @@ pub(crate) fn day_text(alloc: Global, day: i32) -> Result<String, AllocError>
     requires { spec.has_text day ≡ true }
     ensures found { IfOk result (λ text. string_bytes text ≡ spec.day_text day) }
 {
-    match civil::Date::from_unix_epoch_day(day as i64) {
+    match civil::Date::from_unix_epoch_day(i64::from(day)) {
         Ok(plain) => Date::from_plain(plain).to_string(alloc),
         Err(_) => unreachable!(),
     }

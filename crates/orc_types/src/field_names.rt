@@ -33,7 +33,7 @@ fn all_differ(fields: &[Field]) -> bool
 
 /// Whether no struct names a field twice.
 #[cycle(distinct)]
-pub fn is_distinct(tree: &Tree) -> bool
+pub(crate) fn is_distinct(tree: &Tree) -> bool
     ensures { result ≡ spec.is_distinct (shape tree.now) }
 {
     match tree {
@@ -57,7 +57,7 @@ fn are_distinct(fields: &[Field]) -> bool
 }
 
 /// Whether each key is the name of a field.
-pub fn all_known(fields: &[Field], members: &Map<String, Json>) -> bool
+pub(crate) fn all_known(fields: &[Field], members: &Map<String, Json>) -> bool
     ensures { result ≡ spec.all_known (names_of (fields_view fields.now)) (members_view members.now.entries) }
 {
     for (key, _) in members.iter() {

@@ -10,16 +10,16 @@ pub enum JsonFault {
     /// The text is no JSON.
     #[error("json 1 Syntax")]
     Syntax,
-    /// A value of JSON is of a type that the column doesn't take.
+    /// A value of JSON is of a type that the column doesn't take, or a number is no integer of 64 bits.
     #[error("json 2 WrongShape")]
     WrongShape,
     /// A number is an integer that lies outside the column's range.
     #[error("json 3 Range")]
     Range,
-    /// An object has a member that is no field of the column.
+    /// An object has a key that no field of the column has.
     #[error("json 4 UnknownField")]
     UnknownField,
-    /// An object has a member twice.
+    /// Some struct of the schema names a field twice.
     #[error("json 5 DuplicateField")]
     DuplicateField,
     /// A string under a date is no date of the years 0001 to 9999, written `YYYY-MM-DD`.

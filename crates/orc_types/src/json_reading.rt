@@ -1,4 +1,4 @@
-ghost use Rattle.std.specs.Prelude.{◌≡◌, ◌≢◌, IfOk, IfErr, true, false};
+ghost use Rattle.std.specs.Prelude.{◌≡◌, ◌≢◌, IfOk, IfErr, MatchResult, true, false};
 ghost use Rattle.serde_json.specs.Data.{array};
 ghost use Rattle.serde_json.specs.View.{view as json_view, items_view};
 ghost use Rattle.orc_types.specs.Cells.{Cell, cells_of};
@@ -30,13 +30,12 @@ use std::alloc::Global;
 /// `BadDate` and `BadHex` for a string that is none; `OutOfMemory`.
 pub fn row_from_json(alloc: Global, schema: &Schema, json: &Json) -> Result<Row<'static>, JsonFault>
     ensures found { IfOk result (λ row. Spells schema.now (json_view json.now) (view row)) }
-    ensures only { IfOk result (λ row. (c : Cell) → Spells schema.now (json_view json.now) c → c ≡ view row) }
+    ensures only { (row : Cell) → spec_distinct schema.now ≡ true → Spells schema.now (json_view json.now) row → MatchResult result (λ found. view found ≡ row) (λ e. e ≡ fault.OutOfMemory) }
     ensures fits { IfOk result (λ row. fits (view row) schema.now ≡ true) }
     ensures distinct { IfOk result (λ row. spec_distinct schema.now ≡ true) }
 
-    ensures refused { IfErr result (λ e. e ≢ fault.OutOfMemory → spec_distinct schema.now ≡ true → (c : Cell) → Spells schema.now (json_view json.now) c → ⊥) }
-    ensures duplicate { IfErr result (λ e. e ≡ fault.DuplicateField → spec_distinct schema.now ≡ false) }
     ensures fault { IfErr result (λ e. e ≢ fault.OutOfMemory → e ≢ fault.DuplicateField → Somewhere (FaultAt e) schema.now (json_view json.now)) }
+    ensures duplicate { IfErr result (λ e. e ≡ fault.DuplicateField → spec_distinct schema.now ≡ false) }
 {
     if !is_distinct(schema.tree()) {
         return Err(JsonFault::DuplicateField);
@@ -50,16 +49,15 @@ fn row_of(alloc: Global, tree: &Tree, json: &Json) -> Result<Row<'static>, JsonF
     ensures found { IfOk result (λ row. Spells (shape tree.now) (json_view json.now) (view row)) }
     ensures fault { IfErr result (λ e. e ≢ fault.OutOfMemory → Somewhere (FaultAt e) (shape tree.now) (json_view json.now)) }
 {
-    if json.is_null() {
-        return Ok(None);
-    }
     match tree {
         Tree::Scalar(kind, _) => leaf_from_json(alloc, *kind, json),
         Tree::List(element, _) => match json {
+            Json::Null => Ok(None),
             Json::Array(items) => Ok(Some(Value::List(elements_of(alloc, element, items)?))),
             _ => Err(JsonFault::WrongShape),
         },
         Tree::Struct(fields, _) => match json {
+            Json::Null => Ok(None),
             Json::Object(members) => {
                 if !all_known(fields, members) {
                     return Err(JsonFault::UnknownField);
@@ -88,7 +86,7 @@ fn elements_of(
     Ok(rows)
 }
 
-/// The rows that the members of an object spell, field by field.
+/// The rows that an object spells, field by field.
 #[cycle(reading)]
 fn fields_of(
     alloc: Global,
