@@ -1,18 +1,21 @@
 -- A row that fits reads back from its JSON.
-use Rattle.std.proofs.Common.{◌≡◌, List, [], ◌∷◌, Bool, true, false, ◌&&◌, ◌||◌, not, Some, bytes_eq, inl, inr, refl, sym, ap, ◌∙◌, subst, rules, Ordering, Less, Equal, Greater, ℕ}
+use Rattle.std.proofs.Common.{◌≡◌, List, [], ◌∷◌, Bool, true, false, ◌&&◌, ◌||◌, not, Some, bytes_eq, inl, inr, refl, sym, ap, ◌∙◌, subst, rules, Ordering, Less, Equal, Greater, ℕ, ℤ}
 use Rattle.std.proofs.lemmas.Bool.{and_parts, or_right, or_parts, not-true}
-use Rattle.std.specs.Ordering.{nat_cmp, match_ordering}
+use Rattle.std.specs.Ordering.{is_lt, nat_cmp, match_ordering, ordering_reverse}
 use Rattle.std.specs.Cmp.Lexicographic.{slice_cmp}
+use Rattle.std.proofs.lemmas.Cmp.{nat_list_cmp_total}
 use Rattle.std.proofs.lemmas.Slice.Eq.{bytes_eq-Decides}
 use Rattle.serde_json.specs.Data.{Data, null as nothing, array, object, Items, no_items, item, Members, no_members, member, put}
 use Rattle.serde_json.specs.Find.{get, get_member}
 use Rattle.serde_json.proofs.Views.{get_member-put, get_member-put_other}
 use Rattle.orc_types.specs.Shapes.{Shape, scalar, list_of, struct_of, Fields, no_field, field, names_of}
-use Rattle.orc_types.specs.Cells.{Cell, null, leaf, list, struct, Cells, end, more}
+use Rattle.orc_types.specs.Cells.{Atom, bool, int, date, text, bytes, Cell, null, leaf, list, struct, Cells, end, more}
 use Rattle.orc_types.specs.Fits.{fits, all_fit, each_fits}
 use Rattle.orc_types.specs.FieldNames.{is_among, all_differ, is_distinct, are_distinct, all_known}
+use Rattle.orc_types.specs.Days.{has_text}
+use Rattle.orc_types.specs.JsonLeaves.{atom_json, date_json}
 use Rattle.orc_types.specs.JsonRows.{Spells, EachSpells, MemberSpells, FieldsSpell}
-use Rattle.orc_types.specs.JsonPrinting.{json_of, each_json, members_json}
+use Rattle.orc_types.specs.JsonPrinting.{json_of, each_json, members_json, IsBelow, AreInOrder}
 use Rattle.orc_types.proofs.JsonLeaves.{leaf_back}
 
 -- ---- names
@@ -61,6 +64,63 @@ later_keeps name (field n s fs) end ms h = refl
 later_keeps name (field n s fs) (more c cs) ms h =
     let p = or_parts (bytes_eq n name) (is_among (names_of fs) name) h in
     later_keeps name fs cs (put n (json_of s c) ms) p.1 ∙ get_member-put_other name n (json_of s c) ms (other_bytes n name p.0)
+
+-- ---- keys in order
+
+-- l comes before k where k comes after l
+turned : (k l : List ℕ) → slice_cmp nat_cmp k l ≡ Greater → is_lt (slice_cmp nat_cmp l k) ≡ true
+turned k l h = ap is_lt (nat_list_cmp_total.antisymm l k ∙ ap ordering_reverse h)
+
+below_put_at : (o : Ordering) (l k m : List ℕ) (d e : Data) (ms : Members) → is_lt (slice_cmp nat_cmp l k) ≡ true → is_lt (slice_cmp nat_cmp l m) ≡ true
+    → IsBelow l (match_ordering o (member k d (member m e ms)) (member m d ms) (member m e (put k d ms)))
+below_put_at Less l k m d e ms h g = h
+below_put_at Equal l k m d e ms h g = g
+below_put_at Greater l k m d e ms h g = g
+
+below_put : (l k : List ℕ) (d : Data) (ms : Members) → is_lt (slice_cmp nat_cmp l k) ≡ true → IsBelow l ms → IsBelow l (put k d ms)
+below_put l k d no_members h g = h
+below_put l k d (member m e ms) h g = below_put_at (slice_cmp nat_cmp k m) l k m d e ms h g
+
+put_ordered_at : (o : Ordering) (k l : List ℕ) (d e : Data) (ms : Members) → slice_cmp nat_cmp k l ≡ o → IsBelow l ms → AreInOrder ms → AreInOrder (put k d ms)
+    → AreInOrder (match_ordering o (member k d (member l e ms)) (member l d ms) (member l e (put k d ms)))
+put_ordered_at Less k l d e ms is h g r = (ap is_lt is, (h, g))
+put_ordered_at Equal k l d e ms is h g r = (h, g)
+put_ordered_at Greater k l d e ms is h g r = (below_put l k d ms (turned k l is) h, r)
+
+put_ordered : (k : List ℕ) (d : Data) (ms : Members) → AreInOrder ms → AreInOrder (put k d ms)
+put_ordered k d no_members h = (tt, tt)
+put_ordered k d (member l e ms) h = put_ordered_at (slice_cmp nat_cmp k l) k l d e ms refl h.0 h.1 (put_ordered k d ms h.1)
+
+in_order : (fs : Fields) (cs : Cells) (ms : Members) → AreInOrder ms → AreInOrder (members_json fs cs ms)
+in_order no_field cs ms h = h
+in_order (field name s fs) end ms h = h
+in_order (field name s fs) (more c cs) ms h = in_order fs cs (put name (json_of s c) ms) (put_ordered name (json_of s c) ms h)
+
+no_object_date : (n : ℤ) (b : Bool) (ms : Members) → has_text n ≡ b → date_json n ≡ object ms → ⊥
+no_object_date n true ms e h = let q = rw e at h in cc
+no_object_date n false ms e h = let q = rw e at h in cc
+
+no_object : (a : Atom) (ms : Members) → atom_json a ≡ object ms → ⊥
+no_object (bool b) ms h = cc
+no_object (int z) ms h = cc
+no_object (date n) ms h = no_object_date n (has_text n) ms refl h
+no_object (text s) ms h = cc
+no_object (bytes bs) ms h = cc
+
+pub object_in_order : (s : Shape) (c : Cell) (ms : Members) → json_of s c ≡ object ms → AreInOrder ms
+object_in_order (scalar k o) (leaf a) ms h = absurd (no_object a ms h)
+object_in_order (struct_of fs o) (struct cs) ms h =
+    let same : members_json fs cs no_members ≡ ms = cc in subst AreInOrder same (in_order fs cs no_members tt)
+object_in_order (scalar k o) null ms h = let none : ⊥ = cc in absurd none
+object_in_order (scalar k o) (list cs) ms h = let none : ⊥ = cc in absurd none
+object_in_order (scalar k o) (struct cs) ms h = let none : ⊥ = cc in absurd none
+object_in_order (list_of s o) null ms h = let none : ⊥ = cc in absurd none
+object_in_order (list_of s o) (leaf a) ms h = let none : ⊥ = cc in absurd none
+object_in_order (list_of s o) (list cs) ms h = let none : ⊥ = cc in absurd none
+object_in_order (list_of s o) (struct cs) ms h = let none : ⊥ = cc in absurd none
+object_in_order (struct_of fs o) null ms h = let none : ⊥ = cc in absurd none
+object_in_order (struct_of fs o) (leaf a) ms h = let none : ⊥ = cc in absurd none
+object_in_order (struct_of fs o) (list cs) ms h = let none : ⊥ = cc in absurd none
 
 -- ---- what fits reads back
 

@@ -7,6 +7,7 @@ pub mod KeptFields
 pub mod Texts
 pub mod Listed
 pub mod OneText
+pub mod Bare
 pub mod TextFronts
 pub mod TextSchemas
 pub mod TextExclusion

@@ -1,6 +1,8 @@
 -- The JSON that a row prints as (values by RFC 8259, types by the ORC specification, "Types").
-use Rattle.std.specs.Prelude.{ℕ, List}
-use Rattle.serde_json.specs.Data.{Data, null as nothing, array, object, Items, no_items, item, Members, no_members, put}
+use Rattle.std.specs.Prelude.{ℕ, ◌≡◌, List, true}
+use Rattle.std.specs.Ordering.{is_lt, nat_cmp}
+use Rattle.std.specs.Cmp.Lexicographic.{slice_cmp}
+use Rattle.serde_json.specs.Data.{Data, null as nothing, array, object, Items, no_items, item, Members, no_members, member, put}
 use Rattle.orc_types.specs.Shapes.{Shape, scalar, list_of, struct_of, Fields, no_field, field}
 use Rattle.orc_types.specs.Cells.{Atom, bool, int, date, text, bytes, Cell, null, leaf, list, struct, Cells, end, more}
 use Rattle.orc_types.specs.JsonLeaves.{atom_json}
@@ -40,3 +42,12 @@ abbrev mutual
   members_json no_field cs ms = ms
   members_json (field name s fs) end ms = ms
   members_json (field name s fs) (more c cs) ms = members_json fs cs (put name (json_of s c) ms)
+
+-- each key is below the next one, as lists of bytes
+abbrev pub IsBelow : List ℕ → Members → Type 0
+IsBelow k no_members = Unit {0}
+IsBelow k (member l d ms) = is_lt (slice_cmp nat_cmp k l) ≡ true
+
+abbrev pub AreInOrder : Members → Type 0
+AreInOrder no_members = Unit {0}
+AreInOrder (member k d ms) = IsBelow k ms × AreInOrder ms

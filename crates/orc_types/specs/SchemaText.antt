@@ -1,4 +1,4 @@
--- The text of a schema, as ORC's tools write it (ORC specification, "Types": the example's schema text).
+-- The text of a schema: the names that the types have in Hive, as the examples of the ORC specification, "Types", write them.
 use Rattle.std.specs.Prelude.{◌≡◌, ◌<◌, ◌==◌, ℕ, List, [], ◌∷◌, ◌++◌, length, Bool, true, false, ◌||◌, codes}
 use Rattle.std.specs.List.{AllByRecursion}
 use Rattle.std.specs.Char.{is_ascii_alphanumeric}
@@ -17,12 +17,13 @@ kind_name kind.String = codes "string"
 kind_name kind.Binary = codes "binary"
 kind_name kind.Date = codes "date"
 
+-- the first field has no comma in front
 abbrev pub comma : Bool → List ℕ
 comma true = []
-comma false = 44 ∷ []
+comma false = codes ","
 
 abbrev pub colon : List ℕ
-colon = 58 ∷ []
+colon = codes ":"
 
 abbrev mutual
   pub text : Shape → List ℕ
@@ -57,6 +58,17 @@ abbrev mutual
   pub ArePlain : Fields → Type 0
   ArePlain no_field = Unit {0}
   ArePlain (field name s fs) = IsName name × IsPlain s × ArePlain fs
+
+-- the kinds and the names alone
+abbrev mutual
+  pub bare : Shape → Shape
+  bare (scalar k o) = scalar k []
+  bare (list_of s o) = list_of (bare s) []
+  bare (struct_of fs o) = struct_of (bare_fields fs) []
+
+  pub bare_fields : Fields → Fields
+  bare_fields no_field = no_field
+  bare_fields (field name s fs) = field name (bare s) (bare_fields fs)
 
 -- a schema that its text tells, and the text
 pub record HasText (s : Shape) (bytes : List ℕ) : Type 0 where

@@ -22,7 +22,7 @@ pub data Enters (bytes inner : List ℕ) : Type 0 where
   element : bytes ≡ codes "array<" ++ inner → Enters bytes inner
   member : (fields : List ℕ) → bytes ≡ codes "struct<" ++ fields → EntersField fields inner → Enters bytes inner
 
--- a type begins within so many others
+-- so many types are open, whatever follows
 abbrev pub Opens : List ℕ → ℕ → Type 0
 Opens bytes zero = Unit {0}
 Opens bytes (suc levels) = (inner : List ℕ) × Enters bytes inner × Opens inner levels

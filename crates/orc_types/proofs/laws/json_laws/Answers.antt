@@ -1,5 +1,5 @@
 use Rattle.orc_types.specs.JsonFaults.{FaultAt}
-use Rattle.orc_types.proofs.JsonBack.{reads_back}
+use Rattle.orc_types.proofs.JsonBack.{reads_back, object_in_order}
 use Rattle.orc_types.proofs.JsonLeaves.{one_fault}
 use Rattle.orc_types.proofs.JsonLaws.{one_row, row_fits, fault_excludes, somewhere_excludes}
 use Rattle.orc_types.proofs.laws.json_laws.Goals as goal
@@ -18,3 +18,6 @@ returns-clause-again c = reads_back
 
 pub returns-clause-one_fault : goal.returns-clause-one_fault
 returns-clause-one_fault c = one_fault
+
+pub returns-clause-keys : goal.returns-clause-keys
+returns-clause-keys c = object_in_order
