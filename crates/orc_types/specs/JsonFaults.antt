@@ -8,10 +8,11 @@ use Rattle.orc_types.specs.Shapes.{Shape, scalar, list_of, struct_of, Fields, no
 use Rattle.orc_types.specs.FieldNames.{all_known}
 use Rattle.orc_types.specs.JsonLeaves.{LeafFault}
 
--- neither null nor an array, an object
+-- neither null nor an array
 abbrev pub IsNoArray : Data → Type 0
 IsNoArray d = (d ≢ nothing) × ((ds : Items) → d ≢ array ds)
 
+-- neither null nor an object
 abbrev pub IsNoObject : Data → Type 0
 IsNoObject d = (d ≢ nothing) × ((ms : Members) → d ≢ object ms)
 

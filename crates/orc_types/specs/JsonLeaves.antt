@@ -1,5 +1,5 @@
 -- Values of JSON under columns that contain no other (ORC specification, "Types"; a date is RFC 3339's full-date or a number, and binary is hexadecimal digits).
-use Rattle.std.specs.Prelude.{◌≡◌, ℕ, ℤ, List, Bool, true, false, Some, None, option_and_then, Ok, ◌⊎◌, if◌then◌else◌}
+use Rattle.std.specs.Prelude.{◌≡◌, ℕ, ℤ, List, Bool, true, false, Some, None, option_and_then, Ok, ◌||◌, ◌⊎◌, if◌then◌else◌}
 use Rattle.hex.specs.Hex.{decode_of, encode_lower}
 use Rattle.serde_json.specs.Data.{Data, null, boolean, number, string, array, object}
 use Rattle.serde_json.specs.Find.{as_number, as_integer, of_integer}
@@ -9,9 +9,9 @@ use Rattle.orc_types.specs.declared.json_fault.JsonFault.{JsonFault}
 use Rattle.orc_types.specs.declared.json_fault.JsonFault.TheVariants as fault
 use Rattle.orc_types.specs.Cells.{Atom, bool, int, date, text, bytes, Cell, null as null_cell, leaf, list, struct}
 use Rattle.orc_types.specs.Days.{has_text, day_text, IsDayText}
-use Rattle.orc_types.specs.Fits.{atom_fits, is_boolean, is_binary, is_date}
+use Rattle.orc_types.specs.Fits.{atom_fits, is_boolean, is_string, is_binary, is_date}
 
--- a number without fraction and exponent that 64 bits hold, with a sign or without
+-- a number that serde_json holds as one of 64 bits, with a sign or without
 abbrev pub IsInteger : Data → ℤ → Type 0
 IsInteger d z = option_and_then as_integer (as_number d) ≡ Some z
 
@@ -38,7 +38,7 @@ ScalarSpells k d (leaf a) = LeafSpells k d a
 ScalarSpells k d (list cs) = ⊥
 ScalarSpells k d (struct cs) = ⊥
 
--- ---- refusals; null is none of them
+-- ---- why a value is refused; null never is
 
 abbrev pub takes_numbers : Scalar → Bool
 takes_numbers kind.Boolean = false
@@ -51,14 +51,7 @@ takes_numbers kind.Binary = false
 takes_numbers kind.Date = true
 
 abbrev pub takes_strings : Scalar → Bool
-takes_strings kind.Boolean = false
-takes_strings kind.Byte = false
-takes_strings kind.Short = false
-takes_strings kind.Int = false
-takes_strings kind.Long = false
-takes_strings kind.String = true
-takes_strings kind.Binary = true
-takes_strings kind.Date = true
+takes_strings k = is_string k || is_binary k || is_date k
 
 -- a value of another type of JSON than those that the kind takes, or a number that is no integer
 abbrev pub IsMisfit : Scalar → Data → Type 0

@@ -45,15 +45,16 @@ IsBad bytes P fault.RootNotStruct = ⊥
 IsBad bytes P (fault.BadText left) = (left ≤ length bytes) × P
 IsBad bytes P fault.OutOfMemory = ⊥
 
--- why no type of so many levels is in front; BadText has the number of bytes that are left
-abbrev pub FrontFault : List ℕ → ℕ → TypeFault → Type 0
-FrontFault bytes levels (fault.UnsupportedKind k) = ⊥
-FrontFault bytes levels fault.BadTree = ⊥
-FrontFault bytes levels fault.TooDeep = Opens bytes levels
-FrontFault bytes levels fault.TooMany = ⊥
-FrontFault bytes levels fault.RootNotStruct = ⊥
-FrontFault bytes levels (fault.BadText left) = (left ≤ length bytes) × NoFront bytes
-FrontFault bytes levels fault.OutOfMemory = Unit {0}
+-- why a reader stops in front of some bytes: it is too deep, or it isn't there; BadText has the number of bytes that
+-- are left
+abbrev pub ReadingFault : List ℕ → Type 0 → Type 0 → TypeFault → Type 0
+ReadingFault bytes Deep None (fault.UnsupportedKind k) = ⊥
+ReadingFault bytes Deep None fault.BadTree = ⊥
+ReadingFault bytes Deep None fault.TooDeep = Deep
+ReadingFault bytes Deep None fault.TooMany = ⊥
+ReadingFault bytes Deep None fault.RootNotStruct = ⊥
+ReadingFault bytes Deep None (fault.BadText left) = (left ≤ length bytes) × None
+ReadingFault bytes Deep None fault.OutOfMemory = Unit {0}
 
 -- the name and the colon of a field, whose type goes deeper
 pub record FieldOpens (bytes : List ℕ) (first : Bool) (levels : ℕ) : Type 0 where
@@ -63,22 +64,12 @@ pub record FieldOpens (bytes : List ℕ) (first : Bool) (levels : ℕ) : Type 0 
   pub spelled : bytes ≡ comma first ++ (name ++ (colon ++ inner))
   pub deeper : Opens inner levels
 
--- why no field is in front
-abbrev pub FieldFault : List ℕ → Bool → ℕ → TypeFault → Type 0
-FieldFault bytes first levels (fault.UnsupportedKind k) = ⊥
-FieldFault bytes first levels fault.BadTree = ⊥
-FieldFault bytes first levels fault.TooDeep = FieldOpens bytes first levels
-FieldFault bytes first levels fault.TooMany = ⊥
-FieldFault bytes first levels fault.RootNotStruct = ⊥
-FieldFault bytes first levels (fault.BadText left) = (left ≤ length bytes) × NoFieldFront bytes first
-FieldFault bytes first levels fault.OutOfMemory = Unit {0}
+-- why no type of so many levels, no field and no fields are in front
+abbrev pub FrontFault : List ℕ → ℕ → TypeFault → Type 0
+FrontFault bytes levels f = ReadingFault bytes (Opens bytes levels) (NoFront bytes) f
 
--- why no fields are in front
+abbrev pub FieldFault : List ℕ → Bool → ℕ → TypeFault → Type 0
+FieldFault bytes first levels f = ReadingFault bytes (FieldOpens bytes first levels) (NoFieldFront bytes first) f
+
 abbrev pub FieldsFault : List ℕ → ℕ → TypeFault → Type 0
-FieldsFault bytes levels (fault.UnsupportedKind k) = ⊥
-FieldsFault bytes levels fault.BadTree = ⊥
-FieldsFault bytes levels fault.TooDeep = (inner : List ℕ) × EntersField bytes inner × Opens inner levels
-FieldsFault bytes levels fault.TooMany = ⊥
-FieldsFault bytes levels fault.RootNotStruct = ⊥
-FieldsFault bytes levels (fault.BadText left) = (left ≤ length bytes) × NoFieldsFront bytes true
-FieldsFault bytes levels fault.OutOfMemory = Unit {0}
+FieldsFault bytes levels f = ReadingFault bytes ((inner : List ℕ) × EntersField bytes inner × Opens inner levels) (NoFieldsFront bytes true) f

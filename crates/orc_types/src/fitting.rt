@@ -37,6 +37,7 @@ fn scalar_fits(kind: Scalar, value: &Value<'_>) -> bool
         Value::Bool(_) => matches!(kind, Scalar::Boolean),
         Value::Int(number) => int_fits(kind, *number),
         Value::Date(day) => {
+            // That it has 32 bits is known of a number that is read.
             let _day = *day;
             matches!(kind, Scalar::Date)
         }

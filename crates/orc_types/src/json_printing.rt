@@ -20,8 +20,8 @@ use std::alloc::{AllocError, Global};
 
 /// The JSON of a row of the schema: null; true and false; numbers; a date of the years 0001 to 9999
 /// as `"YYYY-MM-DD"`, any other as its number of days since 1970-01-01; binary values as lower-case
-/// hexadecimal text; lists as arrays; structs as objects with their keys in byte order. It spells
-/// the row, so that `row_from_json` reads the row back.
+/// hexadecimal text; lists as arrays; structs as objects with their keys in byte order (kinds by the
+/// ORC specification, "Types"). It spells the row, so that `row_from_json` reads the row back.
 ///
 /// Refusals: `DuplicateField` where some struct of the schema names a field twice; `OutOfMemory`.
 pub fn row_to_json(alloc: Global, schema: &Schema, row: &Row<'_>) -> Result<Json, JsonFault>

@@ -22,7 +22,7 @@ use std::alloc::Global;
 /// true or false; whole numbers are numbers in their kind's range; a STRING is a string; a BINARY is
 /// a string of hexadecimal digits in either case; a DATE is a string `YYYY-MM-DD` of the years 0001
 /// to 9999, or a number of days since 1970-01-01 in 32 bits; a LIST is an array; a STRUCT is an
-/// object, in which a missing key is null.
+/// object, in which a missing key is null (kinds by the ORC specification, "Types").
 ///
 /// Refusals: `DuplicateField` where some struct of the schema names a field twice; `WrongShape` for
 /// JSON of another type, a number that is held neither as an `i64` nor as a `u64` among them;

@@ -18,7 +18,7 @@ use std::alloc::{AllocError, Global};
 impl Schema {
     /// The schema's text: `boolean`, `tinyint`, `smallint`, `int`, `bigint`, `string`, `binary`,
     /// `date`, `array<T>` and `struct<name:T,..>`, with no spaces. It has the kinds and the names,
-    /// and nothing of what types keep.
+    /// and nothing of what types keep (ORC specification, "Types").
     ///
     /// Refusal: `OutOfMemory`.
     pub fn text(&self, alloc: Global) -> Result<String, TypeFault>
@@ -31,7 +31,7 @@ impl Schema {
     }
 
     /// The schema that a text tells: the kinds and the names, which are of ASCII letters, digits and
-    /// underscores. Its types keep nothing else.
+    /// underscores. Its types keep nothing else (ORC specification, "Types").
     ///
     /// Refusals: `BadText` with the place where the text goes wrong, `TooDeep` above 32 levels,
     /// `RootNotStruct` of another type's text, `TooMany` above 4,096 types, and `OutOfMemory`. Which

@@ -39,7 +39,7 @@ const TEXTS: [(&'static str, &'static [Listed]); 4] = [
 ];
 
 /// Texts that are no schema's, and why.
-const NO_TEXTS: [(&'static str, TypeFault); 23] = [
+const NO_TEXTS: [(&'static str, TypeFault); 26] = [
     ("", TypeFault::BadText(0)),
     (" struct<>", TypeFault::BadText(0)),
     ("Int", TypeFault::BadText(0)),
@@ -57,6 +57,9 @@ const NO_TEXTS: [(&'static str, TypeFault); 23] = [
     ("struct<a:int;b:int>", TypeFault::BadText(12)),
     ("struct<a:int,a-b:int>", TypeFault::BadText(13)),
     ("struct<\u{e9}:int>", TypeFault::BadText(7)),
+    ("struct<a::int>", TypeFault::BadText(9)),
+    ("struct<a:b:int>", TypeFault::BadText(9)),
+    ("array<>", TypeFault::BadText(6)),
     ("struct<a:array<>>", TypeFault::BadText(15)),
     ("struct<a:array<int>", TypeFault::BadText(19)),
     ("struct<a:array<int,int>>", TypeFault::BadText(18)),
@@ -110,6 +113,10 @@ fn check_texts(rt: &impl Abort, alloc: Global) -> Result<(), TypeFault> {
         assert!(rt; schema == schema_of(alloc, types)?, "{text}");
         assert_eq!(rt; schema.text(alloc)?.as_str(), text);
     }
+    let with_kept = Schema::from_types(alloc, &number_that_keeps(alloc)?)?;
+    assert_eq!(rt; with_kept.text(alloc)?.as_str(), "struct<n:bigint>");
+    let dashed = schema_of(alloc, &[(12, &[1], &[b"a-b"]), (3, &[], &[])])?;
+    assert_eq!(rt; dashed.text(alloc)?.as_str(), "struct<a-b:int>");
     Ok(())
 }
 
