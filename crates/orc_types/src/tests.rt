@@ -78,6 +78,12 @@ fn schema_of(alloc: Global, table: &[Listed]) -> Result<Schema, TypeFault> {
     Schema::from_types(alloc, &types)
 }
 
+/// Notes that memory was refused, which may happen once in a test.
+fn note_refusal(rt: &impl Abort, refused: &mut bool) {
+    assert!(rt; !*refused, "memory is refused once at most");
+    *refused = true;
+}
+
 #[test]
 fn schemas(rt: HostRuntime) {
     let alloc = rt.alloc();

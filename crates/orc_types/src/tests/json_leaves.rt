@@ -108,10 +108,7 @@ fn days(rt: HostRuntime) {
         assert_eq!(rt; day_of_text(text), Some(day));
         match day_text(alloc, day) {
             Ok(shown) => assert_eq!(rt; shown.as_str(), text),
-            Err(_) => {
-                assert!(rt; !refused, "memory is refused once at most");
-                refused = true;
-            }
+            Err(_) => note_refusal(&rt, &mut refused),
         }
     }
 }
@@ -178,10 +175,7 @@ fn json_fault_texts(rt: HostRuntime) {
     for (fault, text) in table {
         match format!(in alloc; "{fault}") {
             Ok(shown) => assert_eq!(rt; shown.as_str(), text),
-            Err(_) => {
-                assert!(rt; !refused, "memory is refused once at most");
-                refused = true;
-            }
+            Err(_) => note_refusal(&rt, &mut refused),
         }
     }
 }
