@@ -1,5 +1,5 @@
 -- Lists of bytes.
-use Rattle.std.proofs.Common.{◌≡◌, ℕ, zero, suc, ◌<◌, List, [], ◌∷◌, get_or, Bool, true, false, ◌&&◌, lt-ltb, ltb-true, ltb, refl, arith}
+use Rattle.std.proofs.Common.{◌≡◌, ℕ, zero, suc, ◌<◌, List, [], ◌∷◌, get_or, true, lt-ltb, ltb-true, ltb, refl, arith}
 use Rattle.std.proofs.lemmas.Bool.{and_parts}
 use Rattle.orc_types.specs.Fits.{are_bytes}
 

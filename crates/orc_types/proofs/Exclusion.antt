@@ -1,5 +1,5 @@
 -- A fault that stands leaves no schema, and schemas compare equal exactly where they are one tree.
-use Rattle.std.proofs.Common.{◌≡◌, ℕ, zero, suc, ◌+◌, ◌<◌, ◌++◌, List, [], ◌∷◌, length, drop, Bool, true, false, ◌&&◌, ◌==◌, Some, refl, sym, ap, ◌∙◌, subst, append_assoc, arith, append-nil, inl, inr}
+use Rattle.std.proofs.Common.{◌≡◌, ℕ, zero, suc, ◌+◌, ◌<◌, ◌++◌, List, [], ◌∷◌, length, drop, Bool, true, false, ◌==◌, Some, refl, sym, ap, ◌∙◌, subst, append_assoc, arith, append-nil, inl, inr}
 use Rattle.std.proofs.lemmas.Bool.{and_parts}
 use Rattle.std.specs.Prelude.{slice_get, ◌↔◌}
 use Rattle.std.specs.List.{AllByRecursion}

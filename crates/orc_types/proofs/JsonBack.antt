@@ -1,12 +1,12 @@
 -- A row that fits reads back from its JSON.
-use Rattle.std.proofs.Common.{◌≡◌, List, [], ◌∷◌, Bool, true, false, ◌&&◌, ◌||◌, not, Some, bytes_eq, inl, inr, refl, sym, ap, ◌∙◌, subst, rules, Ordering, Less, Equal, Greater, ℕ, ℤ}
+use Rattle.std.proofs.Common.{◌≡◌, List, [], ◌∷◌, Bool, true, false, not, Some, bytes_eq, inl, inr, refl, sym, ap, ◌∙◌, subst, Ordering, Less, Equal, Greater, ℕ, ℤ}
 use Rattle.std.proofs.lemmas.Bool.{and_parts, or_right, or_parts, not-true}
 use Rattle.std.specs.Ordering.{is_lt, nat_cmp, match_ordering, ordering_reverse}
 use Rattle.std.specs.Cmp.Lexicographic.{slice_cmp}
 use Rattle.std.proofs.lemmas.Cmp.{nat_list_cmp_total}
 use Rattle.std.proofs.lemmas.Slice.Eq.{bytes_eq-Decides}
-use Rattle.serde_json.specs.Data.{Data, null as nothing, array, object, Items, no_items, item, Members, no_members, member, put}
-use Rattle.serde_json.specs.Find.{get, get_member}
+use Rattle.serde_json.specs.Data.{Data, object, Members, no_members, member, put}
+use Rattle.serde_json.specs.Find.{get_member}
 use Rattle.serde_json.proofs.Views.{get_member-put, get_member-put_other}
 use Rattle.orc_types.specs.Shapes.{Shape, scalar, list_of, struct_of, Fields, no_field, field, names_of}
 use Rattle.orc_types.specs.Cells.{Atom, bool, int, date, text, bytes, Cell, null, leaf, list, struct, Cells, end, more}
@@ -14,7 +14,7 @@ use Rattle.orc_types.specs.Fits.{fits, all_fit, each_fits}
 use Rattle.orc_types.specs.FieldNames.{is_among, all_differ, is_distinct, are_distinct, all_known}
 use Rattle.orc_types.specs.Days.{has_text}
 use Rattle.orc_types.specs.JsonLeaves.{atom_json, date_json}
-use Rattle.orc_types.specs.JsonRows.{Spells, EachSpells, MemberSpells, FieldsSpell}
+use Rattle.orc_types.specs.JsonRows.{Spells, EachSpells, FieldsSpell}
 use Rattle.orc_types.specs.JsonPrinting.{json_of, each_json, members_json, IsBelow, AreInOrder}
 use Rattle.orc_types.proofs.JsonLeaves.{leaf_back}
 

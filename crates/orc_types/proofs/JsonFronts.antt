@@ -1,5 +1,5 @@
 -- Elements and fields that were read, before those that are left.
-use Rattle.std.proofs.Common.{◌≡◌, ℕ, zero, suc, ◌<◌, ◌≤◌, List, [], ◌∷◌, ◌++◌, length, get_or, drop, map, true, Option, Some, inl, inr, Vec, Box, Global, String, BTreeMap, string_bytes, refl, sym, ap, ◌∙◌, subst, arith, rules, drop-cons}
+use Rattle.std.proofs.Common.{◌≡◌, ℕ, zero, suc, ◌<◌, ◌≤◌, List, [], ◌∷◌, ◌++◌, length, get_or, drop, true, Option, Some, inl, inr, Vec, Box, Global, String, BTreeMap, string_bytes, refl, sym, ap, ◌∙◌, arith, drop-cons}
 use Rattle.std.proofs.lemmas.List.{drop_all}
 use Rattle.serde_json.specs.Data.{Data, array}
 use Rattle.serde_json.specs.Find.{get, get_item}

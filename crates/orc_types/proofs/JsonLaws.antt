@@ -1,13 +1,13 @@
 -- A JSON value spells one row, which fits; a fault in it leaves none.
-use Rattle.std.proofs.Common.{◌≡◌, ◌≢◌, ℕ, zero, suc, Bool, true, false, ◌&&◌, List, Option, Some, None, ◌⊎◌, inl, inr, refl, sym, ap, ◌∙◌, subst, rules}
-use Rattle.serde_json.specs.Data.{Data, null as nothing, boolean, number, string, array, object, Items, no_items, item, Members}
+use Rattle.std.proofs.Common.{◌≡◌, ◌≢◌, ℕ, zero, suc, true, List, Option, Some, None, ◌⊎◌, inl, inr, refl, sym, ap, ◌∙◌, subst}
+use Rattle.serde_json.specs.Data.{Data, null as nothing, array, Items, no_items, item}
 use Rattle.serde_json.specs.Find.{at, get, get_item}
 use Rattle.orc_types.specs.declared.kind.Scalar.{Scalar}
 use Rattle.orc_types.specs.declared.json_fault.JsonFault.{JsonFault}
 use Rattle.orc_types.specs.declared.json_fault.JsonFault.TheVariants as fault
-use Rattle.orc_types.specs.Cells.{Atom, Cell, null, leaf, list, struct, Cells, end, more}
+use Rattle.orc_types.specs.Cells.{Cell, null, leaf, list, struct, Cells, end, more}
 use Rattle.orc_types.specs.Shapes.{Shape, scalar, list_of, struct_of, Fields, no_field, field, names_of}
-use Rattle.orc_types.specs.Fits.{fits, all_fit, each_fits, atom_fits}
+use Rattle.orc_types.specs.Fits.{fits, all_fit, each_fits}
 use Rattle.orc_types.specs.FieldNames.{all_known}
 use Rattle.orc_types.specs.JsonRows.{Spells, EachSpells, MemberSpells, FieldsSpell}
 use Rattle.orc_types.specs.JsonFaults.{HasUnknownKey, FaultAt, Somewhere, InField}

@@ -1,11 +1,11 @@
 -- The JSON of lists and structs.
-use Rattle.std.proofs.Common.{◌≡◌, ℕ, ◌<◌, ◌≤◌, zero, suc, Bool, true, false, ◌&&◌, List, [], ◌∷◌, map, length, get_or, drop, Option, Some, Vec, Box, Global, String, BTreeMap, string_bytes, refl, sym, ap, ◌∙◌, arith, rules, drop-cons}
+use Rattle.std.proofs.Common.{◌≡◌, ℕ, ◌<◌, zero, suc, true, List, [], ◌∷◌, map, length, get_or, drop, Option, Some, Vec, Box, Global, String, BTreeMap, string_bytes, refl, sym, ap, ◌∙◌, arith, drop-cons}
 use Rattle.std.proofs.lemmas.Bool.{and_parts}
-use Rattle.serde_json.specs.Data.{Data, array, object, Items, no_items, item, Members, no_members, put}
+use Rattle.serde_json.specs.Data.{Data, array, object, item, Members, no_members, put}
 use Rattle.serde_json.specs.View.{view as json_view, items_of, members_view}
 use Rattle.serde_json.specs.declared.value.Value.{Value as Json, Array, Object}
 use Rattle.serde_json.proofs.Views.{view-Array, view-Object}
-use Rattle.orc_types.specs.Shapes.{Shape, Fields}
+use Rattle.orc_types.specs.Shapes.{Shape}
 use Rattle.orc_types.specs.Cells.{Cell, cells_of}
 use Rattle.orc_types.specs.Views.{view, views, shape, named, fields as fields_view}
 use Rattle.orc_types.specs.declared.tree.Field.{Field}

@@ -1,5 +1,5 @@
 -- What stands where a JSON value spells no row of a schema (values by RFC 8259, types by the ORC specification, "Types").
-use Rattle.std.specs.Prelude.{ℕ, List, ◌≡◌, ◌≢◌, ◌⊎◌, false, Option, Some}
+use Rattle.std.specs.Prelude.{ℕ, List, ◌≡◌, ◌≢◌, ◌⊎◌, false, Some}
 use Rattle.serde_json.specs.Data.{Data, null as nothing, array, object, Items, Members}
 use Rattle.serde_json.specs.Find.{at, get}
 use Rattle.orc_types.specs.declared.json_fault.JsonFault.{JsonFault}

@@ -4,7 +4,7 @@ use Rattle.std.specs.Ordering.{is_lt, nat_cmp}
 use Rattle.std.specs.Cmp.Lexicographic.{slice_cmp}
 use Rattle.serde_json.specs.Data.{Data, null as nothing, array, object, Items, no_items, item, Members, no_members, member, put}
 use Rattle.orc_types.specs.Shapes.{Shape, scalar, list_of, struct_of, Fields, no_field, field}
-use Rattle.orc_types.specs.Cells.{Atom, bool, int, date, text, bytes, Cell, null, leaf, list, struct, Cells, end, more}
+use Rattle.orc_types.specs.Cells.{Cell, null, leaf, list, struct, Cells, end, more}
 use Rattle.orc_types.specs.JsonLeaves.{atom_json}
 
 abbrev pub each_json : (Cell → Data) → Cells → Items

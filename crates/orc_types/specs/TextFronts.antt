@@ -35,7 +35,7 @@ NoFieldFront bytes first = (name : List ℕ) (s : Shape) (rest : List ℕ) → I
 abbrev pub NoFieldsFront : List ℕ → Bool → Type 0
 NoFieldsFront bytes first = (fs : Fields) (rest : List ℕ) → ArePlain fs → bytes ≡ fields_text first fs ++ (codes ">" ++ rest) → ⊥
 
--- a text that is wrong, where so many bytes of it are left
+-- BadText and no other fault, with the number of bytes that are left where the text goes wrong
 abbrev pub IsBad : List ℕ → Type 0 → TypeFault → Type 0
 IsBad bytes P (fault.UnsupportedKind k) = ⊥
 IsBad bytes P fault.BadTree = ⊥
@@ -48,13 +48,13 @@ IsBad bytes P fault.OutOfMemory = ⊥
 -- why a reader stops in front of some bytes: it is too deep, or it isn't there; BadText has the number of bytes that
 -- are left
 abbrev pub ReadingFault : List ℕ → Type 0 → Type 0 → TypeFault → Type 0
-ReadingFault bytes Deep None (fault.UnsupportedKind k) = ⊥
-ReadingFault bytes Deep None fault.BadTree = ⊥
-ReadingFault bytes Deep None fault.TooDeep = Deep
-ReadingFault bytes Deep None fault.TooMany = ⊥
-ReadingFault bytes Deep None fault.RootNotStruct = ⊥
-ReadingFault bytes Deep None (fault.BadText left) = (left ≤ length bytes) × None
-ReadingFault bytes Deep None fault.OutOfMemory = Unit {0}
+ReadingFault bytes Deep Absent (fault.UnsupportedKind k) = ⊥
+ReadingFault bytes Deep Absent fault.BadTree = ⊥
+ReadingFault bytes Deep Absent fault.TooDeep = Deep
+ReadingFault bytes Deep Absent fault.TooMany = ⊥
+ReadingFault bytes Deep Absent fault.RootNotStruct = ⊥
+ReadingFault bytes Deep Absent (fault.BadText left) = (left ≤ length bytes) × Absent
+ReadingFault bytes Deep Absent fault.OutOfMemory = Unit {0}
 
 -- the name and the colon of a field, whose type goes deeper
 pub record FieldOpens (bytes : List ℕ) (first : Bool) (levels : ℕ) : Type 0 where

@@ -1,5 +1,4 @@
-use Rattle.std.proofs.Common.{◌≡◌, true, refl, rules}
-use Rattle.orc_types.specs.Fits as spec
+use Rattle.std.proofs.Common.{refl}
 use Rattle.orc_types.proofs.Bytes.{all_bytes}
 use Rattle.orc_types.proofs.fitting.bytes_fit.Goals as goal
 

@@ -1,4 +1,4 @@
-use Rattle.std.proofs.Common.{◌≡◌, refl, rules}
+use Rattle.std.proofs.Common.{refl}
 use Rattle.hex.proofs.HexLemmas.{decode_of-ok}
 use Rattle.orc_types.proofs.Bytes.{all_bytes}
 use Rattle.orc_types.proofs.Views.{view-Bytes}

@@ -1,10 +1,7 @@
-use Rattle.std.proofs.Common.{◌*◌, ◌≡◌, ℕ, suc, ◌+◌, ◌<◌, length, map, true, string_bytes, refl, sym, ap, ◌∙◌, subst, arith, rules, add-one}
-use Rattle.serde_json.specs.Data.{no_members}
-use Rattle.serde_json.specs.View.{view as json_view, members_view}
+use Rattle.std.proofs.Common.{◌*◌, ◌≡◌, ◌+◌, ◌<◌, length, map, refl, ap, ◌∙◌, arith, add-one}
+use Rattle.serde_json.specs.View.{members_view}
 use Rattle.orc_types.specs.Shapes.{width, widths}
-use Rattle.orc_types.specs.Cells.{cells_of}
-use Rattle.orc_types.specs.Fits.{fits, all_fit, each_fits}
-use Rattle.orc_types.specs.Views.{view, views, shape, fields as fields_view}
+use Rattle.orc_types.specs.Views.{views, shape, fields as fields_view}
 use Rattle.orc_types.specs.JsonPrinting as spec
 use Rattle.orc_types.proofs.Views.{shape-List, shape-Struct}
 use Rattle.orc_types.proofs.ByColumn.{width_within}

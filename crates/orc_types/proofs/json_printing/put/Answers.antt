@@ -1,4 +1,4 @@
-use Rattle.std.proofs.Common.{◌≡◌, sym, ap, ◌∙◌}
+use Rattle.std.proofs.Common.{ap, ◌∙◌}
 use Rattle.serde_json.specs.Data.{put}
 use Rattle.serde_json.specs.View.{view as json_view, members_view}
 use Rattle.serde_json.proofs.Views.{members_view-insert_entry}

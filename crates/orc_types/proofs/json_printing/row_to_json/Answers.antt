@@ -1,9 +1,6 @@
-use Rattle.std.proofs.Common.{◌≡◌, true, refl, sym, ap, ◌∙◌, subst, rules}
-use Rattle.serde_json.specs.View.{view as json_view}
-use Rattle.orc_types.specs.Views.{view, shape}
+use Rattle.std.proofs.Common.{◌≡◌, true, sym, ap, ◌∙◌}
+use Rattle.orc_types.specs.Views.{view}
 use Rattle.orc_types.specs.FieldNames.{is_distinct}
-use Rattle.orc_types.specs.JsonRows.{Spells}
-use Rattle.orc_types.specs.JsonPrinting.{json_of}
 use Rattle.orc_types.proofs.JsonBack.{reads_back}
 use Rattle.orc_types.proofs.json_printing.row_to_json.Goals as goal
 

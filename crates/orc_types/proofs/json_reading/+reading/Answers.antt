@@ -1,7 +1,7 @@
-use Rattle.std.proofs.Common.{◌≡◌, ◌≢◌, true, ℕ, ◌+◌, ◌*◌, ◌<◌, ◌≤◌, Some, List, [], ◌∷◌, ◌++◌, ◌⊎◌, inl, inr, string_bytes, refl, sym, ap, ◌∙◌, subst, arith, rules, add-one}
+use Rattle.std.proofs.Common.{◌≡◌, true, ◌*◌, ◌<◌, Some, [], ◌∷◌, ◌++◌, string_bytes, refl, sym, ap, ◌∙◌, subst, arith, add-one}
 use Rattle.std.proofs.lemmas.Result.{err_from_is_err_and}
 use Rattle.std.proofs.lemmas.List.{map-append}
-use Rattle.serde_json.specs.Data.{Data, array, object}
+use Rattle.serde_json.specs.Data.{array}
 use Rattle.serde_json.specs.Find.{get}
 use Rattle.serde_json.specs.View.{view as json_view, items_view, members_view}
 use Rattle.orc_types.specs.Shapes.{width, widths, names_of}
@@ -9,9 +9,9 @@ use Rattle.orc_types.specs.Cells.{cells_of}
 use Rattle.orc_types.specs.Views.{view, views, shape, fields as fields_view}
 use Rattle.orc_types.specs.FieldNames.{all_known}
 use Rattle.orc_types.specs.JsonRows.{Spells, EachSpells, MemberSpells, FieldsSpell}
-use Rattle.orc_types.specs.JsonFaults.{FaultAt, Somewhere, InElement, InField}
+use Rattle.orc_types.specs.JsonFaults.{FaultAt, Somewhere, InElement}
 use Rattle.orc_types.proofs.ByColumn.{width_within}
-use Rattle.orc_types.proofs.JsonFronts.{ElementsRead, FieldsRead, elements_more, elements_all, element_at, fields_more, fields_all, in_field, array_spells, object_spells, array_fault, object_fault}
+use Rattle.orc_types.proofs.JsonFronts.{elements_more, elements_all, element_at, fields_more, fields_all, in_field, array_spells, object_spells, array_fault, object_fault}
 use Rattle.orc_types.proofs.json_reading.+reading.Goals as goal
 use Rattle.orc_types.proofs.json_reading.+reading.Goals.{fields_of-in-None, fields_of-in-Some+in_ok-row-in-Some}
 

@@ -1,8 +1,7 @@
-use Rattle.std.proofs.Common.{◌≡◌, ◌≢◌, Result, Ok, Err, true, refl, sym, ap, ◌∙◌, subst, rules}
+use Rattle.std.proofs.Common.{Result, Ok, Err, subst}
 use Rattle.std.specs.Prelude.{IfOk, IfErr, MatchResult}
 use Rattle.std.proofs.lemmas.Result.{IfOk-weaker, IfErr-weaker}
 use Rattle.serde_json.specs.View.{view as json_view}
-use Rattle.orc_types.specs.Cells.{Cell}
 use Rattle.orc_types.specs.Views.{view, shape}
 use Rattle.orc_types.specs.JsonRows.{Spells}
 use Rattle.orc_types.specs.JsonFaults.{FaultAt, Somewhere}
