@@ -1,5 +1,6 @@
 -- A fault that stands leaves no schema, and schemas compare equal exactly where they are one tree.
-use Rattle.std.proofs.Common.{◌≡◌, ℕ, zero, suc, ◌+◌, ◌<◌, ◌++◌, List, [], ◌∷◌, length, drop, Bool, true, false, ◌&&◌, ◌==◌, Some, refl, sym, ap, ◌∙◌, subst, append_assoc, arith, append-nil, inl, inr}
+use Rattle.std.proofs.Common.{◌≡◌, ℕ, zero, suc, ◌+◌, ◌<◌, ◌++◌, List, [], ◌∷◌, length, drop, Bool, true, false, ◌==◌, Some, refl, sym, ap, ◌∙◌, subst, append_assoc, arith, append-nil, inl, inr}
+use Rattle.std.proofs.lemmas.Bool.{and_parts}
 use Rattle.std.specs.Prelude.{slice_get, ◌↔◌}
 use Rattle.std.specs.List.{AllByRecursion}
 use Rattle.std.specs.Str.{is_utf8}
@@ -76,7 +77,7 @@ below_of ts n y rest below h b =
     let e : b.type ≡ y = cc in
     (b.index, subst (λ (t : TypeMsg). slice_get t.subtypes b.index ≡ Some below) e b.subtype)
 
-depth_pos : (s : Shape) → 0 < depth s
+pub depth_pos : (s : Shape) → 0 < depth s
 depth_pos (scalar k o) = omega arith
 depth_pos (list_of s o) = omega arith
 depth_pos (struct_of fs o) = omega arith
@@ -134,16 +135,12 @@ no_schema ts s fault.OutOfMemory h bad = refl
 
 -- ---- equality
 
-both : (a b : Bool) → (a && b) ≡ true → (a ≡ true) × (b ≡ true)
-both true b h = (refl, h)
-both false b h = cc
-
 pointwise_same : {X : Type 0} (E : X → X → Bool) → ((x y : X) → E x y ≡ true → x ≡ y) → (xs ys : List X) → pointwise E xs ys ≡ true → xs ≡ ys
 pointwise_same E same [] [] h = refl
 pointwise_same E same [] (y ∷ ys) h = cc
 pointwise_same E same (x ∷ xs) [] h = cc
 pointwise_same E same (x ∷ xs) (y ∷ ys) h =
-    let p = both (E x y) (pointwise E xs ys) h in
+    let p = and_parts (E x y) (pointwise E xs ys) h in
     rw (same x y p.0, pointwise_same E same xs ys p.1) refl
 
 pointwise_self : {X : Type 0} (E : X → X → Bool) → ((x : X) → E x x ≡ true) → (xs : List X) → pointwise E xs xs ≡ true
@@ -158,9 +155,9 @@ numbers_self = pointwise_self ◌==◌ (λ n. eq-eqb n n refl)
 
 node_same : (x y : TypeMsg) → same_node x y ≡ true → x ≡ y
 node_same x y h =
-    let a = both (x.kind == y.kind) _ h in
-    let b = both (pointwise ◌==◌ x.subtypes y.subtypes) _ a.1 in
-    let d = both (pointwise (pointwise ◌==◌) x.field_names y.field_names) _ b.1 in
+    let a = and_parts (x.kind == y.kind) _ h in
+    let b = and_parts (pointwise ◌==◌ x.subtypes y.subtypes) _ a.1 in
+    let d = and_parts (pointwise (pointwise ◌==◌) x.field_names y.field_names) _ b.1 in
     rw (eqb-true x.kind y.kind a.0, numbers_same x.subtypes y.subtypes b.0, pointwise_same (pointwise ◌==◌) numbers_same x.field_names y.field_names d.0, numbers_same x.kept y.kept d.1) refl
 
 node_self : (x : TypeMsg) → same_node x x ≡ true

@@ -5,3 +5,16 @@ pub mod Exclusion
 pub mod Together
 pub mod KeptFields
 pub mod Texts
+pub mod Listed
+pub mod OneText
+pub mod Bare
+pub mod TextFronts
+pub mod TextSchemas
+pub mod TextExclusion
+pub mod Bytes
+pub mod Days
+pub mod JsonLeaves
+pub mod JsonFronts
+pub mod JsonLaws
+pub mod JsonPrints
+pub mod JsonBack

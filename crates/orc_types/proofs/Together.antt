@@ -1,5 +1,6 @@
 -- Cells of rows that stand one after the other, and of rows that fit.
-use Rattle.std.proofs.Common.{◌≡◌, ℕ, zero, suc, ◌-◌, ◌<◌, ◌++◌, List, [], ◌∷◌, length, take, drop, map, Bool, true, false, ◌&&◌, refl, sym, ap, ◌∙◌, append_assoc, arith, inl, inr}
+use Rattle.std.proofs.Common.{◌≡◌, ℕ, zero, suc, ◌-◌, ◌<◌, ◌++◌, List, [], ◌∷◌, length, take, drop, map, Bool, true, false, refl, sym, ap, ◌∙◌, append_assoc, arith, inl, inr}
+use Rattle.std.proofs.lemmas.Bool.{and_parts}
 use Rattle.std.specs.List.{AllByRecursion, flat_map}
 use Rattle.std.proofs.lemmas.List.{map-append}
 use Rattle.std.proofs.lemmas.Bool.Decides.{leb_tells}
@@ -47,17 +48,13 @@ mutual
 
 -- ---- rows that fit
 
-both : (a b : Bool) → (a && b) ≡ true → (a ≡ true) × (b ≡ true)
-both true b h = (refl, h)
-both false b h = cc
-
 -- the fields of each struct are rows of the fields
 abbrev pub StructsFit : Fields → List (List Cell) → Type 0
 StructsFit fs structs = AllByRecursion (λ x. each_fits (cells_of x) fs ≡ true) structs
 
 list_fits : (cs : Cells) (s : Shape) → all_fit cs s ≡ true → RowsFit s (list_of_cells cs)
 list_fits end s h = tt
-list_fits (more c cs) s h = let p = both (fits c s) (all_fit cs s) h in (p.0, list_fits cs s p.1)
+list_fits (more c cs) s h = let p = and_parts (fits c s) (all_fit cs s) h in (p.0, list_fits cs s p.1)
 
 -- the elements of lists that fit are rows of their type
 pub elements_fit : (s : Shape) (o : List ℕ) (rows : List Cell) → RowsFit (list_of s o) rows → RowsFit s (flat_map parts (values rows))
@@ -78,12 +75,12 @@ structs_fit fs o (struct cs ∷ rows) h = (ap (λ (x : Cells). each_fits x fs) (
 pub heads_fit : (name : List ℕ) (s : Shape) (fs : Fields) (structs : List (List Cell)) → StructsFit (field name s fs) structs → RowsFit s (flat_map (take 1) structs)
 heads_fit name s fs [] h = tt
 heads_fit name s fs ([] ∷ structs) h = let wrong = h.0 in cc
-heads_fit name s fs ((c ∷ cs) ∷ structs) h = ((both (fits c s) (each_fits (cells_of cs) fs) h.0).0, heads_fit name s fs structs h.1)
+heads_fit name s fs ((c ∷ cs) ∷ structs) h = ((and_parts (fits c s) (each_fits (cells_of cs) fs) h.0).0, heads_fit name s fs structs h.1)
 
 pub tails_fit : (name : List ℕ) (s : Shape) (fs : Fields) (structs : List (List Cell)) → StructsFit (field name s fs) structs → StructsFit fs (map (drop 1) structs)
 tails_fit name s fs [] h = tt
 tails_fit name s fs ([] ∷ structs) h = let wrong = h.0 in cc
-tails_fit name s fs ((c ∷ cs) ∷ structs) h = ((both (fits c s) (each_fits (cells_of cs) fs) h.0).1, tails_fit name s fs structs h.1)
+tails_fit name s fs ((c ∷ cs) ∷ structs) h = ((and_parts (fits c s) (each_fits (cells_of cs) fs) h.0).1, tails_fit name s fs structs h.1)
 
 -- structs that fit have each field once
 pub heads-length : (name : List ℕ) (s : Shape) (fs : Fields) (structs : List (List Cell)) → StructsFit (field name s fs) structs → length (flat_map (take 1) structs) ≡ length structs

@@ -1,6 +1,6 @@
 -- Rows of a schema (ORC specification, "Types": the values of each kind).
 use Rattle.std.specs.List.{AllByRecursion}
-use Rattle.std.specs.Prelude.{◌≡◌, List, ℕ, ◌^◌, ℤ, pos, negsuc, Bool, true, false, ◌&&◌, nat_lt}
+use Rattle.std.specs.Prelude.{◌≡◌, List, [], ◌∷◌, ℕ, ◌^◌, ℤ, pos, negsuc, Bool, true, false, ◌&&◌, nat_lt}
 use Rattle.orc_types.specs.declared.kind.Scalar.{Scalar}
 use Rattle.orc_types.specs.declared.kind.Scalar.TheVariants as kind
 use Rattle.orc_types.specs.Shapes.{Shape, scalar, list_of, struct_of, Fields, no_field, field}
@@ -21,6 +21,10 @@ int_fits kind.Long z = signed_fits 63 z
 int_fits kind.String z = false
 int_fits kind.Binary z = false
 int_fits kind.Date z = false
+
+abbrev pub are_bytes : List ℕ → Bool
+are_bytes [] = true
+are_bytes (b ∷ bs) = nat_lt b 256 && are_bytes bs
 
 abbrev pub is_boolean : Scalar → Bool
 is_boolean kind.Boolean = true
@@ -68,7 +72,7 @@ atom_fits k (bool b) = is_boolean k
 atom_fits k (int z) = int_fits k z
 atom_fits k (date z) = is_date k && signed_fits 31 z
 atom_fits k (text s) = is_string k
-atom_fits k (bytes s) = is_binary k
+atom_fits k (bytes s) = is_binary k && are_bytes s
 
 -- A row has its schema's shape, any part may be null, and numbers are in their kind's range.
 abbrev mutual

@@ -11,3 +11,11 @@ pub mod Views
 pub mod Preorder
 pub mod Lent
 pub mod SchemaText
+pub mod TextFaults
+pub mod TextFronts
+pub mod Days
+pub mod FieldNames
+pub mod JsonLeaves
+pub mod JsonRows
+pub mod JsonFaults
+pub mod JsonPrinting

@@ -1,8 +1,11 @@
--- The text of a schema, as ORC's tools write it (ORC specification, "Types": the example's schema text).
-use Rattle.std.specs.Prelude.{ℕ, List, [], ◌∷◌, ◌++◌, Bool, true, false, codes}
+-- The text of a schema: the names that the types have in Hive, as the examples of the ORC specification, "Types", write them.
+use Rattle.std.specs.Prelude.{◌≡◌, ◌<◌, ◌==◌, ℕ, List, [], ◌++◌, length, Bool, true, false, ◌||◌, codes}
+use Rattle.std.specs.List.{AllByRecursion}
+use Rattle.std.specs.Char.{is_ascii_alphanumeric}
 use Rattle.orc_types.specs.declared.kind.Scalar.{Scalar}
 use Rattle.orc_types.specs.declared.kind.Scalar.TheVariants as kind
 use Rattle.orc_types.specs.Shapes.{Shape, scalar, list_of, struct_of, Fields, no_field, field}
+use Rattle.orc_types.specs.Schemas.{IsSchema}
 
 abbrev pub kind_name : Scalar → List ℕ
 kind_name kind.Boolean = codes "boolean"
@@ -14,12 +17,13 @@ kind_name kind.String = codes "string"
 kind_name kind.Binary = codes "binary"
 kind_name kind.Date = codes "date"
 
+-- the first field has no comma in front
 abbrev pub comma : Bool → List ℕ
 comma true = []
-comma false = 44 ∷ []
+comma false = codes ","
 
 abbrev pub colon : List ℕ
-colon = 58 ∷ []
+colon = codes ":"
 
 abbrev mutual
   pub text : Shape → List ℕ
@@ -31,3 +35,43 @@ abbrev mutual
   pub fields_text : Bool → Fields → List ℕ
   fields_text first no_field = []
   fields_text first (field name s fs) = comma first ++ name ++ colon ++ text s ++ fields_text false fs
+
+-- an ASCII letter or digit, or an underscore
+unfoldable pub is_word : ℕ → Bool
+is_word b = is_ascii_alphanumeric b || b == 95
+
+abbrev pub AreWords : List ℕ → Type 0
+AreWords bytes = AllByRecursion (λ b. is_word b ≡ true) bytes
+
+-- one or more of these
+pub record IsName (bytes : List ℕ) : Type 0 where
+  pub some : 0 < length bytes
+  pub words : AreWords bytes
+
+-- such names only, and nothing else that the types keep: all that a text tells
+abbrev mutual
+  pub IsPlain : Shape → Type 0
+  IsPlain (scalar k o) = o ≡ []
+  IsPlain (list_of s o) = (o ≡ []) × IsPlain s
+  IsPlain (struct_of fs o) = (o ≡ []) × ArePlain fs
+
+  pub ArePlain : Fields → Type 0
+  ArePlain no_field = Unit {0}
+  ArePlain (field name s fs) = IsName name × IsPlain s × ArePlain fs
+
+-- the kinds and the names alone
+abbrev mutual
+  pub bare : Shape → Shape
+  bare (scalar k o) = scalar k []
+  bare (list_of s o) = list_of (bare s) []
+  bare (struct_of fs o) = struct_of (bare_fields fs) []
+
+  pub bare_fields : Fields → Fields
+  bare_fields no_field = no_field
+  bare_fields (field name s fs) = field name (bare s) (bare_fields fs)
+
+-- a schema that its text tells, and the text
+pub record HasText (s : Shape) (bytes : List ℕ) : Type 0 where
+  pub schema : IsSchema s
+  pub plain : IsPlain s
+  pub spelled : bytes ≡ text s

@@ -1,5 +1,5 @@
 ghost use Rattle.std.specs.Prelude.{◌≡◌};
-ghost use Rattle.orc_types.specs.Cells.{cells_of};
+ghost use Rattle.orc_types.specs.Cells.{bytes, cells_of};
 ghost use Rattle.orc_types.specs.Views.{view, views, cell_of_value, shape, fields as fields_view};
 ghost use Rattle.orc_types.specs.Fits as spec;
 
@@ -22,6 +22,13 @@ pub fn int_fits(kind: Scalar, number: i64) -> bool
     }
 }
 
+/// Whether bytes are a value of the kind. That each is below 256 goes without a test.
+fn bytes_fit(kind: Scalar, octets: &[u8]) -> bool
+    ensures { result ≡ spec.atom_fits kind (bytes octets.now) }
+{
+    matches!(kind, Scalar::Binary)
+}
+
 /// Whether the value is one of a kind that contains no other.
 fn scalar_fits(kind: Scalar, value: &Value<'_>) -> bool
     ensures { result ≡ spec.scalar_fits kind (cell_of_value value.now) }
@@ -30,11 +37,12 @@ fn scalar_fits(kind: Scalar, value: &Value<'_>) -> bool
         Value::Bool(_) => matches!(kind, Scalar::Boolean),
         Value::Int(number) => int_fits(kind, *number),
         Value::Date(day) => {
+            // That it has 32 bits is known of a number that is read.
             let _day = *day;
             matches!(kind, Scalar::Date)
         }
         Value::Text(_) => matches!(kind, Scalar::String),
-        Value::Bytes(_) => matches!(kind, Scalar::Binary),
+        Value::Bytes(octets) => bytes_fit(kind, octets.as_slice()),
         Value::List(_) | Value::Struct(_) => false,
     }
 }

@@ -1,5 +1,5 @@
 ghost use Rattle.std.specs.Prelude.{◌≡◌};
-ghost use Rattle.orc_types.specs.Kinds.{scalar_of};
+ghost use Rattle.orc_types.specs.Kinds.{number as number_of, scalar_of};
 
 /// The kinds of types that contain no other type.
 #[derive(Clone, Copy, Debug, PartialEq, Eq)]
@@ -36,6 +36,22 @@ impl Scalar {
             8 => Some(Scalar::Binary),
             15 => Some(Scalar::Date),
             _ => None,
+        }
+    }
+
+    /// The number of this kind in a list of types (ORC specification, "Types").
+    pub fn number(self) -> u32
+        ensures { result ≡ number_of self }
+    {
+        match self {
+            Scalar::Boolean => 0,
+            Scalar::Byte => 1,
+            Scalar::Short => 2,
+            Scalar::Int => 3,
+            Scalar::Long => 4,
+            Scalar::String => 7,
+            Scalar::Binary => 8,
+            Scalar::Date => 15,
         }
     }
 }

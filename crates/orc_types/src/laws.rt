@@ -1,12 +1,26 @@
-ghost use Rattle.std.specs.Prelude.{◌≡◌, ◌↔◌, ◌++◌, ◌<◌, ℕ, List, true};
+ghost use Rattle.std.specs.Prelude.{◌≡◌, ◌≢◌, ◌↔◌, ◌++◌, ◌<◌, ◌≤ℤ◌, ◌⊎◌, ℕ, ℤ, pos, List, true};
 ghost use Rattle.orc_types.specs.Shapes.{Shape, width, shape_at};
 ghost use Rattle.orc_types.specs.Types.{types};
 ghost use Rattle.orc_wire.specs.declared.type_msg.TypeMsg.{TypeMsg};
-ghost use Rattle.orc_types.specs.Schemas.{HasTypes, same_types};
+ghost use Rattle.orc_types.specs.Schemas.{IsSchema, HasTypes, same_types};
 ghost use Rattle.orc_types.specs.Faults.{TypesFault};
+ghost use Rattle.orc_types.specs.SchemaText.{text, bare, IsPlain, HasText};
+ghost use Rattle.orc_types.specs.TextFaults.{TextFault};
 ghost use Rattle.orc_types.specs.Cells.{Cell};
 ghost use Rattle.orc_types.specs.Columns.{cells};
-ghost use Rattle.orc_types.specs.Fits.{RowsFit};
+ghost use Rattle.orc_types.specs.Fits.{RowsFit, fits};
+ghost use Rattle.orc_types.specs.Days.{has_text, day_text, IsDayText};
+ghost use Rattle.jiff.specs.Words.{epoch_day, date_text};
+ghost use Rattle.jiff_core.specs.declared.civil.date.Date.{Date};
+ghost use Rattle.orc_types.specs.declared.kind.Scalar.{Scalar};
+ghost use Rattle.orc_types.specs.JsonLeaves.{LeafFault};
+ghost use Rattle.orc_types.specs.FieldNames.{is_distinct};
+ghost use Rattle.orc_types.specs.JsonRows.{Spells};
+ghost use Rattle.orc_types.specs.JsonFaults.{FaultAt, Somewhere};
+ghost use Rattle.orc_types.specs.JsonPrinting.{json_of, AreInOrder};
+ghost use Rattle.serde_json.specs.Data.{Data, Members, object};
+ghost use Rattle.orc_types.specs.declared.json_fault.JsonFault.{JsonFault};
+ghost use Rattle.orc_types.specs.declared.json_fault.JsonFault.TheVariants.{OutOfMemory as NoMemory};
 ghost use Rattle.orc_types.specs.declared.fault.TypeFault.{TypeFault};
 ghost use Rattle.orc_types.specs.declared.fault.TypeFault.TheVariants.{OutOfMemory};
 
@@ -18,9 +32,38 @@ pub fn schema_laws()
     ensures none { (ts : List TypeMsg) (s : Shape) (fault : TypeFault) → HasTypes s ts → TypesFault ts fault → fault ≡ OutOfMemory }
 {}
 
+/// Laws of schemas' texts: a text is of one schema at most; that of any schema with plain names is of
+/// its kinds and names; and of the faults that stand, none but want of memory goes with a schema.
+pub fn schema_text_laws()
+    ensures one_schema { (bytes : List ℕ) (s t : Shape) → HasText s bytes → HasText t bytes → s ≡ t }
+    ensures kinds_and_names { (s : Shape) → IsSchema s → IsPlain (bare s) → HasText (bare s) (text s) }
+    ensures none { (bytes : List ℕ) (s : Shape) (fault : TypeFault) → HasText s bytes → TextFault bytes fault → fault ≡ OutOfMemory }
+{}
+
 /// Laws of cells: the cells of rows one after the other stand one after the other, and those of a
 /// column of rows that fit are rows of the column's type.
 pub fn cells_laws()
     ensures append { (s : Shape) (column : ℕ) (a b : List Cell) → cells s column (a ++ b) ≡ cells s column a ++ cells s column b }
     ensures fit { (s : Shape) (column : ℕ) (rows : List Cell) → column < width s → RowsFit s rows → RowsFit (shape_at s column) (cells s column rows) }
+{}
+
+/// Laws of days: a text is one day's; the days that have a text are those of the calendar's dates from
+/// the year 1 on, which ends with the year 9999; and the text is that of the date.
+pub fn day_laws()
+    ensures one { (s : List ℕ) (m n : ℤ) → IsDayText s m → IsDayText s n → m ≡ n }
+    ensures years { (d : Date) → (has_text (epoch_day d) ≡ true) ↔ (pos 1 ≤ℤ d.year) }
+    ensures calendar { (d : Date) → has_text (epoch_day d) ≡ true → day_text (epoch_day d) ≡ date_text d }
+{}
+
+/// Laws of JSON rows: a JSON value spells one row at most, which fits; a fault that stands somewhere
+/// in it leaves none, but for want of memory; a value that contains no other is refused in one way;
+/// an object is printed with its keys in byte order; and where no struct names a field twice, a row
+/// that fits is spelled by its JSON.
+pub fn json_laws()
+    ensures one_row { (s : Shape) (json : Data) (a b : Cell) → Spells s json a → Spells s json b → a ≡ b }
+    ensures fit { (s : Shape) (json : Data) (row : Cell) → Spells s json row → fits row s ≡ true }
+    ensures none { (fault : JsonFault) (s : Shape) (json : Data) (row : Cell) → fault ≢ NoMemory → Somewhere (FaultAt fault) s json → Spells s json row → ⊥ }
+    ensures one_fault { (kind : Scalar) (json : Data) (a b : JsonFault) → LeafFault kind json a → LeafFault kind json b → (a ≡ b) ⊎ ((a ≡ NoMemory) ⊎ (b ≡ NoMemory)) }
+    ensures keys { (s : Shape) (row : Cell) (members : Members) → json_of s row ≡ object members → AreInOrder members }
+    ensures again { (s : Shape) (row : Cell) → is_distinct s ≡ true → fits row s ≡ true → Spells s (json_of s row) row }
 {}

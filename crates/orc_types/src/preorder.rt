@@ -16,9 +16,9 @@ use std::alloc::Global;
 use std::str;
 
 /// The most types that a schema has, and the most levels.
-const MOST_TYPES: usize = 4096;
+pub(crate) const MOST_TYPES: usize = 4096;
 
-const MOST_LEVELS: u32 = 32;
+pub(crate) const MOST_LEVELS: u32 = 32;
 
 /// The type at a place.
 fn type_at(types: &[TypeMsg], at: usize) -> Option<&TypeMsg>
@@ -29,7 +29,7 @@ fn type_at(types: &[TypeMsg], at: usize) -> Option<&TypeMsg>
 }
 
 /// A field's name as text.
-fn name_of(alloc: Global, bytes: &[u8]) -> Result<String, TypeFault>
+pub(crate) fn name_of(alloc: Global, bytes: &[u8]) -> Result<String, TypeFault>
     ensures text { IfOk result (λ name. string_bytes name ≡ bytes.now) }
     ensures utf8 { IfOk result (λ _. is_utf8 bytes.now ≡ true) }
     ensures fault { IfErr result (NameFault bytes.now) }

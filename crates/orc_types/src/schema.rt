@@ -10,10 +10,11 @@ ghost use Rattle.orc_types.specs.declared.fault.TypeFault.TheVariants.{OutOfMemo
 
 use crate::copies::copied_types;
 use crate::fault::TypeFault;
+use crate::listing::listed;
 use crate::preorder::tree_of;
 use crate::tree::Tree;
 use orc_wire::{Bytes, TypeMsg};
-use std::alloc::Global;
+use std::alloc::{AllocError, Global};
 use std::marker::Model;
 
 /// A schema: a tree of types whose root is a STRUCT, within the limits of 4,096 types and 32
@@ -56,6 +57,15 @@ impl Schema {
     {
         let tree = tree_of(alloc, types)?;
         let types = copied_types(alloc, types)?;
+        Ok(Schema { types, tree })
+    }
+
+    /// The schema of a tree.
+    pub(crate) fn from_tree(alloc: Global, tree: Tree) -> Result<Schema, AllocError>
+        requires { IsSchema (shape tree) }
+        ensures { IfOk result (λ found. found ≡ shape tree) }
+    {
+        let types = listed(alloc, &tree)?;
         Ok(Schema { types, tree })
     }
 

@@ -1,18 +1,24 @@
-ghost use Rattle.std.specs.Prelude.{◌≡◌, ◌++◌, IfOk, IfErr, OnOk, true, string_bytes};
+ghost use Rattle.std.specs.Prelude.{◌↔◌, IsTrue, ◌≡◌, ◌≢◌, ◌++◌, ℕ, List, [], IfOk, IfErr, IfSome, IfNone, OnOk, MatchOption, MatchResult, true, string_bytes};
+ghost use Rattle.orc_types.specs.Shapes.{Shape, IsStruct};
 ghost use Rattle.orc_types.specs.SchemaText as spec;
+ghost use Rattle.orc_types.specs.SchemaText.{HasText};
+ghost use Rattle.orc_types.specs.TextFaults.{TextFault};
+ghost use Rattle.orc_types.specs.TextFronts.{IsFront, IsFieldFront, IsFieldsFront, IsBad, FrontFault, FieldFault, FieldsFault};
+ghost use Rattle.orc_types.specs.declared.kind.Scalar.{Scalar};
 ghost use Rattle.orc_types.specs.Views.{shape, fields as fields_view};
 ghost use Rattle.orc_types.specs.declared.fault.TypeFault.TheVariants.{OutOfMemory};
 
 use crate::fault::TypeFault;
 use crate::kind::Scalar;
+use crate::preorder::{MOST_LEVELS, MOST_TYPES, name_of};
 use crate::schema::Schema;
-use crate::tree::{Field, Tree};
+use crate::tree::{Field, Tree, width_of};
 use std::alloc::{AllocError, Global};
 
 impl Schema {
     /// The schema's text: `boolean`, `tinyint`, `smallint`, `int`, `bigint`, `string`, `binary`,
     /// `date`, `array<T>` and `struct<name:T,..>`, with no spaces. It has the kinds and the names,
-    /// and nothing of what types keep.
+    /// and nothing of what types keep (ORC specification, "Types").
     ///
     /// Refusal: `OutOfMemory`.
     pub fn text(&self, alloc: Global) -> Result<String, TypeFault>
@@ -23,7 +29,42 @@ impl Schema {
         put_tree(&mut text, self.tree())?;
         Ok(text)
     }
+
+    /// The schema that a text tells: the kinds and the names, which are of ASCII letters, digits and
+    /// underscores. Its types keep nothing else (ORC specification, "Types").
+    ///
+    /// Refusals: `BadText` with the place where the text goes wrong, `TooDeep` above 32 levels,
+    /// `RootNotStruct` of another type's text, `TooMany` above 4,096 types, and `OutOfMemory`. Which
+    /// of several is answered is open.
+    pub fn parse(alloc: Global, text: &str) -> Result<Schema, TypeFault>
+        ensures found { IfOk result (λ found. HasText found text.now) }
+        ensures only { (s : Shape) → HasText s text.now → MatchResult result (λ found. found ≡ s) (λ fault. fault ≡ OutOfMemory) }
+
+        ensures fault { IfErr result (TextFault text.now) }
+    {
+        let tree = whole_tree(alloc, text.as_bytes())?;
+        if !is_struct(&tree) {
+            return Err(TypeFault::RootNotStruct);
+        }
+        let width = width_of(&tree);
+        if width > MOST_TYPES {
+            return Err(TypeFault::TooMany);
+        }
+        Ok(Schema::from_tree(alloc, tree)?)
+    }
 }
+
+/// The kinds that have a name of their own.
+const SCALARS: [Scalar; 8] = [
+    Scalar::Boolean,
+    Scalar::Byte,
+    Scalar::Short,
+    Scalar::Int,
+    Scalar::Long,
+    Scalar::String,
+    Scalar::Binary,
+    Scalar::Date,
+];
 
 /// The name of a kind.
 fn kind_name(kind: Scalar) -> &'static str
@@ -96,4 +137,163 @@ fn put_fields(text: &mut String, fields: &Vec<Field>) -> Result<(), AllocError>
         put_field(text, i == 0, field)?;
     }
     Ok(())
+}
+
+/// What stands behind a word, if the text begins with the word.
+fn after<'t>(text: &'t [u8], word: &str) -> Option<&'t [u8]>
+    ensures { MatchOption result ((rest : List ℕ) → text.now ≢ word.now ++ rest) (λ rest. text.now ≡ word.now ++ rest.now) }
+{
+    text.strip_prefix(word.as_bytes())
+}
+
+/// What stands behind a word, with which the text has to begin. Here and where a text is read from the
+/// front, `BadText` has the number of bytes that are left where it goes wrong.
+fn behind<'t>(text: &'t [u8], word: &str) -> Result<&'t [u8], TypeFault>
+    ensures found { IfOk result (λ rest. text.now ≡ word.now ++ rest.now) }
+    ensures fault { IfErr result (IsBad text.now ((rest : List ℕ) → text.now ≢ word.now ++ rest)) }
+{
+    after(text, word).ok_or(TypeFault::BadText(text.len()))
+}
+
+/// What stands behind the comma that each field but the first has in front.
+fn behind_comma<'t>(text: &'t [u8], first: bool) -> Result<&'t [u8], TypeFault>
+    ensures found { IfOk result (λ rest. text.now ≡ spec.comma first ++ rest.now) }
+    ensures fault { IfErr result (IsBad text.now ((rest : List ℕ) → text.now ≢ spec.comma first ++ rest)) }
+{
+    if first { Ok(text) } else { behind(text, ",") }
+}
+
+/// Whether a byte can stand in a name.
+#[tactic(auto, unfolding(crate::specs::SchemaText::is_word))]
+fn is_word(byte: u8) -> bool
+    ensures { result ≡ spec.is_word byte }
+{
+    byte.is_ascii_alphanumeric() || byte == b'_'
+}
+
+/// The name that a text begins with, and what stands behind its colon.
+fn name_from(text: &[u8]) -> Option<(&[u8], &[u8])>
+    ensures name { IfSome result (λ found. spec.IsName found.0.now) }
+    ensures found { IfSome result (λ found. text.now ≡ found.0.now ++ (spec.colon ++ found.1.now)) }
+    ensures none { IfNone result ((name rest : List ℕ) → spec.IsName name → text.now ≢ name ++ (spec.colon ++ rest)) }
+{
+    for (i, byte) in text.iter().enumerate() {
+        if !is_word(*byte) {
+            let empty = i == 0;
+            if empty || *byte != b':' {
+                return None;
+            }
+            return Some((&text[..i], &text[i + 1..]));
+        }
+    }
+    None
+}
+
+/// The kind whose name a text begins with, and what stands behind it.
+fn kind_from(text: &[u8]) -> Option<(Scalar, &[u8])>
+    ensures found { IfSome result (λ found. text.now ≡ spec.kind_name found.0 ++ found.1.now) }
+    ensures none { IfNone result ((kind : Scalar) (rest : List ℕ) → text.now ≢ spec.kind_name kind ++ rest) }
+{
+    for kind in SCALARS {
+        if let Some(rest) = after(text, kind_name(kind)) {
+            return Some((kind, rest));
+        }
+    }
+    None
+}
+
+/// The type whose text stands in front, if it has at most that many levels, and the rest.
+#[cycle(front)]
+fn tree_from<'t>(alloc: Global, text: &'t [u8], levels: u32) -> Result<(Tree, &'t [u8]), TypeFault>
+    ensures found { IfOk result (λ found. IsFront text.now levels (shape found.0) found.1.now) }
+    ensures fault { IfErr result (FrontFault text.now levels) }
+{
+    if levels == 0 {
+        return Err(TypeFault::TooDeep);
+    }
+    if let Some(inner) = after(text, "array<") {
+        let (element, rest) = tree_from(alloc, inner, levels - 1)?;
+        let rest = behind(rest, ">")?;
+        return Ok((Tree::List(Box::new(alloc, element)?, Vec::new(alloc)), rest));
+    }
+    if let Some(inner) = after(text, "struct<") {
+        let (fields, rest) = fields_from(alloc, inner, levels - 1)?;
+        return Ok((Tree::Struct(fields, Vec::new(alloc)), rest));
+    }
+    let Some((kind, rest)) = kind_from(text) else {
+        return Err(TypeFault::BadText(text.len()));
+    };
+    Ok((Tree::Scalar(kind, Vec::new(alloc)), rest))
+}
+
+/// The field whose text stands in front, and the rest.
+#[cycle(front)]
+fn field_from<'t>(
+    alloc: Global,
+    text: &'t [u8],
+    first: bool,
+    levels: u32,
+) -> Result<(Field, &'t [u8]), TypeFault>
+    ensures found { IfOk result (λ found. IsFieldFront text.now first levels (string_bytes found.0.name) (shape found.0.tree) found.1.now) }
+    ensures fault { IfErr result (FieldFault text.now first levels) }
+{
+    let text = behind_comma(text, first)?;
+    let Some((name, inner)) = name_from(text) else {
+        return Err(TypeFault::BadText(text.len()));
+    };
+    let name = name_of(alloc, name)?;
+    let (tree, rest) = tree_from(alloc, inner, levels)?;
+    Ok((Field { name, tree }, rest))
+}
+
+/// The fields whose text stands in front, up to the bracket that closes it, and the rest.
+#[cycle(front)]
+fn fields_from<'t>(
+    alloc: Global,
+    text: &'t [u8],
+    levels: u32,
+) -> Result<(Vec<Field>, &'t [u8]), TypeFault>
+    ensures found { IfOk result (λ found. IsFieldsFront text.now levels (fields_view found.0.items) found.1.now) }
+    ensures fault { IfErr result (FieldsFault text.now levels) }
+{
+    let mut fields = Vec::new(alloc);
+    let mut left = text;
+    loop {
+        if let Some(rest) = after(left, ">") {
+            return Ok((fields, rest));
+        }
+        let (field, rest) = field_from(alloc, left, fields.is_empty(), levels)?;
+        fields.push(field)?;
+        left = rest;
+    }
+}
+
+/// Whether a type is a STRUCT.
+fn is_struct(tree: &Tree) -> bool
+    ensures { IsTrue result ↔ IsStruct (shape tree.now) }
+{
+    matches!(tree, Tree::Struct(_, _))
+}
+
+/// The fault with its place counted from the front of the text.
+fn placed(text: &[u8], fault: TypeFault) -> TypeFault
+    requires { FrontFault text.now 32 fault }
+    ensures { FrontFault text.now 32 result }
+{
+    match fault {
+        TypeFault::BadText(left) => TypeFault::BadText(text.len() - left),
+        other => other,
+    }
+}
+
+/// The type that a whole text tells.
+fn whole_tree(alloc: Global, text: &[u8]) -> Result<Tree, TypeFault>
+    ensures found { IfOk result (λ tree. IsFront text.now 32 (shape tree) []) }
+    ensures fault { IfErr result (TextFault text.now) }
+{
+    match tree_from(alloc, text, MOST_LEVELS) {
+        Ok((tree, [])) => Ok(tree),
+        Ok((_, rest)) => Err(TypeFault::BadText(text.len() - rest.len())),
+        Err(fault) => Err(placed(text, fault)),
+    }
 }

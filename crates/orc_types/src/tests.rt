@@ -8,8 +8,11 @@ use orc_wire::{Bytes, Items, TypeMsg};
 use std::alloc::{AllocError, Global};
 use std::process::Abort;
 
+mod json_leaves;
+mod json_rows;
 mod refused;
 mod rows;
+mod texts;
 
 /// A type of a table: its kind's number, its subtypes, its fields' names.
 type Listed = (u32, &'static [u32], &'static [&'static [u8]]);
@@ -73,6 +76,12 @@ fn number_that_keeps(alloc: Global) -> Result<Vec<TypeMsg>, AllocError>
 fn schema_of(alloc: Global, table: &[Listed]) -> Result<Schema, TypeFault> {
     let types = types_of(alloc, table)?;
     Schema::from_types(alloc, &types)
+}
+
+/// Notes that memory was refused, which may happen once in a test.
+fn note_refusal(rt: &impl Abort, refused: &mut bool) {
+    assert!(rt; !*refused, "memory is refused once at most");
+    *refused = true;
 }
 
 #[test]

@@ -25,7 +25,7 @@ pub struct Field {
 /// The number of columns of a type, itself the first.
 #[cycle(widths)]
 pub fn width_of(tree: &Tree) -> usize
-    requires { width (shape tree.now) < 2 ^ 32 }
+    requires { width (shape tree.now) < 2 ^ 64 }
     ensures { result ≡ width (shape tree.now) }
 {
     match tree {
@@ -38,7 +38,7 @@ pub fn width_of(tree: &Tree) -> usize
 /// The number of columns of some fields.
 #[cycle(widths)]
 fn widths_of(fields: &[Field]) -> usize
-    requires { widths (fields_view fields.now) < 2 ^ 32 }
+    requires { widths (fields_view fields.now) < 2 ^ 64 }
     ensures { result ≡ widths (fields_view fields.now) }
 {
     match fields {

@@ -204,9 +204,11 @@ fn fault_texts(rt: HostRuntime) {
         (TypeFault::BadText(0), "type 6 BadText at 0"),
         (TypeFault::OutOfMemory, "type 7 OutOfMemory"),
     ];
+    let mut refused = false;
     for (fault, text) in table {
-        if let Ok(shown) = format!(in alloc; "{fault}") {
-            assert_eq!(rt; shown.as_str(), text);
+        match format!(in alloc; "{fault}") {
+            Ok(shown) => assert_eq!(rt; shown.as_str(), text),
+            Err(_) => note_refusal(&rt, &mut refused),
         }
     }
 }

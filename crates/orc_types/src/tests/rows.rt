@@ -3,7 +3,7 @@ use std::borrow::{CowSlice, CowStr};
 
 /// Rows in postfix: a list or a struct is made of so many rows that stand before it.
 #[derive(Clone, Copy)]
-enum Token {
+pub enum Token {
     Null,
     Truth,
     Int(i64),
@@ -17,7 +17,7 @@ enum Token {
 use Token::{Bytes as Blob, Date, Int, List, Null, Struct, Text, Truth};
 
 /// A struct of a field of every kind, in the order of their numbers but for DATE.
-const KINDS: [Listed; 11] = [
+pub const KINDS: [Listed; 11] = [
     (
         12,
         &[1, 2, 3, 4, 5, 6, 7, 8, 10],
@@ -106,7 +106,7 @@ const STRUCTS_IN_LISTS_ROWS: [Token; 12] = [
 ];
 
 /// A value of each kind.
-const KINDS_ROW: [Token; 12] = [
+pub const KINDS_ROW: [Token; 12] = [
     Truth,
     Int(1),
     Int(2),
@@ -348,7 +348,7 @@ fn taken(rows: &mut Vec<Row<'static>>, count: usize) -> Result<Vec<Row<'static>>
 }
 
 /// The rows that stand in postfix.
-fn rows_of(alloc: Global, tokens: &[Token]) -> Result<Vec<Row<'static>>, AllocError> {
+pub fn rows_of(alloc: Global, tokens: &[Token]) -> Result<Vec<Row<'static>>, AllocError> {
     let mut rows = Vec::new(alloc);
     for token in tokens {
         let row = match *token {

@@ -1,0 +1,83 @@
+-- Elements and fields that were read, before those that are left.
+use Rattle.std.proofs.Common.{◌≡◌, ℕ, zero, suc, ◌<◌, ◌≤◌, List, [], ◌∷◌, ◌++◌, length, get_or, drop, true, Option, Some, inl, inr, Vec, Box, Global, String, BTreeMap, string_bytes, refl, sym, ap, ◌∙◌, arith, drop-cons}
+use Rattle.std.proofs.lemmas.List.{drop_all}
+use Rattle.serde_json.specs.Data.{Data, array}
+use Rattle.serde_json.specs.Find.{get, get_item}
+use Rattle.serde_json.specs.View.{view as json_view, items_view, members_view}
+use Rattle.serde_json.specs.declared.value.Value.{Value as Json, Array, Object}
+use Rattle.serde_json.proofs.Views.{view-Array, view-Object}
+use Rattle.orc_types.specs.Cells.{Cell, Cells, end, more, cells_of}
+use Rattle.orc_types.specs.Shapes.{Shape, names_of}
+use Rattle.orc_types.specs.Views.{view, views, shape, fields as fields_view}
+use Rattle.orc_types.specs.declared.tree.Tree.{Tree, List as TreeList, Struct as TreeStruct}
+use Rattle.orc_types.specs.declared.tree.Field.{Field}
+use Rattle.orc_types.specs.declared.value.Value.{Value, List as ListOf, Struct as StructOf}
+use Rattle.orc_types.specs.FieldNames.{all_known}
+use Rattle.orc_types.specs.JsonRows.{Spells, EachSpells, MemberSpells, FieldsSpell}
+use Rattle.orc_types.specs.JsonFaults.{Somewhere, InElement, InField}
+use Rattle.orc_types.proofs.Views.{named-is, shape-List, shape-Struct, view-List, view-Struct}
+
+abbrev pub before : List Cell → Cells → Cells
+before [] ys = ys
+before (x ∷ xs) ys = more x (before xs ys)
+
+before-push : (xs : List Cell) (x : Cell) (ys : Cells) → before (xs ++ x ∷ []) ys ≡ before xs (more x ys)
+before-push [] x ys = refl
+before-push (y ∷ xs) x ys = ap (λ zs. more y zs) (before-push xs x ys)
+
+before-end : (xs : List Cell) → before xs end ≡ cells_of xs
+before-end [] = refl
+before-end (x ∷ xs) = ap (λ zs. more x zs) (before-end xs)
+
+-- whatever cells the JSON values that are left spell, all of them spell those behind the ones read
+abbrev pub ElementsRead : (Data → Cell → Type 0) → List Json → ℕ → List Cell → Type 0
+ElementsRead Is js i xs = (ys : Cells) → EachSpells Is (items_view (drop i js)) ys → EachSpells Is (items_view js) (before xs ys)
+
+pub elements_more : (Is : Data → Cell → Type 0) (js : List Json) (i : ℕ) (j : Json) (xs : List Cell) (x : Cell) → i < length js → j ≡ get_or js i j → Is (json_view j) x → ElementsRead Is js i xs → ElementsRead Is js (suc i) (xs ++ x ∷ [])
+elements_more Is js i j xs x h is one so_far ys later =
+    rw (before-push xs x ys) (so_far (more x ys) (rw (drop-cons js i j, ← is) (one, later)))
+
+pub elements_all : (Is : Data → Cell → Type 0) (js : List Json) (i : ℕ) (xs : List Cell) → length js ≤ i → ElementsRead Is js i xs → EachSpells Is (items_view js) (cells_of xs)
+elements_all Is js i xs h so_far = rw (← before-end xs) (so_far end (rw (drop_all i js h) tt))
+
+pub element_at : (js : List Json) (i : ℕ) (j : Json) → i < length js → j ≡ get_or js i j → get_item i (items_view js) ≡ Some (json_view j)
+element_at [] i j h is = absurd (omega (arith, h))
+element_at (k ∷ js) zero j h is = ap (λ x. Some (json_view x)) (sym is)
+element_at (k ∷ js) (suc i) j h is = element_at js i j (omega (arith, h)) is
+
+-- the same of fields
+abbrev pub FieldsRead : List Field → Data → ℕ → List Cell → Type 0
+FieldsRead fs d i xs = (ys : Cells) → FieldsSpell (fields_view (drop i fs)) d ys → FieldsSpell (fields_view fs) d (before xs ys)
+
+pub fields_more : (fs : List Field) (d : Data) (i : ℕ) (f : Field) (xs : List Cell) (x : Cell) → i < length fs → f ≡ get_or fs i f
+    → MemberSpells (λ e y. Spells (shape f.tree) e y) (get (string_bytes f.name) d) x → FieldsRead fs d i xs → FieldsRead fs d (suc i) (xs ++ x ∷ [])
+fields_more fs d i f xs x h is one so_far ys later =
+    rw (before-push xs x ys) (so_far (more x ys) (rw (drop-cons fs i f, ← is, named-is f) (one, later)))
+
+pub fields_all : (fs : List Field) (d : Data) (i : ℕ) (xs : List Cell) → length fs ≤ i → FieldsRead fs d i xs → FieldsSpell (fields_view fs) d (cells_of xs)
+fields_all fs d i xs h so_far = rw (← before-end xs) (so_far end (rw (drop_all i fs h) tt))
+
+pub in_field : (Is : Shape → Data → Type 0) (fs : List Field) (d e : Data) (i : ℕ) (f : Field) → i < length fs → f ≡ get_or fs i f
+    → get (string_bytes f.name) d ≡ Some e → Somewhere Is (shape f.tree) e → InField Is (fields_view fs) d
+in_field Is [] d e i f h is at there = absurd (omega (arith, h))
+in_field Is (g ∷ fs) d e zero f h is at there = rw (← is, named-is f) (inl (e, at, there))
+in_field Is (g ∷ fs) d e (suc i) f h is at there = inr (in_field Is fs d e i f (omega (arith, h)) is at there)
+
+-- ---- a list's array, a struct's object
+
+pub array_spells : (t : Tree) (b : Box Tree Global) (o : Vec ℕ Global) (j : Json) (js : Vec Json Global) (rows : Vec (Option Value) Global) → t ≡ TreeList b o → j ≡ Array js
+    → EachSpells (Spells (shape b.value)) (items_view js.items) (cells_of (views rows.items)) → Spells (shape t) (json_view j) (view (Some (ListOf rows)))
+array_spells t b o j js rows it is h =
+    rw (it, is, shape-List b o) (inr (items_view js.items, cells_of (views rows.items), view-Array js, view-List rows, h))
+
+pub object_spells : (t : Tree) (fs : Vec Field Global) (o : Vec ℕ Global) (j : Json) (m : BTreeMap (String Global) Json) (rows : Vec (Option Value) Global) → t ≡ TreeStruct fs o → j ≡ Object m
+    → all_known (names_of (fields_view fs.items)) (members_view m.entries) ≡ true → FieldsSpell (fields_view fs.items) (json_view j) (cells_of (views rows.items)) → Spells (shape t) (json_view j) (view (Some (StructOf rows)))
+object_spells t fs o j m rows it is known h =
+    rw (it, shape-Struct fs o) (inr (members_view m.entries, cells_of (views rows.items), ap json_view is ∙ view-Object m, view-Struct rows, known, h))
+
+pub array_fault : (Is : Shape → Data → Type 0) (t : Tree) (b : Box Tree Global) (o : Vec ℕ Global) (j : Json) (js : Vec Json Global) → t ≡ TreeList b o → j ≡ Array js
+    → InElement (Somewhere Is (shape b.value)) (array (items_view js.items)) → Somewhere Is (shape t) (json_view j)
+array_fault Is t b o j js it is h = rw (it, is, shape-List b o, view-Array js) (inr h)
+
+pub object_fault : (Is : Shape → Data → Type 0) (t : Tree) (fs : Vec Field Global) (o : Vec ℕ Global) (d : Data) → t ≡ TreeStruct fs o → InField Is (fields_view fs.items) d → Somewhere Is (shape t) d
+object_fault Is t fs o d it h = rw (it, shape-Struct fs o) (inr h)

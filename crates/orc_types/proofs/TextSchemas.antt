@@ -1,0 +1,88 @@
+-- The schema that a text tells.
+use Rattle.std.proofs.Common.{◌≡◌, ◌≢◌, ℕ, ◌+◌, ◌≤◌, List, [], ◌++◌, length, Bool, true, false, codes, sym, ap, ◌∙◌, arith, length-append, append-nil}
+use Rattle.orc_wire.specs.declared.type_msg.TypeMsg.{TypeMsg}
+use Rattle.orc_wire.specs.CanonicalKinds.{AreKept}
+use Rattle.orc_types.specs.declared.kind.Scalar.{Scalar}
+use Rattle.orc_types.specs.declared.kind.Scalar.TheVariants as kind
+use Rattle.orc_types.specs.declared.fault.TypeFault.{TypeFault}
+use Rattle.orc_types.specs.declared.fault.TypeFault.TheVariants as fault
+use Rattle.orc_types.specs.Shapes.{Shape, scalar, list_of, struct_of, Fields, no_field, field, width, widths, IsStruct, HasTextNames, HaveTextNames}
+use Rattle.orc_types.specs.Types.{types, fields_types}
+use Rattle.orc_types.specs.Schemas.{AllKept}
+use Rattle.orc_types.specs.SchemaText.{kind_name, comma, colon, text, fields_text, IsPlain, ArePlain, HasText}
+use Rattle.orc_types.specs.TextFaults.{TextFault}
+use Rattle.orc_types.specs.TextFronts.{IsFront, FrontFault}
+use Rattle.orc_types.proofs.Exclusion.{all_append}
+use Rattle.orc_types.proofs.KeptFields.{none_kept}
+use Rattle.orc_types.proofs.OneText.{one_text}
+use Rattle.orc_types.proofs.TextFronts.{name_text}
+
+mutual
+  plain_names : (s : Shape) → IsPlain s → HasTextNames s
+  plain_names (scalar k o) plain = tt
+  plain_names (list_of s o) plain = plain_names s plain.1
+  plain_names (struct_of fs o) plain = all_plain_names fs plain.1
+
+  all_plain_names : (fs : Fields) → ArePlain fs → HaveTextNames fs
+  all_plain_names no_field plain = tt
+  all_plain_names (field name s fs) plain = (name_text name plain.0, plain_names s plain.1, all_plain_names fs plain.2)
+
+mutual
+  plain_kept : (s : Shape) (n : ℕ) → IsPlain s → AllKept (types s n)
+  plain_kept (scalar k o) n plain = (none_kept o plain, tt)
+  plain_kept (list_of s o) n plain = (none_kept o plain.0, plain_kept s (n + 1) plain.1)
+  plain_kept (struct_of fs o) n plain = (none_kept o plain.0, all_plain_kept fs (n + 1) plain.1)
+
+  all_plain_kept : (fs : Fields) (n : ℕ) → ArePlain fs → AllKept (fields_types fs n)
+  all_plain_kept no_field n plain = tt
+  all_plain_kept (field name s fs) n plain =
+      all_append (λ (t : TypeMsg). AreKept 4 t.kept) (types s n) (fields_types fs (n + width s)) (plain_kept s n plain.1) (all_plain_kept fs (n + width s) plain.2)
+
+kind_long : (k : Scalar) → 1 ≤ length (kind_name k)
+kind_long kind.Boolean = omega arith
+kind_long kind.Byte = omega arith
+kind_long kind.Short = omega arith
+kind_long kind.Int = omega arith
+kind_long kind.Long = omega arith
+kind_long kind.String = omega arith
+kind_long kind.Binary = omega arith
+kind_long kind.Date = omega arith
+
+field_long : (a b c d e : List ℕ) → length d + length e ≤ length (a ++ b ++ c ++ d ++ e)
+field_long a b c d e = omega (arith, length-append (a ++ b ++ c ++ d) e, length-append (a ++ b ++ c) d)
+
+-- a text has a byte for each type at least
+mutual
+  width_text : (s : Shape) → width s ≤ length (text s)
+  width_text (scalar k o) = kind_long k
+  width_text (list_of s o) = omega (arith, length-append (text s) (codes ">"), width_text s)
+  width_text (struct_of fs o) = omega (arith, length-append (fields_text true fs) (codes ">"), widths_text true fs)
+
+  widths_text : (first : Bool) (fs : Fields) → widths fs ≤ length (fields_text first fs)
+  widths_text first no_field = omega arith
+  widths_text first (field name s fs) = omega (arith, field_long (comma first) name colon (text s) (fields_text false fs), width_text s, widths_text false fs)
+
+pub front_width : (bytes : List ℕ) (d : ℕ) (s : Shape) → IsFront bytes d s [] → width s ≤ length bytes
+front_width bytes d s found = omega (arith, width_text s, ap length (found.spelled ∙ append-nil (text s)))
+
+pub text_schema : (bytes : List ℕ) (s : Shape) → IsFront bytes 32 s [] → IsStruct s → width s ≤ 4096 → HasText s bytes
+text_schema bytes s found root count =
+    record {
+      schema = record { root = root; names = plain_names s found.plain; levels = found.depth; count = count; kept = plain_kept s 0 found.plain };
+      plain = found.plain;
+      spelled = found.spelled ∙ append-nil (text s);
+    }
+
+-- why a text that is refused from the front is no schema's
+pub front_fault : (bytes : List ℕ) (f : TypeFault) → FrontFault bytes 32 f → TextFault bytes f
+front_fault bytes (fault.UnsupportedKind k) bad = bad
+front_fault bytes fault.BadTree bad = bad
+front_fault bytes fault.TooDeep bad = bad
+front_fault bytes fault.TooMany bad = absurd bad
+front_fault bytes fault.RootNotStruct bad = absurd bad
+front_fault bytes (fault.BadText place) bad = (bad.0, λ s plain h. bad.1 s [] plain (h ∙ sym (append-nil (text s))))
+front_fault bytes fault.OutOfMemory bad = tt
+
+-- bytes are left behind a type's text
+pub more_text : (bytes : List ℕ) (d : ℕ) (s : Shape) (rest : List ℕ) → IsFront bytes d s rest → rest ≢ [] → (t : Shape) → IsPlain t → bytes ≡ text t → ⊥
+more_text bytes d s rest found some t plain h = some (one_text s t rest [] found.plain plain (sym found.spelled ∙ h ∙ sym (append-nil (text t)))).1

@@ -1,0 +1,53 @@
+-- The JSON that a row prints as (values by RFC 8259, types by the ORC specification, "Types").
+use Rattle.std.specs.Prelude.{ℕ, ◌≡◌, List, true}
+use Rattle.std.specs.Ordering.{is_lt, nat_cmp}
+use Rattle.std.specs.Cmp.Lexicographic.{slice_cmp}
+use Rattle.serde_json.specs.Data.{Data, null as nothing, array, object, Items, no_items, item, Members, no_members, member, put}
+use Rattle.orc_types.specs.Shapes.{Shape, scalar, list_of, struct_of, Fields, no_field, field}
+use Rattle.orc_types.specs.Cells.{Cell, null, leaf, list, struct, Cells, end, more}
+use Rattle.orc_types.specs.JsonLeaves.{atom_json}
+
+abbrev pub each_json : (Cell → Data) → Cells → Items
+each_json f end = no_items
+each_json f (more c cs) = item (f c) (each_json f cs)
+
+-- null where the cell isn't one of the type
+abbrev pub scalar_json : Cell → Data
+scalar_json null = nothing
+scalar_json (leaf a) = atom_json a
+scalar_json (list cs) = nothing
+scalar_json (struct cs) = nothing
+
+abbrev pub list_json : (Cell → Data) → Cell → Data
+list_json f null = nothing
+list_json f (leaf a) = nothing
+list_json f (list cs) = array (each_json f cs)
+list_json f (struct cs) = nothing
+
+abbrev pub struct_json : (Cells → Members) → Cell → Data
+struct_json f null = nothing
+struct_json f (leaf a) = nothing
+struct_json f (list cs) = nothing
+struct_json f (struct cs) = object (f cs)
+
+-- an object has its fields' names as keys, in byte order, which `put` keeps
+abbrev mutual
+  pub json_of : Shape → Cell → Data
+  json_of (scalar k o) c = scalar_json c
+  json_of (list_of s o) c = list_json (λ x. json_of s x) c
+  json_of (struct_of fs o) c = struct_json (λ cs. members_json fs cs no_members) c
+
+  -- the members so far, and those of the fields
+  pub members_json : Fields → Cells → Members → Members
+  members_json no_field cs ms = ms
+  members_json (field name s fs) end ms = ms
+  members_json (field name s fs) (more c cs) ms = members_json fs cs (put name (json_of s c) ms)
+
+-- each key is below the next one, as lists of bytes
+abbrev pub IsBelow : List ℕ → Members → Type 0
+IsBelow k no_members = Unit {0}
+IsBelow k (member l d ms) = is_lt (slice_cmp nat_cmp k l) ≡ true
+
+abbrev pub AreInOrder : Members → Type 0
+AreInOrder no_members = Unit {0}
+AreInOrder (member k d ms) = IsBelow k ms × AreInOrder ms

@@ -1,0 +1,44 @@
+-- The row that a JSON value spells under a schema (values by RFC 8259, types by the ORC specification, "Types").
+use Rattle.std.specs.Prelude.{ℕ, ◌≡◌, ◌⊎◌, List, true, Option, Some, None}
+use Rattle.serde_json.specs.Data.{Data, null as nothing, array, object, Items, no_items, item, Members}
+use Rattle.serde_json.specs.Find.{get}
+use Rattle.orc_types.specs.Shapes.{Shape, scalar, list_of, struct_of, Fields, no_field, field, names_of}
+use Rattle.orc_types.specs.Cells.{Cell, null, list, struct, Cells, end, more}
+use Rattle.orc_types.specs.FieldNames.{all_known}
+use Rattle.orc_types.specs.JsonLeaves.{ScalarSpells}
+
+-- whatever the type, null spells null
+abbrev pub OrNull : Data → Cell → Type 0 → Type 0
+OrNull d c IsValue = ((d ≡ nothing) × (c ≡ null)) ⊎ IsValue
+
+-- each element spells an element
+abbrev pub EachSpells : (Data → Cell → Type 0) → Items → Cells → Type 0
+EachSpells Is no_items end = Unit {0}
+EachSpells Is no_items (more c cs) = ⊥
+EachSpells Is (item d ds) end = ⊥
+EachSpells Is (item d ds) (more c cs) = Is d c × EachSpells Is ds cs
+
+-- a missing key is null
+abbrev pub MemberSpells : (Data → Cell → Type 0) → Option Data → Cell → Type 0
+MemberSpells Is None c = c ≡ null
+MemberSpells Is (Some d) c = Is d c
+
+abbrev pub ArraySpells : (Data → Cell → Type 0) → Data → Cell → Type 0
+ArraySpells Is d c = (ds : Items) × (cs : Cells) × (d ≡ array ds) × (c ≡ list cs) × EachSpells Is ds cs
+
+-- no key but the fields' names
+abbrev pub ObjectSpells : List (List ℕ) → (Cells → Type 0) → Data → Cell → Type 0
+ObjectSpells names Are d c = (ms : Members) × (cs : Cells) × (d ≡ object ms) × (c ≡ struct cs) × (all_known names ms ≡ true) × Are cs
+
+abbrev mutual
+  pub Spells : Shape → Data → Cell → Type 0
+  Spells (scalar k o) d c = ScalarSpells k d c
+  Spells (list_of s o) d c = OrNull d c (ArraySpells (λ e x. Spells s e x) d c)
+  Spells (struct_of fs o) d c = OrNull d c (ObjectSpells (names_of fs) (λ cs. FieldsSpell fs d cs) d c)
+
+  -- each field, by its name
+  pub FieldsSpell : Fields → Data → Cells → Type 0
+  FieldsSpell no_field d end = Unit {0}
+  FieldsSpell no_field d (more c cs) = ⊥
+  FieldsSpell (field name s fs) d end = ⊥
+  FieldsSpell (field name s fs) d (more c cs) = MemberSpells (λ e x. Spells s e x) (get name d) c × FieldsSpell fs d cs

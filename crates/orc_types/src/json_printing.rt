@@ -1,0 +1,105 @@
+ghost use Rattle.std.specs.Prelude.{◌≡◌, ◌≢◌, IfOk, IfErr, OnOk, true, false, map};
+ghost use Rattle.serde_json.specs.Data.{no_members, put as spec_put};
+ghost use Rattle.serde_json.specs.View.{view as json_view, members_view};
+ghost use Rattle.orc_types.specs.Cells.{cells_of};
+ghost use Rattle.orc_types.specs.Fits.{fits, all_fit, each_fits};
+ghost use Rattle.orc_types.specs.Views.{view, views, shape, fields as fields_view};
+ghost use Rattle.orc_types.specs.FieldNames.{is_distinct as spec_distinct};
+ghost use Rattle.orc_types.specs.JsonRows.{Spells};
+ghost use Rattle.orc_types.specs.JsonPrinting as spec;
+ghost use Rattle.orc_types.specs.declared.json_fault.JsonFault.TheVariants as fault;
+
+use crate::field_names::is_distinct;
+use crate::json_fault::JsonFault;
+use crate::json_leaf::leaf_to_json;
+use crate::schema::Schema;
+use crate::tree::{Field, Tree};
+use crate::value::{Row, Value};
+use serde_json::{Map, Value as Json};
+use std::alloc::{AllocError, Global};
+
+/// The JSON of a row of the schema: null; true and false; numbers; a date of the years 0001 to 9999
+/// as `"YYYY-MM-DD"`, any other as its number of days since 1970-01-01; binary values as lower-case
+/// hexadecimal text; lists as arrays; structs as objects with their keys in byte order (kinds by the
+/// ORC specification, "Types"). It spells the row, so that `row_from_json` reads the row back.
+///
+/// Refusals: `DuplicateField` where some struct of the schema names a field twice; `OutOfMemory`.
+pub fn row_to_json(alloc: Global, schema: &Schema, row: &Row<'_>) -> Result<Json, JsonFault>
+    requires { fits (view row.now) schema.now ≡ true }
+    ensures found { IfOk result (λ json. json_view json ≡ spec.json_of schema.now (view row.now)) }
+    ensures again { IfOk result (λ json. Spells schema.now (json_view json) (view row.now)) }
+    ensures distinct { IfOk result (λ json. spec_distinct schema.now ≡ true) }
+    ensures fault { IfErr result (λ e. e ≢ fault.OutOfMemory → (e ≡ fault.DuplicateField) × (spec_distinct schema.now ≡ false)) }
+{
+    if !is_distinct(schema.tree()) {
+        return Err(JsonFault::DuplicateField);
+    }
+    Ok(json_of(alloc, schema.tree(), row)?)
+}
+
+/// The JSON of a row of the type.
+#[cycle(printing)]
+fn json_of(alloc: Global, tree: &Tree, row: &Row<'_>) -> Result<Json, AllocError>
+    requires { fits (view row.now) (shape tree.now) ≡ true }
+    ensures { IfOk result (λ json. json_view json ≡ spec.json_of (shape tree.now) (view row.now)) }
+{
+    let Some(value) = row else {
+        return Ok(Json::Null);
+    };
+    match tree {
+        Tree::Scalar(_, _) => leaf_to_json(alloc, value),
+        Tree::List(element, _) => match value {
+            Value::List(rows) => Ok(Json::Array(array_of(alloc, element, rows)?)),
+            _ => unreachable!(),
+        },
+        Tree::Struct(fields, _) => match value {
+            Value::Struct(rows) => Ok(Json::Object(object_of(alloc, fields, rows)?)),
+            _ => unreachable!(),
+        },
+    }
+}
+
+/// The elements of a list's array.
+#[cycle(printing)]
+fn array_of(alloc: Global, tree: &Tree, rows: &Vec<Row<'_>>) -> Result<Vec<Json>, AllocError>
+    requires { all_fit (cells_of (views rows.now.items)) (shape tree.now) ≡ true }
+    ensures { IfOk result (λ array. map json_view array.items ≡ map (spec.json_of (shape tree.now)) (views rows.now.items)) }
+{
+    let mut array = Vec::new(alloc);
+    for row in rows {
+        array.push(json_of(alloc, tree, row)?)?;
+    }
+    Ok(array)
+}
+
+/// The members of a struct's object.
+#[cycle(printing)]
+fn object_of(
+    alloc: Global,
+    fields: &Vec<Field>,
+    rows: &Vec<Row<'_>>,
+) -> Result<Map<String, Json>, AllocError>
+    requires { each_fits (cells_of (views rows.now.items)) (fields_view fields.now.items) ≡ true }
+    ensures { IfOk result (λ object. members_view object.entries ≡ spec.members_json (fields_view fields.now.items) (cells_of (views rows.now.items)) no_members) }
+{
+    let mut object = Map::new(alloc);
+    for (i, field) in fields.iter().enumerate() {
+        let json = json_of(alloc, &field.tree, &rows[i])?;
+        put(alloc, &mut object, field.name.as_str(), json)?;
+    }
+    Ok(object)
+}
+
+/// Puts a value at a key.
+fn put(
+    alloc: Global,
+    object: &mut Map<String, Json>,
+    key: &str,
+    json: Json,
+) -> Result<(), AllocError>
+    ensures { OnOk result (members_view object.new.entries ≡ spec_put key.now (json_view json) (members_view object.old.entries)) }
+{
+    let key = String::from_str(alloc, key)?;
+    drop(object.insert(key, json)?);
+    Ok(())
+}

@@ -1,0 +1,108 @@
+ghost use Rattle.std.specs.Prelude.{◌≡◌, ◌≢◌, IfOk, IfErr, MatchResult, true, false};
+ghost use Rattle.serde_json.specs.Data.{array};
+ghost use Rattle.serde_json.specs.View.{view as json_view, items_view};
+ghost use Rattle.orc_types.specs.Cells.{Cell, cells_of};
+ghost use Rattle.orc_types.specs.Fits.{fits};
+ghost use Rattle.orc_types.specs.Views.{view, views, shape, fields as fields_view};
+ghost use Rattle.orc_types.specs.FieldNames.{is_distinct as spec_distinct};
+ghost use Rattle.orc_types.specs.JsonRows.{Spells, EachSpells, FieldsSpell};
+ghost use Rattle.orc_types.specs.JsonFaults.{FaultAt, Somewhere, InElement, InField};
+ghost use Rattle.orc_types.specs.declared.json_fault.JsonFault.TheVariants as fault;
+
+use crate::field_names::{all_known, is_distinct};
+use crate::json_fault::JsonFault;
+use crate::json_leaf::leaf_from_json;
+use crate::schema::Schema;
+use crate::tree::{Field, Tree};
+use crate::value::{Row, Value};
+use serde_json::Value as Json;
+use std::alloc::Global;
+
+/// The row that a JSON value spells under the schema. Null is null, whatever the type. A BOOLEAN is
+/// true or false; whole numbers are numbers in their kind's range; a STRING is a string; a BINARY is
+/// a string of hexadecimal digits in either case; a DATE is a string `YYYY-MM-DD` of the years 0001
+/// to 9999, or a number of days since 1970-01-01 in 32 bits; a LIST is an array; a STRUCT is an
+/// object, in which a missing key is null (kinds by the ORC specification, "Types").
+///
+/// Refusals: `DuplicateField` where some struct of the schema names a field twice; `WrongShape` for
+/// JSON of another type, a number that is held neither as an `i64` nor as a `u64` among them;
+/// `Range` for a number out of its kind's range; `UnknownField` for a key that no field has;
+/// `BadDate` and `BadHex` for a string that is none; `OutOfMemory`.
+pub fn row_from_json(alloc: Global, schema: &Schema, json: &Json) -> Result<Row<'static>, JsonFault>
+    ensures found { IfOk result (λ row. Spells schema.now (json_view json.now) (view row)) }
+    ensures only { (row : Cell) → spec_distinct schema.now ≡ true → Spells schema.now (json_view json.now) row → MatchResult result (λ found. view found ≡ row) (λ e. e ≡ fault.OutOfMemory) }
+    ensures fits { IfOk result (λ row. fits (view row) schema.now ≡ true) }
+    ensures distinct { IfOk result (λ row. spec_distinct schema.now ≡ true) }
+
+    ensures fault { IfErr result (λ e. e ≢ fault.OutOfMemory → e ≢ fault.DuplicateField → Somewhere (FaultAt e) schema.now (json_view json.now)) }
+    ensures duplicate { IfErr result (λ e. e ≡ fault.DuplicateField → spec_distinct schema.now ≡ false) }
+{
+    if !is_distinct(schema.tree()) {
+        return Err(JsonFault::DuplicateField);
+    }
+    row_of(alloc, schema.tree(), json)
+}
+
+/// The row that the JSON value spells.
+#[cycle(reading)]
+fn row_of(alloc: Global, tree: &Tree, json: &Json) -> Result<Row<'static>, JsonFault>
+    ensures found { IfOk result (λ row. Spells (shape tree.now) (json_view json.now) (view row)) }
+    ensures fault { IfErr result (λ e. e ≢ fault.OutOfMemory → Somewhere (FaultAt e) (shape tree.now) (json_view json.now)) }
+{
+    match tree {
+        Tree::Scalar(kind, _) => leaf_from_json(alloc, *kind, json),
+        Tree::List(element, _) => match json {
+            Json::Null => Ok(None),
+            Json::Array(items) => Ok(Some(Value::List(elements_of(alloc, element, items)?))),
+            _ => Err(JsonFault::WrongShape),
+        },
+        Tree::Struct(fields, _) => match json {
+            Json::Null => Ok(None),
+            Json::Object(members) => {
+                if !all_known(fields, members) {
+                    return Err(JsonFault::UnknownField);
+                }
+                Ok(Some(Value::Struct(fields_of(alloc, fields, json)?)))
+            }
+            _ => Err(JsonFault::WrongShape),
+        },
+    }
+}
+
+/// The rows that the elements of an array spell.
+#[cycle(reading)]
+fn elements_of(
+    alloc: Global,
+    tree: &Tree,
+    items: &Vec<Json>,
+) -> Result<Vec<Row<'static>>, JsonFault>
+    ensures found { IfOk result (λ rows. EachSpells (Spells (shape tree.now)) (items_view items.now.items) (cells_of (views rows.items))) }
+    ensures fault { IfErr result (λ e. e ≢ fault.OutOfMemory → InElement (Somewhere (FaultAt e) (shape tree.now)) (array (items_view items.now.items))) }
+{
+    let mut rows = Vec::new(alloc);
+    for item in items {
+        rows.push(row_of(alloc, tree, item)?)?;
+    }
+    Ok(rows)
+}
+
+/// The rows that an object spells, field by field.
+#[cycle(reading)]
+fn fields_of(
+    alloc: Global,
+    fields: &Vec<Field>,
+    json: &Json,
+) -> Result<Vec<Row<'static>>, JsonFault>
+    ensures found { IfOk result (λ rows. FieldsSpell (fields_view fields.now.items) (json_view json.now) (cells_of (views rows.items))) }
+    ensures fault { IfErr result (λ e. e ≢ fault.OutOfMemory → InField (FaultAt e) (fields_view fields.now.items) (json_view json.now)) }
+{
+    let mut rows = Vec::new(alloc);
+    for field in fields {
+        let row = match json.get(field.name.as_str()) {
+            None => None,
+            Some(member) => row_of(alloc, &field.tree, member)?,
+        };
+        rows.push(row)?;
+    }
+    Ok(rows)
+}

@@ -1,0 +1,101 @@
+ghost use Rattle.std.specs.Prelude.{◌≡◌, ◌+◌, ◌<◌, ◌^◌, ◌++◌, IfOk, OnOk, length};
+ghost use Rattle.orc_types.specs.Shapes.{width, widths, names_of as spec_names};
+ghost use Rattle.orc_types.specs.Types.{types as types_of, fields_types, starts as spec_starts};
+ghost use Rattle.orc_types.specs.Views.{shape, fields as fields_view};
+
+use crate::copies::copied_bytes;
+use crate::kind::{LIST, STRUCT};
+use crate::tree::{Field, Tree, width_of};
+use orc_wire::{Bytes, Items, TypeMsg};
+use std::alloc::{AllocError, Global};
+
+/// Where the types of the fields begin, if the first begins there.
+fn starts_of(alloc: Global, fields: &[Field], from: usize) -> Result<Vec<u32>, AllocError>
+    requires { from + widths (fields_view fields.now) < 2 ^ 32 }
+    ensures { IfOk result (λ starts. starts.items ≡ spec_starts (fields_view fields.now) from) }
+{
+    let mut starts = Vec::with_capacity(alloc, fields.len())?;
+    let mut next = from;
+    for field in fields {
+        starts.push(next as u32)?;
+        next += width_of(&field.tree);
+    }
+    Ok(starts)
+}
+
+/// The names of the fields.
+fn names_of(alloc: Global, fields: &[Field]) -> Result<Vec<Bytes>, AllocError>
+    ensures { IfOk result (λ names. names.items ≡ spec_names (fields_view fields.now)) }
+{
+    let mut names = Vec::with_capacity(alloc, fields.len())?;
+    for field in fields {
+        names.push(Items::from_vec(copied_bytes(alloc, field.name.as_bytes())?))?;
+    }
+    Ok(names)
+}
+
+/// A type of these parts, which keeps these bytes.
+fn type_msg(
+    alloc: Global,
+    kind: u32,
+    subtypes: Vec<u32>,
+    names: Vec<Bytes>,
+    kept: &[u8],
+) -> Result<TypeMsg, AllocError>
+    ensures { IfOk result (λ t. t ≡ record { kind = kind; subtypes = subtypes.items; field_names = names.items; kept = kept.now }) }
+{
+    Ok(TypeMsg {
+        kind,
+        subtypes: Items::from_vec(subtypes),
+        field_names: Items::from_vec(names),
+        kept: Items::from_vec(copied_bytes(alloc, kept)?),
+    })
+}
+
+/// Adds the types of a tree, in pre-order.
+#[cycle(list)]
+fn list_tree(alloc: Global, types: &mut Vec<TypeMsg>, tree: &Tree) -> Result<(), AllocError>
+    requires { length types.old.items + width (shape tree.now) < 2 ^ 32 }
+    ensures { OnOk result (types.new.items ≡ types.old.items ++ types_of (shape tree.now) (length types.old.items)) }
+{
+    let next = types.len() + 1;
+    match tree {
+        Tree::Scalar(kind, kept) => {
+            types.push(type_msg(alloc, kind.number(), Vec::new(alloc), Vec::new(alloc), kept)?)?;
+            Ok(())
+        }
+        Tree::List(element, kept) => {
+            let subtypes = [next as u32].to_vec(alloc)?;
+            types.push(type_msg(alloc, LIST, subtypes, Vec::new(alloc), kept)?)?;
+            list_tree(alloc, types, element)
+        }
+        Tree::Struct(fields, kept) => {
+            let subtypes = starts_of(alloc, fields, next)?;
+            let names = names_of(alloc, fields)?;
+            types.push(type_msg(alloc, STRUCT, subtypes, names, kept)?)?;
+            list_fields(alloc, types, fields)
+        }
+    }
+}
+
+/// Adds the types of the fields, one field after the other.
+#[cycle(list)]
+fn list_fields(alloc: Global, types: &mut Vec<TypeMsg>, fields: &[Field]) -> Result<(), AllocError>
+    requires { length types.old.items + widths (fields_view fields.now) < 2 ^ 32 }
+    ensures { OnOk result (types.new.items ≡ types.old.items ++ fields_types (fields_view fields.now) (length types.old.items)) }
+{
+    for field in fields {
+        list_tree(alloc, types, &field.tree)?;
+    }
+    Ok(())
+}
+
+/// The types of a tree, in pre-order.
+pub(crate) fn listed(alloc: Global, tree: &Tree) -> Result<Vec<TypeMsg>, AllocError>
+    requires { width (shape tree.now) < 2 ^ 32 }
+    ensures { IfOk result (λ types. types.items ≡ types_of (shape tree.now) 0) }
+{
+    let mut types = Vec::new(alloc);
+    list_tree(alloc, &mut types, tree)?;
+    Ok(types)
+}
