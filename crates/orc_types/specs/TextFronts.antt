@@ -35,7 +35,7 @@ NoFieldFront bytes first = (name : List ℕ) (s : Shape) (rest : List ℕ) → I
 abbrev pub NoFieldsFront : List ℕ → Bool → Type 0
 NoFieldsFront bytes first = (fs : Fields) (rest : List ℕ) → ArePlain fs → bytes ≡ fields_text first fs ++ (codes ">" ++ rest) → ⊥
 
--- a text that is wrong, where so many bytes of it are left
+-- BadText and no other fault, with the number of bytes that are left where the text goes wrong
 abbrev pub IsBad : List ℕ → Type 0 → TypeFault → Type 0
 IsBad bytes P (fault.UnsupportedKind k) = ⊥
 IsBad bytes P fault.BadTree = ⊥
@@ -45,7 +45,7 @@ IsBad bytes P fault.RootNotStruct = ⊥
 IsBad bytes P (fault.BadText left) = (left ≤ length bytes) × P
 IsBad bytes P fault.OutOfMemory = ⊥
 
--- why no type of so many levels is in front; BadText has the number of bytes that are left
+-- why no type of so many levels is in front
 abbrev pub FrontFault : List ℕ → ℕ → TypeFault → Type 0
 FrontFault bytes levels (fault.UnsupportedKind k) = ⊥
 FrontFault bytes levels fault.BadTree = ⊥
