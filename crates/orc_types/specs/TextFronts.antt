@@ -35,25 +35,19 @@ NoFieldFront bytes first = (name : List ℕ) (s : Shape) (rest : List ℕ) → I
 abbrev pub NoFieldsFront : List ℕ → Bool → Type 0
 NoFieldsFront bytes first = (fs : Fields) (rest : List ℕ) → ArePlain fs → bytes ≡ fields_text first fs ++ (codes ">" ++ rest) → ⊥
 
--- BadText and no other fault, with the number of bytes that are left where the text goes wrong
-abbrev pub IsBad : List ℕ → Type 0 → TypeFault → Type 0
-IsBad bytes P (fault.UnsupportedKind k) = ⊥
-IsBad bytes P fault.BadTree = ⊥
-IsBad bytes P fault.TooDeep = ⊥
-IsBad bytes P fault.TooMany = ⊥
-IsBad bytes P fault.RootNotStruct = ⊥
-IsBad bytes P (fault.BadText left) = (left ≤ length bytes) × P
-IsBad bytes P fault.OutOfMemory = ⊥
+-- Why what is read isn't in front: it goes too deep, or it is wrong where so many bytes are left.
+abbrev pub ReadFault : List ℕ → Type 0 → Type 0 → TypeFault → Type 0
+ReadFault bytes deep wrong (fault.UnsupportedKind k) = ⊥
+ReadFault bytes deep wrong fault.BadTree = ⊥
+ReadFault bytes deep wrong fault.TooDeep = deep
+ReadFault bytes deep wrong fault.TooMany = ⊥
+ReadFault bytes deep wrong fault.RootNotStruct = ⊥
+ReadFault bytes deep wrong (fault.BadText left) = (left ≤ length bytes) × wrong
+ReadFault bytes deep wrong fault.OutOfMemory = Unit {0}
 
--- why no type of so many levels is in front
+-- no type of so many levels
 abbrev pub FrontFault : List ℕ → ℕ → TypeFault → Type 0
-FrontFault bytes levels (fault.UnsupportedKind k) = ⊥
-FrontFault bytes levels fault.BadTree = ⊥
-FrontFault bytes levels fault.TooDeep = Opens bytes levels
-FrontFault bytes levels fault.TooMany = ⊥
-FrontFault bytes levels fault.RootNotStruct = ⊥
-FrontFault bytes levels (fault.BadText left) = (left ≤ length bytes) × NoFront bytes
-FrontFault bytes levels fault.OutOfMemory = Unit {0}
+FrontFault bytes levels f = ReadFault bytes (Opens bytes levels) (NoFront bytes) f
 
 -- the name and the colon of a field, whose type goes deeper
 pub record FieldOpens (bytes : List ℕ) (first : Bool) (levels : ℕ) : Type 0 where
@@ -63,22 +57,10 @@ pub record FieldOpens (bytes : List ℕ) (first : Bool) (levels : ℕ) : Type 0 
   pub spelled : bytes ≡ comma first ++ (name ++ (colon ++ inner))
   pub deeper : Opens inner levels
 
--- why no field is in front
+-- no field
 abbrev pub FieldFault : List ℕ → Bool → ℕ → TypeFault → Type 0
-FieldFault bytes first levels (fault.UnsupportedKind k) = ⊥
-FieldFault bytes first levels fault.BadTree = ⊥
-FieldFault bytes first levels fault.TooDeep = FieldOpens bytes first levels
-FieldFault bytes first levels fault.TooMany = ⊥
-FieldFault bytes first levels fault.RootNotStruct = ⊥
-FieldFault bytes first levels (fault.BadText left) = (left ≤ length bytes) × NoFieldFront bytes first
-FieldFault bytes first levels fault.OutOfMemory = Unit {0}
+FieldFault bytes first levels f = ReadFault bytes (FieldOpens bytes first levels) (NoFieldFront bytes first) f
 
--- why no fields are in front
+-- no fields
 abbrev pub FieldsFault : List ℕ → ℕ → TypeFault → Type 0
-FieldsFault bytes levels (fault.UnsupportedKind k) = ⊥
-FieldsFault bytes levels fault.BadTree = ⊥
-FieldsFault bytes levels fault.TooDeep = (inner : List ℕ) × EntersField bytes inner × Opens inner levels
-FieldsFault bytes levels fault.TooMany = ⊥
-FieldsFault bytes levels fault.RootNotStruct = ⊥
-FieldsFault bytes levels (fault.BadText left) = (left ≤ length bytes) × NoFieldsFront bytes true
-FieldsFault bytes levels fault.OutOfMemory = Unit {0}
+FieldsFault bytes levels f = ReadFault bytes ((inner : List ℕ) × EntersField bytes inner × Opens inner levels) (NoFieldsFront bytes true) f
