@@ -11,8 +11,8 @@ use Rattle.orc_types.specs.declared.fault.TypeFault.{TypeFault}
 use Rattle.orc_types.specs.declared.fault.TypeFault.TheVariants as fault
 use Rattle.orc_types.specs.Shapes.{Shape, scalar, list_of, struct_of, Fields, no_field, field, depth, depths}
 use Rattle.orc_types.specs.SchemaText.{kind_name, comma, colon, text, fields_text, is_word, AreWords, IsName, IsPlain, ArePlain}
-use Rattle.orc_types.specs.TextFaults.{Opens, Enters, element, member, is_empty}
-use Rattle.orc_types.specs.TextFronts.{IsFront, IsFieldFront, IsFieldsFront, NoFront, NoFieldFront, NoFieldsFront, IsBad, FrontFault, FieldFault, FieldsFault}
+use Rattle.orc_types.specs.TextFaults.{is_empty, EntersField, Enters, element, member, Opens}
+use Rattle.orc_types.specs.TextFronts.{IsFront, IsFieldFront, IsFieldsFront, NoFront, NoFieldFront, NoFieldsFront, ReadFault, FrontFault, FieldOpens, FieldFault, FieldsFault}
 use Rattle.orc_types.specs.Preorder.{NameFault}
 use Rattle.orc_types.specs.Views.{fields_of, fields}
 use Rattle.orc_types.specs.declared.tree.Field.{Field}
@@ -113,39 +113,34 @@ enters : (bytes inner : List ℕ) (d : ℕ) → 0 < d → Enters bytes inner →
 enters bytes inner zero p is deeper = absurd (omega arith)
 enters bytes inner (suc d) p is deeper = (inner, is, rw sub-one at deeper)
 
+-- a fault further on is one of the whole
+fault_turned : (a b : List ℕ) (D E N M : Type 0) (f : TypeFault) → length a ≤ length b → (D → E) → (N → M) → ReadFault a D N f → ReadFault b E M f
+fault_turned a b D E N M (fault.UnsupportedKind k) h deep wrong bad = bad
+fault_turned a b D E N M fault.BadTree h deep wrong bad = bad
+fault_turned a b D E N M fault.TooDeep h deep wrong bad = deep bad
+fault_turned a b D E N M fault.TooMany h deep wrong bad = bad
+fault_turned a b D E N M fault.RootNotStruct h deep wrong bad = bad
+fault_turned a b D E N M (fault.BadText left) h deep wrong bad = (omega (arith, bad.0), wrong bad.1)
+fault_turned a b D E N M fault.OutOfMemory h deep wrong bad = tt
+
 -- why an array is refused for its element
 pub array_fault : (bytes inner : List ℕ) (d : ℕ) (f : TypeFault) → 0 < d → bytes ≡ codes "array<" ++ inner → FrontFault inner (d - 1) f → FrontFault bytes d f
-array_fault bytes inner d (fault.UnsupportedKind k) p h bad = bad
-array_fault bytes inner d fault.BadTree p h bad = bad
-array_fault bytes inner d fault.TooDeep p h bad = enters bytes inner d p (element h) bad
-array_fault bytes inner d fault.TooMany p h bad = bad
-array_fault bytes inner d fault.RootNotStruct p h bad = bad
-array_fault bytes inner d (fault.BadText left) p h bad =
-    (omega (arith, bad.0, behind bytes (codes "array<") inner h), no_array bytes inner h (λ s rest plain e. bad.1 s (codes ">" ++ rest) plain e))
-array_fault bytes inner d fault.OutOfMemory p h bad = tt
+array_fault bytes inner d f p h =
+    fault_turned inner bytes (Opens inner (d - 1)) (Opens bytes d) (NoFront inner) (NoFront bytes) f (behind bytes (codes "array<") inner h) (enters bytes inner d p (element h))
+    (λ none. no_array bytes inner h (λ s rest plain e. none s (codes ">" ++ rest) plain e))
 
 -- no bracket closes the array
-pub open_array : (bytes inner : List ℕ) (d levels : ℕ) (s : Shape) (left : List ℕ) (f : TypeFault) → bytes ≡ codes "array<" ++ inner → IsFront inner levels s left → IsBad left ((rest : List ℕ) → left ≢ codes ">" ++ rest) f → FrontFault bytes d f
-open_array bytes inner d levels s left (fault.UnsupportedKind k) h found bad = bad
-open_array bytes inner d levels s left fault.BadTree h found bad = bad
-open_array bytes inner d levels s left fault.TooDeep h found bad = absurd bad
-open_array bytes inner d levels s left fault.TooMany h found bad = bad
-open_array bytes inner d levels s left fault.RootNotStruct h found bad = bad
-open_array bytes inner d levels s left (fault.BadText n) h found bad = (
-  omega (arith, bad.0, behind bytes (codes "array<") inner h, behind inner (text s) left found.spelled),
-  no_array bytes inner h (λ t rest plain e. bad.1 rest (one_text s t left (codes ">" ++ rest) found.plain plain (sym found.spelled ∙ e)).1),
+pub open_array : (bytes inner : List ℕ) (levels : ℕ) (s : Shape) (left : List ℕ) → bytes ≡ codes "array<" ++ inner → IsFront inner levels s left → ((rest : List ℕ) → left ≢ codes ">" ++ rest) → (length left ≤ length bytes) × NoFront bytes
+open_array bytes inner levels s left h found goes_on = (
+  omega (arith, behind bytes (codes "array<") inner h, behind inner (text s) left found.spelled),
+  no_array bytes inner h (λ t rest plain e. goes_on rest (one_text s t left (codes ">" ++ rest) found.plain plain (sym found.spelled ∙ e)).1),
 )
-open_array bytes inner d levels s left fault.OutOfMemory h found bad = tt
 
 -- why a struct is refused for its fields
 pub struct_fault : (bytes inner : List ℕ) (d : ℕ) (f : TypeFault) → 0 < d → bytes ≡ codes "struct<" ++ inner → FieldsFault inner (d - 1) f → FrontFault bytes d f
-struct_fault bytes inner d (fault.UnsupportedKind k) p h bad = bad
-struct_fault bytes inner d fault.BadTree p h bad = bad
-struct_fault bytes inner d fault.TooDeep p h (deep, is, way) = enters bytes deep d p (member inner h is) way
-struct_fault bytes inner d fault.TooMany p h bad = bad
-struct_fault bytes inner d fault.RootNotStruct p h bad = bad
-struct_fault bytes inner d (fault.BadText left) p h bad = (omega (arith, bad.0, behind bytes (codes "struct<") inner h), no_struct bytes inner h bad.1)
-struct_fault bytes inner d fault.OutOfMemory p h bad = tt
+struct_fault bytes inner d f p h =
+    fault_turned inner bytes ((deep : List ℕ) × EntersField inner deep × Opens deep (d - 1)) (Opens bytes d) (NoFieldsFront inner true) (NoFront bytes) f (behind bytes (codes "struct<") inner h)
+    (λ way. enters bytes way.0 d p (member inner h way.1) way.2) (no_struct bytes inner h)
 
 -- ---- a field
 
@@ -173,17 +168,12 @@ name_fault bytes first d name fault.OutOfMemory is bad = tt
 
 -- why a field is refused for its type
 pub type_fault : (bytes named inner : List ℕ) (first : Bool) (d : ℕ) (name : List ℕ) (f : TypeFault) → bytes ≡ comma first ++ named → named ≡ name ++ (colon ++ inner) → IsName name → FrontFault inner d f → FieldFault bytes first d f
-type_fault bytes named inner first d name (fault.UnsupportedKind k) h e is bad = bad
-type_fault bytes named inner first d name fault.BadTree h e is bad = bad
-type_fault bytes named inner first d name fault.TooDeep h e is bad =
-    record { name = name; inner = inner; named = is; spelled = h ∙ ap (λ (r : List ℕ). comma first ++ r) e; deeper = bad }
-type_fault bytes named inner first d name fault.TooMany h e is bad = bad
-type_fault bytes named inner first d name fault.RootNotStruct h e is bad = bad
-type_fault bytes named inner first d name (fault.BadText left) h e is bad = (
-  omega (arith, bad.0, behind bytes (comma first) named h, behind named name (colon ++ inner) e, behind (colon ++ inner) colon inner refl),
-  λ other s rest other_is plain g. bad.1 s rest plain (one_field first name other inner (text s ++ rest) is other_is (ap (λ (r : List ℕ). comma first ++ r) (sym e) ∙ sym h ∙ g)).1,
-)
-type_fault bytes named inner first d name fault.OutOfMemory h e is bad = tt
+type_fault bytes named inner first d name f h e is =
+    let whole : bytes ≡ comma first ++ (name ++ (colon ++ inner)) = h ∙ ap (λ (r : List ℕ). comma first ++ r) e in
+    let most : length inner ≤ length bytes = omega (arith, behind bytes (comma first) named h, behind named name (colon ++ inner) e, behind (colon ++ inner) colon inner refl) in
+    fault_turned inner bytes (Opens inner d) (FieldOpens bytes first d) (NoFront inner) (NoFieldFront bytes first) f most
+    (λ deep. record { name = name; inner = inner; named = is; spelled = whole; deeper = deep })
+    (λ none other s rest other_is plain g. none s rest plain (one_field first name other inner (text s ++ rest) is other_is (sym whole ∙ g)).1)
 
 -- ---- fields, one after the other
 
@@ -252,21 +242,17 @@ no_fields left first goes_on none (field name s fs) rest plain h = none name s (
 -- why fields are refused for one of them
 pub field_fault : (bytes : List ℕ) (d : ℕ) (gs : List (List ℕ × Shape)) (left : List ℕ) (first : Bool) (f : TypeFault)
     → first ≡ is_empty (fields_of gs) → ((rest : List ℕ) → left ≢ codes ">" ++ rest) → Reached bytes d gs left → FieldFault left first d f → FieldsFault bytes d f
-field_fault bytes d gs left first (fault.UnsupportedKind k) e goes_on r bad = bad
-field_fault bytes d gs left first fault.BadTree e goes_on r bad = bad
-field_fault bytes d gs left first fault.TooDeep e goes_on r bad = (
-  bad.inner,
-  record {
-    before = fields_of gs;
-    name = bad.name;
-    plain = r.plain;
-    named = bad.named;
-    spelled = r.spelled ∙ ap (λ (x : List ℕ). fields_text true (fields_of gs) ++ x) (bad.spelled ∙ ap (λ (b : Bool). comma b ++ (bad.name ++ (colon ++ bad.inner))) e);
-  },
-  bad.deeper,
-)
-field_fault bytes d gs left first fault.TooMany e goes_on r bad = bad
-field_fault bytes d gs left first fault.RootNotStruct e goes_on r bad = bad
-field_fault bytes d gs left first (fault.BadText n) e goes_on r bad =
-    (omega (arith, bad.0, behind bytes (fields_text true (fields_of gs)) left r.spelled), r.none (subst (NoFieldsFront left) e (no_fields left first goes_on bad.1)))
-field_fault bytes d gs left first fault.OutOfMemory e goes_on r bad = tt
+field_fault bytes d gs left first f e goes_on r =
+    fault_turned left bytes (FieldOpens left first d) ((inner : List ℕ) × EntersField bytes inner × Opens inner d) (NoFieldFront left first) (NoFieldsFront bytes true) f (behind bytes (fields_text true (fields_of gs)) left r.spelled)
+    (λ deep. (
+      deep.inner,
+      record {
+        before = fields_of gs;
+        name = deep.name;
+        plain = r.plain;
+        named = deep.named;
+        spelled = r.spelled ∙ ap (λ (x : List ℕ). fields_text true (fields_of gs) ++ x) (deep.spelled ∙ ap (λ (b : Bool). comma b ++ (deep.name ++ (colon ++ deep.inner))) e);
+      },
+      deep.deeper,
+    ))
+    (λ none. r.none (subst (NoFieldsFront left) e (no_fields left first goes_on none)))

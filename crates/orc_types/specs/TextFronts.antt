@@ -35,26 +35,19 @@ NoFieldFront bytes first = (name : List ℕ) (s : Shape) (rest : List ℕ) → I
 abbrev pub NoFieldsFront : List ℕ → Bool → Type 0
 NoFieldsFront bytes first = (fs : Fields) (rest : List ℕ) → ArePlain fs → bytes ≡ fields_text first fs ++ (codes ">" ++ rest) → ⊥
 
--- BadText and no other fault, with the number of bytes that are left where the text goes wrong
-abbrev pub IsBad : List ℕ → Type 0 → TypeFault → Type 0
-IsBad bytes P (fault.UnsupportedKind k) = ⊥
-IsBad bytes P fault.BadTree = ⊥
-IsBad bytes P fault.TooDeep = ⊥
-IsBad bytes P fault.TooMany = ⊥
-IsBad bytes P fault.RootNotStruct = ⊥
-IsBad bytes P (fault.BadText left) = (left ≤ length bytes) × P
-IsBad bytes P fault.OutOfMemory = ⊥
+-- Why what is read isn't in front: it goes too deep, or it is wrong where so many bytes are left.
+abbrev pub ReadFault : List ℕ → Type 0 → Type 0 → TypeFault → Type 0
+ReadFault bytes deep wrong (fault.UnsupportedKind k) = ⊥
+ReadFault bytes deep wrong fault.BadTree = ⊥
+ReadFault bytes deep wrong fault.TooDeep = deep
+ReadFault bytes deep wrong fault.TooMany = ⊥
+ReadFault bytes deep wrong fault.RootNotStruct = ⊥
+ReadFault bytes deep wrong (fault.BadText left) = (left ≤ length bytes) × wrong
+ReadFault bytes deep wrong fault.OutOfMemory = Unit {0}
 
--- why a reader stops in front of some bytes: it is too deep, or it isn't there; BadText has the number of bytes that
--- are left
-abbrev pub ReadingFault : List ℕ → Type 0 → Type 0 → TypeFault → Type 0
-ReadingFault bytes Deep Absent (fault.UnsupportedKind k) = ⊥
-ReadingFault bytes Deep Absent fault.BadTree = ⊥
-ReadingFault bytes Deep Absent fault.TooDeep = Deep
-ReadingFault bytes Deep Absent fault.TooMany = ⊥
-ReadingFault bytes Deep Absent fault.RootNotStruct = ⊥
-ReadingFault bytes Deep Absent (fault.BadText left) = (left ≤ length bytes) × Absent
-ReadingFault bytes Deep Absent fault.OutOfMemory = Unit {0}
+-- no type of so many levels
+abbrev pub FrontFault : List ℕ → ℕ → TypeFault → Type 0
+FrontFault bytes levels f = ReadFault bytes (Opens bytes levels) (NoFront bytes) f
 
 -- the name and the colon of a field, whose type goes deeper
 pub record FieldOpens (bytes : List ℕ) (first : Bool) (levels : ℕ) : Type 0 where
@@ -64,12 +57,10 @@ pub record FieldOpens (bytes : List ℕ) (first : Bool) (levels : ℕ) : Type 0 
   pub spelled : bytes ≡ comma first ++ (name ++ (colon ++ inner))
   pub deeper : Opens inner levels
 
--- why no type of so many levels, no field and no fields are in front
-abbrev pub FrontFault : List ℕ → ℕ → TypeFault → Type 0
-FrontFault bytes levels f = ReadingFault bytes (Opens bytes levels) (NoFront bytes) f
-
+-- no field
 abbrev pub FieldFault : List ℕ → Bool → ℕ → TypeFault → Type 0
-FieldFault bytes first levels f = ReadingFault bytes (FieldOpens bytes first levels) (NoFieldFront bytes first) f
+FieldFault bytes first levels f = ReadFault bytes (FieldOpens bytes first levels) (NoFieldFront bytes first) f
 
+-- no fields
 abbrev pub FieldsFault : List ℕ → ℕ → TypeFault → Type 0
-FieldsFault bytes levels f = ReadingFault bytes ((inner : List ℕ) × EntersField bytes inner × Opens inner levels) (NoFieldsFront bytes true) f
+FieldsFault bytes levels f = ReadFault bytes ((inner : List ℕ) × EntersField bytes inner × Opens inner levels) (NoFieldsFront bytes true) f

@@ -3,7 +3,7 @@ ghost use Rattle.orc_types.specs.Shapes.{Shape, IsStruct};
 ghost use Rattle.orc_types.specs.SchemaText as spec;
 ghost use Rattle.orc_types.specs.SchemaText.{HasText};
 ghost use Rattle.orc_types.specs.TextFaults.{TextFault};
-ghost use Rattle.orc_types.specs.TextFronts.{IsFront, IsFieldFront, IsFieldsFront, IsBad, FrontFault, FieldFault, FieldsFault};
+ghost use Rattle.orc_types.specs.TextFronts.{IsFront, IsFieldFront, IsFieldsFront, FrontFault, FieldFault, FieldsFault};
 ghost use Rattle.orc_types.specs.declared.kind.Scalar.{Scalar};
 ghost use Rattle.orc_types.specs.Views.{shape, fields as fields_view};
 ghost use Rattle.orc_types.specs.declared.fault.TypeFault.TheVariants.{OutOfMemory};
@@ -146,21 +146,11 @@ fn after<'t>(text: &'t [u8], word: &str) -> Option<&'t [u8]>
     text.strip_prefix(word.as_bytes())
 }
 
-/// What stands behind a word, with which the text has to begin. Here and where a text is read from the
-/// front, `BadText` has the number of bytes that are left where it goes wrong.
-fn behind<'t>(text: &'t [u8], word: &str) -> Result<&'t [u8], TypeFault>
-    ensures found { IfOk result (λ rest. text.now ≡ word.now ++ rest.now) }
-    ensures fault { IfErr result (IsBad text.now ((rest : List ℕ) → text.now ≢ word.now ++ rest)) }
-{
-    after(text, word).ok_or(TypeFault::BadText(text.len()))
-}
-
 /// What stands behind the comma that each field but the first has in front.
-fn behind_comma<'t>(text: &'t [u8], first: bool) -> Result<&'t [u8], TypeFault>
-    ensures found { IfOk result (λ rest. text.now ≡ spec.comma first ++ rest.now) }
-    ensures fault { IfErr result (IsBad text.now ((rest : List ℕ) → text.now ≢ spec.comma first ++ rest)) }
+fn after_comma<'t>(text: &'t [u8], first: bool) -> Option<&'t [u8]>
+    ensures { MatchOption result ((rest : List ℕ) → text.now ≢ spec.comma first ++ rest) (λ rest. text.now ≡ spec.comma first ++ rest.now) }
 {
-    if first { Ok(text) } else { behind(text, ",") }
+    if first { Some(text) } else { after(text, ",") }
 }
 
 /// Whether a byte can stand in a name.
@@ -202,7 +192,8 @@ fn kind_from(text: &[u8]) -> Option<(Scalar, &[u8])>
     None
 }
 
-/// The type whose text stands in front, if it has at most that many levels, and the rest.
+/// The type whose text stands in front, if it has at most that many levels, and the rest. In a text
+/// that is read from the front, `BadText` has the number of bytes that are left where it goes wrong.
 #[cycle(front)]
 fn tree_from<'t>(alloc: Global, text: &'t [u8], levels: u32) -> Result<(Tree, &'t [u8]), TypeFault>
     ensures found { IfOk result (λ found. IsFront text.now levels (shape found.0) found.1.now) }
@@ -213,8 +204,13 @@ fn tree_from<'t>(alloc: Global, text: &'t [u8], levels: u32) -> Result<(Tree, &'
     }
     if let Some(inner) = after(text, "array<") {
         let (element, rest) = tree_from(alloc, inner, levels - 1)?;
-        let rest = behind(rest, ">")?;
-        return Ok((Tree::List(Box::new(alloc, element)?, Vec::new(alloc)), rest));
+        let Some(outer) = after(rest, ">") else {
+            return Err(TypeFault::BadText(rest.len()));
+        };
+        return Ok((
+            Tree::List(Box::new(alloc, element)?, Vec::new(alloc)),
+            outer,
+        ));
     }
     if let Some(inner) = after(text, "struct<") {
         let (fields, rest) = fields_from(alloc, inner, levels - 1)?;
@@ -237,9 +233,11 @@ fn field_from<'t>(
     ensures found { IfOk result (λ found. IsFieldFront text.now first levels (string_bytes found.0.name) (shape found.0.tree) found.1.now) }
     ensures fault { IfErr result (FieldFault text.now first levels) }
 {
-    let text = behind_comma(text, first)?;
-    let Some((name, inner)) = name_from(text) else {
+    let Some(named) = after_comma(text, first) else {
         return Err(TypeFault::BadText(text.len()));
+    };
+    let Some((name, inner)) = name_from(named) else {
+        return Err(TypeFault::BadText(named.len()));
     };
     let name = name_of(alloc, name)?;
     let (tree, rest) = tree_from(alloc, inner, levels)?;

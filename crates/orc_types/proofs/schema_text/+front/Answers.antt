@@ -11,39 +11,38 @@ tree_from-returns-in_err-element-clause-fault t c =
     let p = err_from_is_err_and c.from_residual.result c.from_residual.ensures.1 in
     rw (p.1, p.2) (array_fault c.args.text.now c.in-Some.inner.now c.args.levels c.in_err-element.field-0.0 (omega arith) c.in-Some.ensures c.in_err-element.ensures.fault)
 
-pub tree_from-returns-in_err-rest-clause-fault : goal.tree_from-returns-in_err-rest-clause-fault
-tree_from-returns-in_err-rest-clause-fault t c =
-    let p = err_from_is_err_and c.from_residual-in_err-rest.result c.from_residual-in_err-rest.ensures.1 in
-    rw (p.1, p.2) (open_array c.args.text.now c.in-Some.inner.now c.args.levels _ (shape c.in_ok-element.element) c.in_ok-element.rest.now c.in_err-rest.field-0.0 c.in-Some.ensures c.in_ok-element.ensures.found c.in_err-rest.ensures.fault)
+pub tree_from-returns-in_default-after-clause-fault : goal.tree_from-returns-in_default-after-clause-fault
+tree_from-returns-in_default-after-clause-fault t c =
+    open_array c.args.text.now c.in-Some.inner.now _ (shape c.in_ok-element.element) c.in_ok-element.rest.now c.in-Some.ensures c.in_ok-element.ensures.found (c.in_default-after.ensures)
 
 pub tree_from-returns-in-Some-clause-found : goal.tree_from-returns-in-Some-clause-found
 tree_from-returns-in-Some-clause-found t c =
     rw (shape-List c.in_ok-new.field-0 c.new-in-Some.result, c.new-in-Some.ensures.items, c.in_ok-new.ensures.ok)
-    (array_front c.args.text.now c.in-Some.inner.now c.args.levels (shape c.in_ok-element.element) c.in_ok-element.rest.now c.in_ok-rest.rest.now (omega arith) c.in-Some.ensures c.in_ok-element.ensures.found c.in_ok-rest.ensures.found)
+    (array_front c.args.text.now c.in-Some.inner.now c.args.levels (shape c.in_ok-element.element) c.in_ok-element.rest.now c.in-Some-after.outer.now (omega arith) c.in-Some.ensures c.in_ok-element.ensures.found c.in-Some-after.ensures)
 
 pub tree_from-returns-in_err-fields-clause-fault : goal.tree_from-returns-in_err-fields-clause-fault
 tree_from-returns-in_err-fields-clause-fault t c =
     let p = err_from_is_err_and c.from_residual-in_err-fields.result c.from_residual-in_err-fields.ensures.1 in
-    rw (p.1, p.2) (struct_fault c.args.text.now c.in-Some-after.inner.now c.args.levels c.in_err-fields.field-0.0 (omega arith) c.in-Some-after.ensures c.in_err-fields.ensures.fault)
+    rw (p.1, p.2) (struct_fault c.args.text.now c.in-Some-after-2.inner.now c.args.levels c.in_err-fields.field-0.0 (omega arith) c.in-Some-after-2.ensures c.in_err-fields.ensures.fault)
 
-pub tree_from-returns-in-Some-after-clause-found : goal.tree_from-returns-in-Some-after-clause-found
-tree_from-returns-in-Some-after-clause-found t c =
-    rw (shape-Struct c.in_ok-fields.fields c.new-in-Some-after.result, c.new-in-Some-after.ensures.items)
-    (struct_front c.args.text.now c.in-Some-after.inner.now c.args.levels (fields c.in_ok-fields.fields.items) c.in_ok-fields.rest.now (omega arith) c.in-Some-after.ensures c.in_ok-fields.ensures.found)
+pub tree_from-returns-in-Some-after-2-clause-found : goal.tree_from-returns-in-Some-after-2-clause-found
+tree_from-returns-in-Some-after-2-clause-found t c =
+    rw (shape-Struct c.in_ok-fields.fields c.new-in-Some-after-2.result, c.new-in-Some-after-2.ensures.items)
+    (struct_front c.args.text.now c.in-Some-after-2.inner.now c.args.levels (fields c.in_ok-fields.fields.items) c.in_ok-fields.rest.now (omega arith) c.in-Some-after-2.ensures c.in_ok-fields.ensures.found)
 
 pub tree_from-returns-in_default-kind_from-clause-fault : goal.tree_from-returns-in_default-kind_from-clause-fault
 tree_from-returns-in_default-kind_from-clause-fault t c =
-    (omega arith, no_front c.args.text.now (c.in_default.ensures) (c.in_default-after.ensures) (c.in_default-kind_from.ensures.none))
+    (omega arith, no_front c.args.text.now (c.in_default.ensures) (c.in_default-after-2.ensures) (c.in_default-kind_from.ensures.none))
 
 pub field_from-returns-in_err-name-clause-fault : goal.field_from-returns-in_err-name-clause-fault
 field_from-returns-in_err-name-clause-fault t c =
-    let p = err_from_is_err_and c.from_residual-in_err-name.result c.from_residual-in_err-name.ensures.1 in
-    rw (p.1, p.2) (name_fault c.args.text.now c.args.first c.args.levels c.in-Some.name.now c.in_err-name.field-0.0 c.in-Some.ensures.name c.in_err-name.ensures.fault)
+    let p = err_from_is_err_and c.from_residual.result c.from_residual.ensures.1 in
+    rw (p.1, p.2) (name_fault c.args.text.now c.args.first c.args.levels c.in-Some-name_from.name.now c.in_err-name.field-0.0 c.in-Some-name_from.ensures.name c.in_err-name.ensures.fault)
 
 pub field_from-returns-in_err-tree-clause-fault : goal.field_from-returns-in_err-tree-clause-fault
 field_from-returns-in_err-tree-clause-fault t c =
     let p = err_from_is_err_and c.from_residual-in_err-tree.result c.from_residual-in_err-tree.ensures.1 in
-    rw (p.1, p.2) (type_fault c.args.text.now c.in_ok-text.text.now c.in-Some.inner.now c.args.first c.args.levels c.in-Some.name.now c.in_err-tree.field-0.0 c.in_ok-text.ensures.found c.in-Some.ensures.found c.in-Some.ensures.name c.in_err-tree.ensures.fault)
+    rw (p.1, p.2) (type_fault c.args.text.now c.in-Some.named.now c.in-Some-name_from.inner.now c.args.first c.args.levels c.in-Some-name_from.name.now c.in_err-tree.field-0.0 c.in-Some.ensures c.in-Some-name_from.ensures.found c.in-Some-name_from.ensures.name c.in_err-tree.ensures.fault)
 
 pub fields_from-loop-rest-init : goal.fields_from-loop-rest-init
 fields_from-loop-rest-init t c = rw c.new-fields.ensures.items (reached_none c.args.text.now c.args.levels)
