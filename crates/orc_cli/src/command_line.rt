@@ -1,85 +1,82 @@
-//! The command line: what it can ask for, and how its words are read.
+//! The command line: the commands and their options, and how its words are read.
 
 use crate::fault::CliFault;
+use crate::request::{SIGNS, VERSIONS};
 use clap::error::ErrorKind;
 use clap::{Arg, ArgAction, ArgMatches, Command, Error};
-use orc_rle::{Rle, Sign};
 use std::alloc::Global;
+use std::convert::AsStr;
 use std::rt::Env;
 use std::{env, io};
 
-static VERSIONS: [&str; 1] = ["1"];
+/// The program's own version.
+const VERSION: &str = "0.1.0";
 
-static SIGNS: [&str; 2] = ["s", "u"];
-
-/// What a command line asks for.
-pub enum Request<'a> {
-    /// The numbers of an integer stream, whose bytes are given in hexadecimal digits.
-    Ints { rle: Rle, sign: Sign, hex: &'a str },
-    /// The rows of a file.
-    Rows { file: &'a str },
+/// What the words of a command line ask for.
+pub enum Asked<'a> {
+    /// A request, as the parser found it.
+    Request(ArgMatches<'a>),
+    /// A text of the parser, help or version, which is on the standard output by now.
+    Text,
 }
 
-/// How the program ends, but for a request that was carried out.
+/// Why a command line isn't carried out.
 #[derive(Clone, Copy)]
-pub enum Ending {
+pub enum Refusal {
     /// The request was refused, or memory ran out before the words were read.
-    Refused(CliFault),
-    /// The words asked for help, and have it.
-    Helped,
+    Fault(CliFault),
     /// The words are no request. Where the parser found that, the standard error says why.
     NotUnderstood,
 }
 
-impl From<CliFault> for Ending {
-    fn from(fault: CliFault) -> Ending {
-        Ending::Refused(fault)
+impl From<CliFault> for Refusal {
+    fn from(fault: CliFault) -> Refusal {
+        Refusal::Fault(fault)
     }
 }
 
 /// The words that the program was started with, its own name first.
-pub fn words_of<R: Env + AllocGlobal + Eprint>(rt: &R) -> Result<Vec<String>, Ending> {
+pub fn words_of<R: Env + AllocGlobal + Eprint>(rt: &R) -> Result<Vec<String>, Refusal> {
     match env::args(rt) {
-        Ok(words) => match words.collect(rt.alloc()) {
-            Ok(words) => Ok(words),
-            Err(_) => Err(Ending::Refused(CliFault::OutOfMemory)),
-        },
+        Ok(words) => Ok(words.collect(rt.alloc()).map_err(CliFault::from)?),
         Err(error) if error.kind() == io::ErrorKind::OutOfMemory => {
-            Err(Ending::Refused(CliFault::OutOfMemory))
+            Err(Refusal::Fault(CliFault::OutOfMemory))
         }
         Err(_) => {
             let _ = eprintln!(rt; "error: the command line has words that are no UTF-8 text");
-            Err(Ending::NotUnderstood)
+            Err(Refusal::NotUnderstood)
         }
     }
 }
 
-/// What the words were found to hold. A text of the parser goes to the standard output where it is
-/// the help that was asked for, and else to the standard error.
-pub fn matches_of<'a, R: AllocGlobal + Print + Eprint>(
+/// What the words ask for. A text of the parser goes to the standard output where it was asked for, and
+/// else to the standard error.
+pub fn read_words<'a, R: AllocGlobal + Print + Eprint>(
     rt: &R,
     words: &'a [String],
-) -> Result<ArgMatches<'a>, Ending> {
+) -> Result<Asked<'a>, Refusal> {
     let error = match parsed(rt.alloc(), words) {
-        Ok(matches) => return Ok(matches),
+        Ok(matches) => return Ok(Asked::Request(matches)),
         Err(error) => error,
     };
     if error.kind() == ErrorKind::OutOfMemory {
-        return Err(Ending::Refused(CliFault::OutOfMemory));
+        return Err(Refusal::Fault(CliFault::OutOfMemory));
     }
     let printed = error.print(rt);
     if error.use_stderr() {
-        Err(Ending::NotUnderstood)
+        Err(Refusal::NotUnderstood)
     } else if printed.is_err() {
-        Err(Ending::Refused(CliFault::WriteFailed))
+        Err(Refusal::Fault(CliFault::WriteFailed))
     } else {
-        Err(Ending::Helped)
+        Ok(Asked::Text)
     }
 }
 
-fn parsed<'a>(alloc: Global, words: &'a [String]) -> Result<ArgMatches<'a>, Error> {
+/// What the parser finds in the words.
+pub fn parsed<'a, S: AsStr>(alloc: Global, words: &'a [S]) -> Result<ArgMatches<'a>, Error> {
     Command::new(alloc, "orcm")
         .bin_name("orcm")?
+        .version(VERSION)
         .about("Reads Apache ORC files without compression, and shows what they hold")
         .subcommand_required(true)
         .subcommand(ints_command(alloc)?)?
@@ -127,27 +124,4 @@ fn rows_command<'a>(alloc: Global) -> Result<Command<'a>, Error> {
             .about("Prints the rows of a file, a row a line as compact JSON")
             .arg(file)?,
     )
-}
-
-/// What the words ask for, if anything.
-pub fn request_of<'a>(matches: &ArgMatches<'a>) -> Option<Request<'a>> {
-    let (name, found) = matches.subcommand()?;
-    match name {
-        "ints" => Some(Request::Ints {
-            rle: match found.get_str("rle")? {
-                "1" => Rle::One,
-                _ => return None,
-            },
-            sign: match found.get_str("sign")? {
-                "s" => Sign::Signed,
-                "u" => Sign::Unsigned,
-                _ => return None,
-            },
-            hex: found.get_str("hex")?,
-        }),
-        "rows" => Some(Request::Rows {
-            file: found.get_str("file")?,
-        }),
-        _ => None,
-    }
 }

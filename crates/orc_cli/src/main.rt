@@ -6,6 +6,7 @@ mod fault;
 mod first_file;
 mod ints;
 mod output;
+mod request;
 mod rows;
 mod whole_file;
 
@@ -17,7 +18,8 @@ pub use rows::rows_to;
 #[cfg(test)]
 mod tests;
 
-use command_line::{Ending, Request, matches_of, request_of, words_of};
+use command_line::{Asked, Refusal, read_words, words_of};
+use request::{Request, request_of};
 use std::fs::File;
 use std::io;
 use std::process::ExitCode;
@@ -26,22 +28,24 @@ use whole_file::read_whole;
 
 fn main(rt: HostRuntime) -> ExitCode {
     match run(&rt) {
-        Ok(()) | Err(Ending::Helped) => ExitCode::SUCCESS,
-        Err(Ending::Refused(fault)) => {
+        Ok(()) => ExitCode::SUCCESS,
+        Err(Refusal::Fault(fault)) => {
             let _ = eprintln!(rt; "orcm: {fault}");
             ExitCode::from(1)
         }
-        Err(Ending::NotUnderstood) => ExitCode::from(2),
+        Err(Refusal::NotUnderstood) => ExitCode::from(2),
     }
 }
 
 /// Carries out what the command line asks for.
-fn run<R: Env + Files<File = File> + AllocGlobal + Print + Eprint>(rt: &R) -> Result<(), Ending> {
+fn run<R: Env + Files<File = File> + AllocGlobal + Print + Eprint>(rt: &R) -> Result<(), Refusal> {
     let words = words_of(rt)?;
-    let matches = matches_of(rt, words.as_slice())?;
-    match request_of(&matches) {
-        Some(request) => Ok(answer(rt, request)?),
-        None => Err(Ending::NotUnderstood),
+    match read_words(rt, words.as_slice())? {
+        Asked::Request(matches) => match request_of(&matches) {
+            Some(request) => Ok(answer(rt, request)?),
+            None => Err(Refusal::NotUnderstood),
+        },
+        Asked::Text => Ok(()),
     }
 }
 

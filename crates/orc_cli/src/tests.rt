@@ -1,8 +1,11 @@
+mod command_lines;
+mod files;
 mod trickle;
 
 use crate::*;
+use files::{DATA, NO_ROWS, SEVEN, SIX_SEVENS, THREE_SEVENS, UNREAD, many_sevens};
 use orc_rle::{Rle, RunFault, Sign};
-use std::alloc::Global;
+use std::alloc::{AllocError, Global};
 use std::process::Abort;
 use trickle::{AtItsEnd, Trickle};
 
@@ -50,155 +53,132 @@ const STREAMS: [(Sign, &str, Result<&str, CliFault>); 16] = [
     (Sign::Unsigned, "0", Err(CliFault::BadHex)),
 ];
 
-/// A file of three rows `{"n":7}`.
-const THREE_SEVENS: [u8; 120] = [
-    0x4f, 0x52, 0x43, 0x00, 0x00, 0x0e, 0x0a, 0x06, 0x08, 0x01, 0x10, 0x01, 0x18, 0x03, 0x12, 0x02,
-    0x08, 0x00, 0x12, 0x02, 0x08, 0x00, 0x0a, 0x14, 0x0a, 0x04, 0x08, 0x03, 0x50, 0x00, 0x0a, 0x0c,
-    0x08, 0x03, 0x12, 0x06, 0x08, 0x0e, 0x10, 0x0e, 0x18, 0x2a, 0x50, 0x00, 0x08, 0x03, 0x10, 0x16,
-    0x1a, 0x0a, 0x08, 0x03, 0x10, 0x00, 0x18, 0x03, 0x20, 0x10, 0x28, 0x03, 0x22, 0x08, 0x08, 0x0c,
-    0x12, 0x01, 0x01, 0x1a, 0x01, 0x6e, 0x22, 0x02, 0x08, 0x04, 0x30, 0x03, 0x3a, 0x04, 0x08, 0x03,
-    0x50, 0x00, 0x3a, 0x0c, 0x08, 0x03, 0x12, 0x06, 0x08, 0x0e, 0x10, 0x0e, 0x18, 0x2a, 0x50, 0x00,
-    0x40, 0x00, 0x48, 0x63, 0x08, 0x38, 0x10, 0x00, 0x22, 0x02, 0x00, 0x0b, 0x28, 0x16, 0x30, 0x06,
-    0x82, 0xf4, 0x03, 0x03, 0x4f, 0x52, 0x43, 0x13,
-];
+/// Twenty runs of 130 sevens each.
+const MANY_SEVENS: &str = "7f00077f00077f00077f00077f00077f00077f00077f00077f00077f0007\
+    7f00077f00077f00077f00077f00077f00077f00077f00077f00077f0007";
 
-/// A file without rows.
-const NO_ROWS: [u8; 59] = [
-    0x4f, 0x52, 0x43, 0x08, 0x03, 0x10, 0x03, 0x22, 0x08, 0x08, 0x0c, 0x12, 0x01, 0x01, 0x1a, 0x01,
-    0x6e, 0x22, 0x02, 0x08, 0x04, 0x30, 0x00, 0x3a, 0x04, 0x08, 0x00, 0x50, 0x00, 0x3a, 0x04, 0x08,
-    0x00, 0x50, 0x00, 0x40, 0x00, 0x48, 0x63, 0x08, 0x24, 0x10, 0x00, 0x22, 0x02, 0x00, 0x0b, 0x28,
-    0x00, 0x30, 0x06, 0x82, 0xf4, 0x03, 0x03, 0x4f, 0x52, 0x43, 0x13,
-];
+/// Numbers of bytes that outputs take in one call.
+const BYTES_A_CALL: [usize; 4] = [1, 7, 4096, 8192];
 
-/// A file of two stripes of three rows.
-const SIX_SEVENS: [u8; 173] = [
-    0x4f, 0x52, 0x43, 0x00, 0x00, 0x0e, 0x0a, 0x06, 0x08, 0x01, 0x10, 0x01, 0x18, 0x03, 0x12, 0x02,
-    0x08, 0x00, 0x12, 0x02, 0x08, 0x00, 0x00, 0x00, 0x0e, 0x0a, 0x06, 0x08, 0x01, 0x10, 0x01, 0x18,
-    0x03, 0x12, 0x02, 0x08, 0x00, 0x12, 0x02, 0x08, 0x00, 0x0a, 0x14, 0x0a, 0x04, 0x08, 0x03, 0x50,
-    0x00, 0x0a, 0x0c, 0x08, 0x03, 0x12, 0x06, 0x08, 0x0e, 0x10, 0x0e, 0x18, 0x2a, 0x50, 0x00, 0x0a,
-    0x14, 0x0a, 0x04, 0x08, 0x03, 0x50, 0x00, 0x0a, 0x0c, 0x08, 0x03, 0x12, 0x06, 0x08, 0x0e, 0x10,
-    0x0e, 0x18, 0x2a, 0x50, 0x00, 0x08, 0x03, 0x10, 0x29, 0x1a, 0x0a, 0x08, 0x03, 0x10, 0x00, 0x18,
-    0x03, 0x20, 0x10, 0x28, 0x03, 0x1a, 0x0a, 0x08, 0x16, 0x10, 0x00, 0x18, 0x03, 0x20, 0x10, 0x28,
-    0x03, 0x22, 0x08, 0x08, 0x0c, 0x12, 0x01, 0x01, 0x1a, 0x01, 0x6e, 0x22, 0x02, 0x08, 0x04, 0x30,
-    0x06, 0x3a, 0x04, 0x08, 0x06, 0x50, 0x00, 0x3a, 0x0c, 0x08, 0x06, 0x12, 0x06, 0x08, 0x0e, 0x10,
-    0x0e, 0x18, 0x54, 0x50, 0x00, 0x40, 0x00, 0x48, 0x63, 0x08, 0x44, 0x10, 0x00, 0x22, 0x02, 0x00,
-    0x0b, 0x28, 0x2c, 0x30, 0x06, 0x82, 0xf4, 0x03, 0x03, 0x4f, 0x52, 0x43, 0x13,
-];
-
-/// The line of one of their rows.
-const SEVEN: [u8; 8] = *b"{\"n\":7}\n";
-
-/// Where the DATA of the file of three rows stands, and its metadata and footer, which aren't read.
-const DATA: std::ops::Range<usize> = 3..6;
-
-const UNREAD: std::ops::Range<usize> = 22..100;
-
-/// Whether memory was wanted, which a test with memory to spare allows once at most.
-fn is_first_refusal(fault: CliFault, refused: &mut bool) -> bool {
-    let wanted = matches!(
+fn wants_memory(fault: CliFault) -> bool {
+    matches!(
         fault,
         CliFault::OutOfMemory
             | CliFault::Run(RunFault::OutOfMemory)
             | CliFault::First(FirstFault::OutOfMemory)
-    );
-    let first = wanted && !*refused;
-    if first {
-        *refused = true;
+    )
+}
+
+/// `ints_to` once there is memory: a call that wanted some wrote nothing, and is made again.
+fn ints(alloc: Global, sign: Sign, hex: &str, out: &mut Trickle) -> Result<(), CliFault> {
+    match ints_to(alloc, Rle::One, sign, hex, out) {
+        Err(fault) if wants_memory(fault) => ints_to(alloc, Rle::One, sign, hex, out),
+        answer => answer,
     }
-    first
+}
+
+/// `rows_to` likewise.
+fn rows(alloc: Global, file: &[u8], out: &mut Trickle) -> Result<(), CliFault> {
+    match rows_to(alloc, file, out) {
+        Err(fault) if wants_memory(fault) => rows_to(alloc, file, out),
+        answer => answer,
+    }
 }
 
 #[test]
 fn numbers_of_streams(rt: HostRuntime) {
-    let mut refused = false;
-    for (sign, hex, answer) in STREAMS {
+    for (sign, hex, wanted) in STREAMS {
         let mut out = Trickle::new(1, 512, AtItsEnd::Fails);
-        match ints_to(rt.alloc(), Rle::One, sign, hex, &mut out) {
-            Ok(()) => match answer {
-                Ok(line) => assert_eq!(rt; out.written(), line.as_bytes(), "of {hex}"),
-                Err(fault) => assert_eq!(rt; Ok(()), Err(fault), "of {hex}"),
-            },
+        let answer = ints(rt.alloc(), sign, hex, &mut out);
+        match wanted {
+            Ok(line) => {
+                assert_eq!(rt; answer, Ok(()), "of {hex}");
+                assert_eq!(rt; out.written(), line.as_bytes(), "of {hex}");
+            }
             Err(fault) => {
+                assert_eq!(rt; answer, Err(fault), "of {hex}");
                 assert_eq!(rt; out.written().len(), 0, "of {hex}");
-                if !is_first_refusal(fault, &mut refused) {
-                    assert_eq!(rt; Some(fault), answer.err(), "of {hex}");
-                }
             }
         }
+    }
+}
+
+/// Whether this is the line of so many sevens.
+fn check_line_of_sevens(rt: &impl Abort, written: &[u8], count: usize) {
+    assert_eq!(rt; written.len() / 2, count);
+    for (place, byte) in written.iter().enumerate() {
+        let wanted = match place % 2 {
+            0 => b'7',
+            _ if place == written.len() - 1 => b'\n',
+            _ => b' ',
+        };
+        assert_eq!(rt; *byte, wanted, "at {place}");
+    }
+}
+
+/// Outputs of several KiB come out whole, however many bytes a call takes.
+#[test]
+fn long_outputs(rt: HostRuntime) {
+    for a_call in BYTES_A_CALL {
+        let mut out = Trickle::new(a_call, 8192, AtItsEnd::Fails);
+        let answer = ints(rt.alloc(), Sign::Unsigned, MANY_SEVENS, &mut out);
+        assert_eq!(rt; answer, Ok(()), "{a_call} bytes a call");
+        check_line_of_sevens(&rt, out.written(), 2600);
+        let mut out = Trickle::new(a_call, 8192, AtItsEnd::Fails);
+        assert_eq!(rt; rows(rt.alloc(), &many_sevens(), &mut out), Ok(()));
+        check_sevens(&rt, out.written(), 650);
     }
 }
 
 /// An output that stops after each number of bytes has got these, and the refusal says so.
 #[test]
 fn outputs_that_stop(rt: HostRuntime) {
-    let mut refused = false;
     let line = b"2 3 6 7 11\n";
-    let rows = b"{\"n\":7}\n{\"n\":7}\n{\"n\":7}\n";
+    let lines = b"{\"n\":7}\n{\"n\":7}\n{\"n\":7}\n";
     for at_its_end in [AtItsEnd::Fails, AtItsEnd::TakesNothing] {
-        for stop in 0..rows.len() {
+        for stop in 0..lines.len() {
             let mut out = Trickle::new(3, stop, at_its_end);
-            let answer = rows_to(rt.alloc(), &THREE_SEVENS, &mut out);
-            check_stop(&rt, answer, out.written(), &rows[..stop], &mut refused);
+            let answer = rows(rt.alloc(), &THREE_SEVENS, &mut out);
+            assert_eq!(rt; answer, Err(CliFault::WriteFailed));
+            assert_eq!(rt; out.written(), &lines[..stop]);
             if stop < line.len() {
                 let mut out = Trickle::new(3, stop, at_its_end);
-                let answer = ints_to(
-                    rt.alloc(),
-                    Rle::One,
-                    Sign::Unsigned,
-                    "fb020306070b",
-                    &mut out,
-                );
-                check_stop(&rt, answer, out.written(), &line[..stop], &mut refused);
+                let answer = ints(rt.alloc(), Sign::Unsigned, "fb020306070b", &mut out);
+                assert_eq!(rt; answer, Err(CliFault::WriteFailed));
+                assert_eq!(rt; out.written(), &line[..stop]);
             }
         }
     }
 }
 
-fn check_stop(
-    rt: &impl Abort,
-    answer: Result<(), CliFault>,
-    written: &[u8],
-    front: &[u8],
-    refused: &mut bool,
-) {
-    match answer {
-        Err(fault) if is_first_refusal(fault, refused) => assert_eq!(rt; written.len(), 0),
-        other => {
-            assert_eq!(rt; other, Err(CliFault::WriteFailed));
-            assert_eq!(rt; written, front);
-        }
+/// Whether these are the lines of so many sevens.
+fn check_sevens(rt: &impl Abort, written: &[u8], count: usize) {
+    assert_eq!(rt; written.len() / SEVEN.len(), count);
+    for line in written.chunks(SEVEN.len()) {
+        assert_eq!(rt; line, SEVEN.as_slice());
     }
 }
 
-/// Whether the rows are so many sevens.
-fn check_sevens(rt: &impl Abort, alloc: Global, file: &[u8], count: u8, refused: &mut bool) {
+/// Whether the file has so many rows, each a seven.
+fn check_rows(rt: &impl Abort, alloc: Global, file: &[u8], count: usize) {
     let mut out = Trickle::new(512, 512, AtItsEnd::Fails);
-    match rows_to(alloc, file, &mut out) {
-        Ok(()) => {
-            let written = out.written();
-            assert_eq!(rt; written.len(), usize::from(count) * SEVEN.len());
-            for line in written.chunks(SEVEN.len()) {
-                assert_eq!(rt; line, SEVEN.as_slice());
-            }
-        }
-        Err(fault) => assert!(rt; is_first_refusal(fault, refused), "{fault}"),
-    }
+    assert_eq!(rt; rows(alloc, file, &mut out), Ok(()));
+    check_sevens(rt, out.written(), count);
 }
 
 fn check_refused(rt: &impl Abort, alloc: Global, file: &[u8]) {
     let mut out = Trickle::new(512, 512, AtItsEnd::Fails);
-    let answer = rows_to(alloc, file, &mut out);
+    let answer = rows(alloc, file, &mut out);
     assert_eq!(rt; answer, Err(CliFault::First(FirstFault::NotFirstForm)));
     assert_eq!(rt; out.written().len(), 0);
 }
 
 #[test]
 fn rows_of_files(rt: HostRuntime) {
-    let mut refused = false;
-    check_sevens(&rt, rt.alloc(), &THREE_SEVENS, 3, &mut refused);
+    check_rows(&rt, rt.alloc(), &THREE_SEVENS, 3);
     let mut four = THREE_SEVENS;
     four[3] = 1;
-    check_sevens(&rt, rt.alloc(), &four, 4, &mut refused);
+    check_rows(&rt, rt.alloc(), &four, 4);
     check_refused(&rt, rt.alloc(), &NO_ROWS);
     check_refused(&rt, rt.alloc(), &SIX_SEVENS);
     for len in 0..THREE_SEVENS.len() {
@@ -210,15 +190,14 @@ fn rows_of_files(rt: HostRuntime) {
 /// rows or a fault of its runs, and elsewhere the form is no longer there.
 #[test]
 fn files_changed_in_one_byte(rt: HostRuntime) {
-    let mut refused = false;
     for place in 0..THREE_SEVENS.len() {
         for change in 1..=255u8 {
             let mut file = THREE_SEVENS;
             file[place] ^= change;
             if UNREAD.contains(&place) {
-                check_sevens(&rt, rt.alloc(), &file, 3, &mut refused);
+                check_rows(&rt, rt.alloc(), &file, 3);
             } else if DATA.contains(&place) {
-                check_other_rows(&rt, rt.alloc(), &file, &mut refused);
+                check_other_rows(&rt, rt.alloc(), &file);
             } else {
                 check_refused(&rt, rt.alloc(), &file);
             }
@@ -227,18 +206,26 @@ fn files_changed_in_one_byte(rt: HostRuntime) {
 }
 
 /// Whether there are rows, perhaps more than the output takes, or a fault of DATA's runs and nothing.
-fn check_other_rows(rt: &impl Abort, alloc: Global, file: &[u8], refused: &mut bool) {
+fn check_other_rows(rt: &impl Abort, alloc: Global, file: &[u8]) {
     let mut out = Trickle::new(512, 512, AtItsEnd::Fails);
-    match rows_to(alloc, file, &mut out) {
+    match rows(alloc, file, &mut out) {
         Ok(()) => assert!(rt; out.written().ends_with(b"}\n")),
         Err(CliFault::WriteFailed) => assert_eq!(rt; out.written().len(), 512),
         Err(CliFault::First(FirstFault::Run(_))) => assert_eq!(rt; out.written().len(), 0),
-        Err(fault) => assert!(rt; is_first_refusal(fault, refused), "{fault}"),
+        Err(fault) => assert_eq!(rt; Ok(()), Err(fault)),
+    }
+}
+
+/// The text of a fault once there is memory.
+fn text_of(alloc: Global, fault: CliFault) -> Result<String, AllocError> {
+    match format!(in alloc; "{fault}") {
+        Ok(text) => Ok(text),
+        Err(_) => format!(in alloc; "{fault}"),
     }
 }
 
 #[test]
-fn fault_texts(rt: HostRuntime) {
+fn fault_texts(rt: HostRuntime) -> Result<(), AllocError> {
     let table = [
         (CliFault::Run(RunFault::Short(0)), "run 1 Short at 0"),
         (CliFault::BadHex, "json 7 BadHex"),
@@ -259,8 +246,7 @@ fn fault_texts(rt: HostRuntime) {
         ),
     ];
     for (fault, text) in table {
-        if let Ok(shown) = format!(in rt.alloc(); "{fault}") {
-            assert_eq!(rt; shown.as_str(), text);
-        }
+        assert_eq!(rt; text_of(rt.alloc(), fault)?.as_str(), text);
     }
+    Ok(())
 }

@@ -4,7 +4,7 @@ use std::io;
 use std::io::Write;
 
 /// Bytes that an output here has room for.
-const ROOM: usize = 512;
+const ROOM: usize = 8192;
 
 /// What an output does once it has as many bytes as it takes.
 #[derive(Clone, Copy, Debug)]
@@ -21,7 +21,7 @@ pub struct Trickle {
     a_call: usize,
     stop: usize,
     at_its_end: AtItsEnd,
-    ghost below: { len ≤ 512 },
+    ghost below: { len ≤ 8192 },
 }
 
 impl Trickle {

@@ -1,0 +1,101 @@
+//! Lists of words, and what they ask for.
+
+use crate::command_line::parsed;
+use crate::request::{Request, SIGNS, VERSIONS, request_of};
+use clap::error::ErrorKind;
+use clap::{ArgMatches, Error};
+use orc_rle::{Rle, Sign};
+use std::alloc::Global;
+use std::convert::AsStr;
+
+/// Command lines that are requests.
+const REQUESTS: [(&[&str], Request<'static>); 5] = [
+    (
+        &["orcm", "ints", "--rle", "1", "--sign", "u", "61ff64"],
+        Request::Ints {
+            rle: Rle::One,
+            sign: Sign::Unsigned,
+            hex: "61ff64",
+        },
+    ),
+    (
+        &["orcm", "ints", "--sign", "s", "--rle", "1", "000001"],
+        Request::Ints {
+            rle: Rle::One,
+            sign: Sign::Signed,
+            hex: "000001",
+        },
+    ),
+    (
+        &["orcm", "ints", "--rle=1", "--sign=s", ""],
+        Request::Ints {
+            rle: Rle::One,
+            sign: Sign::Signed,
+            hex: "",
+        },
+    ),
+    (&["orcm", "rows", "a.orc"], Request::Rows { file: "a.orc" }),
+    (&["orcm", "rows", "--", "-x"], Request::Rows { file: "-x" }),
+];
+
+/// Command lines that are none, and what the parser finds in them.
+const OTHERS: [(&[&str], ErrorKind); 10] = [
+    (&["orcm"], ErrorKind::MissingSubcommand),
+    (&["orcm", "join", "a"], ErrorKind::InvalidSubcommand),
+    (&["orcm", "rows"], ErrorKind::MissingRequiredArgument),
+    (
+        &["orcm", "ints", "--rle", "1", "61ff64"],
+        ErrorKind::MissingRequiredArgument,
+    ),
+    (
+        &["orcm", "ints", "--rle", "3", "--sign", "u", "00"],
+        ErrorKind::InvalidValue,
+    ),
+    (
+        &["orcm", "ints", "--rle", "1", "--sign", "x", "00"],
+        ErrorKind::InvalidValue,
+    ),
+    (&["orcm", "rows", "a", "b"], ErrorKind::UnknownArgument),
+    (&["orcm", "rows", "--wide", "a"], ErrorKind::UnknownArgument),
+    (&["orcm", "--help"], ErrorKind::DisplayHelp),
+    (&["orcm", "--version"], ErrorKind::DisplayVersion),
+];
+
+/// What the parser finds once there is memory.
+fn found<'a, S: AsStr>(alloc: Global, words: &'a [S]) -> Result<ArgMatches<'a>, Error> {
+    let answer = parsed(alloc, words);
+    if matches!(&answer, Err(error) if error.kind() == ErrorKind::OutOfMemory) {
+        return parsed(alloc, words);
+    }
+    answer
+}
+
+#[test]
+fn requests(rt: HostRuntime) {
+    for (words, request) in REQUESTS {
+        match found(rt.alloc(), words) {
+            Ok(matches) => assert_eq!(rt; request_of(&matches), Some(request), "{words:?}"),
+            Err(error) => assert!(rt; false, "{words:?}: {error}"),
+        }
+    }
+    for (words, kind) in OTHERS {
+        match found(rt.alloc(), words) {
+            Ok(_) => assert!(rt; false, "{words:?} is a request"),
+            Err(error) => assert!(rt; error.kind() == kind, "{words:?}: {error}"),
+        }
+    }
+}
+
+/// Each word that an option takes stands for something.
+#[test]
+fn words_of_options(rt: HostRuntime) {
+    for rle in VERSIONS {
+        for sign in SIGNS {
+            let words = ["orcm", "ints", "--rle", rle, "--sign", sign, "00"];
+            match found(rt.alloc(), &words) {
+                Ok(matches) => assert!(rt; request_of(&matches).is_some(), "{words:?}"),
+                Err(error) => assert!(rt; false, "{words:?}: {error}"),
+            }
+        }
+    }
+}
