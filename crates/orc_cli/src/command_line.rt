@@ -30,6 +30,11 @@ pub enum Refusal {
 }
 
 impl From<CliFault> for Refusal {
+    ghost use Rattle.std.specs.Prelude.{◌≡◌};
+    ghost use Rattle.orc_cli.specs.declared.command_line.Refusal.TheVariants.{Fault};
+
+    ghost from_gives = { λ fault refusal. refusal ≡ Fault fault };
+
     fn from(fault: CliFault) -> Refusal {
         Refusal::Fault(fault)
     }
