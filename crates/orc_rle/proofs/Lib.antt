@@ -1,5 +1,6 @@
 pub mod RunLemmas
 pub mod ValuesLemmas
 pub mod OneLemmas
+pub mod CutLemmas
 pub mod WrittenLemmas
 pub mod StreamLemmas

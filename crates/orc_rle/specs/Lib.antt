@@ -1,9 +1,11 @@
 pub mod Content
 pub mod Values
-pub mod RunOne
-pub mod WrittenOne
 pub mod Stream
-pub mod Reading
-pub mod Cutting
+pub mod Cut
+pub mod CutLaws
+pub mod RunOne
 pub mod OneLaws
+pub mod Reading
+pub mod WrittenOne
 pub mod WrittenLaws
+pub mod Cutting

@@ -31,9 +31,9 @@ IsSpelled sign [] text = text ≡ []
 IsSpelled sign (v ∷ vs) text = (n : ℕ) × (front : List ℕ) × (rest : List ℕ) × Stands sign v n × IsVarint front n × (text ≡ front ++ rest) × IsSpelled sign vs rest
 
 -- the text is the shortest varint of each value, one after the other
-abbrev pub IsText : Sign → List ℤ → List ℕ → Type 0
-IsText sign [] text = text ≡ []
-IsText sign (v ∷ vs) text = (n : ℕ) × (front : List ℕ) × (rest : List ℕ) × Stands sign v n × IsShortest front n × (text ≡ front ++ rest) × IsText sign vs rest
+abbrev pub IsSpelledShortest : Sign → List ℤ → List ℕ → Type 0
+IsSpelledShortest sign [] text = text ≡ []
+IsSpelledShortest sign (v ∷ vs) text = (n : ℕ) × (front : List ℕ) × (rest : List ℕ) × Stands sign v n × IsShortest front n × (text ≡ front ++ rest) × IsSpelledShortest sign vs rest
 
 -- fewer than count values are there, and then no varint
 pub record MissesValue (sign : Sign) (count : ℕ) (bytes : List ℕ) (fault : BitFault) : Type 0 where
@@ -52,11 +52,11 @@ run_fault bits.TooLong = BadVarint 0
 run_fault bits.OutOfMemory = OutOfMemory
 
 -- new is old with bytes at its end that are written for the values
-abbrev pub AppendsBytes : (List ℤ → List ℕ → Type 0) → List ℤ → List ℕ → List ℕ → Type 0
+abbrev pub AppendsBytes : {A : Type 0} → (List A → List ℕ → Type 0) → List A → List ℕ → List ℕ → Type 0
 AppendsBytes written values old new = (bytes : List ℕ) × written values bytes × (new ≡ old ++ bytes)
 
 abbrev pub AppendsText : Sign → List ℤ → List ℕ → List ℕ → Type 0
-AppendsText sign values old new = AppendsBytes (IsText sign) values old new
+AppendsText sign values old new = AppendsBytes (IsSpelledShortest sign) values old new
 
 -- old is a front of new
 abbrev pub Extends : List ℕ → List ℕ → Type 0

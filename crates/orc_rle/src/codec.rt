@@ -125,6 +125,8 @@ pub trait RunCodec {
     ghost again: { (sign : Sign) (values : List ℤ) (bytes : List ℕ) → is_written sign values bytes → AllInRange sign values → IsStream (is_run sign) bytes values };
     // A run has bytes.
     ghost some: { (sign : Sign) (v : List ℤ) → is_run sign [] v → ⊥ };
+    // A run has values.
+    ghost some_values: { (sign : Sign) (a : List ℕ) → is_run sign a [] → ⊥ };
 }
 
 /// Writes the values and decodes what was written: it is the same values. `OutOfMemory` is the only

@@ -5,7 +5,7 @@ ghost use Rattle.orc_rle.specs.Values.{AllInRange};
 ghost use Rattle.orc_rle.specs.RunOne.{IsRunOne, NoRunOne};
 ghost use Rattle.orc_rle.specs.WrittenOne.{IsWrittenOne};
 ghost use Rattle.orc_rle.specs.Stream.{IsStream};
-ghost use Rattle.orc_rle.specs.OneLaws.{one_run, no_run, one_run_fault, not_empty};
+ghost use Rattle.orc_rle.specs.OneLaws.{one_run, no_run, one_run_fault, not_empty, has_values};
 ghost use Rattle.orc_rle.specs.WrittenLaws.{written_is_stream, one_text};
 
 mod cut;
@@ -63,6 +63,8 @@ impl RunCodec for V1 {
     ghost again = { written_is_stream };
 
     ghost some = { not_empty };
+
+    ghost some_values = { has_values };
 }
 
 /// Reads the run in front into an empty run, and answers its number of bytes.
