@@ -4,3 +4,5 @@ pub mod OneLemmas
 pub mod CutLemmas
 pub mod WrittenLemmas
 pub mod StreamLemmas
+pub mod ByteLemmas
+pub mod RoundTrips

@@ -9,3 +9,6 @@ pub mod Reading
 pub mod WrittenOne
 pub mod WrittenLaws
 pub mod Cutting
+pub mod ByteRun
+pub mod ByteLaws
+pub mod ByteCut

@@ -1,6 +1,7 @@
-//! Integer run lengths of ORC: streams of bytes and the lists of values that they spell.
+//! Run lengths of ORC, of integers and of bytes: streams and the lists of values that they spell.
 #![tactic(auto)]
 
+mod byte_runs;
 mod codec;
 mod fault;
 mod run;
@@ -8,6 +9,7 @@ mod sign;
 mod v1;
 mod values;
 
+pub use byte_runs::{ByteRuns, RunU8, byte_round_trip, byte_run_laws, byte_stream_laws};
 pub use codec::{RunCodec, round_trip, stream_laws};
 pub use fault::RunFault;
 pub use run::Run;
