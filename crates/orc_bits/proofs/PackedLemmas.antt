@@ -1,5 +1,5 @@
 -- Digits of numbers.
-use Rattle.std.proofs.Common.{◌≡◌, ℕ, zero, suc, ◌+◌, ◌-◌, ◌*◌, ◌/◌, ◌%◌, ◌^◌, ◌<◌, ◌≤◌, List, [], ◌∷◌, ◌++◌, length, get_or, set, take, drop, refl, sym, ap, ◌∙◌, arith, append_assoc, add-suc, add-zero, mul-suc, length-append, length-set}
+use Rattle.std.proofs.Common.{◌≡◌, ℕ, zero, suc, ◌+◌, ◌-◌, ◌*◌, ◌/◌, ◌%◌, ◌^◌, ◌<◌, ◌≤◌, List, [], ◌∷◌, ◌++◌, length, get_or, replicate, set, take, drop, refl, sym, ap, ◌∙◌, arith, append_assoc, add-suc, add-zero, mul-suc, length-append, length-set}
 use Rattle.std.proofs.Math.Nat.{pow-suc, mul-add, mul_assoc, mul_comm, mul_left_comm}
 use Rattle.std.proofs.lemmas.List.{drop_more, append-nil, take_all, take_more, take_more_set, take-append-drop, append_cancel_right, length-take-le}
 use Rattle.std.proofs.lemmas.Nat.{shr_split, mod_below, pow_pos, pow-add, mul-le, shr_below, one_shl, mul-add-lt, shl_below, and_mask}
@@ -88,6 +88,14 @@ digits-push w (x ∷ vs) v = rw (digits-push w vs v, append_assoc) refl
 pub AllFit-push : (w : ℕ) (vs : List ℕ) (v : ℕ) → AllFit w vs → v < 2 ^ w → AllFit w (vs ++ v ∷ [])
 AllFit-push w [] v h lt = (lt, tt)
 AllFit-push w (x ∷ vs) v h lt = (h.0, AllFit-push w vs v h.1 lt)
+
+pub AllFit-append : (w : ℕ) (vs ws : List ℕ) → AllFit w vs → AllFit w ws → AllFit w (vs ++ ws)
+AllFit-append w [] ws h k = k
+AllFit-append w (v ∷ vs) ws h k = (h.0, AllFit-append w vs ws h.1 k)
+
+pub AllFit-replicate : (w n v : ℕ) → v < 2 ^ w → AllFit w (replicate n v)
+AllFit-replicate w zero v lt = tt
+AllFit-replicate w (suc n) v lt = (lt, AllFit-replicate w n v lt)
 
 pub AllFit-bytes : (bytes : List ℕ) → ((i : ℕ) → get_or bytes i 0 < 256) → AllFit 8 bytes
 AllFit-bytes [] h = tt

@@ -5,4 +5,5 @@ pub mod CutLemmas
 pub mod WrittenLemmas
 pub mod StreamLemmas
 pub mod ByteLemmas
+pub mod BitLemmas
 pub mod RoundTrips

@@ -1,11 +1,13 @@
 -- Laws of runs of bytes (ORC specification, "Byte Run Length Encoding").
 -- No run begins another, where a fault applies no run stands; what is written has one text, and it is a stream.
-use Rattle.std.proofs.Common.{◌≡◌, ℕ, ◌-◌, List, [], ◌∷◌, ◌++◌, length, refl, sym, ap, ◌∙◌, arith, inl, inr, length-append}
+use Rattle.std.proofs.Common.{◌≡◌, ℕ, ◌-◌, List, [], ◌∷◌, ◌++◌, length, refl, sym, ap, subst, ◌∙◌, arith, inl, inr, length-append}
+use Rattle.orc_bits.specs.Packed.{AllFit}
+use Rattle.orc_bits.proofs.PackedLemmas.{AllFit-append, AllFit-replicate}
 use Rattle.orc_bits.proofs.PackedLaws.{same_length}
 use Rattle.orc_rle.specs.declared.fault.RunFault.{RunFault}
 use Rattle.orc_rle.specs.Cut.{IsPiece, IsWritten}
 use Rattle.orc_rle.specs.CutLaws.{written_is_stream, one_text}
-use Rattle.orc_rle.specs.Stream.{IsStream}
+use Rattle.orc_rle.specs.Stream.{AreRuns, IsStream}
 use Rattle.orc_rle.specs.ByteRun.{AreEqual, IsRepeat, AreLiteral, IsByteRun, EndsInside, NoByteRun, byte_rule}
 
 parts_of : (c d : ℕ) (x y : List ℕ) → c ∷ x ≡ d ∷ y → (c ≡ d) × (x ≡ y)
@@ -89,3 +91,16 @@ piece_run piece rest text (inr p) = inr p.1
 -- what was written is a stream of the bytes
 pub bytes_written : (values bytes : List ℕ) → IsWritten byte_rule values bytes → IsStream IsByteRun bytes values
 bytes_written values bytes h = written_is_stream byte_rule (λ v. Unit {0}) IsByteRun (λ v w r. (tt, tt)) (λ piece rest text p r. piece_run piece rest text p) values bytes h tt
+
+run_bytes : (bytes values : List ℕ) → IsByteRun bytes values → AllFit 8 values
+run_bytes bytes values (inl p) = subst (λ (t : List ℕ). AllFit 8 t) (sym p.equal.values_are) (AllFit-replicate 8 (length values) p.equal.byte p.small)
+run_bytes bytes values (inr p) = p.small
+
+runs_bytes : (pieces : List (List ℕ × List ℕ)) (bytes values : List ℕ) → AreRuns IsByteRun pieces bytes values → AllFit 8 values
+runs_bytes [] bytes values h = subst (λ (t : List ℕ). AllFit 8 t) (sym h.1) tt
+runs_bytes (piece ∷ pieces) bytes values h =
+    subst (λ (t : List ℕ). AllFit 8 t) (sym h.4) (AllFit-append 8 piece.1 h.1 (run_bytes piece.0 piece.1 h.2) (runs_bytes pieces h.0 h.1 h.5))
+
+-- the values of a stream are bytes
+pub stream_bytes : (bytes values : List ℕ) → IsStream IsByteRun bytes values → AllFit 8 values
+stream_bytes bytes values h = runs_bytes h.0 bytes values h.1

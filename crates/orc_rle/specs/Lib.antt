@@ -12,3 +12,5 @@ pub mod Cutting
 pub mod ByteRun
 pub mod ByteLaws
 pub mod ByteCut
+pub mod BitStream
+pub mod BitLaws

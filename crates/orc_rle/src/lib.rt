@@ -1,6 +1,7 @@
-//! Run lengths of ORC, of integers and of bytes: streams and the lists of values that they spell.
+//! Run lengths of ORC, of integers, bytes and booleans: streams and the lists of values that they spell.
 #![tactic(auto)]
 
+mod bit_runs;
 mod byte_runs;
 mod codec;
 mod fault;
@@ -9,6 +10,7 @@ mod sign;
 mod v1;
 mod values;
 
+pub use bit_runs::{BitRuns, bit_round_trip, bit_stream_laws};
 pub use byte_runs::{ByteRuns, RunU8, byte_round_trip, byte_run_laws, byte_stream_laws};
 pub use codec::{RunCodec, round_trip, stream_laws};
 pub use fault::RunFault;

@@ -5,6 +5,7 @@ use crate::*;
 use std::alloc::Global;
 use std::process::Abort;
 
+mod bits;
 mod bytes;
 mod version_one;
 

@@ -1,4 +1,5 @@
 ghost use Rattle.std.specs.Prelude.{◌≡◌, ◌≢◌, ℕ, List, [], ◌++◌, ◌<◌, ◌≤◌, length, take, Result, Ok, Err, ◌⊎◌, IfOk, IfErr, OnOk, OnErr, MatchResult};
+ghost use Rattle.orc_bits.specs.Packed.{AllFit};
 ghost use Rattle.orc_rle.specs.declared.fault.RunFault.{RunFault};
 ghost use Rattle.orc_rle.specs.declared.fault.RunFault.TheVariants.{OutOfMemory};
 ghost use Rattle.orc_rle.specs.Stream.{IsStream, StopsWithin, Refuses};
@@ -130,9 +131,11 @@ pub fn byte_run_laws()
     ensures again { (values bytes : List ℕ) → IsWritten byte_rule values bytes → IsStream IsByteRun bytes values }
 {}
 
-/// Laws of streams of byte runs: bytes are a stream of at most one list of values; where `decode` has a
-/// reason to refuse, the bytes are no stream of `n` values, and it has no other reason.
+/// Laws of streams of byte runs: the values of a stream are bytes, and bytes are a stream of at most one
+/// list of values; where `decode` has a reason to refuse, the bytes are no stream of `n` values, and it
+/// has no other reason.
 pub fn byte_stream_laws()
+    ensures are_bytes { (bytes v : List ℕ) → IsStream IsByteRun bytes v → AllFit 8 v }
     ensures one_list { (bytes v w : List ℕ) → IsStream IsByteRun bytes v → IsStream IsByteRun bytes w → v ≡ w }
     ensures none_within { (n : ℕ) (bytes v : List ℕ) (fault : RunFault) → StopsWithin IsByteRun NoByteRun n bytes fault
         → IsStream IsByteRun bytes v → length v ≡ n → ⊥ }
