@@ -1,8 +1,8 @@
-ghost use Rattle.std.specs.Prelude.{◌≡◌, ◌≢◌, ℕ, List, [], ◌++◌, ◌<◌, ◌≤◌, length, take, Result, Ok, Err, ◌⊎◌, IfOk, IfErr, OnOk, OnErr, MatchResult};
+ghost use Rattle.std.specs.Prelude.{◌≡◌, ◌≢◌, ℕ, List, [], ◌++◌, ◌<◌, ◌≤◌, ◌+◌, length, take, drop, Result, Ok, Err, ◌⊎◌, IfOk, IfErr, OnOk, OnErr, MatchResult};
 ghost use Rattle.orc_bits.specs.Packed.{AllFit};
 ghost use Rattle.orc_rle.specs.declared.fault.RunFault.{RunFault};
 ghost use Rattle.orc_rle.specs.declared.fault.RunFault.TheVariants.{OutOfMemory};
-ghost use Rattle.orc_rle.specs.Stream.{IsStream, StopsWithin, Refuses};
+ghost use Rattle.orc_rle.specs.Stream.{IsStream, FailsAt, StopsWithin, Refuses};
 ghost use Rattle.orc_rle.specs.Values.{AppendsBytes};
 ghost use Rattle.orc_rle.specs.Cut.{IsWritten};
 ghost use Rattle.orc_rle.specs.ByteRun.{IsByteRun, NoByteRun, byte_rule};
@@ -71,18 +71,13 @@ impl ByteRuns {
         let mut values = Vec::new(alloc);
         let mut at = 0;
         while at < bytes.len() {
-            let (_, rest) = bytes.split_at(at);
-            match ByteRuns::next_run(rest, &mut run) {
-                Ok(len) => {
-                    let found = run.values();
-                    if n - values.len() < found.len() {
-                        return Err(RunFault::TooMany(at));
-                    }
-                    values.extend_from_slice(found)?;
-                    at += len;
-                }
-                Err(fault) => return Err(fault.at(at)),
+            let len = run_at(bytes, at, &mut run)?;
+            let found = run.values();
+            if n - values.len() < found.len() {
+                return Err(RunFault::TooMany(at));
             }
+            values.extend_from_slice(found)?;
+            at += len;
         }
         if values.len() < n {
             return Err(RunFault::TooFew(bytes.len()));
@@ -105,6 +100,21 @@ impl ByteRuns {
             out.truncate(start);
         }
         written
+    }
+}
+
+/// Reads the run that begins at `at` into `run`, and answers its number of bytes. A fault has this place.
+fn run_at(bytes: &[u8], at: usize, run: &mut RunU8) -> Result<usize, RunFault>
+    requires within { at ≤ length bytes.now }
+    ensures found { IfOk result (λ len. IsByteRun (take len (drop at bytes.now)) run.new.values) }
+    ensures within { IfOk result (λ len. at + len ≤ length bytes.now) }
+    ensures some { IfOk result (λ len. 0 < len) }
+    ensures fault { IfErr result (FailsAt NoByteRun bytes.now at) }
+{
+    let (_, rest) = bytes.split_at(at);
+    match ByteRuns::next_run(rest, run) {
+        Ok(len) => Ok(len),
+        Err(fault) => Err(fault.at(at)),
     }
 }
 
