@@ -89,12 +89,14 @@ fn read_run(bytes: &[u8], sign: Sign, run: &mut Run) -> Result<usize, RunFault>
 }
 
 /// Laws of version 1: no run is a proper prefix of another, nor are its bytes a run of other values;
-/// where a fault applies no run stands, nor another fault; values have one text, and it is a stream of
-/// them.
+/// where a fault applies no run stands, nor another fault; a run has values; values have one text, and it
+/// is a stream of them.
 pub fn run_one_laws()
     ensures prefix { (sign : Sign) (a b x y : List ℕ) (v w : List ℤ) → IsRunOne sign a v → IsRunOne sign b w → a ++ x ≡ b ++ y → (a ≡ b) × (v ≡ w) }
     ensures none { (sign : Sign) (a x : List ℕ) (v : List ℤ) (fault : RunFault) → NoRunOne sign (a ++ x) fault → IsRunOne sign a v → ⊥ }
     ensures one_fault { (sign : Sign) (bytes : List ℕ) (e f : RunFault) → NoRunOne sign bytes e → NoRunOne sign bytes f → e ≡ f }
+    ensures some_values { (sign : Sign) (a : List ℕ) → IsRunOne sign a [] → ⊥ }
+
     ensures one_text { (sign : Sign) (values : List ℤ) (a b : List ℕ) → IsWrittenOne sign values a → IsWrittenOne sign values b → a ≡ b }
     ensures again { (sign : Sign) (values : List ℤ) (bytes : List ℕ) → IsWrittenOne sign values bytes → AllInRange sign values → IsStream (IsRunOne sign) bytes values }
 {}
