@@ -56,7 +56,8 @@ same_steps a d b e f g x y p q h =
 one_step_text : (sign : Sign) (values : List ℤ) (a b : List ℕ) → IsStepText sign values a → IsStepText sign values b → a ≡ b
 one_step_text sign values a b p q =
     let same = same_steps p.first p.step q.first q.step values values [] [] p.steps q.steps refl in
-    let first_text = one_spelled sign (q.first ∷ []) p.first_text q.first_text (subst (λ (t : ℤ). IsSpelledShortest sign (t ∷ []) p.first_text) same.first p.spelled) q.spelled in
+    let spelled = subst (λ (t : ℤ). IsSpelledShortest sign (t ∷ []) p.first_text) same.first p.spelled in
+    let first_text = one_spelled sign (q.first ∷ []) p.first_text q.first_text spelled q.spelled in
     p.text_is ∙ (rw (same.step, first_text) refl) ∙ sym q.text_is
 
 one_literal_text : (sign : Sign) (values : List ℤ) (a b : List ℕ) → IsLiteralText sign values a → IsLiteralText sign values b → a ≡ b
@@ -85,7 +86,8 @@ piece_shape sign piece rest text (inr p) = inr (record {
 })
 
 -- what was written is a stream of the values
-pub written_is_stream : (sign : Sign) (values : List ℤ) (bytes : List ℕ) → IsWrittenOne sign values bytes → AllInRange sign values → IsStream (IsRunOne sign) bytes values
+pub written_is_stream : (sign : Sign) (values : List ℤ) (bytes : List ℕ) → IsWrittenOne sign values bytes → AllInRange sign values
+    → IsStream (IsRunOne sign) bytes values
 written_is_stream sign =
     cut.written_is_stream (rule_one sign) (AllInRange sign) (IsRunOne sign) (λ v w. AllInRange-parts sign v w)
     (λ piece rest text p range. record { shape = piece_shape sign piece rest text p; in_range = range })
