@@ -36,7 +36,8 @@ impl<'a> Reader<'a> {
         requires most { width ≤ 64 }
         requires there { width ≤ self.old.have + 8 * (length self.old.bytes.now - self.old.at) }
         ensures same { self.new.bytes ≡ self.old.bytes }
-        ensures digits { bits self.old.held self.old.have ++ digits 8 (drop self.old.at self.old.bytes.now) ≡ bits result width ++ (bits self.new.held self.new.have ++ digits 8 (drop self.new.at self.old.bytes.now)) }
+        ensures digits { bits self.old.held self.old.have ++ digits 8 (drop self.old.at self.old.bytes.now)
+            ≡ bits result width ++ (bits self.new.held self.new.have ++ digits 8 (drop self.new.at self.old.bytes.now)) }
         ensures used { self.old.have + 8 * self.new.at ≡ width + self.new.have + 8 * self.old.at }
         ensures fits { result < 2 ^ width }
     {
@@ -84,7 +85,8 @@ pub fn unpack(bytes: &[u8], width: Width, n: usize, out: &mut [u64]) -> Result<u
     ensures found { IfOk result (λ len. IsPacked (take len bytes.now) (width_at width.code) out.new) }
     ensures len { IfOk result (λ len. len ≡ packed_len (width_at width.code) n) }
     ensures within { IfOk result (λ len. len ≤ length bytes.now) }
-    ensures only { (front rest values : List ℕ) → IsPacked front (width_at width.code) values → length values ≡ n → bytes.now ≡ front ++ rest → (result ≡ Ok (length front)) × (out.new ≡ values) }
+    ensures only { (front rest values : List ℕ) → IsPacked front (width_at width.code) values
+        → length values ≡ n → bytes.now ≡ front ++ rest → (result ≡ Ok (length front)) × (out.new ≡ values) }
 
     ensures fault { IfErr result (λ fault. (fault ≡ Short) × (length bytes.now < packed_len (width_at width.code) n)) }
     ensures unchanged { OnErr result (out.new ≡ out.old) }
