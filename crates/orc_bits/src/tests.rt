@@ -1,99 +1,37 @@
 use crate::*;
+use std::alloc::Global;
+use std::process::Abort;
 
-/// Numbers and their shortest varints, from the Protocol Buffers encoding.
-const SHORTEST: [(u64, &[u8]); 9] = [
-    (0, &[0x00]),
-    (1, &[0x01]),
-    (127, &[0x7f]),
-    (128, &[0x80, 0x01]),
-    (150, &[0x96, 0x01]),
-    (300, &[0xac, 0x02]),
-    (0xffff_ffff, &[0xff, 0xff, 0xff, 0xff, 0x0f]),
-    (
-        0x8000_0000_0000_0000,
-        &[0x80, 0x80, 0x80, 0x80, 0x80, 0x80, 0x80, 0x80, 0x80, 0x01],
-    ),
-    (
-        0xffff_ffff_ffff_ffff,
-        &[0xff, 0xff, 0xff, 0xff, 0xff, 0xff, 0xff, 0xff, 0xff, 0x01],
-    ),
-];
+mod packed;
+mod varints;
 
-#[test]
-fn zigzag_of_the_ends_and_the_middle(rt: HostRuntime) {
-    let table = [
-        (0, 0),
-        (-1, 1),
-        (1, 2),
-        (-2, 3),
-        (i64::MAX, u64::MAX - 1),
-        (i64::MIN, u64::MAX),
-    ];
-    for (number, folded) in table {
-        assert_eq!(rt; zigzag(number), folded, "of {number}");
-        assert_eq!(rt; unzigzag(folded), number, "back from {folded}");
-    }
-}
-
-#[test]
-fn shortest_varints_both_ways(rt: HostRuntime) {
-    let front = [0xff];
-    let mut refused = false;
-    for (number, text) in SHORTEST {
-        assert_eq!(rt; read_varint(text), Ok((number, text.len())), "at {number}");
-        let mut out = Vec::new(rt.alloc());
-        let begun = out.extend_from_slice(&front).is_ok();
-        if begun && put_varint(number, &mut out).is_ok() {
-            let written = out.as_slice().strip_prefix(front.as_slice());
-            assert_eq!(rt; written, Some(text), "at {number}");
-        } else {
-            assert!(rt; !refused, "memory is refused once at most");
-            assert_eq!(rt; out.len(), usize::from(begun), "at {number}");
-            refused = true;
-        }
-    }
-}
-
-#[test]
-fn long_and_broken_varints(rt: HostRuntime) {
-    let table: [(&[u8], Result<(u64, usize), BitFault>); 9] = [
-        (&[0x80, 0x00], Ok((0, 2))),
-        (&[0x81, 0x80, 0x00], Ok((1, 3))),
-        (
-            &[0x80, 0x80, 0x80, 0x80, 0x80, 0x80, 0x80, 0x80, 0x80, 0x00],
-            Ok((0, 10)),
-        ),
-        (&[0x96, 0x01, 0xff], Ok((150, 2))),
-        (&[], Err(BitFault::Short)),
-        (
-            &[0xff, 0xff, 0xff, 0xff, 0xff, 0xff, 0xff, 0xff, 0xff],
-            Err(BitFault::Short),
-        ),
-        (
-            &[0xff, 0xff, 0xff, 0xff, 0xff, 0xff, 0xff, 0xff, 0xff, 0x02],
-            Err(BitFault::TooLong),
-        ),
-        (
-            &[0x80, 0x80, 0x80, 0x80, 0x80, 0x80, 0x80, 0x80, 0x80, 0x80],
-            Err(BitFault::TooLong),
-        ),
-        (&[0x80], Err(BitFault::Short)),
-    ];
-    for (text, answer) in table {
-        assert_eq!(rt; read_varint(text), answer, "at {text:?}");
+/// What a check answers, which is asked again where memory was refused once.
+fn with_memory<F: Fn() -> Result<(), BitFault>>(check: F) -> Result<(), BitFault>
+    requires { F.IsAlwaysCallable check }
+{
+    match check() {
+        Err(BitFault::OutOfMemory) => check(),
+        answer => answer,
     }
 }
 
 #[test]
 fn fault_texts(rt: HostRuntime) {
+    let answer = with_memory(|| check_texts(&rt, rt.alloc()));
+    assert_eq!(rt; answer, Ok(()));
+}
+
+fn check_texts(rt: &impl Abort, alloc: Global) -> Result<(), BitFault> {
     let table = [
         (BitFault::Short, "bit 1 Short"),
         (BitFault::TooLong, "bit 2 TooLong"),
         (BitFault::OutOfMemory, "bit 3 OutOfMemory"),
     ];
     for (fault, text) in table {
-        if let Ok(shown) = format!(in rt.alloc(); "{fault}") {
-            assert_eq!(rt; shown.as_str(), text);
-        }
+        let Ok(shown) = format!(in alloc; "{fault}") else {
+            return Err(BitFault::OutOfMemory);
+        };
+        assert_eq!(rt; shown.as_str(), text);
     }
+    Ok(())
 }

@@ -152,8 +152,13 @@ no_run sign a x v (TooMany place) h run = h
 no_run sign a x v (BadPosition place) h run = h
 no_run sign a x v OutOfMemory h run = h
 
+-- a run has bytes
 pub not_empty : (sign : Sign) (v : List ℤ) → IsRunOne sign [] v → ⊥
 not_empty sign v run = elim run.shape [ inl p ↦ let k = p.bytes_are in cc | inr p ↦ let k = p.bytes_are in cc ]
+
+-- a run has values
+pub has_values : (sign : Sign) (a : List ℕ) → IsRunOne sign a [] → ⊥
+has_values sign a run = elim run.shape [ inl p ↦ omega (arith, p.steps.few) | inr p ↦ omega (arith, p.few) ]
 
 -- after values that are there, the next one misses in one way
 one_missing : (sign : Sign) (vs ws : List ℤ) (a b x y : List ℕ) (e f : BitFault) → IsSpelled sign vs a → IsSpelled sign ws b → a ++ x ≡ b ++ y → NoVarint x e → NoVarint y f → e ≡ f

@@ -1,9 +1,9 @@
-ghost use Rattle.std.specs.Prelude.{◌≡◌, ◌≢◌, ℕ, ℤ, List, [], ◌++◌, ◌<◌, ◌≤◌, length, take, Result, Ok, Err, ◌⊎◌, IfOk, IfErr, OnOk, OnErr, MatchResult};
+ghost use Rattle.std.specs.Prelude.{◌≡◌, ◌≢◌, ℕ, ℤ, List, [], ◌++◌, ◌<◌, ◌≤◌, ◌+◌, length, take, drop, Result, Ok, Err, ◌⊎◌, IfOk, IfErr, OnOk, OnErr, MatchResult};
 ghost use Rattle.orc_rle.specs.declared.sign.Sign.{Sign};
 ghost use Rattle.orc_rle.specs.declared.fault.RunFault.{RunFault};
 ghost use Rattle.orc_rle.specs.declared.fault.RunFault.TheVariants.{OutOfMemory};
 ghost use Rattle.orc_rle.specs.Values.{AllInRange, AppendsBytes};
-ghost use Rattle.orc_rle.specs.Stream.{IsStream, StopsAt, StopsWithin, Refuses, at_place};
+ghost use Rattle.orc_rle.specs.Stream.{IsStream, FailsAt, StopsAt, StopsWithin, Refuses, at_place};
 
 use crate::fault::RunFault;
 use crate::run::Run;
@@ -64,14 +64,9 @@ pub trait RunCodec {
         let mut values = Vec::new(alloc);
         let mut at = 0;
         while at < bytes.len() {
-            let (_, rest) = bytes.split_at(at);
-            match Self::next_run(rest, sign, &mut run) {
-                Ok(len) => {
-                    values.extend_from_slice(run.values())?;
-                    at += len;
-                }
-                Err(fault) => return Err(fault.at(at)),
-            }
+            let len = run_at::<Self>(bytes, at, sign, &mut run)?;
+            values.extend_from_slice(run.values())?;
+            at += len;
         }
         Ok(values)
     }
@@ -94,18 +89,13 @@ pub trait RunCodec {
         let mut values = Vec::new(alloc);
         let mut at = 0;
         while at < bytes.len() {
-            let (_, rest) = bytes.split_at(at);
-            match Self::next_run(rest, sign, &mut run) {
-                Ok(len) => {
-                    let found = run.values();
-                    if n - values.len() < found.len() {
-                        return Err(RunFault::TooMany(at));
-                    }
-                    values.extend_from_slice(found)?;
-                    at += len;
-                }
-                Err(fault) => return Err(fault.at(at)),
+            let len = run_at::<Self>(bytes, at, sign, &mut run)?;
+            let found = run.values();
+            if n - values.len() < found.len() {
+                return Err(RunFault::TooMany(at));
             }
+            values.extend_from_slice(found)?;
+            at += len;
         }
         if values.len() < n {
             return Err(RunFault::TooFew(bytes.len()));
@@ -125,6 +115,28 @@ pub trait RunCodec {
     ghost again: { (sign : Sign) (values : List ℤ) (bytes : List ℕ) → is_written sign values bytes → AllInRange sign values → IsStream (is_run sign) bytes values };
     // A run has bytes.
     ghost some: { (sign : Sign) (v : List ℤ) → is_run sign [] v → ⊥ };
+    // A run has values.
+    ghost some_values: { (sign : Sign) (a : List ℕ) → is_run sign a [] → ⊥ };
+}
+
+/// Reads the run that begins at `at` into `run`, and answers its number of bytes. A fault has this place.
+fn run_at<C: RunCodec>(
+    bytes: &[u8],
+    at: usize,
+    sign: Sign,
+    run: &mut Run,
+) -> Result<usize, RunFault>
+    requires within { at ≤ length bytes.now }
+    ensures found { IfOk result (λ len. C.is_run sign (take len (drop at bytes.now)) run.new.values) }
+    ensures within { IfOk result (λ len. at + len ≤ length bytes.now) }
+    ensures some { IfOk result (λ len. 0 < len) }
+    ensures fault { IfErr result (FailsAt (C.fails sign) bytes.now at) }
+{
+    let (_, rest) = bytes.split_at(at);
+    match C::next_run(rest, sign, run) {
+        Ok(len) => Ok(len),
+        Err(fault) => Err(fault.at(at)),
+    }
 }
 
 /// Writes the values and decodes what was written: it is the same values. `OutOfMemory` is the only

@@ -1,6 +1,8 @@
-//! Integer run lengths of ORC: streams of bytes and the lists of values that they spell.
+//! Run lengths of ORC, of integers, bytes and booleans: streams and the lists of values that they spell.
 #![tactic(auto)]
 
+mod bit_runs;
+mod byte_runs;
 mod codec;
 mod fault;
 mod run;
@@ -8,6 +10,8 @@ mod sign;
 mod v1;
 mod values;
 
+pub use bit_runs::{BitRuns, bit_round_trip, bit_stream_laws};
+pub use byte_runs::{ByteRuns, RunU8, byte_round_trip, byte_run_laws, byte_stream_laws};
 pub use codec::{RunCodec, round_trip, stream_laws};
 pub use fault::RunFault;
 pub use run::Run;

@@ -5,7 +5,7 @@ ghost use Rattle.orc_rle.specs.Values.{AllInRange};
 ghost use Rattle.orc_rle.specs.RunOne.{IsRunOne, NoRunOne};
 ghost use Rattle.orc_rle.specs.WrittenOne.{IsWrittenOne};
 ghost use Rattle.orc_rle.specs.Stream.{IsStream};
-ghost use Rattle.orc_rle.specs.OneLaws.{one_run, no_run, one_run_fault, not_empty};
+ghost use Rattle.orc_rle.specs.OneLaws.{one_run, no_run, one_run_fault, not_empty, has_values};
 ghost use Rattle.orc_rle.specs.WrittenLaws.{written_is_stream, one_text};
 
 mod cut;
@@ -63,6 +63,8 @@ impl RunCodec for V1 {
     ghost again = { written_is_stream };
 
     ghost some = { not_empty };
+
+    ghost some_values = { has_values };
 }
 
 /// Reads the run in front into an empty run, and answers its number of bytes.
@@ -87,12 +89,14 @@ fn read_run(bytes: &[u8], sign: Sign, run: &mut Run) -> Result<usize, RunFault>
 }
 
 /// Laws of version 1: no run is a proper prefix of another, nor are its bytes a run of other values;
-/// where a fault applies no run stands, nor another fault; values have one text, and it is a stream of
-/// them.
+/// where a fault applies no run stands, nor another fault; a run has values; values have one text, and it
+/// is a stream of them.
 pub fn run_one_laws()
     ensures prefix { (sign : Sign) (a b x y : List ℕ) (v w : List ℤ) → IsRunOne sign a v → IsRunOne sign b w → a ++ x ≡ b ++ y → (a ≡ b) × (v ≡ w) }
     ensures none { (sign : Sign) (a x : List ℕ) (v : List ℤ) (fault : RunFault) → NoRunOne sign (a ++ x) fault → IsRunOne sign a v → ⊥ }
     ensures one_fault { (sign : Sign) (bytes : List ℕ) (e f : RunFault) → NoRunOne sign bytes e → NoRunOne sign bytes f → e ≡ f }
+    ensures some_values { (sign : Sign) (a : List ℕ) → IsRunOne sign a [] → ⊥ }
+
     ensures one_text { (sign : Sign) (values : List ℤ) (a b : List ℕ) → IsWrittenOne sign values a → IsWrittenOne sign values b → a ≡ b }
     ensures again { (sign : Sign) (values : List ℤ) (bytes : List ℕ) → IsWrittenOne sign values bytes → AllInRange sign values → IsStream (IsRunOne sign) bytes values }
 {}

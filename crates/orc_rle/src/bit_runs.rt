@@ -1,0 +1,122 @@
+ghost use Rattle.std.specs.Prelude.{◌≡◌, ℕ, List, [], ◌∷◌, ◌++◌, ◌+◌, ◌^◌, ◌<◌, length, map, get_or, Bool, ◌⊎◌, IfOk, IfErr, OnOk, OnErr, MatchResult};
+ghost use Rattle.orc_bits.specs.Packed.{bits, digits, packed_len, AllFit, IsPackedText};
+ghost use Rattle.orc_rle.specs.declared.fault.RunFault.{RunFault};
+ghost use Rattle.orc_rle.specs.declared.fault.RunFault.TheVariants.{OutOfMemory};
+ghost use Rattle.orc_rle.specs.Values.{AppendsBytes};
+ghost use Rattle.orc_rle.specs.Stream.{StopsWithin, Refuses};
+ghost use Rattle.orc_rle.specs.ByteRun.{IsByteRun, NoByteRun};
+ghost use Rattle.orc_rle.specs.BitStream.{digit, IsBitStream, IsBitText};
+
+use crate::byte_runs::ByteRuns;
+use crate::fault::RunFault;
+use std::alloc::Global;
+
+/// Run lengths of booleans (ORC specification, "Run Length Encoding", "Boolean Run Length Encoding"):
+/// eight stand in a byte, the highest digit first, and the bytes are runs of bytes.
+pub struct BitRuns;
+
+impl BitRuns {
+    /// The `n` booleans that the runs of all of `bytes` have. What the spare digits of the last byte are
+    /// doesn't matter. Any `n` will do: no memory is set aside for it.
+    ///
+    /// Refusals: those of `ByteRuns::decode` for the least number of bytes that holds `n` booleans. So
+    /// `TooMany` comes where a run goes past that number of bytes, and `TooFew` where they end before it.
+    pub fn decode(alloc: Global, bytes: &[u8], n: usize) -> Result<Vec<bool>, RunFault>
+        ensures found { IfOk result (λ values. IsBitStream bytes.now values.items × (length values.items ≡ n)) }
+        ensures only { (values : List Bool) → IsBitStream bytes.now values → length values ≡ n
+            → MatchResult result (λ decoded. decoded.items ≡ values) (λ fault. fault ≡ OutOfMemory) }
+
+        ensures fault { IfErr result (λ fault. (fault ≡ OutOfMemory) ⊎ StopsWithin IsByteRun NoByteRun (packed_len 1 n) bytes.now fault) }
+        ensures refused { (fault : RunFault) → StopsWithin IsByteRun NoByteRun (packed_len 1 n) bytes.now fault → Refuses result fault }
+    {
+        let packed = ByteRuns::decode(alloc, bytes, n.div_ceil(8))?;
+        let mut values = Vec::new(alloc);
+        for i in 0..n {
+            values.push(digit_at(packed[i / 8], i % 8))?;
+        }
+        Ok(values)
+    }
+
+    /// Appends the one text that the writer makes of the booleans: what `ByteRuns::put_runs` appends for
+    /// the bytes that hold them, with spare digits of 0.
+    ///
+    /// A refusal, which is `OutOfMemory`, leaves `out` as it was.
+    pub fn put_runs(values: &[bool], out: &mut Vec<u8>) -> Result<(), RunFault>
+        ensures written { OnOk result (AppendsBytes IsBitText values.now out.old.items out.new.items) }
+
+        ensures refused { IfErr result (λ fault. fault ≡ OutOfMemory) }
+        ensures unchanged { OnErr result (out.new.items ≡ out.old.items) }
+    {
+        let packed = pack_digits(*out.allocator(), values)?;
+        ByteRuns::put_runs(&packed, out)
+    }
+}
+
+/// Whether the digit of a byte at this place, the highest at 0, is 1.
+fn digit_at(byte: u8, place: usize) -> bool
+    requires { place < 8 }
+    ensures { digit result ≡ get_or (bits byte 8) place 0 }
+{
+    (byte >> (7 - place)) % 2 == 1
+}
+
+/// The bytes that hold the values, with spare digits of 0.
+fn pack_digits(alloc: Global, values: &[bool]) -> Result<Vec<u8>, RunFault>
+    ensures held { IfOk result (λ packed. IsPackedText packed.items 1 (map digit values.now)) }
+    ensures refused { IfErr result (λ fault. fault ≡ OutOfMemory) }
+{
+    let mut packed = Vec::new(alloc);
+    let mut held = 0;
+    let mut count = 0;
+    for value in values {
+        (held, count) = put_digit(&mut packed, held, count, *value)?;
+    }
+    if count == 0 {
+        return Ok(packed);
+    }
+    packed.push(held << (8 - count))?;
+    Ok(packed)
+}
+
+/// Adds a digit to those held back for the next byte, and appends the byte once it has eight. Answers
+/// what is held back then, and how many digits that are.
+fn put_digit(out: &mut Vec<u8>, held: u8, count: u32, value: bool) -> Result<(u8, u32), RunFault>
+    requires few { count < 8 }
+    requires below { held < 2 ^ count }
+    ensures digits { IfOk result (λ left. digits 8 out.new.items ++ bits left.0 left.1 ≡ (digits 8 out.old.items ++ bits held count) ++ digit value ∷ []) }
+    ensures bytes { AllFit 8 out.old.items → OnOk result (AllFit 8 out.new.items) }
+    ensures few { IfOk result (λ left. left.1 < 8) }
+    ensures below { IfOk result (λ left. left.0 < 2 ^ left.1) }
+    ensures refused { IfErr result (λ fault. fault ≡ OutOfMemory) }
+{
+    let more = held * 2 + u8::from(value);
+    if count == 7 {
+        out.push(more)?;
+        return Ok((0, 0));
+    }
+    Ok((more, count + 1))
+}
+
+/// Writes the booleans and decodes what was written: it is the same booleans. `OutOfMemory` is the only
+/// refusal.
+pub fn bit_round_trip(alloc: Global, values: &[bool]) -> Result<Vec<bool>, RunFault>
+    ensures same { IfOk result (λ decoded. decoded.items ≡ values.now) }
+    ensures refused { IfErr result (λ fault. fault ≡ OutOfMemory) }
+{
+    let mut bytes = Vec::new(alloc);
+    BitRuns::put_runs(values, &mut bytes)?;
+    BitRuns::decode(alloc, &bytes, values.len())
+}
+
+/// Laws of streams of booleans: bytes are a stream of at most one list of so many booleans; where
+/// `decode` has a reason to refuse, the bytes are no stream of `n` booleans, and it has no other reason;
+/// booleans have one text, and it is a stream of them.
+pub fn bit_stream_laws()
+    ensures one_list { (bytes : List ℕ) (v w : List Bool) → length v ≡ length w → IsBitStream bytes v → IsBitStream bytes w → v ≡ w }
+    ensures none_within { (n : ℕ) (bytes : List ℕ) (v : List Bool) (fault : RunFault) → StopsWithin IsByteRun NoByteRun (packed_len 1 n) bytes fault
+        → IsBitStream bytes v → length v ≡ n → ⊥ }
+    ensures no_bytes { (v : List Bool) → IsBitStream [] v → v ≡ [] }
+
+    ensures one_text { (values : List Bool) (a b : List ℕ) → IsBitText values a → IsBitText values b → a ≡ b }
+    ensures again { (values : List Bool) (bytes : List ℕ) → IsBitText values bytes → IsBitStream bytes values }
+{}
