@@ -9,7 +9,7 @@ use crate::sign::Sign;
 use orc_bits::{BitFault, put_varint, read_varint, unzigzag, zigzag};
 
 /// The value that a number stands for, if it is in the sign's range.
-fn value_of(number: u64, sign: Sign) -> Option<i64>
+pub(crate) fn value_of(number: u64, sign: Sign) -> Option<i64>
     ensures some { IfSome result (λ v. Stands sign v number × InRange sign v) }
     ensures none { IfNone result (Stands sign (pos number) number × (InRange sign (pos number) → ⊥)) }
 {
