@@ -1,6 +1,6 @@
 -- Laws of deltas (ORC specification, "Integer Run Length Encoding, version 2", "Delta").
 -- None begins another; where a fault of theirs applies there is none, nor another fault of theirs.
-use Rattle.std.proofs.Common.{List, ℕ, ℤ, ◌≡◌, ◌++◌, sym, append_assoc, ◌∙◌, refl, ◌⊎◌, inl, [], inr, arith, subst, ◌∷◌, ap, ◌<◌, length, ◌-◌}
+use Rattle.std.proofs.Common.{List, ℕ, ℤ, ◌≡◌, ◌++◌, sym, append_assoc, ◌∙◌, refl, ◌⊎◌, inl, [], inr, arith, subst, ◌∷◌, ap, ◌<◌, length, ◌-◌, suc, ◌%◌, ◌*◌, ◌+◌}
 use Rattle.orc_bits.proofs.PackedLaws.{one_packed}
 use Rattle.orc_bits.proofs.VarintLaws.{one_chain, one_number, same_zig, no_varint, one_fault}
 use Rattle.orc_bits.specs.Packed.{IsPacked, packed_len}
@@ -15,6 +15,7 @@ use Rattle.orc_rle.specs.FrontLaws.{both, too_short, after_one}
 use Rattle.orc_rle.specs.Header.{code_in, count_in}
 use Rattle.orc_rle.specs.OneLaws.{Same, parts_of, one_value}
 use Rattle.orc_rle.specs.PlainFaults.{IsPlain, missing_plain, short_plain, plain}
+use Rattle.orc_rle.specs.RunOne.{progression}
 use Rattle.orc_rle.specs.Values.{Stands, run_fault}
 
 -- two beginnings of deltas, with what follows each
@@ -142,3 +143,13 @@ delta_plain head [] fault p = short_plain fault p
 delta_plain head (low ∷ rest) fault (inl p) = plain fault (BadDelta 0) p.1 refl (λ h. absurd cc)
 delta_plain head (low ∷ rest) fault (inr (a, inl p)) = start_plain rest fault p
 delta_plain head (low ∷ rest) fault (inr (a, inr p)) = short_plain fault p.fault_is
+
+pub delta_some : (sign : Sign) (a : List ℕ) → IsDelta sign a [] → ⊥
+delta_some sign a p =
+    elim p.steps [
+      | inl even ↦
+          let count : count_in p.head p.low ≡ suc (p.head % 2 * 256 + p.low) = omega arith in
+          let values = even.values_are ∙ ap (λ (n : ℕ). progression p.first p.step n) count in
+          cc
+      | inr sized ↦ let values = sized.values_are in cc
+    ]

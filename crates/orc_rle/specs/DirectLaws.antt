@@ -54,3 +54,10 @@ one_direct_fault head (low ∷ rest) e f p q = p.1 ∙ sym q.1
 pub direct_plain : (head : ℕ) (rest : List ℕ) (fault : RunFault) → NoDirect head rest fault → IsPlain fault
 direct_plain head [] fault p = short_plain fault p
 direct_plain head (low ∷ rest) fault p = short_plain fault p.1
+
+none_stand : (sign : Sign) (ns : List ℕ) → AllStand sign [] ns → length ns ≡ 0
+none_stand sign [] h = refl
+none_stand sign (n ∷ ns) h = absurd h
+
+pub direct_some : (sign : Sign) (a : List ℕ) → IsDirect sign a [] → ⊥
+direct_some sign a p = omega (arith, p.len, none_stand sign p.numbers p.stand)

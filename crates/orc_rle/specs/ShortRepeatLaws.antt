@@ -1,6 +1,6 @@
 -- Laws of short repeats (ORC specification, "Integer Run Length Encoding, version 2", "Short Repeat").
 -- None begins another, and where bytes lack one there is none.
-use Rattle.std.proofs.Common.{List, ℕ, ℤ, ◌++◌, ◌≡◌, ◌∷◌, arith, ◌/◌, ◌+◌, refl, subst, ◌∙◌, sym}
+use Rattle.std.proofs.Common.{List, ℕ, ℤ, ◌++◌, ◌≡◌, ◌∷◌, arith, ◌/◌, ◌+◌, refl, subst, ◌∙◌, sym, [], ◌%◌, suc, ap, replicate}
 use Rattle.byteorder.specs.Endian.{big_number}
 use Rattle.orc_bits.proofs.PackedLaws.{same_length}
 use Rattle.orc_rle.specs.declared.fault.RunFault.{RunFault}
@@ -28,3 +28,9 @@ repeat_none sign head rest a x v fault n p e =
     let h = after_one head p.head rest p.text a x p.bytes_are e in
     let same = h.0 in
     too_short (head / 8 + 1) rest p.text x (omega (arith, p.len, same)) h.1 n.0
+
+pub repeat_some : (sign : Sign) (a : List ℕ) → IsShortRepeat sign a [] → ⊥
+repeat_some sign a p =
+    let count : p.head % 8 + 3 ≡ suc (p.head % 8 + 2) = omega arith in
+    let values = p.values_are ∙ ap (λ (n : ℕ). replicate n p.value) count in
+    cc

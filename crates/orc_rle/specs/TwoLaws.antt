@@ -4,14 +4,14 @@ use Rattle.std.proofs.Common.{List, ℕ, ℤ, ◌++◌, ◌≡◌, inl, inr, ari
 use Rattle.orc_rle.specs.declared.fault.RunFault.{RunFault}
 use Rattle.orc_rle.specs.declared.fault.RunFault.TheVariants.{Short, ValueRange}
 use Rattle.orc_rle.specs.declared.sign.Sign.{Sign}
-use Rattle.orc_rle.specs.DeltaLaws.{both_delta, delta_none, one_delta_fault, delta_plain}
-use Rattle.orc_rle.specs.DirectLaws.{both_direct, direct_none, one_direct_fault, direct_plain}
+use Rattle.orc_rle.specs.DeltaLaws.{both_delta, delta_none, delta_some, one_delta_fault, delta_plain}
+use Rattle.orc_rle.specs.DirectLaws.{both_direct, direct_none, direct_some, one_direct_fault, direct_plain}
 use Rattle.orc_rle.specs.FrontLaws.{heads, after_one}
 use Rattle.orc_rle.specs.OneLaws.{Same}
-use Rattle.orc_rle.specs.PatchedLaws.{both_patched, patched_none, one_patched_fault, patched_plain}
+use Rattle.orc_rle.specs.PatchedLaws.{both_patched, patched_none, patched_some, one_patched_fault, patched_plain}
 use Rattle.orc_rle.specs.PlainFaults.{IsPlain, short_plain, plain}
 use Rattle.orc_rle.specs.RunTwo.{IsShapeTwo, IsRunTwo, NoShapeTwo, NoRunTwo}
-use Rattle.orc_rle.specs.ShortRepeatLaws.{both_repeat, repeat_none}
+use Rattle.orc_rle.specs.ShortRepeatLaws.{both_repeat, repeat_none, repeat_some}
 use Rattle.orc_rle.specs.Values.{AllInRange}
 
 pub one_shape_two : (sign : Sign) (a b x y : List ℕ) (v w : List ℤ) → IsShapeTwo sign a v → IsShapeTwo sign b w → a ++ x ≡ b ++ y → Same a b x y v w
@@ -66,8 +66,19 @@ no_run_two sign a x v fault (inr n) run =
     let s = one_shape_two sign a k.front x k.rest v k.values run.shape k.shape k.parts in
     k.out (subst (λ (t : List ℤ). AllInRange sign t) s.values run.in_range)
 
+-- a run has bytes
 pub not_empty_two : (sign : Sign) (v : List ℤ) → IsRunTwo sign [] v → ⊥
 not_empty_two sign v run = no_run_two sign [] [] v (Short 0) (inl refl) run
+
+some_values_in : (sign : Sign) (a : List ℕ) → IsShapeTwo sign a [] → ⊥
+some_values_in sign a (inl p) = repeat_some sign a p
+some_values_in sign a (inr (inl p)) = direct_some sign a p
+some_values_in sign a (inr (inr (inl p))) = patched_some a p
+some_values_in sign a (inr (inr (inr p))) = delta_some sign a p
+
+-- a run has values
+pub some_values_two : (sign : Sign) (a : List ℕ) → IsRunTwo sign a [] → ⊥
+some_values_two sign a run = some_values_in sign a run.shape
 
 one_shape_fault : (bytes : List ℕ) (e f : RunFault) → NoShapeTwo bytes e → NoShapeTwo bytes f → e ≡ f
 one_shape_fault [] e f p q = p ∙ sym q
