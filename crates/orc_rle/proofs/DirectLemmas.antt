@@ -1,17 +1,21 @@
--- Direct runs, as they are read.
-use Rattle.std.proofs.Common.{List, ℤ, ℕ, ◌++◌, ◌∷◌, [], ◌<◌, length, get_or, arith, zero, subst, suc, pos, refl, ◌%◌, inl, ◌/◌, inr, negsuc, ◌≤◌, ◌≡◌, take, drop, ap, sym, ◌∙◌}
+-- Direct runs, as they are read and written.
+use Rattle.std.proofs.Common.{List, ℤ, ℕ, ◌++◌, ◌∷◌, [], ◌<◌, length, get_or, arith, zero, subst, suc, pos, refl, ◌%◌, inl, ◌/◌, inr, negsuc, ◌≤◌, ◌≡◌, take, drop, ap, sym, ◌∙◌, append_assoc, ◌+◌, set, take_all}
 use Rattle.std.proofs.lemmas.Bool.{cases_lt}
-use Rattle.std.proofs.lemmas.List.{take-append-drop}
-use Rattle.orc_bits.specs.Packed.{IsPacked}
+use Rattle.std.proofs.lemmas.List.{take-append-drop, take_more, take_more_set}
+use Rattle.orc_bits.specs.Packed.{IsPacked, AppendsPacked}
 use Rattle.orc_bits.specs.Width.{width_at}
 use Rattle.orc_rle.specs.declared.fault.RunFault.TheVariants.{ValueRange}
 use Rattle.orc_rle.specs.declared.sign.Sign.{Sign}
 use Rattle.orc_rle.specs.declared.sign.Sign.TheVariants.{Unsigned, Signed}
+use Rattle.orc_rle.specs.AlignedWidth.{HoldsAll}
 use Rattle.orc_rle.specs.Direct.{AllStand}
-use Rattle.orc_rle.specs.Header.{count_in, code_in}
+use Rattle.orc_rle.specs.DirectText.{IsDirectText}
+use Rattle.orc_rle.specs.Header.{count_in, code_in, header}
+use Rattle.orc_rle.specs.Least.{IsLeast}
+use Rattle.orc_rle.specs.LeastLaws.{length-stand}
 use Rattle.orc_rle.specs.OneLaws.{one_value}
 use Rattle.orc_rle.specs.RunTwo.{NoRunTwo}
-use Rattle.orc_rle.specs.Values.{Stands, InRange, AllInRange}
+use Rattle.orc_rle.specs.Values.{Stands, InRange, AllInRange, AppendsBytes}
 
 pub AllStand-push : (sign : Sign) (vs : List ℤ) (ns : List ℕ) (v : ℤ) (n : ℕ) → AllStand sign vs ns → Stands sign v n → AllStand sign (vs ++ v ∷ []) (ns ++ n ∷ [])
 AllStand-push sign [] [] v n h s = (s, tt)
@@ -55,3 +59,23 @@ direct_out sign head low len count rest numbers ge lt is n p out =
       },
       refl,
     )
+
+-- the text of the direct form
+pub direct_text : (sign : Sign) (chunk : List ℤ) (ns : List ℕ) (code : ℕ) (old mid new : List ℕ) → AllStand sign chunk ns → IsLeast (HoldsAll 1 ns) code
+    → mid ≡ old ++ header 1 code (length ns) → AppendsPacked (width_at code) ns mid new → AppendsBytes (IsDirectText sign) chunk old new
+direct_text sign chunk ns code old mid new stand width e p =
+    let len = length-stand sign chunk ns stand in (
+      header 1 code (length chunk) ++ p.0,
+      record { numbers = ns; code = code; packed = p.0; stand = stand; width = width; packed_is = p.1; text_is = refl },
+      p.2 ∙ (ap (λ (t : List ℕ). t ++ p.0) (e ∙ ap (λ (n : ℕ). old ++ header 1 code n) (sym len)) ∙ append_assoc old (header 1 code (length chunk)) p.0),
+    )
+
+pub stand_more : (sign : Sign) (vs : List ℤ) (ns : List ℕ) (i n : ℕ) → i < length vs → i < length ns → AllStand sign (take i vs) (take i ns) → Stands sign (get_or vs i (pos 0)) n
+    → AllStand sign (take (i + 1) vs) (take (i + 1) (set ns i n))
+stand_more sign vs ns i n lt le h s = rw (take_more vs i (pos 0) lt, take_more_set ns i n le) (AllStand-push sign (take i vs) (take i ns) (get_or vs i (pos 0)) n h s)
+
+pub stand_all : (sign : Sign) (vs : List ℤ) (ns : List ℕ) (i : ℕ) → length vs ≤ i → length ns ≡ length vs → AllStand sign (take i vs) (take i ns) → AllStand sign vs ns
+stand_all sign vs ns i le same h =
+    let left = take_all i vs le in
+    let right = take_all i ns (omega (arith, le, same)) in
+    subst (λ (t : List ℕ). AllStand sign vs t) right (subst (λ (t : List ℤ). AllStand sign t (take i ns)) left h)
