@@ -56,12 +56,7 @@ fn chunk_len(values: &[i64]) -> usize
 }
 
 /// Appends a value 3 to 512 times. After a refusal a front of the text may be there.
-fn put_equal(
-    value: i64,
-    count: usize,
-    sign: Sign,
-    out: &mut Vec<u8>,
-) -> Result<(), RunFault>
+fn put_equal(value: i64, count: usize, sign: Sign, out: &mut Vec<u8>) -> Result<(), RunFault>
     requires few { 3 ≤ count }
     requires most { count ≤ 512 }
     requires in_range { InRange sign value }
