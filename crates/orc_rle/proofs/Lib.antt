@@ -7,3 +7,15 @@ pub mod StreamLemmas
 pub mod ByteLemmas
 pub mod BitLemmas
 pub mod RoundTrips
+pub mod ShortRepeatLemmas
+pub mod DirectLemmas
+pub mod DeltaLemmas
+pub mod PatchedLemmas
+pub mod WidthLemmas
+pub mod DeltaTextLemmas
+pub mod ChoiceLemmas
+pub mod EntryLemmas
+pub mod PatchWidthLemmas
+pub mod PlanLemmas
+pub mod PutLemmas
+pub mod EqualLemmas
