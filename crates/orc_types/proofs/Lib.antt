@@ -18,3 +18,4 @@ pub mod JsonFronts
 pub mod JsonLaws
 pub mod JsonPrints
 pub mod JsonBack
+pub mod Deeper
