@@ -1,0 +1,5 @@
+pub mod Folding
+pub mod Shuffled
+pub mod Words
+pub mod Parts
+pub mod ReadBack

@@ -1,0 +1,39 @@
+//! Laws of statistics. Each function does nothing: its contract is what it is for.
+ghost use Rattle.std.specs.Prelude.{◌≡◌, ◌≤◌, ◌^◌, ◌++◌, ◌∷◌, true, false, Some, List, IsPermutation, flat_map, length, map};
+ghost use Rattle.std.specs.List.{AllByRecursion};
+ghost use Rattle.orc_types.specs.Cells.{Cell};
+ghost use Rattle.orc_stats.specs.declared.kind.StatKind.{StatKind};
+ghost use Rattle.orc_stats.specs.declared.kind.StatKind.TheVariants as kind;
+ghost use Rattle.orc_stats.specs.declared.stat.Stat.{Stat};
+ghost use Rattle.orc_stats.specs.declared.stat.Body.{Body};
+ghost use Rattle.orc_stats.specs.Kinds.{is_of};
+ghost use Rattle.orc_stats.specs.Statistics.{stat};
+ghost use Rattle.orc_stats.specs.Joining.{joined};
+ghost use Rattle.orc_stats.specs.Whole.{whole};
+ghost use Rattle.orc_stats.specs.Messages.{IsStat, stat_read, message_of};
+ghost use Rattle.orc_stats.specs.Tallies.{Kept, none_kept, together, counted};
+
+use crate::tally::Tally;
+
+/// Joined statistics have no order, one of no cells adds nothing, and those of parts are the statistic of the whole, but for a sum
+/// that a part has lost.
+pub fn join_laws()
+    ensures order { (k : StatKind) (xs ys : List Stat) → IsPermutation xs ys → joined k ys ≡ joined k xs }
+    ensures empty { (k : StatKind) (o : Body) (ss : List Stat) → let none : Stat = record { count = 0; nulls = Some false; body = o } in joined k (none ∷ ss) ≡ joined k ss }
+    ensures parts { (k : StatKind) (parts : List (List Cell)) → AllByRecursion (AllByRecursion (λ c. is_of k c ≡ true)) parts
+        → length (flat_map (λ p. p) parts) ≤ 2 ^ 62 → joined k (map (stat k) parts) ≡ whole k parts }
+{}
+
+/// A statistic that was put reads back by its kind.
+pub fn message_laws()
+    ensures { (k : StatKind) (s : Stat) → IsStat k s → stat_read k (message_of s) ≡ s }
+{}
+
+/// Tallies come together in any order and grouping, that of nothing adds nothing, and the tally of two
+/// lists of cells, one after the other, is that of both together.
+pub fn tally_laws<'r, T: Tally<'r>>()
+    ensures commutative { (a b : Kept T.Parts) → together T.measure a b ≡ together T.measure b a }
+    ensures associative { (a b c : Kept T.Parts) → together T.measure (together T.measure a b) c ≡ together T.measure a (together T.measure b c) }
+    ensures unit { (a : Kept T.Parts) → together T.measure (none_kept T.measure) a ≡ a }
+    ensures append { (a b : List Cell) → counted T.measure (a ++ b) ≡ together T.measure (counted T.measure a) (counted T.measure b) }
+{}
