@@ -1,5 +1,6 @@
 pub mod Folding
 pub mod Shuffled
+pub mod Meanings
 pub mod Words
 pub mod Parts
 pub mod ReadBack

@@ -45,7 +45,7 @@ whole_nulls k (p ∷ ps) =
 
 whole_is : (k : StatKind) (parts : List (List Cell))
     → (let cells = flat_map (λ p. p) parts in
-       bodies_joined k (valued_bodies (map (stat k) parts)) ≡ (if list_all (λ p. keeps_sum (stat k p)) parts then values_body k cells else without_sum (values_body k cells)))
+    bodies_joined k (valued_bodies (map (stat k) parts)) ≡ (if list_all (λ p. keeps_sum (stat k p)) parts then values_body k cells else without_sum (values_body k cells)))
     → joined k (map (stat k) parts) ≡ whole k parts
 whole_is k parts e = stat_is plain (whole_count k parts) (whole_nulls k parts) e
 

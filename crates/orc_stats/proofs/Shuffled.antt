@@ -1,5 +1,5 @@
 -- Tallies in any order.
-use Rattle.std.proofs.Common.{◌≡◌, refl, sym, ◌∙◌, ap, arith, ℕ, zero, suc, ◌<◌, List, [], ◌∷◌, length, map, get_or, set, ◌≢◌, inl, inr}
+use Rattle.std.proofs.Common.{◌≡◌, refl, sym, ◌∙◌, ap, arith, ℕ, zero, suc, ◌+◌, ◌<◌, List, [], ◌∷◌, length, map, get_or, set, ◌≢◌, inl, inr}
 use Rattle.std.specs.List.{swap}
 use Rattle.std.specs.List.Sorted.{IsPermutation}
 use Rattle.std.proofs.lemmas.List.{set-get_or, set_comm}
@@ -12,11 +12,18 @@ use Rattle.orc_stats.specs.declared.stat.Stat.{Stat}
 use Rattle.orc_stats.specs.declared.stat.Body.{Body}
 use Rattle.orc_stats.specs.declared.kind.StatKind.{StatKind}
 use Rattle.orc_stats.specs.declared.kind.StatKind.TheVariants as kind
+use Rattle.std.specs.List.{filter_map}
+use Rattle.std.specs.Option.{option_map}
+use Rattle.orc_types.specs.Cells.{Cell}
+use Rattle.orc_stats.specs.declared.stat.Body.TheVariants as body
+use Rattle.orc_stats.specs.Seen.{known_of}
+use Rattle.orc_stats.specs.Statistics.{reduce, bit, bool_of, stat}
+use Rattle.orc_stats.specs.Orders.{nat_sums}
 use Rattle.orc_stats.specs.Joining.{joined}
-use Rattle.orc_stats.specs.Tallies.{Measure, Kept, together, stat_kept, all_kept, gathered, closed}
+use Rattle.orc_stats.specs.Tallies.{Measure, Kept, together, cell_kept, stat_kept, all_kept, counted, gathered, closed}
 use Rattle.orc_stats.specs.Measures.{ints, dates, texts, bools, bins, plain}
-use Rattle.orc_stats.specs.TallyLaws.{together_comm, together_assoc, stat_is}
-use Rattle.orc_stats.specs.TallyKinds.{ints_stats, dates_stats, texts_stats, bools_stats, bins_stats, plain_stats}
+use Rattle.orc_stats.specs.TallyLaws.{together_comm, together_assoc, stat_is, counted_parts, counted_count, counted_nulls, known_values}
+use Rattle.orc_stats.specs.TallyKinds.{ints_cells, dates_cells, texts_cells, bins_cells, plain_cells, ints_stats, dates_stats, texts_stats, bools_stats, bins_stats, plain_stats, picked_map}
 
 module _ {P : Type 0} (m : Measure P) where
   together_left : (x u r : Kept P) → together m x (together m u r) ≡ together m u (together m x r)
@@ -66,8 +73,31 @@ module _ {P : Type 0} (m : Measure P) where
   all_kept-shuffled : (xs ys : List (Kept P)) → IsPermutation xs ys → all_kept m ys ≡ all_kept m xs
   all_kept-shuffled xs ys same = IsPermutation-keeps xs (λ l. all_kept m l ≡ all_kept m xs) refl (λ l i j p q h. swapped l i j p q ∙ h) ys same
 
+  pub counted-shuffled : (xs ys : List Cell) → IsPermutation xs ys → counted m ys ≡ counted m xs
+  counted-shuffled xs ys same = all_kept-shuffled (map (cell_kept m) xs) (map (cell_kept m) ys) (IsPermutation-map (cell_kept m) xs ys same)
+
   pub gathered-shuffled : (xs ys : List Stat) → IsPermutation xs ys → gathered m ys ≡ gathered m xs
   gathered-shuffled xs ys same = all_kept-shuffled (map (stat_kept m) xs) (map (stat_kept m) ys) (IsPermutation-map (stat_kept m) xs ys same)
+
+-- the statistic of cells has no order
+trues_counted : (cells : List Cell) → known_of (counted bools cells).parts ≡ reduce ◌+◌ (map bit (filter_map bool_of cells))
+trues_counted cells =
+    ap known_of (counted_parts bools cells)
+    ∙ known_values ◌+◌ nat_sums (λ c. option_map bit (bool_of c)) cells
+    ∙ ap (reduce ◌+◌) (picked_map bit bool_of cells)
+
+pub stat-shuffled : (k : StatKind) (xs ys : List Cell) → IsPermutation xs ys → stat k ys ≡ stat k xs
+stat-shuffled kind.Plain xs ys same = sym (plain_cells ys) ∙ ap (closed plain) (counted-shuffled plain xs ys same) ∙ plain_cells xs
+stat-shuffled kind.Ints xs ys same = sym (ints_cells ys) ∙ ap (closed ints) (counted-shuffled ints xs ys same) ∙ ints_cells xs
+stat-shuffled kind.Bools xs ys same =
+    let kept = counted-shuffled bools xs ys same in
+    stat_is bools
+    (sym (counted_count bools ys) ∙ ap (λ t. t.count) kept ∙ counted_count bools xs)
+    (sym (counted_nulls bools ys) ∙ ap (λ t. t.nulls) kept ∙ counted_nulls bools xs)
+    (ap body.Bools (sym (trues_counted ys) ∙ ap (λ t. known_of t.parts) kept ∙ trues_counted xs))
+stat-shuffled kind.Dates xs ys same = sym (dates_cells ys) ∙ ap (closed dates) (counted-shuffled dates xs ys same) ∙ dates_cells xs
+stat-shuffled kind.Texts xs ys same = sym (texts_cells ys) ∙ ap (closed texts) (counted-shuffled texts xs ys same) ∙ texts_cells xs
+stat-shuffled kind.Bins xs ys same = sym (bins_cells ys) ∙ ap (closed bins) (counted-shuffled bins xs ys same) ∙ bins_cells xs
 
 -- joined statistics have no order
 pub joined-shuffled : (k : StatKind) (xs ys : List Stat) → IsPermutation xs ys → joined k ys ≡ joined k xs

@@ -41,7 +41,7 @@ module _ {A : Type 0} (op : A → A → A) (o : IsOrderly op) where
   -- a part adds what its body has, where it has values
   pub valued : (f : Body → Seen A) (k : StatKind) (p : List Cell) (ps : List (List Cell))
       → all (seen op o) (map f (valued_bodies (map (stat k) (p ∷ ps))))
-        ≡ both op (if has_values (stat k p) then f (values_body k p) else Nothing) (all (seen op o) (map f (valued_bodies (map (stat k) ps))))
+      ≡ both op (if has_values (stat k p) then f (values_body k p) else Nothing) (all (seen op o) (map f (valued_bodies (map (stat k) ps))))
   valued f k p ps = valued_more f (has_values (stat k p)) (stat k p) (filter has_values (map (stat k) ps))
 
   value_same : (n : ℕ) (xs : List A) → n ≡ length xs → (if nat_lt 0 n then seen_of (reduce op xs) else Nothing) ≡ value_seen (reduce op xs)
@@ -50,8 +50,8 @@ module _ {A : Type 0} (op : A → A → A) (o : IsOrderly op) where
 
   -- where a body's part is its values' put together
   module _ (k : StatKind) (part : Body → Option A) (pick : Cell → Option A)
-    (is : (p : List Cell) → part (values_body k p) ≡ reduce op (filter_map pick p))
-    (few : (p : List Cell) → AllByRecursion (λ c. is_of k c ≡ true) p → length (values p) ≡ length (filter_map pick p)) where
+      (is : (p : List Cell) → part (values_body k p) ≡ reduce op (filter_map pick p))
+      (few : (p : List Cell) → AllByRecursion (λ c. is_of k c ≡ true) p → length (values p) ≡ length (filter_map pick p)) where
     part_same : (p : List Cell) → AllByRecursion (λ c. is_of k c ≡ true) p
         → (if has_values (stat k p) then seen_of (part (values_body k p)) else Nothing) ≡ value_seen (reduce op (filter_map pick p))
     part_same p h = ap (λ r. if has_values (stat k p) then seen_of r else Nothing) (is p) ∙ value_same (length (values p)) (filter_map pick p) (few p h)
@@ -75,7 +75,7 @@ module _ {A : Type 0} (op : A → A → A) (o : IsOrderly op) where
     -- the same where what is put together has a limit
     pub word_in : (f : A → Option A) (parts : List (List Cell)) → AllByRecursion (AllByRecursion (λ c. is_of k c ≡ true)) parts
         → of_known (λ xs. option_and_then f (reduce op xs)) (map part (valued_bodies (map (stat k) parts)))
-          ≡ option_and_then f (reduce op (filter_map pick (flat_map (λ p. p) parts)))
+        ≡ option_and_then f (reduce op (filter_map pick (flat_map (λ p. p) parts)))
     word_in f parts h =
         sym (known_all_in op o f part (valued_bodies (map (stat k) parts)))
         ∙ ap (λ s. option_and_then f (known_of s)) (parts_same parts h)
@@ -98,7 +98,7 @@ sum_same n (z ∷ zs) e = rw (positive n (length zs) e) (sum_fits (signed_fits 6
 
 sums_appended : (c d : Bool) (xs ys : List ℤ)
     → both ◌+ℤ◌ (if c then value_seen (exact_total xs) else Unknown) (if d then value_seen (exact_total ys) else Unknown)
-      ≡ (if c && d then value_seen (exact_total (xs ++ ys)) else Unknown)
+    ≡ (if c && d then value_seen (exact_total (xs ++ ys)) else Unknown)
 sums_appended true true xs ys = appended ◌+ℤ◌ int_sums xs ys
 sums_appended true false xs ys = lost_on (value_seen (exact_total xs))
 sums_appended false d xs ys = unknown_stays ◌+ℤ◌ int_sums (if d then value_seen (exact_total ys) else Unknown)
@@ -108,12 +108,12 @@ fitting true r = ap (option_and_then in_64) (known_value ◌+ℤ◌ int_sums r)
 fitting false r = refl
 
 module _ (k : StatKind) (pick : Cell → Option ℤ)
-  (is : (p : List Cell) → sum_of (values_body k p) ≡ total (filter_map pick p))
-  (has : (p : List Cell) → has_sum (values_body k p) ≡ is_some (sum_of (values_body k p)))
-  (few : (p : List Cell) → AllByRecursion (λ c. is_of k c ≡ true) p → length (values p) ≡ length (filter_map pick p)) where
+    (is : (p : List Cell) → sum_of (values_body k p) ≡ total (filter_map pick p))
+    (has : (p : List Cell) → has_sum (values_body k p) ≡ is_some (sum_of (values_body k p)))
+    (few : (p : List Cell) → AllByRecursion (λ c. is_of k c ≡ true) p → length (values p) ≡ length (filter_map pick p)) where
   sum_counted : (p : List Cell) → AllByRecursion (λ c. is_of k c ≡ true) p
       → (if has_values (stat k p) then seen_of (sum_of (values_body k p)) else Nothing)
-        ≡ (if keeps_sum (stat k p) then value_seen (exact_total (filter_map pick p)) else Unknown)
+      ≡ (if keeps_sum (stat k p) then value_seen (exact_total (filter_map pick p)) else Unknown)
   sum_counted p h =
       ap (λ r. if has_values (stat k p) then seen_of r else Nothing) (is p)
       ∙ sum_same (length (values p)) (filter_map pick p) (few p h)
@@ -121,7 +121,7 @@ module _ (k : StatKind) (pick : Cell → Option ℤ)
 
   sums_counted : (parts : List (List Cell)) → AllByRecursion (AllByRecursion (λ c. is_of k c ≡ true)) parts
       → all int_totals (map (λ b. seen_of (sum_of b)) (valued_bodies (map (stat k) parts)))
-        ≡ (if list_all (λ p. keeps_sum (stat k p)) parts then value_seen (exact_total (filter_map pick (flat_map (λ p. p) parts))) else Unknown)
+      ≡ (if list_all (λ p. keeps_sum (stat k p)) parts then value_seen (exact_total (filter_map pick (flat_map (λ p. p) parts))) else Unknown)
   sums_counted [] h = refl
   sums_counted (p ∷ ps) h =
       let c = keeps_sum (stat k p) in
@@ -134,7 +134,7 @@ module _ (k : StatKind) (pick : Cell → Option ℤ)
 
   pub sum_word : (parts : List (List Cell)) → AllByRecursion (AllByRecursion (λ c. is_of k c ≡ true)) parts
       → of_known total (map sum_of (valued_bodies (map (stat k) parts)))
-        ≡ (if list_all (λ p. keeps_sum (stat k p)) parts then total (filter_map pick (flat_map (λ p. p) parts)) else None)
+      ≡ (if list_all (λ p. keeps_sum (stat k p)) parts then total (filter_map pick (flat_map (λ p. p) parts)) else None)
   sum_word parts h =
       sym (known_all_in ◌+ℤ◌ int_sums in_64 sum_of (valued_bodies (map (stat k) parts)))
       ∙ ap (λ s. option_and_then in_64 (known_of s)) (sums_counted parts h)

@@ -2,6 +2,7 @@ pub mod Kinds
 pub mod Statistics
 pub mod Joining
 pub mod Whole
+pub mod Meanings
 pub mod Messages
 pub mod Faults
 pub mod Seen

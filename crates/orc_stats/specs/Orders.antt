@@ -130,7 +130,7 @@ module _ {A : Type 0} (cmp : A → A → Ordering) (total : IsTotalOrder cmp) (s
   pub lower_orderly : IsOrderly (lower cmp)
   lower_orderly = record { comm = lower_comm; assoc = lower_assoc }
 
-flipped_same : {A : Type 0} {cmp : A → A → Ordering} → IsAntisymmetric cmp → IsAntisymmetric (flip_args cmp)
+pub flipped_same : {A : Type 0} {cmp : A → A → Ordering} → IsAntisymmetric cmp → IsAntisymmetric (flip_args cmp)
 flipped_same same x y e = sym (same y x e)
 
 pub lower_ints : IsOrderly (lower int_cmp)

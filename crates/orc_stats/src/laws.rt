@@ -1,5 +1,7 @@
 //! Laws of statistics. Each function does nothing: its contract is what it is for.
-ghost use Rattle.std.specs.Prelude.{◌≡◌, ◌≤◌, ◌^◌, ◌++◌, ◌∷◌, true, false, Some, List, IsPermutation, flat_map, length, map};
+ghost use Rattle.std.specs.Ordering.{int_cmp, flip_args};
+ghost use Rattle.orc_stats.specs.Meanings.{IsLowest, added};
+ghost use Rattle.std.specs.Prelude.{◌≡◌, ◌↔◌, ℕ, ℤ, ◌≤◌, ◌^◌, ◌++◌, ◌∷◌, true, false, Some, List, IsPermutation, flat_map, length, map};
 ghost use Rattle.std.specs.List.{AllByRecursion};
 ghost use Rattle.orc_types.specs.Cells.{Cell};
 ghost use Rattle.orc_stats.specs.declared.kind.StatKind.{StatKind};
@@ -7,13 +9,25 @@ ghost use Rattle.orc_stats.specs.declared.kind.StatKind.TheVariants as kind;
 ghost use Rattle.orc_stats.specs.declared.stat.Stat.{Stat};
 ghost use Rattle.orc_stats.specs.declared.stat.Body.{Body};
 ghost use Rattle.orc_stats.specs.Kinds.{is_of};
-ghost use Rattle.orc_stats.specs.Statistics.{stat};
+ghost use Rattle.orc_stats.specs.Statistics.{least, greatest, text_cmp, exact_total, stat};
 ghost use Rattle.orc_stats.specs.Joining.{joined};
 ghost use Rattle.orc_stats.specs.Whole.{whole};
 ghost use Rattle.orc_stats.specs.Messages.{IsStat, stat_read, message_of};
 ghost use Rattle.orc_stats.specs.Tallies.{Kept, none_kept, together, counted};
 
 use crate::tally::Tally;
+
+/// What the words of a statistic of cells mean: it has no order; the least value is one of them, and
+/// none is less; the greatest likewise; the total is the exact one.
+pub fn stat_laws()
+    ensures order { (k : StatKind) (xs ys : List Cell) → IsPermutation xs ys → stat k ys ≡ stat k xs }
+
+    ensures least_number { (zs : List ℤ) (z : ℤ) → (least int_cmp zs ≡ Some z) ↔ IsLowest int_cmp zs z }
+    ensures greatest_number { (zs : List ℤ) (z : ℤ) → (greatest int_cmp zs ≡ Some z) ↔ IsLowest (flip_args int_cmp) zs z }
+    ensures least_text { (ts : List (List ℕ)) (t : List ℕ) → (least text_cmp ts ≡ Some t) ↔ IsLowest text_cmp ts t }
+    ensures greatest_text { (ts : List (List ℕ)) (t : List ℕ) → (greatest text_cmp ts ≡ Some t) ↔ IsLowest (flip_args text_cmp) ts t }
+    ensures total { (z : ℤ) (zs : List ℤ) → exact_total (z ∷ zs) ≡ Some (added (z ∷ zs)) }
+{}
 
 /// Joined statistics have no order, one of no cells adds nothing, and those of parts are the statistic of the whole, but for a sum
 /// that a part has lost.
