@@ -15,7 +15,7 @@ use Rattle.orc_stats.specs.Statistics.{bit}
 use Rattle.orc_stats.specs.Tallies.{Measure, Kept, together, cell_kept, stat_kept, counted, gathered}
 use Rattle.orc_stats.specs.TallyLaws.{together_assoc, none_together, counted_count, gathered_count}
 
-few_values : (cells : List Cell) → length (values cells) ≤ length cells
+pub few_values : (cells : List Cell) → length (values cells) ≤ length cells
 few_values [] = omega arith
 few_values (null ∷ cells) = let h = few_values cells in omega arith
 few_values (leaf a ∷ cells) = let h = few_values cells in omega arith

@@ -3,4 +3,5 @@ pub mod Shuffled
 pub mod Meanings
 pub mod Words
 pub mod Parts
+pub mod Normal
 pub mod ReadBack

@@ -50,7 +50,7 @@ whole_is : (k : StatKind) (parts : List (List Cell))
 whole_is k parts e = stat_is plain (whole_count k parts) (whole_nulls k parts) e
 
 -- as many values of a kind as cells that aren't null
-few_ints : (p : List Cell) → AllByRecursion (λ c. is_of kind.Ints c ≡ true) p → length (values p) ≡ length (filter_map int_of p)
+pub few_ints : (p : List Cell) → AllByRecursion (λ c. is_of kind.Ints c ≡ true) p → length (values p) ≡ length (filter_map int_of p)
 few_ints [] h = refl
 few_ints (null ∷ p) h = few_ints p h.1
 few_ints (leaf (int z) ∷ p) h = ap suc (few_ints p h.1)
@@ -58,7 +58,7 @@ few_ints (leaf _ ∷ p) h = cc
 few_ints (list cs ∷ p) h = cc
 few_ints (struct cs ∷ p) h = cc
 
-few_dates : (p : List Cell) → AllByRecursion (λ c. is_of kind.Dates c ≡ true) p → length (values p) ≡ length (filter_map date_of p)
+pub few_dates : (p : List Cell) → AllByRecursion (λ c. is_of kind.Dates c ≡ true) p → length (values p) ≡ length (filter_map date_of p)
 few_dates [] h = refl
 few_dates (null ∷ p) h = few_dates p h.1
 few_dates (leaf (date z) ∷ p) h = ap suc (few_dates p h.1)
@@ -66,7 +66,7 @@ few_dates (leaf _ ∷ p) h = cc
 few_dates (list cs ∷ p) h = cc
 few_dates (struct cs ∷ p) h = cc
 
-few_bools : (p : List Cell) → AllByRecursion (λ c. is_of kind.Bools c ≡ true) p → length (values p) ≡ length (filter_map (λ c. option_map bit (bool_of c)) p)
+pub few_bools : (p : List Cell) → AllByRecursion (λ c. is_of kind.Bools c ≡ true) p → length (values p) ≡ length (filter_map (λ c. option_map bit (bool_of c)) p)
 few_bools [] h = refl
 few_bools (null ∷ p) h = few_bools p h.1
 few_bools (leaf (bool z) ∷ p) h = ap suc (few_bools p h.1)
@@ -74,7 +74,7 @@ few_bools (leaf _ ∷ p) h = cc
 few_bools (list cs ∷ p) h = cc
 few_bools (struct cs ∷ p) h = cc
 
-few_texts : (p : List Cell) → AllByRecursion (λ c. is_of kind.Texts c ≡ true) p → length (values p) ≡ length (filter_map text_of p)
+pub few_texts : (p : List Cell) → AllByRecursion (λ c. is_of kind.Texts c ≡ true) p → length (values p) ≡ length (filter_map text_of p)
 few_texts [] h = refl
 few_texts (null ∷ p) h = few_texts p h.1
 few_texts (leaf (text z) ∷ p) h = ap suc (few_texts p h.1)
@@ -82,7 +82,7 @@ few_texts (leaf _ ∷ p) h = cc
 few_texts (list cs ∷ p) h = cc
 few_texts (struct cs ∷ p) h = cc
 
-few_bins : (p : List Cell) → AllByRecursion (λ c. is_of kind.Bins c ≡ true) p → length (values p) ≡ length (filter_map bytes_of p)
+pub few_bins : (p : List Cell) → AllByRecursion (λ c. is_of kind.Bins c ≡ true) p → length (values p) ≡ length (filter_map bytes_of p)
 few_bins [] h = refl
 few_bins (null ∷ p) h = few_bins p h.1
 few_bins (leaf (bytes z) ∷ p) h = ap suc (few_bins p h.1)

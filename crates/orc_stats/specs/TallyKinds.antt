@@ -76,7 +76,7 @@ pub bins_stats : (ss : List Stat) → closed bins (gathered bins ss) ≡ joined 
 bins_stats ss = closed_stats bins kind.Bins ss λ bs. ap body.Bins (known_all_in _ int_sums in_64 sum_of bs)
 
 -- no more are true than there are
-few_bits : (bs : List Bool) → IfSome (reduce ◌+◌ (map bit bs)) (λ n. n ≤ length bs)
+pub few_bits : (bs : List Bool) → IfSome (reduce ◌+◌ (map bit bs)) (λ n. n ≤ length bs)
 few_bits [] = tt
 few_bits (b ∷ bs) = bits_onto b (reduce ◌+◌ (map bit bs)) (length bs) (few_bits bs)
   where
@@ -86,7 +86,7 @@ few_bits (b ∷ bs) = bits_onto b (reduce ◌+◌ (map bit bs)) (length bs) (few
     bits_onto false None n h = omega arith
     bits_onto false (Some k) n h = omega arith
 
-few_picked : {X A : Type 0} (pick : X → Option A) (xs : List X) → length (filter_map pick xs) ≤ length xs
+pub few_picked : {X A : Type 0} (pick : X → Option A) (xs : List X) → length (filter_map pick xs) ≤ length xs
 few_picked pick [] = omega arith
 few_picked pick (x ∷ xs) = one_picked (pick x) (filter_map pick xs) (length xs) (few_picked pick xs)
   where

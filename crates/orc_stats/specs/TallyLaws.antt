@@ -13,7 +13,7 @@ use Rattle.orc_stats.specs.Seen.{both, seen_of, known_of, value_seen}
 use Rattle.orc_stats.specs.Orders.{IsOrderly, or_known_orderly}
 use Rattle.orc_stats.specs.Statistics.{onto, reduce, values_body, has_null, stat}
 use Rattle.orc_stats.specs.Joining.{all_known, of_known, or_known, nulls_joined, bodies_joined, has_values, valued_bodies, joined}
-use Rattle.orc_stats.specs.Tallies.{Joins, all, Measure, Kept, none_kept, together, cell_kept, all_kept, counted, gathered, closed}
+use Rattle.orc_stats.specs.Tallies.{Joins, all, Measure, Kept, none_kept, together, cell_kept, stat_kept, all_kept, counted, gathered, closed}
 use Rattle.orc_stats.specs.Measures.{seen, ◌and◌}
 
 -- ---- tallies in any order and grouping
@@ -47,6 +47,10 @@ module _ {P : Type 0} (m : Measure P) where
   pub counted-append : (a b : List Cell) → counted m (a ++ b) ≡ together m (counted m a) (counted m b)
   counted-append [] b = sym (together_none (counted m b))
   counted-append (c ∷ a) b = ap (together m (cell_kept m c)) (counted-append a b) ∙ sym (together_assoc (cell_kept m c) (counted m a) (counted m b))
+
+  pub gathered-append : (a b : List Stat) → gathered m (a ++ b) ≡ together m (gathered m a) (gathered m b)
+  gathered-append [] b = sym (together_none (gathered m b))
+  gathered-append (s ∷ a) b = ap (together m (stat_kept m s)) (gathered-append a b) ∙ sym (together_assoc (stat_kept m s) (gathered m a) (gathered m b))
 
   -- the parts of tallies
   pub counted_parts : (cells : List Cell) → (counted m cells).parts ≡ all m.joins (map m.of_cell cells)

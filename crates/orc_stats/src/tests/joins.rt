@@ -1,3 +1,7 @@
+ghost use Rattle.std.specs.Prelude.{◌≡◌, true};
+ghost use Rattle.orc_stats.specs.Kinds.{body_is_of};
+ghost use Rattle.orc_stats.specs.declared.kind.StatKind.TheVariants as kind;
+
 use super::*;
 use crate::counted::Counted;
 use crate::measures::Ints;

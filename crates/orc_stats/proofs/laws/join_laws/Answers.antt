@@ -1,5 +1,6 @@
 use Rattle.orc_stats.proofs.Parts.{joined-parts}
 use Rattle.orc_stats.proofs.Shuffled.{joined-shuffled, joined-empty}
+use Rattle.orc_stats.proofs.Normal.{joined-normal}
 use Rattle.orc_stats.proofs.laws.join_laws.Goals as goal
 
 pub returns-clause-order : goal.returns-clause-order
@@ -10,3 +11,6 @@ returns-clause-empty c = joined-empty
 
 pub returns-clause-parts : goal.returns-clause-parts
 returns-clause-parts c = joined-parts
+
+pub returns-clause-normal : goal.returns-clause-normal
+returns-clause-normal c = joined-normal

@@ -1,5 +1,6 @@
 use Rattle.orc_stats.proofs.Shuffled.{stat-shuffled}
 use Rattle.orc_stats.proofs.Meanings.{least_numbers, greatest_numbers, least_texts, greatest_texts, totals}
+use Rattle.orc_stats.proofs.Normal.{stat-normal}
 use Rattle.orc_stats.proofs.laws.stat_laws.Goals as goal
 
 pub returns-clause-order : goal.returns-clause-order
@@ -19,3 +20,6 @@ returns-clause-greatest_text c = greatest_texts
 
 pub returns-clause-total : goal.returns-clause-total
 returns-clause-total c = totals
+
+pub returns-clause-normal : goal.returns-clause-normal
+returns-clause-normal c = stat-normal
