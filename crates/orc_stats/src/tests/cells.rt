@@ -17,34 +17,12 @@ fn numbers(rt: HostRuntime) {
         StatKind::Ints,
         &[Lent(&seven), Lent(&null), Lent(&less), Lent(&seven)],
     );
-    assert!(&rt;
-        says(
-            &found,
-            Said {
-                count: 3,
-                nulls: Some(true),
-                least: Some(-9),
-                greatest: Some(7),
-                total: Some(5)
-            }
-        )
-    );
+    assert!(&rt; says(&found, counted(3, Some(true)).span(-9, 7).total(5)));
 
     let late: Row<'_> = Some(Value::Date(19782));
     let early: Row<'_> = Some(Value::Date(-719162));
     let found = of_cells(alloc, StatKind::Dates, &[Lent(&late), Lent(&early)]);
-    assert!(&rt;
-        says(
-            &found,
-            Said {
-                count: 2,
-                nulls: Some(false),
-                least: Some(-719162),
-                greatest: Some(19782),
-                total: None
-            }
-        )
-    );
+    assert!(&rt; says(&found, counted(2, Some(false)).span(-719162, 19782)));
 
     let yes: Row<'_> = Some(Value::Bool(true));
     let no: Row<'_> = Some(Value::Bool(false));
@@ -53,18 +31,7 @@ fn numbers(rt: HostRuntime) {
         StatKind::Bools,
         &[Lent(&yes), Lent(&no), Lent(&yes), Lent(&null)],
     );
-    assert!(&rt;
-        says(
-            &found,
-            Said {
-                count: 3,
-                nulls: Some(true),
-                least: None,
-                greatest: None,
-                total: Some(2)
-            }
-        )
-    );
+    assert!(&rt; says(&found, counted(3, Some(true)).total(2)));
 }
 
 #[test]
@@ -76,61 +43,17 @@ fn texts_and_bytes(rt: HostRuntime) {
     let accent: Row<'_> = Some(Value::Text(CowStr::Borrowed("\u{e9}")));
     let null: Row<'_> = None;
     let found = of_texts(alloc, &[Lent(&b), Lent(&ab), Lent(&null), Lent(&none)]);
-    assert!(&rt;
-        says(
-            &found,
-            Said {
-                count: 3,
-                nulls: Some(true),
-                least: None,
-                greatest: None,
-                total: Some(3)
-            }
-        )
-    );
+    assert!(&rt; says(&found, counted(3, Some(true)).total(3)));
     assert!(&rt; spans(&found, b"", b"b"));
     let found = of_texts(alloc, &[Lent(&accent), Lent(&b)]);
-    assert!(&rt;
-        says(
-            &found,
-            Said {
-                count: 2,
-                nulls: Some(false),
-                least: None,
-                greatest: None,
-                total: Some(3)
-            }
-        )
-    );
+    assert!(&rt; says(&found, counted(2, Some(false)).total(3)));
     assert!(&rt; spans(&found, b"b", b"\xc3\xa9"));
 
     let high: Row<'_> = Some(Value::Bytes(CowSlice::Borrowed(b"\xff\x00")));
     let found = of_cells(alloc, StatKind::Bins, &[Lent(&high), Lent(&high)]);
-    assert!(&rt;
-        says(
-            &found,
-            Said {
-                count: 2,
-                nulls: Some(false),
-                least: None,
-                greatest: None,
-                total: Some(4)
-            }
-        )
-    );
+    assert!(&rt; says(&found, counted(2, Some(false)).total(4)));
     let found = of_cells(alloc, StatKind::Plain, &[Lent(&null)]);
-    assert!(&rt;
-        says(
-            &found,
-            Said {
-                count: 0,
-                nulls: Some(true),
-                least: None,
-                greatest: None,
-                total: None
-            }
-        )
-    );
+    assert!(&rt; says(&found, counted(0, Some(true))));
 }
 
 /// The statistic of texts; where memory was refused, it is asked again.
@@ -161,10 +84,10 @@ fn spans(answer: &Result<Stat, StatFault>, low: &[u8], high: &[u8]) -> bool {
     }
 }
 
-/// The total of 2^20 numbers of 2^43, the last of them taken away from.
-fn total_of_many(alloc: Global, away: i64) -> Result<Option<i64>, StatFault> {
+/// The total of 2^20 numbers, all but the last of them 2^43.
+fn total_of_many(alloc: Global, last: i64) -> Result<Option<i64>, StatFault> {
     let many: Row<'_> = Some(Value::Int(1 << 43));
-    let last: Row<'_> = Some(Value::Int((1 << 43) - away));
+    let last: Row<'_> = Some(Value::Int(last));
     let mut cells = Vec::new(alloc);
     for _ in 1..(1 << 20) {
         cells.push(Lent(&many))?;
@@ -176,9 +99,9 @@ fn total_of_many(alloc: Global, away: i64) -> Result<Option<i64>, StatFault> {
 
 #[test]
 fn totals_at_the_edge_of_64_bits(rt: HostRuntime) {
-    for (away, total) in [(1, Some(i64::MAX)), (0, None)] {
-        let found = match total_of_many(rt.alloc(), away) {
-            Err(StatFault::OutOfMemory) => total_of_many(rt.alloc(), away),
+    for (last, total) in [((1 << 43) - 1, Some(i64::MAX)), (1 << 43, None)] {
+        let found = match total_of_many(rt.alloc(), last) {
+            Err(StatFault::OutOfMemory) => total_of_many(rt.alloc(), last),
             found => found,
         };
         assert!(&rt; found == Ok(total));

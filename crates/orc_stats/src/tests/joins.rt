@@ -1,4 +1,4 @@
-ghost use Rattle.std.specs.Prelude.{◌≡◌, true};
+ghost use Rattle.std.specs.Prelude.{◌≡◌, true, IfOk};
 ghost use Rattle.orc_stats.specs.Kinds.{body_is_of};
 ghost use Rattle.orc_stats.specs.declared.kind.StatKind.TheVariants as kind;
 
@@ -6,6 +6,7 @@ use super::*;
 use crate::counted::Counted;
 use crate::measures::Ints;
 use crate::tally::Tally;
+use std::test::Fail;
 
 /// The three numbers in each order.
 const ORDERS: [[i64; 3]; 6] = [
@@ -25,29 +26,12 @@ fn sums_pass_64_bits_on_the_way(rt: HostRuntime) {
         assert!(&rt;
             says(
                 &joined,
-                Said {
-                    count: 3,
-                    nulls: Some(false),
-                    least: Some(-1),
-                    greatest: Some(i64::MAX),
-                    total: Some(i64::MAX)
-                }
+                counted(3, Some(false)).span(-1, i64::MAX).total(i64::MAX)
             )
         );
     }
     let joined = join_all(rt.alloc(), StatKind::Ints, &[one(i64::MAX), one(1)]);
-    assert!(&rt;
-        says(
-            &joined,
-            Said {
-                count: 2,
-                nulls: Some(false),
-                least: Some(1),
-                greatest: Some(i64::MAX),
-                total: None
-            }
-        )
-    );
+    assert!(&rt; says(&joined, counted(2, Some(false)).span(1, i64::MAX)));
 }
 
 /// A statistic of as many cells as can be without nulls, of which so many are true.
@@ -66,32 +50,10 @@ fn limits_of_counts(rt: HostRuntime) {
     let most = 1 << 62;
     let stats = [of_bools(1, most), of_bools(1, most)];
     let joined = join_all(rt.alloc(), StatKind::Bools, &stats);
-    assert!(&rt;
-        says(
-            &joined,
-            Said {
-                count: 2,
-                nulls: Some(false),
-                least: None,
-                greatest: None,
-                total: None
-            }
-        )
-    );
+    assert!(&rt; says(&joined, counted(2, Some(false))));
     let stats = [of_bools(most - 1, 1), of_bools(1, 0)];
     let joined = join_all(rt.alloc(), StatKind::Bools, &stats);
-    assert!(&rt;
-        says(
-            &joined,
-            Said {
-                count: most,
-                nulls: Some(false),
-                least: None,
-                greatest: None,
-                total: Some(1)
-            }
-        )
-    );
+    assert!(&rt; says(&joined, counted(most, Some(false)).total(1)));
     let stats = [of_bools(most, 1), of_bools(1, 0)];
     let joined = join_all(rt.alloc(), StatKind::Bools, &stats);
     assert!(&rt; matches!(&joined, Err(StatFault::CountTooLarge)));
@@ -126,18 +88,7 @@ fn nulls_that_are_not_known(rt: HostRuntime) {
             StatKind::Plain,
             &[of_nothing(one), of_nothing(other)],
         );
-        assert!(&rt;
-            says(
-                &joined,
-                Said {
-                    count: 0,
-                    nulls: both,
-                    least: None,
-                    greatest: None,
-                    total: None
-                }
-            )
-        );
+        assert!(&rt; says(&joined, counted(0, both)));
     }
 }
 
@@ -152,54 +103,39 @@ fn nothing_of_each_kind(rt: HostRuntime) {
         StatKind::Bins,
     ];
     for kind in kinds {
-        let nothing = Said {
-            count: 0,
-            nulls: Some(false),
-            least: None,
-            greatest: None,
-            total: None,
-        };
+        let nothing = counted(0, Some(false));
         assert!(&rt; says(&join_all(rt.alloc(), kind, &[]), nothing));
         assert!(&rt; says(&of_cells(rt.alloc(), kind, &[]), nothing));
     }
 }
 
-#[test]
-fn six_sevens_in_two_parts(rt: HostRuntime) {
+/// The statistic of three sevens.
+fn three_sevens(alloc: Global) -> Result<Stat, StatFault>
+    ensures { IfOk result (λ s. body_is_of kind.Ints s.body ≡ true) }
+{
     let seven: Row<'_> = Some(Value::Int(7));
+    of_cells(
+        alloc,
+        StatKind::Ints,
+        &[Lent(&seven), Lent(&seven), Lent(&seven)],
+    )
+}
+
+#[test]
+fn six_sevens_in_two_parts(rt: HostRuntime) -> Result<(), Fail> {
+    let parts = [three_sevens(rt.alloc())?, three_sevens(rt.alloc())?];
+    let joined = join_all(rt.alloc(), StatKind::Ints, &parts);
+    assert!(&rt; says(&joined, counted(6, Some(false)).span(7, 7).total(42)));
+    Ok(())
+}
+
+#[test]
+fn a_cell_and_a_statistic_in_one_tally(rt: HostRuntime) {
+    let seven: Row<'_> = Some(Value::Int(7));
+    let nine = one(9);
     let mut tally = Counted::<Ints>::unit();
     tally.add(&seven);
-    tally.add(&seven);
-    tally.add(&seven);
-    let part = tally.close(rt.alloc());
-    assert!(&rt;
-        says(
-            &part,
-            Said {
-                count: 3,
-                nulls: Some(false),
-                least: Some(7),
-                greatest: Some(7),
-                total: Some(21)
-            }
-        )
-    );
-    let mut other = Counted::<Ints>::unit();
-    other.add(&seven);
-    other.join(&Counted::<Ints>::of_stat(&one(7)));
-    other.add(&seven);
-    tally.join(&other);
-    let whole = tally.close(rt.alloc());
-    assert!(&rt;
-        says(
-            &whole,
-            Said {
-                count: 6,
-                nulls: Some(false),
-                least: Some(7),
-                greatest: Some(7),
-                total: Some(42)
-            }
-        )
-    );
+    tally.join(&Counted::<Ints>::of_stat(&nine));
+    let stat = tally.close(rt.alloc());
+    assert!(&rt; says(&stat, counted(2, Some(false)).span(7, 9).total(16)));
 }
