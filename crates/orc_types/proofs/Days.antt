@@ -122,6 +122,10 @@ date_of n h =
       text = refl;
     }
 
+-- each day with a text is a date's
+pub day_dated : (n : ℤ) → has_text n ≡ true → (d : Date) × (epoch_day d ≡ n)
+day_dated n h = let found = date_of n h in (found.date, found.day)
+
 pub same_text : (d e : Date) → date_parts d ≡ date_parts e → date_text d ≡ date_text e
 same_text d e h = ap parts_text h
 

@@ -1,6 +1,7 @@
 -- Values of JSON spell one value of a kind at most, what is printed is read back, and what is refused spells none.
 use Rattle.std.proofs.Common.{◌≡◌, ℕ, ℤ, pos, negsuc, List, Bool, true, false, ◌⊎◌, inl, inr, refl, sym, ap, ◌∙◌, subst}
 use Rattle.std.proofs.lemmas.Bool.{and_parts}
+use Rattle.std.specs.Str.{is_utf8}
 use Rattle.hex.specs.Hex.{encode_lower}
 use Rattle.hex.proofs.HexLemmas.{decode_of-encode_lower}
 use Rattle.serde_json.specs.Data.{Data, null, boolean, number, string, array, object}
@@ -10,7 +11,8 @@ use Rattle.orc_types.specs.declared.kind.Scalar.TheVariants as kind
 use Rattle.orc_types.specs.declared.json_fault.JsonFault.{JsonFault}
 use Rattle.orc_types.specs.declared.json_fault.JsonFault.TheVariants as fault
 use Rattle.orc_types.specs.Cells.{Atom, bool, int, date, text, bytes}
-use Rattle.orc_types.specs.Fits.{atom_fits, are_bytes, is_boolean, is_string, is_binary, is_date}
+use Rattle.orc_types.specs.Fits.{atom_fits, are_bytes}
+use Rattle.orc_types.specs.Kinds.{is_kind}
 use Rattle.orc_types.specs.Days.{has_text, day_text, IsDayText}
 use Rattle.orc_types.specs.JsonLeaves.{IsInteger, IsHex, SpellsAtom, LeafSpells, IsMisfit, IsOutOfRange, IsBadDate, IsBadHex, LeafFault, takes_numbers, takes_strings, date_json, atom_json}
 use Rattle.orc_types.proofs.Days.{one_day}
@@ -92,7 +94,11 @@ spells_back k (bool b) h = refl
 spells_back k (int z) h = integer_back z
 spells_back k (date n) h = date_back n (has_text n) refl
 spells_back k (text s) h = refl
-spells_back k (bytes bs) h = (encode_lower bs, refl, decode_of-encode_lower bs (bytes_below bs (and_parts (is_binary k) (are_bytes bs) h).1))
+spells_back k (bytes bs) h = (encode_lower bs, refl, decode_of-encode_lower bs (bytes_below bs (and_parts (is_kind kind.Binary k) (are_bytes bs) h).1))
+
+-- a string under STRING spells its text
+pub text_spells : (k : Scalar) (s b : List ℕ) → k ≡ kind.String → b ≡ s → is_utf8 s ≡ true → LeafSpells k (string s) (text b)
+text_spells k s b is same utf8 = (ap string (sym same), rw (is, same, utf8) refl)
 
 pub leaf_back : (k : Scalar) (a : Atom) → atom_fits k a ≡ true → LeafSpells k (atom_json a) a
 leaf_back k a h = (spells_back k a h, h)
@@ -105,13 +111,13 @@ no_numbers kind.String z h = (refl, refl)
 no_numbers kind.Binary z h = (refl, refl)
 no_numbers _ z h = cc
 
-no_strings : (k : Scalar) → takes_strings k ≡ false → (is_string k ≡ false) × (is_binary k ≡ false) × (is_date k ≡ false)
+no_strings : (k : Scalar) → takes_strings k ≡ false → (is_kind kind.String k ≡ false) × (is_kind kind.Binary k ≡ false) × (is_kind kind.Date k ≡ false)
 no_strings kind.String h = cc
 no_strings kind.Binary h = cc
 no_strings kind.Date h = cc
 no_strings _ h = (refl, refl, refl)
 
-no_date : (k : Scalar) (z : ℤ) → is_date k ≡ false → atom_fits k (date z) ≡ false
+no_date : (k : Scalar) (z : ℤ) → is_kind kind.Date k ≡ false → atom_fits k (date z) ≡ false
 no_date k z h = rw h refl
 
 pub misfit_none : (k : Scalar) (d : Data) (a : Atom) → IsMisfit k d → LeafSpells k d a → ⊥
@@ -147,7 +153,7 @@ misfit_none k (object ms) (bytes bs) m h = cc (h.0.1)
 not_string : (d : Data) (z : ℤ) → IsInteger d z → (s : List ℕ) → d ≡ string s → ⊥
 not_string d z h s e = no_integer d s z e h
 
-takers : (k : Scalar) → takes_numbers k ≡ true → (is_boolean k ≡ false) × (is_string k ≡ false) × (is_binary k ≡ false)
+takers : (k : Scalar) → takes_numbers k ≡ true → (is_kind kind.Boolean k ≡ false) × (is_kind kind.String k ≡ false) × (is_kind kind.Binary k ≡ false)
 takers kind.Boolean h = cc
 takers kind.String h = cc
 takers kind.Binary h = cc
@@ -178,11 +184,11 @@ bad_date_at k d (date n) x e (inr h) =
 bad_date_at k d (text s) x e h = cc
 bad_date_at k d (bytes bs) x e h = cc
 
-date_kind : (k : Scalar) → is_date k ≡ true → kind_sort k ≡ dates
+date_kind : (k : Scalar) → is_kind kind.Date k ≡ true → kind_sort k ≡ dates
 date_kind kind.Date h = refl
 date_kind _ h = cc
 
-binary_kind : (k : Scalar) → is_binary k ≡ true → kind_sort k ≡ blobs
+binary_kind : (k : Scalar) → is_kind kind.Binary k ≡ true → kind_sort k ≡ blobs
 binary_kind kind.Binary h = refl
 binary_kind _ h = cc
 

@@ -18,3 +18,5 @@ pub mod JsonFronts
 pub mod JsonLaws
 pub mod JsonPrints
 pub mod JsonBack
+pub mod Names
+pub mod Deeper

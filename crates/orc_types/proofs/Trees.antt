@@ -231,6 +231,12 @@ one_more ts n mid e d name s fs ss names u one more =
 
 -- ---- where no tree stands
 
+pub got_below : (ts : List TypeMsg) (n : ℕ) (y : TypeMsg) → slice_get ts n ≡ Some y → n < length ts
+got_below [] zero y at = cc
+got_below [] (suc n) y at = cc
+got_below (t ∷ ts) zero y at = omega arith
+got_below (t ∷ ts) (suc n) y at = omega (arith, got_below ts n y at)
+
 pub past_end : (ts : List TypeMsg) (n : ℕ) → slice_get ts n ≡ None → NoneAt ts n
 past_end ts n at (scalar k o) rest h = let e = slice_get_at ts n _ rest h in cc
 past_end ts n at (list_of s o) rest h = let e = slice_get_at ts n _ (types s (n + 1) ++ rest) h in cc
@@ -358,7 +364,7 @@ field_fault ts from d ss names gs i next (fault.UnsupportedKind k) h here r bad 
 field_fault ts from d ss names gs i next fault.BadTree h here r bad =
     r.none (rw (drop-cons ss i 0 h) (child_none ts next (get_or ss i 0) (drop (suc i) ss) (drop i names) bad))
 field_fault ts from d ss names gs i next fault.TooDeep h here r bad =
-    record { below = next; index = i; subtype = slice_get_within ss i 0 h ∙ ap Some here; later = r.later; deeper = bad }
+    record { below = next; index = i; subtype = slice_get_within ss i 0 h ∙ ap Some here; later = r.later; listed = bad.0; deeper = bad.1 }
 field_fault ts from d ss names gs i next fault.TooMany h here r bad = absurd bad
 field_fault ts from d ss names gs i next fault.RootNotStruct h here r bad = absurd bad
 field_fault ts from d ss names gs i next (fault.BadText place) h here r bad = (bad.0, inr bad.1)
@@ -372,7 +378,10 @@ deeper ts n below (suc d) p is way = (below, is, rw sub-one at way)
 pub list_fault : (ts : List TypeMsg) (n d : ℕ) (y : TypeMsg) (f : TypeFault) → 0 < d → slice_get ts n ≡ Some y → y.kind ≡ 10 → y.subtypes ≡ (n + 1) ∷ [] → PlaceFault ts (n + 1) (d - 1) f → PlaceFault ts n d f
 list_fault ts n d y (fault.UnsupportedKind k) p at is ss bad = bad
 list_fault ts n d y fault.BadTree p at is ss bad = list_none ts n y at is bad
-list_fault ts n d y fault.TooDeep p at is ss bad = deeper ts n (n + 1) d p record { type = y; index = 0; stands = at; subtype = ap (λ xs. slice_get xs 0) ss; later = omega arith } bad
+list_fault ts n d y fault.TooDeep p at is ss bad = (
+  omega (arith, bad.0),
+  deeper ts n (n + 1) d p record { type = y; index = 0; stands = at; holds = inl is; subtype = ap (λ xs. slice_get xs 0) ss; later = omega arith; listed = bad.0 } bad.1,
+)
 list_fault ts n d y fault.TooMany p at is ss bad = bad
 list_fault ts n d y fault.RootNotStruct p at is ss bad = bad
 list_fault ts n d y (fault.BadText place) p at is ss bad = bad
@@ -382,7 +391,10 @@ list_fault ts n d y fault.OutOfMemory p at is ss bad = tt
 pub struct_fault : (ts : List TypeMsg) (n d : ℕ) (y : TypeMsg) (f : TypeFault) → 0 < d → slice_get ts n ≡ Some y → y.kind ≡ 12 → FieldsFault ts (n + 1) (d - 1) y.subtypes y.field_names f → PlaceFault ts n d f
 struct_fault ts n d y (fault.UnsupportedKind k) p at is bad = bad
 struct_fault ts n d y fault.BadTree p at is bad = struct_none ts n y at is bad
-struct_fault ts n d y fault.TooDeep p at is bad = deeper ts n bad.below d p record { type = y; index = bad.index; stands = at; subtype = bad.subtype; later = omega (arith, bad.later) } bad.deeper
+struct_fault ts n d y fault.TooDeep p at is bad = (
+  omega (arith, bad.later, bad.listed),
+  deeper ts n bad.below d p record { type = y; index = bad.index; stands = at; holds = inr is; subtype = bad.subtype; later = omega (arith, bad.later); listed = bad.listed } bad.deeper,
+)
 struct_fault ts n d y fault.TooMany p at is bad = bad
 struct_fault ts n d y fault.RootNotStruct p at is bad = bad
 struct_fault ts n d y (fault.BadText place) p at is (zero_place, inl among) =
@@ -419,7 +431,7 @@ more_types ts e s found wrong t h =
 pub root_fault : (ts : List TypeMsg) (f : TypeFault) → AllByRecursion (λ t. IsKind t.kind) ts → PlaceFault ts 0 32 f → TypesFault ts f
 root_fault ts (fault.UnsupportedKind k) kinds bad = bad
 root_fault ts fault.BadTree kinds bad = record { kinds = kinds; none = λ s h. bad s [] (h ∙ sym (append-nil (types s 0))) }
-root_fault ts fault.TooDeep kinds bad = bad
+root_fault ts fault.TooDeep kinds bad = bad.1
 root_fault ts fault.TooMany kinds bad = absurd bad
 root_fault ts fault.RootNotStruct kinds bad = absurd bad
 root_fault ts (fault.BadText place) kinds bad = bad

@@ -1,15 +1,16 @@
 -- Trees and values, level by level.
 use Rattle.std.proofs.Common.{◌≡◌, ℕ, List, [], ◌∷◌, map, Option, Some, None, Vec, Box, string_bytes, Global, refl, ap, rules}
-use Rattle.std.specs.Cow.{cow_slice_items}
+use Rattle.std.specs.Cow.{cow_slice_items, cow_str_bytes}
 use Rattle.std.specs.declared.borrow.CowSlice.{CowSlice}
+use Rattle.std.specs.declared.borrow.CowStr.{CowStr}
 use Rattle.orc_types.specs.Shapes.{scalar, list_of, struct_of}
-use Rattle.orc_types.specs.Cells.{bytes, Cell, null, leaf, list, struct, Cells, end, more, cells_of, list_of_cells}
+use Rattle.orc_types.specs.Cells.{bytes, text, Cell, null, leaf, list, struct, Cells, end, more, cells_of, list_of_cells}
 use Rattle.orc_types.specs.Views.{shape, named, fields, view, views, or_null, cell_of_value, cell_step}
 use Rattle.orc_types.specs.declared.kind.Scalar.{Scalar as Kind}
 use Rattle.orc_types.specs.declared.tree.Tree.{Tree, Scalar, List as TreeList, Struct as TreeStruct}
 use Rattle.orc_types.specs.declared.tree.Tree.TheFolds.{the_lemmas as tree_lemmas}
 use Rattle.orc_types.specs.declared.tree.Field.{Field}
-use Rattle.orc_types.specs.declared.value.Value.{Value, Bytes, List as ListOf, Struct, the_lemmas}
+use Rattle.orc_types.specs.declared.value.Value.{Value, Bytes, Text, List as ListOf, Struct, the_lemmas}
 use Rattle.orc_types.specs.declared.value.Value.TheFolds.{fold-Value}
 use Rattle.orc_types.specs.declared.value.Value.TheShapes.{former-Value-List-0-at-1}
 
@@ -24,6 +25,9 @@ view-List v = search (rules, the_lemmas, views-former)
 
 pub view-Struct : (v : Vec (Option Value) Global) → view (Some (Struct v)) ≡ struct (cells_of (views v.items))
 view-Struct v = search (rules, the_lemmas, views-former)
+
+pub view-Text : (s : CowStr Global) → view (Some (Text s)) ≡ leaf (text (cow_str_bytes s))
+view-Text s = search (rules, the_lemmas)
 
 pub view-Bytes : (s : CowSlice ℕ Global) → view (Some (Bytes s)) ≡ leaf (bytes (cow_slice_items s))
 view-Bytes s = search (rules, the_lemmas)

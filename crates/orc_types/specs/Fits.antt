@@ -3,6 +3,8 @@ use Rattle.std.specs.List.{AllByRecursion}
 use Rattle.std.specs.Prelude.{◌≡◌, List, [], ◌∷◌, ℕ, ◌^◌, ℤ, pos, negsuc, Bool, true, false, ◌&&◌, nat_lt}
 use Rattle.orc_types.specs.declared.kind.Scalar.{Scalar}
 use Rattle.orc_types.specs.declared.kind.Scalar.TheVariants as kind
+use Rattle.std.specs.Str.{is_utf8}
+use Rattle.orc_types.specs.Kinds.{is_kind}
 use Rattle.orc_types.specs.Shapes.{Shape, scalar, list_of, struct_of, Fields, no_field, field}
 use Rattle.orc_types.specs.Cells.{Atom, bool, int, date, text, bytes, Cell, null, leaf, list, struct, Cells, end, more}
 
@@ -26,55 +28,16 @@ abbrev pub are_bytes : List ℕ → Bool
 are_bytes [] = true
 are_bytes (b ∷ bs) = nat_lt b 256 && are_bytes bs
 
-abbrev pub is_boolean : Scalar → Bool
-is_boolean kind.Boolean = true
-is_boolean kind.Byte = false
-is_boolean kind.Short = false
-is_boolean kind.Int = false
-is_boolean kind.Long = false
-is_boolean kind.String = false
-is_boolean kind.Binary = false
-is_boolean kind.Date = false
-
-abbrev pub is_string : Scalar → Bool
-is_string kind.Boolean = false
-is_string kind.Byte = false
-is_string kind.Short = false
-is_string kind.Int = false
-is_string kind.Long = false
-is_string kind.String = true
-is_string kind.Binary = false
-is_string kind.Date = false
-
-abbrev pub is_binary : Scalar → Bool
-is_binary kind.Boolean = false
-is_binary kind.Byte = false
-is_binary kind.Short = false
-is_binary kind.Int = false
-is_binary kind.Long = false
-is_binary kind.String = false
-is_binary kind.Binary = true
-is_binary kind.Date = false
-
-abbrev pub is_date : Scalar → Bool
-is_date kind.Boolean = false
-is_date kind.Byte = false
-is_date kind.Short = false
-is_date kind.Int = false
-is_date kind.Long = false
-is_date kind.String = false
-is_date kind.Binary = false
-is_date kind.Date = true
-
--- a value of a column of that kind; a date is a number of days, of 32 bits
+-- a value of a column of that kind; a date is a number of days, of 32 bits; a text is UTF-8
 abbrev pub atom_fits : Scalar → Atom → Bool
-atom_fits k (bool b) = is_boolean k
+atom_fits k (bool b) = is_kind kind.Boolean k
 atom_fits k (int z) = int_fits k z
-atom_fits k (date z) = is_date k && signed_fits 31 z
-atom_fits k (text s) = is_string k
-atom_fits k (bytes s) = is_binary k && are_bytes s
+atom_fits k (date z) = is_kind kind.Date k && signed_fits 31 z
+atom_fits k (text s) = is_kind kind.String k && is_utf8 s
+atom_fits k (bytes s) = is_kind kind.Binary k && are_bytes s
 
--- A row has its schema's shape, any part may be null, and numbers are in their kind's range.
+-- A row has its schema's shape, any part may be null, numbers are in their kind's range, and texts
+-- are UTF-8.
 abbrev mutual
   pub fits : Cell → Shape → Bool
   fits null s = true

@@ -9,7 +9,8 @@ use Rattle.orc_types.specs.declared.json_fault.JsonFault.{JsonFault}
 use Rattle.orc_types.specs.declared.json_fault.JsonFault.TheVariants as fault
 use Rattle.orc_types.specs.Cells.{Atom, bool, int, date, text, bytes, Cell, null as null_cell, leaf, list, struct}
 use Rattle.orc_types.specs.Days.{has_text, day_text, IsDayText}
-use Rattle.orc_types.specs.Fits.{atom_fits, is_boolean, is_string, is_binary, is_date}
+use Rattle.orc_types.specs.Fits.{atom_fits}
+use Rattle.orc_types.specs.Kinds.{is_kind}
 
 -- a number that serde_json holds as one of 64 bits, with a sign or without
 abbrev pub IsInteger : Data → ℤ → Type 0
@@ -51,12 +52,12 @@ takes_numbers kind.Binary = false
 takes_numbers kind.Date = true
 
 abbrev pub takes_strings : Scalar → Bool
-takes_strings k = is_string k || is_binary k || is_date k
+takes_strings k = is_kind kind.String k || is_kind kind.Binary k || is_kind kind.Date k
 
 -- a value of another type of JSON than those that the kind takes, or a number that is no integer
 abbrev pub IsMisfit : Scalar → Data → Type 0
 IsMisfit k null = ⊥
-IsMisfit k (boolean b) = is_boolean k ≡ false
+IsMisfit k (boolean b) = is_kind kind.Boolean k ≡ false
 IsMisfit k (number n) = (takes_numbers k ≡ false) ⊎ (as_integer n ≡ None)
 IsMisfit k (string s) = takes_strings k ≡ false
 IsMisfit k (array ds) = Unit {0}
@@ -68,11 +69,11 @@ IsOutOfRange k d = (takes_numbers k ≡ true) × ((z : ℤ) × IsInteger d z × 
 
 -- a string under a date that is no date's text
 abbrev pub IsBadDate : Scalar → Data → Type 0
-IsBadDate k d = (is_date k ≡ true) × ((s : List ℕ) × (d ≡ string s) × ((n : ℤ) → IsDayText s n → ⊥))
+IsBadDate k d = (is_kind kind.Date k ≡ true) × ((s : List ℕ) × (d ≡ string s) × ((n : ℤ) → IsDayText s n → ⊥))
 
 -- a string under binary that isn't hexadecimal digits
 abbrev pub IsBadHex : Scalar → Data → Type 0
-IsBadHex k d = (is_binary k ≡ true) × ((s : List ℕ) × (d ≡ string s) × ((bs : List ℕ) → IsHex s bs → ⊥))
+IsBadHex k d = (is_kind kind.Binary k ≡ true) × ((s : List ℕ) × (d ≡ string s) × ((bs : List ℕ) → IsHex s bs → ⊥))
 
 -- Memory may run out with any value. The other faults are of texts and of objects.
 abbrev pub LeafFault : Scalar → Data → JsonFault → Type 0

@@ -1,5 +1,5 @@
 -- The kinds of types and their numbers (ORC specification, "Types"; orc_proto.proto, Type.Kind).
-use Rattle.std.specs.Prelude.{◌≡◌, ℕ, ◌==◌, if◌then◌else◌, Option, Some, None, ◌⊎◌}
+use Rattle.std.specs.Prelude.{◌≡◌, ℕ, Bool, ◌==◌, if◌then◌else◌, Option, Some, None, ◌⊎◌}
 use Rattle.orc_types.specs.declared.kind.Scalar.{Scalar}
 use Rattle.orc_types.specs.declared.kind.Scalar.TheVariants as kind
 
@@ -13,6 +13,10 @@ number kind.Long = 4
 number kind.String = 7
 number kind.Binary = 8
 number kind.Date = 15
+
+-- one kind is the other
+abbrev pub is_kind : Scalar → Scalar → Bool
+is_kind j k = number j == number k
 
 abbrev pub list_number : ℕ
 list_number = 10

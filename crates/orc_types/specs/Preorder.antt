@@ -1,6 +1,6 @@
 -- The tree whose types begin at a place of a list (ORC specification, "Types").
 use Rattle.std.specs.Str.{is_utf8}
-use Rattle.std.specs.Prelude.{◌⊎◌, false, ℕ, ◌+◌, ◌≤◌, ◌≡◌, ◌++◌, drop, List, slice_get, Some}
+use Rattle.std.specs.Prelude.{◌⊎◌, false, ℕ, ◌+◌, ◌<◌, ◌≤◌, ◌≡◌, length, ◌++◌, drop, List, slice_get, Some}
 use Rattle.orc_wire.specs.declared.type_msg.TypeMsg.{TypeMsg}
 use Rattle.orc_types.specs.Types.{types, fields_types, starts}
 use Rattle.orc_types.specs.Shapes.{Shape, Fields, width, widths, depth, depths, HasTextNames, HaveTextNames, names_of}
@@ -53,7 +53,7 @@ pub record HasBadAmong (names : List (List ℕ)) : Type 0 where
 abbrev pub PlaceFault : List TypeMsg → ℕ → ℕ → TypeFault → Type 0
 PlaceFault ts n d (fault.UnsupportedKind k) = HasForeignKind ts k
 PlaceFault ts n d fault.BadTree = NoneAt ts n
-PlaceFault ts n d fault.TooDeep = Descends ts n d
+PlaceFault ts n d fault.TooDeep = (n < length ts) × Descends ts n d
 PlaceFault ts n d fault.TooMany = ⊥
 PlaceFault ts n d fault.RootNotStruct = ⊥
 PlaceFault ts n d (fault.BadText place) = (place ≡ 0) × HasBadName ts
@@ -65,6 +65,7 @@ pub record FieldDescends (ts : List TypeMsg) (n : ℕ) (subtypes : List ℕ) (d 
   pub index : ℕ
   pub subtype : slice_get subtypes index ≡ Some below
   pub later : n ≤ below
+  pub listed : below < length ts
   pub deeper : Descends ts below d
 
 -- why there are no such fields

@@ -8,6 +8,7 @@ use Rattle.std.proofs.lemmas.Cmp.{on_equiv, and_equiv, lists_equiv, nat_eq_equiv
 use Rattle.orc_wire.specs.declared.type_msg.TypeMsg.{TypeMsg}
 use Rattle.orc_types.specs.Shapes.{Shape, width, depth, IsStruct, HasTextNames}
 use Rattle.orc_types.specs.Types.{types}
+use Rattle.orc_types.specs.FieldNames.{is_distinct}
 use Rattle.orc_wire.specs.CanonicalKinds.{AreKept}
 
 -- what each type keeps is fields above 3
@@ -26,6 +27,11 @@ pub record IsSchema (s : Shape) : Type 0 where
 pub record HasTypes (s : Shape) (ts : List TypeMsg) : Type 0 where
   pub schema : IsSchema s
   pub listed : ts ≡ types s 0
+
+-- what is kept of a schema: its types, and whether no struct names a field twice
+pub record Keeps (s : Shape) (ts : List TypeMsg) (distinct : Bool) : Type 0 where
+  pub types : HasTypes s ts
+  pub names : distinct ≡ is_distinct s
 
 -- two types are equal in each part, the bytes that they keep too
 abbrev pub same_node : TypeMsg → TypeMsg → Bool

@@ -1,69 +1,77 @@
-ghost use Rattle.std.specs.Prelude.{◌≡◌};
+ghost use Rattle.std.specs.Prelude.{◌≡◌, IfOk, is_some, true};
+ghost use Rattle.serde_json.specs.Find.{get_member};
 ghost use Rattle.serde_json.specs.View.{members_view};
 ghost use Rattle.orc_types.specs.Shapes.{names_of};
 ghost use Rattle.orc_types.specs.Views.{shape, fields as fields_view};
 ghost use Rattle.orc_types.specs.FieldNames as spec;
 
+use crate::json_printing::put;
 use crate::tree::{Field, Tree};
 use serde_json::{Map, Value as Json};
+use std::alloc::{AllocError, Global};
 
-/// Whether one of the fields has this name.
-fn is_among(fields: &[Field], name: &str) -> bool
-    ensures { result ≡ spec.is_among (names_of (fields_view fields.now)) name.now }
+/// Whether some member has the key. It is looked up.
+fn has_key(members: &Map<String, Json>, key: &str) -> bool
+    ensures { result ≡ is_some (get_member key.now (members_view members.now.entries)) }
 {
-    for field in fields {
-        if field.name.as_str() == name {
-            return true;
-        }
-    }
-    false
+    members.contains_key(key)
 }
 
-/// Whether no two of the fields have the same name.
-fn all_differ(fields: &[Field]) -> bool
-    ensures { result ≡ spec.all_differ (names_of (fields_view fields.now)) }
+/// Whether no two of the fields have the same name: each is looked up among those before it.
+fn all_differ(alloc: Global, fields: &[Field]) -> Result<bool, AllocError>
+    ensures { IfOk result (λ differ. differ ≡ spec.all_differ (names_of (fields_view fields.now))) }
 {
-    for (i, field) in fields.iter().enumerate() {
-        if is_among(&fields[i + 1..], field.name.as_str()) {
-            return false;
+    let mut seen = Map::new(alloc);
+    for field in fields {
+        let name = field.name.as_str();
+        if has_key(&seen, name) {
+            return Ok(false);
         }
+        put(alloc, &mut seen, name, Json::Null)?;
     }
-    true
+    Ok(true)
 }
 
 /// Whether no struct names a field twice.
 #[cycle(distinct)]
-pub(crate) fn is_distinct(tree: &Tree) -> bool
-    ensures { result ≡ spec.is_distinct (shape tree.now) }
+pub(crate) fn is_distinct(alloc: Global, tree: &Tree) -> Result<bool, AllocError>
+    ensures { IfOk result (λ distinct. distinct ≡ spec.is_distinct (shape tree.now)) }
 {
     match tree {
-        Tree::Scalar(_, _) => true,
-        Tree::List(element, _) => is_distinct(element),
-        Tree::Struct(fields, _) => all_differ(fields) && are_distinct(fields),
+        Tree::Scalar(_, _) => Ok(true),
+        Tree::List(element, _) => is_distinct(alloc, element),
+        Tree::Struct(fields, _) => {
+            if !all_differ(alloc, fields)? {
+                return Ok(false);
+            }
+            are_distinct(alloc, fields)
+        }
     }
 }
 
 /// Whether no struct in the fields names a field twice.
 #[cycle(distinct)]
-fn are_distinct(fields: &[Field]) -> bool
-    ensures { result ≡ spec.are_distinct (fields_view fields.now) }
+fn are_distinct(alloc: Global, fields: &[Field]) -> Result<bool, AllocError>
+    ensures { IfOk result (λ distinct. distinct ≡ spec.are_distinct (fields_view fields.now)) }
 {
     for field in fields {
-        if !is_distinct(&field.tree) {
-            return false;
+        if !is_distinct(alloc, &field.tree)? {
+            return Ok(false);
         }
     }
-    true
+    Ok(true)
 }
 
-/// Whether each key is the name of a field.
+/// Whether each key is the name of a field: whether as many fields are there as there are keys.
 pub(crate) fn all_known(fields: &[Field], members: &Map<String, Json>) -> bool
+    requires { spec.all_differ (names_of (fields_view fields.now)) ≡ true }
     ensures { result ≡ spec.all_known (names_of (fields_view fields.now)) (members_view members.now.entries) }
 {
-    for (key, _) in members.iter() {
-        if !is_among(fields, key.as_str()) {
-            return false;
+    let mut found = 0;
+    for field in fields {
+        if has_key(members, field.name.as_str()) {
+            found += 1;
         }
     }
-    true
+    found == members.len()
 }

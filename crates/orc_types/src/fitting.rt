@@ -1,5 +1,5 @@
 ghost use Rattle.std.specs.Prelude.{◌≡◌};
-ghost use Rattle.orc_types.specs.Cells.{bytes, cells_of};
+ghost use Rattle.orc_types.specs.Cells.{text, bytes, cells_of};
 ghost use Rattle.orc_types.specs.Views.{view, views, cell_of_value, shape, fields as fields_view};
 ghost use Rattle.orc_types.specs.Fits as spec;
 
@@ -29,6 +29,13 @@ fn bytes_fit(kind: Scalar, octets: &[u8]) -> bool
     matches!(kind, Scalar::Binary)
 }
 
+/// Whether a text is a value of the kind. That it is UTF-8 goes without a test.
+fn text_fits(kind: Scalar, content: &str) -> bool
+    ensures { result ≡ spec.atom_fits kind (text content.now) }
+{
+    matches!(kind, Scalar::String)
+}
+
 /// Whether the value is one of a kind that contains no other.
 fn scalar_fits(kind: Scalar, value: &Value<'_>) -> bool
     ensures { result ≡ spec.scalar_fits kind (cell_of_value value.now) }
@@ -41,14 +48,14 @@ fn scalar_fits(kind: Scalar, value: &Value<'_>) -> bool
             let _day = *day;
             matches!(kind, Scalar::Date)
         }
-        Value::Text(_) => matches!(kind, Scalar::String),
+        Value::Text(content) => text_fits(kind, content.as_str()),
         Value::Bytes(octets) => bytes_fit(kind, octets.as_slice()),
         Value::List(_) | Value::Struct(_) => false,
     }
 }
 
 /// Whether the row is one of the schema: it has the schema's shape, any part may be null, and
-/// numbers are in their kind's range.
+/// numbers are in their kind's range. Each text is UTF-8, as every `str` is.
 pub fn fits(schema: &Schema, row: &Row<'_>) -> bool
     ensures { result ≡ spec.fits (view row.now) schema.now }
 {

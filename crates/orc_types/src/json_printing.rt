@@ -9,7 +9,6 @@ ghost use Rattle.orc_types.specs.JsonRows.{Spells};
 ghost use Rattle.orc_types.specs.JsonPrinting as spec;
 ghost use Rattle.orc_types.specs.declared.json_fault.JsonFault.TheVariants as fault;
 
-use crate::field_names::is_distinct;
 use crate::json_fault::JsonFault;
 use crate::json_leaf::leaf_to_json;
 use crate::schema::Schema;
@@ -31,7 +30,7 @@ pub fn row_to_json(alloc: Global, schema: &Schema, row: &Row<'_>) -> Result<Json
     ensures distinct { IfOk result (λ json. spec_distinct schema.now ≡ true) }
     ensures fault { IfErr result (λ e. e ≢ fault.OutOfMemory → (e ≡ fault.DuplicateField) × (spec_distinct schema.now ≡ false)) }
 {
-    if !is_distinct(schema.tree()) {
+    if !schema.has_distinct_names() {
         return Err(JsonFault::DuplicateField);
     }
     Ok(json_of(alloc, schema.tree(), row)?)
@@ -91,7 +90,7 @@ fn object_of(
 }
 
 /// Puts a value at a key.
-fn put(
+pub(crate) fn put(
     alloc: Global,
     object: &mut Map<String, Json>,
     key: &str,

@@ -4,12 +4,12 @@ ghost use Rattle.serde_json.specs.View.{view as json_view, items_view};
 ghost use Rattle.orc_types.specs.Cells.{Cell, cells_of};
 ghost use Rattle.orc_types.specs.Fits.{fits};
 ghost use Rattle.orc_types.specs.Views.{view, views, shape, fields as fields_view};
-ghost use Rattle.orc_types.specs.FieldNames.{is_distinct as spec_distinct};
+ghost use Rattle.orc_types.specs.FieldNames.{is_distinct as spec_distinct, are_distinct};
 ghost use Rattle.orc_types.specs.JsonRows.{Spells, EachSpells, FieldsSpell};
 ghost use Rattle.orc_types.specs.JsonFaults.{FaultAt, Somewhere, InElement, InField};
 ghost use Rattle.orc_types.specs.declared.json_fault.JsonFault.TheVariants as fault;
 
-use crate::field_names::{all_known, is_distinct};
+use crate::field_names::all_known;
 use crate::json_fault::JsonFault;
 use crate::json_leaf::leaf_from_json;
 use crate::schema::Schema;
@@ -37,7 +37,7 @@ pub fn row_from_json(alloc: Global, schema: &Schema, json: &Json) -> Result<Row<
     ensures fault { IfErr result (λ e. e ≢ fault.OutOfMemory → e ≢ fault.DuplicateField → Somewhere (FaultAt e) schema.now (json_view json.now)) }
     ensures duplicate { IfErr result (λ e. e ≡ fault.DuplicateField → spec_distinct schema.now ≡ false) }
 {
-    if !is_distinct(schema.tree()) {
+    if !schema.has_distinct_names() {
         return Err(JsonFault::DuplicateField);
     }
     row_of(alloc, schema.tree(), json)
@@ -46,6 +46,7 @@ pub fn row_from_json(alloc: Global, schema: &Schema, json: &Json) -> Result<Row<
 /// The row that the JSON value spells.
 #[cycle(reading)]
 fn row_of(alloc: Global, tree: &Tree, json: &Json) -> Result<Row<'static>, JsonFault>
+    requires { spec_distinct (shape tree.now) ≡ true }
     ensures found { IfOk result (λ row. Spells (shape tree.now) (json_view json.now) (view row)) }
     ensures fault { IfErr result (λ e. e ≢ fault.OutOfMemory → Somewhere (FaultAt e) (shape tree.now) (json_view json.now)) }
 {
@@ -76,6 +77,7 @@ fn elements_of(
     tree: &Tree,
     items: &Vec<Json>,
 ) -> Result<Vec<Row<'static>>, JsonFault>
+    requires { spec_distinct (shape tree.now) ≡ true }
     ensures found { IfOk result (λ rows. EachSpells (Spells (shape tree.now)) (items_view items.now.items) (cells_of (views rows.items))) }
     ensures fault { IfErr result (λ e. e ≢ fault.OutOfMemory → InElement (Somewhere (FaultAt e) (shape tree.now)) (array (items_view items.now.items))) }
 {
@@ -93,6 +95,7 @@ fn fields_of(
     fields: &Vec<Field>,
     json: &Json,
 ) -> Result<Vec<Row<'static>>, JsonFault>
+    requires { are_distinct (fields_view fields.now.items) ≡ true }
     ensures found { IfOk result (λ rows. FieldsSpell (fields_view fields.now.items) (json_view json.now) (cells_of (views rows.items))) }
     ensures fault { IfErr result (λ e. e ≢ fault.OutOfMemory → InField (FaultAt e) (fields_view fields.now.items) (json_view json.now)) }
 {

@@ -1,12 +1,12 @@
-ghost use Rattle.std.specs.Prelude.{◌≡◌, ◌≢◌, ◌↔◌, ◌++◌, ◌<◌, ◌≤ℤ◌, ◌⊎◌, ℕ, ℤ, pos, List, true};
-ghost use Rattle.orc_types.specs.Shapes.{Shape, width, shape_at};
-ghost use Rattle.orc_types.specs.Types.{types};
+ghost use Rattle.std.specs.Prelude.{◌≡◌, ◌≢◌, ◌↔◌, ◌++◌, ◌+◌, ◌<◌, length, sum_by, slice_get, Some, ◌≤ℤ◌, ◌⊎◌, ℕ, ℤ, pos, List, true};
+ghost use Rattle.orc_types.specs.Shapes.{Shape, list_of, struct_of, Fields, width, shape_at};
+ghost use Rattle.orc_types.specs.Types.{types, starts};
 ghost use Rattle.orc_wire.specs.declared.type_msg.TypeMsg.{TypeMsg};
 ghost use Rattle.orc_types.specs.Schemas.{IsSchema, HasTypes, same_types};
 ghost use Rattle.orc_types.specs.Faults.{TypesFault};
 ghost use Rattle.orc_types.specs.SchemaText.{text, bare, IsPlain, HasText};
 ghost use Rattle.orc_types.specs.TextFaults.{TextFault};
-ghost use Rattle.orc_types.specs.Cells.{Cell};
+ghost use Rattle.orc_types.specs.Cells.{Cell, parts, values};
 ghost use Rattle.orc_types.specs.Columns.{cells};
 ghost use Rattle.orc_types.specs.Fits.{RowsFit, fits};
 ghost use Rattle.orc_types.specs.Days.{has_text, day_text, IsDayText};
@@ -40,18 +40,26 @@ pub fn schema_text_laws()
     ensures none { (bytes : List ℕ) (s : Shape) (fault : TypeFault) → HasText s bytes → TextFault bytes fault → fault ≡ OutOfMemory }
 {}
 
-/// Laws of cells: the cells of rows one after the other stand one after the other, and those of a
-/// column of rows that fit are rows of the column's type.
+/// Laws of cells: the cells of rows one after the other stand one after the other; those of a column
+/// of rows that fit are rows of the column's type, and the columns below it have the cells of these. A
+/// list's child has as many cells as the lists have elements together, and in rows that fit a field's
+/// column, which `starts` tells, has one for each struct that isn't null.
 pub fn cells_laws()
     ensures append { (s : Shape) (column : ℕ) (a b : List Cell) → cells s column (a ++ b) ≡ cells s column a ++ cells s column b }
     ensures fit { (s : Shape) (column : ℕ) (rows : List Cell) → column < width s → RowsFit s rows → RowsFit (shape_at s column) (cells s column rows) }
+    ensures deeper { (s : Shape) (column below : ℕ) (rows : List Cell) → column < width s → below < width (shape_at s column) → cells s (column + below) rows ≡ cells (shape_at s column) below (cells s column rows) }
+
+    ensures elements { (s : Shape) (kept : List ℕ) (rows : List Cell) → length (cells (list_of s kept) 1 rows) ≡ sum_by (λ c. length (parts c)) rows }
+    ensures members { (fs : Fields) (kept : List ℕ) (i column : ℕ) (rows : List Cell) → RowsFit (struct_of fs kept) rows → slice_get (starts fs 1) i ≡ Some column → length (cells (struct_of fs kept) column rows) ≡ length (values rows) }
 {}
 
 /// Laws of days: a text is one day's; the days that have a text are those of the calendar's dates from
-/// the year 1 on, which ends with the year 9999; and the text is that of the date.
+/// the year 1 on, which ends with the year 9999, each such day is a date's, and the text is that of the
+/// date.
 pub fn day_laws()
     ensures one { (s : List ℕ) (m n : ℤ) → IsDayText s m → IsDayText s n → m ≡ n }
     ensures years { (d : Date) → (has_text (epoch_day d) ≡ true) ↔ (pos 1 ≤ℤ d.year) }
+    ensures dates { (n : ℤ) → has_text n ≡ true → (d : Date) × (epoch_day d ≡ n) }
     ensures calendar { (d : Date) → has_text (epoch_day d) ≡ true → day_text (epoch_day d) ≡ date_text d }
 {}
 

@@ -16,6 +16,7 @@ mod laws;
 mod lent;
 mod listing;
 mod preorder;
+mod row_copies;
 mod schema;
 mod schema_text;
 mod tree;
@@ -30,8 +31,9 @@ pub use json_reading::row_from_json;
 pub use kind::Scalar;
 pub use laws::{cells_laws, day_laws, json_laws, schema_laws, schema_text_laws};
 pub use lent::{Lent, lend};
+pub use row_copies::owned;
 pub use schema::Schema;
-pub use tree::{Field, Tree, width_of};
+pub use tree::{Field, Tree, tree_at, width_of};
 pub use value::{Row, Value};
 
 #[cfg(test)]

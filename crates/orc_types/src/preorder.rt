@@ -66,12 +66,12 @@ fn subtree(
     ensures found { IfOk result (λ found. Found types.now at levels (shape found.0) found.1) }
     ensures fault { IfErr result (PlaceFault types.now at levels) }
 {
-    if levels == 0 {
-        return Err(TypeFault::TooDeep);
-    }
     let Some(t) = type_at(types, at) else {
         return Err(TypeFault::BadTree);
     };
+    if levels == 0 {
+        return Err(TypeFault::TooDeep);
+    }
     let next = at + 1;
     if t.kind == LIST {
         if !has_one_subtype(t, next) {

@@ -5,11 +5,13 @@ ghost use Rattle.orc_types.specs.Shapes.{Shape, width};
 ghost use Rattle.orc_types.specs.Types.{types as types_of};
 ghost use Rattle.orc_types.specs.Schemas.{IsSchema, HasTypes, AllKept, same_node, same_types, same_types_equiv};
 ghost use Rattle.orc_types.specs.Faults.{TypesFault};
+ghost use Rattle.orc_types.specs.FieldNames.{is_distinct as distinct_names};
 ghost use Rattle.orc_types.specs.Views.{shape};
 ghost use Rattle.orc_types.specs.declared.fault.TypeFault.TheVariants.{OutOfMemory};
 
 use crate::copies::copied_types;
 use crate::fault::TypeFault;
+use crate::field_names::is_distinct;
 use crate::listing::listed;
 use crate::preorder::tree_of;
 use crate::tree::Tree;
@@ -23,11 +25,13 @@ use std::marker::Model;
 pub struct Schema {
     types: Vec<TypeMsg>,
     tree: Tree,
+    // whether no struct names a field twice
+    distinct: bool,
 }
 
 impl Model for Schema {
     ghost use Rattle.orc_types.specs.Shapes.{Shape};
-    ghost use Rattle.orc_types.specs.Schemas.{HasTypes};
+    ghost use Rattle.orc_types.specs.Schemas.{Keeps};
     ghost use Rattle.orc_types.specs.Views.{shape};
     ghost use Rattle.orc_types.specs.Coding.{coded_shape};
 
@@ -37,7 +41,7 @@ impl Model for Schema {
 
     ghost view = { λ s. shape s.tree };
 
-    ghost invariant = { λ s. HasTypes (shape s.tree) s.types.items };
+    ghost invariant = { λ s. Keeps (shape s.tree) s.types.items s.distinct };
 }
 
 impl Schema {
@@ -57,7 +61,12 @@ impl Schema {
     {
         let tree = tree_of(alloc, types)?;
         let types = copied_types(alloc, types)?;
-        Ok(Schema { types, tree })
+        let distinct = is_distinct(alloc, &tree)?;
+        Ok(Schema {
+            types,
+            tree,
+            distinct,
+        })
     }
 
     /// The schema of a tree.
@@ -66,7 +75,12 @@ impl Schema {
         ensures { IfOk result (λ found. found ≡ shape tree) }
     {
         let types = listed(alloc, &tree)?;
-        Ok(Schema { types, tree })
+        let distinct = is_distinct(alloc, &tree)?;
+        Ok(Schema {
+            types,
+            tree,
+            distinct,
+        })
     }
 
     /// The types, in pre-order.
@@ -91,6 +105,13 @@ impl Schema {
         ensures schema { IsSchema self.now }
     {
         &self.tree
+    }
+
+    /// Whether no struct names a field twice.
+    pub(crate) fn has_distinct_names(&self) -> bool
+        ensures { result ≡ distinct_names self.now }
+    {
+        self.distinct
     }
 }
 

@@ -1,5 +1,5 @@
 ghost use Rattle.std.specs.Prelude.{◌≡◌, ◌<◌, ◌^◌};
-ghost use Rattle.orc_types.specs.Shapes.{width, widths};
+ghost use Rattle.orc_types.specs.Shapes.{width, widths, shape_at, shape_within};
 ghost use Rattle.orc_types.specs.Views.{shape, fields as fields_view};
 
 use crate::kind::Scalar;
@@ -44,5 +44,42 @@ fn widths_of(fields: &[Field]) -> usize
     match fields {
         [] => 0,
         [first, others @ ..] => width_of(&first.tree) + widths_of(others),
+    }
+}
+
+/// The type of a column of a type, by the column's number in pre-order.
+#[cycle(trees)]
+pub fn tree_at(tree: &Tree, column: usize) -> &Tree
+    requires few { width (shape tree.now) < 2 ^ 64 }
+    requires there { column < width (shape tree.now) }
+    ensures { shape result.now ≡ shape_at (shape tree.now) column }
+{
+    if column == 0 {
+        return tree;
+    }
+    match tree {
+        Tree::Scalar(_, _) => tree,
+        Tree::List(element, _) => tree_at(element, column - 1),
+        Tree::Struct(fields, _) => tree_within(fields, column - 1),
+    }
+}
+
+/// The type of a column of some fields.
+#[cycle(trees)]
+fn tree_within(fields: &[Field], column: usize) -> &Tree
+    requires few { widths (fields_view fields.now) < 2 ^ 64 }
+    requires there { column < widths (fields_view fields.now) }
+    ensures { shape result.now ≡ shape_within (fields_view fields.now) column }
+{
+    match fields {
+        [] => unreachable!(),
+        [first, others @ ..] => {
+            let width = width_of(&first.tree);
+            if column < width {
+                tree_at(&first.tree, column)
+            } else {
+                tree_within(others, column - width)
+            }
+        }
     }
 }

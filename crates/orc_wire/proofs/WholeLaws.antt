@@ -16,6 +16,9 @@ use Rattle.orc_wire.specs.declared.stats_records.DateStatistics.{DateStatistics}
 use Rattle.orc_wire.specs.declared.stats_records.IntegerStatistics.{IntegerStatistics}
 use Rattle.orc_wire.specs.declared.stats_records.StringStatistics.{StringStatistics}
 use Rattle.orc_wire.specs.declared.row_index.RowIndexEntry.{RowIndexEntry}
+use Rattle.orc_wire.specs.declared.row_index.RowIndexMsg.{RowIndexMsg}
+use Rattle.orc_wire.specs.declared.column_stats.Metadata.{Metadata}
+use Rattle.orc_wire.specs.declared.column_stats.StripeStatistics.{StripeStatistics}
 use Rattle.orc_wire.specs.declared.stripe_footer.StreamMsg.{StreamMsg}
 use Rattle.orc_wire.specs.declared.stripe_footer.StripeFooter.{StripeFooter}
 use Rattle.orc_wire.specs.declared.stripe_info.StripeInfo.{StripeInfo}
@@ -24,22 +27,14 @@ use Rattle.orc_wire.specs.Fields.{Payload, varint, sized, wire, Item}
 use Rattle.orc_wire.specs.Spells.{Spells, bytes_in}
 use Rattle.orc_wire.specs.Kinds.{small, last, each, message, MessageIn}
 use Rattle.orc_wire.specs.Messages.{type_msg, footer}
-use Rattle.orc_wire.specs.Canonical.{payload_text, field_text, known_text, some_text, varints_text, WholeIf}
-use Rattle.orc_wire.specs.CanonicalKinds.{IsNumber, AreBelow, always_small, AreKept, says_kept, wire_most}
-use Rattle.orc_wire.specs.CanonicalMessages.{one, two, three, is_dictionary, encoding_text, stream_text, stripe_footer_text, row_index_entry_text, type_text, stripe_info_text, user_metadata_text, footer_text, integer_stats_text, string_stats_text, bucket_stats_text, date_stats_text, binary_stats_text, column_stats_text}
+use Rattle.orc_wire.specs.Canonical.{payload_text, field_text, known_text, some_text, varints_text, WholeIf, all_both}
+use Rattle.orc_wire.specs.CanonicalKinds.{IsNumber, AreBelow, always_small, AreKept, says_kept, wire_most, some_top, all_top}
+use Rattle.orc_wire.specs.CanonicalMessages.{one, two, three, is_dictionary, encoding_text, stream_text, stripe_footer_text, row_index_entry_text, row_index_text, stripe_stats_text, metadata_text, type_text, stripe_info_text, user_metadata_text, footer_text, integer_stats_text, string_stats_text, bucket_stats_text, date_stats_text, binary_stats_text, column_stats_text}
 
 pub encoding_whole : (test : Bool) (m : Encoding) → (test ≡ false → m.dictionary_size ≡ 0)
     → WholeIf (last 0 (small 1)) (last 0 (small 2)) (always_small 1 one) (always_small 2 two) is_dictionary (lit≤ tt) test (m.kind, m.dictionary_size)
 encoding_whole true m h = (tt, tt)
 encoding_whole false m h = (tt, h refl)
-
-some_top : {V : Type 0} (o : Option V) → IfSome o (λ v. ⊤)
-some_top None = tt
-some_top (Some v) = tt
-
-all_top : {V : Type 0} (xs : List V) → AllByRecursion (λ v. ⊤) xs
-all_top [] = tt
-all_top (x ∷ xs) = (tt, all_top xs)
 
 all_of : {V : Type 0} (P : V → Type 0) → ((v : V) → P v) → (xs : List V) → AllByRecursion P xs
 all_of P f [] = tt
@@ -48,10 +43,6 @@ all_of P f (x ∷ xs) = (f x, all_of P f xs)
 all_turned : {V : Type 0} (P Q : V → Type 0) → ((v : V) → P v → Q v) → (xs : List V) → AllByRecursion P xs → AllByRecursion Q xs
 all_turned P Q f [] h = tt
 all_turned P Q f (x ∷ xs) h = (f x h.0, all_turned P Q f xs h.1)
-
-all_joined : {V : Type 0} (P : V → Type 0) (xs ys : List V) → AllByRecursion P xs → AllByRecursion P ys → AllByRecursion P (xs ++ ys)
-all_joined P [] ys p q = q
-all_joined P (x ∷ xs) ys p q = (p.0, all_joined P xs ys p.1 q)
 
 shown_if : {V : Type 0} (whole : V → Type 0) (text : V → List ℕ) → ((v : V) → whole v) → (o : Option V) → IfSome o (λ v. text v ≡ [] → ⊥) → IfSome o (λ v. whole v × (text v ≡ [] → ⊥))
 shown_if whole text f None h = tt
@@ -84,19 +75,19 @@ footer_whole m types stats kept = (
   ),
 )
 
-integer_whole : (m : IntegerStatistics) → integer_stats_text.whole m
+pub integer_whole : (m : IntegerStatistics) → integer_stats_text.whole m
 integer_whole m = (some_top m.minimum, (some_top m.maximum, some_top m.sum))
 
-string_whole : (m : StringStatistics) → string_stats_text.whole m
+pub string_whole : (m : StringStatistics) → string_stats_text.whole m
 string_whole m = (some_top m.minimum, (some_top m.maximum, some_top m.sum))
 
-bucket_whole : (m : BucketStatistics) → bucket_stats_text.whole m
+pub bucket_whole : (m : BucketStatistics) → bucket_stats_text.whole m
 bucket_whole m = tt
 
-date_whole : (m : DateStatistics) → date_stats_text.whole m
+pub date_whole : (m : DateStatistics) → date_stats_text.whole m
 date_whole m = (some_top m.minimum, some_top m.maximum)
 
-binary_whole : (m : BinaryStatistics) → binary_stats_text.whole m
+pub binary_whole : (m : BinaryStatistics) → binary_stats_text.whole m
 binary_whole m = some_top m.sum
 
 pub column_whole : (m : ColumnStats) → IfSome m.int_statistics (λ s. integer_stats_text.text s ≡ [] → ⊥) → IfSome m.string_statistics (λ s. string_stats_text.text s ≡ [] → ⊥) → IfSome m.bucket_statistics (λ s. bucket_stats_text.text s ≡ [] → ⊥)
@@ -114,6 +105,15 @@ column_whole m i s b d y = (
     ),
   ),
 )
+
+pub stripes_whole : (m : StripeStatistics) → AllByRecursion column_stats_text.whole m.col_stats → stripe_stats_text.whole m
+stripes_whole m h = h
+
+pub metadata_whole : (m : Metadata) → AllByRecursion stripe_stats_text.whole m.stripe_stats → metadata_text.whole m
+metadata_whole m h = h
+
+pub index_whole : (m : RowIndexMsg) → AllByRecursion row_index_entry_text.whole m.entries → row_index_text.whole m
+index_whole m h = h
 
 -- ---- texts that are not empty
 
@@ -206,7 +206,7 @@ types_kept : (fields : List Item) (v : List TypeMsg) → (each (message type_msg
 types_kept [] v e = subst (λ (t : List TypeMsg). AllByRecursion (λ t. AreKept 4 t.kept) t) (sym e) tt
 types_kept (item ∷ before) v h =
     subst (λ (t : List TypeMsg). AllByRecursion (λ t. AreKept 4 t.kept) t) (sym h.4)
-    (all_joined (λ t. AreKept 4 t.kept) h.0 (option_to_list h.1) (types_kept before h.0 h.2) (type_in item (bytes_in 4 item) h.1 h.3))
+    (all_both (λ t. AreKept 4 t.kept) h.0 (option_to_list h.1) (types_kept before h.0 h.2) (type_in item (bytes_in 4 item) h.1 h.3))
 
 pub footer_kept : (base : ℕ) (bytes : List ℕ) (m : Footer) → Spells footer 0 base bytes m → AreKept 10 m.kept × AllByRecursion (λ t. AreKept 4 t.kept) m.types
 footer_kept base bytes m is = (

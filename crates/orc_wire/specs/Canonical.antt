@@ -100,6 +100,8 @@ pub record Canonical {V : Type 0} (member : Member V) : Type 1 where
   -- it refuses its own fields alone, each for one reason
   pub hears : (item : Item) (v : V) (fault : WireFault) → member.refuses item v fault → IsBetween low high item
   pub single : (item : Item) (v : V) (e f : WireFault) → member.refuses item v e → member.refuses item v f → e ≡ f
+  -- what is read has numbers of those bits
+  pub read : (base : ℕ) (fields : List Item) (bytes : List ℕ) (v : V) → IsFields base fields bytes → member.says fields v → bounded v
 
 deaf_all : {V : Type 0} (member : Member V) (w : Canonical member) (low high : ℕ) (more before : List Item) (v : V) → high ≤ 2 ^ 29 → ((n : ℕ) → low ≤ n → n < high → IsOutside w.low w.high n)
     → AllByRecursion (IsBetween low high) more → member.says before v → member.says (more ++ before) v
@@ -112,7 +114,7 @@ all_widen : (low high low2 high2 : ℕ) (more : List Item) → low2 ≤ low → 
 all_widen low high low2 high2 [] p q h = tt
 all_widen low high low2 high2 (item ∷ more) p q h = (let b = h.0 in record { least = omega (arith, b.least, p); most = omega (arith, b.most, q) }, all_widen low high low2 high2 more p q h.1)
 
-all_both : (P : Item → Type 0) (a b : List Item) → AllByRecursion P a → AllByRecursion P b → AllByRecursion P (a ++ b)
+pub all_both : {V : Type 0} (P : V → Type 0) (a b : List V) → AllByRecursion P a → AllByRecursion P b → AllByRecursion P (a ++ b)
 all_both P [] b p q = q
 all_both P (x ∷ a) b p q = (p.0, all_both P a b p.1 q)
 
@@ -169,6 +171,9 @@ module _ {V W : Type 0} (a : Member V) (b : Member W) (x : Canonical a) (y : Can
   both_single item v e f (inr r) (inl s) = let h = x.hears item v.0 f s in let k = y.hears item v.1 e r in absurd (omega (arith, h.most, k.least, apart))
   both_single item v e f (inr r) (inr s) = y.single item v.1 e f r s
 
+  pub both_read : (base : ℕ) (fields : List Item) (bytes : List ℕ) (v : V × W) → IsFields base fields bytes → (a and b).says fields v → x.bounded v.0 × y.bounded v.1
+  both_read base fields bytes v are says = (x.read base fields bytes v.0 are says.0, y.read base fields bytes v.1 are says.1)
+
   abbrev pub both : Canonical (a and b)
   both = record {
     text = λ v. x.text v.0 ++ y.text v.1;
@@ -183,6 +188,7 @@ module _ {V W : Type 0} (a : Member V) (b : Member W) (x : Canonical a) (y : Can
     again = both_again;
     hears = both_hears;
     single = both_single;
+    read = both_read;
   }
 
 -- the second is written where the first passes a test; elsewhere it must be as if no field spoke of it
@@ -226,6 +232,7 @@ module _ {V W : Type 0} (a : Member V) (b : Member W) (x : Canonical a) (y : Can
     again = λ v. again_if (test v.0) v;
     hears = both_hears a b x y apart;
     single = both_single a b x y apart;
+    read = both_read a b x y apart;
   }
 
 -- the members of a record
@@ -250,6 +257,7 @@ module _ {V W : Type 0} (shape : Shape V W) (m : Member V) (x : Canonical m) whe
     again = shaped_again;
     hears = λ item w. x.hears item (shape.into w);
     single = λ item w. x.single item (shape.into w);
+    read = λ base fields bytes w are says. x.read base fields bytes (shape.into w) are says;
   }
 
 -- the text of a message is that message

@@ -1,10 +1,10 @@
 -- The canonical text of each kind of member (Protocol Buffers encoding; packed lists as in "Packed
 -- Repeated Fields", signed numbers as in "Signed Integers").
-use Rattle.std.specs.Prelude.{◌≡◌, ℕ, ◌+◌, ◌*◌, ◌^◌, ◌<◌, ◌≤◌, List, [], ◌∷◌, length, ◌++◌, ◌⊎◌, Option, Some, None, Bool, true, false, not, cond, ◌==◌, nat_eq, nat_le, refl, ⊤}
-use Rattle.std.specs.Option.{option_map, IfSome}
+use Rattle.std.specs.Prelude.{◌≡◌, ℕ, ◌+◌, ◌*◌, ◌^◌, ◌<◌, ◌≤◌, List, [], ◌∷◌, length, ◌++◌, ◌⊎◌, Option, Some, None, Bool, true, false, not, cond, ◌==◌, nat_eq, nat_le, refl, ⊤, ℤ}
+use Rattle.std.specs.Option.{option_map, option_or, option_to_list, unwrap_or, IfSome}
 use Rattle.std.specs.Bool.{MatchBool}
 use Rattle.std.specs.List.{AllByRecursion}
-use Rattle.std.proofs.Common.{sym, ◌∙◌, ap, subst, inl, inr, arith, append_assoc, length-append, ◌||◌, lit≤}
+use Rattle.std.proofs.Common.{sym, ◌∙◌, ap, subst, inl, inr, arith, append_assoc, length-append, ◌||◌, lit≤, lit<}
 use Rattle.std.proofs.lemmas.List.{append-nil}
 use Rattle.std.proofs.lemmas.Bool.{cases_lt}
 use Rattle.std.proofs.lemmas.Bool.Decides.{nat_tests}
@@ -18,8 +18,8 @@ use Rattle.orc_wire.specs.FieldLaws.{one_varint}
 use Rattle.orc_wire.specs.Members.{Member}
 use Rattle.orc_wire.specs.Spells.{as_number, as_bytes, number_in, bytes_in, has_number, Spells}
 use Rattle.orc_wire.specs.SpellsLaws.{one_refusal}
-use Rattle.orc_wire.specs.Kinds.{Part, number, small, signed, small_signed, flag, text, packed, message, kept_from, inside, AreVarints, FailsNext, PackedFails, MessageIn, MessageFails, OnlyFails, no_front, last, known, all, each, only}
-use Rattle.orc_wire.specs.Canonical.{payload_text, field_text, some_text, shown_text, known_text, list_text, varints_text, packed_text, IsOutside, IsBetween, Adds, Canonical, spells_again}
+use Rattle.orc_wire.specs.Kinds.{Part, number, small, signed, small_signed, flag, text, packed, message, kept_from, inside, AreVarints, FailsNext, PackedFails, MessageIn, MessageFails, OnlyFails, JoinsOnly, PackedPart, no_front, last, known, all, each, only}
+use Rattle.orc_wire.specs.Canonical.{payload_text, field_text, some_text, shown_text, known_text, list_text, varints_text, packed_text, IsOutside, IsBetween, Adds, Canonical, all_both, spells_again}
 
 -- a number that a field may have
 pub record IsNumber (n : ℕ) : Type 0 where
@@ -116,6 +116,33 @@ pub record Single {V : Type 0} (n : ℕ) (part : Part (Option V)) : Type 1 where
   pub shows : (v : V) (place m : ℕ) (before : List Item) → counts m → has_number m (item_at n (payload v) place ∷ before) ≡ true
   pub hears : (item : Item) (fault : WireFault) → part.refuses item fault → IsBetween n (n + 1) item
   pub single : (item : Item) (e f : WireFault) → part.refuses item e → part.refuses item f → e ≡ f
+  pub read : (place : ℕ) (item : Item) (p : Option V) → IsField place item → part.gives item p → IfSome p bounded
+
+payload_fits : (p : Payload) (bytes : List ℕ) → IsPayload p bytes → IfSome (as_number p) (λ v. v < 2 ^ 64)
+payload_fits (varint v) bytes is = is.fits
+payload_fits (eight b) bytes is = tt
+payload_fits (four b) bytes is = tt
+payload_fits (sized b) bytes is = tt
+
+cond_fits : {X : Type 0} (P : X → Type 0) (b : Bool) (o : Option X) → IfSome o P → IfSome (cond b o None) P
+cond_fits P true o h = h
+cond_fits P false o h = tt
+
+-- the number of a field has 64 bits
+pub number_fits : (n place : ℕ) (item : Item) → IsField place item → IfSome (number_in n item) (λ v. v < 2 ^ 64)
+number_fits n place item is = cond_fits (λ v. v < 2 ^ 64) (item.number == n) (as_number item.payload) (payload_fits item.payload is.rest is.holds)
+
+pub signed_fits : (limit : ℕ) (p : Option ℤ) (o : Option ℕ) → option_map zig p ≡ o → IfSome o (λ v. v < limit) → IfSome p (λ z. zig z < limit)
+signed_fits limit None o e h = tt
+signed_fits limit (Some z) o e h = subst (λ (t : Option ℕ). IfSome t (λ v. v < limit)) (sym e) h
+
+pub some_top : {V : Type 0} (o : Option V) → IfSome o (λ v. ⊤)
+some_top None = tt
+some_top (Some v) = tt
+
+pub all_top : {V : Type 0} (xs : List V) → AllByRecursion (λ v. ⊤) xs
+all_top [] = tt
+all_top (x ∷ xs) = (tt, all_top xs)
 
 abbrev pub a_number : (n : ℕ) → Single n (number n)
 a_number n = record {
@@ -129,6 +156,7 @@ a_number n = record {
   shows = λ v place m before e. shows_number n v place m before e;
   hears = λ item fault bad. absurd bad;
   single = λ item e f p q. absurd p;
+  read = λ place item p is e. subst (λ (t : Option ℕ). IfSome t (λ v. v < 2 ^ 64)) (sym e) (number_fits n place item is);
 }
 
 abbrev pub a_small : (n : ℕ) → Single n (small n)
@@ -143,6 +171,7 @@ a_small n = record {
   shows = λ v place m before e. shows_number n v place m before e;
   hears = λ item fault bad. number_hears n item bad.value bad.is;
   single = λ item e f p q. p.fails ∙ sym q.fails;
+  read = λ place item p is gives. gives.1;
 }
 
 abbrev pub a_signed : (n : ℕ) → Single n (signed n)
@@ -157,6 +186,7 @@ a_signed n = record {
   shows = λ v place m before e. shows_number n (zig v) place m before e;
   hears = λ item fault bad. absurd bad;
   single = λ item e f p q. absurd p;
+  read = λ place item p is e. signed_fits (2 ^ 64) p (number_in n item) e (number_fits n place item is);
 }
 
 abbrev pub a_small_signed : (n : ℕ) → Single n (small_signed n)
@@ -171,6 +201,7 @@ a_small_signed n = record {
   shows = λ v place m before e. shows_number n (zig v) place m before e;
   hears = λ item fault bad. number_hears n item bad.value bad.is;
   single = λ item e f p q. p.fails ∙ sym q.fails;
+  read = λ place item p is gives. gives.1;
 }
 
 -- 1 for true
@@ -198,6 +229,7 @@ a_flag n = record {
   shows = λ v place m before e. shows_number n (flag_number v) place m before e;
   hears = λ item fault bad. absurd bad;
   single = λ item e f p q. absurd p;
+  read = λ place item p is gives. some_top p;
 }
 
 abbrev pub a_text : (n : ℕ) → Single n (text n)
@@ -212,6 +244,7 @@ a_text n = record {
   shows = λ v place m before e. absurd e;
   hears = λ item fault bad. absurd bad;
   single = λ item e f p q. absurd p;
+  read = λ place item p is gives. some_top p;
 }
 
 module _ {C : Type 0} (members : Member C) (w : Canonical members) (required : ℕ) (there : (required ≡ 0) ⊎ w.always required) (n : ℕ) where
@@ -239,6 +272,10 @@ module _ {C : Type 0} (members : Member C) (w : Canonical members) (required : �
   pub message_single : (item : Item) (e f : WireFault) → MessageFails members required n item (bytes_in n item) e → MessageFails members required n item (bytes_in n item) f → e ≡ f
   message_single item e f p q = one_message item (bytes_in n item) e f p q
 
+  pub message_read : (item : Item) (bytes : Option (List ℕ)) (p : Option C) → MessageIn members required n item bytes p → IfSome p w.bounded
+  message_read item None p e = subst (λ (t : Option C). IfSome t w.bounded) (sym e) tt
+  message_read item (Some b) p h = let is = h.2 in subst (λ (t : Option C). IfSome t w.bounded) (sym h.1) (w.read (inside item b) is.fields b h.0 is.are is.says)
+
   abbrev pub a_message : Single n (message members required n)
   a_message = record {
     payload = λ c. sized (w.text c);
@@ -251,6 +288,7 @@ module _ {C : Type 0} (members : Member C) (w : Canonical members) (required : �
     shows = λ c place m before e. absurd e;
     hears = message_hears;
     single = message_single;
+    read = λ place item p is gives. message_read item (bytes_in n item) p gives;
   }
 
 -- ---- how a member is written
@@ -278,6 +316,18 @@ adds_none member low high base before front v are says = record {
   shows = λ m e. absurd e;
 }
 
+either_fits : {V : Type 0} (P : V → Type 0) (p : Option V) (old : V) → IfSome p P → P old → P (unwrap_or p old)
+either_fits P None old given h = h
+either_fits P (Some v) old given h = given
+
+some_fits : {V : Type 0} (P : V → Type 0) (p old : Option V) → IfSome p P → IfSome old P → IfSome (option_or p old) P
+some_fits P None old given h = h
+some_fits P (Some v) old given h = given
+
+listed_fits : {V : Type 0} (P : V → Type 0) (p : Option V) → IfSome p P → AllByRecursion P (option_to_list p)
+listed_fits P None given = tt
+listed_fits P (Some v) given = (given, tt)
+
 module _ {V : Type 0} (n : ℕ) (is : IsNumber n) (part : Part (Option V)) (s : Single n part) where
   pub last_again : (default v : V) → s.bounded v → s.whole v → length (field_text n (s.payload v)) < 2 ^ 64 → (base : ℕ) (before : List Item) (front : List ℕ) → IsFields base before front
       → (last default part).says before default → Adds (last default part) n (n + 1) s.counts base before front (field_text n (s.payload v)) v
@@ -289,9 +339,16 @@ module _ {V : Type 0} (n : ℕ) (is : IsNumber n) (part : Part (Option V)) (s : 
     shows = λ m e. s.shows v (base + length front) m before e;
   }
 
+  pub last_read : (default : V) → s.bounded default → (base : ℕ) (fields : List Item) (bytes : List ℕ) (v : V) → IsFields base fields bytes → (last default part).says fields v → s.bounded v
+  last_read default fits base [] bytes v are e = subst s.bounded (sym e) fits
+  last_read default fits base (item ∷ before) bytes v are says =
+      let old = last_read default fits base before are.0 says.0 are.2 says.2 in
+      let given = s.read (base + length are.0) item says.1 are.3 says.3 in
+      subst s.bounded (sym says.4) (either_fits s.bounded says.1 says.0 given old)
+
   -- always, also where it is the default
-  abbrev pub written_always : (default : V) → Canonical (last default part)
-  written_always default = record {
+  abbrev pub written_always : (default : V) → s.bounded default → Canonical (last default part)
+  written_always default fits = record {
     text = λ v. field_text n (s.payload v);
     bounded = s.bounded;
     whole = s.whole;
@@ -304,6 +361,7 @@ module _ {V : Type 0} (n : ℕ) (is : IsNumber n) (part : Part (Option V)) (s : 
     again = last_again default;
     hears = λ item v fault. s.hears item fault;
     single = λ item v. s.single item;
+    read = last_read default fits;
   }
 
   pub known_again : (v : Option V) → IfSome v s.bounded → IfSome v s.whole → length (known_text s.payload n v) < 2 ^ 64 → (base : ℕ) (before : List Item) (front : List ℕ) → IsFields base before front
@@ -316,6 +374,13 @@ module _ {V : Type 0} (n : ℕ) (is : IsNumber n) (part : Part (Option V)) (s : 
     between = one_between n (s.payload v) (base + length front);
     shows = λ m e. absurd e;
   }
+
+  pub known_read : (base : ℕ) (fields : List Item) (bytes : List ℕ) (v : Option V) → IsFields base fields bytes → (known part).says fields v → IfSome v s.bounded
+  known_read base [] bytes v are e = subst (λ (t : Option V). IfSome t s.bounded) (sym e) tt
+  known_read base (item ∷ before) bytes v are says =
+      let old = known_read base before are.0 says.0 are.2 says.2 in
+      let given = s.read (base + length are.0) item says.1 are.3 says.3 in
+      subst (λ (t : Option V). IfSome t s.bounded) (sym says.4) (some_fits s.bounded says.1 says.0 given old)
 
   -- where it is known
   abbrev pub where_known : Canonical (known part)
@@ -332,6 +397,7 @@ module _ {V : Type 0} (n : ℕ) (is : IsNumber n) (part : Part (Option V)) (s : 
     again = known_again;
     hears = λ item v fault. s.hears item fault;
     single = λ item v. s.single item;
+    read = known_read;
   }
 
   pub each_adds : (vs : List V) → AllByRecursion s.bounded vs → AllByRecursion s.whole vs → length (list_text s.payload n vs) < 2 ^ 64 → (old : List V) (base : ℕ) (before : List Item) (front : List ℕ)
@@ -357,6 +423,13 @@ module _ {V : Type 0} (n : ℕ) (is : IsNumber n) (part : Part (Option V)) (s : 
         shows = λ m e. absurd e;
       }
 
+  pub each_read : (base : ℕ) (fields : List Item) (bytes : List ℕ) (vs : List V) → IsFields base fields bytes → (each part).says fields vs → AllByRecursion s.bounded vs
+  each_read base [] bytes vs are e = subst (λ (t : List V). AllByRecursion s.bounded t) (sym e) tt
+  each_read base (item ∷ before) bytes vs are says =
+      let old = each_read base before are.0 says.0 are.2 says.2 in
+      let given = s.read (base + length are.0) item says.1 are.3 says.3 in
+      subst (λ (t : List V). AllByRecursion s.bounded t) (sym says.4) (all_both s.bounded says.0 (option_to_list says.1) old (listed_fits s.bounded says.1 given))
+
   abbrev pub for_each : Canonical (each part)
   for_each = record {
     text = list_text s.payload n;
@@ -371,6 +444,7 @@ module _ {V : Type 0} (n : ℕ) (is : IsNumber n) (part : Part (Option V)) (s : 
     again = λ vs can whole len base before front are says. each_adds vs can whole len [] base before front are says;
     hears = λ item v fault. s.hears item fault;
     single = λ item v. s.single item;
+    read = each_read;
   }
 
 -- ---- packed lists
@@ -448,6 +522,20 @@ test_true : (test : Bool) (P : Type 0) → MatchBool test P ⊥ → test ≡ tru
 test_true true P h = refl
 test_true false P h = absurd h
 
+varints_below : (limit : ℕ) (ns bytes : List ℕ) → AreVarints limit ns bytes → AreBelow limit ns
+varints_below limit [] bytes are = tt
+varints_below limit (n ∷ ns) bytes are = (are.3, varints_below limit ns are.1 are.5)
+
+packed_below : (limit : ℕ) (payload : Payload) (ns : List ℕ) → PackedPart limit payload ns → AreBelow limit ns
+packed_below limit (varint v) ns is = subst (λ (t : List ℕ). AreBelow limit t) (sym is.1) (is.0, tt)
+packed_below limit (eight b) ns e = subst (λ (t : List ℕ). AreBelow limit t) (sym e) tt
+packed_below limit (four b) ns e = subst (λ (t : List ℕ). AreBelow limit t) (sym e) tt
+packed_below limit (sized b) ns are = varints_below limit ns b are
+
+below_if : (test : Bool) (limit : ℕ) (payload : Payload) (ns : List ℕ) → MatchBool test (PackedPart limit payload ns) (ns ≡ []) → AreBelow limit ns
+below_if true limit payload ns is = packed_below limit payload ns is
+below_if false limit payload ns e = subst (λ (t : List ℕ). AreBelow limit t) (sym e) tt
+
 module _ (limit n : ℕ) (few : limit ≤ 2 ^ 64) (is : IsNumber n) where
   pub packed_again : (ns : List ℕ) → AreBelow limit ns → ⊤ → length (packed_text n ns) < 2 ^ 64 → (base : ℕ) (before : List Item) (front : List ℕ) → IsFields base before front
       → (all (packed limit n)).says before [] → Adds (all (packed limit n)) n (n + 1) (λ m. ⊥) base before front (packed_text n ns) ns
@@ -458,6 +546,13 @@ module _ (limit n : ℕ) (few : limit ≤ 2 ^ 64) (is : IsNumber n) where
 
   pub packed_single : (item : Item) (v : List ℕ) (e f : WireFault) → (packed limit n).refuses item e → (packed limit n).refuses item f → e ≡ f
   packed_single item v e f p q = one_if_fault (item.number == n) limit item.payload item.place e f p q
+
+  pub packed_read : (fields : List Item) (ns : List ℕ) → (all (packed limit n)).says fields ns → AreBelow limit ns
+  packed_read [] ns e = subst (λ (t : List ℕ). AreBelow limit t) (sym e) tt
+  packed_read (item ∷ before) ns says =
+      let old = packed_read before says.0 says.2 in
+      let given = below_if (item.number == n) limit item.payload says.1 says.3 in
+      subst (λ (t : List ℕ). AreBelow limit t) (sym says.4) (all_both (λ m. m < limit) says.0 says.1 old given)
 
   -- one packed list, or nothing for an empty one
   abbrev pub as_packed : Canonical (all (packed limit n))
@@ -474,6 +569,7 @@ module _ (limit n : ℕ) (few : limit ≤ 2 ^ 64) (is : IsNumber n) where
     again = packed_again;
     hears = packed_hears;
     single = packed_single;
+    read = λ base fields bytes ns are says. packed_read fields ns says;
   }
 
 -- ---- fields that are kept
@@ -552,6 +648,7 @@ module _ (n : ℕ) (is : IsNumber n) where
     again = λ v can whole len base before front are says. kept_again n v whole base before front are says;
     hears = λ item v fault bad. absurd bad;
     single = λ item v e f p q. absurd p;
+    read = λ base fields bytes v are says. tt;
   }
 
 -- what the fields of a message say that is kept are fields with kept numbers
@@ -612,6 +709,15 @@ module _ {C : Type 0} (members : Member C) (w : Canonical members) (required : �
   only_single item None e f p q = message_single members w required there n item e f p q
   only_single item (Some c) e f p q = p.2 ∙ sym q.2
 
+  only_joins : (old p v : Option C) → JoinsOnly old p v → IfSome old w.bounded → IfSome p w.bounded → IfSome v w.bounded
+  only_joins None p v e old given = subst (λ (t : Option C). IfSome t w.bounded) (sym e) given
+  only_joins (Some c) p v join old given = subst (λ (t : Option C). IfSome t w.bounded) (sym join.1) old
+
+  pub only_read : (fields : List Item) (v : Option C) → (only members required n).says fields v → IfSome v w.bounded
+  only_read [] v e = subst (λ (t : Option C). IfSome t w.bounded) (sym e) tt
+  only_read (item ∷ before) v says =
+      only_joins says.0 says.1 v says.4 (only_read before says.0 says.2) (message_read members w required there n item (bytes_in n item) says.1 says.3)
+
   abbrev pub where_shown : Canonical (only members required n)
   where_shown = record {
     text = shown_text w.text n;
@@ -626,18 +732,19 @@ module _ {C : Type 0} (members : Member C) (w : Canonical members) (required : �
     again = only_again;
     hears = only_hears;
     single = only_single;
+    read = λ base fields bytes v are says. only_read fields v says;
   }
 
 -- ---- one name for each line of the table of messages
 
 abbrev pub always_number : (n : ℕ) → IsNumber n → Canonical (last 0 (number n))
-always_number n is = written_always n is (number n) (a_number n) 0
+always_number n is = written_always n is (number n) (a_number n) 0 (lit< tt)
 
 abbrev pub always_small : (n : ℕ) → IsNumber n → Canonical (last 0 (small n))
-always_small n is = written_always n is (small n) (a_small n) 0
+always_small n is = written_always n is (small n) (a_small n) 0 (lit< tt)
 
 abbrev pub always_text : (n : ℕ) → IsNumber n → Canonical (last [] (text n))
-always_text n is = written_always n is (text n) (a_text n) []
+always_text n is = written_always n is (text n) (a_text n) [] tt
 
 abbrev pub known_small : (n : ℕ) → IsNumber n → Canonical (known (small n))
 known_small n is = where_known n is (small n) (a_small n)

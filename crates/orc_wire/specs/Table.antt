@@ -1,10 +1,11 @@
 -- What the fields of a message say, in the words of its table (Protocol Buffers encoding, "Message
 -- Structure", "Last One Wins", "Repeated Elements"). A list of fields has its last field first.
-use Rattle.std.specs.Prelude.{◌≡◌, ℕ, List, [], ◌∷◌, ◌++◌, Option, Some, None, cond, nat_le, ⊤}
-use Rattle.std.specs.Option.{option_or, option_to_list}
+use Rattle.std.specs.Prelude.{◌≡◌, ℕ, ◌<◌, ◌^◌, List, [], ◌∷◌, ◌++◌, Option, Some, None, cond, nat_le, ⊤}
+use Rattle.std.specs.Option.{option_or, option_map, option_to_list, IfSome}
+use Rattle.std.specs.List.{AllByRecursion}
 use Rattle.orc_wire.specs.Fields.{Item}
 use Rattle.orc_wire.specs.Members.{Member}
-use Rattle.orc_wire.specs.Spells.{bytes_in, Spells}
+use Rattle.orc_wire.specs.Spells.{number_in, bytes_in, Spells}
 use Rattle.orc_wire.specs.Kinds.{inside}
 
 -- what the last field gives that gives something
@@ -21,6 +22,10 @@ in_order f (item ∷ before) = in_order f before ++ option_to_list (f item)
 abbrev pub kept_texts : ℕ → List Item → List ℕ
 kept_texts n [] = []
 kept_texts n (item ∷ before) = kept_texts n before ++ cond (nat_le n item.number) item.text []
+
+-- each number with that field number has 32 bits
+abbrev pub AreSmall : ℕ → List Item → Type 0
+AreSmall n fields = AllByRecursion (λ item. IfSome (number_in n item) (λ m. m < 2 ^ 32)) fields
 
 -- the parts, the last of which stands first, joined in their order
 abbrev pub joined_parts : {V : Type 0} → List (List V) → List V
@@ -51,14 +56,18 @@ pub record JoinsSome {V : Type 0} (gives : Item → Option V → Type 0) (fields
   pub are : GivesParts gives fields parts
   pub joined : values ≡ some_parts parts
 
--- the one field with number n that holds bytes, which spell the message
+-- a field with number n that holds bytes, and these
+abbrev pub with_bytes : ℕ → Item → Option (Item × List ℕ)
+with_bytes n item = option_map (λ b. (item, b)) (bytes_in n item)
+
+-- one field with number n holds bytes, which spell the message
 pub record IsOnly {C : Type 0} (members : Member C) (required n : ℕ) (fields : List Item) (content : C) : Type 0 where
   pub item : Item
   pub bytes : List ℕ
-  pub one : in_order (bytes_in n) fields ≡ bytes ∷ []
+  pub one : in_order (with_bytes n) fields ≡ (item, bytes) ∷ []
   pub spells : Spells members required (inside item bytes) bytes content
 
 -- no such field, or one
 abbrev pub OnlyMessage : {C : Type 0} → Member C → ℕ → ℕ → List Item → Option C → Type 0
-OnlyMessage members required n fields None = in_order (bytes_in n) fields ≡ []
+OnlyMessage members required n fields None = in_order (with_bytes n) fields ≡ []
 OnlyMessage members required n fields (Some content) = IsOnly members required n fields content

@@ -1,8 +1,8 @@
-ghost use Rattle.std.specs.Prelude.{◌≡◌, ℕ, ◌++◌, ◌<◌, ◌≤◌, ◌^◌, IfErr, OnOk, OnErr};
-ghost use Rattle.orc_wire.specs.declared.fault.WireFault.TheVariants.{OutOfMemory};
+ghost use Rattle.std.specs.Prelude.{◌≡◌, ℕ, ◌++◌, ◌^◌, ◌⊎◌, length, Err, IfErr, OnOk, OnErr};
+ghost use Rattle.orc_wire.specs.declared.fault.WireFault.TheVariants.{BadWireType, OutOfMemory};
 ghost use Rattle.orc_wire.specs.Fields.{IsField};
 ghost use Rattle.orc_wire.specs.FieldValue.{payload_of};
-ghost use Rattle.orc_wire.specs.Canonical.{field_text};
+ghost use Rattle.orc_wire.specs.Canonical.{field_text, IsOutside};
 ghost use Rattle.orc_wire.specs.CanonicalKinds.{item_at};
 
 use crate::canonical::put_field;
@@ -24,17 +24,24 @@ impl<'a> FieldWriter<'a> {
         FieldWriter { out }
     }
 
-    /// Appends one field: its key, number * 8 + wire type, and its payload. For a number of 1 to
-    /// 2^29-1 `Fields` reads it back. A refusal, which is `OutOfMemory`, leaves the vector as it was.
+    /// Appends one field: its key, number * 8 + wire type, and its payload. `Fields` reads it back.
+    ///
+    /// Refusals, each of which leaves the vector as it was: `BadWireType` of a number that no field
+    /// has, 0 or above 2^29-1, at the place where its key would stand, which is the vector's length;
+    /// `OutOfMemory`.
     pub fn put(&mut self, number: u32, value: Value<'_>) -> Result<(), WireFault>
         ensures text { OnOk result (self.new.out.now.items ≡ self.old.out.now.items ++ field_text number (payload_of value.entry)) }
-        ensures again { OnOk result (1 ≤ number → number < 2 ^ 29 → (place : ℕ) → IsField place (item_at number (payload_of value.entry) place)) }
+        ensures again { OnOk result ((place : ℕ) → IsField place (item_at number (payload_of value.entry) place)) }
 
-        ensures refused { IfErr result (λ fault. fault ≡ OutOfMemory) }
+        ensures bad { IsOutside 1 (2 ^ 29) number → result ≡ Err (BadWireType (length self.old.out.now.items)) }
+        ensures refused { IfErr result (λ fault. (fault ≡ OutOfMemory) ⊎ (IsOutside 1 (2 ^ 29) number × (fault ≡ BadWireType (length self.old.out.now.items)))) }
         ensures unchanged { OnErr result (self.new.out.now.items ≡ self.old.out.now.items) }
         ensures same_vector { self.new.out.ghost_name ≡ self.old.out.ghost_name }
     {
         let start = self.out.len();
+        if number == 0 || number >= 1 << 29 {
+            return Err(WireFault::BadWireType(start));
+        }
         match put_field(number, value, self.out) {
             Ok(()) => Ok(()),
             Err(fault) => {

@@ -1,5 +1,5 @@
 //! Laws of fields and messages. Each function does nothing: its contract is what it is for.
-ghost use Rattle.std.specs.Prelude.{◌≡◌, ℕ, ℤ, ◌++◌, ◌^◌, List, [], Option, Bool, ◌⊎◌, true, false, not, ◌==◌};
+ghost use Rattle.std.specs.Prelude.{◌≡◌, ◌↔◌, ℕ, ℤ, ◌++◌, ◌^◌, ◌<◌, length, List, [], Option, Bool, ◌⊎◌, true, false, not, ◌==◌};
 ghost use Rattle.std.specs.List.{AllByRecursion};
 ghost use Rattle.std.specs.Option.{option_map, unwrap_or, IfSome, IsSome};
 ghost use Rattle.orc_bits.specs.Zigzag.{zig};
@@ -25,7 +25,7 @@ ghost use Rattle.orc_wire.specs.declared.type_msg.TypeMsg.{TypeMsg};
 ghost use Rattle.orc_wire.specs.Fields.{varint, sized, Item, IsField, IsFields, NoField};
 ghost use Rattle.orc_wire.specs.Spells.{number_in, bytes_in, Spells, Faults};
 ghost use Rattle.orc_wire.specs.Kinds.{number, small, signed, small_signed, flag, text, packed, message, kept_from, last, known, all, each, only};
-ghost use Rattle.orc_wire.specs.Table.{newest, in_order, kept_texts, JoinsParts, JoinsSome, OnlyMessage};
+ghost use Rattle.orc_wire.specs.Table.{newest, in_order, kept_texts, AreSmall, JoinsParts, JoinsSome, OnlyMessage};
 ghost use Rattle.orc_wire.specs.Messages.{type_msg, footer};
 ghost use Rattle.orc_wire.specs.Canonical.{number_text, sized_text, known_text, list_text, packed_text, shown_text};
 ghost use Rattle.orc_wire.specs.CanonicalKinds.{AreBelow, AreKept, flag_number};
@@ -42,35 +42,39 @@ pub fn field_laws()
     ensures one_fault { (place : ℕ) (bytes : List ℕ) (e f : WireFault) → NoField place bytes e → NoField place bytes f → e ≡ f }
 {}
 
-/// What the fields of a message say of each kind of member: the newest number or text of that field
-/// number, a list's parts or texts or messages in their order, a message that stands once at most,
-/// kept fields as they stood.
+/// What the fields of a message say of each kind of member, and nothing else: the newest number or
+/// text of that field number, a list's parts or texts in their order, kept fields as they stood. Where
+/// 32 bits are wanted, each number of that field number has them.
 pub fn table_laws()
-    ensures number_last { (n default : ℕ) (fields : List Item) (v : ℕ) → (last default (number n)).says fields v → v ≡ unwrap_or (newest (number_in n) fields) default }
-    ensures small_last { (n default : ℕ) (fields : List Item) (v : ℕ) → (last default (small n)).says fields v → v ≡ unwrap_or (newest (number_in n) fields) default }
-    ensures text_last { (n : ℕ) (default : List ℕ) (fields : List Item) (v : List ℕ) → (last default (text n)).says fields v → v ≡ unwrap_or (newest (bytes_in n) fields) default }
+    ensures number_last { (n default : ℕ) (fields : List Item) (v : ℕ) → (last default (number n)).says fields v ↔ (v ≡ unwrap_or (newest (number_in n) fields) default) }
+    ensures small_last { (n default : ℕ) (fields : List Item) (v : ℕ) → (last default (small n)).says fields v ↔ ((v ≡ unwrap_or (newest (number_in n) fields) default) × AreSmall n fields) }
+    ensures text_last { (n : ℕ) (default : List ℕ) (fields : List Item) (v : List ℕ) → (last default (text n)).says fields v ↔ (v ≡ unwrap_or (newest (bytes_in n) fields) default) }
 
-    ensures small_known { (n : ℕ) (fields : List Item) (v : Option ℕ) → (known (small n)).says fields v → v ≡ newest (number_in n) fields }
-    ensures signed_known { (n : ℕ) (fields : List Item) (v : Option ℤ) → (known (signed n)).says fields v → option_map zig v ≡ newest (number_in n) fields }
-    ensures small_signed_known { (n : ℕ) (fields : List Item) (v : Option ℤ) → (known (small_signed n)).says fields v → option_map zig v ≡ newest (number_in n) fields }
-    ensures flag_known { (n : ℕ) (fields : List Item) (v : Option Bool) → (known (flag n)).says fields v → v ≡ option_map (λ k. not (k == 0)) (newest (number_in n) fields) }
-    ensures text_known { (n : ℕ) (fields : List Item) (v : Option (List ℕ)) → (known (text n)).says fields v → v ≡ newest (bytes_in n) fields }
+    ensures small_known { (n : ℕ) (fields : List Item) (v : Option ℕ) → (known (small n)).says fields v ↔ ((v ≡ newest (number_in n) fields) × AreSmall n fields) }
+    ensures signed_known { (n : ℕ) (fields : List Item) (v : Option ℤ) → (known (signed n)).says fields v ↔ (option_map zig v ≡ newest (number_in n) fields) }
+    ensures small_signed_known { (n : ℕ) (fields : List Item) (v : Option ℤ) → (known (small_signed n)).says fields v ↔ ((option_map zig v ≡ newest (number_in n) fields) × AreSmall n fields) }
+    ensures flag_known { (n : ℕ) (fields : List Item) (v : Option Bool) → (known (flag n)).says fields v ↔ (v ≡ option_map (λ k. not (k == 0)) (newest (number_in n) fields)) }
+    ensures text_known { (n : ℕ) (fields : List Item) (v : Option (List ℕ)) → (known (text n)).says fields v ↔ (v ≡ newest (bytes_in n) fields) }
 
-    ensures packed_list { (limit n : ℕ) (fields : List Item) (v : List ℕ) → (all (packed limit n)).says fields v → JoinsParts (packed limit n).gives fields v }
-    ensures texts { (n : ℕ) (fields : List Item) (v : List (List ℕ)) → (each (text n)).says fields v → v ≡ in_order (bytes_in n) fields }
-    ensures kept { (n : ℕ) (fields : List Item) (v : List ℕ) → (all (kept_from n)).says fields v → v ≡ kept_texts n fields }
+    ensures packed_list { (limit n : ℕ) (fields : List Item) (v : List ℕ) → (all (packed limit n)).says fields v ↔ JoinsParts (packed limit n).gives fields v }
+    ensures texts { (n : ℕ) (fields : List Item) (v : List (List ℕ)) → (each (text n)).says fields v ↔ (v ≡ in_order (bytes_in n) fields) }
+    ensures kept { (n : ℕ) (fields : List Item) (v : List ℕ) → (all (kept_from n)).says fields v ↔ (v ≡ kept_texts n fields) }
 {}
 
 /// Bytes spell one message at most, and where a fault applies none, and no other fault. A list of
 /// messages in one has them in the order of their fields; a message that may stand once stands in one
-/// field at most.
+/// field at most. What is read has numbers of its fields' bits, and where its canonical text holds all
+/// of it, that text is it again.
 pub fn message_laws<M: Message>()
     ensures one { (base : ℕ) (bytes : List ℕ) (a b : M) → Spells M.members M.REQUIRED base bytes a → Spells M.members M.REQUIRED base bytes b → a ≡ b }
     ensures none { (base : ℕ) (bytes : List ℕ) (a : M) (fault : WireFault) → Faults M.members M.REQUIRED base bytes fault → Spells M.members M.REQUIRED base bytes a → ⊥ }
     ensures one_fault { (base : ℕ) (bytes : List ℕ) (e f : WireFault) → Faults M.members M.REQUIRED base bytes e → Faults M.members M.REQUIRED base bytes f → e ≡ f }
 
-    ensures each { (n : ℕ) (fields : List Item) (v : List M) → (each (message M.members M.REQUIRED n)).says fields v → JoinsSome (message M.members M.REQUIRED n).gives fields v }
-    ensures only { (n : ℕ) (fields : List Item) (v : Option M) → (only M.members M.REQUIRED n).says fields v → OnlyMessage M.members M.REQUIRED n fields v }
+    ensures each { (n : ℕ) (fields : List Item) (v : List M) → (each (message M.members M.REQUIRED n)).says fields v ↔ JoinsSome (message M.members M.REQUIRED n).gives fields v }
+    ensures only { (n : ℕ) (fields : List Item) (v : Option M) → (only M.members M.REQUIRED n).says fields v ↔ OnlyMessage M.members M.REQUIRED n fields v }
+
+    ensures bounded { (base : ℕ) (bytes : List ℕ) (a : M) → Spells M.members M.REQUIRED base bytes a → M.canonical.bounded a }
+    ensures again { (base place : ℕ) (bytes : List ℕ) (a : M) → Spells M.members M.REQUIRED base bytes a → M.canonical.whole a → length (M.canonical.text a) < 2 ^ 64 → Spells M.members M.REQUIRED place (M.canonical.text a) a }
 {}
 
 /// When a message's canonical text holds all of it, so that it reads back: always, but for an
@@ -90,13 +94,21 @@ pub fn whole_laws()
     ensures footer_of_kept { (m : Footer) → AllByRecursion (λ t. AreKept 4 t.kept) m.types → AllByRecursion column_stats_text.whole m.statistics → AreKept 10 m.kept → footer_text.whole m }
     ensures footer_read { (base : ℕ) (bytes : List ℕ) (m : Footer) → Spells footer 0 base bytes m → AreKept 10 m.kept × AllByRecursion (λ t. AreKept 4 t.kept) m.types }
 
+    ensures integers { (m : IntegerStatistics) → integer_stats_text.whole m }
+    ensures strings { (m : StringStatistics) → string_stats_text.whole m }
+    ensures buckets { (m : BucketStatistics) → bucket_stats_text.whole m }
+    ensures dates { (m : DateStatistics) → date_stats_text.whole m }
+    ensures binaries { (m : BinaryStatistics) → binary_stats_text.whole m }
     ensures column { (m : ColumnStats) → IfSome m.int_statistics (λ s. integer_stats_text.text s ≡ [] → ⊥) → IfSome m.string_statistics (λ s. string_stats_text.text s ≡ [] → ⊥) → IfSome m.bucket_statistics (λ s. bucket_stats_text.text s ≡ [] → ⊥) → IfSome m.date_statistics (λ s. date_stats_text.text s ≡ [] → ⊥) → IfSome m.binary_statistics (λ s. binary_stats_text.text s ≡ [] → ⊥) → column_stats_text.whole m }
     ensures integer_shown { (m : IntegerStatistics) → IsSome m.minimum ⊎ (IsSome m.maximum ⊎ IsSome m.sum) → integer_stats_text.text m ≡ [] → ⊥ }
     ensures string_shown { (m : StringStatistics) → IsSome m.minimum ⊎ (IsSome m.maximum ⊎ IsSome m.sum) → string_stats_text.text m ≡ [] → ⊥ }
     ensures bucket_shown { (m : BucketStatistics) → AreBelow (2 ^ 64) m.count → (m.count ≡ [] → ⊥) → bucket_stats_text.text m ≡ [] → ⊥ }
     ensures date_shown { (m : DateStatistics) → IsSome m.minimum ⊎ IsSome m.maximum → date_stats_text.text m ≡ [] → ⊥ }
     ensures binary_shown { (m : BinaryStatistics) → IsSome m.sum → binary_stats_text.text m ≡ [] → ⊥ }
+    ensures stripes { (m : StripeStatistics) → AllByRecursion column_stats_text.whole m.col_stats → stripe_stats_text.whole m }
+    ensures metadata { (m : Metadata) → AllByRecursion stripe_stats_text.whole m.stripe_stats → metadata_text.whole m }
     ensures entry { (m : RowIndexEntry) → IfSome m.statistics column_stats_text.whole → row_index_entry_text.whole m }
+    ensures index { (m : RowIndexMsg) → AllByRecursion row_index_entry_text.whole m.entries → row_index_text.whole m }
     ensures column_shown { (m : ColumnStats) → column_stats_text.text m ≡ [] → ⊥ }
 {}
 

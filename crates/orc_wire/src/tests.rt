@@ -1,26 +1,36 @@
 use crate::*;
-use std::alloc::Global;
+use std::alloc::{AllocError, Global};
 use std::process::Abort;
+use std::test::Fail;
 
 mod directories;
 mod fields;
 mod numbers;
 mod statistics;
 
-/// Whether memory was wanted, which a test with memory to spare allows once at most.
-fn is_first_refusal(fault: WireFault, refused: &mut bool) -> bool {
-    let first = fault == WireFault::OutOfMemory && !*refused;
-    if first {
-        *refused = true;
+/// The message of the text. A call that answers want of memory is made once more, and its answer is
+/// then demanded.
+fn read_message<M: Message>(alloc: Global, text: &[u8]) -> Result<M, WireFault> {
+    match M::read(alloc, text) {
+        Err(WireFault::OutOfMemory) => M::read(alloc, text),
+        answer => answer,
     }
-    first
+}
+
+/// The canonical text of the message, which is put twice where memory is refused once.
+fn text_of<M: Message>(alloc: Global, message: &M) -> Result<Vec<u8>, WireFault> {
+    let mut out = Vec::new(alloc);
+    match message.put(&mut out) {
+        Err(WireFault::OutOfMemory) => message.put(&mut out)?,
+        answer => answer?,
+    }
+    Ok(out)
 }
 
 /// The message of the text, and its canonical text.
 fn both_ways<M: Message>(alloc: Global, text: &[u8]) -> Result<(M, Vec<u8>), WireFault> {
-    let message = M::read(alloc, text)?;
-    let mut out = Vec::new(alloc);
-    message.put(&mut out)?;
+    let message = read_message::<M>(alloc, text)?;
+    let out = text_of(alloc, &message)?;
     Ok((message, out))
 }
 
@@ -28,37 +38,31 @@ fn both_ways<M: Message>(alloc: Global, text: &[u8]) -> Result<(M, Vec<u8>), Wir
 type Refused<'a> = &'a [(&'static [u8], WireFault)];
 
 /// Each text is refused by its fault.
-fn check_refused<M: Message>(
-    rt: &impl Abort,
-    alloc: Global,
-    table: Refused<'_>,
-    refused: &mut bool,
-) {
+fn check_refused<M: Message>(rt: &impl Abort, alloc: Global, table: Refused<'_>) {
     for (text, answer) in table {
-        match M::read(alloc, text) {
-            Ok(_message) => assert!(rt; false, "of {text:?}"),
-            Err(fault) if is_first_refusal(fault, refused) => {}
-            Err(fault) => assert_eq!(rt; fault, *answer, "of {text:?}"),
-        }
+        let fault = read_message::<M>(alloc, text).err();
+        assert_eq!(rt; fault, Some(*answer), "of {text:?}");
     }
 }
 
 /// The text is a message's, and is written as the canonical one.
-fn check_written<M: Message>(
-    rt: &impl Abort,
-    alloc: Global,
-    text: &[u8],
-    canonical: &[u8],
-    refused: &mut bool,
-) {
+fn check_written<M: Message>(rt: &impl Abort, alloc: Global, text: &[u8], canonical: &[u8]) {
     match both_ways::<M>(alloc, text) {
         Ok((_message, out)) => assert_eq!(rt; out.as_slice(), canonical, "of {text:?}"),
-        Err(fault) => assert!(rt; is_first_refusal(fault, refused), "{fault} of {text:?}"),
+        Err(fault) => assert!(rt; false, "{fault} of {text:?}"),
+    }
+}
+
+/// What a fault is shown as.
+fn shown(alloc: Global, fault: WireFault) -> Result<String, AllocError> {
+    match format!(in alloc; "{fault}") {
+        Err(_) => format!(in alloc; "{fault}"),
+        answer => answer,
     }
 }
 
 #[test]
-fn fault_texts(rt: HostRuntime) {
+fn fault_texts(rt: HostRuntime) -> Result<(), Fail> {
     let table = [
         (WireFault::Short(3), "wire 1 Short at 3"),
         (WireFault::BadVarint(3), "wire 2 BadVarint at 3"),
@@ -68,14 +72,9 @@ fn fault_texts(rt: HostRuntime) {
         (WireFault::Missing, "wire 6 Missing at 0"),
         (WireFault::OutOfMemory, "wire 7 OutOfMemory"),
     ];
-    let mut refused = false;
     for (fault, text) in table {
-        match format!(in rt.alloc(); "{fault}") {
-            Ok(shown) => assert_eq!(rt; shown.as_str(), text),
-            Err(_) => {
-                assert!(rt; !refused, "memory is refused once at most");
-                refused = true;
-            }
-        }
+        let shown = shown(rt.alloc(), fault)?;
+        assert_eq!(rt; shown.as_str(), text);
     }
+    Ok(())
 }

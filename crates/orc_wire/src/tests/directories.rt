@@ -16,8 +16,8 @@ const SCRIPTS: [[u8; 19]; 3] = [
     ],
 ];
 
-/// Footers of a file without rows, of one stripe and of two, and one with a user's pair whose value is
-/// empty, a writer, and unknown fields; with the content's length, the rows and the writer.
+/// Footers of a file without rows, of one stripe and of two, and one with two of a user's pairs, one of
+/// whose values is empty, a writer, and unknown fields; with the content's length, the rows and the writer.
 const FOOTERS: [(&'static [u8], (u64, u64, Option<u32>)); 4] = [
     (
         &[
@@ -48,8 +48,9 @@ const FOOTERS: [(&'static [u8], (u64, u64, Option<u32>)); 4] = [
     ),
     (
         &[
-            0x08, 0x00, 0x10, 0x00, 0x2a, 0x07, 0x0a, 0x03, 0x6b, 0x65, 0x79, 0x12, 0x00, 0x30,
-            0x00, 0x40, 0x00, 0x48, 0x07, 0x58, 0x01, 0x62, 0x01, 0xff, 0xc0, 0xb8, 0x02, 0x05,
+            0x08, 0x00, 0x10, 0x00, 0x2a, 0x07, 0x0a, 0x03, 0x6b, 0x65, 0x79, 0x12, 0x00, 0x2a,
+            0x06, 0x0a, 0x01, 0x61, 0x12, 0x01, 0x62, 0x30, 0x00, 0x40, 0x00, 0x48, 0x07, 0x58,
+            0x01, 0x62, 0x01, 0xff, 0xc0, 0xb8, 0x02, 0x05,
         ],
         (0, 0, Some(7)),
     ),
@@ -90,128 +91,97 @@ const NO_FOOTERS: [(&'static [u8], WireFault); 1] = [(
 )];
 
 #[test]
-fn postscripts(rt: HostRuntime) {
-    let alloc = rt.alloc();
-    let mut refused = false;
+fn postscripts(rt: HostRuntime) -> Result<(), Fail> {
     let footers = [(36, 0), (56, 22), (68, 44)];
     for (text, (footer, metadata)) in SCRIPTS.iter().zip(footers) {
-        let (script, out) = match both_ways::<PostScript>(alloc, text) {
-            Ok(both) => both,
-            Err(fault) => {
-                assert!(rt; is_first_refusal(fault, &mut refused), "{fault}");
-                continue;
-            }
-        };
+        let (script, out) = both_ways::<PostScript>(rt.alloc(), text)?;
         assert_eq!(rt; out.as_slice(), text.as_slice());
-        assert_eq!(rt;
-            (script.footer_length, script.metadata_length),
-            (footer, metadata)
-        );
+        let lengths = (script.footer_length, script.metadata_length);
+        assert_eq!(rt; lengths, (footer, metadata));
         assert_eq!(rt; (script.compression, script.writer_version), (0, Some(6)));
         assert_eq!(rt; script.version.as_slice(), [0, 11].as_slice());
         assert_eq!(rt; script.magic.as_slice(), b"ORC".as_slice());
     }
+    Ok(())
 }
 
 #[test]
-fn directories(rt: HostRuntime) {
-    let alloc = rt.alloc();
-    let mut refused = false;
-    match both_ways::<StripeFooter>(alloc, &DIRECTORY) {
-        Ok((footer, out)) => {
-            assert_eq!(rt; out.as_slice(), DIRECTORY.as_slice());
-            let stream = StreamMsg {
-                kind: 1,
-                column: 1,
-                length: 3,
-            };
-            assert_eq!(rt; footer.streams.as_slice(), [stream].as_slice());
-            assert_eq!(rt; footer.columns.as_slice().len(), 2);
-        }
-        Err(fault) => assert!(rt; is_first_refusal(fault, &mut refused), "{fault}"),
-    }
-    check_refused::<StripeFooter>(&rt, alloc, &NO_DIRECTORIES, &mut refused);
+fn directories(rt: HostRuntime) -> Result<(), Fail> {
+    let (footer, out) = both_ways::<StripeFooter>(rt.alloc(), &DIRECTORY)?;
+    assert_eq!(rt; out.as_slice(), DIRECTORY.as_slice());
+    let stream = StreamMsg {
+        kind: 1,
+        column: 1,
+        length: 3,
+    };
+    assert_eq!(rt; footer.streams.as_slice(), [stream].as_slice());
+    assert_eq!(rt; footer.columns.as_slice().len(), 2);
+    check_refused::<StripeFooter>(&rt, rt.alloc(), &NO_DIRECTORIES);
+    Ok(())
 }
 
 #[test]
-fn packed_lists(rt: HostRuntime) {
-    let alloc = rt.alloc();
-    let mut refused = false;
-    // a packed list plain, packed and in three parts, before and behind other fields
+fn packed_lists(rt: HostRuntime) -> Result<(), Fail> {
+    let plain = read_message::<PostScript>(rt.alloc(), &[0x20, 0x00, 0x20, 0x0b])?;
+    assert_eq!(rt; plain.version.as_slice(), [0, 11].as_slice());
+    // plain, packed and in three parts, before and behind other fields
     let version = [
         0x20, 0x00, 0x22, 0x02, 0x0b, 0x05, 0x08, 0x01, 0x22, 0x00, 0x20, 0x07,
     ];
-    match PostScript::read(alloc, &[0x20, 0x00, 0x20, 0x0b]) {
-        Ok(script) => assert_eq!(rt; script.version.as_slice(), [0, 11].as_slice()),
-        Err(fault) => assert!(rt; is_first_refusal(fault, &mut refused), "{fault}"),
-    }
-    match PostScript::read(alloc, &version) {
-        Ok(script) => {
-            assert_eq!(rt; script.version.as_slice(), [0, 11, 5, 7].as_slice());
-            assert_eq!(rt; (script.footer_length, script.writer_version), (1, None));
-        }
-        Err(fault) => assert!(rt; is_first_refusal(fault, &mut refused), "{fault}"),
-    }
+    let script = read_message::<PostScript>(rt.alloc(), &version)?;
+    assert_eq!(rt; script.version.as_slice(), [0, 11, 5, 7].as_slice());
+    assert_eq!(rt; (script.footer_length, script.writer_version), (1, None));
+    Ok(())
 }
 
+/// A struct, a number with a kept field, and a list and a struct with one each.
+const TYPES: [&'static [u8]; 4] = [
+    &[0x08, 0x0c, 0x12, 0x01, 0x01, 0x1a, 0x01, b'n'],
+    &[0x08, 0x04, 0x22, 0x01, 0x61, 0x2d, 1, 2, 3, 4],
+    &[0x08, 0x0a, 0x12, 0x01, 0x01, 0x28, 0x01],
+    &[0x08, 0x0c, 0x12, 0x01, 0x01, 0x1a, 0x01, b'n', 0x28, 0x01],
+];
+
 #[test]
-fn types(rt: HostRuntime) {
-    let alloc = rt.alloc();
-    let mut refused = false;
-    let texts: [&[u8]; 2] = [
-        &[0x08, 0x0c, 0x12, 0x01, 0x01, 0x1a, 0x01, b'n'],
-        &[0x08, 0x04, 0x22, 0x01, 0x61, 0x2d, 1, 2, 3, 4],
-    ];
-    for text in texts {
-        check_written::<TypeMsg>(&rt, alloc, text, text, &mut refused);
+fn types(rt: HostRuntime) -> Result<(), Fail> {
+    for text in TYPES {
+        check_written::<TypeMsg>(&rt, rt.alloc(), text, text);
     }
     // kept fields between known ones
     let kept = [
         0x22, 0x01, 0x61, 0x08, 0x0c, 0x12, 0x01, 0x01, 0x2d, 1, 2, 3, 4, 0x1a, 0x01, b'n', 0x28,
         0x80, 0x00,
     ];
-    match TypeMsg::read(alloc, &kept) {
-        Ok(message) => {
-            assert_eq!(rt; message.kind, 12);
-            assert_eq!(rt; message.subtypes.as_slice(), [1].as_slice());
-            assert_eq!(rt; message.field_names.as_slice().len(), 1);
-            for name in message.field_names.as_slice() {
-                assert_eq!(rt; name.as_slice(), b"n".as_slice());
-            }
-            let fields = [0x22, 0x01, 0x61, 0x2d, 1, 2, 3, 4, 0x28, 0x80, 0x00];
-            assert_eq!(rt; message.kept.as_slice(), fields.as_slice());
-            let back = Items::from_vec(message.kept.into_vec());
-            assert_eq!(rt; back.as_slice(), fields.as_slice());
-        }
-        Err(fault) => assert!(rt; is_first_refusal(fault, &mut refused), "{fault}"),
+    let message = read_message::<TypeMsg>(rt.alloc(), &kept)?;
+    assert_eq!(rt; message.kind, 12);
+    assert_eq!(rt; message.subtypes.as_slice(), [1].as_slice());
+    assert_eq!(rt; message.field_names.as_slice().len(), 1);
+    for name in message.field_names.as_slice() {
+        assert_eq!(rt; name.as_slice(), b"n".as_slice());
     }
+    let fields = [0x22, 0x01, 0x61, 0x2d, 1, 2, 3, 4, 0x28, 0x80, 0x00];
+    assert_eq!(rt; message.kept.as_slice(), fields.as_slice());
+    let back = Items::from_vec(message.kept.into_vec());
+    assert_eq!(rt; back.as_slice(), fields.as_slice());
+    Ok(())
 }
 
 #[test]
-fn footers(rt: HostRuntime) {
-    let alloc = rt.alloc();
-    let mut refused = false;
+fn footers(rt: HostRuntime) -> Result<(), Fail> {
     for (text, seen) in FOOTERS {
-        match both_ways::<Footer>(alloc, text) {
-            Ok((footer, out)) => {
-                let is = (footer.content_length, footer.number_of_rows, footer.writer);
-                assert_eq!(rt; is, seen, "of {text:?}");
-                assert_eq!(rt; out.as_slice(), text);
-            }
-            Err(fault) => assert!(rt; is_first_refusal(fault, &mut refused), "{fault}"),
-        }
+        let (footer, out) = both_ways::<Footer>(rt.alloc(), text)?;
+        let is = (footer.content_length, footer.number_of_rows, footer.writer);
+        assert_eq!(rt; is, seen, "of {text:?}");
+        assert_eq!(rt; out.as_slice(), text);
     }
     // unknown fields between known ones, and a known number with another wire type
     let mixed = &[
         0x58, 0x01, 0x08, 0x03, 0x0a, 0x00, 0x62, 0x01, 0xff, 0x10, 0x05, 0xc0, 0xb8, 0x02, 0x05,
     ];
-    match Footer::read(alloc, mixed) {
-        Ok(footer) => {
-            assert_eq!(rt; (footer.header_length, footer.writer), (3, None));
-            let kept = &[0x58, 0x01, 0x62, 0x01, 0xff, 0xc0, 0xb8, 0x02, 0x05];
-            assert_eq!(rt; footer.kept.as_slice(), kept.as_slice());
-        }
-        Err(fault) => assert!(rt; is_first_refusal(fault, &mut refused), "{fault}"),
-    }
-    check_refused::<Footer>(&rt, alloc, &NO_FOOTERS, &mut refused);
+    let footer = read_message::<Footer>(rt.alloc(), mixed)?;
+    assert_eq!(rt; (footer.header_length, footer.writer), (3, None));
+    let kept = &[0x58, 0x01, 0x62, 0x01, 0xff, 0xc0, 0xb8, 0x02, 0x05];
+    assert_eq!(rt; footer.kept.as_slice(), kept.as_slice());
+    check_refused::<Footer>(&rt, rt.alloc(), &NO_FOOTERS);
+    Ok(())
 }

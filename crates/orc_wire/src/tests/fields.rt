@@ -28,16 +28,27 @@ const FAULTS: [(&'static [u8], WireFault); 5] = [
     ),
 ];
 
+/// Numbers that no field has.
+const NO_NUMBERS: [u32; 3] = [0, 1 << 29, u32::MAX];
+
+/// Puts a field, once more where memory is refused.
+fn put_field(writer: &mut FieldWriter<'_>, number: u32, value: Value<'_>) -> Result<(), WireFault> {
+    match writer.put(number, value) {
+        Err(WireFault::OutOfMemory) => writer.put(number, value),
+        answer => answer,
+    }
+}
+
 #[test]
 fn fields_written(rt: HostRuntime) {
     let mut out = Vec::new(rt.alloc());
     let mut writer = FieldWriter::new(&mut out);
-    let mut refused = false;
     for (number, value, _) in FIELDS {
-        if let Err(fault) = writer.put(number, value) {
-            assert!(rt; is_first_refusal(fault, &mut refused), "{fault}");
-            return;
-        }
+        assert_eq!(rt; put_field(&mut writer, number, value), Ok(()));
+    }
+    for number in NO_NUMBERS {
+        let put = put_field(&mut writer, number, Value::Varint(1));
+        assert_eq!(rt; put, Err(WireFault::BadWireType(28)), "of {number}");
     }
     assert_eq!(rt; out.as_slice(), TEXT.as_slice());
 }

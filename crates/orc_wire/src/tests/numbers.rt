@@ -85,20 +85,14 @@ fn numbers_alone(rt: HostRuntime) {
 }
 
 #[test]
-fn encodings_written(rt: HostRuntime) {
-    let mut refused = false;
+fn encodings_written(rt: HostRuntime) -> Result<(), Fail> {
     for (kind, text) in WRITTEN {
-        let mut out = Vec::new(rt.alloc());
         let encoding = Encoding {
             kind,
             dictionary_size: 5,
         };
-        match encoding.put(&mut out) {
-            Ok(()) => assert_eq!(rt; out.as_slice(), text),
-            Err(fault) => {
-                assert!(rt; is_first_refusal(fault, &mut refused), "{fault}");
-                assert_eq!(rt; out.len(), 0);
-            }
-        }
+        let out = text_of(rt.alloc(), &encoding)?;
+        assert_eq!(rt; out.as_slice(), text);
     }
+    Ok(())
 }

@@ -2,7 +2,7 @@ use super::*;
 
 /// A record of each kind, some with a part missing, and 2^64-1 values, with what is written; a record
 /// without a part isn't.
-const COLUMNS: [(&'static [u8], &'static [u8]); 7] = [
+const COLUMNS: [(&'static [u8], &'static [u8]); 9] = [
     (
         &[
             0x08, 0x03, 0x12, 0x06, 0x08, 0x0e, 0x10, 0x0e, 0x18, 0x2a, 0x50, 0x00,
@@ -32,6 +32,20 @@ const COLUMNS: [(&'static [u8], &'static [u8]); 7] = [
     (
         &[0x08, 0x01, 0x42, 0x02, 0x08, 0x0a],
         &[0x08, 0x01, 0x42, 0x02, 0x08, 0x0a],
+    ),
+    // both texts and their lengths' sum
+    (
+        &[
+            0x08, 0x02, 0x22, 0x08, 0x0a, 0x01, 0x61, 0x12, 0x01, 0x62, 0x18, 0x04,
+        ],
+        &[
+            0x08, 0x02, 0x22, 0x08, 0x0a, 0x01, 0x61, 0x12, 0x01, 0x62, 0x18, 0x04,
+        ],
+    ),
+    // two buckets, read unpacked
+    (
+        &[0x08, 0x0c, 0x2a, 0x05, 0x08, 0x05, 0x08, 0xac, 0x02],
+        &[0x08, 0x0c, 0x2a, 0x05, 0x0a, 0x03, 0x05, 0xac, 0x02],
     ),
     (&[0x08, 0x00], &[0x08, 0x00]),
     (&[0x08, 0x01, 0x12, 0x00], &[0x08, 0x01]),
@@ -52,9 +66,7 @@ const NO_COLUMNS: [(&'static [u8], WireFault); 5] = [
 ];
 
 #[test]
-fn stripes_and_indexes(rt: HostRuntime) {
-    let alloc = rt.alloc();
-    let mut refused = false;
+fn stripes(rt: HostRuntime) -> Result<(), Fail> {
     let metadata = &[
         0x0a, 0x14, 0x0a, 0x04, 0x08, 0x03, 0x50, 0x00, 0x0a, 0x0c, 0x08, 0x03, 0x12, 0x06, 0x08,
         0x0e, 0x10, 0x0e, 0x18, 0x2a, 0x50, 0x00,
@@ -63,48 +75,51 @@ fn stripes_and_indexes(rt: HostRuntime) {
     let twice = [*metadata, *metadata];
     let all = twice.as_flattened();
     for (text, stripes) in [(&all[..0], 0), (&all[..22], 1), (all, 2)] {
-        match both_ways::<Metadata>(alloc, text) {
-            Ok((message, out)) => {
-                assert_eq!(rt; message.stripe_stats.as_slice().len(), stripes);
-                assert_eq!(rt; out.as_slice(), text);
-            }
-            Err(fault) => assert!(rt; is_first_refusal(fault, &mut refused), "{fault}"),
-        }
+        let (message, out) = both_ways::<Metadata>(rt.alloc(), text)?;
+        assert_eq!(rt; message.stripe_stats.as_slice().len(), stripes);
+        assert_eq!(rt; out.as_slice(), text);
     }
-    let index = &[
-        0x0a, 0x12, 0x0a, 0x02, 0x00, 0x00, 0x12, 0x0c, 0x08, 0x02, 0x12, 0x06, 0x08, 0x02, 0x10,
-        0x04, 0x18, 0x06, 0x50, 0x00,
-    ];
-    match both_ways::<RowIndexMsg>(alloc, index) {
-        Ok((message, out)) => {
-            assert_eq!(rt; message.entries.as_slice().len(), 1);
-            assert_eq!(rt; out.as_slice(), index.as_slice());
-        }
-        Err(fault) => assert!(rt; is_first_refusal(fault, &mut refused), "{fault}"),
+    Ok(())
+}
+
+/// Two groups of rows, of which one has statistics.
+const INDEX: [u8; 27] = [
+    0x0a, 0x12, 0x0a, 0x02, 0x00, 0x00, 0x12, 0x0c, 0x08, 0x02, 0x12, 0x06, 0x08, 0x02, 0x10, 0x04,
+    0x18, 0x06, 0x50, 0x00, 0x0a, 0x05, 0x0a, 0x03, 0x05, 0xac, 0x02,
+];
+
+#[test]
+fn indexes(rt: HostRuntime) -> Result<(), Fail> {
+    let alloc = rt.alloc();
+    let (index, out) = both_ways::<RowIndexMsg>(alloc, &INDEX)?;
+    assert_eq!(rt; out.as_slice(), INDEX.as_slice());
+    let positions: [&[u64]; 2] = [&[0, 0], &[5, 300]];
+    assert_eq!(rt; index.entries.as_slice().len(), 2);
+    for (entry, answer) in index.entries.as_slice().iter().zip(positions) {
+        assert_eq!(rt; entry.positions.as_slice(), answer);
     }
+    // positions unpacked, packed and unpacked again
+    let unpacked = [0x08, 0x00, 0x0a, 0x02, 0xac, 0x02, 0x08, 0x05];
+    let entry = read_message::<RowIndexEntry>(alloc, &unpacked)?;
+    assert_eq!(rt; entry.positions.as_slice(), [0, 300, 5].as_slice());
+    Ok(())
 }
 
 #[test]
-fn columns(rt: HostRuntime) {
+fn columns(rt: HostRuntime) -> Result<(), Fail> {
     let alloc = rt.alloc();
-    let mut refused = false;
     for (text, canonical) in COLUMNS {
-        check_written::<ColumnStats>(&rt, alloc, text, canonical, &mut refused);
+        check_written::<ColumnStats>(&rt, alloc, text, canonical);
     }
-    match ColumnStats::read(
-        alloc,
-        &[0x12, 0x02, 0x18, 0x01, 0x62, 0x03, 0x08, 0x01, 0x80],
-    ) {
-        Ok(stats) => {
-            assert_eq!(rt; (stats.number_of_values, stats.has_null), (0, None));
-            let integers = IntegerStatistics {
-                minimum: None,
-                maximum: None,
-                sum: Some(-1),
-            };
-            assert_eq!(rt; stats.int_statistics, Some(integers));
-        }
-        Err(fault) => assert!(rt; is_first_refusal(fault, &mut refused), "{fault}"),
-    }
-    check_refused::<ColumnStats>(&rt, alloc, &NO_COLUMNS, &mut refused);
+    let only_sum = [0x12, 0x02, 0x18, 0x01, 0x62, 0x03, 0x08, 0x01, 0x80];
+    let stats = read_message::<ColumnStats>(alloc, &only_sum)?;
+    assert_eq!(rt; (stats.number_of_values, stats.has_null), (0, None));
+    let integers = IntegerStatistics {
+        minimum: None,
+        maximum: None,
+        sum: Some(-1),
+    };
+    assert_eq!(rt; stats.int_statistics, Some(integers));
+    check_refused::<ColumnStats>(&rt, alloc, &NO_COLUMNS);
+    Ok(())
 }

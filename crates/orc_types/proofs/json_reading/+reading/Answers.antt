@@ -7,11 +7,12 @@ use Rattle.serde_json.specs.View.{view as json_view, items_view, members_view}
 use Rattle.orc_types.specs.Shapes.{width, widths, names_of}
 use Rattle.orc_types.specs.Cells.{cells_of}
 use Rattle.orc_types.specs.Views.{view, views, shape, fields as fields_view}
-use Rattle.orc_types.specs.FieldNames.{all_known}
+use Rattle.orc_types.specs.FieldNames.{all_known, are_distinct}
 use Rattle.orc_types.specs.JsonRows.{Spells, EachSpells, MemberSpells, FieldsSpell}
 use Rattle.orc_types.specs.JsonFaults.{FaultAt, Somewhere, InElement}
 use Rattle.orc_types.proofs.ByColumn.{width_within}
 use Rattle.orc_types.proofs.JsonFronts.{elements_more, elements_all, element_at, fields_more, fields_all, in_field, array_spells, object_spells, array_fault, object_fault}
+use Rattle.orc_types.proofs.Names.{distinct_at}
 use Rattle.orc_types.proofs.json_reading.+reading.Goals as goal
 use Rattle.orc_types.proofs.json_reading.+reading.Goals.{fields_of-in-None, fields_of-in-Some+in_ok-row-in-Some}
 
@@ -35,7 +36,8 @@ fields_of-row_of-requires t c =
     let w = width_within c.deref-field-items.result.now c.loop-field.field-index c.field-item.result c.loop-field-test.true c.field-item.is in
     let e = ap (λ fs. widths (fields_view fs)) c.deref-field-items.ensures.value in
     let g : 2 * width (shape c.field-item.result.tree) < t = omega (arith, c.decreases, w, e) in
-    (g, tt)
+    let e2 = ap (λ fs. are_distinct (fields_view fs)) c.deref-field-items.ensures.value in
+    (g, distinct_at c.deref-field-items.result.now c.loop-field.field-index c.field-item.result c.loop-field-test.true c.field-item.is (e2 ∙ c.requires))
 
 pub fields_of-returns-in_err-row-in-Some-clause-fault : goal.fields_of-returns-in_err-row-in-Some-clause-fault
 fields_of-returns-in_err-row-in-Some-clause-fault t c =

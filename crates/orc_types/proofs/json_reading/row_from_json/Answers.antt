@@ -15,13 +15,13 @@ matches (Err y) P P' Q Q' f g h k = g y k
 
 pub returns-clause-only : goal.returns-clause-only
 returns-clause-only c = λ row distinct spelled.
-    let here : Spells (shape c.tree-2.result.now) (json_view c.args.json.now) row = rw c.tree-2.ensures.same spelled in
-    matches c.row_of.result _ _ _ _ (λ found h. one_row (shape c.tree-2.result.now) (json_view c.args.json.now) (view found) row h here) (λ e stands. only_memory (shape c.tree-2.result.now) (json_view c.args.json.now) row e here stands) c.row_of.ensures.found c.row_of.ensures.fault
+    let here : Spells (shape c.tree.result.now) (json_view c.args.json.now) row = rw c.tree.ensures.same spelled in
+    matches c.row_of.result _ _ _ _ (λ found h. one_row (shape c.tree.result.now) (json_view c.args.json.now) (view found) row h here) (λ e stands. only_memory (shape c.tree.result.now) (json_view c.args.json.now) row e here stands) c.row_of.ensures.found c.row_of.ensures.fault
 
 pub returns-clause-fits : goal.returns-clause-fits
 returns-clause-fits c =
-    IfOk-weaker c.row_of.result _ _ (λ row found. row_fits c.args.schema.now (json_view c.args.json.now) (view row) (subst (λ s. Spells s (json_view c.args.json.now) (view row)) c.tree-2.ensures.same found)) c.row_of.ensures.found
+    IfOk-weaker c.row_of.result _ _ (λ row found. row_fits c.args.schema.now (json_view c.args.json.now) (view row) (subst (λ s. Spells s (json_view c.args.json.now) (view row)) c.tree.ensures.same found)) c.row_of.ensures.found
 
 pub returns-clause-duplicate : goal.returns-clause-duplicate
 returns-clause-duplicate c =
-    IfErr-weaker c.row_of.result _ _ (λ e stands is. absurd (nowhere (FaultAt fault.DuplicateField) no_duplicate (shape c.tree-2.result.now) (json_view c.args.json.now) (subst (λ x. Somewhere (FaultAt x) (shape c.tree-2.result.now) (json_view c.args.json.now)) is (stands (λ q. cc))))) c.row_of.ensures.fault
+    IfErr-weaker c.row_of.result _ _ (λ e stands is. absurd (nowhere (FaultAt fault.DuplicateField) no_duplicate (shape c.tree.result.now) (json_view c.args.json.now) (subst (λ x. Somewhere (FaultAt x) (shape c.tree.result.now) (json_view c.args.json.now)) is (stands (λ q. cc))))) c.row_of.ensures.fault

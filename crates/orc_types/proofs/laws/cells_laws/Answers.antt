@@ -1,4 +1,5 @@
 use Rattle.orc_types.proofs.Together.{cells-append, cells_fit}
+use Rattle.orc_types.proofs.Deeper.{cells-add, elements-length, members-length}
 use Rattle.orc_types.proofs.laws.cells_laws.Goals as goal
 
 pub returns-clause-append : goal.returns-clause-append
@@ -6,3 +7,12 @@ returns-clause-append c = cells-append
 
 pub returns-clause-fit : goal.returns-clause-fit
 returns-clause-fit c = cells_fit
+
+pub returns-clause-deeper : goal.returns-clause-deeper
+returns-clause-deeper c = cells-add
+
+pub returns-clause-elements : goal.returns-clause-elements
+returns-clause-elements c = elements-length
+
+pub returns-clause-members : goal.returns-clause-members
+returns-clause-members c = members-length

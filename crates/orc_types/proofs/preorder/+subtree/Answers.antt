@@ -5,11 +5,15 @@ use Rattle.std.proofs.lemmas.List.{map-append}
 use Rattle.orc_types.specs.Views.{named, shape, fields}
 use Rattle.orc_types.specs.Preorder.{NoFieldsAt}
 use Rattle.orc_types.proofs.Views.{named-is, shape-Scalar, shape-List, shape-Struct}
-use Rattle.orc_types.proofs.Trees.{get_or-any, number-scalar_of, past_end, list_wrong, list_fault, list_found, struct_fault, struct_found, scalar_wrong, scalar_found, lengths_wrong, name_fault, field_fault, reached_place, reached_more, reached_all}
+use Rattle.orc_types.proofs.Trees.{get_or-any, number-scalar_of, got_below, past_end, list_wrong, list_fault, list_found, struct_fault, struct_found, scalar_wrong, scalar_found, lengths_wrong, name_fault, field_fault, reached_place, reached_more, reached_all}
 use Rattle.orc_types.proofs.preorder.+subtree.Goals as goal
 
 pub subtree-returns-in_default-clause-fault : goal.subtree-returns-in_default-clause-fault
 subtree-returns-in_default-clause-fault t c = past_end c.args.types.now c.args.at (sym c.in_default.ensures.node)
+
+pub subtree-returns-then-levels-eq0-clause-fault : goal.subtree-returns-then-levels-eq0-clause-fault
+subtree-returns-then-levels-eq0-clause-fault t c =
+    rw c.if-levels-eq0.true (got_below c.args.types.now c.args.at c.in-Some.t.now (sym c.in-Some.ensures.node), tt)
 
 pub subtree-returns-then-not-has_one_subtype-clause-fault : goal.subtree-returns-then-not-has_one_subtype-clause-fault
 subtree-returns-then-not-has_one_subtype-clause-fault t c =

@@ -1,6 +1,7 @@
 use Rattle.orc_wire.specs.Kinds.{message}
+use Rattle.orc_wire.specs.Canonical.{spells_again}
 use Rattle.orc_wire.specs.SpellsLaws.{one_spelled, none_spelled, one_refusal}
-use Rattle.orc_wire.proofs.TableLaws.{each_joins, only_is}
+use Rattle.orc_wire.proofs.TableLaws.{each_parts, only_parts}
 use Rattle.orc_wire.proofs.laws.message_laws.Goals as goal
 
 pub returns-clause-one : goal.returns-clause-one
@@ -13,7 +14,15 @@ pub returns-clause-one_fault : goal.returns-clause-one_fault
 returns-clause-one_fault g c = let m = g.M.Message in λ base. one_refusal m.members m.REQUIRED base m.canonical.single
 
 pub returns-clause-each : goal.returns-clause-each
-returns-clause-each g c = let m = g.M.Message in λ n. each_joins (message m.members m.REQUIRED n)
+returns-clause-each g c = let m = g.M.Message in λ n. each_parts (message m.members m.REQUIRED n)
 
 pub returns-clause-only : goal.returns-clause-only
-returns-clause-only g c = let m = g.M.Message in only_is m.members m.REQUIRED
+returns-clause-only g c = let m = g.M.Message in only_parts m.members m.REQUIRED
+
+pub returns-clause-bounded : goal.returns-clause-bounded
+returns-clause-bounded g c = let m = g.M.Message in λ base bytes a is. m.canonical.read base is.fields bytes a is.are is.says
+
+pub returns-clause-again : goal.returns-clause-again
+returns-clause-again g c =
+    let m = g.M.Message in
+    λ base place bytes a is whole len. spells_again m.members m.canonical m.REQUIRED place a (m.canonical.read base is.fields bytes a is.are is.says) whole len g.met.M.Message.complete

@@ -1,5 +1,5 @@
 use Rattle.orc_wire.specs.Kinds.{packed}
-use Rattle.orc_wire.proofs.TableLaws.{number_last, small_last, text_last, small_known, signed_known, small_signed_known, flag_known, text_known, text_each, all_joins, kept_is}
+use Rattle.orc_wire.proofs.TableLaws.{number_last, small_last, text_last, small_known, signed_known, small_signed_known, flag_known, text_known, text_each, all_parts, kept_parts}
 use Rattle.orc_wire.proofs.laws.table_laws.Goals as goal
 
 pub returns-clause-number_last : goal.returns-clause-number_last
@@ -27,10 +27,10 @@ pub returns-clause-text_known : goal.returns-clause-text_known
 returns-clause-text_known c = text_known
 
 pub returns-clause-packed_list : goal.returns-clause-packed_list
-returns-clause-packed_list c = λ limit n. all_joins (packed limit n)
+returns-clause-packed_list c = λ limit n. all_parts (packed limit n)
 
 pub returns-clause-texts : goal.returns-clause-texts
 returns-clause-texts c = text_each
 
 pub returns-clause-kept : goal.returns-clause-kept
-returns-clause-kept c = kept_is
+returns-clause-kept c = kept_parts

@@ -1,6 +1,6 @@
 use Rattle.orc_wire.specs.CanonicalKinds.{says_kept}
 use Rattle.orc_wire.specs.CanonicalMessages.{is_dictionary}
-use Rattle.orc_wire.proofs.WholeLaws.{encoding_whole, footer_whole, footer_kept, column_whole, directory_whole, entry_whole, integer_shown, string_shown, bucket_shown, date_shown, binary_shown, column_shown}
+use Rattle.orc_wire.proofs.WholeLaws.{encoding_whole, footer_whole, footer_kept, column_whole, directory_whole, entry_whole, integer_shown, string_shown, bucket_shown, date_shown, binary_shown, column_shown, integer_whole, string_whole, bucket_whole, date_whole, binary_whole, stripes_whole, metadata_whole, index_whole}
 use Rattle.orc_wire.proofs.laws.whole_laws.Goals as goal
 
 pub returns-clause-encoding : goal.returns-clause-encoding
@@ -41,3 +41,27 @@ returns-clause-directory c = directory_whole
 
 pub returns-clause-entry : goal.returns-clause-entry
 returns-clause-entry c = entry_whole
+
+pub returns-clause-integers : goal.returns-clause-integers
+returns-clause-integers c = integer_whole
+
+pub returns-clause-strings : goal.returns-clause-strings
+returns-clause-strings c = string_whole
+
+pub returns-clause-buckets : goal.returns-clause-buckets
+returns-clause-buckets c = bucket_whole
+
+pub returns-clause-dates : goal.returns-clause-dates
+returns-clause-dates c = date_whole
+
+pub returns-clause-binaries : goal.returns-clause-binaries
+returns-clause-binaries c = binary_whole
+
+pub returns-clause-stripes : goal.returns-clause-stripes
+returns-clause-stripes c = stripes_whole
+
+pub returns-clause-metadata : goal.returns-clause-metadata
+returns-clause-metadata c = metadata_whole
+
+pub returns-clause-index : goal.returns-clause-index
+returns-clause-index c = index_whole

@@ -1,11 +1,14 @@
-use Rattle.std.proofs.Common.{◌∙◌}
+use Rattle.std.proofs.Common.{◌∙◌, arith}
 use Rattle.orc_wire.specs.FieldValue.{payload_of}
-use Rattle.orc_wire.specs.CanonicalKinds.{field_at}
+use Rattle.orc_wire.specs.CanonicalKinds.{IsNumber, field_at}
 use Rattle.orc_wire.proofs.PutLemmas.{front_same, front_taken}
 use Rattle.orc_wire.proofs.field_writer.FieldWriter.put.Goals as goal
 
 pub returns-in-Ok-clause-again : goal.returns-in-Ok-clause-again
-returns-in-Ok-clause-again c = λ least most place. field_at c.args.number (payload_of c.args.value) place (record { least = least; most = most }) c.in-Ok.ensures.holds
+returns-in-Ok-clause-again c = λ place.
+    let some = c.if-number-eq0.false in
+    let is : IsNumber c.args.number = record { least = omega (arith, some); most = c.if-number.false } in
+    field_at c.args.number (payload_of c.args.value) place is c.in-Ok.ensures.holds
 
 pub returns-in-Err-clause-unchanged : goal.returns-in-Err-clause-unchanged
 returns-in-Err-clause-unchanged c =
