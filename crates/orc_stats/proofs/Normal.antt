@@ -1,5 +1,5 @@
 -- The statistic of cells, and a joined one, is a statistic of its kind within the limits.
-use Rattle.std.proofs.Common.{◌≡◌, refl, sym, ◌∙◌, ap, arith, ℕ, zero, suc, ◌+◌, ◌^◌, ◌≤◌, nat_le, nat_lt, le-leb, Bool, true, false, ◌&&◌, if◌then◌else◌, List, [], ◌∷◌, length, map, filter, sum_by, Option, Some, None}
+use Rattle.std.proofs.Common.{◌≡◌, refl, sym, ◌∙◌, ap, arith, ℕ, ◌+◌, ◌^◌, ◌≤◌, nat_le, nat_lt, le-leb, Bool, true, false, ◌&&◌, if◌then◌else◌, List, [], ◌∷◌, length, map, filter, sum_by, Option, Some, None}
 use Rattle.std.proofs.lemmas.List.Sums.{sum_by-cons}
 use Rattle.std.specs.List.{filter_map, AllByRecursion}
 use Rattle.std.specs.Option.{option_and_then, IfSome}
@@ -11,7 +11,7 @@ use Rattle.orc_stats.specs.declared.stat.Stat.{Stat}
 use Rattle.orc_stats.specs.declared.stat.Body.{Body}
 use Rattle.orc_stats.specs.declared.stat.Body.TheVariants as body
 use Rattle.orc_stats.specs.Kinds.{is_of, body_is_of}
-use Rattle.orc_stats.specs.Statistics.{reduce, bit, least, greatest, total, lengths, text_cmp, int_of, date_of, bool_of, text_of, bytes_of, values_body, stat}
+use Rattle.orc_stats.specs.Statistics.{reduce, bit, least, greatest, total, lengths, text_cmp, bool_of, values_body, stat}
 use Rattle.orc_stats.specs.Joining.{in_limit, trues_total, all_known, has_values, valued_bodies, bodies_joined, trues_of, joined}
 use Rattle.orc_stats.specs.Messages.{unknown, few_trues, IsStat}
 use Rattle.orc_stats.specs.TallyKinds.{picked_map, few_bits, few_picked}

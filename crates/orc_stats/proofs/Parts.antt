@@ -1,5 +1,5 @@
 -- The statistics of parts, joined, are the statistic of the whole, but for a sum that a part has lost.
-use Rattle.std.proofs.Common.{◌≡◌, refl, sym, ◌∙◌, ap, ap₂, arith, ℕ, suc, ◌+◌, ◌^◌, ◌≤◌, ℤ, pos, Bool, true, false, ◌||◌, if◌then◌else◌, List, [], ◌∷◌, ◌++◌, ◌+ℤ◌, length, length-append, map, flat_map, sum_by, Option, Some, None}
+use Rattle.std.proofs.Common.{◌≡◌, refl, sym, ◌∙◌, ap, ℕ, suc, ◌+◌, ◌^◌, ◌≤◌, ℤ, pos, Bool, true, false, ◌||◌, if◌then◌else◌, List, [], ◌∷◌, length, length-append, map, flat_map, sum_by, Option, Some, None}
 use Rattle.std.proofs.lemmas.List.Sums.{sum_by-cons}
 use Rattle.std.proofs.lemmas.List.Folds.{list_any-append}
 use Rattle.std.specs.List.{filter_map, list_all, AllByRecursion}
@@ -13,10 +13,10 @@ use Rattle.orc_stats.specs.declared.stat.Stat.{Stat}
 use Rattle.orc_stats.specs.declared.stat.Body.{Body}
 use Rattle.orc_stats.specs.declared.stat.Body.TheVariants as body
 use Rattle.orc_stats.specs.Kinds.{is_of}
-use Rattle.orc_stats.specs.Statistics.{lower, reduce, least, greatest, text_cmp, total, lengths, bit, int_of, date_of, bool_of, text_of, bytes_of, has_null, values_body, stat}
+use Rattle.orc_stats.specs.Statistics.{lower, reduce, text_cmp, total, lengths, bit, int_of, date_of, bool_of, text_of, bytes_of, has_null, values_body, stat}
 use Rattle.orc_stats.specs.Joining.{or_known, in_limit, nulls_joined, least_int, greatest_int, least_date, greatest_date, least_text, greatest_text, trues_of, valued_bodies, bodies_joined, joined}
 use Rattle.orc_stats.specs.Whole.{without_sum, keeps_sum, whole}
-use Rattle.orc_stats.specs.Orders.{int_sums, nat_sums, lower_ints, higher_ints, lower_texts, higher_texts}
+use Rattle.orc_stats.specs.Orders.{nat_sums, lower_ints, higher_ints, lower_texts, higher_texts}
 use Rattle.orc_stats.specs.Measures.{plain}
 use Rattle.orc_stats.specs.TallyLaws.{stat_is}
 use Rattle.orc_stats.specs.TallyKinds.{ints_is, dates_is, texts_is, picked_map, trues_kept}

@@ -1,5 +1,5 @@
 -- The statistic of a column that was counted part by part, as a file's is by stripes (own).
-use Rattle.std.specs.Prelude.{Bool, true, not, ◌||◌, if◌then◌else◌, List, Option, Some, None}
+use Rattle.std.specs.Prelude.{Bool, true, not, ◌||◌, if◌then◌else◌, List, None}
 use Rattle.std.specs.List.{flat_map, list_all}
 use Rattle.std.specs.Option.{is_some}
 use Rattle.orc_types.specs.Cells.{Cell}
