@@ -1,0 +1,19 @@
+-- Why there is no statistic (own: the limits).
+use Rattle.std.specs.Prelude.{◌≡◌, ◌^◌, ◌<◌, ◌≤◌, true, false, List, sum_by}
+use Rattle.orc_wire.specs.declared.column_stats.ColumnStats.{ColumnStats}
+use Rattle.orc_stats.specs.declared.fault.StatFault.{StatFault}
+use Rattle.orc_stats.specs.declared.fault.StatFault.TheVariants.{CountTooLarge, OutOfMemory}
+use Rattle.orc_stats.specs.declared.kind.StatKind.{StatKind}
+use Rattle.orc_stats.specs.declared.kind.StatKind.TheVariants as kind
+use Rattle.orc_stats.specs.declared.stat.Stat.{Stat}
+use Rattle.orc_stats.specs.Messages.{stat_read, in_limits}
+
+-- of several statistics: they have too many values together; or memory was wanted, where any is taken
+abbrev pub JoinFault : Type 0 → List Stat → StatFault → Type 0
+JoinFault memory ss CountTooLarge = 2 ^ 62 < sum_by (λ s. s.count) ss
+JoinFault memory ss OutOfMemory = memory × (sum_by (λ s. s.count) ss ≤ 2 ^ 62)
+
+-- of a message, by the kind of column: too much is counted; or memory was wanted, for texts
+abbrev pub ReadFault : StatKind → ColumnStats → StatFault → Type 0
+ReadFault k m CountTooLarge = in_limits (stat_read k m) ≡ false
+ReadFault k m OutOfMemory = (k ≡ kind.Texts) × (in_limits (stat_read k m) ≡ true)

@@ -1,0 +1,96 @@
+-- The statistic of what several statistics are of (own: parts that aren't known, and the limit of true values).
+use Rattle.std.specs.Prelude.{ℕ, ◌+◌, ◌^◌, nat_lt, nat_le, ℤ, Bool, true, false, if◌then◌else◌, List, [], ◌∷◌, map, filter, sum_by, Option, Some, None}
+use Rattle.std.specs.Option.{option_map, option_and_then}
+use Rattle.std.specs.Ordering.{int_cmp}
+use Rattle.orc_stats.specs.declared.kind.StatKind.{StatKind}
+use Rattle.orc_stats.specs.declared.kind.StatKind.TheVariants as kind
+use Rattle.orc_stats.specs.declared.stat.Stat.{Stat}
+use Rattle.orc_stats.specs.declared.stat.Body.{Body}
+use Rattle.orc_stats.specs.declared.stat.Body.TheVariants as body
+use Rattle.orc_stats.specs.Statistics.{reduce, least, greatest, text_cmp, total}
+
+-- all the parts, where each is known
+abbrev pub all_known : {A : Type 0} → List (Option A) → Option (List A)
+all_known [] = Some []
+all_known (p ∷ ps) = option_and_then (λ x. option_map (λ xs. x ∷ xs) (all_known ps)) p
+
+-- what a word says of the parts, where each is known
+abbrev pub of_known : {A : Type 0} → (List A → Option A) → List (Option A) → Option A
+of_known f ps = option_and_then f (all_known ps)
+
+-- true where one is, else not known where one isn't, else false
+abbrev pub or_known : Option Bool → Option Bool → Option Bool
+or_known (Some true) b = Some true
+or_known (Some false) b = b
+or_known None (Some true) = Some true
+or_known None (Some false) = None
+or_known None None = None
+
+abbrev pub nulls_joined : List (Option Bool) → Option Bool
+nulls_joined [] = Some false
+nulls_joined (n ∷ ns) = or_known n (nulls_joined ns)
+
+-- a number of true values, as far as it may be known
+abbrev pub in_limit : ℕ → Option ℕ
+in_limit n = if nat_le n (2 ^ 62) then Some n else None
+
+abbrev pub trues_total : List ℕ → Option ℕ
+trues_total ns = option_and_then in_limit (reduce ◌+◌ ns)
+
+-- the parts of a body; one that its kind doesn't have isn't known
+abbrev pub least_int : Body → Option ℤ
+least_int (body.Ints l g s) = l
+least_int _ = None
+
+abbrev pub greatest_int : Body → Option ℤ
+greatest_int (body.Ints l g s) = g
+greatest_int _ = None
+
+abbrev pub least_date : Body → Option ℤ
+least_date (body.Dates l g) = l
+least_date _ = None
+
+abbrev pub greatest_date : Body → Option ℤ
+greatest_date (body.Dates l g) = g
+greatest_date _ = None
+
+abbrev pub least_text : Body → Option (List ℕ)
+least_text (body.Texts l g s) = l
+least_text _ = None
+
+abbrev pub greatest_text : Body → Option (List ℕ)
+greatest_text (body.Texts l g s) = g
+greatest_text _ = None
+
+abbrev pub trues_of : Body → Option ℕ
+trues_of (body.Bools t) = t
+trues_of _ = None
+
+abbrev pub sum_of : Body → Option ℤ
+sum_of (body.Ints l g s) = s
+sum_of (body.Texts l g s) = s
+sum_of (body.Bins s) = s
+sum_of _ = None
+
+abbrev pub bodies_joined : StatKind → List Body → Body
+bodies_joined kind.Plain bs = body.Plain
+bodies_joined kind.Ints bs = body.Ints (of_known (least int_cmp) (map least_int bs)) (of_known (greatest int_cmp) (map greatest_int bs)) (of_known total (map sum_of bs))
+bodies_joined kind.Bools bs = body.Bools (of_known trues_total (map trues_of bs))
+bodies_joined kind.Dates bs = body.Dates (of_known (least int_cmp) (map least_date bs)) (of_known (greatest int_cmp) (map greatest_date bs))
+bodies_joined kind.Texts bs = body.Texts (of_known (least text_cmp) (map least_text bs)) (of_known (greatest text_cmp) (map greatest_text bs)) (of_known total (map sum_of bs))
+bodies_joined kind.Bins bs = body.Bins (of_known total (map sum_of bs))
+
+abbrev pub has_values : Stat → Bool
+has_values s = nat_lt 0 s.count
+
+-- what is known of the values of those that have some
+abbrev pub valued_bodies : List Stat → List Body
+valued_bodies ss = map (λ s. s.body) (filter has_values ss)
+
+-- of a column of that kind: counts add, and of the parts those with values say what is known
+abbrev pub joined : StatKind → List Stat → Stat
+joined k ss = record {
+  count = sum_by (λ s. s.count) ss;
+  nulls = nulls_joined (map (λ s. s.nulls) ss);
+  body = bodies_joined k (valued_bodies ss);
+}

@@ -1,0 +1,14 @@
+pub mod Kinds
+pub mod Statistics
+pub mod Joining
+pub mod Whole
+pub mod Meanings
+pub mod Messages
+pub mod Faults
+pub mod Seen
+pub mod Sizes
+pub mod Orders
+pub mod Tallies
+pub mod Measures
+pub mod TallyLaws
+pub mod TallyKinds

@@ -1,0 +1,14 @@
+-- What the words of a statistic mean: the least value and the exact total (own).
+use Rattle.std.specs.Prelude.{◌≡◌, ℤ, pos, ◌+ℤ◌, false, List, [], ◌∷◌}
+use Rattle.std.specs.List.{AllByRecursion, Contains}
+use Rattle.std.specs.Ordering.{is_gt}
+use Rattle.std.specs.declared.cmp.Ordering.{Ordering}
+
+-- one of the values, and none is lower in the order
+abbrev pub IsLowest : {A : Type 0} → (A → A → Ordering) → List A → A → Type 0
+IsLowest cmp xs x = Contains xs x × AllByRecursion (λ y. is_gt (cmp x y) ≡ false) xs
+
+-- numbers added without a limit
+abbrev pub added : List ℤ → ℤ
+added [] = pos 0
+added (z ∷ zs) = z +ℤ added zs

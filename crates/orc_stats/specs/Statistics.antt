@@ -1,0 +1,125 @@
+-- The statistic of a list of cells (ORC specification, "Column Statistics").
+use Rattle.std.specs.Prelude.{ℕ, ◌+◌, ℤ, pos, ◌+ℤ◌, Bool, true, false, not, if◌then◌else◌, List, [], ◌∷◌, length, map, Option, Some, None}
+use Rattle.std.specs.List.{filter_map, list_any}
+use Rattle.std.specs.Option.{option_and_then}
+use Rattle.std.specs.Ordering.{is_gt, int_cmp, nat_cmp, flip_args}
+use Rattle.std.specs.Cmp.Lexicographic.{slice_cmp}
+use Rattle.std.specs.declared.cmp.Ordering.{Ordering}
+use Rattle.orc_types.specs.Cells.{bool, int, date, text, bytes, Cell, null, leaf, list, struct, values, is_value}
+use Rattle.orc_types.specs.Fits.{signed_fits}
+use Rattle.orc_stats.specs.declared.kind.StatKind.{StatKind}
+use Rattle.orc_stats.specs.declared.kind.StatKind.TheVariants as kind
+use Rattle.orc_stats.specs.declared.stat.Stat.{Stat}
+use Rattle.orc_stats.specs.declared.stat.Body.{Body}
+use Rattle.orc_stats.specs.declared.stat.Body.TheVariants as body
+
+-- a value put together with what there is of others
+abbrev pub onto : {A : Type 0} → (A → A → A) → A → Option A → A
+onto op x None = x
+onto op x (Some y) = op x y
+
+-- a list's values put together, if it has one
+abbrev pub reduce : {A : Type 0} → (A → A → A) → List A → Option A
+reduce op [] = None
+reduce op (x ∷ xs) = Some (onto op x (reduce op xs))
+
+-- the lower of two in an order
+abbrev pub lower : {A : Type 0} → (A → A → Ordering) → A → A → A
+lower cmp x y = if is_gt (cmp x y) then y else x
+
+-- the least value of a list, in an order
+abbrev pub least : {A : Type 0} → (A → A → Ordering) → List A → Option A
+least cmp xs = reduce (lower cmp) xs
+
+abbrev pub greatest : {A : Type 0} → (A → A → Ordering) → List A → Option A
+greatest cmp xs = least (flip_args cmp) xs
+
+-- texts by their bytes, as numbers without a sign
+abbrev pub text_cmp : List ℕ → List ℕ → Ordering
+text_cmp = slice_cmp nat_cmp
+
+-- the exact total of a list's numbers
+abbrev pub exact_total : List ℤ → Option ℤ
+exact_total zs = reduce ◌+ℤ◌ zs
+
+-- a number where it fits 64 bits, the sign among them
+abbrev pub in_64 : ℤ → Option ℤ
+in_64 z = if signed_fits 63 z then Some z else None
+
+-- the exact total, where there is a number and the total fits
+abbrev pub total : List ℤ → Option ℤ
+total zs = option_and_then in_64 (exact_total zs)
+
+abbrev pub lengths : List (List ℕ) → List ℤ
+lengths ts = map (λ t. pos (length t)) ts
+
+abbrev pub bit : Bool → ℕ
+bit true = 1
+bit false = 0
+
+-- the values of a column of one kind, in order
+abbrev pub int_of : Cell → Option ℤ
+int_of null = None
+int_of (leaf (bool b)) = None
+int_of (leaf (int z)) = Some z
+int_of (leaf (date z)) = None
+int_of (leaf (text s)) = None
+int_of (leaf (bytes s)) = None
+int_of (list cs) = None
+int_of (struct cs) = None
+
+abbrev pub date_of : Cell → Option ℤ
+date_of null = None
+date_of (leaf (bool b)) = None
+date_of (leaf (int z)) = None
+date_of (leaf (date z)) = Some z
+date_of (leaf (text s)) = None
+date_of (leaf (bytes s)) = None
+date_of (list cs) = None
+date_of (struct cs) = None
+
+abbrev pub bool_of : Cell → Option Bool
+bool_of null = None
+bool_of (leaf (bool b)) = Some b
+bool_of (leaf (int z)) = None
+bool_of (leaf (date z)) = None
+bool_of (leaf (text s)) = None
+bool_of (leaf (bytes s)) = None
+bool_of (list cs) = None
+bool_of (struct cs) = None
+
+abbrev pub text_of : Cell → Option (List ℕ)
+text_of null = None
+text_of (leaf (bool b)) = None
+text_of (leaf (int z)) = None
+text_of (leaf (date z)) = None
+text_of (leaf (text s)) = Some s
+text_of (leaf (bytes s)) = None
+text_of (list cs) = None
+text_of (struct cs) = None
+
+abbrev pub bytes_of : Cell → Option (List ℕ)
+bytes_of null = None
+bytes_of (leaf (bool b)) = None
+bytes_of (leaf (int z)) = None
+bytes_of (leaf (date z)) = None
+bytes_of (leaf (text s)) = None
+bytes_of (leaf (bytes s)) = Some s
+bytes_of (list cs) = None
+bytes_of (struct cs) = None
+
+abbrev pub values_body : StatKind → List Cell → Body
+values_body kind.Plain cells = body.Plain
+values_body kind.Ints cells = let zs = filter_map int_of cells in body.Ints (least int_cmp zs) (greatest int_cmp zs) (total zs)
+values_body kind.Bools cells = body.Bools (reduce ◌+◌ (map bit (filter_map bool_of cells)))
+values_body kind.Dates cells = let zs = filter_map date_of cells in body.Dates (least int_cmp zs) (greatest int_cmp zs)
+values_body kind.Texts cells = let ts = filter_map text_of cells in body.Texts (least text_cmp ts) (greatest text_cmp ts) (total (lengths ts))
+values_body kind.Bins cells = body.Bins (total (lengths (filter_map bytes_of cells)))
+
+-- whether a cell is null
+abbrev pub has_null : List Cell → Bool
+has_null cells = list_any (λ c. not (is_value c)) cells
+
+-- of cells of a column of that kind
+abbrev pub stat : StatKind → List Cell → Stat
+stat k cells = record { count = length (values cells); nulls = Some (has_null cells); body = values_body k cells }

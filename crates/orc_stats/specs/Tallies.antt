@@ -1,0 +1,61 @@
+-- How statistics are counted: what is kept on the way, and how two such are put together.
+use Rattle.std.specs.Prelude.{◌≡◌, ℕ, ◌+◌, Bool, false, not, if◌then◌else◌, List, [], ◌∷◌, map, Option, Some}
+use Rattle.orc_types.specs.Cells.{Cell, null, is_value}
+use Rattle.orc_stats.specs.declared.stat.Stat.{Stat}
+use Rattle.orc_stats.specs.declared.stat.Body.{Body}
+use Rattle.orc_stats.specs.Statistics.{bit}
+use Rattle.orc_stats.specs.Joining.{or_known, has_values}
+use Rattle.orc_stats.specs.Orders.{IsOrderly}
+
+-- what is put together in any order and grouping
+pub record Joins (P : Type 0) : Type 0 where
+  pub none : P
+  pub join : P → P → P
+  pub unit : (p : P) → join none p ≡ p
+  pub orderly : IsOrderly join
+
+abbrev pub all : {P : Type 0} → Joins P → List P → P
+all j [] = j.none
+all j (p ∷ ps) = j.join p (all j ps)
+
+-- what is counted of the values of one kind of column: of a cell, of a statistic that has values; and
+-- the body of a statistic that comes of it
+pub record Measure (P : Type 0) : Type 0 where
+  pub joins : Joins P
+  pub of_cell : Cell → P
+  pub of_null : of_cell null ≡ joins.none
+  pub of_body : Body → P
+  pub body : P → Body
+
+-- a tally: what is kept of all that was counted
+pub record Kept (P : Type 0) : Type 0 where
+  pub count : ℕ
+  pub nulls : Option Bool
+  pub parts : P
+
+abbrev pub none_kept : {P : Type 0} → Measure P → Kept P
+none_kept m = record { count = 0; nulls = Some false; parts = m.joins.none }
+
+abbrev pub together : {P : Type 0} → Measure P → Kept P → Kept P → Kept P
+together m a b = record { count = a.count + b.count; nulls = or_known a.nulls b.nulls; parts = m.joins.join a.parts b.parts }
+
+-- of a cell
+abbrev pub cell_kept : {P : Type 0} → Measure P → Cell → Kept P
+cell_kept m c = record { count = bit (is_value c); nulls = Some (not (is_value c)); parts = m.of_cell c }
+
+-- of a statistic, whose body counts where it has values
+abbrev pub stat_kept : {P : Type 0} → Measure P → Stat → Kept P
+stat_kept m s = record { count = s.count; nulls = s.nulls; parts = if has_values s then m.of_body s.body else m.joins.none }
+
+abbrev pub all_kept : {P : Type 0} → Measure P → List (Kept P) → Kept P
+all_kept m [] = none_kept m
+all_kept m (k ∷ ks) = together m k (all_kept m ks)
+
+abbrev pub counted : {P : Type 0} → Measure P → List Cell → Kept P
+counted m cells = all_kept m (map (cell_kept m) cells)
+
+abbrev pub gathered : {P : Type 0} → Measure P → List Stat → Kept P
+gathered m ss = all_kept m (map (stat_kept m) ss)
+
+abbrev pub closed : {P : Type 0} → Measure P → Kept P → Stat
+closed m k = record { count = k.count; nulls = k.nulls; body = m.body k.parts }

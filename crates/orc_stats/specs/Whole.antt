@@ -1,0 +1,38 @@
+-- The statistic of a column that was counted part by part, as a file's is by stripes (own).
+use Rattle.std.specs.Prelude.{Bool, true, not, ◌||◌, if◌then◌else◌, List, None}
+use Rattle.std.specs.List.{flat_map, list_all}
+use Rattle.std.specs.Option.{is_some}
+use Rattle.orc_types.specs.Cells.{Cell}
+use Rattle.orc_stats.specs.declared.kind.StatKind.{StatKind}
+use Rattle.orc_stats.specs.declared.stat.Stat.{Stat}
+use Rattle.orc_stats.specs.declared.stat.Body.{Body}
+use Rattle.orc_stats.specs.declared.stat.Body.TheVariants as body
+use Rattle.orc_stats.specs.Statistics.{stat}
+use Rattle.orc_stats.specs.Joining.{has_values}
+
+-- a body whose kind has no sum lacks none
+abbrev pub has_sum : Body → Bool
+has_sum body.Plain = true
+has_sum (body.Ints l g s) = is_some s
+has_sum (body.Bools t) = true
+has_sum (body.Dates l g) = true
+has_sum (body.Texts l g s) = is_some s
+has_sum (body.Bins s) = is_some s
+
+abbrev pub without_sum : Body → Body
+without_sum body.Plain = body.Plain
+without_sum (body.Ints l g s) = body.Ints l g None
+without_sum (body.Bools t) = body.Bools t
+without_sum (body.Dates l g) = body.Dates l g
+without_sum (body.Texts l g s) = body.Texts l g None
+without_sum (body.Bins s) = body.Bins None
+
+-- the total of the values fits 64 bits, if there are any
+abbrev pub keeps_sum : Stat → Bool
+keeps_sum s = not (has_values s) || has_sum s.body
+
+-- the statistic of all the cells, but that the sum is not known where the total of one part doesn't fit
+abbrev pub whole : StatKind → List (List Cell) → Stat
+whole k parts =
+    let all = stat k (flat_map (λ p. p) parts) in
+    record all { body = if list_all (λ p. keeps_sum (stat k p)) parts then all.body else without_sum all.body }

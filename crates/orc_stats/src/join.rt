@@ -1,0 +1,56 @@
+ghost use Rattle.std.specs.Prelude.{◌≡◌, ◌≤◌, ◌^◌, IfOk, IfErr, OnOk, All, length, sum_by, true};
+ghost use Rattle.orc_types.specs.Lent.{lent_cells};
+ghost use Rattle.orc_stats.specs.declared.kind.StatKind.TheVariants.{Texts as text_kind};
+ghost use Rattle.orc_stats.specs.declared.fault.StatFault.TheVariants.{OutOfMemory};
+ghost use Rattle.orc_stats.specs.Kinds.{is_of, body_is_of};
+ghost use Rattle.orc_stats.specs.Statistics.{stat};
+ghost use Rattle.orc_stats.specs.Joining.{joined};
+ghost use Rattle.orc_stats.specs.Faults.{JoinFault};
+
+use crate::counted::Counted;
+use crate::fault::StatFault;
+use crate::kind::StatKind;
+use crate::measures::{Bins, Bools, Dates, Ints, Plain, Texts};
+use crate::stat::Stat;
+use crate::tally::Tally;
+use orc_types::Lent;
+use std::alloc::Global;
+
+/// The statistic of a column's cells (ORC specification, "Column Statistics").
+///
+/// Refusal: `OutOfMemory`, which comes for texts alone.
+pub fn of_cells(alloc: Global, kind: StatKind, cells: &[Lent<'_, '_>]) -> Result<Stat, StatFault>
+    requires kind { All (λ c. is_of kind c ≡ true) (lent_cells cells.now) }
+    requires most { length cells.now ≤ 2 ^ 62 }
+    ensures found { IfOk result (λ s. s ≡ stat kind (lent_cells cells.now)) }
+    ensures fault { IfErr result (λ fault. (fault ≡ OutOfMemory) × (kind ≡ text_kind)) }
+{
+    match kind {
+        StatKind::Plain => Counted::<Plain>::of_cells(alloc, cells),
+        StatKind::Ints => Counted::<Ints>::of_cells(alloc, cells),
+        StatKind::Bools => Counted::<Bools>::of_cells(alloc, cells),
+        StatKind::Dates => Counted::<Dates>::of_cells(alloc, cells),
+        StatKind::Texts => Counted::<Texts<'_>>::of_cells(alloc, cells),
+        StatKind::Bins => Counted::<Bins>::of_cells(alloc, cells),
+    }
+}
+
+/// The statistic of all that several statistics of columns of one kind are of.
+///
+/// Refusals: `CountTooLarge` where they have more than 2^62 values together, and `OutOfMemory`, which
+/// comes for texts alone.
+pub fn join_all(alloc: Global, kind: StatKind, stats: &[Stat]) -> Result<Stat, StatFault>
+    requires { All (λ s. body_is_of kind s.body ≡ true) stats.now }
+    ensures found { IfOk result (λ s. s ≡ joined kind stats.now) }
+    ensures most { OnOk result (sum_by (λ s. s.count) stats.now ≤ 2 ^ 62) }
+    ensures fault { IfErr result (JoinFault (kind ≡ text_kind) stats.now) }
+{
+    match kind {
+        StatKind::Plain => Counted::<Plain>::of_stats(alloc, stats),
+        StatKind::Ints => Counted::<Ints>::of_stats(alloc, stats),
+        StatKind::Bools => Counted::<Bools>::of_stats(alloc, stats),
+        StatKind::Dates => Counted::<Dates>::of_stats(alloc, stats),
+        StatKind::Texts => Counted::<Texts<'_>>::of_stats(alloc, stats),
+        StatKind::Bins => Counted::<Bins>::of_stats(alloc, stats),
+    }
+}

@@ -1,0 +1,67 @@
+//! Laws of statistics. Each function does nothing: its contract is what it is for.
+ghost use Rattle.std.specs.Ordering.{int_cmp, flip_args};
+ghost use Rattle.orc_stats.specs.Meanings.{IsLowest, added};
+ghost use Rattle.std.specs.Prelude.{◌≡◌, ◌↔◌, ℕ, ℤ, pos, negsuc, ◌≤◌, ◌^◌, ◌++◌, ◌∷◌, true, false, Some, None, List, [], sum_by, IsPermutation, flat_map, length, map};
+ghost use Rattle.std.specs.List.{AllByRecursion};
+ghost use Rattle.orc_types.specs.Cells.{Cell};
+ghost use Rattle.orc_stats.specs.declared.kind.StatKind.{StatKind};
+ghost use Rattle.orc_stats.specs.declared.kind.StatKind.TheVariants as kind;
+ghost use Rattle.orc_stats.specs.declared.stat.Stat.{Stat};
+ghost use Rattle.orc_stats.specs.declared.stat.Body.{Body};
+ghost use Rattle.orc_stats.specs.declared.stat.Body.TheVariants as body;
+ghost use Rattle.orc_stats.specs.Kinds.{is_of};
+ghost use Rattle.orc_stats.specs.Statistics.{least, greatest, text_cmp, exact_total, stat};
+ghost use Rattle.orc_stats.specs.Joining.{sum_of, joined};
+ghost use Rattle.orc_stats.specs.Whole.{whole};
+ghost use Rattle.orc_stats.specs.Messages.{IsStat, stat_read, message_of};
+ghost use Rattle.orc_stats.specs.Tallies.{Kept, none_kept, together, counted, gathered, closed};
+
+use crate::tally::Tally;
+
+/// What the words of a statistic of cells mean: it has no order; the least value is one of them, and
+/// none is less; the greatest likewise; the total is the exact one.
+pub fn stat_laws()
+    ensures order { (k : StatKind) (xs ys : List Cell) → IsPermutation xs ys → stat k ys ≡ stat k xs }
+
+    ensures least_number { (zs : List ℤ) (z : ℤ) → (least int_cmp zs ≡ Some z) ↔ IsLowest int_cmp zs z }
+    ensures greatest_number { (zs : List ℤ) (z : ℤ) → (greatest int_cmp zs ≡ Some z) ↔ IsLowest (flip_args int_cmp) zs z }
+    ensures least_text { (ts : List (List ℕ)) (t : List ℕ) → (least text_cmp ts ≡ Some t) ↔ IsLowest text_cmp ts t }
+    ensures greatest_text { (ts : List (List ℕ)) (t : List ℕ) → (greatest text_cmp ts ≡ Some t) ↔ IsLowest (flip_args text_cmp) ts t }
+    ensures total { (z : ℤ) (zs : List ℤ) → exact_total (z ∷ zs) ≡ Some (added (z ∷ zs)) }
+
+    ensures normal { (k : StatKind) (cells : List Cell) → AllByRecursion (λ c. is_of k c ≡ true) cells → length cells ≤ 2 ^ 62 → IsStat k (stat k cells) }
+{}
+
+/// Joined statistics have no order, one of no cells adds nothing, and those of the parts of a column are
+/// that of the whole, but for a sum that a part has lost. What is joined is to be one list: where two of
+/// three numbers are joined first, their sum can be lost, though the total of all three fits.
+pub fn join_laws()
+    ensures order { (k : StatKind) (xs ys : List Stat) → IsPermutation xs ys → joined k ys ≡ joined k xs }
+    ensures empty { (k : StatKind) (o : Body) (ss : List Stat) → let none : Stat = record { count = 0; nulls = Some false; body = o } in joined k (none ∷ ss) ≡ joined k ss }
+    ensures parts { (k : StatKind) (parts : List (List Cell)) → AllByRecursion (AllByRecursion (λ c. is_of k c ≡ true)) parts
+        → length (flat_map (λ p. p) parts) ≤ 2 ^ 62 → joined k (map (stat k) parts) ≡ whole k parts }
+    ensures normal { (k : StatKind) (ss : List Stat) → sum_by (λ s. s.count) ss ≤ 2 ^ 62 → IsStat k (joined k ss) }
+    ensures regrouped { let one : ℤ → Stat = λ z. record { count = 1; nulls = Some false; body = body.Ints (Some z) (Some z) (Some z) } in
+        let most : ℤ = pos 9223372036854775807 in
+        let two : Stat = joined kind.Ints (one most ∷ one (pos 1) ∷ []) in
+        (sum_of (joined kind.Ints (one most ∷ one (pos 1) ∷ one (negsuc 0) ∷ [])).body ≡ Some most) × (sum_of (joined kind.Ints (two ∷ one (negsuc 0) ∷ [])).body ≡ None) }
+{}
+
+/// A statistic that was put reads back by its kind.
+pub fn message_laws()
+    ensures { (k : StatKind) (s : Stat) → IsStat k s → stat_read k (message_of s) ≡ s }
+{}
+
+/// Tallies come together in any order and grouping, and that of nothing adds nothing. The tally of two
+/// lists of cells, one after the other, is that of both together, and so it is with lists of statistics.
+/// That of cells, closed, is their statistic, and that of statistics is what they are joined.
+pub fn tally_laws<'r, T: Tally<'r>>()
+    ensures commutative { (a b : Kept T.Parts) → together T.measure a b ≡ together T.measure b a }
+    ensures associative { (a b c : Kept T.Parts) → together T.measure (together T.measure a b) c ≡ together T.measure a (together T.measure b c) }
+    ensures unit { (a : Kept T.Parts) → together T.measure (none_kept T.measure) a ≡ a }
+    ensures append { (a b : List Cell) → counted T.measure (a ++ b) ≡ together T.measure (counted T.measure a) (counted T.measure b) }
+    ensures append_statistics { (a b : List Stat) → gathered T.measure (a ++ b) ≡ together T.measure (gathered T.measure a) (gathered T.measure b) }
+
+    ensures cells { (cells : List Cell) → length cells ≤ 2 ^ 62 → closed T.measure (counted T.measure cells) ≡ stat T.kind cells }
+    ensures statistics { (ss : List Stat) → closed T.measure (gathered T.measure ss) ≡ joined T.kind ss }
+{}

@@ -1,0 +1,86 @@
+//! What is counted of the values of one kind of column.
+ghost use Rattle.std.specs.Prelude.{ℕ};
+
+mod bins;
+mod bools;
+mod dates;
+mod ints;
+mod plain;
+mod texts;
+
+use crate::fault::StatFault;
+use crate::stat::Body;
+pub use bins::Bins;
+pub use bools::Bools;
+pub use dates::Dates;
+pub use ints::Ints;
+use orc_types::Value;
+pub use plain::Plain;
+use std::alloc::Global;
+pub use texts::Texts;
+
+/// A total has a size: it bounds what is to be added.
+pub trait Sizes {
+    // Of the total so far, without its sign.
+    ghost size: { Self → ℕ };
+}
+
+/// What is counted of the values of one kind of column, and how two such counts join. It borrows the
+/// texts that it was given.
+pub trait Measures<'r>: Sizes + Sized + Drop {
+    ghost use Rattle.std.specs.Prelude.{◌≡◌, ◌+◌, ◌^◌, ◌≤◌, ◌<◌, ℕ, true, List, IfOk, IfErr, All, length};
+    ghost use Rattle.orc_types.specs.Cells.{Cell};
+    ghost use Rattle.orc_types.specs.Views.{cell_of_value};
+    ghost use Rattle.orc_stats.specs.declared.kind.StatKind.{StatKind};
+    ghost use Rattle.orc_stats.specs.declared.stat.Stat.{Stat};
+    ghost use Rattle.orc_stats.specs.declared.fault.StatFault.TheVariants.{OutOfMemory};
+    ghost use Rattle.orc_stats.specs.Kinds.{is_of, body_is_of};
+    ghost use Rattle.orc_stats.specs.Statistics.{stat};
+    ghost use Rattle.orc_stats.specs.Joining.{joined};
+    ghost use Rattle.orc_stats.specs.Tallies.{Measure, counted, gathered, closed};
+
+    // What is kept of the values.
+    ghost Parts: { Type 0 };
+    // How they are counted.
+    ghost measure: { Measure Parts };
+    // What is kept so far.
+    ghost parts: { Self → Parts };
+    // The kind of column.
+    ghost kind: { StatKind };
+    // Whether `body` takes memory.
+    ghost TakesMemory: { Type 0 };
+    // What was counted of cells, once closed, is their statistic.
+    ghost cells_are: { (cells : List Cell) → length cells ≤ 2 ^ 62 → closed measure (counted measure cells) ≡ stat kind cells };
+    // What was counted of statistics is what they are joined.
+    ghost stats_are: { (ss : List Stat) → closed measure (gathered measure ss) ≡ joined kind ss };
+
+    /// Of no values.
+    fn none() -> Self
+        ensures none { parts result ≡ measure.joins.none }
+        ensures size { Self.size result ≡ 0 };
+
+    /// Of one value.
+    fn of_value(value: &'r Value<'_>) -> Self
+        requires { is_of kind (cell_of_value value.now) ≡ true }
+        ensures value { parts result ≡ measure.of_cell (cell_of_value value.now) }
+        ensures size { Self.size result ≤ 2 ^ 64 };
+
+    /// Of the values that a statistic is of.
+    fn of_body(body: &'r Body) -> Self
+        requires { body_is_of kind body.now ≡ true }
+        ensures body { parts result ≡ measure.of_body body.now }
+        ensures size { Self.size result ≤ 2 ^ 64 };
+
+    /// Of the values of both.
+    fn join(&self, other: &Self) -> Self
+        requires { Self.size self.now + Self.size other.now < 2 ^ 127 }
+        ensures joined { parts result ≡ measure.joins.join (parts self.now) (parts other.now) }
+        ensures size { Self.size result ≤ Self.size self.now + Self.size other.now };
+
+    /// The body of their statistic.
+    ///
+    /// Refusal: `OutOfMemory`, where a text has to be copied.
+    fn body(&self, alloc: Global) -> Result<Body, StatFault>
+        ensures found { IfOk result (λ body. body ≡ measure.body (parts self.now)) }
+        ensures fault { IfErr result (λ fault. (fault ≡ OutOfMemory) × TakesMemory) };
+}

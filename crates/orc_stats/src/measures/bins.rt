@@ -1,0 +1,75 @@
+use crate::fault::StatFault;
+use crate::measures::{Measures, Sizes};
+use crate::seen::Seen;
+use crate::stat::Body;
+use crate::totals::{in_64, length_of, plus, total_of};
+use orc_types::Value;
+use std::alloc::Global;
+
+/// Of byte strings: the sum of their lengths.
+#[derive(Clone, Copy, Debug)]
+pub struct Bins {
+    sum: Seen<i128>,
+}
+
+impl Sizes for Bins {
+    ghost use Rattle.orc_stats.specs.Sizes.{size};
+
+    ghost size = { λ p. size p.sum };
+}
+
+impl<'r> Measures<'r> for Bins {
+    ghost use Rattle.std.specs.Prelude.{ℤ};
+    ghost use Rattle.orc_stats.specs.declared.seen.Seen.{Seen};
+    ghost use Rattle.orc_stats.specs.declared.kind.StatKind.TheVariants as kind_name;
+    ghost use Rattle.orc_stats.specs.Measures as tally;
+    ghost use Rattle.orc_stats.specs.TallyKinds.{bins_cells, bins_stats};
+
+    ghost Parts = { Seen ℤ };
+
+    ghost measure = { tally.bins };
+
+    ghost parts = { λ p. p.sum };
+
+    ghost kind = { kind_name.Bins };
+
+    ghost TakesMemory = { ⊥ };
+
+    fn none() -> Bins {
+        Bins { sum: Seen::Nothing }
+    }
+
+    fn of_value(value: &'r Value<'_>) -> Bins {
+        let Value::Bytes(bytes) = value else {
+            return Bins::none();
+        };
+        Bins {
+            sum: length_of(bytes.as_slice()),
+        }
+    }
+
+    fn of_body(body: &'r Body) -> Bins {
+        let Body::Bins { sum } = body else {
+            return Bins::none();
+        };
+        Bins {
+            sum: total_of(*sum),
+        }
+    }
+
+    fn join(&self, other: &Bins) -> Bins {
+        Bins {
+            sum: plus(self.sum, other.sum),
+        }
+    }
+
+    fn body(&self, _alloc: Global) -> Result<Body, StatFault> {
+        Ok(Body::Bins {
+            sum: in_64(self.sum),
+        })
+    }
+
+    ghost cells_are = { λ cells _. bins_cells cells };
+
+    ghost stats_are = { bins_stats };
+}

@@ -1,0 +1,53 @@
+use crate::fault::StatFault;
+use crate::measures::{Measures, Sizes};
+use crate::stat::Body;
+use orc_types::Value;
+use std::alloc::Global;
+
+/// Of lists and structs: nothing.
+#[derive(Clone, Copy, Debug)]
+pub struct Plain;
+
+impl Sizes for Plain {
+    ghost size = { λ _. 0 };
+}
+
+impl<'r> Measures<'r> for Plain {
+    ghost use Rattle.orc_stats.specs.declared.kind.StatKind.TheVariants as kind_name;
+    ghost use Rattle.orc_stats.specs.Measures as tally;
+    ghost use Rattle.orc_stats.specs.TallyKinds.{plain_cells, plain_stats};
+
+    ghost Parts = { Unit {0} };
+
+    ghost measure = { tally.plain };
+
+    ghost parts = { λ p. tt };
+
+    ghost kind = { kind_name.Plain };
+
+    ghost TakesMemory = { ⊥ };
+
+    fn none() -> Plain {
+        Plain
+    }
+
+    fn of_value(_value: &'r Value<'_>) -> Plain {
+        Plain
+    }
+
+    fn of_body(_body: &'r Body) -> Plain {
+        Plain
+    }
+
+    fn join(&self, _other: &Plain) -> Plain {
+        Plain
+    }
+
+    fn body(&self, _alloc: Global) -> Result<Body, StatFault> {
+        Ok(Body::Plain)
+    }
+
+    ghost cells_are = { λ cells _. plain_cells cells };
+
+    ghost stats_are = { plain_stats };
+}

@@ -1,0 +1,97 @@
+use crate::fault::StatFault;
+use crate::measures::{Measures, Sizes};
+use crate::seen::Seen;
+use crate::stat::Body;
+use crate::text_parts::{lent_part, owned_part};
+use crate::totals::{in_64, length_of, plus, total_of};
+use orc_types::Value;
+use std::alloc::Global;
+
+/// Of texts: least and greatest by their bytes, and the sum of their lengths.
+#[derive(Clone, Copy, Debug)]
+pub struct Texts<'r> {
+    least: Seen<&'r [u8]>,
+    greatest: Seen<&'r [u8]>,
+    sum: Seen<i128>,
+}
+
+impl<'r> Sizes for Texts<'r> {
+    ghost use Rattle.orc_stats.specs.Sizes.{size};
+
+    ghost size = { λ p. size p.sum };
+}
+
+impl<'r> Measures<'r> for Texts<'r> {
+    ghost use Rattle.std.specs.Prelude.{ℕ, ℤ, List};
+    ghost use Rattle.orc_stats.specs.declared.seen.Seen.{Seen};
+    ghost use Rattle.orc_stats.specs.Seen.{seen_now};
+    ghost use Rattle.orc_stats.specs.declared.kind.StatKind.TheVariants as kind_name;
+    ghost use Rattle.orc_stats.specs.Measures as tally;
+    ghost use Rattle.orc_stats.specs.TallyKinds.{texts_cells, texts_stats};
+
+    ghost Parts = { Seen (List ℕ) × (Seen (List ℕ) × Seen ℤ) };
+
+    ghost measure = { tally.texts };
+
+    ghost parts = { λ p. (seen_now p.least, (seen_now p.greatest, p.sum)) };
+
+    ghost kind = { kind_name.Texts };
+
+    ghost TakesMemory = { Unit {0} };
+
+    fn none() -> Texts<'r> {
+        Texts {
+            least: Seen::Nothing,
+            greatest: Seen::Nothing,
+            sum: Seen::Nothing,
+        }
+    }
+
+    fn of_value(value: &'r Value<'_>) -> Texts<'r> {
+        let Value::Text(text) = value else {
+            return Texts::none();
+        };
+        let bytes = text.as_str().as_bytes();
+        Texts {
+            least: Seen::Known(bytes),
+            greatest: Seen::Known(bytes),
+            sum: length_of(bytes),
+        }
+    }
+
+    fn of_body(body: &'r Body) -> Texts<'r> {
+        let Body::Texts {
+            least,
+            greatest,
+            sum,
+        } = body
+        else {
+            return Texts::none();
+        };
+        Texts {
+            least: lent_part(least),
+            greatest: lent_part(greatest),
+            sum: total_of(*sum),
+        }
+    }
+
+    fn join(&self, other: &Texts<'r>) -> Texts<'r> {
+        Texts {
+            least: self.least.least(other.least),
+            greatest: self.greatest.greatest(other.greatest),
+            sum: plus(self.sum, other.sum),
+        }
+    }
+
+    fn body(&self, alloc: Global) -> Result<Body, StatFault> {
+        Ok(Body::Texts {
+            least: owned_part(alloc, self.least)?,
+            greatest: owned_part(alloc, self.greatest)?,
+            sum: in_64(self.sum),
+        })
+    }
+
+    ghost cells_are = { λ cells _. texts_cells cells };
+
+    ghost stats_are = { texts_stats };
+}

@@ -1,0 +1,130 @@
+ghost use Rattle.std.specs.Prelude.{◌≡◌, IfOk, IfErr, true};
+ghost use Rattle.orc_stats.specs.Messages as spec;
+ghost use Rattle.orc_stats.specs.Messages.{stat_read, body_read, few_trues, in_limits, message_of, takes_memory};
+ghost use Rattle.orc_stats.specs.Joining.{trues_of};
+ghost use Rattle.orc_stats.specs.Faults.{ReadFault};
+ghost use Rattle.orc_stats.specs.declared.kind.StatKind.TheVariants as kind_name;
+ghost use Rattle.orc_stats.specs.declared.fault.StatFault.TheVariants.{OutOfMemory};
+
+use crate::fault::StatFault;
+use crate::kind::StatKind;
+use crate::records::{
+    bins_body, bins_record, bools_body, bools_record, dates_body, dates_record, ints_body,
+    ints_record, texts_body, texts_record,
+};
+use crate::stat::{Body, Stat};
+use crate::tally::MOST_VALUES;
+use orc_wire::ColumnStats;
+use std::alloc::{AllocError, Global};
+
+impl Stat {
+    /// The statistic of a column of that kind that a message is (ORC specification, "Column
+    /// Statistics"). The record of that kind alone counts, and where there are no values it means
+    /// nothing.
+    ///
+    /// Refusals: `CountTooLarge` exactly where the values, or among truth values the true ones, are
+    /// more than 2^62, and `OutOfMemory`, which comes for texts alone.
+    pub fn read(alloc: Global, kind: StatKind, message: &ColumnStats) -> Result<Stat, StatFault>
+        ensures found { IfOk result (λ s. s ≡ stat_read kind message.now) }
+        ensures limits { IfOk result (λ s. in_limits s ≡ true) }
+        ensures fault { IfErr result (ReadFault kind message.now) }
+    {
+        if message.number_of_values > MOST_VALUES {
+            return Err(StatFault::CountTooLarge);
+        }
+        let body = if message.number_of_values == 0 {
+            unknown(kind)
+        } else {
+            body_of(alloc, kind, message)?
+        };
+        if !has_few_trues(&body) {
+            return Err(StatFault::CountTooLarge);
+        }
+        Ok(Stat {
+            count: message.number_of_values,
+            nulls: message.has_null,
+            body,
+        })
+    }
+
+    /// The statistic as a message (ORC specification, "Column Statistics"): the one record of its
+    /// kind, where a part is known.
+    ///
+    /// Refusal: `OutOfMemory`, only where a text is known, or how many values are true.
+    pub fn put(&self, alloc: Global) -> Result<ColumnStats, StatFault>
+        ensures put { IfOk result (λ m. m ≡ message_of self.now) }
+        ensures fault { IfErr result (λ fault. (fault ≡ OutOfMemory) × (takes_memory self.now.body ≡ true)) }
+    {
+        let mut message = ColumnStats {
+            number_of_values: self.count,
+            int_statistics: None,
+            string_statistics: None,
+            bucket_statistics: None,
+            date_statistics: None,
+            binary_statistics: None,
+            has_null: self.nulls,
+        };
+        match &self.body {
+            Body::Plain => {}
+            Body::Ints {
+                least,
+                greatest,
+                sum,
+            } => message.int_statistics = ints_record(*least, *greatest, *sum),
+            Body::Bools { trues } => message.bucket_statistics = bools_record(alloc, *trues)?,
+            Body::Dates { least, greatest } => {
+                message.date_statistics = dates_record(*least, *greatest);
+            }
+            Body::Texts {
+                least,
+                greatest,
+                sum,
+            } => message.string_statistics = texts_record(alloc, least, greatest, *sum)?,
+            Body::Bins { sum } => message.binary_statistics = bins_record(*sum),
+        }
+        Ok(message)
+    }
+}
+
+/// Nothing is known of the values.
+fn unknown(kind: StatKind) -> Body
+    ensures { result ≡ spec.unknown kind }
+{
+    match kind {
+        StatKind::Plain => Body::Plain,
+        StatKind::Ints => ints_body(&None),
+        StatKind::Bools => bools_body(&None),
+        StatKind::Dates => dates_body(&None),
+        StatKind::Texts => Body::Texts {
+            least: None,
+            greatest: None,
+            sum: None,
+        },
+        StatKind::Bins => bins_body(&None),
+    }
+}
+
+/// What the record of the column's kind says.
+fn body_of(alloc: Global, kind: StatKind, message: &ColumnStats) -> Result<Body, AllocError>
+    ensures found { IfOk result (λ body. body ≡ body_read kind message.now) }
+    ensures fault { IfErr result (λ _. kind ≡ kind_name.Texts) }
+{
+    match kind {
+        StatKind::Plain => Ok(Body::Plain),
+        StatKind::Ints => Ok(ints_body(&message.int_statistics)),
+        StatKind::Bools => Ok(bools_body(&message.bucket_statistics)),
+        StatKind::Dates => Ok(dates_body(&message.date_statistics)),
+        StatKind::Texts => texts_body(alloc, &message.string_statistics),
+        StatKind::Bins => Ok(bins_body(&message.binary_statistics)),
+    }
+}
+
+/// Whether at most 2^62 values are true, where that is known.
+fn has_few_trues(body: &Body) -> bool
+    ensures { result ≡ few_trues (trues_of body.now) }
+{
+    match body {
+        Body::Bools { trues: Some(trues) } => *trues <= MOST_VALUES,
+        _ => true,
+    }
+}

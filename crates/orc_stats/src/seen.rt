@@ -1,0 +1,75 @@
+ghost use Rattle.std.specs.Prelude.{◌≡◌};
+ghost use Rattle.std.specs.Ordering.{flip_args};
+ghost use Rattle.orc_stats.specs.Seen.{both, seen_of, known_of};
+ghost use Rattle.orc_stats.specs.Statistics.{lower};
+
+/// What was seen of a part of statistics.
+#[derive(Clone, Copy, Debug)]
+pub enum Seen<T> {
+    /// No value yet.
+    Nothing,
+    /// Of all values that were seen, this.
+    Known(T),
+    /// There was a value of which the part isn't known.
+    Unknown,
+}
+
+/// The lower of two, in their order.
+pub(crate) fn lower<T: Ord + Copy>(x: T, y: T) -> T
+    ensures { result ≡ lower T.cmp x y }
+{
+    if x.cmp(&y).is_gt() { y } else { x }
+}
+
+/// The higher of two, in their order.
+pub(crate) fn higher<T: Ord + Copy>(x: T, y: T) -> T
+    ensures { result ≡ lower (flip_args T.cmp) x y }
+{
+    if y.cmp(&x).is_gt() { y } else { x }
+}
+
+impl<T: Copy> Seen<T> {
+    /// A part of a statistic that has values.
+    pub(crate) fn of(part: Option<T>) -> Seen<T>
+        ensures { result ≡ seen_of part }
+    {
+        match part {
+            Some(value) => Seen::Known(value),
+            None => Seen::Unknown,
+        }
+    }
+
+    /// The part, if it is known.
+    pub(crate) fn known(self) -> Option<T>
+        ensures { result ≡ known_of self }
+    {
+        match self {
+            Seen::Known(value) => Some(value),
+            Seen::Nothing | Seen::Unknown => None,
+        }
+    }
+}
+
+impl<T: Ord + Copy> Seen<T> {
+    /// The least of both.
+    pub(crate) fn least(self, other: Seen<T>) -> Seen<T>
+        ensures { result ≡ both (lower T.cmp) self other }
+    {
+        match (self, other) {
+            (Seen::Nothing, part) | (part, Seen::Nothing) => part,
+            (Seen::Known(x), Seen::Known(y)) => Seen::Known(lower(x, y)),
+            _ => Seen::Unknown,
+        }
+    }
+
+    /// The greatest of both.
+    pub(crate) fn greatest(self, other: Seen<T>) -> Seen<T>
+        ensures { result ≡ both (lower (flip_args T.cmp)) self other }
+    {
+        match (self, other) {
+            (Seen::Nothing, part) | (part, Seen::Nothing) => part,
+            (Seen::Known(x), Seen::Known(y)) => Seen::Known(higher(x, y)),
+            _ => Seen::Unknown,
+        }
+    }
+}

@@ -1,0 +1,109 @@
+ghost use Rattle.std.specs.Prelude.{◌≡◌, ◌≤◌, ◌^◌, true, All, length};
+ghost use Rattle.orc_types.specs.Lent.{lent_cells};
+ghost use Rattle.orc_stats.specs.Kinds.{is_of};
+ghost use Rattle.orc_stats.specs.declared.kind.StatKind.TheVariants as kind;
+
+use super::*;
+use std::borrow::{CowSlice, CowStr};
+
+#[test]
+fn numbers(rt: HostRuntime) {
+    let alloc = rt.alloc();
+    let seven: Row<'_> = Some(Value::Int(7));
+    let less: Row<'_> = Some(Value::Int(-9));
+    let null: Row<'_> = None;
+    let found = of_cells(
+        alloc,
+        StatKind::Ints,
+        &[Lent(&seven), Lent(&null), Lent(&less), Lent(&seven)],
+    );
+    assert!(&rt; says(&found, counted(3, Some(true)).span(-9, 7).total(5)));
+
+    let late: Row<'_> = Some(Value::Date(19782));
+    let early: Row<'_> = Some(Value::Date(-719162));
+    let found = of_cells(alloc, StatKind::Dates, &[Lent(&late), Lent(&early)]);
+    assert!(&rt; says(&found, counted(2, Some(false)).span(-719162, 19782)));
+
+    let yes: Row<'_> = Some(Value::Bool(true));
+    let no: Row<'_> = Some(Value::Bool(false));
+    let found = of_cells(
+        alloc,
+        StatKind::Bools,
+        &[Lent(&yes), Lent(&no), Lent(&yes), Lent(&null)],
+    );
+    assert!(&rt; says(&found, counted(3, Some(true)).total(2)));
+}
+
+#[test]
+fn texts_and_bytes(rt: HostRuntime) {
+    let alloc = rt.alloc();
+    let b: Row<'_> = Some(Value::Text(CowStr::Borrowed("b")));
+    let ab: Row<'_> = Some(Value::Text(CowStr::Borrowed("ab")));
+    let none: Row<'_> = Some(Value::Text(CowStr::Borrowed("")));
+    let accent: Row<'_> = Some(Value::Text(CowStr::Borrowed("\u{e9}")));
+    let null: Row<'_> = None;
+    let found = of_texts(alloc, &[Lent(&b), Lent(&ab), Lent(&null), Lent(&none)]);
+    assert!(&rt; says(&found, counted(3, Some(true)).total(3)));
+    assert!(&rt; spans(&found, b"", b"b"));
+    let found = of_texts(alloc, &[Lent(&accent), Lent(&b)]);
+    assert!(&rt; says(&found, counted(2, Some(false)).total(3)));
+    assert!(&rt; spans(&found, b"b", b"\xc3\xa9"));
+
+    let high: Row<'_> = Some(Value::Bytes(CowSlice::Borrowed(b"\xff\x00")));
+    let found = of_cells(alloc, StatKind::Bins, &[Lent(&high), Lent(&high)]);
+    assert!(&rt; says(&found, counted(2, Some(false)).total(4)));
+    let found = of_cells(alloc, StatKind::Plain, &[Lent(&null)]);
+    assert!(&rt; says(&found, counted(0, Some(true))));
+}
+
+/// The statistic of texts; where memory was refused, it is asked again.
+fn of_texts(alloc: Global, cells: &[Lent<'_, '_>]) -> Result<Stat, StatFault>
+    requires kind { All (λ c. is_of kind.Texts c ≡ true) (lent_cells cells.now) }
+    requires most { length cells.now ≤ 2 ^ 62 }
+{
+    match of_cells(alloc, StatKind::Texts, cells) {
+        Err(StatFault::OutOfMemory) => of_cells(alloc, StatKind::Texts, cells),
+        found => found,
+    }
+}
+
+/// Whether the least and the greatest text are these.
+fn spans(answer: &Result<Stat, StatFault>, low: &[u8], high: &[u8]) -> bool {
+    match answer {
+        Ok(
+            Stat {
+                body: Body::Texts {
+                    least: Some(least),
+                    greatest: Some(greatest),
+                    ..
+                },
+                ..
+            },
+        ) => least.as_slice() == low && greatest.as_slice() == high,
+        _ => false,
+    }
+}
+
+/// The total of 2^20 numbers, all but the last of them 2^43.
+fn total_of_many(alloc: Global, last: i64) -> Result<Option<i64>, StatFault> {
+    let many: Row<'_> = Some(Value::Int(1 << 43));
+    let last: Row<'_> = Some(Value::Int(last));
+    let mut cells = Vec::new(alloc);
+    for _ in 1..(1 << 20) {
+        cells.push(Lent(&many))?;
+    }
+    cells.push(Lent(&last))?;
+    let stat = of_cells(alloc, StatKind::Ints, &cells)?;
+    Ok(told(&stat).total)
+}
+
+#[test]
+fn totals_at_the_edge_of_64_bits(rt: HostRuntime) {
+    for (last, total) in [((1 << 43) - 1, Some(i64::MAX)), (1 << 43, None)] {
+        let found = match total_of_many(rt.alloc(), last) {
+            Err(StatFault::OutOfMemory) => total_of_many(rt.alloc(), last),
+            found => found,
+        };
+        assert!(&rt; found == Ok(total));
+    }
+}

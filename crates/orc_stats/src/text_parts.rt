@@ -1,0 +1,48 @@
+//! Least and greatest texts, lent and of our own.
+ghost use Rattle.std.specs.Prelude.{◌≡◌, IfOk, IfErr, true};
+ghost use Rattle.std.specs.Option.{is_some};
+ghost use Rattle.orc_stats.specs.Seen.{seen_of, seen_now, known_of};
+
+use crate::seen::Seen;
+use orc_wire::Bytes;
+use std::alloc::{AllocError, Global};
+
+/// A text of a statistic that has values, lent.
+pub(crate) fn lent_part(part: &Option<Bytes>) -> Seen<&[u8]>
+    ensures { seen_now result ≡ seen_of part.now }
+{
+    match part {
+        Some(bytes) => Seen::Known(bytes.as_slice()),
+        None => Seen::Unknown,
+    }
+}
+
+/// Bytes of our own.
+fn copied(alloc: Global, bytes: &[u8]) -> Result<Bytes, AllocError>
+    ensures { IfOk result (λ copy. copy ≡ bytes.now) }
+{
+    let mut copy = Vec::new(alloc);
+    copy.extend_from_slice(bytes)?;
+    Ok(Bytes::from_vec(copy))
+}
+
+/// A text of our own, if it is known.
+pub(crate) fn owned_part(alloc: Global, part: Seen<&[u8]>) -> Result<Option<Bytes>, AllocError>
+    ensures { IfOk result (λ text. text ≡ known_of (seen_now part.entry)) }
+{
+    match part {
+        Seen::Known(bytes) => Ok(Some(copied(alloc, bytes)?)),
+        Seen::Nothing | Seen::Unknown => Ok(None),
+    }
+}
+
+/// A text of our own, if there is one.
+pub(crate) fn copied_part(alloc: Global, part: &Option<Bytes>) -> Result<Option<Bytes>, AllocError>
+    ensures found { IfOk result (λ copy. copy ≡ part.now) }
+    ensures fault { IfErr result (λ _. is_some part.now ≡ true) }
+{
+    match part {
+        Some(bytes) => Ok(Some(copied(alloc, bytes.as_slice())?)),
+        None => Ok(None),
+    }
+}

@@ -1,0 +1,85 @@
+ghost use Rattle.std.specs.Prelude.{◌≡◌, ◌+◌, ◌+ℤ◌, ◌^◌, ◌<◌, ◌≤◌, pos, length};
+ghost use Rattle.std.specs.Option.{option_and_then};
+ghost use Rattle.orc_stats.specs.Seen.{both, seen_of, known_of};
+ghost use Rattle.orc_stats.specs.Statistics.{in_64 as fit};
+ghost use Rattle.orc_stats.specs.Joining.{in_limit as limit};
+ghost use Rattle.orc_stats.specs.declared.seen.Seen.TheVariants.{Known};
+ghost use Rattle.orc_stats.specs.Sizes.{size, count_size};
+
+use crate::seen::Seen;
+
+/// The total of both.
+pub(crate) fn plus(one: Seen<i128>, other: Seen<i128>) -> Seen<i128>
+    requires { size one + size other < 2 ^ 127 }
+    ensures total { result ≡ both ◌+ℤ◌ one other }
+    ensures size { size result ≤ size one + size other }
+{
+    match (one, other) {
+        (Seen::Nothing, part) | (part, Seen::Nothing) => part,
+        (Seen::Known(x), Seen::Known(y)) => Seen::Known(x + y),
+        _ => Seen::Unknown,
+    }
+}
+
+/// The total of a statistic that has values.
+pub(crate) fn total_of(sum: Option<i64>) -> Seen<i128>
+    ensures total { result ≡ seen_of sum }
+    ensures size { size result ≤ 2 ^ 64 }
+{
+    match sum {
+        Some(total) => Seen::Known(i128::from(total)),
+        None => Seen::Unknown,
+    }
+}
+
+/// The total, where it is known and fits 64 bits.
+pub(crate) fn in_64(total: Seen<i128>) -> Option<i64>
+    ensures { result ≡ option_and_then fit (known_of total) }
+{
+    match total {
+        Seen::Known(sum) => i64::try_from(sum).ok(),
+        Seen::Nothing | Seen::Unknown => None,
+    }
+}
+
+/// The length of a text, as a total.
+pub(crate) fn length_of(bytes: &[u8]) -> Seen<i128>
+    ensures total { result ≡ Known (pos (length bytes.now)) }
+    ensures size { size result ≤ 2 ^ 64 }
+{
+    Seen::Known(bytes.len() as i128)
+}
+
+/// The number of both.
+pub(crate) fn more(one: Seen<u128>, other: Seen<u128>) -> Seen<u128>
+    requires { count_size one + count_size other < 2 ^ 127 }
+    ensures total { result ≡ both ◌+◌ one other }
+    ensures size { count_size result ≤ count_size one + count_size other }
+{
+    match (one, other) {
+        (Seen::Nothing, part) | (part, Seen::Nothing) => part,
+        (Seen::Known(x), Seen::Known(y)) => Seen::Known(x + y),
+        _ => Seen::Unknown,
+    }
+}
+
+/// The number of a statistic that has values.
+pub(crate) fn number_of(number: Option<u64>) -> Seen<u128>
+    ensures total { result ≡ seen_of number }
+    ensures size { count_size result ≤ 2 ^ 64 }
+{
+    match number {
+        Some(number) => Seen::Known(u128::from(number)),
+        None => Seen::Unknown,
+    }
+}
+
+/// The number, where it is known and at most 2^62.
+pub(crate) fn in_limit(number: Seen<u128>) -> Option<u64>
+    ensures { result ≡ option_and_then limit (known_of number) }
+{
+    match number {
+        Seen::Known(number) if number <= 1 << 62 => u64::try_from(number).ok(),
+        _ => None,
+    }
+}
