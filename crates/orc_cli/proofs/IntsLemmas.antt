@@ -5,11 +5,8 @@ use Rattle.std.proofs.lemmas.List.{take_more, map_push}
 use Rattle.hex.specs.Hex.{decode_of}
 use Rattle.hex.proofs.HexLemmas.{decode_of-same}
 use Rattle.orc_rle.specs.declared.sign.Rle.{Rle}
-use Rattle.orc_rle.specs.declared.sign.Rle.TheVariants.{One}
 use Rattle.orc_rle.specs.declared.sign.Sign.{Sign}
-use Rattle.orc_rle.specs.RunOne.{IsRunOne}
-use Rattle.orc_rle.specs.Stream.{IsStream}
-use Rattle.orc_cli.specs.Ints.{numbers, SpellsInts}
+use Rattle.orc_cli.specs.Ints.{numbers, IsIntegerStream, SpellsInts}
 
 join_more : (c : ℕ) (x : List ℕ) (xs : List (List ℕ)) (y : List ℕ) → join_with_byte c ((x ∷ xs) ++ y ∷ []) ≡ (join_with_byte c (x ∷ xs) ++ c ∷ []) ++ y
 join_more c x [] y = sym (append_assoc x (c ∷ []) y)
@@ -29,6 +26,6 @@ numbers_first (v ∷ vs) zero le lt = refl
 numbers_first (v ∷ vs) (suc i) le lt = absurd (omega (arith, le))
 
 -- digits spell one list of bytes
-pub decoded_stream : (rle : Rle) (sign : Sign) (text bytes : List ℕ) (values : List ℤ) → decode_of text ≡ Ok bytes → SpellsInts rle sign text values → IsStream (IsRunOne sign) bytes values
-decoded_stream One sign text bytes values decoded spells =
-    subst (λ (t : List ℕ). IsStream (IsRunOne sign) t values) (decode_of-same text spells.0 bytes spells.1 decoded) spells.2
+pub decoded_stream : (rle : Rle) (sign : Sign) (text bytes : List ℕ) (values : List ℤ) → decode_of text ≡ Ok bytes → SpellsInts rle sign text values → IsIntegerStream rle sign bytes values
+decoded_stream rle sign text bytes values decoded spells =
+    subst (λ (t : List ℕ). IsIntegerStream rle sign t values) (decode_of-same text spells.0 bytes spells.1 decoded) spells.2

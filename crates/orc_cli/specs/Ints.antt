@@ -7,9 +7,10 @@ use Rattle.hex.specs.declared.error.FromHexError.{FromHexError}
 use Rattle.orc_rle.specs.declared.fault.RunFault.{RunFault}
 use Rattle.orc_rle.specs.declared.fault.RunFault.TheVariants.{OutOfMemory as RunOutOfMemory}
 use Rattle.orc_rle.specs.declared.sign.Rle.{Rle}
-use Rattle.orc_rle.specs.declared.sign.Rle.TheVariants.{One}
+use Rattle.orc_rle.specs.declared.sign.Rle.TheVariants.{One, Two}
 use Rattle.orc_rle.specs.declared.sign.Sign.{Sign}
 use Rattle.orc_rle.specs.RunOne.{IsRunOne, NoRunOne}
+use Rattle.orc_rle.specs.RunTwo.{IsRunTwo, NoRunTwo}
 use Rattle.orc_rle.specs.Stream.{IsStream, StopsAt}
 use Rattle.orc_cli.specs.declared.fault.CliFault.{CliFault}
 use Rattle.orc_cli.specs.declared.fault.CliFault.TheVariants.{Run, First, BadHex, SourceFailed, WriteFailed, OutOfMemory}
@@ -25,10 +26,12 @@ number_line values = numbers values ++ 10 ∷ []
 -- the bytes are a stream of the values, in the runs of that version
 abbrev pub IsIntegerStream : Rle → Sign → List ℕ → List ℤ → Type 0
 IsIntegerStream One sign bytes values = IsStream (IsRunOne sign) bytes values
+IsIntegerStream Two sign bytes values = IsStream (IsRunTwo sign) bytes values
 
 -- the first run that is none is refused so
 abbrev pub StopsIntegers : Rle → Sign → List ℕ → RunFault → Type 0
 StopsIntegers One sign bytes fault = StopsAt (IsRunOne sign) (NoRunOne sign) bytes fault
+StopsIntegers Two sign bytes fault = StopsAt (IsRunTwo sign) (NoRunTwo sign) bytes fault
 
 -- the digits spell bytes that are a stream of the values
 abbrev pub SpellsInts : Rle → Sign → List ℕ → List ℤ → Type 0

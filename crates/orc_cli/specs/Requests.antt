@@ -3,7 +3,7 @@ use Rattle.std.specs.Prelude.{◌≡◌, ℕ, List, Some, codes}
 use Rattle.clap.specs.Matches.{first_value}
 use Rattle.clap.specs.declared.parser.matches.Found.{Found}
 use Rattle.orc_rle.specs.declared.sign.Rle.{Rle}
-use Rattle.orc_rle.specs.declared.sign.Rle.TheVariants.{One}
+use Rattle.orc_rle.specs.declared.sign.Rle.TheVariants.{One, Two}
 use Rattle.orc_rle.specs.declared.sign.Sign.{Sign}
 use Rattle.orc_rle.specs.declared.sign.Sign.TheVariants.{Signed, Unsigned}
 use Rattle.orc_cli.specs.declared.request.Request.{Request}
@@ -12,6 +12,7 @@ use Rattle.orc_cli.specs.declared.request.Request.TheVariants.{Ints, Rows}
 -- the word of a version of the integer run lengths
 abbrev pub version_word : Rle → List ℕ
 version_word One = codes "1"
+version_word Two = codes "2"
 
 -- the word of a sign
 abbrev pub sign_word : Sign → List ℕ

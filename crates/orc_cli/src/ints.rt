@@ -1,15 +1,17 @@
 //! `orcm ints`: the numbers of an integer stream.
-ghost use Rattle.std.specs.Prelude.{◌≡◌, ◌≢◌, ℤ, List, [], ◌∷◌, ◌++◌, ◌⊎◌, IfOk, OnOk, IfErr, IsErrAnd, string_bytes};
+ghost use Rattle.std.specs.Prelude.{◌≡◌, ◌≢◌, ℤ, List, [], ◌∷◌, ◌++◌, ◌⊎◌, IfOk, OnOk, IfErr, IsErrAnd, MatchResult, string_bytes};
 ghost use Rattle.std.specs.Io.KnownBytes.{Appends, Keeps};
-ghost use Rattle.orc_cli.specs.Ints.{numbers, number_line, SpellsInts, StopsInts, IsNoHex, RefusesDigits, RefusesInts};
+ghost use Rattle.orc_cli.specs.Ints.{numbers, number_line, IsIntegerStream, StopsIntegers, SpellsInts, StopsInts, IsNoHex, RefusesDigits, RefusesInts};
 ghost use Rattle.orc_cli.specs.Output.{AppendsPart, IsOutside, IsWantOfMemory};
 ghost use Rattle.orc_cli.specs.declared.fault.CliFault.TheVariants.{Run, BadHex, WriteFailed};
 ghost use Rattle.orc_rle.specs.declared.fault.RunFault.{RunFault};
+ghost use Rattle.orc_rle.specs.declared.fault.RunFault.TheVariants.{OutOfMemory as RunOutOfMemory};
+ghost use Rattle.orc_rle.specs.Stream.{Refuses};
 
 use crate::fault::CliFault;
 use crate::output::write_out;
 use hex::FromHexError;
-use orc_rle::{Rle, RunCodec, Sign, V1};
+use orc_rle::{Rle, RunCodec, RunFault, Sign, V1, V2};
 use std::alloc::{AllocError, Global};
 use std::io::Write;
 
@@ -28,6 +30,20 @@ fn line_of(alloc: Global, values: &[i64]) -> Result<String, AllocError>
     Ok(line)
 }
 
+/// The values of the runs of that version.
+fn decode_all(alloc: Global, rle: Rle, sign: Sign, bytes: &[u8]) -> Result<Vec<i64>, RunFault>
+    ensures found { IfOk result (λ decoded. IsIntegerStream rle sign bytes.now decoded.items) }
+    ensures only { (values : List ℤ) → IsIntegerStream rle sign bytes.now values
+        → MatchResult result (λ decoded. decoded.items ≡ values) (λ fault. fault ≡ RunOutOfMemory) }
+    ensures fault { IfErr result (λ fault. (fault ≡ RunOutOfMemory) ⊎ StopsIntegers rle sign bytes.now fault) }
+    ensures refused { (fault : RunFault) → StopsIntegers rle sign bytes.now fault → Refuses result fault }
+{
+    match rle {
+        Rle::One => V1::decode_all(alloc, bytes, sign),
+        Rle::Two => V2::decode_all(alloc, bytes, sign),
+    }
+}
+
 /// The values of the runs whose bytes the hexadecimal digits spell, in either case.
 fn values_of(alloc: Global, rle: Rle, sign: Sign, text: &str) -> Result<Vec<i64>, CliFault>
     ensures found { IfOk result (λ found. SpellsInts rle sign text.now found.items) }
@@ -43,10 +59,7 @@ fn values_of(alloc: Global, rle: Rle, sign: Sign, text: &str) -> Result<Vec<i64>
         Err(FromHexError::OutOfMemory) => return Err(CliFault::OutOfMemory),
         Err(_) => return Err(CliFault::BadHex),
     };
-    let decoded = match rle {
-        Rle::One => V1::decode_all(alloc, &bytes, sign),
-    };
-    match decoded {
+    match decode_all(alloc, rle, sign, &bytes) {
         Ok(values) => Ok(values),
         Err(fault) => Err(CliFault::Run(fault)),
     }

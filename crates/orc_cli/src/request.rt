@@ -18,7 +18,7 @@ pub enum Request<'a> {
 }
 
 /// The words that `--rle` takes.
-pub static VERSIONS: [&str; 1] = ["1"];
+pub static VERSIONS: [&str; 2] = ["1", "2"];
 
 /// The words that `--sign` takes.
 pub static SIGNS: [&str; 2] = ["s", "u"];
@@ -30,6 +30,7 @@ fn version_of(word: &str) -> Option<Rle>
 {
     match word {
         "1" => Some(Rle::One),
+        "2" => Some(Rle::Two),
         _ => None,
     }
 }

@@ -10,47 +10,94 @@ use std::process::Abort;
 use trickle::{AtItsEnd, Trickle};
 
 /// Integer streams in hexadecimal digits, and what `ints` prints of them.
-const STREAMS: [(Sign, &str, Result<&str, CliFault>); 16] = [
-    (Sign::Unsigned, "fb020306070b", Ok("2 3 6 7 11\n")),
-    (Sign::Unsigned, "FB020306070B", Ok("2 3 6 7 11\n")),
-    (Sign::Unsigned, "", Ok("\n")),
-    (Sign::Unsigned, "000101fe0303", Ok("1 2 3 3 3\n")),
-    (Sign::Unsigned, "01ff64", Ok("100 99 98 97\n")),
-    (Sign::Signed, "000001", Ok("-1 -1 -1\n")),
-    (Sign::Unsigned, "ff8700", Ok("7\n")),
+const STREAMS: [(Rle, Sign, &str, Result<&str, CliFault>); 22] = [
+    (Rle::One, Sign::Unsigned, "fb020306070b", Ok("2 3 6 7 11\n")),
+    (Rle::One, Sign::Unsigned, "FB020306070B", Ok("2 3 6 7 11\n")),
+    (Rle::One, Sign::Unsigned, "", Ok("\n")),
+    (Rle::One, Sign::Unsigned, "000101fe0303", Ok("1 2 3 3 3\n")),
+    (Rle::One, Sign::Unsigned, "01ff64", Ok("100 99 98 97\n")),
+    (Rle::One, Sign::Signed, "000001", Ok("-1 -1 -1\n")),
+    (Rle::One, Sign::Unsigned, "ff8700", Ok("7\n")),
     (
+        Rle::One,
         Sign::Unsigned,
         "fb02030607",
         Err(CliFault::Run(RunFault::Short(0))),
     ),
     (
+        Rle::One,
         Sign::Unsigned,
         "ffffffffffffffffffff01",
         Err(CliFault::Run(RunFault::ValueRange(0))),
     ),
     (
+        Rle::One,
         Sign::Unsigned,
         "ffffffffffffffffffff02",
         Err(CliFault::Run(RunFault::BadVarint(0))),
     ),
     (
+        Rle::One,
         Sign::Unsigned,
         "feffffffffffffffffff01",
         Err(CliFault::Run(RunFault::Short(0))),
     ),
     (
+        Rle::One,
         Sign::Unsigned,
         "feffffffffffffffffff0100",
         Err(CliFault::Run(RunFault::ValueRange(0))),
     ),
     (
+        Rle::One,
         Sign::Unsigned,
         "feffffffffffffffffff01ffffffffffffffffff02",
         Err(CliFault::Run(RunFault::BadVarint(0))),
     ),
-    (Sign::Unsigned, "0001 01fe0303", Err(CliFault::BadHex)),
-    (Sign::Unsigned, "0G", Err(CliFault::BadHex)),
-    (Sign::Unsigned, "0", Err(CliFault::BadHex)),
+    (
+        Rle::One,
+        Sign::Unsigned,
+        "0001 01fe0303",
+        Err(CliFault::BadHex),
+    ),
+    (Rle::One, Sign::Unsigned, "0G", Err(CliFault::BadHex)),
+    (Rle::One, Sign::Unsigned, "0", Err(CliFault::BadHex)),
+    (
+        Rle::Two,
+        Sign::Unsigned,
+        "0a2710",
+        Ok("10000 10000 10000 10000 10000\n"),
+    ),
+    (
+        Rle::Two,
+        Sign::Unsigned,
+        "5e035ca1ab1edeadbeef",
+        Ok("23713 43806 57005 48879\n"),
+    ),
+    (
+        Rle::Two,
+        Sign::Unsigned,
+        "c609020222424246",
+        Ok("2 3 5 7 11 13 17 19 23 29\n"),
+    ),
+    (
+        Rle::Two,
+        Sign::Signed,
+        "8e03370183e8000102036000 0040",
+        Err(CliFault::BadHex),
+    ),
+    (
+        Rle::Two,
+        Sign::Signed,
+        "8e03370183e80001020360000040",
+        Ok("-1000 2147482905 -998 -997\n"),
+    ),
+    (
+        Rle::Two,
+        Sign::Unsigned,
+        "8e0307020000000000808040",
+        Err(CliFault::Run(RunFault::PatchOrder(0))),
+    ),
 ];
 
 /// Twenty runs of 130 sevens each.
@@ -70,9 +117,9 @@ fn wants_memory(fault: CliFault) -> bool {
 }
 
 /// `ints_to` once there is memory: a call that wanted some wrote nothing, and is made again.
-fn ints(alloc: Global, sign: Sign, hex: &str, out: &mut Trickle) -> Result<(), CliFault> {
-    match ints_to(alloc, Rle::One, sign, hex, out) {
-        Err(fault) if wants_memory(fault) => ints_to(alloc, Rle::One, sign, hex, out),
+fn ints(alloc: Global, rle: Rle, sign: Sign, hex: &str, out: &mut Trickle) -> Result<(), CliFault> {
+    match ints_to(alloc, rle, sign, hex, out) {
+        Err(fault) if wants_memory(fault) => ints_to(alloc, rle, sign, hex, out),
         answer => answer,
     }
 }
@@ -87,9 +134,9 @@ fn rows(alloc: Global, file: &[u8], out: &mut Trickle) -> Result<(), CliFault> {
 
 #[test]
 fn numbers_of_streams(rt: HostRuntime) {
-    for (sign, hex, wanted) in STREAMS {
+    for (rle, sign, hex, wanted) in STREAMS {
         let mut out = Trickle::new(1, 512, AtItsEnd::Fails);
-        let answer = ints(rt.alloc(), sign, hex, &mut out);
+        let answer = ints(rt.alloc(), rle, sign, hex, &mut out);
         match wanted {
             Ok(line) => {
                 assert_eq!(rt; answer, Ok(()), "of {hex}");
@@ -121,7 +168,7 @@ fn check_line_of_sevens(rt: &impl Abort, written: &[u8], count: usize) {
 fn long_outputs(rt: HostRuntime) {
     for a_call in BYTES_A_CALL {
         let mut out = Trickle::new(a_call, 8192, AtItsEnd::Fails);
-        let answer = ints(rt.alloc(), Sign::Unsigned, MANY_SEVENS, &mut out);
+        let answer = ints(rt.alloc(), Rle::One, Sign::Unsigned, MANY_SEVENS, &mut out);
         assert_eq!(rt; answer, Ok(()), "{a_call} bytes a call");
         check_line_of_sevens(&rt, out.written(), 2600);
         let mut out = Trickle::new(a_call, 8192, AtItsEnd::Fails);
@@ -143,7 +190,13 @@ fn outputs_that_stop(rt: HostRuntime) {
             assert_eq!(rt; out.written(), &lines[..stop]);
             if stop < line.len() {
                 let mut out = Trickle::new(3, stop, at_its_end);
-                let answer = ints(rt.alloc(), Sign::Unsigned, "fb020306070b", &mut out);
+                let answer = ints(
+                    rt.alloc(),
+                    Rle::One,
+                    Sign::Unsigned,
+                    "fb020306070b",
+                    &mut out,
+                );
                 assert_eq!(rt; answer, Err(CliFault::WriteFailed));
                 assert_eq!(rt; out.written(), &line[..stop]);
             }

@@ -9,7 +9,7 @@ use std::alloc::Global;
 use std::convert::AsStr;
 
 /// Command lines that are requests.
-const REQUESTS: [(&[&str], Request<'static>); 5] = [
+const REQUESTS: [(&[&str], Request<'static>); 6] = [
     (
         &["orcm", "ints", "--rle", "1", "--sign", "u", "61ff64"],
         Request::Ints {
@@ -32,6 +32,14 @@ const REQUESTS: [(&[&str], Request<'static>); 5] = [
             rle: Rle::One,
             sign: Sign::Signed,
             hex: "",
+        },
+    ),
+    (
+        &["orcm", "ints", "--rle", "2", "--sign", "u", "0a2710"],
+        Request::Ints {
+            rle: Rle::Two,
+            sign: Sign::Unsigned,
+            hex: "0a2710",
         },
     ),
     (&["orcm", "rows", "a.orc"], Request::Rows { file: "a.orc" }),

@@ -3,12 +3,12 @@ use Rattle.orc_cli.specs.declared.fault.CliFault.TheVariants.{Run}
 use Rattle.orc_cli.proofs.IntsLemmas.{decoded_stream}
 use Rattle.orc_cli.proofs.ints.values_of.Goals as goal
 
-pub returns-in-Ok-decoded-clause-same : goal.returns-in-Ok-decoded-clause-same
-returns-in-Ok-decoded-clause-same c = λ values spells.
+pub returns-in-Ok-decode_all-clause-same : goal.returns-in-Ok-decode_all-clause-same
+returns-in-Ok-decode_all-clause-same c = λ values spells.
     let decoded = rw (← c.deref.ensures.value) at c.in-Ok.ensures.ok in
-    c.in-Ok-decoded.ensures.only values (decoded_stream c.args.rle c.args.sign c.args.text.now c.deref.result.now values decoded spells)
+    c.in-Ok-decode_all.ensures.only values (decoded_stream c.args.rle c.args.sign c.args.text.now c.deref.result.now values decoded spells)
 
 pub returns-clause-only : goal.returns-clause-only
 returns-clause-only c = λ values spells.
     let decoded = rw (← c.deref.ensures.value) at c.in-Ok.ensures.ok in
-    inr (ap Run (c.in-Err-decoded.ensures.only values (decoded_stream c.args.rle c.args.sign c.args.text.now c.deref.result.now values decoded spells)))
+    inr (ap Run (c.in-Err-decode_all.ensures.only values (decoded_stream c.args.rle c.args.sign c.args.text.now c.deref.result.now values decoded spells)))
