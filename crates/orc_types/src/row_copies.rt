@@ -29,9 +29,7 @@ fn owned_value(alloc: Global, value: &Value<'_>) -> Result<Value<'static>, Alloc
             alloc,
             text.as_str(),
         )?))),
-        Value::Bytes(octets) => Ok(Value::Bytes(CowSlice::Owned(
-            octets.as_slice().to_vec(alloc)?,
-        ))),
+        Value::Bytes(octets) => Ok(Value::Bytes(CowSlice::Owned(octets.as_slice().to_vec(alloc)?))),
         Value::List(items) => Ok(Value::List(owned_rows(alloc, items)?)),
         Value::Struct(items) => Ok(Value::Struct(owned_rows(alloc, items)?)),
     }
