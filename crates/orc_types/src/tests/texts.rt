@@ -114,7 +114,10 @@ fn check_texts(rt: &impl Abort, alloc: Global) -> Result<(), TypeFault> {
         assert_eq!(rt; schema.text(alloc)?.as_str(), text);
     }
     let with_kept = Schema::from_types(alloc, &types_that_keep(alloc, &LISTS)?)?;
-    assert_eq!(rt; with_kept.text(alloc)?.as_str(), "struct<a:array<array<int>>>");
+    assert_eq!(rt;
+        with_kept.text(alloc)?.as_str(),
+        "struct<a:array<array<int>>>"
+    );
     let dashed = schema_of(alloc, &[(12, &[1], &[b"a-b"]), (3, &[], &[])])?;
     assert_eq!(rt; dashed.text(alloc)?.as_str(), "struct<a-b:int>");
     Ok(())
