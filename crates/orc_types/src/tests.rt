@@ -61,15 +61,16 @@ fn types_of(alloc: Global, table: &[Listed]) -> Result<Vec<TypeMsg>, AllocError>
     Ok(types)
 }
 
-/// A struct of one number, whose type keeps another field.
-fn number_that_keeps(alloc: Global) -> Result<Vec<TypeMsg>, AllocError>
+/// The types, each of which keeps another field.
+fn types_that_keep(alloc: Global, table: &[Listed]) -> Result<Vec<TypeMsg>, AllocError>
     ensures { IfOk result (λ types. AllKept types.items) }
 {
-    let mut number = type_msg(alloc, &(4, &[], &[]))?;
-    number.kept = field_five(alloc)?;
     let mut types = Vec::new(alloc);
-    types.push(type_msg(alloc, &(12, &[1], &[b"n"]))?)?;
-    types.push(number)?;
+    for listed in table {
+        let mut t = type_msg(alloc, listed)?;
+        t.kept = field_five(alloc)?;
+        types.push(t)?;
+    }
     Ok(types)
 }
 
@@ -117,8 +118,11 @@ fn check_schemas(rt: &impl Abort, alloc: Global) -> Result<(), TypeFault> {
         ],
     )?;
     assert!(rt; schema != other, "another name");
-    let plain = schema_of(alloc, &[(12, &[1], &[b"n"]), (4, &[], &[])])?;
-    let with_kept = Schema::from_types(alloc, &number_that_keeps(alloc)?)?;
-    assert!(rt; plain != with_kept, "another field that is kept");
+    // of a struct, of lists and of a number
+    let with_kept = Schema::from_types(alloc, &types_that_keep(alloc, &LISTS)?)?;
+    for t in with_kept.types() {
+        assert_eq!(rt; t.kept.as_slice(), [0x28, 0x01].as_slice());
+    }
+    assert!(rt; schema != with_kept, "another field that is kept");
     Ok(())
 }

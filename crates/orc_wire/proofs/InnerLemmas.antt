@@ -4,7 +4,7 @@ use Rattle.std.specs.Option.{is_some}
 use Rattle.orc_wire.specs.Fields.{Item}
 use Rattle.orc_wire.specs.Members.{Member}
 use Rattle.orc_wire.specs.Spells.{bytes_in, Spells}
-use Rattle.orc_wire.specs.Kinds.{inside, MessageIn, JoinsOnly}
+use Rattle.orc_wire.specs.Parts.{inside, MessageIn, JoinsOnly}
 
 pub message_read : {C : Type 0} (members : Member C) (required n : ℕ) (item : Item) (bytes : List ℕ) (base : ℕ) (c : C) → Some bytes ≡ bytes_in n item → base ≡ inside item bytes
     → Spells members required base bytes c → MessageIn members required n item (bytes_in n item) (Some c)

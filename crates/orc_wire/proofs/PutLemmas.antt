@@ -6,7 +6,7 @@ use Rattle.std.proofs.Math.Seq.{take-append_seam}
 use Rattle.std.proofs.lemmas.List.{append-nil}
 use Rattle.orc_bits.specs.Varint.{varint_text}
 use Rattle.orc_wire.specs.Fields.{Payload}
-use Rattle.orc_wire.specs.Canonical.{IsFront, KeepsFront, field_text, list_text, varints_text}
+use Rattle.orc_wire.specs.CanonicalText.{IsFront, KeepsFront, field_text, list_text, varints_text}
 
 pub front_same : (a : List ℕ) → IsFront a a
 front_same a = record { more = []; parts = sym (append-nil a) }

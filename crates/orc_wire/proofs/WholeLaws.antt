@@ -1,5 +1,5 @@
 -- What a canonical text holds, and which is not empty.
-use Rattle.std.specs.Prelude.{◌≡◌, ℕ, ◌+◌, ◌*◌, ◌^◌, List, [], ◌∷◌, ◌++◌, ◌⊎◌, Option, Some, None, Bool, true, false, refl, ⊤}
+use Rattle.std.specs.Prelude.{◌≡◌, ℕ, ◌+◌, ◌*◌, ◌^◌, List, [], ◌∷◌, ◌++◌, ◌⊎◌, Option, Some, None, Bool, true, false, refl}
 use Rattle.std.specs.Option.{IfSome, IsSome, option_to_list}
 use Rattle.std.specs.List.{AllByRecursion}
 use Rattle.std.proofs.Common.{lit≤, sym, subst, inl, inr, arith}
@@ -25,9 +25,11 @@ use Rattle.orc_wire.specs.declared.stripe_info.StripeInfo.{StripeInfo}
 use Rattle.orc_wire.specs.declared.type_msg.TypeMsg.{TypeMsg}
 use Rattle.orc_wire.specs.Fields.{Payload, varint, sized, wire, Item}
 use Rattle.orc_wire.specs.Spells.{Spells, bytes_in}
-use Rattle.orc_wire.specs.Kinds.{small, last, each, message, MessageIn}
+use Rattle.orc_wire.specs.Parts.{MessageIn}
+use Rattle.orc_wire.specs.Kinds.{small, last, each, message}
 use Rattle.orc_wire.specs.Messages.{type_msg, footer}
-use Rattle.orc_wire.specs.Canonical.{payload_text, field_text, known_text, some_text, varints_text, WholeIf, all_both}
+use Rattle.orc_wire.specs.CanonicalText.{payload_text, field_text, known_text, some_text, varints_text}
+use Rattle.orc_wire.specs.Canonical.{WholeIf, all_both}
 use Rattle.orc_wire.specs.CanonicalKinds.{IsNumber, AreBelow, always_small, AreKept, says_kept, wire_most, some_top, all_top}
 use Rattle.orc_wire.specs.CanonicalMessages.{one, two, three, is_dictionary, encoding_text, stream_text, stripe_footer_text, row_index_entry_text, row_index_text, stripe_stats_text, metadata_text, type_text, stripe_info_text, user_metadata_text, footer_text, integer_stats_text, string_stats_text, bucket_stats_text, date_stats_text, binary_stats_text, column_stats_text}
 

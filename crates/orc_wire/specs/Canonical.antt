@@ -1,64 +1,16 @@
--- The canonical text of a message: ascending numbers, shortest varints, packed lists (Protocol Buffers
--- encoding, "Serialization Stability"; the order and the forms are ORC's usual ones). What is written
--- says the same again.
-use Rattle.std.specs.Prelude.{◌≡◌, ℕ, ◌+◌, ◌*◌, ◌^◌, ◌<◌, ◌≤◌, List, [], ◌∷◌, length, ◌++◌, ◌⊎◌, Option, Some, None, Bool, true, false, ◌||◌, refl}
+-- Laws of how a member is written, with their proofs: what is written says the same again, and what is
+-- read has the bits of its fields (Protocol Buffers encoding, "Serialization Stability"). The texts in
+-- words are in CanonicalText.
+use Rattle.std.specs.Prelude.{◌≡◌, ℕ, ◌^◌, ◌<◌, ◌≤◌, List, [], ◌∷◌, length, ◌++◌, ◌⊎◌, Bool, true, false, ◌||◌, refl}
 use Rattle.std.specs.Option.{is_some}
 use Rattle.std.specs.List.{AllByRecursion}
 use Rattle.std.proofs.Common.{sym, ◌∙◌, ap, subst, inl, inr, arith, append_assoc, length-append}
 use Rattle.std.proofs.lemmas.List.{append-nil}
 use Rattle.std.proofs.lemmas.Bool.Decides.{nat_tests}
-use Rattle.orc_bits.specs.Varint.{varint_text}
 use Rattle.orc_wire.specs.declared.fault.WireFault.{WireFault}
-use Rattle.orc_wire.specs.Fields.{Payload, varint, eight, four, sized, Item, wire, IsFields}
+use Rattle.orc_wire.specs.Fields.{Item, IsFields}
 use Rattle.orc_wire.specs.Members.{Member, Shape, shaped, ◌and◌}
 use Rattle.orc_wire.specs.Spells.{number_in, has_number, Spells}
-
--- ---- texts
-
--- the shortest text of a field
-abbrev pub payload_text : Payload → List ℕ
-payload_text (varint v) = varint_text v
-payload_text (eight b) = b
-payload_text (four b) = b
-payload_text (sized b) = varint_text (length b) ++ b
-
-abbrev pub field_text : ℕ → Payload → List ℕ
-field_text n payload = varint_text (n * 8 + wire payload) ++ payload_text payload
-
-abbrev pub number_text : ℕ → ℕ → List ℕ
-number_text n v = field_text n (varint v)
-
-abbrev pub sized_text : ℕ → List ℕ → List ℕ
-sized_text n bytes = field_text n (sized bytes)
-
--- nothing where there are no bytes
-abbrev pub some_text : ℕ → List ℕ → List ℕ
-some_text n [] = []
-some_text n (b ∷ bytes) = sized_text n (b ∷ bytes)
-
--- a field where there is a value
-abbrev pub known_text : {V : Type 0} → (V → Payload) → ℕ → Option V → List ℕ
-known_text payload n None = []
-known_text payload n (Some v) = field_text n (payload v)
-
--- a field for each
-abbrev pub list_text : {V : Type 0} → (V → Payload) → ℕ → List V → List ℕ
-list_text payload n [] = []
-list_text payload n (v ∷ vs) = field_text n (payload v) ++ list_text payload n vs
-
--- a message's text, or nothing where there is no message or its text is empty
-abbrev pub shown_text : {C : Type 0} → (C → List ℕ) → ℕ → Option C → List ℕ
-shown_text inner n None = []
-shown_text inner n (Some c) = some_text n (inner c)
-
--- shortest varints, one after the other
-abbrev pub varints_text : List ℕ → List ℕ
-varints_text [] = []
-varints_text (n ∷ ns) = varint_text n ++ varints_text ns
-
--- a packed list, or nothing for an empty one
-abbrev pub packed_text : ℕ → List ℕ → List ℕ
-packed_text n ns = some_text n (varints_text ns)
 
 -- ---- how a member is written
 
@@ -93,9 +45,11 @@ pub record Canonical {V : Type 0} (member : Member V) : Type 1 where
   pub few : high ≤ 2 ^ 29
   pub always : ℕ → Type 0
   -- other fields say nothing of it
-  pub deaf : (item : Item) (before : List Item) (v : V) → item.number < 2 ^ 29 → IsOutside low high item.number → member.says before v → member.says (item ∷ before) v
+  pub deaf : (item : Item) (before : List Item) (v : V) → item.number < 2 ^ 29 → IsOutside low high item.number → member.says before v
+      → member.says (item ∷ before) v
   -- its text says it
-  pub again : (v : V) → bounded v → whole v → length (text v) < 2 ^ 64 → (base : ℕ) (before : List Item) (front : List ℕ) → IsFields base before front → member.says before member.start
+  pub again : (v : V) → bounded v → whole v → length (text v) < 2 ^ 64 → (base : ℕ) (before : List Item) (front : List ℕ) → IsFields base before front
+      → member.says before member.start
       → Adds member low high always base before front (text v) v
   -- it refuses its own fields alone, each for one reason
   pub hears : (item : Item) (v : V) (fault : WireFault) → member.refuses item v fault → IsBetween low high item
@@ -103,14 +57,16 @@ pub record Canonical {V : Type 0} (member : Member V) : Type 1 where
   -- what is read has numbers of those bits
   pub read : (base : ℕ) (fields : List Item) (bytes : List ℕ) (v : V) → IsFields base fields bytes → member.says fields v → bounded v
 
-deaf_all : {V : Type 0} (member : Member V) (w : Canonical member) (low high : ℕ) (more before : List Item) (v : V) → high ≤ 2 ^ 29 → ((n : ℕ) → low ≤ n → n < high → IsOutside w.low w.high n)
+deaf_all : {V : Type 0} (member : Member V) (w : Canonical member) (low high : ℕ) (more before : List Item) (v : V) → high ≤ 2 ^ 29
+    → ((n : ℕ) → low ≤ n → n < high → IsOutside w.low w.high n)
     → AllByRecursion (IsBetween low high) more → member.says before v → member.says (more ++ before) v
 deaf_all member w low high [] before v few out h says = says
 deaf_all member w low high (item ∷ more) before v few out h says =
     let most = h.0.most in
     w.deaf item (more ++ before) v (omega (arith, most, few)) (out item.number h.0.least h.0.most) (deaf_all member w low high more before v few out h.1 says)
 
-all_widen : (low high low2 high2 : ℕ) (more : List Item) → low2 ≤ low → high ≤ high2 → AllByRecursion (IsBetween low high) more → AllByRecursion (IsBetween low2 high2) more
+all_widen : (low high low2 high2 : ℕ) (more : List Item) → low2 ≤ low → high ≤ high2 → AllByRecursion (IsBetween low high) more
+    → AllByRecursion (IsBetween low2 high2) more
 all_widen low high low2 high2 [] p q h = tt
 all_widen low high low2 high2 (item ∷ more) p q h = (let b = h.0 in record { least = omega (arith, b.least, p); most = omega (arith, b.most, q) }, all_widen low high low2 high2 more p q h.1)
 
@@ -128,7 +84,8 @@ none_wanted n (item ∷ before) e = ap (λ (b : Bool). b || is_some (number_in n
 
 -- one member after the other, in ascending numbers
 module _ {V W : Type 0} (a : Member V) (b : Member W) (x : Canonical a) (y : Canonical b) (apart : x.high ≤ y.low) where
-  pub both_deaf : (item : Item) (before : List Item) (v : V × W) → item.number < 2 ^ 29 → IsOutside x.low y.high item.number → (a and b).says before v → (a and b).says (item ∷ before) v
+  pub both_deaf : (item : Item) (before : List Item) (v : V × W) → item.number < 2 ^ 29 → IsOutside x.low y.high item.number → (a and b).says before v
+      → (a and b).says (item ∷ before) v
   both_deaf item before v few (inl lt) says =
       let p = x.ordered in
       (x.deaf item before v.0 few (inl lt) says.0, y.deaf item before v.1 few (inl (omega (arith, lt, apart, p))) says.1)
@@ -136,8 +93,10 @@ module _ {V W : Type 0} (a : Member V) (b : Member W) (x : Canonical a) (y : Can
       let p = y.ordered in
       (x.deaf item before v.0 few (inr (omega (arith, ge, apart, p))) says.0, y.deaf item before v.1 few (inr ge) says.1)
 
-  pub both_again : (v : V × W) → x.bounded v.0 × y.bounded v.1 → x.whole v.0 × y.whole v.1 → length (x.text v.0 ++ y.text v.1) < 2 ^ 64 → (base : ℕ) (before : List Item) (front : List ℕ)
-      → IsFields base before front → (a and b).says before (a and b).start → Adds (a and b) x.low y.high (λ n. x.always n ⊎ y.always n) base before front (x.text v.0 ++ y.text v.1) v
+  pub both_again : (v : V × W) → x.bounded v.0 × y.bounded v.1 → x.whole v.0 × y.whole v.1 → length (x.text v.0 ++ y.text v.1) < 2 ^ 64
+      → (base : ℕ) (before : List Item) (front : List ℕ)
+      → IsFields base before front → (a and b).says before (a and b).start
+      → Adds (a and b) x.low y.high (λ n. x.always n ⊎ y.always n) base before front (x.text v.0 ++ y.text v.1) v
   both_again v can whole len base before front are says =
       let p = x.ordered in
       let q = y.ordered in
@@ -171,7 +130,8 @@ module _ {V W : Type 0} (a : Member V) (b : Member W) (x : Canonical a) (y : Can
   both_single item v e f (inr r) (inl s) = let h = x.hears item v.0 f s in let k = y.hears item v.1 e r in absurd (omega (arith, h.most, k.least, apart))
   both_single item v e f (inr r) (inr s) = y.single item v.1 e f r s
 
-  pub both_read : (base : ℕ) (fields : List Item) (bytes : List ℕ) (v : V × W) → IsFields base fields bytes → (a and b).says fields v → x.bounded v.0 × y.bounded v.1
+  pub both_read : (base : ℕ) (fields : List Item) (bytes : List ℕ) (v : V × W) → IsFields base fields bytes → (a and b).says fields v
+      → x.bounded v.0 × y.bounded v.1
   both_read base fields bytes v are says = (x.read base fields bytes v.0 are says.0, y.read base fields bytes v.1 are says.1)
 
   abbrev pub both : Canonical (a and b)
@@ -201,7 +161,8 @@ module _ {V W : Type 0} (a : Member V) (b : Member W) (x : Canonical a) (y : Can
   text_if true v = x.text v.0 ++ y.text v.1
   text_if false v = x.text v.0
 
-  pub again_if : (t : Bool) (v : V × W) → x.bounded v.0 × y.bounded v.1 → WholeIf t v → length (text_if t v) < 2 ^ 64 → (base : ℕ) (before : List Item) (front : List ℕ)
+  pub again_if : (t : Bool) (v : V × W) → x.bounded v.0 × y.bounded v.1 → WholeIf t v → length (text_if t v) < 2 ^ 64
+      → (base : ℕ) (before : List Item) (front : List ℕ)
       → IsFields base before front → (a and b).says before (a and b).start → Adds (a and b) x.low y.high x.always base before front (text_if t v) v
   again_if true v can whole len base before front are says =
       let r = both_again a b x y apart v can whole len base before front are says in
@@ -237,8 +198,10 @@ module _ {V W : Type 0} (a : Member V) (b : Member W) (x : Canonical a) (y : Can
 
 -- the members of a record
 module _ {V W : Type 0} (shape : Shape V W) (m : Member V) (x : Canonical m) where
-  pub shaped_again : (w : W) → x.bounded (shape.into w) → x.whole (shape.into w) → length (x.text (shape.into w)) < 2 ^ 64 → (base : ℕ) (before : List Item) (front : List ℕ)
-      → IsFields base before front → (shaped shape m).says before (shaped shape m).start → Adds (shaped shape m) x.low x.high x.always base before front (x.text (shape.into w)) w
+  pub shaped_again : (w : W) → x.bounded (shape.into w) → x.whole (shape.into w) → length (x.text (shape.into w)) < 2 ^ 64
+      → (base : ℕ) (before : List Item) (front : List ℕ)
+      → IsFields base before front → (shaped shape m).says before (shaped shape m).start
+      → Adds (shaped shape m) x.low x.high x.always base before front (x.text (shape.into w)) w
   shaped_again w can whole len base before front are says =
       let r = x.again (shape.into w) can whole len base before front are (subst (λ (v : V). m.says before v) (shape.here m.start) says) in
       record { more = r.more; are = r.are; says = r.says; between = r.between; shows = r.shows }
@@ -261,7 +224,8 @@ module _ {V W : Type 0} (shape : Shape V W) (m : Member V) (x : Canonical m) whe
   }
 
 -- the text of a message is that message
-pub spells_again : {C : Type 0} (member : Member C) (w : Canonical member) (required base : ℕ) (c : C) → w.bounded c → w.whole c → length (w.text c) < 2 ^ 64 → (required ≡ 0) ⊎ w.always required
+pub spells_again : {C : Type 0} (member : Member C) (w : Canonical member) (required base : ℕ) (c : C) → w.bounded c → w.whole c
+    → length (w.text c) < 2 ^ 64 → (required ≡ 0) ⊎ w.always required
     → Spells member required base (w.text c) c
 spells_again member w required base c can whole len there =
     let r = w.again c can whole len base [] [] refl member.starts in
@@ -272,12 +236,3 @@ spells_again member w required base c can whole len there =
       says = subst (λ (t : List Item). member.says t c) fields r.says;
       complete = elim there [ inl none ↦ none_wanted required r.more none | inr k ↦ ap (has_number required) (sym fields) ∙ r.shows required k ];
     }
-
--- the bytes begin with the front
-pub record IsFront (front bytes : List ℕ) : Type 0 where
-  pub more : List ℕ
-  pub parts : bytes ≡ front ++ more
-
--- what stood in front still does
-abbrev pub KeepsFront : List ℕ → List ℕ → Type 0
-KeepsFront old new = (front : List ℕ) → IsFront front old → IsFront front new

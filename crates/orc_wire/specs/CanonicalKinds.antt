@@ -1,5 +1,5 @@
--- The canonical text of each kind of member (Protocol Buffers encoding; packed lists as in "Packed
--- Repeated Fields", signed numbers as in "Signed Integers").
+-- Laws of how each kind of member is written, with their proofs (Protocol Buffers encoding; packed lists
+-- as in "Packed Repeated Fields", signed numbers as in "Signed Integers").
 use Rattle.std.specs.Prelude.{◌≡◌, ℕ, ◌+◌, ◌*◌, ◌^◌, ◌<◌, ◌≤◌, List, [], ◌∷◌, length, ◌++◌, ◌⊎◌, Option, Some, None, Bool, true, false, not, cond, ◌==◌, nat_eq, nat_le, refl, ⊤, ℤ}
 use Rattle.std.specs.Option.{option_map, option_or, option_to_list, unwrap_or, IfSome}
 use Rattle.std.specs.Bool.{MatchBool}
@@ -18,8 +18,10 @@ use Rattle.orc_wire.specs.FieldLaws.{one_varint}
 use Rattle.orc_wire.specs.Members.{Member}
 use Rattle.orc_wire.specs.Spells.{as_number, as_bytes, number_in, bytes_in, has_number, Spells}
 use Rattle.orc_wire.specs.SpellsLaws.{one_refusal}
-use Rattle.orc_wire.specs.Kinds.{Part, number, small, signed, small_signed, flag, text, packed, message, kept_from, inside, AreVarints, FailsNext, PackedFails, MessageIn, MessageFails, OnlyFails, JoinsOnly, PackedPart, no_front, last, known, all, each, only}
-use Rattle.orc_wire.specs.Canonical.{payload_text, field_text, some_text, shown_text, known_text, list_text, varints_text, packed_text, IsOutside, IsBetween, Adds, Canonical, all_both, spells_again}
+use Rattle.orc_wire.specs.Parts.{inside, AreVarints, FailsNext, PackedFails, MessageIn, MessageFails, OnlyFails, JoinsOnly, PackedPart}
+use Rattle.orc_wire.specs.Kinds.{Part, number, small, signed, small_signed, flag, text, packed, message, kept_from, no_front, last, known, all, each, only}
+use Rattle.orc_wire.specs.CanonicalText.{flag_number, payload_text, field_text, some_text, shown_text, known_text, list_text, varints_text, packed_text}
+use Rattle.orc_wire.specs.Canonical.{IsOutside, IsBetween, Adds, Canonical, all_both, spells_again}
 
 -- a number that a field may have
 pub record IsNumber (n : ℕ) : Type 0 where
@@ -204,11 +206,6 @@ a_small_signed n = record {
   read = λ place item p is gives. gives.1;
 }
 
--- 1 for true
-abbrev pub flag_number : Bool → ℕ
-flag_number true = 1
-flag_number false = 0
-
 pub flag_is : (n : ℕ) (b : Bool) (place : ℕ) → (flag n).gives (item_at n (varint (flag_number b)) place) (Some b)
 flag_is n true place = rw (eqb_same n) refl
 flag_is n false place = rw (eqb_same n) refl
@@ -265,11 +262,13 @@ module _ {C : Type 0} (members : Member C) (w : Canonical members) (required : �
   pub message_hears : (item : Item) (fault : WireFault) → MessageFails members required n item (bytes_in n item) fault → IsBetween n (n + 1) item
   message_hears item fault bad = let s = fails_some item (bytes_in n item) fault bad in bytes_hears n item s.0 s.1
 
-  one_message : (item : Item) (bytes : Option (List ℕ)) (e f : WireFault) → MessageFails members required n item bytes e → MessageFails members required n item bytes f → e ≡ f
+  one_message : (item : Item) (bytes : Option (List ℕ)) (e f : WireFault) → MessageFails members required n item bytes e
+      → MessageFails members required n item bytes f → e ≡ f
   one_message item None e f p q = absurd p
   one_message item (Some b) e f p q = one_refusal members required (inside item b) w.single b e f p q
 
-  pub message_single : (item : Item) (e f : WireFault) → MessageFails members required n item (bytes_in n item) e → MessageFails members required n item (bytes_in n item) f → e ≡ f
+  pub message_single : (item : Item) (e f : WireFault) → MessageFails members required n item (bytes_in n item) e
+      → MessageFails members required n item (bytes_in n item) f → e ≡ f
   message_single item e f p q = one_message item (bytes_in n item) e f p q
 
   pub message_read : (item : Item) (bytes : Option (List ℕ)) (p : Option C) → MessageIn members required n item bytes p → IfSome p w.bounded
@@ -293,7 +292,8 @@ module _ {C : Type 0} (members : Member C) (w : Canonical members) (required : �
 
 -- ---- how a member is written
 
-pub between_push : {low high : ℕ} (more : List Item) (item : Item) → IsBetween low high item → AllByRecursion (IsBetween low high) more → AllByRecursion (IsBetween low high) (more ++ item ∷ [])
+pub between_push : {low high : ℕ} (more : List Item) (item : Item) → IsBetween low high item → AllByRecursion (IsBetween low high) more
+    → AllByRecursion (IsBetween low high) (more ++ item ∷ [])
 between_push [] item is h = (is, tt)
 between_push (x ∷ more) item is h = (h.0, between_push more item is h.1)
 
@@ -307,7 +307,8 @@ pub last_number : (n : ℕ) → IsNumber n → n + 1 ≤ 2 ^ 29
 last_number n is = let m = is.most in omega (arith, m)
 
 -- nothing is added
-pub adds_none : {V : Type 0} (member : Member V) (low high base : ℕ) (before : List Item) (front : List ℕ) (v : V) → IsFields base before front → member.says before v → Adds member low high (λ m. ⊥) base before front [] v
+pub adds_none : {V : Type 0} (member : Member V) (low high base : ℕ) (before : List Item) (front : List ℕ) (v : V) → IsFields base before front
+    → member.says before v → Adds member low high (λ m. ⊥) base before front [] v
 adds_none member low high base before front v are says = record {
   more = [];
   are = subst (λ (t : List ℕ). IsFields base before t) (sym (append-nil front)) are;
@@ -329,7 +330,8 @@ listed_fits P None given = tt
 listed_fits P (Some v) given = (given, tt)
 
 module _ {V : Type 0} (n : ℕ) (is : IsNumber n) (part : Part (Option V)) (s : Single n part) where
-  pub last_again : (default v : V) → s.bounded v → s.whole v → length (field_text n (s.payload v)) < 2 ^ 64 → (base : ℕ) (before : List Item) (front : List ℕ) → IsFields base before front
+  pub last_again : (default v : V) → s.bounded v → s.whole v → length (field_text n (s.payload v)) < 2 ^ 64
+      → (base : ℕ) (before : List Item) (front : List ℕ) → IsFields base before front
       → (last default part).says before default → Adds (last default part) n (n + 1) s.counts base before front (field_text n (s.payload v)) v
   last_again default v can whole len base before front are says = record {
     more = item_at n (s.payload v) (base + length front) ∷ [];
@@ -339,7 +341,8 @@ module _ {V : Type 0} (n : ℕ) (is : IsNumber n) (part : Part (Option V)) (s : 
     shows = λ m e. s.shows v (base + length front) m before e;
   }
 
-  pub last_read : (default : V) → s.bounded default → (base : ℕ) (fields : List Item) (bytes : List ℕ) (v : V) → IsFields base fields bytes → (last default part).says fields v → s.bounded v
+  pub last_read : (default : V) → s.bounded default → (base : ℕ) (fields : List Item) (bytes : List ℕ) (v : V) → IsFields base fields bytes
+      → (last default part).says fields v → s.bounded v
   last_read default fits base [] bytes v are e = subst s.bounded (sym e) fits
   last_read default fits base (item ∷ before) bytes v are says =
       let old = last_read default fits base before are.0 says.0 are.2 says.2 in
@@ -364,7 +367,8 @@ module _ {V : Type 0} (n : ℕ) (is : IsNumber n) (part : Part (Option V)) (s : 
     read = last_read default fits;
   }
 
-  pub known_again : (v : Option V) → IfSome v s.bounded → IfSome v s.whole → length (known_text s.payload n v) < 2 ^ 64 → (base : ℕ) (before : List Item) (front : List ℕ) → IsFields base before front
+  pub known_again : (v : Option V) → IfSome v s.bounded → IfSome v s.whole → length (known_text s.payload n v) < 2 ^ 64
+      → (base : ℕ) (before : List Item) (front : List ℕ) → IsFields base before front
       → (known part).says before None → Adds (known part) n (n + 1) (λ m. ⊥) base before front (known_text s.payload n v) v
   known_again None can whole len base before front are says = adds_none (known part) n (n + 1) base before front None are says
   known_again (Some v) can whole len base before front are says = record {
@@ -375,7 +379,8 @@ module _ {V : Type 0} (n : ℕ) (is : IsNumber n) (part : Part (Option V)) (s : 
     shows = λ m e. absurd e;
   }
 
-  pub known_read : (base : ℕ) (fields : List Item) (bytes : List ℕ) (v : Option V) → IsFields base fields bytes → (known part).says fields v → IfSome v s.bounded
+  pub known_read : (base : ℕ) (fields : List Item) (bytes : List ℕ) (v : Option V) → IsFields base fields bytes → (known part).says fields v
+      → IfSome v s.bounded
   known_read base [] bytes v are e = subst (λ (t : Option V). IfSome t s.bounded) (sym e) tt
   known_read base (item ∷ before) bytes v are says =
       let old = known_read base before are.0 says.0 are.2 says.2 in
@@ -400,7 +405,8 @@ module _ {V : Type 0} (n : ℕ) (is : IsNumber n) (part : Part (Option V)) (s : 
     read = known_read;
   }
 
-  pub each_adds : (vs : List V) → AllByRecursion s.bounded vs → AllByRecursion s.whole vs → length (list_text s.payload n vs) < 2 ^ 64 → (old : List V) (base : ℕ) (before : List Item) (front : List ℕ)
+  pub each_adds : (vs : List V) → AllByRecursion s.bounded vs → AllByRecursion s.whole vs → length (list_text s.payload n vs) < 2 ^ 64
+      → (old : List V) (base : ℕ) (before : List Item) (front : List ℕ)
       → IsFields base before front → (each part).says before old → Adds (each part) n (n + 1) (λ m. ⊥) base before front (list_text s.payload n vs) (old ++ vs)
   each_adds [] can whole len old base before front are says =
       adds_none (each part) n (n + 1) base before front (old ++ []) are (subst (λ (t : List V). (each part).says before t) (sym (append-nil old)) says)
@@ -423,7 +429,8 @@ module _ {V : Type 0} (n : ℕ) (is : IsNumber n) (part : Part (Option V)) (s : 
         shows = λ m e. absurd e;
       }
 
-  pub each_read : (base : ℕ) (fields : List Item) (bytes : List ℕ) (vs : List V) → IsFields base fields bytes → (each part).says fields vs → AllByRecursion s.bounded vs
+  pub each_read : (base : ℕ) (fields : List Item) (bytes : List ℕ) (vs : List V) → IsFields base fields bytes → (each part).says fields vs
+      → AllByRecursion s.bounded vs
   each_read base [] bytes vs are e = subst (λ (t : List V). AllByRecursion s.bounded t) (sym e) tt
   each_read base (item ∷ before) bytes vs are says =
       let old = each_read base before are.0 says.0 are.2 says.2 in
@@ -459,15 +466,18 @@ varints_are limit le (n ∷ ns) h = (varint_text n, varints_text ns, (let b = h.
 pub packed_other : (limit n : ℕ) (item : Item) → IsOutside n (n + 1) item.number → (packed limit n).gives item []
 packed_other limit n item out = rw (eqb_other item.number n out) refl
 
-pub packed_is : (limit n : ℕ) (ns : List ℕ) (place : ℕ) → AreVarints limit ns (varints_text ns) → (packed limit n).gives (item_at n (sized (varints_text ns)) place) ns
+pub packed_is : (limit n : ℕ) (ns : List ℕ) (place : ℕ) → AreVarints limit ns (varints_text ns)
+    → (packed limit n).gives (item_at n (sized (varints_text ns)) place) ns
 packed_is limit n ns place are = rw (eqb_same n) are
 
 no_values : (limit : ℕ) (ns : List ℕ) → AreVarints limit ns [] → [] ≡ ns
 no_values limit [] are = refl
 no_values limit (n ∷ ns) are = absurd (no_front are.0 are.1 n are.2 are.4)
 
-packed_adds : (limit n : ℕ) (is : IsNumber n) (ns bytes : List ℕ) → AreVarints limit ns bytes → (bytes ≡ varints_text ns) → length (some_text n bytes) < 2 ^ 64 → (base : ℕ) (before : List Item) (front : List ℕ)
-    → IsFields base before front → (all (packed limit n)).says before [] → Adds (all (packed limit n)) n (n + 1) (λ m. ⊥) base before front (some_text n bytes) ns
+packed_adds : (limit n : ℕ) (is : IsNumber n) (ns bytes : List ℕ) → AreVarints limit ns bytes → (bytes ≡ varints_text ns)
+    → length (some_text n bytes) < 2 ^ 64 → (base : ℕ) (before : List Item) (front : List ℕ)
+    → IsFields base before front → (all (packed limit n)).says before []
+    → Adds (all (packed limit n)) n (n + 1) (λ m. ⊥) base before front (some_text n bytes) ns
 packed_adds limit n is ns [] are e len base before front fields says =
     adds_none (all (packed limit n)) n (n + 1) base before front ns fields (subst (λ (t : List ℕ). (all (packed limit n)).says before t) (no_values limit ns are) says)
 packed_adds limit n is ns (b ∷ bytes) are e len base before front fields says = record {
@@ -485,13 +495,15 @@ same_next limit bytes place e f (inr p) (inl q) = absurd (no_varint p.0.front p.
 same_next limit bytes place e f (inr p) (inr q) = p.1 ∙ sym q.1
 
 -- a good varint in front, so no fault
-good_next : (limit : ℕ) (bytes front rest : List ℕ) (n place : ℕ) (e : WireFault) → FailsNext limit bytes place e → IsVarint front n → n < limit → bytes ≡ front ++ rest → ⊥
+good_next : (limit : ℕ) (bytes front rest : List ℕ) (n place : ℕ) (e : WireFault) → FailsNext limit bytes place e → IsVarint front n → n < limit
+    → bytes ≡ front ++ rest → ⊥
 good_next limit bytes front rest n place e (inl p) is lt parts = no_varint front rest n p.1 (subst (λ (t : List ℕ). NoVarint t p.1) parts p.2) is
 good_next limit bytes front rest n place e (inr p) is lt parts =
     let t = one_varint front p.0.front rest p.0.rest n p.0.value is p.0.is (sym parts ∙ p.0.parts) in
     omega (arith, t.number, lt, p.0.large)
 
-same_within : (limit : ℕ) (ns ms a b x y bytes : List ℕ) (place : ℕ) (e f : WireFault) → AreVarints limit ns a → AreVarints limit ms b → bytes ≡ a ++ x → bytes ≡ b ++ y
+same_within : (limit : ℕ) (ns ms a b x y bytes : List ℕ) (place : ℕ) (e f : WireFault) → AreVarints limit ns a → AreVarints limit ms b
+    → bytes ≡ a ++ x → bytes ≡ b ++ y
     → FailsNext limit x place e → FailsNext limit y place f → e ≡ f
 same_within limit [] [] a b x y bytes place e f p q u v g h =
     let at : x ≡ y = sym (u ∙ ap (λ (t : List ℕ). t ++ x) p) ∙ (v ∙ ap (λ (t : List ℕ). t ++ y) q) in
@@ -514,7 +526,8 @@ one_packed_fault limit (eight b) place e f p q = absurd p
 one_packed_fault limit (four b) place e f p q = absurd p
 one_packed_fault limit (sized b) place e f p q = same_within limit p.values q.values p.front q.front p.rest q.rest b place e f p.are q.are p.parts q.parts p.fails q.fails
 
-one_if_fault : (test : Bool) (limit : ℕ) (payload : Payload) (place : ℕ) (e f : WireFault) → MatchBool test (PackedFails limit payload place e) ⊥ → MatchBool test (PackedFails limit payload place f) ⊥ → e ≡ f
+one_if_fault : (test : Bool) (limit : ℕ) (payload : Payload) (place : ℕ) (e f : WireFault) → MatchBool test (PackedFails limit payload place e) ⊥
+    → MatchBool test (PackedFails limit payload place f) ⊥ → e ≡ f
 one_if_fault true limit payload place e f p q = one_packed_fault limit payload place e f p q
 one_if_fault false limit payload place e f p q = absurd p
 
@@ -537,7 +550,8 @@ below_if true limit payload ns is = packed_below limit payload ns is
 below_if false limit payload ns e = subst (λ (t : List ℕ). AreBelow limit t) (sym e) tt
 
 module _ (limit n : ℕ) (few : limit ≤ 2 ^ 64) (is : IsNumber n) where
-  pub packed_again : (ns : List ℕ) → AreBelow limit ns → ⊤ → length (packed_text n ns) < 2 ^ 64 → (base : ℕ) (before : List Item) (front : List ℕ) → IsFields base before front
+  pub packed_again : (ns : List ℕ) → AreBelow limit ns → ⊤ → length (packed_text n ns) < 2 ^ 64 → (base : ℕ) (before : List Item) (front : List ℕ)
+      → IsFields base before front
       → (all (packed limit n)).says before [] → Adds (all (packed limit n)) n (n + 1) (λ m. ⊥) base before front (packed_text n ns) ns
   packed_again ns can whole len base before front are says = packed_adds limit n is ns (varints_text ns) (varints_are limit few ns can) refl len base before front are says
 
@@ -623,7 +637,8 @@ kept_behind n base before front are says (item ∷ fields) bytes h from =
       between = (record { least = b.least; most = b.most }, r.between);
     }
 
-pub kept_again : (n : ℕ) (bytes : List ℕ) → AreKept n bytes → (base : ℕ) (before : List Item) (front : List ℕ) → IsFields base before front → (all (kept_from n)).says before []
+pub kept_again : (n : ℕ) (bytes : List ℕ) → AreKept n bytes → (base : ℕ) (before : List Item) (front : List ℕ) → IsFields base before front
+    → (all (kept_from n)).says before []
     → Adds (all (kept_from n)) n (2 ^ 29) (λ m. ⊥) base before front bytes bytes
 kept_again n bytes kept base before front are says =
     let r = kept_behind n base before front are says kept.fields bytes kept.are kept.from in
@@ -677,8 +692,10 @@ module _ {C : Type 0} (members : Member C) (w : Canonical members) (required : �
   abbrev pub IsShown : C → Type 0
   IsShown c = w.whole c × (w.text c ≡ [] → ⊥)
 
-  only_some : (c : C) (bytes : List ℕ) → bytes ≡ w.text c → w.bounded c → w.whole c → (bytes ≡ [] → ⊥) → length (some_text n bytes) < 2 ^ 64 → (base : ℕ) (before : List Item) (front : List ℕ)
-      → IsFields base before front → (only members required n).says before None → Adds (only members required n) n (n + 1) (λ m. ⊥) base before front (some_text n bytes) (Some c)
+  only_some : (c : C) (bytes : List ℕ) → bytes ≡ w.text c → w.bounded c → w.whole c → (bytes ≡ [] → ⊥) → length (some_text n bytes) < 2 ^ 64
+      → (base : ℕ) (before : List Item) (front : List ℕ)
+      → IsFields base before front → (only members required n).says before None
+      → Adds (only members required n) n (n + 1) (λ m. ⊥) base before front (some_text n bytes) (Some c)
   only_some c [] e can whole some len base before front are says = absurd (some refl)
   only_some c (b ∷ bytes) e can whole some len base before front are says =
       let place = base + length front in
@@ -692,12 +709,14 @@ module _ {C : Type 0} (members : Member C) (w : Canonical members) (required : �
         shows = λ m e. absurd e;
       }
 
-  pub only_again : (v : Option C) → IfSome v w.bounded → IfSome v IsShown → length (shown_text w.text n v) < 2 ^ 64 → (base : ℕ) (before : List Item) (front : List ℕ) → IsFields base before front
+  pub only_again : (v : Option C) → IfSome v w.bounded → IfSome v IsShown → length (shown_text w.text n v) < 2 ^ 64
+      → (base : ℕ) (before : List Item) (front : List ℕ) → IsFields base before front
       → (only members required n).says before None → Adds (only members required n) n (n + 1) (λ m. ⊥) base before front (shown_text w.text n v) v
   only_again None can whole len base before front are says = adds_none (only members required n) n (n + 1) base before front None are says
   only_again (Some c) can whole len base before front are says = only_some c (w.text c) refl can whole.0 whole.1 len base before front are says
 
-  pub only_deaf : (item : Item) (before : List Item) (v : Option C) → IsOutside n (n + 1) item.number → (only members required n).says before v → (only members required n).says (item ∷ before) v
+  pub only_deaf : (item : Item) (before : List Item) (v : Option C) → IsOutside n (n + 1) item.number → (only members required n).says before v
+      → (only members required n).says (item ∷ before) v
   only_deaf item before None out says = (None, None, says, message_silent members w required there n item out, refl)
   only_deaf item before (Some c) out says = (Some c, None, says, message_silent members w required there n item out, (refl, refl))
 
@@ -764,7 +783,8 @@ text_where_known n is = where_known n is (text n) (a_text n)
 abbrev pub each_as_text : (n : ℕ) → IsNumber n → Canonical (each (text n))
 each_as_text n is = for_each n is (text n) (a_text n)
 
-abbrev pub each_message : {C : Type 0} (members : Member C) (w : Canonical members) (required : ℕ) → (required ≡ 0) ⊎ w.always required → (n : ℕ) → IsNumber n → Canonical (each (message members required n))
+abbrev pub each_message : {C : Type 0} (members : Member C) (w : Canonical members) (required : ℕ) → (required ≡ 0) ⊎ w.always required → (n : ℕ)
+    → IsNumber n → Canonical (each (message members required n))
 each_message members w required there n is = for_each n is (message members required n) (a_message members w required there n)
 
 abbrev pub small_list : (n : ℕ) → IsNumber n → Canonical (all (packed (2 ^ 32) n))

@@ -6,9 +6,11 @@ pub mod FaultLaws
 pub mod Members
 pub mod Spells
 pub mod SpellsLaws
+pub mod Parts
 pub mod Kinds
 pub mod Table
 pub mod Messages
+pub mod CanonicalText
 pub mod Canonical
 pub mod CanonicalKinds
 pub mod CanonicalMessages

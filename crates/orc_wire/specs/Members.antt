@@ -34,7 +34,8 @@ module _ {V P : Type 0} (zero : V) (join : V → P → V → Type 0) (gives : It
       let moved = subst (λ (t : P). join p.0 t w) parts (subst (λ (t : V). join t q.1 w) olds q.4) in
       one_join p.0 p.1 v w p.4 moved
 
-  pub none_joined : (item : Item) (before : List Item) (v w : V) (fault : WireFault) → Joined zero join gives before v → refuses item v fault → Joined zero join gives (item ∷ before) w → ⊥
+  pub none_joined : (item : Item) (before : List Item) (v w : V) (fault : WireFault) → Joined zero join gives before v → refuses item v fault
+      → Joined zero join gives (item ∷ before) w → ⊥
   none_joined item before v w fault says bad h =
       let olds = one_joined before h.0 v h.2 says in
       no_step item v h.1 w fault bad h.3 (subst (λ (t : V). join t h.1 w) olds h.4)

@@ -6,7 +6,7 @@ use Rattle.std.specs.List.{AllByRecursion}
 use Rattle.orc_wire.specs.Fields.{Item}
 use Rattle.orc_wire.specs.Members.{Member}
 use Rattle.orc_wire.specs.Spells.{number_in, bytes_in, Spells}
-use Rattle.orc_wire.specs.Kinds.{inside}
+use Rattle.orc_wire.specs.Parts.{inside}
 
 -- what the last field gives that gives something
 abbrev pub newest : {V : Type 0} → (Item → Option V) → List Item → Option V

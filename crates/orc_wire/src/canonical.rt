@@ -9,8 +9,9 @@ ghost use Rattle.orc_bits.specs.Zigzag.{zig};
 ghost use Rattle.orc_wire.specs.declared.fault.WireFault.TheVariants.{OutOfMemory};
 ghost use Rattle.orc_wire.specs.Fields.{varint, sized, wire, IsPayload};
 ghost use Rattle.orc_wire.specs.FieldValue.{payload_of};
-ghost use Rattle.orc_wire.specs.Canonical.{payload_text, field_text, some_text, known_text, list_text, packed_text, shown_text, KeepsFront};
-ghost use Rattle.orc_wire.specs.CanonicalKinds.{AreBelow, flag_number};
+ghost use Rattle.orc_wire.specs.CanonicalText.{payload_text, field_text, some_text, known_text, list_text, packed_text, shown_text, KeepsFront};
+ghost use Rattle.orc_wire.specs.CanonicalText.{flag_number};
+ghost use Rattle.orc_wire.specs.CanonicalKinds.{AreBelow};
 
 use crate::fault::WireFault;
 use crate::field::Value;

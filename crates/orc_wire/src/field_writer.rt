@@ -2,7 +2,8 @@ ghost use Rattle.std.specs.Prelude.{◌≡◌, ℕ, ◌++◌, ◌^◌, ◌⊎◌
 ghost use Rattle.orc_wire.specs.declared.fault.WireFault.TheVariants.{BadWireType, OutOfMemory};
 ghost use Rattle.orc_wire.specs.Fields.{IsField};
 ghost use Rattle.orc_wire.specs.FieldValue.{payload_of};
-ghost use Rattle.orc_wire.specs.Canonical.{field_text, IsOutside};
+ghost use Rattle.orc_wire.specs.CanonicalText.{field_text};
+ghost use Rattle.orc_wire.specs.Canonical.{IsOutside};
 ghost use Rattle.orc_wire.specs.CanonicalKinds.{item_at};
 
 use crate::canonical::put_field;

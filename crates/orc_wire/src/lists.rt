@@ -1,7 +1,8 @@
 ghost use Rattle.std.specs.Prelude.{◌≡◌, [], ◌^◌, ◌⊎◌, IfErr, OnOk};
 ghost use Rattle.orc_wire.specs.declared.fault.WireFault.TheVariants.{OutOfMemory};
 ghost use Rattle.orc_wire.specs.FieldItem.{item_of};
-ghost use Rattle.orc_wire.specs.Kinds.{text, packed, kept_from, last, known, all, each, FailsWithin, AppendsVarints};
+ghost use Rattle.orc_wire.specs.Parts.{FailsWithin, AppendsVarints};
+ghost use Rattle.orc_wire.specs.Kinds.{text, packed, kept_from, last, known, all, each};
 
 use crate::fault::{WireFault, fault_of};
 use crate::field::{Field, Value};

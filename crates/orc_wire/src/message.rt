@@ -4,7 +4,8 @@ ghost use Rattle.orc_wire.specs.declared.fault.WireFault.TheVariants.{OutOfMemor
 ghost use Rattle.orc_wire.specs.FieldItem.{item_of};
 ghost use Rattle.orc_wire.specs.Members.{Member};
 ghost use Rattle.orc_wire.specs.Spells.{Spells, Faults};
-ghost use Rattle.orc_wire.specs.Canonical.{Canonical, KeepsFront};
+ghost use Rattle.orc_wire.specs.CanonicalText.{KeepsFront};
+ghost use Rattle.orc_wire.specs.Canonical.{Canonical};
 
 use crate::fault::WireFault;
 use crate::field::Field;

@@ -177,3 +177,44 @@ fn check_printing(rt: &impl Abort, alloc: Global) -> Result<(), TypeFault> {
     assert!(rt; matches!(row_to_json(alloc, &twice, &None), Err(DuplicateField)));
     Ok(())
 }
+
+/// The text of a struct of that many fields of numbers, named by theirs, and behind them one more.
+fn wide(alloc: Global, fields: u32, last: &str) -> Result<String, AllocError> {
+    let mut text = String::from_str(alloc, "struct<")?;
+    for i in 0..fields {
+        let field = format!(in alloc; "f{i}:int,")?;
+        text.push_str(field.as_str())?;
+    }
+    text.push_str(last)?;
+    text.push_str(":int>")?;
+    Ok(text)
+}
+
+#[test]
+fn many_fields(rt: HostRuntime) {
+    let alloc = rt.alloc();
+    let tried = check_many_fields(&rt, alloc);
+    if tried == Err(JsonFault::OutOfMemory) {
+        assert_eq!(rt;
+            check_many_fields(&rt, alloc),
+            Ok(()),
+            "once memory is there"
+        );
+    } else {
+        assert_eq!(rt; tried, Ok(()));
+    }
+}
+
+/// The most fields that a schema has, of which the last has a name of its own or the first's.
+fn check_many_fields(rt: &impl Abort, alloc: Global) -> Result<(), JsonFault> {
+    let differing = wide(alloc, 4094, "g")?;
+    let printed = printed_again(alloc, differing.as_str(), r#"{"g":1,"f4093":2}"#)?;
+    assert!(rt; printed.as_str().ends_with(r#","f999":null,"g":1}"#));
+    let twice = wide(alloc, 4094, "f0")?;
+    let refused = printed_again(alloc, twice.as_str(), "null").err();
+    assert!(rt; refused == Some(DuplicateField) || refused == Some(JsonFault::OutOfMemory));
+    if refused == Some(JsonFault::OutOfMemory) {
+        return Err(JsonFault::OutOfMemory);
+    }
+    Ok(())
+}

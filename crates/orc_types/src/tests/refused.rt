@@ -78,8 +78,8 @@ const REFUSED: [(&'static [Listed], TypeFault); 22] = [
     ),
 ];
 
-/// A struct of lists within lists, of that many levels and one.
-fn nested(alloc: Global, lists: u32) -> Result<Vec<TypeMsg>, AllocError>
+/// A struct of lists within lists, the last of which points past the end.
+fn open_lists(alloc: Global, lists: u32) -> Result<Vec<TypeMsg>, AllocError>
     ensures { IfOk result (λ types. AllKept types.items) }
 {
     let mut types = Vec::new(alloc);
@@ -89,6 +89,14 @@ fn nested(alloc: Global, lists: u32) -> Result<Vec<TypeMsg>, AllocError>
         list.subtypes = Items::from_vec([i % 4096 + 2].to_vec(alloc)?);
         types.push(list)?;
     }
+    Ok(types)
+}
+
+/// A struct of lists within lists, of that many levels and two.
+fn nested(alloc: Global, lists: u32) -> Result<Vec<TypeMsg>, AllocError>
+    ensures { IfOk result (λ types. AllKept types.items) }
+{
+    let mut types = open_lists(alloc, lists)?;
     types.push(type_msg(alloc, &(0, &[], &[]))?)?;
     Ok(types)
 }
@@ -167,6 +175,10 @@ fn check_limits(rt: &impl Abort, alloc: Global) -> Result<(), TypeFault> {
     assert!(rt;
         is_refused(alloc, &nested(alloc, 31)?, TypeFault::TooDeep)?,
         "33 levels"
+    );
+    assert!(rt;
+        is_refused(alloc, &open_lists(alloc, 31)?, TypeFault::BadTree)?,
+        "32 levels, and no type below the last"
     );
     assert_eq!(rt;
         Schema::from_types(alloc, &wide(alloc, 4095)?)?

@@ -426,3 +426,62 @@ fn check_cells(rt: &impl Abort, alloc: Global) -> Result<(), TypeFault> {
     }
     Ok(())
 }
+
+/// Columns of KINDS, and the kinds of their types.
+const COLUMNS: [(usize, Option<Scalar>); 5] = [
+    (0, None),
+    (1, Some(Scalar::Boolean)),
+    (8, None),
+    (9, Some(Scalar::Int)),
+    (10, Some(Scalar::Date)),
+];
+
+#[test]
+fn types_of_columns(rt: HostRuntime) {
+    let alloc = rt.alloc();
+    let tried = check_types_of_columns(&rt, alloc);
+    if tried == Err(TypeFault::OutOfMemory) {
+        assert_eq!(rt;
+            check_types_of_columns(&rt, alloc),
+            Ok(()),
+            "once memory is there"
+        );
+    } else {
+        assert_eq!(rt; tried, Ok(()));
+    }
+}
+
+/// Each column has the type of its number.
+fn check_types_of_columns(rt: &impl Abort, alloc: Global) -> Result<(), TypeFault> {
+    let schema = schema_of(alloc, &KINDS)?;
+    for (column, wanted) in COLUMNS {
+        assert!(rt; column < schema.width());
+        let kind = match tree_at(schema.tree(), column) {
+            Tree::Scalar(kind, _) => Some(*kind),
+            _ => None,
+        };
+        assert_eq!(rt; kind, wanted, "of column {column}");
+    }
+    Ok(())
+}
+
+#[test]
+fn copies(rt: HostRuntime) {
+    let alloc = rt.alloc();
+    if check_copies(&rt, alloc).is_err() {
+        assert!(rt; check_copies(&rt, alloc).is_ok(), "once memory is there");
+    }
+}
+
+/// A copy is the same row.
+fn check_copies(rt: &impl Abort, alloc: Global) -> Result<(), AllocError> {
+    for row in rows_of(alloc, &STRUCTS_IN_LISTS_ROWS)? {
+        let copy = owned(alloc, &row)?;
+        assert_eq!(rt; copy, row);
+    }
+    for row in rows_of(alloc, &KINDS_ROW)? {
+        let copy = owned(alloc, &row)?;
+        assert_eq!(rt; copy, row);
+    }
+    Ok(())
+}

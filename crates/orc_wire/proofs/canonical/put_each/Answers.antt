@@ -1,6 +1,6 @@
 use Rattle.std.proofs.Common.{◌≡◌, ℕ, List, ◌++◌, ap, ◌∙◌}
 use Rattle.orc_wire.specs.Fields.{sized}
-use Rattle.orc_wire.specs.Canonical.{sized_text}
+use Rattle.orc_wire.specs.CanonicalText.{sized_text}
 use Rattle.orc_wire.proofs.PutLemmas.{list_next, all_next}
 use Rattle.orc_wire.proofs.canonical.put_each.Goals as goal
 

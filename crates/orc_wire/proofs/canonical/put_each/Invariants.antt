@@ -1,7 +1,7 @@
 use Rattle.std.proofs.Common.{◌≡◌, ◌++◌, drop}
 use Rattle.std.specs.List.{AllByRecursion}
 use Rattle.orc_wire.specs.Fields.{sized}
-use Rattle.orc_wire.specs.Canonical.{KeepsFront, list_text}
+use Rattle.orc_wire.specs.CanonicalText.{KeepsFront, list_text}
 use Rattle.orc_wire.proofs.canonical.put_each.Given as goal
 
 abbrev pub invariant-loop-message : goal.invariant-loop-message

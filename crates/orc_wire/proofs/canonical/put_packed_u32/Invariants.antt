@@ -1,5 +1,5 @@
 use Rattle.std.proofs.Common.{◌≡◌, ◌++◌, ◌^◌, drop}
-use Rattle.orc_wire.specs.Canonical.{varints_text}
+use Rattle.orc_wire.specs.CanonicalText.{varints_text}
 use Rattle.orc_wire.specs.CanonicalKinds.{AreBelow}
 use Rattle.orc_wire.proofs.canonical.put_packed_u32.Given as goal
 

@@ -1,6 +1,6 @@
 use Rattle.std.proofs.Common.{◌≡◌, ◌++◌, drop}
 use Rattle.orc_wire.specs.Fields.{sized}
-use Rattle.orc_wire.specs.Canonical.{KeepsFront, list_text}
+use Rattle.orc_wire.specs.CanonicalText.{KeepsFront, list_text}
 use Rattle.orc_wire.proofs.canonical.put_texts.Given as goal
 
 abbrev pub invariant-loop-text : goal.invariant-loop-text

@@ -1,5 +1,5 @@
 use Rattle.std.proofs.Common.{length, ◌-◌, ◌≤◌, ◌^◌, take}
-use Rattle.orc_wire.specs.Kinds.{AppendsVarints}
+use Rattle.orc_wire.specs.Parts.{AppendsVarints}
 use Rattle.orc_wire.proofs.lists.take_varints.Given as goal
 
 abbrev pub invariant-loop-at : goal.invariant-loop-at

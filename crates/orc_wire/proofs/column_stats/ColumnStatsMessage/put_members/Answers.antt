@@ -1,4 +1,4 @@
-use Rattle.orc_wire.specs.Canonical.{number_text, shown_text}
+use Rattle.orc_wire.specs.CanonicalText.{number_text, shown_text}
 use Rattle.orc_wire.specs.CanonicalMessages.{integer_stats_text, string_stats_text, bucket_stats_text, date_stats_text, binary_stats_text}
 use Rattle.orc_wire.proofs.PutLemmas.{and_then, on_ok_then}
 use Rattle.orc_wire.proofs.column_stats.ColumnStatsMessage.put_members.Goals as goal

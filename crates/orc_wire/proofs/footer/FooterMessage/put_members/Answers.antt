@@ -1,5 +1,5 @@
 use Rattle.orc_wire.specs.Fields.{varint, sized}
-use Rattle.orc_wire.specs.Canonical.{number_text, known_text, list_text}
+use Rattle.orc_wire.specs.CanonicalText.{number_text, known_text, list_text}
 use Rattle.orc_wire.specs.CanonicalMessages.{stripe_info_text, type_text, user_metadata_text, column_stats_text}
 use Rattle.orc_wire.proofs.PutLemmas.{and_then, on_ok_then}
 use Rattle.orc_wire.proofs.footer.FooterMessage.put_members.Goals as goal
