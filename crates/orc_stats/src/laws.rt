@@ -37,14 +37,16 @@ pub fn stat_laws()
 /// three numbers are joined first, their sum can be lost, though the total of all three fits.
 pub fn join_laws()
     ensures order { (k : StatKind) (xs ys : List Stat) → IsPermutation xs ys → joined k ys ≡ joined k xs }
-    ensures empty { (k : StatKind) (o : Body) (ss : List Stat) → let none : Stat = record { count = 0; nulls = Some false; body = o } in joined k (none ∷ ss) ≡ joined k ss }
+    ensures empty { (k : StatKind) (o : Body) (ss : List Stat) →
+        let none : Stat = record { count = 0; nulls = Some false; body = o } in joined k (none ∷ ss) ≡ joined k ss }
     ensures parts { (k : StatKind) (parts : List (List Cell)) → AllByRecursion (AllByRecursion (λ c. is_of k c ≡ true)) parts
         → length (flat_map (λ p. p) parts) ≤ 2 ^ 62 → joined k (map (stat k) parts) ≡ whole k parts }
     ensures normal { (k : StatKind) (ss : List Stat) → sum_by (λ s. s.count) ss ≤ 2 ^ 62 → IsStat k (joined k ss) }
     ensures regrouped { let one : ℤ → Stat = λ z. record { count = 1; nulls = Some false; body = body.Ints (Some z) (Some z) (Some z) } in
         let most : ℤ = pos 9223372036854775807 in
         let two : Stat = joined kind.Ints (one most ∷ one (pos 1) ∷ []) in
-        (sum_of (joined kind.Ints (one most ∷ one (pos 1) ∷ one (negsuc 0) ∷ [])).body ≡ Some most) × (sum_of (joined kind.Ints (two ∷ one (negsuc 0) ∷ [])).body ≡ None) }
+        let three : Stat = joined kind.Ints (one most ∷ one (pos 1) ∷ one (negsuc 0) ∷ []) in
+        (sum_of three.body ≡ Some most) × (sum_of (joined kind.Ints (two ∷ one (negsuc 0) ∷ [])).body ≡ None) }
 {}
 
 /// A statistic that was put reads back by its kind.
