@@ -4,12 +4,14 @@ ghost use Rattle.orc_stats.specs.Meanings.{IsLowest, added};
 ghost use Rattle.std.specs.Prelude.{◌≡◌, ◌↔◌, ℕ, ℤ, pos, negsuc, ◌≤◌, ◌^◌, ◌++◌, ◌∷◌, true, false, Some, None, List, [], sum_by, IsPermutation, flat_map, length, map};
 ghost use Rattle.std.specs.List.{AllByRecursion};
 ghost use Rattle.orc_types.specs.Cells.{Cell};
+ghost use Rattle.orc_types.specs.Shapes.{Shape};
+ghost use Rattle.orc_types.specs.Fits.{fits};
 ghost use Rattle.orc_stats.specs.declared.kind.StatKind.{StatKind};
 ghost use Rattle.orc_stats.specs.declared.kind.StatKind.TheVariants as kind;
 ghost use Rattle.orc_stats.specs.declared.stat.Stat.{Stat};
 ghost use Rattle.orc_stats.specs.declared.stat.Body.{Body};
 ghost use Rattle.orc_stats.specs.declared.stat.Body.TheVariants as body;
-ghost use Rattle.orc_stats.specs.Kinds.{is_of};
+ghost use Rattle.orc_stats.specs.Kinds.{is_of, kind_of};
 ghost use Rattle.orc_stats.specs.Statistics.{least, greatest, text_cmp, exact_total, stat};
 ghost use Rattle.orc_stats.specs.Joining.{sum_of, joined};
 ghost use Rattle.orc_stats.specs.Whole.{whole};
@@ -17,6 +19,11 @@ ghost use Rattle.orc_stats.specs.Messages.{IsStat, stat_read, message_of};
 ghost use Rattle.orc_stats.specs.Tallies.{Kept, none_kept, together, counted, gathered, closed};
 
 use crate::tally::Tally;
+
+/// A cell that fits a type is one of the type's kind of statistic.
+pub fn kind_laws()
+    ensures { (c : Cell) (s : Shape) → fits c s ≡ true → is_of (kind_of s) c ≡ true }
+{}
 
 /// What the words of a statistic of cells mean: it has no order; the least value is one of them, and
 /// none is less; the greatest likewise; the total is the exact one.
