@@ -1,3 +1,4 @@
+pub mod Fitting
 pub mod Folding
 pub mod Shuffled
 pub mod Meanings

@@ -74,10 +74,12 @@ sum_of _ = None
 
 abbrev pub bodies_joined : StatKind → List Body → Body
 bodies_joined kind.Plain bs = body.Plain
-bodies_joined kind.Ints bs = body.Ints (of_known (least int_cmp) (map least_int bs)) (of_known (greatest int_cmp) (map greatest_int bs)) (of_known total (map sum_of bs))
+bodies_joined kind.Ints bs =
+    body.Ints (of_known (least int_cmp) (map least_int bs)) (of_known (greatest int_cmp) (map greatest_int bs)) (of_known total (map sum_of bs))
 bodies_joined kind.Bools bs = body.Bools (of_known trues_total (map trues_of bs))
 bodies_joined kind.Dates bs = body.Dates (of_known (least int_cmp) (map least_date bs)) (of_known (greatest int_cmp) (map greatest_date bs))
-bodies_joined kind.Texts bs = body.Texts (of_known (least text_cmp) (map least_text bs)) (of_known (greatest text_cmp) (map greatest_text bs)) (of_known total (map sum_of bs))
+bodies_joined kind.Texts bs =
+    body.Texts (of_known (least text_cmp) (map least_text bs)) (of_known (greatest text_cmp) (map greatest_text bs)) (of_known total (map sum_of bs))
 bodies_joined kind.Bins bs = body.Bins (of_known total (map sum_of bs))
 
 abbrev pub has_values : Stat → Bool

@@ -6,9 +6,9 @@ use Rattle.orc_types.specs.Cells.{Cell}
 use Rattle.orc_stats.specs.declared.kind.StatKind.TheVariants as kind
 use Rattle.orc_stats.specs.declared.stat.Stat.{Stat}
 use Rattle.orc_stats.specs.declared.stat.Body.TheVariants as body
-use Rattle.orc_stats.specs.Seen.{seen_of, value_seen}
+use Rattle.orc_stats.specs.Seen.{seen_of, known_of, value_seen}
 use Rattle.orc_stats.specs.Orders.{int_sums, nat_sums, lower_ints, higher_ints, lower_texts, higher_texts}
-use Rattle.orc_stats.specs.Statistics.{onto, reduce, in_64, bit, int_of, date_of, bool_of, text_of, bytes_of, stat}
+use Rattle.orc_stats.specs.Statistics.{onto, reduce, total, lengths, in_64, bit, int_of, date_of, bool_of, text_of, bytes_of, stat}
 use Rattle.orc_stats.specs.Joining.{in_limit, least_int, greatest_int, least_date, greatest_date, least_text, greatest_text, trues_of, sum_of, joined}
 use Rattle.orc_stats.specs.Tallies.{Joins, all, counted, gathered, closed}
 use Rattle.orc_stats.specs.Measures.{◌and◌, least_ints, greatest_ints, least_texts, greatest_texts, int_totals, ints, dates, texts, bools, bins, plain}
@@ -40,7 +40,8 @@ module _ {A B C X : Type 0} where
 pub ints_cells : (cells : List Cell) → closed ints (counted ints cells) ≡ stat kind.Ints cells
 ints_cells cells = closed_cells ints kind.Ints cells
     (ap ints.body (three least_ints greatest_ints int_totals (λ c. value_seen (int_of c)) (λ c. value_seen (int_of c)) (λ c. value_seen (int_of c)) cells)
-    ∙ ints_is (known_values _ lower_ints int_of cells) (known_values _ higher_ints int_of cells) (ap (option_and_then in_64) (known_values _ int_sums int_of cells)))
+    ∙ ints_is (known_values _ lower_ints int_of cells) (known_values _ higher_ints int_of cells)
+    (ap (option_and_then in_64) (known_values _ int_sums int_of cells)))
 
 pub ints_stats : (ss : List Stat) → closed ints (gathered ints ss) ≡ joined kind.Ints ss
 ints_stats ss = closed_stats ints kind.Ints ss λ bs.
@@ -57,11 +58,21 @@ dates_stats ss = closed_stats dates kind.Dates ss λ bs.
     ap dates.body (all-and least_ints greatest_ints (λ b. seen_of (least_date b)) (λ b. seen_of (greatest_date b)) bs)
     ∙ dates_is (known_all _ lower_ints least_date bs) (known_all _ higher_ints greatest_date bs)
 
+-- the total of lengths
+abbrev length_of : Option (List ℕ) → Option ℤ
+length_of p = option_map (λ t. pos (length t)) p
+
+total_lengths : (pick : Cell → Option (List ℕ)) (cells : List Cell)
+    → option_and_then in_64 (known_of (all int_totals (map (λ c. value_seen (length_of (pick c))) cells))) ≡ total (lengths (filter_map pick cells))
+total_lengths pick cells =
+    ap (option_and_then in_64)
+    (known_values _ int_sums (λ c. length_of (pick c)) cells ∙ ap (reduce ◌+ℤ◌) (picked_map (λ t. pos (length t)) pick cells))
+
 pub texts_cells : (cells : List Cell) → closed texts (counted texts cells) ≡ stat kind.Texts cells
 texts_cells cells = closed_cells texts kind.Texts cells
-    (ap texts.body (three least_texts greatest_texts int_totals (λ c. value_seen (text_of c)) (λ c. value_seen (text_of c)) (λ c. value_seen (option_map (λ t. pos (length t)) (text_of c))) cells)
+    (ap texts.body (three least_texts greatest_texts int_totals (λ c. value_seen (text_of c)) (λ c. value_seen (text_of c)) (λ c. value_seen (length_of (text_of c))) cells)
     ∙ texts_is (known_values _ lower_texts text_of cells) (known_values _ higher_texts text_of cells)
-    (ap (option_and_then in_64) (known_values _ int_sums (λ c. option_map (λ t. pos (length t)) (text_of c)) cells ∙ ap (reduce ◌+ℤ◌) (picked_map (λ t. pos (length t)) text_of cells))))
+    (total_lengths text_of cells))
 
 pub texts_stats : (ss : List Stat) → closed texts (gathered texts ss) ≡ joined kind.Texts ss
 texts_stats ss = closed_stats texts kind.Texts ss λ bs.
@@ -70,7 +81,7 @@ texts_stats ss = closed_stats texts kind.Texts ss λ bs.
 
 pub bins_cells : (cells : List Cell) → closed bins (counted bins cells) ≡ stat kind.Bins cells
 bins_cells cells = closed_cells bins kind.Bins cells
-    (ap (λ r. body.Bins (option_and_then in_64 r)) (known_values _ int_sums (λ c. option_map (λ s. pos (length s)) (bytes_of c)) cells ∙ ap (reduce ◌+ℤ◌) (picked_map (λ s. pos (length s)) bytes_of cells)))
+    (ap body.Bins (total_lengths bytes_of cells))
 
 pub bins_stats : (ss : List Stat) → closed bins (gathered bins ss) ≡ joined kind.Bins ss
 bins_stats ss = closed_stats bins kind.Bins ss λ bs. ap body.Bins (known_all_in _ int_sums in_64 sum_of bs)
@@ -110,7 +121,8 @@ trues_kept cells most =
 
 pub bools_cells : (cells : List Cell) → length cells ≤ 2 ^ 62 → closed bools (counted bools cells) ≡ stat kind.Bools cells
 bools_cells cells most = closed_cells bools kind.Bools cells
-    (ap (λ r. body.Bools (option_and_then in_limit r)) (known_values _ nat_sums (λ c. option_map bit (bool_of c)) cells ∙ ap (reduce ◌+◌) (picked_map bit bool_of cells))
+    (ap (λ r. body.Bools (option_and_then in_limit r))
+    (known_values _ nat_sums (λ c. option_map bit (bool_of c)) cells ∙ ap (reduce ◌+◌) (picked_map bit bool_of cells))
     ∙ ap body.Bools (trues_kept cells most))
 
 pub bools_stats : (ss : List Stat) → closed bools (gathered bools ss) ≡ joined kind.Bools ss

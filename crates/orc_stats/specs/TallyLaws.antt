@@ -36,7 +36,8 @@ module _ {P : Type 0} (m : Measure P) where
 
   -- null adds nothing but itself
   pub null_added : (n : ℕ) (o r : Option Bool) (p : P) (c : Cell) → c ≡ null → r ≡ or_known o (Some true)
-      → (let x : Kept P = record { count = n; nulls = r; parts = p } in let y : Kept P = record { count = n; nulls = o; parts = p } in x ≡ together m y (cell_kept m c))
+      → (let x : Kept P = record { count = n; nulls = r; parts = p } in
+      let y : Kept P = record { count = n; nulls = o; parts = p } in x ≡ together m y (cell_kept m c))
   null_added n o r p c e f =
       kept_is (rw e (omega arith)) (rw e f) (rw e (sym (ap (m.joins.join p) m.of_null ∙ m.joins.orderly.comm p m.joins.none ∙ m.joins.unit p)))
 
@@ -76,7 +77,8 @@ module _ {P : Type 0} (m : Measure P) where
   stat_is e f g = λ i. record { count = e i; nulls = f i; body = g i }
 
   -- the statistic of cells, where its body is
-  pub closed_cells : (k : StatKind) (cells : List Cell) → m.body (all m.joins (map m.of_cell cells)) ≡ values_body k cells → closed m (counted m cells) ≡ stat k cells
+  pub closed_cells : (k : StatKind) (cells : List Cell)
+      → m.body (all m.joins (map m.of_cell cells)) ≡ values_body k cells → closed m (counted m cells) ≡ stat k cells
   closed_cells k cells e = stat_is (counted_count cells) (counted_nulls cells) (ap m.body (counted_parts cells) ∙ e)
 
   pub gathered_count : (ss : List Stat) → (gathered m ss).count ≡ sum_by (λ s. s.count) ss
@@ -92,7 +94,8 @@ module _ {P : Type 0} (m : Measure P) where
   gathered_more true o p bs e = ap (m.joins.join (m.of_body o)) e
   gathered_more false o p bs e = m.joins.unit p ∙ e
 
-  with_values : (b : Bool) (s : Stat) (ss : List Stat) → map (λ t. t.body) (if b then s ∷ ss else ss) ≡ (if b then s.body ∷ map (λ t. t.body) ss else map (λ t. t.body) ss)
+  with_values : (b : Bool) (s : Stat) (ss : List Stat)
+      → map (λ t. t.body) (if b then s ∷ ss else ss) ≡ (if b then s.body ∷ map (λ t. t.body) ss else map (λ t. t.body) ss)
   with_values true s ss = refl
   with_values false s ss = refl
 
@@ -117,7 +120,8 @@ module _ {A : Type 0} (op : A → A → A) (o : IsOrderly op) where
   value_more None vs = refl
   value_more (Some x) vs = value_onto x (reduce op vs)
 
-  pub seen_values : {X : Type 0} (pick : X → Option A) (xs : List X) → all (seen op o) (map (λ x. value_seen (pick x)) xs) ≡ value_seen (reduce op (filter_map pick xs))
+  pub seen_values : {X : Type 0} (pick : X → Option A) (xs : List X)
+      → all (seen op o) (map (λ x. value_seen (pick x)) xs) ≡ value_seen (reduce op (filter_map pick xs))
   seen_values pick [] = refl
   seen_values pick (x ∷ xs) = ap (both op (value_seen (pick x))) (seen_values pick xs) ∙ value_more (pick x) (filter_map pick xs)
 
@@ -151,7 +155,8 @@ module _ {A : Type 0} (op : A → A → A) (o : IsOrderly op) where
   known_value (Some x) = refl
 
   -- what is known of parts, with a word on what is put together
-  pub known_parts : {B : Type 0} (f : A → Option B) (p : Option (List A)) → option_and_then f (known_of (parts_seen p)) ≡ option_and_then (λ xs. option_and_then f (reduce op xs)) p
+  pub known_parts : {B : Type 0} (f : A → Option B) (p : Option (List A))
+      → option_and_then f (known_of (parts_seen p)) ≡ option_and_then (λ xs. option_and_then f (reduce op xs)) p
   unfolding parts_seen
   known_parts f None = refl
   known_parts f (Some xs) = ap (option_and_then f) (known_value (reduce op xs))
@@ -161,10 +166,12 @@ module _ {A : Type 0} (op : A → A → A) (o : IsOrderly op) where
   known_reduced None = refl
   known_reduced (Some xs) = known_value (reduce op xs)
 
-  pub known_values : {X : Type 0} (pick : X → Option A) (xs : List X) → known_of (all (seen op o) (map (λ x. value_seen (pick x)) xs)) ≡ reduce op (filter_map pick xs)
+  pub known_values : {X : Type 0} (pick : X → Option A) (xs : List X)
+      → known_of (all (seen op o) (map (λ x. value_seen (pick x)) xs)) ≡ reduce op (filter_map pick xs)
   known_values pick xs = ap known_of (seen_values pick xs) ∙ known_value (reduce op (filter_map pick xs))
 
-  pub known_all : {X : Type 0} (part : X → Option A) (xs : List X) → known_of (all (seen op o) (map (λ x. seen_of (part x)) xs)) ≡ of_known (reduce op) (map part xs)
+  pub known_all : {X : Type 0} (part : X → Option A) (xs : List X)
+      → known_of (all (seen op o) (map (λ x. seen_of (part x)) xs)) ≡ of_known (reduce op) (map part xs)
   known_all part xs = ap known_of (seen_parts part xs) ∙ known_reduced (all_known (map part xs))
 
   pub known_all_in : (f : A → Option A) {X : Type 0} (part : X → Option A) (xs : List X)

@@ -4,12 +4,14 @@ ghost use Rattle.orc_stats.specs.Meanings.{IsLowest, added};
 ghost use Rattle.std.specs.Prelude.{◌≡◌, ◌↔◌, ℕ, ℤ, pos, negsuc, ◌≤◌, ◌^◌, ◌++◌, ◌∷◌, true, false, Some, None, List, [], sum_by, IsPermutation, flat_map, length, map};
 ghost use Rattle.std.specs.List.{AllByRecursion};
 ghost use Rattle.orc_types.specs.Cells.{Cell};
+ghost use Rattle.orc_types.specs.Shapes.{Shape};
+ghost use Rattle.orc_types.specs.Fits.{fits};
 ghost use Rattle.orc_stats.specs.declared.kind.StatKind.{StatKind};
 ghost use Rattle.orc_stats.specs.declared.kind.StatKind.TheVariants as kind;
 ghost use Rattle.orc_stats.specs.declared.stat.Stat.{Stat};
 ghost use Rattle.orc_stats.specs.declared.stat.Body.{Body};
 ghost use Rattle.orc_stats.specs.declared.stat.Body.TheVariants as body;
-ghost use Rattle.orc_stats.specs.Kinds.{is_of};
+ghost use Rattle.orc_stats.specs.Kinds.{is_of, kind_of};
 ghost use Rattle.orc_stats.specs.Statistics.{least, greatest, text_cmp, exact_total, stat};
 ghost use Rattle.orc_stats.specs.Joining.{sum_of, joined};
 ghost use Rattle.orc_stats.specs.Whole.{whole};
@@ -17,6 +19,11 @@ ghost use Rattle.orc_stats.specs.Messages.{IsStat, stat_read, message_of};
 ghost use Rattle.orc_stats.specs.Tallies.{Kept, none_kept, together, counted, gathered, closed};
 
 use crate::tally::Tally;
+
+/// A cell that fits a type is one of the type's kind of statistic.
+pub fn kind_laws()
+    ensures { (c : Cell) (s : Shape) → fits c s ≡ true → is_of (kind_of s) c ≡ true }
+{}
 
 /// What the words of a statistic of cells mean: it has no order; the least value is one of them, and
 /// none is less; the greatest likewise; the total is the exact one.
@@ -37,14 +44,16 @@ pub fn stat_laws()
 /// three numbers are joined first, their sum can be lost, though the total of all three fits.
 pub fn join_laws()
     ensures order { (k : StatKind) (xs ys : List Stat) → IsPermutation xs ys → joined k ys ≡ joined k xs }
-    ensures empty { (k : StatKind) (o : Body) (ss : List Stat) → let none : Stat = record { count = 0; nulls = Some false; body = o } in joined k (none ∷ ss) ≡ joined k ss }
+    ensures empty { (k : StatKind) (o : Body) (ss : List Stat) →
+        let none : Stat = record { count = 0; nulls = Some false; body = o } in joined k (none ∷ ss) ≡ joined k ss }
     ensures parts { (k : StatKind) (parts : List (List Cell)) → AllByRecursion (AllByRecursion (λ c. is_of k c ≡ true)) parts
         → length (flat_map (λ p. p) parts) ≤ 2 ^ 62 → joined k (map (stat k) parts) ≡ whole k parts }
     ensures normal { (k : StatKind) (ss : List Stat) → sum_by (λ s. s.count) ss ≤ 2 ^ 62 → IsStat k (joined k ss) }
     ensures regrouped { let one : ℤ → Stat = λ z. record { count = 1; nulls = Some false; body = body.Ints (Some z) (Some z) (Some z) } in
         let most : ℤ = pos 9223372036854775807 in
         let two : Stat = joined kind.Ints (one most ∷ one (pos 1) ∷ []) in
-        (sum_of (joined kind.Ints (one most ∷ one (pos 1) ∷ one (negsuc 0) ∷ [])).body ≡ Some most) × (sum_of (joined kind.Ints (two ∷ one (negsuc 0) ∷ [])).body ≡ None) }
+        let three : Stat = joined kind.Ints (one most ∷ one (pos 1) ∷ one (negsuc 0) ∷ []) in
+        (sum_of three.body ≡ Some most) × (sum_of (joined kind.Ints (two ∷ one (negsuc 0) ∷ [])).body ≡ None) }
 {}
 
 /// A statistic that was put reads back by its kind.

@@ -83,27 +83,3 @@ fn spans(answer: &Result<Stat, StatFault>, low: &[u8], high: &[u8]) -> bool {
         _ => false,
     }
 }
-
-/// The total of 2^20 numbers, all but the last of them 2^43.
-fn total_of_many(alloc: Global, last: i64) -> Result<Option<i64>, StatFault> {
-    let many: Row<'_> = Some(Value::Int(1 << 43));
-    let last: Row<'_> = Some(Value::Int(last));
-    let mut cells = Vec::new(alloc);
-    for _ in 1..(1 << 20) {
-        cells.push(Lent(&many))?;
-    }
-    cells.push(Lent(&last))?;
-    let stat = of_cells(alloc, StatKind::Ints, &cells)?;
-    Ok(told(&stat).total)
-}
-
-#[test]
-fn totals_at_the_edge_of_64_bits(rt: HostRuntime) {
-    for (last, total) in [((1 << 43) - 1, Some(i64::MAX)), (1 << 43, None)] {
-        let found = match total_of_many(rt.alloc(), last) {
-            Err(StatFault::OutOfMemory) => total_of_many(rt.alloc(), last),
-            found => found,
-        };
-        assert!(&rt; found == Ok(total));
-    }
-}

@@ -109,6 +109,40 @@ fn nothing_of_each_kind(rt: HostRuntime) {
     }
 }
 
+/// A statistic of 2^19 integers with this total.
+fn of_many(total: i64) -> Stat
+    ensures { body_is_of kind.Ints result.body ≡ true }
+{
+    Stat {
+        count: 1 << 19,
+        nulls: Some(false),
+        body: Body::Ints {
+            least: Some(-1 << 43),
+            greatest: Some(1 << 43),
+            sum: Some(total),
+        },
+    }
+}
+
+/// Totals of two lists, and of both together.
+const TOTALS: [(i64, i64, Option<i64>); 4] = [
+    (1 << 62, (1 << 62) - 1, Some(i64::MAX)),
+    (1 << 62, 1 << 62, None),
+    (-1 << 62, -1 << 62, Some(i64::MIN)),
+    (-1 << 62, (-1 << 62) - 1, None),
+];
+
+#[test]
+fn totals_at_the_edge_of_64_bits(rt: HostRuntime) {
+    for (one, other, both) in TOTALS {
+        let parts = [of_many(one), of_many(other)];
+        match join_all(rt.alloc(), StatKind::Ints, &parts) {
+            Ok(stat) => assert_eq!(&rt; told(&stat).total, both),
+            Err(_) => assert!(&rt; false),
+        }
+    }
+}
+
 /// The statistic of three sevens.
 fn three_sevens(alloc: Global) -> Result<Stat, StatFault>
     ensures { IfOk result (λ s. body_is_of kind.Ints s.body ≡ true) }

@@ -1,0 +1,38 @@
+-- A cell that fits a type is one of its kind of statistic.
+use Rattle.std.proofs.Common.{◌≡◌, refl, true}
+use Rattle.orc_types.specs.declared.kind.Scalar.{Scalar}
+use Rattle.orc_types.specs.declared.kind.Scalar.TheVariants as scalar_kind
+use Rattle.orc_types.specs.Shapes.{Shape, scalar, list_of, struct_of}
+use Rattle.orc_types.specs.Cells.{Atom, bool, int, date, text, bytes, Cell, null, leaf, list, struct}
+use Rattle.orc_types.specs.Fits.{atom_fits, fits}
+use Rattle.orc_stats.specs.Kinds.{kind_of_scalar, kind_of, atom_is_of, is_of}
+
+atom_kind : (k : Scalar) (a : Atom) → atom_fits k a ≡ true → atom_is_of (kind_of_scalar k) a ≡ true
+atom_kind scalar_kind.Boolean (bool b) h = refl
+atom_kind scalar_kind.Boolean _ h = cc
+atom_kind scalar_kind.Byte (int z) h = refl
+atom_kind scalar_kind.Byte _ h = cc
+atom_kind scalar_kind.Short (int z) h = refl
+atom_kind scalar_kind.Short _ h = cc
+atom_kind scalar_kind.Int (int z) h = refl
+atom_kind scalar_kind.Int _ h = cc
+atom_kind scalar_kind.Long (int z) h = refl
+atom_kind scalar_kind.Long _ h = cc
+atom_kind scalar_kind.String (text s) h = refl
+atom_kind scalar_kind.String _ h = cc
+atom_kind scalar_kind.Binary (bytes s) h = refl
+atom_kind scalar_kind.Binary _ h = cc
+atom_kind scalar_kind.Date (date z) h = refl
+atom_kind scalar_kind.Date _ h = cc
+
+pub cell_kind : (c : Cell) (s : Shape) → fits c s ≡ true → is_of (kind_of s) c ≡ true
+cell_kind null s h = refl
+cell_kind (leaf a) (scalar k o) h = atom_kind k a h
+cell_kind (leaf a) (list_of s o) h = cc
+cell_kind (leaf a) (struct_of fs o) h = cc
+cell_kind (list cs) (scalar k o) h = cc
+cell_kind (list cs) (list_of s o) h = refl
+cell_kind (list cs) (struct_of fs o) h = cc
+cell_kind (struct cs) (scalar k o) h = cc
+cell_kind (struct cs) (list_of s o) h = cc
+cell_kind (struct cs) (struct_of fs o) h = refl
