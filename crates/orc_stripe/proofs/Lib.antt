@@ -1,0 +1,15 @@
+pub mod Fronts
+pub mod RunsLemmas
+pub mod NumbersLemmas
+pub mod BitsLemmas
+pub mod ReaderLemmas
+pub mod ByNumber
+pub mod OneRows
+pub mod StartLemmas
+pub mod Started
+pub mod Sizes
+pub mod Arms
+pub mod Ends
+pub mod Opened
+pub mod Entries
+pub mod RowsLemmas

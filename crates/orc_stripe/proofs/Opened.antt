@@ -1,0 +1,50 @@
+-- Why a stripe isn't opened.
+use Rattle.std.proofs.Common.{Bool, true, false, Option, Some, if◌then◌else◌, nat_le, ◌≡◌, ◌≢◌, ◌+◌, ◌-◌, ◌≤◌, ℕ, None, List, [], ◌∷◌, length, refl, inl, inr, ◌⊎◌, sym, ap, ◌∙◌, subst, arith}
+use Rattle.std.proofs.lemmas.Bool.{and_parts, leb-true, le-leb}
+use Rattle.orc_types.specs.Shapes.{width}
+use Rattle.orc_types.specs.Types.{types}
+use Rattle.orc_types.proofs.Trees.{length-types}
+use Rattle.orc_wire.specs.declared.encoding.Encoding.{Encoding}
+use Rattle.orc_wire.specs.declared.stripe_footer.StreamMsg.{StreamMsg}
+use Rattle.orc_wire.specs.declared.type_msg.TypeMsg.{TypeMsg}
+use Rattle.orc_stripe.specs.Directory.{have_room, is_directory, first_wrong, takes_encoding}
+use Rattle.orc_types.specs.Shapes.{Shape}
+use Rattle.orc_wire.specs.declared.stripe_info.StripeInfo.{StripeInfo}
+use Rattle.orc_wire.specs.declared.fault.WireFault.{WireFault}
+use Rattle.orc_wire.specs.declared.fault.WireFault.TheVariants as wire
+use Rattle.orc_wire.specs.Messages.{stripe_footer}
+use Rattle.orc_wire.specs.Spells.{Faults}
+use Rattle.orc_stripe.specs.Opening.{OpenFault, footer_bytes}
+use Rattle.orc_stripe.specs.declared.fault.StripeFault.{StripeFault}
+use Rattle.orc_stripe.specs.declared.fault.StripeFault.TheVariants as fault
+
+pub fault_of : (s : Shape) (info : StripeInfo) (bytes : List ℕ) (cause : WireFault) (f : StripeFault) → (f ≡ fault.OutOfMemory) ⊎ ((f ≡ fault.Wire cause) × (cause ≢ wire.OutOfMemory))
+    → (cause ≡ wire.OutOfMemory) ⊎ Faults stripe_footer 0 0 (footer_bytes info bytes) cause → OpenFault s info bytes f
+fault_of s info bytes cause f (inl e) h = subst (OpenFault s info bytes) (sym e) tt
+fault_of s info bytes cause f (inr p) (inl m) = absurd (p.1 m)
+fault_of s info bytes cause f (inr p) (inr h) = subst (OpenFault s info bytes) (sym p.0) h
+
+-- ---- what is known of a stripe that is opened
+
+pub room_more : (m n : ℕ) (ss : List StreamMsg) → m ≤ n → have_room m ss ≡ true → have_room n ss ≡ true
+room_more m n [] h r = refl
+room_more m n (s ∷ ss) h r =
+    let p = and_parts (nat_le s.length m) (have_room (m - s.length) ss) r in
+    let fits = leb-true s.length m p.0 in
+    rw (le-leb s.length n (omega (arith, fits, h))) (room_more (m - s.length) (n - s.length) ss (omega (arith, h)) p.1)
+
+pub directory_room : (w room : ℕ) (ss : List StreamMsg) → is_directory w room ss ≡ true → have_room room ss ≡ true
+directory_room w room ss h = (and_parts (have_room room ss) _ h).0
+
+none_wrong : (b : Bool) (n : ℕ) (r : Option ℕ) → (if b then r else Some n) ≡ None → r ≡ None
+none_wrong true n r h = h
+none_wrong false n r h = cc
+
+as_many : (n : ℕ) (ts : List TypeMsg) (es : List Encoding) → first_wrong n ts es ≡ None → length ts ≡ length es
+as_many n [] [] h = refl
+as_many n [] (e ∷ es) h = cc
+as_many n (t ∷ ts) [] h = cc
+as_many n (t ∷ ts) (e ∷ es) h = let k = as_many (n + 1) ts es (none_wrong (takes_encoding t.kind e.kind) n (first_wrong (n + 1) ts es) h) in omega (arith, k)
+
+pub encodings_there : (s : Shape) (es : List Encoding) → first_wrong 0 (types s 0) es ≡ None → width s ≡ length es
+encodings_there s es h = sym (length-types s 0) ∙ as_many 0 (types s 0) es h

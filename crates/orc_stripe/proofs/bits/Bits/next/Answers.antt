@@ -1,0 +1,14 @@
+use Rattle.std.proofs.Common.{◌≡◌, suc, ◌-◌, arith}
+use Rattle.orc_stripe.proofs.BitsLemmas.{next_digit, first_digit, no_byte}
+use Rattle.orc_stripe.proofs.bits.Bits.next.Goals as goal
+
+pub returns-in-Ok-clause-found : goal.returns-in-Ok-clause-found
+returns-in-Ok-clause-found c = first_digit c.args.self.now c.next.new.self c.in-Ok.byte c.digit_at.result c.if-self-eq0.true c.in-Ok.ensures.found c.digit_at.ensures
+
+pub returns-in-Err-clause-none : goal.returns-in-Err-clause-none
+returns-in-Err-clause-none c = no_byte c.args.self.now c.if-self-eq0.true c.in-Err.ensures.none
+
+pub returns-else-self-eq0-clause-found : goal.returns-else-self-eq0-clause-found
+returns-else-self-eq0-clause-found c =
+    let some : c.args.self.now.left ≡ suc (c.args.self.now.left - 1) = omega (arith, c.if-self-eq0.false) in
+    next_digit c.args.self.now (c.args.self.now.left - 1) c.digit_at-else-self-eq0.result some c.digit_at-else-self-eq0.ensures

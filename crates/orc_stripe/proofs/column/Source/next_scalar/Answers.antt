@@ -1,0 +1,31 @@
+use Rattle.orc_stripe.proofs.column.Source.next_scalar.Goals as goal
+
+pub returns-in-Boolean-clause-found : goal.returns-in-Boolean-clause-found
+returns-in-Boolean-clause-found c = rw c.in-Boolean.is c.next_bool.ensures.found
+
+pub returns-in-Byte-clause-found : goal.returns-in-Byte-clause-found
+returns-in-Byte-clause-found c = rw c.in-Byte.is c.next_byte.ensures.found
+
+pub returns-in-Short-clause-found : goal.returns-in-Short-clause-found
+returns-in-Short-clause-found c = rw c.in-Short.is c.next_int.ensures.found
+
+pub returns-in-Int-clause-found : goal.returns-in-Int-clause-found
+returns-in-Int-clause-found c = rw c.in-Int.is c.next_int-in-Int.ensures.found
+
+pub returns-in-Long-clause-found : goal.returns-in-Long-clause-found
+returns-in-Long-clause-found c = rw c.in-Long.is c.next_int-in-Long.ensures.found
+
+pub returns-in-Date-clause-found : goal.returns-in-Date-clause-found
+returns-in-Date-clause-found c = rw c.in-Date.is c.next_date.ensures.found
+
+pub returns-in-Binary-clause-found : goal.returns-in-Binary-clause-found
+returns-in-Binary-clause-found c = rw c.in-Binary.is c.next_binary.ensures.found
+
+pub returns-in-None-clause-found : goal.returns-in-None-clause-found
+returns-in-None-clause-found c = rw (c.in-String.is, c.in-None.is) c.next_text.ensures.found
+
+pub returns-in-Some-clause-found : goal.returns-in-Some-clause-found
+returns-in-Some-clause-found c = let e = c.next_word.ensures.found in rw (c.in-String.is, c.in-Some.is) (rw c.deref.ensures.value at e)
+
+pub returns-in-Some-clause-none : goal.returns-in-Some-clause-none
+returns-in-Some-clause-none c = let e = c.next_word.ensures.none in rw (c.in-String.is, c.in-Some.is) (rw c.deref.ensures.value at e)

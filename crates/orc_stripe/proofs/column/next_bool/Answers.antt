@@ -1,0 +1,12 @@
+use Rattle.orc_stripe.specs.Bits.{BitsLeft}
+use Rattle.orc_stripe.specs.Columns.{IsBool}
+use Rattle.orc_stripe.proofs.Fronts.{standing_lacks}
+use Rattle.orc_stripe.proofs.ReaderLemmas.{one_stands, one_bool}
+use Rattle.orc_stripe.proofs.Sizes.{value_bool}
+use Rattle.orc_stripe.proofs.column.next_bool.Goals as goal
+
+pub returns-in-Ok-clause-found : goal.returns-in-Ok-clause-found
+returns-in-Ok-clause-found c = one_stands IsBool one_bool (BitsLeft c.args.bits.now) (BitsLeft c.next.new.self) c.in-Ok.bit _ (value_bool c.in-Ok.bit) c.in-Ok.ensures.found
+
+pub returns-in-Err-clause-none : goal.returns-in-Err-clause-none
+returns-in-Err-clause-none c = standing_lacks IsBool (BitsLeft c.args.bits.now) 1 c.in-Err.ensures.none

@@ -1,0 +1,20 @@
+use Rattle.std.proofs.Common.{◌≡◌, ◌<◌, ◌∙◌, ap, rules, w64, to_z, of_z}
+use Rattle.std.proofs.lemmas.Int.{to_z-of_z}
+use Rattle.orc_types.specs.Cells.{leaf, int}
+use Rattle.orc_stripe.specs.Bytes.{BytesLeft}
+use Rattle.orc_stripe.specs.Columns.{IsByte, signed_byte}
+use Rattle.orc_stripe.proofs.Fronts.{standing_lacks}
+use Rattle.orc_stripe.proofs.ReaderLemmas.{one_stands, one_byte}
+use Rattle.orc_stripe.proofs.Sizes.{value_int}
+use Rattle.orc_stripe.proofs.column.next_byte.Goals as goal
+
+pub returns-in-Ok-clause-found : goal.returns-in-Ok-clause-found
+returns-in-Ok-clause-found c =
+    let n = c.number_of.result in
+    let z : to_z w64 (of_z w64 n) ≡ n = to_z-of_z w64 n (search rules) in
+    let e : n ≡ signed_byte c.in-Ok.byte = c.number_of.ensures in
+    let small : c.in-Ok.byte < 256 = search rules in
+    rw z (one_stands IsByte one_byte (BytesLeft c.args.bytes.now) (BytesLeft c.next.new.self) c.in-Ok.byte _ (small, value_int n ∙ ap (λ m. leaf (int m)) e) c.in-Ok.ensures.found)
+
+pub returns-in-Err-clause-none : goal.returns-in-Err-clause-none
+returns-in-Err-clause-none c = standing_lacks IsByte (BytesLeft c.args.bytes.now) 1 c.in-Err.ensures.none

@@ -1,0 +1,53 @@
+use Rattle.std.proofs.Common.{rules, arith, ◌≡◌, ◌≤◌, ◌+◌, length, drop, true, false, Some, None, inl, inr, ◌⊎◌, sym, ap, ◌∙◌, subst}
+use Rattle.orc_types.specs.Shapes.{width}
+use Rattle.orc_types.specs.Types.{types}
+use Rattle.orc_wire.specs.declared.stripe_footer.StripeFooter.{StripeFooter}
+use Rattle.orc_wire.specs.Messages.{stripe_footer}
+use Rattle.orc_wire.specs.Spells.{Spells}
+use Rattle.orc_stripe.specs.Directory.{is_directory, first_wrong}
+use Rattle.orc_stripe.specs.Opening.{OpenFault}
+use Rattle.orc_stripe.proofs.Sizes.{true_false}
+use Rattle.orc_stripe.proofs.Opened.{fault_of, room_more, directory_room, encodings_there}
+use Rattle.orc_stripe.proofs.view.StripeView.open.Goals as goal
+
+pub returns-in-Err-clause-only : goal.returns-in-Err-clause-only
+returns-in-Err-clause-only c = λ footer h.
+    let b : c.split_at.result.1.now ≡ drop (c.args.info.index_length + c.args.info.data_length) c.args.bytes.now = search rules in
+    c.wire_fault.ensures.memory (c.in-Err.ensures.only footer (subst (λ t. Spells stripe_footer 0 0 t footer) (sym b) h.read))
+
+pub returns-in-Err-clause-fault : goal.returns-in-Err-clause-fault
+returns-in-Err-clause-fault c =
+    let b : c.split_at.result.1.now ≡ drop (c.args.info.index_length + c.args.info.data_length) c.args.bytes.now = search rules in
+    let f = c.in-Err.ensures.fault in
+    fault_of c.args.schema.now c.args.info c.args.bytes.now c.in-Err.fault c.wire_fault.result c.wire_fault.ensures.either (rw b at f)
+
+pub returns-then-not-is_directory-clause-only : goal.returns-then-not-is_directory-clause-only
+returns-then-not-is_directory-clause-only c = λ footer h.
+    let b : c.split_at.result.1.now ≡ drop (c.args.info.index_length + c.args.info.data_length) c.args.bytes.now = search rules in
+    let e : c.in-Ok.footer ≡ footer = c.in-Ok.ensures.only footer (subst (λ t. Spells stripe_footer 0 0 t footer) (sym b) h.read) in
+    let f : is_directory (width c.args.schema.now) (c.args.info.index_length + c.args.info.data_length) c.in-Ok.footer.streams ≡ false = search rules in
+    absurd (true_false (sym h.directory ∙ ap (λ (g : StripeFooter). is_directory (width c.args.schema.now) (c.args.info.index_length + c.args.info.data_length) g.streams) (sym e) ∙ f))
+
+pub returns-in-Some-first_wrong-clause-only : goal.returns-in-Some-first_wrong-clause-only
+returns-in-Some-first_wrong-clause-only c = λ footer h.
+    let b : c.split_at.result.1.now ≡ drop (c.args.info.index_length + c.args.info.data_length) c.args.bytes.now = search rules in
+    let e : c.in-Ok.footer ≡ footer = c.in-Ok.ensures.only footer (subst (λ t. Spells stripe_footer 0 0 t footer) (sym b) h.read) in
+    let f : first_wrong 0 (types c.args.schema.now 0) c.in-Ok.footer.columns ≡ Some c.in-Some-first_wrong.column = search rules in
+    let k : None ≡ Some c.in-Some-first_wrong.column = sym h.encodings ∙ ap (λ (g : StripeFooter). first_wrong 0 (types c.args.schema.now 0) g.columns) (sym e) ∙ f in
+    absurd cc
+
+pub returns-clause-only : goal.returns-clause-only
+returns-clause-only c = λ footer h.
+    let b : c.split_at.result.1.now ≡ drop (c.args.info.index_length + c.args.info.data_length) c.args.bytes.now = search rules in
+    c.in-Ok.ensures.only footer (subst (λ t. Spells stripe_footer 0 0 t footer) (sym b) h.read)
+
+pub invariant_of-result : goal.invariant_of-result
+invariant_of-result c =
+    let w : length c.args.bytes.now ≡ c.args.info.index_length + c.args.info.data_length + c.args.info.footer_length = search rules in
+    let d : is_directory (width c.args.schema.now) (c.args.info.index_length + c.args.info.data_length) c.in-Ok.footer.streams ≡ true = search rules in
+    let f : first_wrong 0 (types c.args.schema.now 0) c.in-Ok.footer.columns ≡ None = search rules in
+    record {
+      room = room_more (c.args.info.index_length + c.args.info.data_length) (length c.args.bytes.now) c.in-Ok.footer.streams (omega (arith, w))
+        (directory_room (width c.args.schema.now) (c.args.info.index_length + c.args.info.data_length) c.in-Ok.footer.streams d);
+      columns = encodings_there c.args.schema.now c.in-Ok.footer.columns f;
+    }

@@ -1,0 +1,12 @@
+pub mod Fronts
+pub mod Spellings
+pub mod Runs
+pub mod Numbers
+pub mod Bytes
+pub mod Bits
+pub mod Octets
+pub mod Columns
+pub mod Directory
+pub mod Stripe
+pub mod Starting
+pub mod Opening

@@ -1,0 +1,58 @@
+ghost use Rattle.std.specs.Prelude.{◌≡◌, ◌≢◌, [], ◌∷◌, ◌<◌, IfOk, IfErr, OnOk, OnErr, length};
+ghost use Rattle.orc_rle.specs.declared.fault.RunFault.TheVariants.{OutOfMemory};
+ghost use Rattle.orc_stripe.specs.Fronts.{Leaves, Lacks};
+ghost use Rattle.orc_stripe.specs.Bytes.{BytesLeft};
+
+use orc_rle::{ByteRuns, RunFault, RunU8};
+
+/// What is left of a stream of bytes in runs: the bytes of the run that was read last which weren't
+/// taken yet, and the runs after it. It takes no memory.
+#[derive(Drop)]
+pub(crate) struct Bytes<'a> {
+    pub(crate) bytes: &'a [u8],
+    pub(crate) at: usize,
+    // where the run that was read last begins
+    pub(crate) start: usize,
+    pub(crate) run: RunU8,
+    pub(crate) used: usize,
+}
+
+impl<'a> Bytes<'a> {
+    /// Reads runs until a byte is there.
+    fn fill(&mut self) -> Result<(), RunFault>
+        ensures found { OnOk result (Leaves (BytesLeft self.old) (BytesLeft self.new) []) }
+        ensures some { OnOk result (self.new.used < length self.new.run.values) }
+        ensures none { OnErr result (Lacks (BytesLeft self.old) 1) }
+    {
+        while self.used >= self.run.values().len() {
+            if self.at >= self.bytes.len() {
+                return Err(RunFault::TooFew(self.bytes.len()));
+            }
+            let (_, rest) = self.bytes.split_at(self.at);
+            match ByteRuns::next_run(rest, &mut self.run) {
+                Ok(len) => {
+                    self.start = self.at;
+                    self.at += len;
+                    self.used = 0;
+                }
+                Err(fault) => return Err(fault),
+            }
+        }
+        Ok(())
+    }
+
+    /// The next byte.
+    pub(crate) fn next(&mut self) -> Result<u8, RunFault>
+        ensures found { IfOk result (λ byte. Leaves (BytesLeft self.old) (BytesLeft self.new) (byte ∷ [])) }
+        ensures none { OnErr result (Lacks (BytesLeft self.old) 1) }
+    {
+        match self.fill() {
+            Ok(()) => {
+                let byte = self.run.values()[self.used];
+                self.used += 1;
+                Ok(byte)
+            }
+            Err(fault) => Err(fault),
+        }
+    }
+}

@@ -1,0 +1,43 @@
+ghost use Rattle.std.specs.Prelude.{◌≡◌, ◌≢◌, ℕ, List, IfOk, IfErr, length, map};
+ghost use Rattle.orc_rle.specs.declared.sign.Sign.TheVariants.{Unsigned};
+ghost use Rattle.orc_stripe.specs.declared.fault.StripeFault.TheVariants.{OutOfMemory};
+ghost use Rattle.orc_stripe.specs.Columns.{entry_bytes};
+ghost use Rattle.orc_stripe.specs.Numbers.{AreNumbers};
+ghost use Rattle.orc_stripe.specs.Spellings.{Grouped};
+ghost use Rattle.orc_stripe.specs.Stripe.{Is};
+
+use crate::column::{Entry, next_group};
+use crate::ending::groups_end;
+use crate::fault::{StreamKind, StripeFault};
+use crate::numbers::numbers_of;
+use crate::octets::Octets;
+use crate::version::Version;
+use orc_rle::Sign;
+use std::alloc::Global;
+
+/// The entries of a dictionary.
+pub(crate) fn entries_of<'a>(
+    alloc: Global,
+    column: usize,
+    version: Version,
+    lengths: &'a [u8],
+    bytes: &'a [u8],
+    size: u32,
+) -> Result<Vec<Entry<'a>>, StripeFault>
+    ensures found { IfOk result (λ entries. (length entries.items ≡ size) × Grouped (AreNumbers version Unsigned lengths.now) (Is bytes.now) (map entry_bytes entries.items)) }
+    ensures none { IfErr result (λ fault. fault ≢ OutOfMemory → (entries : List (List ℕ)) → length entries ≡ size → Grouped (AreNumbers version Unsigned lengths.now) (Is bytes.now) entries → ⊥) }
+{
+    let mut numbers = numbers_of(version, Sign::Unsigned, lengths);
+    let mut octets = Octets { rest: bytes };
+    let mut entries = Vec::new(alloc);
+    for taken in 0..size {
+        match next_group(column, StreamKind::DictionaryData, &mut numbers, &mut octets) {
+            Ok(bytes) => entries.push(Entry { bytes })?,
+            Err(fault) => return Err(fault),
+        }
+    }
+    if !groups_end(&numbers, &octets) {
+        return Err(StripeFault::LengthSum(column, StreamKind::DictionaryData));
+    }
+    Ok(entries)
+}

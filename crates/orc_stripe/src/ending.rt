@@ -1,0 +1,221 @@
+ghost use Rattle.std.specs.Prelude.{◌≡◌, [], OnOk, OnErr, MatchBool, length};
+ghost use Rattle.orc_types.specs.Shapes.{width, widths};
+ghost use Rattle.orc_types.specs.Views.{shape, fields as fields_view};
+ghost use Rattle.orc_stripe.specs.Numbers.{NumbersLeft};
+ghost use Rattle.orc_stripe.specs.Spellings.{Grouped};
+ghost use Rattle.orc_stripe.specs.Bits.{BitsLeft};
+ghost use Rattle.orc_stripe.specs.Bytes.{BytesLeft};
+ghost use Rattle.orc_stripe.specs.Octets.{OctetsLeft};
+ghost use Rattle.orc_stripe.specs.Columns.{MarksLeft, ScalarLeft, CellsLeft, OwnLeft, FieldsLeft};
+
+use crate::bits::Bits;
+use crate::bytes::Bytes;
+use crate::column::{ColumnReader, Source};
+use crate::fault::{StreamKind, StripeFault};
+use crate::numbers::Numbers;
+use crate::octets::Octets;
+use orc_rle::RunFault;
+use orc_types::{Field, Scalar, Tree, width_of};
+
+/// Whether no number is left.
+pub(crate) fn numbers_end(numbers: &Numbers<'_>) -> bool
+    ensures { MatchBool result (NumbersLeft numbers.now []) (NumbersLeft numbers.now [] → ⊥) }
+{
+    if numbers.used < numbers.run.values().len() {
+        return false;
+    }
+    if numbers.at < numbers.bytes.len() {
+        return false;
+    }
+    true
+}
+
+/// Whether no byte of the runs is left.
+fn bytes_end(bytes: &Bytes<'_>) -> bool
+    ensures { MatchBool result (BytesLeft bytes.now []) (BytesLeft bytes.now [] → ⊥) }
+{
+    if bytes.used < bytes.run.values().len() {
+        return false;
+    }
+    if bytes.at < bytes.bytes.len() {
+        return false;
+    }
+    true
+}
+
+/// Whether no boolean is left: no whole byte's digits, that is, since fewer are spare.
+fn bits_end(bits: &Bits<'_>) -> bool
+    ensures { MatchBool result (BitsLeft bits.now []) (BitsLeft bits.now [] → ⊥) }
+{
+    if bits.left >= 8 {
+        return false;
+    }
+    if !bytes_end(&bits.bytes) {
+        return false;
+    }
+    true
+}
+
+/// Whether no byte is left.
+pub(crate) fn octets_end(octets: &Octets<'_>) -> bool
+    ensures { MatchBool result (OctetsLeft octets.now []) (OctetsLeft octets.now [] → ⊥) }
+{
+    octets.rest.len() == 0
+}
+
+/// Whether no group of bytes is left.
+pub(crate) fn groups_end(numbers: &Numbers<'_>, octets: &Octets<'_>) -> bool
+    ensures { MatchBool result (Grouped (NumbersLeft numbers.now) (OctetsLeft octets.now) []) (Grouped (NumbersLeft numbers.now) (OctetsLeft octets.now) [] → ⊥) }
+{
+    if !numbers_end(numbers) {
+        return false;
+    }
+    if !octets_end(octets) {
+        return false;
+    }
+    true
+}
+
+/// Whether no mark is left.
+fn marks_end(present: &Option<Bits<'_>>) -> bool
+    ensures { MatchBool result (MarksLeft present.now []) (MarksLeft present.now [] → ⊥) }
+{
+    match present {
+        None => true,
+        Some(bits) => bits_end(bits),
+    }
+}
+
+/// Whether no value is left of a column of a kind that contains no other.
+fn scalar_end(source: &Source<'_>, kind: Scalar) -> bool
+    ensures { MatchBool result (ScalarLeft kind source.now []) (ScalarLeft kind source.now [] → ⊥) }
+{
+    match kind {
+        Scalar::Boolean => bits_end(&source.bits),
+        Scalar::Byte => bytes_end(&source.bytes),
+        Scalar::Short => numbers_end(&source.numbers),
+        Scalar::Int => numbers_end(&source.numbers),
+        Scalar::Long => numbers_end(&source.numbers),
+        Scalar::Date => numbers_end(&source.numbers),
+        Scalar::Binary => groups_end(&source.numbers, &source.octets),
+        Scalar::String => match &source.entries {
+            None => groups_end(&source.numbers, &source.octets),
+            Some(_) => numbers_end(&source.numbers),
+        },
+    }
+}
+
+/// The fault of bytes that are left over, or of their lengths.
+fn group_left(source: &Source<'_>) -> StripeFault {
+    if numbers_end(&source.numbers) {
+        return StripeFault::LengthSum(source.column, StreamKind::Data);
+    }
+    too_many(source.column, StreamKind::Length, source.numbers.start)
+}
+
+/// The fault of values that are left over, of a column of a kind that contains no other.
+fn scalar_left(source: &Source<'_>, kind: Scalar) -> StripeFault {
+    match kind {
+        Scalar::Boolean => too_many(source.column, StreamKind::Data, source.bits.bytes.start),
+        Scalar::Byte => too_many(source.column, StreamKind::Data, source.bytes.start),
+        Scalar::Short | Scalar::Int | Scalar::Long | Scalar::Date => {
+            too_many(source.column, StreamKind::Data, source.numbers.start)
+        }
+        Scalar::Binary => group_left(source),
+        Scalar::String => match &source.entries {
+            None => group_left(source),
+            Some(_) => too_many(source.column, StreamKind::Data, source.numbers.start),
+        },
+    }
+}
+
+/// The fault of a stream with values left over, whose last run that was read begins at the place.
+fn too_many(column: usize, kind: StreamKind, place: usize) -> StripeFault {
+    StripeFault::Run(column, kind, RunFault::TooMany(place))
+}
+
+/// Where the last run of the marks that was read begins.
+fn marks_start(present: &Option<Bits<'_>>) -> usize {
+    match present {
+        None => 0,
+        Some(bits) => bits.bytes.start,
+    }
+}
+
+/// Tests that no cell of a column is left, nor of the columns below it.
+#[cycle(ending)]
+pub(crate) fn cells_end(tree: &Tree, readers: &[ColumnReader<'_>]) -> Result<(), StripeFault>
+    requires { length readers.now ≡ width (shape tree.now) }
+    ensures all { OnOk result (CellsLeft (shape tree.now) readers.now []) }
+    ensures more { OnErr result (CellsLeft (shape tree.now) readers.now [] → ⊥) }
+{
+    let own = &readers[0];
+    if !marks_end(&own.present) {
+        return Err(too_many(
+            own.source.column,
+            StreamKind::Present,
+            marks_start(&own.present),
+        ));
+    }
+    match values_end(tree, readers) {
+        Ok(()) => Ok(()),
+        Err(fault) => Err(fault),
+    }
+}
+
+/// Tests that no value of a column is left, nor a cell of the columns below it.
+#[cycle(ending)]
+fn values_end(tree: &Tree, readers: &[ColumnReader<'_>]) -> Result<(), StripeFault>
+    requires { length readers.now ≡ width (shape tree.now) }
+    ensures all { OnOk result (OwnLeft (shape tree.now) readers.now []) }
+    ensures more { OnErr result (OwnLeft (shape tree.now) readers.now [] → ⊥) }
+{
+    let own = &readers[0];
+    match tree {
+        Tree::Scalar(kind, _) => {
+            if !scalar_end(&own.source, *kind) {
+                return Err(scalar_left(&own.source, *kind));
+            }
+            Ok(())
+        }
+        Tree::List(element, _) => {
+            if !numbers_end(&own.source.numbers) {
+                return Err(too_many(
+                    own.source.column,
+                    StreamKind::Length,
+                    own.source.numbers.start,
+                ));
+            }
+            match cells_end(element, &readers[1..]) {
+                Ok(()) => Ok(()),
+                Err(fault) => Err(fault),
+            }
+        }
+        Tree::Struct(fields, _) => match fields_end(fields, &readers[1..]) {
+            Ok(()) => Ok(()),
+            Err(fault) => Err(fault),
+        },
+    }
+}
+
+/// Tests that no cell of the fields is left.
+#[cycle(ending)]
+fn fields_end(fields: &[Field], readers: &[ColumnReader<'_>]) -> Result<(), StripeFault>
+    requires { length readers.now ≡ widths (fields_view fields.now) }
+    ensures all { OnOk result (FieldsLeft (fields_view fields.now) readers.now []) }
+    ensures more { OnErr result (FieldsLeft (fields_view fields.now) readers.now [] → ⊥) }
+{
+    match fields {
+        [] => Ok(()),
+        [first, others @ ..] => {
+            let own = width_of(&first.tree);
+            match cells_end(&first.tree, &readers[..own]) {
+                Ok(()) => match fields_end(others, &readers[own..]) {
+                    Ok(()) => Ok(()),
+                    Err(fault) => Err(fault),
+                },
+                Err(fault) => Err(fault),
+            }
+        }
+    }
+}

@@ -1,0 +1,79 @@
+ghost use Rattle.std.specs.Prelude.{◌≡◌, ◌≢◌, [], ◌∷◌, IfOk, IfErr, OnOk, OnErr, length, ◌<◌};
+ghost use Rattle.orc_rle.specs.declared.fault.RunFault.TheVariants.{OutOfMemory};
+ghost use Rattle.orc_stripe.specs.Fronts.{Leaves, Lacks};
+ghost use Rattle.orc_stripe.specs.Numbers.{NumbersLeft};
+ghost use Rattle.orc_stripe.specs.Starting.{NumbersStart};
+
+use crate::version::{Version, next_run};
+use orc_rle::{Run, RunFault, Sign};
+
+/// What is left of a stream of integers: the values of the run that was read last which weren't taken
+/// yet, and the bytes after it. It takes no memory.
+#[derive(Drop)]
+pub(crate) struct Numbers<'a> {
+    pub(crate) version: Version,
+    pub(crate) sign: Sign,
+    pub(crate) bytes: &'a [u8],
+    pub(crate) at: usize,
+    // where the run that was read last begins
+    pub(crate) start: usize,
+    pub(crate) run: Run,
+    pub(crate) used: usize,
+}
+
+/// A stream of integers, from its start.
+pub(crate) fn numbers_of(version: Version, sign: Sign, bytes: &[u8]) -> Numbers<'_>
+    ensures { NumbersStart version sign bytes.now result }
+{
+    Numbers {
+        version,
+        sign,
+        bytes,
+        at: 0,
+        start: 0,
+        run: Run::new(),
+        used: 0,
+    }
+}
+
+impl<'a> Numbers<'a> {
+    /// Reads runs until a value is there.
+    fn fill(&mut self) -> Result<(), RunFault>
+        ensures found { OnOk result (Leaves (NumbersLeft self.old) (NumbersLeft self.new) []) }
+        ensures some { OnOk result (self.new.used < length self.new.run.values) }
+        ensures none { OnErr result (Lacks (NumbersLeft self.old) 1) }
+        ensures no_memory { IfErr result (λ fault. fault ≢ OutOfMemory) }
+    {
+        while self.used >= self.run.values().len() {
+            if self.at >= self.bytes.len() {
+                return Err(RunFault::TooFew(self.bytes.len()));
+            }
+            let (_, rest) = self.bytes.split_at(self.at);
+            match next_run(self.version, rest, self.sign, &mut self.run) {
+                Ok(len) => {
+                    self.start = self.at;
+                    self.at += len;
+                    self.used = 0;
+                }
+                Err(fault) => return Err(fault),
+            }
+        }
+        Ok(())
+    }
+
+    /// The next number.
+    pub(crate) fn next(&mut self) -> Result<i64, RunFault>
+        ensures found { IfOk result (λ n. Leaves (NumbersLeft self.old) (NumbersLeft self.new) (n ∷ [])) }
+        ensures none { OnErr result (Lacks (NumbersLeft self.old) 1) }
+        ensures no_memory { IfErr result (λ fault. fault ≢ OutOfMemory) }
+    {
+        match self.fill() {
+            Ok(()) => {
+                let number = self.run.values()[self.used];
+                self.used += 1;
+                Ok(number)
+            }
+            Err(fault) => Err(fault),
+        }
+    }
+}

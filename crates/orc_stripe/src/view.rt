@@ -1,0 +1,104 @@
+ghost use Rattle.std.specs.Prelude.{◌≡◌, ◌≢◌, ◌+◌, ℕ, List, true, false, Some, None, ◌⊎◌, IfOk, IfErr, MatchResult, length, drop};
+ghost use Rattle.orc_types.specs.Cells.{Cell};
+ghost use Rattle.orc_types.specs.Shapes.{width};
+ghost use Rattle.orc_types.specs.Types.{types as types_of};
+ghost use Rattle.orc_wire.specs.declared.stripe_footer.StripeFooter.{StripeFooter};
+ghost use Rattle.orc_types.specs.Views.{views};
+ghost use Rattle.orc_stripe.specs.Directory.{have_room};
+ghost use Rattle.orc_stripe.specs.Stripe.{HasFooter, SpellRows, columns_of};
+ghost use Rattle.orc_stripe.specs.Opening.{OpenFault};
+ghost use Rattle.orc_stripe.specs.declared.fault.StripeFault.TheVariants.{OutOfMemory};
+
+use crate::directory::{first_wrong, is_directory};
+use crate::fault::{StripeFault, wire_fault};
+use crate::rows::all_rows;
+use crate::starting::put_tree;
+use orc_types::{Row, Schema};
+use orc_wire::{Message, StripeFooter, StripeInfo};
+use std::alloc::Global;
+
+/// A stripe whose directory and encodings are accepted.
+#[derive(Drop)]
+pub struct StripeView<'a> {
+    schema: &'a Schema,
+    info: StripeInfo,
+    stride: u32,
+    bytes: &'a [u8],
+    footer: StripeFooter,
+    ghost room: { have_room (length bytes.now) footer.streams ≡ true },
+    ghost columns: { width schema.now ≡ length footer.columns },
+}
+
+impl<'a> StripeView<'a> {
+    /// The view of a stripe's bytes. Nothing is decoded but the footer.
+    ///
+    /// Refusals: `BadDirectory` where the bytes are not as many as the three lengths say, or the streams
+    /// have no room in index and data, or a kind is used twice for one column, or a stream that needs a
+    /// column has none; `BadEncoding` with the first column that has no encoding, or one that its type
+    /// can't have; `Wire`; `OutOfMemory`.
+    pub fn open(
+        alloc: Global,
+        schema: &'a Schema,
+        info: StripeInfo,
+        stride: u32,
+        bytes: &'a [u8],
+    ) -> Result<StripeView<'a>, StripeFault>
+        ensures found { IfOk result (λ view. HasFooter schema.now info bytes.now view.footer) }
+        ensures same { IfOk result (λ view. (view.schema.now ≡ schema.now) × (view.info ≡ info) × (view.bytes.now ≡ bytes.now)) }
+        ensures only { (footer : StripeFooter) → HasFooter schema.now info bytes.now footer → MatchResult result (λ view. view.footer ≡ footer) (λ fault. fault ≡ OutOfMemory) }
+        ensures fault { IfErr result (OpenFault schema.now info bytes.now) }
+    {
+        let Some(room) = info.index_length.checked_add(info.data_length) else {
+            return Err(StripeFault::BadDirectory);
+        };
+        let Some(whole) = room.checked_add(info.footer_length) else {
+            return Err(StripeFault::BadDirectory);
+        };
+        if whole != bytes.len() as u64 {
+            return Err(StripeFault::BadDirectory);
+        }
+        let (_, text) = bytes.split_at(room as usize);
+        let footer = match StripeFooter::read(alloc, text) {
+            Ok(footer) => footer,
+            Err(fault) => return Err(wire_fault(fault)),
+        };
+        if !is_directory(schema.width(), room, footer.streams.as_slice()) {
+            return Err(StripeFault::BadDirectory);
+        }
+        match first_wrong(schema.types(), footer.columns.as_slice()) {
+            Some(column) => Err(StripeFault::BadEncoding(column)),
+            None => Ok(StripeView {
+                schema,
+                info,
+                stride,
+                bytes,
+                footer,
+            }),
+        }
+    }
+
+    /// The rows of the stripe. Their texts and bytes are slices of the stripe. No memory is set aside by
+    /// a number that was read.
+    ///
+    /// Refusals, each with the number of the column, and the kind of the stream where one is concerned:
+    /// `Run` where a stream has no such runs, or too few or too many of them; `NotUtf8` of a text;
+    /// `BadIndex` of an index that isn't below its dictionary's size; `LengthSum` where a stream of bytes
+    /// has another length than its LENGTHs say; `OutOfRange` of a number outside of its column's type;
+    /// `TooMany` of a column with more than 2,147,483,647 cells; and `OutOfMemory`. Which of several is
+    /// answered is open.
+    pub fn rows(&self, alloc: Global) -> Result<Vec<Row<'a>>, StripeFault>
+        ensures found { IfOk result (λ rows. SpellRows self.now.schema.now (columns_of self.now.footer self.now.bytes.now) self.now.info.number_of_rows (views rows.items)) }
+        ensures only { (rows : List Cell) → SpellRows self.now.schema.now (columns_of self.now.footer self.now.bytes.now) self.now.info.number_of_rows rows
+            → MatchResult result (λ answered. views answered.items ≡ rows) (λ fault. fault ≡ OutOfMemory) }
+    {
+        let tree = self.schema.tree();
+        let mut readers = Vec::new(alloc);
+        match put_tree(alloc, tree, &self.footer, self.bytes, &mut readers) {
+            Ok(()) => match all_rows(alloc, tree, &mut readers, self.info.number_of_rows) {
+                Ok(rows) => Ok(rows),
+                Err(fault) => Err(fault),
+            },
+            Err(fault) => Err(fault),
+        }
+    }
+}
