@@ -7,3 +7,7 @@ pub mod StreamLemmas
 pub mod ByteLemmas
 pub mod BitLemmas
 pub mod RoundTrips
+pub mod ShortRepeatLemmas
+pub mod DirectLemmas
+pub mod DeltaLemmas
+pub mod PatchedLemmas

@@ -7,7 +7,9 @@ mod codec;
 mod fault;
 mod run;
 mod sign;
+mod steps;
 mod v1;
+mod v2;
 mod values;
 
 pub use bit_runs::{BitRuns, bit_round_trip, bit_stream_laws};
@@ -17,6 +19,7 @@ pub use fault::RunFault;
 pub use run::Run;
 pub use sign::{Rle, Sign};
 pub use v1::{V1, run_one_laws};
+pub use v2::{V2, run_two_laws};
 
 #[cfg(test)]
 mod tests;

@@ -8,28 +8,8 @@ ghost use Rattle.orc_rle.specs.Cutting.{AppendsSteps};
 use crate::fault::RunFault;
 use crate::run::Run;
 use crate::sign::Sign;
+use crate::steps::push_steps;
 use crate::values::{put_value, read_values};
-
-/// Adds values after the first, each a step further. Answers whether all are in the sign's range.
-fn push_steps(run: &mut Run, first: i64, step: i8, more: usize, sign: Sign) -> bool
-    requires most { more < 512 }
-    requires start { run.old.values ≡ first ∷ [] }
-    requires in_range { InRange sign first }
-    ensures all { OnTrue result ((run.new.values ≡ progression first step (more + 1)) × AllInRange sign run.new.values) }
-    ensures none { OnFalse result (AllInRange sign (progression first step (more + 1)) → ⊥) }
-{
-    let mut last = first;
-    for _ in 0..more {
-        match last.checked_add(i64::from(step)) {
-            Some(next) if sign.holds(next) => {
-                run.push(next);
-                last = next;
-            }
-            _ => return false,
-        }
-    }
-    true
-}
 
 /// Reads a run of steps into an empty run; the two bytes of its header are given apart. Answers the
 /// number of bytes after them.
@@ -51,7 +31,7 @@ pub(crate) fn read_steps(
         return Err(RunFault::ValueRange(0));
     }
     let first = run.values()[0];
-    if !push_steps(run, first, step.cast_signed(), control as usize + 2, sign) {
+    if !push_steps(run, first, i64::from(step.cast_signed()), control as usize + 2, sign) {
         return Err(RunFault::ValueRange(0));
     }
     Ok(len)
