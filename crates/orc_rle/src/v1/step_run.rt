@@ -31,7 +31,13 @@ pub(crate) fn read_steps(
         return Err(RunFault::ValueRange(0));
     }
     let first = run.values()[0];
-    if !push_steps(run, first, i64::from(step.cast_signed()), control as usize + 2, sign) {
+    if !push_steps(
+        run,
+        first,
+        i64::from(step.cast_signed()),
+        control as usize + 2,
+        sign,
+    ) {
         return Err(RunFault::ValueRange(0));
     }
     Ok(len)

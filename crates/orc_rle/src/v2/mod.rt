@@ -13,6 +13,8 @@ mod header;
 mod patched;
 mod patches;
 mod short_repeat;
+#[cfg(test)]
+mod tests;
 
 use crate::fault::RunFault;
 use crate::run::Run;
