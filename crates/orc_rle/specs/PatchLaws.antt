@@ -1,6 +1,6 @@
 -- Laws of patches (ORC specification, "Integer Run Length Encoding, version 2", "Patched Base").
 -- Entries lead to one list of numbers or to one fault.
-use Rattle.std.proofs.Common.{ℕ, Bool, List, ◌≡◌, [], ◌∙◌, sym, ◌∷◌, false, inl, subst, arith, inr, ◌+◌, refl}
+use Rattle.std.proofs.Common.{ℕ, Bool, List, ◌≡◌, [], ◌∙◌, sym, ◌∷◌, false, inl, subst, arith, inr, ◌+◌, refl, length, ap, length-set}
 use Rattle.orc_rle.specs.declared.fault.RunFault.{RunFault}
 use Rattle.orc_rle.specs.declared.fault.RunFault.TheVariants.{PatchOrder, PatchPlace, PatchRange}
 use Rattle.orc_rle.specs.Patches.{ArePatched, NoPatch, IsPatch, IsOrdered, gap_of, NoPatches, put_patch}
@@ -51,3 +51,7 @@ pub patches_plain : (w pw : ℕ) (first : Bool) (from : ℕ) (es old : List ℕ)
 patches_plain w pw first from [] old fault p = absurd p
 patches_plain w pw first from (n ∷ es) old fault (inl p) = patch_plain w pw first from n old fault p
 patches_plain w pw first from (n ∷ es) old fault (inr p) = patches_plain w pw false (from + gap_of pw n) es (put_patch w pw from n old) fault p.1
+
+pub length-patched : (w pw : ℕ) (first : Bool) (from : ℕ) (es old new : List ℕ) → ArePatched w pw first from es old new → length new ≡ length old
+length-patched w pw first from [] old new p = ap length p
+length-patched w pw first from (e ∷ es) old new p = length-patched w pw false (from + gap_of pw e) es _ new p.1 ∙ length-set old (from + gap_of pw e) _

@@ -1,6 +1,6 @@
 -- Laws of patched runs (ORC specification, "Integer Run Length Encoding, version 2", "Patched Base").
 -- None begins another; where a fault of theirs applies there is none, nor another fault of theirs.
-use Rattle.std.proofs.Common.{List, ℕ, ℤ, ◌≡◌, ◌++◌, append_assoc, arith, length, sym, ◌∙◌, subst, refl, ap, ◌/◌, ◌+◌, ◌∷◌, ◌%◌, true, length-append, ◌≤◌, inl, inr, []}
+use Rattle.std.proofs.Common.{List, ℕ, ℤ, ◌≡◌, ◌++◌, append_assoc, arith, length, sym, ◌∙◌, subst, refl, ap, ◌/◌, ◌+◌, ◌∷◌, ◌%◌, true, length-append, ◌≤◌, inl, inr, [], suc}
 use Rattle.byteorder.specs.Endian.{big_number}
 use Rattle.orc_bits.proofs.PackedLaws.{same_length, one_packed}
 use Rattle.orc_bits.specs.Packed.{IsPacked}
@@ -10,8 +10,8 @@ use Rattle.orc_rle.specs.declared.fault.RunFault.TheVariants.{PatchRange}
 use Rattle.orc_rle.specs.FrontLaws.{both, after_one}
 use Rattle.orc_rle.specs.Header.{code_in, count_in}
 use Rattle.orc_rle.specs.OneLaws.{Same, parts_of}
-use Rattle.orc_rle.specs.PatchLaws.{one_list, no_patches, one_patches_fault, patches_plain}
-use Rattle.orc_rle.specs.Patched.{IsPatchedBody, patch_digits, sign_magnitude, IsPatched, LacksPatchedBody, NoPatched, BreaksPatches}
+use Rattle.orc_rle.specs.PatchLaws.{one_list, no_patches, one_patches_fault, patches_plain, length-patched}
+use Rattle.orc_rle.specs.Patched.{IsPatchedBody, patch_digits, sign_magnitude, IsPatched, LacksPatchedBody, NoPatched, BreaksPatches, raised}
 use Rattle.orc_rle.specs.Patches.{ArePatched, NoPatches}
 use Rattle.orc_rle.specs.PlainFaults.{IsPlain, short_plain, plain}
 
@@ -136,3 +136,12 @@ patched_plain head (low ∷ third ∷ []) fault p = short_plain fault p
 patched_plain head (low ∷ third ∷ fourth ∷ rest) fault (inl p) = plain fault (PatchRange 0) p.1 refl (λ h. absurd cc)
 patched_plain head (low ∷ third ∷ fourth ∷ rest) fault (inr (a, inl p)) = short_plain fault p.1
 patched_plain head (low ∷ third ∷ fourth ∷ rest) fault (inr (a, inr p)) = patches_plain (width_at (code_in head)) (width_at (third % 32)) true 0 p.entries p.numbers fault p.breaks
+
+pub length-raised : (base : ℤ) (ns : List ℕ) → length (raised base ns) ≡ length ns
+length-raised base [] = refl
+length-raised base (n ∷ ns) = ap suc (length-raised base ns)
+
+pub patched_some : (a : List ℕ) → IsPatched a [] → ⊥
+patched_some a p =
+    let len = length-patched (width_at (code_in p.head)) (width_at (p.third % 32)) true 0 p.entries p.numbers p.patched p.patches in
+    omega (arith, p.len, len, ap length p.values_are, length-raised p.base p.patched)

@@ -1,11 +1,13 @@
 -- Laws of the values of patched runs (ORC specification, "Integer Run Length Encoding, version 2", "Patched Base").
-use Rattle.std.proofs.Common.{ℕ, List, [], ◌∷◌, cond, eqb, ◌+◌, false, ◌≤◌, ◌≡◌, refl, arith, Bool, get_or, ◌^◌, ◌*◌, set, inl, ◌∙◌, inr, suc, take, ◌<◌, length, zero, true, sym, ℤ, pos, ◌+ℤ◌, ap, length-set, ◌%◌}
+use Rattle.std.proofs.Common.{ℕ, List, [], ◌∷◌, cond, eqb, ◌+◌, false, ◌≤◌, ◌≡◌, refl, arith, Bool, get_or, ◌^◌, ◌*◌, set, inl, ◌∙◌, inr, suc, take, ◌<◌, length, zero, true, sym, ℤ, pos, ◌+ℤ◌, length-set, ◌%◌, ap}
 use Rattle.std.proofs.lemmas.Bool.{ne_eqb, cases_eq, eq-eqb}
 use Rattle.std.proofs.lemmas.List.{get_or-set_same, get_or-set_other}
 use Rattle.std.proofs.lemmas.List.Sums.{sum_by-append}
 use Rattle.orc_bits.specs.Width.{width_at}
 use Rattle.orc_rle.specs.Header.{code_in}
+use Rattle.orc_rle.specs.PatchLaws.{length-patched}
 use Rattle.orc_rle.specs.Patched.{raised, IsPatched}
+use Rattle.orc_rle.specs.PatchedLaws.{length-raised}
 use Rattle.orc_rle.specs.PatchedValues.{place_of, IsPatchAt, PatchedValues, PatchPlaces}
 use Rattle.orc_rle.specs.Patches.{gap_of, patch_of, ArePatched, patched_at}
 
@@ -81,14 +83,6 @@ get_or-raised : (base : ℤ) (ns : List ℕ) (i : ℕ) → i < length (raised ba
 get_or-raised base [] i lt = absurd (omega (arith, lt))
 get_or-raised base (n ∷ ns) zero lt = refl
 get_or-raised base (n ∷ ns) (suc i) lt = get_or-raised base ns i (omega (arith, lt))
-
-length-raised : (base : ℤ) (ns : List ℕ) → length (raised base ns) ≡ length ns
-length-raised base [] = refl
-length-raised base (n ∷ ns) = ap suc (length-raised base ns)
-
-length-patched : (w pw : ℕ) (first : Bool) (from : ℕ) (es old new : List ℕ) → ArePatched w pw first from es old new → length new ≡ length old
-length-patched w pw first from [] old new p = ap length p
-length-patched w pw first from (e ∷ es) old new p = length-patched w pw false (from + gap_of pw e) es _ new p.1 ∙ length-set old (from + gap_of pw e) _
 
 place_within : (w pw : ℕ) (first : Bool) (from : ℕ) (es old new : List ℕ) (j : ℕ) → ArePatched w pw first from es old new → j < length es → from + place_of pw es j < length old
 place_within w pw first from [] old new j p lt = absurd (omega (arith, lt))

@@ -98,11 +98,13 @@ fn read_run(bytes: &[u8], sign: Sign, run: &mut Run) -> Result<usize, RunFault>
 }
 
 /// Laws of version 2: no run is a proper prefix of another, nor are its bytes a run of other values; a
-/// run has bytes; where a fault applies no run stands, nor another fault. Value i of a patched run is
-/// the base, number i, and 2^W times the patch at place i, which is 0 where no entry's place is i.
+/// run has bytes and values; where a fault applies no run stands, nor another fault. Value i of a
+/// patched run is the base, number i, and 2^W times the patch at place i, which is 0 where no entry's
+/// place is i; places are sums of gaps.
 pub fn run_two_laws()
     ensures prefix { (sign : Sign) (a b x y : List ℕ) (v w : List ℤ) → IsRunTwo sign a v → IsRunTwo sign b w → a ++ x ≡ b ++ y → (a ≡ b) × (v ≡ w) }
     ensures some { (sign : Sign) (v : List ℤ) → IsRunTwo sign [] v → ⊥ }
+    ensures some_values { (sign : Sign) (a : List ℕ) → IsRunTwo sign a [] → ⊥ }
     ensures none { (sign : Sign) (a x : List ℕ) (v : List ℤ) (fault : RunFault) → NoRunTwo sign (a ++ x) fault → IsRunTwo sign a v → ⊥ }
     ensures one_fault { (sign : Sign) (bytes : List ℕ) (e f : RunFault) → NoRunTwo sign bytes e → NoRunTwo sign bytes f → e ≡ f }
     ensures patched { (bytes : List ℕ) (values : List ℤ) (run : IsPatched bytes values) → PatchedValues run }
