@@ -11,3 +11,11 @@ pub mod ShortRepeatLemmas
 pub mod DirectLemmas
 pub mod DeltaLemmas
 pub mod PatchedLemmas
+pub mod WidthLemmas
+pub mod DeltaTextLemmas
+pub mod ChoiceLemmas
+pub mod EntryLemmas
+pub mod PatchWidthLemmas
+pub mod PlanLemmas
+pub mod PutLemmas
+pub mod EqualLemmas

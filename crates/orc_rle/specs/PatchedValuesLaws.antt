@@ -79,7 +79,7 @@ one_patch_at w pw es old new i patch p (inl entry) =
     rw there (patch_there w pw true 0 es old new entry.0 p entry.1 ∙ sym entry.3)
 one_patch_at w pw es old new i patch p (inr none) = patch_none pw 0 es i (λ j lt there. none.0 j lt (omega (arith, there))) ∙ sym none.1
 
-get_or-raised : (base : ℤ) (ns : List ℕ) (i : ℕ) → i < length (raised base ns) → get_or (raised base ns) i (pos 0) ≡ base +ℤ pos (get_or ns i 0)
+pub get_or-raised : (base : ℤ) (ns : List ℕ) (i : ℕ) → i < length ns → get_or (raised base ns) i (pos 0) ≡ base +ℤ pos (get_or ns i 0)
 get_or-raised base [] i lt = absurd (omega (arith, lt))
 get_or-raised base (n ∷ ns) zero lt = refl
 get_or-raised base (n ∷ ns) (suc i) lt = get_or-raised base ns i (omega (arith, lt))
@@ -108,7 +108,7 @@ patched_values bytes values run = λ i patch lt there.
     let pw = width_at (run.third % 32) in
     let number = patched_number w pw true 0 run.entries run.numbers run.patched i run.patches in
     let patch_is = one_patch_at w pw run.entries run.numbers run.patched i patch run.patches there in
-    let value = get_or-raised run.base run.patched i (omega (arith, lt, ap length run.values_are)) in
+    let value = get_or-raised run.base run.patched i (omega (arith, lt, ap length run.values_are, length-raised run.base run.patched)) in
     rw run.values_are (value ∙ ap (λ (n : ℕ). run.base +ℤ pos n) (number ∙ ap (λ (n : ℕ). get_or run.numbers i 0 + 2 ^ w * n) patch_is))
 
 pub patch_places : (bytes : List ℕ) (values : List ℤ) (run : IsPatched bytes values) → PatchPlaces run

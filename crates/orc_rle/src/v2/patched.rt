@@ -1,22 +1,30 @@
-ghost use Rattle.std.specs.Prelude.{◌≡◌, ◌<◌, ◌≤◌, ◌%◌, [], ◌∷◌, length, take, pos, ◌+ℤ◌, IfOk, IfErr, SomeIff};
+ghost use Rattle.std.specs.Prelude.{◌≡◌, ◌+◌, ◌-◌, ◌*◌, ◌%◌, ◌^◌, ◌<◌, ◌≤◌, [], ◌∷◌, ◌++◌, length, take, map, pos, ◌+ℤ◌, IfOk, IfErr, OnOk, OnErr, SomeIff};
 ghost use Rattle.std.specs.Bool.{OnTrue, OnFalse};
-ghost use Rattle.byteorder.specs.Endian.{big_number};
+ghost use Rattle.std.specs.List.{AllByRecursion};
+ghost use Rattle.byteorder.specs.Endian.{big_number, big_bytes};
 ghost use Rattle.orc_bits.specs.declared.fault.BitFault.TheVariants as bits;
-ghost use Rattle.orc_bits.specs.Width.{IsLeastWidth};
-ghost use Rattle.orc_rle.specs.Values.{InRange, AllInRange};
+ghost use Rattle.orc_bits.specs.Packed.{AppendsPacked};
+ghost use Rattle.orc_bits.specs.Width.{width_at, IsLeastWidth};
+ghost use Rattle.orc_rle.specs.declared.fault.RunFault.TheVariants.{OutOfMemory};
+ghost use Rattle.orc_rle.specs.Values.{InRange, AllInRange, AppendsBytes, Extends};
+ghost use Rattle.orc_rle.specs.Least.{IsLeast};
+ghost use Rattle.orc_rle.specs.Header.{header};
 ghost use Rattle.orc_rle.specs.Patched.{sign_magnitude, raised, patch_digits, IsPatchedBody, LacksPatchedBody};
 ghost use Rattle.orc_rle.specs.RunTwo.{IsRunTwo, NoRunTwo};
+ghost use Rattle.orc_rle.specs.PatchedText.{IsPatchedText, magnitude, signed_number};
+ghost use Rattle.orc_rle.specs.Planning.{IsPlan};
 
 use crate::fault::RunFault;
 use crate::run::{MOST_VALUES, Run};
 use crate::sign::Sign;
-use crate::v2::header::{length_in, width_in};
+use crate::v2::entries::{Entries, MOST_ENTRIES};
+use crate::v2::header::{length_in, put_header, width_in};
+use crate::v2::patch_widths::PatchWidths;
 use crate::v2::patches::apply_patches;
+use crate::v2::plan::{Plan, base_bytes};
+use crate::v2::width_choice::put_packed;
 use byteorder::{BigEndian, ByteOrder};
-use orc_bits::{BitFault, Width, fixed_at_least, unpack, width_of};
-
-/// A run has at most this many patch entries.
-const MOST_ENTRIES: usize = 31;
+use orc_bits::{BitFault, Width, code_of, fixed_at_least, unpack, width_of};
 
 /// The base in so many bytes, whose top digit is its sign.
 fn read_base(bytes: &[u8], size: usize) -> i64
@@ -156,4 +164,117 @@ pub(crate) fn read_patched(
         }
         _ => Err(RunFault::Short(0)),
     }
+}
+
+/// Appends the four bytes in front: the header, and the widths and numbers of base and entries. After a
+/// refusal two of them may be there.
+fn put_head(
+    widths: PatchWidths,
+    size: usize,
+    count: usize,
+    entry_count: usize,
+    out: &mut Vec<u8>,
+) -> Result<(), RunFault>
+    requires some { 1 ≤ count }
+    requires most { count ≤ 512 }
+    requires sized { 1 ≤ size }
+    requires size { size ≤ 8 }
+    requires gap { 1 ≤ widths.gap_digits }
+    requires gaps { widths.gap_digits ≤ 8 }
+    requires few { entry_count ≤ 31 }
+    ensures head { OnOk result (out.new.items ≡ out.old.items ++ (header 2 widths.width.code count
+        ++ (((size - 1) * 32 + widths.patch_width.code) ∷ ((widths.gap_digits - 1) * 32 + entry_count) ∷ []))) }
+    ensures refused { IfErr result (λ fault. fault ≡ OutOfMemory) }
+    ensures kept { OnErr result (Extends out.old.items out.new.items) }
+{
+    put_header(2, code_of(widths.width), count, out)?;
+    let third = (size as u8 - 1) * 32 + code_of(widths.patch_width);
+    let fourth = (widths.gap_digits as u8 - 1) * 32 + entry_count as u8;
+    out.extend_from_slice(&[third, fourth])?;
+    Ok(())
+}
+
+/// The number of a base in so many bytes: its sign is the top digit.
+fn signed_of(base: i64, size: usize) -> u64
+    requires size { IsLeast (λ n. (1 ≤ n) × (magnitude base < 2 ^ (8 * n - 1))) size }
+    requires most { size ≤ 8 }
+    ensures is { result ≡ signed_number size base }
+    ensures fits { result < 256 ^ size }
+{
+    let magnitude = base.unsigned_abs();
+    if base < 0 {
+        (1 << (8 * size - 1)) + magnitude
+    } else {
+        magnitude
+    }
+}
+
+/// Appends a base.
+fn put_base(base: i64, size: usize, out: &mut Vec<u8>) -> Result<(), RunFault>
+    requires size { IsLeast (λ n. (1 ≤ n) × (magnitude base < 2 ^ (8 * n - 1))) size }
+    requires most { size ≤ 8 }
+    ensures text { OnOk result (out.new.items ≡ out.old.items ++ big_bytes size (signed_number size base)) }
+    ensures refused { IfErr result (λ fault. fault ≡ OutOfMemory) }
+    ensures unchanged { OnErr result (out.new.items ≡ out.old.items) }
+{
+    let number = signed_of(base, size);
+    let mut text = [0; 8];
+    BigEndian::write_uint(&mut text, number, size);
+    out.extend_from_slice(&text[..size])?;
+    Ok(())
+}
+
+/// Keeps the lower digits of each number.
+fn keep_low(numbers: &mut [u64], digits: u32)
+    requires { digits < 64 }
+    ensures { numbers.new ≡ map (λ n. n % 2 ^ digits) numbers.old }
+{
+    for i in 0..numbers.len() {
+        numbers[i] %= 1 << digits;
+    }
+}
+
+/// Appends packed entries, each a gap above a patch.
+fn put_entries(
+    entries: &Entries,
+    digits: u32,
+    width: Width,
+    out: &mut Vec<u8>,
+) -> Result<(), RunFault>
+    requires digits { digits < 64 }
+    requires fit { AllByRecursion (λ e. e.0 * 2 ^ digits + e.1 < 2 ^ width_at width.code) entries.now.items }
+    ensures packed { OnOk result (AppendsPacked (width_at width.code) (map (λ e. e.0 * 2 ^ digits + e.1) entries.now.items) out.old.items out.new.items) }
+    ensures refused { IfErr result (λ fault. fault ≡ OutOfMemory) }
+    ensures unchanged { OnErr result (out.new.items ≡ out.old.items) }
+{
+    let mut places = [0; MOST_ENTRIES];
+    let numbers = &mut places[..entries.count()];
+    entries.fill_numbers(digits, numbers);
+    put_packed(numbers, width, out)
+}
+
+/// Appends the patched form of a chunk. After a refusal a front of it may be there.
+pub(crate) fn put_patched(
+    chunk: &[i64],
+    plan: Plan,
+    numbers: &mut [u64],
+    entries: &Entries,
+    out: &mut Vec<u8>,
+) -> Result<(), RunFault>
+    requires some { 1 ≤ length chunk.now }
+    requires most { length chunk.now ≤ 512 }
+    requires plan { IsPlan chunk.now numbers.old entries.now.items plan }
+    ensures text { OnOk result (AppendsBytes IsPatchedText chunk.now out.old.items out.new.items) }
+    ensures refused { IfErr result (λ fault. fault ≡ OutOfMemory) }
+    ensures kept { OnErr result (Extends out.old.items out.new.items) }
+{
+    let widths = plan.widths;
+    let size = base_bytes(plan.base);
+    let patch_digits = widths.patch_width.digits();
+    let entry_width = fixed_at_least(widths.gap_digits + patch_digits);
+    put_head(widths, size, chunk.len(), entries.count(), out)?;
+    put_base(plan.base, size, out)?;
+    keep_low(numbers, widths.width.digits());
+    put_packed(numbers, widths.width, out)?;
+    put_entries(entries, patch_digits, entry_width, out)
 }

@@ -1,10 +1,15 @@
-ghost use Rattle.std.specs.Prelude.{◌≡◌, ◌<◌, ◌≤◌, [], ◌∷◌, length, take, replicate, IfOk, IfErr};
+ghost use Rattle.std.specs.Prelude.{◌≡◌, ◌<◌, ◌≤◌, ◌^◌, [], ◌∷◌, length, take, replicate, IfOk, IfErr, OnOk, OnErr};
+ghost use Rattle.orc_rle.specs.declared.fault.RunFault.TheVariants.{OutOfMemory};
+ghost use Rattle.orc_rle.specs.Values.{InRange, AppendsBytes, Extends};
+ghost use Rattle.orc_rle.specs.Least.{IsLeast};
+ghost use Rattle.orc_rle.specs.RepeatText.{IsRepeatText};
 ghost use Rattle.orc_rle.specs.RunTwo.{IsRunTwo, NoRunTwo};
 
 use crate::fault::RunFault;
 use crate::run::Run;
 use crate::sign::Sign;
-use crate::values::value_of;
+use crate::v2::width_choice::digits_of;
+use crate::values::{number_of, value_of};
 use byteorder::{BigEndian, ByteOrder};
 
 /// Fills an empty run with one value so many times.
@@ -42,4 +47,31 @@ pub(crate) fn read_short_repeat(
     };
     push_copies(run, value, head % 8 + 3);
     Ok(size)
+}
+
+/// The least number of bytes that holds a number; 1 for 0.
+fn bytes_of(number: u64) -> usize
+    ensures least { IsLeast (λ size. (1 ≤ size) × (number < 256 ^ size)) result }
+    ensures most { result ≤ 8 }
+{
+    let digits = digits_of(number) as usize;
+    if digits == 0 { 1 } else { (digits + 7) / 8 }
+}
+
+/// Appends a short repeat. After a refusal its first byte may be there.
+pub(crate) fn put_repeat(value: i64, count: usize, sign: Sign, out: &mut Vec<u8>) -> Result<(), RunFault>
+    requires few { 3 ≤ count }
+    requires most { count ≤ 10 }
+    requires in_range { InRange sign value }
+    ensures text { OnOk result (AppendsBytes (IsRepeatText sign) (replicate count value) out.old.items out.new.items) }
+    ensures refused { IfErr result (λ fault. fault ≡ OutOfMemory) }
+    ensures kept { OnErr result (Extends out.old.items out.new.items) }
+{
+    let number = number_of(value, sign);
+    let size = bytes_of(number);
+    let mut text = [0; 8];
+    BigEndian::write_uint(&mut text, number, size);
+    out.push((8 * (size - 1) + (count - 3)) as u8)?;
+    out.extend_from_slice(&text[..size])?;
+    Ok(())
 }

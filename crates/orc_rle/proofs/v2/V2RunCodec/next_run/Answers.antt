@@ -3,7 +3,7 @@ use Rattle.orc_rle.specs.RunTwo.{IsRunTwo, NoRunTwo}
 use Rattle.orc_rle.specs.TwoLaws.{one_run_two, no_run_two, not_empty_two}
 use Rattle.orc_rle.proofs.RunLemmas.{found_only, found_refused, refused_none, some_len, fault_of}
 use Rattle.orc_rle.specs.TwoLaws.{one_run_two_fault, run_two_fault_plain}
-use Rattle.orc_rle.proofs.v2.V2.next_run.Goals as goal
+use Rattle.orc_rle.proofs.v2.V2RunCodec.next_run.Goals as goal
 
 pub returns-in-Ok-clause-only : goal.returns-in-Ok-clause-only
 returns-in-Ok-clause-only c =
