@@ -8,6 +8,9 @@ use std::process::Abort;
 mod bits;
 mod bytes;
 mod version_one;
+mod version_two;
+mod version_two_forms;
+mod version_two_texts;
 
 /// What a check answers, which is asked again where memory was refused once.
 fn with_memory<F: Fn() -> Result<(), RunFault>>(check: F) -> Result<(), RunFault>
@@ -42,6 +45,38 @@ fn in_range(values: &[i64], sign: Sign) -> bool
         }
     }
     true
+}
+
+/// Appends the text of the values to one byte, and tells whether it is the one that was wanted. After
+/// a refusal the byte has to stand alone.
+fn writes<C: RunCodec>(
+    alloc: Global,
+    values: &[i64],
+    sign: Sign,
+    text: &[u8],
+) -> Result<bool, RunFault> {
+    if !in_range(values, sign) {
+        return Ok(false);
+    }
+    let mut out = Vec::new(alloc);
+    out.push(0xaa)?;
+    match C::put_runs(values, sign, &mut out) {
+        Ok(()) => Ok(out[0] == 0xaa && &out[1..] == text),
+        Err(fault) if out.as_slice() == [0xaa].as_slice() => Err(fault),
+        Err(_) => Ok(false),
+    }
+}
+
+/// Whether the values that were written are decoded again.
+fn comes_back<C: RunCodec>(
+    alloc: Global,
+    values: &[i64],
+    sign: Sign,
+) -> Result<bool, RunFault> {
+    if !in_range(values, sign) {
+        return Ok(false);
+    }
+    agrees(round_trip::<C>(alloc, values, sign), Ok(values))
 }
 
 #[test]

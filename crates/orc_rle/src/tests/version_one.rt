@@ -1,4 +1,4 @@
-use super::{agrees, in_range, with_memory};
+use super::{agrees, comes_back, in_range, with_memory, writes};
 use crate::*;
 use RunFault::{BadVarint, Short, TooFew, TooMany, ValueRange};
 use Sign::{Signed, Unsigned};
@@ -197,29 +197,6 @@ fn check_counted(rt: &impl Abort, alloc: Global) -> Result<(), RunFault> {
     Ok(())
 }
 
-/// Appends the text of the values to one byte, and tells whether it is the one that was wanted. After
-/// a refusal the byte has to stand alone.
-fn writes(alloc: Global, values: &[i64], sign: Sign, text: &[u8]) -> Result<bool, RunFault> {
-    if !in_range(values, sign) {
-        return Ok(false);
-    }
-    let mut out = Vec::new(alloc);
-    out.push(0xaa)?;
-    match V1::put_runs(values, sign, &mut out) {
-        Ok(()) => Ok(out[0] == 0xaa && &out[1..] == text),
-        Err(fault) if out.as_slice() == [0xaa].as_slice() => Err(fault),
-        Err(_) => Ok(false),
-    }
-}
-
-/// Whether the values that were written are decoded again.
-fn comes_back(alloc: Global, values: &[i64], sign: Sign) -> Result<bool, RunFault> {
-    if !in_range(values, sign) {
-        return Ok(false);
-    }
-    agrees(round_trip::<V1>(alloc, values, sign), Ok(values))
-}
-
 #[test]
 fn values_are_written(rt: HostRuntime) {
     let answer = with_memory(|| check_texts(&rt, rt.alloc()));
@@ -228,8 +205,8 @@ fn values_are_written(rt: HostRuntime) {
 
 fn check_texts(rt: &impl Abort, alloc: Global) -> Result<(), RunFault> {
     for (sign, values, text) in TEXTS {
-        assert!(rt; writes(alloc, values, sign, text)?, "{values:?}");
-        assert!(rt; comes_back(alloc, values, sign)?, "{values:?} again");
+        assert!(rt; writes::<V1>(alloc, values, sign, text)?, "{values:?}");
+        assert!(rt; comes_back::<V1>(alloc, values, sign)?, "{values:?} again");
     }
     Ok(())
 }
@@ -243,7 +220,7 @@ fn writes_front(
     len: usize,
 ) -> Result<bool, RunFault> {
     match (values.get(..count), text.get(..len)) {
-        (Some(values), Some(text)) => writes(alloc, values, Unsigned, text),
+        (Some(values), Some(text)) => writes::<V1>(alloc, values, Unsigned, text),
         _ => Ok(false),
     }
 }

@@ -22,9 +22,6 @@ mod patches;
 mod plan;
 mod short_repeat;
 mod width_choice;
-#[cfg(test)]
-mod tests;
-
 use crate::codec::RunCodec;
 use crate::fault::RunFault;
 use crate::run::Run;

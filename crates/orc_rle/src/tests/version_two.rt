@@ -2,7 +2,7 @@ use crate::RunFault::{
     self, BadDelta, BadVarint, PatchOrder, PatchPlace, PatchRange, Short, ValueRange,
 };
 use crate::Sign::{self, Signed, Unsigned};
-use crate::{Run, V2};
+use crate::{Run, RunCodec, V2};
 
 /// Short repeats and direct runs, and their values.
 const PLAIN: [(Sign, &[u8], &[i64]); 18] = [
