@@ -3,7 +3,7 @@ use Rattle.std.proofs.Common.{ℕ, List, ◌≤◌, ◌<◌, ◌^◌, [], ◌∷
 use Rattle.std.proofs.Math.Nat.{pow-le-pow_right}
 use Rattle.std.proofs.lemmas.Bool.{lt-ltb, cases_lt, le-ltb}
 use Rattle.std.specs.List.{AllByRecursion}
-use Rattle.orc_bits.specs.Packed.{digits, AllFit}
+use Rattle.orc_bits.specs.Packed.{AllFit}
 use Rattle.orc_bits.specs.Width.{IsLeastWidth, width_at}
 use Rattle.orc_rle.specs.AlignedWidth.{IsAligned}
 use Rattle.orc_rle.specs.Least.{IsLeast}
@@ -38,7 +38,8 @@ none_count numbers code entries is wrong h =
     elim wrong [ inl e ↦ omega (arith, e, same, p.some) | inr more ↦ omega (arith, more, same, p.quarter) ]
 
 pub none_room : (numbers : List ℕ) (code patch_code gap_digits : ℕ) (entries : List (ℕ × ℕ)) → entries ≡ entries_of (width_at code) 0 numbers
-    → IsLeast (λ c. (c < 32) × AllByRecursion (λ e. e.1 < 2 ^ width_at c) entries) patch_code → IsLeast (λ k. (1 ≤ k) × AllByRecursion (λ e. e.0 < 2 ^ k) entries) gap_digits
+    → IsLeast (λ c. (c < 32) × AllByRecursion (λ e. e.1 < 2 ^ width_at c) entries) patch_code
+    → IsLeast (λ k. (1 ≤ k) × AllByRecursion (λ e. e.0 < 2 ^ k) entries) gap_digits
     → 64 < gap_digits + width_at patch_code → CanPatch numbers code → ⊥
 none_room numbers code patch_code gap_digits entries is patch gap more h =
     let p = h.3 in
@@ -63,7 +64,8 @@ none_widest numbers fit h =
     let none : h.0 ≡ [] = p.entries_are ∙ no_entries 0 numbers fit in
     omega (arith, p.some, ap (λ (t : List (ℕ × ℕ)). length t) none)
 
-pub none_later : (numbers : List ℕ) (code : ℕ) → 31 ≤ code → AllFit 63 numbers → ((other : ℕ) → other < code → CanPatch numbers other → ⊥) → (other : ℕ) → CanPatch numbers other → ⊥
+pub none_later : (numbers : List ℕ) (code : ℕ) → 31 ≤ code → AllFit 63 numbers → ((other : ℕ) → other < code → CanPatch numbers other → ⊥)
+    → (other : ℕ) → CanPatch numbers other → ⊥
 none_later numbers code le fit below other h =
     elim (cases_lt other 31) [
       | inl lt ↦ below other (omega (arith, lt, le)) h
@@ -98,7 +100,8 @@ gaps_small w gap (n ∷ ns) =
           rw (le-ltb n (2 ^ w) ge) (fit_join (reaching gap (n / 2 ^ w)) (entries_of w 1 ns) (fit_join (replicate ((gap - 1) / 255) filler) ((gap - 255 * ((gap - 1) / 255), n / 2 ^ w) ∷ []) (fillers_fit ((gap - 1) / 255)) (last, tt)) (gaps_small w 1 ns))
     ]
 
-pub gap_digits_few : (numbers : List ℕ) (code patch_code gap_digits : ℕ) (entries : List (ℕ × ℕ)) → ArePatches numbers code entries patch_code gap_digits → (1 ≤ gap_digits) × (gap_digits ≤ 8)
+pub gap_digits_few : (numbers : List ℕ) (code patch_code gap_digits : ℕ) (entries : List (ℕ × ℕ))
+    → ArePatches numbers code entries patch_code gap_digits → (1 ≤ gap_digits) × (gap_digits ≤ 8)
 gap_digits_few numbers code patch_code gap_digits entries p =
     let fit : AllByRecursion (λ e. e.0 < 2 ^ 8) entries = subst (λ (es : List (ℕ × ℕ)). AllByRecursion (λ e. e.0 < 2 ^ 8) es) (sym p.entries_are) (gaps_small (width_at code) 0 numbers) in
     (p.gap_width.is.0, p.gap_width.least 8 (omega arith, fit))

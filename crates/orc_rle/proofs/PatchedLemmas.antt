@@ -23,11 +23,14 @@ raised_out sign kept all base i numbers lt h out every =
     out (AllInRange-parts sign kept _ (rw (← g) at every)).1.0
 
 pub body_lacks : (head third fourth size count patches code : ℕ) (bytes : List ℕ) → IsLeastWidth (patch_digits third fourth) code → size ≡ third / 32 + 1
-    → length bytes < size + (packed_len (width_at (code_in head)) count + packed_len (width_at code) patches) → LacksPatchedBody head third fourth count patches bytes
+    → length bytes < size + (packed_len (width_at (code_in head)) count + packed_len (width_at code) patches)
+    → LacksPatchedBody head third fourth count patches bytes
 body_lacks head third fourth size count patches code bytes least is lt = record { code = code; least = least; few = omega (arith, lt, is) }
 
-pub body_is : (head third fourth size len more code : ℕ) (bytes numbers entries : List ℕ) (base : ℤ) → IsLeastWidth (patch_digits third fourth) code → size ≡ third / 32 + 1 → size ≤ length bytes
-    → base ≡ sign_magnitude size (big_number size bytes) → IsPacked (take len (drop size bytes)) (width_at (code_in head)) numbers → IsPacked (take more (drop len (drop size bytes))) (width_at code) entries
+pub body_is : (head third fourth size len more code : ℕ) (bytes numbers entries : List ℕ) (base : ℤ) → IsLeastWidth (patch_digits third fourth) code
+    → size ≡ third / 32 + 1 → size ≤ length bytes
+    → base ≡ sign_magnitude size (big_number size bytes) → IsPacked (take len (drop size bytes)) (width_at (code_in head)) numbers
+    → IsPacked (take more (drop len (drop size bytes))) (width_at code) entries
     → IsPatchedBody head third fourth (take (size + (len + more)) bytes) base numbers entries
 body_is head third fourth size len more code bytes numbers entries base least is le base-is p q = record {
   base_text = take size bytes;
@@ -43,12 +46,14 @@ body_is head third fourth size len more code bytes numbers entries base least is
 }
 
 -- a slice pattern with two bytes in front
-pub two_more : (bytes : List ℕ) (len : ℕ) → 1 < length bytes → take (len + 2) bytes ≡ get_or bytes 0 0 ∷ get_or bytes 1 0 ∷ take len (take (length bytes - 2) (drop 2 bytes))
+pub two_more : (bytes : List ℕ) (len : ℕ) → 1 < length bytes
+    → take (len + 2) bytes ≡ get_or bytes 0 0 ∷ get_or bytes 1 0 ∷ take len (take (length bytes - 2) (drop 2 bytes))
 two_more [] len lt = absurd (omega (arith, lt))
 two_more (b ∷ []) len lt = absurd (omega (arith, lt))
 two_more (b ∷ c ∷ bs) len lt = let e : len + 2 ≡ suc (suc len) = omega arith in rw (e, take_rest (b ∷ c ∷ bs) 2) refl
 
-patched_shape : (sign : Sign) (head low third fourth len : ℕ) (bytes numbers entries patched : List ℕ) (base : ℤ) → 128 ≤ head → head < 192 → patch_digits third fourth ≤ 64
+patched_shape : (sign : Sign) (head low third fourth len : ℕ) (bytes numbers entries patched : List ℕ) (base : ℤ) → 128 ≤ head → head < 192
+    → patch_digits third fourth ≤ 64
     → IsPatchedBody head third fourth (take len bytes) base numbers entries → length numbers ≡ count_in head low → length entries ≡ fourth % 32
     → ArePatched (width_at (code_in head)) (width_at (third % 32)) true 0 entries numbers patched
     → IsShapeTwo sign (head ∷ low ∷ third ∷ fourth ∷ take len bytes) (raised base patched)
@@ -73,14 +78,16 @@ patched_shape sign head low third fourth len bytes numbers entries patched base 
   bytes_are = refl;
 })))
 
-pub patched_is : (sign : Sign) (head low third fourth len : ℕ) (bytes numbers entries patched : List ℕ) (base : ℤ) (values : List ℤ) → 128 ≤ head → head < 192 → patch_digits third fourth ≤ 64
+pub patched_is : (sign : Sign) (head low third fourth len : ℕ) (bytes numbers entries patched : List ℕ) (base : ℤ) (values : List ℤ) → 128 ≤ head
+    → head < 192 → patch_digits third fourth ≤ 64
     → IsPatchedBody head third fourth (take len bytes) base numbers entries → length numbers ≡ count_in head low → length entries ≡ fourth % 32
     → ArePatched (width_at (code_in head)) (width_at (third % 32)) true 0 entries numbers patched
     → values ≡ raised base patched → AllInRange sign values → IsRunTwo sign (head ∷ low ∷ third ∷ fourth ∷ take len bytes) values
 patched_is sign head low third fourth len bytes numbers entries patched base values ge lt room is n m p e r =
     record { shape = rw e (patched_shape sign head low third fourth len bytes numbers entries patched base ge lt room is n m p); in_range = r }
 
-pub patched_out : (sign : Sign) (head low third fourth len : ℕ) (bytes numbers entries patched : List ℕ) (base : ℤ) → 128 ≤ head → head < 192 → patch_digits third fourth ≤ 64
+pub patched_out : (sign : Sign) (head low third fourth len : ℕ) (bytes numbers entries patched : List ℕ) (base : ℤ) → 128 ≤ head → head < 192
+    → patch_digits third fourth ≤ 64
     → IsPatchedBody head third fourth (take len bytes) base numbers entries → length numbers ≡ count_in head low → length entries ≡ fourth % 32
     → ArePatched (width_at (code_in head)) (width_at (third % 32)) true 0 entries numbers patched
     → (AllInRange sign (raised base patched) → ⊥) → NoRunTwo sign (head ∷ low ∷ third ∷ fourth ∷ bytes) (ValueRange 0)
@@ -96,7 +103,8 @@ patched_out sign head low third fourth len bytes numbers entries patched base ge
   refl,
 )
 
-pub patches_break : (sign : Sign) (head low third fourth len : ℕ) (bytes numbers entries : List ℕ) (base : ℤ) (fault : RunFault) → 128 ≤ head → head < 192 → patch_digits third fourth ≤ 64
+pub patches_break : (sign : Sign) (head low third fourth len : ℕ) (bytes numbers entries : List ℕ) (base : ℤ) (fault : RunFault) → 128 ≤ head
+    → head < 192 → patch_digits third fourth ≤ 64
     → IsPatchedBody head third fourth (take len bytes) base numbers entries → length numbers ≡ count_in head low → length entries ≡ fourth % 32
     → NoPatches (width_at (code_in head)) (width_at (third % 32)) true 0 entries numbers fault
     → NoRunTwo sign (head ∷ low ∷ third ∷ fourth ∷ bytes) fault

@@ -13,7 +13,8 @@ pub AllInRange-replicate : (sign : Sign) (v : ℤ) (n : ℕ) → InRange sign v 
 AllInRange-replicate sign v zero r = tt
 AllInRange-replicate sign v (suc n) r = (r, AllInRange-replicate sign v n r)
 
-pub repeat_shape : (sign : Sign) (head size number : ℕ) (rest : List ℕ) (v : ℤ) → head < 64 → size ≡ head / 8 + 1 → size ≤ length rest → number ≡ big_number size rest → Stands sign v number
+pub repeat_shape : (sign : Sign) (head size number : ℕ) (rest : List ℕ) (v : ℤ) → head < 64 → size ≡ head / 8 + 1 → size ≤ length rest
+    → number ≡ big_number size rest → Stands sign v number
     → IsShortRepeat sign (head ∷ take size rest) (replicate (head % 8 + 3) v)
 repeat_shape sign head size number rest v lt is le e s = record {
   head = head;
@@ -26,14 +27,16 @@ repeat_shape sign head size number rest v lt is le e s = record {
   bytes_are = refl;
 }
 
-pub repeat_is : (sign : Sign) (head size number : ℕ) (rest : List ℕ) (v : ℤ) (values : List ℤ) → head < 64 → size ≡ head / 8 + 1 → size ≤ length rest → number ≡ big_number size rest → Stands sign v number → InRange sign v
+pub repeat_is : (sign : Sign) (head size number : ℕ) (rest : List ℕ) (v : ℤ) (values : List ℤ) → head < 64 → size ≡ head / 8 + 1 → size ≤ length rest
+    → number ≡ big_number size rest → Stands sign v number → InRange sign v
     → values ≡ replicate (head % 8 + 3) v → IsRunTwo sign (head ∷ take size rest) values
 repeat_is sign head size number rest v values lt is le e s r values-are = record {
   shape = rw values-are (inl (repeat_shape sign head size number rest v lt is le e s));
   in_range = rw values-are (AllInRange-replicate sign v (head % 8 + 3) r);
 }
 
-pub repeat_out : (sign : Sign) (head size number : ℕ) (rest : List ℕ) (v : ℤ) → head < 64 → size ≡ head / 8 + 1 → size ≤ length rest → number ≡ big_number size rest → Stands sign v number → (InRange sign v → ⊥)
+pub repeat_out : (sign : Sign) (head size number : ℕ) (rest : List ℕ) (v : ℤ) → head < 64 → size ≡ head / 8 + 1 → size ≤ length rest
+    → number ≡ big_number size rest → Stands sign v number → (InRange sign v → ⊥)
     → NoRunTwo sign (head ∷ rest) (ValueRange 0)
 repeat_out sign head size number rest v lt is le e s out = inr (
   record {

@@ -81,4 +81,5 @@ NoPatched head (low ∷ []) fault = fault ≡ Short 0
 NoPatched head (low ∷ third ∷ []) fault = fault ≡ Short 0
 NoPatched head (low ∷ third ∷ fourth ∷ rest) fault =
     ((64 < patch_digits third fourth) × (fault ≡ PatchRange 0))
-    ⊎ ((patch_digits third fourth ≤ 64) × ((LacksPatchedBody head third fourth (count_in head low) (fourth % 32) rest × (fault ≡ Short 0)) ⊎ BreaksPatches head low third fourth rest fault))
+    ⊎ ((patch_digits third fourth ≤ 64)
+    × ((LacksPatchedBody head third fourth (count_in head low) (fourth % 32) rest × (fault ≡ Short 0)) ⊎ BreaksPatches head low third fourth rest fault))

@@ -29,7 +29,8 @@ parts_three a b c x = simp append_assoc
 pub same_width : (n c d : ℕ) → IsLeastWidth n c → IsLeastWidth n d → width_at c ≡ width_at d
 same_width n c d p q = let below = p.least d q.is q.holds in let above = q.least c p.is p.holds in omega (arith, below, above)
 
-both_bodies : (head third fourth : ℕ) (a b x y : List ℕ) (c d : ℤ) (ns ms es fs : List ℕ) → IsPatchedBody head third fourth a c ns es → IsPatchedBody head third fourth b d ms fs
+both_bodies : (head third fourth : ℕ) (a b x y : List ℕ) (c d : ℤ) (ns ms es fs : List ℕ) → IsPatchedBody head third fourth a c ns es
+    → IsPatchedBody head third fourth b d ms fs
     → length ns ≡ length ms → length es ≡ length fs → a ++ x ≡ b ++ y → SameBody a b x y c d ns ms es fs
 both_bodies head third fourth a b x y c d ns ms es fs p q n m e =
     let e' = sym (parts_three p.base_text p.number_text p.entry_text x)
@@ -73,14 +74,16 @@ both_patched a b x y v w p q e =
       values = p.values_are ∙ ((rw (t.base, patched) refl) ∙ sym q.values_are);
     }
 
-lacks_none : (head third fourth count patches : ℕ) (rest a x : List ℕ) (c : ℤ) (ns es : List ℕ) → LacksPatchedBody head third fourth count patches rest → IsPatchedBody head third fourth a c ns es
+lacks_none : (head third fourth count patches : ℕ) (rest a x : List ℕ) (c : ℤ) (ns es : List ℕ) → LacksPatchedBody head third fourth count patches rest
+    → IsPatchedBody head third fourth a c ns es
     → count ≡ length ns → patches ≡ length es → rest ≡ a ++ x → ⊥
 lacks_none head third fourth count patches rest a x c ns es m p n l e =
     let w = same_width (patch_digits third fourth) m.code p.code m.least p.least in
     let few = rw (n, l, w) at m.few in
     omega (arith, few, ap length e, length-append a x, ap length p.text_is, length-append p.base_text (p.number_text ++ p.entry_text), length-append p.number_text p.entry_text, p.base_len, p.packed.len, p.entries_packed.len)
 
-patched_none_at : (head low third fourth : ℕ) (rest a x : List ℕ) (c : ℤ) (ns es new : List ℕ) (fault : RunFault) → NoPatched head (low ∷ third ∷ fourth ∷ rest) fault
+patched_none_at : (head low third fourth : ℕ) (rest a x : List ℕ) (c : ℤ) (ns es new : List ℕ) (fault : RunFault)
+    → NoPatched head (low ∷ third ∷ fourth ∷ rest) fault
     → patch_digits third fourth ≤ 64 → IsPatchedBody head third fourth a c ns es → length ns ≡ count_in head low → length es ≡ fourth % 32
     → ArePatched (width_at (code_in head)) (width_at (third % 32)) true 0 es ns new → rest ≡ a ++ x → ⊥
 patched_none_at head low third fourth rest a x c ns es new fault (inl n) room p l m q e = omega (arith, n.0, room)
@@ -107,15 +110,18 @@ patched_none head (low ∷ third ∷ fourth ∷ rest) a x v fault n p e =
     let n4 = subst (λ (k : ℕ). NoPatched p.head (p.low ∷ p.third ∷ k ∷ rest) fault) j.0 n3 in
     patched_none_at p.head p.low p.third p.fourth rest p.text x p.base p.numbers p.entries p.patched fault n4 p.room p.is p.len p.entries_len p.patches j.1
 
-one_broken : (head low third fourth : ℕ) (rest : List ℕ) (e f : RunFault) → BreaksPatches head low third fourth rest e → BreaksPatches head low third fourth rest f → e ≡ f
+one_broken : (head low third fourth : ℕ) (rest : List ℕ) (e f : RunFault) → BreaksPatches head low third fourth rest e
+    → BreaksPatches head low third fourth rest f → e ≡ f
 one_broken head low third fourth rest e f p q =
     let t = both_bodies head third fourth p.text q.text p.more q.more p.base q.base p.numbers q.numbers p.entries q.entries p.is q.is (p.len ∙ sym q.len) (p.entries_len ∙ sym q.entries_len) (sym p.parts ∙ q.parts) in
     let breaks = subst (λ (k : List ℕ). NoPatches (width_at (code_in head)) (width_at (third % 32)) true 0 k p.numbers e) t.entries p.breaks in
     let breaks2 = subst (λ (k : List ℕ). NoPatches (width_at (code_in head)) (width_at (third % 32)) true 0 q.entries k e) t.numbers breaks in
     one_patches_fault (width_at (code_in head)) (width_at (third % 32)) true 0 q.entries q.numbers e f breaks2 q.breaks
 
-lacks_or_breaks : (head low third fourth : ℕ) (rest : List ℕ) (f : RunFault) → LacksPatchedBody head third fourth (count_in head low) (fourth % 32) rest → BreaksPatches head low third fourth rest f → ⊥
-lacks_or_breaks head low third fourth rest f p q = lacks_none head third fourth (count_in head low) (fourth % 32) rest q.text q.more q.base q.numbers q.entries p q.is (sym q.len) (sym q.entries_len) q.parts
+lacks_or_breaks : (head low third fourth : ℕ) (rest : List ℕ) (f : RunFault)
+    → LacksPatchedBody head third fourth (count_in head low) (fourth % 32) rest → BreaksPatches head low third fourth rest f → ⊥
+lacks_or_breaks head low third fourth rest f p q =
+    lacks_none head third fourth (count_in head low) (fourth % 32) rest q.text q.more q.base q.numbers q.entries p q.is (sym q.len) (sym q.entries_len) q.parts
 
 pub one_patched_fault : (head : ℕ) (rest : List ℕ) (e f : RunFault) → NoPatched head rest e → NoPatched head rest f → e ≡ f
 one_patched_fault head [] e f p q = p ∙ sym q
@@ -135,7 +141,8 @@ patched_plain head (low ∷ []) fault p = short_plain fault p
 patched_plain head (low ∷ third ∷ []) fault p = short_plain fault p
 patched_plain head (low ∷ third ∷ fourth ∷ rest) fault (inl p) = plain fault (PatchRange 0) p.1 refl (λ h. absurd cc)
 patched_plain head (low ∷ third ∷ fourth ∷ rest) fault (inr (a, inl p)) = short_plain fault p.1
-patched_plain head (low ∷ third ∷ fourth ∷ rest) fault (inr (a, inr p)) = patches_plain (width_at (code_in head)) (width_at (third % 32)) true 0 p.entries p.numbers fault p.breaks
+patched_plain head (low ∷ third ∷ fourth ∷ rest) fault (inr (a, inr p)) =
+    patches_plain (width_at (code_in head)) (width_at (third % 32)) true 0 p.entries p.numbers fault p.breaks
 
 pub length-raised : (base : ℤ) (ns : List ℕ) → length (raised base ns) ≡ length ns
 length-raised base [] = refl

@@ -2,15 +2,14 @@
 use Rattle.std.proofs.Common.{ℕ, ◌*◌, ◌^◌, ◌+◌, Bool, List, ◌<◌, length, get_or, false, set, ◌∷◌, ◌≡◌, sym, subst, true, [], zero, suc, map, replicate, ◌++◌, arith, refl, ap, ◌∙◌, ◌%◌, ◌-◌, ◌/◌, inl, inr, length-append, append_assoc, pow-add, ℤ, ◌≤◌, pos, negsuc}
 use Rattle.std.proofs.Math.Nat.{mod-le, mod-eq_of_lt, pow-suc}
 use Rattle.std.proofs.lemmas.Bool.{cases_lt, lt-ltb, le-ltb}
-use Rattle.std.proofs.lemmas.List.{set-get_or, map-append, append-nil}
+use Rattle.std.proofs.lemmas.List.{set-get_or, map-append, append-nil, length-map}
 use Rattle.std.proofs.lemmas.Nat.{shr_high, mod_low, pow_pos, shr_split}
 use Rattle.std.specs.List.{AllByRecursion}
 use Rattle.byteorder.specs.Endian.{big_number, big_bytes}
 use Rattle.byteorder.specs.Numbers.{big_number-reads_back, length-bytes_high_first}
-use Rattle.orc_bits.specs.Packed.{AllFit, digits, IsPacked}
+use Rattle.orc_bits.specs.Packed.{AllFit, IsPacked}
 use Rattle.orc_bits.specs.Width.{width_at, IsLeastWidth}
-use Rattle.orc_rle.specs.FrontLaws.{both}
-use Rattle.orc_rle.specs.LeastLaws.{code_of_header, count_of_header}
+use Rattle.orc_rle.specs.LeastLaws.{code_of_header, count_of_header, AllFit-wider}
 use Rattle.orc_rle.specs.Patched.{sign_magnitude, IsPatched, patch_digits}
 use Rattle.orc_rle.specs.PatchedLaws.{length-raised}
 use Rattle.orc_rle.specs.PatchedText.{IsPatchedText, reaching, entries_of, magnitude, signed_number}
@@ -21,7 +20,8 @@ entry_at pw e = e.0 * 2 ^ pw + e.1
 
 -- what is patched by one entry
 one_patch : (w pw gap patch from : ℕ) (first : Bool) (old new : List ℕ) (es : List ℕ) → patch < 2 ^ pw → IsOrdered first gap → from + gap < length old
-    → get_or old (from + gap) 0 + 2 ^ w * patch < 2 ^ 64 → ArePatched w pw false (from + gap) es (set old (from + gap) (get_or old (from + gap) 0 + 2 ^ w * patch)) new
+    → get_or old (from + gap) 0 + 2 ^ w * patch < 2 ^ 64
+    → ArePatched w pw false (from + gap) es (set old (from + gap) (get_or old (from + gap) 0 + 2 ^ w * patch)) new
     → ArePatched w pw first from ((gap * 2 ^ pw + patch) ∷ es) old new
 one_patch w pw gap patch from first old new es lt order place range rest =
     let g : gap ≡ gap_of pw (gap * 2 ^ pw + patch) = sym (shr_high gap pw patch lt) in
@@ -39,7 +39,7 @@ ordered : (first : Bool) (gap : ℕ) → 0 < gap → IsOrdered first gap
 ordered true gap some = tt
 ordered false gap some = some
 
-AllFit-get : (w : ℕ) (ns : List ℕ) (i : ℕ) → AllFit w ns → get_or ns i 0 < 2 ^ w
+pub AllFit-get : (w : ℕ) (ns : List ℕ) (i : ℕ) → AllFit w ns → get_or ns i 0 < 2 ^ w
 AllFit-get w [] i h = pow_pos w
 AllFit-get w (n ∷ ns) zero h = h.0
 AllFit-get w (n ∷ ns) (suc i) h = AllFit-get w ns i h.1
@@ -96,7 +96,8 @@ later_ordered first later gap e order =
     ]
 
 -- the entry that patches the number after the front
-reaches : (w pw gap from : ℕ) (first : Bool) (pre : List ℕ) (n : ℕ) (rest new es : List ℕ) → length pre ≡ from + gap → IsOrdered first gap → n / 2 ^ w < 2 ^ pw → n < 2 ^ 64 → AllFit 64 (pre ++ low w n ∷ rest)
+reaches : (w pw gap from : ℕ) (first : Bool) (pre : List ℕ) (n : ℕ) (rest new es : List ℕ) → length pre ≡ from + gap → IsOrdered first gap
+    → n / 2 ^ w < 2 ^ pw → n < 2 ^ 64 → AllFit 64 (pre ++ low w n ∷ rest)
     → ArePatched w pw false (length pre) es (pre ++ n ∷ rest) new
     → ArePatched w pw first from (map (entry_at pw) (reaching gap (n / 2 ^ w)) ++ es) (pre ++ low w n ∷ rest) new
 reaches w pw gap from first pre n rest new es len order fit small all more =
@@ -118,7 +119,8 @@ reaches w pw gap from first pre n rest new es len order fit small all more =
     (subst (λ (t : List ℕ). ArePatched w pw false (length pre) es t new) (sym set_is) more))))
 
 -- the entries of the numbers turn their lower digits into the numbers
-applied : (w pw gap from : ℕ) (first : Bool) (pre ns : List ℕ) → length pre ≡ from + gap → IsOrdered first gap → AllFit 64 pre → AllFit 64 ns → PatchesFit pw (entries_of w gap ns)
+applied : (w pw gap from : ℕ) (first : Bool) (pre ns : List ℕ) → length pre ≡ from + gap → IsOrdered first gap → AllFit 64 pre → AllFit 64 ns
+    → PatchesFit pw (entries_of w gap ns)
     → ArePatched w pw first from (map (entry_at pw) (entries_of w gap ns)) (pre ++ map (low w) ns) (pre ++ ns)
 applied w pw gap from first pre [] len order fp fn fits = refl
 applied w pw gap from first pre (n ∷ ns) len order fp fn fits =
@@ -141,14 +143,6 @@ applied w pw gap from first pre (n ∷ ns) len order fp fn fits =
           rw (le-ltb n (2 ^ w) ge, map-append (entry_at pw) (reaching gap (n / 2 ^ w)) (entries_of w 1 ns))
           (reaches w pw gap from first pre n (map (low w) ns) (pre ++ n ∷ ns) (map (entry_at pw) (entries_of w 1 ns)) len order last fn.0 all more)
     ]
-
-fit_wider : (ns : List ℕ) → AllFit 63 ns → AllFit 64 ns
-fit_wider [] h = tt
-fit_wider (n ∷ ns) h = (omega (arith, h.0), fit_wider ns h.1)
-
-length-mapped : {A : Type 0} (f : A → ℕ) (xs : List A) → length (map f xs) ≡ length xs
-length-mapped f [] = refl
-length-mapped f (x ∷ xs) = omega (arith, length-mapped f xs)
 
 pub pow_bytes : (n : ℕ) → 256 ^ n ≡ 2 ^ (8 * n)
 pow_bytes zero = refl
@@ -190,7 +184,7 @@ patched_is_run chunk text some most p =
     ap (big_number p.size) (sym (append-nil (big_bytes p.size (signed_number p.size p.base)))) ∙ big_number-reads_back p.size (signed_number p.size p.base) [] (signed_fits p.size p.base p.size_is.is.0 p.size_is.is.1) in
     let patched : ArePatched (width_at p.code) (width_at p.patch_code) true 0 (map (entry_at (width_at p.patch_code)) p.entries) (map (low (width_at p.code)) p.numbers) p.numbers =
     subst (λ (k : List (ℕ × ℕ)). ArePatched (width_at p.code) (width_at p.patch_code) true 0 (map (entry_at (width_at p.patch_code)) k) (map (low (width_at p.code)) p.numbers) p.numbers) (sym es.entries_are)
-    (applied (width_at p.code) (width_at p.patch_code) 0 0 true [] p.numbers refl tt tt (fit_wider p.numbers p.spread) (subst (λ (k : List (ℕ × ℕ)). PatchesFit (width_at p.patch_code) k) es.entries_are es.patch_width.is.1)) in
+    (applied (width_at p.code) (width_at p.patch_code) 0 0 true [] p.numbers refl tt tt (AllFit-wider 63 64 p.numbers (omega arith) p.spread) (subst (λ (k : List (ℕ × ℕ)). PatchesFit (width_at p.patch_code) k) es.entries_are es.patch_width.is.1)) in
     record {
       head = 64 * 2 + 2 * p.code + (length chunk - 1) / 256;
       low = (length chunk - 1) % 256;
@@ -216,8 +210,8 @@ patched_is_run chunk text some most p =
         entries_packed = p.patches_are.packed;
         text_is = refl;
       };
-      len = length-mapped (low (width_at p.code)) p.numbers ∙ (sym (length-raised p.base p.numbers) ∙ (sym (ap (λ (t : List ℤ). length t) p.above.values_are) ∙ sym count));
-      entries_len = length-mapped (entry_at (width_at p.patch_code)) p.entries ∙ sym fourth_count;
+      len = length-map p.numbers (low (width_at p.code)) ∙ (sym (length-raised p.base p.numbers) ∙ (sym (ap (λ (t : List ℤ). length t) p.above.values_are) ∙ sym count));
+      entries_len = length-map p.entries (entry_at (width_at p.patch_code)) ∙ sym fourth_count;
       patches = subst (λ (c : ℕ). ArePatched (width_at c) (width_at (((p.size - 1) * 32 + p.patch_code) % 32)) true 0 (map (entry_at (width_at p.patch_code)) p.entries) (map (low (width_at p.code)) p.numbers) p.numbers) (sym code)
           (subst (λ (c : ℕ). ArePatched (width_at p.code) (width_at c) true 0 (map (entry_at (width_at p.patch_code)) p.entries) (map (low (width_at p.code)) p.numbers) p.numbers) (sym third_code) patched);
       values_are = p.above.values_are;

@@ -25,7 +25,8 @@ none_before w pw from (e ∷ es) old new i p le =
     rw t (none_before w pw (from + gap_of pw e) es _ new i p.1 (omega (arith, le)))
 
 -- each number is the one there was, with the patch at its place above it
-patched_number : (w pw : ℕ) (first : Bool) (from : ℕ) (es old new : List ℕ) (i : ℕ) → ArePatched w pw first from es old new → get_or new i 0 ≡ get_or old i 0 + 2 ^ w * patch_at pw from es i
+patched_number : (w pw : ℕ) (first : Bool) (from : ℕ) (es old new : List ℕ) (i : ℕ) → ArePatched w pw first from es old new
+    → get_or new i 0 ≡ get_or old i 0 + 2 ^ w * patch_at pw from es i
 patched_number w pw first from [] old new i p = rw p (omega arith)
 patched_number w pw first from (e ∷ es) old new i p =
     let at = from + gap_of pw e in
@@ -84,7 +85,8 @@ get_or-raised base [] i lt = absurd (omega (arith, lt))
 get_or-raised base (n ∷ ns) zero lt = refl
 get_or-raised base (n ∷ ns) (suc i) lt = get_or-raised base ns i (omega (arith, lt))
 
-place_within : (w pw : ℕ) (first : Bool) (from : ℕ) (es old new : List ℕ) (j : ℕ) → ArePatched w pw first from es old new → j < length es → from + place_of pw es j < length old
+place_within : (w pw : ℕ) (first : Bool) (from : ℕ) (es old new : List ℕ) (j : ℕ) → ArePatched w pw first from es old new → j < length es
+    → from + place_of pw es j < length old
 place_within w pw first from [] old new j p lt = absurd (omega (arith, lt))
 place_within w pw first from (e ∷ es) old new zero p lt = omega (arith, p.0.place)
 place_within w pw first from (e ∷ es) old new (suc j) p lt =

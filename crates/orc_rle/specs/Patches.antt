@@ -51,10 +51,12 @@ pub record BreaksRange (w pw : ℕ) (first : Bool) (from entry : ℕ) (numbers :
   pub fault_is : fault ≡ PatchRange 0
 
 abbrev pub NoPatch : ℕ → ℕ → Bool → ℕ → ℕ → List ℕ → RunFault → Type 0
-NoPatch w pw first from entry numbers fault = BreaksOrder pw first entry fault ⊎ (BreaksPlace pw first from entry numbers fault ⊎ BreaksRange w pw first from entry numbers fault)
+NoPatch w pw first from entry numbers fault =
+    BreaksOrder pw first entry fault ⊎ (BreaksPlace pw first from entry numbers fault ⊎ BreaksRange w pw first from entry numbers fault)
 
 -- the fault of the first entry that can't be applied
 abbrev pub NoPatches : ℕ → ℕ → Bool → ℕ → List ℕ → List ℕ → RunFault → Type 0
 NoPatches w pw first from [] numbers fault = ⊥
 NoPatches w pw first from (e ∷ es) numbers fault =
-    NoPatch w pw first from e numbers fault ⊎ (IsPatch w pw first from e numbers × NoPatches w pw false (from + gap_of pw e) es (put_patch w pw from e numbers) fault)
+    NoPatch w pw first from e numbers fault
+    ⊎ (IsPatch w pw first from e numbers × NoPatches w pw false (from + gap_of pw e) es (put_patch w pw from e numbers) fault)

@@ -31,7 +31,10 @@ pub record HasShapeTwoOutOfRange (sign : Sign) (bytes : List ℕ) : Type 0 where
 abbrev pub NoShapeTwo : List ℕ → RunFault → Type 0
 NoShapeTwo [] fault = fault ≡ Short 0
 NoShapeTwo (head ∷ rest) fault =
-    ((head < 64) × NoRepeat head rest fault) ⊎ (((64 ≤ head) × (head < 128) × NoDirect head rest fault) ⊎ (((128 ≤ head) × (head < 192) × NoPatched head rest fault) ⊎ ((192 ≤ head) × NoDelta head rest fault)))
+    ((head < 64) × NoRepeat head rest fault)
+    ⊎ (((64 ≤ head) × (head < 128) × NoDirect head rest fault)
+    ⊎ (((128 ≤ head) × (head < 192) × NoPatched head rest fault)
+    ⊎ ((192 ≤ head) × NoDelta head rest fault)))
 
 -- the fault of bytes with no run in front; it is at the run's first byte
 abbrev pub NoRunTwo : Sign → List ℕ → RunFault → Type 0

@@ -28,7 +28,8 @@ piece_shape sign piece rest text (inr (cut, inr (inl p))) = inr (inl (direct_is_
 piece_shape sign piece rest text (inr (cut, inr (inr p))) = inr (inr (inl (patched_is_run piece text cut.few cut.many p.0)))
 
 -- what was written is a stream of the values
-pub written_two_is_stream : (sign : Sign) (values : List ℤ) (bytes : List ℕ) → IsWrittenTwo sign values bytes → AllInRange sign values → IsStream (IsRunTwo sign) bytes values
+pub written_two_is_stream : (sign : Sign) (values : List ℤ) (bytes : List ℕ) → IsWrittenTwo sign values bytes → AllInRange sign values
+    → IsStream (IsRunTwo sign) bytes values
 written_two_is_stream sign values bytes h r =
     written_is_stream (rule_two sign) (AllInRange sign) (IsRunTwo sign) (AllInRange-parts sign)
     (λ piece rest text is range. record { shape = piece_shape sign piece rest text is; in_range = range }) values bytes h r

@@ -68,11 +68,7 @@ fn writes<C: RunCodec>(
 }
 
 /// Whether the values that were written are decoded again.
-fn comes_back<C: RunCodec>(
-    alloc: Global,
-    values: &[i64],
-    sign: Sign,
-) -> Result<bool, RunFault> {
+fn comes_back<C: RunCodec>(alloc: Global, values: &[i64], sign: Sign) -> Result<bool, RunFault> {
     if !in_range(values, sign) {
         return Ok(false);
     }

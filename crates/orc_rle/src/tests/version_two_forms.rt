@@ -82,7 +82,11 @@ fn patched_len(list: &[i64]) -> Option<usize> {
         if let Some(entries) = entries_len(list, base, width) {
             let size = digits(base.unsigned_abs()) as usize / 8;
             let numbers = packed(list.len(), width);
-            return Some(size.saturating_add(numbers).saturating_add(entries).saturating_add(5));
+            return Some(
+                size.saturating_add(numbers)
+                    .saturating_add(entries)
+                    .saturating_add(5),
+            );
         }
     }
     None

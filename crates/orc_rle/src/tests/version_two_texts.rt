@@ -56,11 +56,7 @@ const TEXTS: [(Sign, &[i64], &[u8]); 17] = [
             0xff, 0xff, 0xff, 0xff, 0xfe,
         ],
     ),
-    (
-        Unsigned,
-        &[7; 513],
-        &[0xc1, 0xff, 7, 0, 0x46, 0, 0x70],
-    ),
+    (Unsigned, &[7; 513], &[0xc1, 0xff, 7, 0, 0x46, 0, 0x70]),
 ];
 
 #[test]

@@ -22,6 +22,7 @@ mod patches;
 mod plan;
 mod short_repeat;
 mod width_choice;
+
 use crate::codec::RunCodec;
 use crate::fault::RunFault;
 use crate::run::Run;

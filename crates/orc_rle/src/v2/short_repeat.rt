@@ -59,7 +59,12 @@ fn bytes_of(number: u64) -> usize
 }
 
 /// Appends a short repeat. After a refusal its first byte may be there.
-pub(crate) fn put_repeat(value: i64, count: usize, sign: Sign, out: &mut Vec<u8>) -> Result<(), RunFault>
+pub(crate) fn put_repeat(
+    value: i64,
+    count: usize,
+    sign: Sign,
+    out: &mut Vec<u8>,
+) -> Result<(), RunFault>
     requires few { 3 ≤ count }
     requires most { count ≤ 10 }
     requires in_range { InRange sign value }
