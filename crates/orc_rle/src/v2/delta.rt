@@ -40,7 +40,8 @@ fn push_even(run: &mut Run, number: u64, step: i64, count: usize, sign: Sign) ->
     requires some { 0 < count }
     requires most { count ≤ 512 }
     requires empty { run.old.values ≡ [] }
-    ensures all { OnTrue result ((first : ℤ) × Stands sign first number × (run.new.values ≡ progression first step count) × AllInRange sign run.new.values) }
+    ensures all { OnTrue result ((first : ℤ) × Stands sign first number
+        × (run.new.values ≡ progression first step count) × AllInRange sign run.new.values) }
     ensures none { OnFalse result ((first : ℤ) → Stands sign first number → AllInRange sign (progression first step count) → ⊥) }
 {
     let Some(first) = value_of(number, sign) else {
@@ -301,7 +302,8 @@ pub(crate) fn steps_of(chunk: &[i64], sizes: &mut [u64]) -> Steps
 pub(crate) fn delta_len(first: i64, steps: Steps, count: usize, sign: Sign) -> Option<usize>
     requires most { count ≤ 510 }
     requires in_range { InRange sign first }
-    ensures long { (chunk : List ℤ) (sizes : List ℕ) → length chunk - 2 ≡ count → get_or chunk 0 (pos 0) ≡ first → HasSteps chunk sizes steps → AreLong (IsDeltaText sign chunk) result }
+    ensures long { (chunk : List ℤ) (sizes : List ℕ) → length chunk - 2 ≡ count → get_or chunk 0 (pos 0) ≡ first
+        → HasSteps chunk sizes steps → AreLong (IsDeltaText sign chunk) result }
     ensures none { steps ≡ NoSteps → result ≡ None }
 {
     match steps {
