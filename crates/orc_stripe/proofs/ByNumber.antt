@@ -226,12 +226,12 @@ struct_column fs o x cs own below (suc c) lt = below.column c (omega (arith, lt)
 field_column : (name : List ℕ) (s : Shape) (fs : Fields) (x : ℕ → Streams) (structs : List (List Cell)) (n : ℕ) → SpellRows s x n (flat_map (take 1) structs) → FieldRows fs (λ c. x (width s + c)) (map (drop 1) structs)
     → (c : ℕ) → c < width s + widths fs → IsColumn (shape_within (field name s fs) c) (x c) (cells_within (field name s fs) c structs)
 field_column name s fs x structs n first others c lt = elim (cases_lt c (width s)) [
-    | inl below ↦ rw (lt-ltb c (width s) below) (first.column c below)
-    | inr past ↦
-        let e : width s + (c - width s) ≡ c = omega (arith, past) in
-        let k = others.column (c - width s) (omega (arith, past, lt)) in
-        rw (le-ltb c (width s) past) (subst (λ (d : ℕ). IsColumn (shape_within fs (c - width s)) (x d) (cells_within fs (c - width s) (map (drop 1) structs))) e k)
-  ]
+  | inl below ↦ rw (lt-ltb c (width s) below) (first.column c below)
+  | inr past ↦
+      let e : width s + (c - width s) ≡ c = omega (arith, past) in
+      let k = others.column (c - width s) (omega (arith, past, lt)) in
+      rw (le-ltb c (width s) past) (subst (λ (d : ℕ). IsColumn (shape_within fs (c - width s)) (x d) (cells_within fs (c - width s) (map (drop 1) structs))) e k)
+]
 
 mutual
   pub to_number : (s : Shape) (x : ℕ → Streams) (cs : List Cell) → length cs < 2 ^ 31 → SpellsCells s x cs → SpellRows s x (length cs) cs
@@ -327,7 +327,7 @@ mutual
       let l = are_lists s o cs r.fit in
       let e = joined_parts (values cs) in
       let below : SpellRows s (λ c. x (suc c)) (length (flat_map parts (values cs))) (flat_map parts (values cs)) =
-          record { counted = refl; fit = subst (RowsFit s) e l.fit; column = λ c lt. r.column (suc c) (omega (arith, lt)) } in
+      record { counted = refl; fit = subst (RowsFit s) e l.fit; column = λ c lt. r.column (suc c) (omega (arith, lt)) } in
       let inner = from_number s (λ c. x (suc c)) (length (flat_map parts (values cs))) (flat_map parts (values cs)) below in
       let few = few_cells s (λ c. x (suc c)) (length (flat_map parts (values cs))) (flat_map parts (values cs)) below in
       (own.marks, (map parts (values cs), l.stand, (rw (map_sizes (values cs)) own.spelled, (omega (arith, few, ap length e), subst (SpellsCells s (λ c. x (suc c))) (sym e) inner))))

@@ -104,7 +104,7 @@ mutual
   one_tree (scalar k o) x = one_scalar k (x 0)
   one_tree (list_of s o) x = one_standings IsList (Grouped (AreNumbers (version (x 0)) Unsigned ((x 0).stream 2)) (Within most_cells (SpellsCells s (λ c. x (suc c))))) one_list
       (one_grouped (AreNumbers (version (x 0)) Unsigned ((x 0).stream 2)) (Within most_cells (SpellsCells s (λ c. x (suc c)))) (one_numbers (version (x 0)) Unsigned ((x 0).stream 2))
-       (one_within most_cells (SpellsCells s (λ c. x (suc c))) (one_nullable (Marks ((x 1).stream 0)) (SpellsTree s (λ c. x (suc c))) (one_marks ((x 1).stream 0)) (one_tree s (λ c. x (suc c))))))
+      (one_within most_cells (SpellsCells s (λ c. x (suc c))) (one_nullable (Marks ((x 1).stream 0)) (SpellsTree s (λ c. x (suc c))) (one_marks ((x 1).stream 0)) (one_tree s (λ c. x (suc c))))))
   one_tree (struct_of fs o) x = one_standings IsRecord (SpellsFields fs (λ c. x (suc c))) one_record (one_fields fs (λ c. x (suc c)))
 
   one_fields : (fs : Fields) (x : ℕ → Streams) → One (SpellsFields fs x)

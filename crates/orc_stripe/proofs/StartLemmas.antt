@@ -138,8 +138,8 @@ mutual
   tree_alike (list_of s o) x (r ∷ rs) h =
       nullable_alike (MarksLeft r.present) (Marks ((x 0).stream 0)) (ValuesLeft (list_of s o) r.source rs) (SpellsTree (list_of s o) x) (marks_alike ((x 0).stream 0) r.present h.0.0)
       (standing_alike IsList (Grouped (NumbersLeft r.source.numbers) (Within r.source.room (CellsLeft s rs))) (Grouped (AreNumbers (version (x 0)) Unsigned ((x 0).stream 2)) (Within most_cells (SpellsCells s (λ c. x (suc c)))))
-       (grouped_alike (NumbersLeft r.source.numbers) (AreNumbers (version (x 0)) Unsigned ((x 0).stream 2)) (Within r.source.room (CellsLeft s rs)) (Within most_cells (SpellsCells s (λ c. x (suc c))))
-        (numbers_alike (version (x 0)) Unsigned ((x 0).stream 2) r.source.numbers h.0.1.0) (within_alike r.source.room most_cells (CellsLeft s rs) (SpellsCells s (λ c. x (suc c))) h.0.1.1 (tree_alike s (λ c. x (suc c)) rs h.1))))
+      (grouped_alike (NumbersLeft r.source.numbers) (AreNumbers (version (x 0)) Unsigned ((x 0).stream 2)) (Within r.source.room (CellsLeft s rs)) (Within most_cells (SpellsCells s (λ c. x (suc c))))
+      (numbers_alike (version (x 0)) Unsigned ((x 0).stream 2) r.source.numbers h.0.1.0) (within_alike r.source.room most_cells (CellsLeft s rs) (SpellsCells s (λ c. x (suc c))) h.0.1.1 (tree_alike s (λ c. x (suc c)) rs h.1))))
   tree_alike (struct_of fs o) x (r ∷ rs) h =
       nullable_alike (MarksLeft r.present) (Marks ((x 0).stream 0)) (ValuesLeft (struct_of fs o) r.source rs) (SpellsTree (struct_of fs o) x) (marks_alike ((x 0).stream 0) r.present h.0.0)
       (standing_alike IsRecord (FieldsLeft fs rs) (SpellsFields fs (λ c. x (suc c))) (fields_alike fs (λ c. x (suc c)) rs h.1))

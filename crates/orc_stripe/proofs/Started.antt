@@ -51,8 +51,10 @@ put_list f b s e o old mid new own is m h p = record {
   more = own ∷ p.more;
   parts = behind_own old own mid p.more new m p.parts;
   counted = let n : width s ≡ 1 + width e = ap width is in omega (arith, p.counted, n);
-  start = rw is (own_first f b (length old) (list_of e o) own (subst (λ t. OwnStart t (columns_of f b (length old)) own) is h),
-    subst (λ x. TreeStart e x p.more) (sym (from_next f b (length old) (length mid) (pushed old own mid m))) p.start);
+  start = rw is (
+    own_first f b (length old) (list_of e o) own (subst (λ t. OwnStart t (columns_of f b (length old)) own) is h),
+    subst (λ x. TreeStart e x p.more) (sym (from_next f b (length old) (length mid) (pushed old own mid m))) p.start,
+  );
 }
 
 pub put_struct : (f : StripeFooter) (b : List ℕ) (s : Shape) (fs : Fields) (o : List ℕ) (old mid new : List ColumnReader) (own : ColumnReader) → s ≡ struct_of fs o → mid ≡ old ++ own ∷ [] → OwnStart s (columns_of f b (length old)) own → PutsFields f b fs mid new
@@ -61,8 +63,10 @@ put_struct f b s fs o old mid new own is m h p = record {
   more = own ∷ p.more;
   parts = behind_own old own mid p.more new m p.parts;
   counted = let n : width s ≡ 1 + widths fs = ap width is in omega (arith, p.counted, n);
-  start = rw is (own_first f b (length old) (struct_of fs o) own (subst (λ t. OwnStart t (columns_of f b (length old)) own) is h),
-    subst (λ x. FieldsStart fs x p.more) (sym (from_next f b (length old) (length mid) (pushed old own mid m))) p.start);
+  start = rw is (
+    own_first f b (length old) (struct_of fs o) own (subst (λ t. OwnStart t (columns_of f b (length old)) own) is h),
+    subst (λ x. FieldsStart fs x p.more) (sym (from_next f b (length old) (length mid) (pushed old own mid m))) p.start,
+  );
 }
 
 pub put_none : (f : StripeFooter) (b : List ℕ) (fs : Fields) (old : List ColumnReader) → fs ≡ no_field → PutsFields f b fs old old
@@ -77,9 +81,11 @@ put_more f b all name s fs old mid new is p q =
       more = p.more ++ q.more;
       parts = q.parts ∙ ap (λ t. t ++ q.more) p.parts ∙ append_assoc old p.more q.more;
       counted = length-append p.more q.more ∙ ap (λ k. k + length q.more) p.counted ∙ ap (λ k. width s + k) q.counted ∙ sym (ap widths is);
-      start = rw is (subst (λ rs. TreeStart s (columns_from f b (length old)) rs) (sym t) p.start,
+      start = rw is (
+        subst (λ rs. TreeStart s (columns_from f b (length old)) rs) (sym t) p.start,
         subst (λ rs. FieldsStart fs (λ c. columns_from f b (length old) (width s + c)) rs) (sym d)
-        (subst (λ x. FieldsStart fs x q.more) (sym (from_more f b (length old) (width s) (length mid) l)) q.start));
+            (subst (λ x. FieldsStart fs x q.more) (sym (from_more f b (length old) (width s) (length mid) l)) q.start),
+      );
     }
 
 -- ---- no readers, no cells

@@ -31,7 +31,12 @@ pub(crate) fn entries_of<'a>(
     let mut octets = Octets { rest: bytes };
     let mut entries = Vec::new(alloc);
     for taken in 0..size {
-        match next_group(column, StreamKind::DictionaryData, &mut numbers, &mut octets) {
+        match next_group(
+            column,
+            StreamKind::DictionaryData,
+            &mut numbers,
+            &mut octets,
+        ) {
             Ok(bytes) => entries.push(Entry { bytes })?,
             Err(fault) => return Err(fault),
         }

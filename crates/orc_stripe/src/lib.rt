@@ -20,3 +20,6 @@ mod view;
 pub use fault::{StreamKind, StripeFault};
 pub use laws::column_laws;
 pub use view::StripeView;
+
+#[cfg(test)]
+mod tests;

@@ -48,6 +48,6 @@ invariant_of-result c =
     let f : first_wrong 0 (types c.args.schema.now 0) c.in-Ok.footer.columns ≡ None = search rules in
     record {
       room = room_more (c.args.info.index_length + c.args.info.data_length) (length c.args.bytes.now) c.in-Ok.footer.streams (omega (arith, w))
-        (directory_room (width c.args.schema.now) (c.args.info.index_length + c.args.info.data_length) c.in-Ok.footer.streams d);
+          (directory_room (width c.args.schema.now) (c.args.info.index_length + c.args.info.data_length) c.in-Ok.footer.streams d);
       columns = encodings_there c.args.schema.now c.in-Ok.footer.columns f;
     }

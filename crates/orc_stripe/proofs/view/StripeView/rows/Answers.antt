@@ -40,5 +40,5 @@ returns-clause-only c = λ rows h.
     let x = columns_of v.footer v.bytes.now in
     let s = c.tree-tree.ensures.same in
     only_memory c.in-Err.fault (λ other.
-      c.in-Err.ensures.none other rows (none_put v.footer v.bytes.now (shape c.tree-tree.result.now) c.new-readers.result.items rows c.new-readers.ensures.items
-        (subst (λ t. SpellsCells t x rows) (sym s) (from_number v.schema.now x v.info.number_of_rows rows h))))
+    c.in-Err.ensures.none other rows (none_put v.footer v.bytes.now (shape c.tree-tree.result.now) c.new-readers.result.items rows c.new-readers.ensures.items
+    (subst (λ t. SpellsCells t x rows) (sym s) (from_number v.schema.now x v.info.number_of_rows rows h))))

@@ -1,0 +1,217 @@
+use crate::*;
+use orc_rle::RunFault;
+use orc_types::{Schema, fits, row_to_json};
+use orc_wire::StripeInfo;
+use std::alloc::Global;
+use std::process::Abort;
+
+/// A stripe without an index: the text of its schema, its data, its footer and its number of rows; and
+/// the lines that its rows print as, or why it has none.
+type Case = (
+    &'static str,
+    &'static [u8],
+    &'static [u8],
+    u64,
+    Result<&'static [&'static str], StripeFault>,
+);
+
+/// DATA of column 1 with three bytes, both columns DIRECT.
+const THREE_BYTES: [u8; 16] = [
+    0x0a, 0x06, 0x08, 0x01, 0x10, 0x01, 0x18, 0x03, 0x12, 0x02, 0x08, 0x00, 0x12, 0x02, 0x08, 0x00,
+];
+
+/// DATA, LENGTH and DICTIONARY_DATA of a column of texts with one entry.
+const ONE_WORD: [u8; 34] = [
+    0x0a, 0x06, 0x08, 0x01, 0x10, 0x01, 0x18, 0x03, 0x0a, 0x06, 0x08, 0x02, 0x10, 0x01, 0x18, 0x02,
+    0x0a, 0x06, 0x08, 0x03, 0x10, 0x01, 0x18, 0x01, 0x12, 0x02, 0x08, 0x00, 0x12, 0x04, 0x08, 0x01,
+    0x10, 0x01,
+];
+
+/// PRESENT and DATA of column 1, which is DIRECT_V2.
+const NINE_NUMBERS: [u8; 24] = [
+    0x0a, 0x06, 0x08, 0x00, 0x10, 0x01, 0x18, 0x03, 0x0a, 0x06, 0x08, 0x01, 0x10, 0x01, 0x18, 0x02,
+    0x12, 0x02, 0x08, 0x00, 0x12, 0x02, 0x08, 0x02,
+];
+
+/// A struct in a struct: PRESENT of both columns, DATA of the inner one.
+const INNER: [u8; 36] = [
+    0x0a, 0x06, 0x08, 0x00, 0x10, 0x01, 0x18, 0x02, 0x0a, 0x06, 0x08, 0x00, 0x10, 0x02, 0x18, 0x02,
+    0x0a, 0x06, 0x08, 0x01, 0x10, 0x02, 0x18, 0x03, 0x12, 0x02, 0x08, 0x00, 0x12, 0x02, 0x08, 0x00,
+    0x12, 0x02, 0x08, 0x02,
+];
+
+/// Lists of lists: PRESENT and LENGTH of both, DATA of the numbers.
+const LISTS: [u8; 56] = [
+    0x0a, 0x06, 0x08, 0x00, 0x10, 0x01, 0x18, 0x02, 0x0a, 0x06, 0x08, 0x02, 0x10, 0x01, 0x18, 0x05,
+    0x0a, 0x06, 0x08, 0x00, 0x10, 0x02, 0x18, 0x02, 0x0a, 0x06, 0x08, 0x02, 0x10, 0x02, 0x18, 0x05,
+    0x0a, 0x06, 0x08, 0x01, 0x10, 0x03, 0x18, 0x03, 0x12, 0x02, 0x08, 0x00, 0x12, 0x02, 0x08, 0x00,
+    0x12, 0x02, 0x08, 0x00, 0x12, 0x02, 0x08, 0x00,
+];
+
+const CASES: [Case; 12] = [
+    (
+        "struct<n:bigint>",
+        &[0x00, 0x00, 0x0e],
+        &THREE_BYTES,
+        3,
+        Ok(&[r#"{"n":7}"#, r#"{"n":7}"#, r#"{"n":7}"#]),
+    ),
+    (
+        "struct<n:bigint>",
+        &[0x00, 0x00, 0x0e],
+        &THREE_BYTES,
+        2,
+        Err(StripeFault::Run(1, StreamKind::Data, RunFault::TooMany(0))),
+    ),
+    (
+        "struct<n:bigint>",
+        &[0x00, 0x00],
+        &THREE_BYTES,
+        3,
+        Err(StripeFault::BadDirectory),
+    ),
+    (
+        "struct<n:tinyint>",
+        &[0xfe, 0x80, 0x7f],
+        &THREE_BYTES,
+        2,
+        Ok(&[r#"{"n":-128}"#, r#"{"n":127}"#]),
+    ),
+    (
+        "struct<n:smallint>",
+        &[0x00, 0x00, 0x0e],
+        &ONE_WORD,
+        3,
+        Err(StripeFault::BadDirectory),
+    ),
+    (
+        "struct<s:string>",
+        &[0xfe, 0x00, 0x00, 0xff, 0x01, 0x61],
+        &ONE_WORD,
+        2,
+        Ok(&[r#"{"s":"a"}"#, r#"{"s":"a"}"#]),
+    ),
+    (
+        "struct<s:string>",
+        &[0xfe, 0x00, 0x01, 0xff, 0x01, 0x61],
+        &ONE_WORD,
+        2,
+        Err(StripeFault::BadIndex(1)),
+    ),
+    (
+        "struct<s:binary>",
+        &[0xfe, 0x00, 0x00, 0xff, 0x01, 0x61],
+        &ONE_WORD,
+        2,
+        Err(StripeFault::BadEncoding(1)),
+    ),
+    (
+        "struct<n:int>",
+        &[0xfe, 0xef, 0x80, 0x05, 0x0a],
+        &NINE_NUMBERS,
+        9,
+        Ok(&NINE_LINES),
+    ),
+    (
+        "struct<n:int>",
+        &[0xfe, 0xef, 0xff, 0x05, 0x0a],
+        &NINE_NUMBERS,
+        9,
+        Ok(&NINE_LINES),
+    ),
+    (
+        "struct<s:struct<n:int>>",
+        &[0xff, 0xa0, 0xff, 0x80, 0x42, 0x00, 0x80],
+        &INNER,
+        3,
+        Ok(&[r#"{"s":{"n":1}}"#, r#"{"s":null}"#, r#"{"s":{"n":null}}"#]),
+    ),
+    (
+        "struct<a:array<array<int>>>",
+        &[
+            0xff, 0xb8, 0xfc, 0x02, 0x00, 0x02, 0x01, 0xff, 0xd8, 0xfc, 0x02, 0x00, 0x01, 0x03,
+            0x03, 0x01, 0x02,
+        ],
+        &LISTS,
+        5,
+        Ok(&[
+            r#"{"a":[[1,2],[]]}"#,
+            r#"{"a":null}"#,
+            r#"{"a":[]}"#,
+            r#"{"a":[null,[3]]}"#,
+            r#"{"a":[[4,5,6]]}"#,
+        ]),
+    ),
+];
+
+/// The fourth of nine fives is null.
+const NINE_LINES: [&'static str; 9] = [
+    r#"{"n":5}"#,
+    r#"{"n":5}"#,
+    r#"{"n":5}"#,
+    r#"{"n":null}"#,
+    r#"{"n":5}"#,
+    r#"{"n":5}"#,
+    r#"{"n":5}"#,
+    r#"{"n":5}"#,
+    r#"{"n":5}"#,
+];
+
+/// The lines that the rows of a stripe print as.
+fn lines_of(alloc: Global, case: &Case) -> Result<Vec<String>, StripeFault> {
+    let (text, data, footer, rows, _) = case;
+    let Ok(schema) = Schema::parse(alloc, text) else {
+        return Err(StripeFault::OutOfMemory);
+    };
+    let mut bytes = Vec::new(alloc);
+    bytes.extend_from_slice(data)?;
+    bytes.extend_from_slice(footer)?;
+    let info = StripeInfo {
+        offset: 3,
+        index_length: 0,
+        data_length: data.len() as u64,
+        footer_length: footer.len() as u64,
+        number_of_rows: *rows,
+    };
+    let view = StripeView::open(alloc, &schema, info, 0, &bytes)?;
+    let mut lines = Vec::new(alloc);
+    for row in view.rows(alloc)? {
+        if !fits(&schema, &row) {
+            return Err(StripeFault::BadDirectory);
+        }
+        let Ok(json) = row_to_json(alloc, &schema, &row) else {
+            return Err(StripeFault::OutOfMemory);
+        };
+        lines.push(json.to_string(alloc)?)?;
+    }
+    Ok(lines)
+}
+
+/// Each stripe has its lines, or is refused so.
+fn check_cases(rt: &impl Abort, alloc: Global) -> Result<(), StripeFault> {
+    for case in &CASES {
+        match (lines_of(alloc, case), case.4) {
+            (Err(StripeFault::OutOfMemory), _) => return Err(StripeFault::OutOfMemory),
+            (Ok(lines), Ok(wanted)) => {
+                assert_eq!(rt; lines.len(), wanted.len(), "{}", case.0);
+                for (line, text) in lines.iter().zip(wanted) {
+                    assert_eq!(rt; line.as_str(), *text);
+                }
+            }
+            (Err(fault), Err(wanted)) => assert_eq!(rt; fault, wanted, "{}", case.0),
+            (_, _) => assert!(rt; false, "{}", case.0),
+        }
+    }
+    Ok(())
+}
+
+#[test]
+fn stripes(rt: HostRuntime) {
+    let alloc = rt.alloc();
+    let tried = check_cases(&rt, alloc);
+    if tried == Err(StripeFault::OutOfMemory) {
+        assert_eq!(rt; check_cases(&rt, alloc), Ok(()), "once memory is there");
+    } else {
+        assert_eq!(rt; tried, Ok(()));
+    }
+}
