@@ -77,31 +77,3 @@ none_unaligned numbers code no_width h = no_width h.3.aligned
 
 pub least_code : (numbers : List ℕ) (code : ℕ) → ((other : ℕ) → other < code → CanPatch numbers other → ⊥) → (other : ℕ) → CanPatch numbers other → code ≤ other
 least_code numbers code below other h = elim (cases_lt other code) [ inl lt ↦ absurd (below other lt h) | inr ge ↦ ge ]
-
--- gaps are cut, so they fit a byte
-fit_join : (a b : List (ℕ × ℕ)) → AllByRecursion (λ e. e.0 < 2 ^ 8) a → AllByRecursion (λ e. e.0 < 2 ^ 8) b → AllByRecursion (λ e. e.0 < 2 ^ 8) (a ++ b)
-fit_join [] b p q = q
-fit_join (x ∷ a) b p q = (p.0, fit_join a b p.1 q)
-
-abbrev filler : ℕ × ℕ
-filler = (255, 0)
-
-fillers_fit : (k : ℕ) → AllByRecursion (λ e. e.0 < 2 ^ 8) (replicate k filler)
-fillers_fit zero = tt
-fillers_fit (suc k) = (omega arith, fillers_fit k)
-
-gaps_small : (w gap : ℕ) (ns : List ℕ) → AllByRecursion (λ e. e.0 < 2 ^ 8) (entries_of w gap ns)
-gaps_small w gap [] = tt
-gaps_small w gap (n ∷ ns) =
-    elim (cases_lt n (2 ^ w)) [
-      | inl lt ↦ rw (lt-ltb n (2 ^ w) lt) (gaps_small w (gap + 1) ns)
-      | inr ge ↦
-          let last : gap - 255 * ((gap - 1) / 255) < 2 ^ 8 = omega arith in
-          rw (le-ltb n (2 ^ w) ge) (fit_join (reaching gap (n / 2 ^ w)) (entries_of w 1 ns) (fit_join (replicate ((gap - 1) / 255) filler) ((gap - 255 * ((gap - 1) / 255), n / 2 ^ w) ∷ []) (fillers_fit ((gap - 1) / 255)) (last, tt)) (gaps_small w 1 ns))
-    ]
-
-pub gap_digits_few : (numbers : List ℕ) (code patch_code gap_digits : ℕ) (entries : List (ℕ × ℕ))
-    → ArePatches numbers code entries patch_code gap_digits → (1 ≤ gap_digits) × (gap_digits ≤ 8)
-gap_digits_few numbers code patch_code gap_digits entries p =
-    let fit : AllByRecursion (λ e. e.0 < 2 ^ 8) entries = subst (λ (es : List (ℕ × ℕ)). AllByRecursion (λ e. e.0 < 2 ^ 8) es) (sym p.entries_are) (gaps_small (width_at code) 0 numbers) in
-    (p.gap_width.is.0, p.gap_width.least 8 (omega arith, fit))

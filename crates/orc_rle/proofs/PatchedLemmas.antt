@@ -12,7 +12,7 @@ use Rattle.orc_rle.specs.declared.sign.Sign.{Sign}
 use Rattle.orc_rle.specs.Header.{code_in, count_in}
 use Rattle.orc_rle.specs.Patched.{raised, patch_digits, LacksPatchedBody, sign_magnitude, IsPatchedBody}
 use Rattle.orc_rle.specs.Patches.{ArePatched, NoPatches}
-use Rattle.orc_rle.specs.RunTwo.{IsShapeTwo, IsRunTwo, NoRunTwo}
+use Rattle.orc_rle.specs.RunTwo.{IsShapeTwo, IsInRangeTwo, NoRunTwo}
 use Rattle.orc_rle.specs.Values.{InRange, AllInRange}
 use Rattle.orc_rle.specs.WrittenLaws.{AllInRange-parts}
 
@@ -82,7 +82,7 @@ pub patched_is : (sign : Sign) (head low third fourth len : ℕ) (bytes numbers 
     → head < 192 → patch_digits third fourth ≤ 64
     → IsPatchedBody head third fourth (take len bytes) base numbers entries → length numbers ≡ count_in head low → length entries ≡ fourth % 32
     → ArePatched (width_at (code_in head)) (width_at (third % 32)) true 0 entries numbers patched
-    → values ≡ raised base patched → AllInRange sign values → IsRunTwo sign (head ∷ low ∷ third ∷ fourth ∷ take len bytes) values
+    → values ≡ raised base patched → AllInRange sign values → IsInRangeTwo sign (head ∷ low ∷ third ∷ fourth ∷ take len bytes) values
 patched_is sign head low third fourth len bytes numbers entries patched base values ge lt room is n m p e r =
     record { shape = rw e (patched_shape sign head low third fourth len bytes numbers entries patched base ge lt room is n m p); in_range = r }
 

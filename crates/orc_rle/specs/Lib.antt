@@ -44,6 +44,7 @@ pub mod Choosing
 pub mod Planning
 pub mod LeastLaws
 pub mod TextRuns
+pub mod TextBytes
 pub mod PatchedRuns
 pub mod OneTexts
 pub mod TwoWrittenLaws

@@ -7,7 +7,7 @@ ghost use Rattle.orc_rle.specs.Values.{InRange, AllInRange, Stands, AppendsBytes
 ghost use Rattle.orc_rle.specs.RunOne.{progression};
 ghost use Rattle.orc_rle.specs.Header.{code_in, count_in};
 ghost use Rattle.orc_rle.specs.Delta.{moved, walk, IsStart, NoStart};
-ghost use Rattle.orc_rle.specs.RunTwo.{IsRunTwo, NoRunTwo};
+ghost use Rattle.orc_rle.specs.RunTwo.{IsInRangeTwo, NoRunTwo};
 ghost use Rattle.orc_rle.specs.Least.{IsLeast};
 ghost use Rattle.orc_rle.specs.AlignedWidth.{HoldsAll};
 ghost use Rattle.orc_rle.specs.DeltaText.{IsEven, IsDirected, IsEvenText, IsSizedText, IsDeltaText, SizesFit};
@@ -58,7 +58,7 @@ fn read_even(head: u8, low: u8, rest: &[u8], sign: Sign, run: &mut Run) -> Resul
     requires even { code_in head ≡ 0 }
     requires empty { run.old.values ≡ [] }
     ensures within { IfOk result (λ len. len ≤ length rest.now) }
-    ensures found { IfOk result (λ len. IsRunTwo sign (head ∷ low ∷ take len rest.now) run.new.values) }
+    ensures found { IfOk result (λ len. IsInRangeTwo sign (head ∷ low ∷ take len rest.now) run.new.values) }
     ensures fault { IfErr result (NoRunTwo sign (head ∷ low ∷ rest.now)) }
 {
     let (number, step, len) = read_start(rest)?;
@@ -130,7 +130,7 @@ fn read_sized(head: u8, low: u8, rest: &[u8], sign: Sign, run: &mut Run) -> Resu
     requires two { 2 ≤ count_in head low }
     requires empty { run.old.values ≡ [] }
     ensures within { IfOk result (λ len. len ≤ length rest.now) }
-    ensures found { IfOk result (λ len. IsRunTwo sign (head ∷ low ∷ take len rest.now) run.new.values) }
+    ensures found { IfOk result (λ len. IsInRangeTwo sign (head ∷ low ∷ take len rest.now) run.new.values) }
     ensures fault { IfErr result (NoRunTwo sign (head ∷ low ∷ rest.now)) }
 {
     let count = length_in(head, low) - 2;
@@ -157,7 +157,7 @@ pub(crate) fn read_delta(
     requires bottom { 192 ≤ head }
     requires empty { run.old.values ≡ [] }
     ensures within { IfOk result (λ len. len ≤ length rest.now) }
-    ensures found { IfOk result (λ len. IsRunTwo sign (head ∷ low ∷ take len rest.now) run.new.values) }
+    ensures found { IfOk result (λ len. IsInRangeTwo sign (head ∷ low ∷ take len rest.now) run.new.values) }
     ensures fault { IfErr result (NoRunTwo sign (head ∷ low ∷ rest.now)) }
 {
     if head / 2 % 32 == 0 {

@@ -7,7 +7,7 @@ ghost use Rattle.orc_rle.specs.Least.{IsLeast};
 ghost use Rattle.orc_rle.specs.AlignedWidth.{HoldsAll};
 ghost use Rattle.orc_rle.specs.Direct.{AllStand};
 ghost use Rattle.orc_rle.specs.DirectText.{IsDirectText};
-ghost use Rattle.orc_rle.specs.RunTwo.{IsRunTwo, NoRunTwo};
+ghost use Rattle.orc_rle.specs.RunTwo.{IsInRangeTwo, NoRunTwo};
 
 use crate::fault::RunFault;
 use crate::run::{MOST_VALUES, Run};
@@ -47,7 +47,7 @@ pub(crate) fn read_direct(
     requires top { head < 128 }
     requires empty { run.old.values ≡ [] }
     ensures within { IfOk result (λ len. len ≤ length rest.now) }
-    ensures found { IfOk result (λ len. IsRunTwo sign (head ∷ low ∷ take len rest.now) run.new.values) }
+    ensures found { IfOk result (λ len. IsInRangeTwo sign (head ∷ low ∷ take len rest.now) run.new.values) }
     ensures fault { IfErr result (NoRunTwo sign (head ∷ low ∷ rest.now)) }
 {
     let count = length_in(head, low);

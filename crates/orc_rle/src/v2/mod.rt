@@ -4,7 +4,7 @@ ghost use Rattle.orc_rle.specs.declared.fault.RunFault.{RunFault};
 ghost use Rattle.orc_rle.specs.Values.{AllInRange};
 ghost use Rattle.orc_rle.specs.Stream.{IsStream};
 ghost use Rattle.orc_rle.specs.Patched.{IsPatched};
-ghost use Rattle.orc_rle.specs.RunTwo.{IsRunTwo, NoRunTwo};
+ghost use Rattle.orc_rle.specs.RunTwo.{IsInRangeTwo, IsRunTwo, NoRunTwo};
 ghost use Rattle.orc_rle.specs.PatchedValues.{PatchedValues, PatchPlaces};
 ghost use Rattle.orc_rle.specs.WrittenTwo.{IsWrittenTwo};
 ghost use Rattle.orc_rle.specs.TwoLaws.{one_run_two, no_run_two, one_run_two_fault, not_empty_two, some_values_two};
@@ -86,7 +86,7 @@ fn read_headed(head: u8, low: u8, rest: &[u8], sign: Sign, run: &mut Run) -> Res
     requires bottom { 64 ≤ head }
     requires empty { run.old.values ≡ [] }
     ensures within { IfOk result (λ len. len ≤ length rest.now) }
-    ensures found { IfOk result (λ len. IsRunTwo sign (head ∷ low ∷ take len rest.now) run.new.values) }
+    ensures found { IfOk result (λ len. IsInRangeTwo sign (head ∷ low ∷ take len rest.now) run.new.values) }
     ensures fault { IfErr result (NoRunTwo sign (head ∷ low ∷ rest.now)) }
 {
     match head / 64 {
@@ -99,7 +99,7 @@ fn read_headed(head: u8, low: u8, rest: &[u8], sign: Sign, run: &mut Run) -> Res
 /// Reads the run in front into an empty run, and answers its number of bytes.
 fn read_run(bytes: &[u8], sign: Sign, run: &mut Run) -> Result<usize, RunFault>
     requires empty { run.old.values ≡ [] }
-    ensures found { IfOk result (λ len. IsRunTwo sign (take len bytes.now) run.new.values) }
+    ensures found { IfOk result (λ len. IsInRangeTwo sign (take len bytes.now) run.new.values) }
     ensures within { IfOk result (λ len. len ≤ length bytes.now) }
     ensures fault { IfErr result (NoRunTwo sign bytes.now) }
 {

@@ -10,7 +10,7 @@ ghost use Rattle.orc_rle.specs.Values.{InRange, AllInRange, AppendsBytes, Extend
 ghost use Rattle.orc_rle.specs.Least.{IsLeast};
 ghost use Rattle.orc_rle.specs.Header.{header};
 ghost use Rattle.orc_rle.specs.Patched.{sign_magnitude, raised, patch_digits, IsPatchedBody, LacksPatchedBody};
-ghost use Rattle.orc_rle.specs.RunTwo.{IsRunTwo, NoRunTwo};
+ghost use Rattle.orc_rle.specs.RunTwo.{IsInRangeTwo, NoRunTwo};
 ghost use Rattle.orc_rle.specs.PatchedText.{IsPatchedText, magnitude, signed_number};
 ghost use Rattle.orc_rle.specs.Planning.{IsPlan};
 
@@ -120,7 +120,7 @@ fn read_values(
     requires top { head < 192 }
     requires empty { run.old.values ≡ [] }
     ensures within { IfOk result (λ len. len ≤ length bytes.now) }
-    ensures found { IfOk result (λ len. IsRunTwo sign (head ∷ low ∷ third ∷ fourth ∷ take len bytes.now) run.new.values) }
+    ensures found { IfOk result (λ len. IsInRangeTwo sign (head ∷ low ∷ third ∷ fourth ∷ take len bytes.now) run.new.values) }
     ensures fault { IfErr result (NoRunTwo sign (head ∷ low ∷ third ∷ fourth ∷ bytes.now)) }
 {
     let patch_width = patch_width_in(third).digits();
@@ -154,7 +154,7 @@ pub(crate) fn read_patched(
     requires top { head < 192 }
     requires empty { run.old.values ≡ [] }
     ensures within { IfOk result (λ len. len ≤ length rest.now) }
-    ensures found { IfOk result (λ len. IsRunTwo sign (head ∷ low ∷ take len rest.now) run.new.values) }
+    ensures found { IfOk result (λ len. IsInRangeTwo sign (head ∷ low ∷ take len rest.now) run.new.values) }
     ensures fault { IfErr result (NoRunTwo sign (head ∷ low ∷ rest.now)) }
 {
     match rest {

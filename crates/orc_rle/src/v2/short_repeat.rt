@@ -3,7 +3,7 @@ ghost use Rattle.orc_rle.specs.declared.fault.RunFault.TheVariants.{OutOfMemory}
 ghost use Rattle.orc_rle.specs.Values.{InRange, AppendsBytes, Extends};
 ghost use Rattle.orc_rle.specs.Least.{IsLeast};
 ghost use Rattle.orc_rle.specs.RepeatText.{IsRepeatText};
-ghost use Rattle.orc_rle.specs.RunTwo.{IsRunTwo, NoRunTwo};
+ghost use Rattle.orc_rle.specs.RunTwo.{IsInRangeTwo, NoRunTwo};
 
 use crate::fault::RunFault;
 use crate::run::Run;
@@ -34,7 +34,7 @@ pub(crate) fn read_short_repeat(
     requires top { head < 64 }
     requires empty { run.old.values ≡ [] }
     ensures within { IfOk result (λ len. len ≤ length rest.now) }
-    ensures found { IfOk result (λ len. IsRunTwo sign (head ∷ take len rest.now) run.new.values) }
+    ensures found { IfOk result (λ len. IsInRangeTwo sign (head ∷ take len rest.now) run.new.values) }
     ensures fault { IfErr result (NoRunTwo sign (head ∷ rest.now)) }
 {
     let size = usize::from(head / 8) + 1;
