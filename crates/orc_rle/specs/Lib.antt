@@ -19,6 +19,7 @@ pub mod ShortRepeat
 pub mod Direct
 pub mod Delta
 pub mod Patches
+pub mod Patching
 pub mod Patched
 pub mod RunTwo
 pub mod PatchedValues
@@ -28,6 +29,7 @@ pub mod ShortRepeatLaws
 pub mod DirectLaws
 pub mod DeltaLaws
 pub mod PatchLaws
+pub mod PatchingLaws
 pub mod PatchedLaws
 pub mod TwoLaws
 pub mod PatchedValuesLaws

@@ -12,7 +12,9 @@ use Rattle.orc_rle.specs.Header.{code_in, count_in}
 use Rattle.orc_rle.specs.OneLaws.{Same, parts_of}
 use Rattle.orc_rle.specs.PatchLaws.{one_list, no_patches, one_patches_fault, patches_plain, length-patched}
 use Rattle.orc_rle.specs.Patched.{IsPatchedBody, patch_digits, sign_magnitude, IsPatched, LacksPatchedBody, NoPatched, BreaksPatches, raised}
-use Rattle.orc_rle.specs.Patches.{ArePatched, NoPatches}
+use Rattle.orc_rle.specs.Patches.{HasPatches}
+use Rattle.orc_rle.specs.Patching.{NoPatches}
+use Rattle.orc_rle.specs.PatchingLaws.{patches_are_applied}
 use Rattle.orc_rle.specs.PlainFaults.{IsPlain, short_plain, plain}
 
 -- what stands after two headers, with what follows each
@@ -63,11 +65,14 @@ both_patched a b x y v w p q e =
     let is3 = subst (λ (k : ℕ). IsPatchedBody p.head p.third k q.text q.base q.numbers q.entries) (sym fourth) is2 in
     let t = both_bodies p.head p.third p.fourth p.text q.text x y p.base q.base p.numbers q.numbers p.entries q.entries p.is is3
     (omega (arith, p.len, q.len, head, low)) (omega (arith, p.entries_len, q.entries_len, fourth)) j.1 in
-    let patches1 = subst (λ (k : ℕ). ArePatched (width_at (code_in k)) (width_at (q.third % 32)) true 0 q.entries q.numbers q.patched) (sym head) q.patches in
-    let patches2 = subst (λ (k : ℕ). ArePatched (width_at (code_in p.head)) (width_at (k % 32)) true 0 q.entries q.numbers q.patched) (sym third) patches1 in
-    let patches3 = subst (λ (k : List ℕ). ArePatched (width_at (code_in p.head)) (width_at (p.third % 32)) true 0 k q.numbers q.patched) (sym t.entries) patches2 in
-    let patches4 = subst (λ (k : List ℕ). ArePatched (width_at (code_in p.head)) (width_at (p.third % 32)) true 0 p.entries k q.patched) (sym t.numbers) patches3 in
-    let patched = one_list (width_at (code_in p.head)) (width_at (p.third % 32)) true 0 p.entries p.numbers p.patched q.patched p.patches patches4 in
+    let patches1 = subst (λ (k : ℕ). HasPatches (width_at (code_in k)) (width_at (q.third % 32)) q.entries q.numbers q.patched) (sym head) q.patches in
+    let patches2 = subst (λ (k : ℕ). HasPatches (width_at (code_in p.head)) (width_at (k % 32)) q.entries q.numbers q.patched) (sym third) patches1 in
+    let patches3 = subst (λ (k : List ℕ). HasPatches (width_at (code_in p.head)) (width_at (p.third % 32)) k q.numbers q.patched) (sym t.entries) patches2 in
+    let patches4 = subst (λ (k : List ℕ). HasPatches (width_at (code_in p.head)) (width_at (p.third % 32)) p.entries k q.patched) (sym t.numbers) patches3 in
+    let w = width_at (code_in p.head) in
+    let pw = width_at (p.third % 32) in
+    let patched = one_list w pw true 0 p.entries p.numbers p.patched q.patched (patches_are_applied w pw p.entries p.numbers p.patched p.patches)
+      (patches_are_applied w pw p.entries p.numbers q.patched patches4) in
     record {
       front = p.bytes_are ∙ ((rw (head, low, third, fourth, t.front) refl) ∙ sym q.bytes_are);
       rest = t.rest;
@@ -85,7 +90,7 @@ lacks_none head third fourth count patches rest a x c ns es m p n l e =
 patched_none_at : (head low third fourth : ℕ) (rest a x : List ℕ) (c : ℤ) (ns es new : List ℕ) (fault : RunFault)
     → NoPatched head (low ∷ third ∷ fourth ∷ rest) fault
     → patch_digits third fourth ≤ 64 → IsPatchedBody head third fourth a c ns es → length ns ≡ count_in head low → length es ≡ fourth % 32
-    → ArePatched (width_at (code_in head)) (width_at (third % 32)) true 0 es ns new → rest ≡ a ++ x → ⊥
+    → HasPatches (width_at (code_in head)) (width_at (third % 32)) es ns new → rest ≡ a ++ x → ⊥
 patched_none_at head low third fourth rest a x c ns es new fault (inl n) room p l m q e = omega (arith, n.0, room)
 patched_none_at head low third fourth rest a x c ns es new fault (inr (few, inl n)) room p l m q e =
     lacks_none head third fourth (count_in head low) (fourth % 32) rest a x c ns es n.0 p (sym l) (sym m) e
@@ -93,7 +98,8 @@ patched_none_at head low third fourth rest a x c ns es new fault (inr (few, inr 
     let t = both_bodies head third fourth n.text a n.more x n.base c n.numbers ns n.entries es n.is p (n.len ∙ sym l) (n.entries_len ∙ sym m) (sym n.parts ∙ e) in
     let breaks = subst (λ (k : List ℕ). NoPatches (width_at (code_in head)) (width_at (third % 32)) true 0 k n.numbers fault) t.entries n.breaks in
     let breaks2 = subst (λ (k : List ℕ). NoPatches (width_at (code_in head)) (width_at (third % 32)) true 0 es k fault) t.numbers breaks in
-    no_patches (width_at (code_in head)) (width_at (third % 32)) true 0 es ns new fault breaks2 q
+    no_patches (width_at (code_in head)) (width_at (third % 32)) true 0 es ns new fault breaks2
+    (patches_are_applied (width_at (code_in head)) (width_at (third % 32)) es ns new q)
 
 pub patched_none : (head : ℕ) (rest a x : List ℕ) (v : List ℤ) (fault : RunFault) → NoPatched head rest fault → IsPatched a v → head ∷ rest ≡ a ++ x → ⊥
 patched_none head [] a x v fault n p e = let h = (after_one head p.head [] _ a x p.bytes_are e).1 in cc
@@ -150,5 +156,4 @@ length-raised base (n ∷ ns) = ap suc (length-raised base ns)
 
 pub patched_some : (a : List ℕ) → IsPatched a [] → ⊥
 patched_some a p =
-    let len = length-patched (width_at (code_in p.head)) (width_at (p.third % 32)) true 0 p.entries p.numbers p.patched p.patches in
-    omega (arith, p.len, len, ap length p.values_are, length-raised p.base p.patched)
+    omega (arith, p.len, p.patches.len, ap length p.values_are, length-raised p.base p.patched)

@@ -13,7 +13,9 @@ use Rattle.orc_rle.specs.LeastLaws.{code_of_header, count_of_header, AllFit-wide
 use Rattle.orc_rle.specs.Patched.{sign_magnitude, IsPatched, patch_digits}
 use Rattle.orc_rle.specs.PatchedLaws.{length-raised}
 use Rattle.orc_rle.specs.PatchedText.{IsPatchedText, reaching, entries_of, magnitude, signed_number}
-use Rattle.orc_rle.specs.Patches.{IsOrdered, ArePatched, gap_of, patch_of}
+use Rattle.orc_rle.specs.Patches.{HasPatches, gap_of, patch_of}
+use Rattle.orc_rle.specs.Patching.{IsOrdered, ArePatched}
+use Rattle.orc_rle.specs.PatchingLaws.{applied_are_patches}
 
 abbrev entry_at : ℕ → ℕ × ℕ → ℕ
 entry_at pw e = e.0 * 2 ^ pw + e.1
@@ -185,6 +187,8 @@ patched_is_run chunk text some most p =
     let patched : ArePatched (width_at p.code) (width_at p.patch_code) true 0 (map (entry_at (width_at p.patch_code)) p.entries) (map (low (width_at p.code)) p.numbers) p.numbers =
     subst (λ (k : List (ℕ × ℕ)). ArePatched (width_at p.code) (width_at p.patch_code) true 0 (map (entry_at (width_at p.patch_code)) k) (map (low (width_at p.code)) p.numbers) p.numbers) (sym es.entries_are)
     (applied (width_at p.code) (width_at p.patch_code) 0 0 true [] p.numbers refl tt tt (AllFit-wider 63 64 p.numbers (omega arith) p.spread) (subst (λ (k : List (ℕ × ℕ)). PatchesFit (width_at p.patch_code) k) es.entries_are es.patch_width.is.1)) in
+    let patches = applied_are_patches (width_at p.code) (width_at p.patch_code) (map (entry_at (width_at p.patch_code)) p.entries) (map (low (width_at p.code)) p.numbers) p.numbers
+      (lows_fit (width_at p.code) p.numbers (AllFit-wider 63 64 p.numbers (omega arith) p.spread)) patched in
     record {
       head = 64 * 2 + 2 * p.code + (length chunk - 1) / 256;
       low = (length chunk - 1) % 256;
@@ -212,8 +216,8 @@ patched_is_run chunk text some most p =
       };
       len = length-map p.numbers (low (width_at p.code)) ∙ (sym (length-raised p.base p.numbers) ∙ (sym (ap (λ (t : List ℤ). length t) p.above.values_are) ∙ sym count));
       entries_len = length-map p.entries (entry_at (width_at p.patch_code)) ∙ sym fourth_count;
-      patches = subst (λ (c : ℕ). ArePatched (width_at c) (width_at (((p.size - 1) * 32 + p.patch_code) % 32)) true 0 (map (entry_at (width_at p.patch_code)) p.entries) (map (low (width_at p.code)) p.numbers) p.numbers) (sym code)
-          (subst (λ (c : ℕ). ArePatched (width_at p.code) (width_at c) true 0 (map (entry_at (width_at p.patch_code)) p.entries) (map (low (width_at p.code)) p.numbers) p.numbers) (sym third_code) patched);
+      patches = subst (λ (c : ℕ). HasPatches (width_at c) (width_at (((p.size - 1) * 32 + p.patch_code) % 32)) (map (entry_at (width_at p.patch_code)) p.entries) (map (low (width_at p.code)) p.numbers) p.numbers) (sym code)
+          (subst (λ (c : ℕ). HasPatches (width_at p.code) (width_at c) (map (entry_at (width_at p.patch_code)) p.entries) (map (low (width_at p.code)) p.numbers) p.numbers) (sym third_code) patches);
       values_are = p.above.values_are;
       bytes_are = p.text_is;
     }
