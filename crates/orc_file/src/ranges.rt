@@ -7,8 +7,8 @@ use crate::range_fault::RangeFault;
 use crate::source::Source;
 use std::alloc::Global;
 
-/// The `len` bytes from `at` on, read in one call; of no bytes nothing is asked. That the range lies within the
-/// source is a condition, so no memory is taken for a length that wasn't compared with the source's.
+/// The `len` bytes from `at` on, read in one call; for no bytes the source isn't asked. That the range lies within
+/// the source is a condition, so no memory is taken for a length that wasn't compared with the source's.
 ///
 /// Refusals: `SourceFailed` where the source failed; `OutOfMemory`, and then the source wasn't asked.
 pub fn read_range<S: Source>(

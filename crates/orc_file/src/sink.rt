@@ -6,8 +6,9 @@ ghost use Rattle.orc_file.specs.Devices.{appended, taken_of, write_failures};
 #[derive(Clone, Copy, Debug, PartialEq, Eq)]
 pub struct SinkFault;
 
-/// An output of bytes. One that tells its bytes is bound by what it tells. An `impl` has to be read: the clauses
-/// bind its count of failures to its answers, and nothing binds its answers to a failure outside.
+/// An output of bytes. One that tells its bytes is bound by what it tells. The clauses tie the count of failures
+/// to the answers. That a refusal has a failure outside behind it no clause can say, so each `impl` has to be read
+/// for it.
 pub trait Sink {
     /// The bytes that it has got, where the sink tells them.
     ghost told: { Self → Option (List ℕ) };

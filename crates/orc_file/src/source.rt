@@ -7,8 +7,8 @@ ghost use Rattle.orc_file.specs.Devices.{bytes_at, failures_after};
 pub struct SourceFault;
 
 /// Bytes that are read by ranges. A source that tells its bytes is bound by what it tells; of one that tells
-/// nothing only the length is known. An `impl` has to be read: the clauses bind its count of failures to its
-/// answers, and nothing binds its answers to a failure outside.
+/// nothing only the length is known. The clauses tie the count of failures to the answers. That a refusal has a
+/// failure outside behind it no clause can say, so each `impl` has to be read for it.
 pub trait Source {
     /// How many bytes there are.
     ghost size: { Self → ℕ };
@@ -26,9 +26,9 @@ pub trait Source {
     /// Fills the slice with the bytes from `at` on. Every refusal counts as a failure, and nothing else does.
     fn read_at(&mut self, at: u64, into: &mut [u8]) -> Result<(), SourceFault>
         requires { at + length into.old ≤ size self.old }
+        ensures bytes { OnOk result (IfSome (told self.old) (λ bytes. into.new ≡ bytes_at at (length into.old) bytes)) }
         ensures size { size self.new ≡ size self.old }
         ensures told { told self.new ≡ told self.old }
-        ensures bytes { OnOk result (IfSome (told self.old) (λ bytes. into.new ≡ bytes_at at (length into.old) bytes)) }
         ensures failures { failures self.new ≡ failures_after result (failures self.old) };
 
     /// What is told is all of them.
