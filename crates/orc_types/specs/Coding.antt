@@ -74,5 +74,6 @@ mutual
 
 abbrev pub coded_shape : Coded Shape
 coded_shape =
-    code_by (List Token) (coded_list (coded⊎ (coded× coded_ℕ (coded_list coded_ℕ)) (coded⊎ (coded_list coded_ℕ) (coded⊎ (coded_list coded_ℕ) (coded⊎ coded_ℕ (coded_list coded_ℕ))))))
+    code_by (List Token) (coded_list (coded⊎ (coded× coded_ℕ (coded_list coded_ℕ))
+    (coded⊎ (coded_list coded_ℕ) (coded⊎ (coded_list coded_ℕ) (coded⊎ coded_ℕ (coded_list coded_ℕ))))))
     (λ s. post s []) (λ ts. run ts [] []) (λ s. run-post s [] [] [])

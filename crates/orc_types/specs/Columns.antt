@@ -17,7 +17,8 @@ abbrev mutual
   -- of the fields of each struct, in pre-order
   pub cells_within : Fields → ℕ → List (List Cell) → List Cell
   cells_within no_field c structs = []
-  cells_within (field name s fs) c structs = if nat_lt c (width s) then cells s c (flat_map (take 1) structs) else cells_within fs (c - width s) (map (drop 1) structs)
+  cells_within (field name s fs) c structs =
+      if nat_lt c (width s) then cells s c (flat_map (take 1) structs) else cells_within fs (c - width s) (map (drop 1) structs)
 
 -- column c of the fields is column d of the field at i
 abbrev pub IsLocated : Fields → ℕ → ℕ → ℕ → Type 0

@@ -1,4 +1,5 @@
--- Values of JSON under columns that contain no other (ORC specification, "Types"; a date is RFC 3339's full-date or a number, and binary is hexadecimal digits).
+-- Values of JSON under columns that contain no other (ORC specification, "Types"; a date is RFC 3339's full-date or a
+-- number, and binary is hexadecimal digits).
 use Rattle.std.specs.Prelude.{◌≡◌, ℕ, ℤ, List, Bool, true, false, Some, None, option_and_then, Ok, ◌||◌, ◌⊎◌, if◌then◌else◌}
 use Rattle.hex.specs.Hex.{decode_of, encode_lower}
 use Rattle.serde_json.specs.Data.{Data, null, boolean, number, string, array, object}

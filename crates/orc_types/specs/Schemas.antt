@@ -35,7 +35,8 @@ pub record Keeps (s : Shape) (ts : List TypeMsg) (distinct : Bool) : Type 0 wher
 
 -- two types are equal in each part, the bytes that they keep too
 abbrev pub same_node : TypeMsg → TypeMsg → Bool
-same_node = eq_of_both (on (λ t. t.kind) ◌==◌) (eq_of_both (on (λ t. t.subtypes) (pointwise ◌==◌)) (eq_of_both (on (λ t. t.field_names) (pointwise (pointwise ◌==◌))) (on (λ t. t.kept) (pointwise ◌==◌))))
+same_node = eq_of_both (on (λ t. t.kind) ◌==◌) (eq_of_both (on (λ t. t.subtypes) (pointwise ◌==◌))
+    (eq_of_both (on (λ t. t.field_names) (pointwise (pointwise ◌==◌))) (on (λ t. t.kept) (pointwise ◌==◌))))
 
 -- two schemas are equal where their types are
 abbrev pub same_types : Shape → Shape → Bool
@@ -44,5 +45,6 @@ same_types = on (λ s. types s 0) (pointwise same_node)
 -- so the comparison is an equivalence
 pub same_types_equiv : IsEquivalence same_types
 same_types_equiv =
-    on_equiv (λ s. types s 0) (lists_equiv (and_equiv (on_equiv (λ (t : TypeMsg). t.kind) nat_eq_equiv) (and_equiv (on_equiv (λ (t : TypeMsg). t.subtypes) nat_list_eq_equiv)
+    on_equiv (λ s. types s 0) (lists_equiv (and_equiv (on_equiv (λ (t : TypeMsg). t.kind) nat_eq_equiv)
+    (and_equiv (on_equiv (λ (t : TypeMsg). t.subtypes) nat_list_eq_equiv)
     (and_equiv (on_equiv (λ (t : TypeMsg). t.field_names) (lists_equiv nat_list_eq_equiv)) (on_equiv (λ (t : TypeMsg). t.kept) nat_list_eq_equiv)))))

@@ -30,7 +30,8 @@ abbrev pub NoFront : List ℕ → Type 0
 NoFront bytes = (s : Shape) (rest : List ℕ) → IsPlain s → bytes ≡ text s ++ rest → ⊥
 
 abbrev pub NoFieldFront : List ℕ → Bool → Type 0
-NoFieldFront bytes first = (name : List ℕ) (s : Shape) (rest : List ℕ) → IsName name → IsPlain s → bytes ≡ comma first ++ (name ++ (colon ++ (text s ++ rest))) → ⊥
+NoFieldFront bytes first =
+    (name : List ℕ) (s : Shape) (rest : List ℕ) → IsName name → IsPlain s → bytes ≡ comma first ++ (name ++ (colon ++ (text s ++ rest))) → ⊥
 
 abbrev pub NoFieldsFront : List ℕ → Bool → Type 0
 NoFieldsFront bytes first = (fs : Fields) (rest : List ℕ) → ArePlain fs → bytes ≡ fields_text first fs ++ (codes ">" ++ rest) → ⊥

@@ -14,12 +14,22 @@ mod refused;
 mod rows;
 mod texts;
 
+// What memory refused is tried again, and its answer is then demanded.
+
 /// A type of a table: its kind's number, its subtypes, its fields' names.
 type Listed = (u32, &'static [u32], &'static [&'static [u8]]);
 
 /// A struct of one list of lists of numbers: `struct<a:array<array<int>>>`.
 const LISTS: [Listed; 4] = [
     (12, &[1], &[b"a"]),
+    (10, &[2], &[]),
+    (10, &[3], &[]),
+    (3, &[], &[]),
+];
+
+/// The same with another name.
+const OTHER_NAME: [Listed; 4] = [
+    (12, &[1], &[b"b"]),
     (10, &[2], &[]),
     (10, &[3], &[]),
     (3, &[], &[]),
@@ -79,50 +89,72 @@ fn schema_of(alloc: Global, table: &[Listed]) -> Result<Schema, TypeFault> {
     Schema::from_types(alloc, &types)
 }
 
-/// Notes that memory was refused, which may happen once in a test.
-fn note_refusal(rt: &impl Abort, refused: &mut bool) {
-    assert!(rt; !*refused, "memory is refused once at most");
-    *refused = true;
+/// The schema of types that keep another field.
+fn schema_that_keeps(alloc: Global, table: &[Listed]) -> Result<Schema, TypeFault> {
+    let types = types_that_keep(alloc, table)?;
+    Schema::from_types(alloc, &types)
+}
+
+/// Whether the schemas of two lists of types are equal.
+fn are_equal(alloc: Global, a: &[Listed], b: &[Listed]) -> Result<bool, TypeFault> {
+    Ok(schema_of(alloc, a)? == schema_of(alloc, b)?)
+}
+
+/// Whether a schema differs from that of the same types which keep another field.
+fn differs_by_kept(alloc: Global, table: &[Listed]) -> Result<bool, TypeFault> {
+    Ok(schema_of(alloc, table)? != schema_that_keeps(alloc, table)?)
+}
+
+/// Whether each type keeps field 5.
+fn keep_field_five(types: &[TypeMsg]) -> bool {
+    for t in types {
+        if t.kept.as_slice() != [0x28, 0x01].as_slice() {
+            return false;
+        }
+    }
+    true
+}
+
+/// Whether the types of such a schema are given back with what they keep.
+fn gives_kept_back(alloc: Global, table: &[Listed]) -> Result<bool, TypeFault> {
+    let schema = schema_that_keeps(alloc, table)?;
+    Ok(schema.types().len() == table.len() && keep_field_five(schema.types()))
+}
+
+/// Whether the types are those of `LISTS` in number and in the root's names.
+fn are_of_lists(types: &[TypeMsg]) -> bool {
+    let [root, _, _, _] = types else {
+        return false;
+    };
+    match root.field_names.as_slice() {
+        [name] => name.as_slice() == b"a".as_slice(),
+        _ => false,
+    }
+}
+
+fn gives_lists_back(alloc: Global) -> Result<bool, TypeFault> {
+    let schema = schema_of(alloc, &LISTS)?;
+    Ok(are_of_lists(schema.types()))
+}
+
+/// Types are given back as they came, and schemas are equal where their types are.
+fn schemas_hold(alloc: Global) -> Result<bool, TypeFault> {
+    Ok(
+        gives_lists_back(alloc)?
+            && are_equal(alloc, &LISTS, &LISTS)?
+            && !are_equal(alloc, &LISTS, &OTHER_NAME)?
+            // of a struct, of lists and of a number
+            && gives_kept_back(alloc, &LISTS)?
+            && differs_by_kept(alloc, &LISTS)?,
+    )
 }
 
 #[test]
 fn schemas(rt: HostRuntime) {
     let alloc = rt.alloc();
-    let tried = check_schemas(&rt, alloc);
-    if tried == Err(TypeFault::OutOfMemory) {
-        assert_eq!(rt; check_schemas(&rt, alloc), Ok(()), "once memory is there");
-    } else {
-        assert_eq!(rt; tried, Ok(()));
+    let mut held = schemas_hold(alloc);
+    if held.is_err() {
+        held = schemas_hold(alloc);
     }
-}
-
-/// Types are given back as they came, and schemas are equal where their types are.
-fn check_schemas(rt: &impl Abort, alloc: Global) -> Result<(), TypeFault> {
-    let schema = schema_of(alloc, &LISTS)?;
-    let types = schema.types();
-    assert_eq!(rt; types.len(), 4);
-    let names = types[0].field_names.as_slice();
-    assert_eq!(rt; names.len(), 1);
-    assert_eq!(rt; names[0].as_slice(), b"a".as_slice());
-    let text = schema.text(alloc)?;
-    assert_eq!(rt; text.as_str(), "struct<a:array<array<int>>>");
-    let again = schema_of(alloc, &LISTS)?;
-    assert!(rt; schema == again, "the same types");
-    let other = schema_of(
-        alloc,
-        &[
-            (12, &[1], &[b"b"]),
-            (10, &[2], &[]),
-            (10, &[3], &[]),
-            (3, &[], &[]),
-        ],
-    )?;
-    assert!(rt; schema != other, "another name");
-    // of a struct, of lists and of a number
-    let with_kept = Schema::from_types(alloc, &types_that_keep(alloc, &LISTS)?)?;
-    for t in with_kept.types() {
-        assert_eq!(rt; t.kept.as_slice(), [0x28, 0x01].as_slice());
-    }
-    assert!(rt; schema != with_kept, "another field that is kept");
-    Ok(())
+    assert!(rt; matches!(held, Ok(true)));
 }

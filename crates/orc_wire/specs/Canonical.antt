@@ -23,7 +23,8 @@ pub record IsBetween (low high : ℕ) (item : Item) : Type 0 where
   pub most : item.number < high
 
 -- more fields behind the front, which make the member say v
-pub record Adds {V : Type 0} (member : Member V) (low high : ℕ) (always : ℕ → Type 0) (base : ℕ) (before : List Item) (front added : List ℕ) (v : V) : Type 0 where
+pub record Adds {V : Type 0} (member : Member V) (low high : ℕ) (always : ℕ → Type 0) (base : ℕ) (before : List Item) (front added : List ℕ)
+    (v : V) : Type 0 where
   pub more : List Item
   pub are : IsFields base (more ++ before) (front ++ added)
   pub says : member.says (more ++ before) v
@@ -68,7 +69,8 @@ deaf_all member w low high (item ∷ more) before v few out h says =
 all_widen : (low high low2 high2 : ℕ) (more : List Item) → low2 ≤ low → high ≤ high2 → AllByRecursion (IsBetween low high) more
     → AllByRecursion (IsBetween low2 high2) more
 all_widen low high low2 high2 [] p q h = tt
-all_widen low high low2 high2 (item ∷ more) p q h = (let b = h.0 in record { least = omega (arith, b.least, p); most = omega (arith, b.most, q) }, all_widen low high low2 high2 more p q h.1)
+all_widen low high low2 high2 (item ∷ more) p q h =
+    (let b = h.0 in record { least = omega (arith, b.least, p); most = omega (arith, b.most, q) }, all_widen low high low2 high2 more p q h.1)
 
 pub all_both : {V : Type 0} (P : V → Type 0) (a b : List V) → AllByRecursion P a → AllByRecursion P b → AllByRecursion P (a ++ b)
 all_both P [] b p q = q
@@ -114,7 +116,8 @@ module _ {V W : Type 0} (a : Member V) (b : Member W) (x : Canonical a) (y : Can
         between = all_both (IsBetween x.low y.high) second.more first.more
             (all_widen y.low y.high x.low y.high second.more (omega (arith, apart, p)) (omega arith) second.between)
             (all_widen x.low x.high x.low y.high first.more (omega arith) (omega (arith, apart, q)) first.between);
-        shows = λ n h. ap (has_number n) (sym assoc) ∙ elim h [ inl k ↦ still_has n second.more (first.more ++ before) (first.shows n k) | inr k ↦ second.shows n k ];
+        shows = λ n h. ap (has_number n) (sym assoc) ∙
+            elim h [ inl k ↦ still_has n second.more (first.more ++ before) (first.shows n k) | inr k ↦ second.shows n k ];
       }
 
   pub both_ordered : x.low ≤ y.high

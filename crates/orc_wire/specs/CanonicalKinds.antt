@@ -1,6 +1,7 @@
 -- Laws of how each kind of member is written, with their proofs (Protocol Buffers encoding; packed lists
 -- as in "Packed Repeated Fields", signed numbers as in "Signed Integers").
-use Rattle.std.specs.Prelude.{◌≡◌, ℕ, ◌+◌, ◌*◌, ◌^◌, ◌<◌, ◌≤◌, List, [], ◌∷◌, length, ◌++◌, ◌⊎◌, Option, Some, None, Bool, true, false, not, cond, ◌==◌, nat_eq, nat_le, refl, ⊤, ℤ}
+use Rattle.std.specs.Prelude.{◌≡◌, ℕ, ◌+◌, ◌*◌, ◌^◌, ◌<◌, ◌≤◌, List, [], ◌∷◌, length, ◌++◌, ◌⊎◌, Option, Some, None, Bool, true, false, not, cond, ◌==◌}
+use Rattle.std.specs.Prelude.{nat_eq, nat_le, refl, ⊤, ℤ}
 use Rattle.std.specs.Option.{option_map, option_or, option_to_list, unwrap_or, IfSome}
 use Rattle.std.specs.Bool.{MatchBool}
 use Rattle.std.specs.List.{AllByRecursion}
@@ -273,7 +274,8 @@ module _ {C : Type 0} (members : Member C) (w : Canonical members) (required : �
 
   pub message_read : (item : Item) (bytes : Option (List ℕ)) (p : Option C) → MessageIn members required n item bytes p → IfSome p w.bounded
   message_read item None p e = subst (λ (t : Option C). IfSome t w.bounded) (sym e) tt
-  message_read item (Some b) p h = let is = h.2 in subst (λ (t : Option C). IfSome t w.bounded) (sym h.1) (w.read (inside item b) is.fields b h.0 is.are is.says)
+  message_read item (Some b) p h =
+      let is = h.2 in subst (λ (t : Option C). IfSome t w.bounded) (sym h.1) (w.read (inside item b) is.fields b h.0 is.are is.says)
 
   abbrev pub a_message : Single n (message members required n)
   a_message = record {
@@ -435,7 +437,8 @@ module _ {V : Type 0} (n : ℕ) (is : IsNumber n) (part : Part (Option V)) (s : 
   each_read base (item ∷ before) bytes vs are says =
       let old = each_read base before are.0 says.0 are.2 says.2 in
       let given = s.read (base + length are.0) item says.1 are.3 says.3 in
-      subst (λ (t : List V). AllByRecursion s.bounded t) (sym says.4) (all_both s.bounded says.0 (option_to_list says.1) old (listed_fits s.bounded says.1 given))
+      subst (λ (t : List V). AllByRecursion s.bounded t) (sym says.4)
+      (all_both s.bounded says.0 (option_to_list says.1) old (listed_fits s.bounded says.1 given))
 
   abbrev pub for_each : Canonical (each part)
   for_each = record {
@@ -461,7 +464,8 @@ AreBelow limit ns = AllByRecursion (λ n. n < limit) ns
 
 pub varints_are : (limit : ℕ) → limit ≤ 2 ^ 64 → (ns : List ℕ) → AreBelow limit ns → AreVarints limit ns (varints_text ns)
 varints_are limit le [] h = refl
-varints_are limit le (n ∷ ns) h = (varint_text n, varints_text ns, (let b = h.0 in varint_text-is n (omega (arith, b, le))).varint, h.0, refl, varints_are limit le ns h.1)
+varints_are limit le (n ∷ ns) h =
+    (varint_text n, varints_text ns, (let b = h.0 in varint_text-is n (omega (arith, b, le))).varint, h.0, refl, varints_are limit le ns h.1)
 
 pub packed_other : (limit n : ℕ) (item : Item) → IsOutside n (n + 1) item.number → (packed limit n).gives item []
 packed_other limit n item out = rw (eqb_other item.number n out) refl
@@ -479,19 +483,29 @@ packed_adds : (limit n : ℕ) (is : IsNumber n) (ns bytes : List ℕ) → AreVar
     → IsFields base before front → (all (packed limit n)).says before []
     → Adds (all (packed limit n)) n (n + 1) (λ m. ⊥) base before front (some_text n bytes) ns
 packed_adds limit n is ns [] are e len base before front fields says =
-    adds_none (all (packed limit n)) n (n + 1) base before front ns fields (subst (λ (t : List ℕ). (all (packed limit n)).says before t) (no_values limit ns are) says)
+    adds_none (all (packed limit n)) n (n + 1) base before front ns fields
+    (subst (λ (t : List ℕ). (all (packed limit n)).says before t) (no_values limit ns are) says)
 packed_adds limit n is ns (b ∷ bytes) are e len base before front fields says = record {
   more = item_at n (sized (b ∷ bytes)) (base + length front) ∷ [];
   are = (front, refl, fields, field_at n (sized (b ∷ bytes)) (base + length front) is (sized_holds (b ∷ bytes) (payload_shorter n (b ∷ bytes) len)));
-  says = ([], ns, says, subst (λ (t : List ℕ). (packed limit n).gives (item_at n (sized t) (base + length front)) ns) (sym e) (packed_is limit n ns (base + length front) (subst (λ (t : List ℕ). AreVarints limit ns t) e are)), refl);
+  says = (
+    [],
+    ns,
+    says,
+    subst (λ (t : List ℕ). (packed limit n).gives (item_at n (sized t) (base + length front)) ns) (sym e)
+        (packed_is limit n ns (base + length front) (subst (λ (t : List ℕ). AreVarints limit ns t) e are)),
+    refl,
+  );
   between = one_between n (sized (b ∷ bytes)) (base + length front);
   shows = λ m e. absurd e;
 }
 
 same_next : (limit : ℕ) (bytes : List ℕ) (place : ℕ) (e f : WireFault) → FailsNext limit bytes place e → FailsNext limit bytes place f → e ≡ f
 same_next limit bytes place e f (inl p) (inl q) = p.3 ∙ (ap (fault_at place) (one_fault bytes p.1 q.1 p.2 q.2) ∙ sym q.3)
-same_next limit bytes place e f (inl p) (inr q) = absurd (no_varint q.0.front q.0.rest q.0.value p.1 (subst (λ (t : List ℕ). NoVarint t p.1) q.0.parts p.2) q.0.is)
-same_next limit bytes place e f (inr p) (inl q) = absurd (no_varint p.0.front p.0.rest p.0.value q.1 (subst (λ (t : List ℕ). NoVarint t q.1) p.0.parts q.2) p.0.is)
+same_next limit bytes place e f (inl p) (inr q) =
+    absurd (no_varint q.0.front q.0.rest q.0.value p.1 (subst (λ (t : List ℕ). NoVarint t p.1) q.0.parts p.2) q.0.is)
+same_next limit bytes place e f (inr p) (inl q) =
+    absurd (no_varint p.0.front p.0.rest p.0.value q.1 (subst (λ (t : List ℕ). NoVarint t q.1) p.0.parts q.2) p.0.is)
 same_next limit bytes place e f (inr p) (inr q) = p.1 ∙ sym q.1
 
 -- a good varint in front, so no fault
@@ -524,7 +538,8 @@ one_packed_fault : (limit : ℕ) (payload : Payload) (place : ℕ) (e f : WireFa
 one_packed_fault limit (varint v) place e f p q = p.1 ∙ sym q.1
 one_packed_fault limit (eight b) place e f p q = absurd p
 one_packed_fault limit (four b) place e f p q = absurd p
-one_packed_fault limit (sized b) place e f p q = same_within limit p.values q.values p.front q.front p.rest q.rest b place e f p.are q.are p.parts q.parts p.fails q.fails
+one_packed_fault limit (sized b) place e f p q =
+    same_within limit p.values q.values p.front q.front p.rest q.rest b place e f p.are q.are p.parts q.parts p.fails q.fails
 
 one_if_fault : (test : Bool) (limit : ℕ) (payload : Payload) (place : ℕ) (e f : WireFault) → MatchBool test (PackedFails limit payload place e) ⊥
     → MatchBool test (PackedFails limit payload place f) ⊥ → e ≡ f
@@ -553,10 +568,12 @@ module _ (limit n : ℕ) (few : limit ≤ 2 ^ 64) (is : IsNumber n) where
   pub packed_again : (ns : List ℕ) → AreBelow limit ns → ⊤ → length (packed_text n ns) < 2 ^ 64 → (base : ℕ) (before : List Item) (front : List ℕ)
       → IsFields base before front
       → (all (packed limit n)).says before [] → Adds (all (packed limit n)) n (n + 1) (λ m. ⊥) base before front (packed_text n ns) ns
-  packed_again ns can whole len base before front are says = packed_adds limit n is ns (varints_text ns) (varints_are limit few ns can) refl len base before front are says
+  packed_again ns can whole len base before front are says =
+      packed_adds limit n is ns (varints_text ns) (varints_are limit few ns can) refl len base before front are says
 
   pub packed_hears : (item : Item) (v : List ℕ) (fault : WireFault) → (packed limit n).refuses item fault → IsBetween n (n + 1) item
-  packed_hears item v fault bad = at_number n item.number (eqb_is item.number n (test_true (item.number == n) (PackedFails limit item.payload item.place fault) bad)) item refl
+  packed_hears item v fault bad =
+      at_number n item.number (eqb_is item.number n (test_true (item.number == n) (PackedFails limit item.payload item.place fault) bad)) item refl
 
   pub packed_single : (item : Item) (v : List ℕ) (e f : WireFault) → (packed limit n).refuses item e → (packed limit n).refuses item f → e ≡ f
   packed_single item v e f p q = one_if_fault (item.number == n) limit item.payload item.place e f p q
@@ -609,7 +626,16 @@ abbrev pub moved : ℕ → Item → Item
 moved place item = record { number = item.number; place = place; payload = item.payload; text = item.text }
 
 pub moved_field : (place at : ℕ) (item : Item) → IsField at item → IsField place (moved place item)
-moved_field place at item is = record { key = is.key; rest = is.rest; parts = is.parts; keyed = is.keyed; least = is.least; most = is.most; holds = is.holds; at_place = refl }
+moved_field place at item is = record {
+  key = is.key;
+  rest = is.rest;
+  parts = is.parts;
+  keyed = is.keyed;
+  least = is.least;
+  most = is.most;
+  holds = is.holds;
+  at_place = refl;
+}
 
 record KeptBehind (n base : ℕ) (before : List Item) (front bytes : List ℕ) : Type 0 where
   more : List Item
@@ -704,7 +730,13 @@ module _ {C : Type 0} (members : Member C) (w : Canonical members) (required : �
       record {
         more = item_at n (sized (b ∷ bytes)) place ∷ [];
         are = (front, refl, are, field_at n (sized (b ∷ bytes)) place is (sized_holds (b ∷ bytes) size));
-        says = (None, Some c, says, subst (λ (t : List ℕ). MessageIn members required n (item_at n (sized t) place) (bytes_in n (item_at n (sized t) place)) (Some c)) (sym e) gives, refl);
+        says = (
+          None,
+          Some c,
+          says,
+          subst (λ (t : List ℕ). MessageIn members required n (item_at n (sized t) place) (bytes_in n (item_at n (sized t) place)) (Some c)) (sym e) gives,
+          refl,
+        );
         between = one_between n (sized (b ∷ bytes)) place;
         shows = λ m e. absurd e;
       }

@@ -63,7 +63,8 @@ why_not place bytes Missing h = absurd h
 why_not place bytes OutOfMemory h = absurd h
 
 key_lacks : (place : ℕ) (bytes : List ℕ) (e f : WireFault) → NoKey place bytes e → Lacks place bytes f → ⊥
-key_lacks place bytes e f p q = no_varint q.lacks.key q.lacks.rest q.lacks.number p.why (subst (λ (t : List ℕ). NoVarint t p.why) q.lacks.parts p.none) q.lacks.keyed
+key_lacks place bytes e f p q = no_varint q.lacks.key q.lacks.rest q.lacks.number p.why
+    (subst (λ (t : List ℕ). NoVarint t p.why) q.lacks.parts p.none) q.lacks.keyed
 
 key_bad : (place : ℕ) (bytes : List ℕ) (e f : WireFault) → NoKey place bytes e → IsBad place bytes f → ⊥
 key_bad place bytes e f p q = no_varint q.bad.key q.bad.rest q.bad.number p.why (subst (λ (t : List ℕ). NoVarint t p.why) q.bad.parts p.none) q.bad.keyed
@@ -80,7 +81,8 @@ lacks_bad place bytes e f p q =
 
 lacks_lacks : (place : ℕ) (bytes : List ℕ) (e f : WireFault) → Lacks place bytes e → Lacks place bytes f → e ≡ f
 lacks_lacks place bytes e f p q =
-    let t = one_varint p.lacks.key q.lacks.key p.lacks.rest q.lacks.rest p.lacks.number q.lacks.number p.lacks.keyed q.lacks.keyed (sym p.lacks.parts ∙ q.lacks.parts) in
+    let t = one_varint p.lacks.key q.lacks.key p.lacks.rest q.lacks.rest p.lacks.number q.lacks.number p.lacks.keyed q.lacks.keyed
+    (sym p.lacks.parts ∙ q.lacks.parts) in
     let number = subst (λ (k : ℕ). NoPayload (k % 8) p.lacks.rest p.why) t.number p.lacks.missing in
     let moved = subst (λ (r : List ℕ). NoPayload (q.lacks.number % 8) r p.why) t.rest number in
     let same = one_payload_fault (q.lacks.number % 8) q.lacks.rest p.why q.why moved q.lacks.missing in

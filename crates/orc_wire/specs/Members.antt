@@ -68,7 +68,8 @@ abbrev pub ◌and◌ : {V W : Type 0} → Member V → Member W → Member (V ×
   grow = λ item before v w says step. (a.grow item before v.0 w.0 says.0 step.0, b.grow item before v.1 w.1 says.1 step.1);
   back = λ item before w h. let p = a.back item before w.0 h.0 in let q = b.back item before w.1 h.1 in ((p.0, q.0), (p.1, q.1));
   one = λ fields v w p q. one_pair v w (a.one fields v.0 w.0 p.0 q.0) (b.one fields v.1 w.1 p.1 q.1);
-  none = λ item before v w fault says bad h. elim bad [ inl x ↦ a.none item before v.0 w.0 fault says.0 x h.0 | inr x ↦ b.none item before v.1 w.1 fault says.1 x h.1 ];
+  none = λ item before v w fault says bad h.
+      elim bad [ inl x ↦ a.none item before v.0 w.0 fault says.0 x h.0 | inr x ↦ b.none item before v.1 w.1 fault says.1 x h.1 ];
 }
 
 -- a record's fields as pairs, and back

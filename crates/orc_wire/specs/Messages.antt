@@ -57,13 +57,21 @@ stripe_footer = shaped stripe_footer_shape (each (message stream 1 1) and each (
 abbrev pub post_script_shape : Shape (ℕ × (ℕ × (List ℕ × (ℕ × (Option ℕ × List ℕ))))) PostScript
 post_script_shape = record {
   into = λ m. (m.footer_length, (m.compression, (m.version, (m.metadata_length, (m.writer_version, m.magic)))));
-  from = λ p. record { footer_length = p.0; compression = p.1.0; version = p.1.1.0; metadata_length = p.1.1.1.0; writer_version = p.1.1.1.1.0; magic = p.1.1.1.1.1 };
+  from = λ p. record {
+    footer_length = p.0;
+    compression = p.1.0;
+    version = p.1.1.0;
+    metadata_length = p.1.1.1.0;
+    writer_version = p.1.1.1.1.0;
+    magic = p.1.1.1.1.1;
+  };
   there = λ m. refl;
   here = λ p. refl;
 }
 
 abbrev pub post_script : Member PostScript
-post_script = shaped post_script_shape (last 0 (number 1) and last 0 (small 2) and all (packed (2 ^ 32) 4) and last 0 (number 5) and known (small 6) and last [] (text 8000))
+post_script = shaped post_script_shape (last 0 (number 1) and last 0 (small 2) and all (packed (2 ^ 32) 4) and last 0 (number 5)
+    and known (small 6) and last [] (text 8000))
 
 abbrev pub type_shape : Shape (ℕ × (List ℕ × (List (List ℕ) × List ℕ))) TypeMsg
 type_shape = record {
@@ -142,16 +150,26 @@ binary_stats_shape = record {
 abbrev pub binary_stats : Member BinaryStatistics
 binary_stats = shaped binary_stats_shape (known (signed 1))
 
-abbrev pub column_stats_shape : Shape (ℕ × (Option IntegerStatistics × (Option StringStatistics × (Option BucketStatistics × (Option DateStatistics × (Option BinaryStatistics × Option Bool)))))) ColumnStats
+abbrev pub column_stats_shape : Shape (ℕ × (Option IntegerStatistics × (Option StringStatistics ×
+    (Option BucketStatistics × (Option DateStatistics × (Option BinaryStatistics × Option Bool)))))) ColumnStats
 column_stats_shape = record {
   into = λ m. (m.number_of_values, (m.int_statistics, (m.string_statistics, (m.bucket_statistics, (m.date_statistics, (m.binary_statistics, m.has_null))))));
-  from = λ p. record { number_of_values = p.0; int_statistics = p.1.0; string_statistics = p.1.1.0; bucket_statistics = p.1.1.1.0; date_statistics = p.1.1.1.1.0; binary_statistics = p.1.1.1.1.1.0; has_null = p.1.1.1.1.1.1 };
+  from = λ p. record {
+    number_of_values = p.0;
+    int_statistics = p.1.0;
+    string_statistics = p.1.1.0;
+    bucket_statistics = p.1.1.1.0;
+    date_statistics = p.1.1.1.1.0;
+    binary_statistics = p.1.1.1.1.1.0;
+    has_null = p.1.1.1.1.1.1;
+  };
   there = λ m. refl;
   here = λ p. refl;
 }
 
 abbrev pub column_stats : Member ColumnStats
-column_stats = shaped column_stats_shape (last 0 (number 1) and only integer_stats 0 2 and only string_stats 0 4 and only bucket_stats 0 5 and only date_stats 0 7 and only binary_stats 0 8 and known (flag 10))
+column_stats = shaped column_stats_shape (last 0 (number 1) and only integer_stats 0 2 and only string_stats 0 4 and only bucket_stats 0 5
+    and only date_stats 0 7 and only binary_stats 0 8 and known (flag 10))
 
 abbrev pub stripe_stats_shape : Shape (List ColumnStats) StripeStatistics
 stripe_stats_shape = record {
@@ -208,13 +226,28 @@ user_metadata_shape = record {
 abbrev pub user_metadata : Member UserMetadataItem
 user_metadata = shaped user_metadata_shape (last [] (text 1) and last [] (text 2))
 
-abbrev pub footer_shape : Shape (ℕ × (ℕ × (List StripeInfo × (List TypeMsg × (List UserMetadataItem × (ℕ × (List ColumnStats × (ℕ × (Option ℕ × List ℕ))))))))) Footer
+abbrev pub footer_shape : Shape (ℕ × (ℕ × (List StripeInfo × (List TypeMsg × (List UserMetadataItem ×
+    (ℕ × (List ColumnStats × (ℕ × (Option ℕ × List ℕ))))))))) Footer
 footer_shape = record {
-  into = λ m. (m.header_length, (m.content_length, (m.stripes, (m.types, (m.metadata, (m.number_of_rows, (m.statistics, (m.row_index_stride, (m.writer, m.kept)))))))));
-  from = λ p. record { header_length = p.0; content_length = p.1.0; stripes = p.1.1.0; types = p.1.1.1.0; metadata = p.1.1.1.1.0; number_of_rows = p.1.1.1.1.1.0; statistics = p.1.1.1.1.1.1.0; row_index_stride = p.1.1.1.1.1.1.1.0; writer = p.1.1.1.1.1.1.1.1.0; kept = p.1.1.1.1.1.1.1.1.1 };
+  into = λ m.
+      (m.header_length, (m.content_length, (m.stripes, (m.types, (m.metadata, (m.number_of_rows, (m.statistics, (m.row_index_stride, (m.writer, m.kept)))))))));
+  from = λ p. record {
+    header_length = p.0;
+    content_length = p.1.0;
+    stripes = p.1.1.0;
+    types = p.1.1.1.0;
+    metadata = p.1.1.1.1.0;
+    number_of_rows = p.1.1.1.1.1.0;
+    statistics = p.1.1.1.1.1.1.0;
+    row_index_stride = p.1.1.1.1.1.1.1.0;
+    writer = p.1.1.1.1.1.1.1.1.0;
+    kept = p.1.1.1.1.1.1.1.1.1;
+  };
   there = λ m. refl;
   here = λ p. refl;
 }
 
 abbrev pub footer : Member Footer
-footer = shaped footer_shape (last 0 (number 1) and last 0 (number 2) and each (message stripe_info 0 3) and each (message type_msg 1 4) and each (message user_metadata 0 5) and last 0 (number 6) and each (message column_stats 0 7) and last 0 (small 8) and known (small 9) and all (kept_from 10))
+footer = shaped footer_shape (last 0 (number 1) and last 0 (number 2) and each (message stripe_info 0 3) and each (message type_msg 1 4)
+    and each (message user_metadata 0 5) and last 0 (number 6) and each (message column_stats 0 7) and last 0 (small 8) and known (small 9)
+    and all (kept_from 10))

@@ -31,7 +31,8 @@ pub record IsLargeVarint (limit : ℕ) (bytes : List ℕ) : Type 0 where
 
 -- after good ones comes what is no varint, or one past the limit
 abbrev pub FailsNext : ℕ → List ℕ → ℕ → WireFault → Type 0
-FailsNext limit bytes place fault = ((bytes ≡ [] → ⊥) × (why : BitFault) × NoVarint bytes why × (fault ≡ fault_at place why)) ⊎ (IsLargeVarint limit bytes × (fault ≡ ValueRange place))
+FailsNext limit bytes place fault = ((bytes ≡ [] → ⊥) × (why : BitFault) × NoVarint bytes why × (fault ≡ fault_at place why)) ⊎
+    (IsLargeVarint limit bytes × (fault ≡ ValueRange place))
 
 pub record FailsWithin (limit : ℕ) (bytes : List ℕ) (place : ℕ) (fault : WireFault) : Type 0 where
   pub values : List ℕ

@@ -25,13 +25,8 @@ pub(crate) fn take_only<M: Message>(
             if slot.is_some() {
                 return Err(WireFault::RepeatedMessage(field.place));
             }
-            match M::read_fields(alloc, fields) {
-                Ok(message) => {
-                    *slot = Some(message);
-                    Ok(())
-                }
-                Err(fault) => Err(fault),
-            }
+            *slot = Some(M::read_fields(alloc, fields)?);
+            Ok(())
         }
     }
 }
@@ -48,12 +43,9 @@ pub(crate) fn take_each<M: Message>(
 {
     match field.message(n) {
         None => Ok(()),
-        Some(fields) => match M::read_fields(alloc, fields) {
-            Ok(message) => {
-                slot.push(message)?;
-                Ok(())
-            }
-            Err(fault) => Err(fault),
-        },
+        Some(fields) => {
+            slot.push(M::read_fields(alloc, fields)?)?;
+            Ok(())
+        }
     }
 }

@@ -56,14 +56,8 @@ pub trait Message: Sized + Drop {
         let mut message = Self::empty(alloc);
         let mut complete = Self::REQUIRED == 0;
         for next in fields {
-            let field = match next {
-                Ok(field) => field,
-                Err(fault) => return Err(fault),
-            };
-            match message.take(alloc, &field) {
-                Ok(()) => {}
-                Err(fault) => return Err(fault),
-            }
+            let field = next?;
+            message.take(alloc, &field)?;
             let found = field.varint(Self::REQUIRED).is_some();
             complete = complete || found;
         }

@@ -3,7 +3,7 @@ use super::*;
 use crate::day_text::{day_of_text, day_text, has_text};
 
 /// Days and the texts of their dates.
-const DAYS: [(i32, &'static str); 9] = [
+static DAYS: [(i32, &'static str); 9] = [
     (0, "1970-01-01"),
     (-1, "1969-12-31"),
     (-719162, "0001-01-01"),
@@ -16,7 +16,7 @@ const DAYS: [(i32, &'static str); 9] = [
 ];
 
 /// Values of JSON under types, and what they are printed as again.
-const SPELLED: [(&'static str, &'static str, &'static str); 29] = [
+static SPELLED: [(&'static str, &'static str, &'static str); 29] = [
     ("boolean", "true", "true"),
     ("boolean", "false", "false"),
     ("tinyint", "-128", "-128"),
@@ -49,7 +49,7 @@ const SPELLED: [(&'static str, &'static str, &'static str); 29] = [
 ];
 
 /// Values of JSON that spell nothing under their type, and why.
-const UNSPELLED: [(&'static str, &'static str, JsonFault); 47] = [
+static UNSPELLED: [(&'static str, &'static str, JsonFault); 47] = [
     ("boolean", "0", JsonFault::WrongShape),
     ("boolean", "\"true\"", JsonFault::WrongShape),
     ("tinyint", "true", JsonFault::WrongShape),
@@ -99,46 +99,24 @@ const UNSPELLED: [(&'static str, &'static str, JsonFault); 47] = [
     ("binary", "\"0 \"", JsonFault::BadHex),
 ];
 
+/// Whether the day has this text, and is read from it.
+fn is_day(alloc: Global, day: i32, text: &str) -> Result<bool, AllocError> {
+    if !has_text(day) || day_of_text(text) != Some(day) {
+        return Ok(false);
+    }
+    Ok(day_text(alloc, day)?.as_str() == text)
+}
+
 #[test]
 fn days(rt: HostRuntime) {
     let alloc = rt.alloc();
-    let mut refused = false;
-    for (day, text) in DAYS {
-        assert!(rt; has_text(day), "day {day}");
-        assert_eq!(rt; day_of_text(text), Some(day));
-        match day_text(alloc, day) {
-            Ok(shown) => assert_eq!(rt; shown.as_str(), text),
-            Err(_) => note_refusal(&rt, &mut refused),
+    for &(day, text) in &DAYS {
+        let mut held = is_day(alloc, day, text);
+        if held.is_err() {
+            held = is_day(alloc, day, text);
         }
+        assert!(rt; matches!(held, Ok(true)), "day {day}");
     }
-}
-
-#[test]
-fn leaves(rt: HostRuntime) {
-    let alloc = rt.alloc();
-    let tried = check_leaves(&rt, alloc);
-    if tried == Err(JsonFault::OutOfMemory) {
-        assert_eq!(rt; check_leaves(&rt, alloc), Ok(()), "once memory is there");
-    } else {
-        assert_eq!(rt; tried, Ok(()));
-    }
-}
-
-fn check_leaves(rt: &impl Abort, alloc: Global) -> Result<(), JsonFault> {
-    for (kind, json, again) in SPELLED {
-        let wanted = field_v(alloc, again)?;
-        assert!(rt;
-            leaf_comes_to(alloc, kind, json, Ok(wanted.as_str()))?,
-            "{json} under {kind}"
-        );
-    }
-    for (kind, json, fault) in UNSPELLED {
-        assert!(rt;
-            leaf_comes_to(alloc, kind, json, Err(fault))?,
-            "{json} under {kind}"
-        );
-    }
-    Ok(())
 }
 
 /// An object of one field.
@@ -158,10 +136,44 @@ fn leaf_comes_to(
     comes_to(alloc, schema.as_str(), object.as_str(), wanted)
 }
 
+/// Whether it is a row whose field is printed so.
+fn is_printed_again(alloc: Global, kind: &str, json: &str, again: &str) -> Result<bool, JsonFault> {
+    let wanted = field_v(alloc, again)?;
+    leaf_comes_to(alloc, kind, json, Ok(wanted.as_str()))
+}
+
+#[test]
+fn leaves(rt: HostRuntime) {
+    let alloc = rt.alloc();
+    for &(kind, json, again) in &SPELLED {
+        let mut held = is_printed_again(alloc, kind, json, again);
+        if held.is_err() {
+            held = is_printed_again(alloc, kind, json, again);
+        }
+        assert!(rt; matches!(held, Ok(true)), "{json} under {kind}");
+    }
+}
+
+#[test]
+fn no_leaves(rt: HostRuntime) {
+    let alloc = rt.alloc();
+    for &(kind, json, fault) in &UNSPELLED {
+        let mut held = leaf_comes_to(alloc, kind, json, Err(fault));
+        if held.is_err() {
+            held = leaf_comes_to(alloc, kind, json, Err(fault));
+        }
+        assert!(rt; matches!(held, Ok(true)), "{json} under {kind}");
+    }
+}
+
+/// Whether the fault is shown as the text.
+fn is_shown_as(alloc: Global, fault: JsonFault, text: &str) -> Result<bool, AllocError> {
+    Ok(format!(in alloc; "{fault}")?.as_str() == text)
+}
+
 #[test]
 fn json_fault_texts(rt: HostRuntime) {
     let alloc = rt.alloc();
-    let mut refused = false;
     let table = [
         (JsonFault::Syntax, "json 1 Syntax"),
         (JsonFault::WrongShape, "json 2 WrongShape"),
@@ -173,9 +185,10 @@ fn json_fault_texts(rt: HostRuntime) {
         (JsonFault::OutOfMemory, "json 8 OutOfMemory"),
     ];
     for (fault, text) in table {
-        match format!(in alloc; "{fault}") {
-            Ok(shown) => assert_eq!(rt; shown.as_str(), text),
-            Err(_) => note_refusal(&rt, &mut refused),
+        let mut held = is_shown_as(alloc, fault, text);
+        if held.is_err() {
+            held = is_shown_as(alloc, fault, text);
         }
+        assert!(rt; matches!(held, Ok(true)), "{text}");
     }
 }

@@ -1,3 +1,7 @@
+ghost use Rattle.std.specs.Prelude.{◌≡◌, true};
+ghost use Rattle.orc_types.specs.Fits.{fits as spec_fits};
+ghost use Rattle.orc_types.specs.Views.{view};
+
 use super::rows::{KINDS, KINDS_ROW, rows_of};
 use super::*;
 use JsonFault::{DuplicateField, Range, UnknownField, WrongShape};
@@ -7,7 +11,7 @@ use serde_json::Value as Json;
 /// it spells none.
 type Case = (&'static str, &'static str, Result<&'static str, JsonFault>);
 
-const LEAF_ROWS: [Case; 10] = [
+static LEAF_ROWS: [Case; 10] = [
     ("struct<b:tinyint>", r#"{"b":128}"#, Err(Range)),
     ("struct<b:tinyint>", r#"{"b":"1"}"#, Err(WrongShape)),
     ("struct<b:tinyint>", r#"{"x":1}"#, Err(UnknownField)),
@@ -36,7 +40,7 @@ const LEAF_ROWS: [Case; 10] = [
     ),
 ];
 
-const NESTED_ROWS: [Case; 18] = [
+static NESTED_ROWS: [Case; 18] = [
     ("struct<b:tinyint>", r#"{"b":1,"x":2}"#, Err(UnknownField)),
     ("struct<b:tinyint>", "null", Ok("null")),
     ("struct<b:tinyint>", "[1]", Err(WrongShape)),
@@ -97,35 +101,32 @@ const NESTED_ROWS: [Case; 18] = [
 const KINDS_JSON: &str =
     r#"{"a":[8,9],"b":true,"d":"1970-01-04","i":3,"l":4,"s":2,"t":"x","v":"78","y":1}"#;
 
-#[test]
-fn json_rows(rt: HostRuntime) {
-    let alloc = rt.alloc();
-    let tried = check_json_rows(&rt, alloc);
-    if tried == Err(JsonFault::OutOfMemory) {
-        assert_eq!(rt; check_json_rows(&rt, alloc), Ok(()), "once memory is there");
-    } else {
-        assert_eq!(rt; tried, Ok(()));
+/// The text that the row is printed as.
+fn printed(alloc: Global, schema: &Schema, row: &Row<'_>) -> Result<String, JsonFault>
+    requires { spec_fits (view row.now) schema.now ≡ true }
+{
+    let json = row_to_json(alloc, schema, row)?;
+    Ok(json.to_string(alloc)?)
+}
+
+/// What the row that the JSON spells is printed as.
+fn printed_under(alloc: Global, schema: &Schema, json: &str) -> Result<String, JsonFault> {
+    let Ok(json) = Json::from_str(alloc, json) else {
+        return Err(JsonFault::OutOfMemory);
+    };
+    let row = row_from_json(alloc, schema, &json)?;
+    printed(alloc, schema, &row)
+}
+
+/// The same under the schema of a text. Of the texts of the tests, want of memory alone refuses any.
+fn printed_again(alloc: Global, schema: &str, json: &str) -> Result<String, JsonFault> {
+    match Schema::parse(alloc, schema) {
+        Ok(schema) => printed_under(alloc, &schema, json),
+        Err(_) => Err(JsonFault::OutOfMemory),
     }
 }
 
-fn check_json_rows(rt: &impl Abort, alloc: Global) -> Result<(), JsonFault> {
-    for (schema, json, wanted) in LEAF_ROWS {
-        assert!(rt;
-            comes_to(alloc, schema, json, wanted)?,
-            "{json} under {schema}"
-        );
-    }
-    for (schema, json, wanted) in NESTED_ROWS {
-        assert!(rt;
-            comes_to(alloc, schema, json, wanted)?,
-            "{json} under {schema}"
-        );
-    }
-    Ok(())
-}
-
-/// Whether JSON under a schema comes to what is wanted. Of the texts of the tests, want of memory
-/// alone refuses any.
+/// Whether JSON under a schema comes to what is wanted.
 pub fn comes_to(
     alloc: Global,
     schema: &str,
@@ -140,81 +141,111 @@ pub fn comes_to(
     }
 }
 
-/// What the row that the JSON spells is printed as.
-fn printed_again(alloc: Global, schema: &str, json: &str) -> Result<String, JsonFault> {
-    let Ok(schema) = Schema::parse(alloc, schema) else {
+/// Each comes to what is wanted.
+fn check_cases(rt: &impl Abort, alloc: Global, cases: &[Case]) {
+    for &(schema, json, wanted) in cases {
+        let mut held = comes_to(alloc, schema, json, wanted);
+        if held.is_err() {
+            held = comes_to(alloc, schema, json, wanted);
+        }
+        assert!(rt; matches!(held, Ok(true)), "{json} under {schema}");
+    }
+}
+
+#[test]
+fn json_rows(rt: HostRuntime) {
+    let alloc = rt.alloc();
+    check_cases(&rt, alloc, &LEAF_ROWS);
+    check_cases(&rt, alloc, &NESTED_ROWS);
+}
+
+/// Whether the row fits, and is printed as the text.
+fn is_printed_as(
+    alloc: Global,
+    schema: &Schema,
+    row: &Row<'_>,
+    text: &str,
+) -> Result<bool, JsonFault> {
+    if !fits(schema, row) {
+        return Ok(false);
+    }
+    Ok(printed(alloc, schema, row)?.as_str() == text)
+}
+
+/// A row of borrowed values is printed.
+fn prints_each_kind(alloc: Global) -> Result<bool, JsonFault> {
+    let Ok(schema) = schema_of(alloc, &KINDS) else {
         return Err(JsonFault::OutOfMemory);
     };
-    let Ok(json) = Json::from_str(alloc, json) else {
-        return Err(JsonFault::OutOfMemory);
-    };
-    let row = row_from_json(alloc, &schema, &json)?;
-    Ok(row_to_json(alloc, &schema, &row)?.to_string(alloc)?)
+    let rows = rows_of(alloc, &KINDS_ROW)?;
+    match rows.as_slice() {
+        [row] => is_printed_as(alloc, &schema, row, KINDS_JSON),
+        _ => Ok(false),
+    }
+}
+
+/// No row is printed where a struct names a field twice.
+fn prints_no_name_twice(alloc: Global) -> Result<bool, JsonFault> {
+    match Schema::parse(alloc, "struct<a:int,a:int>") {
+        Ok(twice) => Ok(matches!(row_to_json(alloc, &twice, &None), Err(DuplicateField))),
+        Err(_) => Err(JsonFault::OutOfMemory),
+    }
+}
+
+fn printing_holds(alloc: Global) -> Result<bool, JsonFault> {
+    Ok(prints_each_kind(alloc)? && prints_no_name_twice(alloc)?)
 }
 
 #[test]
 fn rows_printed(rt: HostRuntime) {
     let alloc = rt.alloc();
-    let tried = check_printing(&rt, alloc);
-    if tried == Err(TypeFault::OutOfMemory) {
-        assert_eq!(rt; check_printing(&rt, alloc), Ok(()), "once memory is there");
-    } else {
-        assert_eq!(rt; tried, Ok(()));
+    let mut held = printing_holds(alloc);
+    if held.is_err() {
+        held = printing_holds(alloc);
     }
+    assert!(rt; matches!(held, Ok(true)));
 }
 
-/// A row of borrowed values is printed, and none where a struct names a field twice.
-fn check_printing(rt: &impl Abort, alloc: Global) -> Result<(), TypeFault> {
-    let schema = schema_of(alloc, &KINDS)?;
-    for row in rows_of(alloc, &KINDS_ROW)? {
-        assert!(rt; fits(&schema, &row));
-        let Ok(json) = row_to_json(alloc, &schema, &row) else {
-            return Err(TypeFault::OutOfMemory);
-        };
-        assert_eq!(rt; json.to_string(alloc)?.as_str(), KINDS_JSON);
-    }
-    let twice = Schema::parse(alloc, "struct<a:int,a:int>")?;
-    assert!(rt; matches!(row_to_json(alloc, &twice, &None), Err(DuplicateField)));
-    Ok(())
+/// Adds a field of numbers that is named by its own.
+fn push_field(alloc: Global, text: &mut String, i: u32) -> Result<(), AllocError> {
+    let field = format!(in alloc; "f{i}:int,")?;
+    text.push_str(field.as_str())
 }
 
 /// The text of a struct of that many fields of numbers, named by theirs, and behind them one more.
 fn wide(alloc: Global, fields: u32, last: &str) -> Result<String, AllocError> {
     let mut text = String::from_str(alloc, "struct<")?;
     for i in 0..fields {
-        let field = format!(in alloc; "f{i}:int,")?;
-        text.push_str(field.as_str())?;
+        push_field(alloc, &mut text, i)?;
     }
     text.push_str(last)?;
     text.push_str(":int>")?;
     Ok(text)
 }
 
+/// The most fields that a schema has, of which the last has a name of its own.
+fn prints_the_last(alloc: Global) -> Result<bool, JsonFault> {
+    let schema = wide(alloc, 4094, "g")?;
+    let text = printed_again(alloc, schema.as_str(), r#"{"g":1,"f4093":2}"#)?;
+    Ok(text.as_str().ends_with(r#","f999":null,"g":1}"#))
+}
+
+/// As many fields, of which the last has the first's name.
+fn refuses_the_first_again(alloc: Global) -> Result<bool, JsonFault> {
+    let schema = wide(alloc, 4094, "f0")?;
+    comes_to(alloc, schema.as_str(), "null", Err(DuplicateField))
+}
+
+fn many_fields_hold(alloc: Global) -> Result<bool, JsonFault> {
+    Ok(prints_the_last(alloc)? && refuses_the_first_again(alloc)?)
+}
+
 #[test]
 fn many_fields(rt: HostRuntime) {
     let alloc = rt.alloc();
-    let tried = check_many_fields(&rt, alloc);
-    if tried == Err(JsonFault::OutOfMemory) {
-        assert_eq!(rt;
-            check_many_fields(&rt, alloc),
-            Ok(()),
-            "once memory is there"
-        );
-    } else {
-        assert_eq!(rt; tried, Ok(()));
+    let mut held = many_fields_hold(alloc);
+    if held.is_err() {
+        held = many_fields_hold(alloc);
     }
-}
-
-/// The most fields that a schema has, of which the last has a name of its own or the first's.
-fn check_many_fields(rt: &impl Abort, alloc: Global) -> Result<(), JsonFault> {
-    let differing = wide(alloc, 4094, "g")?;
-    let printed = printed_again(alloc, differing.as_str(), r#"{"g":1,"f4093":2}"#)?;
-    assert!(rt; printed.as_str().ends_with(r#","f999":null,"g":1}"#));
-    let twice = wide(alloc, 4094, "f0")?;
-    let refused = printed_again(alloc, twice.as_str(), "null").err();
-    assert!(rt; refused == Some(DuplicateField) || refused == Some(JsonFault::OutOfMemory));
-    if refused == Some(JsonFault::OutOfMemory) {
-        return Err(JsonFault::OutOfMemory);
-    }
-    Ok(())
+    assert!(rt; matches!(held, Ok(true)));
 }
