@@ -14,7 +14,8 @@ mod refused;
 mod rows;
 mod texts;
 
-// What memory refused is tried again, and its answer is then demanded.
+// What memory refused is tried again, and its answer is then demanded. Long tables are statics: of
+// a constant, the proof of each function that reads it goes through every row.
 
 /// A type of a table: its kind's number, its subtypes, its fields' names.
 type Listed = (u32, &'static [u32], &'static [&'static [u8]]);
@@ -137,13 +138,13 @@ fn gives_lists_back(alloc: Global) -> Result<bool, TypeFault> {
     Ok(are_of_lists(schema.types()))
 }
 
-/// Types are given back as they came, and schemas are equal where their types are.
+/// Types are given back as they came, with what a struct, lists and a number keep, and schemas are
+/// equal where their types are.
 fn schemas_hold(alloc: Global) -> Result<bool, TypeFault> {
     Ok(
         gives_lists_back(alloc)?
             && are_equal(alloc, &LISTS, &LISTS)?
             && !are_equal(alloc, &LISTS, &OTHER_NAME)?
-            // of a struct, of lists and of a number
             && gives_kept_back(alloc, &LISTS)?
             && differs_by_kept(alloc, &LISTS)?,
     )
