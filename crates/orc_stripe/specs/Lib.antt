@@ -10,3 +10,4 @@ pub mod Directory
 pub mod Stripe
 pub mod Starting
 pub mod Opening
+pub mod Faults
