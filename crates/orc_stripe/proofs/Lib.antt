@@ -13,3 +13,4 @@ pub mod Ends
 pub mod Opened
 pub mod Entries
 pub mod RowsLemmas
+pub mod FaultLemmas

@@ -1,11 +1,12 @@
 -- Which fault of a column can be answered, by its kind and encoding (ORC specification, "Column Encodings").
-use Rattle.std.specs.Prelude.{◌≡◌, ◌≢◌, ℕ, suc, ◌+◌, ◌<◌, ◌≤◌, ◌^◌, Bool, true, false, List, [], ◌∷◌, take, drop, is_some, ◌⊎◌}
+use Rattle.std.specs.Prelude.{◌≡◌, ◌≢◌, ℕ, suc, ◌+◌, ◌<◌, ◌≤◌, ◌^◌, Bool, true, false, List, [], ◌∷◌, take, drop, Option, Some, None, is_some, ◌⊎◌}
 use Rattle.orc_types.specs.Cells.{Cell}
 use Rattle.orc_types.specs.Shapes.{Shape, scalar, list_of, struct_of, Fields, no_field, field, width, shape_at}
 use Rattle.orc_types.specs.declared.kind.Scalar.{Scalar}
 use Rattle.orc_types.specs.declared.kind.Scalar.TheVariants as kind
 use Rattle.orc_rle.specs.declared.fault.RunFault.{RunFault}
 use Rattle.orc_rle.specs.declared.fault.RunFault.TheVariants as run
+use Rattle.orc_stripe.specs.declared.bits.Bits.{Bits}
 use Rattle.orc_stripe.specs.declared.column.Source.{Source}
 use Rattle.orc_stripe.specs.declared.column.ColumnReader.{ColumnReader}
 use Rattle.orc_stripe.specs.declared.fault.StreamKind.{StreamKind}
@@ -94,6 +95,11 @@ abbrev mutual
 
 abbrev pub FaultDown : Shape → (ℕ → Streams) → ℕ → StripeFault → Type 0
 FaultDown s columns n f = FaultFrom (FaultBelow s columns) s columns n f
+
+-- where the run of the marks begins that was read last
+abbrev pub last_start : Option Bits → ℕ
+last_start None = 0
+last_start (Some bits) = bits.bytes.start
 
 -- of a reader, what it is of: reading leaves it as it is
 pub record Origin : Type 0 where
