@@ -10,15 +10,15 @@ use Rattle.orc_stripe.specs.declared.column.ColumnReader.{ColumnReader}
 use Rattle.orc_stripe.specs.declared.fault.StreamKind.TheVariants as stream
 use Rattle.orc_stripe.specs.declared.fault.StripeFault.{StripeFault}
 use Rattle.orc_stripe.specs.Stripe.{Streams, has_dictionary}
-use Rattle.orc_stripe.specs.Faults.{Origin, origin, source_origin, MarksFail, DataFail, IntsFail, GroupsFail, TextsFail, ScalarFails, ListsFail, ValuesFail, ColumnFails, HasFault, ReaderFault, BelowFault, OwnFault, ListsFault, FieldsFault, FaultBelow, FaultWithin, FaultDown, IsOf, AreOf, AreBelow, AreFields}
+use Rattle.orc_stripe.specs.Faults.{Origin, origin, source_origin, MarksFail, DataFail, IntsFail, GroupsFail, TextsFail, ScalarFails, ListsFail, ValuesFail, ColumnFails, HasFault, ReaderFault, BelowFault, OwnFault, ListsFault, FieldsFault, FaultBelow, FaultWithin, FaultDown, IsOf, AreOf, AreBelow, AreFields, SameDictionary, TooManyRows}
 use Rattle.orc_stripe.proofs.Arms.{put_behind, behind, some_width}
 
-map_take : {X Y : Type 0} (f : X → Y) (n : ℕ) (xs : List X) → map f (take n xs) ≡ take n (map f xs)
+pub map_take : {X Y : Type 0} (f : X → Y) (n : ℕ) (xs : List X) → map f (take n xs) ≡ take n (map f xs)
 map_take f zero xs = refl
 map_take f (suc n) [] = refl
 map_take f (suc n) (x ∷ xs) = ap (λ t. f x ∷ t) (map_take f n xs)
 
-map_drop : {X Y : Type 0} (f : X → Y) (n : ℕ) (xs : List X) → map f (drop n xs) ≡ drop n (map f xs)
+pub map_drop : {X Y : Type 0} (f : X → Y) (n : ℕ) (xs : List X) → map f (drop n xs) ≡ drop n (map f xs)
 map_drop f zero xs = refl
 map_drop f (suc n) [] = refl
 map_drop f (suc n) (x ∷ xs) = map_drop f n xs
@@ -104,6 +104,9 @@ fields_others_fault all name s fs before rest f is er h =
 
 -- ---- from the readers to the columns
 
+pub own_of : (s : Shape) (columns : ℕ → Streams) (n m : ℕ) (own : Origin) → n ≡ m → own.column ≡ n → SameDictionary s (columns n) own → IsOf s columns m own
+own_of s columns n m own e i d = subst (λ k. IsOf s columns k own) e (i, d)
+
 column_fails : (s : Shape) (columns : ℕ → Streams) (n : ℕ) (own : Origin) (f : StripeFault) → IsOf s columns n own → ValuesFail s own.dictionary own.column f → ValuesFail s (has_dictionary (columns n)) n f
 column_fails (scalar kind.Boolean o) columns n own f is h = subst (λ c. DataFail c f) is.0 h
 column_fails (scalar kind.Byte o) columns n own f is h = subst (λ c. DataFail c f) is.0 h
@@ -140,6 +143,11 @@ mutual
 
 pub readers_down : (s : Shape) (columns : ℕ → Streams) (n : ℕ) (readers : List Origin) (f : StripeFault) → AreOf s columns n readers → ReaderFault s readers f → FaultDown s columns n f
 readers_down s columns n readers f are h = from_down s columns n readers f (λ b a k. below_down s columns n b f a k) are h
+
+pub down_list : (s e : Shape) (o : List ℕ) (columns : ℕ → Streams) (n m : ℕ) (f : StripeFault) → s ≡ list_of e o → m ≡ n + 1 → FaultDown e columns m f → FaultDown s columns n f
+down_list s e o columns n m f is next h =
+    let g : m ≡ suc n = omega (arith, next) in
+    subst (λ t. FaultDown t columns n f) (sym is) (inr (subst (λ k. FaultDown e columns k f) g h))
 
 -- ---- by the columns' numbers
 
@@ -192,3 +200,18 @@ by_number s columns f h =
     let k = down_found s columns 0 f (λ b. below_found s columns 0 f b) h in
     let e : 0 + k.0 ≡ k.0 = omega arith in
     (k.0, k.1, subst (λ m. At (shape_at s k.0) columns m f) e k.2)
+
+-- ---- the rows of a stripe
+
+pub fault_from_start : (s t : Shape) (columns : ℕ → Streams) (old : List ColumnReader) (f : StripeFault) → t ≡ s → old ≡ [] → FaultDown t columns (length old) f → HasFault s columns f
+fault_from_start s t columns old f same none h =
+    by_number s columns f (subst (λ z. FaultDown z columns 0 f) same (subst (λ rs. FaultDown t columns (length rs) f) none h))
+
+pub fault_from_readers : (s t : Shape) (columns : ℕ → Streams) (readers : List Origin) (f : StripeFault) → t ≡ s → AreOf t columns 0 readers → ReaderFault t readers f → HasFault s columns f
+fault_from_readers s t columns readers f same are h =
+    by_number s columns f (subst (λ z. FaultDown z columns 0 f) same (readers_down t columns 0 readers f are h))
+
+pub reason_from_readers : (s t : Shape) (columns : ℕ → Streams) (count : ℕ) (readers : List Origin) (f : StripeFault) → t ≡ s → AreOf t columns 0 readers → TooManyRows count f ⊎ ReaderFault t readers f
+    → TooManyRows count f ⊎ HasFault s columns f
+reason_from_readers s t columns count readers f same are (inl h) = inl h
+reason_from_readers s t columns count readers f same are (inr h) = inr (fault_from_readers s t columns readers f same are h)

@@ -72,10 +72,14 @@ ColumnFails s dictionary column f = MarksFail column f ⊎ ValuesFail s dictiona
 abbrev pub HasFault : Shape → (ℕ → Streams) → StripeFault → Type 0
 HasFault schema columns f = (c : ℕ) × (c < width schema) × ColumnFails (shape_at schema c) (has_dictionary (columns c)) c f
 
+-- more rows than a column may have cells
+abbrev pub TooManyRows : ℕ → StripeFault → Type 0
+TooManyRows count f = (f ≡ fault.TooMany 0) × (2 ^ 31 ≤ count)
+
 -- Why there are no rows: more of them than a column may have cells, or a fault of a column. No rows are spelled then.
 pub record RowsFault (schema : Shape) (columns : ℕ → Streams) (count : ℕ) (f : StripeFault) : Type 0 where
   pub none : (rows : List Cell) → SpellRows schema columns count rows → ⊥
-  pub reason : ((f ≡ fault.TooMany 0) × (2 ^ 31 ≤ count)) ⊎ HasFault schema columns f
+  pub reason : TooManyRows count f ⊎ HasFault schema columns f
 
 -- ---- the same by going down the schema, as a reader does
 

@@ -7,6 +7,7 @@ ghost use Rattle.orc_types.specs.Views.{views};
 ghost use Rattle.orc_stripe.specs.Directory.{have_room};
 ghost use Rattle.orc_stripe.specs.Stripe.{HasFooter, SpellRows, columns_of};
 ghost use Rattle.orc_stripe.specs.Opening.{OpenFault};
+ghost use Rattle.orc_stripe.specs.Faults.{RowsFault};
 ghost use Rattle.orc_stripe.specs.declared.fault.StripeFault.TheVariants.{OutOfMemory};
 
 use crate::directory::{first_wrong, is_directory};
@@ -90,6 +91,7 @@ impl<'a> StripeView<'a> {
         ensures found { IfOk result (λ rows. SpellRows self.now.schema.now (columns_of self.now.footer self.now.bytes.now) self.now.info.number_of_rows (views rows.items)) }
         ensures only { (rows : List Cell) → SpellRows self.now.schema.now (columns_of self.now.footer self.now.bytes.now) self.now.info.number_of_rows rows
             → MatchResult result (λ answered. views answered.items ≡ rows) (λ fault. fault ≡ OutOfMemory) }
+        ensures fault { IfErr result (λ cause. cause ≢ OutOfMemory → RowsFault self.now.schema.now (columns_of self.now.footer self.now.bytes.now) self.now.info.number_of_rows cause) }
     {
         let tree = self.schema.tree();
         let mut readers = Vec::new(alloc);

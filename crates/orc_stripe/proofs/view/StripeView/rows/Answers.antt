@@ -1,10 +1,12 @@
-use Rattle.std.proofs.Common.{◌≡◌, [], sym, subst}
+use Rattle.std.proofs.Common.{map, inl, inr, ◌≡◌, [], sym, subst}
 use Rattle.orc_types.specs.Views.{views, shape}
 use Rattle.orc_stripe.specs.Starting.{TreeStart}
 use Rattle.orc_stripe.specs.Stripe.{columns_of, SpellRows, SpellsCells}
 use Rattle.orc_stripe.proofs.ByNumber.{from_number}
 use Rattle.orc_stripe.proofs.RowsLemmas.{only_memory}
-use Rattle.orc_stripe.proofs.Started.{all_put, none_put}
+use Rattle.orc_stripe.proofs.Started.{all_put, all_origins, none_put}
+use Rattle.orc_stripe.specs.Faults.{RowsFault, AreOf, origin}
+use Rattle.orc_stripe.proofs.FaultLemmas.{fault_from_start, reason_from_readers}
 use Rattle.orc_stripe.proofs.view.StripeView.rows.Goals as goal
 
 pub returns-in-Ok-all_rows-clause-found : goal.returns-in-Ok-all_rows-clause-found
@@ -42,3 +44,23 @@ returns-clause-only c = λ rows h.
     only_memory c.in-Err.fault (λ other.
     c.in-Err.ensures.none other rows (none_put v.footer v.bytes.now (shape c.tree-tree.result.now) c.new-readers.result.items rows c.new-readers.ensures.items
     (subst (λ t. SpellsCells t x rows) (sym s) (from_number v.schema.now x v.info.number_of_rows rows h))))
+
+pub returns-in-Ok-clause-fault : goal.returns-in-Ok-clause-fault
+returns-in-Ok-clause-fault c = λ memory.
+    let v = c.args.self.now in
+    let x = columns_of v.footer v.bytes.now in
+    let made = all_origins v.footer v.bytes.now (shape c.tree-tree.result.now) c.new-readers.result.items c.put_tree.new.readers.items c.new-readers.ensures.items c.in-Ok.ensures.found in
+    let are = subst (λ rs. AreOf (shape c.tree-tree.result.now) x 0 (map origin rs)) (sym c.deref_mut.ensures.value) made in
+    record {
+      none = λ rows h. memory (returns-in-Ok-clause-only c rows h);
+      reason = reason_from_readers v.schema.now (shape c.tree-tree.result.now) x v.info.number_of_rows _ c.in-Err-all_rows.fault c.tree-tree.ensures.same are (c.in-Err-all_rows.ensures.fault memory);
+    }
+
+pub returns-clause-fault : goal.returns-clause-fault
+returns-clause-fault c = λ memory.
+    let v = c.args.self.now in
+    let x = columns_of v.footer v.bytes.now in
+    record {
+      none = λ rows h. memory (returns-clause-only c rows h);
+      reason = inr (fault_from_start v.schema.now (shape c.tree-tree.result.now) x c.new-readers.result.items c.in-Err.fault c.tree-tree.ensures.same c.new-readers.ensures.items (c.in-Err.ensures.fault memory));
+    }
