@@ -14,3 +14,4 @@ pub mod Opened
 pub mod Entries
 pub mod RowsLemmas
 pub mod FaultLemmas
+pub mod DirectoryLemmas

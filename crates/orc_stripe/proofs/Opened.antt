@@ -1,6 +1,6 @@
 -- Why a stripe isn't opened.
 use Rattle.std.proofs.Common.{Bool, true, false, Option, Some, if◌then◌else◌, nat_le, ◌≡◌, ◌≢◌, ◌+◌, ◌-◌, ◌≤◌, ℕ, None, List, [], ◌∷◌, length, refl, inl, inr, ◌⊎◌, sym, ap, ◌∙◌, subst, arith}
-use Rattle.std.proofs.lemmas.Bool.{and_parts, leb-true, le-leb}
+use Rattle.std.proofs.lemmas.Bool.{both_ways, and_parts, leb-true, le-leb}
 use Rattle.orc_types.specs.Shapes.{width}
 use Rattle.orc_types.specs.Types.{types}
 use Rattle.orc_types.proofs.Trees.{length-types}
@@ -23,6 +23,10 @@ pub fault_of : (s : Shape) (info : StripeInfo) (bytes : List ℕ) (cause : WireF
 fault_of s info bytes cause f (inl e) h = subst (OpenFault s info bytes) (sym e) tt
 fault_of s info bytes cause f (inr p) (inl m) = absurd (p.1 m)
 fault_of s info bytes cause f (inr p) (inr h) = subst (OpenFault s info bytes) (sym p.0) h
+
+pub refused_for_memory : (f : StripeFault) (accepted : Bool) → (f ≡ fault.OutOfMemory) ⊎ ((f ≡ fault.BadDirectory) × (accepted ≡ false)) → accepted ≡ true → f ≡ fault.OutOfMemory
+refused_for_memory f accepted (inl m) a = m
+refused_for_memory f accepted (inr b) a = absurd (both_ways accepted b.1 a)
 
 -- ---- what is known of a stripe that is opened
 

@@ -10,7 +10,7 @@ ghost use Rattle.orc_stripe.specs.Opening.{OpenFault};
 ghost use Rattle.orc_stripe.specs.Faults.{RowsFault};
 ghost use Rattle.orc_stripe.specs.declared.fault.StripeFault.TheVariants.{OutOfMemory};
 
-use crate::directory::{first_wrong, is_directory};
+use crate::directory::{check_directory, first_wrong};
 use crate::fault::{StripeFault, wire_fault};
 use crate::rows::all_rows;
 use crate::starting::put_tree;
@@ -63,8 +63,13 @@ impl<'a> StripeView<'a> {
             Ok(footer) => footer,
             Err(fault) => return Err(wire_fault(fault)),
         };
-        if !is_directory(schema.width(), room, footer.streams.as_slice()) {
-            return Err(StripeFault::BadDirectory);
+        if let Err(fault) = check_directory(
+            alloc,
+            schema.width(),
+            room,
+            footer.streams.as_slice(),
+        ) {
+            return Err(fault);
         }
         match first_wrong(schema.types(), footer.columns.as_slice()) {
             Some(column) => Err(StripeFault::BadEncoding(column)),
