@@ -15,3 +15,4 @@ pub mod Entries
 pub mod RowsLemmas
 pub mod FaultLemmas
 pub mod DirectoryLemmas
+pub mod OneStripe

@@ -11,3 +11,4 @@ pub mod Stripe
 pub mod Starting
 pub mod Opening
 pub mod Faults
+pub mod Opened

@@ -6,7 +6,7 @@ use Rattle.orc_wire.specs.Messages.{stripe_footer}
 use Rattle.orc_wire.specs.Spells.{Spells}
 use Rattle.orc_stripe.specs.Directory.{is_directory, first_wrong}
 use Rattle.orc_stripe.specs.Opening.{OpenFault}
-use Rattle.orc_stripe.proofs.Opened.{refused_for_memory, fault_of, room_more, directory_room, encodings_there}
+use Rattle.orc_stripe.proofs.Opened.{refused_for_memory, fault_of}
 use Rattle.orc_stripe.proofs.view.StripeView.open.Goals as goal
 
 pub returns-in-Err-clause-only : goal.returns-in-Err-clause-only
@@ -43,14 +43,3 @@ pub returns-clause-only : goal.returns-clause-only
 returns-clause-only c = λ footer h.
     let b : c.split_at.result.1.now ≡ drop (c.args.info.index_length + c.args.info.data_length) c.args.bytes.now = search rules in
     c.in-Ok.ensures.only footer (subst (λ t. Spells stripe_footer 0 0 t footer) (sym b) h.read)
-
-pub invariant_of-result : goal.invariant_of-result
-invariant_of-result c =
-    let w : length c.args.bytes.now ≡ c.args.info.index_length + c.args.info.data_length + c.args.info.footer_length = search rules in
-    let d : is_directory (width c.args.schema.now) (c.args.info.index_length + c.args.info.data_length) c.in-Ok.footer.streams ≡ true = search rules in
-    let f : first_wrong 0 (types c.args.schema.now 0) c.in-Ok.footer.columns ≡ None = search rules in
-    record {
-      room = room_more (c.args.info.index_length + c.args.info.data_length) (length c.args.bytes.now) c.in-Ok.footer.streams (omega (arith, w))
-          (directory_room (width c.args.schema.now) (c.args.info.index_length + c.args.info.data_length) c.in-Ok.footer.streams d);
-      columns = encodings_there c.args.schema.now c.in-Ok.footer.columns f;
-    }
