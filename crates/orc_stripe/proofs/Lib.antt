@@ -13,3 +13,6 @@ pub mod Ends
 pub mod Opened
 pub mod Entries
 pub mod RowsLemmas
+pub mod FaultLemmas
+pub mod DirectoryLemmas
+pub mod OneStripe

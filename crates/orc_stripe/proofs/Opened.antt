@@ -1,6 +1,6 @@
 -- Why a stripe isn't opened.
 use Rattle.std.proofs.Common.{Bool, true, false, Option, Some, if◌then◌else◌, nat_le, ◌≡◌, ◌≢◌, ◌+◌, ◌-◌, ◌≤◌, ℕ, None, List, [], ◌∷◌, length, refl, inl, inr, ◌⊎◌, sym, ap, ◌∙◌, subst, arith}
-use Rattle.std.proofs.lemmas.Bool.{and_parts, leb-true, le-leb}
+use Rattle.std.proofs.lemmas.Bool.{both_ways, and_parts, leb-true, le-leb}
 use Rattle.orc_types.specs.Shapes.{width}
 use Rattle.orc_types.specs.Types.{types}
 use Rattle.orc_types.proofs.Trees.{length-types}
@@ -14,7 +14,9 @@ use Rattle.orc_wire.specs.declared.fault.WireFault.{WireFault}
 use Rattle.orc_wire.specs.declared.fault.WireFault.TheVariants as wire
 use Rattle.orc_wire.specs.Messages.{stripe_footer}
 use Rattle.orc_wire.specs.Spells.{Faults}
+use Rattle.orc_wire.specs.declared.stripe_footer.StripeFooter.{StripeFooter}
 use Rattle.orc_stripe.specs.Opening.{OpenFault, footer_bytes}
+use Rattle.orc_stripe.specs.Stripe.{HasFooter}
 use Rattle.orc_stripe.specs.declared.fault.StripeFault.{StripeFault}
 use Rattle.orc_stripe.specs.declared.fault.StripeFault.TheVariants as fault
 
@@ -23,6 +25,10 @@ pub fault_of : (s : Shape) (info : StripeInfo) (bytes : List ℕ) (cause : WireF
 fault_of s info bytes cause f (inl e) h = subst (OpenFault s info bytes) (sym e) tt
 fault_of s info bytes cause f (inr p) (inl m) = absurd (p.1 m)
 fault_of s info bytes cause f (inr p) (inr h) = subst (OpenFault s info bytes) (sym p.0) h
+
+pub refused_for_memory : (f : StripeFault) (accepted : Bool) → (f ≡ fault.OutOfMemory) ⊎ ((f ≡ fault.BadDirectory) × (accepted ≡ false)) → accepted ≡ true → f ≡ fault.OutOfMemory
+refused_for_memory f accepted (inl m) a = m
+refused_for_memory f accepted (inr b) a = absurd (both_ways accepted b.1 a)
 
 -- ---- what is known of a stripe that is opened
 
@@ -48,3 +54,10 @@ as_many n (t ∷ ts) (e ∷ es) h = let k = as_many (n + 1) ts es (none_wrong (t
 
 pub encodings_there : (s : Shape) (es : List Encoding) → first_wrong 0 (types s 0) es ≡ None → width s ≡ length es
 encodings_there s es h = sym (length-types s 0) ∙ as_many 0 (types s 0) es h
+
+pub footer_room : (s : Shape) (info : StripeInfo) (bytes : List ℕ) (footer : StripeFooter) → HasFooter s info bytes footer → have_room (length bytes) footer.streams ≡ true
+footer_room s info bytes footer h =
+    room_more (info.index_length + info.data_length) (length bytes) footer.streams (omega (arith, h.whole)) (directory_room (width s) (info.index_length + info.data_length) footer.streams h.directory)
+
+pub footer_columns : (s : Shape) (info : StripeInfo) (bytes : List ℕ) (footer : StripeFooter) → HasFooter s info bytes footer → width s ≡ length footer.columns
+footer_columns s info bytes footer h = encodings_there s footer.columns h.encodings

@@ -1,5 +1,5 @@
 -- Readers that are made from the footer, in the columns' order.
-use Rattle.std.proofs.Common.{◌≡◌, ℕ, zero, suc, ◌+◌, ◌<◌, ◌≤◌, Bool, true, false, List, [], ◌∷◌, ◌++◌, length, take, drop, get_or, refl, sym, ap, ◌∙◌, subst, arith, append_assoc, append-nil, length-append}
+use Rattle.std.proofs.Common.{◌≡◌, ℕ, zero, suc, ◌+◌, ◌<◌, ◌≤◌, Bool, true, false, List, [], ◌∷◌, ◌++◌, map, length, take, drop, get_or, refl, sym, ap, ◌∙◌, subst, arith, append_assoc, append-nil, length-append}
 use Rattle.std.proofs.Math.Path.{fun_ext}
 use Rattle.std.proofs.Math.Seq.{take-append_seam, drop-append_seam}
 use Rattle.orc_types.specs.Cells.{Cell, values}
@@ -10,6 +10,8 @@ use Rattle.orc_wire.specs.declared.encoding.Encoding.{Encoding}
 use Rattle.orc_wire.specs.declared.stripe_footer.StripeFooter.{StripeFooter}
 use Rattle.orc_stripe.specs.declared.column.ColumnReader.{ColumnReader}
 use Rattle.orc_stripe.specs.Stripe.{Streams, columns_of, columns_from, encoding_at, has_dictionary, IsDictionary, SpellsScalar, SpellsTexts, SpellsCells, SpellsFields}
+use Rattle.orc_stripe.specs.Faults.{Origin, origin, IsOf, AreOf, AreFields}
+use Rattle.orc_stripe.proofs.FaultLemmas.{map_take, map_drop}
 use Rattle.orc_stripe.specs.Spellings.{joined}
 use Rattle.orc_stripe.specs.Starting.{OwnStart, TreeStart, FieldsStart, LacksEntries, ScalarLacks, HasNoDictionary, Puts, PutsFields}
 
@@ -32,22 +34,54 @@ from_next f b n m is = fun_ext (λ c. let e : n + suc c ≡ m + c = omega (arith
 own_first : (f : StripeFooter) (b : List ℕ) (n : ℕ) (s : Shape) (own : ColumnReader) → OwnStart s (columns_of f b n) own → OwnStart s (columns_from f b n 0) own
 own_first f b n s own h = subst (λ x. OwnStart s x own) (sym (from_first f b n)) h
 
-pushed : (old : List ColumnReader) (own : ColumnReader) (mid : List ColumnReader) → mid ≡ old ++ own ∷ [] → length mid ≡ length old + 1
+pub pushed : (old : List ColumnReader) (own : ColumnReader) (mid : List ColumnReader) → mid ≡ old ++ own ∷ [] → length mid ≡ length old + 1
 pushed old own mid e = ap length e ∙ length-append old (own ∷ [])
 
 behind_own : (old : List ColumnReader) (own : ColumnReader) (mid more new : List ColumnReader) → mid ≡ old ++ own ∷ [] → new ≡ mid ++ more → new ≡ old ++ own ∷ more
 behind_own old own mid more new e n = n ∙ ap (λ t. t ++ more) e ∙ append_assoc old (own ∷ []) more
 
-pub put_scalar : (f : StripeFooter) (b : List ℕ) (s : Shape) (k : Scalar) (o : List ℕ) (old new : List ColumnReader) (own : ColumnReader) → s ≡ scalar k o → new ≡ old ++ own ∷ [] → OwnStart s (columns_of f b (length old)) own → Puts f b s old new
-put_scalar f b s k o old new own is e h = record {
+-- ---- what the readers are of
+
+are_scalar : (s : Shape) (k : Scalar) (o : List ℕ) (columns : ℕ → Streams) (n : ℕ) (own : Origin) → s ≡ scalar k o → IsOf s columns n own → AreOf s columns n (own ∷ [])
+are_scalar s k o columns n own is i =
+    let j : IsOf (scalar k o) columns n own = subst (λ t. IsOf t columns n own) is i in
+    subst (λ t. AreOf t columns n (own ∷ [])) (sym is) (j, tt)
+
+are_list : (s e : Shape) (o : List ℕ) (columns : ℕ → Streams) (n m : ℕ) (own : Origin) (more : List Origin) → s ≡ list_of e o → m ≡ n + 1 → IsOf s columns n own → AreOf e columns m more → AreOf s columns n (own ∷ more)
+are_list s e o columns n m own more is next i a =
+    let j : IsOf (list_of e o) columns n own = subst (λ t. IsOf t columns n own) is i in
+    let g : m ≡ suc n = omega (arith, next) in
+    subst (λ t. AreOf t columns n (own ∷ more)) (sym is) (j, subst (λ k. AreOf e columns k more) g a)
+
+are_struct : (s : Shape) (fs : Fields) (o : List ℕ) (columns : ℕ → Streams) (n m : ℕ) (own : Origin) (more : List Origin) → s ≡ struct_of fs o → m ≡ n + 1 → IsOf s columns n own → AreFields fs columns m more
+    → AreOf s columns n (own ∷ more)
+are_struct s fs o columns n m own more is next i a =
+    let j : IsOf (struct_of fs o) columns n own = subst (λ t. IsOf t columns n own) is i in
+    let g : m ≡ suc n = omega (arith, next) in
+    subst (λ t. AreOf t columns n (own ∷ more)) (sym is) (j, subst (λ k. AreFields fs columns k more) g a)
+
+are_none : (fs : Fields) (columns : ℕ → Streams) (n : ℕ) (more : List Origin) → fs ≡ no_field → AreFields fs columns n more
+are_none fs columns n more is = subst (λ t. AreFields t columns n more) (sym is) tt
+
+are_more : (all : Fields) (name : List ℕ) (s : Shape) (fs : Fields) (columns : ℕ → Streams) (n m : ℕ) (a b : List ColumnReader) → all ≡ field name s fs → m ≡ n + width s → length a ≡ width s
+    → AreOf s columns n (map origin a) → AreFields fs columns m (map origin b) → AreFields all columns n (map origin (a ++ b))
+are_more all name s fs columns n m a b is next counted first others =
+    let t : map origin a ≡ take (width s) (map origin (a ++ b)) = ap (map origin) (sym (ap (λ k. take k (a ++ b)) (sym counted) ∙ take-append_seam a b)) ∙ map_take origin (width s) (a ++ b) in
+    let d : map origin b ≡ drop (width s) (map origin (a ++ b)) = ap (map origin) (sym (ap (λ k. drop k (a ++ b)) (sym counted) ∙ drop-append_seam a b)) ∙ map_drop origin (width s) (a ++ b) in
+    subst (λ z. AreFields z columns n (map origin (a ++ b))) (sym is)
+    (subst (λ rs. AreOf s columns n rs) t first, subst (λ rs. AreFields fs columns (n + width s) rs) d (subst (λ k. AreFields fs columns k (map origin b)) next others))
+
+pub put_scalar : (f : StripeFooter) (b : List ℕ) (s : Shape) (k : Scalar) (o : List ℕ) (old new : List ColumnReader) (own : ColumnReader) → s ≡ scalar k o → new ≡ old ++ own ∷ [] → OwnStart s (columns_of f b (length old)) own → IsOf s (columns_of f b) (length old) (origin own) → Puts f b s old new
+put_scalar f b s k o old new own is e h i = record {
   more = own ∷ [];
   parts = e;
   counted = sym (ap width is);
   start = rw is (own_first f b (length old) (scalar k o) own (subst (λ t. OwnStart t (columns_of f b (length old)) own) is h));
+  origins = are_scalar s k o (columns_of f b) (length old) (origin own) is i;
 }
 
-pub put_list : (f : StripeFooter) (b : List ℕ) (s e : Shape) (o : List ℕ) (old mid new : List ColumnReader) (own : ColumnReader) → s ≡ list_of e o → mid ≡ old ++ own ∷ [] → OwnStart s (columns_of f b (length old)) own → Puts f b e mid new → Puts f b s old new
-put_list f b s e o old mid new own is m h p = record {
+pub put_list : (f : StripeFooter) (b : List ℕ) (s e : Shape) (o : List ℕ) (old mid new : List ColumnReader) (own : ColumnReader) → s ≡ list_of e o → mid ≡ old ++ own ∷ [] → OwnStart s (columns_of f b (length old)) own → IsOf s (columns_of f b) (length old) (origin own) → Puts f b e mid new → Puts f b s old new
+put_list f b s e o old mid new own is m h i p = record {
   more = own ∷ p.more;
   parts = behind_own old own mid p.more new m p.parts;
   counted = let n : width s ≡ 1 + width e = ap width is in omega (arith, p.counted, n);
@@ -55,11 +89,12 @@ put_list f b s e o old mid new own is m h p = record {
     own_first f b (length old) (list_of e o) own (subst (λ t. OwnStart t (columns_of f b (length old)) own) is h),
     subst (λ x. TreeStart e x p.more) (sym (from_next f b (length old) (length mid) (pushed old own mid m))) p.start,
   );
+  origins = are_list s e o (columns_of f b) (length old) (length mid) (origin own) (map origin p.more) is (pushed old own mid m) i p.origins;
 }
 
-pub put_struct : (f : StripeFooter) (b : List ℕ) (s : Shape) (fs : Fields) (o : List ℕ) (old mid new : List ColumnReader) (own : ColumnReader) → s ≡ struct_of fs o → mid ≡ old ++ own ∷ [] → OwnStart s (columns_of f b (length old)) own → PutsFields f b fs mid new
+pub put_struct : (f : StripeFooter) (b : List ℕ) (s : Shape) (fs : Fields) (o : List ℕ) (old mid new : List ColumnReader) (own : ColumnReader) → s ≡ struct_of fs o → mid ≡ old ++ own ∷ [] → OwnStart s (columns_of f b (length old)) own → IsOf s (columns_of f b) (length old) (origin own) → PutsFields f b fs mid new
     → Puts f b s old new
-put_struct f b s fs o old mid new own is m h p = record {
+put_struct f b s fs o old mid new own is m h i p = record {
   more = own ∷ p.more;
   parts = behind_own old own mid p.more new m p.parts;
   counted = let n : width s ≡ 1 + widths fs = ap width is in omega (arith, p.counted, n);
@@ -67,10 +102,11 @@ put_struct f b s fs o old mid new own is m h p = record {
     own_first f b (length old) (struct_of fs o) own (subst (λ t. OwnStart t (columns_of f b (length old)) own) is h),
     subst (λ x. FieldsStart fs x p.more) (sym (from_next f b (length old) (length mid) (pushed old own mid m))) p.start,
   );
+  origins = are_struct s fs o (columns_of f b) (length old) (length mid) (origin own) (map origin p.more) is (pushed old own mid m) i p.origins;
 }
 
 pub put_none : (f : StripeFooter) (b : List ℕ) (fs : Fields) (old : List ColumnReader) → fs ≡ no_field → PutsFields f b fs old old
-put_none f b fs old is = record { more = []; parts = sym (append-nil old); counted = sym (ap widths is); start = rw is tt }
+put_none f b fs old is = record { more = []; parts = sym (append-nil old); counted = sym (ap widths is); start = rw is tt; origins = are_none fs (columns_of f b) (length old) [] is }
 
 pub put_more : (f : StripeFooter) (b : List ℕ) (all : Fields) (name : List ℕ) (s : Shape) (fs : Fields) (old mid new : List ColumnReader) → all ≡ field name s fs → Puts f b s old mid → PutsFields f b fs mid new → PutsFields f b all old new
 put_more f b all name s fs old mid new is p q =
@@ -86,6 +122,7 @@ put_more f b all name s fs old mid new is p q =
         subst (λ rs. FieldsStart fs (λ c. columns_from f b (length old) (width s + c)) rs) (sym d)
             (subst (λ x. FieldsStart fs x q.more) (sym (from_more f b (length old) (width s) (length mid) l)) q.start),
       );
+      origins = are_more all name s fs (columns_of f b) (length old) (length mid) p.more q.more is l p.counted p.origins q.origins;
     }
 
 -- ---- no readers, no cells
@@ -156,3 +193,9 @@ pub none_put : (f : StripeFooter) (b : List ℕ) (s : Shape) (old : List ColumnR
 none_put f b s old cells none h =
     let k = subst (λ x. SpellsCells s x cells) (sym (from_start f b)) h in
     subst (λ t. SpellsCells s (columns_from f b (length t)) cells) (sym none) k
+
+pub all_origins : (f : StripeFooter) (b : List ℕ) (s : Shape) (old new : List ColumnReader) → old ≡ [] → Puts f b s old new → AreOf s (columns_of f b) 0 (map origin new)
+all_origins f b s old new none p =
+    let e : p.more ≡ new = sym (p.parts ∙ ap (λ t. t ++ p.more) none) in
+    let h = subst (λ rs. AreOf s (columns_of f b) (length old) (map origin rs)) e p.origins in
+    subst (λ t. AreOf s (columns_of f b) (length t) (map origin new)) none h

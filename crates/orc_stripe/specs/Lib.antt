@@ -10,3 +10,5 @@ pub mod Directory
 pub mod Stripe
 pub mod Starting
 pub mod Opening
+pub mod Faults
+pub mod Opened

@@ -17,7 +17,8 @@ use Rattle.orc_stripe.specs.declared.column.ColumnReader.{ColumnReader}
 use Rattle.orc_stripe.specs.declared.starting.ColumnStreams.{ColumnStreams}
 use Rattle.orc_wire.specs.declared.stripe_footer.StripeFooter.{StripeFooter}
 use Rattle.orc_stripe.specs.Columns.{entry_bytes}
-use Rattle.orc_stripe.specs.Stripe.{Streams, version, has_dictionary, IsDictionary, most_cells, columns_from}
+use Rattle.orc_stripe.specs.Stripe.{Streams, version, has_dictionary, IsDictionary, most_cells, columns_of, columns_from}
+use Rattle.orc_stripe.specs.Faults.{origin, AreOf, AreFields}
 
 pub record NumbersStart (v : Version) (sign : Sign) (bytes : List ℕ) (r : Numbers) : Type 0 where
   pub version_is : r.version ≡ v
@@ -126,9 +127,11 @@ pub record Puts (footer : StripeFooter) (bytes : List ℕ) (s : Shape) (old new 
   pub parts : new ≡ old ++ more
   pub counted : length more ≡ width s
   pub start : TreeStart s (columns_from footer bytes (length old)) more
+  pub origins : AreOf s (columns_of footer bytes) (length old) (map origin more)
 
 pub record PutsFields (footer : StripeFooter) (bytes : List ℕ) (fs : Fields) (old new : List ColumnReader) : Type 0 where
   pub more : List ColumnReader
   pub parts : new ≡ old ++ more
   pub counted : length more ≡ widths fs
   pub start : FieldsStart fs (columns_from footer bytes (length old)) more
+  pub origins : AreFields fs (columns_of footer bytes) (length old) (map origin more)

@@ -3,6 +3,7 @@ ghost use Rattle.orc_rle.specs.declared.fault.RunFault.TheVariants.{OutOfMemory}
 ghost use Rattle.orc_stripe.specs.Fronts.{Leaves, Lacks};
 ghost use Rattle.orc_stripe.specs.Bytes.{BytesLeft};
 
+use crate::fault::moved;
 use orc_rle::{ByteRuns, RunFault, RunU8};
 
 /// What is left of a stream of bytes in runs: the bytes of the run that was read last which weren't
@@ -35,7 +36,7 @@ impl<'a> Bytes<'a> {
                     self.at += len;
                     self.used = 0;
                 }
-                Err(fault) => return Err(fault),
+                Err(fault) => return Err(moved(fault, self.at)),
             }
         }
         Ok(())

@@ -5,6 +5,7 @@ ghost use Rattle.orc_stripe.specs.Columns.{entry_bytes};
 ghost use Rattle.orc_stripe.specs.Numbers.{AreNumbers};
 ghost use Rattle.orc_stripe.specs.Spellings.{Grouped};
 ghost use Rattle.orc_stripe.specs.Stripe.{Is};
+ghost use Rattle.orc_stripe.specs.Faults.{DictionaryFails};
 
 use crate::column::{Entry, next_group};
 use crate::ending::groups_end;
@@ -26,6 +27,7 @@ pub(crate) fn entries_of<'a>(
 ) -> Result<Vec<Entry<'a>>, StripeFault>
     ensures found { IfOk result (λ entries. (length entries.items ≡ size) × Grouped (AreNumbers version Unsigned lengths.now) (Is bytes.now) (map entry_bytes entries.items)) }
     ensures none { IfErr result (λ fault. fault ≢ OutOfMemory → (entries : List (List ℕ)) → length entries ≡ size → Grouped (AreNumbers version Unsigned lengths.now) (Is bytes.now) entries → ⊥) }
+    ensures fault { IfErr result (λ cause. cause ≢ OutOfMemory → DictionaryFails column cause) }
 {
     let mut numbers = numbers_of(version, Sign::Unsigned, lengths);
     let mut octets = Octets { rest: bytes };

@@ -1,25 +1,17 @@
-ghost use Rattle.std.specs.Prelude.{◌≡◌, true, length};
+ghost use Rattle.std.specs.Prelude.{◌≡◌, true, false, length, IfOk, IfErr, OnOk, ◌⊎◌};
+ghost use Rattle.orc_stripe.specs.declared.fault.StripeFault.TheVariants.{BadDirectory, OutOfMemory};
 ghost use Rattle.orc_stripe.specs.Directory as spec;
 
+use crate::fault::StripeFault;
 use orc_wire::{Encoding, StreamMsg, TypeMsg};
+use std::alloc::Global;
+use std::collections::BTreeSet;
 
 /// Whether it is the column's stream of the kind.
 fn is_of(column: usize, kind: u32, stream: &StreamMsg) -> bool
     ensures { result ≡ spec.is_of column kind stream.now }
 {
     stream.column as usize == column && stream.kind == kind
-}
-
-/// Whether a stream of the kind stands there for the column.
-fn has_stream(column: usize, kind: u32, streams: &[StreamMsg]) -> bool
-    ensures { result ≡ spec.has_stream column kind streams.now }
-{
-    for stream in streams {
-        if is_of(column, kind, stream) {
-            return true;
-        }
-    }
-    false
 }
 
 /// Whether so many bytes have room for the streams.
@@ -36,18 +28,19 @@ fn have_room(room: u64, streams: &[StreamMsg]) -> bool
     true
 }
 
-/// Whether no kind is used twice for one column.
-fn names_once(streams: &[StreamMsg]) -> bool
-    ensures { result ≡ spec.names_once streams.now }
+/// Whether no kind is used twice for one column. It takes memory for the columns and kinds that the
+/// streams name, and looks each of them up among those before it.
+fn names_once(alloc: Global, streams: &[StreamMsg]) -> Result<bool, StripeFault>
+    ensures once { IfOk result (λ once. once ≡ spec.names_once streams.now) }
+    ensures refused { IfErr result (λ fault. fault ≡ OutOfMemory) }
 {
-    for i in 0..streams.len() {
-        let (front, later) = streams.split_at(i + 1);
-        let stream = &front[i];
-        if has_stream(stream.column as usize, stream.kind, later) {
-            return false;
+    let mut named = BTreeSet::new(alloc);
+    for stream in streams {
+        if !named.insert((stream.column, stream.kind))? {
+            return Ok(false);
         }
     }
-    true
+    Ok(true)
 }
 
 /// Whether streams of this kind need a column that is there.
@@ -69,11 +62,27 @@ fn have_columns(width: usize, streams: &[StreamMsg]) -> bool
     true
 }
 
-/// Whether the streams are a directory of so many columns and bytes.
-pub(crate) fn is_directory(width: usize, room: u64, streams: &[StreamMsg]) -> bool
-    ensures { result ≡ spec.is_directory width room streams.now }
+/// Tests that the streams are a directory of so many columns and bytes.
+pub(crate) fn check_directory(
+    alloc: Global,
+    width: usize,
+    room: u64,
+    streams: &[StreamMsg],
+) -> Result<(), StripeFault>
+    ensures accepted { OnOk result (spec.is_directory width room streams.now ≡ true) }
+    ensures refused { IfErr result (λ fault. (fault ≡ OutOfMemory) ⊎ ((fault ≡ BadDirectory) × (spec.is_directory width room streams.now ≡ false))) }
 {
-    have_room(room, streams) && names_once(streams) && have_columns(width, streams)
+    if !have_room(room, streams) {
+        return Err(StripeFault::BadDirectory);
+    }
+    if !have_columns(width, streams) {
+        return Err(StripeFault::BadDirectory);
+    }
+    match names_once(alloc, streams) {
+        Ok(true) => Ok(()),
+        Ok(false) => Err(StripeFault::BadDirectory),
+        Err(fault) => Err(fault),
+    }
 }
 
 /// The bytes of the column's stream of the kind, empty where there is none.

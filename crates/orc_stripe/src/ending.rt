@@ -7,6 +7,11 @@ ghost use Rattle.orc_stripe.specs.Bits.{BitsLeft};
 ghost use Rattle.orc_stripe.specs.Bytes.{BytesLeft};
 ghost use Rattle.orc_stripe.specs.Octets.{OctetsLeft};
 ghost use Rattle.orc_stripe.specs.Columns.{MarksLeft, ScalarLeft, CellsLeft, OwnLeft, FieldsLeft};
+ghost use Rattle.std.specs.Prelude.{map, is_some, IfErr};
+ghost use Rattle.orc_rle.specs.declared.fault.RunFault.TheVariants as run;
+ghost use Rattle.orc_stripe.specs.declared.fault.StripeFault.TheVariants as fault;
+ghost use Rattle.orc_stripe.specs.declared.fault.StreamKind.TheVariants as stream;
+ghost use Rattle.orc_stripe.specs.Faults.{GroupsFail, ScalarFails, ReaderFault, OwnFault, FieldsFault, origin, last_start};
 
 use crate::bits::Bits;
 use crate::bytes::Bytes;
@@ -106,7 +111,9 @@ fn scalar_end(source: &Source<'_>, kind: Scalar) -> bool
 }
 
 /// The fault of bytes that are left over, or of their lengths.
-fn group_left(source: &Source<'_>) -> StripeFault {
+fn group_left(source: &Source<'_>) -> StripeFault
+    ensures { GroupsFail stream.Data source.now.column result }
+{
     if numbers_end(&source.numbers) {
         return StripeFault::LengthSum(source.column, StreamKind::Data);
     }
@@ -114,7 +121,9 @@ fn group_left(source: &Source<'_>) -> StripeFault {
 }
 
 /// The fault of values that are left over, of a column of a kind that contains no other.
-fn scalar_left(source: &Source<'_>, kind: Scalar) -> StripeFault {
+fn scalar_left(source: &Source<'_>, kind: Scalar) -> StripeFault
+    ensures { ScalarFails kind (is_some source.now.entries) source.now.column result }
+{
     match kind {
         Scalar::Boolean => too_many(source.column, StreamKind::Data, source.bits.bytes.start),
         Scalar::Byte => too_many(source.column, StreamKind::Data, source.bytes.start),
@@ -130,12 +139,16 @@ fn scalar_left(source: &Source<'_>, kind: Scalar) -> StripeFault {
 }
 
 /// The fault of a stream with values left over, whose last run that was read begins at the place.
-fn too_many(column: usize, kind: StreamKind, place: usize) -> StripeFault {
+fn too_many(column: usize, kind: StreamKind, place: usize) -> StripeFault
+    ensures { result ≡ fault.Run column kind (run.TooMany place) }
+{
     StripeFault::Run(column, kind, RunFault::TooMany(place))
 }
 
 /// Where the last run of the marks that was read begins.
-fn marks_start(present: &Option<Bits<'_>>) -> usize {
+fn marks_start(present: &Option<Bits<'_>>) -> usize
+    ensures { result ≡ last_start present.now }
+{
     match present {
         None => 0,
         Some(bits) => bits.bytes.start,
@@ -148,6 +161,7 @@ pub(crate) fn cells_end(tree: &Tree, readers: &[ColumnReader<'_>]) -> Result<(),
     requires { length readers.now ≡ width (shape tree.now) }
     ensures all { OnOk result (CellsLeft (shape tree.now) readers.now []) }
     ensures more { OnErr result (CellsLeft (shape tree.now) readers.now [] → ⊥) }
+    ensures fault { IfErr result (ReaderFault (shape tree.now) (map origin readers.now)) }
 {
     let own = &readers[0];
     if !marks_end(&own.present) {
@@ -169,6 +183,7 @@ fn values_end(tree: &Tree, readers: &[ColumnReader<'_>]) -> Result<(), StripeFau
     requires { length readers.now ≡ width (shape tree.now) }
     ensures all { OnOk result (OwnLeft (shape tree.now) readers.now []) }
     ensures more { OnErr result (OwnLeft (shape tree.now) readers.now [] → ⊥) }
+    ensures fault { IfErr result (OwnFault (shape tree.now) (map origin readers.now)) }
 {
     let own = &readers[0];
     match tree {
@@ -204,6 +219,7 @@ fn fields_end(fields: &[Field], readers: &[ColumnReader<'_>]) -> Result<(), Stri
     requires { length readers.now ≡ widths (fields_view fields.now) }
     ensures all { OnOk result (FieldsLeft (fields_view fields.now) readers.now []) }
     ensures more { OnErr result (FieldsLeft (fields_view fields.now) readers.now [] → ⊥) }
+    ensures fault { IfErr result (FieldsFault (fields_view fields.now) (map origin readers.now)) }
 {
     match fields {
         [] => Ok(()),

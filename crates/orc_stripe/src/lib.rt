@@ -18,7 +18,7 @@ mod version;
 mod view;
 
 pub use fault::{StreamKind, StripeFault};
-pub use laws::column_laws;
+pub use laws::{column_laws, stripe_laws};
 pub use view::StripeView;
 
 #[cfg(test)]

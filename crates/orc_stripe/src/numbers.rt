@@ -4,6 +4,7 @@ ghost use Rattle.orc_stripe.specs.Fronts.{Leaves, Lacks};
 ghost use Rattle.orc_stripe.specs.Numbers.{NumbersLeft};
 ghost use Rattle.orc_stripe.specs.Starting.{NumbersStart};
 
+use crate::fault::moved;
 use crate::version::{Version, next_run};
 use orc_rle::{Run, RunFault, Sign};
 
@@ -55,7 +56,7 @@ impl<'a> Numbers<'a> {
                     self.at += len;
                     self.used = 0;
                 }
-                Err(fault) => return Err(fault),
+                Err(fault) => return Err(moved(fault, self.at)),
             }
         }
         Ok(())

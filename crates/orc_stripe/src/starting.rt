@@ -7,6 +7,9 @@ ghost use Rattle.orc_stripe.specs.Directory.{have_room};
 ghost use Rattle.orc_stripe.specs.Starting.{BytesStart, BitsStart, MarksStart, DataStart, GroupsStart, TextsStart, ScalarStart, SourceStart, OwnStart, LacksEntries, ScalarLacks, HasNoDictionary, AreStreams, Puts, PutsFields};
 ghost use Rattle.orc_stripe.specs.Stripe.{Streams, IsDictionary, encoding_at, columns_of, columns_from, SpellsCells, SpellsFields, most_cells};
 ghost use Rattle.orc_stripe.specs.Stripe as spec;
+ghost use Rattle.std.specs.Prelude.{is_some};
+ghost use Rattle.orc_stripe.specs.Stripe.{has_dictionary};
+ghost use Rattle.orc_stripe.specs.Faults.{DictionaryFails, TextsFail, ScalarFails, ValuesFail, FaultDown, FaultWithin, SameWords, SameDictionary, source_origin, origin};
 
 use crate::bits::Bits;
 use crate::bytes::Bytes;
@@ -107,7 +110,8 @@ fn marks_of(bytes: &[u8]) -> Option<Bits<'_>>
 
 /// The source of a column whose values are in DATA.
 fn data_source<'a>(column: usize, streams: &ColumnStreams<'a>) -> Source<'a>
-    ensures { (x : Streams) → AreStreams x streams.now → DataStart x result }
+    ensures start { (x : Streams) → AreStreams x streams.now → DataStart x result }
+    ensures number { result.column ≡ column }
 {
     Source {
         column,
@@ -125,6 +129,7 @@ fn group_source<'a>(column: usize, streams: &ColumnStreams<'a>) -> Source<'a>
     ensures groups { (x : Streams) → AreStreams x streams.now → GroupsStart x result }
     ensures no_entries { result.entries ≡ None }
     ensures room { result.room ≡ most_cells }
+    ensures number { result.column ≡ column }
 {
     Source {
         column,
@@ -145,6 +150,9 @@ fn word_source<'a>(
 ) -> Result<Source<'a>, StripeFault>
     ensures found { IfOk result (λ source. (x : Streams) → AreStreams x streams.now → TextsStart true x source.entries source) }
     ensures none { IfErr result (λ fault. fault ≢ OutOfMemory → (x : Streams) → AreStreams x streams.now → (entries : List (List ℕ)) → IsDictionary x entries → ⊥) }
+    ensures number { IfOk result (λ source. source.column ≡ column) }
+    ensures entries { IfOk result (λ source. is_some source.entries ≡ true) }
+    ensures fault { IfErr result (λ cause. cause ≢ OutOfMemory → DictionaryFails column cause) }
 {
     match entries_of(
         alloc,
@@ -175,6 +183,9 @@ fn text_source<'a>(
 ) -> Result<Source<'a>, StripeFault>
     ensures found { IfOk result (λ source. (x : Streams) → AreStreams x streams.now → TextsStart streams.now.has_dictionary x source.entries source) }
     ensures none { IfErr result (λ fault. fault ≢ OutOfMemory → (x : Streams) → AreStreams x streams.now → LacksEntries streams.now.has_dictionary x) }
+    ensures number { IfOk result (λ source. source.column ≡ column) }
+    ensures entries { IfOk result (λ source. is_some source.entries ≡ streams.now.has_dictionary) }
+    ensures fault { IfErr result (λ cause. cause ≢ OutOfMemory → TextsFail streams.now.has_dictionary column cause) }
 {
     if streams.has_dictionary {
         match word_source(alloc, column, streams) {
@@ -195,6 +206,9 @@ fn scalar_source<'a>(
 ) -> Result<Source<'a>, StripeFault>
     ensures found { IfOk result (λ source. (x : Streams) → AreStreams x streams.now → ScalarStart kind x source) }
     ensures none { IfErr result (λ fault. fault ≢ OutOfMemory → (x : Streams) → AreStreams x streams.now → ScalarLacks kind x) }
+    ensures number { IfOk result (λ source. source.column ≡ column) }
+    ensures words { IfOk result (λ source. (x : Streams) → AreStreams x streams.now → SameWords kind x (source_origin source)) }
+    ensures fault { IfErr result (λ cause. cause ≢ OutOfMemory → ScalarFails kind streams.now.has_dictionary column cause) }
 {
     match kind {
         Scalar::String => match text_source(alloc, column, streams) {
@@ -220,6 +234,9 @@ fn source_of<'a>(
 ) -> Result<Source<'a>, StripeFault>
     ensures found { IfOk result (λ source. (x : Streams) → AreStreams x streams.now → SourceStart (shape tree.now) x source) }
     ensures none { IfErr result (λ fault. fault ≢ OutOfMemory → (x : Streams) → AreStreams x streams.now → HasNoDictionary (shape tree.now) x) }
+    ensures number { IfOk result (λ source. source.column ≡ column) }
+    ensures words { IfOk result (λ source. (x : Streams) → AreStreams x streams.now → SameDictionary (shape tree.now) x (source_origin source)) }
+    ensures fault { IfErr result (λ cause. cause ≢ OutOfMemory → ValuesFail (shape tree.now) streams.now.has_dictionary column cause) }
 {
     match tree {
         Tree::Scalar(kind, _) => match scalar_source(alloc, *kind, column, streams) {
@@ -243,6 +260,9 @@ fn reader_of<'a>(
     requires room { have_room (length bytes.now) footer.now.streams ≡ true }
     ensures found { IfOk result (OwnStart (shape tree.now) (columns_of footer.now bytes.now column)) }
     ensures none { IfErr result (λ fault. fault ≢ OutOfMemory → HasNoDictionary (shape tree.now) (columns_of footer.now bytes.now column)) }
+    ensures number { IfOk result (λ own. own.source.column ≡ column) }
+    ensures words { IfOk result (λ own. SameDictionary (shape tree.now) (columns_of footer.now bytes.now column) (origin own)) }
+    ensures fault { IfErr result (λ cause. cause ≢ OutOfMemory → ValuesFail (shape tree.now) (has_dictionary (columns_of footer.now bytes.now column)) column cause) }
 {
     let streams = streams_of(column, footer, bytes);
     match source_of(alloc, tree, column, &streams) {
@@ -267,6 +287,7 @@ pub(crate) fn put_tree<'a>(
     requires room { have_room (length bytes.now) footer.now.streams ≡ true }
     ensures found { OnOk result (Puts footer.now bytes.now (shape tree.now) readers.old.items readers.new.items) }
     ensures none { IfErr result (λ fault. fault ≢ OutOfMemory → (cells : List Cell) → SpellsCells (shape tree.now) (columns_from footer.now bytes.now (length readers.old.items)) cells → ⊥) }
+    ensures fault { IfErr result (λ cause. cause ≢ OutOfMemory → FaultDown (shape tree.now) (columns_of footer.now bytes.now) (length readers.old.items) cause) }
 {
     match reader_of(alloc, tree, readers.len(), footer, bytes) {
         Ok(own) => readers.push(own)?,
@@ -298,6 +319,7 @@ fn put_fields<'a>(
     requires room { have_room (length bytes.now) footer.now.streams ≡ true }
     ensures found { OnOk result (PutsFields footer.now bytes.now (fields_view fields.now) readers.old.items readers.new.items) }
     ensures none { IfErr result (λ fault. fault ≢ OutOfMemory → (structs : List (List Cell)) → SpellsFields (fields_view fields.now) (columns_from footer.now bytes.now (length readers.old.items)) structs → ⊥) }
+    ensures fault { IfErr result (λ cause. cause ≢ OutOfMemory → FaultWithin (fields_view fields.now) (columns_of footer.now bytes.now) (length readers.old.items) cause) }
 {
     match fields {
         [] => Ok(()),

@@ -1,21 +1,20 @@
 ghost use Rattle.std.specs.Prelude.{◌≡◌, ◌≢◌, ◌+◌, ℕ, List, true, false, Some, None, ◌⊎◌, IfOk, IfErr, MatchResult, length, drop};
 ghost use Rattle.orc_types.specs.Cells.{Cell};
-ghost use Rattle.orc_types.specs.Shapes.{width};
-ghost use Rattle.orc_types.specs.Types.{types as types_of};
 ghost use Rattle.orc_wire.specs.declared.stripe_footer.StripeFooter.{StripeFooter};
 ghost use Rattle.orc_types.specs.Views.{views};
-ghost use Rattle.orc_stripe.specs.Directory.{have_room};
-ghost use Rattle.orc_stripe.specs.Stripe.{HasFooter, SpellRows, columns_of};
+ghost use Rattle.orc_stripe.specs.Stripe.{HasFooter, IsStripe, columns_of};
 ghost use Rattle.orc_stripe.specs.Opening.{OpenFault};
+ghost use Rattle.orc_stripe.specs.Faults.{RowsFault};
 ghost use Rattle.orc_stripe.specs.declared.fault.StripeFault.TheVariants.{OutOfMemory};
 
-use crate::directory::{first_wrong, is_directory};
+use crate::directory::{check_directory, first_wrong};
 use crate::fault::{StripeFault, wire_fault};
 use crate::rows::all_rows;
 use crate::starting::put_tree;
 use orc_types::{Row, Schema};
 use orc_wire::{Message, StripeFooter, StripeInfo};
 use std::alloc::Global;
+use std::marker::Model;
 
 /// A stripe whose directory and encodings are accepted.
 #[derive(Drop)]
@@ -25,8 +24,21 @@ pub struct StripeView<'a> {
     stride: u32,
     bytes: &'a [u8],
     footer: StripeFooter,
-    ghost room: { have_room (length bytes.now) footer.streams ≡ true },
-    ghost columns: { width schema.now ≡ length footer.columns },
+}
+
+impl<'a> Model for StripeView<'a> {
+    ghost use Rattle.std.specs.Coded.{codes};
+    ghost use Rattle.orc_types.specs.Coding.{coded_shape};
+    ghost use Rattle.orc_stripe.specs.Opened.{Opened};
+    ghost use Rattle.orc_stripe.specs.Stripe.{HasFooter};
+
+    ghost Value = { Opened };
+
+    ghost coded = { Prim.hlevel (codes, coded_shape) };
+
+    ghost view = { λ v. record { schema = v.schema.now; info = v.info; stride = v.stride; bytes = v.bytes.now; footer = v.footer } };
+
+    ghost invariant = { λ v. HasFooter v.schema.now v.info v.bytes.now v.footer };
 }
 
 impl<'a> StripeView<'a> {
@@ -44,7 +56,7 @@ impl<'a> StripeView<'a> {
         bytes: &'a [u8],
     ) -> Result<StripeView<'a>, StripeFault>
         ensures found { IfOk result (λ view. HasFooter schema.now info bytes.now view.footer) }
-        ensures same { IfOk result (λ view. (view.schema.now ≡ schema.now) × (view.info ≡ info) × (view.bytes.now ≡ bytes.now)) }
+        ensures same { IfOk result (λ view. (view.schema ≡ schema.now) × (view.info ≡ info) × (view.stride ≡ stride) × (view.bytes ≡ bytes.now)) }
         ensures only { (footer : StripeFooter) → HasFooter schema.now info bytes.now footer → MatchResult result (λ view. view.footer ≡ footer) (λ fault. fault ≡ OutOfMemory) }
         ensures fault { IfErr result (OpenFault schema.now info bytes.now) }
     {
@@ -62,8 +74,13 @@ impl<'a> StripeView<'a> {
             Ok(footer) => footer,
             Err(fault) => return Err(wire_fault(fault)),
         };
-        if !is_directory(schema.width(), room, footer.streams.as_slice()) {
-            return Err(StripeFault::BadDirectory);
+        if let Err(fault) = check_directory(
+            alloc,
+            schema.width(),
+            room,
+            footer.streams.as_slice(),
+        ) {
+            return Err(fault);
         }
         match first_wrong(schema.types(), footer.columns.as_slice()) {
             Some(column) => Err(StripeFault::BadEncoding(column)),
@@ -87,9 +104,9 @@ impl<'a> StripeView<'a> {
     /// `TooMany` of a column with more than 2,147,483,647 cells; and `OutOfMemory`. Which of several is
     /// answered is open.
     pub fn rows(&self, alloc: Global) -> Result<Vec<Row<'a>>, StripeFault>
-        ensures found { IfOk result (λ rows. SpellRows self.now.schema.now (columns_of self.now.footer self.now.bytes.now) self.now.info.number_of_rows (views rows.items)) }
-        ensures only { (rows : List Cell) → SpellRows self.now.schema.now (columns_of self.now.footer self.now.bytes.now) self.now.info.number_of_rows rows
-            → MatchResult result (λ answered. views answered.items ≡ rows) (λ fault. fault ≡ OutOfMemory) }
+        ensures found { IfOk result (λ rows. IsStripe self.now.schema self.now.info self.now.bytes (views rows.items)) }
+        ensures only { (rows : List Cell) → IsStripe self.now.schema self.now.info self.now.bytes rows → MatchResult result (λ answered. views answered.items ≡ rows) (λ fault. fault ≡ OutOfMemory) }
+        ensures fault { IfErr result (λ cause. cause ≢ OutOfMemory → RowsFault self.now.schema (columns_of self.now.footer self.now.bytes) self.now.info.number_of_rows cause) }
     {
         let tree = self.schema.tree();
         let mut readers = Vec::new(alloc);

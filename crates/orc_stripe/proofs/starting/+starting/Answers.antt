@@ -6,16 +6,19 @@ use Rattle.orc_types.proofs.Views.{shape-Scalar, shape-List, shape-Struct}
 use Rattle.orc_stripe.specs.Stripe.{columns_of}
 use Rattle.orc_stripe.specs.Starting.{OwnStart, HasNoDictionary}
 use Rattle.orc_stripe.proofs.Arms.{first_field, no_fields}
-use Rattle.orc_stripe.proofs.Started.{put_scalar, put_list, put_struct, put_none, put_more, no_own, no_element, no_struct, no_first, no_others}
+use Rattle.orc_stripe.proofs.Started.{pushed, put_scalar, put_list, put_struct, put_none, put_more, no_own, no_element, no_struct, no_first, no_others}
+use Rattle.orc_stripe.specs.Faults.{origin, IsOf}
+use Rattle.orc_stripe.proofs.FaultLemmas.{own_of, down_list}
 use Rattle.orc_stripe.proofs.starting.+starting.Goals as goal
 
 pub put_tree-returns-in-Ok-put_tree-clause-found : goal.put_tree-returns-in-Ok-put_tree-clause-found
 put_tree-returns-in-Ok-put_tree-clause-found t c =
     let n : c.len.result ≡ length c.args.readers.now.items = search rules in
     let h = subst (λ k. OwnStart (shape c.args.tree.now) (columns_of c.args.footer.now c.args.bytes.now k) c.in-Ok.own) n c.in-Ok.ensures.found in
+    let i : IsOf (shape c.args.tree.now) (columns_of c.args.footer.now c.args.bytes.now) (length c.args.readers.now.items) (origin c.in-Ok.own) = own_of (shape c.args.tree.now) (columns_of c.args.footer.now c.args.bytes.now) c.len.result (length c.args.readers.now.items) (origin c.in-Ok.own) n c.in-Ok.ensures.number c.in-Ok.ensures.words in
     let f = c.in-Ok-put_tree.ensures.found in
     put_list c.args.footer.now c.args.bytes.now (shape c.args.tree.now) (shape c.in-List.element.value) c.in-List.field-1.items c.args.readers.now.items c.push.new.self.items c.put_tree.new.readers.items c.in-Ok.own
-    (ap shape c.in-List.is ∙ shape-List c.in-List.element c.in-List.field-1) c.in_ok-push-in-Ok.ensures.items h (rw c.deref.ensures at f)
+    (ap shape c.in-List.is ∙ shape-List c.in-List.element c.in-List.field-1) c.in_ok-push-in-Ok.ensures.items h i (rw c.deref.ensures at f)
 
 pub put_tree-returns-in-Err-put_tree-clause-none : goal.put_tree-returns-in-Err-put_tree-clause-none
 put_tree-returns-in-Err-put_tree-clause-none t c = λ memory cells.
@@ -27,9 +30,10 @@ pub put_tree-returns-in-Ok-put_fields-clause-found : goal.put_tree-returns-in-Ok
 put_tree-returns-in-Ok-put_fields-clause-found t c =
     let n : c.len.result ≡ length c.args.readers.now.items = search rules in
     let h = subst (λ k. OwnStart (shape c.args.tree.now) (columns_of c.args.footer.now c.args.bytes.now k) c.in-Ok.own) n c.in-Ok.ensures.found in
+    let i : IsOf (shape c.args.tree.now) (columns_of c.args.footer.now c.args.bytes.now) (length c.args.readers.now.items) (origin c.in-Ok.own) = own_of (shape c.args.tree.now) (columns_of c.args.footer.now c.args.bytes.now) c.len.result (length c.args.readers.now.items) (origin c.in-Ok.own) n c.in-Ok.ensures.number c.in-Ok.ensures.words in
     let f = c.in-Ok-put_fields.ensures.found in
     put_struct c.args.footer.now c.args.bytes.now (shape c.args.tree.now) (fields_view c.in-Struct.fields.items) c.in-Struct.field-1.items c.args.readers.now.items c.push.new.self.items c.put_fields.new.readers.items c.in-Ok.own
-    (ap shape c.in-Struct.is ∙ shape-Struct c.in-Struct.fields c.in-Struct.field-1) c.in_ok-push-in-Ok.ensures.items h (rw c.deref-in-Struct.ensures.value at f)
+    (ap shape c.in-Struct.is ∙ shape-Struct c.in-Struct.fields c.in-Struct.field-1) c.in_ok-push-in-Ok.ensures.items h i (rw c.deref-in-Struct.ensures.value at f)
 
 pub put_tree-returns-in-Err-put_fields-clause-none : goal.put_tree-returns-in-Err-put_fields-clause-none
 put_tree-returns-in-Err-put_fields-clause-none t c = λ memory cells.
@@ -46,3 +50,9 @@ pub put_fields-returns-in-Err-put_fields-clause-none : goal.put_fields-returns-i
 put_fields-returns-in-Err-put_fields-clause-none t c = λ memory structs.
     no_others c.args.footer.now c.args.bytes.now (fields_view c.args.fields.now) (string_bytes c.first-item.result.name) (shape c.first-item.result.tree) (fields_view (take (length c.args.fields.now - 1) (drop 1 c.args.fields.now))) c.args.readers.now.items c.put_tree.new.readers.items structs
     (first_field c.args.fields.now c.first-item.result c.in-len1-up.len_at_least c.first-item.is) c.in-Ok.ensures.found (c.in-Err-put_fields.ensures.none memory)
+
+pub put_tree-returns-in-Err-put_tree-clause-fault : goal.put_tree-returns-in-Err-put_tree-clause-fault
+put_tree-returns-in-Err-put_tree-clause-fault t c = λ memory.
+    let f = c.in-Err-put_tree.ensures.fault memory in
+    down_list (shape c.args.tree.now) (shape c.in-List.element.value) c.in-List.field-1.items (columns_of c.args.footer.now c.args.bytes.now) (length c.args.readers.now.items) (length c.push.new.self.items) c.in-Err-put_tree.fault
+    (ap shape c.in-List.is ∙ shape-List c.in-List.element c.in-List.field-1) (pushed c.args.readers.now.items c.in-Ok.own c.push.new.self.items c.in_ok-push-in-Ok.ensures.items) (rw c.deref.ensures at f)

@@ -6,8 +6,7 @@ use Rattle.orc_wire.specs.Messages.{stripe_footer}
 use Rattle.orc_wire.specs.Spells.{Spells}
 use Rattle.orc_stripe.specs.Directory.{is_directory, first_wrong}
 use Rattle.orc_stripe.specs.Opening.{OpenFault}
-use Rattle.orc_stripe.proofs.Sizes.{true_false}
-use Rattle.orc_stripe.proofs.Opened.{fault_of, room_more, directory_room, encodings_there}
+use Rattle.orc_stripe.proofs.Opened.{refused_for_memory, fault_of}
 use Rattle.orc_stripe.proofs.view.StripeView.open.Goals as goal
 
 pub returns-in-Err-clause-only : goal.returns-in-Err-clause-only
@@ -21,12 +20,16 @@ returns-in-Err-clause-fault c =
     let f = c.in-Err.ensures.fault in
     fault_of c.args.schema.now c.args.info c.args.bytes.now c.in-Err.fault c.wire_fault.result c.wire_fault.ensures.either (rw b at f)
 
-pub returns-then-not-is_directory-clause-only : goal.returns-then-not-is_directory-clause-only
-returns-then-not-is_directory-clause-only c = λ footer h.
+pub returns-in-Err-check_directory-clause-only : goal.returns-in-Err-check_directory-clause-only
+returns-in-Err-check_directory-clause-only c = λ footer h.
     let b : c.split_at.result.1.now ≡ drop (c.args.info.index_length + c.args.info.data_length) c.args.bytes.now = search rules in
     let e : c.in-Ok.footer ≡ footer = c.in-Ok.ensures.only footer (subst (λ t. Spells stripe_footer 0 0 t footer) (sym b) h.read) in
-    let f : is_directory (width c.args.schema.now) (c.args.info.index_length + c.args.info.data_length) c.in-Ok.footer.streams ≡ false = search rules in
-    absurd (true_false (sym h.directory ∙ ap (λ (g : StripeFooter). is_directory (width c.args.schema.now) (c.args.info.index_length + c.args.info.data_length) g.streams) (sym e) ∙ f))
+    let room : c.in-Some.room ≡ c.args.info.index_length + c.args.info.data_length = search rules in
+    let same : is_directory c.width.result c.in-Some.room c.as_slice.result.now ≡ is_directory (width c.args.schema.now) (c.args.info.index_length + c.args.info.data_length) c.in-Ok.footer.streams =
+    ap (λ w. is_directory w c.in-Some.room c.as_slice.result.now) c.width.ensures.same ∙ ap (λ n. is_directory (width c.args.schema.now) n c.as_slice.result.now) room
+    ∙ ap (is_directory (width c.args.schema.now) (c.args.info.index_length + c.args.info.data_length)) c.as_slice.ensures in
+    let accepted = ap (λ (g : StripeFooter). is_directory (width c.args.schema.now) (c.args.info.index_length + c.args.info.data_length) g.streams) e ∙ h.directory in
+    refused_for_memory c.in-Err-check_directory.fault (is_directory c.width.result c.in-Some.room c.as_slice.result.now) c.in-Err-check_directory.ensures.refused (same ∙ accepted)
 
 pub returns-in-Some-first_wrong-clause-only : goal.returns-in-Some-first_wrong-clause-only
 returns-in-Some-first_wrong-clause-only c = λ footer h.
@@ -40,14 +43,3 @@ pub returns-clause-only : goal.returns-clause-only
 returns-clause-only c = λ footer h.
     let b : c.split_at.result.1.now ≡ drop (c.args.info.index_length + c.args.info.data_length) c.args.bytes.now = search rules in
     c.in-Ok.ensures.only footer (subst (λ t. Spells stripe_footer 0 0 t footer) (sym b) h.read)
-
-pub invariant_of-result : goal.invariant_of-result
-invariant_of-result c =
-    let w : length c.args.bytes.now ≡ c.args.info.index_length + c.args.info.data_length + c.args.info.footer_length = search rules in
-    let d : is_directory (width c.args.schema.now) (c.args.info.index_length + c.args.info.data_length) c.in-Ok.footer.streams ≡ true = search rules in
-    let f : first_wrong 0 (types c.args.schema.now 0) c.in-Ok.footer.columns ≡ None = search rules in
-    record {
-      room = room_more (c.args.info.index_length + c.args.info.data_length) (length c.args.bytes.now) c.in-Ok.footer.streams (omega (arith, w))
-          (directory_room (width c.args.schema.now) (c.args.info.index_length + c.args.info.data_length) c.in-Ok.footer.streams d);
-      columns = encodings_there c.args.schema.now c.in-Ok.footer.columns f;
-    }
