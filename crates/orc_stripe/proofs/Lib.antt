@@ -13,3 +13,10 @@ pub mod Ends
 pub mod Opened
 pub mod Entries
 pub mod RowsLemmas
+pub mod CellValuesLemmas
+pub mod WordListLemmas
+pub mod AddingLemmas
+pub mod WrittenDirectory
+pub mod WrittenReads
+pub mod WrittenColumns
+pub mod OneWritten

@@ -10,3 +10,9 @@ pub mod Directory
 pub mod Stripe
 pub mod Starting
 pub mod Opening
+pub mod WordList
+pub mod CellValues
+pub mod WrittenStreams
+pub mod WrittenColumn
+pub mod WrittenStripe
+pub mod Adding
