@@ -16,3 +16,10 @@ pub mod RowsLemmas
 pub mod FaultLemmas
 pub mod DirectoryLemmas
 pub mod OneStripe
+pub mod CellValuesLemmas
+pub mod WordListLemmas
+pub mod AddingLemmas
+pub mod WrittenDirectory
+pub mod WrittenReads
+pub mod WrittenColumns
+pub mod OneWritten

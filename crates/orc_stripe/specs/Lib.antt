@@ -12,3 +12,9 @@ pub mod Starting
 pub mod Opening
 pub mod Faults
 pub mod Opened
+pub mod WordList
+pub mod CellValues
+pub mod WrittenStreams
+pub mod WrittenColumn
+pub mod WrittenStripe
+pub mod Adding

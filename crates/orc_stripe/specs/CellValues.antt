@@ -1,0 +1,64 @@
+-- The values among the cells of a column, by their kind (ORC specification, "Column Encodings").
+use Rattle.std.specs.Prelude.{ℕ, ◌-◌, ℤ, pos, negsuc, nat_lt, if◌then◌else◌, Bool, Option, Some, None, List, length, option_map}
+use Rattle.std.specs.List.{flat_map}
+use Rattle.std.specs.Option.{option_to_list}
+use Rattle.orc_types.specs.Cells.{Cell, null, leaf, list, struct, bool, int, date, text, bytes, list_of_cells}
+
+abbrev pub bool_in : Cell → Option Bool
+bool_in null = None
+bool_in (leaf (bool b)) = Some b
+bool_in (leaf (int n)) = None
+bool_in (leaf (date n)) = None
+bool_in (leaf (text t)) = None
+bool_in (leaf (bytes t)) = None
+bool_in (list cs) = None
+bool_in (struct cs) = None
+
+-- a whole number, or a date's day
+abbrev pub int_in : Cell → Option ℤ
+int_in null = None
+int_in (leaf (bool b)) = None
+int_in (leaf (int n)) = Some n
+int_in (leaf (date n)) = Some n
+int_in (leaf (text t)) = None
+int_in (leaf (bytes t)) = None
+int_in (list cs) = None
+int_in (struct cs) = None
+
+-- the byte that stands for a number of 8 bits and a sign
+abbrev pub byte_of : ℤ → ℕ
+byte_of (pos n) = if nat_lt n 256 then n else 0
+byte_of (negsuc n) = if nat_lt n 256 then 255 - n else 0
+
+-- a text's bytes, or bytes
+abbrev pub bytes_in : Cell → Option (List ℕ)
+bytes_in null = None
+bytes_in (leaf (bool b)) = None
+bytes_in (leaf (int n)) = None
+bytes_in (leaf (date n)) = None
+bytes_in (leaf (text t)) = Some t
+bytes_in (leaf (bytes t)) = Some t
+bytes_in (list cs) = None
+bytes_in (struct cs) = None
+
+-- how many elements or fields a cell has that is not null
+abbrev pub size_in : Cell → Option ℕ
+size_in null = None
+size_in (leaf a) = Some 0
+size_in (list cs) = Some (length (list_of_cells cs))
+size_in (struct cs) = Some (length (list_of_cells cs))
+
+abbrev pub bools_in : List Cell → List Bool
+bools_in cs = flat_map (λ c. option_to_list (bool_in c)) cs
+
+abbrev pub ints_in : List Cell → List ℤ
+ints_in cs = flat_map (λ c. option_to_list (int_in c)) cs
+
+abbrev pub octets_in : List Cell → List ℕ
+octets_in cs = flat_map (λ c. option_to_list (option_map byte_of (int_in c))) cs
+
+abbrev pub all_bytes_in : List Cell → List (List ℕ)
+all_bytes_in cs = flat_map (λ c. option_to_list (bytes_in c)) cs
+
+abbrev pub sizes_in : List Cell → List ℤ
+sizes_in cs = flat_map (λ c. option_to_list (option_map pos (size_in c))) cs

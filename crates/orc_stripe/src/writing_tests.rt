@@ -1,0 +1,370 @@
+//! Stripes as they are written, and read again.
+ghost use Rattle.std.specs.Prelude.{IfOk};
+ghost use Rattle.orc_types.specs.Fits.{RowsFit};
+ghost use Rattle.orc_types.specs.Views.{views};
+
+use crate::*;
+use orc_rle::Rle;
+use orc_stats::Body;
+use orc_types::{Row, Schema, row_from_json, row_to_json};
+use serde_json::Value as Json;
+use std::alloc::Global;
+use std::process::Abort;
+
+/// The text of a schema, the version of run lengths, the lines of rows; and the streams and the footer
+/// of their stripe.
+type Case = (
+    &'static str,
+    Rle,
+    &'static [&'static str],
+    &'static [u8],
+    &'static [u8],
+);
+
+const CASES: [Case; 15] = [
+    (
+        "struct<n:bigint>",
+        Rle::One,
+        &[r#"{"n":7}"#, r#"{"n":7}"#, r#"{"n":7}"#],
+        &[0x00, 0x00, 0x0e],
+        &[
+            0x0a, 0x06, 0x08, 0x01, 0x10, 0x01, 0x18, 0x03, 0x12, 0x02, 0x08, 0x00, 0x12, 0x02,
+            0x08, 0x00,
+        ],
+    ),
+    (
+        "struct<s:string>",
+        Rle::One,
+        &[r#"{"s":"a"}"#, r#"{"s":"a"}"#],
+        &[0xfe, 0x00, 0x00, 0xff, 0x01, 0x61],
+        &[
+            0x0a, 0x06, 0x08, 0x01, 0x10, 0x01, 0x18, 0x03, 0x0a, 0x06, 0x08, 0x02, 0x10, 0x01,
+            0x18, 0x02, 0x0a, 0x06, 0x08, 0x03, 0x10, 0x01, 0x18, 0x01, 0x12, 0x02, 0x08, 0x00,
+            0x12, 0x04, 0x08, 0x01, 0x10, 0x01,
+        ],
+    ),
+    (
+        "struct<s:string>",
+        Rle::Two,
+        &[r#"{"s":"a"}"#, r#"{"s":"a"}"#],
+        &[0x40, 0x01, 0x00, 0x40, 0x00, 0x80, 0x61],
+        &[
+            0x0a, 0x06, 0x08, 0x01, 0x10, 0x01, 0x18, 0x03, 0x0a, 0x06, 0x08, 0x02, 0x10, 0x01,
+            0x18, 0x03, 0x0a, 0x06, 0x08, 0x03, 0x10, 0x01, 0x18, 0x01, 0x12, 0x02, 0x08, 0x00,
+            0x12, 0x04, 0x08, 0x03, 0x10, 0x01,
+        ],
+    ),
+    (
+        "struct<n:int>",
+        Rle::Two,
+        &[
+            r#"{"n":5}"#,
+            r#"{"n":5}"#,
+            r#"{"n":5}"#,
+            r#"{"n":null}"#,
+            r#"{"n":5}"#,
+            r#"{"n":5}"#,
+            r#"{"n":5}"#,
+            r#"{"n":5}"#,
+            r#"{"n":5}"#,
+        ],
+        &[0xfe, 0xef, 0x80, 0x05, 0x0a],
+        &[
+            0x0a, 0x06, 0x08, 0x00, 0x10, 0x01, 0x18, 0x03, 0x0a, 0x06, 0x08, 0x01, 0x10, 0x01,
+            0x18, 0x02, 0x12, 0x02, 0x08, 0x00, 0x12, 0x02, 0x08, 0x02,
+        ],
+    ),
+    (
+        "struct<s:struct<n:int>>",
+        Rle::Two,
+        &[r#"{"s":{"n":1}}"#, r#"{"s":null}"#, r#"{"s":{"n":null}}"#],
+        &[0xff, 0xa0, 0xff, 0x80, 0x42, 0x00, 0x80],
+        &[
+            0x0a, 0x06, 0x08, 0x00, 0x10, 0x01, 0x18, 0x02, 0x0a, 0x06, 0x08, 0x00, 0x10, 0x02,
+            0x18, 0x02, 0x0a, 0x06, 0x08, 0x01, 0x10, 0x02, 0x18, 0x03, 0x12, 0x02, 0x08, 0x00,
+            0x12, 0x02, 0x08, 0x00, 0x12, 0x02, 0x08, 0x02,
+        ],
+    ),
+    (
+        "struct<a:array<array<int>>>",
+        Rle::One,
+        &[
+            r#"{"a":[[1,2],[]]}"#,
+            r#"{"a":null}"#,
+            r#"{"a":[]}"#,
+            r#"{"a":[null,[3]]}"#,
+            r#"{"a":[[4,5,6]]}"#,
+        ],
+        &[
+            0xff, 0xb8, 0xfc, 0x02, 0x00, 0x02, 0x01, 0xff, 0xd8, 0xfc, 0x02, 0x00, 0x01, 0x03,
+            0x03, 0x01, 0x02,
+        ],
+        &[
+            0x0a, 0x06, 0x08, 0x00, 0x10, 0x01, 0x18, 0x02, 0x0a, 0x06, 0x08, 0x02, 0x10, 0x01,
+            0x18, 0x05, 0x0a, 0x06, 0x08, 0x00, 0x10, 0x02, 0x18, 0x02, 0x0a, 0x06, 0x08, 0x02,
+            0x10, 0x02, 0x18, 0x05, 0x0a, 0x06, 0x08, 0x01, 0x10, 0x03, 0x18, 0x03, 0x12, 0x02,
+            0x08, 0x00, 0x12, 0x02, 0x08, 0x00, 0x12, 0x02, 0x08, 0x00, 0x12, 0x02, 0x08, 0x00,
+        ],
+    ),
+    (
+        "struct<n:bigint>",
+        Rle::One,
+        &[],
+        &[],
+        &[0x12, 0x02, 0x08, 0x00, 0x12, 0x02, 0x08, 0x00],
+    ),
+    (
+        "struct<n:bigint>",
+        Rle::Two,
+        &[r#"{"n":null}"#, r#"{"n":null}"#, r#"{"n":null}"#],
+        &[0xff, 0x00],
+        &[
+            0x0a, 0x06, 0x08, 0x00, 0x10, 0x01, 0x18, 0x02, 0x12, 0x02, 0x08, 0x00, 0x12, 0x02,
+            0x08, 0x02,
+        ],
+    ),
+    // five distinct texts of ten
+    (
+        "struct<s:string>",
+        Rle::One,
+        &[
+            r#"{"s":"a"}"#,
+            r#"{"s":"b"}"#,
+            r#"{"s":"c"}"#,
+            r#"{"s":"d"}"#,
+            r#"{"s":"e"}"#,
+            r#"{"s":"e"}"#,
+            r#"{"s":"d"}"#,
+            r#"{"s":"c"}"#,
+            r#"{"s":"b"}"#,
+            r#"{"s":"a"}"#,
+        ],
+        &[
+            0x02, 0x01, 0x00, 0x02, 0xff, 0x04, 0x02, 0x00, 0x01, 0x61, 0x62, 0x63, 0x64, 0x65,
+        ],
+        &[
+            0x0a, 0x06, 0x08, 0x01, 0x10, 0x01, 0x18, 0x06, 0x0a, 0x06, 0x08, 0x02, 0x10, 0x01,
+            0x18, 0x03, 0x0a, 0x06, 0x08, 0x03, 0x10, 0x01, 0x18, 0x05, 0x12, 0x02, 0x08, 0x00,
+            0x12, 0x04, 0x08, 0x01, 0x10, 0x05,
+        ],
+    ),
+    // six distinct texts of ten
+    (
+        "struct<s:string>",
+        Rle::Two,
+        &[
+            r#"{"s":"f"}"#,
+            r#"{"s":"b"}"#,
+            r#"{"s":"c"}"#,
+            r#"{"s":"d"}"#,
+            r#"{"s":"e"}"#,
+            r#"{"s":"a"}"#,
+            r#"{"s":"d"}"#,
+            r#"{"s":"c"}"#,
+            r#"{"s":"b"}"#,
+            r#"{"s":"a"}"#,
+        ],
+        &[
+            0x66, 0x62, 0x63, 0x64, 0x65, 0x61, 0x64, 0x63, 0x62, 0x61, 0x07, 0x01,
+        ],
+        &[
+            0x0a, 0x06, 0x08, 0x01, 0x10, 0x01, 0x18, 0x0a, 0x0a, 0x06, 0x08, 0x02, 0x10, 0x01,
+            0x18, 0x02, 0x12, 0x02, 0x08, 0x00, 0x12, 0x02, 0x08, 0x02,
+        ],
+    ),
+    // an empty text, which is too few for a dictionary
+    (
+        "struct<s:string>",
+        Rle::One,
+        &[r#"{"s":""}"#],
+        &[0xff, 0x00],
+        &[
+            0x0a, 0x06, 0x08, 0x02, 0x10, 0x01, 0x18, 0x02, 0x12, 0x02, 0x08, 0x00, 0x12, 0x02,
+            0x08, 0x00,
+        ],
+    ),
+    (
+        "struct<b:binary>",
+        Rle::One,
+        &[r#"{"b":""}"#, r#"{"b":"00ff"}"#],
+        &[0x00, 0xff, 0xfe, 0x00, 0x02],
+        &[
+            0x0a, 0x06, 0x08, 0x01, 0x10, 0x01, 0x18, 0x02, 0x0a, 0x06, 0x08, 0x02, 0x10, 0x01,
+            0x18, 0x03, 0x12, 0x02, 0x08, 0x00, 0x12, 0x02, 0x08, 0x00,
+        ],
+    ),
+    (
+        "struct<b:boolean>",
+        Rle::Two,
+        &[r#"{"b":true}"#, r#"{"b":false}"#, r#"{"b":true}"#],
+        &[0xff, 0xa0],
+        &[
+            0x0a, 0x06, 0x08, 0x01, 0x10, 0x01, 0x18, 0x02, 0x12, 0x02, 0x08, 0x00, 0x12, 0x02,
+            0x08, 0x00,
+        ],
+    ),
+    (
+        "struct<n:tinyint>",
+        Rle::Two,
+        &[r#"{"n":-128}"#, r#"{"n":127}"#],
+        &[0xfe, 0x80, 0x7f],
+        &[
+            0x0a, 0x06, 0x08, 0x01, 0x10, 0x01, 0x18, 0x03, 0x12, 0x02, 0x08, 0x00, 0x12, 0x02,
+            0x08, 0x00,
+        ],
+    ),
+    (
+        "struct<d:date>",
+        Rle::Two,
+        &[r#"{"d":"1970-01-02"}"#],
+        &[0x42, 0x00, 0x80],
+        &[
+            0x0a, 0x06, 0x08, 0x01, 0x10, 0x01, 0x18, 0x03, 0x12, 0x02, 0x08, 0x00, 0x12, 0x02,
+            0x08, 0x02,
+        ],
+    ),
+];
+
+/// The rows that the lines spell.
+fn rows_of(alloc: Global, schema: &Schema, lines: &[&str]) -> Result<Vec<Row<'static>>, StripeFault>
+    ensures { IfOk result (λ rows. RowsFit schema.now (views rows.items)) }
+{
+    let mut rows = Vec::new(alloc);
+    for line in lines {
+        let Ok(json) = Json::from_str(alloc, line) else {
+            return Err(StripeFault::OutOfMemory);
+        };
+        let Ok(row) = row_from_json(alloc, schema, &json) else {
+            return Err(StripeFault::OutOfMemory);
+        };
+        rows.push(row)?;
+    }
+    Ok(rows)
+}
+
+/// The stripe of the rows that the lines spell.
+fn written(
+    alloc: Global,
+    schema: &Schema,
+    rle: Rle,
+    lines: &[&str],
+) -> Result<StripeOut, StripeFault> {
+    let rows = rows_of(alloc, schema, lines)?;
+    if !are_few(alloc, schema, &rows)? {
+        return Err(StripeFault::TooMany(0));
+    }
+    let Some(options) = Options::new(rle, 0, 10) else {
+        return Err(StripeFault::BadDirectory);
+    };
+    write_stripe(alloc, schema, &options, &rows)
+}
+
+/// The lines that the rows of a stripe print as.
+fn lines_of(alloc: Global, schema: &Schema, out: &StripeOut) -> Result<Vec<String>, StripeFault> {
+    let view = StripeView::open(alloc, schema, out.info, 0, &out.bytes)?;
+    let mut lines = Vec::new(alloc);
+    for row in view.rows(alloc)? {
+        if !orc_types::fits(schema, &row) {
+            return Err(StripeFault::BadDirectory);
+        }
+        let Ok(json) = row_to_json(alloc, schema, &row) else {
+            return Err(StripeFault::OutOfMemory);
+        };
+        lines.push(json.to_string(alloc)?)?;
+    }
+    Ok(lines)
+}
+
+/// The stripe has these streams and this footer, and its rows print as the lines that it was made of.
+fn check_case(rt: &impl Abort, alloc: Global, case: &Case) -> Result<(), StripeFault> {
+    let (text, rle, lines, data, footer) = case;
+    let Ok(schema) = Schema::parse(alloc, text) else {
+        return Err(StripeFault::OutOfMemory);
+    };
+    let out = written(alloc, &schema, *rle, lines)?;
+    let mut wanted = Vec::new(alloc);
+    wanted.extend_from_slice(data)?;
+    wanted.extend_from_slice(footer)?;
+    assert!(rt; out.bytes.as_slice() == wanted.as_slice(), "{}", text);
+    assert_eq!(rt; out.info.data_length, data.len() as u64, "{}", text);
+    assert_eq!(rt; out.info.footer_length, footer.len() as u64, "{}", text);
+    assert_eq!(rt; out.info.number_of_rows, lines.len() as u64, "{}", text);
+    let again = lines_of(alloc, &schema, &out)?;
+    assert_eq!(rt; again.len(), lines.len(), "{}", text);
+    for (line, wanted) in again.iter().zip(*lines) {
+        assert_eq!(rt; line.as_str(), *wanted);
+    }
+    Ok(())
+}
+
+/// Each case holds.
+fn check_cases(rt: &impl Abort, alloc: Global) -> Result<(), StripeFault> {
+    for case in &CASES {
+        check_case(rt, alloc, case)?;
+    }
+    Ok(())
+}
+
+#[test]
+fn stripes_written(rt: HostRuntime) {
+    let alloc = rt.alloc();
+    let tried = check_cases(&rt, alloc);
+    if tried == Err(StripeFault::OutOfMemory) {
+        assert_eq!(rt; check_cases(&rt, alloc), Ok(()), "once memory is there");
+    } else {
+        assert_eq!(rt; tried, Ok(()));
+    }
+}
+
+/// Three sevens and a null: four cells of the root, and of the column three values, 21 together.
+fn check_stats(rt: &impl Abort, alloc: Global) -> Result<(), StripeFault> {
+    let Ok(schema) = Schema::parse(alloc, "struct<n:bigint>") else {
+        return Err(StripeFault::OutOfMemory);
+    };
+    let lines = [r#"{"n":7}"#, r#"{"n":7}"#, r#"{"n":null}"#, r#"{"n":7}"#];
+    let out = written(alloc, &schema, Rle::One, &lines)?;
+    assert_eq!(rt; out.stats.len(), 2);
+    assert_eq!(rt; out.stats[0].count, 4);
+    assert_eq!(rt; out.stats[0].nulls, Some(false));
+    assert_eq!(rt; out.stats[1].count, 3);
+    assert_eq!(rt; out.stats[1].nulls, Some(true));
+    match &out.stats[1].body {
+        Body::Ints {
+            least,
+            greatest,
+            sum,
+        } => {
+            assert_eq!(rt; *least, Some(7));
+            assert_eq!(rt; *greatest, Some(7));
+            assert_eq!(rt; *sum, Some(21));
+        }
+        _ => assert!(rt; false, "numbers"),
+    }
+    Ok(())
+}
+
+#[test]
+fn stripe_statistics(rt: HostRuntime) {
+    let alloc = rt.alloc();
+    let tried = check_stats(&rt, alloc);
+    if tried == Err(StripeFault::OutOfMemory) {
+        assert_eq!(rt; check_stats(&rt, alloc), Ok(()), "once memory is there");
+    } else {
+        assert_eq!(rt; tried, Ok(()));
+    }
+}
+
+#[test]
+fn options_made(rt: HostRuntime) {
+    for (stride, stripe_rows, made) in [
+        (0, 1, true),
+        (0, 2_147_483_647, true),
+        (0, 0, false),
+        (0, 2_147_483_648, false),
+        (1, 1, false),
+        (10_000, 10, false),
+    ] {
+        let options = Options::new(Rle::Two, stride, stripe_rows);
+        assert_eq!(rt; options.is_some(), made, "{stride} {stripe_rows}");
+    }
+}
