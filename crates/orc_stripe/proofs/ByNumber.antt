@@ -1,18 +1,17 @@
 -- Rows are spelled column by column, by the columns' numbers, where they are spelled going down the schema.
-use Rattle.std.proofs.Common.{◌≡◌, ℕ, zero, suc, ◌+◌, ◌-◌, ◌<◌, ◌≤◌, ◌^◌, ℤ, pos, negsuc, Bool, true, false, ltb, List, [], ◌∷◌, ◌++◌, map, length, take, drop, refl, sym, ap, ◌∙◌, subst, arith, inl, inr, ◌⊎◌, append-nil, length-append}
+use Rattle.std.proofs.Common.{◌≡◌, ℕ, zero, suc, ◌+◌, ◌-◌, ◌<◌, ◌≤◌, ◌^◌, ℤ, pos, negsuc, Bool, true, false, ltb, List, [], ◌∷◌, ◌++◌, map, length, take, drop, refl, sym, ap, ◌∙◌, subst, arith, inl, inr}
 use Rattle.std.proofs.lemmas.Bool.{lt-ltb, le-ltb, and_parts, cases_lt}
-use Rattle.std.proofs.lemmas.List.{length-map}
 use Rattle.std.specs.List.{AllByRecursion, flat_map}
-use Rattle.orc_types.specs.Cells.{Cell, null, leaf, list, struct, Cells, end, more, cells_of, list_of_cells, parts, is_value, values}
+use Rattle.orc_types.specs.Cells.{Cell, null, leaf, list, struct, Cells, end, more, cells_of, list_of_cells, parts, values}
 use Rattle.orc_types.specs.Shapes.{Shape, scalar, list_of, struct_of, Fields, no_field, field, width, widths, shape_at, shape_within}
 use Rattle.orc_types.specs.Fits.{fits, int_fits, all_fit, each_fits, RowsFit}
 use Rattle.orc_types.specs.Columns.{cells, cells_within}
 use Rattle.orc_types.specs.declared.kind.Scalar.{Scalar}
 use Rattle.orc_types.specs.declared.kind.Scalar.TheVariants as kind
 use Rattle.orc_types.proofs.Views.{list_of_cells-cells_of, cells_of-list_of_cells}
-use Rattle.orc_stripe.specs.Spellings.{Nullable, AllStand, Standing, size, joined, Grouped, Within, zip_cons, Fielded}
+use Rattle.orc_stripe.specs.Spellings.{AllStand, size, joined, zip_cons}
 use Rattle.orc_stripe.specs.Columns.{IsBool, IsByte, signed_byte, IsInt, IsDate, IsText, IsBinary, IsWord, IsList, IsRecord}
-use Rattle.orc_stripe.specs.Stripe.{Streams, version, Marks, SpellsScalar, SpellsValues, IsColumn, SpellRows, SpellsColumn, SpellsTree, SpellsFields, SpellsCells, has_dictionary, SpellsTexts}
+use Rattle.orc_stripe.specs.Stripe.{Streams, SpellsScalar, IsColumn, SpellRows, SpellsFields, SpellsCells, has_dictionary, SpellsTexts}
 use Rattle.orc_stripe.proofs.Fronts.{length-zip, stand_length}
 
 -- ---- what fits

@@ -1,20 +1,10 @@
 -- Where nothing is left.
-use Rattle.std.proofs.Common.{◌≡◌, ℕ, zero, suc, ◌+◌, ◌-◌, ◌<◌, ◌≤◌, ℤ, Bool, true, false, Option, Some, None, List, [], ◌∷◌, ◌++◌, map, length, take, drop, get_or, refl, sym, ap, ◌∙◌, subst, inl, inr, arith, length-drop}
+use Rattle.std.proofs.Common.{◌≡◌, ℕ, ◌-◌, ◌≤◌, Bool, true, false, List, [], ◌∷◌, length, take, drop, get_or, refl, sym, ap, ◌∙◌, subst, arith, length-drop}
 use Rattle.std.specs.Bool.{MatchBool}
 use Rattle.std.proofs.Math.Seq.{take-length}
-use Rattle.orc_types.specs.Cells.{Cell}
 use Rattle.orc_types.specs.Shapes.{Shape, list_of, struct_of, Fields, field, width}
-use Rattle.orc_rle.specs.declared.sign.Sign.{Sign}
-use Rattle.orc_rle.specs.declared.sign.Sign.TheVariants.{Signed, Unsigned}
-use Rattle.orc_rle.specs.RunOne.{IsRunOne, IsShape}
-use Rattle.orc_stripe.specs.declared.version.Version.{Version}
-use Rattle.orc_stripe.specs.declared.version.Version.TheVariants.{One, Two}
-use Rattle.orc_stripe.specs.declared.numbers.Numbers.{Numbers}
-use Rattle.orc_stripe.specs.declared.bits.Bits.{Bits}
-use Rattle.orc_stripe.specs.declared.column.Source.{Source}
 use Rattle.orc_stripe.specs.declared.column.ColumnReader.{ColumnReader}
-use Rattle.orc_stripe.specs.Numbers.{is_run, AreNumbers, NumbersLeft}
-use Rattle.orc_stripe.specs.Bits.{BitsLeft}
+use Rattle.orc_stripe.specs.Numbers.{NumbersLeft}
 use Rattle.orc_stripe.specs.Spellings.{AllStand, Standing, Fielded, zip_cons}
 use Rattle.orc_stripe.specs.Columns.{IsList, IsRecord, MarksLeft, CellsLeft, OwnLeft, ValuesLeft, ListsLeft, FieldsLeft}
 use Rattle.orc_stripe.proofs.Arms.{behind}

@@ -1,5 +1,5 @@
 -- Which fault of a column's readers stands, along the arms of the reader that goes down a schema.
-use Rattle.std.proofs.Common.{◌≡◌, ℕ, zero, suc, ◌+◌, ◌-◌, ◌<◌, ◌≤◌, Bool, true, false, List, [], ◌∷◌, ◌++◌, map, length, take, drop, get_or, slice_set, is_some, refl, sym, ap, ◌∙◌, subst, inl, inr, ◌⊎◌, arith, take-append-drop}
+use Rattle.std.proofs.Common.{◌≡◌, ℕ, zero, suc, ◌+◌, ◌-◌, ◌<◌, ◌≤◌, List, [], ◌∷◌, ◌++◌, map, length, take, drop, get_or, slice_set, is_some, refl, sym, ap, ◌∙◌, subst, inl, inr, ◌⊎◌, arith, take-append-drop}
 use Rattle.std.proofs.lemmas.Bool.{lt-ltb, le-ltb}
 use Rattle.std.proofs.lemmas.List.{map-append}
 use borrow.Rule.Slice.PartMut.{put_mid}

@@ -1,7 +1,7 @@
 -- Runs of integers of both versions, and of bytes.
 use Rattle.std.specs.Prelude.{IfErr}
 use Rattle.orc_rle.specs.declared.fault.RunFault.{RunFault}
-use Rattle.std.proofs.Common.{Result, Ok, Err, ◌≡◌, ℕ, ℤ, List, ◌++◌, length}
+use Rattle.std.proofs.Common.{Result, Ok, Err, ◌≡◌, ℕ, List, ◌++◌, length}
 use Rattle.orc_rle.specs.declared.sign.Sign.{Sign}
 use Rattle.orc_rle.specs.ByteRun.{IsByteRun}
 use Rattle.orc_rle.specs.ByteLaws.{one_byte_run, byte_run_some, byte_run_values}

@@ -1,5 +1,5 @@
 -- Streams spell at most one list of so many cells.
-use Rattle.std.proofs.Common.{◌≡◌, ℕ, zero, suc, ◌+◌, ℤ, Bool, true, false, List, [], ◌∷◌, ◌++◌, map, length, refl, sym, ap, ◌∙◌, subst, arith, append-nil}
+use Rattle.std.proofs.Common.{◌≡◌, ℕ, suc, ◌+◌, ℤ, Bool, true, false, List, [], ◌∷◌, map, length, refl, sym, ap, ◌∙◌, subst, arith, append-nil}
 use Rattle.std.specs.List.{AllByRecursion}
 use Rattle.std.proofs.lemmas.List.{length-map}
 use Rattle.orc_types.specs.Cells.{Cell, is_value, values}
@@ -17,7 +17,7 @@ use Rattle.orc_rle.specs.ByteRun.{IsByteRun}
 use Rattle.orc_rle.specs.ByteLaws.{one_byte_run, byte_run_some}
 use Rattle.orc_rle.specs.BitStream.{IsBitStream}
 use Rattle.orc_stripe.specs.Columns.{IsBool, IsByte, IsInt, IsDate, IsText, IsBinary, IsWord, IsList, IsRecord}
-use Rattle.orc_stripe.specs.Stripe.{Streams, version, Marks, Is, IsDictionary, SpellsScalar, SpellsTexts, SpellsInts, SpellsColumn, SpellsTree, SpellsFields, SpellsCells, has_dictionary, most_cells}
+use Rattle.orc_stripe.specs.Stripe.{Streams, version, Marks, Is, IsDictionary, SpellsScalar, SpellsTexts, SpellsInts, SpellsTree, SpellsFields, SpellsCells, has_dictionary, most_cells}
 use Rattle.orc_stripe.proofs.Fronts.{length-zip, stand_length, one_standing, same_groups, joined_length, same_cells, length-values, trues}
 use Rattle.orc_stripe.proofs.NumbersLemmas.{laws_of}
 use Rattle.orc_stripe.proofs.BitsLemmas.{one_bit_stream}

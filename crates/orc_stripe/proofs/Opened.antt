@@ -1,5 +1,5 @@
 -- Why a stripe isn't opened.
-use Rattle.std.proofs.Common.{Bool, true, false, Option, Some, if◌then◌else◌, nat_le, ◌≡◌, ◌≢◌, ◌+◌, ◌-◌, ◌≤◌, ℕ, None, List, [], ◌∷◌, length, refl, inl, inr, ◌⊎◌, sym, ap, ◌∙◌, subst, arith}
+use Rattle.std.proofs.Common.{Bool, true, false, Option, Some, if◌then◌else◌, nat_le, ◌≡◌, ◌≢◌, ◌+◌, ◌-◌, ◌≤◌, ℕ, None, List, [], ◌∷◌, length, refl, inl, inr, ◌⊎◌, sym, ◌∙◌, subst, arith}
 use Rattle.std.proofs.lemmas.Bool.{both_ways, and_parts, leb-true, le-leb}
 use Rattle.orc_types.specs.Shapes.{width}
 use Rattle.orc_types.specs.Types.{types}

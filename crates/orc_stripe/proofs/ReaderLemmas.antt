@@ -1,12 +1,11 @@
 -- What the reader has still to give, by kinds.
-use Rattle.std.proofs.Common.{◌≡◌, ℕ, zero, suc, ◌+◌, ◌-◌, ◌<◌, ◌≤◌, ℤ, pos, negsuc, Bool, true, false, Option, Some, None, List, [], ◌∷◌, ◌++◌, map, length, take, drop, slice_get, replicate, refl, sym, ap, ◌∙◌, subst, arith, append-nil, length-append}
+use Rattle.std.proofs.Common.{◌≡◌, ℕ, ◌≤◌, ℤ, pos, negsuc, Bool, true, false, List, [], ◌∷◌, map, length, refl, sym, ap, ◌∙◌, subst, arith, append-nil, length-append}
 use Rattle.std.specs.List.{AllByRecursion}
-use Rattle.orc_types.specs.Cells.{Cell, null, leaf, list, struct, Atom, text, cells_of, is_value, values}
-use Rattle.orc_types.specs.Shapes.{Shape, scalar, list_of, struct_of, Fields, no_field, field, width, widths}
+use Rattle.orc_types.specs.Cells.{Cell, null, leaf, text, is_value, values}
 use Rattle.orc_stripe.specs.Fronts.{Leaves, Lacks}
-use Rattle.orc_stripe.specs.Spellings.{Nullable, AllStand, Standing, size, joined, Grouped, Within, zip_cons, Fielded}
+use Rattle.orc_stripe.specs.Spellings.{Nullable, AllStand, Standing, size, joined, Grouped}
 use Rattle.orc_stripe.specs.Columns.{IsBool, IsByte, IsInt, IsDate, IsText, IsBinary, IsWord, IsList, IsRecord}
-use Rattle.orc_stripe.proofs.Fronts.{standing_leaves, standing_lacks, none_stands, grouped_leaves, nullable_leaves, nullable_lacks_marks, nullable_lacks_values, trues, nothing}
+use Rattle.orc_stripe.proofs.Fronts.{standing_leaves, none_stands, grouped_leaves, nullable_leaves, nullable_lacks_values, nothing}
 
 -- one value stands for one thing
 pub one_stands : {X : Type 0} (stands : X → Cell → Type 0) → ((x : X) (y z : Cell) → stands x y → stands x z → y ≡ z) → (before after : List X → Type 0) (x : X) (y : Cell)

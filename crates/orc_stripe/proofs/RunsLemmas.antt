@@ -1,6 +1,6 @@
 -- What a reader of runs has still to give, whatever a run is.
 use Rattle.std.proofs.Common.{get_or, ◌≡◌, ℕ, zero, suc, ◌+◌, ◌<◌, ◌≤◌, List, [], ◌∷◌, ◌++◌, length, take, drop, refl, sym, ap, ◌∙◌, subst, arith, append-nil, take-append-drop}
-use Rattle.orc_rle.specs.Stream.{AreRuns, IsStream}
+use Rattle.orc_rle.specs.Stream.{IsStream}
 use Rattle.orc_rle.proofs.StreamLemmas.{runs_rest}
 use Rattle.orc_stripe.specs.Fronts.{Leaves, Lacks}
 use Rattle.orc_stripe.specs.Runs.{RunsLeft}

@@ -1,5 +1,5 @@
 -- Numbers of 64 bits as sizes, and as values.
-use Rattle.std.proofs.Common.{Bool, true, false, Option, Some, None, List, [], ◌∷◌, map, length, get_or, slice_get, suc, zero, ◌≡◌, ℕ, ◌^◌, ◌<◌, ℤ, pos, negsuc, nat_abs, FitsSigned, w32, w64, lt-ltb, ltb-true, refl, sym, ap, ◌∙◌, arith, rules}
+use Rattle.std.proofs.Common.{Bool, true, false, Some, List, [], ◌∷◌, map, length, get_or, slice_get, suc, zero, ◌≡◌, ℕ, ◌^◌, ◌<◌, ℤ, pos, negsuc, nat_abs, FitsSigned, w32, w64, lt-ltb, ltb-true, refl, sym, ap, ◌∙◌, arith, rules}
 use Rattle.std.specs.Int.{FitsUnsignedBits}
 use Rattle.orc_types.specs.Cells.{Cell, leaf, bool, int, date, text}
 use Rattle.std.specs.Str.{is_utf8}

@@ -1,5 +1,5 @@
 -- Readers at the start of their streams spell what the streams spell.
-use Rattle.std.proofs.Common.{◌≡◌, ℕ, zero, suc, ◌+◌, ℤ, Bool, true, false, Option, Some, None, List, [], ◌∷◌, ◌++◌, map, length, take, drop, refl, sym, ap, ◌∙◌, subst, arith}
+use Rattle.std.proofs.Common.{◌≡◌, ℕ, suc, ◌+◌, ℤ, Bool, true, false, Option, Some, None, List, [], ◌∷◌, ◌++◌, map, take, drop, sym, ap, ◌∙◌, subst, arith}
 use Rattle.orc_types.specs.Cells.{Cell, is_value, values}
 use Rattle.orc_types.specs.Shapes.{Shape, scalar, list_of, struct_of, Fields, no_field, field, width}
 use Rattle.orc_types.specs.declared.kind.Scalar.{Scalar}
@@ -13,16 +13,14 @@ use Rattle.orc_stripe.specs.declared.numbers.Numbers.{Numbers}
 use Rattle.orc_stripe.specs.declared.column.Entry.{Entry}
 use Rattle.orc_stripe.specs.declared.column.Source.{Source}
 use Rattle.orc_stripe.specs.declared.column.ColumnReader.{ColumnReader}
-use Rattle.orc_stripe.specs.Spellings.{Nullable, AllStand, Standing, size, joined, Grouped, Within, zip_cons, Fielded}
+use Rattle.orc_stripe.specs.Spellings.{Nullable, Standing, size, joined, Grouped, Within, Fielded}
 use Rattle.orc_stripe.specs.Numbers.{AreNumbers, NumbersLeft}
-use Rattle.orc_rle.specs.ByteRun.{IsByteRun}
-use Rattle.orc_rle.specs.Stream.{IsStream}
 use Rattle.orc_rle.specs.BitStream.{IsBitStream}
 use Rattle.orc_stripe.specs.Bytes.{AreBytes, BytesLeft}
 use Rattle.orc_stripe.specs.Bits.{BitsLeft}
 use Rattle.orc_stripe.proofs.BitsLemmas.{are_bits, held_bits}
 use Rattle.orc_stripe.specs.Octets.{OctetsLeft}
-use Rattle.orc_stripe.specs.Columns.{MarksLeft, GroupsLeft, TextsLeft, ScalarLeft, ColumnLeft, ValuesLeft, FieldsLeft, CellsLeft, entry_bytes, IsBool, IsByte, IsInt, IsDate, IsText, IsBinary, IsWord, IsList, IsRecord}
+use Rattle.orc_stripe.specs.Columns.{MarksLeft, GroupsLeft, TextsLeft, ScalarLeft, ValuesLeft, FieldsLeft, CellsLeft, entry_bytes, IsBool, IsByte, IsInt, IsDate, IsText, IsBinary, IsWord, IsList, IsRecord}
 use Rattle.orc_stripe.specs.Stripe.{Streams, version, has_dictionary, Marks, Is, IsDictionary, SpellsTexts, SpellsInts, SpellsScalar, SpellsTree, SpellsFields, SpellsCells, most_cells}
 use Rattle.orc_stripe.specs.Starting.{NumbersStart, BytesStart, BitsStart, MarksStart, GroupsStart, TextsStart, ScalarStart, TreeStart, FieldsStart}
 use Rattle.std.specs.declared.vec.Vec.{Vec}

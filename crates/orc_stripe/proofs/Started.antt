@@ -1,5 +1,5 @@
 -- Readers that are made from the footer, in the columns' order.
-use Rattle.std.proofs.Common.{◌≡◌, ℕ, zero, suc, ◌+◌, ◌<◌, ◌≤◌, Bool, true, false, List, [], ◌∷◌, ◌++◌, map, length, take, drop, get_or, refl, sym, ap, ◌∙◌, subst, arith, append_assoc, append-nil, length-append}
+use Rattle.std.proofs.Common.{◌≡◌, ℕ, zero, suc, ◌+◌, ◌<◌, Bool, true, false, List, [], ◌∷◌, ◌++◌, map, length, take, drop, get_or, refl, sym, ap, ◌∙◌, subst, arith, append_assoc, append-nil, length-append}
 use Rattle.std.proofs.Math.Path.{fun_ext}
 use Rattle.std.proofs.Math.Seq.{take-append_seam, drop-append_seam}
 use Rattle.orc_types.specs.Cells.{Cell, values}
@@ -9,7 +9,7 @@ use Rattle.orc_types.specs.declared.kind.Scalar.TheVariants as kind
 use Rattle.orc_wire.specs.declared.encoding.Encoding.{Encoding}
 use Rattle.orc_wire.specs.declared.stripe_footer.StripeFooter.{StripeFooter}
 use Rattle.orc_stripe.specs.declared.column.ColumnReader.{ColumnReader}
-use Rattle.orc_stripe.specs.Stripe.{Streams, columns_of, columns_from, encoding_at, has_dictionary, IsDictionary, SpellsScalar, SpellsTexts, SpellsCells, SpellsFields}
+use Rattle.orc_stripe.specs.Stripe.{Streams, columns_of, columns_from, encoding_at, has_dictionary, SpellsScalar, SpellsTexts, SpellsCells, SpellsFields}
 use Rattle.orc_stripe.specs.Faults.{Origin, origin, IsOf, AreOf, AreFields}
 use Rattle.orc_stripe.proofs.FaultLemmas.{map_take, map_drop}
 use Rattle.orc_stripe.specs.Spellings.{joined}

@@ -175,7 +175,8 @@ abbrev mutual
 
   pub AreFields : Fields → (ℕ → Streams) → ℕ → List Origin → Type 0
   AreFields no_field columns n readers = Unit {0}
-  AreFields (field name s fs) columns n readers = AreFrom (AreBelow s columns) s columns n (take (width s) readers) × AreFields fs columns (n + width s) (drop (width s) readers)
+  AreFields (field name s fs) columns n readers =
+      AreFrom (AreBelow s columns) s columns n (take (width s) readers) × AreFields fs columns (n + width s) (drop (width s) readers)
 
 -- the readers of a column and of those below it
 abbrev pub AreOf : Shape → (ℕ → Streams) → ℕ → List Origin → Type 0

@@ -1,5 +1,5 @@
 -- Bytes that are a stripe of rows (ORC specification, "Stripes", "Column Encodings").
-use Rattle.std.specs.Prelude.{◌≡◌, ℕ, zero, suc, ◌+◌, ◌-◌, ◌<◌, ◌^◌, ◌||◌, ◌==◌, nat_lt, if◌then◌else◌, Bool, true, false, Option, Some, None, List, [], ◌∷◌, length, replicate, map, take, drop, slice_get}
+use Rattle.std.specs.Prelude.{◌≡◌, ℕ, zero, suc, ◌+◌, ◌-◌, ◌<◌, ◌^◌, ◌||◌, ◌==◌, nat_lt, if◌then◌else◌, Bool, true, false, None, List, [], ◌∷◌, length, replicate, map, drop}
 use Rattle.std.specs.List.{AllByRecursion}
 use Rattle.orc_types.specs.Cells.{Cell, is_value, parts, values}
 use Rattle.orc_types.specs.Shapes.{Shape, scalar, list_of, struct_of, Fields, no_field, field, width, shape_at}
@@ -104,7 +104,8 @@ abbrev mutual
   pub SpellsTree : Shape → (ℕ → Streams) → List Cell → Type 0
   SpellsTree (scalar k o) columns vs = SpellsScalar k (columns 0) vs
   SpellsTree (list_of s o) columns vs =
-      Standing IsList (Grouped (AreNumbers (version (columns 0)) Unsigned ((columns 0).stream 2)) (Within most_cells (SpellsColumn (SpellsTree s) (λ c. columns (suc c))))) vs
+      Standing IsList
+      (Grouped (AreNumbers (version (columns 0)) Unsigned ((columns 0).stream 2)) (Within most_cells (SpellsColumn (SpellsTree s) (λ c. columns (suc c))))) vs
   SpellsTree (struct_of fs o) columns vs = Standing IsRecord (SpellsFields fs (λ c. columns (suc c))) vs
 
   pub SpellsFields : Fields → (ℕ → Streams) → List (List Cell) → Type 0

@@ -1,3 +1,7 @@
+mod encodings;
+mod hostile;
+mod shapes;
+
 use crate::*;
 use orc_rle::RunFault;
 use orc_types::{Schema, fits, row_to_json};
@@ -48,7 +52,44 @@ const LISTS: [u8; 56] = [
     0x12, 0x02, 0x08, 0x00, 0x12, 0x02, 0x08, 0x00,
 ];
 
-const CASES: [Case; 12] = [
+/// DATA of column 1 with six bytes, both columns DIRECT.
+const SIX_BYTES: [u8; 16] = [
+    0x0a, 0x06, 0x08, 0x01, 0x10, 0x01, 0x18, 0x06, 0x12, 0x02, 0x08, 0x00, 0x12, 0x02, 0x08, 0x00,
+];
+
+/// DATA of column 1 with four bytes, both columns DIRECT.
+const FOUR_BYTES: [u8; 16] = [
+    0x0a, 0x06, 0x08, 0x01, 0x10, 0x01, 0x18, 0x04, 0x12, 0x02, 0x08, 0x00, 0x12, 0x02, 0x08, 0x00,
+];
+
+/// No streams, both columns DIRECT.
+const NO_STREAMS: [u8; 8] = [0x12, 0x02, 0x08, 0x00, 0x12, 0x02, 0x08, 0x00];
+
+/// PRESENT of column 1 with two bytes, both columns DIRECT.
+const TWO_MARKS: [u8; 16] = [
+    0x0a, 0x06, 0x08, 0x00, 0x10, 0x01, 0x18, 0x02, 0x12, 0x02, 0x08, 0x00, 0x12, 0x02, 0x08, 0x00,
+];
+
+/// DATA of column 1 with one byte, LENGTH with two, both columns DIRECT.
+const ONE_BYTE: [u8; 24] = [
+    0x0a, 0x06, 0x08, 0x01, 0x10, 0x01, 0x18, 0x01, 0x0a, 0x06, 0x08, 0x02, 0x10, 0x01, 0x18, 0x02,
+    0x12, 0x02, 0x08, 0x00, 0x12, 0x02, 0x08, 0x00,
+];
+
+/// DATA, LENGTH and DICTIONARY_DATA of a column of texts with two entries.
+const TWO_WORDS: [u8; 34] = [
+    0x0a, 0x06, 0x08, 0x01, 0x10, 0x01, 0x18, 0x02, 0x0a, 0x06, 0x08, 0x02, 0x10, 0x01, 0x18, 0x03,
+    0x0a, 0x06, 0x08, 0x03, 0x10, 0x01, 0x18, 0x02, 0x12, 0x02, 0x08, 0x00, 0x12, 0x04, 0x08, 0x01,
+    0x10, 0x02,
+];
+
+/// LENGTH of column 1 with six bytes, three columns DIRECT.
+const LONG_LIST: [u8; 20] = [
+    0x0a, 0x06, 0x08, 0x02, 0x10, 0x01, 0x18, 0x06, 0x12, 0x02, 0x08, 0x00, 0x12, 0x02, 0x08, 0x00,
+    0x12, 0x02, 0x08, 0x00,
+];
+
+const CASES: [Case; 26] = [
     (
         "struct<n:bigint>",
         &[0x00, 0x00, 0x0e],
@@ -142,6 +183,104 @@ const CASES: [Case; 12] = [
             r#"{"a":[[4,5,6]]}"#,
         ]),
     ),
+    (
+        "struct<n:bigint>",
+        &[0x01, 0x00, 0x0e, 0x00, 0x00, 0x12],
+        &SIX_BYTES,
+        6,
+        Err(StripeFault::Run(1, StreamKind::Data, RunFault::TooMany(3))),
+    ),
+    (
+        "struct<n:bigint>",
+        &[0x00, 0x00, 0x0e, 0xff],
+        &FOUR_BYTES,
+        4,
+        Err(StripeFault::Run(1, StreamKind::Data, RunFault::Short(3))),
+    ),
+    (
+        "struct<n:bigint>",
+        &[0x00, 0x00, 0x0e],
+        &THREE_BYTES,
+        4,
+        Err(StripeFault::Run(1, StreamKind::Data, RunFault::TooFew(3))),
+    ),
+    (
+        "struct<n:bigint>",
+        &[],
+        &NO_STREAMS,
+        0x8000_0000,
+        Err(StripeFault::TooMany(0)),
+    ),
+    (
+        "struct<n:int>",
+        &[0xff, 0x80, 0x80, 0x80, 0x80, 0x10],
+        &SIX_BYTES,
+        1,
+        Err(StripeFault::OutOfRange(1)),
+    ),
+    (
+        "struct<b:boolean>",
+        &[],
+        &NO_STREAMS,
+        1,
+        Err(StripeFault::Run(1, StreamKind::Data, RunFault::TooFew(0))),
+    ),
+    (
+        "struct<b:boolean>",
+        &[0xff, 0x00],
+        &TWO_MARKS,
+        1,
+        Ok(&[r#"{"b":null}"#]),
+    ),
+    (
+        "struct<b:boolean>",
+        &[0xff, 0x00],
+        &TWO_MARKS,
+        0,
+        Err(StripeFault::Run(1, StreamKind::Present, RunFault::TooMany(0))),
+    ),
+    (
+        "struct<s:string>",
+        &[0xe9, 0xff, 0x01],
+        &ONE_BYTE,
+        1,
+        Err(StripeFault::NotUtf8(1, StreamKind::Data)),
+    ),
+    (
+        "struct<s:string>",
+        &[0x61, 0xff, 0x02],
+        &ONE_BYTE,
+        1,
+        Err(StripeFault::LengthSum(1, StreamKind::Data)),
+    ),
+    (
+        "struct<s:binary>",
+        &[0x61, 0xff, 0x00],
+        &ONE_BYTE,
+        1,
+        Err(StripeFault::LengthSum(1, StreamKind::Data)),
+    ),
+    (
+        "struct<s:string>",
+        &[0xff, 0x00, 0xfe, 0x01, 0x01, 0x61, 0xe9],
+        &TWO_WORDS,
+        1,
+        Ok(&[r#"{"s":"a"}"#]),
+    ),
+    (
+        "struct<s:string>",
+        &[0xff, 0x01, 0xfe, 0x01, 0x01, 0x61, 0xe9],
+        &TWO_WORDS,
+        1,
+        Err(StripeFault::NotUtf8(1, StreamKind::DictionaryData)),
+    ),
+    (
+        "struct<a:array<int>>",
+        &[0xff, 0x80, 0x80, 0x80, 0x80, 0x08],
+        &LONG_LIST,
+        1,
+        Err(StripeFault::TooMany(1)),
+    ),
 ];
 
 /// The fourth of nine fives is null.
@@ -158,8 +297,13 @@ const NINE_LINES: [&'static str; 9] = [
 ];
 
 /// The lines that the rows of a stripe print as.
-fn lines_of(alloc: Global, case: &Case) -> Result<Vec<String>, StripeFault> {
-    let (text, data, footer, rows, _) = case;
+fn lines_of(
+    alloc: Global,
+    text: &str,
+    data: &[u8],
+    footer: &[u8],
+    rows: u64,
+) -> Result<Vec<String>, StripeFault> {
     let Ok(schema) = Schema::parse(alloc, text) else {
         return Err(StripeFault::OutOfMemory);
     };
@@ -171,15 +315,25 @@ fn lines_of(alloc: Global, case: &Case) -> Result<Vec<String>, StripeFault> {
         index_length: 0,
         data_length: data.len() as u64,
         footer_length: footer.len() as u64,
-        number_of_rows: *rows,
+        number_of_rows: rows,
     };
-    let view = StripeView::open(alloc, &schema, info, 0, &bytes)?;
+    print_rows(alloc, &schema, info, &bytes)
+}
+
+/// The lines that the rows of a stripe's bytes print as.
+fn print_rows(
+    alloc: Global,
+    schema: &Schema,
+    info: StripeInfo,
+    bytes: &[u8],
+) -> Result<Vec<String>, StripeFault> {
+    let view = StripeView::open(alloc, schema, info, 0, bytes)?;
     let mut lines = Vec::new(alloc);
     for row in view.rows(alloc)? {
-        if !fits(&schema, &row) {
+        if !fits(schema, &row) {
             return Err(StripeFault::BadDirectory);
         }
-        let Ok(json) = row_to_json(alloc, &schema, &row) else {
+        let Ok(json) = row_to_json(alloc, schema, &row) else {
             return Err(StripeFault::OutOfMemory);
         };
         lines.push(json.to_string(alloc)?)?;
@@ -190,7 +344,7 @@ fn lines_of(alloc: Global, case: &Case) -> Result<Vec<String>, StripeFault> {
 /// Each stripe has its lines, or is refused so.
 fn check_cases(rt: &impl Abort, alloc: Global) -> Result<(), StripeFault> {
     for case in &CASES {
-        match (lines_of(alloc, case), case.4) {
+        match (lines_of(alloc, case.0, case.1, case.2, case.3), case.4) {
             (Err(StripeFault::OutOfMemory), _) => return Err(StripeFault::OutOfMemory),
             (Ok(lines), Ok(wanted)) => {
                 assert_eq!(rt; lines.len(), wanted.len(), "{}", case.0);

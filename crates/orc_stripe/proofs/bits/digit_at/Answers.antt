@@ -1,4 +1,4 @@
-use Rattle.std.proofs.Common.{◌<◌, ◌≤◌, ◌∙◌, ap, rules}
+use Rattle.std.proofs.Common.{◌∙◌, ap, rules}
 use Rattle.std.proofs.lemmas.Bool.{le-ltb}
 use Rattle.orc_rle.specs.BitStream.{digit}
 use Rattle.orc_stripe.proofs.BitsLemmas.{no_higher}

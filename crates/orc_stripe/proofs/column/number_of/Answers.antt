@@ -1,1 +1,0 @@
-use Rattle.orc_stripe.proofs.column.number_of.Goals as goal

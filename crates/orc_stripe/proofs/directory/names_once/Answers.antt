@@ -1,7 +1,6 @@
-use Rattle.std.proofs.Common.{◌≡◌, ◌<◌, length, take, true, false, not, sym, ap, ◌∙◌, arith}
+use Rattle.std.proofs.Common.{sym, ◌∙◌}
 use Rattle.std.proofs.lemmas.Bool.{not-true, not-false}
 use Rattle.std.specs.BTreeSet.{contains}
-use Rattle.orc_stripe.specs.Directory as spec
 use Rattle.orc_stripe.proofs.DirectoryLemmas.{pair_cmp, twice, once_more, named_more}
 use Rattle.orc_stripe.proofs.directory.names_once.Goals as goal
 

@@ -1,4 +1,4 @@
-use Rattle.std.proofs.Common.{◌≡◌, ◌≤◌, ◌<◌, drop, length, arith, ap}
+use Rattle.std.proofs.Common.{drop, length, arith, ap}
 use Rattle.orc_rle.specs.ByteRun.{IsByteRun}
 use Rattle.orc_stripe.proofs.NumbersLemmas.{byte_laws}
 use Rattle.orc_stripe.proofs.RunsLemmas.{runs_ended, runs_not_used, runs_not_read}

@@ -1,4 +1,4 @@
-use Rattle.std.proofs.Common.{◌≡◌, ◌≤◌, ◌<◌, drop, length, arith, ap}
+use Rattle.std.proofs.Common.{drop, length, arith, ap}
 use Rattle.orc_stripe.specs.Numbers.{is_run}
 use Rattle.orc_stripe.proofs.NumbersLemmas.{laws_of}
 use Rattle.orc_stripe.proofs.RunsLemmas.{runs_ended, runs_not_used, runs_not_read}

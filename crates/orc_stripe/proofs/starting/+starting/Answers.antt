@@ -1,12 +1,11 @@
-use Rattle.std.proofs.Common.{rules, ◌≡◌, ◌+◌, ◌≤◌, [], ◌∷◌, length, take, drop, ◌-◌, string_bytes, ap, sym, ◌∙◌, subst, arith}
-use Rattle.orc_types.specs.Shapes.{width, widths}
+use Rattle.std.proofs.Common.{rules, ◌≡◌, length, take, drop, ◌-◌, string_bytes, ap, ◌∙◌, subst}
 use Rattle.orc_types.specs.Views.{shape}
 use Rattle.orc_types.specs.Views.{fields as fields_view}
-use Rattle.orc_types.proofs.Views.{shape-Scalar, shape-List, shape-Struct}
+use Rattle.orc_types.proofs.Views.{shape-List, shape-Struct}
 use Rattle.orc_stripe.specs.Stripe.{columns_of}
-use Rattle.orc_stripe.specs.Starting.{OwnStart, HasNoDictionary}
-use Rattle.orc_stripe.proofs.Arms.{first_field, no_fields}
-use Rattle.orc_stripe.proofs.Started.{pushed, put_scalar, put_list, put_struct, put_none, put_more, no_own, no_element, no_struct, no_first, no_others}
+use Rattle.orc_stripe.specs.Starting.{OwnStart}
+use Rattle.orc_stripe.proofs.Arms.{first_field}
+use Rattle.orc_stripe.proofs.Started.{pushed, put_list, put_struct, put_more, no_element, no_struct, no_others}
 use Rattle.orc_stripe.specs.Faults.{origin, IsOf}
 use Rattle.orc_stripe.proofs.FaultLemmas.{own_of, down_list}
 use Rattle.orc_stripe.proofs.starting.+starting.Goals as goal

@@ -1,4 +1,4 @@
-use Rattle.std.proofs.Common.{◌≡◌, get_or, sym, ap, ◌∙◌}
+use Rattle.std.proofs.Common.{get_or, sym, ap, ◌∙◌}
 use Rattle.orc_stripe.specs.Stripe.{no_encoding}
 use Rattle.orc_stripe.proofs.Started.{encoding_there}
 use Rattle.orc_stripe.proofs.starting.encoding_of.Goals as goal

@@ -1,4 +1,4 @@
-use Rattle.std.proofs.Common.{◌≡◌, ◌≤◌, [], ◌∷◌, ◌∙◌, sym, ap, length, ◌+◌, arith, drop}
+use Rattle.std.proofs.Common.{◌≤◌, [], ◌∙◌, ap, length, arith, drop}
 use Rattle.orc_rle.specs.ByteRun.{IsByteRun}
 use Rattle.orc_stripe.specs.Bytes.{BytesLeft}
 use Rattle.orc_stripe.proofs.Fronts.{nothing, one_after_other, lacks_after}

@@ -1,4 +1,4 @@
-use Rattle.std.proofs.Common.{◌≡◌, ◌≤◌, [], ◌∷◌, ◌∙◌, sym, ap, length, ◌+◌, arith, drop}
+use Rattle.std.proofs.Common.{◌≤◌, [], ◌∙◌, ap, length, arith, drop}
 use Rattle.orc_stripe.specs.Numbers.{NumbersLeft, is_run}
 use Rattle.orc_stripe.proofs.Fronts.{nothing, one_after_other, lacks_after}
 use Rattle.orc_stripe.proofs.RunsLemmas.{at_end, at_no_run, next_read}

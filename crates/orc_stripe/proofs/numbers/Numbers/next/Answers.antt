@@ -1,4 +1,4 @@
-use Rattle.std.proofs.Common.{◌≡◌, ℤ, pos, [], ◌∷◌, drop, get_or, length, ◌+◌, ◌<◌, ap, sym, ◌∙◌, arith, rules, w64, to_z, of_z}
+use Rattle.std.proofs.Common.{◌≡◌, ℤ, pos, [], ◌∷◌, drop, get_or, length, ◌+◌, ◌<◌, ap, sym, ◌∙◌, rules, w64, to_z, of_z}
 use Rattle.std.proofs.lemmas.Int.{to_z-of_z}
 use Rattle.orc_stripe.specs.Numbers.{NumbersLeft, is_run}
 use Rattle.orc_stripe.proofs.Fronts.{one_after_other}

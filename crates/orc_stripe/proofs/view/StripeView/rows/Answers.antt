@@ -1,4 +1,4 @@
-use Rattle.std.proofs.Common.{◌≡◌, ◌≤◌, ◌+◌, map, inl, inr, [], length, ap, sym, subst, arith}
+use Rattle.std.proofs.Common.{◌≡◌, map, inr, length, ap, sym, subst, arith}
 use Rattle.orc_types.specs.Shapes.{width}
 use Rattle.orc_types.specs.Views.{views, shape}
 use Rattle.orc_stripe.specs.Starting.{TreeStart}

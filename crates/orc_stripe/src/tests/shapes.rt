@@ -1,0 +1,103 @@
+use super::lines_of;
+use crate::*;
+use std::alloc::Global;
+use std::process::Abort;
+
+/// How many columns a schema may have, the root among them, and how many levels.
+const MOST_COLUMNS: usize = 4096;
+
+const MOST_LEVELS: usize = 32;
+
+/// A struct of as many fields as a schema may have.
+fn wide_schema(alloc: Global) -> Result<String, StripeFault> {
+    let mut text = String::new(alloc);
+    text.push_str("struct<")?;
+    for column in 1..MOST_COLUMNS {
+        if column > 1 {
+            text.push_str(",")?;
+        }
+        text.push_str("c:int")?;
+    }
+    text.push_str(">")?;
+    Ok(text)
+}
+
+/// Structs in structs, as deep as a schema may be.
+fn deep_schema(alloc: Global) -> Result<String, StripeFault> {
+    let mut text = String::new(alloc);
+    for _ in 1..MOST_LEVELS {
+        text.push_str("struct<a:")?;
+    }
+    text.push_str("int")?;
+    for _ in 1..MOST_LEVELS {
+        text.push_str(">")?;
+    }
+    Ok(text)
+}
+
+/// A footer whose last column of so many has the streams; all columns are DIRECT.
+fn footer_of(alloc: Global, columns: usize, streams: &[u8]) -> Result<Vec<u8>, StripeFault> {
+    let mut footer = Vec::new(alloc);
+    footer.extend_from_slice(streams)?;
+    for _ in 0..columns {
+        footer.extend_from_slice(&[0x12, 0x02, 0x08, 0x00])?;
+    }
+    Ok(footer)
+}
+
+/// A struct of 4,096 columns without rows is read; where the last column has a stream, it is found.
+fn check_wide(rt: &impl Abort, alloc: Global) -> Result<(), StripeFault> {
+    let text = wide_schema(alloc)?;
+    let footer = footer_of(alloc, MOST_COLUMNS, &[])?;
+    let lines = lines_of(alloc, text.as_str(), &[], &footer, 0)?;
+    assert_eq!(rt; lines.len(), 0);
+    // DATA of column 4,095 with three bytes
+    let last = [0x0a, 0x07, 0x08, 0x01, 0x10, 0xff, 0x1f, 0x18, 0x03];
+    let footer = footer_of(alloc, MOST_COLUMNS, &last)?;
+    match lines_of(alloc, text.as_str(), &[0x00, 0x00, 0x0e], &footer, 0) {
+        Err(StripeFault::OutOfMemory) => return Err(StripeFault::OutOfMemory),
+        answer => assert_eq!(rt;
+            answer.err(),
+            Some(StripeFault::Run(4095, StreamKind::Data, orc_rle::RunFault::TooMany(0)))
+        ),
+    }
+    Ok(())
+}
+
+/// Three rows of the number 7 within 31 structs.
+fn check_deep(rt: &impl Abort, alloc: Global) -> Result<(), StripeFault> {
+    let text = deep_schema(alloc)?;
+    // DATA of column 31 with three bytes
+    let last = [0x0a, 0x06, 0x08, 0x01, 0x10, 0x1f, 0x18, 0x03];
+    let footer = footer_of(alloc, MOST_LEVELS, &last)?;
+    let lines = lines_of(alloc, text.as_str(), &[0x00, 0x00, 0x0e], &footer, 3)?;
+    assert_eq!(rt; lines.len(), 3);
+    for line in &lines {
+        // 31 times `{"a":`, the number, and 31 times `}`
+        assert_eq!(rt; line.len(), 31 * 5 + 1 + 31);
+        assert!(rt; line.as_str().contains(":7}"));
+    }
+    Ok(())
+}
+
+#[test]
+fn wide(rt: HostRuntime) {
+    let alloc = rt.alloc();
+    let tried = check_wide(&rt, alloc);
+    if tried == Err(StripeFault::OutOfMemory) {
+        assert_eq!(rt; check_wide(&rt, alloc), Ok(()), "once memory is there");
+    } else {
+        assert_eq!(rt; tried, Ok(()));
+    }
+}
+
+#[test]
+fn deep(rt: HostRuntime) {
+    let alloc = rt.alloc();
+    let tried = check_deep(&rt, alloc);
+    if tried == Err(StripeFault::OutOfMemory) {
+        assert_eq!(rt; check_deep(&rt, alloc), Ok(()), "once memory is there");
+    } else {
+        assert_eq!(rt; tried, Ok(()));
+    }
+}
