@@ -1,0 +1,5 @@
+pub mod Tests
+pub mod Layout
+pub mod Stripes
+pub mod Statistics
+pub mod Tails
