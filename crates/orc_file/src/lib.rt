@@ -2,7 +2,12 @@
 #![tactic(auto)]
 
 mod fault;
+mod footer;
 mod laws;
+mod limits;
+mod metadata;
+mod postscript;
+mod statistics;
 mod tail;
 
 pub use fault::FileFault;
