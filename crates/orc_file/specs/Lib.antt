@@ -3,3 +3,4 @@ pub mod Layout
 pub mod Stripes
 pub mod Statistics
 pub mod Tails
+pub mod Images

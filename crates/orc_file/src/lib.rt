@@ -9,7 +9,8 @@ mod metadata;
 mod postscript;
 mod statistics;
 mod tail;
+mod tail_writing;
 
 pub use fault::FileFault;
-pub use laws::tail_laws;
+pub use laws::{image_laws, tail_laws};
 pub use tail::Tail;
