@@ -1,7 +1,8 @@
 -- The tail of a file, and the tests that its bytes have to pass, in their order (ORC specification, "File
 -- Tail"; the order of the tests and the limits are this project's).
-use Rattle.std.specs.Prelude.{◌≡◌, ℕ, ◌+◌, ◌≤◌, List, [], length, ◌⊎◌, true}
+use Rattle.std.specs.Prelude.{◌≡◌, ℕ, ◌+◌, ◌≤◌, List, [], length, ◌⊎◌, Option, true}
 use Rattle.std.specs.List.{list_all}
+use Rattle.std.specs.Option.{IfSome}
 use Rattle.orc_wire.specs.Messages.{post_script, footer, metadata}
 use Rattle.orc_wire.specs.CanonicalKinds.{AreKept}
 use Rattle.orc_wire.specs.declared.post_script.PostScript.{PostScript}
@@ -10,13 +11,14 @@ use Rattle.orc_wire.specs.declared.column_stats.Metadata.{Metadata}
 use Rattle.orc_types.specs.Shapes.{Shape, width}
 use Rattle.orc_stats.specs.declared.stat.Stat.{Stat}
 use Rattle.orc_stats.specs.Messages.{in_limits}
-use Rattle.orc_file.specs.Layout.{bytes_at, magic, script_length, script_place, script_bytes, footer_bytes, metadata_bytes, metadata_place}
+use Rattle.orc_file.specs.Devices.{bytes_at}
+use Rattle.orc_file.specs.Layout.{magic, script_length, script_place, script_bytes, footer_bytes, metadata_bytes, metadata_place}
 use Rattle.orc_file.specs.Tests.{Test, gives, check, ◌then◌, reads, schema_of}
 use Rattle.orc_file.specs.Stripes.{stripe_tests, stripes_rows, stripes_length, most_stripes, most_rows, most_bytes}
 use Rattle.orc_file.specs.Statistics.{have_few, stats_read, stripe_stats_read}
 use Rattle.orc_file.specs.declared.tail.Tail.{Tail}
 use Rattle.orc_file.specs.declared.fault.FileFault.{FileFault}
-use Rattle.orc_file.specs.declared.fault.FileFault.TheVariants.{NotOrc, BadPostscript, Compressed, Encrypted, BadLengths, BadFooter, BadMetadata, RowCount, Limit}
+use Rattle.orc_file.specs.declared.fault.FileFault.TheVariants.{NotOrc, BadPostscript, Compressed, Encrypted, BadLengths, BadFooter, BadMetadata, RowCount, Limit, SourceFailed, OutOfMemory}
 
 -- the most numbers of a version
 abbrev pub most_versions : ℕ
@@ -104,3 +106,7 @@ IsTail bytes = (tail_tests bytes).finds
 -- the fault of the first test that the bytes don't pass
 abbrev pub OpenFault : List ℕ → FileFault → Type 0
 OpenFault bytes = (tail_tests bytes).fails
+
+-- why a read is refused: memory ran out, the source failed, or the bytes, where they are told, have this fault
+abbrev pub ReadFault : Option (List ℕ) → FileFault → (List ℕ → Type 0) → Type 0
+ReadFault told fault fails = (fault ≡ OutOfMemory) ⊎ ((fault ≡ SourceFailed) ⊎ IfSome told fails)

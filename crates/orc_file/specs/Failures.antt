@@ -1,0 +1,7 @@
+-- How often a device has failed: none, or one more than it was before.
+use Rattle.std.specs.Prelude.{ℕ, ◌+◌, Option, Some, None}
+use Rattle.std.specs.declared.snapshot.Snapshot.{Snapshot}
+
+abbrev pub count : Option (Snapshot ℕ) → ℕ
+count None = 0
+count (Some before) = before.value + 1
