@@ -110,7 +110,7 @@ module _ {X Y : Type 0} (f : X → Y) (xs : List X) (i : ℕ) (x : X) (lt : i < 
       ∙ ap (λ (t : List X). list_all test (map f t)) rest_is
       ∙ ap (λ (t : Bool). t && list_all test (map f (drop (i + 1) xs))) bad
 
-le_is : (m n : ℕ) → nat_le m n ≡ true → m ≤ n
+pub le_is : (m n : ℕ) → nat_le m n ≡ true → m ≤ n
 le_is m n e = grind (arith, nat_tests)
 
 -- the next stripe has few, and so have the others

@@ -9,3 +9,4 @@ pub mod TailText
 pub mod Appended
 pub mod TailLemmas
 pub mod EndLemmas
+pub mod Opened

@@ -39,4 +39,6 @@ pub use tail::Tail;
 pub use vec_sink::VecSink;
 
 #[cfg(test)]
+mod tail_tests;
+#[cfg(test)]
 mod tests;

@@ -5,7 +5,8 @@ ghost use Rattle.orc_file.specs.Devices.{bytes_at};
 ghost use Rattle.std.specs.Bool.{OnTrue, OnFalse};
 ghost use Rattle.orc_file.specs.Layout.{magic, script_place};
 ghost use Rattle.orc_file.specs.Stripes.{AllBefore};
-ghost use Rattle.orc_file.specs.Tails.{end_tests, IsTail, OpenFault, ReadFault};
+ghost use Rattle.orc_file.specs.Tails.{most_versions, end_tests, IsTail, OpenFault, ReadFault};
+ghost use Rattle.orc_file.specs.Images.{IsWithinLimits};
 ghost use Rattle.orc_file.specs.declared.fault.FileFault.TheVariants.{SourceFailed, OutOfMemory};
 
 use crate::fault::FileFault;
@@ -81,6 +82,7 @@ fn read_end<S: Source>(alloc: Global, source: &mut S) -> Result<End, FileFault>
     ensures size { S.size source.new ≡ S.size source.old }
     ensures told { S.told source.new ≡ S.told source.old }
     ensures found { IfOk result (λ end. IfSome (S.told source.old) (λ bytes. (end_tests bytes).finds end.script × (end.place ≡ script_place bytes))) }
+    ensures few { IfOk result (λ end. length end.script.version ≤ most_versions) }
     ensures room { IfOk result (λ end. (3 + end.script.metadata_length + end.script.footer_length ≤ end.place) × (end.place ≤ S.size source.old)) }
 
     ensures fault { IfErr result (λ fault. ReadFault (S.told source.old) fault (λ bytes. (end_tests bytes).fails fault)) }
@@ -113,6 +115,7 @@ pub(crate) fn read_tail<S: Source>(alloc: Global, source: &mut S) -> Result<Tail
     ensures size { S.size source.new ≡ S.size source.old }
     ensures told { S.told source.new ≡ S.told source.old }
     ensures found { IfOk result (λ tail. IfSome (S.told source.old) (λ bytes. IsTail bytes tail)) }
+    ensures limits { IfOk result (λ tail. IsWithinLimits tail) }
     ensures within { IfOk result (λ tail. AllBefore (S.size source.old) tail.stripes) }
 
     ensures fault { IfErr result (λ fault. ReadFault (S.told source.old) fault (λ bytes. OpenFault bytes fault)) }

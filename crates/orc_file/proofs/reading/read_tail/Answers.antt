@@ -1,6 +1,7 @@
 use Rattle.std.proofs.Common.{arith, inl, inr, [], ◌-◌}
 use Rattle.std.proofs.lemmas.Result.{err_from_is_err_and}
 use Rattle.orc_file.proofs.StripeLemmas.{all_before}
+use Rattle.orc_file.proofs.Opened.{read_within}
 use Rattle.orc_file.proofs.TailLemmas.{footer_fails, metadata_fails, limits_fail, tail_found, footer_few, metadata_few}
 use Rattle.orc_file.proofs.reading.read_tail.Goals as goal
 
@@ -52,3 +53,8 @@ pub returns-clause-within : goal.returns-clause-within
 returns-clause-within g c =
     let room = c.in_ok-script.ensures.room in
     all_before 0 3 (c.in_ok-script.field-0.place - c.in_ok-script.field-0.script.footer_length - c.in_ok-script.field-0.script.metadata_length) (g.S.Source.size c.args.source.now) c.in_ok-footer.footer.stripes (omega (arith, room.0, room.1)) c.in_ok-file_stats.ensures.found.1.1.1.1
+
+pub returns-clause-limits : goal.returns-clause-limits
+returns-clause-limits g c =
+    read_within _ _ _ c.in_ok-script.field-0.script c.in_ok-script.ensures.few c.in_ok-footer.footer c.in_ok-footer.schema c.in_ok-metadata.metadata
+    (c.in_ok-file_stats.file_stats, c.in_ok-file_stats.stripe_stats) c.in_ok-footer.ensures.found c.in_ok-metadata.ensures.found c.in_ok-file_stats.ensures.found
