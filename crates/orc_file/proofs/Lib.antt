@@ -1,1 +1,12 @@
+pub mod KeptLemmas
+pub mod StripeLemmas
+pub mod Columns
+pub mod Seams
+pub mod StatLaws
+pub mod ShortScript
+pub mod ImageLaws
+pub mod TailText
 pub mod Appended
+pub mod TailLemmas
+pub mod EndLemmas
+pub mod Opened

@@ -1,3 +1,9 @@
 pub mod Devices
 pub mod Failures
 pub mod Ranges
+pub mod Tests
+pub mod Layout
+pub mod Stripes
+pub mod Statistics
+pub mod Tails
+pub mod Images

@@ -1,18 +1,33 @@
-//! Files: where their bytes come from and go to.
+//! Files: where their bytes come from and go to, and the tail that says what stands in a file, read from its
+//! bytes and written behind its stripes.
 #![tactic(auto)]
 
 mod failures;
+mod fault;
+mod file;
 mod file_source;
+mod footer;
+mod laws;
+mod limits;
+mod metadata;
+mod postscript;
 mod range_fault;
 mod ranges;
+mod reading;
 mod sending;
 mod sink;
 mod slice_source;
 mod source;
+mod statistics;
 mod std_sink;
+mod tail;
+mod tail_writing;
 mod vec_sink;
 
+pub use fault::FileFault;
+pub use file::OrcFile;
 pub use file_source::FileSource;
+pub use laws::{image_laws, tail_laws};
 pub use range_fault::RangeFault;
 pub use ranges::read_range;
 pub use sending::write_all;
@@ -20,7 +35,10 @@ pub use sink::{Sink, SinkFault};
 pub use slice_source::SliceSource;
 pub use source::{Source, SourceFault};
 pub use std_sink::StdSink;
+pub use tail::Tail;
 pub use vec_sink::VecSink;
 
+#[cfg(test)]
+mod tail_tests;
 #[cfg(test)]
 mod tests;

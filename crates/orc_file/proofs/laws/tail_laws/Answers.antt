@@ -1,0 +1,11 @@
+use Rattle.orc_file.specs.Tails.{tail_tests}
+use Rattle.orc_file.proofs.laws.tail_laws.Goals as goal
+
+pub returns-clause-one : goal.returns-clause-one
+returns-clause-one c = λ bytes. (tail_tests bytes).one
+
+pub returns-clause-none : goal.returns-clause-none
+returns-clause-none c = λ bytes. (tail_tests bytes).none
+
+pub returns-clause-single : goal.returns-clause-single
+returns-clause-single c = λ bytes. (tail_tests bytes).single

@@ -1,0 +1,31 @@
+-- Where the parts of a file stand (ORC specification, "File Tail"): `ORC`, the stripes, the metadata, the
+-- footer, the postscript, and a last byte with the postscript's length. They are found from the end.
+use Rattle.std.specs.Prelude.{ℕ, ◌-◌, List, [], ◌∷◌, length, slice_index}
+use Rattle.orc_file.specs.Devices.{bytes_at}
+use Rattle.orc_wire.specs.declared.post_script.PostScript.{PostScript}
+
+-- `ORC`
+abbrev pub magic : List ℕ
+magic = 79 ∷ 82 ∷ 67 ∷ []
+
+-- the last byte
+abbrev pub script_length : List ℕ → ℕ
+script_length bytes = slice_index bytes (length bytes - 1)
+
+abbrev pub script_place : List ℕ → ℕ
+script_place bytes = length bytes - 1 - script_length bytes
+
+abbrev pub script_bytes : List ℕ → List ℕ
+script_bytes bytes = bytes_at (script_place bytes) (script_length bytes) bytes
+
+abbrev pub footer_place : List ℕ → PostScript → ℕ
+footer_place bytes script = script_place bytes - script.footer_length
+
+abbrev pub footer_bytes : List ℕ → PostScript → List ℕ
+footer_bytes bytes script = bytes_at (footer_place bytes script) script.footer_length bytes
+
+abbrev pub metadata_place : List ℕ → PostScript → ℕ
+metadata_place bytes script = footer_place bytes script - script.metadata_length
+
+abbrev pub metadata_bytes : List ℕ → PostScript → List ℕ
+metadata_bytes bytes script = bytes_at (metadata_place bytes script) script.metadata_length bytes

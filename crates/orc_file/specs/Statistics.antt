@@ -1,0 +1,54 @@
+-- Statistics of columns, as a tail holds them (ORC specification, "Column Statistics", "File Tail"): each
+-- by its column's number and kind.
+use Rattle.std.specs.Prelude.{ℕ, ◌+◌, ◌≤◌, nat_le, Bool, true, ◌&&◌, Option, Some, None, List, [], ◌∷◌, length, map}
+use Rattle.orc_wire.specs.declared.column_stats.ColumnStats.{ColumnStats}
+use Rattle.orc_wire.specs.declared.column_stats.StripeStatistics.{StripeStatistics}
+use Rattle.orc_types.specs.declared.kind.Scalar.{Scalar}
+use Rattle.orc_types.specs.Kinds.{scalar_of}
+use Rattle.orc_types.specs.Shapes.{Shape, width, shape_at}
+use Rattle.orc_stats.specs.declared.kind.StatKind.{StatKind}
+use Rattle.orc_stats.specs.declared.stat.Stat.{Stat}
+use Rattle.orc_stats.specs.declared.kind.StatKind.TheVariants as kind
+use Rattle.orc_stats.specs.Kinds.{kind_of, kind_of_scalar}
+use Rattle.orc_stats.specs.Messages.{stat_read, message_of, IsStat}
+
+-- what is counted of a type that contains no other, and of one that does
+abbrev pub kind_of_scalars : Option Scalar → StatKind
+kind_of_scalars None = kind.Plain
+kind_of_scalars (Some k) = kind_of_scalar k
+
+-- what is counted of a column whose type's kind has this number
+abbrev pub kind_of_number : ℕ → StatKind
+kind_of_number n = kind_of_scalars (scalar_of n)
+
+-- what is counted of a column
+abbrev pub kind_at : Shape → ℕ → StatKind
+kind_at s column = kind_of (shape_at s column)
+
+-- the statistics of the columns from one on
+abbrev pub stats_read : Shape → ℕ → List ColumnStats → List Stat
+stats_read s column [] = []
+stats_read s column (m ∷ ms) = stat_read (kind_at s column) m ∷ stats_read s (column + 1) ms
+
+-- no stripe has statistics of more columns than that
+abbrev pub have_few : ℕ → List StripeStatistics → Bool
+have_few columns [] = true
+have_few columns (m ∷ ms) = nat_le (length m.col_stats) columns && have_few columns ms
+
+-- those of each stripe
+abbrev pub stripe_stats_read : Shape → List StripeStatistics → List (List Stat)
+stripe_stats_read s ms = map (λ m. stats_read s 0 m.col_stats) ms
+
+-- each is a statistic of its column, from one on
+abbrev pub AreOfColumns : Shape → ℕ → List Stat → Type 0
+AreOfColumns s column [] = Unit {0}
+AreOfColumns s column (x ∷ xs) = IsStat (kind_at s column) x × AreOfColumns s (column + 1) xs
+
+-- statistics of a schema's columns: the first one is the root's
+pub record AreStats (s : Shape) (stats : List Stat) : Type 0 where
+  pub few : length stats ≤ width s
+  pub kinds : AreOfColumns s 0 stats
+
+-- a stripe's statistics as a message
+abbrev pub stripe_message : List Stat → StripeStatistics
+stripe_message stats = record { col_stats = map message_of stats }

@@ -1,0 +1,25 @@
+//! Laws of files. Each function does nothing: its contract is what it is for.
+ghost use Rattle.std.specs.Prelude.{◌≡◌, ◌<◌, ◌^◌, ℕ, List, length};
+ghost use Rattle.orc_wire.specs.CanonicalMessages.{post_script_text};
+ghost use Rattle.orc_file.specs.Tests.{AreAlike};
+ghost use Rattle.orc_file.specs.Stripes.{stripes_length, IsLaid};
+ghost use Rattle.orc_file.specs.Tails.{IsTail, OpenFault};
+ghost use Rattle.orc_file.specs.Images.{image, tail_text, script_of, IsWithinLimits, HasBits};
+ghost use Rattle.orc_file.specs.declared.tail.Tail.{Tail};
+ghost use Rattle.orc_file.specs.declared.fault.FileFault.{FileFault};
+
+/// Bytes have one tail at most, and none where a test fails. One fault is the first, but that what is
+/// wrong with types may be said in several ways.
+pub fn tail_laws()
+    ensures one { (bytes : List ℕ) (a b : Tail) → IsTail bytes a → IsTail bytes b → a ≡ b }
+    ensures none { (bytes : List ℕ) (tail : Tail) (fault : FileFault) → OpenFault bytes fault → IsTail bytes tail → ⊥ }
+    ensures single { (bytes : List ℕ) (e f : FileFault) → OpenFault bytes e → OpenFault bytes f → AreAlike e f }
+{}
+
+/// `ORC`, as many bytes as the stripes have, and the text of a tail within the limits whose stripes lie
+/// one after the other are a file with that tail, if they are fewer than 2^64 together; and one byte
+/// holds the length of the postscript there.
+pub fn image_laws()
+    ensures image { (tail : Tail) (stripes : List ℕ) → IsWithinLimits tail → IsLaid 3 tail.stripes → HasBits tail → length stripes ≡ stripes_length tail.stripes → length (image stripes tail) < 2 ^ 64 → IsTail (image stripes tail) tail }
+    ensures script { (tail : Tail) → IsWithinLimits tail → HasBits tail → length (tail_text tail) < 2 ^ 64 → length (post_script_text.text (script_of tail)) < 256 }
+{}

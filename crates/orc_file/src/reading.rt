@@ -1,0 +1,146 @@
+//! Reading a file's tail: at most five ranges, in this order, and none that is empty: the first 3 bytes,
+//! the last byte, the postscript, the footer, the metadata. A test that fails ends the reading.
+ghost use Rattle.std.specs.Prelude.{◌≡◌, ◌+◌, ◌<◌, ◌≤◌, ◌⊎◌, length, OnOk, IfOk, IfErr, IfSome, IsErrOf};
+ghost use Rattle.orc_file.specs.Devices.{bytes_at};
+ghost use Rattle.std.specs.Bool.{OnTrue, OnFalse};
+ghost use Rattle.orc_file.specs.Layout.{magic, script_place};
+ghost use Rattle.orc_file.specs.Stripes.{AllBefore};
+ghost use Rattle.orc_file.specs.Tails.{most_versions, end_tests, IsTail, OpenFault, ReadFault};
+ghost use Rattle.orc_file.specs.Images.{IsWithinLimits};
+ghost use Rattle.orc_file.specs.declared.fault.FileFault.TheVariants.{SourceFailed, OutOfMemory};
+
+use crate::fault::FileFault;
+use crate::footer::footer_in;
+use crate::limits::limits_of;
+use crate::metadata::metadata_in;
+use crate::postscript::script_in;
+use crate::range_fault::RangeFault;
+use crate::ranges::read_range;
+use crate::source::Source;
+use crate::tail::Tail;
+use orc_wire::PostScript;
+use std::alloc::Global;
+
+/// The postscript and the place where it begins.
+#[derive(Drop)]
+struct End {
+    script: PostScript,
+    place: u64,
+}
+
+/// Fills the slice from a place on.
+fn read_into<S: Source>(source: &mut S, at: u64, into: &mut [u8]) -> Result<(), FileFault>
+    requires { at + length into.old ≤ S.size source.old }
+    ensures size { S.size source.new ≡ S.size source.old }
+    ensures told { S.told source.new ≡ S.told source.old }
+    ensures bytes { OnOk result (IfSome (S.told source.old) (λ bytes. into.new ≡ bytes_at at (length into.old) bytes)) }
+    ensures length { length into.new ≡ length into.old }
+
+    ensures fault { IfErr result (λ fault. fault ≡ SourceFailed) }
+    ensures kept { OnOk result (S.failures source.new ≡ S.failures source.old) }
+    ensures failed { IsErrOf result SourceFailed → S.failures source.old < S.failures source.new }
+{
+    match source.read_at(at, into) {
+        Ok(()) => Ok(()),
+        Err(_) => Err(FileFault::SourceFailed),
+    }
+}
+
+/// The bytes of a range. Nothing is read where it is empty.
+fn range_of<S: Source>(
+    alloc: Global,
+    source: &mut S,
+    at: u64,
+    len: u64,
+) -> Result<Vec<u8>, FileFault>
+    requires { at + len ≤ S.size source.old }
+    ensures size { S.size source.new ≡ S.size source.old }
+    ensures told { S.told source.new ≡ S.told source.old }
+    ensures bytes { IfOk result (λ read. IfSome (S.told source.old) (λ bytes. read.items ≡ bytes_at at len bytes)) }
+
+    ensures fault { IfErr result (λ fault. (fault ≡ OutOfMemory) ⊎ (fault ≡ SourceFailed)) }
+    ensures kept { OnOk result (S.failures source.new ≡ S.failures source.old) }
+    ensures failed { IsErrOf result SourceFailed → S.failures source.old < S.failures source.new }
+{
+    match read_range(alloc, source, at, len) {
+        Ok(read) => Ok(read),
+        Err(RangeFault::SourceFailed) => Err(FileFault::SourceFailed),
+        Err(RangeFault::OutOfMemory) => Err(FileFault::OutOfMemory),
+    }
+}
+
+/// Whether the bytes are `ORC`.
+fn is_orc(front: &[u8]) -> bool
+    ensures yes { OnTrue result (front.now ≡ magic) }
+    ensures no { OnFalse result (front.now ≡ magic → ⊥) }
+{
+    front == b"ORC".as_slice()
+}
+
+/// The postscript of a file with these two ends.
+fn read_end<S: Source>(alloc: Global, source: &mut S) -> Result<End, FileFault>
+    ensures size { S.size source.new ≡ S.size source.old }
+    ensures told { S.told source.new ≡ S.told source.old }
+    ensures found { IfOk result (λ end. IfSome (S.told source.old) (λ bytes. (end_tests bytes).finds end.script × (end.place ≡ script_place bytes))) }
+    ensures few { IfOk result (λ end. length end.script.version ≤ most_versions) }
+    ensures room { IfOk result (λ end. (3 + end.script.metadata_length + end.script.footer_length ≤ end.place) × (end.place ≤ S.size source.old)) }
+
+    ensures fault { IfErr result (λ fault. ReadFault (S.told source.old) fault (λ bytes. (end_tests bytes).fails fault)) }
+    ensures kept { OnOk result (S.failures source.new ≡ S.failures source.old) }
+    ensures failed { IsErrOf result SourceFailed → S.failures source.old < S.failures source.new }
+{
+    let len = source.len();
+    if len < 4 {
+        return Err(FileFault::NotOrc);
+    }
+    let mut front = [0u8; 3];
+    read_into(source, 0, &mut front)?;
+    if !is_orc(&front) {
+        return Err(FileFault::NotOrc);
+    }
+    let mut last = [0u8; 1];
+    read_into(source, len - 1, &mut last)?;
+    let length = u64::from(last[0]);
+    if length + 4 > len {
+        return Err(FileFault::BadLengths);
+    }
+    let place = len - 1 - length;
+    let text = range_of(alloc, source, place, length)?;
+    let script = script_in(alloc, &text, place)?;
+    Ok(End { script, place })
+}
+
+/// The tail of a file.
+pub(crate) fn read_tail<S: Source>(alloc: Global, source: &mut S) -> Result<Tail, FileFault>
+    ensures size { S.size source.new ≡ S.size source.old }
+    ensures told { S.told source.new ≡ S.told source.old }
+    ensures found { IfOk result (λ tail. IfSome (S.told source.old) (λ bytes. IsTail bytes tail)) }
+    ensures limits { IfOk result (λ tail. IsWithinLimits tail) }
+    ensures within { IfOk result (λ tail. AllBefore (S.size source.old) tail.stripes) }
+
+    ensures fault { IfErr result (λ fault. ReadFault (S.told source.old) fault (λ bytes. OpenFault bytes fault)) }
+    ensures kept { OnOk result (S.failures source.new ≡ S.failures source.old) }
+    ensures failed { IsErrOf result SourceFailed → S.failures source.old < S.failures source.new }
+{
+    let End { script, place } = read_end(alloc, source)?;
+    let footer_at = place - script.footer_length;
+    let text = range_of(alloc, source, footer_at, script.footer_length)?;
+    let (footer, schema) = footer_in(alloc, &text)?;
+    let metadata_at = footer_at - script.metadata_length;
+    let text = range_of(alloc, source, metadata_at, script.metadata_length)?;
+    let metadata = metadata_in(alloc, &text, &footer, &schema)?;
+    let (file_stats, stripe_stats) = limits_of(alloc, metadata_at, &footer, &schema, &metadata)?;
+    Ok(Tail {
+        version: script.version,
+        writer: footer.writer,
+        writer_version: script.writer_version,
+        schema,
+        stripes: footer.stripes,
+        stripe_stats,
+        file_stats,
+        user: footer.metadata,
+        stride: footer.row_index_stride,
+        rows: footer.number_of_rows,
+        other: footer.kept,
+    })
+}
