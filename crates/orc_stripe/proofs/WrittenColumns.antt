@@ -19,7 +19,7 @@ use Rattle.orc_stripe.specs.WordList.{is_worth}
 use Rattle.orc_stripe.specs.WrittenColumn.{Written, direct, dictionary, HasTextsIf, WritesScalar, WritesValues, IsWrittenColumn}
 use Rattle.orc_stripe.specs.WrittenStripe.{column_bytes, column_lines, lines_from, AreWrittenColumns, HasColumns, column_stat, HaveStats}
 use Rattle.orc_stripe.specs.Adding.{AddsColumn}
-use Rattle.orc_stripe.proofs.WrittenDirectory.{lines-append, columns-append}
+use Rattle.orc_stripe.proofs.WrittenDirectory.{from_zero, lines-append, columns-append}
 
 -- ---- what is written can be read back from the footer
 
@@ -69,9 +69,6 @@ pub encodings_sized : (rle : Rle) (s : Shape) (rows : List Cell) (n : ℕ) (stre
 encodings_sized rle s rows n streams directory encodings h = subst (AllByRecursion IsSized) (sym h.encoded) (columns_sized rle s rows 0 h.columns h.are)
 
 -- ---- one more column
-
-from_zero : (n : ℕ) → 0 + n ≡ n
-from_zero n = omega arith
 
 more_are : (rle : Rle) (s : Shape) (rows : List Cell) (b : ℕ) (ws : List Written) (w : Written) (c : ℕ) → AreWrittenColumns rle s rows b ws → b + length ws ≡ c
     → IsWrittenColumn rle (shape_at s c) (cells s c rows) w → AreWrittenColumns rle s rows b (ws ++ w ∷ [])

@@ -6,13 +6,16 @@ use Rattle.orc_stripe.specs.Directory.{has_stream, slice, have_room, names_once,
 use Rattle.orc_stripe.specs.WrittenColumn.{Written}
 use Rattle.orc_stripe.specs.WrittenStripe.{line, column_bytes, column_lines, lines_from}
 
-drop_front : (xs ys : List ℕ) → drop (length xs) (xs ++ ys) ≡ ys
+pub drop_front : (xs ys : List ℕ) → drop (length xs) (xs ++ ys) ≡ ys
 drop_front [] ys = refl
 drop_front (x ∷ xs) ys = drop_front xs ys
 
 take_front : (xs ys : List ℕ) → take (length xs) (xs ++ ys) ≡ xs
 take_front [] ys = refl
 take_front (x ∷ xs) ys = ap (λ zs. x ∷ zs) (take_front xs ys)
+
+pub from_zero : (n : ℕ) → 0 + n ≡ n
+from_zero n = omega arith
 
 self : (c : ℕ) → (c == c) ≡ true
 self c = grind arith
@@ -62,7 +65,7 @@ has_column c k (b ∷ bs) ms width h o = let t : nat_lt c width ≡ true = lt-lt
     by false q e = e
 
 has_room : (c k : ℕ) (bytes : List ℕ) (ms : List StreamMsg) (room : ℕ) → have_room room ms ≡ true → have_room (length bytes + room) (line c k bytes ++ ms) ≡ true
-has_room c k [] ms room h = let e : 0 + room ≡ room = omega arith in ap (λ n. have_room n ms) e ∙ h
+has_room c k [] ms room h = ap (λ n. have_room n ms) (from_zero room) ∙ h
 has_room c k (b ∷ bs) ms room h =
     let fits : nat_le (length (b ∷ bs)) (length (b ∷ bs) + room) ≡ true = le-leb (length (b ∷ bs)) (length (b ∷ bs) + room) (omega arith) in
     let left : length (b ∷ bs) + room - length (b ∷ bs) ≡ room = omega arith in

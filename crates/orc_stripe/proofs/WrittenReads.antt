@@ -43,7 +43,7 @@ use Rattle.orc_stripe.specs.WordList.{entry_at, AreNamed, is_worth}
 use Rattle.orc_stripe.specs.WrittenStreams.{AreWrittenInts, AreMarksIf, AreWrittenMarks}
 use Rattle.orc_stripe.specs.WrittenColumn.{Written, direct, dictionary, plain, HasBits, HasBytes, HasNumbers, HasGroups, HasTextsIf, WritesScalar, WritesValues, IsWrittenColumn}
 use Rattle.orc_stripe.specs.WrittenStripe.{AreFew, column_bytes, lines_from, AreWrittenColumns, HasColumns, IsWrittenStripe}
-use Rattle.orc_stripe.proofs.WrittenDirectory.{AreFound, lines_found, lines_once, lines_of, lines_room}
+use Rattle.orc_stripe.proofs.WrittenDirectory.{drop_front, from_zero, AreFound, lines_found, lines_once, lines_of, lines_room}
 
 -- ---- PRESENT
 
@@ -299,9 +299,6 @@ written_at rle s rows b (v ∷ vs) zero c h lt n =
     subst (λ m. IsWrittenColumn rle (shape_at s m) (cells s m rows) v) at h.0
 written_at rle s rows b (v ∷ vs) (suc i) c h lt n = written_at rle s rows (suc b) vs i c h.1 (omega (arith, lt)) (omega (arith, n))
 
-from_zero : (n : ℕ) → 0 + n ≡ n
-from_zero n = omega arith
-
 as_many : (ws : List Written) → length (map (λ (w : Written). w.encoding) ws) ≡ length ws
 as_many [] = refl
 as_many (w ∷ ws) = ap suc (as_many ws)
@@ -340,10 +337,6 @@ directory_right rle s rows streams directory encodings h =
     let once : names_once directory ≡ true = ap names_once h.listed ∙ lines_once 0 h.columns in
     let columns : have_columns (width s) directory ≡ true = ap (have_columns (width s)) h.listed ∙ lines_of 0 h.columns (width s) (let k = h.counted in omega (arith, k)) in
     both_true _ _ room (both_true _ _ once columns)
-
-drop_front : (xs ys : List ℕ) → drop (length xs) (xs ++ ys) ≡ ys
-drop_front [] ys = refl
-drop_front (x ∷ xs) ys = drop_front xs ys
 
 -- a written stripe is a stripe of its rows
 pub stripe_read : (rle : Rle) (s : Shape) (rows : List Cell) (info : StripeInfo) (bytes : List ℕ) → IsWrittenStripe rle s rows info bytes → RowsFit s rows → AreFew s rows → IsStripe s info bytes rows

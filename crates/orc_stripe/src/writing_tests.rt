@@ -21,7 +21,7 @@ type Case = (
     &'static [u8],
 );
 
-const CASES: [Case; 15] = [
+const CASES: [Case; 17] = [
     (
         "struct<n:bigint>",
         Rle::One,
@@ -121,6 +121,39 @@ const CASES: [Case; 15] = [
         &[
             0x0a, 0x06, 0x08, 0x00, 0x10, 0x01, 0x18, 0x02, 0x12, 0x02, 0x08, 0x00, 0x12, 0x02,
             0x08, 0x02,
+        ],
+    ),
+    // ten equal texts
+    (
+        "struct<s:string>",
+        Rle::One,
+        &[
+            r#"{"s":"xy"}"#,
+            r#"{"s":"xy"}"#,
+            r#"{"s":"xy"}"#,
+            r#"{"s":"xy"}"#,
+            r#"{"s":"xy"}"#,
+            r#"{"s":"xy"}"#,
+            r#"{"s":"xy"}"#,
+            r#"{"s":"xy"}"#,
+            r#"{"s":"xy"}"#,
+            r#"{"s":"xy"}"#,
+        ],
+        &[0x07, 0x00, 0x00, 0xff, 0x02, 0x78, 0x79],
+        &[
+            0x0a, 0x06, 0x08, 0x01, 0x10, 0x01, 0x18, 0x03, 0x0a, 0x06, 0x08, 0x02, 0x10, 0x01,
+            0x18, 0x02, 0x0a, 0x06, 0x08, 0x03, 0x10, 0x01, 0x18, 0x02, 0x12, 0x02, 0x08, 0x00,
+            0x12, 0x04, 0x08, 0x01, 0x10, 0x01,
+        ],
+    ),
+    (
+        "struct<n:smallint>",
+        Rle::One,
+        &[r#"{"n":-1}"#, r#"{"n":-1}"#, r#"{"n":-1}"#],
+        &[0x00, 0x00, 0x01],
+        &[
+            0x0a, 0x06, 0x08, 0x01, 0x10, 0x01, 0x18, 0x03, 0x12, 0x02, 0x08, 0x00, 0x12, 0x02,
+            0x08, 0x00,
         ],
     ),
     // five distinct texts of ten
@@ -275,7 +308,24 @@ fn lines_of(alloc: Global, schema: &Schema, out: &StripeOut) -> Result<Vec<Strin
     Ok(lines)
 }
 
-/// The stripe has these streams and this footer, and its rows print as the lines that it was made of.
+/// The rows of the stripe print as these lines.
+fn check_lines(
+    rt: &impl Abort,
+    alloc: Global,
+    schema: &Schema,
+    out: &StripeOut,
+    lines: &[&str],
+) -> Result<(), StripeFault> {
+    let again = lines_of(alloc, schema, out)?;
+    assert_eq!(rt; again.len(), lines.len());
+    for (line, wanted) in again.iter().zip(lines) {
+        assert_eq!(rt; line.as_str(), *wanted);
+    }
+    Ok(())
+}
+
+/// The stripe has these streams and this footer, and its rows print as the lines that it was made of, in
+/// either version.
 fn check_case(rt: &impl Abort, alloc: Global, case: &Case) -> Result<(), StripeFault> {
     let (text, rle, lines, data, footer) = case;
     let Ok(schema) = Schema::parse(alloc, text) else {
@@ -289,12 +339,14 @@ fn check_case(rt: &impl Abort, alloc: Global, case: &Case) -> Result<(), StripeF
     assert_eq!(rt; out.info.data_length, data.len() as u64, "{}", text);
     assert_eq!(rt; out.info.footer_length, footer.len() as u64, "{}", text);
     assert_eq!(rt; out.info.number_of_rows, lines.len() as u64, "{}", text);
-    let again = lines_of(alloc, &schema, &out)?;
-    assert_eq!(rt; again.len(), lines.len(), "{}", text);
-    for (line, wanted) in again.iter().zip(*lines) {
-        assert_eq!(rt; line.as_str(), *wanted);
-    }
-    Ok(())
+    check_lines(rt, alloc, &schema, &out, lines)?;
+    // and in the other version
+    let other = match rle {
+        Rle::One => Rle::Two,
+        Rle::Two => Rle::One,
+    };
+    let out = written(alloc, &schema, other, lines)?;
+    check_lines(rt, alloc, &schema, &out, lines)
 }
 
 /// Each case holds.
