@@ -53,7 +53,7 @@ not_of_itself s x h =
       | inr f ↦ f
     ]
 
-either_false : (a b : Bool) → (a || b) ≡ false → (a ≡ false) × (b ≡ false)
+pub either_false : (a b : Bool) → (a || b) ≡ false → (a ≡ false) × (b ≡ false)
 either_false true b h = cc
 either_false false b h = (refl, h)
 

@@ -15,6 +15,7 @@ pub mod Entries
 pub mod RowsLemmas
 pub mod FaultLemmas
 pub mod DirectoryLemmas
+pub mod LocatedLemmas
 pub mod OneStripe
 pub mod CellValuesLemmas
 pub mod WordListLemmas

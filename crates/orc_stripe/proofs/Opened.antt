@@ -1,5 +1,5 @@
 -- Why a stripe isn't opened.
-use Rattle.std.proofs.Common.{Bool, true, false, Option, Some, if◌then◌else◌, nat_le, ◌≡◌, ◌≢◌, ◌+◌, ◌-◌, ◌≤◌, ℕ, None, List, [], ◌∷◌, length, refl, inl, inr, ◌⊎◌, sym, ◌∙◌, subst, arith}
+use Rattle.std.proofs.Common.{Bool, true, false, Option, Some, if◌then◌else◌, nat_le, ◌&&◌, ◌≡◌, ◌≢◌, ◌+◌, ◌-◌, ◌≤◌, ℕ, None, List, [], ◌∷◌, length, refl, inl, inr, ◌⊎◌, sym, ◌∙◌, subst, arith}
 use Rattle.std.proofs.lemmas.Bool.{both_ways, and_parts, leb-true, le-leb}
 use Rattle.orc_types.specs.Shapes.{width}
 use Rattle.orc_types.specs.Types.{types}
@@ -7,7 +7,7 @@ use Rattle.orc_types.proofs.Trees.{length-types}
 use Rattle.orc_wire.specs.declared.encoding.Encoding.{Encoding}
 use Rattle.orc_wire.specs.declared.stripe_footer.StreamMsg.{StreamMsg}
 use Rattle.orc_wire.specs.declared.type_msg.TypeMsg.{TypeMsg}
-use Rattle.orc_stripe.specs.Directory.{have_room, is_directory, first_wrong, takes_encoding}
+use Rattle.orc_stripe.specs.Directory.{have_room, names_once, have_columns, is_directory, first_wrong, takes_encoding}
 use Rattle.orc_types.specs.Shapes.{Shape}
 use Rattle.orc_wire.specs.declared.stripe_info.StripeInfo.{StripeInfo}
 use Rattle.orc_wire.specs.declared.fault.WireFault.{WireFault}
@@ -58,6 +58,12 @@ encodings_there s es h = sym (length-types s 0) ∙ as_many 0 (types s 0) es h
 pub footer_room : (s : Shape) (info : StripeInfo) (bytes : List ℕ) (footer : StripeFooter) → HasFooter s info bytes footer → have_room (length bytes) footer.streams ≡ true
 footer_room s info bytes footer h =
     room_more (info.index_length + info.data_length) (length bytes) footer.streams (omega (arith, h.whole)) (directory_room (width s) (info.index_length + info.data_length) footer.streams h.directory)
+
+pub footer_once : (s : Shape) (info : StripeInfo) (bytes : List ℕ) (footer : StripeFooter) → HasFooter s info bytes footer → names_once footer.streams ≡ true
+footer_once s info bytes footer h =
+    let room = info.index_length + info.data_length in
+    (and_parts (names_once footer.streams) (have_columns (width s) footer.streams)
+      (and_parts (have_room room footer.streams) (names_once footer.streams && have_columns (width s) footer.streams) h.directory).1).0
 
 pub footer_columns : (s : Shape) (info : StripeInfo) (bytes : List ℕ) (footer : StripeFooter) → HasFooter s info bytes footer → width s ≡ length footer.columns
 footer_columns s info bytes footer h = encodings_there s footer.columns h.encodings

@@ -8,6 +8,7 @@ pub mod Octets
 pub mod Columns
 pub mod Directory
 pub mod Stripe
+pub mod Located
 pub mod Starting
 pub mod Opening
 pub mod Faults

@@ -1,4 +1,4 @@
-ghost use Rattle.std.specs.Prelude.{◌≡◌, true, false, length, IfOk, IfErr, OnOk, ◌⊎◌};
+ghost use Rattle.std.specs.Prelude.{◌≡◌, true, false, IfOk, IfErr, OnOk, ◌⊎◌};
 ghost use Rattle.orc_stripe.specs.declared.fault.StripeFault.TheVariants.{BadDirectory, OutOfMemory};
 ghost use Rattle.orc_stripe.specs.Directory as spec;
 
@@ -6,13 +6,6 @@ use crate::fault::StripeFault;
 use orc_wire::{Encoding, StreamMsg, TypeMsg};
 use std::alloc::Global;
 use std::collections::BTreeSet;
-
-/// Whether it is the column's stream of the kind.
-fn is_of(column: usize, kind: u32, stream: &StreamMsg) -> bool
-    ensures { result ≡ spec.is_of column kind stream.now }
-{
-    stream.column as usize == column && stream.kind == kind
-}
 
 /// Whether so many bytes have room for the streams.
 fn have_room(room: u64, streams: &[StreamMsg]) -> bool
@@ -83,27 +76,6 @@ pub(crate) fn check_directory(
         Ok(false) => Err(StripeFault::BadDirectory),
         Err(fault) => Err(fault),
     }
-}
-
-/// The bytes of the column's stream of the kind, empty where there is none.
-pub(crate) fn slice<'a>(
-    column: usize,
-    kind: u32,
-    streams: &[StreamMsg],
-    bytes: &'a [u8],
-) -> &'a [u8]
-    requires { spec.have_room (length bytes.now) streams.now ≡ true }
-    ensures { result.now ≡ spec.slice column kind streams.now bytes.now }
-{
-    let mut left = bytes;
-    for stream in streams {
-        let (front, rest) = left.split_at(stream.length as usize);
-        if is_of(column, kind, stream) {
-            return front;
-        }
-        left = rest;
-    }
-    left.split_at(0).0
 }
 
 /// Whether a column of the type may have the encoding.

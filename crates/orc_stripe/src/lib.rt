@@ -12,6 +12,7 @@ mod ending;
 mod fault;
 mod laws;
 mod limits;
+mod located;
 mod numbers;
 mod octets;
 mod options;

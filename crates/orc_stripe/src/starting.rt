@@ -3,7 +3,7 @@ ghost use Rattle.orc_types.specs.Cells.{Cell};
 ghost use Rattle.orc_types.specs.Shapes.{width, widths};
 ghost use Rattle.orc_types.specs.Views.{shape, fields as fields_view};
 ghost use Rattle.orc_stripe.specs.declared.fault.StripeFault.TheVariants.{OutOfMemory};
-ghost use Rattle.orc_stripe.specs.Directory.{have_room};
+ghost use Rattle.orc_stripe.specs.Located.{AreLocated};
 ghost use Rattle.orc_stripe.specs.Starting.{BytesStart, BitsStart, MarksStart, DataStart, GroupsStart, TextsStart, ScalarStart, SourceStart, OwnStart, LacksEntries, ScalarLacks, HasNoDictionary, AreStreams, Puts, PutsFields};
 ghost use Rattle.orc_stripe.specs.Stripe.{Streams, IsDictionary, encoding_at, columns_of, columns_from, SpellsCells, SpellsFields, most_cells};
 ghost use Rattle.orc_stripe.specs.Stripe as spec;
@@ -15,8 +15,8 @@ use crate::bits::Bits;
 use crate::bytes::Bytes;
 use crate::column::{ColumnReader, Source};
 use crate::dictionary::entries_of;
-use crate::directory::slice;
 use crate::fault::StripeFault;
+use crate::located::Located;
 use crate::numbers::{Numbers, numbers_of};
 use crate::octets::Octets;
 use crate::version::{Version, version_of};
@@ -56,21 +56,24 @@ fn uses_dictionary(encoding: u32) -> bool
 }
 
 /// The streams of a column.
-fn streams_of<'a>(column: usize, footer: &StripeFooter, bytes: &'a [u8]) -> ColumnStreams<'a>
+fn streams_of<'a>(
+    column: usize,
+    footer: &StripeFooter,
+    located: &Located<'a>,
+) -> ColumnStreams<'a>
     requires there { column < length footer.now.columns }
-    requires room { have_room (length bytes.now) footer.now.streams ≡ true }
-    ensures { AreStreams (columns_of footer.now bytes.now column) result }
+    requires located { AreLocated (length footer.now.columns) footer.now.streams located.now.bytes.now located.now.slices.items }
+    ensures { AreStreams (columns_of footer.now located.now.bytes.now column) result }
 {
-    let streams = footer.streams.as_slice();
     let encoding = encoding_of(column, footer);
     ColumnStreams {
         version: version_of(encoding.kind),
         has_dictionary: uses_dictionary(encoding.kind),
         dictionary_size: encoding.dictionary_size,
-        present: slice(column, 0, streams, bytes),
-        data: slice(column, 1, streams, bytes),
-        lengths: slice(column, 2, streams, bytes),
-        words: slice(column, 3, streams, bytes),
+        present: located.stream(column, 0),
+        data: located.stream(column, 1),
+        lengths: located.stream(column, 2),
+        words: located.stream(column, 3),
     }
 }
 
@@ -254,17 +257,17 @@ fn reader_of<'a>(
     tree: &Tree,
     column: usize,
     footer: &StripeFooter,
-    bytes: &'a [u8],
+    located: &Located<'a>,
 ) -> Result<ColumnReader<'a>, StripeFault>
     requires there { column < length footer.now.columns }
-    requires room { have_room (length bytes.now) footer.now.streams ≡ true }
-    ensures found { IfOk result (OwnStart (shape tree.now) (columns_of footer.now bytes.now column)) }
-    ensures none { IfErr result (λ fault. fault ≢ OutOfMemory → HasNoDictionary (shape tree.now) (columns_of footer.now bytes.now column)) }
+    requires located { AreLocated (length footer.now.columns) footer.now.streams located.now.bytes.now located.now.slices.items }
+    ensures found { IfOk result (OwnStart (shape tree.now) (columns_of footer.now located.now.bytes.now column)) }
+    ensures none { IfErr result (λ fault. fault ≢ OutOfMemory → HasNoDictionary (shape tree.now) (columns_of footer.now located.now.bytes.now column)) }
     ensures number { IfOk result (λ own. own.source.column ≡ column) }
-    ensures words { IfOk result (λ own. SameDictionary (shape tree.now) (columns_of footer.now bytes.now column) (origin own)) }
-    ensures fault { IfErr result (λ cause. cause ≢ OutOfMemory → ValuesFail (shape tree.now) (has_dictionary (columns_of footer.now bytes.now column)) column cause) }
+    ensures words { IfOk result (λ own. SameDictionary (shape tree.now) (columns_of footer.now located.now.bytes.now column) (origin own)) }
+    ensures fault { IfErr result (λ cause. cause ≢ OutOfMemory → ValuesFail (shape tree.now) (has_dictionary (columns_of footer.now located.now.bytes.now column)) column cause) }
 {
-    let streams = streams_of(column, footer, bytes);
+    let streams = streams_of(column, footer, located);
     match source_of(alloc, tree, column, &streams) {
         Ok(source) => Ok(ColumnReader {
             present: marks_of(streams.present),
@@ -280,26 +283,26 @@ pub(crate) fn put_tree<'a>(
     alloc: Global,
     tree: &Tree,
     footer: &StripeFooter,
-    bytes: &'a [u8],
+    located: &Located<'a>,
     readers: &mut Vec<ColumnReader<'a>>,
 ) -> Result<(), StripeFault>
     requires there { length readers.old.items + width (shape tree.now) ≤ length footer.now.columns }
-    requires room { have_room (length bytes.now) footer.now.streams ≡ true }
-    ensures found { OnOk result (Puts footer.now bytes.now (shape tree.now) readers.old.items readers.new.items) }
-    ensures none { IfErr result (λ fault. fault ≢ OutOfMemory → (cells : List Cell) → SpellsCells (shape tree.now) (columns_from footer.now bytes.now (length readers.old.items)) cells → ⊥) }
-    ensures fault { IfErr result (λ cause. cause ≢ OutOfMemory → FaultDown (shape tree.now) (columns_of footer.now bytes.now) (length readers.old.items) cause) }
+    requires located { AreLocated (length footer.now.columns) footer.now.streams located.now.bytes.now located.now.slices.items }
+    ensures found { OnOk result (Puts footer.now located.now.bytes.now (shape tree.now) readers.old.items readers.new.items) }
+    ensures none { IfErr result (λ fault. fault ≢ OutOfMemory → (cells : List Cell) → SpellsCells (shape tree.now) (columns_from footer.now located.now.bytes.now (length readers.old.items)) cells → ⊥) }
+    ensures fault { IfErr result (λ cause. cause ≢ OutOfMemory → FaultDown (shape tree.now) (columns_of footer.now located.now.bytes.now) (length readers.old.items) cause) }
 {
-    match reader_of(alloc, tree, readers.len(), footer, bytes) {
+    match reader_of(alloc, tree, readers.len(), footer, located) {
         Ok(own) => readers.push(own)?,
         Err(fault) => return Err(fault),
     }
     match tree {
         Tree::Scalar(_, _) => Ok(()),
-        Tree::List(element, _) => match put_tree(alloc, element, footer, bytes, readers) {
+        Tree::List(element, _) => match put_tree(alloc, element, footer, located, readers) {
             Ok(()) => Ok(()),
             Err(fault) => Err(fault),
         },
-        Tree::Struct(fields, _) => match put_fields(alloc, fields, footer, bytes, readers) {
+        Tree::Struct(fields, _) => match put_fields(alloc, fields, footer, located, readers) {
             Ok(()) => Ok(()),
             Err(fault) => Err(fault),
         },
@@ -312,19 +315,19 @@ fn put_fields<'a>(
     alloc: Global,
     fields: &[Field],
     footer: &StripeFooter,
-    bytes: &'a [u8],
+    located: &Located<'a>,
     readers: &mut Vec<ColumnReader<'a>>,
 ) -> Result<(), StripeFault>
     requires there { length readers.old.items + widths (fields_view fields.now) ≤ length footer.now.columns }
-    requires room { have_room (length bytes.now) footer.now.streams ≡ true }
-    ensures found { OnOk result (PutsFields footer.now bytes.now (fields_view fields.now) readers.old.items readers.new.items) }
-    ensures none { IfErr result (λ fault. fault ≢ OutOfMemory → (structs : List (List Cell)) → SpellsFields (fields_view fields.now) (columns_from footer.now bytes.now (length readers.old.items)) structs → ⊥) }
-    ensures fault { IfErr result (λ cause. cause ≢ OutOfMemory → FaultWithin (fields_view fields.now) (columns_of footer.now bytes.now) (length readers.old.items) cause) }
+    requires located { AreLocated (length footer.now.columns) footer.now.streams located.now.bytes.now located.now.slices.items }
+    ensures found { OnOk result (PutsFields footer.now located.now.bytes.now (fields_view fields.now) readers.old.items readers.new.items) }
+    ensures none { IfErr result (λ fault. fault ≢ OutOfMemory → (structs : List (List Cell)) → SpellsFields (fields_view fields.now) (columns_from footer.now located.now.bytes.now (length readers.old.items)) structs → ⊥) }
+    ensures fault { IfErr result (λ cause. cause ≢ OutOfMemory → FaultWithin (fields_view fields.now) (columns_of footer.now located.now.bytes.now) (length readers.old.items) cause) }
 {
     match fields {
         [] => Ok(()),
-        [first, others @ ..] => match put_tree(alloc, &first.tree, footer, bytes, readers) {
-            Ok(()) => match put_fields(alloc, others, footer, bytes, readers) {
+        [first, others @ ..] => match put_tree(alloc, &first.tree, footer, located, readers) {
+            Ok(()) => match put_fields(alloc, others, footer, located, readers) {
                 Ok(()) => Ok(()),
                 Err(fault) => Err(fault),
             },

@@ -9,6 +9,7 @@ ghost use Rattle.orc_stripe.specs.declared.fault.StripeFault.TheVariants.{OutOfM
 
 use crate::directory::{check_directory, first_wrong};
 use crate::fault::{StripeFault, wire_fault};
+use crate::located::locate;
 use crate::rows::all_rows;
 use crate::starting::put_tree;
 use orc_types::{Row, Schema};
@@ -109,8 +110,9 @@ impl<'a> StripeView<'a> {
         ensures fault { IfErr result (λ cause. cause ≢ OutOfMemory → RowsFault self.now.schema (columns_of self.now.footer self.now.bytes) self.now.info.number_of_rows cause) }
     {
         let tree = self.schema.tree();
+        let located = locate(alloc, &self.footer, self.bytes)?;
         let mut readers = Vec::new(alloc);
-        match put_tree(alloc, tree, &self.footer, self.bytes, &mut readers) {
+        match put_tree(alloc, tree, &self.footer, &located, &mut readers) {
             Ok(()) => match all_rows(alloc, tree, &mut readers, self.info.number_of_rows) {
                 Ok(rows) => Ok(rows),
                 Err(fault) => Err(fault),

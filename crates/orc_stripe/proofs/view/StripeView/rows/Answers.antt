@@ -1,13 +1,14 @@
 use Rattle.std.proofs.Common.{◌≡◌, map, inr, length, ap, sym, subst, arith}
 use Rattle.orc_types.specs.Shapes.{width}
 use Rattle.orc_types.specs.Views.{views, shape}
-use Rattle.orc_stripe.specs.Starting.{TreeStart}
-use Rattle.orc_stripe.specs.Faults.{AreOf, origin}
-use Rattle.orc_stripe.specs.Stripe.{columns_of, SpellRows, SpellsCells}
+use Rattle.orc_stripe.specs.Starting.{TreeStart, Puts}
+use Rattle.orc_stripe.specs.Faults.{AreOf, FaultDown, origin}
+use Rattle.orc_stripe.specs.Located.{AreLocated}
+use Rattle.orc_stripe.specs.Stripe.{columns_of, columns_from, SpellRows, SpellsCells}
 use Rattle.orc_stripe.proofs.ByNumber.{from_number}
 use Rattle.orc_stripe.proofs.FaultLemmas.{fault_from_start, reason_from_readers}
 use Rattle.orc_stripe.proofs.OneStripe.{by_footer}
-use Rattle.orc_stripe.proofs.Opened.{footer_room, footer_columns}
+use Rattle.orc_stripe.proofs.Opened.{footer_room, footer_once, footer_columns}
 use Rattle.orc_stripe.proofs.RowsLemmas.{only_memory}
 use Rattle.orc_stripe.proofs.Started.{all_put, all_origins, none_put}
 use Rattle.orc_stripe.proofs.view.StripeView.rows.Goals as goal
@@ -17,7 +18,7 @@ returns-in-Ok-all_rows-clause-found c =
     let v = c.self.inside in
     let x = columns_of v.footer v.bytes.now in
     let s = c.tree-tree.ensures.same in
-    let made = all_put v.footer v.bytes.now (shape c.tree-tree.result.now) c.new-readers.result.items c.put_tree.new.readers.items c.new-readers.ensures.items c.in-Ok.ensures.found in
+    let made = all_put v.footer v.bytes.now (shape c.tree-tree.result.now) c.new-readers.result.items c.put_tree.new.readers.items c.new-readers.ensures.items (subst (λ b. Puts v.footer b (shape c.tree-tree.result.now) c.new-readers.result.items c.put_tree.new.readers.items) c.in_ok-located.ensures.same c.in-Ok.ensures.found) in
     let start = subst (λ rs. TreeStart (shape c.tree-tree.result.now) x rs) (sym c.deref_mut.ensures.value) made in
     rw (← c.self.view_is) (record {
       footer = v.footer;
@@ -32,7 +33,7 @@ returns-in-Ok-all_rows-clause-only c = λ rows h.
     let s = c.tree-tree.ensures.same in
     let is = rw (← c.self.view_is) at h in
     let spelled = by_footer v.schema.now v.info v.bytes.now v.footer rows c.self.invariant is in
-    let made = all_put v.footer v.bytes.now (shape c.tree-tree.result.now) c.new-readers.result.items c.put_tree.new.readers.items c.new-readers.ensures.items c.in-Ok.ensures.found in
+    let made = all_put v.footer v.bytes.now (shape c.tree-tree.result.now) c.new-readers.result.items c.put_tree.new.readers.items c.new-readers.ensures.items (subst (λ b. Puts v.footer b (shape c.tree-tree.result.now) c.new-readers.result.items c.put_tree.new.readers.items) c.in_ok-located.ensures.same c.in-Ok.ensures.found) in
     let start = subst (λ rs. TreeStart (shape c.tree-tree.result.now) x rs) (sym c.deref_mut.ensures.value) made in
     c.in-Ok-all_rows.ensures.only x start rows (subst (λ t. SpellRows t x v.info.number_of_rows rows) (sym s) spelled)
 
@@ -43,7 +44,7 @@ returns-in-Ok-clause-only c = λ rows h.
     let s = c.tree-tree.ensures.same in
     let is = rw (← c.self.view_is) at h in
     let spelled = by_footer v.schema.now v.info v.bytes.now v.footer rows c.self.invariant is in
-    let made = all_put v.footer v.bytes.now (shape c.tree-tree.result.now) c.new-readers.result.items c.put_tree.new.readers.items c.new-readers.ensures.items c.in-Ok.ensures.found in
+    let made = all_put v.footer v.bytes.now (shape c.tree-tree.result.now) c.new-readers.result.items c.put_tree.new.readers.items c.new-readers.ensures.items (subst (λ b. Puts v.footer b (shape c.tree-tree.result.now) c.new-readers.result.items c.put_tree.new.readers.items) c.in_ok-located.ensures.same c.in-Ok.ensures.found) in
     let start = subst (λ rs. TreeStart (shape c.tree-tree.result.now) x rs) (sym c.deref_mut.ensures.value) made in
     c.in-Err-all_rows.ensures.only x start rows (subst (λ t. SpellRows t x v.info.number_of_rows rows) (sym s) spelled)
 
@@ -55,17 +56,18 @@ returns-clause-only c = λ rows h.
     let is = rw (← c.self.view_is) at h in
     let spelled = by_footer v.schema.now v.info v.bytes.now v.footer rows c.self.invariant is in
     only_memory c.in-Err.fault (λ other.
-    c.in-Err.ensures.none other rows (none_put v.footer v.bytes.now (shape c.tree-tree.result.now) c.new-readers.result.items rows c.new-readers.ensures.items
-    (subst (λ t. SpellsCells t x rows) (sym s) (from_number v.schema.now x v.info.number_of_rows rows spelled))))
+    c.in-Err.ensures.none other rows (subst (λ b. SpellsCells (shape c.tree-tree.result.now) (columns_from v.footer b (length c.new-readers.result.items)) rows) (sym c.in_ok-located.ensures.same)
+    (none_put v.footer v.bytes.now (shape c.tree-tree.result.now) c.new-readers.result.items rows c.new-readers.ensures.items
+    (subst (λ t. SpellsCells t x rows) (sym s) (from_number v.schema.now x v.info.number_of_rows rows spelled)))))
 
 pub returns-in-Ok-clause-fault : goal.returns-in-Ok-clause-fault
 returns-in-Ok-clause-fault c = λ memory.
     let v = c.self.inside in
     let x = columns_of v.footer v.bytes.now in
     let s = c.tree-tree.ensures.same in
-    let put = all_put v.footer v.bytes.now (shape c.tree-tree.result.now) c.new-readers.result.items c.put_tree.new.readers.items c.new-readers.ensures.items c.in-Ok.ensures.found in
+    let put = all_put v.footer v.bytes.now (shape c.tree-tree.result.now) c.new-readers.result.items c.put_tree.new.readers.items c.new-readers.ensures.items (subst (λ b. Puts v.footer b (shape c.tree-tree.result.now) c.new-readers.result.items c.put_tree.new.readers.items) c.in_ok-located.ensures.same c.in-Ok.ensures.found) in
     let start = subst (λ rs. TreeStart (shape c.tree-tree.result.now) x rs) (sym c.deref_mut.ensures.value) put in
-    let made = all_origins v.footer v.bytes.now (shape c.tree-tree.result.now) c.new-readers.result.items c.put_tree.new.readers.items c.new-readers.ensures.items c.in-Ok.ensures.found in
+    let made = all_origins v.footer v.bytes.now (shape c.tree-tree.result.now) c.new-readers.result.items c.put_tree.new.readers.items c.new-readers.ensures.items (subst (λ b. Puts v.footer b (shape c.tree-tree.result.now) c.new-readers.result.items c.put_tree.new.readers.items) c.in_ok-located.ensures.same c.in-Ok.ensures.found) in
     let are = subst (λ rs. AreOf (shape c.tree-tree.result.now) x 0 (map origin rs)) (sym c.deref_mut.ensures.value) made in
     rw (← c.self.view_is) (record {
       none = λ rows h. memory (c.in-Err-all_rows.ensures.only x start rows (subst (λ t. SpellRows t x v.info.number_of_rows rows) (sym s) h));
@@ -79,9 +81,11 @@ returns-clause-fault c = λ memory.
     let s = c.tree-tree.ensures.same in
     rw (← c.self.view_is) (record {
       none = λ rows h. memory (only_memory c.in-Err.fault (λ other.
-          c.in-Err.ensures.none other rows (none_put v.footer v.bytes.now (shape c.tree-tree.result.now) c.new-readers.result.items rows c.new-readers.ensures.items
-          (subst (λ t. SpellsCells t x rows) (sym s) (from_number v.schema.now x v.info.number_of_rows rows h)))));
-      reason = inr (fault_from_start v.schema.now (shape c.tree-tree.result.now) x c.new-readers.result.items c.in-Err.fault s c.new-readers.ensures.items (c.in-Err.ensures.fault memory));
+          c.in-Err.ensures.none other rows (subst (λ b. SpellsCells (shape c.tree-tree.result.now) (columns_from v.footer b (length c.new-readers.result.items)) rows) (sym c.in_ok-located.ensures.same)
+          (none_put v.footer v.bytes.now (shape c.tree-tree.result.now) c.new-readers.result.items rows c.new-readers.ensures.items
+          (subst (λ t. SpellsCells t x rows) (sym s) (from_number v.schema.now x v.info.number_of_rows rows h))))));
+      reason = inr (fault_from_start v.schema.now (shape c.tree-tree.result.now) x c.new-readers.result.items c.in-Err.fault s c.new-readers.ensures.items
+          (subst (λ b. FaultDown (shape c.tree-tree.result.now) (columns_of v.footer b) (length c.new-readers.result.items) c.in-Err.fault) c.in_ok-located.ensures.same (c.in-Err.ensures.fault memory)));
     })
 
 pub put_tree-requires-clause-there : goal.put_tree-requires-clause-there
@@ -91,7 +95,17 @@ put_tree-requires-clause-there c =
     let w : width (shape c.tree-tree.result.now) ≡ width v.schema.now = ap width c.tree-tree.ensures.same in
     omega (arith, n, w, ap length c.new-readers.ensures.items)
 
-pub put_tree-requires-clause-room : goal.put_tree-requires-clause-room
-put_tree-requires-clause-room c =
+pub put_tree-requires-clause-located : goal.put_tree-requires-clause-located
+put_tree-requires-clause-located c =
+    let v = c.self.inside in
+    subst (λ b. AreLocated (length v.footer.columns) v.footer.streams b c.in_ok-located.located.slices.items) (sym c.in_ok-located.ensures.same) c.in_ok-located.ensures.found
+
+pub locate-requires-clause-room : goal.locate-requires-clause-room
+locate-requires-clause-room c =
     let v = c.self.inside in
     footer_room v.schema.now v.info v.bytes.now v.footer c.self.invariant
+
+pub locate-requires-clause-once : goal.locate-requires-clause-once
+locate-requires-clause-once c =
+    let v = c.self.inside in
+    footer_once v.schema.now v.info v.bytes.now v.footer c.self.invariant
