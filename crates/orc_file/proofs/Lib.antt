@@ -10,3 +10,4 @@ pub mod Appended
 pub mod TailLemmas
 pub mod EndLemmas
 pub mod Opened
+pub mod ReadBits

@@ -2,7 +2,7 @@
 use Rattle.std.specs.Prelude.{◌≡◌, ℕ, ◌+◌, ◌<◌, ◌≤◌, List, [], ◌∷◌, length, drop}
 use Rattle.std.proofs.Common.{get_or, sym, ap, subst, inr, arith, add-one, drop-cons}
 use Rattle.orc_wire.specs.declared.stripe_info.StripeInfo.{StripeInfo}
-use Rattle.orc_file.specs.Stripes.{stripe_tests, stripe_end, stripe_length, stripes_rows, stripes_length, most_stripe_rows, AllBefore}
+use Rattle.orc_file.specs.Stripes.{stripe_tests, stripe_end, stripe_length, stripes_rows, stripes_length, most_stripe_rows, IsLaid, AllBefore}
 use Rattle.orc_file.specs.declared.fault.FileFault.{FileFault}
 
 module _ (ss : List StripeInfo) (i : ℕ) (d : StripeInfo) (lt : i < length ss) where
@@ -29,6 +29,16 @@ module _ (ss : List StripeInfo) (i : ℕ) (d : StripeInfo) (lt : i < length ss) 
     fail_next W h fault rest =
         h fault (subst (λ (t : List StripeInfo). (stripe_tests i from before t).fails fault) (sym next_is)
         (inr ((low, omega (arith, high, end_is)), inr (few, subst (λ (t : ℕ). (stripe_tests (i + 1) t before (drop (i + 1) ss)).fails fault) end_is rest))))
+
+  pub laid_next : (place end : ℕ) → end ≡ stripe_end s → s.offset ≡ place → (W : Type 0) → (IsLaid place (drop i ss) → W) → IsLaid end (drop (i + 1) ss) → W
+  laid_next place end end_is at W h rest =
+      h (subst (λ (t : List StripeInfo). IsLaid place t) (sym next_is) (at, subst (λ (t : ℕ). IsLaid t (drop (i + 1) ss)) end_is rest))
+
+  pub laid_first : (place : ℕ) → IsLaid place (drop i ss) → (s.offset ≡ place) × IsLaid (stripe_end s) (drop (i + 1) ss)
+  laid_first place h = subst (λ (t : List StripeInfo). IsLaid place t) next_is h
+
+  pub laid_rest : (place end : ℕ) → end ≡ stripe_end s → IsLaid place (drop i ss) → IsLaid end (drop (i + 1) ss)
+  laid_rest place end end_is h = subst (λ (t : ℕ). IsLaid t (drop (i + 1) ss)) (sym end_is) (laid_first place h).1
 
 -- stripes that pass end at the place or before it
 pub all_before : (n from before size : ℕ) (ss : List StripeInfo) → before ≤ size → (stripe_tests n from before ss).finds tt → AllBefore size ss

@@ -9,11 +9,12 @@ ghost use Rattle.orc_file.specs.declared.tail.Tail.{Tail};
 ghost use Rattle.orc_file.specs.declared.fault.FileFault.{FileFault};
 
 /// Bytes have one tail at most, and none where a test fails. One fault is the first, but that what is
-/// wrong with types may be said in several ways.
+/// wrong with types may be said in several ways. Each number of a tail that bytes have fits its field.
 pub fn tail_laws()
     ensures one { (bytes : List ℕ) (a b : Tail) → IsTail bytes a → IsTail bytes b → a ≡ b }
     ensures none { (bytes : List ℕ) (tail : Tail) (fault : FileFault) → OpenFault bytes fault → IsTail bytes tail → ⊥ }
     ensures single { (bytes : List ℕ) (e f : FileFault) → OpenFault bytes e → OpenFault bytes f → AreAlike e f }
+    ensures bits { (bytes : List ℕ) (tail : Tail) → IsTail bytes tail → HasBits tail }
 {}
 
 /// `ORC`, as many bytes as the stripes have, and the text of a tail within the limits whose stripes lie

@@ -7,6 +7,7 @@ mod fault;
 mod file;
 mod file_source;
 mod footer;
+mod laid;
 mod laws;
 mod limits;
 mod metadata;

@@ -26,7 +26,7 @@ const MOST_ROWS: u64 = 1 << 40;
 const MOST_BYTES: u64 = 1 << 40;
 
 /// The place behind a stripe, which may have more than 64 bits.
-fn end_of(stripe: &StripeInfo) -> u128
+pub(crate) fn end_of(stripe: &StripeInfo) -> u128
     ensures { result ≡ stripe_end stripe.now }
 {
     u128::from(stripe.offset)

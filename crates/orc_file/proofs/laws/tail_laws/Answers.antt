@@ -1,4 +1,5 @@
 use Rattle.orc_file.specs.Tails.{tail_tests}
+use Rattle.orc_file.proofs.ReadBits.{tail_bits}
 use Rattle.orc_file.proofs.laws.tail_laws.Goals as goal
 
 pub returns-clause-one : goal.returns-clause-one
@@ -9,3 +10,6 @@ returns-clause-none c = λ bytes. (tail_tests bytes).none
 
 pub returns-clause-single : goal.returns-clause-single
 returns-clause-single c = λ bytes. (tail_tests bytes).single
+
+pub returns-clause-bits : goal.returns-clause-bits
+returns-clause-bits c = λ bytes tail is. tail_bits bytes tail is
