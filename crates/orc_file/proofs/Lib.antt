@@ -11,3 +11,5 @@ pub mod TailLemmas
 pub mod EndLemmas
 pub mod Opened
 pub mod ReadBits
+pub mod RowLemmas
+pub mod RowFronts

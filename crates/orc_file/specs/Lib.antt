@@ -7,3 +7,5 @@ pub mod Stripes
 pub mod Statistics
 pub mod Tails
 pub mod Images
+pub mod FileRows
+pub mod Honest

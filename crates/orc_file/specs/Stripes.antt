@@ -1,6 +1,6 @@
 -- Where stripes stand in a file, and the limits on them (ORC specification, "Stripes"; the limits are this
 -- project's).
-use Rattle.std.specs.Prelude.{◌≡◌, ℕ, ◌+◌, ◌^◌, ◌-◌, ◌≤◌, List, [], ◌∷◌}
+use Rattle.std.specs.Prelude.{◌≡◌, ℕ, ◌+◌, ◌^◌, ◌-◌, ◌≤◌, List, [], ◌∷◌, get_or}
 use Rattle.std.specs.List.{AllByRecursion}
 use Rattle.orc_wire.specs.declared.stripe_info.StripeInfo.{StripeInfo}
 use Rattle.orc_file.specs.Tests.{Test, check, gives}
@@ -8,6 +8,10 @@ use Rattle.orc_file.specs.declared.fault.FileFault.TheVariants.{BadStripe, Limit
 
 abbrev pub stripe_length : StripeInfo → ℕ
 stripe_length s = s.index_length + s.data_length + s.footer_length
+
+-- the stripe with a number, where there is one
+abbrev pub stripe_at : List StripeInfo → ℕ → StripeInfo
+stripe_at ss n = get_or ss n (record { offset = 0; index_length = 0; data_length = 0; footer_length = 0; number_of_rows = 0 })
 
 -- the bytes of all stripes together
 abbrev pub stripes_length : List StripeInfo → ℕ

@@ -1,0 +1,58 @@
+use Rattle.std.proofs.Common.{◌∙◌, arith}
+use Rattle.std.proofs.lemmas.Result.{err_from_is_err_and}
+use Rattle.orc_types.specs.Views.{views}
+use Rattle.orc_file.proofs.RowFronts.{front_next, front_found, front_only, front_fault, fault_only}
+use Rattle.orc_file.proofs.file.OrcFile.rows.Goals as goal
+
+pub returns-in_err-read_stripe-clause-fault : goal.returns-in_err-read_stripe-clause-fault
+returns-in_err-read_stripe-clause-fault g c =
+    let p = err_from_is_err_and c.from_residual.result c.from_residual.ensures.1 in
+    let told = g.S.Source.told c.args.self.now.source in
+    let inv = c.loop-number.invariant in
+    let end = c.as_slice-number-end.ensures in
+    let lt = c.loop-number-test.true in
+    let fails = c.in_err-read_stripe.ensures.fault in
+    rw (p.1, p.2) (front_fault told c.args.self.now.tail c.loop-number.number (views c.loop-number.rows.items) c.in_err-read_stripe.field-0.0 (rw end at lt) inv.front (rw (inv.told, inv.tail) at fails))
+
+pub returns-in_err-read_stripe-clause-only : goal.returns-in_err-read_stripe-clause-only
+returns-in_err-read_stripe-clause-only g c =
+    let p = err_from_is_err_and c.from_residual.result c.from_residual.ensures.1 in
+    let told = g.S.Source.told c.args.self.now.source in
+    let inv = c.loop-number.invariant in
+    let end = c.as_slice-number-end.ensures in
+    let lt = c.loop-number-test.true in
+    let fails = c.in_err-read_stripe.ensures.fault in
+    rw (p.1, p.2) (fault_only told c.args.self.now.tail c.in_err-read_stripe.field-0.0
+    (front_fault told c.args.self.now.tail c.loop-number.number (views c.loop-number.rows.items) c.in_err-read_stripe.field-0.0 (rw end at lt) inv.front (rw (inv.told, inv.tail) at fails)))
+
+pub loop-number-preserved : goal.loop-number-preserved
+loop-number-preserved g c =
+    let told = g.S.Source.told c.args.self.now.source in
+    let inv = c.loop-number.invariant in
+    let end = c.as_slice-number-end.ensures in
+    let lt = c.loop-number-test.true in
+    let found = c.in_ok-read_stripe.ensures.found in
+    let e = c.read_stripe.ensures in
+    record {
+      tail = e.tail ∙ inv.tail;
+      told = e.told ∙ inv.told;
+      size = e.size ∙ inv.size;
+      kept = c.in_ok-read_stripe.ensures.kept ∙ inv.kept;
+      front = front_next told c.args.self.now.tail.schema c.args.self.now.tail.stripes c.loop-number.number (views c.loop-number.rows.items) (views c.read_stripe.new.rows.items) (rw end at lt) inv.front (rw (inv.told, inv.tail) at found);
+    }
+
+pub returns-clause-found : goal.returns-clause-found
+returns-clause-found g c =
+    let told = g.S.Source.told c.args.self.now.source in
+    let end = c.as_slice-number-end.ensures in
+    let past = rw end at c.loop-number-test.false in
+    let most = rw end at c.loop-number.auto.number-end in
+    front_found told c.args.self.now.tail c.loop-number.number (views c.loop-number.rows.items) (omega (arith, past, most)) c.loop-number.invariant.front
+
+pub returns-clause-only : goal.returns-clause-only
+returns-clause-only g c =
+    let told = g.S.Source.told c.args.self.now.source in
+    let end = c.as_slice-number-end.ensures in
+    let past = rw end at c.loop-number-test.false in
+    let most = rw end at c.loop-number.auto.number-end in
+    front_only told c.args.self.now.tail c.loop-number.number (views c.loop-number.rows.items) (omega (arith, past, most)) c.loop-number.invariant.front

@@ -1,0 +1,37 @@
+-- Statistics that are those of the rows (ORC specification, "Column Statistics"; what is asked of them is this
+-- project's).
+use Rattle.std.specs.Prelude.{◌≡◌, ℕ, ◌<◌, Some, List, [], ◌∷◌, length, map, slice_get}
+use Rattle.orc_types.specs.Cells.{Cell}
+use Rattle.orc_types.specs.Shapes.{Shape, width}
+use Rattle.orc_types.specs.Columns.{cells}
+use Rattle.orc_stats.specs.declared.stat.Stat.{Stat}
+use Rattle.orc_stats.specs.Whole.{whole}
+use Rattle.orc_stripe.specs.WrittenStripe.{HaveStats}
+use Rattle.orc_file.specs.Statistics.{kind_at}
+use Rattle.orc_file.specs.FileRows.{cut_rows}
+use Rattle.orc_file.specs.declared.tail.Tail.{Tail}
+
+-- for each stripe's rows one statistic of each type, that of its cells there
+abbrev pub AreHonest : Shape → List (List Cell) → List (List Stat) → Type 0
+AreHonest s [] [] = Unit {0}
+AreHonest s [] (stats ∷ more) = ⊥
+AreHonest s (rows ∷ parts) [] = ⊥
+AreHonest s (rows ∷ parts) (stats ∷ more) = HaveStats s rows (width s) stats × AreHonest s parts more
+
+-- A tail's statistics of stripes are those of the rows: nothing is missing, and nothing is not known that the
+-- rows have.
+abbrev pub Honest : Tail → List Cell → Type 0
+Honest tail rows = AreHonest tail.schema (cut_rows tail.stripes rows) tail.stripe_stats
+
+-- a column's statistic of all stripes' rows; its sum isn't known where that of some stripe doesn't fit
+abbrev pub whole_of : Shape → List (List Cell) → ℕ → Stat
+whole_of s parts column = whole (kind_at s column) (map (cells s column) parts)
+
+-- one for each type
+pub record AreWhole (s : Shape) (parts : List (List Cell)) (stats : List Stat) : Type 0 where
+  pub counted : length stats ≡ width s
+  pub each : (column : ℕ) → column < width s → slice_get stats column ≡ Some (whole_of s parts column)
+
+-- a tail's statistics of the file are those of all rows
+abbrev pub HasWholeStats : Tail → List Cell → Type 0
+HasWholeStats tail rows = AreWhole tail.schema (cut_rows tail.stripes rows) tail.file_stats

@@ -1,0 +1,18 @@
+//! Laws of a file's rows. Each function does nothing: its contract is what it is for.
+ghost use Rattle.std.specs.Prelude.{◌≡◌, ℕ, List, length, flat_map, map};
+ghost use Rattle.orc_wire.specs.declared.stripe_info.StripeInfo.{StripeInfo};
+ghost use Rattle.orc_types.specs.Cells.{Cell};
+ghost use Rattle.orc_types.specs.Shapes.{Shape};
+ghost use Rattle.orc_types.specs.Columns.{cells};
+ghost use Rattle.orc_file.specs.FileRows.{AreOfStripes, HasRows, FileIs, FirstRefused, joined, cut_rows};
+ghost use Rattle.orc_file.specs.declared.tail.Tail.{Tail};
+ghost use Rattle.orc_file.specs.declared.fault.FileFault.{FileFault};
+
+/// Bytes are a file of one tail and one list of rows at most, and of none where a stripe is refused. The
+/// rows of each stripe are the file's, cut by the stripes' numbers of rows.
+pub fn row_laws()
+    ensures one { (bytes : List ℕ) (t u : Tail) (a b : List Cell) → FileIs bytes t a → FileIs bytes u b → (t ≡ u) × (a ≡ b) }
+    ensures none { (bytes : List ℕ) (tail : Tail) (rows : List Cell) (fault : FileFault) → FirstRefused tail.schema bytes 0 tail.stripes fault → FileIs bytes tail rows → ⊥ }
+    ensures cut { (bytes : List ℕ) (tail : Tail) (rows : List Cell) → FileIs bytes tail rows → AreOfStripes tail.schema bytes tail.stripes (cut_rows tail.stripes rows) }
+    ensures whole { (infos : List StripeInfo) (bytes : List ℕ) (s : Shape) (rows : List Cell) → HasRows s bytes infos rows → joined (cut_rows infos rows) ≡ rows }
+{}

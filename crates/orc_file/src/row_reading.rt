@@ -1,0 +1,100 @@
+//! A file's rows, read stripe by stripe: the bytes of one stripe are held at a time.
+ghost use Rattle.std.specs.Prelude.{◌≡◌, ◌≢◌, ◌<◌, ◌++◌, ◌⊎◌, List, length, OnOk, IfOk, IfErr, IfSome, IsErrOf, MatchResult};
+ghost use Rattle.orc_types.specs.Cells.{Cell};
+ghost use Rattle.orc_types.specs.Views.{views};
+ghost use Rattle.orc_stripe.specs.Stripe.{IsStripe};
+ghost use Rattle.orc_stripe.specs.declared.fault.StripeFault.{StripeFault};
+ghost use Rattle.orc_stripe.specs.declared.fault.StripeFault.TheVariants as stripe;
+ghost use Rattle.orc_file.specs.Stripes.{stripe_at};
+ghost use Rattle.orc_file.specs.Tails.{IsTail, ReadFault};
+ghost use Rattle.orc_file.specs.FileRows.{stripe_bytes, IsNoStripe, StripeRefused, FirstRefused, HasMore, FileIs};
+ghost use Rattle.orc_file.specs.declared.fault.FileFault.TheVariants.{Stripe, SourceFailed, OutOfMemory};
+
+use crate::fault::FileFault;
+use crate::file::OrcFile;
+use crate::loading::stripe_fault;
+use crate::source::Source;
+use orc_types::{Row, owned};
+use std::alloc::{AllocError, Global};
+
+/// Puts rows with texts of their own behind others.
+fn append_owned(
+    alloc: Global,
+    from: &[Row<'_>],
+    rows: &mut Vec<Row<'static>>,
+) -> Result<(), AllocError>
+    ensures { OnOk result (views rows.new.items ≡ views rows.old.items ++ views from.now) }
+{
+    for row in from {
+        rows.push(owned(alloc, row)?)?;
+    }
+    Ok(())
+}
+
+impl<S: Source> OrcFile<S> {
+    /// The rows of the stripe with this number, over its bytes.
+    fn stripe_rows<'a>(
+        &'a self,
+        alloc: Global,
+        number: usize,
+        bytes: &'a [u8],
+    ) -> Result<Vec<Row<'a>>, FileFault>
+        requires { number < length self.now.tail.stripes }
+        ensures found { IfOk result (λ rows. IsStripe self.now.tail.schema (stripe_at self.now.tail.stripes number) bytes.now (views rows.items)) }
+        ensures fault { IfErr result (λ fault. (fault ≡ OutOfMemory) ⊎ ((why : StripeFault) × (fault ≡ Stripe number why) × (why ≢ stripe.OutOfMemory) × IsNoStripe self.now.tail.schema (stripe_at self.now.tail.stripes number) bytes.now why)) }
+    {
+        let view = self.view(alloc, number, bytes)?;
+        match view.rows(alloc) {
+            Ok(rows) => Ok(rows),
+            Err(cause) => Err(stripe_fault(number, cause)),
+        }
+    }
+
+    /// Reads the rows of the stripe with this number behind others.
+    fn read_stripe(
+        &mut self,
+        alloc: Global,
+        number: usize,
+        bytes: &mut Vec<u8>,
+        rows: &mut Vec<Row<'static>>,
+    ) -> Result<(), FileFault>
+        requires { number < length self.old.tail.stripes }
+        ensures found { OnOk result (IfSome (S.told self.old.source) (λ all. HasMore self.old.tail.schema (stripe_at self.old.tail.stripes number) all (views rows.old.items) (views rows.new.items))) }
+        ensures tail { self.new.tail ≡ self.old.tail }
+        ensures told { S.told self.new.source ≡ S.told self.old.source }
+        ensures size { S.size self.new.source ≡ S.size self.old.source }
+
+        ensures fault { IfErr result (λ fault. ReadFault (S.told self.old.source) fault (λ all. StripeRefused self.old.tail.schema all number (stripe_at self.old.tail.stripes number) fault)) }
+        ensures kept { OnOk result (S.failures self.new.source ≡ S.failures self.old.source) }
+        ensures failed { IsErrOf result SourceFailed → S.failures self.old.source < S.failures self.new.source }
+    {
+        self.load(number, bytes)?;
+        let own = self.stripe_rows(alloc, number, bytes)?;
+        append_owned(alloc, &own, rows)?;
+        Ok(())
+    }
+
+    /// The file's rows, with texts of their own. Each stripe's bytes are read in one call, and those of one
+    /// stripe are held at a time. After a refusal the file is as it was, and may be asked again.
+    ///
+    /// Refusals: `Stripe` with the number of the first stripe that has no rows, and why; `SourceFailed`
+    /// where the source failed; `OutOfMemory`. But for the last two the bytes are no file of any rows.
+    pub fn rows(&mut self, alloc: Global) -> Result<Vec<Row<'static>>, FileFault>
+        ensures found { IfOk result (λ rows. IfSome (S.told self.old.source) (λ bytes. IsTail bytes self.old.tail → FileIs bytes self.old.tail (views rows.items))) }
+        ensures only { IfSome (S.told self.old.source) (λ bytes. (rows : List Cell) → FileIs bytes self.old.tail rows → MatchResult result (λ answered. views answered.items ≡ rows) (λ fault. (fault ≡ OutOfMemory) ⊎ (fault ≡ SourceFailed))) }
+        ensures tail { self.new.tail ≡ self.old.tail }
+        ensures told { S.told self.new.source ≡ S.told self.old.source }
+        ensures size { S.size self.new.source ≡ S.size self.old.source }
+
+        ensures fault { IfErr result (λ fault. ReadFault (S.told self.old.source) fault (λ bytes. FirstRefused self.old.tail.schema bytes 0 self.old.tail.stripes fault)) }
+        ensures kept { OnOk result (S.failures self.new.source ≡ S.failures self.old.source) }
+        ensures failed { IsErrOf result SourceFailed → S.failures self.old.source < S.failures self.new.source }
+    {
+        let mut rows = Vec::new(alloc);
+        let mut bytes = Vec::new(alloc);
+        for number in 0..self.tail.stripes.as_slice().len() {
+            self.read_stripe(alloc, number, &mut bytes, &mut rows)?;
+        }
+        Ok(rows)
+    }
+}
