@@ -10,6 +10,7 @@ pub mod Directory
 pub mod Stripe
 pub mod Starting
 pub mod Opening
+pub mod RunFaults
 pub mod Faults
 pub mod Opened
 pub mod WordList
