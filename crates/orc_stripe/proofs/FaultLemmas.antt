@@ -1,16 +1,20 @@
 -- Which fault of a column's readers stands, along the arms of the reader that goes down a schema.
-use Rattle.std.proofs.Common.{◌≡◌, ℕ, zero, suc, ◌+◌, ◌-◌, ◌<◌, ◌≤◌, List, [], ◌∷◌, ◌++◌, map, length, take, drop, get_or, slice_set, is_some, refl, sym, ap, ◌∙◌, subst, inl, inr, ◌⊎◌, arith, take-append-drop}
+use Rattle.std.proofs.Common.{◌≡◌, ℕ, zero, suc, ◌+◌, ◌-◌, ◌<◌, ◌≤◌, List, [], ◌∷◌, ◌++◌, map, length, take, drop, get_or, slice_set, Bool, true, false, refl, sym, ap, ◌∙◌, subst, inl, inr, ◌⊎◌, arith, take-append-drop}
 use Rattle.std.proofs.lemmas.Bool.{lt-ltb, le-ltb}
 use Rattle.std.proofs.lemmas.List.{map-append}
 use borrow.Rule.Slice.PartMut.{put_mid}
 use Rattle.orc_types.specs.Shapes.{Shape, scalar, list_of, struct_of, Fields, no_field, field, width, widths, shape_at, shape_within}
 use Rattle.orc_types.specs.declared.kind.Scalar.{Scalar}
-use Rattle.orc_types.specs.declared.kind.Scalar.TheVariants as kind
 use Rattle.orc_stripe.specs.declared.column.ColumnReader.{ColumnReader}
-use Rattle.orc_stripe.specs.declared.fault.StreamKind.TheVariants as stream
+use Rattle.orc_types.specs.declared.kind.Scalar.TheVariants as kind
+use Rattle.orc_rle.specs.declared.sign.Sign.{Sign}
+use Rattle.orc_stripe.specs.declared.version.Version.{Version}
+use Rattle.orc_stripe.specs.declared.numbers.Numbers.{Numbers}
+use Rattle.orc_stripe.specs.Starting.{NumbersStart}
 use Rattle.orc_stripe.specs.declared.fault.StripeFault.{StripeFault}
 use Rattle.orc_stripe.specs.Stripe.{Streams, has_dictionary}
-use Rattle.orc_stripe.specs.Faults.{Origin, origin, source_origin, MarksFail, DataFail, IntsFail, GroupsFail, TextsFail, ScalarFails, ListsFail, ValuesFail, ColumnFails, HasFault, ReaderFault, BelowFault, OwnFault, ListsFault, FieldsFault, FaultBelow, FaultWithin, FaultDown, IsOf, AreOf, AreBelow, AreFields, SameDictionary, TooManyRows}
+use Rattle.orc_stripe.specs.RunFaults.{Integers, integers_of}
+use Rattle.orc_stripe.specs.Faults.{Origin, reading, texts_of, origin, source_origin, marks_bytes, column_origin, MarksFail, ScalarFails, ListsFail, ValuesFail, ColumnFails, HasFault, ReaderFault, BelowFault, OwnFault, ListsFault, FieldsFault, FaultBelow, FaultWithin, FaultDown, IsOf, AreOf, AreBelow, AreFields, TooManyRows}
 use Rattle.orc_stripe.proofs.Arms.{put_behind, behind, some_width}
 
 pub map_take : {X Y : Type 0} (f : X → Y) (n : ℕ) (xs : List X) → map f (take n xs) ≡ take n (map f xs)
@@ -25,7 +29,7 @@ map_drop f (suc n) (x ∷ xs) = map_drop f n xs
 
 -- ---- what the readers are of stays as it is
 
-pub origins_set : (before : List ColumnReader) (own' d : ColumnReader) → 1 ≤ length before → source_origin own'.source ≡ source_origin (get_or before 0 d).source
+pub origins_set : (before : List ColumnReader) (own' d : ColumnReader) → 1 ≤ length before → origin own' ≡ origin (get_or before 0 d)
     → map origin (slice_set before 0 own') ≡ map origin before
 origins_set [] own' d some e = absurd (omega (arith, some))
 origins_set (own ∷ below) own' d some e = ap (λ t. t ∷ map origin below) e
@@ -43,7 +47,7 @@ origins_fields w before own' rest' e g =
 
 -- ---- a column
 
-pub reader_marks : (s : Shape) (before : List ColumnReader) (d : ColumnReader) (f : StripeFault) → 1 ≤ length before → MarksFail (get_or before 0 d).source.column f → ReaderFault s (map origin before) f
+pub reader_marks : (s : Shape) (before : List ColumnReader) (d : ColumnReader) (f : StripeFault) → 1 ≤ length before → MarksFail (marks_bytes (get_or before 0 d).present) (get_or before 0 d).source.column f → ReaderFault s (map origin before) f
 reader_marks s [] d f some h = absurd (omega (arith, some))
 reader_marks s (own ∷ below) d f some h = inl h
 
@@ -51,14 +55,14 @@ own_reader : (s : Shape) (readers : List Origin) (f : StripeFault) → OwnFault 
 own_reader s [] f h = h
 own_reader s (own ∷ below) f h = inr h
 
-pub reader_own : (s : Shape) (before : List ColumnReader) (own' d : ColumnReader) (f : StripeFault) → 1 ≤ length before → source_origin own'.source ≡ source_origin (get_or before 0 d).source
+pub reader_own : (s : Shape) (before : List ColumnReader) (own' d : ColumnReader) (f : StripeFault) → 1 ≤ length before → origin own' ≡ origin (get_or before 0 d)
     → OwnFault s (map origin (slice_set before 0 own')) f → ReaderFault s (map origin before) f
 reader_own s before own' d f some e h = own_reader s (map origin before) f (subst (λ t. OwnFault s t f) (origins_set before own' d some e) h)
 
 -- ---- its values
 
 pub own_scalar_fault : (s : Shape) (k : Scalar) (o : List ℕ) (before : List ColumnReader) (d : ColumnReader) (f : StripeFault) → s ≡ scalar k o → 1 ≤ length before
-    → ScalarFails k (is_some (get_or before 0 d).source.entries) (get_or before 0 d).source.column f → OwnFault s (map origin before) f
+    → ScalarFails k (source_origin (get_or before 0 d).source) f → OwnFault s (map origin before) f
 own_scalar_fault s k o [] d f is some h = absurd (omega (arith, some))
 own_scalar_fault s k o (own ∷ below) d f is some h = subst (λ z. OwnFault z (map origin (own ∷ below)) f) (sym is) (inl h)
 
@@ -77,7 +81,7 @@ own_struct_fault s fs o (own ∷ below) f is some h =
 
 -- ---- lists
 
-pub lists_size : (e : Shape) (before : List ColumnReader) (d : ColumnReader) (f : StripeFault) → 1 ≤ length before → ListsFail (get_or before 0 d).source.column f → ListsFault e (map origin before) f
+pub lists_size : (e : Shape) (before : List ColumnReader) (d : ColumnReader) (f : StripeFault) → 1 ≤ length before → ListsFail (integers_of (get_or before 0 d).source.numbers) (get_or before 0 d).source.column f → ListsFault e (map origin before) f
 lists_size e [] d f some h = absurd (omega (arith, some))
 lists_size e (own ∷ below) d f some h = inl h
 
@@ -104,25 +108,38 @@ fields_others_fault all name s fs before rest f is er h =
 
 -- ---- from the readers to the columns
 
-pub own_of : (s : Shape) (columns : ℕ → Streams) (n m : ℕ) (own : Origin) → n ≡ m → own.column ≡ n → SameDictionary s (columns n) own → IsOf s columns m own
-own_of s columns n m own e i d = subst (λ k. IsOf s columns k own) e (i, d)
+pub own_of : (s : Shape) (columns : ℕ → Streams) (n m : ℕ) (own : Origin) → n ≡ m → own ≡ column_origin s (columns n) n → IsOf s columns m own
+own_of s columns n m own e is = subst (λ k. IsOf s columns k own) e is
 
-column_fails : (s : Shape) (columns : ℕ → Streams) (n : ℕ) (own : Origin) (f : StripeFault) → IsOf s columns n own → ValuesFail s own.dictionary own.column f → ValuesFail s (has_dictionary (columns n)) n f
-column_fails (scalar kind.Boolean o) columns n own f is h = subst (λ c. DataFail c f) is.0 h
-column_fails (scalar kind.Byte o) columns n own f is h = subst (λ c. DataFail c f) is.0 h
-column_fails (scalar kind.Short o) columns n own f is h = subst (λ c. IntsFail c f) is.0 h
-column_fails (scalar kind.Int o) columns n own f is h = subst (λ c. IntsFail c f) is.0 h
-column_fails (scalar kind.Long o) columns n own f is h = subst (λ c. IntsFail c f) is.0 h
-column_fails (scalar kind.Date o) columns n own f is h = subst (λ c. IntsFail c f) is.0 h
-column_fails (scalar kind.Binary o) columns n own f is h = subst (λ c. GroupsFail stream.Data c f) is.0 h
-column_fails (scalar kind.String o) columns n own f is h = subst (λ d. TextsFail d n f) is.1 (subst (λ c. TextsFail own.dictionary c f) is.0 h)
-column_fails (list_of s o) columns n own f is h = subst (λ c. ListsFail c f) is.0 h
-column_fails (struct_of fs o) columns n own f is h = absurd h
+texts_column : (dictionary : Bool) (x : Streams) (n : ℕ) → (texts_of dictionary x n).column ≡ n
+texts_column true x n = refl
+texts_column false x n = refl
+
+reading_column : (s : Shape) (x : Streams) (n : ℕ) → (reading s x n).column ≡ n
+reading_column (scalar kind.Boolean o) x n = refl
+reading_column (scalar kind.Byte o) x n = refl
+reading_column (scalar kind.Short o) x n = refl
+reading_column (scalar kind.Int o) x n = refl
+reading_column (scalar kind.Long o) x n = refl
+reading_column (scalar kind.Date o) x n = refl
+reading_column (scalar kind.Binary o) x n = refl
+reading_column (scalar kind.String o) x n = texts_column (has_dictionary x) x n
+reading_column (list_of s o) x n = refl
+reading_column (struct_of fs o) x n = refl
+
+abbrev integers_from : Version → Sign → List ℕ → Integers
+integers_from version sign bytes = record { version = version; sign = sign; bytes = bytes }
+
+-- a reader at the start of its stream is of that stream
+pub integers_start : (v : Version) (sign : Sign) (bytes : List ℕ) (r : Numbers) → NumbersStart v sign bytes r → integers_of r ≡ record { version = v; sign = sign; bytes = bytes }
+integers_start v sign bytes r s =
+    ap (λ k. integers_from k r.sign r.bytes.now) s.version_is ∙ ap (λ k. integers_from v k r.bytes.now) s.sign_is ∙ ap (λ k. integers_from v sign k) s.bytes_are
 
 own_down : (s : Shape) (columns : ℕ → Streams) (n : ℕ) (own : Origin) (below : List Origin) (f : StripeFault) → IsOf s columns n own → (BelowFault s below f → FaultBelow s columns n f)
     → ReaderFault s (own ∷ below) f → FaultDown s columns n f
-own_down s columns n own below f is deeper (inl h) = inl (inl (subst (λ c. MarksFail c f) is.0 h))
-own_down s columns n own below f is deeper (inr (inl h)) = inl (inr (column_fails s columns n own f is h))
+own_down s columns n own below f is deeper (inl h) =
+    inl (inl (subst (λ c. MarksFail ((columns n).stream 0) c f) (reading_column s (columns n) n) (subst (λ o. MarksFail o.marks o.source.column f) is h)))
+own_down s columns n own below f is deeper (inr (inl h)) = inl (inr (inr (subst (λ o. ValuesFail s o.source f) is h)))
 own_down s columns n own below f is deeper (inr (inr h)) = inr (deeper h)
 
 from_down : (s : Shape) (columns : ℕ → Streams) (n : ℕ) (readers : List Origin) (f : StripeFault) → ((below : List Origin) → AreBelow s columns n below → BelowFault s below f → FaultBelow s columns n f)
@@ -152,7 +169,7 @@ down_list s e o columns n m f is next h =
 -- ---- by the columns' numbers
 
 abbrev At : Shape → (ℕ → Streams) → ℕ → StripeFault → Type 0
-At s columns n f = ColumnFails s (has_dictionary (columns n)) n f
+At s columns n f = ColumnFails s (columns n) n f
 
 abbrev Found : Shape → (ℕ → Streams) → ℕ → StripeFault → Type 0
 Found s columns n f = (c : ℕ) × (c < width s) × At (shape_at s c) columns (n + c) f

@@ -13,64 +13,134 @@ use Rattle.orc_stripe.specs.declared.fault.StreamKind.{StreamKind}
 use Rattle.orc_stripe.specs.declared.fault.StreamKind.TheVariants as stream
 use Rattle.orc_stripe.specs.declared.fault.StripeFault.{StripeFault}
 use Rattle.orc_stripe.specs.declared.fault.StripeFault.TheVariants as fault
-use Rattle.orc_stripe.specs.Stripe.{Streams, has_dictionary, SpellRows}
+use Rattle.orc_rle.specs.declared.sign.Sign.TheVariants.{Signed, Unsigned}
+use Rattle.orc_stripe.specs.RunFaults.{Integers, IntegersFail, ByteRunsFail, integers_of}
+use Rattle.orc_stripe.specs.Stripe.{Streams, version, has_dictionary, SpellRows}
 
--- the column's stream of this kind has no such runs
-abbrev pub RunsFail : StreamKind → ℕ → StripeFault → Type 0
-RunsFail kind column f = (cause : RunFault) × (f ≡ fault.Run column kind cause) × (cause ≢ run.OutOfMemory)
+-- the column's stream of this kind has no runs as the column needs them; what stands of the fault of its runs
+abbrev pub RunsFail : StreamKind → ℕ → (RunFault → Type 0) → StripeFault → Type 0
+RunsFail kind column stands f = (cause : RunFault) × (f ≡ fault.Run column kind cause) × (cause ≢ run.OutOfMemory) × stands cause
 
-abbrev pub MarksFail : ℕ → StripeFault → Type 0
-MarksFail column f = RunsFail stream.Present column f
+abbrev pub MarksFail : List ℕ → ℕ → StripeFault → Type 0
+MarksFail bytes column f = RunsFail stream.Present column (ByteRunsFail bytes) f
 
-abbrev pub DataFail : ℕ → StripeFault → Type 0
-DataFail column f = RunsFail stream.Data column f
+abbrev pub DataFail : List ℕ → ℕ → StripeFault → Type 0
+DataFail bytes column f = RunsFail stream.Data column (ByteRunsFail bytes) f
+
+abbrev pub NumbersFail : StreamKind → Integers → ℕ → StripeFault → Type 0
+NumbersFail kind from column f = RunsFail kind column (IntegersFail from) f
 
 -- numbers, and one of them outside of the column's type
-abbrev pub IntsFail : ℕ → StripeFault → Type 0
-IntsFail column f = DataFail column f ⊎ (f ≡ fault.OutOfRange column)
+abbrev pub IntsFail : Integers → ℕ → StripeFault → Type 0
+IntsFail from column f = NumbersFail stream.Data from column f ⊎ (f ≡ fault.OutOfRange column)
 
 -- groups of bytes: their lengths, or a stream that has other bytes than these are together
-abbrev pub GroupsFail : StreamKind → ℕ → StripeFault → Type 0
-GroupsFail kind column f = RunsFail stream.Length column f ⊎ (f ≡ fault.LengthSum column kind)
+abbrev pub GroupsFail : StreamKind → Integers → ℕ → StripeFault → Type 0
+GroupsFail kind from column f = NumbersFail stream.Length from column f ⊎ (f ≡ fault.LengthSum column kind)
 
-abbrev pub DictionaryFails : ℕ → StripeFault → Type 0
-DictionaryFails column f = GroupsFail stream.DictionaryData column f
+abbrev pub DictionaryFails : Integers → ℕ → StripeFault → Type 0
+DictionaryFails from column f = GroupsFail stream.DictionaryData from column f
 
 -- indexes, and one of them that has no entry, or one that is no text
-abbrev pub WordsFail : ℕ → StripeFault → Type 0
-WordsFail column f = DataFail column f ⊎ ((f ≡ fault.BadIndex column) ⊎ (f ≡ fault.NotUtf8 column stream.DictionaryData))
+abbrev pub WordsFail : Integers → ℕ → StripeFault → Type 0
+WordsFail from column f = NumbersFail stream.Data from column f ⊎ ((f ≡ fault.BadIndex column) ⊎ (f ≡ fault.NotUtf8 column stream.DictionaryData))
 
 -- of a column with a dictionary, and of one without
-abbrev pub TextsFail : Bool → ℕ → StripeFault → Type 0
-TextsFail true column f = DictionaryFails column f ⊎ WordsFail column f
-TextsFail false column f = GroupsFail stream.Data column f ⊎ (f ≡ fault.NotUtf8 column stream.Data)
+abbrev pub TextsFail : Bool → Integers → ℕ → StripeFault → Type 0
+TextsFail true from column f = WordsFail from column f
+TextsFail false from column f = GroupsFail stream.Data from column f ⊎ (f ≡ fault.NotUtf8 column stream.Data)
 
-abbrev pub ScalarFails : Scalar → Bool → ℕ → StripeFault → Type 0
-ScalarFails kind.Boolean dictionary column f = DataFail column f
-ScalarFails kind.Byte dictionary column f = DataFail column f
-ScalarFails kind.Short dictionary column f = IntsFail column f
-ScalarFails kind.Int dictionary column f = IntsFail column f
-ScalarFails kind.Long dictionary column f = IntsFail column f
-ScalarFails kind.Date dictionary column f = IntsFail column f
-ScalarFails kind.Binary dictionary column f = GroupsFail stream.Data column f
-ScalarFails kind.String dictionary column f = TextsFail dictionary column f
+-- what the values of a column are read from: its number, whether it has a dictionary, the runs of bytes, those of booleans, and
+-- those of integers
+pub record Reading : Type 0 where
+  pub column : ℕ
+  pub dictionary : Bool
+  pub bytes : List ℕ
+  pub bits : List ℕ
+  pub integers : Integers
+
+abbrev pub ScalarFails : Scalar → Reading → StripeFault → Type 0
+ScalarFails kind.Boolean r f = DataFail r.bits r.column f
+ScalarFails kind.Byte r f = DataFail r.bytes r.column f
+ScalarFails kind.Short r f = IntsFail r.integers r.column f
+ScalarFails kind.Int r f = IntsFail r.integers r.column f
+ScalarFails kind.Long r f = IntsFail r.integers r.column f
+ScalarFails kind.Date r f = IntsFail r.integers r.column f
+ScalarFails kind.Binary r f = GroupsFail stream.Data r.integers r.column f
+ScalarFails kind.String r f = TextsFail r.dictionary r.integers r.column f
 
 -- lengths of lists, which have more elements together than a column may have
-abbrev pub ListsFail : ℕ → StripeFault → Type 0
-ListsFail column f = RunsFail stream.Length column f ⊎ (f ≡ fault.TooMany column)
+abbrev pub ListsFail : Integers → ℕ → StripeFault → Type 0
+ListsFail from column f = NumbersFail stream.Length from column f ⊎ (f ≡ fault.TooMany column)
 
--- the streams beside PRESENT; structs have none
-abbrev pub ValuesFail : Shape → Bool → ℕ → StripeFault → Type 0
-ValuesFail (scalar k o) dictionary column f = ScalarFails k dictionary column f
-ValuesFail (list_of s o) dictionary column f = ListsFail column f
-ValuesFail (struct_of fs o) dictionary column f = ⊥
+-- the streams beside PRESENT and the dictionary's; structs have none
+abbrev pub ValuesFail : Shape → Reading → StripeFault → Type 0
+ValuesFail (scalar k o) r f = ScalarFails k r f
+ValuesFail (list_of s o) r f = ListsFail r.integers r.column f
+ValuesFail (struct_of fs o) r f = ⊥
 
-abbrev pub ColumnFails : Shape → Bool → ℕ → StripeFault → Type 0
-ColumnFails s dictionary column f = MarksFail column f ⊎ ValuesFail s dictionary column f
+-- whole numbers and dates are integers with a sign in DATA
+abbrev pub data_of : Streams → ℕ → Reading
+data_of x column = record { column = column; dictionary = false; bytes = x.stream 1; bits = x.stream 1; integers = record { version = version x; sign = Signed; bytes = x.stream 1 } }
+
+-- lengths are integers without a sign
+abbrev pub lengths_of : Streams → Integers
+lengths_of x = record { version = version x; sign = Unsigned; bytes = x.stream 2 }
+
+abbrev pub groups_of : Streams → ℕ → Reading
+groups_of x column = record { column = column; dictionary = false; bytes = x.stream 1; bits = x.stream 1; integers = lengths_of x }
+
+-- indexes are integers without a sign in DATA
+abbrev pub words_of : Streams → ℕ → Reading
+words_of x column = record { column = column; dictionary = true; bytes = x.stream 1; bits = x.stream 1; integers = record { version = version x; sign = Unsigned; bytes = x.stream 1 } }
+
+abbrev pub texts_of : Bool → Streams → ℕ → Reading
+texts_of true x column = words_of x column
+texts_of false x column = groups_of x column
+
+abbrev pub scalar_reading : Scalar → Streams → ℕ → Reading
+scalar_reading kind.Boolean x column = data_of x column
+scalar_reading kind.Byte x column = data_of x column
+scalar_reading kind.Short x column = data_of x column
+scalar_reading kind.Int x column = data_of x column
+scalar_reading kind.Long x column = data_of x column
+scalar_reading kind.Date x column = data_of x column
+scalar_reading kind.Binary x column = groups_of x column
+scalar_reading kind.String x column = texts_of (has_dictionary x) x column
+
+-- by the column's kind and encoding
+abbrev pub reading : Shape → Streams → ℕ → Reading
+reading (scalar k o) x column = scalar_reading k x column
+reading (list_of s o) x column = groups_of x column
+reading (struct_of fs o) x column = data_of x column
+
+-- the dictionary of a column that has one
+abbrev pub EntriesFail : Bool → Streams → ℕ → StripeFault → Type 0
+EntriesFail true x column f = DictionaryFails (lengths_of x) column f
+EntriesFail false x column f = ⊥
+
+abbrev pub ScalarEntriesFail : Scalar → Streams → ℕ → StripeFault → Type 0
+ScalarEntriesFail kind.Boolean x column f = ⊥
+ScalarEntriesFail kind.Byte x column f = ⊥
+ScalarEntriesFail kind.Short x column f = ⊥
+ScalarEntriesFail kind.Int x column f = ⊥
+ScalarEntriesFail kind.Long x column f = ⊥
+ScalarEntriesFail kind.Date x column f = ⊥
+ScalarEntriesFail kind.Binary x column f = ⊥
+ScalarEntriesFail kind.String x column f = EntriesFail (has_dictionary x) x column f
+
+abbrev pub WordsOfFail : Shape → Streams → ℕ → StripeFault → Type 0
+WordsOfFail (scalar k o) x column f = ScalarEntriesFail k x column f
+WordsOfFail (list_of s o) x column f = ⊥
+WordsOfFail (struct_of fs o) x column f = ⊥
+
+-- the streams of a column: PRESENT, its dictionary's, and those of its values
+abbrev pub ColumnFails : Shape → Streams → ℕ → StripeFault → Type 0
+ColumnFails s x column f = MarksFail (x.stream 0) column f ⊎ (WordsOfFail s x column f ⊎ ValuesFail s (reading s x column) f)
 
 -- A fault of one of the schema's columns, by its number.
 abbrev pub HasFault : Shape → (ℕ → Streams) → StripeFault → Type 0
-HasFault schema columns f = (c : ℕ) × (c < width schema) × ColumnFails (shape_at schema c) (has_dictionary (columns c)) c f
+HasFault schema columns f = (c : ℕ) × (c < width schema) × ColumnFails (shape_at schema c) (columns c) c f
 
 -- more rows than a column may have cells
 abbrev pub TooManyRows : ℕ → StripeFault → Type 0
@@ -84,7 +154,7 @@ pub record RowsFault (schema : Shape) (columns : ℕ → Streams) (count : ℕ) 
 -- ---- the same by going down the schema, as a reader does
 
 abbrev pub FaultFrom : (ℕ → StripeFault → Type 0) → Shape → (ℕ → Streams) → ℕ → StripeFault → Type 0
-FaultFrom below s columns n f = ColumnFails s (has_dictionary (columns n)) n f ⊎ below n f
+FaultFrom below s columns n f = ColumnFails s (columns n) n f ⊎ below n f
 
 abbrev mutual
   -- of the columns below one, by its number
@@ -105,20 +175,25 @@ abbrev pub last_start : Option Bits → ℕ
 last_start None = 0
 last_start (Some bits) = bits.bytes.start
 
+-- the bytes of PRESENT, which is empty where nothing is null
+abbrev pub marks_bytes : Option Bits → List ℕ
+marks_bytes None = []
+marks_bytes (Some bits) = bits.bytes.bytes.now
+
 -- of a reader, what it is of: reading leaves it as it is
 pub record Origin : Type 0 where
-  pub column : ℕ
-  pub dictionary : Bool
+  pub marks : List ℕ
+  pub source : Reading
 
-abbrev pub source_origin : Source → Origin
-source_origin r = record { column = r.column; dictionary = is_some r.entries }
+abbrev pub source_origin : Source → Reading
+source_origin r = record { column = r.column; dictionary = is_some r.entries; bytes = r.bytes.bytes.now; bits = r.bits.bytes.bytes.now; integers = integers_of r.numbers }
 
 abbrev pub origin : ColumnReader → Origin
-origin r = source_origin r.source
+origin r = record { marks = marks_bytes r.present; source = source_origin r.source }
 
 abbrev pub ReaderFrom : (List Origin → StripeFault → Type 0) → Shape → List Origin → StripeFault → Type 0
 ReaderFrom found s [] f = ⊥
-ReaderFrom found s (own ∷ below) f = MarksFail own.column f ⊎ (ValuesFail s own.dictionary own.column f ⊎ found below f)
+ReaderFrom found s (own ∷ below) f = MarksFail own.marks own.source.column f ⊎ (ValuesFail s own.source f ⊎ found below f)
 
 abbrev mutual
   -- of the readers below one
@@ -138,30 +213,18 @@ ReaderFault s readers f = ReaderFrom (BelowFault s) s readers f
 -- beside the marks
 abbrev pub OwnFault : Shape → List Origin → StripeFault → Type 0
 OwnFault s [] f = ⊥
-OwnFault s (own ∷ below) f = ValuesFail s own.dictionary own.column f ⊎ BelowFault s below f
+OwnFault s (own ∷ below) f = ValuesFail s own.source f ⊎ BelowFault s below f
 
 abbrev pub ListsFault : Shape → List Origin → StripeFault → Type 0
 ListsFault s [] f = ⊥
-ListsFault s (own ∷ below) f = ListsFail own.column f ⊎ ReaderFault s below f
+ListsFault s (own ∷ below) f = ListsFail own.source.integers own.source.column f ⊎ ReaderFault s below f
 
--- a reader's column, and whether it has a dictionary where its kind can have one
-abbrev pub SameWords : Scalar → Streams → Origin → Type 0
-SameWords kind.Boolean x own = Unit {0}
-SameWords kind.Byte x own = Unit {0}
-SameWords kind.Short x own = Unit {0}
-SameWords kind.Int x own = Unit {0}
-SameWords kind.Long x own = Unit {0}
-SameWords kind.Date x own = Unit {0}
-SameWords kind.Binary x own = Unit {0}
-SameWords kind.String x own = own.dictionary ≡ has_dictionary x
-
-abbrev pub SameDictionary : Shape → Streams → Origin → Type 0
-SameDictionary (scalar k o) x own = SameWords k x own
-SameDictionary (list_of s o) x own = Unit {0}
-SameDictionary (struct_of fs o) x own = Unit {0}
+-- what the reader of a column is of, at the start of its streams
+abbrev pub column_origin : Shape → Streams → ℕ → Origin
+column_origin s x column = record { marks = x.stream 0; source = reading s x column }
 
 abbrev pub IsOf : Shape → (ℕ → Streams) → ℕ → Origin → Type 0
-IsOf s columns n own = (own.column ≡ n) × SameDictionary s (columns n) own
+IsOf s columns n own = own ≡ column_origin s (columns n) n
 
 abbrev pub AreFrom : (ℕ → List Origin → Type 0) → Shape → (ℕ → Streams) → ℕ → List Origin → Type 0
 AreFrom found s columns n [] = ⊥

@@ -11,6 +11,7 @@ pub mod Stripe
 pub mod Located
 pub mod Starting
 pub mod Opening
+pub mod RunFaults
 pub mod Faults
 pub mod Opened
 pub mod WordList

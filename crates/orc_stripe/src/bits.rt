@@ -1,7 +1,8 @@
-ghost use Rattle.std.specs.Prelude.{◌≡◌, ◌<◌, ◌/◌, ◌%◌, ◌^◌, [], ◌∷◌, IfOk, OnErr};
+ghost use Rattle.std.specs.Prelude.{◌≡◌, ◌<◌, ◌/◌, ◌%◌, ◌^◌, [], ◌∷◌, IfOk, IfErr, OnErr};
 ghost use Rattle.orc_rle.specs.BitStream.{digit};
 ghost use Rattle.orc_stripe.specs.Fronts.{Leaves, Lacks};
 ghost use Rattle.orc_stripe.specs.Bits.{BitsLeft};
+ghost use Rattle.orc_stripe.specs.RunFaults.{ByteRunsFail};
 
 use crate::bytes::Bytes;
 use orc_rle::RunFault;
@@ -27,6 +28,8 @@ impl<'a> Bits<'a> {
     pub(crate) fn next(&mut self) -> Result<bool, RunFault>
         ensures found { IfOk result (λ b. Leaves (BitsLeft self.old) (BitsLeft self.new) (b ∷ [])) }
         ensures none { OnErr result (Lacks (BitsLeft self.old) 1) }
+        ensures same { self.new.bytes.bytes.now ≡ self.old.bytes.bytes.now }
+        ensures fault { IfErr result (ByteRunsFail self.old.bytes.bytes.now) }
     {
         if self.left == 0 {
             match self.bytes.next() {

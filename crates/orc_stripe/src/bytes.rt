@@ -2,6 +2,7 @@ ghost use Rattle.std.specs.Prelude.{◌≡◌, ◌≢◌, [], ◌∷◌, ◌<◌
 ghost use Rattle.orc_rle.specs.declared.fault.RunFault.TheVariants.{OutOfMemory};
 ghost use Rattle.orc_stripe.specs.Fronts.{Leaves, Lacks};
 ghost use Rattle.orc_stripe.specs.Bytes.{BytesLeft};
+ghost use Rattle.orc_stripe.specs.RunFaults.{ByteRunsFail};
 
 use crate::fault::moved;
 use orc_rle::{ByteRuns, RunFault, RunU8};
@@ -24,6 +25,8 @@ impl<'a> Bytes<'a> {
         ensures found { OnOk result (Leaves (BytesLeft self.old) (BytesLeft self.new) []) }
         ensures some { OnOk result (self.new.used < length self.new.run.values) }
         ensures none { OnErr result (Lacks (BytesLeft self.old) 1) }
+        ensures same { self.new.bytes.now ≡ self.old.bytes.now }
+        ensures fault { IfErr result (ByteRunsFail self.old.bytes.now) }
     {
         while self.used >= self.run.values().len() {
             if self.at >= self.bytes.len() {
@@ -46,6 +49,8 @@ impl<'a> Bytes<'a> {
     pub(crate) fn next(&mut self) -> Result<u8, RunFault>
         ensures found { IfOk result (λ byte. Leaves (BytesLeft self.old) (BytesLeft self.new) (byte ∷ [])) }
         ensures none { OnErr result (Lacks (BytesLeft self.old) 1) }
+        ensures same { self.new.bytes.now ≡ self.old.bytes.now }
+        ensures fault { IfErr result (ByteRunsFail self.old.bytes.now) }
     {
         match self.fill() {
             Ok(()) => {

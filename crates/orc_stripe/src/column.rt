@@ -11,10 +11,11 @@ ghost use Rattle.orc_stripe.specs.Columns.{MarksLeft, ScalarLeft, ListsLeft, IsB
 ghost use Rattle.orc_stripe.specs.Bytes.{BytesLeft};
 ghost use Rattle.orc_stripe.specs.Octets.{OctetsLeft};
 ghost use Rattle.orc_stripe.specs.Spellings.{Standing, Grouped};
-ghost use Rattle.std.specs.Prelude.{is_some, false, ◌⊎◌};
+ghost use Rattle.std.specs.Prelude.{false, ◌⊎◌};
 ghost use Rattle.orc_stripe.specs.declared.fault.StreamKind.TheVariants as stream;
 ghost use Rattle.orc_stripe.specs.declared.fault.StripeFault.TheVariants as fault;
-ghost use Rattle.orc_stripe.specs.Faults.{RunsFail, MarksFail, DataFail, IntsFail, GroupsFail, WordsFail, TextsFail, ScalarFails, ListsFail, source_origin};
+ghost use Rattle.orc_stripe.specs.RunFaults.{integers_of};
+ghost use Rattle.orc_stripe.specs.Faults.{MarksFail, DataFail, NumbersFail, IntsFail, GroupsFail, WordsFail, TextsFail, ScalarFails, ListsFail, marks_bytes, source_origin, origin};
 
 use crate::bits::Bits;
 use crate::bytes::Bytes;
@@ -59,7 +60,8 @@ pub(crate) struct ColumnReader<'a> {
 pub(crate) fn next_mark(column: usize, present: &mut Option<Bits<'_>>) -> Result<bool, StripeFault>
     ensures found { IfOk result (λ mark. Leaves (MarksLeft present.old) (MarksLeft present.new) (mark ∷ [])) }
     ensures none { OnErr result (Lacks (MarksLeft present.old) 1) }
-    ensures fault { IfErr result (λ cause. cause ≢ fault.OutOfMemory → MarksFail column cause) }
+    ensures same { marks_bytes present.new ≡ marks_bytes present.old }
+    ensures fault { IfErr result (λ cause. cause ≢ fault.OutOfMemory → MarksFail (marks_bytes present.old) column cause) }
 {
     match present {
         None => Ok(true),
@@ -75,7 +77,8 @@ pub(crate) fn next_present(reader: &mut ColumnReader<'_>) -> Result<bool, Stripe
     ensures found { IfOk result (λ mark. Leaves (MarksLeft reader.old.present) (MarksLeft reader.new.present) (mark ∷ [])) }
     ensures source { OnOk result (reader.new.source ≡ reader.old.source) }
     ensures none { OnErr result (Lacks (MarksLeft reader.old.present) 1) }
-    ensures fault { IfErr result (λ cause. cause ≢ fault.OutOfMemory → MarksFail reader.old.source.column cause) }
+    ensures same { OnOk result (origin reader.new ≡ origin reader.old) }
+    ensures fault { IfErr result (λ cause. cause ≢ fault.OutOfMemory → MarksFail (marks_bytes reader.old.present) reader.old.source.column cause) }
 {
     match next_mark(reader.source.column, &mut reader.present) {
         Ok(mark) => Ok(mark),
@@ -91,7 +94,8 @@ pub(crate) fn next_number(
 ) -> Result<i64, StripeFault>
     ensures found { IfOk result (λ n. Leaves (NumbersLeft numbers.old) (NumbersLeft numbers.new) (n ∷ [])) }
     ensures none { OnErr result (Lacks (NumbersLeft numbers.old) 1) }
-    ensures fault { IfErr result (λ cause. cause ≢ fault.OutOfMemory → RunsFail kind column cause) }
+    ensures same { integers_of numbers.new ≡ integers_of numbers.old }
+    ensures fault { IfErr result (λ cause. cause ≢ fault.OutOfMemory → NumbersFail kind (integers_of numbers.old) column cause) }
 {
     match numbers.next() {
         Ok(number) => Ok(number),
@@ -108,7 +112,8 @@ pub(crate) fn next_group<'a>(
 ) -> Result<&'a [u8], StripeFault>
     ensures found { IfOk result (λ bytes. Leaves (Grouped (NumbersLeft numbers.old) (OctetsLeft octets.old)) (Grouped (NumbersLeft numbers.new) (OctetsLeft octets.new)) (bytes.now ∷ [])) }
     ensures none { OnErr result (Lacks (Grouped (NumbersLeft numbers.old) (OctetsLeft octets.old)) 1) }
-    ensures fault { IfErr result (λ cause. cause ≢ fault.OutOfMemory → GroupsFail kind column cause) }
+    ensures same { integers_of numbers.new ≡ integers_of numbers.old }
+    ensures fault { IfErr result (λ cause. cause ≢ fault.OutOfMemory → GroupsFail kind (integers_of numbers.old) column cause) }
 {
     match next_number(column, StreamKind::Length, numbers) {
         Ok(number) => {
@@ -139,7 +144,8 @@ fn number_of(byte: u8) -> i64
 fn next_byte<'a>(column: usize, bytes: &mut Bytes<'a>) -> Result<Value<'a>, StripeFault>
     ensures found { IfOk result (λ v. Leaves (Standing IsByte (BytesLeft bytes.old)) (Standing IsByte (BytesLeft bytes.new)) (cell_of_value v ∷ [])) }
     ensures none { OnErr result (Lacks (Standing IsByte (BytesLeft bytes.old)) 1) }
-    ensures fault { IfErr result (λ cause. cause ≢ fault.OutOfMemory → DataFail column cause) }
+    ensures same { bytes.new.bytes.now ≡ bytes.old.bytes.now }
+    ensures fault { IfErr result (λ cause. cause ≢ fault.OutOfMemory → DataFail bytes.old.bytes.now column cause) }
 {
     match bytes.next() {
         Ok(byte) => Ok(Value::Int(number_of(byte))),
@@ -155,7 +161,8 @@ fn next_int<'a>(
 ) -> Result<Value<'a>, StripeFault>
     ensures found { IfOk result (λ v. Leaves (Standing (IsInt kind) (NumbersLeft numbers.old)) (Standing (IsInt kind) (NumbersLeft numbers.new)) (cell_of_value v ∷ [])) }
     ensures none { OnErr result (Lacks (Standing (IsInt kind) (NumbersLeft numbers.old)) 1) }
-    ensures fault { IfErr result (λ cause. cause ≢ fault.OutOfMemory → IntsFail column cause) }
+    ensures same { integers_of numbers.new ≡ integers_of numbers.old }
+    ensures fault { IfErr result (λ cause. cause ≢ fault.OutOfMemory → IntsFail (integers_of numbers.old) column cause) }
 {
     match next_number(column, StreamKind::Data, numbers) {
         Ok(number) => {
@@ -172,7 +179,8 @@ fn next_int<'a>(
 fn next_date<'a>(column: usize, numbers: &mut Numbers<'a>) -> Result<Value<'a>, StripeFault>
     ensures found { IfOk result (λ v. Leaves (Standing IsDate (NumbersLeft numbers.old)) (Standing IsDate (NumbersLeft numbers.new)) (cell_of_value v ∷ [])) }
     ensures none { OnErr result (Lacks (Standing IsDate (NumbersLeft numbers.old)) 1) }
-    ensures fault { IfErr result (λ cause. cause ≢ fault.OutOfMemory → IntsFail column cause) }
+    ensures same { integers_of numbers.new ≡ integers_of numbers.old }
+    ensures fault { IfErr result (λ cause. cause ≢ fault.OutOfMemory → IntsFail (integers_of numbers.old) column cause) }
 {
     match next_number(column, StreamKind::Data, numbers) {
         Ok(number) => match i32::try_from(number) {
@@ -187,7 +195,8 @@ fn next_date<'a>(column: usize, numbers: &mut Numbers<'a>) -> Result<Value<'a>, 
 fn next_bool<'a>(column: usize, bits: &mut Bits<'a>) -> Result<Value<'a>, StripeFault>
     ensures found { IfOk result (λ v. Leaves (Standing IsBool (BitsLeft bits.old)) (Standing IsBool (BitsLeft bits.new)) (cell_of_value v ∷ [])) }
     ensures none { OnErr result (Lacks (Standing IsBool (BitsLeft bits.old)) 1) }
-    ensures fault { IfErr result (λ cause. cause ≢ fault.OutOfMemory → DataFail column cause) }
+    ensures same { bits.new.bytes.bytes.now ≡ bits.old.bytes.bytes.now }
+    ensures fault { IfErr result (λ cause. cause ≢ fault.OutOfMemory → DataFail bits.old.bytes.bytes.now column cause) }
 {
     match bits.next() {
         Ok(bit) => Ok(Value::Bool(bit)),
@@ -203,7 +212,8 @@ fn next_text<'a>(
 ) -> Result<Value<'a>, StripeFault>
     ensures found { IfOk result (λ v. Leaves (Standing IsText (Grouped (NumbersLeft numbers.old) (OctetsLeft octets.old))) (Standing IsText (Grouped (NumbersLeft numbers.new) (OctetsLeft octets.new))) (cell_of_value v ∷ [])) }
     ensures none { OnErr result (Lacks (Standing IsText (Grouped (NumbersLeft numbers.old) (OctetsLeft octets.old))) 1) }
-    ensures fault { IfErr result (λ cause. cause ≢ fault.OutOfMemory → TextsFail false column cause) }
+    ensures same { integers_of numbers.new ≡ integers_of numbers.old }
+    ensures fault { IfErr result (λ cause. cause ≢ fault.OutOfMemory → TextsFail false (integers_of numbers.old) column cause) }
 {
     match next_group(column, StreamKind::Data, numbers, octets) {
         Ok(bytes) => match std::str::from_utf8(bytes) {
@@ -229,7 +239,8 @@ fn next_binary<'a>(
 ) -> Result<Value<'a>, StripeFault>
     ensures found { IfOk result (λ v. Leaves (Standing IsBinary (Grouped (NumbersLeft numbers.old) (OctetsLeft octets.old))) (Standing IsBinary (Grouped (NumbersLeft numbers.new) (OctetsLeft octets.new))) (cell_of_value v ∷ [])) }
     ensures none { OnErr result (Lacks (Standing IsBinary (Grouped (NumbersLeft numbers.old) (OctetsLeft octets.old))) 1) }
-    ensures fault { IfErr result (λ cause. cause ≢ fault.OutOfMemory → GroupsFail stream.Data column cause) }
+    ensures same { integers_of numbers.new ≡ integers_of numbers.old }
+    ensures fault { IfErr result (λ cause. cause ≢ fault.OutOfMemory → GroupsFail stream.Data (integers_of numbers.old) column cause) }
 {
     match next_group(column, StreamKind::Data, numbers, octets) {
         Ok(bytes) => Ok(value_of(bytes)),
@@ -263,7 +274,8 @@ fn next_word<'a>(
 ) -> Result<Value<'a>, StripeFault>
     ensures found { IfOk result (λ v. Leaves (Standing (IsWord (map entry_bytes entries.now)) (NumbersLeft numbers.old)) (Standing (IsWord (map entry_bytes entries.now)) (NumbersLeft numbers.new)) (cell_of_value v ∷ [])) }
     ensures none { OnErr result (Lacks (Standing (IsWord (map entry_bytes entries.now)) (NumbersLeft numbers.old)) 1) }
-    ensures fault { IfErr result (λ cause. cause ≢ fault.OutOfMemory → WordsFail column cause) }
+    ensures same { integers_of numbers.new ≡ integers_of numbers.old }
+    ensures fault { IfErr result (λ cause. cause ≢ fault.OutOfMemory → WordsFail (integers_of numbers.old) column cause) }
 {
     match next_number(column, StreamKind::Data, numbers) {
         Ok(number) => match word(column, entries, number) {
@@ -280,7 +292,7 @@ impl<'a> Source<'a> {
         ensures found { IfOk result (λ v. Leaves (ScalarLeft kind self.old) (ScalarLeft kind self.new) (cell_of_value v ∷ [])) }
         ensures none { OnErr result (Lacks (ScalarLeft kind self.old) 1) }
         ensures same { source_origin self.new ≡ source_origin self.old }
-        ensures fault { IfErr result (λ cause. cause ≢ fault.OutOfMemory → ScalarFails kind (is_some self.old.entries) self.old.column cause) }
+        ensures fault { IfErr result (λ cause. cause ≢ fault.OutOfMemory → ScalarFails kind (source_origin self.old) cause) }
     {
         match kind {
             Scalar::Boolean => next_bool(self.column, &mut self.bits),
@@ -304,7 +316,7 @@ pub(crate) fn next_size(source: &mut Source<'_>) -> Result<u64, StripeFault>
     ensures room { IfOk result (λ size. (size ≤ source.old.room) × (source.new.room ≡ source.old.room - size)) }
     ensures none { OnErr result ((s : Shape) (below : List Reader) → Lacks (ListsLeft s source.old below) 1) }
     ensures same { source_origin source.new ≡ source_origin source.old }
-    ensures fault { IfErr result (λ cause. cause ≢ fault.OutOfMemory → ListsFail source.old.column cause) }
+    ensures fault { IfErr result (λ cause. cause ≢ fault.OutOfMemory → ListsFail (integers_of source.old.numbers) source.old.column cause) }
 {
     match next_number(source.column, StreamKind::Length, &mut source.numbers) {
         Ok(number) => {

@@ -27,7 +27,7 @@ pub(crate) fn entries_of<'a>(
 ) -> Result<Vec<Entry<'a>>, StripeFault>
     ensures found { IfOk result (λ entries. (length entries.items ≡ size) × Grouped (AreNumbers version Unsigned lengths.now) (Is bytes.now) (map entry_bytes entries.items)) }
     ensures none { IfErr result (λ fault. fault ≢ OutOfMemory → (entries : List (List ℕ)) → length entries ≡ size → Grouped (AreNumbers version Unsigned lengths.now) (Is bytes.now) entries → ⊥) }
-    ensures fault { IfErr result (λ cause. cause ≢ OutOfMemory → DictionaryFails column cause) }
+    ensures fault { IfErr result (λ cause. cause ≢ OutOfMemory → DictionaryFails (record { version = version; sign = Unsigned; bytes = lengths.now }) column cause) }
 {
     let mut numbers = numbers_of(version, Sign::Unsigned, lengths);
     let mut octets = Octets { rest: bytes };

@@ -7,11 +7,12 @@ ghost use Rattle.orc_stripe.specs.Bits.{BitsLeft};
 ghost use Rattle.orc_stripe.specs.Bytes.{BytesLeft};
 ghost use Rattle.orc_stripe.specs.Octets.{OctetsLeft};
 ghost use Rattle.orc_stripe.specs.Columns.{MarksLeft, ScalarLeft, CellsLeft, OwnLeft, FieldsLeft};
-ghost use Rattle.std.specs.Prelude.{map, is_some, IfErr};
+ghost use Rattle.std.specs.Prelude.{map, IfErr};
 ghost use Rattle.orc_rle.specs.declared.fault.RunFault.TheVariants as run;
 ghost use Rattle.orc_stripe.specs.declared.fault.StripeFault.TheVariants as fault;
 ghost use Rattle.orc_stripe.specs.declared.fault.StreamKind.TheVariants as stream;
-ghost use Rattle.orc_stripe.specs.Faults.{GroupsFail, ScalarFails, ReaderFault, OwnFault, FieldsFault, origin, last_start};
+ghost use Rattle.orc_stripe.specs.Faults.{GroupsFail, ScalarFails, ReaderFault, OwnFault, FieldsFault, origin, source_origin, last_start};
+ghost use Rattle.orc_stripe.specs.RunFaults.{integers_of};
 
 use crate::bits::Bits;
 use crate::bytes::Bytes;
@@ -112,7 +113,7 @@ fn scalar_end(source: &Source<'_>, kind: Scalar) -> bool
 
 /// The fault of bytes that are left over, or of their lengths.
 fn group_left(source: &Source<'_>) -> StripeFault
-    ensures { GroupsFail stream.Data source.now.column result }
+    ensures { GroupsFail stream.Data (integers_of source.now.numbers) source.now.column result }
 {
     if numbers_end(&source.numbers) {
         return StripeFault::LengthSum(source.column, StreamKind::Data);
@@ -122,7 +123,7 @@ fn group_left(source: &Source<'_>) -> StripeFault
 
 /// The fault of values that are left over, of a column of a kind that contains no other.
 fn scalar_left(source: &Source<'_>, kind: Scalar) -> StripeFault
-    ensures { ScalarFails kind (is_some source.now.entries) source.now.column result }
+    ensures { ScalarFails kind (source_origin source.now) result }
 {
     match kind {
         Scalar::Boolean => too_many(source.column, StreamKind::Data, source.bits.bytes.start),

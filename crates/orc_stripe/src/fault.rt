@@ -1,6 +1,5 @@
 ghost use Rattle.std.specs.Prelude.{◌≡◌, ◌≢◌, ◌⊎◌};
 ghost use Rattle.orc_rle.specs.Stream.{at_place};
-ghost use Rattle.orc_stripe.specs.Faults.{RunsFail};
 ghost use Rattle.orc_stripe.specs.declared.fault.StripeFault.TheVariants as fault;
 ghost use Rattle.orc_wire.specs.declared.fault.WireFault.TheVariants as wire;
 ghost use Rattle.orc_rle.specs.declared.fault.RunFault.TheVariants as run;
@@ -62,7 +61,8 @@ pub enum StripeFault {
 /// The fault of a stream's runs.
 pub(crate) fn run_fault(column: usize, kind: StreamKind, cause: RunFault) -> StripeFault
     ensures same { cause ≢ run.OutOfMemory → result ≡ fault.Run column kind cause }
-    ensures fails { result ≢ fault.OutOfMemory → RunsFail kind column result }
+    ensures memory { cause ≡ run.OutOfMemory → result ≡ fault.OutOfMemory }
+    ensures fails { result ≢ fault.OutOfMemory → (result ≡ fault.Run column kind cause) × (cause ≢ run.OutOfMemory) }
 {
     match cause {
         RunFault::OutOfMemory => StripeFault::OutOfMemory,

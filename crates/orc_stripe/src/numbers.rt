@@ -2,6 +2,7 @@ ghost use Rattle.std.specs.Prelude.{◌≡◌, ◌≢◌, [], ◌∷◌, IfOk, I
 ghost use Rattle.orc_rle.specs.declared.fault.RunFault.TheVariants.{OutOfMemory};
 ghost use Rattle.orc_stripe.specs.Fronts.{Leaves, Lacks};
 ghost use Rattle.orc_stripe.specs.Numbers.{NumbersLeft};
+ghost use Rattle.orc_stripe.specs.RunFaults.{IntegersFail, integers_of};
 ghost use Rattle.orc_stripe.specs.Starting.{NumbersStart};
 
 use crate::fault::moved;
@@ -43,6 +44,8 @@ impl<'a> Numbers<'a> {
         ensures found { OnOk result (Leaves (NumbersLeft self.old) (NumbersLeft self.new) []) }
         ensures some { OnOk result (self.new.used < length self.new.run.values) }
         ensures none { OnErr result (Lacks (NumbersLeft self.old) 1) }
+        ensures same { integers_of self.new ≡ integers_of self.old }
+        ensures fault { IfErr result (IntegersFail (integers_of self.old)) }
         ensures no_memory { IfErr result (λ fault. fault ≢ OutOfMemory) }
     {
         while self.used >= self.run.values().len() {
@@ -66,6 +69,8 @@ impl<'a> Numbers<'a> {
     pub(crate) fn next(&mut self) -> Result<i64, RunFault>
         ensures found { IfOk result (λ n. Leaves (NumbersLeft self.old) (NumbersLeft self.new) (n ∷ [])) }
         ensures none { OnErr result (Lacks (NumbersLeft self.old) 1) }
+        ensures same { integers_of self.new ≡ integers_of self.old }
+        ensures fault { IfErr result (IntegersFail (integers_of self.old)) }
         ensures no_memory { IfErr result (λ fault. fault ≢ OutOfMemory) }
     {
         match self.fill() {

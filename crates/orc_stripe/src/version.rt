@@ -1,6 +1,7 @@
 ghost use Rattle.std.specs.Prelude.{◌≡◌, ◌≢◌, ℕ, ℤ, List, ◌++◌, ◌<◌, ◌≤◌, length, take, IfOk, IfErr};
 ghost use Rattle.orc_rle.specs.declared.fault.RunFault.TheVariants.{OutOfMemory};
 ghost use Rattle.orc_stripe.specs.Numbers.{is_run};
+ghost use Rattle.orc_stripe.specs.RunFaults.{no_run};
 ghost use Rattle.orc_stripe.specs.Stripe.{version_at};
 
 use orc_rle::{Run, RunCodec, RunFault, Sign, V1, V2};
@@ -33,6 +34,7 @@ pub(crate) fn next_run(
     ensures found { IfOk result (λ len. is_run version sign (take len bytes.now) run.new.values) }
     ensures within { IfOk result (λ len. (0 < len) × (len ≤ length bytes.now)) }
     ensures none { IfErr result (λ _. (front rest : List ℕ) (v : List ℤ) → is_run version sign front v → bytes.now ≡ front ++ rest → ⊥) }
+    ensures fault { IfErr result (no_run version sign bytes.now) }
     ensures no_memory { IfErr result (λ fault. fault ≢ OutOfMemory) }
 {
     match version {

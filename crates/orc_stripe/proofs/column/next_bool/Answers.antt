@@ -10,3 +10,6 @@ returns-in-Ok-clause-found c = one_stands IsBool one_bool (BitsLeft c.args.bits.
 
 pub returns-in-Err-clause-none : goal.returns-in-Err-clause-none
 returns-in-Err-clause-none c = standing_lacks IsBool (BitsLeft c.args.bits.now) 1 c.in-Err.ensures.none
+
+pub returns-in-Err-clause-fault : goal.returns-in-Err-clause-fault
+returns-in-Err-clause-fault c = λ memory. let k = c.run_fault.ensures.fails memory in (c.in-Err.fault, k.0, k.1, c.in-Err.ensures.fault)

@@ -14,7 +14,7 @@ pub put_tree-returns-in-Ok-put_tree-clause-found : goal.put_tree-returns-in-Ok-p
 put_tree-returns-in-Ok-put_tree-clause-found t c =
     let n : c.len.result ≡ length c.args.readers.now.items = search rules in
     let h = subst (λ k. OwnStart (shape c.args.tree.now) (columns_of c.args.footer.now c.args.located.now.bytes.now k) c.in-Ok.own) n c.in-Ok.ensures.found in
-    let i : IsOf (shape c.args.tree.now) (columns_of c.args.footer.now c.args.located.now.bytes.now) (length c.args.readers.now.items) (origin c.in-Ok.own) = own_of (shape c.args.tree.now) (columns_of c.args.footer.now c.args.located.now.bytes.now) c.len.result (length c.args.readers.now.items) (origin c.in-Ok.own) n c.in-Ok.ensures.number c.in-Ok.ensures.words in
+    let i : IsOf (shape c.args.tree.now) (columns_of c.args.footer.now c.args.located.now.bytes.now) (length c.args.readers.now.items) (origin c.in-Ok.own) = own_of (shape c.args.tree.now) (columns_of c.args.footer.now c.args.located.now.bytes.now) c.len.result (length c.args.readers.now.items) (origin c.in-Ok.own) n c.in-Ok.ensures.origin in
     let f = c.in-Ok-put_tree.ensures.found in
     put_list c.args.footer.now c.args.located.now.bytes.now (shape c.args.tree.now) (shape c.in-List.element.value) c.in-List.field-1.items c.args.readers.now.items c.push.new.self.items c.put_tree.new.readers.items c.in-Ok.own
     (ap shape c.in-List.is ∙ shape-List c.in-List.element c.in-List.field-1) c.in_ok-push-in-Ok.ensures.items h i (rw c.deref.ensures at f)
@@ -29,7 +29,7 @@ pub put_tree-returns-in-Ok-put_fields-clause-found : goal.put_tree-returns-in-Ok
 put_tree-returns-in-Ok-put_fields-clause-found t c =
     let n : c.len.result ≡ length c.args.readers.now.items = search rules in
     let h = subst (λ k. OwnStart (shape c.args.tree.now) (columns_of c.args.footer.now c.args.located.now.bytes.now k) c.in-Ok.own) n c.in-Ok.ensures.found in
-    let i : IsOf (shape c.args.tree.now) (columns_of c.args.footer.now c.args.located.now.bytes.now) (length c.args.readers.now.items) (origin c.in-Ok.own) = own_of (shape c.args.tree.now) (columns_of c.args.footer.now c.args.located.now.bytes.now) c.len.result (length c.args.readers.now.items) (origin c.in-Ok.own) n c.in-Ok.ensures.number c.in-Ok.ensures.words in
+    let i : IsOf (shape c.args.tree.now) (columns_of c.args.footer.now c.args.located.now.bytes.now) (length c.args.readers.now.items) (origin c.in-Ok.own) = own_of (shape c.args.tree.now) (columns_of c.args.footer.now c.args.located.now.bytes.now) c.len.result (length c.args.readers.now.items) (origin c.in-Ok.own) n c.in-Ok.ensures.origin in
     let f = c.in-Ok-put_fields.ensures.found in
     put_struct c.args.footer.now c.args.located.now.bytes.now (shape c.args.tree.now) (fields_view c.in-Struct.fields.items) c.in-Struct.field-1.items c.args.readers.now.items c.push.new.self.items c.put_fields.new.readers.items c.in-Ok.own
     (ap shape c.in-Struct.is ∙ shape-Struct c.in-Struct.fields c.in-Struct.field-1) c.in_ok-push-in-Ok.ensures.items h i (rw c.deref-in-Struct.ensures.value at f)

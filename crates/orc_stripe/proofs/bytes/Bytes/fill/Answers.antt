@@ -1,19 +1,21 @@
-use Rattle.std.proofs.Common.{◌≤◌, [], ◌∙◌, ap, length, arith, drop}
+use Rattle.orc_rle.specs.declared.fault.RunFault.TheVariants.{TooFew}
+use Rattle.std.proofs.Common.{inl, inr, refl, subst, ◌≤◌, [], ◌∙◌, ap, length, arith, drop}
 use Rattle.orc_rle.specs.ByteRun.{IsByteRun}
 use Rattle.orc_stripe.specs.Bytes.{BytesLeft}
+use Rattle.orc_stripe.specs.RunFaults.{ByteRunsFail}
 use Rattle.orc_stripe.proofs.Fronts.{nothing, one_after_other, lacks_after}
 use Rattle.orc_stripe.proofs.RunsLemmas.{at_end, at_no_run, next_read}
 use Rattle.orc_stripe.proofs.NumbersLemmas.{byte_laws}
 use Rattle.orc_stripe.proofs.bytes.Bytes.fill.Goals as goal
 
 pub loop-self-init : goal.loop-self-init
-loop-self-init c = nothing (BytesLeft c.args.self.now)
+loop-self-init c = (nothing (BytesLeft c.args.self.now), refl)
 
 pub returns-then-self-clause-none : goal.returns-then-self-clause-none
 returns-then-self-clause-none c =
     let r = c.loop-self.self in
     let used : length r.run.values ≤ r.used = omega (arith, c.loop-self-test.true, ap length c.values.ensures.values) in
-    lacks_after (BytesLeft c.args.self.now) (BytesLeft r) [] 1 c.loop-self.invariant (at_end IsByteRun byte_laws r.run.values r.used r.bytes.now r.at used c.if-self.true)
+    lacks_after (BytesLeft c.args.self.now) (BytesLeft r) [] 1 c.loop-self.invariant.0 (at_end IsByteRun byte_laws r.run.values r.used r.bytes.now r.at used c.if-self.true)
 
 pub loop-self-smaller : goal.loop-self-smaller
 loop-self-smaller c = omega (arith, c.in-Ok.ensures.within, c.in-Ok.ensures.some, c.split_at.ensures.back_len, c.if-self.false)
@@ -22,16 +24,34 @@ pub loop-self-preserved : goal.loop-self-preserved
 loop-self-preserved c =
     let r = c.loop-self.self in
     let used : length r.run.values ≤ r.used = omega (arith, c.loop-self-test.true, ap length c.values.ensures.values) in
-    let found = rw c.split_at.ensures.back at c.in-Ok.ensures.found in
-    one_after_other (BytesLeft c.args.self.now) (BytesLeft r) _ [] [] c.loop-self.invariant
-    (next_read IsByteRun byte_laws r.run.values r.used r.bytes.now r.at c.in-Ok.len c.next_run.new.run.values used found)
+    let found = rw c.split_at.ensures.back at c.in-Ok.ensures.found in (
+      one_after_other (BytesLeft c.args.self.now) (BytesLeft r) _ [] [] c.loop-self.invariant.0
+          (next_read IsByteRun byte_laws r.run.values r.used r.bytes.now r.at c.in-Ok.len c.next_run.new.run.values used found),
+      c.loop-self.invariant.1,
+    )
 
 pub returns-in-Err-clause-none : goal.returns-in-Err-clause-none
 returns-in-Err-clause-none c =
     let r = c.loop-self.self in
     let used : length r.run.values ≤ r.used = omega (arith, c.loop-self-test.true, ap length c.values.ensures.values) in
-    lacks_after (BytesLeft c.args.self.now) (BytesLeft r) [] 1 c.loop-self.invariant
+    lacks_after (BytesLeft c.args.self.now) (BytesLeft r) [] 1 c.loop-self.invariant.0
     (at_no_run IsByteRun r.run.values r.used (drop r.at r.bytes.now) used (λ front left v is parts. let k = (c.in-Err.ensures.only front left v is (c.split_at.ensures.back ∙ parts)).0 in absurd cc))
 
 pub returns-clause-found : goal.returns-clause-found
-returns-clause-found c = c.loop-self.invariant
+returns-clause-found c = c.loop-self.invariant.0
+
+pub returns-clause-same : goal.returns-clause-same
+returns-clause-same c = c.loop-self.invariant.1
+
+pub returns-then-self-clause-same : goal.returns-then-self-clause-same
+returns-then-self-clause-same c = c.loop-self.invariant.1
+
+pub returns-in-Err-clause-same : goal.returns-in-Err-clause-same
+returns-in-Err-clause-same c = c.loop-self.invariant.1
+
+pub returns-then-self-clause-fault : goal.returns-then-self-clause-fault
+returns-then-self-clause-fault c = subst (λ b. ByteRunsFail b (TooFew (length c.loop-self.self.bytes.now))) c.loop-self.invariant.1 (inr (inl refl))
+
+pub returns-in-Err-clause-fault : goal.returns-in-Err-clause-fault
+returns-in-Err-clause-fault c =
+    subst (λ b. ByteRunsFail b c.moved.result) c.loop-self.invariant.1 (inl (c.loop-self.self.at, c.if-self.false, (c.in-Err.fault, rw c.split_at.ensures.back at c.in-Err.ensures.fault, c.moved.ensures.same)))

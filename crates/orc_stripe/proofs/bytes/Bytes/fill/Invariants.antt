@@ -1,10 +1,10 @@
-use Rattle.std.proofs.Common.{[], length, ◌-◌}
+use Rattle.std.proofs.Common.{◌≡◌, [], length, ◌-◌}
 use Rattle.orc_stripe.specs.Fronts.{Leaves}
 use Rattle.orc_stripe.specs.Bytes.{BytesLeft}
 use Rattle.orc_stripe.proofs.bytes.Bytes.fill.Given as goal
 
 abbrev pub invariant-loop-self : goal.invariant-loop-self
-invariant-loop-self l = Leaves (BytesLeft l.fn.self) (BytesLeft l.self) []
+invariant-loop-self l = Leaves (BytesLeft l.fn.self) (BytesLeft l.self) [] × (l.self.bytes.now ≡ l.fn.self.bytes.now)
 
 abbrev pub decreases-loop-self : goal.decreases-loop-self
 decreases-loop-self l = length l.self.bytes.now - l.self.at

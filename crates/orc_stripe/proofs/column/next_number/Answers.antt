@@ -1,0 +1,4 @@
+use Rattle.orc_stripe.proofs.column.next_number.Goals as goal
+
+pub returns-in-Err-clause-fault : goal.returns-in-Err-clause-fault
+returns-in-Err-clause-fault c = λ memory. let k = c.run_fault.ensures.fails memory in (c.in-Err.fault, k.0, k.1, c.in-Err.ensures.fault)
