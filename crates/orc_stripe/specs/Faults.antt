@@ -1,5 +1,5 @@
 -- Which fault of a column can be answered, by its kind and encoding (ORC specification, "Column Encodings").
-use Rattle.std.specs.Prelude.{◌≡◌, ◌≢◌, ℕ, suc, ◌+◌, ◌<◌, ◌≤◌, ◌^◌, Bool, true, false, List, [], ◌∷◌, take, drop, Option, Some, None, is_some, ◌⊎◌}
+use Rattle.std.specs.Prelude.{◌≡◌, ◌≢◌, ℕ, suc, ◌+◌, ◌<◌, ◌≤◌, ◌^◌, Bool, true, false, List, [], ◌∷◌, take, drop, length, nat_lt, nat_le, if◌then◌else◌, Option, Some, None, is_some, ◌⊎◌}
 use Rattle.orc_types.specs.Cells.{Cell}
 use Rattle.orc_types.specs.Shapes.{Shape, scalar, list_of, struct_of, Fields, no_field, field, width, shape_at}
 use Rattle.orc_types.specs.declared.kind.Scalar.{Scalar}
@@ -171,9 +171,16 @@ abbrev pub FaultDown : Shape → (ℕ → Streams) → ℕ → StripeFault → T
 FaultDown s columns n f = FaultFrom (FaultBelow s columns) s columns n f
 
 -- where the run of the marks begins that was read last
-abbrev pub last_start : Option Bits → ℕ
-last_start None = 0
-last_start (Some bits) = bits.bytes.start
+abbrev pub left_at : ℕ → ℕ → ℕ → ℕ → ℕ
+left_at used values start next = if nat_lt used values then start else next
+
+-- a byte whose digits are all held is of the last run
+abbrev pub bits_left_at : Bits → ℕ
+bits_left_at bits = if nat_le 8 bits.left then bits.bytes.start else left_at bits.bytes.used (length bits.bytes.run.values) bits.bytes.start bits.bytes.at
+
+abbrev pub marks_left_at : Option Bits → ℕ
+marks_left_at None = 0
+marks_left_at (Some bits) = bits_left_at bits
 
 -- the bytes of PRESENT, which is empty where nothing is null
 abbrev pub marks_bytes : Option Bits → List ℕ

@@ -24,7 +24,7 @@ BreaksOff fails bytes fault = (at : ℕ) × (at < length bytes) × FailsAt fails
 abbrev pub EndsEarly : List ℕ → RunFault → Type 0
 EndsEarly bytes fault = fault ≡ run.TooFew (length bytes)
 
--- there are values past those that are wanted
+-- values are left over; of the place nothing is said
 abbrev pub GoesOn : RunFault → Type 0
 GoesOn fault = (place : ℕ) × (fault ≡ run.TooMany place)
 

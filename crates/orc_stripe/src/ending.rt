@@ -11,7 +11,7 @@ ghost use Rattle.std.specs.Prelude.{map, IfErr};
 ghost use Rattle.orc_rle.specs.declared.fault.RunFault.TheVariants as run;
 ghost use Rattle.orc_stripe.specs.declared.fault.StripeFault.TheVariants as fault;
 ghost use Rattle.orc_stripe.specs.declared.fault.StreamKind.TheVariants as stream;
-ghost use Rattle.orc_stripe.specs.Faults.{GroupsFail, ScalarFails, ReaderFault, OwnFault, FieldsFault, origin, source_origin, last_start};
+ghost use Rattle.orc_stripe.specs.Faults.{GroupsFail, ScalarFails, ReaderFault, OwnFault, FieldsFault, origin, source_origin, left_at, bits_left_at, marks_left_at};
 ghost use Rattle.orc_stripe.specs.RunFaults.{integers_of};
 
 use crate::bits::Bits;
@@ -34,6 +34,37 @@ pub(crate) fn numbers_end(numbers: &Numbers<'_>) -> bool
         return false;
     }
     true
+}
+
+/// Where the run begins that has numbers left over: the last one that was read, or, where all of it is
+/// used, the one that comes next.
+pub(crate) fn numbers_left(numbers: &Numbers<'_>) -> usize
+    ensures { result ≡ left_at numbers.now.used (length numbers.now.run.values) numbers.now.start numbers.now.at }
+{
+    if numbers.used < numbers.run.values().len() {
+        return numbers.start;
+    }
+    numbers.at
+}
+
+/// Where the run of bytes begins that has some left over.
+fn bytes_left(bytes: &Bytes<'_>) -> usize
+    ensures { result ≡ left_at bytes.now.used (length bytes.now.run.values) bytes.now.start bytes.now.at }
+{
+    if bytes.used < bytes.run.values().len() {
+        return bytes.start;
+    }
+    bytes.at
+}
+
+/// Where the run begins whose booleans are left over. A byte whose digits are all held is of the last run.
+fn bits_left(bits: &Bits<'_>) -> usize
+    ensures { result ≡ bits_left_at bits.now }
+{
+    if bits.left >= 8 {
+        return bits.bytes.start;
+    }
+    bytes_left(&bits.bytes)
 }
 
 /// Whether no byte of the runs is left.
@@ -118,7 +149,7 @@ fn group_left(source: &Source<'_>) -> StripeFault
     if numbers_end(&source.numbers) {
         return StripeFault::LengthSum(source.column, StreamKind::Data);
     }
-    too_many(source.column, StreamKind::Length, source.numbers.start)
+    too_many(source.column, StreamKind::Length, numbers_left(&source.numbers))
 }
 
 /// The fault of values that are left over, of a column of a kind that contains no other.
@@ -126,33 +157,33 @@ fn scalar_left(source: &Source<'_>, kind: Scalar) -> StripeFault
     ensures { ScalarFails kind (source_origin source.now) result }
 {
     match kind {
-        Scalar::Boolean => too_many(source.column, StreamKind::Data, source.bits.bytes.start),
-        Scalar::Byte => too_many(source.column, StreamKind::Data, source.bytes.start),
+        Scalar::Boolean => too_many(source.column, StreamKind::Data, bits_left(&source.bits)),
+        Scalar::Byte => too_many(source.column, StreamKind::Data, bytes_left(&source.bytes)),
         Scalar::Short | Scalar::Int | Scalar::Long | Scalar::Date => {
-            too_many(source.column, StreamKind::Data, source.numbers.start)
+            too_many(source.column, StreamKind::Data, numbers_left(&source.numbers))
         }
         Scalar::Binary => group_left(source),
         Scalar::String => match &source.entries {
             None => group_left(source),
-            Some(_) => too_many(source.column, StreamKind::Data, source.numbers.start),
+            Some(_) => too_many(source.column, StreamKind::Data, numbers_left(&source.numbers)),
         },
     }
 }
 
-/// The fault of a stream with values left over, whose last run that was read begins at the place.
+/// The fault of a stream with values left over, of the run that begins at the place.
 fn too_many(column: usize, kind: StreamKind, place: usize) -> StripeFault
     ensures { result ≡ fault.Run column kind (run.TooMany place) }
 {
     StripeFault::Run(column, kind, RunFault::TooMany(place))
 }
 
-/// Where the last run of the marks that was read begins.
-fn marks_start(present: &Option<Bits<'_>>) -> usize
-    ensures { result ≡ last_start present.now }
+/// Where the run begins whose marks are left over.
+fn marks_left(present: &Option<Bits<'_>>) -> usize
+    ensures { result ≡ marks_left_at present.now }
 {
     match present {
         None => 0,
-        Some(bits) => bits.bytes.start,
+        Some(bits) => bits_left(bits),
     }
 }
 
@@ -169,7 +200,7 @@ pub(crate) fn cells_end(tree: &Tree, readers: &[ColumnReader<'_>]) -> Result<(),
         return Err(too_many(
             own.source.column,
             StreamKind::Present,
-            marks_start(&own.present),
+            marks_left(&own.present),
         ));
     }
     match values_end(tree, readers) {
@@ -199,7 +230,7 @@ fn values_end(tree: &Tree, readers: &[ColumnReader<'_>]) -> Result<(), StripeFau
                 return Err(too_many(
                     own.source.column,
                     StreamKind::Length,
-                    own.source.numbers.start,
+                    numbers_left(&own.source.numbers),
                 ));
             }
             match cells_end(element, &readers[1..]) {
