@@ -1,32 +1,25 @@
+//! Files opened, refused, and written again.
+ghost use Rattle.std.specs.Prelude.{IfOk};
+ghost use Rattle.orc_file.specs.Images.{IsWithinLimits};
+
+mod first_faults;
+mod put_again;
+mod reads;
+mod seen_source;
+mod vectors;
+
 use crate::*;
 use orc_stats::{Body, Stat};
 use orc_stripe::{StreamKind, StripeFault};
 use orc_types::TypeFault;
 use std::alloc::Global;
 use std::process::Abort;
-
-/// A file without stripes: a struct with one number.
-const EMPTY: [u8; 59] = [
-    0x4f, 0x52, 0x43, 0x08, 0x03, 0x10, 0x03, 0x22, 0x08, 0x08, 0x0c, 0x12, 0x01, 0x01, 0x1a, 0x01,
-    0x6e, 0x22, 0x02, 0x08, 0x04, 0x30, 0x00, 0x3a, 0x04, 0x08, 0x00, 0x50, 0x00, 0x3a, 0x04, 0x08,
-    0x00, 0x50, 0x00, 0x40, 0x00, 0x48, 0x63, 0x08, 0x24, 0x10, 0x00, 0x22, 0x02, 0x00, 0x0b, 0x28,
-    0x00, 0x30, 0x06, 0x82, 0xf4, 0x03, 0x03, 0x4f, 0x52, 0x43, 0x13,
-];
-
-/// A file with one stripe of three sevens.
-const SEVENS: [u8; 120] = [
-    0x4f, 0x52, 0x43, 0x00, 0x00, 0x0e, 0x0a, 0x06, 0x08, 0x01, 0x10, 0x01, 0x18, 0x03, 0x12, 0x02,
-    0x08, 0x00, 0x12, 0x02, 0x08, 0x00, 0x0a, 0x14, 0x0a, 0x04, 0x08, 0x03, 0x50, 0x00, 0x0a, 0x0c,
-    0x08, 0x03, 0x12, 0x06, 0x08, 0x0e, 0x10, 0x0e, 0x18, 0x2a, 0x50, 0x00, 0x08, 0x03, 0x10, 0x16,
-    0x1a, 0x0a, 0x08, 0x03, 0x10, 0x00, 0x18, 0x03, 0x20, 0x10, 0x28, 0x03, 0x22, 0x08, 0x08, 0x0c,
-    0x12, 0x01, 0x01, 0x1a, 0x01, 0x6e, 0x22, 0x02, 0x08, 0x04, 0x30, 0x03, 0x3a, 0x04, 0x08, 0x03,
-    0x50, 0x00, 0x3a, 0x0c, 0x08, 0x03, 0x12, 0x06, 0x08, 0x0e, 0x10, 0x0e, 0x18, 0x2a, 0x50, 0x00,
-    0x40, 0x00, 0x48, 0x63, 0x08, 0x38, 0x10, 0x00, 0x22, 0x02, 0x00, 0x0b, 0x28, 0x16, 0x30, 0x06,
-    0x82, 0xf4, 0x03, 0x03, 0x4f, 0x52, 0x43, 0x13,
-];
+use vectors::{EMPTY, SEVENS};
 
 /// The tail of bytes once there is memory for it: what wanted some is asked again.
-fn opened(alloc: Global, bytes: &[u8]) -> Result<Tail, FileFault> {
+pub fn opened(alloc: Global, bytes: &[u8]) -> Result<Tail, FileFault>
+    ensures limits { IfOk result (λ tail. IsWithinLimits tail) }
+{
     match OrcFile::open(alloc, SliceSource::new(bytes)) {
         Ok(file) => Ok(file.into_parts().0),
         Err((FileFault::OutOfMemory, source)) => match OrcFile::open(alloc, source) {
@@ -89,49 +82,8 @@ fn a_file_with_a_stripe(rt: HostRuntime) -> Result<(), FileFault> {
     Ok(())
 }
 
-/// A place in `SEVENS`, the byte put there, and the first fault.
-const CHANGES: [(usize, u8, FileFault); 13] = [
-    (0, 0x50, FileFault::NotOrc),
-    (119, 0xff, FileFault::BadLengths),
-    (119, 0x75, FileFault::BadLengths),
-    (108, 0x0f, FileFault::BadPostscript),
-    (118, 0x44, FileFault::NotOrc),
-    (103, 0x01, FileFault::Compressed(1)),
-    (101, 0x7f, FileFault::BadLengths),
-    (48, 0x1b, FileFault::BadFooter),
-    (
-        73,
-        0x0b,
-        FileFault::BadTypes(TypeFault::UnsupportedKind(11)),
-    ),
-    (22, 0x0b, FileFault::BadMetadata),
-    (51, 0x02, FileFault::BadStripe(0)),
-    (55, 0x04, FileFault::BadStripe(0)),
-    (59, 0x02, FileFault::RowCount),
-];
-
-#[test]
-fn changed_bytes(rt: HostRuntime) {
-    for (place, byte, wanted) in CHANGES {
-        let mut bytes = SEVENS;
-        if let Some(changed) = bytes.get_mut(place) {
-            *changed = byte;
-        }
-        let fault = opened(rt.alloc(), &bytes).err();
-        assert_eq!(rt; fault, Some(wanted), "{byte} at {place}");
-    }
-    // field 10 in place of the writer
-    let mut bytes = SEVENS;
-    bytes[98] = 0x52;
-    bytes[99] = 0x00;
-    assert_eq!(rt;
-        opened(rt.alloc(), &bytes).err(),
-        Some(FileFault::Encrypted)
-    );
-}
-
 /// How many of the first bytes, and the fault.
-const FRONTS: [(usize, FileFault); 6] = [
+static FRONTS: [(usize, FileFault); 6] = [
     (0, FileFault::NotOrc),
     (2, FileFault::NotOrc),
     (3, FileFault::NotOrc),
@@ -152,7 +104,7 @@ fn fronts_are_no_files(rt: HostRuntime) {
 }
 
 /// Faults and their texts.
-const TEXTS: [(FileFault, &str); 5] = [
+static TEXTS: [(FileFault, &str); 5] = [
     (FileFault::NotOrc, "file 1 NotOrc"),
     (FileFault::Compressed(1), "file 3 Compressed(1)"),
     (
@@ -169,10 +121,18 @@ const TEXTS: [(FileFault, &str); 5] = [
     (FileFault::Failed, "file 17 Failed"),
 ];
 
+/// The text of a fault once there is memory for it.
+fn text_of(alloc: Global, fault: FileFault) -> Result<String, FileFault> {
+    match format!(in alloc; "{fault}") {
+        Ok(text) => Ok(text),
+        Err(_) => Ok(format!(in alloc; "{fault}")?),
+    }
+}
+
 #[test]
 fn texts_of_faults(rt: HostRuntime) -> Result<(), FileFault> {
     for (fault, wanted) in TEXTS {
-        let text = format!(in rt.alloc(); "{fault}")?;
+        let text = text_of(rt.alloc(), fault)?;
         assert_eq!(rt; text.as_str(), wanted);
     }
     Ok(())

@@ -1,5 +1,5 @@
 mod fail_sink;
-mod fail_source;
+pub mod fail_source;
 mod narrow;
 
 use crate::*;

@@ -1,0 +1,157 @@
+//! Files that fail tests: each one alone, and two at once, of which the first answers.
+
+use super::opened;
+use super::reads::read_seen;
+use super::vectors::SEVENS;
+use crate::*;
+use orc_types::TypeFault;
+use std::process::Abort;
+
+/// Bytes that are put at a place.
+type Change = (usize, &'static [u8]);
+
+/// Changes of `SEVENS` that fail one test each, in the order of the tests; the fault, and how many ranges are
+/// read until then.
+static FAILING: [(&[Change], FileFault, usize); 19] = [
+    // not ORC in front
+    (&[(0, &[0x50])], FileFault::NotOrc, 1),
+    // a postscript longer than the file
+    (&[(119, &[0xff])], FileFault::BadLengths, 2),
+    // a key of no wire type
+    (&[(108, &[0x0f])], FileFault::BadPostscript, 3),
+    // 17 version numbers
+    (
+        &[(
+            100,
+            &[0x22, 17, 0, 0, 0, 0, 0, 0, 0, 0, 0, 0, 0, 0, 0, 0, 0, 0, 0],
+        )],
+        FileFault::BadPostscript,
+        3,
+    ),
+    // another magic behind
+    (&[(118, &[0x44])], FileFault::NotOrc, 3),
+    (&[(103, &[0x01])], FileFault::Compressed(1), 3),
+    // a footer longer than what is before it
+    (&[(101, &[0x7f])], FileFault::BadLengths, 3),
+    // a key of another wire type
+    (&[(48, &[0x1b])], FileFault::BadFooter, 4),
+    // field 10 in place of the writer
+    (&[(98, &[0x52, 0x00])], FileFault::Encrypted, 4),
+    // the column is a map
+    (
+        &[(64, &[0x12, 1, 1, 0x1a, 1, 0x6e, 0x22, 2, 8, 0x0b])],
+        FileFault::BadTypes(TypeFault::UnsupportedKind(11)),
+        4,
+    ),
+    // a struct without fields, and fields 11 in place of the second type
+    (
+        &[(64, &[0x4a]), (67, &[0x4a]), (70, &[0x5a])],
+        FileFault::BadFooter,
+        4,
+    ),
+    (&[(22, &[0x0b])], FileFault::BadMetadata, 5),
+    // field 11 in place of the stripe, and statistics of a stripe
+    (&[(48, &[0x5a])], FileFault::BadMetadata, 5),
+    // statistics of eight columns
+    (
+        &[(30, &[10, 0, 10, 0, 10, 0, 10, 0, 10, 0, 10, 0, 10, 0])],
+        FileFault::BadMetadata,
+        5,
+    ),
+    // a count of 2^63 - 1
+    (
+        &[(33, &[0xff, 0xff, 0xff, 0xff, 0xff, 0xff, 0xff, 0xff, 0x7f])],
+        FileFault::Limit,
+        5,
+    ),
+    // a stripe from byte 2 on
+    (&[(51, &[0x02])], FileFault::BadStripe(0), 5),
+    // a stripe of a byte more
+    (
+        &[(
+            50,
+            &[0x08, 0x03, 0x10, 0x00, 0x18, 0x04, 0x20, 0x10, 0x28, 0x03],
+        )],
+        FileFault::BadStripe(0),
+        5,
+    ),
+    // 2^31 rows in a stripe
+    (
+        &[(
+            50,
+            &[0x08, 0x03, 0x20, 0x10, 0x28, 0x80, 0x80, 0x80, 0x80, 0x08],
+        )],
+        FileFault::Limit,
+        5,
+    ),
+    (&[(75, &[0x04])], FileFault::RowCount, 5),
+];
+
+/// Puts bytes at a place, as many as there is room for.
+fn overwrite(bytes: &mut [u8], place: usize, new: &[u8]) {
+    for (i, byte) in new.iter().enumerate() {
+        if let Some(old) = bytes.get_mut(place.saturating_add(i)) {
+            *old = *byte;
+        }
+    }
+}
+
+fn change(bytes: &mut [u8], changes: &[Change]) {
+    for (place, new) in changes {
+        overwrite(bytes, *place, new);
+    }
+}
+
+#[test]
+fn one_test_fails(rt: HostRuntime) {
+    for (i, (changes, wanted, reads)) in FAILING.iter().enumerate() {
+        let mut bytes = SEVENS;
+        change(&mut bytes, changes);
+        let (fault, source) = read_seen(rt.alloc(), &bytes);
+        assert_eq!(rt; fault, Some(*wanted), "test {i}");
+        assert_eq!(rt; source.ranges().len(), *reads, "test {i}");
+    }
+}
+
+/// The later test's bytes are put first, so where both change a byte the earlier test's stands.
+#[test]
+fn two_tests_fail(rt: HostRuntime) {
+    for (i, (changes, wanted, _)) in FAILING.iter().enumerate() {
+        for (j, (later, _, _)) in FAILING.iter().enumerate().skip(i) {
+            let mut bytes = SEVENS;
+            change(&mut bytes, later);
+            change(&mut bytes, changes);
+            let fault = opened(rt.alloc(), &bytes).err();
+            assert_eq!(rt; fault, Some(*wanted), "tests {i} and {j}");
+        }
+    }
+}
+
+/// Whether an answer of `open` is one on the bytes.
+fn is_of_bytes(fault: FileFault) -> bool {
+    !matches!(
+        fault,
+        FileFault::Stripe(..)
+            | FileFault::RowShape
+            | FileFault::SourceFailed
+            | FileFault::WriteFailed
+            | FileFault::OutOfMemory
+            | FileFault::Failed
+    )
+}
+
+#[test]
+fn each_changed_byte_is_answered(rt: HostRuntime) {
+    for place in 0..120usize {
+        for byte in 0..=255u8 {
+            let mut bytes = SEVENS;
+            overwrite(&mut bytes, place, &[byte]);
+            let is_same = bytes == SEVENS;
+            let is_right = match opened(rt.alloc(), &bytes) {
+                Ok(_) => place >= 3,
+                Err(fault) => !is_same && is_of_bytes(fault),
+            };
+            assert!(rt; is_right || is_same, "{byte} at {place}");
+        }
+    }
+}

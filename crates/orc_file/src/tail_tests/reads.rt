@@ -1,0 +1,91 @@
+//! What is asked of a source, and what its failures make.
+
+use super::seen_source::SeenSource;
+use super::vectors::{EMPTY, SEVENS};
+use crate::tests::fail_source::FailSource;
+use crate::*;
+use std::alloc::Global;
+use std::process::Abort;
+
+/// Why a source isn't opened.
+fn fault_of<S: Source + Drop>(alloc: Global, source: S) -> Option<FileFault> {
+    match OrcFile::open(alloc, source) {
+        Ok(_) => None,
+        Err((fault, _)) => Some(fault),
+    }
+}
+
+fn read_once(alloc: Global, bytes: &[u8]) -> (Option<FileFault>, SeenSource<'_>) {
+    let mut source = SeenSource::new(bytes);
+    let fault = fault_of(alloc, &mut source);
+    (fault, source)
+}
+
+/// The answer of `open` once there is memory, and the source with what was read of it.
+pub fn read_seen(alloc: Global, bytes: &[u8]) -> (Option<FileFault>, SeenSource<'_>) {
+    match read_once(alloc, bytes) {
+        (Some(FileFault::OutOfMemory), _) => read_once(alloc, bytes),
+        seen => seen,
+    }
+}
+
+#[test]
+fn five_ranges_are_read(rt: HostRuntime) {
+    let (fault, source) = read_seen(rt.alloc(), &SEVENS);
+    assert_eq!(rt; fault, None);
+    assert_eq!(rt;
+        source.ranges(),
+        [(0u64, 3u64), (119, 1), (100, 19), (44, 56), (22, 22)].as_slice()
+    );
+}
+
+#[test]
+fn metadata_without_bytes_is_not_read(rt: HostRuntime) {
+    let (fault, source) = read_seen(rt.alloc(), &EMPTY);
+    assert_eq!(rt; fault, None);
+    assert_eq!(rt;
+        source.ranges(),
+        [(0u64, 3u64), (58, 1), (39, 19), (3, 36)].as_slice()
+    );
+}
+
+/// The answer where the k-th read fails.
+fn answer_failing(alloc: Global, kth: u64) -> Option<FileFault> {
+    match fault_of(alloc, FailSource::new(&SEVENS, kth)) {
+        Some(FileFault::OutOfMemory) => fault_of(alloc, FailSource::new(&SEVENS, kth)),
+        answer => answer,
+    }
+}
+
+#[test]
+fn each_read_fails(rt: HostRuntime) {
+    for kth in 1..6u64 {
+        assert_eq!(rt;
+            answer_failing(rt.alloc(), kth),
+            Some(FileFault::SourceFailed),
+            "read {kth}"
+        );
+    }
+    assert_eq!(rt; answer_failing(rt.alloc(), 6), None);
+}
+
+/// The source that is handed back after its first read failed is opened again.
+fn opened_again(alloc: Global) -> Option<FileFault> {
+    match OrcFile::open(alloc, FailSource::new(&SEVENS, 1)) {
+        Ok(_) => None,
+        Err((_, source)) => match OrcFile::open(alloc, source) {
+            Ok(file) => fault_of(alloc, file.into_parts().1),
+            Err((FileFault::OutOfMemory, source)) => fault_of(alloc, source),
+            Err((fault, _)) => Some(fault),
+        },
+    }
+}
+
+#[test]
+fn a_source_is_handed_back(rt: HostRuntime) {
+    let answer = match opened_again(rt.alloc()) {
+        Some(FileFault::OutOfMemory) => opened_again(rt.alloc()),
+        answer => answer,
+    };
+    assert_eq!(rt; answer, None);
+}
