@@ -67,7 +67,14 @@ static FAILING: [(&[Change], FileFault, usize); 19] = [
     // a stripe from byte 2 on
     (&[(51, &[0x02])], FileFault::BadStripe(0), 5),
     // a stripe of a byte more
-    (&[(55, &[0x04])], FileFault::BadStripe(0), 5),
+    (
+        &[(
+            50,
+            &[0x08, 0x03, 0x10, 0x00, 0x18, 0x04, 0x20, 0x10, 0x28, 0x03],
+        )],
+        FileFault::BadStripe(0),
+        5,
+    ),
     // 2^31 rows in a stripe
     (
         &[(
