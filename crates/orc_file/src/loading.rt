@@ -51,6 +51,7 @@ impl<S: Source> OrcFile<S> {
         ensures fault { IfErr result (λ fault. (fault ≡ OutOfMemory) ⊎ (fault ≡ SourceFailed)) }
         ensures kept { OnOk result (S.failures self.new.source ≡ S.failures self.old.source) }
         ensures failed { IsErrOf result SourceFailed → S.failures self.old.source < S.failures self.new.source }
+        ensures memory { IsErrOf result OutOfMemory → S.failures self.new.source ≡ S.failures self.old.source }
     {
         let stripe = self.tail.stripes.as_slice()[number];
         let len = length_of(stripe);

@@ -67,6 +67,7 @@ impl<S: Source> OrcFile<S> {
         ensures fault { IfErr result (λ fault. ReadFault (S.told self.old.source) fault (λ all. StripeRefused self.old.tail.schema all number (stripe_at self.old.tail.stripes number) fault)) }
         ensures kept { OnOk result (S.failures self.new.source ≡ S.failures self.old.source) }
         ensures failed { IsErrOf result SourceFailed → S.failures self.old.source < S.failures self.new.source }
+        ensures memory { IsErrOf result OutOfMemory → S.failures self.new.source ≡ S.failures self.old.source }
     {
         self.load(number, bytes)?;
         let own = self.stripe_rows(alloc, number, bytes)?;
@@ -89,6 +90,7 @@ impl<S: Source> OrcFile<S> {
         ensures fault { IfErr result (λ fault. ReadFault (S.told self.old.source) fault (λ bytes. FirstRefused self.old.tail.schema bytes 0 self.old.tail.stripes fault)) }
         ensures kept { OnOk result (S.failures self.new.source ≡ S.failures self.old.source) }
         ensures failed { IsErrOf result SourceFailed → S.failures self.old.source < S.failures self.new.source }
+        ensures memory { IsErrOf result OutOfMemory → S.failures self.new.source ≡ S.failures self.old.source }
     {
         let mut rows = Vec::new(alloc);
         let mut bytes = Vec::new(alloc);
