@@ -14,7 +14,7 @@ use orc_stripe::{StreamKind, StripeFault};
 use orc_types::TypeFault;
 use std::alloc::Global;
 use std::process::Abort;
-use vectors::{EMPTY, SEVENS};
+pub(crate) use vectors::{EMPTY, SEVENS};
 
 /// The tail of bytes once there is memory for it: what wanted some is asked again.
 pub fn opened(alloc: Global, bytes: &[u8]) -> Result<Tail, FileFault>

@@ -1,6 +1,7 @@
 mod fail_sink;
 pub mod fail_source;
 mod narrow;
+mod rows_of_files;
 
 use crate::*;
 use fail_sink::{FailSink, Full};
