@@ -13,3 +13,4 @@ pub mod Opened
 pub mod ReadBits
 pub mod RowLemmas
 pub mod RowFronts
+pub mod HonestLemmas

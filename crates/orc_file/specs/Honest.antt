@@ -1,11 +1,13 @@
 -- Statistics that are those of the rows (ORC specification, "Column Statistics"; what is asked of them is this
 -- project's).
-use Rattle.std.specs.Prelude.{◌≡◌, ℕ, ◌<◌, Some, List, [], ◌∷◌, length, map, slice_get}
+use Rattle.std.specs.Prelude.{◌≡◌, ℕ, ◌<◌, Bool, Some, List, [], ◌∷◌, length, map, slice_get}
+use Rattle.std.specs.List.{list_all}
 use Rattle.orc_types.specs.Cells.{Cell}
 use Rattle.orc_types.specs.Shapes.{Shape, width}
 use Rattle.orc_types.specs.Columns.{cells}
 use Rattle.orc_stats.specs.declared.stat.Stat.{Stat}
-use Rattle.orc_stats.specs.Whole.{whole}
+use Rattle.orc_stats.specs.Statistics.{stat}
+use Rattle.orc_stats.specs.Whole.{keeps_sum, without_sum, whole}
 use Rattle.orc_stripe.specs.WrittenStripe.{HaveStats}
 use Rattle.orc_file.specs.Statistics.{kind_at}
 use Rattle.orc_file.specs.FileRows.{cut_rows}
@@ -26,6 +28,14 @@ Honest tail rows = AreHonest tail.schema (cut_rows tail.stripes rows) tail.strip
 -- a column's statistic of all stripes' rows; its sum isn't known where that of some stripe doesn't fit
 abbrev pub whole_of : Shape → List (List Cell) → ℕ → Stat
 whole_of s parts column = whole (kind_at s column) (map (cells s column) parts)
+
+-- each stripe's sum of a column stands, where it has one
+abbrev pub each_fits : Shape → List (List Cell) → ℕ → Bool
+each_fits s parts column = list_all (λ rows. keeps_sum (stat (kind_at s column) (cells s column rows))) parts
+
+-- a statistic whose sum isn't known
+abbrev pub less_sum : Stat → Stat
+less_sum all = record all { body = without_sum all.body }
 
 -- one for each type
 pub record AreWhole (s : Shape) (parts : List (List Cell)) (stats : List Stat) : Type 0 where

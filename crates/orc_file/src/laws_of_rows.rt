@@ -1,9 +1,12 @@
 //! Laws of a file's rows. Each function does nothing: its contract is what it is for.
-ghost use Rattle.std.specs.Prelude.{◌≡◌, ℕ, List, length, flat_map, map};
+ghost use Rattle.std.specs.Prelude.{◌≡◌, ℕ, List, true, false};
 ghost use Rattle.orc_wire.specs.declared.stripe_info.StripeInfo.{StripeInfo};
 ghost use Rattle.orc_types.specs.Cells.{Cell};
 ghost use Rattle.orc_types.specs.Shapes.{Shape};
 ghost use Rattle.orc_types.specs.Columns.{cells};
+ghost use Rattle.orc_stats.specs.Statistics.{stat};
+ghost use Rattle.orc_file.specs.Statistics.{kind_at};
+ghost use Rattle.orc_file.specs.Honest.{each_fits, less_sum, whole_of};
 ghost use Rattle.orc_file.specs.FileRows.{AreOfStripes, HasRows, FileIs, FirstRefused, joined, cut_rows};
 ghost use Rattle.orc_file.specs.declared.tail.Tail.{Tail};
 ghost use Rattle.orc_file.specs.declared.fault.FileFault.{FileFault};
@@ -15,4 +18,11 @@ pub fn row_laws()
     ensures none { (bytes : List ℕ) (tail : Tail) (rows : List Cell) (fault : FileFault) → FirstRefused tail.schema bytes 0 tail.stripes fault → FileIs bytes tail rows → ⊥ }
     ensures cut { (bytes : List ℕ) (tail : Tail) (rows : List Cell) → FileIs bytes tail rows → AreOfStripes tail.schema bytes tail.stripes (cut_rows tail.stripes rows) }
     ensures whole { (infos : List StripeInfo) (bytes : List ℕ) (s : Shape) (rows : List Cell) → HasRows s bytes infos rows → joined (cut_rows infos rows) ≡ rows }
+{}
+
+/// A column's statistic of the whole file is that of its cells in all rows, where each stripe's sum stands;
+/// else it is that statistic with a sum that isn't known.
+pub fn whole_laws()
+    ensures all { (s : Shape) (parts : List (List Cell)) (column : ℕ) → each_fits s parts column ≡ true → whole_of s parts column ≡ stat (kind_at s column) (cells s column (joined parts)) }
+    ensures less { (s : Shape) (parts : List (List Cell)) (column : ℕ) → each_fits s parts column ≡ false → whole_of s parts column ≡ less_sum (stat (kind_at s column) (cells s column (joined parts))) }
 {}

@@ -32,7 +32,7 @@ pub use fault::FileFault;
 pub use file::OrcFile;
 pub use file_source::FileSource;
 pub use laws::{image_laws, tail_laws};
-pub use laws_of_rows::row_laws;
+pub use laws_of_rows::{row_laws, whole_laws};
 pub use range_fault::RangeFault;
 pub use ranges::read_range;
 pub use sending::write_all;
