@@ -72,7 +72,7 @@ both_patched a b x y v w p q e =
     let w = width_at (code_in p.head) in
     let pw = width_at (p.third % 32) in
     let patched = one_list w pw true 0 p.entries p.numbers p.patched q.patched (patches_are_applied w pw p.entries p.numbers p.patched p.patches)
-      (patches_are_applied w pw p.entries p.numbers q.patched patches4) in
+    (patches_are_applied w pw p.entries p.numbers q.patched patches4) in
     record {
       front = p.bytes_are ∙ ((rw (head, low, third, fourth, t.front) refl) ∙ sym q.bytes_are);
       rest = t.rest;

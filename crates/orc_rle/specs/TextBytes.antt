@@ -59,7 +59,7 @@ sized_small sign chunk text most p =
     let sizes = AllFit-append 8 p.delta p.packed delta p.packed_is.packed.small in
     subst (λ (t : List ℕ). AllFit 8 t) (sym p.text_is)
     (AllFit-append 8 (header 3 p.code (length chunk)) (p.value ++ (p.delta ++ p.packed)) (header_small 3 p.code (length chunk) (omega arith) p.width.is.code_is.is_code most)
-      (AllFit-append 8 p.value (p.delta ++ p.packed) value sizes))
+    (AllFit-append 8 p.value (p.delta ++ p.packed) value sizes))
 
 delta_small : (sign : Sign) (chunk : List ℤ) (text : List ℕ) → length chunk ≤ 512 → IsDeltaText sign chunk text → AllFit 8 text
 delta_small sign chunk text most (inl p) = even_small sign chunk text most p
@@ -105,7 +105,7 @@ patched_small chunk text most p =
     let body = AllFit-append 8 base_text (p.packed ++ p.patches) (big_bytes_small p.size (signed_number p.size p.base)) parts in
     subst (λ (t : List ℕ). AllFit 8 t) (sym p.text_is)
     (AllFit-append 8 (header 2 p.code (length chunk)) (((p.size - 1) * 32 + p.patch_code) ∷ ((p.gap_digits - 1) * 32 + length p.entries) ∷ (base_text ++ (p.packed ++ p.patches)))
-      (header_small 2 p.code (length chunk) (omega arith) es.is_code most) (third, (fourth, body)))
+    (header_small 2 p.code (length chunk) (omega arith) es.is_code most) (third, (fourth, body)))
 
 -- the text of a piece is bytes
 pub piece_small : (sign : Sign) (piece rest : List ℤ) (text : List ℕ) → IsPiece (rule_two sign) piece rest text → AllFit 8 text

@@ -62,7 +62,7 @@ finds_one columns s front old new one len few there is h =
           ap (λ t. get_or t (4 * column + kind) []) maps ∙ (ap (λ i. get_or (set (map slice_bytes old) at (slice_bytes one)) i []) place ∙ (get_or-set_same (map slice_bytes old) at (slice_bytes one) [] inside ∙ is));
       others = λ column kind lt small other.
           let apart : 4 * column + kind ≡ at → ⊥ = λ e.
-              both_ways (is_of column kind s) other (same_is column kind s (omega (arith, e, few, small)) (omega (arith, e, few, small))) in
+          both_ways (is_of column kind s) other (same_is column kind s (omega (arith, e, few, small)) (omega (arith, e, few, small))) in
           ap (λ t. get_or t (4 * column + kind) []) maps ∙ get_or-set_other (map slice_bytes old) at (4 * column + kind) (slice_bytes one) [] apart;
     }
 
@@ -80,8 +80,8 @@ search_goes_on columns streams s left bytes rest old new h f =
     let fits = and_parts (nat_le s.length (length rest)) (have_room (length rest - s.length) left) h.room in
     let once = and_parts (not (has_stream s.column s.kind left)) (names_once left) h.once in
     let none_again : (column kind : ℕ) → is_of column kind s ≡ true → has_stream column kind left ≡ false = λ column kind same.
-        let p = is_same column kind s same in
-        subst (λ k. has_stream column k left ≡ false) p.1 (subst (λ c. has_stream c s.kind left ≡ false) p.0 (not-true (has_stream s.column s.kind left) once.0)) in
+    let p = is_same column kind s same in
+    subst (λ k. has_stream column k left ≡ false) p.1 (subst (λ c. has_stream c s.kind left ≡ false) p.0 (not-true (has_stream s.column s.kind left) once.0)) in
     record {
       room = ap (λ n. have_room n left) (length-drop s.length rest) ∙ fits.1;
       once = once.1;

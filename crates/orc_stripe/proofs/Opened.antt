@@ -63,7 +63,7 @@ pub footer_once : (s : Shape) (info : StripeInfo) (bytes : List ℕ) (footer : S
 footer_once s info bytes footer h =
     let room = info.index_length + info.data_length in
     (and_parts (names_once footer.streams) (have_columns (width s) footer.streams)
-      (and_parts (have_room room footer.streams) (names_once footer.streams && have_columns (width s) footer.streams) h.directory).1).0
+    (and_parts (have_room room footer.streams) (names_once footer.streams && have_columns (width s) footer.streams) h.directory).1).0
 
 pub footer_columns : (s : Shape) (info : StripeInfo) (bytes : List ℕ) (footer : StripeFooter) → HasFooter s info bytes footer → width s ≡ length footer.columns
 footer_columns s info bytes footer h = encodings_there s footer.columns h.encodings

@@ -149,7 +149,11 @@ fn group_left(source: &Source<'_>) -> StripeFault
     if numbers_end(&source.numbers) {
         return StripeFault::LengthSum(source.column, StreamKind::Data);
     }
-    too_many(source.column, StreamKind::Length, numbers_left(&source.numbers))
+    too_many(
+        source.column,
+        StreamKind::Length,
+        numbers_left(&source.numbers),
+    )
 }
 
 /// The fault of values that are left over, of a column of a kind that contains no other.
@@ -160,12 +164,20 @@ fn scalar_left(source: &Source<'_>, kind: Scalar) -> StripeFault
         Scalar::Boolean => too_many(source.column, StreamKind::Data, bits_left(&source.bits)),
         Scalar::Byte => too_many(source.column, StreamKind::Data, bytes_left(&source.bytes)),
         Scalar::Short | Scalar::Int | Scalar::Long | Scalar::Date => {
-            too_many(source.column, StreamKind::Data, numbers_left(&source.numbers))
+            too_many(
+                source.column,
+                StreamKind::Data,
+                numbers_left(&source.numbers),
+            )
         }
         Scalar::Binary => group_left(source),
         Scalar::String => match &source.entries {
             None => group_left(source),
-            Some(_) => too_many(source.column, StreamKind::Data, numbers_left(&source.numbers)),
+            Some(_) => too_many(
+                source.column,
+                StreamKind::Data,
+                numbers_left(&source.numbers),
+            ),
         },
     }
 }
