@@ -6,7 +6,8 @@ use Rattle.orc_wire.specs.Messages.{post_script, footer, metadata}
 use Rattle.orc_wire.specs.Spells.{Spells}
 use Rattle.orc_wire.specs.Fields.{Item}
 use Rattle.orc_wire.specs.Canonical.{spells_again, IsBetween}
-use Rattle.orc_wire.specs.CanonicalKinds.{AreKept, some_top}
+use Rattle.orc_wire.specs.CanonicalFields.{some_top}
+use Rattle.orc_wire.specs.CanonicalKinds.{AreKept}
 use Rattle.orc_wire.specs.CanonicalMessages.{post_script_text, footer_text, metadata_text}
 use Rattle.orc_wire.proofs.WholeLaws.{footer_whole}
 use Rattle.orc_wire.specs.declared.stripe_info.StripeInfo.{StripeInfo}

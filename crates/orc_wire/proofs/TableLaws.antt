@@ -10,7 +10,7 @@ use Rattle.orc_wire.specs.Members.{Member, Joined}
 use Rattle.orc_wire.specs.Spells.{number_in, bytes_in, Spells}
 use Rattle.orc_wire.specs.Parts.{inside, MessageIn, JoinsOnly}
 use Rattle.orc_wire.specs.Kinds.{Part, number, small, signed, small_signed, flag, text, kept_from, same_signed, last, known, all, each, only}
-use Rattle.orc_wire.specs.CanonicalKinds.{signed_fits, all_top}
+use Rattle.orc_wire.specs.CanonicalFields.{signed_fits, all_top}
 use Rattle.orc_wire.specs.Table.{newest, in_order, kept_texts, AreSmall, joined_parts, some_parts, GivesParts, JoinsParts, JoinsSome, with_bytes, IsOnly, OnlyMessage}
 
 or_unwrap : {V : Type 0} (p q : Option V) (d : V) → unwrap_or p (unwrap_or q d) ≡ unwrap_or (option_or p q) d

@@ -30,7 +30,8 @@ use Rattle.orc_wire.specs.Kinds.{small, last, each, message}
 use Rattle.orc_wire.specs.Messages.{type_msg, footer}
 use Rattle.orc_wire.specs.CanonicalText.{payload_text, field_text, known_text, some_text, varints_text}
 use Rattle.orc_wire.specs.Canonical.{WholeIf, all_both}
-use Rattle.orc_wire.specs.CanonicalKinds.{IsNumber, AreBelow, always_small, AreKept, says_kept, wire_most, some_top, all_top}
+use Rattle.orc_wire.specs.CanonicalFields.{IsNumber, wire_most, some_top, all_top}
+use Rattle.orc_wire.specs.CanonicalKinds.{AreBelow, always_small, AreKept, says_kept}
 use Rattle.orc_wire.specs.CanonicalMessages.{one, two, three, is_dictionary, encoding_text, stream_text, stripe_footer_text, row_index_entry_text, row_index_text, stripe_stats_text, metadata_text, type_text, stripe_info_text, user_metadata_text, footer_text, integer_stats_text, string_stats_text, bucket_stats_text, date_stats_text, binary_stats_text, column_stats_text}
 
 pub encoding_whole : (test : Bool) (m : Encoding) → (test ≡ false → m.dictionary_size ≡ 0)

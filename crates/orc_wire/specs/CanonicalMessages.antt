@@ -8,7 +8,8 @@ use Rattle.orc_wire.specs.Messages.{string_stats_shape, bucket_stats, bucket_sta
 use Rattle.orc_wire.specs.Messages.{column_stats, column_stats_shape, stripe_stats, stripe_stats_shape, metadata, metadata_shape, row_index_entry}
 use Rattle.orc_wire.specs.Messages.{row_index_entry_shape, row_index, row_index_shape, user_metadata, user_metadata_shape, footer, footer_shape}
 use Rattle.orc_wire.specs.Canonical.{Canonical, both, both_if, shaped_text}
-use Rattle.orc_wire.specs.CanonicalKinds.{IsNumber, always_number, always_small, always_text, known_small, known_signed, known_small_signed, known_flag}
+use Rattle.orc_wire.specs.CanonicalFields.{IsNumber}
+use Rattle.orc_wire.specs.CanonicalKinds.{always_number, always_small, always_text, known_small, known_signed, known_small_signed, known_flag}
 use Rattle.orc_wire.specs.CanonicalKinds.{text_where_known, each_as_text, each_message, small_list, number_list, as_kept, where_shown}
 
 pub one : IsNumber 1

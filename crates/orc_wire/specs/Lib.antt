@@ -12,6 +12,7 @@ pub mod Table
 pub mod Messages
 pub mod CanonicalText
 pub mod Canonical
+pub mod CanonicalFields
 pub mod CanonicalKinds
 pub mod CanonicalMessages
 pub mod FieldsNext

@@ -4,7 +4,7 @@ ghost use Rattle.orc_wire.specs.Fields.{IsField};
 ghost use Rattle.orc_wire.specs.FieldValue.{payload_of};
 ghost use Rattle.orc_wire.specs.CanonicalText.{field_text};
 ghost use Rattle.orc_wire.specs.Canonical.{IsOutside};
-ghost use Rattle.orc_wire.specs.CanonicalKinds.{item_at};
+ghost use Rattle.orc_wire.specs.CanonicalFields.{item_at};
 
 use crate::canonical::put_field;
 use crate::fault::WireFault;

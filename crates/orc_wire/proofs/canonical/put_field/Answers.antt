@@ -1,6 +1,6 @@
 use Rattle.orc_wire.specs.Fields.{IsPayload, varint, sized}
 use Rattle.orc_wire.specs.CanonicalText.{payload_text}
-use Rattle.orc_wire.specs.CanonicalKinds.{varint_holds, sized_holds}
+use Rattle.orc_wire.specs.CanonicalFields.{varint_holds, sized_holds}
 use Rattle.orc_wire.proofs.PutLemmas.{on_ok_any}
 use Rattle.orc_wire.proofs.canonical.put_field.Goals as goal
 

@@ -1,6 +1,6 @@
 use Rattle.std.proofs.Common.{◌∙◌, arith}
 use Rattle.orc_wire.specs.FieldValue.{payload_of}
-use Rattle.orc_wire.specs.CanonicalKinds.{IsNumber, field_at}
+use Rattle.orc_wire.specs.CanonicalFields.{IsNumber, field_at}
 use Rattle.orc_wire.proofs.PutLemmas.{front_same, front_taken}
 use Rattle.orc_wire.proofs.field_writer.FieldWriter.put.Goals as goal
 
