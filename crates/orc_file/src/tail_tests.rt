@@ -3,6 +3,7 @@ ghost use Rattle.std.specs.Prelude.{IfOk};
 ghost use Rattle.orc_file.specs.Images.{IsWithinLimits};
 
 mod first_faults;
+mod limits;
 mod put_again;
 mod reads;
 mod seen_source;
