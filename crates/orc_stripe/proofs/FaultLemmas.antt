@@ -1,164 +1,163 @@
 -- Which fault of a column's readers stands, along the arms of the reader that goes down a schema.
-use Rattle.std.proofs.Common.{◌≡◌, ℕ, zero, suc, ◌+◌, ◌-◌, ◌<◌, ◌≤◌, List, [], ◌∷◌, ◌++◌, map, length, take, drop, get_or, slice_set, Bool, true, false, refl, sym, ap, ◌∙◌, subst, inl, inr, ◌⊎◌, arith, take-append-drop}
+use Rattle.std.proofs.Common.{◌≡◌, ℕ, suc, ◌+◌, ◌-◌, ◌<◌, ◌≤◌, List, [], ◌∷◌, ◌++◌, length, take, drop, get_or, slice_set, refl, sym, ap, ◌∙◌, subst, inl, inr, ◌⊎◌, arith}
 use Rattle.std.proofs.lemmas.Bool.{lt-ltb, le-ltb}
-use Rattle.std.proofs.lemmas.List.{map-append}
+use Rattle.std.proofs.Math.Seq.{take-append_seam, drop-append_seam}
 use borrow.Rule.Slice.PartMut.{put_mid}
 use Rattle.orc_types.specs.Shapes.{Shape, scalar, list_of, struct_of, Fields, no_field, field, width, widths, shape_at, shape_within}
 use Rattle.orc_types.specs.declared.kind.Scalar.{Scalar}
 use Rattle.orc_stripe.specs.declared.column.ColumnReader.{ColumnReader}
-use Rattle.orc_types.specs.declared.kind.Scalar.TheVariants as kind
-use Rattle.orc_rle.specs.declared.sign.Sign.{Sign}
-use Rattle.orc_stripe.specs.declared.version.Version.{Version}
-use Rattle.orc_stripe.specs.declared.numbers.Numbers.{Numbers}
-use Rattle.orc_stripe.specs.Starting.{NumbersStart}
+use Rattle.orc_stripe.specs.declared.column.Source.{Source}
 use Rattle.orc_stripe.specs.declared.fault.StripeFault.{StripeFault}
-use Rattle.orc_stripe.specs.Stripe.{Streams, has_dictionary}
-use Rattle.orc_stripe.specs.RunFaults.{Integers, integers_of}
-use Rattle.orc_stripe.specs.Faults.{Origin, reading, texts_of, origin, source_origin, marks_bytes, column_origin, MarksFail, ScalarFails, ListsFail, ValuesFail, ColumnFails, HasFault, ReaderFault, BelowFault, OwnFault, ListsFault, FieldsFault, FaultBelow, FaultWithin, FaultDown, IsOf, AreOf, AreBelow, AreFields, TooManyRows}
+use Rattle.orc_stripe.specs.Stripe.{Streams}
+use Rattle.orc_stripe.specs.Starting.{IsOf, AreOf, AreBelow, AreFields}
+use Rattle.orc_stripe.specs.Faults.{MarksFail, ColumnFails, HasFault, FaultBelow, FaultWithin, FaultDown, TooManyRows}
+use Rattle.orc_stripe.specs.ReaderFaults.{ScalarMeets, ListsMeet, ValuesMeet, MarksMeet, CellsMeet, BelowMeet, FieldsMeet, ListsOfMeet, marks_bytes}
 use Rattle.orc_stripe.proofs.Arms.{put_behind, behind, some_width}
+use Rattle.orc_stripe.proofs.StartFaults.{values_start, marks_start}
 
-pub map_take : {X Y : Type 0} (f : X → Y) (n : ℕ) (xs : List X) → map f (take n xs) ≡ take n (map f xs)
-map_take f zero xs = refl
-map_take f (suc n) [] = refl
-map_take f (suc n) (x ∷ xs) = ap (λ t. f x ∷ t) (map_take f n xs)
+-- ---- what is met afterwards was met before
 
-pub map_drop : {X Y : Type 0} (f : X → Y) (n : ℕ) (xs : List X) → map f (drop n xs) ≡ drop n (map f xs)
-map_drop f zero xs = refl
-map_drop f (suc n) [] = refl
-map_drop f (suc n) (x ∷ xs) = map_drop f n xs
+marks_before : (own own' : ColumnReader) (f : StripeFault) → marks_bytes own'.present ≡ marks_bytes own.present → own'.source.column ≡ own.source.column → MarksMeet own' f → MarksMeet own f
+marks_before own own' f e g h = subst (λ c. MarksFail (marks_bytes own.present) c f) g (subst (λ b. MarksFail b own'.source.column f) e h)
 
--- ---- what the readers are of stays as it is
+own_before : (s : Shape) (own own' : ColumnReader) (below : List ColumnReader) (f : StripeFault) → own'.source ≡ own.source → marks_bytes own'.present ≡ marks_bytes own.present
+    → CellsMeet s (own' ∷ below) f → CellsMeet s (own ∷ below) f
+own_before s own own' below f e g (inl h) = inl (marks_before own own' f g (ap (λ (r : Source). r.column) e) h)
+own_before s own own' below f e g (inr (inl h)) = inr (inl (subst (λ r. ValuesMeet s r f) e h))
+own_before s own own' below f e g (inr (inr h)) = inr (inr h)
 
-pub origins_set : (before : List ColumnReader) (own' d : ColumnReader) → 1 ≤ length before → origin own' ≡ origin (get_or before 0 d)
-    → map origin (slice_set before 0 own') ≡ map origin before
-origins_set [] own' d some e = absurd (omega (arith, some))
-origins_set (own ∷ below) own' d some e = ap (λ t. t ∷ map origin below) e
+pub mark_before : (s : Shape) (before : List ColumnReader) (own' d : ColumnReader) (f : StripeFault) → 1 ≤ length before → own'.source ≡ (get_or before 0 d).source
+    → marks_bytes own'.present ≡ marks_bytes (get_or before 0 d).present → CellsMeet s (slice_set before 0 own') f → CellsMeet s before f
+mark_before s [] own' d f some e g h = absurd (omega (arith, some))
+mark_before s (own ∷ below) own' d f some e g h = own_before s own own' below f e g h
 
-pub origins_behind : (before ys : List ColumnReader) → 1 ≤ length before → map origin ys ≡ map origin (take (length before - 1) (drop 1 before))
-    → map origin (put_mid 1 (length before - 1) before ys) ≡ map origin before
-origins_behind [] ys some e = absurd (omega (arith, some))
-origins_behind (own ∷ below) ys some e =
-    ap (map origin) (put_behind own below ys) ∙ ap (λ t. origin own ∷ t) (e ∙ ap (map origin) (behind own below))
+scalar_own : (k : Scalar) (o : List ℕ) (own own' : ColumnReader) (below : List ColumnReader) (f : StripeFault) → marks_bytes own'.present ≡ marks_bytes own.present → own'.source.column ≡ own.source.column
+    → (ScalarMeets k own'.source f → ScalarMeets k own.source f) → CellsMeet (scalar k o) (own' ∷ below) f → CellsMeet (scalar k o) (own ∷ below) f
+scalar_own k o own own' below f g e p (inl h) = inl (marks_before own own' f g e h)
+scalar_own k o own own' below f g e p (inr (inl h)) = inr (inl (p h))
+scalar_own k o own own' below f g e p (inr (inr h)) = inr (inr h)
 
-pub origins_fields : (w : ℕ) (before own' rest' : List ColumnReader) → map origin own' ≡ map origin (take w before) → map origin rest' ≡ map origin (drop w before) → map origin (own' ++ rest') ≡ map origin before
-origins_fields w before own' rest' e g =
-    map-append origin own' rest' ∙ ap (λ t. t ++ map origin rest') e ∙ ap (λ t. map origin (take w before) ++ t) g ∙ sym (map-append origin (take w before) (drop w before))
-    ∙ ap (map origin) (take-append-drop w before)
+pub scalar_before : (s : Shape) (k : Scalar) (o : List ℕ) (before : List ColumnReader) (d : ColumnReader) (source : Source) (f : StripeFault) → s ≡ scalar k o → 1 ≤ length before
+    → source.column ≡ (get_or before 0 d).source.column → (ScalarMeets k source f → ScalarMeets k (get_or before 0 d).source f)
+    → CellsMeet s (slice_set before 0 (record { present = (get_or before 0 d).present; source = source })) f → CellsMeet s before f
+scalar_before s k o [] d source f is some e p h = absurd (omega (arith, some))
+scalar_before s k o (own ∷ below) d source f is some e p h =
+    subst (λ z. CellsMeet z (own ∷ below) f) (sym is)
+    (scalar_own k o own (record { present = own.present; source = source }) below f refl e p (subst (λ z. CellsMeet z (record { present = own.present; source = source } ∷ below) f) is h))
 
--- ---- a column
+list_own : (e : Shape) (own own' : ColumnReader) (below ys : List ColumnReader) (f : StripeFault) → marks_bytes own'.present ≡ marks_bytes own.present → own'.source.column ≡ own.source.column
+    → (ListsMeet own'.source f → ListsMeet own.source f) → (CellsMeet e ys f → CellsMeet e below f) → ListsOfMeet e (own' ∷ ys) f → ListsOfMeet e (own ∷ below) f
+list_own e own own' below ys f g c p q (inl h) = inl (marks_before own own' f g c h)
+list_own e own own' below ys f g c p q (inr (inl h)) = inr (inl (p h))
+list_own e own own' below ys f g c p q (inr (inr h)) = inr (inr (q h))
 
-pub reader_marks : (s : Shape) (before : List ColumnReader) (d : ColumnReader) (f : StripeFault) → 1 ≤ length before → MarksFail (marks_bytes (get_or before 0 d).present) (get_or before 0 d).source.column f → ReaderFault s (map origin before) f
+pub list_before : (e : Shape) (before ys : List ColumnReader) (d : ColumnReader) (own' : ColumnReader) (f : StripeFault) → 1 ≤ length before → own'.present ≡ (get_or before 0 d).present
+    → own'.source.column ≡ (get_or before 0 d).source.column → (ListsMeet own'.source f → ListsMeet (get_or before 0 d).source f)
+    → (CellsMeet e ys f → CellsMeet e (take (length (slice_set before 0 own') - 1) (drop 1 (slice_set before 0 own'))) f)
+    → ListsOfMeet e (put_mid 1 (length (slice_set before 0 own') - 1) (slice_set before 0 own') ys) f → ListsOfMeet e before f
+list_before e [] ys d own' f some g c p q h = absurd (omega (arith, some))
+list_before e (own ∷ below) ys d own' f some g c p q h =
+    list_own e own own' below ys f (ap marks_bytes g) c p (λ k. subst (λ t. CellsMeet e t f) (behind own' below) (q k)) (subst (λ t. ListsOfMeet e t f) (put_behind own' below ys) h)
+
+pub lists_cells : (s e : Shape) (o : List ℕ) (readers : List ColumnReader) (f : StripeFault) → s ≡ list_of e o → ListsOfMeet e readers f → CellsMeet s readers f
+lists_cells s e o [] f is h = h
+lists_cells s e o (own ∷ below) f is h = subst (λ z. CellsMeet z (own ∷ below) f) (sym is) h
+
+pub cells_lists : (s e : Shape) (o : List ℕ) (readers : List ColumnReader) (f : StripeFault) → s ≡ list_of e o → CellsMeet s readers f → ListsOfMeet e readers f
+cells_lists s e o [] f is h = h
+cells_lists s e o (own ∷ below) f is h = subst (λ z. CellsMeet z (own ∷ below) f) is h
+
+struct_own : (fs : Fields) (o : List ℕ) (own : ColumnReader) (below ys : List ColumnReader) (f : StripeFault) → (FieldsMeet fs ys f → FieldsMeet fs below f)
+    → CellsMeet (struct_of fs o) (own ∷ ys) f → CellsMeet (struct_of fs o) (own ∷ below) f
+struct_own fs o own below ys f q (inl h) = inl h
+struct_own fs o own below ys f q (inr (inl h)) = inr (inl h)
+struct_own fs o own below ys f q (inr (inr h)) = inr (inr (q h))
+
+pub struct_before : (s : Shape) (fs : Fields) (o : List ℕ) (before ys : List ColumnReader) (f : StripeFault) → s ≡ struct_of fs o → 1 ≤ length before
+    → (FieldsMeet fs ys f → FieldsMeet fs (take (length before - 1) (drop 1 before)) f) → CellsMeet s (put_mid 1 (length before - 1) before ys) f → CellsMeet s before f
+struct_before s fs o [] ys f is some q h = absurd (omega (arith, some))
+struct_before s fs o (own ∷ below) ys f is some q h =
+    subst (λ z. CellsMeet z (own ∷ below) f) (sym is)
+    (struct_own fs o own below ys f (λ k. subst (λ t. FieldsMeet fs t f) (behind own below) (q k)) (subst (λ z. CellsMeet z (own ∷ ys) f) is (subst (λ t. CellsMeet s t f) (put_behind own below ys) h)))
+
+field_own : (name : List ℕ) (s : Shape) (fs : Fields) (before after : List ColumnReader) (f : StripeFault) → (CellsMeet s (take (width s) after) f → CellsMeet s (take (width s) before) f)
+    → (FieldsMeet fs (drop (width s) after) f → FieldsMeet fs (drop (width s) before) f) → FieldsMeet (field name s fs) after f → FieldsMeet (field name s fs) before f
+field_own name s fs before after f p q (inl h) = inl (p h)
+field_own name s fs before after f p q (inr h) = inr (q h)
+
+pub fields_before : (all : Fields) (name : List ℕ) (s : Shape) (fs : Fields) (before after own own' rest rest' : List ColumnReader) (f : StripeFault)
+    → all ≡ field name s fs → own ≡ take (width s) before → rest ≡ drop (width s) before → after ≡ own' ++ rest' → length own' ≡ width s
+    → (CellsMeet s own' f → CellsMeet s own f) → (FieldsMeet fs rest' f → FieldsMeet fs rest f) → FieldsMeet all after f → FieldsMeet all before f
+fields_before all name s fs before after own own' rest rest' f is eo er ea n p q h =
+    let to : take (width s) after ≡ own' = ap (λ t. take (width s) t) ea ∙ ap (λ k. take k (own' ++ rest')) (sym n) ∙ take-append_seam own' rest' in
+    let tr : drop (width s) after ≡ rest' = ap (λ t. drop (width s) t) ea ∙ ap (λ k. drop k (own' ++ rest')) (sym n) ∙ drop-append_seam own' rest' in
+    subst (λ z. FieldsMeet z before f) (sym is)
+    (field_own name s fs before after f (λ k. subst (λ t. CellsMeet s t f) eo (p (subst (λ t. CellsMeet s t f) to k))) (λ k. subst (λ t. FieldsMeet fs t f) er (q (subst (λ t. FieldsMeet fs t f) tr k)))
+    (subst (λ z. FieldsMeet z after f) is h))
+
+-- ---- the fault that is met
+
+pub reader_marks : (s : Shape) (before : List ColumnReader) (d : ColumnReader) (f : StripeFault) → 1 ≤ length before → MarksFail (marks_bytes (get_or before 0 d).present) (get_or before 0 d).source.column f → CellsMeet s before f
 reader_marks s [] d f some h = absurd (omega (arith, some))
 reader_marks s (own ∷ below) d f some h = inl h
 
-own_reader : (s : Shape) (readers : List Origin) (f : StripeFault) → OwnFault s readers f → ReaderFault s readers f
-own_reader s [] f h = h
-own_reader s (own ∷ below) f h = inr h
+pub reader_scalar : (s : Shape) (k : Scalar) (o : List ℕ) (before : List ColumnReader) (d : ColumnReader) (f : StripeFault) → s ≡ scalar k o → 1 ≤ length before
+    → ScalarMeets k (get_or before 0 d).source f → CellsMeet s before f
+reader_scalar s k o [] d f is some h = absurd (omega (arith, some))
+reader_scalar s k o (own ∷ below) d f is some h = subst (λ z. CellsMeet z (own ∷ below) f) (sym is) (inr (inl h))
 
-pub reader_own : (s : Shape) (before : List ColumnReader) (own' d : ColumnReader) (f : StripeFault) → 1 ≤ length before → origin own' ≡ origin (get_or before 0 d)
-    → OwnFault s (map origin (slice_set before 0 own')) f → ReaderFault s (map origin before) f
-reader_own s before own' d f some e h = own_reader s (map origin before) f (subst (λ t. OwnFault s t f) (origins_set before own' d some e) h)
+pub reader_struct : (s : Shape) (fs : Fields) (o : List ℕ) (before : List ColumnReader) (f : StripeFault) → s ≡ struct_of fs o → 1 ≤ length before
+    → FieldsMeet fs (take (length before - 1) (drop 1 before)) f → CellsMeet s before f
+reader_struct s fs o [] f is some h = absurd (omega (arith, some))
+reader_struct s fs o (own ∷ below) f is some h = subst (λ z. CellsMeet z (own ∷ below) f) (sym is) (inr (inr (subst (λ t. FieldsMeet fs t f) (behind own below) h)))
 
--- ---- its values
-
-pub own_scalar_fault : (s : Shape) (k : Scalar) (o : List ℕ) (before : List ColumnReader) (d : ColumnReader) (f : StripeFault) → s ≡ scalar k o → 1 ≤ length before
-    → ScalarFails k (source_origin (get_or before 0 d).source) f → OwnFault s (map origin before) f
-own_scalar_fault s k o [] d f is some h = absurd (omega (arith, some))
-own_scalar_fault s k o (own ∷ below) d f is some h = subst (λ z. OwnFault z (map origin (own ∷ below)) f) (sym is) (inl h)
-
-lists_own : (e : Shape) (o : List ℕ) (readers : List Origin) (f : StripeFault) → ListsFault e readers f → OwnFault (list_of e o) readers f
-lists_own e o [] f h = h
-lists_own e o (own ∷ below) f h = h
-
-pub own_list_fault : (s e : Shape) (o : List ℕ) (readers : List Origin) (f : StripeFault) → s ≡ list_of e o → ListsFault e readers f → OwnFault s readers f
-own_list_fault s e o readers f is h = subst (λ z. OwnFault z readers f) (sym is) (lists_own e o readers f h)
-
-pub own_struct_fault : (s : Shape) (fs : Fields) (o : List ℕ) (before : List ColumnReader) (f : StripeFault) → s ≡ struct_of fs o → 1 ≤ length before
-    → FieldsFault fs (map origin (take (length before - 1) (drop 1 before))) f → OwnFault s (map origin before) f
-own_struct_fault s fs o [] f is some h = absurd (omega (arith, some))
-own_struct_fault s fs o (own ∷ below) f is some h =
-    subst (λ z. OwnFault z (map origin (own ∷ below)) f) (sym is) (inr (subst (λ t. FieldsFault fs (map origin t) f) (behind own below) h))
-
--- ---- lists
-
-pub lists_size : (e : Shape) (before : List ColumnReader) (d : ColumnReader) (f : StripeFault) → 1 ≤ length before → ListsFail (integers_of (get_or before 0 d).source.numbers) (get_or before 0 d).source.column f → ListsFault e (map origin before) f
+pub lists_size : (e : Shape) (before : List ColumnReader) (d : ColumnReader) (f : StripeFault) → 1 ≤ length before → ListsMeet (get_or before 0 d).source f → ListsOfMeet e before f
 lists_size e [] d f some h = absurd (omega (arith, some))
-lists_size e (own ∷ below) d f some h = inl h
+lists_size e (own ∷ below) d f some h = inr (inl h)
 
-pub lists_cells : (e : Shape) (before : List ColumnReader) (own' d : ColumnReader) (f : StripeFault) → 1 ≤ length before
-    → ReaderFault e (map origin (take (length (slice_set before 0 own') - 1) (drop 1 (slice_set before 0 own')))) f → ListsFault e (map origin before) f
-lists_cells e [] own' d f some h = absurd (omega (arith, some))
-lists_cells e (own ∷ below) own' d f some h = inr (subst (λ t. ReaderFault e (map origin t) f) (behind own' below) h)
+pub lists_elements : (e : Shape) (before : List ColumnReader) (own' : ColumnReader) (f : StripeFault) → 1 ≤ length before
+    → CellsMeet e (take (length (slice_set before 0 own') - 1) (drop 1 (slice_set before 0 own'))) f → ListsOfMeet e before f
+lists_elements e [] own' f some h = absurd (omega (arith, some))
+lists_elements e (own ∷ below) own' f some h = inr (inr (subst (λ t. CellsMeet e t f) (behind own' below) h))
 
-pub lists_below : (e : Shape) (readers : List ColumnReader) (f : StripeFault) → 1 ≤ length readers → ReaderFault e (map origin (take (length readers - 1) (drop 1 readers))) f → ListsFault e (map origin readers) f
+pub lists_below : (e : Shape) (readers : List ColumnReader) (f : StripeFault) → 1 ≤ length readers → CellsMeet e (take (length readers - 1) (drop 1 readers)) f → ListsOfMeet e readers f
 lists_below e [] f some h = absurd (omega (arith, some))
-lists_below e (own ∷ below) f some h = inr (subst (λ t. ReaderFault e (map origin t) f) (behind own below) h)
-
--- ---- fields
+lists_below e (own ∷ below) f some h = inr (inr (subst (λ t. CellsMeet e t f) (behind own below) h))
 
 pub fields_first_fault : (all : Fields) (name : List ℕ) (s : Shape) (fs : Fields) (before own : List ColumnReader) (f : StripeFault) → all ≡ field name s fs → own ≡ take (width s) before
-    → ReaderFault s (map origin own) f → FieldsFault all (map origin before) f
-fields_first_fault all name s fs before own f is eo h =
-    subst (λ z. FieldsFault z (map origin before) f) (sym is) (inl (subst (λ t. ReaderFault s t f) (ap (map origin) eo ∙ map_take origin (width s) before) h))
+    → CellsMeet s own f → FieldsMeet all before f
+fields_first_fault all name s fs before own f is eo h = subst (λ z. FieldsMeet z before f) (sym is) (inl (subst (λ t. CellsMeet s t f) eo h))
 
 pub fields_others_fault : (all : Fields) (name : List ℕ) (s : Shape) (fs : Fields) (before rest : List ColumnReader) (f : StripeFault) → all ≡ field name s fs → rest ≡ drop (width s) before
-    → FieldsFault fs (map origin rest) f → FieldsFault all (map origin before) f
-fields_others_fault all name s fs before rest f is er h =
-    subst (λ z. FieldsFault z (map origin before) f) (sym is) (inr (subst (λ t. FieldsFault fs t f) (ap (map origin) er ∙ map_drop origin (width s) before) h))
+    → FieldsMeet fs rest f → FieldsMeet all before f
+fields_others_fault all name s fs before rest f is er h = subst (λ z. FieldsMeet z before f) (sym is) (inr (subst (λ t. FieldsMeet fs t f) er h))
 
 -- ---- from the readers to the columns
 
-pub own_of : (s : Shape) (columns : ℕ → Streams) (n m : ℕ) (own : Origin) → n ≡ m → own ≡ column_origin s (columns n) n → IsOf s columns m own
-own_of s columns n m own e is = subst (λ k. IsOf s columns k own) e is
-
-texts_column : (dictionary : Bool) (x : Streams) (n : ℕ) → (texts_of dictionary x n).column ≡ n
-texts_column true x n = refl
-texts_column false x n = refl
-
-reading_column : (s : Shape) (x : Streams) (n : ℕ) → (reading s x n).column ≡ n
-reading_column (scalar kind.Boolean o) x n = refl
-reading_column (scalar kind.Byte o) x n = refl
-reading_column (scalar kind.Short o) x n = refl
-reading_column (scalar kind.Int o) x n = refl
-reading_column (scalar kind.Long o) x n = refl
-reading_column (scalar kind.Date o) x n = refl
-reading_column (scalar kind.Binary o) x n = refl
-reading_column (scalar kind.String o) x n = texts_column (has_dictionary x) x n
-reading_column (list_of s o) x n = refl
-reading_column (struct_of fs o) x n = refl
-
-abbrev integers_from : Version → Sign → List ℕ → Integers
-integers_from version sign bytes = record { version = version; sign = sign; bytes = bytes }
-
--- a reader at the start of its stream is of that stream
-pub integers_start : (v : Version) (sign : Sign) (bytes : List ℕ) (r : Numbers) → NumbersStart v sign bytes r → integers_of r ≡ record { version = v; sign = sign; bytes = bytes }
-integers_start v sign bytes r s =
-    ap (λ k. integers_from k r.sign r.bytes.now) s.version_is ∙ ap (λ k. integers_from v k r.bytes.now) s.sign_is ∙ ap (λ k. integers_from v sign k) s.bytes_are
-
-own_down : (s : Shape) (columns : ℕ → Streams) (n : ℕ) (own : Origin) (below : List Origin) (f : StripeFault) → IsOf s columns n own → (BelowFault s below f → FaultBelow s columns n f)
-    → ReaderFault s (own ∷ below) f → FaultDown s columns n f
+own_down : (s : Shape) (columns : ℕ → Streams) (n : ℕ) (own : ColumnReader) (below : List ColumnReader) (f : StripeFault) → IsOf s columns n own → (BelowMeet s below f → FaultBelow s columns n f)
+    → CellsMeet s (own ∷ below) f → FaultDown s columns n f
 own_down s columns n own below f is deeper (inl h) =
-    inl (inl (subst (λ c. MarksFail ((columns n).stream 0) c f) (reading_column s (columns n) n) (subst (λ o. MarksFail o.marks o.source.column f) is h)))
-own_down s columns n own below f is deeper (inr (inl h)) = inl (inr (inr (subst (λ o. ValuesFail s o.source f) is h)))
+    inl (inl (subst (λ c. MarksFail ((columns n).stream 0) c f) is.1 (subst (λ b. MarksFail b own.source.column f) (marks_start ((columns n).stream 0) own.present is.0.0) h)))
+own_down s columns n own below f is deeper (inr (inl h)) = inl (inr (inr (values_start s (columns n) own.source n f is.0.1 is.1 h)))
 own_down s columns n own below f is deeper (inr (inr h)) = inr (deeper h)
 
-from_down : (s : Shape) (columns : ℕ → Streams) (n : ℕ) (readers : List Origin) (f : StripeFault) → ((below : List Origin) → AreBelow s columns n below → BelowFault s below f → FaultBelow s columns n f)
-    → AreOf s columns n readers → ReaderFault s readers f → FaultDown s columns n f
+from_down : (s : Shape) (columns : ℕ → Streams) (n : ℕ) (readers : List ColumnReader) (f : StripeFault)
+    → ((below : List ColumnReader) → AreBelow s columns n below → BelowMeet s below f → FaultBelow s columns n f) → AreOf s columns n readers → CellsMeet s readers f → FaultDown s columns n f
 from_down s columns n [] f deeper are h = absurd h
 from_down s columns n (own ∷ below) f deeper are h = own_down s columns n own below f are.0 (deeper below are.1) h
 
 mutual
-  below_down : (s : Shape) (columns : ℕ → Streams) (n : ℕ) (below : List Origin) (f : StripeFault) → AreBelow s columns n below → BelowFault s below f → FaultBelow s columns n f
+  below_down : (s : Shape) (columns : ℕ → Streams) (n : ℕ) (below : List ColumnReader) (f : StripeFault) → AreBelow s columns n below → BelowMeet s below f → FaultBelow s columns n f
   below_down (scalar k o) columns n below f are h = h
   below_down (list_of s o) columns n below f are h = from_down s columns (suc n) below f (λ b a k. below_down s columns (suc n) b f a k) are h
   below_down (struct_of fs o) columns n below f are h = fields_down fs columns (suc n) below f are h
 
-  fields_down : (fs : Fields) (columns : ℕ → Streams) (n : ℕ) (readers : List Origin) (f : StripeFault) → AreFields fs columns n readers → FieldsFault fs readers f → FaultWithin fs columns n f
+  fields_down : (fs : Fields) (columns : ℕ → Streams) (n : ℕ) (readers : List ColumnReader) (f : StripeFault) → AreFields fs columns n readers → FieldsMeet fs readers f → FaultWithin fs columns n f
   fields_down no_field columns n readers f are h = h
   fields_down (field name s fs) columns n readers f are (inl h) = inl (from_down s columns n (take (width s) readers) f (λ b a k. below_down s columns n b f a k) are.0 h)
   fields_down (field name s fs) columns n readers f are (inr h) = inr (fields_down fs columns (n + width s) (drop (width s) readers) f are.1 h)
 
-pub readers_down : (s : Shape) (columns : ℕ → Streams) (n : ℕ) (readers : List Origin) (f : StripeFault) → AreOf s columns n readers → ReaderFault s readers f → FaultDown s columns n f
+pub readers_down : (s : Shape) (columns : ℕ → Streams) (n : ℕ) (readers : List ColumnReader) (f : StripeFault) → AreOf s columns n readers → CellsMeet s readers f → FaultDown s columns n f
 readers_down s columns n readers f are h = from_down s columns n readers f (λ b a k. below_down s columns n b f a k) are h
 
 pub down_list : (s e : Shape) (o : List ℕ) (columns : ℕ → Streams) (n m : ℕ) (f : StripeFault) → s ≡ list_of e o → m ≡ n + 1 → FaultDown e columns m f → FaultDown s columns n f
@@ -224,11 +223,11 @@ pub fault_from_start : (s t : Shape) (columns : ℕ → Streams) (old : List Col
 fault_from_start s t columns old f same none h =
     by_number s columns f (subst (λ z. FaultDown z columns 0 f) same (subst (λ rs. FaultDown t columns (length rs) f) none h))
 
-pub fault_from_readers : (s t : Shape) (columns : ℕ → Streams) (readers : List Origin) (f : StripeFault) → t ≡ s → AreOf t columns 0 readers → ReaderFault t readers f → HasFault s columns f
+pub fault_from_readers : (s t : Shape) (columns : ℕ → Streams) (readers : List ColumnReader) (f : StripeFault) → t ≡ s → AreOf t columns 0 readers → CellsMeet t readers f → HasFault s columns f
 fault_from_readers s t columns readers f same are h =
     by_number s columns f (subst (λ z. FaultDown z columns 0 f) same (readers_down t columns 0 readers f are h))
 
-pub reason_from_readers : (s t : Shape) (columns : ℕ → Streams) (count : ℕ) (readers : List Origin) (f : StripeFault) → t ≡ s → AreOf t columns 0 readers → TooManyRows count f ⊎ ReaderFault t readers f
+pub reason_from_readers : (s t : Shape) (columns : ℕ → Streams) (count : ℕ) (readers : List ColumnReader) (f : StripeFault) → t ≡ s → AreOf t columns 0 readers → TooManyRows count f ⊎ CellsMeet t readers f
     → TooManyRows count f ⊎ HasFault s columns f
 reason_from_readers s t columns count readers f same are (inl h) = inl h
 reason_from_readers s t columns count readers f same are (inr h) = inr (fault_from_readers s t columns readers f same are h)

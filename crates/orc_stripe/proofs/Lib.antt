@@ -8,11 +8,14 @@ pub mod OneRows
 pub mod StartLemmas
 pub mod Started
 pub mod Sizes
+pub mod FirstLemmas
+pub mod MetLemmas
 pub mod Arms
 pub mod Ends
 pub mod Opened
 pub mod Entries
 pub mod RowsLemmas
+pub mod StartFaults
 pub mod FaultLemmas
 pub mod DirectoryLemmas
 pub mod LocatedLemmas

@@ -38,12 +38,12 @@ drop_none : (n : ℕ) → drop n (let e : List ℕ = [] in e) ≡ []
 drop_none zero = refl
 drop_none (suc n) = refl
 
-drop_twice : (a b : ℕ) (xs : List ℕ) → drop b (drop a xs) ≡ drop (a + b) xs
+pub drop_twice : (a b : ℕ) (xs : List ℕ) → drop b (drop a xs) ≡ drop (a + b) xs
 drop_twice zero b xs = let e : b ≡ 0 + b = omega arith in ap (λ n. drop n xs) e
 drop_twice (suc a) b [] = drop_none b ∙ sym (drop_none (suc a + b))
 drop_twice (suc a) b (x ∷ xs) = let e : suc (a + b) ≡ suc a + b = omega arith in drop_twice a b xs ∙ ap (λ n. drop n (x ∷ xs)) e
 
-past_end : {X : Type 0} (n : ℕ) (xs : List X) → length xs ≤ n → drop n xs ≡ []
+pub past_end : {X : Type 0} (n : ℕ) (xs : List X) → length xs ≤ n → drop n xs ≡ []
 past_end zero [] h = refl
 past_end zero (x ∷ xs) h = absurd (omega (arith, h))
 past_end (suc n) [] h = refl

@@ -6,6 +6,7 @@ use Rattle.std.specs.Str.{is_utf8}
 use Rattle.orc_types.specs.Fits.{signed_fits}
 use Rattle.orc_stripe.specs.declared.column.Entry.{Entry}
 use Rattle.orc_stripe.specs.Columns.{IsText, IsWord, entry_bytes}
+use Rattle.orc_stripe.specs.ValueFaults.{is_text, names_text}
 use Rattle.orc_types.specs.Views.{cell_of_value}
 use Rattle.orc_types.specs.declared.value.Value.{Bool as boolean, Int, Date, Text, the_lemmas}
 use Rattle.std.specs.Borrow.{Bor}
@@ -38,6 +39,10 @@ pub fits_day : (n : ℤ) → FitsSigned w32 n → signed_fits 31 n ≡ true
 fits_day (pos n) f = lt-ltb n (2 ^ 31) (omega (arith, f))
 fits_day (negsuc n) f = lt-ltb n (2 ^ 31) (omega (arith, f))
 
+pub fits_long : (n : ℤ) → FitsSigned w64 n → signed_fits 63 n ≡ true
+fits_long (pos n) f = lt-ltb n (2 ^ 63) (omega (arith, f))
+fits_long (negsuc n) f = lt-ltb n (2 ^ 63) (omega (arith, f))
+
 pub day_fits : (n : ℤ) → signed_fits 31 n ≡ true → FitsSigned w32 n
 day_fits (pos n) h = let l : n < 2 ^ 31 = ltb-true n (2 ^ 31) h in search (rules, l)
 day_fits (negsuc n) h = let l : n < 2 ^ 31 = ltb-true n (2 ^ 31) h in search (rules, l)
@@ -62,6 +67,13 @@ no_text entries n i e is lt at none c w =
     let b = v.1 in
     let same : v.0 ≡ entry_bytes e = cc in
     none (ap is_utf8 (sym same) ∙ v.2.0)
+
+not_true : (b : Bool) → (b ≡ true → ⊥) → b ≡ false
+not_true true h = absurd (h refl)
+not_true false h = refl
+
+pub names_none : (entries : List Entry) (n : ℤ) (i : ℕ) (e : Entry) → n ≡ pos i → i < length entries → e ≡ get_or entries i e → (is_utf8 (entry_bytes e) ≡ true → ⊥) → names_text (map entry_bytes entries) n ≡ false
+names_none entries n i e is lt at none = rw is (ap is_text (entry_at entries i e lt at) ∙ not_true (is_utf8 (entry_bytes e)) none)
 
 pub no_word : (entries : List Entry) (n : ℤ) (i : ℕ) → n ≡ pos i → (i < length entries → ⊥) → (c : Cell) → IsWord (map entry_bytes entries) n c → ⊥
 no_word entries n i is none c w = let v = rw is at w in none (entry_below entries i v.0 v.1)

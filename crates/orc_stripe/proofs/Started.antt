@@ -1,5 +1,5 @@
 -- Readers that are made from the footer, in the columns' order.
-use Rattle.std.proofs.Common.{◌≡◌, ℕ, zero, suc, ◌+◌, ◌<◌, Bool, true, false, List, [], ◌∷◌, ◌++◌, map, length, take, drop, get_or, refl, sym, ap, ◌∙◌, subst, arith, append_assoc, append-nil, length-append}
+use Rattle.std.proofs.Common.{◌≡◌, ℕ, zero, suc, ◌+◌, ◌<◌, Bool, true, false, List, [], ◌∷◌, ◌++◌, length, take, drop, get_or, refl, sym, ap, ◌∙◌, subst, arith, append_assoc, append-nil, length-append}
 use Rattle.std.proofs.Math.Path.{fun_ext}
 use Rattle.std.proofs.Math.Seq.{take-append_seam, drop-append_seam}
 use Rattle.orc_types.specs.Cells.{Cell, values}
@@ -10,10 +10,8 @@ use Rattle.orc_wire.specs.declared.encoding.Encoding.{Encoding}
 use Rattle.orc_wire.specs.declared.stripe_footer.StripeFooter.{StripeFooter}
 use Rattle.orc_stripe.specs.declared.column.ColumnReader.{ColumnReader}
 use Rattle.orc_stripe.specs.Stripe.{Streams, columns_of, columns_from, encoding_at, has_dictionary, SpellsScalar, SpellsTexts, SpellsCells, SpellsFields}
-use Rattle.orc_stripe.specs.Faults.{Origin, origin, IsOf, AreOf, AreFields}
-use Rattle.orc_stripe.proofs.FaultLemmas.{map_take, map_drop}
 use Rattle.orc_stripe.specs.Spellings.{joined}
-use Rattle.orc_stripe.specs.Starting.{OwnStart, TreeStart, FieldsStart, LacksEntries, ScalarLacks, HasNoDictionary, Puts, PutsFields}
+use Rattle.orc_stripe.specs.Starting.{OwnStart, TreeStart, FieldsStart, LacksEntries, ScalarLacks, HasNoDictionary, IsOf, AreOf, AreFields, Puts, PutsFields}
 
 pub encoding_there : (es : List Encoding) (c : ℕ) (d : Encoding) → c < length es → encoding_at es c ≡ get_or es c d
 encoding_there [] c d h = absurd (omega (arith, h))
@@ -42,45 +40,45 @@ behind_own old own mid more new e n = n ∙ ap (λ t. t ++ more) e ∙ append_as
 
 -- ---- what the readers are of
 
-are_scalar : (s : Shape) (k : Scalar) (o : List ℕ) (columns : ℕ → Streams) (n : ℕ) (own : Origin) → s ≡ scalar k o → IsOf s columns n own → AreOf s columns n (own ∷ [])
+are_scalar : (s : Shape) (k : Scalar) (o : List ℕ) (columns : ℕ → Streams) (n : ℕ) (own : ColumnReader) → s ≡ scalar k o → IsOf s columns n own → AreOf s columns n (own ∷ [])
 are_scalar s k o columns n own is i =
     let j : IsOf (scalar k o) columns n own = subst (λ t. IsOf t columns n own) is i in
     subst (λ t. AreOf t columns n (own ∷ [])) (sym is) (j, tt)
 
-are_list : (s e : Shape) (o : List ℕ) (columns : ℕ → Streams) (n m : ℕ) (own : Origin) (more : List Origin) → s ≡ list_of e o → m ≡ n + 1 → IsOf s columns n own → AreOf e columns m more → AreOf s columns n (own ∷ more)
+are_list : (s e : Shape) (o : List ℕ) (columns : ℕ → Streams) (n m : ℕ) (own : ColumnReader) (more : List ColumnReader) → s ≡ list_of e o → m ≡ n + 1 → IsOf s columns n own → AreOf e columns m more → AreOf s columns n (own ∷ more)
 are_list s e o columns n m own more is next i a =
     let j : IsOf (list_of e o) columns n own = subst (λ t. IsOf t columns n own) is i in
     let g : m ≡ suc n = omega (arith, next) in
     subst (λ t. AreOf t columns n (own ∷ more)) (sym is) (j, subst (λ k. AreOf e columns k more) g a)
 
-are_struct : (s : Shape) (fs : Fields) (o : List ℕ) (columns : ℕ → Streams) (n m : ℕ) (own : Origin) (more : List Origin) → s ≡ struct_of fs o → m ≡ n + 1 → IsOf s columns n own → AreFields fs columns m more
+are_struct : (s : Shape) (fs : Fields) (o : List ℕ) (columns : ℕ → Streams) (n m : ℕ) (own : ColumnReader) (more : List ColumnReader) → s ≡ struct_of fs o → m ≡ n + 1 → IsOf s columns n own → AreFields fs columns m more
     → AreOf s columns n (own ∷ more)
 are_struct s fs o columns n m own more is next i a =
     let j : IsOf (struct_of fs o) columns n own = subst (λ t. IsOf t columns n own) is i in
     let g : m ≡ suc n = omega (arith, next) in
     subst (λ t. AreOf t columns n (own ∷ more)) (sym is) (j, subst (λ k. AreFields fs columns k more) g a)
 
-are_none : (fs : Fields) (columns : ℕ → Streams) (n : ℕ) (more : List Origin) → fs ≡ no_field → AreFields fs columns n more
+are_none : (fs : Fields) (columns : ℕ → Streams) (n : ℕ) (more : List ColumnReader) → fs ≡ no_field → AreFields fs columns n more
 are_none fs columns n more is = subst (λ t. AreFields t columns n more) (sym is) tt
 
 are_more : (all : Fields) (name : List ℕ) (s : Shape) (fs : Fields) (columns : ℕ → Streams) (n m : ℕ) (a b : List ColumnReader) → all ≡ field name s fs → m ≡ n + width s → length a ≡ width s
-    → AreOf s columns n (map origin a) → AreFields fs columns m (map origin b) → AreFields all columns n (map origin (a ++ b))
+    → AreOf s columns n a → AreFields fs columns m b → AreFields all columns n (a ++ b)
 are_more all name s fs columns n m a b is next counted first others =
-    let t : map origin a ≡ take (width s) (map origin (a ++ b)) = ap (map origin) (sym (ap (λ k. take k (a ++ b)) (sym counted) ∙ take-append_seam a b)) ∙ map_take origin (width s) (a ++ b) in
-    let d : map origin b ≡ drop (width s) (map origin (a ++ b)) = ap (map origin) (sym (ap (λ k. drop k (a ++ b)) (sym counted) ∙ drop-append_seam a b)) ∙ map_drop origin (width s) (a ++ b) in
-    subst (λ z. AreFields z columns n (map origin (a ++ b))) (sym is)
-    (subst (λ rs. AreOf s columns n rs) t first, subst (λ rs. AreFields fs columns (n + width s) rs) d (subst (λ k. AreFields fs columns k (map origin b)) next others))
+    let t : take (width s) (a ++ b) ≡ a = ap (λ k. take k (a ++ b)) (sym counted) ∙ take-append_seam a b in
+    let d : drop (width s) (a ++ b) ≡ b = ap (λ k. drop k (a ++ b)) (sym counted) ∙ drop-append_seam a b in
+    subst (λ z. AreFields z columns n (a ++ b)) (sym is)
+    (subst (λ rs. AreOf s columns n rs) (sym t) first, subst (λ rs. AreFields fs columns (n + width s) rs) (sym d) (subst (λ k. AreFields fs columns k b) next others))
 
-pub put_scalar : (f : StripeFooter) (b : List ℕ) (s : Shape) (k : Scalar) (o : List ℕ) (old new : List ColumnReader) (own : ColumnReader) → s ≡ scalar k o → new ≡ old ++ own ∷ [] → OwnStart s (columns_of f b (length old)) own → IsOf s (columns_of f b) (length old) (origin own) → Puts f b s old new
+pub put_scalar : (f : StripeFooter) (b : List ℕ) (s : Shape) (k : Scalar) (o : List ℕ) (old new : List ColumnReader) (own : ColumnReader) → s ≡ scalar k o → new ≡ old ++ own ∷ [] → OwnStart s (columns_of f b (length old)) own → IsOf s (columns_of f b) (length old) own → Puts f b s old new
 put_scalar f b s k o old new own is e h i = record {
   more = own ∷ [];
   parts = e;
   counted = sym (ap width is);
   start = rw is (own_first f b (length old) (scalar k o) own (subst (λ t. OwnStart t (columns_of f b (length old)) own) is h));
-  origins = are_scalar s k o (columns_of f b) (length old) (origin own) is i;
+  origins = are_scalar s k o (columns_of f b) (length old) own is i;
 }
 
-pub put_list : (f : StripeFooter) (b : List ℕ) (s e : Shape) (o : List ℕ) (old mid new : List ColumnReader) (own : ColumnReader) → s ≡ list_of e o → mid ≡ old ++ own ∷ [] → OwnStart s (columns_of f b (length old)) own → IsOf s (columns_of f b) (length old) (origin own) → Puts f b e mid new → Puts f b s old new
+pub put_list : (f : StripeFooter) (b : List ℕ) (s e : Shape) (o : List ℕ) (old mid new : List ColumnReader) (own : ColumnReader) → s ≡ list_of e o → mid ≡ old ++ own ∷ [] → OwnStart s (columns_of f b (length old)) own → IsOf s (columns_of f b) (length old) own → Puts f b e mid new → Puts f b s old new
 put_list f b s e o old mid new own is m h i p = record {
   more = own ∷ p.more;
   parts = behind_own old own mid p.more new m p.parts;
@@ -89,10 +87,10 @@ put_list f b s e o old mid new own is m h i p = record {
     own_first f b (length old) (list_of e o) own (subst (λ t. OwnStart t (columns_of f b (length old)) own) is h),
     subst (λ x. TreeStart e x p.more) (sym (from_next f b (length old) (length mid) (pushed old own mid m))) p.start,
   );
-  origins = are_list s e o (columns_of f b) (length old) (length mid) (origin own) (map origin p.more) is (pushed old own mid m) i p.origins;
+  origins = are_list s e o (columns_of f b) (length old) (length mid) own p.more is (pushed old own mid m) i p.origins;
 }
 
-pub put_struct : (f : StripeFooter) (b : List ℕ) (s : Shape) (fs : Fields) (o : List ℕ) (old mid new : List ColumnReader) (own : ColumnReader) → s ≡ struct_of fs o → mid ≡ old ++ own ∷ [] → OwnStart s (columns_of f b (length old)) own → IsOf s (columns_of f b) (length old) (origin own) → PutsFields f b fs mid new
+pub put_struct : (f : StripeFooter) (b : List ℕ) (s : Shape) (fs : Fields) (o : List ℕ) (old mid new : List ColumnReader) (own : ColumnReader) → s ≡ struct_of fs o → mid ≡ old ++ own ∷ [] → OwnStart s (columns_of f b (length old)) own → IsOf s (columns_of f b) (length old) own → PutsFields f b fs mid new
     → Puts f b s old new
 put_struct f b s fs o old mid new own is m h i p = record {
   more = own ∷ p.more;
@@ -102,7 +100,7 @@ put_struct f b s fs o old mid new own is m h i p = record {
     own_first f b (length old) (struct_of fs o) own (subst (λ t. OwnStart t (columns_of f b (length old)) own) is h),
     subst (λ x. FieldsStart fs x p.more) (sym (from_next f b (length old) (length mid) (pushed old own mid m))) p.start,
   );
-  origins = are_struct s fs o (columns_of f b) (length old) (length mid) (origin own) (map origin p.more) is (pushed old own mid m) i p.origins;
+  origins = are_struct s fs o (columns_of f b) (length old) (length mid) own p.more is (pushed old own mid m) i p.origins;
 }
 
 pub put_none : (f : StripeFooter) (b : List ℕ) (fs : Fields) (old : List ColumnReader) → fs ≡ no_field → PutsFields f b fs old old
@@ -194,8 +192,8 @@ none_put f b s old cells none h =
     let k = subst (λ x. SpellsCells s x cells) (sym (from_start f b)) h in
     subst (λ t. SpellsCells s (columns_from f b (length t)) cells) (sym none) k
 
-pub all_origins : (f : StripeFooter) (b : List ℕ) (s : Shape) (old new : List ColumnReader) → old ≡ [] → Puts f b s old new → AreOf s (columns_of f b) 0 (map origin new)
+pub all_origins : (f : StripeFooter) (b : List ℕ) (s : Shape) (old new : List ColumnReader) → old ≡ [] → Puts f b s old new → AreOf s (columns_of f b) 0 new
 all_origins f b s old new none p =
     let e : p.more ≡ new = sym (p.parts ∙ ap (λ t. t ++ p.more) none) in
-    let h = subst (λ rs. AreOf s (columns_of f b) (length old) (map origin rs)) e p.origins in
-    subst (λ t. AreOf s (columns_of f b) (length t) (map origin new)) none h
+    let h = subst (λ rs. AreOf s (columns_of f b) (length old) rs) e p.origins in
+    subst (λ t. AreOf s (columns_of f b) (length t) new) none h

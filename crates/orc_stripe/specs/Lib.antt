@@ -12,7 +12,9 @@ pub mod Located
 pub mod Starting
 pub mod Opening
 pub mod RunFaults
+pub mod ValueFaults
 pub mod Faults
+pub mod ReaderFaults
 pub mod Opened
 pub mod WordList
 pub mod CellValues

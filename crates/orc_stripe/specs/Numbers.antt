@@ -7,7 +7,7 @@ use Rattle.orc_rle.specs.Stream.{IsStream}
 use Rattle.orc_stripe.specs.declared.version.Version.{Version}
 use Rattle.orc_stripe.specs.declared.version.Version.TheVariants.{One, Two}
 use Rattle.orc_stripe.specs.declared.numbers.Numbers.{Numbers}
-use Rattle.orc_stripe.specs.Runs.{RunsLeft}
+use Rattle.orc_stripe.specs.Runs.{RunsLeft, RunsFirst}
 
 -- a run of that version
 abbrev pub is_run : Version → Sign → List ℕ → List ℤ → Type 0
@@ -21,3 +21,7 @@ AreNumbers version sign bytes values = IsStream (is_run version sign) bytes valu
 -- those that a reader has still to give
 abbrev pub NumbersLeft : Numbers → List ℤ → Type 0
 NumbersLeft r all = RunsLeft (is_run r.version r.sign) (drop r.used r.run.values) (drop r.at r.bytes.now) all
+
+-- those that it gives first, whatever becomes of the others
+abbrev pub NumbersFirst : Numbers → List ℤ → Type 0
+NumbersFirst r all = RunsFirst (is_run r.version r.sign) (drop r.used r.run.values) (drop r.at r.bytes.now) all

@@ -1,5 +1,5 @@
 -- Why a stream has no runs as its column needs them (ORC specification, "Run Length Encoding").
-use Rattle.std.specs.Prelude.{◌≡◌, ℕ, ◌<◌, List, length, ◌⊎◌}
+use Rattle.std.specs.Prelude.{◌≡◌, ℕ, ℤ, ◌<◌, List, length, ◌⊎◌}
 use Rattle.orc_rle.specs.declared.sign.Sign.{Sign}
 use Rattle.orc_rle.specs.declared.fault.RunFault.{RunFault}
 use Rattle.orc_rle.specs.declared.fault.RunFault.TheVariants as run
@@ -10,6 +10,8 @@ use Rattle.orc_rle.specs.Stream.{FailsAt}
 use Rattle.orc_stripe.specs.declared.version.Version.{Version}
 use Rattle.orc_stripe.specs.declared.version.Version.TheVariants.{One, Two}
 use Rattle.orc_stripe.specs.declared.numbers.Numbers.{Numbers}
+use Rattle.orc_stripe.specs.Numbers.{is_run, AreNumbers}
+use Rattle.orc_stripe.specs.Runs.{Begins}
 
 -- the fault of bytes that have no run of that version in front
 abbrev pub no_run : Version → Sign → List ℕ → RunFault → Type 0
@@ -37,6 +39,13 @@ pub record Integers : Type 0 where
   pub version : Version
   pub sign : Sign
   pub bytes : List ℕ
+
+-- the integers that its bytes spell, and those that come first in them
+abbrev pub AreIntegers : Integers → List ℤ → Type 0
+AreIntegers from all = AreNumbers from.version from.sign from.bytes all
+
+abbrev pub IntegersFirst : Integers → List ℤ → Type 0
+IntegersFirst from all = Begins (is_run from.version from.sign) from.bytes all
 
 abbrev pub IntegersFail : Integers → RunFault → Type 0
 IntegersFail from fault = StreamFails (no_run from.version from.sign) from.bytes fault

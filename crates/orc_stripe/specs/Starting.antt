@@ -18,7 +18,6 @@ use Rattle.orc_stripe.specs.declared.starting.ColumnStreams.{ColumnStreams}
 use Rattle.orc_wire.specs.declared.stripe_footer.StripeFooter.{StripeFooter}
 use Rattle.orc_stripe.specs.Columns.{entry_bytes}
 use Rattle.orc_stripe.specs.Stripe.{Streams, version, has_dictionary, IsDictionary, most_cells, columns_of, columns_from}
-use Rattle.orc_stripe.specs.Faults.{origin, AreOf, AreFields}
 
 pub record NumbersStart (v : Version) (sign : Sign) (bytes : List ℕ) (r : Numbers) : Type 0 where
   pub version_is : r.version ≡ v
@@ -121,17 +120,40 @@ pub record DataStart (x : Streams) (r : Source) : Type 0 where
   pub bytes : BytesStart (x.stream 1) r.bytes
   pub bits : BitsStart (x.stream 1) r.bits
 
+-- a column's own reader, which has the column's number
+abbrev pub IsOf : Shape → (ℕ → Streams) → ℕ → ColumnReader → Type 0
+IsOf s columns n own = OwnStart s (columns n) own × (own.source.column ≡ n)
+
+abbrev pub AreFrom : (ℕ → List ColumnReader → Type 0) → Shape → (ℕ → Streams) → ℕ → List ColumnReader → Type 0
+AreFrom found s columns n [] = ⊥
+AreFrom found s columns n (own ∷ below) = IsOf s columns n own × found n below
+
+abbrev mutual
+  pub AreBelow : Shape → (ℕ → Streams) → ℕ → List ColumnReader → Type 0
+  AreBelow (scalar k o) columns n below = Unit {0}
+  AreBelow (list_of s o) columns n below = AreFrom (AreBelow s columns) s columns (suc n) below
+  AreBelow (struct_of fs o) columns n below = AreFields fs columns (suc n) below
+
+  pub AreFields : Fields → (ℕ → Streams) → ℕ → List ColumnReader → Type 0
+  AreFields no_field columns n readers = Unit {0}
+  AreFields (field name s fs) columns n readers =
+      AreFrom (AreBelow s columns) s columns n (take (width s) readers) × AreFields fs columns (n + width s) (drop (width s) readers)
+
+-- the readers of a column and of those below it, by the columns' numbers
+abbrev pub AreOf : Shape → (ℕ → Streams) → ℕ → List ColumnReader → Type 0
+AreOf s columns n readers = AreFrom (AreBelow s columns) s columns n readers
+
 -- the readers of a column and of those below it stand behind the old ones; the column's number is the number of the old ones
 pub record Puts (footer : StripeFooter) (bytes : List ℕ) (s : Shape) (old new : List ColumnReader) : Type 0 where
   pub more : List ColumnReader
   pub parts : new ≡ old ++ more
   pub counted : length more ≡ width s
   pub start : TreeStart s (columns_from footer bytes (length old)) more
-  pub origins : AreOf s (columns_of footer bytes) (length old) (map origin more)
+  pub origins : AreOf s (columns_of footer bytes) (length old) more
 
 pub record PutsFields (footer : StripeFooter) (bytes : List ℕ) (fs : Fields) (old new : List ColumnReader) : Type 0 where
   pub more : List ColumnReader
   pub parts : new ≡ old ++ more
   pub counted : length more ≡ widths fs
   pub start : FieldsStart fs (columns_from footer bytes (length old)) more
-  pub origins : AreFields fs (columns_of footer bytes) (length old) (map origin more)
+  pub origins : AreFields fs (columns_of footer bytes) (length old) more

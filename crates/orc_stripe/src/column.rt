@@ -1,7 +1,7 @@
-ghost use Rattle.std.specs.Prelude.{◌≡◌, ◌≢◌, [], ◌∷◌, ◌≤◌, ◌-◌, List, pos, IfOk, IfErr, OnOk, OnErr, length};
+ghost use Rattle.std.specs.Prelude.{◌≡◌, ◌≢◌, [], ◌∷◌, ◌++◌, ◌≤◌, ◌-◌, List, pos, IfOk, IfErr, OnOk, OnErr, length};
 ghost use Rattle.orc_types.specs.Views.{cell_of_value};
-ghost use Rattle.orc_stripe.specs.Fronts.{Leaves, Lacks};
-ghost use Rattle.orc_stripe.specs.Numbers.{NumbersLeft};
+ghost use Rattle.orc_stripe.specs.Fronts.{Leaves, Precedes, Lacks};
+ghost use Rattle.orc_stripe.specs.Numbers.{NumbersLeft, NumbersFirst};
 ghost use Rattle.std.specs.Prelude.{map};
 ghost use Rattle.orc_types.specs.Cells.{Cell};
 ghost use Rattle.orc_types.specs.Shapes.{Shape};
@@ -13,9 +13,14 @@ ghost use Rattle.orc_stripe.specs.Octets.{OctetsLeft};
 ghost use Rattle.orc_stripe.specs.Spellings.{Standing, Grouped};
 ghost use Rattle.std.specs.Prelude.{false, ◌⊎◌};
 ghost use Rattle.orc_stripe.specs.declared.fault.StreamKind.TheVariants as stream;
+ghost use Rattle.orc_stripe.specs.declared.fault.StripeFault.{StripeFault as Fault};
 ghost use Rattle.orc_stripe.specs.declared.fault.StripeFault.TheVariants as fault;
 ghost use Rattle.orc_stripe.specs.RunFaults.{integers_of};
-ghost use Rattle.orc_stripe.specs.Faults.{MarksFail, DataFail, NumbersFail, IntsFail, GroupsFail, WordsFail, TextsFail, ScalarFails, ListsFail, marks_bytes, source_origin, origin};
+ghost use Rattle.orc_types.specs.Fits.{int_fits as fits, signed_fits};
+ghost use Rattle.orc_types.specs.declared.kind.Scalar.TheVariants as kinds;
+ghost use Rattle.orc_stripe.specs.ValueFaults.{is_index, names_text};
+ghost use Rattle.orc_stripe.specs.Faults.{MarksFail, DataFail, NumbersFail};
+ghost use Rattle.orc_stripe.specs.ReaderFaults.{IntsMeet, GroupsMeet, TextMeets, WordsMeet, ScalarMeets, ListsMeet, marks_bytes};
 
 use crate::bits::Bits;
 use crate::bytes::Bytes;
@@ -77,7 +82,7 @@ pub(crate) fn next_present(reader: &mut ColumnReader<'_>) -> Result<bool, Stripe
     ensures found { IfOk result (λ mark. Leaves (MarksLeft reader.old.present) (MarksLeft reader.new.present) (mark ∷ [])) }
     ensures source { OnOk result (reader.new.source ≡ reader.old.source) }
     ensures none { OnErr result (Lacks (MarksLeft reader.old.present) 1) }
-    ensures same { OnOk result (origin reader.new ≡ origin reader.old) }
+    ensures same { OnOk result (marks_bytes reader.new.present ≡ marks_bytes reader.old.present) }
     ensures fault { IfErr result (λ cause. cause ≢ fault.OutOfMemory → MarksFail (marks_bytes reader.old.present) reader.old.source.column cause) }
 {
     match next_mark(reader.source.column, &mut reader.present) {
@@ -93,6 +98,7 @@ pub(crate) fn next_number(
     numbers: &mut Numbers<'_>,
 ) -> Result<i64, StripeFault>
     ensures found { IfOk result (λ n. Leaves (NumbersLeft numbers.old) (NumbersLeft numbers.new) (n ∷ [])) }
+    ensures first { IfOk result (λ n. Precedes (NumbersFirst numbers.old) (NumbersFirst numbers.new) (n ∷ [])) }
     ensures none { OnErr result (Lacks (NumbersLeft numbers.old) 1) }
     ensures same { integers_of numbers.new ≡ integers_of numbers.old }
     ensures fault { IfErr result (λ cause. cause ≢ fault.OutOfMemory → NumbersFail kind (integers_of numbers.old) column cause) }
@@ -112,8 +118,10 @@ pub(crate) fn next_group<'a>(
 ) -> Result<&'a [u8], StripeFault>
     ensures found { IfOk result (λ bytes. Leaves (Grouped (NumbersLeft numbers.old) (OctetsLeft octets.old)) (Grouped (NumbersLeft numbers.new) (OctetsLeft octets.new)) (bytes.now ∷ [])) }
     ensures none { OnErr result (Lacks (Grouped (NumbersLeft numbers.old) (OctetsLeft octets.old)) 1) }
-    ensures same { integers_of numbers.new ≡ integers_of numbers.old }
-    ensures fault { IfErr result (λ cause. cause ≢ fault.OutOfMemory → GroupsFail kind (integers_of numbers.old) column cause) }
+    ensures first { IfOk result (λ bytes. Precedes (NumbersFirst numbers.old) (NumbersFirst numbers.new) (pos (length bytes.now) ∷ [])) }
+    ensures bytes { IfOk result (λ bytes. octets.old.rest.now ≡ bytes.now ++ octets.new.rest.now) }
+    ensures before { OnOk result ((f : Fault) → GroupsMeet kind numbers.new octets.new column f → GroupsMeet kind numbers.old octets.old column f) }
+    ensures fault { IfErr result (λ cause. cause ≢ fault.OutOfMemory → GroupsMeet kind numbers.old octets.old column cause) }
 {
     match next_number(column, StreamKind::Length, numbers) {
         Ok(number) => {
@@ -144,7 +152,7 @@ fn number_of(byte: u8) -> i64
 fn next_byte<'a>(column: usize, bytes: &mut Bytes<'a>) -> Result<Value<'a>, StripeFault>
     ensures found { IfOk result (λ v. Leaves (Standing IsByte (BytesLeft bytes.old)) (Standing IsByte (BytesLeft bytes.new)) (cell_of_value v ∷ [])) }
     ensures none { OnErr result (Lacks (Standing IsByte (BytesLeft bytes.old)) 1) }
-    ensures same { bytes.new.bytes.now ≡ bytes.old.bytes.now }
+    ensures before { OnOk result ((f : Fault) → DataFail bytes.new.bytes.now column f → DataFail bytes.old.bytes.now column f) }
     ensures fault { IfErr result (λ cause. cause ≢ fault.OutOfMemory → DataFail bytes.old.bytes.now column cause) }
 {
     match bytes.next() {
@@ -161,8 +169,8 @@ fn next_int<'a>(
 ) -> Result<Value<'a>, StripeFault>
     ensures found { IfOk result (λ v. Leaves (Standing (IsInt kind) (NumbersLeft numbers.old)) (Standing (IsInt kind) (NumbersLeft numbers.new)) (cell_of_value v ∷ [])) }
     ensures none { OnErr result (Lacks (Standing (IsInt kind) (NumbersLeft numbers.old)) 1) }
-    ensures same { integers_of numbers.new ≡ integers_of numbers.old }
-    ensures fault { IfErr result (λ cause. cause ≢ fault.OutOfMemory → IntsFail (integers_of numbers.old) column cause) }
+    ensures before { OnOk result ((f : Fault) → IntsMeet (fits kind) numbers.new column f → IntsMeet (fits kind) numbers.old column f) }
+    ensures fault { IfErr result (λ cause. cause ≢ fault.OutOfMemory → IntsMeet (fits kind) numbers.old column cause) }
 {
     match next_number(column, StreamKind::Data, numbers) {
         Ok(number) => {
@@ -175,12 +183,25 @@ fn next_int<'a>(
     }
 }
 
+/// The next value of a column of numbers of 64 bits. Each is in range.
+fn next_long<'a>(column: usize, numbers: &mut Numbers<'a>) -> Result<Value<'a>, StripeFault>
+    ensures found { IfOk result (λ v. Leaves (Standing (IsInt kinds.Long) (NumbersLeft numbers.old)) (Standing (IsInt kinds.Long) (NumbersLeft numbers.new)) (cell_of_value v ∷ [])) }
+    ensures none { OnErr result (Lacks (Standing (IsInt kinds.Long) (NumbersLeft numbers.old)) 1) }
+    ensures before { OnOk result ((f : Fault) → NumbersFail stream.Data (integers_of numbers.new) column f → NumbersFail stream.Data (integers_of numbers.old) column f) }
+    ensures fault { IfErr result (λ cause. cause ≢ fault.OutOfMemory → NumbersFail stream.Data (integers_of numbers.old) column cause) }
+{
+    match next_number(column, StreamKind::Data, numbers) {
+        Ok(number) => Ok(Value::Int(number)),
+        Err(fault) => Err(fault),
+    }
+}
+
 /// The next value of a column of dates.
 fn next_date<'a>(column: usize, numbers: &mut Numbers<'a>) -> Result<Value<'a>, StripeFault>
     ensures found { IfOk result (λ v. Leaves (Standing IsDate (NumbersLeft numbers.old)) (Standing IsDate (NumbersLeft numbers.new)) (cell_of_value v ∷ [])) }
     ensures none { OnErr result (Lacks (Standing IsDate (NumbersLeft numbers.old)) 1) }
-    ensures same { integers_of numbers.new ≡ integers_of numbers.old }
-    ensures fault { IfErr result (λ cause. cause ≢ fault.OutOfMemory → IntsFail (integers_of numbers.old) column cause) }
+    ensures before { OnOk result ((f : Fault) → IntsMeet (signed_fits 31) numbers.new column f → IntsMeet (signed_fits 31) numbers.old column f) }
+    ensures fault { IfErr result (λ cause. cause ≢ fault.OutOfMemory → IntsMeet (signed_fits 31) numbers.old column cause) }
 {
     match next_number(column, StreamKind::Data, numbers) {
         Ok(number) => match i32::try_from(number) {
@@ -195,7 +216,7 @@ fn next_date<'a>(column: usize, numbers: &mut Numbers<'a>) -> Result<Value<'a>, 
 fn next_bool<'a>(column: usize, bits: &mut Bits<'a>) -> Result<Value<'a>, StripeFault>
     ensures found { IfOk result (λ v. Leaves (Standing IsBool (BitsLeft bits.old)) (Standing IsBool (BitsLeft bits.new)) (cell_of_value v ∷ [])) }
     ensures none { OnErr result (Lacks (Standing IsBool (BitsLeft bits.old)) 1) }
-    ensures same { bits.new.bytes.bytes.now ≡ bits.old.bytes.bytes.now }
+    ensures before { OnOk result ((f : Fault) → DataFail bits.new.bytes.bytes.now column f → DataFail bits.old.bytes.bytes.now column f) }
     ensures fault { IfErr result (λ cause. cause ≢ fault.OutOfMemory → DataFail bits.old.bytes.bytes.now column cause) }
 {
     match bits.next() {
@@ -212,8 +233,8 @@ fn next_text<'a>(
 ) -> Result<Value<'a>, StripeFault>
     ensures found { IfOk result (λ v. Leaves (Standing IsText (Grouped (NumbersLeft numbers.old) (OctetsLeft octets.old))) (Standing IsText (Grouped (NumbersLeft numbers.new) (OctetsLeft octets.new))) (cell_of_value v ∷ [])) }
     ensures none { OnErr result (Lacks (Standing IsText (Grouped (NumbersLeft numbers.old) (OctetsLeft octets.old))) 1) }
-    ensures same { integers_of numbers.new ≡ integers_of numbers.old }
-    ensures fault { IfErr result (λ cause. cause ≢ fault.OutOfMemory → TextsFail false (integers_of numbers.old) column cause) }
+    ensures before { OnOk result ((f : Fault) → TextMeets numbers.new octets.new column f → TextMeets numbers.old octets.old column f) }
+    ensures fault { IfErr result (λ cause. cause ≢ fault.OutOfMemory → TextMeets numbers.old octets.old column cause) }
 {
     match next_group(column, StreamKind::Data, numbers, octets) {
         Ok(bytes) => match std::str::from_utf8(bytes) {
@@ -239,8 +260,8 @@ fn next_binary<'a>(
 ) -> Result<Value<'a>, StripeFault>
     ensures found { IfOk result (λ v. Leaves (Standing IsBinary (Grouped (NumbersLeft numbers.old) (OctetsLeft octets.old))) (Standing IsBinary (Grouped (NumbersLeft numbers.new) (OctetsLeft octets.new))) (cell_of_value v ∷ [])) }
     ensures none { OnErr result (Lacks (Standing IsBinary (Grouped (NumbersLeft numbers.old) (OctetsLeft octets.old))) 1) }
-    ensures same { integers_of numbers.new ≡ integers_of numbers.old }
-    ensures fault { IfErr result (λ cause. cause ≢ fault.OutOfMemory → GroupsFail stream.Data (integers_of numbers.old) column cause) }
+    ensures before { OnOk result ((f : Fault) → GroupsMeet stream.Data numbers.new octets.new column f → GroupsMeet stream.Data numbers.old octets.old column f) }
+    ensures fault { IfErr result (λ cause. cause ≢ fault.OutOfMemory → GroupsMeet stream.Data numbers.old octets.old column cause) }
 {
     match next_group(column, StreamKind::Data, numbers, octets) {
         Ok(bytes) => Ok(value_of(bytes)),
@@ -252,7 +273,8 @@ fn next_binary<'a>(
 fn word<'a>(column: usize, entries: &[Entry<'a>], number: i64) -> Result<Value<'a>, StripeFault>
     ensures found { IfOk result (λ v. IsWord (map entry_bytes entries.now) number (cell_of_value v)) }
     ensures none { OnErr result ((c : Cell) → IsWord (map entry_bytes entries.now) number c → ⊥) }
-    ensures fault { IfErr result (λ cause. (cause ≡ fault.BadIndex column) ⊎ (cause ≡ fault.NotUtf8 column stream.DictionaryData)) }
+    ensures fault { IfErr result (λ cause. ((cause ≡ fault.BadIndex column) × (is_index (length entries.now) number ≡ false))
+        ⊎ ((cause ≡ fault.NotUtf8 column stream.DictionaryData) × (names_text (map entry_bytes entries.now) number ≡ false))) }
 {
     let Ok(index) = usize::try_from(number) else {
         return Err(StripeFault::BadIndex(column));
@@ -274,8 +296,8 @@ fn next_word<'a>(
 ) -> Result<Value<'a>, StripeFault>
     ensures found { IfOk result (λ v. Leaves (Standing (IsWord (map entry_bytes entries.now)) (NumbersLeft numbers.old)) (Standing (IsWord (map entry_bytes entries.now)) (NumbersLeft numbers.new)) (cell_of_value v ∷ [])) }
     ensures none { OnErr result (Lacks (Standing (IsWord (map entry_bytes entries.now)) (NumbersLeft numbers.old)) 1) }
-    ensures same { integers_of numbers.new ≡ integers_of numbers.old }
-    ensures fault { IfErr result (λ cause. cause ≢ fault.OutOfMemory → WordsFail (integers_of numbers.old) column cause) }
+    ensures before { OnOk result ((f : Fault) → WordsMeet (map entry_bytes entries.now) numbers.new column f → WordsMeet (map entry_bytes entries.now) numbers.old column f) }
+    ensures fault { IfErr result (λ cause. cause ≢ fault.OutOfMemory → WordsMeet (map entry_bytes entries.now) numbers.old column cause) }
 {
     match next_number(column, StreamKind::Data, numbers) {
         Ok(number) => match word(column, entries, number) {
@@ -291,15 +313,16 @@ impl<'a> Source<'a> {
     pub(crate) fn next_scalar(&mut self, kind: Scalar) -> Result<Value<'a>, StripeFault>
         ensures found { IfOk result (λ v. Leaves (ScalarLeft kind self.old) (ScalarLeft kind self.new) (cell_of_value v ∷ [])) }
         ensures none { OnErr result (Lacks (ScalarLeft kind self.old) 1) }
-        ensures same { source_origin self.new ≡ source_origin self.old }
-        ensures fault { IfErr result (λ cause. cause ≢ fault.OutOfMemory → ScalarFails kind (source_origin self.old) cause) }
+        ensures column { self.new.column ≡ self.old.column }
+        ensures before { OnOk result ((f : Fault) → ScalarMeets kind self.new f → ScalarMeets kind self.old f) }
+        ensures fault { IfErr result (λ cause. cause ≢ fault.OutOfMemory → ScalarMeets kind self.old cause) }
     {
         match kind {
             Scalar::Boolean => next_bool(self.column, &mut self.bits),
             Scalar::Byte => next_byte(self.column, &mut self.bytes),
             Scalar::Short => next_int(self.column, Scalar::Short, &mut self.numbers),
             Scalar::Int => next_int(self.column, Scalar::Int, &mut self.numbers),
-            Scalar::Long => next_int(self.column, Scalar::Long, &mut self.numbers),
+            Scalar::Long => next_long(self.column, &mut self.numbers),
             Scalar::Date => next_date(self.column, &mut self.numbers),
             Scalar::Binary => next_binary(self.column, &mut self.numbers, &mut self.octets),
             Scalar::String => match &self.entries {
@@ -315,8 +338,9 @@ pub(crate) fn next_size(source: &mut Source<'_>) -> Result<u64, StripeFault>
     ensures found { IfOk result (λ size. Leaves (NumbersLeft source.old.numbers) (NumbersLeft source.new.numbers) (pos size ∷ [])) }
     ensures room { IfOk result (λ size. (size ≤ source.old.room) × (source.new.room ≡ source.old.room - size)) }
     ensures none { OnErr result ((s : Shape) (below : List Reader) → Lacks (ListsLeft s source.old below) 1) }
-    ensures same { source_origin source.new ≡ source_origin source.old }
-    ensures fault { IfErr result (λ cause. cause ≢ fault.OutOfMemory → ListsFail (integers_of source.old.numbers) source.old.column cause) }
+    ensures column { source.new.column ≡ source.old.column }
+    ensures before { OnOk result ((f : Fault) → ListsMeet source.new f → ListsMeet source.old f) }
+    ensures fault { IfErr result (λ cause. cause ≢ fault.OutOfMemory → ListsMeet source.old cause) }
 {
     match next_number(source.column, StreamKind::Length, &mut source.numbers) {
         Ok(number) => {

@@ -5,10 +5,11 @@ ghost use Rattle.orc_stripe.specs.Columns.{entry_bytes};
 ghost use Rattle.orc_stripe.specs.Numbers.{AreNumbers};
 ghost use Rattle.orc_stripe.specs.Spellings.{Grouped};
 ghost use Rattle.orc_stripe.specs.Stripe.{Is};
-ghost use Rattle.orc_stripe.specs.Faults.{DictionaryFails};
+ghost use Rattle.orc_stripe.specs.declared.fault.StreamKind.TheVariants.{DictionaryData};
+ghost use Rattle.orc_stripe.specs.Faults.{GroupsFail};
 
 use crate::column::{Entry, next_group};
-use crate::ending::groups_end;
+use crate::ending::{groups_end, groups_left};
 use crate::fault::{StreamKind, StripeFault};
 use crate::numbers::numbers_of;
 use crate::octets::Octets;
@@ -27,7 +28,7 @@ pub(crate) fn entries_of<'a>(
 ) -> Result<Vec<Entry<'a>>, StripeFault>
     ensures found { IfOk result (λ entries. (length entries.items ≡ size) × Grouped (AreNumbers version Unsigned lengths.now) (Is bytes.now) (map entry_bytes entries.items)) }
     ensures none { IfErr result (λ fault. fault ≢ OutOfMemory → (entries : List (List ℕ)) → length entries ≡ size → Grouped (AreNumbers version Unsigned lengths.now) (Is bytes.now) entries → ⊥) }
-    ensures fault { IfErr result (λ cause. cause ≢ OutOfMemory → DictionaryFails (record { version = version; sign = Unsigned; bytes = lengths.now }) column cause) }
+    ensures fault { IfErr result (λ cause. cause ≢ OutOfMemory → GroupsFail DictionaryData (record { version = version; sign = Unsigned; bytes = lengths.now }) bytes.now column cause) }
 {
     let mut numbers = numbers_of(version, Sign::Unsigned, lengths);
     let mut octets = Octets { rest: bytes };
@@ -44,7 +45,7 @@ pub(crate) fn entries_of<'a>(
         }
     }
     if !groups_end(&numbers, &octets) {
-        return Err(StripeFault::LengthSum(column, StreamKind::DictionaryData));
+        return Err(groups_left(column, StreamKind::DictionaryData, &numbers, &octets));
     }
     Ok(entries)
 }

@@ -7,12 +7,11 @@ ghost use Rattle.orc_stripe.specs.Bits.{BitsLeft};
 ghost use Rattle.orc_stripe.specs.Bytes.{BytesLeft};
 ghost use Rattle.orc_stripe.specs.Octets.{OctetsLeft};
 ghost use Rattle.orc_stripe.specs.Columns.{MarksLeft, ScalarLeft, CellsLeft, OwnLeft, FieldsLeft};
-ghost use Rattle.std.specs.Prelude.{map, IfErr};
+ghost use Rattle.std.specs.Prelude.{IfErr};
 ghost use Rattle.orc_rle.specs.declared.fault.RunFault.TheVariants as run;
 ghost use Rattle.orc_stripe.specs.declared.fault.StripeFault.TheVariants as fault;
 ghost use Rattle.orc_stripe.specs.declared.fault.StreamKind.TheVariants as stream;
-ghost use Rattle.orc_stripe.specs.Faults.{GroupsFail, ScalarFails, ReaderFault, OwnFault, FieldsFault, origin, source_origin, left_at, bits_left_at, marks_left_at};
-ghost use Rattle.orc_stripe.specs.RunFaults.{integers_of};
+ghost use Rattle.orc_stripe.specs.ReaderFaults.{GroupsMeet, ScalarMeets, CellsMeet, FieldsMeet, left_at, bits_left_at, marks_left_at};
 
 use crate::bits::Bits;
 use crate::bytes::Bytes;
@@ -142,23 +141,26 @@ fn scalar_end(source: &Source<'_>, kind: Scalar) -> bool
     }
 }
 
-/// The fault of bytes that are left over, or of their lengths.
-fn group_left(source: &Source<'_>) -> StripeFault
-    ensures { GroupsFail stream.Data (integers_of source.now.numbers) source.now.column result }
+/// The fault of groups of bytes that are left over: of their lengths, or of the bytes.
+pub(crate) fn groups_left(
+    column: usize,
+    kind: StreamKind,
+    numbers: &Numbers<'_>,
+    octets: &Octets<'_>,
+) -> StripeFault
+    requires more { Grouped (NumbersLeft numbers.now) (OctetsLeft octets.now) [] → ⊥ }
+    ensures { GroupsMeet kind numbers.now octets.now column result }
 {
-    if numbers_end(&source.numbers) {
-        return StripeFault::LengthSum(source.column, StreamKind::Data);
+    if numbers_end(numbers) {
+        return StripeFault::LengthSum(column, kind);
     }
-    too_many(
-        source.column,
-        StreamKind::Length,
-        numbers_left(&source.numbers),
-    )
+    too_many(column, StreamKind::Length, numbers_left(numbers))
 }
 
 /// The fault of values that are left over, of a column of a kind that contains no other.
 fn scalar_left(source: &Source<'_>, kind: Scalar) -> StripeFault
-    ensures { ScalarFails kind (source_origin source.now) result }
+    requires more { ScalarLeft kind source.now [] → ⊥ }
+    ensures { ScalarMeets kind source.now result }
 {
     match kind {
         Scalar::Boolean => too_many(source.column, StreamKind::Data, bits_left(&source.bits)),
@@ -170,9 +172,19 @@ fn scalar_left(source: &Source<'_>, kind: Scalar) -> StripeFault
                 numbers_left(&source.numbers),
             )
         }
-        Scalar::Binary => group_left(source),
+        Scalar::Binary => groups_left(
+            source.column,
+            StreamKind::Data,
+            &source.numbers,
+            &source.octets,
+        ),
         Scalar::String => match &source.entries {
-            None => group_left(source),
+            None => groups_left(
+                source.column,
+                StreamKind::Data,
+                &source.numbers,
+                &source.octets,
+            ),
             Some(_) => too_many(
                 source.column,
                 StreamKind::Data,
@@ -205,7 +217,7 @@ pub(crate) fn cells_end(tree: &Tree, readers: &[ColumnReader<'_>]) -> Result<(),
     requires { length readers.now ≡ width (shape tree.now) }
     ensures all { OnOk result (CellsLeft (shape tree.now) readers.now []) }
     ensures more { OnErr result (CellsLeft (shape tree.now) readers.now [] → ⊥) }
-    ensures fault { IfErr result (ReaderFault (shape tree.now) (map origin readers.now)) }
+    ensures fault { IfErr result (CellsMeet (shape tree.now) readers.now) }
 {
     let own = &readers[0];
     if !marks_end(&own.present) {
@@ -227,7 +239,7 @@ fn values_end(tree: &Tree, readers: &[ColumnReader<'_>]) -> Result<(), StripeFau
     requires { length readers.now ≡ width (shape tree.now) }
     ensures all { OnOk result (OwnLeft (shape tree.now) readers.now []) }
     ensures more { OnErr result (OwnLeft (shape tree.now) readers.now [] → ⊥) }
-    ensures fault { IfErr result (OwnFault (shape tree.now) (map origin readers.now)) }
+    ensures fault { IfErr result (CellsMeet (shape tree.now) readers.now) }
 {
     let own = &readers[0];
     match tree {
@@ -263,7 +275,7 @@ fn fields_end(fields: &[Field], readers: &[ColumnReader<'_>]) -> Result<(), Stri
     requires { length readers.now ≡ widths (fields_view fields.now) }
     ensures all { OnOk result (FieldsLeft (fields_view fields.now) readers.now []) }
     ensures more { OnErr result (FieldsLeft (fields_view fields.now) readers.now [] → ⊥) }
-    ensures fault { IfErr result (FieldsFault (fields_view fields.now) (map origin readers.now)) }
+    ensures fault { IfErr result (FieldsMeet (fields_view fields.now) readers.now) }
 {
     match fields {
         [] => Ok(()),

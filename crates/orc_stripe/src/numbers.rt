@@ -1,7 +1,7 @@
 ghost use Rattle.std.specs.Prelude.{◌≡◌, ◌≢◌, [], ◌∷◌, IfOk, IfErr, OnOk, OnErr, length, ◌<◌};
 ghost use Rattle.orc_rle.specs.declared.fault.RunFault.TheVariants.{OutOfMemory};
-ghost use Rattle.orc_stripe.specs.Fronts.{Leaves, Lacks};
-ghost use Rattle.orc_stripe.specs.Numbers.{NumbersLeft};
+ghost use Rattle.orc_stripe.specs.Fronts.{Leaves, Precedes, Lacks};
+ghost use Rattle.orc_stripe.specs.Numbers.{NumbersLeft, NumbersFirst};
 ghost use Rattle.orc_stripe.specs.RunFaults.{IntegersFail, integers_of};
 ghost use Rattle.orc_stripe.specs.Starting.{NumbersStart};
 
@@ -42,6 +42,7 @@ impl<'a> Numbers<'a> {
     /// Reads runs until a value is there.
     fn fill(&mut self) -> Result<(), RunFault>
         ensures found { OnOk result (Leaves (NumbersLeft self.old) (NumbersLeft self.new) []) }
+        ensures first { OnOk result (Precedes (NumbersFirst self.old) (NumbersFirst self.new) []) }
         ensures some { OnOk result (self.new.used < length self.new.run.values) }
         ensures none { OnErr result (Lacks (NumbersLeft self.old) 1) }
         ensures same { integers_of self.new ≡ integers_of self.old }
@@ -68,6 +69,7 @@ impl<'a> Numbers<'a> {
     /// The next number.
     pub(crate) fn next(&mut self) -> Result<i64, RunFault>
         ensures found { IfOk result (λ n. Leaves (NumbersLeft self.old) (NumbersLeft self.new) (n ∷ [])) }
+        ensures first { IfOk result (λ n. Precedes (NumbersFirst self.old) (NumbersFirst self.new) (n ∷ [])) }
         ensures none { OnErr result (Lacks (NumbersLeft self.old) 1) }
         ensures same { integers_of self.new ≡ integers_of self.old }
         ensures fault { IfErr result (IntegersFail (integers_of self.old)) }

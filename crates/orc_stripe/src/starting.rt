@@ -7,7 +7,8 @@ ghost use Rattle.orc_stripe.specs.Located.{AreLocated};
 ghost use Rattle.orc_stripe.specs.Starting.{BytesStart, BitsStart, MarksStart, DataStart, GroupsStart, TextsStart, ScalarStart, SourceStart, OwnStart, LacksEntries, ScalarLacks, HasNoDictionary, AreStreams, Puts, PutsFields};
 ghost use Rattle.orc_stripe.specs.Stripe.{Streams, IsDictionary, encoding_at, columns_of, columns_from, SpellsCells, SpellsFields, most_cells};
 ghost use Rattle.orc_stripe.specs.Stripe as spec;
-ghost use Rattle.orc_stripe.specs.Faults.{DictionaryFails, EntriesFail, ScalarEntriesFail, WordsOfFail, FaultDown, FaultWithin, lengths_of, data_of, groups_of, words_of, texts_of, scalar_reading, reading, column_origin, marks_bytes, source_origin, origin};
+ghost use Rattle.orc_stripe.specs.declared.fault.StreamKind.TheVariants.{DictionaryData};
+ghost use Rattle.orc_stripe.specs.Faults.{GroupsFail, EntriesFail, ScalarEntriesFail, WordsOfFail, FaultDown, FaultWithin, lengths_of};
 
 use crate::bits::Bits;
 use crate::bytes::Bytes;
@@ -97,8 +98,7 @@ fn bits_of(bytes: &[u8]) -> Bits<'_>
 
 /// Which cells are not null, from the first.
 fn marks_of(bytes: &[u8]) -> Option<Bits<'_>>
-    ensures start { MarksStart bytes.now result }
-    ensures bytes { marks_bytes result ≡ bytes.now }
+    ensures { MarksStart bytes.now result }
 {
     if bytes.is_empty() {
         return None;
@@ -109,7 +109,7 @@ fn marks_of(bytes: &[u8]) -> Option<Bits<'_>>
 /// The source of a column whose values are in DATA.
 fn data_source<'a>(column: usize, streams: &ColumnStreams<'a>) -> Source<'a>
     ensures start { (x : Streams) → AreStreams x streams.now → DataStart x result }
-    ensures reading { (x : Streams) → AreStreams x streams.now → source_origin result ≡ data_of x column }
+    ensures column { result.column ≡ column }
 {
     Source {
         column,
@@ -127,7 +127,7 @@ fn group_source<'a>(column: usize, streams: &ColumnStreams<'a>) -> Source<'a>
     ensures groups { (x : Streams) → AreStreams x streams.now → GroupsStart x result }
     ensures no_entries { result.entries ≡ None }
     ensures room { result.room ≡ most_cells }
-    ensures reading { (x : Streams) → AreStreams x streams.now → source_origin result ≡ groups_of x column }
+    ensures column { result.column ≡ column }
 {
     Source {
         column,
@@ -148,8 +148,8 @@ fn word_source<'a>(
 ) -> Result<Source<'a>, StripeFault>
     ensures found { IfOk result (λ source. (x : Streams) → AreStreams x streams.now → TextsStart true x source.entries source) }
     ensures none { IfErr result (λ fault. fault ≢ OutOfMemory → (x : Streams) → AreStreams x streams.now → (entries : List (List ℕ)) → IsDictionary x entries → ⊥) }
-    ensures reading { IfOk result (λ source. (x : Streams) → AreStreams x streams.now → source_origin source ≡ words_of x column) }
-    ensures fault { IfErr result (λ cause. cause ≢ OutOfMemory → (x : Streams) → AreStreams x streams.now → DictionaryFails (lengths_of x) column cause) }
+    ensures column { IfOk result (λ source. source.column ≡ column) }
+    ensures fault { IfErr result (λ cause. cause ≢ OutOfMemory → (x : Streams) → AreStreams x streams.now → GroupsFail DictionaryData (lengths_of x) (x.stream 3) column cause) }
 {
     match entries_of(
         alloc,
@@ -180,7 +180,7 @@ fn text_source<'a>(
 ) -> Result<Source<'a>, StripeFault>
     ensures found { IfOk result (λ source. (x : Streams) → AreStreams x streams.now → TextsStart streams.now.has_dictionary x source.entries source) }
     ensures none { IfErr result (λ fault. fault ≢ OutOfMemory → (x : Streams) → AreStreams x streams.now → LacksEntries streams.now.has_dictionary x) }
-    ensures reading { IfOk result (λ source. (x : Streams) → AreStreams x streams.now → source_origin source ≡ texts_of streams.now.has_dictionary x column) }
+    ensures column { IfOk result (λ source. source.column ≡ column) }
     ensures fault { IfErr result (λ cause. cause ≢ OutOfMemory → (x : Streams) → AreStreams x streams.now → EntriesFail streams.now.has_dictionary x column cause) }
 {
     if streams.has_dictionary {
@@ -202,7 +202,7 @@ fn scalar_source<'a>(
 ) -> Result<Source<'a>, StripeFault>
     ensures found { IfOk result (λ source. (x : Streams) → AreStreams x streams.now → ScalarStart kind x source) }
     ensures none { IfErr result (λ fault. fault ≢ OutOfMemory → (x : Streams) → AreStreams x streams.now → ScalarLacks kind x) }
-    ensures reading { IfOk result (λ source. (x : Streams) → AreStreams x streams.now → source_origin source ≡ scalar_reading kind x column) }
+    ensures column { IfOk result (λ source. source.column ≡ column) }
     ensures fault { IfErr result (λ cause. cause ≢ OutOfMemory → (x : Streams) → AreStreams x streams.now → ScalarEntriesFail kind x column cause) }
 {
     match kind {
@@ -229,7 +229,7 @@ fn source_of<'a>(
 ) -> Result<Source<'a>, StripeFault>
     ensures found { IfOk result (λ source. (x : Streams) → AreStreams x streams.now → SourceStart (shape tree.now) x source) }
     ensures none { IfErr result (λ fault. fault ≢ OutOfMemory → (x : Streams) → AreStreams x streams.now → HasNoDictionary (shape tree.now) x) }
-    ensures reading { IfOk result (λ source. (x : Streams) → AreStreams x streams.now → source_origin source ≡ reading (shape tree.now) x column) }
+    ensures column { IfOk result (λ source. source.column ≡ column) }
     ensures fault { IfErr result (λ cause. cause ≢ OutOfMemory → (x : Streams) → AreStreams x streams.now → WordsOfFail (shape tree.now) x column cause) }
 {
     match tree {
@@ -254,7 +254,7 @@ fn reader_of<'a>(
     requires located { AreLocated (length footer.now.columns) footer.now.streams located.now.bytes.now located.now.slices.items }
     ensures found { IfOk result (OwnStart (shape tree.now) (columns_of footer.now located.now.bytes.now column)) }
     ensures none { IfErr result (λ fault. fault ≢ OutOfMemory → HasNoDictionary (shape tree.now) (columns_of footer.now located.now.bytes.now column)) }
-    ensures origin { IfOk result (λ own. origin own ≡ column_origin (shape tree.now) (columns_of footer.now located.now.bytes.now column) column) }
+    ensures column { IfOk result (λ own. own.source.column ≡ column) }
     ensures fault { IfErr result (λ cause. cause ≢ OutOfMemory → WordsOfFail (shape tree.now) (columns_of footer.now located.now.bytes.now column) column cause) }
 {
     let streams = streams_of(column, footer, located);

@@ -3,6 +3,7 @@ use Rattle.orc_stripe.specs.Columns.{IsBool}
 use Rattle.orc_stripe.proofs.Fronts.{standing_lacks}
 use Rattle.orc_stripe.proofs.ReaderLemmas.{one_stands, one_bool}
 use Rattle.orc_stripe.proofs.Sizes.{value_bool}
+use Rattle.orc_stripe.proofs.MetLemmas.{data_before}
 use Rattle.orc_stripe.proofs.column.next_bool.Goals as goal
 
 pub returns-in-Ok-clause-found : goal.returns-in-Ok-clause-found
@@ -13,3 +14,6 @@ returns-in-Err-clause-none c = standing_lacks IsBool (BitsLeft c.args.bits.now) 
 
 pub returns-in-Err-clause-fault : goal.returns-in-Err-clause-fault
 returns-in-Err-clause-fault c = λ memory. let k = c.run_fault.ensures.fails memory in (c.in-Err.fault, k.0, k.1, c.in-Err.ensures.fault)
+
+pub returns-in-Ok-clause-before : goal.returns-in-Ok-clause-before
+returns-in-Ok-clause-before c = λ f. data_before c.args.bits.now.bytes.bytes.now c.next.new.self.bytes.bytes.now c.args.column f c.in-Ok.ensures.same

@@ -3,18 +3,17 @@ use Rattle.orc_types.specs.Views.{shape}
 use Rattle.orc_types.specs.Views.{fields as fields_view}
 use Rattle.orc_types.proofs.Views.{shape-List, shape-Struct}
 use Rattle.orc_stripe.specs.Stripe.{columns_of}
-use Rattle.orc_stripe.specs.Starting.{OwnStart, HasNoDictionary}
+use Rattle.orc_stripe.specs.Starting.{OwnStart, HasNoDictionary, IsOf}
 use Rattle.orc_stripe.proofs.Arms.{first_field}
 use Rattle.orc_stripe.proofs.Started.{no_own, pushed, put_list, put_struct, put_more, no_element, no_struct, no_others}
-use Rattle.orc_stripe.specs.Faults.{origin, IsOf}
-use Rattle.orc_stripe.proofs.FaultLemmas.{own_of, down_list}
+use Rattle.orc_stripe.proofs.FaultLemmas.{down_list}
 use Rattle.orc_stripe.proofs.starting.+starting.Goals as goal
 
 pub put_tree-returns-in-Ok-put_tree-clause-found : goal.put_tree-returns-in-Ok-put_tree-clause-found
 put_tree-returns-in-Ok-put_tree-clause-found t c =
     let n : c.len.result ≡ length c.args.readers.now.items = search rules in
     let h = subst (λ k. OwnStart (shape c.args.tree.now) (columns_of c.args.footer.now c.args.located.now.bytes.now k) c.in-Ok.own) n c.in-Ok.ensures.found in
-    let i : IsOf (shape c.args.tree.now) (columns_of c.args.footer.now c.args.located.now.bytes.now) (length c.args.readers.now.items) (origin c.in-Ok.own) = own_of (shape c.args.tree.now) (columns_of c.args.footer.now c.args.located.now.bytes.now) c.len.result (length c.args.readers.now.items) (origin c.in-Ok.own) n c.in-Ok.ensures.origin in
+    let i : IsOf (shape c.args.tree.now) (columns_of c.args.footer.now c.args.located.now.bytes.now) (length c.args.readers.now.items) c.in-Ok.own = (h, c.in-Ok.ensures.column ∙ n) in
     let f = c.in-Ok-put_tree.ensures.found in
     put_list c.args.footer.now c.args.located.now.bytes.now (shape c.args.tree.now) (shape c.in-List.element.value) c.in-List.field-1.items c.args.readers.now.items c.push.new.self.items c.put_tree.new.readers.items c.in-Ok.own
     (ap shape c.in-List.is ∙ shape-List c.in-List.element c.in-List.field-1) c.in_ok-push-in-Ok.ensures.items h i (rw c.deref.ensures at f)
@@ -29,7 +28,7 @@ pub put_tree-returns-in-Ok-put_fields-clause-found : goal.put_tree-returns-in-Ok
 put_tree-returns-in-Ok-put_fields-clause-found t c =
     let n : c.len.result ≡ length c.args.readers.now.items = search rules in
     let h = subst (λ k. OwnStart (shape c.args.tree.now) (columns_of c.args.footer.now c.args.located.now.bytes.now k) c.in-Ok.own) n c.in-Ok.ensures.found in
-    let i : IsOf (shape c.args.tree.now) (columns_of c.args.footer.now c.args.located.now.bytes.now) (length c.args.readers.now.items) (origin c.in-Ok.own) = own_of (shape c.args.tree.now) (columns_of c.args.footer.now c.args.located.now.bytes.now) c.len.result (length c.args.readers.now.items) (origin c.in-Ok.own) n c.in-Ok.ensures.origin in
+    let i : IsOf (shape c.args.tree.now) (columns_of c.args.footer.now c.args.located.now.bytes.now) (length c.args.readers.now.items) c.in-Ok.own = (h, c.in-Ok.ensures.column ∙ n) in
     let f = c.in-Ok-put_fields.ensures.found in
     put_struct c.args.footer.now c.args.located.now.bytes.now (shape c.args.tree.now) (fields_view c.in-Struct.fields.items) c.in-Struct.field-1.items c.args.readers.now.items c.push.new.self.items c.put_fields.new.readers.items c.in-Ok.own
     (ap shape c.in-Struct.is ∙ shape-Struct c.in-Struct.fields c.in-Struct.field-1) c.in_ok-push-in-Ok.ensures.items h i (rw c.deref-in-Struct.ensures.value at f)

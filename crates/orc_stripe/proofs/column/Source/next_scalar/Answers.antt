@@ -13,7 +13,7 @@ pub returns-in-Int-clause-found : goal.returns-in-Int-clause-found
 returns-in-Int-clause-found c = rw c.in-Int.is c.next_int-in-Int.ensures.found
 
 pub returns-in-Long-clause-found : goal.returns-in-Long-clause-found
-returns-in-Long-clause-found c = rw c.in-Long.is c.next_int-in-Long.ensures.found
+returns-in-Long-clause-found c = rw c.in-Long.is c.next_long.ensures.found
 
 pub returns-in-Date-clause-found : goal.returns-in-Date-clause-found
 returns-in-Date-clause-found c = rw c.in-Date.is c.next_date.ensures.found
@@ -29,3 +29,33 @@ returns-in-Some-clause-found c = let e = c.next_word.ensures.found in rw (c.in-S
 
 pub returns-in-Some-clause-none : goal.returns-in-Some-clause-none
 returns-in-Some-clause-none c = let e = c.next_word.ensures.none in rw (c.in-String.is, c.in-Some.is) (rw c.deref.ensures.value at e)
+
+pub returns-in-Boolean-clause-before : goal.returns-in-Boolean-clause-before
+returns-in-Boolean-clause-before c = rw c.in-Boolean.is c.next_bool.ensures.before
+
+pub returns-in-Byte-clause-before : goal.returns-in-Byte-clause-before
+returns-in-Byte-clause-before c = rw c.in-Byte.is c.next_byte.ensures.before
+
+pub returns-in-Short-clause-before : goal.returns-in-Short-clause-before
+returns-in-Short-clause-before c = rw c.in-Short.is c.next_int.ensures.before
+
+pub returns-in-Int-clause-before : goal.returns-in-Int-clause-before
+returns-in-Int-clause-before c = rw c.in-Int.is c.next_int-in-Int.ensures.before
+
+pub returns-in-Long-clause-before : goal.returns-in-Long-clause-before
+returns-in-Long-clause-before c = rw c.in-Long.is c.next_long.ensures.before
+
+pub returns-in-Date-clause-before : goal.returns-in-Date-clause-before
+returns-in-Date-clause-before c = rw c.in-Date.is c.next_date.ensures.before
+
+pub returns-in-Binary-clause-before : goal.returns-in-Binary-clause-before
+returns-in-Binary-clause-before c = rw c.in-Binary.is c.next_binary.ensures.before
+
+pub returns-in-None-clause-before : goal.returns-in-None-clause-before
+returns-in-None-clause-before c = rw (c.in-String.is, c.in-None.is) c.next_text.ensures.before
+
+pub returns-in-Some-clause-before : goal.returns-in-Some-clause-before
+returns-in-Some-clause-before c = let e = c.next_word.ensures.before in rw (c.in-String.is, c.in-Some.is) (rw c.deref.ensures.value at e)
+
+pub returns-in-Some-clause-fault : goal.returns-in-Some-clause-fault
+returns-in-Some-clause-fault c = let e = c.next_word.ensures.fault in rw (c.in-String.is, c.in-Some.is) (rw c.deref.ensures.value at e)

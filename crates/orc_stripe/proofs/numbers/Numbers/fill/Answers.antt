@@ -1,14 +1,15 @@
 use Rattle.orc_rle.specs.declared.fault.RunFault.TheVariants.{TooFew}
 use Rattle.std.proofs.Common.{inl, inr, refl, subst, ◌≤◌, [], ◌∙◌, ap, length, arith, drop}
-use Rattle.orc_stripe.specs.Numbers.{NumbersLeft, is_run}
+use Rattle.orc_stripe.specs.Numbers.{NumbersLeft, NumbersFirst, is_run}
 use Rattle.orc_stripe.specs.RunFaults.{IntegersFail}
 use Rattle.orc_stripe.proofs.Fronts.{nothing, one_after_other, lacks_after}
 use Rattle.orc_stripe.proofs.RunsLemmas.{at_end, at_no_run, next_read}
 use Rattle.orc_stripe.proofs.NumbersLemmas.{laws_of}
+use Rattle.orc_stripe.proofs.FirstLemmas.{first_after, first_next}
 use Rattle.orc_stripe.proofs.numbers.Numbers.fill.Goals as goal
 
 pub loop-self-init : goal.loop-self-init
-loop-self-init c = (nothing (NumbersLeft c.args.self.now), refl)
+loop-self-init c = (nothing (NumbersLeft c.args.self.now), refl, λ rest h. h)
 
 pub returns-then-self-clause-none : goal.returns-then-self-clause-none
 returns-then-self-clause-none c =
@@ -27,6 +28,8 @@ loop-self-preserved c =
       one_after_other (NumbersLeft c.args.self.now) (NumbersLeft r) _ [] [] c.loop-self.invariant.0
           (next_read (is_run r.version r.sign) (laws_of r.version r.sign) r.run.values r.used r.bytes.now r.at c.in-Ok.len c.next_run.new.run.values used found),
       c.loop-self.invariant.1,
+      first_after (NumbersFirst c.args.self.now) (NumbersFirst r) _ [] [] c.loop-self.invariant.2
+          (first_next (is_run r.version r.sign) r.run.values r.used r.bytes.now r.at c.in-Ok.len c.next_run.new.run.values used found),
     )
 
 pub returns-in-Err-clause-none : goal.returns-in-Err-clause-none
@@ -38,6 +41,9 @@ returns-in-Err-clause-none c =
 
 pub returns-clause-found : goal.returns-clause-found
 returns-clause-found c = c.loop-self.invariant.0
+
+pub returns-clause-first : goal.returns-clause-first
+returns-clause-first c = c.loop-self.invariant.2
 
 pub returns-clause-same : goal.returns-clause-same
 returns-clause-same c = c.loop-self.invariant.1

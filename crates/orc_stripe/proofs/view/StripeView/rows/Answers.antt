@@ -1,8 +1,8 @@
-use Rattle.std.proofs.Common.{◌≡◌, map, inr, length, ap, sym, subst, arith}
+use Rattle.std.proofs.Common.{◌≡◌, inr, length, ap, sym, subst, arith}
 use Rattle.orc_types.specs.Shapes.{width}
 use Rattle.orc_types.specs.Views.{views, shape}
-use Rattle.orc_stripe.specs.Starting.{TreeStart, Puts}
-use Rattle.orc_stripe.specs.Faults.{AreOf, FaultDown, origin}
+use Rattle.orc_stripe.specs.Starting.{TreeStart, AreOf, Puts}
+use Rattle.orc_stripe.specs.Faults.{FaultDown}
 use Rattle.orc_stripe.specs.Located.{AreLocated}
 use Rattle.orc_stripe.specs.Stripe.{columns_of, columns_from, SpellRows, SpellsCells}
 use Rattle.orc_stripe.proofs.ByNumber.{from_number}
@@ -68,7 +68,7 @@ returns-in-Ok-clause-fault c = λ memory.
     let put = all_put v.footer v.bytes.now (shape c.tree-tree.result.now) c.new-readers.result.items c.put_tree.new.readers.items c.new-readers.ensures.items (subst (λ b. Puts v.footer b (shape c.tree-tree.result.now) c.new-readers.result.items c.put_tree.new.readers.items) c.in_ok-located.ensures.same c.in-Ok.ensures.found) in
     let start = subst (λ rs. TreeStart (shape c.tree-tree.result.now) x rs) (sym c.deref_mut.ensures.value) put in
     let made = all_origins v.footer v.bytes.now (shape c.tree-tree.result.now) c.new-readers.result.items c.put_tree.new.readers.items c.new-readers.ensures.items (subst (λ b. Puts v.footer b (shape c.tree-tree.result.now) c.new-readers.result.items c.put_tree.new.readers.items) c.in_ok-located.ensures.same c.in-Ok.ensures.found) in
-    let are = subst (λ rs. AreOf (shape c.tree-tree.result.now) x 0 (map origin rs)) (sym c.deref_mut.ensures.value) made in
+    let are = subst (λ rs. AreOf (shape c.tree-tree.result.now) x 0 rs) (sym c.deref_mut.ensures.value) made in
     rw (← c.self.view_is) (record {
       none = λ rows h. memory (c.in-Err-all_rows.ensures.only x start rows (subst (λ t. SpellRows t x v.info.number_of_rows rows) (sym s) h));
       reason = reason_from_readers v.schema.now (shape c.tree-tree.result.now) x v.info.number_of_rows _ c.in-Err-all_rows.fault s are (c.in-Err-all_rows.ensures.fault memory);

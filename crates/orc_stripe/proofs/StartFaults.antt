@@ -1,0 +1,121 @@
+-- What a reader meets at the start of its streams is a fault of its streams.
+use Rattle.std.proofs.Common.{◌≡◌, ℕ, ℤ, pos, Bool, true, false, Option, Some, None, List, [], ◌∷◌, ◌<◌, map, length, drop, sum, refl, sym, ap, ◌∙◌, subst, inl, inr}
+use Rattle.orc_types.specs.Fits.{int_fits, signed_fits}
+use Rattle.orc_types.specs.Shapes.{Shape, scalar, list_of, struct_of}
+use Rattle.orc_types.specs.declared.kind.Scalar.{Scalar}
+use Rattle.orc_types.specs.declared.kind.Scalar.TheVariants as kind
+use Rattle.std.specs.declared.vec.Vec.{Vec}
+use Rattle.std.specs.declared.alloc.Global.{Global}
+use Rattle.orc_rle.specs.declared.sign.Sign.{Sign}
+use Rattle.orc_rle.specs.declared.sign.Sign.TheVariants.{Unsigned}
+use Rattle.orc_stripe.specs.declared.bits.Bits.{Bits}
+use Rattle.orc_stripe.specs.declared.column.Entry.{Entry}
+use Rattle.orc_stripe.specs.declared.column.Source.{Source}
+use Rattle.orc_stripe.specs.declared.fault.StreamKind.{StreamKind}
+use Rattle.orc_stripe.specs.declared.fault.StreamKind.TheVariants as stream
+use Rattle.orc_stripe.specs.declared.fault.StripeFault.{StripeFault}
+use Rattle.orc_stripe.specs.declared.fault.StripeFault.TheVariants as fault
+use Rattle.orc_stripe.specs.declared.numbers.Numbers.{Numbers}
+use Rattle.orc_stripe.specs.declared.octets.Octets.{Octets}
+use Rattle.orc_stripe.specs.declared.version.Version.{Version}
+use Rattle.orc_stripe.specs.Columns.{entry_bytes}
+use Rattle.orc_stripe.specs.Faults.{DataFail, NumbersFail, IntsFail, GroupsFail, WordsFail, TextsFail, ScalarFails, ListsFail, ValuesFail, data_of, indexes_of, lengths_of}
+use Rattle.orc_stripe.specs.Numbers.{is_run, NumbersFirst}
+use Rattle.orc_stripe.specs.ReaderFaults.{Pass, IntsMeet, GroupsMeet, TextMeets, WordsMeet, TextsMeet, ScalarMeets, ListsMeet, ValuesMeet, marks_bytes}
+use Rattle.orc_stripe.specs.RunFaults.{Integers, IntegersFirst, integers_of}
+use Rattle.orc_stripe.specs.Runs.{RunsFirst}
+use Rattle.orc_stripe.specs.Spellings.{size}
+use Rattle.orc_stripe.specs.Starting.{NumbersStart, MarksStart, TextsStart, ScalarStart, SourceStart}
+use Rattle.orc_stripe.specs.Stripe.{Streams, version, has_dictionary, IsDictionary, most_cells}
+use Rattle.orc_stripe.specs.ValueFaults.{NotAll, is_index, names_text}
+use Rattle.orc_stripe.proofs.FirstLemmas.{first_begins, begin_lengths}
+use Rattle.orc_stripe.proofs.StartLemmas.{numbers_alike}
+
+abbrev pub integers_from : Version → Sign → List ℕ → Integers
+integers_from version sign bytes = record { version = version; sign = sign; bytes = bytes }
+
+-- a reader at the start of its stream is of that stream
+pub integers_start : (v : Version) (sign : Sign) (bytes : List ℕ) (r : Numbers) → NumbersStart v sign bytes r → integers_of r ≡ record { version = v; sign = sign; bytes = bytes }
+integers_start v sign bytes r s =
+    ap (λ k. integers_from k r.sign r.bytes.now) s.version_is ∙ ap (λ k. integers_from v k r.bytes.now) s.sign_is ∙ ap (λ k. integers_from v sign k) s.bytes_are
+
+-- and gives first what comes first in it
+first_start : (v : Version) (sign : Sign) (bytes : List ℕ) (r : Numbers) (all : List ℤ) → NumbersStart v sign bytes r → NumbersFirst r all → IntegersFirst (integers_from v sign bytes) all
+first_start v sign bytes r all s h =
+    let pending : List ℤ = drop r.used r.run.values in
+    let rest : List ℕ = drop r.at r.bytes.now in
+    let d : pending ≡ [] = ap (λ n. drop n r.run.values) s.unused ∙ s.no_run in
+    let b : rest ≡ bytes = ap (λ n. drop n r.bytes.now) s.at_start ∙ s.bytes_are in
+    let k = subst (λ w. RunsFirst (is_run w r.sign) pending rest all) s.version_is h in
+    let l = subst (λ g. RunsFirst (is_run v g) pending rest all) s.sign_is k in
+    first_begins (is_run v sign) pending bytes all d (subst (λ t. RunsFirst (is_run v sign) pending t all) b l)
+
+numbers_fail : (kind : StreamKind) (from : Integers) (r : Numbers) (c n : ℕ) (f : StripeFault) → NumbersStart from.version from.sign from.bytes r → c ≡ n → NumbersFail kind (integers_of r) c f → NumbersFail kind from n f
+numbers_fail kind from r c n f s e h =
+    subst (λ k. NumbersFail kind from k f) e (subst (λ i. NumbersFail kind i c f) (integers_start from.version from.sign from.bytes r s) h)
+
+not_all_start : (passes : ℤ → Bool) (from : Integers) (r : Numbers) → NumbersStart from.version from.sign from.bytes r → NotAll passes (NumbersFirst r) → NotAll passes (IntegersFirst from)
+not_all_start passes from r s h = (h.0, first_start from.version from.sign from.bytes r h.0 s h.1, h.2)
+
+ints_start : (fits : ℤ → Bool) (from : Integers) (r : Numbers) (c n : ℕ) (f : StripeFault) → NumbersStart from.version from.sign from.bytes r → c ≡ n → IntsMeet fits r c f → IntsFail fits from (IntegersFirst from) n f
+ints_start fits from r c n f s e (inl h) = inl (numbers_fail stream.Data from r c n f s e h)
+ints_start fits from r c n f s e (inr h) = inr (h.0 ∙ ap (λ k. fault.OutOfRange k) e, not_all_start fits from r s h.1)
+
+pass_start : (v : Version) (bytes : List ℕ) (r : Numbers) (most most' : ℕ) → NumbersStart v Unsigned bytes r → most ≡ most' → Pass (NumbersFirst r) most → Pass (IntegersFirst (integers_from v Unsigned bytes)) most'
+pass_start v bytes r most most' s e h = subst (λ m. Pass (IntegersFirst (integers_from v Unsigned bytes)) m) e (h.0, first_start v Unsigned bytes r h.0 s h.1, h.2)
+
+pub groups_start : (kind : StreamKind) (v : Version) (lengths bytes : List ℕ) (r : Numbers) (o : Octets) (c n : ℕ) (f : StripeFault) → NumbersStart v Unsigned lengths r → o.rest.now ≡ bytes → c ≡ n
+    → GroupsMeet kind r o c f → GroupsFail kind (record { version = v; sign = Unsigned; bytes = lengths }) bytes n f
+groups_start kind v lengths bytes r o c n f s b e (inl h) = inl (numbers_fail stream.Length (integers_from v Unsigned lengths) r c n f s e h)
+groups_start kind v lengths bytes r o c n f s b e (inr (is, inl p)) =
+    inr (is ∙ ap (λ k. fault.LengthSum k kind) e, inl (begin_lengths v lengths (length bytes) (pass_start v lengths r (length o.rest.now) (length bytes) s (ap length b) p)))
+groups_start kind v lengths bytes r o c n f s b e (inr (is, inr p)) =
+    let a = numbers_alike v Unsigned lengths r s in
+    inr (is ∙ ap (λ k. fault.LengthSum k kind) e, inr (p.0, a.to (map pos p.0) p.1, subst (λ t. sum p.0 < length t) b p.2))
+
+words_start : (x : Streams) (entries : List (List ℕ)) (r : Numbers) (c n : ℕ) (f : StripeFault) → IsDictionary x entries → NumbersStart (version x) Unsigned (x.stream 1) r → c ≡ n → WordsMeet entries r c f → WordsFail x n f
+words_start x entries r c n f d s e (inl h) = inl (numbers_fail stream.Data (indexes_of x) r c n f s e h)
+words_start x entries r c n f d s e (inr (inl h)) =
+    inr (inl (h.0 ∙ ap (λ k. fault.BadIndex k) e, subst (λ k. NotAll (is_index k) (IntegersFirst (indexes_of x))) d.counted (not_all_start (is_index (length entries)) (indexes_of x) r s h.1)))
+words_start x entries r c n f d s e (inr (inr h)) =
+    inr (inr (h.0 ∙ ap (λ k. fault.NotUtf8 k stream.DictionaryData) e, (entries, d, not_all_start (names_text entries) (indexes_of x) r s h.1)))
+
+text_start : (x : Streams) (r : Source) (n : ℕ) (f : StripeFault) → NumbersStart (version x) Unsigned (x.stream 2) r.numbers → r.octets.rest.now ≡ x.stream 1 → r.column ≡ n → TextMeets r.numbers r.octets r.column f → TextsFail false x n f
+text_start x r n f s b e (inl h) = inl (groups_start stream.Data (version x) (x.stream 2) (x.stream 1) r.numbers r.octets r.column n f s b e h)
+text_start x r n f s b e (inr (is, h)) =
+    inr (is ∙ ap (λ k. fault.NotUtf8 k stream.Data) e, (h.0, h.1, first_start (version x) Unsigned (x.stream 2) r.numbers (map size h.0) s h.2, sym b ∙ h.3, h.4))
+
+texts_start : (x : Streams) (dictionary : Bool) (entries : Option (Vec Entry Global)) (r : Source) (n : ℕ) (f : StripeFault) → TextsStart dictionary x entries r → r.column ≡ n → TextsMeet entries r f → TextsFail dictionary x n f
+texts_start x true None r n f s e h = absurd s
+texts_start x true (Some entries) r n f s e h = words_start x (map entry_bytes entries.items) r.numbers r.column n f s.0 s.1 e h
+texts_start x false None r n f s e h = text_start x r n f s.0 s.1 e h
+texts_start x false (Some entries) r n f s e h = absurd s
+
+data_start : (bytes there : List ℕ) (c n : ℕ) (f : StripeFault) → there ≡ bytes → c ≡ n → DataFail there c f → DataFail bytes n f
+data_start bytes there c n f b e h = subst (λ k. DataFail bytes k f) e (subst (λ t. DataFail t c f) b h)
+
+scalar_start : (k : Scalar) (x : Streams) (r : Source) (n : ℕ) (f : StripeFault) → ScalarStart k x r → r.column ≡ n → ScalarMeets k r f → ScalarFails k x n f
+scalar_start kind.Boolean x r n f s e h = data_start (x.stream 1) r.bits.bytes.bytes.now r.column n f s.runs.bytes_are e h
+scalar_start kind.Byte x r n f s e h = data_start (x.stream 1) r.bytes.bytes.now r.column n f s.bytes_are e h
+scalar_start kind.Short x r n f s e h = ints_start (int_fits kind.Short) (data_of x) r.numbers r.column n f s e h
+scalar_start kind.Int x r n f s e h = ints_start (int_fits kind.Int) (data_of x) r.numbers r.column n f s e h
+scalar_start kind.Long x r n f s e h = numbers_fail stream.Data (data_of x) r.numbers r.column n f s e h
+scalar_start kind.Date x r n f s e h = ints_start (signed_fits 31) (data_of x) r.numbers r.column n f s e h
+scalar_start kind.Binary x r n f s e h = groups_start stream.Data (version x) (x.stream 2) (x.stream 1) r.numbers r.octets r.column n f s.0 s.1 e h
+scalar_start kind.String x r n f s e h = texts_start x (has_dictionary x) r.entries r n f s e h
+
+lists_start : (x : Streams) (r : Source) (n : ℕ) (f : StripeFault) → NumbersStart (version x) Unsigned (x.stream 2) r.numbers → r.room ≡ most_cells → r.column ≡ n → ListsMeet r f → ListsFail x n f
+lists_start x r n f s room e (inl h) = inl (numbers_fail stream.Length (lengths_of x) r.numbers r.column n f s e h)
+lists_start x r n f s room e (inr h) =
+    inr (h.0 ∙ ap (λ k. fault.TooMany k) e, begin_lengths (version x) (x.stream 2) most_cells (pass_start (version x) (x.stream 2) r.numbers r.room most_cells s room h.1))
+
+pub values_start : (s : Shape) (x : Streams) (r : Source) (n : ℕ) (f : StripeFault) → SourceStart s x r → r.column ≡ n → ValuesMeet s r f → ValuesFail s x n f
+values_start (scalar k o) x r n f s e h = scalar_start k x r n f s e h
+values_start (list_of t o) x r n f s e h = lists_start x r n f s.0 s.1 e h
+values_start (struct_of fs o) x r n f s e h = h
+
+pub marks_start : (bytes : List ℕ) (present : Option Bits) → MarksStart bytes present → marks_bytes present ≡ bytes
+marks_start [] None s = refl
+marks_start [] (Some bits) s = absurd s
+marks_start (b ∷ bs) None s = absurd s
+marks_start (b ∷ bs) (Some bits) s = s.runs.bytes_are

@@ -1,0 +1,15 @@
+use Rattle.std.proofs.Common.{ap, ◌∙◌, subst}
+use Rattle.orc_rle.specs.declared.sign.Sign.TheVariants.{Unsigned}
+use Rattle.orc_stripe.specs.declared.fault.StreamKind.TheVariants.{DictionaryData}
+use Rattle.orc_stripe.specs.Faults.{GroupsFail, lengths_of}
+use Rattle.orc_stripe.specs.RunFaults.{Integers}
+use Rattle.orc_stripe.specs.Stripe.{version}
+use Rattle.orc_stripe.proofs.StartFaults.{integers_from}
+use Rattle.orc_stripe.proofs.starting.word_source.Goals as goal
+
+pub returns-in-Err-clause-fault : goal.returns-in-Err-clause-fault
+returns-in-Err-clause-fault c = λ memory x are.
+    let s = c.args.streams.now in
+    let i = ap (λ v. integers_from v Unsigned s.lengths.now) are.version_is ∙ ap (λ b. integers_from (version x) Unsigned b) are.lengths_are in
+    subst (λ b. GroupsFail DictionaryData (lengths_of x) b c.args.column c.in-Err.fault) are.words_are
+    (subst (λ (k : Integers). GroupsFail DictionaryData k s.words.now c.args.column c.in-Err.fault) i (c.in-Err.ensures.fault memory))
