@@ -14,3 +14,6 @@ pub mod ReadBits
 pub mod RowLemmas
 pub mod RowFronts
 pub mod HonestLemmas
+pub mod CountLemmas
+pub mod StatTests
+pub mod WriterLemmas

@@ -2,10 +2,13 @@
 //! bytes and written behind its stripes.
 #![tactic(auto)]
 
+mod counting;
 mod failures;
 mod fault;
 mod file;
+mod file_end;
 mod file_source;
+mod file_stats;
 mod footer;
 mod laid;
 mod laws;
@@ -27,6 +30,7 @@ mod std_sink;
 mod tail;
 mod tail_writing;
 mod vec_sink;
+mod writer;
 
 pub use fault::FileFault;
 pub use file::OrcFile;
@@ -42,8 +46,11 @@ pub use source::{Source, SourceFault};
 pub use std_sink::StdSink;
 pub use tail::Tail;
 pub use vec_sink::VecSink;
+pub use writer::Writer;
 
 #[cfg(test)]
 mod tail_tests;
 #[cfg(test)]
 mod tests;
+#[cfg(test)]
+mod writer_tests;
