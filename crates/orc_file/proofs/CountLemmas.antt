@@ -1,7 +1,6 @@
 -- How many cells columns have, with a row more.
-use Rattle.std.proofs.Common.{◌≡◌, ℕ, zero, suc, ◌+◌, ◌-◌, inl, inr, ◌<◌, ◌≤◌, ◌^◌, Bool, true, false, ltb, List, [], ◌∷◌, ◌++◌, length, get_or, drop, replicate, refl, sym, ap, ◌∙◌, arith, drop-cons, append_assoc, length-append, append-nil}
-use Rattle.std.specs.Prelude.{◌&&◌}
-use Rattle.std.proofs.lemmas.Bool.{lt-ltb, le-ltb, ltb-true, and_parts}
+use Rattle.std.proofs.Common.{◌≡◌, ℕ, zero, suc, ◌+◌, ◌-◌, inl, inr, ◌<◌, ◌^◌, true, ltb, List, [], ◌∷◌, ◌++◌, length, get_or, replicate, refl, sym, ap, ◌∙◌, arith, length-append}
+use Rattle.std.proofs.lemmas.Bool.{ltb-true, and_parts}
 use Rattle.std.proofs.lemmas.Bool.Decides.{leb_tells}
 use Rattle.orc_types.specs.Shapes.{Shape, scalar, list_of, struct_of, Fields, no_field, field, width}
 use Rattle.orc_types.specs.Cells.{Cell}
@@ -52,7 +51,7 @@ mutual
   pub no_structs : (fs : Fields) (c : ℕ) → cells_within fs c [] ≡ []
   no_structs no_field c = refl
   no_structs (field name s fs) c =
-      elim (leb_tells (suc c) (width s)) [ | inl p ↦ rw p.0 (no_rows s c) | inr p ↦ rw p.0 (no_structs fs (c - width s)) ]
+      elim (leb_tells (suc c) (width s)) [ inl p ↦ rw p.0 (no_rows s c) | inr p ↦ rw p.0 (no_structs fs (c - width s)) ]
 
 pub counts_none : (s : Shape) → AreCounts s (replicate (width s) 0) []
 counts_none s c l = zero_at (width s) c ∙ ap length (sym (no_rows s c))

@@ -15,5 +15,6 @@ pub mod RowLemmas
 pub mod RowFronts
 pub mod HonestLemmas
 pub mod CountLemmas
+pub mod CountSteps
 pub mod StatTests
 pub mod WriterLemmas

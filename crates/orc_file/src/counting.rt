@@ -58,12 +58,15 @@ fn count_fields(fields: &[Field], parts: &[Row<'_>], column: usize, counts: &mut
     requires { column + widths (fields_view fields.now) ≤ length counts.old.items }
     ensures { AddsFields (fields_view fields.now) column (views parts.now) counts.old.items counts.new.items }
 {
-    match (fields, parts) {
-        ([field, fields @ ..], [part, parts @ ..]) => {
-            count_cell(&field.tree, part, column, counts);
-            count_fields(fields, parts, column + width_of(&field.tree), counts);
-        }
-        _ => {}
+    match fields {
+        [] => {}
+        [field, fields @ ..] => match parts {
+            [] => {}
+            [part, parts @ ..] => {
+                count_cell(&field.tree, part, column, counts);
+                count_fields(fields, parts, column + width_of(&field.tree), counts);
+            }
+        },
     }
 }
 
@@ -71,7 +74,6 @@ fn count_fields(fields: &[Field], parts: &[Row<'_>], column: usize, counts: &mut
 pub(crate) fn count_row(schema: &Schema, row: &Row<'_>, counts: &[u64], sums: &mut Vec<u64>) -> bool
     requires wide { length counts.now ≡ width schema.now }
     requires room { length sums.old.items ≡ width schema.now }
-    requires few { are_few counts.now ≡ true }
     ensures few { OnTrue result ((sums.new.items ≡ with_row schema.now 0 (view row.now) counts.now) × (are_few sums.new.items ≡ true)) }
     ensures many { OnFalse result (are_few (with_row schema.now 0 (view row.now) counts.now) ≡ false) }
     ensures wide { length sums.new.items ≡ width schema.now }
