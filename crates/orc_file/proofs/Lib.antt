@@ -18,3 +18,4 @@ pub mod CountLemmas
 pub mod CountSteps
 pub mod StatTests
 pub mod WriterLemmas
+pub mod PushLemmas

@@ -1,10 +1,10 @@
 -- What a writer's steps do to what stands behind it.
-use Rattle.std.proofs.Common.{◌≡◌, ℕ, zero, suc, ◌+◌, ◌<◌, ◌≤◌, ◌^◌, Bool, true, false, ltb, List, [], ◌∷◌, ◌++◌, length, map, take, drop, Option, Some, None, refl, sym, ap, ◌∙◌, subst, arith, append_assoc, length-append, append-nil}
+use Rattle.std.proofs.Common.{◌≡◌, ℕ, ◌+◌, ◌<◌, ◌≤◌, ◌^◌, Bool, true, ltb, List, [], ◌∷◌, ◌++◌, length, take, drop, Option, Some, None, refl, sym, ap, ◌∙◌, subst, arith, append_assoc, length-append, append-nil}
 use Rattle.std.specs.Prelude.{◌&&◌, ◌==◌}
 use Rattle.std.specs.List.{AllByRecursion, flat_map}
 use Rattle.std.proofs.Math.Seq.{take-append_seam}
 use Rattle.std.proofs.lemmas.Bool.{lt-ltb, ltb-true, and_parts, eqb-true, eq-eqb}
-use Rattle.std.proofs.lemmas.List.{map-append, take_all, take-append-drop, length-take-le}
+use Rattle.std.proofs.lemmas.List.{map-append, take_all, take-append-drop}
 use Rattle.orc_rle.specs.declared.sign.Rle.{Rle}
 use Rattle.orc_wire.specs.declared.stripe_info.StripeInfo.{StripeInfo}
 use Rattle.orc_types.specs.Shapes.{Shape, scalar, list_of, struct_of, width}
@@ -154,9 +154,9 @@ appended_twice (Some x) a b = ap Some (append_assoc x a b)
 closes : (rle : Rle) (n : ℕ) (s : Shape) (cs : List Closed) → AreClosed rle s 3 cs → AreFilled n cs → AreWithin (infos_of cs)
     → IsSomeFile rle n s ((magic ++ bytes_of cs) ++ tail_text (written_tail rle s (infos_of cs) (stats_of cs))) (rows_of cs)
 closes rle n s cs are filled within = (
-    written_tail rle s (infos_of cs) (stats_of cs),
-    record { closed = cs; are = are; filled = filled; within = within; tail_is = refl; bytes_are = refl; rows_are = refl },
-  )
+  written_tail rle s (infos_of cs) (stats_of cs),
+  record { closed = cs; are = are; filled = filled; within = within; tail_is = refl; bytes_are = refl; rows_are = refl },
+)
 
 -- nothing of the kept rows was written
 pub cut_kept : (rle : Rle) (n : ℕ) (s : Shape) (first told : Option (List ℕ)) (written : ℕ) (infos : List StripeInfo) (stats : List (List Stat)) (kept rows : List Cell)
@@ -193,8 +193,7 @@ cut_row rle n s first told written infos stats kept rows row l w h =
     cut_kept rle n s first told written infos stats (kept ++ row ∷ []) (rows ++ row ∷ []) l w (kept_row rle n s first told written infos stats kept rows row h)
 
 module _ (rle : Rle) (n : ℕ) (s : Shape) (first told : Option (List ℕ)) (written : ℕ) (infos : List StripeInfo) (stats : List (List Stat)) (kept rows : List Cell)
-  (h : HasKept rle n s first told written infos stats kept rows) (c : Closed) (kept_is : c.rows ≡ kept) (is : IsClosed rle s written c) where
-
+    (h : HasKept rle n s first told written infos stats kept rows) (c : Closed) (kept_is : c.rows ≡ kept) (is : IsClosed rle s written c) where
   more_are : AreClosed rle s 3 (h.closed ++ c ∷ [])
   more_are = let m = length-append magic (bytes_of h.closed) in let w = h.written_is in closed_more rle s 3 written h.closed c h.are (omega (arith, m, w)) is
 
@@ -282,8 +281,7 @@ pub pushed_none : (rle : Rle) (n : ℕ) (s : Shape) (first : Option (List ℕ)) 
 pushed_none rle n s first l = (record { closed = []; are = tt; full = tt; infos_are = refl; stats_are = refl; told_is = refl; written_is = refl; rows_are = refl }, l)
 
 module _ (rle : Rle) (n : ℕ) (s : Shape) (first told : Option (List ℕ)) (infos : List StripeInfo) (stats : List (List Stat)) (rows : List Cell)
-  (h : HasFilled rle n s first told infos stats rows) (w : AreWithin infos) where
-
+    (h : HasFilled rle n s first told infos stats rows) (w : AreWithin infos) where
   abbrev end_tail : Tail
   end_tail = written_tail rle s infos stats
 

@@ -333,6 +333,7 @@ impl<W: Sink> Writer<W> {
             → HasPushed self.old.options.rle self.old.options.stripe_rows self.old.schema first (W.told self.old.out) self.old.written self.old.infos.items self.old.stats.items (views self.old.rows.items) rows
             → OnErr result (IsCutOff self.old.options.rle self.old.options.stripe_rows self.old.schema first (W.told self.new.out) rows) }
         ensures empty { OnOk result (self.new.rows.items ≡ []) }
+        ensures ok { OnOk result (self.new.failed ≡ false) }
         ensures same { (self.new.schema ≡ self.old.schema) × (self.new.options ≡ self.old.options) }
         ensures refused { IfErr result (λ e. (e ≡ fault.WriteFailed) ⊎ ((e ≡ fault.Limit) ⊎ (e ≡ fault.OutOfMemory))) }
         ensures write_failed { IsErrOf result fault.WriteFailed → W.failures self.old.out < W.failures self.new.out }

@@ -1,9 +1,7 @@
-use Rattle.std.proofs.Common.{◌≡◌, ◌+◌, ◌<◌, ◌≤◌, ◌++◌, ◌∷◌, [], List, length, ap, ◌∙◌, arith, length-append, refl, sym, take_all}
+use Rattle.std.proofs.Common.{◌≡◌, ◌+◌, length, ap, ◌∙◌, arith, refl}
 use Rattle.std.proofs.lemmas.List.{length-map}
-use Rattle.orc_types.specs.Shapes.{width}
 use Rattle.orc_types.specs.Views.{view, views}
-use Rattle.orc_file.specs.Devices.{appended}
-use Rattle.orc_file.specs.Writing.{Closed, IsClosed, AreWithin}
+use Rattle.orc_file.specs.Writing.{Closed, IsClosed}
 use Rattle.orc_file.proofs.CountLemmas.{counts_none, few_none, few_cells}
 use Rattle.orc_file.proofs.StatTests.{all_stats_more, stripe_stats_are}
 use Rattle.orc_file.proofs.WriterLemmas.{stripe_within, cut_sent, cut_all, sent_full, sent_last, laid_more, length_more, rows_more, stripe_bytes, stripe_rows, rows_fit, root_few}
@@ -82,7 +80,7 @@ invariant_of-self-2-clause-counted_stats g c = λ f.
     let w = c.args.self.now in
     let kept = views w.rows.items in
     rw (c.in-Ok-push.ensures.items, c.from_vec.ensures) (all_stats_more w.schema w.stats.items c.args.stripe.stats.items (w.counted_stats c.requires.open)
-        (stripe_stats_are w.schema kept c.args.stripe.stats.items (rows_fit w.schema kept w.fit) (few_cells w.schema w.counts.items kept w.wide w.counted w.few_cells) c.requires.stats))
+    (stripe_stats_are w.schema kept c.args.stripe.stats.items (rows_fit w.schema kept w.fit) (few_cells w.schema w.counts.items kept w.wide w.counted w.few_cells) c.requires.stats))
 
 pub invariant_of-self-2-clause-placed : goal.invariant_of-self-2-clause-placed
 invariant_of-self-2-clause-placed g c = λ f.
