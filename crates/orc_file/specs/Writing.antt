@@ -106,6 +106,13 @@ pub record AreWithin (infos : List StripeInfo) : Type 0 where
   pub rows : stripes_rows infos ≤ most_rows
   pub bytes : stripes_length infos ≤ most_bytes
 
+-- with the stripe of some rows behind these the bytes of all stripes would be above the limit
+pub record PassesBytes (rle : Rle) (s : Shape) (infos : List StripeInfo) (rows : List Cell) : Type 0 where
+  pub info : StripeInfo
+  pub bytes : List ℕ
+  pub written : IsWrittenStripe rle s rows info bytes
+  pub above : most_bytes < stripes_length infos + length bytes
+
 -- The bytes are `ORC`, stripes one after the other, of so many rows but for the last one, and the canonical
 -- text of the tail that lists them. Their rows, joined, are the file's.
 pub record IsWrittenFile (rle : Rle) (n : ℕ) (s : Shape) (tail : Tail) (bytes : List ℕ) (rows : List Cell) : Type 0 where

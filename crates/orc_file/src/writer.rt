@@ -12,7 +12,7 @@ ghost use Rattle.orc_stripe.specs.WrittenStripe.{IsWrittenStripe, HaveStats};
 ghost use Rattle.orc_file.specs.Devices.{appended};
 ghost use Rattle.orc_file.specs.Stripes.{stripe_length, stripes_length, stripes_rows, most_stripes, most_rows, most_bytes};
 ghost use Rattle.orc_file.specs.Counts.{are_laid, are_few, are_all_stats, with_row, PassesLimit};
-ghost use Rattle.orc_file.specs.Writing.{HasKept, HasPushed, HasFilled, IsCutOff, IsWhole};
+ghost use Rattle.orc_file.specs.Writing.{HasKept, HasPushed, HasFilled, IsCutOff, IsWhole, PassesBytes};
 ghost use Rattle.orc_file.specs.declared.fault.FileFault.TheVariants as fault;
 
 use crate::counting::{count_row, no_cells, reset};
@@ -92,6 +92,7 @@ impl<W: Sink> Writer<W> {
 
         ensures refused { IfErr result (λ e. (e.0 ≡ fault.WriteFailed) ⊎ (e.0 ≡ fault.OutOfMemory)) }
         ensures write_failed { IfErr result (λ e. e.0 ≡ fault.WriteFailed → W.failures out < W.failures e.1) }
+        ensures no_failure { IfOk result (λ w. W.failures w.out ≡ W.failures out) }
     {
         let mut out = out;
         let Ok(counts) = no_cells(alloc, schema.width()) else {
@@ -127,6 +128,7 @@ impl<W: Sink> Writer<W> {
         ensures stats { IfOk result (λ out. HaveStats self.now.schema (views self.now.rows.items) (width self.now.schema) out.stats.items) }
         ensures place { IfOk result (λ out. out.info.offset ≡ self.now.written) }
         ensures few { IfOk result (λ out. stripes_length self.now.infos.items + length out.bytes.items ≤ most_bytes) }
+        ensures limit { IsErrOf result fault.Limit → PassesBytes self.now.options.rle self.now.schema self.now.infos.items (views self.now.rows.items) }
         ensures refused { IfErr result (λ e. (e ≡ fault.Limit) ⊎ (e ≡ fault.OutOfMemory)) }
     {
         let Ok(out) = write_stripe(self.alloc, &self.schema, &self.options, &self.rows) else {
@@ -215,6 +217,7 @@ impl<W: Sink> Writer<W> {
         ensures same { (self.new.schema ≡ self.old.schema) × (self.new.options ≡ self.old.options) }
         ensures ok { OnOk result (self.new.failed ≡ false) }
         ensures failed { OnErr result (self.new.failed ≡ true) }
+        ensures limit { IsErrOf result fault.Limit → PassesBytes self.old.options.rle self.old.schema self.old.infos.items (views self.old.rows.items) }
         ensures refused { IfErr result (λ e. (e ≡ fault.WriteFailed) ⊎ ((e ≡ fault.Limit) ⊎ (e ≡ fault.OutOfMemory))) }
         ensures write_failed { IsErrOf result fault.WriteFailed → W.failures self.old.out < W.failures self.new.out }
         ensures no_failure { OnOk result (W.failures self.new.out ≡ W.failures self.old.out) }
@@ -304,9 +307,13 @@ impl<W: Sink> Writer<W> {
         ensures limit { self.old.failed ≡ false → fitting.fits (view row.now) self.old.schema ≡ true
             → (PassesLimit self.old.schema self.old.infos.items self.old.total self.old.counts.items (view row.now) → IsErrOf result fault.Limit × (self.new.failed ≡ false)) }
         ensures only_limit { IsErrOf result fault.Limit → self.new.failed ≡ false → PassesLimit self.old.schema self.old.infos.items self.old.total self.old.counts.items (view row.now) }
+        ensures long { IsErrOf result fault.Limit → self.new.failed ≡ true → PassesBytes self.old.options.rle self.old.schema self.old.infos.items (views self.old.rows.items ++ view row.now ∷ []) }
         ensures refused { IfErr result (λ e. (e ≡ fault.Failed) ⊎ ((e ≡ fault.RowShape) ⊎ ((e ≡ fault.Limit) ⊎ ((e ≡ fault.WriteFailed) ⊎ (e ≡ fault.OutOfMemory))))) }
         ensures shape_stays { IsErrOf result fault.RowShape → self.new.failed ≡ false }
         ensures unchanged { OnErr result (self.new.failed ≡ self.old.failed → (self.new.out ≡ self.old.out) × (self.new.written ≡ self.old.written) × (self.new.infos ≡ self.old.infos) × (self.new.stats ≡ self.old.stats) × (self.new.rows ≡ self.old.rows) × (self.new.counts ≡ self.old.counts) × (self.new.total ≡ self.old.total) × (self.new.failed ≡ self.old.failed)) }
+        ensures write_fails { IsErrOf result fault.WriteFailed → self.new.failed ≡ true }
+        ensures memory_fails { IsErrOf result fault.OutOfMemory → self.new.failed ≡ true }
+        ensures stays_failed { self.old.failed ≡ true → self.new.failed ≡ true }
         ensures ok { OnOk result (self.new.failed ≡ false) }
 
         ensures cut { (first : Option (List ℕ)) (rows : List Cell)
@@ -335,6 +342,7 @@ impl<W: Sink> Writer<W> {
         ensures empty { OnOk result (self.new.rows.items ≡ []) }
         ensures ok { OnOk result (self.new.failed ≡ false) }
         ensures same { (self.new.schema ≡ self.old.schema) × (self.new.options ≡ self.old.options) }
+        ensures limit { IsErrOf result fault.Limit → PassesBytes self.old.options.rle self.old.schema self.old.infos.items (views self.old.rows.items) }
         ensures refused { IfErr result (λ e. (e ≡ fault.WriteFailed) ⊎ ((e ≡ fault.Limit) ⊎ (e ≡ fault.OutOfMemory))) }
         ensures write_failed { IsErrOf result fault.WriteFailed → W.failures self.old.out < W.failures self.new.out }
         ensures no_failure { OnOk result (W.failures self.new.out ≡ W.failures self.old.out) }
@@ -357,6 +365,7 @@ impl<W: Sink> Writer<W> {
 
         ensures failed { IfErr result (λ e. e.0 ≡ fault.Failed → self.failed ≡ true) }
         ensures stands { self.failed ≡ true → MatchResult result (λ _. ⊥) (λ e. (e.0 ≡ fault.Failed) × (e.1 ≡ self.out)) }
+        ensures long { IfErr result (λ e. e.0 ≡ fault.Limit → PassesBytes self.options.rle self.schema self.infos.items (views self.rows.items)) }
         ensures refused { IfErr result (λ e. (e.0 ≡ fault.Failed) ⊎ ((e.0 ≡ fault.Limit) ⊎ ((e.0 ≡ fault.WriteFailed) ⊎ (e.0 ≡ fault.OutOfMemory)))) }
         ensures cut { (first : Option (List ℕ)) (rows : List Cell)
             → HasPushed self.options.rle self.options.stripe_rows self.schema first (W.told self.out) self.written self.infos.items self.stats.items (views self.rows.items) rows
