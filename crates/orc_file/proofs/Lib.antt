@@ -17,3 +17,4 @@ pub mod HonestLemmas
 pub mod CountLemmas
 pub mod StatTests
 pub mod WriterLemmas
+pub mod TailLimits

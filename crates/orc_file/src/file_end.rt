@@ -81,6 +81,7 @@ pub(crate) fn end_file<W: Sink>(
     ensures refused { IfErr result (λ e. (e ≡ WriteFailed) ⊎ (e ≡ OutOfMemory)) }
     ensures write_failed { IsErrOf result WriteFailed → W.failures out.old < W.failures out.new }
 {
+    let _types = schema.types();
     let tail = match tail_of(alloc, rle, schema, stripes) {
         Ok(tail) => tail,
         Err(fault) => return Err(fault),
