@@ -18,3 +18,5 @@ pub mod CountLemmas
 pub mod StatTests
 pub mod WriterLemmas
 pub mod TailLimits
+pub mod WrittenBits
+pub mod WrittenLaws
