@@ -56,3 +56,5 @@ mod tail_tests;
 mod tests;
 #[cfg(test)]
 mod writer_tests;
+#[cfg(test)]
+mod written_again_tests;
