@@ -20,3 +20,4 @@ pub mod WriterLemmas
 pub mod TailLimits
 pub mod WrittenBits
 pub mod WrittenLaws
+pub mod OneWritten
