@@ -19,3 +19,7 @@ pub mod CountSteps
 pub mod StatTests
 pub mod WriterLemmas
 pub mod PushLemmas
+pub mod TailLimits
+pub mod WrittenBits
+pub mod WrittenLaws
+pub mod OneWritten

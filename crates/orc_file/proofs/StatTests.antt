@@ -1,13 +1,13 @@
 -- Tests of statistics, and what they say.
-use Rattle.std.proofs.Common.{◌≡◌, ℕ, zero, suc, ◌+◌, ◌<◌, ◌≤◌, ◌^◌, Bool, true, false, ltb, List, [], ◌∷◌, ◌++◌, length, take, drop, Option, Some, None, refl, sym, ap, ◌∙◌, subst, arith}
+use Rattle.std.proofs.Common.{◌≡◌, ℕ, zero, suc, ◌+◌, ◌<◌, ◌≤◌, ◌^◌, Bool, true, List, [], ◌∷◌, ◌++◌, length, take, drop, Option, Some, None, refl, sym, ap, ◌∙◌, subst, arith}
 use Rattle.std.specs.Prelude.{◌&&◌, ◌||◌, ◌==◌, nat_lt, slice_get}
 use Rattle.std.specs.List.{AllByRecursion, All, list_all}
-use Rattle.std.proofs.lemmas.Bool.{lt-ltb, ltb-true, and_parts, eqb-true, eq-eqb}
+use Rattle.std.proofs.lemmas.Bool.{lt-ltb, and_parts, eq-eqb}
 use Rattle.std.proofs.lemmas.List.Folds.{list_all-append}
 use Rattle.orc_types.specs.Shapes.{Shape, width, shape_at}
-use Rattle.orc_types.specs.Cells.{Cell, is_value, values, null, leaf, list, struct}
+use Rattle.orc_types.specs.Cells.{Cell, values, null, leaf, list, struct}
 use Rattle.orc_types.specs.Columns.{cells}
-use Rattle.orc_types.specs.Fits.{fits, RowsFit}
+use Rattle.orc_types.specs.Fits.{RowsFit}
 use Rattle.orc_types.proofs.Together.{cells_fit}
 use Rattle.orc_stats.specs.declared.kind.StatKind.{StatKind}
 use Rattle.orc_stats.specs.declared.kind.StatKind.TheVariants as kind
@@ -15,30 +15,28 @@ use Rattle.orc_stats.specs.declared.stat.Stat.{Stat}
 use Rattle.orc_stats.specs.declared.stat.Body.{Body}
 use Rattle.orc_stats.specs.Kinds.{kind_of, is_of, body_is_of}
 use Rattle.orc_stats.specs.Statistics.{stat}
-use Rattle.orc_stats.specs.Messages.{unknown, in_limits, IsStat}
+use Rattle.orc_stats.specs.Messages.{unknown, in_limits}
 use Rattle.orc_stats.proofs.Normal.{stat-normal}
 use Rattle.orc_stats.proofs.Fitting.{cell_kind}
 use Rattle.orc_stripe.specs.WrittenStripe.{AreFew, HaveStats, column_stat}
 use Rattle.orc_file.specs.Statistics.{kind_at}
 use Rattle.orc_file.specs.Writing.{column_stats}
+use Rattle.orc_file.proofs.WriterLemmas.{both}
 use Rattle.orc_file.specs.Counts.{is_unknown, is_column_stat, are_column_stats, are_stripe_stats, are_all_stats}
-
-two : (a b : Bool) → a ≡ true → b ≡ true → (a && b) ≡ true
-two a b p q = rw (p, q) refl
 
 -- a stripe's statistics more
 pub all_stats_more : (s : Shape) (xss : List (List Stat)) (xs : List Stat) → are_all_stats s xss ≡ true → are_stripe_stats s xs ≡ true → are_all_stats s (xss ++ xs ∷ []) ≡ true
-all_stats_more s [] xs h e = two (are_stripe_stats s xs) true e refl
-all_stats_more s (ys ∷ yss) xs h e = let p = and_parts (are_stripe_stats s ys) (are_all_stats s yss) h in two (are_stripe_stats s ys) _ p.0 (all_stats_more s yss xs p.1 e)
+all_stats_more s [] xs h e = both (are_stripe_stats s xs) true e refl
+all_stats_more s (ys ∷ yss) xs h e = let p = and_parts (are_stripe_stats s ys) (are_all_stats s yss) h in both (are_stripe_stats s ys) _ p.0 (all_stats_more s yss xs p.1 e)
 
-values_few : (cs : List Cell) → length (values cs) ≤ length cs
+pub values_few : (cs : List Cell) → length (values cs) ≤ length cs
 values_few [] = omega arith
 values_few (null ∷ cs) = let h = values_few cs in omega (arith, h)
 values_few (leaf a ∷ cs) = let h = values_few cs in omega (arith, h)
 values_few (list a ∷ cs) = let h = values_few cs in omega (arith, h)
 values_few (struct a ∷ cs) = let h = values_few cs in omega (arith, h)
 
-are_of_kind : (s : Shape) (cs : List Cell) → RowsFit s cs → AllByRecursion (λ c. is_of (kind_of s) c ≡ true) cs
+pub are_of_kind : (s : Shape) (cs : List Cell) → RowsFit s cs → AllByRecursion (λ c. is_of (kind_of s) c ≡ true) cs
 are_of_kind s [] h = tt
 are_of_kind s (c ∷ cs) h = (cell_kind c s h.0, are_of_kind s cs h.1)
 
@@ -61,9 +59,9 @@ column_is s rows c l fit few =
     let f = few c l in
     let is = stat-normal k cs (are_of_kind (shape_at s c) cs (cells_fit s c rows l fit)) (omega (arith, f)) in
     let v = values_few cs in
-    two (body_is_of k (stat k cs).body) _ is.kind (two (in_limits (stat k cs)) _ is.limits (two (nat_lt (length (values cs)) (2 ^ 31)) _ (lt-ltb (length (values cs)) (2 ^ 31) (omega (arith, v, f))) (counted_or k (length (values cs)) (stat k cs).body is.empty)))
+    both (body_is_of k (stat k cs).body) _ is.kind (both (in_limits (stat k cs)) _ is.limits (both (nat_lt (length (values cs)) (2 ^ 31)) _ (lt-ltb (length (values cs)) (2 ^ 31) (omega (arith, v, f))) (counted_or k (length (values cs)) (stat k cs).body is.empty)))
 
-abbrev some_or : Stat → Option Stat → Stat
+abbrev pub some_or : Stat → Option Stat → Stat
 some_or x None = x
 some_or x (Some y) = y
 
@@ -73,14 +71,14 @@ columns_are s rows c [] fit few w h = refl
 columns_are s rows c (x ∷ xs) fit few w h =
     let z : c + 0 ≡ c = omega arith in
     let e : x ≡ column_stat s rows c = ap (some_or x) (h 0 (omega arith)) ∙ ap (column_stat s rows) z in
-    two (is_column_stat (kind_at s c) x) _ (ap (is_column_stat (kind_at s c)) e ∙ column_is s rows c (omega (arith, w)) fit few)
+    both (is_column_stat (kind_at s c) x) _ (ap (is_column_stat (kind_at s c)) e ∙ column_is s rows c (omega (arith, w)) fit few)
     (columns_are s rows (c + 1) xs fit few (omega (arith, w)) (λ i l. let n : c + suc i ≡ (c + 1) + i = omega arith in h (suc i) (omega (arith, l)) ∙ ap (λ k. Some (column_stat s rows k)) n))
 
 -- a stripe's statistics pass the test
 pub stripe_stats_are : (s : Shape) (rows : List Cell) (xs : List Stat) → RowsFit s rows → AreFew s rows → HaveStats s rows (width s) xs → are_stripe_stats s xs ≡ true
 stripe_stats_are s rows xs fit few h =
     let w = h.counted in
-    two (length xs == width s) _ (eq-eqb (length xs) (width s) w)
+    both (length xs == width s) _ (eq-eqb (length xs) (width s) w)
     (columns_are s rows 0 xs fit few (omega (arith, w)) (λ i l. let z : 0 + i ≡ i = omega arith in h.each i (omega (arith, l, w)) ∙ ap (λ k. Some (column_stat s rows k)) (sym z)))
 
 -- ---- a column's statistics in all stripes
@@ -92,7 +90,7 @@ one_kind s from zero (x ∷ xs) h =
     let z : from + 0 ≡ from = omega arith in
     let p = and_parts (is_column_stat (kind_at s from) x) (are_column_stats s (from + 1) xs) h in
     let q = and_parts (body_is_of (kind_at s from) x.body) (in_limits x && (nat_lt x.count (2 ^ 31) && (nat_lt 0 x.count || is_unknown x.body))) p.0 in
-    two (body_is_of (kind_at s (from + 0)) x.body) true (ap (λ k. body_is_of (kind_at s k) x.body) z ∙ q.0) refl
+    both (body_is_of (kind_at s (from + 0)) x.body) true (ap (λ k. body_is_of (kind_at s k) x.body) z ∙ q.0) refl
 one_kind s from (suc c) (x ∷ xs) h =
     let n : (from + 1) + c ≡ from + suc c = omega arith in
     let p = and_parts (is_column_stat (kind_at s from) x) (are_column_stats s (from + 1) xs) h in
@@ -106,7 +104,7 @@ column_kinds s c (xs ∷ xss) h =
     let z : 0 + c ≡ c = omega arith in
     let one = subst (λ k. list_all (λ (y : Stat). body_is_of (kind_at s k) y.body) (take 1 (drop c xs)) ≡ true) z (one_kind s 0 c xs q.1) in
     list_all-append (λ (x : Stat). body_is_of (kind_at s c) x.body) (take 1 (drop c xs)) (column_stats c xss)
-    ∙ two (list_all (λ (x : Stat). body_is_of (kind_at s c) x.body) (take 1 (drop c xs))) _ one (column_kinds s c xss p.1)
+    ∙ both (list_all (λ (x : Stat). body_is_of (kind_at s c) x.body) (take 1 (drop c xs))) _ one (column_kinds s c xss p.1)
 
 all_of : (p : Stat → Bool) (xs : List Stat) → list_all p xs ≡ true → All (λ x. p x ≡ true) xs
 all_of p [] h k d l = absurd (omega (arith, l))

@@ -1,5 +1,5 @@
 //! The end of a file that is written.
-ghost use Rattle.std.specs.Prelude.{◌≡◌, ◌<◌, ◌≤◌, ◌⊎◌, ℕ, true, take, length, IfOk, IfErr, OnErr, IsErrOf};
+ghost use Rattle.std.specs.Prelude.{◌≡◌, ◌<◌, ◌≤◌, ◌⊎◌, ℕ, true, take, length, IfOk, IfErr, OnOk, OnErr, IsErrOf};
 ghost use Rattle.orc_file.specs.Devices.{appended};
 ghost use Rattle.orc_file.specs.Stripes.{stripes_rows};
 ghost use Rattle.orc_file.specs.Images.{tail_text};
@@ -80,7 +80,10 @@ pub(crate) fn end_file<W: Sink>(
     ensures cut { OnErr result ((n : ℕ) × (W.told out.new ≡ appended (W.told out.old) (take n (tail_text (written_tail rle schema stripes.infos.items stripes.stats.items))))) }
     ensures refused { IfErr result (λ e. (e ≡ WriteFailed) ⊎ (e ≡ OutOfMemory)) }
     ensures write_failed { IsErrOf result WriteFailed → W.failures out.old < W.failures out.new }
+    ensures memory { IsErrOf result OutOfMemory → W.failures out.new ≡ W.failures out.old }
+    ensures no_failure { OnOk result (W.failures out.new ≡ W.failures out.old) }
 {
+    let _types = schema.types();
     let tail = match tail_of(alloc, rle, schema, stripes) {
         Ok(tail) => tail,
         Err(fault) => return Err(fault),

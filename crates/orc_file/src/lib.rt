@@ -13,6 +13,7 @@ mod footer;
 mod laid;
 mod laws;
 mod laws_of_rows;
+mod laws_of_writing;
 mod limits;
 mod loading;
 mod metadata;
@@ -37,6 +38,7 @@ pub use file::OrcFile;
 pub use file_source::FileSource;
 pub use laws::{image_laws, tail_laws};
 pub use laws_of_rows::{row_laws, whole_laws};
+pub use laws_of_writing::written_laws;
 pub use range_fault::RangeFault;
 pub use ranges::read_range;
 pub use sending::write_all;
@@ -54,3 +56,5 @@ mod tail_tests;
 mod tests;
 #[cfg(test)]
 mod writer_tests;
+#[cfg(test)]
+mod written_again_tests;
