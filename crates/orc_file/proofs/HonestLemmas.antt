@@ -21,7 +21,7 @@ twice_none (x ∷ xs) e = absurd (omega (arith, ap length e, length-append (x �
 no_cells : (s : Shape) (column : ℕ) → cells s column [] ≡ []
 no_cells s column = twice_none (cells s column []) (cells-append s column [] [])
 
-all_cells : (s : Shape) (column : ℕ) (parts : List (List Cell)) → flat_map (λ p. p) (map (cells s column) parts) ≡ cells s column (joined parts)
+pub all_cells : (s : Shape) (column : ℕ) (parts : List (List Cell)) → flat_map (λ p. p) (map (cells s column) parts) ≡ cells s column (joined parts)
 all_cells s column [] = sym (no_cells s column)
 all_cells s column (rows ∷ parts) =
     flat_map-cons (λ (p : List Cell). p) (cells s column rows) (map (cells s column) parts)

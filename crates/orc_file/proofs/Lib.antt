@@ -14,3 +14,12 @@ pub mod ReadBits
 pub mod RowLemmas
 pub mod RowFronts
 pub mod HonestLemmas
+pub mod CountLemmas
+pub mod CountSteps
+pub mod StatTests
+pub mod WriterLemmas
+pub mod PushLemmas
+pub mod TailLimits
+pub mod WrittenBits
+pub mod WrittenLaws
+pub mod OneWritten

@@ -38,13 +38,13 @@ spelled : {C : Type 0} (members : Member C) (w : Canonical members) (text : List
 spelled members w text c h = w.read 0 h.fields text c h.are h.says
 
 -- the records of a body
-abbrev BodyBits : Body → Type 0
+abbrev pub BodyBits : Body → Type 0
 BodyBits b = IfSome (int_record b) integer_stats_text.bounded
     × (IfSome (text_record b) string_stats_text.bounded
     × (IfSome (bucket_record b) bucket_stats_text.bounded
     × (IfSome (date_record b) date_stats_text.bounded × IfSome (bin_record b) binary_stats_text.bounded)))
 
-where_so : {X : Type 0} (P : X → Type 0) (b : Bool) (x : X) → P x → IfSome (if b then Some x else None) P
+pub where_so : {X : Type 0} (P : X → Type 0) (b : Bool) (x : X) → P x → IfSome (if b then Some x else None) P
 where_so P true x h = h
 where_so P false x h = tt
 

@@ -1,13 +1,11 @@
 -- The rows of a file's stripes: there is one list of them at most.
-use Rattle.std.specs.Prelude.{◌≡◌, ℕ, ◌+◌, ◌^◌, ◌<◌, ◌≤◌, List, [], ◌∷◌, ◌++◌, length, take, drop, get_or}
+use Rattle.std.specs.Prelude.{◌≡◌, ℕ, ◌+◌, ◌^◌, ◌<◌, ◌≤◌, List, [], ◌∷◌, ◌++◌, length, take, drop}
 use Rattle.std.proofs.Common.{◌∙◌, sym, ap, subst, refl, inl, inr, arith, zero, suc}
-use Rattle.std.specs.List.{flat_map}
 use Rattle.std.proofs.lemmas.List.Concat.{flat_map-cons}
 use Rattle.std.proofs.Math.Seq.{drop-append_seam, take-append_seam}
 use Rattle.orc_wire.specs.declared.stripe_info.StripeInfo.{StripeInfo}
 use Rattle.orc_types.specs.Cells.{Cell}
 use Rattle.orc_types.specs.Shapes.{Shape}
-use Rattle.orc_stripe.specs.Stripe.{IsStripe}
 use Rattle.orc_stripe.proofs.OneStripe.{one_stripe}
 use Rattle.orc_file.specs.Stripes.{stripe_length, stripe_end, stripes_length, stripe_at, AllBefore, most_bytes}
 use Rattle.orc_file.specs.Tails.{tail_tests}
@@ -69,7 +67,7 @@ cut_parts s bytes (i ∷ is) (rows ∷ parts) p =
     let more : drop i.number_of_rows (rows ++ joined parts) ≡ joined parts = subst (λ (n : ℕ). drop n (rows ++ joined parts) ≡ joined parts) p.0.spelled.counted (drop-append_seam rows (joined parts)) in
     subst (λ (t : List Cell). take i.number_of_rows t ∷ cut_rows is (drop i.number_of_rows t) ≡ rows ∷ parts) (sym all) (rw (own, more, rest) refl)
 
-parts_cut : (s : Shape) (bytes : List ℕ) (infos : List StripeInfo) (rows : List Cell) (p : HasRows s bytes infos rows) → cut_rows infos rows ≡ p.parts
+pub parts_cut : (s : Shape) (bytes : List ℕ) (infos : List StripeInfo) (rows : List Cell) (p : HasRows s bytes infos rows) → cut_rows infos rows ≡ p.parts
 parts_cut s bytes infos rows p = ap (cut_rows infos) p.rows_are ∙ cut_parts s bytes infos p.parts p.stripes
 
 -- the rows of each stripe are the file's, cut

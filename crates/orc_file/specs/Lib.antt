@@ -9,3 +9,6 @@ pub mod Tails
 pub mod Images
 pub mod FileRows
 pub mod Honest
+pub mod Counts
+pub mod Counting
+pub mod Writing

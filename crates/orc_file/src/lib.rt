@@ -2,14 +2,18 @@
 //! bytes and written behind its stripes.
 #![tactic(auto)]
 
+mod counting;
 mod failures;
 mod fault;
 mod file;
+mod file_end;
 mod file_source;
+mod file_stats;
 mod footer;
 mod laid;
 mod laws;
 mod laws_of_rows;
+mod laws_of_writing;
 mod limits;
 mod loading;
 mod metadata;
@@ -27,12 +31,14 @@ mod std_sink;
 mod tail;
 mod tail_writing;
 mod vec_sink;
+mod writer;
 
 pub use fault::FileFault;
 pub use file::OrcFile;
 pub use file_source::FileSource;
 pub use laws::{image_laws, tail_laws};
 pub use laws_of_rows::{row_laws, whole_laws};
+pub use laws_of_writing::written_laws;
 pub use range_fault::RangeFault;
 pub use ranges::read_range;
 pub use sending::write_all;
@@ -42,8 +48,13 @@ pub use source::{Source, SourceFault};
 pub use std_sink::StdSink;
 pub use tail::Tail;
 pub use vec_sink::VecSink;
+pub use writer::Writer;
 
 #[cfg(test)]
 mod tail_tests;
 #[cfg(test)]
 mod tests;
+#[cfg(test)]
+mod writer_tests;
+#[cfg(test)]
+mod written_again_tests;

@@ -1,4 +1,4 @@
-mod fail_sink;
+pub mod fail_sink;
 pub mod fail_source;
 mod narrow;
 mod rows_of_files;

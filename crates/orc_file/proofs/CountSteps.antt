@@ -1,0 +1,227 @@
+-- One walk of a row, cell by cell, counts the cells of each column.
+use Rattle.std.proofs.Common.{◌≡◌, ℕ, zero, suc, ◌+◌, ◌-◌, ◌<◌, ◌≤◌, ◌^◌, inl, inr, Bool, true, false, ltb, List, [], ◌∷◌, ◌++◌, length, get_or, map, take, drop, Option, refl, sym, ap, ◌∙◌, arith, add-one, length-append, append-nil}
+use Rattle.std.specs.Prelude.{min}
+use Rattle.std.specs.Bool.{OnTrue, OnFalse}
+use Rattle.std.proofs.Math.Seq.{take-suc}
+use Rattle.std.proofs.lemmas.Bool.{lt-ltb, le-ltb, ltb-true, and_parts}
+use Rattle.std.proofs.lemmas.Bool.Decides.{leb_tells}
+use Rattle.std.proofs.lemmas.List.{map-append, take_all}
+use Rattle.orc_types.specs.declared.kind.Scalar.{Scalar}
+use Rattle.orc_types.specs.Shapes.{Shape, scalar, list_of, struct_of, Fields, no_field, field, width, widths}
+use Rattle.orc_types.specs.Cells.{Cell, null, leaf, list, struct, parts, values}
+use Rattle.orc_types.specs.Columns.{cells, cells_within}
+use Rattle.orc_types.specs.Views.{view, views}
+use Rattle.orc_types.specs.declared.value.Value.{Value}
+use Rattle.orc_types.proofs.ByColumn.{parts_values}
+use Rattle.orc_types.proofs.Together.{cells-append}
+use Rattle.orc_file.specs.Counts.{with_row, are_few}
+use Rattle.orc_file.specs.Counting.{IsMoreBy, AddsOne, AddsCells, AddsFields}
+use Rattle.orc_file.proofs.CountLemmas.{no_rows, no_structs, length-with_row, with_row_at}
+
+-- ---- numbers up to the limit
+
+none_more : (n x : ℕ) → n ≡ 0 → IsMoreBy n x x
+none_more n x z = omega (arith, z)
+
+both_more : (a b x y z : ℕ) → IsMoreBy a x y → IsMoreBy b y z → IsMoreBy (a + b) x z
+both_more a b x y z p q = omega (arith, p, q)
+
+-- ---- rows one after the other
+
+pub adds_none : (s : Shape) (place : ℕ) (counts : List ℕ) → AddsCells s place [] counts counts
+adds_none s place counts = record {
+  same = refl;
+  added = λ c l. none_more (length (cells s c [])) (get_or counts (place + c) 0) (ap length (no_rows s c));
+  others = λ k h. refl;
+}
+
+pub adds_more : (s : Shape) (place : ℕ) (a b : List Cell) (old mid new : List ℕ) → AddsCells s place a old mid → AddsCells s place b mid new → AddsCells s place (a ++ b) old new
+adds_more s place a b old mid new p q = record {
+  same = q.same ∙ p.same;
+  added = λ c l.
+      let e : length (cells s c (a ++ b)) ≡ length (cells s c a) + length (cells s c b) = ap length (cells-append s c a b) ∙ length-append (cells s c a) (cells s c b) in
+      rw e (both_more (length (cells s c a)) (length (cells s c b)) (get_or old (place + c) 0) (get_or mid (place + c) 0) (get_or new (place + c) 0) (p.added c l) (q.added c l));
+  others = λ k h. q.others k h ∙ p.others k h;
+}
+
+-- ---- a cell, and what is in it
+
+pub adds_scalar : (k : Scalar) (o : List ℕ) (place : ℕ) (cell : Cell) (old new : List ℕ) → AddsOne place old new → AddsCells (scalar k o) place (cell ∷ []) old new
+adds_scalar k o place cell old new p = record {
+  same = p.same;
+  added = λ c l. let e : place + c ≡ place = omega arith in rw e p.added;
+  others = λ i h. p.others i (λ e. elim h [ inl a ↦ omega arith | inr b ↦ omega arith ]);
+}
+
+module _ (s : Shape) (o : List ℕ) (place : ℕ) (cell : Cell) (old mid new : List ℕ) (p : AddsOne place old mid) (q : AddsCells s (place + 1) (parts cell) mid new) where
+  list_added : (c : ℕ) → c < 1 + width s → IsMoreBy (length (cells (list_of s o) c (cell ∷ []))) (get_or old (place + c) 0) (get_or new (place + c) 0)
+  list_added zero l =
+      let e : place + 0 ≡ place = omega arith in
+      let n = q.others place (inl (omega arith)) in
+      rw (e, n) p.added
+  list_added (suc c) l =
+      let e : place + suc c ≡ (place + 1) + c = omega arith in
+      let f : cells (list_of s o) (suc c) (cell ∷ []) ≡ cells s c (parts cell) = ap (cells s c) (parts_values (cell ∷ []) ∙ append-nil (parts cell)) in
+      let n = p.others ((place + 1) + c) (λ w. omega (arith, w)) in
+      rw (e, f, ← n) (q.added c (omega arith))
+
+  pub adds_list : AddsCells (list_of s o) place (cell ∷ []) old new
+  adds_list = record {
+    same = q.same ∙ p.same;
+    added = list_added;
+    others = λ k h. q.others k (elim h [ inl a ↦ inl (omega arith) | inr b ↦ inr (omega arith) ]) ∙ p.others k (λ w. elim h [ inl a ↦ omega arith | inr b ↦ omega arith ]);
+  }
+
+-- a struct with no parts
+no_parts : (fs : Fields) (c : ℕ) → cells_within fs c ([] ∷ []) ≡ []
+no_parts no_field c = refl
+no_parts (field name s fs) c =
+    elim (leb_tells (suc c) (width s)) [ inl p ↦ rw p.0 (no_rows s c) | inr p ↦ rw p.0 (no_parts fs (c - width s)) ]
+
+one_struct : (fs : Fields) (c : ℕ) (cell : Cell) → cells_within fs c (map parts (values (cell ∷ []))) ≡ cells_within fs c (parts cell ∷ [])
+one_struct fs c null = no_structs fs c ∙ sym (no_parts fs c)
+one_struct fs c (leaf a) = refl
+one_struct fs c (list cs) = refl
+one_struct fs c (struct cs) = refl
+
+module _ (fs : Fields) (o : List ℕ) (place : ℕ) (cell : Cell) (old mid new : List ℕ) (p : AddsOne place old mid) (q : AddsFields fs (place + 1) (parts cell) mid new) where
+  struct_added : (c : ℕ) → c < 1 + widths fs → IsMoreBy (length (cells (struct_of fs o) c (cell ∷ []))) (get_or old (place + c) 0) (get_or new (place + c) 0)
+  struct_added zero l =
+      let e : place + 0 ≡ place = omega arith in
+      let n = q.others place (inl (omega arith)) in
+      rw (e, n) p.added
+  struct_added (suc c) l =
+      let e : place + suc c ≡ (place + 1) + c = omega arith in
+      let f : cells (struct_of fs o) (suc c) (cell ∷ []) ≡ cells_within fs c (parts cell ∷ []) = one_struct fs c cell in
+      let n = p.others ((place + 1) + c) (λ w. omega (arith, w)) in
+      rw (e, f, ← n) (q.added c (omega arith))
+
+  pub adds_struct : AddsCells (struct_of fs o) place (cell ∷ []) old new
+  adds_struct = record {
+    same = q.same ∙ p.same;
+    added = struct_added;
+    others = λ k h. q.others k (elim h [ inl a ↦ inl (omega arith) | inr b ↦ inr (omega arith) ]) ∙ p.others k (λ w. elim h [ inl a ↦ omega arith | inr b ↦ omega arith ]);
+  }
+
+-- ---- the fields of a struct
+
+pub adds_no_field : (place : ℕ) (parts : List Cell) (counts : List ℕ) → AddsFields no_field place parts counts counts
+adds_no_field place parts counts = record { same = refl; added = λ c l. absurd (omega arith); others = λ k h. refl }
+
+pub adds_no_parts : (fs : Fields) (place : ℕ) (counts : List ℕ) → AddsFields fs place [] counts counts
+adds_no_parts fs place counts = record {
+  same = refl;
+  added = λ c l. none_more (length (cells_within fs c ([] ∷ []))) (get_or counts (place + c) 0) (ap length (no_parts fs c));
+  others = λ k h. refl;
+}
+
+module _ (name : List ℕ) (s : Shape) (fs : Fields) (place : ℕ) (part : Cell) (rest : List Cell) (old mid new : List ℕ)
+    (p : AddsCells s place (part ∷ []) old mid) (q : AddsFields fs (place + width s) rest mid new) where
+  field_added : (c : ℕ) → c < width s + widths fs → IsMoreBy (length (cells_within (field name s fs) c ((part ∷ rest) ∷ []))) (get_or old (place + c) 0) (get_or new (place + c) 0)
+  field_added c l =
+      elim (leb_tells (suc c) (width s)) [
+        | inl t ↦ let n = q.others (place + c) (inl (omega (arith, t.1))) in rw (t.0, n) (p.added c t.1)
+        | inr t ↦
+            let e : place + c ≡ (place + width s) + (c - width s) = omega (arith, t.1) in
+            let n = p.others ((place + width s) + (c - width s)) (inr (omega arith)) in
+            rw (t.0, e, ← n) (q.added (c - width s) (omega (arith, t.1)))
+      ]
+
+  pub adds_field : AddsFields (field name s fs) place (part ∷ rest) old new
+  adds_field = record {
+    same = q.same ∙ p.same;
+    added = field_added;
+    others = λ k h. q.others k (elim h [ inl a ↦ inl (omega arith) | inr b ↦ inr (omega arith) ]) ∙ p.others k (elim h [ inl a ↦ inl (omega arith) | inr b ↦ inr (omega arith) ]);
+  }
+
+-- ---- the walk's steps, as the code takes them
+
+pub list_counted : (x s : Shape) (o : List ℕ) (place : ℕ) (cell : Cell) (old mid new : List ℕ) → x ≡ list_of s o → AddsOne place old mid → AddsCells s (place + 1) (parts cell) mid new → AddsCells x place (cell ∷ []) old new
+list_counted x s o place cell old mid new e p q = rw e (adds_list s o place cell old mid new p q)
+
+pub struct_counted : (x : Shape) (fs : Fields) (o : List ℕ) (place : ℕ) (cell : Cell) (old mid new : List ℕ) → x ≡ struct_of fs o → AddsOne place old mid → AddsFields fs (place + 1) (parts cell) mid new → AddsCells x place (cell ∷ []) old new
+struct_counted x fs o place cell old mid new e p q = rw e (adds_struct fs o place cell old mid new p q)
+
+pub field_counted : (all : Fields) (name : List ℕ) (s : Shape) (fs : Fields) (place w : ℕ) (row : List Cell) (part : Cell) (rest : List Cell) (old mid new : List ℕ) → all ≡ field name s fs → row ≡ part ∷ rest → w ≡ width s
+    → AddsCells s place (part ∷ []) old mid → AddsFields fs (place + w) rest mid new → AddsFields all place row old new
+field_counted all name s fs place w row part rest old mid new e f g p q = rw (e, f) (adds_field name s fs place part rest old mid new p (rw g at q))
+
+-- a part more
+pub part_counted : (s : Shape) (place : ℕ) (rows : List (Option Value)) (i : ℕ) (r : Option Value) (old mid new : List ℕ) → i < length rows → r ≡ get_or rows i r
+    → AddsCells s place (views (take i rows)) old mid → AddsCells s place (view r ∷ []) mid new → AddsCells s place (views (take (i + 1) rows)) old new
+part_counted s place rows i r old mid new l is p q =
+    let t : take (i + 1) rows ≡ take i rows ++ r ∷ [] = ap (λ n. take n rows) (add-one i) ∙ take-suc rows i r l ∙ ap (λ x. take i rows ++ x ∷ []) (sym is) in
+    let e : views (take (i + 1) rows) ≡ views (take i rows) ++ view r ∷ [] = ap views t ∙ map-append view (take i rows) (r ∷ []) in
+    rw e (adds_more s place (views (take i rows)) (view r ∷ []) old mid new p q)
+
+-- all parts
+pub parts_counted : (s : Shape) (place : ℕ) (rows : List (Option Value)) (i : ℕ) (old new : List ℕ) → length rows ≤ i → AddsCells s place (views (take i rows)) old new → AddsCells s place (views rows) old new
+parts_counted s place rows i old new l p = rw (take_all i rows l) at p
+
+pub no_row : (rows : List (Option Value)) → length rows < 1 → views rows ≡ []
+no_row [] h = refl
+no_row (r ∷ rs) h = absurd (omega (arith, h))
+
+pub first_row : (rows : List (Option Value)) (r : Option Value) → 1 ≤ length rows → r ≡ get_or rows 0 r → views rows ≡ view r ∷ views (take (length rows - 1) (drop 1 rows))
+first_row [] r h is = absurd (omega (arith, h))
+first_row (x ∷ xs) r h is =
+    let e : take (length (x ∷ xs) - 1) xs ≡ xs = take_all (length (x ∷ xs) - 1) xs (omega arith) in
+    ap (λ y. view y ∷ views xs) (sym is) ∙ ap (λ ys. view r ∷ views ys) (sym e)
+
+-- ---- a row's counts, where they are below the limit, and where they aren't
+
+same_test : (m x y : ℕ) → min m x ≡ min m y → ltb x m ≡ ltb y m
+same_test m x y e =
+    elim (leb_tells (suc x) m) [
+      | inl p ↦ p.0 ∙ sym (lt-ltb y m (omega (arith, p.1, e)))
+      | inr p ↦ p.0 ∙ sym (le-ltb y m (omega (arith, p.1, e)))
+    ]
+
+-- two lists have the same numbers, up to the limit
+abbrev AreSame : List ℕ → List ℕ → Type 0
+AreSame xs ys = (i : ℕ) → i < length ys → min (2 ^ 31) (get_or xs i 0) ≡ min (2 ^ 31) (get_or ys i 0)
+
+same_few : (xs ys : List ℕ) → length xs ≡ length ys → AreSame xs ys → are_few xs ≡ are_few ys
+same_few [] [] w h = refl
+same_few [] (y ∷ ys) w h = absurd (omega (arith, w))
+same_few (x ∷ xs) [] w h = absurd (omega (arith, w))
+same_few (x ∷ xs) (y ∷ ys) w h =
+    let t = same_test (2 ^ 31) x y (h 0 (omega arith)) in
+    let r = same_few xs ys (omega (arith, w)) (λ i l. h (suc i) (omega arith)) in
+    rw (t, r) refl
+
+few_same : (xs ys : List ℕ) → length xs ≡ length ys → AreSame xs ys → are_few xs ≡ true → xs ≡ ys
+few_same [] [] w h f = refl
+few_same [] (y ∷ ys) w h f = absurd (omega (arith, w))
+few_same (x ∷ xs) [] w h f = absurd (omega (arith, w))
+few_same (x ∷ xs) (y ∷ ys) w h f =
+    let p = and_parts (ltb x (2 ^ 31)) (are_few xs) f in
+    let t = ltb-true x (2 ^ 31) p.0 in
+    let m = h 0 (omega arith) in
+    let e : x ≡ y = omega (arith, t, m) in
+    rw (e, few_same xs ys (omega (arith, w)) (λ i l. h (suc i) (omega arith)) p.1) refl
+
+module _ (s : Shape) (row : Cell) (counts sums : List ℕ) (wide : length counts ≡ width s) (h : AddsCells s 0 (row ∷ []) counts sums) where
+  sums_length : length sums ≡ length (with_row s 0 row counts)
+  sums_length = h.same ∙ sym (length-with_row s 0 row counts)
+
+  sums_same : AreSame sums (with_row s 0 row counts)
+  sums_same i l =
+      let n = length-with_row s 0 row counts in
+      let e : 0 + i ≡ i = omega arith in
+      let a = h.added i (omega (arith, n, wide)) in
+      rw (with_row_at s 0 i row counts (omega (arith, n)), e) (rw e at a)
+
+  sums_are : are_few sums ≡ true → sums ≡ with_row s 0 row counts
+  sums_are = few_same sums (with_row s 0 row counts) sums_length sums_same
+
+  sums_few : are_few (with_row s 0 row counts) ≡ are_few sums
+  sums_few = sym (same_few sums (with_row s 0 row counts) sums_length sums_same)
+
+  pub when_few : (b : Bool) → b ≡ are_few sums → OnTrue b ((sums ≡ with_row s 0 row counts) × (are_few sums ≡ true))
+  when_few true e = (sums_are (sym e), sym e)
+  when_few false e = tt
+
+  pub when_many : (b : Bool) → b ≡ are_few sums → OnFalse b (are_few (with_row s 0 row counts) ≡ false)
+  when_many true e = tt
+  when_many false e = sums_few ∙ sym e

@@ -1,0 +1,99 @@
+-- Of rows one file is written.
+use Rattle.std.proofs.Common.{◌≡◌, ℕ, suc, ◌+◌, ◌<◌, List, [], ◌∷◌, ◌++◌, length, take, drop, Some, refl, sym, ap, ◌∙◌, subst, arith, length-append}
+use Rattle.std.specs.Prelude.{slice_get}
+use Rattle.std.proofs.lemmas.List.{append-nil}
+use Rattle.std.proofs.Math.Seq.{take-append_seam, drop-append_seam}
+use Rattle.orc_rle.specs.declared.sign.Rle.{Rle}
+use Rattle.orc_wire.specs.declared.stripe_info.StripeInfo.{StripeInfo}
+use Rattle.orc_types.specs.Shapes.{Shape, width}
+use Rattle.orc_types.specs.Cells.{Cell}
+use Rattle.orc_stats.specs.declared.stat.Stat.{Stat}
+use Rattle.orc_stripe.specs.WrittenStripe.{IsWrittenStripe, HaveStats, column_stat}
+use Rattle.orc_stripe.proofs.OneWritten.{one_stripe}
+use Rattle.orc_file.specs.Layout.{magic}
+use Rattle.orc_file.specs.Images.{tail_text}
+use Rattle.orc_file.specs.Writing.{Closed, IsClosed, AreClosed, bytes_of, rows_of, infos_of, stats_of, AreFilled, written_tail, IsWrittenFile}
+use Rattle.orc_file.specs.declared.tail.Tail.{Tail}
+use Rattle.orc_file.proofs.StatTests.{some_or}
+
+-- ---- a stripe
+
+same_list : (f : ℕ → Stat) (xs ys : List Stat) → length xs ≡ length ys → ((i : ℕ) → i < length xs → slice_get xs i ≡ Some (f i)) → ((i : ℕ) → i < length ys → slice_get ys i ≡ Some (f i)) → xs ≡ ys
+same_list f [] [] e p q = refl
+same_list f [] (y ∷ ys) e p q = absurd (omega (arith, e))
+same_list f (x ∷ xs) [] e p q = absurd (omega (arith, e))
+same_list f (x ∷ xs) (y ∷ ys) e p q =
+    let here : x ≡ y = ap (some_or x) (p 0 (omega arith)) ∙ sym (ap (some_or y) (q 0 (omega arith))) in
+    let rest : xs ≡ ys = same_list (λ i. f (suc i)) xs ys (omega (arith, e)) (λ i l. p (suc i) (omega (arith, l))) (λ i l. q (suc i) (omega (arith, l))) in
+    rw (here, rest) refl
+
+same_stats : (s : Shape) (rows : List Cell) (xs ys : List Stat) → HaveStats s rows (width s) xs → HaveStats s rows (width s) ys → xs ≡ ys
+same_stats s rows xs ys p q =
+    let m = p.counted in let n = q.counted in
+    same_list (column_stat s rows) xs ys (omega (arith, m, n)) (λ i l. p.each i (omega (arith, l, m))) (λ i l. q.each i (omega (arith, l, n)))
+
+one_closed : (rle : Rle) (s : Shape) (at : ℕ) (c d : Closed) → c.rows ≡ d.rows → IsClosed rle s at c → IsClosed rle s at d → c ≡ d
+one_closed rle s at c d rows p q =
+    let text = one_stripe rle s d.rows (record c.info { offset = 0 }) (record d.info { offset = 0 }) c.bytes d.bytes
+    (subst (λ (r : List Cell). IsWrittenStripe rle s r (record c.info { offset = 0 }) c.bytes) rows p.written) q.written in
+    let stats : c.stats ≡ d.stats = same_stats s d.rows c.stats d.stats (subst (λ (r : List Cell). HaveStats s r (width s) c.stats) rows p.counted) q.counted in
+    let info : c.info ≡ d.info =
+    ap (λ (o : ℕ). record c.info { offset = o }) (p.placed ∙ sym q.placed) ∙ ap (λ (i : StripeInfo). record i { offset = d.info.offset }) text.0 in
+    λ i. record { info = info i; bytes = text.1 i; rows = rows i; stats = stats i }
+
+-- ---- stripes
+
+filled_some : (n : ℕ) (c : Closed) (cs : List Closed) → AreFilled n (c ∷ cs) → 0 < n
+filled_some n c [] h = let a = h.0 in let b = h.1 in omega (arith, a, b)
+filled_some n c (d ∷ ds) h = filled_some n d ds h.1
+
+first_some : (n : ℕ) (c : Closed) (cs : List Closed) → AreFilled n (c ∷ cs) → 0 < length c.rows
+first_some n c [] h = h.0
+first_some n c (d ∷ ds) h = let e = h.0 in let l = filled_some n d ds h.1 in omega (arith, e, l)
+
+-- rows cut at one place
+cut_at : (a b x y : List Cell) → length a ≡ length b → a ++ x ≡ b ++ y → (a ≡ b) × (x ≡ y)
+cut_at a b x y l e = (
+  sym (take-append_seam a x) ∙ ap (take (length a)) e ∙ ap (λ (k : ℕ). take k (b ++ y)) l ∙ take-append_seam b y,
+  sym (drop-append_seam a x) ∙ ap (drop (length a)) e ∙ ap (λ (k : ℕ). drop k (b ++ y)) l ∙ drop-append_seam b y,
+)
+
+-- one stripe has no rows of which others have more
+too_few : (n : ℕ) (c d e : Closed) (es : List Closed) → AreFilled n (c ∷ []) → AreFilled n (d ∷ e ∷ es) → c.rows ++ [] ≡ d.rows ++ rows_of (e ∷ es) → ⊥
+too_few n c d e es p q same =
+    let most = p.1 in let full = q.0 in let some = first_some n e es q.1 in
+    let l = sym (length-append c.rows []) ∙ ap length same ∙ length-append d.rows (rows_of (e ∷ es)) in
+    let m = length-append e.rows (rows_of es) in
+    omega (arith, most, full, some, l, m)
+
+one_list : (rle : Rle) (n : ℕ) (s : Shape) (at : ℕ) (cs ds : List Closed) → AreClosed rle s at cs → AreClosed rle s at ds → AreFilled n cs → AreFilled n ds → rows_of cs ≡ rows_of ds → cs ≡ ds
+one_list rle n s at [] [] p q f g e = refl
+one_list rle n s at [] (d ∷ ds) p q f g e =
+    let some = first_some n d ds g in let l = ap length e ∙ length-append d.rows (rows_of ds) in absurd (omega (arith, some, l))
+one_list rle n s at (c ∷ cs) [] p q f g e =
+    let some = first_some n c cs f in let l = sym (length-append c.rows (rows_of cs)) ∙ ap length e in absurd (omega (arith, some, l))
+one_list rle n s at (c ∷ []) (d ∷ []) p q f g e =
+    let rows : c.rows ≡ d.rows = sym (append-nil c.rows) ∙ e ∙ append-nil d.rows in
+    ap (λ (x : Closed). x ∷ []) (one_closed rle s at c d rows p.0 q.0)
+one_list rle n s at (c ∷ []) (d ∷ d2 ∷ ds) p q f g e = absurd (too_few n c d d2 ds f g e)
+one_list rle n s at (c ∷ c2 ∷ cs) (d ∷ []) p q f g e = absurd (too_few n d c c2 cs g f (sym e))
+one_list rle n s at (c ∷ c2 ∷ cs) (d ∷ d2 ∷ ds) p q f g e =
+    let k = f.0 in let l = g.0 in
+    let cut = cut_at c.rows d.rows (rows_of (c2 ∷ cs)) (rows_of (d2 ∷ ds)) (omega (arith, k, l)) e in
+    let here : c ≡ d = one_closed rle s at c d cut.0 p.0 q.0 in
+    let later = subst (λ (m : ℕ). AreClosed rle s (at + m) (c2 ∷ cs)) (ap (λ (x : Closed). length x.bytes) here) p.1 in
+    let rest = one_list rle n s (at + length d.bytes) (c2 ∷ cs) (d2 ∷ ds) later q.1 f.1 g.1 cut.1 in
+    ap (λ (x : Closed). x ∷ c2 ∷ cs) here ∙ ap (λ (xs : List Closed). d ∷ xs) rest
+
+-- ---- files
+
+pub one_written : (rle : Rle) (n : ℕ) (s : Shape) (t u : Tail) (a b : List ℕ) (rows : List Cell) → IsWrittenFile rle n s t a rows → IsWrittenFile rle n s u b rows → (t ≡ u) × (a ≡ b)
+one_written rle n s t u a b rows p q =
+    let same = one_list rle n s 3 p.closed q.closed p.are q.are p.filled q.filled (sym p.rows_are ∙ q.rows_are) in
+    let tails : t ≡ u = p.tail_is ∙ ap (λ (cs : List Closed). written_tail rle s (infos_of cs) (stats_of cs)) same ∙ sym q.tail_is in (
+      tails,
+      p.bytes_are
+          ∙ ap (λ (cs : List Closed). (magic ++ bytes_of cs) ++ tail_text t) same
+          ∙ ap (λ (x : Tail). (magic ++ bytes_of q.closed) ++ tail_text x) tails
+          ∙ sym q.bytes_are,
+    )

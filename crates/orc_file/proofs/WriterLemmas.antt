@@ -1,0 +1,339 @@
+-- What a writer's steps do to what stands behind it.
+use Rattle.std.proofs.Common.{◌≡◌, ℕ, ◌+◌, ◌<◌, ◌≤◌, ◌^◌, Bool, true, ltb, List, [], ◌∷◌, ◌++◌, length, take, drop, Option, Some, None, refl, sym, ap, ◌∙◌, subst, arith, append_assoc, length-append, append-nil}
+use Rattle.std.specs.Prelude.{◌&&◌, ◌==◌}
+use Rattle.std.specs.List.{AllByRecursion, flat_map}
+use Rattle.std.proofs.Math.Seq.{take-append_seam}
+use Rattle.std.proofs.lemmas.Bool.{lt-ltb, ltb-true, and_parts, eqb-true, eq-eqb}
+use Rattle.std.proofs.lemmas.List.{map-append, take_all, take-append-drop}
+use Rattle.orc_rle.specs.declared.sign.Rle.{Rle}
+use Rattle.orc_wire.specs.declared.stripe_info.StripeInfo.{StripeInfo}
+use Rattle.orc_types.specs.Shapes.{Shape, scalar, list_of, struct_of, width}
+use Rattle.orc_types.specs.Cells.{Cell, cells_of}
+use Rattle.orc_types.specs.Columns.{cells}
+use Rattle.orc_types.specs.Fits.{fits, all_fit, RowsFit}
+use Rattle.orc_types.specs.Views.{views}
+use Rattle.orc_types.specs.declared.value.Value.{Value}
+use Rattle.orc_stats.specs.declared.stat.Stat.{Stat}
+use Rattle.orc_stripe.specs.Stripe.{IsStripe}
+use Rattle.orc_stripe.specs.WrittenStripe.{AreFew}
+use Rattle.orc_file.specs.Devices.{appended}
+use Rattle.orc_file.specs.Layout.{magic}
+use Rattle.orc_file.specs.Stripes.{stripe_length, stripe_end, stripes_length, stripes_rows, IsLaid, most_stripes, most_stripe_rows, most_rows, most_bytes}
+use Rattle.orc_file.specs.Images.{tail_text}
+use Rattle.orc_file.specs.declared.tail.Tail.{Tail}
+use Rattle.orc_file.specs.Counts.{are_laid}
+use Rattle.orc_file.specs.Writing.{Closed, IsClosed, AreClosed, bytes_of, rows_of, infos_of, stats_of, AreFull, AreFilled, written_tail, AreWithin, IsWrittenFile, IsSomeFile, IsWhole, IsCutOff, HasKept, HasPushed, HasFilled}
+
+-- ---- a stripe's numbers
+
+-- a stripe's place in a file is no part of what it says
+pub moved : (s : Shape) (info : StripeInfo) (bytes : List ℕ) (rows : List Cell) (at : ℕ) → IsStripe s info bytes rows → IsStripe s (record info { offset = at }) bytes rows
+moved s info bytes rows at h = record {
+  footer = h.footer;
+  has_footer = record { whole = h.has_footer.whole; read = h.has_footer.read; directory = h.has_footer.directory; encodings = h.has_footer.encodings };
+  spelled = h.spelled;
+}
+
+pub stripe_bytes : (s : Shape) (info : StripeInfo) (bytes : List ℕ) (rows : List Cell) → IsStripe s info bytes rows → length bytes ≡ stripe_length info
+stripe_bytes s info bytes rows h = h.has_footer.whole
+
+pub stripe_rows : (s : Shape) (info : StripeInfo) (bytes : List ℕ) (rows : List Cell) → IsStripe s info bytes rows → length rows ≡ info.number_of_rows
+stripe_rows s info bytes rows h = h.spelled.counted
+
+all_rows : (s : Shape) (rows : List Cell) → cells s 0 rows ≡ rows
+all_rows (scalar k o) rows = refl
+all_rows (list_of s o) rows = refl
+all_rows (struct_of fs o) rows = refl
+
+pub has_root : (s : Shape) → 0 < width s
+has_root (scalar k o) = omega arith
+has_root (list_of s o) = omega arith
+has_root (struct_of fs o) = omega arith
+
+-- the rows are the cells of the root
+pub root_rows : (s : Shape) (rows : List Cell) → length (cells s 0 rows) ≡ length rows
+root_rows s rows = ap length (all_rows s rows)
+
+-- ---- limits and places, with a stripe more
+
+pub length_more : (infos : List StripeInfo) (info : StripeInfo) → stripes_length (infos ++ info ∷ []) ≡ stripes_length infos + stripe_length info
+length_more [] info = omega arith
+length_more (i ∷ is) info = let e = length_more is info in omega (arith, e)
+
+pub rows_more : (infos : List StripeInfo) (info : StripeInfo) → stripes_rows (infos ++ info ∷ []) ≡ stripes_rows infos + info.number_of_rows
+rows_more [] info = omega arith
+rows_more (i ∷ is) info = let e = rows_more is info in omega (arith, e)
+
+pub both : (a b : Bool) → a ≡ true → b ≡ true → (a && b) ≡ true
+both a b p q = rw (p, q) refl
+
+pub laid_more : (at : ℕ) (infos : List StripeInfo) (info : StripeInfo) → are_laid at infos ≡ true → info.offset ≡ at + stripes_length infos → info.number_of_rows < 2 ^ 31 → are_laid at (infos ++ info ∷ []) ≡ true
+laid_more at [] info h o r = let e : info.offset ≡ at = omega (arith, o) in both (info.offset == at) _ (eq-eqb info.offset at e) (both (ltb info.number_of_rows (2 ^ 31)) true (lt-ltb info.number_of_rows (2 ^ 31) r) refl)
+laid_more at (i ∷ is) info h o r =
+    let p = and_parts (i.offset == at) (ltb i.number_of_rows (2 ^ 31) && are_laid (stripe_end i) is) h in
+    let q = and_parts (ltb i.number_of_rows (2 ^ 31)) (are_laid (stripe_end i) is) p.1 in
+    let e : i.offset ≡ at = eqb-true i.offset at p.0 in
+    both (i.offset == at) _ p.0 (both (ltb i.number_of_rows (2 ^ 31)) _ q.0 (laid_more (stripe_end i) is info q.1 (omega (arith, o, e)) r))
+
+pub within_more : (infos : List StripeInfo) (info : StripeInfo) → length infos < most_stripes → stripes_rows infos + info.number_of_rows ≤ most_rows → stripes_length infos + stripe_length info ≤ most_bytes → AreWithin (infos ++ info ∷ [])
+within_more infos info a b c =
+    let l = length-append infos (info ∷ []) in let m = length_more infos info in let n = rows_more infos info in
+    record { stripes = omega (arith, a, l); rows = omega (arith, b, n); bytes = omega (arith, c, m) }
+
+pub within_of : (infos : List StripeInfo) (total k : ℕ) → length infos ≤ most_stripes → total ≡ stripes_rows infos + k → total ≤ most_rows → stripes_length infos ≤ most_bytes → AreWithin infos
+within_of infos total k n t f b = record { stripes = n; rows = omega (arith, t, f); bytes = b }
+
+-- the kept rows' stripe is within the limits
+pub stripe_within : (s : Shape) (infos : List StripeInfo) (info : StripeInfo) (bytes : List ℕ) (kept : List Cell) (total k : ℕ) → IsStripe s info bytes kept → length infos < most_stripes
+    → total ≡ stripes_rows infos + k → length kept ≡ k → total ≤ most_rows → stripes_length infos + length bytes ≤ most_bytes → AreWithin (infos ++ info ∷ [])
+stripe_within s infos info bytes kept total k h room t l few b =
+    let c = stripe_rows s info bytes kept h in let n = stripe_bytes s info bytes kept h in
+    within_more infos info room (omega (arith, t, l, few, c)) (omega (arith, b, n))
+
+-- ---- places of stripes
+
+pub laid_places : (at : ℕ) (infos : List StripeInfo) → are_laid at infos ≡ true → IsLaid at infos
+laid_places at [] h = tt
+laid_places at (i ∷ is) h =
+    let p = and_parts (i.offset == at) (ltb i.number_of_rows (2 ^ 31) && are_laid (stripe_end i) is) h in
+    let q = and_parts (ltb i.number_of_rows (2 ^ 31)) (are_laid (stripe_end i) is) p.1 in
+    (eqb-true i.offset at p.0, laid_places (stripe_end i) is q.1)
+
+pub laid_rows : (at : ℕ) (infos : List StripeInfo) → are_laid at infos ≡ true → AllByRecursion (λ (i : StripeInfo). i.number_of_rows ≤ most_stripe_rows) infos
+laid_rows at [] h = tt
+laid_rows at (i ∷ is) h =
+    let p = and_parts (i.offset == at) (ltb i.number_of_rows (2 ^ 31) && are_laid (stripe_end i) is) h in
+    let q = and_parts (ltb i.number_of_rows (2 ^ 31)) (are_laid (stripe_end i) is) p.1 in
+    let l = ltb-true i.number_of_rows (2 ^ 31) q.0 in
+    (omega (arith, l), laid_rows (stripe_end i) is q.1)
+
+-- ---- rows that fit
+
+pub rows_fit : (s : Shape) (rows : List Cell) → all_fit (cells_of rows) s ≡ true → RowsFit s rows
+rows_fit s [] h = tt
+rows_fit s (c ∷ cs) h = let p = and_parts (fits c s) (all_fit (cells_of cs) s) h in (p.0, rows_fit s cs p.1)
+
+pub fit_more : (s : Shape) (rows : List Cell) (row : Cell) → all_fit (cells_of rows) s ≡ true → fits row s ≡ true → all_fit (cells_of (rows ++ row ∷ [])) s ≡ true
+fit_more s [] row h f = both (fits row s) true f refl
+fit_more s (c ∷ cs) row h f = let p = and_parts (fits c s) (all_fit (cells_of cs) s) h in both (fits c s) _ p.0 (fit_more s cs row p.1 f)
+
+-- ---- stripes, one more behind others
+
+flat_more : {X Y : Type 0} (f : X → List Y) (xs : List X) (x : X) → flat_map f (xs ++ x ∷ []) ≡ flat_map f xs ++ f x
+flat_more f [] x = append-nil (f x)
+flat_more f (y ∷ ys) x = ap (λ zs. f y ++ zs) (flat_more f ys x) ∙ sym (append_assoc (f y) (flat_map f ys) (f x))
+
+closed_more : (rle : Rle) (s : Shape) (at end : ℕ) (cs : List Closed) (c : Closed) → AreClosed rle s at cs → end ≡ at + length (bytes_of cs) → IsClosed rle s end c → AreClosed rle s at (cs ++ c ∷ [])
+closed_more rle s at end [] c h e i = (subst (λ p. IsClosed rle s p c) (omega (arith, e)) i, tt)
+closed_more rle s at end (d ∷ ds) c h e i =
+    let l = length-append d.bytes (bytes_of ds) in
+    (h.0, closed_more rle s (at + length d.bytes) end ds c h.1 (omega (arith, e, l)) i)
+
+full_more : (n : ℕ) (cs : List Closed) (c : Closed) → AreFull n cs → length c.rows ≡ n → AreFull n (cs ++ c ∷ [])
+full_more n [] c h e = (e, tt)
+full_more n (d ∷ ds) c h e = (h.0, full_more n ds c h.1 e)
+
+filled_more : (n : ℕ) (cs : List Closed) (c : Closed) → AreFull n cs → 0 < length c.rows → length c.rows ≤ n → AreFilled n (cs ++ c ∷ [])
+filled_more n [] c h a b = (a, b)
+filled_more n (d ∷ []) c h a b = (h.0, (a, b))
+filled_more n (d ∷ e ∷ es) c h a b = (h.0, filled_more n (e ∷ es) c h.1 a b)
+
+-- stripes of a positive number of rows each are those of a file
+pub filled_full : (n : ℕ) (cs : List Closed) → 0 < n → AreFull n cs → AreFilled n cs
+filled_full n [] l h = tt
+filled_full n (c ∷ []) l h = let e = h.0 in (omega (arith, l, e), omega (arith, e))
+filled_full n (c ∷ d ∷ cs) l h = (h.0, filled_full n (d ∷ cs) l h.1)
+
+pub appended_twice : (first : Option (List ℕ)) (a b : List ℕ) → appended (appended first a) b ≡ appended first (a ++ b)
+appended_twice None a b = refl
+appended_twice (Some x) a b = ap Some (append_assoc x a b)
+
+-- ---- what a call leaves
+
+-- stripes within the limits are closed by the tail that lists them
+closes : (rle : Rle) (n : ℕ) (s : Shape) (cs : List Closed) → AreClosed rle s 3 cs → AreFilled n cs → AreWithin (infos_of cs)
+    → IsSomeFile rle n s ((magic ++ bytes_of cs) ++ tail_text (written_tail rle s (infos_of cs) (stats_of cs))) (rows_of cs)
+closes rle n s cs are filled within = (
+  written_tail rle s (infos_of cs) (stats_of cs),
+  record { closed = cs; are = are; filled = filled; within = within; tail_is = refl; bytes_are = refl; rows_are = refl },
+)
+
+-- nothing of the kept rows was written
+pub cut_kept : (rle : Rle) (n : ℕ) (s : Shape) (first told : Option (List ℕ)) (written : ℕ) (infos : List StripeInfo) (stats : List (List Stat)) (kept rows : List Cell)
+    → 0 < n → AreWithin infos → HasKept rle n s first told written infos stats kept rows → IsCutOff rle n s first told rows
+cut_kept rle n s first told written infos stats kept rows l w h =
+    let text = tail_text (written_tail rle s (infos_of h.closed) (stats_of h.closed)) in
+    let f = closes rle n s h.closed h.are (filled_full n h.closed l h.full) (subst AreWithin h.infos_are w) in
+    record {
+      mine = magic ++ bytes_of h.closed;
+      rest = text;
+      count = length (rows_of h.closed);
+      told_is = h.told_is;
+      file = subst (λ rs. IsSomeFile rle n s ((magic ++ bytes_of h.closed) ++ text) rs) (sym (ap (take (length (rows_of h.closed))) h.rows_are ∙ take-append_seam (rows_of h.closed) kept)) f;
+    }
+
+-- a row more is kept
+pub kept_row : (rle : Rle) (n : ℕ) (s : Shape) (first told : Option (List ℕ)) (written : ℕ) (infos : List StripeInfo) (stats : List (List Stat)) (kept rows : List Cell) (row : Cell)
+    → HasKept rle n s first told written infos stats kept rows → HasKept rle n s first told written infos stats (kept ++ row ∷ []) (rows ++ row ∷ [])
+kept_row rle n s first told written infos stats kept rows row h = record {
+  closed = h.closed;
+  are = h.are;
+  full = h.full;
+  infos_are = h.infos_are;
+  stats_are = h.stats_are;
+  told_is = h.told_is;
+  written_is = h.written_is;
+  rows_are = ap (λ r. r ++ row ∷ []) h.rows_are ∙ append_assoc (rows_of h.closed) kept (row ∷ []);
+}
+
+-- and it was refused for memory
+pub cut_row : (rle : Rle) (n : ℕ) (s : Shape) (first told : Option (List ℕ)) (written : ℕ) (infos : List StripeInfo) (stats : List (List Stat)) (kept rows : List Cell) (row : Cell)
+    → 0 < n → AreWithin infos → HasKept rle n s first told written infos stats kept rows → IsCutOff rle n s first told (rows ++ row ∷ [])
+cut_row rle n s first told written infos stats kept rows row l w h =
+    cut_kept rle n s first told written infos stats (kept ++ row ∷ []) (rows ++ row ∷ []) l w (kept_row rle n s first told written infos stats kept rows row h)
+
+module _ (rle : Rle) (n : ℕ) (s : Shape) (first told : Option (List ℕ)) (written : ℕ) (infos : List StripeInfo) (stats : List (List Stat)) (kept rows : List Cell)
+    (h : HasKept rle n s first told written infos stats kept rows) (c : Closed) (kept_is : c.rows ≡ kept) (is : IsClosed rle s written c) where
+  more_are : AreClosed rle s 3 (h.closed ++ c ∷ [])
+  more_are = let m = length-append magic (bytes_of h.closed) in let w = h.written_is in closed_more rle s 3 written h.closed c h.are (omega (arith, m, w)) is
+
+  more_bytes : bytes_of (h.closed ++ c ∷ []) ≡ bytes_of h.closed ++ c.bytes
+  more_bytes = flat_more (λ (x : Closed). x.bytes) h.closed c
+
+  more_rows : rows_of (h.closed ++ c ∷ []) ≡ rows
+  more_rows = flat_more (λ (x : Closed). x.rows) h.closed c ∙ ap (λ r. rows_of h.closed ++ r) kept_is ∙ sym h.rows_are
+
+  more_infos : infos ++ c.info ∷ [] ≡ infos_of (h.closed ++ c ∷ [])
+  more_infos = ap (λ xs. xs ++ c.info ∷ []) h.infos_are ∙ sym (map-append (λ (x : Closed). x.info) h.closed (c ∷ []))
+
+  more_stats : stats ++ c.stats ∷ [] ≡ stats_of (h.closed ++ c ∷ [])
+  more_stats = ap (λ xs. xs ++ c.stats ∷ []) h.stats_are ∙ sym (map-append (λ (x : Closed). x.stats) h.closed (c ∷ []))
+
+  more_told : (new : Option (List ℕ)) → new ≡ appended told c.bytes → new ≡ appended first (magic ++ bytes_of (h.closed ++ c ∷ []))
+  more_told new t = t ∙ ap (λ x. appended x c.bytes) h.told_is ∙ appended_twice first (magic ++ bytes_of h.closed) c.bytes ∙ ap (appended first) (append_assoc magic (bytes_of h.closed) c.bytes ∙ ap (λ x. magic ++ x) (sym more_bytes))
+
+  more_filled : 0 < length kept → length kept ≤ n → AreFilled n (h.closed ++ c ∷ [])
+  more_filled a b = filled_more n h.closed c h.full (subst (λ (r : List Cell). 0 < length r) (sym kept_is) a) (subst (λ (r : List Cell). length r ≤ n) (sym kept_is) b)
+
+  -- the kept rows are a full stripe more
+  pub sent_full : (new : Option (List ℕ)) (written_new : ℕ) → length kept ≡ n → new ≡ appended told c.bytes → written_new ≡ written + length c.bytes
+      → HasKept rle n s first new written_new (infos ++ c.info ∷ []) (stats ++ c.stats ∷ []) [] rows
+  sent_full new written_new full t w = record {
+    closed = h.closed ++ c ∷ [];
+    are = more_are;
+    full = full_more n h.closed c h.full (ap length kept_is ∙ full);
+    infos_are = more_infos;
+    stats_are = more_stats;
+    told_is = more_told new t;
+    written_is = w ∙ ap (λ k. k + length c.bytes) h.written_is ∙ sym (length-append (magic ++ bytes_of h.closed) c.bytes) ∙ ap length (append_assoc magic (bytes_of h.closed) c.bytes ∙ ap (λ x. magic ++ x) (sym more_bytes));
+    rows_are = sym more_rows ∙ sym (append-nil (rows_of (h.closed ++ c ∷ [])));
+  }
+
+  -- or the last one
+  pub sent_last : (new : Option (List ℕ)) → 0 < length kept → length kept ≤ n → new ≡ appended told c.bytes
+      → HasFilled rle n s first new (infos ++ c.info ∷ []) (stats ++ c.stats ∷ []) rows
+  sent_last new a b t = record {
+    closed = h.closed ++ c ∷ [];
+    are = more_are;
+    filled = more_filled a b;
+    infos_are = more_infos;
+    stats_are = more_stats;
+    told_is = more_told new t;
+    rows_are = sym more_rows;
+  }
+
+  -- or some of its bytes were written
+  pub cut_sent : (new : Option (List ℕ)) (k : ℕ) → 0 < length kept → length kept ≤ n → AreWithin (infos ++ c.info ∷ []) → new ≡ appended told (take k c.bytes) → IsCutOff rle n s first new rows
+  cut_sent new k a b w t =
+      let cs = h.closed ++ c ∷ [] in
+      let text = tail_text (written_tail rle s (infos_of cs) (stats_of cs)) in
+      let before = magic ++ bytes_of h.closed in
+      let all : (magic ++ bytes_of cs) ++ text ≡ (before ++ take k c.bytes) ++ (drop k c.bytes ++ text)
+      = ap (λ x. (magic ++ x) ++ text) more_bytes
+      ∙ ap (λ x. x ++ text) (sym (append_assoc magic (bytes_of h.closed) c.bytes) ∙ ap (λ x. before ++ x) (sym (take-append-drop k c.bytes)) ∙ sym (append_assoc before (take k c.bytes) (drop k c.bytes)))
+      ∙ append_assoc (before ++ take k c.bytes) (drop k c.bytes) text in
+      record {
+        mine = before ++ take k c.bytes;
+        rest = drop k c.bytes ++ text;
+        count = length rows;
+        told_is = t ∙ ap (λ x. appended x (take k c.bytes)) h.told_is ∙ appended_twice first before (take k c.bytes);
+        file = subst (λ bs. IsSomeFile rle n s bs (take (length rows) rows)) all
+            (subst (λ rs. IsSomeFile rle n s ((magic ++ bytes_of cs) ++ text) rs) (more_rows ∙ sym (take_all (length rows) rows (omega arith))) (closes rle n s cs more_are (more_filled a b) (subst AreWithin more_infos w)));
+      }
+
+-- no row is kept
+pub filled_empty : (rle : Rle) (n : ℕ) (s : Shape) (first told : Option (List ℕ)) (written : ℕ) (infos : List StripeInfo) (stats : List (List Stat)) (kept rows : List Cell)
+    → kept ≡ [] → HasPushed rle n s first told written infos stats kept rows → HasFilled rle n s first told infos stats rows
+filled_empty rle n s first told written infos stats kept rows e p =
+    let h = p.0 in let l = p.1 in
+    record {
+      closed = h.closed;
+      are = h.are;
+      filled = filled_full n h.closed (omega (arith, l)) h.full;
+      infos_are = h.infos_are;
+      stats_are = h.stats_are;
+      told_is = h.told_is;
+      rows_are = h.rows_are ∙ ap (λ k. rows_of h.closed ++ k) e ∙ append-nil (rows_of h.closed);
+    }
+
+-- nothing was pushed yet
+pub pushed_none : (rle : Rle) (n : ℕ) (s : Shape) (first : Option (List ℕ)) → 0 < n → HasPushed rle n s first (appended first magic) 3 [] [] [] []
+pushed_none rle n s first l = (record { closed = []; are = tt; full = tt; infos_are = refl; stats_are = refl; told_is = refl; written_is = refl; rows_are = refl }, l)
+
+module _ (rle : Rle) (n : ℕ) (s : Shape) (first told : Option (List ℕ)) (infos : List StripeInfo) (stats : List (List Stat)) (rows : List Cell)
+    (h : HasFilled rle n s first told infos stats rows) (w : AreWithin infos) where
+  abbrev end_tail : Tail
+  end_tail = written_tail rle s infos stats
+
+  end_file : IsWrittenFile rle n s end_tail ((magic ++ bytes_of h.closed) ++ tail_text end_tail) rows
+  end_file = record {
+    closed = h.closed;
+    are = h.are;
+    filled = h.filled;
+    within = subst AreWithin h.infos_are w;
+    tail_is = ap (λ i. written_tail rle s i stats) h.infos_are ∙ ap (λ x. written_tail rle s (infos_of h.closed) x) h.stats_are;
+    bytes_are = refl;
+    rows_are = h.rows_are;
+  }
+
+  -- the tail was written
+  pub whole_end : (new : Option (List ℕ)) → new ≡ appended told (tail_text (written_tail rle s infos stats)) → IsWhole rle n s (written_tail rle s infos stats) first new rows
+  whole_end new e = record {
+    bytes = (magic ++ bytes_of h.closed) ++ tail_text end_tail;
+    told_is = e ∙ ap (λ o. appended o (tail_text end_tail)) h.told_is ∙ appended_twice first (magic ++ bytes_of h.closed) (tail_text end_tail);
+    file = end_file;
+  }
+
+  -- some of it was
+  pub cut_end : (new : Option (List ℕ)) (k : ℕ) → new ≡ appended told (take k (tail_text (written_tail rle s infos stats))) → IsCutOff rle n s first new rows
+  cut_end new k e =
+      let text = tail_text end_tail in
+      let before = magic ++ bytes_of h.closed in
+      let all : before ++ text ≡ (before ++ take k text) ++ drop k text = ap (λ x. before ++ x) (sym (take-append-drop k text)) ∙ sym (append_assoc before (take k text) (drop k text)) in
+      record {
+        mine = before ++ take k text;
+        rest = drop k text;
+        count = length rows;
+        told_is = e ∙ ap (λ o. appended o (take k text)) h.told_is ∙ appended_twice first before (take k text);
+        file = (end_tail, subst (λ bs. IsWrittenFile rle n s end_tail bs (take (length rows) rows)) all (subst (λ rs. IsWrittenFile rle n s end_tail (before ++ text) rs) (sym (take_all (length rows) rows (omega arith))) end_file));
+      }
+
+-- all of a stripe was written, and yet the call gave up
+pub cut_all : (rle : Rle) (n : ℕ) (s : Shape) (first told : Option (List ℕ)) (written : ℕ) (infos : List StripeInfo) (stats : List (List Stat)) (kept rows : List Cell)
+    → (h : HasKept rle n s first told written infos stats kept rows) → (c : Closed) → c.rows ≡ kept → IsClosed rle s written c
+    → (new : Option (List ℕ)) → 0 < length kept → length kept ≤ n → AreWithin (infos ++ c.info ∷ []) → new ≡ appended told c.bytes → IsCutOff rle n s first new rows
+cut_all rle n s first told written infos stats kept rows h c e is new a b w t =
+    cut_sent rle n s first told written infos stats kept rows h c e is new (length c.bytes) a b w (t ∙ ap (appended told) (sym (take_all (length c.bytes) c.bytes (omega arith))))
+
+-- rows whose columns have few cells are few
+pub root_few : (s : Shape) (rows : List Cell) → AreFew s rows → length rows < 2 ^ 31
+root_few s rows few = let f = few 0 (has_root s) in let e = root_rows s rows in omega (arith, f, e)
+
+pub none_kept : (rows : List (Option Value)) → length rows ≡ 0 → views rows ≡ []
+none_kept [] e = refl
+none_kept (r ∷ rs) e = absurd (omega (arith, e))
+
+-- nothing was taken
+pub none_taken : (told : Option (List ℕ)) (bytes : List ℕ) → told ≡ appended told (take 0 bytes)
+none_taken None bytes = refl
+none_taken (Some x) bytes = ap Some (sym (append-nil x))

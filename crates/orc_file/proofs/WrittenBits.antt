@@ -1,0 +1,224 @@
+-- The numbers of a tail that a writer makes have the bits of their fields.
+use Rattle.std.proofs.Common.{◌≡◌, ℕ, ◌+◌, ◌<◌, ◌≤◌, ◌^◌, ℤ, pos, negsuc, Bool, true, false, if◌then◌else◌, List, [], ◌∷◌, length, map, Option, Some, None, refl, arith}
+use Rattle.std.specs.Prelude.{◌&&◌, nat_lt, nat_le}
+use Rattle.std.specs.List.{AllByRecursion, filter_map, cons_option}
+use Rattle.std.specs.Option.{IfSome, option_and_then}
+use Rattle.std.specs.Ordering.{is_gt, int_cmp, flip_args}
+use Rattle.std.specs.declared.cmp.Ordering.{Ordering}
+use Rattle.std.proofs.lemmas.Bool.{ltb-true, and_parts}
+use Rattle.orc_bits.specs.Zigzag.{zig}
+use Rattle.orc_rle.specs.declared.sign.Rle.{Rle}
+use Rattle.orc_rle.specs.declared.sign.Rle.TheVariants.{One, Two}
+use Rattle.orc_wire.specs.CanonicalKinds.{AreBelow, some_top, all_top}
+use Rattle.orc_wire.specs.Canonical.{all_both}
+use Rattle.orc_wire.specs.CanonicalMessages.{column_stats_text, integer_stats_text, string_stats_text, date_stats_text, type_text}
+use Rattle.orc_types.specs.declared.kind.Scalar.{Scalar}
+use Rattle.orc_types.specs.declared.kind.Scalar.TheVariants as scalar_kind
+use Rattle.orc_types.specs.Kinds.{number, is_kind}
+use Rattle.orc_types.specs.Shapes.{Shape, scalar, list_of, struct_of, Fields, no_field, field, width, widths, names_of}
+use Rattle.orc_types.specs.Types.{types, fields_types, starts}
+use Rattle.orc_types.specs.Cells.{bool, int, date, text, bytes, Cell, null, leaf, list, struct, values}
+use Rattle.orc_types.specs.Fits.{fits, signed_fits, int_fits, RowsFit}
+use Rattle.orc_stats.specs.declared.kind.StatKind.{StatKind}
+use Rattle.orc_stats.specs.declared.kind.StatKind.TheVariants as kind
+use Rattle.orc_stats.specs.declared.stat.Stat.{Stat}
+use Rattle.orc_stats.specs.declared.stat.Body.{Body}
+use Rattle.orc_stats.specs.declared.stat.Body.TheVariants as body
+use Rattle.orc_stats.specs.Kinds.{kind_of}
+use Rattle.orc_stats.specs.Statistics.{onto, reduce, lower, least, greatest, text_cmp, exact_total, in_64, total, lengths, int_of, date_of, bool_of, text_of, bytes_of, bit, values_body, stat}
+use Rattle.orc_stats.specs.Joining.{trues_of}
+use Rattle.orc_stats.specs.Messages.{message_of, few_trues, IsStat}
+use Rattle.orc_stats.specs.Whole.{without_sum}
+use Rattle.orc_stats.proofs.Normal.{stat-normal}
+use Rattle.orc_file.specs.Writing.{version_of}
+use Rattle.orc_file.proofs.Columns.{le_is}
+use Rattle.orc_file.proofs.StatTests.{values_few, are_of_kind}
+use Rattle.orc_file.proofs.ReadBits.{BodyBits, where_so}
+
+-- ---- the types
+
+pub version_bits : (rle : Rle) → AreBelow (2 ^ 32) (version_of rle)
+version_bits One = (omega arith, (omega arith, tt))
+version_bits Two = (omega arith, (omega arith, tt))
+
+number_bits : (k : Scalar) → number k < 2 ^ 32
+number_bits scalar_kind.Boolean = omega arith
+number_bits scalar_kind.Byte = omega arith
+number_bits scalar_kind.Short = omega arith
+number_bits scalar_kind.Int = omega arith
+number_bits scalar_kind.Long = omega arith
+number_bits scalar_kind.String = omega arith
+number_bits scalar_kind.Binary = omega arith
+number_bits scalar_kind.Date = omega arith
+
+starts_bits : (fs : Fields) (n : ℕ) → n + widths fs ≤ 2 ^ 31 → AreBelow (2 ^ 32) (starts fs n)
+starts_bits no_field n h = tt
+starts_bits (field name s fs) n h = (omega (arith, h), starts_bits fs (n + width s) (omega (arith, h)))
+
+mutual
+  pub types_bits : (s : Shape) (n : ℕ) → n + width s ≤ 2 ^ 31 → AllByRecursion type_text.bounded (types s n)
+  types_bits (scalar k o) n h = ((number_bits k, (tt, (tt, tt))), tt)
+  types_bits (list_of s o) n h = ((omega arith, ((omega (arith, h), tt), (tt, tt))), types_bits s (n + 1) (omega (arith, h)))
+  types_bits (struct_of fs o) n h = ((omega arith, (starts_bits fs (n + 1) (omega (arith, h)), (all_top (names_of fs), tt))), fields_bits fs (n + 1) (omega (arith, h)))
+
+  fields_bits : (fs : Fields) (n : ℕ) → n + widths fs ≤ 2 ^ 31 → AllByRecursion type_text.bounded (fields_types fs n)
+  fields_bits no_field n h = tt
+  fields_bits (field name s fs) n h =
+      all_both type_text.bounded (types s n) (fields_types fs (n + width s)) (types_bits s n (omega (arith, h))) (fields_bits fs (n + width s) (omega (arith, h)))
+
+-- ---- numbers of cells
+
+abbrev IsLong : ℤ → Type 0
+IsLong z = zig z < 2 ^ 64
+
+abbrev IsSmall : ℤ → Type 0
+IsSmall z = zig z < 2 ^ 32
+
+long_fits : (z : ℤ) → signed_fits 63 z ≡ true → IsLong z
+long_fits (pos n) h = let l = ltb-true n (2 ^ 63) h in omega (arith, l)
+long_fits (negsuc n) h = let l = ltb-true n (2 ^ 63) h in omega (arith, l)
+
+int_long : (k : Scalar) (z : ℤ) → int_fits k z ≡ true → IsLong z
+int_long scalar_kind.Boolean z h = cc
+int_long scalar_kind.Byte (pos n) h = let l = ltb-true n (2 ^ 7) h in omega (arith, l)
+int_long scalar_kind.Byte (negsuc n) h = let l = ltb-true n (2 ^ 7) h in omega (arith, l)
+int_long scalar_kind.Short (pos n) h = let l = ltb-true n (2 ^ 15) h in omega (arith, l)
+int_long scalar_kind.Short (negsuc n) h = let l = ltb-true n (2 ^ 15) h in omega (arith, l)
+int_long scalar_kind.Int (pos n) h = let l = ltb-true n (2 ^ 31) h in omega (arith, l)
+int_long scalar_kind.Int (negsuc n) h = let l = ltb-true n (2 ^ 31) h in omega (arith, l)
+int_long scalar_kind.Long z h = long_fits z h
+int_long scalar_kind.String z h = cc
+int_long scalar_kind.Binary z h = cc
+int_long scalar_kind.Date z h = cc
+
+date_small : (b : Bool) (z : ℤ) → (b && signed_fits 31 z) ≡ true → IsSmall z
+date_small b (pos n) h = let l = ltb-true n (2 ^ 31) (and_parts b (nat_lt n (2 ^ 31)) h).1 in omega (arith, l)
+date_small b (negsuc n) h = let l = ltb-true n (2 ^ 31) (and_parts b (nat_lt n (2 ^ 31)) h).1 in omega (arith, l)
+
+cell_long : (c : Cell) (s : Shape) → fits c s ≡ true → IfSome (int_of c) IsLong
+cell_long (leaf (int z)) (scalar k o) h = int_long k z h
+cell_long (leaf (int z)) (list_of s o) h = cc
+cell_long (leaf (int z)) (struct_of fs o) h = cc
+cell_long (leaf (bool b)) s h = tt
+cell_long (leaf (date b)) s h = tt
+cell_long (leaf (text b)) s h = tt
+cell_long (leaf (bytes b)) s h = tt
+cell_long null s h = tt
+cell_long (list cs) s h = tt
+cell_long (struct cs) s h = tt
+
+cell_small : (c : Cell) (s : Shape) → fits c s ≡ true → IfSome (date_of c) IsSmall
+cell_small (leaf (date z)) (scalar k o) h = date_small (is_kind scalar_kind.Date k) z h
+cell_small (leaf (date z)) (list_of s o) h = cc
+cell_small (leaf (date z)) (struct_of fs o) h = cc
+cell_small (leaf (bool b)) s h = tt
+cell_small (leaf (int b)) s h = tt
+cell_small (leaf (text b)) s h = tt
+cell_small (leaf (bytes b)) s h = tt
+cell_small null s h = tt
+cell_small (list cs) s h = tt
+cell_small (struct cs) s h = tt
+
+all_picked : (P : ℤ → Type 0) (o : Option ℤ) (zs : List ℤ) → IfSome o P → AllByRecursion P zs → AllByRecursion P (cons_option o zs)
+all_picked P None zs h all = all
+all_picked P (Some z) zs h all = (h, all)
+
+all_long : (s : Shape) (cs : List Cell) → RowsFit s cs → AllByRecursion IsLong (filter_map int_of cs)
+all_long s [] h = tt
+all_long s (c ∷ cs) h = all_picked IsLong (int_of c) (filter_map int_of cs) (cell_long c s h.0) (all_long s cs h.1)
+
+all_small : (s : Shape) (cs : List Cell) → RowsFit s cs → AllByRecursion IsSmall (filter_map date_of cs)
+all_small s [] h = tt
+all_small s (c ∷ cs) h = all_picked IsSmall (date_of c) (filter_map date_of cs) (cell_small c s h.0) (all_small s cs h.1)
+
+-- ---- words of them
+
+lower_is : {A : Type 0} (P : A → Type 0) (b : Bool) (x y : A) → P x → P y → P (if b then y else x)
+lower_is P true x y p q = q
+lower_is P false x y p q = p
+
+lower_onto : {A : Type 0} (P : A → Type 0) (cmp : A → A → Ordering) (x : A) (o : Option A) → P x → IfSome o P → P (onto (lower cmp) x o)
+lower_onto P cmp x None p q = p
+lower_onto P cmp x (Some y) p q = lower_is P (is_gt (cmp x y)) x y p q
+
+least_is : {A : Type 0} (P : A → Type 0) (cmp : A → A → Ordering) (xs : List A) → AllByRecursion P xs → IfSome (least cmp xs) P
+least_is P cmp [] h = tt
+least_is P cmp (x ∷ xs) h = lower_onto P cmp x (reduce (lower cmp) xs) h.0 (least_is P cmp xs h.1)
+
+long_if : (b : Bool) (z : ℤ) → signed_fits 63 z ≡ b → IfSome (if b then Some z else None) IsLong
+long_if true z e = long_fits z e
+long_if false z e = tt
+
+long_in : (o : Option ℤ) → IfSome (option_and_then in_64 o) IsLong
+long_in None = tt
+long_in (Some z) = long_if (signed_fits 63 z) z refl
+
+total_long : (zs : List ℤ) → IfSome (total zs) IsLong
+total_long zs = long_in (exact_total zs)
+
+-- ---- the body of a statistic
+
+ints_bits : (l g t : Option ℤ) → IfSome l IsLong → IfSome g IsLong → IfSome t IsLong → BodyBits (body.Ints l g t)
+ints_bits l g t p q r = (where_so integer_stats_text.bounded _ (record { minimum = l; maximum = g; sum = t }) (p, (q, r)), (tt, (tt, (tt, tt))))
+
+dates_bits : (l g : Option ℤ) → IfSome l IsSmall → IfSome g IsSmall → BodyBits (body.Dates l g)
+dates_bits l g p q = (tt, (tt, (tt, (where_so date_stats_text.bounded _ (record { minimum = l; maximum = g }) (p, q), tt))))
+
+texts_bits : (l g : Option (List ℕ)) (t : Option ℤ) → IfSome t IsLong → BodyBits (body.Texts l g t)
+texts_bits l g t r = (tt, (where_so string_stats_text.bounded _ (record { minimum = l; maximum = g; sum = t }) (some_top l, (some_top g, r)), (tt, (tt, tt))))
+
+bins_bits : (t : Option ℤ) → IfSome t IsLong → BodyBits (body.Bins t)
+bins_bits None r = (tt, (tt, (tt, (tt, tt))))
+bins_bits (Some z) r = (tt, (tt, (tt, (tt, r))))
+
+bools_bits : (t : Option ℕ) → few_trues t ≡ true → BodyBits (body.Bools t)
+bools_bits None e = (tt, (tt, (tt, (tt, tt))))
+bools_bits (Some n) e = let l = le_is n (2 ^ 62) e in (tt, (tt, ((omega (arith, l), tt), (tt, tt))))
+
+cells_bits : (k : StatKind) (s : Shape) (cs : List Cell) → RowsFit s cs → few_trues (trues_of (values_body k cs)) ≡ true → BodyBits (values_body k cs)
+cells_bits kind.Plain s cs h few = (tt, (tt, (tt, (tt, tt))))
+cells_bits kind.Ints s cs h few =
+    let zs = filter_map int_of cs in let all = all_long s cs h in
+    ints_bits (least int_cmp zs) (greatest int_cmp zs) (total zs) (least_is IsLong int_cmp zs all) (least_is IsLong (flip_args int_cmp) zs all) (total_long zs)
+cells_bits kind.Bools s cs h few = bools_bits (reduce ◌+◌ (map bit (filter_map bool_of cs))) few
+cells_bits kind.Dates s cs h few =
+    let zs = filter_map date_of cs in let all = all_small s cs h in
+    dates_bits (least int_cmp zs) (greatest int_cmp zs) (least_is IsSmall int_cmp zs all) (least_is IsSmall (flip_args int_cmp) zs all)
+cells_bits kind.Texts s cs h few = let ts = filter_map text_of cs in texts_bits (least text_cmp ts) (greatest text_cmp ts) (total (lengths ts)) (total_long (lengths ts))
+cells_bits kind.Bins s cs h few = bins_bits (total (lengths (filter_map bytes_of cs))) (total_long (lengths (filter_map bytes_of cs)))
+
+-- the same without a sum
+cells_less : (k : StatKind) (s : Shape) (cs : List Cell) → RowsFit s cs → few_trues (trues_of (values_body k cs)) ≡ true → BodyBits (without_sum (values_body k cs))
+cells_less kind.Plain s cs h few = (tt, (tt, (tt, (tt, tt))))
+cells_less kind.Ints s cs h few =
+    let zs = filter_map int_of cs in let all = all_long s cs h in
+    ints_bits (least int_cmp zs) (greatest int_cmp zs) None (least_is IsLong int_cmp zs all) (least_is IsLong (flip_args int_cmp) zs all) tt
+cells_less kind.Bools s cs h few = cells_bits kind.Bools s cs h few
+cells_less kind.Dates s cs h few = cells_bits kind.Dates s cs h few
+cells_less kind.Texts s cs h few = let ts = filter_map text_of cs in texts_bits (least text_cmp ts) (greatest text_cmp ts) None tt
+cells_less kind.Bins s cs h few = (tt, (tt, (tt, (tt, tt))))
+
+either_bits : (b : Bool) (x y : Body) → BodyBits x → BodyBits y → BodyBits (if b then x else y)
+either_bits true x y p q = p
+either_bits false x y p q = q
+
+stat_bits : (x : Stat) → x.count < 2 ^ 64 → BodyBits x.body → column_stats_text.bounded (message_of x)
+stat_bits x few b = (few, (b.0, (b.1.0, (b.1.1.0, (b.1.1.1.0, (b.1.1.1.1, some_top x.nulls))))))
+
+-- the statistic of cells that fit, and the same where its sum may be lost
+module _ (s : Shape) (cs : List Cell) (fit : RowsFit s cs) (few : length cs ≤ 2 ^ 62) where
+  normal : IsStat (kind_of s) (stat (kind_of s) cs)
+  normal = stat-normal (kind_of s) cs (are_of_kind s cs fit) few
+
+  counted : length (values cs) < 2 ^ 64
+  counted = let v = values_few cs in omega (arith, v, few)
+
+  trues : few_trues (trues_of (values_body (kind_of s) cs)) ≡ true
+  trues = let is = normal in (and_parts (nat_le (length (values cs)) (2 ^ 62)) (few_trues (trues_of (values_body (kind_of s) cs))) is.limits).1
+
+  pub cells_stat : column_stats_text.bounded (message_of (stat (kind_of s) cs))
+  cells_stat = stat_bits (stat (kind_of s) cs) counted (cells_bits (kind_of s) s cs fit trues)
+
+  pub cells_whole : (b : Bool) → column_stats_text.bounded (message_of (record (stat (kind_of s) cs) { body = if b then values_body (kind_of s) cs else without_sum (values_body (kind_of s) cs) }))
+  cells_whole b = stat_bits (record (stat (kind_of s) cs) { body = if b then values_body (kind_of s) cs else without_sum (values_body (kind_of s) cs) }) counted
+      (either_bits b (values_body (kind_of s) cs) (without_sum (values_body (kind_of s) cs)) (cells_bits (kind_of s) s cs fit trues) (cells_less (kind_of s) s cs fit trues))

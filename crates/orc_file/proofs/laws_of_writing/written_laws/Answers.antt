@@ -1,0 +1,18 @@
+use Rattle.orc_file.proofs.WrittenLaws.{written_tail_is, written_rows, written_honest, written_whole}
+use Rattle.orc_file.proofs.OneWritten.{one_written}
+use Rattle.orc_file.proofs.laws_of_writing.written_laws.Goals as goal
+
+pub returns-clause-tail : goal.returns-clause-tail
+returns-clause-tail c = λ rle n s tail bytes rows schema is few. written_tail_is rle n s tail bytes rows is schema few
+
+pub returns-clause-rows : goal.returns-clause-rows
+returns-clause-rows c = λ rle n s tail bytes rows schema is few. written_rows rle n s tail bytes rows is schema few
+
+pub returns-clause-honest : goal.returns-clause-honest
+returns-clause-honest c = written_honest
+
+pub returns-clause-whole : goal.returns-clause-whole
+returns-clause-whole c = written_whole
+
+pub returns-clause-one : goal.returns-clause-one
+returns-clause-one c = one_written

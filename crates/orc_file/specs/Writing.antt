@@ -1,0 +1,171 @@
+-- What a writer of files has written, and what it keeps (ORC specification, "File Tail"). Where a stripe ends,
+-- what the tail says and the limits are this project's.
+use Rattle.std.specs.Prelude.{◌≡◌, ℕ, zero, suc, ◌+◌, ◌<◌, ◌≤◌, List, [], ◌∷◌, ◌++◌, length, map, take, drop, Option, Some}
+use Rattle.std.specs.List.{flat_map}
+use Rattle.orc_rle.specs.declared.sign.Rle.{Rle}
+use Rattle.orc_rle.specs.declared.sign.Rle.TheVariants.{One, Two}
+use Rattle.orc_wire.specs.declared.stripe_info.StripeInfo.{StripeInfo}
+use Rattle.orc_types.specs.Shapes.{Shape, width}
+use Rattle.orc_types.specs.Cells.{Cell}
+use Rattle.orc_stats.specs.declared.stat.Stat.{Stat}
+use Rattle.orc_stats.specs.Joining.{joined}
+use Rattle.orc_stripe.specs.Stripe.{IsStripe}
+use Rattle.orc_stripe.specs.WrittenStripe.{IsWrittenStripe, HaveStats}
+use Rattle.orc_file.specs.Devices.{appended}
+use Rattle.orc_file.specs.Layout.{magic}
+use Rattle.orc_file.specs.Stripes.{stripes_length, stripes_rows, most_stripes, most_rows, most_bytes}
+use Rattle.orc_file.specs.Statistics.{kind_at}
+use Rattle.orc_file.specs.Images.{tail_text}
+use Rattle.orc_file.specs.declared.tail.Tail.{Tail}
+
+-- ---- stripes
+
+-- a stripe in a file: where it stands, its bytes, its rows and the statistics of its columns
+pub record Closed : Type 0 where
+  pub info : StripeInfo
+  pub bytes : List ℕ
+  pub rows : List Cell
+  pub stats : List Stat
+
+-- It begins at a place. Its bytes are the one text that is written of its rows, which they are read as.
+pub record IsClosed (rle : Rle) (s : Shape) (place : ℕ) (c : Closed) : Type 0 where
+  pub placed : c.info.offset ≡ place
+  pub written : IsWrittenStripe rle s c.rows (record c.info { offset = 0 }) c.bytes
+  pub read : IsStripe s c.info c.bytes c.rows
+  pub counted : HaveStats s c.rows (width s) c.stats
+
+-- one after the other from a place on, without gaps
+abbrev pub AreClosed : Rle → Shape → ℕ → List Closed → Type 0
+AreClosed rle s place [] = Unit {0}
+AreClosed rle s place (c ∷ cs) = IsClosed rle s place c × AreClosed rle s (place + length c.bytes) cs
+
+abbrev pub bytes_of : List Closed → List ℕ
+bytes_of cs = flat_map (λ (c : Closed). c.bytes) cs
+
+abbrev pub rows_of : List Closed → List Cell
+rows_of cs = flat_map (λ (c : Closed). c.rows) cs
+
+abbrev pub infos_of : List Closed → List StripeInfo
+infos_of cs = map (λ (c : Closed). c.info) cs
+
+abbrev pub stats_of : List Closed → List (List Stat)
+stats_of cs = map (λ (c : Closed). c.stats) cs
+
+-- each has so many rows
+abbrev pub AreFull : ℕ → List Closed → Type 0
+AreFull n [] = Unit {0}
+AreFull n (c ∷ cs) = (length c.rows ≡ n) × AreFull n cs
+
+-- each but the last one, which has a row at least, and no more
+abbrev pub AreFilled : ℕ → List Closed → Type 0
+AreFilled n [] = Unit {0}
+AreFilled n (c ∷ []) = (0 < length c.rows) × (length c.rows ≤ n)
+AreFilled n (c ∷ d ∷ cs) = (length c.rows ≡ n) × AreFilled n (d ∷ cs)
+
+-- ---- the tail
+
+-- the format's version, by that of the run lengths
+abbrev pub version_of : Rle → List ℕ
+version_of One = 0 ∷ 11 ∷ []
+version_of Two = 0 ∷ 12 ∷ []
+
+-- what a word says of so many columns, from one on
+abbrev pub of_columns : (ℕ → Stat) → ℕ → ℕ → List Stat
+of_columns f c zero = []
+of_columns f c (suc n) = f c ∷ of_columns f (suc c) n
+
+-- the statistics of a column in each stripe
+abbrev pub column_stats : ℕ → List (List Stat) → List Stat
+column_stats c stats = flat_map (λ (xs : List Stat). take 1 (drop c xs)) stats
+
+-- those of the whole file's columns: each joined of the stripes'
+abbrev pub file_stats : Shape → List (List Stat) → List Stat
+file_stats s stats = of_columns (λ c. joined (kind_at s c) (column_stats c stats)) 0 (width s)
+
+-- the tail behind stripes with these statistics
+abbrev pub written_tail : Rle → Shape → List StripeInfo → List (List Stat) → Tail
+written_tail rle s infos stats = record {
+  version = version_of rle;
+  writer = Some 99;
+  writer_version = Some 6;
+  schema = s;
+  stripes = infos;
+  stripe_stats = stats;
+  file_stats = file_stats s stats;
+  user = [];
+  stride = 0;
+  rows = stripes_rows infos;
+  other = [];
+}
+
+-- ---- files
+
+-- the stripes are within a file's limits
+pub record AreWithin (infos : List StripeInfo) : Type 0 where
+  pub stripes : length infos ≤ most_stripes
+  pub rows : stripes_rows infos ≤ most_rows
+  pub bytes : stripes_length infos ≤ most_bytes
+
+-- with the stripe of some rows behind these the bytes of all stripes would be above the limit
+pub record PassesBytes (rle : Rle) (s : Shape) (infos : List StripeInfo) (rows : List Cell) : Type 0 where
+  pub info : StripeInfo
+  pub bytes : List ℕ
+  pub written : IsWrittenStripe rle s rows info bytes
+  pub above : most_bytes < stripes_length infos + length bytes
+
+-- The bytes are `ORC`, stripes one after the other, of so many rows but for the last one, and the canonical
+-- text of the tail that lists them. Their rows, joined, are the file's.
+pub record IsWrittenFile (rle : Rle) (n : ℕ) (s : Shape) (tail : Tail) (bytes : List ℕ) (rows : List Cell) : Type 0 where
+  pub closed : List Closed
+  pub are : AreClosed rle s 3 closed
+  pub filled : AreFilled n closed
+  pub within : AreWithin (infos_of closed)
+  pub tail_is : tail ≡ written_tail rle s (infos_of closed) (stats_of closed)
+  pub bytes_are : bytes ≡ (magic ++ bytes_of closed) ++ tail_text tail
+  pub rows_are : rows ≡ rows_of closed
+
+-- with some tail
+abbrev pub IsSomeFile : Rle → ℕ → Shape → List ℕ → List Cell → Type 0
+IsSomeFile rle n s bytes rows = (tail : Tail) × IsWrittenFile rle n s tail bytes rows
+
+-- behind what the output had told first, a file with this tail stands
+pub record IsWhole (rle : Rle) (n : ℕ) (s : Shape) (tail : Tail) (first told : Option (List ℕ)) (rows : List Cell) : Type 0 where
+  pub bytes : List ℕ
+  pub told_is : told ≡ appended first bytes
+  pub file : IsWrittenFile rle n s tail bytes rows
+
+-- What was written behind what the output had told first is the front of a file of some of the first rows.
+pub record IsCutOff (rle : Rle) (n : ℕ) (s : Shape) (first told : Option (List ℕ)) (rows : List Cell) : Type 0 where
+  pub mine : List ℕ
+  pub rest : List ℕ
+  pub count : ℕ
+  pub told_is : told ≡ appended first mine
+  pub file : IsSomeFile rle n s (mine ++ rest) (take count rows)
+
+-- ---- what a writer has done so far
+
+-- Behind what the output had told first stand `ORC` and full stripes, as many bytes as are counted. Their rows,
+-- and behind them those that are kept, are the rows pushed.
+pub record HasKept (rle : Rle) (n : ℕ) (s : Shape) (first told : Option (List ℕ)) (written : ℕ) (infos : List StripeInfo) (stats : List (List Stat)) (kept rows : List Cell) : Type 0 where
+  pub closed : List Closed
+  pub are : AreClosed rle s 3 closed
+  pub full : AreFull n closed
+  pub infos_are : infos ≡ infos_of closed
+  pub stats_are : stats ≡ stats_of closed
+  pub told_is : told ≡ appended first (magic ++ bytes_of closed)
+  pub written_is : written ≡ length (magic ++ bytes_of closed)
+  pub rows_are : rows ≡ rows_of closed ++ kept
+
+-- The same once the last stripe is written: no row is kept, and the last stripe may have fewer rows.
+pub record HasFilled (rle : Rle) (n : ℕ) (s : Shape) (first told : Option (List ℕ)) (infos : List StripeInfo) (stats : List (List Stat)) (rows : List Cell) : Type 0 where
+  pub closed : List Closed
+  pub are : AreClosed rle s 3 closed
+  pub filled : AreFilled n closed
+  pub infos_are : infos ≡ infos_of closed
+  pub stats_are : stats ≡ stats_of closed
+  pub told_is : told ≡ appended first (magic ++ bytes_of closed)
+  pub rows_are : rows ≡ rows_of closed
+
+-- and fewer rows are kept than a stripe has
+abbrev pub HasPushed : Rle → ℕ → Shape → Option (List ℕ) → Option (List ℕ) → ℕ → List StripeInfo → List (List Stat) → List Cell → List Cell → Type 0
+HasPushed rle n s first told written infos stats kept rows = HasKept rle n s first told written infos stats kept rows × (length kept < n)

@@ -1,0 +1,28 @@
+//! Laws of files that are written. Each function does nothing: its contract is what it is for.
+ghost use Rattle.std.specs.Prelude.{◌≡◌, ◌<◌, ◌^◌, ℕ, List, length};
+ghost use Rattle.orc_rle.specs.declared.sign.Rle.{Rle};
+ghost use Rattle.orc_types.specs.Cells.{Cell};
+ghost use Rattle.orc_types.specs.Shapes.{Shape};
+ghost use Rattle.orc_types.specs.Schemas.{IsSchema};
+ghost use Rattle.orc_file.specs.Tails.{IsTail};
+ghost use Rattle.orc_file.specs.FileRows.{FileIs};
+ghost use Rattle.orc_file.specs.Honest.{Honest, HasWholeStats};
+ghost use Rattle.orc_file.specs.Writing.{IsWrittenFile};
+ghost use Rattle.orc_file.specs.declared.tail.Tail.{Tail};
+
+/// A file of a schema that a writer wrote, if it has fewer than 2^64 bytes, has the tail that the writer
+/// answered and the rows that were pushed: so opening it finds that tail, and reading it finds those rows and
+/// no others. The tail's statistics are those of the rows, of each stripe and of the whole file. Of rows one
+/// file is written: the version of the run lengths, the rows of a stripe and the schema determine its bytes.
+pub fn written_laws()
+    ensures tail { (rle : Rle) (n : ℕ) (s : Shape) (tail : Tail) (bytes : List ℕ) (rows : List Cell)
+        → IsSchema s → IsWrittenFile rle n s tail bytes rows → length bytes < 2 ^ 64 → IsTail bytes tail }
+    ensures rows { (rle : Rle) (n : ℕ) (s : Shape) (tail : Tail) (bytes : List ℕ) (rows : List Cell)
+        → IsSchema s → IsWrittenFile rle n s tail bytes rows → length bytes < 2 ^ 64 → FileIs bytes tail rows }
+    ensures honest { (rle : Rle) (n : ℕ) (s : Shape) (tail : Tail) (bytes : List ℕ) (rows : List Cell)
+        → IsWrittenFile rle n s tail bytes rows → Honest tail rows }
+    ensures whole { (rle : Rle) (n : ℕ) (s : Shape) (tail : Tail) (bytes : List ℕ) (rows : List Cell)
+        → IsWrittenFile rle n s tail bytes rows → HasWholeStats tail rows }
+    ensures one { (rle : Rle) (n : ℕ) (s : Shape) (t u : Tail) (a b : List ℕ) (rows : List Cell)
+        → IsWrittenFile rle n s t a rows → IsWrittenFile rle n s u b rows → (t ≡ u) × (a ≡ b) }
+{}
