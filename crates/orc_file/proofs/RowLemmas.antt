@@ -69,7 +69,7 @@ cut_parts s bytes (i ∷ is) (rows ∷ parts) p =
     let more : drop i.number_of_rows (rows ++ joined parts) ≡ joined parts = subst (λ (n : ℕ). drop n (rows ++ joined parts) ≡ joined parts) p.0.spelled.counted (drop-append_seam rows (joined parts)) in
     subst (λ (t : List Cell). take i.number_of_rows t ∷ cut_rows is (drop i.number_of_rows t) ≡ rows ∷ parts) (sym all) (rw (own, more, rest) refl)
 
-parts_cut : (s : Shape) (bytes : List ℕ) (infos : List StripeInfo) (rows : List Cell) (p : HasRows s bytes infos rows) → cut_rows infos rows ≡ p.parts
+pub parts_cut : (s : Shape) (bytes : List ℕ) (infos : List StripeInfo) (rows : List Cell) (p : HasRows s bytes infos rows) → cut_rows infos rows ≡ p.parts
 parts_cut s bytes infos rows p = ap (cut_rows infos) p.rows_are ∙ cut_parts s bytes infos p.parts p.stripes
 
 -- the rows of each stripe are the file's, cut
