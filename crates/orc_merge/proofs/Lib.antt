@@ -9,6 +9,7 @@ pub mod Steps
 pub mod Rows
 pub mod Deciding
 pub mod Refusing
+pub mod OneFault
 pub mod Reordered
 pub mod Ordered
 pub mod Honest

@@ -71,7 +71,7 @@ no_refusal_at first inputs ts fault w o c r =
     let cut = opened_split r.front (r.bytes ∷ r.rest) ts (subst (λ (x : List (List ℕ)). AreOpened x ts) r.parts o) in
     no_failure first r.front r.rest r.bytes r.tails cut.0 cut.1 fault cut.2 cut.3 w (subst (CanMerge first) cut.4 c) r.opened r.fails
 
-no_refusal : (inputs : List (List ℕ)) (first : Tail) (rest : List Tail) (fault : MergeFault) → AreOpened inputs (first ∷ rest) → CanMerge first (first ∷ rest) → IsRefused inputs fault → ⊥
+pub no_refusal : (inputs : List (List ℕ)) (first : Tail) (rest : List Tail) (fault : MergeFault) → AreOpened inputs (first ∷ rest) → CanMerge first (first ∷ rest) → IsRefused inputs fault → ⊥
 no_refusal inputs first rest fault o c (inl h) = subst (λ (x : List (List ℕ)). AreOpened x (first ∷ rest)) h.0 o
 no_refusal inputs first rest fault o c (inr h) = let w = all_sound inputs (first ∷ rest) o in no_refusal_at first inputs (first ∷ rest) fault w.0 o c h
 

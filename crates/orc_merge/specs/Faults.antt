@@ -1,5 +1,6 @@
 -- Why files are not merged: input by input, for each the first test that fails (own).
 use Rattle.std.specs.Prelude.{◌≡◌, ◌⊎◌, ℕ, List, [], ◌∷◌, ◌++◌, length}
+use Rattle.orc_file.specs.Tests.{AreAlike}
 use Rattle.orc_file.specs.Tails.{IsTail, OpenFault}
 use Rattle.orc_file.specs.Images.{IsWithinLimits}
 use Rattle.orc_file.specs.declared.tail.Tail.{Tail}
@@ -53,6 +54,10 @@ pub record IsRefusedAt (inputs : List (List ℕ)) (fault : MergeFault) : Type 0 
 -- there is no input, or one of them is the first that is refused
 abbrev pub IsRefused : List (List ℕ) → MergeFault → Type 0
 IsRefused inputs fault = ((inputs ≡ []) × (fault ≡ NoInput)) ⊎ IsRefusedAt inputs fault
+
+-- two faults are one, but that what is wrong with a file's types may be said in several ways
+abbrev pub AreOne : MergeFault → MergeFault → Type 0
+AreOne e f = (e ≡ f) ⊎ ((i : ℕ) × (a : FileFault) × (b : FileFault) × AreAlike a b × (e ≡ File i a) × (f ≡ File i b))
 
 -- a source, the output or memory failed
 abbrev pub IsDeviceFault : MergeFault → Type 0

@@ -15,13 +15,12 @@ ghost use Rattle.orc_file.specs.Tails.{IsTail};
 ghost use Rattle.orc_file.specs.declared.tail.Tail.{Tail};
 ghost use Rattle.orc_merge.specs.declared.fault.MergeFault.{MergeFault};
 ghost use Rattle.orc_merge.specs.Merging.{IsMerge};
-ghost use Rattle.orc_merge.specs.Faults.{IsRefused};
+ghost use Rattle.orc_merge.specs.Faults.{AreOne, IsRefused};
 ghost use Rattle.orc_merge.specs.Grouping.{Groups, merge, all_leaves, Gives, AllShort, HaveRows, AreHonestFiles, AreFellows, IsFlatRefused, IsStepRefused};
 
 /// Merging files in any grouping gives the file that merging them at once gives, and no other. It is accepted, with
 /// the merged tail, and its rows are the inputs' rows in their order. Of inputs that are files of one kind, the
-/// merge at once is refused, for user metadata or a limit, exactly where some step of a grouping is; and what can be
-/// merged is refused for nothing.
+/// merge at once is refused, for user metadata or a limit, exactly where some step of a grouping is.
 ///
 /// All that a step of a grouping writes is shorter than 2^64 bytes.
 pub fn grouping()
@@ -32,7 +31,6 @@ pub fn grouping()
     ensures rows { (inputs : List (List ℕ)) (tail : Tail) (out : List ℕ) (parts : List (List Cell)) → IsMerge inputs tail out → length out < 2 ^ 64 → HaveRows inputs parts → FileIs out tail (rows.joined parts) }
 
     ensures refused { (groups : Groups) → AllShort groups → AreFellows (all_leaves groups) → IsFlatRefused groups ↔ IsStepRefused groups }
-    ensures none { (inputs : List (List ℕ)) (tail : Tail) (out : List ℕ) (fault : MergeFault) → IsMerge inputs tail out → IsRefused inputs fault → ⊥ }
 {}
 
 /// Joined statistics are the same for every order of what is joined. So what can be merged can be merged in every
@@ -47,4 +45,12 @@ pub fn orders()
     ensures honest { (inputs : List (List ℕ)) (tail : Tail) (out : List ℕ) (parts : List (List Cell)) → IsMerge inputs tail out → AreHonestFiles inputs parts → Honest tail (rows.joined parts) }
     ensures whole { (inputs : List (List ℕ)) (tail : Tail) (out : List ℕ) (parts : List (List Cell)) → IsMerge inputs tail out → AreHonestFiles inputs parts → HasWholeStats tail (rows.joined parts) }
     ensures sum { (k : StatKind) (stripes : List (List Cell)) → has_sum (whole k stripes).body ≡ (list_all (λ rows. keeps_sum (stat k rows)) stripes && has_sum (stat k (flat_map (λ rows. rows) stripes)).body) }
+{}
+
+/// Inputs have one merged file at most, and none where they are refused. One fault is the first, but that what is
+/// wrong with a file's types may be said in several ways.
+pub fn outcomes()
+    ensures one { (inputs : List (List ℕ)) (tail other : Tail) (out bytes : List ℕ) → IsMerge inputs tail out → IsMerge inputs other bytes → (other ≡ tail) × (bytes ≡ out) }
+    ensures none { (inputs : List (List ℕ)) (tail : Tail) (out : List ℕ) (fault : MergeFault) → IsMerge inputs tail out → IsRefused inputs fault → ⊥ }
+    ensures single { (inputs : List (List ℕ)) (e f : MergeFault) → IsRefused inputs e → IsRefused inputs f → AreOne e f }
 {}

@@ -5,4 +5,4 @@ mod fault;
 mod laws;
 
 pub use fault::MergeFault;
-pub use laws::{grouping, orders};
+pub use laws::{grouping, orders, outcomes};

@@ -1,6 +1,6 @@
 use Rattle.orc_merge.proofs.Steps.{grouping_same, grouping_one}
 use Rattle.orc_merge.proofs.Rows.{grouping_accepted, grouping_rows}
-use Rattle.orc_merge.proofs.Refusing.{grouping_refused, no_fault}
+use Rattle.orc_merge.proofs.Refusing.{grouping_refused}
 use Rattle.orc_merge.proofs.laws.grouping.Goals as goal
 
 pub returns-clause-same : goal.returns-clause-same
@@ -17,6 +17,3 @@ returns-clause-rows c = grouping_rows
 
 pub returns-clause-refused : goal.returns-clause-refused
 returns-clause-refused c = grouping_refused
-
-pub returns-clause-none : goal.returns-clause-none
-returns-clause-none c = no_fault
