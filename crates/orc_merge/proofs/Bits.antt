@@ -1,5 +1,6 @@
 -- The numbers of a merged tail have the bits of their fields.
-use Rattle.std.proofs.Common.{◌≡◌, ℕ, zero, suc, ◌+◌, ◌^◌, ◌<◌, ◌≤◌, ℤ, pos, negsuc, nat_le, Bool, true, false, if◌then◌else◌, List, [], ◌∷◌, ◌++◌, map, filter, sum_by, take, drop, Option, Some, None, refl, arith}
+use Rattle.std.proofs.Common.{◌≡◌, ℕ, zero, suc, ◌+◌, ◌^◌, ◌<◌, ◌≤◌, ℤ, pos, negsuc, nat_le, Bool, true, false, if◌then◌else◌, List, [], ◌∷◌, ◌++◌, map}
+use Rattle.std.proofs.Common.{filter, sum_by, take, drop, Option, Some, None, refl, arith}
 use Rattle.std.specs.Prelude.{cond}
 use Rattle.std.specs.Option.{IfSome, option_map, option_and_then}
 use Rattle.std.specs.Ordering.{int_cmp, is_gt, flip_args}
@@ -10,7 +11,8 @@ use Rattle.orc_bits.specs.Zigzag.{zig}
 use Rattle.orc_wire.specs.declared.stripe_info.StripeInfo.{StripeInfo}
 use Rattle.orc_wire.specs.declared.footer.UserMetadataItem.{UserMetadataItem}
 use Rattle.orc_wire.specs.CanonicalKinds.{some_top}
-use Rattle.orc_wire.specs.CanonicalMessages.{stripe_info_text, user_metadata_text, column_stats_text, integer_stats_text, string_stats_text, bucket_stats_text, date_stats_text, binary_stats_text}
+use Rattle.orc_wire.specs.CanonicalMessages.{stripe_info_text, user_metadata_text, column_stats_text, integer_stats_text, string_stats_text}
+use Rattle.orc_wire.specs.CanonicalMessages.{bucket_stats_text, date_stats_text, binary_stats_text}
 use Rattle.orc_types.specs.Fits.{signed_fits}
 use Rattle.orc_stats.specs.declared.kind.StatKind.{StatKind}
 use Rattle.orc_stats.specs.declared.kind.StatKind.TheVariants as kind
@@ -18,8 +20,10 @@ use Rattle.orc_stats.specs.declared.stat.Stat.{Stat}
 use Rattle.orc_stats.specs.declared.stat.Body.{Body}
 use Rattle.orc_stats.specs.declared.stat.Body.TheVariants as body
 use Rattle.orc_stats.specs.Statistics.{onto, reduce, lower, least, exact_total, in_64, total}
-use Rattle.orc_stats.specs.Joining.{all_known, of_known, in_limit, trues_total, least_int, greatest_int, least_date, greatest_date, trues_of, sum_of, bodies_joined, has_values, valued_bodies, joined}
-use Rattle.orc_stats.specs.Messages.{message_of, ints_record, dates_record, texts_record, bins_record, bools_record, int_record, date_record, text_record, bucket_record, bin_record}
+use Rattle.orc_stats.specs.Joining.{all_known, of_known, in_limit, trues_total, least_int, greatest_int, least_date, greatest_date, trues_of, sum_of}
+use Rattle.orc_stats.specs.Joining.{bodies_joined, has_values, valued_bodies, joined}
+use Rattle.orc_stats.specs.Messages.{message_of, ints_record, dates_record, texts_record, bins_record, bools_record, int_record, date_record, text_record}
+use Rattle.orc_stats.specs.Messages.{bucket_record, bin_record}
 use Rattle.orc_types.specs.Shapes.{Shape, width}
 use Rattle.orc_file.specs.Stripes.{stripe_length, stripes_length}
 use Rattle.orc_file.specs.Statistics.{kind_at}
@@ -46,11 +50,13 @@ PartBits (body.Dates l g) = Narrow l × Narrow g
 PartBits (body.Texts l g s) = Wide s
 PartBits (body.Bins s) = Wide s
 
-onto_keeps : {A : Type 0} (P : A → Type 0) (op : A → A → A) → ((x y : A) → P x → P y → P (op x y)) → (x : A) (o : Option A) → P x → IfSome o P → P (onto op x o)
+onto_keeps : {A : Type 0} (P : A → Type 0) (op : A → A → A) → ((x y : A) → P x → P y → P (op x y)) → (x : A) (o : Option A) → P x → IfSome o P
+    → P (onto op x o)
 onto_keeps P op k x None p q = p
 onto_keeps P op k x (Some y) p q = k x y p q
 
-reduce_keeps : {A : Type 0} (P : A → Type 0) (op : A → A → A) → ((x y : A) → P x → P y → P (op x y)) → (xs : List A) → AllByRecursion P xs → IfSome (reduce op xs) P
+reduce_keeps : {A : Type 0} (P : A → Type 0) (op : A → A → A) → ((x y : A) → P x → P y → P (op x y)) → (xs : List A) → AllByRecursion P xs
+    → IfSome (reduce op xs) P
 reduce_keeps P op k [] a = tt
 reduce_keeps P op k (x ∷ xs) a = onto_keeps P op k x (reduce op xs) a.0 (reduce_keeps P op k xs a.1)
 
@@ -62,20 +68,24 @@ either_kept P false x y p q = p
 least_keeps : {A : Type 0} (P : A → Type 0) (cmp : A → A → Ordering) (xs : List A) → AllByRecursion P xs → IfSome (least cmp xs) P
 least_keeps P cmp xs a = reduce_keeps P (lower cmp) (λ x y p q. either_kept P (is_gt (cmp x y)) x y p q) xs a
 
-known_cons : {A : Type 0} (P : A → Type 0) (x : A) (o : Option (List A)) → P x → IfSome o (AllByRecursion P) → IfSome (option_map (λ xs. x ∷ xs) o) (AllByRecursion P)
+known_cons : {A : Type 0} (P : A → Type 0) (x : A) (o : Option (List A)) → P x → IfSome o (AllByRecursion P)
+    → IfSome (option_map (λ xs. x ∷ xs) o) (AllByRecursion P)
 known_cons P x None p a = tt
 known_cons P x (Some xs) p a = (p, a)
 
-known_keeps : {A : Type 0} (P : A → Type 0) (os : List (Option A)) → AllByRecursion (λ (o : Option A). IfSome o P) os → IfSome (all_known os) (AllByRecursion P)
+known_keeps : {A : Type 0} (P : A → Type 0) (os : List (Option A)) → AllByRecursion (λ (o : Option A). IfSome o P) os
+    → IfSome (all_known os) (AllByRecursion P)
 known_keeps P [] a = tt
 known_keeps P (None ∷ os) a = tt
 known_keeps P (Some x ∷ os) a = known_cons P x (all_known os) a.0 (known_keeps P os a.1)
 
-then_keeps : {A B : Type 0} (P : A → Type 0) (Q : B → Type 0) (f : A → Option B) → ((x : A) → P x → IfSome (f x) Q) → (o : Option A) → IfSome o P → IfSome (option_and_then f o) Q
+then_keeps : {A B : Type 0} (P : A → Type 0) (Q : B → Type 0) (f : A → Option B) → ((x : A) → P x → IfSome (f x) Q) → (o : Option A) → IfSome o P
+    → IfSome (option_and_then f o) Q
 then_keeps P Q f k None p = tt
 then_keeps P Q f k (Some x) p = k x p
 
-known_least : {A : Type 0} (P : A → Type 0) (cmp : A → A → Ordering) (os : List (Option A)) → AllByRecursion (λ (o : Option A). IfSome o P) os → IfSome (of_known (least cmp) os) P
+known_least : {A : Type 0} (P : A → Type 0) (cmp : A → A → Ordering) (os : List (Option A)) → AllByRecursion (λ (o : Option A). IfSome o P) os
+    → IfSome (of_known (least cmp) os) P
 known_least P cmp os a = then_keeps (AllByRecursion P) P (least cmp) (λ xs p. least_keeps P cmp xs p) (all_known os) (known_keeps P os a)
 
 -- what fits 64 bits has them
@@ -102,11 +112,13 @@ small_of n true e = let le : n ≤ 2 ^ 62 = grind (arith, nat_tests) in omega (a
 small_of n false e = tt
 
 trues_small : (os : List (Option ℕ)) → Small (of_known trues_total os)
-trues_small os = then_all (λ (n : ℕ). n < 2 ^ 64) trues_total (λ ns. then_all (λ (n : ℕ). n < 2 ^ 64) in_limit (λ n. small_of n (nat_le n (2 ^ 62)) refl) (reduce ◌+◌ ns)) (all_known os)
+trues_small os = then_all (λ (n : ℕ). n < 2 ^ 64) trues_total
+    (λ ns. then_all (λ (n : ℕ). n < 2 ^ 64) in_limit (λ n. small_of n (nat_le n (2 ^ 62)) refl) (reduce ◌+◌ ns)) (all_known os)
 
 -- ---- the parts of bodies
 
-all_parts : {A : Type 0} (P : A → Type 0) (part : Body → Option A) → ((b : Body) → PartBits b → IfSome (part b) P) → (bs : List Body) → AllByRecursion PartBits bs
+all_parts : {A : Type 0} (P : A → Type 0) (part : Body → Option A) → ((b : Body) → PartBits b → IfSome (part b) P) → (bs : List Body)
+    → AllByRecursion PartBits bs
     → AllByRecursion (λ (o : Option A). IfSome o P) (map part bs)
 all_parts P part k [] a = tt
 all_parts P part k (b ∷ bs) a = (k b a.0, all_parts P part k bs a.1)
@@ -147,12 +159,17 @@ bodies_bits : (k : StatKind) (bs : List Body) → AllByRecursion PartBits bs →
 bodies_bits kind.Plain bs a = tt
 bodies_bits kind.Ints bs a = (
   known_least (λ (z : ℤ). zig z < 2 ^ 64) int_cmp (map least_int bs) (all_parts (λ (z : ℤ). zig z < 2 ^ 64) least_int least_int_bits bs a),
-  (known_least (λ (z : ℤ). zig z < 2 ^ 64) (flip_args int_cmp) (map greatest_int bs) (all_parts (λ (z : ℤ). zig z < 2 ^ 64) greatest_int greatest_int_bits bs a), total_wide (map sum_of bs)),
+  (
+    known_least (λ (z : ℤ). zig z < 2 ^ 64) (flip_args int_cmp) (map greatest_int bs)
+        (all_parts (λ (z : ℤ). zig z < 2 ^ 64) greatest_int greatest_int_bits bs a),
+    total_wide (map sum_of bs),
+  ),
 )
 bodies_bits kind.Bools bs a = trues_small (map trues_of bs)
 bodies_bits kind.Dates bs a = (
   known_least (λ (z : ℤ). zig z < 2 ^ 32) int_cmp (map least_date bs) (all_parts (λ (z : ℤ). zig z < 2 ^ 32) least_date least_date_bits bs a),
-  known_least (λ (z : ℤ). zig z < 2 ^ 32) (flip_args int_cmp) (map greatest_date bs) (all_parts (λ (z : ℤ). zig z < 2 ^ 32) greatest_date greatest_date_bits bs a),
+  known_least (λ (z : ℤ). zig z < 2 ^ 32) (flip_args int_cmp) (map greatest_date bs)
+      (all_parts (λ (z : ℤ). zig z < 2 ^ 32) greatest_date greatest_date_bits bs a),
 )
 bodies_bits kind.Texts bs a = total_wide (map sum_of bs)
 bodies_bits kind.Bins bs a = total_wide (map sum_of bs)
@@ -241,7 +258,8 @@ stat_parts s h = parts_of s.body (h.1.0, (h.1.1.0, (h.1.1.1.0, (h.1.1.1.1.0, h.1
 parts_stat : (s : Stat) → s.count < 2 ^ 64 → PartBits s.body → StatBits s
 parts_stat s few h = let b = of_parts s.body h in (few, (b.0, (b.1.0, (b.1.1.0, (b.1.1.1.0, (b.1.1.1.1, some_top s.nulls))))))
 
-with_value : (b : Bool) (s : Stat) (ss : List Stat) → PartBits s.body → AllByRecursion PartBits (map (λ (t : Stat). t.body) ss) → AllByRecursion PartBits (map (λ (t : Stat). t.body) (cond b (s ∷ ss) ss))
+with_value : (b : Bool) (s : Stat) (ss : List Stat) → PartBits s.body → AllByRecursion PartBits (map (λ (t : Stat). t.body) ss)
+    → AllByRecursion PartBits (map (λ (t : Stat). t.body) (cond b (s ∷ ss) ss))
 with_value true s ss h a = (h, a)
 with_value false s ss h a = a
 
@@ -270,13 +288,16 @@ all-append P (x ∷ xs) ys a b = (a.0, all-append P xs ys a.1 b)
 
 column_bits : (c : ℕ) (stats : List (List Stat)) → AllByRecursion (AllByRecursion StatBits) stats → AllByRecursion StatBits (column_stats c stats)
 column_bits c [] a = tt
-column_bits c (xs ∷ stats) a = all-append StatBits (take 1 (drop c xs)) (column_stats c stats) (all_take StatBits 1 (drop c xs) (all_drop StatBits c xs a.0)) (column_bits c stats a.1)
+column_bits c (xs ∷ stats) a = all-append StatBits (take 1 (drop c xs)) (column_stats c stats)
+    (all_take StatBits 1 (drop c xs) (all_drop StatBits c xs a.0)) (column_bits c stats a.1)
 
-pub all_columns : (P Q : Stat → Type 0) (f : ℕ → Stat) → ((c : ℕ) → P (f c) → Q (f c)) → (c n : ℕ) → AllByRecursion P (of_columns f c n) → AllByRecursion Q (of_columns f c n)
+pub all_columns : (P Q : Stat → Type 0) (f : ℕ → Stat) → ((c : ℕ) → P (f c) → Q (f c)) → (c n : ℕ) → AllByRecursion P (of_columns f c n)
+    → AllByRecursion Q (of_columns f c n)
 all_columns P Q f k c zero a = tt
 all_columns P Q f k c (suc n) a = (k c a.0, all_columns P Q f k (suc c) n a.1)
 
-pub file_stats_bits : (s : Shape) (stats : List (List Stat)) → AllByRecursion (AllByRecursion StatBits) stats → AllByRecursion (λ (x : Stat). x.count ≤ 2 ^ 62) (file_stats s stats)
+pub file_stats_bits : (s : Shape) (stats : List (List Stat)) → AllByRecursion (AllByRecursion StatBits) stats
+    → AllByRecursion (λ (x : Stat). x.count ≤ 2 ^ 62) (file_stats s stats)
     → AllByRecursion StatBits (file_stats s stats)
 file_stats_bits s stats a few =
     all_columns (λ (x : Stat). x.count ≤ 2 ^ 62) StatBits (λ c. joined (kind_at s c) (column_stats c stats))
@@ -284,7 +305,8 @@ file_stats_bits s stats a few =
 
 -- ---- stripes and pairs
 
-pub placed_bits : (at : ℕ) (ss : List StripeInfo) → at + stripes_length ss < 2 ^ 64 → AllByRecursion stripe_info_text.bounded ss → AllByRecursion stripe_info_text.bounded (placed at ss)
+pub placed_bits : (at : ℕ) (ss : List StripeInfo) → at + stripes_length ss < 2 ^ 64 → AllByRecursion stripe_info_text.bounded ss
+    → AllByRecursion stripe_info_text.bounded (placed at ss)
 placed_bits at [] lt a = tt
 placed_bits at (s ∷ ss) lt a = ((omega (arith, lt), a.0.1), placed_bits (at + stripe_length s) ss (omega (arith, lt)) a.1)
 

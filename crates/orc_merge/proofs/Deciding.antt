@@ -28,7 +28,8 @@ agrees_cons p x xs here rest = λ q h n. elim (in_cons x xs q h) [
   | inr c ↦ rest q c n
 ]
 
-with_more : (p x : UserMetadataItem) (xs : List UserMetadataItem) → Decided (p.name ≡ x.name → p.value ≡ x.value) → Decided (AgreesWith p xs) → Decided (AgreesWith p (x ∷ xs))
+with_more : (p x : UserMetadataItem) (xs : List UserMetadataItem) → Decided (p.name ≡ x.name → p.value ≡ x.value) → Decided (AgreesWith p xs)
+    → Decided (AgreesWith p (x ∷ xs))
 with_more p x xs (inl here) (inl rest) = inl (agrees_cons p x xs here rest)
 with_more p x xs (inl here) (inr no_rest) = inr (λ a. no_rest (λ q h n. a q (in_tail x xs q h) n))
 with_more p x xs (inr not_here) d = inr (λ a. not_here (λ n. a x (in_head x xs) n))

@@ -1,5 +1,6 @@
 -- Statistics of files whose stripes' statistics are those of the rows.
-use Rattle.std.proofs.Common.{◌≡◌, ℕ, zero, suc, ◌+◌, ◌*◌, ◌<◌, ◌≤◌, ◌^◌, Bool, true, false, ◌&&◌, if◌then◌else◌, List, [], ◌∷◌, ◌++◌, length, map, take, drop, slice_get, Some, refl, sym, ap, ◌∙◌, subst, arith, length-append}
+use Rattle.std.proofs.Common.{◌≡◌, ℕ, zero, suc, ◌+◌, ◌*◌, ◌<◌, ◌≤◌, ◌^◌, Bool, true, false, ◌&&◌, if◌then◌else◌, List, [], ◌∷◌, ◌++◌, length, map, take}
+use Rattle.std.proofs.Common.{drop, slice_get, Some, refl, sym, ap, ◌∙◌, subst, arith, length-append}
 use Rattle.std.specs.Prelude.{◌||◌}
 use Rattle.std.specs.List.{AllByRecursion, concat, flat_map, list_all}
 use Rattle.std.proofs.lemmas.List.Concat.{flat_map-cons}
@@ -29,7 +30,8 @@ use Rattle.orc_file.specs.Tails.{tail_tests}
 use Rattle.orc_file.specs.Images.{image}
 use Rattle.orc_file.specs.declared.tail.Tail.{Tail}
 use Rattle.orc_file.proofs.RowLemmas.{parts_cut}
-use Rattle.orc_merge.specs.Merging.{column_stats, of_columns, file_stats, placed, all_stripes, all_stats, merged, IsLike, stripes_of, AreOpened, bodies, IsMerge}
+use Rattle.orc_merge.specs.Merging.{column_stats, of_columns, file_stats, placed, all_stripes, all_stats, merged, IsLike, stripes_of, AreOpened, bodies}
+use Rattle.orc_merge.specs.Merging.{IsMerge}
 use Rattle.orc_merge.specs.Grouping.{AreHonestFiles}
 use Rattle.orc_merge.proofs.Limits.{room_of, length-of_columns}
 use Rattle.orc_merge.proofs.Rows.{AreStripes, of_file, stripes-append, joined-append, accepted, image_stripes}
@@ -42,7 +44,8 @@ pub record HonestParts (s : Shape) (is : List StripeInfo) (bs : List (List ℕ))
   pub honest : AreHonest s parts stats
   pub rows_are : all ≡ rows.joined parts
 
-honest-append : (s : Shape) (parts more : List (List Cell)) (xs ys : List (List Stat)) → AreHonest s parts xs → AreHonest s more ys → AreHonest s (parts ++ more) (xs ++ ys)
+honest-append : (s : Shape) (parts more : List (List Cell)) (xs ys : List (List Stat)) → AreHonest s parts xs → AreHonest s more ys
+    → AreHonest s (parts ++ more) (xs ++ ys)
 honest-append s [] more [] ys h k = k
 honest-append s [] more (x ∷ xs) ys h k = absurd h
 honest-append s (p ∷ parts) more [] ys h k = absurd h
@@ -58,7 +61,8 @@ own_parts t bytes r is honest =
       rows_are = h.rows_are;
     }
 
-all_honest : (first : Tail) (xs : List (List ℕ)) (ts : List Tail) (parts : List (List Cell)) → AreOpened xs ts → AllByRecursion (IsLike first) ts → AreHonestFiles xs parts
+all_honest : (first : Tail) (xs : List (List ℕ)) (ts : List Tail) (parts : List (List Cell)) → AreOpened xs ts → AllByRecursion (IsLike first) ts
+    → AreHonestFiles xs parts
     → HonestParts first.schema (all_stripes ts) (bodies xs ts) (all_stats ts) (rows.joined parts)
 all_honest first [] [] [] o a h = record { parts = []; stripes = tt; honest = tt; rows_are = refl }
 all_honest first [] [] (r ∷ parts) o a h = absurd h
@@ -76,7 +80,8 @@ all_honest first (x ∷ xs) (t ∷ ts) (r ∷ parts) o a h =
       parts = here.parts ++ rest.parts;
       stripes = stripes-append first.schema t.stripes (all_stripes ts) (stripes_of x t) (bodies xs ts) here.parts rest.parts here.stripes rest.stripes;
       honest = honest-append first.schema here.parts rest.parts t.stripe_stats (all_stats ts) here.honest rest.honest;
-      rows_are = flat_map-cons (λ (p : List Cell). p) r parts ∙ ap (λ (z : List Cell). z ++ rows.joined parts) here.rows_are ∙ ap (λ (z : List Cell). rows.joined here.parts ++ z) rest.rows_are
+      rows_are = flat_map-cons (λ (p : List Cell). p) r parts ∙ ap (λ (z : List Cell). z ++ rows.joined parts) here.rows_are
+          ∙ ap (λ (z : List Cell). rows.joined here.parts ++ z) rest.rows_are
           ∙ sym (joined-append here.parts rest.parts);
     }
 
@@ -131,7 +136,8 @@ at_column f d zero c lt = absurd (omega (arith, lt))
 at_column f d (suc n) zero lt = let z : d ≡ d + 0 = omega arith in ap (λ k. Some (f k)) z
 at_column f d (suc n) (suc c) lt = let z : suc d + c ≡ d + suc c = omega arith in at_column f (suc d) n c (omega (arith, lt)) ∙ ap (λ k. Some (f k)) z
 
-whole_column : (s : Shape) (is : List StripeInfo) (bs : List (List ℕ)) (stats : List (List Stat)) (parts : List (List Cell)) (c : ℕ) → c < width s → length is ≤ most_stripes
+whole_column : (s : Shape) (is : List StripeInfo) (bs : List (List ℕ)) (stats : List (List Stat)) (parts : List (List Cell)) (c : ℕ) → c < width s
+    → length is ≤ most_stripes
     → AreStripes s is bs parts → AreHonest s parts stats → slice_get (file_stats s stats) c ≡ Some (whole_of s parts c)
 whole_column s is bs stats parts c lt few stripes honest =
     let k : StatKind = kind_at s c in
@@ -145,24 +151,31 @@ whole_column s is bs stats parts c lt few stripes honest =
 
 -- ---- the merged file
 
-pub honest_merge : (xs : List (List ℕ)) (tail : Tail) (out : List ℕ) (parts : List (List Cell)) → IsMerge xs tail out → AreHonestFiles xs parts → Honest tail (rows.joined parts) × HasWholeStats tail (rows.joined parts)
+pub honest_merge : (xs : List (List ℕ)) (tail : Tail) (out : List ℕ) (parts : List (List Cell)) → IsMerge xs tail out → AreHonestFiles xs parts
+    → Honest tail (rows.joined parts) × HasWholeStats tail (rows.joined parts)
 honest_merge xs tail out parts m h =
     let l = accepted xs tail out m in
     let ts : List Tail = l.first ∷ l.rest in
     let p = all_honest l.first xs (l.first ∷ l.rest) parts l.opened l.can.alike h in
     let room = room_of l.first (l.first ∷ l.rest) l.can.limits in
     let s : Shape = l.first.schema in
-    let there : HasRows l.first.schema (image (concat (bodies xs (l.first ∷ l.rest))) (merged l.first (l.first ∷ l.rest))) (placed 3 (all_stripes (l.first ∷ l.rest))) (rows.joined parts)
+    let there : HasRows l.first.schema (image (concat (bodies xs (l.first ∷ l.rest))) (merged l.first (l.first ∷ l.rest)))
+    (placed 3 (all_stripes (l.first ∷ l.rest))) (rows.joined parts)
     = record { parts = p.parts; stripes = image_stripes xs l.first l.rest p.parts l.opened p.stripes; rows_are = p.rows_are } in
     let cut : cut_rows (placed 3 (all_stripes (l.first ∷ l.rest))) (rows.joined parts) ≡ p.parts = parts_cut _ _ _ _ there in
-    let honest : Honest (merged l.first (l.first ∷ l.rest)) (rows.joined parts) = subst (λ (q : List (List Cell)). AreHonest l.first.schema q (all_stats (l.first ∷ l.rest))) (sym cut) p.honest in
+    let honest : Honest (merged l.first (l.first ∷ l.rest)) (rows.joined parts) = subst
+    (λ (q : List (List Cell)). AreHonest l.first.schema q (all_stats (l.first ∷ l.rest))) (sym cut) p.honest in
     let whole_parts : AreWhole l.first.schema p.parts (file_stats l.first.schema (all_stats (l.first ∷ l.rest))) = record {
       counted = length-of_columns (λ d. joined (kind_at l.first.schema d) (column_stats d (all_stats (l.first ∷ l.rest)))) 0 (width l.first.schema);
-      each = λ c lt. whole_column l.first.schema (all_stripes (l.first ∷ l.rest)) (bodies xs (l.first ∷ l.rest)) (all_stats (l.first ∷ l.rest)) p.parts c lt room.stripes p.stripes p.honest;
+      each = λ c lt. whole_column l.first.schema (all_stripes (l.first ∷ l.rest)) (bodies xs (l.first ∷ l.rest))
+          (all_stats (l.first ∷ l.rest)) p.parts c lt room.stripes p.stripes p.honest;
     } in
     let stats : HasWholeStats (merged l.first (l.first ∷ l.rest)) (rows.joined parts)
-    = subst (λ (q : List (List Cell)). AreWhole l.first.schema q (file_stats l.first.schema (all_stats (l.first ∷ l.rest)))) (sym cut) whole_parts in
-    (subst (λ (u : Tail). Honest u (rows.joined parts)) (sym l.tail_is) honest, subst (λ (u : Tail). HasWholeStats u (rows.joined parts)) (sym l.tail_is) stats)
+    = subst (λ (q : List (List Cell)). AreWhole l.first.schema q (file_stats l.first.schema (all_stats (l.first ∷ l.rest)))) (sym cut) whole_parts in (
+      subst (λ (u : Tail). Honest u (rows.joined parts)) (sym l.tail_is) honest,
+      subst (λ (u : Tail). HasWholeStats u (rows.joined parts))
+          (sym l.tail_is) stats,
+    )
 
 -- ---- where a sum stands
 
@@ -178,7 +191,8 @@ sum_if : (b : Bool) (x : Body) → has_sum (without_sum x) ≡ false → has_sum
 sum_if true x e = refl
 sum_if false x e = e
 
-pub sum_stands : (k : StatKind) (parts : List (List Cell)) → has_sum (whole k parts).body ≡ (list_all (λ p. keeps_sum (stat k p)) parts && has_sum (stat k (flat_map (λ p. p) parts)).body)
+pub sum_stands : (k : StatKind) (parts : List (List Cell)) → has_sum (whole k parts).body ≡
+    (list_all (λ p. keeps_sum (stat k p)) parts && has_sum (stat k (flat_map (λ p. p) parts)).body)
 sum_stands kind.Plain parts = rw (no_sums kind.Plain (λ cs. or_true _) parts) refl
 sum_stands kind.Ints parts = sum_if (list_all (λ p. keeps_sum (stat kind.Ints p)) parts) (stat kind.Ints (flat_map (λ p. p) parts)).body refl
 sum_stands kind.Bools parts = rw (no_sums kind.Bools (λ cs. or_true _) parts) refl

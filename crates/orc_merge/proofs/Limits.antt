@@ -1,5 +1,6 @@
 -- What a merged tail has of limits: those that all inputs share, and those that they can pass together.
-use Rattle.std.proofs.Common.{◌≡◌, ℕ, zero, suc, ◌+◌, ◌<◌, ◌≤◌, ◌^◌, ◌⊎◌, inl, inr, nat_le, nat_lt, Bool, true, false, List, [], ◌∷◌, ◌++◌, length, refl, sym, ap, ◌∙◌, subst, arith, length-append, take, drop}
+use Rattle.std.proofs.Common.{◌≡◌, ℕ, zero, suc, ◌+◌, ◌<◌, ◌≤◌, ◌^◌, ◌⊎◌, inl, inr, nat_le, nat_lt, Bool, true, false, List, [], ◌∷◌, ◌++◌, length, refl}
+use Rattle.std.proofs.Common.{sym, ap, ◌∙◌, subst, arith, length-append, take, drop}
 use Rattle.std.specs.Prelude.{sum_by}
 use Rattle.std.specs.List.{AllByRecursion}
 use Rattle.std.proofs.lemmas.Bool.{and_parts}
@@ -26,24 +27,31 @@ all_rows : (ts : List Tail) → AllByRecursion IsWithinLimits ts → stripes_row
 all_rows [] a = refl
 all_rows (t ∷ ts) a =
     let rows : Tail → ℕ = λ t. t.rows in
-    rows-append t.stripes (all_stripes ts) ∙ ap (λ n. n + stripes_rows (all_stripes ts)) a.0.rows_are ∙ ap (λ n. t.rows + n) (all_rows ts a.1) ∙ sym (sum_by-cons rows t ts)
+    rows-append t.stripes (all_stripes ts) ∙ ap (λ n. n + stripes_rows (all_stripes ts)) a.0.rows_are ∙ ap (λ n. t.rows + n) (all_rows ts a.1)
+    ∙ sym (sum_by-cons rows t ts)
 
-all_stripe_rows : (ts : List Tail) → AllByRecursion IsWithinLimits ts → AllByRecursion (λ (s : StripeInfo). s.number_of_rows ≤ most_stripe_rows) (all_stripes ts)
+all_stripe_rows : (ts : List Tail) → AllByRecursion IsWithinLimits ts
+    → AllByRecursion (λ (s : StripeInfo). s.number_of_rows ≤ most_stripe_rows) (all_stripes ts)
 all_stripe_rows [] a = tt
-all_stripe_rows (t ∷ ts) a = all-append (λ (s : StripeInfo). s.number_of_rows ≤ most_stripe_rows) t.stripes (all_stripes ts) a.0.stripe_rows (all_stripe_rows ts a.1)
+all_stripe_rows (t ∷ ts) a = all-append (λ (s : StripeInfo). s.number_of_rows ≤ most_stripe_rows) t.stripes (all_stripes ts) a.0.stripe_rows
+    (all_stripe_rows ts a.1)
 
-all_stats_are : (first : Tail) (ts : List Tail) → AllByRecursion IsWithinLimits ts → AllByRecursion (IsLike first) ts → AllByRecursion (AreStats first.schema) (all_stats ts)
+all_stats_are : (first : Tail) (ts : List Tail) → AllByRecursion IsWithinLimits ts → AllByRecursion (IsLike first) ts
+    → AllByRecursion (AreStats first.schema) (all_stats ts)
 all_stats_are first [] a l = tt
 all_stats_are first (t ∷ ts) a l =
-    all-append (AreStats first.schema) t.stripe_stats (all_stats ts) (subst (λ (s : Shape). AllByRecursion (AreStats s) t.stripe_stats) l.0.schema a.0.stripe_stats) (all_stats_are first ts a.1 l.1)
+    all-append (AreStats first.schema) t.stripe_stats (all_stats ts)
+    (subst (λ (s : Shape). AllByRecursion (AreStats s) t.stripe_stats) l.0.schema a.0.stripe_stats) (all_stats_are first ts a.1 l.1)
 
 pub stats_of_each : (first : Tail) (ts : List Tail) → AllByRecursion (IsLike first) ts → length (all_stats ts) ≡ length (all_stripes ts)
 stats_of_each first [] a = refl
 stats_of_each first (t ∷ ts) a =
-    length-append t.stripe_stats (all_stats ts) ∙ ap (λ n. n + length (all_stats ts)) a.0.statistics.stripes ∙ ap (λ n. length t.stripes + n) (stats_of_each first ts a.1)
+    length-append t.stripe_stats (all_stats ts) ∙ ap (λ n. n + length (all_stats ts)) a.0.statistics.stripes
+    ∙ ap (λ n. length t.stripes + n) (stats_of_each first ts a.1)
     ∙ sym (length-append t.stripes (all_stripes ts))
 
-columns_of_each : (first : Tail) (ts : List Tail) → AllByRecursion (IsLike first) ts → AllByRecursion (λ (stats : List Stat). length stats ≡ width first.schema) (all_stats ts)
+columns_of_each : (first : Tail) (ts : List Tail) → AllByRecursion (IsLike first) ts
+    → AllByRecursion (λ (stats : List Stat). length stats ≡ width first.schema) (all_stats ts)
 columns_of_each first [] a = tt
 columns_of_each first (t ∷ ts) a =
     let here : AllByRecursion (λ (stats : List Stat). length stats ≡ width first.schema) t.stripe_stats =
@@ -100,10 +108,12 @@ stats_from s stats c (suc n) a =
     )
 
 -- a merged tail within those is within all limits
-pub limits_of : (first : Tail) (ts : List Tail) → IsWithinLimits first → AllByRecursion IsWithinLimits ts → AllByRecursion (IsLike first) ts → HasRoom first ts → IsWithinLimits (merged first ts)
+pub limits_of : (first : Tail) (ts : List Tail) → IsWithinLimits first → AllByRecursion IsWithinLimits ts → AllByRecursion (IsLike first) ts
+    → HasRoom first ts → IsWithinLimits (merged first ts)
 limits_of first ts f a l room =
     let few = room.stripes in let len = length-placed 3 (all_stripes ts) in let bytes = room.bytes in let sum = bytes-placed 3 (all_stripes ts) in
-    let each = stats_of_each first ts l in let cols = length-of_columns (λ d. joined (kind_at first.schema d) (column_stats d (all_stats ts))) 0 (width first.schema) in
+    let each = stats_of_each first ts l in let cols = length-of_columns (λ d. joined (kind_at first.schema d) (column_stats d (all_stats ts))) 0
+    (width first.schema) in
     record {
       version = f.version;
       schema = f.schema;
@@ -152,11 +162,13 @@ decide_room first ts =
     room_by first ts (at_most (length (all_stripes ts)) most_stripes) (at_most (stripes_length (all_stripes ts)) most_bytes)
     (at_most (sum_by (λ (t : Tail). t.rows) ts) most_rows) (counts_within (file_stats first.schema (all_stats ts)))
 
-limits_by : (first : Tail) (ts : List Tail) → IsWithinLimits first → AllByRecursion IsWithinLimits ts → AllByRecursion (IsLike first) ts → Decided (HasRoom first ts) → Decided (IsWithinLimits (merged first ts))
+limits_by : (first : Tail) (ts : List Tail) → IsWithinLimits first → AllByRecursion IsWithinLimits ts → AllByRecursion (IsLike first) ts
+    → Decided (HasRoom first ts) → Decided (IsWithinLimits (merged first ts))
 limits_by first ts f a l (inl room) = inl (limits_of first ts f a l room)
 limits_by first ts f a l (inr none) = inr (λ h. none (room_of first ts h))
 
-pub within_limits : (first : Tail) (ts : List Tail) → IsWithinLimits first → AllByRecursion IsWithinLimits ts → AllByRecursion (IsLike first) ts → Decided (IsWithinLimits (merged first ts))
+pub within_limits : (first : Tail) (ts : List Tail) → IsWithinLimits first → AllByRecursion IsWithinLimits ts → AllByRecursion (IsLike first) ts
+    → Decided (IsWithinLimits (merged first ts))
 within_limits first ts f a l = limits_by first ts f a l (decide_room first ts)
 
 -- ---- fewer inputs pass no limit that more do not pass
@@ -182,10 +194,13 @@ room_both first xs ys room =
     let rows : Tail → ℕ = λ t. t.rows in
     let stripes : all_stripes (xs ++ ys) ≡ all_stripes xs ++ all_stripes ys = flat_map-append (λ (t : Tail). t.stripes) xs ys in
     let stats : all_stats (xs ++ ys) ≡ all_stats xs ++ all_stats ys = flat_map-append (λ (t : Tail). t.stripe_stats) xs ys in
-    let n : length (all_stripes (xs ++ ys)) ≡ length (all_stripes xs) + length (all_stripes ys) = ap length stripes ∙ length-append (all_stripes xs) (all_stripes ys) in
-    let b : stripes_length (all_stripes (xs ++ ys)) ≡ stripes_length (all_stripes xs) + stripes_length (all_stripes ys) = ap stripes_length stripes ∙ bytes-append (all_stripes xs) (all_stripes ys) in
+    let n : length (all_stripes (xs ++ ys)) ≡ length (all_stripes xs) + length (all_stripes ys) = ap length stripes
+    ∙ length-append (all_stripes xs) (all_stripes ys) in
+    let b : stripes_length (all_stripes (xs ++ ys)) ≡ stripes_length (all_stripes xs) + stripes_length (all_stripes ys) = ap stripes_length stripes
+    ∙ bytes-append (all_stripes xs) (all_stripes ys) in
     let r : sum_by rows (xs ++ ys) ≡ sum_by rows xs + sum_by rows ys = sum_by-append rows xs ys in
-    let c = counts_both first.schema 0 (width first.schema) (all_stats xs) (all_stats ys) (subst (λ (x : List (List Stat)). Counted (file_stats first.schema x)) stats room.counts) in
+    let c = counts_both first.schema 0 (width first.schema) (all_stats xs) (all_stats ys)
+    (subst (λ (x : List (List Stat)). Counted (file_stats first.schema x)) stats room.counts) in
     let ls : length (all_stripes (xs ++ ys)) ≤ 65536 = room.stripes in
     let lb : stripes_length (all_stripes (xs ++ ys)) ≤ 1099511627776 = room.bytes in
     let lr : sum_by rows (xs ++ ys) ≤ 1099511627776 = room.rows in (

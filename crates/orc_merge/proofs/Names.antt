@@ -8,7 +8,8 @@ use Rattle.orc_merge.specs.Merging.{same_name, without, distinct, Agree}
 
 -- ---- filters
 
-filter_of : {X : Type 0} (p : X → Bool) (a : Bool) (x : X) (us : List X) → filter p (cond a (x ∷ us) us) ≡ cond a (cond (p x) (x ∷ filter p us) (filter p us)) (filter p us)
+filter_of : {X : Type 0} (p : X → Bool) (a : Bool) (x : X) (us : List X)
+    → filter p (cond a (x ∷ us) us) ≡ cond a (cond (p x) (x ∷ filter p us) (filter p us)) (filter p us)
 filter_of p true x us = refl
 filter_of p false x us = refl
 
@@ -74,21 +75,24 @@ distinct-append_left (p ∷ xs) ys =
     let t : UserMetadataItem → Bool = λ q. not (same_name p q) in
     ap (λ (r : List UserMetadataItem). p ∷ r) (
     sym (distinct-without p (without p (distinct xs) ++ ys))
-    ∙ ap distinct (filter-append t (without p (distinct xs)) ys ∙ ap (λ (r : List UserMetadataItem). r ++ without p ys) (without_twice p (distinct xs)) ∙ sym (filter-append t (distinct xs) ys))
+    ∙ ap distinct (filter-append t (without p (distinct xs)) ys ∙ ap (λ (r : List UserMetadataItem). r ++ without p ys) (without_twice p (distinct xs))
+    ∙ sym (filter-append t (distinct xs) ys))
     ∙ distinct-without p (distinct xs ++ ys)
     ∙ ap (without p) (distinct-append_left xs ys))
 
 pub distinct-distinct : (xs : List UserMetadataItem) → distinct (distinct xs) ≡ distinct xs
 distinct-distinct [] = refl
 distinct-distinct (p ∷ xs) =
-    ap (λ (r : List UserMetadataItem). p ∷ r) (ap (without p) (distinct-without p (distinct xs)) ∙ without_twice p (distinct (distinct xs)) ∙ ap (without p) (distinct-distinct xs))
+    ap (λ (r : List UserMetadataItem). p ∷ r) (ap (without p) (distinct-without p (distinct xs)) ∙ without_twice p (distinct (distinct xs))
+    ∙ ap (without p) (distinct-distinct xs))
 
 pub distinct-append_right : (xs ys : List UserMetadataItem) → distinct (xs ++ distinct ys) ≡ distinct (xs ++ ys)
 distinct-append_right [] ys = distinct-distinct ys
 distinct-append_right (p ∷ xs) ys = ap (λ (r : List UserMetadataItem). p ∷ without p r) (distinct-append_right xs ys)
 
 -- what is new in two lists is told by what is new in each
-pub distinct_together : (xs ys us vs : List UserMetadataItem) → distinct xs ≡ distinct us → distinct ys ≡ distinct vs → distinct (xs ++ ys) ≡ distinct (us ++ vs)
+pub distinct_together : (xs ys us vs : List UserMetadataItem) → distinct xs ≡ distinct us → distinct ys ≡ distinct vs
+    → distinct (xs ++ ys) ≡ distinct (us ++ vs)
 distinct_together xs ys us vs e f =
     let A : List UserMetadataItem → List UserMetadataItem → List UserMetadataItem = λ a b. distinct (a ++ b) in
     sym (distinct-append_left xs ys) ∙ sym (distinct-append_right (distinct xs) ys)
@@ -155,8 +159,10 @@ same_pair p q e f = ap (λ (n : List ℕ). pair n p.value) e ∙ ap (pair q.name
 pub Agree-tail : (p : UserMetadataItem) (xs : List UserMetadataItem) → Agree (p ∷ xs) → Agree xs
 Agree-tail p xs a = λ q r c d. a q r (in_tail p xs q c) (in_tail p xs r d)
 
-kept : (q p : UserMetadataItem) (xs : List UserMetadataItem) → (q.name ≡ p.name → q ≡ p) → Contains (distinct xs) p → (b : Bool) → same_name q p ≡ b → Contains (distinct (q ∷ xs)) p
-kept q p xs one h true e = subst (λ (r : UserMetadataItem). Contains (distinct (q ∷ xs)) r) (one (same_text q.name p.name (sym e))) (in_head q (without q (distinct xs)))
+kept : (q p : UserMetadataItem) (xs : List UserMetadataItem) → (q.name ≡ p.name → q ≡ p) → Contains (distinct xs) p → (b : Bool) → same_name q p ≡ b
+    → Contains (distinct (q ∷ xs)) p
+kept q p xs one h true e = subst (λ (r : UserMetadataItem). Contains (distinct (q ∷ xs)) r) (one (same_text q.name p.name (sym e)))
+    (in_head q (without q (distinct xs)))
 kept q p xs one h false e = in_tail q (without q (distinct xs)) p (into_filter (λ (x : UserMetadataItem). not (same_name q x)) (distinct xs) p h (ap not e))
 
 -- where pairs of one name have one value, none is lost

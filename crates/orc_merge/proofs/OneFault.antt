@@ -16,12 +16,14 @@ one_tail : (ts : List Tail) (t u : Tail) → Merged ts t → Merged ts u → u �
 one_tail [] t u m n = absurd m
 one_tail (x ∷ xs) t u m n = n.1 ∙ sym m.1
 
-pub one_merge : (inputs : List (List ℕ)) (tail other : Tail) (out bytes : List ℕ) → IsMerge inputs tail out → IsMerge inputs other bytes → (other ≡ tail) × (bytes ≡ out)
+pub one_merge : (inputs : List (List ℕ)) (tail other : Tail) (out bytes : List ℕ) → IsMerge inputs tail out → IsMerge inputs other bytes
+    → (other ≡ tail) × (bytes ≡ out)
 one_merge inputs tail other out bytes m n =
     let tails : n.tails ≡ m.tails = one_opened inputs n.tails m.tails n.opened m.opened in
     let same : other ≡ tail = one_tail m.tails tail other m.merged (subst (λ (ts : List Tail). Merged ts other) tails n.merged) in (
       same,
-      n.written ∙ ap (λ (ts : List Tail). image (concat (bodies inputs ts)) other) tails ∙ ap (λ (t : Tail). image (concat (bodies inputs m.tails)) t) same ∙ sym m.written,
+      n.written ∙ ap (λ (ts : List Tail). image (concat (bodies inputs ts)) other) tails ∙ ap (λ (t : Tail). image (concat (bodies inputs m.tails)) t) same
+          ∙ sym m.written,
     )
 
 -- ---- one fault of the next input
@@ -65,17 +67,20 @@ none_opened [] rest bytes o = o
 none_opened (x ∷ front) rest bytes o = o
 
 -- an input that is refused isn't among those that are gathered
-not_gathered : (inputs : List (List ℕ)) (fault : MergeFault) (r : IsRefusedAt inputs fault) (mid : List (List ℕ)) (ts : List Tail) → AreOpened (r.front ++ r.bytes ∷ mid) ts → AreGathered ts → ⊥
+not_gathered : (inputs : List (List ℕ)) (fault : MergeFault) (r : IsRefusedAt inputs fault) (mid : List (List ℕ)) (ts : List Tail)
+    → AreOpened (r.front ++ r.bytes ∷ mid) ts → AreGathered ts → ⊥
 not_gathered inputs fault r mid [] o g = none_opened r.front mid r.bytes o
 not_gathered inputs fault r mid (t ∷ ts) o g =
     no_refusal (r.front ++ r.bytes ∷ mid) t ts fault o g
     (inr (record { front = r.front; bytes = r.bytes; rest = mid; tails = r.tails; parts = refl; opened = r.opened; gathered = r.gathered; fails = r.fails }))
 
-one_place : (inputs : List (List ℕ)) (e f : MergeFault) (r : IsRefusedAt inputs e) (s : IsRefusedAt inputs f) → r.front ≡ s.front → r.bytes ≡ s.bytes → AreOne e f
+one_place : (inputs : List (List ℕ)) (e f : MergeFault) (r : IsRefusedAt inputs e) (s : IsRefusedAt inputs f) → r.front ≡ s.front → r.bytes ≡ s.bytes
+    → AreOne e f
 one_place inputs e f r s front bytes =
     let opened : AreOpened s.front r.tails = subst (λ (x : List (List ℕ)). AreOpened x r.tails) front r.opened in
     let tails : r.tails ≡ s.tails = one_opened s.front r.tails s.tails opened s.opened in
-    one_input s.tails s.bytes e f (subst (λ (b : List ℕ). InputFault s.tails b e) bytes (subst (λ (ts : List Tail). InputFault ts r.bytes e) tails r.fails)) s.fails
+    one_input s.tails s.bytes e f (subst (λ (b : List ℕ). InputFault s.tails b e) bytes (subst (λ (ts : List Tail). InputFault ts r.bytes e) tails r.fails))
+    s.fails
 
 one_refusal : (inputs : List (List ℕ)) (e f : MergeFault) → IsRefusedAt inputs e → IsRefusedAt inputs f → AreOne e f
 one_refusal inputs e f r s = elim (compared r.front s.front r.bytes s.bytes r.rest s.rest (sym r.parts ∙ s.parts)) [

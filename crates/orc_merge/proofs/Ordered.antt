@@ -2,7 +2,8 @@
 use Rattle.std.proofs.Common.{◌≡◌, ℕ, zero, suc, List, [], ◌∷◌, ◌++◌, length, take, drop, refl, sym, ap, ◌∙◌, subst, arith, append_assoc}
 use Rattle.std.specs.Prelude.{IsPermutation, sum_by}
 use Rattle.std.specs.List.{AllByRecursion, concat, flat_map}
-use Rattle.std.proofs.lemmas.List.Sorted.{IsPermutation-refl, IsPermutation-trans, IsPermutation-sym, IsPermutation-append, IsPermutation-append_comm, All-permutation, Contains-permutation, length_permutation, sum_by-IsPermutation}
+use Rattle.std.proofs.lemmas.List.Sorted.{IsPermutation-refl, IsPermutation-trans, IsPermutation-sym, IsPermutation-append, IsPermutation-append_comm}
+use Rattle.std.proofs.lemmas.List.Sorted.{All-permutation, Contains-permutation, length_permutation, sum_by-IsPermutation}
 use Rattle.std.proofs.lemmas.List.Elements.{All-from_recursion, recursion_from_All}
 use Rattle.orc_wire.specs.declared.stripe_info.StripeInfo.{StripeInfo}
 use Rattle.orc_types.specs.Shapes.{Shape, width}
@@ -13,7 +14,8 @@ use Rattle.orc_file.specs.Stripes.{stripes_length}
 use Rattle.orc_file.specs.Statistics.{kind_at}
 use Rattle.orc_file.specs.Images.{image, IsWithinLimits}
 use Rattle.orc_file.specs.declared.tail.Tail.{Tail}
-use Rattle.orc_merge.specs.Merging.{Agree, column_stats, of_columns, file_stats, all_stripes, all_stats, all_pairs, merged, IsLike, CanMerge, Merged, AreOpened, bodies, IsMerge}
+use Rattle.orc_merge.specs.Merging.{Agree, column_stats, of_columns, file_stats, all_stripes, all_stats, all_pairs, merged, IsLike, CanMerge, Merged}
+use Rattle.orc_merge.specs.Merging.{AreOpened, bodies, IsMerge}
 use Rattle.orc_merge.proofs.Reordered.{Reordered, nil, cons, first_two, trans, of_permutation}
 use Rattle.orc_merge.proofs.Limits.{Counted, HasRoom, room_of, limits_of}
 use Rattle.orc_merge.proofs.Opened.{all_sound, one_opened}
@@ -28,7 +30,8 @@ flat_permuted f (cons x xs ys r) = IsPermutation-append (f x) (f x) (flat_map f 
 flat_permuted {X} {A} f (first_two x y xs) =
     subst (λ (l : List A). IsPermutation l (f y ++ (f x ++ flat_map f xs))) (append_assoc (f x) (f y) (flat_map f xs)) (
     subst (λ (l : List A). IsPermutation (f x ++ f y ++ flat_map f xs) l) (append_assoc (f y) (f x) (flat_map f xs)) (
-    IsPermutation-append (f x ++ f y) (f y ++ f x) (flat_map f xs) (flat_map f xs) (IsPermutation-append_comm (f x) (f y)) (IsPermutation-refl (flat_map f xs))))
+    IsPermutation-append (f x ++ f y) (f y ++ f x) (flat_map f xs) (flat_map f xs) (IsPermutation-append_comm (f x) (f y))
+    (IsPermutation-refl (flat_map f xs))))
 flat_permuted f (trans xs ys zs r s) = IsPermutation-trans (flat_map f xs) (flat_map f ys) (flat_map f zs) (flat_permuted f r) (flat_permuted f s)
 
 pub flat_map-permutation : {X A : Type 0} (f : X → List A) (xs ys : List X) → IsPermutation xs ys → IsPermutation (flat_map f xs) (flat_map f ys)
@@ -60,7 +63,8 @@ alike_any first xs ys p a = recursion_from_All (IsLike first) ys (All-permutatio
 
 agree_any : (xs ys : List Tail) → IsPermutation xs ys → Agree (all_pairs xs) → Agree (all_pairs ys)
 agree_any xs ys p a =
-    let back : IsPermutation (all_pairs ys) (all_pairs xs) = IsPermutation-sym (all_pairs xs) (all_pairs ys) (flat_map-permutation (λ (t : Tail). t.user) xs ys p) in
+    let back : IsPermutation (all_pairs ys) (all_pairs xs) = IsPermutation-sym (all_pairs xs) (all_pairs ys)
+    (flat_map-permutation (λ (t : Tail). t.user) xs ys p) in
     λ q r c d. a q r (Contains-permutation (all_pairs ys) (all_pairs xs) q back c) (Contains-permutation (all_pairs ys) (all_pairs xs) r back d)
 
 room_any : (x y : Tail) (xs ys : List Tail) → IsPermutation xs ys → y.schema ≡ x.schema → HasRoom x xs → HasRoom y ys
@@ -70,7 +74,8 @@ room_any x y xs ys p e l =
     let n : length (all_stripes ys) ≡ length (all_stripes xs) = length_permutation (all_stripes xs) (all_stripes ys) stripes in
     let b : stripes_length (all_stripes xs) ≡ stripes_length (all_stripes ys) = bytes_permuted (of_permutation (all_stripes xs) (all_stripes ys) stripes) in
     let r : sum_by rows ys ≡ sum_by rows xs = sum_by-IsPermutation rows xs ys p in
-    let c : file_stats x.schema (all_stats xs) ≡ file_stats y.schema (all_stats ys) = file_stats_same x.schema xs ys p ∙ ap (λ (s : Shape). file_stats s (all_stats ys)) (sym e) in
+    let c : file_stats x.schema (all_stats xs) ≡ file_stats y.schema (all_stats ys) = file_stats_same x.schema xs ys p
+    ∙ ap (λ (s : Shape). file_stats s (all_stats ys)) (sym e) in
     let few = l.stripes in let bytes = l.bytes in let all = l.rows in
     record {
       stripes = omega (arith, n, few);
@@ -97,7 +102,8 @@ opened_any (trans xs ys zs r s) ts o =
 permuted : {X : Type 0} {xs ys : List X} → Reordered xs ys → IsPermutation xs ys
 permuted {X} nil = IsPermutation-refl []
 permuted {X} (cons x xs ys r) = IsPermutation-append (x ∷ []) (x ∷ []) xs ys (IsPermutation-refl (x ∷ [])) (permuted r)
-permuted {X} (first_two x y xs) = IsPermutation-append (x ∷ (y ∷ [])) (y ∷ (x ∷ [])) xs xs (IsPermutation-append_comm (x ∷ []) (y ∷ [])) (IsPermutation-refl xs)
+permuted {X} (first_two x y xs) = IsPermutation-append (x ∷ (y ∷ [])) (y ∷ (x ∷ [])) xs xs (IsPermutation-append_comm (x ∷ []) (y ∷ []))
+    (IsPermutation-refl xs)
 permuted {X} (trans xs ys zs r s) = IsPermutation-trans xs ys zs (permuted r) (permuted s)
 
 can_any : (x : Tail) (xs us : List Tail) → Reordered (x ∷ xs) us → CanMerge x (x ∷ xs) → AllByRecursion IsWithinLimits us → (tail : Tail) × Merged us tail
@@ -118,7 +124,8 @@ can_any x xs (y ∷ ys) r c sound =
     )
 
 -- a merged file is there in any order
-pub any_order : (xs ys : List (List ℕ)) (tail : Tail) (out : List ℕ) → IsPermutation xs ys → IsMerge xs tail out → (other : Tail) × (bytes : List ℕ) × IsMerge ys other bytes
+pub any_order : (xs ys : List (List ℕ)) (tail : Tail) (out : List ℕ) → IsPermutation xs ys → IsMerge xs tail out
+    → (other : Tail) × (bytes : List ℕ) × IsMerge ys other bytes
 any_order xs ys tail out p m =
     let l = accepted xs tail out m in
     let o = opened_any (of_permutation xs ys p) (l.first ∷ l.rest) l.opened in
@@ -134,7 +141,8 @@ same_stats (x ∷ xs) (y ∷ ys) t u p m n =
     ∙ ap (λ (s : Shape). file_stats s (all_stats (y ∷ ys))) (sym like.0.schema) ∙ sym (ap (λ (t : Tail). t.file_stats) n.1)
 
 -- with the same statistics of the file
-pub order_same : (xs ys : List (List ℕ)) (tail other : Tail) (out bytes : List ℕ) → IsPermutation xs ys → IsMerge xs tail out → IsMerge ys other bytes → tail.file_stats ≡ other.file_stats
+pub order_same : (xs ys : List (List ℕ)) (tail other : Tail) (out bytes : List ℕ) → IsPermutation xs ys → IsMerge xs tail out → IsMerge ys other bytes
+    → tail.file_stats ≡ other.file_stats
 order_same xs ys tail other out bytes p m n =
     let o = opened_any (of_permutation xs ys p) m.tails m.opened in
     let same : n.tails ≡ o.0 = one_opened ys n.tails o.0 n.opened o.1 in

@@ -77,11 +77,13 @@ found_again front (b ∷ bs) back (s ∷ ss) e =
     let head : length b ≡ stripe_length s = cc in
     let rest : map length bs ≡ map stripe_length ss = cc in
     let all : List ℕ = front ++ ((b ++ concat bs) ++ back) in
-    let same : (front ++ b) ++ (concat bs ++ back) ≡ all = append_assoc front b (concat bs ++ back) ∙ ap (λ (x : List ℕ). front ++ x) (sym (append_assoc b (concat bs) back)) in
+    let same : (front ++ b) ++ (concat bs ++ back) ≡ all = append_assoc front b (concat bs ++ back)
+    ∙ ap (λ (x : List ℕ). front ++ x) (sym (append_assoc b (concat bs) back)) in
     let at : length (front ++ b) ≡ length front + stripe_length s = length-append front b ∙ ap (λ n. length front + n) head in
     let again : map (λ (s : StripeInfo). stripe_bytes s all) (placed (length front + stripe_length s) ss) ≡ bs =
     ap (λ n. map (λ (s : StripeInfo). stripe_bytes s all) (placed n ss)) (sym at)
     ∙ ap (λ (x : List ℕ). map (λ (s : StripeInfo). stripe_bytes s x) (placed (length (front ++ b)) ss)) (sym same)
     ∙ found_again (front ++ b) bs back ss rest in
-    ap (λ (x : List ℕ). x ∷ map (λ (s : StripeInfo). stripe_bytes s all) (placed (length front + stripe_length s) ss)) (cut front b (concat bs) back (stripe_length s) head)
+    ap (λ (x : List ℕ). x ∷ map (λ (s : StripeInfo). stripe_bytes s all) (placed (length front + stripe_length s) ss))
+    (cut front b (concat bs) back (stripe_length s) head)
     ∙ ap (λ (xs : List (List ℕ)). b ∷ xs) again

@@ -10,7 +10,8 @@ use Rattle.orc_merge.specs.declared.fault.MergeFault.{MergeFault}
 use Rattle.orc_merge.specs.declared.fault.MergeFault.TheVariants.{UserMetadataConflict, Limit}
 use Rattle.orc_merge.specs.Merging.{Agree, IsLike, CanMerge, all_pairs, merged, AreOpened, IsMerge, Merged}
 use Rattle.orc_merge.specs.Faults.{first_of, Tested, NextFault, AreGathered, InputFault, IsRefusedAt, IsRefused}
-use Rattle.orc_merge.specs.Grouping.{Group, Groups, input, merge, one, and, leaves, all_leaves, Gives, StepRefused, SomeRefused, AreShort, AllShort, AreFellows, ComesOfJoining, IsFlatRefused, IsStepRefused}
+use Rattle.orc_merge.specs.Grouping.{Group, Groups, input, merge, one, and, leaves, all_leaves, Gives, StepRefused, SomeRefused, AreShort, AllShort}
+use Rattle.orc_merge.specs.Grouping.{AreFellows, ComesOfJoining, IsFlatRefused, IsStepRefused}
 use Rattle.orc_merge.proofs.Same.{Same-refl, bare, bare_of_like, like_of_bare, merged_same, can_left, can_right, Agree-back}
 use Rattle.orc_merge.proofs.Limits.{Decided, within_limits}
 use Rattle.orc_merge.proofs.Opened.{opened_split, one_opened, all_sound}
@@ -42,8 +43,10 @@ no_next : (first : Tail) (tails : List Tail) (t : Tail) (fault : MergeFault) →
 no_next first tails t fault c n =
     let l : IsLike (first_of tails t) t = like_next first tails t c.alike in
     let limits : IsWithinLimits (merged (first_of tails t) (tails ++ t ∷ [])) =
-    subst IsWithinLimits (sym (merged_same (first_of tails t) first (tails ++ t ∷ []) (tails ++ t ∷ []) (bare_next first tails t c.alike) (Same-refl (tails ++ t ∷ [])))) c.limits in
-    passes _ fault l.schema (passes _ fault l.version (passes _ fault l.stride (passes _ fault l.other (passes _ fault c.agree (passes _ fault l.statistics (passes _ fault limits (λ h. h))))))) n
+    subst IsWithinLimits (sym (merged_same (first_of tails t) first (tails ++ t ∷ []) (tails ++ t ∷ []) (bare_next first tails t c.alike)
+    (Same-refl (tails ++ t ∷ [])))) c.limits in
+    passes _ fault l.schema (passes _ fault l.version (passes _ fault l.stride
+    (passes _ fault l.other (passes _ fault c.agree (passes _ fault l.statistics (passes _ fault limits (λ h. h))))))) n
 
 -- ---- no refusal
 
@@ -53,7 +56,8 @@ opened_push [] (u ∷ us) x t o p = absurd o
 opened_push (y ∷ ys) [] x t o p = absurd o
 opened_push (y ∷ ys) (u ∷ us) x t o p = (o.0, opened_push ys us x t o.1 p)
 
-no_failure : (first : Tail) (front rest : List (List ℕ)) (bytes : List ℕ) (tails us vs : List Tail) (fault : MergeFault) → AreOpened front us → AreOpened (bytes ∷ rest) vs
+no_failure : (first : Tail) (front rest : List (List ℕ)) (bytes : List ℕ) (tails us vs : List Tail) (fault : MergeFault) → AreOpened front us
+    → AreOpened (bytes ∷ rest) vs
     → IsWithinLimits first → CanMerge first (us ++ vs) → AreOpened front tails → InputFault tails bytes fault → ⊥
 no_failure first front rest bytes tails us [] fault o p w c t h = absurd p
 no_failure first front rest bytes tails us (v ∷ vs) fault o p w c t (inl h) = (tail_tests bytes).none v h.0 h.1 p.0
@@ -66,12 +70,14 @@ no_failure first front rest bytes tails us (v ∷ vs) fault o p w c t (inr h) =
     let can : CanMerge first (us ++ v ∷ []) = can_left first (us ++ v ∷ []) vs here behind (subst (CanMerge first) (sym (append_assoc us (v ∷ []) vs)) c) in
     no_next first us v fault can next
 
-no_refusal_at : (first : Tail) (inputs : List (List ℕ)) (ts : List Tail) (fault : MergeFault) → IsWithinLimits first → AreOpened inputs ts → CanMerge first ts → IsRefusedAt inputs fault → ⊥
+no_refusal_at : (first : Tail) (inputs : List (List ℕ)) (ts : List Tail) (fault : MergeFault) → IsWithinLimits first → AreOpened inputs ts
+    → CanMerge first ts → IsRefusedAt inputs fault → ⊥
 no_refusal_at first inputs ts fault w o c r =
     let cut = opened_split r.front (r.bytes ∷ r.rest) ts (subst (λ (x : List (List ℕ)). AreOpened x ts) r.parts o) in
     no_failure first r.front r.rest r.bytes r.tails cut.0 cut.1 fault cut.2 cut.3 w (subst (CanMerge first) cut.4 c) r.opened r.fails
 
-pub no_refusal : (inputs : List (List ℕ)) (first : Tail) (rest : List Tail) (fault : MergeFault) → AreOpened inputs (first ∷ rest) → CanMerge first (first ∷ rest) → IsRefused inputs fault → ⊥
+pub no_refusal : (inputs : List (List ℕ)) (first : Tail) (rest : List Tail) (fault : MergeFault) → AreOpened inputs (first ∷ rest)
+    → CanMerge first (first ∷ rest) → IsRefused inputs fault → ⊥
 no_refusal inputs first rest fault o c (inl h) = subst (λ (x : List (List ℕ)). AreOpened x (first ∷ rest)) h.0 o
 no_refusal inputs first rest fault o c (inr h) = let w = all_sound inputs (first ∷ rest) o in no_refusal_at first inputs (first ∷ rest) fault w.0 o c h
 
@@ -91,7 +97,8 @@ pub alike_from : (first x : Tail) → IsLike first x → (ys : List Tail) → Al
 alike_from first x l [] a = tt
 alike_from first x l (y ∷ ys) a = (like_between first x y l a.0, alike_from first x l ys a.1)
 
-alike_first : (first : Tail) (tails : List Tail) (t : Tail) → AllByRecursion (IsLike first) (tails ++ t ∷ []) → AllByRecursion (IsLike (first_of tails t)) (tails ++ t ∷ [])
+alike_first : (first : Tail) (tails : List Tail) (t : Tail) → AllByRecursion (IsLike first) (tails ++ t ∷ [])
+    → AllByRecursion (IsLike (first_of tails t)) (tails ++ t ∷ [])
 alike_first first [] t a = alike_from first t a.0 (t ∷ []) a
 alike_first first (x ∷ xs) t a = alike_from first x a.0 (x ∷ (xs ++ t ∷ [])) a
 
@@ -146,7 +153,8 @@ gather_one first front xs x tails ts t o p a g (inl agree) (inr no_limits) next 
     )
 gather_one first front xs x tails ts t o p a g (inl agree) (inl limits) next = next (gathered_next first tails t a agree limits)
 
-gather : (first : Tail) (front xs : List (List ℕ)) (tails ts : List Tail) → AreOpened front tails → AreOpened xs ts → AllByRecursion (IsLike first) (tails ++ ts) → AreGathered tails
+gather : (first : Tail) (front xs : List (List ℕ)) (tails ts : List Tail) → AreOpened front tails → AreOpened xs ts
+    → AllByRecursion (IsLike first) (tails ++ ts) → AreGathered tails
     → AreGathered (tails ++ ts) ⊎ IsRefusedSo (front ++ xs)
 gather first front [] tails [] o p a g = inl (subst AreGathered (sym (append-nil tails)) g)
 gather first front [] tails (t ∷ ts) o p a g = absurd p
@@ -155,7 +163,8 @@ gather first front (x ∷ xs) tails (t ∷ ts) o p a g =
     let all : AllByRecursion (IsLike first) ((tails ++ t ∷ []) ++ ts) = subst (AllByRecursion (IsLike first)) (sym (append_assoc tails (t ∷ []) ts)) a in
     let sound : AllByRecursion IsWithinLimits (tails ++ t ∷ []) = all_sound (front ++ x ∷ []) (tails ++ t ∷ []) (opened_push front tails x t o p.0) in
     gather_one first front xs x tails (tails ++ t ∷ ts) t o p.0 (alike_front first (tails ++ t ∷ []) ts all) g
-    (agreeing (all_pairs (tails ++ t ∷ []))) (within_limits (first_of tails t) (tails ++ t ∷ []) (sound_first tails t sound) sound (alike_first first tails t (alike_front first (tails ++ t ∷ []) ts all)))
+    (agreeing (all_pairs (tails ++ t ∷ []))) (within_limits (first_of tails t) (tails ++ t ∷ []) (sound_first tails t sound) sound
+    (alike_first first tails t (alike_front first (tails ++ t ∷ []) ts all)))
     (λ next. subst (λ (z : List (List ℕ)). AreGathered (tails ++ t ∷ ts) ⊎ IsRefusedSo z) (append_assoc front (x ∷ []) xs) (
     subst (λ (z : List Tail). AreGathered z ⊎ IsRefusedSo ((front ++ x ∷ []) ++ xs)) (append_assoc tails (t ∷ []) ts) (
     gather first (front ++ x ∷ []) xs (tails ++ t ∷ []) ts (opened_push front tails x t o p.0) p.1 all next)))
@@ -169,7 +178,8 @@ abbrev SomeSo : Groups → Type 0
 SomeSo gs = (fault : MergeFault) × ComesOfJoining fault × SomeRefused gs fault
 
 try_step : (gs : Groups) (first : Tail) (ts : List Tail) (a : AllGiven first gs ts) → CanMerge a.head (a.head ∷ a.rest) ⊎ IsRefusedSo a.files
-try_step gs first ts a = gather a.head [] a.files [] (a.head ∷ a.rest) tt a.opened (alike_of_fellows first a.head (a.head ∷ a.rest) a.fellows.0.bare a.fellows) tt
+try_step gs first ts a = gather a.head [] a.files [] (a.head ∷ a.rest) tt a.opened
+    (alike_of_fellows first a.head (a.head ∷ a.rest) a.fellows.0.bare a.fellows) tt
 
 step_of : (first : Tail) (gs : Groups) (ts : List Tail) → ((out : List ℕ) → Gives (merge gs) out → length out < 18446744073709551616)
     → AllGiven first gs ts ⊎ SomeSo gs → Given first (merge gs) ts ⊎ StepSo (merge gs)
@@ -183,7 +193,8 @@ one_of : (first : Tail) (g : Group) (ts : List Tail) → Given first g ts ⊎ St
 one_of first g ts (inl a) = inl (all_given_one first g ts a)
 one_of first g ts (inr s) = inr s
 
-and_of : (first : Tail) (g : Group) (gs : Groups) (us vs : List Tail) → AreOpened (leaves g) us → Given first g us ⊎ StepSo g → AllGiven first gs vs ⊎ SomeSo gs
+and_of : (first : Tail) (g : Group) (gs : Groups) (us vs : List Tail) → AreOpened (leaves g) us → Given first g us ⊎ StepSo g
+    → AllGiven first gs vs ⊎ SomeSo gs
     → AllGiven first (and g gs) (us ++ vs) ⊎ SomeSo (and g gs)
 and_of first g gs us vs o (inl a) (inl b) = inl (all_given_and first g gs us vs o a b)
 and_of first g gs us vs o (inl a) (inr s) = inr (s.0, s.1, inr s.2)
@@ -198,7 +209,8 @@ mutual
   try first (input bytes) ts o a s = inl (given_input first bytes ts o a)
   try first (merge gs) ts o a s = step_of first gs ts s.0 (try_all first gs ts o a s.1)
 
-  try_all : (first : Tail) (gs : Groups) (ts : List Tail) → AreOpened (all_leaves gs) ts → AllByRecursion (IsLike first) ts → AllShort gs → AllGiven first gs ts ⊎ SomeSo gs
+  try_all : (first : Tail) (gs : Groups) (ts : List Tail) → AreOpened (all_leaves gs) ts → AllByRecursion (IsLike first) ts → AllShort gs
+      → AllGiven first gs ts ⊎ SomeSo gs
   try_all first (one g) ts o a s = one_of first g ts (try first g ts o a s)
   try_all first (and g gs) ts o a s =
       let cut = opened_split (leaves g) (all_leaves gs) ts o in
@@ -208,7 +220,8 @@ mutual
       (try_all first gs cut.1 cut.3 (alike_back first cut.0 cut.1 all) s.1))
 
 -- what was given can be merged at once where it can be in the last step
-at_once : (first : Tail) (gs : Groups) (ts : List Tail) (a : AllGiven first gs ts) → AllByRecursion (IsLike first) ts → CanMerge a.head (a.head ∷ a.rest) → CanMerge first ts
+at_once : (first : Tail) (gs : Groups) (ts : List Tail) (a : AllGiven first gs ts) → AllByRecursion (IsLike first) ts → CanMerge a.head (a.head ∷ a.rest)
+    → CanMerge first ts
 at_once first gs ts a alike can = record {
   alike = alike;
   agree = Agree-back (a.head ∷ a.rest) ts a.same can.agree;
@@ -223,14 +236,16 @@ last_step gs w r (inl a) = elim (try_step gs w.first (w.first ∷ w.rest) a) [
 ]
 
 mutual
-  no_step : (first : Tail) (g : Group) (ts : List Tail) (fault : MergeFault) → IsWithinLimits first → AreOpened (leaves g) ts → CanMerge first ts → AreShort g → StepRefused g fault → ⊥
+  no_step : (first : Tail) (g : Group) (ts : List Tail) (fault : MergeFault) → IsWithinLimits first → AreOpened (leaves g) ts → CanMerge first ts
+      → AreShort g → StepRefused g fault → ⊥
   no_step first (input bytes) ts fault w o c s r = r
   no_step first (merge gs) ts fault w o c s (inl r) = no_some first gs ts fault w o c s.1 r
   no_step first (merge gs) ts fault w o c s (inr r) =
       let a = all_given first gs ts w o c s.1 in
       no_refusal a.files a.head a.rest fault a.opened (can_step first gs ts a c) (subst (λ (x : List (List ℕ)). IsRefused x fault) (a.only r.0 r.1) r.2)
 
-  no_some : (first : Tail) (gs : Groups) (ts : List Tail) (fault : MergeFault) → IsWithinLimits first → AreOpened (all_leaves gs) ts → CanMerge first ts → AllShort gs → SomeRefused gs fault → ⊥
+  no_some : (first : Tail) (gs : Groups) (ts : List Tail) (fault : MergeFault) → IsWithinLimits first → AreOpened (all_leaves gs) ts → CanMerge first ts
+      → AllShort gs → SomeRefused gs fault → ⊥
   no_some first (one g) ts fault w o c s r = no_step first g ts fault w o c s r
   no_some first (and g gs) ts fault w o c s (inl r) =
       let cut = opened_split (leaves g) (all_leaves gs) ts o in
@@ -243,14 +258,17 @@ mutual
       let behind = sound_of first (all_leaves gs) cut.1 w cut.3 in
       no_some first gs cut.1 fault w cut.3 (can_right first cut.0 cut.1 here behind (subst (CanMerge first) cut.4 c)) s.1 r
 
-root_refused : (first : Tail) (gs : Groups) (ts : List Tail) (fault : MergeFault) → IsWithinLimits first → AreOpened (all_leaves gs) ts → CanMerge first ts → AllShort gs → StepRefused (merge gs) fault → ⊥
+root_refused : (first : Tail) (gs : Groups) (ts : List Tail) (fault : MergeFault) → IsWithinLimits first → AreOpened (all_leaves gs) ts → CanMerge first ts
+    → AllShort gs → StepRefused (merge gs) fault → ⊥
 root_refused first gs ts fault w o c s (inl r) = no_some first gs ts fault w o c s r
 root_refused first gs ts fault w o c s (inr r) =
     let a = all_given first gs ts w o c s in
     no_refusal a.files a.head a.rest fault a.opened (can_step first gs ts a c) (subst (λ (x : List (List ℕ)). IsRefused x fault) (a.only r.0 r.1) r.2)
 
-flat_so : (gs : Groups) (w : AreFellows (all_leaves gs)) → AllShort gs → IsStepRefused gs → CanMerge w.first (w.first ∷ w.rest) ⊎ IsRefusedSo (all_leaves gs) → IsFlatRefused gs
-flat_so gs w s r (inl can) = absurd (root_refused w.first gs (w.first ∷ w.rest) r.0 (all_sound (all_leaves gs) (w.first ∷ w.rest) w.opened).0 w.opened can s r.2)
+flat_so : (gs : Groups) (w : AreFellows (all_leaves gs)) → AllShort gs → IsStepRefused gs
+    → CanMerge w.first (w.first ∷ w.rest) ⊎ IsRefusedSo (all_leaves gs) → IsFlatRefused gs
+flat_so gs w s r (inl can) = absurd (root_refused w.first gs (w.first ∷ w.rest) r.0
+    (all_sound (all_leaves gs) (w.first ∷ w.rest) w.opened).0 w.opened can s r.2)
 flat_so gs w s r (inr h) = (h.0, h.1, inr h.2)
 
 pub grouping_refused : (gs : Groups) → AllShort gs → AreFellows (all_leaves gs) → IsFlatRefused gs ↔ IsStepRefused gs

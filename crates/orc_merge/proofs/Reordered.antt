@@ -22,7 +22,8 @@ exchanged x (y ∷ ys) (suc j) d lt =
     let less : j < length ys = omega (arith, lt) in
     trans _ _ _ (first_two x y ys) (trans _ _ _ (cons y _ _ (exchanged x ys j d less)) (first_two y (slice_index_or ys j d) (slice_set ys j x)))
 
-swapped : {X : Type 0} (xs : List X) (i j : ℕ) (d : X) → i < length xs → j < length xs → Reordered xs (slice_set (slice_set xs i (slice_index_or xs j d)) j (slice_index_or xs i d))
+swapped : {X : Type 0} (xs : List X) (i j : ℕ) (d : X) → i < length xs → j < length xs
+    → Reordered xs (slice_set (slice_set xs i (slice_index_or xs j d)) j (slice_index_or xs i d))
 swapped [] i j d a b = nil
 swapped (x ∷ xs) zero zero d a b = Reordered-refl (x ∷ xs)
 swapped (x ∷ xs) zero (suc j) d a b = let lt : j < length xs = omega (arith, b) in exchanged x xs j d lt
@@ -36,4 +37,5 @@ of_swap [] i j a b = nil
 of_swap (x ∷ xs) i j a b = swapped (x ∷ xs) i j x a b
 
 pub of_permutation : {X : Type 0} (xs ys : List X) → IsPermutation xs ys → Reordered xs ys
-of_permutation {X} xs ys p = IsPermutation-keeps xs (λ (zs : List X). Reordered xs zs) (Reordered-refl xs) (λ l i j a b r. trans xs l (swap l i j) r (of_swap l i j a b)) ys p
+of_permutation {X} xs ys p = IsPermutation-keeps xs (λ (zs : List X). Reordered xs zs) (Reordered-refl xs)
+    (λ l i j a b r. trans xs l (swap l i j) r (of_swap l i j a b)) ys p

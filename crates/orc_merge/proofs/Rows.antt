@@ -26,27 +26,31 @@ AreStripes s (i ∷ is) [] parts = ⊥
 AreStripes s (i ∷ is) (b ∷ bs) [] = ⊥
 AreStripes s (i ∷ is) (b ∷ bs) (rows ∷ parts) = IsStripe s i b rows × AreStripes s is bs parts
 
-pub of_file : (s : Shape) (bytes : List ℕ) (is : List StripeInfo) (parts : List (List Cell)) → AreOfStripes s bytes is parts → AreStripes s is (map (λ (i : StripeInfo). stripe_bytes i bytes) is) parts
+pub of_file : (s : Shape) (bytes : List ℕ) (is : List StripeInfo) (parts : List (List Cell)) → AreOfStripes s bytes is parts
+    → AreStripes s is (map (λ (i : StripeInfo). stripe_bytes i bytes) is) parts
 of_file s bytes [] [] h = tt
 of_file s bytes [] (rows ∷ parts) h = absurd h
 of_file s bytes (i ∷ is) [] h = absurd h
 of_file s bytes (i ∷ is) (rows ∷ parts) h = (h.0, of_file s bytes is parts h.1)
 
-pub in_file : (s : Shape) (bytes : List ℕ) (is : List StripeInfo) (parts : List (List Cell)) → AreStripes s is (map (λ (i : StripeInfo). stripe_bytes i bytes) is) parts → AreOfStripes s bytes is parts
+pub in_file : (s : Shape) (bytes : List ℕ) (is : List StripeInfo) (parts : List (List Cell))
+    → AreStripes s is (map (λ (i : StripeInfo). stripe_bytes i bytes) is) parts → AreOfStripes s bytes is parts
 in_file s bytes [] [] h = tt
 in_file s bytes [] (rows ∷ parts) h = absurd h
 in_file s bytes (i ∷ is) [] h = absurd h
 in_file s bytes (i ∷ is) (rows ∷ parts) h = (h.0, in_file s bytes is parts h.1)
 
 -- a stripe's place says nothing of its rows
-moved : (s : Shape) (info : StripeInfo) (at : ℕ) (bytes : List ℕ) (rows : List Cell) → IsStripe s info bytes rows → IsStripe s (record info { offset = at }) bytes rows
+moved : (s : Shape) (info : StripeInfo) (at : ℕ) (bytes : List ℕ) (rows : List Cell) → IsStripe s info bytes rows
+    → IsStripe s (record info { offset = at }) bytes rows
 moved s info at bytes rows h = record {
   footer = h.footer;
   has_footer = record { whole = h.has_footer.whole; read = h.has_footer.read; directory = h.has_footer.directory; encodings = h.has_footer.encodings };
   spelled = h.spelled;
 }
 
-stripes_placed : (s : Shape) (at : ℕ) (is : List StripeInfo) (bs : List (List ℕ)) (parts : List (List Cell)) → AreStripes s is bs parts → AreStripes s (placed at is) bs parts
+stripes_placed : (s : Shape) (at : ℕ) (is : List StripeInfo) (bs : List (List ℕ)) (parts : List (List Cell)) → AreStripes s is bs parts
+    → AreStripes s (placed at is) bs parts
 stripes_placed s at [] [] [] h = tt
 stripes_placed s at [] [] (rows ∷ parts) h = absurd h
 stripes_placed s at [] (b ∷ bs) parts h = absurd h
@@ -54,7 +58,8 @@ stripes_placed s at (i ∷ is) [] parts h = absurd h
 stripes_placed s at (i ∷ is) (b ∷ bs) [] h = absurd h
 stripes_placed s at (i ∷ is) (b ∷ bs) (rows ∷ parts) h = (moved s i at b rows h.0, stripes_placed s (at + stripe_length i) is bs parts h.1)
 
-pub stripes-append : (s : Shape) (is js : List StripeInfo) (bs cs : List (List ℕ)) (parts more : List (List Cell)) → AreStripes s is bs parts → AreStripes s js cs more → AreStripes s (is ++ js) (bs ++ cs) (parts ++ more)
+pub stripes-append : (s : Shape) (is js : List StripeInfo) (bs cs : List (List ℕ)) (parts more : List (List Cell)) → AreStripes s is bs parts
+    → AreStripes s js cs more → AreStripes s (is ++ js) (bs ++ cs) (parts ++ more)
 stripes-append s [] js [] cs [] more h k = k
 stripes-append s [] js [] cs (rows ∷ parts) more h k = absurd h
 stripes-append s [] js (b ∷ bs) cs parts more h k = absurd h
@@ -73,7 +78,8 @@ pub record Parts (s : Shape) (is : List StripeInfo) (bs : List (List ℕ)) (rows
 pub joined-append : (parts more : List (List Cell)) → joined (parts ++ more) ≡ joined parts ++ joined more
 joined-append parts more = flat_map-append (λ (p : List Cell). p) parts more
 
-all_parts : (first : Tail) (xs : List (List ℕ)) (ts : List Tail) (rows : List (List Cell)) → AreOpened xs ts → AllByRecursion (IsLike first) ts → HaveRows xs rows
+all_parts : (first : Tail) (xs : List (List ℕ)) (ts : List Tail) (rows : List (List Cell)) → AreOpened xs ts → AllByRecursion (IsLike first) ts
+    → HaveRows xs rows
     → Parts first.schema (all_stripes ts) (bodies xs ts) (joined rows)
 all_parts first [] [] [] o a h = record { parts = []; stripes = tt; rows_are = refl }
 all_parts first [] [] (r ∷ rows) o a h = absurd h
@@ -87,8 +93,10 @@ all_parts first (x ∷ xs) (t ∷ ts) (r ∷ rows) o a h =
     let rest = all_parts first xs ts rows o.1 a.1 h.1 in
     record {
       parts = here.parts ++ rest.parts;
-      stripes = stripes-append first.schema t.stripes (all_stripes ts) (stripes_of x t) (bodies xs ts) here.parts rest.parts (of_file first.schema x t.stripes here.parts here.stripes) rest.stripes;
-      rows_are = flat_map-cons (λ (p : List Cell). p) r rows ∙ ap (λ (z : List Cell). z ++ joined rows) here.rows_are ∙ ap (λ (z : List Cell). joined here.parts ++ z) rest.rows_are
+      stripes = stripes-append first.schema t.stripes (all_stripes ts) (stripes_of x t) (bodies xs ts) here.parts rest.parts
+          (of_file first.schema x t.stripes here.parts here.stripes) rest.stripes;
+      rows_are = flat_map-cons (λ (p : List Cell). p) r rows ∙ ap (λ (z : List Cell). z ++ joined rows) here.rows_are
+          ∙ ap (λ (z : List Cell). joined here.parts ++ z) rest.rows_are
           ∙ sym (joined-append here.parts rest.parts);
     }
 
@@ -102,7 +110,8 @@ pub record Accepted (xs : List (List ℕ)) (tail : Tail) (out : List ℕ) : Type
   pub tail_is : tail ≡ merged first (first ∷ rest)
   pub out_is : out ≡ image (concat (bodies xs (first ∷ rest))) (merged first (first ∷ rest))
 
-accepted_of : (xs : List (List ℕ)) (tail : Tail) (out : List ℕ) (ts : List Tail) → AreOpened xs ts → Merged ts tail → out ≡ image (concat (bodies xs ts)) tail → Accepted xs tail out
+accepted_of : (xs : List (List ℕ)) (tail : Tail) (out : List ℕ) (ts : List Tail) → AreOpened xs ts → Merged ts tail
+    → out ≡ image (concat (bodies xs ts)) tail → Accepted xs tail out
 accepted_of xs tail out [] o m w = absurd m
 accepted_of xs tail out (t ∷ ts) o m w = record {
   first = t;
@@ -119,8 +128,10 @@ accepted xs tail out m = accepted_of xs tail out m.tails m.opened m.merged m.wri
 pub grouping_accepted : (xs : List (List ℕ)) (tail : Tail) (out : List ℕ) → IsMerge xs tail out → length out < 18446744073709551616 → IsTail out tail
 grouping_accepted xs tail out m short =
     let l = accepted xs tail out m in
-    let few : length (image (concat (bodies xs (l.first ∷ l.rest))) (merged l.first (l.first ∷ l.rest))) < 18446744073709551616 = subst (λ (x : List ℕ). length x < 18446744073709551616) l.out_is short in
-    subst (λ (x : List ℕ). IsTail x tail) (sym l.out_is) (subst (IsTail (image (concat (bodies xs (l.first ∷ l.rest))) (merged l.first (l.first ∷ l.rest)))) (sym l.tail_is) (stands xs l.first l.rest l.opened l.can few))
+    let few : length (image (concat (bodies xs (l.first ∷ l.rest))) (merged l.first (l.first ∷ l.rest))) < 18446744073709551616 = subst
+    (λ (x : List ℕ). length x < 18446744073709551616) l.out_is short in
+    subst (λ (x : List ℕ). IsTail x tail) (sym l.out_is) (subst (IsTail (image (concat (bodies xs (l.first ∷ l.rest))) (merged l.first (l.first ∷ l.rest))))
+    (sym l.tail_is) (stands xs l.first l.rest l.opened l.can few))
 
 -- the stripes of the merged file, by its bytes
 pub image_stripes : (xs : List (List ℕ)) (first : Tail) (rest : List Tail) (parts : List (List Cell)) → AreOpened xs (first ∷ rest)
@@ -132,7 +143,8 @@ image_stripes xs first rest parts o h =
     (subst (λ (b : List (List ℕ)). AreStripes first.schema (placed 3 (all_stripes (first ∷ rest))) b parts) (sym (stripes_of_image xs first rest o))
     (stripes_placed first.schema 3 (all_stripes (first ∷ rest)) (bodies xs (first ∷ rest)) parts h))
 
-pub grouping_rows : (xs : List (List ℕ)) (tail : Tail) (out : List ℕ) (rows : List (List Cell)) → IsMerge xs tail out → length out < 18446744073709551616 → HaveRows xs rows → FileIs out tail (joined rows)
+pub grouping_rows : (xs : List (List ℕ)) (tail : Tail) (out : List ℕ) (rows : List (List Cell)) → IsMerge xs tail out → length out < 18446744073709551616
+    → HaveRows xs rows → FileIs out tail (joined rows)
 grouping_rows xs tail out rows m short h =
     let l = accepted xs tail out m in
     let p = all_parts l.first xs (l.first ∷ l.rest) rows l.opened l.can.alike h in
@@ -141,5 +153,10 @@ grouping_rows xs tail out rows m short h =
     = subst (λ (x : List ℕ). AreOfStripes l.first.schema x (placed 3 (all_stripes (l.first ∷ l.rest))) p.parts) (sym l.out_is) there in
     record {
       tail_is = grouping_accepted xs tail out m short;
-      has_rows = record { parts = p.parts; stripes = subst (λ (u : Tail). AreOfStripes u.schema out u.stripes p.parts) (sym l.tail_is) in_out; rows_are = p.rows_are };
+      has_rows = record {
+        parts = p.parts;
+        stripes = subst (λ (u : Tail). AreOfStripes u.schema out u.stripes p.parts)
+            (sym l.tail_is) in_out;
+        rows_are = p.rows_are;
+      };
     }

@@ -30,7 +30,8 @@ pub record Same (us ts : List Tail) : Type 0 where
 pub Same-refl : (ts : List Tail) → Same ts ts
 Same-refl ts = record { stripes = refl; stats = refl; rows = refl; names = refl; into = λ p h. h; back = λ p h. h }
 
-either : (a b c d : List UserMetadataItem) (p : UserMetadataItem) → (Contains a p → Contains c p) → (Contains b p → Contains d p) → Contains (a ++ b) p → Contains (c ++ d) p
+either : (a b c d : List UserMetadataItem) (p : UserMetadataItem) → (Contains a p → Contains c p) → (Contains b p → Contains d p) → Contains (a ++ b) p
+    → Contains (c ++ d) p
 either a b c d p f g h = elim (Contains-append_cases a b p h) [ inl x ↦ Contains-append_left c d p (f x) | inr x ↦ Contains-append_right c d p (g x) ]
 
 pairs-append : (xs ys : List Tail) → all_pairs (xs ++ ys) ≡ all_pairs xs ++ all_pairs ys
@@ -52,10 +53,13 @@ pub Same-append : (us vs ts ws : List Tail) → Same us ts → Same vs ws → Sa
 Same-append us vs ts ws s t = record {
   stripes = unplaced-append us vs ∙ two _ _ _ _ s.stripes t.stripes ∙ sym (unplaced-append ts ws);
   stats = stats-append us vs ∙ two _ _ _ _ s.stats t.stats ∙ sym (stats-append ts ws);
-  rows = sum_by-append (λ (t : Tail). t.rows) us vs ∙ ap (λ n. n + sum_by (λ (t : Tail). t.rows) vs) s.rows ∙ ap (λ n. sum_by (λ (t : Tail). t.rows) ts + n) t.rows ∙ sym (sum_by-append (λ (t : Tail). t.rows) ts ws);
+  rows = sum_by-append (λ (t : Tail). t.rows) us vs ∙ ap (λ n. n + sum_by (λ (t : Tail). t.rows) vs) s.rows
+      ∙ ap (λ n. sum_by (λ (t : Tail). t.rows) ts + n) t.rows ∙ sym (sum_by-append (λ (t : Tail). t.rows) ts ws);
   names = ap distinct (pairs-append us vs) ∙ distinct_together _ _ _ _ s.names t.names ∙ ap distinct (sym (pairs-append ts ws));
-  into = λ p h. subst (λ (x : List UserMetadataItem). Contains x p) (sym (pairs-append ts ws)) (either _ _ _ _ p (s.into p) (t.into p) (subst (λ (x : List UserMetadataItem). Contains x p) (pairs-append us vs) h));
-  back = λ p h. subst (λ (x : List UserMetadataItem). Contains x p) (sym (pairs-append us vs)) (either _ _ _ _ p (s.back p) (t.back p) (subst (λ (x : List UserMetadataItem). Contains x p) (pairs-append ts ws) h));
+  into = λ p h. subst (λ (x : List UserMetadataItem). Contains x p) (sym (pairs-append ts ws))
+      (either _ _ _ _ p (s.into p) (t.into p) (subst (λ (x : List UserMetadataItem). Contains x p) (pairs-append us vs) h));
+  back = λ p h. subst (λ (x : List UserMetadataItem). Contains x p) (sym (pairs-append us vs))
+      (either _ _ _ _ p (s.back p) (t.back p) (subst (λ (x : List UserMetadataItem). Contains x p) (pairs-append ts ws) h));
 }
 
 pub Same-trans : (us vs ws : List Tail) → Same us vs → Same vs ws → Same us ws
@@ -103,7 +107,20 @@ merged_same u t us ts e s =
     ∙ ap (λ (x : ℕ). filled (bare t) (placed 3 (all_stripes ts)) (all_stats ts) (distinct (all_pairs ts)) x) s.rows
 
 abbrev plain : List ℕ → Option ℕ → Option ℕ → Shape → ℕ → List ℕ → Tail
-plain v w x s n o = record { version = v; writer = w; writer_version = x; schema = s; stripes = []; stripe_stats = []; file_stats = []; user = []; stride = n; rows = 0; other = o }
+plain v w x s n o = record {
+  version = v;
+  writer = w;
+  writer_version = x;
+  schema = s;
+  stripes = [];
+  stripe_stats = [];
+  file_stats = [];
+  user = [];
+  stride =
+      n;
+  rows = 0;
+  other = o;
+}
 
 pub bare_of_like : (first t : Tail) → IsLike first t → bare t ≡ bare first
 bare_of_like first t l =
@@ -117,7 +134,12 @@ bare_of_like first t l =
 pub like_of_bare : (first t : Tail) → bare t ≡ bare first → HasStatistics t → IsLike first t
 like_of_bare first t e h = record {
   schema = ap (λ (t : Tail). t.schema) e;
-  version = record { version = ap (λ (t : Tail). t.version) e; writer = ap (λ (t : Tail). t.writer) e; writer_version = ap (λ (t : Tail). t.writer_version) e };
+  version = record {
+    version = ap (λ (t : Tail). t.version) e;
+    writer = ap (λ (t : Tail). t.writer) e;
+    writer_version = ap
+        (λ (t : Tail). t.writer_version) e;
+  };
   stride = ap (λ (t : Tail). t.stride) e;
   other = ap (λ (t : Tail). t.other) e;
   statistics = h;
@@ -126,12 +148,14 @@ like_of_bare first t e h = record {
 -- ---- fewer inputs pass no limit that more do not pass
 
 pub limits_both : (first : Tail) (xs ys : List Tail) → IsWithinLimits first → AllByRecursion IsWithinLimits xs → AllByRecursion IsWithinLimits ys
-    → AllByRecursion (IsLike first) xs → AllByRecursion (IsLike first) ys → IsWithinLimits (merged first (xs ++ ys)) → IsWithinLimits (merged first xs) × IsWithinLimits (merged first ys)
+    → AllByRecursion (IsLike first) xs → AllByRecursion (IsLike first) ys → IsWithinLimits (merged first (xs ++ ys))
+    → IsWithinLimits (merged first xs) × IsWithinLimits (merged first ys)
 limits_both first xs ys f a b l m h =
     let room = room_both first xs ys (room_of first (xs ++ ys) h) in
     (limits_of first xs f a l room.0, limits_of first ys f b m room.1)
 
-alike_both : (first : Tail) (xs ys : List Tail) → AllByRecursion (IsLike first) (xs ++ ys) → AllByRecursion (IsLike first) xs × AllByRecursion (IsLike first) ys
+alike_both : (first : Tail) (xs ys : List Tail) → AllByRecursion (IsLike first) (xs ++ ys)
+    → AllByRecursion (IsLike first) xs × AllByRecursion (IsLike first) ys
 alike_both first [] ys all = (tt, all)
 alike_both first (x ∷ xs) ys all = let rest = alike_both first xs ys all.1 in ((all.0, rest.0), rest.1)
 
@@ -143,13 +167,15 @@ pub record AreSound (first : Tail) (ts : List Tail) : Type 0 where
 pub can_left : (first : Tail) (xs ys : List Tail) → AreSound first xs → AreSound first ys → CanMerge first (xs ++ ys) → CanMerge first xs
 can_left first xs ys a b c = let like = alike_both first xs ys c.alike in record {
   alike = like.0;
-  agree = λ p q d e. c.agree p q (subst (λ (x : List UserMetadataItem). Contains x p) (sym (pairs-append xs ys)) (Contains-append_left _ _ p d)) (subst (λ (x : List UserMetadataItem). Contains x q) (sym (pairs-append xs ys)) (Contains-append_left _ _ q e));
+  agree = λ p q d e. c.agree p q (subst (λ (x : List UserMetadataItem). Contains x p) (sym (pairs-append xs ys)) (Contains-append_left _ _ p d))
+      (subst (λ (x : List UserMetadataItem). Contains x q) (sym (pairs-append xs ys)) (Contains-append_left _ _ q e));
   limits = (limits_both first xs ys a.kind a.each b.each like.0 like.1 c.limits).0;
 }
 
 pub can_right : (first : Tail) (xs ys : List Tail) → AreSound first xs → AreSound first ys → CanMerge first (xs ++ ys) → CanMerge first ys
 can_right first xs ys a b c = let like = alike_both first xs ys c.alike in record {
   alike = like.1;
-  agree = λ p q d e. c.agree p q (subst (λ (x : List UserMetadataItem). Contains x p) (sym (pairs-append xs ys)) (Contains-append_right _ _ p d)) (subst (λ (x : List UserMetadataItem). Contains x q) (sym (pairs-append xs ys)) (Contains-append_right _ _ q e));
+  agree = λ p q d e. c.agree p q (subst (λ (x : List UserMetadataItem). Contains x p) (sym (pairs-append xs ys)) (Contains-append_right _ _ p d))
+      (subst (λ (x : List UserMetadataItem). Contains x q) (sym (pairs-append xs ys)) (Contains-append_right _ _ q e));
   limits = (limits_both first xs ys a.kind a.each b.each like.0 like.1 c.limits).1;
 }

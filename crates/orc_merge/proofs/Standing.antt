@@ -47,7 +47,8 @@ stands xs first rest o c short =
     let bits : AllByRecursion HasBits (first ∷ rest) = all_bits xs (first ∷ rest) o in
     image_is (merged first (first ∷ rest)) (concat (bodies xs (first ∷ rest))) c.limits (laid-placed 3 (all_stripes (first ∷ rest)))
     (bits_of_merged first (first ∷ rest) bits.0 bits c.limits)
-    (length-concat (bodies xs (first ∷ rest)) (all_stripes (first ∷ rest)) (all_lengths xs (first ∷ rest) o) ∙ sym (bytes-placed 3 (all_stripes (first ∷ rest)))) short
+    (length-concat (bodies xs (first ∷ rest)) (all_stripes (first ∷ rest)) (all_lengths xs (first ∷ rest) o)
+    ∙ sym (bytes-placed 3 (all_stripes (first ∷ rest)))) short
 
 -- the stripes of the merged file are those of its inputs
 pub stripes_of_image : (xs : List (List ℕ)) (first : Tail) (rest : List Tail) → AreOpened xs (first ∷ rest)

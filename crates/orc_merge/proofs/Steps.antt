@@ -7,7 +7,8 @@ use Rattle.orc_file.specs.Images.{image, IsWithinLimits}
 use Rattle.orc_file.specs.declared.tail.Tail.{Tail}
 use Rattle.orc_merge.specs.Merging.{HasStatistics, merged, IsLike, CanMerge, Merged, stripes_of, AreOpened, bodies, IsMerge}
 use Rattle.orc_merge.specs.Grouping.{Group, Groups, input, merge, one, and, leaves, all_leaves, Gives, AllGive, AreShort, AllShort}
-use Rattle.orc_merge.proofs.Same.{Same, Same-refl, Same-append, Same-trans, Same-merged, Agree-same, AreSound, bare, merged_same, bare_of_like, like_of_bare, can_left, can_right}
+use Rattle.orc_merge.proofs.Same.{Same, Same-refl, Same-append, Same-trans, Same-merged, Agree-same, AreSound, bare, merged_same, bare_of_like}
+use Rattle.orc_merge.proofs.Same.{like_of_bare, can_left, can_right}
 use Rattle.orc_merge.proofs.Limits.{statistics_of_merged}
 use Rattle.orc_merge.proofs.Opened.{opened_split, bodies-append, one_opened, all_sound}
 use Rattle.orc_merge.proofs.Standing.{stands, stripes_of_image}
@@ -94,7 +95,8 @@ given_step first gs ts a can short =
       fellow = record { bare = a.fellows.0.bare; statistics = statistics_of_merged a.head (a.head ∷ a.rest) can.alike };
     }
 
-pub given_input : (first : Tail) (bytes : List ℕ) (ts : List Tail) → AreOpened (bytes ∷ []) ts → AllByRecursion (IsLike first) ts → Given first (input bytes) ts
+pub given_input : (first : Tail) (bytes : List ℕ) (ts : List Tail) → AreOpened (bytes ∷ []) ts → AllByRecursion (IsLike first) ts
+    → Given first (input bytes) ts
 given_input first bytes [] o c = absurd o
 given_input first bytes (t ∷ (u ∷ us)) o c = absurd o.1
 given_input first bytes (t ∷ []) o c = record {
@@ -145,7 +147,8 @@ mutual
   given first (merge gs) ts f o c s =
       let a = all_given first gs ts f o c s.1 in given_step first gs ts a (can_step first gs ts a c) s.0
 
-  pub all_given : (first : Tail) (gs : Groups) (ts : List Tail) → IsWithinLimits first → AreOpened (all_leaves gs) ts → CanMerge first ts → AllShort gs → AllGiven first gs ts
+  pub all_given : (first : Tail) (gs : Groups) (ts : List Tail) → IsWithinLimits first → AreOpened (all_leaves gs) ts → CanMerge first ts → AllShort gs
+      → AllGiven first gs ts
   all_given first (one g) ts f o c s = all_given_one first g ts (given first g ts f o c s)
   all_given first (and g gs) ts f o c s =
       let cut = opened_split (leaves g) (all_leaves gs) ts o in
@@ -173,7 +176,8 @@ pub record Flat (gs : Groups) (tail : Tail) (out : List ℕ) : Type 0 where
   pub tail_is : tail ≡ merged first (first ∷ rest)
   pub out_is : out ≡ file_of (merged first (first ∷ rest)) (bodies (all_leaves gs) (first ∷ rest))
 
-flat_of : (gs : Groups) (tail : Tail) (out : List ℕ) (ts : List Tail) → AreOpened (all_leaves gs) ts → Merged ts tail → out ≡ file_of tail (bodies (all_leaves gs) ts) → Flat gs tail out
+flat_of : (gs : Groups) (tail : Tail) (out : List ℕ) (ts : List Tail) → AreOpened (all_leaves gs) ts → Merged ts tail
+    → out ≡ file_of tail (bodies (all_leaves gs) ts) → Flat gs tail out
 flat_of gs tail out [] o m w = absurd m
 flat_of gs tail out (t ∷ ts) o m w = record {
   first = t;
@@ -188,7 +192,8 @@ pub grouping_same : (gs : Groups) (tail : Tail) (out : List ℕ) → AllShort gs
 grouping_same gs tail out s m =
     let l = flat_of gs tail out m.tails m.opened m.merged m.written in
     let a = all_given l.first gs (l.first ∷ l.rest) (all_sound (all_leaves gs) (l.first ∷ l.rest) l.opened).0 l.opened l.can s in
-    subst (Gives (merge gs)) (same_file l.first gs (l.first ∷ l.rest) a ∙ sym l.out_is) (step_gives l.first gs (l.first ∷ l.rest) a (can_step l.first gs (l.first ∷ l.rest) a l.can))
+    subst (Gives (merge gs)) (same_file l.first gs (l.first ∷ l.rest) a ∙ sym l.out_is)
+    (step_gives l.first gs (l.first ∷ l.rest) a (can_step l.first gs (l.first ∷ l.rest) a l.can))
 
 pub grouping_one : (gs : Groups) (tail : Tail) (out other : List ℕ) → AllShort gs → IsMerge (all_leaves gs) tail out → Gives (merge gs) other → other ≡ out
 grouping_one gs tail out other s m g =

@@ -6,7 +6,8 @@ use Rattle.orc_file.specs.Images.{IsWithinLimits}
 use Rattle.orc_file.specs.declared.tail.Tail.{Tail}
 use Rattle.orc_file.specs.declared.fault.FileFault.{FileFault}
 use Rattle.orc_merge.specs.declared.fault.MergeFault.{MergeFault}
-use Rattle.orc_merge.specs.declared.fault.MergeFault.TheVariants.{NoInput, File, SchemaDiffers, VersionDiffers, StrideDiffers, OtherFooterFields, UserMetadataConflict, NoStripeStatistics, Limit, SourceFailed, WriteFailed, OutOfMemory}
+use Rattle.orc_merge.specs.declared.fault.MergeFault.TheVariants.{NoInput, File, SchemaDiffers, VersionDiffers, StrideDiffers, OtherFooterFields}
+use Rattle.orc_merge.specs.declared.fault.MergeFault.TheVariants.{UserMetadataConflict, NoStripeStatistics, Limit, SourceFailed, WriteFailed, OutOfMemory}
 use Rattle.orc_merge.specs.Merging.{SameVersion, HasStatistics, CanMerge, Agree, all_pairs, merged, AreOpened}
 
 -- the first input, which the next one is compared with

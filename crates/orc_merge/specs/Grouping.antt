@@ -6,7 +6,8 @@ use Rattle.orc_file.specs.FileRows.{FileIs}
 use Rattle.orc_file.specs.Honest.{Honest}
 use Rattle.orc_file.specs.declared.tail.Tail.{Tail}
 use Rattle.orc_merge.specs.declared.fault.MergeFault.{MergeFault}
-use Rattle.orc_merge.specs.declared.fault.MergeFault.TheVariants.{NoInput, File, SchemaDiffers, VersionDiffers, StrideDiffers, OtherFooterFields, UserMetadataConflict, NoStripeStatistics, Limit, SourceFailed, WriteFailed, OutOfMemory}
+use Rattle.orc_merge.specs.declared.fault.MergeFault.TheVariants.{NoInput, File, SchemaDiffers, VersionDiffers, StrideDiffers, OtherFooterFields}
+use Rattle.orc_merge.specs.declared.fault.MergeFault.TheVariants.{UserMetadataConflict, NoStripeStatistics, Limit, SourceFailed, WriteFailed, OutOfMemory}
 use Rattle.orc_merge.specs.Merging.{IsLike, AreOpened, IsMerge}
 use Rattle.orc_merge.specs.Faults.{IsRefused}
 

@@ -25,10 +25,12 @@ ghost use Rattle.orc_merge.specs.Grouping.{Groups, merge, all_leaves, Gives, All
 /// All that a step of a grouping writes is shorter than 2^64 bytes.
 pub fn grouping()
     ensures same { (groups : Groups) (tail : Tail) (out : List ℕ) → AllShort groups → IsMerge (all_leaves groups) tail out → Gives (merge groups) out }
-    ensures one { (groups : Groups) (tail : Tail) (out other : List ℕ) → AllShort groups → IsMerge (all_leaves groups) tail out → Gives (merge groups) other → other ≡ out }
+    ensures one { (groups : Groups) (tail : Tail) (out other : List ℕ) → AllShort groups → IsMerge (all_leaves groups) tail out → Gives (merge groups) other
+        → other ≡ out }
 
     ensures accepted { (inputs : List (List ℕ)) (tail : Tail) (out : List ℕ) → IsMerge inputs tail out → length out < 2 ^ 64 → IsTail out tail }
-    ensures rows { (inputs : List (List ℕ)) (tail : Tail) (out : List ℕ) (parts : List (List Cell)) → IsMerge inputs tail out → length out < 2 ^ 64 → HaveRows inputs parts → FileIs out tail (rows.joined parts) }
+    ensures rows { (inputs : List (List ℕ)) (tail : Tail) (out : List ℕ) (parts : List (List Cell)) → IsMerge inputs tail out → length out < 2 ^ 64
+        → HaveRows inputs parts → FileIs out tail (rows.joined parts) }
 
     ensures refused { (groups : Groups) → AllShort groups → AreFellows (all_leaves groups) → IsFlatRefused groups ↔ IsStepRefused groups }
 {}
@@ -39,18 +41,24 @@ pub fn grouping()
 /// of all rows fits 64 bits.
 pub fn orders()
     ensures joined { (k : StatKind) (stats others : List Stat) → IsPermutation stats others → joined k others ≡ joined k stats }
-    ensures exists { (inputs others : List (List ℕ)) (tail : Tail) (out : List ℕ) → IsPermutation inputs others → IsMerge inputs tail out → (other : Tail) × (bytes : List ℕ) × IsMerge others other bytes }
-    ensures merged { (inputs others : List (List ℕ)) (tail other : Tail) (out bytes : List ℕ) → IsPermutation inputs others → IsMerge inputs tail out → IsMerge others other bytes → tail.file_stats ≡ other.file_stats }
+    ensures exists { (inputs others : List (List ℕ)) (tail : Tail) (out : List ℕ) → IsPermutation inputs others → IsMerge inputs tail out
+        → (other : Tail) × (bytes : List ℕ) × IsMerge others other bytes }
+    ensures merged { (inputs others : List (List ℕ)) (tail other : Tail) (out bytes : List ℕ) → IsPermutation inputs others → IsMerge inputs tail out
+        → IsMerge others other bytes → tail.file_stats ≡ other.file_stats }
 
-    ensures honest { (inputs : List (List ℕ)) (tail : Tail) (out : List ℕ) (parts : List (List Cell)) → IsMerge inputs tail out → AreHonestFiles inputs parts → Honest tail (rows.joined parts) }
-    ensures whole { (inputs : List (List ℕ)) (tail : Tail) (out : List ℕ) (parts : List (List Cell)) → IsMerge inputs tail out → AreHonestFiles inputs parts → HasWholeStats tail (rows.joined parts) }
-    ensures sum { (k : StatKind) (stripes : List (List Cell)) → has_sum (whole k stripes).body ≡ (list_all (λ rows. keeps_sum (stat k rows)) stripes && has_sum (stat k (flat_map (λ rows. rows) stripes)).body) }
+    ensures honest { (inputs : List (List ℕ)) (tail : Tail) (out : List ℕ) (parts : List (List Cell)) → IsMerge inputs tail out
+        → AreHonestFiles inputs parts → Honest tail (rows.joined parts) }
+    ensures whole { (inputs : List (List ℕ)) (tail : Tail) (out : List ℕ) (parts : List (List Cell)) → IsMerge inputs tail out → AreHonestFiles inputs parts
+        → HasWholeStats tail (rows.joined parts) }
+    ensures sum { (k : StatKind) (stripes : List (List Cell))
+        → has_sum (whole k stripes).body ≡ (list_all (λ rows. keeps_sum (stat k rows)) stripes && has_sum (stat k (flat_map (λ rows. rows) stripes)).body) }
 {}
 
 /// Inputs have one merged file at most, and none where they are refused. One fault is the first, but that what is
 /// wrong with a file's types may be said in several ways.
 pub fn outcomes()
-    ensures one { (inputs : List (List ℕ)) (tail other : Tail) (out bytes : List ℕ) → IsMerge inputs tail out → IsMerge inputs other bytes → (other ≡ tail) × (bytes ≡ out) }
+    ensures one { (inputs : List (List ℕ)) (tail other : Tail) (out bytes : List ℕ) → IsMerge inputs tail out → IsMerge inputs other bytes
+        → (other ≡ tail) × (bytes ≡ out) }
     ensures none { (inputs : List (List ℕ)) (tail : Tail) (out : List ℕ) (fault : MergeFault) → IsMerge inputs tail out → IsRefused inputs fault → ⊥ }
     ensures single { (inputs : List (List ℕ)) (e f : MergeFault) → IsRefused inputs e → IsRefused inputs f → AreOne e f }
 {}
