@@ -19,11 +19,14 @@ use Rattle.orc_stats.specs.declared.stat.Stat.{Stat}
 use Rattle.orc_stats.specs.declared.stat.Body.{Body}
 use Rattle.orc_stats.specs.Kinds.{body_is_of}
 use Rattle.orc_stats.specs.Messages.{unknown, body_read, ints_body, dates_body, texts_body, bins_body, bools_body, stat_read, in_limits, IsStat}
-use Rattle.orc_file.specs.Stripes.{stripe_tests, stripe_end, most_stripe_rows}
+use Rattle.orc_file.specs.Layout.{footer_bytes, metadata_bytes, metadata_place}
+use Rattle.orc_file.specs.Stripes.{stripe_tests, stripe_end, most_stripe_rows, AllBefore}
 use Rattle.orc_file.specs.Statistics.{kind_at, stats_read, stripe_stats_read, have_few, AreOfColumns, AreStats}
-use Rattle.orc_file.specs.Tails.{footer_tests, metadata_tests, limit_tests, tail_of, most_versions}
+use Rattle.orc_file.specs.Tails.{footer_tests, metadata_tests, limit_tests, tail_of, most_versions, IsTail}
 use Rattle.orc_file.specs.Images.{IsWithinLimits}
+use Rattle.orc_file.specs.declared.tail.Tail.{Tail}
 use Rattle.orc_file.proofs.Columns.{le_is}
+use Rattle.orc_file.proofs.StripeLemmas.{all_before}
 use Rattle.orc_file.proofs.TailLemmas.{footer_few, metadata_few}
 
 unknown_is : (k : StatKind) → body_is_of k (unknown k) ≡ true
@@ -113,3 +116,20 @@ module _ (footer_text metadata_text : List ℕ) (before : ℕ) (script : PostScr
       let count = subst (λ (n : Metadata). length n.stripe_stats ≤ length f.stripes) (sym meta.2.1.1) meta.2.0 in
       subst (λ (p : List Stat × List (List Stat)). IsWithinLimits (tail_of script f s p)) (sym h.1.1.1.2.1.1.1)
       (within f s m stats foot (footer_few footer_text f s foot) count (metadata_few metadata_text f s m meta) h)
+
+-- ---- of bytes that pass all tests
+
+pub tail_within : (bytes : List ℕ) (tail : Tail) → IsTail bytes tail → IsWithinLimits tail
+tail_within bytes tail h =
+    let script = h.0 in let f = h.2.0 in let m = h.2.2.0 in let last = h.2.2.2 in
+    let found = h.1.1.1.1 in
+    let version : length script.version ≤ most_versions = subst (λ (p : PostScript). length p.version ≤ most_versions) (sym found.2.1.1.1.1) found.2.0 in
+    subst IsWithinLimits (sym last.2)
+    (read_within (footer_bytes bytes script) (metadata_bytes bytes script) (metadata_place bytes script) script version f.0 f.1 m last.0 h.2.1 h.2.2.1 last.1)
+
+-- the stripes end within the bytes
+pub tail_before : (bytes : List ℕ) (tail : Tail) → IsTail bytes tail → AllBefore (length bytes) tail.stripes
+tail_before bytes tail h =
+    let script = h.0 in let f = h.2.0 in let last = h.2.2.2 in
+    subst (λ (t : Tail). AllBefore (length bytes) t.stripes) (sym last.2)
+    (all_before 0 3 (metadata_place bytes script) (length bytes) f.0.stripes (omega arith) last.1.1.1.1.1)

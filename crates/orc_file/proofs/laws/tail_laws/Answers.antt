@@ -1,4 +1,5 @@
 use Rattle.orc_file.specs.Tails.{tail_tests}
+use Rattle.orc_file.proofs.Opened.{tail_within, tail_before}
 use Rattle.orc_file.proofs.ReadBits.{tail_bits}
 use Rattle.orc_file.proofs.laws.tail_laws.Goals as goal
 
@@ -13,3 +14,9 @@ returns-clause-single c = λ bytes. (tail_tests bytes).single
 
 pub returns-clause-bits : goal.returns-clause-bits
 returns-clause-bits c = λ bytes tail is. tail_bits bytes tail is
+
+pub returns-clause-limits : goal.returns-clause-limits
+returns-clause-limits c = tail_within
+
+pub returns-clause-within : goal.returns-clause-within
+returns-clause-within c = tail_before

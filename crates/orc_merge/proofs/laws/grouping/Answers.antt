@@ -1,0 +1,19 @@
+use Rattle.orc_merge.proofs.Steps.{grouping_same, grouping_one}
+use Rattle.orc_merge.proofs.Rows.{grouping_accepted, grouping_rows}
+use Rattle.orc_merge.proofs.Refusing.{grouping_refused}
+use Rattle.orc_merge.proofs.laws.grouping.Goals as goal
+
+pub returns-clause-same : goal.returns-clause-same
+returns-clause-same c = grouping_same
+
+pub returns-clause-one : goal.returns-clause-one
+returns-clause-one c = grouping_one
+
+pub returns-clause-accepted : goal.returns-clause-accepted
+returns-clause-accepted c = grouping_accepted
+
+pub returns-clause-rows : goal.returns-clause-rows
+returns-clause-rows c = grouping_rows
+
+pub returns-clause-refused : goal.returns-clause-refused
+returns-clause-refused c = grouping_refused

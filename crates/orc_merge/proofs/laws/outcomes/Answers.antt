@@ -1,0 +1,12 @@
+use Rattle.orc_merge.proofs.Refusing.{no_fault}
+use Rattle.orc_merge.proofs.OneFault.{one_merge, one_fault}
+use Rattle.orc_merge.proofs.laws.outcomes.Goals as goal
+
+pub returns-clause-one : goal.returns-clause-one
+returns-clause-one c = one_merge
+
+pub returns-clause-none : goal.returns-clause-none
+returns-clause-none c = no_fault
+
+pub returns-clause-single : goal.returns-clause-single
+returns-clause-single c = one_fault

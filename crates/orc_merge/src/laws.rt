@@ -1,0 +1,64 @@
+//! Laws of merging. Each function does nothing: its contract is what it is for. They stand over the definitions
+//! alone, and speak of whatever `merge` writes.
+ghost use Rattle.std.specs.Prelude.{◌≡◌, ◌↔◌, ◌&&◌, ◌<◌, ◌^◌, ℕ, List, length, map, IsPermutation};
+ghost use Rattle.std.specs.List.{list_all, flat_map};
+ghost use Rattle.orc_types.specs.Cells.{Cell};
+ghost use Rattle.orc_stats.specs.declared.kind.StatKind.{StatKind};
+ghost use Rattle.orc_stats.specs.declared.stat.Stat.{Stat};
+ghost use Rattle.orc_stats.specs.Statistics.{stat};
+ghost use Rattle.orc_stats.specs.Joining.{joined};
+ghost use Rattle.orc_stats.specs.Whole.{has_sum, keeps_sum, whole};
+ghost use Rattle.orc_file.specs.FileRows.{FileIs};
+ghost use Rattle.orc_file.specs.FileRows as rows;
+ghost use Rattle.orc_file.specs.Honest.{Honest, HasWholeStats};
+ghost use Rattle.orc_file.specs.Tails.{IsTail};
+ghost use Rattle.orc_file.specs.declared.tail.Tail.{Tail};
+ghost use Rattle.orc_merge.specs.declared.fault.MergeFault.{MergeFault};
+ghost use Rattle.orc_merge.specs.Merging.{IsMerge};
+ghost use Rattle.orc_merge.specs.Faults.{AreOne, IsRefused};
+ghost use Rattle.orc_merge.specs.Grouping.{Groups, merge, all_leaves, Gives, AllShort, HaveRows, AreHonestFiles, AreFellows, IsFlatRefused, IsStepRefused};
+
+/// Merging files in any grouping gives the file that merging them at once gives, and no other. It is accepted, with
+/// the merged tail, and its rows are the inputs' rows in their order. Of inputs that are files of one kind, the
+/// merge at once is refused, for user metadata or a limit, exactly where some step of a grouping is.
+///
+/// All that a step of a grouping writes is shorter than 2^64 bytes.
+pub fn grouping()
+    ensures same { (groups : Groups) (tail : Tail) (out : List ℕ) → AllShort groups → IsMerge (all_leaves groups) tail out → Gives (merge groups) out }
+    ensures one { (groups : Groups) (tail : Tail) (out other : List ℕ) → AllShort groups → IsMerge (all_leaves groups) tail out → Gives (merge groups) other
+        → other ≡ out }
+
+    ensures accepted { (inputs : List (List ℕ)) (tail : Tail) (out : List ℕ) → IsMerge inputs tail out → length out < 2 ^ 64 → IsTail out tail }
+    ensures rows { (inputs : List (List ℕ)) (tail : Tail) (out : List ℕ) (parts : List (List Cell)) → IsMerge inputs tail out → length out < 2 ^ 64
+        → HaveRows inputs parts → FileIs out tail (rows.joined parts) }
+
+    ensures refused { (groups : Groups) → AllShort groups → AreFellows (all_leaves groups) → IsFlatRefused groups ↔ IsStepRefused groups }
+{}
+
+/// Joined statistics are the same for every order of what is joined. So what can be merged can be merged in every
+/// order, and the file's statistics are the same. Where the stripes' statistics are those of their rows, the merged
+/// file's statistics are those of all rows, and a sum stands exactly where that of each stripe does and the total
+/// of all rows fits 64 bits.
+pub fn orders()
+    ensures joined { (k : StatKind) (stats others : List Stat) → IsPermutation stats others → joined k others ≡ joined k stats }
+    ensures exists { (inputs others : List (List ℕ)) (tail : Tail) (out : List ℕ) → IsPermutation inputs others → IsMerge inputs tail out
+        → (other : Tail) × (bytes : List ℕ) × IsMerge others other bytes }
+    ensures merged { (inputs others : List (List ℕ)) (tail other : Tail) (out bytes : List ℕ) → IsPermutation inputs others → IsMerge inputs tail out
+        → IsMerge others other bytes → tail.file_stats ≡ other.file_stats }
+
+    ensures honest { (inputs : List (List ℕ)) (tail : Tail) (out : List ℕ) (parts : List (List Cell)) → IsMerge inputs tail out
+        → AreHonestFiles inputs parts → Honest tail (rows.joined parts) }
+    ensures whole { (inputs : List (List ℕ)) (tail : Tail) (out : List ℕ) (parts : List (List Cell)) → IsMerge inputs tail out → AreHonestFiles inputs parts
+        → HasWholeStats tail (rows.joined parts) }
+    ensures sum { (k : StatKind) (stripes : List (List Cell))
+        → has_sum (whole k stripes).body ≡ (list_all (λ rows. keeps_sum (stat k rows)) stripes && has_sum (stat k (flat_map (λ rows. rows) stripes)).body) }
+{}
+
+/// Inputs have one merged file at most, and none where they are refused. One fault is the first, but that what is
+/// wrong with a file's types may be said in several ways.
+pub fn outcomes()
+    ensures one { (inputs : List (List ℕ)) (tail other : Tail) (out bytes : List ℕ) → IsMerge inputs tail out → IsMerge inputs other bytes
+        → (other ≡ tail) × (bytes ≡ out) }
+    ensures none { (inputs : List (List ℕ)) (tail : Tail) (out : List ℕ) (fault : MergeFault) → IsMerge inputs tail out → IsRefused inputs fault → ⊥ }
+    ensures single { (inputs : List (List ℕ)) (e f : MergeFault) → IsRefused inputs e → IsRefused inputs f → AreOne e f }
+{}
