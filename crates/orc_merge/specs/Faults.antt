@@ -1,0 +1,70 @@
+-- Why files are not merged: input by input, for each the first test that fails (own).
+use Rattle.std.specs.Prelude.{◌≡◌, ◌⊎◌, ℕ, List, [], ◌∷◌, ◌++◌, length}
+use Rattle.orc_file.specs.Tails.{IsTail, OpenFault}
+use Rattle.orc_file.specs.Images.{IsWithinLimits}
+use Rattle.orc_file.specs.declared.tail.Tail.{Tail}
+use Rattle.orc_file.specs.declared.fault.FileFault.{FileFault}
+use Rattle.orc_merge.specs.declared.fault.MergeFault.{MergeFault}
+use Rattle.orc_merge.specs.declared.fault.MergeFault.TheVariants.{NoInput, File, SchemaDiffers, VersionDiffers, StrideDiffers, OtherFooterFields, UserMetadataConflict, NoStripeStatistics, Limit, SourceFailed, WriteFailed, OutOfMemory}
+use Rattle.orc_merge.specs.Merging.{SameVersion, HasStatistics, CanMerge, Agree, all_pairs, merged, AreOpened}
+
+-- the first input, which the next one is compared with
+abbrev pub first_of : List Tail → Tail → Tail
+first_of [] tail = tail
+first_of (first ∷ rest) tail = first
+
+-- a test, the fault where it fails, and the tests after it
+abbrev pub Tested : Type 0 → MergeFault → MergeFault → Type 0 → Type 0
+Tested Holds fails fault Rest = ((Holds → ⊥) × (fault ≡ fails)) ⊎ (Holds × Rest)
+
+-- The tests of the next input, behind those gathered so far, in their order; the last one passed, no fault is left.
+abbrev pub NextFault : List Tail → Tail → MergeFault → Type 0
+NextFault before tail fault =
+    let first = first_of before tail in let i = length before in let all = before ++ tail ∷ [] in
+    Tested (tail.schema ≡ first.schema) (SchemaDiffers i) fault (
+    Tested (SameVersion first tail) (VersionDiffers i) fault (
+    Tested (tail.stride ≡ first.stride) (StrideDiffers i) fault (
+    Tested (tail.other ≡ first.other) (OtherFooterFields i) fault (
+    Tested (Agree (all_pairs all)) (UserMetadataConflict i) fault (
+    Tested (HasStatistics tail) (NoStripeStatistics i) fault (
+    Tested (IsWithinLimits (merged first all)) (Limit i) fault ⊥))))))
+
+-- nothing speaks against those gathered so far
+abbrev pub AreGathered : List Tail → Type 0
+AreGathered [] = Unit {0}
+AreGathered (first ∷ rest) = CanMerge first (first ∷ rest)
+
+-- this input is no file, or is refused behind those before it
+abbrev pub InputFault : List Tail → List ℕ → MergeFault → Type 0
+InputFault before bytes fault =
+    ((why : FileFault) × OpenFault bytes why × (fault ≡ File (length before) why)) ⊎ ((tail : Tail) × IsTail bytes tail × NextFault before tail fault)
+
+-- the inputs before this one are gathered, and this one is refused
+pub record IsRefusedAt (inputs : List (List ℕ)) (fault : MergeFault) : Type 0 where
+  pub front : List (List ℕ)
+  pub bytes : List ℕ
+  pub rest : List (List ℕ)
+  pub tails : List Tail
+  pub parts : inputs ≡ front ++ bytes ∷ rest
+  pub opened : AreOpened front tails
+  pub gathered : AreGathered tails
+  pub fails : InputFault tails bytes fault
+
+-- there is no input, or one of them is the first that is refused
+abbrev pub IsRefused : List (List ℕ) → MergeFault → Type 0
+IsRefused inputs fault = ((inputs ≡ []) × (fault ≡ NoInput)) ⊎ IsRefusedAt inputs fault
+
+-- a source, the output or memory failed
+abbrev pub IsDeviceFault : MergeFault → Type 0
+IsDeviceFault NoInput = ⊥
+IsDeviceFault (File i e) = ⊥
+IsDeviceFault (SchemaDiffers i) = ⊥
+IsDeviceFault (VersionDiffers i) = ⊥
+IsDeviceFault (StrideDiffers i) = ⊥
+IsDeviceFault (OtherFooterFields i) = ⊥
+IsDeviceFault (UserMetadataConflict i) = ⊥
+IsDeviceFault (NoStripeStatistics i) = ⊥
+IsDeviceFault (Limit i) = ⊥
+IsDeviceFault (SourceFailed i) = Unit {0}
+IsDeviceFault WriteFailed = Unit {0}
+IsDeviceFault OutOfMemory = Unit {0}

@@ -1,0 +1,3 @@
+pub mod Merging
+pub mod Faults
+pub mod Grouping

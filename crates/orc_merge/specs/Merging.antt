@@ -1,0 +1,132 @@
+-- The merged tail, and the merged file (ORC specification, "File Tail"; what is joined, and how, is this
+-- project's): the stripes of all inputs as they are, and one tail that lists them.
+use Rattle.std.specs.Prelude.{◌≡◌, ℕ, zero, suc, ◌+◌, List, [], ◌∷◌, ◌++◌, length, map, sum_by, filter, take, drop, Contains, Bool, not, ◌==◌}
+use Rattle.std.specs.List.{AllByRecursion, concat, flat_map}
+use Rattle.std.specs.Cmp.Lexicographic.{pointwise}
+use Rattle.orc_wire.specs.declared.stripe_info.StripeInfo.{StripeInfo}
+use Rattle.orc_wire.specs.declared.footer.UserMetadataItem.{UserMetadataItem}
+use Rattle.orc_types.specs.Shapes.{Shape, width}
+use Rattle.orc_stats.specs.declared.stat.Stat.{Stat}
+use Rattle.orc_stats.specs.Joining.{joined}
+use Rattle.orc_file.specs.Stripes.{stripe_length}
+use Rattle.orc_file.specs.Statistics.{kind_at}
+use Rattle.orc_file.specs.FileRows.{stripe_bytes}
+use Rattle.orc_file.specs.Tails.{IsTail}
+use Rattle.orc_file.specs.Images.{image, IsWithinLimits}
+use Rattle.orc_file.specs.declared.tail.Tail.{Tail}
+
+-- ---- user metadata
+
+-- whether two pairs have one name
+abbrev pub same_name : UserMetadataItem → UserMetadataItem → Bool
+same_name p q = pointwise ◌==◌ p.name q.name
+
+-- those of another name
+abbrev pub without : UserMetadataItem → List UserMetadataItem → List UserMetadataItem
+without p pairs = filter (λ q. not (same_name p q)) pairs
+
+-- each pair whose name no pair before it has
+abbrev pub distinct : List UserMetadataItem → List UserMetadataItem
+distinct [] = []
+distinct (p ∷ pairs) = p ∷ without p (distinct pairs)
+
+-- pairs of one name have one value
+abbrev pub Agree : List UserMetadataItem → Type 0
+Agree pairs = (p q : UserMetadataItem) → Contains pairs p → Contains pairs q → p.name ≡ q.name → p.value ≡ q.value
+
+-- ---- statistics
+
+-- the statistics of a column, stripe by stripe
+abbrev pub column_stats : ℕ → List (List Stat) → List Stat
+column_stats c stats = flat_map (λ (xs : List Stat). take 1 (drop c xs)) stats
+
+-- what a word says of so many columns, from one on
+abbrev pub of_columns : (ℕ → Stat) → ℕ → ℕ → List Stat
+of_columns f c zero = []
+of_columns f c (suc n) = f c ∷ of_columns f (suc c) n
+
+-- for each column of the schema the joined statistic of all stripes
+abbrev pub file_stats : Shape → List (List Stat) → List Stat
+file_stats s stats = of_columns (λ c. joined (kind_at s c) (column_stats c stats)) 0 (width s)
+
+-- a statistic for each stripe and column
+pub record HasStatistics (tail : Tail) : Type 0 where
+  pub stripes : length tail.stripe_stats ≡ length tail.stripes
+  pub columns : AllByRecursion (λ (stats : List Stat). length stats ≡ width tail.schema) tail.stripe_stats
+
+-- ---- the tail
+
+-- stripes one after the other from a place on, without gaps
+abbrev pub placed : ℕ → List StripeInfo → List StripeInfo
+placed at [] = []
+placed at (s ∷ rest) = record s { offset = at } ∷ placed (at + stripe_length s) rest
+
+abbrev pub all_stripes : List Tail → List StripeInfo
+all_stripes = flat_map (λ (t : Tail). t.stripes)
+
+abbrev pub all_stats : List Tail → List (List Stat)
+all_stats = flat_map (λ (t : Tail). t.stripe_stats)
+
+abbrev pub all_pairs : List Tail → List UserMetadataItem
+all_pairs = flat_map (λ (t : Tail). t.user)
+
+-- The stripes of all inputs in order, without gaps; their statistics, and for each column the joined one; each
+-- pair whose name is new; the rows added; the rest as in the first.
+abbrev pub merged : Tail → List Tail → Tail
+merged first inputs = record first {
+  stripes = placed 3 (all_stripes inputs);
+  stripe_stats = all_stats inputs;
+  file_stats = file_stats first.schema (all_stats inputs);
+  user = distinct (all_pairs inputs);
+  rows = sum_by (λ (t : Tail). t.rows) inputs;
+}
+
+pub record SameVersion (first tail : Tail) : Type 0 where
+  pub version : tail.version ≡ first.version
+  pub writer : tail.writer ≡ first.writer
+  pub writer_version : tail.writer_version ≡ first.writer_version
+
+-- of one schema, version and stride, with the same other footer fields, and statistics of each stripe and column
+pub record IsLike (first tail : Tail) : Type 0 where
+  pub schema : tail.schema ≡ first.schema
+  pub version : SameVersion first tail
+  pub stride : tail.stride ≡ first.stride
+  pub other : tail.other ≡ first.other
+  pub statistics : HasStatistics tail
+
+-- nothing speaks against merging these
+pub record CanMerge (first : Tail) (inputs : List Tail) : Type 0 where
+  pub alike : AllByRecursion (IsLike first) inputs
+  pub agree : Agree (all_pairs inputs)
+  pub limits : IsWithinLimits (merged first inputs)
+
+-- the tail of the merged file
+abbrev pub Merged : List Tail → Tail → Type 0
+Merged [] tail = ⊥
+Merged (first ∷ rest) tail = CanMerge first (first ∷ rest) × (tail ≡ merged first (first ∷ rest))
+
+-- ---- the file
+
+-- the bytes of each stripe
+abbrev pub stripes_of : List ℕ → Tail → List (List ℕ)
+stripes_of bytes tail = map (λ (s : StripeInfo). stripe_bytes s bytes) tail.stripes
+
+-- each input is a file with this tail
+abbrev pub AreOpened : List (List ℕ) → List Tail → Type 0
+AreOpened [] [] = Unit {0}
+AreOpened [] (t ∷ ts) = ⊥
+AreOpened (b ∷ bs) [] = ⊥
+AreOpened (b ∷ bs) (t ∷ ts) = IsTail b t × AreOpened bs ts
+
+-- the stripes of all inputs
+abbrev pub bodies : List (List ℕ) → List Tail → List (List ℕ)
+bodies [] ts = []
+bodies (b ∷ bs) [] = []
+bodies (b ∷ bs) (t ∷ ts) = stripes_of b t ++ bodies bs ts
+
+-- The merged file of these inputs, and its tail: `ORC`, the stripes as they are, and the tail's canonical text.
+pub record IsMerge (inputs : List (List ℕ)) (tail : Tail) (out : List ℕ) : Type 0 where
+  pub tails : List Tail
+  pub opened : AreOpened inputs tails
+  pub merged : Merged tails tail
+  pub written : out ≡ image (concat (bodies inputs tails)) tail
