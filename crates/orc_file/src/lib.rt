@@ -41,6 +41,7 @@ pub use laws_of_rows::{row_laws, whole_laws};
 pub use laws_of_writing::written_laws;
 pub use range_fault::RangeFault;
 pub use ranges::read_range;
+pub use reading::read_tail;
 pub use sending::write_all;
 pub use sink::{Sink, SinkFault};
 pub use slice_source::SliceSource;

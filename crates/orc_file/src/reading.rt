@@ -110,8 +110,8 @@ fn read_end<S: Source>(alloc: Global, source: &mut S) -> Result<End, FileFault>
     Ok(End { script, place })
 }
 
-/// The tail of a file.
-pub(crate) fn read_tail<S: Source>(alloc: Global, source: &mut S) -> Result<Tail, FileFault>
+/// The tail of a file whose source is lent. Its tests and its refusals are those of `OrcFile::open`.
+pub fn read_tail<S: Source>(alloc: Global, source: &mut S) -> Result<Tail, FileFault>
     ensures size { S.size source.new ≡ S.size source.old }
     ensures told { S.told source.new ≡ S.told source.old }
     ensures found { IfOk result (λ tail. IfSome (S.told source.old) (λ bytes. IsTail bytes tail)) }
