@@ -1,5 +1,5 @@
 -- Rows worked by hand.
-use Rattle.std.proofs.Common.{◌≡◌, ℕ, ℤ, pos, negsuc, List, [], ◌∷◌, map, Option, Some, None, false, refl}
+use Rattle.std.proofs.Common.{◌≡◌, ℕ, ℤ, pos, negsuc, List, [], ◌∷◌, map, Option, Some, None, false, refl, ap, inl, inr, arith}
 use Rattle.orc_wire.specs.declared.stripe_info.StripeInfo.{StripeInfo}
 use Rattle.orc_wire.specs.declared.footer.UserMetadataItem.{UserMetadataItem}
 use Rattle.orc_types.specs.declared.kind.Scalar.TheVariants as scalar_kind
@@ -10,6 +10,8 @@ use Rattle.orc_stats.specs.declared.stat.Stat.{Stat}
 use Rattle.orc_stats.specs.declared.stat.Body.TheVariants as body
 use Rattle.orc_stats.specs.Statistics.{stat}
 use Rattle.orc_file.specs.declared.tail.Tail.{Tail}
+use Rattle.orc_merge.specs.declared.fault.MergeFault.TheVariants.{NoInput, SchemaDiffers, VersionDiffers, StrideDiffers, UserMetadataConflict}
+use Rattle.orc_merge.specs.Faults.{NextFault, IsRefused}
 use Rattle.orc_merge.specs.Merging.{distinct, file_stats, merged}
 
 -- ---- the file's statistics
@@ -99,3 +101,46 @@ twice = refl
 -- one file alone
 once : merged three_sevens (three_sevens ∷ []) ≡ three_sevens
 once = refl
+
+-- ---- what is refused
+
+no_input : IsRefused [] NoInput
+no_input = inl (refl, refl)
+
+-- struct<m:bigint>
+abbrev others : Shape
+others = struct_of (field (109 ∷ []) (scalar scalar_kind.Long []) no_field) []
+
+abbrev first_letter : Shape → ℕ
+first_letter (struct_of (field (letter ∷ name) s fs) o) = letter
+first_letter s = 0
+
+another_schema : NextFault (three_sevens ∷ []) (record three_sevens { schema = others }) (SchemaDiffers 1)
+another_schema = inl (λ e. let letters : ◌≡◌ {A = ℕ} 109 110 = ap first_letter e in omega (arith, letters), refl)
+
+another_writer : NextFault (three_sevens ∷ []) (record three_sevens { writer = None }) (VersionDiffers 1)
+another_writer = inr (refl, inl (λ e. let f = e.writer in cc, refl))
+
+another_stride : NextFault (three_sevens ∷ []) (record three_sevens { stride = 5 }) (StrideDiffers 1)
+another_stride = inr (refl, inr (record { version = refl; writer = refl; writer_version = refl }, inl (λ e. cc, refl)))
+
+-- also of the first input alone
+conflict_inside : NextFault [] (record three_sevens { user = pair 107 0 ∷ pair 107 1 ∷ [] }) (UserMetadataConflict 0)
+conflict_inside =
+    inr (
+      refl,
+      inr (
+        record { version = refl; writer = refl; writer_version = refl },
+        inr (refl, inr (refl, inl (λ a. let e = a (pair 107 0) (pair 107 1) (0, omega arith, refl) (1, omega arith, refl) refl in cc, refl))),
+      ),
+    )
+
+conflict : NextFault (record three_sevens { user = pair 107 0 ∷ [] } ∷ []) (record three_sevens { user = pair 107 1 ∷ [] }) (UserMetadataConflict 1)
+conflict =
+    inr (
+      refl,
+      inr (
+        record { version = refl; writer = refl; writer_version = refl },
+        inr (refl, inr (refl, inl (λ a. let e = a (pair 107 0) (pair 107 1) (0, omega arith, refl) (1, omega arith, refl) refl in cc, refl))),
+      ),
+    )
