@@ -1,4 +1,4 @@
 pub mod IntsLemmas
 pub mod OutputLemmas
-pub mod FirstFileLemmas
+pub mod NoFloats
 pub mod RowsLemmas

@@ -12,8 +12,11 @@ use Rattle.orc_rle.specs.declared.sign.Sign.{Sign}
 use Rattle.orc_rle.specs.RunOne.{IsRunOne, NoRunOne}
 use Rattle.orc_rle.specs.RunTwo.{IsRunTwo, NoRunTwo}
 use Rattle.orc_rle.specs.Stream.{IsStream, StopsAt}
+use Rattle.orc_cli.specs.Output.{write_failed}
 use Rattle.orc_cli.specs.declared.fault.CliFault.{CliFault}
-use Rattle.orc_cli.specs.declared.fault.CliFault.TheVariants.{Run, First, BadHex, SourceFailed, WriteFailed, OutOfMemory}
+use Rattle.orc_cli.specs.declared.fault.CliFault.TheVariants.{Run, Json, File}
+use Rattle.orc_types.specs.declared.json_fault.JsonFault.TheVariants as json
+use Rattle.orc_file.specs.declared.fault.FileFault.TheVariants as file
 
 -- the numbers in decimal digits, one space between
 abbrev pub numbers : List ℤ → List ℕ
@@ -47,14 +50,10 @@ IsNoHex text = (reason : FromHexError) × (decode_of text ≡ Err reason)
 
 -- why digits spell no numbers
 abbrev pub RefusesDigits : Rle → Sign → List ℕ → CliFault → Type 0
-RefusesDigits rle sign text BadHex = IsNoHex text
 RefusesDigits rle sign text (Run fault) = (fault ≡ RunOutOfMemory) ⊎ StopsInts rle sign text fault
-RefusesDigits rle sign text OutOfMemory = ⊤
-RefusesDigits rle sign text (First _) = ⊥
-RefusesDigits rle sign text SourceFailed = ⊥
-RefusesDigits rle sign text WriteFailed = ⊥
+RefusesDigits rle sign text (Json fault) = (fault ≡ json.BadHex) × IsNoHex text
+RefusesDigits rle sign text (File fault) = fault ≡ file.OutOfMemory
 
 -- why `ints` refuses: for its digits, or, where they spell numbers, for its output
 abbrev pub RefusesInts : Rle → Sign → List ℕ → CliFault → Type 0
-RefusesInts rle sign text WriteFailed = (values : List ℤ) × SpellsInts rle sign text values
-RefusesInts rle sign text fault = RefusesDigits rle sign text fault
+RefusesInts rle sign text fault = RefusesDigits rle sign text fault ⊎ ((fault ≡ write_failed) × ((values : List ℤ) × SpellsInts rle sign text values))

@@ -1,5 +1,4 @@
 pub mod Output
 pub mod Ints
-pub mod FirstFile
 pub mod Rows
 pub mod Requests

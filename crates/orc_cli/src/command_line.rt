@@ -4,6 +4,7 @@ use crate::fault::CliFault;
 use crate::request::{SIGNS, VERSIONS};
 use clap::error::ErrorKind;
 use clap::{Arg, ArgAction, ArgMatches, Command, Error};
+use orc_file::FileFault;
 use std::alloc::Global;
 use std::convert::AsStr;
 use std::rt::Env;
@@ -45,7 +46,7 @@ pub fn words_of<R: Env + AllocGlobal + Eprint>(rt: &R) -> Result<Vec<String>, Re
     match env::args(rt) {
         Ok(words) => Ok(words.collect(rt.alloc()).map_err(CliFault::from)?),
         Err(error) if error.kind() == io::ErrorKind::OutOfMemory => {
-            Err(Refusal::Fault(CliFault::OutOfMemory))
+            Err(Refusal::Fault(CliFault::File(FileFault::OutOfMemory)))
         }
         Err(_) => {
             let _ = eprintln!(rt; "error: the command line has words that are no UTF-8 text");
@@ -65,13 +66,13 @@ pub fn read_words<'a, R: AllocGlobal + Print + Eprint>(
         Err(error) => error,
     };
     if error.kind() == ErrorKind::OutOfMemory {
-        return Err(Refusal::Fault(CliFault::OutOfMemory));
+        return Err(Refusal::Fault(CliFault::File(FileFault::OutOfMemory)));
     }
     let printed = error.print(rt);
     if error.use_stderr() {
         Err(Refusal::NotUnderstood)
     } else if printed.is_err() {
-        Err(Refusal::Fault(CliFault::WriteFailed))
+        Err(Refusal::Fault(CliFault::File(FileFault::WriteFailed)))
     } else {
         Ok(Asked::Text)
     }

@@ -2,8 +2,9 @@
 ghost use Rattle.std.specs.Prelude.{◌≡◌, ◌≢◌, ℤ, List, [], ◌∷◌, ◌++◌, ◌⊎◌, IfOk, OnOk, IfErr, IsErrAnd, MatchResult, string_bytes};
 ghost use Rattle.std.specs.Io.KnownBytes.{Appends, Keeps};
 ghost use Rattle.orc_cli.specs.Ints.{numbers, number_line, IsIntegerStream, StopsIntegers, SpellsInts, StopsInts, IsNoHex, RefusesDigits, RefusesInts};
-ghost use Rattle.orc_cli.specs.Output.{AppendsPart, IsOutside, IsWantOfMemory};
-ghost use Rattle.orc_cli.specs.declared.fault.CliFault.TheVariants.{Run, BadHex, WriteFailed};
+ghost use Rattle.orc_cli.specs.Output.{AppendsPart, IsOutside, IsWantOfMemory, write_failed};
+ghost use Rattle.orc_cli.specs.declared.fault.CliFault.TheVariants.{Run, Json};
+ghost use Rattle.orc_types.specs.declared.json_fault.JsonFault.TheVariants as json;
 ghost use Rattle.orc_rle.specs.declared.fault.RunFault.{RunFault};
 ghost use Rattle.orc_rle.specs.declared.fault.RunFault.TheVariants.{OutOfMemory as RunOutOfMemory};
 ghost use Rattle.orc_rle.specs.Stream.{Refuses};
@@ -11,7 +12,9 @@ ghost use Rattle.orc_rle.specs.Stream.{Refuses};
 use crate::fault::CliFault;
 use crate::output::write_out;
 use hex::FromHexError;
+use orc_file::FileFault;
 use orc_rle::{Rle, RunCodec, RunFault, Sign, V1, V2};
+use orc_types::JsonFault;
 use std::alloc::{AllocError, Global};
 use std::io::Write;
 
@@ -50,14 +53,14 @@ fn values_of(alloc: Global, rle: Rle, sign: Sign, text: &str) -> Result<Vec<i64>
     ensures only { (values : List ℤ) → SpellsInts rle sign text.now values → IfErr result IsWantOfMemory }
     ensures same { (values : List ℤ) → SpellsInts rle sign text.now values → IfOk result (λ found. found.items ≡ values) }
     ensures refused { IfErr result (RefusesDigits rle sign text.now) }
-    ensures no_hex { IsNoHex text.now → IsErrAnd result (λ e. (e ≡ BadHex) ⊎ IsWantOfMemory e) }
+    ensures no_hex { IsNoHex text.now → IsErrAnd result (λ e. (e ≡ Json json.BadHex) ⊎ IsWantOfMemory e) }
     ensures stops { (fault : RunFault) → StopsInts rle sign text.now fault
         → IsErrAnd result (λ e. (e ≡ Run fault) ⊎ IsWantOfMemory e) }
 {
     let bytes = match hex::decode(alloc, text) {
         Ok(bytes) => bytes,
-        Err(FromHexError::OutOfMemory) => return Err(CliFault::OutOfMemory),
-        Err(_) => return Err(CliFault::BadHex),
+        Err(FromHexError::OutOfMemory) => return Err(CliFault::File(FileFault::OutOfMemory)),
+        Err(_) => return Err(CliFault::Json(JsonFault::BadHex)),
     };
     match decode_all(alloc, rle, sign, &bytes) {
         Ok(values) => Ok(values),
@@ -83,12 +86,12 @@ pub fn ints_to<W: Write>(
     ensures only { (values : List ℤ) → SpellsInts rle sign text.now values → IfErr result IsOutside }
 
     ensures refused { IfErr result (RefusesInts rle sign text.now) }
-    ensures no_hex { IsNoHex text.now → IsErrAnd result (λ e. (e ≡ BadHex) ⊎ IsWantOfMemory e) }
+    ensures no_hex { IsNoHex text.now → IsErrAnd result (λ e. (e ≡ Json json.BadHex) ⊎ IsWantOfMemory e) }
     ensures stops { (fault : RunFault) → StopsInts rle sign text.now fault
         → IsErrAnd result (λ e. (e ≡ Run fault) ⊎ IsWantOfMemory e) }
-    ensures part { (values : List ℤ) → SpellsInts rle sign text.now values → result ≡ Err WriteFailed
+    ensures part { (values : List ℤ) → SpellsInts rle sign text.now values → result ≡ Err write_failed
         → AppendsPart (W.contents out.old) (W.contents out.new) (number_line values) }
-    ensures nothing { IfErr result (λ fault. fault ≢ WriteFailed
+    ensures nothing { IfErr result (λ fault. fault ≢ write_failed
         → Keeps (W.contents out.old) (W.contents out.new)) }
 {
     let values = values_of(alloc, rle, sign, text)?;

@@ -3,15 +3,12 @@
 
 mod command_line;
 mod fault;
-mod first_file;
 mod ints;
 mod output;
 mod request;
 mod rows;
-mod whole_file;
 
-pub use fault::{CliFault, FirstFault};
-pub use first_file::first_file_laws;
+pub use fault::CliFault;
 pub use ints::ints_to;
 pub use rows::rows_to;
 
@@ -19,12 +16,12 @@ pub use rows::rows_to;
 mod tests;
 
 use command_line::{Asked, Refusal, read_words, words_of};
+use orc_file::{FileFault, FileSource};
 use request::{Request, request_of};
 use std::fs::File;
 use std::io;
 use std::process::ExitCode;
 use std::rt::{Env, Files};
-use whole_file::read_whole;
 
 fn main(rt: HostRuntime) -> ExitCode {
     match run(&rt) {
@@ -49,6 +46,17 @@ fn run<R: Env + Files<File = File> + AllocGlobal + Print + Eprint>(rt: &R) -> Re
     }
 }
 
+/// The file of that path, found now.
+fn source_of<'a, R: Files<File = File>>(
+    rt: &'a R,
+    path: &'a str,
+) -> Result<FileSource<'a, R>, CliFault> {
+    match FileSource::open(rt, path) {
+        Ok(source) => Ok(source),
+        Err(_) => Err(CliFault::File(FileFault::SourceFailed)),
+    }
+}
+
 /// Answers one request on the standard output.
 fn answer<R: Files<File = File> + AllocGlobal + Print>(
     rt: &R,
@@ -57,6 +65,9 @@ fn answer<R: Files<File = File> + AllocGlobal + Print>(
     let mut out = io::writer(rt);
     match request {
         Request::Ints { rle, sign, hex } => ints_to(rt.alloc(), rle, sign, hex, &mut out),
-        Request::Rows { file } => rows_to(rt.alloc(), &read_whole(rt, file)?, &mut out),
+        Request::Rows { file } => match rows_to(rt.alloc(), source_of(rt, file)?, &mut out) {
+            Ok(_) => Ok(()),
+            Err((fault, _)) => Err(fault),
+        },
     }
 }

@@ -3,8 +3,11 @@ mod files;
 mod trickle;
 
 use crate::*;
-use files::{DATA, NO_ROWS, SEVEN, SIX_SEVENS, THREE_SEVENS, UNREAD, many_sevens};
+use files::{NO_ROWS, NO_ROWS_OF_TWINS, SEVEN, SIX_SEVENS, THREE_SEVENS, TWINS};
+use orc_file::{FileFault, SliceSource};
 use orc_rle::{Rle, RunFault, Sign};
+use orc_stripe::{StreamKind, StripeFault};
+use orc_types::{JsonFault, TypeFault};
 use std::alloc::{AllocError, Global};
 use std::process::Abort;
 use trickle::{AtItsEnd, Trickle};
@@ -58,10 +61,20 @@ const STREAMS: [(Rle, Sign, &str, Result<&str, CliFault>); 22] = [
         Rle::One,
         Sign::Unsigned,
         "0001 01fe0303",
-        Err(CliFault::BadHex),
+        Err(CliFault::Json(JsonFault::BadHex)),
     ),
-    (Rle::One, Sign::Unsigned, "0G", Err(CliFault::BadHex)),
-    (Rle::One, Sign::Unsigned, "0", Err(CliFault::BadHex)),
+    (
+        Rle::One,
+        Sign::Unsigned,
+        "0G",
+        Err(CliFault::Json(JsonFault::BadHex)),
+    ),
+    (
+        Rle::One,
+        Sign::Unsigned,
+        "0",
+        Err(CliFault::Json(JsonFault::BadHex)),
+    ),
     (
         Rle::Two,
         Sign::Unsigned,
@@ -84,7 +97,7 @@ const STREAMS: [(Rle, Sign, &str, Result<&str, CliFault>); 22] = [
         Rle::Two,
         Sign::Signed,
         "8e03370183e8000102036000 0040",
-        Err(CliFault::BadHex),
+        Err(CliFault::Json(JsonFault::BadHex)),
     ),
     (
         Rle::Two,
@@ -110,9 +123,9 @@ const BYTES_A_CALL: [usize; 4] = [1, 7, 4096, 8192];
 fn wants_memory(fault: CliFault) -> bool {
     matches!(
         fault,
-        CliFault::OutOfMemory
+        CliFault::File(FileFault::OutOfMemory)
             | CliFault::Run(RunFault::OutOfMemory)
-            | CliFault::First(FirstFault::OutOfMemory)
+            | CliFault::Json(JsonFault::OutOfMemory)
     )
 }
 
@@ -124,10 +137,23 @@ fn ints(alloc: Global, rle: Rle, sign: Sign, hex: &str, out: &mut Trickle) -> Re
     }
 }
 
-/// `rows_to` likewise.
+/// `rows_to` of a file with these bytes.
+fn printed(alloc: Global, file: &[u8], out: &mut Trickle) -> Result<(), CliFault> {
+    match rows_to(alloc, SliceSource::new(file), out) {
+        Ok(_) => Ok(()),
+        Err((fault, _)) => Err(fault),
+    }
+}
+
+/// The same, once there is memory: the files here have few stripes, and what
+/// an output got before memory was wanted is passed over.
 fn rows(alloc: Global, file: &[u8], out: &mut Trickle) -> Result<(), CliFault> {
-    match rows_to(alloc, file, out) {
-        Err(fault) if wants_memory(fault) => rows_to(alloc, file, out),
+    let start = out.written().len();
+    match printed(alloc, file, out) {
+        Err(fault) if wants_memory(fault) => {
+            out.cut(start);
+            printed(alloc, file, out)
+        }
         answer => answer,
     }
 }
@@ -173,7 +199,7 @@ fn long_outputs(rt: HostRuntime) {
         check_line_of_sevens(&rt, out.written(), 2600);
         let mut out = Trickle::new(a_call, 8192, AtItsEnd::Fails);
         assert_eq!(rt; rows(rt.alloc(), &many_sevens(), &mut out), Ok(()));
-        check_sevens(&rt, out.written(), 650);
+        check_sevens(&rt, out.written(), 127);
     }
 }
 
@@ -186,7 +212,7 @@ fn outputs_that_stop(rt: HostRuntime) {
         for stop in 0..lines.len() {
             let mut out = Trickle::new(3, stop, at_its_end);
             let answer = rows(rt.alloc(), &THREE_SEVENS, &mut out);
-            assert_eq!(rt; answer, Err(CliFault::WriteFailed));
+            assert_eq!(rt; answer, Err(CliFault::File(FileFault::WriteFailed)));
             assert_eq!(rt; out.written(), &lines[..stop]);
             if stop < line.len() {
                 let mut out = Trickle::new(3, stop, at_its_end);
@@ -197,7 +223,7 @@ fn outputs_that_stop(rt: HostRuntime) {
                     "fb020306070b",
                     &mut out,
                 );
-                assert_eq!(rt; answer, Err(CliFault::WriteFailed));
+                assert_eq!(rt; answer, Err(CliFault::File(FileFault::WriteFailed)));
                 assert_eq!(rt; out.written(), &line[..stop]);
             }
         }
@@ -212,60 +238,100 @@ fn check_sevens(rt: &impl Abort, written: &[u8], count: usize) {
     }
 }
 
-/// Whether the file has so many rows, each a seven.
-fn check_rows(rt: &impl Abort, alloc: Global, file: &[u8], count: usize) {
-    let mut out = Trickle::new(512, 512, AtItsEnd::Fails);
-    assert_eq!(rt; rows(alloc, file, &mut out), Ok(()));
-    check_sevens(rt, out.written(), count);
+/// The file of three rows with 127 of them.
+fn many_sevens() -> [u8; 120] {
+    let mut file = THREE_SEVENS;
+    file[3] = 124;
+    file[59] = 127;
+    file[75] = 127;
+    file
 }
 
-fn check_refused(rt: &impl Abort, alloc: Global, file: &[u8]) {
-    let mut out = Trickle::new(512, 512, AtItsEnd::Fails);
-    let answer = rows(alloc, file, &mut out);
-    assert_eq!(rt; answer, Err(CliFault::First(FirstFault::NotFirstForm)));
-    assert_eq!(rt; out.written().len(), 0);
-}
+/// Files and how many sevens their rows are.
+const FILES: [(&[u8], usize); 4] = [
+    (&NO_ROWS, 0),
+    (&THREE_SEVENS, 3),
+    (&SIX_SEVENS, 6),
+    (&NO_ROWS_OF_TWINS, 0),
+];
 
 #[test]
 fn rows_of_files(rt: HostRuntime) {
-    check_rows(&rt, rt.alloc(), &THREE_SEVENS, 3);
-    let mut four = THREE_SEVENS;
-    four[3] = 1;
-    check_rows(&rt, rt.alloc(), &four, 4);
-    check_refused(&rt, rt.alloc(), &NO_ROWS);
-    check_refused(&rt, rt.alloc(), &SIX_SEVENS);
-    for len in 0..THREE_SEVENS.len() {
-        check_refused(&rt, rt.alloc(), &THREE_SEVENS[..len]);
+    for (file, count) in FILES {
+        let mut out = Trickle::new(512, 512, AtItsEnd::Fails);
+        assert_eq!(rt; rows(rt.alloc(), file, &mut out), Ok(()));
+        check_sevens(&rt, out.written(), count);
     }
 }
 
-/// Each change of one byte: in the parts that aren't read it changes nothing, in DATA it gives other
-/// rows or a fault of its runs, and elsewhere the form is no longer there.
+/// A file, a place, the bytes put there, how many rows are printed then, and what is refused.
+const CHANGES: [(&[u8], usize, &[u8], usize, &str); 10] = [
+    (&TWINS, 0, &[], 0, "json 5 DuplicateField"),
+    (
+        &TWINS,
+        6,
+        &[1],
+        0,
+        "file 12 Stripe(0): stripe 3 Run(2, DATA): run 9 TooMany at 0",
+    ),
+    (
+        &THREE_SEVENS,
+        3,
+        &[1],
+        0,
+        "file 12 Stripe(0): stripe 3 Run(1, DATA): run 9 TooMany at 0",
+    ),
+    (
+        &SIX_SEVENS,
+        3,
+        &[1],
+        0,
+        "file 12 Stripe(0): stripe 3 Run(1, DATA): run 9 TooMany at 0",
+    ),
+    (
+        &SIX_SEVENS,
+        22,
+        &[1],
+        3,
+        "file 12 Stripe(1): stripe 3 Run(1, DATA): run 9 TooMany at 0",
+    ),
+    (
+        &SIX_SEVENS,
+        36,
+        &[1],
+        3,
+        "file 12 Stripe(1): stripe 2 BadEncoding(0)",
+    ),
+    (&THREE_SEVENS, 119, &[0xff], 0, "file 5 BadLengths"),
+    (&THREE_SEVENS, 103, &[1], 0, "file 3 Compressed(1)"),
+    (&THREE_SEVENS, 98, &[0x52, 0], 0, "file 4 Encrypted"),
+    (&THREE_SEVENS, 0, b"ORK", 0, "file 1 NotOrc"),
+];
+
+/// What is refused of a file with bytes changed, and the lines before.
 #[test]
-fn files_changed_in_one_byte(rt: HostRuntime) {
-    for place in 0..THREE_SEVENS.len() {
-        for change in 1..=255u8 {
-            let mut file = THREE_SEVENS;
-            file[place] ^= change;
-            if UNREAD.contains(&place) {
-                check_rows(&rt, rt.alloc(), &file, 3);
-            } else if DATA.contains(&place) {
-                check_other_rows(&rt, rt.alloc(), &file);
-            } else {
-                check_refused(&rt, rt.alloc(), &file);
-            }
+fn refused_files(rt: HostRuntime) -> Result<(), AllocError> {
+    for (file, place, bytes, count, text) in CHANGES {
+        let mut changed = file.to_vec(rt.alloc())?;
+        changed[place..place + bytes.len()].copy_from_slice(bytes);
+        let mut out = Trickle::new(512, 512, AtItsEnd::Fails);
+        match rows(rt.alloc(), &changed, &mut out) {
+            Ok(()) => assert!(rt; false, "{text}"),
+            Err(fault) => assert_eq!(rt; text_of(rt.alloc(), fault)?.as_str(), text),
         }
+        check_sevens(&rt, out.written(), count);
     }
+    Ok(())
 }
 
-/// Whether there are rows, perhaps more than the output takes, or a fault of DATA's runs and nothing.
-fn check_other_rows(rt: &impl Abort, alloc: Global, file: &[u8]) {
-    let mut out = Trickle::new(512, 512, AtItsEnd::Fails);
-    match rows(alloc, file, &mut out) {
-        Ok(()) => assert!(rt; out.written().ends_with(b"}\n")),
-        Err(CliFault::WriteFailed) => assert_eq!(rt; out.written().len(), 512),
-        Err(CliFault::First(FirstFault::Run(_))) => assert_eq!(rt; out.written().len(), 0),
-        Err(fault) => assert_eq!(rt; Ok(()), Err(fault)),
+/// No front of a file is one.
+#[test]
+fn files_cut_off(rt: HostRuntime) {
+    for len in 0..THREE_SEVENS.len() {
+        let mut out = Trickle::new(512, 512, AtItsEnd::Fails);
+        let answer = rows(rt.alloc(), &THREE_SEVENS[..len], &mut out);
+        assert!(rt; matches!(answer, Err(CliFault::File(_))), "{len} bytes");
+        assert_eq!(rt; out.written().len(), 0);
     }
 }
 
@@ -281,21 +347,30 @@ fn text_of(alloc: Global, fault: CliFault) -> Result<String, AllocError> {
 fn fault_texts(rt: HostRuntime) -> Result<(), AllocError> {
     let table = [
         (CliFault::Run(RunFault::Short(0)), "run 1 Short at 0"),
-        (CliFault::BadHex, "json 7 BadHex"),
-        (CliFault::SourceFailed, "file 14 SourceFailed"),
-        (CliFault::WriteFailed, "file 15 WriteFailed"),
-        (CliFault::OutOfMemory, "file 16 OutOfMemory"),
+        (CliFault::Json(JsonFault::BadHex), "json 7 BadHex"),
         (
-            CliFault::First(FirstFault::NotFirstForm),
-            "first 1 NotFirstForm",
+            CliFault::File(FileFault::SourceFailed),
+            "file 14 SourceFailed",
         ),
         (
-            CliFault::First(FirstFault::Run(RunFault::Short(0))),
-            "first 2 Run: run 1 Short at 0",
+            CliFault::File(FileFault::WriteFailed),
+            "file 15 WriteFailed",
         ),
         (
-            CliFault::First(FirstFault::OutOfMemory),
-            "first 3 OutOfMemory",
+            CliFault::File(FileFault::OutOfMemory),
+            "file 16 OutOfMemory",
+        ),
+        (CliFault::Json(JsonFault::OutOfMemory), "json 8 OutOfMemory"),
+        (
+            CliFault::File(FileFault::BadTypes(TypeFault::UnsupportedKind(5))),
+            "file 8 BadTypes: type 1 UnsupportedKind(5)",
+        ),
+        (
+            CliFault::File(FileFault::Stripe(
+                0,
+                StripeFault::Run(1, StreamKind::Data, RunFault::TooMany(3)),
+            )),
+            "file 12 Stripe(0): stripe 3 Run(1, DATA): run 9 TooMany at 3",
         ),
     ];
     for (fault, text) in table {

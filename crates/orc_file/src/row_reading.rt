@@ -32,8 +32,10 @@ fn append_owned(
 }
 
 impl<S: Source> OrcFile<S> {
-    /// The rows of the stripe with this number, over its bytes.
-    fn stripe_rows<'a>(
+    /// The rows of the stripe with this number, over its bytes. Their texts and bytes are slices of these.
+    ///
+    /// Refusals: `Stripe` with the number, and why the bytes are no stripe of any rows; `OutOfMemory`.
+    pub fn stripe_rows<'a>(
         &'a self,
         alloc: Global,
         number: usize,

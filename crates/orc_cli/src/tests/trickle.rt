@@ -40,6 +40,11 @@ impl Trickle {
     pub fn written(&self) -> &[u8] {
         &self.bytes[..self.len]
     }
+
+    /// Forgets all bytes but so many at the front.
+    pub fn cut(&mut self, len: usize) {
+        self.len = self.len.min(len);
+    }
 }
 
 impl Write for Trickle {

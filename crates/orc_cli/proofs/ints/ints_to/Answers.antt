@@ -1,8 +1,20 @@
-use Rattle.std.proofs.Common.{◌≡◌, List, ℕ, ap, subst, ◌∙◌}
-use Rattle.orc_cli.specs.Ints.{number_line}
-use Rattle.orc_cli.specs.Output.{AppendsPart}
+use Rattle.std.proofs.Common.{◌≡◌, List, ℕ, ℤ, ap, subst, ◌∙◌, Result, Ok, Err, IfErr, inr}
+use Rattle.orc_rle.specs.declared.sign.Rle.{Rle}
+use Rattle.orc_rle.specs.declared.sign.Sign.{Sign}
+use Rattle.orc_cli.specs.Ints.{number_line, SpellsInts, RefusesInts}
+use Rattle.orc_cli.specs.Output.{AppendsPart, write_failed}
+use Rattle.orc_cli.specs.declared.fault.CliFault.{CliFault}
 use Rattle.orc_cli.proofs.OutputLemmas.{outside_from}
 use Rattle.orc_cli.proofs.ints.ints_to.Goals as goal
+
+output_refused : (r : Result (Unit {0}) CliFault) (rle : Rle) (sign : Sign) (text : List ℕ) (values : List ℤ) → SpellsInts rle sign text values → IfErr r (λ fault. fault ≡ write_failed)
+    → IfErr r (RefusesInts rle sign text)
+output_refused (Ok _) rle sign text values is failed = tt
+output_refused (Err fault) rle sign text values is failed = inr (failed, (values, is))
+
+pub returns-clause-refused : goal.returns-clause-refused
+returns-clause-refused g c =
+    output_refused c.write_out.result c.args.rle c.args.sign c.args.text.now c.in_ok-values.values.items c.in_ok-values.ensures.found c.write_out.ensures.refused
 
 pub returns-in_err-values-clause-only : goal.returns-in_err-values-clause-only
 returns-in_err-values-clause-only g c = λ values spells.

@@ -1,4 +1,4 @@
-use Rattle.std.proofs.Common.{ap, inr}
+use Rattle.std.proofs.Common.{ap, inl, inr}
 use Rattle.orc_cli.specs.declared.fault.CliFault.TheVariants.{Run}
 use Rattle.orc_cli.proofs.IntsLemmas.{decoded_stream}
 use Rattle.orc_cli.proofs.ints.values_of.Goals as goal
@@ -11,4 +11,4 @@ returns-in-Ok-decode_all-clause-same c = λ values spells.
 pub returns-clause-only : goal.returns-clause-only
 returns-clause-only c = λ values spells.
     let decoded = rw (← c.deref.ensures.value) at c.in-Ok.ensures.ok in
-    inr (ap Run (c.in-Err-decode_all.ensures.only values (decoded_stream c.args.rle c.args.sign c.args.text.now c.deref.result.now values decoded spells)))
+    inr (inl (ap Run (c.in-Err-decode_all.ensures.only values (decoded_stream c.args.rle c.args.sign c.args.text.now c.deref.result.now values decoded spells))))
