@@ -372,6 +372,7 @@ impl<W: Sink> Writer<W> {
             → self.failed ≡ false
             → IfErr result (λ e. IsCutOff self.options.rle self.options.stripe_rows self.schema first (W.told e.1) rows) }
         ensures write_failed { IfErr result (λ e. e.0 ≡ fault.WriteFailed → W.failures self.out < W.failures e.1) }
+        ensures no_failure { IfOk result (λ done. W.failures done.1 ≡ W.failures self.out) }
     {
         let mut writer = self;
         if writer.failed {
