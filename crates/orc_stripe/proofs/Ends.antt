@@ -2,11 +2,12 @@
 use Rattle.std.proofs.Common.{◌≡◌, ℕ, ◌-◌, ◌≤◌, Bool, true, false, List, [], ◌∷◌, length, take, drop, get_or, refl, sym, ap, ◌∙◌, subst, arith, length-drop}
 use Rattle.std.specs.Bool.{MatchBool}
 use Rattle.std.proofs.Math.Seq.{take-length}
-use Rattle.orc_types.specs.Shapes.{Shape, list_of, struct_of, Fields, field, width}
+use Rattle.orc_types.specs.Shapes.{Shape, scalar, list_of, struct_of, Fields, field, width}
+use Rattle.orc_types.specs.declared.kind.Scalar.{Scalar}
 use Rattle.orc_stripe.specs.declared.column.ColumnReader.{ColumnReader}
 use Rattle.orc_stripe.specs.Numbers.{NumbersLeft}
 use Rattle.orc_stripe.specs.Spellings.{AllStand, Standing, Fielded, zip_cons}
-use Rattle.orc_stripe.specs.Columns.{IsList, IsRecord, MarksLeft, CellsLeft, OwnLeft, ValuesLeft, ListsLeft, FieldsLeft}
+use Rattle.orc_stripe.specs.Columns.{IsList, IsRecord, MarksLeft, ScalarLeft, CellsLeft, OwnLeft, ValuesLeft, ListsLeft, FieldsLeft}
 use Rattle.orc_stripe.proofs.Arms.{behind}
 
 -- ---- the ways of spelling
@@ -46,6 +47,10 @@ cells_marks s (own ∷ below) d h = h.0
 pub cells_values : (s : Shape) (rs : List ColumnReader) → CellsLeft s rs [] → OwnLeft s rs []
 cells_values s [] h = h
 cells_values s (own ∷ below) h = h.1
+
+pub scalar_ended : (s : Shape) (k : Scalar) (o : List ℕ) (rs : List ColumnReader) (d : ColumnReader) → s ≡ scalar k o → 1 ≤ length rs → ScalarLeft k (get_or rs 0 d).source [] → OwnLeft s rs []
+scalar_ended s k o [] d is some p = absurd (omega (arith, some))
+scalar_ended s k o (own ∷ below) d is some p = rw is p
 
 pub list_ended : (s e : Shape) (o : List ℕ) (rs : List ColumnReader) (d : ColumnReader) → s ≡ list_of e o → 1 ≤ length rs → NumbersLeft (get_or rs 0 d).source.numbers [] → CellsLeft e (take (length rs - 1) (drop 1 rs)) [] → OwnLeft s rs []
 list_ended s e o [] d is some p q = absurd (omega (arith, some))

@@ -10,28 +10,32 @@ use Rattle.orc_stripe.specs.declared.column.Source.{Source}
 use Rattle.orc_stripe.specs.declared.fault.StripeFault.{StripeFault}
 use Rattle.orc_stripe.specs.Stripe.{Streams}
 use Rattle.orc_stripe.specs.Starting.{IsOf, AreOf, AreBelow, AreFields}
-use Rattle.orc_stripe.specs.Faults.{MarksFail, ColumnFails, HasFault, FaultBelow, FaultWithin, FaultDown, TooManyRows}
-use Rattle.orc_stripe.specs.ReaderFaults.{ScalarMeets, ListsMeet, ValuesMeet, MarksMeet, CellsMeet, BelowMeet, FieldsMeet, ListsOfMeet, marks_bytes}
+use Rattle.orc_stripe.specs.Faults.{RunsFail, ColumnFails, HasFault, FaultBelow, FaultWithin, FaultDown, TooManyRows}
+use Rattle.orc_stripe.specs.ReaderFaults.{ScalarMeets, ListsMeet, ValuesMeet, PresentMeets, CellsMeet, BelowMeet, FieldsMeet, ListsOfMeet}
 use Rattle.orc_stripe.proofs.Arms.{put_behind, behind, some_width}
+use Rattle.orc_rle.specs.declared.fault.RunFault.{RunFault}
+use Rattle.orc_stripe.specs.declared.fault.StreamKind.TheVariants as stream
+use Rattle.orc_stripe.specs.RunsMet.{MarksMeet}
+use Rattle.orc_stripe.proofs.MetLemmas.{runs_before}
 use Rattle.orc_stripe.proofs.StartFaults.{values_start, marks_start}
 
 -- ---- what is met afterwards was met before
 
-marks_before : (own own' : ColumnReader) (f : StripeFault) → marks_bytes own'.present ≡ marks_bytes own.present → own'.source.column ≡ own.source.column → MarksMeet own' f → MarksMeet own f
-marks_before own own' f e g h = subst (λ c. MarksFail (marks_bytes own.present) c f) g (subst (λ b. MarksFail b own'.source.column f) e h)
+marks_before : (own own' : ColumnReader) (f : StripeFault) → ((g : RunFault) → MarksMeet own'.present g → MarksMeet own.present g) → own'.source.column ≡ own.source.column → PresentMeets own' f → PresentMeets own f
+marks_before own own' f e g h = subst (λ c. RunsFail stream.Present c (MarksMeet own.present) f) g (runs_before stream.Present own'.source.column (MarksMeet own'.present) (MarksMeet own.present) f e h)
 
-own_before : (s : Shape) (own own' : ColumnReader) (below : List ColumnReader) (f : StripeFault) → own'.source ≡ own.source → marks_bytes own'.present ≡ marks_bytes own.present
+own_before : (s : Shape) (own own' : ColumnReader) (below : List ColumnReader) (f : StripeFault) → own'.source ≡ own.source → ((g : RunFault) → MarksMeet own'.present g → MarksMeet own.present g)
     → CellsMeet s (own' ∷ below) f → CellsMeet s (own ∷ below) f
 own_before s own own' below f e g (inl h) = inl (marks_before own own' f g (ap (λ (r : Source). r.column) e) h)
 own_before s own own' below f e g (inr (inl h)) = inr (inl (subst (λ r. ValuesMeet s r f) e h))
 own_before s own own' below f e g (inr (inr h)) = inr (inr h)
 
 pub mark_before : (s : Shape) (before : List ColumnReader) (own' d : ColumnReader) (f : StripeFault) → 1 ≤ length before → own'.source ≡ (get_or before 0 d).source
-    → marks_bytes own'.present ≡ marks_bytes (get_or before 0 d).present → CellsMeet s (slice_set before 0 own') f → CellsMeet s before f
+    → ((g : RunFault) → MarksMeet own'.present g → MarksMeet (get_or before 0 d).present g) → CellsMeet s (slice_set before 0 own') f → CellsMeet s before f
 mark_before s [] own' d f some e g h = absurd (omega (arith, some))
 mark_before s (own ∷ below) own' d f some e g h = own_before s own own' below f e g h
 
-scalar_own : (k : Scalar) (o : List ℕ) (own own' : ColumnReader) (below : List ColumnReader) (f : StripeFault) → marks_bytes own'.present ≡ marks_bytes own.present → own'.source.column ≡ own.source.column
+scalar_own : (k : Scalar) (o : List ℕ) (own own' : ColumnReader) (below : List ColumnReader) (f : StripeFault) → ((g : RunFault) → MarksMeet own'.present g → MarksMeet own.present g) → own'.source.column ≡ own.source.column
     → (ScalarMeets k own'.source f → ScalarMeets k own.source f) → CellsMeet (scalar k o) (own' ∷ below) f → CellsMeet (scalar k o) (own ∷ below) f
 scalar_own k o own own' below f g e p (inl h) = inl (marks_before own own' f g e h)
 scalar_own k o own own' below f g e p (inr (inl h)) = inr (inl (p h))
@@ -43,9 +47,9 @@ pub scalar_before : (s : Shape) (k : Scalar) (o : List ℕ) (before : List Colum
 scalar_before s k o [] d source f is some e p h = absurd (omega (arith, some))
 scalar_before s k o (own ∷ below) d source f is some e p h =
     subst (λ z. CellsMeet z (own ∷ below) f) (sym is)
-    (scalar_own k o own (record { present = own.present; source = source }) below f refl e p (subst (λ z. CellsMeet z (record { present = own.present; source = source } ∷ below) f) is h))
+    (scalar_own k o own (record { present = own.present; source = source }) below f (λ g k. k) e p (subst (λ z. CellsMeet z (record { present = own.present; source = source } ∷ below) f) is h))
 
-list_own : (e : Shape) (own own' : ColumnReader) (below ys : List ColumnReader) (f : StripeFault) → marks_bytes own'.present ≡ marks_bytes own.present → own'.source.column ≡ own.source.column
+list_own : (e : Shape) (own own' : ColumnReader) (below ys : List ColumnReader) (f : StripeFault) → ((g : RunFault) → MarksMeet own'.present g → MarksMeet own.present g) → own'.source.column ≡ own.source.column
     → (ListsMeet own'.source f → ListsMeet own.source f) → (CellsMeet e ys f → CellsMeet e below f) → ListsOfMeet e (own' ∷ ys) f → ListsOfMeet e (own ∷ below) f
 list_own e own own' below ys f g c p q (inl h) = inl (marks_before own own' f g c h)
 list_own e own own' below ys f g c p q (inr (inl h)) = inr (inl (p h))
@@ -57,7 +61,7 @@ pub list_before : (e : Shape) (before ys : List ColumnReader) (d : ColumnReader)
     → ListsOfMeet e (put_mid 1 (length (slice_set before 0 own') - 1) (slice_set before 0 own') ys) f → ListsOfMeet e before f
 list_before e [] ys d own' f some g c p q h = absurd (omega (arith, some))
 list_before e (own ∷ below) ys d own' f some g c p q h =
-    list_own e own own' below ys f (ap marks_bytes g) c p (λ k. subst (λ t. CellsMeet e t f) (behind own' below) (q k)) (subst (λ t. ListsOfMeet e t f) (put_behind own' below ys) h)
+    list_own e own own' below ys f (λ i k. subst (λ t. MarksMeet t i) g k) c p (λ k. subst (λ t. CellsMeet e t f) (behind own' below) (q k)) (subst (λ t. ListsOfMeet e t f) (put_behind own' below ys) h)
 
 pub lists_cells : (s e : Shape) (o : List ℕ) (readers : List ColumnReader) (f : StripeFault) → s ≡ list_of e o → ListsOfMeet e readers f → CellsMeet s readers f
 lists_cells s e o [] f is h = h
@@ -97,7 +101,7 @@ fields_before all name s fs before after own own' rest rest' f is eo er ea n p q
 
 -- ---- the fault that is met
 
-pub reader_marks : (s : Shape) (before : List ColumnReader) (d : ColumnReader) (f : StripeFault) → 1 ≤ length before → MarksFail (marks_bytes (get_or before 0 d).present) (get_or before 0 d).source.column f → CellsMeet s before f
+pub reader_marks : (s : Shape) (before : List ColumnReader) (d : ColumnReader) (f : StripeFault) → 1 ≤ length before → PresentMeets (get_or before 0 d) f → CellsMeet s before f
 reader_marks s [] d f some h = absurd (omega (arith, some))
 reader_marks s (own ∷ below) d f some h = inl h
 
@@ -137,7 +141,7 @@ fields_others_fault all name s fs before rest f is er h = subst (λ z. FieldsMee
 own_down : (s : Shape) (columns : ℕ → Streams) (n : ℕ) (own : ColumnReader) (below : List ColumnReader) (f : StripeFault) → IsOf s columns n own → (BelowMeet s below f → FaultBelow s columns n f)
     → CellsMeet s (own ∷ below) f → FaultDown s columns n f
 own_down s columns n own below f is deeper (inl h) =
-    inl (inl (subst (λ c. MarksFail ((columns n).stream 0) c f) is.1 (subst (λ b. MarksFail b own.source.column f) (marks_start ((columns n).stream 0) own.present is.0.0) h)))
+    inl (inl (marks_start ((columns n).stream 0) own.present own.source.column n f is.0.0 is.1 h))
 own_down s columns n own below f is deeper (inr (inl h)) = inl (inr (inr (values_start s (columns n) own.source n f is.0.1 is.1 h)))
 own_down s columns n own below f is deeper (inr (inr h)) = inr (deeper h)
 

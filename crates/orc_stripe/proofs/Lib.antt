@@ -1,5 +1,6 @@
 pub mod Fronts
 pub mod RunsLemmas
+pub mod RunsMetLemmas
 pub mod NumbersLemmas
 pub mod BitsLemmas
 pub mod ReaderLemmas

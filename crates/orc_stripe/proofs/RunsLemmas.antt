@@ -49,7 +49,7 @@ past_end zero (x ∷ xs) h = absurd (omega (arith, h))
 past_end (suc n) [] h = refl
 past_end (suc n) (x ∷ xs) h = past_end n xs (omega (arith, h))
 
-not_past_end : {X : Type 0} (n : ℕ) (xs : List X) → drop n xs ≡ [] → length xs ≤ n
+pub not_past_end : {X : Type 0} (n : ℕ) (xs : List X) → drop n xs ≡ [] → length xs ≤ n
 not_past_end zero [] h = omega arith
 not_past_end zero (x ∷ xs) h = cc
 not_past_end (suc n) [] h = omega arith

@@ -1,5 +1,5 @@
 -- What a reader meets at the start of its streams is a fault of its streams.
-use Rattle.std.proofs.Common.{◌≡◌, ℕ, ℤ, pos, Bool, true, false, Option, Some, None, List, [], ◌∷◌, ◌<◌, map, length, drop, sum, refl, sym, ap, ◌∙◌, subst, inl, inr}
+use Rattle.std.proofs.Common.{◌≡◌, ℕ, ℤ, pos, Bool, true, false, Option, Some, None, List, [], ◌∷◌, ◌<◌, map, length, drop, sum, sym, ap, ◌∙◌, subst, inl, inr, arith}
 use Rattle.orc_types.specs.Fits.{int_fits, signed_fits}
 use Rattle.orc_types.specs.Shapes.{Shape, scalar, list_of, struct_of}
 use Rattle.orc_types.specs.declared.kind.Scalar.{Scalar}
@@ -19,27 +19,67 @@ use Rattle.orc_stripe.specs.declared.numbers.Numbers.{Numbers}
 use Rattle.orc_stripe.specs.declared.octets.Octets.{Octets}
 use Rattle.orc_stripe.specs.declared.version.Version.{Version}
 use Rattle.orc_stripe.specs.Columns.{entry_bytes}
-use Rattle.orc_stripe.specs.Faults.{DataFail, NumbersFail, IntsFail, GroupsFail, WordsFail, TextsFail, ScalarFails, ListsFail, ValuesFail, data_of, indexes_of, lengths_of}
+use Rattle.orc_stripe.specs.Faults.{RunsFail, MarksFail, NumbersFail, IntsFail, GroupsFail, WordsFail, TextsFail, ScalarFails, ListsFail, ValuesFail, data_of, indexes_of, lengths_of}
 use Rattle.orc_stripe.specs.Numbers.{is_run, NumbersFirst}
-use Rattle.orc_stripe.specs.ReaderFaults.{Pass, IntsMeet, GroupsMeet, TextMeets, WordsMeet, TextsMeet, ScalarMeets, ListsMeet, ValuesMeet, marks_bytes}
-use Rattle.orc_stripe.specs.RunFaults.{Integers, IntegersFirst, integers_of}
+use Rattle.orc_stripe.specs.ReaderFaults.{Pass, IntsMeet, GroupsMeet, TextMeets, WordsMeet, TextsMeet, ScalarMeets, ListsMeet, ValuesMeet}
+use Rattle.orc_stripe.specs.RunFaults.{Integers, IntegersFirst, IntegersFail, ByteRunsFail, no_run}
 use Rattle.orc_stripe.specs.Runs.{RunsFirst}
 use Rattle.orc_stripe.specs.Spellings.{size}
-use Rattle.orc_stripe.specs.Starting.{NumbersStart, MarksStart, TextsStart, ScalarStart, SourceStart}
+use Rattle.orc_stripe.specs.Starting.{NumbersStart, BytesStart, BitsStart, MarksStart, TextsStart, ScalarStart, SourceStart}
 use Rattle.orc_stripe.specs.Stripe.{Streams, version, has_dictionary, IsDictionary, most_cells}
 use Rattle.orc_stripe.specs.ValueFaults.{NotAll, is_index, names_text}
 use Rattle.orc_stripe.proofs.FirstLemmas.{first_begins, begin_lengths}
+use Rattle.orc_rle.specs.ByteRun.{IsByteRun, NoByteRun}
+use Rattle.orc_rle.specs.declared.fault.RunFault.{RunFault}
+use Rattle.orc_stripe.specs.declared.bytes.Bytes.{Bytes}
+use Rattle.orc_stripe.specs.RunsMet.{RunsMeet, NumbersMeet, BytesMeet, BitsMeet, MarksMeet}
+use Rattle.orc_stripe.proofs.MetLemmas.{runs_before}
+use Rattle.orc_stripe.proofs.RunsMetLemmas.{met_start}
 use Rattle.orc_stripe.proofs.StartLemmas.{numbers_alike}
 
 abbrev pub integers_from : Version → Sign → List ℕ → Integers
 integers_from version sign bytes = record { version = version; sign = sign; bytes = bytes }
 
--- a reader at the start of its stream is of that stream
-pub integers_start : (v : Version) (sign : Sign) (bytes : List ℕ) (r : Numbers) → NumbersStart v sign bytes r → integers_of r ≡ record { version = v; sign = sign; bytes = bytes }
-integers_start v sign bytes r s =
-    ap (λ k. integers_from k r.sign r.bytes.now) s.version_is ∙ ap (λ k. integers_from v k r.bytes.now) s.sign_is ∙ ap (λ k. integers_from v sign k) s.bytes_are
+-- ---- runs
 
--- and gives first what comes first in it
+numbers_met : (v : Version) (sign : Sign) (bytes : List ℕ) (r : Numbers) (f : RunFault) → NumbersStart v sign bytes r → NumbersMeet r f → IntegersFail (integers_from v sign bytes) f
+numbers_met v sign bytes r f s h =
+    let pending : List ℤ = drop r.used r.run.values in
+    let rest : List ℕ = drop r.at r.bytes.now in
+    let d : pending ≡ [] = ap (λ n. drop n r.run.values) s.unused ∙ s.no_run in
+    let b : rest ≡ bytes = ap (λ n. drop n r.bytes.now) s.at_start ∙ s.bytes_are in
+    let k = subst (λ w. RunsMeet (is_run w r.sign) (no_run w r.sign) pending rest r.start r.at (length r.bytes.now) f) s.version_is h in
+    let l = subst (λ g. RunsMeet (is_run v g) (no_run v g) pending rest r.start r.at (length r.bytes.now) f) s.sign_is k in
+    let m = subst (λ t. RunsMeet (is_run v sign) (no_run v sign) pending t r.start r.at (length r.bytes.now) f) b l in
+    met_start (is_run v sign) (no_run v sign) pending bytes r.start r.at (length r.bytes.now) f d s.at_start (ap length s.bytes_are) m
+
+bytes_met : (bytes : List ℕ) (r : Bytes) (f : RunFault) → BytesStart bytes r → BytesMeet r f → ByteRunsFail bytes f
+bytes_met bytes r f s h =
+    let pending : List ℕ = drop r.used r.run.values in
+    let d : pending ≡ [] = ap (λ n. drop n r.run.values) s.unused ∙ s.no_run in
+    let b : drop r.at r.bytes.now ≡ bytes = ap (λ n. drop n r.bytes.now) s.at_start ∙ s.bytes_are in
+    let m = subst (λ t. RunsMeet IsByteRun NoByteRun pending t r.start r.at (length r.bytes.now) f) b h in
+    met_start IsByteRun NoByteRun pending bytes r.start r.at (length r.bytes.now) f d s.at_start (ap length s.bytes_are) m
+
+bits_met : (bytes : List ℕ) (r : Bits) (f : RunFault) → BitsStart bytes r → BitsMeet r f → ByteRunsFail bytes f
+bits_met bytes r f s (inl h) = bytes_met bytes r.bytes f s.runs h
+bits_met bytes r f s (inr h) = absurd (omega (arith, h.0, s.none_left))
+
+runs_start : (kind : StreamKind) (c n : ℕ) (met fails : RunFault → Type 0) (f : StripeFault) → c ≡ n → ((g : RunFault) → met g → fails g) → RunsFail kind c met f → RunsFail kind n fails f
+runs_start kind c n met fails f e p h = subst (λ k. RunsFail kind k fails f) e (runs_before kind c met fails f p h)
+
+numbers_fail : (kind : StreamKind) (from : Integers) (r : Numbers) (c n : ℕ) (f : StripeFault) → NumbersStart from.version from.sign from.bytes r → c ≡ n → RunsFail kind c (NumbersMeet r) f → NumbersFail kind from n f
+numbers_fail kind from r c n f s e h = runs_start kind c n (NumbersMeet r) (IntegersFail from) f e (λ g k. numbers_met from.version from.sign from.bytes r g s k) h
+
+pub marks_start : (bytes : List ℕ) (present : Option Bits) (c n : ℕ) (f : StripeFault) → MarksStart bytes present → c ≡ n → RunsFail stream.Present c (MarksMeet present) f → MarksFail bytes n f
+marks_start [] None c n f s e h = absurd h.3
+marks_start [] (Some bits) c n f s e h = absurd s
+marks_start (b ∷ bs) None c n f s e h = absurd s
+marks_start (b ∷ bs) (Some bits) c n f s e h = runs_start stream.Present c n (BitsMeet bits) (ByteRunsFail (b ∷ bs)) f e (λ g k. bits_met (b ∷ bs) bits g s k) h
+
+-- ---- values
+
+-- a reader at the start of a stream gives first what comes first in it
 first_start : (v : Version) (sign : Sign) (bytes : List ℕ) (r : Numbers) (all : List ℤ) → NumbersStart v sign bytes r → NumbersFirst r all → IntegersFirst (integers_from v sign bytes) all
 first_start v sign bytes r all s h =
     let pending : List ℤ = drop r.used r.run.values in
@@ -50,14 +90,10 @@ first_start v sign bytes r all s h =
     let l = subst (λ g. RunsFirst (is_run v g) pending rest all) s.sign_is k in
     first_begins (is_run v sign) pending bytes all d (subst (λ t. RunsFirst (is_run v sign) pending t all) b l)
 
-numbers_fail : (kind : StreamKind) (from : Integers) (r : Numbers) (c n : ℕ) (f : StripeFault) → NumbersStart from.version from.sign from.bytes r → c ≡ n → NumbersFail kind (integers_of r) c f → NumbersFail kind from n f
-numbers_fail kind from r c n f s e h =
-    subst (λ k. NumbersFail kind from k f) e (subst (λ i. NumbersFail kind i c f) (integers_start from.version from.sign from.bytes r s) h)
-
 not_all_start : (passes : ℤ → Bool) (from : Integers) (r : Numbers) → NumbersStart from.version from.sign from.bytes r → NotAll passes (NumbersFirst r) → NotAll passes (IntegersFirst from)
 not_all_start passes from r s h = (h.0, first_start from.version from.sign from.bytes r h.0 s h.1, h.2)
 
-ints_start : (fits : ℤ → Bool) (from : Integers) (r : Numbers) (c n : ℕ) (f : StripeFault) → NumbersStart from.version from.sign from.bytes r → c ≡ n → IntsMeet fits r c f → IntsFail fits from (IntegersFirst from) n f
+ints_start : (fits : ℤ → Bool) (from : Integers) (r : Numbers) (c n : ℕ) (f : StripeFault) → NumbersStart from.version from.sign from.bytes r → c ≡ n → IntsMeet fits r c f → IntsFail fits (IntegersFail from) (IntegersFirst from) n f
 ints_start fits from r c n f s e (inl h) = inl (numbers_fail stream.Data from r c n f s e h)
 ints_start fits from r c n f s e (inr h) = inr (h.0 ∙ ap (λ k. fault.OutOfRange k) e, not_all_start fits from r s h.1)
 
@@ -91,12 +127,9 @@ texts_start x true (Some entries) r n f s e h = words_start x (map entry_bytes e
 texts_start x false None r n f s e h = text_start x r n f s.0 s.1 e h
 texts_start x false (Some entries) r n f s e h = absurd s
 
-data_start : (bytes there : List ℕ) (c n : ℕ) (f : StripeFault) → there ≡ bytes → c ≡ n → DataFail there c f → DataFail bytes n f
-data_start bytes there c n f b e h = subst (λ k. DataFail bytes k f) e (subst (λ t. DataFail t c f) b h)
-
 scalar_start : (k : Scalar) (x : Streams) (r : Source) (n : ℕ) (f : StripeFault) → ScalarStart k x r → r.column ≡ n → ScalarMeets k r f → ScalarFails k x n f
-scalar_start kind.Boolean x r n f s e h = data_start (x.stream 1) r.bits.bytes.bytes.now r.column n f s.runs.bytes_are e h
-scalar_start kind.Byte x r n f s e h = data_start (x.stream 1) r.bytes.bytes.now r.column n f s.bytes_are e h
+scalar_start kind.Boolean x r n f s e h = runs_start stream.Data r.column n (BitsMeet r.bits) (ByteRunsFail (x.stream 1)) f e (λ g k. bits_met (x.stream 1) r.bits g s k) h
+scalar_start kind.Byte x r n f s e h = runs_start stream.Data r.column n (BytesMeet r.bytes) (ByteRunsFail (x.stream 1)) f e (λ g k. bytes_met (x.stream 1) r.bytes g s k) h
 scalar_start kind.Short x r n f s e h = ints_start (int_fits kind.Short) (data_of x) r.numbers r.column n f s e h
 scalar_start kind.Int x r n f s e h = ints_start (int_fits kind.Int) (data_of x) r.numbers r.column n f s e h
 scalar_start kind.Long x r n f s e h = numbers_fail stream.Data (data_of x) r.numbers r.column n f s e h
@@ -113,9 +146,3 @@ pub values_start : (s : Shape) (x : Streams) (r : Source) (n : ℕ) (f : StripeF
 values_start (scalar k o) x r n f s e h = scalar_start k x r n f s e h
 values_start (list_of t o) x r n f s e h = lists_start x r n f s.0 s.1 e h
 values_start (struct_of fs o) x r n f s e h = h
-
-pub marks_start : (bytes : List ℕ) (present : Option Bits) → MarksStart bytes present → marks_bytes present ≡ bytes
-marks_start [] None s = refl
-marks_start [] (Some bits) s = absurd s
-marks_start (b ∷ bs) None s = absurd s
-marks_start (b ∷ bs) (Some bits) s = s.runs.bytes_are

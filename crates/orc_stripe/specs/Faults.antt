@@ -43,8 +43,8 @@ abbrev pub lengths_of : Streams → Integers
 lengths_of x = record { version = version x; sign = Unsigned; bytes = x.stream 2 }
 
 -- numbers, and one of them outside of the column's type
-abbrev pub IntsFail : (ℤ → Bool) → Integers → (List ℤ → Type 0) → ℕ → StripeFault → Type 0
-IntsFail fits from first column f = NumbersFail stream.Data from column f ⊎ ((f ≡ fault.OutOfRange column) × NotAll fits first)
+abbrev pub IntsFail : (ℤ → Bool) → (RunFault → Type 0) → (List ℤ → Type 0) → ℕ → StripeFault → Type 0
+IntsFail fits runs first column f = RunsFail stream.Data column runs f ⊎ ((f ≡ fault.OutOfRange column) × NotAll fits first)
 
 -- groups of bytes: their lengths, or a stream that has other bytes than these are together
 abbrev pub GroupsFail : StreamKind → Integers → List ℕ → ℕ → StripeFault → Type 0
@@ -72,10 +72,10 @@ TextsFail false x column f =
 abbrev pub ScalarFails : Scalar → Streams → ℕ → StripeFault → Type 0
 ScalarFails kind.Boolean x column f = DataFail (x.stream 1) column f
 ScalarFails kind.Byte x column f = DataFail (x.stream 1) column f
-ScalarFails kind.Short x column f = IntsFail (int_fits kind.Short) (data_of x) (IntegersFirst (data_of x)) column f
-ScalarFails kind.Int x column f = IntsFail (int_fits kind.Int) (data_of x) (IntegersFirst (data_of x)) column f
+ScalarFails kind.Short x column f = IntsFail (int_fits kind.Short) (IntegersFail (data_of x)) (IntegersFirst (data_of x)) column f
+ScalarFails kind.Int x column f = IntsFail (int_fits kind.Int) (IntegersFail (data_of x)) (IntegersFirst (data_of x)) column f
 ScalarFails kind.Long x column f = NumbersFail stream.Data (data_of x) column f
-ScalarFails kind.Date x column f = IntsFail (signed_fits 31) (data_of x) (IntegersFirst (data_of x)) column f
+ScalarFails kind.Date x column f = IntsFail (signed_fits 31) (IntegersFail (data_of x)) (IntegersFirst (data_of x)) column f
 ScalarFails kind.Binary x column f = GroupsFail stream.Data (lengths_of x) (x.stream 1) column f
 ScalarFails kind.String x column f = TextsFail (has_dictionary x) x column f
 

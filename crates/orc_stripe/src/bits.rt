@@ -1,8 +1,9 @@
-ghost use Rattle.std.specs.Prelude.{◌≡◌, ◌<◌, ◌/◌, ◌%◌, ◌^◌, [], ◌∷◌, IfOk, IfErr, OnErr};
+ghost use Rattle.std.specs.Prelude.{◌≡◌, ◌<◌, ◌/◌, ◌%◌, ◌^◌, [], ◌∷◌, IfOk, IfErr, OnOk, OnErr};
 ghost use Rattle.orc_rle.specs.BitStream.{digit};
+ghost use Rattle.orc_rle.specs.declared.fault.RunFault.{RunFault as Fault};
 ghost use Rattle.orc_stripe.specs.Fronts.{Leaves, Lacks};
 ghost use Rattle.orc_stripe.specs.Bits.{BitsLeft};
-ghost use Rattle.orc_stripe.specs.RunFaults.{ByteRunsFail};
+ghost use Rattle.orc_stripe.specs.RunsMet.{BitsMeet};
 
 use crate::bytes::Bytes;
 use orc_rle::RunFault;
@@ -28,8 +29,8 @@ impl<'a> Bits<'a> {
     pub(crate) fn next(&mut self) -> Result<bool, RunFault>
         ensures found { IfOk result (λ b. Leaves (BitsLeft self.old) (BitsLeft self.new) (b ∷ [])) }
         ensures none { OnErr result (Lacks (BitsLeft self.old) 1) }
-        ensures same { self.new.bytes.bytes.now ≡ self.old.bytes.bytes.now }
-        ensures fault { IfErr result (ByteRunsFail self.old.bytes.bytes.now) }
+        ensures before { OnOk result ((f : Fault) → BitsMeet self.new f → BitsMeet self.old f) }
+        ensures fault { IfErr result (BitsMeet self.old) }
     {
         if self.left == 0 {
             match self.bytes.next() {

@@ -1,8 +1,9 @@
 ghost use Rattle.std.specs.Prelude.{◌≡◌, ◌≢◌, [], ◌∷◌, ◌<◌, IfOk, IfErr, OnOk, OnErr, length};
 ghost use Rattle.orc_rle.specs.declared.fault.RunFault.TheVariants.{OutOfMemory};
+ghost use Rattle.orc_rle.specs.declared.fault.RunFault.{RunFault as Fault};
 ghost use Rattle.orc_stripe.specs.Fronts.{Leaves, Lacks};
 ghost use Rattle.orc_stripe.specs.Bytes.{BytesLeft};
-ghost use Rattle.orc_stripe.specs.RunFaults.{ByteRunsFail};
+ghost use Rattle.orc_stripe.specs.RunsMet.{BytesMeet};
 
 use crate::fault::moved;
 use orc_rle::{ByteRuns, RunFault, RunU8};
@@ -25,8 +26,8 @@ impl<'a> Bytes<'a> {
         ensures found { OnOk result (Leaves (BytesLeft self.old) (BytesLeft self.new) []) }
         ensures some { OnOk result (self.new.used < length self.new.run.values) }
         ensures none { OnErr result (Lacks (BytesLeft self.old) 1) }
-        ensures same { self.new.bytes.now ≡ self.old.bytes.now }
-        ensures fault { IfErr result (ByteRunsFail self.old.bytes.now) }
+        ensures before { OnOk result ((f : Fault) → BytesMeet self.new f → BytesMeet self.old f) }
+        ensures fault { IfErr result (BytesMeet self.old) }
     {
         while self.used >= self.run.values().len() {
             if self.at >= self.bytes.len() {
@@ -49,8 +50,8 @@ impl<'a> Bytes<'a> {
     pub(crate) fn next(&mut self) -> Result<u8, RunFault>
         ensures found { IfOk result (λ byte. Leaves (BytesLeft self.old) (BytesLeft self.new) (byte ∷ [])) }
         ensures none { OnErr result (Lacks (BytesLeft self.old) 1) }
-        ensures same { self.new.bytes.now ≡ self.old.bytes.now }
-        ensures fault { IfErr result (ByteRunsFail self.old.bytes.now) }
+        ensures before { OnOk result ((f : Fault) → BytesMeet self.new f → BytesMeet self.old f) }
+        ensures fault { IfErr result (BytesMeet self.old) }
     {
         match self.fill() {
             Ok(()) => {

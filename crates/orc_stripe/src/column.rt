@@ -15,12 +15,13 @@ ghost use Rattle.std.specs.Prelude.{false, ◌⊎◌};
 ghost use Rattle.orc_stripe.specs.declared.fault.StreamKind.TheVariants as stream;
 ghost use Rattle.orc_stripe.specs.declared.fault.StripeFault.{StripeFault as Fault};
 ghost use Rattle.orc_stripe.specs.declared.fault.StripeFault.TheVariants as fault;
-ghost use Rattle.orc_stripe.specs.RunFaults.{integers_of};
+ghost use Rattle.orc_rle.specs.declared.fault.RunFault.{RunFault as RunsFault};
+ghost use Rattle.orc_stripe.specs.RunsMet.{NumbersMeet, BytesMeet, BitsMeet, MarksMeet};
 ghost use Rattle.orc_types.specs.Fits.{int_fits as fits, signed_fits};
 ghost use Rattle.orc_types.specs.declared.kind.Scalar.TheVariants as kinds;
 ghost use Rattle.orc_stripe.specs.ValueFaults.{is_index, names_text};
-ghost use Rattle.orc_stripe.specs.Faults.{MarksFail, DataFail, NumbersFail};
-ghost use Rattle.orc_stripe.specs.ReaderFaults.{IntsMeet, GroupsMeet, TextMeets, WordsMeet, ScalarMeets, ListsMeet, marks_bytes};
+ghost use Rattle.orc_stripe.specs.Faults.{RunsFail};
+ghost use Rattle.orc_stripe.specs.ReaderFaults.{IntsMeet, GroupsMeet, TextMeets, WordsMeet, ScalarMeets, ListsMeet, PresentMeets};
 
 use crate::bits::Bits;
 use crate::bytes::Bytes;
@@ -65,8 +66,8 @@ pub(crate) struct ColumnReader<'a> {
 pub(crate) fn next_mark(column: usize, present: &mut Option<Bits<'_>>) -> Result<bool, StripeFault>
     ensures found { IfOk result (λ mark. Leaves (MarksLeft present.old) (MarksLeft present.new) (mark ∷ [])) }
     ensures none { OnErr result (Lacks (MarksLeft present.old) 1) }
-    ensures same { marks_bytes present.new ≡ marks_bytes present.old }
-    ensures fault { IfErr result (λ cause. cause ≢ fault.OutOfMemory → MarksFail (marks_bytes present.old) column cause) }
+    ensures before { OnOk result ((f : RunsFault) → MarksMeet present.new f → MarksMeet present.old f) }
+    ensures fault { IfErr result (λ cause. cause ≢ fault.OutOfMemory → RunsFail stream.Present column (MarksMeet present.old) cause) }
 {
     match present {
         None => Ok(true),
@@ -82,8 +83,8 @@ pub(crate) fn next_present(reader: &mut ColumnReader<'_>) -> Result<bool, Stripe
     ensures found { IfOk result (λ mark. Leaves (MarksLeft reader.old.present) (MarksLeft reader.new.present) (mark ∷ [])) }
     ensures source { OnOk result (reader.new.source ≡ reader.old.source) }
     ensures none { OnErr result (Lacks (MarksLeft reader.old.present) 1) }
-    ensures same { OnOk result (marks_bytes reader.new.present ≡ marks_bytes reader.old.present) }
-    ensures fault { IfErr result (λ cause. cause ≢ fault.OutOfMemory → MarksFail (marks_bytes reader.old.present) reader.old.source.column cause) }
+    ensures before { OnOk result ((f : RunsFault) → MarksMeet reader.new.present f → MarksMeet reader.old.present f) }
+    ensures fault { IfErr result (λ cause. cause ≢ fault.OutOfMemory → PresentMeets reader.old cause) }
 {
     match next_mark(reader.source.column, &mut reader.present) {
         Ok(mark) => Ok(mark),
@@ -100,8 +101,8 @@ pub(crate) fn next_number(
     ensures found { IfOk result (λ n. Leaves (NumbersLeft numbers.old) (NumbersLeft numbers.new) (n ∷ [])) }
     ensures first { IfOk result (λ n. Precedes (NumbersFirst numbers.old) (NumbersFirst numbers.new) (n ∷ [])) }
     ensures none { OnErr result (Lacks (NumbersLeft numbers.old) 1) }
-    ensures same { integers_of numbers.new ≡ integers_of numbers.old }
-    ensures fault { IfErr result (λ cause. cause ≢ fault.OutOfMemory → NumbersFail kind (integers_of numbers.old) column cause) }
+    ensures before { OnOk result ((f : RunsFault) → NumbersMeet numbers.new f → NumbersMeet numbers.old f) }
+    ensures fault { IfErr result (λ cause. cause ≢ fault.OutOfMemory → RunsFail kind column (NumbersMeet numbers.old) cause) }
 {
     match numbers.next() {
         Ok(number) => Ok(number),
@@ -152,8 +153,8 @@ fn number_of(byte: u8) -> i64
 fn next_byte<'a>(column: usize, bytes: &mut Bytes<'a>) -> Result<Value<'a>, StripeFault>
     ensures found { IfOk result (λ v. Leaves (Standing IsByte (BytesLeft bytes.old)) (Standing IsByte (BytesLeft bytes.new)) (cell_of_value v ∷ [])) }
     ensures none { OnErr result (Lacks (Standing IsByte (BytesLeft bytes.old)) 1) }
-    ensures before { OnOk result ((f : Fault) → DataFail bytes.new.bytes.now column f → DataFail bytes.old.bytes.now column f) }
-    ensures fault { IfErr result (λ cause. cause ≢ fault.OutOfMemory → DataFail bytes.old.bytes.now column cause) }
+    ensures before { OnOk result ((f : Fault) → RunsFail stream.Data column (BytesMeet bytes.new) f → RunsFail stream.Data column (BytesMeet bytes.old) f) }
+    ensures fault { IfErr result (λ cause. cause ≢ fault.OutOfMemory → RunsFail stream.Data column (BytesMeet bytes.old) cause) }
 {
     match bytes.next() {
         Ok(byte) => Ok(Value::Int(number_of(byte))),
@@ -187,8 +188,8 @@ fn next_int<'a>(
 fn next_long<'a>(column: usize, numbers: &mut Numbers<'a>) -> Result<Value<'a>, StripeFault>
     ensures found { IfOk result (λ v. Leaves (Standing (IsInt kinds.Long) (NumbersLeft numbers.old)) (Standing (IsInt kinds.Long) (NumbersLeft numbers.new)) (cell_of_value v ∷ [])) }
     ensures none { OnErr result (Lacks (Standing (IsInt kinds.Long) (NumbersLeft numbers.old)) 1) }
-    ensures before { OnOk result ((f : Fault) → NumbersFail stream.Data (integers_of numbers.new) column f → NumbersFail stream.Data (integers_of numbers.old) column f) }
-    ensures fault { IfErr result (λ cause. cause ≢ fault.OutOfMemory → NumbersFail stream.Data (integers_of numbers.old) column cause) }
+    ensures before { OnOk result ((f : Fault) → RunsFail stream.Data column (NumbersMeet numbers.new) f → RunsFail stream.Data column (NumbersMeet numbers.old) f) }
+    ensures fault { IfErr result (λ cause. cause ≢ fault.OutOfMemory → RunsFail stream.Data column (NumbersMeet numbers.old) cause) }
 {
     match next_number(column, StreamKind::Data, numbers) {
         Ok(number) => Ok(Value::Int(number)),
@@ -216,8 +217,8 @@ fn next_date<'a>(column: usize, numbers: &mut Numbers<'a>) -> Result<Value<'a>, 
 fn next_bool<'a>(column: usize, bits: &mut Bits<'a>) -> Result<Value<'a>, StripeFault>
     ensures found { IfOk result (λ v. Leaves (Standing IsBool (BitsLeft bits.old)) (Standing IsBool (BitsLeft bits.new)) (cell_of_value v ∷ [])) }
     ensures none { OnErr result (Lacks (Standing IsBool (BitsLeft bits.old)) 1) }
-    ensures before { OnOk result ((f : Fault) → DataFail bits.new.bytes.bytes.now column f → DataFail bits.old.bytes.bytes.now column f) }
-    ensures fault { IfErr result (λ cause. cause ≢ fault.OutOfMemory → DataFail bits.old.bytes.bytes.now column cause) }
+    ensures before { OnOk result ((f : Fault) → RunsFail stream.Data column (BitsMeet bits.new) f → RunsFail stream.Data column (BitsMeet bits.old) f) }
+    ensures fault { IfErr result (λ cause. cause ≢ fault.OutOfMemory → RunsFail stream.Data column (BitsMeet bits.old) cause) }
 {
     match bits.next() {
         Ok(bit) => Ok(Value::Bool(bit)),

@@ -11,7 +11,8 @@ ghost use Rattle.std.specs.Prelude.{IfErr};
 ghost use Rattle.orc_rle.specs.declared.fault.RunFault.TheVariants as run;
 ghost use Rattle.orc_stripe.specs.declared.fault.StripeFault.TheVariants as fault;
 ghost use Rattle.orc_stripe.specs.declared.fault.StreamKind.TheVariants as stream;
-ghost use Rattle.orc_stripe.specs.ReaderFaults.{GroupsMeet, ScalarMeets, CellsMeet, FieldsMeet, left_at, bits_left_at, marks_left_at};
+ghost use Rattle.orc_stripe.specs.RunsMet.{NumbersMeet, BytesMeet, BitsMeet, MarksMeet};
+ghost use Rattle.orc_stripe.specs.ReaderFaults.{GroupsMeet, ScalarMeets, CellsMeet, FieldsMeet};
 
 use crate::bits::Bits;
 use crate::bytes::Bytes;
@@ -38,7 +39,8 @@ pub(crate) fn numbers_end(numbers: &Numbers<'_>) -> bool
 /// Where the run begins that has numbers left over: the last one that was read, or, where all of it is
 /// used, the one that comes next.
 pub(crate) fn numbers_left(numbers: &Numbers<'_>) -> usize
-    ensures { result ≡ left_at numbers.now.used (length numbers.now.run.values) numbers.now.start numbers.now.at }
+    requires more { NumbersLeft numbers.now [] → ⊥ }
+    ensures { NumbersMeet numbers.now (run.TooMany result) }
 {
     if numbers.used < numbers.run.values().len() {
         return numbers.start;
@@ -48,7 +50,8 @@ pub(crate) fn numbers_left(numbers: &Numbers<'_>) -> usize
 
 /// Where the run of bytes begins that has some left over.
 fn bytes_left(bytes: &Bytes<'_>) -> usize
-    ensures { result ≡ left_at bytes.now.used (length bytes.now.run.values) bytes.now.start bytes.now.at }
+    requires more { BytesLeft bytes.now [] → ⊥ }
+    ensures { BytesMeet bytes.now (run.TooMany result) }
 {
     if bytes.used < bytes.run.values().len() {
         return bytes.start;
@@ -58,7 +61,8 @@ fn bytes_left(bytes: &Bytes<'_>) -> usize
 
 /// Where the run begins whose booleans are left over. A byte whose digits are all held is of the last run.
 fn bits_left(bits: &Bits<'_>) -> usize
-    ensures { result ≡ bits_left_at bits.now }
+    requires more { BitsLeft bits.now [] → ⊥ }
+    ensures { BitsMeet bits.now (run.TooMany result) }
 {
     if bits.left >= 8 {
         return bits.bytes.start;
@@ -203,7 +207,8 @@ fn too_many(column: usize, kind: StreamKind, place: usize) -> StripeFault
 
 /// Where the run begins whose marks are left over.
 fn marks_left(present: &Option<Bits<'_>>) -> usize
-    ensures { result ≡ marks_left_at present.now }
+    requires more { MarksLeft present.now [] → ⊥ }
+    ensures { MarksMeet present.now (run.TooMany result) }
 {
     match present {
         None => 0,

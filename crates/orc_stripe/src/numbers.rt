@@ -1,8 +1,9 @@
 ghost use Rattle.std.specs.Prelude.{◌≡◌, ◌≢◌, [], ◌∷◌, IfOk, IfErr, OnOk, OnErr, length, ◌<◌};
 ghost use Rattle.orc_rle.specs.declared.fault.RunFault.TheVariants.{OutOfMemory};
+ghost use Rattle.orc_rle.specs.declared.fault.RunFault.{RunFault as Fault};
 ghost use Rattle.orc_stripe.specs.Fronts.{Leaves, Precedes, Lacks};
 ghost use Rattle.orc_stripe.specs.Numbers.{NumbersLeft, NumbersFirst};
-ghost use Rattle.orc_stripe.specs.RunFaults.{IntegersFail, integers_of};
+ghost use Rattle.orc_stripe.specs.RunsMet.{NumbersMeet};
 ghost use Rattle.orc_stripe.specs.Starting.{NumbersStart};
 
 use crate::fault::moved;
@@ -45,8 +46,8 @@ impl<'a> Numbers<'a> {
         ensures first { OnOk result (Precedes (NumbersFirst self.old) (NumbersFirst self.new) []) }
         ensures some { OnOk result (self.new.used < length self.new.run.values) }
         ensures none { OnErr result (Lacks (NumbersLeft self.old) 1) }
-        ensures same { integers_of self.new ≡ integers_of self.old }
-        ensures fault { IfErr result (IntegersFail (integers_of self.old)) }
+        ensures before { OnOk result ((f : Fault) → NumbersMeet self.new f → NumbersMeet self.old f) }
+        ensures fault { IfErr result (NumbersMeet self.old) }
         ensures no_memory { IfErr result (λ fault. fault ≢ OutOfMemory) }
     {
         while self.used >= self.run.values().len() {
@@ -71,8 +72,8 @@ impl<'a> Numbers<'a> {
         ensures found { IfOk result (λ n. Leaves (NumbersLeft self.old) (NumbersLeft self.new) (n ∷ [])) }
         ensures first { IfOk result (λ n. Precedes (NumbersFirst self.old) (NumbersFirst self.new) (n ∷ [])) }
         ensures none { OnErr result (Lacks (NumbersLeft self.old) 1) }
-        ensures same { integers_of self.new ≡ integers_of self.old }
-        ensures fault { IfErr result (IntegersFail (integers_of self.old)) }
+        ensures before { OnOk result ((f : Fault) → NumbersMeet self.new f → NumbersMeet self.old f) }
+        ensures fault { IfErr result (NumbersMeet self.old) }
         ensures no_memory { IfErr result (λ fault. fault ≢ OutOfMemory) }
     {
         match self.fill() {

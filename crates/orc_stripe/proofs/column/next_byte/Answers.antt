@@ -6,7 +6,9 @@ use Rattle.orc_stripe.specs.Columns.{IsByte, signed_byte}
 use Rattle.orc_stripe.proofs.Fronts.{standing_lacks}
 use Rattle.orc_stripe.proofs.ReaderLemmas.{one_stands, one_byte}
 use Rattle.orc_stripe.proofs.Sizes.{value_int}
-use Rattle.orc_stripe.proofs.MetLemmas.{data_before}
+use Rattle.orc_stripe.proofs.MetLemmas.{runs_before}
+use Rattle.orc_stripe.specs.declared.fault.StreamKind.TheVariants as stream
+use Rattle.orc_stripe.specs.RunsMet.{BytesMeet}
 use Rattle.orc_stripe.proofs.column.next_byte.Goals as goal
 
 pub returns-in-Ok-clause-found : goal.returns-in-Ok-clause-found
@@ -24,4 +26,4 @@ pub returns-in-Err-clause-fault : goal.returns-in-Err-clause-fault
 returns-in-Err-clause-fault c = λ memory. let k = c.run_fault.ensures.fails memory in (c.in-Err.fault, k.0, k.1, c.in-Err.ensures.fault)
 
 pub returns-in-Ok-clause-before : goal.returns-in-Ok-clause-before
-returns-in-Ok-clause-before c = λ f. data_before c.args.bytes.now.bytes.now c.next.new.self.bytes.now c.args.column f c.in-Ok.ensures.same
+returns-in-Ok-clause-before c = λ f. runs_before stream.Data c.args.column (BytesMeet c.next.new.self) (BytesMeet c.args.bytes.now) f c.in-Ok.ensures.before

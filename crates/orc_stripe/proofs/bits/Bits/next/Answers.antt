@@ -1,5 +1,6 @@
-use Rattle.std.proofs.Common.{◌≡◌, suc, ◌-◌, arith}
+use Rattle.std.proofs.Common.{◌≡◌, suc, ◌-◌, inl, arith}
 use Rattle.orc_stripe.proofs.BitsLemmas.{next_digit, first_digit, no_byte}
+use Rattle.orc_stripe.proofs.MetLemmas.{bits_byte, bits_digit}
 use Rattle.orc_stripe.proofs.bits.Bits.next.Goals as goal
 
 pub returns-in-Ok-clause-found : goal.returns-in-Ok-clause-found
@@ -12,3 +13,14 @@ pub returns-else-self-eq0-clause-found : goal.returns-else-self-eq0-clause-found
 returns-else-self-eq0-clause-found c =
     let some : c.args.self.now.left ≡ suc (c.args.self.now.left - 1) = omega (arith, c.if-self-eq0.false) in
     next_digit c.args.self.now (c.args.self.now.left - 1) c.digit_at-else-self-eq0.result some c.digit_at-else-self-eq0.ensures
+
+pub returns-in-Ok-clause-before : goal.returns-in-Ok-clause-before
+returns-in-Ok-clause-before c = λ f. bits_byte c.args.self.now c.next.new.self c.in-Ok.byte f (c.in-Ok.ensures.before f)
+
+pub returns-else-self-eq0-clause-before : goal.returns-else-self-eq0-clause-before
+returns-else-self-eq0-clause-before c = λ f.
+    let some : c.args.self.now.left ≡ suc (c.args.self.now.left - 1) = omega (arith, c.if-self-eq0.false) in
+    bits_digit c.args.self.now (c.args.self.now.left - 1) f some
+
+pub returns-in-Err-clause-fault : goal.returns-in-Err-clause-fault
+returns-in-Err-clause-fault c = inl c.in-Err.ensures.fault

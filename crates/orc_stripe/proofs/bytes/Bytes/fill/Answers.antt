@@ -1,15 +1,15 @@
 use Rattle.orc_rle.specs.declared.fault.RunFault.TheVariants.{TooFew}
-use Rattle.std.proofs.Common.{inl, inr, refl, subst, ◌≤◌, [], ◌∙◌, ap, length, arith, drop}
-use Rattle.orc_rle.specs.ByteRun.{IsByteRun}
+use Rattle.std.proofs.Common.{◌≤◌, [], ◌∙◌, ap, length, arith, drop}
+use Rattle.orc_rle.specs.ByteRun.{IsByteRun, NoByteRun}
 use Rattle.orc_stripe.specs.Bytes.{BytesLeft}
-use Rattle.orc_stripe.specs.RunFaults.{ByteRunsFail}
 use Rattle.orc_stripe.proofs.Fronts.{nothing, one_after_other, lacks_after}
 use Rattle.orc_stripe.proofs.RunsLemmas.{at_end, at_no_run, next_read}
+use Rattle.orc_stripe.proofs.RunsMetLemmas.{met_next, met_stop, met_end}
 use Rattle.orc_stripe.proofs.NumbersLemmas.{byte_laws}
 use Rattle.orc_stripe.proofs.bytes.Bytes.fill.Goals as goal
 
 pub loop-self-init : goal.loop-self-init
-loop-self-init c = (nothing (BytesLeft c.args.self.now), refl)
+loop-self-init c = (nothing (BytesLeft c.args.self.now), λ f h. h)
 
 pub returns-then-self-clause-none : goal.returns-then-self-clause-none
 returns-then-self-clause-none c =
@@ -24,10 +24,12 @@ pub loop-self-preserved : goal.loop-self-preserved
 loop-self-preserved c =
     let r = c.loop-self.self in
     let used : length r.run.values ≤ r.used = omega (arith, c.loop-self-test.true, ap length c.values.ensures.values) in
+    let le = c.in-Ok.ensures.within in
+    let within = rw c.split_at.ensures.back at le in
     let found = rw c.split_at.ensures.back at c.in-Ok.ensures.found in (
       one_after_other (BytesLeft c.args.self.now) (BytesLeft r) _ [] [] c.loop-self.invariant.0
           (next_read IsByteRun byte_laws r.run.values r.used r.bytes.now r.at c.in-Ok.len c.next_run.new.run.values used found),
-      c.loop-self.invariant.1,
+      λ f h. c.loop-self.invariant.1 f (met_next IsByteRun NoByteRun byte_laws (drop r.used r.run.values) c.next_run.new.run.values r.bytes.now r.start r.at c.in-Ok.len (length r.bytes.now) f within found h),
     )
 
 pub returns-in-Err-clause-none : goal.returns-in-Err-clause-none
@@ -40,18 +42,16 @@ returns-in-Err-clause-none c =
 pub returns-clause-found : goal.returns-clause-found
 returns-clause-found c = c.loop-self.invariant.0
 
-pub returns-clause-same : goal.returns-clause-same
-returns-clause-same c = c.loop-self.invariant.1
-
-pub returns-then-self-clause-same : goal.returns-then-self-clause-same
-returns-then-self-clause-same c = c.loop-self.invariant.1
-
-pub returns-in-Err-clause-same : goal.returns-in-Err-clause-same
-returns-in-Err-clause-same c = c.loop-self.invariant.1
-
 pub returns-then-self-clause-fault : goal.returns-then-self-clause-fault
-returns-then-self-clause-fault c = subst (λ b. ByteRunsFail b (TooFew (length c.loop-self.self.bytes.now))) c.loop-self.invariant.1 (inr (inl refl))
+returns-then-self-clause-fault c =
+    let r = c.loop-self.self in
+    c.loop-self.invariant.1 (TooFew (length r.bytes.now)) (met_end IsByteRun NoByteRun (drop r.used r.run.values) r.bytes.now r.start r.at (length r.bytes.now) c.if-self.true)
 
 pub returns-in-Err-clause-fault : goal.returns-in-Err-clause-fault
 returns-in-Err-clause-fault c =
-    subst (λ b. ByteRunsFail b c.moved.result) c.loop-self.invariant.1 (inl (c.loop-self.self.at, c.if-self.false, (c.in-Err.fault, rw c.split_at.ensures.back at c.in-Err.ensures.fault, c.moved.ensures.same)))
+    let r = c.loop-self.self in
+    c.loop-self.invariant.1 c.moved.result
+    (met_stop IsByteRun NoByteRun (drop r.used r.run.values) r.bytes.now r.start r.at (length r.bytes.now) c.in-Err.fault c.moved.result c.if-self.false (rw c.split_at.ensures.back at c.in-Err.ensures.fault) c.moved.ensures.same)
+
+pub returns-clause-before : goal.returns-clause-before
+returns-clause-before c = c.loop-self.invariant.1

@@ -1,10 +1,12 @@
-use Rattle.std.proofs.Common.{◌≡◌, [], length, ◌-◌}
+use Rattle.std.proofs.Common.{[], length, ◌-◌}
+use Rattle.orc_rle.specs.declared.fault.RunFault.{RunFault}
+use Rattle.orc_stripe.specs.RunsMet.{BytesMeet}
 use Rattle.orc_stripe.specs.Fronts.{Leaves}
 use Rattle.orc_stripe.specs.Bytes.{BytesLeft}
 use Rattle.orc_stripe.proofs.bytes.Bytes.fill.Given as goal
 
 abbrev pub invariant-loop-self : goal.invariant-loop-self
-invariant-loop-self l = Leaves (BytesLeft l.fn.self) (BytesLeft l.self) [] × (l.self.bytes.now ≡ l.fn.self.bytes.now)
+invariant-loop-self l = Leaves (BytesLeft l.fn.self) (BytesLeft l.self) [] × ((f : RunFault) → BytesMeet l.self f → BytesMeet l.fn.self f)
 
 abbrev pub decreases-loop-self : goal.decreases-loop-self
 decreases-loop-self l = length l.self.bytes.now - l.self.at
