@@ -9,7 +9,8 @@ use Rattle.std.proofs.lemmas.Bool.{ltb-true, and_parts}
 use Rattle.orc_bits.specs.Zigzag.{zig}
 use Rattle.orc_rle.specs.declared.sign.Rle.{Rle}
 use Rattle.orc_rle.specs.declared.sign.Rle.TheVariants.{One, Two}
-use Rattle.orc_wire.specs.CanonicalKinds.{AreBelow, some_top, all_top}
+use Rattle.orc_wire.specs.CanonicalFields.{some_top, all_top}
+use Rattle.orc_wire.specs.CanonicalKinds.{AreBelow}
 use Rattle.orc_wire.specs.Canonical.{all_both}
 use Rattle.orc_wire.specs.CanonicalMessages.{column_stats_text, integer_stats_text, string_stats_text, date_stats_text, type_text}
 use Rattle.orc_types.specs.declared.kind.Scalar.{Scalar}

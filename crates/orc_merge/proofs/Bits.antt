@@ -10,7 +10,7 @@ use Rattle.std.proofs.lemmas.Bool.Decides.{nat_tests}
 use Rattle.orc_bits.specs.Zigzag.{zig}
 use Rattle.orc_wire.specs.declared.stripe_info.StripeInfo.{StripeInfo}
 use Rattle.orc_wire.specs.declared.footer.UserMetadataItem.{UserMetadataItem}
-use Rattle.orc_wire.specs.CanonicalKinds.{some_top}
+use Rattle.orc_wire.specs.CanonicalFields.{some_top}
 use Rattle.orc_wire.specs.CanonicalMessages.{stripe_info_text, user_metadata_text, column_stats_text, integer_stats_text, string_stats_text}
 use Rattle.orc_wire.specs.CanonicalMessages.{bucket_stats_text, date_stats_text, binary_stats_text}
 use Rattle.orc_types.specs.Fits.{signed_fits}
