@@ -27,7 +27,8 @@ use Rattle.orc_stats.specs.Messages.{bucket_record, bin_record}
 use Rattle.orc_types.specs.Shapes.{Shape, width}
 use Rattle.orc_file.specs.Stripes.{stripe_length, stripes_length}
 use Rattle.orc_file.specs.Statistics.{kind_at}
-use Rattle.orc_merge.specs.Merging.{placed, column_stats, of_columns, file_stats}
+use Rattle.orc_file.specs.Writing.{column_stats, of_columns, file_stats}
+use Rattle.orc_merge.specs.Merging.{placed}
 
 -- ---- a joined statistic's parts
 

@@ -12,7 +12,8 @@ use Rattle.orc_stats.specs.Statistics.{stat}
 use Rattle.orc_file.specs.declared.tail.Tail.{Tail}
 use Rattle.orc_merge.specs.declared.fault.MergeFault.TheVariants.{NoInput, SchemaDiffers, VersionDiffers, StrideDiffers, UserMetadataConflict}
 use Rattle.orc_merge.specs.Faults.{NextFault, IsRefused}
-use Rattle.orc_merge.specs.Merging.{distinct, file_stats, merged}
+use Rattle.orc_file.specs.Writing.{file_stats}
+use Rattle.orc_merge.specs.Merging.{distinct, merged}
 
 -- ---- the file's statistics
 

@@ -8,7 +8,6 @@ use Rattle.orc_wire.specs.declared.stripe_info.StripeInfo.{StripeInfo}
 use Rattle.orc_types.specs.Cells.{Cell}
 use Rattle.orc_types.specs.Shapes.{Shape, width, shape_at}
 use Rattle.orc_types.specs.Columns.{cells}
-use Rattle.orc_types.specs.Fits.{RowsFit}
 use Rattle.orc_types.proofs.Together.{cells_fit}
 use Rattle.orc_stats.specs.declared.kind.StatKind.{StatKind}
 use Rattle.orc_stats.specs.declared.kind.StatKind.TheVariants as kind
@@ -18,7 +17,6 @@ use Rattle.orc_stats.specs.Kinds.{kind_of, is_of}
 use Rattle.orc_stats.specs.Statistics.{stat}
 use Rattle.orc_stats.specs.Joining.{joined}
 use Rattle.orc_stats.specs.Whole.{has_sum, without_sum, keeps_sum, whole}
-use Rattle.orc_stats.proofs.Fitting.{cell_kind}
 use Rattle.orc_stats.proofs.Parts.{joined-parts}
 use Rattle.orc_stripe.specs.WrittenStripe.{column_stat}
 use Rattle.orc_file.specs.Stripes.{most_stripes}
@@ -30,7 +28,9 @@ use Rattle.orc_file.specs.Tails.{tail_tests}
 use Rattle.orc_file.specs.Images.{image}
 use Rattle.orc_file.specs.declared.tail.Tail.{Tail}
 use Rattle.orc_file.proofs.RowLemmas.{parts_cut}
-use Rattle.orc_merge.specs.Merging.{column_stats, of_columns, file_stats, placed, all_stripes, all_stats, merged, IsLike, stripes_of, AreOpened, bodies}
+use Rattle.orc_file.specs.Writing.{column_stats, of_columns, file_stats}
+use Rattle.orc_file.proofs.StatTests.{are_of_kind}
+use Rattle.orc_merge.specs.Merging.{placed, all_stripes, all_stats, merged, IsLike, stripes_of, AreOpened, bodies}
 use Rattle.orc_merge.specs.Merging.{IsMerge}
 use Rattle.orc_merge.specs.Grouping.{AreHonestFiles}
 use Rattle.orc_merge.proofs.Limits.{room_of, length-of_columns}
@@ -100,10 +100,6 @@ column_is s c (p ∷ parts) [] lt h = absurd h
 column_is s c (p ∷ parts) (x ∷ stats) lt h =
     ap (λ (z : List Stat). z ++ column_stats c stats) (some_take x c (column_stat s p c) (h.0.each c lt))
     ∙ ap (λ (z : List Stat). column_stat s p c ∷ z) (column_is s c parts stats lt h.1)
-
-are_of_kind : (s : Shape) (cs : List Cell) → RowsFit s cs → AllByRecursion (λ c. is_of (kind_of s) c ≡ true) cs
-are_of_kind s [] h = tt
-are_of_kind s (c ∷ cs) h = (cell_kind c s h.0, are_of_kind s cs h.1)
 
 kinds_are : (s : Shape) (c : ℕ) (is : List StripeInfo) (bs : List (List ℕ)) (parts : List (List Cell)) → c < width s → AreStripes s is bs parts
     → AllByRecursion (AllByRecursion (λ x. is_of (kind_at s c) x ≡ true)) (map (cells s c) parts)

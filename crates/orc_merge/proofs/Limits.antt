@@ -17,7 +17,8 @@ use Rattle.orc_file.specs.Stripes.{stripes_length, stripes_rows, most_stripes, m
 use Rattle.orc_file.specs.Statistics.{kind_at, AreOfColumns, AreStats}
 use Rattle.orc_file.specs.Images.{IsWithinLimits}
 use Rattle.orc_file.specs.declared.tail.Tail.{Tail}
-use Rattle.orc_merge.specs.Merging.{column_stats, of_columns, file_stats, HasStatistics, all_stripes, all_stats, merged, IsLike}
+use Rattle.orc_file.specs.Writing.{column_stats, of_columns, file_stats}
+use Rattle.orc_merge.specs.Merging.{HasStatistics, all_stripes, all_stats, merged, IsLike}
 use Rattle.orc_merge.proofs.Placing.{length-placed, bytes-placed, rows-placed, stripe_rows-placed, bytes-append, rows-append}
 use Rattle.orc_merge.proofs.Bits.{all-append}
 

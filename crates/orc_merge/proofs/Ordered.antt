@@ -14,7 +14,8 @@ use Rattle.orc_file.specs.Stripes.{stripes_length}
 use Rattle.orc_file.specs.Statistics.{kind_at}
 use Rattle.orc_file.specs.Images.{image, IsWithinLimits}
 use Rattle.orc_file.specs.declared.tail.Tail.{Tail}
-use Rattle.orc_merge.specs.Merging.{Agree, column_stats, of_columns, file_stats, all_stripes, all_stats, all_pairs, merged, IsLike, CanMerge, Merged}
+use Rattle.orc_file.specs.Writing.{column_stats, of_columns, file_stats}
+use Rattle.orc_merge.specs.Merging.{Agree, all_stripes, all_stats, all_pairs, merged, IsLike, CanMerge, Merged}
 use Rattle.orc_merge.specs.Merging.{AreOpened, bodies, IsMerge}
 use Rattle.orc_merge.proofs.Reordered.{Reordered, nil, cons, first_two, trans, of_permutation}
 use Rattle.orc_merge.proofs.Limits.{Counted, HasRoom, room_of, limits_of}

@@ -11,6 +11,7 @@ use Rattle.orc_file.specs.FileRows.{stripe_bytes, joined, AreOfStripes, HasRows,
 use Rattle.orc_file.specs.Tails.{tail_tests, IsTail}
 use Rattle.orc_file.specs.Images.{image}
 use Rattle.orc_file.specs.declared.tail.Tail.{Tail}
+use Rattle.orc_file.proofs.WriterLemmas.{moved}
 use Rattle.orc_merge.specs.Merging.{placed, all_stripes, merged, IsLike, CanMerge, Merged, stripes_of, AreOpened, bodies, IsMerge}
 use Rattle.orc_merge.specs.Grouping.{HaveRows}
 use Rattle.orc_merge.proofs.Standing.{stands, stripes_of_image}
@@ -40,15 +41,6 @@ in_file s bytes [] (rows ∷ parts) h = absurd h
 in_file s bytes (i ∷ is) [] h = absurd h
 in_file s bytes (i ∷ is) (rows ∷ parts) h = (h.0, in_file s bytes is parts h.1)
 
--- a stripe's place says nothing of its rows
-moved : (s : Shape) (info : StripeInfo) (at : ℕ) (bytes : List ℕ) (rows : List Cell) → IsStripe s info bytes rows
-    → IsStripe s (record info { offset = at }) bytes rows
-moved s info at bytes rows h = record {
-  footer = h.footer;
-  has_footer = record { whole = h.has_footer.whole; read = h.has_footer.read; directory = h.has_footer.directory; encodings = h.has_footer.encodings };
-  spelled = h.spelled;
-}
-
 stripes_placed : (s : Shape) (at : ℕ) (is : List StripeInfo) (bs : List (List ℕ)) (parts : List (List Cell)) → AreStripes s is bs parts
     → AreStripes s (placed at is) bs parts
 stripes_placed s at [] [] [] h = tt
@@ -56,7 +48,7 @@ stripes_placed s at [] [] (rows ∷ parts) h = absurd h
 stripes_placed s at [] (b ∷ bs) parts h = absurd h
 stripes_placed s at (i ∷ is) [] parts h = absurd h
 stripes_placed s at (i ∷ is) (b ∷ bs) [] h = absurd h
-stripes_placed s at (i ∷ is) (b ∷ bs) (rows ∷ parts) h = (moved s i at b rows h.0, stripes_placed s (at + stripe_length i) is bs parts h.1)
+stripes_placed s at (i ∷ is) (b ∷ bs) (rows ∷ parts) h = (moved s i b rows at h.0, stripes_placed s (at + stripe_length i) is bs parts h.1)
 
 pub stripes-append : (s : Shape) (is js : List StripeInfo) (bs cs : List (List ℕ)) (parts more : List (List Cell)) → AreStripes s is bs parts
     → AreStripes s js cs more → AreStripes s (is ++ js) (bs ++ cs) (parts ++ more)

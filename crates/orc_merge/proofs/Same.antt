@@ -12,7 +12,8 @@ use Rattle.orc_stats.specs.declared.stat.Stat.{Stat}
 use Rattle.orc_file.specs.declared.tail.Tail.{Tail}
 use Rattle.orc_types.specs.Shapes.{Shape}
 use Rattle.orc_file.specs.Images.{IsWithinLimits}
-use Rattle.orc_merge.specs.Merging.{placed, distinct, Agree, file_stats, HasStatistics, all_stripes, all_stats, all_pairs, merged, IsLike, CanMerge}
+use Rattle.orc_file.specs.Writing.{file_stats}
+use Rattle.orc_merge.specs.Merging.{placed, distinct, Agree, HasStatistics, all_stripes, all_stats, all_pairs, merged, IsLike, CanMerge}
 use Rattle.orc_merge.proofs.Placing.{unplaced, unplaced-placed, placed_same}
 use Rattle.orc_merge.proofs.Limits.{room_of, room_both, limits_of}
 use Rattle.orc_merge.proofs.Names.{distinct_together, distinct-distinct, in_distinct, into_distinct}

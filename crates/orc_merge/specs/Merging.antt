@@ -1,18 +1,17 @@
 -- The merged tail, and the merged file (ORC specification, "File Tail"; what is joined, and how, is this
 -- project's): the stripes of all inputs as they are, and one tail that lists them.
-use Rattle.std.specs.Prelude.{◌≡◌, ℕ, zero, suc, ◌+◌, List, [], ◌∷◌, ◌++◌, length, map, sum_by, filter, take, drop, Contains, Bool, not, ◌==◌}
+use Rattle.std.specs.Prelude.{◌≡◌, ℕ, ◌+◌, List, [], ◌∷◌, ◌++◌, length, map, sum_by, filter, Contains, Bool, not, ◌==◌}
 use Rattle.std.specs.List.{AllByRecursion, concat, flat_map}
 use Rattle.std.specs.Cmp.Lexicographic.{pointwise}
 use Rattle.orc_wire.specs.declared.stripe_info.StripeInfo.{StripeInfo}
 use Rattle.orc_wire.specs.declared.footer.UserMetadataItem.{UserMetadataItem}
-use Rattle.orc_types.specs.Shapes.{Shape, width}
+use Rattle.orc_types.specs.Shapes.{width}
 use Rattle.orc_stats.specs.declared.stat.Stat.{Stat}
-use Rattle.orc_stats.specs.Joining.{joined}
 use Rattle.orc_file.specs.Stripes.{stripe_length}
-use Rattle.orc_file.specs.Statistics.{kind_at}
 use Rattle.orc_file.specs.FileRows.{stripe_bytes}
 use Rattle.orc_file.specs.Tails.{IsTail}
 use Rattle.orc_file.specs.Images.{image, IsWithinLimits}
+use Rattle.orc_file.specs.Writing.{file_stats}
 use Rattle.orc_file.specs.declared.tail.Tail.{Tail}
 
 -- ---- user metadata
@@ -35,19 +34,6 @@ abbrev pub Agree : List UserMetadataItem → Type 0
 Agree pairs = (p q : UserMetadataItem) → Contains pairs p → Contains pairs q → p.name ≡ q.name → p.value ≡ q.value
 
 -- ---- statistics
-
--- the statistics of a column, stripe by stripe
-abbrev pub column_stats : ℕ → List (List Stat) → List Stat
-column_stats c stats = flat_map (λ (xs : List Stat). take 1 (drop c xs)) stats
-
--- what a word says of so many columns, from one on
-abbrev pub of_columns : (ℕ → Stat) → ℕ → ℕ → List Stat
-of_columns f c zero = []
-of_columns f c (suc n) = f c ∷ of_columns f (suc c) n
-
--- for each column of the schema the joined statistic of all stripes
-abbrev pub file_stats : Shape → List (List Stat) → List Stat
-file_stats s stats = of_columns (λ c. joined (kind_at s c) (column_stats c stats)) 0 (width s)
 
 -- a statistic for each stripe and column
 pub record HasStatistics (tail : Tail) : Type 0 where
