@@ -24,7 +24,8 @@ EndsEarly {A = A} is_run bytes fault = (values : List A) × IsStream is_run byte
 -- values are left over: more bytes come after a stream, and the place is theirs
 abbrev pub GoesOn : {A : Type 0} → (List ℕ → List A → Type 0) → List ℕ → RunFault → Type 0
 GoesOn {A = A} is_run bytes fault =
-    (front : List ℕ) × (rest : List ℕ) × (values : List A) × (bytes ≡ front ++ rest) × IsStream is_run front values × (rest ≡ [] → ⊥) × (fault ≡ run.TooMany (length front))
+    (front : List ℕ) × (rest : List ℕ) × (values : List A) × (bytes ≡ front ++ rest) × IsStream is_run front values
+    × (rest ≡ [] → ⊥) × (fault ≡ run.TooMany (length front))
 
 -- a stream of such runs has this fault: after some runs come bytes that have no run in front, or it ends early, or goes on
 abbrev pub StreamFails : {A : Type 0} → (List ℕ → List A → Type 0) → (List ℕ → RunFault → Type 0) → List ℕ → RunFault → Type 0

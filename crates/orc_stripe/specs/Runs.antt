@@ -12,4 +12,5 @@ Begins {A = A} is_run bytes values = (front : List ℕ) × (back : List ℕ) × 
 
 -- the same of what is left of a stream
 abbrev pub RunsFirst : {A : Type 0} → (List ℕ → List A → Type 0) → List A → List ℕ → List A → Type 0
-RunsFirst {A = A} is_run pending rest values = (front : List ℕ) × (back : List ℕ) × (more : List A) × (rest ≡ front ++ back) × RunsLeft is_run pending front (values ++ more)
+RunsFirst {A = A} is_run pending rest values =
+    (front : List ℕ) × (back : List ℕ) × (more : List A) × (rest ≡ front ++ back) × RunsLeft is_run pending front (values ++ more)

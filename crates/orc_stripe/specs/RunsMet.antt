@@ -23,7 +23,8 @@ EndsLater {A = A} is_run bytes total f = (values : List A) × IsStream is_run by
 -- they are a stream and more
 abbrev pub GoesOnLater : {A : Type 0} → (List ℕ → List A → Type 0) → List ℕ → ℕ → RunFault → Type 0
 GoesOnLater {A = A} is_run bytes at f =
-    (front : List ℕ) × (rest : List ℕ) × (values : List A) × (bytes ≡ front ++ rest) × IsStream is_run front values × (rest ≡ [] → ⊥) × (f ≡ run.TooMany (at + length front))
+    (front : List ℕ) × (rest : List ℕ) × (values : List A) × (bytes ≡ front ++ rest) × IsStream is_run front values
+    × (rest ≡ [] → ⊥) × (f ≡ run.TooMany (at + length front))
 
 -- values are left of the run that was read last, which begins at the start
 abbrev pub GoesOnNow : {A : Type 0} → List A → ℕ → RunFault → Type 0
@@ -34,7 +35,8 @@ RunsMeet is_run fails pending bytes start at total f =
     StopsLater is_run fails bytes at f ⊎ (EndsLater is_run bytes total f ⊎ (GoesOnLater is_run bytes at f ⊎ GoesOnNow pending start f))
 
 abbrev pub NumbersMeet : Numbers → RunFault → Type 0
-NumbersMeet r f = RunsMeet (is_run r.version r.sign) (no_run r.version r.sign) (drop r.used r.run.values) (drop r.at r.bytes.now) r.start r.at (length r.bytes.now) f
+NumbersMeet r f =
+    RunsMeet (is_run r.version r.sign) (no_run r.version r.sign) (drop r.used r.run.values) (drop r.at r.bytes.now) r.start r.at (length r.bytes.now) f
 
 abbrev pub BytesMeet : Bytes → RunFault → Type 0
 BytesMeet r f = RunsMeet IsByteRun NoByteRun (drop r.used r.run.values) (drop r.at r.bytes.now) r.start r.at (length r.bytes.now) f

@@ -117,7 +117,8 @@ pub(crate) fn next_group<'a>(
     numbers: &mut Numbers<'a>,
     octets: &mut Octets<'a>,
 ) -> Result<&'a [u8], StripeFault>
-    ensures found { IfOk result (λ bytes. Leaves (Grouped (NumbersLeft numbers.old) (OctetsLeft octets.old)) (Grouped (NumbersLeft numbers.new) (OctetsLeft octets.new)) (bytes.now ∷ [])) }
+    ensures found { IfOk result (λ bytes. Leaves (Grouped (NumbersLeft numbers.old) (OctetsLeft octets.old))
+        (Grouped (NumbersLeft numbers.new) (OctetsLeft octets.new)) (bytes.now ∷ [])) }
     ensures none { OnErr result (Lacks (Grouped (NumbersLeft numbers.old) (OctetsLeft octets.old)) 1) }
     ensures first { IfOk result (λ bytes. Precedes (NumbersFirst numbers.old) (NumbersFirst numbers.new) (pos (length bytes.now) ∷ [])) }
     ensures bytes { IfOk result (λ bytes. octets.old.rest.now ≡ bytes.now ++ octets.new.rest.now) }
@@ -168,7 +169,8 @@ fn next_int<'a>(
     kind: Scalar,
     numbers: &mut Numbers<'a>,
 ) -> Result<Value<'a>, StripeFault>
-    ensures found { IfOk result (λ v. Leaves (Standing (IsInt kind) (NumbersLeft numbers.old)) (Standing (IsInt kind) (NumbersLeft numbers.new)) (cell_of_value v ∷ [])) }
+    ensures found { IfOk result (λ v. Leaves (Standing (IsInt kind) (NumbersLeft numbers.old)) (Standing (IsInt kind) (NumbersLeft numbers.new))
+        (cell_of_value v ∷ [])) }
     ensures none { OnErr result (Lacks (Standing (IsInt kind) (NumbersLeft numbers.old)) 1) }
     ensures before { OnOk result ((f : Fault) → IntsMeet (fits kind) numbers.new column f → IntsMeet (fits kind) numbers.old column f) }
     ensures fault { IfErr result (λ cause. cause ≢ fault.OutOfMemory → IntsMeet (fits kind) numbers.old column cause) }
@@ -186,9 +188,11 @@ fn next_int<'a>(
 
 /// The next value of a column of numbers of 64 bits. Each is in range.
 fn next_long<'a>(column: usize, numbers: &mut Numbers<'a>) -> Result<Value<'a>, StripeFault>
-    ensures found { IfOk result (λ v. Leaves (Standing (IsInt kinds.Long) (NumbersLeft numbers.old)) (Standing (IsInt kinds.Long) (NumbersLeft numbers.new)) (cell_of_value v ∷ [])) }
+    ensures found { IfOk result (λ v. Leaves (Standing (IsInt kinds.Long) (NumbersLeft numbers.old))
+        (Standing (IsInt kinds.Long) (NumbersLeft numbers.new)) (cell_of_value v ∷ [])) }
     ensures none { OnErr result (Lacks (Standing (IsInt kinds.Long) (NumbersLeft numbers.old)) 1) }
-    ensures before { OnOk result ((f : Fault) → RunsFail stream.Data column (NumbersMeet numbers.new) f → RunsFail stream.Data column (NumbersMeet numbers.old) f) }
+    ensures before { OnOk result ((f : Fault) → RunsFail stream.Data column (NumbersMeet numbers.new) f
+        → RunsFail stream.Data column (NumbersMeet numbers.old) f) }
     ensures fault { IfErr result (λ cause. cause ≢ fault.OutOfMemory → RunsFail stream.Data column (NumbersMeet numbers.old) cause) }
 {
     match next_number(column, StreamKind::Data, numbers) {
@@ -232,7 +236,8 @@ fn next_text<'a>(
     numbers: &mut Numbers<'a>,
     octets: &mut Octets<'a>,
 ) -> Result<Value<'a>, StripeFault>
-    ensures found { IfOk result (λ v. Leaves (Standing IsText (Grouped (NumbersLeft numbers.old) (OctetsLeft octets.old))) (Standing IsText (Grouped (NumbersLeft numbers.new) (OctetsLeft octets.new))) (cell_of_value v ∷ [])) }
+    ensures found { IfOk result (λ v. Leaves (Standing IsText (Grouped (NumbersLeft numbers.old) (OctetsLeft octets.old)))
+        (Standing IsText (Grouped (NumbersLeft numbers.new) (OctetsLeft octets.new))) (cell_of_value v ∷ [])) }
     ensures none { OnErr result (Lacks (Standing IsText (Grouped (NumbersLeft numbers.old) (OctetsLeft octets.old))) 1) }
     ensures before { OnOk result ((f : Fault) → TextMeets numbers.new octets.new column f → TextMeets numbers.old octets.old column f) }
     ensures fault { IfErr result (λ cause. cause ≢ fault.OutOfMemory → TextMeets numbers.old octets.old column cause) }
@@ -259,9 +264,11 @@ fn next_binary<'a>(
     numbers: &mut Numbers<'a>,
     octets: &mut Octets<'a>,
 ) -> Result<Value<'a>, StripeFault>
-    ensures found { IfOk result (λ v. Leaves (Standing IsBinary (Grouped (NumbersLeft numbers.old) (OctetsLeft octets.old))) (Standing IsBinary (Grouped (NumbersLeft numbers.new) (OctetsLeft octets.new))) (cell_of_value v ∷ [])) }
+    ensures found { IfOk result (λ v. Leaves (Standing IsBinary (Grouped (NumbersLeft numbers.old) (OctetsLeft octets.old)))
+        (Standing IsBinary (Grouped (NumbersLeft numbers.new) (OctetsLeft octets.new))) (cell_of_value v ∷ [])) }
     ensures none { OnErr result (Lacks (Standing IsBinary (Grouped (NumbersLeft numbers.old) (OctetsLeft octets.old))) 1) }
-    ensures before { OnOk result ((f : Fault) → GroupsMeet stream.Data numbers.new octets.new column f → GroupsMeet stream.Data numbers.old octets.old column f) }
+    ensures before { OnOk result ((f : Fault) → GroupsMeet stream.Data numbers.new octets.new column f
+        → GroupsMeet stream.Data numbers.old octets.old column f) }
     ensures fault { IfErr result (λ cause. cause ≢ fault.OutOfMemory → GroupsMeet stream.Data numbers.old octets.old column cause) }
 {
     match next_group(column, StreamKind::Data, numbers, octets) {
@@ -295,9 +302,11 @@ fn next_word<'a>(
     entries: &[Entry<'a>],
     numbers: &mut Numbers<'a>,
 ) -> Result<Value<'a>, StripeFault>
-    ensures found { IfOk result (λ v. Leaves (Standing (IsWord (map entry_bytes entries.now)) (NumbersLeft numbers.old)) (Standing (IsWord (map entry_bytes entries.now)) (NumbersLeft numbers.new)) (cell_of_value v ∷ [])) }
+    ensures found { IfOk result (λ v. Leaves (Standing (IsWord (map entry_bytes entries.now)) (NumbersLeft numbers.old))
+        (Standing (IsWord (map entry_bytes entries.now)) (NumbersLeft numbers.new)) (cell_of_value v ∷ [])) }
     ensures none { OnErr result (Lacks (Standing (IsWord (map entry_bytes entries.now)) (NumbersLeft numbers.old)) 1) }
-    ensures before { OnOk result ((f : Fault) → WordsMeet (map entry_bytes entries.now) numbers.new column f → WordsMeet (map entry_bytes entries.now) numbers.old column f) }
+    ensures before { OnOk result ((f : Fault) → WordsMeet (map entry_bytes entries.now) numbers.new column f
+        → WordsMeet (map entry_bytes entries.now) numbers.old column f) }
     ensures fault { IfErr result (λ cause. cause ≢ fault.OutOfMemory → WordsMeet (map entry_bytes entries.now) numbers.old column cause) }
 {
     match next_number(column, StreamKind::Data, numbers) {

@@ -26,9 +26,12 @@ pub(crate) fn entries_of<'a>(
     bytes: &'a [u8],
     size: u32,
 ) -> Result<Vec<Entry<'a>>, StripeFault>
-    ensures found { IfOk result (λ entries. (length entries.items ≡ size) × Grouped (AreNumbers version Unsigned lengths.now) (Is bytes.now) (map entry_bytes entries.items)) }
-    ensures none { IfErr result (λ fault. fault ≢ OutOfMemory → (entries : List (List ℕ)) → length entries ≡ size → Grouped (AreNumbers version Unsigned lengths.now) (Is bytes.now) entries → ⊥) }
-    ensures fault { IfErr result (λ cause. cause ≢ OutOfMemory → GroupsFail DictionaryData (record { version = version; sign = Unsigned; bytes = lengths.now }) bytes.now column cause) }
+    ensures found { IfOk result (λ entries. (length entries.items ≡ size)
+        × Grouped (AreNumbers version Unsigned lengths.now) (Is bytes.now) (map entry_bytes entries.items)) }
+    ensures none { IfErr result (λ fault. fault ≢ OutOfMemory → (entries : List (List ℕ)) → length entries ≡ size
+        → Grouped (AreNumbers version Unsigned lengths.now) (Is bytes.now) entries → ⊥) }
+    ensures fault { IfErr result (λ cause. cause ≢ OutOfMemory
+        → GroupsFail DictionaryData (record { version = version; sign = Unsigned; bytes = lengths.now }) bytes.now column cause) }
 {
     let mut numbers = numbers_of(version, Sign::Unsigned, lengths);
     let mut octets = Octets { rest: bytes };

@@ -105,7 +105,8 @@ pub(crate) fn octets_end(octets: &Octets<'_>) -> bool
 
 /// Whether no group of bytes is left.
 pub(crate) fn groups_end(numbers: &Numbers<'_>, octets: &Octets<'_>) -> bool
-    ensures { MatchBool result (Grouped (NumbersLeft numbers.now) (OctetsLeft octets.now) []) (Grouped (NumbersLeft numbers.now) (OctetsLeft octets.now) [] → ⊥) }
+    ensures { MatchBool result (Grouped (NumbersLeft numbers.now) (OctetsLeft octets.now) [])
+        (Grouped (NumbersLeft numbers.now) (OctetsLeft octets.now) [] → ⊥) }
 {
     if !numbers_end(numbers) {
         return false;

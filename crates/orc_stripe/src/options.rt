@@ -16,7 +16,8 @@ impl Options {
     /// `None` where `stripe_rows` is 0 or more than that, and for every `stride` but 0, since row
     /// indexes aren't written.
     pub fn new(rle: Rle, stride: u32, stripe_rows: u32) -> Option<Options>
-        ensures some { IfSome result (λ options. (options.rle ≡ rle) × (options.stripe_rows ≡ stripe_rows) × (stride ≡ 0) × (0 < stripe_rows) × (stripe_rows < 2 ^ 31)) }
+        ensures some { IfSome result (λ options. (options.rle ≡ rle) × (options.stripe_rows ≡ stripe_rows) × (stride ≡ 0) × (0 < stripe_rows)
+            × (stripe_rows < 2 ^ 31)) }
         ensures none { IfNone result ((0 < stride) ⊎ ((stripe_rows ≡ 0) ⊎ (2 ^ 31 ≤ stripe_rows))) }
     {
         if stride != 0 || stripe_rows == 0 || stripe_rows >= 0x8000_0000 {

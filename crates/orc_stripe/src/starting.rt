@@ -4,7 +4,8 @@ ghost use Rattle.orc_types.specs.Shapes.{width, widths};
 ghost use Rattle.orc_types.specs.Views.{shape, fields as fields_view};
 ghost use Rattle.orc_stripe.specs.declared.fault.StripeFault.TheVariants.{OutOfMemory};
 ghost use Rattle.orc_stripe.specs.Located.{AreLocated};
-ghost use Rattle.orc_stripe.specs.Starting.{BytesStart, BitsStart, MarksStart, DataStart, GroupsStart, TextsStart, ScalarStart, SourceStart, OwnStart, LacksEntries, ScalarLacks, HasNoDictionary, AreStreams, Puts, PutsFields};
+ghost use Rattle.orc_stripe.specs.Starting.{BytesStart, BitsStart, MarksStart, DataStart, GroupsStart, TextsStart, ScalarStart};
+ghost use Rattle.orc_stripe.specs.Starting.{SourceStart, OwnStart, LacksEntries, ScalarLacks, HasNoDictionary, AreStreams, Puts, PutsFields};
 ghost use Rattle.orc_stripe.specs.Stripe.{Streams, IsDictionary, encoding_at, columns_of, columns_from, SpellsCells, SpellsFields, most_cells};
 ghost use Rattle.orc_stripe.specs.Stripe as spec;
 ghost use Rattle.orc_stripe.specs.declared.fault.StreamKind.TheVariants.{DictionaryData};
@@ -147,9 +148,11 @@ fn word_source<'a>(
     streams: &ColumnStreams<'a>,
 ) -> Result<Source<'a>, StripeFault>
     ensures found { IfOk result (λ source. (x : Streams) → AreStreams x streams.now → TextsStart true x source.entries source) }
-    ensures none { IfErr result (λ fault. fault ≢ OutOfMemory → (x : Streams) → AreStreams x streams.now → (entries : List (List ℕ)) → IsDictionary x entries → ⊥) }
+    ensures none { IfErr result (λ fault. fault ≢ OutOfMemory → (x : Streams) → AreStreams x streams.now → (entries : List (List ℕ))
+        → IsDictionary x entries → ⊥) }
     ensures column { IfOk result (λ source. source.column ≡ column) }
-    ensures fault { IfErr result (λ cause. cause ≢ OutOfMemory → (x : Streams) → AreStreams x streams.now → GroupsFail DictionaryData (lengths_of x) (x.stream 3) column cause) }
+    ensures fault { IfErr result (λ cause. cause ≢ OutOfMemory → (x : Streams) → AreStreams x streams.now
+        → GroupsFail DictionaryData (lengths_of x) (x.stream 3) column cause) }
 {
     match entries_of(
         alloc,
@@ -181,7 +184,8 @@ fn text_source<'a>(
     ensures found { IfOk result (λ source. (x : Streams) → AreStreams x streams.now → TextsStart streams.now.has_dictionary x source.entries source) }
     ensures none { IfErr result (λ fault. fault ≢ OutOfMemory → (x : Streams) → AreStreams x streams.now → LacksEntries streams.now.has_dictionary x) }
     ensures column { IfOk result (λ source. source.column ≡ column) }
-    ensures fault { IfErr result (λ cause. cause ≢ OutOfMemory → (x : Streams) → AreStreams x streams.now → EntriesFail streams.now.has_dictionary x column cause) }
+    ensures fault { IfErr result (λ cause. cause ≢ OutOfMemory → (x : Streams) → AreStreams x streams.now
+        → EntriesFail streams.now.has_dictionary x column cause) }
 {
     if streams.has_dictionary {
         match word_source(alloc, column, streams) {
@@ -255,7 +259,8 @@ fn reader_of<'a>(
     ensures found { IfOk result (OwnStart (shape tree.now) (columns_of footer.now located.now.bytes.now column)) }
     ensures none { IfErr result (λ fault. fault ≢ OutOfMemory → HasNoDictionary (shape tree.now) (columns_of footer.now located.now.bytes.now column)) }
     ensures column { IfOk result (λ own. own.source.column ≡ column) }
-    ensures fault { IfErr result (λ cause. cause ≢ OutOfMemory → WordsOfFail (shape tree.now) (columns_of footer.now located.now.bytes.now column) column cause) }
+    ensures fault { IfErr result (λ cause. cause ≢ OutOfMemory
+        → WordsOfFail (shape tree.now) (columns_of footer.now located.now.bytes.now column) column cause) }
 {
     let streams = streams_of(column, footer, located);
     match source_of(alloc, tree, column, &streams) {
@@ -279,8 +284,10 @@ pub(crate) fn put_tree<'a>(
     requires there { length readers.old.items + width (shape tree.now) ≤ length footer.now.columns }
     requires located { AreLocated (length footer.now.columns) footer.now.streams located.now.bytes.now located.now.slices.items }
     ensures found { OnOk result (Puts footer.now located.now.bytes.now (shape tree.now) readers.old.items readers.new.items) }
-    ensures none { IfErr result (λ fault. fault ≢ OutOfMemory → (cells : List Cell) → SpellsCells (shape tree.now) (columns_from footer.now located.now.bytes.now (length readers.old.items)) cells → ⊥) }
-    ensures fault { IfErr result (λ cause. cause ≢ OutOfMemory → FaultDown (shape tree.now) (columns_of footer.now located.now.bytes.now) (length readers.old.items) cause) }
+    ensures none { IfErr result (λ fault. fault ≢ OutOfMemory → (cells : List Cell)
+        → SpellsCells (shape tree.now) (columns_from footer.now located.now.bytes.now (length readers.old.items)) cells → ⊥) }
+    ensures fault { IfErr result (λ cause. cause ≢ OutOfMemory
+        → FaultDown (shape tree.now) (columns_of footer.now located.now.bytes.now) (length readers.old.items) cause) }
 {
     match reader_of(alloc, tree, readers.len(), footer, located) {
         Ok(own) => readers.push(own)?,
@@ -311,8 +318,10 @@ fn put_fields<'a>(
     requires there { length readers.old.items + widths (fields_view fields.now) ≤ length footer.now.columns }
     requires located { AreLocated (length footer.now.columns) footer.now.streams located.now.bytes.now located.now.slices.items }
     ensures found { OnOk result (PutsFields footer.now located.now.bytes.now (fields_view fields.now) readers.old.items readers.new.items) }
-    ensures none { IfErr result (λ fault. fault ≢ OutOfMemory → (structs : List (List Cell)) → SpellsFields (fields_view fields.now) (columns_from footer.now located.now.bytes.now (length readers.old.items)) structs → ⊥) }
-    ensures fault { IfErr result (λ cause. cause ≢ OutOfMemory → FaultWithin (fields_view fields.now) (columns_of footer.now located.now.bytes.now) (length readers.old.items) cause) }
+    ensures none { IfErr result (λ fault. fault ≢ OutOfMemory → (structs : List (List Cell))
+        → SpellsFields (fields_view fields.now) (columns_from footer.now located.now.bytes.now (length readers.old.items)) structs → ⊥) }
+    ensures fault { IfErr result (λ cause. cause ≢ OutOfMemory
+        → FaultWithin (fields_view fields.now) (columns_of footer.now located.now.bytes.now) (length readers.old.items) cause) }
 {
     match fields {
         [] => Ok(()),

@@ -58,7 +58,8 @@ impl<'a> StripeView<'a> {
     ) -> Result<StripeView<'a>, StripeFault>
         ensures found { IfOk result (λ view. HasFooter schema.now info bytes.now view.footer) }
         ensures same { IfOk result (λ view. (view.schema ≡ schema.now) × (view.info ≡ info) × (view.stride ≡ stride) × (view.bytes ≡ bytes.now)) }
-        ensures only { (footer : StripeFooter) → HasFooter schema.now info bytes.now footer → MatchResult result (λ view. view.footer ≡ footer) (λ fault. fault ≡ OutOfMemory) }
+        ensures only { (footer : StripeFooter) → HasFooter schema.now info bytes.now footer
+            → MatchResult result (λ view. view.footer ≡ footer) (λ fault. fault ≡ OutOfMemory) }
         ensures fault { IfErr result (OpenFault schema.now info bytes.now) }
     {
         let Some(room) = info.index_length.checked_add(info.data_length) else {
@@ -106,8 +107,10 @@ impl<'a> StripeView<'a> {
     /// answered is open.
     pub fn rows(&self, alloc: Global) -> Result<Vec<Row<'a>>, StripeFault>
         ensures found { IfOk result (λ rows. IsStripe self.now.schema self.now.info self.now.bytes (views rows.items)) }
-        ensures only { (rows : List Cell) → IsStripe self.now.schema self.now.info self.now.bytes rows → MatchResult result (λ answered. views answered.items ≡ rows) (λ fault. fault ≡ OutOfMemory) }
-        ensures fault { IfErr result (λ cause. cause ≢ OutOfMemory → RowsFault self.now.schema (columns_of self.now.footer self.now.bytes) self.now.info.number_of_rows cause) }
+        ensures only { (rows : List Cell) → IsStripe self.now.schema self.now.info self.now.bytes rows
+            → MatchResult result (λ answered. views answered.items ≡ rows) (λ fault. fault ≡ OutOfMemory) }
+        ensures fault { IfErr result (λ cause. cause ≢ OutOfMemory
+            → RowsFault self.now.schema (columns_of self.now.footer self.now.bytes) self.now.info.number_of_rows cause) }
     {
         let tree = self.schema.tree();
         let located = locate(alloc, &self.footer, self.bytes)?;

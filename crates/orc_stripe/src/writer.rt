@@ -82,7 +82,8 @@ fn all_columns(
 ) -> Result<Columns, AllocError>
     requires fit { RowsFit schema.now (views rows.now) }
     requires few { AreFew schema.now (views rows.now) }
-    ensures columns { IfOk result (λ out. HasColumns rle schema.now (views rows.now) (width schema.now) out.body.bytes.items out.body.directory.items out.encodings.items) }
+    ensures columns { IfOk result (λ out. HasColumns rle schema.now (views rows.now)
+        (width schema.now) out.body.bytes.items out.body.directory.items out.encodings.items) }
     ensures stats { IfOk result (λ out. HaveStats schema.now (views rows.now) (width schema.now) out.stats.items) }
 {
     let mut body = Body {
@@ -109,7 +110,8 @@ fn all_columns(
 /// Puts the footer behind the streams.
 fn closed(columns: Columns, number_of_rows: u64) -> Result<StripeOut, AllocError>
     ensures written { IfOk result (λ out. (rle : Rle) (s : Shape) (rows : List Cell) → length rows ≡ number_of_rows
-        → HasColumns rle s rows (width s) columns.body.bytes.items columns.body.directory.items columns.encodings.items → IsWrittenStripe rle s rows out.info out.bytes.items) }
+        → HasColumns rle s rows (width s) columns.body.bytes.items columns.body.directory.items columns.encodings.items
+        → IsWrittenStripe rle s rows out.info out.bytes.items) }
     ensures stats { IfOk result (λ out. out.stats.items ≡ columns.stats.items) }
 {
     whole_laws();
