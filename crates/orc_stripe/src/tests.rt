@@ -89,7 +89,7 @@ const LONG_LIST: [u8; 20] = [
     0x12, 0x02, 0x08, 0x00,
 ];
 
-const CASES: [Case; 26] = [
+static CASES: [Case; 27] = [
     (
         "struct<n:bigint>",
         &[0x00, 0x00, 0x0e],
@@ -273,6 +273,14 @@ const CASES: [Case; 26] = [
         &TWO_WORDS,
         1,
         Err(StripeFault::NotUtf8(1, StreamKind::DictionaryData)),
+    ),
+    // three lengths of two entries
+    (
+        "struct<s:string>",
+        &[0xff, 0x00, 0x00, 0x00, 0x01, 0x61, 0x62],
+        &TWO_WORDS,
+        1,
+        Err(StripeFault::Run(1, StreamKind::Length, RunFault::TooMany(0))),
     ),
     (
         "struct<a:array<int>>",
