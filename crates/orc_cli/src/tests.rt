@@ -265,7 +265,7 @@ fn rows_of_files(rt: HostRuntime) {
 }
 
 /// A file, a place, the bytes put there, how many rows are printed then, and what is refused.
-const CHANGES: [(&[u8], usize, &[u8], usize, &str); 10] = [
+static CHANGES: [(&[u8], usize, &[u8], usize, &str); 10] = [
     (&TWINS, 0, &[], 0, "json 5 DuplicateField"),
     (
         &TWINS,
@@ -311,15 +311,15 @@ const CHANGES: [(&[u8], usize, &[u8], usize, &str); 10] = [
 /// What is refused of a file with bytes changed, and the lines before.
 #[test]
 fn refused_files(rt: HostRuntime) -> Result<(), AllocError> {
-    for (file, place, bytes, count, text) in CHANGES {
+    for (file, place, bytes, count, text) in &CHANGES {
         let mut changed = file.to_vec(rt.alloc())?;
-        changed[place..place + bytes.len()].copy_from_slice(bytes);
+        changed[*place..*place + bytes.len()].copy_from_slice(bytes);
         let mut out = Trickle::new(512, 512, AtItsEnd::Fails);
         match rows(rt.alloc(), &changed, &mut out) {
             Ok(()) => assert!(rt; false, "{text}"),
-            Err(fault) => assert_eq!(rt; text_of(rt.alloc(), fault)?.as_str(), text),
+            Err(fault) => assert_eq!(rt; text_of(rt.alloc(), fault)?.as_str(), *text),
         }
-        check_sevens(&rt, out.written(), count);
+        check_sevens(&rt, out.written(), *count);
     }
     Ok(())
 }
