@@ -1,5 +1,5 @@
 -- Base 128 varints (Protocol Buffers encoding, "Base 128 Varints").
-use Rattle.std.specs.Prelude.{◌≡◌, ℕ, ◌+◌, ◌*◌, ◌%◌, ◌^◌, ◌<◌, ◌≤◌, List, [], ◌∷◌, length, take, slice_index, ◌/◌, zero, suc, cond, nat_lt}
+use Rattle.std.specs.Prelude.{◌≡◌, ℕ, ◌+◌, ◌*◌, ◌%◌, ◌^◌, ◌<◌, ◌≤◌, List, [], ◌∷◌, ◌++◌, length, take, slice_index, ◌/◌, zero, suc, cond, nat_lt}
 use Rattle.std.specs.List.{AllByRecursion}
 use Rattle.orc_bits.specs.declared.fault.BitFault.{BitFault}
 use Rattle.orc_bits.specs.declared.fault.BitFault.TheVariants.{Short, TooLong, OutOfMemory}
@@ -30,6 +30,18 @@ pub record IsVarint (bytes : List ℕ) (n : ℕ) : Type 0 where
 pub record IsShortest (bytes : List ℕ) (n : ℕ) : Type 0 where
   pub varint : IsVarint bytes n
   pub shortest : (others : List ℕ) → IsVarint others n → length bytes ≤ length others
+
+-- numbers that stand for bytes
+abbrev pub AllBytes : List ℕ → Type 0
+AllBytes bytes = AllByRecursion (λ b. b < 256) bytes
+
+-- a varint stands in front
+pub record HasVarint (bytes : List ℕ) : Type 0 where
+  pub front : List ℕ
+  pub rest : List ℕ
+  pub number : ℕ
+  pub parts : bytes ≡ front ++ rest
+  pub is : IsVarint front number
 
 -- why bytes have no varint in front: they end while each byte asks for another, or a tenth byte asks
 -- for more than 64 bits

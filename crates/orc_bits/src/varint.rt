@@ -1,5 +1,5 @@
-ghost use Rattle.std.specs.Prelude.{◌≡◌, ℕ, ◌+◌, ◌<◌, ◌≤◌, ◌^◌, ◌++◌, List, length, take, IfOk, IfErr, OnOk, OnErr, vec_capacity, vec_len};
-ghost use Rattle.orc_bits.specs.Varint.{IsVarint, IsShortest, NoVarint, varint_text};
+ghost use Rattle.std.specs.Prelude.{◌≡◌, ℕ, ◌+◌, ◌<◌, ◌≤◌, ◌^◌, ◌++◌, ◌⊎◌, List, length, take, IfOk, IfErr, OnOk, OnErr, vec_capacity, vec_len};
+ghost use Rattle.orc_bits.specs.Varint.{IsVarint, IsShortest, AllBytes, HasVarint, NoVarint, varint_text};
 ghost use Rattle.orc_bits.specs.declared.fault.BitFault.{BitFault};
 ghost use Rattle.orc_bits.specs.declared.fault.BitFault.TheVariants.{OutOfMemory};
 
@@ -67,12 +67,14 @@ pub fn put_varint(n: u64, out: &mut Vec<u8>) -> Result<(), BitFault>
 }
 
 /// Laws of varints: none is a proper prefix of another, so bytes have at most one varint in front;
-/// every number below 2^64 has one shortest varint, the one that `put_varint` appends; and where a
-/// fault of `read_varint` applies no varint stands, nor another fault.
+/// every number below 2^64 has one shortest varint, the one that `put_varint` appends; where a fault
+/// of `read_varint` applies no varint stands, nor another fault; and whatever bytes stand, a varint is
+/// in front of them or a fault applies.
 pub fn varint_laws()
     ensures prefix { (a b x y : List ℕ) (m n : ℕ) → IsVarint a m → IsVarint b n → a ++ x ≡ b ++ y → (a ≡ b) × (m ≡ n) }
     ensures written { (n : ℕ) → n < 2 ^ 64 → IsShortest (varint_text n) n }
     ensures one_shortest { (a : List ℕ) (n : ℕ) → IsShortest a n → a ≡ varint_text n }
     ensures none { (a x : List ℕ) (n : ℕ) (fault : BitFault) → NoVarint (a ++ x) fault → IsVarint a n → ⊥ }
     ensures one_fault { (bytes : List ℕ) (e f : BitFault) → NoVarint bytes e → NoVarint bytes f → e ≡ f }
+    ensures cover { (bytes : List ℕ) → AllBytes bytes → HasVarint bytes ⊎ ((fault : BitFault) × NoVarint bytes fault) }
 {}

@@ -2,6 +2,8 @@ pub mod Views
 pub mod ByColumn
 pub mod Trees
 pub mod Exclusion
+pub mod Decisions
+pub mod Cover
 pub mod Together
 pub mod KeptFields
 pub mod Texts

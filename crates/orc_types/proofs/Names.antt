@@ -1,5 +1,5 @@
 -- Names that are looked up among those before them, and keys that are counted.
-use Rattle.std.proofs.Common.{◌≡◌, ℕ, zero, suc, ◌+◌, ◌<◌, ◌≤◌, ◌==◌, List, [], ◌∷◌, length, get_or, drop, Bool, true, false, not, ◌&&◌, ◌||◌, Option, option_map, Some, None, String, Global, Ordering, Less, Equal, Greater, string_bytes, string_cmp, bytes_eq, nat_cmp, refl, sym, ap, ◌∙◌, subst, arith, rules, drop-cons}
+use Rattle.std.proofs.Common.{◌≡◌, ℕ, zero, suc, ◌+◌, ◌<◌, ◌≤◌, ◌==◌, List, [], ◌∷◌, length, get_or, drop, Bool, true, false, not, ◌&&◌, ◌||◌, Option, option_map, Some, None, String, Global, Less, Equal, string_bytes, string_cmp, bytes_eq, nat_cmp, refl, sym, ap, ◌∙◌, subst, arith, rules, drop-cons}
 use Rattle.std.specs.Prelude.{is_some}
 use Rattle.std.specs.List.{AllByRecursion}
 use Rattle.std.specs.List.Sorted.{IsStrictlySortedBy}

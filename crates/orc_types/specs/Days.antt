@@ -1,5 +1,6 @@
 -- Days as dates of the calendar (ORC specification, "Types": a date is the days since 1970-01-01; RFC 3339, full-date).
 use Rattle.std.specs.Prelude.{◌≡◌, ℕ, zero, suc, ◌+◌, ◌-◌, ◌++◌, List, [], ◌∷◌, ℤ, pos, negsuc, ◌+ℤ◌, Bool, true, nat_lt, nat_le, if◌then◌else◌}
+use Rattle.std.specs.Fmt.{signed_decimal}
 use Rattle.jiff_core.specs.Calendar.{days_in_month}
 use Rattle.jiff_fmt.specs.Temporal.{DateParts}
 use Rattle.jiff_fmt.specs.Text.{year_text, pad2}
@@ -32,6 +33,10 @@ parts_text d = year_text d.year ++ 45 ∷ [] ++ pad2 d.month ++ 45 ∷ [] ++ pad
 
 abbrev pub day_text : ℤ → List ℕ
 day_text n = parts_text (date_after (from_first n))
+
+-- a day as that text in those years, and as its number in others
+abbrev pub date_text : ℤ → List ℕ
+date_text n = if has_text n then day_text n else signed_decimal n
 
 -- the text of a day of those years
 abbrev pub IsDayText : List ℕ → ℤ → Type 0

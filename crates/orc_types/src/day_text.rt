@@ -34,6 +34,20 @@ pub(crate) fn day_text(alloc: Global, day: i32) -> Result<String, AllocError>
     }
 }
 
+/// A day as the text `YYYY-MM-DD` in the years 0001 to 9999, and as its number in others, where day 0 is
+/// 1970-01-01 (ORC specification, "Types").
+///
+/// Refusal: memory that ran out.
+pub fn date_text(alloc: Global, day: i32) -> Result<String, AllocError>
+    ensures { IfOk result (λ text. string_bytes text ≡ spec.date_text day) }
+{
+    if has_text(day) {
+        day_text(alloc, day)
+    } else {
+        format!(in alloc; "{day}")
+    }
+}
+
 /// The day whose text this is, where day 0 is 1970-01-01; none where the text is no date of the
 /// years 0001 to 9999, written `YYYY-MM-DD`.
 pub(crate) fn day_of_text(text: &str) -> Option<i32>

@@ -2,7 +2,7 @@ ghost use Rattle.std.specs.Prelude.{◌≡◌, ◌≢◌, ◌↔◌, ◌++◌, �
 ghost use Rattle.orc_types.specs.Shapes.{Shape, list_of, struct_of, Fields, width, shape_at};
 ghost use Rattle.orc_types.specs.Types.{types, starts};
 ghost use Rattle.orc_wire.specs.declared.type_msg.TypeMsg.{TypeMsg};
-ghost use Rattle.orc_types.specs.Schemas.{IsSchema, HasTypes, same_types};
+ghost use Rattle.orc_types.specs.Schemas.{IsSchema, HasTypes, AllKept, same_types};
 ghost use Rattle.orc_types.specs.Faults.{TypesFault};
 ghost use Rattle.orc_types.specs.SchemaText.{text, bare, IsPlain, HasText};
 ghost use Rattle.orc_types.specs.TextFaults.{TextFault};
@@ -25,11 +25,13 @@ ghost use Rattle.orc_types.specs.declared.fault.TypeFault.{TypeFault};
 ghost use Rattle.orc_types.specs.declared.fault.TypeFault.TheVariants.{OutOfMemory};
 
 /// Laws of schemas: a list of types is of one tree at most; schemas compare equal exactly where they
-/// are one tree; and of the faults that stand, none but want of memory goes with a schema.
+/// are one tree; of the faults that stand, none but want of memory goes with a schema; and types whose
+/// kept bytes are fields above 3 are a schema's or have a fault other than want of memory.
 pub fn schema_laws()
     ensures one_tree { (s t : Shape) → types s 0 ≡ types t 0 → s ≡ t }
     ensures equal { (s t : Shape) → (same_types s t ≡ true) ↔ (s ≡ t) }
     ensures none { (ts : List TypeMsg) (s : Shape) (fault : TypeFault) → HasTypes s ts → TypesFault ts fault → fault ≡ OutOfMemory }
+    ensures cover { (ts : List TypeMsg) → AllKept ts → ((s : Shape) × HasTypes s ts) ⊎ ((fault : TypeFault) × (fault ≢ OutOfMemory) × TypesFault ts fault) }
 {}
 
 /// Laws of schemas' texts: a text is of one schema at most; that of any schema with plain names is of

@@ -23,6 +23,7 @@ mod tree;
 mod value;
 
 pub use columns::cells;
+pub use day_text::date_text;
 pub use fault::TypeFault;
 pub use fitting::{fits, int_fits};
 pub use json_fault::JsonFault;

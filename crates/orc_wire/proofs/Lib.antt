@@ -4,4 +4,5 @@ pub mod InnerLemmas
 pub mod ListLemmas
 pub mod PutLemmas
 pub mod TableLaws
+pub mod KeptLaws
 pub mod WholeLaws

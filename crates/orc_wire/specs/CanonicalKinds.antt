@@ -1,6 +1,6 @@
 -- Laws of how each kind of member is written, with their proofs (Protocol Buffers encoding; packed lists
 -- as in "Packed Repeated Fields").
-use Rattle.std.specs.Prelude.{◌≡◌, ℕ, ◌+◌, ◌^◌, ◌<◌, ◌≤◌, List, [], ◌∷◌, length, ◌++◌, ◌⊎◌, Option, Some, None, Bool, true, false, not, ◌==◌}
+use Rattle.std.specs.Prelude.{◌≡◌, ℕ, ◌+◌, ◌^◌, ◌<◌, ◌≤◌, List, [], ◌∷◌, length, ◌++◌, ◌⊎◌, Option, Some, None, Bool, true, false, ◌==◌}
 use Rattle.std.specs.Prelude.{nat_le, refl, ⊤}
 use Rattle.std.specs.Option.{option_or, option_to_list, unwrap_or, IfSome}
 use Rattle.std.specs.Bool.{MatchBool}
@@ -21,7 +21,10 @@ use Rattle.orc_wire.specs.Parts.{AreVarints, FailsNext, PackedFails, MessageIn, 
 use Rattle.orc_wire.specs.Kinds.{Part, number, small, signed, small_signed, flag, text, packed, message, kept_from, no_front, last, known, all, each, only}
 use Rattle.orc_wire.specs.CanonicalText.{field_text, some_text, shown_text, known_text, list_text, varints_text, packed_text}
 use Rattle.orc_wire.specs.Canonical.{IsOutside, IsBetween, Adds, Canonical, all_both}
-use Rattle.orc_wire.specs.CanonicalFields.{IsNumber, eqb_same, eqb_other, eqb_is, at_number, bytes_hears, item_at, field_at, sized_holds, payload_shorter, Single, a_number, a_small, a_signed, a_small_signed, a_flag, a_text, message_is, message_silent, message_hears, message_single, message_read, a_message}
+use Rattle.orc_wire.specs.CanonicalFields.{IsNumber, eqb_same, eqb_other, eqb_is, at_number}
+use Rattle.orc_wire.specs.CanonicalFields.{bytes_hears, item_at, field_at, sized_holds, payload_shorter, Single}
+use Rattle.orc_wire.specs.CanonicalFields.{a_number, a_small, a_signed, a_small_signed, a_flag, a_text}
+use Rattle.orc_wire.specs.CanonicalFields.{message_is, message_silent, message_hears, message_single, message_read, a_message}
 
 pub between_push : {low high : ℕ} (more : List Item) (item : Item) → IsBetween low high item → AllByRecursion (IsBetween low high) more
     → AllByRecursion (IsBetween low high) (more ++ item ∷ [])

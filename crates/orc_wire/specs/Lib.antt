@@ -3,10 +3,13 @@ pub mod FieldValue
 pub mod FieldItem
 pub mod FieldLaws
 pub mod FaultLaws
+pub mod FieldCover
 pub mod Members
 pub mod Spells
 pub mod SpellsLaws
+pub mod SpellsCover
 pub mod Parts
+pub mod PartsCover
 pub mod Kinds
 pub mod Table
 pub mod Messages

@@ -2,6 +2,7 @@
 ghost use Rattle.std.specs.Prelude.{◌≡◌, ◌↔◌, ℕ, ℤ, ◌++◌, ◌^◌, ◌<◌, length, List, [], Option, Bool, ◌⊎◌, true, false, not, ◌==◌};
 ghost use Rattle.std.specs.List.{AllByRecursion};
 ghost use Rattle.std.specs.Option.{option_map, unwrap_or, IfSome, IsSome};
+ghost use Rattle.orc_bits.specs.Varint.{AllBytes};
 ghost use Rattle.orc_bits.specs.Zigzag.{zig};
 ghost use Rattle.orc_wire.specs.declared.fault.WireFault.{WireFault};
 ghost use Rattle.orc_wire.specs.declared.column_stats.ColumnStats.{ColumnStats};
@@ -22,7 +23,7 @@ ghost use Rattle.orc_wire.specs.declared.stripe_footer.StreamMsg.{StreamMsg};
 ghost use Rattle.orc_wire.specs.declared.stripe_footer.StripeFooter.{StripeFooter};
 ghost use Rattle.orc_wire.specs.declared.post_script.PostScript.{PostScript};
 ghost use Rattle.orc_wire.specs.declared.type_msg.TypeMsg.{TypeMsg};
-ghost use Rattle.orc_wire.specs.Fields.{varint, sized, Item, IsField, IsFields, NoField};
+ghost use Rattle.orc_wire.specs.Fields.{varint, sized, Item, IsField, HasField, IsFields, NoField};
 ghost use Rattle.orc_wire.specs.Spells.{number_in, bytes_in, Spells, Faults};
 ghost use Rattle.orc_wire.specs.Kinds.{number, small, signed, small_signed, flag, text, packed, message, kept_from, last, known, all, each, only};
 ghost use Rattle.orc_wire.specs.Table.{newest, in_order, kept_texts, AreSmall, JoinsParts, JoinsSome, OnlyMessage};
@@ -34,13 +35,14 @@ ghost use Rattle.orc_wire.specs.CanonicalMessages.{is_dictionary, encoding_text,
 
 use crate::message::Message;
 
-/// No field begins another, so bytes have one list of fields at most; and where no field stands,
-/// one fault says why.
+/// No field begins another, so bytes have one list of fields at most; and whatever bytes stand, a
+/// field is in front of them or one fault says why not.
 pub fn field_laws()
     ensures one_field { (place : ℕ) (a b : Item) (x y : List ℕ) → IsField place a → IsField place b → a.text ++ x ≡ b.text ++ y → a ≡ b }
     ensures one_list { (base : ℕ) (a b : List Item) (bytes : List ℕ) → IsFields base a bytes → IsFields base b bytes → a ≡ b }
     ensures none { (place : ℕ) (item : Item) (rest : List ℕ) (fault : WireFault) → NoField place (item.text ++ rest) fault → IsField place item → ⊥ }
     ensures one_fault { (place : ℕ) (bytes : List ℕ) (e f : WireFault) → NoField place bytes e → NoField place bytes f → e ≡ f }
+    ensures cover { (place : ℕ) (bytes : List ℕ) → AllBytes bytes → HasField place bytes ⊎ ((fault : WireFault) × NoField place bytes fault) }
 {}
 
 /// What the fields of a message say of each kind of member, and nothing else: the newest number or
@@ -62,14 +64,15 @@ pub fn table_laws()
     ensures kept { (n : ℕ) (fields : List Item) (v : List ℕ) → (all (kept_from n)).says fields v ↔ (v ≡ kept_texts n fields) }
 {}
 
-/// Bytes spell one message at most, and where a fault applies none, and no other fault. A list of
-/// messages in one has them in the order of their fields; a message that may stand once stands in one
+/// Bytes spell one message at most, and where a fault applies none, and no other fault; whatever bytes
+/// stand, they spell a message or a fault applies. A list of messages in one has them in the order of their fields; a message that may stand once stands in one
 /// field at most. What is read has numbers of its fields' bits, and where its canonical text holds all
 /// of it, that text is it again.
 pub fn message_laws<M: Message>()
     ensures one { (base : ℕ) (bytes : List ℕ) (a b : M) → Spells M.members M.REQUIRED base bytes a → Spells M.members M.REQUIRED base bytes b → a ≡ b }
     ensures none { (base : ℕ) (bytes : List ℕ) (a : M) (fault : WireFault) → Faults M.members M.REQUIRED base bytes fault → Spells M.members M.REQUIRED base bytes a → ⊥ }
     ensures one_fault { (base : ℕ) (bytes : List ℕ) (e f : WireFault) → Faults M.members M.REQUIRED base bytes e → Faults M.members M.REQUIRED base bytes f → e ≡ f }
+    ensures cover { (base : ℕ) (bytes : List ℕ) → AllBytes bytes → ((a : M) × Spells M.members M.REQUIRED base bytes a) ⊎ ((fault : WireFault) × Faults M.members M.REQUIRED base bytes fault) }
 
     ensures each { (n : ℕ) (fields : List Item) (v : List M) → (each (message M.members M.REQUIRED n)).says fields v ↔ JoinsSome (message M.members M.REQUIRED n).gives fields v }
     ensures only { (n : ℕ) (fields : List Item) (v : Option M) → (only M.members M.REQUIRED n).says fields v ↔ OnlyMessage M.members M.REQUIRED n fields v }
@@ -81,7 +84,8 @@ pub fn message_laws<M: Message>()
 /// When a message's canonical text holds all of it, so that it reads back: always, but for an
 /// encoding's dictionary size, which is written for dictionary kinds alone, and for kept bytes, which
 /// must be fields with kept numbers, and for a record of statistics, which is written where one of
-/// its parts is known. What is read keeps such fields.
+/// its parts is known. What is read keeps such fields; and whether all of them have a higher number is
+/// decided.
 pub fn whole_laws()
     ensures stream { (m : StreamMsg) → stream_text.whole m }
     ensures encoding { (m : Encoding) → (is_dictionary m.kind ≡ false → m.dictionary_size ≡ 0) → encoding_text.whole m }
@@ -94,6 +98,7 @@ pub fn whole_laws()
     ensures pair { (m : UserMetadataItem) → user_metadata_text.whole m }
     ensures footer_of_kept { (m : Footer) → AllByRecursion (λ t. AreKept 4 t.kept) m.types → AllByRecursion column_stats_text.whole m.statistics → AreKept 10 m.kept → footer_text.whole m }
     ensures footer_read { (base : ℕ) (bytes : List ℕ) (m : Footer) → Spells footer 0 base bytes m → AreKept 10 m.kept × AllByRecursion (λ t. AreKept 4 t.kept) m.types }
+    ensures kept_or_not { (m n : ℕ) (bytes : List ℕ) → AreKept m bytes → AreKept n bytes ⊎ (AreKept n bytes → ⊥) }
 
     ensures integers { (m : IntegerStatistics) → integer_stats_text.whole m }
     ensures strings { (m : StringStatistics) → string_stats_text.whole m }

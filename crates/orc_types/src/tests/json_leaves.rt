@@ -1,5 +1,6 @@
 use super::json_rows::comes_to;
 use super::*;
+use crate::date_text;
 use crate::day_text::{day_of_text, day_text, has_text};
 
 /// Days and the texts of their dates.
@@ -13,6 +14,13 @@ static DAYS: [(i32, &'static str); 9] = [
     (-25508, "1900-03-01"),
     (11016, "2000-02-29"),
     (19782, "2024-02-29"),
+];
+
+/// Days before and behind the years of dates, and their numbers.
+static OTHER_DAYS: [(i32, &'static str); 3] = [
+    (-719163, "-719163"),
+    (2932897, "2932897"),
+    (i32::MIN, "-2147483648"),
 ];
 
 /// Values of JSON under types, and what they are printed as again.
@@ -116,6 +124,16 @@ fn days(rt: HostRuntime) {
             held = is_day(alloc, day, text);
         }
         assert!(rt; matches!(held, Ok(true)), "day {day}");
+    }
+    for &(day, text) in DAYS.iter().chain(&OTHER_DAYS) {
+        let mut found = date_text(alloc, day);
+        if found.is_err() {
+            found = date_text(alloc, day);
+        }
+        assert!(rt;
+            matches!(&found, Ok(found) if found.as_str() == text),
+            "day {day}"
+        );
     }
 }
 

@@ -1,5 +1,6 @@
 use Rattle.orc_bits.proofs.VarintLaws.{one_varint, no_varint, one_shortest, one_fault}
 use Rattle.orc_bits.proofs.VarintLemmas.{varint_text-is}
+use Rattle.orc_bits.proofs.VarintCover.{some_varint}
 use Rattle.orc_bits.proofs.varint.varint_laws.Goals as goal
 
 pub returns-clause-prefix : goal.returns-clause-prefix
@@ -16,3 +17,6 @@ returns-clause-none c = no_varint
 
 pub returns-clause-one_fault : goal.returns-clause-one_fault
 returns-clause-one_fault c = one_fault
+
+pub returns-clause-cover : goal.returns-clause-cover
+returns-clause-cover c = some_varint

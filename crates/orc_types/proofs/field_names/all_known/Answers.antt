@@ -1,4 +1,4 @@
-use Rattle.std.proofs.Common.{◌≡◌, ◌==◌, ℕ, length, sym, ap, ◌∙◌, arith}
+use Rattle.std.proofs.Common.{◌≡◌, ◌==◌, ℕ, length, ap, ◌∙◌, arith}
 use Rattle.serde_json.specs.View.{members_view}
 use Rattle.orc_types.specs.Shapes.{names_of}
 use Rattle.orc_types.specs.Views.{fields}

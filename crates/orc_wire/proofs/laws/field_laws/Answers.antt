@@ -1,5 +1,6 @@
 use Rattle.orc_wire.specs.FieldLaws.{one_field, none_field}
 use Rattle.orc_wire.specs.FaultLaws.{one_no_field}
+use Rattle.orc_wire.specs.FieldCover.{some_field}
 use Rattle.orc_wire.specs.SpellsLaws.{one_fields}
 use Rattle.orc_wire.proofs.laws.field_laws.Goals as goal
 
@@ -14,3 +15,6 @@ returns-clause-none c = none_field
 
 pub returns-clause-one_fault : goal.returns-clause-one_fault
 returns-clause-one_fault c = one_no_field
+
+pub returns-clause-cover : goal.returns-clause-cover
+returns-clause-cover c = some_field

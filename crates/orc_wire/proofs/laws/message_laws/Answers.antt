@@ -1,6 +1,7 @@
 use Rattle.orc_wire.specs.Kinds.{message}
 use Rattle.orc_wire.specs.Canonical.{spells_again}
 use Rattle.orc_wire.specs.SpellsLaws.{one_spelled, none_spelled, one_refusal}
+use Rattle.orc_wire.specs.SpellsCover.{some_spelled}
 use Rattle.orc_wire.proofs.TableLaws.{each_parts, only_parts}
 use Rattle.orc_wire.proofs.laws.message_laws.Goals as goal
 
@@ -12,6 +13,9 @@ returns-clause-none g c = let m = g.M.Message in none_spelled m.members m.REQUIR
 
 pub returns-clause-one_fault : goal.returns-clause-one_fault
 returns-clause-one_fault g c = let m = g.M.Message in λ base. one_refusal m.members m.REQUIRED base m.canonical.single
+
+pub returns-clause-cover : goal.returns-clause-cover
+returns-clause-cover g c = let m = g.M.Message in some_spelled m.members m.REQUIRED
 
 pub returns-clause-each : goal.returns-clause-each
 returns-clause-each g c = let m = g.M.Message in λ n. each_parts (message m.members m.REQUIRED n)

@@ -1,5 +1,6 @@
 use Rattle.orc_wire.specs.CanonicalKinds.{says_kept}
 use Rattle.orc_wire.specs.CanonicalMessages.{is_dictionary}
+use Rattle.orc_wire.proofs.KeptLaws.{kept_or_not}
 use Rattle.orc_wire.proofs.WholeLaws.{encoding_whole, footer_whole, footer_kept, column_whole, directory_whole, entry_whole, integer_shown, string_shown, bucket_shown, date_shown, binary_shown, column_shown, integer_whole, string_whole, bucket_whole, date_whole, binary_whole, stripes_whole, metadata_whole, index_whole}
 use Rattle.orc_wire.proofs.laws.whole_laws.Goals as goal
 
@@ -14,6 +15,9 @@ returns-clause-footer_of_kept c = footer_whole
 
 pub returns-clause-footer_read : goal.returns-clause-footer_read
 returns-clause-footer_read c = footer_kept
+
+pub returns-clause-kept_or_not : goal.returns-clause-kept_or_not
+returns-clause-kept_or_not c = kept_or_not
 
 pub returns-clause-column : goal.returns-clause-column
 returns-clause-column c = column_whole
