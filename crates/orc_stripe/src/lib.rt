@@ -33,8 +33,3 @@ pub use options::Options;
 pub use view::StripeView;
 pub use writer::{StripeOut, write_stripe};
 pub use written::writing_laws;
-
-#[cfg(test)]
-mod tests;
-#[cfg(test)]
-mod writing_tests;

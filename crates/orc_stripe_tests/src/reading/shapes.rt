@@ -1,5 +1,5 @@
 use super::lines_of;
-use crate::*;
+use orc_stripe::{StreamKind, StripeFault};
 use std::alloc::Global;
 use std::process::Abort;
 

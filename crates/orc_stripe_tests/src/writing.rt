@@ -3,9 +3,9 @@ ghost use Rattle.std.specs.Prelude.{IfOk};
 ghost use Rattle.orc_types.specs.Fits.{RowsFit};
 ghost use Rattle.orc_types.specs.Views.{views};
 
-use crate::*;
 use orc_rle::Rle;
 use orc_stats::Body;
+use orc_stripe::{Options, StripeFault, StripeOut, StripeView, are_few, write_stripe};
 use orc_types::{Row, Schema, row_from_json, row_to_json};
 use serde_json::Value as Json;
 use std::alloc::Global;

@@ -1,5 +1,5 @@
 use super::{ONE_WORD, print_rows};
-use crate::*;
+use orc_stripe::StripeFault;
 use orc_types::Schema;
 use orc_wire::StripeInfo;
 use std::alloc::Global;

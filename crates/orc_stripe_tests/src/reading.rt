@@ -1,9 +1,11 @@
+//! Stripes read: rows of each kind, refusals, changed bytes, and shapes at the limits.
+
 mod encodings;
 mod hostile;
 mod shapes;
 
-use crate::*;
 use orc_rle::RunFault;
+use orc_stripe::{StreamKind, StripeFault, StripeView};
 use orc_types::{Schema, fits, row_to_json};
 use orc_wire::StripeInfo;
 use std::alloc::Global;
