@@ -8,6 +8,7 @@ pub mod ImageLaws
 pub mod TailText
 pub mod Appended
 pub mod TailLemmas
+pub mod TailCover
 pub mod EndLemmas
 pub mod Opened
 pub mod ReadBits

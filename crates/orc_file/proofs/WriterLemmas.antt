@@ -8,6 +8,7 @@ use Rattle.std.proofs.lemmas.List.{map-append, take_all, take-append-drop}
 use Rattle.orc_rle.specs.declared.sign.Rle.{Rle}
 use Rattle.orc_wire.specs.declared.stripe_info.StripeInfo.{StripeInfo}
 use Rattle.orc_types.specs.Shapes.{Shape, scalar, list_of, struct_of, width}
+use Rattle.orc_types.specs.Schemas.{IsSchema}
 use Rattle.orc_types.specs.Cells.{Cell, cells_of}
 use Rattle.orc_types.specs.Columns.{cells}
 use Rattle.orc_types.specs.Fits.{fits, all_fit, RowsFit}
@@ -172,6 +173,28 @@ cut_kept rle n s first told written infos stats kept rows l w h =
       file = subst (λ rs. IsSomeFile rle n s ((magic ++ bytes_of h.closed) ++ text) rs) (sym (ap (take (length (rows_of h.closed))) h.rows_are ∙ take-append_seam (rows_of h.closed) kept)) f;
     }
 
+-- nothing but some of the magic was written
+pub cut_begun : (rle : Rle) (n : ℕ) (s : Shape) (first new : Option (List ℕ)) (k : ℕ) → new ≡ appended first (take k magic) → IsCutOff rle n s first new []
+cut_begun rle n s first new k e =
+    let text = tail_text (written_tail rle s [] []) in
+    let whole : (magic ++ []) ++ text ≡ take k magic ++ (drop k magic ++ text)
+    = ap (λ x. x ++ text) (append-nil magic ∙ sym (take-append-drop k magic)) ∙ append_assoc (take k magic) (drop k magic) text in
+    record {
+      mine = take k magic;
+      rest = drop k magic ++ text;
+      count = 0;
+      told_is = e;
+      file = subst (λ bs. IsSomeFile rle n s bs []) whole (closes rle n s [] tt tt (record { stripes = omega arith; rows = omega arith; bytes = omega arith }));
+    }
+
+nothing_more : (first : Option (List ℕ)) → first ≡ appended first []
+nothing_more None = refl
+nothing_more (Some x) = ap Some (sym (append-nil x))
+
+-- nothing at all was written
+pub cut_unbegun : (rle : Rle) (n : ℕ) (s : Shape) (first : Option (List ℕ)) → IsCutOff rle n s first first []
+cut_unbegun rle n s first = cut_begun rle n s first first 0 (nothing_more first)
+
 -- a row more is kept
 pub kept_row : (rle : Rle) (n : ℕ) (s : Shape) (first told : Option (List ℕ)) (written : ℕ) (infos : List StripeInfo) (stats : List (List Stat)) (kept rows : List Cell) (row : Cell)
     → HasKept rle n s first told written infos stats kept rows → HasKept rle n s first told written infos stats (kept ++ row ∷ []) (rows ++ row ∷ [])
@@ -280,6 +303,16 @@ filled_empty rle n s first told written infos stats kept rows e p =
 pub pushed_none : (rle : Rle) (n : ℕ) (s : Shape) (first : Option (List ℕ)) → 0 < n → HasPushed rle n s first (appended first magic) 3 [] [] [] []
 pushed_none rle n s first l = (record { closed = []; are = tt; full = tt; infos_are = refl; stats_are = refl; told_is = refl; written_is = refl; rows_are = refl }, l)
 
+-- stripes have as many bytes as their records say together
+pub all_length : (rle : Rle) (s : Shape) (at : ℕ) (cs : List Closed) → AreClosed rle s at cs → length (bytes_of cs) ≡ stripes_length (infos_of cs)
+all_length rle s at [] h = refl
+all_length rle s at (c ∷ cs) h =
+    let i = h.0 in
+    let n = stripe_bytes s c.info c.bytes c.rows i.read in
+    let l = length-append c.bytes (bytes_of cs) in
+    let r = all_length rle s (at + length c.bytes) cs h.1 in
+    omega (arith, n, l, r)
+
 module _ (rle : Rle) (n : ℕ) (s : Shape) (first told : Option (List ℕ)) (infos : List StripeInfo) (stats : List (List Stat)) (rows : List Cell)
     (h : HasFilled rle n s first told infos stats rows) (w : AreWithin infos) where
   abbrev end_tail : Tail
@@ -297,11 +330,18 @@ module _ (rle : Rle) (n : ℕ) (s : Shape) (first told : Option (List ℕ)) (inf
   }
 
   -- the tail was written
-  pub whole_end : (new : Option (List ℕ)) → new ≡ appended told (tail_text (written_tail rle s infos stats)) → IsWhole rle n s (written_tail rle s infos stats) first new rows
-  whole_end new e = record {
+  pub whole_end : (new : Option (List ℕ)) → IsSchema s → length (tail_text (written_tail rle s infos stats)) < 2 ^ 63 → new ≡ appended told (tail_text (written_tail rle s infos stats))
+      → IsWhole rle n s (written_tail rle s infos stats) first new rows
+  whole_end new schema few e = record {
     bytes = (magic ++ bytes_of h.closed) ++ tail_text end_tail;
     told_is = e ∙ ap (λ o. appended o (tail_text end_tail)) h.told_is ∙ appended_twice first (magic ++ bytes_of h.closed) (tail_text end_tail);
     file = end_file;
+    schema = schema;
+    few =
+        let front = length-append magic (bytes_of h.closed) in
+        let all = length-append (magic ++ bytes_of h.closed) (tail_text end_tail) in
+        let stripes = all_length rle s 3 h.closed h.are in
+        omega (arith, few, front, all, stripes, subst (λ (i : List StripeInfo). stripes_length i ≤ most_bytes) h.infos_are w.bytes);
   }
 
   -- some of it was

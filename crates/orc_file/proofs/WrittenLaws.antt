@@ -32,7 +32,7 @@ use Rattle.orc_file.specs.Counts.{are_laid, are_stripe_stats, are_all_stats}
 use Rattle.orc_file.specs.Writing.{Closed, IsClosed, AreClosed, bytes_of, rows_of, infos_of, stats_of, of_columns, column_stats, file_stats, written_tail, IsWrittenFile}
 use Rattle.orc_file.specs.declared.tail.Tail.{Tail}
 use Rattle.orc_file.proofs.WriterLemmas as writer
-use Rattle.orc_file.proofs.WriterLemmas.{both, root_rows, has_root, laid_places}
+use Rattle.orc_file.proofs.WriterLemmas.{both, root_rows, has_root, laid_places, all_length}
 use Rattle.orc_file.proofs.StatTests.{stripe_stats_are, are_of_kind, some_or}
 use Rattle.orc_file.proofs.TailLimits.{tail_within, length-of_columns}
 use Rattle.orc_file.proofs.WrittenBits.{version_bits, types_bits, cells_stat, cells_whole}
@@ -70,14 +70,6 @@ all_laid rle s at (c ∷ cs) h =
     both (c.info.offset == at) _ (let i = h.0 in eq-eqb c.info.offset at i.placed)
     (both (ltb c.info.number_of_rows (2 ^ 31)) _ (lt-ltb c.info.number_of_rows (2 ^ 31) (few_rows rle s at c h.0))
     (ap (λ p. are_laid p (infos_of cs)) (place_next rle s at c h.0) ∙ all_laid rle s (at + length c.bytes) cs h.1))
-
-all_length : (rle : Rle) (s : Shape) (at : ℕ) (cs : List Closed) → AreClosed rle s at cs → length (bytes_of cs) ≡ stripes_length (infos_of cs)
-all_length rle s at [] h = refl
-all_length rle s at (c ∷ cs) h =
-    let n = whole rle s at c h.0 in
-    let l = length-append c.bytes (bytes_of cs) in
-    let r = all_length rle s (at + length c.bytes) cs h.1 in
-    omega (arith, n, l, r)
 
 all_stats : (rle : Rle) (s : Shape) (at : ℕ) (cs : List Closed) → AreClosed rle s at cs → are_all_stats s (stats_of cs) ≡ true
 all_stats rle s at [] h = refl

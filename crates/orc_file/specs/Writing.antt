@@ -1,11 +1,12 @@
 -- What a writer of files has written, and what it keeps (ORC specification, "File Tail"). Where a stripe ends,
 -- what the tail says and the limits are this project's.
-use Rattle.std.specs.Prelude.{◌≡◌, ℕ, zero, suc, ◌+◌, ◌<◌, ◌≤◌, List, [], ◌∷◌, ◌++◌, length, map, take, drop, Option, Some}
+use Rattle.std.specs.Prelude.{◌≡◌, ℕ, zero, suc, ◌+◌, ◌<◌, ◌≤◌, ◌^◌, List, [], ◌∷◌, ◌++◌, length, map, take, drop, Option, Some}
 use Rattle.std.specs.List.{flat_map}
 use Rattle.orc_rle.specs.declared.sign.Rle.{Rle}
 use Rattle.orc_rle.specs.declared.sign.Rle.TheVariants.{One, Two}
 use Rattle.orc_wire.specs.declared.stripe_info.StripeInfo.{StripeInfo}
 use Rattle.orc_types.specs.Shapes.{Shape, width}
+use Rattle.orc_types.specs.Schemas.{IsSchema}
 use Rattle.orc_types.specs.Cells.{Cell}
 use Rattle.orc_stats.specs.declared.stat.Stat.{Stat}
 use Rattle.orc_stats.specs.Joining.{joined}
@@ -128,11 +129,13 @@ pub record IsWrittenFile (rle : Rle) (n : ℕ) (s : Shape) (tail : Tail) (bytes 
 abbrev pub IsSomeFile : Rle → ℕ → Shape → List ℕ → List Cell → Type 0
 IsSomeFile rle n s bytes rows = (tail : Tail) × IsWrittenFile rle n s tail bytes rows
 
--- behind what the output had told first, a file with this tail stands
+-- behind what the output had told first, a file with this tail stands, and its length fits 64 bits
 pub record IsWhole (rle : Rle) (n : ℕ) (s : Shape) (tail : Tail) (first told : Option (List ℕ)) (rows : List Cell) : Type 0 where
   pub bytes : List ℕ
   pub told_is : told ≡ appended first bytes
   pub file : IsWrittenFile rle n s tail bytes rows
+  pub schema : IsSchema s
+  pub few : length bytes < 2 ^ 64
 
 -- What was written behind what the output had told first is the front of a file of some of the first rows.
 pub record IsCutOff (rle : Rle) (n : ℕ) (s : Shape) (first told : Option (List ℕ)) (rows : List Cell) : Type 0 where

@@ -24,14 +24,14 @@ impl Model for Failures {
 
 impl Failures {
     /// No failure yet.
-    pub(crate) fn new() -> Failures
+    pub fn new() -> Failures
         ensures { result ≡ 0 }
     {
         Failures { before: None }
     }
 
     /// One failure more.
-    pub(crate) fn note(&mut self)
+    pub fn note(&mut self)
         ensures { self.new ≡ self.old + 1 }
     {
         let before = Snapshot::of(self);

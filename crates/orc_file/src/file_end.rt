@@ -1,5 +1,6 @@
 //! The end of a file that is written.
-ghost use Rattle.std.specs.Prelude.{◌≡◌, ◌<◌, ◌≤◌, ◌⊎◌, ℕ, true, take, length, IfOk, IfErr, OnOk, OnErr, IsErrOf};
+ghost use Rattle.std.specs.Prelude.{◌≡◌, ◌<◌, ◌≤◌, ◌^◌, ◌⊎◌, ℕ, true, take, length, IfOk, IfErr, OnOk, OnErr, IsErrOf};
+ghost use Rattle.orc_types.specs.Schemas.{IsSchema};
 ghost use Rattle.orc_file.specs.Devices.{appended};
 ghost use Rattle.orc_file.specs.Stripes.{stripes_rows};
 ghost use Rattle.orc_file.specs.Images.{tail_text};
@@ -8,7 +9,7 @@ ghost use Rattle.orc_file.specs.Writing.{version_of, written_tail, AreWithin};
 ghost use Rattle.orc_file.specs.declared.fault.FileFault.TheVariants.{WriteFailed, OutOfMemory};
 
 use crate::fault::FileFault;
-use crate::file_stats::of_file;
+use crate::file_stats::file_statistics;
 use crate::sending::write_all;
 use crate::sink::Sink;
 use crate::tail::Tail;
@@ -46,7 +47,11 @@ fn tail_of(alloc: Global, rle: Rle, schema: Schema, stripes: Stripes) -> Result<
     ensures refused { IfErr result (λ fault. fault ≡ OutOfMemory) }
 {
     let Stripes { infos, stats, rows } = stripes;
-    let file_stats = of_file(alloc, &schema, &stats)?;
+    let file_stats = match file_statistics(alloc, &schema, &stats) {
+        Ok(file_stats) => file_stats,
+        // so many stripes have fewer than 2^48 values
+        Err(_) => return Err(FileFault::OutOfMemory),
+    };
     Ok(Tail {
         version: Items::from_vec(version(alloc, rle)?),
         writer: Some(99),
@@ -77,6 +82,8 @@ pub(crate) fn end_file<W: Sink>(
     requires stats { are_all_stats schema stripes.stats.items ≡ true }
     ensures tail { IfOk result (λ tail. tail ≡ written_tail rle schema stripes.infos.items stripes.stats.items) }
     ensures told { IfOk result (λ tail. W.told out.new ≡ appended (W.told out.old) (tail_text (written_tail rle schema stripes.infos.items stripes.stats.items))) }
+    ensures few { IfOk result (λ _. length (tail_text (written_tail rle schema stripes.infos.items stripes.stats.items)) < 2 ^ 63) }
+    ensures schema { OnOk result (IsSchema schema) }
     ensures cut { OnErr result ((n : ℕ) × (W.told out.new ≡ appended (W.told out.old) (take n (tail_text (written_tail rle schema stripes.infos.items stripes.stats.items))))) }
     ensures refused { IfErr result (λ e. (e ≡ WriteFailed) ⊎ (e ≡ OutOfMemory)) }
     ensures write_failed { IsErrOf result WriteFailed → W.failures out.old < W.failures out.new }

@@ -1,11 +1,13 @@
 //! The statistics of a file's columns, joined of those of its stripes.
-ghost use Rattle.std.specs.Prelude.{◌≡◌, ◌≤◌, ◌<◌, ◌^◌, true, IfOk, IfErr, length};
+ghost use Rattle.std.specs.Prelude.{◌≡◌, ◌≤◌, ◌<◌, ◌^◌, ◌⊎◌, ℕ, true, sum_by, All, IfOk, OnOk, IfErr};
 ghost use Rattle.orc_types.specs.Shapes.{width};
-ghost use Rattle.orc_file.specs.Stripes.{most_stripes};
-ghost use Rattle.orc_file.specs.Counts.{are_all_stats};
+ghost use Rattle.orc_stats.specs.declared.stat.Stat.{Stat};
+ghost use Rattle.orc_stats.specs.declared.fault.StatFault.TheVariants as fault;
+ghost use Rattle.orc_stats.specs.Kinds.{body_is_of};
+ghost use Rattle.orc_file.specs.Statistics.{kind_at};
 ghost use Rattle.orc_file.specs.Writing.{file_stats, column_stats};
 
-use orc_stats::{Body, Stat, StatKind, join_all};
+use orc_stats::{Body, Stat, StatFault, StatKind, join_all};
 use orc_types::{Schema, tree_at};
 use orc_wire::{Bytes, Items};
 use std::alloc::{AllocError, Global};
@@ -71,24 +73,26 @@ fn of_column(alloc: Global, stats: &[Items<Stat>], column: usize) -> Result<Vec<
     Ok(found)
 }
 
-/// The statistics of the file's columns, one for each.
-pub(crate) fn of_file(
+/// The statistics of a file's columns, one for each: all that its stripes have of the column, joined (ORC
+/// specification, "Column Statistics"). Each stripe's statistics stand by the number of the column.
+///
+/// Refusals: `CountTooLarge` where a column has more than 2^62 values; and `OutOfMemory`.
+pub fn file_statistics(
     alloc: Global,
     schema: &Schema,
     stats: &[Items<Stat>],
-) -> Result<Vec<Stat>, AllocError>
-    requires few { length stats.now ≤ most_stripes }
-    requires stats { are_all_stats schema.now stats.now ≡ true }
-    ensures { IfOk result (λ found. found.items ≡ file_stats schema.now stats.now) }
+) -> Result<Vec<Stat>, StatFault>
+    requires kinds { (c : ℕ) → c < width schema.now → All (λ (s : Stat). body_is_of (kind_at schema.now c) s.body ≡ true) (column_stats c stats.now) }
+    ensures found { IfOk result (λ found. found.items ≡ file_stats schema.now stats.now) }
+    ensures few { OnOk result ((c : ℕ) → c < width schema.now → sum_by (λ (s : Stat). s.count) (column_stats c stats.now) ≤ 2 ^ 62) }
+    ensures fault { IfErr result (λ e. (e ≡ fault.OutOfMemory) ⊎ ((e ≡ fault.CountTooLarge) × (c : ℕ) × (c < width schema.now) × (2 ^ 62 < sum_by (λ (s : Stat). s.count) (column_stats c stats.now)))) }
 {
     let mut found = Vec::new(alloc);
     for column in 0..schema.width() {
         let kind = StatKind::of_type(tree_at(schema.tree(), column));
         let stripes = of_column(alloc, stats, column)?;
-        match join_all(alloc, kind, &stripes) {
-            Ok(stat) => found.push(stat)?,
-            Err(_) => return Err(AllocError),
-        }
+        let stat = join_all(alloc, kind, &stripes)?;
+        found.push(stat)?;
     }
     Ok(found)
 }

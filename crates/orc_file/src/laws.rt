@@ -1,5 +1,6 @@
 //! Laws of files. Each function does nothing: its contract is what it is for.
-ghost use Rattle.std.specs.Prelude.{◌≡◌, ◌<◌, ◌^◌, ℕ, List, length};
+ghost use Rattle.std.specs.Prelude.{◌≡◌, ◌<◌, ◌^◌, ◌⊎◌, ℕ, List, length};
+ghost use Rattle.orc_bits.specs.Varint.{AllBytes};
 ghost use Rattle.orc_wire.specs.CanonicalMessages.{post_script_text};
 ghost use Rattle.orc_file.specs.Tests.{AreAlike};
 ghost use Rattle.orc_file.specs.Stripes.{stripes_length, IsLaid, AllBefore};
@@ -9,12 +10,14 @@ ghost use Rattle.orc_file.specs.declared.tail.Tail.{Tail};
 ghost use Rattle.orc_file.specs.declared.fault.FileFault.{FileFault};
 
 /// Bytes have one tail at most, and none where a test fails. One fault is the first, but that what is
-/// wrong with types may be said in several ways. A tail that bytes have is within the limits, each of its
-/// numbers fits its field, and its stripes end within the bytes.
+/// wrong with types may be said in several ways. Any bytes have a tail or a fault. A tail that bytes have
+/// is within the limits, each of its numbers fits its field, and its stripes end within the bytes.
 pub fn tail_laws()
     ensures one { (bytes : List ℕ) (a b : Tail) → IsTail bytes a → IsTail bytes b → a ≡ b }
     ensures none { (bytes : List ℕ) (tail : Tail) (fault : FileFault) → OpenFault bytes fault → IsTail bytes tail → ⊥ }
     ensures single { (bytes : List ℕ) (e f : FileFault) → OpenFault bytes e → OpenFault bytes f → AreAlike e f }
+    ensures cover { (bytes : List ℕ) → AllBytes bytes → ((tail : Tail) × IsTail bytes tail) ⊎ ((fault : FileFault) × OpenFault bytes fault) }
+
     ensures limits { (bytes : List ℕ) (tail : Tail) → IsTail bytes tail → IsWithinLimits tail }
     ensures bits { (bytes : List ℕ) (tail : Tail) → IsTail bytes tail → HasBits tail }
     ensures within { (bytes : List ℕ) (tail : Tail) → IsTail bytes tail → AllBefore (length bytes) tail.stripes }

@@ -1,20 +1,23 @@
 //! Laws of files that are written. Each function does nothing: its contract is what it is for.
-ghost use Rattle.std.specs.Prelude.{◌≡◌, ◌<◌, ◌^◌, ℕ, List, length};
+ghost use Rattle.std.specs.Prelude.{◌≡◌, ◌<◌, ◌^◌, ℕ, List, length, Option};
 ghost use Rattle.orc_rle.specs.declared.sign.Rle.{Rle};
 ghost use Rattle.orc_types.specs.Cells.{Cell};
 ghost use Rattle.orc_types.specs.Shapes.{Shape};
 ghost use Rattle.orc_types.specs.Schemas.{IsSchema};
+ghost use Rattle.orc_file.specs.Devices.{appended};
 ghost use Rattle.orc_file.specs.Tails.{IsTail};
 ghost use Rattle.orc_file.specs.FileRows.{FileIs};
 ghost use Rattle.orc_file.specs.Honest.{Honest, HasWholeStats};
-ghost use Rattle.orc_file.specs.Writing.{IsWrittenFile};
+ghost use Rattle.orc_file.specs.Writing.{IsWrittenFile, IsWhole};
 ghost use Rattle.orc_file.specs.declared.tail.Tail.{Tail};
 
-/// A file of a schema that a writer wrote, if it has fewer than 2^64 bytes, has the tail that the writer
-/// answered and the rows that were pushed: so opening it finds that tail, and reading it finds those rows and
-/// no others. The tail's statistics are those of the rows, of each stripe and of the whole file. Of rows one
+/// What a writer wrote of rows is a file with the tail that the writer answered and these rows: so opening it
+/// finds that tail, and reading it finds those rows and no others. The same holds of any file of a schema that
+/// is laid out so, if it has fewer than 2^64 bytes. The tail's statistics are those of the rows, of each stripe and of the whole file. Of rows one
 /// file is written: the version of the run lengths, the rows of a stripe and the schema determine its bytes.
 pub fn written_laws()
+    ensures read { (rle : Rle) (n : ℕ) (s : Shape) (tail : Tail) (first told : Option (List ℕ)) (rows : List Cell)
+        → IsWhole rle n s tail first told rows → (bytes : List ℕ) × (told ≡ appended first bytes) × IsWrittenFile rle n s tail bytes rows × FileIs bytes tail rows }
     ensures tail { (rle : Rle) (n : ℕ) (s : Shape) (tail : Tail) (bytes : List ℕ) (rows : List Cell)
         → IsSchema s → IsWrittenFile rle n s tail bytes rows → length bytes < 2 ^ 64 → IsTail bytes tail }
     ensures rows { (rle : Rle) (n : ℕ) (s : Shape) (tail : Tail) (bytes : List ℕ) (rows : List Cell)

@@ -33,9 +33,11 @@ mod tail_writing;
 mod vec_sink;
 mod writer;
 
+pub use failures::Failures;
 pub use fault::FileFault;
 pub use file::OrcFile;
 pub use file_source::FileSource;
+pub use file_stats::file_statistics;
 pub use laws::{image_laws, tail_laws};
 pub use laws_of_rows::{row_laws, whole_laws};
 pub use laws_of_writing::written_laws;
@@ -50,12 +52,3 @@ pub use std_sink::StdSink;
 pub use tail::Tail;
 pub use vec_sink::VecSink;
 pub use writer::Writer;
-
-#[cfg(test)]
-mod tail_tests;
-#[cfg(test)]
-mod tests;
-#[cfg(test)]
-mod writer_tests;
-#[cfg(test)]
-mod written_again_tests;

@@ -61,6 +61,7 @@ fn range_of<S: Source>(
     ensures fault { IfErr result (λ fault. (fault ≡ OutOfMemory) ⊎ (fault ≡ SourceFailed)) }
     ensures kept { OnOk result (S.failures source.new ≡ S.failures source.old) }
     ensures failed { IsErrOf result SourceFailed → S.failures source.old < S.failures source.new }
+    ensures memory { IsErrOf result OutOfMemory → S.failures source.new ≡ S.failures source.old }
 {
     match read_range(alloc, source, at, len) {
         Ok(read) => Ok(read),
@@ -88,6 +89,7 @@ fn read_end<S: Source>(alloc: Global, source: &mut S) -> Result<End, FileFault>
     ensures fault { IfErr result (λ fault. ReadFault (S.told source.old) fault (λ bytes. (end_tests bytes).fails fault)) }
     ensures kept { OnOk result (S.failures source.new ≡ S.failures source.old) }
     ensures failed { IsErrOf result SourceFailed → S.failures source.old < S.failures source.new }
+    ensures memory { IsErrOf result OutOfMemory → S.failures source.new ≡ S.failures source.old }
 {
     let len = source.len();
     if len < 4 {
@@ -121,6 +123,7 @@ pub fn read_tail<S: Source>(alloc: Global, source: &mut S) -> Result<Tail, FileF
     ensures fault { IfErr result (λ fault. ReadFault (S.told source.old) fault (λ bytes. OpenFault bytes fault)) }
     ensures kept { OnOk result (S.failures source.new ≡ S.failures source.old) }
     ensures failed { IsErrOf result SourceFailed → S.failures source.old < S.failures source.new }
+    ensures memory { IsErrOf result OutOfMemory → S.failures source.new ≡ S.failures source.old }
 {
     let End { script, place } = read_end(alloc, source)?;
     let footer_at = place - script.footer_length;

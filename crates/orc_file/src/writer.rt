@@ -91,6 +91,7 @@ impl<W: Sink> Writer<W> {
         ensures made { IfOk result (λ w. (w.schema ≡ schema) × (w.options ≡ options) × (w.failed ≡ false)) }
 
         ensures refused { IfErr result (λ e. (e.0 ≡ fault.WriteFailed) ⊎ (e.0 ≡ fault.OutOfMemory)) }
+        ensures cut { IfErr result (λ e. IsCutOff options.rle options.stripe_rows schema (W.told out) (W.told e.1) []) }
         ensures write_failed { IfErr result (λ e. e.0 ≡ fault.WriteFailed → W.failures out < W.failures e.1) }
         ensures no_failure { IfOk result (λ w. W.failures w.out ≡ W.failures out) }
     {
@@ -330,6 +331,20 @@ impl<W: Sink> Writer<W> {
         Ok(())
     }
 
+    /// The schema of its rows.
+    pub fn schema(&self) -> &Schema
+        ensures { result.now ≡ self.now.schema }
+    {
+        &self.schema
+    }
+
+    /// The output as it stands. The rows that are kept aren't written, nor is a tail.
+    pub fn into_out(self) -> W
+        ensures { result ≡ self.out }
+    {
+        self.out
+    }
+
     /// Writes what is kept as the file's last stripe, where a row is.
     fn close_rest(&mut self) -> Result<(), FileFault>
         requires open { self.old.failed ≡ false }
@@ -343,6 +358,7 @@ impl<W: Sink> Writer<W> {
         ensures ok { OnOk result (self.new.failed ≡ false) }
         ensures same { (self.new.schema ≡ self.old.schema) × (self.new.options ≡ self.old.options) }
         ensures limit { IsErrOf result fault.Limit → PassesBytes self.old.options.rle self.old.schema self.old.infos.items (views self.old.rows.items) }
+        ensures begun { OnErr result (0 < length self.old.rows.items) }
         ensures refused { IfErr result (λ e. (e ≡ fault.WriteFailed) ⊎ ((e ≡ fault.Limit) ⊎ (e ≡ fault.OutOfMemory))) }
         ensures write_failed { IsErrOf result fault.WriteFailed → W.failures self.old.out < W.failures self.new.out }
         ensures no_failure { OnOk result (W.failures self.new.out ≡ W.failures self.old.out) }
@@ -366,6 +382,7 @@ impl<W: Sink> Writer<W> {
         ensures failed { IfErr result (λ e. e.0 ≡ fault.Failed → self.failed ≡ true) }
         ensures stands { self.failed ≡ true → MatchResult result (λ _. ⊥) (λ e. (e.0 ≡ fault.Failed) × (e.1 ≡ self.out)) }
         ensures long { IfErr result (λ e. e.0 ≡ fault.Limit → PassesBytes self.options.rle self.schema self.infos.items (views self.rows.items)) }
+        ensures begun { IfErr result (λ e. e.0 ≡ fault.Limit → 0 < length self.rows.items) }
         ensures refused { IfErr result (λ e. (e.0 ≡ fault.Failed) ⊎ ((e.0 ≡ fault.Limit) ⊎ ((e.0 ≡ fault.WriteFailed) ⊎ (e.0 ≡ fault.OutOfMemory)))) }
         ensures cut { (first : Option (List ℕ)) (rows : List Cell)
             → HasPushed self.options.rle self.options.stripe_rows self.schema first (W.told self.out) self.written self.infos.items self.stats.items (views self.rows.items) rows

@@ -1,4 +1,4 @@
-use Rattle.std.proofs.Common.{◌≡◌, ◌++◌, ◌∙◌, ap, take}
+use Rattle.std.proofs.Common.{◌++◌, ◌∙◌, ap, take}
 use Rattle.orc_file.specs.Devices.{appended}
 use Rattle.orc_file.specs.Images.{tail_text}
 use Rattle.orc_file.specs.Writing.{written_tail}

@@ -1,6 +1,7 @@
 use Rattle.orc_file.specs.Tails.{tail_tests}
 use Rattle.orc_file.proofs.Opened.{tail_within, tail_before}
 use Rattle.orc_file.proofs.ReadBits.{tail_bits}
+use Rattle.orc_file.proofs.TailCover.{tail_cover}
 use Rattle.orc_file.proofs.laws.tail_laws.Goals as goal
 
 pub returns-clause-one : goal.returns-clause-one
@@ -20,3 +21,6 @@ returns-clause-limits c = tail_within
 
 pub returns-clause-within : goal.returns-clause-within
 returns-clause-within c = tail_before
+
+pub returns-clause-cover : goal.returns-clause-cover
+returns-clause-cover c = tail_cover

@@ -2,6 +2,9 @@ use Rattle.orc_file.proofs.WrittenLaws.{written_tail_is, written_rows, written_h
 use Rattle.orc_file.proofs.OneWritten.{one_written}
 use Rattle.orc_file.proofs.laws_of_writing.written_laws.Goals as goal
 
+pub returns-clause-read : goal.returns-clause-read
+returns-clause-read c = λ rle n s tail first told rows is. (is.bytes, is.told_is, is.file, written_rows rle n s tail is.bytes rows is.file is.schema is.few)
+
 pub returns-clause-tail : goal.returns-clause-tail
 returns-clause-tail c = λ rle n s tail bytes rows schema is few. written_tail_is rle n s tail bytes rows is schema few
 

@@ -1,4 +1,4 @@
-use Rattle.orc_file.proofs.RowLemmas.{stripe_short, stripe_before}
+use Rattle.orc_file.proofs.RowLemmas.{stripe_short}
 use Rattle.orc_file.proofs.file.OrcFile.load.Goals as goal
 
 pub length_of-len-requires : goal.length_of-len-requires

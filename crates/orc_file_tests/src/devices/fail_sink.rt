@@ -1,8 +1,7 @@
 //! A sink that takes few bytes a call, and none once it is full.
 ghost use Rattle.std.specs.Prelude.{◌≤◌, Some, vec_capacity};
 
-use crate::failures::Failures;
-use crate::{Sink, SinkFault};
+use orc_file::{Failures, Sink, SinkFault};
 use std::alloc::{AllocError, Global};
 
 /// What a full sink answers.

@@ -1,12 +1,16 @@
+//! Devices: what is read of sources and written to sinks, and what is refused where they fail.
+
 pub mod fail_sink;
 pub mod fail_source;
 mod narrow;
-mod rows_of_files;
+pub mod seen_source;
 
-use crate::*;
 use fail_sink::{FailSink, Full};
 use fail_source::FailSource;
 use narrow::Narrow;
+use orc_file::{
+    FileSource, RangeFault, Sink, SliceSource, Source, StdSink, VecSink, read_range, write_all,
+};
 use std::alloc::{AllocError, Global};
 use std::fs::File;
 use std::path::PathBuf;

@@ -2,8 +2,8 @@
 
 use super::opened;
 use super::reads::read_seen;
-use super::vectors::SEVENS;
-use crate::*;
+use crate::vectors::SEVENS;
+use orc_file::FileFault;
 use orc_types::TypeFault;
 use std::process::Abort;
 

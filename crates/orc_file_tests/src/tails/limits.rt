@@ -1,8 +1,8 @@
 //! Files at the limits of their numbers of stripes and rows, and past them.
 
 use super::opened;
-use crate::*;
 use orc_bits::put_varint;
+use orc_file::FileFault;
 use std::alloc::Global;
 use std::process::Abort;
 

@@ -6,16 +6,14 @@ mod first_faults;
 mod limits;
 mod put_again;
 mod reads;
-mod seen_source;
-mod vectors;
 
-use crate::*;
+use crate::vectors::{EMPTY, SEVENS};
+use orc_file::{FileFault, OrcFile, SliceSource, Tail};
 use orc_stats::{Body, Stat};
 use orc_stripe::{StreamKind, StripeFault};
 use orc_types::TypeFault;
 use std::alloc::Global;
 use std::process::Abort;
-pub(crate) use vectors::{EMPTY, SEVENS};
 
 /// The tail of bytes once there is memory for it: what wanted some is asked again.
 pub fn opened(alloc: Global, bytes: &[u8]) -> Result<Tail, FileFault>

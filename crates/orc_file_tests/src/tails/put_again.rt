@@ -1,8 +1,8 @@
 //! Files opened, and their tails put again.
 
 use super::opened;
-use super::vectors::{EMPTY, NAMED, SEVENS, TWICE};
-use crate::*;
+use crate::vectors::{EMPTY, NAMED, SEVENS, TWICE};
+use orc_file::{FileFault, Tail};
 use std::alloc::Global;
 use std::process::Abort;
 

@@ -1,8 +1,7 @@
 //! A source that fails when it is told to.
 ghost use Rattle.std.specs.Prelude.{Some, length};
 
-use crate::failures::Failures;
-use crate::{SliceSource, Source, SourceFault};
+use orc_file::{Failures, SliceSource, Source, SourceFault};
 
 /// Bytes in memory, of which the k-th read alone fails.
 #[derive(Drop)]

@@ -1,6 +1,9 @@
-use crate::tail_tests::{EMPTY, SEVENS, opened};
-use crate::tests::fail_sink::{FailSink, Full};
-use crate::*;
+//! Files written, and outputs that fail on the way.
+
+use crate::devices::fail_sink::{FailSink, Full};
+use crate::tails::opened;
+use crate::vectors::{EMPTY, SEVENS};
+use orc_file::{FileFault, Sink, Tail, VecSink, Writer};
 use orc_rle::Rle;
 use orc_stripe::Options;
 use orc_types::{Row, Schema, Value};
@@ -30,6 +33,14 @@ fn row(alloc: Global, number: i64) -> Result<Row<'static>, FileFault> {
     Ok(Some(Value::Struct(fields)))
 }
 
+/// Whether a writer that has failed says so when it is to finish, and its output.
+fn refused<W: Sink>(writer: Writer<W>) -> (bool, W) {
+    match writer.finish() {
+        Ok((_, out)) => (false, out),
+        Err((fault, out)) => (fault == FileFault::Failed, out),
+    }
+}
+
 /// A file of so many sevens: its tail, or the fault, and the output.
 fn written<W: Sink>(
     alloc: Global,
@@ -43,11 +54,13 @@ fn written<W: Sink>(
         Err((fault, out)) => return (Err(fault), out),
     };
     for _ in 0..rows {
-        let Ok(seven) = row(alloc, 7) else {
-            break;
+        let seven = match row(alloc, 7) {
+            Ok(seven) => seven,
+            Err(fault) => return (Err(fault), writer.into_out()),
         };
-        if writer.push(&seven).is_err() {
-            break;
+        if let Err(fault) = writer.push(&seven) {
+            let (later, out) = refused(writer);
+            return (Err(if later { fault } else { FileFault::Limit }), out);
         }
     }
     match writer.finish() {
@@ -139,9 +152,7 @@ fn cut_off(rt: &impl Abort, alloc: Global, a_call: usize, room: usize, full: Ful
     assert_eq!(rt; out.bytes(), &SEVENS[..wanted], "room for {room}");
     match answer {
         Ok(_) => Some(out.bytes().len() == SEVENS.len()),
-        Err(FileFault::WriteFailed | FileFault::Failed) => Some(
-            out.bytes().len() == room && room < 120,
-        ),
+        Err(FileFault::WriteFailed) => Some(out.bytes().len() == room && room < 120),
         Err(FileFault::OutOfMemory) => None,
         Err(_) => Some(false),
     }
@@ -186,7 +197,7 @@ fn refused_between(alloc: Global) -> Result<Vec<u8>, FileFault> {
 #[test]
 fn a_row_of_another_shape(rt: HostRuntime) -> Result<(), FileFault> {
     let bytes = match refused_between(rt.alloc()) {
-        Err(FileFault::OutOfMemory) => refused_between(rt.alloc())?,
+        Err(FileFault::OutOfMemory | FileFault::WriteFailed) => refused_between(rt.alloc())?,
         answer => answer?,
     };
     assert_eq!(rt; bytes.as_slice(), SEVENS.as_slice());

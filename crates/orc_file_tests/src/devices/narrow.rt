@@ -1,7 +1,7 @@
 //! A writer of the standard library that takes few bytes a call, and none once it is full.
 
 use super::fail_sink::FailSink;
-use crate::Sink;
+use orc_file::Sink;
 use std::io;
 use std::io::Write;
 

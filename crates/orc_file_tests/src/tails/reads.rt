@@ -1,9 +1,9 @@
 //! What is asked of a source, and what its failures make.
 
-use super::seen_source::SeenSource;
-use super::vectors::{EMPTY, SEVENS};
-use crate::tests::fail_source::FailSource;
-use crate::*;
+use crate::devices::fail_source::FailSource;
+use crate::devices::seen_source::SeenSource;
+use crate::vectors::{EMPTY, SEVENS};
+use orc_file::{FileFault, OrcFile, Source};
 use std::alloc::Global;
 use std::process::Abort;
 

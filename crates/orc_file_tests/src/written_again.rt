@@ -1,5 +1,5 @@
 //! Files of every kind of column, written and read again.
-use crate::*;
+use orc_file::{FileFault, OrcFile, SliceSource, VecSink, Writer};
 use orc_rle::Rle;
 use orc_stripe::Options;
 use orc_types::{Row, Schema, row_from_json};
@@ -191,7 +191,9 @@ fn rows_are_read_again(rt: HostRuntime) {
     for case in &CASES {
         for rle in [Rle::One, Rle::Two] {
             let answer = match check_case(&rt, alloc, rle, case) {
-                Err(FileFault::OutOfMemory) => check_case(&rt, alloc, rle, case),
+                Err(FileFault::OutOfMemory | FileFault::WriteFailed) => check_case(
+                    &rt, alloc, rle, case,
+                ),
                 answer => answer,
             };
             assert_eq!(rt; answer, Ok(()), "{}", case.0);
@@ -231,7 +233,9 @@ fn misfits_are_left_out(rt: HostRuntime) {
     let alloc = rt.alloc();
     for (text, other, line) in MISFITS {
         let answer = match check_misfit(&rt, alloc, text, other, line) {
-            Err(FileFault::OutOfMemory) => check_misfit(&rt, alloc, text, other, line),
+            Err(FileFault::OutOfMemory | FileFault::WriteFailed) => check_misfit(
+                &rt, alloc, text, other, line,
+            ),
             answer => answer,
         };
         assert_eq!(rt; answer, Ok(()), "{line}");

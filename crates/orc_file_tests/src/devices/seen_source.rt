@@ -1,7 +1,7 @@
 //! A source that keeps which ranges were read.
 ghost use Rattle.std.specs.Prelude.{Some, length};
 
-use crate::{SliceSource, Source, SourceFault};
+use orc_file::{SliceSource, Source, SourceFault};
 
 /// Bytes in memory, with the place and the length of each of the first eight reads.
 #[derive(Drop)]
