@@ -14,3 +14,13 @@ pub mod Reordered
 pub mod Ordered
 pub mod Honest
 mod Examples
+pub mod CopiedParts
+pub mod BytesOut
+pub mod ValueCounts
+pub mod Pairs
+pub mod PiecesOf
+pub mod InputsRead
+pub mod NextTests
+pub mod Finished
+pub mod Together
+pub mod NextInput

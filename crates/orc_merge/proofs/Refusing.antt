@@ -50,7 +50,7 @@ no_next first tails t fault c n =
 
 -- ---- no refusal
 
-opened_push : (xs : List (List ℕ)) (ts : List Tail) (x : List ℕ) (t : Tail) → AreOpened xs ts → IsTail x t → AreOpened (xs ++ x ∷ []) (ts ++ t ∷ [])
+pub opened_push : (xs : List (List ℕ)) (ts : List Tail) (x : List ℕ) (t : Tail) → AreOpened xs ts → IsTail x t → AreOpened (xs ++ x ∷ []) (ts ++ t ∷ [])
 opened_push [] [] x t o p = (p, tt)
 opened_push [] (u ∷ us) x t o p = absurd o
 opened_push (y ∷ ys) [] x t o p = absurd o

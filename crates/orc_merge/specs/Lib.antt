@@ -1,3 +1,11 @@
 pub mod Merging
 pub mod Faults
 pub mod Grouping
+pub mod Copies
+pub mod Counts
+pub mod Gathering
+pub mod Outcomes
+pub mod Limits
+pub mod SoFar
+pub mod Inputs
+pub mod JoinedLists

@@ -22,7 +22,7 @@ ghost use Rattle.orc_merge.specs.Grouping.{Groups, merge, all_leaves, Gives, All
 /// the merged tail, and its rows are the inputs' rows in their order. Of inputs that are files of one kind, the
 /// merge at once is refused, for user metadata or a limit, exactly where some step of a grouping is.
 ///
-/// All that a step of a grouping writes is shorter than 2^64 bytes.
+/// Premise: what each step below the root writes has fewer than 2^64 bytes.
 pub fn grouping()
     ensures same { (groups : Groups) (tail : Tail) (out : List ℕ) → AllShort groups → IsMerge (all_leaves groups) tail out → Gives (merge groups) out }
     ensures one { (groups : Groups) (tail : Tail) (out other : List ℕ) → AllShort groups → IsMerge (all_leaves groups) tail out → Gives (merge groups) other

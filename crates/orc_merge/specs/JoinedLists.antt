@@ -1,0 +1,10 @@
+-- What of a tail is joined.
+use Rattle.std.specs.Prelude.{◌≡◌}
+use Rattle.orc_file.specs.declared.tail.Tail.{Tail}
+use Rattle.orc_merge.specs.declared.gathered.Lists.{Lists}
+
+pub record AreListsOf (tail : Tail) (lists : Lists) : Type 0 where
+  pub stripes : lists.stripes.items ≡ tail.stripes
+  pub stripe_stats : lists.stripe_stats.items ≡ tail.stripe_stats
+  pub user : lists.user.items ≡ tail.user
+  pub rows : lists.rows ≡ tail.rows

@@ -1,0 +1,12 @@
+-- The limits on what inputs have together (this project's).
+use Rattle.std.specs.Prelude.{ℕ, ◌+◌, ◌^◌, ◌≤◌, List}
+use Rattle.orc_stats.specs.declared.stat.Stat.{Stat}
+use Rattle.orc_file.specs.Stripes.{most_stripes, most_rows, most_bytes}
+use Rattle.orc_merge.specs.Counts.{column_count}
+
+-- so many stripes, which end at a place, so many rows, and the values that the stripes' columns have
+pub record AreFewTogether (stripes end rows : ℕ) (stats : List (List Stat)) : Type 0 where
+  pub stripes_few : stripes ≤ most_stripes
+  pub bytes_few : end ≤ 3 + most_bytes
+  pub rows_few : rows ≤ most_rows
+  pub values_few : (c : ℕ) → column_count c stats ≤ 2 ^ 62
