@@ -1,4 +1,12 @@
+pub mod Joined
 pub mod IntsLemmas
+pub mod RequestLemmas
 pub mod OutputLemmas
 pub mod NoFloats
 pub mod RowsLemmas
+pub mod OpenFaults
+pub mod ShowLemmas
+pub mod WriteLemmas
+pub mod LinesLemmas
+pub mod WriteLaws
+pub mod LimitLemmas

@@ -1,32 +1,24 @@
 -- Rows as lines, stripe by stripe: what the first stripes have printed, and why the next one stops it.
-use Rattle.std.proofs.Common.{◌≡◌, ℕ, zero, suc, ◌+◌, ◌<◌, List, [], ◌∷◌, ◌++◌, length, take, drop, get_or, map, true, false, refl, sym, ap, ◌∙◌, subst, arith, append_assoc, append-nil, Option, Some, None, ◌⊎◌, inl, inr}
-use Rattle.std.specs.Prelude.{◌≢◌}
-use Rattle.std.specs.List.{flat_map, AllByRecursion}
+use Rattle.std.proofs.Common.{◌≡◌, ℕ, zero, suc, ◌+◌, ◌<◌, List, [], ◌∷◌, ◌++◌, length, take, refl, sym, ap, ◌∙◌, subst, arith, append-nil, Option, Some, None, inl, inr}
 use Rattle.std.specs.Option.{IfSome}
 use Rattle.std.specs.Io.KnownBytes.{Appends, Keeps}
 use Rattle.std.proofs.lemmas.List.{take_more}
 use Rattle.std.proofs.Math.Seq.{take-length}
-use Rattle.std.proofs.lemmas.List.Concat.{flat_map-append, flat_map-cons}
+use Rattle.std.proofs.lemmas.List.Concat.{flat_map-append}
 use Rattle.orc_wire.specs.declared.stripe_info.StripeInfo.{StripeInfo}
 use Rattle.orc_types.specs.Cells.{Cell}
 use Rattle.orc_types.specs.Shapes.{Shape}
-use Rattle.orc_types.specs.FieldNames.{is_distinct}
 use Rattle.orc_stripe.specs.Stripe.{IsStripe}
 use Rattle.orc_stripe.proofs.OneStripe.{one_stripe}
 use Rattle.orc_file.specs.Stripes.{stripe_at}
-use Rattle.orc_stripe.specs.declared.fault.StripeFault.{StripeFault}
-use Rattle.orc_stripe.specs.declared.fault.StripeFault.TheVariants as stripe
-use Rattle.orc_types.specs.declared.json_fault.JsonFault.TheVariants as json
 use Rattle.orc_file.specs.Tails.{IsTail, OpenFault, ReadFault, tail_tests}
 use Rattle.orc_file.specs.declared.fault.FileFault.{FileFault}
-use Rattle.orc_file.specs.declared.fault.FileFault.TheVariants as file
-use Rattle.orc_file.specs.FileRows.{stripe_bytes, joined, HasRows, FileIs, IsNoStripe, AreOfStripes as RowsOfStripes}
+use Rattle.orc_file.specs.FileRows.{stripe_bytes, joined, HasRows, FileIs, AreOfStripes as RowsOfStripes}
 use Rattle.orc_file.specs.declared.tail.Tail.{Tail}
 use Rattle.orc_cli.proofs.OutputLemmas.{appends_more}
-use Rattle.orc_cli.specs.Output.{AppendsPart, IsWantOfMemory, write_failed}
-use Rattle.orc_cli.specs.Rows.{row_line, row_lines, HaveJson, AreOfStripe, AreOfStripes, HasNoJson, StripeStops, IsOfSource, EndsAt, EndsIn, IsNotOpened, RefusesRows, IsOutsideFile}
+use Rattle.orc_cli.specs.Rows.{row_line, row_lines, HaveJson, AreOfStripe, AreOfStripes, StripeStops, EndsAt, EndsIn, RefusesRows, IsOutsideFile}
 use Rattle.orc_cli.specs.declared.fault.CliFault.{CliFault}
-use Rattle.orc_cli.specs.declared.fault.CliFault.TheVariants.{Json, File}
+use Rattle.orc_cli.specs.declared.fault.CliFault.TheVariants.{File}
 
 -- ---- stripes, one more at a time
 

@@ -1,5 +1,5 @@
 -- The numbers of an integer stream that is given by hexadecimal digits, and their line of text.
-use Rattle.std.specs.Prelude.{◌≡◌, ℕ, List, [], ◌∷◌, ◌++◌, map, Ok, Err, ℤ, ⊤, ◌⊎◌}
+use Rattle.std.specs.Prelude.{◌≡◌, ℕ, List, [], ◌∷◌, ◌++◌, map, Ok, Err, ℤ, ◌⊎◌}
 use Rattle.std.specs.List.{join_with_byte}
 use Rattle.std.specs.Fmt.{signed_decimal}
 use Rattle.hex.specs.Hex.{decode_of}
@@ -14,7 +14,7 @@ use Rattle.orc_rle.specs.RunTwo.{IsRunTwo, NoRunTwo}
 use Rattle.orc_rle.specs.Stream.{IsStream, StopsAt}
 use Rattle.orc_cli.specs.Output.{write_failed}
 use Rattle.orc_cli.specs.declared.fault.CliFault.{CliFault}
-use Rattle.orc_cli.specs.declared.fault.CliFault.TheVariants.{Run, Json, File}
+use Rattle.orc_cli.specs.declared.fault.CliFault.TheVariants.{Run, Types, Json, File, Merge}
 use Rattle.orc_types.specs.declared.json_fault.JsonFault.TheVariants as json
 use Rattle.orc_file.specs.declared.fault.FileFault.TheVariants as file
 
@@ -51,8 +51,10 @@ IsNoHex text = (reason : FromHexError) × (decode_of text ≡ Err reason)
 -- why digits spell no numbers
 abbrev pub RefusesDigits : Rle → Sign → List ℕ → CliFault → Type 0
 RefusesDigits rle sign text (Run fault) = (fault ≡ RunOutOfMemory) ⊎ StopsInts rle sign text fault
+RefusesDigits rle sign text (Types fault) = ⊥
 RefusesDigits rle sign text (Json fault) = (fault ≡ json.BadHex) × IsNoHex text
 RefusesDigits rle sign text (File fault) = fault ≡ file.OutOfMemory
+RefusesDigits rle sign text (Merge fault) = ⊥
 
 -- why `ints` refuses: for its digits, or, where they spell numbers, for its output
 abbrev pub RefusesInts : Rle → Sign → List ℕ → CliFault → Type 0

@@ -2,10 +2,11 @@
 use Rattle.std.specs.Prelude.{◌≡◌, ℕ, ◌<◌, List, length, take, ◌⊎◌, Option}
 use Rattle.std.specs.Io.KnownBytes.{Appends}
 use Rattle.orc_rle.specs.declared.fault.RunFault.TheVariants as run
+use Rattle.orc_types.specs.declared.fault.TypeFault.TheVariants as types
 use Rattle.orc_types.specs.declared.json_fault.JsonFault.TheVariants as json
 use Rattle.orc_file.specs.declared.fault.FileFault.TheVariants as file
 use Rattle.orc_cli.specs.declared.fault.CliFault.{CliFault}
-use Rattle.orc_cli.specs.declared.fault.CliFault.TheVariants.{Run, Json, File}
+use Rattle.orc_cli.specs.declared.fault.CliFault.TheVariants.{Run, Types, Json, File}
 
 -- a part of the bytes was written after what was there, and not all of them
 abbrev pub AppendsPart : Option (List ℕ) → Option (List ℕ) → List ℕ → Type 0
@@ -17,7 +18,7 @@ write_failed = File file.WriteFailed
 
 -- a growth was refused, in the program's own work or in a layer below
 abbrev pub IsWantOfMemory : CliFault → Type 0
-IsWantOfMemory fault = (fault ≡ File file.OutOfMemory) ⊎ ((fault ≡ Run run.OutOfMemory) ⊎ (fault ≡ Json json.OutOfMemory))
+IsWantOfMemory fault = (fault ≡ File file.OutOfMemory) ⊎ ((fault ≡ Run run.OutOfMemory) ⊎ ((fault ≡ Json json.OutOfMemory) ⊎ (fault ≡ Types types.OutOfMemory)))
 
 -- the output failed, or a growth was refused
 abbrev pub IsOutside : CliFault → Type 0

@@ -16,7 +16,7 @@ use Rattle.orc_file.specs.FileRows.{stripe_bytes, HasRows, StripeRefused}
 use Rattle.orc_file.specs.declared.tail.Tail.{Tail}
 use Rattle.orc_file.specs.declared.fault.FileFault.{FileFault}
 use Rattle.orc_file.specs.declared.fault.FileFault.TheVariants as file
-use Rattle.orc_cli.specs.Output.{AppendsPart, IsWantOfMemory, write_failed}
+use Rattle.orc_cli.specs.Output.{IsWantOfMemory, write_failed}
 use Rattle.orc_cli.specs.declared.fault.CliFault.{CliFault}
 use Rattle.orc_cli.specs.declared.fault.CliFault.TheVariants.{Json, File}
 

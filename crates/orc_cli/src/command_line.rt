@@ -2,6 +2,7 @@
 
 use crate::fault::CliFault;
 use crate::request::{SIGNS, VERSIONS};
+use clap::builder::ValueParser;
 use clap::error::ErrorKind;
 use clap::{Arg, ArgAction, ArgMatches, Command, Error};
 use orc_file::FileFault;
@@ -12,6 +13,9 @@ use std::{env, io};
 
 /// The program's own version.
 const VERSION: &str = "0.1.0";
+
+/// After how many rows a stripe may end at most.
+const MOST_STRIPE_ROWS: u64 = 2_147_483_647;
 
 /// What the words of a command line ask for.
 pub enum Asked<'a> {
@@ -83,10 +87,13 @@ pub fn parsed<'a, S: AsStr>(alloc: Global, words: &'a [S]) -> Result<ArgMatches<
     Command::new(alloc, "orcm")
         .bin_name("orcm")?
         .version(VERSION)
-        .about("Reads Apache ORC files without compression, and shows what they hold")
+        .about("Reads, writes and joins Apache ORC files without compression")
         .subcommand_required(true)
         .subcommand(ints_command(alloc)?)?
         .subcommand(rows_command(alloc)?)?
+        .subcommand(show_command(alloc)?)?
+        .subcommand(write_command(alloc)?)?
+        .subcommand(merge_command(alloc)?)?
         .try_get_matches_from(words)
 }
 
@@ -119,15 +126,97 @@ fn ints_command<'a>(alloc: Global) -> Result<Command<'a>, Error> {
     )
 }
 
-fn rows_command<'a>(alloc: Global) -> Result<Command<'a>, Error> {
-    let file = Arg::new(alloc, "file")
+/// The ORC file that a command reads.
+fn file_word<'a>(alloc: Global) -> Arg<'a> {
+    Arg::new(alloc, "file")
         .required(true)
         .action(ArgAction::Set)
         .value_name("FILE")
-        .help("The ORC file");
+        .help("The ORC file")
+}
+
+fn rows_command<'a>(alloc: Global) -> Result<Command<'a>, Error> {
     Ok(
         Command::new(alloc, "rows")
             .about("Prints the rows of a file, a row a line as compact JSON")
-            .arg(file)?,
+            .arg(file_word(alloc))?,
+    )
+}
+
+fn show_command<'a>(alloc: Global) -> Result<Command<'a>, Error> {
+    Ok(
+        Command::new(alloc, "show")
+            .about("Prints what a file says of itself: schema, stripes and statistics")
+            .arg(file_word(alloc))?,
+    )
+}
+
+/// An argument that has to be there.
+fn required_argument<'a>(
+    alloc: Global,
+    name: &'static str,
+    value_name: &'static str,
+    help: &'static str,
+) -> Arg<'a> {
+    Arg::new(alloc, name)
+        .required(true)
+        .action(ArgAction::Set)
+        .value_name(value_name)
+        .help(help)
+}
+
+fn write_command<'a>(alloc: Global) -> Result<Command<'a>, Error> {
+    let rle = required_argument(
+        alloc,
+        "rle",
+        "VERSION",
+        "The version of the integer run lengths",
+    )
+    .long("rle")
+    .value_parser(VERSIONS.as_slice());
+    Ok(
+        Command::new(alloc, "write")
+            .about("Writes a file of rows, which are given a row a line as JSON")
+            .arg(required_argument(alloc, "schema", "TEXT", "The schema, as struct<n:bigint>").long(
+                "schema",
+            ))?
+            .arg(rle)?
+            .arg(
+                required_argument(
+                    alloc,
+                    "stride",
+                    "N",
+                    "After how many rows an index has an entry: 0, for no index",
+                )
+                .long("stride")
+                .value_parser(ValueParser::unsigned(0, 0)),
+            )?
+            .arg(
+                required_argument(
+                    alloc,
+                    "stripe-rows",
+                    "N",
+                    "After how many rows a stripe ends, 1 to 2147483647",
+                )
+                .long("stripe-rows")
+                .value_parser(ValueParser::unsigned(1, MOST_STRIPE_ROWS)),
+            )?
+            .arg(required_argument(alloc, "in", "IN", "The file of the lines"))?
+            .arg(required_argument(alloc, "out", "OUT", "The file that is made"))?,
+    )
+}
+
+fn merge_command<'a>(alloc: Global) -> Result<Command<'a>, Error> {
+    Ok(
+        Command::new(alloc, "merge")
+            .about("Joins files into a new one, stripe by stripe, with statistics of all rows")
+            .arg(required_argument(alloc, "out", "OUT", "The file that is made"))?
+            .arg(
+                Arg::new(alloc, "in")
+                    .action(ArgAction::Append)
+                    .num_args(0..)
+                    .value_name("IN")
+                    .help("The files that are joined, in this order"),
+            )?,
     )
 }

@@ -1,8 +1,9 @@
 //! What a command refuses with.
 
 use orc_file::FileFault;
+use orc_merge::MergeFault;
 use orc_rle::RunFault;
-use orc_types::JsonFault;
+use orc_types::{JsonFault, TypeFault};
 use std::alloc::AllocError;
 use thiserror::Error;
 
@@ -14,12 +15,29 @@ pub enum CliFault {
     /// The bytes are no stream of runs.
     #[error("{0}")]
     Run(RunFault),
+    /// A schema wasn't read from its text or written as one.
+    #[error("{0}")]
+    Types(TypeFault),
     /// The text is no JSON of that kind, or there is none for a row.
     #[error("{0}")]
     Json(JsonFault),
     /// The file isn't read or written.
     #[error("{0}")]
     File(FileFault),
+    /// The files aren't joined.
+    #[error("{0}")]
+    Merge(MergeFault),
+}
+
+impl From<TypeFault> for CliFault {
+    ghost use Rattle.std.specs.Prelude.{◌≡◌};
+    ghost use Rattle.orc_cli.specs.declared.fault.CliFault.TheVariants.{Types};
+
+    ghost from_gives = { λ types fault. fault ≡ Types types };
+
+    fn from(types: TypeFault) -> CliFault {
+        CliFault::Types(types)
+    }
 }
 
 impl From<JsonFault> for CliFault {
@@ -41,6 +59,17 @@ impl From<FileFault> for CliFault {
 
     fn from(file: FileFault) -> CliFault {
         CliFault::File(file)
+    }
+}
+
+impl From<MergeFault> for CliFault {
+    ghost use Rattle.std.specs.Prelude.{◌≡◌};
+    ghost use Rattle.orc_cli.specs.declared.fault.CliFault.TheVariants.{Merge};
+
+    ghost from_gives = { λ merge fault. fault ≡ Merge merge };
+
+    fn from(merge: MergeFault) -> CliFault {
+        CliFault::Merge(merge)
     }
 }
 

@@ -3,22 +3,32 @@
 
 mod command_line;
 mod fault;
+mod files;
 mod ints;
+mod merge;
 mod output;
 mod request;
 mod rows;
+mod show;
+mod write;
 
 pub use fault::CliFault;
 pub use ints::ints_to;
+pub use merge::merge_to;
 pub use rows::rows_to;
+pub use show::show_to;
+pub use write::write_from;
 
 #[cfg(test)]
 mod tests;
 
 use command_line::{Asked, Refusal, read_words, words_of};
-use orc_file::{FileFault, FileSource};
+use files::{new_file, source_of};
+use orc_file::FileFault;
+use orc_merge::MergeFault;
+use orc_stripe::Options;
 use request::{Request, request_of};
-use std::fs::File;
+use std::fs::{self, File};
 use std::io;
 use std::process::ExitCode;
 use std::rt::{Env, Files};
@@ -46,21 +56,50 @@ fn run<R: Env + Files<File = File> + AllocGlobal + Print + Eprint>(rt: &R) -> Re
     }
 }
 
-/// The file of that path, found now.
-fn source_of<'a, R: Files<File = File>>(
-    rt: &'a R,
-    path: &'a str,
-) -> Result<FileSource<'a, R>, CliFault> {
-    match FileSource::open(rt, path) {
-        Ok(source) => Ok(source),
-        Err(_) => Err(CliFault::File(FileFault::SourceFailed)),
+/// Writes a new file of the rows that the lines of another one spell.
+fn write_file<R: Files<File = File> + AllocGlobal>(
+    rt: &R,
+    schema: &str,
+    options: Options,
+    input: &str,
+    output: &str,
+) -> Result<(), CliFault> {
+    let lines = match fs::read(rt, input) {
+        Ok(lines) => lines,
+        Err(error) if error.kind() == io::ErrorKind::OutOfMemory => {
+            return Err(CliFault::File(FileFault::OutOfMemory));
+        }
+        Err(_) => return Err(CliFault::File(FileFault::SourceFailed)),
+    };
+    match write_from(rt.alloc(), schema, options, &lines, new_file(rt, output)?) {
+        Ok(_) => Ok(()),
+        Err((fault, _)) => Err(fault),
     }
+}
+
+/// Joins files into a new one, which is made once all of them are found. The first that isn't there is named.
+fn merge_files<R: Files<File = File> + AllocGlobal>(
+    rt: &R,
+    output: &str,
+    inputs: &[&str],
+) -> Result<(), CliFault> {
+    let mut sources = Vec::new(rt.alloc());
+    for (number, path) in inputs.iter().enumerate() {
+        let Ok(source) = source_of(rt, path) else {
+            return Err(CliFault::Merge(MergeFault::SourceFailed(number)));
+        };
+        if sources.push(source).is_err() {
+            return Err(CliFault::File(FileFault::OutOfMemory));
+        }
+    }
+    merge_to(rt.alloc(), &mut sources, &mut new_file(rt, output)?)?;
+    Ok(())
 }
 
 /// Answers one request on the standard output.
 fn answer<R: Files<File = File> + AllocGlobal + Print>(
     rt: &R,
-    request: Request<'_>,
+    request: Request<'_, '_>,
 ) -> Result<(), CliFault> {
     let mut out = io::writer(rt);
     match request {
@@ -69,5 +108,16 @@ fn answer<R: Files<File = File> + AllocGlobal + Print>(
             Ok(_) => Ok(()),
             Err((fault, _)) => Err(fault),
         },
+        Request::Show { file } => match show_to(rt.alloc(), source_of(rt, file)?, &mut out) {
+            Ok(_) => Ok(()),
+            Err((fault, _)) => Err(fault),
+        },
+        Request::Write {
+            schema,
+            options,
+            input,
+            output,
+        } => write_file(rt, schema, options, input, output),
+        Request::Merge { output, inputs } => merge_files(rt, output, inputs),
     }
 }

@@ -1,20 +1,47 @@
 //! What a command line can ask for, and what the words of its options stand for.
-ghost use Rattle.std.specs.Prelude.{◌≡◌, ℕ, List, Some, IsSome, IfSome, option_map, codes};
+ghost use Rattle.std.specs.Prelude.{◌≡◌, ◌<◌, ◌^◌, ℕ, List, Some, IsSome, IfSome, IfNone, option_map, codes};
 ghost use Rattle.clap.specs.Matches.{found_of, first_value, subcommand_name_of};
+ghost use Rattle.clap.specs.Walk.{rows_of as found_rows};
+ghost use Rattle.clap.specs.Simple.{subcommand_rows_of};
+ghost use Rattle.clap.specs.declared.parser.matches.Found.{Found};
 ghost use Rattle.orc_rle.specs.declared.sign.Rle.{Rle};
 ghost use Rattle.orc_rle.specs.declared.sign.Sign.{Sign};
-ghost use Rattle.orc_cli.specs.Requests.{version_word, sign_word, command_word, HasInts, IsInts, IsRows};
+ghost use Rattle.orc_stripe.specs.declared.options.Options.{Options};
+ghost use Rattle.orc_cli.specs.Requests.{Asks, version_word, sign_word, command_word, HasInts, HasWrite, IsNotUnderstood};
 
 use clap::ArgMatches;
 use orc_rle::{Rle, Sign};
+use orc_stripe::Options;
 
-/// What a command line asks for.
+/// What a command line asks for. Its words are `'a`'s, and lists of them stand in what the parser found.
 #[derive(Clone, Copy, Debug, PartialEq, Eq)]
-pub enum Request<'a> {
+pub enum Request<'m, 'a> {
     /// The numbers of an integer stream, whose bytes are given in hexadecimal digits.
-    Ints { rle: Rle, sign: Sign, hex: &'a str },
+    Ints {
+        rle: Rle,
+        sign: Sign,
+        hex: &'a str,
+    },
     /// The rows of a file.
-    Rows { file: &'a str },
+    Rows {
+        file: &'a str,
+    },
+    /// What a file says of itself.
+    Show {
+        file: &'a str,
+    },
+    /// A file of the rows that lines spell.
+    Write {
+        schema: &'a str,
+        options: Options,
+        input: &'a str,
+        output: &'a str,
+    },
+    /// A file that the inputs are joined into, in this order.
+    Merge {
+        output: &'a str,
+        inputs: &'m [&'a str],
+    },
 }
 
 /// The words that `--rle` takes.
@@ -48,8 +75,9 @@ fn sign_of(word: &str) -> Option<Sign>
 }
 
 /// What the options of `ints` ask for.
-fn ints_of<'a>(found: &ArgMatches<'a>) -> Option<Request<'a>>
-    ensures found { IfSome result (IsInts (found_of found.now)) }
+fn ints_of<'m, 'a>(found: &'m ArgMatches<'a>) -> Option<Request<'m, 'a>>
+    ensures name { IfSome result (λ request. command_word request ≡ codes "ints") }
+    ensures found { IfSome result (Asks (found_of found.now)) }
     ensures only { (rle : Rle) (sign : Sign) (hex : List ℕ) → HasInts (found_of found.now) rle sign hex → IsSome result }
 {
     Some(Request::Ints {
@@ -60,8 +88,9 @@ fn ints_of<'a>(found: &ArgMatches<'a>) -> Option<Request<'a>>
 }
 
 /// What the words of `rows` ask for.
-fn rows_of<'a>(found: &ArgMatches<'a>) -> Option<Request<'a>>
-    ensures found { IfSome result (IsRows (found_of found.now)) }
+fn rows_of<'m, 'a>(found: &'m ArgMatches<'a>) -> Option<Request<'m, 'a>>
+    ensures name { IfSome result (λ request. command_word request ≡ codes "rows") }
+    ensures found { IfSome result (Asks (found_of found.now)) }
     ensures only { (file : List ℕ) → first_value (found_of found.now) (codes "file") ≡ Some file → IsSome result }
 {
     Some(Request::Rows {
@@ -69,14 +98,57 @@ fn rows_of<'a>(found: &ArgMatches<'a>) -> Option<Request<'a>>
     })
 }
 
+/// What the words of `show` ask for.
+fn show_of<'m, 'a>(found: &'m ArgMatches<'a>) -> Option<Request<'m, 'a>>
+    ensures name { IfSome result (λ request. command_word request ≡ codes "show") }
+    ensures found { IfSome result (Asks (found_of found.now)) }
+    ensures only { (file : List ℕ) → first_value (found_of found.now) (codes "file") ≡ Some file → IsSome result }
+{
+    let file = found.get_str("file")?;
+    Some(Request::Show { file })
+}
+
+/// What the words of `write` ask for. Nothing where a number isn't one that files are written with.
+fn write_of<'m, 'a>(found: &'m ArgMatches<'a>) -> Option<Request<'m, 'a>>
+    ensures name { IfSome result (λ request. command_word request ≡ codes "write") }
+    ensures found { IfSome result (Asks (found_of found.now)) }
+    ensures only { (schema : List ℕ) (options : Options) (input output : List ℕ) → HasWrite (found_of found.now) schema options input output → 0 < options.stripe_rows → options.stripe_rows < 2 ^ 31 → IsSome result }
+{
+    let rle = version_of(found.get_str("rle")?)?;
+    let stride = found.get_str("stride")?.parse::<u32>().ok()?;
+    let stripe_rows = found.get_str("stripe-rows")?.parse::<u32>().ok()?;
+    Some(Request::Write {
+        schema: found.get_str("schema")?,
+        options: Options::new(rle, stride, stripe_rows)?,
+        input: found.get_str("in")?,
+        output: found.get_str("out")?,
+    })
+}
+
+/// What the words of `merge` ask for. There may be no input.
+fn merge_of<'m, 'a>(found: &'m ArgMatches<'a>) -> Option<Request<'m, 'a>>
+    ensures name { IfSome result (λ request. command_word request ≡ codes "merge") }
+    ensures found { IfSome result (Asks (found_of found.now)) }
+    ensures only { (output : List ℕ) → first_value (found_of found.now) (codes "out") ≡ Some output → IsSome result }
+{
+    let output = found.get_str("out")?;
+    let inputs = found.get_strs("in").unwrap_or_default();
+    Some(Request::Merge { output, inputs })
+}
+
 /// What the words ask for, if anything.
-pub fn request_of<'a>(matches: &ArgMatches<'a>) -> Option<Request<'a>>
-    ensures { IfSome result (λ request. subcommand_name_of matches.now ≡ Some (command_word request)) }
+pub fn request_of<'m, 'a>(matches: &'m ArgMatches<'a>) -> Option<Request<'m, 'a>>
+    ensures name { IfSome result (λ request. subcommand_name_of matches.now ≡ Some (command_word request)) }
+    ensures found { IfSome result (λ request. (found : Found) × (option_map (λ p. p.1) (subcommand_rows_of matches.now) ≡ Some (found_rows found)) × Asks found request) }
+    ensures none { IfNone result (IsNotUnderstood matches.now) }
 {
     let (name, found) = matches.subcommand()?;
     match name {
         "ints" => ints_of(found),
         "rows" => rows_of(found),
+        "show" => show_of(found),
+        "write" => write_of(found),
+        "merge" => merge_of(found),
         _ => None,
     }
 }

@@ -1,9 +1,13 @@
 mod command_lines;
 mod files;
+mod merging;
 mod trickle;
+mod writing;
 
 use crate::*;
-use files::{NO_ROWS, NO_ROWS_OF_TWINS, SEVEN, SIX_SEVENS, THREE_SEVENS, TWINS};
+use files::{
+    ALL_KINDS, NO_ROWS, NO_ROWS_OF_TWINS, SEVEN, SIX_SEVENS, THREE_SEVENS, TWINS, USER_PAIR,
+};
 use orc_file::{FileFault, SliceSource};
 use orc_rle::{Rle, RunFault, Sign};
 use orc_stripe::{StreamKind, StripeFault};
@@ -126,6 +130,7 @@ fn wants_memory(fault: CliFault) -> bool {
         CliFault::File(FileFault::OutOfMemory)
             | CliFault::Run(RunFault::OutOfMemory)
             | CliFault::Json(JsonFault::OutOfMemory)
+            | CliFault::Types(TypeFault::OutOfMemory)
     )
 }
 
@@ -324,12 +329,86 @@ fn refused_files(rt: HostRuntime) -> Result<(), AllocError> {
     Ok(())
 }
 
+/// Files, and what is shown of them.
+const SHOWN: [(&[u8], &str); 5] = [
+    (
+        &NO_ROWS,
+        "schema struct<n:bigint>\nversion 0.11\nwriter 99 6\nrows 0\nstride 0\n\
+        column 0 count 0 nulls no\ncolumn 1 count 0 nulls no\n",
+    ),
+    (
+        &USER_PAIR,
+        "schema struct<n:bigint>\nversion 0.11\nwriter 99 6\nrows 0\nstride 0\nmeta \"k\" 00\n\
+        column 0 count 0 nulls no\ncolumn 1 count 0 nulls no\n",
+    ),
+    (
+        &SIX_SEVENS,
+        "schema struct<n:bigint>\nversion 0.11\nwriter 99 6\nrows 6\nstride 0\n\
+        stripe 0 offset 3 index 0 data 3 footer 16 rows 3\n\
+        stripe 1 offset 22 index 0 data 3 footer 16 rows 3\n\
+        column 0 count 6 nulls no\ncolumn 1 count 6 nulls no min 7 max 7 sum 42\n",
+    ),
+    (
+        &TWINS,
+        "schema struct<n:bigint,n:bigint>\nversion 0.11\nwriter 99 6\nrows 3\nstride 0\n\
+        stripe 0 offset 3 index 0 data 6 footer 28 rows 3\n",
+    ),
+    (
+        &ALL_KINDS,
+        "schema struct<a:boolean,b:date,c:string,d:binary,e:array<int>>\nversion 0.11\n\
+        writer none 6\nrows 0\nstride 5\nmeta hex:ff61 \n\
+        column 0 count 3 nulls no\n\
+        column 1 count 3 nulls yes true 2\n\
+        column 2 count 2 nulls unknown min 1970-01-01 max 1970-01-02\n\
+        column 3 count 2 nulls no min \"a\" max hex:ff sum 3\n\
+        column 4 count 1 nulls no sum 5\n\
+        column 5 count 1 nulls no\n\
+        column 6 count 2 nulls no min -1 max 2\n",
+    ),
+];
+
+/// `show_to` of a file with these bytes.
+fn described(alloc: Global, file: &[u8], out: &mut Trickle) -> Result<(), CliFault> {
+    match show_to(alloc, SliceSource::new(file), out) {
+        Ok(_) => Ok(()),
+        Err((fault, _)) => Err(fault),
+    }
+}
+
+/// The same once there is memory: a call that wanted some wrote nothing, and is made again.
+fn shown(alloc: Global, file: &[u8], out: &mut Trickle) -> Result<(), CliFault> {
+    match described(alloc, file, out) {
+        Err(fault) if wants_memory(fault) => described(alloc, file, out),
+        answer => answer,
+    }
+}
+
+#[test]
+fn shown_files(rt: HostRuntime) {
+    for (file, wanted) in SHOWN {
+        let mut out = Trickle::new(7, 1024, AtItsEnd::Fails);
+        assert_eq!(rt; shown(rt.alloc(), file, &mut out), Ok(()));
+        assert_eq!(rt; out.written(), wanted.as_bytes());
+    }
+    let (file, wanted) = SHOWN[0];
+    for at_its_end in [AtItsEnd::Fails, AtItsEnd::TakesNothing] {
+        for stop in 0..wanted.len() {
+            let mut out = Trickle::new(7, stop, at_its_end);
+            let answer = shown(rt.alloc(), file, &mut out);
+            assert_eq!(rt; answer, Err(CliFault::File(FileFault::WriteFailed)));
+            assert_eq!(rt; out.written(), &wanted.as_bytes()[..stop]);
+        }
+    }
+}
+
 /// No front of a file is one.
 #[test]
 fn files_cut_off(rt: HostRuntime) {
     for len in 0..THREE_SEVENS.len() {
         let mut out = Trickle::new(512, 512, AtItsEnd::Fails);
         let answer = rows(rt.alloc(), &THREE_SEVENS[..len], &mut out);
+        assert!(rt; matches!(answer, Err(CliFault::File(_))), "{len} bytes");
+        let answer = shown(rt.alloc(), &THREE_SEVENS[..len], &mut out);
         assert!(rt; matches!(answer, Err(CliFault::File(_))), "{len} bytes");
         assert_eq!(rt; out.written().len(), 0);
     }
@@ -361,6 +440,10 @@ fn fault_texts(rt: HostRuntime) -> Result<(), AllocError> {
             "file 16 OutOfMemory",
         ),
         (CliFault::Json(JsonFault::OutOfMemory), "json 8 OutOfMemory"),
+        (
+            CliFault::Types(TypeFault::OutOfMemory),
+            "type 7 OutOfMemory",
+        ),
         (
             CliFault::File(FileFault::BadTypes(TypeFault::UnsupportedKind(5))),
             "file 8 BadTypes: type 1 UnsupportedKind(5)",

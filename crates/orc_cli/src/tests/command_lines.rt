@@ -9,7 +9,7 @@ use std::alloc::Global;
 use std::convert::AsStr;
 
 /// Command lines that are requests.
-const REQUESTS: [(&[&str], Request<'static>); 6] = [
+const REQUESTS: [(&[&str], Request<'static, 'static>); 10] = [
     (
         &["orcm", "ints", "--rle", "1", "--sign", "u", "61ff64"],
         Request::Ints {
@@ -44,10 +44,32 @@ const REQUESTS: [(&[&str], Request<'static>); 6] = [
     ),
     (&["orcm", "rows", "a.orc"], Request::Rows { file: "a.orc" }),
     (&["orcm", "rows", "--", "-x"], Request::Rows { file: "-x" }),
+    (&["orcm", "show", "a.orc"], Request::Show { file: "a.orc" }),
+    (
+        &["orcm", "merge", "all.orc", "b.orc", "a.orc", "b.orc"],
+        Request::Merge {
+            output: "all.orc",
+            inputs: &["b.orc", "a.orc", "b.orc"],
+        },
+    ),
+    (
+        &["orcm", "merge", "all.orc", "a.orc"],
+        Request::Merge {
+            output: "all.orc",
+            inputs: &["a.orc"],
+        },
+    ),
+    (
+        &["orcm", "merge", "all.orc"],
+        Request::Merge {
+            output: "all.orc",
+            inputs: &[],
+        },
+    ),
 ];
 
 /// Command lines that are none, and what the parser finds in them.
-const OTHERS: [(&[&str], ErrorKind); 10] = [
+const OTHERS: [(&[&str], ErrorKind); 14] = [
     (&["orcm"], ErrorKind::MissingSubcommand),
     (&["orcm", "join", "a"], ErrorKind::InvalidSubcommand),
     (&["orcm", "rows"], ErrorKind::MissingRequiredArgument),
@@ -65,9 +87,80 @@ const OTHERS: [(&[&str], ErrorKind); 10] = [
     ),
     (&["orcm", "rows", "a", "b"], ErrorKind::UnknownArgument),
     (&["orcm", "rows", "--wide", "a"], ErrorKind::UnknownArgument),
+    (&["orcm", "show"], ErrorKind::MissingRequiredArgument),
+    (&["orcm", "show", "a", "b"], ErrorKind::UnknownArgument),
+    (
+        &[
+            "orcm",
+            "write",
+            "--rle",
+            "1",
+            "--stride",
+            "0",
+            "--stripe-rows",
+            "3",
+            "a",
+            "b",
+        ],
+        ErrorKind::MissingRequiredArgument,
+    ),
+    (&["orcm", "merge"], ErrorKind::MissingRequiredArgument),
     (&["orcm", "--help"], ErrorKind::DisplayHelp),
     (&["orcm", "--version"], ErrorKind::DisplayVersion),
 ];
+
+/// The numbers of `--stride` and `--stripe-rows`, and whether they ask for anything.
+const NUMBERS: [(&str, &str, bool); 9] = [
+    ("0", "1", true),
+    ("0", "2147483647", true),
+    ("0", "2147483648", false),
+    ("0", "4294967297", false),
+    ("0", "0", false),
+    ("1", "3", false),
+    ("0", "x", false),
+    ("", "3", false),
+    ("0", "", false),
+];
+
+#[test]
+fn numbers_of_write(rt: HostRuntime) {
+    for (stride, stripe_rows, asks) in NUMBERS {
+        let words = [
+            "orcm",
+            "write",
+            "--schema",
+            "struct<n:bigint>",
+            "--rle",
+            "2",
+            "--stride",
+            stride,
+            "--stripe-rows",
+            stripe_rows,
+            "lines",
+            "made.orc",
+        ];
+        match found(rt.alloc(), &words) {
+            Ok(matches) => match request_of(&matches) {
+                Some(
+                    Request::Write {
+                        schema,
+                        options,
+                        input,
+                        output,
+                    },
+                ) => {
+                    assert!(rt; asks, "{words:?}");
+                    assert_eq!(rt; schema, "struct<n:bigint>");
+                    assert_eq!(rt; options.rle(), Rle::Two);
+                    assert_eq!(rt; (input, output), ("lines", "made.orc"));
+                }
+                Some(_) => assert!(rt; false, "{words:?} asks for another command"),
+                None => assert!(rt; false, "{words:?} asks for nothing"),
+            },
+            Err(error) => assert!(rt; !asks && error.use_stderr(), "{words:?}: {error}"),
+        }
+    }
+}
 
 /// What the parser finds once there is memory.
 fn found<'a, S: AsStr>(alloc: Global, words: &'a [S]) -> Result<ArgMatches<'a>, Error> {

@@ -1,0 +1,45 @@
+-- The lines of a text, and the rows that they spell, a row a line as JSON.
+use Rattle.std.specs.Prelude.{◌≡◌, ◌≢◌, ℕ, List, [], ◌∷◌, ◌++◌, Some, true, IsUtf8}
+use Rattle.std.specs.List.{flat_map, AllByRecursion}
+use Rattle.serde_json.specs.Data.{Data}
+use Rattle.serde_json.specs.Read.{read as read_text}
+use Rattle.orc_types.specs.Shapes.{Shape}
+use Rattle.orc_types.specs.Cells.{Cell}
+use Rattle.orc_types.specs.JsonRows.{Spells}
+use Rattle.orc_types.specs.FieldNames.{is_distinct}
+
+-- no byte ends the line
+abbrev pub IsLine : List ℕ → Type 0
+IsLine line = AllByRecursion (λ b. b ≢ 10) line
+
+-- Each line but the last one has its end, the byte 0a. The last one has none: it is empty where the bytes end with an end.
+pub record AreLines (bytes : List ℕ) (ended : List (List ℕ)) (last : List ℕ) : Type 0 where
+  pub plain : AllByRecursion IsLine ended
+  pub plain_last : IsLine last
+  pub joined : bytes ≡ flat_map (λ (line : List ℕ). line ++ 10 ∷ []) ended ++ last
+
+-- the line is a text of JSON that spells the row
+pub record LineSpells (s : Shape) (line : List ℕ) (row : Cell) : Type 0 where
+  pub value : Data
+  pub utf8 : IsUtf8 line
+  pub read : read_text line ≡ Some value
+  pub spells : Spells s value row
+  pub distinct : is_distinct s ≡ true
+
+-- each line spells a row, but for the empty ones, which are skipped
+abbrev pub LinesSpell : Shape → List (List ℕ) → List Cell → Type 0
+LinesSpell s [] rows = rows ≡ []
+LinesSpell s ([] ∷ lines) rows = LinesSpell s lines rows
+LinesSpell s ((b ∷ bs) ∷ lines) [] = ⊥
+LinesSpell s ((b ∷ bs) ∷ lines) (row ∷ rows) = LineSpells s (b ∷ bs) row × LinesSpell s lines rows
+
+-- the rows of one line: none where it is empty, and else the one that it spells
+abbrev pub LineSpellsRows : Shape → List ℕ → List Cell → Type 0
+LineSpellsRows s line rows = LinesSpell s (line ∷ []) rows
+
+-- the rows are those of the bytes' lines
+pub record AreRowsOf (s : Shape) (bytes : List ℕ) (rows : List Cell) : Type 0 where
+  pub ended : List (List ℕ)
+  pub last : List ℕ
+  pub lines : AreLines bytes ended last
+  pub spell : LinesSpell s (ended ++ last ∷ []) rows

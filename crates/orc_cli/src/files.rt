@@ -1,0 +1,38 @@
+//! The files that a command names.
+ghost use Rattle.std.specs.Prelude.{◌≡◌, IfOk, true};
+ghost use Rattle.std.specs.Fs.{new_options, with_write, with_create_new};
+
+use crate::fault::CliFault;
+use orc_file::{FileFault, FileSource, StdSink};
+use std::fs::{File, OpenOptions};
+use std::rt::Files;
+
+/// The file of that path, found now.
+pub fn source_of<'a, R: Files<File = File>>(
+    rt: &'a R,
+    path: &'a str,
+) -> Result<FileSource<'a, R>, CliFault>
+    ensures path { IfOk result (λ source. source.path.now ≡ path.now) }
+{
+    match FileSource::open(rt, path) {
+        Ok(source) => Ok(source),
+        Err(_) => Err(CliFault::File(FileFault::SourceFailed)),
+    }
+}
+
+/// How a file that a command makes is opened: it must not be there yet.
+fn as_new_file() -> OpenOptions
+    ensures { result ≡ with_create_new (with_write new_options true) true }
+{
+    let mut options = OpenOptions::new();
+    options.write(true).create_new(true);
+    options
+}
+
+/// A new file of that path.
+pub fn new_file<R: Files<File = File>>(rt: &R, path: &str) -> Result<StdSink<File>, CliFault> {
+    match as_new_file().open(rt, path) {
+        Ok(file) => Ok(StdSink::new(file)),
+        Err(_) => Err(CliFault::File(FileFault::WriteFailed)),
+    }
+}

@@ -1,0 +1,57 @@
+//! Files joined into one.
+
+use super::files::{NO_ROWS, SIX_SEVENS, THREE_SEVENS, TWINS};
+use crate::*;
+use orc_file::{FileFault, SliceSource, VecSink};
+use orc_merge::MergeFault;
+use std::alloc::Global;
+
+/// What stands of two files that are joined, and the fault where there is one.
+fn joined_now(alloc: Global, first: &[u8], second: &[u8]) -> (Option<CliFault>, Vec<u8>) {
+    let mut inputs = [SliceSource::new(first), SliceSource::new(second)];
+    let mut out = VecSink::new(alloc);
+    let answer = merge_to(alloc, &mut inputs, &mut out);
+    (answer.err(), out.into_vec())
+}
+
+/// The same once there is memory.
+fn joined(alloc: Global, first: &[u8], second: &[u8]) -> (Option<CliFault>, Vec<u8>) {
+    match joined_now(alloc, first, second) {
+        (Some(CliFault::Merge(MergeFault::OutOfMemory | MergeFault::WriteFailed)), _) => {
+            joined_now(alloc, first, second)
+        }
+        answer => answer,
+    }
+}
+
+/// Two files, and the one that they are joined into.
+const FILES: [(&[u8], &[u8], &[u8]); 4] = [
+    (&THREE_SEVENS, &THREE_SEVENS, &SIX_SEVENS),
+    (&NO_ROWS, &NO_ROWS, &NO_ROWS),
+    (&NO_ROWS, &THREE_SEVENS, &THREE_SEVENS),
+    (&THREE_SEVENS, &NO_ROWS, &THREE_SEVENS),
+];
+
+#[test]
+fn files_joined(rt: HostRuntime) {
+    for (first, second, file) in FILES {
+        let (fault, bytes) = joined(rt.alloc(), first, second);
+        assert_eq!(rt; fault, None);
+        assert_eq!(rt; bytes.as_slice(), file);
+    }
+}
+
+/// Two files that aren't joined.
+const REFUSED: [(&[u8], &[u8], MergeFault); 2] = [
+    (&THREE_SEVENS, &TWINS, MergeFault::SchemaDiffers(1)),
+    (b"OR", &THREE_SEVENS, MergeFault::File(0, FileFault::NotOrc)),
+];
+
+#[test]
+fn files_that_are_refused(rt: HostRuntime) {
+    for (first, second, why) in REFUSED {
+        let (fault, bytes) = joined(rt.alloc(), first, second);
+        assert_eq!(rt; fault, Some(CliFault::Merge(why)));
+        assert!(rt; bytes.as_slice().is_empty());
+    }
+}

@@ -1,0 +1,140 @@
+//! Files written of lines.
+
+use super::files::{NO_ROWS, SIX_SEVENS, THREE_SEVENS};
+use super::wants_memory;
+use crate::*;
+use orc_file::{FileFault, VecSink};
+use orc_rle::Rle;
+use orc_stripe::Options;
+use orc_types::{JsonFault, TypeFault};
+use std::alloc::Global;
+
+const NUMBERS: &str = "struct<n:bigint>";
+
+/// What is written of lines, with or without a fault.
+fn written_now(
+    alloc: Global,
+    schema: &str,
+    stripe_rows: u32,
+    input: &[u8],
+) -> (Option<CliFault>, Vec<u8>) {
+    let Some(options) = Options::new(Rle::One, 0, stripe_rows) else {
+        return (Some(CliFault::File(FileFault::Limit)), Vec::new(alloc));
+    };
+    match write_from(alloc, schema, options, input, VecSink::new(alloc)) {
+        Ok((_, out)) => (None, out.into_vec()),
+        Err((fault, out)) => (Some(fault), out.into_vec()),
+    }
+}
+
+/// The same once there is memory.
+fn written(
+    alloc: Global,
+    schema: &str,
+    stripe_rows: u32,
+    input: &[u8],
+) -> (Option<CliFault>, Vec<u8>) {
+    match written_now(alloc, schema, stripe_rows, input) {
+        (Some(fault), _)
+            if wants_memory(fault)
+                || matches!(
+                    fault,
+                    CliFault::File(FileFault::WriteFailed) | CliFault::Types(TypeFault::OutOfMemory)
+                ) => { written_now(alloc, schema, stripe_rows, input) }
+        answer => answer,
+    }
+}
+
+/// Lines, the rows of a stripe, and the file that is written of them.
+const FILES: [(&[u8], u32, &[u8]); 8] = [
+    (b"", 3, &NO_ROWS),
+    (b"\n\n", 3, &NO_ROWS),
+    (b"{\"n\":7}\n{\"n\":7}\n{\"n\":7}\n", 3, &THREE_SEVENS),
+    (b"{\"n\":7}\n{\"n\":7}\n{\"n\":7}", 3, &THREE_SEVENS),
+    (
+        b"\n{\"n\":7}\n\n\n{\"n\":7}\n{\"n\":7}\n\n",
+        4,
+        &THREE_SEVENS,
+    ),
+    (b"{\"n\":7}\r\n {\"n\" : 7 }\n{\"n\":7}\r", 3, &THREE_SEVENS),
+    (
+        b"{\"n\":1,\"n\":7}\n{\"n\":7}\n{\"n\":7}",
+        1000,
+        &THREE_SEVENS,
+    ),
+    (
+        b"{\"n\":7}\n{\"n\":7}\n{\"n\":7}\n{\"n\":7}\n{\"n\":7}\n{\"n\":7}",
+        3,
+        &SIX_SEVENS,
+    ),
+];
+
+#[test]
+fn files_of_lines(rt: HostRuntime) {
+    for (input, stripe_rows, file) in FILES {
+        let (fault, bytes) = written(rt.alloc(), NUMBERS, stripe_rows, input);
+        assert_eq!(rt; fault, None);
+        assert_eq!(rt; bytes.as_slice(), file);
+    }
+}
+
+/// Schemas and lines in stripes of three rows that are refused, and how many bytes of a file of six sevens
+/// stand then.
+const REFUSED: [(&str, &[u8], CliFault, usize); 12] = [
+    (NUMBERS, b"\r\n", CliFault::Json(JsonFault::Syntax), 3),
+    (NUMBERS, b" ", CliFault::Json(JsonFault::Syntax), 3),
+    (NUMBERS, b"{\"n\":7", CliFault::Json(JsonFault::Syntax), 3),
+    (
+        NUMBERS,
+        b"{\"n\":7}\n{\"n\":\xff}",
+        CliFault::Json(JsonFault::Syntax),
+        3,
+    ),
+    (
+        NUMBERS,
+        b"{\n\"n\":7}",
+        CliFault::Json(JsonFault::Syntax),
+        3,
+    ),
+    (
+        NUMBERS,
+        b"{\"m\":7}",
+        CliFault::Json(JsonFault::UnknownField),
+        3,
+    ),
+    (NUMBERS, b"[7]", CliFault::Json(JsonFault::WrongShape), 3),
+    (
+        NUMBERS,
+        b"{\"n\":1.0}",
+        CliFault::Json(JsonFault::WrongShape),
+        3,
+    ),
+    (
+        NUMBERS,
+        b"{\"n\":7}\n{\"n\":7}\n{\"n\":7}\n{\"n\":7}\n{\"n\":true}\n",
+        CliFault::Json(JsonFault::WrongShape),
+        22,
+    ),
+    (
+        "struct<n:int>",
+        b"{\"n\":2147483648}",
+        CliFault::Json(JsonFault::Range),
+        3,
+    ),
+    (
+        "struct<n:bigint,n:bigint>",
+        b"{\"n\":7}",
+        CliFault::Json(JsonFault::DuplicateField),
+        3,
+    ),
+    ("bigint", b"{", CliFault::Types(TypeFault::RootNotStruct), 0),
+];
+
+#[test]
+fn lines_that_are_refused(rt: HostRuntime) {
+    for (schema, input, wanted, stands) in REFUSED {
+        let (fault, bytes) = written(rt.alloc(), schema, 3, input);
+        assert_eq!(rt; fault, Some(wanted));
+        assert!(rt; SIX_SEVENS.starts_with(&bytes) && bytes.len() == stands);
+    }
+}
