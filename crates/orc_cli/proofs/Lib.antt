@@ -1,12 +1,5 @@
 pub mod Joined
 pub mod IntsLemmas
 pub mod RequestLemmas
-pub mod OutputLemmas
-pub mod NoFloats
-pub mod RowsLemmas
 pub mod OpenFaults
 pub mod ShowLemmas
-pub mod WriteLemmas
-pub mod LinesLemmas
-pub mod WriteLaws
-pub mod LimitLemmas

@@ -9,10 +9,10 @@ use Rattle.orc_file.specs.declared.tail.Tail.{Tail}
 use Rattle.orc_file.specs.declared.fault.FileFault.{FileFault}
 use Rattle.orc_file.specs.declared.fault.FileFault.TheVariants.{WriteFailed, SourceFailed, OutOfMemory}
 use Rattle.orc_cli.proofs.OpenFaults.{never_output}
-use Rattle.orc_cli.specs.Output.{IsWantOfMemory, write_failed}
-use Rattle.orc_cli.specs.Rows.{IsOutsideFile}
-use Rattle.orc_cli.specs.declared.fault.CliFault.{CliFault}
-use Rattle.orc_cli.specs.declared.fault.CliFault.TheVariants.{File}
+use Rattle.orc_output.specs.Output.{IsWantOfMemory, write_failed}
+use Rattle.orc_rows.specs.Rows.{IsOutsideFile}
+use Rattle.orc_output.specs.declared.fault.CliFault.{CliFault}
+use Rattle.orc_output.specs.declared.fault.CliFault.TheVariants.{File}
 
 pub view-String : (s : String Global) → view (JsonString s) ≡ string (string_bytes s)
 view-String s = search (rules, the_lemmas)

@@ -12,9 +12,9 @@ use Rattle.orc_rle.specs.declared.sign.Sign.{Sign}
 use Rattle.orc_rle.specs.RunOne.{IsRunOne, NoRunOne}
 use Rattle.orc_rle.specs.RunTwo.{IsRunTwo, NoRunTwo}
 use Rattle.orc_rle.specs.Stream.{IsStream, StopsAt}
-use Rattle.orc_cli.specs.Output.{write_failed}
-use Rattle.orc_cli.specs.declared.fault.CliFault.{CliFault}
-use Rattle.orc_cli.specs.declared.fault.CliFault.TheVariants.{Run, Types, Json, File, Merge}
+use Rattle.orc_output.specs.Output.{write_failed}
+use Rattle.orc_output.specs.declared.fault.CliFault.{CliFault}
+use Rattle.orc_output.specs.declared.fault.CliFault.TheVariants.{Run, Types, Json, File, Merge}
 use Rattle.orc_types.specs.declared.json_fault.JsonFault.TheVariants as json
 use Rattle.orc_file.specs.declared.fault.FileFault.TheVariants as file
 

@@ -1,11 +1,11 @@
 //! The command line: the commands and their options, and how its words are read.
 
-use crate::fault::CliFault;
 use crate::request::{SIGNS, VERSIONS};
 use clap::builder::ValueParser;
 use clap::error::ErrorKind;
 use clap::{Arg, ArgAction, ArgMatches, Command, Error};
 use orc_file::FileFault;
+use orc_output::CliFault;
 use std::alloc::Global;
 use std::convert::AsStr;
 use std::rt::Env;

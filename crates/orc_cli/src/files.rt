@@ -2,8 +2,8 @@
 ghost use Rattle.std.specs.Prelude.{◌≡◌, IfOk, true};
 ghost use Rattle.std.specs.Fs.{new_options, with_write, with_create_new};
 
-use crate::fault::CliFault;
 use orc_file::{FileFault, FileSource, StdSink};
+use orc_output::CliFault;
 use std::fs::{File, OpenOptions};
 use std::rt::Files;
 

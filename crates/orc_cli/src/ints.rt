@@ -2,17 +2,16 @@
 ghost use Rattle.std.specs.Prelude.{◌≡◌, ◌≢◌, ℤ, List, [], ◌∷◌, ◌++◌, ◌⊎◌, IfOk, OnOk, IfErr, IsErrAnd, MatchResult, string_bytes};
 ghost use Rattle.std.specs.Io.KnownBytes.{Appends, Keeps};
 ghost use Rattle.orc_cli.specs.Ints.{numbers, number_line, IsIntegerStream, StopsIntegers, SpellsInts, StopsInts, IsNoHex, RefusesDigits, RefusesInts};
-ghost use Rattle.orc_cli.specs.Output.{AppendsPart, IsOutside, IsWantOfMemory, write_failed};
-ghost use Rattle.orc_cli.specs.declared.fault.CliFault.TheVariants.{Run, Json};
+ghost use Rattle.orc_output.specs.Output.{AppendsPart, IsOutside, IsWantOfMemory, write_failed};
+ghost use Rattle.orc_output.specs.declared.fault.CliFault.TheVariants.{Run, Json};
 ghost use Rattle.orc_types.specs.declared.json_fault.JsonFault.TheVariants as json;
 ghost use Rattle.orc_rle.specs.declared.fault.RunFault.{RunFault};
 ghost use Rattle.orc_rle.specs.declared.fault.RunFault.TheVariants.{OutOfMemory as RunOutOfMemory};
 ghost use Rattle.orc_rle.specs.Stream.{Refuses};
 
-use crate::fault::CliFault;
-use crate::output::write_out;
 use hex::FromHexError;
 use orc_file::FileFault;
+use orc_output::{CliFault, write_out};
 use orc_rle::{Rle, RunCodec, RunFault, Sign, V1, V2};
 use orc_types::JsonFault;
 use std::alloc::{AllocError, Global};

@@ -2,22 +2,18 @@
 #![tactic(auto)]
 
 mod command_line;
-mod fault;
 mod files;
 mod ints;
 mod merge;
-mod output;
 mod request;
-mod rows;
 mod show;
-mod write;
 
-pub use fault::CliFault;
 pub use ints::ints_to;
 pub use merge::merge_to;
-pub use rows::rows_to;
+pub use orc_lines::write_from;
+pub use orc_output::CliFault;
+pub use orc_rows::rows_to;
 pub use show::show_to;
-pub use write::write_from;
 
 #[cfg(test)]
 mod tests;

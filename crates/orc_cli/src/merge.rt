@@ -4,11 +4,11 @@ ghost use Rattle.orc_merge.specs.Faults.{IsDeviceFault};
 ghost use Rattle.orc_merge.specs.Outcomes.{IsAnswer, WroteMerge, WrotePart};
 ghost use Rattle.orc_merge.specs.declared.fault.MergeFault.TheVariants as merge_fault;
 ghost use Rattle.orc_cli.specs.Merges.{IsOfMerger};
-ghost use Rattle.orc_cli.specs.declared.fault.CliFault.TheVariants.{Merge};
+ghost use Rattle.orc_output.specs.declared.fault.CliFault.TheVariants.{Merge};
 
-use crate::fault::CliFault;
 use orc_file::{Sink, Source, Tail};
 use orc_merge::merge;
+use orc_output::CliFault;
 use std::alloc::Global;
 
 /// Joins files into one, as [`merge`] does: the inputs' stripes as they are, in order, behind them a tail that is

@@ -7,14 +7,13 @@ ghost use Rattle.orc_types.specs.Days.{date_text as date_day};
 ghost use Rattle.orc_file.specs.Tails.{IsTail};
 ghost use Rattle.orc_file.specs.declared.fault.FileFault.TheVariants.{SourceFailed};
 ghost use Rattle.orc_file.specs.declared.tail.Tail.{Tail};
-ghost use Rattle.orc_cli.specs.Output.{AppendsPart, IsWantOfMemory, write_failed};
-ghost use Rattle.orc_cli.specs.Rows.{IsNotOpened, IsOutsideFile};
+ghost use Rattle.orc_output.specs.Output.{AppendsPart, IsWantOfMemory, write_failed};
+ghost use Rattle.orc_rows.specs.Rows.{IsNotOpened, IsOutsideFile};
 ghost use Rattle.orc_cli.specs.Show as spec;
-ghost use Rattle.orc_cli.specs.declared.fault.CliFault.TheVariants.{File};
+ghost use Rattle.orc_output.specs.declared.fault.CliFault.TheVariants.{File};
 
-use crate::fault::CliFault;
-use crate::output::write_out;
 use orc_file::{OrcFile, Source, Tail};
+use orc_output::{CliFault, write_out};
 use orc_stats::{Body, Stat};
 use orc_types::date_text;
 use orc_wire::{Bytes, StripeInfo, UserMetadataItem};

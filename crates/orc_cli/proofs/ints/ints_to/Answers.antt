@@ -2,9 +2,9 @@ use Rattle.std.proofs.Common.{◌≡◌, List, ℕ, ℤ, ap, subst, ◌∙◌, R
 use Rattle.orc_rle.specs.declared.sign.Rle.{Rle}
 use Rattle.orc_rle.specs.declared.sign.Sign.{Sign}
 use Rattle.orc_cli.specs.Ints.{number_line, SpellsInts, RefusesInts}
-use Rattle.orc_cli.specs.Output.{AppendsPart, write_failed}
-use Rattle.orc_cli.specs.declared.fault.CliFault.{CliFault}
-use Rattle.orc_cli.proofs.OutputLemmas.{outside_from}
+use Rattle.orc_output.specs.Output.{AppendsPart, write_failed}
+use Rattle.orc_output.specs.declared.fault.CliFault.{CliFault}
+use Rattle.orc_output.proofs.OutputLemmas.{outside_from}
 use Rattle.orc_cli.proofs.ints.ints_to.Goals as goal
 
 output_refused : (r : Result (Unit {0}) CliFault) (rle : Rle) (sign : Sign) (text : List ℕ) (values : List ℤ) → SpellsInts rle sign text values → IfErr r (λ fault. fault ≡ write_failed)

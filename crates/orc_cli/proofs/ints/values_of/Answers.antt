@@ -1,5 +1,5 @@
 use Rattle.std.proofs.Common.{ap, inl, inr}
-use Rattle.orc_cli.specs.declared.fault.CliFault.TheVariants.{Run}
+use Rattle.orc_output.specs.declared.fault.CliFault.TheVariants.{Run}
 use Rattle.orc_cli.proofs.IntsLemmas.{decoded_stream}
 use Rattle.orc_cli.proofs.ints.values_of.Goals as goal
 

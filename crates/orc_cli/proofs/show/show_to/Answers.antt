@@ -2,7 +2,7 @@ use Rattle.std.proofs.Common.{List, ℕ}
 use Rattle.orc_file.specs.declared.tail.Tail.{Tail}
 use Rattle.std.specs.Io.KnownBytes.{Appends}
 use Rattle.orc_file.specs.Tails.{IsTail}
-use Rattle.orc_cli.specs.Output.{AppendsPart}
+use Rattle.orc_output.specs.Output.{AppendsPart}
 use Rattle.orc_cli.specs.Show.{show_lines}
 use Rattle.orc_cli.proofs.ShowLemmas.{of_tail, part_of, outside_open, no_output}
 use Rattle.orc_cli.proofs.show.show_to.Goals as goal

@@ -1,0 +1,4 @@
+pub mod WriteLemmas
+pub mod LinesLemmas
+pub mod WriteLaws
+pub mod LimitLemmas

@@ -1,0 +1,6 @@
+//! Lines of JSON as a file of rows.
+#![tactic(auto)]
+
+mod write;
+
+pub use write::write_from;

@@ -1,0 +1,31 @@
+-- Known bytes that grow step by step.
+use Rattle.std.proofs.Common.{◌≡◌, ℕ, ◌<◌, List, ◌++◌, length, take, sym, ap, ◌∙◌, append_assoc, Some, None, Option, Result, Ok, Err, IsErrAnd, IfErr, inr, subst}
+use Rattle.std.specs.Io.KnownBytes.{Appends, Keeps}
+use Rattle.orc_output.specs.declared.fault.CliFault.{CliFault}
+use Rattle.orc_output.specs.Output.{AppendsPart, IsWantOfMemory, IsOutside}
+
+pub appends_more : (old mid new : Option (List ℕ)) (x y : List ℕ) → Appends old mid x → Appends mid new y → Appends old new (x ++ y)
+appends_more None mid new x y p q = tt
+appends_more (Some a) None new x y p q = absurd p
+appends_more (Some a) (Some b) None x y p q = absurd q
+appends_more (Some a) (Some b) (Some c) x y p q = q ∙ (ap (λ (t : List ℕ). t ++ y) p ∙ append_assoc a x y)
+
+pub appends_kept : (old mid new : Option (List ℕ)) (x : List ℕ) → Appends old mid x → Keeps mid new → Appends old new x
+appends_kept None mid new x p q = tt
+appends_kept (Some a) None new x p q = absurd p
+appends_kept (Some a) (Some b) None x p q = absurd q
+appends_kept (Some a) (Some b) (Some c) x p q = q ∙ p
+
+-- part of the rest is part of the whole
+pub part_after : (old mid new : Option (List ℕ)) (at : ℕ) (bytes : List ℕ) → at < length bytes → Appends old mid (take at bytes) → Keeps mid new → AppendsPart old new bytes
+part_after old mid new at bytes lt p q = (at, lt, appends_kept old mid new (take at bytes) p q)
+
+-- the exit of a `?` on a want of memory
+pub outside_from : (r : Result (Unit {0}) CliFault) (fault : CliFault) → IsWantOfMemory fault → IsErrAnd r (λ y. y ≡ fault) → IfErr r IsOutside
+outside_from (Ok _) fault want is = tt
+outside_from (Err e) fault want is = inr (subst IsWantOfMemory (sym is) want)
+
+-- what the exit of a `?` answers
+pub err_gives : {T E : Type 0} (r : Result T E) (fault : E) → IsErrAnd r (λ y. y ≡ fault) → r ≡ Err fault
+err_gives (Ok _) fault is = absurd is
+err_gives (Err e) fault is = ap Err is

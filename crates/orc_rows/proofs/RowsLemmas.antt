@@ -1,0 +1,178 @@
+-- Rows as lines, stripe by stripe: what the first stripes have printed, and why the next one stops it.
+use Rattle.std.proofs.Common.{◌≡◌, ℕ, zero, suc, ◌+◌, ◌<◌, List, [], ◌∷◌, ◌++◌, length, take, refl, sym, ap, ◌∙◌, subst, arith, append-nil, Option, Some, None, inl, inr}
+use Rattle.std.specs.Option.{IfSome}
+use Rattle.std.specs.Io.KnownBytes.{Appends, Keeps}
+use Rattle.std.proofs.lemmas.List.{take_more}
+use Rattle.std.proofs.Math.Seq.{take-length}
+use Rattle.std.proofs.lemmas.List.Concat.{flat_map-append}
+use Rattle.orc_wire.specs.declared.stripe_info.StripeInfo.{StripeInfo}
+use Rattle.orc_types.specs.Cells.{Cell}
+use Rattle.orc_types.specs.Shapes.{Shape}
+use Rattle.orc_stripe.specs.Stripe.{IsStripe}
+use Rattle.orc_stripe.proofs.OneStripe.{one_stripe}
+use Rattle.orc_file.specs.Stripes.{stripe_at}
+use Rattle.orc_file.specs.Tails.{IsTail, OpenFault, ReadFault, tail_tests}
+use Rattle.orc_file.specs.declared.fault.FileFault.{FileFault}
+use Rattle.orc_file.specs.FileRows.{stripe_bytes, joined, HasRows, FileIs, AreOfStripes as RowsOfStripes}
+use Rattle.orc_file.specs.declared.tail.Tail.{Tail}
+use Rattle.orc_output.proofs.OutputLemmas.{appends_more}
+use Rattle.orc_rows.specs.Rows.{row_line, row_lines, HaveJson, AreOfStripe, AreOfStripes, StripeStops, EndsAt, EndsIn, RefusesRows, IsOutsideFile}
+use Rattle.orc_output.specs.declared.fault.CliFault.{CliFault}
+use Rattle.orc_output.specs.declared.fault.CliFault.TheVariants.{File}
+
+-- ---- stripes, one more at a time
+
+more_parts : (s : Shape) (bytes : List ℕ) (infos : List StripeInfo) (parts : List (List Cell)) (info : StripeInfo) (rows : List Cell) → RowsOfStripes s bytes infos parts
+    → IsStripe s info (stripe_bytes info bytes) rows → RowsOfStripes s bytes (infos ++ info ∷ []) (parts ++ rows ∷ [])
+more_parts s bytes [] [] info rows p is = (is, tt)
+more_parts s bytes [] (x ∷ xs) info rows p is = absurd p
+more_parts s bytes (i ∷ is) [] info rows p own = absurd p
+more_parts s bytes (i ∷ is) (x ∷ xs) info rows p own = (p.0, more_parts s bytes is xs info rows p.1 own)
+
+more_rows : (s : Shape) (bytes : List ℕ) (infos : List StripeInfo) (info : StripeInfo) (rows own : List Cell) → HasRows s bytes infos rows → IsStripe s info (stripe_bytes info bytes) own
+    → HasRows s bytes (infos ++ info ∷ []) (rows ++ own)
+more_rows s bytes infos info rows own p is = record {
+  parts = p.parts ++ own ∷ [];
+  stripes = more_parts s bytes infos p.parts info own p.stripes is;
+  rows_are = ap (λ (t : List Cell). t ++ own) p.rows_are ∙ (ap (λ (t : List Cell). joined p.parts ++ t) (sym (append-nil own)) ∙ sym (flat_map-append (λ (r : List Cell). r) p.parts (own ∷ [])));
+}
+
+json_both : (s : Shape) (a b : List Cell) → HaveJson s a → HaveJson s b → HaveJson s (a ++ b)
+json_both s a b (inr distinct) q = inr distinct
+json_both s a b (inl none) (inr distinct) = inr distinct
+json_both s a b (inl none) (inl nothing) = inl (rw (none, nothing) refl)
+
+more_lines : (s : Shape) (bytes : List ℕ) (infos : List StripeInfo) (n : ℕ) (lines own : List ℕ) → n < length infos → AreOfStripes s bytes (take n infos) lines
+    → AreOfStripe s (stripe_at infos n) (stripe_bytes (stripe_at infos n) bytes) own → AreOfStripes s bytes (take (n + 1) infos) (lines ++ own)
+more_lines s bytes infos n lines own lt p is =
+    let next = take_more infos n (record { offset = 0; index_length = 0; data_length = 0; footer_length = 0; number_of_rows = 0 }) lt in
+    record {
+      rows = p.rows ++ is.rows;
+      has_rows = subst (λ (t : List StripeInfo). HasRows s bytes t (p.rows ++ is.rows)) (sym next) (more_rows s bytes (take n infos) (stripe_at infos n) p.rows is.rows p.has_rows is.stripe);
+      have_json = json_both s p.rows is.rows p.have_json is.have_json;
+      lines_are = ap (λ (t : List ℕ). t ++ own) p.lines_are ∙ (ap (λ (t : List ℕ). row_lines s p.rows ++ t) is.lines_are ∙ sym (flat_map-append (row_line s) p.rows is.rows));
+    }
+
+-- ---- what is out
+
+pub appends_none : (known : Option (List ℕ)) → Appends known known []
+appends_none None = tt
+appends_none (Some bytes) = sym (append-nil bytes)
+
+-- ---- the same where the bytes are told
+
+abbrev pub Printed : Option (List ℕ) → Shape → List StripeInfo → ℕ → Option (List ℕ) → Option (List ℕ) → Type 0
+Printed told s infos n old new = IfSome told (λ all. (lines : List ℕ) × AreOfStripes s all (take n infos) lines × Appends old new lines)
+
+no_lines : (s : Shape) (bytes : List ℕ) → AreOfStripes s bytes [] []
+no_lines s bytes = record { rows = []; has_rows = record { parts = []; stripes = tt; rows_are = refl }; have_json = inl refl; lines_are = refl }
+
+pub printed_none : (told : Option (List ℕ)) (s : Shape) (infos : List StripeInfo) (known : Option (List ℕ)) → Printed told s infos 0 known known
+printed_none None s infos known = tt
+printed_none (Some all) s infos known = ([], no_lines s all, appends_none known)
+
+pub printed_next : (told : Option (List ℕ)) (s : Shape) (infos : List StripeInfo) (n : ℕ) (old mid new : Option (List ℕ)) → n < length infos → Printed told s infos n old mid
+    → IfSome told (λ all. (own : List ℕ) × AreOfStripe s (stripe_at infos n) (stripe_bytes (stripe_at infos n) all) own × Appends mid new own) → Printed told s infos (n + 1) old new
+printed_next None s infos n old mid new lt p q = tt
+printed_next (Some all) s infos n old mid new lt p q = (p.0 ++ q.0, more_lines s all infos n p.0 q.0 lt p.1 q.1, appends_more old mid new p.0 q.0 p.2 q.2)
+
+pub printed_all : (told : Option (List ℕ)) (s : Shape) (infos : List StripeInfo) (n : ℕ) (old new : Option (List ℕ)) → n ≡ length infos → Printed told s infos n old new
+    → IfSome told (λ all. (lines : List ℕ) × AreOfStripes s all infos lines × Appends old new lines)
+printed_all None s infos n old new e p = tt
+printed_all (Some all) s infos n old new e p = (p.0, subst (λ (t : List StripeInfo). AreOfStripes s all t p.0) (ap (λ (k : ℕ). take k infos) e ∙ take-length infos) p.1, p.2)
+
+-- ---- where printing ends
+
+ends_behind : (s : Shape) (bytes : List ℕ) (n : ℕ) (info : StripeInfo) (lines : List ℕ) (old mid new : Option (List ℕ)) (fault : CliFault) → Appends old mid lines
+    → EndsAt s bytes n info [] mid new fault → EndsAt s bytes n info lines old new fault
+ends_behind s bytes n info lines old mid new fault p (inl h) =
+    inl (h.0, subst (λ (t : List ℕ). Appends old new t) (append-nil lines) (appends_more old mid new lines [] p h.1))
+ends_behind s bytes n info lines old mid new fault p (inr h) =
+    inr (h.0, (h.1.0, h.1.1, (h.1.2.0, h.1.2.1, appends_more old mid new lines (take h.1.2.0 h.1.0) p h.1.2.2)))
+
+pub ends_in : (told : Option (List ℕ)) (tail : Tail) (n : ℕ) (old mid new : Option (List ℕ)) (fault : CliFault) → n < length tail.stripes → Printed told tail.schema tail.stripes n old mid
+    → IfSome told (λ all. EndsAt tail.schema all n (stripe_at tail.stripes n) [] mid new fault) → IfSome told (λ all. EndsIn all tail old new fault)
+ends_in None tail n old mid new fault lt p h = tt
+ends_in (Some all) tail n old mid new fault lt p h = record {
+  n = n;
+  some = lt;
+  lines = p.0;
+  before = p.1;
+  ends = ends_behind tail.schema all n (stripe_at tail.stripes n) p.0 old mid new fault p.2 h;
+}
+
+-- ---- a file
+
+pub refused_file : (told : Option (List ℕ)) (tail : Tail) (old new : Option (List ℕ)) (fault : CliFault) → IfSome told (λ bytes. IsTail bytes tail) → IfSome told (λ all. EndsIn all tail old new fault)
+    → IfSome told (λ bytes. RefusesRows bytes old new fault)
+refused_file None tail old new fault is h = tt
+refused_file (Some bytes) tail old new fault is h = inr (tail, is, h)
+
+keeps_itself : (known : Option (List ℕ)) → Keeps known known
+keeps_itself None = tt
+keeps_itself (Some bytes) = refl
+
+pub refused_open : (told : Option (List ℕ)) (known : Option (List ℕ)) (why : FileFault) → ReadFault told why (λ bytes. OpenFault bytes why) → IfSome told (λ bytes. RefusesRows bytes known known (File why))
+refused_open None known why h = tt
+refused_open (Some bytes) known why (inl memory) = inl (inr (inr (inl (ap File memory))), keeps_itself known)
+refused_open (Some bytes) known why (inr (inl source)) = inl (inr (inl (ap File source)), keeps_itself known)
+refused_open (Some bytes) known why (inr (inr bad)) = inl (inl (why, refl, bad), keeps_itself known)
+
+-- ---- a file whose rows have JSON is refused for what is outside of it
+
+none_first : (a b : List Cell) → a ++ b ≡ [] → a ≡ []
+none_first [] b e = refl
+none_first (c ∷ a) b e = absurd (cc)
+
+none_second : (a b : List Cell) → a ++ b ≡ [] → b ≡ []
+none_second [] b e = e
+none_second (c ∷ a) b e = absurd (cc)
+
+-- a stripe of a file has rows, and none where the file has none
+record HasOwn (s : Shape) (info : StripeInfo) (bytes : List ℕ) (all : List Cell) : Type 0 where
+  rows : List Cell
+  stripe : IsStripe s info bytes rows
+  none : all ≡ [] → rows ≡ []
+
+own_rows : (s : Shape) (bytes : List ℕ) (infos : List StripeInfo) (parts : List (List Cell)) (n : ℕ) → n < length infos → RowsOfStripes s bytes infos parts
+    → HasOwn s (stripe_at infos n) (stripe_bytes (stripe_at infos n) bytes) (joined parts)
+own_rows s bytes [] parts n lt p = absurd (omega (arith, lt))
+own_rows s bytes (i ∷ is) [] n lt p = absurd p
+own_rows s bytes (i ∷ is) (x ∷ xs) zero lt p = record { rows = x; stripe = p.0; none = λ e. none_first x (joined xs) e }
+own_rows s bytes (i ∷ is) (x ∷ xs) (suc n) lt p =
+    let h = own_rows s bytes is xs n (omega (arith, lt)) p.1 in
+    record { rows = h.rows; stripe = h.stripe; none = λ e. h.none (none_second x (joined xs) e) }
+
+stops_nowhere : (s : Shape) (bytes : List ℕ) (infos : List StripeInfo) (n : ℕ) (rows : List Cell) (fault : CliFault) → n < length infos → HasRows s bytes infos rows → HaveJson s rows
+    → StripeStops s bytes n (stripe_at infos n) fault → ⊥
+stops_nowhere s bytes infos n rows fault lt p have (inl h) =
+    let own = own_rows s bytes infos p.parts n lt p.stripes in
+    h.2.3.none own.rows own.stripe
+stops_nowhere s bytes infos n rows fault lt p (inr distinct) (inr h) = let twice = h.1.twice in absurd (cc)
+stops_nowhere s bytes infos n rows fault lt p (inl nothing) (inr h) =
+    let own = own_rows s bytes infos p.parts n lt p.stripes in
+    let same = one_stripe s (stripe_at infos n) (stripe_bytes (stripe_at infos n) bytes) h.1.rows own.rows h.1.stripe own.stripe in
+    h.1.some (same ∙ own.none (sym p.rows_are ∙ nothing))
+
+ends_outside : (bytes : List ℕ) (tail : Tail) (rows : List Cell) (old new : Option (List ℕ)) (fault : CliFault) → HasRows tail.schema bytes tail.stripes rows → HaveJson tail.schema rows
+    → (h : EndsIn bytes tail old new fault) → EndsAt tail.schema bytes h.n (stripe_at tail.stripes h.n) h.lines old new fault → IsOutsideFile fault
+ends_outside bytes tail rows old new fault p have h (inl q) = elim q.0 [
+  | inl stops ↦ absurd (stops_nowhere tail.schema bytes tail.stripes h.n rows fault h.some p have stops)
+  | inr source ↦ inr source
+]
+ends_outside bytes tail rows old new fault p have h (inr q) = inl q.0
+
+refuses_outside : (bytes : List ℕ) (tail : Tail) (rows : List Cell) (old new : Option (List ℕ)) (fault : CliFault) → FileIs bytes tail rows → HaveJson tail.schema rows → RefusesRows bytes old new fault
+    → IsOutsideFile fault
+refuses_outside bytes tail rows old new fault p have (inl h) = elim h.0 [
+  | inl bad ↦ absurd ((tail_tests bytes).none tail bad.0 bad.2 p.tail_is)
+  | inr source ↦ inr source
+]
+refuses_outside bytes tail rows old new fault p have (inr h) =
+    let same = (tail_tests bytes).one tail h.0 p.tail_is h.1 in
+    ends_outside bytes h.0 rows old new fault (subst (λ (t : Tail). HasRows t.schema bytes t.stripes rows) same p.has_rows) (subst (λ (t : Tail). HaveJson t.schema rows) same have) h.2 h.2.ends
+
+pub refused_only : (told : Option (List ℕ)) (old new : Option (List ℕ)) (fault : CliFault) → IfSome told (λ bytes. RefusesRows bytes old new fault)
+    → IfSome told (λ bytes. (tail : Tail) (rows : List Cell) → FileIs bytes tail rows → HaveJson tail.schema rows → IsOutsideFile fault)
+refused_only None old new fault h = tt
+refused_only (Some bytes) old new fault h = λ tail rows p have. refuses_outside bytes tail rows old new fault p have h

@@ -1,0 +1,15 @@
+use Rattle.std.proofs.Common.{◌≡◌, ◌++◌, ◌⊎◌, drop, true}
+use Rattle.std.specs.Prelude.{string_bytes}
+use Rattle.orc_types.specs.FieldNames.{is_distinct}
+use Rattle.orc_types.specs.Fits.{RowsFit}
+use Rattle.orc_types.specs.Views.{views}
+use Rattle.orc_rows.specs.Rows.{row_lines}
+use Rattle.orc_rows.proofs.rows.lines_of.Given as goal
+
+-- with those that are left it is all lines
+abbrev pub invariant-loop-row : goal.invariant-loop-row
+invariant-loop-row l = record {
+  done : string_bytes l.lines ++ row_lines l.schema (views (drop l.row-index l.rows)) ≡ row_lines l.schema (views l.rows);
+  fit : RowsFit l.schema (views (drop l.row-index l.rows));
+  json : (l.row-index ≡ 0) ⊎ (is_distinct l.schema ≡ true);
+}

@@ -1,0 +1,43 @@
+use Rattle.std.proofs.Common.{◌∙◌, arith}
+use Rattle.std.proofs.lemmas.Result.{err_from_is_err_and}
+use Rattle.orc_rows.proofs.RowsLemmas.{printed_next, printed_all, ends_in}
+use Rattle.orc_rows.proofs.rows.print_rows.Goals as goal
+
+pub returns-in_err-print_stripe-clause-refused : goal.returns-in_err-print_stripe-clause-refused
+returns-in_err-print_stripe-clause-refused g c =
+    let p = err_from_is_err_and c.from_residual.result c.from_residual.ensures.1 in
+    let told = g.S.Source.told c.args.file.now.source in
+    let inv = c.loop-number.invariant in
+    let length = c.as_slice-number-end.ensures in
+    let tail = c.tail.ensures in
+    let lt = c.loop-number-test.true in
+    let ends = c.in_err-print_stripe.ensures.refused in
+    rw (p.1, p.2) (ends_in told c.args.file.now.tail c.loop-number.number _ (g.W.Write.contents c.loop-number.out) _ c.in_err-print_stripe.field-0.0 (rw (length, tail) at lt) inv.printed (rw (inv.told, inv.tail) at ends))
+
+pub loop-number-preserved : goal.loop-number-preserved
+loop-number-preserved g c =
+    let told = g.S.Source.told c.args.file.now.source in
+    let start = c.args.file.now.tail in
+    let inv = c.loop-number.invariant in
+    let length = c.as_slice-number-end.ensures in
+    let tail = c.tail.ensures in
+    let lt = c.loop-number-test.true in
+    let e = c.print_stripe.ensures in
+    let own = c.in_ok-print_stripe.ensures.written in
+    record {
+      tail = e.tail ∙ inv.tail;
+      told = e.told ∙ inv.told;
+      kept = c.in_ok-print_stripe.ensures.kept ∙ inv.kept;
+      printed = printed_next told start.schema start.stripes c.loop-number.number _ (g.W.Write.contents c.loop-number.out) _ (rw (length, tail) at lt) inv.printed (rw (inv.told, inv.tail) at own);
+    }
+
+pub returns-clause-written : goal.returns-clause-written
+returns-clause-written g c =
+    let told = g.S.Source.told c.args.file.now.source in
+    let start = c.args.file.now.tail in
+    let inv = c.loop-number.invariant in
+    let length = c.as_slice-number-end.ensures in
+    let tail = c.tail.ensures in
+    let past = rw (length, tail) at c.loop-number-test.false in
+    let most = rw (length, tail) at c.loop-number.auto.number-end in
+    printed_all told start.schema start.stripes c.loop-number.number _ _ (omega (arith, past, most)) inv.printed

@@ -1,0 +1,93 @@
+-- What `rows` prints of a file: a row a line, as compact JSON.
+use Rattle.std.specs.Prelude.{◌≡◌, ◌≢◌, ℕ, ◌<◌, List, [], ◌∷◌, ◌++◌, length, take, true, false, ◌⊎◌, Option}
+use Rattle.std.specs.List.{flat_map}
+use Rattle.std.specs.Io.KnownBytes.{Appends, Keeps}
+use Rattle.serde_json.specs.Written.{compact_text}
+use Rattle.orc_wire.specs.declared.stripe_info.StripeInfo.{StripeInfo}
+use Rattle.orc_types.specs.Cells.{Cell}
+use Rattle.orc_types.specs.Shapes.{Shape}
+use Rattle.orc_types.specs.FieldNames.{is_distinct}
+use Rattle.orc_types.specs.JsonPrinting.{json_of}
+use Rattle.orc_types.specs.declared.json_fault.JsonFault.TheVariants as json
+use Rattle.orc_stripe.specs.Stripe.{IsStripe}
+use Rattle.orc_file.specs.Stripes.{stripe_at}
+use Rattle.orc_file.specs.Tails.{IsTail, OpenFault}
+use Rattle.orc_file.specs.FileRows.{stripe_bytes, HasRows, StripeRefused}
+use Rattle.orc_file.specs.declared.tail.Tail.{Tail}
+use Rattle.orc_file.specs.declared.fault.FileFault.{FileFault}
+use Rattle.orc_file.specs.declared.fault.FileFault.TheVariants as file
+use Rattle.orc_output.specs.Output.{IsWantOfMemory, write_failed}
+use Rattle.orc_output.specs.declared.fault.CliFault.{CliFault}
+use Rattle.orc_output.specs.declared.fault.CliFault.TheVariants.{Json, File}
+
+-- a row's JSON, without blanks, and a line end
+abbrev pub row_line : Shape → Cell → List ℕ
+row_line s row = compact_text (json_of s row) ++ 10 ∷ []
+
+-- the rows in order
+abbrev pub row_lines : Shape → List Cell → List ℕ
+row_lines s rows = flat_map (row_line s) rows
+
+-- Rows have JSON where no struct of their schema names a field twice; where there are none, nothing is asked.
+abbrev pub HaveJson : Shape → List Cell → Type 0
+HaveJson s rows = (rows ≡ []) ⊎ (is_distinct s ≡ true)
+
+-- the lines are those of a stripe with these bytes
+pub record AreOfStripe (s : Shape) (info : StripeInfo) (bytes lines : List ℕ) : Type 0 where
+  pub rows : List Cell
+  pub stripe : IsStripe s info bytes rows
+  pub have_json : HaveJson s rows
+  pub lines_are : lines ≡ row_lines s rows
+
+-- the lines are those of the stripes
+pub record AreOfStripes (s : Shape) (bytes : List ℕ) (infos : List StripeInfo) (lines : List ℕ) : Type 0 where
+  pub rows : List Cell
+  pub has_rows : HasRows s bytes infos rows
+  pub have_json : HaveJson s rows
+  pub lines_are : lines ≡ row_lines s rows
+
+-- a stripe has rows, and these have no JSON
+pub record HasNoJson (s : Shape) (info : StripeInfo) (bytes : List ℕ) : Type 0 where
+  pub rows : List Cell
+  pub stripe : IsStripe s info bytes rows
+  pub some : rows ≢ []
+  pub twice : is_distinct s ≡ false
+
+-- Why the stripe with this number has no lines: it has no rows, or these have no JSON.
+abbrev pub StripeStops : Shape → List ℕ → ℕ → StripeInfo → CliFault → Type 0
+StripeStops s bytes n info fault =
+    ((why : FileFault) × (fault ≡ File why) × StripeRefused s bytes n info why)
+    ⊎ ((fault ≡ Json json.DuplicateField) × HasNoJson s info (stripe_bytes info bytes))
+
+-- the refusals that come from outside the file's bytes, but for those of the output
+abbrev pub IsOfSource : CliFault → Type 0
+IsOfSource fault = (fault ≡ File file.SourceFailed) ⊎ IsWantOfMemory fault
+
+-- Why the lines of the stripe with this number aren't out, behind these that are; and of them a part is out
+-- where the output failed.
+abbrev pub EndsAt : Shape → List ℕ → ℕ → StripeInfo → List ℕ → Option (List ℕ) → Option (List ℕ) → CliFault → Type 0
+EndsAt s bytes n info before old new fault =
+    ((StripeStops s bytes n info fault ⊎ IsOfSource fault) × Appends old new before)
+    ⊎ ((fault ≡ write_failed) × ((own : List ℕ) × AreOfStripe s info (stripe_bytes info bytes) own
+    × ((count : ℕ) × (count < length own) × Appends old new (before ++ take count own))))
+
+-- Why printing ends in a file with this tail: the lines of its first stripes are out, all of them, and of
+-- the next one there is a reason why its lines aren't.
+pub record EndsIn (bytes : List ℕ) (tail : Tail) (old new : Option (List ℕ)) (fault : CliFault) : Type 0 where
+  pub n : ℕ
+  pub some : n < length tail.stripes
+  pub lines : List ℕ
+  pub before : AreOfStripes tail.schema bytes (take n tail.stripes) lines
+  pub ends : EndsAt tail.schema bytes n (stripe_at tail.stripes n) lines old new fault
+
+-- why a file isn't opened: by its bytes, or for its source or memory
+abbrev pub IsNotOpened : List ℕ → CliFault → Type 0
+IsNotOpened bytes fault = ((why : FileFault) × (fault ≡ File why) × OpenFault bytes why) ⊎ IsOfSource fault
+
+-- why `rows` refuses a file, and what is out then: nothing where the file isn't opened
+abbrev pub RefusesRows : List ℕ → Option (List ℕ) → Option (List ℕ) → CliFault → Type 0
+RefusesRows bytes old new fault = (IsNotOpened bytes fault × Keeps old new) ⊎ ((tail : Tail) × IsTail bytes tail × EndsIn bytes tail old new fault)
+
+-- the refusals of a file whose rows have JSON
+abbrev pub IsOutsideFile : CliFault → Type 0
+IsOutsideFile fault = (fault ≡ write_failed) ⊎ IsOfSource fault
