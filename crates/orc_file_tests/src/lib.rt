@@ -1,5 +1,5 @@
 //! Tests of `orc_file` by its public calls: devices, tails, the rows of files, and files written. They
-//! stand apart from it, so that neither proof waits for the other.
+//! stand apart from it, so that it is not proved again with them.
 #![tactic(auto)]
 
 #[cfg(test)]

@@ -1,5 +1,5 @@
 //! Tests of `orc_stripe` by its public calls: stripes read, and stripes written and read again. They stand
-//! apart from it, so that neither proof waits for the other.
+//! apart from it, so that it is not proved again with them.
 #![tactic(auto)]
 
 #[cfg(test)]
