@@ -1,5 +1,1 @@
-pub mod Joined
-pub mod IntsLemmas
 pub mod RequestLemmas
-pub mod OpenFaults
-pub mod ShowLemmas

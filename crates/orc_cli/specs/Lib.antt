@@ -1,4 +1,2 @@
-pub mod Ints
-pub mod Show
 pub mod Requests
 pub mod Merges

@@ -3,17 +3,15 @@
 
 mod command_line;
 mod files;
-mod ints;
 mod merge;
 mod request;
-mod show;
 
-pub use ints::ints_to;
 pub use merge::merge_to;
+pub use orc_ints::ints_to;
 pub use orc_lines::write_from;
 pub use orc_output::CliFault;
 pub use orc_rows::rows_to;
-pub use show::show_to;
+pub use orc_show::show_to;
 
 #[cfg(test)]
 mod tests;

@@ -112,7 +112,8 @@ fn show_of<'m, 'a>(found: &'m ArgMatches<'a>) -> Option<Request<'m, 'a>>
 fn write_of<'m, 'a>(found: &'m ArgMatches<'a>) -> Option<Request<'m, 'a>>
     ensures name { IfSome result (λ request. command_word request ≡ codes "write") }
     ensures found { IfSome result (Asks (found_of found.now)) }
-    ensures only { (schema : List ℕ) (options : Options) (input output : List ℕ) → HasWrite (found_of found.now) schema options input output → 0 < options.stripe_rows → options.stripe_rows < 2 ^ 31 → IsSome result }
+    ensures only { (schema : List ℕ) (options : Options) (input output : List ℕ) → HasWrite (found_of found.now) schema options input output
+        → 0 < options.stripe_rows → options.stripe_rows < 2 ^ 31 → IsSome result }
 {
     let rle = version_of(found.get_str("rle")?)?;
     let stride = found.get_str("stride")?.parse::<u32>().ok()?;
@@ -139,7 +140,8 @@ fn merge_of<'m, 'a>(found: &'m ArgMatches<'a>) -> Option<Request<'m, 'a>>
 /// What the words ask for, if anything.
 pub fn request_of<'m, 'a>(matches: &'m ArgMatches<'a>) -> Option<Request<'m, 'a>>
     ensures name { IfSome result (λ request. subcommand_name_of matches.now ≡ Some (command_word request)) }
-    ensures found { IfSome result (λ request. (found : Found) × (option_map (λ p. p.1) (subcommand_rows_of matches.now) ≡ Some (found_rows found)) × Asks found request) }
+    ensures found { IfSome result (λ request. (found : Found)
+        × (option_map (λ p. p.1) (subcommand_rows_of matches.now) ≡ Some (found_rows found)) × Asks found request) }
     ensures none { IfNone result (IsNotUnderstood matches.now) }
 {
     let (name, found) = matches.subcommand()?;

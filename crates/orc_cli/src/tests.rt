@@ -17,7 +17,7 @@ use std::process::Abort;
 use trickle::{AtItsEnd, Trickle};
 
 /// Integer streams in hexadecimal digits, and what `ints` prints of them.
-const STREAMS: [(Rle, Sign, &str, Result<&str, CliFault>); 22] = [
+static STREAMS: [(Rle, Sign, &str, Result<&str, CliFault>); 22] = [
     (Rle::One, Sign::Unsigned, "fb020306070b", Ok("2 3 6 7 11\n")),
     (Rle::One, Sign::Unsigned, "FB020306070B", Ok("2 3 6 7 11\n")),
     (Rle::One, Sign::Unsigned, "", Ok("\n")),
@@ -122,7 +122,7 @@ const MANY_SEVENS: &str = "7f00077f00077f00077f00077f00077f00077f00077f00077f000
     7f00077f00077f00077f00077f00077f00077f00077f00077f00077f0007";
 
 /// Numbers of bytes that outputs take in one call.
-const BYTES_A_CALL: [usize; 4] = [1, 7, 4096, 8192];
+static BYTES_A_CALL: [usize; 4] = [1, 7, 4096, 8192];
 
 fn wants_memory(fault: CliFault) -> bool {
     matches!(
@@ -253,7 +253,7 @@ fn many_sevens() -> [u8; 120] {
 }
 
 /// Files and how many sevens their rows are.
-const FILES: [(&[u8], usize); 4] = [
+static FILES: [(&[u8], usize); 4] = [
     (&NO_ROWS, 0),
     (&THREE_SEVENS, 3),
     (&SIX_SEVENS, 6),
@@ -330,7 +330,7 @@ fn refused_files(rt: HostRuntime) -> Result<(), AllocError> {
 }
 
 /// Files, and what is shown of them.
-const SHOWN: [(&[u8], &str); 5] = [
+static SHOWN: [(&[u8], &str); 5] = [
     (
         &NO_ROWS,
         "schema struct<n:bigint>\nversion 0.11\nwriter 99 6\nrows 0\nstride 0\n\

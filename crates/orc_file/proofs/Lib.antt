@@ -6,7 +6,6 @@ pub mod StatLaws
 pub mod ShortScript
 pub mod ImageLaws
 pub mod TailText
-pub mod Appended
 pub mod TailLemmas
 pub mod TailCover
 pub mod EndLemmas

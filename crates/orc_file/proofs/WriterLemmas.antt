@@ -17,7 +17,7 @@ use Rattle.orc_types.specs.declared.value.Value.{Value}
 use Rattle.orc_stats.specs.declared.stat.Stat.{Stat}
 use Rattle.orc_stripe.specs.Stripe.{IsStripe}
 use Rattle.orc_stripe.specs.WrittenStripe.{AreFew}
-use Rattle.orc_file.specs.Devices.{appended}
+use Rattle.orc_devices.specs.Devices.{appended}
 use Rattle.orc_file.specs.Layout.{magic}
 use Rattle.orc_file.specs.Stripes.{stripe_length, stripe_end, stripes_length, stripes_rows, IsLaid, most_stripes, most_stripe_rows, most_rows, most_bytes}
 use Rattle.orc_file.specs.Images.{tail_text}

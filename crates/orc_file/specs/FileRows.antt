@@ -11,7 +11,7 @@ use Rattle.orc_stripe.specs.Opening.{OpenFault}
 use Rattle.orc_stripe.specs.Faults.{RowsFault}
 use Rattle.orc_stripe.specs.declared.fault.StripeFault.{StripeFault}
 use Rattle.orc_stripe.specs.declared.fault.StripeFault.TheVariants as stripe
-use Rattle.orc_file.specs.Devices.{bytes_at}
+use Rattle.orc_devices.specs.Devices.{bytes_at}
 use Rattle.orc_file.specs.Stripes.{stripe_length}
 use Rattle.orc_file.specs.Tails.{IsTail}
 use Rattle.orc_file.specs.declared.tail.Tail.{Tail}

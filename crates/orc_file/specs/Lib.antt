@@ -1,6 +1,3 @@
-pub mod Devices
-pub mod Failures
-pub mod Ranges
 pub mod Tests
 pub mod Layout
 pub mod Stripes

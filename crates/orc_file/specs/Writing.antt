@@ -12,7 +12,7 @@ use Rattle.orc_stats.specs.declared.stat.Stat.{Stat}
 use Rattle.orc_stats.specs.Joining.{joined}
 use Rattle.orc_stripe.specs.Stripe.{IsStripe}
 use Rattle.orc_stripe.specs.WrittenStripe.{IsWrittenStripe, HaveStats}
-use Rattle.orc_file.specs.Devices.{appended}
+use Rattle.orc_devices.specs.Devices.{appended}
 use Rattle.orc_file.specs.Layout.{magic}
 use Rattle.orc_file.specs.Stripes.{stripes_length, stripes_rows, most_stripes, most_rows, most_bytes}
 use Rattle.orc_file.specs.Statistics.{kind_at}

@@ -1,7 +1,7 @@
 //! The end of a file that is written.
 ghost use Rattle.std.specs.Prelude.{◌≡◌, ◌<◌, ◌≤◌, ◌^◌, ◌⊎◌, ℕ, true, take, length, IfOk, IfErr, OnOk, OnErr, IsErrOf};
 ghost use Rattle.orc_types.specs.Schemas.{IsSchema};
-ghost use Rattle.orc_file.specs.Devices.{appended};
+ghost use Rattle.orc_devices.specs.Devices.{appended};
 ghost use Rattle.orc_file.specs.Stripes.{stripes_rows};
 ghost use Rattle.orc_file.specs.Images.{tail_text};
 ghost use Rattle.orc_file.specs.Counts.{are_laid, are_all_stats};
@@ -10,9 +10,8 @@ ghost use Rattle.orc_file.specs.declared.fault.FileFault.TheVariants.{WriteFaile
 
 use crate::fault::FileFault;
 use crate::file_stats::file_statistics;
-use crate::sending::write_all;
-use crate::sink::Sink;
 use crate::tail::Tail;
+use orc_devices::{Sink, write_all};
 use orc_rle::Rle;
 use orc_stats::Stat;
 use orc_types::Schema;
@@ -81,10 +80,13 @@ pub(crate) fn end_file<W: Sink>(
     requires laid { are_laid 3 stripes.infos.items ≡ true }
     requires stats { are_all_stats schema stripes.stats.items ≡ true }
     ensures tail { IfOk result (λ tail. tail ≡ written_tail rle schema stripes.infos.items stripes.stats.items) }
-    ensures told { IfOk result (λ tail. W.told out.new ≡ appended (W.told out.old) (tail_text (written_tail rle schema stripes.infos.items stripes.stats.items))) }
+    ensures told { IfOk result (λ tail. W.told out.new ≡ appended (W.told out.old)
+        (tail_text (written_tail rle schema stripes.infos.items stripes.stats.items))) }
     ensures few { IfOk result (λ _. length (tail_text (written_tail rle schema stripes.infos.items stripes.stats.items)) < 2 ^ 63) }
     ensures schema { OnOk result (IsSchema schema) }
-    ensures cut { OnErr result ((n : ℕ) × (W.told out.new ≡ appended (W.told out.old) (take n (tail_text (written_tail rle schema stripes.infos.items stripes.stats.items))))) }
+    ensures cut { OnErr result ((n : ℕ)
+        × (W.told out.new ≡ appended (W.told out.old)
+        (take n (tail_text (written_tail rle schema stripes.infos.items stripes.stats.items))))) }
     ensures refused { IfErr result (λ e. (e ≡ WriteFailed) ⊎ (e ≡ OutOfMemory)) }
     ensures write_failed { IsErrOf result WriteFailed → W.failures out.old < W.failures out.new }
     ensures memory { IsErrOf result OutOfMemory → W.failures out.new ≡ W.failures out.old }

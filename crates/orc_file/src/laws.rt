@@ -27,6 +27,8 @@ pub fn tail_laws()
 /// one after the other are a file with that tail, if they are fewer than 2^64 together; and one byte
 /// holds the length of the postscript there.
 pub fn image_laws()
-    ensures image { (tail : Tail) (stripes : List ℕ) → IsWithinLimits tail → IsLaid 3 tail.stripes → HasBits tail → length stripes ≡ stripes_length tail.stripes → length (image stripes tail) < 2 ^ 64 → IsTail (image stripes tail) tail }
-    ensures script { (tail : Tail) → IsWithinLimits tail → HasBits tail → length (tail_text tail) < 2 ^ 64 → length (post_script_text.text (script_of tail)) < 256 }
+    ensures image { (tail : Tail) (stripes : List ℕ) → IsWithinLimits tail → IsLaid 3 tail.stripes → HasBits tail
+        → length stripes ≡ stripes_length tail.stripes → length (image stripes tail) < 2 ^ 64 → IsTail (image stripes tail) tail }
+    ensures script { (tail : Tail) → IsWithinLimits tail → HasBits tail → length (tail_text tail) < 2 ^ 64
+        → length (post_script_text.text (script_of tail)) < 256 }
 {}

@@ -15,14 +15,19 @@ ghost use Rattle.orc_file.specs.declared.fault.FileFault.{FileFault};
 /// rows of each stripe are the file's, cut by the stripes' numbers of rows.
 pub fn row_laws()
     ensures one { (bytes : List ℕ) (t u : Tail) (a b : List Cell) → FileIs bytes t a → FileIs bytes u b → (t ≡ u) × (a ≡ b) }
-    ensures none { (bytes : List ℕ) (tail : Tail) (rows : List Cell) (fault : FileFault) → FirstRefused tail.schema bytes 0 tail.stripes fault → FileIs bytes tail rows → ⊥ }
-    ensures cut { (bytes : List ℕ) (tail : Tail) (rows : List Cell) → FileIs bytes tail rows → AreOfStripes tail.schema bytes tail.stripes (cut_rows tail.stripes rows) }
-    ensures whole { (infos : List StripeInfo) (bytes : List ℕ) (s : Shape) (rows : List Cell) → HasRows s bytes infos rows → joined (cut_rows infos rows) ≡ rows }
+    ensures none { (bytes : List ℕ) (tail : Tail) (rows : List Cell) (fault : FileFault)
+        → FirstRefused tail.schema bytes 0 tail.stripes fault → FileIs bytes tail rows → ⊥ }
+    ensures cut { (bytes : List ℕ) (tail : Tail) (rows : List Cell) → FileIs bytes tail rows
+        → AreOfStripes tail.schema bytes tail.stripes (cut_rows tail.stripes rows) }
+    ensures whole { (infos : List StripeInfo) (bytes : List ℕ) (s : Shape) (rows : List Cell) → HasRows s bytes infos rows
+        → joined (cut_rows infos rows) ≡ rows }
 {}
 
 /// A column's statistic of the whole file is that of its cells in all rows, where each stripe's sum stands;
 /// else it is that statistic with a sum that isn't known.
 pub fn whole_laws()
-    ensures all { (s : Shape) (parts : List (List Cell)) (column : ℕ) → each_fits s parts column ≡ true → whole_of s parts column ≡ stat (kind_at s column) (cells s column (joined parts)) }
-    ensures less { (s : Shape) (parts : List (List Cell)) (column : ℕ) → each_fits s parts column ≡ false → whole_of s parts column ≡ less_sum (stat (kind_at s column) (cells s column (joined parts))) }
+    ensures all { (s : Shape) (parts : List (List Cell)) (column : ℕ) → each_fits s parts column ≡ true
+        → whole_of s parts column ≡ stat (kind_at s column) (cells s column (joined parts)) }
+    ensures less { (s : Shape) (parts : List (List Cell)) (column : ℕ) → each_fits s parts column ≡ false
+        → whole_of s parts column ≡ less_sum (stat (kind_at s column) (cells s column (joined parts))) }
 {}

@@ -4,7 +4,7 @@ ghost use Rattle.orc_rle.specs.declared.sign.Rle.{Rle};
 ghost use Rattle.orc_types.specs.Cells.{Cell};
 ghost use Rattle.orc_types.specs.Shapes.{Shape};
 ghost use Rattle.orc_types.specs.Schemas.{IsSchema};
-ghost use Rattle.orc_file.specs.Devices.{appended};
+ghost use Rattle.orc_devices.specs.Devices.{appended};
 ghost use Rattle.orc_file.specs.Tails.{IsTail};
 ghost use Rattle.orc_file.specs.FileRows.{FileIs};
 ghost use Rattle.orc_file.specs.Honest.{Honest, HasWholeStats};
@@ -17,7 +17,8 @@ ghost use Rattle.orc_file.specs.declared.tail.Tail.{Tail};
 /// file is written: the version of the run lengths, the rows of a stripe and the schema determine its bytes.
 pub fn written_laws()
     ensures read { (rle : Rle) (n : ℕ) (s : Shape) (tail : Tail) (first told : Option (List ℕ)) (rows : List Cell)
-        → IsWhole rle n s tail first told rows → (bytes : List ℕ) × (told ≡ appended first bytes) × IsWrittenFile rle n s tail bytes rows × FileIs bytes tail rows }
+        → IsWhole rle n s tail first told rows → (bytes : List ℕ) × (told ≡ appended first bytes) × IsWrittenFile rle n s tail bytes rows
+        × FileIs bytes tail rows }
     ensures tail { (rle : Rle) (n : ℕ) (s : Shape) (tail : Tail) (bytes : List ℕ) (rows : List Cell)
         → IsSchema s → IsWrittenFile rle n s tail bytes rows → length bytes < 2 ^ 64 → IsTail bytes tail }
     ensures rows { (rle : Rle) (n : ℕ) (s : Shape) (tail : Tail) (bytes : List ℕ) (rows : List Cell)

@@ -11,7 +11,7 @@ ghost use Rattle.orc_file.specs.declared.fault.FileFault.TheVariants.{Stripe, So
 
 use crate::fault::FileFault;
 use crate::file::OrcFile;
-use crate::source::Source;
+use orc_devices::Source;
 use orc_stripe::{StripeFault, StripeView};
 use orc_wire::StripeInfo;
 use std::alloc::Global;
@@ -74,9 +74,13 @@ impl<S: Source> OrcFile<S> {
     ) -> Result<StripeView<'a>, FileFault>
         requires { number < length self.now.tail.stripes }
         ensures found { IfOk result (λ view. HasFooter self.now.tail.schema (stripe_at self.now.tail.stripes number) bytes.now view.footer) }
-        ensures same { IfOk result (λ view. (view.schema ≡ self.now.tail.schema) × (view.info ≡ stripe_at self.now.tail.stripes number) × (view.stride ≡ self.now.tail.stride) × (view.bytes ≡ bytes.now)) }
-        ensures only { (footer : StripeFooter) → HasFooter self.now.tail.schema (stripe_at self.now.tail.stripes number) bytes.now footer → MatchResult result (λ view. view.footer ≡ footer) (λ fault. fault ≡ OutOfMemory) }
-        ensures fault { IfErr result (λ fault. (fault ≡ OutOfMemory) ⊎ ((why : StripeFault) × (fault ≡ Stripe number why) × (why ≢ stripe.OutOfMemory) × OpenFault self.now.tail.schema (stripe_at self.now.tail.stripes number) bytes.now why)) }
+        ensures same { IfOk result (λ view. (view.schema ≡ self.now.tail.schema) × (view.info ≡ stripe_at self.now.tail.stripes number)
+            × (view.stride ≡ self.now.tail.stride) × (view.bytes ≡ bytes.now)) }
+        ensures only { (footer : StripeFooter) → HasFooter self.now.tail.schema (stripe_at self.now.tail.stripes number) bytes.now footer
+            → MatchResult result (λ view. view.footer ≡ footer) (λ fault. fault ≡ OutOfMemory) }
+        ensures fault { IfErr result (λ fault. (fault ≡ OutOfMemory)
+            ⊎ ((why : StripeFault) × (fault ≡ Stripe number why) × (why ≢ stripe.OutOfMemory)
+            × OpenFault self.now.tail.schema (stripe_at self.now.tail.stripes number) bytes.now why)) }
     {
         let stripe = self.tail.stripes.as_slice()[number];
         match StripeView::open(alloc, &self.tail.schema, stripe, self.tail.stride, bytes) {

@@ -1,7 +1,7 @@
 //! Reading a file's tail: at most five ranges, in this order, and none that is empty: the first 3 bytes,
 //! the last byte, the postscript, the footer, the metadata. A test that fails ends the reading.
 ghost use Rattle.std.specs.Prelude.{◌≡◌, ◌+◌, ◌<◌, ◌≤◌, ◌⊎◌, length, OnOk, IfOk, IfErr, IfSome, IsErrOf};
-ghost use Rattle.orc_file.specs.Devices.{bytes_at};
+ghost use Rattle.orc_devices.specs.Devices.{bytes_at};
 ghost use Rattle.std.specs.Bool.{OnTrue, OnFalse};
 ghost use Rattle.orc_file.specs.Layout.{magic, script_place};
 ghost use Rattle.orc_file.specs.Stripes.{AllBefore};
@@ -14,10 +14,8 @@ use crate::footer::footer_in;
 use crate::limits::limits_of;
 use crate::metadata::metadata_in;
 use crate::postscript::script_in;
-use crate::range_fault::RangeFault;
-use crate::ranges::read_range;
-use crate::source::Source;
 use crate::tail::Tail;
+use orc_devices::{RangeFault, Source, read_range};
 use orc_wire::PostScript;
 use std::alloc::Global;
 

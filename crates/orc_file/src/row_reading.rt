@@ -13,7 +13,7 @@ ghost use Rattle.orc_file.specs.declared.fault.FileFault.TheVariants.{Stripe, So
 use crate::fault::FileFault;
 use crate::file::OrcFile;
 use crate::loading::stripe_fault;
-use crate::source::Source;
+use orc_devices::Source;
 use orc_types::{Row, owned};
 use std::alloc::{AllocError, Global};
 
@@ -43,7 +43,9 @@ impl<S: Source> OrcFile<S> {
     ) -> Result<Vec<Row<'a>>, FileFault>
         requires { number < length self.now.tail.stripes }
         ensures found { IfOk result (λ rows. IsStripe self.now.tail.schema (stripe_at self.now.tail.stripes number) bytes.now (views rows.items)) }
-        ensures fault { IfErr result (λ fault. (fault ≡ OutOfMemory) ⊎ ((why : StripeFault) × (fault ≡ Stripe number why) × (why ≢ stripe.OutOfMemory) × IsNoStripe self.now.tail.schema (stripe_at self.now.tail.stripes number) bytes.now why)) }
+        ensures fault { IfErr result (λ fault. (fault ≡ OutOfMemory)
+            ⊎ ((why : StripeFault) × (fault ≡ Stripe number why) × (why ≢ stripe.OutOfMemory)
+            × IsNoStripe self.now.tail.schema (stripe_at self.now.tail.stripes number) bytes.now why)) }
     {
         let view = self.view(alloc, number, bytes)?;
         match view.rows(alloc) {
@@ -61,12 +63,15 @@ impl<S: Source> OrcFile<S> {
         rows: &mut Vec<Row<'static>>,
     ) -> Result<(), FileFault>
         requires { number < length self.old.tail.stripes }
-        ensures found { OnOk result (IfSome (S.told self.old.source) (λ all. HasMore self.old.tail.schema (stripe_at self.old.tail.stripes number) all (views rows.old.items) (views rows.new.items))) }
+        ensures found { OnOk result (IfSome (S.told self.old.source)
+            (λ all. HasMore self.old.tail.schema (stripe_at self.old.tail.stripes number) all (views rows.old.items)
+            (views rows.new.items))) }
         ensures tail { self.new.tail ≡ self.old.tail }
         ensures told { S.told self.new.source ≡ S.told self.old.source }
         ensures size { S.size self.new.source ≡ S.size self.old.source }
 
-        ensures fault { IfErr result (λ fault. ReadFault (S.told self.old.source) fault (λ all. StripeRefused self.old.tail.schema all number (stripe_at self.old.tail.stripes number) fault)) }
+        ensures fault { IfErr result (λ fault. ReadFault (S.told self.old.source) fault
+            (λ all. StripeRefused self.old.tail.schema all number (stripe_at self.old.tail.stripes number) fault)) }
         ensures kept { OnOk result (S.failures self.new.source ≡ S.failures self.old.source) }
         ensures failed { IsErrOf result SourceFailed → S.failures self.old.source < S.failures self.new.source }
         ensures memory { IsErrOf result OutOfMemory → S.failures self.new.source ≡ S.failures self.old.source }
@@ -83,13 +88,16 @@ impl<S: Source> OrcFile<S> {
     /// Refusals: `Stripe` with the number of the first stripe that has no rows, and why; `SourceFailed`
     /// where the source failed; `OutOfMemory`. But for the last two the bytes are no file of any rows.
     pub fn rows(&mut self, alloc: Global) -> Result<Vec<Row<'static>>, FileFault>
-        ensures found { IfOk result (λ rows. IfSome (S.told self.old.source) (λ bytes. IsTail bytes self.old.tail → FileIs bytes self.old.tail (views rows.items))) }
-        ensures only { IfSome (S.told self.old.source) (λ bytes. (rows : List Cell) → FileIs bytes self.old.tail rows → MatchResult result (λ answered. views answered.items ≡ rows) (λ fault. (fault ≡ OutOfMemory) ⊎ (fault ≡ SourceFailed))) }
+        ensures found { IfOk result (λ rows. IfSome (S.told self.old.source) (λ bytes. IsTail bytes self.old.tail
+            → FileIs bytes self.old.tail (views rows.items))) }
+        ensures only { IfSome (S.told self.old.source) (λ bytes. (rows : List Cell) → FileIs bytes self.old.tail rows
+            → MatchResult result (λ answered. views answered.items ≡ rows) (λ fault. (fault ≡ OutOfMemory) ⊎ (fault ≡ SourceFailed))) }
         ensures tail { self.new.tail ≡ self.old.tail }
         ensures told { S.told self.new.source ≡ S.told self.old.source }
         ensures size { S.size self.new.source ≡ S.size self.old.source }
 
-        ensures fault { IfErr result (λ fault. ReadFault (S.told self.old.source) fault (λ bytes. FirstRefused self.old.tail.schema bytes 0 self.old.tail.stripes fault)) }
+        ensures fault { IfErr result (λ fault. ReadFault (S.told self.old.source) fault
+            (λ bytes. FirstRefused self.old.tail.schema bytes 0 self.old.tail.stripes fault)) }
         ensures kept { OnOk result (S.failures self.new.source ≡ S.failures self.old.source) }
         ensures failed { IsErrOf result SourceFailed → S.failures self.old.source < S.failures self.new.source }
         ensures memory { IsErrOf result OutOfMemory → S.failures self.new.source ≡ S.failures self.old.source }

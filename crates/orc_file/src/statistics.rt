@@ -64,7 +64,8 @@ pub(crate) fn stripe_stats_in(
     requires few { have_few (width schema.now) messages.now ≡ true }
     ensures found { IfOk result (λ stats. stats ≡ stripe_stats_read schema.now messages.now) }
     ensures limits { IfOk result (λ stats. list_all (list_all in_limits) (stripe_stats_read schema.now messages.now) ≡ true) }
-    ensures fault { IfErr result (λ fault. (fault ≡ OutOfMemory) ⊎ ((fault ≡ Limit) × (list_all (list_all in_limits) (stripe_stats_read schema.now messages.now) ≡ false))) }
+    ensures fault { IfErr result (λ fault. (fault ≡ OutOfMemory)
+        ⊎ ((fault ≡ Limit) × (list_all (list_all in_limits) (stripe_stats_read schema.now messages.now) ≡ false))) }
 {
     let mut stats = Vec::with_capacity(alloc, messages.len())?;
     for message in messages {

@@ -9,7 +9,7 @@ ghost use Rattle.orc_types.specs.Fits as fitting;
 ghost use Rattle.orc_types.specs.Views.{view, views};
 ghost use Rattle.orc_stripe.specs.Stripe.{IsStripe};
 ghost use Rattle.orc_stripe.specs.WrittenStripe.{IsWrittenStripe, HaveStats};
-ghost use Rattle.orc_file.specs.Devices.{appended};
+ghost use Rattle.orc_devices.specs.Devices.{appended};
 ghost use Rattle.orc_file.specs.Stripes.{stripe_length, stripes_length, stripes_rows, most_stripes, most_rows, most_bytes};
 ghost use Rattle.orc_file.specs.Counts.{are_laid, are_few, are_all_stats, with_row, PassesLimit};
 ghost use Rattle.orc_file.specs.Writing.{HasKept, HasPushed, HasFilled, IsCutOff, IsWhole, PassesBytes};
@@ -18,9 +18,8 @@ ghost use Rattle.orc_file.specs.declared.fault.FileFault.TheVariants as fault;
 use crate::counting::{count_row, no_cells, reset};
 use crate::fault::FileFault;
 use crate::file_end::{Stripes, end_file};
-use crate::sending::write_all;
-use crate::sink::Sink;
 use crate::tail::Tail;
+use orc_devices::{Sink, write_all};
 use orc_stats::Stat;
 use orc_stripe::{Options, StripeOut, write_stripe};
 use orc_types::{Row, Schema, fits, owned};
@@ -87,7 +86,9 @@ impl<W: Sink> Writer<W> {
         options: Options,
         out: W,
     ) -> Result<Writer<W>, (FileFault, W)>
-        ensures pushed { 0 < options.stripe_rows → IfOk result (λ w. HasPushed options.rle options.stripe_rows schema (W.told out) (W.told w.out) w.written w.infos.items w.stats.items (views w.rows.items) []) }
+        ensures pushed { 0 < options.stripe_rows
+            → IfOk result (λ w. HasPushed options.rle options.stripe_rows schema (W.told out) (W.told w.out) w.written w.infos.items
+            w.stats.items (views w.rows.items) []) }
         ensures made { IfOk result (λ w. (w.schema ≡ schema) × (w.options ≡ options) × (w.failed ≡ false)) }
 
         ensures refused { IfErr result (λ e. (e.0 ≡ fault.WriteFailed) ⊎ (e.0 ≡ fault.OutOfMemory)) }
@@ -125,7 +126,8 @@ impl<W: Sink> Writer<W> {
     fn stripe_of(&self) -> Result<StripeOut, FileFault>
         requires open { self.now.failed ≡ false }
         ensures stripe { IfOk result (λ out. IsStripe self.now.schema out.info out.bytes.items (views self.now.rows.items)) }
-        ensures text { IfOk result (λ out. IsWrittenStripe self.now.options.rle self.now.schema (views self.now.rows.items) (record out.info { offset = 0 }) out.bytes.items) }
+        ensures text { IfOk result (λ out. IsWrittenStripe self.now.options.rle self.now.schema (views self.now.rows.items)
+            (record out.info { offset = 0 }) out.bytes.items) }
         ensures stats { IfOk result (λ out. HaveStats self.now.schema (views self.now.rows.items) (width self.now.schema) out.stats.items) }
         ensures place { IfOk result (λ out. out.info.offset ≡ self.now.written) }
         ensures few { IfOk result (λ out. stripes_length self.now.infos.items + length out.bytes.items ≤ most_bytes) }
@@ -153,21 +155,27 @@ impl<W: Sink> Writer<W> {
         requires open { self.old.failed ≡ false }
         requires begun { 0 < length self.old.rows.items }
         requires stripe { IsStripe self.old.schema stripe.info stripe.bytes.items (views self.old.rows.items) }
-        requires text { IsWrittenStripe self.old.options.rle self.old.schema (views self.old.rows.items) (record stripe.info { offset = 0 }) stripe.bytes.items }
+        requires text { IsWrittenStripe self.old.options.rle self.old.schema (views self.old.rows.items) (record stripe.info { offset = 0 })
+            stripe.bytes.items }
         requires stats { HaveStats self.old.schema (views self.old.rows.items) (width self.old.schema) stripe.stats.items }
         requires place { stripe.info.offset ≡ self.old.written }
         requires few { stripes_length self.old.infos.items + length stripe.bytes.items ≤ most_bytes }
         ensures kept { (first : Option (List ℕ)) (rows : List Cell)
             → length self.old.rows.items ≡ self.old.options.stripe_rows
-            → HasKept self.old.options.rle self.old.options.stripe_rows self.old.schema first (W.told self.old.out) self.old.written self.old.infos.items self.old.stats.items (views self.old.rows.items) rows
-            → OnOk result (HasKept self.old.options.rle self.old.options.stripe_rows self.old.schema first (W.told self.new.out) self.new.written self.new.infos.items self.new.stats.items [] rows) }
+            → HasKept self.old.options.rle self.old.options.stripe_rows self.old.schema first (W.told self.old.out) self.old.written
+            self.old.infos.items self.old.stats.items (views self.old.rows.items) rows
+            → OnOk result (HasKept self.old.options.rle self.old.options.stripe_rows self.old.schema first (W.told self.new.out)
+            self.new.written self.new.infos.items self.new.stats.items [] rows) }
         ensures last { (first : Option (List ℕ)) (rows : List Cell)
             → length self.old.rows.items ≤ self.old.options.stripe_rows
-            → HasKept self.old.options.rle self.old.options.stripe_rows self.old.schema first (W.told self.old.out) self.old.written self.old.infos.items self.old.stats.items (views self.old.rows.items) rows
-            → OnOk result (HasFilled self.old.options.rle self.old.options.stripe_rows self.old.schema first (W.told self.new.out) self.new.infos.items self.new.stats.items rows) }
+            → HasKept self.old.options.rle self.old.options.stripe_rows self.old.schema first (W.told self.old.out) self.old.written
+            self.old.infos.items self.old.stats.items (views self.old.rows.items) rows
+            → OnOk result (HasFilled self.old.options.rle self.old.options.stripe_rows self.old.schema first (W.told self.new.out)
+            self.new.infos.items self.new.stats.items rows) }
         ensures cut { (first : Option (List ℕ)) (rows : List Cell)
             → length self.old.rows.items ≤ self.old.options.stripe_rows
-            → HasKept self.old.options.rle self.old.options.stripe_rows self.old.schema first (W.told self.old.out) self.old.written self.old.infos.items self.old.stats.items (views self.old.rows.items) rows
+            → HasKept self.old.options.rle self.old.options.stripe_rows self.old.schema first (W.told self.old.out) self.old.written
+            self.old.infos.items self.old.stats.items (views self.old.rows.items) rows
             → OnErr result (IsCutOff self.old.options.rle self.old.options.stripe_rows self.old.schema first (W.told self.new.out) rows) }
         ensures empty { OnOk result (self.new.rows.items ≡ []) }
         ensures same { (self.new.schema ≡ self.old.schema) × (self.new.options ≡ self.old.options) }
@@ -204,15 +212,20 @@ impl<W: Sink> Writer<W> {
         requires begun { 0 < length self.old.rows.items }
         ensures kept { (first : Option (List ℕ)) (rows : List Cell)
             → length self.old.rows.items ≡ self.old.options.stripe_rows
-            → HasKept self.old.options.rle self.old.options.stripe_rows self.old.schema first (W.told self.old.out) self.old.written self.old.infos.items self.old.stats.items (views self.old.rows.items) rows
-            → OnOk result (HasKept self.old.options.rle self.old.options.stripe_rows self.old.schema first (W.told self.new.out) self.new.written self.new.infos.items self.new.stats.items [] rows) }
+            → HasKept self.old.options.rle self.old.options.stripe_rows self.old.schema first (W.told self.old.out) self.old.written
+            self.old.infos.items self.old.stats.items (views self.old.rows.items) rows
+            → OnOk result (HasKept self.old.options.rle self.old.options.stripe_rows self.old.schema first (W.told self.new.out)
+            self.new.written self.new.infos.items self.new.stats.items [] rows) }
         ensures last { (first : Option (List ℕ)) (rows : List Cell)
             → length self.old.rows.items ≤ self.old.options.stripe_rows
-            → HasKept self.old.options.rle self.old.options.stripe_rows self.old.schema first (W.told self.old.out) self.old.written self.old.infos.items self.old.stats.items (views self.old.rows.items) rows
-            → OnOk result (HasFilled self.old.options.rle self.old.options.stripe_rows self.old.schema first (W.told self.new.out) self.new.infos.items self.new.stats.items rows) }
+            → HasKept self.old.options.rle self.old.options.stripe_rows self.old.schema first (W.told self.old.out) self.old.written
+            self.old.infos.items self.old.stats.items (views self.old.rows.items) rows
+            → OnOk result (HasFilled self.old.options.rle self.old.options.stripe_rows self.old.schema first (W.told self.new.out)
+            self.new.infos.items self.new.stats.items rows) }
         ensures cut { (first : Option (List ℕ)) (rows : List Cell)
             → length self.old.rows.items ≤ self.old.options.stripe_rows
-            → HasKept self.old.options.rle self.old.options.stripe_rows self.old.schema first (W.told self.old.out) self.old.written self.old.infos.items self.old.stats.items (views self.old.rows.items) rows
+            → HasKept self.old.options.rle self.old.options.stripe_rows self.old.schema first (W.told self.old.out) self.old.written
+            self.old.infos.items self.old.stats.items (views self.old.rows.items) rows
             → OnErr result (IsCutOff self.old.options.rle self.old.options.stripe_rows self.old.schema first (W.told self.new.out) rows) }
         ensures empty { OnOk result (self.new.rows.items ≡ []) }
         ensures same { (self.new.schema ≡ self.old.schema) × (self.new.options ≡ self.old.options) }
@@ -242,10 +255,14 @@ impl<W: Sink> Writer<W> {
         ensures few { OnOk result (are_few self.new.sums.items ≡ true) }
         ensures failed { IsErrOf result fault.Failed ↔ (self.old.failed ≡ true) }
         ensures shape { self.old.failed ≡ false → (IsErrOf result fault.RowShape ↔ (fitting.fits (view row.now) self.old.schema ≡ false)) }
-        ensures limit { self.old.failed ≡ false → fitting.fits (view row.now) self.old.schema ≡ true → (IsErrOf result fault.Limit ↔ PassesLimit self.old.schema self.old.infos.items self.old.total self.old.counts.items (view row.now)) }
+        ensures limit { self.old.failed ≡ false → fitting.fits (view row.now) self.old.schema ≡ true
+            → (IsErrOf result fault.Limit ↔ PassesLimit self.old.schema self.old.infos.items self.old.total self.old.counts.items
+            (view row.now)) }
         ensures refused { IfErr result (λ e. (e ≡ fault.Failed) ⊎ ((e ≡ fault.RowShape) ⊎ (e ≡ fault.Limit))) }
         ensures same { (self.new.schema ≡ self.old.schema) × (self.new.options ≡ self.old.options) }
-        ensures stays { (self.new.out ≡ self.old.out) × (self.new.written ≡ self.old.written) × (self.new.infos ≡ self.old.infos) × (self.new.stats ≡ self.old.stats) × (self.new.rows ≡ self.old.rows) × (self.new.counts ≡ self.old.counts) × (self.new.total ≡ self.old.total) × (self.new.failed ≡ self.old.failed) }
+        ensures stays { (self.new.out ≡ self.old.out) × (self.new.written ≡ self.old.written) × (self.new.infos ≡ self.old.infos)
+            × (self.new.stats ≡ self.old.stats) × (self.new.rows ≡ self.old.rows) × (self.new.counts ≡ self.old.counts)
+            × (self.new.total ≡ self.old.total) × (self.new.failed ≡ self.old.failed) }
     {
         if self.failed {
             return Err(FileFault::Failed);
@@ -271,7 +288,8 @@ impl<W: Sink> Writer<W> {
         requires counts { self.old.sums.items ≡ with_row self.old.schema 0 (view row.now) self.old.counts.items }
         requires few { are_few self.old.sums.items ≡ true }
         ensures kept { OnOk result (views self.new.rows.items ≡ views self.old.rows.items ++ view row.now ∷ []) }
-        ensures stands { (self.new.out ≡ self.old.out) × (self.new.written ≡ self.old.written) × (self.new.infos ≡ self.old.infos) × (self.new.stats ≡ self.old.stats) }
+        ensures stands { (self.new.out ≡ self.old.out) × (self.new.written ≡ self.old.written) × (self.new.infos ≡ self.old.infos)
+            × (self.new.stats ≡ self.old.stats) }
         ensures ok { OnOk result (self.new.failed ≡ false) }
         ensures failed { OnErr result (self.new.failed ≡ true) }
         ensures refused { IfErr result (λ e. e ≡ fault.OutOfMemory) }
@@ -299,27 +317,39 @@ impl<W: Sink> Writer<W> {
     /// of the rows pushed, this one among them.
     pub fn push(&mut self, row: &Row<'_>) -> Result<(), FileFault>
         ensures pushed { (first : Option (List ℕ)) (rows : List Cell)
-            → HasPushed self.old.options.rle self.old.options.stripe_rows self.old.schema first (W.told self.old.out) self.old.written self.old.infos.items self.old.stats.items (views self.old.rows.items) rows
-            → OnOk result (HasPushed self.old.options.rle self.old.options.stripe_rows self.old.schema first (W.told self.new.out) self.new.written self.new.infos.items self.new.stats.items (views self.new.rows.items) (rows ++ view row.now ∷ [])) }
+            → HasPushed self.old.options.rle self.old.options.stripe_rows self.old.schema first (W.told self.old.out) self.old.written
+            self.old.infos.items self.old.stats.items (views self.old.rows.items) rows
+            → OnOk result (HasPushed self.old.options.rle self.old.options.stripe_rows self.old.schema first (W.told self.new.out)
+            self.new.written self.new.infos.items self.new.stats.items (views self.new.rows.items) (rows ++ view row.now ∷ [])) }
         ensures same { (self.new.schema ≡ self.old.schema) × (self.new.options ≡ self.old.options) }
 
         ensures failed { IsErrOf result fault.Failed ↔ (self.old.failed ≡ true) }
         ensures shape { self.old.failed ≡ false → (IsErrOf result fault.RowShape ↔ (fitting.fits (view row.now) self.old.schema ≡ false)) }
         ensures limit { self.old.failed ≡ false → fitting.fits (view row.now) self.old.schema ≡ true
-            → (PassesLimit self.old.schema self.old.infos.items self.old.total self.old.counts.items (view row.now) → IsErrOf result fault.Limit × (self.new.failed ≡ false)) }
-        ensures only_limit { IsErrOf result fault.Limit → self.new.failed ≡ false → PassesLimit self.old.schema self.old.infos.items self.old.total self.old.counts.items (view row.now) }
-        ensures long { IsErrOf result fault.Limit → self.new.failed ≡ true → PassesBytes self.old.options.rle self.old.schema self.old.infos.items (views self.old.rows.items ++ view row.now ∷ []) }
-        ensures refused { IfErr result (λ e. (e ≡ fault.Failed) ⊎ ((e ≡ fault.RowShape) ⊎ ((e ≡ fault.Limit) ⊎ ((e ≡ fault.WriteFailed) ⊎ (e ≡ fault.OutOfMemory))))) }
+            → (PassesLimit self.old.schema self.old.infos.items self.old.total self.old.counts.items (view row.now)
+            → IsErrOf result fault.Limit × (self.new.failed ≡ false)) }
+        ensures only_limit { IsErrOf result fault.Limit → self.new.failed ≡ false
+            → PassesLimit self.old.schema self.old.infos.items self.old.total self.old.counts.items (view row.now) }
+        ensures long { IsErrOf result fault.Limit → self.new.failed ≡ true
+            → PassesBytes self.old.options.rle self.old.schema self.old.infos.items (views self.old.rows.items ++ view row.now ∷ []) }
+        ensures refused { IfErr result (λ e. (e ≡ fault.Failed)
+            ⊎ ((e ≡ fault.RowShape) ⊎ ((e ≡ fault.Limit) ⊎ ((e ≡ fault.WriteFailed) ⊎ (e ≡ fault.OutOfMemory))))) }
         ensures shape_stays { IsErrOf result fault.RowShape → self.new.failed ≡ false }
-        ensures unchanged { OnErr result (self.new.failed ≡ self.old.failed → (self.new.out ≡ self.old.out) × (self.new.written ≡ self.old.written) × (self.new.infos ≡ self.old.infos) × (self.new.stats ≡ self.old.stats) × (self.new.rows ≡ self.old.rows) × (self.new.counts ≡ self.old.counts) × (self.new.total ≡ self.old.total) × (self.new.failed ≡ self.old.failed)) }
+        ensures unchanged { OnErr result (self.new.failed ≡ self.old.failed → (self.new.out ≡ self.old.out)
+            × (self.new.written ≡ self.old.written) × (self.new.infos ≡ self.old.infos) × (self.new.stats ≡ self.old.stats)
+            × (self.new.rows ≡ self.old.rows) × (self.new.counts ≡ self.old.counts) × (self.new.total ≡ self.old.total)
+            × (self.new.failed ≡ self.old.failed)) }
         ensures write_fails { IsErrOf result fault.WriteFailed → self.new.failed ≡ true }
         ensures memory_fails { IsErrOf result fault.OutOfMemory → self.new.failed ≡ true }
         ensures stays_failed { self.old.failed ≡ true → self.new.failed ≡ true }
         ensures ok { OnOk result (self.new.failed ≡ false) }
 
         ensures cut { (first : Option (List ℕ)) (rows : List Cell)
-            → HasPushed self.old.options.rle self.old.options.stripe_rows self.old.schema first (W.told self.old.out) self.old.written self.old.infos.items self.old.stats.items (views self.old.rows.items) rows
-            → self.old.failed ≡ false → self.new.failed ≡ true → IsCutOff self.old.options.rle self.old.options.stripe_rows self.old.schema first (W.told self.new.out) (rows ++ view row.now ∷ []) }
+            → HasPushed self.old.options.rle self.old.options.stripe_rows self.old.schema first (W.told self.old.out) self.old.written
+            self.old.infos.items self.old.stats.items (views self.old.rows.items) rows
+            → self.old.failed ≡ false → self.new.failed ≡ true
+            → IsCutOff self.old.options.rle self.old.options.stripe_rows self.old.schema first (W.told self.new.out)
+            (rows ++ view row.now ∷ []) }
         ensures write_failed { IsErrOf result fault.WriteFailed → W.failures self.old.out < W.failures self.new.out }
         ensures no_failure { OnOk result (W.failures self.new.out ≡ W.failures self.old.out) }
     {
@@ -349,10 +379,13 @@ impl<W: Sink> Writer<W> {
     fn close_rest(&mut self) -> Result<(), FileFault>
         requires open { self.old.failed ≡ false }
         ensures last { (first : Option (List ℕ)) (rows : List Cell)
-            → HasPushed self.old.options.rle self.old.options.stripe_rows self.old.schema first (W.told self.old.out) self.old.written self.old.infos.items self.old.stats.items (views self.old.rows.items) rows
-            → OnOk result (HasFilled self.old.options.rle self.old.options.stripe_rows self.old.schema first (W.told self.new.out) self.new.infos.items self.new.stats.items rows) }
+            → HasPushed self.old.options.rle self.old.options.stripe_rows self.old.schema first (W.told self.old.out) self.old.written
+            self.old.infos.items self.old.stats.items (views self.old.rows.items) rows
+            → OnOk result (HasFilled self.old.options.rle self.old.options.stripe_rows self.old.schema first (W.told self.new.out)
+            self.new.infos.items self.new.stats.items rows) }
         ensures cut { (first : Option (List ℕ)) (rows : List Cell)
-            → HasPushed self.old.options.rle self.old.options.stripe_rows self.old.schema first (W.told self.old.out) self.old.written self.old.infos.items self.old.stats.items (views self.old.rows.items) rows
+            → HasPushed self.old.options.rle self.old.options.stripe_rows self.old.schema first (W.told self.old.out) self.old.written
+            self.old.infos.items self.old.stats.items (views self.old.rows.items) rows
             → OnErr result (IsCutOff self.old.options.rle self.old.options.stripe_rows self.old.schema first (W.told self.new.out) rows) }
         ensures empty { OnOk result (self.new.rows.items ≡ []) }
         ensures ok { OnOk result (self.new.failed ≡ false) }
@@ -376,7 +409,8 @@ impl<W: Sink> Writer<W> {
     /// file's stripes would have too many bytes.
     pub fn finish(self) -> Result<(Tail, W), (FileFault, W)>
         ensures whole { (first : Option (List ℕ)) (rows : List Cell)
-            → HasPushed self.options.rle self.options.stripe_rows self.schema first (W.told self.out) self.written self.infos.items self.stats.items (views self.rows.items) rows
+            → HasPushed self.options.rle self.options.stripe_rows self.schema first (W.told self.out) self.written self.infos.items
+            self.stats.items (views self.rows.items) rows
             → IfOk result (λ done. IsWhole self.options.rle self.options.stripe_rows self.schema done.0 first (W.told done.1) rows) }
 
         ensures failed { IfErr result (λ e. e.0 ≡ fault.Failed → self.failed ≡ true) }
@@ -385,7 +419,8 @@ impl<W: Sink> Writer<W> {
         ensures begun { IfErr result (λ e. e.0 ≡ fault.Limit → 0 < length self.rows.items) }
         ensures refused { IfErr result (λ e. (e.0 ≡ fault.Failed) ⊎ ((e.0 ≡ fault.Limit) ⊎ ((e.0 ≡ fault.WriteFailed) ⊎ (e.0 ≡ fault.OutOfMemory)))) }
         ensures cut { (first : Option (List ℕ)) (rows : List Cell)
-            → HasPushed self.options.rle self.options.stripe_rows self.schema first (W.told self.out) self.written self.infos.items self.stats.items (views self.rows.items) rows
+            → HasPushed self.options.rle self.options.stripe_rows self.schema first (W.told self.out) self.written self.infos.items
+            self.stats.items (views self.rows.items) rows
             → self.failed ≡ false
             → IfErr result (λ e. IsCutOff self.options.rle self.options.stripe_rows self.schema first (W.told e.1) rows) }
         ensures write_failed { IfErr result (λ e. e.0 ≡ fault.WriteFailed → W.failures self.out < W.failures e.1) }

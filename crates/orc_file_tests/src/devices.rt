@@ -100,7 +100,7 @@ fn bytes_are_gathered(rt: HostRuntime) {
 }
 
 /// Bytes that a sink takes a call.
-const A_CALL: [usize; 4] = [1, 2, 7, 100];
+static A_CALL: [usize; 4] = [1, 2, 7, 100];
 
 /// What `write_all` of `BYTES` answers where so many are taken in all.
 fn answer_at(room: usize) -> Result<(), usize> {

@@ -9,7 +9,7 @@ use std::alloc::{AllocError, Global};
 use std::process::Abort;
 
 /// A file with stripes of three sevens, three eights and three nines.
-const UPWARDS: [u8; 226] = [
+static UPWARDS: [u8; 226] = [
     0x4f, 0x52, 0x43, 0x00, 0x00, 0x0e, 0x0a, 0x06, 0x08, 0x01, 0x10, 0x01, 0x18, 0x03, 0x12, 0x02,
     0x08, 0x00, 0x12, 0x02, 0x08, 0x00, 0x00, 0x00, 0x10, 0x0a, 0x06, 0x08, 0x01, 0x10, 0x01, 0x18,
     0x03, 0x12, 0x02, 0x08, 0x00, 0x12, 0x02, 0x08, 0x00, 0x00, 0x00, 0x12, 0x0a, 0x06, 0x08, 0x01,
@@ -164,7 +164,7 @@ fn the_first_bad_stripe_is_named(rt: HostRuntime) -> Result<(), FileFault> {
 }
 
 /// Which read fails: the stripes are read behind the five ranges of the tail.
-const FAILING: [u64; 3] = [6, 7, 8];
+static FAILING: [u64; 3] = [6, 7, 8];
 
 /// Why the rows aren't read where that read fails, and whether they are read when they are asked for again.
 fn read_twice(alloc: Global, read: u64) -> Result<(FileFault, bool), FileFault> {

@@ -16,7 +16,7 @@ use std::alloc::Global;
 use std::process::Abort;
 
 /// The tail of bytes once there is memory for it: what wanted some is asked again.
-pub fn opened(alloc: Global, bytes: &[u8]) -> Result<Tail, FileFault>
+pub(crate) fn opened(alloc: Global, bytes: &[u8]) -> Result<Tail, FileFault>
     ensures limits { IfOk result (λ tail. IsWithinLimits tail) }
 {
     match OrcFile::open(alloc, SliceSource::new(bytes)) {

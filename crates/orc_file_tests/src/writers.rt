@@ -98,7 +98,7 @@ fn files_to_the_byte(rt: HostRuntime) -> Result<(), FileFault> {
 }
 
 /// Rows a stripe, rows, and how many rows the stripes have then.
-const STRIPES: [(u32, usize, &[u64]); 6] = [
+static STRIPES: [(u32, usize, &[u64]); 6] = [
     (1, 3, &[1, 1, 1]),
     (2, 3, &[2, 1]),
     (2, 4, &[2, 2]),

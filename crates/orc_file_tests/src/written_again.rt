@@ -10,7 +10,7 @@ use std::process::Abort;
 /// The text of a schema, and the lines of rows.
 type Case = (&'static str, &'static [&'static str]);
 
-const CASES: [Case; 11] = [
+static CASES: [Case; 11] = [
     (
         "struct<n:bigint>",
         &[r#"{"n":7}"#, r#"{"n":7}"#, r#"{"n":7}"#],
@@ -202,7 +202,7 @@ fn rows_are_read_again(rt: HostRuntime) {
 }
 
 /// The texts of a schema and of another one, and a row of the other that isn't one of the first.
-const MISFITS: [(&'static str, &'static str, &'static str); 7] = [
+static MISFITS: [(&'static str, &'static str, &'static str); 7] = [
     ("struct<n:tinyint>", "struct<n:int>", r#"{"n":128}"#),
     ("struct<n:int>", "struct<n:bigint>", r#"{"n":2147483648}"#),
     ("struct<n:int>", "struct<n:string>", r#"{"n":"1"}"#),

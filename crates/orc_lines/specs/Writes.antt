@@ -13,7 +13,7 @@ use Rattle.orc_types.specs.JsonFaults.{FaultAt, Somewhere}
 use Rattle.orc_types.specs.declared.fault.TypeFault.{TypeFault}
 use Rattle.orc_types.specs.declared.json_fault.JsonFault.{JsonFault}
 use Rattle.orc_types.specs.declared.json_fault.JsonFault.TheVariants as json
-use Rattle.orc_file.specs.Devices.{appended}
+use Rattle.orc_devices.specs.Devices.{appended}
 use Rattle.orc_file.specs.Layout.{magic}
 use Rattle.orc_file.specs.Stripes.{most_stripes, most_rows}
 use Rattle.orc_file.specs.Writing.{Closed, AreClosed, AreFull, bytes_of, rows_of, infos_of, PassesBytes, IsCutOff}

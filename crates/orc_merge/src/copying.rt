@@ -1,6 +1,6 @@
 //! Bytes go out: pieces of the inputs through one array, and what stands before and behind them.
 ghost use Rattle.std.specs.Prelude.{◌≡◌, ◌+◌, ◌<◌, ◌≤◌, ◌++◌, ℕ, List, Some, length, map, slice_index, IfErr, OnOk, IsErrOf, All};
-ghost use Rattle.orc_file.specs.Devices.{appended};
+ghost use Rattle.orc_devices.specs.Devices.{appended};
 ghost use Rattle.orc_file.specs.Layout.{magic};
 ghost use Rattle.orc_merge.specs.Copies.{Copied, CopiedSome, WroteSome, pieces_bytes};
 
@@ -68,10 +68,13 @@ fn copy_pieces<S: Source, W: Sink>(
     requires inputs { All (λ p. p.input < length inputs.old) pieces.now }
     requires sizes { All (λ p. p.offset + p.len ≤ slice_index (map S.size inputs.old) p.input) pieces.now }
     ensures told { map S.told inputs.new ≡ map S.told inputs.old }
-    ensures all { OnOk result ((files : List (List ℕ)) → map S.told inputs.old ≡ map Some files → W.told out.new ≡ appended (W.told out.old) (pieces_bytes files pieces.now)) }
-    ensures some { (files : List (List ℕ)) → map S.told inputs.old ≡ map Some files → WroteSome (W.told out.old) (W.told out.new) (pieces_bytes files pieces.now) }
+    ensures all { OnOk result ((files : List (List ℕ)) → map S.told inputs.old ≡ map Some files
+        → W.told out.new ≡ appended (W.told out.old) (pieces_bytes files pieces.now)) }
+    ensures some { (files : List (List ℕ)) → map S.told inputs.old ≡ map Some files
+        → WroteSome (W.told out.old) (W.told out.new) (pieces_bytes files pieces.now) }
     ensures kept { OnOk result ((map S.failures inputs.new ≡ map S.failures inputs.old) × (W.failures out.new ≡ W.failures out.old)) }
-    ensures source_failed { IfErr result (λ e. e.1 ≡ CopyFault.SourceFailed → slice_index (map S.failures inputs.old) e.0 < slice_index (map S.failures inputs.new) e.0) }
+    ensures source_failed { IfErr result (λ e. e.1 ≡ CopyFault.SourceFailed
+        → slice_index (map S.failures inputs.old) e.0 < slice_index (map S.failures inputs.new) e.0) }
     ensures write_failed { IfErr result (λ e. e.1 ≡ CopyFault.WriteFailed → W.failures out.old < W.failures out.new) }
 {
     for piece in pieces {
@@ -94,10 +97,13 @@ pub(crate) fn write_merged<S: Source, W: Sink>(
     requires inputs { All (λ p. p.input < length inputs.old) pieces.now }
     requires sizes { All (λ p. p.offset + p.len ≤ slice_index (map S.size inputs.old) p.input) pieces.now }
     ensures told { map S.told inputs.new ≡ map S.told inputs.old }
-    ensures all { OnOk result ((files : List (List ℕ)) → map S.told inputs.old ≡ map Some files → W.told out.new ≡ appended (W.told out.old) (magic ++ (pieces_bytes files pieces.now ++ text.now))) }
-    ensures some { (files : List (List ℕ)) → map S.told inputs.old ≡ map Some files → WroteSome (W.told out.old) (W.told out.new) (magic ++ (pieces_bytes files pieces.now ++ text.now)) }
+    ensures all { OnOk result ((files : List (List ℕ)) → map S.told inputs.old ≡ map Some files
+        → W.told out.new ≡ appended (W.told out.old) (magic ++ (pieces_bytes files pieces.now ++ text.now))) }
+    ensures some { (files : List (List ℕ)) → map S.told inputs.old ≡ map Some files
+        → WroteSome (W.told out.old) (W.told out.new) (magic ++ (pieces_bytes files pieces.now ++ text.now)) }
     ensures kept { OnOk result ((map S.failures inputs.new ≡ map S.failures inputs.old) × (W.failures out.new ≡ W.failures out.old)) }
-    ensures source_failed { IfErr result (λ e. e.1 ≡ CopyFault.SourceFailed → slice_index (map S.failures inputs.old) e.0 < slice_index (map S.failures inputs.new) e.0) }
+    ensures source_failed { IfErr result (λ e. e.1 ≡ CopyFault.SourceFailed
+        → slice_index (map S.failures inputs.old) e.0 < slice_index (map S.failures inputs.new) e.0) }
     ensures write_failed { IfErr result (λ e. e.1 ≡ CopyFault.WriteFailed → W.failures out.old < W.failures out.new) }
 {
     match write_all(out, b"ORC") {

@@ -143,10 +143,15 @@ impl Gathered {
         ensures end { OnOk result (self.new.end ≡ self.old.end + stripes_length stripes.now) }
         ensures rows { OnOk result (self.new.rows ≡ self.old.rows + rows) }
         ensures pieces { OnOk result (self.new.pieces.items ≡ self.old.pieces.items ++ pieces_in number stripes.now) }
-        ensures counts { OnOk result ((before : List (List Stat)) → AreCounts self.old.counts.items before → AreCounts self.new.counts.items (before ++ stats.now)) }
-        ensures limits { OnOk result ((before : List (List Stat)) → AreCounts self.old.counts.items before → AreFewTogether (length self.new.stripes.items) self.new.end self.new.rows (before ++ stats.now)) }
+        ensures counts { OnOk result ((before : List (List Stat)) → AreCounts self.old.counts.items before
+            → AreCounts self.new.counts.items (before ++ stats.now)) }
+        ensures limits { OnOk result ((before : List (List Stat)) → AreCounts self.old.counts.items before
+            → AreFewTogether (length self.new.stripes.items) self.new.end self.new.rows (before ++ stats.now)) }
         ensures others { (self.new.first ≡ self.old.first) × (self.new.user ≡ self.old.user) × (self.new.stripe_stats ≡ self.old.stripe_stats) }
-        ensures fault { IfErr result (λ e. (e ≡ fault.OutOfMemory) ⊎ ((e ≡ fault.Limit number) × ((before : List (List Stat)) → AreCounts self.old.counts.items before → AreFewTogether (length self.old.stripes.items + length stripes.now) (self.old.end + stripes_length stripes.now) (self.old.rows + rows) (before ++ stats.now) → ⊥))) }
+        ensures fault { IfErr result (λ e. (e ≡ fault.OutOfMemory)
+            ⊎ ((e ≡ fault.Limit number) × ((before : List (List Stat)) → AreCounts self.old.counts.items before
+            → AreFewTogether (length self.old.stripes.items + length stripes.now) (self.old.end + stripes_length stripes.now)
+            (self.old.rows + rows) (before ++ stats.now) → ⊥))) }
     {
         let end = place_stripes(&mut self.stripes, self.end, stripes)?;
         let rows = self.rows + rows;
@@ -171,9 +176,13 @@ impl Gathered {
         requires rows { self.old.rows ≤ most_rows }
         requires more_bytes { stripes_length lists.stripes.items ≤ most_bytes }
         requires more_rows { lists.rows ≤ most_rows }
-        ensures gathered { OnOk result ((first tail : Tail) (tails : List Tail) → IsNext first tails tail number lists self.old → HasGathered first (tails ++ tail ∷ []) self.new) }
-        ensures merges { OnOk result ((first tail : Tail) (tails : List Tail) → IsNext first tails tail number lists self.old → CanMerge first (tails ++ tail ∷ [])) }
-        ensures fault { IfErr result (λ e. (e ≡ fault.OutOfMemory) ⊎ ((first tail : Tail) (tails : List Tail) → IsNext first tails tail number lists self.old → JoinFault number first tail (tails ++ tail ∷ []) e)) }
+        ensures gathered { OnOk result ((first tail : Tail) (tails : List Tail) → IsNext first tails tail number lists self.old
+            → HasGathered first (tails ++ tail ∷ []) self.new) }
+        ensures merges { OnOk result ((first tail : Tail) (tails : List Tail) → IsNext first tails tail number lists self.old
+            → CanMerge first (tails ++ tail ∷ [])) }
+        ensures fault { IfErr result (λ e. (e ≡ fault.OutOfMemory)
+            ⊎ ((first tail : Tail) (tails : List Tail) → IsNext first tails tail number lists self.old
+            → JoinFault number first tail (tails ++ tail ∷ []) e)) }
     {
         let Lists {
             stripes,
@@ -192,7 +201,8 @@ impl Gathered {
 
     /// The merged file's tail, and where its stripes stand in the inputs.
     pub fn finish(self, alloc: Global) -> Result<(Tail, Vec<Piece>), MergeFault>
-        requires { (c : ℕ) → c < width self.first.schema → All (λ (s : Stat). body_is_of (kind_at self.first.schema c) s.body ≡ true) (column_stats c self.stripe_stats.items) }
+        requires { (c : ℕ) → c < width self.first.schema
+            → All (λ (s : Stat). body_is_of (kind_at self.first.schema c) s.body ≡ true) (column_stats c self.stripe_stats.items) }
         ensures tail { IfOk result (λ found. (first : Tail) (tails : List Tail) → HasGathered first tails self → found.0 ≡ merged first tails) }
         ensures pieces { IfOk result (λ found. (first : Tail) (tails : List Tail) → HasGathered first tails self → found.1.items ≡ pieces_of 0 tails) }
         ensures fault { IfErr result (λ e. e ≡ fault.OutOfMemory) }

@@ -26,7 +26,9 @@ fn tail_of<S: Source>(alloc: Global, number: usize, input: &mut S) -> Result<Tai
     ensures limits { IfOk result (λ tail. IsWithinLimits tail) }
     ensures within { IfOk result (λ tail. AllBefore (S.size input.old) tail.stripes) }
 
-    ensures fault { IfErr result (λ e. (e ≡ fault.OutOfMemory) ⊎ ((e ≡ fault.SourceFailed number) ⊎ ((why : FileFault) × (e ≡ fault.File number why) × IfSome (S.told input.old) (λ bytes. OpenFault bytes why)))) }
+    ensures fault { IfErr result (λ e. (e ≡ fault.OutOfMemory)
+        ⊎ ((e ≡ fault.SourceFailed number)
+        ⊎ ((why : FileFault) × (e ≡ fault.File number why) × IfSome (S.told input.old) (λ bytes. OpenFault bytes why)))) }
     ensures kept { OnOk result (S.failures input.new ≡ S.failures input.old) }
     ensures failed { IsErrOf result (fault.SourceFailed number) → S.failures input.old < S.failures input.new }
     ensures memory { IsErrOf result fault.OutOfMemory → S.failures input.new ≡ S.failures input.old }
@@ -93,7 +95,8 @@ pub(crate) fn gather<S: Source>(
 ) -> Result<(Tail, Vec<Piece>), MergeFault>
     ensures told { map S.told inputs.new ≡ map S.told inputs.old }
     ensures sizes { map S.size inputs.new ≡ map S.size inputs.old }
-    ensures found { IfOk result (λ found. (files : List (List ℕ)) → map S.told inputs.old ≡ map Some files → IsMerge files found.0 (magic ++ (pieces_bytes files found.1.items ++ tail_text found.0))) }
+    ensures found { IfOk result (λ found. (files : List (List ℕ)) → map S.told inputs.old ≡ map Some files
+        → IsMerge files found.0 (magic ++ (pieces_bytes files found.1.items ++ tail_text found.0))) }
     ensures limits { IfOk result (λ found. IsWithinLimits found.0) }
     ensures laid { IfOk result (λ found. IsLaid 3 found.0.stripes) }
     ensures inputs { IfOk result (λ found. All (λ p. p.input < length inputs.old) found.1.items) }
@@ -102,7 +105,8 @@ pub(crate) fn gather<S: Source>(
     ensures refused { IfErr result (λ e. (files : List (List ℕ)) → map S.told inputs.old ≡ map Some files → IsAnswer files e) }
     ensures kept { OnOk result (map S.failures inputs.new ≡ map S.failures inputs.old) }
     ensures memory { IsErrOf result MergeFault.OutOfMemory → map S.failures inputs.new ≡ map S.failures inputs.old }
-    ensures source_failed { (i : ℕ) → IsErrOf result (MergeFault.SourceFailed i) → slice_index (map S.failures inputs.old) i < slice_index (map S.failures inputs.new) i }
+    ensures source_failed { (i : ℕ) → IsErrOf result (MergeFault.SourceFailed i)
+        → slice_index (map S.failures inputs.old) i < slice_index (map S.failures inputs.new) i }
     ensures never { IsErrOf result MergeFault.WriteFailed → ⊥ }
 {
     if inputs.is_empty() {

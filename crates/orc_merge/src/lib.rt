@@ -15,6 +15,3 @@ mod value_counts;
 pub use fault::MergeFault;
 pub use laws::{grouping, orders, outcomes};
 pub use merging::merge;
-
-#[cfg(test)]
-mod tests;

@@ -21,16 +21,19 @@ pub fn merge<S: Source, W: Sink>(
     inputs: &mut [S],
     out: &mut W,
 ) -> Result<Tail, MergeFault>
-    ensures merged { IfOk result (λ tail. (files : List (List ℕ)) → map S.told inputs.old ≡ map Some files → WroteMerge files tail (W.told out.old) (W.told out.new)) }
+    ensures merged { IfOk result (λ tail. (files : List (List ℕ)) → map S.told inputs.old ≡ map Some files
+        → WroteMerge files tail (W.told out.old) (W.told out.new)) }
 
     ensures refused { IfErr result (λ e. (files : List (List ℕ)) → map S.told inputs.old ≡ map Some files → IsAnswer files e) }
     ensures nothing { IfErr result (λ e. (IsDeviceFault e → ⊥) → W.told out.new ≡ W.told out.old) }
     ensures some { IfErr result (λ e. (files : List (List ℕ)) → map S.told inputs.old ≡ map Some files → WrotePart files (W.told out.old) (W.told out.new)) }
-    ensures memory { IsErrOf result MergeFault.OutOfMemory → (W.told out.new ≡ W.told out.old) × (W.failures out.new ≡ W.failures out.old) × (map S.failures inputs.new ≡ map S.failures inputs.old) }
+    ensures memory { IsErrOf result MergeFault.OutOfMemory → (W.told out.new ≡ W.told out.old) × (W.failures out.new ≡ W.failures out.old)
+        × (map S.failures inputs.new ≡ map S.failures inputs.old) }
 
     ensures told { map S.told inputs.new ≡ map S.told inputs.old }
     ensures kept { OnOk result ((map S.failures inputs.new ≡ map S.failures inputs.old) × (W.failures out.new ≡ W.failures out.old)) }
-    ensures source_failed { (i : ℕ) → IsErrOf result (MergeFault.SourceFailed i) → slice_index (map S.failures inputs.old) i < slice_index (map S.failures inputs.new) i }
+    ensures source_failed { (i : ℕ) → IsErrOf result (MergeFault.SourceFailed i)
+        → slice_index (map S.failures inputs.old) i < slice_index (map S.failures inputs.new) i }
     ensures write_failed { IsErrOf result MergeFault.WriteFailed → W.failures out.old < W.failures out.new }
 {
     let (tail, pieces) = match gather(alloc, inputs) {

@@ -30,7 +30,9 @@ fn add_pair(
     pair: UserMetadataItem,
 ) -> Result<(), MergeFault>
     ensures added { OnOk result ((before : List UserMetadataItem) → HasPairs before pairs.old.items → HasPairs (before ++ pair ∷ []) pairs.new.items) }
-    ensures fault { IfErr result (λ e. (e ≡ fault.OutOfMemory) ⊎ ((e ≡ fault.UserMetadataConflict number) × ((before more : List UserMetadataItem) → HasPairs before pairs.old.items → Agree (before ++ pair ∷ more) → ⊥))) }
+    ensures fault { IfErr result (λ e. (e ≡ fault.OutOfMemory)
+        ⊎ ((e ≡ fault.UserMetadataConflict number)
+        × ((before more : List UserMetadataItem) → HasPairs before pairs.old.items → Agree (before ++ pair ∷ more) → ⊥))) }
 {
     match find(pairs, pair.name.as_slice()) {
         None => {
@@ -54,7 +56,9 @@ pub(crate) fn add_pairs(
     more: Vec<UserMetadataItem>,
 ) -> Result<(), MergeFault>
     ensures added { OnOk result ((before : List UserMetadataItem) → HasPairs before pairs.old.items → HasPairs (before ++ more.items) pairs.new.items) }
-    ensures fault { IfErr result (λ e. (e ≡ fault.OutOfMemory) ⊎ ((e ≡ fault.UserMetadataConflict number) × ((before : List UserMetadataItem) → HasPairs before pairs.old.items → Agree (before ++ more.items) → ⊥))) }
+    ensures fault { IfErr result (λ e. (e ≡ fault.OutOfMemory)
+        ⊎ ((e ≡ fault.UserMetadataConflict number)
+        × ((before : List UserMetadataItem) → HasPairs before pairs.old.items → Agree (before ++ more.items) → ⊥))) }
 {
     for pair in more {
         match add_pair(pairs, number, pair) {

@@ -20,6 +20,3 @@ pub use run::Run;
 pub use sign::{Rle, Sign};
 pub use v1::{V1, run_one_laws};
 pub use v2::{V2, run_two_laws};
-
-#[cfg(test)]
-mod tests;

@@ -47,7 +47,8 @@ fn lines_of(alloc: Global, schema: &Schema, rows: &[Row<'_>]) -> Result<String, 
     requires { RowsFit schema.now (views rows.now) }
     ensures found { IfOk result (λ lines. string_bytes lines ≡ row_lines schema.now (views rows.now)) }
     ensures json { OnOk result (HaveJson schema.now (views rows.now)) }
-    ensures fault { IfErr result (λ fault. ((fault ≡ Json json.DuplicateField) × (views rows.now ≢ []) × (is_distinct schema.now ≡ false)) ⊎ IsWantOfMemory fault) }
+    ensures fault { IfErr result (λ fault. ((fault ≡ Json json.DuplicateField) × (views rows.now ≢ []) × (is_distinct schema.now ≡ false))
+        ⊎ IsWantOfMemory fault) }
 {
     let mut lines = String::new(alloc);
     for row in rows {
@@ -66,7 +67,8 @@ fn stripe_lines<S: Source>(
     requires { number < length file.now.tail.stripes }
     ensures found { IfOk result (λ lines. AreOfStripe file.now.tail.schema (stripe_at file.now.tail.stripes number) bytes.now (string_bytes lines)) }
     ensures fault { IfErr result (λ fault. IsWantOfMemory fault
-        ⊎ (((why : StripeFault) × (fault ≡ File (Stripe number why)) × (why ≢ stripe.OutOfMemory) × IsNoStripe file.now.tail.schema (stripe_at file.now.tail.stripes number) bytes.now why)
+        ⊎ (((why : StripeFault) × (fault ≡ File (Stripe number why)) × (why ≢ stripe.OutOfMemory)
+        × IsNoStripe file.now.tail.schema (stripe_at file.now.tail.stripes number) bytes.now why)
         ⊎ ((fault ≡ Json json.DuplicateField) × HasNoJson file.now.tail.schema (stripe_at file.now.tail.stripes number) bytes.now))) }
 {
     let rows = file.stripe_rows(alloc, number, bytes)?;
@@ -135,7 +137,8 @@ pub fn rows_to<S: Source, W: Write>(
 ) -> Result<S, (CliFault, S)>
     ensures written { OnOk result (IfSome (S.told source) (λ bytes. (tail : Tail) × (rows : List Cell) × FileIs bytes tail rows × HaveJson tail.schema rows
         × Appends (W.contents out.old) (W.contents out.new) (row_lines tail.schema rows))) }
-    ensures only { IfSome (S.told source) (λ bytes. (tail : Tail) (rows : List Cell) → FileIs bytes tail rows → HaveJson tail.schema rows → IfErr result (λ e. IsOutsideFile e.0)) }
+    ensures only { IfSome (S.told source) (λ bytes. (tail : Tail) (rows : List Cell) → FileIs bytes tail rows → HaveJson tail.schema rows
+        → IfErr result (λ e. IsOutsideFile e.0)) }
     ensures same { IfOk result (λ back. S.told back ≡ S.told source) }
 
     ensures refused { IfErr result (λ e. IfSome (S.told source) (λ bytes. RefusesRows bytes (W.contents out.old) (W.contents out.new) e.0)) }

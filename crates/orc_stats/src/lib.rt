@@ -25,6 +25,3 @@ pub use measures::{Bins, Bools, Dates, Ints, Measures, Plain, Sizes, Texts};
 pub use seen::Seen;
 pub use stat::{Body, Stat};
 pub use tally::Tally;
-
-#[cfg(test)]
-mod tests;

@@ -36,6 +36,3 @@ pub use row_copies::owned;
 pub use schema::Schema;
 pub use tree::{Field, Tree, tree_at, width_of};
 pub use value::{Row, Value};
-
-#[cfg(test)]
-mod tests;

@@ -42,6 +42,3 @@ pub use stats_records::{
 pub use stripe_footer::{StreamMsg, StripeFooter};
 pub use stripe_info::StripeInfo;
 pub use type_msg::TypeMsg;
-
-#[cfg(test)]
-mod tests;

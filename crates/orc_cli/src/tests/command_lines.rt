@@ -9,7 +9,7 @@ use std::alloc::Global;
 use std::convert::AsStr;
 
 /// Command lines that are requests.
-const REQUESTS: [(&[&str], Request<'static, 'static>); 10] = [
+static REQUESTS: [(&[&str], Request<'static, 'static>); 10] = [
     (
         &["orcm", "ints", "--rle", "1", "--sign", "u", "61ff64"],
         Request::Ints {
@@ -69,7 +69,7 @@ const REQUESTS: [(&[&str], Request<'static, 'static>); 10] = [
 ];
 
 /// Command lines that are none, and what the parser finds in them.
-const OTHERS: [(&[&str], ErrorKind); 14] = [
+static OTHERS: [(&[&str], ErrorKind); 14] = [
     (&["orcm"], ErrorKind::MissingSubcommand),
     (&["orcm", "join", "a"], ErrorKind::InvalidSubcommand),
     (&["orcm", "rows"], ErrorKind::MissingRequiredArgument),
@@ -110,7 +110,7 @@ const OTHERS: [(&[&str], ErrorKind); 14] = [
 ];
 
 /// The numbers of `--stride` and `--stripe-rows`, and whether they ask for anything.
-const NUMBERS: [(&str, &str, bool); 9] = [
+static NUMBERS: [(&str, &str, bool); 9] = [
     ("0", "1", true),
     ("0", "2147483647", true),
     ("0", "2147483648", false),

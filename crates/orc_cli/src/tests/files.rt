@@ -36,7 +36,7 @@ pub const SIX_SEVENS: [u8; 173] = [
 ];
 
 /// The line of one of their rows.
-pub const SEVEN: [u8; 8] = *b"{\"n\":7}\n";
+pub static SEVEN: [u8; 8] = *b"{\"n\":7}\n";
 
 /// A file without rows, whose schema names a field twice.
 pub const NO_ROWS_OF_TWINS: [u8; 55] = [

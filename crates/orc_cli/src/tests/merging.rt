@@ -25,7 +25,7 @@ fn joined(alloc: Global, first: &[u8], second: &[u8]) -> (Option<CliFault>, Vec<
 }
 
 /// Two files, and the one that they are joined into.
-const FILES: [(&[u8], &[u8], &[u8]); 4] = [
+static FILES: [(&[u8], &[u8], &[u8]); 4] = [
     (&THREE_SEVENS, &THREE_SEVENS, &SIX_SEVENS),
     (&NO_ROWS, &NO_ROWS, &NO_ROWS),
     (&NO_ROWS, &THREE_SEVENS, &THREE_SEVENS),
@@ -42,7 +42,7 @@ fn files_joined(rt: HostRuntime) {
 }
 
 /// Two files that aren't joined.
-const REFUSED: [(&[u8], &[u8], MergeFault); 2] = [
+static REFUSED: [(&[u8], &[u8], MergeFault); 2] = [
     (&THREE_SEVENS, &TWINS, MergeFault::SchemaDiffers(1)),
     (b"OR", &THREE_SEVENS, MergeFault::File(0, FileFault::NotOrc)),
 ];

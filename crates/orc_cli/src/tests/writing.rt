@@ -46,7 +46,7 @@ fn written(
 }
 
 /// Lines, the rows of a stripe, and the file that is written of them.
-const FILES: [(&[u8], u32, &[u8]); 8] = [
+static FILES: [(&[u8], u32, &[u8]); 8] = [
     (b"", 3, &NO_ROWS),
     (b"\n\n", 3, &NO_ROWS),
     (b"{\"n\":7}\n{\"n\":7}\n{\"n\":7}\n", 3, &THREE_SEVENS),
@@ -80,7 +80,7 @@ fn files_of_lines(rt: HostRuntime) {
 
 /// Schemas and lines in stripes of three rows that are refused, and how many bytes of a file of six sevens
 /// stand then.
-const REFUSED: [(&str, &[u8], CliFault, usize); 12] = [
+static REFUSED: [(&str, &[u8], CliFault, usize); 12] = [
     (NUMBERS, b"\r\n", CliFault::Json(JsonFault::Syntax), 3),
     (NUMBERS, b" ", CliFault::Json(JsonFault::Syntax), 3),
     (NUMBERS, b"{\"n\":7", CliFault::Json(JsonFault::Syntax), 3),

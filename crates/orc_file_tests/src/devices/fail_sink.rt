@@ -6,14 +6,14 @@ use std::alloc::{AllocError, Global};
 
 /// What a full sink answers.
 #[derive(Clone, Copy, Debug, PartialEq, Eq)]
-pub enum Full {
+pub(crate) enum Full {
     Fails,
     TakesNothing,
 }
 
 /// It takes at most `a_call` bytes a call, and `room` in all.
 #[derive(Drop)]
-pub struct FailSink {
+pub(crate) struct FailSink {
     bytes: Vec<u8>,
     a_call: usize,
     room: usize,
@@ -24,7 +24,7 @@ pub struct FailSink {
 
 impl FailSink {
     /// Its memory is reserved here, and none is wanted later.
-    pub fn new(
+    pub(crate) fn new(
         alloc: Global,
         a_call: usize,
         room: usize,
@@ -40,7 +40,7 @@ impl FailSink {
     }
 
     /// The bytes so far.
-    pub fn bytes(&self) -> &[u8] {
+    pub(crate) fn bytes(&self) -> &[u8] {
         &self.bytes
     }
 }

@@ -5,7 +5,7 @@ use orc_file::{Failures, SliceSource, Source, SourceFault};
 
 /// Bytes in memory, of which the k-th read alone fails.
 #[derive(Drop)]
-pub struct FailSource<'a> {
+pub(crate) struct FailSource<'a> {
     bytes: SliceSource<'a>,
     before_failure: u64,
     failures: Failures,
@@ -13,7 +13,7 @@ pub struct FailSource<'a> {
 
 impl<'a> FailSource<'a> {
     /// The reads are counted from 1; at 0 none fails.
-    pub fn new(bytes: &'a [u8], kth: u64) -> FailSource<'a> {
+    pub(crate) fn new(bytes: &'a [u8], kth: u64) -> FailSource<'a> {
         FailSource {
             bytes: SliceSource::new(bytes),
             before_failure: kth,

@@ -7,7 +7,7 @@ use std::io::Write;
 
 /// It takes and answers what the sink in it does.
 #[derive(Drop)]
-pub struct Narrow(pub FailSink);
+pub(crate) struct Narrow(pub FailSink);
 
 impl Write for Narrow {
     fn write(&mut self, bytes: &[u8]) -> io::Result<usize> {

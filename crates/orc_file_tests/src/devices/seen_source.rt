@@ -5,14 +5,14 @@ use orc_file::{SliceSource, Source, SourceFault};
 
 /// Bytes in memory, with the place and the length of each of the first eight reads.
 #[derive(Drop)]
-pub struct SeenSource<'a> {
+pub(crate) struct SeenSource<'a> {
     bytes: SliceSource<'a>,
     ranges: [(u64, u64); 8],
     reads: usize,
 }
 
 impl<'a> SeenSource<'a> {
-    pub fn new(bytes: &'a [u8]) -> SeenSource<'a> {
+    pub(crate) fn new(bytes: &'a [u8]) -> SeenSource<'a> {
         SeenSource {
             bytes: SliceSource::new(bytes),
             ranges: [(0, 0); 8],
@@ -21,7 +21,7 @@ impl<'a> SeenSource<'a> {
     }
 
     /// The ranges that were read, in their order.
-    pub fn ranges(&self) -> &[(u64, u64)] {
+    pub(crate) fn ranges(&self) -> &[(u64, u64)] {
         &self.ranges[..self.reads.min(8)]
     }
 }

@@ -22,7 +22,7 @@ fn read_once(alloc: Global, bytes: &[u8]) -> (Option<FileFault>, SeenSource<'_>)
 }
 
 /// The answer of `open` once there is memory, and the source with what was read of it.
-pub fn read_seen(alloc: Global, bytes: &[u8]) -> (Option<FileFault>, SeenSource<'_>) {
+pub(crate) fn read_seen(alloc: Global, bytes: &[u8]) -> (Option<FileFault>, SeenSource<'_>) {
     match read_once(alloc, bytes) {
         (Some(FileFault::OutOfMemory), _) => read_once(alloc, bytes),
         seen => seen,

@@ -4,7 +4,7 @@ use std::alloc::Global;
 use std::process::Abort;
 
 /// Types of column 1, each with the number of columns below it, and whether it may have a dictionary.
-const TYPES: [(&'static str, usize, bool); 10] = [
+static TYPES: [(&'static str, usize, bool); 10] = [
     ("struct<x:boolean>", 0, false),
     ("struct<x:tinyint>", 0, false),
     ("struct<x:smallint>", 0, false),

@@ -6,7 +6,7 @@ use std::alloc::Global;
 use std::process::Abort;
 
 /// DATA, LENGTH and DICTIONARY_DATA of two texts.
-const WORDS: [u8; 6] = [0xfe, 0x00, 0x00, 0xff, 0x01, 0x61];
+static WORDS: [u8; 6] = [0xfe, 0x00, 0x00, 0xff, 0x01, 0x61];
 
 /// A good stripe of two rows, and what a stripe's record says of it.
 fn good_stripe(alloc: Global) -> Result<(Vec<u8>, StripeInfo), StripeFault> {

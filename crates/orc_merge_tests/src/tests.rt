@@ -1,0 +1,28 @@
+//! Files merged, refused, and merged again in groups.
+mod devices;
+mod files;
+mod outcomes;
+mod statistics;
+mod stripes;
+
+use orc_file::{SliceSource, VecSink};
+use orc_merge::{MergeFault, merge};
+use std::alloc::Global;
+
+/// What merging files writes, once there is memory for it: what wanted some is asked again.
+pub(crate) fn merged(alloc: Global, files: &[&[u8]]) -> Result<Vec<u8>, MergeFault> {
+    match merged_once(alloc, files) {
+        Err(MergeFault::OutOfMemory | MergeFault::WriteFailed) => merged_once(alloc, files),
+        done => done,
+    }
+}
+
+fn merged_once(alloc: Global, files: &[&[u8]]) -> Result<Vec<u8>, MergeFault> {
+    let mut inputs = Vec::new(alloc);
+    for file in files {
+        inputs.push(SliceSource::new(file))?;
+    }
+    let mut out = VecSink::new(alloc);
+    merge(alloc, &mut inputs, &mut out)?;
+    Ok(out.into_vec())
+}

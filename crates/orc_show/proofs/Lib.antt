@@ -1,0 +1,2 @@
+pub mod OpenFaults
+pub mod ShowLemmas

@@ -1,0 +1,97 @@
+ghost use Rattle.std.specs.Prelude.{◌≡◌, true};
+ghost use Rattle.orc_stats.specs.Kinds.{body_is_of};
+ghost use Rattle.orc_stats.specs.declared.kind.StatKind.TheVariants as kind;
+
+use orc_stats::{Body, Stat, StatFault, StatKind, join_all, of_cells};
+use orc_types::{Lent, Row, Value};
+use std::alloc::Global;
+
+mod cells;
+mod joins;
+mod messages;
+
+/// What a statistic says, without texts: a count of true stands for a total, days for numbers.
+#[derive(Clone, Copy, Debug, PartialEq, Eq)]
+struct Said {
+    count: u64,
+    nulls: Option<bool>,
+    least: Option<i64>,
+    greatest: Option<i64>,
+    total: Option<i64>,
+}
+
+fn told(stat: &Stat) -> Said {
+    let (least, greatest, total) = match &stat.body {
+        Body::Plain => (None, None, None),
+        Body::Ints {
+            least,
+            greatest,
+            sum,
+        } => (*least, *greatest, *sum),
+        Body::Bools { trues } => (None, None, trues.and_then(|n| i64::try_from(n).ok())),
+        Body::Dates { least, greatest } => (least.map(i64::from), greatest.map(i64::from), None),
+        Body::Texts { sum, .. } => (None, None, *sum),
+        Body::Bins { sum } => (None, None, *sum),
+    };
+    Said {
+        count: stat.count,
+        nulls: stat.nulls,
+        least,
+        greatest,
+        total,
+    }
+}
+
+/// So many values, and whether there is null; of the values nothing is known.
+fn counted(count: u64, nulls: Option<bool>) -> Said {
+    Said {
+        count,
+        nulls,
+        least: None,
+        greatest: None,
+        total: None,
+    }
+}
+
+impl Said {
+    /// The same with a least and a greatest value.
+    fn span(self, least: i64, greatest: i64) -> Said {
+        Said {
+            least: Some(least),
+            greatest: Some(greatest),
+            ..self
+        }
+    }
+
+    /// The same with a total.
+    fn total(self, total: i64) -> Said {
+        Said {
+            total: Some(total),
+            ..self
+        }
+    }
+}
+
+/// Whether the answer is a statistic that says this.
+fn says(answer: &Result<Stat, StatFault>, wanted: Said) -> bool {
+    match answer {
+        Ok(stat) => told(stat) == wanted,
+        Err(_) => false,
+    }
+}
+
+/// A statistic of one integer.
+fn one(value: i64) -> Stat
+    ensures kind { body_is_of kind.Ints result.body ≡ true }
+    ensures count { result.count ≡ 1 }
+{
+    Stat {
+        count: 1,
+        nulls: Some(false),
+        body: Body::Ints {
+            least: Some(value),
+            greatest: Some(value),
+            sum: Some(value),
+        },
+    }
+}

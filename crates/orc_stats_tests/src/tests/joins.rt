@@ -1,0 +1,173 @@
+ghost use Rattle.std.specs.Prelude.{◌≡◌, true, IfOk};
+ghost use Rattle.orc_stats.specs.Kinds.{body_is_of};
+ghost use Rattle.orc_stats.specs.declared.kind.StatKind.TheVariants as kind;
+
+use super::*;
+use orc_stats::{Counted, Ints, Tally};
+use std::test::Fail;
+
+/// The three numbers in each order.
+static ORDERS: [[i64; 3]; 6] = [
+    [i64::MAX, 1, -1],
+    [i64::MAX, -1, 1],
+    [1, i64::MAX, -1],
+    [1, -1, i64::MAX],
+    [-1, i64::MAX, 1],
+    [-1, 1, i64::MAX],
+];
+
+#[test]
+fn sums_pass_64_bits_on_the_way(rt: HostRuntime) {
+    for numbers in ORDERS {
+        let stats = [one(numbers[0]), one(numbers[1]), one(numbers[2])];
+        let joined = join_all(rt.alloc(), StatKind::Ints, &stats);
+        assert!(&rt;
+            says(
+                &joined,
+                counted(3, Some(false)).span(-1, i64::MAX).total(i64::MAX)
+            )
+        );
+    }
+    let joined = join_all(rt.alloc(), StatKind::Ints, &[one(i64::MAX), one(1)]);
+    assert!(&rt; says(&joined, counted(2, Some(false)).span(1, i64::MAX)));
+}
+
+/// A statistic of as many cells as can be without nulls, of which so many are true.
+fn of_bools(count: u64, trues: u64) -> Stat
+    ensures { body_is_of kind.Bools result.body ≡ true }
+{
+    Stat {
+        count,
+        nulls: Some(false),
+        body: Body::Bools { trues: Some(trues) },
+    }
+}
+
+#[test]
+fn limits_of_counts(rt: HostRuntime) {
+    let most = 1 << 62;
+    let stats = [of_bools(1, most), of_bools(1, most)];
+    let joined = join_all(rt.alloc(), StatKind::Bools, &stats);
+    assert!(&rt; says(&joined, counted(2, Some(false))));
+    let stats = [of_bools(most - 1, 1), of_bools(1, 0)];
+    let joined = join_all(rt.alloc(), StatKind::Bools, &stats);
+    assert!(&rt; says(&joined, counted(most, Some(false)).total(1)));
+    let stats = [of_bools(most, 1), of_bools(1, 0)];
+    let joined = join_all(rt.alloc(), StatKind::Bools, &stats);
+    assert!(&rt; matches!(&joined, Err(StatFault::CountTooLarge)));
+}
+
+/// Whether two lists have null, and whether both together have.
+static NULLS: [(Option<bool>, Option<bool>, Option<bool>); 6] = [
+    (None, Some(true), Some(true)),
+    (None, Some(false), None),
+    (None, None, None),
+    (Some(true), None, Some(true)),
+    (Some(false), Some(true), Some(true)),
+    (Some(false), Some(false), Some(false)),
+];
+
+/// A statistic of no values.
+fn of_nothing(nulls: Option<bool>) -> Stat
+    ensures { body_is_of kind.Plain result.body ≡ true }
+{
+    Stat {
+        count: 0,
+        nulls,
+        body: Body::Plain,
+    }
+}
+
+#[test]
+fn nulls_that_are_not_known(rt: HostRuntime) {
+    for (one, other, both) in NULLS {
+        let joined = join_all(
+            rt.alloc(),
+            StatKind::Plain,
+            &[of_nothing(one), of_nothing(other)],
+        );
+        assert!(&rt; says(&joined, counted(0, both)));
+    }
+}
+
+#[test]
+fn nothing_of_each_kind(rt: HostRuntime) {
+    let kinds = [
+        StatKind::Plain,
+        StatKind::Ints,
+        StatKind::Bools,
+        StatKind::Dates,
+        StatKind::Texts,
+        StatKind::Bins,
+    ];
+    for kind in kinds {
+        let nothing = counted(0, Some(false));
+        assert!(&rt; says(&join_all(rt.alloc(), kind, &[]), nothing));
+        assert!(&rt; says(&of_cells(rt.alloc(), kind, &[]), nothing));
+    }
+}
+
+/// A statistic of 2^19 integers with this total.
+fn of_many(total: i64) -> Stat
+    ensures { body_is_of kind.Ints result.body ≡ true }
+{
+    Stat {
+        count: 1 << 19,
+        nulls: Some(false),
+        body: Body::Ints {
+            least: Some(-1 << 43),
+            greatest: Some(1 << 43),
+            sum: Some(total),
+        },
+    }
+}
+
+/// Totals of two lists, and of both together.
+static TOTALS: [(i64, i64, Option<i64>); 4] = [
+    (1 << 62, (1 << 62) - 1, Some(i64::MAX)),
+    (1 << 62, 1 << 62, None),
+    (-1 << 62, -1 << 62, Some(i64::MIN)),
+    (-1 << 62, (-1 << 62) - 1, None),
+];
+
+#[test]
+fn totals_at_the_edge_of_64_bits(rt: HostRuntime) {
+    for (one, other, both) in TOTALS {
+        let parts = [of_many(one), of_many(other)];
+        match join_all(rt.alloc(), StatKind::Ints, &parts) {
+            Ok(stat) => assert_eq!(&rt; told(&stat).total, both),
+            Err(_) => assert!(&rt; false),
+        }
+    }
+}
+
+/// The statistic of three sevens.
+fn three_sevens(alloc: Global) -> Result<Stat, StatFault>
+    ensures { IfOk result (λ s. body_is_of kind.Ints s.body ≡ true) }
+{
+    let seven: Row<'_> = Some(Value::Int(7));
+    of_cells(
+        alloc,
+        StatKind::Ints,
+        &[Lent(&seven), Lent(&seven), Lent(&seven)],
+    )
+}
+
+#[test]
+fn six_sevens_in_two_parts(rt: HostRuntime) -> Result<(), Fail> {
+    let parts = [three_sevens(rt.alloc())?, three_sevens(rt.alloc())?];
+    let joined = join_all(rt.alloc(), StatKind::Ints, &parts);
+    assert!(&rt; says(&joined, counted(6, Some(false)).span(7, 7).total(42)));
+    Ok(())
+}
+
+#[test]
+fn a_cell_and_a_statistic_in_one_tally(rt: HostRuntime) {
+    let seven: Row<'_> = Some(Value::Int(7));
+    let nine = one(9);
+    let mut tally = Counted::<Ints>::unit();
+    tally.add(&seven);
+    tally.join(&Counted::<Ints>::of_stat(&nine));
+    let stat = tally.close(rt.alloc());
+    assert!(&rt; says(&stat, counted(2, Some(false)).span(7, 9).total(16)));
+}

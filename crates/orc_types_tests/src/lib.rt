@@ -1,0 +1,6 @@
+//! Tests of `orc_types` by its public calls: schemas and their texts, rows, and rows as JSON. They stand apart
+//! from it, so that it is not proved again with them.
+#![tactic(auto)]
+
+#[cfg(test)]
+mod tests;

@@ -1,0 +1,213 @@
+use super::json_rows::comes_to;
+use super::*;
+use orc_types::date_text;
+
+/// Days and the texts of their dates.
+static DAYS: [(i32, &'static str); 9] = [
+    (0, "1970-01-01"),
+    (-1, "1969-12-31"),
+    (-719162, "0001-01-01"),
+    (-719161, "0001-01-02"),
+    (2932896, "9999-12-31"),
+    (-25509, "1900-02-28"),
+    (-25508, "1900-03-01"),
+    (11016, "2000-02-29"),
+    (19782, "2024-02-29"),
+];
+
+/// Days before and behind the years of dates, and their numbers.
+static OTHER_DAYS: [(i32, &'static str); 3] = [
+    (-719163, "-719163"),
+    (2932897, "2932897"),
+    (i32::MIN, "-2147483648"),
+];
+
+/// Values of JSON under types, and what they are printed as again.
+static SPELLED: [(&'static str, &'static str, &'static str); 29] = [
+    ("boolean", "true", "true"),
+    ("boolean", "false", "false"),
+    ("tinyint", "-128", "-128"),
+    ("tinyint", "127", "127"),
+    ("smallint", "-32768", "-32768"),
+    ("smallint", "32767", "32767"),
+    ("int", "-2147483648", "-2147483648"),
+    ("int", "2147483647", "2147483647"),
+    ("bigint", "-9223372036854775808", "-9223372036854775808"),
+    ("bigint", "9223372036854775807", "9223372036854775807"),
+    ("bigint", "0", "0"),
+    ("string", "\"\"", "\"\""),
+    ("string", "\"2024-02-29\"", "\"2024-02-29\""),
+    ("string", "\"\\u0061\"", "\"a\""),
+    ("binary", "\"\"", "\"\""),
+    ("binary", "\"0F\"", "\"0f\""),
+    ("binary", "\"00ffAb\"", "\"00ffab\""),
+    ("date", "\"2024-02-29\"", "\"2024-02-29\""),
+    ("date", "19782", "\"2024-02-29\""),
+    ("date", "0", "\"1970-01-01\""),
+    ("date", "-719162", "\"0001-01-01\""),
+    ("date", "-719163", "-719163"),
+    ("date", "2932896", "\"9999-12-31\""),
+    ("date", "2932897", "2932897"),
+    ("date", "-2147483648", "-2147483648"),
+    ("date", "2147483647", "2147483647"),
+    ("int", "null", "null"),
+    ("date", "null", "null"),
+    ("binary", "null", "null"),
+];
+
+/// Values of JSON that spell nothing under their type, and why.
+static UNSPELLED: [(&'static str, &'static str, JsonFault); 47] = [
+    ("boolean", "0", JsonFault::WrongShape),
+    ("boolean", "\"true\"", JsonFault::WrongShape),
+    ("tinyint", "true", JsonFault::WrongShape),
+    ("smallint", "\"1\"", JsonFault::WrongShape),
+    ("int", "[]", JsonFault::WrongShape),
+    ("int", "{}", JsonFault::WrongShape),
+    ("int", "-0", JsonFault::WrongShape),
+    ("int", "1.0", JsonFault::WrongShape),
+    ("int", "1e1", JsonFault::WrongShape),
+    ("string", "1", JsonFault::WrongShape),
+    ("string", "[\"a\"]", JsonFault::WrongShape),
+    ("binary", "0", JsonFault::WrongShape),
+    ("binary", "false", JsonFault::WrongShape),
+    ("date", "true", JsonFault::WrongShape),
+    ("date", "0.5", JsonFault::WrongShape),
+    ("date", "{\"date\":0}", JsonFault::WrongShape),
+    ("tinyint", "-129", JsonFault::Range),
+    ("tinyint", "128", JsonFault::Range),
+    ("tinyint", "18446744073709551615", JsonFault::Range),
+    ("smallint", "-32769", JsonFault::Range),
+    ("smallint", "32768", JsonFault::Range),
+    ("int", "-2147483649", JsonFault::Range),
+    ("int", "2147483648", JsonFault::Range),
+    ("bigint", "9223372036854775808", JsonFault::Range),
+    ("bigint", "18446744073709551615", JsonFault::Range),
+    ("bigint", "18446744073709551616", JsonFault::WrongShape),
+    ("bigint", "-9223372036854775809", JsonFault::WrongShape),
+    ("date", "-2147483649", JsonFault::Range),
+    ("date", "2147483648", JsonFault::Range),
+    ("date", "9223372036854775808", JsonFault::Range),
+    ("date", "\"2023-02-29\"", JsonFault::BadDate),
+    ("date", "\"1900-02-29\"", JsonFault::BadDate),
+    ("date", "\"2023-04-31\"", JsonFault::BadDate),
+    ("date", "\"20230228\"", JsonFault::BadDate),
+    ("date", "\"2023-02-28T00:00:00\"", JsonFault::BadDate),
+    ("date", "\"+002023-02-28\"", JsonFault::BadDate),
+    ("date", "\"-000001-01-01\"", JsonFault::BadDate),
+    ("date", "\"0000-01-01\"", JsonFault::BadDate),
+    ("date", "\"10000-01-01\"", JsonFault::BadDate),
+    ("date", "\"2023-2-28\"", JsonFault::BadDate),
+    ("date", "\" 2023-02-28\"", JsonFault::BadDate),
+    ("date", "\"19782\"", JsonFault::BadDate),
+    ("date", "\"\"", JsonFault::BadDate),
+    ("binary", "\"0\"", JsonFault::BadHex),
+    ("binary", "\"0g\"", JsonFault::BadHex),
+    ("binary", "\"0x00\"", JsonFault::BadHex),
+    ("binary", "\"0 \"", JsonFault::BadHex),
+];
+
+/// Whether JSON shows the day by this text, and the text as it stands.
+fn is_day(alloc: Global, day: i32, text: &str) -> Result<bool, JsonFault> {
+    let quoted = format!(in alloc; "\"{text}\"")?;
+    let number = format!(in alloc; "{day}")?;
+    Ok(
+        is_printed_again(alloc, "date", number.as_str(), quoted.as_str())?
+            && is_printed_again(alloc, "date", quoted.as_str(), quoted.as_str())?,
+    )
+}
+
+#[test]
+fn days(rt: HostRuntime) {
+    let alloc = rt.alloc();
+    for &(day, text) in &DAYS {
+        let mut held = is_day(alloc, day, text);
+        if held.is_err() {
+            held = is_day(alloc, day, text);
+        }
+        assert!(rt; matches!(held, Ok(true)), "day {day}");
+    }
+    for &(day, text) in DAYS.iter().chain(&OTHER_DAYS) {
+        let mut found = date_text(alloc, day);
+        if found.is_err() {
+            found = date_text(alloc, day);
+        }
+        assert!(rt;
+            matches!(&found, Ok(found) if found.as_str() == text),
+            "day {day}"
+        );
+    }
+}
+
+/// An object of one field.
+fn field_v(alloc: Global, json: &str) -> Result<String, AllocError> {
+    format!(in alloc; "{{\"v\":{json}}}")
+}
+
+/// Whether JSON, as the one field of a row of this type, comes to what is wanted.
+fn leaf_comes_to(
+    alloc: Global,
+    kind: &str,
+    json: &str,
+    wanted: Result<&str, JsonFault>,
+) -> Result<bool, JsonFault> {
+    let schema = format!(in alloc; "struct<v:{kind}>")?;
+    let object = field_v(alloc, json)?;
+    comes_to(alloc, schema.as_str(), object.as_str(), wanted)
+}
+
+/// Whether it is a row whose field is printed so.
+fn is_printed_again(alloc: Global, kind: &str, json: &str, again: &str) -> Result<bool, JsonFault> {
+    let wanted = field_v(alloc, again)?;
+    leaf_comes_to(alloc, kind, json, Ok(wanted.as_str()))
+}
+
+#[test]
+fn leaves(rt: HostRuntime) {
+    let alloc = rt.alloc();
+    for &(kind, json, again) in &SPELLED {
+        let mut held = is_printed_again(alloc, kind, json, again);
+        if held.is_err() {
+            held = is_printed_again(alloc, kind, json, again);
+        }
+        assert!(rt; matches!(held, Ok(true)), "{json} under {kind}");
+    }
+}
+
+#[test]
+fn no_leaves(rt: HostRuntime) {
+    let alloc = rt.alloc();
+    for &(kind, json, fault) in &UNSPELLED {
+        let mut held = leaf_comes_to(alloc, kind, json, Err(fault));
+        if held.is_err() {
+            held = leaf_comes_to(alloc, kind, json, Err(fault));
+        }
+        assert!(rt; matches!(held, Ok(true)), "{json} under {kind}");
+    }
+}
+
+/// Whether the fault is shown as the text.
+fn is_shown_as(alloc: Global, fault: JsonFault, text: &str) -> Result<bool, AllocError> {
+    Ok(format!(in alloc; "{fault}")?.as_str() == text)
+}
+
+#[test]
+fn json_fault_texts(rt: HostRuntime) {
+    let alloc = rt.alloc();
+    let table = [
+        (JsonFault::Syntax, "json 1 Syntax"),
+        (JsonFault::WrongShape, "json 2 WrongShape"),
+        (JsonFault::Range, "json 3 Range"),
+        (JsonFault::UnknownField, "json 4 UnknownField"),
+        (JsonFault::DuplicateField, "json 5 DuplicateField"),
+        (JsonFault::BadDate, "json 6 BadDate"),
+        (JsonFault::BadHex, "json 7 BadHex"),
+        (JsonFault::OutOfMemory, "json 8 OutOfMemory"),
+    ];
+    for (fault, text) in table {
+        let mut held = is_shown_as(alloc, fault, text);
+        if held.is_err() {
+            held = is_shown_as(alloc, fault, text);
+        }
+        assert!(rt; matches!(held, Ok(true)), "{text}");
+    }
+}

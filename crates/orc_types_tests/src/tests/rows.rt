@@ -1,0 +1,569 @@
+ghost use Rattle.std.specs.Prelude.{◌<◌};
+ghost use Rattle.orc_types.specs.Shapes.{width};
+
+use super::*;
+use std::borrow::{CowSlice, CowStr};
+
+/// Rows in postfix: a list or a struct is made of so many rows that stand before it.
+#[derive(Clone, Copy)]
+pub(crate) enum Token {
+    Null,
+    Truth,
+    Int(i64),
+    Date(i32),
+    Text,
+    Bytes,
+    List(usize),
+    Struct(usize),
+}
+
+use Token::{Bytes as Blob, Date, Int, List, Null, Struct, Text, Truth};
+
+/// A struct of a field of every kind, in the order of their numbers but for DATE.
+pub(crate) const KINDS: [Listed; 11] = [
+    (
+        12,
+        &[1, 2, 3, 4, 5, 6, 7, 8, 10],
+        &[b"b", b"y", b"s", b"i", b"l", b"t", b"v", b"a", b"d"],
+    ),
+    (0, &[], &[]),
+    (1, &[], &[]),
+    (2, &[], &[]),
+    (3, &[], &[]),
+    (4, &[], &[]),
+    (7, &[], &[]),
+    (8, &[], &[]),
+    (10, &[9], &[]),
+    (3, &[], &[]),
+    (15, &[], &[]),
+];
+
+pub(crate) const KINDS_TEXT: &str =
+    "struct<b:boolean,y:tinyint,s:smallint,i:int,l:bigint,t:string,v:binary,a:array<int>,d:date>";
+
+/// A struct of a struct of one number: `struct<s:struct<n:int>>`.
+const STRUCTS: [Listed; 3] = [(12, &[1], &[b"s"]), (12, &[2], &[b"n"]), (3, &[], &[])];
+
+/// A struct of a list of lists: a list of two, null, the empty list, a list with a null, a list of
+/// one; and a row that is null.
+const LIST_ROWS: [Token; 22] = [
+    Int(1),
+    Int(2),
+    List(2),
+    List(0),
+    List(2),
+    Struct(1),
+    Null,
+    Struct(1),
+    List(0),
+    Struct(1),
+    Null,
+    Int(3),
+    List(1),
+    List(2),
+    Struct(1),
+    Int(4),
+    Int(5),
+    Int(6),
+    List(3),
+    List(1),
+    Struct(1),
+    Null,
+];
+
+/// A struct in a struct, a null struct, and a struct of null.
+const STRUCT_ROWS: [Token; 8] = [
+    Int(1),
+    Struct(1),
+    Struct(1),
+    Null,
+    Struct(1),
+    Null,
+    Struct(1),
+    Struct(1),
+];
+
+/// A struct of a list of structs of one number: `struct<a:array<struct<n:int>>>`.
+const STRUCTS_IN_LISTS: [Listed; 4] = [
+    (12, &[1], &[b"a"]),
+    (10, &[2], &[]),
+    (12, &[3], &[b"n"]),
+    (3, &[], &[]),
+];
+
+/// A list of a struct of 1, a struct of null, and null; a list that is null; a row that is null; a
+/// list of nothing.
+const STRUCTS_IN_LISTS_ROWS: [Token; 12] = [
+    Int(1),
+    Struct(1),
+    Null,
+    Struct(1),
+    Null,
+    List(3),
+    Struct(1),
+    Null,
+    Struct(1),
+    Null,
+    List(0),
+    Struct(1),
+];
+
+/// A value of each kind.
+pub(crate) const KINDS_ROW: [Token; 12] = [
+    Truth,
+    Int(1),
+    Int(2),
+    Int(3),
+    Int(4),
+    Text,
+    Blob,
+    Int(8),
+    Int(9),
+    List(2),
+    Date(3),
+    Struct(9),
+];
+
+/// A schema's types, rows, a column, and its cells.
+type CellCase = (&'static [Listed], &'static [Token], usize, &'static [Token]);
+
+static CELLS: [CellCase; 23] = [
+    (&STRUCTS, &STRUCT_ROWS, 0, &STRUCT_ROWS),
+    (&LISTS, &[Null, List(1), List(1), Struct(1)], 3, &[Null]),
+    (
+        &STRUCTS_IN_LISTS,
+        &STRUCTS_IN_LISTS_ROWS,
+        0,
+        &STRUCTS_IN_LISTS_ROWS,
+    ),
+    (
+        &STRUCTS_IN_LISTS,
+        &STRUCTS_IN_LISTS_ROWS,
+        1,
+        &[
+            Int(1),
+            Struct(1),
+            Null,
+            Struct(1),
+            Null,
+            List(3),
+            Null,
+            List(0),
+        ],
+    ),
+    (
+        &STRUCTS_IN_LISTS,
+        &STRUCTS_IN_LISTS_ROWS,
+        2,
+        &[Int(1), Struct(1), Null, Struct(1), Null],
+    ),
+    (
+        &STRUCTS_IN_LISTS,
+        &STRUCTS_IN_LISTS_ROWS,
+        3,
+        &[Int(1), Null],
+    ),
+    (&KINDS, &KINDS_ROW, 0, &KINDS_ROW),
+    (&KINDS, &KINDS_ROW, 1, &[Truth]),
+    (&KINDS, &KINDS_ROW, 2, &[Int(1)]),
+    (&KINDS, &KINDS_ROW, 3, &[Int(2)]),
+    (&KINDS, &KINDS_ROW, 4, &[Int(3)]),
+    (&KINDS, &KINDS_ROW, 6, &[Text]),
+    (&KINDS, &KINDS_ROW, 7, &[Blob]),
+    (&KINDS, &KINDS_ROW, 8, &[Int(8), Int(9), List(2)]),
+    (&LISTS, &LIST_ROWS, 0, &LIST_ROWS),
+    (
+        &LISTS,
+        &LIST_ROWS,
+        1,
+        &[
+            Int(1),
+            Int(2),
+            List(2),
+            List(0),
+            List(2),
+            Null,
+            List(0),
+            Null,
+            Int(3),
+            List(1),
+            List(2),
+            Int(4),
+            Int(5),
+            Int(6),
+            List(3),
+            List(1),
+        ],
+    ),
+    (
+        &LISTS,
+        &LIST_ROWS,
+        2,
+        &[
+            Int(1),
+            Int(2),
+            List(2),
+            List(0),
+            Null,
+            Int(3),
+            List(1),
+            Int(4),
+            Int(5),
+            Int(6),
+            List(3),
+        ],
+    ),
+    (
+        &LISTS,
+        &LIST_ROWS,
+        3,
+        &[Int(1), Int(2), Int(3), Int(4), Int(5), Int(6)],
+    ),
+    (
+        &STRUCTS,
+        &STRUCT_ROWS,
+        1,
+        &[Int(1), Struct(1), Null, Null, Struct(1)],
+    ),
+    (&STRUCTS, &STRUCT_ROWS, 2, &[Int(1), Null]),
+    (
+        &KINDS,
+        &[
+            Null,
+            Truth,
+            Int(1),
+            Int(2),
+            Int(3),
+            Int(4),
+            Text,
+            Blob,
+            Int(8),
+            Int(9),
+            List(2),
+            Date(3),
+            Struct(9),
+        ],
+        9,
+        &[Int(8), Int(9)],
+    ),
+    (
+        &KINDS,
+        &[
+            Truth,
+            Int(1),
+            Int(2),
+            Int(3),
+            Int(4),
+            Text,
+            Blob,
+            Int(8),
+            Int(9),
+            List(2),
+            Date(3),
+            Struct(9),
+        ],
+        10,
+        &[Date(3)],
+    ),
+    (
+        &KINDS,
+        &[
+            Null,
+            Null,
+            Null,
+            Null,
+            Int(5),
+            Text,
+            Blob,
+            List(0),
+            Null,
+            Struct(9),
+        ],
+        5,
+        &[Int(5)],
+    ),
+];
+
+/// Values and the fields of KINDS that they fit.
+static FITTING: [(Token, &'static [usize]); 19] = [
+    (Null, &[0, 1, 2, 3, 4, 5, 6, 7, 8]),
+    (Truth, &[0]),
+    (Int(-128), &[1, 2, 3, 4]),
+    (Int(-129), &[2, 3, 4]),
+    (Int(127), &[1, 2, 3, 4]),
+    (Int(128), &[2, 3, 4]),
+    (Int(-32768), &[2, 3, 4]),
+    (Int(-32769), &[3, 4]),
+    (Int(32767), &[2, 3, 4]),
+    (Int(32768), &[3, 4]),
+    (Int(-2147483648), &[3, 4]),
+    (Int(-2147483649), &[4]),
+    (Int(2147483647), &[3, 4]),
+    (Int(2147483648), &[4]),
+    (Int(i64::MIN), &[4]),
+    (Text, &[5]),
+    (Blob, &[6]),
+    (List(0), &[7]),
+    (Date(i32::MIN), &[8]),
+];
+
+/// A schema's types, a row, and whether it fits: within a list of lists, within an inner struct, of
+/// another shape, and null.
+static SHAPES: [(&'static [Listed], &'static [Token], bool); 12] = [
+    (
+        &LISTS,
+        &[Int(2147483647), List(1), List(1), Struct(1)],
+        true,
+    ),
+    (
+        &LISTS,
+        &[Int(2147483648), List(1), List(1), Struct(1)],
+        false,
+    ),
+    (
+        &LISTS,
+        &[Int(0), Int(-2147483649), List(2), List(1), Struct(1)],
+        false,
+    ),
+    (&LISTS, &[Null, List(1), Null, List(2), Struct(1)], true),
+    (&LISTS, &[Int(1), List(1), Struct(1)], false),
+    (&STRUCTS, &[Int(-2147483648), Struct(1), Struct(1)], true),
+    (&STRUCTS, &[Int(2147483648), Struct(1), Struct(1)], false),
+    (&STRUCTS, &[Null, Null, Struct(2), Struct(1)], false),
+    (&KINDS, &[Null, Struct(1)], false),
+    (&KINDS, &[List(0)], false),
+    (&KINDS, &[Truth], false),
+    (&KINDS, &[Null], true),
+];
+
+/// The value of a token that stands for no list and no struct.
+fn value_of(token: Token) -> Row<'static> {
+    match token {
+        Truth => Some(Value::Bool(true)),
+        Int(number) => Some(Value::Int(number)),
+        Date(day) => Some(Value::Date(day)),
+        Text => Some(Value::Text(CowStr::Borrowed("x"))),
+        Blob => Some(Value::Bytes(CowSlice::Borrowed(b"x"))),
+        _ => None,
+    }
+}
+
+/// The last rows, taken off.
+fn taken(rows: &mut Vec<Row<'static>>, count: usize) -> Result<Vec<Row<'static>>, AllocError> {
+    if count <= rows.len() {
+        rows.split_off(rows.len() - count)
+    } else {
+        rows.split_off(0)
+    }
+}
+
+/// The rows that stand in postfix.
+pub(crate) fn rows_of(alloc: Global, tokens: &[Token]) -> Result<Vec<Row<'static>>, AllocError> {
+    let mut rows = Vec::new(alloc);
+    for token in tokens {
+        let row = match *token {
+            List(count) => Some(Value::List(taken(&mut rows, count)?)),
+            Struct(count) => Some(Value::Struct(taken(&mut rows, count)?)),
+            plain => value_of(plain),
+        };
+        rows.push(row)?;
+    }
+    Ok(rows)
+}
+
+/// Whether the one row of the tokens fits the schema exactly where it is to.
+fn row_fits(
+    alloc: Global,
+    schema: &Schema,
+    tokens: &[Token],
+    fitting: bool,
+) -> Result<bool, AllocError> {
+    let rows = rows_of(alloc, tokens)?;
+    match rows.as_slice() {
+        [row] => Ok(fits(schema, row) == fitting),
+        _ => Ok(false),
+    }
+}
+
+/// The same of a row of `KINDS` that has the value in one field, and else nulls.
+fn field_fits(
+    alloc: Global,
+    schema: &Schema,
+    token: Token,
+    at: usize,
+    fitting: bool,
+) -> Result<bool, AllocError>
+    requires { at < 9 }
+{
+    let mut tokens = [Null; 10];
+    tokens[at] = token;
+    tokens[9] = Struct(9);
+    row_fits(alloc, schema, &tokens, fitting)
+}
+
+/// Whether the value fits these fields of `KINDS`, and no other.
+fn fields_fit(alloc: Global, token: Token, fields: &[usize]) -> Result<bool, TypeFault> {
+    let schema = schema_of(alloc, &KINDS)?;
+    for at in 0..9usize {
+        if !field_fits(alloc, &schema, token, at, fields.contains(&at))? {
+            return Ok(false);
+        }
+    }
+    Ok(true)
+}
+
+#[test]
+fn ranges(rt: HostRuntime) {
+    let alloc = rt.alloc();
+    for (i, &(token, fields)) in FITTING.iter().enumerate() {
+        let mut held = fields_fit(alloc, token, fields);
+        if held.is_err() {
+            held = fields_fit(alloc, token, fields);
+        }
+        assert!(rt; matches!(held, Ok(true)), "row {i}");
+    }
+}
+
+/// Whether a row fits the schema of the types exactly where it is to.
+fn is_shaped(
+    alloc: Global,
+    types: &[Listed],
+    tokens: &[Token],
+    fitting: bool,
+) -> Result<bool, TypeFault> {
+    let schema = schema_of(alloc, types)?;
+    Ok(row_fits(alloc, &schema, tokens, fitting)?)
+}
+
+#[test]
+fn shapes(rt: HostRuntime) {
+    let alloc = rt.alloc();
+    for (i, &(types, tokens, fitting)) in SHAPES.iter().enumerate() {
+        let mut held = is_shaped(alloc, types, tokens, fitting);
+        if held.is_err() {
+            held = is_shaped(alloc, types, tokens, fitting);
+        }
+        assert!(rt; matches!(held, Ok(true)), "row {i}");
+    }
+}
+
+/// Whether the cells are the rows.
+fn are_rows(cells: &[Lent<'_, 'static>], rows: &[Row<'static>]) -> bool {
+    if cells.len() != rows.len() {
+        return false;
+    }
+    for (i, cell) in cells.iter().enumerate() {
+        if *cell.0 != rows[i] {
+            return false;
+        }
+    }
+    true
+}
+
+/// Whether the wanted rows are the cells of the column.
+fn has_cells(
+    alloc: Global,
+    schema: &Schema,
+    column: usize,
+    rows: &[Row<'static>],
+    wanted: &[Row<'static>],
+) -> Result<bool, TypeFault>
+    requires { column < width schema.now }
+{
+    let found = lend(alloc, cells(alloc, schema, column, rows)?)?;
+    Ok(are_rows(&found, wanted))
+}
+
+/// Whether the column has the wanted cells.
+fn cells_come_to(
+    alloc: Global,
+    (types, rows, column, wanted): &CellCase,
+) -> Result<bool, TypeFault> {
+    let schema = schema_of(alloc, types)?;
+    let rows = rows_of(alloc, rows)?;
+    let wanted = rows_of(alloc, wanted)?;
+    if schema.width() <= *column {
+        return Ok(false);
+    }
+    has_cells(alloc, &schema, *column, &rows, &wanted)
+}
+
+/// A null list or struct has no cell below it, an empty list none, and a null in them one.
+#[test]
+fn cells_of_columns(rt: HostRuntime) {
+    let alloc = rt.alloc();
+    for (i, case) in CELLS.iter().enumerate() {
+        let mut held = cells_come_to(alloc, case);
+        if held.is_err() {
+            held = cells_come_to(alloc, case);
+        }
+        assert!(rt; matches!(held, Ok(true)), "row {i}");
+    }
+}
+
+/// Columns of KINDS, and the kinds of their types.
+static COLUMNS: [(usize, Option<Scalar>); 5] = [
+    (0, None),
+    (1, Some(Scalar::Boolean)),
+    (8, None),
+    (9, Some(Scalar::Int)),
+    (10, Some(Scalar::Date)),
+];
+
+/// The kind of a column's type, where that contains no other.
+fn kind_at(schema: &Schema, column: usize) -> Option<Scalar>
+    requires { column < width schema.now }
+{
+    match tree_at(schema.tree(), column) {
+        Tree::Scalar(kind, _) => Some(*kind),
+        _ => None,
+    }
+}
+
+/// Whether the column of `KINDS` has a type of this kind.
+fn has_kind(alloc: Global, column: usize, kind: Option<Scalar>) -> Result<bool, TypeFault> {
+    let schema = schema_of(alloc, &KINDS)?;
+    Ok(column < schema.width() && kind_at(&schema, column) == kind)
+}
+
+#[test]
+fn types_of_columns(rt: HostRuntime) {
+    let alloc = rt.alloc();
+    for &(column, kind) in &COLUMNS {
+        let mut held = has_kind(alloc, column, kind);
+        if held.is_err() {
+            held = has_kind(alloc, column, kind);
+        }
+        assert!(rt; matches!(held, Ok(true)), "of column {column}");
+    }
+}
+
+/// Whether a copy is the same row.
+fn is_copied(alloc: Global, row: &Row<'static>) -> Result<bool, AllocError> {
+    Ok(owned(alloc, row)? == *row)
+}
+
+/// Whether a copy of each row of the tokens is the same.
+fn are_copied(alloc: Global, tokens: &[Token]) -> Result<bool, AllocError> {
+    let rows = rows_of(alloc, tokens)?;
+    for row in &rows {
+        if !is_copied(alloc, row)? {
+            return Ok(false);
+        }
+    }
+    Ok(true)
+}
+
+fn copies_hold(alloc: Global) -> Result<bool, AllocError> {
+    Ok(are_copied(alloc, &STRUCTS_IN_LISTS_ROWS)? && are_copied(alloc, &KINDS_ROW)?)
+}
+
+#[test]
+fn copies(rt: HostRuntime) {
+    let alloc = rt.alloc();
+    let mut held = copies_hold(alloc);
+    if held.is_err() {
+        held = copies_hold(alloc);
+    }
+    assert!(rt; matches!(held, Ok(true)));
+}
