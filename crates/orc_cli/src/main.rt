@@ -1,50 +1,83 @@
 //! `orcm`, a program for Apache ORC files.
 #![tactic(auto)]
 
-mod command_line;
-mod files;
-mod merge;
-mod request;
-
-pub use merge::merge_to;
+use orc_file::FileFault;
 pub use orc_ints::ints_to;
 pub use orc_lines::write_from;
+use orc_merge::MergeFault;
+pub use orc_merge::merge as merge_to;
 pub use orc_output::CliFault;
+use orc_request::{Asked, Refusal, Request, new_file, read_words, request_of, source_of, words_of};
 pub use orc_rows::rows_to;
 pub use orc_show::show_to;
-
-#[cfg(test)]
-mod tests;
-
-use command_line::{Asked, Refusal, read_words, words_of};
-use files::{new_file, source_of};
-use orc_file::FileFault;
-use orc_merge::MergeFault;
 use orc_stripe::Options;
-use request::{Request, request_of};
 use std::fs::{self, File};
 use std::io;
 use std::process::ExitCode;
 use std::rt::{Env, Files};
 
+/// Why what the command line asks for isn't done: by a layer's fault, by its own words, or by the merger's fault.
+enum Ending {
+    Refused(Refusal),
+    NotMerged(MergeFault),
+}
+
+impl From<Refusal> for Ending {
+    ghost use Rattle.std.specs.Prelude.{◌≡◌};
+    ghost use Rattle.orc_cli.specs.declared.Ending.TheVariants.{Refused};
+
+    ghost from_gives = { λ refusal ending. ending ≡ Refused refusal };
+
+    fn from(refusal: Refusal) -> Ending {
+        Ending::Refused(refusal)
+    }
+}
+
+impl From<CliFault> for Ending {
+    ghost use Rattle.std.specs.Prelude.{◌≡◌};
+    ghost use Rattle.orc_cli.specs.declared.Ending.TheVariants.{Refused};
+    ghost use Rattle.orc_request.specs.declared.command_line.Refusal.TheVariants.{Fault};
+
+    ghost from_gives = { λ fault ending. ending ≡ Refused (Fault fault) };
+
+    fn from(fault: CliFault) -> Ending {
+        Ending::Refused(Refusal::Fault(fault))
+    }
+}
+
+impl From<MergeFault> for Ending {
+    ghost use Rattle.std.specs.Prelude.{◌≡◌};
+    ghost use Rattle.orc_cli.specs.declared.Ending.TheVariants.{NotMerged};
+
+    ghost from_gives = { λ fault ending. ending ≡ NotMerged fault };
+
+    fn from(fault: MergeFault) -> Ending {
+        Ending::NotMerged(fault)
+    }
+}
+
 fn main(rt: HostRuntime) -> ExitCode {
     match run(&rt) {
         Ok(()) => ExitCode::SUCCESS,
-        Err(Refusal::Fault(fault)) => {
+        Err(Ending::Refused(Refusal::NotUnderstood)) => ExitCode::from(2),
+        Err(Ending::Refused(Refusal::Fault(fault))) => {
             let _ = eprintln!(rt; "orcm: {fault}");
             ExitCode::from(1)
         }
-        Err(Refusal::NotUnderstood) => ExitCode::from(2),
+        Err(Ending::NotMerged(fault)) => {
+            let _ = eprintln!(rt; "orcm: {fault}");
+            ExitCode::from(1)
+        }
     }
 }
 
 /// Carries out what the command line asks for.
-fn run<R: Env + Files<File = File> + AllocGlobal + Print + Eprint>(rt: &R) -> Result<(), Refusal> {
+fn run<R: Env + Files<File = File> + AllocGlobal + Print + Eprint>(rt: &R) -> Result<(), Ending> {
     let words = words_of(rt)?;
     match read_words(rt, words.as_slice())? {
         Asked::Request(matches) => match request_of(&matches) {
-            Some(request) => Ok(answer(rt, request)?),
-            None => Err(Refusal::NotUnderstood),
+            Some(request) => answer(rt, request),
+            None => Err(Ending::Refused(Refusal::NotUnderstood)),
         },
         Asked::Text => Ok(()),
     }
@@ -71,19 +104,16 @@ fn write_file<R: Files<File = File> + AllocGlobal>(
     }
 }
 
-/// Joins files into a new one, which is made once all of them are found. The first that isn't there is named.
+/// Joins files into a new one, which is made once all of them are found.
 fn merge_files<R: Files<File = File> + AllocGlobal>(
     rt: &R,
     output: &str,
     inputs: &[&str],
-) -> Result<(), CliFault> {
+) -> Result<(), Ending> {
     let mut sources = Vec::new(rt.alloc());
-    for (number, path) in inputs.iter().enumerate() {
-        let Ok(source) = source_of(rt, path) else {
-            return Err(CliFault::Merge(MergeFault::SourceFailed(number)));
-        };
-        if sources.push(source).is_err() {
-            return Err(CliFault::File(FileFault::OutOfMemory));
+    for path in inputs {
+        if sources.push(source_of(rt, path)?).is_err() {
+            return Err(Ending::from(CliFault::File(FileFault::OutOfMemory)));
         }
     }
     merge_to(rt.alloc(), &mut sources, &mut new_file(rt, output)?)?;
@@ -94,24 +124,25 @@ fn merge_files<R: Files<File = File> + AllocGlobal>(
 fn answer<R: Files<File = File> + AllocGlobal + Print>(
     rt: &R,
     request: Request<'_, '_>,
-) -> Result<(), CliFault> {
+) -> Result<(), Ending> {
     let mut out = io::writer(rt);
     match request {
-        Request::Ints { rle, sign, hex } => ints_to(rt.alloc(), rle, sign, hex, &mut out),
+        Request::Ints { rle, sign, hex } => ints_to(rt.alloc(), rle, sign, hex, &mut out)?,
         Request::Rows { file } => match rows_to(rt.alloc(), source_of(rt, file)?, &mut out) {
-            Ok(_) => Ok(()),
-            Err((fault, _)) => Err(fault),
+            Ok(_) => {}
+            Err((fault, _)) => return Err(Ending::from(fault)),
         },
         Request::Show { file } => match show_to(rt.alloc(), source_of(rt, file)?, &mut out) {
-            Ok(_) => Ok(()),
-            Err((fault, _)) => Err(fault),
+            Ok(_) => {}
+            Err((fault, _)) => return Err(Ending::from(fault)),
         },
         Request::Write {
             schema,
             options,
             input,
             output,
-        } => write_file(rt, schema, options, input, output),
-        Request::Merge { output, inputs } => merge_files(rt, output, inputs),
+        } => write_file(rt, schema, options, input, output)?,
+        Request::Merge { output, inputs } => merge_files(rt, output, inputs)?,
     }
+    Ok(())
 }

@@ -14,7 +14,7 @@ use Rattle.orc_rle.specs.RunTwo.{IsRunTwo, NoRunTwo}
 use Rattle.orc_rle.specs.Stream.{IsStream, StopsAt}
 use Rattle.orc_output.specs.Output.{write_failed}
 use Rattle.orc_output.specs.declared.fault.CliFault.{CliFault}
-use Rattle.orc_output.specs.declared.fault.CliFault.TheVariants.{Run, Types, Json, File, Merge}
+use Rattle.orc_output.specs.declared.fault.CliFault.TheVariants.{Run, Types, Json, File}
 use Rattle.orc_types.specs.declared.json_fault.JsonFault.TheVariants as json
 use Rattle.orc_file.specs.declared.fault.FileFault.TheVariants as file
 
@@ -54,7 +54,6 @@ RefusesDigits rle sign text (Run fault) = (fault ≡ RunOutOfMemory) ⊎ StopsIn
 RefusesDigits rle sign text (Types fault) = ⊥
 RefusesDigits rle sign text (Json fault) = (fault ≡ json.BadHex) × IsNoHex text
 RefusesDigits rle sign text (File fault) = fault ≡ file.OutOfMemory
-RefusesDigits rle sign text (Merge fault) = ⊥
 
 -- why `ints` refuses: for its digits, or, where they spell numbers, for its output
 abbrev pub RefusesInts : Rle → Sign → List ℕ → CliFault → Type 0

@@ -1,7 +1,6 @@
 //! What a command refuses with.
 
 use orc_file::FileFault;
-use orc_merge::MergeFault;
 use orc_rle::RunFault;
 use orc_types::{JsonFault, TypeFault};
 use std::alloc::AllocError;
@@ -9,7 +8,7 @@ use thiserror::Error;
 
 /// The fault of the layer that refused. Its text is the layer, the fault's number and name in that
 /// layer, and its place where it has one; an inner layer's fault follows. Where the program itself can't
-/// open a file, write its output or get memory, that is a fault of the layer of files.
+/// open a file, write its output or get memory, that is a fault of the layer of files. Merging refuses with the merger's own fault.
 #[derive(Clone, Copy, Debug, PartialEq, Eq, Error)]
 pub enum CliFault {
     /// The bytes are no stream of runs.
@@ -24,9 +23,6 @@ pub enum CliFault {
     /// The file isn't read or written.
     #[error("{0}")]
     File(FileFault),
-    /// The files aren't joined.
-    #[error("{0}")]
-    Merge(MergeFault),
 }
 
 impl From<TypeFault> for CliFault {
@@ -59,17 +55,6 @@ impl From<FileFault> for CliFault {
 
     fn from(file: FileFault) -> CliFault {
         CliFault::File(file)
-    }
-}
-
-impl From<MergeFault> for CliFault {
-    ghost use Rattle.std.specs.Prelude.{◌≡◌};
-    ghost use Rattle.orc_output.specs.declared.fault.CliFault.TheVariants.{Merge};
-
-    ghost from_gives = { λ merge fault. fault ≡ Merge merge };
-
-    fn from(merge: MergeFault) -> CliFault {
-        CliFault::Merge(merge)
     }
 }
 

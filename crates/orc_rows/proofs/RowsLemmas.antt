@@ -15,8 +15,9 @@ use Rattle.orc_file.specs.Tails.{IsTail, OpenFault, ReadFault, tail_tests}
 use Rattle.orc_file.specs.declared.fault.FileFault.{FileFault}
 use Rattle.orc_file.specs.FileRows.{stripe_bytes, joined, HasRows, FileIs, AreOfStripes as RowsOfStripes}
 use Rattle.orc_file.specs.declared.tail.Tail.{Tail}
+use Rattle.orc_output.specs.Output.{IsOutsideFile}
 use Rattle.orc_output.proofs.OutputLemmas.{appends_more}
-use Rattle.orc_rows.specs.Rows.{row_line, row_lines, HaveJson, AreOfStripe, AreOfStripes, StripeStops, EndsAt, EndsIn, RefusesRows, IsOutsideFile}
+use Rattle.orc_rows.specs.Rows.{row_line, row_lines, HaveJson, AreOfStripe, AreOfStripes, StripeStops, EndsAt, EndsIn, RefusesRows}
 use Rattle.orc_output.specs.declared.fault.CliFault.{CliFault}
 use Rattle.orc_output.specs.declared.fault.CliFault.TheVariants.{File}
 

@@ -16,7 +16,7 @@ use Rattle.orc_file.specs.FileRows.{stripe_bytes, HasRows, StripeRefused}
 use Rattle.orc_file.specs.declared.tail.Tail.{Tail}
 use Rattle.orc_file.specs.declared.fault.FileFault.{FileFault}
 use Rattle.orc_file.specs.declared.fault.FileFault.TheVariants as file
-use Rattle.orc_output.specs.Output.{IsWantOfMemory, write_failed}
+use Rattle.orc_output.specs.Output.{write_failed, IsOfSource, IsNotOpened}
 use Rattle.orc_output.specs.declared.fault.CliFault.{CliFault}
 use Rattle.orc_output.specs.declared.fault.CliFault.TheVariants.{Json, File}
 
@@ -59,10 +59,6 @@ StripeStops s bytes n info fault =
     ((why : FileFault) × (fault ≡ File why) × StripeRefused s bytes n info why)
     ⊎ ((fault ≡ Json json.DuplicateField) × HasNoJson s info (stripe_bytes info bytes))
 
--- the refusals that come from outside the file's bytes, but for those of the output
-abbrev pub IsOfSource : CliFault → Type 0
-IsOfSource fault = (fault ≡ File file.SourceFailed) ⊎ IsWantOfMemory fault
-
 -- Why the lines of the stripe with this number aren't out, behind these that are; and of them a part is out
 -- where the output failed.
 abbrev pub EndsAt : Shape → List ℕ → ℕ → StripeInfo → List ℕ → Option (List ℕ) → Option (List ℕ) → CliFault → Type 0
@@ -80,14 +76,6 @@ pub record EndsIn (bytes : List ℕ) (tail : Tail) (old new : Option (List ℕ))
   pub before : AreOfStripes tail.schema bytes (take n tail.stripes) lines
   pub ends : EndsAt tail.schema bytes n (stripe_at tail.stripes n) lines old new fault
 
--- why a file isn't opened: by its bytes, or for its source or memory
-abbrev pub IsNotOpened : List ℕ → CliFault → Type 0
-IsNotOpened bytes fault = ((why : FileFault) × (fault ≡ File why) × OpenFault bytes why) ⊎ IsOfSource fault
-
 -- why `rows` refuses a file, and what is out then: nothing where the file isn't opened
 abbrev pub RefusesRows : List ℕ → Option (List ℕ) → Option (List ℕ) → CliFault → Type 0
 RefusesRows bytes old new fault = (IsNotOpened bytes fault × Keeps old new) ⊎ ((tail : Tail) × IsTail bytes tail × EndsIn bytes tail old new fault)
-
--- the refusals of a file whose rows have JSON
-abbrev pub IsOutsideFile : CliFault → Type 0
-IsOutsideFile fault = (fault ≡ write_failed) ⊎ IsOfSource fault

@@ -13,8 +13,8 @@ ghost use Rattle.orc_file.specs.declared.fault.FileFault.TheVariants.{Stripe, So
 ghost use Rattle.orc_file.specs.declared.tail.Tail.{Tail};
 ghost use Rattle.orc_stripe.specs.declared.fault.StripeFault.{StripeFault};
 ghost use Rattle.orc_stripe.specs.declared.fault.StripeFault.TheVariants as stripe;
-ghost use Rattle.orc_output.specs.Output.{AppendsPart, IsWantOfMemory, write_failed};
-ghost use Rattle.orc_rows.specs.Rows.{row_line, row_lines, HaveJson, AreOfStripe, AreOfStripes, HasNoJson, EndsAt, EndsIn, RefusesRows, IsOutsideFile};
+ghost use Rattle.orc_output.specs.Output.{AppendsPart, IsOutsideFile, IsWantOfMemory, write_failed};
+ghost use Rattle.orc_rows.specs.Rows.{row_line, row_lines, HaveJson, AreOfStripe, AreOfStripes, HasNoJson, EndsAt, EndsIn, RefusesRows};
 ghost use Rattle.orc_output.specs.declared.fault.CliFault.TheVariants.{Json, File};
 
 use orc_file::{OrcFile, Source};

@@ -9,8 +9,7 @@ use Rattle.orc_file.specs.declared.tail.Tail.{Tail}
 use Rattle.orc_file.specs.declared.fault.FileFault.{FileFault}
 use Rattle.orc_file.specs.declared.fault.FileFault.TheVariants.{WriteFailed, SourceFailed, OutOfMemory}
 use Rattle.orc_show.proofs.OpenFaults.{never_output}
-use Rattle.orc_output.specs.Output.{IsWantOfMemory, write_failed}
-use Rattle.orc_rows.specs.Rows.{IsOutsideFile}
+use Rattle.orc_output.specs.Output.{IsOutsideFile, IsWantOfMemory, write_failed}
 use Rattle.orc_output.specs.declared.fault.CliFault.{CliFault}
 use Rattle.orc_output.specs.declared.fault.CliFault.TheVariants.{File}
 

@@ -7,8 +7,7 @@ ghost use Rattle.orc_types.specs.Days.{date_text as date_day};
 ghost use Rattle.orc_file.specs.Tails.{IsTail};
 ghost use Rattle.orc_file.specs.declared.fault.FileFault.TheVariants.{SourceFailed};
 ghost use Rattle.orc_file.specs.declared.tail.Tail.{Tail};
-ghost use Rattle.orc_output.specs.Output.{AppendsPart, IsWantOfMemory, write_failed};
-ghost use Rattle.orc_rows.specs.Rows.{IsNotOpened, IsOutsideFile};
+ghost use Rattle.orc_output.specs.Output.{AppendsPart, IsNotOpened, IsOutsideFile, IsWantOfMemory, write_failed};
 ghost use Rattle.orc_show.specs.Show as spec;
 ghost use Rattle.orc_output.specs.declared.fault.CliFault.TheVariants.{File};
 

@@ -8,8 +8,8 @@ use Rattle.clap.specs.declared.parser.matches.Found.{Found}
 use Rattle.orc_rle.specs.declared.sign.Rle.{Rle}
 use Rattle.orc_rle.specs.declared.sign.Sign.{Sign}
 use Rattle.orc_stripe.specs.declared.options.Options.{Options}
-use Rattle.orc_cli.specs.declared.request.Request.{Request}
-use Rattle.orc_cli.specs.Requests.{Asks, HasInts, HasWrite, IsUnderstood, ints, rows, show, write, merge, IsNotUnderstood}
+use Rattle.orc_request.specs.declared.request.Request.{Request}
+use Rattle.orc_request.specs.Requests.{Asks, HasInts, HasWrite, IsUnderstood, ints, rows, show, write, merge, IsNotUnderstood}
 
 -- Who knows the words that were found names them.
 pub asks_some : (P : Found → Type 0) (found : Found) (asked : Option Request) → P found → IfSome asked (Asks found) → IfSome asked (λ request. (x : Found) × P x × Asks x request)

@@ -11,8 +11,8 @@ use Rattle.orc_rle.specs.declared.sign.Rle.TheVariants.{One, Two}
 use Rattle.orc_rle.specs.declared.sign.Sign.{Sign}
 use Rattle.orc_rle.specs.declared.sign.Sign.TheVariants.{Signed, Unsigned}
 use Rattle.orc_stripe.specs.declared.options.Options.{Options}
-use Rattle.orc_cli.specs.declared.request.Request.{Request}
-use Rattle.orc_cli.specs.declared.request.Request.TheVariants.{Ints, Rows, Show, Write, Merge}
+use Rattle.orc_request.specs.declared.request.Request.{Request}
+use Rattle.orc_request.specs.declared.request.Request.TheVariants.{Ints, Rows, Show, Write, Merge}
 
 -- the word of a version of the integer run lengths
 abbrev pub version_word : Rle → List ℕ

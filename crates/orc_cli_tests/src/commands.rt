@@ -1,20 +1,19 @@
-mod command_lines;
-mod files;
-mod merging;
-mod trickle;
-mod writing;
+//! What `ints`, `rows` and `show` print, and the texts of faults.
 
-use crate::*;
-use files::{
+use crate::files::{
     ALL_KINDS, NO_ROWS, NO_ROWS_OF_TWINS, SEVEN, SIX_SEVENS, THREE_SEVENS, TWINS, USER_PAIR,
 };
+use crate::trickle::{AtItsEnd, Trickle};
 use orc_file::{FileFault, SliceSource};
+use orc_ints::ints_to;
+use orc_output::CliFault;
 use orc_rle::{Rle, RunFault, Sign};
+use orc_rows::rows_to;
+use orc_show::show_to;
 use orc_stripe::{StreamKind, StripeFault};
 use orc_types::{JsonFault, TypeFault};
 use std::alloc::{AllocError, Global};
 use std::process::Abort;
-use trickle::{AtItsEnd, Trickle};
 
 /// Integer streams in hexadecimal digits, and what `ints` prints of them.
 static STREAMS: [(Rle, Sign, &str, Result<&str, CliFault>); 22] = [
@@ -124,7 +123,7 @@ const MANY_SEVENS: &str = "7f00077f00077f00077f00077f00077f00077f00077f00077f000
 /// Numbers of bytes that outputs take in one call.
 static BYTES_A_CALL: [usize; 4] = [1, 7, 4096, 8192];
 
-fn wants_memory(fault: CliFault) -> bool {
+pub(crate) fn wants_memory(fault: CliFault) -> bool {
     matches!(
         fault,
         CliFault::File(FileFault::OutOfMemory)

@@ -3,9 +3,9 @@ use Rattle.clap.specs.Matches.{found_of}
 use Rattle.clap.specs.Walk.{Text, Row, rows_of as found_rows}
 use Rattle.clap.specs.Simple.{subcommand_rows_of}
 use Rattle.clap.specs.declared.parser.matches.Found.{Found}
-use Rattle.orc_cli.specs.declared.request.Request.{Request}
-use Rattle.orc_cli.proofs.RequestLemmas.{asks_some, none_understood, understood_ints, understood_rows, understood_show, understood_write, understood_merge, understood_other}
-use Rattle.orc_cli.proofs.request.request_of.Goals as goal
+use Rattle.orc_request.specs.declared.request.Request.{Request}
+use Rattle.orc_request.proofs.RequestLemmas.{asks_some, none_understood, understood_ints, understood_rows, understood_show, understood_write, understood_merge, understood_other}
+use Rattle.orc_request.proofs.request.request_of.Goals as goal
 
 pub returns-in-ints-clause-found : goal.returns-in-ints-clause-found
 returns-in-ints-clause-found c =

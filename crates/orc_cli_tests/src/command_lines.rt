@@ -1,9 +1,8 @@
 //! Lists of words, and what they ask for.
 
-use crate::command_line::parsed;
-use crate::request::{Request, SIGNS, VERSIONS, request_of};
 use clap::error::ErrorKind;
 use clap::{ArgMatches, Error};
+use orc_request::{Request, SIGNS, VERSIONS, parsed, request_of};
 use orc_rle::{Rle, Sign};
 use std::alloc::Global;
 use std::convert::AsStr;

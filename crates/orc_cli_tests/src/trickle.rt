@@ -8,14 +8,14 @@ const ROOM: usize = 8192;
 
 /// What an output does once it has as many bytes as it takes.
 #[derive(Clone, Copy, Debug)]
-pub enum AtItsEnd {
+pub(crate) enum AtItsEnd {
     Fails,
     TakesNothing,
 }
 
 /// An output that takes few bytes a call, and stops at some number of them.
 #[derive(Drop)]
-pub struct Trickle {
+pub(crate) struct Trickle {
     bytes: [u8; ROOM],
     len: usize,
     a_call: usize,
@@ -26,7 +26,7 @@ pub struct Trickle {
 
 impl Trickle {
     /// It takes at most `a_call` bytes a call, and `stop` in all.
-    pub fn new(a_call: usize, stop: usize, at_its_end: AtItsEnd) -> Trickle {
+    pub(crate) fn new(a_call: usize, stop: usize, at_its_end: AtItsEnd) -> Trickle {
         Trickle {
             bytes: [0; ROOM],
             len: 0,
@@ -37,12 +37,12 @@ impl Trickle {
     }
 
     /// The bytes so far.
-    pub fn written(&self) -> &[u8] {
+    pub(crate) fn written(&self) -> &[u8] {
         &self.bytes[..self.len]
     }
 
     /// Forgets all bytes but so many at the front.
-    pub fn cut(&mut self, len: usize) {
+    pub(crate) fn cut(&mut self, len: usize) {
         self.len = self.len.min(len);
     }
 }

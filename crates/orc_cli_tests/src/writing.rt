@@ -1,9 +1,10 @@
 //! Files written of lines.
 
-use super::files::{NO_ROWS, SIX_SEVENS, THREE_SEVENS};
-use super::wants_memory;
-use crate::*;
+use crate::commands::wants_memory;
+use crate::files::{NO_ROWS, SIX_SEVENS, THREE_SEVENS};
 use orc_file::{FileFault, VecSink};
+use orc_lines::write_from;
+use orc_output::CliFault;
 use orc_rle::Rle;
 use orc_stripe::Options;
 use orc_types::{JsonFault, TypeFault};

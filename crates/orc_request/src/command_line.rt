@@ -36,7 +36,7 @@ pub enum Refusal {
 
 impl From<CliFault> for Refusal {
     ghost use Rattle.std.specs.Prelude.{◌≡◌};
-    ghost use Rattle.orc_cli.specs.declared.command_line.Refusal.TheVariants.{Fault};
+    ghost use Rattle.orc_request.specs.declared.command_line.Refusal.TheVariants.{Fault};
 
     ghost from_gives = { λ fault refusal. refusal ≡ Fault fault };
 

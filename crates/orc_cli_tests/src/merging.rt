@@ -1,23 +1,22 @@
 //! Files joined into one.
 
-use super::files::{NO_ROWS, SIX_SEVENS, THREE_SEVENS, TWINS};
-use crate::*;
+use crate::files::{NO_ROWS, SIX_SEVENS, THREE_SEVENS, TWINS};
 use orc_file::{FileFault, SliceSource, VecSink};
-use orc_merge::MergeFault;
+use orc_merge::{MergeFault, merge};
 use std::alloc::Global;
 
 /// What stands of two files that are joined, and the fault where there is one.
-fn joined_now(alloc: Global, first: &[u8], second: &[u8]) -> (Option<CliFault>, Vec<u8>) {
+fn joined_now(alloc: Global, first: &[u8], second: &[u8]) -> (Option<MergeFault>, Vec<u8>) {
     let mut inputs = [SliceSource::new(first), SliceSource::new(second)];
     let mut out = VecSink::new(alloc);
-    let answer = merge_to(alloc, &mut inputs, &mut out);
+    let answer = merge(alloc, &mut inputs, &mut out);
     (answer.err(), out.into_vec())
 }
 
 /// The same once there is memory.
-fn joined(alloc: Global, first: &[u8], second: &[u8]) -> (Option<CliFault>, Vec<u8>) {
+fn joined(alloc: Global, first: &[u8], second: &[u8]) -> (Option<MergeFault>, Vec<u8>) {
     match joined_now(alloc, first, second) {
-        (Some(CliFault::Merge(MergeFault::OutOfMemory | MergeFault::WriteFailed)), _) => {
+        (Some(MergeFault::OutOfMemory | MergeFault::WriteFailed), _) => {
             joined_now(alloc, first, second)
         }
         answer => answer,
@@ -51,7 +50,7 @@ static REFUSED: [(&[u8], &[u8], MergeFault); 2] = [
 fn files_that_are_refused(rt: HostRuntime) {
     for (first, second, why) in REFUSED {
         let (fault, bytes) = joined(rt.alloc(), first, second);
-        assert_eq!(rt; fault, Some(CliFault::Merge(why)));
+        assert_eq!(rt; fault, Some(why));
         assert!(rt; bytes.as_slice().is_empty());
     }
 }

@@ -1,0 +1,10 @@
+//! What a command line asks for, and the files that it names.
+#![tactic(auto)]
+
+mod command_line;
+mod files;
+mod request;
+
+pub use command_line::{Asked, Refusal, parsed, read_words, words_of};
+pub use files::{new_file, source_of};
+pub use request::{Request, SIGNS, VERSIONS, request_of};
