@@ -65,14 +65,14 @@ top_below held have width h le =
     shr_below held width (have - width) (rw e h)
 
 -- a mask keeps the low digits
-pub masked : (n k : ℕ) → k < 128 → bit_and n (1 * 2 ^ k % 2 ^ 128 - 1) ≡ n % 2 ^ k
-masked n k lt = rw (one_shl k 128 lt) (and_mask n k)
+pub masked : (n k most : ℕ) → k < most → bit_and n (1 * 2 ^ k % 2 ^ most - 1) ≡ n % 2 ^ k
+masked n k most lt = rw (one_shl k most lt) (and_mask n k)
 
 pub cut_at : (held have width : ℕ) (rest : List ℕ) → width ≤ have → have - width < 128
     → bits held have ++ rest ≡ bits (held / 2 ^ (have - width)) width ++ (bits (bit_and held (1 * 2 ^ (have - width) % 2 ^ 128 - 1)) (have - width) ++ rest)
 cut_at held have width rest le lt =
     let e : width + (have - width) ≡ have = omega arith in
-    let p = masked held (have - width) lt in
+    let p = masked held (have - width) 128 lt in
     rw (p, ← append_assoc, ← cut held (have - width) width, e) refl
 
 pub digits-append : (w : ℕ) (vs ws : List ℕ) → digits w (vs ++ ws) ≡ digits w vs ++ digits w ws
@@ -92,6 +92,19 @@ AllFit-push w (x ∷ vs) v h lt = (h.0, AllFit-push w vs v h.1 lt)
 pub AllFit-append : (w : ℕ) (vs ws : List ℕ) → AllFit w vs → AllFit w ws → AllFit w (vs ++ ws)
 AllFit-append w [] ws h k = k
 AllFit-append w (v ∷ vs) ws h k = (h.0, AllFit-append w vs ws h.1 k)
+
+pub AllFit-front : (w : ℕ) (vs ws : List ℕ) → AllFit w (vs ++ ws) → AllFit w vs
+AllFit-front w [] ws h = tt
+AllFit-front w (v ∷ vs) ws h = (h.0, AllFit-front w vs ws h.1)
+
+pub AllFit-back : (w : ℕ) (vs ws : List ℕ) → AllFit w (vs ++ ws) → AllFit w ws
+AllFit-back w [] ws h = h
+AllFit-back w (v ∷ vs) ws h = AllFit-back w vs ws h.1
+
+pub AllFit-drop : (w i : ℕ) (vs : List ℕ) → AllFit w vs → AllFit w (drop i vs)
+AllFit-drop w zero vs h = h
+AllFit-drop w (suc i) [] h = tt
+AllFit-drop w (suc i) (v ∷ vs) h = AllFit-drop w i vs h.1
 
 pub AllFit-replicate : (w n v : ℕ) → v < 2 ^ w → AllFit w (replicate n v)
 AllFit-replicate w zero v lt = tt
@@ -155,15 +168,15 @@ pub emit : (out : List ℕ) (at rest left : ℕ) (all : List ℕ) → at < lengt
     → digits 8 (take (at + 1) (set out at (rest / 2 ^ (left - 8)))) ++ bits (bit_and rest (1 * 2 ^ (left - 8) % 2 ^ 128 - 1)) (left - 8) ≡ all
 emit out at rest left all lt le small h =
     let e : 8 + (left - 8) ≡ left = omega arith in
-    let p = masked rest (left - 8) small in
+    let p = masked rest (left - 8) 128 small in
     let c = ap (bits rest) (sym e) ∙ cut rest (left - 8) 8 in
     rw (take_more_set out at (rest / 2 ^ (left - 8)) lt, digits-push 8 (take at out) (rest / 2 ^ (left - 8)), p, append_assoc, ← c) h
 
 pub byte_below : (rest left : ℕ) → rest < 2 ^ left → 8 ≤ left → rest / 2 ^ (left - 8) < 2 ^ 8
 byte_below rest left h le = let e : 8 + (left - 8) ≡ left = omega arith in shr_below rest 8 (left - 8) (rw e h)
 
-pub left_below : (rest k : ℕ) → k < 128 → bit_and rest (1 * 2 ^ k % 2 ^ 128 - 1) < 2 ^ k
-left_below rest k lt = rw (masked rest k lt) (mod_below rest (2 ^ k) (pow_pos k))
+pub masked_below : (n k most : ℕ) → k < most → bit_and n (1 * 2 ^ k % 2 ^ most - 1) < 2 ^ k
+masked_below n k most lt = rw (masked n k most lt) (mod_below n (2 ^ k) (pow_pos k))
 
 pub AllFit-at : (w i : ℕ) (vs : List ℕ) → i < length vs → AllFit w vs → get_or vs i 0 < 2 ^ w
 AllFit-at w i [] lt h = absurd (omega (arith, lt))
@@ -242,3 +255,7 @@ len_by_eights w n =
     let parts : n ≡ 8 * (n / 8) + n % 8 = omega arith in
     let all : w * n ≡ 8 * (n / 8 * w) + n % 8 * w = ap (λ (k : ℕ). w * k) parts ∙ eights w (n / 8) (n % 8) in
     omega (arith, all)
+
+-- 600 bytes hold as many numbers of 8 digits at most
+pub few_bytes : (w n m total : ℕ) → w ≤ 8 → n ≤ 600 → m ≡ n → total ≡ 600 → packed_len w m ≤ total
+few_bytes w n m total le few same all = let most : w * m ≤ 8 * 600 = mul-le w m 8 600 le (omega (arith, same, few)) in omega (arith, most, all)

@@ -2,7 +2,9 @@
 //! lengths spell them.
 #![tactic(auto)]
 
+mod byte_parts;
 mod fault;
+mod lanes;
 mod packed_digits;
 mod sign_fold;
 mod varint;

@@ -4,7 +4,9 @@ ghost use Rattle.orc_bits.specs.Packed.{bits, digits, packed_len, AllFit, IsPack
 ghost use Rattle.orc_bits.specs.declared.fault.BitFault.{BitFault};
 ghost use Rattle.orc_bits.specs.declared.fault.BitFault.TheVariants.{Short, OutOfMemory};
 
+use crate::byte_parts::unpack_by_bytes;
 use crate::fault::BitFault;
+use crate::lanes::unpack_by_chunks;
 use crate::width::Width;
 
 /// The least number of bytes that holds `n` numbers of `width` digits.
@@ -58,7 +60,7 @@ impl<'a> Reader<'a> {
 }
 
 /// Fills the slice with the numbers at the front of the bytes, one after the other.
-fn unpack_plain(bytes: &[u8], width: u32, out: &mut [u64])
+pub(crate) fn unpack_plain(bytes: &[u8], width: u32, out: &mut [u64])
     requires most { width ≤ 64 }
     requires there { packed_len width (length out.old) ≤ length bytes.now }
     ensures { IsPacked (take (packed_len width (length out.old)) bytes.now) width out.new }
@@ -72,6 +74,33 @@ fn unpack_plain(bytes: &[u8], width: u32, out: &mut [u64])
     for place in out.iter_mut() {
         *place = reader.next(width);
     }
+}
+
+/// Fills the slice with the numbers at the front of the bytes. Where the width divides 8, whole chunks
+/// of eight bytes go in lanes, the whole bytes behind them one at a time, and the numbers of a last part
+/// of a byte one after the other, as all numbers of another width do.
+fn unpack_there(bytes: &[u8], width: u32, out: &mut [u64])
+    requires some { 1 ≤ width }
+    requires most { width ≤ 64 }
+    requires there { packed_len width (length out.old) ≤ length bytes.now }
+    ensures { IsPacked (take (packed_len width (length out.old)) bytes.now) width out.new }
+{
+    let count = match width {
+        1 => 8,
+        2 => 4,
+        4 => 2,
+        8 => 1,
+        _ => return unpack_plain(bytes, width, out),
+    };
+    let chunks = out.len() / (8 * count);
+    let (in_chunks, behind) = bytes.split_at(8 * chunks);
+    let (first, left) = out.split_at_mut(8 * count * chunks);
+    unpack_by_chunks(in_chunks, width, 8 * count, chunks, first);
+    let whole = left.len() / count;
+    let (in_bytes, rest) = behind.split_at(whole);
+    let (second, last) = left.split_at_mut(count * whole);
+    unpack_by_bytes(in_bytes, width, count, second);
+    unpack_plain(rest, width, last);
 }
 
 /// Fills `out`, which has `n` places, with the `n` numbers of one width that stand packed at the
@@ -96,7 +125,7 @@ pub fn unpack(bytes: &[u8], width: Width, n: usize, out: &mut [u64]) -> Result<u
     if bytes.len() < len {
         return Err(BitFault::Short);
     }
-    unpack_plain(bytes, digits, out);
+    unpack_there(bytes, digits, out);
     Ok(len)
 }
 

@@ -3,6 +3,7 @@ ghost use Rattle.orc_bits.specs.Packed.{AllFit};
 ghost use Rattle.orc_bits.specs.Width.{width_at};
 
 use super::with_memory;
+use crate::packed_digits::unpack_plain;
 use crate::*;
 use std::alloc::Global;
 use std::process::Abort;
@@ -67,6 +68,54 @@ fn unpacked(rt: HostRuntime) {
         assert_eq!(rt; unpack(bytes, width, numbers.len(), out), Ok(bytes.len()));
         assert_eq!(rt; &places[..numbers.len()], numbers, "in {bytes:?}");
     }
+}
+
+#[test]
+fn nine_in_a_byte(rt: HostRuntime) {
+    let mut places = [7; 9];
+    let answer = unpack(&[0xa5], fixed_at_least(1), 9, &mut places);
+    assert_eq!(rt; answer, Err(BitFault::Short));
+    assert_eq!(rt; places, [7; 9]);
+}
+
+/// Bytes of a fixed seed.
+fn noise() -> [u8; 600] {
+    let mut bytes = [0; 600];
+    let mut state = 20_240_229u32;
+    for place in bytes.iter_mut() {
+        state = state.wrapping_mul(1_664_525).wrapping_add(1_013_904_223);
+        *place = (state >> 24) as u8;
+    }
+    bytes
+}
+
+/// The widths that divide 8, with 0 to 600 numbers.
+#[test]
+fn chunks_and_bytes(rt: HostRuntime) {
+    let bytes = noise();
+    for code in [0, 1, 3, 7] {
+        if let Some(width) = width_of(code) {
+            for n in 0..601 {
+                check_one_by_one(&rt, &bytes, width, n);
+            }
+        }
+    }
+}
+
+/// What is unpacked by chunks and bytes is what the plain loop unpacks, and nothing is written behind it.
+fn check_one_by_one(rt: &impl Abort, bytes: &[u8; 600], width: Width, n: usize)
+    requires few { n ≤ 600 }
+{
+    let digits = width.digits();
+    if digits > 8 {
+        return;
+    }
+    let mut places = [7; 600];
+    let mut one_by_one = [7; 600];
+    let len = (n * digits as usize).div_ceil(8);
+    assert_eq!(rt; unpack(bytes, width, n, &mut places[..n]), Ok(len));
+    unpack_plain(bytes, digits, &mut one_by_one[..n]);
+    assert!(rt; places == one_by_one, "{n} of {digits} digits");
 }
 
 /// The highest digit alone, the lowest alone or all digits of a width, in turn.

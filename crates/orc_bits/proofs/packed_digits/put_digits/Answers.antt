@@ -1,6 +1,6 @@
 use Rattle.std.proofs.Common.{◌<◌, ◌-◌, arith, refl, length, length-set, append_assoc}
 use Rattle.std.proofs.lemmas.Nat.{shl_whole}
-use Rattle.orc_bits.proofs.PackedLemmas.{join_below, emit, byte_below, left_below, bits-append, fit_more}
+use Rattle.orc_bits.proofs.PackedLemmas.{join_below, emit, byte_below, masked_below, bits-append, fit_more}
 use Rattle.orc_bits.proofs.packed_digits.put_digits.Goals as goal
 
 pub loop-left-init : goal.loop-left-init
@@ -23,7 +23,7 @@ loop-left-preserved c =
     let lt : c.loop-left.at < length c.loop-left.out = omega (arith, c.loop-left.invariant.room) in
     record {
       few = omega (arith, c.loop-left.invariant.few);
-      below = left_below c.loop-left.rest (c.loop-left.left - 8) (omega (arith, c.loop-left.invariant.few));
+      below = masked_below c.loop-left.rest (c.loop-left.left - 8) 128 (omega (arith, c.loop-left.invariant.few));
       room = simp length-set (omega (arith, c.loop-left.invariant.room));
       used = omega (arith, c.loop-left.invariant.used);
       small = λ h. fit_more 8 c.loop-left.at _ c.loop-left.out lt (c.loop-left.invariant.small h) (byte_below c.loop-left.rest c.loop-left.left c.loop-left.invariant.below c.loop-left-test.true);
