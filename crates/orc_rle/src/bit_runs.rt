@@ -1,14 +1,16 @@
-ghost use Rattle.std.specs.Prelude.{◌≡◌, ℕ, List, [], ◌∷◌, ◌++◌, ◌+◌, ◌^◌, ◌<◌, length, map, get_or, Bool, ◌⊎◌, IfOk, IfErr, OnOk, OnErr, MatchResult};
+ghost use Rattle.std.specs.Prelude.{◌≡◌, ℕ, List, [], ◌∷◌, ◌++◌, ◌+◌, ◌^◌, ◌<◌, ◌≤◌, length, drop, map, get_or, Bool, ◌⊎◌, Result, Ok, Err, IfOk, IfErr, OnOk, OnErr, MatchResult};
 ghost use Rattle.orc_bits.specs.Packed.{bits, digits, packed_len, AllFit, IsPackedText};
 ghost use Rattle.orc_rle.specs.declared.fault.RunFault.{RunFault};
 ghost use Rattle.orc_rle.specs.declared.fault.RunFault.TheVariants.{OutOfMemory};
 ghost use Rattle.orc_rle.specs.Values.{AppendsBytes};
 ghost use Rattle.orc_rle.specs.Stream.{StopsWithin, Refuses};
+ghost use Rattle.orc_rle.specs.Seeking.{bytes_needed, SeeksBits, BitSeekFails};
 ghost use Rattle.orc_rle.specs.ByteRun.{IsByteRun, NoByteRun};
 ghost use Rattle.orc_rle.specs.BitStream.{digit, IsBitStream, IsBitText};
 
-use crate::byte_runs::ByteRuns;
+use crate::byte_runs::{ByteRuns, RunU8, run_at};
 use crate::fault::RunFault;
+use crate::position::{BitPos, Pos};
 use std::alloc::Global;
 
 /// Run lengths of booleans (ORC specification, "Run Length Encoding", "Boolean Run Length Encoding"):
@@ -17,7 +19,7 @@ pub struct BitRuns;
 
 impl BitRuns {
     /// The `n` booleans that the runs of all of `bytes` have. What the spare digits of the last byte are
-    /// doesn't matter. Any `n` will do: no memory is set aside for it.
+    /// doesn't matter. Any `n` will do: memory is set aside only once there are bytes for so many.
     ///
     /// Refusals: those of `ByteRuns::decode` for the least number of bytes that holds `n` booleans. So
     /// `TooMany` comes where a run goes past that number of bytes, and `TooFew` where they end before it.
@@ -30,11 +32,57 @@ impl BitRuns {
         ensures refused { (fault : RunFault) → StopsWithin IsByteRun NoByteRun (packed_len 1 n) bytes.now fault → Refuses result fault }
     {
         let packed = ByteRuns::decode(alloc, bytes, n.div_ceil(8))?;
-        let mut values = Vec::new(alloc);
+        let mut values = Vec::from_elem(alloc, false, n)?;
         for i in 0..n {
-            values.push(digit_at(packed[i / 8], i % 8))?;
+            values[i] = digit_at(packed[i / 8], i % 8);
         }
         Ok(values)
+    }
+
+    /// Decodes bytes from the position's offset on until `skip` of them are passed, and answers the offset
+    /// after the last run decoded; `run` holds what is left of that one. Where `bits` is above 0 that begins
+    /// with the byte of which so many digits are passed; it may be the first of a run more. What stands
+    /// before the offset has no part in the answer.
+    ///
+    /// Refusals: `BadPosition` at the offset, where `bits` is above 8, which is tested first, where the offset
+    /// lies past the end, or where the runs from there on hold fewer than `skip` bytes, or no more and `bits`
+    /// is above 0; the fault of bytes that are no run, met on the way, at their place. After a refusal `run` is
+    /// empty. The count of `run` rises by `skip` at most, and by one more where `bits` is above 0; by one at
+    /// most where the first run has all these bytes. It takes no memory.
+    pub fn seek(bytes: &[u8], pos: BitPos, run: &mut RunU8) -> Result<usize, RunFault>
+        ensures found { IfOk result (λ at. SeeksBits bytes.now pos.offset pos.skip pos.bits at run.new.values) }
+        ensures only { (at : ℕ) (left : List ℕ) → SeeksBits bytes.now pos.offset pos.skip pos.bits at left
+            → (result ≡ Ok at) × (run.new.values ≡ left) }
+
+        ensures fault { IfErr result (BitSeekFails bytes.now pos.offset pos.skip pos.bits) }
+        ensures refused { (fault : RunFault) → BitSeekFails bytes.now pos.offset pos.skip pos.bits fault → result ≡ Err fault }
+        ensures empty { OnErr result (run.new.values ≡ []) }
+
+        ensures count { run.new.count ≤ run.old.count + bytes_needed pos.skip pos.bits }
+        ensures one_run { (front rest v : List ℕ) → IsByteRun front v → drop pos.offset bytes.now ≡ front ++ rest
+            → bytes_needed pos.skip pos.bits ≤ length v → run.new.count ≤ run.old.count + 1 }
+    {
+        if pos.bits > 8 {
+            run.clear();
+            return Err(RunFault::BadPosition(pos.offset));
+        }
+        let place = Pos {
+            offset: pos.offset,
+            skip: pos.skip,
+        };
+        let at = ByteRuns::seek(bytes, place, run)?;
+        if pos.bits == 0 {
+            return Ok(at);
+        }
+        let left = run.values().len();
+        if left > 0 {
+            return Ok(at);
+        }
+        if at >= bytes.len() {
+            return Err(RunFault::BadPosition(pos.offset));
+        }
+        let len = run_at(bytes, at, run)?;
+        Ok(at + len)
     }
 
     /// Appends the one text that the writer makes of the booleans: what `ByteRuns::put_runs` appends for
