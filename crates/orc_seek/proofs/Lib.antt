@@ -1,0 +1,4 @@
+pub mod PositionLemmas
+pub mod BitPositionLemmas
+pub mod PlaceLemmas
+pub mod WalkLemmas

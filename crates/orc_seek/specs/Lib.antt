@@ -1,0 +1,3 @@
+pub mod Position
+pub mod BitPosition
+pub mod RunPlaces
