@@ -7,15 +7,16 @@ use Rattle.orc_bits.specs.Packed.{bits, digits, IsPacked}
 use Rattle.orc_bits.proofs.PackedLemmas.{length-bits, length-digits, digits-append}
 use Rattle.orc_rle.specs.BitStream.{digit, IsBitStream}
 use Rattle.orc_rle.specs.BitLaws.{held_len}
-use Rattle.orc_rle.specs.ByteRun.{IsByteRun}
+use Rattle.orc_rle.specs.ByteRun.{IsByteRun, NoByteRun}
+use Rattle.orc_rle.specs.declared.fault.RunFault.{RunFault}
 use Rattle.orc_rle.specs.ByteLaws.{one_byte_run, byte_run_some}
-use Rattle.orc_rle.specs.Seeking.{SeeksBits, bytes_needed}
+use Rattle.orc_rle.specs.Seeking.{SeeksBits, BitSeekFails, bytes_needed}
 use Rattle.orc_rle.specs.Stream.{IsStream}
 use Rattle.orc_rle.proofs.BitLemmas.{digits_one}
 use Rattle.orc_rle.proofs.StreamLemmas.{runs_rest, one_stream}
 use Rattle.orc_seek.specs.Position.{HasValues, IsOneRun}
 use Rattle.orc_seek.specs.BitPosition.{BeginsBits, BitsLeft, BitsGoOn, IsBitPlace, HasBits}
-use Rattle.orc_seek.proofs.PositionLemmas.{goes_on, sought, one_number, one_place, SamePlace, seek_alone, rest_alone}
+use Rattle.orc_seek.proofs.PositionLemmas.{goes_on, sought, one_number, one_place, SamePlace, seek_alone, fails_alone, rest_alone}
 
 -- bytes of a stream of booleans
 pub has_bytes : (bytes : List ℕ) (total n : ℕ) → HasBits bytes total → n ≤ total → HasValues IsByteRun bytes (n / 8)
@@ -115,6 +116,15 @@ bit_place_run bytes total offset skip bits n has h = elim h.place.inside [
 ]
 
 -- bytes before the offset may be others
+pub bit_seek_alone : (a b : List ℕ) (offset skip bits at : ℕ) (left : List ℕ) → drop offset a ≡ drop offset b → offset ≤ length b → SeeksBits a offset skip bits at left
+    → SeeksBits b offset skip bits at left
+bit_seek_alone a b offset skip bits at left same le h = (h.0, seek_alone IsByteRun a b offset skip (bytes_needed skip bits) at left same le h.1)
+
+pub bit_fails_alone : (a b : List ℕ) (offset skip bits : ℕ) (fault : RunFault) → drop offset a ≡ drop offset b → offset ≤ length a → offset ≤ length b
+    → BitSeekFails a offset skip bits fault → BitSeekFails b offset skip bits fault
+bit_fails_alone a b offset skip bits fault same la lb (inl many) = inl many
+bit_fails_alone a b offset skip bits fault same la lb (inr h) = inr (h.0, fails_alone IsByteRun NoByteRun a b offset (bytes_needed skip bits) fault same la lb h.1)
+
 pub bits_alone : (a b : List ℕ) (offset skip bits : ℕ) (all : List Bool) → drop offset a ≡ drop offset b → offset ≤ length b → BitsGoOn a offset skip bits all → BitsGoOn b offset skip bits all
 bits_alone a b offset skip bits all same le h = record {
   at = h.at;

@@ -1,0 +1,360 @@
+//! The positions that a writer gives to values: which they are, what comes from them, and that they are found among
+//! the places of the runs.
+use super::with_memory;
+use Sign::{Signed, Unsigned};
+use orc_rle::*;
+use orc_seek::*;
+use std::alloc::Global;
+use std::process::Abort;
+
+/// Values, their sign, their text, and the positions of some of them: number, offset and skip.
+type Row = (
+    &'static [i64],
+    Sign,
+    &'static [u8],
+    &'static [(usize, usize, usize)],
+);
+
+/// 200 down to 61.
+const DOWN: [i64; 140] = [
+    200, 199, 198, 197, 196, 195, 194, 193, 192, 191, 190, 189, 188, 187, 186, 185, 184, 183, 182,
+    181, 180, 179, 178, 177, 176, 175, 174, 173, 172, 171, 170, 169, 168, 167, 166, 165, 164, 163,
+    162, 161, 160, 159, 158, 157, 156, 155, 154, 153, 152, 151, 150, 149, 148, 147, 146, 145, 144,
+    143, 142, 141, 140, 139, 138, 137, 136, 135, 134, 133, 132, 131, 130, 129, 128, 127, 126, 125,
+    124, 123, 122, 121, 120, 119, 118, 117, 116, 115, 114, 113, 112, 111, 110, 109, 108, 107, 106,
+    105, 104, 103, 102, 101, 100, 99, 98, 97, 96, 95, 94, 93, 92, 91, 90, 89, 88, 87, 86, 85, 84,
+    83, 82, 81, 80, 79, 78, 77, 76, 75, 74, 73, 72, 71, 70, 69, 68, 67, 66, 65, 64, 63, 62, 61,
+];
+
+static ONE: [Row; 5] = [
+    (
+        &[1, 2, 3, 3, 3],
+        Unsigned,
+        &[0x00, 1, 1, 0xfe, 3, 3],
+        &[(0, 0, 0), (2, 0, 2), (3, 3, 0), (4, 3, 1), (5, 6, 0)],
+    ),
+    (
+        &[7, 7, 7, 9, 9, 9],
+        Signed,
+        &[0, 0, 0x0e, 0, 0, 0x12],
+        &[(3, 3, 0), (5, 3, 2), (6, 6, 0)],
+    ),
+    (&[], Signed, &[], &[(0, 0, 0)]),
+    (
+        &[1, -1, 2, -2, 3],
+        Signed,
+        &[0xfb, 2, 1, 4, 3, 6],
+        &[(0, 0, 0), (4, 0, 4), (5, 6, 0)],
+    ),
+    (
+        &DOWN,
+        Unsigned,
+        &[0x7f, 0xff, 0xc8, 1, 7, 0xff, 0x46],
+        &[(129, 0, 129), (130, 4, 0), (139, 4, 9), (140, 7, 0)],
+    ),
+];
+
+static TWO: [Row; 2] = [
+    (
+        &[10000, 10000, 10000, 10000, 10000, 5, 7],
+        Unsigned,
+        &[0x0a, 0x27, 0x10, 0x46, 0x01, 0x57],
+        &[(4, 0, 4), (5, 3, 0), (6, 3, 1), (7, 6, 0)],
+    ),
+    (
+        &[7; 513],
+        Unsigned,
+        &[0xc1, 0xff, 7, 0, 0x46, 0, 0x70],
+        &[(511, 0, 511), (512, 4, 0), (513, 7, 0)],
+    ),
+];
+
+/// Bytes, their text, and the positions of some of them: number, offset and skip.
+static BYTES: [(
+    &'static [u8],
+    &'static [u8],
+    &'static [(usize, usize, usize)],
+); 3] = [
+    (
+        &[1, 2, 2, 2, 3],
+        &[0xff, 1, 0x00, 2, 0xff, 3],
+        &[(1, 2, 0), (3, 2, 2), (4, 4, 0), (5, 6, 0)],
+    ),
+    (&[5; 131], &[0x7f, 5, 0xff, 5], &[(130, 2, 0), (131, 4, 0)]),
+    (&[], &[], &[(0, 0, 0)]),
+];
+
+/// Booleans, their text, and the positions of some of them: number, offset, skip and bits.
+static BITS: [(
+    &'static [bool],
+    &'static [u8],
+    &'static [(usize, usize, usize, usize)],
+); 5] = [
+    (
+        &[true, true, true, false, true, true, true, true, true],
+        &[0xfe, 0xef, 0x80],
+        &[(0, 0, 0, 0), (3, 0, 0, 3), (8, 0, 1, 0), (9, 0, 1, 1)],
+    ),
+    (
+        &[true, false, true, true, true],
+        &[0xff, 0xb8],
+        &[(0, 0, 0, 0), (5, 0, 0, 5)],
+    ),
+    (
+        &[true, false, true, true, true, true, true, true],
+        &[0xff, 0xbf],
+        &[(7, 0, 0, 7), (8, 2, 0, 0)],
+    ),
+    (
+        &[
+            true, true, true, true, true, true, true, true, true, true, true, true, true, true,
+            true, true, true, true, true, true, true, true, true, true, true, true, true, true,
+            true, true, true, true, false, true, true,
+        ],
+        &[0x01, 0xff, 0xff, 0x60],
+        &[(31, 0, 3, 7), (32, 2, 0, 0), (35, 2, 0, 3)],
+    ),
+    (&[], &[], &[(0, 0, 0, 0)]),
+];
+
+/// Values from one of them on.
+fn from_number<T>(values: &[T], n: usize) -> Result<&[T], RunFault> {
+    if n > values.len() {
+        return Err(RunFault::TooFew(n));
+    }
+    let (_, wanted) = values.split_at(n);
+    Ok(wanted)
+}
+
+/// The values from a position on: those that are left of the run there, and those of the runs after it.
+fn values_from<C: RunCodec>(
+    alloc: Global,
+    bytes: &[u8],
+    sign: Sign,
+    pos: Pos,
+) -> Result<Vec<i64>, RunFault> {
+    let mut run = Run::new();
+    let at = C::seek(bytes, sign, pos, &mut run)?;
+    let mut values = Vec::new(alloc);
+    values.extend_from_slice(run.values())?;
+    let rest = C::decode_all(alloc, from_number(bytes, at)?, sign)?;
+    values.extend_from_slice(&rest)?;
+    Ok(values)
+}
+
+/// The writer's position of a value, where there are that many.
+fn place_of<C: RunCodec>(
+    alloc: Global,
+    bytes: &[u8],
+    sign: Sign,
+    n: usize,
+) -> Result<Pos, RunFault> {
+    seek_laws::<C>();
+    let values = C::decode_all(alloc, bytes, sign)?;
+    if n > values.len() {
+        return Err(RunFault::TooFew(n));
+    }
+    let pos = mark_at::<C>(bytes, sign, Mark::start(), n).place(n);
+    let mut run = Run::new();
+    seek_place::<C>(bytes, sign, pos, &mut run)?;
+    Ok(pos)
+}
+
+/// Whether a position is found for a number, and none that passes one value more or begins a byte later.
+fn is_found(places: &RunPlaces, pos: Pos, n: usize) -> bool {
+    let offset = pos.offset as u64;
+    let skip = pos.skip as u64;
+    let n = n as u64;
+    places.begins(offset, skip, n)
+        && !places.begins(offset, skip.saturating_add(1), n)
+        && !places.begins(offset.saturating_add(1), skip, n)
+}
+
+fn check_rows<C: RunCodec>(rt: &impl Abort, alloc: Global, rows: &[Row]) -> Result<(), RunFault> {
+    for (values, sign, text, places) in rows {
+        let table = run_places::<C>(alloc, text, *sign)?;
+        for (n, offset, skip) in places.iter() {
+            let pos = Pos {
+                offset: *offset,
+                skip: *skip,
+            };
+            assert_eq!(rt; place_of::<C>(alloc, text, *sign, *n)?, pos);
+        }
+        for n in 0..=values.len() {
+            let pos = place_of::<C>(alloc, text, *sign, n)?;
+            let found = values_from::<C>(alloc, text, *sign, pos)?;
+            assert!(rt; found.as_slice() == from_number(values, n)?, "{n}");
+            assert!(rt; is_found(&table, pos, n), "{n}");
+            assert!(rt; table.begins(0, n as u64, n as u64), "{n}");
+        }
+    }
+    Ok(())
+}
+
+#[test]
+fn places_of_integers(rt: HostRuntime) {
+    let answer = with_memory(|| check_rows::<V1>(&rt, rt.alloc(), &ONE));
+    assert_eq!(rt; answer, Ok(()));
+    let answer = with_memory(|| check_rows::<V2>(&rt, rt.alloc(), &TWO));
+    assert_eq!(rt; answer, Ok(()));
+}
+
+/// So many bytes from a position on: those that are left of the run there, and those of the runs after it.
+fn bytes_from(
+    alloc: Global,
+    bytes: &[u8],
+    count: usize,
+    at: usize,
+    run: &RunU8,
+) -> Result<Vec<u8>, RunFault> {
+    let mut values = Vec::new(alloc);
+    values.extend_from_slice(run.values())?;
+    if values.len() > count {
+        return Err(RunFault::TooMany(at));
+    }
+    let rest = ByteRuns::decode(alloc, from_number(bytes, at)?, count - values.len())?;
+    values.extend_from_slice(&rest)?;
+    Ok(values)
+}
+
+/// The writer's position of a byte, where there are that many.
+fn byte_place_of(alloc: Global, bytes: &[u8], total: usize, n: usize) -> Result<Pos, RunFault> {
+    byte_seek_laws();
+    let values = ByteRuns::decode(alloc, bytes, total)?;
+    if n > values.len() {
+        return Err(RunFault::TooFew(n));
+    }
+    let pos = byte_mark_at(bytes, Mark::start(), n).place(n);
+    let mut run = RunU8::new();
+    byte_seek_place(bytes, pos, &mut run)?;
+    Ok(pos)
+}
+
+fn check_bytes(rt: &impl Abort, alloc: Global) -> Result<(), RunFault> {
+    for (values, text, places) in BYTES {
+        let table = byte_places(alloc, text)?;
+        for (n, offset, skip) in places {
+            let pos = Pos {
+                offset: *offset,
+                skip: *skip,
+            };
+            assert_eq!(rt; byte_place_of(alloc, text, values.len(), *n)?, pos);
+        }
+        for n in 0..=values.len() {
+            let pos = byte_place_of(alloc, text, values.len(), n)?;
+            let wanted = from_number(values, n)?;
+            let mut run = RunU8::new();
+            let at = ByteRuns::seek(text, pos, &mut run)?;
+            let found = bytes_from(alloc, text, wanted.len(), at, &run)?;
+            assert!(rt; found.as_slice() == wanted, "{n}");
+            assert!(rt; is_found(&table, pos, n), "{n}");
+        }
+    }
+    Ok(())
+}
+
+#[test]
+fn places_of_bytes(rt: HostRuntime) {
+    let answer = with_memory(|| check_bytes(&rt, rt.alloc()));
+    assert_eq!(rt; answer, Ok(()));
+}
+
+/// The writer's position of a boolean, where there are that many.
+fn bit_place_of(alloc: Global, bytes: &[u8], total: usize, n: usize) -> Result<BitPos, RunFault> {
+    byte_seek_laws();
+    bit_seek_laws();
+    let values = BitRuns::decode(alloc, bytes, total)?;
+    if n > values.len() {
+        return Err(RunFault::TooFew(n));
+    }
+    let pos = byte_mark_at(bytes, Mark::start(), n / 8).bit_place(n);
+    let mut run = RunU8::new();
+    bit_seek_place(bytes, pos, &mut run)?;
+    Ok(pos)
+}
+
+/// Whether the digits of the bytes, without so many at first, begin with the booleans.
+fn holds_bits(packed: &[u8], passed: usize, wanted: &[bool]) -> bool {
+    for (i, value) in wanted.iter().enumerate() {
+        let place = passed.saturating_add(i);
+        let Some(byte) = packed.get(place / 8) else {
+            return false;
+        };
+        let digit = *byte >> (7 - place % 8) & 1;
+        if (digit == 1) != *value {
+            return false;
+        }
+    }
+    true
+}
+
+/// Whether a position is found for a boolean, and none of one more.
+fn is_bit_found(places: &RunPlaces, pos: BitPos, n: usize) -> bool {
+    let offset = pos.offset as u64;
+    let skip = pos.skip as u64;
+    let bits = pos.bits as u64;
+    let n = n as u64;
+    places.begins_bit(offset, skip, bits, n)
+        && !places.begins_bit(offset, skip, bits.saturating_add(1), n)
+        && !places.begins_bit(offset, skip.saturating_add(1), bits, n)
+}
+
+fn check_bits(rt: &impl Abort, alloc: Global) -> Result<(), RunFault> {
+    for (values, text, places) in BITS {
+        let table = byte_places(alloc, text)?;
+        for (n, offset, skip, bits) in places {
+            let pos = BitPos {
+                offset: *offset,
+                skip: *skip,
+                bits: *bits,
+            };
+            assert_eq!(rt; bit_place_of(alloc, text, values.len(), *n)?, pos);
+        }
+        for n in 0..=values.len() {
+            let pos = bit_place_of(alloc, text, values.len(), n)?;
+            let wanted = from_number(values, n)?;
+            let mut run = RunU8::new();
+            let at = BitRuns::seek(text, pos, &mut run)?;
+            let count = pos.bits.saturating_add(wanted.len()).div_ceil(8);
+            let packed = bytes_from(alloc, text, count, at, &run)?;
+            assert!(rt; holds_bits(&packed, pos.bits, wanted), "{n}");
+            assert!(rt; is_bit_found(&table, pos, n), "{n}");
+        }
+    }
+    Ok(())
+}
+
+#[test]
+fn places_of_booleans(rt: HostRuntime) {
+    let answer = with_memory(|| check_bits(&rt, rt.alloc()));
+    assert_eq!(rt; answer, Ok(()));
+}
+
+/// Positions that no writer of ours makes, and that are none.
+fn check_others(rt: &impl Abort, alloc: Global) -> Result<(), RunFault> {
+    let runs = run_places::<V1>(alloc, &[0x00, 1, 1, 0xfe, 3, 3], Unsigned)?;
+    assert!(rt; runs.begins(0, 3, 3));
+    assert!(rt; runs.begins(3, 2, 5));
+    assert!(rt; !runs.begins(1, 0, 0));
+    assert!(rt; !runs.begins(3, 3, 2));
+    assert!(rt; !runs.begins(7, 0, 5));
+    assert!(rt; !runs.begins(u64::MAX, 0, 5));
+    assert!(rt; !runs.begins(3, u64::MAX, 2));
+    let bits = byte_places(alloc, &[0xfe, 0xef, 0x80])?;
+    assert!(rt; bits.begins_bit(0, 0, 8, 8));
+    assert!(rt; bits.begins_bit(0, 1, 1, 9));
+    assert!(rt; !bits.begins_bit(0, 0, 9, 9));
+    assert!(rt; !bits.begins_bit(0, 0, 4, 3));
+    assert!(rt; !bits.begins_bit(1, 0, 0, 0));
+    let short = run_places::<V1>(alloc, &[0x00, 0x00, 0x02, 0xff], Signed);
+    assert!(rt; matches!(short, Err(RunFault::Short(3) | RunFault::OutOfMemory)));
+    let short = byte_places(alloc, &[0x61, 0x00, 0x00]);
+    assert!(rt; matches!(short, Err(RunFault::Short(2) | RunFault::OutOfMemory)));
+    Ok(())
+}
+
+#[test]
+fn other_places(rt: HostRuntime) {
+    let answer = with_memory(|| check_others(&rt, rt.alloc()));
+    assert_eq!(rt; answer, Ok(()));
+}
