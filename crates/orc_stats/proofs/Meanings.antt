@@ -1,5 +1,5 @@
 -- What the words of a statistic mean.
-use Rattle.std.proofs.Common.{◌≡◌, refl, ap, subst, arith, ℕ, zero, suc, ℤ, pos, ◌+ℤ◌, Bool, true, false, if◌then◌else◌, List, [], ◌∷◌, Some, None, ◌↔◌}
+use Rattle.std.proofs.Common.{◌≡◌, refl, ap, ◌∙◌, subst, arith, ℕ, zero, suc, ◌+◌, ℤ, pos, ◌+ℤ◌, Bool, true, false, if◌then◌else◌, List, [], ◌∷◌, map, Some, None, ◌↔◌}
 use Rattle.std.proofs.lemmas.Int.{ints}
 use Rattle.std.proofs.lemmas.Cmp.{int_cmp_total, nat_list_cmp_total, back_total, upto}
 use Rattle.std.specs.FinMap.{IsAntisymmetric, int_cmp-IsAntisymmetric, nat_cmp-IsAntisymmetric, slice_cmp-IsAntisymmetric}
@@ -8,8 +8,8 @@ use Rattle.std.specs.Cmp.{IsTotalOrder}
 use Rattle.std.specs.Ordering.{is_gt, int_cmp, flip_args, ordering_reverse}
 use Rattle.std.specs.declared.cmp.Ordering.{Ordering}
 use Rattle.std.specs.declared.cmp.Ordering.TheVariants.{Less, Equal, Greater}
-use Rattle.orc_stats.specs.Statistics.{lower, onto, reduce, least, greatest, text_cmp, exact_total}
-use Rattle.orc_stats.specs.Meanings.{IsLowest, added}
+use Rattle.orc_stats.specs.Statistics.{lower, onto, reduce, bit, least, greatest, text_cmp, exact_total}
+use Rattle.orc_stats.specs.Meanings.{IsLowest, added, trues}
 use Rattle.orc_stats.specs.Orders.{flipped_same}
 
 module _ {A : Type 0} (cmp : A → A → Ordering) (total : IsTotalOrder cmp) (same : IsAntisymmetric cmp) where
@@ -105,3 +105,15 @@ totals z [] = ap Some (alone z)
     alone : (z : ℤ) → z ≡ z +ℤ pos 0
     alone z = omega (arith, ints)
 totals z (y ∷ ys) = ap (λ r. Some (onto ◌+ℤ◌ z r)) (totals y ys)
+
+pub true_counts : (b : Bool) (bs : List Bool) → reduce ◌+◌ (map bit (b ∷ bs)) ≡ Some (trues (b ∷ bs))
+true_counts b [] = first b
+  where
+    first : (b : Bool) → reduce ◌+◌ (map bit (b ∷ [])) ≡ Some (trues (b ∷ []))
+    first true = refl
+    first false = refl
+true_counts b (d ∷ bs) = more b d bs (true_counts d bs)
+  where
+    more : (b d : Bool) (bs : List Bool) → reduce ◌+◌ (map bit (d ∷ bs)) ≡ Some (trues (d ∷ bs)) → reduce ◌+◌ (map bit (b ∷ d ∷ bs)) ≡ Some (trues (b ∷ d ∷ bs))
+    more true d bs e = let same : 1 + trues (d ∷ bs) ≡ suc (trues (d ∷ bs)) = omega arith in ap (λ r. Some (onto ◌+◌ 1 r)) e ∙ ap Some same
+    more false d bs e = let same : 0 + trues (d ∷ bs) ≡ trues (d ∷ bs) = omega arith in ap (λ r. Some (onto ◌+◌ 0 r)) e ∙ ap Some same

@@ -1,5 +1,5 @@
--- What the words of a statistic mean: the least value and the exact total (own).
-use Rattle.std.specs.Prelude.{◌≡◌, ℤ, pos, ◌+ℤ◌, false, List, [], ◌∷◌}
+-- What the words of a statistic mean: the least value, the exact total and the count of true (own).
+use Rattle.std.specs.Prelude.{◌≡◌, ℕ, suc, ℤ, pos, ◌+ℤ◌, Bool, true, false, List, [], ◌∷◌}
 use Rattle.std.specs.List.{AllByRecursion, Contains}
 use Rattle.std.specs.Ordering.{is_gt}
 use Rattle.std.specs.declared.cmp.Ordering.{Ordering}
@@ -7,6 +7,12 @@ use Rattle.std.specs.declared.cmp.Ordering.{Ordering}
 -- one of the values, and none is lower in the order
 abbrev pub IsLowest : {A : Type 0} → (A → A → Ordering) → List A → A → Type 0
 IsLowest cmp xs x = Contains xs x × AllByRecursion (λ y. is_gt (cmp x y) ≡ false) xs
+
+-- how many are true
+abbrev pub trues : List Bool → ℕ
+trues [] = 0
+trues (false ∷ bs) = trues bs
+trues (true ∷ bs) = suc (trues bs)
 
 -- numbers added without a limit
 abbrev pub added : List ℤ → ℤ

@@ -1,7 +1,7 @@
 //! Laws of statistics. Each function does nothing: its contract is what it is for.
 ghost use Rattle.std.specs.Ordering.{int_cmp, flip_args};
-ghost use Rattle.orc_stats.specs.Meanings.{IsLowest, added};
-ghost use Rattle.std.specs.Prelude.{◌≡◌, ◌↔◌, ℕ, ℤ, pos, negsuc, ◌≤◌, ◌^◌, ◌++◌, ◌∷◌, true, false, Some, None, List, [], sum_by, IsPermutation, flat_map, length, map};
+ghost use Rattle.orc_stats.specs.Meanings.{IsLowest, added, trues};
+ghost use Rattle.std.specs.Prelude.{◌≡◌, ◌↔◌, ℕ, ℤ, pos, negsuc, ◌≤◌, ◌+◌, ◌^◌, ◌++◌, ◌∷◌, Bool, true, false, Some, None, List, [], sum_by, IsPermutation, flat_map, length, map};
 ghost use Rattle.std.specs.List.{AllByRecursion};
 ghost use Rattle.orc_types.specs.Cells.{Cell};
 ghost use Rattle.orc_types.specs.Shapes.{Shape};
@@ -12,7 +12,7 @@ ghost use Rattle.orc_stats.specs.declared.stat.Stat.{Stat};
 ghost use Rattle.orc_stats.specs.declared.stat.Body.{Body};
 ghost use Rattle.orc_stats.specs.declared.stat.Body.TheVariants as body;
 ghost use Rattle.orc_stats.specs.Kinds.{is_of, kind_of};
-ghost use Rattle.orc_stats.specs.Statistics.{least, greatest, text_cmp, exact_total, stat};
+ghost use Rattle.orc_stats.specs.Statistics.{reduce, bit, least, greatest, text_cmp, exact_total, stat};
 ghost use Rattle.orc_stats.specs.Joining.{sum_of, joined};
 ghost use Rattle.orc_stats.specs.Whole.{whole};
 ghost use Rattle.orc_stats.specs.Messages.{IsStat, stat_read, message_of};
@@ -26,7 +26,8 @@ pub fn kind_laws()
 {}
 
 /// What the words of a statistic of cells mean: it has no order; the least value is one of them, and
-/// none is less; the greatest likewise; the total is the exact one.
+/// none is less; the greatest likewise; the total is the exact one, and the count of true is how many
+/// are true.
 pub fn stat_laws()
     ensures order { (k : StatKind) (xs ys : List Cell) → IsPermutation xs ys → stat k ys ≡ stat k xs }
 
@@ -35,6 +36,7 @@ pub fn stat_laws()
     ensures least_text { (ts : List (List ℕ)) (t : List ℕ) → (least text_cmp ts ≡ Some t) ↔ IsLowest text_cmp ts t }
     ensures greatest_text { (ts : List (List ℕ)) (t : List ℕ) → (greatest text_cmp ts ≡ Some t) ↔ IsLowest (flip_args text_cmp) ts t }
     ensures total { (z : ℤ) (zs : List ℤ) → exact_total (z ∷ zs) ≡ Some (added (z ∷ zs)) }
+    ensures true_count { (b : Bool) (bs : List Bool) → reduce ◌+◌ (map bit (b ∷ bs)) ≡ Some (trues (b ∷ bs)) }
 
     ensures normal { (k : StatKind) (cells : List Cell) → AllByRecursion (λ c. is_of k c ≡ true) cells → length cells ≤ 2 ^ 62 → IsStat k (stat k cells) }
 {}

@@ -1,5 +1,5 @@
 use Rattle.orc_stats.proofs.Shuffled.{stat-shuffled}
-use Rattle.orc_stats.proofs.Meanings.{least_numbers, greatest_numbers, least_texts, greatest_texts, totals}
+use Rattle.orc_stats.proofs.Meanings.{least_numbers, greatest_numbers, least_texts, greatest_texts, totals, true_counts}
 use Rattle.orc_stats.proofs.Normal.{stat-normal}
 use Rattle.orc_stats.proofs.laws.stat_laws.Goals as goal
 
@@ -20,6 +20,9 @@ returns-clause-greatest_text c = greatest_texts
 
 pub returns-clause-total : goal.returns-clause-total
 returns-clause-total c = totals
+
+pub returns-clause-true_count : goal.returns-clause-true_count
+returns-clause-true_count c = true_counts
 
 pub returns-clause-normal : goal.returns-clause-normal
 returns-clause-normal c = stat-normal
