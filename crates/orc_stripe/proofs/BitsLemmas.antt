@@ -12,9 +12,9 @@ use Rattle.orc_rle.proofs.BitLemmas.{digits_one, digits_fit}
 use Rattle.orc_rle.proofs.StreamLemmas.{one_stream}
 use Rattle.orc_stripe.specs.declared.bits.Bits.{Bits}
 use Rattle.orc_stripe.specs.declared.bytes.Bytes.{Bytes}
-use Rattle.orc_stripe.specs.Bits.{BitsLeft}
-use Rattle.orc_stripe.specs.Bytes.{AreBytes, BytesLeft}
-use Rattle.orc_stripe.specs.Fronts.{Leaves, Lacks}
+use Rattle.orc_stripe.specs.Bits.{BitsLeft, BitsFirst}
+use Rattle.orc_stripe.specs.Bytes.{AreBytes, BytesLeft, BytesFirst}
+use Rattle.orc_stripe.specs.Fronts.{Leaves, Precedes, Lacks}
 
 -- the highest digit of several, and the others
 pub bits_head : (n w : ℕ) → bits n (suc w) ≡ (n / 2 ^ w % 2) ∷ bits n w
@@ -63,7 +63,7 @@ next_digit r w d is dig =
         let e = heads_of (digit d) (digit a) (bits r.held w ++ digits 8 p.packed) (map digit all ++ p.spare) (sym (ap (λ (t : List ℕ). t ++ digits 8 p.packed) first) ∙ p.digits_are) in
         (all, ap (λ (t : Bool). t ∷ all) (sym (digit_same d a e.0)), record { packed = p.packed; spelled = p.spelled; spare = p.spare; few = p.few; digits_are = e.1 })
 
-no_digit : (held left : ℕ) (rest : List ℕ) → left ≡ 0 → bits held left ++ rest ≡ rest
+pub no_digit : (held left : ℕ) (rest : List ℕ) → left ≡ 0 → bits held left ++ rest ≡ rest
 unfolding bits
 no_digit held left rest is = rw is refl
 
@@ -107,6 +107,27 @@ first_digit r b byte d none l dig =
 
 pub no_byte : (r : Bits) → r.left ≡ 0 → Lacks (BytesLeft r.bytes) 1 → Lacks (BitsLeft r) 1
 no_byte r none lacks = λ all p le. lacks p.packed p.spelled (omega (arith, le, length-bits r.held r.left, none, length-digits 8 p.packed, ap length p.digits_are, length-append (map digit all) p.spare, length-map all digit, length-append (bits r.held r.left) (digits 8 p.packed)))
+
+pub digit_first : (r : Bits) (w : ℕ) (d : Bool) → r.left ≡ suc w → digit d ≡ r.held / 2 ^ w % 2 → Precedes (BitsFirst r) (BitsFirst (record { bytes = r.bytes; held = r.held; left = w })) (d ∷ [])
+digit_first r w d is dig =
+    let first : bits r.held r.left ≡ digit d ∷ bits r.held w = ap (bits r.held) is ∙ bits_head r.held w ∙ ap (λ (m : ℕ). m ∷ bits r.held w) (sym dig) in
+    λ rest q. record {
+      packed = q.packed;
+      bytes = q.bytes;
+      more = q.more;
+      digits_are = ap (λ (t : List ℕ). t ++ digits 8 q.packed) first ∙ ap (λ (t : List ℕ). digit d ∷ t) q.digits_are;
+    }
+
+pub byte_first : (r : Bits) (b : Bytes) (byte : ℕ) (d : Bool) → r.left ≡ 0 → Precedes (BytesFirst r.bytes) (BytesFirst b) (byte ∷ []) → digit d ≡ byte / 2 ^ 7 % 2
+    → Precedes (BitsFirst r) (BitsFirst (record { bytes = b; held = byte; left = 7 })) (d ∷ [])
+byte_first r b byte d none l dig =
+    let first : bits byte 8 ≡ digit d ∷ bits byte 7 = bits_head byte 7 ∙ ap (λ (m : ℕ). m ∷ bits byte 7) (sym dig) in
+    λ rest q. record {
+      packed = byte ∷ q.packed;
+      bytes = l q.packed q.bytes;
+      more = q.more;
+      digits_are = no_digit r.held r.left (digits 8 (byte ∷ q.packed)) none ∙ digits_more byte q.packed ∙ ap (λ (t : List ℕ). t ++ digits 8 q.packed) first ∙ ap (λ (t : List ℕ). digit d ∷ t) q.digits_are;
+    }
 
 -- ---- nothing is left but spare digits
 

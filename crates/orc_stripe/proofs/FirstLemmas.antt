@@ -56,7 +56,7 @@ not_all_now passes before after n p none h = (n ∷ [], p [] none, λ all. h all
 
 -- ---- of lengths
 
-sum_more : (n : ℕ) (ns : List ℕ) → sum (n ∷ ns) ≡ n + sum ns
+pub sum_more : (n : ℕ) (ns : List ℕ) → sum (n ∷ ns) ≡ n + sum ns
 sum_more n ns = sum_by-cons (λ (x : ℕ). x) n ns
 
 pass_more : (n most most' : ℕ) (numbers : List ℤ) (lengths : List ℕ) → most ≡ n + most' → ((ls : List ℕ) → numbers ≡ map pos ls → most' < sum ls) → pos n ∷ numbers ≡ map pos lengths → most < sum lengths

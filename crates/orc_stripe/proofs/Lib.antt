@@ -10,6 +10,7 @@ pub mod StartLemmas
 pub mod Started
 pub mod Sizes
 pub mod FirstLemmas
+pub mod NeedLemmas
 pub mod MetLemmas
 pub mod Arms
 pub mod Ends

@@ -18,7 +18,8 @@ use Rattle.orc_rle.specs.ByteLaws.{one_byte_run, byte_run_some}
 use Rattle.orc_rle.specs.BitStream.{IsBitStream}
 use Rattle.orc_stripe.specs.Columns.{IsBool, IsByte, IsInt, IsDate, IsText, IsBinary, IsWord, IsList, IsRecord}
 use Rattle.orc_stripe.specs.Stripe.{Streams, version, Marks, Is, IsDictionary, SpellsScalar, SpellsTexts, SpellsInts, SpellsTree, SpellsFields, SpellsCells, has_dictionary, most_cells}
-use Rattle.orc_stripe.proofs.Fronts.{length-zip, stand_length, one_standing, same_groups, joined_length, same_cells, length-values, trues}
+use Rattle.orc_stripe.proofs.Fronts.{length-zip, stand_length, one_standing, same_groups, joined_length, same_cells, length-values}
+use Rattle.orc_stripe.specs.Needs.{trues}
 use Rattle.orc_stripe.proofs.NumbersLemmas.{laws_of}
 use Rattle.orc_stripe.proofs.BitsLemmas.{one_bit_stream}
 use Rattle.orc_stripe.proofs.ReaderLemmas.{one_bool, one_byte, one_int, one_date, one_text, one_binary, one_word, one_list, one_record}

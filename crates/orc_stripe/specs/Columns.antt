@@ -15,7 +15,7 @@ use Rattle.std.specs.declared.vec.Vec.{Vec}
 use Rattle.std.specs.declared.alloc.Global.{Global}
 use Rattle.orc_stripe.specs.Spellings.{Nullable, Standing, Grouped, Within, Fielded}
 use Rattle.orc_stripe.specs.Numbers.{NumbersLeft}
-use Rattle.orc_stripe.specs.Bits.{BitsLeft}
+use Rattle.orc_stripe.specs.Bits.{BitsLeft, BitsFirst}
 use Rattle.orc_stripe.specs.Bytes.{BytesLeft}
 use Rattle.orc_stripe.specs.Octets.{OctetsLeft}
 
@@ -23,6 +23,11 @@ use Rattle.orc_stripe.specs.Octets.{OctetsLeft}
 abbrev pub MarksLeft : Option Bits → List Bool → Type 0
 MarksLeft None all = all ≡ replicate (length all) true
 MarksLeft (Some bits) all = BitsLeft bits all
+
+-- marks that come first, whatever becomes of the others
+abbrev pub MarksFirst : Option Bits → List Bool → Type 0
+MarksFirst None marks = marks ≡ replicate (length marks) true
+MarksFirst (Some bits) marks = BitsFirst bits marks
 
 abbrev pub IsBool : Bool → Cell → Type 0
 IsBool b c = c ≡ leaf (bool b)
@@ -103,7 +108,11 @@ CellsLeft s readers cells = ColumnLeft (ValuesLeft s) readers cells
 abbrev pub ListsLeft : Shape → Source → List ColumnReader → List (List Cell) → Type 0
 ListsLeft s source below lists = Grouped (NumbersLeft source.numbers) (Within source.room (CellsLeft s below)) lists
 
--- of a column's readers, its own first: the marks, the values, the lists
+-- of a column's readers, its own first: the column's number, the marks, the values, the lists
+abbrev pub column_of : List ColumnReader → ℕ
+column_of [] = 0
+column_of (own ∷ below) = own.source.column
+
 abbrev pub marks_of : List ColumnReader → Option Bits
 marks_of [] = None
 marks_of (own ∷ below) = own.present

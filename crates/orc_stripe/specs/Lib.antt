@@ -12,6 +12,7 @@ pub mod Located
 pub mod Starting
 pub mod Opening
 pub mod RunFaults
+pub mod Needs
 pub mod RunsMet
 pub mod ValueFaults
 pub mod Faults

@@ -1,5 +1,6 @@
--- Which fault a reader of runs meets, by what it has still to give (ORC specification, "Run Length Encoding").
-use Rattle.std.specs.Prelude.{◌≡◌, ℕ, ◌+◌, ◌≤◌, List, [], ◌++◌, length, drop, Option, Some, None, ◌⊎◌}
+-- Which fault a reader of runs meets that is to give n values more (ORC specification, "Run Length Encoding").
+use Rattle.std.specs.Prelude.{◌≡◌, ℕ, ◌+◌, ◌-◌, ◌<◌, ◌≤◌, List, [], ◌++◌, length, drop, Option, Some, None, ◌⊎◌}
+use Rattle.orc_bits.specs.Packed.{packed_len}
 use Rattle.orc_rle.specs.ByteRun.{IsByteRun, NoByteRun}
 use Rattle.orc_rle.specs.Stream.{IsStream, at_place}
 use Rattle.orc_rle.specs.declared.fault.RunFault.{RunFault}
@@ -10,42 +11,53 @@ use Rattle.orc_stripe.specs.declared.numbers.Numbers.{Numbers}
 use Rattle.orc_stripe.specs.Numbers.{is_run}
 use Rattle.orc_stripe.specs.RunFaults.{no_run}
 
--- the bytes from the place on are a stream, and then such that have no run in front
-abbrev pub StopsLater : {A : Type 0} → (List ℕ → List A → Type 0) → (List ℕ → RunFault → Type 0) → List ℕ → ℕ → RunFault → Type 0
-StopsLater {A = A} is_run fails bytes at f =
-    (front : List ℕ) × (rest : List ℕ) × (values : List A) × (bytes ≡ front ++ rest) × IsStream is_run front values
-    × (cause : RunFault) × (rest ≡ [] → ⊥) × fails rest cause × (f ≡ at_place cause (at + length front))
+-- nothing comes, and there are fewer than n
+abbrev pub EndsThere : List ℕ → ℕ → ℕ → ℕ → RunFault → Type 0
+EndsThere rest count n total f = (rest ≡ []) × (count < n) × (f ≡ run.TooFew total)
 
--- they are a stream and nothing more
-abbrev pub EndsLater : {A : Type 0} → (List ℕ → List A → Type 0) → List ℕ → ℕ → RunFault → Type 0
-EndsLater {A = A} is_run bytes total f = (values : List A) × IsStream is_run bytes values × (f ≡ run.TooFew total)
+-- bytes come that have no run in front
+abbrev pub BreaksThere : (List ℕ → RunFault → Type 0) → List ℕ → ℕ → RunFault → Type 0
+BreaksThere fails rest place f = (cause : RunFault) × (rest ≡ [] → ⊥) × fails rest cause × (f ≡ at_place cause place)
 
--- they are a stream and more
-abbrev pub GoesOnLater : {A : Type 0} → (List ℕ → List A → Type 0) → List ℕ → ℕ → RunFault → Type 0
-GoesOnLater {A = A} is_run bytes at f =
-    (front : List ℕ) × (rest : List ℕ) × (values : List A) × (bytes ≡ front ++ rest) × IsStream is_run front values
-    × (rest ≡ [] → ⊥) × (f ≡ run.TooMany (at + length front))
+-- a run comes that passes n
+abbrev pub PassesThere : {A : Type 0} → (List ℕ → List A → Type 0) → List ℕ → ℕ → ℕ → ℕ → RunFault → Type 0
+PassesThere {A = A} is_run rest count n place f =
+    (text : List ℕ) × (more : List ℕ) × (past : List A) × is_run text past × (rest ≡ text ++ more) × (n < count + length past) × (f ≡ run.TooMany place)
 
--- values are left of the run that was read last, which begins at the start
-abbrev pub GoesOnNow : {A : Type 0} → List A → ℕ → RunFault → Type 0
-GoesOnNow pending start f = (pending ≡ [] → ⊥) × (f ≡ run.TooMany start)
+abbrev pub StopsThere : {A : Type 0} → (List ℕ → List A → Type 0) → (List ℕ → RunFault → Type 0) → List ℕ → ℕ → ℕ → ℕ → ℕ → RunFault → Type 0
+StopsThere is_run fails rest count n place total f =
+    EndsThere rest count n total f ⊎ (BreaksThere fails rest place f ⊎ PassesThere is_run rest count n place f)
 
-abbrev pub RunsMeet : {A : Type 0} → (List ℕ → List A → Type 0) → (List ℕ → RunFault → Type 0) → List A → List ℕ → ℕ → ℕ → ℕ → RunFault → Type 0
-RunsMeet is_run fails pending bytes start at total f =
-    StopsLater is_run fails bytes at f ⊎ (EndsLater is_run bytes total f ⊎ (GoesOnLater is_run bytes at f ⊎ GoesOnNow pending start f))
+-- in the bytes from the place on, behind values that are pending and some runs
+pub record StopsLater {A : Type 0} (is_run : List ℕ → List A → Type 0) (fails : List ℕ → RunFault → Type 0) (pending : List A) (bytes : List ℕ)
+    (at total n : ℕ) (f : RunFault) : Type 0 where
+  pub front : List ℕ
+  pub rest : List ℕ
+  pub values : List A
+  pub parts : bytes ≡ front ++ rest
+  pub stream : IsStream is_run front values
+  pub few : length pending + length values ≤ n
+  pub reason : StopsThere is_run fails rest (length pending + length values) n (at + length front) total f
 
-abbrev pub NumbersMeet : Numbers → RunFault → Type 0
-NumbersMeet r f =
-    RunsMeet (is_run r.version r.sign) (no_run r.version r.sign) (drop r.used r.run.values) (drop r.at r.bytes.now) r.start r.at (length r.bytes.now) f
+-- in the run that was read last, which begins at the start
+abbrev pub PassesNow : {A : Type 0} → List A → ℕ → ℕ → RunFault → Type 0
+PassesNow pending start n f = (n < length pending) × (f ≡ run.TooMany start)
 
-abbrev pub BytesMeet : Bytes → RunFault → Type 0
-BytesMeet r f = RunsMeet IsByteRun NoByteRun (drop r.used r.run.values) (drop r.at r.bytes.now) r.start r.at (length r.bytes.now) f
+abbrev pub RunsMeet : {A : Type 0} → (List ℕ → List A → Type 0) → (List ℕ → RunFault → Type 0) → List A → List ℕ → ℕ → ℕ → ℕ → ℕ → RunFault → Type 0
+RunsMeet is_run fails pending bytes start at total n f = StopsLater is_run fails pending bytes at total n f ⊎ PassesNow pending start n f
 
--- a byte whose digits are all held is of the last run
-abbrev pub BitsMeet : Bits → RunFault → Type 0
-BitsMeet r f = BytesMeet r.bytes f ⊎ ((8 ≤ r.left) × (f ≡ run.TooMany r.bytes.start))
+abbrev pub NumbersMeet : Numbers → ℕ → RunFault → Type 0
+NumbersMeet r n f =
+    RunsMeet (is_run r.version r.sign) (no_run r.version r.sign) (drop r.used r.run.values) (drop r.at r.bytes.now) r.start r.at (length r.bytes.now) n f
+
+abbrev pub BytesMeet : Bytes → ℕ → RunFault → Type 0
+BytesMeet r n f = RunsMeet IsByteRun NoByteRun (drop r.used r.run.values) (drop r.at r.bytes.now) r.start r.at (length r.bytes.now) n f
+
+-- booleans beyond those of the byte that is held; a byte whose digits are all held is of the last run
+abbrev pub BitsMeet : Bits → ℕ → RunFault → Type 0
+BitsMeet r n f = BytesMeet r.bytes (packed_len 1 (n - r.left)) f ⊎ ((8 ≤ r.left) × (f ≡ run.TooMany r.bytes.start))
 
 -- without PRESENT nothing is missing
-abbrev pub MarksMeet : Option Bits → RunFault → Type 0
-MarksMeet None f = ⊥
-MarksMeet (Some bits) f = BitsMeet bits f
+abbrev pub MarksMeet : Option Bits → ℕ → RunFault → Type 0
+MarksMeet None n f = ⊥
+MarksMeet (Some bits) n f = BitsMeet bits n f

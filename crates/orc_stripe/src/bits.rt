@@ -1,8 +1,8 @@
-ghost use Rattle.std.specs.Prelude.{◌≡◌, ◌<◌, ◌/◌, ◌%◌, ◌^◌, [], ◌∷◌, IfOk, IfErr, OnOk, OnErr};
+ghost use Rattle.std.specs.Prelude.{◌≡◌, ◌<◌, ◌/◌, ◌%◌, ◌^◌, ℕ, suc, [], ◌∷◌, IfOk, IfErr, OnOk, OnErr};
 ghost use Rattle.orc_rle.specs.BitStream.{digit};
 ghost use Rattle.orc_rle.specs.declared.fault.RunFault.{RunFault as Fault};
-ghost use Rattle.orc_stripe.specs.Fronts.{Leaves, Lacks};
-ghost use Rattle.orc_stripe.specs.Bits.{BitsLeft};
+ghost use Rattle.orc_stripe.specs.Fronts.{Leaves, Precedes, Lacks};
+ghost use Rattle.orc_stripe.specs.Bits.{BitsLeft, BitsFirst};
 ghost use Rattle.orc_stripe.specs.RunsMet.{BitsMeet};
 
 use crate::bytes::Bytes;
@@ -28,9 +28,10 @@ impl<'a> Bits<'a> {
     /// The next boolean.
     pub(crate) fn next(&mut self) -> Result<bool, RunFault>
         ensures found { IfOk result (λ b. Leaves (BitsLeft self.old) (BitsLeft self.new) (b ∷ [])) }
+        ensures first { IfOk result (λ b. Precedes (BitsFirst self.old) (BitsFirst self.new) (b ∷ [])) }
         ensures none { OnErr result (Lacks (BitsLeft self.old) 1) }
-        ensures before { OnOk result ((f : Fault) → BitsMeet self.new f → BitsMeet self.old f) }
-        ensures fault { IfErr result (BitsMeet self.old) }
+        ensures before { OnOk result ((n : ℕ) (f : Fault) → BitsMeet self.new n f → BitsMeet self.old (suc n) f) }
+        ensures fault { IfErr result (λ fault. (n : ℕ) → BitsMeet self.old (suc n) fault) }
     {
         if self.left == 0 {
             match self.bytes.next() {

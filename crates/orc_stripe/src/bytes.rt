@@ -1,8 +1,8 @@
-ghost use Rattle.std.specs.Prelude.{◌≡◌, ◌≢◌, [], ◌∷◌, ◌<◌, IfOk, IfErr, OnOk, OnErr, length};
+ghost use Rattle.std.specs.Prelude.{◌≡◌, ◌≢◌, ℕ, suc, [], ◌∷◌, ◌<◌, IfOk, IfErr, OnOk, OnErr, length};
 ghost use Rattle.orc_rle.specs.declared.fault.RunFault.TheVariants.{OutOfMemory};
 ghost use Rattle.orc_rle.specs.declared.fault.RunFault.{RunFault as Fault};
-ghost use Rattle.orc_stripe.specs.Fronts.{Leaves, Lacks};
-ghost use Rattle.orc_stripe.specs.Bytes.{BytesLeft};
+ghost use Rattle.orc_stripe.specs.Fronts.{Leaves, Precedes, Lacks};
+ghost use Rattle.orc_stripe.specs.Bytes.{BytesLeft, BytesFirst};
 ghost use Rattle.orc_stripe.specs.RunsMet.{BytesMeet};
 
 use crate::fault::moved;
@@ -24,10 +24,11 @@ impl<'a> Bytes<'a> {
     /// Reads runs until a byte is there.
     fn fill(&mut self) -> Result<(), RunFault>
         ensures found { OnOk result (Leaves (BytesLeft self.old) (BytesLeft self.new) []) }
+        ensures first { OnOk result (Precedes (BytesFirst self.old) (BytesFirst self.new) []) }
         ensures some { OnOk result (self.new.used < length self.new.run.values) }
         ensures none { OnErr result (Lacks (BytesLeft self.old) 1) }
-        ensures before { OnOk result ((f : Fault) → BytesMeet self.new f → BytesMeet self.old f) }
-        ensures fault { IfErr result (BytesMeet self.old) }
+        ensures before { OnOk result ((n : ℕ) (f : Fault) → BytesMeet self.new n f → BytesMeet self.old n f) }
+        ensures fault { IfErr result (λ fault. (n : ℕ) → BytesMeet self.old (suc n) fault) }
     {
         while self.used >= self.run.values().len() {
             if self.at >= self.bytes.len() {
@@ -49,9 +50,10 @@ impl<'a> Bytes<'a> {
     /// The next byte.
     pub(crate) fn next(&mut self) -> Result<u8, RunFault>
         ensures found { IfOk result (λ byte. Leaves (BytesLeft self.old) (BytesLeft self.new) (byte ∷ [])) }
+        ensures first { IfOk result (λ byte. Precedes (BytesFirst self.old) (BytesFirst self.new) (byte ∷ [])) }
         ensures none { OnErr result (Lacks (BytesLeft self.old) 1) }
-        ensures before { OnOk result ((f : Fault) → BytesMeet self.new f → BytesMeet self.old f) }
-        ensures fault { IfErr result (BytesMeet self.old) }
+        ensures before { OnOk result ((n : ℕ) (f : Fault) → BytesMeet self.new n f → BytesMeet self.old (suc n) f) }
+        ensures fault { IfErr result (λ fault. (n : ℕ) → BytesMeet self.old (suc n) fault) }
     {
         match self.fill() {
             Ok(()) => {

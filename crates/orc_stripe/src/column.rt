@@ -1,4 +1,4 @@
-ghost use Rattle.std.specs.Prelude.{◌≡◌, ◌≢◌, [], ◌∷◌, ◌++◌, ◌≤◌, ◌-◌, List, pos, IfOk, IfErr, OnOk, OnErr, length};
+ghost use Rattle.std.specs.Prelude.{◌≡◌, ◌≢◌, [], ◌∷◌, ◌++◌, ◌≤◌, ◌-◌, ℕ, suc, List, pos, IfOk, IfErr, OnOk, OnErr, length};
 ghost use Rattle.orc_types.specs.Views.{cell_of_value};
 ghost use Rattle.orc_stripe.specs.Fronts.{Leaves, Precedes, Lacks};
 ghost use Rattle.orc_stripe.specs.Numbers.{NumbersLeft, NumbersFirst};
@@ -7,11 +7,11 @@ ghost use Rattle.orc_types.specs.Cells.{Cell};
 ghost use Rattle.orc_types.specs.Shapes.{Shape};
 ghost use Rattle.orc_stripe.specs.declared.column.ColumnReader.{ColumnReader as Reader};
 ghost use Rattle.orc_stripe.specs.Bits.{BitsLeft};
-ghost use Rattle.orc_stripe.specs.Columns.{MarksLeft, ScalarLeft, ListsLeft, IsByte, signed_byte, IsInt, IsDate, IsBool, IsText, IsBinary, IsWord, entry_bytes};
+ghost use Rattle.orc_stripe.specs.Columns.{MarksLeft, MarksFirst, ScalarLeft, ListsLeft, IsByte, signed_byte, IsInt, IsDate, IsBool, IsText, IsBinary, IsWord, entry_bytes};
 ghost use Rattle.orc_stripe.specs.Bytes.{BytesLeft};
 ghost use Rattle.orc_stripe.specs.Octets.{OctetsLeft};
 ghost use Rattle.orc_stripe.specs.Spellings.{Standing, Grouped};
-ghost use Rattle.std.specs.Prelude.{false, ◌⊎◌};
+ghost use Rattle.std.specs.Prelude.{Bool, false, ◌⊎◌};
 ghost use Rattle.orc_stripe.specs.declared.fault.StreamKind.TheVariants as stream;
 ghost use Rattle.orc_stripe.specs.declared.fault.StripeFault.{StripeFault as Fault};
 ghost use Rattle.orc_stripe.specs.declared.fault.StripeFault.TheVariants as fault;
@@ -21,6 +21,7 @@ ghost use Rattle.orc_types.specs.Fits.{int_fits as fits, signed_fits};
 ghost use Rattle.orc_types.specs.declared.kind.Scalar.TheVariants as kinds;
 ghost use Rattle.orc_stripe.specs.ValueFaults.{is_index, names_text};
 ghost use Rattle.orc_stripe.specs.Faults.{RunsFail};
+ghost use Rattle.orc_stripe.specs.RunFaults.{Always};
 ghost use Rattle.orc_stripe.specs.ReaderFaults.{IntsMeet, GroupsMeet, TextMeets, WordsMeet, ScalarMeets, ListsMeet, PresentMeets};
 
 use crate::bits::Bits;
@@ -65,9 +66,10 @@ pub(crate) struct ColumnReader<'a> {
 /// Whether the next cell is not null.
 pub(crate) fn next_mark(column: usize, present: &mut Option<Bits<'_>>) -> Result<bool, StripeFault>
     ensures found { IfOk result (λ mark. Leaves (MarksLeft present.old) (MarksLeft present.new) (mark ∷ [])) }
+    ensures first { IfOk result (λ mark. Precedes (MarksFirst present.old) (MarksFirst present.new) (mark ∷ [])) }
     ensures none { OnErr result (Lacks (MarksLeft present.old) 1) }
-    ensures before { OnOk result ((f : RunsFault) → MarksMeet present.new f → MarksMeet present.old f) }
-    ensures fault { IfErr result (λ cause. cause ≢ fault.OutOfMemory → RunsFail stream.Present column (MarksMeet present.old) cause) }
+    ensures before { OnOk result ((n : ℕ) (f : RunsFault) → MarksMeet present.new n f → MarksMeet present.old (suc n) f) }
+    ensures fault { IfErr result (λ cause. cause ≢ fault.OutOfMemory → RunsFail stream.Present column (λ f. (n : ℕ) → MarksMeet present.old (suc n) f) cause) }
 {
     match present {
         None => Ok(true),
@@ -82,9 +84,10 @@ pub(crate) fn next_mark(column: usize, present: &mut Option<Bits<'_>>) -> Result
 pub(crate) fn next_present(reader: &mut ColumnReader<'_>) -> Result<bool, StripeFault>
     ensures found { IfOk result (λ mark. Leaves (MarksLeft reader.old.present) (MarksLeft reader.new.present) (mark ∷ [])) }
     ensures source { OnOk result (reader.new.source ≡ reader.old.source) }
+    ensures first { IfOk result (λ mark. Precedes (MarksFirst reader.old.present) (MarksFirst reader.new.present) (mark ∷ [])) }
     ensures none { OnErr result (Lacks (MarksLeft reader.old.present) 1) }
-    ensures before { OnOk result ((f : RunsFault) → MarksMeet reader.new.present f → MarksMeet reader.old.present f) }
-    ensures fault { IfErr result (λ cause. cause ≢ fault.OutOfMemory → PresentMeets reader.old cause) }
+    ensures before { OnOk result ((n : ℕ) (f : RunsFault) → MarksMeet reader.new.present n f → MarksMeet reader.old.present (suc n) f) }
+    ensures fault { IfErr result (λ cause. cause ≢ fault.OutOfMemory → (n : ℕ) → PresentMeets reader.old false (suc n) cause) }
 {
     match next_mark(reader.source.column, &mut reader.present) {
         Ok(mark) => Ok(mark),
@@ -101,8 +104,8 @@ pub(crate) fn next_number(
     ensures found { IfOk result (λ n. Leaves (NumbersLeft numbers.old) (NumbersLeft numbers.new) (n ∷ [])) }
     ensures first { IfOk result (λ n. Precedes (NumbersFirst numbers.old) (NumbersFirst numbers.new) (n ∷ [])) }
     ensures none { OnErr result (Lacks (NumbersLeft numbers.old) 1) }
-    ensures before { OnOk result ((f : RunsFault) → NumbersMeet numbers.new f → NumbersMeet numbers.old f) }
-    ensures fault { IfErr result (λ cause. cause ≢ fault.OutOfMemory → RunsFail kind column (NumbersMeet numbers.old) cause) }
+    ensures before { OnOk result ((n : ℕ) (f : RunsFault) → NumbersMeet numbers.new n f → NumbersMeet numbers.old (suc n) f) }
+    ensures fault { IfErr result (λ cause. cause ≢ fault.OutOfMemory → (n : ℕ) → RunsFail kind column (Always false (suc n) (NumbersMeet numbers.old)) cause) }
 {
     match numbers.next() {
         Ok(number) => Ok(number),
@@ -122,8 +125,9 @@ pub(crate) fn next_group<'a>(
     ensures none { OnErr result (Lacks (Grouped (NumbersLeft numbers.old) (OctetsLeft octets.old)) 1) }
     ensures first { IfOk result (λ bytes. Precedes (NumbersFirst numbers.old) (NumbersFirst numbers.new) (pos (length bytes.now) ∷ [])) }
     ensures bytes { IfOk result (λ bytes. octets.old.rest.now ≡ bytes.now ++ octets.new.rest.now) }
-    ensures before { OnOk result ((f : Fault) → GroupsMeet kind numbers.new octets.new column f → GroupsMeet kind numbers.old octets.old column f) }
-    ensures fault { IfErr result (λ cause. cause ≢ fault.OutOfMemory → GroupsMeet kind numbers.old octets.old column cause) }
+    ensures before { OnOk result ((all : Bool) (n : ℕ) (f : Fault) → GroupsMeet kind numbers.new octets.new all n column f
+        → GroupsMeet kind numbers.old octets.old all (suc n) column f) }
+    ensures fault { IfErr result (λ cause. cause ≢ fault.OutOfMemory → (n : ℕ) → GroupsMeet kind numbers.old octets.old false (suc n) column cause) }
 {
     match next_number(column, StreamKind::Length, numbers) {
         Ok(number) => {
@@ -154,8 +158,10 @@ fn number_of(byte: u8) -> i64
 fn next_byte<'a>(column: usize, bytes: &mut Bytes<'a>) -> Result<Value<'a>, StripeFault>
     ensures found { IfOk result (λ v. Leaves (Standing IsByte (BytesLeft bytes.old)) (Standing IsByte (BytesLeft bytes.new)) (cell_of_value v ∷ [])) }
     ensures none { OnErr result (Lacks (Standing IsByte (BytesLeft bytes.old)) 1) }
-    ensures before { OnOk result ((f : Fault) → RunsFail stream.Data column (BytesMeet bytes.new) f → RunsFail stream.Data column (BytesMeet bytes.old) f) }
-    ensures fault { IfErr result (λ cause. cause ≢ fault.OutOfMemory → RunsFail stream.Data column (BytesMeet bytes.old) cause) }
+    ensures before { OnOk result ((all : Bool) (n : ℕ) (f : Fault) → RunsFail stream.Data column (Always all n (BytesMeet bytes.new)) f
+        → RunsFail stream.Data column (Always all (suc n) (BytesMeet bytes.old)) f) }
+    ensures fault { IfErr result (λ cause. cause ≢ fault.OutOfMemory
+        → (n : ℕ) → RunsFail stream.Data column (Always false (suc n) (BytesMeet bytes.old)) cause) }
 {
     match bytes.next() {
         Ok(byte) => Ok(Value::Int(number_of(byte))),
@@ -172,8 +178,9 @@ fn next_int<'a>(
     ensures found { IfOk result (λ v. Leaves (Standing (IsInt kind) (NumbersLeft numbers.old)) (Standing (IsInt kind) (NumbersLeft numbers.new))
         (cell_of_value v ∷ [])) }
     ensures none { OnErr result (Lacks (Standing (IsInt kind) (NumbersLeft numbers.old)) 1) }
-    ensures before { OnOk result ((f : Fault) → IntsMeet (fits kind) numbers.new column f → IntsMeet (fits kind) numbers.old column f) }
-    ensures fault { IfErr result (λ cause. cause ≢ fault.OutOfMemory → IntsMeet (fits kind) numbers.old column cause) }
+    ensures before { OnOk result ((all : Bool) (n : ℕ) (f : Fault) → IntsMeet (fits kind) numbers.new all n column f
+        → IntsMeet (fits kind) numbers.old all (suc n) column f) }
+    ensures fault { IfErr result (λ cause. cause ≢ fault.OutOfMemory → (n : ℕ) → IntsMeet (fits kind) numbers.old false (suc n) column cause) }
 {
     match next_number(column, StreamKind::Data, numbers) {
         Ok(number) => {
@@ -191,9 +198,10 @@ fn next_long<'a>(column: usize, numbers: &mut Numbers<'a>) -> Result<Value<'a>, 
     ensures found { IfOk result (λ v. Leaves (Standing (IsInt kinds.Long) (NumbersLeft numbers.old))
         (Standing (IsInt kinds.Long) (NumbersLeft numbers.new)) (cell_of_value v ∷ [])) }
     ensures none { OnErr result (Lacks (Standing (IsInt kinds.Long) (NumbersLeft numbers.old)) 1) }
-    ensures before { OnOk result ((f : Fault) → RunsFail stream.Data column (NumbersMeet numbers.new) f
-        → RunsFail stream.Data column (NumbersMeet numbers.old) f) }
-    ensures fault { IfErr result (λ cause. cause ≢ fault.OutOfMemory → RunsFail stream.Data column (NumbersMeet numbers.old) cause) }
+    ensures before { OnOk result ((all : Bool) (n : ℕ) (f : Fault) → RunsFail stream.Data column (Always all n (NumbersMeet numbers.new)) f
+        → RunsFail stream.Data column (Always all (suc n) (NumbersMeet numbers.old)) f) }
+    ensures fault { IfErr result (λ cause. cause ≢ fault.OutOfMemory
+        → (n : ℕ) → RunsFail stream.Data column (Always false (suc n) (NumbersMeet numbers.old)) cause) }
 {
     match next_number(column, StreamKind::Data, numbers) {
         Ok(number) => Ok(Value::Int(number)),
@@ -205,8 +213,9 @@ fn next_long<'a>(column: usize, numbers: &mut Numbers<'a>) -> Result<Value<'a>, 
 fn next_date<'a>(column: usize, numbers: &mut Numbers<'a>) -> Result<Value<'a>, StripeFault>
     ensures found { IfOk result (λ v. Leaves (Standing IsDate (NumbersLeft numbers.old)) (Standing IsDate (NumbersLeft numbers.new)) (cell_of_value v ∷ [])) }
     ensures none { OnErr result (Lacks (Standing IsDate (NumbersLeft numbers.old)) 1) }
-    ensures before { OnOk result ((f : Fault) → IntsMeet (signed_fits 31) numbers.new column f → IntsMeet (signed_fits 31) numbers.old column f) }
-    ensures fault { IfErr result (λ cause. cause ≢ fault.OutOfMemory → IntsMeet (signed_fits 31) numbers.old column cause) }
+    ensures before { OnOk result ((all : Bool) (n : ℕ) (f : Fault) → IntsMeet (signed_fits 31) numbers.new all n column f
+        → IntsMeet (signed_fits 31) numbers.old all (suc n) column f) }
+    ensures fault { IfErr result (λ cause. cause ≢ fault.OutOfMemory → (n : ℕ) → IntsMeet (signed_fits 31) numbers.old false (suc n) column cause) }
 {
     match next_number(column, StreamKind::Data, numbers) {
         Ok(number) => match i32::try_from(number) {
@@ -221,8 +230,10 @@ fn next_date<'a>(column: usize, numbers: &mut Numbers<'a>) -> Result<Value<'a>, 
 fn next_bool<'a>(column: usize, bits: &mut Bits<'a>) -> Result<Value<'a>, StripeFault>
     ensures found { IfOk result (λ v. Leaves (Standing IsBool (BitsLeft bits.old)) (Standing IsBool (BitsLeft bits.new)) (cell_of_value v ∷ [])) }
     ensures none { OnErr result (Lacks (Standing IsBool (BitsLeft bits.old)) 1) }
-    ensures before { OnOk result ((f : Fault) → RunsFail stream.Data column (BitsMeet bits.new) f → RunsFail stream.Data column (BitsMeet bits.old) f) }
-    ensures fault { IfErr result (λ cause. cause ≢ fault.OutOfMemory → RunsFail stream.Data column (BitsMeet bits.old) cause) }
+    ensures before { OnOk result ((all : Bool) (n : ℕ) (f : Fault) → RunsFail stream.Data column (Always all n (BitsMeet bits.new)) f
+        → RunsFail stream.Data column (Always all (suc n) (BitsMeet bits.old)) f) }
+    ensures fault { IfErr result (λ cause. cause ≢ fault.OutOfMemory
+        → (n : ℕ) → RunsFail stream.Data column (Always false (suc n) (BitsMeet bits.old)) cause) }
 {
     match bits.next() {
         Ok(bit) => Ok(Value::Bool(bit)),
@@ -239,8 +250,9 @@ fn next_text<'a>(
     ensures found { IfOk result (λ v. Leaves (Standing IsText (Grouped (NumbersLeft numbers.old) (OctetsLeft octets.old)))
         (Standing IsText (Grouped (NumbersLeft numbers.new) (OctetsLeft octets.new))) (cell_of_value v ∷ [])) }
     ensures none { OnErr result (Lacks (Standing IsText (Grouped (NumbersLeft numbers.old) (OctetsLeft octets.old))) 1) }
-    ensures before { OnOk result ((f : Fault) → TextMeets numbers.new octets.new column f → TextMeets numbers.old octets.old column f) }
-    ensures fault { IfErr result (λ cause. cause ≢ fault.OutOfMemory → TextMeets numbers.old octets.old column cause) }
+    ensures before { OnOk result ((all : Bool) (n : ℕ) (f : Fault) → TextMeets numbers.new octets.new all n column f
+        → TextMeets numbers.old octets.old all (suc n) column f) }
+    ensures fault { IfErr result (λ cause. cause ≢ fault.OutOfMemory → (n : ℕ) → TextMeets numbers.old octets.old false (suc n) column cause) }
 {
     match next_group(column, StreamKind::Data, numbers, octets) {
         Ok(bytes) => match std::str::from_utf8(bytes) {
@@ -267,9 +279,9 @@ fn next_binary<'a>(
     ensures found { IfOk result (λ v. Leaves (Standing IsBinary (Grouped (NumbersLeft numbers.old) (OctetsLeft octets.old)))
         (Standing IsBinary (Grouped (NumbersLeft numbers.new) (OctetsLeft octets.new))) (cell_of_value v ∷ [])) }
     ensures none { OnErr result (Lacks (Standing IsBinary (Grouped (NumbersLeft numbers.old) (OctetsLeft octets.old))) 1) }
-    ensures before { OnOk result ((f : Fault) → GroupsMeet stream.Data numbers.new octets.new column f
-        → GroupsMeet stream.Data numbers.old octets.old column f) }
-    ensures fault { IfErr result (λ cause. cause ≢ fault.OutOfMemory → GroupsMeet stream.Data numbers.old octets.old column cause) }
+    ensures before { OnOk result ((all : Bool) (n : ℕ) (f : Fault) → GroupsMeet stream.Data numbers.new octets.new all n column f
+        → GroupsMeet stream.Data numbers.old octets.old all (suc n) column f) }
+    ensures fault { IfErr result (λ cause. cause ≢ fault.OutOfMemory → (n : ℕ) → GroupsMeet stream.Data numbers.old octets.old false (suc n) column cause) }
 {
     match next_group(column, StreamKind::Data, numbers, octets) {
         Ok(bytes) => Ok(value_of(bytes)),
@@ -305,9 +317,9 @@ fn next_word<'a>(
     ensures found { IfOk result (λ v. Leaves (Standing (IsWord (map entry_bytes entries.now)) (NumbersLeft numbers.old))
         (Standing (IsWord (map entry_bytes entries.now)) (NumbersLeft numbers.new)) (cell_of_value v ∷ [])) }
     ensures none { OnErr result (Lacks (Standing (IsWord (map entry_bytes entries.now)) (NumbersLeft numbers.old)) 1) }
-    ensures before { OnOk result ((f : Fault) → WordsMeet (map entry_bytes entries.now) numbers.new column f
-        → WordsMeet (map entry_bytes entries.now) numbers.old column f) }
-    ensures fault { IfErr result (λ cause. cause ≢ fault.OutOfMemory → WordsMeet (map entry_bytes entries.now) numbers.old column cause) }
+    ensures before { OnOk result ((all : Bool) (n : ℕ) (f : Fault) → WordsMeet (map entry_bytes entries.now) numbers.new all n column f
+        → WordsMeet (map entry_bytes entries.now) numbers.old all (suc n) column f) }
+    ensures fault { IfErr result (λ cause. cause ≢ fault.OutOfMemory → (n : ℕ) → WordsMeet (map entry_bytes entries.now) numbers.old false (suc n) column cause) }
 {
     match next_number(column, StreamKind::Data, numbers) {
         Ok(number) => match word(column, entries, number) {
@@ -324,8 +336,8 @@ impl<'a> Source<'a> {
         ensures found { IfOk result (λ v. Leaves (ScalarLeft kind self.old) (ScalarLeft kind self.new) (cell_of_value v ∷ [])) }
         ensures none { OnErr result (Lacks (ScalarLeft kind self.old) 1) }
         ensures column { self.new.column ≡ self.old.column }
-        ensures before { OnOk result ((f : Fault) → ScalarMeets kind self.new f → ScalarMeets kind self.old f) }
-        ensures fault { IfErr result (λ cause. cause ≢ fault.OutOfMemory → ScalarMeets kind self.old cause) }
+        ensures before { OnOk result ((all : Bool) (n : ℕ) (f : Fault) → ScalarMeets kind self.new all n f → ScalarMeets kind self.old all (suc n) f) }
+        ensures fault { IfErr result (λ cause. cause ≢ fault.OutOfMemory → (n : ℕ) → ScalarMeets kind self.old false (suc n) cause) }
     {
         match kind {
             Scalar::Boolean => next_bool(self.column, &mut self.bits),
@@ -346,11 +358,12 @@ impl<'a> Source<'a> {
 /// The size of the next list, for which there is room.
 pub(crate) fn next_size(source: &mut Source<'_>) -> Result<u64, StripeFault>
     ensures found { IfOk result (λ size. Leaves (NumbersLeft source.old.numbers) (NumbersLeft source.new.numbers) (pos size ∷ [])) }
+    ensures first { IfOk result (λ size. Precedes (NumbersFirst source.old.numbers) (NumbersFirst source.new.numbers) (pos size ∷ [])) }
     ensures room { IfOk result (λ size. (size ≤ source.old.room) × (source.new.room ≡ source.old.room - size)) }
     ensures none { OnErr result ((s : Shape) (below : List Reader) → Lacks (ListsLeft s source.old below) 1) }
     ensures column { source.new.column ≡ source.old.column }
-    ensures before { OnOk result ((f : Fault) → ListsMeet source.new f → ListsMeet source.old f) }
-    ensures fault { IfErr result (λ cause. cause ≢ fault.OutOfMemory → ListsMeet source.old cause) }
+    ensures before { OnOk result ((all : Bool) (n : ℕ) (f : Fault) → ListsMeet source.new all n f → ListsMeet source.old all (suc n) f) }
+    ensures fault { IfErr result (λ cause. cause ≢ fault.OutOfMemory → (n : ℕ) → ListsMeet source.old false (suc n) cause) }
 {
     match next_number(source.column, StreamKind::Length, &mut source.numbers) {
         Ok(number) => {

@@ -1,4 +1,4 @@
-ghost use Rattle.std.specs.Prelude.{◌≡◌, ◌≢◌, ℕ, List, IfOk, IfErr, length, map};
+ghost use Rattle.std.specs.Prelude.{◌≡◌, ◌≢◌, ℕ, true, List, IfOk, IfErr, length, map};
 ghost use Rattle.orc_rle.specs.declared.sign.Sign.TheVariants.{Unsigned};
 ghost use Rattle.orc_stripe.specs.declared.fault.StripeFault.TheVariants.{OutOfMemory};
 ghost use Rattle.orc_stripe.specs.Columns.{entry_bytes};
@@ -31,7 +31,7 @@ pub(crate) fn entries_of<'a>(
     ensures none { IfErr result (λ fault. fault ≢ OutOfMemory → (entries : List (List ℕ)) → length entries ≡ size
         → Grouped (AreNumbers version Unsigned lengths.now) (Is bytes.now) entries → ⊥) }
     ensures fault { IfErr result (λ cause. cause ≢ OutOfMemory
-        → GroupsFail DictionaryData (record { version = version; sign = Unsigned; bytes = lengths.now }) bytes.now column cause) }
+        → GroupsFail DictionaryData (record { version = version; sign = Unsigned; bytes = lengths.now }) true size bytes.now column cause) }
 {
     let mut numbers = numbers_of(version, Sign::Unsigned, lengths);
     let mut octets = Octets { rest: bytes };

@@ -1,4 +1,4 @@
-ghost use Rattle.std.specs.Prelude.{◌≡◌, [], OnOk, OnErr, MatchBool, length};
+ghost use Rattle.std.specs.Prelude.{◌≡◌, ◌≢◌, [], true, OnOk, OnErr, MatchBool, length};
 ghost use Rattle.orc_types.specs.Shapes.{width, widths};
 ghost use Rattle.orc_types.specs.Views.{shape, fields as fields_view};
 ghost use Rattle.orc_stripe.specs.Numbers.{NumbersLeft};
@@ -9,18 +9,20 @@ ghost use Rattle.orc_stripe.specs.Octets.{OctetsLeft};
 ghost use Rattle.orc_stripe.specs.Columns.{MarksLeft, ScalarLeft, CellsLeft, OwnLeft, FieldsLeft};
 ghost use Rattle.std.specs.Prelude.{IfErr};
 ghost use Rattle.orc_rle.specs.declared.fault.RunFault.TheVariants as run;
-ghost use Rattle.orc_stripe.specs.declared.fault.StripeFault.TheVariants as fault;
 ghost use Rattle.orc_stripe.specs.declared.fault.StreamKind.TheVariants as stream;
+ghost use Rattle.orc_stripe.specs.Faults.{RunsFail};
+ghost use Rattle.orc_stripe.specs.RunFaults.{Always};
 ghost use Rattle.orc_stripe.specs.RunsMet.{NumbersMeet, BytesMeet, BitsMeet, MarksMeet};
-ghost use Rattle.orc_stripe.specs.ReaderFaults.{GroupsMeet, ScalarMeets, CellsMeet, FieldsMeet};
+ghost use Rattle.orc_stripe.specs.ReaderFaults.{GroupsMeet, ScalarMeets, CellsMeet, OwnMeet, FieldsMeet};
 
 use crate::bits::Bits;
 use crate::bytes::Bytes;
 use crate::column::{ColumnReader, Source};
-use crate::fault::{StreamKind, StripeFault};
+use crate::fault::{StreamKind, StripeFault, moved, run_fault};
 use crate::numbers::Numbers;
 use crate::octets::Octets;
-use orc_rle::RunFault;
+use crate::version::next_run;
+use orc_rle::{ByteRuns, Run, RunFault, RunU8};
 use orc_types::{Field, Scalar, Tree, width_of};
 
 /// Whether no number is left.
@@ -36,36 +38,47 @@ pub(crate) fn numbers_end(numbers: &Numbers<'_>) -> bool
     true
 }
 
-/// Where the run begins that has numbers left over: the last one that was read, or, where all of it is
-/// used, the one that comes next.
-pub(crate) fn numbers_left(numbers: &Numbers<'_>) -> usize
+/// The fault of numbers that are left over: of the run that was read last, or, where all of it is used,
+/// of the bytes after it, which may be no run.
+pub(crate) fn numbers_left(numbers: &Numbers<'_>) -> RunFault
     requires more { NumbersLeft numbers.now [] → ⊥ }
-    ensures { NumbersMeet numbers.now (run.TooMany result) }
+    ensures met { NumbersMeet numbers.now 0 result }
+    ensures no_memory { result ≢ run.OutOfMemory }
 {
     if numbers.used < numbers.run.values().len() {
-        return numbers.start;
+        return RunFault::TooMany(numbers.start);
     }
-    numbers.at
+    let (_, rest) = numbers.bytes.split_at(numbers.at);
+    match next_run(numbers.version, rest, numbers.sign, &mut Run::new()) {
+        Ok(_) => RunFault::TooMany(numbers.at),
+        Err(fault) => moved(fault, numbers.at),
+    }
 }
 
-/// Where the run of bytes begins that has some left over.
-fn bytes_left(bytes: &Bytes<'_>) -> usize
+/// The fault of bytes in runs that are left over.
+fn bytes_left(bytes: &Bytes<'_>) -> RunFault
     requires more { BytesLeft bytes.now [] → ⊥ }
-    ensures { BytesMeet bytes.now (run.TooMany result) }
+    ensures met { BytesMeet bytes.now 0 result }
+    ensures no_memory { result ≢ run.OutOfMemory }
 {
     if bytes.used < bytes.run.values().len() {
-        return bytes.start;
+        return RunFault::TooMany(bytes.start);
     }
-    bytes.at
+    let (_, rest) = bytes.bytes.split_at(bytes.at);
+    match ByteRuns::next_run(rest, &mut RunU8::new()) {
+        Ok(_) => RunFault::TooMany(bytes.at),
+        Err(fault) => moved(fault, bytes.at),
+    }
 }
 
-/// Where the run begins whose booleans are left over. A byte whose digits are all held is of the last run.
-fn bits_left(bits: &Bits<'_>) -> usize
+/// The fault of booleans that are left over. A byte whose digits are all held is of the last run.
+fn bits_left(bits: &Bits<'_>) -> RunFault
     requires more { BitsLeft bits.now [] → ⊥ }
-    ensures { BitsMeet bits.now (run.TooMany result) }
+    ensures met { BitsMeet bits.now 0 result }
+    ensures no_memory { result ≢ run.OutOfMemory }
 {
     if bits.left >= 8 {
-        return bits.bytes.start;
+        return RunFault::TooMany(bits.bytes.start);
     }
     bytes_left(&bits.bytes)
 }
@@ -154,29 +167,38 @@ pub(crate) fn groups_left(
     octets: &Octets<'_>,
 ) -> StripeFault
     requires more { Grouped (NumbersLeft numbers.now) (OctetsLeft octets.now) [] → ⊥ }
-    ensures { GroupsMeet kind numbers.now octets.now column result }
+    ensures { GroupsMeet kind numbers.now octets.now true 0 column result }
 {
     if numbers_end(numbers) {
         return StripeFault::LengthSum(column, kind);
     }
-    too_many(column, StreamKind::Length, numbers_left(numbers))
+    run_fault(column, StreamKind::Length, numbers_left(numbers))
+}
+
+/// The fault of numbers that are left over in DATA.
+fn data_left(source: &Source<'_>) -> StripeFault
+    requires more { NumbersLeft source.now.numbers [] → ⊥ }
+    ensures { RunsFail stream.Data source.now.column (Always true 0 (NumbersMeet source.now.numbers)) result }
+{
+    run_fault(
+        source.column,
+        StreamKind::Data,
+        numbers_left(&source.numbers),
+    )
 }
 
 /// The fault of values that are left over, of a column of a kind that contains no other.
 fn scalar_left(source: &Source<'_>, kind: Scalar) -> StripeFault
     requires more { ScalarLeft kind source.now [] → ⊥ }
-    ensures { ScalarMeets kind source.now result }
+    ensures { ScalarMeets kind source.now true 0 result }
 {
     match kind {
-        Scalar::Boolean => too_many(source.column, StreamKind::Data, bits_left(&source.bits)),
-        Scalar::Byte => too_many(source.column, StreamKind::Data, bytes_left(&source.bytes)),
-        Scalar::Short | Scalar::Int | Scalar::Long | Scalar::Date => {
-            too_many(
-                source.column,
-                StreamKind::Data,
-                numbers_left(&source.numbers),
-            )
-        }
+        Scalar::Boolean => run_fault(source.column, StreamKind::Data, bits_left(&source.bits)),
+        Scalar::Byte => run_fault(source.column, StreamKind::Data, bytes_left(&source.bytes)),
+        Scalar::Short => data_left(source),
+        Scalar::Int => data_left(source),
+        Scalar::Long => data_left(source),
+        Scalar::Date => data_left(source),
         Scalar::Binary => groups_left(
             source.column,
             StreamKind::Data,
@@ -190,29 +212,19 @@ fn scalar_left(source: &Source<'_>, kind: Scalar) -> StripeFault
                 &source.numbers,
                 &source.octets,
             ),
-            Some(_) => too_many(
-                source.column,
-                StreamKind::Data,
-                numbers_left(&source.numbers),
-            ),
+            Some(_) => data_left(source),
         },
     }
 }
 
-/// The fault of a stream with values left over, of the run that begins at the place.
-fn too_many(column: usize, kind: StreamKind, place: usize) -> StripeFault
-    ensures { result ≡ fault.Run column kind (run.TooMany place) }
-{
-    StripeFault::Run(column, kind, RunFault::TooMany(place))
-}
-
-/// Where the run begins whose marks are left over.
-fn marks_left(present: &Option<Bits<'_>>) -> usize
+/// The fault of marks that are left over.
+fn marks_left(present: &Option<Bits<'_>>) -> RunFault
     requires more { MarksLeft present.now [] → ⊥ }
-    ensures { MarksMeet present.now (run.TooMany result) }
+    ensures met { MarksMeet present.now 0 result }
+    ensures no_memory { result ≢ run.OutOfMemory }
 {
     match present {
-        None => 0,
+        None => RunFault::TooMany(0),
         Some(bits) => bits_left(bits),
     }
 }
@@ -223,11 +235,11 @@ pub(crate) fn cells_end(tree: &Tree, readers: &[ColumnReader<'_>]) -> Result<(),
     requires { length readers.now ≡ width (shape tree.now) }
     ensures all { OnOk result (CellsLeft (shape tree.now) readers.now []) }
     ensures more { OnErr result (CellsLeft (shape tree.now) readers.now [] → ⊥) }
-    ensures fault { IfErr result (CellsMeet (shape tree.now) readers.now) }
+    ensures fault { IfErr result (CellsMeet (shape tree.now) readers.now true 0) }
 {
     let own = &readers[0];
     if !marks_end(&own.present) {
-        return Err(too_many(
+        return Err(run_fault(
             own.source.column,
             StreamKind::Present,
             marks_left(&own.present),
@@ -245,7 +257,7 @@ fn values_end(tree: &Tree, readers: &[ColumnReader<'_>]) -> Result<(), StripeFau
     requires { length readers.now ≡ width (shape tree.now) }
     ensures all { OnOk result (OwnLeft (shape tree.now) readers.now []) }
     ensures more { OnErr result (OwnLeft (shape tree.now) readers.now [] → ⊥) }
-    ensures fault { IfErr result (CellsMeet (shape tree.now) readers.now) }
+    ensures fault { IfErr result (OwnMeet (shape tree.now) readers.now true 0) }
 {
     let own = &readers[0];
     match tree {
@@ -257,7 +269,7 @@ fn values_end(tree: &Tree, readers: &[ColumnReader<'_>]) -> Result<(), StripeFau
         }
         Tree::List(element, _) => {
             if !numbers_end(&own.source.numbers) {
-                return Err(too_many(
+                return Err(run_fault(
                     own.source.column,
                     StreamKind::Length,
                     numbers_left(&own.source.numbers),
@@ -281,7 +293,7 @@ fn fields_end(fields: &[Field], readers: &[ColumnReader<'_>]) -> Result<(), Stri
     requires { length readers.now ≡ widths (fields_view fields.now) }
     ensures all { OnOk result (FieldsLeft (fields_view fields.now) readers.now []) }
     ensures more { OnErr result (FieldsLeft (fields_view fields.now) readers.now [] → ⊥) }
-    ensures fault { IfErr result (FieldsMeet (fields_view fields.now) readers.now) }
+    ensures fault { IfErr result (FieldsMeet (fields_view fields.now) readers.now true 0) }
 {
     match fields {
         [] => Ok(()),

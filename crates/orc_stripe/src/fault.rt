@@ -47,7 +47,7 @@ pub enum StripeFault {
     /// The footer is no message.
     #[error("stripe 9 Wire: {0}")]
     Wire(WireFault),
-    /// There are more cells than a column may have.
+    /// There are more rows than a column may have cells (column 0), or more elements in the column's lists.
     #[error("stripe 10 TooMany({0})")]
     TooMany(usize),
     /// Memory ran out.

@@ -1,4 +1,4 @@
-ghost use Rattle.std.specs.Prelude.{◌≡◌, ◌≢◌, [], ◌∷◌, IfOk, IfErr, OnOk, OnErr, length, ◌<◌};
+ghost use Rattle.std.specs.Prelude.{◌≡◌, ◌≢◌, ℕ, suc, [], ◌∷◌, IfOk, IfErr, OnOk, OnErr, length, ◌<◌};
 ghost use Rattle.orc_rle.specs.declared.fault.RunFault.TheVariants.{OutOfMemory};
 ghost use Rattle.orc_rle.specs.declared.fault.RunFault.{RunFault as Fault};
 ghost use Rattle.orc_stripe.specs.Fronts.{Leaves, Precedes, Lacks};
@@ -46,8 +46,8 @@ impl<'a> Numbers<'a> {
         ensures first { OnOk result (Precedes (NumbersFirst self.old) (NumbersFirst self.new) []) }
         ensures some { OnOk result (self.new.used < length self.new.run.values) }
         ensures none { OnErr result (Lacks (NumbersLeft self.old) 1) }
-        ensures before { OnOk result ((f : Fault) → NumbersMeet self.new f → NumbersMeet self.old f) }
-        ensures fault { IfErr result (NumbersMeet self.old) }
+        ensures before { OnOk result ((n : ℕ) (f : Fault) → NumbersMeet self.new n f → NumbersMeet self.old n f) }
+        ensures fault { IfErr result (λ fault. (n : ℕ) → NumbersMeet self.old (suc n) fault) }
         ensures no_memory { IfErr result (λ fault. fault ≢ OutOfMemory) }
     {
         while self.used >= self.run.values().len() {
@@ -72,8 +72,8 @@ impl<'a> Numbers<'a> {
         ensures found { IfOk result (λ n. Leaves (NumbersLeft self.old) (NumbersLeft self.new) (n ∷ [])) }
         ensures first { IfOk result (λ n. Precedes (NumbersFirst self.old) (NumbersFirst self.new) (n ∷ [])) }
         ensures none { OnErr result (Lacks (NumbersLeft self.old) 1) }
-        ensures before { OnOk result ((f : Fault) → NumbersMeet self.new f → NumbersMeet self.old f) }
-        ensures fault { IfErr result (NumbersMeet self.old) }
+        ensures before { OnOk result ((n : ℕ) (f : Fault) → NumbersMeet self.new n f → NumbersMeet self.old (suc n) f) }
+        ensures fault { IfErr result (λ fault. (n : ℕ) → NumbersMeet self.old (suc n) fault) }
         ensures no_memory { IfErr result (λ fault. fault ≢ OutOfMemory) }
     {
         match self.fill() {

@@ -1,4 +1,4 @@
-ghost use Rattle.std.specs.Prelude.{◌≡◌, ◌≢◌, ◌+◌, ◌<◌, ◌≤◌, ℕ, List, None, true, IfOk, IfErr, OnOk, length};
+ghost use Rattle.std.specs.Prelude.{◌≡◌, ◌≢◌, ◌+◌, ◌<◌, ◌≤◌, ℕ, List, None, true, false, IfOk, IfErr, OnOk, length};
 ghost use Rattle.orc_types.specs.Cells.{Cell};
 ghost use Rattle.orc_types.specs.Shapes.{width, widths};
 ghost use Rattle.orc_types.specs.Views.{shape, fields as fields_view};
@@ -152,7 +152,7 @@ fn word_source<'a>(
         → IsDictionary x entries → ⊥) }
     ensures column { IfOk result (λ source. source.column ≡ column) }
     ensures fault { IfErr result (λ cause. cause ≢ OutOfMemory → (x : Streams) → AreStreams x streams.now
-        → GroupsFail DictionaryData (lengths_of x) (x.stream 3) column cause) }
+        → GroupsFail DictionaryData (lengths_of x) true x.encoding.dictionary_size (x.stream 3) column cause) }
 {
     match entries_of(
         alloc,
@@ -287,7 +287,7 @@ pub(crate) fn put_tree<'a>(
     ensures none { IfErr result (λ fault. fault ≢ OutOfMemory → (cells : List Cell)
         → SpellsCells (shape tree.now) (columns_from footer.now located.now.bytes.now (length readers.old.items)) cells → ⊥) }
     ensures fault { IfErr result (λ cause. cause ≢ OutOfMemory
-        → FaultDown (shape tree.now) (columns_of footer.now located.now.bytes.now) (length readers.old.items) cause) }
+        → (count : ℕ) → FaultDown (shape tree.now) (columns_of footer.now located.now.bytes.now) (length readers.old.items) false count cause) }
 {
     match reader_of(alloc, tree, readers.len(), footer, located) {
         Ok(own) => readers.push(own)?,
@@ -321,7 +321,7 @@ fn put_fields<'a>(
     ensures none { IfErr result (λ fault. fault ≢ OutOfMemory → (structs : List (List Cell))
         → SpellsFields (fields_view fields.now) (columns_from footer.now located.now.bytes.now (length readers.old.items)) structs → ⊥) }
     ensures fault { IfErr result (λ cause. cause ≢ OutOfMemory
-        → FaultWithin (fields_view fields.now) (columns_of footer.now located.now.bytes.now) (length readers.old.items) cause) }
+        → (count : ℕ) → FaultWithin (fields_view fields.now) (columns_of footer.now located.now.bytes.now) (length readers.old.items) false count cause) }
 {
     match fields {
         [] => Ok(()),

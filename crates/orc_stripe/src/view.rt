@@ -100,11 +100,12 @@ impl<'a> StripeView<'a> {
     /// a number that was read.
     ///
     /// Refusals, each with the number of the column, and the kind of the stream where one is concerned:
-    /// `Run` where a stream has no such runs, or too few or too many of them; `NotUtf8` of a text;
-    /// `BadIndex` of an index that isn't below its dictionary's size; `LengthSum` where a stream of bytes
-    /// has another length than its LENGTHs say; `OutOfRange` of a number outside of its column's type;
-    /// `TooMany` of a column with more than 2,147,483,647 cells; and `OutOfMemory`. Which of several is
-    /// answered is open.
+    /// `Run` where a stream has no such runs, or too few or too many of them, with the fault that `decode`
+    /// has for as many values as the column needs; `NotUtf8` of a text; `BadIndex` of an index that isn't
+    /// below its dictionary's size; `LengthSum` where a stream of bytes has another length than its LENGTHs
+    /// say; `OutOfRange` of a number outside of its column's type; `TooMany` where a column has more than
+    /// 2,147,483,647 cells, with the number of the LIST above it, or of the root where the rows are more;
+    /// and `OutOfMemory`. Which of several is answered is open.
     pub fn rows(&self, alloc: Global) -> Result<Vec<Row<'a>>, StripeFault>
         ensures found { IfOk result (λ rows. IsStripe self.now.schema self.now.info self.now.bytes (views rows.items)) }
         ensures only { (rows : List Cell) → IsStripe self.now.schema self.now.info self.now.bytes rows

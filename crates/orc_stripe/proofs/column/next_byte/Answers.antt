@@ -6,7 +6,7 @@ use Rattle.orc_stripe.specs.Columns.{IsByte, signed_byte}
 use Rattle.orc_stripe.proofs.Fronts.{standing_lacks}
 use Rattle.orc_stripe.proofs.ReaderLemmas.{one_stands, one_byte}
 use Rattle.orc_stripe.proofs.Sizes.{value_int}
-use Rattle.orc_stripe.proofs.MetLemmas.{runs_before}
+use Rattle.orc_stripe.proofs.NeedLemmas.{runs_more, always_now}
 use Rattle.orc_stripe.specs.declared.fault.StreamKind.TheVariants as stream
 use Rattle.orc_stripe.specs.RunsMet.{BytesMeet}
 use Rattle.orc_stripe.proofs.column.next_byte.Goals as goal
@@ -23,7 +23,7 @@ pub returns-in-Err-clause-none : goal.returns-in-Err-clause-none
 returns-in-Err-clause-none c = standing_lacks IsByte (BytesLeft c.args.bytes.now) 1 c.in-Err.ensures.none
 
 pub returns-in-Err-clause-fault : goal.returns-in-Err-clause-fault
-returns-in-Err-clause-fault c = λ memory. let k = c.run_fault.ensures.fails memory in (c.in-Err.fault, k.0, k.1, c.in-Err.ensures.fault)
+returns-in-Err-clause-fault c = λ memory n. let k = c.run_fault.ensures.fails memory in (c.in-Err.fault, k.0, k.1, always_now n (BytesMeet c.args.bytes.now) c.in-Err.fault c.in-Err.ensures.fault)
 
 pub returns-in-Ok-clause-before : goal.returns-in-Ok-clause-before
-returns-in-Ok-clause-before c = λ f. runs_before stream.Data c.args.column (BytesMeet c.next.new.self) (BytesMeet c.args.bytes.now) f c.in-Ok.ensures.before
+returns-in-Ok-clause-before c = λ all n f. runs_more stream.Data c.args.column all n (BytesMeet c.next.new.self) (BytesMeet c.args.bytes.now) f c.in-Ok.ensures.before

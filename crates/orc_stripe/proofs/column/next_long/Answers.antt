@@ -5,7 +5,7 @@ use Rattle.orc_stripe.specs.Numbers.{NumbersLeft}
 use Rattle.orc_stripe.specs.Columns.{IsInt}
 use Rattle.orc_stripe.specs.declared.fault.StreamKind.TheVariants as stream
 use Rattle.orc_stripe.proofs.Fronts.{standing_lacks}
-use Rattle.orc_stripe.proofs.MetLemmas.{runs_before}
+use Rattle.orc_stripe.proofs.NeedLemmas.{runs_more}
 use Rattle.orc_stripe.specs.RunsMet.{NumbersMeet}
 use Rattle.orc_stripe.proofs.ReaderLemmas.{one_stands, one_int}
 use Rattle.orc_stripe.proofs.Sizes.{value_int, fits_long}
@@ -20,4 +20,4 @@ pub returns-in-Err-clause-none : goal.returns-in-Err-clause-none
 returns-in-Err-clause-none c = standing_lacks (IsInt kind.Long) (NumbersLeft c.args.numbers.now) 1 c.in-Err.ensures.none
 
 pub returns-in-Ok-clause-before : goal.returns-in-Ok-clause-before
-returns-in-Ok-clause-before c = λ f. runs_before stream.Data c.args.column (NumbersMeet c.next_number.new.numbers) (NumbersMeet c.args.numbers.now) f c.in-Ok.ensures.before
+returns-in-Ok-clause-before c = λ all n f. runs_more stream.Data c.args.column all n (NumbersMeet c.next_number.new.numbers) (NumbersMeet c.args.numbers.now) f c.in-Ok.ensures.before

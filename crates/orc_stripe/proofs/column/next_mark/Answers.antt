@@ -5,3 +5,6 @@ returns-in-Err-clause-fault c = λ memory. let k = c.run_fault.ensures.fails mem
 
 pub returns-in-Ok-clause-before : goal.returns-in-Ok-clause-before
 returns-in-Ok-clause-before c = rw c.in-Some.is c.in-Ok.ensures.before
+
+pub returns-in-Ok-clause-first : goal.returns-in-Ok-clause-first
+returns-in-Ok-clause-first c = rw c.in-Some.is c.in-Ok.ensures.first

@@ -6,7 +6,7 @@ use Rattle.orc_stripe.specs.Stripe.{columns_of}
 use Rattle.orc_stripe.specs.Starting.{OwnStart, HasNoDictionary, IsOf}
 use Rattle.orc_stripe.proofs.Arms.{first_field}
 use Rattle.orc_stripe.proofs.Started.{no_own, pushed, put_list, put_struct, put_more, no_element, no_struct, no_others}
-use Rattle.orc_stripe.proofs.FaultLemmas.{down_list}
+use Rattle.orc_stripe.proofs.FaultLemmas.{down_list, down_struct}
 use Rattle.orc_stripe.proofs.starting.+starting.Goals as goal
 
 pub put_tree-returns-in-Ok-put_tree-clause-found : goal.put_tree-returns-in-Ok-put_tree-clause-found
@@ -50,9 +50,9 @@ put_fields-returns-in-Err-put_fields-clause-none t c = λ memory structs.
     (first_field c.args.fields.now c.first-item.result c.in-len1-up.len_at_least c.first-item.is) c.in-Ok.ensures.found (c.in-Err-put_fields.ensures.none memory)
 
 pub put_tree-returns-in-Err-put_tree-clause-fault : goal.put_tree-returns-in-Err-put_tree-clause-fault
-put_tree-returns-in-Err-put_tree-clause-fault t c = λ memory.
+put_tree-returns-in-Err-put_tree-clause-fault t c = λ memory n.
     let f = c.in-Err-put_tree.ensures.fault memory in
-    down_list (shape c.args.tree.now) (shape c.in-List.element.value) c.in-List.field-1.items (columns_of c.args.footer.now c.args.located.now.bytes.now) (length c.args.readers.now.items) (length c.push.new.self.items) c.in-Err-put_tree.fault
+    down_list (shape c.args.tree.now) (shape c.in-List.element.value) c.in-List.field-1.items (columns_of c.args.footer.now c.args.located.now.bytes.now) (length c.args.readers.now.items) (length c.push.new.self.items) n c.in-Err-put_tree.fault
     (ap shape c.in-List.is ∙ shape-List c.in-List.element c.in-List.field-1) (pushed c.args.readers.now.items c.in-Ok.own c.push.new.self.items c.in_ok-push-in-Ok.ensures.items) (rw c.deref.ensures at f)
 
 pub put_tree-returns-in-Err-clause-none : goal.put_tree-returns-in-Err-clause-none
@@ -60,3 +60,9 @@ put_tree-returns-in-Err-clause-none t c = λ memory cells.
     let n : c.len.result ≡ length c.args.readers.now.items = search rules in
     let none = subst (λ k. HasNoDictionary (shape c.args.tree.now) (columns_of c.args.footer.now c.args.located.now.bytes.now k)) n (c.in-Err.ensures.none memory) in
     no_own c.args.footer.now c.args.located.now.bytes.now (length c.args.readers.now.items) (shape c.args.tree.now) cells none
+
+pub put_tree-returns-in-Err-put_fields-clause-fault : goal.put_tree-returns-in-Err-put_fields-clause-fault
+put_tree-returns-in-Err-put_fields-clause-fault t c = λ memory n.
+    let f = c.in-Err-put_fields.ensures.fault memory in
+    down_struct (shape c.args.tree.now) (fields_view c.in-Struct.fields.items) c.in-Struct.field-1.items (columns_of c.args.footer.now c.args.located.now.bytes.now) (length c.args.readers.now.items) (length c.push.new.self.items) n c.in-Err-put_fields.fault
+    (ap shape c.in-Struct.is ∙ shape-Struct c.in-Struct.fields c.in-Struct.field-1) (pushed c.args.readers.now.items c.in-Ok.own c.push.new.self.items c.in_ok-push-in-Ok.ensures.items) (rw c.deref-in-Struct.ensures.value at f)

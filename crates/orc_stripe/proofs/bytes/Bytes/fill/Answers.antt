@@ -1,15 +1,16 @@
 use Rattle.orc_rle.specs.declared.fault.RunFault.TheVariants.{TooFew}
-use Rattle.std.proofs.Common.{◌≤◌, [], ◌∙◌, ap, length, arith, drop}
+use Rattle.std.proofs.Common.{suc, ◌≤◌, [], ◌∙◌, ap, length, arith, drop}
 use Rattle.orc_rle.specs.ByteRun.{IsByteRun, NoByteRun}
-use Rattle.orc_stripe.specs.Bytes.{BytesLeft}
+use Rattle.orc_stripe.specs.Bytes.{BytesLeft, BytesFirst}
 use Rattle.orc_stripe.proofs.Fronts.{nothing, one_after_other, lacks_after}
-use Rattle.orc_stripe.proofs.RunsLemmas.{at_end, at_no_run, next_read}
+use Rattle.orc_stripe.proofs.RunsLemmas.{at_end, at_no_run, next_read, past_end}
 use Rattle.orc_stripe.proofs.RunsMetLemmas.{met_next, met_stop, met_end}
 use Rattle.orc_stripe.proofs.NumbersLemmas.{byte_laws}
+use Rattle.orc_stripe.proofs.FirstLemmas.{first_after, first_next}
 use Rattle.orc_stripe.proofs.bytes.Bytes.fill.Goals as goal
 
 pub loop-self-init : goal.loop-self-init
-loop-self-init c = (nothing (BytesLeft c.args.self.now), λ f h. h)
+loop-self-init c = (nothing (BytesLeft c.args.self.now), λ n f h. h, λ rest h. h)
 
 pub returns-then-self-clause-none : goal.returns-then-self-clause-none
 returns-then-self-clause-none c =
@@ -29,7 +30,9 @@ loop-self-preserved c =
     let found = rw c.split_at.ensures.back at c.in-Ok.ensures.found in (
       one_after_other (BytesLeft c.args.self.now) (BytesLeft r) _ [] [] c.loop-self.invariant.0
           (next_read IsByteRun byte_laws r.run.values r.used r.bytes.now r.at c.in-Ok.len c.next_run.new.run.values used found),
-      λ f h. c.loop-self.invariant.1 f (met_next IsByteRun NoByteRun byte_laws (drop r.used r.run.values) c.next_run.new.run.values r.bytes.now r.start r.at c.in-Ok.len (length r.bytes.now) f within found h),
+      λ n f h. c.loop-self.invariant.1 n f (met_next IsByteRun NoByteRun (drop r.used r.run.values) c.next_run.new.run.values r.bytes.now r.start r.at c.in-Ok.len (length r.bytes.now) n f (past_end r.used r.run.values used) within found h),
+      first_after (BytesFirst c.args.self.now) (BytesFirst r) _ [] [] c.loop-self.invariant.2
+          (first_next IsByteRun r.run.values r.used r.bytes.now r.at c.in-Ok.len c.next_run.new.run.values used found),
     )
 
 pub returns-in-Err-clause-none : goal.returns-in-Err-clause-none
@@ -43,15 +46,20 @@ pub returns-clause-found : goal.returns-clause-found
 returns-clause-found c = c.loop-self.invariant.0
 
 pub returns-then-self-clause-fault : goal.returns-then-self-clause-fault
-returns-then-self-clause-fault c =
+returns-then-self-clause-fault c = λ n.
     let r = c.loop-self.self in
-    c.loop-self.invariant.1 (TooFew (length r.bytes.now)) (met_end IsByteRun NoByteRun (drop r.used r.run.values) r.bytes.now r.start r.at (length r.bytes.now) c.if-self.true)
+    let used : length r.run.values ≤ r.used = omega (arith, c.loop-self-test.true, ap length c.values.ensures.values) in
+    c.loop-self.invariant.1 (suc n) (TooFew (length r.bytes.now)) (met_end IsByteRun NoByteRun (drop r.used r.run.values) r.bytes.now r.start r.at (length r.bytes.now) n (past_end r.used r.run.values used) c.if-self.true)
 
 pub returns-in-Err-clause-fault : goal.returns-in-Err-clause-fault
-returns-in-Err-clause-fault c =
+returns-in-Err-clause-fault c = λ n.
     let r = c.loop-self.self in
-    c.loop-self.invariant.1 c.moved.result
-    (met_stop IsByteRun NoByteRun (drop r.used r.run.values) r.bytes.now r.start r.at (length r.bytes.now) c.in-Err.fault c.moved.result c.if-self.false (rw c.split_at.ensures.back at c.in-Err.ensures.fault) c.moved.ensures.same)
+    let used : length r.run.values ≤ r.used = omega (arith, c.loop-self-test.true, ap length c.values.ensures.values) in
+    c.loop-self.invariant.1 (suc n) c.moved.result
+    (met_stop IsByteRun NoByteRun (drop r.used r.run.values) r.bytes.now r.start r.at (length r.bytes.now) (suc n) c.in-Err.fault c.moved.result (past_end r.used r.run.values used) c.if-self.false (rw c.split_at.ensures.back at c.in-Err.ensures.fault) c.moved.ensures.same)
 
 pub returns-clause-before : goal.returns-clause-before
 returns-clause-before c = c.loop-self.invariant.1
+
+pub returns-clause-first : goal.returns-clause-first
+returns-clause-first c = c.loop-self.invariant.2

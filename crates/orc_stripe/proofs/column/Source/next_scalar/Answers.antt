@@ -59,3 +59,27 @@ returns-in-Some-clause-before c = let e = c.next_word.ensures.before in rw (c.in
 
 pub returns-in-Some-clause-fault : goal.returns-in-Some-clause-fault
 returns-in-Some-clause-fault c = let e = c.next_word.ensures.fault in rw (c.in-String.is, c.in-Some.is) (rw c.deref.ensures.value at e)
+
+pub returns-in-Boolean-clause-fault : goal.returns-in-Boolean-clause-fault
+returns-in-Boolean-clause-fault c = rw c.in-Boolean.is c.next_bool.ensures.fault
+
+pub returns-in-Byte-clause-fault : goal.returns-in-Byte-clause-fault
+returns-in-Byte-clause-fault c = rw c.in-Byte.is c.next_byte.ensures.fault
+
+pub returns-in-Short-clause-fault : goal.returns-in-Short-clause-fault
+returns-in-Short-clause-fault c = rw c.in-Short.is c.next_int.ensures.fault
+
+pub returns-in-Int-clause-fault : goal.returns-in-Int-clause-fault
+returns-in-Int-clause-fault c = rw c.in-Int.is c.next_int-in-Int.ensures.fault
+
+pub returns-in-Long-clause-fault : goal.returns-in-Long-clause-fault
+returns-in-Long-clause-fault c = rw c.in-Long.is c.next_long.ensures.fault
+
+pub returns-in-Date-clause-fault : goal.returns-in-Date-clause-fault
+returns-in-Date-clause-fault c = rw c.in-Date.is c.next_date.ensures.fault
+
+pub returns-in-Binary-clause-fault : goal.returns-in-Binary-clause-fault
+returns-in-Binary-clause-fault c = rw c.in-Binary.is c.next_binary.ensures.fault
+
+pub returns-in-None-clause-fault : goal.returns-in-None-clause-fault
+returns-in-None-clause-fault c = rw (c.in-String.is, c.in-None.is) c.next_text.ensures.fault

@@ -1,4 +1,4 @@
-use Rattle.std.proofs.Common.{◌≡◌, inr, length, ap, sym, subst, arith}
+use Rattle.std.proofs.Common.{◌≡◌, false, inr, length, ap, sym, subst, arith}
 use Rattle.orc_types.specs.Shapes.{width}
 use Rattle.orc_types.specs.Views.{views, shape}
 use Rattle.orc_stripe.specs.Starting.{TreeStart, AreOf, Puts}
@@ -84,8 +84,9 @@ returns-clause-fault c = λ memory.
           c.in-Err.ensures.none other rows (subst (λ b. SpellsCells (shape c.tree-tree.result.now) (columns_from v.footer b (length c.new-readers.result.items)) rows) (sym c.in_ok-located.ensures.same)
           (none_put v.footer v.bytes.now (shape c.tree-tree.result.now) c.new-readers.result.items rows c.new-readers.ensures.items
           (subst (λ t. SpellsCells t x rows) (sym s) (from_number v.schema.now x v.info.number_of_rows rows h))))));
-      reason = inr (fault_from_start v.schema.now (shape c.tree-tree.result.now) x c.new-readers.result.items c.in-Err.fault s c.new-readers.ensures.items
-          (subst (λ b. FaultDown (shape c.tree-tree.result.now) (columns_of v.footer b) (length c.new-readers.result.items) c.in-Err.fault) c.in_ok-located.ensures.same (c.in-Err.ensures.fault memory)));
+      reason = inr (fault_from_start v.schema.now (shape c.tree-tree.result.now) x c.new-readers.result.items v.info.number_of_rows c.in-Err.fault s c.new-readers.ensures.items
+          (subst (λ b. FaultDown (shape c.tree-tree.result.now) (columns_of v.footer b) (length c.new-readers.result.items) false v.info.number_of_rows c.in-Err.fault) c.in_ok-located.ensures.same
+          (c.in-Err.ensures.fault memory v.info.number_of_rows)));
     })
 
 pub put_tree-requires-clause-there : goal.put_tree-requires-clause-there
