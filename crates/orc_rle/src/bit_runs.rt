@@ -157,8 +157,8 @@ pub fn bit_round_trip(alloc: Global, values: &[bool]) -> Result<Vec<bool>, RunFa
 }
 
 /// Laws of streams of booleans: bytes are a stream of at most one list of so many booleans; where
-/// `decode` has a reason to refuse, the bytes are no stream of `n` booleans, and it has no other reason;
-/// booleans have one text, and it is a stream of them.
+/// `decode` has a reason to refuse, the bytes are no stream of `n` booleans, and by `byte_stream_laws` it
+/// has no other reason; booleans have one text, and it is a stream of them.
 pub fn bit_stream_laws()
     ensures one_list { (bytes : List ℕ) (v w : List Bool) → length v ≡ length w → IsBitStream bytes v → IsBitStream bytes w → v ≡ w }
     ensures none_within { (n : ℕ) (bytes : List ℕ) (v : List Bool) (fault : RunFault) → StopsWithin IsByteRun NoByteRun (packed_len 1 n) bytes fault

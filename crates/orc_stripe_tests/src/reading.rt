@@ -1,8 +1,11 @@
 //! Stripes read: rows of each kind, refusals, changed bytes, and shapes at the limits.
 
+mod borrowed;
 mod encodings;
 mod hostile;
+mod run_faults;
 mod shapes;
+mod skipped;
 
 use orc_rle::RunFault;
 use orc_stripe::{StreamKind, StripeFault, StripeView};

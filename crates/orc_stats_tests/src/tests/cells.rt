@@ -66,20 +66,3 @@ fn of_texts(alloc: Global, cells: &[Lent<'_, '_>]) -> Result<Stat, StatFault>
         found => found,
     }
 }
-
-/// Whether the least and the greatest text are these.
-fn spans(answer: &Result<Stat, StatFault>, low: &[u8], high: &[u8]) -> bool {
-    match answer {
-        Ok(
-            Stat {
-                body: Body::Texts {
-                    least: Some(least),
-                    greatest: Some(greatest),
-                    ..
-                },
-                ..
-            },
-        ) => least.as_slice() == low && greatest.as_slice() == high,
-        _ => false,
-    }
-}

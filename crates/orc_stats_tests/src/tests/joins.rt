@@ -4,6 +4,8 @@ ghost use Rattle.orc_stats.specs.declared.kind.StatKind.TheVariants as kind;
 
 use super::*;
 use orc_stats::{Counted, Ints, Tally};
+use std::borrow::{CowSlice, CowStr};
+use std::process::Abort;
 use std::test::Fail;
 
 /// The three numbers in each order.
@@ -170,4 +172,72 @@ fn a_cell_and_a_statistic_in_one_tally(rt: HostRuntime) {
     tally.join(&Counted::<Ints>::of_stat(&nine));
     let stat = tally.close(rt.alloc());
     assert!(&rt; says(&stat, counted(2, Some(false)).span(7, 9).total(16)));
+}
+
+/// The statistic of two texts.
+fn of_two_texts(alloc: Global, one: &str, other: &str) -> Result<Stat, StatFault>
+    ensures { IfOk result (λ s. body_is_of kind.Texts s.body ≡ true) }
+{
+    let one: Row<'_> = Some(Value::Text(CowStr::Borrowed(one)));
+    let other: Row<'_> = Some(Value::Text(CowStr::Borrowed(other)));
+    of_cells(alloc, StatKind::Texts, &[Lent(&one), Lent(&other)])
+}
+
+fn check_texts(rt: &impl Abort, alloc: Global) -> Result<(), StatFault> {
+    let parts = [
+        of_two_texts(alloc, "b", "ab")?,
+        of_two_texts(alloc, "", "\u{e9}")?,
+    ];
+    match join_all(alloc, StatKind::Texts, &parts) {
+        Err(StatFault::OutOfMemory) => Err(StatFault::OutOfMemory),
+        joined => {
+            assert!(rt; says(&joined, counted(4, Some(false)).total(5)));
+            assert!(rt; spans(&joined, b"", b"\xc3\xa9"));
+            Ok(())
+        }
+    }
+}
+
+#[test]
+fn texts_in_two_parts(rt: HostRuntime) {
+    let tried = check_texts(&rt, rt.alloc());
+    let answer = match tried {
+        Err(StatFault::OutOfMemory) => check_texts(&rt, rt.alloc()),
+        answer => answer,
+    };
+    assert!(&rt; answer.is_ok());
+}
+
+/// The statistic of two dates.
+fn of_two_dates(alloc: Global, one: i32, other: i32) -> Result<Stat, StatFault>
+    ensures { IfOk result (λ s. body_is_of kind.Dates s.body ≡ true) }
+{
+    let one: Row<'_> = Some(Value::Date(one));
+    let other: Row<'_> = Some(Value::Date(other));
+    of_cells(alloc, StatKind::Dates, &[Lent(&one), Lent(&other)])
+}
+
+/// The statistic of bytes, and of null.
+fn of_bytes(alloc: Global, bytes: &[u8]) -> Result<Stat, StatFault>
+    ensures { IfOk result (λ s. body_is_of kind.Bins s.body ≡ true) }
+{
+    let bytes: Row<'_> = Some(Value::Bytes(CowSlice::Borrowed(bytes)));
+    let null: Row<'_> = None;
+    of_cells(alloc, StatKind::Bins, &[Lent(&bytes), Lent(&null)])
+}
+
+#[test]
+fn dates_and_bytes_in_two_parts(rt: HostRuntime) -> Result<(), Fail> {
+    let alloc = rt.alloc();
+    let parts = [
+        of_two_dates(alloc, 19782, 0)?,
+        of_two_dates(alloc, -719162, 7)?,
+    ];
+    let joined = join_all(alloc, StatKind::Dates, &parts);
+    assert!(&rt; says(&joined, counted(4, Some(false)).span(-719162, 19782)));
+
+    let parts = [of_bytes(alloc, b"\xff\x00")?, of_bytes(alloc, b"abc")?];
+    let joined = join_all(alloc, StatKind::Bins, &parts);
+    assert!(&rt; says(&joined, counted(2, Some(true)).total(5)));
+    Ok(())
 }
