@@ -1,5 +1,4 @@
-//! Positions in streams of runs: what they name, where a writer's stand, how reading goes on from one, and how one
-//! is looked up.
+//! Positions in streams of runs: what they name, a writer's, going on from one, and looking one up.
 #![tactic(auto)]
 
 mod laws;

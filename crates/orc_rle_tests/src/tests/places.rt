@@ -1,5 +1,4 @@
-//! The positions that a writer gives to values: which they are, what comes from them, and that they are found among
-//! the places of the runs.
+//! A writer's positions: which they are, what comes from them, and that the places of the runs have them.
 use super::with_memory;
 use Sign::{Signed, Unsigned};
 use orc_rle::*;
