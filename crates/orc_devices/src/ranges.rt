@@ -1,7 +1,8 @@
 //! Ranges of a source.
-ghost use Rattle.std.specs.Prelude.{◌≡◌, ◌+◌, ◌≤◌, IfOk, IfSome};
+ghost use Rattle.std.specs.Prelude.{◌≡◌, ◌+◌, ◌≤◌, IfOk, IfSome, IsErrOf};
 ghost use Rattle.orc_devices.specs.Devices.{bytes_at};
 ghost use Rattle.orc_devices.specs.Ranges.{range_failures};
+ghost use Rattle.orc_devices.specs.declared.range_fault.RangeFault.TheVariants.{OutOfMemory};
 
 use crate::range_fault::RangeFault;
 use crate::source::Source;
@@ -22,6 +23,8 @@ pub fn read_range<S: Source>(
     ensures size { S.size source.new ≡ S.size source.old }
     ensures told { S.told source.new ≡ S.told source.old }
     ensures failures { S.failures source.new ≡ range_failures result (S.failures source.old) }
+    ensures unasked { len ≡ 0 → source.new ≡ source.old }
+    ensures memory { IsErrOf result OutOfMemory → source.new ≡ source.old }
 {
     let mut read = vec![in alloc; 0u8; len as usize]?;
     if len > 0 {
