@@ -23,3 +23,6 @@ pub mod TailLimits
 pub mod WrittenBits
 pub mod WrittenLaws
 pub mod OneWritten
+pub mod TextLengths
+pub mod ColumnTexts
+pub mod ShortFile

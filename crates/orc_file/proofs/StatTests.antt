@@ -106,7 +106,7 @@ column_kinds s c (xs ∷ xss) h =
     list_all-append (λ (x : Stat). body_is_of (kind_at s c) x.body) (take 1 (drop c xs)) (column_stats c xss)
     ∙ both (list_all (λ (x : Stat). body_is_of (kind_at s c) x.body) (take 1 (drop c xs))) _ one (column_kinds s c xss p.1)
 
-all_of : (p : Stat → Bool) (xs : List Stat) → list_all p xs ≡ true → All (λ x. p x ≡ true) xs
+pub all_of : (p : Stat → Bool) (xs : List Stat) → list_all p xs ≡ true → All (λ x. p x ≡ true) xs
 all_of p [] h k d l = absurd (omega (arith, l))
 all_of p (x ∷ xs) h zero d l = (and_parts (p x) (list_all p xs) h).0
 all_of p (x ∷ xs) h (suc k) d l = all_of p xs (and_parts (p x) (list_all p xs) h).1 k d (omega (arith, l))

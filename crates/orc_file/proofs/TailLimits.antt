@@ -23,7 +23,7 @@ use Rattle.orc_file.specs.Stripes.{most_stripes}
 use Rattle.orc_file.specs.Statistics.{kind_at, AreOfColumns, AreStats}
 use Rattle.orc_file.specs.Images.{IsWithinLimits}
 use Rattle.orc_file.specs.Tails.{most_versions}
-use Rattle.orc_file.specs.Counts.{is_unknown, is_column_stat, are_column_stats, are_stripe_stats, are_all_stats, are_laid}
+use Rattle.orc_file.specs.Counts.{is_unknown, is_column_stat, are_column_stats, are_stripe_stats, are_all_stats, are_laid_with_few_rows}
 use Rattle.orc_file.specs.Writing.{version_of, of_columns, column_stats, file_stats, written_tail, AreWithin}
 use Rattle.orc_file.proofs.WriterLemmas.{laid_rows}
 
@@ -132,7 +132,7 @@ short_version : (rle : Rle) → length (version_of rle) ≤ most_versions
 short_version One = omega arith
 short_version Two = omega arith
 
-pub tail_within : (rle : Rle) (s : Shape) (infos : List StripeInfo) (stats : List (List Stat)) → IsSchema s → AreWithin infos → are_laid 3 infos ≡ true
+pub tail_within : (rle : Rle) (s : Shape) (infos : List StripeInfo) (stats : List (List Stat)) → IsSchema s → AreWithin infos → are_laid_with_few_rows 3 infos ≡ true
     → length stats ≡ length infos → are_all_stats s stats ≡ true → IsWithinLimits (written_tail rle s infos stats)
 tail_within rle s infos stats schema within laid same are =
     let stripes = within.stripes in

@@ -4,7 +4,7 @@ use Rattle.std.specs.Prelude.{◌&&◌, ◌==◌}
 use Rattle.std.specs.List.{AllByRecursion, flat_map}
 use Rattle.std.proofs.Math.Seq.{take-append_seam}
 use Rattle.std.proofs.lemmas.Bool.{lt-ltb, ltb-true, and_parts, eqb-true, eq-eqb}
-use Rattle.std.proofs.lemmas.List.{map-append, take_all, take-append-drop}
+use Rattle.std.proofs.lemmas.List.{map-append, take_all, take-append-drop, length-take-le}
 use Rattle.orc_rle.specs.declared.sign.Rle.{Rle}
 use Rattle.orc_wire.specs.declared.stripe_info.StripeInfo.{StripeInfo}
 use Rattle.orc_types.specs.Shapes.{Shape, scalar, list_of, struct_of, width}
@@ -22,8 +22,8 @@ use Rattle.orc_file.specs.Layout.{magic}
 use Rattle.orc_file.specs.Stripes.{stripe_length, stripe_end, stripes_length, stripes_rows, IsLaid, most_stripes, most_stripe_rows, most_rows, most_bytes}
 use Rattle.orc_file.specs.Images.{tail_text}
 use Rattle.orc_file.specs.declared.tail.Tail.{Tail}
-use Rattle.orc_file.specs.Counts.{are_laid}
-use Rattle.orc_file.specs.Writing.{Closed, IsClosed, AreClosed, bytes_of, rows_of, infos_of, stats_of, AreFull, AreFilled, written_tail, AreWithin, IsWrittenFile, IsSomeFile, IsWhole, IsCutOff, HasKept, HasPushed, HasFilled}
+use Rattle.orc_file.specs.Counts.{are_laid_with_few_rows}
+use Rattle.orc_file.specs.Writing.{Closed, IsClosed, AreClosed, bytes_of, rows_of, infos_of, stats_of, AreFull, AreFilled, written_tail, AreWithin, IsWrittenFile, IsSomeFile, IsWhole, IsCutOff, HasTaken, HasKept, HasPushed, HasFilled}
 
 -- ---- a stripe's numbers
 
@@ -68,11 +68,11 @@ rows_more (i ∷ is) info = let e = rows_more is info in omega (arith, e)
 pub both : (a b : Bool) → a ≡ true → b ≡ true → (a && b) ≡ true
 both a b p q = rw (p, q) refl
 
-pub laid_more : (at : ℕ) (infos : List StripeInfo) (info : StripeInfo) → are_laid at infos ≡ true → info.offset ≡ at + stripes_length infos → info.number_of_rows < 2 ^ 31 → are_laid at (infos ++ info ∷ []) ≡ true
+pub laid_more : (at : ℕ) (infos : List StripeInfo) (info : StripeInfo) → are_laid_with_few_rows at infos ≡ true → info.offset ≡ at + stripes_length infos → info.number_of_rows < 2 ^ 31 → are_laid_with_few_rows at (infos ++ info ∷ []) ≡ true
 laid_more at [] info h o r = let e : info.offset ≡ at = omega (arith, o) in both (info.offset == at) _ (eq-eqb info.offset at e) (both (ltb info.number_of_rows (2 ^ 31)) true (lt-ltb info.number_of_rows (2 ^ 31) r) refl)
 laid_more at (i ∷ is) info h o r =
-    let p = and_parts (i.offset == at) (ltb i.number_of_rows (2 ^ 31) && are_laid (stripe_end i) is) h in
-    let q = and_parts (ltb i.number_of_rows (2 ^ 31)) (are_laid (stripe_end i) is) p.1 in
+    let p = and_parts (i.offset == at) (ltb i.number_of_rows (2 ^ 31) && are_laid_with_few_rows (stripe_end i) is) h in
+    let q = and_parts (ltb i.number_of_rows (2 ^ 31)) (are_laid_with_few_rows (stripe_end i) is) p.1 in
     let e : i.offset ≡ at = eqb-true i.offset at p.0 in
     both (i.offset == at) _ p.0 (both (ltb i.number_of_rows (2 ^ 31)) _ q.0 (laid_more (stripe_end i) is info q.1 (omega (arith, o, e)) r))
 
@@ -93,18 +93,18 @@ stripe_within s infos info bytes kept total k h room t l few b =
 
 -- ---- places of stripes
 
-pub laid_places : (at : ℕ) (infos : List StripeInfo) → are_laid at infos ≡ true → IsLaid at infos
+pub laid_places : (at : ℕ) (infos : List StripeInfo) → are_laid_with_few_rows at infos ≡ true → IsLaid at infos
 laid_places at [] h = tt
 laid_places at (i ∷ is) h =
-    let p = and_parts (i.offset == at) (ltb i.number_of_rows (2 ^ 31) && are_laid (stripe_end i) is) h in
-    let q = and_parts (ltb i.number_of_rows (2 ^ 31)) (are_laid (stripe_end i) is) p.1 in
+    let p = and_parts (i.offset == at) (ltb i.number_of_rows (2 ^ 31) && are_laid_with_few_rows (stripe_end i) is) h in
+    let q = and_parts (ltb i.number_of_rows (2 ^ 31)) (are_laid_with_few_rows (stripe_end i) is) p.1 in
     (eqb-true i.offset at p.0, laid_places (stripe_end i) is q.1)
 
-pub laid_rows : (at : ℕ) (infos : List StripeInfo) → are_laid at infos ≡ true → AllByRecursion (λ (i : StripeInfo). i.number_of_rows ≤ most_stripe_rows) infos
+pub laid_rows : (at : ℕ) (infos : List StripeInfo) → are_laid_with_few_rows at infos ≡ true → AllByRecursion (λ (i : StripeInfo). i.number_of_rows ≤ most_stripe_rows) infos
 laid_rows at [] h = tt
 laid_rows at (i ∷ is) h =
-    let p = and_parts (i.offset == at) (ltb i.number_of_rows (2 ^ 31) && are_laid (stripe_end i) is) h in
-    let q = and_parts (ltb i.number_of_rows (2 ^ 31)) (are_laid (stripe_end i) is) p.1 in
+    let p = and_parts (i.offset == at) (ltb i.number_of_rows (2 ^ 31) && are_laid_with_few_rows (stripe_end i) is) h in
+    let q = and_parts (ltb i.number_of_rows (2 ^ 31)) (are_laid_with_few_rows (stripe_end i) is) p.1 in
     let l = ltb-true i.number_of_rows (2 ^ 31) q.0 in
     (omega (arith, l), laid_rows (stripe_end i) is q.1)
 
@@ -161,8 +161,8 @@ closes rle n s cs are filled within = (
 
 -- nothing of the kept rows was written
 pub cut_kept : (rle : Rle) (n : ℕ) (s : Shape) (first told : Option (List ℕ)) (written : ℕ) (infos : List StripeInfo) (stats : List (List Stat)) (kept rows : List Cell)
-    → 0 < n → AreWithin infos → HasKept rle n s first told written infos stats kept rows → IsCutOff rle n s first told rows
-cut_kept rle n s first told written infos stats kept rows l w h =
+    → 0 < n → AreWithin infos → IsSchema s → HasKept rle n s first told written infos stats kept rows → IsCutOff rle n s first told rows
+cut_kept rle n s first told written infos stats kept rows l w schema h =
     let text = tail_text (written_tail rle s (infos_of h.closed) (stats_of h.closed)) in
     let f = closes rle n s h.closed h.are (filled_full n h.closed l h.full) (subst AreWithin h.infos_are w) in
     record {
@@ -170,12 +170,13 @@ cut_kept rle n s first told written infos stats kept rows l w h =
       rest = text;
       count = length (rows_of h.closed);
       told_is = h.told_is;
+      schema = schema;
       file = subst (λ rs. IsSomeFile rle n s ((magic ++ bytes_of h.closed) ++ text) rs) (sym (ap (take (length (rows_of h.closed))) h.rows_are ∙ take-append_seam (rows_of h.closed) kept)) f;
     }
 
 -- nothing but some of the magic was written
-pub cut_begun : (rle : Rle) (n : ℕ) (s : Shape) (first new : Option (List ℕ)) (k : ℕ) → new ≡ appended first (take k magic) → IsCutOff rle n s first new []
-cut_begun rle n s first new k e =
+pub cut_begun : (rle : Rle) (n : ℕ) (s : Shape) (first new : Option (List ℕ)) (k : ℕ) → IsSchema s → new ≡ appended first (take k magic) → IsCutOff rle n s first new []
+cut_begun rle n s first new k schema e =
     let text = tail_text (written_tail rle s [] []) in
     let whole : (magic ++ []) ++ text ≡ take k magic ++ (drop k magic ++ text)
     = ap (λ x. x ++ text) (append-nil magic ∙ sym (take-append-drop k magic)) ∙ append_assoc (take k magic) (drop k magic) text in
@@ -184,6 +185,7 @@ cut_begun rle n s first new k e =
       rest = drop k magic ++ text;
       count = 0;
       told_is = e;
+      schema = schema;
       file = subst (λ bs. IsSomeFile rle n s bs []) whole (closes rle n s [] tt tt (record { stripes = omega arith; rows = omega arith; bytes = omega arith }));
     }
 
@@ -192,8 +194,8 @@ nothing_more None = refl
 nothing_more (Some x) = ap Some (sym (append-nil x))
 
 -- nothing at all was written
-pub cut_unbegun : (rle : Rle) (n : ℕ) (s : Shape) (first : Option (List ℕ)) → IsCutOff rle n s first first []
-cut_unbegun rle n s first = cut_begun rle n s first first 0 (nothing_more first)
+pub cut_unbegun : (rle : Rle) (n : ℕ) (s : Shape) (first : Option (List ℕ)) → IsSchema s → IsCutOff rle n s first first []
+cut_unbegun rle n s first schema = cut_begun rle n s first first 0 schema (nothing_more first)
 
 -- a row more is kept
 pub kept_row : (rle : Rle) (n : ℕ) (s : Shape) (first told : Option (List ℕ)) (written : ℕ) (infos : List StripeInfo) (stats : List (List Stat)) (kept rows : List Cell) (row : Cell)
@@ -211,9 +213,9 @@ kept_row rle n s first told written infos stats kept rows row h = record {
 
 -- and it was refused for memory
 pub cut_row : (rle : Rle) (n : ℕ) (s : Shape) (first told : Option (List ℕ)) (written : ℕ) (infos : List StripeInfo) (stats : List (List Stat)) (kept rows : List Cell) (row : Cell)
-    → 0 < n → AreWithin infos → HasKept rle n s first told written infos stats kept rows → IsCutOff rle n s first told (rows ++ row ∷ [])
-cut_row rle n s first told written infos stats kept rows row l w h =
-    cut_kept rle n s first told written infos stats (kept ++ row ∷ []) (rows ++ row ∷ []) l w (kept_row rle n s first told written infos stats kept rows row h)
+    → 0 < n → AreWithin infos → IsSchema s → HasKept rle n s first told written infos stats kept rows → IsCutOff rle n s first told (rows ++ row ∷ [])
+cut_row rle n s first told written infos stats kept rows row l w schema h =
+    cut_kept rle n s first told written infos stats (kept ++ row ∷ []) (rows ++ row ∷ []) l w schema (kept_row rle n s first told written infos stats kept rows row h)
 
 module _ (rle : Rle) (n : ℕ) (s : Shape) (first told : Option (List ℕ)) (written : ℕ) (infos : List StripeInfo) (stats : List (List Stat)) (kept rows : List Cell)
     (h : HasKept rle n s first told written infos stats kept rows) (c : Closed) (kept_is : c.rows ≡ kept) (is : IsClosed rle s written c) where
@@ -266,8 +268,8 @@ module _ (rle : Rle) (n : ℕ) (s : Shape) (first told : Option (List ℕ)) (wri
   }
 
   -- or some of its bytes were written
-  pub cut_sent : (new : Option (List ℕ)) (k : ℕ) → 0 < length kept → length kept ≤ n → AreWithin (infos ++ c.info ∷ []) → new ≡ appended told (take k c.bytes) → IsCutOff rle n s first new rows
-  cut_sent new k a b w t =
+  pub cut_sent : (new : Option (List ℕ)) (k : ℕ) → 0 < length kept → length kept ≤ n → AreWithin (infos ++ c.info ∷ []) → IsSchema s → new ≡ appended told (take k c.bytes) → IsCutOff rle n s first new rows
+  cut_sent new k a b w schema t =
       let cs = h.closed ++ c ∷ [] in
       let text = tail_text (written_tail rle s (infos_of cs) (stats_of cs)) in
       let before = magic ++ bytes_of h.closed in
@@ -280,6 +282,7 @@ module _ (rle : Rle) (n : ℕ) (s : Shape) (first told : Option (List ℕ)) (wri
         rest = drop k c.bytes ++ text;
         count = length rows;
         told_is = t ∙ ap (λ x. appended x (take k c.bytes)) h.told_is ∙ appended_twice first before (take k c.bytes);
+        schema = schema;
         file = subst (λ bs. IsSomeFile rle n s bs (take (length rows) rows)) all
             (subst (λ rs. IsSomeFile rle n s ((magic ++ bytes_of cs) ++ text) rs) (more_rows ∙ sym (take_all (length rows) rows (omega arith))) (closes rle n s cs more_are (more_filled a b) (subst AreWithin more_infos w)));
       }
@@ -345,8 +348,8 @@ module _ (rle : Rle) (n : ℕ) (s : Shape) (first told : Option (List ℕ)) (inf
   }
 
   -- some of it was
-  pub cut_end : (new : Option (List ℕ)) (k : ℕ) → new ≡ appended told (take k (tail_text (written_tail rle s infos stats))) → IsCutOff rle n s first new rows
-  cut_end new k e =
+  pub cut_end : (new : Option (List ℕ)) (k : ℕ) → IsSchema s → new ≡ appended told (take k (tail_text (written_tail rle s infos stats))) → IsCutOff rle n s first new rows
+  cut_end new k schema e =
       let text = tail_text end_tail in
       let before = magic ++ bytes_of h.closed in
       let all : before ++ text ≡ (before ++ take k text) ++ drop k text = ap (λ x. before ++ x) (sym (take-append-drop k text)) ∙ sym (append_assoc before (take k text) (drop k text)) in
@@ -355,15 +358,16 @@ module _ (rle : Rle) (n : ℕ) (s : Shape) (first told : Option (List ℕ)) (inf
         rest = drop k text;
         count = length rows;
         told_is = e ∙ ap (λ o. appended o (take k text)) h.told_is ∙ appended_twice first before (take k text);
+        schema = schema;
         file = (end_tail, subst (λ bs. IsWrittenFile rle n s end_tail bs (take (length rows) rows)) all (subst (λ rs. IsWrittenFile rle n s end_tail (before ++ text) rs) (sym (take_all (length rows) rows (omega arith))) end_file));
       }
 
 -- all of a stripe was written, and yet the call gave up
 pub cut_all : (rle : Rle) (n : ℕ) (s : Shape) (first told : Option (List ℕ)) (written : ℕ) (infos : List StripeInfo) (stats : List (List Stat)) (kept rows : List Cell)
     → (h : HasKept rle n s first told written infos stats kept rows) → (c : Closed) → c.rows ≡ kept → IsClosed rle s written c
-    → (new : Option (List ℕ)) → 0 < length kept → length kept ≤ n → AreWithin (infos ++ c.info ∷ []) → new ≡ appended told c.bytes → IsCutOff rle n s first new rows
-cut_all rle n s first told written infos stats kept rows h c e is new a b w t =
-    cut_sent rle n s first told written infos stats kept rows h c e is new (length c.bytes) a b w (t ∙ ap (appended told) (sym (take_all (length c.bytes) c.bytes (omega arith))))
+    → (new : Option (List ℕ)) → 0 < length kept → length kept ≤ n → AreWithin (infos ++ c.info ∷ []) → IsSchema s → new ≡ appended told c.bytes → IsCutOff rle n s first new rows
+cut_all rle n s first told written infos stats kept rows h c e is new a b w schema t =
+    cut_sent rle n s first told written infos stats kept rows h c e is new (length c.bytes) a b w schema (t ∙ ap (appended told) (sym (take_all (length c.bytes) c.bytes (omega arith))))
 
 -- rows whose columns have few cells are few
 pub root_few : (s : Shape) (rows : List Cell) → AreFew s rows → length rows < 2 ^ 31
@@ -377,3 +381,21 @@ none_kept (r ∷ rs) e = absurd (omega (arith, e))
 pub none_taken : (told : Option (List ℕ)) (bytes : List ℕ) → told ≡ appended told (take 0 bytes)
 none_taken None bytes = refl
 none_taken (Some x) bytes = ap Some (sym (append-nil x))
+
+-- more bytes are taken
+pub taken_more : (first told new : Option (List ℕ)) (written k : ℕ) (bytes : List ℕ) → k ≤ length bytes → new ≡ appended told (take k bytes) → HasTaken first told written → HasTaken first new (written + k)
+taken_more first told new written k bytes few e h =
+    let w = h.written_is in let t = length-take-le k bytes few in let both = length-append h.mine (take k bytes) in
+    record {
+      mine = h.mine ++ take k bytes;
+      told_is = e ∙ ap (λ x. appended x (take k bytes)) h.told_is ∙ appended_twice first h.mine (take k bytes);
+      written_is = omega (arith, w, t, both);
+    }
+
+pub taken_all : (first told new : Option (List ℕ)) (written k : ℕ) (bytes : List ℕ) → k ≡ length bytes → new ≡ appended told bytes → HasTaken first told written → HasTaken first new (written + k)
+taken_all first told new written k bytes all e h =
+    taken_more first told new written k bytes (omega (arith, all)) (e ∙ ap (appended told) (sym (take_all k bytes (omega (arith, all))))) h
+
+-- `ORC` alone
+pub taken_magic : (first : Option (List ℕ)) → HasTaken first (appended first magic) 3
+taken_magic first = record { mine = magic; told_is = refl; written_is = refl }

@@ -142,7 +142,7 @@ lower_onto : {A : Type 0} (P : A → Type 0) (cmp : A → A → Ordering) (x : A
 lower_onto P cmp x None p q = p
 lower_onto P cmp x (Some y) p q = lower_is P (is_gt (cmp x y)) x y p q
 
-least_is : {A : Type 0} (P : A → Type 0) (cmp : A → A → Ordering) (xs : List A) → AllByRecursion P xs → IfSome (least cmp xs) P
+pub least_is : {A : Type 0} (P : A → Type 0) (cmp : A → A → Ordering) (xs : List A) → AllByRecursion P xs → IfSome (least cmp xs) P
 least_is P cmp [] h = tt
 least_is P cmp (x ∷ xs) h = lower_onto P cmp x (reduce (lower cmp) xs) h.0 (least_is P cmp xs h.1)
 

@@ -28,7 +28,7 @@ use Rattle.orc_file.specs.Tails.{IsTail}
 use Rattle.orc_file.specs.Images.{image, tail_text, IsWithinLimits, HasBits}
 use Rattle.orc_file.specs.FileRows.{stripe_bytes, joined, AreOfStripes, HasRows, FileIs, cut_rows}
 use Rattle.orc_file.specs.Honest.{AreHonest, Honest, whole_of, AreWhole, HasWholeStats}
-use Rattle.orc_file.specs.Counts.{are_laid, are_stripe_stats, are_all_stats}
+use Rattle.orc_file.specs.Counts.{are_laid_with_few_rows, are_stripe_stats, are_all_stats}
 use Rattle.orc_file.specs.Writing.{Closed, IsClosed, AreClosed, bytes_of, rows_of, infos_of, stats_of, of_columns, column_stats, file_stats, written_tail, IsWrittenFile}
 use Rattle.orc_file.specs.declared.tail.Tail.{Tail}
 use Rattle.orc_file.proofs.WriterLemmas as writer
@@ -64,12 +64,12 @@ module _ (rle : Rle) (s : Shape) (at : ℕ) (c : Closed) (h : IsClosed rle s at 
 
 -- ---- stripes
 
-all_laid : (rle : Rle) (s : Shape) (at : ℕ) (cs : List Closed) → AreClosed rle s at cs → are_laid at (infos_of cs) ≡ true
+all_laid : (rle : Rle) (s : Shape) (at : ℕ) (cs : List Closed) → AreClosed rle s at cs → are_laid_with_few_rows at (infos_of cs) ≡ true
 all_laid rle s at [] h = refl
 all_laid rle s at (c ∷ cs) h =
     both (c.info.offset == at) _ (let i = h.0 in eq-eqb c.info.offset at i.placed)
     (both (ltb c.info.number_of_rows (2 ^ 31)) _ (lt-ltb c.info.number_of_rows (2 ^ 31) (few_rows rle s at c h.0))
-    (ap (λ p. are_laid p (infos_of cs)) (place_next rle s at c h.0) ∙ all_laid rle s (at + length c.bytes) cs h.1))
+    (ap (λ p. are_laid_with_few_rows p (infos_of cs)) (place_next rle s at c h.0) ∙ all_laid rle s (at + length c.bytes) cs h.1))
 
 all_stats : (rle : Rle) (s : Shape) (at : ℕ) (cs : List Closed) → AreClosed rle s at cs → are_all_stats s (stats_of cs) ≡ true
 all_stats rle s at [] h = refl
@@ -101,7 +101,7 @@ info_bits rle s at (c ∷ cs) h few =
 
 -- ---- the stripes' bytes in the file, and their rows
 
-abbrev parts_of : List Closed → List (List Cell)
+abbrev pub parts_of : List Closed → List (List Cell)
 parts_of cs = map (λ (c : Closed). c.rows) cs
 
 of_stripes : (rle : Rle) (s : Shape) (file front rest : List ℕ) (at : ℕ) (cs : List Closed) → AreClosed rle s at cs → at ≡ length front → file ≡ front ++ (bytes_of cs ++ rest)
@@ -153,7 +153,7 @@ module _ (rle : Rle) (s : Shape) (k : ℕ) (lt : k < width s) where
       omega (arith, few, rest, l)
 
   -- joined, they are that of the whole file
-  file_stat : (at : ℕ) (cs : List Closed) → AreClosed rle s at cs → length cs ≤ most_stripes → joining.joined (kind_at s k) (column_stats k (stats_of cs)) ≡ whole_of s (parts_of cs) k
+  pub file_stat : (at : ℕ) (cs : List Closed) → AreClosed rle s at cs → length cs ≤ most_stripes → joining.joined (kind_at s k) (column_stats k (stats_of cs)) ≡ whole_of s (parts_of cs) k
   file_stat at cs h most =
       let few = cells_few at cs h in
       ap (joining.joined (kind_at s k)) (column_is at cs h) ∙ joined-parts (kind_at s k) (map (cells s k) (parts_of cs)) (of_kind at cs h) (omega (arith, few, most))
@@ -174,11 +174,11 @@ at_column f c zero i l = absurd (omega (arith, l))
 at_column f c (suc n) zero l = let e : c ≡ c + 0 = omega arith in ap (λ k. Some (f k)) e
 at_column f c (suc n) (suc i) l = let e : suc c + i ≡ c + suc i = omega arith in at_column f (suc c) n i (omega (arith, l)) ∙ ap (λ k. Some (f k)) e
 
-each_column : (P : Stat → Type 0) (f : ℕ → Stat) (c n : ℕ) → ((k : ℕ) → k < c + n → P (f k)) → AllByRecursion P (of_columns f c n)
+pub each_column : (P : Stat → Type 0) (f : ℕ → Stat) (c n : ℕ) → ((k : ℕ) → k < c + n → P (f k)) → AllByRecursion P (of_columns f c n)
 each_column P f c zero p = tt
 each_column P f c (suc n) p = (p c (omega arith), each_column P f (suc c) n (λ k l. p k (omega (arith, l))))
 
-each_got : (P : Stat → Type 0) (f : ℕ → Stat) (xs : List Stat) → ((i : ℕ) → i < length xs → slice_get xs i ≡ Some (f i)) → ((i : ℕ) → i < length xs → P (f i)) → AllByRecursion P xs
+pub each_got : (P : Stat → Type 0) (f : ℕ → Stat) (xs : List Stat) → ((i : ℕ) → i < length xs → slice_get xs i ≡ Some (f i)) → ((i : ℕ) → i < length xs → P (f i)) → AllByRecursion P xs
 each_got P f [] get p = tt
 each_got P f (x ∷ xs) get p =
     let e : x ≡ f 0 = ap (some_or x) (get 0 (omega arith)) in
@@ -196,8 +196,8 @@ stripe_bits rle s at (c ∷ cs) h =
 -- ---- the file
 
 module _ (rle : Rle) (n : ℕ) (s : Shape) (tail : Tail) (bytes : List ℕ) (rows : List Cell) (h : IsWrittenFile rle n s tail bytes rows) where
-  most : length h.closed ≤ most_stripes
-  most = let w = h.within in let m = w.stripes in let e = info_count h.closed in omega (arith, m, e)
+  pub most_closed : length h.closed ≤ most_stripes
+  most_closed = let w = h.within in let m = w.stripes in let e = info_count h.closed in omega (arith, m, e)
 
   limits : IsSchema s → IsWithinLimits (written_tail rle s (infos_of h.closed) (stats_of h.closed))
   limits schema = tail_within rle s (infos_of h.closed) (stats_of h.closed) schema h.within (all_laid rle s 3 h.closed h.are) (same_count h.closed) (all_stats rle s 3 h.closed h.are)
@@ -213,7 +213,7 @@ module _ (rle : Rle) (n : ℕ) (s : Shape) (tail : Tail) (bytes : List ℕ) (row
         types = types_bits s 0 (omega (arith, columns));
         user = tt;
         file_stats = each_column (λ x. column_stats_text.bounded (message_of x)) (λ k. joining.joined (kind_at s k) (column_stats k (stats_of h.closed))) 0 (width s)
-            (λ k l. file_bits rle s k (omega (arith, l)) 3 h.closed h.are most);
+            (λ k l. file_bits rle s k (omega (arith, l)) 3 h.closed h.are most_closed);
         stripe_stats = stripe_bits rle s 3 h.closed h.are;
         stride = omega arith;
       }
@@ -251,7 +251,7 @@ module _ (rle : Rle) (n : ℕ) (s : Shape) (tail : Tail) (bytes : List ℕ) (row
       let f = λ (k : ℕ). joining.joined (kind_at s k) (column_stats k (stats_of h.closed)) in
       record {
         counted = length-of_columns f 0 (width s);
-        each = λ k l. at_column f 0 (width s) k l ∙ ap Some (let z : 0 + k ≡ k = omega arith in ap f z ∙ file_stat rle s k l 3 h.closed h.are most);
+        each = λ k l. at_column f 0 (width s) k l ∙ ap Some (let z : 0 + k ≡ k = omega arith in ap f z ∙ file_stat rle s k l 3 h.closed h.are most_closed);
       }
 
   pub written_whole : HasWholeStats tail rows

@@ -33,9 +33,9 @@ PassesLimit s infos total counts row = (most_stripes ≤ length infos) ⊎ ((mos
 -- ---- tests that a value may keep
 
 -- the stripes lie one after the other from a place on, each with fewer rows than the limit
-abbrev pub are_laid : ℕ → List StripeInfo → Bool
-are_laid place [] = true
-are_laid place (i ∷ is) = (i.offset == place) && (nat_lt i.number_of_rows (2 ^ 31) && are_laid (stripe_end i) is)
+abbrev pub are_laid_with_few_rows : ℕ → List StripeInfo → Bool
+are_laid_with_few_rows place [] = true
+are_laid_with_few_rows place (i ∷ is) = (i.offset == place) && (nat_lt i.number_of_rows (2 ^ 31) && are_laid_with_few_rows (stripe_end i) is)
 
 -- nothing is known of the values
 abbrev pub is_unknown : Body → Bool

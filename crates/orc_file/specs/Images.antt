@@ -3,11 +3,14 @@
 use Rattle.std.specs.Prelude.{◌≡◌, ℕ, ◌+◌, ◌^◌, ◌<◌, ◌≤◌, List, [], ◌∷◌, ◌++◌, length, map}
 use Rattle.std.specs.List.{AllByRecursion}
 use Rattle.std.specs.Option.{IfSome}
+use Rattle.orc_wire.specs.Fields.{sized}
+use Rattle.orc_wire.specs.CanonicalText.{list_text}
 use Rattle.orc_wire.specs.CanonicalMessages.{post_script_text, footer_text, metadata_text, column_stats_text, stripe_info_text, type_text, user_metadata_text}
 use Rattle.orc_wire.specs.CanonicalKinds.{AreKept, AreBelow}
 use Rattle.orc_wire.specs.declared.post_script.PostScript.{PostScript}
 use Rattle.orc_wire.specs.declared.footer.Footer.{Footer}
 use Rattle.orc_wire.specs.declared.column_stats.Metadata.{Metadata}
+use Rattle.orc_types.specs.Shapes.{Shape}
 use Rattle.orc_types.specs.Types.{types}
 use Rattle.orc_types.specs.Schemas.{IsSchema}
 use Rattle.orc_stats.specs.Messages.{message_of}
@@ -33,6 +36,10 @@ footer_of tail = record {
   writer = tail.writer;
   kept = tail.other;
 }
+
+-- the text of a schema's types in the footer
+abbrev pub types_text : Shape → List ℕ
+types_text s = list_text (λ t. sized (type_text.text t)) 4 (types s 0)
 
 abbrev pub script_of : Tail → PostScript
 script_of tail = record {

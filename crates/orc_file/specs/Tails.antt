@@ -1,6 +1,6 @@
 -- The tail of a file, and the tests that its bytes have to pass, in their order (ORC specification, "File
 -- Tail"; the order of the tests and the limits are this project's).
-use Rattle.std.specs.Prelude.{◌≡◌, ℕ, ◌+◌, ◌≤◌, List, [], length, ◌⊎◌, Option, true}
+use Rattle.std.specs.Prelude.{◌≡◌, ◌≢◌, ℕ, ◌+◌, ◌<◌, ◌≤◌, List, [], length, ◌⊎◌, Option, true}
 use Rattle.std.specs.List.{list_all}
 use Rattle.std.specs.Option.{IfSome}
 use Rattle.orc_wire.specs.Messages.{post_script, footer, metadata}
@@ -9,6 +9,7 @@ use Rattle.orc_wire.specs.declared.post_script.PostScript.{PostScript}
 use Rattle.orc_wire.specs.declared.footer.Footer.{Footer}
 use Rattle.orc_wire.specs.declared.column_stats.Metadata.{Metadata}
 use Rattle.orc_types.specs.Shapes.{Shape, width}
+use Rattle.orc_types.specs.declared.fault.TypeFault.TheVariants as types
 use Rattle.orc_stats.specs.declared.stat.Stat.{Stat}
 use Rattle.orc_stats.specs.Messages.{in_limits}
 use Rattle.orc_devices.specs.Devices.{bytes_at}
@@ -18,7 +19,8 @@ use Rattle.orc_file.specs.Stripes.{stripe_tests, stripes_rows, stripes_length, m
 use Rattle.orc_file.specs.Statistics.{have_few, stats_read, stripe_stats_read}
 use Rattle.orc_file.specs.declared.tail.Tail.{Tail}
 use Rattle.orc_file.specs.declared.fault.FileFault.{FileFault}
-use Rattle.orc_file.specs.declared.fault.FileFault.TheVariants.{NotOrc, BadPostscript, Compressed, Encrypted, BadLengths, BadFooter, BadMetadata, RowCount, Limit, SourceFailed, OutOfMemory}
+use Rattle.orc_file.specs.declared.fault.FileFault.TheVariants.{NotOrc, BadPostscript, Compressed, Encrypted, BadLengths, BadFooter, BadMetadata, BadTypes, BadStripe, RowCount, Limit, Stripe}
+use Rattle.orc_file.specs.declared.fault.FileFault.TheVariants.{RowShape, SourceFailed, WriteFailed, OutOfMemory, Failed}
 
 -- the most numbers of a version
 abbrev pub most_versions : ℕ
@@ -110,3 +112,23 @@ OpenFault bytes = (tail_tests bytes).fails
 -- why a read is refused: memory ran out, the source failed, or the bytes, where they are told, have this fault
 abbrev pub ReadFault : Option (List ℕ) → FileFault → (List ℕ → Type 0) → Type 0
 ReadFault told fault fails = (fault ≡ OutOfMemory) ⊎ ((fault ≡ SourceFailed) ⊎ IfSome told fails)
+
+-- A fault that reading a tail ends with where the source hasn't failed: a test's, or want of memory.
+abbrev pub IsOfTail : FileFault → Type 0
+IsOfTail NotOrc = Unit {0}
+IsOfTail BadPostscript = Unit {0}
+IsOfTail (Compressed kind) = kind ≢ 0
+IsOfTail Encrypted = Unit {0}
+IsOfTail BadLengths = Unit {0}
+IsOfTail BadFooter = Unit {0}
+IsOfTail BadMetadata = Unit {0}
+IsOfTail (BadTypes why) = why ≢ types.OutOfMemory
+IsOfTail (BadStripe number) = number < most_stripes
+IsOfTail RowCount = Unit {0}
+IsOfTail Limit = Unit {0}
+IsOfTail (Stripe number why) = ⊥
+IsOfTail RowShape = ⊥
+IsOfTail SourceFailed = ⊥
+IsOfTail WriteFailed = ⊥
+IsOfTail OutOfMemory = Unit {0}
+IsOfTail Failed = ⊥

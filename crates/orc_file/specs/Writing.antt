@@ -17,6 +17,7 @@ use Rattle.orc_file.specs.Layout.{magic}
 use Rattle.orc_file.specs.Stripes.{stripes_length, stripes_rows, most_stripes, most_rows, most_bytes}
 use Rattle.orc_file.specs.Statistics.{kind_at}
 use Rattle.orc_file.specs.Images.{tail_text}
+use Rattle.orc_file.specs.FileRows.{FileIs}
 use Rattle.orc_file.specs.declared.tail.Tail.{Tail}
 
 -- ---- stripes
@@ -143,7 +144,24 @@ pub record IsCutOff (rle : Rle) (n : ℕ) (s : Shape) (first told : Option (List
   pub rest : List ℕ
   pub count : ℕ
   pub told_is : told ≡ appended first mine
+  pub schema : IsSchema s
   pub file : IsSomeFile rle n s (mine ++ rest) (take count rows)
+
+-- Behind what the output had told first stands the front of a file of some of the first rows.
+pub record IsFrontOfFile (s : Shape) (first told : Option (List ℕ)) (rows : List Cell) : Type 0 where
+  pub mine : List ℕ
+  pub rest : List ℕ
+  pub count : ℕ
+  pub tail : Tail
+  pub told_is : told ≡ appended first mine
+  pub file : FileIs (mine ++ rest) tail (take count rows)
+  pub schema_is : tail.schema ≡ s
+
+-- Behind what the output had told first it has got as many bytes as are counted.
+pub record HasTaken (first told : Option (List ℕ)) (written : ℕ) : Type 0 where
+  pub mine : List ℕ
+  pub told_is : told ≡ appended first mine
+  pub written_is : written ≡ length mine
 
 -- ---- what a writer has done so far
 

@@ -4,7 +4,7 @@ ghost use Rattle.orc_types.specs.Schemas.{IsSchema};
 ghost use Rattle.orc_devices.specs.Devices.{appended};
 ghost use Rattle.orc_file.specs.Stripes.{stripes_rows};
 ghost use Rattle.orc_file.specs.Images.{tail_text};
-ghost use Rattle.orc_file.specs.Counts.{are_laid, are_all_stats};
+ghost use Rattle.orc_file.specs.Counts.{are_laid_with_few_rows, are_all_stats};
 ghost use Rattle.orc_file.specs.Writing.{version_of, written_tail, AreWithin};
 ghost use Rattle.orc_file.specs.declared.fault.FileFault.TheVariants.{WriteFailed, OutOfMemory};
 
@@ -77,13 +77,13 @@ pub(crate) fn end_file<W: Sink>(
     requires rows { stripes.rows ≡ stripes_rows stripes.infos.items }
     requires few { length stripes.stats.items ≡ length stripes.infos.items }
     requires within { AreWithin stripes.infos.items }
-    requires laid { are_laid 3 stripes.infos.items ≡ true }
+    requires laid { are_laid_with_few_rows 3 stripes.infos.items ≡ true }
     requires stats { are_all_stats schema stripes.stats.items ≡ true }
     ensures tail { IfOk result (λ tail. tail ≡ written_tail rle schema stripes.infos.items stripes.stats.items) }
     ensures told { IfOk result (λ tail. W.told out.new ≡ appended (W.told out.old)
         (tail_text (written_tail rle schema stripes.infos.items stripes.stats.items))) }
     ensures few { IfOk result (λ _. length (tail_text (written_tail rle schema stripes.infos.items stripes.stats.items)) < 2 ^ 63) }
-    ensures schema { OnOk result (IsSchema schema) }
+    ensures schema { IsSchema schema }
     ensures cut { OnErr result ((n : ℕ)
         × (W.told out.new ≡ appended (W.told out.old)
         (take n (tail_text (written_tail rle schema stripes.infos.items stripes.stats.items))))) }

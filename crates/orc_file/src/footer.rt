@@ -2,8 +2,8 @@
 ghost use Rattle.std.specs.Prelude.{◌≡◌, ◌⊎◌, IfOk, IfErr};
 ghost use Rattle.std.specs.Bool.{OnTrue, OnFalse};
 ghost use Rattle.orc_wire.specs.CanonicalKinds.{AreKept};
-ghost use Rattle.orc_file.specs.Tails.{footer_tests};
-ghost use Rattle.orc_file.specs.declared.fault.FileFault.TheVariants.{SourceFailed, OutOfMemory};
+ghost use Rattle.orc_file.specs.Tails.{footer_tests, IsOfTail};
+ghost use Rattle.orc_file.specs.declared.fault.FileFault.TheVariants.{OutOfMemory};
 
 use crate::fault::FileFault;
 use orc_types::{Schema, TypeFault};
@@ -34,7 +34,7 @@ fn are_above_ten(kept: &Bytes) -> bool
 pub(crate) fn footer_in(alloc: Global, text: &[u8]) -> Result<(Footer, Schema), FileFault>
     ensures found { IfOk result (λ found. (footer_tests text.now).finds (found.0, found.1)) }
     ensures fault { IfErr result (λ fault. (fault ≡ OutOfMemory) ⊎ (footer_tests text.now).fails fault) }
-    ensures named { IfErr result (λ fault. fault ≡ SourceFailed → ⊥) }
+    ensures named { IfErr result (λ fault. IsOfTail fault) }
 {
     let footer = match Footer::read(alloc, text) {
         Ok(footer) => footer,

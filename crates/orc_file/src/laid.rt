@@ -8,7 +8,7 @@ use crate::tail::Tail;
 use orc_wire::StripeInfo;
 
 /// Whether the stripes lie one after the other behind `ORC`.
-fn are_laid(stripes: &[StripeInfo]) -> bool
+fn lie_behind_magic(stripes: &[StripeInfo]) -> bool
     ensures yes { OnTrue result (IsLaid 3 stripes.now) }
     ensures no { OnFalse result (IsLaid 3 stripes.now → ⊥) }
 {
@@ -28,6 +28,6 @@ impl Tail {
         ensures yes { OnTrue result (IsLaid 3 self.now.stripes) }
         ensures no { OnFalse result (IsLaid 3 self.now.stripes → ⊥) }
     {
-        are_laid(self.stripes.as_slice())
+        lie_behind_magic(self.stripes.as_slice())
     }
 }

@@ -1,10 +1,10 @@
 //! What a footer and the metadata say of stripes, rows and statistics, and the limits on it.
 ghost use Rattle.std.specs.Prelude.{◌≡◌, ◌≤◌, ◌⊎◌, length, true, OnOk, IfOk, IfErr};
 ghost use Rattle.orc_types.specs.Shapes.{width};
-ghost use Rattle.orc_file.specs.Tails.{limit_tests};
+ghost use Rattle.orc_file.specs.Tails.{limit_tests, IsOfTail};
 ghost use Rattle.orc_file.specs.Statistics.{have_few};
 ghost use Rattle.orc_file.specs.Stripes.{stripe_end, stripe_tests, stripes_rows, stripes_length, most_stripes};
-ghost use Rattle.orc_file.specs.declared.fault.FileFault.TheVariants.{SourceFailed, OutOfMemory};
+ghost use Rattle.orc_file.specs.declared.fault.FileFault.TheVariants.{OutOfMemory};
 
 use crate::fault::FileFault;
 use crate::statistics::{stats_in, stripe_stats_in};
@@ -41,7 +41,7 @@ fn stripes_in(stripes: &[StripeInfo], before: u64) -> Result<(u64, u64), FileFau
     ensures lie { OnOk result ((stripe_tests 0 3 before stripes.now).finds tt) }
     ensures sums { IfOk result (λ sums. (sums.0 ≡ stripes_rows stripes.now) × (sums.1 ≡ stripes_length stripes.now)) }
     ensures fault { IfErr result (λ fault. (stripe_tests 0 3 before stripes.now).fails fault) }
-    ensures named { IfErr result (λ fault. fault ≡ SourceFailed → ⊥) }
+    ensures named { IfErr result (λ fault. IsOfTail fault) }
 {
     let mut from = 3;
     let mut rows = 0;
@@ -77,7 +77,7 @@ pub(crate) fn limits_of(
     requires stripe_stats { have_few (width schema.now) metadata.now.stripe_stats ≡ true }
     ensures found { IfOk result (λ stats. (limit_tests before footer.now schema.now metadata.now).finds (stats.0, stats.1)) }
     ensures fault { IfErr result (λ fault. (fault ≡ OutOfMemory) ⊎ (limit_tests before footer.now schema.now metadata.now).fails fault) }
-    ensures named { IfErr result (λ fault. fault ≡ SourceFailed → ⊥) }
+    ensures named { IfErr result (λ fault. IsOfTail fault) }
 {
     let file_stats = stats_in(alloc, schema, footer.statistics.as_slice())?;
     let stripe_stats = stripe_stats_in(alloc, schema, metadata.stripe_stats.as_slice())?;

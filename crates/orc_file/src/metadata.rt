@@ -1,8 +1,8 @@
 //! The metadata, from its bytes.
 ghost use Rattle.std.specs.Prelude.{◌≡◌, ◌⊎◌, IfOk, IfErr};
-ghost use Rattle.orc_file.specs.Tails.{metadata_tests};
+ghost use Rattle.orc_file.specs.Tails.{metadata_tests, IsOfTail};
 ghost use Rattle.orc_file.specs.Statistics.{have_few};
-ghost use Rattle.orc_file.specs.declared.fault.FileFault.TheVariants.{SourceFailed, OutOfMemory};
+ghost use Rattle.orc_file.specs.declared.fault.FileFault.TheVariants.{OutOfMemory};
 
 use crate::fault::FileFault;
 use orc_types::Schema;
@@ -32,7 +32,7 @@ pub(crate) fn metadata_in(
 ) -> Result<Metadata, FileFault>
     ensures found { IfOk result (λ m. (metadata_tests text.now footer.now schema.now).finds m) }
     ensures fault { IfErr result (λ fault. (fault ≡ OutOfMemory) ⊎ (metadata_tests text.now footer.now schema.now).fails fault) }
-    ensures named { IfErr result (λ fault. fault ≡ SourceFailed → ⊥) }
+    ensures named { IfErr result (λ fault. IsOfTail fault) }
 {
     let metadata = match Metadata::read(alloc, text) {
         Ok(metadata) => metadata,

@@ -1,8 +1,8 @@
 //! The postscript, from its bytes.
 ghost use Rattle.std.specs.Prelude.{◌≡◌, ◌⊎◌, IfOk, IfErr};
 ghost use Rattle.std.specs.Bool.{OnTrue, OnFalse};
-ghost use Rattle.orc_file.specs.Tails.{IsMagic, script_tests};
-ghost use Rattle.orc_file.specs.declared.fault.FileFault.TheVariants.{SourceFailed, OutOfMemory};
+ghost use Rattle.orc_file.specs.Tails.{IsMagic, script_tests, IsOfTail};
+ghost use Rattle.orc_file.specs.declared.fault.FileFault.TheVariants.{OutOfMemory};
 
 use crate::fault::FileFault;
 use orc_wire::{Bytes, Message, PostScript, WireFault};
@@ -26,7 +26,7 @@ fn is_magic(text: &Bytes) -> bool
 pub(crate) fn script_in(alloc: Global, text: &[u8], place: u64) -> Result<PostScript, FileFault>
     ensures found { IfOk result (λ script. (script_tests text.now place).finds script) }
     ensures fault { IfErr result (λ fault. (fault ≡ OutOfMemory) ⊎ (script_tests text.now place).fails fault) }
-    ensures named { IfErr result (λ fault. fault ≡ SourceFailed → ⊥) }
+    ensures named { IfErr result (λ fault. IsOfTail fault) }
 {
     let script = match PostScript::read(alloc, text) {
         Ok(script) => script,

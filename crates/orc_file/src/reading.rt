@@ -5,7 +5,7 @@ ghost use Rattle.orc_devices.specs.Devices.{bytes_at};
 ghost use Rattle.std.specs.Bool.{OnTrue, OnFalse};
 ghost use Rattle.orc_file.specs.Layout.{magic, script_place};
 ghost use Rattle.orc_file.specs.Stripes.{AllBefore};
-ghost use Rattle.orc_file.specs.Tails.{most_versions, end_tests, IsTail, OpenFault, ReadFault};
+ghost use Rattle.orc_file.specs.Tails.{most_versions, end_tests, IsTail, OpenFault, ReadFault, IsOfTail};
 ghost use Rattle.orc_file.specs.Images.{IsWithinLimits};
 ghost use Rattle.orc_file.specs.declared.fault.FileFault.TheVariants.{SourceFailed, OutOfMemory};
 
@@ -85,6 +85,7 @@ fn read_end<S: Source>(alloc: Global, source: &mut S) -> Result<End, FileFault>
     ensures room { IfOk result (λ end. (3 + end.script.metadata_length + end.script.footer_length ≤ end.place) × (end.place ≤ S.size source.old)) }
 
     ensures fault { IfErr result (λ fault. ReadFault (S.told source.old) fault (λ bytes. (end_tests bytes).fails fault)) }
+    ensures unfailed { IfErr result (λ fault. (fault ≡ SourceFailed) ⊎ (IsOfTail fault × (S.failures source.new ≡ S.failures source.old))) }
     ensures kept { OnOk result (S.failures source.new ≡ S.failures source.old) }
     ensures failed { IsErrOf result SourceFailed → S.failures source.old < S.failures source.new }
     ensures memory { IsErrOf result OutOfMemory → S.failures source.new ≡ S.failures source.old }
@@ -119,6 +120,7 @@ pub fn read_tail<S: Source>(alloc: Global, source: &mut S) -> Result<Tail, FileF
     ensures within { IfOk result (λ tail. AllBefore (S.size source.old) tail.stripes) }
 
     ensures fault { IfErr result (λ fault. ReadFault (S.told source.old) fault (λ bytes. OpenFault bytes fault)) }
+    ensures unfailed { IfErr result (λ fault. (fault ≡ SourceFailed) ⊎ (IsOfTail fault × (S.failures source.new ≡ S.failures source.old))) }
     ensures kept { OnOk result (S.failures source.new ≡ S.failures source.old) }
     ensures failed { IsErrOf result SourceFailed → S.failures source.old < S.failures source.new }
     ensures memory { IsErrOf result OutOfMemory → S.failures source.new ≡ S.failures source.old }

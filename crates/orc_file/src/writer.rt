@@ -3,6 +3,7 @@ ghost use Rattle.std.specs.Prelude.{◌≡◌, ◌+◌, ◌<◌, ◌≤◌, ◌�
 ghost use Rattle.orc_rle.specs.declared.sign.Rle.{Rle};
 ghost use Rattle.orc_wire.specs.declared.stripe_info.StripeInfo.{StripeInfo};
 ghost use Rattle.orc_types.specs.Shapes.{width};
+ghost use Rattle.orc_types.specs.Schemas.{IsSchema};
 ghost use Rattle.orc_types.specs.Cells.{Cell, cells_of};
 ghost use Rattle.orc_types.specs.Columns as columns;
 ghost use Rattle.orc_types.specs.Fits as fitting;
@@ -11,8 +12,8 @@ ghost use Rattle.orc_stripe.specs.Stripe.{IsStripe};
 ghost use Rattle.orc_stripe.specs.WrittenStripe.{IsWrittenStripe, HaveStats};
 ghost use Rattle.orc_devices.specs.Devices.{appended};
 ghost use Rattle.orc_file.specs.Stripes.{stripe_length, stripes_length, stripes_rows, most_stripes, most_rows, most_bytes};
-ghost use Rattle.orc_file.specs.Counts.{are_laid, are_few, are_all_stats, with_row, PassesLimit};
-ghost use Rattle.orc_file.specs.Writing.{HasKept, HasPushed, HasFilled, IsCutOff, IsWhole, PassesBytes};
+ghost use Rattle.orc_file.specs.Counts.{are_laid_with_few_rows, are_few, are_all_stats, with_row, PassesLimit};
+ghost use Rattle.orc_file.specs.Writing.{HasTaken, HasKept, HasPushed, HasFilled, IsCutOff, IsWhole, PassesBytes};
 ghost use Rattle.orc_file.specs.declared.fault.FileFault.TheVariants as fault;
 
 use crate::counting::{count_row, no_cells, reset};
@@ -59,7 +60,7 @@ pub struct Writer<W: Sink> {
     /// Room for the counts with a row more.
     sums: Vec<u64>,
     failed: bool,
-    ghost laid: { are_laid 3 infos.items ≡ true },
+    ghost laid: { are_laid_with_few_rows 3 infos.items ≡ true },
     ghost stripes: { length infos.items ≤ most_stripes },
     ghost bytes: { stripes_length infos.items ≤ most_bytes },
     ghost counted_stats: { failed ≡ false → are_all_stats schema stats.items ≡ true },
@@ -90,12 +91,15 @@ impl<W: Sink> Writer<W> {
             → IfOk result (λ w. HasPushed options.rle options.stripe_rows schema (W.told out) (W.told w.out) w.written w.infos.items
             w.stats.items (views w.rows.items) []) }
         ensures made { IfOk result (λ w. (w.schema ≡ schema) × (w.options ≡ options) × (w.failed ≡ false)) }
+        ensures taken { IfOk result (λ w. HasTaken (W.told out) (W.told w.out) w.written) }
 
         ensures refused { IfErr result (λ e. (e.0 ≡ fault.WriteFailed) ⊎ (e.0 ≡ fault.OutOfMemory)) }
         ensures cut { IfErr result (λ e. IsCutOff options.rle options.stripe_rows schema (W.told out) (W.told e.1) []) }
         ensures write_failed { IfErr result (λ e. e.0 ≡ fault.WriteFailed → W.failures out < W.failures e.1) }
+        ensures memory { IfErr result (λ e. e.0 ≡ fault.OutOfMemory → W.failures e.1 ≡ W.failures out) }
         ensures no_failure { IfOk result (λ w. W.failures w.out ≡ W.failures out) }
     {
+        let _types = schema.types();
         let mut out = out;
         let Ok(counts) = no_cells(alloc, schema.width()) else {
             return Err((FileFault::OutOfMemory, out));
@@ -131,9 +135,11 @@ impl<W: Sink> Writer<W> {
         ensures stats { IfOk result (λ out. HaveStats self.now.schema (views self.now.rows.items) (width self.now.schema) out.stats.items) }
         ensures place { IfOk result (λ out. out.info.offset ≡ self.now.written) }
         ensures few { IfOk result (λ out. stripes_length self.now.infos.items + length out.bytes.items ≤ most_bytes) }
+        ensures schema { IsSchema self.now.schema }
         ensures limit { IsErrOf result fault.Limit → PassesBytes self.now.options.rle self.now.schema self.now.infos.items (views self.now.rows.items) }
         ensures refused { IfErr result (λ e. (e ≡ fault.Limit) ⊎ (e ≡ fault.OutOfMemory)) }
     {
+        let _types = self.schema.types();
         let Ok(out) = write_stripe(self.alloc, &self.schema, &self.options, &self.rows) else {
             return Err(FileFault::OutOfMemory);
         };
@@ -160,6 +166,7 @@ impl<W: Sink> Writer<W> {
         requires stats { HaveStats self.old.schema (views self.old.rows.items) (width self.old.schema) stripe.stats.items }
         requires place { stripe.info.offset ≡ self.old.written }
         requires few { stripes_length self.old.infos.items + length stripe.bytes.items ≤ most_bytes }
+        requires schema { IsSchema self.old.schema }
         ensures kept { (first : Option (List ℕ)) (rows : List Cell)
             → length self.old.rows.items ≡ self.old.options.stripe_rows
             → HasKept self.old.options.rle self.old.options.stripe_rows self.old.schema first (W.told self.old.out) self.old.written
@@ -177,12 +184,15 @@ impl<W: Sink> Writer<W> {
             → HasKept self.old.options.rle self.old.options.stripe_rows self.old.schema first (W.told self.old.out) self.old.written
             self.old.infos.items self.old.stats.items (views self.old.rows.items) rows
             → OnErr result (IsCutOff self.old.options.rle self.old.options.stripe_rows self.old.schema first (W.told self.new.out) rows) }
+        ensures taken { (first : Option (List ℕ)) → HasTaken first (W.told self.old.out) self.old.written
+            → HasTaken first (W.told self.new.out) self.new.written }
         ensures empty { OnOk result (self.new.rows.items ≡ []) }
         ensures same { (self.new.schema ≡ self.old.schema) × (self.new.options ≡ self.old.options) }
         ensures ok { OnOk result (self.new.failed ≡ false) }
         ensures failed { OnErr result (self.new.failed ≡ true) }
         ensures refused { IfErr result (λ e. (e ≡ fault.WriteFailed) ⊎ (e ≡ fault.OutOfMemory)) }
         ensures write_failed { IsErrOf result fault.WriteFailed → W.failures self.old.out < W.failures self.new.out }
+        ensures memory { IsErrOf result fault.OutOfMemory → W.failures self.new.out ≡ W.failures self.old.out }
         ensures no_failure { OnOk result (W.failures self.new.out ≡ W.failures self.old.out) }
     {
         self.failed = true;
@@ -227,6 +237,8 @@ impl<W: Sink> Writer<W> {
             → HasKept self.old.options.rle self.old.options.stripe_rows self.old.schema first (W.told self.old.out) self.old.written
             self.old.infos.items self.old.stats.items (views self.old.rows.items) rows
             → OnErr result (IsCutOff self.old.options.rle self.old.options.stripe_rows self.old.schema first (W.told self.new.out) rows) }
+        ensures taken { (first : Option (List ℕ)) → HasTaken first (W.told self.old.out) self.old.written
+            → HasTaken first (W.told self.new.out) self.new.written }
         ensures empty { OnOk result (self.new.rows.items ≡ []) }
         ensures same { (self.new.schema ≡ self.old.schema) × (self.new.options ≡ self.old.options) }
         ensures ok { OnOk result (self.new.failed ≡ false) }
@@ -234,6 +246,7 @@ impl<W: Sink> Writer<W> {
         ensures limit { IsErrOf result fault.Limit → PassesBytes self.old.options.rle self.old.schema self.old.infos.items (views self.old.rows.items) }
         ensures refused { IfErr result (λ e. (e ≡ fault.WriteFailed) ⊎ ((e ≡ fault.Limit) ⊎ (e ≡ fault.OutOfMemory))) }
         ensures write_failed { IsErrOf result fault.WriteFailed → W.failures self.old.out < W.failures self.new.out }
+        ensures memory { IsErrOf result fault.OutOfMemory → W.failures self.new.out ≡ W.failures self.old.out }
         ensures no_failure { OnOk result (W.failures self.new.out ≡ W.failures self.old.out) }
     {
         match self.stripe_of() {
@@ -248,6 +261,7 @@ impl<W: Sink> Writer<W> {
     /// Whether a row may be pushed. Then `sums` has the counts with it.
     fn admit(&mut self, row: &Row<'_>) -> Result<(), FileFault>
         ensures open { OnOk result (self.old.failed ≡ false) }
+        ensures schema { IsSchema self.old.schema }
         ensures fits { OnOk result (fitting.fits (view row.now) self.old.schema ≡ true) }
         ensures stripes { OnOk result (length self.old.infos.items < most_stripes) }
         ensures rows { OnOk result (self.old.total < most_rows) }
@@ -264,6 +278,7 @@ impl<W: Sink> Writer<W> {
             × (self.new.stats ≡ self.old.stats) × (self.new.rows ≡ self.old.rows) × (self.new.counts ≡ self.old.counts)
             × (self.new.total ≡ self.old.total) × (self.new.failed ≡ self.old.failed) }
     {
+        let _types = self.schema.types();
         if self.failed {
             return Err(FileFault::Failed);
         }
@@ -321,6 +336,8 @@ impl<W: Sink> Writer<W> {
             self.old.infos.items self.old.stats.items (views self.old.rows.items) rows
             → OnOk result (HasPushed self.old.options.rle self.old.options.stripe_rows self.old.schema first (W.told self.new.out)
             self.new.written self.new.infos.items self.new.stats.items (views self.new.rows.items) (rows ++ view row.now ∷ [])) }
+        ensures taken { (first : Option (List ℕ)) → HasTaken first (W.told self.old.out) self.old.written
+            → HasTaken first (W.told self.new.out) self.new.written }
         ensures same { (self.new.schema ≡ self.old.schema) × (self.new.options ≡ self.old.options) }
 
         ensures failed { IsErrOf result fault.Failed ↔ (self.old.failed ≡ true) }
@@ -351,6 +368,7 @@ impl<W: Sink> Writer<W> {
             → IsCutOff self.old.options.rle self.old.options.stripe_rows self.old.schema first (W.told self.new.out)
             (rows ++ view row.now ∷ []) }
         ensures write_failed { IsErrOf result fault.WriteFailed → W.failures self.old.out < W.failures self.new.out }
+        ensures memory { IsErrOf result fault.OutOfMemory → W.failures self.new.out ≡ W.failures self.old.out }
         ensures no_failure { OnOk result (W.failures self.new.out ≡ W.failures self.old.out) }
     {
         self.admit(row)?;
@@ -394,6 +412,7 @@ impl<W: Sink> Writer<W> {
         ensures begun { OnErr result (0 < length self.old.rows.items) }
         ensures refused { IfErr result (λ e. (e ≡ fault.WriteFailed) ⊎ ((e ≡ fault.Limit) ⊎ (e ≡ fault.OutOfMemory))) }
         ensures write_failed { IsErrOf result fault.WriteFailed → W.failures self.old.out < W.failures self.new.out }
+        ensures memory { IsErrOf result fault.OutOfMemory → W.failures self.new.out ≡ W.failures self.old.out }
         ensures no_failure { OnOk result (W.failures self.new.out ≡ W.failures self.old.out) }
     {
         if self.rows.is_empty() {
@@ -424,6 +443,7 @@ impl<W: Sink> Writer<W> {
             → self.failed ≡ false
             → IfErr result (λ e. IsCutOff self.options.rle self.options.stripe_rows self.schema first (W.told e.1) rows) }
         ensures write_failed { IfErr result (λ e. e.0 ≡ fault.WriteFailed → W.failures self.out < W.failures e.1) }
+        ensures memory { IfErr result (λ e. e.0 ≡ fault.OutOfMemory → W.failures e.1 ≡ W.failures self.out) }
         ensures no_failure { IfOk result (λ done. W.failures done.1 ≡ W.failures self.out) }
     {
         let mut writer = self;

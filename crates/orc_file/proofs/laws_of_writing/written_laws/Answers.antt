@@ -1,4 +1,5 @@
 use Rattle.orc_file.proofs.WrittenLaws.{written_tail_is, written_rows, written_honest, written_whole}
+use Rattle.orc_file.proofs.ShortFile.{written_short, front_file}
 use Rattle.orc_file.proofs.OneWritten.{one_written}
 use Rattle.orc_file.proofs.laws_of_writing.written_laws.Goals as goal
 
@@ -19,3 +20,9 @@ returns-clause-whole c = written_whole
 
 pub returns-clause-one : goal.returns-clause-one
 returns-clause-one c = one_written
+
+pub returns-clause-short : goal.returns-clause-short
+returns-clause-short c = λ rle n s tail bytes rows schema types is. written_short rle n s tail bytes rows schema is types
+
+pub returns-clause-front : goal.returns-clause-front
+returns-clause-front c = front_file

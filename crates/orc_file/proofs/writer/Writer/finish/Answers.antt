@@ -10,7 +10,7 @@ returns-in-Ok-end_file-clause-whole g c = λ first rows h.
     let rle : c.rle.result ≡ w.options.rle = c.rle.ensures ∙ ap (λ (o : Options). o.rle) c.close_rest.ensures.same.1 in
     let within = within_of n.infos.items n.total _ n.stripes n.total_is n.few_rows n.bytes in
     rw (c.in-Ok-end_file.ensures.tail, rle, c.close_rest.ensures.same.0)
-    (whole_end w.options.rle w.options.stripe_rows w.schema first _ n.infos.items n.stats.items rows (c.in-Ok.ensures.last first rows h) within _ (rw c.close_rest.ensures.same.0 at c.in-Ok-end_file.ensures.schema) (rw (rle, c.close_rest.ensures.same.0) at c.in-Ok-end_file.ensures.few) (rw (rle, c.close_rest.ensures.same.0) at c.in-Ok-end_file.ensures.told))
+    (whole_end w.options.rle w.options.stripe_rows w.schema first _ n.infos.items n.stats.items rows (c.in-Ok.ensures.last first rows h) within _ (rw c.close_rest.ensures.same.0 at c.end_file.ensures.schema) (rw (rle, c.close_rest.ensures.same.0) at c.in-Ok-end_file.ensures.few) (rw (rle, c.close_rest.ensures.same.0) at c.in-Ok-end_file.ensures.told))
 
 pub returns-clause-cut : goal.returns-clause-cut
 returns-clause-cut g c = λ first rows h f.
@@ -19,4 +19,4 @@ returns-clause-cut g c = λ first rows h f.
     let rle : c.rle.result ≡ w.options.rle = c.rle.ensures ∙ ap (λ (o : Options). o.rle) c.close_rest.ensures.same.1 in
     let within = within_of n.infos.items n.total _ n.stripes n.total_is n.few_rows n.bytes in
     let some = c.in-Err-end_file.ensures.cut in
-    cut_end w.options.rle w.options.stripe_rows w.schema first _ n.infos.items n.stats.items rows (c.in-Ok.ensures.last first rows h) within _ some.0 (rw (rle, c.close_rest.ensures.same.0) at some.1)
+    cut_end w.options.rle w.options.stripe_rows w.schema first _ n.infos.items n.stats.items rows (c.in-Ok.ensures.last first rows h) within _ some.0 (rw c.close_rest.ensures.same.0 at c.end_file.ensures.schema) (rw (rle, c.close_rest.ensures.same.0) at some.1)

@@ -12,7 +12,7 @@ returns-in_err-keep-clause-cut g c = λ first rows h ready failed.
     let w = c.args.self.now in
     let few = h.1 in
     rw (c.keep.ensures.stands.0, c.admit.ensures.stays.0)
-    (cut_row w.options.rle w.options.stripe_rows w.schema first _ w.written w.infos.items w.stats.items (views w.rows.items) rows (view c.args.row.now) (omega (arith, few)) (within_of w.infos.items w.total _ w.stripes w.total_is w.few_rows w.bytes) h.0)
+    (cut_row w.options.rle w.options.stripe_rows w.schema first _ w.written w.infos.items w.stats.items (views w.rows.items) rows (view c.args.row.now) (omega (arith, few)) (within_of w.infos.items w.total _ w.stripes w.total_is w.few_rows w.bytes) c.admit.ensures.schema h.0)
 
 pub returns-then-len-stripe_rows-clause-pushed : goal.returns-then-len-stripe_rows-clause-pushed
 returns-then-len-stripe_rows-clause-pushed g c = λ first rows h.

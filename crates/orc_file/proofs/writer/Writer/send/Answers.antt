@@ -4,7 +4,7 @@ use Rattle.orc_types.specs.Views.{view, views}
 use Rattle.orc_file.specs.Writing.{Closed, IsClosed}
 use Rattle.orc_file.proofs.CountLemmas.{counts_none, few_none, few_cells}
 use Rattle.orc_file.proofs.StatTests.{all_stats_more, stripe_stats_are}
-use Rattle.orc_file.proofs.WriterLemmas.{stripe_within, cut_sent, cut_all, sent_full, sent_last, laid_more, length_more, rows_more, stripe_bytes, stripe_rows, rows_fit, root_few}
+use Rattle.orc_file.proofs.WriterLemmas.{stripe_within, cut_sent, cut_all, sent_full, sent_last, laid_more, length_more, rows_more, stripe_bytes, stripe_rows, rows_fit, root_few, taken_more, taken_all}
 use Rattle.orc_file.proofs.writer.Writer.send.Goals as goal
 
 pub returns-in-Err-clause-cut : goal.returns-in-Err-clause-cut
@@ -16,7 +16,7 @@ returns-in-Err-clause-cut g c = λ first rows few h.
     let is : IsClosed w.options.rle w.schema w.written one = record { placed = c.requires.place; written = c.requires.text; read = c.requires.stripe; counted = c.requires.stats } in
     let within = stripe_within w.schema w.infos.items c.args.stripe.info c.args.stripe.bytes.items kept w.total (length w.rows.items) c.requires.stripe (w.room c.requires.begun) w.total_is l w.few_rows c.requires.few in
     let b = c.requires.begun in
-    cut_sent w.options.rle w.options.stripe_rows w.schema first _ w.written w.infos.items w.stats.items kept rows h one refl is _ c.in-Err.taken (omega (arith, l, b)) (omega (arith, l, few)) within (rw c.deref.ensures.value at c.in-Err.ensures.some)
+    cut_sent w.options.rle w.options.stripe_rows w.schema first _ w.written w.infos.items w.stats.items kept rows h one refl is _ c.in-Err.taken (omega (arith, l, b)) (omega (arith, l, few)) within c.requires.schema (rw c.deref.ensures.value at c.in-Err.ensures.some)
 
 pub returns-in_default-clause-cut : goal.returns-in_default-clause-cut
 returns-in_default-clause-cut g c = λ first rows few h.
@@ -27,7 +27,7 @@ returns-in_default-clause-cut g c = λ first rows few h.
     let is : IsClosed w.options.rle w.schema w.written one = record { placed = c.requires.place; written = c.requires.text; read = c.requires.stripe; counted = c.requires.stats } in
     let within = stripe_within w.schema w.infos.items c.args.stripe.info c.args.stripe.bytes.items kept w.total (length w.rows.items) c.requires.stripe (w.room c.requires.begun) w.total_is l w.few_rows c.requires.few in
     let b = c.requires.begun in
-    cut_all w.options.rle w.options.stripe_rows w.schema first _ w.written w.infos.items w.stats.items kept rows h one refl is _ (omega (arith, l, b)) (omega (arith, l, few)) within (rw c.deref.ensures.value at c.in-Ok.ensures.all)
+    cut_all w.options.rle w.options.stripe_rows w.schema first _ w.written w.infos.items w.stats.items kept rows h one refl is _ (omega (arith, l, b)) (omega (arith, l, few)) within c.requires.schema (rw c.deref.ensures.value at c.in-Ok.ensures.all)
 
 pub returns-in_default-push-clause-cut : goal.returns-in_default-push-clause-cut
 returns-in_default-push-clause-cut g c = λ first rows few h.
@@ -38,7 +38,7 @@ returns-in_default-push-clause-cut g c = λ first rows few h.
     let is : IsClosed w.options.rle w.schema w.written one = record { placed = c.requires.place; written = c.requires.text; read = c.requires.stripe; counted = c.requires.stats } in
     let within = stripe_within w.schema w.infos.items c.args.stripe.info c.args.stripe.bytes.items kept w.total (length w.rows.items) c.requires.stripe (w.room c.requires.begun) w.total_is l w.few_rows c.requires.few in
     let b = c.requires.begun in
-    cut_all w.options.rle w.options.stripe_rows w.schema first _ w.written w.infos.items w.stats.items kept rows h one refl is _ (omega (arith, l, b)) (omega (arith, l, few)) within (rw c.deref.ensures.value at c.in-Ok.ensures.all)
+    cut_all w.options.rle w.options.stripe_rows w.schema first _ w.written w.infos.items w.stats.items kept rows h one refl is _ (omega (arith, l, b)) (omega (arith, l, few)) within c.requires.schema (rw c.deref.ensures.value at c.in-Ok.ensures.all)
 
 pub returns-clause-kept : goal.returns-clause-kept
 returns-clause-kept g c = λ first rows full h.
@@ -104,3 +104,23 @@ invariant_of-self-2-clause-few_cells g c = rw c.reset.ensures (few_none (length 
 
 pub invariant_of-self-2-clause-counted : goal.invariant_of-self-2-clause-counted
 invariant_of-self-2-clause-counted g c = rw (c.reset.ensures, c.args.self.now.wide, c.clear.ensures.items) (counts_none c.args.self.now.schema)
+
+pub returns-in-Err-clause-taken : goal.returns-in-Err-clause-taken
+returns-in-Err-clause-taken g c = λ first h.
+    let part = rw c.deref.ensures.value at c.in-Err.ensures.part in
+    taken_more first (g.W.Sink.told c.args.self.now.out) _ c.args.self.now.written c.in-Err.taken c.args.stripe.bytes.items (omega (arith, part)) (rw c.deref.ensures.value at c.in-Err.ensures.some) h
+
+pub returns-in_default-clause-taken : goal.returns-in_default-clause-taken
+returns-in_default-clause-taken g c = λ first h.
+    let all : c.len.result ≡ length c.args.stripe.bytes.items = omega (arith, c.len.ensures, c.args.stripe.bytes.ok.0) in
+    taken_all first (g.W.Sink.told c.args.self.now.out) _ c.args.self.now.written c.len.result c.args.stripe.bytes.items all (rw c.deref.ensures.value at c.in-Ok.ensures.all) h
+
+pub returns-in_default-push-clause-taken : goal.returns-in_default-push-clause-taken
+returns-in_default-push-clause-taken g c = λ first h.
+    let all : c.len.result ≡ length c.args.stripe.bytes.items = omega (arith, c.len.ensures, c.args.stripe.bytes.ok.0) in
+    taken_all first (g.W.Sink.told c.args.self.now.out) _ c.args.self.now.written c.len.result c.args.stripe.bytes.items all (rw c.deref.ensures.value at c.in-Ok.ensures.all) h
+
+pub returns-clause-taken : goal.returns-clause-taken
+returns-clause-taken g c = λ first h.
+    let all : c.len.result ≡ length c.args.stripe.bytes.items = omega (arith, c.len.ensures, c.args.stripe.bytes.ok.0) in
+    taken_all first (g.W.Sink.told c.args.self.now.out) _ c.args.self.now.written c.len.result c.args.stripe.bytes.items all (rw c.deref.ensures.value at c.in-Ok.ensures.all) h

@@ -2,7 +2,7 @@ use Rattle.std.proofs.Common.{sym, ◌∙◌}
 use Rattle.orc_wire.specs.declared.stripe_info.StripeInfo.{StripeInfo}
 use Rattle.orc_file.specs.Stripes.{IsLaid}
 use Rattle.orc_file.proofs.StripeLemmas.{laid_next, laid_first, laid_rest}
-use Rattle.orc_file.proofs.laid.are_laid.Goals as goal
+use Rattle.orc_file.proofs.laid.lie_behind_magic.Goals as goal
 
 abbrev none : StripeInfo
 none = record { offset = 0; index_length = 0; data_length = 0; footer_length = 0; number_of_rows = 0 }

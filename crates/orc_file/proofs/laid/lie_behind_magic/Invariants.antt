@@ -1,6 +1,6 @@
 use Rattle.std.proofs.Common.{drop}
 use Rattle.orc_file.specs.Stripes.{IsLaid}
-use Rattle.orc_file.proofs.laid.are_laid.Given as goal
+use Rattle.orc_file.proofs.laid.lie_behind_magic.Given as goal
 
 -- the stripes that are left lie so where all of them do, and the other way round
 abbrev pub invariant-loop-stripe : goal.invariant-loop-stripe
