@@ -3,8 +3,8 @@ use Rattle.std.proofs.Common.{◌≡◌, ℕ, inl, inr, List, [], ◌∷◌, Boo
 use Rattle.std.specs.Prelude.{Contains}
 use Rattle.std.specs.Cmp.Lexicographic.{pointwise, same_text, other_text}
 use Rattle.orc_wire.specs.declared.footer.UserMetadataItem.{UserMetadataItem}
+use Rattle.orc_types.proofs.Decisions.{Decided}
 use Rattle.orc_merge.specs.Merging.{Agree}
-use Rattle.orc_merge.proofs.Limits.{Decided}
 use Rattle.orc_merge.proofs.Names.{in_cons, in_head, in_tail, Agree-tail}
 
 text_by : (xs ys : List ℕ) (b : Bool) → pointwise ◌==◌ xs ys ≡ b → Decided (xs ≡ ys)

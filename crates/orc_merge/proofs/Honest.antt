@@ -21,7 +21,7 @@ use Rattle.orc_stats.proofs.Parts.{joined-parts}
 use Rattle.orc_stripe.specs.WrittenStripe.{column_stat}
 use Rattle.orc_file.specs.Stripes.{most_stripes}
 use Rattle.orc_file.specs.Statistics.{kind_at}
-use Rattle.orc_file.specs.FileRows.{AreOfStripes, HasRows, FileIs, cut_rows}
+use Rattle.orc_file.specs.FileRows.{HasRows, FileIs, cut_rows}
 use Rattle.orc_file.specs.FileRows as rows
 use Rattle.orc_file.specs.Honest.{AreHonest, Honest, whole_of, AreWhole, HasWholeStats}
 use Rattle.orc_file.specs.Tails.{tail_tests}

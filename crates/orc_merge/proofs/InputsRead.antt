@@ -11,7 +11,7 @@ use Rattle.orc_file.specs.declared.fault.FileFault.{FileFault}
 use Rattle.orc_merge.specs.declared.fault.MergeFault.{MergeFault}
 use Rattle.orc_merge.specs.declared.fault.MergeFault.TheVariants as fault
 use Rattle.orc_merge.specs.Merging.{AreOpened}
-use Rattle.orc_merge.specs.Faults.{NextFault, AreGathered, InputFault, IsRefused, IsDeviceFault}
+use Rattle.orc_merge.specs.Faults.{NextFault, AreGathered, InputFault, IsRefused, IsDeviceFault, IsOfBytes}
 use Rattle.orc_merge.specs.Outcomes.{IsAnswer}
 use Rattle.orc_merge.specs.Inputs.{AreWithin, AreTailsOf, IsCounted}
 use Rattle.orc_merge.proofs.Bits.{all-append}
@@ -78,7 +78,7 @@ refused_at files n ts e lt o g fails =
 -- why no tail is found
 abbrev pub NoTail : ℕ → Option (List ℕ) → MergeFault → Type 0
 NoTail n told e =
-    (e ≡ fault.OutOfMemory) ⊎ ((e ≡ fault.SourceFailed n) ⊎ ((why : FileFault) × (e ≡ fault.File n why) × IfSome told (λ bytes. OpenFault bytes why)))
+    (e ≡ fault.OutOfMemory) ⊎ ((e ≡ fault.SourceFailed n) ⊎ ((why : FileFault) × (e ≡ fault.File n why) × IfSome told (λ bytes. OpenFault bytes why) × IsOfBytes why))
 
 pub open_refused : {A : Type 0} (told : A → Option (List ℕ)) (sizes : List ℕ) (inputs : List A) (n : ℕ) (d : A) (ts : List Tail) (e : MergeFault)
     → n < length inputs → AreTailsOf (map told inputs) sizes n ts → AreGathered ts
@@ -114,7 +114,7 @@ open_counted failures inputs n d y told e lt (inl is) rose = subst (IsCounted (m
 open_counted failures inputs n d y told e lt (inr (inl is)) rose =
     subst (IsCounted (map failures inputs) (map failures (set inputs n y))) (sym is) (index_rose failures inputs n d y lt (rose is))
 open_counted failures inputs n d y told e lt (inr (inr h)) rose =
-    subst (IsCounted (map failures inputs) (map failures (set inputs n y))) (sym h.1) tt
+    subst (IsCounted (map failures inputs) (map failures (set inputs n y))) (sym h.1) h.3
 
 -- ---- memory
 

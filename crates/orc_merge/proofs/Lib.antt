@@ -6,10 +6,13 @@ pub mod Opened
 pub mod Standing
 pub mod Same
 pub mod Steps
+pub mod MergedLength
 pub mod Rows
 pub mod Deciding
 pub mod Refusing
 pub mod OneFault
+pub mod Back
+pub mod Cover
 pub mod Reordered
 pub mod Ordered
 pub mod Honest

@@ -1,5 +1,5 @@
 -- What a merged tail has of limits: those that all inputs share, and those that they can pass together.
-use Rattle.std.proofs.Common.{◌≡◌, ℕ, zero, suc, ◌+◌, ◌<◌, ◌≤◌, ◌^◌, ◌⊎◌, inl, inr, nat_le, nat_lt, Bool, true, false, List, [], ◌∷◌, ◌++◌, length, refl}
+use Rattle.std.proofs.Common.{◌≡◌, ℕ, zero, suc, ◌+◌, ◌≤◌, ◌^◌, inl, inr, nat_le, List, [], ◌∷◌, ◌++◌, length, refl}
 use Rattle.std.proofs.Common.{sym, ap, ◌∙◌, subst, arith, length-append, take, drop}
 use Rattle.std.specs.Prelude.{sum_by}
 use Rattle.std.specs.List.{AllByRecursion}
@@ -9,6 +9,7 @@ use Rattle.std.proofs.lemmas.List.Sums.{sum_by-append, sum_by-cons}
 use Rattle.std.proofs.lemmas.List.Concat.{flat_map-append}
 use Rattle.orc_wire.specs.declared.stripe_info.StripeInfo.{StripeInfo}
 use Rattle.orc_types.specs.Shapes.{Shape, width}
+use Rattle.orc_types.proofs.Decisions.{Decided, both, at_most}
 use Rattle.orc_stats.specs.declared.stat.Stat.{Stat}
 use Rattle.orc_stats.specs.Joining.{joined, trues_of}
 use Rattle.orc_stats.specs.Messages.{few_trues}
@@ -130,21 +131,6 @@ limits_of first ts f a l room =
     }
 
 -- ---- whether there is room can be decided
-
-abbrev pub Decided : Type 0 → Type 0
-Decided P = P ⊎ (P → ⊥)
-
-at_most_by : (a b : ℕ) (c : Bool) → nat_lt b a ≡ c → Decided (a ≤ b)
-at_most_by a b true e = let lt : b < a = grind (arith, nat_tests) in inr (λ h. omega (arith, h, lt))
-at_most_by a b false e = let le : a ≤ b = grind (arith, nat_tests) in inl le
-
-at_most : (a b : ℕ) → Decided (a ≤ b)
-at_most a b = at_most_by a b (nat_lt b a) refl
-
-both : {P Q : Type 0} → Decided P → Decided Q → Decided (P × Q)
-both (inl p) (inl q) = inl (p, q)
-both (inl p) (inr n) = inr (λ h. n h.1)
-both (inr n) d = inr (λ h. n h.0)
 
 counts_within : (stats : List Stat) → Decided (Counted stats)
 counts_within [] = inl tt

@@ -3,6 +3,7 @@ use Rattle.std.proofs.Common.{◌≡◌, ℕ, ◌<◌, ◌⊎◌, inl, inr, List
 use Rattle.std.specs.Prelude.{◌↔◌}
 use Rattle.std.specs.List.{AllByRecursion}
 use Rattle.std.proofs.lemmas.List.{append-nil}
+use Rattle.orc_types.proofs.Decisions.{Decided}
 use Rattle.orc_file.specs.Tails.{tail_tests, IsTail}
 use Rattle.orc_file.specs.Images.{IsWithinLimits}
 use Rattle.orc_file.specs.declared.tail.Tail.{Tail}
@@ -13,7 +14,7 @@ use Rattle.orc_merge.specs.Faults.{first_of, Tested, NextFault, AreGathered, Inp
 use Rattle.orc_merge.specs.Grouping.{Group, Groups, input, merge, one, and, leaves, all_leaves, Gives, StepRefused, SomeRefused, AreShort, AllShort}
 use Rattle.orc_merge.specs.Grouping.{AreFellows, ComesOfJoining, IsFlatRefused, IsStepRefused}
 use Rattle.orc_merge.proofs.Same.{Same-refl, bare, bare_of_like, like_of_bare, merged_same, can_left, can_right, Agree-back}
-use Rattle.orc_merge.proofs.Limits.{Decided, within_limits}
+use Rattle.orc_merge.proofs.Limits.{within_limits}
 use Rattle.orc_merge.proofs.Opened.{opened_split, one_opened, all_sound}
 use Rattle.orc_merge.proofs.Deciding.{agreeing}
 use Rattle.orc_merge.proofs.Steps.{Given, AllGiven, can_step, all_given, given_step, given_input, all_given_one, all_given_and, alike_of_fellows, sound_of}
@@ -220,7 +221,7 @@ mutual
       (try_all first gs cut.1 cut.3 (alike_back first cut.0 cut.1 all) s.1))
 
 -- what was given can be merged at once where it can be in the last step
-at_once : (first : Tail) (gs : Groups) (ts : List Tail) (a : AllGiven first gs ts) → AllByRecursion (IsLike first) ts → CanMerge a.head (a.head ∷ a.rest)
+pub at_once : (first : Tail) (gs : Groups) (ts : List Tail) (a : AllGiven first gs ts) → AllByRecursion (IsLike first) ts → CanMerge a.head (a.head ∷ a.rest)
     → CanMerge first ts
 at_once first gs ts a alike can = record {
   alike = alike;

@@ -168,35 +168,38 @@ same_file first gs ts a =
 
 -- ---- the flat merge, and any grouping of it
 
-pub record Flat (gs : Groups) (tail : Tail) (out : List ℕ) : Type 0 where
+pub record Flat (inputs : List (List ℕ)) (tail : Tail) (out : List ℕ) : Type 0 where
   pub first : Tail
   pub rest : List Tail
-  pub opened : AreOpened (all_leaves gs) (first ∷ rest)
+  pub opened : AreOpened inputs (first ∷ rest)
   pub can : CanMerge first (first ∷ rest)
   pub tail_is : tail ≡ merged first (first ∷ rest)
-  pub out_is : out ≡ file_of (merged first (first ∷ rest)) (bodies (all_leaves gs) (first ∷ rest))
+  pub out_is : out ≡ file_of (merged first (first ∷ rest)) (bodies inputs (first ∷ rest))
 
-flat_of : (gs : Groups) (tail : Tail) (out : List ℕ) (ts : List Tail) → AreOpened (all_leaves gs) ts → Merged ts tail
-    → out ≡ file_of tail (bodies (all_leaves gs) ts) → Flat gs tail out
-flat_of gs tail out [] o m w = absurd m
-flat_of gs tail out (t ∷ ts) o m w = record {
+flat_by : (inputs : List (List ℕ)) (tail : Tail) (out : List ℕ) (ts : List Tail) → AreOpened inputs ts → Merged ts tail
+    → out ≡ file_of tail (bodies inputs ts) → Flat inputs tail out
+flat_by inputs tail out [] o m w = absurd m
+flat_by inputs tail out (t ∷ ts) o m w = record {
   first = t;
   rest = ts;
   opened = o;
   can = m.0;
   tail_is = m.1;
-  out_is = w ∙ ap (λ (x : Tail). file_of x (bodies (all_leaves gs) (t ∷ ts))) m.1;
+  out_is = w ∙ ap (λ (x : Tail). file_of x (bodies inputs (t ∷ ts))) m.1;
 }
+
+pub flat_of : (inputs : List (List ℕ)) (tail : Tail) (out : List ℕ) → IsMerge inputs tail out → Flat inputs tail out
+flat_of inputs tail out m = flat_by inputs tail out m.tails m.opened m.merged m.written
 
 pub grouping_same : (gs : Groups) (tail : Tail) (out : List ℕ) → AllShort gs → IsMerge (all_leaves gs) tail out → Gives (merge gs) out
 grouping_same gs tail out s m =
-    let l = flat_of gs tail out m.tails m.opened m.merged m.written in
+    let l = flat_of (all_leaves gs) tail out m in
     let a = all_given l.first gs (l.first ∷ l.rest) (all_sound (all_leaves gs) (l.first ∷ l.rest) l.opened).0 l.opened l.can s in
     subst (Gives (merge gs)) (same_file l.first gs (l.first ∷ l.rest) a ∙ sym l.out_is)
     (step_gives l.first gs (l.first ∷ l.rest) a (can_step l.first gs (l.first ∷ l.rest) a l.can))
 
 pub grouping_one : (gs : Groups) (tail : Tail) (out other : List ℕ) → AllShort gs → IsMerge (all_leaves gs) tail out → Gives (merge gs) other → other ≡ out
 grouping_one gs tail out other s m g =
-    let l = flat_of gs tail out m.tails m.opened m.merged m.written in
+    let l = flat_of (all_leaves gs) tail out m in
     let a = all_given l.first gs (l.first ∷ l.rest) (all_sound (all_leaves gs) (l.first ∷ l.rest) l.opened).0 l.opened l.can s in
     step_only l.first gs (l.first ∷ l.rest) a other g ∙ same_file l.first gs (l.first ∷ l.rest) a ∙ sym l.out_is

@@ -1,10 +1,11 @@
 -- Why files are not merged: input by input, for each the first test that fails (own).
-use Rattle.std.specs.Prelude.{◌≡◌, ◌⊎◌, ℕ, List, [], ◌∷◌, ◌++◌, length}
+use Rattle.std.specs.Prelude.{◌≡◌, ◌≢◌, ◌⊎◌, ℕ, List, [], ◌∷◌, ◌++◌, length}
 use Rattle.orc_file.specs.Tests.{AreAlike}
 use Rattle.orc_file.specs.Tails.{IsTail, OpenFault}
 use Rattle.orc_file.specs.Images.{IsWithinLimits}
 use Rattle.orc_file.specs.declared.tail.Tail.{Tail}
 use Rattle.orc_file.specs.declared.fault.FileFault.{FileFault}
+use Rattle.orc_file.specs.declared.fault.FileFault.TheVariants as file_fault
 use Rattle.orc_merge.specs.declared.fault.MergeFault.{MergeFault}
 use Rattle.orc_merge.specs.declared.fault.MergeFault.TheVariants.{NoInput, File, SchemaDiffers, VersionDiffers, StrideDiffers, OtherFooterFields}
 use Rattle.orc_merge.specs.declared.fault.MergeFault.TheVariants.{UserMetadataConflict, NoStripeStatistics, Limit, SourceFailed, WriteFailed, OutOfMemory}
@@ -74,3 +75,8 @@ IsDeviceFault (Limit i) = ⊥
 IsDeviceFault (SourceFailed i) = Unit {0}
 IsDeviceFault WriteFailed = Unit {0}
 IsDeviceFault OutOfMemory = Unit {0}
+
+-- the fault of an input is not want of memory and not its source's: those are faults of the merger's own
+pub record IsOfBytes (why : FileFault) : Type 0 where
+  pub no_memory : why ≢ file_fault.OutOfMemory
+  pub no_source : why ≢ file_fault.SourceFailed

@@ -61,6 +61,16 @@ abbrev mutual
   AllShort (one g) = AreShort g
   AllShort (and g gs) = AreShort g × AllShort gs
 
+-- the file that a group gives where each step of it wrote its file, as `merge` does: its length fits 64 bits
+abbrev mutual
+  pub Wrote : Group → List ℕ → Type 0
+  Wrote (input bytes) out = out ≡ bytes
+  Wrote (merge groups) out = (files : List (List ℕ)) × (tail : Tail) × AllWrote groups files × IsMerge files tail out × (length out < 2 ^ 64)
+
+  pub AllWrote : Groups → List (List ℕ) → Type 0
+  AllWrote (one g) files = (out : List ℕ) × Wrote g out × (files ≡ out ∷ [])
+  AllWrote (and g gs) files = (out : List ℕ) × (rest : List (List ℕ)) × Wrote g out × AllWrote gs rest × (files ≡ out ∷ rest)
+
 -- each input is a file of these rows
 abbrev pub HaveRows : List (List ℕ) → List (List Cell) → Type 0
 HaveRows [] [] = Unit {0}

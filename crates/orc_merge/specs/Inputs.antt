@@ -9,6 +9,7 @@ use Rattle.orc_merge.specs.declared.fault.MergeFault.{MergeFault}
 use Rattle.orc_merge.specs.declared.fault.MergeFault.TheVariants.{NoInput, File, SchemaDiffers, VersionDiffers, StrideDiffers, OtherFooterFields}
 use Rattle.orc_merge.specs.declared.fault.MergeFault.TheVariants.{UserMetadataConflict, NoStripeStatistics, Limit, SourceFailed, WriteFailed, OutOfMemory}
 use Rattle.orc_merge.specs.Merging.{CanMerge, AreOpened}
+use Rattle.orc_merge.specs.Faults.{IsOfBytes}
 use Rattle.orc_merge.specs.SoFar.{HasGathered}
 
 -- the stripes of each of these tails end within its input, of these sizes
@@ -32,10 +33,10 @@ pub record IsGatheredOf (told : List (Option (List ℕ))) (sizes : List ℕ) (nu
   pub merges : CanMerge first (first ∷ rest)
   pub gathered : HasGathered first (first ∷ rest) g
 
--- a fault of a source comes where its count of failures rose, and none is the output's
+-- a fault of a source comes where its count of failures rose, none is the output's, and an input's is its bytes'
 abbrev pub IsCounted : List ℕ → List ℕ → MergeFault → Type 0
 IsCounted old new NoInput = Unit {0}
-IsCounted old new (File i e) = Unit {0}
+IsCounted old new (File i e) = IsOfBytes e
 IsCounted old new (SchemaDiffers i) = Unit {0}
 IsCounted old new (VersionDiffers i) = Unit {0}
 IsCounted old new (StrideDiffers i) = Unit {0}

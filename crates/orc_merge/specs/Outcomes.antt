@@ -1,5 +1,5 @@
 -- What stands after a merge.
-use Rattle.std.specs.Prelude.{◌≡◌, ◌⊎◌, ℕ, List, Option}
+use Rattle.std.specs.Prelude.{◌≡◌, ◌⊎◌, ℕ, ◌<◌, ◌^◌, List, length, Option}
 use Rattle.orc_devices.specs.Devices.{appended}
 use Rattle.orc_file.specs.declared.tail.Tail.{Tail}
 use Rattle.orc_merge.specs.declared.fault.MergeFault.{MergeFault}
@@ -11,9 +11,12 @@ use Rattle.orc_merge.specs.Copies.{WroteSome}
 abbrev pub IsAnswer : List (List ℕ) → MergeFault → Type 0
 IsAnswer files fault = IsDeviceFault fault ⊎ IsRefused files fault
 
--- the merged file went out
-abbrev pub WroteMerge : List (List ℕ) → Tail → Option (List ℕ) → Option (List ℕ) → Type 0
-WroteMerge files tail old new = (bytes : List ℕ) × IsMerge files tail bytes × (new ≡ appended old bytes)
+-- the merged file went out, and its length fits 64 bits
+pub record WroteMerge (files : List (List ℕ)) (tail : Tail) (old new : Option (List ℕ)) : Type 0 where
+  pub bytes : List ℕ
+  pub merge : IsMerge files tail bytes
+  pub few : length bytes < 2 ^ 64
+  pub told_is : new ≡ appended old bytes
 
 -- nothing went out, or a part of the merged file from its front on
 abbrev pub WrotePart : List (List ℕ) → Option (List ℕ) → Option (List ℕ) → Type 0

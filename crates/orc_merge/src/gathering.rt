@@ -7,6 +7,7 @@ ghost use Rattle.orc_file.specs.Images.{IsWithinLimits, tail_text};
 ghost use Rattle.orc_file.specs.declared.fault.FileFault.{FileFault};
 ghost use Rattle.orc_merge.specs.declared.fault.MergeFault.TheVariants as fault;
 ghost use Rattle.orc_merge.specs.Merging.{IsMerge};
+ghost use Rattle.orc_merge.specs.Faults.{IsOfBytes};
 ghost use Rattle.orc_merge.specs.Copies.{pieces_bytes};
 ghost use Rattle.orc_merge.specs.Outcomes.{IsAnswer};
 ghost use Rattle.orc_merge.specs.Inputs.{IsGatheredOf, IsCounted};
@@ -28,7 +29,7 @@ fn tail_of<S: Source>(alloc: Global, number: usize, input: &mut S) -> Result<Tai
 
     ensures fault { IfErr result (λ e. (e ≡ fault.OutOfMemory)
         ⊎ ((e ≡ fault.SourceFailed number)
-        ⊎ ((why : FileFault) × (e ≡ fault.File number why) × IfSome (S.told input.old) (λ bytes. OpenFault bytes why)))) }
+        ⊎ ((why : FileFault) × (e ≡ fault.File number why) × IfSome (S.told input.old) (λ bytes. OpenFault bytes why) × IsOfBytes why))) }
     ensures kept { OnOk result (S.failures input.new ≡ S.failures input.old) }
     ensures failed { IsErrOf result (fault.SourceFailed number) → S.failures input.old < S.failures input.new }
     ensures memory { IsErrOf result fault.OutOfMemory → S.failures input.new ≡ S.failures input.old }
@@ -107,6 +108,7 @@ pub(crate) fn gather<S: Source>(
     ensures memory { IsErrOf result MergeFault.OutOfMemory → map S.failures inputs.new ≡ map S.failures inputs.old }
     ensures source_failed { (i : ℕ) → IsErrOf result (MergeFault.SourceFailed i)
         → slice_index (map S.failures inputs.old) i < slice_index (map S.failures inputs.new) i }
+    ensures file { (i : ℕ) (why : FileFault) → IsErrOf result (MergeFault.File i why) → IsOfBytes why }
     ensures never { IsErrOf result MergeFault.WriteFailed → ⊥ }
 {
     if inputs.is_empty() {

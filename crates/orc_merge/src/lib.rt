@@ -6,7 +6,7 @@ mod differing;
 mod fault;
 mod gathered;
 mod gathering;
-mod laws;
+pub mod laws;
 mod merging;
 mod stripe_places;
 mod user_pairs;

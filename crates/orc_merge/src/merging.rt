@@ -1,6 +1,7 @@
 //! The merger.
 ghost use Rattle.std.specs.Prelude.{◌≡◌, ◌<◌, ℕ, List, Some, map, slice_index, IfOk, IfErr, OnOk, IsErrOf};
-ghost use Rattle.orc_merge.specs.Faults.{IsDeviceFault};
+ghost use Rattle.orc_file.specs.declared.fault.FileFault.{FileFault};
+ghost use Rattle.orc_merge.specs.Faults.{IsDeviceFault, IsOfBytes};
 ghost use Rattle.orc_merge.specs.Outcomes.{IsAnswer, WroteMerge, WrotePart};
 
 use crate::copying::{CopyFault, write_merged};
@@ -16,6 +17,7 @@ use std::alloc::Global;
 /// with the first input, `SchemaDiffers`, `VersionDiffers`, `StrideDiffers`, `OtherFooterFields`, and of what is
 /// gathered so far `UserMetadataConflict`, `NoStripeStatistics`, `Limit`. After those and after `OutOfMemory` nothing was
 /// written. After `SourceFailed` or `WriteFailed` nothing was written, or a part of the merged file from its front on.
+/// `File` has a fault of the input's bytes; want of memory and a source that fails are refusals of their own.
 pub fn merge<S: Source, W: Sink>(
     alloc: Global,
     inputs: &mut [S],
@@ -34,6 +36,7 @@ pub fn merge<S: Source, W: Sink>(
     ensures kept { OnOk result ((map S.failures inputs.new ≡ map S.failures inputs.old) × (W.failures out.new ≡ W.failures out.old)) }
     ensures source_failed { (i : ℕ) → IsErrOf result (MergeFault.SourceFailed i)
         → slice_index (map S.failures inputs.old) i < slice_index (map S.failures inputs.new) i }
+    ensures file { (i : ℕ) (why : FileFault) → IsErrOf result (MergeFault.File i why) → IsOfBytes why }
     ensures write_failed { IsErrOf result MergeFault.WriteFailed → W.failures out.old < W.failures out.new }
 {
     let (tail, pieces) = match gather(alloc, inputs) {

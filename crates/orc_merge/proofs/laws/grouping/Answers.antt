@@ -1,4 +1,5 @@
 use Rattle.orc_merge.proofs.Steps.{grouping_same, grouping_one}
+use Rattle.orc_merge.proofs.Back.{grouping_back, grouping_step, grouping_wrote, grouping_alike}
 use Rattle.orc_merge.proofs.Rows.{grouping_accepted, grouping_rows}
 use Rattle.orc_merge.proofs.Refusing.{grouping_refused}
 use Rattle.orc_merge.proofs.laws.grouping.Goals as goal
@@ -8,6 +9,18 @@ returns-clause-same c = grouping_same
 
 pub returns-clause-one : goal.returns-clause-one
 returns-clause-one c = grouping_one
+
+pub returns-clause-back : goal.returns-clause-back
+returns-clause-back c = grouping_back
+
+pub returns-clause-step : goal.returns-clause-step
+returns-clause-step c = grouping_step
+
+pub returns-clause-wrote : goal.returns-clause-wrote
+returns-clause-wrote c = grouping_wrote
+
+pub returns-clause-alike : goal.returns-clause-alike
+returns-clause-alike c = grouping_alike
 
 pub returns-clause-accepted : goal.returns-clause-accepted
 returns-clause-accepted c = grouping_accepted

@@ -1,9 +1,13 @@
 use Rattle.orc_merge.proofs.Refusing.{no_fault}
 use Rattle.orc_merge.proofs.OneFault.{one_merge, one_fault}
+use Rattle.orc_merge.proofs.Cover.{merge_or_fault}
 use Rattle.orc_merge.proofs.laws.outcomes.Goals as goal
 
 pub returns-clause-one : goal.returns-clause-one
 returns-clause-one c = one_merge
+
+pub returns-clause-cover : goal.returns-clause-cover
+returns-clause-cover c = merge_or_fault
 
 pub returns-clause-none : goal.returns-clause-none
 returns-clause-none c = no_fault

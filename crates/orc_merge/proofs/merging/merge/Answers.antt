@@ -1,0 +1,21 @@
+use Rattle.std.proofs.Common.{◌<◌, ◌++◌, length, ap, ◌∙◌, arith}
+use Rattle.orc_devices.specs.Devices.{appended}
+use Rattle.orc_file.specs.Layout.{magic}
+use Rattle.orc_file.specs.Images.{tail_text}
+use Rattle.orc_merge.specs.Copies.{pieces_bytes}
+use Rattle.orc_merge.proofs.MergedLength.{short_of_text}
+use Rattle.orc_merge.proofs.merging.merge.Goals as goal
+
+pub returns-in-Ok-write_merged-clause-merged : goal.returns-in-Ok-write_merged-clause-merged
+returns-in-Ok-write_merged-clause-merged g c = λ files same.
+    let text = c.in-Ok-put.ensures.text ∙ ap (λ i. i ++ tail_text c.in-Ok.found.0) c.new-text.ensures.items in
+    let short : length (tail_text c.in-Ok.found.0) < 9223372036854775808 = omega (arith, c.put.new.out.ok, c.put.new.out.small, ap length text) in
+    let whole = c.in-Ok.ensures.found files same in
+    record {
+      bytes = magic ++ (pieces_bytes files c.in-Ok.found.1.items ++ tail_text c.in-Ok.found.0);
+      merge = whole;
+      few = short_of_text files c.in-Ok.found.0 (magic ++ (pieces_bytes files c.in-Ok.found.1.items ++ tail_text c.in-Ok.found.0)) whole short;
+      told_is = c.in-Ok-write_merged.ensures.all files (c.gather.ensures.told ∙ same)
+          ∙ ap (λ p. appended (g.W.Sink.told c.args.out.now) (magic ++ (pieces_bytes files p ++ c.deref-2.result.now))) c.deref.ensures.value
+          ∙ ap (λ t. appended (g.W.Sink.told c.args.out.now) (magic ++ (pieces_bytes files c.in-Ok.found.1.items ++ t))) (c.deref-2.ensures.value ∙ text);
+    }
