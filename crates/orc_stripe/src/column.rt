@@ -69,7 +69,8 @@ pub(crate) fn next_mark(column: usize, present: &mut Option<Bits<'_>>) -> Result
     ensures first { IfOk result (λ mark. Precedes (MarksFirst present.old) (MarksFirst present.new) (mark ∷ [])) }
     ensures none { OnErr result (Lacks (MarksLeft present.old) 1) }
     ensures before { OnOk result ((n : ℕ) (f : RunsFault) → MarksMeet present.new n f → MarksMeet present.old (suc n) f) }
-    ensures fault { IfErr result (λ cause. cause ≢ fault.OutOfMemory → RunsFail stream.Present column (λ f. (n : ℕ) → MarksMeet present.old (suc n) f) cause) }
+    ensures fault { IfErr result (λ cause. cause ≢ fault.OutOfMemory
+        → RunsFail stream.Present column (λ f. (n : ℕ) → MarksMeet present.old (suc n) f) cause) }
 {
     match present {
         None => Ok(true),
@@ -105,7 +106,8 @@ pub(crate) fn next_number(
     ensures first { IfOk result (λ n. Precedes (NumbersFirst numbers.old) (NumbersFirst numbers.new) (n ∷ [])) }
     ensures none { OnErr result (Lacks (NumbersLeft numbers.old) 1) }
     ensures before { OnOk result ((n : ℕ) (f : RunsFault) → NumbersMeet numbers.new n f → NumbersMeet numbers.old (suc n) f) }
-    ensures fault { IfErr result (λ cause. cause ≢ fault.OutOfMemory → (n : ℕ) → RunsFail kind column (Always false (suc n) (NumbersMeet numbers.old)) cause) }
+    ensures fault { IfErr result (λ cause. cause ≢ fault.OutOfMemory
+        → (n : ℕ) → RunsFail kind column (Always false (suc n) (NumbersMeet numbers.old)) cause) }
 {
     match numbers.next() {
         Ok(number) => Ok(number),
@@ -281,7 +283,8 @@ fn next_binary<'a>(
     ensures none { OnErr result (Lacks (Standing IsBinary (Grouped (NumbersLeft numbers.old) (OctetsLeft octets.old))) 1) }
     ensures before { OnOk result ((all : Bool) (n : ℕ) (f : Fault) → GroupsMeet stream.Data numbers.new octets.new all n column f
         → GroupsMeet stream.Data numbers.old octets.old all (suc n) column f) }
-    ensures fault { IfErr result (λ cause. cause ≢ fault.OutOfMemory → (n : ℕ) → GroupsMeet stream.Data numbers.old octets.old false (suc n) column cause) }
+    ensures fault { IfErr result (λ cause. cause ≢ fault.OutOfMemory
+        → (n : ℕ) → GroupsMeet stream.Data numbers.old octets.old false (suc n) column cause) }
 {
     match next_group(column, StreamKind::Data, numbers, octets) {
         Ok(bytes) => Ok(value_of(bytes)),
@@ -319,7 +322,8 @@ fn next_word<'a>(
     ensures none { OnErr result (Lacks (Standing (IsWord (map entry_bytes entries.now)) (NumbersLeft numbers.old)) 1) }
     ensures before { OnOk result ((all : Bool) (n : ℕ) (f : Fault) → WordsMeet (map entry_bytes entries.now) numbers.new all n column f
         → WordsMeet (map entry_bytes entries.now) numbers.old all (suc n) column f) }
-    ensures fault { IfErr result (λ cause. cause ≢ fault.OutOfMemory → (n : ℕ) → WordsMeet (map entry_bytes entries.now) numbers.old false (suc n) column cause) }
+    ensures fault { IfErr result (λ cause. cause ≢ fault.OutOfMemory
+        → (n : ℕ) → WordsMeet (map entry_bytes entries.now) numbers.old false (suc n) column cause) }
 {
     match next_number(column, StreamKind::Data, numbers) {
         Ok(number) => match word(column, entries, number) {
