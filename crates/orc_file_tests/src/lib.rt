@@ -5,7 +5,11 @@
 #[cfg(test)]
 mod devices;
 #[cfg(test)]
+mod loads;
+#[cfg(test)]
 mod rows_of_files;
+#[cfg(test)]
+mod statistics;
 #[cfg(test)]
 mod tails;
 #[cfg(test)]

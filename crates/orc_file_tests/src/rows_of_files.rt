@@ -5,11 +5,12 @@ use orc_file::{FileFault, OrcFile, SliceSource, Source};
 use orc_rle::RunFault;
 use orc_stripe::{StreamKind, StripeFault};
 use orc_types::{Row, Value};
+use orc_wire::WireFault;
 use std::alloc::{AllocError, Global};
 use std::process::Abort;
 
 /// A file with stripes of three sevens, three eights and three nines.
-static UPWARDS: [u8; 226] = [
+pub(crate) static UPWARDS: [u8; 226] = [
     0x4f, 0x52, 0x43, 0x00, 0x00, 0x0e, 0x0a, 0x06, 0x08, 0x01, 0x10, 0x01, 0x18, 0x03, 0x12, 0x02,
     0x08, 0x00, 0x12, 0x02, 0x08, 0x00, 0x00, 0x00, 0x10, 0x0a, 0x06, 0x08, 0x01, 0x10, 0x01, 0x18,
     0x03, 0x12, 0x02, 0x08, 0x00, 0x12, 0x02, 0x08, 0x00, 0x00, 0x00, 0x12, 0x0a, 0x06, 0x08, 0x01,
@@ -78,7 +79,7 @@ const FILES: [(&[u8], &[i64]); 4] = [
 ];
 
 /// Whether the rows have these numbers.
-fn have_numbers(rows: &[Row<'_>], wanted: &[i64]) -> bool {
+pub(crate) fn have_numbers(rows: &[Row<'_>], wanted: &[i64]) -> bool {
     if rows.len() != wanted.len() {
         return false;
     }
@@ -101,7 +102,7 @@ fn rows_are_read(rt: HostRuntime) -> Result<(), FileFault> {
 }
 
 /// A file, a place, the byte put there, and what is refused of the stripe of which number.
-const CHANGES: [(&[u8], usize, u8, usize, StripeFault); 6] = [
+const CHANGES: [(&[u8], usize, u8, usize, StripeFault); 8] = [
     (&SEVENS, 13, 0x04, 0, StripeFault::BadDirectory),
     (
         &SEVENS,
@@ -116,6 +117,16 @@ const CHANGES: [(&[u8], usize, u8, usize, StripeFault); 6] = [
         0x01,
         0,
         StripeFault::Run(1, StreamKind::Data, RunFault::TooMany(0)),
+    ),
+    // a stripe's footer whose first field ends behind it
+    (&SEVENS, 7, 0x7f, 0, StripeFault::Wire(WireFault::Short(0))),
+    // and one whose first key is of no wire type
+    (
+        &UPWARDS,
+        25,
+        0x0b,
+        1,
+        StripeFault::Wire(WireFault::BadWireType(0)),
     ),
     (&UPWARDS, 32, 0x04, 1, StripeFault::BadDirectory),
     (

@@ -30,7 +30,7 @@ pub(crate) fn opened(alloc: Global, bytes: &[u8]) -> Result<Tail, FileFault>
 }
 
 /// The numbers of a statistic of whole numbers: how many, least, greatest, sum.
-fn numbers(stat: &Stat) -> Option<(u64, i64, i64, i64)> {
+pub(crate) fn numbers(stat: &Stat) -> Option<(u64, i64, i64, i64)> {
     match stat.body {
         Body::Ints {
             least: Some(least),

@@ -83,6 +83,20 @@ fn file(alloc: Global, rle: Rle, stripe_rows: u32, rows: usize) -> Result<Vec<u8
 }
 
 #[test]
+fn a_writer_has_its_schema(rt: HostRuntime) -> Result<(), FileFault> {
+    let alloc = rt.alloc();
+    let begun = match begun(alloc, Rle::One, 3, VecSink::new(alloc)) {
+        Err(_) => begun(alloc, Rle::One, 3, VecSink::new(alloc)),
+        begun => begun,
+    };
+    let Ok(writer) = begun else {
+        return Err(FileFault::OutOfMemory);
+    };
+    assert!(rt; *writer.schema() == opened(alloc, &EMPTY)?.schema);
+    Ok(())
+}
+
+#[test]
 fn files_to_the_byte(rt: HostRuntime) -> Result<(), FileFault> {
     let empty = file(rt.alloc(), Rle::One, 3, 0)?;
     assert_eq!(rt; empty.as_slice(), EMPTY.as_slice());

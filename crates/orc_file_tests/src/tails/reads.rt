@@ -3,7 +3,7 @@
 use crate::devices::fail_source::FailSource;
 use crate::devices::seen_source::SeenSource;
 use crate::vectors::{EMPTY, SEVENS};
-use orc_file::{FileFault, OrcFile, Source};
+use orc_file::{FileFault, OrcFile, Source, read_tail};
 use std::alloc::Global;
 use std::process::Abort;
 
@@ -29,14 +29,31 @@ pub(crate) fn read_seen(alloc: Global, bytes: &[u8]) -> (Option<FileFault>, Seen
     }
 }
 
+/// The ranges of `SEVENS`: both ends, the postscript, the footer, the metadata.
+static FIVE: [(u64, u64); 5] = [(0, 3), (119, 1), (100, 19), (44, 56), (22, 22)];
+
 #[test]
 fn five_ranges_are_read(rt: HostRuntime) {
     let (fault, source) = read_seen(rt.alloc(), &SEVENS);
     assert_eq!(rt; fault, None);
-    assert_eq!(rt;
-        source.ranges(),
-        [(0u64, 3u64), (119, 1), (100, 19), (44, 56), (22, 22)].as_slice()
-    );
+    assert_eq!(rt; source.ranges(), FIVE.as_slice());
+}
+
+fn lent_once(alloc: Global) -> (Result<u64, FileFault>, SeenSource<'static>) {
+    let mut source = SeenSource::new(&SEVENS);
+    let rows = read_tail(alloc, &mut source).map(|tail| tail.rows);
+    (rows, source)
+}
+
+/// The tail of a source that is lent is read in the same ranges.
+#[test]
+fn a_source_is_lent(rt: HostRuntime) {
+    let (rows, source) = match lent_once(rt.alloc()) {
+        (Err(FileFault::OutOfMemory), _) => lent_once(rt.alloc()),
+        lent => lent,
+    };
+    assert_eq!(rt; rows, Ok(3));
+    assert_eq!(rt; source.ranges(), FIVE.as_slice());
 }
 
 #[test]

@@ -1,0 +1,41 @@
+//! The statistics of a file's columns, joined of its stripes'.
+
+use crate::rows_of_files::UPWARDS;
+use crate::tails::{numbers, opened};
+use crate::vectors::{EMPTY, SEVENS, TWICE};
+use orc_file::{FileFault, file_statistics};
+use orc_stats::StatFault;
+use std::alloc::Global;
+use std::process::Abort;
+
+/// A file, and how many numbers it has, the least, the greatest and their sum.
+const FILES: [(&[u8], Option<(u64, i64, i64, i64)>); 4] = [
+    (&EMPTY, None),
+    (&SEVENS, Some((3, 7, 7, 21))),
+    (&TWICE, Some((6, 7, 7, 42))),
+    (&UPWARDS, Some((9, 7, 7, 63))),
+];
+
+/// The numbers of the second column, joined of those that the file says of its stripes.
+fn joined(alloc: Global, bytes: &[u8]) -> Result<Option<(u64, i64, i64, i64)>, FileFault> {
+    let tail = opened(alloc, bytes)?;
+    match file_statistics(alloc, &tail.schema, tail.stripe_stats.as_slice()) {
+        Ok(stats) => match stats.as_slice() {
+            [_, column] => Ok(numbers(column)),
+            _ => Err(FileFault::BadFooter),
+        },
+        Err(StatFault::OutOfMemory) => Err(FileFault::OutOfMemory),
+        Err(StatFault::CountTooLarge) => Err(FileFault::Limit),
+    }
+}
+
+#[test]
+fn statistics_are_joined(rt: HostRuntime) {
+    for (bytes, wanted) in FILES {
+        let answer = match joined(rt.alloc(), bytes) {
+            Err(FileFault::OutOfMemory) => joined(rt.alloc(), bytes),
+            answer => answer,
+        };
+        assert_eq!(rt; answer, Ok(wanted), "{} bytes", bytes.len());
+    }
+}
