@@ -1,6 +1,5 @@
-use Rattle.std.proofs.Common.{sym, subst, List}
+use Rattle.std.proofs.Common.{sym, subst}
 use Rattle.std.specs.List.{AllByRecursion}
-use Rattle.orc_stats.specs.declared.stat.Stat.{Stat}
 use Rattle.orc_file.specs.Statistics.{AreStats}
 use Rattle.orc_file_tests.proofs.ColumnKinds.{column_of_kind}
 use Rattle.orc_file_tests.proofs.statistics.joined.Goals as goal
