@@ -1,7 +1,10 @@
 -- Known bytes that grow step by step.
-use Rattle.std.proofs.Common.{◌≡◌, ℕ, ◌<◌, List, ◌++◌, length, take, sym, ap, ◌∙◌, append_assoc, Some, None, Option, Result, Ok, Err, IsErrAnd, IfErr, inr, subst}
+use Rattle.std.proofs.Common.{◌≡◌, ℕ, ◌<◌, List, ◌++◌, length, take, sym, ap, ◌∙◌, append_assoc, Some, None, Option, Result, Ok, Err, IsErrAnd, IfErr, inl, inr, subst}
 use Rattle.std.specs.Io.KnownBytes.{Appends, Keeps}
+use Rattle.orc_file.specs.declared.fault.FileFault.{FileFault}
+use Rattle.orc_file.specs.declared.fault.FileFault.TheVariants as file
 use Rattle.orc_output.specs.declared.fault.CliFault.{CliFault}
+use Rattle.orc_output.specs.declared.fault.CliFault.TheVariants.{File}
 use Rattle.orc_output.specs.Output.{AppendsPart, IsWantOfMemory, IsOutside}
 
 pub appends_more : (old mid new : Option (List ℕ)) (x y : List ℕ) → Appends old mid x → Appends mid new y → Appends old new (x ++ y)
@@ -19,6 +22,13 @@ appends_kept (Some a) (Some b) (Some c) x p q = q ∙ p
 -- part of the rest is part of the whole
 pub part_after : (old mid new : Option (List ℕ)) (at : ℕ) (bytes : List ℕ) → at < length bytes → Appends old mid (take at bytes) → Keeps mid new → AppendsPart old new bytes
 part_after old mid new at bytes lt p q = (at, lt, appends_kept old mid new (take at bytes) p q)
+
+-- want of memory, said as a fault of the layer of files, is that layer's own
+pub file_want : (why : FileFault) → IsWantOfMemory (File why) → why ≡ file.OutOfMemory
+file_want why (inl e) = cc
+file_want why (inr (inl e)) = absurd (cc)
+file_want why (inr (inr (inl e))) = absurd (cc)
+file_want why (inr (inr (inr e))) = absurd (cc)
 
 -- the exit of a `?` on a want of memory
 pub outside_from : (r : Result (Unit {0}) CliFault) (fault : CliFault) → IsWantOfMemory fault → IsErrAnd r (λ y. y ≡ fault) → IfErr r IsOutside

@@ -94,6 +94,7 @@ fn print_stripe<S: Source, W: Write>(
     ensures refused { IfErr result (λ fault. IfSome (S.told file.old.source) (λ all.
         EndsAt file.old.tail.schema all number (stripe_at file.old.tail.stripes number) [] (W.contents out.old) (W.contents out.new) fault)) }
     ensures failed { result ≡ Err (File SourceFailed) → S.failures file.old.source < S.failures file.new.source }
+    ensures memory { IfErr result (λ fault. IsWantOfMemory fault → S.failures file.new.source ≡ S.failures file.old.source) }
 {
     file.load(number, bytes)?;
     let lines = stripe_lines(alloc, file, number, bytes)?;
@@ -110,10 +111,12 @@ fn print_rows<S: Source, W: Write>(
     ensures written { OnOk result (IfSome (S.told file.old.source) (λ all. (lines : List ℕ)
         × AreOfStripes file.old.tail.schema all file.old.tail.stripes lines
         × Appends (W.contents out.old) (W.contents out.new) lines)) }
+    ensures kept { OnOk result (S.failures file.new.source ≡ S.failures file.old.source) }
 
     ensures refused { IfErr result (λ fault. IfSome (S.told file.old.source) (λ all.
         EndsIn all file.old.tail (W.contents out.old) (W.contents out.new) fault)) }
     ensures failed { result ≡ Err (File SourceFailed) → S.failures file.old.source < S.failures file.new.source }
+    ensures memory { IfErr result (λ fault. IsWantOfMemory fault → S.failures file.new.source ≡ S.failures file.old.source) }
 {
     let mut bytes = Vec::new(alloc);
     for number in 0..file.tail().stripes.as_slice().len() {
@@ -140,9 +143,11 @@ pub fn rows_to<S: Source, W: Write>(
     ensures only { IfSome (S.told source) (λ bytes. (tail : Tail) (rows : List Cell) → FileIs bytes tail rows → HaveJson tail.schema rows
         → IfErr result (λ e. IsOutsideFile e.0)) }
     ensures same { IfOk result (λ back. S.told back ≡ S.told source) }
+    ensures kept { IfOk result (λ back. S.failures back ≡ S.failures source) }
 
     ensures refused { IfErr result (λ e. IfSome (S.told source) (λ bytes. RefusesRows bytes (W.contents out.old) (W.contents out.new) e.0)) }
     ensures failed { IfErr result (λ e. e.0 ≡ File SourceFailed → S.failures source < S.failures e.1) }
+    ensures memory { IfErr result (λ e. IsWantOfMemory e.0 → S.failures e.1 ≡ S.failures source) }
     ensures back { IfErr result (λ e. S.told e.1 ≡ S.told source) }
 {
     match OrcFile::open(alloc, source) {

@@ -14,6 +14,11 @@ returns-in_err-print_stripe-clause-refused g c =
     let ends = c.in_err-print_stripe.ensures.refused in
     rw (p.1, p.2) (ends_in told c.args.file.now.tail c.loop-number.number _ (g.W.Write.contents c.loop-number.out) _ c.in_err-print_stripe.field-0.0 (rw (length, tail) at lt) inv.printed (rw (inv.told, inv.tail) at ends))
 
+pub returns-in_err-print_stripe-clause-memory : goal.returns-in_err-print_stripe-clause-memory
+returns-in_err-print_stripe-clause-memory g c =
+    let p = err_from_is_err_and c.from_residual.result c.from_residual.ensures.1 in
+    rw (p.1, p.2) (λ want. c.in_err-print_stripe.ensures.memory want ∙ c.loop-number.invariant.kept)
+
 pub loop-number-preserved : goal.loop-number-preserved
 loop-number-preserved g c =
     let told = g.S.Source.told c.args.file.now.source in

@@ -1,4 +1,5 @@
 use Rattle.orc_output.specs.declared.fault.CliFault.TheVariants.{File}
+use Rattle.orc_output.proofs.OutputLemmas.{file_want}
 use Rattle.orc_rows.proofs.RowsLemmas.{refused_file, refused_open, refused_only}
 use Rattle.orc_rows.proofs.rows.rows_to.Goals as goal
 
@@ -19,3 +20,6 @@ returns-in-Err-clause-only g c =
 
 pub returns-in-Err-clause-refused : goal.returns-in-Err-clause-refused
 returns-in-Err-clause-refused g c = refused_open (g.S.Source.told c.args.source) (g.W.Write.contents c.args.out.now) c.in-Err.fault c.in-Err.ensures.fault
+
+pub returns-in-Err-clause-memory : goal.returns-in-Err-clause-memory
+returns-in-Err-clause-memory g c = λ want. c.in-Err.ensures.memory (file_want c.in-Err.fault want)
