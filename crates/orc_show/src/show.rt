@@ -276,12 +276,14 @@ pub fn show_to<S: Source, W: Write>(
         × Appends (W.contents out.old) (W.contents out.new) (spec.show_lines tail))) }
     ensures only { IfSome (S.told source) (λ bytes. (tail : Tail) → IsTail bytes tail → IfErr result (λ e. IsOutsideFile e.0)) }
     ensures same { IfOk result (λ back. S.told back ≡ S.told source) }
+    ensures kept { IfOk result (λ back. S.failures back ≡ S.failures source) }
 
     ensures refused { IfErr result (λ e. IfSome (S.told source) (λ bytes. e.0 ≢ write_failed → IsNotOpened bytes e.0)) }
     ensures nothing { IfErr result (λ e. e.0 ≢ write_failed → Keeps (W.contents out.old) (W.contents out.new)) }
     ensures part { IfErr result (λ e. e.0 ≡ write_failed → IfSome (S.told source) (λ bytes. (tail : Tail) × IsTail bytes tail
         × AppendsPart (W.contents out.old) (W.contents out.new) (spec.show_lines tail))) }
     ensures failed { IfErr result (λ e. e.0 ≡ File SourceFailed → S.failures source < S.failures e.1) }
+    ensures memory { IfErr result (λ e. IsWantOfMemory e.0 → S.failures e.1 ≡ S.failures source) }
     ensures back { IfErr result (λ e. S.told e.1 ≡ S.told source) }
 {
     match OrcFile::open(alloc, source) {

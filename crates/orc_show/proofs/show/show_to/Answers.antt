@@ -3,6 +3,7 @@ use Rattle.orc_file.specs.declared.tail.Tail.{Tail}
 use Rattle.std.specs.Io.KnownBytes.{Appends}
 use Rattle.orc_file.specs.Tails.{IsTail}
 use Rattle.orc_output.specs.Output.{AppendsPart}
+use Rattle.orc_output.proofs.OutputLemmas.{file_want}
 use Rattle.orc_show.specs.Show.{show_lines}
 use Rattle.orc_show.proofs.ShowLemmas.{of_tail, part_of, outside_open, no_output}
 use Rattle.orc_show.proofs.show.show_to.Goals as goal
@@ -32,3 +33,6 @@ pub returns-in-Err-clause-part : goal.returns-in-Err-clause-part
 returns-in-Err-clause-part g c = λ failed.
     let known = g.W.Write.contents c.args.out.now in
     no_output (g.S.Source.told c.args.source) c.in-Err.fault (λ (bytes : List ℕ). (tail : Tail) × IsTail bytes tail × AppendsPart known known (show_lines tail)) c.in-Err.ensures.fault failed
+
+pub returns-in-Err-clause-memory : goal.returns-in-Err-clause-memory
+returns-in-Err-clause-memory g c = λ want. c.in-Err.ensures.memory (file_want c.in-Err.fault want)
