@@ -3,6 +3,7 @@ mod devices;
 mod files;
 mod outcomes;
 mod statistics;
+mod steps;
 mod stripes;
 
 use orc_file::{SliceSource, VecSink};
