@@ -79,7 +79,7 @@ value_again s line why row value h read (inr fault) =
 -- it is refused for want of memory only
 read_again : (s : Shape) (line : List ℕ) (why : JsonFault) (row : Cell) → LineSpells s line row → LineFault s line why → IsOfWriter (Json why)
 read_again s line why row h (inl bad) = let none = bad.1 h.utf8 in let some = h.read in absurd (cc)
-read_again s line why row h (inr bad) = value_again s line why row bad.0 h bad.1 bad.2
+read_again s line why row h (inr bad) = value_again s line why row bad.0 h bad.2 bad.3
 
 line_outside : (s : Shape) (line : List ℕ) (fault : CliFault) (own : List Cell) (row : Cell) → LineSpells s line row → EndsAtLine s line fault own → IsOfWriter fault
 line_outside s line fault own row h (inl bad) = subst (λ (f : CliFault). IsOfWriter f) (sym bad.1.1) (read_again s line bad.1.0 row h bad.1.2)

@@ -31,9 +31,10 @@ IsNoJson line = IsUtf8 line → read_text line ≡ None
 abbrev pub ValueFault : Shape → Data → JsonFault → Type 0
 ValueFault s value why = ((why ≡ json.DuplicateField) × (is_distinct s ≡ false)) ⊎ Somewhere (FaultAt why) s value
 
--- why a line spells no row
+-- why a line spells no row: it is no text of JSON, or it is one, of a value that spells none
 abbrev pub LineFault : Shape → List ℕ → JsonFault → Type 0
-LineFault s line why = ((why ≡ json.Syntax) × IsNoJson line) ⊎ ((value : Data) × (read_text line ≡ Some value) × ValueFault s value why)
+LineFault s line why =
+    ((why ≡ json.Syntax) × IsNoJson line) ⊎ ((value : Data) × IsUtf8 line × (read_text line ≡ Some value) × ValueFault s value why)
 
 -- the refusals of a writer whose rows fit its schema
 abbrev pub IsOfWriter : CliFault → Type 0

@@ -8,7 +8,7 @@ ghost use Rattle.orc_types.specs.SchemaText.{HasText};
 ghost use Rattle.orc_types.specs.declared.json_fault.JsonFault.TheVariants as json;
 ghost use Rattle.orc_file.specs.Writing.{HasPushed, IsWhole, IsCutOff};
 ghost use Rattle.orc_lines.specs.Lines.{IsLine, LineSpells, LineSpellsRows, AreRowsOf};
-ghost use Rattle.orc_output.specs.Output.{write_failed};
+ghost use Rattle.orc_output.specs.Output.{IsWantOfMemory, write_failed};
 ghost use Rattle.orc_lines.specs.Writes.{LineFault, IsOfWriter, EndsAtLine, EndsInLines, LimitStands, OpenAtLine, RefusesWrite};
 
 use orc_file::{Sink, Tail, Writer};
@@ -65,6 +65,7 @@ fn push_line<W: Sink>(alloc: Global, line: &[u8], writer: &mut Writer<W>) -> Res
         × IsCutOff writer.old.options.rle writer.old.options.stripe_rows writer.old.schema first (W.told writer.new.out) (rows ++ own)
         × OpenAtLine writer.old.options.rle writer.old.options.stripe_rows writer.old.schema first (W.told writer.new.out) fault (rows ++ own))) }
     ensures write_failed { IfErr result (λ fault. fault ≡ write_failed → W.failures writer.old.out < W.failures writer.new.out) }
+    ensures memory { IfErr result (λ fault. IsWantOfMemory fault → W.failures writer.new.out ≡ W.failures writer.old.out) }
 {
     if line.is_empty() {
         return Ok(());
@@ -93,6 +94,7 @@ fn push_lines<W: Sink>(alloc: Global, input: &[u8], writer: &mut Writer<W>) -> R
         × IsCutOff writer.old.options.rle writer.old.options.stripe_rows writer.old.schema first (W.told writer.new.out) (rows ++ own)
         × OpenAtLine writer.old.options.rle writer.old.options.stripe_rows writer.old.schema first (W.told writer.new.out) fault (rows ++ own))) }
     ensures write_failed { IfErr result (λ fault. fault ≡ write_failed → W.failures writer.old.out < W.failures writer.new.out) }
+    ensures memory { IfErr result (λ fault. IsWantOfMemory fault → W.failures writer.new.out ≡ W.failures writer.old.out) }
 {
     let mut at = 0;
     while at < input.len() {
@@ -132,6 +134,7 @@ pub fn write_from<W: Sink>(
     ensures refused { 0 < options.stripe_rows
         → IfErr result (λ e. RefusesWrite options.rle options.stripe_rows schema.now input.now (W.told out) (W.told e.1) e.0) }
     ensures failed { IfErr result (λ e. e.0 ≡ write_failed → W.failures out < W.failures e.1) }
+    ensures memory { IfErr result (λ e. IsWantOfMemory e.0 → W.failures e.1 ≡ W.failures out) }
 {
     let schema = match Schema::parse(alloc, schema) {
         Ok(schema) => schema,

@@ -7,6 +7,7 @@ use Rattle.std.proofs.lemmas.List.{length-map}
 use Rattle.orc_file.specs.Counts.{PassesLimit}
 use Rattle.orc_file.specs.Writing.{PassesBytes}
 use Rattle.orc_file.specs.declared.fault.FileFault.TheVariants as file
+use Rattle.orc_output.proofs.OutputLemmas.{file_want}
 use Rattle.orc_lines.proofs.LimitLemmas.{row_passes}
 use Rattle.orc_lines.proofs.WriteLemmas.{none_spelled, some_spelled, some_line, either, ends_unread, of_writer, stands_open}
 use Rattle.orc_lines.proofs.write.push_line.Goals as goal
@@ -64,3 +65,8 @@ returns-in_err-push-clause-refused g c = λ ready.
         λ why q. cc,
       ),
     )
+
+pub returns-in_err-push-clause-memory : goal.returns-in_err-push-clause-memory
+returns-in_err-push-clause-memory g c =
+    let p = err_from_is_err_and c.from_residual-in_err-push.result c.from_residual-in_err-push.ensures.1 in
+    rw (p.1, p.2) (λ want. c.in_err-push.ensures.memory (ap Err (file_want c.in_err-push.field-0.0 want)))

@@ -96,3 +96,8 @@ returns-in_err-push_line-clause-refused g c = λ ready.
           let stands = e.3 first (rows ++ inv.pushed.0) (rw (inv.schema, inv.options) (inv.pushed.2 first rows h)) in
           rw (← append_assoc rows inv.pushed.0 e.0) (rw (inv.schema, inv.options) at stands),
     )
+
+pub returns-in_err-push_line-clause-memory : goal.returns-in_err-push_line-clause-memory
+returns-in_err-push_line-clause-memory g c =
+    let p = err_from_is_err_and c.from_residual.result c.from_residual.ensures.1 in
+    rw (p.1, p.2) (λ want. c.in_err-push_line.ensures.memory want ∙ c.loop-at.invariant.kept)

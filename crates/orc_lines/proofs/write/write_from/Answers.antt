@@ -6,6 +6,7 @@ use Rattle.orc_file.specs.declared.fault.FileFault.TheVariants as file
 use Rattle.orc_lines.specs.Lines.{AreRowsOf}
 use Rattle.orc_lines.specs.Writes.{EndsInLines, LimitStands}
 use Rattle.orc_output.specs.declared.fault.CliFault.TheVariants.{File}
+use Rattle.orc_output.proofs.OutputLemmas.{file_want}
 use Rattle.orc_lines.proofs.LimitLemmas.{rest_passes}
 use Rattle.orc_lines.proofs.WriteLemmas.{of_begin, of_finish, not_limit}
 use Rattle.orc_lines.proofs.WriteLaws.{only_outside}
@@ -67,3 +68,14 @@ returns-in-Err-new-clause-refused g c = λ few.
     let why = c.in-Err-new.fault in
     let e = c.in-Err-new.ensures in
     inr (c.in-Ok.schema, [], c.in-Ok.ensures.found, inr (inl (refl, of_begin why e.refused)), (λ q. not_limit why e.refused q), e.cut, λ j q. cc)
+
+pub returns-in-Err-push_lines-clause-memory : goal.returns-in-Err-push_lines-clause-memory
+returns-in-Err-push_lines-clause-memory g c = λ want.
+    rw c.into_out.ensures (c.in-Err-push_lines.ensures.memory want ∙ c.in-Ok-new.ensures.no_failure)
+
+pub returns-in-Err-finish-clause-memory : goal.returns-in-Err-finish-clause-memory
+returns-in-Err-finish-clause-memory g c = λ want.
+    c.in-Err-finish.ensures.memory (file_want c.in-Err-finish.fault want) ∙ c.in_default.ensures.no_failure ∙ c.in-Ok-new.ensures.no_failure
+
+pub returns-in-Err-new-clause-memory : goal.returns-in-Err-new-clause-memory
+returns-in-Err-new-clause-memory g c = λ want. c.in-Err-new.ensures.memory (file_want c.in-Err-new.fault want)
