@@ -24,8 +24,8 @@ returns-in-Ok-clause-met c =
     let found = rw c.split_at.ensures.back at c.in-Ok.ensures.found in
     met_pass (is_run r.version r.sign) (no_run r.version r.sign) (laws_of r.version r.sign) (drop r.used r.run.values) c.next_run.new.run.values r.bytes.now r.start r.at c.in-Ok.field-0 (length r.bytes.now) (past_end r.used r.run.values used) found
 
-pub returns-in-Err-clause-met : goal.returns-in-Err-clause-met
-returns-in-Err-clause-met c =
+pub returns-clause-met : goal.returns-clause-met
+returns-clause-met c =
     let r = c.args.numbers.now in
     let used : length r.run.values ≤ r.used = omega (arith, c.if-numbers-values.false, ap length c.values.ensures.values) in
     let there = bytes_more (is_run r.version r.sign) r.run.values r.used r.bytes.now r.at used c.requires.more in
