@@ -70,7 +70,10 @@ fn push_line<W: Sink>(alloc: Global, line: &[u8], writer: &mut Writer<W>) -> Res
     if line.is_empty() {
         return Ok(());
     }
-    let row = row_of_line(alloc, writer.schema(), line)?;
+    let schema = writer.schema();
+    // for its contract alone: the types are those of a schema
+    let _types = schema.types();
+    let row = row_of_line(alloc, schema, line)?;
     writer.push(&row)?;
     Ok(())
 }

@@ -2,6 +2,7 @@ use Rattle.std.proofs.Common.{◌≡◌, ◌⊎◌, [], ◌∷◌, ◌++◌, len
 use Rattle.std.proofs.lemmas.Result.{err_from_is_err_and}
 use Rattle.orc_file.proofs.WriterLemmas.{cut_kept, cut_row, within_of}
 use Rattle.std.proofs.lemmas.Bool.{eqb-true}
+use Rattle.orc_types.specs.Schemas.{IsSchema}
 use Rattle.orc_types.specs.Views.{view, views}
 use Rattle.std.proofs.lemmas.List.{length-map}
 use Rattle.orc_file.specs.Counts.{PassesLimit}
@@ -19,21 +20,22 @@ returns-then-is_empty-clause-pushed g c =
 
 pub returns-clause-pushed : goal.returns-clause-pushed
 returns-clause-pushed g c =
-    let spells = rw c.schema.ensures at c.in_ok-row.ensures.found in
+    let spells = rw c.schema-schema.ensures at c.in_ok-row.ensures.found in
     (view c.in_ok-row.row ∷ [], some_spelled c.args.writer.now.schema c.args.line.now (view c.in_ok-row.row) (sym c.is_empty.ensures ∙ c.if-is_empty.false) spells, c.in_ok-push.ensures.pushed)
 
 pub returns-in_err-row-clause-refused : goal.returns-in_err-row-clause-refused
 returns-in_err-row-clause-refused g c = λ ready.
     let p = err_from_is_err_and c.from_residual.result c.from_residual.ensures.1 in
     let w = c.args.writer.now in
-    let fault = rw c.schema.ensures at c.in_err-row.ensures.fault in
+    let fault = rw c.schema-schema.ensures at c.in_err-row.ensures.fault in
+    let schema : IsSchema w.schema = rw c.schema-schema.ensures at c.types-types.ensures.schema in
     rw (p.1, p.2) (
       [],
       some_line c.args.line.now (sym c.is_empty.ensures ∙ c.if-is_empty.false),
       ends_unread w.schema c.args.line.now c.in_err-row.field-0.0 fault,
       λ first rows h. let few = h.1 in (
         (λ q. cc),
-        rw (append-nil rows) (cut_kept w.options.rle w.options.stripe_rows w.schema first _ w.written w.infos.items w.stats.items (views w.rows.items) rows (omega (arith, few)) (within_of w.infos.items w.total _ w.stripes w.total_is w.few_rows w.bytes) h.0),
+        rw (append-nil rows) (cut_kept w.options.rle w.options.stripe_rows w.schema first _ w.written w.infos.items w.stats.items (views w.rows.items) rows (omega (arith, few)) (within_of w.infos.items w.total _ w.stripes w.total_is w.few_rows w.bytes) schema h.0),
         λ why q. rw (append-nil rows) (stands_open w.options.rle w.options.stripe_rows w.schema first _ w.written w.infos.items w.stats.items (views w.rows.items) rows h),
       ),
     )
@@ -45,9 +47,10 @@ returns-in_err-push-clause-refused g c = λ ready.
     let n = c.push.new.self in
     let e = c.in_err-push.ensures in
     let row = view c.in_ok-row.row in
-    let spells = rw c.schema.ensures at c.in_ok-row.ensures.found in
-    let fits = rw c.schema.ensures at c.in_ok-row.ensures.fits in
+    let spells = rw c.schema-schema.ensures at c.in_ok-row.ensures.found in
+    let fits = rw c.schema-schema.ensures at c.in_ok-row.ensures.fits in
     let some = sym c.is_empty.ensures ∙ c.if-is_empty.false in
+    let schema : IsSchema w.schema = rw c.schema-schema.ensures at c.types-types.ensures.schema in
     let limit : c.in_err-push.field-0.0 ≡ file.Limit → PassesLimit w.schema w.infos.items w.total w.counts.items row ⊎ PassesBytes w.options.rle w.schema w.infos.items
     (views w.rows.items ++ row ∷ [])
     = λ q. elim (either n.failed) [ inl has ↦ inr (e.long (ap Err q) has) | inr none ↦ inl (e.only_limit (ap Err q) none) ] in
@@ -60,7 +63,7 @@ returns-in_err-push-clause-refused g c = λ ready.
             row w.total _ w.counts.items w.total_is (length-map w.rows.items view) w.wide w.counted (limit (let same : c.in_err-push.field-0.0 ≡ file.Limit = cc in same))),
         elim (either n.failed) [
           | inl has ↦ e.cut first rows h ready has
-          | inr none ↦ rw ((e.unchanged (none ∙ sym ready)).0) (cut_row w.options.rle w.options.stripe_rows w.schema first _ w.written w.infos.items w.stats.items (views w.rows.items) rows row (omega (arith, few)) (within_of w.infos.items w.total _ w.stripes w.total_is w.few_rows w.bytes) h.0)
+          | inr none ↦ rw ((e.unchanged (none ∙ sym ready)).0) (cut_row w.options.rle w.options.stripe_rows w.schema first _ w.written w.infos.items w.stats.items (views w.rows.items) rows row (omega (arith, few)) (within_of w.infos.items w.total _ w.stripes w.total_is w.few_rows w.bytes) schema h.0)
         ],
         λ why q. cc,
       ),
