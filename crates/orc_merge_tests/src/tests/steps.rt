@@ -7,14 +7,22 @@ use std::alloc::Global;
 use std::process::Abort;
 
 /// What merging two lists of files writes, and then the two that this gave.
-fn in_steps(alloc: Global, left: &[&[u8]], right: &[&[u8]]) -> Result<Vec<u8>, MergeFault> {
+fn in_steps<'a>(
+    alloc: Global,
+    left: &[&'a [u8]],
+    right: &[&'a [u8]],
+) -> Result<Vec<u8>, MergeFault> {
     match in_steps_once(alloc, left, right) {
         Err(MergeFault::OutOfMemory | MergeFault::WriteFailed) => in_steps_once(alloc, left, right),
         done => done,
     }
 }
 
-fn in_steps_once(alloc: Global, left: &[&[u8]], right: &[&[u8]]) -> Result<Vec<u8>, MergeFault> {
+fn in_steps_once<'a>(
+    alloc: Global,
+    left: &[&'a [u8]],
+    right: &[&'a [u8]],
+) -> Result<Vec<u8>, MergeFault> {
     let mut lefts = sources(alloc, left)?;
     let mut rights = sources(alloc, right)?;
     let mut out = VecSink::new(alloc);
