@@ -21,7 +21,7 @@ fn check_version_one(rt: &impl Abort, alloc: Global) -> Result<(), RunFault> {
     let mut wanted = 0i64;
     for value in &values {
         assert_eq!(rt; *value, wanted);
-        wanted = (wanted + 1) % 130;
+        wanted = wanted.saturating_add(1) % 130;
     }
     Ok(())
 }
@@ -34,7 +34,7 @@ fn check_version_two(rt: &impl Abort, alloc: Global) -> Result<(), RunFault> {
     let mut wanted = 0i64;
     for value in &values {
         assert_eq!(rt; *value, wanted);
-        wanted = (wanted + 1) % 512;
+        wanted = wanted.saturating_add(1) % 512;
     }
     Ok(())
 }
@@ -44,7 +44,7 @@ fn check_bytes(rt: &impl Abort, alloc: Global) -> Result<(), RunFault> {
     let bytes = repeated(alloc, &[0x7f, 0x2a, 0xfe, 0x01, 0x02], 20)?;
     let values = ByteRuns::decode(alloc, &bytes, 2_640)?;
     assert_eq!(rt; values.len(), 2_640);
-    let mut place = 0;
+    let mut place = 0u32;
     for value in &values {
         let wanted = match place {
             130 => 1,
@@ -52,7 +52,7 @@ fn check_bytes(rt: &impl Abort, alloc: Global) -> Result<(), RunFault> {
             _ => 42,
         };
         assert_eq!(rt; *value, wanted);
-        place = (place + 1) % 132;
+        place = place.saturating_add(1) % 132;
     }
     Ok(())
 }
@@ -62,10 +62,10 @@ fn check_booleans(rt: &impl Abort, alloc: Global) -> Result<(), RunFault> {
     let bytes = repeated(alloc, &[0x7f, 0xff, 0x7f, 0x00], 3)?;
     let values = BitRuns::decode(alloc, &bytes, 6_240)?;
     assert_eq!(rt; values.len(), 6_240);
-    let mut place = 0;
+    let mut place = 0u32;
     for value in &values {
         assert_eq!(rt; *value, place < 1_040);
-        place = (place + 1) % 2_080;
+        place = place.saturating_add(1) % 2_080;
     }
     Ok(())
 }

@@ -24,9 +24,12 @@ fn is_borrowed(row: &Row<'_>) -> bool {
     let Some(Value::Struct(cells)) = row else {
         return false;
     };
-    match cells.as_slice() {
-        [Some(Value::Text(CowStr::Borrowed(text)))] => *text == "a",
-        [Some(Value::Bytes(CowSlice::Borrowed(bytes)))] => *bytes == b"a".as_slice(),
+    let [cell] = cells.as_slice() else {
+        return false;
+    };
+    match cell {
+        Some(Value::Text(CowStr::Borrowed(text))) => *text == "a",
+        Some(Value::Bytes(CowSlice::Borrowed(bytes))) => *bytes == b"a".as_slice(),
         _ => false,
     }
 }
