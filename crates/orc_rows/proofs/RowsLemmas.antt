@@ -1,5 +1,5 @@
 -- Rows as lines, stripe by stripe: what the first stripes have printed, and why the next one stops it.
-use Rattle.std.proofs.Common.{◌≡◌, ℕ, zero, suc, ◌+◌, ◌<◌, List, [], ◌∷◌, ◌++◌, length, take, refl, sym, ap, ◌∙◌, subst, arith, append-nil, Option, Some, None, inl, inr}
+use Rattle.std.proofs.Common.{◌≡◌, ◌≢◌, ◌⊎◌, ℕ, zero, suc, ◌+◌, ◌<◌, List, [], ◌∷◌, ◌++◌, length, take, refl, sym, ap, ◌∙◌, subst, arith, append-nil, Option, Some, None, inl, inr}
 use Rattle.std.specs.Option.{IfSome}
 use Rattle.std.specs.Io.KnownBytes.{Appends, Keeps}
 use Rattle.std.proofs.lemmas.List.{take_more}
@@ -9,17 +9,21 @@ use Rattle.orc_wire.specs.declared.stripe_info.StripeInfo.{StripeInfo}
 use Rattle.orc_types.specs.Cells.{Cell}
 use Rattle.orc_types.specs.Shapes.{Shape}
 use Rattle.orc_stripe.specs.Stripe.{IsStripe}
+use Rattle.orc_stripe.specs.declared.fault.StripeFault.{StripeFault}
+use Rattle.orc_stripe.specs.declared.fault.StripeFault.TheVariants as stripe
 use Rattle.orc_stripe.proofs.OneStripe.{one_stripe}
 use Rattle.orc_file.specs.Stripes.{stripe_at}
 use Rattle.orc_file.specs.Tails.{IsTail, OpenFault, ReadFault, tail_tests}
 use Rattle.orc_file.specs.declared.fault.FileFault.{FileFault}
-use Rattle.orc_file.specs.FileRows.{stripe_bytes, joined, HasRows, FileIs, AreOfStripes as RowsOfStripes}
+use Rattle.orc_file.specs.declared.fault.FileFault.TheVariants.{Stripe}
+use Rattle.orc_types.specs.declared.json_fault.JsonFault.TheVariants as json
+use Rattle.orc_file.specs.FileRows.{stripe_bytes, joined, HasRows, IsNoStripe, FileIs, AreOfStripes as RowsOfStripes}
 use Rattle.orc_file.specs.declared.tail.Tail.{Tail}
-use Rattle.orc_output.specs.Output.{IsOutsideFile}
+use Rattle.orc_output.specs.Output.{IsOutsideFile, IsWantOfMemory}
 use Rattle.orc_output.proofs.OutputLemmas.{appends_more}
-use Rattle.orc_rows.specs.Rows.{row_line, row_lines, HaveJson, AreOfStripe, AreOfStripes, StripeStops, EndsAt, EndsIn, RefusesRows}
+use Rattle.orc_rows.specs.Rows.{row_line, row_lines, HaveJson, AreOfStripe, AreOfStripes, HasNoJson, StripeStops, EndsAt, EndsIn, RefusesRows}
 use Rattle.orc_output.specs.declared.fault.CliFault.{CliFault}
-use Rattle.orc_output.specs.declared.fault.CliFault.TheVariants.{File}
+use Rattle.orc_output.specs.declared.fault.CliFault.TheVariants.{File, Json}
 
 -- ---- stripes, one more at a time
 
@@ -101,6 +105,19 @@ ends_in (Some all) tail n old mid new fault lt p h = record {
   before = p.1;
   ends = ends_behind tail.schema all n (stripe_at tail.stripes n) p.0 old mid new fault p.2 h;
 }
+
+-- printing ends at a stripe whose bytes are at hand and have no lines, with nothing of it out
+pub lines_refused : (told : Option (List ℕ)) (s : Shape) (n : ℕ) (info : StripeInfo) (bytes : List ℕ) (known : Option (List ℕ)) (fault : CliFault)
+    → IfSome told (λ all. bytes ≡ stripe_bytes info all)
+    → IsWantOfMemory fault ⊎ (((why : StripeFault) × (fault ≡ File (Stripe n why)) × (why ≢ stripe.OutOfMemory) × IsNoStripe s info bytes why)
+    ⊎ ((fault ≡ Json json.DuplicateField) × HasNoJson s info bytes))
+    → IfSome told (λ all. EndsAt s all n info [] known known fault)
+lines_refused None s n info bytes known fault is h = tt
+lines_refused (Some all) s n info bytes known fault is (inl memory) = inl (inr (inr memory), appends_none known)
+lines_refused (Some all) s n info bytes known fault is (inr (inl h)) =
+    inl (inl (inl (Stripe n h.0, h.1, (h.0, refl, h.2, subst (λ (b : List ℕ). IsNoStripe s info b h.0) is h.3))), appends_none known)
+lines_refused (Some all) s n info bytes known fault is (inr (inr h)) =
+    inl (inl (inr (h.0, subst (λ (b : List ℕ). HasNoJson s info b) is h.1)), appends_none known)
 
 -- ---- a file
 
