@@ -8,8 +8,8 @@ use Rattle.orc_wire.specs.declared.stripe_info.StripeInfo.{StripeInfo}
 use Rattle.orc_types.specs.Shapes.{Shape, width}
 use Rattle.orc_types.specs.Cells.{Cell}
 use Rattle.orc_stats.specs.declared.stat.Stat.{Stat}
-use Rattle.orc_stripe.specs.WrittenStripe.{IsWrittenStripe, HaveStats, column_stat}
-use Rattle.orc_stripe.proofs.OneWritten.{one_stripe}
+use Rattle.orc_written.specs.WrittenStripe.{IsWrittenStripe, HaveStats, column_stat}
+use Rattle.orc_written.proofs.OneWritten.{one_stripe}
 use Rattle.orc_file.specs.Layout.{magic}
 use Rattle.orc_file.specs.Images.{tail_text}
 use Rattle.orc_file.specs.Writing.{Closed, IsClosed, AreClosed, bytes_of, rows_of, infos_of, stats_of, AreFilled, written_tail, IsWrittenFile}

@@ -15,7 +15,7 @@ use Rattle.orc_stats.specs.Statistics.{stat, values_body}
 use Rattle.orc_stats.specs.Messages.{message_of}
 use Rattle.orc_stats.specs.Whole.{keeps_sum}
 use Rattle.orc_stats.specs.Joining as joining
-use Rattle.orc_stripe.specs.WrittenStripe.{column_stat}
+use Rattle.orc_written.specs.WrittenStripe.{column_stat}
 use Rattle.orc_file.specs.Layout.{magic}
 use Rattle.orc_file.specs.Stripes.{stripes_length, most_stripes}
 use Rattle.orc_file.specs.Statistics.{kind_at, stripe_message}

@@ -15,8 +15,8 @@ use Rattle.orc_types.specs.Fits.{fits, all_fit, RowsFit}
 use Rattle.orc_types.specs.Views.{views}
 use Rattle.orc_types.specs.declared.value.Value.{Value}
 use Rattle.orc_stats.specs.declared.stat.Stat.{Stat}
-use Rattle.orc_stripe.specs.Stripe.{IsStripe}
-use Rattle.orc_stripe.specs.WrittenStripe.{AreFew}
+use Rattle.orc_columns.specs.Stripe.{IsStripe}
+use Rattle.orc_written.specs.WrittenStripe.{AreFew}
 use Rattle.orc_devices.specs.Devices.{appended}
 use Rattle.orc_file.specs.Layout.{magic}
 use Rattle.orc_file.specs.Stripes.{stripe_length, stripe_end, stripes_length, stripes_rows, IsLaid, most_stripes, most_stripe_rows, most_rows, most_bytes}

@@ -19,8 +19,8 @@ use Rattle.orc_stats.specs.Messages.{message_of}
 use Rattle.orc_stats.specs.Whole.{keeps_sum}
 use Rattle.orc_stats.specs.Joining as joining
 use Rattle.orc_stats.proofs.Parts.{joined-parts}
-use Rattle.orc_stripe.specs.Stripe.{IsStripe}
-use Rattle.orc_stripe.specs.WrittenStripe.{AreFew, column_stat}
+use Rattle.orc_columns.specs.Stripe.{IsStripe}
+use Rattle.orc_written.specs.WrittenStripe.{AreFew, column_stat}
 use Rattle.orc_file.specs.Layout.{magic}
 use Rattle.orc_file.specs.Stripes.{stripe_length, stripe_end, stripes_length, most_stripes}
 use Rattle.orc_file.specs.Statistics.{kind_at}

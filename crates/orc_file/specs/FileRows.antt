@@ -6,11 +6,11 @@ use Rattle.orc_wire.specs.declared.stripe_info.StripeInfo.{StripeInfo}
 use Rattle.orc_wire.specs.declared.stripe_footer.StripeFooter.{StripeFooter}
 use Rattle.orc_types.specs.Cells.{Cell}
 use Rattle.orc_types.specs.Shapes.{Shape}
-use Rattle.orc_stripe.specs.Stripe.{HasFooter, IsStripe, columns_of}
+use Rattle.orc_columns.specs.Stripe.{HasFooter, IsStripe, columns_of}
 use Rattle.orc_stripe.specs.Opening.{OpenFault}
-use Rattle.orc_stripe.specs.Faults.{RowsFault}
-use Rattle.orc_stripe.specs.declared.fault.StripeFault.{StripeFault}
-use Rattle.orc_stripe.specs.declared.fault.StripeFault.TheVariants as stripe
+use Rattle.orc_columns.specs.Faults.{RowsFault}
+use Rattle.orc_columns.specs.declared.fault.StripeFault.{StripeFault}
+use Rattle.orc_columns.specs.declared.fault.StripeFault.TheVariants as stripe
 use Rattle.orc_devices.specs.Devices.{bytes_at}
 use Rattle.orc_file.specs.Stripes.{stripe_length}
 use Rattle.orc_file.specs.Tails.{IsTail}

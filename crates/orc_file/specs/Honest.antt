@@ -8,7 +8,7 @@ use Rattle.orc_types.specs.Columns.{cells}
 use Rattle.orc_stats.specs.declared.stat.Stat.{Stat}
 use Rattle.orc_stats.specs.Statistics.{stat}
 use Rattle.orc_stats.specs.Whole.{keeps_sum, without_sum, whole}
-use Rattle.orc_stripe.specs.WrittenStripe.{HaveStats}
+use Rattle.orc_written.specs.WrittenStripe.{HaveStats}
 use Rattle.orc_file.specs.Statistics.{kind_at}
 use Rattle.orc_file.specs.FileRows.{cut_rows}
 use Rattle.orc_file.specs.declared.tail.Tail.{Tail}

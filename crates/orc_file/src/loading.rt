@@ -1,10 +1,10 @@
 //! A stripe's bytes, read in one call, and the view of them.
 ghost use Rattle.std.specs.Prelude.{◌≡◌, ◌≢◌, ◌<◌, ◌^◌, ◌⊎◌, length, OnOk, IfOk, IfErr, IfSome, IsErrOf, MatchResult};
 ghost use Rattle.orc_wire.specs.declared.stripe_footer.StripeFooter.{StripeFooter};
-ghost use Rattle.orc_stripe.specs.Stripe.{HasFooter};
+ghost use Rattle.orc_columns.specs.Stripe.{HasFooter};
 ghost use Rattle.orc_stripe.specs.Opening.{OpenFault};
-ghost use Rattle.orc_stripe.specs.declared.fault.StripeFault.{StripeFault};
-ghost use Rattle.orc_stripe.specs.declared.fault.StripeFault.TheVariants as stripe;
+ghost use Rattle.orc_columns.specs.declared.fault.StripeFault.{StripeFault};
+ghost use Rattle.orc_columns.specs.declared.fault.StripeFault.TheVariants as stripe;
 ghost use Rattle.orc_file.specs.Stripes.{stripe_length, stripe_at};
 ghost use Rattle.orc_file.specs.FileRows.{stripe_bytes};
 ghost use Rattle.orc_file.specs.declared.fault.FileFault.TheVariants.{Stripe, SourceFailed, OutOfMemory};

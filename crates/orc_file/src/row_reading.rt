@@ -2,9 +2,9 @@
 ghost use Rattle.std.specs.Prelude.{◌≡◌, ◌≢◌, ◌<◌, ◌++◌, ◌⊎◌, List, length, OnOk, IfOk, IfErr, IfSome, IsErrOf, MatchResult};
 ghost use Rattle.orc_types.specs.Cells.{Cell};
 ghost use Rattle.orc_types.specs.Views.{views};
-ghost use Rattle.orc_stripe.specs.Stripe.{IsStripe};
-ghost use Rattle.orc_stripe.specs.declared.fault.StripeFault.{StripeFault};
-ghost use Rattle.orc_stripe.specs.declared.fault.StripeFault.TheVariants as stripe;
+ghost use Rattle.orc_columns.specs.Stripe.{IsStripe};
+ghost use Rattle.orc_columns.specs.declared.fault.StripeFault.{StripeFault};
+ghost use Rattle.orc_columns.specs.declared.fault.StripeFault.TheVariants as stripe;
 ghost use Rattle.orc_file.specs.Stripes.{stripe_at};
 ghost use Rattle.orc_file.specs.Tails.{IsTail, ReadFault};
 ghost use Rattle.orc_file.specs.FileRows.{stripe_bytes, IsNoStripe, StripeRefused, FirstRefused, HasMore, FileIs};

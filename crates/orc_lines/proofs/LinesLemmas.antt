@@ -7,7 +7,7 @@ use Rattle.std.proofs.lemmas.List.{take_all, take-append-drop, get_or-drop}
 use Rattle.std.proofs.Math.ListN.{drop_of_length-le}
 use Rattle.orc_types.specs.Shapes.{Shape}
 use Rattle.orc_types.specs.Cells.{Cell}
-use Rattle.orc_stripe.proofs.RunsLemmas.{drop_twice}
+use Rattle.orc_columns.proofs.RunsLemmas.{drop_twice}
 use Rattle.orc_lines.specs.Lines.{IsLine, AreLines, LineSpellsRows, AreRowsOf}
 use Rattle.orc_lines.specs.Writes.{EndsAtLine, StopsAt, EndsInLines}
 use Rattle.orc_output.specs.declared.fault.CliFault.{CliFault}

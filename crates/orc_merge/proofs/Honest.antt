@@ -18,7 +18,7 @@ use Rattle.orc_stats.specs.Statistics.{stat}
 use Rattle.orc_stats.specs.Joining.{joined}
 use Rattle.orc_stats.specs.Whole.{has_sum, without_sum, keeps_sum, whole}
 use Rattle.orc_stats.proofs.Parts.{joined-parts}
-use Rattle.orc_stripe.specs.WrittenStripe.{column_stat}
+use Rattle.orc_written.specs.WrittenStripe.{column_stat}
 use Rattle.orc_file.specs.Stripes.{most_stripes}
 use Rattle.orc_file.specs.Statistics.{kind_at}
 use Rattle.orc_file.specs.FileRows.{HasRows, FileIs, cut_rows}

@@ -7,7 +7,7 @@ use Rattle.clap.specs.declared.parser.matches.ArgMatches.{ArgMatches}
 use Rattle.clap.specs.declared.parser.matches.Found.{Found}
 use Rattle.orc_rle.specs.declared.sign.Rle.{Rle}
 use Rattle.orc_rle.specs.declared.sign.Sign.{Sign}
-use Rattle.orc_stripe.specs.declared.options.Options.{Options}
+use Rattle.orc_written.specs.declared.options.Options.{Options}
 use Rattle.orc_request.specs.declared.request.Request.{Request}
 use Rattle.orc_request.specs.Requests.{Asks, HasInts, HasWrite, IsUnderstood, ints, rows, show, write, merge, IsNotUnderstood}
 

@@ -10,7 +10,7 @@ use Rattle.orc_rle.specs.declared.sign.Rle.{Rle}
 use Rattle.orc_rle.specs.declared.sign.Rle.TheVariants.{One, Two}
 use Rattle.orc_rle.specs.declared.sign.Sign.{Sign}
 use Rattle.orc_rle.specs.declared.sign.Sign.TheVariants.{Signed, Unsigned}
-use Rattle.orc_stripe.specs.declared.options.Options.{Options}
+use Rattle.orc_written.specs.declared.options.Options.{Options}
 use Rattle.orc_request.specs.declared.request.Request.{Request}
 use Rattle.orc_request.specs.declared.request.Request.TheVariants.{Ints, Rows, Show, Write, Merge}
 

@@ -6,7 +6,7 @@ ghost use Rattle.clap.specs.Simple.{subcommand_rows_of};
 ghost use Rattle.clap.specs.declared.parser.matches.Found.{Found};
 ghost use Rattle.orc_rle.specs.declared.sign.Rle.{Rle};
 ghost use Rattle.orc_rle.specs.declared.sign.Sign.{Sign};
-ghost use Rattle.orc_stripe.specs.declared.options.Options.{Options};
+ghost use Rattle.orc_written.specs.declared.options.Options.{Options};
 ghost use Rattle.orc_request.specs.Requests.{Asks, version_word, sign_word, command_word, HasInts, HasWrite, IsNotUnderstood};
 
 use clap::ArgMatches;

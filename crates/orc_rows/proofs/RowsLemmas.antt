@@ -8,9 +8,9 @@ use Rattle.std.proofs.lemmas.List.Concat.{flat_map-append}
 use Rattle.orc_wire.specs.declared.stripe_info.StripeInfo.{StripeInfo}
 use Rattle.orc_types.specs.Cells.{Cell}
 use Rattle.orc_types.specs.Shapes.{Shape}
-use Rattle.orc_stripe.specs.Stripe.{IsStripe}
-use Rattle.orc_stripe.specs.declared.fault.StripeFault.{StripeFault}
-use Rattle.orc_stripe.specs.declared.fault.StripeFault.TheVariants as stripe
+use Rattle.orc_columns.specs.Stripe.{IsStripe}
+use Rattle.orc_columns.specs.declared.fault.StripeFault.{StripeFault}
+use Rattle.orc_columns.specs.declared.fault.StripeFault.TheVariants as stripe
 use Rattle.orc_stripe.proofs.OneStripe.{one_stripe}
 use Rattle.orc_file.specs.Stripes.{stripe_at}
 use Rattle.orc_file.specs.Tails.{IsTail, OpenFault, ReadFault, tail_tests}

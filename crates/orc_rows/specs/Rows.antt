@@ -9,7 +9,7 @@ use Rattle.orc_types.specs.Shapes.{Shape}
 use Rattle.orc_types.specs.FieldNames.{is_distinct}
 use Rattle.orc_types.specs.JsonPrinting.{json_of}
 use Rattle.orc_types.specs.declared.json_fault.JsonFault.TheVariants as json
-use Rattle.orc_stripe.specs.Stripe.{IsStripe}
+use Rattle.orc_columns.specs.Stripe.{IsStripe}
 use Rattle.orc_file.specs.Stripes.{stripe_at}
 use Rattle.orc_file.specs.Tails.{IsTail, OpenFault}
 use Rattle.orc_file.specs.FileRows.{stripe_bytes, HasRows, StripeRefused}

@@ -9,10 +9,10 @@ use Rattle.orc_types.specs.Columns.{cells, cells_within}
 use Rattle.orc_types.specs.declared.kind.Scalar.{Scalar}
 use Rattle.orc_types.specs.declared.kind.Scalar.TheVariants as kind
 use Rattle.orc_types.proofs.Views.{list_of_cells-cells_of, cells_of-list_of_cells}
-use Rattle.orc_stripe.specs.Spellings.{AllStand, size, joined, zip_cons}
-use Rattle.orc_stripe.specs.Columns.{IsBool, IsByte, signed_byte, IsInt, IsDate, IsText, IsBinary, IsWord, IsList, IsRecord}
-use Rattle.orc_stripe.specs.Stripe.{Streams, SpellsScalar, IsColumn, SpellRows, SpellsFields, SpellsCells, has_dictionary, SpellsTexts}
-use Rattle.orc_stripe.proofs.Fronts.{length-zip, stand_length}
+use Rattle.orc_columns.specs.Spellings.{AllStand, size, joined, zip_cons}
+use Rattle.orc_columns.specs.Columns.{IsBool, IsByte, signed_byte, IsInt, IsDate, IsText, IsBinary, IsWord, IsList, IsRecord}
+use Rattle.orc_columns.specs.Stripe.{Streams, SpellsScalar, IsColumn, SpellRows, SpellsFields, SpellsCells, has_dictionary, SpellsTexts}
+use Rattle.orc_columns.proofs.Fronts.{length-zip, stand_length}
 
 -- ---- what fits
 

@@ -2,16 +2,16 @@ ghost use Rattle.std.specs.Prelude.{◌≡◌, ◌≢◌, ◌+◌, ℕ, List, tr
 ghost use Rattle.orc_types.specs.Cells.{Cell};
 ghost use Rattle.orc_wire.specs.declared.stripe_footer.StripeFooter.{StripeFooter};
 ghost use Rattle.orc_types.specs.Views.{views};
-ghost use Rattle.orc_stripe.specs.Stripe.{HasFooter, IsStripe, columns_of};
+ghost use Rattle.orc_columns.specs.Stripe.{HasFooter, IsStripe, columns_of};
 ghost use Rattle.orc_stripe.specs.Opening.{OpenFault};
-ghost use Rattle.orc_stripe.specs.Faults.{RowsFault};
-ghost use Rattle.orc_stripe.specs.declared.fault.StripeFault.TheVariants.{OutOfMemory};
+ghost use Rattle.orc_columns.specs.Faults.{RowsFault};
+ghost use Rattle.orc_columns.specs.declared.fault.StripeFault.TheVariants.{OutOfMemory};
 
-use crate::directory::{check_directory, first_wrong};
-use crate::fault::{StripeFault, wire_fault};
-use crate::located::locate;
 use crate::rows::all_rows;
-use crate::starting::put_tree;
+use orc_columns::directory::{check_directory, first_wrong};
+use orc_columns::fault::{StripeFault, wire_fault};
+use orc_columns::located::locate;
+use orc_columns::starting::put_tree;
 use orc_types::{Row, Schema};
 use orc_wire::{Message, StripeFooter, StripeInfo};
 use std::alloc::Global;
@@ -31,7 +31,7 @@ impl<'a> Model for StripeView<'a> {
     ghost use Rattle.std.specs.Coded.{codes};
     ghost use Rattle.orc_types.specs.Coding.{coded_shape};
     ghost use Rattle.orc_stripe.specs.Opened.{Opened};
-    ghost use Rattle.orc_stripe.specs.Stripe.{HasFooter};
+    ghost use Rattle.orc_columns.specs.Stripe.{HasFooter};
 
     ghost Value = { Opened };
 

@@ -1,7 +1,7 @@
 use Rattle.std.proofs.Common.{◌+◌, ◌-◌, length, take, drop, string_bytes, sym, ap, ◌∙◌, subst}
 use Rattle.orc_types.specs.Views.{view, views, shape, fields as fields_view}
 use Rattle.orc_types.proofs.Views.{shape-List, shape-Struct}
-use Rattle.orc_stripe.proofs.Arms.{first_field}
+use Rattle.orc_columns.proofs.Arms.{first_field}
 use Rattle.orc_file.specs.Counting.{AddsCells, AddsFields}
 use Rattle.orc_file.proofs.CountSteps.{adds_none, adds_no_parts, list_counted, struct_counted, field_counted, part_counted, parts_counted, no_row, first_row}
 use Rattle.orc_file.proofs.counting.+counting.Goals as goal

@@ -1,5 +1,5 @@
 use Rattle.std.proofs.Common.{◌≡◌, ap, ◌∙◌}
-use Rattle.orc_stripe.specs.declared.options.Options.{Options}
+use Rattle.orc_written.specs.declared.options.Options.{Options}
 use Rattle.orc_file.proofs.WriterLemmas.{whole_end, cut_end, within_of}
 use Rattle.orc_file.proofs.writer.Writer.finish.Goals as goal
 

@@ -1,16 +1,16 @@
 use Rattle.std.proofs.Common.{◌≡◌, false, inr, length, ap, sym, subst, arith}
 use Rattle.orc_types.specs.Shapes.{width}
 use Rattle.orc_types.specs.Views.{views, shape}
-use Rattle.orc_stripe.specs.Starting.{TreeStart, AreOf, Puts}
-use Rattle.orc_stripe.specs.Faults.{FaultDown}
-use Rattle.orc_stripe.specs.Located.{AreLocated}
-use Rattle.orc_stripe.specs.Stripe.{columns_of, columns_from, SpellRows, SpellsCells}
+use Rattle.orc_columns.specs.Starting.{TreeStart, AreOf, Puts}
+use Rattle.orc_columns.specs.Faults.{FaultDown}
+use Rattle.orc_columns.specs.Located.{AreLocated}
+use Rattle.orc_columns.specs.Stripe.{columns_of, columns_from, SpellRows, SpellsCells}
 use Rattle.orc_stripe.proofs.ByNumber.{from_number}
-use Rattle.orc_stripe.proofs.FaultLemmas.{fault_from_start, reason_from_readers}
+use Rattle.orc_columns.proofs.FaultLemmas.{fault_from_start, reason_from_readers}
 use Rattle.orc_stripe.proofs.OneStripe.{by_footer}
 use Rattle.orc_stripe.proofs.Opened.{footer_room, footer_once, footer_columns}
 use Rattle.orc_stripe.proofs.RowsLemmas.{only_memory}
-use Rattle.orc_stripe.proofs.Started.{all_put, all_origins, none_put}
+use Rattle.orc_columns.proofs.Started.{all_put, all_origins, none_put}
 use Rattle.orc_stripe.proofs.view.StripeView.rows.Goals as goal
 
 pub returns-in-Ok-all_rows-clause-found : goal.returns-in-Ok-all_rows-clause-found

@@ -1,0 +1,50 @@
+ghost use Rattle.std.specs.Prelude.{◌≡◌, ◌<◌, ◌/◌, ◌%◌, ◌^◌, ℕ, suc, [], ◌∷◌, IfOk, IfErr, OnOk, OnErr};
+ghost use Rattle.orc_rle.specs.BitStream.{digit};
+ghost use Rattle.orc_rle.specs.declared.fault.RunFault.{RunFault as Fault};
+ghost use Rattle.orc_columns.specs.Fronts.{Leaves, Precedes, Lacks};
+ghost use Rattle.orc_columns.specs.Bits.{BitsLeft, BitsFirst};
+ghost use Rattle.orc_columns.specs.RunsMet.{BitsMeet};
+
+use crate::bytes::Bytes;
+use orc_rle::RunFault;
+
+/// What is left of a stream of booleans: so many digits of the byte that was read last, and the bytes
+/// after it. It takes no memory.
+#[derive(Drop)]
+pub struct Bits<'a> {
+    pub bytes: Bytes<'a>,
+    pub held: u8,
+    pub left: u32,
+}
+
+/// Whether the digit of the byte with so many lower ones is 1. A byte has eight digits.
+fn digit_at(byte: u8, lower: u32) -> bool
+    ensures { digit result ≡ byte / 2 ^ lower % 2 }
+{
+    lower < 8 && (byte >> lower) % 2 == 1
+}
+
+impl<'a> Bits<'a> {
+    /// The next boolean.
+    pub fn next(&mut self) -> Result<bool, RunFault>
+        ensures found { IfOk result (λ b. Leaves (BitsLeft self.old) (BitsLeft self.new) (b ∷ [])) }
+        ensures first { IfOk result (λ b. Precedes (BitsFirst self.old) (BitsFirst self.new) (b ∷ [])) }
+        ensures none { OnErr result (Lacks (BitsLeft self.old) 1) }
+        ensures before { OnOk result ((n : ℕ) (f : Fault) → BitsMeet self.new n f → BitsMeet self.old (suc n) f) }
+        ensures fault { IfErr result (λ fault. (n : ℕ) → BitsMeet self.old (suc n) fault) }
+    {
+        if self.left == 0 {
+            match self.bytes.next() {
+                Ok(byte) => {
+                    self.held = byte;
+                    self.left = 7;
+                    Ok(digit_at(byte, 7))
+                }
+                Err(fault) => Err(fault),
+            }
+        } else {
+            self.left -= 1;
+            Ok(digit_at(self.held, self.left))
+        }
+    }
+}

@@ -1,0 +1,67 @@
+ghost use Rattle.std.specs.Prelude.{◌≡◌, ◌≢◌, ℕ, suc, [], ◌∷◌, ◌<◌, IfOk, IfErr, OnOk, OnErr, length};
+ghost use Rattle.orc_rle.specs.declared.fault.RunFault.TheVariants.{OutOfMemory};
+ghost use Rattle.orc_rle.specs.declared.fault.RunFault.{RunFault as Fault};
+ghost use Rattle.orc_columns.specs.Fronts.{Leaves, Precedes, Lacks};
+ghost use Rattle.orc_columns.specs.Bytes.{BytesLeft, BytesFirst};
+ghost use Rattle.orc_columns.specs.RunsMet.{BytesMeet};
+
+use crate::fault::moved;
+use orc_rle::{ByteRuns, RunFault, RunU8};
+
+/// What is left of a stream of bytes in runs: the bytes of the run that was read last which weren't
+/// taken yet, and the runs after it. It takes no memory.
+#[derive(Drop)]
+pub struct Bytes<'a> {
+    pub bytes: &'a [u8],
+    pub at: usize,
+    // where the run that was read last begins
+    pub start: usize,
+    pub run: RunU8,
+    pub used: usize,
+}
+
+impl<'a> Bytes<'a> {
+    /// Reads runs until a byte is there.
+    fn fill(&mut self) -> Result<(), RunFault>
+        ensures found { OnOk result (Leaves (BytesLeft self.old) (BytesLeft self.new) []) }
+        ensures first { OnOk result (Precedes (BytesFirst self.old) (BytesFirst self.new) []) }
+        ensures some { OnOk result (self.new.used < length self.new.run.values) }
+        ensures none { OnErr result (Lacks (BytesLeft self.old) 1) }
+        ensures before { OnOk result ((n : ℕ) (f : Fault) → BytesMeet self.new n f → BytesMeet self.old n f) }
+        ensures fault { IfErr result (λ fault. (n : ℕ) → BytesMeet self.old (suc n) fault) }
+    {
+        while self.used >= self.run.values().len() {
+            if self.at >= self.bytes.len() {
+                return Err(RunFault::TooFew(self.bytes.len()));
+            }
+            let (_, rest) = self.bytes.split_at(self.at);
+            match ByteRuns::next_run(rest, &mut self.run) {
+                Ok(len) => {
+                    self.start = self.at;
+                    self.at += len;
+                    self.used = 0;
+                }
+                Err(fault) => return Err(moved(fault, self.at)),
+            }
+        }
+        Ok(())
+    }
+
+    /// The next byte.
+    pub fn next(&mut self) -> Result<u8, RunFault>
+        ensures found { IfOk result (λ byte. Leaves (BytesLeft self.old) (BytesLeft self.new) (byte ∷ [])) }
+        ensures first { IfOk result (λ byte. Precedes (BytesFirst self.old) (BytesFirst self.new) (byte ∷ [])) }
+        ensures none { OnErr result (Lacks (BytesLeft self.old) 1) }
+        ensures before { OnOk result ((n : ℕ) (f : Fault) → BytesMeet self.new n f → BytesMeet self.old (suc n) f) }
+        ensures fault { IfErr result (λ fault. (n : ℕ) → BytesMeet self.old (suc n) fault) }
+    {
+        match self.fill() {
+            Ok(()) => {
+                let byte = self.run.values()[self.used];
+                self.used += 1;
+                Ok(byte)
+            }
+            Err(fault) => Err(fault),
+        }
+    }
+}

@@ -1,6 +1,0 @@
-use Rattle.orc_stripe.proofs.WrittenReads.{stripe_read}
-use Rattle.orc_stripe.proofs.OneWritten.{one_stripe}
-use Rattle.orc_stripe.proofs.written.writing_laws.Goals as goal
-
-pub returns : goal.returns
-returns c = record { read = stripe_read; one_text = one_stripe }

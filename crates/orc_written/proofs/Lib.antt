@@ -1,0 +1,7 @@
+pub mod CellValuesLemmas
+pub mod WordListLemmas
+pub mod AddingLemmas
+pub mod WrittenDirectory
+pub mod WrittenReads
+pub mod WrittenColumns
+pub mod OneWritten

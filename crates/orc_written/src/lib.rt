@@ -1,0 +1,16 @@
+//! Rows to the bytes of a stripe.
+#![tactic(auto)]
+
+mod body;
+mod cell_values;
+mod limits;
+mod options;
+mod put_column;
+mod word_list;
+mod writer;
+mod written;
+
+pub use limits::are_few;
+pub use options::Options;
+pub use writer::{StripeOut, write_stripe};
+pub use written::writing_laws;
