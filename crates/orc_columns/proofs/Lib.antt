@@ -16,5 +16,6 @@ pub mod Ends
 pub mod Entries
 pub mod StartFaults
 pub mod FaultLemmas
+pub mod NeverFailed
 pub mod DirectoryLemmas
 pub mod LocatedLemmas

@@ -56,6 +56,9 @@ pub enum StripeFault {
     /// A number lies outside of its column's type.
     #[error("stripe 12 OutOfRange({0})")]
     OutOfRange(usize),
+    /// A cursor has refused before.
+    #[error("stripe 13 Failed")]
+    Failed,
 }
 
 /// The fault of a stream's runs.

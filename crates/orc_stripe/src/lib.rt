@@ -1,10 +1,12 @@
 //! Stripes: columns and streams to rows, and back.
 #![tactic(auto)]
 
+mod cursor;
 mod laws;
-mod rows;
+mod stepping;
 mod view;
 
+pub use cursor::RowCursor;
 pub use laws::{column_laws, stripe_laws};
 pub use orc_columns::fault::{StreamKind, StripeFault};
 pub use orc_written::{Options, StripeOut, are_few, write_stripe, writing_laws};

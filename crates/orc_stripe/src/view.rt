@@ -4,10 +4,12 @@ ghost use Rattle.orc_wire.specs.declared.stripe_footer.StripeFooter.{StripeFoote
 ghost use Rattle.orc_types.specs.Views.{views};
 ghost use Rattle.orc_columns.specs.Stripe.{HasFooter, IsStripe, columns_of};
 ghost use Rattle.orc_stripe.specs.Opening.{OpenFault};
-ghost use Rattle.orc_columns.specs.Faults.{RowsFault};
+ghost use Rattle.orc_stripe.specs.Cursors.{IsGoing, StandsFor, MeetsFault};
+ghost use Rattle.orc_columns.specs.Faults.{HasFault, RowsFault};
+ghost use Rattle.orc_columns.specs.declared.fault.StripeFault.{StripeFault as Fault};
 ghost use Rattle.orc_columns.specs.declared.fault.StripeFault.TheVariants.{OutOfMemory};
 
-use crate::rows::all_rows;
+use crate::cursor::RowCursor;
 use orc_columns::directory::{check_directory, first_wrong};
 use orc_columns::fault::{StripeFault, wire_fault};
 use orc_columns::located::locate;
@@ -113,14 +115,46 @@ impl<'a> StripeView<'a> {
         ensures fault { IfErr result (λ cause. cause ≢ OutOfMemory
             → RowsFault self.now.schema (columns_of self.now.footer self.now.bytes) self.now.info.number_of_rows cause) }
     {
+        // for the proof, which knows that the bytes have the footer where a field is used
+        let _ = &self.schema;
+        match self.cursor(alloc) {
+            Ok(cursor) => match cursor.rest() {
+                Ok(rows) => Ok(rows),
+                Err(fault) => Err(fault),
+            },
+            Err(fault) => Err(fault),
+        }
+    }
+
+    /// A cursor at the first row. Dictionaries are read, and nothing else but the directory.
+    ///
+    /// Refusals: those of `rows`; where the rows are more than 2,147,483,647, `TooMany(0)`.
+    pub fn cursor(&self, alloc: Global) -> Result<RowCursor<'a>, StripeFault>
+        ensures found { IfOk result (λ cursor. (rows : List Cell) → StandsFor cursor rows
+            → IsStripe self.now.schema self.now.info self.now.bytes rows) }
+        ensures only { (rows : List Cell) → IsStripe self.now.schema self.now.info self.now.bytes rows
+            → MatchResult result (λ cursor. StandsFor cursor rows) (λ fault. fault ≡ OutOfMemory) }
+        ensures going { IfOk result IsGoing }
+        ensures meets { IfOk result (λ cursor. (f : Fault) → MeetsFault cursor f
+            → HasFault self.now.schema (columns_of self.now.footer self.now.bytes) self.now.info.number_of_rows f) }
+        ensures fault { IfErr result (λ cause. cause ≢ OutOfMemory
+            → RowsFault self.now.schema (columns_of self.now.footer self.now.bytes) self.now.info.number_of_rows cause) }
+    {
+        let count = self.info.number_of_rows;
+        if count >= 0x8000_0000 {
+            return Err(StripeFault::TooMany(0));
+        }
         let tree = self.schema.tree();
         let located = locate(alloc, &self.footer, self.bytes)?;
         let mut readers = Vec::new(alloc);
         match put_tree(alloc, tree, &self.footer, &located, &mut readers) {
-            Ok(()) => match all_rows(alloc, tree, &mut readers, self.info.number_of_rows) {
-                Ok(rows) => Ok(rows),
-                Err(fault) => Err(fault),
-            },
+            Ok(()) => Ok(RowCursor {
+                alloc,
+                tree,
+                readers,
+                left: count,
+                failed: false,
+            }),
             Err(fault) => Err(fault),
         }
     }

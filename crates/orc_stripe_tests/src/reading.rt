@@ -1,15 +1,17 @@
 //! Stripes read: rows of each kind, refusals, changed bytes, and shapes at the limits.
 
 mod borrowed;
+mod cursors;
 mod encodings;
 mod hostile;
 mod run_faults;
 mod shapes;
 mod skipped;
 
+use crate::lines::{lines_at_once, lines_one_by_one};
 use orc_rle::RunFault;
-use orc_stripe::{StreamKind, StripeFault, StripeView};
-use orc_types::{Schema, fits, row_to_json};
+use orc_stripe::{StreamKind, StripeFault};
+use orc_types::Schema;
 use orc_wire::StripeInfo;
 use std::alloc::Global;
 use std::process::Abort;
@@ -309,6 +311,26 @@ const NINE_LINES: [&'static str; 9] = [
     r#"{"n":5}"#,
 ];
 
+/// The record of a stripe without an index, and its bytes.
+fn stripe_of(
+    alloc: Global,
+    data: &[u8],
+    footer: &[u8],
+    rows: u64,
+) -> Result<(StripeInfo, Vec<u8>), StripeFault> {
+    let mut bytes = Vec::new(alloc);
+    bytes.extend_from_slice(data)?;
+    bytes.extend_from_slice(footer)?;
+    let info = StripeInfo {
+        offset: 3,
+        index_length: 0,
+        data_length: data.len() as u64,
+        footer_length: footer.len() as u64,
+        number_of_rows: rows,
+    };
+    Ok((info, bytes))
+}
+
 /// The lines that the rows of a stripe print as.
 fn lines_of(
     alloc: Global,
@@ -320,54 +342,39 @@ fn lines_of(
     let Ok(schema) = Schema::parse(alloc, text) else {
         return Err(StripeFault::OutOfMemory);
     };
-    let mut bytes = Vec::new(alloc);
-    bytes.extend_from_slice(data)?;
-    bytes.extend_from_slice(footer)?;
-    let info = StripeInfo {
-        offset: 3,
-        index_length: 0,
-        data_length: data.len() as u64,
-        footer_length: footer.len() as u64,
-        number_of_rows: rows,
-    };
-    print_rows(alloc, &schema, info, &bytes)
+    let (info, bytes) = stripe_of(alloc, data, footer, rows)?;
+    lines_at_once(alloc, &schema, info, &bytes)
 }
 
-/// The lines that the rows of a stripe's bytes print as.
-fn print_rows(
-    alloc: Global,
-    schema: &Schema,
-    info: StripeInfo,
-    bytes: &[u8],
-) -> Result<Vec<String>, StripeFault> {
-    let view = StripeView::open(alloc, schema, info, 0, bytes)?;
-    let mut lines = Vec::new(alloc);
-    for row in view.rows(alloc)? {
-        if !fits(schema, &row) {
-            return Err(StripeFault::BadDirectory);
+/// The stripe has these lines, or is refused so.
+fn check_case(
+    rt: &impl Abort,
+    case: &Case,
+    answer: Result<Vec<String>, StripeFault>,
+) -> Result<(), StripeFault> {
+    match (answer, case.4) {
+        (Err(StripeFault::OutOfMemory), _) => return Err(StripeFault::OutOfMemory),
+        (Ok(lines), Ok(wanted)) => {
+            assert_eq!(rt; lines.len(), wanted.len(), "{}", case.0);
+            for (line, text) in lines.iter().zip(wanted) {
+                assert_eq!(rt; line.as_str(), *text);
+            }
         }
-        let Ok(json) = row_to_json(alloc, schema, &row) else {
-            return Err(StripeFault::OutOfMemory);
-        };
-        lines.push(json.to_string(alloc)?)?;
+        (Err(fault), Err(wanted)) => assert_eq!(rt; fault, wanted, "{}", case.0),
+        (_, _) => assert!(rt; false, "{}", case.0),
     }
-    Ok(lines)
+    Ok(())
 }
 
-/// Each stripe has its lines, or is refused so.
+/// Each stripe has its lines, or is refused so, all at once and one by one.
 fn check_cases(rt: &impl Abort, alloc: Global) -> Result<(), StripeFault> {
     for case in &CASES {
-        match (lines_of(alloc, case.0, case.1, case.2, case.3), case.4) {
-            (Err(StripeFault::OutOfMemory), _) => return Err(StripeFault::OutOfMemory),
-            (Ok(lines), Ok(wanted)) => {
-                assert_eq!(rt; lines.len(), wanted.len(), "{}", case.0);
-                for (line, text) in lines.iter().zip(wanted) {
-                    assert_eq!(rt; line.as_str(), *text);
-                }
-            }
-            (Err(fault), Err(wanted)) => assert_eq!(rt; fault, wanted, "{}", case.0),
-            (_, _) => assert!(rt; false, "{}", case.0),
-        }
+        let Ok(schema) = Schema::parse(alloc, case.0) else {
+            return Err(StripeFault::OutOfMemory);
+        };
+        let (info, bytes) = stripe_of(alloc, case.1, case.2, case.3)?;
+        check_case(rt, case, lines_at_once(alloc, &schema, info, &bytes))?;
+        check_case(rt, case, lines_one_by_one(rt, alloc, &schema, info, &bytes))?;
     }
     Ok(())
 }

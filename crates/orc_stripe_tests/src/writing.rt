@@ -3,10 +3,11 @@ ghost use Rattle.std.specs.Prelude.{IfOk};
 ghost use Rattle.orc_types.specs.Fits.{RowsFit};
 ghost use Rattle.orc_types.specs.Views.{views};
 
+use crate::lines::{lines_at_once, lines_one_by_one};
 use orc_rle::Rle;
 use orc_stats::Body;
-use orc_stripe::{Options, StripeFault, StripeOut, StripeView, are_few, write_stripe};
-use orc_types::{Row, Schema, row_from_json, row_to_json};
+use orc_stripe::{Options, StripeFault, StripeOut, are_few, write_stripe};
+use orc_types::{Row, Schema, row_from_json};
 use serde_json::Value as Json;
 use std::alloc::Global;
 use std::process::Abort;
@@ -316,23 +317,14 @@ fn written(
     write_stripe(alloc, schema, &options, &rows)
 }
 
-/// The lines that the rows of a stripe print as.
-fn lines_of(alloc: Global, schema: &Schema, out: &StripeOut) -> Result<Vec<String>, StripeFault> {
-    let view = StripeView::open(alloc, schema, out.info, 0, &out.bytes)?;
-    let mut lines = Vec::new(alloc);
-    for row in view.rows(alloc)? {
-        if !orc_types::fits(schema, &row) {
-            return Err(StripeFault::BadDirectory);
-        }
-        let Ok(json) = row_to_json(alloc, schema, &row) else {
-            return Err(StripeFault::OutOfMemory);
-        };
-        lines.push(json.to_string(alloc)?)?;
+fn are_lines(rt: &impl Abort, lines: &[String], wanted: &[&str]) {
+    assert_eq!(rt; lines.len(), wanted.len());
+    for (line, text) in lines.iter().zip(wanted) {
+        assert_eq!(rt; line.as_str(), *text);
     }
-    Ok(lines)
 }
 
-/// The rows of the stripe print as these lines.
+/// The rows of the stripe print as these lines, all at once and one by one.
 fn check_lines(
     rt: &impl Abort,
     alloc: Global,
@@ -340,11 +332,16 @@ fn check_lines(
     out: &StripeOut,
     lines: &[&str],
 ) -> Result<(), StripeFault> {
-    let again = lines_of(alloc, schema, out)?;
-    assert_eq!(rt; again.len(), lines.len());
-    for (line, wanted) in again.iter().zip(lines) {
-        assert_eq!(rt; line.as_str(), *wanted);
-    }
+    are_lines(
+        rt,
+        &lines_at_once(alloc, schema, out.info, &out.bytes)?,
+        lines,
+    );
+    are_lines(
+        rt,
+        &lines_one_by_one(rt, alloc, schema, out.info, &out.bytes)?,
+        lines,
+    );
     Ok(())
 }
 

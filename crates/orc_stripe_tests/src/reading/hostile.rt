@@ -1,4 +1,5 @@
-use super::{ONE_WORD, print_rows};
+use super::ONE_WORD;
+use crate::lines::lines_at_once;
 use orc_stripe::StripeFault;
 use orc_types::Schema;
 use orc_wire::StripeInfo;
@@ -30,7 +31,7 @@ fn check_fronts(rt: &impl Abort, alloc: Global) -> Result<(), StripeFault> {
     };
     let (bytes, info) = good_stripe(alloc)?;
     for len in 0..bytes.len() {
-        match print_rows(alloc, &schema, info, &bytes[..len]) {
+        match lines_at_once(alloc, &schema, info, &bytes[..len]) {
             Err(StripeFault::OutOfMemory) => return Err(StripeFault::OutOfMemory),
             answer => assert_eq!(rt; answer.err(), Some(StripeFault::BadDirectory), "{len}"),
         }
@@ -48,7 +49,7 @@ fn check_changes(rt: &impl Abort, alloc: Global) -> Result<(), StripeFault> {
         let byte = bytes[i];
         for change in [0x01u8, 0x80, 0xff] {
             bytes[i] = byte ^ change;
-            match print_rows(alloc, &schema, info, &bytes) {
+            match lines_at_once(alloc, &schema, info, &bytes) {
                 Err(StripeFault::OutOfMemory) => return Err(StripeFault::OutOfMemory),
                 Ok(lines) => assert_eq!(rt; lines.len(), 2, "{i} {change}"),
                 Err(_) => {}

@@ -4,12 +4,12 @@ use std::alloc::Global;
 use std::process::Abort;
 
 /// How many columns a schema may have, the root among them, and how many levels.
-const MOST_COLUMNS: usize = 4096;
+pub(super) const MOST_COLUMNS: usize = 4096;
 
 const MOST_LEVELS: usize = 32;
 
 /// A struct of as many fields as a schema may have.
-fn wide_schema(alloc: Global) -> Result<String, StripeFault> {
+pub(super) fn wide_schema(alloc: Global) -> Result<String, StripeFault> {
     let mut text = String::new(alloc);
     text.push_str("struct<")?;
     for column in 1..MOST_COLUMNS {
@@ -36,7 +36,11 @@ fn deep_schema(alloc: Global) -> Result<String, StripeFault> {
 }
 
 /// A footer whose last column of so many has the streams; all columns are DIRECT.
-fn footer_of(alloc: Global, columns: usize, streams: &[u8]) -> Result<Vec<u8>, StripeFault> {
+pub(super) fn footer_of(
+    alloc: Global,
+    columns: usize,
+    streams: &[u8],
+) -> Result<Vec<u8>, StripeFault> {
     let mut footer = Vec::new(alloc);
     footer.extend_from_slice(streams)?;
     for _ in 0..columns {

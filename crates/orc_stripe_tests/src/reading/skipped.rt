@@ -1,5 +1,5 @@
 //! Streams that rows aren't read from: they are stepped over.
-use super::print_rows;
+use crate::lines::lines_at_once;
 use orc_stripe::StripeFault;
 use orc_types::Schema;
 use orc_wire::StripeInfo;
@@ -31,7 +31,7 @@ fn check_skipped(rt: &impl Abort, alloc: Global) -> Result<(), StripeFault> {
         footer_length: 40,
         number_of_rows: 3,
     };
-    let lines = print_rows(alloc, &schema, info, &bytes)?;
+    let lines = lines_at_once(alloc, &schema, info, &bytes)?;
     assert_eq!(rt; lines.len(), 3);
     for line in &lines {
         assert_eq!(rt; line.as_str(), r#"{"n":7}"#);

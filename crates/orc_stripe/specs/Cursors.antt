@@ -1,0 +1,38 @@
+-- Rows one after the other (ORC specification, "Stripes").
+use Rattle.std.specs.Prelude.{◌≡◌, Bool, true, false, Option, Some, None, List, [], ◌∷◌, length}
+use Rattle.orc_types.specs.Cells.{Cell}
+use Rattle.orc_types.specs.Views.{view, shape}
+use Rattle.orc_types.specs.declared.value.Value.{Value}
+use Rattle.orc_columns.specs.Columns.{CellsLeft}
+use Rattle.orc_columns.specs.ReaderFaults.{CellsMeet}
+use Rattle.orc_columns.specs.declared.fault.StripeFault.{StripeFault}
+use Rattle.orc_stripe.specs.declared.cursor.RowCursor.{RowCursor}
+
+-- a cursor that was refused once, and one that never was
+abbrev pub HasRefused : RowCursor → Type 0
+HasRefused c = c.failed ≡ true
+
+abbrev pub IsGoing : RowCursor → Type 0
+IsGoing c = c.failed ≡ false
+
+-- the rows that a cursor has still to give
+pub record StandsFor (c : RowCursor) (rows : List Cell) : Type 0 where
+  pub going : IsGoing c
+  pub counted : length rows ≡ c.left
+  pub spelled : CellsLeft (shape c.tree.now) c.readers.items rows
+
+-- of such rows a cursor gave the first and stands for the others, or gave none where there are none
+abbrev pub Gives : List Cell → RowCursor → Option (Option Value) → Type 0
+Gives [] after None = StandsFor after []
+Gives [] after (Some row) = ⊥
+Gives (r ∷ rest) after None = ⊥
+Gives (r ∷ rest) after (Some row) = (view row ≡ r) × StandsFor after rest
+
+-- what a cursor stands for after an answer, it stood for before it, behind the row that was answered
+abbrev pub Gave : RowCursor → RowCursor → Option (Option Value) → Type 0
+Gave before after None = StandsFor before []
+Gave before after (Some row) = (rest : List Cell) → StandsFor after rest → StandsFor before (view row ∷ rest)
+
+-- a fault of what is left of the columns' streams, which are to give as many rows as the cursor has left
+abbrev pub MeetsFault : RowCursor → StripeFault → Type 0
+MeetsFault c f = (all : Bool) × CellsMeet (shape c.tree.now) c.readers.items all c.left f

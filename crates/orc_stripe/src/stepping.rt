@@ -1,0 +1,88 @@
+//! The rows that a cursor has still to give: the next one, or all of them.
+ghost use Rattle.std.specs.Prelude.{◌≡◌, ◌≢◌, List, Ok, Err, IfOk, IfErr, OnOk, OnErr, MatchResult};
+ghost use Rattle.orc_types.specs.Cells.{Cell};
+ghost use Rattle.orc_types.specs.Views.{views};
+ghost use Rattle.orc_columns.specs.declared.fault.StripeFault.{StripeFault as Fault};
+ghost use Rattle.orc_columns.specs.declared.fault.StripeFault.TheVariants.{OutOfMemory, Failed};
+ghost use Rattle.orc_stripe.specs.Cursors.{HasRefused, IsGoing, StandsFor, Gives, Gave, MeetsFault};
+
+use crate::cursor::RowCursor;
+use orc_columns::ending::cells_end;
+use orc_columns::fault::StripeFault;
+use orc_columns::reader::{next_cell, next_cells};
+use orc_types::Row;
+
+impl<'a> RowCursor<'a> {
+    /// The next row; at the end `None`, once nothing is found left over in any stream.
+    ///
+    /// Refusals: those of `StripeView::rows`, and `Failed` after each of them.
+    pub fn next(&mut self) -> Result<Option<Row<'a>>, StripeFault>
+        ensures found { IfOk result (Gave self.old self.new) }
+        ensures only { (rows : List Cell) → StandsFor self.old rows → MatchResult result (Gives rows self.new) (λ fault. fault ≡ OutOfMemory) }
+        ensures before { OnOk result ((f : Fault) → MeetsFault self.new f → MeetsFault self.old f) }
+        ensures fault { IfErr result (λ fault. fault ≢ OutOfMemory → fault ≢ Failed → MeetsFault self.old fault) }
+        ensures failed { HasRefused self.old → result ≡ Err Failed }
+        ensures first { IfErr result (λ fault. fault ≡ Failed → HasRefused self.old) }
+        ensures after { OnErr result (HasRefused self.new) }
+    {
+        if self.failed {
+            return Err(StripeFault::Failed);
+        }
+        match self.advance() {
+            Ok(row) => Ok(row),
+            Err(fault) => {
+                self.failed = true;
+                Err(fault)
+            }
+        }
+    }
+
+    /// The same of a cursor that was never refused.
+    fn advance(&mut self) -> Result<Option<Row<'a>>, StripeFault>
+        requires going { IsGoing self.old }
+        ensures found { IfOk result (Gave self.old self.new) }
+        ensures only { (rows : List Cell) → StandsFor self.old rows → MatchResult result (Gives rows self.new) (λ fault. fault ≡ OutOfMemory) }
+        ensures before { OnOk result ((f : Fault) → MeetsFault self.new f → MeetsFault self.old f) }
+        ensures fault { IfErr result (λ fault. fault ≢ OutOfMemory → MeetsFault self.old fault) }
+        ensures going { IsGoing self.new }
+        ensures other { IfErr result (λ fault. fault ≢ Failed) }
+    {
+        if self.left == 0 {
+            return match cells_end(self.tree, &self.readers) {
+                Ok(()) => Ok(None),
+                Err(fault) => Err(fault),
+            };
+        }
+        match next_cell(self.alloc, self.tree, &mut self.readers) {
+            Ok(row) => {
+                self.left -= 1;
+                Ok(Some(row))
+            }
+            Err(fault) => Err(fault),
+        }
+    }
+
+    /// All rows that are still to come. No memory is set aside by a number that was read.
+    ///
+    /// Refusals: those of `StripeView::rows`, and `Failed` after one of them.
+    pub fn rest(mut self) -> Result<Vec<Row<'a>>, StripeFault>
+        ensures found { IfOk result (λ rows. StandsFor self.entry (views rows.items)) }
+        ensures only { (rows : List Cell) → StandsFor self.entry rows
+            → MatchResult result (λ answered. views answered.items ≡ rows) (λ fault. fault ≡ OutOfMemory) }
+        ensures fault { IfErr result (λ fault. fault ≢ OutOfMemory → fault ≢ Failed → MeetsFault self.entry fault) }
+        ensures failed { HasRefused self.entry → result ≡ Err Failed }
+        ensures first { IfErr result (λ fault. fault ≡ Failed → HasRefused self.entry) }
+    {
+        if self.failed {
+            return Err(StripeFault::Failed);
+        }
+        let (alloc, left) = (self.alloc, self.left);
+        match next_cells(alloc, self.tree, &mut self.readers, left) {
+            Ok(rows) => match cells_end(self.tree, &self.readers) {
+                Ok(()) => Ok(rows),
+                Err(fault) => Err(fault),
+            },
+            Err(fault) => Err(fault),
+        }
+    }
+}
