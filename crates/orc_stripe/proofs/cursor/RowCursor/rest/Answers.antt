@@ -12,9 +12,11 @@ returns-in-Ok-clause-first c = λ e.
 pub returns-clause-fault : goal.returns-clause-fault
 returns-clause-fault c = λ memory other.
     let s = shape c.args.self.tree.now in
-    let e : c.args.self.left + 0 ≡ c.args.self.left = omega arith in
-    (false, subst (λ rs. CellsMeet s rs false c.args.self.left c.in-Err.fault) c.deref_mut.ensures.value
-    (subst (λ n. CellsMeet s c.deref_mut.result.now false n c.in-Err.fault) e (c.in-Err.ensures.fault memory 0)))
+    let e : c.args.self.left + 0 ≡ c.args.self.left = omega arith in (
+      false,
+      subst (λ rs. CellsMeet s rs false c.args.self.left c.in-Err.fault) c.deref_mut.ensures.value
+          (subst (λ n. CellsMeet s c.deref_mut.result.now false n c.in-Err.fault) e (c.in-Err.ensures.fault memory 0)),
+    )
 
 pub returns-clause-first : goal.returns-clause-first
 returns-clause-first c = λ e.
