@@ -13,8 +13,8 @@ use crate::tree::{Field, Tree, width_of};
 use crate::value::{Row, Value};
 use std::alloc::{AllocError, Global};
 
-/// The elements of a list, and none of null.
-fn elements_of<'r, 'a>(row: &'r Row<'a>) -> &'r [Row<'a>]
+/// The elements of a list or the fields of a struct, in order, and none of another cell.
+pub fn parts_of<'r, 'a>(row: &'r Row<'a>) -> &'r [Row<'a>]
     ensures { views result.now ≡ parts (view row.now) }
 {
     match row {
@@ -40,7 +40,7 @@ fn elements<'r, 'a>(alloc: Global, rows: Vec<&'r Row<'a>>) -> Result<Vec<&'r Row
 {
     let mut found = Vec::new(alloc);
     for row in rows {
-        lend_all(&mut found, elements_of(row))?;
+        lend_all(&mut found, parts_of(row))?;
     }
     Ok(found)
 }
@@ -49,7 +49,7 @@ fn elements<'r, 'a>(alloc: Global, rows: Vec<&'r Row<'a>>) -> Result<Vec<&'r Row
 fn field_at<'r, 'a>(row: &'r Row<'a>, i: usize) -> Option<&'r Row<'a>>
     ensures { option_map (λ r. view r.now) result ≡ slice_get (parts (view row.now)) i }
 {
-    elements_of(row).get(i)
+    parts_of(row).get(i)
 }
 
 /// Adds the field at a place of a struct that is not null.

@@ -22,7 +22,7 @@ mod schema_text;
 mod tree;
 mod value;
 
-pub use columns::cells;
+pub use columns::{cells, parts_of};
 pub use day_text::date_text;
 pub use fault::TypeFault;
 pub use fitting::{fits, int_fits};

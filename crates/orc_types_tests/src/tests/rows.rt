@@ -501,6 +501,53 @@ fn cells_of_columns(rt: HostRuntime) {
     }
 }
 
+/// A row, and how many parts it has: the rows that stand before it.
+static PARTS: [(&[Token], usize); 7] = [
+    (&[Null], 0),
+    (&[Int(7)], 0),
+    (&[Text], 0),
+    (&[List(0)], 0),
+    (&[Int(1), Null, Int(2), List(3)], 3),
+    (&[Struct(0)], 0),
+    (&[Truth, Blob, Struct(2)], 2),
+];
+
+/// Whether the parts of the row are these.
+fn has_parts(row: &Row<'static>, wanted: &[Row<'static>]) -> bool {
+    let parts = parts_of(row);
+    if parts.len() != wanted.len() {
+        return false;
+    }
+    for (i, part) in parts.iter().enumerate() {
+        if *part != wanted[i] {
+            return false;
+        }
+    }
+    true
+}
+
+/// Whether the tokens are one row with so many parts, those before it.
+fn parts_come_to(alloc: Global, tokens: &[Token], count: usize) -> Result<bool, TypeFault> {
+    let rows = rows_of(alloc, tokens)?;
+    if rows.len() != 1 || tokens.len() < count {
+        return Ok(false);
+    }
+    let wanted = rows_of(alloc, &tokens[..count])?;
+    Ok(has_parts(&rows[0], &wanted))
+}
+
+#[test]
+fn parts_of_rows(rt: HostRuntime) {
+    let alloc = rt.alloc();
+    for (i, &(tokens, count)) in PARTS.iter().enumerate() {
+        let mut held = parts_come_to(alloc, tokens, count);
+        if held.is_err() {
+            held = parts_come_to(alloc, tokens, count);
+        }
+        assert!(rt; matches!(held, Ok(true)), "row {i}");
+    }
+}
+
 /// Columns of KINDS, and the kinds of their types.
 static COLUMNS: [(usize, Option<Scalar>); 5] = [
     (0, None),

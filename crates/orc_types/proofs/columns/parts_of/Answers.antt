@@ -1,6 +1,6 @@
 use Rattle.std.proofs.Common.{arith}
 use Rattle.orc_types.proofs.Views.{list_of-views, view-List, view-Struct}
-use Rattle.orc_types.proofs.columns.elements_of.Goals as goal
+use Rattle.orc_types.proofs.columns.parts_of.Goals as goal
 
 pub returns-in-Some-List : goal.returns-in-Some-List
 returns-in-Some-List c = grind (arith, view-List, list_of-views)
