@@ -1,11 +1,15 @@
-ghost use Rattle.std.specs.Prelude.{◌≡◌, ◌<◌, ◌/◌, ◌%◌, ◌^◌, ℕ, suc, [], ◌∷◌, IfOk, IfErr, OnOk, OnErr};
-ghost use Rattle.orc_rle.specs.BitStream.{digit};
-ghost use Rattle.orc_rle.specs.declared.fault.RunFault.{RunFault as Fault};
+//! Booleans, as the digits of bytes in runs.
+
+ghost use Rattle.std.specs.Prelude.{◌≡◌, ◌≢◌, ◌/◌, ◌%◌, ◌^◌, ◌∷◌, [], ℕ, suc, IfOk, IfErr, OnOk, OnErr, MatchBool};
 ghost use Rattle.orc_columns.specs.Fronts.{Leaves, Precedes, Lacks};
 ghost use Rattle.orc_columns.specs.Bits.{BitsLeft, BitsFirst};
 ghost use Rattle.orc_columns.specs.RunsMet.{BitsMeet};
+ghost use Rattle.orc_columns.specs.Starting.{BitsStart};
+ghost use Rattle.orc_rle.specs.BitStream.{digit};
+ghost use Rattle.orc_rle.specs.declared.fault.RunFault.TheVariants.{OutOfMemory};
+ghost use Rattle.orc_rle.specs.declared.fault.RunFault.{RunFault as Fault};
 
-use crate::bytes::Bytes;
+use crate::bytes::{Bytes, bytes_end, bytes_left, bytes_of};
 use orc_rle::RunFault;
 
 /// What is left of a stream of booleans: so many digits of the byte that was read last, and the bytes
@@ -15,6 +19,17 @@ pub struct Bits<'a> {
     pub bytes: Bytes<'a>,
     pub held: u8,
     pub left: u32,
+}
+
+/// A stream of booleans, from its start.
+pub(crate) fn bits_of(bytes: &[u8]) -> Bits<'_>
+    ensures { BitsStart bytes.now result }
+{
+    Bits {
+        bytes: bytes_of(bytes),
+        held: 0,
+        left: 0,
+    }
 }
 
 /// Whether the digit of the byte with so many lower ones is 1. A byte has eight digits.
@@ -47,4 +62,29 @@ impl<'a> Bits<'a> {
             Ok(digit_at(self.held, self.left))
         }
     }
+}
+
+/// Whether no boolean is left: no whole byte's digits, that is, since fewer are spare.
+pub(crate) fn bits_end(bits: &Bits<'_>) -> bool
+    ensures { MatchBool result (BitsLeft bits.now []) (BitsLeft bits.now [] → ⊥) }
+{
+    if bits.left >= 8 {
+        return false;
+    }
+    if !bytes_end(&bits.bytes) {
+        return false;
+    }
+    true
+}
+
+/// The fault of booleans that are left over. A byte whose digits are all held is of the last run.
+pub(crate) fn bits_left(bits: &Bits<'_>) -> RunFault
+    requires more { BitsLeft bits.now [] → ⊥ }
+    ensures met { BitsMeet bits.now 0 result }
+    ensures no_memory { result ≢ OutOfMemory }
+{
+    if bits.left >= 8 {
+        return RunFault::TooMany(bits.bytes.start);
+    }
+    bytes_left(&bits.bytes)
 }

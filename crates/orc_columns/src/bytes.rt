@@ -1,9 +1,12 @@
-ghost use Rattle.std.specs.Prelude.{◌≡◌, ◌≢◌, ℕ, suc, [], ◌∷◌, ◌<◌, IfOk, IfErr, OnOk, OnErr, length};
-ghost use Rattle.orc_rle.specs.declared.fault.RunFault.TheVariants.{OutOfMemory};
-ghost use Rattle.orc_rle.specs.declared.fault.RunFault.{RunFault as Fault};
+//! Bytes in runs.
+
+ghost use Rattle.std.specs.Prelude.{◌≢◌, ◌<◌, ◌∷◌, [], ℕ, suc, length, IfOk, IfErr, OnOk, OnErr, MatchBool};
 ghost use Rattle.orc_columns.specs.Fronts.{Leaves, Precedes, Lacks};
 ghost use Rattle.orc_columns.specs.Bytes.{BytesLeft, BytesFirst};
 ghost use Rattle.orc_columns.specs.RunsMet.{BytesMeet};
+ghost use Rattle.orc_columns.specs.Starting.{BytesStart};
+ghost use Rattle.orc_rle.specs.declared.fault.RunFault.TheVariants.{OutOfMemory};
+ghost use Rattle.orc_rle.specs.declared.fault.RunFault.{RunFault as Fault};
 
 use crate::fault::moved;
 use orc_rle::{ByteRuns, RunFault, RunU8};
@@ -18,6 +21,19 @@ pub struct Bytes<'a> {
     pub start: usize,
     pub run: RunU8,
     pub used: usize,
+}
+
+/// A stream of bytes in runs, from its start.
+pub(crate) fn bytes_of(bytes: &[u8]) -> Bytes<'_>
+    ensures { BytesStart bytes.now result }
+{
+    Bytes {
+        bytes,
+        at: 0,
+        start: 0,
+        run: RunU8::new(),
+        used: 0,
+    }
 }
 
 impl<'a> Bytes<'a> {
@@ -63,5 +79,34 @@ impl<'a> Bytes<'a> {
             }
             Err(fault) => Err(fault),
         }
+    }
+}
+
+/// Whether no byte of the runs is left.
+pub(crate) fn bytes_end(bytes: &Bytes<'_>) -> bool
+    ensures { MatchBool result (BytesLeft bytes.now []) (BytesLeft bytes.now [] → ⊥) }
+{
+    if bytes.used < bytes.run.values().len() {
+        return false;
+    }
+    if bytes.at < bytes.bytes.len() {
+        return false;
+    }
+    true
+}
+
+/// The fault of bytes in runs that are left over.
+pub(crate) fn bytes_left(bytes: &Bytes<'_>) -> RunFault
+    requires more { BytesLeft bytes.now [] → ⊥ }
+    ensures met { BytesMeet bytes.now 0 result }
+    ensures no_memory { result ≢ OutOfMemory }
+{
+    if bytes.used < bytes.run.values().len() {
+        return RunFault::TooMany(bytes.start);
+    }
+    let (_, rest) = bytes.bytes.split_at(bytes.at);
+    match ByteRuns::next_run(rest, &mut RunU8::new()) {
+        Ok(_) => RunFault::TooMany(bytes.at),
+        Err(fault) => moved(fault, bytes.at),
     }
 }

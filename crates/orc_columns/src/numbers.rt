@@ -1,10 +1,12 @@
-ghost use Rattle.std.specs.Prelude.{◌≡◌, ◌≢◌, ℕ, suc, [], ◌∷◌, IfOk, IfErr, OnOk, OnErr, length, ◌<◌};
-ghost use Rattle.orc_rle.specs.declared.fault.RunFault.TheVariants.{OutOfMemory};
-ghost use Rattle.orc_rle.specs.declared.fault.RunFault.{RunFault as Fault};
+//! Integers in runs.
+
+ghost use Rattle.std.specs.Prelude.{◌≢◌, ◌<◌, ◌∷◌, [], ℕ, suc, length, IfOk, IfErr, OnOk, OnErr, MatchBool};
 ghost use Rattle.orc_columns.specs.Fronts.{Leaves, Precedes, Lacks};
 ghost use Rattle.orc_columns.specs.Numbers.{NumbersLeft, NumbersFirst};
 ghost use Rattle.orc_columns.specs.RunsMet.{NumbersMeet};
 ghost use Rattle.orc_columns.specs.Starting.{NumbersStart};
+ghost use Rattle.orc_rle.specs.declared.fault.RunFault.TheVariants.{OutOfMemory};
+ghost use Rattle.orc_rle.specs.declared.fault.RunFault.{RunFault as Fault};
 
 use crate::fault::moved;
 use crate::version::{Version, next_run};
@@ -84,5 +86,35 @@ impl<'a> Numbers<'a> {
             }
             Err(fault) => Err(fault),
         }
+    }
+}
+
+/// Whether no number is left.
+pub fn numbers_end(numbers: &Numbers<'_>) -> bool
+    ensures { MatchBool result (NumbersLeft numbers.now []) (NumbersLeft numbers.now [] → ⊥) }
+{
+    if numbers.used < numbers.run.values().len() {
+        return false;
+    }
+    if numbers.at < numbers.bytes.len() {
+        return false;
+    }
+    true
+}
+
+/// The fault of numbers that are left over: of the run that was read last, or, where all of it is used,
+/// of the bytes after it, which may be no run.
+pub fn numbers_left(numbers: &Numbers<'_>) -> RunFault
+    requires more { NumbersLeft numbers.now [] → ⊥ }
+    ensures met { NumbersMeet numbers.now 0 result }
+    ensures no_memory { result ≢ OutOfMemory }
+{
+    if numbers.used < numbers.run.values().len() {
+        return RunFault::TooMany(numbers.start);
+    }
+    let (_, rest) = numbers.bytes.split_at(numbers.at);
+    match next_run(numbers.version, rest, numbers.sign, &mut Run::new()) {
+        Ok(_) => RunFault::TooMany(numbers.at),
+        Err(fault) => moved(fault, numbers.at),
     }
 }

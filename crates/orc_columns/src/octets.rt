@@ -1,4 +1,6 @@
-ghost use Rattle.std.specs.Prelude.{◌≡◌, ◌+◌, ◌^◌, ◌<◌, length, IfSome, IfNone};
+//! Bytes as they are, in no runs.
+
+ghost use Rattle.std.specs.Prelude.{◌≡◌, ◌<◌, [], length, IfSome, IfNone, MatchBool};
 ghost use Rattle.orc_columns.specs.Fronts.{Leaves, Lacks};
 ghost use Rattle.orc_columns.specs.Octets.{OctetsLeft};
 
@@ -22,4 +24,11 @@ impl<'a> Octets<'a> {
         self.rest = rest;
         Some(front)
     }
+}
+
+/// Whether no byte is left.
+pub fn octets_end(octets: &Octets<'_>) -> bool
+    ensures { MatchBool result (OctetsLeft octets.now []) (OctetsLeft octets.now [] → ⊥) }
+{
+    octets.rest.len() == 0
 }

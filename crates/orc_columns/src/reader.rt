@@ -63,7 +63,7 @@ fn next_value<'a>(
             Err(fault) => Err(fault),
         },
         Tree::Struct(fields, _) => {
-            let mut cells = Vec::new(alloc);
+            let mut cells = Vec::with_capacity(alloc, fields.len())?;
             match next_fields(alloc, fields, &mut readers[1..], &mut cells) {
                 Ok(()) => Ok(Value::Struct(cells)),
                 Err(fault) => Err(fault),

@@ -1,26 +1,28 @@
-ghost use Rattle.std.specs.Prelude.{◌≡◌, ◌≢◌, ◌+◌, ◌<◌, ◌≤◌, ℕ, List, None, true, false, IfOk, IfErr, OnOk, length};
+//! Readers of columns at the start of their streams, by a column's kind and encoding, and down the schema's tree.
+
+ghost use Rattle.std.specs.Prelude.{◌≡◌, ◌≢◌, ◌<◌, ◌≤◌, ◌+◌, ℕ, true, false, None, List, length, IfOk, IfErr, OnOk};
 ghost use Rattle.orc_types.specs.Cells.{Cell};
 ghost use Rattle.orc_types.specs.Shapes.{width, widths};
 ghost use Rattle.orc_types.specs.Views.{shape, fields as fields_view};
-ghost use Rattle.orc_columns.specs.declared.fault.StripeFault.TheVariants.{OutOfMemory};
+ghost use Rattle.orc_columns.specs.Faults.{GroupsFail, EntriesFail, ScalarEntriesFail, WordsOfFail, FaultDown, FaultWithin, lengths_of};
 ghost use Rattle.orc_columns.specs.Located.{AreLocated};
-ghost use Rattle.orc_columns.specs.Starting.{BytesStart, BitsStart, MarksStart, DataStart, GroupsStart, TextsStart, ScalarStart};
-ghost use Rattle.orc_columns.specs.Starting.{SourceStart, OwnStart, LacksEntries, ScalarLacks, HasNoDictionary, AreStreams, Puts, PutsFields};
+ghost use Rattle.orc_columns.specs.Starting.{DataStart, GroupsStart, TextsStart, ScalarStart, SourceStart, OwnStart, LacksEntries, ScalarLacks, HasNoDictionary, AreStreams, Puts, PutsFields};
 ghost use Rattle.orc_columns.specs.Stripe.{Streams, IsDictionary, encoding_at, columns_of, columns_from, SpellsCells, SpellsFields, most_cells};
 ghost use Rattle.orc_columns.specs.Stripe as spec;
+ghost use Rattle.orc_columns.specs.declared.fault.StripeFault.TheVariants.{OutOfMemory};
 ghost use Rattle.orc_columns.specs.declared.fault.StreamKind.TheVariants.{DictionaryData};
-ghost use Rattle.orc_columns.specs.Faults.{GroupsFail, EntriesFail, ScalarEntriesFail, WordsOfFail, FaultDown, FaultWithin, lengths_of};
 
-use crate::bits::Bits;
-use crate::bytes::Bytes;
+use crate::bits::bits_of;
+use crate::bytes::bytes_of;
 use crate::column::{ColumnReader, Source};
 use crate::dictionary::entries_of;
 use crate::fault::StripeFault;
 use crate::located::Located;
-use crate::numbers::{Numbers, numbers_of};
+use crate::marks::marks_of;
+use crate::numbers::numbers_of;
 use crate::octets::Octets;
 use crate::version::{Version, version_of};
-use orc_rle::{RunU8, Sign};
+use orc_rle::Sign;
 use orc_types::{Field, Scalar, Tree};
 use orc_wire::{Encoding, StripeFooter};
 use std::alloc::Global;
@@ -71,40 +73,6 @@ fn streams_of<'a>(column: usize, footer: &StripeFooter, located: &Located<'a>) -
         lengths: located.stream(column, 2),
         words: located.stream(column, 3),
     }
-}
-
-/// A stream of bytes in runs, from its start.
-fn bytes_of(bytes: &[u8]) -> Bytes<'_>
-    ensures { BytesStart bytes.now result }
-{
-    Bytes {
-        bytes,
-        at: 0,
-        start: 0,
-        run: RunU8::new(),
-        used: 0,
-    }
-}
-
-/// A stream of booleans, from its start.
-fn bits_of(bytes: &[u8]) -> Bits<'_>
-    ensures { BitsStart bytes.now result }
-{
-    Bits {
-        bytes: bytes_of(bytes),
-        held: 0,
-        left: 0,
-    }
-}
-
-/// Which cells are not null, from the first.
-fn marks_of(bytes: &[u8]) -> Option<Bits<'_>>
-    ensures { MarksStart bytes.now result }
-{
-    if bytes.is_empty() {
-        return None;
-    }
-    Some(bits_of(bytes))
 }
 
 /// The source of a column whose values are in DATA.

@@ -110,7 +110,7 @@ pub next_value-returns-in-Ok-next_fields-clause-found : goal.next_value-returns-
 next_value-returns-in-Ok-next_fields-clause-found t c =
     let w = some_width (shape c.args.tree.now) in
     let f = c.in-Ok-next_fields.ensures.found in
-    let all : views c.next_fields.new.cells.items ≡ f.0 = f.1 ∙ ap (λ rs. views rs ++ f.0) c.new-cells.ensures.items in
+    let all : views c.next_fields.new.cells.items ≡ f.0 = f.1 ∙ ap (λ rs. views rs ++ f.0) c.in_ok-cells-in-Struct.ensures.items in
     let g = f.2 in
     own_struct (shape c.args.tree.now) (fields_view c.in-Struct.fields.items) c.in-Struct.field-1.items c.args.readers.now c.next_fields.new.readers f.0 _
     (ap shape c.in-Struct.is ∙ shape-Struct c.in-Struct.fields c.in-Struct.field-1) (view-Struct c.next_fields.new.cells ∙ ap (λ cs. struct (cells_of cs)) all) (omega (arith, c.requires, w)) (rw c.deref-in-Struct.ensures.value at g)
