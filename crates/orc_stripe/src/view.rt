@@ -146,7 +146,7 @@ impl<'a> StripeView<'a> {
         }
         let tree = self.schema.tree();
         let located = locate(alloc, &self.footer, self.bytes)?;
-        let mut readers = Vec::new(alloc);
+        let mut readers = Vec::with_capacity(alloc, self.schema.width())?;
         match put_tree(alloc, tree, &self.footer, &located, &mut readers) {
             Ok(()) => Ok(RowCursor {
                 alloc,

@@ -1,13 +1,16 @@
 -- The values among cells of a kind stand for those cells, where these fit the kind.
-use Rattle.std.proofs.Common.{◌≡◌, ℕ, suc, ◌-◌, ◌<◌, ◌&&◌, nat_lt, ℤ, pos, negsuc, Bool, true, false, Option, List, [], ◌∷◌, ◌++◌, map, length, refl, sym, ap, ◌∙◌, arith, ltb-true, lt-ltb}
+use Rattle.std.proofs.Common.{◌≡◌, ℕ, suc, ◌-◌, ◌<◌, ◌^◌, ◌&&◌, nat_lt, ℤ, pos, negsuc, Bool, true, false, Option, List, [], ◌∷◌, ◌++◌, map, length, refl, sym, ap, ◌∙◌, arith, ltb-true, lt-ltb}
 use Rattle.std.specs.List.{flat_map}
+use Rattle.std.proofs.lemmas.List.{length-map}
 use Rattle.orc_types.specs.declared.kind.Scalar.{Scalar}
 use Rattle.orc_types.specs.declared.kind.Scalar.TheVariants as kind
 use Rattle.orc_types.specs.Kinds.{is_kind}
 use Rattle.orc_types.specs.Shapes.{scalar}
 use Rattle.orc_types.specs.Cells.{bool, int, date, text, bytes, Cell, null, leaf, list, struct, cells_of, list_of_cells, parts, values}
 use Rattle.orc_types.specs.Fits.{signed_fits, RowsFit}
-use Rattle.orc_types.specs.Views.{views}
+use Rattle.orc_types.specs.Lent.{lent_cells}
+use Rattle.orc_types.specs.Views.{view, views}
+use Rattle.orc_types.specs.declared.lent.Lent.{Lent}
 use Rattle.orc_types.specs.declared.value.Value.{Value}
 use Rattle.orc_written.specs.declared.cell_values.Piece.{Piece}
 use Rattle.orc_columns.specs.Spellings.{AllStand, size, joined}
@@ -136,3 +139,7 @@ as_long (r ∷ rs) = ap suc (as_long rs)
 pub views_long : (rs : List (Option Value)) → length (views rs) ≡ length rs
 views_long [] = refl
 views_long (r ∷ rs) = ap suc (views_long rs)
+
+-- as many cells as are lent
+pub cells_long : (rs : List Lent) → length rs < 2 ^ 31 → length (lent_cells rs) < 2 ^ 31
+cells_long rs h = let e = length-map rs (λ (r : Lent). view r.0.now) in omega (arith, e, h)

@@ -5,3 +5,4 @@ pub mod WrittenDirectory
 pub mod WrittenReads
 pub mod WrittenColumns
 pub mod OneWritten
+pub mod SubtreeLemmas

@@ -4,3 +4,4 @@ pub mod WrittenStreams
 pub mod WrittenColumn
 pub mod WrittenStripe
 pub mod Adding
+pub mod Subtrees

@@ -1,8 +1,10 @@
 //! Rows to the bytes of a stripe.
 #![tactic(auto)]
 
+mod below;
 mod body;
 mod cell_values;
+mod columns;
 mod limits;
 mod options;
 mod put_column;

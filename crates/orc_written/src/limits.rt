@@ -1,13 +1,54 @@
-ghost use Rattle.std.specs.Prelude.{IfOk, IfErr, ◌≡◌};
+ghost use Rattle.std.specs.Prelude.{IfOk, IfErr, ◌≡◌, map};
 ghost use Rattle.std.specs.Bool.{OnTrue, OnFalse};
-ghost use Rattle.orc_types.specs.Views.{views};
+ghost use Rattle.orc_types.specs.Cells.{parts, values};
+ghost use Rattle.orc_types.specs.Lent.{lent_cells};
+ghost use Rattle.orc_types.specs.Views.{views, shape, fields as fields_view};
+ghost use Rattle.orc_written.specs.Subtrees.{FieldsAreFew};
 ghost use Rattle.orc_written.specs.WrittenStripe.{AreFew};
 ghost use Rattle.orc_columns.specs.declared.fault.StripeFault.TheVariants.{OutOfMemory};
 
-use crate::writer::column_cells;
+use crate::below::{elements_of, fields_of, lent_rows};
 use orc_columns::fault::StripeFault;
-use orc_types::{Row, Schema};
-use std::alloc::Global;
+use orc_types::{Field, Lent, Row, Schema, Tree};
+use std::alloc::{AllocError, Global};
+
+/// Whether neither the column nor one below it has more than 2,147,483,647 cells.
+#[cycle(limits)]
+fn columns_are_few(alloc: Global, tree: &Tree, cells: &[Lent<'_, '_>]) -> Result<bool, AllocError>
+    ensures yes { IfOk result (λ few. OnTrue few (AreFew (shape tree.now) (lent_cells cells.now))) }
+    ensures no { IfOk result (λ few. OnFalse few (AreFew (shape tree.now) (lent_cells cells.now) → ⊥)) }
+{
+    if cells.len() >= 0x8000_0000 {
+        return Ok(false);
+    }
+    match tree {
+        Tree::Scalar(_, _) => Ok(true),
+        Tree::List(element, _) => {
+            let elements = elements_of(alloc, cells)?;
+            columns_are_few(alloc, element, &elements)
+        }
+        Tree::Struct(fields, _) => fields_are_few(alloc, fields, cells),
+    }
+}
+
+/// The same of the columns of the structs' fields.
+#[cycle(limits)]
+fn fields_are_few(
+    alloc: Global,
+    fields: &[Field],
+    structs: &[Lent<'_, '_>],
+) -> Result<bool, AllocError>
+    ensures yes { IfOk result (λ few. OnTrue few (FieldsAreFew (fields_view fields.now) (map parts (values (lent_cells structs.now))))) }
+    ensures no { IfOk result (λ few. OnFalse few (FieldsAreFew (fields_view fields.now) (map parts (values (lent_cells structs.now))) → ⊥)) }
+{
+    for (place, field) in fields.iter().enumerate() {
+        let cells = fields_of(alloc, structs, place)?;
+        if !columns_are_few(alloc, &field.tree, &cells)? {
+            return Ok(false);
+        }
+    }
+    Ok(true)
+}
 
 /// Whether the rows are few enough for one stripe: no column has more than 2,147,483,647 cells.
 ///
@@ -17,11 +58,6 @@ pub fn are_few(alloc: Global, schema: &Schema, rows: &[Row<'_>]) -> Result<bool,
     ensures no { IfOk result (λ few. OnFalse few (AreFew schema.now (views rows.now) → ⊥)) }
     ensures refused { IfErr result (λ fault. fault ≡ OutOfMemory) }
 {
-    for column in 0..schema.width() {
-        let found = column_cells(alloc, schema, column, rows)?;
-        if found.len() >= 0x8000_0000 {
-            return Ok(false);
-        }
-    }
-    Ok(true)
+    let cells = lent_rows(alloc, rows)?;
+    Ok(columns_are_few(alloc, schema.tree(), &cells)?)
 }

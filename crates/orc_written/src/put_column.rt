@@ -19,7 +19,7 @@ use crate::cell_values::{
     Piece, are_all_values, bools_of, ints_of, marks_in, octets_of, piece_lengths, pieces_of,
     sizes_of,
 };
-use crate::word_list::{WordList, is_worth, word_list_of};
+use crate::word_list::{WordList, entries_of, is_worth, word_list_of};
 use orc_rle::{Rle, Sign};
 use orc_types::{Lent, Scalar, Tree};
 use orc_wire::Encoding;
@@ -183,8 +183,9 @@ fn put_texts(
 ) -> Result<Encoding, AllocError>
     ensures { IfOk result (AddsValues (λ w. HasTexts rle w (piece_bytes pieces.now)) column body.old body.new) }
 {
-    let found = word_list_of(alloc, pieces)?;
-    if is_worth(found.entries.len(), pieces.len()) {
+    let entries = entries_of(alloc, pieces)?;
+    if is_worth(entries.len(), pieces.len()) {
+        let found = word_list_of(alloc, entries, pieces)?;
         put_words(alloc, rle, column, &found, body)
     } else {
         put_groups(alloc, rle, column, pieces, body)

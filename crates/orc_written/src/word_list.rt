@@ -88,16 +88,27 @@ fn pieces_from<'r>(alloc: Global, texts: Vec<&'r [u8]>) -> Result<Vec<Piece<'r>>
     Ok(pieces)
 }
 
-/// The distinct texts, and the place of each text among them.
-pub(crate) fn word_list_of<'r>(
+/// The texts, each once, in the order of unsigned bytes.
+pub(crate) fn entries_of<'r>(
     alloc: Global,
     pieces: &[Piece<'r>],
+) -> Result<Vec<&'r [u8]>, AllocError>
+    ensures { IfOk result (λ entries. AreDistinct (piece_bytes pieces.now) (lent_bytes entries.items)) }
+{
+    Ok(distinct(texts_of(alloc, pieces)?))
+}
+
+/// The entries, and the place of each text among them.
+pub(crate) fn word_list_of<'r>(
+    alloc: Global,
+    entries: Vec<&'r [u8]>,
+    pieces: &[Piece<'r>],
 ) -> Result<WordList<'r>, AllocError>
-    ensures distinct { IfOk result (λ found. AreDistinct (piece_bytes pieces.now) (piece_bytes found.entries.items)) }
+    requires { AreDistinct (piece_bytes pieces.now) (lent_bytes entries.items) }
+    ensures entries { IfOk result (λ found. piece_bytes found.entries.items ≡ lent_bytes entries.entry.items) }
     ensures named { IfOk result (λ found. AreNamed (piece_bytes found.entries.items) found.places.items (piece_bytes pieces.now)) }
     ensures in_range { IfOk result (λ found. AllInRange Unsigned found.places.items) }
 {
-    let entries = distinct(texts_of(alloc, pieces)?);
     let places = places_of(alloc, &entries, pieces)?;
     let entries = pieces_from(alloc, entries)?;
     Ok(WordList { entries, places })

@@ -1,26 +1,24 @@
 //! Rows to the bytes of a stripe.
-ghost use Rattle.std.specs.Prelude.{◌≡◌, ◌<◌, ◌^◌, List, length, IfOk, IfErr, OnOk};
+ghost use Rattle.std.specs.Prelude.{◌≡◌, List, length, IfOk, IfErr};
 ghost use Rattle.orc_rle.specs.declared.sign.Rle.{Rle};
-ghost use Rattle.orc_types.specs.Shapes.{Shape, width, shape_at};
+ghost use Rattle.orc_types.specs.Shapes.{Shape, width};
 ghost use Rattle.orc_types.specs.Cells.{Cell};
-ghost use Rattle.orc_types.specs.Columns as spec;
 ghost use Rattle.orc_types.specs.Fits.{RowsFit};
-ghost use Rattle.orc_types.specs.Views.{shape, views};
-ghost use Rattle.orc_types.specs.Lent.{lent_cells};
-ghost use Rattle.orc_stats.specs.Kinds.{kind_of};
-ghost use Rattle.orc_stats.specs.Statistics.{stat};
+ghost use Rattle.orc_types.specs.Views.{views};
 ghost use Rattle.orc_columns.specs.Stripe.{IsStripe};
 ghost use Rattle.orc_written.specs.WrittenStripe.{AreFew, HasColumns, HaveStats, IsWrittenStripe};
+ghost use Rattle.orc_written.specs.Subtrees.{HasWritten};
 ghost use Rattle.orc_columns.specs.declared.fault.StripeFault.TheVariants.{OutOfMemory};
 
+use crate::below::lent_rows;
 use crate::body::Body;
+use crate::columns::{Columns, put_columns};
 use crate::options::Options;
-use crate::put_column::put_cells;
 use orc_columns::fault::StripeFault;
 use orc_rle::Rle;
-use orc_stats::{Stat, StatKind, of_cells};
-use orc_types::{Lent, Row, Schema, Tree, cells, lend, tree_at};
-use orc_wire::{Encoding, Items, Message, StripeFooter, StripeInfo, whole_laws};
+use orc_stats::Stat;
+use orc_types::{Row, Schema};
+use orc_wire::{Items, Message, StripeFooter, StripeInfo, whole_laws};
 use std::alloc::{AllocError, Global};
 
 /// A stripe as it is written.
@@ -34,45 +32,6 @@ pub struct StripeOut {
     pub stats: Vec<Stat>,
 }
 
-/// What is written so far of a stripe's columns.
-#[derive(Drop)]
-struct Columns {
-    body: Body,
-    encodings: Vec<Encoding>,
-    stats: Vec<Stat>,
-}
-
-/// The cells of a column, in a slice.
-pub(crate) fn column_cells<'r, 'a>(
-    alloc: Global,
-    schema: &Schema,
-    column: usize,
-    rows: &'r [Row<'a>],
-) -> Result<Vec<Lent<'r, 'a>>, AllocError>
-    requires { column < width schema.now }
-    ensures { IfOk result (λ found. lent_cells found.items ≡ spec.cells schema.now column (views rows.now)) }
-{
-    let Ok(found) = cells(alloc, schema, column, rows) else {
-        return Err(AllocError);
-    };
-    match lend(alloc, found) {
-        Ok(lent) => Ok(lent),
-        Err(_) => Err(AllocError),
-    }
-}
-
-/// The statistic of a column's cells.
-fn cells_stat(alloc: Global, tree: &Tree, cells: &[Lent<'_, '_>]) -> Result<Stat, AllocError>
-    requires fit { RowsFit (shape tree.now) (lent_cells cells.now) }
-    requires few { length (lent_cells cells.now) < 2 ^ 31 }
-    ensures { IfOk result (λ found. found ≡ stat (kind_of (shape tree.now)) (lent_cells cells.now)) }
-{
-    match of_cells(alloc, StatKind::of_type(tree), cells) {
-        Ok(found) => Ok(found),
-        Err(_) => Err(AllocError),
-    }
-}
-
 /// The streams of all columns, their directory, their encodings and their statistics.
 fn all_columns(
     alloc: Global,
@@ -82,29 +41,19 @@ fn all_columns(
 ) -> Result<Columns, AllocError>
     requires fit { RowsFit schema.now (views rows.now) }
     requires few { AreFew schema.now (views rows.now) }
-    ensures columns { IfOk result (λ out. HasColumns rle schema.now (views rows.now)
-        (width schema.now) out.body.bytes.items out.body.directory.items out.encodings.items) }
-    ensures stats { IfOk result (λ out. HaveStats schema.now (views rows.now) (width schema.now) out.stats.items) }
+    ensures { IfOk result (HasWritten rle schema.now (views rows.now) (width schema.now)) }
 {
-    let mut body = Body {
-        bytes: Vec::new(alloc),
-        directory: Vec::new(alloc),
+    let mut out = Columns {
+        body: Body {
+            bytes: Vec::new(alloc),
+            directory: Vec::new(alloc),
+        },
+        encodings: Vec::new(alloc),
+        stats: Vec::new(alloc),
     };
-    let mut encodings = Vec::new(alloc);
-    let mut stats = Vec::new(alloc);
-    for column in 0..schema.width() {
-        let found = column_cells(alloc, schema, column, rows)?;
-        let tree = tree_at(schema.tree(), column);
-        let encoding = put_cells(alloc, rle, tree, column as u32, &found, &mut body)?;
-        encodings.push(encoding)?;
-        let found_stat = cells_stat(alloc, tree, &found)?;
-        stats.push(found_stat)?;
-    }
-    Ok(Columns {
-        body,
-        encodings,
-        stats,
-    })
+    let cells = lent_rows(alloc, rows)?;
+    put_columns(alloc, rle, schema.tree(), &cells, &mut out)?;
+    Ok(out)
 }
 
 /// Puts the footer behind the streams.

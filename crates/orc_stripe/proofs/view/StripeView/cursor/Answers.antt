@@ -33,7 +33,7 @@ returns-in-Ok-clause-found c = λ rows h.
     let v = c.self.inside in
     let x = columns_of v.footer v.bytes.now in
     let s = c.tree-tree.ensures.same in
-    let made = all_put v.footer v.bytes.now (shape c.tree-tree.result.now) c.new-readers.result.items c.put_tree.new.readers.items c.new-readers.ensures.items (subst (λ b. Puts v.footer b (shape c.tree-tree.result.now) c.new-readers.result.items c.put_tree.new.readers.items) c.in_ok-located.ensures.same c.in-Ok.ensures.found) in
+    let made = all_put v.footer v.bytes.now (shape c.tree-tree.result.now) c.in_ok-readers.readers.items c.put_tree.new.readers.items c.in_ok-readers.ensures.items (subst (λ b. Puts v.footer b (shape c.tree-tree.result.now) c.in_ok-readers.readers.items c.put_tree.new.readers.items) c.in_ok-located.ensures.same c.in-Ok.ensures.found) in
     let n = to_number (shape c.tree-tree.result.now) x rows (omega (arith, h.counted, c.if-count-ge2147483648.false)) ((tree_alike (shape c.tree-tree.result.now) x c.put_tree.new.readers.items made).to rows h.spelled) in
     rw (← c.self.view_is) (record {
       footer = v.footer;
@@ -48,7 +48,7 @@ returns-in-Ok-clause-only c = λ rows h.
     let s = c.tree-tree.ensures.same in
     let is = rw (← c.self.view_is) at h in
     let spelled = by_footer v.schema.now v.info v.bytes.now v.footer rows c.self.invariant is in
-    let made = all_put v.footer v.bytes.now (shape c.tree-tree.result.now) c.new-readers.result.items c.put_tree.new.readers.items c.new-readers.ensures.items (subst (λ b. Puts v.footer b (shape c.tree-tree.result.now) c.new-readers.result.items c.put_tree.new.readers.items) c.in_ok-located.ensures.same c.in-Ok.ensures.found) in
+    let made = all_put v.footer v.bytes.now (shape c.tree-tree.result.now) c.in_ok-readers.readers.items c.put_tree.new.readers.items c.in_ok-readers.ensures.items (subst (λ b. Puts v.footer b (shape c.tree-tree.result.now) c.in_ok-readers.readers.items c.put_tree.new.readers.items) c.in_ok-located.ensures.same c.in-Ok.ensures.found) in
     let here = subst (λ t. SpellRows t x v.info.number_of_rows rows) (sym s) spelled in
     record {
       going = refl;
@@ -61,7 +61,7 @@ returns-in-Ok-clause-meets c = λ f h.
     let v = c.self.inside in
     let x = columns_of v.footer v.bytes.now in
     let s = c.tree-tree.ensures.same in
-    let are = all_origins v.footer v.bytes.now (shape c.tree-tree.result.now) c.new-readers.result.items c.put_tree.new.readers.items c.new-readers.ensures.items (subst (λ b. Puts v.footer b (shape c.tree-tree.result.now) c.new-readers.result.items c.put_tree.new.readers.items) c.in_ok-located.ensures.same c.in-Ok.ensures.found) in
+    let are = all_origins v.footer v.bytes.now (shape c.tree-tree.result.now) c.in_ok-readers.readers.items c.put_tree.new.readers.items c.in_ok-readers.ensures.items (subst (λ b. Puts v.footer b (shape c.tree-tree.result.now) c.in_ok-readers.readers.items c.put_tree.new.readers.items) c.in_ok-located.ensures.same c.in-Ok.ensures.found) in
     rw (← c.self.view_is) (h.0, subst (λ t. FaultDown t x 0 h.0 v.info.number_of_rows f) s (readers_down (shape c.tree-tree.result.now) x 0 c.put_tree.new.readers.items h.0 v.info.number_of_rows f are h.1))
 
 pub returns-clause-only : goal.returns-clause-only
@@ -72,8 +72,8 @@ returns-clause-only c = λ rows h.
     let is = rw (← c.self.view_is) at h in
     let spelled = by_footer v.schema.now v.info v.bytes.now v.footer rows c.self.invariant is in
     only_memory c.in-Err.fault (λ other.
-    c.in-Err.ensures.none other rows (subst (λ b. SpellsCells (shape c.tree-tree.result.now) (columns_from v.footer b (length c.new-readers.result.items)) rows) (sym c.in_ok-located.ensures.same)
-    (none_put v.footer v.bytes.now (shape c.tree-tree.result.now) c.new-readers.result.items rows c.new-readers.ensures.items
+    c.in-Err.ensures.none other rows (subst (λ b. SpellsCells (shape c.tree-tree.result.now) (columns_from v.footer b (length c.in_ok-readers.readers.items)) rows) (sym c.in_ok-located.ensures.same)
+    (none_put v.footer v.bytes.now (shape c.tree-tree.result.now) c.in_ok-readers.readers.items rows c.in_ok-readers.ensures.items
     (subst (λ t. SpellsCells t x rows) (sym s) (from_number v.schema.now x v.info.number_of_rows rows spelled)))))
 
 pub returns-clause-fault : goal.returns-clause-fault
@@ -83,11 +83,11 @@ returns-clause-fault c = λ memory.
     let s = c.tree-tree.ensures.same in
     rw (← c.self.view_is) (record {
       none = λ rows h. memory (only_memory c.in-Err.fault (λ other.
-          c.in-Err.ensures.none other rows (subst (λ b. SpellsCells (shape c.tree-tree.result.now) (columns_from v.footer b (length c.new-readers.result.items)) rows) (sym c.in_ok-located.ensures.same)
-          (none_put v.footer v.bytes.now (shape c.tree-tree.result.now) c.new-readers.result.items rows c.new-readers.ensures.items
+          c.in-Err.ensures.none other rows (subst (λ b. SpellsCells (shape c.tree-tree.result.now) (columns_from v.footer b (length c.in_ok-readers.readers.items)) rows) (sym c.in_ok-located.ensures.same)
+          (none_put v.footer v.bytes.now (shape c.tree-tree.result.now) c.in_ok-readers.readers.items rows c.in_ok-readers.ensures.items
           (subst (λ t. SpellsCells t x rows) (sym s) (from_number v.schema.now x v.info.number_of_rows rows h))))));
-      reason = inr (fault_from_start v.schema.now (shape c.tree-tree.result.now) x c.new-readers.result.items v.info.number_of_rows c.in-Err.fault s c.new-readers.ensures.items
-          (subst (λ b. FaultDown (shape c.tree-tree.result.now) (columns_of v.footer b) (length c.new-readers.result.items) false v.info.number_of_rows c.in-Err.fault) c.in_ok-located.ensures.same
+      reason = inr (fault_from_start v.schema.now (shape c.tree-tree.result.now) x c.in_ok-readers.readers.items v.info.number_of_rows c.in-Err.fault s c.in_ok-readers.ensures.items
+          (subst (λ b. FaultDown (shape c.tree-tree.result.now) (columns_of v.footer b) (length c.in_ok-readers.readers.items) false v.info.number_of_rows c.in-Err.fault) c.in_ok-located.ensures.same
           (c.in-Err.ensures.fault memory v.info.number_of_rows)));
     })
 
@@ -96,7 +96,7 @@ put_tree-requires-clause-there c =
     let v = c.self.inside in
     let n = footer_columns v.schema.now v.info v.bytes.now v.footer c.self.invariant in
     let w : width (shape c.tree-tree.result.now) ≡ width v.schema.now = ap width c.tree-tree.ensures.same in
-    omega (arith, n, w, ap length c.new-readers.ensures.items)
+    omega (arith, n, w, ap length c.in_ok-readers.ensures.items)
 
 pub put_tree-requires-clause-located : goal.put_tree-requires-clause-located
 put_tree-requires-clause-located c =

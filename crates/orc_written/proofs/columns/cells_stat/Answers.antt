@@ -12,7 +12,7 @@ use Rattle.orc_types.specs.Lent.{lent_cells}
 use Rattle.orc_types.specs.declared.lent.Lent.{Lent}
 use Rattle.orc_stats.specs.Kinds.{is_of, kind_of}
 use Rattle.orc_stats.proofs.Fitting.{cell_kind}
-use Rattle.orc_written.proofs.writer.cells_stat.Goals as goal
+use Rattle.orc_written.proofs.columns.cells_stat.Goals as goal
 
 are_of : (s : Shape) (cs : List Cell) → RowsFit s cs → AllByRecursion (λ c. is_of (kind_of s) c ≡ true) cs
 are_of s [] h = tt

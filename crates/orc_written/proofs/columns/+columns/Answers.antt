@@ -1,0 +1,106 @@
+use Rattle.std.proofs.Common.{◌≡◌, ℕ, ◌+◌, ◌*◌, ◌<◌, ◌≤◌, List, length, map, drop, take, sym, ap, ◌∙◌, subst, arith}
+use Rattle.std.proofs.lemmas.Result.{on_ok_weaker}
+use Rattle.std.specs.List.{flat_map}
+use Rattle.orc_types.specs.Shapes.{Shape, list_of, struct_of, width, widths}
+use Rattle.orc_types.specs.Cells.{Cell, parts, values}
+use Rattle.orc_types.specs.Fits.{RowsFit}
+use Rattle.orc_types.specs.Views.{shape, fields}
+use Rattle.orc_types.specs.Lent.{lent_cells}
+use Rattle.orc_types.proofs.ByColumn.{width_within, parts_values, members_values}
+use Rattle.orc_types.proofs.Together.{elements_fit, structs_fit}
+use Rattle.orc_types.proofs.Views.{shape-Scalar, shape-List, shape-Struct}
+use Rattle.orc_written.specs.WrittenStripe.{AreFew}
+use Rattle.orc_written.specs.Subtrees.{AreColumnsFrom, HasWritten}
+use Rattle.orc_written.proofs.SubtreeLemmas.{heads_at, type_from, cells_from, element_from, fields_from, few_elements, few_fields, fields_begin, first_fits, first_few, fields_step, fields_end}
+use Rattle.orc_written.proofs.columns.+columns.Goals as goal
+
+pub put_columns-put_columns-requires : goal.put_columns-put_columns-requires
+put_columns-put_columns-requires t c =
+    let o = c.in-List.field-1.items in
+    let below = shape c.deref.result.now in
+    let cs = lent_cells c.args.cells.now in
+    let is : shape c.args.tree.now ≡ list_of below o = ap shape c.in-List.is ∙ shape-List c.in-List.element c.in-List.field-1 ∙ ap (λ x. list_of (shape x) o) (sym c.deref.ensures) in
+    let w : width (shape c.args.tree.now) ≡ 1 + width below = ap width is in
+    let here : lent_cells c.deref-in-List.result.now ≡ flat_map parts (values cs) = ap lent_cells c.deref-in-List.ensures.value ∙ c.in_ok-elements-in-List.ensures ∙ sym (parts_values cs) in (
+      omega (arith, w, c.decreases),
+      (
+        subst (λ (xs : List Cell). RowsFit below xs) (sym here) (elements_fit below o cs (subst (λ (x : Shape). RowsFit x cs) is c.requires.fit)),
+        subst (λ (xs : List Cell). AreFew below xs) (sym here) (few_elements below o cs (subst (λ (x : Shape). AreFew x cs) is c.requires.few)),
+      ),
+    )
+
+pub put_columns-put_fields-requires : goal.put_columns-put_fields-requires
+put_columns-put_fields-requires t c =
+    let o = c.in-Struct.field-1.items in
+    let fs = fields c.deref-in-Struct.result.now in
+    let cs = lent_cells c.args.cells.now in
+    let is : shape c.args.tree.now ≡ struct_of fs o = ap shape c.in-Struct.is ∙ shape-Struct c.in-Struct.fields c.in-Struct.field-1 ∙ ap (λ x. struct_of (fields x) o) (sym c.deref-in-Struct.ensures.value) in
+    let w : width (shape c.args.tree.now) ≡ 1 + widths fs = ap width is in
+    (omega (arith, w, c.decreases), (structs_fit fs o cs (subst (λ (x : Shape). RowsFit x cs) is c.requires.fit), few_fields fs o cs (subst (λ (x : Shape). AreFew x cs) is c.requires.few)))
+
+pub put_columns-returns-in-Scalar : goal.put_columns-returns-in-Scalar
+put_columns-returns-in-Scalar t c = λ s rows n from h.
+    let w : width (shape c.args.tree.now) ≡ 1 = ap width (ap shape c.in-Scalar.is ∙ shape-Scalar c.in-Scalar.field-0 c.in-Scalar.field-1) in
+    let cs = lent_cells c.args.cells.now in
+    subst (λ (k : ℕ). HasWritten c.args.rle s rows (n + k) c.put_column.new.out) (sym w)
+    (c.in_ok-put_column.ensures s rows n h (type_from s rows n (shape c.args.tree.now) cs from) (cells_from s rows n (shape c.args.tree.now) cs from))
+
+pub put_columns-returns-in_ok-elements-in-List : goal.put_columns-returns-in_ok-elements-in-List
+put_columns-returns-in_ok-elements-in-List t c =
+    let o = c.in-List.field-1.items in
+    let below = shape c.deref.result.now in
+    let cs = lent_cells c.args.cells.now in
+    let is : shape c.args.tree.now ≡ list_of below o = ap shape c.in-List.is ∙ shape-List c.in-List.element c.in-List.field-1 ∙ ap (λ x. list_of (shape x) o) (sym c.deref.ensures) in
+    let w : width (shape c.args.tree.now) ≡ 1 + width below = ap width is in
+    let here : lent_cells c.deref-in-List.result.now ≡ flat_map parts (values cs) = ap lent_cells c.deref-in-List.ensures.value ∙ c.in_ok-elements-in-List.ensures ∙ sym (parts_values cs) in
+    on_ok_weaker c.put_columns.result
+    (λ h s rows n from written.
+    let e : n + 1 + width below ≡ n + width (shape c.args.tree.now) = omega (arith, w) in
+    let mid = c.in_ok-put_column.ensures s rows n written (type_from s rows n (shape c.args.tree.now) cs from) (cells_from s rows n (shape c.args.tree.now) cs from) in
+    let from_element = element_from s rows n below o cs (subst (λ (x : Shape). AreColumnsFrom s rows n x cs) is from) in
+    subst (λ (k : ℕ). HasWritten c.args.rle s rows k c.put_columns.new.out) e (h s rows (n + 1) (subst (λ (xs : List Cell). AreColumnsFrom s rows (n + 1) below xs) (sym here) from_element) mid))
+    c.put_columns.ensures
+
+pub put_columns-returns-in-Struct : goal.put_columns-returns-in-Struct
+put_columns-returns-in-Struct t c =
+    let o = c.in-Struct.field-1.items in
+    let fs = fields c.deref-in-Struct.result.now in
+    let cs = lent_cells c.args.cells.now in
+    let is : shape c.args.tree.now ≡ struct_of fs o = ap shape c.in-Struct.is ∙ shape-Struct c.in-Struct.fields c.in-Struct.field-1 ∙ ap (λ x. struct_of (fields x) o) (sym c.deref-in-Struct.ensures.value) in
+    let w : width (shape c.args.tree.now) ≡ 1 + widths fs = ap width is in
+    on_ok_weaker c.put_fields.result
+    (λ h s rows n from written.
+    let e : n + 1 + widths fs ≡ n + width (shape c.args.tree.now) = omega (arith, w) in
+    let mid = c.in_ok-put_column.ensures s rows n written (type_from s rows n (shape c.args.tree.now) cs from) (cells_from s rows n (shape c.args.tree.now) cs from) in
+    subst (λ (k : ℕ). HasWritten c.args.rle s rows k c.put_fields.new.out) e (h s rows (n + 1) (fields_from s rows n fs o cs (subst (λ (x : Shape). AreColumnsFrom s rows n x cs) is from)) mid))
+    c.put_fields.ensures
+
+pub put_fields-loop-place-init : goal.put_fields-loop-place-init
+put_fields-loop-place-init t c = fields_begin c.args.rle c.args.fields.now (map parts (values (lent_cells c.args.structs.now))) c.args.out.now c.requires.fit c.requires.few
+
+pub put_fields-put_columns-requires : goal.put_fields-put_columns-requires
+put_fields-put_columns-requires t c =
+    let fs = c.args.fields.now in
+    let n = c.loop-place.place in
+    let f = c.index-fields-place.result in
+    let structs = map parts (values (lent_cells c.args.structs.now)) in
+    let u : width (shape f.tree) ≤ widths (fields fs) = width_within fs n f c.loop-place-test.true c.index-fields-place.is in
+    let here : lent_cells c.deref.result.now ≡ flat_map (take 1) (map (drop n) structs) = ap lent_cells c.deref.ensures.value ∙ c.in_ok-cells.ensures ∙ members_values n (lent_cells c.args.structs.now) ∙ heads_at n structs in (
+      omega (arith, u, c.decreases),
+      (
+        subst (λ (xs : List Cell). RowsFit (shape f.tree) xs) (sym here) (first_fits c.args.rle fs structs n f c.args.out.now c.loop-place.out c.loop-place-test.true c.index-fields-place.is c.loop-place.invariant),
+        subst (λ (xs : List Cell). AreFew (shape f.tree) xs) (sym here) (first_few c.args.rle fs structs n f c.args.out.now c.loop-place.out c.loop-place-test.true c.index-fields-place.is c.loop-place.invariant),
+      ),
+    )
+
+pub put_fields-loop-place-preserved : goal.put_fields-loop-place-preserved
+put_fields-loop-place-preserved t c =
+    let n = c.loop-place.place in
+    let structs = map parts (values (lent_cells c.args.structs.now)) in
+    let here : lent_cells c.deref.result.now ≡ flat_map (take 1) (map (drop n) structs) = ap lent_cells c.deref.ensures.value ∙ c.in_ok-cells.ensures ∙ members_values n (lent_cells c.args.structs.now) ∙ heads_at n structs in
+    fields_step c.args.rle c.args.fields.now structs n c.index-fields-place.result (lent_cells c.deref.result.now) c.args.out.now c.loop-place.out c.put_columns.new.out c.loop-place-test.true c.index-fields-place.is here
+    c.loop-place.invariant c.in_ok-put_columns.ensures
+
+pub put_fields-returns : goal.put_fields-returns
+put_fields-returns t c =
+    fields_end c.args.rle c.args.fields.now (map parts (values (lent_cells c.args.structs.now))) c.loop-place.place c.args.out.now c.loop-place.out (omega (arith, c.loop-place-test.false)) c.loop-place.invariant
