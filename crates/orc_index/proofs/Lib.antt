@@ -1,0 +1,5 @@
+pub mod StreamPlaces
+pub mod ColumnPlaces
+pub mod Groups
+pub mod StatWhole
+pub mod WrittenIndex

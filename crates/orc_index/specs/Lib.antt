@@ -1,0 +1,5 @@
+pub mod RunStreams
+pub mod Places
+pub mod Bounds
+pub mod RowIndex
+pub mod Walking

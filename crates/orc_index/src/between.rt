@@ -1,0 +1,17 @@
+ghost use Rattle.std.specs.Prelude.{◌≡◌, ◌-◌, ◌≤◌, take, drop, length};
+ghost use Rattle.orc_types.specs.Lent.{lent_cells};
+
+use orc_types::Lent;
+
+/// The cells from one place to another.
+pub(crate) fn cells_between<'c, 'r, 'a>(
+    cells: &'c [Lent<'r, 'a>],
+    start: usize,
+    end: usize,
+) -> &'c [Lent<'r, 'a>]
+    requires ordered { start ≤ end }
+    requires there { end ≤ length cells.now }
+    ensures { lent_cells result.now ≡ take (end - start) (drop start (lent_cells cells.now)) }
+{
+    &cells[start..end]
+}

@@ -1,0 +1,21 @@
+//! Row indexes: where each group of a column's cells begins in its streams, and the statistic of the group.
+#![tactic(auto)]
+
+mod between;
+mod bounds;
+mod counting;
+mod counts;
+mod entries;
+mod laws;
+mod placed;
+mod row_index;
+mod run_bytes;
+mod walk;
+
+pub use bounds::{element_bounds, field_bounds};
+pub use counting::counted;
+pub use counts::Counts;
+pub use laws::index_laws;
+pub use placed::{PlacedStreams, placed_streams};
+pub use row_index::put_index;
+pub use run_bytes::RunBytes;
