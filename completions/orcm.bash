@@ -1,0 +1,24 @@
+# Completions of orcm for bash: source this file.
+_orcm() {
+    local word=${COMP_WORDS[COMP_CWORD]} before=${COMP_WORDS[COMP_CWORD - 1]}
+    COMPREPLY=()
+    case $before in
+        --rle) COMPREPLY=($(compgen -W '1 2' -- "$word")); return ;;
+        --sign) COMPREPLY=($(compgen -W 's u' -- "$word")); return ;;
+        --schema | --stride | --stripe-rows) return ;;
+    esac
+    if [ "$COMP_CWORD" -eq 1 ]; then
+        COMPREPLY=($(compgen -W 'ints rows show write merge help --help --version' -- "$word"))
+        return
+    fi
+    local options=--help
+    case ${COMP_WORDS[1]} in
+        ints) options='--rle --sign --help' ;;
+        write) options='--schema --rle --stride --stripe-rows --help' ;;
+    esac
+    case $word in
+        -*) COMPREPLY=($(compgen -W "$options" -- "$word")) ;;
+        *) COMPREPLY=($(compgen -f -- "$word")) ;;
+    esac
+}
+complete -o filenames -F _orcm orcm
