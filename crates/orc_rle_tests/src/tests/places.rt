@@ -169,22 +169,43 @@ fn is_found(places: &RunPlaces, pos: Pos, n: usize) -> bool {
         && !places.begins(offset.saturating_add(1), skip, n)
 }
 
+/// Whether the writer's position of a number has this offset and skip.
+fn has_place<C: RunCodec>(
+    alloc: Global,
+    text: &[u8],
+    sign: Sign,
+    place: (usize, usize, usize),
+) -> Result<bool, RunFault> {
+    let (n, offset, skip) = place;
+    Ok(place_of::<C>(alloc, text, sign, n)? == Pos { offset, skip })
+}
+
+/// Whether the values from a number on come from the writer's position of it, which is found among the runs' places.
+fn goes_on<C: RunCodec>(
+    alloc: Global,
+    values: &[i64],
+    sign: Sign,
+    text: &[u8],
+    n: usize,
+    table: &RunPlaces,
+) -> Result<bool, RunFault> {
+    let pos = place_of::<C>(alloc, text, sign, n)?;
+    let found = values_from::<C>(alloc, text, sign, pos)?;
+    Ok(
+        found.as_slice() == from_number(values, n)?
+            && is_found(table, pos, n)
+            && table.begins(0, n as u64, n as u64),
+    )
+}
+
 fn check_rows<C: RunCodec>(rt: &impl Abort, alloc: Global, rows: &[Row]) -> Result<(), RunFault> {
     for (values, sign, text, places) in rows {
         let table = run_places::<C>(alloc, text, *sign)?;
-        for (n, offset, skip) in places.iter() {
-            let pos = Pos {
-                offset: *offset,
-                skip: *skip,
-            };
-            assert_eq!(rt; place_of::<C>(alloc, text, *sign, *n)?, pos);
+        for place in places.iter() {
+            assert!(rt; has_place::<C>(alloc, text, *sign, *place)?, "{}", place.0);
         }
         for n in 0..=values.len() {
-            let pos = place_of::<C>(alloc, text, *sign, n)?;
-            let found = values_from::<C>(alloc, text, *sign, pos)?;
-            assert!(rt; found.as_slice() == from_number(values, n)?, "{n}");
-            assert!(rt; is_found(&table, pos, n), "{n}");
-            assert!(rt; table.begins(0, n as u64, n as u64), "{n}");
+            assert!(rt; goes_on::<C>(alloc, values, *sign, text, n, &table)?, "{n}");
         }
     }
     Ok(())
@@ -229,24 +250,45 @@ fn byte_place_of(alloc: Global, bytes: &[u8], total: usize, n: usize) -> Result<
     Ok(pos)
 }
 
+/// Whether the writer's position of a byte has this offset and skip.
+fn has_byte_place(
+    alloc: Global,
+    text: &[u8],
+    total: usize,
+    place: (usize, usize, usize),
+) -> Result<bool, RunFault> {
+    let (n, offset, skip) = place;
+    Ok(byte_place_of(alloc, text, total, n)? == Pos { offset, skip })
+}
+
+/// Whether the bytes from a number on come from the writer's position of it, which is found among the runs' places.
+fn bytes_go_on(
+    alloc: Global,
+    values: &[u8],
+    text: &[u8],
+    n: usize,
+    table: &RunPlaces,
+) -> Result<bool, RunFault> {
+    let pos = byte_place_of(alloc, text, values.len(), n)?;
+    let wanted = from_number(values, n)?;
+    let mut run = RunU8::new();
+    let at = ByteRuns::seek(text, pos, &mut run)?;
+    let found = bytes_from(alloc, text, wanted.len(), at, &run)?;
+    Ok(found.as_slice() == wanted && is_found(table, pos, n))
+}
+
 fn check_bytes(rt: &impl Abort, alloc: Global) -> Result<(), RunFault> {
-    for (values, text, places) in BYTES {
+    for (values, text, places) in &BYTES {
         let table = byte_places(alloc, text)?;
-        for (n, offset, skip) in places {
-            let pos = Pos {
-                offset: *offset,
-                skip: *skip,
-            };
-            assert_eq!(rt; byte_place_of(alloc, text, values.len(), *n)?, pos);
+        for place in places.iter() {
+            assert!(rt;
+                has_byte_place(alloc, text, values.len(), *place)?,
+                "{}",
+                place.0
+            );
         }
         for n in 0..=values.len() {
-            let pos = byte_place_of(alloc, text, values.len(), n)?;
-            let wanted = from_number(values, n)?;
-            let mut run = RunU8::new();
-            let at = ByteRuns::seek(text, pos, &mut run)?;
-            let found = bytes_from(alloc, text, wanted.len(), at, &run)?;
-            assert!(rt; found.as_slice() == wanted, "{n}");
-            assert!(rt; is_found(&table, pos, n), "{n}");
+            assert!(rt; bytes_go_on(alloc, values, text, n, &table)?, "{n}");
         }
     }
     Ok(())
@@ -298,26 +340,46 @@ fn is_bit_found(places: &RunPlaces, pos: BitPos, n: usize) -> bool {
         && !places.begins_bit(offset, skip.saturating_add(1), bits, n)
 }
 
+/// Whether the writer's position of a boolean has this offset, skip and bits.
+fn has_bit_place(
+    alloc: Global,
+    text: &[u8],
+    total: usize,
+    place: (usize, usize, usize, usize),
+) -> Result<bool, RunFault> {
+    let (n, offset, skip, bits) = place;
+    Ok(bit_place_of(alloc, text, total, n)? == BitPos { offset, skip, bits })
+}
+
+/// Whether the booleans from a number on come from the writer's position of it, which is found among the runs' places.
+fn bits_go_on(
+    alloc: Global,
+    values: &[bool],
+    text: &[u8],
+    n: usize,
+    table: &RunPlaces,
+) -> Result<bool, RunFault> {
+    let pos = bit_place_of(alloc, text, values.len(), n)?;
+    let wanted = from_number(values, n)?;
+    let mut run = RunU8::new();
+    let at = BitRuns::seek(text, pos, &mut run)?;
+    let count = pos.bits.saturating_add(wanted.len()).div_ceil(8);
+    let packed = bytes_from(alloc, text, count, at, &run)?;
+    Ok(holds_bits(&packed, pos.bits, wanted) && is_bit_found(table, pos, n))
+}
+
 fn check_bits(rt: &impl Abort, alloc: Global) -> Result<(), RunFault> {
-    for (values, text, places) in BITS {
+    for (values, text, places) in &BITS {
         let table = byte_places(alloc, text)?;
-        for (n, offset, skip, bits) in places {
-            let pos = BitPos {
-                offset: *offset,
-                skip: *skip,
-                bits: *bits,
-            };
-            assert_eq!(rt; bit_place_of(alloc, text, values.len(), *n)?, pos);
+        for place in places.iter() {
+            assert!(rt;
+                has_bit_place(alloc, text, values.len(), *place)?,
+                "{}",
+                place.0
+            );
         }
         for n in 0..=values.len() {
-            let pos = bit_place_of(alloc, text, values.len(), n)?;
-            let wanted = from_number(values, n)?;
-            let mut run = RunU8::new();
-            let at = BitRuns::seek(text, pos, &mut run)?;
-            let count = pos.bits.saturating_add(wanted.len()).div_ceil(8);
-            let packed = bytes_from(alloc, text, count, at, &run)?;
-            assert!(rt; holds_bits(&packed, pos.bits, wanted), "{n}");
-            assert!(rt; is_bit_found(&table, pos, n), "{n}");
+            assert!(rt; bits_go_on(alloc, values, text, n, &table)?, "{n}");
         }
     }
     Ok(())
