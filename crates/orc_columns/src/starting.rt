@@ -58,7 +58,11 @@ fn uses_dictionary(encoding: u32) -> bool
 }
 
 /// The streams of a column.
-fn streams_of<'a>(column: usize, footer: &StripeFooter, located: &Located<'a>) -> ColumnStreams<'a>
+pub fn streams_of<'a>(
+    column: usize,
+    footer: &StripeFooter,
+    located: &Located<'a>,
+) -> ColumnStreams<'a>
     requires there { column < length footer.now.columns }
     requires located { AreLocated (length footer.now.columns) footer.now.streams located.now.bytes.now located.now.slices.items }
     ensures { AreStreams (columns_of footer.now located.now.bytes.now column) result }

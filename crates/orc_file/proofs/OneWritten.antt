@@ -3,13 +3,13 @@ use Rattle.std.proofs.Common.{◌≡◌, ℕ, suc, ◌+◌, ◌<◌, List, [], �
 use Rattle.std.specs.Prelude.{slice_get}
 use Rattle.std.proofs.lemmas.List.{append-nil}
 use Rattle.std.proofs.Math.Seq.{take-append_seam, drop-append_seam}
-use Rattle.orc_rle.specs.declared.sign.Rle.{Rle}
+use Rattle.orc_written.specs.declared.options.Options.{Options}
 use Rattle.orc_wire.specs.declared.stripe_info.StripeInfo.{StripeInfo}
 use Rattle.orc_types.specs.Shapes.{Shape, width}
 use Rattle.orc_types.specs.Cells.{Cell}
 use Rattle.orc_stats.specs.declared.stat.Stat.{Stat}
 use Rattle.orc_written.specs.WrittenStripe.{IsWrittenStripe, HaveStats, column_stat}
-use Rattle.orc_written.proofs.OneWritten.{one_stripe}
+use Rattle.orc_written.proofs.StripeLaws.{one_stripe}
 use Rattle.orc_file.specs.Layout.{magic}
 use Rattle.orc_file.specs.Images.{tail_text}
 use Rattle.orc_file.specs.Writing.{Closed, IsClosed, AreClosed, bytes_of, rows_of, infos_of, stats_of, AreFilled, written_tail, IsWrittenFile}
@@ -32,10 +32,10 @@ same_stats s rows xs ys p q =
     let m = p.counted in let n = q.counted in
     same_list (column_stat s rows) xs ys (omega (arith, m, n)) (λ i l. p.each i (omega (arith, l, m))) (λ i l. q.each i (omega (arith, l, n)))
 
-one_closed : (rle : Rle) (s : Shape) (at : ℕ) (c d : Closed) → c.rows ≡ d.rows → IsClosed rle s at c → IsClosed rle s at d → c ≡ d
-one_closed rle s at c d rows p q =
-    let text = one_stripe rle s d.rows (record c.info { offset = 0 }) (record d.info { offset = 0 }) c.bytes d.bytes
-    (subst (λ (r : List Cell). IsWrittenStripe rle s r (record c.info { offset = 0 }) c.bytes) rows p.written) q.written in
+one_closed : (options : Options) (s : Shape) (at : ℕ) (c d : Closed) → c.rows ≡ d.rows → IsClosed options s at c → IsClosed options s at d → c ≡ d
+one_closed options s at c d rows p q =
+    let text = one_stripe options.rle options.stride s d.rows (record c.info { offset = 0 }) (record d.info { offset = 0 }) c.bytes d.bytes
+    (subst (λ (r : List Cell). IsWrittenStripe options.rle options.stride s r (record c.info { offset = 0 }) c.bytes) rows p.written) q.written in
     let stats : c.stats ≡ d.stats = same_stats s d.rows c.stats d.stats (subst (λ (r : List Cell). HaveStats s r (width s) c.stats) rows p.counted) q.counted in
     let info : c.info ≡ d.info =
     ap (λ (o : ℕ). record c.info { offset = o }) (p.placed ∙ sym q.placed) ∙ ap (λ (i : StripeInfo). record i { offset = d.info.offset }) text.0 in
@@ -66,31 +66,31 @@ too_few n c d e es p q same =
     let m = length-append e.rows (rows_of es) in
     omega (arith, most, full, some, l, m)
 
-one_list : (rle : Rle) (n : ℕ) (s : Shape) (at : ℕ) (cs ds : List Closed) → AreClosed rle s at cs → AreClosed rle s at ds → AreFilled n cs → AreFilled n ds → rows_of cs ≡ rows_of ds → cs ≡ ds
-one_list rle n s at [] [] p q f g e = refl
-one_list rle n s at [] (d ∷ ds) p q f g e =
-    let some = first_some n d ds g in let l = ap length e ∙ length-append d.rows (rows_of ds) in absurd (omega (arith, some, l))
-one_list rle n s at (c ∷ cs) [] p q f g e =
-    let some = first_some n c cs f in let l = sym (length-append c.rows (rows_of cs)) ∙ ap length e in absurd (omega (arith, some, l))
-one_list rle n s at (c ∷ []) (d ∷ []) p q f g e =
+one_list : (options : Options) (s : Shape) (at : ℕ) (cs ds : List Closed) → AreClosed options s at cs → AreClosed options s at ds → AreFilled options.stripe_rows cs → AreFilled options.stripe_rows ds → rows_of cs ≡ rows_of ds → cs ≡ ds
+one_list options s at [] [] p q f g e = refl
+one_list options s at [] (d ∷ ds) p q f g e =
+    let some = first_some options.stripe_rows d ds g in let l = ap length e ∙ length-append d.rows (rows_of ds) in absurd (omega (arith, some, l))
+one_list options s at (c ∷ cs) [] p q f g e =
+    let some = first_some options.stripe_rows c cs f in let l = sym (length-append c.rows (rows_of cs)) ∙ ap length e in absurd (omega (arith, some, l))
+one_list options s at (c ∷ []) (d ∷ []) p q f g e =
     let rows : c.rows ≡ d.rows = sym (append-nil c.rows) ∙ e ∙ append-nil d.rows in
-    ap (λ (x : Closed). x ∷ []) (one_closed rle s at c d rows p.0 q.0)
-one_list rle n s at (c ∷ []) (d ∷ d2 ∷ ds) p q f g e = absurd (too_few n c d d2 ds f g e)
-one_list rle n s at (c ∷ c2 ∷ cs) (d ∷ []) p q f g e = absurd (too_few n d c c2 cs g f (sym e))
-one_list rle n s at (c ∷ c2 ∷ cs) (d ∷ d2 ∷ ds) p q f g e =
+    ap (λ (x : Closed). x ∷ []) (one_closed options s at c d rows p.0 q.0)
+one_list options s at (c ∷ []) (d ∷ d2 ∷ ds) p q f g e = absurd (too_few options.stripe_rows c d d2 ds f g e)
+one_list options s at (c ∷ c2 ∷ cs) (d ∷ []) p q f g e = absurd (too_few options.stripe_rows d c c2 cs g f (sym e))
+one_list options s at (c ∷ c2 ∷ cs) (d ∷ d2 ∷ ds) p q f g e =
     let k = f.0 in let l = g.0 in
     let cut = cut_at c.rows d.rows (rows_of (c2 ∷ cs)) (rows_of (d2 ∷ ds)) (omega (arith, k, l)) e in
-    let here : c ≡ d = one_closed rle s at c d cut.0 p.0 q.0 in
-    let later = subst (λ (m : ℕ). AreClosed rle s (at + m) (c2 ∷ cs)) (ap (λ (x : Closed). length x.bytes) here) p.1 in
-    let rest = one_list rle n s (at + length d.bytes) (c2 ∷ cs) (d2 ∷ ds) later q.1 f.1 g.1 cut.1 in
+    let here : c ≡ d = one_closed options s at c d cut.0 p.0 q.0 in
+    let later = subst (λ (m : ℕ). AreClosed options s (at + m) (c2 ∷ cs)) (ap (λ (x : Closed). length x.bytes) here) p.1 in
+    let rest = one_list options s (at + length d.bytes) (c2 ∷ cs) (d2 ∷ ds) later q.1 f.1 g.1 cut.1 in
     ap (λ (x : Closed). x ∷ c2 ∷ cs) here ∙ ap (λ (xs : List Closed). d ∷ xs) rest
 
 -- ---- files
 
-pub one_written : (rle : Rle) (n : ℕ) (s : Shape) (t u : Tail) (a b : List ℕ) (rows : List Cell) → IsWrittenFile rle n s t a rows → IsWrittenFile rle n s u b rows → (t ≡ u) × (a ≡ b)
-one_written rle n s t u a b rows p q =
-    let same = one_list rle n s 3 p.closed q.closed p.are q.are p.filled q.filled (sym p.rows_are ∙ q.rows_are) in
-    let tails : t ≡ u = p.tail_is ∙ ap (λ (cs : List Closed). written_tail rle s (infos_of cs) (stats_of cs)) same ∙ sym q.tail_is in (
+pub one_written : (options : Options) (s : Shape) (t u : Tail) (a b : List ℕ) (rows : List Cell) → IsWrittenFile options s t a rows → IsWrittenFile options s u b rows → (t ≡ u) × (a ≡ b)
+one_written options s t u a b rows p q =
+    let same = one_list options s 3 p.closed q.closed p.are q.are p.filled q.filled (sym p.rows_are ∙ q.rows_are) in
+    let tails : t ≡ u = p.tail_is ∙ ap (λ (cs : List Closed). written_tail options s (infos_of cs) (stats_of cs)) same ∙ sym q.tail_is in (
       tails,
       p.bytes_are
           ∙ ap (λ (cs : List Closed). (magic ++ bytes_of cs) ++ tail_text t) same

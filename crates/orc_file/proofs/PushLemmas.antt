@@ -2,7 +2,7 @@
 use Rattle.std.proofs.Common.{◌≡◌, ℕ, ◌+◌, ◌<◌, Bool, true, false, List, [], ◌∷◌, ◌++◌, length, Option, Result, Ok, Err, sym, ap, subst, arith, length-append}
 use Rattle.std.specs.Result.{OnOk, OnErr}
 use Rattle.std.proofs.lemmas.List.{length-map}
-use Rattle.orc_rle.specs.declared.sign.Rle.{Rle}
+use Rattle.orc_written.specs.declared.options.Options.{Options}
 use Rattle.orc_wire.specs.declared.stripe_info.StripeInfo.{StripeInfo}
 use Rattle.orc_types.specs.Shapes.{Shape}
 use Rattle.orc_types.specs.Cells.{Cell}
@@ -21,8 +21,8 @@ one_more before after row e =
     omega (arith, length-map before view, length-map after view, ap length e, length-append (views before) (row ∷ []))
 
 -- once the stripe is written, no row is kept
-pub pushed_full : {T E : Type 0} (r : Result T E) (rle : Rle) (n : ℕ) (s : Shape) (first told : Option (List ℕ)) (written : ℕ) (infos : List StripeInfo) (stats : List (List Stat)) (kept : List (Option Value)) (rows : List Cell)
-    → 0 < n → OnOk r (kept ≡ []) → OnOk r (HasKept rle n s first told written infos stats [] rows) → OnOk r (HasPushed rle n s first told written infos stats (views kept) rows)
-pushed_full (Ok x) rle n s first told written infos stats kept rows l e h =
-    subst (λ k. HasPushed rle n s first told written infos stats (views k) rows) (sym e) (h, l)
-pushed_full (Err x) rle n s first told written infos stats kept rows l e h = tt
+pub pushed_full : {T E : Type 0} (r : Result T E) (options : Options) (s : Shape) (first told : Option (List ℕ)) (written : ℕ) (infos : List StripeInfo) (stats : List (List Stat)) (kept : List (Option Value)) (rows : List Cell)
+    → 0 < options.stripe_rows → OnOk r (kept ≡ []) → OnOk r (HasKept options s first told written infos stats [] rows) → OnOk r (HasPushed options s first told written infos stats (views kept) rows)
+pushed_full (Ok x) options s first told written infos stats kept rows l e h =
+    subst (λ k. HasPushed options s first told written infos stats (views k) rows) (sym e) (h, l)
+pushed_full (Err x) options s first told written infos stats kept rows l e h = tt

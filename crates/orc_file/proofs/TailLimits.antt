@@ -5,6 +5,7 @@ use Rattle.std.specs.List.{AllByRecursion}
 use Rattle.std.specs.Option.{is_none}
 use Rattle.std.proofs.lemmas.Bool.{ltb-true, and_parts, eqb-true}
 use Rattle.std.proofs.lemmas.List.Sums.{sum_by-append, sum_by-cons}
+use Rattle.orc_written.specs.declared.options.Options.{Options}
 use Rattle.orc_rle.specs.declared.sign.Rle.{Rle}
 use Rattle.orc_rle.specs.declared.sign.Rle.TheVariants.{One, Two}
 use Rattle.orc_wire.specs.declared.stripe_info.StripeInfo.{StripeInfo}
@@ -132,12 +133,12 @@ short_version : (rle : Rle) → length (version_of rle) ≤ most_versions
 short_version One = omega arith
 short_version Two = omega arith
 
-pub tail_within : (rle : Rle) (s : Shape) (infos : List StripeInfo) (stats : List (List Stat)) → IsSchema s → AreWithin infos → are_laid_with_few_rows 3 infos ≡ true
-    → length stats ≡ length infos → are_all_stats s stats ≡ true → IsWithinLimits (written_tail rle s infos stats)
-tail_within rle s infos stats schema within laid same are =
+pub tail_within : (options : Options) (s : Shape) (infos : List StripeInfo) (stats : List (List Stat)) → IsSchema s → AreWithin infos → are_laid_with_few_rows 3 infos ≡ true
+    → length stats ≡ length infos → are_all_stats s stats ≡ true → IsWithinLimits (written_tail options s infos stats)
+tail_within options s infos stats schema within laid same are =
     let stripes = within.stripes in
     record {
-      version = short_version rle;
+      version = short_version options.rle;
       schema = schema;
       file_stats = file_stats_are s stats are (omega (arith, same, stripes));
       stripe_stats = stripes_are_of s stats are;

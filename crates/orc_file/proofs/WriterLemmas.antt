@@ -5,7 +5,7 @@ use Rattle.std.specs.List.{AllByRecursion, flat_map}
 use Rattle.std.proofs.Math.Seq.{take-append_seam}
 use Rattle.std.proofs.lemmas.Bool.{lt-ltb, ltb-true, and_parts, eqb-true, eq-eqb}
 use Rattle.std.proofs.lemmas.List.{map-append, take_all, take-append-drop, length-take-le}
-use Rattle.orc_rle.specs.declared.sign.Rle.{Rle}
+use Rattle.orc_written.specs.declared.options.Options.{Options}
 use Rattle.orc_wire.specs.declared.stripe_info.StripeInfo.{StripeInfo}
 use Rattle.orc_types.specs.Shapes.{Shape, scalar, list_of, struct_of, width}
 use Rattle.orc_types.specs.Schemas.{IsSchema}
@@ -124,11 +124,11 @@ flat_more : {X Y : Type 0} (f : X → List Y) (xs : List X) (x : X) → flat_map
 flat_more f [] x = append-nil (f x)
 flat_more f (y ∷ ys) x = ap (λ zs. f y ++ zs) (flat_more f ys x) ∙ sym (append_assoc (f y) (flat_map f ys) (f x))
 
-closed_more : (rle : Rle) (s : Shape) (at end : ℕ) (cs : List Closed) (c : Closed) → AreClosed rle s at cs → end ≡ at + length (bytes_of cs) → IsClosed rle s end c → AreClosed rle s at (cs ++ c ∷ [])
-closed_more rle s at end [] c h e i = (subst (λ p. IsClosed rle s p c) (omega (arith, e)) i, tt)
-closed_more rle s at end (d ∷ ds) c h e i =
+closed_more : (options : Options) (s : Shape) (at end : ℕ) (cs : List Closed) (c : Closed) → AreClosed options s at cs → end ≡ at + length (bytes_of cs) → IsClosed options s end c → AreClosed options s at (cs ++ c ∷ [])
+closed_more options s at end [] c h e i = (subst (λ p. IsClosed options s p c) (omega (arith, e)) i, tt)
+closed_more options s at end (d ∷ ds) c h e i =
     let l = length-append d.bytes (bytes_of ds) in
-    (h.0, closed_more rle s (at + length d.bytes) end ds c h.1 (omega (arith, e, l)) i)
+    (h.0, closed_more options s (at + length d.bytes) end ds c h.1 (omega (arith, e, l)) i)
 
 full_more : (n : ℕ) (cs : List Closed) (c : Closed) → AreFull n cs → length c.rows ≡ n → AreFull n (cs ++ c ∷ [])
 full_more n [] c h e = (e, tt)
@@ -152,32 +152,32 @@ appended_twice (Some x) a b = ap Some (append_assoc x a b)
 -- ---- what a call leaves
 
 -- stripes within the limits are closed by the tail that lists them
-closes : (rle : Rle) (n : ℕ) (s : Shape) (cs : List Closed) → AreClosed rle s 3 cs → AreFilled n cs → AreWithin (infos_of cs)
-    → IsSomeFile rle n s ((magic ++ bytes_of cs) ++ tail_text (written_tail rle s (infos_of cs) (stats_of cs))) (rows_of cs)
-closes rle n s cs are filled within = (
-  written_tail rle s (infos_of cs) (stats_of cs),
+closes : (options : Options) (s : Shape) (cs : List Closed) → AreClosed options s 3 cs → AreFilled options.stripe_rows cs → AreWithin (infos_of cs)
+    → IsSomeFile options s ((magic ++ bytes_of cs) ++ tail_text (written_tail options s (infos_of cs) (stats_of cs))) (rows_of cs)
+closes options s cs are filled within = (
+  written_tail options s (infos_of cs) (stats_of cs),
   record { closed = cs; are = are; filled = filled; within = within; tail_is = refl; bytes_are = refl; rows_are = refl },
 )
 
 -- nothing of the kept rows was written
-pub cut_kept : (rle : Rle) (n : ℕ) (s : Shape) (first told : Option (List ℕ)) (written : ℕ) (infos : List StripeInfo) (stats : List (List Stat)) (kept rows : List Cell)
-    → 0 < n → AreWithin infos → IsSchema s → HasKept rle n s first told written infos stats kept rows → IsCutOff rle n s first told rows
-cut_kept rle n s first told written infos stats kept rows l w schema h =
-    let text = tail_text (written_tail rle s (infos_of h.closed) (stats_of h.closed)) in
-    let f = closes rle n s h.closed h.are (filled_full n h.closed l h.full) (subst AreWithin h.infos_are w) in
+pub cut_kept : (options : Options) (s : Shape) (first told : Option (List ℕ)) (written : ℕ) (infos : List StripeInfo) (stats : List (List Stat)) (kept rows : List Cell)
+    → 0 < options.stripe_rows → AreWithin infos → IsSchema s → HasKept options s first told written infos stats kept rows → IsCutOff options s first told rows
+cut_kept options s first told written infos stats kept rows l w schema h =
+    let text = tail_text (written_tail options s (infos_of h.closed) (stats_of h.closed)) in
+    let f = closes options s h.closed h.are (filled_full options.stripe_rows h.closed l h.full) (subst AreWithin h.infos_are w) in
     record {
       mine = magic ++ bytes_of h.closed;
       rest = text;
       count = length (rows_of h.closed);
       told_is = h.told_is;
       schema = schema;
-      file = subst (λ rs. IsSomeFile rle n s ((magic ++ bytes_of h.closed) ++ text) rs) (sym (ap (take (length (rows_of h.closed))) h.rows_are ∙ take-append_seam (rows_of h.closed) kept)) f;
+      file = subst (λ rs. IsSomeFile options s ((magic ++ bytes_of h.closed) ++ text) rs) (sym (ap (take (length (rows_of h.closed))) h.rows_are ∙ take-append_seam (rows_of h.closed) kept)) f;
     }
 
 -- nothing but some of the magic was written
-pub cut_begun : (rle : Rle) (n : ℕ) (s : Shape) (first new : Option (List ℕ)) (k : ℕ) → IsSchema s → new ≡ appended first (take k magic) → IsCutOff rle n s first new []
-cut_begun rle n s first new k schema e =
-    let text = tail_text (written_tail rle s [] []) in
+pub cut_begun : (options : Options) (s : Shape) (first new : Option (List ℕ)) (k : ℕ) → IsSchema s → new ≡ appended first (take k magic) → IsCutOff options s first new []
+cut_begun options s first new k schema e =
+    let text = tail_text (written_tail options s [] []) in
     let whole : (magic ++ []) ++ text ≡ take k magic ++ (drop k magic ++ text)
     = ap (λ x. x ++ text) (append-nil magic ∙ sym (take-append-drop k magic)) ∙ append_assoc (take k magic) (drop k magic) text in
     record {
@@ -186,7 +186,7 @@ cut_begun rle n s first new k schema e =
       count = 0;
       told_is = e;
       schema = schema;
-      file = subst (λ bs. IsSomeFile rle n s bs []) whole (closes rle n s [] tt tt (record { stripes = omega arith; rows = omega arith; bytes = omega arith }));
+      file = subst (λ bs. IsSomeFile options s bs []) whole (closes options s [] tt tt (record { stripes = omega arith; rows = omega arith; bytes = omega arith }));
     }
 
 nothing_more : (first : Option (List ℕ)) → first ≡ appended first []
@@ -194,13 +194,13 @@ nothing_more None = refl
 nothing_more (Some x) = ap Some (sym (append-nil x))
 
 -- nothing at all was written
-pub cut_unbegun : (rle : Rle) (n : ℕ) (s : Shape) (first : Option (List ℕ)) → IsSchema s → IsCutOff rle n s first first []
-cut_unbegun rle n s first schema = cut_begun rle n s first first 0 schema (nothing_more first)
+pub cut_unbegun : (options : Options) (s : Shape) (first : Option (List ℕ)) → IsSchema s → IsCutOff options s first first []
+cut_unbegun options s first schema = cut_begun options s first first 0 schema (nothing_more first)
 
 -- a row more is kept
-pub kept_row : (rle : Rle) (n : ℕ) (s : Shape) (first told : Option (List ℕ)) (written : ℕ) (infos : List StripeInfo) (stats : List (List Stat)) (kept rows : List Cell) (row : Cell)
-    → HasKept rle n s first told written infos stats kept rows → HasKept rle n s first told written infos stats (kept ++ row ∷ []) (rows ++ row ∷ [])
-kept_row rle n s first told written infos stats kept rows row h = record {
+pub kept_row : (options : Options) (s : Shape) (first told : Option (List ℕ)) (written : ℕ) (infos : List StripeInfo) (stats : List (List Stat)) (kept rows : List Cell) (row : Cell)
+    → HasKept options s first told written infos stats kept rows → HasKept options s first told written infos stats (kept ++ row ∷ []) (rows ++ row ∷ [])
+kept_row options s first told written infos stats kept rows row h = record {
   closed = h.closed;
   are = h.are;
   full = h.full;
@@ -212,15 +212,15 @@ kept_row rle n s first told written infos stats kept rows row h = record {
 }
 
 -- and it was refused for memory
-pub cut_row : (rle : Rle) (n : ℕ) (s : Shape) (first told : Option (List ℕ)) (written : ℕ) (infos : List StripeInfo) (stats : List (List Stat)) (kept rows : List Cell) (row : Cell)
-    → 0 < n → AreWithin infos → IsSchema s → HasKept rle n s first told written infos stats kept rows → IsCutOff rle n s first told (rows ++ row ∷ [])
-cut_row rle n s first told written infos stats kept rows row l w schema h =
-    cut_kept rle n s first told written infos stats (kept ++ row ∷ []) (rows ++ row ∷ []) l w schema (kept_row rle n s first told written infos stats kept rows row h)
+pub cut_row : (options : Options) (s : Shape) (first told : Option (List ℕ)) (written : ℕ) (infos : List StripeInfo) (stats : List (List Stat)) (kept rows : List Cell) (row : Cell)
+    → 0 < options.stripe_rows → AreWithin infos → IsSchema s → HasKept options s first told written infos stats kept rows → IsCutOff options s first told (rows ++ row ∷ [])
+cut_row options s first told written infos stats kept rows row l w schema h =
+    cut_kept options s first told written infos stats (kept ++ row ∷ []) (rows ++ row ∷ []) l w schema (kept_row options s first told written infos stats kept rows row h)
 
-module _ (rle : Rle) (n : ℕ) (s : Shape) (first told : Option (List ℕ)) (written : ℕ) (infos : List StripeInfo) (stats : List (List Stat)) (kept rows : List Cell)
-    (h : HasKept rle n s first told written infos stats kept rows) (c : Closed) (kept_is : c.rows ≡ kept) (is : IsClosed rle s written c) where
-  more_are : AreClosed rle s 3 (h.closed ++ c ∷ [])
-  more_are = let m = length-append magic (bytes_of h.closed) in let w = h.written_is in closed_more rle s 3 written h.closed c h.are (omega (arith, m, w)) is
+module _ (options : Options) (s : Shape) (first told : Option (List ℕ)) (written : ℕ) (infos : List StripeInfo) (stats : List (List Stat)) (kept rows : List Cell)
+    (h : HasKept options s first told written infos stats kept rows) (c : Closed) (kept_is : c.rows ≡ kept) (is : IsClosed options s written c) where
+  more_are : AreClosed options s 3 (h.closed ++ c ∷ [])
+  more_are = let m = length-append magic (bytes_of h.closed) in let w = h.written_is in closed_more options s 3 written h.closed c h.are (omega (arith, m, w)) is
 
   more_bytes : bytes_of (h.closed ++ c ∷ []) ≡ bytes_of h.closed ++ c.bytes
   more_bytes = flat_more (λ (x : Closed). x.bytes) h.closed c
@@ -237,16 +237,16 @@ module _ (rle : Rle) (n : ℕ) (s : Shape) (first told : Option (List ℕ)) (wri
   more_told : (new : Option (List ℕ)) → new ≡ appended told c.bytes → new ≡ appended first (magic ++ bytes_of (h.closed ++ c ∷ []))
   more_told new t = t ∙ ap (λ x. appended x c.bytes) h.told_is ∙ appended_twice first (magic ++ bytes_of h.closed) c.bytes ∙ ap (appended first) (append_assoc magic (bytes_of h.closed) c.bytes ∙ ap (λ x. magic ++ x) (sym more_bytes))
 
-  more_filled : 0 < length kept → length kept ≤ n → AreFilled n (h.closed ++ c ∷ [])
-  more_filled a b = filled_more n h.closed c h.full (subst (λ (r : List Cell). 0 < length r) (sym kept_is) a) (subst (λ (r : List Cell). length r ≤ n) (sym kept_is) b)
+  more_filled : 0 < length kept → length kept ≤ options.stripe_rows → AreFilled options.stripe_rows (h.closed ++ c ∷ [])
+  more_filled a b = filled_more options.stripe_rows h.closed c h.full (subst (λ (r : List Cell). 0 < length r) (sym kept_is) a) (subst (λ (r : List Cell). length r ≤ options.stripe_rows) (sym kept_is) b)
 
   -- the kept rows are a full stripe more
-  pub sent_full : (new : Option (List ℕ)) (written_new : ℕ) → length kept ≡ n → new ≡ appended told c.bytes → written_new ≡ written + length c.bytes
-      → HasKept rle n s first new written_new (infos ++ c.info ∷ []) (stats ++ c.stats ∷ []) [] rows
+  pub sent_full : (new : Option (List ℕ)) (written_new : ℕ) → length kept ≡ options.stripe_rows → new ≡ appended told c.bytes → written_new ≡ written + length c.bytes
+      → HasKept options s first new written_new (infos ++ c.info ∷ []) (stats ++ c.stats ∷ []) [] rows
   sent_full new written_new full t w = record {
     closed = h.closed ++ c ∷ [];
     are = more_are;
-    full = full_more n h.closed c h.full (ap length kept_is ∙ full);
+    full = full_more options.stripe_rows h.closed c h.full (ap length kept_is ∙ full);
     infos_are = more_infos;
     stats_are = more_stats;
     told_is = more_told new t;
@@ -255,8 +255,8 @@ module _ (rle : Rle) (n : ℕ) (s : Shape) (first told : Option (List ℕ)) (wri
   }
 
   -- or the last one
-  pub sent_last : (new : Option (List ℕ)) → 0 < length kept → length kept ≤ n → new ≡ appended told c.bytes
-      → HasFilled rle n s first new (infos ++ c.info ∷ []) (stats ++ c.stats ∷ []) rows
+  pub sent_last : (new : Option (List ℕ)) → 0 < length kept → length kept ≤ options.stripe_rows → new ≡ appended told c.bytes
+      → HasFilled options s first new (infos ++ c.info ∷ []) (stats ++ c.stats ∷ []) rows
   sent_last new a b t = record {
     closed = h.closed ++ c ∷ [];
     are = more_are;
@@ -268,10 +268,10 @@ module _ (rle : Rle) (n : ℕ) (s : Shape) (first told : Option (List ℕ)) (wri
   }
 
   -- or some of its bytes were written
-  pub cut_sent : (new : Option (List ℕ)) (k : ℕ) → 0 < length kept → length kept ≤ n → AreWithin (infos ++ c.info ∷ []) → IsSchema s → new ≡ appended told (take k c.bytes) → IsCutOff rle n s first new rows
+  pub cut_sent : (new : Option (List ℕ)) (k : ℕ) → 0 < length kept → length kept ≤ options.stripe_rows → AreWithin (infos ++ c.info ∷ []) → IsSchema s → new ≡ appended told (take k c.bytes) → IsCutOff options s first new rows
   cut_sent new k a b w schema t =
       let cs = h.closed ++ c ∷ [] in
-      let text = tail_text (written_tail rle s (infos_of cs) (stats_of cs)) in
+      let text = tail_text (written_tail options s (infos_of cs) (stats_of cs)) in
       let before = magic ++ bytes_of h.closed in
       let all : (magic ++ bytes_of cs) ++ text ≡ (before ++ take k c.bytes) ++ (drop k c.bytes ++ text)
       = ap (λ x. (magic ++ x) ++ text) more_bytes
@@ -283,19 +283,19 @@ module _ (rle : Rle) (n : ℕ) (s : Shape) (first told : Option (List ℕ)) (wri
         count = length rows;
         told_is = t ∙ ap (λ x. appended x (take k c.bytes)) h.told_is ∙ appended_twice first before (take k c.bytes);
         schema = schema;
-        file = subst (λ bs. IsSomeFile rle n s bs (take (length rows) rows)) all
-            (subst (λ rs. IsSomeFile rle n s ((magic ++ bytes_of cs) ++ text) rs) (more_rows ∙ sym (take_all (length rows) rows (omega arith))) (closes rle n s cs more_are (more_filled a b) (subst AreWithin more_infos w)));
+        file = subst (λ bs. IsSomeFile options s bs (take (length rows) rows)) all
+            (subst (λ rs. IsSomeFile options s ((magic ++ bytes_of cs) ++ text) rs) (more_rows ∙ sym (take_all (length rows) rows (omega arith))) (closes options s cs more_are (more_filled a b) (subst AreWithin more_infos w)));
       }
 
 -- no row is kept
-pub filled_empty : (rle : Rle) (n : ℕ) (s : Shape) (first told : Option (List ℕ)) (written : ℕ) (infos : List StripeInfo) (stats : List (List Stat)) (kept rows : List Cell)
-    → kept ≡ [] → HasPushed rle n s first told written infos stats kept rows → HasFilled rle n s first told infos stats rows
-filled_empty rle n s first told written infos stats kept rows e p =
+pub filled_empty : (options : Options) (s : Shape) (first told : Option (List ℕ)) (written : ℕ) (infos : List StripeInfo) (stats : List (List Stat)) (kept rows : List Cell)
+    → kept ≡ [] → HasPushed options s first told written infos stats kept rows → HasFilled options s first told infos stats rows
+filled_empty options s first told written infos stats kept rows e p =
     let h = p.0 in let l = p.1 in
     record {
       closed = h.closed;
       are = h.are;
-      filled = filled_full n h.closed (omega (arith, l)) h.full;
+      filled = filled_full options.stripe_rows h.closed (omega (arith, l)) h.full;
       infos_are = h.infos_are;
       stats_are = h.stats_are;
       told_is = h.told_is;
@@ -303,38 +303,38 @@ filled_empty rle n s first told written infos stats kept rows e p =
     }
 
 -- nothing was pushed yet
-pub pushed_none : (rle : Rle) (n : ℕ) (s : Shape) (first : Option (List ℕ)) → 0 < n → HasPushed rle n s first (appended first magic) 3 [] [] [] []
-pushed_none rle n s first l = (record { closed = []; are = tt; full = tt; infos_are = refl; stats_are = refl; told_is = refl; written_is = refl; rows_are = refl }, l)
+pub pushed_none : (options : Options) (s : Shape) (first : Option (List ℕ)) → 0 < options.stripe_rows → HasPushed options s first (appended first magic) 3 [] [] [] []
+pushed_none options s first l = (record { closed = []; are = tt; full = tt; infos_are = refl; stats_are = refl; told_is = refl; written_is = refl; rows_are = refl }, l)
 
 -- stripes have as many bytes as their records say together
-pub all_length : (rle : Rle) (s : Shape) (at : ℕ) (cs : List Closed) → AreClosed rle s at cs → length (bytes_of cs) ≡ stripes_length (infos_of cs)
-all_length rle s at [] h = refl
-all_length rle s at (c ∷ cs) h =
+pub all_length : (options : Options) (s : Shape) (at : ℕ) (cs : List Closed) → AreClosed options s at cs → length (bytes_of cs) ≡ stripes_length (infos_of cs)
+all_length options s at [] h = refl
+all_length options s at (c ∷ cs) h =
     let i = h.0 in
     let n = stripe_bytes s c.info c.bytes c.rows i.read in
     let l = length-append c.bytes (bytes_of cs) in
-    let r = all_length rle s (at + length c.bytes) cs h.1 in
+    let r = all_length options s (at + length c.bytes) cs h.1 in
     omega (arith, n, l, r)
 
-module _ (rle : Rle) (n : ℕ) (s : Shape) (first told : Option (List ℕ)) (infos : List StripeInfo) (stats : List (List Stat)) (rows : List Cell)
-    (h : HasFilled rle n s first told infos stats rows) (w : AreWithin infos) where
+module _ (options : Options) (s : Shape) (first told : Option (List ℕ)) (infos : List StripeInfo) (stats : List (List Stat)) (rows : List Cell)
+    (h : HasFilled options s first told infos stats rows) (w : AreWithin infos) where
   abbrev end_tail : Tail
-  end_tail = written_tail rle s infos stats
+  end_tail = written_tail options s infos stats
 
-  end_file : IsWrittenFile rle n s end_tail ((magic ++ bytes_of h.closed) ++ tail_text end_tail) rows
+  end_file : IsWrittenFile options s end_tail ((magic ++ bytes_of h.closed) ++ tail_text end_tail) rows
   end_file = record {
     closed = h.closed;
     are = h.are;
     filled = h.filled;
     within = subst AreWithin h.infos_are w;
-    tail_is = ap (λ i. written_tail rle s i stats) h.infos_are ∙ ap (λ x. written_tail rle s (infos_of h.closed) x) h.stats_are;
+    tail_is = ap (λ i. written_tail options s i stats) h.infos_are ∙ ap (λ x. written_tail options s (infos_of h.closed) x) h.stats_are;
     bytes_are = refl;
     rows_are = h.rows_are;
   }
 
   -- the tail was written
-  pub whole_end : (new : Option (List ℕ)) → IsSchema s → length (tail_text (written_tail rle s infos stats)) < 2 ^ 63 → new ≡ appended told (tail_text (written_tail rle s infos stats))
-      → IsWhole rle n s (written_tail rle s infos stats) first new rows
+  pub whole_end : (new : Option (List ℕ)) → IsSchema s → length (tail_text (written_tail options s infos stats)) < 2 ^ 63 → new ≡ appended told (tail_text (written_tail options s infos stats))
+      → IsWhole options s (written_tail options s infos stats) first new rows
   whole_end new schema few e = record {
     bytes = (magic ++ bytes_of h.closed) ++ tail_text end_tail;
     told_is = e ∙ ap (λ o. appended o (tail_text end_tail)) h.told_is ∙ appended_twice first (magic ++ bytes_of h.closed) (tail_text end_tail);
@@ -343,12 +343,12 @@ module _ (rle : Rle) (n : ℕ) (s : Shape) (first told : Option (List ℕ)) (inf
     few =
         let front = length-append magic (bytes_of h.closed) in
         let all = length-append (magic ++ bytes_of h.closed) (tail_text end_tail) in
-        let stripes = all_length rle s 3 h.closed h.are in
+        let stripes = all_length options s 3 h.closed h.are in
         omega (arith, few, front, all, stripes, subst (λ (i : List StripeInfo). stripes_length i ≤ most_bytes) h.infos_are w.bytes);
   }
 
   -- some of it was
-  pub cut_end : (new : Option (List ℕ)) (k : ℕ) → IsSchema s → new ≡ appended told (take k (tail_text (written_tail rle s infos stats))) → IsCutOff rle n s first new rows
+  pub cut_end : (new : Option (List ℕ)) (k : ℕ) → IsSchema s → new ≡ appended told (take k (tail_text (written_tail options s infos stats))) → IsCutOff options s first new rows
   cut_end new k schema e =
       let text = tail_text end_tail in
       let before = magic ++ bytes_of h.closed in
@@ -359,15 +359,15 @@ module _ (rle : Rle) (n : ℕ) (s : Shape) (first told : Option (List ℕ)) (inf
         count = length rows;
         told_is = e ∙ ap (λ o. appended o (take k text)) h.told_is ∙ appended_twice first before (take k text);
         schema = schema;
-        file = (end_tail, subst (λ bs. IsWrittenFile rle n s end_tail bs (take (length rows) rows)) all (subst (λ rs. IsWrittenFile rle n s end_tail (before ++ text) rs) (sym (take_all (length rows) rows (omega arith))) end_file));
+        file = (end_tail, subst (λ bs. IsWrittenFile options s end_tail bs (take (length rows) rows)) all (subst (λ rs. IsWrittenFile options s end_tail (before ++ text) rs) (sym (take_all (length rows) rows (omega arith))) end_file));
       }
 
 -- all of a stripe was written, and yet the call gave up
-pub cut_all : (rle : Rle) (n : ℕ) (s : Shape) (first told : Option (List ℕ)) (written : ℕ) (infos : List StripeInfo) (stats : List (List Stat)) (kept rows : List Cell)
-    → (h : HasKept rle n s first told written infos stats kept rows) → (c : Closed) → c.rows ≡ kept → IsClosed rle s written c
-    → (new : Option (List ℕ)) → 0 < length kept → length kept ≤ n → AreWithin (infos ++ c.info ∷ []) → IsSchema s → new ≡ appended told c.bytes → IsCutOff rle n s first new rows
-cut_all rle n s first told written infos stats kept rows h c e is new a b w schema t =
-    cut_sent rle n s first told written infos stats kept rows h c e is new (length c.bytes) a b w schema (t ∙ ap (appended told) (sym (take_all (length c.bytes) c.bytes (omega arith))))
+pub cut_all : (options : Options) (s : Shape) (first told : Option (List ℕ)) (written : ℕ) (infos : List StripeInfo) (stats : List (List Stat)) (kept rows : List Cell)
+    → (h : HasKept options s first told written infos stats kept rows) → (c : Closed) → c.rows ≡ kept → IsClosed options s written c
+    → (new : Option (List ℕ)) → 0 < length kept → length kept ≤ options.stripe_rows → AreWithin (infos ++ c.info ∷ []) → IsSchema s → new ≡ appended told c.bytes → IsCutOff options s first new rows
+cut_all options s first told written infos stats kept rows h c e is new a b w schema t =
+    cut_sent options s first told written infos stats kept rows h c e is new (length c.bytes) a b w schema (t ∙ ap (appended told) (sym (take_all (length c.bytes) c.bytes (omega arith))))
 
 -- rows whose columns have few cells are few
 pub root_few : (s : Shape) (rows : List Cell) → AreFew s rows → length rows < 2 ^ 31

@@ -3,7 +3,7 @@ use Rattle.std.proofs.Common.{◌≡◌, ℕ, zero, suc, ◌+◌, ◌*◌, ◌<�
 use Rattle.std.specs.Prelude.{◌==◌, slice_get}
 use Rattle.std.specs.List.{AllByRecursion, flat_map, list_all}
 use Rattle.std.proofs.lemmas.Bool.{lt-ltb, eq-eqb}
-use Rattle.orc_rle.specs.declared.sign.Rle.{Rle}
+use Rattle.orc_written.specs.declared.options.Options.{Options}
 use Rattle.orc_wire.specs.Canonical.{all_both}
 use Rattle.orc_wire.specs.CanonicalMessages.{column_stats_text, stripe_info_text}
 use Rattle.orc_types.specs.Shapes.{Shape, width, shape_at}
@@ -43,7 +43,7 @@ use Rattle.orc_file.proofs.RowLemmas.{parts_cut}
 
 -- ---- a stripe
 
-module _ (rle : Rle) (s : Shape) (at : ℕ) (c : Closed) (h : IsClosed rle s at c) where
+module _ (options : Options) (s : Shape) (at : ℕ) (c : Closed) (h : IsClosed options s at c) where
   whole : length c.bytes ≡ stripe_length c.info
   whole = writer.stripe_bytes s c.info c.bytes c.rows h.read
 
@@ -64,20 +64,20 @@ module _ (rle : Rle) (s : Shape) (at : ℕ) (c : Closed) (h : IsClosed rle s at 
 
 -- ---- stripes
 
-all_laid : (rle : Rle) (s : Shape) (at : ℕ) (cs : List Closed) → AreClosed rle s at cs → are_laid_with_few_rows at (infos_of cs) ≡ true
-all_laid rle s at [] h = refl
-all_laid rle s at (c ∷ cs) h =
+all_laid : (options : Options) (s : Shape) (at : ℕ) (cs : List Closed) → AreClosed options s at cs → are_laid_with_few_rows at (infos_of cs) ≡ true
+all_laid options s at [] h = refl
+all_laid options s at (c ∷ cs) h =
     both (c.info.offset == at) _ (let i = h.0 in eq-eqb c.info.offset at i.placed)
-    (both (ltb c.info.number_of_rows (2 ^ 31)) _ (lt-ltb c.info.number_of_rows (2 ^ 31) (few_rows rle s at c h.0))
-    (ap (λ p. are_laid_with_few_rows p (infos_of cs)) (place_next rle s at c h.0) ∙ all_laid rle s (at + length c.bytes) cs h.1))
+    (both (ltb c.info.number_of_rows (2 ^ 31)) _ (lt-ltb c.info.number_of_rows (2 ^ 31) (few_rows options s at c h.0))
+    (ap (λ p. are_laid_with_few_rows p (infos_of cs)) (place_next options s at c h.0) ∙ all_laid options s (at + length c.bytes) cs h.1))
 
-all_stats : (rle : Rle) (s : Shape) (at : ℕ) (cs : List Closed) → AreClosed rle s at cs → are_all_stats s (stats_of cs) ≡ true
-all_stats rle s at [] h = refl
-all_stats rle s at (c ∷ cs) h = both (are_stripe_stats s c.stats) _ (stats_pass rle s at c h.0) (all_stats rle s (at + length c.bytes) cs h.1)
+all_stats : (options : Options) (s : Shape) (at : ℕ) (cs : List Closed) → AreClosed options s at cs → are_all_stats s (stats_of cs) ≡ true
+all_stats options s at [] h = refl
+all_stats options s at (c ∷ cs) h = both (are_stripe_stats s c.stats) _ (stats_pass options s at c h.0) (all_stats options s (at + length c.bytes) cs h.1)
 
-all_rows_fit : (rle : Rle) (s : Shape) (at : ℕ) (cs : List Closed) → AreClosed rle s at cs → RowsFit s (rows_of cs)
-all_rows_fit rle s at [] h = tt
-all_rows_fit rle s at (c ∷ cs) h = all_both (λ (r : Cell). fits r s ≡ true) c.rows (rows_of cs) (rows_fit rle s at c h.0) (all_rows_fit rle s (at + length c.bytes) cs h.1)
+all_rows_fit : (options : Options) (s : Shape) (at : ℕ) (cs : List Closed) → AreClosed options s at cs → RowsFit s (rows_of cs)
+all_rows_fit options s at [] h = tt
+all_rows_fit options s at (c ∷ cs) h = all_both (λ (r : Cell). fits r s ≡ true) c.rows (rows_of cs) (rows_fit options s at c h.0) (all_rows_fit options s (at + length c.bytes) cs h.1)
 
 same_count : (cs : List Closed) → length (stats_of cs) ≡ length (infos_of cs)
 same_count [] = refl
@@ -88,15 +88,15 @@ info_count [] = refl
 info_count (c ∷ cs) = ap suc (info_count cs)
 
 -- each number of the stripes has 64 bits
-info_bits : (rle : Rle) (s : Shape) (at : ℕ) (cs : List Closed) → AreClosed rle s at cs → at + stripes_length (infos_of cs) < 2 ^ 64 → AllByRecursion stripe_info_text.bounded (infos_of cs)
-info_bits rle s at [] h few = tt
-info_bits rle s at (c ∷ cs) h few =
+info_bits : (options : Options) (s : Shape) (at : ℕ) (cs : List Closed) → AreClosed options s at cs → at + stripes_length (infos_of cs) < 2 ^ 64 → AllByRecursion stripe_info_text.bounded (infos_of cs)
+info_bits options s at [] h few = tt
+info_bits options s at (c ∷ cs) h few =
     let i = h.0 in
     let o = i.placed in
-    let n = whole rle s at c h.0 in
-    let r = few_rows rle s at c h.0 in (
+    let n = whole options s at c h.0 in
+    let r = few_rows options s at c h.0 in (
       (omega (arith, o, few), (omega (arith, few), (omega (arith, few), (omega (arith, few), omega (arith, r))))),
-      info_bits rle s (at + length c.bytes) cs h.1 (omega (arith, n, few)),
+      info_bits options s (at + length c.bytes) cs h.1 (omega (arith, n, few)),
     )
 
 -- ---- the stripes' bytes in the file, and their rows
@@ -104,24 +104,24 @@ info_bits rle s at (c ∷ cs) h few =
 abbrev pub parts_of : List Closed → List (List Cell)
 parts_of cs = map (λ (c : Closed). c.rows) cs
 
-of_stripes : (rle : Rle) (s : Shape) (file front rest : List ℕ) (at : ℕ) (cs : List Closed) → AreClosed rle s at cs → at ≡ length front → file ≡ front ++ (bytes_of cs ++ rest)
+of_stripes : (options : Options) (s : Shape) (file front rest : List ℕ) (at : ℕ) (cs : List Closed) → AreClosed options s at cs → at ≡ length front → file ≡ front ++ (bytes_of cs ++ rest)
     → AreOfStripes s file (infos_of cs) (parts_of cs)
-of_stripes rle s file front rest at [] h place e = tt
-of_stripes rle s file front rest at (c ∷ cs) h place e =
+of_stripes options s file front rest at [] h place e = tt
+of_stripes options s file front rest at (c ∷ cs) h place e =
     let i = h.0 in
     let split : file ≡ front ++ (c.bytes ++ (bytes_of cs ++ rest)) = e ∙ ap (λ x. front ++ x) (append_assoc c.bytes (bytes_of cs) rest) in
-    let own : stripe_bytes c.info file ≡ c.bytes = between file front c.bytes (bytes_of cs ++ rest) c.info.offset (stripe_length c.info) split (i.placed ∙ place) (sym (whole rle s at c h.0)) in (
+    let own : stripe_bytes c.info file ≡ c.bytes = between file front c.bytes (bytes_of cs ++ rest) c.info.offset (stripe_length c.info) split (i.placed ∙ place) (sym (whole options s at c h.0)) in (
       subst (λ b. IsStripe s c.info b c.rows) (sym own) i.read,
-      of_stripes rle s file (front ++ c.bytes) rest (at + length c.bytes) cs h.1 (omega (arith, place, length-append front c.bytes)) (split ∙ sym (append_assoc front c.bytes (bytes_of cs ++ rest))),
+      of_stripes options s file (front ++ c.bytes) rest (at + length c.bytes) cs h.1 (omega (arith, place, length-append front c.bytes)) (split ∙ sym (append_assoc front c.bytes (bytes_of cs ++ rest))),
     )
 
 rows_joined : (cs : List Closed) → rows_of cs ≡ joined (parts_of cs)
 rows_joined [] = refl
 rows_joined (c ∷ cs) = ap (λ x. c.rows ++ x) (rows_joined cs)
 
-are_honest : (rle : Rle) (s : Shape) (at : ℕ) (cs : List Closed) → AreClosed rle s at cs → AreHonest s (parts_of cs) (stats_of cs)
-are_honest rle s at [] h = tt
-are_honest rle s at (c ∷ cs) h = (let i = h.0 in i.counted, are_honest rle s (at + length c.bytes) cs h.1)
+are_honest : (options : Options) (s : Shape) (at : ℕ) (cs : List Closed) → AreClosed options s at cs → AreHonest s (parts_of cs) (stats_of cs)
+are_honest options s at [] h = tt
+are_honest options s at (c ∷ cs) h = (let i = h.0 in i.counted, are_honest options s (at + length c.bytes) cs h.1)
 
 -- ---- a column's statistics
 
@@ -131,39 +131,39 @@ one_of [] (suc k) x e = cc
 one_of (y ∷ ys) zero x e = let same : y ≡ x = cc in ap (λ z. z ∷ []) same
 one_of (y ∷ ys) (suc k) x e = one_of ys k x e
 
-module _ (rle : Rle) (s : Shape) (k : ℕ) (lt : k < width s) where
+module _ (options : Options) (s : Shape) (k : ℕ) (lt : k < width s) where
   -- those of the stripes are the statistics of the cells there
-  column_is : (at : ℕ) (cs : List Closed) → AreClosed rle s at cs → column_stats k (stats_of cs) ≡ map (stat (kind_at s k)) (map (cells s k) (parts_of cs))
+  column_is : (at : ℕ) (cs : List Closed) → AreClosed options s at cs → column_stats k (stats_of cs) ≡ map (stat (kind_at s k)) (map (cells s k) (parts_of cs))
   column_is at [] h = refl
   column_is at (c ∷ cs) h =
       let i = h.0 in let have = i.counted in
       ap (λ x. x ++ column_stats k (stats_of cs)) (one_of c.stats k (column_stat s c.rows k) (have.each k lt))
       ∙ ap (λ x. column_stat s c.rows k ∷ x) (column_is (at + length c.bytes) cs h.1)
 
-  of_kind : (at : ℕ) (cs : List Closed) → AreClosed rle s at cs → AllByRecursion (AllByRecursion (λ c. is_of (kind_at s k) c ≡ true)) (map (cells s k) (parts_of cs))
+  of_kind : (at : ℕ) (cs : List Closed) → AreClosed options s at cs → AllByRecursion (AllByRecursion (λ c. is_of (kind_at s k) c ≡ true)) (map (cells s k) (parts_of cs))
   of_kind at [] h = tt
-  of_kind at (c ∷ cs) h = (are_of_kind (shape_at s k) (cells s k c.rows) (cells_fit s k c.rows lt (rows_fit rle s at c h.0)), of_kind (at + length c.bytes) cs h.1)
+  of_kind at (c ∷ cs) h = (are_of_kind (shape_at s k) (cells s k c.rows) (cells_fit s k c.rows lt (rows_fit options s at c h.0)), of_kind (at + length c.bytes) cs h.1)
 
-  cells_few : (at : ℕ) (cs : List Closed) → AreClosed rle s at cs → length (flat_map (λ p. p) (map (cells s k) (parts_of cs))) ≤ 2 ^ 31 * length cs
+  cells_few : (at : ℕ) (cs : List Closed) → AreClosed options s at cs → length (flat_map (λ p. p) (map (cells s k) (parts_of cs))) ≤ 2 ^ 31 * length cs
   cells_few at [] h = omega arith
   cells_few at (c ∷ cs) h =
-      let few = few_cells rle s at c h.0 k lt in
+      let few = few_cells options s at c h.0 k lt in
       let rest = cells_few (at + length c.bytes) cs h.1 in
       let l = length-append (cells s k c.rows) (flat_map (λ p. p) (map (cells s k) (parts_of cs))) in
       omega (arith, few, rest, l)
 
   -- joined, they are that of the whole file
-  pub file_stat : (at : ℕ) (cs : List Closed) → AreClosed rle s at cs → length cs ≤ most_stripes → joining.joined (kind_at s k) (column_stats k (stats_of cs)) ≡ whole_of s (parts_of cs) k
+  pub file_stat : (at : ℕ) (cs : List Closed) → AreClosed options s at cs → length cs ≤ most_stripes → joining.joined (kind_at s k) (column_stats k (stats_of cs)) ≡ whole_of s (parts_of cs) k
   file_stat at cs h most =
       let few = cells_few at cs h in
       ap (joining.joined (kind_at s k)) (column_is at cs h) ∙ joined-parts (kind_at s k) (map (cells s k) (parts_of cs)) (of_kind at cs h) (omega (arith, few, most))
 
-  file_bits : (at : ℕ) (cs : List Closed) → AreClosed rle s at cs → length cs ≤ most_stripes → column_stats_text.bounded (message_of (joining.joined (kind_at s k) (column_stats k (stats_of cs))))
+  file_bits : (at : ℕ) (cs : List Closed) → AreClosed options s at cs → length cs ≤ most_stripes → column_stats_text.bounded (message_of (joining.joined (kind_at s k) (column_stats k (stats_of cs))))
   file_bits at cs h most =
       let few = cells_few at cs h in
       let all = flat_map (λ p. p) (map (cells s k) (parts_of cs)) in
       let same : cells s k (rows_of cs) ≡ all = ap (cells s k) (rows_joined cs) ∙ sym (all_cells s k (parts_of cs)) in
-      let fit : RowsFit (shape_at s k) all = subst (λ (x : List Cell). RowsFit (shape_at s k) x) same (cells_fit s k (rows_of cs) lt (all_rows_fit rle s at cs h)) in
+      let fit : RowsFit (shape_at s k) all = subst (λ (x : List Cell). RowsFit (shape_at s k) x) same (cells_fit s k (rows_of cs) lt (all_rows_fit options s at cs h)) in
       subst (λ (x : Stat). column_stats_text.bounded (message_of x)) (sym (file_stat at cs h most))
       (cells_whole (shape_at s k) all fit (omega (arith, few, most)) (list_all (λ p. keeps_sum (stat (kind_at s k) p)) (map (cells s k) (parts_of cs))))
 
@@ -184,52 +184,52 @@ each_got P f (x ∷ xs) get p =
     let e : x ≡ f 0 = ap (some_or x) (get 0 (omega arith)) in
     (subst P (sym e) (p 0 (omega arith)), each_got P (λ i. f (suc i)) xs (λ i l. get (suc i) (omega (arith, l))) (λ i l. p (suc i) (omega (arith, l))))
 
-stripe_bits : (rle : Rle) (s : Shape) (at : ℕ) (cs : List Closed) → AreClosed rle s at cs → AllByRecursion (AllByRecursion (λ x. column_stats_text.bounded (message_of x))) (stats_of cs)
-stripe_bits rle s at [] h = tt
-stripe_bits rle s at (c ∷ cs) h =
+stripe_bits : (options : Options) (s : Shape) (at : ℕ) (cs : List Closed) → AreClosed options s at cs → AllByRecursion (AllByRecursion (λ x. column_stats_text.bounded (message_of x))) (stats_of cs)
+stripe_bits options s at [] h = tt
+stripe_bits options s at (c ∷ cs) h =
     let i = h.0 in let have = i.counted in let n = have.counted in (
       each_got (λ x. column_stats_text.bounded (message_of x)) (column_stat s c.rows) c.stats (λ k l. have.each k (omega (arith, l, n)))
-          (λ k l. let lt : k < width s = omega (arith, l, n) in let few = few_cells rle s at c h.0 k lt in cells_stat (shape_at s k) (cells s k c.rows) (cells_fit s k c.rows lt (rows_fit rle s at c h.0)) (omega (arith, few))),
-      stripe_bits rle s (at + length c.bytes) cs h.1,
+          (λ k l. let lt : k < width s = omega (arith, l, n) in let few = few_cells options s at c h.0 k lt in cells_stat (shape_at s k) (cells s k c.rows) (cells_fit s k c.rows lt (rows_fit options s at c h.0)) (omega (arith, few))),
+      stripe_bits options s (at + length c.bytes) cs h.1,
     )
 
 -- ---- the file
 
-module _ (rle : Rle) (n : ℕ) (s : Shape) (tail : Tail) (bytes : List ℕ) (rows : List Cell) (h : IsWrittenFile rle n s tail bytes rows) where
+module _ (options : Options) (s : Shape) (tail : Tail) (bytes : List ℕ) (rows : List Cell) (h : IsWrittenFile options s tail bytes rows) where
   pub most_closed : length h.closed ≤ most_stripes
   most_closed = let w = h.within in let m = w.stripes in let e = info_count h.closed in omega (arith, m, e)
 
-  limits : IsSchema s → IsWithinLimits (written_tail rle s (infos_of h.closed) (stats_of h.closed))
-  limits schema = tail_within rle s (infos_of h.closed) (stats_of h.closed) schema h.within (all_laid rle s 3 h.closed h.are) (same_count h.closed) (all_stats rle s 3 h.closed h.are)
+  limits : IsSchema s → IsWithinLimits (written_tail options s (infos_of h.closed) (stats_of h.closed))
+  limits schema = tail_within options s (infos_of h.closed) (stats_of h.closed) schema h.within (all_laid options s 3 h.closed h.are) (same_count h.closed) (all_stats options s 3 h.closed h.are)
 
-  bits : IsSchema s → HasBits (written_tail rle s (infos_of h.closed) (stats_of h.closed))
+  bits : IsSchema s → HasBits (written_tail options s (infos_of h.closed) (stats_of h.closed))
   bits schema =
       let w = h.within in let size = w.bytes in let columns = schema.count in
       record {
-        version = version_bits rle;
+        version = version_bits options.rle;
         writer = omega arith;
         writer_version = omega arith;
-        stripes = info_bits rle s 3 h.closed h.are (omega (arith, size));
+        stripes = info_bits options s 3 h.closed h.are (omega (arith, size));
         types = types_bits s 0 (omega (arith, columns));
         user = tt;
         file_stats = each_column (λ x. column_stats_text.bounded (message_of x)) (λ k. joining.joined (kind_at s k) (column_stats k (stats_of h.closed))) 0 (width s)
-            (λ k l. file_bits rle s k (omega (arith, l)) 3 h.closed h.are most_closed);
-        stripe_stats = stripe_bits rle s 3 h.closed h.are;
-        stride = omega arith;
+            (λ k l. file_bits options s k (omega (arith, l)) 3 h.closed h.are most_closed);
+        stripe_stats = stripe_bits options s 3 h.closed h.are;
+        stride = options.fits;
       }
 
   pub written_tail_is : IsSchema s → length bytes < 2 ^ 64 → IsTail bytes tail
   written_tail_is schema few =
-      let t = written_tail rle s (infos_of h.closed) (stats_of h.closed) in
+      let t = written_tail options s (infos_of h.closed) (stats_of h.closed) in
       let e : bytes ≡ image (bytes_of h.closed) t = h.bytes_are ∙ append_assoc magic (bytes_of h.closed) (tail_text tail) ∙ ap (λ x. magic ++ (bytes_of h.closed ++ tail_text x)) h.tail_is in
       let lim = limits schema in
-      let is = image_is t (bytes_of h.closed) lim (laid_places 3 (infos_of h.closed) (all_laid rle s 3 h.closed h.are)) (bits schema) (all_length rle s 3 h.closed h.are) (subst (λ (b : List ℕ). length b < 2 ^ 64) e few) in
+      let is = image_is t (bytes_of h.closed) lim (laid_places 3 (infos_of h.closed) (all_laid options s 3 h.closed h.are)) (bits schema) (all_length options s 3 h.closed h.are) (subst (λ (b : List ℕ). length b < 2 ^ 64) e few) in
       subst (λ (x : Tail). IsTail bytes x) (sym h.tail_is) (subst (λ (b : List ℕ). IsTail b t) (sym e) is)
 
   abbrev has_rows : HasRows s bytes (infos_of h.closed) rows
   has_rows = record {
     parts = parts_of h.closed;
-    stripes = of_stripes rle s bytes magic (tail_text tail) 3 h.closed h.are refl (h.bytes_are ∙ append_assoc magic (bytes_of h.closed) (tail_text tail));
+    stripes = of_stripes options s bytes magic (tail_text tail) 3 h.closed h.are refl (h.bytes_are ∙ append_assoc magic (bytes_of h.closed) (tail_text tail));
     rows_are = h.rows_are ∙ rows_joined h.closed;
   }
 
@@ -244,14 +244,14 @@ module _ (rle : Rle) (n : ℕ) (s : Shape) (tail : Tail) (bytes : List ℕ) (row
 
   pub written_honest : Honest tail rows
   written_honest =
-      subst (λ (x : Tail). Honest x rows) (sym h.tail_is) (subst (λ (p : List (List Cell)). AreHonest s p (stats_of h.closed)) (sym cut_is) (are_honest rle s 3 h.closed h.are))
+      subst (λ (x : Tail). Honest x rows) (sym h.tail_is) (subst (λ (p : List (List Cell)). AreHonest s p (stats_of h.closed)) (sym cut_is) (are_honest options s 3 h.closed h.are))
 
   are_whole : AreWhole s (parts_of h.closed) (file_stats s (stats_of h.closed))
   are_whole =
       let f = λ (k : ℕ). joining.joined (kind_at s k) (column_stats k (stats_of h.closed)) in
       record {
         counted = length-of_columns f 0 (width s);
-        each = λ k l. at_column f 0 (width s) k l ∙ ap Some (let z : 0 + k ≡ k = omega arith in ap f z ∙ file_stat rle s k l 3 h.closed h.are most_closed);
+        each = λ k l. at_column f 0 (width s) k l ∙ ap Some (let z : 0 + k ≡ k = omega arith in ap f z ∙ file_stat options s k l 3 h.closed h.are most_closed);
       }
 
   pub written_whole : HasWholeStats tail rows

@@ -12,6 +12,7 @@ use Rattle.orc_stats.specs.declared.stat.Stat.{Stat}
 use Rattle.orc_stats.specs.Joining.{joined}
 use Rattle.orc_columns.specs.Stripe.{IsStripe}
 use Rattle.orc_written.specs.WrittenStripe.{IsWrittenStripe, HaveStats}
+use Rattle.orc_written.specs.declared.options.Options.{Options}
 use Rattle.orc_devices.specs.Devices.{appended}
 use Rattle.orc_file.specs.Layout.{magic}
 use Rattle.orc_file.specs.Stripes.{stripes_length, stripes_rows, most_stripes, most_rows, most_bytes}
@@ -30,16 +31,16 @@ pub record Closed : Type 0 where
   pub stats : List Stat
 
 -- It begins at a place. Its bytes are the one text that is written of its rows, which they are read as.
-pub record IsClosed (rle : Rle) (s : Shape) (place : ℕ) (c : Closed) : Type 0 where
+pub record IsClosed (options : Options) (s : Shape) (place : ℕ) (c : Closed) : Type 0 where
   pub placed : c.info.offset ≡ place
-  pub written : IsWrittenStripe rle s c.rows (record c.info { offset = 0 }) c.bytes
+  pub written : IsWrittenStripe options.rle options.stride s c.rows (record c.info { offset = 0 }) c.bytes
   pub read : IsStripe s c.info c.bytes c.rows
   pub counted : HaveStats s c.rows (width s) c.stats
 
 -- one after the other from a place on, without gaps
-abbrev pub AreClosed : Rle → Shape → ℕ → List Closed → Type 0
-AreClosed rle s place [] = Unit {0}
-AreClosed rle s place (c ∷ cs) = IsClosed rle s place c × AreClosed rle s (place + length c.bytes) cs
+abbrev pub AreClosed : Options → Shape → ℕ → List Closed → Type 0
+AreClosed options s place [] = Unit {0}
+AreClosed options s place (c ∷ cs) = IsClosed options s place c × AreClosed options s (place + length c.bytes) cs
 
 abbrev pub bytes_of : List Closed → List ℕ
 bytes_of cs = flat_map (λ (c : Closed). c.bytes) cs
@@ -85,9 +86,9 @@ abbrev pub file_stats : Shape → List (List Stat) → List Stat
 file_stats s stats = of_columns (λ c. joined (kind_at s c) (column_stats c stats)) 0 (width s)
 
 -- the tail behind stripes with these statistics
-abbrev pub written_tail : Rle → Shape → List StripeInfo → List (List Stat) → Tail
-written_tail rle s infos stats = record {
-  version = version_of rle;
+abbrev pub written_tail : Options → Shape → List StripeInfo → List (List Stat) → Tail
+written_tail options s infos stats = record {
+  version = version_of options.rle;
   writer = Some 99;
   writer_version = Some 6;
   schema = s;
@@ -95,7 +96,7 @@ written_tail rle s infos stats = record {
   stripe_stats = stats;
   file_stats = file_stats s stats;
   user = [];
-  stride = 0;
+  stride = options.stride;
   rows = stripes_rows infos;
   other = [];
 }
@@ -109,43 +110,43 @@ pub record AreWithin (infos : List StripeInfo) : Type 0 where
   pub bytes : stripes_length infos ≤ most_bytes
 
 -- with the stripe of some rows behind these the bytes of all stripes would be above the limit
-pub record PassesBytes (rle : Rle) (s : Shape) (infos : List StripeInfo) (rows : List Cell) : Type 0 where
+pub record PassesBytes (options : Options) (s : Shape) (infos : List StripeInfo) (rows : List Cell) : Type 0 where
   pub info : StripeInfo
   pub bytes : List ℕ
-  pub written : IsWrittenStripe rle s rows info bytes
+  pub written : IsWrittenStripe options.rle options.stride s rows info bytes
   pub above : most_bytes < stripes_length infos + length bytes
 
 -- The bytes are `ORC`, stripes one after the other, of so many rows but for the last one, and the canonical
 -- text of the tail that lists them. Their rows, joined, are the file's.
-pub record IsWrittenFile (rle : Rle) (n : ℕ) (s : Shape) (tail : Tail) (bytes : List ℕ) (rows : List Cell) : Type 0 where
+pub record IsWrittenFile (options : Options) (s : Shape) (tail : Tail) (bytes : List ℕ) (rows : List Cell) : Type 0 where
   pub closed : List Closed
-  pub are : AreClosed rle s 3 closed
-  pub filled : AreFilled n closed
+  pub are : AreClosed options s 3 closed
+  pub filled : AreFilled options.stripe_rows closed
   pub within : AreWithin (infos_of closed)
-  pub tail_is : tail ≡ written_tail rle s (infos_of closed) (stats_of closed)
+  pub tail_is : tail ≡ written_tail options s (infos_of closed) (stats_of closed)
   pub bytes_are : bytes ≡ (magic ++ bytes_of closed) ++ tail_text tail
   pub rows_are : rows ≡ rows_of closed
 
 -- with some tail
-abbrev pub IsSomeFile : Rle → ℕ → Shape → List ℕ → List Cell → Type 0
-IsSomeFile rle n s bytes rows = (tail : Tail) × IsWrittenFile rle n s tail bytes rows
+abbrev pub IsSomeFile : Options → Shape → List ℕ → List Cell → Type 0
+IsSomeFile options s bytes rows = (tail : Tail) × IsWrittenFile options s tail bytes rows
 
 -- behind what the output had told first, a file with this tail stands, and its length fits 64 bits
-pub record IsWhole (rle : Rle) (n : ℕ) (s : Shape) (tail : Tail) (first told : Option (List ℕ)) (rows : List Cell) : Type 0 where
+pub record IsWhole (options : Options) (s : Shape) (tail : Tail) (first told : Option (List ℕ)) (rows : List Cell) : Type 0 where
   pub bytes : List ℕ
   pub told_is : told ≡ appended first bytes
-  pub file : IsWrittenFile rle n s tail bytes rows
+  pub file : IsWrittenFile options s tail bytes rows
   pub schema : IsSchema s
   pub few : length bytes < 2 ^ 64
 
 -- What was written behind what the output had told first is the front of a file of some of the first rows.
-pub record IsCutOff (rle : Rle) (n : ℕ) (s : Shape) (first told : Option (List ℕ)) (rows : List Cell) : Type 0 where
+pub record IsCutOff (options : Options) (s : Shape) (first told : Option (List ℕ)) (rows : List Cell) : Type 0 where
   pub mine : List ℕ
   pub rest : List ℕ
   pub count : ℕ
   pub told_is : told ≡ appended first mine
   pub schema : IsSchema s
-  pub file : IsSomeFile rle n s (mine ++ rest) (take count rows)
+  pub file : IsSomeFile options s (mine ++ rest) (take count rows)
 
 -- Behind what the output had told first stands the front of a file of some of the first rows.
 pub record IsFrontOfFile (s : Shape) (first told : Option (List ℕ)) (rows : List Cell) : Type 0 where
@@ -167,10 +168,10 @@ pub record HasTaken (first told : Option (List ℕ)) (written : ℕ) : Type 0 wh
 
 -- Behind what the output had told first stand `ORC` and full stripes, as many bytes as are counted. Their rows,
 -- and behind them those that are kept, are the rows pushed.
-pub record HasKept (rle : Rle) (n : ℕ) (s : Shape) (first told : Option (List ℕ)) (written : ℕ) (infos : List StripeInfo) (stats : List (List Stat)) (kept rows : List Cell) : Type 0 where
+pub record HasKept (options : Options) (s : Shape) (first told : Option (List ℕ)) (written : ℕ) (infos : List StripeInfo) (stats : List (List Stat)) (kept rows : List Cell) : Type 0 where
   pub closed : List Closed
-  pub are : AreClosed rle s 3 closed
-  pub full : AreFull n closed
+  pub are : AreClosed options s 3 closed
+  pub full : AreFull options.stripe_rows closed
   pub infos_are : infos ≡ infos_of closed
   pub stats_are : stats ≡ stats_of closed
   pub told_is : told ≡ appended first (magic ++ bytes_of closed)
@@ -178,15 +179,15 @@ pub record HasKept (rle : Rle) (n : ℕ) (s : Shape) (first told : Option (List 
   pub rows_are : rows ≡ rows_of closed ++ kept
 
 -- The same once the last stripe is written: no row is kept, and the last stripe may have fewer rows.
-pub record HasFilled (rle : Rle) (n : ℕ) (s : Shape) (first told : Option (List ℕ)) (infos : List StripeInfo) (stats : List (List Stat)) (rows : List Cell) : Type 0 where
+pub record HasFilled (options : Options) (s : Shape) (first told : Option (List ℕ)) (infos : List StripeInfo) (stats : List (List Stat)) (rows : List Cell) : Type 0 where
   pub closed : List Closed
-  pub are : AreClosed rle s 3 closed
-  pub filled : AreFilled n closed
+  pub are : AreClosed options s 3 closed
+  pub filled : AreFilled options.stripe_rows closed
   pub infos_are : infos ≡ infos_of closed
   pub stats_are : stats ≡ stats_of closed
   pub told_is : told ≡ appended first (magic ++ bytes_of closed)
   pub rows_are : rows ≡ rows_of closed
 
 -- and fewer rows are kept than a stripe has
-abbrev pub HasPushed : Rle → ℕ → Shape → Option (List ℕ) → Option (List ℕ) → ℕ → List StripeInfo → List (List Stat) → List Cell → List Cell → Type 0
-HasPushed rle n s first told written infos stats kept rows = HasKept rle n s first told written infos stats kept rows × (length kept < n)
+abbrev pub HasPushed : Options → Shape → Option (List ℕ) → Option (List ℕ) → ℕ → List StripeInfo → List (List Stat) → List Cell → List Cell → Type 0
+HasPushed options s first told written infos stats kept rows = HasKept options s first told written infos stats kept rows × (length kept < options.stripe_rows)

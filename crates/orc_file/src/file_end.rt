@@ -16,6 +16,7 @@ use orc_rle::Rle;
 use orc_stats::Stat;
 use orc_types::Schema;
 use orc_wire::{Items, StripeInfo};
+use orc_written::Options;
 use std::alloc::{AllocError, Global};
 
 fn version(alloc: Global, rle: Rle) -> Result<Vec<u32>, AllocError>
@@ -37,12 +38,17 @@ pub(crate) struct Stripes {
 }
 
 /// The tail behind stripes.
-fn tail_of(alloc: Global, rle: Rle, schema: Schema, stripes: Stripes) -> Result<Tail, FileFault>
+fn tail_of(
+    alloc: Global,
+    options: Options,
+    schema: Schema,
+    stripes: Stripes,
+) -> Result<Tail, FileFault>
     requires rows { stripes.rows ≡ stripes_rows stripes.infos.items }
     requires few { length stripes.stats.items ≡ length stripes.infos.items }
     requires within { AreWithin stripes.infos.items }
     requires stats { are_all_stats schema stripes.stats.items ≡ true }
-    ensures found { IfOk result (λ tail. tail ≡ written_tail rle schema stripes.infos.items stripes.stats.items) }
+    ensures found { IfOk result (λ tail. tail ≡ written_tail options schema stripes.infos.items stripes.stats.items) }
     ensures refused { IfErr result (λ fault. fault ≡ OutOfMemory) }
 {
     let Stripes { infos, stats, rows } = stripes;
@@ -52,7 +58,7 @@ fn tail_of(alloc: Global, rle: Rle, schema: Schema, stripes: Stripes) -> Result<
         Err(_) => return Err(FileFault::OutOfMemory),
     };
     Ok(Tail {
-        version: Items::from_vec(version(alloc, rle)?),
+        version: Items::from_vec(version(alloc, options.rle())?),
         writer: Some(99),
         writer_version: Some(6),
         schema,
@@ -60,7 +66,7 @@ fn tail_of(alloc: Global, rle: Rle, schema: Schema, stripes: Stripes) -> Result<
         stripe_stats: Items::from_vec(stats),
         file_stats: Items::from_vec(file_stats),
         user: Items::from_vec(Vec::new(alloc)),
-        stride: 0,
+        stride: options.stride(),
         rows,
         other: Items::from_vec(Vec::new(alloc)),
     })
@@ -69,7 +75,7 @@ fn tail_of(alloc: Global, rle: Rle, schema: Schema, stripes: Stripes) -> Result<
 /// Writes the tail of a file with these stripes, and answers it.
 pub(crate) fn end_file<W: Sink>(
     alloc: Global,
-    rle: Rle,
+    options: Options,
     schema: Schema,
     stripes: Stripes,
     out: &mut W,
@@ -79,21 +85,21 @@ pub(crate) fn end_file<W: Sink>(
     requires within { AreWithin stripes.infos.items }
     requires laid { are_laid_with_few_rows 3 stripes.infos.items ≡ true }
     requires stats { are_all_stats schema stripes.stats.items ≡ true }
-    ensures tail { IfOk result (λ tail. tail ≡ written_tail rle schema stripes.infos.items stripes.stats.items) }
+    ensures tail { IfOk result (λ tail. tail ≡ written_tail options schema stripes.infos.items stripes.stats.items) }
     ensures told { IfOk result (λ tail. W.told out.new ≡ appended (W.told out.old)
-        (tail_text (written_tail rle schema stripes.infos.items stripes.stats.items))) }
-    ensures few { IfOk result (λ _. length (tail_text (written_tail rle schema stripes.infos.items stripes.stats.items)) < 2 ^ 63) }
+        (tail_text (written_tail options schema stripes.infos.items stripes.stats.items))) }
+    ensures few { IfOk result (λ _. length (tail_text (written_tail options schema stripes.infos.items stripes.stats.items)) < 2 ^ 63) }
     ensures schema { IsSchema schema }
     ensures cut { OnErr result ((n : ℕ)
         × (W.told out.new ≡ appended (W.told out.old)
-        (take n (tail_text (written_tail rle schema stripes.infos.items stripes.stats.items))))) }
+        (take n (tail_text (written_tail options schema stripes.infos.items stripes.stats.items))))) }
     ensures refused { IfErr result (λ e. (e ≡ WriteFailed) ⊎ (e ≡ OutOfMemory)) }
     ensures write_failed { IsErrOf result WriteFailed → W.failures out.old < W.failures out.new }
     ensures memory { IsErrOf result OutOfMemory → W.failures out.new ≡ W.failures out.old }
     ensures no_failure { OnOk result (W.failures out.new ≡ W.failures out.old) }
 {
     let _types = schema.types();
-    let tail = match tail_of(alloc, rle, schema, stripes) {
+    let tail = match tail_of(alloc, options, schema, stripes) {
         Ok(tail) => tail,
         Err(fault) => return Err(fault),
     };

@@ -1,9 +1,9 @@
 //! Laws of files that are written. Each function does nothing: its contract is what it is for.
 ghost use Rattle.std.specs.Prelude.{◌≡◌, ◌<◌, ◌^◌, ℕ, List, length, Option};
-ghost use Rattle.orc_rle.specs.declared.sign.Rle.{Rle};
 ghost use Rattle.orc_types.specs.Cells.{Cell};
 ghost use Rattle.orc_types.specs.Shapes.{Shape};
 ghost use Rattle.orc_types.specs.Schemas.{IsSchema};
+ghost use Rattle.orc_written.specs.declared.options.Options.{Options};
 ghost use Rattle.orc_devices.specs.Devices.{appended};
 ghost use Rattle.orc_file.specs.Tails.{IsTail};
 ghost use Rattle.orc_file.specs.Images.{types_text};
@@ -17,23 +17,23 @@ ghost use Rattle.orc_file.specs.declared.tail.Tail.{Tail};
 /// is laid out so, if it has fewer than 2^64 bytes, which it has where the text of the schema's types in the
 /// footer has fewer than 2^62; and what a writer wrote before it failed is then the front of such a file. The
 /// tail's statistics are those of the rows, of each stripe and of the whole file. Of rows one file is written:
-/// the version of the run lengths, the rows of a stripe and the schema determine its bytes.
+/// the version of the run lengths, the stride, the rows of a stripe and the schema determine its bytes.
 pub fn written_laws()
-    ensures read { (rle : Rle) (n : ℕ) (s : Shape) (tail : Tail) (first told : Option (List ℕ)) (rows : List Cell)
-        → IsWhole rle n s tail first told rows → (bytes : List ℕ) × (told ≡ appended first bytes) × IsWrittenFile rle n s tail bytes rows
+    ensures read { (options : Options) (s : Shape) (tail : Tail) (first told : Option (List ℕ)) (rows : List Cell)
+        → IsWhole options s tail first told rows → (bytes : List ℕ) × (told ≡ appended first bytes) × IsWrittenFile options s tail bytes rows
         × FileIs bytes tail rows }
-    ensures tail { (rle : Rle) (n : ℕ) (s : Shape) (tail : Tail) (bytes : List ℕ) (rows : List Cell)
-        → IsSchema s → IsWrittenFile rle n s tail bytes rows → length bytes < 2 ^ 64 → IsTail bytes tail }
-    ensures rows { (rle : Rle) (n : ℕ) (s : Shape) (tail : Tail) (bytes : List ℕ) (rows : List Cell)
-        → IsSchema s → IsWrittenFile rle n s tail bytes rows → length bytes < 2 ^ 64 → FileIs bytes tail rows }
-    ensures short { (rle : Rle) (n : ℕ) (s : Shape) (tail : Tail) (bytes : List ℕ) (rows : List Cell)
-        → IsSchema s → length (types_text s) < 2 ^ 62 → IsWrittenFile rle n s tail bytes rows → length bytes < 2 ^ 64 }
-    ensures front { (rle : Rle) (n : ℕ) (s : Shape) (first told : Option (List ℕ)) (rows : List Cell)
-        → IsCutOff rle n s first told rows → length (types_text s) < 2 ^ 62 → IsFrontOfFile s first told rows }
-    ensures honest { (rle : Rle) (n : ℕ) (s : Shape) (tail : Tail) (bytes : List ℕ) (rows : List Cell)
-        → IsWrittenFile rle n s tail bytes rows → Honest tail rows }
-    ensures whole { (rle : Rle) (n : ℕ) (s : Shape) (tail : Tail) (bytes : List ℕ) (rows : List Cell)
-        → IsWrittenFile rle n s tail bytes rows → HasWholeStats tail rows }
-    ensures one { (rle : Rle) (n : ℕ) (s : Shape) (t u : Tail) (a b : List ℕ) (rows : List Cell)
-        → IsWrittenFile rle n s t a rows → IsWrittenFile rle n s u b rows → (t ≡ u) × (a ≡ b) }
+    ensures tail { (options : Options) (s : Shape) (tail : Tail) (bytes : List ℕ) (rows : List Cell)
+        → IsSchema s → IsWrittenFile options s tail bytes rows → length bytes < 2 ^ 64 → IsTail bytes tail }
+    ensures rows { (options : Options) (s : Shape) (tail : Tail) (bytes : List ℕ) (rows : List Cell)
+        → IsSchema s → IsWrittenFile options s tail bytes rows → length bytes < 2 ^ 64 → FileIs bytes tail rows }
+    ensures short { (options : Options) (s : Shape) (tail : Tail) (bytes : List ℕ) (rows : List Cell)
+        → IsSchema s → length (types_text s) < 2 ^ 62 → IsWrittenFile options s tail bytes rows → length bytes < 2 ^ 64 }
+    ensures front { (options : Options) (s : Shape) (first told : Option (List ℕ)) (rows : List Cell)
+        → IsCutOff options s first told rows → length (types_text s) < 2 ^ 62 → IsFrontOfFile s first told rows }
+    ensures honest { (options : Options) (s : Shape) (tail : Tail) (bytes : List ℕ) (rows : List Cell)
+        → IsWrittenFile options s tail bytes rows → Honest tail rows }
+    ensures whole { (options : Options) (s : Shape) (tail : Tail) (bytes : List ℕ) (rows : List Cell)
+        → IsWrittenFile options s tail bytes rows → HasWholeStats tail rows }
+    ensures one { (options : Options) (s : Shape) (t u : Tail) (a b : List ℕ) (rows : List Cell)
+        → IsWrittenFile options s t a rows → IsWrittenFile options s u b rows → (t ≡ u) × (a ≡ b) }
 {}

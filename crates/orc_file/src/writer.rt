@@ -87,14 +87,13 @@ impl<W: Sink> Writer<W> {
         options: Options,
         out: W,
     ) -> Result<Writer<W>, (FileFault, W)>
-        ensures pushed { 0 < options.stripe_rows
-            → IfOk result (λ w. HasPushed options.rle options.stripe_rows schema (W.told out) (W.told w.out) w.written w.infos.items
+        ensures pushed { IfOk result (λ w. HasPushed options schema (W.told out) (W.told w.out) w.written w.infos.items
             w.stats.items (views w.rows.items) []) }
         ensures made { IfOk result (λ w. (w.schema ≡ schema) × (w.options ≡ options) × (w.failed ≡ false)) }
         ensures taken { IfOk result (λ w. HasTaken (W.told out) (W.told w.out) w.written) }
 
         ensures refused { IfErr result (λ e. (e.0 ≡ fault.WriteFailed) ⊎ (e.0 ≡ fault.OutOfMemory)) }
-        ensures cut { IfErr result (λ e. IsCutOff options.rle options.stripe_rows schema (W.told out) (W.told e.1) []) }
+        ensures cut { IfErr result (λ e. IsCutOff options schema (W.told out) (W.told e.1) []) }
         ensures write_failed { IfErr result (λ e. e.0 ≡ fault.WriteFailed → W.failures out < W.failures e.1) }
         ensures memory { IfErr result (λ e. e.0 ≡ fault.OutOfMemory → W.failures e.1 ≡ W.failures out) }
         ensures no_failure { IfOk result (λ w. W.failures w.out ≡ W.failures out) }
@@ -130,13 +129,13 @@ impl<W: Sink> Writer<W> {
     fn stripe_of(&self) -> Result<StripeOut, FileFault>
         requires open { self.now.failed ≡ false }
         ensures stripe { IfOk result (λ out. IsStripe self.now.schema out.info out.bytes.items (views self.now.rows.items)) }
-        ensures text { IfOk result (λ out. IsWrittenStripe self.now.options.rle self.now.schema (views self.now.rows.items)
+        ensures text { IfOk result (λ out. IsWrittenStripe self.now.options.rle self.now.options.stride self.now.schema (views self.now.rows.items)
             (record out.info { offset = 0 }) out.bytes.items) }
         ensures stats { IfOk result (λ out. HaveStats self.now.schema (views self.now.rows.items) (width self.now.schema) out.stats.items) }
         ensures place { IfOk result (λ out. out.info.offset ≡ self.now.written) }
         ensures few { IfOk result (λ out. stripes_length self.now.infos.items + length out.bytes.items ≤ most_bytes) }
         ensures schema { IsSchema self.now.schema }
-        ensures limit { IsErrOf result fault.Limit → PassesBytes self.now.options.rle self.now.schema self.now.infos.items (views self.now.rows.items) }
+        ensures limit { IsErrOf result fault.Limit → PassesBytes self.now.options self.now.schema self.now.infos.items (views self.now.rows.items) }
         ensures refused { IfErr result (λ e. (e ≡ fault.Limit) ⊎ (e ≡ fault.OutOfMemory)) }
     {
         let _types = self.schema.types();
@@ -161,7 +160,7 @@ impl<W: Sink> Writer<W> {
         requires open { self.old.failed ≡ false }
         requires begun { 0 < length self.old.rows.items }
         requires stripe { IsStripe self.old.schema stripe.info stripe.bytes.items (views self.old.rows.items) }
-        requires text { IsWrittenStripe self.old.options.rle self.old.schema (views self.old.rows.items) (record stripe.info { offset = 0 })
+        requires text { IsWrittenStripe self.old.options.rle self.old.options.stride self.old.schema (views self.old.rows.items) (record stripe.info { offset = 0 })
             stripe.bytes.items }
         requires stats { HaveStats self.old.schema (views self.old.rows.items) (width self.old.schema) stripe.stats.items }
         requires place { stripe.info.offset ≡ self.old.written }
@@ -169,21 +168,21 @@ impl<W: Sink> Writer<W> {
         requires schema { IsSchema self.old.schema }
         ensures kept { (first : Option (List ℕ)) (rows : List Cell)
             → length self.old.rows.items ≡ self.old.options.stripe_rows
-            → HasKept self.old.options.rle self.old.options.stripe_rows self.old.schema first (W.told self.old.out) self.old.written
+            → HasKept self.old.options self.old.schema first (W.told self.old.out) self.old.written
             self.old.infos.items self.old.stats.items (views self.old.rows.items) rows
-            → OnOk result (HasKept self.old.options.rle self.old.options.stripe_rows self.old.schema first (W.told self.new.out)
+            → OnOk result (HasKept self.old.options self.old.schema first (W.told self.new.out)
             self.new.written self.new.infos.items self.new.stats.items [] rows) }
         ensures last { (first : Option (List ℕ)) (rows : List Cell)
             → length self.old.rows.items ≤ self.old.options.stripe_rows
-            → HasKept self.old.options.rle self.old.options.stripe_rows self.old.schema first (W.told self.old.out) self.old.written
+            → HasKept self.old.options self.old.schema first (W.told self.old.out) self.old.written
             self.old.infos.items self.old.stats.items (views self.old.rows.items) rows
-            → OnOk result (HasFilled self.old.options.rle self.old.options.stripe_rows self.old.schema first (W.told self.new.out)
+            → OnOk result (HasFilled self.old.options self.old.schema first (W.told self.new.out)
             self.new.infos.items self.new.stats.items rows) }
         ensures cut { (first : Option (List ℕ)) (rows : List Cell)
             → length self.old.rows.items ≤ self.old.options.stripe_rows
-            → HasKept self.old.options.rle self.old.options.stripe_rows self.old.schema first (W.told self.old.out) self.old.written
+            → HasKept self.old.options self.old.schema first (W.told self.old.out) self.old.written
             self.old.infos.items self.old.stats.items (views self.old.rows.items) rows
-            → OnErr result (IsCutOff self.old.options.rle self.old.options.stripe_rows self.old.schema first (W.told self.new.out) rows) }
+            → OnErr result (IsCutOff self.old.options self.old.schema first (W.told self.new.out) rows) }
         ensures taken { (first : Option (List ℕ)) → HasTaken first (W.told self.old.out) self.old.written
             → HasTaken first (W.told self.new.out) self.new.written }
         ensures empty { OnOk result (self.new.rows.items ≡ []) }
@@ -222,28 +221,28 @@ impl<W: Sink> Writer<W> {
         requires begun { 0 < length self.old.rows.items }
         ensures kept { (first : Option (List ℕ)) (rows : List Cell)
             → length self.old.rows.items ≡ self.old.options.stripe_rows
-            → HasKept self.old.options.rle self.old.options.stripe_rows self.old.schema first (W.told self.old.out) self.old.written
+            → HasKept self.old.options self.old.schema first (W.told self.old.out) self.old.written
             self.old.infos.items self.old.stats.items (views self.old.rows.items) rows
-            → OnOk result (HasKept self.old.options.rle self.old.options.stripe_rows self.old.schema first (W.told self.new.out)
+            → OnOk result (HasKept self.old.options self.old.schema first (W.told self.new.out)
             self.new.written self.new.infos.items self.new.stats.items [] rows) }
         ensures last { (first : Option (List ℕ)) (rows : List Cell)
             → length self.old.rows.items ≤ self.old.options.stripe_rows
-            → HasKept self.old.options.rle self.old.options.stripe_rows self.old.schema first (W.told self.old.out) self.old.written
+            → HasKept self.old.options self.old.schema first (W.told self.old.out) self.old.written
             self.old.infos.items self.old.stats.items (views self.old.rows.items) rows
-            → OnOk result (HasFilled self.old.options.rle self.old.options.stripe_rows self.old.schema first (W.told self.new.out)
+            → OnOk result (HasFilled self.old.options self.old.schema first (W.told self.new.out)
             self.new.infos.items self.new.stats.items rows) }
         ensures cut { (first : Option (List ℕ)) (rows : List Cell)
             → length self.old.rows.items ≤ self.old.options.stripe_rows
-            → HasKept self.old.options.rle self.old.options.stripe_rows self.old.schema first (W.told self.old.out) self.old.written
+            → HasKept self.old.options self.old.schema first (W.told self.old.out) self.old.written
             self.old.infos.items self.old.stats.items (views self.old.rows.items) rows
-            → OnErr result (IsCutOff self.old.options.rle self.old.options.stripe_rows self.old.schema first (W.told self.new.out) rows) }
+            → OnErr result (IsCutOff self.old.options self.old.schema first (W.told self.new.out) rows) }
         ensures taken { (first : Option (List ℕ)) → HasTaken first (W.told self.old.out) self.old.written
             → HasTaken first (W.told self.new.out) self.new.written }
         ensures empty { OnOk result (self.new.rows.items ≡ []) }
         ensures same { (self.new.schema ≡ self.old.schema) × (self.new.options ≡ self.old.options) }
         ensures ok { OnOk result (self.new.failed ≡ false) }
         ensures failed { OnErr result (self.new.failed ≡ true) }
-        ensures limit { IsErrOf result fault.Limit → PassesBytes self.old.options.rle self.old.schema self.old.infos.items (views self.old.rows.items) }
+        ensures limit { IsErrOf result fault.Limit → PassesBytes self.old.options self.old.schema self.old.infos.items (views self.old.rows.items) }
         ensures refused { IfErr result (λ e. (e ≡ fault.WriteFailed) ⊎ ((e ≡ fault.Limit) ⊎ (e ≡ fault.OutOfMemory))) }
         ensures write_failed { IsErrOf result fault.WriteFailed → W.failures self.old.out < W.failures self.new.out }
         ensures memory { IsErrOf result fault.OutOfMemory → W.failures self.new.out ≡ W.failures self.old.out }
@@ -332,9 +331,9 @@ impl<W: Sink> Writer<W> {
     /// of the rows pushed, this one among them.
     pub fn push(&mut self, row: &Row<'_>) -> Result<(), FileFault>
         ensures pushed { (first : Option (List ℕ)) (rows : List Cell)
-            → HasPushed self.old.options.rle self.old.options.stripe_rows self.old.schema first (W.told self.old.out) self.old.written
+            → HasPushed self.old.options self.old.schema first (W.told self.old.out) self.old.written
             self.old.infos.items self.old.stats.items (views self.old.rows.items) rows
-            → OnOk result (HasPushed self.old.options.rle self.old.options.stripe_rows self.old.schema first (W.told self.new.out)
+            → OnOk result (HasPushed self.old.options self.old.schema first (W.told self.new.out)
             self.new.written self.new.infos.items self.new.stats.items (views self.new.rows.items) (rows ++ view row.now ∷ [])) }
         ensures taken { (first : Option (List ℕ)) → HasTaken first (W.told self.old.out) self.old.written
             → HasTaken first (W.told self.new.out) self.new.written }
@@ -348,7 +347,7 @@ impl<W: Sink> Writer<W> {
         ensures only_limit { IsErrOf result fault.Limit → self.new.failed ≡ false
             → PassesLimit self.old.schema self.old.infos.items self.old.total self.old.counts.items (view row.now) }
         ensures long { IsErrOf result fault.Limit → self.new.failed ≡ true
-            → PassesBytes self.old.options.rle self.old.schema self.old.infos.items (views self.old.rows.items ++ view row.now ∷ []) }
+            → PassesBytes self.old.options self.old.schema self.old.infos.items (views self.old.rows.items ++ view row.now ∷ []) }
         ensures refused { IfErr result (λ e. (e ≡ fault.Failed)
             ⊎ ((e ≡ fault.RowShape) ⊎ ((e ≡ fault.Limit) ⊎ ((e ≡ fault.WriteFailed) ⊎ (e ≡ fault.OutOfMemory))))) }
         ensures shape_stays { IsErrOf result fault.RowShape → self.new.failed ≡ false }
@@ -362,10 +361,10 @@ impl<W: Sink> Writer<W> {
         ensures ok { OnOk result (self.new.failed ≡ false) }
 
         ensures cut { (first : Option (List ℕ)) (rows : List Cell)
-            → HasPushed self.old.options.rle self.old.options.stripe_rows self.old.schema first (W.told self.old.out) self.old.written
+            → HasPushed self.old.options self.old.schema first (W.told self.old.out) self.old.written
             self.old.infos.items self.old.stats.items (views self.old.rows.items) rows
             → self.old.failed ≡ false → self.new.failed ≡ true
-            → IsCutOff self.old.options.rle self.old.options.stripe_rows self.old.schema first (W.told self.new.out)
+            → IsCutOff self.old.options self.old.schema first (W.told self.new.out)
             (rows ++ view row.now ∷ []) }
         ensures write_failed { IsErrOf result fault.WriteFailed → W.failures self.old.out < W.failures self.new.out }
         ensures memory { IsErrOf result fault.OutOfMemory → W.failures self.new.out ≡ W.failures self.old.out }
@@ -397,18 +396,18 @@ impl<W: Sink> Writer<W> {
     fn close_rest(&mut self) -> Result<(), FileFault>
         requires open { self.old.failed ≡ false }
         ensures last { (first : Option (List ℕ)) (rows : List Cell)
-            → HasPushed self.old.options.rle self.old.options.stripe_rows self.old.schema first (W.told self.old.out) self.old.written
+            → HasPushed self.old.options self.old.schema first (W.told self.old.out) self.old.written
             self.old.infos.items self.old.stats.items (views self.old.rows.items) rows
-            → OnOk result (HasFilled self.old.options.rle self.old.options.stripe_rows self.old.schema first (W.told self.new.out)
+            → OnOk result (HasFilled self.old.options self.old.schema first (W.told self.new.out)
             self.new.infos.items self.new.stats.items rows) }
         ensures cut { (first : Option (List ℕ)) (rows : List Cell)
-            → HasPushed self.old.options.rle self.old.options.stripe_rows self.old.schema first (W.told self.old.out) self.old.written
+            → HasPushed self.old.options self.old.schema first (W.told self.old.out) self.old.written
             self.old.infos.items self.old.stats.items (views self.old.rows.items) rows
-            → OnErr result (IsCutOff self.old.options.rle self.old.options.stripe_rows self.old.schema first (W.told self.new.out) rows) }
+            → OnErr result (IsCutOff self.old.options self.old.schema first (W.told self.new.out) rows) }
         ensures empty { OnOk result (self.new.rows.items ≡ []) }
         ensures ok { OnOk result (self.new.failed ≡ false) }
         ensures same { (self.new.schema ≡ self.old.schema) × (self.new.options ≡ self.old.options) }
-        ensures limit { IsErrOf result fault.Limit → PassesBytes self.old.options.rle self.old.schema self.old.infos.items (views self.old.rows.items) }
+        ensures limit { IsErrOf result fault.Limit → PassesBytes self.old.options self.old.schema self.old.infos.items (views self.old.rows.items) }
         ensures begun { OnErr result (0 < length self.old.rows.items) }
         ensures refused { IfErr result (λ e. (e ≡ fault.WriteFailed) ⊎ ((e ≡ fault.Limit) ⊎ (e ≡ fault.OutOfMemory))) }
         ensures write_failed { IsErrOf result fault.WriteFailed → W.failures self.old.out < W.failures self.new.out }
@@ -428,20 +427,20 @@ impl<W: Sink> Writer<W> {
     /// file's stripes would have too many bytes.
     pub fn finish(self) -> Result<(Tail, W), (FileFault, W)>
         ensures whole { (first : Option (List ℕ)) (rows : List Cell)
-            → HasPushed self.options.rle self.options.stripe_rows self.schema first (W.told self.out) self.written self.infos.items
+            → HasPushed self.options self.schema first (W.told self.out) self.written self.infos.items
             self.stats.items (views self.rows.items) rows
-            → IfOk result (λ done. IsWhole self.options.rle self.options.stripe_rows self.schema done.0 first (W.told done.1) rows) }
+            → IfOk result (λ done. IsWhole self.options self.schema done.0 first (W.told done.1) rows) }
 
         ensures failed { IfErr result (λ e. e.0 ≡ fault.Failed → self.failed ≡ true) }
         ensures stands { self.failed ≡ true → MatchResult result (λ _. ⊥) (λ e. (e.0 ≡ fault.Failed) × (e.1 ≡ self.out)) }
-        ensures long { IfErr result (λ e. e.0 ≡ fault.Limit → PassesBytes self.options.rle self.schema self.infos.items (views self.rows.items)) }
+        ensures long { IfErr result (λ e. e.0 ≡ fault.Limit → PassesBytes self.options self.schema self.infos.items (views self.rows.items)) }
         ensures begun { IfErr result (λ e. e.0 ≡ fault.Limit → 0 < length self.rows.items) }
         ensures refused { IfErr result (λ e. (e.0 ≡ fault.Failed) ⊎ ((e.0 ≡ fault.Limit) ⊎ ((e.0 ≡ fault.WriteFailed) ⊎ (e.0 ≡ fault.OutOfMemory)))) }
         ensures cut { (first : Option (List ℕ)) (rows : List Cell)
-            → HasPushed self.options.rle self.options.stripe_rows self.schema first (W.told self.out) self.written self.infos.items
+            → HasPushed self.options self.schema first (W.told self.out) self.written self.infos.items
             self.stats.items (views self.rows.items) rows
             → self.failed ≡ false
-            → IfErr result (λ e. IsCutOff self.options.rle self.options.stripe_rows self.schema first (W.told e.1) rows) }
+            → IfErr result (λ e. IsCutOff self.options self.schema first (W.told e.1) rows) }
         ensures write_failed { IfErr result (λ e. e.0 ≡ fault.WriteFailed → W.failures self.out < W.failures e.1) }
         ensures memory { IfErr result (λ e. e.0 ≡ fault.OutOfMemory → W.failures e.1 ≡ W.failures self.out) }
         ensures no_failure { IfOk result (λ done. W.failures done.1 ≡ W.failures self.out) }
@@ -470,7 +469,7 @@ impl<W: Sink> Writer<W> {
             stats,
             rows: total,
         };
-        match end_file(alloc, options.rle(), schema, stripes, &mut out) {
+        match end_file(alloc, options, schema, stripes, &mut out) {
             Ok(tail) => Ok((tail, out)),
             Err(fault) => Err((fault, out)),
         }

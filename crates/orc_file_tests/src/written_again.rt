@@ -124,15 +124,16 @@ fn schema_of(alloc: Global, text: &str) -> Result<Schema, FileFault> {
     }
 }
 
-/// A writer to memory, with stripes of so many rows.
+/// A writer to memory, with a row index of groups of so many rows, and stripes of so many.
 fn begun(
     alloc: Global,
     text: &str,
     rle: Rle,
+    stride: u32,
     stripe_rows: u32,
 ) -> Result<Writer<VecSink>, FileFault> {
     let schema = schema_of(alloc, text)?;
-    let Some(options) = Options::new(rle, 0, stripe_rows) else {
+    let Some(options) = Options::new(rle, stride, stripe_rows) else {
         return Err(FileFault::Limit);
     };
     match Writer::new(alloc, schema, options, VecSink::new(alloc)) {
@@ -149,12 +150,13 @@ fn ended(writer: Writer<VecSink>) -> Result<Vec<u8>, FileFault> {
     }
 }
 
-/// The rows of these bytes are those of the lines.
+/// The rows of these bytes are those of the lines, and the stride is the one that was asked for.
 fn check_rows(
     rt: &impl Abort,
     alloc: Global,
     bytes: &[u8],
     text: &str,
+    stride: u32,
     lines: &[&str],
 ) -> Result<(), FileFault> {
     let schema = schema_of(alloc, text)?;
@@ -162,6 +164,7 @@ fn check_rows(
         Ok(file) => file,
         Err((fault, _)) => return Err(fault),
     };
+    assert_eq!(rt; file.tail().stride, stride);
     let rows = file.rows(alloc)?;
     assert_eq!(rt; rows.len(), lines.len(), "{text}");
     for (row, line) in rows.iter().zip(lines) {
@@ -171,16 +174,16 @@ fn check_rows(
     Ok(())
 }
 
-/// The rows of a case are written and read again, in stripes of several sizes.
+/// The rows of a case are written and read again, with indexes and without, in stripes of several sizes.
 fn check_case(rt: &impl Abort, alloc: Global, rle: Rle, case: &Case) -> Result<(), FileFault> {
     let (text, lines) = case;
     let schema = schema_of(alloc, text)?;
-    for stripe_rows in [1, 2, 1000] {
-        let mut writer = begun(alloc, text, rle, stripe_rows)?;
+    for (stride, stripe_rows) in [(0, 1), (1, 2), (2, 1000), (1000, 2)] {
+        let mut writer = begun(alloc, text, rle, stride, stripe_rows)?;
         for line in *lines {
             writer.push(&row_of(alloc, &schema, line)?)?;
         }
-        check_rows(rt, alloc, &ended(writer)?, text, lines)?;
+        check_rows(rt, alloc, &ended(writer)?, text, stride, lines)?;
     }
     Ok(())
 }
@@ -221,11 +224,11 @@ fn check_misfit(
     line: &str,
 ) -> Result<(), FileFault> {
     let misfit = row_of(alloc, &schema_of(alloc, other)?, line)?;
-    let mut writer = begun(alloc, text, Rle::Two, 3)?;
+    let mut writer = begun(alloc, text, Rle::Two, 1, 3)?;
     writer.push(&None)?;
     assert_eq!(rt; writer.push(&misfit), Err(FileFault::RowShape), "{line}");
     writer.push(&None)?;
-    check_rows(rt, alloc, &ended(writer)?, text, &["null", "null"])
+    check_rows(rt, alloc, &ended(writer)?, text, 1, &["null", "null"])
 }
 
 #[test]

@@ -4,7 +4,7 @@ use Rattle.std.proofs.Common.{refl, ap, ◌∙◌, subst, append_assoc, length-a
 use Rattle.std.specs.Prelude.{◌&&◌}
 use Rattle.std.proofs.lemmas.Bool.{ltb-false}
 use Rattle.std.proofs.lemmas.List.{length-map}
-use Rattle.orc_rle.specs.declared.sign.Rle.{Rle}
+use Rattle.orc_written.specs.declared.options.Options.{Options}
 use Rattle.orc_wire.specs.declared.stripe_info.StripeInfo.{StripeInfo}
 use Rattle.orc_types.specs.Shapes.{Shape, width}
 use Rattle.orc_types.specs.Cells.{Cell}
@@ -16,13 +16,13 @@ use Rattle.orc_file.proofs.WriterLemmas.{stripe_rows}
 use Rattle.orc_file.proofs.CountLemmas.{AreCounts, counts_more, length-with_row}
 use Rattle.orc_lines.specs.Writes.{HaveManyCells, PassesLimits}
 
-rows_count : (rle : Rle) (s : Shape) (at : ℕ) (cs : List Closed) → AreClosed rle s at cs → stripes_rows (infos_of cs) ≡ length (rows_of cs)
-rows_count rle s at [] h = refl
-rows_count rle s at (c ∷ cs) h =
+rows_count : (options : Options) (s : Shape) (at : ℕ) (cs : List Closed) → AreClosed options s at cs → stripes_rows (infos_of cs) ≡ length (rows_of cs)
+rows_count options s at [] h = refl
+rows_count options s at (c ∷ cs) h =
     let i = h.0 in
     let n = stripe_rows s c.info c.bytes c.rows i.read in
     let l = length-append c.rows (rows_of cs) in
-    let r = rows_count rle s (at + length c.bytes) cs h.1 in
+    let r = rows_count options s (at + length c.bytes) cs h.1 in
     omega (arith, n, l, r)
 
 -- some count is above the limit
@@ -51,8 +51,8 @@ many_cells s counts rows row w h f =
     let many = m.many in
     (m.place, column, omega (arith, e, many))
 
-module _ (rle : Rle) (n : ℕ) (s : Shape) (first told : Option (List ℕ)) (written : ℕ) (infos : List StripeInfo) (stats : List (List Stat))
-    (kept rows : List Cell) (p : HasPushed rle n s first told written infos stats kept rows) where
+module _ (options : Options) (s : Shape) (first told : Option (List ℕ)) (written : ℕ) (infos : List StripeInfo) (stats : List (List Stat))
+    (kept rows : List Cell) (p : HasPushed options s first told written infos stats kept rows) where
   -- with a row more, where the writer's counts say so
   module _ (row : Cell) (total k : ℕ) (counts : List ℕ) (total_is : total ≡ stripes_rows infos + k) (k_is : length kept ≡ k)
       (wide : length counts ≡ width s) (counted : AreCounts s counts kept) where
@@ -61,13 +61,13 @@ module _ (rle : Rle) (n : ℕ) (s : Shape) (first told : Option (List ℕ)) (wri
         let h = p.0 in
         let l = ap length h.rows_are in
         let m = length-append (rows_of h.closed) kept in
-        let c = rows_count rle s 3 h.closed h.are in
+        let c = rows_count options s 3 h.closed h.are in
         let i = ap stripes_rows h.infos_are in
         omega (arith, l, m, c, i, total_is, k_is)
 
-    which : PassesLimit s infos total counts row ⊎ PassesBytes rle s infos (kept ++ row ∷ [])
+    which : PassesLimit s infos total counts row ⊎ PassesBytes options s infos (kept ++ row ∷ [])
         → (most_stripes ≤ length p.0.closed)
-        ⊎ ((most_rows < length (rows ++ row ∷ [])) ⊎ (HaveManyCells s (kept ++ row ∷ []) ⊎ PassesBytes rle s (infos_of p.0.closed) (kept ++ row ∷ [])))
+        ⊎ ((most_rows < length (rows ++ row ∷ [])) ⊎ (HaveManyCells s (kept ++ row ∷ []) ⊎ PassesBytes options s (infos_of p.0.closed) (kept ++ row ∷ [])))
     which (inl (inl stripes)) =
         let h = p.0 in
         let i = ap length h.infos_are in
@@ -77,9 +77,9 @@ module _ (rle : Rle) (n : ℕ) (s : Shape) (first told : Option (List ℕ)) (wri
     which (inl (inr (inr cells))) = inr (inr (inl (many_cells s counts kept row wide counted cells)))
     which (inr bytes) =
         let h = p.0 in
-        inr (inr (inr (subst (λ (i : List StripeInfo). PassesBytes rle s i (kept ++ row ∷ [])) h.infos_are bytes)))
+        inr (inr (inr (subst (λ (i : List StripeInfo). PassesBytes options s i (kept ++ row ∷ [])) h.infos_are bytes)))
 
-    pub row_passes : PassesLimit s infos total counts row ⊎ PassesBytes rle s infos (kept ++ row ∷ []) → PassesLimits rle n s (rows ++ row ∷ [])
+    pub row_passes : PassesLimit s infos total counts row ⊎ PassesBytes options s infos (kept ++ row ∷ []) → PassesLimits options s (rows ++ row ∷ [])
     row_passes limit =
         let h = p.0 in
         let l = length-append kept (row ∷ []) in
@@ -96,7 +96,7 @@ module _ (rle : Rle) (n : ℕ) (s : Shape) (first told : Option (List ℕ)) (wri
         }
 
   -- with the kept rows as the last stripe
-  pub rest_passes : 0 < length kept → PassesBytes rle s infos kept → PassesLimits rle n s rows
+  pub rest_passes : 0 < length kept → PassesBytes options s infos kept → PassesLimits options s rows
   rest_passes some bytes =
       let h = p.0 in
       let few = p.1 in
@@ -108,5 +108,5 @@ module _ (rle : Rle) (n : ℕ) (s : Shape) (first told : Option (List ℕ)) (wri
         some = some;
         most = omega (arith, few);
         rows_are = h.rows_are;
-        passes = inr (inr (inr (subst (λ (i : List StripeInfo). PassesBytes rle s i kept) h.infos_are bytes)));
+        passes = inr (inr (inr (subst (λ (i : List StripeInfo). PassesBytes options s i kept) h.infos_are bytes)));
       }

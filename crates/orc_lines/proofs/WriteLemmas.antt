@@ -2,7 +2,7 @@
 use Rattle.std.proofs.Common.{◌≡◌, ℕ, Bool, true, false, List, [], ◌∷◌, ◌++◌, length, refl, sym, ap, ◌∙◌, subst, append_assoc, append-nil, arith, ◌⊎◌, inl, inr, Option}
 use Rattle.std.specs.Prelude.{◌==◌, ◌≢◌}
 use Rattle.std.specs.List.{flat_map}
-use Rattle.orc_rle.specs.declared.sign.Rle.{Rle}
+use Rattle.orc_written.specs.declared.options.Options.{Options}
 use Rattle.orc_wire.specs.declared.stripe_info.StripeInfo.{StripeInfo}
 use Rattle.orc_types.specs.Shapes.{Shape}
 use Rattle.orc_types.specs.Cells.{Cell}
@@ -120,8 +120,8 @@ not_limit why (inr e) q = absurd (cc)
 
 -- ---- what is out after the refusal of a line
 
-pub stands_open : (rle : Rle) (n : ℕ) (s : Shape) (first told : Option (List ℕ)) (written : ℕ) (infos : List StripeInfo) (stats : List (List Stat)) (kept rows : List Cell)
-    → HasPushed rle n s first told written infos stats kept rows → StandsOpen rle n s first told rows
-stands_open rle n s first told written infos stats kept rows h =
+pub stands_open : (options : Options) (s : Shape) (first told : Option (List ℕ)) (written : ℕ) (infos : List StripeInfo) (stats : List (List Stat)) (kept rows : List Cell)
+    → HasPushed options s first told written infos stats kept rows → StandsOpen options s first told rows
+stands_open options s first told written infos stats kept rows h =
     let p = h.0 in
     record { closed = p.closed; kept = kept; are = p.are; full = p.full; told_is = p.told_is; rows_are = p.rows_are; few = h.1 }

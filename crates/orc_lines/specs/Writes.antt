@@ -2,7 +2,7 @@
 use Rattle.std.specs.Prelude.{◌≡◌, ◌≢◌, ◌<◌, ◌≤◌, ◌^◌, ◌⊎◌, ℕ, List, [], ◌∷◌, ◌++◌, length, Option, Some, None, false, IsUtf8}
 use Rattle.serde_json.specs.Data.{Data}
 use Rattle.serde_json.specs.Read.{read as read_text}
-use Rattle.orc_rle.specs.declared.sign.Rle.{Rle}
+use Rattle.orc_written.specs.declared.options.Options.{Options}
 use Rattle.orc_types.specs.Shapes.{Shape, width}
 use Rattle.orc_types.specs.Cells.{Cell}
 use Rattle.orc_types.specs.Columns.{cells}
@@ -80,40 +80,40 @@ HaveManyCells s rows = (c : ℕ) × (c < width s) × (2 ^ 31 ≤ length (cells s
 -- A file of the rows would pass a limit. They are those of full stripes, one after the other behind `ORC`, and of a
 -- last one, which has a row at least and no more than a full one. With it there are too many stripes or rows, or it
 -- has too many cells in a column, or the stripes have too many bytes.
-pub record PassesLimits (rle : Rle) (n : ℕ) (s : Shape) (rows : List Cell) : Type 0 where
+pub record PassesLimits (options : Options) (s : Shape) (rows : List Cell) : Type 0 where
   pub closed : List Closed
   pub last : List Cell
-  pub are : AreClosed rle s 3 closed
-  pub full : AreFull n closed
+  pub are : AreClosed options s 3 closed
+  pub full : AreFull options.stripe_rows closed
   pub some : 0 < length last
-  pub most : length last ≤ n
+  pub most : length last ≤ options.stripe_rows
   pub rows_are : rows ≡ rows_of closed ++ last
-  pub passes : (most_stripes ≤ length closed) ⊎ ((most_rows < length rows) ⊎ (HaveManyCells s last ⊎ PassesBytes rle s (infos_of closed) last))
+  pub passes : (most_stripes ≤ length closed) ⊎ ((most_rows < length rows) ⊎ (HaveManyCells s last ⊎ PassesBytes options s (infos_of closed) last))
 
 -- a limit is the refusal only where the rows that the writer was given pass one
-abbrev pub LimitStands : Rle → ℕ → Shape → CliFault → List Cell → Type 0
-LimitStands rle n s fault rows = fault ≡ File file.Limit → PassesLimits rle n s rows
+abbrev pub LimitStands : Options → Shape → CliFault → List Cell → Type 0
+LimitStands options s fault rows = fault ≡ File file.Limit → PassesLimits options s rows
 
 -- Behind what the output had told first stand `ORC` and the full stripes of the rows, and nothing more: the rows
 -- behind them, which are too few for one, are in no stripe, and there is no tail.
-pub record StandsOpen (rle : Rle) (n : ℕ) (s : Shape) (first told : Option (List ℕ)) (rows : List Cell) : Type 0 where
+pub record StandsOpen (options : Options) (s : Shape) (first told : Option (List ℕ)) (rows : List Cell) : Type 0 where
   pub closed : List Closed
   pub kept : List Cell
-  pub are : AreClosed rle s 3 closed
-  pub full : AreFull n closed
+  pub are : AreClosed options s 3 closed
+  pub full : AreFull options.stripe_rows closed
   pub told_is : told ≡ appended first (magic ++ bytes_of closed)
   pub rows_are : rows ≡ rows_of closed ++ kept
-  pub few : length kept < n
+  pub few : length kept < options.stripe_rows
 
 -- after the refusal of a line the file stands open, with the rows that the writer was given
-abbrev pub OpenAtLine : Rle → ℕ → Shape → Option (List ℕ) → Option (List ℕ) → CliFault → List Cell → Type 0
-OpenAtLine rle n s first told fault rows = (why : JsonFault) → fault ≡ Json why → StandsOpen rle n s first told rows
+abbrev pub OpenAtLine : Options → Shape → Option (List ℕ) → Option (List ℕ) → CliFault → List Cell → Type 0
+OpenAtLine options s first told fault rows = (why : JsonFault) → fault ≡ Json why → StandsOpen options s first told rows
 
 -- Why `write` refuses a schema's text and lines, and what is out then: nothing where the text tells no schema, and
 -- else the front of a file of some of the rows that the writer was given. After the refusal of a line no more is out
 -- than the full stripes of these rows.
-abbrev pub RefusesWrite : Rle → ℕ → List ℕ → List ℕ → Option (List ℕ) → Option (List ℕ) → CliFault → Type 0
-RefusesWrite rle n text bytes old new fault =
+abbrev pub RefusesWrite : Options → List ℕ → List ℕ → Option (List ℕ) → Option (List ℕ) → CliFault → Type 0
+RefusesWrite options text bytes old new fault =
     ((why : TypeFault) × (fault ≡ Types why) × TextFault text why × (new ≡ old))
-    ⊎ ((s : Shape) × (rows : List Cell) × HasText s text × EndsUnder s bytes fault rows × LimitStands rle n s fault rows × IsCutOff rle n s old new rows
-    × OpenAtLine rle n s old new fault rows)
+    ⊎ ((s : Shape) × (rows : List Cell) × HasText s text × EndsUnder s bytes fault rows × LimitStands options s fault rows × IsCutOff options s old new rows
+    × OpenAtLine options s old new fault rows)

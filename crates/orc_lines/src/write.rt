@@ -49,9 +49,9 @@ fn row_of_line(alloc: Global, schema: &Schema, line: &[u8]) -> Result<Row<'stati
 /// Pushes the row of a line, where it isn't empty.
 fn push_line<W: Sink>(alloc: Global, line: &[u8], writer: &mut Writer<W>) -> Result<(), CliFault>
     ensures pushed { OnOk result ((own : List Cell) × LineSpellsRows writer.old.schema line.now own × ((first : Option (List ℕ)) (rows : List Cell)
-        → HasPushed writer.old.options.rle writer.old.options.stripe_rows writer.old.schema first (W.told writer.old.out) writer.old.written
+        → HasPushed writer.old.options writer.old.schema first (W.told writer.old.out) writer.old.written
         writer.old.infos.items writer.old.stats.items (views writer.old.rows.items) rows
-        → HasPushed writer.old.options.rle writer.old.options.stripe_rows writer.old.schema first (W.told writer.new.out) writer.new.written
+        → HasPushed writer.old.options writer.old.schema first (W.told writer.new.out) writer.new.written
         writer.new.infos.items writer.new.stats.items (views writer.new.rows.items) (rows ++ own))) }
     ensures same { (writer.new.schema ≡ writer.old.schema) × (writer.new.options ≡ writer.old.options) }
     ensures ready { OnOk result (writer.old.failed ≡ false → writer.new.failed ≡ false) }
@@ -59,11 +59,11 @@ fn push_line<W: Sink>(alloc: Global, line: &[u8], writer: &mut Writer<W>) -> Res
 
     ensures refused { writer.old.failed ≡ false → IfErr result (λ fault. (own : List Cell) × (line.now ≢ []) × EndsAtLine writer.old.schema line.now fault own
         × ((first : Option (List ℕ)) (rows : List Cell)
-        → HasPushed writer.old.options.rle writer.old.options.stripe_rows writer.old.schema first (W.told writer.old.out) writer.old.written
+        → HasPushed writer.old.options writer.old.schema first (W.told writer.old.out) writer.old.written
         writer.old.infos.items writer.old.stats.items (views writer.old.rows.items) rows
-        → LimitStands writer.old.options.rle writer.old.options.stripe_rows writer.old.schema fault (rows ++ own)
-        × IsCutOff writer.old.options.rle writer.old.options.stripe_rows writer.old.schema first (W.told writer.new.out) (rows ++ own)
-        × OpenAtLine writer.old.options.rle writer.old.options.stripe_rows writer.old.schema first (W.told writer.new.out) fault (rows ++ own))) }
+        → LimitStands writer.old.options writer.old.schema fault (rows ++ own)
+        × IsCutOff writer.old.options writer.old.schema first (W.told writer.new.out) (rows ++ own)
+        × OpenAtLine writer.old.options writer.old.schema first (W.told writer.new.out) fault (rows ++ own))) }
     ensures write_failed { IfErr result (λ fault. fault ≡ write_failed → W.failures writer.old.out < W.failures writer.new.out) }
     ensures memory { IfErr result (λ fault. IsWantOfMemory fault → W.failures writer.new.out ≡ W.failures writer.old.out) }
 {
@@ -81,9 +81,9 @@ fn push_line<W: Sink>(alloc: Global, line: &[u8], writer: &mut Writer<W>) -> Res
 /// Pushes the rows of lines.
 fn push_lines<W: Sink>(alloc: Global, input: &[u8], writer: &mut Writer<W>) -> Result<(), CliFault>
     ensures pushed { OnOk result ((own : List Cell) × AreRowsOf writer.old.schema input.now own × ((first : Option (List ℕ)) (rows : List Cell)
-        → HasPushed writer.old.options.rle writer.old.options.stripe_rows writer.old.schema first (W.told writer.old.out) writer.old.written
+        → HasPushed writer.old.options writer.old.schema first (W.told writer.old.out) writer.old.written
         writer.old.infos.items writer.old.stats.items (views writer.old.rows.items) rows
-        → HasPushed writer.old.options.rle writer.old.options.stripe_rows writer.old.schema first (W.told writer.new.out) writer.new.written
+        → HasPushed writer.old.options writer.old.schema first (W.told writer.new.out) writer.new.written
         writer.new.infos.items writer.new.stats.items (views writer.new.rows.items) (rows ++ own))) }
     ensures same { (writer.new.schema ≡ writer.old.schema) × (writer.new.options ≡ writer.old.options) }
     ensures ready { OnOk result (writer.old.failed ≡ false → writer.new.failed ≡ false) }
@@ -91,11 +91,11 @@ fn push_lines<W: Sink>(alloc: Global, input: &[u8], writer: &mut Writer<W>) -> R
 
     ensures refused { writer.old.failed ≡ false → IfErr result (λ fault. (own : List Cell) × EndsInLines writer.old.schema input.now fault own
         × ((first : Option (List ℕ)) (rows : List Cell)
-        → HasPushed writer.old.options.rle writer.old.options.stripe_rows writer.old.schema first (W.told writer.old.out) writer.old.written
+        → HasPushed writer.old.options writer.old.schema first (W.told writer.old.out) writer.old.written
         writer.old.infos.items writer.old.stats.items (views writer.old.rows.items) rows
-        → LimitStands writer.old.options.rle writer.old.options.stripe_rows writer.old.schema fault (rows ++ own)
-        × IsCutOff writer.old.options.rle writer.old.options.stripe_rows writer.old.schema first (W.told writer.new.out) (rows ++ own)
-        × OpenAtLine writer.old.options.rle writer.old.options.stripe_rows writer.old.schema first (W.told writer.new.out) fault (rows ++ own))) }
+        → LimitStands writer.old.options writer.old.schema fault (rows ++ own)
+        × IsCutOff writer.old.options writer.old.schema first (W.told writer.new.out) (rows ++ own)
+        × OpenAtLine writer.old.options writer.old.schema first (W.told writer.new.out) fault (rows ++ own))) }
     ensures write_failed { IfErr result (λ fault. fault ≡ write_failed → W.failures writer.old.out < W.failures writer.new.out) }
     ensures memory { IfErr result (λ fault. IsWantOfMemory fault → W.failures writer.new.out ≡ W.failures writer.old.out) }
 {
@@ -128,14 +128,13 @@ pub fn write_from<W: Sink>(
     input: &[u8],
     out: W,
 ) -> Result<(Tail, W), (CliFault, W)>
-    ensures written { 0 < options.stripe_rows → IfOk result (λ done. (s : Shape) × (rows : List Cell) × HasText s schema.now × AreRowsOf s input.now rows
-        × IsWhole options.rle options.stripe_rows s done.0 (W.told out) (W.told done.1) rows) }
-    ensures only { 0 < options.stripe_rows → (s : Shape) (rows : List Cell) → HasText s schema.now → AreRowsOf s input.now rows
+    ensures written { IfOk result (λ done. (s : Shape) × (rows : List Cell) × HasText s schema.now × AreRowsOf s input.now rows
+        × IsWhole options s done.0 (W.told out) (W.told done.1) rows) }
+    ensures only { (s : Shape) (rows : List Cell) → HasText s schema.now → AreRowsOf s input.now rows
         → IfErr result (λ e. IsOfWriter e.0) }
     ensures no_failure { IfOk result (λ done. W.failures done.1 ≡ W.failures out) }
 
-    ensures refused { 0 < options.stripe_rows
-        → IfErr result (λ e. RefusesWrite options.rle options.stripe_rows schema.now input.now (W.told out) (W.told e.1) e.0) }
+    ensures refused { IfErr result (λ e. RefusesWrite options schema.now input.now (W.told out) (W.told e.1) e.0) }
     ensures failed { IfErr result (λ e. e.0 ≡ write_failed → W.failures out < W.failures e.1) }
     ensures memory { IfErr result (λ e. IsWantOfMemory e.0 → W.failures e.1 ≡ W.failures out) }
 {

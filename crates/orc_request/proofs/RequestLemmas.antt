@@ -27,7 +27,7 @@ pub understood_ints : (name : List ℕ) (found : Found) (P : Type 0) → name �
 understood_ints name found P e so (ints rle sign hex other h) = so rle sign hex h
 understood_ints name found P e so (rows file other h) = let d : ◌≡◌ {A = ℕ} 105 114 = ap front (sym e ∙ other) in absurd (omega (arith, d))
 understood_ints name found P e so (show file other h) = let d : ◌≡◌ {A = ℕ} 105 115 = ap front (sym e ∙ other) in absurd (omega (arith, d))
-understood_ints name found P e so (write schema options input output other h low high) = let d : ◌≡◌ {A = ℕ} 105 119 = ap front (sym e ∙ other) in absurd (omega (arith, d))
+understood_ints name found P e so (write schema options input output other h) = let d : ◌≡◌ {A = ℕ} 105 119 = ap front (sym e ∙ other) in absurd (omega (arith, d))
 understood_ints name found P e so (merge output other h) = let d : ◌≡◌ {A = ℕ} 105 109 = ap front (sym e ∙ other) in absurd (omega (arith, d))
 
 pub understood_rows : (name : List ℕ) (found : Found) (P : Type 0) → name ≡ codes "rows"
@@ -35,7 +35,7 @@ pub understood_rows : (name : List ℕ) (found : Found) (P : Type 0) → name �
 understood_rows name found P e so (ints rle sign hex other h) = let d : ◌≡◌ {A = ℕ} 114 105 = ap front (sym e ∙ other) in absurd (omega (arith, d))
 understood_rows name found P e so (rows file other h) = so file h
 understood_rows name found P e so (show file other h) = let d : ◌≡◌ {A = ℕ} 114 115 = ap front (sym e ∙ other) in absurd (omega (arith, d))
-understood_rows name found P e so (write schema options input output other h low high) = let d : ◌≡◌ {A = ℕ} 114 119 = ap front (sym e ∙ other) in absurd (omega (arith, d))
+understood_rows name found P e so (write schema options input output other h) = let d : ◌≡◌ {A = ℕ} 114 119 = ap front (sym e ∙ other) in absurd (omega (arith, d))
 understood_rows name found P e so (merge output other h) = let d : ◌≡◌ {A = ℕ} 114 109 = ap front (sym e ∙ other) in absurd (omega (arith, d))
 
 pub understood_show : (name : List ℕ) (found : Found) (P : Type 0) → name ≡ codes "show"
@@ -43,15 +43,15 @@ pub understood_show : (name : List ℕ) (found : Found) (P : Type 0) → name �
 understood_show name found P e so (ints rle sign hex other h) = let d : ◌≡◌ {A = ℕ} 115 105 = ap front (sym e ∙ other) in absurd (omega (arith, d))
 understood_show name found P e so (rows file other h) = let d : ◌≡◌ {A = ℕ} 115 114 = ap front (sym e ∙ other) in absurd (omega (arith, d))
 understood_show name found P e so (show file other h) = so file h
-understood_show name found P e so (write schema options input output other h low high) = let d : ◌≡◌ {A = ℕ} 115 119 = ap front (sym e ∙ other) in absurd (omega (arith, d))
+understood_show name found P e so (write schema options input output other h) = let d : ◌≡◌ {A = ℕ} 115 119 = ap front (sym e ∙ other) in absurd (omega (arith, d))
 understood_show name found P e so (merge output other h) = let d : ◌≡◌ {A = ℕ} 115 109 = ap front (sym e ∙ other) in absurd (omega (arith, d))
 
 pub understood_write : (name : List ℕ) (found : Found) (P : Type 0) → name ≡ codes "write"
-    → ((schema : List ℕ) (options : Options) (input output : List ℕ) → HasWrite found schema options input output → 0 < options.stripe_rows → options.stripe_rows < 2 ^ 31 → P) → IsUnderstood name found → P
+    → ((schema : List ℕ) (options : Options) (input output : List ℕ) → HasWrite found schema options input output → P) → IsUnderstood name found → P
 understood_write name found P e so (ints rle sign hex other h) = let d : ◌≡◌ {A = ℕ} 119 105 = ap front (sym e ∙ other) in absurd (omega (arith, d))
 understood_write name found P e so (rows file other h) = let d : ◌≡◌ {A = ℕ} 119 114 = ap front (sym e ∙ other) in absurd (omega (arith, d))
 understood_write name found P e so (show file other h) = let d : ◌≡◌ {A = ℕ} 119 115 = ap front (sym e ∙ other) in absurd (omega (arith, d))
-understood_write name found P e so (write schema options input output other h low high) = so schema options input output h low high
+understood_write name found P e so (write schema options input output other h) = so schema options input output h
 understood_write name found P e so (merge output other h) = let d : ◌≡◌ {A = ℕ} 119 109 = ap front (sym e ∙ other) in absurd (omega (arith, d))
 
 pub understood_merge : (name : List ℕ) (found : Found) (P : Type 0) → name ≡ codes "merge"
@@ -59,14 +59,14 @@ pub understood_merge : (name : List ℕ) (found : Found) (P : Type 0) → name �
 understood_merge name found P e so (ints rle sign hex other h) = let d : ◌≡◌ {A = ℕ} 109 105 = ap front (sym e ∙ other) in absurd (omega (arith, d))
 understood_merge name found P e so (rows file other h) = let d : ◌≡◌ {A = ℕ} 109 114 = ap front (sym e ∙ other) in absurd (omega (arith, d))
 understood_merge name found P e so (show file other h) = let d : ◌≡◌ {A = ℕ} 109 115 = ap front (sym e ∙ other) in absurd (omega (arith, d))
-understood_merge name found P e so (write schema options input output other h low high) = let d : ◌≡◌ {A = ℕ} 109 119 = ap front (sym e ∙ other) in absurd (omega (arith, d))
+understood_merge name found P e so (write schema options input output other h) = let d : ◌≡◌ {A = ℕ} 109 119 = ap front (sym e ∙ other) in absurd (omega (arith, d))
 understood_merge name found P e so (merge output other h) = so output h
 
 pub understood_other : (name : List ℕ) (found : Found) (P : Type 0) → (name ≡ codes "ints" → ⊥) → (name ≡ codes "rows" → ⊥) → (name ≡ codes "show" → ⊥) → (name ≡ codes "write" → ⊥) → (name ≡ codes "merge" → ⊥) → IsUnderstood name found → P
 understood_other name found P not_ints not_rows not_show not_write not_merge (ints rle sign hex other h) = absurd (not_ints other)
 understood_other name found P not_ints not_rows not_show not_write not_merge (rows file other h) = absurd (not_rows other)
 understood_other name found P not_ints not_rows not_show not_write not_merge (show file other h) = absurd (not_show other)
-understood_other name found P not_ints not_rows not_show not_write not_merge (write schema options input output other h low high) = absurd (not_write other)
+understood_other name found P not_ints not_rows not_show not_write not_merge (write schema options input output other h) = absurd (not_write other)
 understood_other name found P not_ints not_rows not_show not_write not_merge (merge output other h) = absurd (not_merge other)
 
 -- Who answers nothing to words that would be answered has met words that aren't understood.

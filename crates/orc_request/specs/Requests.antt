@@ -45,11 +45,11 @@ pub record HasNumber (found : Found) (option : List ℕ) (n : ℕ) : Type 0 wher
   pub numeral : IsNumeral 10 (without_leading_plus word)
   pub value : n ≡ digits_value 10 (without_leading_plus word)
 
--- the words of `write` have these values, and the stride is 0
+-- the words of `write` have these values
 pub record HasWrite (found : Found) (schema : List ℕ) (options : Options) (input output : List ℕ) : Type 0 where
   pub text : first_value found (codes "schema") ≡ Some schema
   pub version : first_value found (codes "rle") ≡ Some (version_word options.rle)
-  pub stride : HasNumber found (codes "stride") 0
+  pub stride : HasNumber found (codes "stride") options.stride
   pub rows : HasNumber found (codes "stripe-rows") options.stripe_rows
   pub reads : first_value found (codes "in") ≡ Some input
   pub writes : first_value found (codes "out") ≡ Some output
@@ -77,7 +77,7 @@ pub data IsUnderstood (name : List ℕ) (found : Found) : Type 0 where
   rows : (file : List ℕ) → name ≡ codes "rows" → first_value found (codes "file") ≡ Some file → IsUnderstood name found
   show : (file : List ℕ) → name ≡ codes "show" → first_value found (codes "file") ≡ Some file → IsUnderstood name found
   write : (schema : List ℕ) (options : Options) (input output : List ℕ) → name ≡ codes "write" → HasWrite found schema options input output
-      → 0 < options.stripe_rows → options.stripe_rows < 2 ^ 31 → IsUnderstood name found
+      → IsUnderstood name found
   merge : (output : List ℕ) → name ≡ codes "merge" → first_value found (codes "out") ≡ Some output → IsUnderstood name found
 
 -- no command is named, or one whose words aren't understood

@@ -14,6 +14,9 @@ use std::{env, io};
 /// The program's own version.
 const VERSION: &str = "0.1.0";
 
+/// After how many rows a group of the row index may begin at most.
+const MOST_STRIDE: u64 = 4_294_967_295;
+
 /// After how many rows a stripe may end at most.
 const MOST_STRIPE_ROWS: u64 = 2_147_483_647;
 
@@ -186,10 +189,10 @@ fn write_command<'a>(alloc: Global) -> Result<Command<'a>, Error> {
                     alloc,
                     "stride",
                     "N",
-                    "After how many rows an index has an entry: 0, for no index",
+                    "After how many rows the row index has an entry; 0 for no index",
                 )
                 .long("stride")
-                .value_parser(ValueParser::unsigned(0, 0)),
+                .value_parser(ValueParser::unsigned(0, MOST_STRIDE)),
             )?
             .arg(
                 required_argument(

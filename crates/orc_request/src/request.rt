@@ -113,7 +113,7 @@ fn write_of<'m, 'a>(found: &'m ArgMatches<'a>) -> Option<Request<'m, 'a>>
     ensures name { IfSome result (λ request. command_word request ≡ codes "write") }
     ensures found { IfSome result (Asks (found_of found.now)) }
     ensures only { (schema : List ℕ) (options : Options) (input output : List ℕ) → HasWrite (found_of found.now) schema options input output
-        → 0 < options.stripe_rows → options.stripe_rows < 2 ^ 31 → IsSome result }
+        → IsSome result }
 {
     let rle = version_of(found.get_str("rle")?)?;
     let stride = found.get_str("stride")?.parse::<u32>().ok()?;

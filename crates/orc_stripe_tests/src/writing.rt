@@ -300,18 +300,19 @@ fn rows_of(alloc: Global, schema: &Schema, lines: &[&str]) -> Result<Vec<Row<'st
     Ok(rows)
 }
 
-/// The stripe of the rows that the lines spell.
-fn written(
+/// The stripe of the rows that the lines spell, with a row index of groups of that many rows.
+pub(crate) fn written(
     alloc: Global,
     schema: &Schema,
     rle: Rle,
+    stride: u32,
     lines: &[&str],
 ) -> Result<StripeOut, StripeFault> {
     let rows = rows_of(alloc, schema, lines)?;
     if !are_few(alloc, schema, &rows)? {
         return Err(StripeFault::TooMany(0));
     }
-    let Some(options) = Options::new(rle, 0, 10) else {
+    let Some(options) = Options::new(rle, stride, 10) else {
         return Err(StripeFault::BadDirectory);
     };
     write_stripe(alloc, schema, &options, &rows)
@@ -325,7 +326,7 @@ fn are_lines(rt: &impl Abort, lines: &[String], wanted: &[&str]) {
 }
 
 /// The rows of the stripe print as these lines, all at once and one by one.
-fn check_lines(
+pub(crate) fn check_lines(
     rt: &impl Abort,
     alloc: Global,
     schema: &Schema,
@@ -352,7 +353,7 @@ fn check_case(rt: &impl Abort, alloc: Global, case: &Case) -> Result<(), StripeF
     let Ok(schema) = Schema::parse(alloc, text) else {
         return Err(StripeFault::OutOfMemory);
     };
-    let out = written(alloc, &schema, *rle, lines)?;
+    let out = written(alloc, &schema, *rle, 0, lines)?;
     let mut wanted = Vec::new(alloc);
     wanted.extend_from_slice(data)?;
     wanted.extend_from_slice(footer)?;
@@ -366,7 +367,7 @@ fn check_case(rt: &impl Abort, alloc: Global, case: &Case) -> Result<(), StripeF
         Rle::One => Rle::Two,
         Rle::Two => Rle::One,
     };
-    let out = written(alloc, &schema, other, lines)?;
+    let out = written(alloc, &schema, other, 0, lines)?;
     check_lines(rt, alloc, &schema, &out, lines)
 }
 
@@ -395,7 +396,7 @@ fn check_stats(rt: &impl Abort, alloc: Global) -> Result<(), StripeFault> {
         return Err(StripeFault::OutOfMemory);
     };
     let lines = [r#"{"n":7}"#, r#"{"n":7}"#, r#"{"n":null}"#, r#"{"n":7}"#];
-    let out = written(alloc, &schema, Rle::One, &lines)?;
+    let out = written(alloc, &schema, Rle::One, 0, &lines)?;
     assert_eq!(rt; out.stats.len(), 2);
     assert_eq!(rt; out.stats[0].count, 4);
     assert_eq!(rt; out.stats[0].nulls, Some(false));
@@ -434,8 +435,10 @@ fn options_made(rt: HostRuntime) {
         (0, 2_147_483_647, true),
         (0, 0, false),
         (0, 2_147_483_648, false),
-        (1, 1, false),
-        (10_000, 10, false),
+        (1, 1, true),
+        (4_294_967_295, 10, true),
+        (1, 0, false),
+        (10_000, 4_294_967_295, false),
     ] {
         let options = Options::new(Rle::Two, stride, stripe_rows);
         assert_eq!(rt; options.is_some(), made, "{stride} {stripe_rows}");

@@ -1,6 +1,6 @@
--- Of rows at most one stripe is written.
-use Rattle.std.proofs.Common.{◌≡◌, ℕ, ℤ, pos, negsuc, zero, suc, ◌-◌, ◌<◌, nat_lt, if◌then◌else◌, Bool, true, false, Some, List, [], ◌∷◌, ◌++◌, map, length, slice_get, refl, sym, ap, ◌∙◌, subst, arith}
-use Rattle.std.specs.List.{flat_map, Contains, list_all}
+-- Of cells at most one column is written, and of rows at most one list of columns.
+use Rattle.std.proofs.Common.{◌≡◌, ℕ, ℤ, pos, negsuc, zero, suc, ◌-◌, ◌<◌, nat_lt, if◌then◌else◌, Bool, true, false, Some, List, [], ◌∷◌, map, length, slice_get, refl, sym, ap, ◌∙◌, subst, arith}
+use Rattle.std.specs.List.{Contains, list_all}
 use Rattle.std.specs.List.Sorted.{IsStrictlySortedBy}
 use Rattle.std.specs.Ordering.{nat_cmp}
 use Rattle.std.specs.Cmp.Lexicographic.{slice_cmp}
@@ -14,9 +14,6 @@ use Rattle.orc_rle.specs.TwoWrittenLaws.{one_text_two}
 use Rattle.orc_rle.specs.ByteLaws.{one_byte_text}
 use Rattle.orc_rle.specs.BitLaws.{one_bit_text}
 use Rattle.orc_wire.specs.declared.encoding.Encoding.{Encoding}
-use Rattle.orc_wire.specs.declared.stripe_info.StripeInfo.{StripeInfo}
-use Rattle.orc_wire.specs.declared.stripe_footer.StripeFooter.{StripeFooter}
-use Rattle.orc_wire.specs.CanonicalMessages.{stripe_footer_text}
 use Rattle.orc_types.specs.declared.kind.Scalar.{Scalar}
 use Rattle.orc_types.specs.declared.kind.Scalar.TheVariants as kind
 use Rattle.orc_types.specs.Shapes.{Shape, scalar, list_of, struct_of, shape_at}
@@ -27,7 +24,7 @@ use Rattle.orc_columns.specs.Columns.{IsBool, IsByte, IsInt, IsDate, IsText, IsB
 use Rattle.orc_written.specs.WordList.{entry_at, AreNamed, is_worth}
 use Rattle.orc_written.specs.WrittenStreams.{AreWrittenInts, AreMarksIf}
 use Rattle.orc_written.specs.WrittenColumn.{Written, direct, plain, HasBits, HasBytes, HasNumbers, HasGroups, HasWords, HasTextsIf, HasTexts, HasSizes, WritesScalar, WritesValues, IsWrittenColumn}
-use Rattle.orc_written.specs.WrittenStripe.{column_bytes, lines_from, AreWrittenColumns, IsWrittenStripe}
+use Rattle.orc_written.specs.WrittenStripe.{AreWrittenColumns}
 use Rattle.orc_written.proofs.WordListLemmas.{less_in, not_itself, one_distinct}
 
 -- ---- one stream
@@ -199,9 +196,9 @@ one_column rle s column w v p q =
     let marks = marks_if (list_all (λ m. m) (map is_value column)) (map is_value column) w.marks v.marks p.marks q.marks in
     one_values rle s w v (values column) marks p.written q.written
 
--- ---- the stripe
+-- ---- the columns
 
-one_columns : (rle : Rle) (s : Shape) (rows : List Cell) (c : ℕ) (ws vs : List Written) → length ws ≡ length vs → AreWrittenColumns rle s rows c ws → AreWrittenColumns rle s rows c vs → ws ≡ vs
+pub one_columns : (rle : Rle) (s : Shape) (rows : List Cell) (c : ℕ) (ws vs : List Written) → length ws ≡ length vs → AreWrittenColumns rle s rows c ws → AreWrittenColumns rle s rows c vs → ws ≡ vs
 one_columns rle s rows c [] [] l p q = refl
 one_columns rle s rows c [] (v ∷ vs) l p q = absurd (omega (arith, l))
 one_columns rle s rows c (w ∷ ws) [] l p q = absurd (omega (arith, l))
@@ -209,17 +206,3 @@ one_columns rle s rows c (w ∷ ws) (v ∷ vs) l p q =
     let first : w ≡ v = one_column rle (shape_at s c) (cells s c rows) w v p.0 q.0 in
     let rest : ws ≡ vs = one_columns rle s rows (suc c) ws vs (omega (arith, l)) p.1 q.1 in
     λ i. first i ∷ rest i
-
-pub one_stripe : (rle : Rle) (s : Shape) (rows : List Cell) (i j : StripeInfo) (a b : List ℕ) → IsWrittenStripe rle s rows i a → IsWrittenStripe rle s rows j b → (i ≡ j) × (a ≡ b)
-one_stripe rle s rows i j a b p q =
-    let x = p.columns in
-    let y = q.columns in
-    let columns : x.columns ≡ y.columns = one_columns rle s rows 0 x.columns y.columns (x.counted ∙ sym y.counted) x.are y.are in
-    let streams : p.streams ≡ q.streams = x.joined ∙ ap (flat_map column_bytes) columns ∙ sym y.joined in
-    let directory : p.footer.streams ≡ q.footer.streams = x.listed ∙ ap (lines_from 0) columns ∙ sym y.listed in
-    let encodings : p.footer.columns ≡ q.footer.columns = x.encoded ∙ ap (map (λ (w : Written). w.encoding)) columns ∙ sym y.encoded in
-    let footer : p.footer ≡ q.footer = λ k. record { streams = directory k; columns = encodings k } in
-    let text = ap (λ (f : StripeFooter). stripe_footer_text.text f) footer in (
-      p.info_is ∙ (λ k. record { offset = 0; index_length = 0; data_length = length (streams k); footer_length = length (text k); number_of_rows = length rows }) ∙ sym q.info_is,
-      p.parts ∙ (λ k. streams k ++ text k) ∙ sym q.parts,
-    )

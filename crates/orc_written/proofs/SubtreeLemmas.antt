@@ -7,9 +7,9 @@ use Rattle.orc_rle.specs.declared.sign.Rle.{Rle}
 use Rattle.orc_wire.specs.declared.encoding.Encoding.{Encoding}
 use Rattle.orc_wire.specs.declared.stripe_footer.StreamMsg.{StreamMsg}
 use Rattle.orc_types.specs.declared.tree.Field.{Field}
-use Rattle.orc_types.specs.Shapes.{Shape, scalar, list_of, struct_of, Fields, no_field, field, width, widths, shape_at, shape_within}
+use Rattle.orc_types.specs.Shapes.{Shape, scalar, list_of, struct_of, Fields, no_field, field, width, widths, shape_at}
 use Rattle.orc_types.specs.Cells.{Cell, parts, values}
-use Rattle.orc_types.specs.Columns.{cells, cells_within}
+use Rattle.orc_types.specs.Columns.{cells}
 use Rattle.orc_types.specs.Fits.{RowsFit}
 use Rattle.orc_types.specs.Views.{shape, fields}
 use Rattle.orc_types.proofs.Together.{heads_fit, tails_fit}
@@ -22,7 +22,7 @@ use Rattle.orc_written.specs.declared.columns.Columns.{Columns}
 
 -- ---- the fields at a place
 
-nothing_dropped : {X : Type 0} (xss : List (List X)) → map (drop 0) xss ≡ xss
+pub nothing_dropped : {X : Type 0} (xss : List (List X)) → map (drop 0) xss ≡ xss
 nothing_dropped [] = refl
 nothing_dropped (xs ∷ xss) = ap (λ yss. xs ∷ yss) (nothing_dropped xss)
 
@@ -45,12 +45,12 @@ fields_at fs n f less is = rw (drop-cons fs n f, ← is, named-is f) (let e : su
 
 -- ---- which columns
 
-root_type : (s : Shape) → shape_at s 0 ≡ s
+pub root_type : (s : Shape) → shape_at s 0 ≡ s
 root_type (scalar k o) = refl
 root_type (list_of s o) = refl
 root_type (struct_of fs o) = refl
 
-root_cells : (s : Shape) (column : List Cell) → cells s 0 column ≡ column
+pub root_cells : (s : Shape) (column : List Cell) → cells s 0 column ≡ column
 root_cells (scalar k o) column = refl
 root_cells (list_of s o) column = refl
 root_cells (struct_of fs o) column = refl
@@ -213,7 +213,7 @@ fields_step rle fs structs n f column old mid new less is are h put =
           };
     }
 
-none_after : (fs : List Field) (n : ℕ) → length fs ≤ n → fields (drop n fs) ≡ no_field
+pub none_after : (fs : List Field) (n : ℕ) → length fs ≤ n → fields (drop n fs) ≡ no_field
 none_after [] zero h = refl
 none_after [] (suc n) h = refl
 none_after (f ∷ fs) zero h = absurd (omega arith)

@@ -10,7 +10,7 @@ pub drop_front : (xs ys : List ℕ) → drop (length xs) (xs ++ ys) ≡ ys
 drop_front [] ys = refl
 drop_front (x ∷ xs) ys = drop_front xs ys
 
-take_front : (xs ys : List ℕ) → take (length xs) (xs ++ ys) ≡ xs
+pub take_front : (xs ys : List ℕ) → take (length xs) (xs ++ ys) ≡ xs
 take_front [] ys = refl
 take_front (x ∷ xs) ys = ap (λ zs. x ∷ zs) (take_front xs ys)
 
@@ -21,17 +21,17 @@ self : (c : ℕ) → (c == c) ≡ true
 self c = grind arith
 
 -- streams of another kind, or of another column
-other_kind : (c d k j : ℕ) → (k == j) ≡ false → ((c == d) && (k == j)) ≡ false
+pub other_kind : (c d k j : ℕ) → (k == j) ≡ false → ((c == d) && (k == j)) ≡ false
 other_kind c d k j h = by (c == d) (k == j) h
   where
     by : (p q : Bool) → q ≡ false → (p && q) ≡ false
     by true q e = e
     by false q e = refl
 
-other_column : (c d k j : ℕ) → (c == d) ≡ false → ((c == d) && (k == j)) ≡ false
+pub other_column : (c d k j : ℕ) → (c == d) ≡ false → ((c == d) && (k == j)) ≡ false
 other_column c d k j h = ap (λ (p : Bool). p && (k == j)) h
 
-same_stream : (c k : ℕ) → ((c == c) && (k == k)) ≡ true
+pub same_stream : (c k : ℕ) → ((c == c) && (k == k)) ≡ true
 same_stream c k = ap (λ (p : Bool). p && (k == k)) (self c) ∙ self k
 
 -- ---- one stream
@@ -48,7 +48,7 @@ met : (c k : ℕ) (bytes : List ℕ) (ms : List StreamMsg) (rest : List ℕ) →
 met c k [] ms rest h = h
 met c k (b ∷ bs) ms rest h = rw (same_stream c k) (take_front (b ∷ bs) rest)
 
-not_listed : (c k : ℕ) (bytes : List ℕ) (ms : List StreamMsg) (d j : ℕ) → ((c == d) && (k == j)) ≡ false → has_stream d j ms ≡ false → has_stream d j (line c k bytes ++ ms) ≡ false
+pub not_listed : (c k : ℕ) (bytes : List ℕ) (ms : List StreamMsg) (d j : ℕ) → ((c == d) && (k == j)) ≡ false → has_stream d j ms ≡ false → has_stream d j (line c k bytes ++ ms) ≡ false
 not_listed c k [] ms d j t h = h
 not_listed c k (b ∷ bs) ms d j t h = rw t h
 
@@ -73,7 +73,7 @@ has_room c k (b ∷ bs) ms room h =
 
 -- ---- one column
 
-lines_before : (c : ℕ) (w : Written) (ms : List StreamMsg)
+pub lines_before : (c : ℕ) (w : Written) (ms : List StreamMsg)
     → column_lines c w ++ ms ≡ line c 0 w.marks ++ (line c 1 w.content ++ (line c 2 w.lengths ++ (line c 3 w.words ++ ms)))
 lines_before c w ms = simp append_assoc
 
@@ -139,10 +139,10 @@ column_room c w ms room h =
 
 -- ---- all columns
 
-before : (c d : ℕ) → d < c → (c == d) ≡ false
+pub before : (c d : ℕ) → d < c → (c == d) ≡ false
 before c d h = grind arith
 
-after : (c d : ℕ) → c < d → (c == d) ≡ false
+pub after : (c d : ℕ) → c < d → (c == d) ≡ false
 after c d h = grind arith
 
 none_before : (b : ℕ) (ws : List Written) (rest : List ℕ) (d j : ℕ) → d < b → slice d j (lines_from b ws) (flat_map column_bytes ws ++ rest) ≡ []

@@ -1,6 +1,6 @@
 -- What is written is read: a written column spells its cells, a written stripe is a stripe of its rows.
-use Rattle.std.proofs.Common.{◌≡◌, ℕ, ℤ, pos, negsuc, zero, suc, ◌+◌, ◌-◌, ◌<◌, ◌≤◌, ◌^◌, ◌&&◌, Bool, true, false, Some, None, List, [], ◌∷◌, ◌++◌, map, length, replicate, drop, slice_get, refl, sym, ap, ◌∙◌, subst, arith, inl, inr, length-append}
-use Rattle.std.specs.List.{flat_map, list_all}
+use Rattle.std.proofs.Common.{◌≡◌, ℕ, ℤ, pos, negsuc, zero, suc, ◌+◌, ◌-◌, ◌<◌, ◌≤◌, ◌^◌, ◌&&◌, Bool, true, false, Some, None, List, [], ◌∷◌, ◌++◌, map, length, replicate, slice_get, refl, sym, ap, ◌∙◌, subst, arith, inl, inr}
+use Rattle.std.specs.List.{list_all}
 use Rattle.std.proofs.lemmas.Bool.Decides.{leb_tells}
 use Rattle.orc_rle.specs.declared.sign.Rle.{Rle}
 use Rattle.orc_rle.specs.declared.sign.Rle.TheVariants.{One, Two}
@@ -16,12 +16,7 @@ use Rattle.orc_rle.specs.ByteRun.{IsByteRun}
 use Rattle.orc_rle.specs.BitStream.{IsBitText, IsBitStream}
 use Rattle.orc_wire.specs.declared.encoding.Encoding.{Encoding}
 use Rattle.orc_wire.specs.declared.type_msg.TypeMsg.{TypeMsg}
-use Rattle.orc_wire.specs.declared.stripe_info.StripeInfo.{StripeInfo}
-use Rattle.orc_wire.specs.declared.stripe_footer.StripeFooter.{StripeFooter}
 use Rattle.orc_wire.specs.declared.stripe_footer.StreamMsg.{StreamMsg}
-use Rattle.orc_wire.specs.Messages.{stripe_footer}
-use Rattle.orc_wire.specs.Spells.{Spells}
-use Rattle.orc_wire.specs.CanonicalMessages.{stripe_footer_text}
 use Rattle.orc_types.specs.declared.kind.Scalar.{Scalar}
 use Rattle.orc_types.specs.declared.kind.Scalar.TheVariants as kind
 use Rattle.orc_types.specs.Kinds.{number}
@@ -29,7 +24,6 @@ use Rattle.orc_types.specs.Shapes.{Shape, scalar, list_of, struct_of, Fields, no
 use Rattle.orc_types.specs.Types.{types, fields_types}
 use Rattle.orc_types.specs.Cells.{Cell, is_value, parts, values}
 use Rattle.orc_types.specs.Columns.{cells}
-use Rattle.orc_types.specs.Fits.{RowsFit}
 use Rattle.orc_types.proofs.Trees.{length-types}
 use Rattle.orc_columns.specs.declared.version.Version.{Version}
 use Rattle.orc_columns.specs.declared.version.Version.TheVariants as version
@@ -37,13 +31,13 @@ use Rattle.orc_columns.specs.Spellings.{AllStand, Standing, size, Grouped}
 use Rattle.orc_columns.specs.Numbers.{AreNumbers}
 use Rattle.orc_columns.specs.Bytes.{AreBytes}
 use Rattle.orc_columns.specs.Columns.{IsBool, IsByte, IsText, IsWord}
-use Rattle.orc_columns.specs.Directory.{slice, have_room, names_once, have_columns, is_directory, takes_encoding, first_wrong}
-use Rattle.orc_columns.specs.Stripe.{Streams, version_at, uses_dictionary, Marks, Is, SpellsTexts, SpellsScalar, SpellsValues, IsColumn, encoding_at, columns_of, IsStripe}
+use Rattle.orc_columns.specs.Directory.{takes_encoding, first_wrong}
+use Rattle.orc_columns.specs.Stripe.{Streams, version_at, uses_dictionary, Marks, Is, SpellsTexts, SpellsScalar, SpellsValues, IsColumn, encoding_at}
 use Rattle.orc_written.specs.WordList.{entry_at, AreNamed, is_worth}
 use Rattle.orc_written.specs.WrittenStreams.{AreWrittenInts, AreMarksIf, AreWrittenMarks}
 use Rattle.orc_written.specs.WrittenColumn.{Written, direct, dictionary, plain, HasBits, HasBytes, HasNumbers, HasGroups, HasTextsIf, WritesScalar, WritesValues, IsWrittenColumn}
-use Rattle.orc_written.specs.WrittenStripe.{AreFew, column_bytes, lines_from, AreWrittenColumns, HasColumns, IsWrittenStripe}
-use Rattle.orc_written.proofs.WrittenDirectory.{drop_front, from_zero, AreFound, lines_found, lines_once, lines_of, lines_room}
+use Rattle.orc_written.specs.WrittenStripe.{AreWrittenColumns, HasColumns}
+use Rattle.orc_written.proofs.WrittenDirectory.{from_zero, AreFound}
 
 -- ---- PRESENT
 
@@ -182,7 +176,7 @@ values_read rle (list_of s o) x w vs r h = numbers_at rle Unsigned (map (λ v. s
 values_read rle (struct_of fs o) x w vs r h = tt
 
 -- a written column spells its cells
-column_read : (rle : Rle) (s : Shape) (column : List Cell) (x : Streams) (w : Written) → AreRead x w → length column < 2 ^ 31 → IsWrittenColumn rle s column w → IsColumn s x column
+pub column_read : (rle : Rle) (s : Shape) (column : List Cell) (x : Streams) (w : Written) → AreRead x w → length column < 2 ^ 31 → IsWrittenColumn rle s column w → IsColumn s x column
 column_read rle s column x w r few h = record {
   few = few;
   marks = subst (λ bytes. Marks bytes (map is_value column)) (sym r.found.marks) (marks_read (map is_value column) w.marks h.marks);
@@ -277,45 +271,33 @@ none_wrong n (t ∷ ts) (e ∷ es) l h = let first : takes_encoding t.kind e.kin
 abbrev no_column : Written
 no_column = record { encoding = plain; marks = []; content = []; lengths = []; words = [] }
 
-abbrev column_at : List Written → ℕ → Written
+abbrev pub column_at : List Written → ℕ → Written
 column_at [] c = no_column
 column_at (w ∷ ws) zero = w
 column_at (w ∷ ws) (suc c) = column_at ws c
 
-there : (ws : List Written) (c : ℕ) → c < length ws → slice_get ws c ≡ Some (column_at ws c)
+pub there : (ws : List Written) (c : ℕ) → c < length ws → slice_get ws c ≡ Some (column_at ws c)
 there [] c h = absurd (omega (arith, h))
 there (w ∷ ws) zero h = refl
 there (w ∷ ws) (suc c) h = there ws c (omega (arith, h))
 
-encodings_at : (ws : List Written) (c : ℕ) → c < length ws → encoding_at (map (λ (w : Written). w.encoding) ws) c ≡ (column_at ws c).encoding
+pub encodings_at : (ws : List Written) (c : ℕ) → c < length ws → encoding_at (map (λ (w : Written). w.encoding) ws) c ≡ (column_at ws c).encoding
 encodings_at [] c h = absurd (omega (arith, h))
 encodings_at (w ∷ ws) zero h = refl
 encodings_at (w ∷ ws) (suc c) h = encodings_at ws c (omega (arith, h))
 
-written_at : (rle : Rle) (s : Shape) (rows : List Cell) (b : ℕ) (ws : List Written) (i c : ℕ) → AreWrittenColumns rle s rows b ws → i < length ws → b + i ≡ c → IsWrittenColumn rle (shape_at s c) (cells s c rows) (column_at ws i)
+pub written_at : (rle : Rle) (s : Shape) (rows : List Cell) (b : ℕ) (ws : List Written) (i c : ℕ) → AreWrittenColumns rle s rows b ws → i < length ws → b + i ≡ c → IsWrittenColumn rle (shape_at s c) (cells s c rows) (column_at ws i)
 written_at rle s rows b [] i c w lt n = absurd (omega (arith, lt))
 written_at rle s rows b (v ∷ vs) zero c h lt n =
     let at : b ≡ c = omega (arith, n) in
     subst (λ m. IsWrittenColumn rle (shape_at s m) (cells s m rows) v) at h.0
 written_at rle s rows b (v ∷ vs) (suc i) c h lt n = written_at rle s rows (suc b) vs i c h.1 (omega (arith, lt)) (omega (arith, n))
 
-as_many : (ws : List Written) → length (map (λ (w : Written). w.encoding) ws) ≡ length ws
+pub as_many : (ws : List Written) → length (map (λ (w : Written). w.encoding) ws) ≡ length ws
 as_many [] = refl
 as_many (w ∷ ws) = ap suc (as_many ws)
 
-columns_read : (rle : Rle) (s : Shape) (rows : List Cell) (streams bytes rest : List ℕ) (footer : StripeFooter) (c : ℕ) → HasColumns rle s rows (width s) streams footer.streams footer.columns → bytes ≡ streams ++ rest
-    → c < width s → AreFew s rows → IsColumn (shape_at s c) (columns_of footer bytes c) (cells s c rows)
-columns_read rle s rows streams bytes rest footer c h parts lt few =
-    let w = column_at h.columns c in
-    let below : c < length h.columns = omega (arith, lt, h.counted) in
-    let one = lines_found 0 h.columns rest c c w (there h.columns c below) (from_zero c) in
-    let all : bytes ≡ flat_map column_bytes h.columns ++ rest = parts ∙ ap (λ bs. bs ++ rest) h.joined in
-    let found : AreFound (columns_of footer bytes c).stream w =
-    subst (λ ms. AreFound (λ j. slice c j ms bytes) w) (sym h.listed) (subst (λ bs. AreFound (λ j. slice c j (lines_from 0 h.columns) bs) w) (sym all) one) in
-    let encoded : (columns_of footer bytes c).encoding ≡ w.encoding = ap (λ es. encoding_at es c) h.encoded ∙ encodings_at h.columns c below in
-    column_read rle (shape_at s c) (cells s c rows) (columns_of footer bytes c) w (record { encoded = encoded; found = found }) (few c lt) (written_at rle s rows 0 h.columns c c h.are below (from_zero c))
-
-encodings_right : (rle : Rle) (s : Shape) (rows : List Cell) (streams : List ℕ) (directory : List StreamMsg) (encodings : List Encoding) → HasColumns rle s rows (width s) streams directory encodings → first_wrong 0 (types s 0) encodings ≡ None
+pub encodings_right : (rle : Rle) (s : Shape) (rows : List Cell) (streams : List ℕ) (directory : List StreamMsg) (encodings : List Encoding) → HasColumns rle s rows (width s) streams directory encodings → first_wrong 0 (types s 0) encodings ≡ None
 encodings_right rle s rows streams directory encodings h =
     let many : length encodings ≡ width s = ap length h.encoded ∙ as_many h.columns ∙ h.counted in
     let l = length-types s 0 in
@@ -326,39 +308,6 @@ encodings_right rle s rows streams directory encodings h =
     ap (λ n. takes_encoding n (encoding_at encodings c).kind) (kinds_are s 0 c wide)
     ∙ taken (kind_number (shape_at s c)) _ _ is (column_taken rle (shape_at s c) (values (cells s c rows)) (column_at h.columns c) (written_at rle s rows 0 h.columns c c h.are below (from_zero c)).written))
 
-both_true : (a b : Bool) → a ≡ true → b ≡ true → (a && b) ≡ true
+pub both_true : (a b : Bool) → a ≡ true → b ≡ true → (a && b) ≡ true
 both_true true b e f = f
 both_true false b e f = cc
-
-directory_right : (rle : Rle) (s : Shape) (rows : List Cell) (streams : List ℕ) (directory : List StreamMsg) (encodings : List Encoding) → HasColumns rle s rows (width s) streams directory encodings
-    → is_directory (width s) (length streams) directory ≡ true
-directory_right rle s rows streams directory encodings h =
-    let room : have_room (length streams) directory ≡ true = ap (λ n. have_room n directory) (ap length h.joined) ∙ ap (have_room _) h.listed ∙ lines_room 0 h.columns in
-    let once : names_once directory ≡ true = ap names_once h.listed ∙ lines_once 0 h.columns in
-    let columns : have_columns (width s) directory ≡ true = ap (have_columns (width s)) h.listed ∙ lines_of 0 h.columns (width s) (let k = h.counted in omega (arith, k)) in
-    both_true _ _ room (both_true _ _ once columns)
-
--- a written stripe is a stripe of its rows
-pub stripe_read : (rle : Rle) (s : Shape) (rows : List Cell) (info : StripeInfo) (bytes : List ℕ) → IsWrittenStripe rle s rows info bytes → RowsFit s rows → AreFew s rows → IsStripe s info bytes rows
-stripe_read rle s rows info bytes h fit few =
-    let text = stripe_footer_text.text h.footer in
-    let index : info.index_length ≡ 0 = ap (λ (i : StripeInfo). i.index_length) h.info_is in
-    let content : info.data_length ≡ length h.streams = ap (λ (i : StripeInfo). i.data_length) h.info_is in
-    let foot : info.footer_length ≡ length text = ap (λ (i : StripeInfo). i.footer_length) h.info_is in
-    let room : info.index_length + info.data_length ≡ length h.streams = omega (arith, index, content) in
-    let all : length bytes ≡ length h.streams + length text = ap length h.parts ∙ length-append h.streams text in
-    let rest : drop (info.index_length + info.data_length) bytes ≡ text = ap (λ n. drop n bytes) room ∙ ap (drop (length h.streams)) h.parts ∙ drop_front h.streams text in
-    record {
-      footer = h.footer;
-      has_footer = record {
-        whole = omega (arith, all, room, foot);
-        read = subst (λ bs. Spells stripe_footer 0 0 bs h.footer) (sym rest) h.spelled;
-        directory = ap (λ n. is_directory (width s) n h.footer.streams) room ∙ directory_right rle s rows h.streams h.footer.streams h.footer.columns h.columns;
-        encodings = encodings_right rle s rows h.streams h.footer.streams h.footer.columns h.columns;
-      };
-      spelled = record {
-        counted = sym (ap (λ (i : StripeInfo). i.number_of_rows) h.info_is);
-        fit = fit;
-        column = λ c lt. columns_read rle s rows h.streams bytes text h.footer c h.columns h.parts lt few;
-      };
-    }

@@ -2,6 +2,8 @@ pub mod WordList
 pub mod CellValues
 pub mod WrittenStreams
 pub mod WrittenColumn
+pub mod Groups
+pub mod Indexes
 pub mod WrittenStripe
 pub mod Adding
 pub mod Subtrees

@@ -1,6 +1,6 @@
--- What the writer makes of rows: the streams column by column, then the footer (ORC specification, "Stripes").
+-- What the writer makes of rows: the indexes column by column, the streams column by column, then the footer (ORC specification, "Stripes").
 -- The specification leaves the order of the streams to the writer.
-use Rattle.std.specs.Prelude.{◌≡◌, ℕ, suc, ◌<◌, ◌^◌, Some, List, [], ◌∷◌, ◌++◌, map, length, slice_get}
+use Rattle.std.specs.Prelude.{◌≡◌, ℕ, zero, suc, ◌<◌, ◌^◌, true, Some, List, [], ◌∷◌, ◌++◌, map, length, slice_get}
 use Rattle.std.specs.List.{flat_map}
 use Rattle.orc_rle.specs.declared.sign.Rle.{Rle}
 use Rattle.orc_wire.specs.declared.stripe_footer.StreamMsg.{StreamMsg}
@@ -16,6 +16,11 @@ use Rattle.orc_types.specs.Columns.{cells}
 use Rattle.orc_stats.specs.declared.stat.Stat.{Stat}
 use Rattle.orc_stats.specs.Kinds.{kind_of}
 use Rattle.orc_stats.specs.Statistics.{stat}
+use Rattle.orc_columns.specs.Directory.{has_stream, slice}
+use Rattle.orc_columns.specs.Stripe.{columns_of}
+use Rattle.orc_index.specs.RowIndex.{IsRightIndex}
+use Rattle.orc_written.specs.Groups.{starts, bounds_of}
+use Rattle.orc_written.specs.Indexes.{index_lines, index_bytes, HasIndexes}
 use Rattle.orc_written.specs.WrittenColumn.{Written, IsWrittenColumn}
 
 -- no column has more cells than a stripe may have
@@ -52,14 +57,31 @@ pub record HasColumns (rle : Rle) (s : Shape) (rows : List Cell) (n : ℕ) (stre
   pub listed : directory ≡ lines_from 0 columns
   pub encoded : encodings ≡ map (λ (w : Written). w.encoding) columns
 
--- The bytes are the streams of all columns of the rows, and the canonical text of their footer. The stripe stands for itself, at offset 0.
-pub record IsWrittenStripe (rle : Rle) (s : Shape) (rows : List Cell) (info : StripeInfo) (bytes : List ℕ) : Type 0 where
+-- without a stride no column has an index
+abbrev pub indexed : ℕ → ℕ → ℕ
+indexed zero columns = 0
+indexed (suc k) columns = columns
+
+-- The bytes are the indexes of all columns, where there is a stride, then the streams of all columns of the rows, and the canonical text of their
+-- footer. The stripe stands for itself, at offset 0.
+pub record IsWrittenStripe (rle : Rle) (stride : ℕ) (s : Shape) (rows : List Cell) (info : StripeInfo) (bytes : List ℕ) : Type 0 where
+  pub indexes : List (List ℕ)
   pub streams : List ℕ
+  pub lines : List StreamMsg
   pub footer : StripeFooter
-  pub columns : HasColumns rle s rows (width s) streams footer.streams footer.columns
-  pub parts : bytes ≡ streams ++ stripe_footer_text.text footer
+  pub columns : HasColumns rle s rows (width s) streams lines footer.columns
+  pub are : HasIndexes s rows (starts stride (length rows)) columns.columns (indexed stride (width s)) indexes
+  pub listed : footer.streams ≡ index_lines 0 indexes ++ lines
+  pub parts : bytes ≡ index_bytes indexes ++ (streams ++ stripe_footer_text.text footer)
   pub spelled : Spells stripe_footer 0 0 (stripe_footer_text.text footer) footer
-  pub info_is : info ≡ record { offset = 0; index_length = 0; data_length = length streams; footer_length = length (stripe_footer_text.text footer); number_of_rows = length rows }
+  pub info_is : info
+      ≡ record { offset = 0; index_length = length (index_bytes indexes); data_length = length streams; footer_length = length (stripe_footer_text.text footer); number_of_rows = length rows }
+
+-- the directory lists an index of column c, and it is right for a reader of the stripe
+abbrev pub HasRightIndex : ℕ → Shape → List Cell → StripeFooter → List ℕ → ℕ → Type 0
+HasRightIndex stride s rows footer bytes c =
+    (has_stream c 6 footer.streams ≡ true)
+    × IsRightIndex (shape_at s c) (columns_of footer bytes c) (cells s c rows) (bounds_of s c rows (starts stride (length rows))) (slice c 6 footer.streams bytes)
 
 -- the statistic of a column's cells
 abbrev pub column_stat : Shape → List Cell → ℕ → Stat

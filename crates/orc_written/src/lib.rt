@@ -5,6 +5,7 @@ mod below;
 mod body;
 mod cell_values;
 mod columns;
+mod indexes;
 mod limits;
 mod options;
 mod put_column;

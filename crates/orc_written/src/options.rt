@@ -2,28 +2,35 @@ ghost use Rattle.std.specs.Prelude.{◌≡◌, ◌<◌, ◌≤◌, ◌⊎◌, �
 
 use orc_rle::Rle;
 
-/// How stripes are written: the version of integer run lengths, and after how many rows a stripe is
-/// closed.
+/// How stripes are written: the version of integer run lengths, after how many rows a group of the row index begins, and after how
+/// many rows a stripe is closed.
 #[derive(Clone, Copy, Debug, PartialEq, Eq)]
 pub struct Options {
     rle: Rle,
+    stride: u32,
     stripe_rows: u32,
+    ghost fits: { stride < 2 ^ 32 },
+    ghost some: { 0 < stripe_rows },
+    ghost most: { stripe_rows < 2 ^ 31 },
 }
 
 impl Options {
-    /// Options for stripes without an index. A stripe may have 1 to 2,147,483,647 rows.
+    /// Options for stripes with a row index of a group each `stride` rows, or without one where it is 0. A stripe
+    /// may have 1 to 2,147,483,647 rows.
     ///
-    /// `None` where `stripe_rows` is 0 or more than that, and for every `stride` but 0, since row
-    /// indexes aren't written.
+    /// `None` where `stripe_rows` is 0 or more than that.
     pub fn new(rle: Rle, stride: u32, stripe_rows: u32) -> Option<Options>
-        ensures some { IfSome result (λ options. (options.rle ≡ rle) × (options.stripe_rows ≡ stripe_rows) × (stride ≡ 0) × (0 < stripe_rows)
-            × (stripe_rows < 2 ^ 31)) }
-        ensures none { IfNone result ((0 < stride) ⊎ ((stripe_rows ≡ 0) ⊎ (2 ^ 31 ≤ stripe_rows))) }
+        ensures some { IfSome result (λ options. (options.rle ≡ rle) × (options.stride ≡ stride) × (options.stripe_rows ≡ stripe_rows)) }
+        ensures none { IfNone result ((stripe_rows ≡ 0) ⊎ (2 ^ 31 ≤ stripe_rows)) }
     {
-        if stride != 0 || stripe_rows == 0 || stripe_rows >= 0x8000_0000 {
+        if stripe_rows == 0 || stripe_rows >= 0x8000_0000 {
             return None;
         }
-        Some(Options { rle, stripe_rows })
+        Some(Options {
+            rle,
+            stride,
+            stripe_rows,
+        })
     }
 
     /// The version of integer run lengths.
@@ -33,9 +40,18 @@ impl Options {
         self.rle
     }
 
+    /// After how many rows a group of the row index begins; 0 where there is none.
+    pub fn stride(self) -> u32
+        ensures { result ≡ self.stride }
+    {
+        self.stride
+    }
+
     /// After how many rows a stripe is closed.
     pub fn stripe_rows(self) -> u32
-        ensures { result ≡ self.stripe_rows }
+        ensures rows { result ≡ self.stripe_rows }
+        ensures some { 0 < result }
+        ensures most { result < 2 ^ 31 }
     {
         self.stripe_rows
     }

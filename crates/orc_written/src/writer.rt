@@ -1,18 +1,21 @@
 //! Rows to the bytes of a stripe.
-ghost use Rattle.std.specs.Prelude.{◌≡◌, List, length, IfOk, IfErr};
+ghost use Rattle.std.specs.Prelude.{◌≡◌, ◌<◌, ℕ, List, length, IfOk, IfErr};
 ghost use Rattle.orc_rle.specs.declared.sign.Rle.{Rle};
 ghost use Rattle.orc_types.specs.Shapes.{Shape, width};
 ghost use Rattle.orc_types.specs.Cells.{Cell};
 ghost use Rattle.orc_types.specs.Fits.{RowsFit};
 ghost use Rattle.orc_types.specs.Views.{views};
 ghost use Rattle.orc_columns.specs.Stripe.{IsStripe};
-ghost use Rattle.orc_written.specs.WrittenStripe.{AreFew, HasColumns, HaveStats, IsWrittenStripe};
+ghost use Rattle.orc_written.specs.Groups.{starts};
+ghost use Rattle.orc_written.specs.Indexes.{HaveIndexes};
+ghost use Rattle.orc_written.specs.WrittenStripe.{AreFew, indexed, HasColumns, HaveStats, IsWrittenStripe};
 ghost use Rattle.orc_written.specs.Subtrees.{HasWritten};
 ghost use Rattle.orc_columns.specs.declared.fault.StripeFault.TheVariants.{OutOfMemory};
 
 use crate::below::lent_rows;
 use crate::body::Body;
 use crate::columns::{Columns, put_columns};
+use crate::indexes::{all_streams, group_starts, put_indexes};
 use crate::options::Options;
 use orc_columns::fault::StripeFault;
 use orc_rle::Rle;
@@ -24,7 +27,7 @@ use std::alloc::{AllocError, Global};
 /// A stripe as it is written.
 #[derive(Drop)]
 pub struct StripeOut {
-    /// Its data streams and its footer. There are no index streams.
+    /// Its indexes, its data streams and its footer.
     pub bytes: Vec<u8>,
     /// The lengths of its parts and its number of rows. Its offset is 0.
     pub info: StripeInfo,
@@ -56,40 +59,104 @@ fn all_columns(
     Ok(out)
 }
 
-/// Puts the footer behind the streams.
-fn closed(columns: Columns, number_of_rows: u64) -> Result<StripeOut, AllocError>
-    ensures written { IfOk result (λ out. (rle : Rle) (s : Shape) (rows : List Cell) → length rows ≡ number_of_rows
-        → HasColumns rle s rows (width s) columns.body.bytes.items columns.body.directory.items columns.encodings.items
-        → IsWrittenStripe rle s rows out.info out.bytes.items) }
-    ensures stats { IfOk result (λ out. out.stats.items ≡ columns.stats.items) }
+/// The indexes of all columns, from the streams that were written.
+fn all_indexes(
+    alloc: Global,
+    stride: usize,
+    schema: &Schema,
+    footer: &StripeFooter,
+    bytes: &[u8],
+    rows: &[Row<'_>],
+) -> Result<Body, AllocError>
+    requires stride { 0 < stride }
+    requires fit { RowsFit schema.now (views rows.now) }
+    requires few { AreFew schema.now (views rows.now) }
+    requires columns { (rle : Rle) × HasColumns rle schema.now (views rows.now) (width schema.now) bytes.now footer.now.streams footer.now.columns }
+    ensures { IfOk result (λ body. (rle : Rle)
+        (h : HasColumns rle schema.now (views rows.now) (width schema.now) bytes.now footer.now.streams footer.now.columns)
+        → HaveIndexes schema.now (views rows.now) (starts stride (length (views rows.now))) h.columns (width schema.now) body) }
+{
+    let mut out = Body {
+        bytes: Vec::new(alloc),
+        directory: Vec::new(alloc),
+    };
+    let streams = all_streams(alloc, footer, bytes)?;
+    let cells = lent_rows(alloc, rows)?;
+    let bounds = group_starts(alloc, stride, rows.len())?;
+    put_indexes(alloc, schema.tree(), &streams, &cells, &bounds, &mut out)?;
+    Ok(out)
+}
+
+/// The indexes of all columns, or none without a stride.
+fn indexes_of(
+    alloc: Global,
+    stride: usize,
+    schema: &Schema,
+    footer: &StripeFooter,
+    bytes: &[u8],
+    rows: &[Row<'_>],
+) -> Result<Body, AllocError>
+    requires fit { RowsFit schema.now (views rows.now) }
+    requires few { AreFew schema.now (views rows.now) }
+    requires columns { (rle : Rle) × HasColumns rle schema.now (views rows.now) (width schema.now) bytes.now footer.now.streams footer.now.columns }
+    ensures { IfOk result (λ body. (rle : Rle)
+        (h : HasColumns rle schema.now (views rows.now) (width schema.now) bytes.now footer.now.streams footer.now.columns)
+        → HaveIndexes schema.now (views rows.now) (starts stride (length (views rows.now))) h.columns (indexed stride (width schema.now)) body) }
+{
+    if stride == 0 {
+        return Ok(Body {
+            bytes: Vec::new(alloc),
+            directory: Vec::new(alloc),
+        });
+    }
+    all_indexes(alloc, stride, schema, footer, bytes, rows)
+}
+
+/// Puts the streams behind the indexes, and the footer behind both.
+fn joined(
+    indexes: Body,
+    streams: Vec<u8>,
+    footer: StripeFooter,
+    stats: Vec<Stat>,
+    number_of_rows: u64,
+) -> Result<StripeOut, AllocError>
+    ensures written { IfOk result (λ out. (rle : Rle) (stride : ℕ) (s : Shape) (rows : List Cell) → length rows ≡ number_of_rows
+        → (h : HasColumns rle s rows (width s) streams.items footer.streams footer.columns)
+        → HaveIndexes s rows (starts stride (length rows)) h.columns (indexed stride (width s)) indexes
+        → IsWrittenStripe rle stride s rows out.info out.bytes.items) }
+    ensures stats { IfOk result (λ out. out.stats.items ≡ stats.items) }
 {
     whole_laws();
-    let mut bytes = columns.body.bytes;
-    let streams = bytes.len();
-    let footer = StripeFooter {
-        streams: Items::from_vec(columns.body.directory),
-        columns: Items::from_vec(columns.encodings),
+    let mut bytes = indexes.bytes;
+    let mut lines = indexes.directory;
+    let index_length = bytes.len();
+    bytes.extend_from_slice(&streams)?;
+    lines.extend_from_slice(footer.streams.as_slice())?;
+    let front = bytes.len();
+    let whole = StripeFooter {
+        streams: Items::from_vec(lines),
+        columns: footer.columns,
     };
-    match footer.put(&mut bytes) {
+    match whole.put(&mut bytes) {
         Ok(()) => {}
         Err(_) => return Err(AllocError),
     }
     let info = StripeInfo {
         offset: 0,
-        index_length: 0,
-        data_length: streams as u64,
-        footer_length: (bytes.len() - streams) as u64,
+        index_length: index_length as u64,
+        data_length: (front - index_length) as u64,
+        footer_length: (bytes.len() - front) as u64,
         number_of_rows,
     };
-    Ok(StripeOut {
-        bytes,
-        info,
-        stats: columns.stats,
-    })
+    Ok(StripeOut { bytes, info, stats })
 }
 
 /// The stripe of the rows (ORC specification, "Stripes"). Each row has to fit the schema, and no column
 /// may have more than 2,147,483,647 cells. The stripe stands for itself: its offset is 0.
+///
+/// With a stride, a row index of each column comes first, in the order of the schema's types: for each group
+/// of that many rows the column's positions and the statistic of its cells. A directory lists an index also
+/// where it has no bytes.
 ///
 /// Columns come in the order of the schema's types, the streams of each as PRESENT, DATA, LENGTH and
 /// DICTIONARY_DATA; those without bytes are left out, and PRESENT where nothing is null. A column of
@@ -105,10 +172,17 @@ pub fn write_stripe(
     requires fit { RowsFit schema.now (views rows.now) }
     requires few { AreFew schema.now (views rows.now) }
     ensures stripe { IfOk result (λ out. IsStripe schema.now out.info out.bytes.items (views rows.now)) }
-    ensures written { IfOk result (λ out. IsWrittenStripe options.now.rle schema.now (views rows.now) out.info out.bytes.items) }
+    ensures written { IfOk result (λ out. IsWrittenStripe options.now.rle options.now.stride schema.now (views rows.now) out.info out.bytes.items) }
     ensures stats { IfOk result (λ out. HaveStats schema.now (views rows.now) (width schema.now) out.stats.items) }
     ensures refused { IfErr result (λ fault. fault ≡ OutOfMemory) }
 {
     let columns = all_columns(alloc, options.rle(), schema, rows)?;
-    Ok(closed(columns, rows.len() as u64)?)
+    let streams = columns.body.bytes;
+    let footer = StripeFooter {
+        streams: Items::from_vec(columns.body.directory),
+        columns: Items::from_vec(columns.encodings),
+    };
+    let stride = options.stride() as usize;
+    let indexes = indexes_of(alloc, stride, schema, &footer, &streams, rows)?;
+    Ok(joined(indexes, streams, footer, columns.stats, rows.len() as u64)?)
 }

@@ -35,8 +35,8 @@ returns-in_err-row-clause-refused g c = λ ready.
       ends_unread w.schema c.args.line.now c.in_err-row.field-0.0 fault,
       λ first rows h. let few = h.1 in (
         (λ q. cc),
-        rw (append-nil rows) (cut_kept w.options.rle w.options.stripe_rows w.schema first _ w.written w.infos.items w.stats.items (views w.rows.items) rows (omega (arith, few)) (within_of w.infos.items w.total _ w.stripes w.total_is w.few_rows w.bytes) schema h.0),
-        λ why q. rw (append-nil rows) (stands_open w.options.rle w.options.stripe_rows w.schema first _ w.written w.infos.items w.stats.items (views w.rows.items) rows h),
+        rw (append-nil rows) (cut_kept w.options w.schema first _ w.written w.infos.items w.stats.items (views w.rows.items) rows (omega (arith, few)) (within_of w.infos.items w.total _ w.stripes w.total_is w.few_rows w.bytes) schema h.0),
+        λ why q. rw (append-nil rows) (stands_open w.options w.schema first _ w.written w.infos.items w.stats.items (views w.rows.items) rows h),
       ),
     )
 
@@ -51,7 +51,7 @@ returns-in_err-push-clause-refused g c = λ ready.
     let fits = rw c.schema-schema.ensures at c.in_ok-row.ensures.fits in
     let some = sym c.is_empty.ensures ∙ c.if-is_empty.false in
     let schema : IsSchema w.schema = rw c.schema-schema.ensures at c.types-types.ensures.schema in
-    let limit : c.in_err-push.field-0.0 ≡ file.Limit → PassesLimit w.schema w.infos.items w.total w.counts.items row ⊎ PassesBytes w.options.rle w.schema w.infos.items
+    let limit : c.in_err-push.field-0.0 ≡ file.Limit → PassesLimit w.schema w.infos.items w.total w.counts.items row ⊎ PassesBytes w.options w.schema w.infos.items
     (views w.rows.items ++ row ∷ [])
     = λ q. elim (either n.failed) [ inl has ↦ inr (e.long (ap Err q) has) | inr none ↦ inl (e.only_limit (ap Err q) none) ] in
     rw (p.1, p.2) (
@@ -59,11 +59,11 @@ returns-in_err-push-clause-refused g c = λ ready.
       some_line c.args.line.now some,
       inr (inr (some_spelled w.schema c.args.line.now row some spells, of_writer c.in_err-push.field-0.0 (λ q. let t = e.failed.0 (ap Err q) in cc) (λ q. let t = (e.shape ready).0 (ap Err q) in cc) e.refused)),
       λ first rows h. let few = h.1 in (
-        (λ q. row_passes w.options.rle w.options.stripe_rows w.schema first _ w.written w.infos.items w.stats.items (views w.rows.items) rows h
+        (λ q. row_passes w.options w.schema first _ w.written w.infos.items w.stats.items (views w.rows.items) rows h
             row w.total _ w.counts.items w.total_is (length-map w.rows.items view) w.wide w.counted (limit (let same : c.in_err-push.field-0.0 ≡ file.Limit = cc in same))),
         elim (either n.failed) [
           | inl has ↦ e.cut first rows h ready has
-          | inr none ↦ rw ((e.unchanged (none ∙ sym ready)).0) (cut_row w.options.rle w.options.stripe_rows w.schema first _ w.written w.infos.items w.stats.items (views w.rows.items) rows row (omega (arith, few)) (within_of w.infos.items w.total _ w.stripes w.total_is w.few_rows w.bytes) schema h.0)
+          | inr none ↦ rw ((e.unchanged (none ∙ sym ready)).0) (cut_row w.options w.schema first _ w.written w.infos.items w.stats.items (views w.rows.items) rows row (omega (arith, few)) (within_of w.infos.items w.total _ w.stripes w.total_is w.few_rows w.bytes) schema h.0)
         ],
         λ why q. cc,
       ),

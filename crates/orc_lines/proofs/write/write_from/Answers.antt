@@ -13,7 +13,7 @@ use Rattle.orc_lines.proofs.WriteLaws.{only_outside}
 use Rattle.orc_lines.proofs.write.write_from.Goals as goal
 
 pub returns-in-Err-push_lines-clause-only : goal.returns-in-Err-push_lines-clause-only
-returns-in-Err-push_lines-clause-only g c = λ few s rows text h.
+returns-in-Err-push_lines-clause-only g c = λ s rows text h.
     let input = c.args.input.now in
     let made = c.in-Ok-new.ensures.made in
     let e = c.in-Err-push_lines.ensures.refused made.2 in
@@ -21,17 +21,17 @@ returns-in-Err-push_lines-clause-only g c = λ few s rows text h.
     only_outside c.args.schema.now input s c.in-Ok.schema c.in-Err-push_lines.fault e.0 rows text c.in-Ok.ensures.found h ends
 
 pub returns-in-Err-push_lines-clause-refused : goal.returns-in-Err-push_lines-clause-refused
-returns-in-Err-push_lines-clause-refused g c = λ few.
+returns-in-Err-push_lines-clause-refused g c =
     let made = c.in-Ok-new.ensures.made in
     let e = c.in-Err-push_lines.ensures.refused made.2 in
     let ends = subst (λ (x : Shape). EndsInLines x c.args.input.now c.in-Err-push_lines.fault e.0) made.0 e.1 in
-    let begun = c.in-Ok-new.ensures.pushed few in
+    let begun = c.in-Ok-new.ensures.pushed in
     let stands = e.2 (g.W.Sink.told c.args.out) [] (rw (made.0, made.1) begun) in
     let said = rw (made.0, made.1) at stands in
     rw c.into_out.ensures (inr (c.in-Ok.schema, e.0, c.in-Ok.ensures.found, inl ends, said.0, said.1, said.2))
 
 pub returns-in-Err-finish-clause-refused : goal.returns-in-Err-finish-clause-refused
-returns-in-Err-finish-clause-refused g c = λ few.
+returns-in-Err-finish-clause-refused g c =
     let s = c.in-Ok.schema in
     let n = c.push_lines.new.writer in
     let made = c.in-Ok-new.ensures.made in
@@ -40,17 +40,17 @@ returns-in-Err-finish-clause-refused g c = λ few.
     let options : n.options ≡ c.args.options = same.1 ∙ made.1 in
     let p = c.in_default.ensures.pushed in
     let ready : n.failed ≡ false = c.in_default.ensures.ready made.2 in
-    let begun = c.in-Ok-new.ensures.pushed few in
+    let begun = c.in-Ok-new.ensures.pushed in
     let pushed = p.2 (g.W.Sink.told c.args.out) [] (rw (made.0, made.1) begun) in
     let e = c.in-Err-finish.ensures in
     let cut = e.cut (g.W.Sink.told c.args.out) p.0 (rw (same.0, same.1) pushed) ready in
     let rows = subst (λ (x : Shape). AreRowsOf x c.args.input.now p.0) made.0 p.1 in
-    let limit : LimitStands c.args.options.rle c.args.options.stripe_rows s (File c.in-Err-finish.fault) p.0 = λ q.
+    let limit : LimitStands c.args.options s (File c.in-Err-finish.fault) p.0 = λ q.
     let why : c.in-Err-finish.fault ≡ file.Limit = cc in
     let some : 0 < length (views n.rows.items) =
     let k = e.begun why in
     let l = length-map n.rows.items view in omega (arith, k, l) in
-    let passes = rest_passes n.options.rle n.options.stripe_rows n.schema (g.W.Sink.told c.args.out) (g.W.Sink.told n.out)
+    let passes = rest_passes n.options n.schema (g.W.Sink.told c.args.out) (g.W.Sink.told n.out)
     n.written n.infos.items n.stats.items (views n.rows.items) p.0 (rw (same.0, same.1) pushed) some (e.long why) in
     rw (schema, options) at passes in
     inr (
@@ -64,7 +64,7 @@ returns-in-Err-finish-clause-refused g c = λ few.
     )
 
 pub returns-in-Err-new-clause-refused : goal.returns-in-Err-new-clause-refused
-returns-in-Err-new-clause-refused g c = λ few.
+returns-in-Err-new-clause-refused g c =
     let why = c.in-Err-new.fault in
     let e = c.in-Err-new.ensures in
     inr (c.in-Ok.schema, [], c.in-Ok.ensures.found, inr (inl (refl, of_begin why e.refused)), (λ q. not_limit why e.refused q), e.cut, λ j q. cc)

@@ -1,4 +1,4 @@
-use Rattle.std.proofs.Common.{◌≡◌, ℕ, ◌+◌, ◌*◌, ◌<◌, ◌≤◌, List, length, map, drop, take, sym, ap, ◌∙◌, subst, arith}
+use Rattle.std.proofs.Common.{◌≡◌, ◌≤◌, List, map, drop, take, sym, ap, ◌∙◌, subst, arith}
 use Rattle.std.proofs.lemmas.Bool.{OnTrue_at, OnTrue_from, OnFalse_at, OnFalse_from}
 use Rattle.std.proofs.lemmas.Result.{IfOk-weaker}
 use Rattle.std.specs.List.{flat_map}
@@ -6,11 +6,9 @@ use Rattle.orc_types.specs.Shapes.{Shape, list_of, struct_of, width, widths}
 use Rattle.orc_types.specs.Cells.{Cell, parts, values}
 use Rattle.orc_types.specs.Views.{shape, fields}
 use Rattle.orc_types.specs.Lent.{lent_cells}
-use Rattle.orc_types.specs.declared.lent.Lent.{Lent}
 use Rattle.orc_types.proofs.ByColumn.{width_within, parts_values, members_values}
 use Rattle.orc_types.proofs.Views.{shape-List, shape-Struct}
 use Rattle.orc_written.specs.WrittenStripe.{AreFew}
-use Rattle.orc_written.specs.Subtrees.{FieldsAreFew}
 use Rattle.orc_written.proofs.CellValuesLemmas.{cells_long}
 use Rattle.orc_written.proofs.SubtreeLemmas.{heads_at, few_elements, few_fields, few_list, few_struct, few_begin, few_step, few_first_not}
 use Rattle.orc_written.proofs.limits.+limits.Goals as goal

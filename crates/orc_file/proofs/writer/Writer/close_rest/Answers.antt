@@ -10,4 +10,4 @@ returns-then-is_empty-clause-last g c = λ first rows h.
     let w = c.args.self.now in
     let z = eqb-true (vec_len w.rows) 0 (sym c.is_empty.ensures ∙ c.if-is_empty.true) in
     let e : length w.rows.items ≡ 0 = omega (arith, z, w.rows.ok.0) in
-    filled_empty w.options.rle w.options.stripe_rows w.schema first _ w.written w.infos.items w.stats.items (views w.rows.items) rows (none_kept w.rows.items e) h
+    filled_empty w.options w.schema first _ w.written w.infos.items w.stats.items (views w.rows.items) rows (none_kept w.rows.items e) h

@@ -1,5 +1,4 @@
-use Rattle.std.proofs.Common.{◌≡◌, ap, ◌∙◌}
-use Rattle.orc_written.specs.declared.options.Options.{Options}
+use Rattle.std.proofs.Common.{◌≡◌}
 use Rattle.orc_file.proofs.WriterLemmas.{whole_end, cut_end, within_of}
 use Rattle.orc_file.proofs.writer.Writer.finish.Goals as goal
 
@@ -7,16 +6,16 @@ pub returns-in-Ok-end_file-clause-whole : goal.returns-in-Ok-end_file-clause-who
 returns-in-Ok-end_file-clause-whole g c = λ first rows h.
     let w = c.args.self in
     let n = c.close_rest.new.self in
-    let rle : c.rle.result ≡ w.options.rle = c.rle.ensures ∙ ap (λ (o : Options). o.rle) c.close_rest.ensures.same.1 in
+    let options : n.options ≡ w.options = c.close_rest.ensures.same.1 in
     let within = within_of n.infos.items n.total _ n.stripes n.total_is n.few_rows n.bytes in
-    rw (c.in-Ok-end_file.ensures.tail, rle, c.close_rest.ensures.same.0)
-    (whole_end w.options.rle w.options.stripe_rows w.schema first _ n.infos.items n.stats.items rows (c.in-Ok.ensures.last first rows h) within _ (rw c.close_rest.ensures.same.0 at c.end_file.ensures.schema) (rw (rle, c.close_rest.ensures.same.0) at c.in-Ok-end_file.ensures.few) (rw (rle, c.close_rest.ensures.same.0) at c.in-Ok-end_file.ensures.told))
+    rw (c.in-Ok-end_file.ensures.tail, options, c.close_rest.ensures.same.0)
+    (whole_end w.options w.schema first _ n.infos.items n.stats.items rows (c.in-Ok.ensures.last first rows h) within _ (rw c.close_rest.ensures.same.0 at c.end_file.ensures.schema) (rw (options, c.close_rest.ensures.same.0) at c.in-Ok-end_file.ensures.few) (rw (options, c.close_rest.ensures.same.0) at c.in-Ok-end_file.ensures.told))
 
 pub returns-clause-cut : goal.returns-clause-cut
 returns-clause-cut g c = λ first rows h f.
     let w = c.args.self in
     let n = c.close_rest.new.self in
-    let rle : c.rle.result ≡ w.options.rle = c.rle.ensures ∙ ap (λ (o : Options). o.rle) c.close_rest.ensures.same.1 in
+    let options : n.options ≡ w.options = c.close_rest.ensures.same.1 in
     let within = within_of n.infos.items n.total _ n.stripes n.total_is n.few_rows n.bytes in
     let some = c.in-Err-end_file.ensures.cut in
-    cut_end w.options.rle w.options.stripe_rows w.schema first _ n.infos.items n.stats.items rows (c.in-Ok.ensures.last first rows h) within _ some.0 (rw c.close_rest.ensures.same.0 at c.end_file.ensures.schema) (rw (rle, c.close_rest.ensures.same.0) at some.1)
+    cut_end w.options w.schema first _ n.infos.items n.stats.items rows (c.in-Ok.ensures.last first rows h) within _ some.0 (rw c.close_rest.ensures.same.0 at c.end_file.ensures.schema) (rw (options, c.close_rest.ensures.same.0) at some.1)

@@ -9,10 +9,10 @@ pub invariant_of-result-clause-counted : goal.invariant_of-result-clause-counted
 invariant_of-result-clause-counted g c = rw (c.in-Ok.ensures, c.width.ensures.same, c.new-in-Ok-write_all-2.ensures.items) (counts_none c.args.schema)
 
 pub returns-in-Err-clause-cut : goal.returns-in-Err-clause-cut
-returns-in-Err-clause-cut g c = cut_begun c.args.options.rle c.args.options.stripe_rows c.args.schema (g.W.Sink.told c.args.out) _ c.in-Err.field-0 c.types-types.ensures.schema c.in-Err.ensures.some
+returns-in-Err-clause-cut g c = cut_begun c.args.options c.args.schema (g.W.Sink.told c.args.out) _ c.in-Err.field-0 c.types-types.ensures.schema c.in-Err.ensures.some
 
 pub returns-in_default-clause-cut : goal.returns-in_default-clause-cut
-returns-in_default-clause-cut g c = cut_unbegun c.args.options.rle c.args.options.stripe_rows c.args.schema (g.W.Sink.told c.args.out) c.types-types.ensures.schema
+returns-in_default-clause-cut g c = cut_unbegun c.args.options c.args.schema (g.W.Sink.told c.args.out) c.types-types.ensures.schema
 
 pub returns-in_default-no_cells-clause-cut : goal.returns-in_default-no_cells-clause-cut
-returns-in_default-no_cells-clause-cut g c = cut_unbegun c.args.options.rle c.args.options.stripe_rows c.args.schema (g.W.Sink.told c.args.out) c.types-types.ensures.schema
+returns-in_default-no_cells-clause-cut g c = cut_unbegun c.args.options c.args.schema (g.W.Sink.told c.args.out) c.types-types.ensures.schema

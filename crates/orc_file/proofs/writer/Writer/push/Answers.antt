@@ -12,7 +12,7 @@ returns-in_err-keep-clause-cut g c = λ first rows h ready failed.
     let w = c.args.self.now in
     let few = h.1 in
     rw (c.keep.ensures.stands.0, c.admit.ensures.stays.0)
-    (cut_row w.options.rle w.options.stripe_rows w.schema first _ w.written w.infos.items w.stats.items (views w.rows.items) rows (view c.args.row.now) (omega (arith, few)) (within_of w.infos.items w.total _ w.stripes w.total_is w.few_rows w.bytes) c.admit.ensures.schema h.0)
+    (cut_row w.options w.schema first _ w.written w.infos.items w.stats.items (views w.rows.items) rows (view c.args.row.now) (omega (arith, few)) (within_of w.infos.items w.total _ w.stripes w.total_is w.few_rows w.bytes) c.admit.ensures.schema h.0)
 
 pub returns-then-len-stripe_rows-clause-pushed : goal.returns-then-len-stripe_rows-clause-pushed
 returns-then-len-stripe_rows-clause-pushed g c = λ first rows h.
@@ -20,7 +20,7 @@ returns-then-len-stripe_rows-clause-pushed g c = λ first rows h.
     let k = c.keep.new.self in
     let all = rows ++ view c.args.row.now ∷ [] in
     let kept_is : views k.rows.items ≡ views w.rows.items ++ view c.args.row.now ∷ [] = c.in_ok-keep.ensures.kept ∙ ap (λ v. views v.items ++ view c.args.row.now ∷ []) c.admit.ensures.stays.4 in
-    let kept : HasKept k.options.rle k.options.stripe_rows k.schema first (g.W.Sink.told k.out) k.written k.infos.items k.stats.items (views k.rows.items) all =
+    let kept : HasKept k.options k.schema first (g.W.Sink.told k.out) k.written k.infos.items k.stats.items (views k.rows.items) all =
     rw (
       kept_is,
       c.keep.ensures.same.0,
@@ -36,14 +36,14 @@ returns-then-len-stripe_rows-clause-pushed g c = λ first rows h.
       c.admit.ensures.stays.2,
       c.admit.ensures.stays.3,
     )
-    (kept_row w.options.rle w.options.stripe_rows w.schema first _ w.written w.infos.items w.stats.items (views w.rows.items) rows (view c.args.row.now) h.0) in
+    (kept_row w.options w.schema first _ w.written w.infos.items w.stats.items (views w.rows.items) rows (view c.args.row.now) h.0) in
     let few = h.1 in
     let l = length-map w.rows.items view in
     let more = one_more w.rows.items k.rows.items (view c.args.row.now) kept_is in
     let size = ap (λ (o : Options). o.stripe_rows) (c.keep.ensures.same.1 ∙ c.admit.ensures.same.1) in
     let full : length k.rows.items ≡ k.options.stripe_rows = omega (arith, few, l, more, size, c.len.ensures, c.stripe_rows.ensures, k.rows.ok.0) in
     let written = c.close.ensures.kept first all full kept in
-    pushed_full c.close.result w.options.rle w.options.stripe_rows w.schema first _ c.close.new.self.written c.close.new.self.infos.items c.close.new.self.stats.items c.close.new.self.rows.items all (omega (arith, few)) c.close.ensures.empty
+    pushed_full c.close.result w.options w.schema first _ c.close.new.self.written c.close.new.self.infos.items c.close.new.self.stats.items c.close.new.self.rows.items all (omega (arith, few)) c.close.ensures.empty
     (rw (c.keep.ensures.same.0, c.keep.ensures.same.1, c.admit.ensures.same.0, c.admit.ensures.same.1) at written)
 
 pub returns-then-len-stripe_rows-clause-cut : goal.returns-then-len-stripe_rows-clause-cut
@@ -52,7 +52,7 @@ returns-then-len-stripe_rows-clause-cut g c = λ first rows h ready failed.
     let k = c.keep.new.self in
     let all = rows ++ view c.args.row.now ∷ [] in
     let kept_is : views k.rows.items ≡ views w.rows.items ++ view c.args.row.now ∷ [] = c.in_ok-keep.ensures.kept ∙ ap (λ v. views v.items ++ view c.args.row.now ∷ []) c.admit.ensures.stays.4 in
-    let kept : HasKept k.options.rle k.options.stripe_rows k.schema first (g.W.Sink.told k.out) k.written k.infos.items k.stats.items (views k.rows.items) all =
+    let kept : HasKept k.options k.schema first (g.W.Sink.told k.out) k.written k.infos.items k.stats.items (views k.rows.items) all =
     rw (
       kept_is,
       c.keep.ensures.same.0,
@@ -68,7 +68,7 @@ returns-then-len-stripe_rows-clause-cut g c = λ first rows h ready failed.
       c.admit.ensures.stays.2,
       c.admit.ensures.stays.3,
     )
-    (kept_row w.options.rle w.options.stripe_rows w.schema first _ w.written w.infos.items w.stats.items (views w.rows.items) rows (view c.args.row.now) h.0) in
+    (kept_row w.options w.schema first _ w.written w.infos.items w.stats.items (views w.rows.items) rows (view c.args.row.now) h.0) in
     let few = h.1 in
     let l = length-map w.rows.items view in
     let more = one_more w.rows.items k.rows.items (view c.args.row.now) kept_is in

@@ -13,10 +13,10 @@ returns-in-Err-clause-cut g c = λ first rows few h.
     let kept = views w.rows.items in
     let l = length-map w.rows.items view in
     let one : Closed = record { info = c.args.stripe.info; bytes = c.args.stripe.bytes.items; rows = kept; stats = c.args.stripe.stats.items } in
-    let is : IsClosed w.options.rle w.schema w.written one = record { placed = c.requires.place; written = c.requires.text; read = c.requires.stripe; counted = c.requires.stats } in
+    let is : IsClosed w.options w.schema w.written one = record { placed = c.requires.place; written = c.requires.text; read = c.requires.stripe; counted = c.requires.stats } in
     let within = stripe_within w.schema w.infos.items c.args.stripe.info c.args.stripe.bytes.items kept w.total (length w.rows.items) c.requires.stripe (w.room c.requires.begun) w.total_is l w.few_rows c.requires.few in
     let b = c.requires.begun in
-    cut_sent w.options.rle w.options.stripe_rows w.schema first _ w.written w.infos.items w.stats.items kept rows h one refl is _ c.in-Err.taken (omega (arith, l, b)) (omega (arith, l, few)) within c.requires.schema (rw c.deref.ensures.value at c.in-Err.ensures.some)
+    cut_sent w.options w.schema first _ w.written w.infos.items w.stats.items kept rows h one refl is _ c.in-Err.taken (omega (arith, l, b)) (omega (arith, l, few)) within c.requires.schema (rw c.deref.ensures.value at c.in-Err.ensures.some)
 
 pub returns-in_default-clause-cut : goal.returns-in_default-clause-cut
 returns-in_default-clause-cut g c = λ first rows few h.
@@ -24,10 +24,10 @@ returns-in_default-clause-cut g c = λ first rows few h.
     let kept = views w.rows.items in
     let l = length-map w.rows.items view in
     let one : Closed = record { info = c.args.stripe.info; bytes = c.args.stripe.bytes.items; rows = kept; stats = c.args.stripe.stats.items } in
-    let is : IsClosed w.options.rle w.schema w.written one = record { placed = c.requires.place; written = c.requires.text; read = c.requires.stripe; counted = c.requires.stats } in
+    let is : IsClosed w.options w.schema w.written one = record { placed = c.requires.place; written = c.requires.text; read = c.requires.stripe; counted = c.requires.stats } in
     let within = stripe_within w.schema w.infos.items c.args.stripe.info c.args.stripe.bytes.items kept w.total (length w.rows.items) c.requires.stripe (w.room c.requires.begun) w.total_is l w.few_rows c.requires.few in
     let b = c.requires.begun in
-    cut_all w.options.rle w.options.stripe_rows w.schema first _ w.written w.infos.items w.stats.items kept rows h one refl is _ (omega (arith, l, b)) (omega (arith, l, few)) within c.requires.schema (rw c.deref.ensures.value at c.in-Ok.ensures.all)
+    cut_all w.options w.schema first _ w.written w.infos.items w.stats.items kept rows h one refl is _ (omega (arith, l, b)) (omega (arith, l, few)) within c.requires.schema (rw c.deref.ensures.value at c.in-Ok.ensures.all)
 
 pub returns-in_default-push-clause-cut : goal.returns-in_default-push-clause-cut
 returns-in_default-push-clause-cut g c = λ first rows few h.
@@ -35,10 +35,10 @@ returns-in_default-push-clause-cut g c = λ first rows few h.
     let kept = views w.rows.items in
     let l = length-map w.rows.items view in
     let one : Closed = record { info = c.args.stripe.info; bytes = c.args.stripe.bytes.items; rows = kept; stats = c.args.stripe.stats.items } in
-    let is : IsClosed w.options.rle w.schema w.written one = record { placed = c.requires.place; written = c.requires.text; read = c.requires.stripe; counted = c.requires.stats } in
+    let is : IsClosed w.options w.schema w.written one = record { placed = c.requires.place; written = c.requires.text; read = c.requires.stripe; counted = c.requires.stats } in
     let within = stripe_within w.schema w.infos.items c.args.stripe.info c.args.stripe.bytes.items kept w.total (length w.rows.items) c.requires.stripe (w.room c.requires.begun) w.total_is l w.few_rows c.requires.few in
     let b = c.requires.begun in
-    cut_all w.options.rle w.options.stripe_rows w.schema first _ w.written w.infos.items w.stats.items kept rows h one refl is _ (omega (arith, l, b)) (omega (arith, l, few)) within c.requires.schema (rw c.deref.ensures.value at c.in-Ok.ensures.all)
+    cut_all w.options w.schema first _ w.written w.infos.items w.stats.items kept rows h one refl is _ (omega (arith, l, b)) (omega (arith, l, few)) within c.requires.schema (rw c.deref.ensures.value at c.in-Ok.ensures.all)
 
 pub returns-clause-kept : goal.returns-clause-kept
 returns-clause-kept g c = λ first rows full h.
@@ -46,9 +46,9 @@ returns-clause-kept g c = λ first rows full h.
     let kept = views w.rows.items in
     let l = length-map w.rows.items view in
     let one : Closed = record { info = c.args.stripe.info; bytes = c.args.stripe.bytes.items; rows = kept; stats = c.args.stripe.stats.items } in
-    let is : IsClosed w.options.rle w.schema w.written one = record { placed = c.requires.place; written = c.requires.text; read = c.requires.stripe; counted = c.requires.stats } in
+    let is : IsClosed w.options w.schema w.written one = record { placed = c.requires.place; written = c.requires.text; read = c.requires.stripe; counted = c.requires.stats } in
     let n : c.len.result ≡ length c.args.stripe.bytes.items = omega (arith, c.len.ensures, c.args.stripe.bytes.ok.0) in
-    rw (c.in-Ok-push.ensures.items, c.in-Ok-push-2.ensures.items, c.from_vec.ensures) (sent_full w.options.rle w.options.stripe_rows w.schema first _ w.written w.infos.items w.stats.items kept rows h one refl is _ _ (l ∙ full) (rw c.deref.ensures.value at c.in-Ok.ensures.all) (ap (λ m. w.written + m) n))
+    rw (c.in-Ok-push.ensures.items, c.in-Ok-push-2.ensures.items, c.from_vec.ensures) (sent_full w.options w.schema first _ w.written w.infos.items w.stats.items kept rows h one refl is _ _ (l ∙ full) (rw c.deref.ensures.value at c.in-Ok.ensures.all) (ap (λ m. w.written + m) n))
 
 pub returns-clause-last : goal.returns-clause-last
 returns-clause-last g c = λ first rows few h.
@@ -56,9 +56,9 @@ returns-clause-last g c = λ first rows few h.
     let kept = views w.rows.items in
     let l = length-map w.rows.items view in
     let one : Closed = record { info = c.args.stripe.info; bytes = c.args.stripe.bytes.items; rows = kept; stats = c.args.stripe.stats.items } in
-    let is : IsClosed w.options.rle w.schema w.written one = record { placed = c.requires.place; written = c.requires.text; read = c.requires.stripe; counted = c.requires.stats } in
+    let is : IsClosed w.options w.schema w.written one = record { placed = c.requires.place; written = c.requires.text; read = c.requires.stripe; counted = c.requires.stats } in
     let b = c.requires.begun in
-    rw (c.in-Ok-push.ensures.items, c.in-Ok-push-2.ensures.items, c.from_vec.ensures) (sent_last w.options.rle w.options.stripe_rows w.schema first _ w.written w.infos.items w.stats.items kept rows h one refl is _ (omega (arith, l, b)) (omega (arith, l, few)) (rw c.deref.ensures.value at c.in-Ok.ensures.all))
+    rw (c.in-Ok-push.ensures.items, c.in-Ok-push-2.ensures.items, c.from_vec.ensures) (sent_last w.options w.schema first _ w.written w.infos.items w.stats.items kept rows h one refl is _ (omega (arith, l, b)) (omega (arith, l, few)) (rw c.deref.ensures.value at c.in-Ok.ensures.all))
 
 pub invariant_of-self-2-clause-laid : goal.invariant_of-self-2-clause-laid
 invariant_of-self-2-clause-laid g c =
