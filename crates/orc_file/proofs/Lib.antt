@@ -17,6 +17,7 @@ pub mod HonestLemmas
 pub mod CountLemmas
 pub mod CountSteps
 pub mod StatTests
+pub mod Spread
 pub mod WriterLemmas
 pub mod PushLemmas
 pub mod TailLimits

@@ -9,7 +9,7 @@ use Rattle.orc_types.specs.Cells.{Cell}
 use Rattle.orc_types.specs.Views.{view, views}
 use Rattle.orc_types.specs.declared.value.Value.{Value}
 use Rattle.orc_stats.specs.declared.stat.Stat.{Stat}
-use Rattle.orc_file.specs.Writing.{HasKept, HasPushed}
+use Rattle.orc_file.proofs.Spread.{HasKept, HasPushed}
 
 -- what stands after a refusal stands where a writer has failed in a call
 pub failed_only : {T E P : Type 0} (r : Result T E) (failed : Bool) → OnErr r P → OnOk r (failed ≡ false) → failed ≡ true → P

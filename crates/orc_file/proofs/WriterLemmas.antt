@@ -23,7 +23,8 @@ use Rattle.orc_file.specs.Stripes.{stripe_length, stripe_end, stripes_length, st
 use Rattle.orc_file.specs.Images.{tail_text}
 use Rattle.orc_file.specs.declared.tail.Tail.{Tail}
 use Rattle.orc_file.specs.Counts.{are_laid_with_few_rows}
-use Rattle.orc_file.specs.Writing.{Closed, IsClosed, AreClosed, bytes_of, rows_of, infos_of, stats_of, AreFull, AreFilled, written_tail, AreWithin, IsWrittenFile, IsSomeFile, IsWhole, IsCutOff, HasTaken, HasKept, HasPushed, HasFilled}
+use Rattle.orc_file.specs.Writing.{Closed, IsClosed, AreClosed, bytes_of, rows_of, infos_of, stats_of, AreFull, AreFilled, written_tail, AreWithin, IsWrittenFile, IsSomeFile, IsWhole, IsCutOff, HasTaken}
+use Rattle.orc_file.proofs.Spread.{HasKept, HasPushed, HasFilled}
 
 -- ---- a stripe's numbers
 
@@ -255,9 +256,9 @@ module _ (options : Options) (s : Shape) (first told : Option (List ℕ)) (writt
   }
 
   -- or the last one
-  pub sent_last : (new : Option (List ℕ)) → 0 < length kept → length kept ≤ options.stripe_rows → new ≡ appended told c.bytes
-      → HasFilled options s first new (infos ++ c.info ∷ []) (stats ++ c.stats ∷ []) rows
-  sent_last new a b t = record {
+  pub sent_last : (new : Option (List ℕ)) (written_new : ℕ) (kept_new : List Cell) → 0 < length kept → length kept ≤ options.stripe_rows → new ≡ appended told c.bytes
+      → HasFilled options s first new written_new (infos ++ c.info ∷ []) (stats ++ c.stats ∷ []) kept_new rows
+  sent_last new written_new kept_new a b t = record {
     closed = h.closed ++ c ∷ [];
     are = more_are;
     filled = more_filled a b;
@@ -289,7 +290,7 @@ module _ (options : Options) (s : Shape) (first told : Option (List ℕ)) (writt
 
 -- no row is kept
 pub filled_empty : (options : Options) (s : Shape) (first told : Option (List ℕ)) (written : ℕ) (infos : List StripeInfo) (stats : List (List Stat)) (kept rows : List Cell)
-    → kept ≡ [] → HasPushed options s first told written infos stats kept rows → HasFilled options s first told infos stats rows
+    → kept ≡ [] → HasPushed options s first told written infos stats kept rows → HasFilled options s first told written infos stats kept rows
 filled_empty options s first told written infos stats kept rows e p =
     let h = p.0 in let l = p.1 in
     record {
@@ -316,8 +317,8 @@ all_length options s at (c ∷ cs) h =
     let r = all_length options s (at + length c.bytes) cs h.1 in
     omega (arith, n, l, r)
 
-module _ (options : Options) (s : Shape) (first told : Option (List ℕ)) (infos : List StripeInfo) (stats : List (List Stat)) (rows : List Cell)
-    (h : HasFilled options s first told infos stats rows) (w : AreWithin infos) where
+module _ (options : Options) (s : Shape) (first told : Option (List ℕ)) (written : ℕ) (infos : List StripeInfo) (stats : List (List Stat)) (kept rows : List Cell)
+    (h : HasFilled options s first told written infos stats kept rows) (w : AreWithin infos) where
   abbrev end_tail : Tail
   end_tail = written_tail options s infos stats
 

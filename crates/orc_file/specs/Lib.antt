@@ -9,3 +9,4 @@ pub mod Honest
 pub mod Counts
 pub mod Counting
 pub mod Writing
+pub mod Progress

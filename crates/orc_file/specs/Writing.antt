@@ -166,28 +166,39 @@ pub record HasTaken (first told : Option (List ℕ)) (written : ℕ) : Type 0 wh
 
 -- ---- what a writer has done so far
 
+-- how it writes, and of what schema; what its output has told, and how many bytes it has taken; the stripes that are written, with their statistics; and
+-- the rows that are kept
+pub record Progress : Type 0 where
+  pub options : Options
+  pub schema : Shape
+  pub told : Option (List ℕ)
+  pub written : ℕ
+  pub infos : List StripeInfo
+  pub stats : List (List Stat)
+  pub kept : List Cell
+
 -- Behind what the output had told first stand `ORC` and full stripes, as many bytes as are counted. Their rows,
 -- and behind them those that are kept, are the rows pushed.
-pub record HasKept (options : Options) (s : Shape) (first told : Option (List ℕ)) (written : ℕ) (infos : List StripeInfo) (stats : List (List Stat)) (kept rows : List Cell) : Type 0 where
+pub record HasKept (p : Progress) (first : Option (List ℕ)) (rows : List Cell) : Type 0 where
   pub closed : List Closed
-  pub are : AreClosed options s 3 closed
-  pub full : AreFull options.stripe_rows closed
-  pub infos_are : infos ≡ infos_of closed
-  pub stats_are : stats ≡ stats_of closed
-  pub told_is : told ≡ appended first (magic ++ bytes_of closed)
-  pub written_is : written ≡ length (magic ++ bytes_of closed)
-  pub rows_are : rows ≡ rows_of closed ++ kept
+  pub are : AreClosed p.options p.schema 3 closed
+  pub full : AreFull p.options.stripe_rows closed
+  pub infos_are : p.infos ≡ infos_of closed
+  pub stats_are : p.stats ≡ stats_of closed
+  pub told_is : p.told ≡ appended first (magic ++ bytes_of closed)
+  pub written_is : p.written ≡ length (magic ++ bytes_of closed)
+  pub rows_are : rows ≡ rows_of closed ++ p.kept
 
 -- The same once the last stripe is written: no row is kept, and the last stripe may have fewer rows.
-pub record HasFilled (options : Options) (s : Shape) (first told : Option (List ℕ)) (infos : List StripeInfo) (stats : List (List Stat)) (rows : List Cell) : Type 0 where
+pub record HasFilled (p : Progress) (first : Option (List ℕ)) (rows : List Cell) : Type 0 where
   pub closed : List Closed
-  pub are : AreClosed options s 3 closed
-  pub filled : AreFilled options.stripe_rows closed
-  pub infos_are : infos ≡ infos_of closed
-  pub stats_are : stats ≡ stats_of closed
-  pub told_is : told ≡ appended first (magic ++ bytes_of closed)
+  pub are : AreClosed p.options p.schema 3 closed
+  pub filled : AreFilled p.options.stripe_rows closed
+  pub infos_are : p.infos ≡ infos_of closed
+  pub stats_are : p.stats ≡ stats_of closed
+  pub told_is : p.told ≡ appended first (magic ++ bytes_of closed)
   pub rows_are : rows ≡ rows_of closed
 
 -- and fewer rows are kept than a stripe has
-abbrev pub HasPushed : Options → Shape → Option (List ℕ) → Option (List ℕ) → ℕ → List StripeInfo → List (List Stat) → List Cell → List Cell → Type 0
-HasPushed options s first told written infos stats kept rows = HasKept options s first told written infos stats kept rows × (length kept < options.stripe_rows)
+abbrev pub HasPushed : Progress → Option (List ℕ) → List Cell → Type 0
+HasPushed p first rows = HasKept p first rows × (length p.kept < p.options.stripe_rows)

@@ -22,6 +22,7 @@ mod statistics;
 mod tail;
 mod tail_writing;
 mod writer;
+mod writing;
 
 pub use fault::FileFault;
 pub use file::OrcFile;

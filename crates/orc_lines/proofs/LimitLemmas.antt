@@ -11,7 +11,8 @@ use Rattle.orc_types.specs.Cells.{Cell}
 use Rattle.orc_stats.specs.declared.stat.Stat.{Stat}
 use Rattle.orc_file.specs.Stripes.{stripes_rows, most_stripes, most_rows}
 use Rattle.orc_file.specs.Counts.{with_row, are_few, PassesLimit}
-use Rattle.orc_file.specs.Writing.{Closed, AreClosed, rows_of, infos_of, PassesBytes, HasPushed}
+use Rattle.orc_file.specs.Writing.{Closed, AreClosed, rows_of, infos_of, PassesBytes}
+use Rattle.orc_file.proofs.Spread.{HasPushed}
 use Rattle.orc_file.proofs.WriterLemmas.{stripe_rows}
 use Rattle.orc_file.proofs.CountLemmas.{AreCounts, counts_more, length-with_row}
 use Rattle.orc_lines.specs.Writes.{HaveManyCells, PassesLimits}

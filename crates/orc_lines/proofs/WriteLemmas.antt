@@ -9,7 +9,7 @@ use Rattle.orc_types.specs.Cells.{Cell}
 use Rattle.orc_types.specs.declared.json_fault.JsonFault.{JsonFault}
 use Rattle.orc_types.specs.declared.json_fault.JsonFault.TheVariants as json
 use Rattle.orc_stats.specs.declared.stat.Stat.{Stat}
-use Rattle.orc_file.specs.Writing.{HasPushed}
+use Rattle.orc_file.proofs.Spread.{HasPushed}
 use Rattle.orc_file.specs.declared.fault.FileFault.{FileFault}
 use Rattle.orc_file.specs.declared.fault.FileFault.TheVariants as file
 use Rattle.orc_output.specs.declared.fault.CliFault.TheVariants.{Json, File}

@@ -6,6 +6,7 @@ ghost use Rattle.orc_types.specs.Views.{view, views};
 ghost use Rattle.orc_types.specs.Shapes.{Shape};
 ghost use Rattle.orc_types.specs.SchemaText.{HasText};
 ghost use Rattle.orc_types.specs.declared.json_fault.JsonFault.TheVariants as json;
+ghost use Rattle.orc_file.specs.Progress.{progress};
 ghost use Rattle.orc_file.specs.Writing.{HasPushed, IsWhole, IsCutOff};
 ghost use Rattle.orc_lines.specs.Lines.{IsLine, LineSpells, LineSpellsRows, AreRowsOf};
 ghost use Rattle.orc_output.specs.Output.{IsWantOfMemory, write_failed};
@@ -49,18 +50,15 @@ fn row_of_line(alloc: Global, schema: &Schema, line: &[u8]) -> Result<Row<'stati
 /// Pushes the row of a line, where it isn't empty.
 fn push_line<W: Sink>(alloc: Global, line: &[u8], writer: &mut Writer<W>) -> Result<(), CliFault>
     ensures pushed { OnOk result ((own : List Cell) × LineSpellsRows writer.old.schema line.now own × ((first : Option (List ℕ)) (rows : List Cell)
-        → HasPushed writer.old.options writer.old.schema first (W.told writer.old.out) writer.old.written
-        writer.old.infos.items writer.old.stats.items (views writer.old.rows.items) rows
-        → HasPushed writer.old.options writer.old.schema first (W.told writer.new.out) writer.new.written
-        writer.new.infos.items writer.new.stats.items (views writer.new.rows.items) (rows ++ own))) }
+        → HasPushed (progress W.told writer.old) first rows
+        → HasPushed (progress W.told writer.new) first (rows ++ own))) }
     ensures same { (writer.new.schema ≡ writer.old.schema) × (writer.new.options ≡ writer.old.options) }
     ensures ready { OnOk result (writer.old.failed ≡ false → writer.new.failed ≡ false) }
     ensures no_failure { OnOk result (W.failures writer.new.out ≡ W.failures writer.old.out) }
 
     ensures refused { writer.old.failed ≡ false → IfErr result (λ fault. (own : List Cell) × (line.now ≢ []) × EndsAtLine writer.old.schema line.now fault own
         × ((first : Option (List ℕ)) (rows : List Cell)
-        → HasPushed writer.old.options writer.old.schema first (W.told writer.old.out) writer.old.written
-        writer.old.infos.items writer.old.stats.items (views writer.old.rows.items) rows
+        → HasPushed (progress W.told writer.old) first rows
         → LimitStands writer.old.options writer.old.schema fault (rows ++ own)
         × IsCutOff writer.old.options writer.old.schema first (W.told writer.new.out) (rows ++ own)
         × OpenAtLine writer.old.options writer.old.schema first (W.told writer.new.out) fault (rows ++ own))) }
@@ -81,18 +79,15 @@ fn push_line<W: Sink>(alloc: Global, line: &[u8], writer: &mut Writer<W>) -> Res
 /// Pushes the rows of lines.
 fn push_lines<W: Sink>(alloc: Global, input: &[u8], writer: &mut Writer<W>) -> Result<(), CliFault>
     ensures pushed { OnOk result ((own : List Cell) × AreRowsOf writer.old.schema input.now own × ((first : Option (List ℕ)) (rows : List Cell)
-        → HasPushed writer.old.options writer.old.schema first (W.told writer.old.out) writer.old.written
-        writer.old.infos.items writer.old.stats.items (views writer.old.rows.items) rows
-        → HasPushed writer.old.options writer.old.schema first (W.told writer.new.out) writer.new.written
-        writer.new.infos.items writer.new.stats.items (views writer.new.rows.items) (rows ++ own))) }
+        → HasPushed (progress W.told writer.old) first rows
+        → HasPushed (progress W.told writer.new) first (rows ++ own))) }
     ensures same { (writer.new.schema ≡ writer.old.schema) × (writer.new.options ≡ writer.old.options) }
     ensures ready { OnOk result (writer.old.failed ≡ false → writer.new.failed ≡ false) }
     ensures no_failure { OnOk result (W.failures writer.new.out ≡ W.failures writer.old.out) }
 
     ensures refused { writer.old.failed ≡ false → IfErr result (λ fault. (own : List Cell) × EndsInLines writer.old.schema input.now fault own
         × ((first : Option (List ℕ)) (rows : List Cell)
-        → HasPushed writer.old.options writer.old.schema first (W.told writer.old.out) writer.old.written
-        writer.old.infos.items writer.old.stats.items (views writer.old.rows.items) rows
+        → HasPushed (progress W.told writer.old) first rows
         → LimitStands writer.old.options writer.old.schema fault (rows ++ own)
         × IsCutOff writer.old.options writer.old.schema first (W.told writer.new.out) (rows ++ own)
         × OpenAtLine writer.old.options writer.old.schema first (W.told writer.new.out) fault (rows ++ own))) }

@@ -36,8 +36,8 @@ loop-at-preserved-then-at-input g c =
         inv.pushed.0 ++ p.0,
         leads_both s input (drop place input) (drop (place + len + 1) input) inv.pushed.0 p.0 inv.pushed.1 (leads_ended s input place len p.0 c.if-at-input.true end is spells),
         λ first rows h.
-            let done = p.2 first (rows ++ inv.pushed.0) (rw (inv.schema, inv.options) (inv.pushed.2 first rows h)) in
-            rw (← append_assoc rows inv.pushed.0 p.0) (rw (inv.schema, inv.options) at done),
+            let done = p.2 first (rows ++ inv.pushed.0) (inv.pushed.2 first rows h) in
+            rw (← append_assoc rows inv.pushed.0 p.0) done,
       );
     }
 
@@ -64,8 +64,8 @@ loop-at-preserved g c =
         inv.pushed.0 ++ p.0,
         leads_both s input (drop place input) (drop (place + len) input) inv.pushed.0 p.0 inv.pushed.1 (leads_rest s input place len p.0 c.if-at-input.false is spells),
         λ first rows h.
-            let done = p.2 first (rows ++ inv.pushed.0) (rw (inv.schema, inv.options) (inv.pushed.2 first rows h)) in
-            rw (← append_assoc rows inv.pushed.0 p.0) (rw (inv.schema, inv.options) at done),
+            let done = p.2 first (rows ++ inv.pushed.0) (inv.pushed.2 first rows h) in
+            rw (← append_assoc rows inv.pushed.0 p.0) done,
       );
     }
 
@@ -93,7 +93,7 @@ returns-in_err-push_line-clause-refused g c = λ ready.
       inv.pushed.0 ++ e.0,
       ends_behind s input (drop place input) len inv.pushed.0 e.0 c.in_err-push_line.field-0.0 inv.pushed.1 is end some ends,
       λ first rows h.
-          let stands = e.3 first (rows ++ inv.pushed.0) (rw (inv.schema, inv.options) (inv.pushed.2 first rows h)) in
+          let stands = e.3 first (rows ++ inv.pushed.0) (inv.pushed.2 first rows h) in
           rw (← append_assoc rows inv.pushed.0 e.0) (rw (inv.schema, inv.options) at stands),
     )
 

@@ -1,6 +1,6 @@
 use Rattle.std.proofs.Common.{◌≡◌, ◌≤◌, ◌-◌, ◌++◌, List, ℕ, Option, length, drop, false}
 use Rattle.orc_types.specs.Cells.{Cell}
-use Rattle.orc_types.specs.Views.{views}
+use Rattle.orc_file.specs.Progress.{progress}
 use Rattle.orc_file.specs.Writing.{HasPushed}
 use Rattle.orc_lines.proofs.LinesLemmas.{Leads}
 use Rattle.orc_lines.proofs.write.push_lines.Given as goal
@@ -16,8 +16,8 @@ invariant-loop-at g l = record {
   pushed : (own : List Cell)
       × Leads l.initial.writer.schema l.input (drop l.at l.input) own
       × ((first : Option (List ℕ)) (rows : List Cell)
-      → HasPushed l.initial.writer.options l.initial.writer.schema first (g.W.Sink.told l.initial.writer.out) l.initial.writer.written l.initial.writer.infos.items l.initial.writer.stats.items (views l.initial.writer.rows.items) rows
-      → HasPushed l.initial.writer.options l.initial.writer.schema first (g.W.Sink.told l.writer.out) l.writer.written l.writer.infos.items l.writer.stats.items (views l.writer.rows.items) (rows ++ own));
+      → HasPushed (progress g.W.Sink.told l.initial.writer) first rows
+      → HasPushed (progress g.W.Sink.told l.writer) first (rows ++ own));
 }
 
 abbrev pub decreases-loop-at : goal.decreases-loop-at

@@ -26,7 +26,7 @@ returns-in-Err-push_lines-clause-refused g c =
     let e = c.in-Err-push_lines.ensures.refused made.2 in
     let ends = subst (λ (x : Shape). EndsInLines x c.args.input.now c.in-Err-push_lines.fault e.0) made.0 e.1 in
     let begun = c.in-Ok-new.ensures.pushed in
-    let stands = e.2 (g.W.Sink.told c.args.out) [] (rw (made.0, made.1) begun) in
+    let stands = e.2 (g.W.Sink.told c.args.out) [] begun in
     let said = rw (made.0, made.1) at stands in
     rw c.into_out.ensures (inr (c.in-Ok.schema, e.0, c.in-Ok.ensures.found, inl ends, said.0, said.1, said.2))
 
@@ -41,9 +41,9 @@ returns-in-Err-finish-clause-refused g c =
     let p = c.in_default.ensures.pushed in
     let ready : n.failed ≡ false = c.in_default.ensures.ready made.2 in
     let begun = c.in-Ok-new.ensures.pushed in
-    let pushed = p.2 (g.W.Sink.told c.args.out) [] (rw (made.0, made.1) begun) in
+    let pushed = p.2 (g.W.Sink.told c.args.out) [] begun in
     let e = c.in-Err-finish.ensures in
-    let cut = e.cut (g.W.Sink.told c.args.out) p.0 (rw (same.0, same.1) pushed) ready in
+    let cut = e.cut (g.W.Sink.told c.args.out) p.0 pushed ready in
     let rows = subst (λ (x : Shape). AreRowsOf x c.args.input.now p.0) made.0 p.1 in
     let limit : LimitStands c.args.options s (File c.in-Err-finish.fault) p.0 = λ q.
     let why : c.in-Err-finish.fault ≡ file.Limit = cc in
@@ -51,7 +51,7 @@ returns-in-Err-finish-clause-refused g c =
     let k = e.begun why in
     let l = length-map n.rows.items view in omega (arith, k, l) in
     let passes = rest_passes n.options n.schema (g.W.Sink.told c.args.out) (g.W.Sink.told n.out)
-    n.written n.infos.items n.stats.items (views n.rows.items) p.0 (rw (same.0, same.1) pushed) some (e.long why) in
+    n.written n.infos.items n.stats.items (views n.rows.items) p.0 pushed some (e.long why) in
     rw (schema, options) at passes in
     inr (
       s,

@@ -2,7 +2,7 @@ use Rattle.std.proofs.Common.{◌≡◌, ◌≤◌, ◌++◌, ◌∷◌, [], len
 use Rattle.std.proofs.lemmas.List.{length-map}
 use Rattle.orc_written.specs.declared.options.Options.{Options}
 use Rattle.orc_types.specs.Views.{view, views}
-use Rattle.orc_file.specs.Writing.{HasKept}
+use Rattle.orc_file.proofs.Spread.{HasKept}
 use Rattle.orc_file.proofs.PushLemmas.{failed_only, one_more, pushed_full}
 use Rattle.orc_file.proofs.WriterLemmas.{cut_row, kept_row, within_of}
 use Rattle.orc_file.proofs.writer.Writer.push.Goals as goal
@@ -42,9 +42,8 @@ returns-then-len-stripe_rows-clause-pushed g c = λ first rows h.
     let more = one_more w.rows.items k.rows.items (view c.args.row.now) kept_is in
     let size = ap (λ (o : Options). o.stripe_rows) (c.keep.ensures.same.1 ∙ c.admit.ensures.same.1) in
     let full : length k.rows.items ≡ k.options.stripe_rows = omega (arith, few, l, more, size, c.len.ensures, c.stripe_rows.ensures, k.rows.ok.0) in
-    let written = c.close.ensures.kept first all full kept in
-    pushed_full c.close.result w.options w.schema first _ c.close.new.self.written c.close.new.self.infos.items c.close.new.self.stats.items c.close.new.self.rows.items all (omega (arith, few)) c.close.ensures.empty
-    (rw (c.keep.ensures.same.0, c.keep.ensures.same.1, c.admit.ensures.same.0, c.admit.ensures.same.1) at written)
+    let n = c.close.new.self in
+    pushed_full c.close.result n.options n.schema first _ n.written n.infos.items n.stats.items n.rows.items all n.options.some c.close.ensures.empty (c.close.ensures.kept first all full kept)
 
 pub returns-then-len-stripe_rows-clause-cut : goal.returns-then-len-stripe_rows-clause-cut
 returns-then-len-stripe_rows-clause-cut g c = λ first rows h ready failed.

@@ -58,7 +58,7 @@ returns-clause-last g c = λ first rows few h.
     let one : Closed = record { info = c.args.stripe.info; bytes = c.args.stripe.bytes.items; rows = kept; stats = c.args.stripe.stats.items } in
     let is : IsClosed w.options w.schema w.written one = record { placed = c.requires.place; written = c.requires.text; read = c.requires.stripe; counted = c.requires.stats } in
     let b = c.requires.begun in
-    rw (c.in-Ok-push.ensures.items, c.in-Ok-push-2.ensures.items, c.from_vec.ensures) (sent_last w.options w.schema first _ w.written w.infos.items w.stats.items kept rows h one refl is _ (omega (arith, l, b)) (omega (arith, l, few)) (rw c.deref.ensures.value at c.in-Ok.ensures.all))
+    rw (c.in-Ok-push.ensures.items, c.in-Ok-push-2.ensures.items, c.from_vec.ensures) (sent_last w.options w.schema first _ w.written w.infos.items w.stats.items kept rows h one refl is _ _ _ (omega (arith, l, b)) (omega (arith, l, few)) (rw c.deref.ensures.value at c.in-Ok.ensures.all))
 
 pub invariant_of-self-2-clause-laid : goal.invariant_of-self-2-clause-laid
 invariant_of-self-2-clause-laid g c =
