@@ -1,4 +1,5 @@
 //! Row indexes of stripes, as they are written.
+use crate::lines::with_memory;
 use crate::writing::{check_lines, written};
 use orc_rle::Rle;
 use orc_stripe::{StripeFault, StripeOut};
@@ -422,13 +423,8 @@ fn check_all(rt: &impl Abort, alloc: Global) -> Result<(), StripeFault> {
 
 #[test]
 fn whole_stripes(rt: HostRuntime) {
-    let alloc = rt.alloc();
-    let tried = check_all(&rt, alloc);
-    if tried == Err(StripeFault::OutOfMemory) {
-        assert_eq!(rt; check_all(&rt, alloc), Ok(()), "once memory is there");
-    } else {
-        assert_eq!(rt; tried, Ok(()));
-    }
+    let answer = with_memory(|| check_all(&rt, rt.alloc()));
+    assert!(rt; answer == Ok(()));
 }
 
 /// Where the index of a column begins and how long it is, if the directory begins with an index of each column up to it.
@@ -510,11 +506,6 @@ fn check_cases(rt: &impl Abort, alloc: Global) -> Result<(), StripeFault> {
 
 #[test]
 fn positions_of_groups(rt: HostRuntime) {
-    let alloc = rt.alloc();
-    let tried = check_cases(&rt, alloc);
-    if tried == Err(StripeFault::OutOfMemory) {
-        assert_eq!(rt; check_cases(&rt, alloc), Ok(()), "once memory is there");
-    } else {
-        assert_eq!(rt; tried, Ok(()));
-    }
+    let answer = with_memory(|| check_cases(&rt, rt.alloc()));
+    assert!(rt; answer == Ok(()));
 }

@@ -8,7 +8,7 @@ mod run_faults;
 mod shapes;
 mod skipped;
 
-use crate::lines::{lines_at_once, lines_one_by_one};
+use crate::lines::{lines_at_once, lines_one_by_one, with_memory};
 use orc_rle::RunFault;
 use orc_stripe::{StreamKind, StripeFault};
 use orc_types::Schema;
@@ -355,12 +355,12 @@ fn check_case(
     match (answer, case.4) {
         (Err(StripeFault::OutOfMemory), _) => return Err(StripeFault::OutOfMemory),
         (Ok(lines), Ok(wanted)) => {
-            assert_eq!(rt; lines.len(), wanted.len(), "{}", case.0);
+            assert!(rt; lines.len() == wanted.len(), "{}", case.0);
             for (line, text) in lines.iter().zip(wanted) {
-                assert_eq!(rt; line.as_str(), *text);
+                assert!(rt; line.as_str() == *text);
             }
         }
-        (Err(fault), Err(wanted)) => assert_eq!(rt; fault, wanted, "{}", case.0),
+        (Err(fault), Err(wanted)) => assert!(rt; fault == wanted, "{}", case.0),
         (_, _) => assert!(rt; false, "{}", case.0),
     }
     Ok(())
@@ -381,11 +381,6 @@ fn check_cases(rt: &impl Abort, alloc: Global) -> Result<(), StripeFault> {
 
 #[test]
 fn stripes(rt: HostRuntime) {
-    let alloc = rt.alloc();
-    let tried = check_cases(&rt, alloc);
-    if tried == Err(StripeFault::OutOfMemory) {
-        assert_eq!(rt; check_cases(&rt, alloc), Ok(()), "once memory is there");
-    } else {
-        assert_eq!(rt; tried, Ok(()));
-    }
+    let answer = with_memory(|| check_cases(&rt, rt.alloc()));
+    assert!(rt; answer == Ok(()));
 }

@@ -3,7 +3,7 @@ ghost use Rattle.std.specs.Prelude.{IfOk};
 ghost use Rattle.orc_types.specs.Fits.{RowsFit};
 ghost use Rattle.orc_types.specs.Views.{views};
 
-use crate::lines::{lines_at_once, lines_one_by_one};
+use crate::lines::{lines_at_once, lines_one_by_one, with_memory};
 use orc_rle::Rle;
 use orc_stats::Body;
 use orc_stripe::{Options, StripeFault, StripeOut, are_few, write_stripe};
@@ -319,9 +319,9 @@ pub(crate) fn written(
 }
 
 fn are_lines(rt: &impl Abort, lines: &[String], wanted: &[&str]) {
-    assert_eq!(rt; lines.len(), wanted.len());
+    assert!(rt; lines.len() == wanted.len());
     for (line, text) in lines.iter().zip(wanted) {
-        assert_eq!(rt; line.as_str(), *text);
+        assert!(rt; line.as_str() == *text);
     }
 }
 
@@ -358,9 +358,9 @@ fn check_case(rt: &impl Abort, alloc: Global, case: &Case) -> Result<(), StripeF
     wanted.extend_from_slice(data)?;
     wanted.extend_from_slice(footer)?;
     assert!(rt; out.bytes.as_slice() == wanted.as_slice(), "{}", text);
-    assert_eq!(rt; out.info.data_length, data.len() as u64, "{}", text);
-    assert_eq!(rt; out.info.footer_length, footer.len() as u64, "{}", text);
-    assert_eq!(rt; out.info.number_of_rows, lines.len() as u64, "{}", text);
+    assert!(rt; out.info.data_length == data.len() as u64, "{}", text);
+    assert!(rt; out.info.footer_length == footer.len() as u64, "{}", text);
+    assert!(rt; out.info.number_of_rows == lines.len() as u64, "{}", text);
     check_lines(rt, alloc, &schema, &out, lines)?;
     // and in the other version
     let other = match rle {
@@ -381,13 +381,8 @@ fn check_cases(rt: &impl Abort, alloc: Global) -> Result<(), StripeFault> {
 
 #[test]
 fn stripes_written(rt: HostRuntime) {
-    let alloc = rt.alloc();
-    let tried = check_cases(&rt, alloc);
-    if tried == Err(StripeFault::OutOfMemory) {
-        assert_eq!(rt; check_cases(&rt, alloc), Ok(()), "once memory is there");
-    } else {
-        assert_eq!(rt; tried, Ok(()));
-    }
+    let answer = with_memory(|| check_cases(&rt, rt.alloc()));
+    assert!(rt; answer == Ok(()));
 }
 
 /// Three sevens and a null: four cells of the root, and of the column three values, 21 together.
@@ -397,20 +392,20 @@ fn check_stats(rt: &impl Abort, alloc: Global) -> Result<(), StripeFault> {
     };
     let lines = [r#"{"n":7}"#, r#"{"n":7}"#, r#"{"n":null}"#, r#"{"n":7}"#];
     let out = written(alloc, &schema, Rle::One, 0, &lines)?;
-    assert_eq!(rt; out.stats.len(), 2);
-    assert_eq!(rt; out.stats[0].count, 4);
-    assert_eq!(rt; out.stats[0].nulls, Some(false));
-    assert_eq!(rt; out.stats[1].count, 3);
-    assert_eq!(rt; out.stats[1].nulls, Some(true));
+    assert!(rt; out.stats.len() == 2);
+    assert!(rt; out.stats[0].count == 4);
+    assert!(rt; out.stats[0].nulls == Some(false));
+    assert!(rt; out.stats[1].count == 3);
+    assert!(rt; out.stats[1].nulls == Some(true));
     match &out.stats[1].body {
         Body::Ints {
             least,
             greatest,
             sum,
         } => {
-            assert_eq!(rt; *least, Some(7));
-            assert_eq!(rt; *greatest, Some(7));
-            assert_eq!(rt; *sum, Some(21));
+            assert!(rt; *least == Some(7));
+            assert!(rt; *greatest == Some(7));
+            assert!(rt; *sum == Some(21));
         }
         _ => assert!(rt; false, "numbers"),
     }
@@ -419,13 +414,8 @@ fn check_stats(rt: &impl Abort, alloc: Global) -> Result<(), StripeFault> {
 
 #[test]
 fn stripe_statistics(rt: HostRuntime) {
-    let alloc = rt.alloc();
-    let tried = check_stats(&rt, alloc);
-    if tried == Err(StripeFault::OutOfMemory) {
-        assert_eq!(rt; check_stats(&rt, alloc), Ok(()), "once memory is there");
-    } else {
-        assert_eq!(rt; tried, Ok(()));
-    }
+    let answer = with_memory(|| check_stats(&rt, rt.alloc()));
+    assert!(rt; answer == Ok(()));
 }
 
 #[test]
@@ -441,6 +431,6 @@ fn options_made(rt: HostRuntime) {
         (10_000, 4_294_967_295, false),
     ] {
         let options = Options::new(Rle::Two, stride, stripe_rows);
-        assert_eq!(rt; options.is_some(), made, "{stride} {stripe_rows}");
+        assert!(rt; options.is_some() == made, "{stride} {stripe_rows}");
     }
 }

@@ -1,6 +1,6 @@
 use super::shapes::{MOST_COLUMNS, footer_of, wide_schema};
 use super::{FOUR_BYTES, THREE_BYTES, stripe_of};
-use crate::lines::line_of;
+use crate::lines::{line_of, with_memory};
 use orc_rle::RunFault;
 use orc_stripe::{RowCursor, StreamKind, StripeFault, StripeView};
 use orc_types::Schema;
@@ -98,7 +98,7 @@ fn check_broken(rt: &impl Abort, alloc: Global) -> Result<(), StripeFault> {
     for _ in 0..3 {
         match cursor.next()? {
             Some(row) => {
-                assert_eq!(rt; line_of(alloc, &schema, &row)?.as_str(), r#"{"n":7}"#);
+                assert!(rt; line_of(alloc, &schema, &row)?.as_str() == r#"{"n":7}"#);
             }
             None => assert!(rt; false, "a row is missing"),
         }
@@ -107,10 +107,10 @@ fn check_broken(rt: &impl Abort, alloc: Global) -> Result<(), StripeFault> {
     for wanted in [fault, StripeFault::Failed, StripeFault::Failed] {
         match cursor.next() {
             Err(StripeFault::OutOfMemory) => return Err(StripeFault::OutOfMemory),
-            answer => assert_eq!(rt; answer.err(), Some(wanted)),
+            answer => assert!(rt; answer.err() == Some(wanted)),
         }
     }
-    assert_eq!(rt; cursor.rest().err(), Some(StripeFault::Failed));
+    assert!(rt; cursor.rest().err() == Some(StripeFault::Failed));
     Ok(())
 }
 
@@ -125,9 +125,9 @@ fn check_rest(rt: &impl Abort, alloc: Global) -> Result<(), StripeFault> {
     let mut cursor = view.cursor(alloc)?;
     assert!(rt; cursor.next()?.is_some(), "a row is missing");
     let rest = cursor.rest()?;
-    assert_eq!(rt; rest.len(), 2);
+    assert!(rt; rest.len() == 2);
     for (row, wanted) in rest.iter().zip([r#"{"n":8}"#, r#"{"n":9}"#]) {
-        assert_eq!(rt; line_of(alloc, &schema, row)?.as_str(), wanted);
+        assert!(rt; line_of(alloc, &schema, row)?.as_str() == wanted);
     }
     Ok(())
 }
@@ -140,11 +140,6 @@ fn check_all(rt: &impl Abort, alloc: Global) -> Result<(), StripeFault> {
 
 #[test]
 fn cursors(rt: HostRuntime) {
-    let alloc = rt.alloc();
-    let tried = check_all(&rt, alloc);
-    if tried == Err(StripeFault::OutOfMemory) {
-        assert_eq!(rt; check_all(&rt, alloc), Ok(()), "once memory is there");
-    } else {
-        assert_eq!(rt; tried, Ok(()));
-    }
+    let answer = with_memory(|| check_all(&rt, rt.alloc()));
+    assert!(rt; answer == Ok(()));
 }

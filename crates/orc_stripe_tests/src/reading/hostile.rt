@@ -1,5 +1,5 @@
 use super::ONE_WORD;
-use crate::lines::lines_at_once;
+use crate::lines::{lines_at_once, with_memory};
 use orc_stripe::StripeFault;
 use orc_types::Schema;
 use orc_wire::StripeInfo;
@@ -33,7 +33,7 @@ fn check_fronts(rt: &impl Abort, alloc: Global) -> Result<(), StripeFault> {
     for len in 0..bytes.len() {
         match lines_at_once(alloc, &schema, info, &bytes[..len]) {
             Err(StripeFault::OutOfMemory) => return Err(StripeFault::OutOfMemory),
-            answer => assert_eq!(rt; answer.err(), Some(StripeFault::BadDirectory), "{len}"),
+            answer => assert!(rt; answer.err() == Some(StripeFault::BadDirectory), "{len}"),
         }
     }
     Ok(())
@@ -51,7 +51,7 @@ fn check_changes(rt: &impl Abort, alloc: Global) -> Result<(), StripeFault> {
             bytes[i] = byte ^ change;
             match lines_at_once(alloc, &schema, info, &bytes) {
                 Err(StripeFault::OutOfMemory) => return Err(StripeFault::OutOfMemory),
-                Ok(lines) => assert_eq!(rt; lines.len(), 2, "{i} {change}"),
+                Ok(lines) => assert!(rt; lines.len() == 2, "{i} {change}"),
                 Err(_) => {}
             }
         }
@@ -62,22 +62,12 @@ fn check_changes(rt: &impl Abort, alloc: Global) -> Result<(), StripeFault> {
 
 #[test]
 fn fronts(rt: HostRuntime) {
-    let alloc = rt.alloc();
-    let tried = check_fronts(&rt, alloc);
-    if tried == Err(StripeFault::OutOfMemory) {
-        assert_eq!(rt; check_fronts(&rt, alloc), Ok(()), "once memory is there");
-    } else {
-        assert_eq!(rt; tried, Ok(()));
-    }
+    let answer = with_memory(|| check_fronts(&rt, rt.alloc()));
+    assert!(rt; answer == Ok(()));
 }
 
 #[test]
 fn changes(rt: HostRuntime) {
-    let alloc = rt.alloc();
-    let tried = check_changes(&rt, alloc);
-    if tried == Err(StripeFault::OutOfMemory) {
-        assert_eq!(rt; check_changes(&rt, alloc), Ok(()), "once memory is there");
-    } else {
-        assert_eq!(rt; tried, Ok(()));
-    }
+    let answer = with_memory(|| check_changes(&rt, rt.alloc()));
+    assert!(rt; answer == Ok(()));
 }

@@ -1,5 +1,6 @@
 //! Which fault of a stream's runs is answered, and at which place.
 use super::{FOUR_BYTES, SIX_BYTES, THREE_BYTES, lines_of};
+use crate::lines::with_memory;
 use orc_rle::RunFault;
 use orc_stripe::{StreamKind, StripeFault};
 use std::alloc::Global;
@@ -175,11 +176,6 @@ fn check_cases(rt: &impl Abort, alloc: Global) -> Result<(), StripeFault> {
 
 #[test]
 fn faults_of_runs(rt: HostRuntime) {
-    let alloc = rt.alloc();
-    let tried = check_cases(&rt, alloc);
-    if tried == Err(StripeFault::OutOfMemory) {
-        assert_eq!(rt; check_cases(&rt, alloc), Ok(()), "once memory is there");
-    } else {
-        assert_eq!(rt; tried, Ok(()));
-    }
+    let answer = with_memory(|| check_cases(&rt, rt.alloc()));
+    assert!(rt; answer == Ok(()));
 }

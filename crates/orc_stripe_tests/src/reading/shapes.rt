@@ -1,4 +1,5 @@
 use super::lines_of;
+use crate::lines::with_memory;
 use orc_stripe::{StreamKind, StripeFault};
 use std::alloc::Global;
 use std::process::Abort;
@@ -54,7 +55,7 @@ fn check_wide(rt: &impl Abort, alloc: Global) -> Result<(), StripeFault> {
     let text = wide_schema(alloc)?;
     let footer = footer_of(alloc, MOST_COLUMNS, &[])?;
     let lines = lines_of(alloc, text.as_str(), &[], &footer, 0)?;
-    assert_eq!(rt; lines.len(), 0);
+    assert!(rt; lines.len() == 0);
     // DATA of column 4,095 with three bytes
     let last = [0x0a, 0x07, 0x08, 0x01, 0x10, 0xff, 0x1f, 0x18, 0x03];
     let footer = footer_of(alloc, MOST_COLUMNS, &last)?;
@@ -75,10 +76,10 @@ fn check_deep(rt: &impl Abort, alloc: Global) -> Result<(), StripeFault> {
     let last = [0x0a, 0x06, 0x08, 0x01, 0x10, 0x1f, 0x18, 0x03];
     let footer = footer_of(alloc, MOST_LEVELS, &last)?;
     let lines = lines_of(alloc, text.as_str(), &[0x00, 0x00, 0x0e], &footer, 3)?;
-    assert_eq!(rt; lines.len(), 3);
+    assert!(rt; lines.len() == 3);
     for line in &lines {
         // 31 times `{"a":`, the number, and 31 times `}`
-        assert_eq!(rt; line.len(), 31 * 5 + 1 + 31);
+        assert!(rt; line.len() == 31 * 5 + 1 + 31);
         assert!(rt; line.as_str().contains(":7}"));
     }
     Ok(())
@@ -86,22 +87,12 @@ fn check_deep(rt: &impl Abort, alloc: Global) -> Result<(), StripeFault> {
 
 #[test]
 fn wide(rt: HostRuntime) {
-    let alloc = rt.alloc();
-    let tried = check_wide(&rt, alloc);
-    if tried == Err(StripeFault::OutOfMemory) {
-        assert_eq!(rt; check_wide(&rt, alloc), Ok(()), "once memory is there");
-    } else {
-        assert_eq!(rt; tried, Ok(()));
-    }
+    let answer = with_memory(|| check_wide(&rt, rt.alloc()));
+    assert!(rt; answer == Ok(()));
 }
 
 #[test]
 fn deep(rt: HostRuntime) {
-    let alloc = rt.alloc();
-    let tried = check_deep(&rt, alloc);
-    if tried == Err(StripeFault::OutOfMemory) {
-        assert_eq!(rt; check_deep(&rt, alloc), Ok(()), "once memory is there");
-    } else {
-        assert_eq!(rt; tried, Ok(()));
-    }
+    let answer = with_memory(|| check_deep(&rt, rt.alloc()));
+    assert!(rt; answer == Ok(()));
 }
