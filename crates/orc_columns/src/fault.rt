@@ -22,6 +22,20 @@ pub enum StreamKind {
     DictionaryData,
 }
 
+/// What of a stripe's index a fault speaks of.
+#[derive(Clone, Copy, Debug, PartialEq, Eq, Error)]
+pub enum Spot {
+    /// The stripe, whatever the column.
+    #[error("")]
+    Stripe,
+    /// A column, by its number.
+    #[error("({0})")]
+    Column(usize),
+    /// A stream of a column.
+    #[error("({0}, {1})")]
+    Stream(usize, StreamKind),
+}
+
 /// Why bytes are no stripe, with the number of the column, and the stream where one is concerned.
 #[derive(Clone, Copy, Debug, PartialEq, Eq, Error)]
 pub enum StripeFault {
@@ -44,7 +58,14 @@ pub enum StripeFault {
     /// A stream of bytes has another length than its LENGTHs say.
     #[error("stripe 6 LengthSum({0}, {1})")]
     LengthSum(usize, StreamKind),
-    /// The footer is no message.
+    /// Rows have no index, or the column has none.
+    #[error("stripe 7 NoIndex{0}")]
+    NoIndex(Spot),
+    /// There is no such group, or an index has another number of entries than there are groups, or an entry
+    /// another number of positions than its column has, or a position lies outside of its stream.
+    #[error("stripe 8 BadPosition{0}")]
+    BadPosition(Spot),
+    /// The footer is no message, or the index of a column is none.
     #[error("stripe 9 Wire: {0}")]
     Wire(WireFault),
     /// There are more rows than a column may have cells (column 0), or more elements in the column's lists.

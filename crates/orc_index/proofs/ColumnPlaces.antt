@@ -43,7 +43,7 @@ octets_of_values (leaf a ∷ cs) = sum_by-cons octets_in (leaf a) (values cs) �
 octets_of_values (list xs ∷ cs) = sum_by-cons octets_in (list xs) (values cs) ∙ ap (λ (n : ℕ). octets_in (list xs) + n) (octets_of_values cs) ∙ sym (sum_by-cons octets_in (list xs) cs)
 octets_of_values (struct xs ∷ cs) = sum_by-cons octets_in (struct xs) (values cs) ∙ ap (λ (n : ℕ). octets_in (struct xs) + n) (octets_of_values cs) ∙ sym (sum_by-cons octets_in (struct xs) cs)
 
-stand_long : {X : Type 0} (stands : X → Cell → Type 0) (xs : List X) (cs : List Cell) → AllStand stands xs cs → length xs ≡ length cs
+pub stand_long : {X : Type 0} (stands : X → Cell → Type 0) (xs : List X) (cs : List Cell) → AllStand stands xs cs → length xs ≡ length cs
 stand_long stands [] [] h = refl
 stand_long stands [] (c ∷ cs) h = absurd h
 stand_long stands (x ∷ xs) [] h = absurd h

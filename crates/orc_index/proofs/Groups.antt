@@ -98,7 +98,7 @@ found_more f bounds i n found new lt is pushed h =
     ∙ ap (λ (t : List ℕ). found ++ t) (sym (map_next f bounds i lt)) ∙ h
 
 -- what counts more where there is more takes bounds to bounds
-bounds_map : (f : ℕ → ℕ) → ((a b : ℕ) → a ≤ b → f a ≤ f b) → (count : ℕ) (bounds : List ℕ) → AreBounds count bounds → AreBounds (f count) (map f bounds)
+pub bounds_map : (f : ℕ → ℕ) → ((a b : ℕ) → a ≤ b → f a ≤ f b) → (count : ℕ) (bounds : List ℕ) → AreBounds count bounds → AreBounds (f count) (map f bounds)
 bounds_map f rises count bounds h = λ group.
     let e = get_or-map f bounds group count in
     let d = get_or-map f bounds (suc group) count in
@@ -139,7 +139,7 @@ field_bounds_are cells bounds h =
 
 -- ---- entries
 
-pushed_get : {X : Type 0} (xs : List X) (y : X) (c : ℕ) (r : X) → slice_get (xs ++ y ∷ []) c ≡ Some r → (slice_get xs c ≡ Some r) ⊎ ((c ≡ length xs) × (y ≡ r))
+pub pushed_get : {X : Type 0} (xs : List X) (y : X) (c : ℕ) (r : X) → slice_get (xs ++ y ∷ []) c ≡ Some r → (slice_get xs c ≡ Some r) ⊎ ((c ≡ length xs) × (y ≡ r))
 pushed_get [] y zero r e = inr (refl, cc)
 pushed_get [] y (suc c) r e = absurd cc
 pushed_get (x ∷ xs) y zero r e = inl e

@@ -4,7 +4,7 @@ ghost use Rattle.orc_types.specs.Lent.{lent_cells};
 use orc_types::Lent;
 
 /// The cells from one place to another.
-pub(crate) fn cells_between<'c, 'r, 'a>(
+pub fn cells_between<'c, 'r, 'a>(
     cells: &'c [Lent<'r, 'a>],
     start: usize,
     end: usize,

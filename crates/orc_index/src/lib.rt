@@ -12,6 +12,7 @@ mod row_index;
 mod run_bytes;
 mod walk;
 
+pub use between::cells_between;
 pub use bounds::{element_bounds, field_bounds};
 pub use counting::counted;
 pub use counts::Counts;

@@ -2,3 +2,6 @@ pub mod ByNumber
 pub mod Opened
 pub mod RowsLemmas
 pub mod OneStripe
+mod IndexBytes
+mod GroupCells
+mod IndexFaults

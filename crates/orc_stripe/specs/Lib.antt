@@ -1,3 +1,4 @@
 pub mod Opening
 pub mod Opened
 pub mod Cursors
+pub mod RowIndexes

@@ -2,12 +2,13 @@
 #![tactic(auto)]
 
 mod cursor;
+mod groups;
 mod laws;
 mod stepping;
 mod view;
 
 pub use cursor::RowCursor;
 pub use laws::{column_laws, stripe_laws};
-pub use orc_columns::fault::{StreamKind, StripeFault};
+pub use orc_columns::fault::{Spot, StreamKind, StripeFault};
 pub use orc_written::{Options, StripeOut, are_few, write_stripe, writing_laws};
 pub use view::StripeView;

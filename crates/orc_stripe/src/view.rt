@@ -9,6 +9,8 @@ ghost use Rattle.orc_columns.specs.Faults.{HasFault, RowsFault};
 ghost use Rattle.orc_columns.specs.declared.fault.StripeFault.{StripeFault as Fault};
 ghost use Rattle.orc_columns.specs.declared.fault.StripeFault.TheVariants.{OutOfMemory};
 
+mod row_index;
+
 use crate::cursor::RowCursor;
 use orc_columns::directory::{check_directory, first_wrong};
 use orc_columns::fault::{StripeFault, wire_fault};

@@ -2,7 +2,7 @@
 use crate::lines::with_memory;
 use crate::writing::{check_lines, written};
 use orc_rle::Rle;
-use orc_stripe::{StripeFault, StripeOut};
+use orc_stripe::{StripeFault, StripeOut, StripeView};
 use orc_types::Schema;
 use orc_wire::{Message, RowIndexMsg, StripeFooter};
 use std::alloc::Global;
@@ -396,7 +396,7 @@ static CASES: [Case; 18] = [
     ),
 ];
 
-fn schema_of(alloc: Global, text: &str) -> Result<Schema, StripeFault> {
+pub(crate) fn schema_of(alloc: Global, text: &str) -> Result<Schema, StripeFault> {
     match Schema::parse(alloc, text) {
         Ok(schema) => Ok(schema),
         Err(_) => Err(StripeFault::OutOfMemory),
@@ -468,6 +468,26 @@ fn index_of(alloc: Global, out: &StripeOut, column: usize) -> Result<RowIndexMsg
     }
 }
 
+/// A reader of the stripe finds the positions of the column right, those of every group.
+fn check_right(
+    rt: &impl Abort,
+    alloc: Global,
+    schema: &Schema,
+    out: &StripeOut,
+    stride: u32,
+    column: usize,
+    groups: usize,
+) -> Result<(), StripeFault> {
+    let view = StripeView::open(alloc, schema, out.info, stride, &out.bytes)?;
+    if column >= schema.width() {
+        return Err(StripeFault::BadDirectory);
+    }
+    let right = view.positions_right(alloc, column)?;
+    assert!(rt; right.len() == groups);
+    assert!(rt; right.iter().all(|right| *right));
+    Ok(())
+}
+
 /// Whether the entries have these positions, one for each group.
 fn has_positions(index: &RowIndexMsg, groups: &[&[u64]]) -> bool {
     let entries = index.entries.as_slice();
@@ -494,6 +514,7 @@ fn check_case(rt: &impl Abort, alloc: Global, case: &Case) -> Result<(), StripeF
         stride,
         column
     );
+    check_right(rt, alloc, &schema, &out, *stride, *column, groups.len())?;
     check_lines(rt, alloc, &schema, &out, lines)
 }
 

@@ -7,6 +7,8 @@ mod indexes;
 #[cfg(test)]
 mod lines;
 #[cfg(test)]
+mod positions;
+#[cfg(test)]
 mod reading;
 #[cfg(test)]
 mod writing;

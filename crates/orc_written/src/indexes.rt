@@ -25,11 +25,9 @@ use orc_wire::{StreamMsg, StripeFooter};
 use std::alloc::{AllocError, Global};
 
 /// How many rows come before each group: a group begins each `stride` rows (ORC specification, "Row Group Index").
-pub(crate) fn group_starts(
-    alloc: Global,
-    stride: usize,
-    rows: usize,
-) -> Result<Vec<usize>, AllocError>
+///
+/// Refusal: want of memory.
+pub fn group_starts(alloc: Global, stride: usize, rows: usize) -> Result<Vec<usize>, AllocError>
     requires { 0 < stride }
     ensures { IfOk result (λ found. found.items ≡ starts stride rows) }
 {

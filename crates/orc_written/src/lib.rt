@@ -13,6 +13,7 @@ mod word_list;
 mod writer;
 mod written;
 
+pub use indexes::group_starts;
 pub use limits::are_few;
 pub use options::Options;
 pub use writer::{StripeOut, write_stripe};

@@ -1,0 +1,88 @@
+-- The entries of a row index, group by group.
+use Rattle.std.specs.Prelude.{MatchBool}
+use Rattle.std.proofs.Common.{◌≡◌, ℕ, zero, suc, ◌+◌, ◌≤◌, Bool, Option, Some, List, [], ◌∷◌, ◌++◌, length, take, slice_get, refl, sym, ap, ◌∙◌, subst, arith, inl, inr, ◌⊎◌, length-append}
+use Rattle.orc_wire.specs.declared.row_index.RowIndexEntry.{RowIndexEntry}
+use Rattle.orc_seek.specs.BitPosition.{BeginsBits}
+use Rattle.orc_types.specs.Cells.{Cell}
+use Rattle.orc_types.specs.Shapes.{Shape}
+use Rattle.orc_columns.specs.Starting.{AreStreams}
+use Rattle.orc_columns.specs.Stripe.{Streams, IsColumn, has_dictionary}
+use Rattle.orc_columns.specs.declared.fault.StreamKind.{StreamKind}
+use Rattle.orc_columns.specs.declared.fault.StreamKind.TheVariants.{Present}
+use Rattle.orc_columns.specs.declared.fault.StripeFault.{StripeFault}
+use Rattle.orc_columns.specs.declared.starting.ColumnStreams.{ColumnStreams}
+use Rattle.orc_index.specs.Bounds.{bound_at, AreBounds, before_group}
+use Rattle.orc_index.specs.Places.{PlacesIn, AreReadPlaces, begins}
+use Rattle.orc_index.specs.RunStreams.{RunStream, present_runs, own_octets}
+use Rattle.orc_index.specs.Walking.{runs, lent_bytes, ArePlaced, AreCounted}
+use Rattle.orc_index.specs.declared.counts.Counts.{Counts}
+use Rattle.orc_index.specs.declared.placed.PlacedStreams.{PlacedStreams}
+use Rattle.orc_index.proofs.Groups.{bound_up, pushed_get}
+use Rattle.orc_positions.specs.ColumnTables.{FailsIn, ColumnFails, kind_of_own}
+use Rattle.orc_positions.specs.Decided.{Decides, AreDecided}
+
+-- In front of a group: the entries before it are decided, and so many cells come before the place that was counted to.
+pub record Going (s : Shape) (streams : ColumnStreams) (cells : List Cell) (bounds : List ℕ) (entries : List RowIndexEntry) (group at : ℕ) (right : List Bool) (counts : Counts) : Type 0 where
+  pub begun : at ≤ bound_at (length cells) bounds group
+  pub long : length right ≡ group
+  pub counted : AreCounted counts (take at cells)
+  pub each : (x : Streams) → AreStreams x streams → IsColumn s x cells → (g : ℕ) (entry : RowIndexEntry) (b : Bool) → slice_get entries g ≡ Some entry → slice_get right g ≡ Some b
+      → Decides s x cells bounds g entry.positions b
+
+pub going_none : (s : Shape) (streams : ColumnStreams) (cells : List Cell) (bounds : List ℕ) (entries : List RowIndexEntry) (k : Counts) → (k.cells ≡ 0) × (k.values ≡ 0) × (k.octets ≡ 0)
+    → Going s streams cells bounds entries 0 0 [] k
+going_none s streams cells bounds entries k zeros = record {
+  begun = omega arith;
+  long = refl;
+  counted = record { cells_are = zeros.0; values_are = zeros.1; octets_are = omega (arith, zeros.2) };
+  each = λ x is column g entry b there at. absurd cc;
+}
+
+-- what is said of the streams that are walked is said of the column's
+decided_in : (s : Shape) (x : Streams) (placed : PlacedStreams) (before : List Cell) (ps : List ℕ) (b : Bool) → ArePlaced s x placed
+    → MatchBool b (PlacesIn begins BeginsBits (runs placed.present) (lent_bytes placed.content) (runs placed.own) before ps)
+    (PlacesIn begins BeginsBits (runs placed.present) (lent_bytes placed.content) (runs placed.own) before ps → ⊥)
+    → MatchBool b (AreReadPlaces s x before ps) (AreReadPlaces s x before ps → ⊥)
+decided_in s x placed before ps b are h =
+    subst (λ (y : RunStream). MatchBool b (PlacesIn begins BeginsBits (present_runs (x.stream 0)) (own_octets s x) y before ps) (PlacesIn begins BeginsBits (present_runs (x.stream 0)) (own_octets s x) y before ps → ⊥)) are.own_is
+    (subst (λ (y : Option (List ℕ)). MatchBool b (PlacesIn begins BeginsBits (present_runs (x.stream 0)) y (runs placed.own) before ps) (PlacesIn begins BeginsBits (present_runs (x.stream 0)) y (runs placed.own) before ps → ⊥)) are.content_is
+    (subst (λ (y : RunStream). MatchBool b (PlacesIn begins BeginsBits y (lent_bytes placed.content) (runs placed.own) before ps) (PlacesIn begins BeginsBits y (lent_bytes placed.content) (runs placed.own) before ps → ⊥)) are.present_is h))
+
+pub group_decided : (s : Shape) (x : Streams) (placed : PlacedStreams) (cells : List Cell) (bounds : List ℕ) (group start : ℕ) (ps : List ℕ) (b : Bool) → ArePlaced s x placed → start ≡ bound_at (length cells) bounds group
+    → MatchBool b (PlacesIn begins BeginsBits (runs placed.present) (lent_bytes placed.content) (runs placed.own) (take start cells) ps)
+    (PlacesIn begins BeginsBits (runs placed.present) (lent_bytes placed.content) (runs placed.own) (take start cells) ps → ⊥)
+    → Decides s x cells bounds group ps b
+group_decided s x placed cells bounds group start ps b are at h =
+    subst (λ (n : ℕ). MatchBool b (AreReadPlaces s x (take n cells) ps) (AreReadPlaces s x (take n cells) ps → ⊥)) at (decided_in s x placed (take start cells) ps b are h)
+
+same_entry : (a b : RowIndexEntry) → Some a ≡ Some b → a ≡ b
+same_entry a b e = cc
+
+pub going_more : (s : Shape) (streams : ColumnStreams) (cells : List Cell) (bounds : List ℕ) (entries : List RowIndexEntry) (group at start : ℕ) (right : List Bool) (k m : Counts) (entry : RowIndexEntry) (b : Bool)
+    → AreBounds (length cells) bounds → Going s streams cells bounds entries group at right k → start ≡ bound_at (length cells) bounds group → AreCounted m (take start cells) → slice_get entries group ≡ Some entry
+    → ((x : Streams) → AreStreams x streams → IsColumn s x cells → Decides s x cells bounds group entry.positions b) → Going s streams cells bounds entries (group + 1) start (right ++ b ∷ []) m
+going_more s streams cells bounds entries group at start right k m entry b rise h st counted there last = record {
+  begun = omega (arith, bound_up (length cells) bounds group rise, st);
+  long = length-append right (b ∷ []) ∙ ap (λ (n : ℕ). n + 1) h.long;
+  counted = counted;
+  each = λ x is column g e c met found. elim (pushed_get right b g c found) [
+    | inl old ↦ h.each x is column g e c met old
+    | inr new ↦
+        let here : group ≡ g = sym h.long ∙ sym new.0 in
+        let same : entry ≡ e = same_entry entry e (sym there ∙ ap (slice_get entries) here ∙ met) in
+        subst (λ (d : Bool). Decides s x cells bounds g e.positions d) new.1
+        (subst (λ (y : RowIndexEntry). Decides s x cells bounds g y.positions b) same
+        (subst (λ (n : ℕ). Decides s x cells bounds n entry.positions b) here (last x is column)))
+  ];
+}
+
+pub going_end : (s : Shape) (streams : ColumnStreams) (cells : List Cell) (bounds : List ℕ) (entries : List RowIndexEntry) (group at : ℕ) (right : List Bool) (k : Counts) (x : Streams)
+    → Going s streams cells bounds entries group at right k → group ≡ length entries → AreStreams x streams → IsColumn s x cells → AreDecided s x cells bounds entries right
+going_end s streams cells bounds entries group at right k x h all is column = record { counted = h.long ∙ all; each = h.each x is column }
+
+-- ---- streams that are none of runs
+
+pub fails_in : (s : Shape) (x : Streams) (placed : PlacedStreams) (column : ℕ) (kind : StreamKind) (f : StripeFault) → ArePlaced s x placed → kind ≡ kind_of_own s (has_dictionary x)
+    → FailsIn column Present (runs placed.present) f ⊎ FailsIn column kind (runs placed.own) f → ColumnFails s x column f
+fails_in s x placed column kind f are k (inl h) = inl (subst (λ (y : RunStream). FailsIn column Present y f) are.present_is h)
+fails_in s x placed column kind f are k (inr h) = inr (subst (λ (y : RunStream). FailsIn column (kind_of_own s (has_dictionary x)) y f) are.own_is (subst (λ (y : StreamKind). FailsIn column y (runs placed.own) f) k h))

@@ -1,0 +1,4 @@
+mod TableLemmas
+mod ColumnLemmas
+mod FewValues
+mod Entries

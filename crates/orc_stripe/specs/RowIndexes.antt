@@ -1,0 +1,68 @@
+-- The row index of a column in a stripe's bytes, as it is read (ORC specification, "Row Group Index", "Stripe Footer").
+use Rattle.std.specs.Prelude.{◌≡◌, ◌≢◌, ℕ, ◌<◌, Bool, true, false, List, length, ◌⊎◌}
+use Rattle.orc_wire.specs.declared.row_index.RowIndexMsg.{RowIndexMsg}
+use Rattle.orc_wire.specs.declared.stripe_footer.StripeFooter.{StripeFooter}
+use Rattle.orc_wire.specs.Messages.{row_index}
+use Rattle.orc_wire.specs.Spells.{Spells, Faults}
+use Rattle.orc_types.specs.Cells.{Cell}
+use Rattle.orc_types.specs.Columns.{cells}
+use Rattle.orc_types.specs.Shapes.{shape_at}
+use Rattle.orc_columns.specs.Directory.{has_stream, slice}
+use Rattle.orc_columns.specs.Stripe.{IsStripe, columns_of}
+use Rattle.orc_columns.specs.declared.fault.Spot.TheVariants as spot
+use Rattle.orc_columns.specs.declared.fault.StripeFault.{StripeFault}
+use Rattle.orc_columns.specs.declared.fault.StripeFault.TheVariants as fault
+use Rattle.orc_positions.specs.ColumnTables.{ColumnFails}
+use Rattle.orc_positions.specs.Decided.{AreDecided}
+use Rattle.orc_written.specs.Groups.{group_count, starts, bounds_of}
+use Rattle.orc_stripe.specs.Opened.{Opened}
+
+-- the bytes of column c's ROW_INDEX
+abbrev pub index_text : StripeFooter → List ℕ → ℕ → List ℕ
+index_text footer bytes c = slice c 6 footer.streams bytes
+
+-- the directory lists an index of column c, and its bytes are this message
+abbrev pub HasIndex : StripeFooter → List ℕ → ℕ → RowIndexMsg → Type 0
+HasIndex footer bytes c message = (has_stream c 6 footer.streams ≡ true) × Spells row_index 0 0 (index_text footer bytes c) message
+
+-- why a column has no index
+abbrev pub IndexFault : Opened → ℕ → StripeFault → Type 0
+IndexFault view c (fault.NoIndex spot.Stripe) = view.stride ≡ 0
+IndexFault view c (fault.NoIndex (spot.Column column)) = (0 < view.stride) × (column ≡ c) × (has_stream c 6 view.footer.streams ≡ false)
+IndexFault view c (fault.NoIndex (spot.Stream column stream)) = ⊥
+IndexFault view c (fault.Wire wire) =
+    (0 < view.stride) × (has_stream c 6 view.footer.streams ≡ true) × Faults row_index 0 0 (index_text view.footer view.bytes c) wire
+IndexFault view c fault.OutOfMemory = Unit {0}
+IndexFault view c fault.BadDirectory = ⊥
+IndexFault view c (fault.BadEncoding column) = ⊥
+IndexFault view c (fault.Run column stream run) = ⊥
+IndexFault view c (fault.NotUtf8 column stream) = ⊥
+IndexFault view c (fault.BadIndex column) = ⊥
+IndexFault view c (fault.LengthSum column stream) = ⊥
+IndexFault view c (fault.BadPosition spot) = ⊥
+IndexFault view c (fault.TooMany column) = ⊥
+IndexFault view c (fault.OutOfRange column) = ⊥
+IndexFault view c fault.Failed = ⊥
+
+-- the index has an entry for each group of so many rows
+abbrev pub IsWhole : Opened → ℕ → RowIndexMsg → Type 0
+IsWhole view rows message = length message.entries ≡ group_count view.stride rows
+
+-- each entry has a truth value that says whether its positions are those behind the column's cells of the rows before its group
+abbrev pub ArePositionsDecided : Opened → ℕ → List Cell → RowIndexMsg → List Bool → Type 0
+ArePositionsDecided view c rows message right =
+    AreDecided (shape_at view.schema c) (columns_of view.footer view.bytes c) (cells view.schema c rows) (bounds_of view.schema c rows (starts view.stride (length rows)))
+    message.entries right
+
+-- an index that has another number of entries
+abbrev pub HasOtherEntries : Opened → ℕ → ℕ → StripeFault → Type 0
+HasOtherEntries view c rows f =
+    (f ≡ fault.BadPosition (spot.Column c)) × (message : RowIndexMsg) × HasIndex view.footer view.bytes c message × (IsWhole view rows message → ⊥)
+
+-- rows that the stripe hasn't, in whose place a fault of a stream's runs was met
+abbrev pub HasOtherRows : Opened → ℕ → List Cell → StripeFault → Type 0
+HasOtherRows view c rows f = (IsStripe view.schema view.info view.bytes rows → ⊥) × ColumnFails (shape_at view.schema c) (columns_of view.footer view.bytes c) c f
+
+-- why positions of a column's index aren't told right from wrong over rows
+abbrev pub PositionsFault : Opened → ℕ → List Cell → StripeFault → Type 0
+PositionsFault view c rows f = IndexFault view c f ⊎ (HasOtherEntries view c (length rows) f ⊎ HasOtherRows view c rows f)
