@@ -1,0 +1,22 @@
+use Rattle.std.proofs.Common.{ℕ, drop, refl, subst}
+use Rattle.orc_seek.specs.BitPosition.{BitsLeft}
+use Rattle.orc_entering.proofs.EnteredBits.{bits_there, bits_not_refused, held_left, none_left, some_left}
+use Rattle.orc_entering.proofs.bits.bits_at.Goals as goal
+
+pub returns-in-Err-clause-enters : goal.returns-in-Err-clause-enters
+returns-in-Err-clause-enters c = λ other all n b stream agree.
+    bits_not_refused c.args.bytes.now other all c.args.pos.offset c.args.pos.skip c.args.pos.bits n b stream agree (λ at left s. let k = (c.in-Err.ensures.only at left s).0 in cc)
+
+pub returns-in-Some-clause-enters : goal.returns-in-Some-clause-enters
+returns-in-Some-clause-enters c = λ other all n b stream agree.
+    let left = c.seek.new.run.values in
+    held_left _ left (drop c.in-Ok.at c.args.bytes.now) c.args.pos.bits (drop n all) c.in-Ok.ensures.found.0 c.in-Some.ensures.there refl refl refl
+    (bits_there c.args.bytes.now other all left c.args.pos.offset c.args.pos.skip c.args.pos.bits n c.in-Ok.at b stream agree c.in-Ok.ensures.found)
+
+pub returns-in-None-clause-enters : goal.returns-in-None-clause-enters
+returns-in-None-clause-enters c = λ other all n b stream agree.
+    let left = c.seek.new.run.values in
+    let rest = drop c.in-Ok.at c.args.bytes.now in
+    let none = some_left c.args.bytes.now left c.args.pos.offset c.args.pos.skip c.args.pos.bits c.in-Ok.at c.in-None.ensures.none c.in-Ok.ensures.found in
+    none_left _ left rest (drop n all) c.in-None.ensures.none refl refl refl
+    (subst (λ (k : ℕ). BitsLeft left rest k (drop n all)) none (bits_there c.args.bytes.now other all left c.args.pos.offset c.args.pos.skip c.args.pos.bits n c.in-Ok.at b stream agree c.in-Ok.ensures.found))

@@ -1,0 +1,14 @@
+use Rattle.orc_columns.specs.Numbers.{is_run}
+use Rattle.orc_columns.proofs.NumbersLemmas.{laws_of}
+use Rattle.orc_entering.proofs.Entered.{left_there, not_refused}
+use Rattle.orc_entering.proofs.numbers.numbers_at.Goals as goal
+
+pub returns-in-Ok-clause-enters : goal.returns-in-Ok-clause-enters
+returns-in-Ok-clause-enters c = λ other all n b stream agree.
+    let law = laws_of c.args.version c.args.sign in
+    left_there (is_run c.args.version c.args.sign) law.one law.some c.args.bytes.now other all c.seek.new.run.values c.args.pos.offset c.args.pos.skip n c.in-Ok.at b stream agree c.in-Ok.ensures.found
+
+pub returns-clause-enters : goal.returns-clause-enters
+returns-clause-enters c = λ other all n b stream agree.
+    let law = laws_of c.args.version c.args.sign in
+    not_refused (is_run c.args.version c.args.sign) law.one law.some c.args.bytes.now other all c.args.pos.offset c.args.pos.skip n b stream agree (λ at left s. let k = (c.in-Err.ensures.only at left s).0 in cc)

@@ -1,0 +1,62 @@
+//! Booleans from a position on.
+ghost use Rattle.std.specs.Prelude.{◌≡◌, ◌-◌, ◌≤◌, [], length, drop, slice_get, Some, IfOk, IfErr, IfNone, IfSome, MatchResult};
+ghost use Rattle.orc_rle.specs.Seeking.{SeeksBits, BitSeekFails};
+ghost use Rattle.orc_columns.specs.Bits.{BitsLeft};
+ghost use Rattle.orc_entering.specs.Entering.{EntersBits};
+
+use orc_columns::bits::Bits;
+use orc_columns::bytes::Bytes;
+use orc_rle::{BitPos, BitRuns, RunFault, RunU8};
+
+/// The byte that comes next.
+fn next_byte(run: &RunU8) -> Option<u8>
+    ensures there { IfSome result (λ byte. slice_get run.now.values 0 ≡ Some byte) }
+    ensures none { IfNone result (run.now.values ≡ []) }
+{
+    match run.values() {
+        [first, ..] => Some(*first),
+        [] => None,
+    }
+}
+
+/// A stream of booleans from a position on: the position's run of bytes is decoded, and nothing before it.
+///
+/// Refusals: those of `BitRuns::seek`. Bytes that are a right stream from the offset on, in which the position
+/// names a boolean, are never refused.
+pub fn bits_at(bytes: &[u8], pos: BitPos) -> Result<Bits<'_>, RunFault>
+    ensures enters { MatchResult result (λ found. EntersBits bytes.now pos.offset pos.skip pos.bits (BitsLeft found))
+        (λ _. EntersBits bytes.now pos.offset pos.skip pos.bits (λ _. ⊥)) }
+    ensures found { IfOk result (λ found. SeeksBits bytes.now pos.offset pos.skip pos.bits found.bytes.at found.bytes.run.values) }
+    ensures fault { IfErr result (BitSeekFails bytes.now pos.offset pos.skip pos.bits) }
+{
+    let mut run = RunU8::new();
+    let at = match BitRuns::seek(bytes, pos, &mut run) {
+        Ok(at) => at,
+        Err(fault) => return Err(fault),
+    };
+    // the byte in which the position stands is held, without the digits that are passed
+    match next_byte(&run) {
+        Some(byte) => Ok(Bits {
+            bytes: Bytes {
+                bytes,
+                at,
+                start: pos.offset,
+                run,
+                used: 1,
+            },
+            held: byte,
+            left: 8 - pos.bits as u32,
+        }),
+        None => Ok(Bits {
+            bytes: Bytes {
+                bytes,
+                at,
+                start: pos.offset,
+                run,
+                used: 0,
+            },
+            held: 0,
+            left: 0,
+        }),
+    }
+}
