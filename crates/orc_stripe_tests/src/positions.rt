@@ -145,6 +145,9 @@ fn stripe_of(
 fn right_in(alloc: Global, case: &Case, last: &[&[u64]]) -> Result<Vec<bool>, StripeFault> {
     let (text, stride, rows, data, firsts, _, _) = case;
     let schema = schema_of(alloc, text)?;
+    if schema.width() < 2 {
+        return Err(StripeFault::BadDirectory);
+    }
     let index = index_text(alloc, firsts, last)?;
     let (info, bytes) = stripe_of(alloc, &index, data, *rows)?;
     let view = StripeView::open(alloc, &schema, info, *stride, &bytes)?;
@@ -197,6 +200,9 @@ fn check_missing(rt: &impl Abort, alloc: Global) -> Result<(), StripeFault> {
     let (info, bytes) = stripe_of(alloc, &index, &[0x00, 0x00, 0x0e], 3)?;
     for (stride, column, spot) in [(0, 1, Spot::Stripe), (3, 0, Spot::Column(0))] {
         let view = StripeView::open(alloc, &schema, info, stride, &bytes)?;
+        if column >= schema.width() {
+            return Err(StripeFault::BadDirectory);
+        }
         let wanted = Some(StripeFault::NoIndex(spot));
         assert!(rt; view.index(alloc, column).err() == wanted);
         match view.positions_right(alloc, column) {
