@@ -19,3 +19,4 @@ pub mod FaultLemmas
 pub mod NeverFailed
 pub mod DirectoryLemmas
 pub mod LocatedLemmas
+pub mod ByNumber

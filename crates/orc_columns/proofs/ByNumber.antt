@@ -20,7 +20,7 @@ all-append : {X : Type 0} (P : X → Type 0) (a b : List X) → AllByRecursion P
 all-append P [] b h k = k
 all-append P (x ∷ a) b h k = (h.0, all-append P a b h.1 k)
 
-all-front : {X : Type 0} (P : X → Type 0) (a b : List X) → AllByRecursion P (a ++ b) → AllByRecursion P a × AllByRecursion P b
+pub all-front : {X : Type 0} (P : X → Type 0) (a b : List X) → AllByRecursion P (a ++ b) → AllByRecursion P a × AllByRecursion P b
 all-front P [] b h = (tt, h)
 all-front P (x ∷ a) b h = let k = all-front P a b h.1 in ((h.0, k.0), k.1)
 
@@ -121,11 +121,11 @@ lists_of s o (g ∷ groups) (v ∷ vs) h f =
     }
 
 -- values that fit a list's type are lists
-record AreLists (s : Shape) (vs : List Cell) : Type 0 where
-  stand : AllStand IsList (map parts vs) vs
-  fit : RowsFit s (joined (map parts vs))
+pub record AreLists (s : Shape) (vs : List Cell) : Type 0 where
+  pub stand : AllStand IsList (map parts vs) vs
+  pub fit : RowsFit s (joined (map parts vs))
 
-are_lists : (s : Shape) (o : List ℕ) (cs : List Cell) → RowsFit (list_of s o) cs → AreLists s (values cs)
+pub are_lists : (s : Shape) (o : List ℕ) (cs : List Cell) → RowsFit (list_of s o) cs → AreLists s (values cs)
 are_lists s o [] h = record { stand = tt; fit = tt }
 are_lists s o (null ∷ cs) h = are_lists s o cs h.1
 are_lists s o (leaf x ∷ cs) h = let k = h.0 in cc
@@ -134,11 +134,11 @@ are_lists s o (list x ∷ cs) h =
     let r = are_lists s o cs h.1 in
     record { stand = (ap list (sym (cells_of-list_of_cells x)), r.stand); fit = all-append (λ c. fits c s ≡ true) (list_of_cells x) (joined (map parts (values cs))) (fit_of_all s x h.0) r.fit }
 
-joined_parts : (vs : List Cell) → joined (map parts vs) ≡ flat_map parts vs
+pub joined_parts : (vs : List Cell) → joined (map parts vs) ≡ flat_map parts vs
 joined_parts [] = refl
 joined_parts (v ∷ vs) = ap (λ t. parts v ++ t) (joined_parts vs)
 
-map_sizes : (vs : List Cell) → map size (map parts vs) ≡ map (λ v. size (parts v)) vs
+pub map_sizes : (vs : List Cell) → map size (map parts vs) ≡ map (λ v. size (parts v)) vs
 map_sizes [] = refl
 map_sizes (v ∷ vs) = ap (λ t. size (parts v) ∷ t) (map_sizes vs)
 
@@ -181,11 +181,11 @@ records_of fs o (g ∷ structs) (v ∷ vs) h f =
     let p : parts v ≡ g = ap parts h.0 ∙ list_of_cells-cells_of g in
     record { fit = (ap (λ c. fits c (struct_of fs o)) h.0 ∙ f.0, r.fit); are = ap (λ t. t ∷ map parts vs) p ∙ ap (λ t. g ∷ t) r.are }
 
-record AreRecords (fs : Fields) (vs : List Cell) : Type 0 where
-  stand : AllStand IsRecord (map parts vs) vs
-  fit : FieldsFit fs (map parts vs)
+pub record AreRecords (fs : Fields) (vs : List Cell) : Type 0 where
+  pub stand : AllStand IsRecord (map parts vs) vs
+  pub fit : FieldsFit fs (map parts vs)
 
-are_records : (fs : Fields) (o : List ℕ) (cs : List Cell) → RowsFit (struct_of fs o) cs → AreRecords fs (values cs)
+pub are_records : (fs : Fields) (o : List ℕ) (cs : List Cell) → RowsFit (struct_of fs o) cs → AreRecords fs (values cs)
 are_records fs o [] h = record { stand = tt; fit = tt }
 are_records fs o (null ∷ cs) h = are_records fs o cs h.1
 are_records fs o (leaf x ∷ cs) h = let k = h.0 in cc
@@ -285,13 +285,13 @@ wide (struct_of fs o) = omega arith
 few_cells : (s : Shape) (x : ℕ → Streams) (n : ℕ) (rows : List Cell) → SpellRows s x n rows → length rows < 2 ^ 31
 few_cells s x n rows r = omega (arith, ap length (first_cells s rows), (r.column 0 (wide s)).few)
 
-record Split (s : Shape) (fs : Fields) (structs : List (List Cell)) : Type 0 where
-  heads : RowsFit s (flat_map (take 1) structs)
-  tails : FieldsFit fs (map (drop 1) structs)
-  alike : length (flat_map (take 1) structs) ≡ length (map (drop 1) structs)
-  parts : structs ≡ zip_cons (flat_map (take 1) structs) (map (drop 1) structs)
+pub record Split (s : Shape) (fs : Fields) (structs : List (List Cell)) : Type 0 where
+  pub heads : RowsFit s (flat_map (take 1) structs)
+  pub tails : FieldsFit fs (map (drop 1) structs)
+  pub alike : length (flat_map (take 1) structs) ≡ length (map (drop 1) structs)
+  pub parts : structs ≡ zip_cons (flat_map (take 1) structs) (map (drop 1) structs)
 
-split : (name : List ℕ) (s : Shape) (fs : Fields) (structs : List (List Cell)) → FieldsFit (field name s fs) structs → Split s fs structs
+pub split : (name : List ℕ) (s : Shape) (fs : Fields) (structs : List (List Cell)) → FieldsFit (field name s fs) structs → Split s fs structs
 split name s fs [] h = record { heads = tt; tails = tt; alike = refl; parts = refl }
 split name s fs ([] ∷ structs) h = let k = h.0 in cc
 split name s fs ((c ∷ f) ∷ structs) h =
@@ -313,7 +313,7 @@ other_column name s fs x structs all c lt =
     let e : width s + c - width s ≡ c = omega arith in
     rw (t, e) at k
 
-fit_empty : (structs : List (List Cell)) → FieldsFit no_field structs → AllByRecursion (λ cs. cs ≡ []) structs
+pub fit_empty : (structs : List (List Cell)) → FieldsFit no_field structs → AllByRecursion (λ cs. cs ≡ []) structs
 fit_empty [] h = tt
 fit_empty ([] ∷ structs) h = (refl, fit_empty structs h.1)
 fit_empty ((c ∷ f) ∷ structs) h = let k = h.0 in cc
