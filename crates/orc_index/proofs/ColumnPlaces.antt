@@ -36,7 +36,7 @@ counted_more k m front cs h c v o = record {
 
 -- ---- a column's streams have the values that its cells have
 
-octets_of_values : (cs : List Cell) → octets (values cs) ≡ octets cs
+pub octets_of_values : (cs : List Cell) → octets (values cs) ≡ octets cs
 octets_of_values [] = refl
 octets_of_values (null ∷ cs) = octets_of_values cs ∙ sym (sum_by-cons octets_in null cs ∙ zero-add (octets cs))
 octets_of_values (leaf a ∷ cs) = sum_by-cons octets_in (leaf a) (values cs) ∙ ap (λ (n : ℕ). octets_in (leaf a) + n) (octets_of_values cs) ∙ sym (sum_by-cons octets_in (leaf a) cs)

@@ -3,3 +3,4 @@ pub mod ColumnPlaces
 pub mod Groups
 pub mod StatWhole
 pub mod WrittenIndex
+pub mod PositionParts

@@ -32,6 +32,13 @@ StreamPlace run bit (bit_runs stream) n positions = BitPlace (bit stream n) n po
 StreamPlace run bit (byte_runs stream) n positions = RunPlace (run ℕ IsByteRun stream) n positions
 StreamPlace run bit (number_runs version sign stream) n positions = RunPlace (run ℤ (is_run version sign) stream) n positions
 
+-- how many numbers a position of the stream has
+abbrev pub position_size : RunStream → ℕ
+position_size no_stream = 0
+position_size (bit_runs stream) = 3
+position_size (byte_runs stream) = 2
+position_size (number_runs version sign stream) = 2
+
 -- how many bytes a text has, or a byte string
 abbrev pub octets_in : Cell → ℕ
 octets_in null = 0
@@ -51,6 +58,10 @@ octets cells = sum_by octets_in cells
 abbrev pub octets_place : Option (List ℕ) → ℕ → List ℕ
 octets_place None n = []
 octets_place (Some stream) n = n ∷ []
+
+abbrev pub octets_size : Option (List ℕ) → ℕ
+octets_size None = 0
+octets_size (Some stream) = 1
 
 -- Positions of PRESENT, which count all the cells; of bytes as they are; and of the runs beside PRESENT, which count those that are not null.
 pub record PlacesIn (run : RunRelation) (bit : BitRelation) (present : RunStream) (content : Option (List ℕ)) (own : RunStream) (before : List Cell) (positions : List ℕ) : Type 0 where
@@ -73,6 +84,11 @@ is_place A is_run stream offset skip n = IsPlace is_run stream offset skip n
 -- those from which a reader goes on with the cells that come then
 abbrev pub AreReadPlaces : Shape → Streams → List Cell → List ℕ → Type 0
 AreReadPlaces s x before positions = ArePlacesBy begins BeginsBits s x before positions
+
+-- the positions behind those of PRESENT
+abbrev pub OwnPlaces : Option (List ℕ) → RunStream → List Cell → List ℕ → Type 0
+OwnPlaces content own before positions =
+    (last : List ℕ) × (positions ≡ octets_place content (octets before) ++ last) × StreamPlace begins BeginsBits own (length (values before)) last
 
 -- those that a writer gives
 abbrev pub AreWrittenPlaces : Shape → Streams → List Cell → List ℕ → Type 0

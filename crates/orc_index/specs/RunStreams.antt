@@ -7,6 +7,8 @@ use Rattle.orc_types.specs.declared.kind.Scalar.{Scalar}
 use Rattle.orc_types.specs.declared.kind.Scalar.TheVariants as kind
 use Rattle.orc_columns.specs.declared.version.Version.{Version}
 use Rattle.orc_columns.specs.Stripe.{Streams, version, has_dictionary}
+use Rattle.orc_columns.specs.declared.fault.StreamKind.{StreamKind}
+use Rattle.orc_columns.specs.declared.fault.StreamKind.TheVariants as stream
 
 -- a stream of runs, by what they are of; a column may lack it
 pub data RunStream : Type 0 where
@@ -40,6 +42,26 @@ abbrev pub own_runs : Shape → Streams → RunStream
 own_runs (scalar k o) x = scalar_runs k x
 own_runs (list_of s o) x = number_runs (version x) Unsigned (x.stream 2)
 own_runs (struct_of fs o) x = no_stream
+
+abbrev pub kind_of_texts : Bool → StreamKind
+kind_of_texts true = stream.Data
+kind_of_texts false = stream.Length
+
+abbrev pub kind_of_scalar : Scalar → Bool → StreamKind
+kind_of_scalar kind.Boolean d = stream.Data
+kind_of_scalar kind.Byte d = stream.Data
+kind_of_scalar kind.Short d = stream.Data
+kind_of_scalar kind.Int d = stream.Data
+kind_of_scalar kind.Long d = stream.Data
+kind_of_scalar kind.Date d = stream.Data
+kind_of_scalar kind.Binary d = stream.Length
+kind_of_scalar kind.String d = kind_of_texts d
+
+-- which stream has the runs beside PRESENT
+abbrev pub kind_of_own : Shape → Bool → StreamKind
+kind_of_own (scalar k o) d = kind_of_scalar k d
+kind_of_own (list_of s o) d = stream.Length
+kind_of_own (struct_of fs o) d = stream.Data
 
 abbrev pub text_octets : Bool → Streams → Option (List ℕ)
 text_octets true x = None

@@ -17,6 +17,6 @@ pub use bounds::{element_bounds, field_bounds};
 pub use counting::counted;
 pub use counts::Counts;
 pub use laws::index_laws;
-pub use placed::{PlacedStreams, placed_streams};
+pub use placed::{PlacedStreams, own_kind, placed_streams};
 pub use row_index::put_index;
 pub use run_bytes::RunBytes;

@@ -6,12 +6,13 @@ ghost use Rattle.orc_types.specs.Views.{shape};
 ghost use Rattle.orc_columns.specs.Starting.{AreStreams};
 ghost use Rattle.orc_columns.specs.Stripe.{Streams};
 ghost use Rattle.orc_index.specs.Places.{PlacesIn, octets_place, is_place, Adds};
-ghost use Rattle.orc_index.specs.RunStreams.{present_runs, scalar_runs, text_runs, scalar_octets, text_octets};
+ghost use Rattle.orc_index.specs.RunStreams.{kind_of_own, present_runs, scalar_runs, text_runs, scalar_octets, text_octets};
 ghost use Rattle.orc_index.specs.Walking.{runs, lent_bytes, most, ArePlaced, AreCounted, HasOctets, HavePlaces, WalkedBefore};
 
 use crate::counts::Counts;
 use crate::run_bytes::{RunBytes, put_place};
 use crate::walk::Walk;
+use orc_columns::fault::StreamKind;
 use orc_columns::starting::ColumnStreams;
 use orc_rle::Sign;
 use orc_types::{Scalar, Tree};
@@ -107,6 +108,25 @@ pub fn placed_streams<'a>(tree: &Tree, streams: &ColumnStreams<'a>) -> PlacedStr
             content: None,
             own: RunBytes::Nothing,
         },
+    }
+}
+
+/// Which stream has the runs beside PRESENT.
+pub fn own_kind(tree: &Tree, has_dictionary: bool) -> StreamKind
+    ensures { result ≡ kind_of_own (shape tree.now) has_dictionary }
+{
+    match tree {
+        Tree::Scalar(Scalar::String, _) => {
+            if has_dictionary {
+                StreamKind::Data
+            } else {
+                StreamKind::Length
+            }
+        }
+        Tree::Scalar(Scalar::Binary, _) => StreamKind::Length,
+        Tree::Scalar(_, _) => StreamKind::Data,
+        Tree::List(_, _) => StreamKind::Length,
+        Tree::Struct(_, _) => StreamKind::Data,
     }
 }
 

@@ -3,7 +3,7 @@ ghost use Rattle.std.specs.Prelude.{◌≡◌, ◌-◌, ◌≤◌, ◌++◌, [],
 ghost use Rattle.orc_seek.specs.Position.{Begins, IsPlace, HasValues};
 ghost use Rattle.orc_seek.specs.BitPosition.{IsBitPlace};
 ghost use Rattle.orc_columns.specs.Numbers.{is_run};
-ghost use Rattle.orc_index.specs.Places.{StreamPlace, is_place, Adds};
+ghost use Rattle.orc_index.specs.Places.{StreamPlace, is_place, Adds, position_size};
 ghost use Rattle.orc_index.specs.Walking.{runs, HasPlace, BeginsBefore};
 
 use orc_columns::version::Version;
@@ -22,6 +22,20 @@ pub enum RunBytes<'a> {
     Bytes(&'a [u8]),
     /// Integers of a version, with or without a sign.
     Numbers(Version, Sign, &'a [u8]),
+}
+
+impl RunBytes<'_> {
+    /// How many numbers a position has (ORC specification, "Row Group Index").
+    pub fn position_size(&self) -> usize
+        ensures { result ≡ position_size (runs self.now) }
+    {
+        match self {
+            RunBytes::Nothing => 0,
+            RunBytes::Bits(_) => 3,
+            RunBytes::Bytes(_) => 2,
+            RunBytes::Numbers(_, _, _) => 2,
+        }
+    }
 }
 
 /// The mark of number `n`, whatever the version.

@@ -2,43 +2,15 @@
 use Rattle.std.specs.Prelude.{MatchBool}
 use Rattle.std.proofs.Common.{◌≡◌, ℕ, ◌<◌, ◌≤◌, Bool, true, false, Option, Some, None, List, [], ◌∷◌, ◌++◌, length, take, drop, get_or, refl, sym, ap, ◌∙◌, subst, arith, length-append}
 use Rattle.std.proofs.lemmas.List.{take-append-drop}
-use Rattle.std.proofs.Math.Seq.{take-append_seam, drop-append_seam}
 use Rattle.orc_seek.specs.BitPosition.{BeginsBits}
 use Rattle.orc_types.specs.Cells.{Cell, values}
-use Rattle.orc_index.specs.Places.{StreamPlace, PlacesIn, octets, octets_place, begins}
+use Rattle.orc_index.specs.Places.{StreamPlace, PlacesIn, OwnPlaces, octets, begins, position_size}
 use Rattle.orc_index.specs.RunStreams.{RunStream}
 use Rattle.orc_index.specs.Walking.{HasPlace, HasOctets}
-use Rattle.orc_positions.specs.ColumnTables.{OwnPlaces}
-use Rattle.orc_positions.specs.Tables.{IsTable, TablePlace, position_size}
+use Rattle.orc_positions.specs.Tables.{IsTable, TablePlace}
 use Rattle.orc_positions.specs.declared.stream_table.StreamTable.{StreamTable}
-use Rattle.orc_positions.proofs.TableLemmas.{match_by, place_named, place_found, place_decided, place_long}
-
-cut_front : (a b : List ℕ) (k : ℕ) → length a ≡ k → take k (a ++ b) ≡ a
-cut_front a b k e = ap (λ (n : ℕ). take n (a ++ b)) (sym e) ∙ take-append_seam a b
-
-cut_back : (a b : List ℕ) (k : ℕ) → length a ≡ k → drop k (a ++ b) ≡ b
-cut_back a b k e = ap (λ (n : ℕ). drop n (a ++ b)) (sym e) ∙ drop-append_seam a b
-
--- in front stand those of PRESENT
-pub places_front : (present : RunStream) (content : Option (List ℕ)) (own : RunStream) (before : List Cell) (ps : List ℕ) (size : ℕ) → size ≡ position_size present → PlacesIn begins BeginsBits present content own before ps
-    → StreamPlace begins BeginsBits present (length before) (take size ps)
-places_front present content own before ps size e h =
-    let long : length h.first ≡ size = place_long present (length before) h.first h.present_place ∙ sym e in
-    let same : h.first ≡ take size ps = sym (ap (take size) h.parts ∙ cut_front h.first (octets_place content (octets before) ++ h.last) size long) in
-    subst (λ (t : List ℕ). StreamPlace begins BeginsBits present (length before) t) same h.present_place
-
--- and behind them the others
-pub places_back : (present : RunStream) (content : Option (List ℕ)) (own : RunStream) (before : List Cell) (ps : List ℕ) (size : ℕ) → size ≡ position_size present → PlacesIn begins BeginsBits present content own before ps
-    → OwnPlaces content own before (drop size ps)
-places_back present content own before ps size e h =
-    let long : length h.first ≡ size = place_long present (length before) h.first h.present_place ∙ sym e in
-    (h.last, ap (drop size) h.parts ∙ cut_back h.first (octets_place content (octets before) ++ h.last) size long, h.own_place)
-
--- they are no fewer than PRESENT has
-pub places_many : (present : RunStream) (content : Option (List ℕ)) (own : RunStream) (before : List Cell) (ps : List ℕ) (size : ℕ) → size ≡ position_size present → PlacesIn begins BeginsBits present content own before ps
-    → size ≤ length ps
-places_many present content own before ps size e h =
-    omega (arith, e, place_long present (length before) h.first h.present_place, ap length h.parts, length-append h.first (octets_place content (octets before) ++ h.last))
+use Rattle.orc_positions.proofs.TableLemmas.{match_by, place_named, place_found, place_decided}
+use Rattle.orc_index.proofs.PositionParts.{places_front, places_back}
 
 -- both parts are the whole
 pub places_whole : (present : RunStream) (content : Option (List ℕ)) (own : RunStream) (before : List Cell) (ps : List ℕ) (size : ℕ) → StreamPlace begins BeginsBits present (length before) (take size ps)

@@ -18,7 +18,8 @@ use Rattle.orc_index.specs.Walking.{runs, lent_bytes, ArePlaced, AreCounted}
 use Rattle.orc_index.specs.declared.counts.Counts.{Counts}
 use Rattle.orc_index.specs.declared.placed.PlacedStreams.{PlacedStreams}
 use Rattle.orc_index.proofs.Groups.{bound_up, pushed_get}
-use Rattle.orc_positions.specs.ColumnTables.{FailsIn, ColumnFails, kind_of_own}
+use Rattle.orc_index.specs.RunStreams.{kind_of_own}
+use Rattle.orc_positions.specs.ColumnTables.{FailsIn, ColumnFails}
 use Rattle.orc_positions.specs.Decided.{Decides, AreDecided}
 
 -- In front of a group: the entries before it are decided, and so many cells come before the place that was counted to.

@@ -10,7 +10,7 @@ use Rattle.orc_columns.proofs.NumbersLemmas.{laws_of, byte_laws}
 use Rattle.orc_index.specs.Places.{StreamPlace, begins}
 use Rattle.orc_index.specs.RunStreams.{RunStream, no_stream, bit_runs, byte_runs, number_runs}
 use Rattle.orc_index.specs.Walking.{HasPlace}
-use Rattle.orc_positions.specs.Tables.{IsTable, TablePlace, position_size}
+use Rattle.orc_positions.specs.Tables.{IsTable, TablePlace}
 use Rattle.orc_positions.specs.declared.stream_table.StreamTable.{StreamTable}
 use Rattle.orc_positions.specs.declared.stream_table.StreamTable.TheVariants as table
 
@@ -72,10 +72,3 @@ place_found (number_runs v sign b) (table.Runs p) n ps is h =
 pub place_decided : (r : RunStream) (t : StreamTable) (n : ℕ) (ps : List ℕ) (b : Bool) → IsTable r t → HasPlace r n → MatchBool b (TablePlace t n ps) (TablePlace t n ps → ⊥)
     → MatchBool b (StreamPlace begins BeginsBits r n ps) (StreamPlace begins BeginsBits r n ps → ⊥)
 place_decided r t n ps b is has h = match_by {P = TablePlace t n ps} {Q = StreamPlace begins BeginsBits r n ps} b (place_named r t n ps is has) (place_found r t n ps is) h
-
--- a position has so many numbers
-pub place_long : (r : RunStream) (n : ℕ) (ps : List ℕ) → StreamPlace begins BeginsBits r n ps → length ps ≡ position_size r
-place_long no_stream n ps h = ap length h
-place_long (bit_runs b) n ps h = ap length h.3
-place_long (byte_runs b) n ps h = ap length h.2
-place_long (number_runs v sign b) n ps h = ap length h.2

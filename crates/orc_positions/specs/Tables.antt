@@ -44,13 +44,6 @@ RunsFail (bit_runs stream) fault = StopsWithin IsByteRun NoByteRun most stream f
 RunsFail (byte_runs stream) fault = StopsWithin IsByteRun NoByteRun most stream fault
 RunsFail (number_runs version sign stream) fault = StopsWithin (is_run version sign) (no_run version sign) most stream fault
 
--- how many numbers a position of the stream has
-abbrev pub position_size : RunStream → ℕ
-position_size no_stream = 0
-position_size (bit_runs stream) = 3
-position_size (byte_runs stream) = 2
-position_size (number_runs version sign stream) = 2
-
 -- the position of value n, as it is looked up
 abbrev pub TablePlace : StreamTable → ℕ → List ℕ → Type 0
 TablePlace table.Nothing n positions = positions ≡ []

@@ -5,16 +5,15 @@ ghost use Rattle.orc_types.specs.Cells.{Cell};
 ghost use Rattle.orc_types.specs.Views.{shape};
 ghost use Rattle.orc_columns.specs.declared.fault.StripeFault.TheVariants.{OutOfMemory};
 ghost use Rattle.orc_columns.specs.declared.fault.StreamKind.TheVariants.{Present};
-ghost use Rattle.orc_index.specs.Places.{PlacesIn, begins};
+ghost use Rattle.orc_index.specs.Places.{PlacesIn, OwnPlaces, begins};
 ghost use Rattle.orc_index.specs.RunStreams.{RunStream};
 ghost use Rattle.orc_index.specs.Walking.{runs, lent_bytes, most, AreCounted, HavePlaces};
 ghost use Rattle.orc_positions.specs.Tables.{IsTable, IsFew};
-ghost use Rattle.orc_positions.specs.ColumnTables.{AreTables, OwnPlaces, FailsIn, kind_of_own};
+ghost use Rattle.orc_positions.specs.ColumnTables.{AreTables, FailsIn};
 
 use crate::stream_table::{StreamTable, table_of};
 use orc_columns::fault::{StreamKind, StripeFault, run_fault};
 use orc_index::{Counts, PlacedStreams, RunBytes};
-use orc_types::{Scalar, Tree};
 use std::alloc::Global;
 
 /// The runs of a column's streams that have positions, and DATA where it has the bytes of texts or byte strings as
@@ -24,25 +23,6 @@ pub(crate) struct ColumnTable<'a> {
     pub(crate) present: StreamTable,
     pub(crate) content: Option<&'a [u8]>,
     pub(crate) own: StreamTable,
-}
-
-/// Which stream has the runs beside PRESENT.
-pub(crate) fn own_kind(tree: &Tree, has_dictionary: bool) -> StreamKind
-    ensures { result ≡ kind_of_own (shape tree.now) has_dictionary }
-{
-    match tree {
-        Tree::Scalar(Scalar::String, _) => {
-            if has_dictionary {
-                StreamKind::Data
-            } else {
-                StreamKind::Length
-            }
-        }
-        Tree::Scalar(Scalar::Binary, _) => StreamKind::Length,
-        Tree::Scalar(_, _) => StreamKind::Data,
-        Tree::List(_, _) => StreamKind::Length,
-        Tree::Struct(_, _) => StreamKind::Data,
-    }
 }
 
 /// The table of one of the column's streams, and where it has none, a fault that names the column and the stream.

@@ -9,10 +9,10 @@ ghost use Rattle.orc_index.specs.Bounds.{AreBounds, bound_at};
 ghost use Rattle.orc_positions.specs.ColumnTables.{ColumnFails};
 ghost use Rattle.orc_positions.specs.Decided.{AreDecided};
 
-use crate::column_table::{own_kind, tables_of};
+use crate::column_table::tables_of;
 use orc_columns::fault::StripeFault;
 use orc_columns::starting::ColumnStreams;
-use orc_index::{Counts, cells_between, counted, placed_streams};
+use orc_index::{Counts, cells_between, counted, own_kind, placed_streams};
 use orc_types::{Lent, Tree};
 use orc_wire::RowIndexEntry;
 use std::alloc::Global;

@@ -8,7 +8,8 @@ ghost use Rattle.orc_columns.specs.RunFaults.{no_run};
 ghost use Rattle.orc_index.specs.Places.{RunPlace, BitPlace};
 ghost use Rattle.orc_index.specs.RunStreams.{RunStream};
 ghost use Rattle.orc_index.specs.Walking.{runs, most};
-ghost use Rattle.orc_positions.specs.Tables.{IsTable, IsFew, RunsFail, TablePlace, position_size};
+ghost use Rattle.orc_index.specs.Places.{position_size};
+ghost use Rattle.orc_positions.specs.Tables.{IsTable, IsFew, RunsFail, TablePlace};
 
 use orc_columns::version::Version;
 use orc_index::RunBytes;

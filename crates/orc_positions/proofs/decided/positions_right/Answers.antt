@@ -11,7 +11,7 @@ use Rattle.orc_index.specs.Places.{PlacesIn, begins}
 use Rattle.orc_index.specs.RunStreams.{RunStream}
 use Rattle.orc_index.specs.Walking.{runs, lent_bytes}
 use Rattle.orc_index.proofs.Groups.{bound_within, lent_long, values_few, counted_to, front_there}
-use Rattle.orc_positions.specs.ColumnTables.{kind_of_own}
+use Rattle.orc_index.specs.RunStreams.{kind_of_own}
 use Rattle.orc_positions.specs.Tables.{IsFew}
 use Rattle.orc_positions.proofs.Entries.{Going, going_none, going_more, going_end, group_decided, fails_in}
 use Rattle.orc_positions.proofs.FewValues.{few_in_present, few_in_own}

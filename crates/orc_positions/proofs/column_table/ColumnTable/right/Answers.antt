@@ -1,6 +1,6 @@
 use Rattle.std.specs.Prelude.{MatchBool}
 use Rattle.std.proofs.Common.{List, ℕ, subst}
-use Rattle.orc_positions.specs.ColumnTables.{OwnPlaces}
+use Rattle.orc_index.specs.Places.{OwnPlaces}
 use Rattle.orc_positions.proofs.ColumnLemmas.{front_found, front_named, places_decided}
 use Rattle.orc_positions.proofs.column_table.ColumnTable.right.Goals as goal
 
