@@ -1,2 +1,11 @@
-mod Entered
-mod EnteredBits
+mod SoughtRuns
+mod SoughtBits
+mod StreamsEntered
+mod ValuesTurned
+mod SomeValues
+mod OwnLemmas
+mod ColumnTurned
+mod ByColumn
+mod AllColumns
+pub mod OnlyMemory
+mod Refused

@@ -1,1 +1,5 @@
 pub mod Entering
+pub mod Streams
+pub mod Columns
+pub mod Rows
+pub mod Refusals

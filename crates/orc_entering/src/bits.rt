@@ -19,7 +19,8 @@ fn next_byte(run: &RunU8) -> Option<u8>
     }
 }
 
-/// A stream of booleans from a position on: the position's run of bytes is decoded, and nothing before it.
+/// A stream of booleans from a position on: the runs of bytes from its offset to the value are decoded, and nothing before
+/// them.
 ///
 /// Refusals: those of `BitRuns::seek`. Bytes that are a right stream from the offset on, in which the position
 /// names a boolean, are never refused.

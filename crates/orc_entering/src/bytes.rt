@@ -8,7 +8,8 @@ ghost use Rattle.orc_entering.specs.Entering.{EntersRuns};
 use orc_columns::bytes::Bytes;
 use orc_rle::{ByteRuns, Pos, RunFault, RunU8};
 
-/// A stream of bytes in runs from a position on: the position's run is decoded, and nothing before it.
+/// A stream of bytes in runs from a position on: the runs from its offset to the value are decoded, and nothing before
+/// them.
 ///
 /// Refusals: those of `ByteRuns::seek`. Bytes that are a right stream from the offset on, in which the position
 /// names a value, are never refused.

@@ -3,8 +3,18 @@
 
 mod bits;
 mod bytes;
+mod entered;
+mod entries;
+mod faults;
+mod marks;
 mod numbers;
+mod octets;
+mod own;
+mod reader;
+mod readers;
+mod source;
 
 pub use bits::bits_at;
 pub use bytes::bytes_at;
 pub use numbers::numbers_at;
+pub use readers::readers_at;

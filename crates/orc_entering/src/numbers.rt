@@ -28,7 +28,7 @@ fn seek(
     }
 }
 
-/// A stream of integers from a position on: the position's run is decoded, and nothing before it.
+/// A stream of integers from a position on: the runs from its offset to the value are decoded, and nothing before them.
 ///
 /// Refusals: those of `seek`. Bytes that are a right stream from the offset on, in which the position names a
 /// value, are never refused.

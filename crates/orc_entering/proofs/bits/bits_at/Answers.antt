@@ -1,6 +1,6 @@
 use Rattle.std.proofs.Common.{ℕ, drop, refl, subst}
 use Rattle.orc_seek.specs.BitPosition.{BitsLeft}
-use Rattle.orc_entering.proofs.EnteredBits.{bits_there, bits_not_refused, held_left, none_left, some_left}
+use Rattle.orc_entering.proofs.SoughtBits.{bits_there, bits_not_refused, held_left, none_left, some_left}
 use Rattle.orc_entering.proofs.bits.bits_at.Goals as goal
 
 pub returns-in-Err-clause-enters : goal.returns-in-Err-clause-enters

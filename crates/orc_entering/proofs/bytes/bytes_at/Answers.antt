@@ -1,6 +1,6 @@
 use Rattle.orc_rle.specs.ByteRun.{IsByteRun}
 use Rattle.orc_columns.proofs.NumbersLemmas.{byte_laws}
-use Rattle.orc_entering.proofs.Entered.{left_there, not_refused}
+use Rattle.orc_entering.proofs.SoughtRuns.{left_there, not_refused}
 use Rattle.orc_entering.proofs.bytes.bytes_at.Goals as goal
 
 pub returns-in-Ok-clause-enters : goal.returns-in-Ok-clause-enters

@@ -1,6 +1,6 @@
 use Rattle.orc_columns.specs.Numbers.{is_run}
 use Rattle.orc_columns.proofs.NumbersLemmas.{laws_of}
-use Rattle.orc_entering.proofs.Entered.{left_there, not_refused}
+use Rattle.orc_entering.proofs.SoughtRuns.{left_there, not_refused}
 use Rattle.orc_entering.proofs.numbers.numbers_at.Goals as goal
 
 pub returns-in-Ok-clause-enters : goal.returns-in-Ok-clause-enters

@@ -1,5 +1,5 @@
 -- A position that is gone to leaves the values from there on.
-use Rattle.std.proofs.Common.{◌≡◌, ℕ, ◌+◌, ◌≤◌, List, length, drop, sym, subst, arith}
+use Rattle.std.proofs.Common.{ℕ, ◌≤◌, List, length, drop, sym, subst, arith}
 use Rattle.orc_rle.specs.Seeking.{Seeks}
 use Rattle.orc_rle.specs.Stream.{IsStream}
 use Rattle.orc_rle.proofs.RunLemmas.{One, Some}

@@ -1,10 +1,10 @@
 -- A position of booleans that is gone to leaves the booleans from there on.
-use Rattle.std.proofs.Common.{◌≡◌, ℕ, zero, suc, ◌+◌, ◌-◌, ◌≤◌, min, Bool, Some, List, [], ◌∷◌, ◌++◌, length, map, drop, slice_get, refl, sym, ap, ◌∙◌, subst, arith, inl, inr, length-drop}
+use Rattle.std.proofs.Common.{◌≡◌, ℕ, zero, suc, ◌-◌, ◌≤◌, Bool, Some, List, [], ◌∷◌, ◌++◌, length, drop, slice_get, refl, sym, ap, ◌∙◌, subst, arith, inl, inr, length-drop}
 use Rattle.orc_bits.specs.Packed.{bits, digits}
-use Rattle.orc_rle.specs.BitStream.{digit, IsBitStream}
+use Rattle.orc_rle.specs.BitStream.{IsBitStream}
 use Rattle.orc_rle.specs.ByteRun.{IsByteRun}
 use Rattle.orc_rle.specs.Stream.{IsStream}
-use Rattle.orc_rle.specs.Seeking.{Passes, Seeks, SeeksBits, bytes_needed}
+use Rattle.orc_rle.specs.Seeking.{Passes, SeeksBits, bytes_needed}
 use Rattle.orc_seek.specs.BitPosition.{BeginsBits}
 use Rattle.orc_seek.specs.BitPosition as seek
 use Rattle.orc_seek.proofs.BitPositionLemmas.{bits_go_on, bits_sought, bit_seek_alone, bits_alone, held_digits}
