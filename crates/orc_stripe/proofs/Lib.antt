@@ -1,7 +1,8 @@
-pub mod ByNumber
 pub mod Opened
 pub mod RowsLemmas
 pub mod OneStripe
 mod IndexBytes
 mod GroupCells
 mod IndexFaults
+mod GroupTurned
+mod GroupStarts

@@ -8,7 +8,7 @@ use Rattle.orc_wire.specs.Messages.{stripe_footer}
 use Rattle.orc_wire.specs.SpellsLaws.{one_spelled}
 use Rattle.orc_stripe.specs.Opening.{footer_bytes}
 use Rattle.orc_columns.specs.Stripe.{HasFooter, IsStripe, SpellRows, columns_of}
-use Rattle.orc_stripe.proofs.ByNumber.{from_number}
+use Rattle.orc_columns.proofs.ByNumber.{from_number}
 use Rattle.orc_columns.proofs.OneRows.{one_cells}
 
 pub one_footer : (s : Shape) (info : StripeInfo) (bytes : List ℕ) (a b : StripeFooter) → HasFooter s info bytes a → HasFooter s info bytes b → a ≡ b

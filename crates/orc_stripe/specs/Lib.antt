@@ -2,3 +2,4 @@ pub mod Opening
 pub mod Opened
 pub mod Cursors
 pub mod RowIndexes
+pub mod GroupCursors

@@ -9,6 +9,7 @@ ghost use Rattle.orc_columns.specs.Faults.{HasFault, RowsFault};
 ghost use Rattle.orc_columns.specs.declared.fault.StripeFault.{StripeFault as Fault};
 ghost use Rattle.orc_columns.specs.declared.fault.StripeFault.TheVariants.{OutOfMemory};
 
+mod group_cursor;
 mod row_index;
 
 use crate::cursor::RowCursor;

@@ -8,10 +8,11 @@ use Rattle.orc_columns.specs.Stripe.{columns_of, columns_from, SpellRows, Spells
 use Rattle.orc_columns.proofs.FaultLemmas.{fault_from_start, readers_down}
 use Rattle.orc_columns.proofs.StartLemmas.{tree_alike}
 use Rattle.orc_columns.proofs.Started.{all_put, all_origins, none_put}
-use Rattle.orc_stripe.proofs.ByNumber.{from_number, to_number}
+use Rattle.orc_columns.proofs.ByNumber.{from_number, to_number}
 use Rattle.orc_stripe.proofs.OneStripe.{by_footer}
 use Rattle.orc_stripe.proofs.Opened.{footer_room, footer_once, footer_columns}
-use Rattle.orc_stripe.proofs.RowsLemmas.{only_memory, rows_too_many}
+use Rattle.orc_entering.proofs.OnlyMemory.{only_memory}
+use Rattle.orc_stripe.proofs.RowsLemmas.{rows_too_many}
 use Rattle.orc_stripe.proofs.view.StripeView.cursor.Goals as goal
 
 pub returns-then-count-ge2147483648-clause-only : goal.returns-then-count-ge2147483648-clause-only

@@ -1,0 +1,79 @@
+-- A stripe's columns that are entered at the positions of a group.
+use Rattle.std.proofs.Common.{◌≡◌, ℕ, ◌*◌, ◌<◌, Some, List, [], ◌∷◌, ◌++◌, inl, inr, zero, suc, refl, length, take, drop, sym, ap, ◌∙◌, subst, arith, slice_get}
+use Rattle.std.proofs.lemmas.List.{take-append-drop}
+use Rattle.std.proofs.lemmas.Grind.{div_ceil_times}
+use Rattle.std.proofs.lemmas.Option.{slice_get_within}
+use Rattle.std.proofs.Math.Nat.{lt_of_mul-lt-mul_right}
+use Rattle.orc_types.specs.Cells.{Cell}
+use Rattle.orc_types.specs.Columns.{cells}
+use Rattle.orc_types.specs.Shapes.{Shape, width, shape_at}
+use Rattle.orc_wire.specs.declared.row_index.RowIndexEntry.{RowIndexEntry}
+use Rattle.orc_columns.specs.Stripe.{Streams, SpellRows, columns_of}
+use Rattle.orc_entering.specs.Columns.{AgreeFromPlaces}
+use Rattle.orc_columns.specs.declared.fault.StripeFault.{StripeFault}
+use Rattle.orc_entering.specs.Refusals.{ColumnRefused}
+use Rattle.orc_entering.specs.Rows.{RowsTurn, EntriesRefused}
+use Rattle.orc_written.specs.Groups.{group_count}
+use Rattle.orc_written.proofs.IndexLemmas.{pushed_get}
+use Rattle.orc_stripe.specs.Opened.{Opened}
+use Rattle.orc_stripe.specs.GroupCursors.{IsGroupEntry, StartsGroup, HasEntries, GroupRefused}
+
+both_parts : (s : Shape) (x : ℕ → Streams) (count n : ℕ) (rows : List Cell) → SpellRows s x count rows → SpellRows s x (length (take n rows ++ drop n rows)) (take n rows ++ drop n rows)
+both_parts s x count n rows h = subst (λ (rs : List Cell). SpellRows s x (length rs) rs) (sym (take-append-drop n rows)) (subst (λ (k : ℕ). SpellRows s x k rows) (sym h.counted) h)
+
+pub group_turns : (view : Opened) (x : ℕ → Streams) (rows : List Cell) (group : ℕ) (entries : List RowIndexEntry) → StartsGroup view x rows group → length entries ≡ width view.schema
+    → ((c : ℕ) (found entry : RowIndexEntry) → slice_get entries c ≡ Some found → IsGroupEntry view c group entry → found ≡ entry)
+    → RowsTurn view.schema x (columns_of view.footer view.bytes) (take (group * view.stride) rows) (drop (group * view.stride) rows) entries
+group_turns view x rows group entries h counted only =
+    let n = group * view.stride in
+    record {
+      spelled = both_parts view.schema x view.info.number_of_rows n rows h.spelled;
+      agree = λ c entry at.
+          let k = h.column c (omega (arith, slice_get_within entries c entry at, counted)) in
+          let same : entry ≡ k.0 = only c entry k.0 at k.1 in
+          subst (λ (e : RowIndexEntry). AgreeFromPlaces (shape_at view.schema c) (x c) (columns_of view.footer view.bytes c) (cells view.schema c (take n rows)) e.positions) (sym same) k.2;
+    }
+
+-- a group that begins before the last row is one of the groups
+pub group_there : (stride rows group : ℕ) → 0 < stride → group * stride < rows → group < group_count stride rows
+group_there stride rows group some before = lt_of_mul-lt-mul_right stride (omega (arith, before, (div_ceil_times rows stride some).0))
+
+-- ---- an entry more
+
+pub one_more_entry : (view : Opened) (group : ℕ) (old new : List RowIndexEntry) (last : RowIndexEntry) (k : ℕ) → new ≡ old ++ last ∷ [] → length old ≡ k
+    → ((c : ℕ) (entry : RowIndexEntry) → slice_get old c ≡ Some entry → IsGroupEntry view c group entry) → IsGroupEntry view k group last
+    → (c : ℕ) (entry : RowIndexEntry) → slice_get new c ≡ Some entry → IsGroupEntry view c group entry
+one_more_entry view group old new last k e n all is c entry at = elim (pushed_get old last c entry (ap (λ (t : List RowIndexEntry). slice_get t c) (sym e) ∙ at)) [
+  | inl h ↦ all c entry h
+  | inr h ↦ subst (λ (i : ℕ). IsGroupEntry view i group entry) (sym n ∙ sym h.0) (subst (λ (x : RowIndexEntry). IsGroupEntry view k group x) h.1 is)
+]
+
+pub one_more_only : (view : Opened) (group : ℕ) (old new : List RowIndexEntry) (last : RowIndexEntry) (k : ℕ) → new ≡ old ++ last ∷ [] → length old ≡ k
+    → ((c : ℕ) (found entry : RowIndexEntry) → slice_get old c ≡ Some found → IsGroupEntry view c group entry → found ≡ entry) → ((entry : RowIndexEntry) → IsGroupEntry view k group entry → last ≡ entry)
+    → (c : ℕ) (found entry : RowIndexEntry) → slice_get new c ≡ Some found → IsGroupEntry view c group entry → found ≡ entry
+one_more_only view group old new last k e n all one c found entry at is = elim (pushed_get old last c found (ap (λ (t : List RowIndexEntry). slice_get t c) (sym e) ∙ at)) [
+  | inl h ↦ all c found entry h is
+  | inr h ↦ sym h.1 ∙ one entry (subst (λ (i : ℕ). IsGroupEntry view i group entry) (h.0 ∙ n) is)
+]
+
+-- ---- all entries
+
+pub get_there : (xs : List RowIndexEntry) (i : ℕ) → i < length xs → (x : RowIndexEntry) × (slice_get xs i ≡ Some x)
+get_there [] i lt = absurd (omega (arith, lt))
+get_there (x ∷ xs) zero lt = (x, refl)
+get_there (x ∷ xs) (suc i) lt = get_there xs i (omega (arith, lt))
+
+pub all_there : (view : Opened) (group : ℕ) (entries : List RowIndexEntry) → length entries ≡ width view.schema
+    → ((c : ℕ) (entry : RowIndexEntry) → slice_get entries c ≡ Some entry → IsGroupEntry view c group entry) → HasEntries view group
+all_there view group entries n all c lt = let k = get_there entries c (omega (arith, n, lt)) in (k.0, all c k.0 k.1)
+
+pub group_refused : (view : Opened) (group : ℕ) (s : Shape) (bytes : List ℕ) (given entries : List RowIndexEntry) (f : StripeFault) → s ≡ view.schema → bytes ≡ view.bytes → given ≡ entries
+    → ((c : ℕ) (entry : RowIndexEntry) → slice_get entries c ≡ Some entry → IsGroupEntry view c group entry) → EntriesRefused s (columns_of view.footer bytes) given f → GroupRefused view group f
+group_refused view group s bytes given entries f es eb eg all h =
+    let c = h.0 in (
+      c,
+      h.1,
+      all c h.1 (ap (λ (t : List RowIndexEntry). slice_get t c) (sym eg) ∙ h.2),
+      subst (λ (t : Shape). ColumnRefused (shape_at t c) (columns_of view.footer view.bytes c) c h.1.positions f) es
+          (subst (λ (b : List ℕ). ColumnRefused (shape_at s c) (columns_of view.footer b c) c h.1.positions f) eb h.4),
+    )

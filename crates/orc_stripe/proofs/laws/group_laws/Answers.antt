@@ -1,0 +1,8 @@
+use Rattle.orc_stripe.proofs.GroupStarts.{starts_itself, right_entry}
+use Rattle.orc_stripe.proofs.laws.group_laws.Goals as goal
+
+pub returns-clause-starts : goal.returns-clause-starts
+returns-clause-starts c = starts_itself
+
+pub returns-clause-right : goal.returns-clause-right
+returns-clause-right c = right_entry

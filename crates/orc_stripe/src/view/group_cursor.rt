@@ -1,0 +1,110 @@
+//! A cursor in the middle of a stripe, at the first row of a group.
+ghost use Rattle.std.specs.Prelude.{◌≡◌, ◌≢◌, ◌*◌, ◌<◌, ℕ, Some, List, drop, length, slice_get, IfOk, IfErr, MatchResult};
+ghost use Rattle.orc_types.specs.Cells.{Cell};
+ghost use Rattle.orc_types.specs.Shapes.{width};
+ghost use Rattle.orc_wire.specs.declared.row_index.RowIndexEntry.{RowIndexEntry as IndexEntry};
+ghost use Rattle.orc_columns.specs.Stripe.{Streams};
+ghost use Rattle.orc_columns.specs.declared.fault.StripeFault.TheVariants.{OutOfMemory};
+ghost use Rattle.orc_stripe.specs.Cursors.{IsGoing, StandsFor};
+ghost use Rattle.orc_stripe.specs.GroupCursors.{HasGroup, HasEntries, IsGroupEntry, EntryFault, EntriesFault, GroupFault, StartsGroup};
+
+use crate::cursor::RowCursor;
+use crate::view::StripeView;
+use orc_columns::fault::{Spot, StripeFault};
+use orc_columns::located::locate;
+use orc_entering::readers_at;
+use orc_wire::RowIndexEntry;
+use std::alloc::Global;
+
+impl<'a> StripeView<'a> {
+    /// The entry of a group in a column's index.
+    fn group_entry(
+        &self,
+        alloc: Global,
+        column: usize,
+        group: u64,
+    ) -> Result<RowIndexEntry, StripeFault>
+        requires { HasGroup self.now group }
+        ensures found { IfOk result (IsGroupEntry self.now column group) }
+        ensures only { (entry : IndexEntry) → IsGroupEntry self.now column group entry
+            → MatchResult result (λ found. found ≡ entry) (λ fault. fault ≡ OutOfMemory) }
+        ensures fault { IfErr result (EntryFault self.now column) }
+    {
+        let index = match self.index(alloc, column) {
+            Ok(index) => index,
+            Err(fault) => return Err(fault),
+        };
+        let mut entries = index.entries.into_vec();
+        let groups = self.info.number_of_rows.div_ceil(self.stride as u64);
+        if entries.len() as u64 != groups {
+            return Err(StripeFault::BadPosition(Spot::Column(column)));
+        }
+        Ok(entries.swap_remove(group as usize))
+    }
+
+    /// The entries of a group, one of each column.
+    fn group_entries(&self, alloc: Global, group: u64) -> Result<Vec<RowIndexEntry>, StripeFault>
+        requires { HasGroup self.now group }
+        ensures counted { IfOk result (λ entries. length entries.items ≡ width self.now.schema) }
+        ensures found { IfOk result (λ entries. (c : ℕ) (entry : IndexEntry) → slice_get entries.items c ≡ Some entry → IsGroupEntry self.now c group entry) }
+        ensures only { IfOk result (λ entries. (c : ℕ) (found entry : IndexEntry) → slice_get entries.items c ≡ Some found → IsGroupEntry self.now c group entry → found ≡ entry) }
+        ensures refused { IfErr result (λ fault. HasEntries self.now group → fault ≡ OutOfMemory) }
+        ensures fault { IfErr result (λ cause. cause ≢ OutOfMemory → EntriesFault self.now cause) }
+    {
+        let mut entries = Vec::new(alloc);
+        for column in 0..self.schema.width() {
+            match self.group_entry(alloc, column, group) {
+                Ok(entry) => entries.push(entry)?,
+                Err(fault) => return Err(fault),
+            }
+        }
+        Ok(entries)
+    }
+
+    /// A cursor at the first row of a group, the rows from `group * stride` on (ORC specification, "Row Group Index").
+    /// Each column is entered at the positions that its index has for the group. What stands before a position's offset
+    /// in its stream has no part in the rows, and other groups' entries have none. Dictionaries are read whole.
+    ///
+    /// Refusals: `NoIndex`, of the stripe where the stride is 0, and of the first column that has none; `TooMany(0)`
+    /// where the rows are more than 2,147,483,647; `BadPosition` of the stripe where it has no such group, of a column
+    /// where its index hasn't as many entries as there are groups, or its entry not as many positions as the column's
+    /// streams, and of a stream that a position lies outside of; `Run` where no run is decoded there; `Wire`; those of
+    /// a dictionary; `OutOfMemory`. All indexes are read before a stream is.
+    pub fn cursor_at(&self, alloc: Global, group: u64) -> Result<RowCursor<'a>, StripeFault>
+        ensures starts { (x : ℕ → Streams) (rows : List Cell) → StartsGroup self.now x rows group
+            → MatchResult result (λ cursor. StandsFor cursor (drop (group * self.now.stride) rows)) (λ fault. fault ≡ OutOfMemory) }
+        ensures going { IfOk result IsGoing }
+        ensures there { IfOk result (λ _. HasGroup self.now group × HasEntries self.now group) }
+        ensures fault { IfErr result (λ cause. cause ≢ OutOfMemory → GroupFault self.now group cause) }
+    {
+        let count = self.info.number_of_rows;
+        if self.stride == 0 {
+            return Err(StripeFault::NoIndex(Spot::Stripe));
+        }
+        if count >= 0x8000_0000 {
+            return Err(StripeFault::TooMany(0));
+        }
+        let Some(first) = group.checked_mul(self.stride as u64) else {
+            return Err(StripeFault::BadPosition(Spot::Stripe));
+        };
+        if first >= count {
+            return Err(StripeFault::BadPosition(Spot::Stripe));
+        }
+        let entries = match self.group_entries(alloc, group) {
+            Ok(entries) => entries,
+            Err(fault) => return Err(fault),
+        };
+        let tree = self.schema.tree();
+        let located = locate(alloc, &self.footer, self.bytes)?;
+        match readers_at(alloc, tree, &self.footer, &located, &entries) {
+            Ok(readers) => Ok(RowCursor {
+                alloc,
+                tree,
+                readers,
+                left: count - first,
+                failed: false,
+            }),
+            Err(fault) => Err(fault),
+        }
+    }
+}
