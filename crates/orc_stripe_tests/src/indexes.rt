@@ -1,4 +1,5 @@
 //! Row indexes of stripes, as they are written.
+use crate::from_groups::check_groups;
 use crate::lines::with_memory;
 use crate::writing::{check_lines, written};
 use orc_rle::Rle;
@@ -411,6 +412,7 @@ fn check_whole(rt: &impl Abort, alloc: Global, whole: &Whole) -> Result<(), Stri
     assert!(rt; out.bytes.as_slice() == *bytes, "{}", text);
     assert!(rt; out.info.index_length == *index_length, "{}", text);
     assert!(rt; out.info.data_length == *data_length, "{}", text);
+    check_groups(rt, alloc, &schema, &out, *stride, lines)?;
     check_lines(rt, alloc, &schema, &out, lines)
 }
 
@@ -515,6 +517,7 @@ fn check_case(rt: &impl Abort, alloc: Global, case: &Case) -> Result<(), StripeF
         column
     );
     check_right(rt, alloc, &schema, &out, *stride, *column, groups.len())?;
+    check_groups(rt, alloc, &schema, &out, *stride, lines)?;
     check_lines(rt, alloc, &schema, &out, lines)
 }
 

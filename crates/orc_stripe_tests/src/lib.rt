@@ -3,6 +3,8 @@
 #![tactic(auto)]
 
 #[cfg(test)]
+mod from_groups;
+#[cfg(test)]
 mod indexes;
 #[cfg(test)]
 mod lines;

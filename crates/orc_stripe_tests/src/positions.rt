@@ -81,8 +81,12 @@ fn text_of<M: Message>(alloc: Global, message: &M) -> Result<Vec<u8>, StripeFaul
     }
 }
 
-/// The index of column 1 with such entries.
-fn index_text(alloc: Global, firsts: &[&[u64]], last: &[&[u64]]) -> Result<Vec<u8>, StripeFault> {
+/// An index with such entries.
+pub(crate) fn index_text(
+    alloc: Global,
+    firsts: &[&[u64]],
+    last: &[&[u64]],
+) -> Result<Vec<u8>, StripeFault> {
     let mut entries = Vec::new(alloc);
     for positions in firsts {
         entries.push(entry_of(alloc, positions)?)?;
@@ -98,21 +102,29 @@ fn index_text(alloc: Global, firsts: &[&[u64]], last: &[&[u64]]) -> Result<Vec<u
     )
 }
 
-/// A stripe of a column, whose index has these bytes.
-fn stripe_of(
+/// A stripe of a struct of one column, without nulls, with these indexes, each by its column.
+pub(crate) fn stripe_of(
     alloc: Global,
-    index: &[u8],
+    indexes: &[(u32, &[u8])],
     data: &[u8],
     rows: u64,
 ) -> Result<(StripeInfo, Vec<u8>), StripeFault> {
     let mut streams = Vec::new(alloc);
-    for (kind, bytes) in [(6, index), (1, data)] {
+    let mut bytes = Vec::new(alloc);
+    for (column, index) in indexes {
         streams.push(StreamMsg {
-            kind,
-            column: 1,
-            length: bytes.len() as u64,
+            kind: 6,
+            column: *column,
+            length: index.len() as u64,
         })?;
+        bytes.extend_from_slice(index)?;
     }
+    let index_length = bytes.len() as u64;
+    streams.push(StreamMsg {
+        kind: 1,
+        column: 1,
+        length: data.len() as u64,
+    })?;
     let mut columns = Vec::new(alloc);
     for _ in 0..2 {
         columns.push(Encoding {
@@ -129,13 +141,11 @@ fn stripe_of(
     )?;
     let info = StripeInfo {
         offset: 3,
-        index_length: index.len() as u64,
+        index_length,
         data_length: data.len() as u64,
         footer_length: footer.len() as u64,
         number_of_rows: rows,
     };
-    let mut bytes = Vec::new(alloc);
-    bytes.extend_from_slice(index)?;
     bytes.extend_from_slice(data)?;
     bytes.extend_from_slice(&footer)?;
     Ok((info, bytes))
@@ -149,7 +159,7 @@ fn right_in(alloc: Global, case: &Case, last: &[&[u64]]) -> Result<Vec<bool>, St
         return Err(StripeFault::BadDirectory);
     }
     let index = index_text(alloc, firsts, last)?;
-    let (info, bytes) = stripe_of(alloc, &index, data, *rows)?;
+    let (info, bytes) = stripe_of(alloc, &[(1, &index)], data, *rows)?;
     let view = StripeView::open(alloc, &schema, info, *stride, &bytes)?;
     view.positions_right(alloc, 1)
 }
@@ -197,7 +207,7 @@ fn check_counts(rt: &impl Abort, alloc: Global, case: &Case) -> Result<(), Strip
 fn check_missing(rt: &impl Abort, alloc: Global) -> Result<(), StripeFault> {
     let schema = schema_of(alloc, "struct<n:bigint>")?;
     let index = index_text(alloc, &[&[0, 0]], &[])?;
-    let (info, bytes) = stripe_of(alloc, &index, &[0x00, 0x00, 0x0e], 3)?;
+    let (info, bytes) = stripe_of(alloc, &[(1, &index)], &[0x00, 0x00, 0x0e], 3)?;
     for (stride, column, spot) in [(0, 1, Spot::Stripe), (3, 0, Spot::Column(0))] {
         let view = StripeView::open(alloc, &schema, info, stride, &bytes)?;
         if column >= schema.width() {

@@ -3,6 +3,7 @@ ghost use Rattle.std.specs.Prelude.{IfOk};
 ghost use Rattle.orc_types.specs.Fits.{RowsFit};
 ghost use Rattle.orc_types.specs.Views.{views};
 
+use crate::from_groups::check_groups;
 use crate::lines::{lines_at_once, lines_one_by_one, with_memory};
 use orc_rle::Rle;
 use orc_stats::Body;
@@ -368,7 +369,10 @@ fn check_case(rt: &impl Abort, alloc: Global, case: &Case) -> Result<(), StripeF
         Rle::Two => Rle::One,
     };
     let out = written(alloc, &schema, other, 0, lines)?;
-    check_lines(rt, alloc, &schema, &out, lines)
+    check_lines(rt, alloc, &schema, &out, lines)?;
+    // and with groups of two rows, each read from its positions on
+    let out = written(alloc, &schema, *rle, 2, lines)?;
+    check_groups(rt, alloc, &schema, &out, 2, lines)
 }
 
 /// Each case holds.
