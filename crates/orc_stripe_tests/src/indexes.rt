@@ -533,3 +533,71 @@ fn positions_of_groups(rt: HostRuntime) {
     let answer = with_memory(|| check_cases(&rt, rt.alloc()));
     assert!(rt; answer == Ok(()));
 }
+
+/// Where the numbers of a group's position stand in the stripe of arrays: the column, the group, the first one's place,
+/// and how many there are.
+static PLACES: [(usize, usize, usize, usize); 9] = [
+    (1, 0, 28, 5),
+    (1, 1, 43, 5),
+    (1, 2, 58, 5),
+    (2, 0, 73, 5),
+    (2, 1, 88, 5),
+    (2, 2, 103, 5),
+    (3, 0, 118, 2),
+    (3, 1, 138, 2),
+    (3, 2, 158, 2),
+];
+
+/// The stripe of arrays with a byte that is so much more is refused, or the positions of the group are found not right.
+fn check_number(
+    rt: &impl Abort,
+    alloc: Global,
+    whole: &Whole,
+    place: usize,
+    more: u8,
+    column: usize,
+    group: usize,
+) -> Result<(), StripeFault> {
+    let (text, rle, stride, lines, _, _, _) = whole;
+    let schema = schema_of(alloc, text)?;
+    let out = written(alloc, &schema, *rle, *stride, lines)?;
+    let mut bytes = Vec::new(alloc);
+    bytes.extend_from_slice(&out.bytes)?;
+    match bytes.get_mut(place) {
+        Some(byte) => *byte = byte.wrapping_add(more),
+        None => return Err(StripeFault::BadDirectory),
+    }
+    let view = StripeView::open(alloc, &schema, out.info, *stride, &bytes)?;
+    if column >= schema.width() {
+        return Err(StripeFault::BadDirectory);
+    }
+    match view.positions_right(alloc, column) {
+        Err(StripeFault::OutOfMemory) => return Err(StripeFault::OutOfMemory),
+        Err(_) => (),
+        Ok(right) => assert!(rt;
+            right.get(group).copied() == Some(false),
+            "byte {} plus {}",
+            place,
+            more
+        ),
+    }
+    Ok(())
+}
+
+/// Each number of each position, one more and one less.
+fn check_numbers(rt: &impl Abort, alloc: Global) -> Result<(), StripeFault> {
+    let [.., whole] = &WHOLE;
+    for (column, group, first, count) in &PLACES {
+        for place in *first..first.saturating_add(*count) {
+            check_number(rt, alloc, whole, place, 1, *column, *group)?;
+            check_number(rt, alloc, whole, place, 0xff, *column, *group)?;
+        }
+    }
+    Ok(())
+}
+
+#[test]
+fn positions_off_by_one(rt: HostRuntime) {
+    let answer = with_memory(|| check_numbers(&rt, rt.alloc()));
+    assert!(rt; answer == Ok(()));
+}
