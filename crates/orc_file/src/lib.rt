@@ -30,6 +30,7 @@ pub use file_stats::file_statistics;
 pub use laws::{image_laws, tail_laws};
 pub use laws_of_rows::{row_laws, whole_laws};
 pub use laws_of_writing::written_laws;
+pub use loading::{load_stripe, stripe_rows, view_stripe};
 pub use orc_devices::{
     Failures, FileSource, RangeFault, Sink, SinkFault, SliceSource, Source, SourceFault, StdSink,
     VecSink, read_range, write_all,

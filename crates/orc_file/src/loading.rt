@@ -1,18 +1,21 @@
-//! A stripe's bytes, read in one call, and the view of them.
-ghost use Rattle.std.specs.Prelude.{◌≡◌, ◌≢◌, ◌<◌, ◌^◌, ◌⊎◌, length, OnOk, IfOk, IfErr, IfSome, IsErrOf, MatchResult};
+//! A stripe's bytes, read in one call, the view of them, and their rows.
+ghost use Rattle.std.specs.Prelude.{◌≡◌, ◌≢◌, ◌<◌, ◌≤◌, ◌^◌, ◌⊎◌, length, OnOk, IfOk, IfErr, IfSome, IsErrOf, MatchResult};
 ghost use Rattle.orc_wire.specs.declared.stripe_footer.StripeFooter.{StripeFooter};
-ghost use Rattle.orc_columns.specs.Stripe.{HasFooter};
+ghost use Rattle.orc_columns.specs.Stripe.{HasFooter, IsStripe};
 ghost use Rattle.orc_stripe.specs.Opening.{OpenFault};
 ghost use Rattle.orc_columns.specs.declared.fault.StripeFault.{StripeFault};
 ghost use Rattle.orc_columns.specs.declared.fault.StripeFault.TheVariants as stripe;
-ghost use Rattle.orc_file.specs.Stripes.{stripe_length, stripe_at};
-ghost use Rattle.orc_file.specs.FileRows.{stripe_bytes};
+ghost use Rattle.orc_types.specs.Views.{views};
+ghost use Rattle.orc_file.specs.Stripes.{AllBefore, most_bytes, stripe_length, stripe_at, stripes_length};
+ghost use Rattle.orc_file.specs.FileRows.{stripe_bytes, IsNoStripe};
 ghost use Rattle.orc_file.specs.declared.fault.FileFault.TheVariants.{Stripe, SourceFailed, OutOfMemory};
 
 use crate::fault::FileFault;
 use crate::file::OrcFile;
+use crate::tail::Tail;
 use orc_devices::Source;
 use orc_stripe::{StripeFault, StripeView};
+use orc_types::Row;
 use orc_wire::StripeInfo;
 use std::alloc::Global;
 
@@ -25,13 +28,93 @@ fn length_of(stripe: StripeInfo) -> u64
 }
 
 /// The fault of the stripe with this number.
-pub(crate) fn stripe_fault(number: usize, cause: StripeFault) -> FileFault
+fn stripe_fault(number: usize, cause: StripeFault) -> FileFault
     ensures memory { cause ≡ stripe.OutOfMemory → result ≡ OutOfMemory }
     ensures either { (result ≡ OutOfMemory) ⊎ ((result ≡ Stripe number cause) × (cause ≢ stripe.OutOfMemory)) }
 {
     match cause {
         StripeFault::OutOfMemory => FileFault::OutOfMemory,
         cause => FileFault::Stripe(number, cause),
+    }
+}
+
+/// Fills the vector with the bytes of the stripe with this number, which are read in one call; of a stripe without
+/// bytes nothing is asked. After a refusal the vector holds anything.
+///
+/// Refusals: `SourceFailed` where the source failed; `OutOfMemory`.
+pub fn load_stripe<S: Source>(
+    source: &mut S,
+    tail: &Tail,
+    number: usize,
+    into: &mut Vec<u8>,
+) -> Result<(), FileFault>
+    requires there { number < length tail.now.stripes }
+    requires within { AllBefore (S.size source.old) tail.now.stripes }
+    requires most { stripes_length tail.now.stripes ≤ most_bytes }
+    ensures bytes { OnOk result (IfSome (S.told source.old) (λ bytes. into.new.items ≡ stripe_bytes (stripe_at tail.now.stripes number) bytes)) }
+    ensures told { S.told source.new ≡ S.told source.old }
+    ensures size { S.size source.new ≡ S.size source.old }
+
+    ensures fault { IfErr result (λ fault. (fault ≡ OutOfMemory) ⊎ (fault ≡ SourceFailed)) }
+    ensures kept { OnOk result (S.failures source.new ≡ S.failures source.old) }
+    ensures failed { IsErrOf result SourceFailed → S.failures source.old < S.failures source.new }
+    ensures memory { IsErrOf result OutOfMemory → S.failures source.new ≡ S.failures source.old }
+{
+    let stripe = tail.stripes.as_slice()[number];
+    let len = length_of(stripe);
+    into.clear();
+    into.resize(len as usize, 0)?;
+    if len > 0 && source.read_at(stripe.offset, into).is_err() {
+        return Err(FileFault::SourceFailed);
+    }
+    Ok(())
+}
+
+/// The view of the stripe with this number, over its bytes.
+///
+/// Refusals: `Stripe` with the number, and the fault of `StripeView::open`; `OutOfMemory`.
+pub fn view_stripe<'a>(
+    alloc: Global,
+    tail: &'a Tail,
+    number: usize,
+    bytes: &'a [u8],
+) -> Result<StripeView<'a>, FileFault>
+    requires { number < length tail.now.stripes }
+    ensures found { IfOk result (λ view. HasFooter tail.now.schema (stripe_at tail.now.stripes number) bytes.now view.footer) }
+    ensures same { IfOk result (λ view. (view.schema ≡ tail.now.schema) × (view.info ≡ stripe_at tail.now.stripes number)
+        × (view.stride ≡ tail.now.stride) × (view.bytes ≡ bytes.now)) }
+    ensures only { (footer : StripeFooter) → HasFooter tail.now.schema (stripe_at tail.now.stripes number) bytes.now footer
+        → MatchResult result (λ view. view.footer ≡ footer) (λ fault. fault ≡ OutOfMemory) }
+    ensures fault { IfErr result (λ fault. (fault ≡ OutOfMemory)
+        ⊎ ((why : StripeFault) × (fault ≡ Stripe number why) × (why ≢ stripe.OutOfMemory)
+        × OpenFault tail.now.schema (stripe_at tail.now.stripes number) bytes.now why)) }
+{
+    let stripe = tail.stripes.as_slice()[number];
+    match StripeView::open(alloc, &tail.schema, stripe, tail.stride, bytes) {
+        Ok(view) => Ok(view),
+        Err(cause) => Err(stripe_fault(number, cause)),
+    }
+}
+
+/// The rows of the stripe with this number, over its bytes. Their texts and bytes are slices of these.
+///
+/// Refusals: `Stripe` with the number, and why the bytes are no stripe of any rows; `OutOfMemory`.
+pub fn stripe_rows<'a>(
+    alloc: Global,
+    tail: &'a Tail,
+    number: usize,
+    bytes: &'a [u8],
+) -> Result<Vec<Row<'a>>, FileFault>
+    requires { number < length tail.now.stripes }
+    ensures found { IfOk result (λ rows. IsStripe tail.now.schema (stripe_at tail.now.stripes number) bytes.now (views rows.items)) }
+    ensures fault { IfErr result (λ fault. (fault ≡ OutOfMemory)
+        ⊎ ((why : StripeFault) × (fault ≡ Stripe number why) × (why ≢ stripe.OutOfMemory)
+        × IsNoStripe tail.now.schema (stripe_at tail.now.stripes number) bytes.now why)) }
+{
+    let view = view_stripe(alloc, tail, number, bytes)?;
+    match view.rows(alloc) {
+        Ok(rows) => Ok(rows),
+        Err(cause) => Err(stripe_fault(number, cause)),
     }
 }
 
@@ -53,14 +136,7 @@ impl<S: Source> OrcFile<S> {
         ensures failed { IsErrOf result SourceFailed → S.failures self.old.source < S.failures self.new.source }
         ensures memory { IsErrOf result OutOfMemory → S.failures self.new.source ≡ S.failures self.old.source }
     {
-        let stripe = self.tail.stripes.as_slice()[number];
-        let len = length_of(stripe);
-        into.clear();
-        into.resize(len as usize, 0)?;
-        if len > 0 && self.source.read_at(stripe.offset, into).is_err() {
-            return Err(FileFault::SourceFailed);
-        }
-        Ok(())
+        load_stripe(&mut self.source, &self.tail, number, into)
     }
 
     /// The view of the stripe with this number, over its bytes.
@@ -82,10 +158,6 @@ impl<S: Source> OrcFile<S> {
             ⊎ ((why : StripeFault) × (fault ≡ Stripe number why) × (why ≢ stripe.OutOfMemory)
             × OpenFault self.now.tail.schema (stripe_at self.now.tail.stripes number) bytes.now why)) }
     {
-        let stripe = self.tail.stripes.as_slice()[number];
-        match StripeView::open(alloc, &self.tail.schema, stripe, self.tail.stride, bytes) {
-            Ok(view) => Ok(view),
-            Err(cause) => Err(stripe_fault(number, cause)),
-        }
+        view_stripe(alloc, &self.tail, number, bytes)
     }
 }

@@ -12,7 +12,7 @@ ghost use Rattle.orc_file.specs.declared.fault.FileFault.TheVariants.{Stripe, So
 
 use crate::fault::FileFault;
 use crate::file::OrcFile;
-use crate::loading::stripe_fault;
+use crate::loading::stripe_rows;
 use orc_devices::Source;
 use orc_types::{Row, owned};
 use std::alloc::{AllocError, Global};
@@ -47,11 +47,7 @@ impl<S: Source> OrcFile<S> {
             ⊎ ((why : StripeFault) × (fault ≡ Stripe number why) × (why ≢ stripe.OutOfMemory)
             × IsNoStripe self.now.tail.schema (stripe_at self.now.tail.stripes number) bytes.now why)) }
     {
-        let view = self.view(alloc, number, bytes)?;
-        match view.rows(alloc) {
-            Ok(rows) => Ok(rows),
-            Err(cause) => Err(stripe_fault(number, cause)),
-        }
+        stripe_rows(alloc, &self.tail, number, bytes)
     }
 
     /// Reads the rows of the stripe with this number behind others.

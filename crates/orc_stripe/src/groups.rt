@@ -13,9 +13,9 @@ use std::alloc::{AllocError, Global};
 
 /// A column's cells, and how many of them come before each group of rows.
 #[derive(Drop)]
-pub(crate) struct ColumnGroups<'r, 'a> {
-    pub(crate) cells: Vec<Lent<'r, 'a>>,
-    pub(crate) bounds: Vec<usize>,
+pub struct ColumnGroups<'r, 'a> {
+    pub cells: Vec<Lent<'r, 'a>>,
+    pub bounds: Vec<usize>,
 }
 
 /// Adds the column's cells of some rows.
@@ -49,7 +49,7 @@ fn rows_between<'r, 'a>(rows: &'r [Row<'a>], start: usize, end: usize) -> &'r [R
 
 /// The cells of a column, and how many of them come before each group, of which `firsts` says how many rows do.
 /// Each row is gone through once.
-pub(crate) fn column_groups<'r, 'a>(
+pub fn column_groups<'r, 'a>(
     alloc: Global,
     schema: &Schema,
     column: usize,
@@ -60,6 +60,7 @@ pub(crate) fn column_groups<'r, 'a>(
     requires firsts { AreBounds (length (views rows.now)) firsts.now }
     ensures cells { IfOk result (λ groups. lent_cells groups.cells.items ≡ spec.cells schema.now column (views rows.now)) }
     ensures bounds { IfOk result (λ groups. groups.bounds.items ≡ bounds_of schema.now column (views rows.now) firsts.now) }
+    ensures ascending { IfOk result (λ groups. AreBounds (length (lent_cells groups.cells.items)) groups.bounds.items) }
 {
     let mut found = Vec::new(alloc);
     let mut bounds = Vec::new(alloc);

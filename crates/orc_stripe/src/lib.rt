@@ -8,6 +8,7 @@ mod stepping;
 mod view;
 
 pub use cursor::RowCursor;
+pub use groups::{ColumnGroups, column_groups};
 pub use laws::{column_laws, group_laws, stripe_laws};
 pub use orc_columns::fault::{Spot, StreamKind, StripeFault};
 pub use orc_written::{Options, StripeOut, are_few, write_stripe, writing_laws};

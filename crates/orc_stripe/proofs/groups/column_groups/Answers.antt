@@ -1,12 +1,13 @@
-use Rattle.std.proofs.Common.{◌≡◌, ◌∙◌, ℕ, ◌-◌, ◌≤◌, List, ◌++◌, length, map, take, drop, get_or, sym, ap, arith}
-use Rattle.std.proofs.lemmas.List.{length-map}
+use Rattle.std.proofs.Common.{◌≡◌, ◌∙◌, ℕ, ◌-◌, ◌≤◌, List, ◌++◌, append-nil, length, map, take, drop, get_or, sym, ap, subst, arith}
+use Rattle.std.proofs.lemmas.List.{drop_all, length-map}
 use Rattle.orc_types.specs.Cells.{Cell}
 use Rattle.orc_types.specs.Columns.{cells}
 use Rattle.orc_types.specs.Lent.{lent_cells}
 use Rattle.orc_types.specs.Views.{view, views}
 use Rattle.orc_index.proofs.Groups.{bound_read, bound_within, bound_ahead, bound_rises, found_more, lent_long}
-use Rattle.orc_written.specs.Groups.{cells_before}
-use Rattle.orc_stripe.proofs.GroupCells.{no_cells, cells_between, cells_to_end}
+use Rattle.orc_index.specs.Bounds.{AreBounds}
+use Rattle.orc_written.specs.Groups.{cells_before, bounds_of}
+use Rattle.orc_stripe.proofs.GroupCells.{no_cells, cells_between, cells_to_end, column_bounds}
 use Rattle.orc_stripe.proofs.groups.column_groups.Goals as goal
 
 pub loop-first-init : goal.loop-first-init
@@ -56,3 +57,19 @@ returns-clause-cells c =
     let le : at ≤ length rows = omega (arith, c.loop-first.invariant.begun, bound_within (length rows) c.args.firsts.now c.loop-first.first-index c.requires.firsts) in
     c.in_ok-put_cells-2.ensures ∙ ap (λ (cs : List Cell). cs ++ cells s n (views c.rows_between-2.result.now)) c.loop-first.invariant.cells_are
     ∙ ap (λ (rs : List Cell). cells s n (take at rows) ++ cells s n rs) (c.rows_between-2.ensures ∙ ap (λ (k : ℕ). take (k - at) (drop at rows)) (sym long)) ∙ cells_to_end s n rows at le
+
+pub returns-clause-ascending : goal.returns-clause-ascending
+returns-clause-ascending c =
+    let s = c.args.schema.now in
+    let n = c.args.column in
+    let rows = views c.args.rows.now in
+    let firsts = c.args.firsts.now in
+    let at = c.loop-first.at in
+    let long = length-map c.args.rows.now view in
+    let le : at ≤ length rows = omega (arith, c.loop-first.invariant.begun, bound_within (length rows) c.args.firsts.now c.loop-first.first-index c.requires.firsts) in
+    let are : lent_cells c.put_cells-2.new.out.items ≡ cells s n rows =
+    c.in_ok-put_cells-2.ensures ∙ ap (λ (cs : List Cell). cs ++ cells s n (views c.rows_between-2.result.now)) c.loop-first.invariant.cells_are
+    ∙ ap (λ (rs : List Cell). cells s n (take at rows) ++ cells s n rs) (c.rows_between-2.ensures ∙ ap (λ (k : ℕ). take (k - at) (drop at rows)) (sym long)) ∙ cells_to_end s n rows at le in
+    let all : c.loop-first.bounds.items ≡ bounds_of s n rows firsts =
+    sym (append-nil c.loop-first.bounds.items) ∙ ap (λ (t : List ℕ). c.loop-first.bounds.items ++ map (cells_before s n rows) t) (sym (drop_all c.loop-first.first-index firsts (omega (arith, c.loop-first-test.false, c.loop-first.auto.first-index-end)))) ∙ c.loop-first.invariant.bounds_are in
+    subst (λ (k : ℕ). AreBounds k c.loop-first.bounds.items) (sym (ap length are)) (subst (λ (bs : List ℕ). AreBounds (length (cells s n rows)) bs) (sym all) (column_bounds s n rows firsts c.requires.firsts))

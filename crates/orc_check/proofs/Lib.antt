@@ -1,0 +1,6 @@
+mod ReportLemmas
+mod CheckLemmas
+mod WholeLemmas
+mod CellLemmas
+mod GroupBounds
+mod IndexFound

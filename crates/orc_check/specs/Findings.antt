@@ -1,0 +1,126 @@
+-- What a file says of itself, and is not so (own): statistics of stripes, of groups of rows and of the whole file that aren't those of the rows
+-- (ORC specification, "Column Statistics"), and a row index that doesn't say where groups of rows begin ("Row Group Index").
+use Rattle.std.specs.Prelude.{◌≡◌, ℕ, zero, suc, ◌<◌, Bool, true, false, None, List, [], ◌∷◌, ◌++◌, length, ◌⊎◌, slice_get, get_or}
+use Rattle.std.specs.Option.{option_map}
+use Rattle.orc_wire.specs.declared.row_index.RowIndexEntry.{RowIndexEntry}
+use Rattle.orc_wire.specs.declared.row_index.RowIndexMsg.{RowIndexMsg}
+use Rattle.orc_wire.specs.declared.stripe_footer.StripeFooter.{StripeFooter}
+use Rattle.orc_types.specs.Shapes.{Shape, width, shape_at}
+use Rattle.orc_types.specs.Cells.{Cell}
+use Rattle.orc_types.specs.Columns.{cells}
+use Rattle.orc_stats.specs.Kinds.{kind_of}
+use Rattle.orc_stats.specs.Messages.{stat_read}
+use Rattle.orc_stats.specs.Statistics.{stat}
+use Rattle.orc_stats.specs.declared.stat.Stat.{Stat}
+use Rattle.orc_columns.specs.Stripe.{Streams, HasFooter, columns_of}
+use Rattle.orc_index.specs.Bounds.{before_group, group_of}
+use Rattle.orc_index.specs.Places.{AreReadPlaces}
+use Rattle.orc_written.specs.Groups.{starts, bounds_of}
+use Rattle.orc_written.specs.WrittenStripe.{column_stat}
+use Rattle.orc_stripe.specs.Opened.{Opened}
+use Rattle.orc_stripe.specs.RowIndexes.{HasIndex, IsWhole}
+use Rattle.orc_file.specs.Stripes.{stripe_at}
+use Rattle.orc_file.specs.FileRows.{stripe_bytes, cut_rows}
+use Rattle.orc_file.specs.Honest.{whole_of}
+use Rattle.orc_file.specs.declared.tail.Tail.{Tail}
+use Rattle.orc_check.specs.Agreeing.{Tells}
+use Rattle.orc_check.specs.declared.finding.Finding.{Finding}
+use Rattle.orc_check.specs.declared.finding.Finding.TheVariants.{StripeStatistic, IndexEntries, IndexStatistic, IndexPosition, FileStatistic}
+
+-- ---- lists of findings
+
+-- this finding where something doesn't hold, and none where it does
+abbrev pub Unless : Type 0 → Finding → List Finding → Type 0
+Unless Holds finding found = (Holds × (found ≡ [])) ⊎ ((Holds → ⊥) × (found ≡ finding ∷ []))
+
+abbrev pub reported : Bool → Finding → List Finding
+reported true finding = []
+reported false finding = finding ∷ []
+
+-- what is found of one thing, and behind it what is found of another
+abbrev pub Both : (List Finding → Type 0) → (List Finding → Type 0) → List Finding → Type 0
+Both First Second found = (a : List Finding) × (b : List Finding) × First a × Second b × (found ≡ a ++ b)
+
+-- what is found of each number below this one, in their order
+abbrev pub OfEach : (ℕ → List Finding → Type 0) → ℕ → List Finding → Type 0
+OfEach Of zero found = found ≡ []
+OfEach Of (suc n) found = Both (OfEach Of n) (Of n) found
+
+-- findings behind those before
+abbrev pub Adds : (List Finding → Type 0) → List Finding → List Finding → Type 0
+Adds Of before after = (own : List Finding) × Of own × (after ≡ before ++ own)
+
+-- ---- the row index
+
+-- the entry of a group
+abbrev pub entry_at : List RowIndexEntry → ℕ → RowIndexEntry
+entry_at entries group = get_or entries group (record { positions = []; statistics = None })
+
+-- an entry tells the statistic of its group's cells
+abbrev pub TellsGroup : Shape → List Cell → RowIndexEntry → Type 0
+TellsGroup s group entry = Tells (option_map (stat_read (kind_of s)) entry.statistics) (stat (kind_of s) group)
+
+-- a group of column c of stripe n, whose shape is s and whose streams are x
+abbrev pub OfGroup : Shape → Streams → List Cell → List ℕ → ℕ → ℕ → List RowIndexEntry → ℕ → List Finding → Type 0
+OfGroup s x cells bounds n c entries g =
+    Both (Unless (TellsGroup s (group_of cells bounds g) (entry_at entries g)) (IndexStatistic n c g))
+    (Unless (AreReadPlaces s x (before_group cells bounds g) (entry_at entries g).positions) (IndexPosition n c g))
+
+-- all groups of the column, each with its entry
+abbrev pub OfGroups : Opened → ℕ → List Cell → ℕ → List RowIndexEntry → List Finding → Type 0
+OfGroups view n rows c entries =
+    OfEach (OfGroup (shape_at view.schema c) (columns_of view.footer view.bytes c) (cells view.schema c rows) (bounds_of view.schema c rows (starts view.stride (length rows))) n c entries)
+    (length entries)
+
+-- the column has no index with an entry for each group of the rows, or what is found of each group
+abbrev pub OfEntries : Opened → ℕ → List Cell → ℕ → List Finding → Type 0
+OfEntries view n rows c found =
+    (((message : RowIndexMsg) → HasIndex view.footer view.bytes c message → IsWhole view (length rows) message → ⊥) × (found ≡ IndexEntries n c ∷ []))
+    ⊎ ((message : RowIndexMsg) × HasIndex view.footer view.bytes c message × IsWhole view (length rows) message × OfGroups view n rows c message.entries found)
+
+-- a file of stride 0 has no index
+abbrev pub OfIndex : Opened → ℕ → List Cell → ℕ → List Finding → Type 0
+OfIndex view n rows c found = ((view.stride ≡ 0) × (found ≡ [])) ⊎ ((0 < view.stride) × OfEntries view n rows c found)
+
+-- ---- stripes
+
+-- the statistic that is told of a column in a stripe is that of its cells in the rows
+abbrev pub TellsStripe : Shape → List Stat → List Cell → ℕ → Type 0
+TellsStripe schema told rows c = Tells (slice_get told c) (column_stat schema rows c)
+
+-- of a column: its statistic, and then its index
+abbrev pub OfColumn : Opened → List Stat → ℕ → List Cell → ℕ → List Finding → Type 0
+OfColumn view told n rows c = Both (Unless (TellsStripe view.schema told rows c) (StripeStatistic n c)) (OfIndex view n rows c)
+
+-- what the tail tells of a stripe, by its columns
+abbrev pub stripe_told : Tail → ℕ → List Stat
+stripe_told tail n = get_or tail.stripe_stats n []
+
+abbrev pub opened : Tail → ℕ → List ℕ → StripeFooter → Opened
+opened tail n bytes footer = record { schema = tail.schema; info = stripe_at tail.stripes n; stride = tail.stride; bytes = bytes; footer = footer }
+
+-- of the stripe with this number, which has these bytes and these rows
+abbrev pub OfStripe : Tail → ℕ → List ℕ → List Cell → List Finding → Type 0
+OfStripe tail n bytes rows found =
+    (footer : StripeFooter) × HasFooter tail.schema (stripe_at tail.stripes n) bytes footer × OfEach (OfColumn (opened tail n bytes footer) (stripe_told tail n) n rows) (width tail.schema) found
+
+-- the rows of the stripe with a number
+abbrev pub rows_at : List (List Cell) → ℕ → List Cell
+rows_at parts n = get_or parts n []
+
+abbrev pub OfStripes : List ℕ → Tail → List (List Cell) → List Finding → Type 0
+OfStripes bytes tail parts = OfEach (λ n. OfStripe tail n (stripe_bytes (stripe_at tail.stripes n) bytes) (rows_at parts n)) (length tail.stripes)
+
+-- ---- the file
+
+-- the statistic of the whole file is that of all rows, but for a sum that some stripe's rows lose
+abbrev pub TellsFile : Tail → List (List Cell) → ℕ → Type 0
+TellsFile tail parts c = Tells (slice_get tail.file_stats c) (whole_of tail.schema parts c)
+
+abbrev pub OfFile : Tail → List (List Cell) → List Finding → Type 0
+OfFile tail parts = OfEach (λ c. Unless (TellsFile tail parts c) (FileStatistic c)) (width tail.schema)
+
+-- What is found of a file with this tail and these rows: stripe by stripe, in each column by column, for each column its statistic, then its
+-- index, group by group; last the file's statistics by column.
+abbrev pub Findings : List ℕ → Tail → List Cell → List Finding → Type 0
+Findings bytes tail rows = Both (OfStripes bytes tail (cut_rows tail.stripes rows)) (OfFile tail (cut_rows tail.stripes rows))

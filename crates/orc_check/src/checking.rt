@@ -1,0 +1,83 @@
+//! A file, checked stripe by stripe.
+ghost use Rattle.std.specs.Prelude.{◌≡◌, ◌<◌, ◌⊎◌, ℕ, List, length, OnOk, IfOk, IfErr, IfSome, IsErrOf, MatchResult};
+ghost use Rattle.orc_types.specs.Cells.{Cell};
+ghost use Rattle.orc_file.specs.FileRows.{FileIs, FirstRefused};
+ghost use Rattle.orc_file.specs.Images.{IsWithinLimits};
+ghost use Rattle.orc_file.specs.Stripes.{AllBefore};
+ghost use Rattle.orc_file.specs.Tails.{IsTail, ReadFault};
+ghost use Rattle.orc_file.specs.declared.tail.Tail.{Tail};
+ghost use Rattle.orc_file.specs.declared.fault.FileFault.TheVariants.{SourceFailed, OutOfMemory};
+ghost use Rattle.orc_check.specs.Findings.{Findings};
+ghost use Rattle.orc_check.specs.Checking.{CheckFault, HaveOwn, IsWholeOf};
+
+use crate::file_columns::check_file;
+use crate::finding::Finding;
+use crate::stripes::check_stripe;
+use orc_file::{FileFault, Source, Tail, file_statistics, read_tail};
+use orc_stats::Stat;
+use orc_types::Schema;
+use orc_wire::Items;
+use std::alloc::{AllocError, Global};
+
+/// The statistics of the whole file, from those of its stripes' rows.
+fn whole_stats(alloc: Global, schema: &Schema, own: &[Items<Stat>]) -> Result<Vec<Stat>, AllocError>
+    requires stripes { HaveOwn schema.now own.now }
+    ensures { IfOk result (λ whole. IsWholeOf schema.now own.now whole.items) }
+{
+    match file_statistics(alloc, schema, own) {
+        Ok(whole) => Ok(whole),
+        Err(_) => Err(AllocError),
+    }
+}
+
+/// What a file with this tail says of itself and is not so.
+fn check_tail<S: Source>(
+    alloc: Global,
+    source: &mut S,
+    tail: &Tail,
+) -> Result<Vec<Finding>, FileFault>
+    requires within { AllBefore (S.size source.old) tail.now.stripes }
+    requires limits { IsWithinLimits tail.now }
+    ensures found { IfOk result (λ found. IfSome (S.told source.old) (λ bytes. IsTail bytes tail.now
+        → (rows : List Cell) × FileIs bytes tail.now rows × Findings bytes tail.now rows found.items)) }
+    ensures size { S.size source.new ≡ S.size source.old }
+    ensures told { S.told source.new ≡ S.told source.old }
+
+    ensures fault { IfErr result (λ fault. ReadFault (S.told source.old) fault (λ bytes. FirstRefused tail.now.schema bytes 0 tail.now.stripes fault)) }
+    ensures kept { OnOk result (S.failures source.new ≡ S.failures source.old) }
+    ensures failed { IsErrOf result SourceFailed → S.failures source.old < S.failures source.new }
+    ensures memory { IsErrOf result OutOfMemory → S.failures source.new ≡ S.failures source.old }
+{
+    let mut found = Vec::new(alloc);
+    let mut own = Vec::new(alloc);
+    let mut bytes = Vec::new(alloc);
+    for number in 0..tail.stripes.as_slice().len() {
+        let stats = check_stripe(alloc, source, tail, number, &mut bytes, &mut found)?;
+        own.push(stats)?;
+    }
+    let whole = whole_stats(alloc, &tail.schema, &own)?;
+    check_file(tail, &whole, &mut found)?;
+    Ok(found)
+}
+
+/// What a file says of itself and is not so: stripe by stripe, in each column by column, for each column its statistic
+/// and then its row index, group by group; last the statistics of the whole file by column. The bytes of one stripe are
+/// held at a time.
+///
+/// Refusals: those of `OrcFile::open`, and `Stripe` with the number of the first stripe that has no rows, and why;
+/// `SourceFailed` where the source failed; `OutOfMemory`. But for the last two the bytes are no file of any rows.
+pub fn check<S: Source>(alloc: Global, source: &mut S) -> Result<Vec<Finding>, FileFault>
+    ensures found { IfOk result (λ found. IfSome (S.told source.old) (λ bytes. (tail : Tail) × (rows : List Cell) × FileIs bytes tail rows
+        × Findings bytes tail rows found.items)) }
+    ensures only { IfSome (S.told source.old) (λ bytes. (tail : Tail) (rows : List Cell) → FileIs bytes tail rows
+        → MatchResult result (λ answered. Findings bytes tail rows answered.items) (λ fault. (fault ≡ OutOfMemory) ⊎ (fault ≡ SourceFailed))) }
+    ensures size { S.size source.new ≡ S.size source.old }
+    ensures told { S.told source.new ≡ S.told source.old }
+    ensures fault { IfErr result (λ fault. ReadFault (S.told source.old) fault (λ bytes. CheckFault bytes fault)) }
+    ensures kept { OnOk result (S.failures source.new ≡ S.failures source.old) }
+    ensures failed { IsErrOf result SourceFailed → S.failures source.old < S.failures source.new }
+    ensures memory { IsErrOf result OutOfMemory → S.failures source.new ≡ S.failures source.old }
+{
+    let tail = read_tail(alloc, source)?;
+    check_tail(alloc, source, &tail)
+}

@@ -1,0 +1,15 @@
+//! Checks a file: whether its statistics and its row indexes are those of its rows.
+#![tactic(auto)]
+
+mod agreeing;
+mod checking;
+mod columns;
+mod entries;
+mod file_columns;
+mod finding;
+mod reports;
+mod row_index;
+mod stripes;
+
+pub use checking::check;
+pub use finding::Finding;

@@ -1,0 +1,57 @@
+//! A stripe of a file.
+ghost use Rattle.std.specs.Prelude.{◌≡◌, ◌<◌, ◌≤◌, length, OnOk, IfOk, IfErr, IfSome, IsErrOf};
+ghost use Rattle.orc_file.specs.Stripes.{AllBefore, most_bytes, stripe_at, stripes_length};
+ghost use Rattle.orc_file.specs.FileRows as rows;
+ghost use Rattle.orc_file.specs.FileRows.{StripeRefused};
+ghost use Rattle.orc_file.specs.Tails.{ReadFault};
+ghost use Rattle.orc_file.specs.declared.fault.FileFault.TheVariants.{SourceFailed, OutOfMemory};
+ghost use Rattle.orc_check.specs.Findings.{stripe_told};
+ghost use Rattle.orc_check.specs.Checking.{IsChecked};
+
+use crate::columns::check_columns;
+use crate::finding::Finding;
+use orc_devices::Source;
+use orc_file::{FileFault, Tail, load_stripe, stripe_rows, view_stripe};
+use orc_stats::Stat;
+use orc_wire::Items;
+use std::alloc::Global;
+
+/// What the tail tells of a stripe, by its columns.
+fn told_of(tail: &Tail, number: usize) -> &[Stat]
+    ensures { result.now ≡ stripe_told tail.now number }
+{
+    match tail.stripe_stats.as_slice().get(number) {
+        Some(told) => told.as_slice(),
+        None => &[],
+    }
+}
+
+/// Puts what is found of the stripe with this number behind what was found before, and answers the statistics of its
+/// columns' cells. Its bytes are read in one call.
+pub(crate) fn check_stripe<S: Source>(
+    alloc: Global,
+    source: &mut S,
+    tail: &Tail,
+    number: usize,
+    bytes: &mut Vec<u8>,
+    found: &mut Vec<Finding>,
+) -> Result<Items<Stat>, FileFault>
+    requires there { number < length tail.now.stripes }
+    requires within { AllBefore (S.size source.old) tail.now.stripes }
+    requires most { stripes_length tail.now.stripes ≤ most_bytes }
+    ensures found { IfOk result (λ stats. IsChecked tail.now number bytes.new.items found.old.items found.new.items stats) }
+    ensures bytes { OnOk result (IfSome (S.told source.old) (λ all. bytes.new.items ≡ rows.stripe_bytes (stripe_at tail.now.stripes number) all)) }
+    ensures told { S.told source.new ≡ S.told source.old }
+    ensures size { S.size source.new ≡ S.size source.old }
+    ensures fault { IfErr result (λ fault. ReadFault (S.told source.old) fault
+        (λ all. StripeRefused tail.now.schema all number (stripe_at tail.now.stripes number) fault)) }
+    ensures kept { OnOk result (S.failures source.new ≡ S.failures source.old) }
+    ensures failed { IsErrOf result SourceFailed → S.failures source.old < S.failures source.new }
+    ensures memory { IsErrOf result OutOfMemory → S.failures source.new ≡ S.failures source.old }
+{
+    load_stripe(source, tail, number, bytes)?;
+    let rows = stripe_rows(alloc, tail, number, bytes)?;
+    let view = view_stripe(alloc, tail, number, bytes)?;
+    let told = told_of(tail, number);
+    Ok(check_columns(alloc, tail, told, number, &view, &rows, found)?)
+}

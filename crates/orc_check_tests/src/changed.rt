@@ -1,0 +1,145 @@
+//! A file with a byte or two changed, and what is found then.
+use crate::written::{arrays, sums};
+use orc_check::check;
+use orc_file::{FileFault, SliceSource};
+use std::alloc::Global;
+use std::process::Abort;
+
+/// A file without stripes: a struct with one number.
+static EMPTY: [u8; 59] = [
+    0x4f, 0x52, 0x43, 0x08, 0x03, 0x10, 0x03, 0x22, 0x08, 0x08, 0x0c, 0x12, 0x01, 0x01, 0x1a, 0x01,
+    0x6e, 0x22, 0x02, 0x08, 0x04, 0x30, 0x00, 0x3a, 0x04, 0x08, 0x00, 0x50, 0x00, 0x3a, 0x04, 0x08,
+    0x00, 0x50, 0x00, 0x40, 0x00, 0x48, 0x63, 0x08, 0x24, 0x10, 0x00, 0x22, 0x02, 0x00, 0x0b, 0x28,
+    0x00, 0x30, 0x06, 0x82, 0xf4, 0x03, 0x03, 0x4f, 0x52, 0x43, 0x13,
+];
+
+/// A file with one stripe of three sevens.
+static SEVENS: [u8; 120] = [
+    0x4f, 0x52, 0x43, 0x00, 0x00, 0x0e, 0x0a, 0x06, 0x08, 0x01, 0x10, 0x01, 0x18, 0x03, 0x12, 0x02,
+    0x08, 0x00, 0x12, 0x02, 0x08, 0x00, 0x0a, 0x14, 0x0a, 0x04, 0x08, 0x03, 0x50, 0x00, 0x0a, 0x0c,
+    0x08, 0x03, 0x12, 0x06, 0x08, 0x0e, 0x10, 0x0e, 0x18, 0x2a, 0x50, 0x00, 0x08, 0x03, 0x10, 0x16,
+    0x1a, 0x0a, 0x08, 0x03, 0x10, 0x00, 0x18, 0x03, 0x20, 0x10, 0x28, 0x03, 0x22, 0x08, 0x08, 0x0c,
+    0x12, 0x01, 0x01, 0x1a, 0x01, 0x6e, 0x22, 0x02, 0x08, 0x04, 0x30, 0x03, 0x3a, 0x04, 0x08, 0x03,
+    0x50, 0x00, 0x3a, 0x0c, 0x08, 0x03, 0x12, 0x06, 0x08, 0x0e, 0x10, 0x0e, 0x18, 0x2a, 0x50, 0x00,
+    0x40, 0x00, 0x48, 0x63, 0x08, 0x38, 0x10, 0x00, 0x22, 0x02, 0x00, 0x0b, 0x28, 0x16, 0x30, 0x06,
+    0x82, 0xf4, 0x03, 0x03, 0x4f, 0x52, 0x43, 0x13,
+];
+
+/// Bytes by their places, as they are changed, and the findings, as they print.
+type Case = (&'static [(usize, u8)], &'static [&'static str]);
+
+/// Of the file of sevens.
+static OF_SEVENS: [Case; 11] = [
+    (&[], &[]),
+    (&[(39, 0x10)], &["StripeStatistic 0 1"]),
+    // the count of the root
+    (&[(27, 0x04)], &["StripeStatistic 0 0"]),
+    // that there are nulls, and that it isn't known
+    (&[(43, 0x01)], &["StripeStatistic 0 1"]),
+    (&[(42, 0x58)], &["StripeStatistic 0 1"]),
+    // the sum isn't known
+    (&[(40, 0x20)], &["StripeStatistic 0 1"]),
+    // the record is one of texts, and the count is none
+    (&[(34, 0x22)], &["StripeStatistic 0 1"]),
+    (&[(33, 0x00)], &["StripeStatistic 0 1"]),
+    // the file's sum, and that it isn't known whether there are nulls
+    (&[(93, 0x2c)], &["FileStatistic 1"]),
+    (&[(94, 0x58)], &["FileStatistic 1"]),
+    // a stride, and no index
+    (&[(97, 0x05)], &["IndexEntries 0 0", "IndexEntries 0 1"]),
+];
+
+/// Of the file of five rows of arrays, in groups of two.
+static OF_ARRAYS: [Case; 14] = [
+    (&[], &[]),
+    // no stride, so no index is looked at
+    (&[(397, 0x00)], &[]),
+    (&[(142, 0x03)], &["IndexPosition 0 3 1"]),
+    (&[(50, 0x02)], &["IndexPosition 0 1 1"]),
+    (&[(48, 0x03)], &["IndexPosition 0 1 1"]),
+    (&[(134, 0x08)], &["IndexStatistic 0 3 0"]),
+    (&[(135, 0x58)], &["IndexStatistic 0 3 0"]),
+    (&[(123, 0x1a)], &["IndexStatistic 0 3 0"]),
+    (
+        &[(134, 0x08), (142, 0x03)],
+        &["IndexStatistic 0 3 0", "IndexPosition 0 3 1"],
+    ),
+    // another kind of stream, two entries, and one that doesn't read
+    (&[(221, 0x07)], &["IndexEntries 0 3"]),
+    (&[(117, 0x12)], &["IndexEntries 0 3"]),
+    (&[(118, 0x7f)], &["IndexEntries 0 3"]),
+    // two groups, and five
+    (
+        &[(397, 0x03)],
+        &[
+            "IndexEntries 0 0",
+            "IndexEntries 0 1",
+            "IndexEntries 0 2",
+            "IndexEntries 0 3",
+        ],
+    ),
+    (
+        &[(397, 0x01)],
+        &[
+            "IndexEntries 0 0",
+            "IndexEntries 0 1",
+            "IndexEntries 0 2",
+            "IndexEntries 0 3",
+        ],
+    ),
+];
+
+/// Of the file of no stripes.
+static OF_EMPTY: [Case; 2] = [(&[], &[]), (&[(36, 0x05)], &[])];
+
+/// What is found of a file with such changes are these findings, in their order.
+fn check_case(rt: &impl Abort, alloc: Global, file: &[u8], case: &Case) -> Result<(), FileFault> {
+    let (changes, wanted) = case;
+    let mut bytes = Vec::new(alloc);
+    bytes.extend_from_slice(file)?;
+    for (place, value) in changes.iter() {
+        match bytes.get_mut(*place) {
+            Some(byte) => *byte = *value,
+            None => return Err(FileFault::Limit),
+        }
+    }
+    let found = check(alloc, &mut SliceSource::new(&bytes))?;
+    assert!(rt; found.len() == wanted.len(), "{:?} {:?}", changes, found);
+    for (finding, text) in found.iter().zip(wanted.iter()) {
+        let line = finding.to_string(alloc)?;
+        assert!(rt; line.as_str() == *text, "{} {}", line, text);
+    }
+    Ok(())
+}
+
+fn check_cases(
+    rt: &impl Abort,
+    alloc: Global,
+    file: &[u8],
+    cases: &[Case],
+) -> Result<(), FileFault> {
+    for case in cases {
+        check_case(rt, alloc, file, case)?;
+    }
+    Ok(())
+}
+
+fn check_all(rt: &impl Abort, alloc: Global) -> Result<(), FileFault> {
+    check_cases(rt, alloc, &EMPTY, &OF_EMPTY)?;
+    check_cases(rt, alloc, &SEVENS, &OF_SEVENS)?;
+    let file = arrays(alloc)?;
+    assert!(rt; file.len() == 420);
+    check_cases(rt, alloc, &file, &OF_ARRAYS)?;
+    // 2^63 - 1, 1 and -1 in stripes of two rows: the first one's sum isn't told, nor the file's
+    let file = sums(alloc)?;
+    check_cases(rt, alloc, &file, &[(&[], &[])])
+}
+
+#[test]
+fn findings(rt: HostRuntime) {
+    let answer = match check_all(&rt, rt.alloc()) {
+        Err(FileFault::OutOfMemory | FileFault::WriteFailed) => check_all(&rt, rt.alloc()),
+        done => done,
+    };
+    assert!(rt; answer == Ok(()));
+}
