@@ -4,3 +4,4 @@ mod WholeLemmas
 mod CellLemmas
 mod GroupBounds
 mod IndexFound
+mod OneList

@@ -7,9 +7,11 @@ mod columns;
 mod entries;
 mod file_columns;
 mod finding;
+mod laws;
 mod reports;
 mod row_index;
 mod stripes;
 
 pub use checking::check;
 pub use finding::Finding;
+pub use laws::finding_laws;

@@ -1,9 +1,8 @@
 use Rattle.std.specs.Prelude.{MatchBool}
-use Rattle.std.proofs.Common.{◌≡◌, ◌∙◌, ℕ, ◌<◌, List, [], ◌++◌, append-nil, slice_get, refl, sym, ap, inl, subst, arith}
+use Rattle.std.proofs.Common.{◌≡◌, ◌∙◌, ◌<◌, List, [], append-nil, slice_get, refl, sym, ap, inl, subst, arith}
 use Rattle.std.specs.declared.vec.Vec.{Vec}
 use Rattle.std.specs.declared.alloc.Global.{Global}
 use Rattle.orc_types.specs.Cells.{Cell}
-use Rattle.orc_types.specs.Columns.{cells}
 use Rattle.orc_types.specs.Fits.{RowsFit}
 use Rattle.orc_types.specs.Lent.{lent_cells}
 use Rattle.orc_types.specs.Shapes.{Shape, width, shape_at}

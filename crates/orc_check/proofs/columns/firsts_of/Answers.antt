@@ -1,9 +1,5 @@
-use Rattle.std.specs.Prelude.{IfOk, Result, Ok, Err}
-use Rattle.std.proofs.Common.{◌≡◌, ℕ, ◌<◌, List, sym, subst, arith}
-use Rattle.std.specs.declared.vec.Vec.{Vec}
-use Rattle.std.specs.declared.alloc.Global.{Global}
+use Rattle.std.proofs.Common.{ℕ, List, sym, subst, arith}
 use Rattle.orc_index.specs.Bounds.{AreBounds}
-use Rattle.orc_written.specs.Groups.{starts}
 use Rattle.orc_written.proofs.GroupLemmas.{starts_are_bounds}
 use Rattle.orc_check.proofs.GroupBounds.{ok_so}
 use Rattle.orc_check.proofs.columns.firsts_of.Goals as goal

@@ -1,4 +1,4 @@
-use Rattle.std.proofs.Common.{◌≡◌, ◌∙◌, ℕ, List, [], ◌∷◌, length, refl, sym, ap, inl, inr, subst, arith}
+use Rattle.std.proofs.Common.{◌∙◌, ℕ, List, [], ◌∷◌, length, refl, sym, ap, inl, inr, subst, arith}
 use Rattle.orc_wire.specs.declared.row_index.RowIndexEntry.{RowIndexEntry}
 use Rattle.orc_wire.specs.declared.row_index.RowIndexMsg.{RowIndexMsg}
 use Rattle.orc_types.specs.Cells.{Cell}

@@ -1,4 +1,4 @@
-use Rattle.std.proofs.Common.{◌≡◌, ◌∙◌, ℕ, ◌+◌, length, get_or, sym, ap, arith}
+use Rattle.std.proofs.Common.{◌∙◌, ℕ, ◌+◌, length, get_or, sym, ap, arith}
 use Rattle.orc_types.specs.Lent.{lent_cells}
 use Rattle.orc_index.specs.Bounds.{bound_at}
 use Rattle.orc_index.proofs.Groups.{bound_read, bound_rises, bound_within, group_between, lent_long}

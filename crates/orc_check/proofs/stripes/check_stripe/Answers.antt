@@ -1,6 +1,5 @@
 use Rattle.std.proofs.Common.{◌∙◌, sym, inl, subst, List, ℕ}
 use Rattle.std.proofs.lemmas.Result.{err_from_is_err_and}
-use Rattle.orc_wire.specs.declared.stripe_footer.StripeFooter.{StripeFooter}
 use Rattle.orc_columns.specs.Stripe.{HasFooter}
 use Rattle.orc_file.specs.Stripes.{stripe_at}
 use Rattle.orc_check.proofs.CheckLemmas.{NoRows, stripe_read}

@@ -1,0 +1,76 @@
+-- What is found of a file is one list.
+use Rattle.std.proofs.Common.{◌≡◌, ◌∙◌, ℕ, zero, suc, inl, inr, List, ◌++◌, length, sym, subst, arith}
+use Rattle.orc_wire.specs.Messages.{row_index}
+use Rattle.orc_wire.specs.SpellsLaws.{one_spelled}
+use Rattle.orc_wire.specs.declared.row_index.RowIndexEntry.{RowIndexEntry}
+use Rattle.orc_wire.specs.declared.row_index.RowIndexMsg.{RowIndexMsg}
+use Rattle.orc_wire.specs.declared.stripe_footer.StripeFooter.{StripeFooter}
+use Rattle.orc_types.specs.Cells.{Cell}
+use Rattle.orc_types.specs.Columns.{cells}
+use Rattle.orc_types.specs.Shapes.{Shape, width, shape_at}
+use Rattle.orc_stats.specs.declared.stat.Stat.{Stat}
+use Rattle.orc_columns.specs.Stripe.{Streams, columns_of}
+use Rattle.orc_index.specs.Bounds.{before_group, group_of}
+use Rattle.orc_index.specs.Places.{AreReadPlaces}
+use Rattle.orc_written.specs.Groups.{starts, bounds_of}
+use Rattle.orc_stripe.specs.Opened.{Opened}
+use Rattle.orc_stripe.specs.RowIndexes.{HasIndex, index_text}
+use Rattle.orc_stripe.proofs.OneStripe.{one_footer}
+use Rattle.orc_file.specs.Stripes.{stripe_at}
+use Rattle.orc_file.specs.FileRows.{stripe_bytes, cut_rows}
+use Rattle.orc_file.specs.declared.tail.Tail.{Tail}
+use Rattle.orc_check.specs.declared.finding.Finding.{Finding}
+use Rattle.orc_check.specs.declared.finding.Finding.TheVariants.{StripeStatistic, IndexStatistic, IndexPosition, FileStatistic}
+use Rattle.orc_check.specs.Findings.{Unless, Both, OfEach, OfGroup, OfGroups, OfIndex, OfColumn, OfStripe, OfStripes, OfFile, Findings, TellsStripe, TellsFile, TellsGroup, entry_at, stripe_told, opened, rows_at}
+
+unless_one : (P : Type 0) (f : Finding) (a b : List Finding) → Unless P f a → Unless P f b → a ≡ b
+unless_one P f a b (inl p) (inl q) = p.1 ∙ sym q.1
+unless_one P f a b (inl p) (inr q) = absurd (q.0 p.0)
+unless_one P f a b (inr p) (inl q) = absurd (p.0 q.0)
+unless_one P f a b (inr p) (inr q) = p.1 ∙ sym q.1
+
+both_one : (P Q : List Finding → Type 0) → ((a b : List Finding) → P a → P b → a ≡ b) → ((a b : List Finding) → Q a → Q b → a ≡ b) → (a b : List Finding) → Both P Q a → Both P Q b → a ≡ b
+both_one P Q p q a b x y = x.4 ∙ (λ i. p x.0 y.0 x.2 y.2 i ++ q x.1 y.1 x.3 y.3 i) ∙ sym y.4
+
+each_one : (F : ℕ → List Finding → Type 0) → ((k : ℕ) (a b : List Finding) → F k a → F k b → a ≡ b) → (n : ℕ) (a b : List Finding) → OfEach F n a → OfEach F n b → a ≡ b
+each_one F one zero a b x y = x ∙ sym y
+each_one F one (suc n) a b x y = both_one (OfEach F n) (F n) (each_one F one n) (one n) a b x y
+
+group_one : (s : Shape) (x : Streams) (cs : List Cell) (bounds : List ℕ) (n c : ℕ) (es : List RowIndexEntry) (g : ℕ) (a b : List Finding) → OfGroup s x cs bounds n c es g a → OfGroup s x cs bounds n c es g b → a ≡ b
+group_one s x cs bounds n c es g =
+    both_one (Unless (TellsGroup s (group_of cs bounds g) (entry_at es g)) (IndexStatistic n c g)) (Unless (AreReadPlaces s x (before_group cs bounds g) (entry_at es g).positions) (IndexPosition n c g))
+    (unless_one (TellsGroup s (group_of cs bounds g) (entry_at es g)) (IndexStatistic n c g)) (unless_one (AreReadPlaces s x (before_group cs bounds g) (entry_at es g).positions) (IndexPosition n c g))
+
+-- a column has one index at most
+one_index : (footer : StripeFooter) (bytes : List ℕ) (c : ℕ) (a b : RowIndexMsg) → HasIndex footer bytes c a → HasIndex footer bytes c b → a ≡ b
+one_index footer bytes c a b p q = one_spelled row_index 0 0 (index_text footer bytes c) a b p.1 q.1
+
+index_one : (view : Opened) (n : ℕ) (rows : List Cell) (c : ℕ) (a b : List Finding) → OfIndex view n rows c a → OfIndex view n rows c b → a ≡ b
+index_one view n rows c a b (inl x) (inl y) = x.1 ∙ sym y.1
+index_one view n rows c a b (inl x) (inr y) = absurd (omega (arith, x.0, y.0))
+index_one view n rows c a b (inr x) (inl y) = absurd (omega (arith, x.0, y.0))
+index_one view n rows c a b (inr (s, inl x)) (inr (t, inl y)) = x.1 ∙ sym y.1
+index_one view n rows c a b (inr (s, inl x)) (inr (t, inr y)) = absurd (x.0 y.0 y.1 y.2)
+index_one view n rows c a b (inr (s, inr x)) (inr (t, inl y)) = absurd (y.0 x.0 x.1 x.2)
+index_one view n rows c a b (inr (s, inr x)) (inr (t, inr y)) =
+    let same : y.0 ≡ x.0 = one_index view.footer view.bytes c y.0 x.0 y.1 x.1 in
+    each_one _ (group_one (shape_at view.schema c) (columns_of view.footer view.bytes c) (cells view.schema c rows) (bounds_of view.schema c rows (starts view.stride (length rows))) n c x.0.entries) (length x.0.entries) a b x.3
+    (subst (λ (m : RowIndexMsg). OfGroups view n rows c m.entries b) same y.3)
+
+column_one : (view : Opened) (told : List Stat) (n : ℕ) (rows : List Cell) (c : ℕ) (a b : List Finding) → OfColumn view told n rows c a → OfColumn view told n rows c b → a ≡ b
+column_one view told n rows c =
+    both_one (Unless (TellsStripe view.schema told rows c) (StripeStatistic n c)) (OfIndex view n rows c) (unless_one (TellsStripe view.schema told rows c) (StripeStatistic n c)) (index_one view n rows c)
+
+stripe_one : (tail : Tail) (n : ℕ) (bytes : List ℕ) (rows : List Cell) (a b : List Finding) → OfStripe tail n bytes rows a → OfStripe tail n bytes rows b → a ≡ b
+stripe_one tail n bytes rows a b x y =
+    let told = stripe_told tail n in
+    let same = one_footer tail.schema (stripe_at tail.stripes n) bytes y.0 x.0 y.1 x.1 in
+    each_one (OfColumn (opened tail n bytes x.0) told n rows) (column_one (opened tail n bytes x.0) told n rows) (width tail.schema) a b x.2
+    (subst (λ (f : StripeFooter). OfEach (OfColumn (opened tail n bytes f) told n rows) (width tail.schema) b) same y.2)
+
+pub one_findings : (bytes : List ℕ) (tail : Tail) (rows : List Cell) (a b : List Finding) → Findings bytes tail rows a → Findings bytes tail rows b → a ≡ b
+one_findings bytes tail rows =
+    let parts : List (List Cell) = cut_rows tail.stripes rows in
+    both_one (OfStripes bytes tail parts) (OfFile tail parts)
+    (each_one (λ n. OfStripe tail n (stripe_bytes (stripe_at tail.stripes n) bytes) (rows_at parts n)) (λ n. stripe_one tail n (stripe_bytes (stripe_at tail.stripes n) bytes) (rows_at parts n)) (length tail.stripes))
+    (each_one (λ c. Unless (TellsFile tail parts c) (FileStatistic c)) (λ c. unless_one (TellsFile tail parts c) (FileStatistic c)) (width tail.schema))
