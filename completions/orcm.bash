@@ -5,15 +5,16 @@ _orcm() {
     case $before in
         --rle) COMPREPLY=($(compgen -W '1 2' -- "$word")); return ;;
         --sign) COMPREPLY=($(compgen -W 's u' -- "$word")); return ;;
-        --schema | --stride | --stripe-rows) return ;;
+        --schema | --stride | --stripe-rows | --from) return ;;
     esac
     if [ "$COMP_CWORD" -eq 1 ]; then
-        COMPREPLY=($(compgen -W 'ints rows show write merge help --help --version' -- "$word"))
+        COMPREPLY=($(compgen -W 'ints rows show check write merge help --help --version' -- "$word"))
         return
     fi
     local options=--help
     case ${COMP_WORDS[1]} in
         ints) options='--rle --sign --help' ;;
+        rows) options='--from --help' ;;
         write) options='--schema --rle --stride --stripe-rows --help' ;;
     esac
     case $word in

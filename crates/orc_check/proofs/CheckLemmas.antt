@@ -52,7 +52,7 @@ honest_more s (r ∷ parts) (x ∷ own) rows stats h p = (h.0, honest_more s par
 of_schema : (s : Shape) (info : StripeInfo) (bytes : List ℕ) (rows : List Cell) → IsStripe s info bytes rows → AreOfSchema s rows
 of_schema s info bytes rows h = record { fit = h.spelled.fit; few = λ c lt. (h.spelled.column c lt).few }
 
-below_or : (k n : ℕ) → k < n + 1 → (k ≡ n) ⊎ (k < n)
+pub below_or : (k n : ℕ) → k < n + 1 → (k ≡ n) ⊎ (k < n)
 below_or zero zero lt = inl refl
 below_or zero (suc n) lt = inr (omega arith)
 below_or (suc k) zero lt = absurd (omega (arith, lt))

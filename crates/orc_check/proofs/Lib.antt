@@ -5,3 +5,6 @@ mod CellLemmas
 mod GroupBounds
 mod IndexFound
 mod OneList
+pub mod NoFinding
+pub mod WrittenIndexes
+mod GroupsFound

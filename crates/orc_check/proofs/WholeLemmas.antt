@@ -1,15 +1,18 @@
 -- The statistics of the whole file are joined of those of the stripes' rows.
-use Rattle.std.proofs.Common.{◌≡◌, ◌∙◌, ℕ, zero, suc, ◌+◌, ◌*◌, ◌<◌, ◌≤◌, ◌^◌, true, List, [], ◌∷◌, ◌++◌, length, map, take, drop, slice_get, Some, refl, sym, ap, subst, arith, length-append}
-use Rattle.std.specs.Prelude.{All}
+use Rattle.std.proofs.Common.{◌≡◌, ◌∙◌, ℕ, zero, suc, ◌+◌, ◌*◌, ◌<◌, ◌≤◌, ◌^◌, ◌⊎◌, inl, inr, true, List, [], ◌∷◌, ◌++◌, length, map, take, drop, slice_get, Some, refl, sym, ap, subst, arith, length-append}
+use Rattle.std.specs.Prelude.{All, sum_by}
 use Rattle.std.specs.List.{AllByRecursion, flat_map}
 use Rattle.std.proofs.lemmas.List.Concat.{flat_map-cons}
 use Rattle.std.proofs.lemmas.List.Elements.{All-from_recursion}
+use Rattle.std.proofs.lemmas.List.Sums.{sum_by-cons}
 use Rattle.orc_types.specs.Cells.{Cell}
 use Rattle.orc_types.specs.Shapes.{Shape, width, shape_at}
 use Rattle.orc_types.specs.Columns.{cells}
 use Rattle.orc_types.proofs.Together.{cells_fit}
 use Rattle.orc_stats.specs.declared.kind.StatKind.{StatKind}
 use Rattle.orc_stats.specs.declared.kind.StatKind.TheVariants as kind
+use Rattle.orc_stats.specs.declared.fault.StatFault.{StatFault}
+use Rattle.orc_stats.specs.declared.fault.StatFault.TheVariants as fault
 use Rattle.orc_stats.specs.declared.stat.Stat.{Stat}
 use Rattle.orc_stats.specs.Kinds.{is_of, body_is_of}
 use Rattle.orc_stats.specs.Statistics.{stat, values_body}
@@ -19,7 +22,7 @@ use Rattle.orc_written.specs.WrittenStripe.{column_stat}
 use Rattle.orc_file.specs.Statistics.{kind_at}
 use Rattle.orc_file.specs.Honest.{AreHonest, AreWhole, whole_of}
 use Rattle.orc_file.specs.Writing.{column_stats, of_columns, file_stats}
-use Rattle.orc_file.proofs.StatTests.{are_of_kind}
+use Rattle.orc_file.proofs.StatTests.{are_of_kind, values_few}
 use Rattle.orc_check.specs.Checking.{AreOfSchema, AreOwn}
 
 some_take : (xs : List Stat) (c : ℕ) (x : Stat) → slice_get xs c ≡ Some x → take 1 (drop c xs) ≡ x ∷ []
@@ -95,3 +98,25 @@ pub own_kinds : (s : Shape) (parts : List (List Cell)) (own : List (List Stat)) 
 own_kinds s parts own c lt h =
     subst (λ (xs : List Stat). All (λ (x : Stat). body_is_of (kind_at s c) x.body ≡ true) xs) (sym (column_is s c parts own lt h.honest))
     (All-from_recursion (λ (x : Stat). body_is_of (kind_at s c) x.body ≡ true) (map (stat (kind_at s c)) (map (cells s c) parts)) (bodies_are (kind_at s c) (map (cells s c) parts)))
+
+-- ---- a column has too few values to be refused
+
+counts_few : (k : StatKind) (parts : List (List Cell)) → sum_by (λ (x : Stat). x.count) (map (stat k) parts) ≤ length (flat_map (λ p. p) parts)
+counts_few k [] = omega arith
+counts_few k (p ∷ parts) =
+    let sum = sum_by-cons (λ (x : Stat). x.count) (stat k p) (map (stat k) parts) in
+    let all = flat_map-cons (λ (x : List Cell). x) p parts in
+    let len = length-append p (flat_map (λ (x : List Cell). x) parts) in
+    omega (arith, sum, ap length all, len, values_few p, counts_few k parts)
+
+pub own_few : (s : Shape) (parts : List (List Cell)) (own : List (List Stat)) (c : ℕ) → c < width s → AreOwn s parts own → sum_by (λ (x : Stat). x.count) (column_stats c own) ≤ 2 ^ 62
+own_few s parts own c lt h =
+    let cells_of : List (List Cell) = map (cells s c) parts in
+    let count = cells_few s c parts lt h.fit in
+    let few = h.few in
+    subst (λ (xs : List Stat). sum_by (λ (x : Stat). x.count) xs ≤ 2 ^ 62) (sym (column_is s c parts own lt h.honest)) (omega (arith, counts_few (kind_at s c) cells_of, count, few))
+
+pub never_large : (s : Shape) (parts : List (List Cell)) (own : List (List Stat)) (e : StatFault) → AreOwn s parts own → e ≡ fault.CountTooLarge
+    → (e ≡ fault.OutOfMemory) ⊎ ((e ≡ fault.CountTooLarge) × (c : ℕ) × (c < width s) × (2 ^ 62 < sum_by (λ (x : Stat). x.count) (column_stats c own))) → ⊥
+never_large s parts own e h large (inl memory) = let wrong : fault.CountTooLarge ≡ fault.OutOfMemory = sym large ∙ memory in cc
+never_large s parts own e h large (inr why) = omega (arith, why.3, own_few s parts own why.1 why.2 h)

@@ -1,3 +1,5 @@
 pub mod Agreeing
+pub mod FindingText
 pub mod Findings
+pub mod RightIndexes
 pub mod Checking

@@ -14,7 +14,7 @@ use crate::file_columns::check_file;
 use crate::finding::Finding;
 use crate::stripes::check_stripe;
 use orc_file::{FileFault, Source, Tail, file_statistics, read_tail};
-use orc_stats::Stat;
+use orc_stats::{Stat, StatFault};
 use orc_types::Schema;
 use orc_wire::Items;
 use std::alloc::{AllocError, Global};
@@ -26,7 +26,9 @@ fn whole_stats(alloc: Global, schema: &Schema, own: &[Items<Stat>]) -> Result<Ve
 {
     match file_statistics(alloc, schema, own) {
         Ok(whole) => Ok(whole),
-        Err(_) => Err(AllocError),
+        Err(StatFault::OutOfMemory) => Err(AllocError),
+        // no column has more than 2^31 cells in a stripe, and there are 65,536 stripes at most
+        Err(StatFault::CountTooLarge) => unreachable!(),
     }
 }
 

@@ -1,22 +1,41 @@
 //! What is found wrong in a file.
-use thiserror::Error;
+use std::fmt;
 
 /// What a file says of itself, and is not so. Stripes, columns and groups are counted from 0.
-#[derive(Clone, Copy, Debug, PartialEq, Eq, Error)]
+#[derive(Clone, Copy, Debug, PartialEq, Eq)]
 pub enum Finding {
     /// In this stripe this column's statistic is missing, or isn't that of the rows.
-    #[error("StripeStatistic {0} {1}")]
     StripeStatistic(usize, usize),
     /// In this stripe this column's row index is missing, doesn't read, or hasn't one entry for each group.
-    #[error("IndexEntries {0} {1}")]
     IndexEntries(usize, usize),
     /// In this stripe, for this column, this group's statistic is missing, or isn't that of the rows.
-    #[error("IndexStatistic {0} {1} {2}")]
     IndexStatistic(usize, usize, usize),
     /// In this stripe, for this column, this group's positions aren't where its rows begin.
-    #[error("IndexPosition {0} {1} {2}")]
     IndexPosition(usize, usize, usize),
     /// This column's statistic of the whole file is missing, or isn't that of the rows.
-    #[error("FileStatistic {0}")]
     FileStatistic(usize),
+}
+
+/// The finding's name and its numbers, with a blank between them.
+impl fmt::Display for Finding {
+    ghost use Rattle.std.specs.Prelude.{Some};
+    ghost use Rattle.orc_check.specs.FindingText.{finding_text};
+
+    ghost output = { λ finding. Some (finding_text finding) };
+
+    fn fmt<W: fmt::Write>(&self, f: &mut fmt::Formatter<W>) -> fmt::Result {
+        match *self {
+            Finding::StripeStatistic(stripe, column) => {
+                write!(f, "StripeStatistic {stripe} {column}")
+            }
+            Finding::IndexEntries(stripe, column) => write!(f, "IndexEntries {stripe} {column}"),
+            Finding::IndexStatistic(stripe, column, group) => {
+                write!(f, "IndexStatistic {stripe} {column} {group}")
+            }
+            Finding::IndexPosition(stripe, column, group) => {
+                write!(f, "IndexPosition {stripe} {column} {group}")
+            }
+            Finding::FileStatistic(column) => write!(f, "FileStatistic {column}"),
+        }
+    }
 }

@@ -14,4 +14,4 @@ mod stripes;
 
 pub use checking::check;
 pub use finding::Finding;
-pub use laws::finding_laws;
+pub use laws::{finding_laws, start_laws};

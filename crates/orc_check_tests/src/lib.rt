@@ -5,4 +5,6 @@
 #[cfg(test)]
 mod changed;
 #[cfg(test)]
+mod tails;
+#[cfg(test)]
 mod written;

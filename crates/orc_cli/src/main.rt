@@ -1,7 +1,11 @@
 //! `orcm`, a program for Apache ORC files.
 #![tactic(auto)]
 
+ghost use Rattle.std.specs.Prelude.{◌≡◌, ◌<◌};
+ghost use Rattle.orc_cli.specs.declared.Outcome.TheVariants.{Done, Found};
+
 use orc_file::FileFault;
+pub use orc_findings::check_to;
 pub use orc_ints::ints_to;
 pub use orc_lines::write_from;
 use orc_merge::MergeFault;
@@ -15,6 +19,40 @@ use std::fs::{self, File};
 use std::io;
 use std::process::ExitCode;
 use std::rt::{Env, Files};
+
+/// How a request ended that was carried out.
+#[derive(Clone, Copy)]
+enum Outcome {
+    /// All of it is done, and nothing was found.
+    Done,
+    /// All of it is done, and a file was checked of which something was found.
+    Found,
+}
+
+impl Outcome {
+    /// That of a check which found so much.
+    fn of_findings(number: usize) -> Outcome
+        ensures none { number ≡ 0 → result ≡ Done }
+        ensures some { 0 < number → result ≡ Found }
+    {
+        if number == 0 {
+            Outcome::Done
+        } else {
+            Outcome::Found
+        }
+    }
+
+    /// The program's exit status.
+    fn status(self) -> u8
+        ensures done { self ≡ Done → result ≡ 0 }
+        ensures found { self ≡ Found → result ≡ 3 }
+    {
+        match self {
+            Outcome::Done => 0,
+            Outcome::Found => 3,
+        }
+    }
+}
 
 /// Why what the command line asks for isn't done: by a layer's fault, by its own words, or by the merger's fault.
 enum Ending {
@@ -58,7 +96,7 @@ impl From<MergeFault> for Ending {
 
 fn main(rt: HostRuntime) -> ExitCode {
     match run(&rt) {
-        Ok(()) => ExitCode::SUCCESS,
+        Ok(outcome) => ExitCode::from(outcome.status()),
         Err(Ending::Refused(Refusal::NotUnderstood)) => ExitCode::from(2),
         Err(Ending::Refused(Refusal::Fault(fault))) => {
             let _ = eprintln!(rt; "orcm: {fault}");
@@ -72,14 +110,19 @@ fn main(rt: HostRuntime) -> ExitCode {
 }
 
 /// Carries out what the command line asks for.
-fn run<R: Env + Files<File = File> + AllocGlobal + Print + Eprint>(rt: &R) -> Result<(), Ending> {
+fn run<R: Env + Files<File = File> + AllocGlobal + Print + Eprint>(
+    rt: &R,
+) -> Result<Outcome, Ending> {
     let words = words_of(rt)?;
     match read_words(rt, words.as_slice())? {
         Asked::Request(matches) => match request_of(&matches) {
             Some(request) => answer(rt, request),
-            None => Err(Ending::Refused(Refusal::NotUnderstood)),
+            None => {
+                let _ = eprintln!(rt; "error: --stride and --stripe-rows take decimal digits alone");
+                Err(Ending::Refused(Refusal::NotUnderstood))
+            }
         },
-        Asked::Text => Ok(()),
+        Asked::Text => Ok(Outcome::Done),
     }
 }
 
@@ -124,12 +167,18 @@ fn merge_files<R: Files<File = File> + AllocGlobal>(
 fn answer<R: Files<File = File> + AllocGlobal + Print>(
     rt: &R,
     request: Request<'_, '_>,
-) -> Result<(), Ending> {
+) -> Result<Outcome, Ending> {
     let mut out = io::writer(rt);
     match request {
         Request::Ints { rle, sign, hex } => ints_to(rt.alloc(), rle, sign, hex, &mut out)?,
-        Request::Rows { file } => match rows_to(rt.alloc(), source_of(rt, file)?, &mut out) {
-            Ok(_) => {}
+        Request::Rows { file, from } => {
+            match rows_to(rt.alloc(), source_of(rt, file)?, from, &mut out) {
+                Ok(_) => {}
+                Err((fault, _)) => return Err(Ending::from(fault)),
+            }
+        }
+        Request::Check { file } => match check_to(rt.alloc(), source_of(rt, file)?, &mut out) {
+            Ok((findings, _)) => return Ok(Outcome::of_findings(findings)),
             Err((fault, _)) => return Err(Ending::from(fault)),
         },
         Request::Show { file } => match show_to(rt.alloc(), source_of(rt, file)?, &mut out) {
@@ -144,5 +193,5 @@ fn answer<R: Files<File = File> + AllocGlobal + Print>(
         } => write_file(rt, schema, options, input, output)?,
         Request::Merge { output, inputs } => merge_files(rt, output, inputs)?,
     }
-    Ok(())
+    Ok(Outcome::Done)
 }

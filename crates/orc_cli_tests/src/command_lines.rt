@@ -10,13 +10,14 @@ use std::convert::AsStr;
 /// What a command line asks for, but `write`: no table can hold its options.
 enum Asked {
     Ints(Rle, Sign, &'static str),
-    Rows(&'static str),
+    Rows(&'static str, Option<&'static str>),
     Show(&'static str),
+    Check(&'static str),
     Merge(&'static str, &'static [&'static str]),
 }
 
 /// Command lines that are requests.
-static REQUESTS: [(&[&str], Asked); 10] = [
+static REQUESTS: [(&[&str], Asked); 14] = [
     (
         &["orcm", "ints", "--rle", "1", "--sign", "u", "61ff64"],
         Asked::Ints(Rle::One, Sign::Unsigned, "61ff64"),
@@ -33,9 +34,22 @@ static REQUESTS: [(&[&str], Asked); 10] = [
         &["orcm", "ints", "--rle", "2", "--sign", "u", "0a2710"],
         Asked::Ints(Rle::Two, Sign::Unsigned, "0a2710"),
     ),
-    (&["orcm", "rows", "a.orc"], Asked::Rows("a.orc")),
-    (&["orcm", "rows", "--", "-x"], Asked::Rows("-x")),
+    (&["orcm", "rows", "a.orc"], Asked::Rows("a.orc", None)),
+    (&["orcm", "rows", "--", "-x"], Asked::Rows("-x", None)),
+    (
+        &["orcm", "rows", "a.orc", "--from", "3:12"],
+        Asked::Rows("a.orc", Some("3:12")),
+    ),
+    (
+        &["orcm", "rows", "--from=x", "a.orc"],
+        Asked::Rows("a.orc", Some("x")),
+    ),
+    (
+        &["orcm", "rows", "--from", "", "a.orc"],
+        Asked::Rows("a.orc", Some("")),
+    ),
     (&["orcm", "show", "a.orc"], Asked::Show("a.orc")),
+    (&["orcm", "check", "a.orc"], Asked::Check("a.orc")),
     (
         &["orcm", "merge", "all.orc", "b.orc", "a.orc", "b.orc"],
         Asked::Merge("all.orc", &["b.orc", "a.orc", "b.orc"]),
@@ -48,7 +62,7 @@ static REQUESTS: [(&[&str], Asked); 10] = [
 ];
 
 /// Command lines that are none, and what the parser finds in them.
-static OTHERS: [(&[&str], ErrorKind); 14] = [
+static OTHERS: [(&[&str], ErrorKind); 17] = [
     (&["orcm"], ErrorKind::MissingSubcommand),
     (&["orcm", "join", "a"], ErrorKind::InvalidSubcommand),
     (&["orcm", "rows"], ErrorKind::MissingRequiredArgument),
@@ -66,6 +80,12 @@ static OTHERS: [(&[&str], ErrorKind); 14] = [
     ),
     (&["orcm", "rows", "a", "b"], ErrorKind::UnknownArgument),
     (&["orcm", "rows", "--wide", "a"], ErrorKind::UnknownArgument),
+    (
+        &["orcm", "rows", "--from", "0:0"],
+        ErrorKind::MissingRequiredArgument,
+    ),
+    (&["orcm", "check"], ErrorKind::MissingRequiredArgument),
+    (&["orcm", "check", "a", "b"], ErrorKind::UnknownArgument),
     (&["orcm", "show"], ErrorKind::MissingRequiredArgument),
     (&["orcm", "show", "a", "b"], ErrorKind::UnknownArgument),
     (
@@ -89,7 +109,7 @@ static OTHERS: [(&[&str], ErrorKind); 14] = [
 ];
 
 /// The numbers of `--stride` and `--stripe-rows`, and whether they ask for anything.
-static NUMBERS: [(&str, &str, bool); 11] = [
+static NUMBERS: [(&str, &str, bool); 13] = [
     ("0", "1", true),
     ("0", "2147483647", true),
     ("0", "2147483648", false),
@@ -98,6 +118,8 @@ static NUMBERS: [(&str, &str, bool); 11] = [
     ("1", "3", true),
     ("4294967295", "3", true),
     ("4294967296", "3", false),
+    ("+5", "3", false),
+    ("0", "+3", false),
     ("0", "x", false),
     ("", "3", false),
     ("0", "", false),
@@ -141,7 +163,7 @@ fn numbers_of_write(rt: HostRuntime) {
                     assert_eq!(rt; (input, output), ("lines", "made.orc"));
                 }
                 Some(_) => assert!(rt; false, "{words:?} asks for another command"),
-                None => assert!(rt; false, "{words:?} asks for nothing"),
+                None => assert!(rt; !asks, "{words:?} asks for nothing"),
             },
             Err(error) => assert!(rt; !asks && error.use_stderr(), "{words:?}: {error}"),
         }
@@ -163,8 +185,9 @@ fn is_asked(request: &Request<'_, '_>, asked: &Asked) -> bool {
         (Request::Ints { rle, sign, hex }, Asked::Ints(version, kind, digits)) => {
             rle == version && sign == kind && hex == digits
         }
-        (Request::Rows { file }, Asked::Rows(name)) => file == name,
+        (Request::Rows { file, from }, Asked::Rows(name, place)) => file == name && from == place,
         (Request::Show { file }, Asked::Show(name)) => file == name,
+        (Request::Check { file }, Asked::Check(name)) => file == name,
         (Request::Merge { output, inputs }, Asked::Merge(name, names)) => {
             output == name && inputs == names
         }

@@ -143,7 +143,7 @@ fn ints(alloc: Global, rle: Rle, sign: Sign, hex: &str, out: &mut Trickle) -> Re
 
 /// `rows_to` of a file with these bytes.
 fn printed(alloc: Global, file: &[u8], out: &mut Trickle) -> Result<(), CliFault> {
-    match rows_to(alloc, SliceSource::new(file), out) {
+    match rows_to(alloc, SliceSource::new(file), None, out) {
         Ok(_) => Ok(()),
         Err((fault, _)) => Err(fault),
     }
@@ -414,7 +414,7 @@ fn files_cut_off(rt: HostRuntime) {
 }
 
 /// The text of a fault once there is memory.
-fn text_of(alloc: Global, fault: CliFault) -> Result<String, AllocError> {
+pub(crate) fn text_of(alloc: Global, fault: CliFault) -> Result<String, AllocError> {
     match format!(in alloc; "{fault}") {
         Ok(text) => Ok(text),
         Err(_) => format!(in alloc; "{fault}"),

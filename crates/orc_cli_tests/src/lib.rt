@@ -2,11 +2,15 @@
 #![tactic(auto)]
 
 #[cfg(test)]
+mod checking;
+#[cfg(test)]
 mod command_lines;
 #[cfg(test)]
 mod commands;
 #[cfg(test)]
 mod files;
+#[cfg(test)]
+mod from_groups;
 #[cfg(test)]
 mod merging;
 #[cfg(test)]

@@ -1,9 +1,9 @@
 //! Stripes loaded by their numbers, viewed and read, and the ranges of the source that are read for them.
 
-use crate::devices::seen_source::SeenSource;
-use crate::rows_of_files::{UPWARDS, have_numbers};
+use crate::rows_of_files::have_numbers;
 use orc_file::{FileFault, OrcFile};
 use orc_stripe::StripeFault;
+use orc_test_support::{SeenSource, UPWARDS};
 use std::alloc::Global;
 use std::process::Abort;
 

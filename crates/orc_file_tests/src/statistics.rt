@@ -1,10 +1,9 @@
 //! The statistics of a file's columns, joined of its stripes'.
 
-use crate::rows_of_files::UPWARDS;
 use crate::tails::{numbers, opened};
-use crate::vectors::{EMPTY, SEVENS, TWICE};
 use orc_file::{FileFault, file_statistics};
 use orc_stats::StatFault;
+use orc_test_support::{EMPTY, SEVENS, TWICE, UPWARDS};
 use std::alloc::Global;
 use std::process::Abort;
 

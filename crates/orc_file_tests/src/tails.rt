@@ -7,10 +7,10 @@ mod limits;
 mod put_again;
 mod reads;
 
-use crate::vectors::{EMPTY, SEVENS};
 use orc_file::{FileFault, OrcFile, SliceSource, Tail};
 use orc_stats::{Body, Stat};
 use orc_stripe::{StreamKind, StripeFault};
+use orc_test_support::{EMPTY, SEVENS};
 use orc_types::TypeFault;
 use std::alloc::Global;
 use std::process::Abort;

@@ -1,11 +1,11 @@
 -- Known bytes that grow step by step.
-use Rattle.std.proofs.Common.{◌≡◌, ℕ, ◌<◌, List, ◌++◌, length, take, sym, ap, ◌∙◌, append_assoc, Some, None, Option, Result, Ok, Err, IsErrAnd, IfErr, inl, inr, subst}
+use Rattle.std.proofs.Common.{◌≡◌, ◌⊎◌, ℕ, ◌<◌, List, ◌++◌, length, take, sym, ap, ◌∙◌, append_assoc, Some, None, Option, Result, Ok, Err, IsErrAnd, IfErr, inl, inr, subst}
 use Rattle.std.specs.Io.KnownBytes.{Appends, Keeps}
 use Rattle.orc_file.specs.declared.fault.FileFault.{FileFault}
 use Rattle.orc_file.specs.declared.fault.FileFault.TheVariants as file
 use Rattle.orc_output.specs.declared.fault.CliFault.{CliFault}
 use Rattle.orc_output.specs.declared.fault.CliFault.TheVariants.{File}
-use Rattle.orc_output.specs.Output.{AppendsPart, IsWantOfMemory, IsOutside}
+use Rattle.orc_output.specs.Output.{AppendsPart, IsWantOfMemory, IsOutside, write_failed}
 
 pub appends_more : (old mid new : Option (List ℕ)) (x y : List ℕ) → Appends old mid x → Appends mid new y → Appends old new (x ++ y)
 appends_more None mid new x y p q = tt
@@ -39,3 +39,14 @@ outside_from (Err e) fault want is = inr (subst IsWantOfMemory (sym is) want)
 pub err_gives : {T E : Type 0} (r : Result T E) (fault : E) → IsErrAnd r (λ y. y ≡ fault) → r ≡ Err fault
 err_gives (Ok _) fault is = absurd is
 err_gives (Err e) fault is = ap Err is
+
+no_want : (fault : CliFault) → IsWantOfMemory fault → fault ≡ write_failed → ⊥
+no_want fault (inl h) failed = cc
+no_want fault (inr (inl h)) failed = cc
+no_want fault (inr (inr (inl h))) failed = cc
+no_want fault (inr (inr (inr h))) failed = cc
+
+-- an output that failed has a part
+pub part_of : (fault : CliFault) (P Q : Type 0) → ((fault ≡ write_failed) × P) ⊎ (IsWantOfMemory fault × Q) → fault ≡ write_failed → P
+part_of fault P Q (inl h) failed = h.1
+part_of fault P Q (inr h) failed = absurd (no_want fault h.0 failed)

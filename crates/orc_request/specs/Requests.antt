@@ -1,6 +1,6 @@
 -- What the words of a command line ask for, by the names of their options.
 use Rattle.std.specs.Prelude.{◌≡◌, ◌<◌, ◌^◌, ◌⊎◌, ℕ, List, [], Some, None, map, option_map, unwrap_or, codes}
-use Rattle.std.specs.Str.Parse.{IsNumeral, digits_value, without_leading_plus}
+use Rattle.std.specs.Str.Parse.{IsNumeral, digits_value}
 use Rattle.clap.specs.Matches.{first_value, matched_of, raw_values, subcommand_name_of}
 use Rattle.clap.specs.Simple.{subcommand_rows_of}
 use Rattle.clap.specs.Walk.{rows_of}
@@ -12,7 +12,7 @@ use Rattle.orc_rle.specs.declared.sign.Sign.{Sign}
 use Rattle.orc_rle.specs.declared.sign.Sign.TheVariants.{Signed, Unsigned}
 use Rattle.orc_written.specs.declared.options.Options.{Options}
 use Rattle.orc_request.specs.declared.request.Request.{Request}
-use Rattle.orc_request.specs.declared.request.Request.TheVariants.{Ints, Rows, Show, Write, Merge}
+use Rattle.orc_request.specs.declared.request.Request.TheVariants.{Ints, Rows, Show, Check, Write, Merge}
 
 -- the word of a version of the integer run lengths
 abbrev pub version_word : Rle → List ℕ
@@ -27,8 +27,9 @@ sign_word Unsigned = codes "u"
 -- the words behind the name of a command
 abbrev pub command_word : Request → List ℕ
 command_word (Ints _ _ _) = codes "ints"
-command_word (Rows _) = codes "rows"
+command_word (Rows _ _) = codes "rows"
 command_word (Show _) = codes "show"
+command_word (Check _) = codes "check"
 command_word (Write _ _ _ _) = codes "write"
 command_word (Merge _ _) = codes "merge"
 
@@ -38,12 +39,17 @@ pub record HasInts (found : Found) (rle : Rle) (sign : Sign) (hex : List ℕ) : 
   pub sign_is : first_value found (codes "sign") ≡ Some (sign_word sign)
   pub digits : first_value found (codes "hex") ≡ Some hex
 
--- the option's word is this number in decimal digits, before which a plus may stand
+-- a word is this number in decimal digits alone, with no sign, and 32 bits hold it
+pub record IsNumber (word : List ℕ) (n : ℕ) : Type 0 where
+  pub numeral : IsNumeral 10 word
+  pub value : n ≡ digits_value 10 word
+  pub fits : n < 2 ^ 32
+
+-- the option's word is this number
 pub record HasNumber (found : Found) (option : List ℕ) (n : ℕ) : Type 0 where
   pub word : List ℕ
   pub given : first_value found option ≡ Some word
-  pub numeral : IsNumeral 10 (without_leading_plus word)
-  pub value : n ≡ digits_value 10 (without_leading_plus word)
+  pub is : IsNumber word n
 
 -- the words of `write` have these values
 pub record HasWrite (found : Found) (schema : List ℕ) (options : Options) (input output : List ℕ) : Type 0 where
@@ -66,8 +72,9 @@ pub record HasMerge (found : Found) (output : List ℕ) (inputs : List (List ℕ
 -- the words that the parser found ask for this
 abbrev pub Asks : Found → Request → Type 0
 Asks found (Ints rle sign hex) = HasInts found rle sign hex.now
-Asks found (Rows file) = first_value found (codes "file") ≡ Some file.now
+Asks found (Rows file from) = (first_value found (codes "file") ≡ Some file.now) × (first_value found (codes "from") ≡ option_map (λ word. word.now) from)
 Asks found (Show file) = first_value found (codes "file") ≡ Some file.now
+Asks found (Check file) = first_value found (codes "file") ≡ Some file.now
 Asks found (Write schema options input output) = HasWrite found schema.now options input.now output.now
 Asks found (Merge output inputs) = HasMerge found output.now (map (λ word. word.now) inputs.now)
 
@@ -76,6 +83,7 @@ pub data IsUnderstood (name : List ℕ) (found : Found) : Type 0 where
   ints : (rle : Rle) (sign : Sign) (hex : List ℕ) → name ≡ codes "ints" → HasInts found rle sign hex → IsUnderstood name found
   rows : (file : List ℕ) → name ≡ codes "rows" → first_value found (codes "file") ≡ Some file → IsUnderstood name found
   show : (file : List ℕ) → name ≡ codes "show" → first_value found (codes "file") ≡ Some file → IsUnderstood name found
+  check : (file : List ℕ) → name ≡ codes "check" → first_value found (codes "file") ≡ Some file → IsUnderstood name found
   write : (schema : List ℕ) (options : Options) (input output : List ℕ) → name ≡ codes "write" → HasWrite found schema options input output
       → IsUnderstood name found
   merge : (output : List ℕ) → name ≡ codes "merge" → first_value found (codes "out") ≡ Some output → IsUnderstood name found

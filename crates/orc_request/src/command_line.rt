@@ -1,5 +1,6 @@
 //! The command line: the commands and their options, and how its words are read.
 
+use crate::help::{CHECK_HELP, MERGE_HELP, ROWS_HELP, STATUSES, WRITE_HELP};
 use crate::request::{SIGNS, VERSIONS};
 use clap::builder::ValueParser;
 use clap::error::ErrorKind;
@@ -33,7 +34,7 @@ pub enum Asked<'a> {
 pub enum Refusal {
     /// The request was refused, or memory ran out before the words were read.
     Fault(CliFault),
-    /// The words are no request. Where the parser found that, the standard error says why.
+    /// The words are no request, and the standard error says why.
     NotUnderstood,
 }
 
@@ -90,11 +91,13 @@ pub fn parsed<'a, S: AsStr>(alloc: Global, words: &'a [S]) -> Result<ArgMatches<
     Command::new(alloc, "orcm")
         .bin_name("orcm")?
         .version(VERSION)
-        .about("Reads, writes and joins Apache ORC files without compression")
+        .about("Reads, writes, checks and joins Apache ORC files without compression")
+        .after_help(STATUSES)
         .subcommand_required(true)
         .subcommand(ints_command(alloc)?)?
         .subcommand(rows_command(alloc)?)?
         .subcommand(show_command(alloc)?)?
+        .subcommand(check_command(alloc)?)?
         .subcommand(write_command(alloc)?)?
         .subcommand(merge_command(alloc)?)?
         .try_get_matches_from(words)
@@ -139,9 +142,16 @@ fn file_word<'a>(alloc: Global) -> Arg<'a> {
 }
 
 fn rows_command<'a>(alloc: Global) -> Result<Command<'a>, Error> {
+    let from = Arg::new(alloc, "from")
+        .long("from")
+        .action(ArgAction::Set)
+        .value_name("STRIPE:GROUP")
+        .help("Where to start: a stripe and a group of its row index, both counted from 0");
     Ok(
         Command::new(alloc, "rows")
             .about("Prints the rows of a file, a row a line as compact JSON")
+            .after_help(ROWS_HELP)
+            .arg(from)?
             .arg(file_word(alloc))?,
     )
 }
@@ -150,6 +160,15 @@ fn show_command<'a>(alloc: Global) -> Result<Command<'a>, Error> {
     Ok(
         Command::new(alloc, "show")
             .about("Prints what a file says of itself: schema, stripes and statistics")
+            .arg(file_word(alloc))?,
+    )
+}
+
+fn check_command<'a>(alloc: Global) -> Result<Command<'a>, Error> {
+    Ok(
+        Command::new(alloc, "check")
+            .about("Prints what a file says of itself and is not so: statistics and row indexes")
+            .after_help(CHECK_HELP)
             .arg(file_word(alloc))?,
     )
 }
@@ -180,6 +199,7 @@ fn write_command<'a>(alloc: Global) -> Result<Command<'a>, Error> {
     Ok(
         Command::new(alloc, "write")
             .about("Writes a file of rows, which are given a row a line as JSON")
+            .after_help(WRITE_HELP)
             .arg(required_argument(alloc, "schema", "TEXT", "The schema, as struct<n:bigint>").long(
                 "schema",
             ))?
@@ -213,6 +233,7 @@ fn merge_command<'a>(alloc: Global) -> Result<Command<'a>, Error> {
     Ok(
         Command::new(alloc, "merge")
             .about("Joins files into a new one, stripe by stripe, with statistics of all rows")
+            .after_help(MERGE_HELP)
             .arg(required_argument(alloc, "out", "OUT", "The file that is made"))?
             .arg(
                 Arg::new(alloc, "in")

@@ -3,6 +3,7 @@
 
 mod command_line;
 mod files;
+mod help;
 mod request;
 
 pub use command_line::{Asked, Refusal, parsed, read_words, words_of};

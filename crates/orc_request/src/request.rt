@@ -7,7 +7,7 @@ ghost use Rattle.clap.specs.declared.parser.matches.Found.{Found};
 ghost use Rattle.orc_rle.specs.declared.sign.Rle.{Rle};
 ghost use Rattle.orc_rle.specs.declared.sign.Sign.{Sign};
 ghost use Rattle.orc_written.specs.declared.options.Options.{Options};
-ghost use Rattle.orc_request.specs.Requests.{Asks, version_word, sign_word, command_word, HasInts, HasWrite, IsNotUnderstood};
+ghost use Rattle.orc_request.specs.Requests.{Asks, version_word, sign_word, command_word, HasInts, IsNumber, HasWrite, IsNotUnderstood};
 
 use clap::ArgMatches;
 use orc_rle::{Rle, Sign};
@@ -22,12 +22,17 @@ pub enum Request<'m, 'a> {
         sign: Sign,
         hex: &'a str,
     },
-    /// The rows of a file.
+    /// The rows of a file, from the place on that a text names, if there is one.
     Rows {
         file: &'a str,
+        from: Option<&'a str>,
     },
     /// What a file says of itself.
     Show {
+        file: &'a str,
+    },
+    /// What a file says of itself and is not so.
+    Check {
         file: &'a str,
     },
     /// A file of the rows that lines spell.
@@ -74,6 +79,17 @@ fn sign_of(word: &str) -> Option<Sign>
     }
 }
 
+/// The number that decimal digits alone write, where 32 bits hold it. There may be zeros in front, and no sign.
+fn number_of(digits: &str) -> Option<u32>
+    ensures found { IfSome result (IsNumber digits.now) }
+    ensures only { (n : ℕ) → IsNumber digits.now n → IsSome result }
+{
+    match digits.as_bytes().first() {
+        Some(b'+') => None,
+        _ => digits.parse::<u32>().ok(),
+    }
+}
+
 /// What the options of `ints` ask for.
 fn ints_of<'m, 'a>(found: &'m ArgMatches<'a>) -> Option<Request<'m, 'a>>
     ensures name { IfSome result (λ request. command_word request ≡ codes "ints") }
@@ -95,6 +111,7 @@ fn rows_of<'m, 'a>(found: &'m ArgMatches<'a>) -> Option<Request<'m, 'a>>
 {
     Some(Request::Rows {
         file: found.get_str("file")?,
+        from: found.get_str("from"),
     })
 }
 
@@ -108,6 +125,16 @@ fn show_of<'m, 'a>(found: &'m ArgMatches<'a>) -> Option<Request<'m, 'a>>
     Some(Request::Show { file })
 }
 
+/// What the words of `check` ask for.
+fn check_of<'m, 'a>(found: &'m ArgMatches<'a>) -> Option<Request<'m, 'a>>
+    ensures name { IfSome result (λ request. command_word request ≡ codes "check") }
+    ensures found { IfSome result (Asks (found_of found.now)) }
+    ensures only { (file : List ℕ) → first_value (found_of found.now) (codes "file") ≡ Some file → IsSome result }
+{
+    let file = found.get_str("file")?;
+    Some(Request::Check { file })
+}
+
 /// What the words of `write` ask for. Nothing where a number isn't one that files are written with.
 fn write_of<'m, 'a>(found: &'m ArgMatches<'a>) -> Option<Request<'m, 'a>>
     ensures name { IfSome result (λ request. command_word request ≡ codes "write") }
@@ -116,8 +143,8 @@ fn write_of<'m, 'a>(found: &'m ArgMatches<'a>) -> Option<Request<'m, 'a>>
         → IsSome result }
 {
     let rle = version_of(found.get_str("rle")?)?;
-    let stride = found.get_str("stride")?.parse::<u32>().ok()?;
-    let stripe_rows = found.get_str("stripe-rows")?.parse::<u32>().ok()?;
+    let stride = number_of(found.get_str("stride")?)?;
+    let stripe_rows = number_of(found.get_str("stripe-rows")?)?;
     Some(Request::Write {
         schema: found.get_str("schema")?,
         options: Options::new(rle, stride, stripe_rows)?,
@@ -149,6 +176,7 @@ pub fn request_of<'m, 'a>(matches: &'m ArgMatches<'a>) -> Option<Request<'m, 'a>
         "ints" => ints_of(found),
         "rows" => rows_of(found),
         "show" => show_of(found),
+        "check" => check_of(found),
         "write" => write_of(found),
         "merge" => merge_of(found),
         _ => None,

@@ -1,2 +1,4 @@
 pub mod NoFloats
 pub mod RowsLemmas
+mod StartLemmas
+mod GroupLemmas

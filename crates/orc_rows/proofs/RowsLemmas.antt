@@ -1,6 +1,8 @@
 -- Rows as lines, stripe by stripe: what the first stripes have printed, and why the next one stops it.
-use Rattle.std.proofs.Common.{◌≡◌, ◌≢◌, ◌⊎◌, ℕ, zero, suc, ◌+◌, ◌<◌, List, [], ◌∷◌, ◌++◌, length, take, refl, sym, ap, ◌∙◌, subst, arith, append-nil, Option, Some, None, inl, inr}
+use Rattle.std.proofs.Common.{◌≡◌, ◌≢◌, ◌⊎◌, ℕ, zero, suc, ◌+◌, ◌-◌, ◌<◌, ◌≤◌, List, [], ◌∷◌, ◌++◌, length, take, drop, refl, sym, ap, ◌∙◌, subst, arith, append-nil, length-drop, Option, Some, None, inl, inr}
+use Rattle.std.specs.Borrow.{Bor}
 use Rattle.std.specs.Option.{IfSome}
+use Rattle.std.specs.Prelude.{IfErr, Result, Ok, Err}
 use Rattle.std.specs.Io.KnownBytes.{Appends, Keeps}
 use Rattle.std.proofs.lemmas.List.{take_more}
 use Rattle.std.proofs.Math.Seq.{take-length}
@@ -21,7 +23,9 @@ use Rattle.orc_file.specs.FileRows.{stripe_bytes, joined, HasRows, IsNoStripe, F
 use Rattle.orc_file.specs.declared.tail.Tail.{Tail}
 use Rattle.orc_output.specs.Output.{IsOutsideFile, IsWantOfMemory}
 use Rattle.orc_output.proofs.OutputLemmas.{appends_more}
-use Rattle.orc_rows.specs.Rows.{row_line, row_lines, HaveJson, AreOfStripe, AreOfStripes, HasNoJson, StripeStops, EndsAt, EndsIn, RefusesRows}
+use Rattle.orc_rows.specs.Rows.{row_line, row_lines, HaveJson, AreOfStripe, AreOfStripes, HasNoJson, StripeStops, EndsAt, EndsIn}
+use Rattle.orc_rows.specs.Printed.{IsAsked, IsNotAsked, AreLines, ArePrinted, Ends, RefusesFile}
+use Rattle.orc_rows.specs.declared.start.Start.{Start}
 use Rattle.orc_output.specs.declared.fault.CliFault.{CliFault}
 use Rattle.orc_output.specs.declared.fault.CliFault.TheVariants.{File, Json}
 
@@ -64,27 +68,48 @@ pub appends_none : (known : Option (List ℕ)) → Appends known known []
 appends_none None = tt
 appends_none (Some bytes) = sym (append-nil bytes)
 
--- ---- the same where the bytes are told
+-- ---- the same where the bytes are told, from a stripe on
 
-abbrev pub Printed : Option (List ℕ) → Shape → List StripeInfo → ℕ → Option (List ℕ) → Option (List ℕ) → Type 0
-Printed told s infos n old new = IfSome told (λ all. (lines : List ℕ) × AreOfStripes s all (take n infos) lines × Appends old new lines)
+-- the lines of the stripes from the first of them on are out, up to number n
+abbrev pub Printed : Option (List ℕ) → Shape → List StripeInfo → ℕ → ℕ → Option (List ℕ) → Option (List ℕ) → Type 0
+Printed told s infos first n old new = IfSome told (λ all. (lines : List ℕ) × AreOfStripes s all (take (n - first) (drop first infos)) lines × Appends old new lines)
 
 no_lines : (s : Shape) (bytes : List ℕ) → AreOfStripes s bytes [] []
 no_lines s bytes = record { rows = []; has_rows = record { parts = []; stripes = tt; rows_are = refl }; have_json = inl refl; lines_are = refl }
 
-pub printed_none : (told : Option (List ℕ)) (s : Shape) (infos : List StripeInfo) (known : Option (List ℕ)) → Printed told s infos 0 known known
-printed_none None s infos known = tt
-printed_none (Some all) s infos known = ([], no_lines s all, appends_none known)
+pub printed_none : (told : Option (List ℕ)) (s : Shape) (infos : List StripeInfo) (first : ℕ) (known : Option (List ℕ)) → Printed told s infos first first known known
+printed_none None s infos first known = tt
+printed_none (Some all) s infos first known =
+    let none : 0 ≡ first - first = omega arith in
+    ([], subst (λ (k : ℕ). AreOfStripes s all (take k (drop first infos)) []) none (no_lines s all), appends_none known)
 
-pub printed_next : (told : Option (List ℕ)) (s : Shape) (infos : List StripeInfo) (n : ℕ) (old mid new : Option (List ℕ)) → n < length infos → Printed told s infos n old mid
-    → IfSome told (λ all. (own : List ℕ) × AreOfStripe s (stripe_at infos n) (stripe_bytes (stripe_at infos n) all) own × Appends mid new own) → Printed told s infos (n + 1) old new
-printed_next None s infos n old mid new lt p q = tt
-printed_next (Some all) s infos n old mid new lt p q = (p.0 ++ q.0, more_lines s all infos n p.0 q.0 lt p.1 q.1, appends_more old mid new p.0 q.0 p.2 q.2)
+-- a stripe of those from a number on
+at_drop : (infos : List StripeInfo) (first k : ℕ) → stripe_at (drop first infos) k ≡ stripe_at infos (first + k)
+at_drop infos zero k = let z : k ≡ 0 + k = omega arith in ap (stripe_at infos) z
+at_drop [] (suc first) k = let z : suc first + k ≡ suc (first + k) = omega arith in sym (ap (stripe_at []) z)
+at_drop (i ∷ is) (suc first) k = let z : suc (first + k) ≡ suc first + k = omega arith in at_drop is first k ∙ ap (stripe_at (i ∷ is)) z
 
-pub printed_all : (told : Option (List ℕ)) (s : Shape) (infos : List StripeInfo) (n : ℕ) (old new : Option (List ℕ)) → n ≡ length infos → Printed told s infos n old new
-    → IfSome told (λ all. (lines : List ℕ) × AreOfStripes s all infos lines × Appends old new lines)
-printed_all None s infos n old new e p = tt
-printed_all (Some all) s infos n old new e p = (p.0, subst (λ (t : List StripeInfo). AreOfStripes s all t p.0) (ap (λ (k : ℕ). take k infos) e ∙ take-length infos) p.1, p.2)
+pub printed_next : (told : Option (List ℕ)) (s : Shape) (infos : List StripeInfo) (first n : ℕ) (old mid new : Option (List ℕ)) → first ≤ n → n < length infos → Printed told s infos first n old mid
+    → IfSome told (λ all. (own : List ℕ) × AreOfStripe s (stripe_at infos n) (stripe_bytes (stripe_at infos n) all) own × Appends mid new own) → Printed told s infos first (n + 1) old new
+printed_next None s infos first n old mid new le lt p q = tt
+printed_next (Some all) s infos first n old mid new le lt p q =
+    let k = n - first in
+    let there : k < length (drop first infos) = (let l = length-drop first infos in omega (arith, le, lt, l)) in
+    let sum : first + k ≡ n = omega (arith, le) in
+    let same : stripe_at (drop first infos) k ≡ stripe_at infos n = at_drop infos first k ∙ ap (stripe_at infos) sum in
+    let more : k + 1 ≡ n + 1 - first = omega (arith, le) in
+    let own = subst (λ (i : StripeInfo). AreOfStripe s i (stripe_bytes i all) q.0) (sym same) q.1 in (
+      p.0 ++ q.0,
+      subst (λ (m : ℕ). AreOfStripes s all (take m (drop first infos)) (p.0 ++ q.0)) more (more_lines s all (drop first infos) k p.0 q.0 there p.1 own),
+      appends_more old mid new p.0 q.0 p.2 q.2,
+    )
+
+pub printed_all : (told : Option (List ℕ)) (s : Shape) (infos : List StripeInfo) (first n : ℕ) (old new : Option (List ℕ)) → n ≡ length infos → Printed told s infos first n old new
+    → IfSome told (λ all. (lines : List ℕ) × AreOfStripes s all (drop first infos) lines × Appends old new lines)
+printed_all None s infos first n old new e p = tt
+printed_all (Some all) s infos first n old new e p =
+    let long : n - first ≡ length (drop first infos) = (let l = length-drop first infos in omega (arith, e, l)) in
+    (p.0, subst (λ (t : List StripeInfo). AreOfStripes s all t p.0) (ap (λ (k : ℕ). take k (drop first infos)) long ∙ take-length (drop first infos)) p.1, p.2)
 
 -- ---- where printing ends
 
@@ -95,11 +120,12 @@ ends_behind s bytes n info lines old mid new fault p (inl h) =
 ends_behind s bytes n info lines old mid new fault p (inr h) =
     inr (h.0, (h.1.0, h.1.1, (h.1.2.0, h.1.2.1, appends_more old mid new lines (take h.1.2.0 h.1.0) p h.1.2.2)))
 
-pub ends_in : (told : Option (List ℕ)) (tail : Tail) (n : ℕ) (old mid new : Option (List ℕ)) (fault : CliFault) → n < length tail.stripes → Printed told tail.schema tail.stripes n old mid
-    → IfSome told (λ all. EndsAt tail.schema all n (stripe_at tail.stripes n) [] mid new fault) → IfSome told (λ all. EndsIn all tail old new fault)
-ends_in None tail n old mid new fault lt p h = tt
-ends_in (Some all) tail n old mid new fault lt p h = record {
+pub ends_in : (told : Option (List ℕ)) (tail : Tail) (first n : ℕ) (old mid new : Option (List ℕ)) (fault : CliFault) → first ≤ n → n < length tail.stripes → Printed told tail.schema tail.stripes first n old mid
+    → IfSome told (λ all. EndsAt tail.schema all n (stripe_at tail.stripes n) [] mid new fault) → IfSome told (λ all. EndsIn all tail first old new fault)
+ends_in None tail first n old mid new fault le lt p h = tt
+ends_in (Some all) tail first n old mid new fault le lt p h = record {
   n = n;
+  begun = le;
   some = lt;
   lines = p.0;
   before = p.1;
@@ -121,20 +147,26 @@ lines_refused (Some all) s n info bytes known fault is (inr (inr h)) =
 
 -- ---- a file
 
-pub refused_file : (told : Option (List ℕ)) (tail : Tail) (old new : Option (List ℕ)) (fault : CliFault) → IfSome told (λ bytes. IsTail bytes tail) → IfSome told (λ all. EndsIn all tail old new fault)
-    → IfSome told (λ bytes. RefusesRows bytes old new fault)
-refused_file None tail old new fault is h = tt
-refused_file (Some bytes) tail old new fault is h = inr (tail, is, h)
+pub printed_file : (told : Option (List ℕ)) (tail : Tail) (start : Option Start) (old new : Option (List ℕ)) → IfSome told (λ bytes. IsTail bytes tail)
+    → IfSome told (λ all. (lines : List ℕ) × AreLines all tail start lines × Appends old new lines) → IfSome told (λ bytes. ArePrinted bytes start old new)
+printed_file None tail start old new is h = tt
+printed_file (Some bytes) tail start old new is h = (tail, h.0, is, h.1, h.2)
 
-keeps_itself : (known : Option (List ℕ)) → Keeps known known
+pub refused_file : (told : Option (List ℕ)) (tail : Tail) (start : Option Start) (old new : Option (List ℕ)) (fault : CliFault) → IfSome told (λ bytes. IsTail bytes tail)
+    → IfSome told (λ all. Ends all tail start old new fault) → IfSome told (λ bytes. RefusesFile bytes start old new fault)
+refused_file None tail start old new fault is h = tt
+refused_file (Some bytes) tail start old new fault is h = inr (tail, is, h)
+
+pub keeps_itself : (known : Option (List ℕ)) → Keeps known known
 keeps_itself None = tt
 keeps_itself (Some bytes) = refl
 
-pub refused_open : (told : Option (List ℕ)) (known : Option (List ℕ)) (why : FileFault) → ReadFault told why (λ bytes. OpenFault bytes why) → IfSome told (λ bytes. RefusesRows bytes known known (File why))
-refused_open None known why h = tt
-refused_open (Some bytes) known why (inl memory) = inl (inr (inr (inl (ap File memory))), keeps_itself known)
-refused_open (Some bytes) known why (inr (inl source)) = inl (inr (inl (ap File source)), keeps_itself known)
-refused_open (Some bytes) known why (inr (inr bad)) = inl (inl (why, refl, bad), keeps_itself known)
+pub refused_open : (told : Option (List ℕ)) (start : Option Start) (known : Option (List ℕ)) (why : FileFault) → ReadFault told why (λ bytes. OpenFault bytes why)
+    → IfSome told (λ bytes. RefusesFile bytes start known known (File why))
+refused_open None start known why h = tt
+refused_open (Some bytes) start known why (inl memory) = inl (inr (inr (inl (ap File memory))), keeps_itself known)
+refused_open (Some bytes) start known why (inr (inl source)) = inl (inr (inl (ap File source)), keeps_itself known)
+refused_open (Some bytes) start known why (inr (inr bad)) = inl (inl (why, refl, bad), keeps_itself known)
 
 -- ---- a file whose rows have JSON is refused for what is outside of it
 
@@ -161,7 +193,7 @@ own_rows s bytes (i ∷ is) (x ∷ xs) (suc n) lt p =
     let h = own_rows s bytes is xs n (omega (arith, lt)) p.1 in
     record { rows = h.rows; stripe = h.stripe; none = λ e. h.none (none_second x (joined xs) e) }
 
-stops_nowhere : (s : Shape) (bytes : List ℕ) (infos : List StripeInfo) (n : ℕ) (rows : List Cell) (fault : CliFault) → n < length infos → HasRows s bytes infos rows → HaveJson s rows
+pub stops_nowhere : (s : Shape) (bytes : List ℕ) (infos : List StripeInfo) (n : ℕ) (rows : List Cell) (fault : CliFault) → n < length infos → HasRows s bytes infos rows → HaveJson s rows
     → StripeStops s bytes n (stripe_at infos n) fault → ⊥
 stops_nowhere s bytes infos n rows fault lt p have (inl h) =
     let own = own_rows s bytes infos p.parts n lt p.stripes in
@@ -173,14 +205,14 @@ stops_nowhere s bytes infos n rows fault lt p (inl nothing) (inr h) =
     h.1.some (same ∙ own.none (sym p.rows_are ∙ nothing))
 
 ends_outside : (bytes : List ℕ) (tail : Tail) (rows : List Cell) (old new : Option (List ℕ)) (fault : CliFault) → HasRows tail.schema bytes tail.stripes rows → HaveJson tail.schema rows
-    → (h : EndsIn bytes tail old new fault) → EndsAt tail.schema bytes h.n (stripe_at tail.stripes h.n) h.lines old new fault → IsOutsideFile fault
+    → (h : EndsIn bytes tail 0 old new fault) → EndsAt tail.schema bytes h.n (stripe_at tail.stripes h.n) h.lines old new fault → IsOutsideFile fault
 ends_outside bytes tail rows old new fault p have h (inl q) = elim q.0 [
   | inl stops ↦ absurd (stops_nowhere tail.schema bytes tail.stripes h.n rows fault h.some p have stops)
   | inr source ↦ inr source
 ]
 ends_outside bytes tail rows old new fault p have h (inr q) = inl q.0
 
-refuses_outside : (bytes : List ℕ) (tail : Tail) (rows : List Cell) (old new : Option (List ℕ)) (fault : CliFault) → FileIs bytes tail rows → HaveJson tail.schema rows → RefusesRows bytes old new fault
+refuses_outside : (bytes : List ℕ) (tail : Tail) (rows : List Cell) (old new : Option (List ℕ)) (fault : CliFault) → FileIs bytes tail rows → HaveJson tail.schema rows → RefusesFile bytes None old new fault
     → IsOutsideFile fault
 refuses_outside bytes tail rows old new fault p have (inl h) = elim h.0 [
   | inl bad ↦ absurd ((tail_tests bytes).none tail bad.0 bad.2 p.tail_is)
@@ -190,7 +222,30 @@ refuses_outside bytes tail rows old new fault p have (inr h) =
     let same = (tail_tests bytes).one tail h.0 p.tail_is h.1 in
     ends_outside bytes h.0 rows old new fault (subst (λ (t : Tail). HasRows t.schema bytes t.stripes rows) same p.has_rows) (subst (λ (t : Tail). HaveJson t.schema rows) same have) h.2 h.2.ends
 
-pub refused_only : (told : Option (List ℕ)) (old new : Option (List ℕ)) (fault : CliFault) → IfSome told (λ bytes. RefusesRows bytes old new fault)
+-- without a text there is no place
+no_place : (start : Option Start) → IsAsked None start → start ≡ None
+no_place None h = refl
+no_place (Some start) h = absurd h
+
+pub refused_only : (told : Option (List ℕ)) (from : Option (Bor (List ℕ))) (start : Option Start) (old new : Option (List ℕ)) (fault : CliFault) → from ≡ None → IsAsked from start
+    → IfSome told (λ bytes. RefusesFile bytes start old new fault)
     → IfSome told (λ bytes. (tail : Tail) (rows : List Cell) → FileIs bytes tail rows → HaveJson tail.schema rows → IsOutsideFile fault)
-refused_only None old new fault h = tt
-refused_only (Some bytes) old new fault h = λ tail rows p have. refuses_outside bytes tail rows old new fault p have h
+refused_only None from start old new fault none asked h = tt
+refused_only (Some bytes) from start old new fault none asked h = λ tail rows p have.
+    let whole : start ≡ None = no_place start (subst (λ (f : Option (Bor (List ℕ))). IsAsked f start) none asked) in
+    refuses_outside bytes tail rows old new fault p have (subst (λ (s : Option Start). RefusesFile bytes s old new fault) whole h)
+
+-- of an answer
+pub answered_only : {A B : Type 0} (told : Option (List ℕ)) (from : Option (Bor (List ℕ))) (start : Option Start) (old new : Option (List ℕ)) (r : Result A (CliFault × B)) → from ≡ None → IsAsked from start
+    → IfErr r (λ e. IfSome told (λ bytes. RefusesFile bytes start old new e.0))
+    → IfSome told (λ bytes. (tail : Tail) (rows : List Cell) → FileIs bytes tail rows → HaveJson tail.schema rows → IfErr r (λ e. IsOutsideFile e.0))
+answered_only None from start old new r none asked h = tt
+answered_only (Some bytes) from start old new (Ok a) none asked h = λ tail rows p have. tt
+answered_only (Some bytes) from start old new (Err e) none asked h = refused_only (Some bytes) from start old new e.0 none asked h
+
+-- where no text is given, it isn't one that names no place
+pub not_asked : (told : Option (List ℕ)) (from : Option (Bor (List ℕ))) (fault : CliFault) → from ≡ None → IsNotAsked from fault
+    → IfSome told (λ bytes. (tail : Tail) (rows : List Cell) → FileIs bytes tail rows → HaveJson tail.schema rows → IsOutsideFile fault)
+not_asked told from fault none h =
+    let nothing : IsAsked None None = tt in
+    absurd (h.1 None (subst (λ (f : Option (Bor (List ℕ))). IsAsked f None) (sym none) nothing))

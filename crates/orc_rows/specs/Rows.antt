@@ -1,7 +1,7 @@
 -- What `rows` prints of a file: a row a line, as compact JSON.
-use Rattle.std.specs.Prelude.{◌≡◌, ◌≢◌, ℕ, ◌<◌, List, [], ◌∷◌, ◌++◌, length, take, true, false, ◌⊎◌, Option}
+use Rattle.std.specs.Prelude.{◌≡◌, ◌≢◌, ℕ, ◌<◌, ◌≤◌, ◌-◌, List, [], ◌∷◌, ◌++◌, length, take, drop, true, false, ◌⊎◌, Option}
 use Rattle.std.specs.List.{flat_map}
-use Rattle.std.specs.Io.KnownBytes.{Appends, Keeps}
+use Rattle.std.specs.Io.KnownBytes.{Appends}
 use Rattle.serde_json.specs.Written.{compact_text}
 use Rattle.orc_wire.specs.declared.stripe_info.StripeInfo.{StripeInfo}
 use Rattle.orc_types.specs.Cells.{Cell}
@@ -11,12 +11,10 @@ use Rattle.orc_types.specs.JsonPrinting.{json_of}
 use Rattle.orc_types.specs.declared.json_fault.JsonFault.TheVariants as json
 use Rattle.orc_columns.specs.Stripe.{IsStripe}
 use Rattle.orc_file.specs.Stripes.{stripe_at}
-use Rattle.orc_file.specs.Tails.{IsTail, OpenFault}
 use Rattle.orc_file.specs.FileRows.{stripe_bytes, HasRows, StripeRefused}
 use Rattle.orc_file.specs.declared.tail.Tail.{Tail}
 use Rattle.orc_file.specs.declared.fault.FileFault.{FileFault}
-use Rattle.orc_file.specs.declared.fault.FileFault.TheVariants as file
-use Rattle.orc_output.specs.Output.{write_failed, IsOfSource, IsNotOpened}
+use Rattle.orc_output.specs.Output.{write_failed, IsOfSource}
 use Rattle.orc_output.specs.declared.fault.CliFault.{CliFault}
 use Rattle.orc_output.specs.declared.fault.CliFault.TheVariants.{Json, File}
 
@@ -67,15 +65,12 @@ EndsAt s bytes n info before old new fault =
     ⊎ ((fault ≡ write_failed) × ((own : List ℕ) × AreOfStripe s info (stripe_bytes info bytes) own
     × ((count : ℕ) × (count < length own) × Appends old new (before ++ take count own))))
 
--- Why printing ends in a file with this tail: the lines of its first stripes are out, all of them, and of
--- the next one there is a reason why its lines aren't.
-pub record EndsIn (bytes : List ℕ) (tail : Tail) (old new : Option (List ℕ)) (fault : CliFault) : Type 0 where
+-- Why printing ends in a file with this tail, which began with the stripe of this number: the lines of some stripes from there on are
+-- out, all of them, and of the next one there is a reason why its lines aren't.
+pub record EndsIn (bytes : List ℕ) (tail : Tail) (first : ℕ) (old new : Option (List ℕ)) (fault : CliFault) : Type 0 where
   pub n : ℕ
+  pub begun : first ≤ n
   pub some : n < length tail.stripes
   pub lines : List ℕ
-  pub before : AreOfStripes tail.schema bytes (take n tail.stripes) lines
+  pub before : AreOfStripes tail.schema bytes (take (n - first) (drop first tail.stripes)) lines
   pub ends : EndsAt tail.schema bytes n (stripe_at tail.stripes n) lines old new fault
-
--- why `rows` refuses a file, and what is out then: nothing where the file isn't opened
-abbrev pub RefusesRows : List ℕ → Option (List ℕ) → Option (List ℕ) → CliFault → Type 0
-RefusesRows bytes old new fault = (IsNotOpened bytes fault × Keeps old new) ⊎ ((tail : Tail) × IsTail bytes tail × EndsIn bytes tail old new fault)

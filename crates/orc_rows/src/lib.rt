@@ -1,6 +1,9 @@
 //! A file's rows as lines of JSON.
 #![tactic(auto)]
 
+mod from_group;
+mod printing;
 mod rows;
+mod start;
 
-pub use rows::rows_to;
+pub use printing::rows_to;

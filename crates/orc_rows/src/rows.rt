@@ -1,20 +1,17 @@
-//! `orcm rows`: a file's rows as JSON.
-ghost use Rattle.std.specs.Prelude.{◌≡◌, ◌≢◌, ◌<◌, ◌++◌, ◌⊎◌, ℕ, List, [], length, take, IfOk, OnOk, IfErr, IfSome, Err, string_bytes, true, false};
-ghost use Rattle.std.specs.Io.KnownBytes.{Appends, Keeps};
-ghost use Rattle.orc_types.specs.Cells.{Cell};
+//! The rows of a file's stripes as lines of JSON.
+ghost use Rattle.std.specs.Prelude.{◌≡◌, ◌≢◌, ◌<◌, ◌≤◌, ◌++◌, ◌⊎◌, ℕ, List, [], length, drop, IfOk, OnOk, IfErr, IfSome, Err, string_bytes, true, false};
+ghost use Rattle.std.specs.Io.KnownBytes.{Appends};
 ghost use Rattle.orc_types.specs.FieldNames.{is_distinct};
 ghost use Rattle.orc_types.specs.Fits.{RowsFit, fits};
 ghost use Rattle.orc_types.specs.Views.{view, views};
 ghost use Rattle.orc_types.specs.declared.json_fault.JsonFault.TheVariants as json;
-ghost use Rattle.orc_file.specs.FileRows.{stripe_bytes, IsNoStripe, FileIs};
+ghost use Rattle.orc_file.specs.FileRows.{stripe_bytes, IsNoStripe};
 ghost use Rattle.orc_file.specs.Stripes.{stripe_at};
-ghost use Rattle.orc_file.specs.Tails.{IsTail};
 ghost use Rattle.orc_file.specs.declared.fault.FileFault.TheVariants.{Stripe, SourceFailed};
-ghost use Rattle.orc_file.specs.declared.tail.Tail.{Tail};
 ghost use Rattle.orc_columns.specs.declared.fault.StripeFault.{StripeFault};
 ghost use Rattle.orc_columns.specs.declared.fault.StripeFault.TheVariants as stripe;
-ghost use Rattle.orc_output.specs.Output.{AppendsPart, IsOutsideFile, IsWantOfMemory, write_failed};
-ghost use Rattle.orc_rows.specs.Rows.{row_line, row_lines, HaveJson, AreOfStripe, AreOfStripes, HasNoJson, EndsAt, EndsIn, RefusesRows};
+ghost use Rattle.orc_output.specs.Output.{IsWantOfMemory};
+ghost use Rattle.orc_rows.specs.Rows.{row_line, row_lines, HaveJson, AreOfStripe, AreOfStripes, HasNoJson, EndsAt, EndsIn};
 ghost use Rattle.orc_output.specs.declared.fault.CliFault.TheVariants.{Json, File};
 
 use orc_file::{OrcFile, Source};
@@ -43,7 +40,7 @@ fn push_line(
 }
 
 /// The lines of rows.
-fn lines_of(alloc: Global, schema: &Schema, rows: &[Row<'_>]) -> Result<String, CliFault>
+pub(crate) fn lines_of(alloc: Global, schema: &Schema, rows: &[Row<'_>]) -> Result<String, CliFault>
     requires { RowsFit schema.now (views rows.now) }
     ensures found { IfOk result (λ lines. string_bytes lines ≡ row_lines schema.now (views rows.now)) }
     ensures json { OnOk result (HaveJson schema.now (views rows.now)) }
@@ -101,64 +98,28 @@ fn print_stripe<S: Source, W: Write>(
     write_out(out, lines.as_bytes())
 }
 
-/// Prints the lines of a file's rows.
-fn print_rows<S: Source, W: Write>(
+/// Prints the lines of a file's rows from the stripe with this number on.
+pub(crate) fn print_rows<S: Source, W: Write>(
     alloc: Global,
     file: &mut OrcFile<S>,
+    first: usize,
     out: &mut W,
 ) -> Result<(), CliFault>
+    requires { first ≤ length file.old.tail.stripes }
     ensures told { S.told file.new.source ≡ S.told file.old.source }
     ensures written { OnOk result (IfSome (S.told file.old.source) (λ all. (lines : List ℕ)
-        × AreOfStripes file.old.tail.schema all file.old.tail.stripes lines
+        × AreOfStripes file.old.tail.schema all (drop first file.old.tail.stripes) lines
         × Appends (W.contents out.old) (W.contents out.new) lines)) }
     ensures kept { OnOk result (S.failures file.new.source ≡ S.failures file.old.source) }
 
     ensures refused { IfErr result (λ fault. IfSome (S.told file.old.source) (λ all.
-        EndsIn all file.old.tail (W.contents out.old) (W.contents out.new) fault)) }
+        EndsIn all file.old.tail first (W.contents out.old) (W.contents out.new) fault)) }
     ensures failed { result ≡ Err (File SourceFailed) → S.failures file.old.source < S.failures file.new.source }
     ensures memory { IfErr result (λ fault. IsWantOfMemory fault → S.failures file.new.source ≡ S.failures file.old.source) }
 {
     let mut bytes = Vec::new(alloc);
-    for number in 0..file.tail().stripes.as_slice().len() {
+    for number in first..file.tail().stripes.as_slice().len() {
         print_stripe(alloc, file, number, &mut bytes, out)?;
     }
     Ok(())
-}
-
-/// Prints a line for each row of a file, in order: the row's JSON without blanks. A stripe's lines are
-/// written once all of them are there, so after a refusal in a stripe the lines of those before it stand,
-/// and no others. The bytes of one stripe and its lines are held at a time. The source is handed back.
-///
-/// Refusals: `File` where the bytes are no file, or a stripe of it has no rows; `Json` with `DuplicateField`
-/// where there are rows and a struct of the schema names a field twice; `File` with `WriteFailed` and a part
-/// of a stripe's lines written, `SourceFailed` where the source failed, or `OutOfMemory`, which a layer below
-/// may answer too.
-pub fn rows_to<S: Source, W: Write>(
-    alloc: Global,
-    source: S,
-    out: &mut W,
-) -> Result<S, (CliFault, S)>
-    ensures written { OnOk result (IfSome (S.told source) (λ bytes. (tail : Tail) × (rows : List Cell) × FileIs bytes tail rows × HaveJson tail.schema rows
-        × Appends (W.contents out.old) (W.contents out.new) (row_lines tail.schema rows))) }
-    ensures only { IfSome (S.told source) (λ bytes. (tail : Tail) (rows : List Cell) → FileIs bytes tail rows → HaveJson tail.schema rows
-        → IfErr result (λ e. IsOutsideFile e.0)) }
-    ensures same { IfOk result (λ back. S.told back ≡ S.told source) }
-    ensures kept { IfOk result (λ back. S.failures back ≡ S.failures source) }
-
-    ensures refused { IfErr result (λ e. IfSome (S.told source) (λ bytes. RefusesRows bytes (W.contents out.old) (W.contents out.new) e.0)) }
-    ensures failed { IfErr result (λ e. e.0 ≡ File SourceFailed → S.failures source < S.failures e.1) }
-    ensures memory { IfErr result (λ e. IsWantOfMemory e.0 → S.failures e.1 ≡ S.failures source) }
-    ensures back { IfErr result (λ e. S.told e.1 ≡ S.told source) }
-{
-    match OrcFile::open(alloc, source) {
-        Ok(mut file) => {
-            let printed = print_rows(alloc, &mut file, out);
-            let (_, source) = file.into_parts();
-            match printed {
-                Ok(()) => Ok(source),
-                Err(fault) => Err((fault, source)),
-            }
-        }
-        Err((fault, source)) => Err((CliFault::File(fault), source)),
-    }
 }

@@ -8,9 +8,8 @@ use Rattle.orc_file.specs.Tails.{IsTail, OpenFault, ReadFault}
 use Rattle.orc_file.specs.declared.tail.Tail.{Tail}
 use Rattle.orc_file.specs.declared.fault.FileFault.{FileFault}
 use Rattle.orc_file.specs.declared.fault.FileFault.TheVariants.{WriteFailed, SourceFailed, OutOfMemory}
-use Rattle.orc_show.proofs.OpenFaults.{never_output}
-use Rattle.orc_output.specs.Output.{IsOutsideFile, IsWantOfMemory, write_failed}
-use Rattle.orc_output.specs.declared.fault.CliFault.{CliFault}
+use Rattle.orc_output.proofs.OpenFaults.{never_output}
+use Rattle.orc_output.specs.Output.{IsOutsideFile, write_failed}
 use Rattle.orc_output.specs.declared.fault.CliFault.TheVariants.{File}
 
 pub view-String : (s : String Global) → view (JsonString s) ≡ string (string_bytes s)
@@ -20,17 +19,6 @@ view-String s = search (rules, the_lemmas)
 pub of_tail : (told : Option (List ℕ)) (tail : Tail) (P : Tail → Type 0) → IfSome told (λ bytes. IsTail bytes tail) → P tail → IfSome told (λ bytes. (t : Tail) × IsTail bytes t × P t)
 of_tail None tail P is p = tt
 of_tail (Some bytes) tail P is p = (tail, is, p)
-
-no_want : (fault : CliFault) → IsWantOfMemory fault → fault ≡ write_failed → ⊥
-no_want fault (inl h) failed = cc
-no_want fault (inr (inl h)) failed = cc
-no_want fault (inr (inr (inl h))) failed = cc
-no_want fault (inr (inr (inr h))) failed = cc
-
--- an output that failed has a part
-pub part_of : (fault : CliFault) (P Q : Type 0) → ((fault ≡ write_failed) × P) ⊎ (IsWantOfMemory fault × Q) → fault ≡ write_failed → P
-part_of fault P Q (inl h) failed = h.1
-part_of fault P Q (inr h) failed = absurd (no_want fault h.0 failed)
 
 -- a file is not opened for what is outside of it
 pub outside_open : (told : Option (List ℕ)) (why : FileFault) → IfSome told (λ bytes. (tail : Tail) → IsTail bytes tail → (why ≡ OutOfMemory) ⊎ (why ≡ SourceFailed))

@@ -1,16 +1,6 @@
-//! Tests of `orc_stripe` by its public calls: stripes read, and stripes written and read again. They stand
-//! apart from it, so that it is not proved again with them.
+//! Tests of `orc_stripe` by its public calls that read: stripes all at once and row by row. They stand apart from it, so
+//! that it is not proved again with them.
 #![tactic(auto)]
 
 #[cfg(test)]
-mod from_groups;
-#[cfg(test)]
-mod indexes;
-#[cfg(test)]
-mod lines;
-#[cfg(test)]
-mod positions;
-#[cfg(test)]
 mod reading;
-#[cfg(test)]
-mod writing;

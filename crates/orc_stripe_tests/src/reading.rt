@@ -8,9 +8,9 @@ mod run_faults;
 mod shapes;
 mod skipped;
 
-use crate::lines::{lines_at_once, lines_one_by_one, with_memory};
 use orc_rle::RunFault;
 use orc_stripe::{StreamKind, StripeFault};
+use orc_test_support::{lines_at_once, lines_one_by_one, with_memory};
 use orc_types::Schema;
 use orc_wire::StripeInfo;
 use std::alloc::Global;
@@ -374,7 +374,7 @@ fn check_cases(rt: &impl Abort, alloc: Global) -> Result<(), StripeFault> {
         };
         let (info, bytes) = stripe_of(alloc, case.1, case.2, case.3)?;
         check_case(rt, case, lines_at_once(alloc, &schema, info, &bytes))?;
-        check_case(rt, case, lines_one_by_one(rt, alloc, &schema, info, &bytes))?;
+        check_case(rt, case, lines_one_by_one(alloc, &schema, info, &bytes))?;
     }
     Ok(())
 }

@@ -2,8 +2,8 @@
 
 use super::opened;
 use super::reads::read_seen;
-use crate::vectors::SEVENS;
 use orc_file::FileFault;
+use orc_test_support::SEVENS;
 use orc_types::TypeFault;
 use std::process::Abort;
 

@@ -1,8 +1,8 @@
 //! Files opened, and their tails put again.
 
 use super::opened;
-use crate::vectors::{EMPTY, NAMED, SEVENS, TWICE};
 use orc_file::{FileFault, Tail};
+use orc_test_support::{EMPTY, NAMED, SEVENS, TWICE};
 use std::alloc::Global;
 use std::process::Abort;
 

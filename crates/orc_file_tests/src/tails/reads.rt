@@ -1,9 +1,7 @@
 //! What is asked of a source, and what its failures make.
 
-use crate::devices::fail_source::FailSource;
-use crate::devices::seen_source::SeenSource;
-use crate::vectors::{EMPTY, SEVENS};
 use orc_file::{FileFault, OrcFile, Source, read_tail};
+use orc_test_support::{EMPTY, FailSource, SEVENS, SeenSource};
 use std::alloc::Global;
 use std::process::Abort;
 

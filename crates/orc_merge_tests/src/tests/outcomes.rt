@@ -1,8 +1,8 @@
 //! What comes of merging: files and refusals.
-use super::files::{EMPTY, NAMED, SEVENS, TWICE};
 use super::merged;
 use orc_file::FileFault;
 use orc_merge::MergeFault;
+use orc_test_support::{EMPTY, NAMED, SEVENS, TWICE};
 use std::alloc::Global;
 use std::process::Abort;
 

@@ -1,8 +1,8 @@
 //! Files merged in two steps.
-use super::files::{EMPTY, SEVENS, TWICE};
 use crate::in_two_steps;
 use orc_file::{SliceSource, VecSink};
 use orc_merge::MergeFault;
+use orc_test_support::{EMPTY, SEVENS, TWICE};
 use std::alloc::Global;
 use std::process::Abort;
 

@@ -1,9 +1,10 @@
 //! Stripes' bytes on their way, and devices that fail.
 use super::devices::{FailSink, FailSource, Full, LongSource};
-use super::files::{LONG_END, SEVENS, TWICE};
+use super::files::LONG_END;
 use super::merged;
 use orc_file::{FileFault, OrcFile, SliceSource, VecSink};
 use orc_merge::{MergeFault, merge};
+use orc_test_support::{SEVENS, TWICE};
 use std::alloc::Global;
 use std::process::Abort;
 

@@ -1,7 +1,7 @@
 //! Texts and bytes of rows are slices of the stripe, entries of a dictionary included.
 use super::{ONE_BYTE, ONE_WORD};
-use crate::lines::with_memory;
 use orc_stripe::{StripeFault, StripeView};
+use orc_test_support::with_memory;
 use orc_types::{Row, Schema, Value};
 use orc_wire::StripeInfo;
 use std::alloc::Global;

@@ -1,8 +1,8 @@
 use super::shapes::{MOST_COLUMNS, footer_of, wide_schema};
 use super::{FOUR_BYTES, THREE_BYTES, stripe_of};
-use crate::lines::{line_of, with_memory};
 use orc_rle::RunFault;
 use orc_stripe::{RowCursor, StreamKind, StripeFault, StripeView};
+use orc_test_support::{line_of, with_memory};
 use orc_types::Schema;
 use std::alloc::Global;
 use std::process::Abort;

@@ -1,8 +1,8 @@
 //! Which fault of a stream's runs is answered, and at which place.
 use super::{FOUR_BYTES, SIX_BYTES, THREE_BYTES, lines_of};
-use crate::lines::with_memory;
 use orc_rle::RunFault;
 use orc_stripe::{StreamKind, StripeFault};
+use orc_test_support::with_memory;
 use std::alloc::Global;
 use std::process::Abort;
 

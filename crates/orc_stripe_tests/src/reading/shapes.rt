@@ -1,6 +1,6 @@
 use super::lines_of;
-use crate::lines::with_memory;
 use orc_stripe::{StreamKind, StripeFault};
+use orc_test_support::with_memory;
 use std::alloc::Global;
 use std::process::Abort;
 

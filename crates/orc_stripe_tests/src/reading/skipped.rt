@@ -1,6 +1,6 @@
 //! Streams that rows aren't read from: they are stepped over.
-use crate::lines::{lines_at_once, with_memory};
 use orc_stripe::StripeFault;
+use orc_test_support::{lines_at_once, with_memory};
 use orc_types::Schema;
 use orc_wire::StripeInfo;
 use std::alloc::Global;

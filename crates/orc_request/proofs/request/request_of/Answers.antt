@@ -4,7 +4,7 @@ use Rattle.clap.specs.Walk.{Text, Row, rows_of as found_rows}
 use Rattle.clap.specs.Simple.{subcommand_rows_of}
 use Rattle.clap.specs.declared.parser.matches.Found.{Found}
 use Rattle.orc_request.specs.declared.request.Request.{Request}
-use Rattle.orc_request.proofs.RequestLemmas.{asks_some, none_understood, understood_ints, understood_rows, understood_show, understood_write, understood_merge, understood_other}
+use Rattle.orc_request.proofs.RequestLemmas.{asks_some, none_understood, understood_ints, understood_rows, understood_show, understood_check, understood_write, understood_merge, understood_other}
 use Rattle.orc_request.proofs.request.request_of.Goals as goal
 
 pub returns-in-ints-clause-found : goal.returns-in-ints-clause-found
@@ -21,6 +21,11 @@ pub returns-in-show-clause-found : goal.returns-in-show-clause-found
 returns-in-show-clause-found c =
     let found_rest = λ (x : Found). option_map (λ (p : Text × List Row). p.1) (subcommand_rows_of c.args.matches.now) ≡ Some (found_rows x) in
     asks_some found_rest (found_of c.in_ok-name.found.now) c.show_of.result (sym c.in_ok-name.ensures.rows) c.show_of.ensures.found
+
+pub returns-in-check-clause-found : goal.returns-in-check-clause-found
+returns-in-check-clause-found c =
+    let found_rest = λ (x : Found). option_map (λ (p : Text × List Row). p.1) (subcommand_rows_of c.args.matches.now) ≡ Some (found_rows x) in
+    asks_some found_rest (found_of c.in_ok-name.found.now) c.check_of.result (sym c.in_ok-name.ensures.rows) c.check_of.ensures.found
 
 pub returns-in-write-clause-found : goal.returns-in-write-clause-found
 returns-in-write-clause-found c =
@@ -53,6 +58,13 @@ returns-in-show-clause-none c =
     let so = understood_show name found (IsSome c.show_of.result) c.in-show.is c.show_of.ensures.only in
     none_understood c.args.matches.now name found c.show_of.result (sym c.in_ok-name.ensures.name) (sym c.in_ok-name.ensures.rows) so
 
+pub returns-in-check-clause-none : goal.returns-in-check-clause-none
+returns-in-check-clause-none c =
+    let name = c.in_ok-name.name.now in
+    let found = found_of c.in_ok-name.found.now in
+    let so = understood_check name found (IsSome c.check_of.result) c.in-check.is c.check_of.ensures.only in
+    none_understood c.args.matches.now name found c.check_of.result (sym c.in_ok-name.ensures.name) (sym c.in_ok-name.ensures.rows) so
+
 pub returns-in-write-clause-none : goal.returns-in-write-clause-none
 returns-in-write-clause-none c =
     let name = c.in_ok-name.name.now in
@@ -72,5 +84,5 @@ returns-in_default-clause-none c =
     let name = c.in_ok-name.name.now in
     let found = found_of c.in_ok-name.found.now in
     let asked : Option Request = None in
-    let so = understood_other name found (IsSome asked) c.in_default.not-ints c.in_default.not-rows c.in_default.not-show c.in_default.not-write c.in_default.not-merge in
+    let so = understood_other name found (IsSome asked) c.in_default.not-ints c.in_default.not-rows c.in_default.not-show c.in_default.not-check c.in_default.not-write c.in_default.not-merge in
     none_understood c.args.matches.now name found asked (sym c.in_ok-name.ensures.name) (sym c.in_ok-name.ensures.rows) so

@@ -12,7 +12,7 @@ returns-in_err-print_stripe-clause-refused g c =
     let tail = c.tail.ensures in
     let lt = c.loop-number-test.true in
     let ends = c.in_err-print_stripe.ensures.refused in
-    rw (p.1, p.2) (ends_in told c.args.file.now.tail c.loop-number.number _ (g.W.Write.contents c.loop-number.out) _ c.in_err-print_stripe.field-0.0 (rw (length, tail) at lt) inv.printed (rw (inv.told, inv.tail) at ends))
+    rw (p.1, p.2) (ends_in told c.args.file.now.tail c.args.first c.loop-number.number _ (g.W.Write.contents c.loop-number.out) _ c.in_err-print_stripe.field-0.0 inv.begun (rw (length, tail) at lt) inv.printed (rw (inv.told, inv.tail) at ends))
 
 pub returns-in_err-print_stripe-clause-memory : goal.returns-in_err-print_stripe-clause-memory
 returns-in_err-print_stripe-clause-memory g c =
@@ -29,11 +29,13 @@ loop-number-preserved g c =
     let lt = c.loop-number-test.true in
     let e = c.print_stripe.ensures in
     let own = c.in_ok-print_stripe.ensures.written in
+    let begun = inv.begun in
     record {
+      begun = omega (arith, begun);
       tail = e.tail ∙ inv.tail;
       told = e.told ∙ inv.told;
       kept = c.in_ok-print_stripe.ensures.kept ∙ inv.kept;
-      printed = printed_next told start.schema start.stripes c.loop-number.number _ (g.W.Write.contents c.loop-number.out) _ (rw (length, tail) at lt) inv.printed (rw (inv.told, inv.tail) at own);
+      printed = printed_next told start.schema start.stripes c.args.first c.loop-number.number _ (g.W.Write.contents c.loop-number.out) _ inv.begun (rw (length, tail) at lt) inv.printed (rw (inv.told, inv.tail) at own);
     }
 
 pub returns-clause-written : goal.returns-clause-written
@@ -45,4 +47,4 @@ returns-clause-written g c =
     let tail = c.tail.ensures in
     let past = rw (length, tail) at c.loop-number-test.false in
     let most = rw (length, tail) at c.loop-number.auto.number-end in
-    printed_all told start.schema start.stripes c.loop-number.number _ _ (omega (arith, past, most)) inv.printed
+    printed_all told start.schema start.stripes c.args.first c.loop-number.number _ _ (omega (arith, past, most)) inv.printed

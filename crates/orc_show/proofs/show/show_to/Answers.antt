@@ -3,9 +3,9 @@ use Rattle.orc_file.specs.declared.tail.Tail.{Tail}
 use Rattle.std.specs.Io.KnownBytes.{Appends}
 use Rattle.orc_file.specs.Tails.{IsTail}
 use Rattle.orc_output.specs.Output.{AppendsPart}
-use Rattle.orc_output.proofs.OutputLemmas.{file_want}
+use Rattle.orc_output.proofs.OutputLemmas.{file_want, part_of}
 use Rattle.orc_show.specs.Show.{show_lines}
-use Rattle.orc_show.proofs.ShowLemmas.{of_tail, part_of, outside_open, no_output}
+use Rattle.orc_show.proofs.ShowLemmas.{of_tail, outside_open, no_output}
 use Rattle.orc_show.proofs.show.show_to.Goals as goal
 
 pub returns-in-Ok-shown-clause-written : goal.returns-in-Ok-shown-clause-written

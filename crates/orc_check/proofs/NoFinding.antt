@@ -1,0 +1,266 @@
+-- Nothing is found of a file exactly where its statistics and its row indexes are those of its rows.
+use Rattle.std.proofs.Common.{◌≡◌, ◌∙◌, ℕ, zero, suc, ◌<◌, ◌≤◌, ◌⊎◌, inl, inr, List, [], ◌∷◌, ◌++◌, length, get_or, slice_get, Some, None, Option, refl, sym, ap, subst, arith}
+use Rattle.std.specs.Option.{option_map}
+use Rattle.std.specs.List.{AllByRecursion}
+use Rattle.orc_wire.specs.declared.column_stats.ColumnStats.{ColumnStats}
+use Rattle.orc_wire.specs.declared.row_index.RowIndexEntry.{RowIndexEntry}
+use Rattle.orc_wire.specs.declared.stripe_footer.StripeFooter.{StripeFooter}
+use Rattle.orc_wire.specs.declared.stripe_info.StripeInfo.{StripeInfo}
+use Rattle.orc_types.specs.Cells.{Cell}
+use Rattle.orc_types.specs.Columns.{cells}
+use Rattle.orc_types.specs.Shapes.{Shape, width, shape_at}
+use Rattle.orc_stats.specs.declared.kind.StatKind.{StatKind}
+use Rattle.orc_stats.specs.declared.stat.Stat.{Stat}
+use Rattle.orc_stats.specs.Kinds.{kind_of}
+use Rattle.orc_stats.specs.Messages.{stat_read}
+use Rattle.orc_stats.specs.Statistics.{stat}
+use Rattle.orc_columns.specs.Stripe.{Streams, HasFooter, IsStripe, columns_of}
+use Rattle.orc_index.specs.Bounds.{before_group, group_of}
+use Rattle.orc_index.specs.Places.{AreReadPlaces}
+use Rattle.orc_index.specs.RowIndex.{SaysStat}
+use Rattle.orc_written.specs.Groups.{starts, bounds_of}
+use Rattle.orc_written.specs.WrittenStripe.{HaveStats, HasRightIndex, column_stat}
+use Rattle.orc_stripe.specs.Opened.{Opened}
+use Rattle.orc_file.specs.Stripes.{stripe_at}
+use Rattle.orc_file.specs.FileRows.{stripe_bytes, cut_rows, AreOfStripes, FileIs}
+use Rattle.orc_file.specs.Honest.{AreHonest, Honest, HasWholeStats, whole_of}
+use Rattle.orc_file.specs.declared.tail.Tail.{Tail}
+use Rattle.orc_file.proofs.RowLemmas.{rows_cut}
+use Rattle.orc_check.specs.declared.finding.Finding.{Finding}
+use Rattle.orc_check.specs.declared.finding.Finding.TheVariants.{StripeStatistic, IndexStatistic, IndexPosition, FileStatistic}
+use Rattle.orc_check.specs.Agreeing.{Tells}
+use Rattle.orc_check.specs.Findings.{Unless, Both, OfEach, OfGroup, OfIndex, OfColumn, OfStripe, OfStripes, OfFile, Findings, TellsStripe, TellsFile, TellsGroup, entry_at, stripe_told, opened, rows_at}
+use Rattle.orc_check.specs.RightIndexes.{HasIndexes}
+use Rattle.orc_check.proofs.CheckLemmas.{below_or}
+use Rattle.orc_check.proofs.GroupBounds.{bounds_long}
+
+-- ---- no finding of each
+
+none_each : (F : ℕ → List Finding → Type 0) (n : ℕ) → ((k : ℕ) → k < n → F k []) → OfEach F n []
+none_each F zero h = refl
+none_each F (suc n) h = ([], [], none_each F n (λ k lt. h k (omega (arith, lt))), h n (omega arith), refl)
+
+no_more : (a b : List Finding) → [] ≡ a ++ b → (a ≡ []) × (b ≡ [])
+no_more [] [] e = (refl, refl)
+no_more [] (y ∷ b) e = cc
+no_more (x ∷ a) b e = cc
+
+each_at : (F : ℕ → List Finding → Type 0) (n : ℕ) → OfEach F n [] → (k : ℕ) → k < n → F k []
+each_at F zero h k lt = absurd (omega (arith, lt))
+each_at F (suc n) h k lt =
+    let both = no_more h.0 h.1 h.4 in
+    elim (below_or k n (omega (arith, lt))) [
+      | inl e ↦ subst (λ (j : ℕ). F j []) (sym e) (subst (F n) both.1 h.3)
+      | inr b ↦ each_at F n (subst (OfEach F n) both.0 h.2) k b
+    ]
+
+first_none : (P Q : List Finding → Type 0) → Both P Q [] → P []
+first_none P Q h = subst P (no_more h.0 h.1 h.4).0 h.2
+
+second_none : (P Q : List Finding → Type 0) → Both P Q [] → Q []
+second_none P Q h = subst Q (no_more h.0 h.1 h.4).1 h.3
+
+holds_of : (P : Type 0) (f : Finding) → Unless P f [] → P
+holds_of P f (inl h) = h.0
+holds_of P f (inr h) = let wrong = h.1 in cc
+
+-- ---- what is told
+
+tells_of : (told : Option Stat) (right : Stat) → told ≡ Some right → Tells told right
+tells_of told right e = subst (λ (t : Option Stat). Tells t right) (sym e) refl
+
+told_is : (told : Option Stat) (right : Stat) → Tells told right → told ≡ Some right
+told_is None right h = absurd h
+told_is (Some x) right h = ap Some h
+
+-- an entry tells its group's statistic exactly where it says it
+says_of : (s : Shape) (group : List Cell) (entry : RowIndexEntry) → SaysStat s group entry → TellsGroup s group entry
+says_of s group entry h = tells_of (option_map (stat_read (kind_of s)) entry.statistics) (stat (kind_of s) group) (ap (option_map (stat_read (kind_of s))) h.1 ∙ ap Some h.2)
+
+message_of_told : (k : StatKind) (told : Option ColumnStats) (right : Stat) → Tells (option_map (stat_read k) told) right → (m : ColumnStats) × (told ≡ Some m) × (stat_read k m ≡ right)
+message_of_told k None right h = absurd h
+message_of_told k (Some m) right h = (m, refl, h)
+
+-- ---- entries
+
+entry_there : (es : List RowIndexEntry) (g : ℕ) → g < length es → slice_get es g ≡ Some (entry_at es g)
+entry_there [] g lt = absurd (omega (arith, lt))
+entry_there (e ∷ es) zero lt = refl
+entry_there (e ∷ es) (suc g) lt = entry_there es g (omega (arith, lt))
+
+entry_below : (es : List RowIndexEntry) (g : ℕ) (e : RowIndexEntry) → slice_get es g ≡ Some e → (g < length es) × (entry_at es g ≡ e)
+entry_below [] g e h = cc
+entry_below (x ∷ es) zero e h = let same : x ≡ e = cc in (omega arith, same)
+entry_below (x ∷ es) (suc g) e h = let rest = entry_below es g e h in (omega (arith, rest.0), rest.1)
+
+module _ (view : Opened) (n : ℕ) (rows : List Cell) (c : ℕ) (some : 0 < view.stride) where
+  abbrev s : Shape
+  s = shape_at view.schema c
+
+  abbrev x : Streams
+  x = columns_of view.footer view.bytes c
+
+  abbrev cs : List Cell
+  cs = cells view.schema c rows
+
+  abbrev bounds : List ℕ
+  bounds = bounds_of view.schema c rows (starts view.stride (length rows))
+
+  index_right : OfIndex view n rows c [] → HasRightIndex view.stride view.schema rows view.footer view.bytes c
+  index_right (inl z) = absurd (omega (arith, z.0, some))
+  index_right (inr (k, inl h)) = let wrong = h.1 in cc
+  index_right (inr (k, inr h)) =
+      let es : List RowIndexEntry = h.0.entries in
+      let at : (g : ℕ) → g < length es → OfGroup s x cs bounds n c es g [] = λ g lt. each_at (OfGroup s x cs bounds n c es) (length es) h.3 g lt in
+      let tells : (g : ℕ) → g < length es → TellsGroup s (group_of cs bounds g) (entry_at es g) = λ g lt.
+      holds_of (TellsGroup s (group_of cs bounds g) (entry_at es g)) (IndexStatistic n c g) (first_none (Unless (TellsGroup s (group_of cs bounds g) (entry_at es g)) (IndexStatistic n c g)) (Unless (AreReadPlaces s x (before_group cs bounds g) (entry_at es g).positions) (IndexPosition n c g)) (at g lt)) in
+      let places : (g : ℕ) → g < length es → AreReadPlaces s x (before_group cs bounds g) (entry_at es g).positions = λ g lt.
+      holds_of (AreReadPlaces s x (before_group cs bounds g) (entry_at es g).positions) (IndexPosition n c g) (second_none (Unless (TellsGroup s (group_of cs bounds g) (entry_at es g)) (IndexStatistic n c g)) (Unless (AreReadPlaces s x (before_group cs bounds g) (entry_at es g).positions) (IndexPosition n c g)) (at g lt)) in (
+        h.1.0,
+        record {
+          message = h.0;
+          spelled = h.1.1;
+          counted = h.2 ∙ sym (bounds_long view.schema c view.stride rows);
+          places = λ g e got. let b = entry_below es g e got in subst (λ (y : RowIndexEntry). AreReadPlaces s x (before_group cs bounds g) y.positions) b.1 (places g b.0);
+          statistics = λ g e got.
+              let b = entry_below es g e got in
+              subst (λ (y : RowIndexEntry). SaysStat s (group_of cs bounds g) y) b.1 (message_of_told (kind_of s) (entry_at es g).statistics (stat (kind_of s) (group_of cs bounds g)) (tells g b.0));
+        },
+      )
+
+  right_index : HasRightIndex view.stride view.schema rows view.footer view.bytes c → OfIndex view n rows c []
+  right_index h =
+      let r = h.1 in
+      let es : List RowIndexEntry = r.message.entries in
+      inr (
+        some,
+        inr (
+          r.message,
+          (h.0, r.spelled),
+          r.counted ∙ bounds_long view.schema c view.stride rows,
+          none_each (OfGroup s x cs bounds n c es) (length es)
+              (λ g lt. let got = entry_there es g lt in ([], [], inl (says_of s (group_of cs bounds g) (entry_at es g) (r.statistics g (entry_at es g) got), refl), inl (r.places g (entry_at es g) got, refl), refl)),
+        ),
+      )
+
+-- ---- the stripes
+
+honest_at : (s : Shape) (parts : List (List Cell)) (stats : List (List Stat)) → AreHonest s parts stats → (n : ℕ) → n < length parts → HaveStats s (rows_at parts n) (width s) (get_or stats n [])
+honest_at s [] stats h n lt = absurd (omega (arith, lt))
+honest_at s (p ∷ parts) [] h n lt = absurd h
+honest_at s (p ∷ parts) (y ∷ stats) h zero lt = h.0
+honest_at s (p ∷ parts) (y ∷ stats) h (suc n) lt = honest_at s parts stats h.1 n (omega (arith, lt))
+
+pub cut_many : (infos : List StripeInfo) (rows : List Cell) → length (cut_rows infos rows) ≡ length infos
+cut_many [] rows = refl
+cut_many (i ∷ is) rows = ap suc (cut_many is _)
+
+stripe_there : (s : Shape) (bytes : List ℕ) (infos : List StripeInfo) (parts : List (List Cell)) → AreOfStripes s bytes infos parts → (n : ℕ) → n < length infos
+    → IsStripe s (stripe_at infos n) (stripe_bytes (stripe_at infos n) bytes) (rows_at parts n)
+stripe_there s bytes [] parts h n lt = absurd (omega (arith, lt))
+stripe_there s bytes (i ∷ is) [] h n lt = absurd h
+stripe_there s bytes (i ∷ is) (p ∷ parts) h zero lt = h.0
+stripe_there s bytes (i ∷ is) (p ∷ parts) h (suc n) lt = stripe_there s bytes is parts h.1 n (omega (arith, lt))
+
+zero_or_more : (n : ℕ) → (n ≡ 0) ⊎ (0 < n)
+zero_or_more zero = inl refl
+zero_or_more (suc n) = inr (omega arith)
+
+module _ (bytes : List ℕ) (tail : Tail) (rows : List Cell) (is : FileIs bytes tail rows) where
+  abbrev parts : List (List Cell)
+  parts = cut_rows tail.stripes rows
+
+  abbrev text : ℕ → List ℕ
+  text n = stripe_bytes (stripe_at tail.stripes n) bytes
+
+  pub stripe_is : (n : ℕ) → n < length tail.stripes → IsStripe tail.schema (stripe_at tail.stripes n) (text n) (rows_at parts n)
+  stripe_is n lt = stripe_there tail.schema bytes tail.stripes parts (rows_cut bytes tail rows is) n lt
+
+  -- ---- from what is right to no finding
+
+  column_none : Honest tail rows → (n : ℕ) → n < length tail.stripes → (footer : StripeFooter) → (c : ℕ) → c < width tail.schema → OfIndex (opened tail n (text n) footer) n (rows_at parts n) c []
+      → OfColumn (opened tail n (text n) footer) (stripe_told tail n) n (rows_at parts n) c []
+  column_none honest n lt footer c there index =
+      let own = honest_at tail.schema parts tail.stripe_stats honest n (omega (arith, lt, cut_many tail.stripes rows)) in
+      ([], [], inl (tells_of (slice_get (stripe_told tail n) c) (column_stat tail.schema (rows_at parts n) c) (own.each c there), refl), index, refl)
+
+  stripe_none : Honest tail rows → HasIndexes bytes tail rows → (n : ℕ) → n < length tail.stripes → OfStripe tail n (text n) (rows_at parts n) []
+  stripe_none honest indexes n lt = elim (zero_or_more tail.stride) [
+    | inl z ↦ (let h = stripe_is n lt in
+        (h.footer, h.has_footer, none_each (OfColumn (opened tail n (text n) h.footer) (stripe_told tail n) n (rows_at parts n)) (width tail.schema) (λ c there. column_none honest n lt h.footer c there (inl (z, refl)))))
+    | inr some ↦ (let h = indexes some n lt in (
+      h.footer,
+      h.has_footer,
+      none_each (OfColumn (opened tail n (text n) h.footer) (stripe_told tail n) n (rows_at parts n)) (width tail.schema)
+          (λ c there. column_none honest n lt h.footer c there (right_index (opened tail n (text n) h.footer) n (rows_at parts n) c some (h.right c there))),
+    ))
+  ]
+
+  pub none_found : Honest tail rows → HasWholeStats tail rows → HasIndexes bytes tail rows → Findings bytes tail rows []
+  none_found honest whole indexes = (
+    [],
+    [],
+    none_each (λ n. OfStripe tail n (text n) (rows_at parts n)) (length tail.stripes) (stripe_none honest indexes),
+    none_each (λ c. Unless (TellsFile tail parts c) (FileStatistic c)) (width tail.schema) (λ c there. inl (tells_of (slice_get tail.file_stats c) (whole_of tail.schema parts c) (whole.each c there), refl)),
+    refl,
+  )
+
+  -- ---- and back
+
+  stripes_none : Findings bytes tail rows [] → (n : ℕ) → n < length tail.stripes → OfStripe tail n (text n) (rows_at parts n) []
+  stripes_none f n lt = each_at (λ k. OfStripe tail k (text k) (rows_at parts k)) (length tail.stripes) (first_none (OfStripes bytes tail parts) (OfFile tail parts) f) n lt
+
+  column_at : Findings bytes tail rows [] → (n : ℕ) → n < length tail.stripes → (c : ℕ) → c < width tail.schema
+      → (footer : StripeFooter) × HasFooter tail.schema (stripe_at tail.stripes n) (text n) footer × OfColumn (opened tail n (text n) footer) (stripe_told tail n) n (rows_at parts n) c []
+  column_at f n lt c there = let h = stripes_none f n lt in (h.0, h.1, each_at (OfColumn (opened tail n (text n) h.0) (stripe_told tail n) n (rows_at parts n)) (width tail.schema) h.2 c there)
+
+  told_at : Findings bytes tail rows [] → (n : ℕ) → n < length tail.stripes → (c : ℕ) → c < width tail.schema → slice_get (stripe_told tail n) c ≡ Some (column_stat tail.schema (rows_at parts n) c)
+  told_at f n lt c there =
+      let h = column_at f n lt c there in
+      told_is (slice_get (stripe_told tail n) c) (column_stat tail.schema (rows_at parts n) c) (holds_of (TellsStripe tail.schema (stripe_told tail n) (rows_at parts n) c) (StripeStatistic n c)
+      (first_none (Unless (TellsStripe tail.schema (stripe_told tail n) (rows_at parts n) c) (StripeStatistic n c)) (OfIndex (opened tail n (text n) h.0) n (rows_at parts n) c) h.2))
+
+  pub index_found : Findings bytes tail rows [] → HasIndexes bytes tail rows
+  index_found f = λ some n lt. let h = stripes_none f n lt in record {
+    footer = h.0;
+    has_footer = h.1;
+    right = λ c there.
+        let column = each_at (OfColumn (opened tail n (text n) h.0) (stripe_told tail n) n (rows_at parts n)) (width tail.schema) h.2 c there in
+        index_right (opened tail n (text n) h.0) n (rows_at parts n) c some
+        (second_none (Unless (TellsStripe tail.schema (stripe_told tail n) (rows_at parts n) c) (StripeStatistic n c)) (OfIndex (opened tail n (text n) h.0) n (rows_at parts n) c) column);
+  }
+
+  whole_at : Findings bytes tail rows [] → (c : ℕ) → c < width tail.schema → slice_get tail.file_stats c ≡ Some (whole_of tail.schema parts c)
+  whole_at f c there =
+      told_is (slice_get tail.file_stats c) (whole_of tail.schema parts c)
+      (holds_of (TellsFile tail parts c) (FileStatistic c) (each_at (λ k. Unless (TellsFile tail parts k) (FileStatistic k)) (width tail.schema) (second_none (OfStripes bytes tail parts) (OfFile tail parts) f) c there))
+
+-- ---- as many statistics as columns
+
+some_below : (xs : List Stat) (n : ℕ) → length xs ≤ n → ((c : ℕ) → c < n → (y : Stat) × (slice_get xs c ≡ Some y)) → length xs ≡ n
+some_below [] zero le h = refl
+some_below [] (suc n) le h = let wrong = (h 0 (omega arith)).1 in cc
+some_below (y ∷ xs) zero le h = absurd (omega (arith, le))
+some_below (y ∷ xs) (suc n) le h = ap suc (some_below xs n (omega (arith, le)) (λ c lt. h (suc c) (omega (arith, lt))))
+
+pub whole_found : (bytes : List ℕ) (tail : Tail) (rows : List Cell) → FileIs bytes tail rows → length tail.file_stats ≤ width tail.schema → Findings bytes tail rows [] → HasWholeStats tail rows
+whole_found bytes tail rows is few f = record {
+  counted = some_below tail.file_stats (width tail.schema) few (λ c there. (whole_of tail.schema (cut_rows tail.stripes rows) c, whole_at bytes tail rows is f c there));
+  each = whole_at bytes tail rows is f;
+}
+
+honest_all : (s : Shape) (parts : List (List Cell)) (stats : List (List Stat)) → length stats ≤ length parts → AllByRecursion (λ (xs : List Stat). length xs ≤ width s) stats → 0 < width s
+    → ((n : ℕ) → n < length parts → (c : ℕ) → c < width s → slice_get (get_or stats n []) c ≡ Some (column_stat s (rows_at parts n) c)) → AreHonest s parts stats
+honest_all s [] [] le few some h = tt
+honest_all s [] (y ∷ stats) le few some h = absurd (omega (arith, le))
+honest_all s (p ∷ parts) [] le few some h = let wrong = h 0 (omega arith) 0 some in cc
+honest_all s (p ∷ parts) (y ∷ stats) le few some h = (
+  record { counted = some_below y (width s) few.0 (λ c lt. (column_stat s p c, h 0 (omega arith) c lt)); each = λ c lt. h 0 (omega arith) c lt },
+  honest_all s parts stats (omega (arith, le)) few.1 some (λ n lt. h (suc n) (omega (arith, lt))),
+)
+
+pub honest_found : (bytes : List ℕ) (tail : Tail) (rows : List Cell) → FileIs bytes tail rows → length tail.stripe_stats ≤ length tail.stripes
+    → AllByRecursion (λ (xs : List Stat). length xs ≤ width tail.schema) tail.stripe_stats → 0 < width tail.schema → Findings bytes tail rows [] → Honest tail rows
+honest_found bytes tail rows is le few some f =
+    let many = cut_many tail.stripes rows in
+    honest_all tail.schema (cut_rows tail.stripes rows) tail.stripe_stats (omega (arith, le, many)) few some (λ n lt c there. told_at bytes tail rows is f n (omega (arith, lt, many)) c there)

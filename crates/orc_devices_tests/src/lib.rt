@@ -1,0 +1,7 @@
+//! Tests of `orc_devices` by its public calls: sources, sinks, and what is refused where they fail.
+#![tactic(auto)]
+
+#[cfg(test)]
+mod devices;
+#[cfg(test)]
+mod narrow;

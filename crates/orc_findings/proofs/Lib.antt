@@ -1,0 +1,2 @@
+mod CheckedFile
+mod PlaceLemmas

@@ -1,0 +1,14 @@
+-- Groups of a file's rows (ORC specification, "Row Group Index").
+use Rattle.std.specs.Prelude.{ℕ, ◌+◌, ◌*◌, ◌<◌, length, take}
+use Rattle.orc_file.specs.Stripes.{stripe_at, stripes_rows}
+use Rattle.orc_file.specs.declared.tail.Tail.{Tail}
+
+-- the file has groups, and this stripe one of this number
+pub record IsPlace (tail : Tail) (stripe group : ℕ) : Type 0 where
+  pub indexed : 0 < tail.stride
+  pub there : stripe < length tail.stripes
+  pub begun : group * tail.stride < (stripe_at tail.stripes stripe).number_of_rows
+
+-- how many of the file's rows come before it
+abbrev pub rows_before : Tail → ℕ → ℕ → ℕ
+rows_before tail stripe group = stripes_rows (take stripe tail.stripes) + group * tail.stride

@@ -1,0 +1,99 @@
+-- What `rows` prints of a file from a group of one of its stripes on (ORC specification, "Row Group Index").
+use Rattle.std.specs.Prelude.{◌≡◌, ℕ, ◌+◌, ◌*◌, ◌<◌, ◌≤◌, ◌^◌, List, [], ◌∷◌, ◌++◌, length, drop, false, ◌⊎◌, Option}
+use Rattle.std.specs.Io.KnownBytes.{Keeps}
+use Rattle.std.specs.Str.Parse.{IsNumeral, digits_value}
+use Rattle.orc_wire.specs.declared.stripe_footer.StripeFooter.{StripeFooter}
+use Rattle.orc_types.specs.Cells.{Cell}
+use Rattle.orc_types.specs.FieldNames.{is_distinct}
+use Rattle.orc_types.specs.Fits.{RowsFit}
+use Rattle.orc_types.specs.declared.json_fault.JsonFault.TheVariants as json
+use Rattle.orc_columns.specs.Stripe.{Streams, HasFooter}
+use Rattle.orc_columns.specs.declared.fault.StripeFault.{StripeFault}
+use Rattle.orc_columns.specs.declared.fault.StripeFault.TheVariants as stripe
+use Rattle.orc_stripe.specs.Opened.{Opened}
+use Rattle.orc_stripe.specs.Opening.{OpenFault}
+use Rattle.orc_stripe.specs.GroupCursors.{HasGroup, StartsGroup, GroupFault}
+use Rattle.orc_file.specs.Stripes.{stripe_at}
+use Rattle.orc_file.specs.FileRows.{stripe_bytes}
+use Rattle.orc_file.specs.declared.tail.Tail.{Tail}
+use Rattle.orc_file.specs.declared.fault.FileFault.TheVariants.{Stripe, BadStripe}
+use Rattle.orc_output.specs.Output.{write_failed, IsOfSource}
+use Rattle.orc_output.specs.declared.fault.CliFault.{CliFault}
+use Rattle.orc_output.specs.declared.fault.CliFault.TheVariants.{Json, File}
+use Rattle.orc_rows.specs.Rows.{row_lines, HaveJson, AreOfStripes, StripeStops}
+
+-- ---- where to start
+
+-- decimal digits alone, whose number 32 bits hold
+pub record IsNumber (digits : List ℕ) (n : ℕ) : Type 0 where
+  pub numeral : IsNumeral 10 digits
+  pub value : n ≡ digits_value 10 digits
+  pub fits : n < 2 ^ 32
+
+-- the number of a stripe and that of a group in it, with a colon between them
+pub record IsStart (text : List ℕ) (stripe group : ℕ) : Type 0 where
+  pub before : List ℕ
+  pub behind : List ℕ
+  pub parts : text ≡ before ++ 58 ∷ behind
+  pub stripe_is : IsNumber before stripe
+  pub group_is : IsNumber behind group
+
+-- ---- the first stripe
+
+-- the stripe of a file with this number, with these bytes and this footer
+abbrev pub opened : Tail → ℕ → List ℕ → StripeFooter → Opened
+opened tail n bytes footer = record { schema = tail.schema; info = stripe_at tail.stripes n; stride = tail.stride; bytes = bytes; footer = footer }
+
+-- Rows that a stripe with these bytes is read as from a group on. Where the stripe starts there, as a reader enters it, they are its rows from
+-- the group's first one on.
+pub record AreFromGroup (tail : Tail) (n : ℕ) (bytes : List ℕ) (group : ℕ) (rows : List Cell) : Type 0 where
+  pub footer : StripeFooter
+  pub has_footer : HasFooter tail.schema (stripe_at tail.stripes n) bytes footer
+  pub has_group : HasGroup (opened tail n bytes footer) group
+  pub fit : RowsFit tail.schema rows
+  pub rows_are : (x : ℕ → Streams) (all : List Cell) → StartsGroup (opened tail n bytes footer) x all group → rows ≡ drop (group * tail.stride) all
+
+-- these are their lines
+pub record AreLinesFrom (tail : Tail) (n : ℕ) (bytes : List ℕ) (group : ℕ) (lines : List ℕ) : Type 0 where
+  pub rows : List Cell
+  pub are : AreFromGroup tail n bytes group rows
+  pub have_json : HaveJson tail.schema rows
+  pub lines_are : lines ≡ row_lines tail.schema rows
+
+-- Why a stripe isn't read from a group on: it doesn't start there, and it isn't opened, or has no such group, or behind the group's positions
+-- stand no rows of the schema.
+pub record StopsAtGroup (tail : Tail) (n : ℕ) (bytes : List ℕ) (group : ℕ) (why : StripeFault) : Type 0 where
+  pub none : (footer : StripeFooter) (x : ℕ → Streams) (all : List Cell) → HasFooter tail.schema (stripe_at tail.stripes n) bytes footer
+      → StartsGroup (opened tail n bytes footer) x all group → ⊥
+  pub reason : OpenFault tail.schema (stripe_at tail.stripes n) bytes why
+      ⊎ ((footer : StripeFooter) × HasFooter tail.schema (stripe_at tail.stripes n) bytes footer
+      × (GroupFault (opened tail n bytes footer) group why ⊎ HasGroup (opened tail n bytes footer) group))
+
+-- that, as a fault of the stripe with this number
+abbrev pub GroupStops : Tail → ℕ → List ℕ → ℕ → CliFault → Type 0
+GroupStops tail n bytes group fault = (why : StripeFault) × (fault ≡ File (Stripe n why)) × ((why ≡ stripe.OutOfMemory) → ⊥) × StopsAtGroup tail n bytes group why
+
+-- why nothing is out: the stripe isn't read from the group on, or its rows there have no JSON
+abbrev pub NoLinesFrom : Tail → ℕ → List ℕ → ℕ → CliFault → Type 0
+NoLinesFrom tail n bytes group fault =
+    GroupStops tail n bytes group fault
+    ⊎ ((fault ≡ Json json.DuplicateField) × (is_distinct tail.schema ≡ false) × (rows : List Cell) × AreFromGroup tail n bytes group rows × ((rows ≡ []) → ⊥))
+
+-- ---- the file
+
+-- the lines from a group of a stripe on: those of the stripe's rows there, and of all stripes behind it
+pub record AreFrom (bytes : List ℕ) (tail : Tail) (n group : ℕ) (lines : List ℕ) : Type 0 where
+  pub there : n < length tail.stripes
+  pub first : List ℕ
+  pub rest : List ℕ
+  pub of_group : AreLinesFrom tail n (stripe_bytes (stripe_at tail.stripes n) bytes) group first
+  pub of_later : AreOfStripes tail.schema bytes (drop (n + 1) tail.stripes) rest
+  pub lines_are : lines ≡ first ++ rest
+
+-- why lines from a group on aren't out: before the first of them, or later, where some of them are
+abbrev pub EndsFrom : List ℕ → Tail → ℕ → ℕ → Option (List ℕ) → Option (List ℕ) → CliFault → Type 0
+EndsFrom bytes tail n group old new fault =
+    ((length tail.stripes ≤ n) × (fault ≡ File (BadStripe n)) × Keeps old new)
+    ⊎ ((n < length tail.stripes)
+    × (((NoLinesFrom tail n (stripe_bytes (stripe_at tail.stripes n) bytes) group fault ⊎ IsOfSource fault) × Keeps old new)
+    ⊎ ((fault ≡ write_failed) ⊎ (((later : ℕ) × (n < later) × (later < length tail.stripes) × StripeStops tail.schema bytes later (stripe_at tail.stripes later) fault) ⊎ IsOfSource fault))))

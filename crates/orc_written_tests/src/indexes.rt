@@ -1,0 +1,603 @@
+//! Row indexes of stripes, as they are written.
+use crate::from_groups::check_groups;
+use crate::writing::{check_lines, written};
+use orc_rle::Rle;
+use orc_stripe::{StripeFault, StripeOut, StripeView};
+use orc_test_support::with_memory;
+use orc_types::Schema;
+use orc_wire::{Message, RowIndexMsg, StripeFooter};
+use std::alloc::Global;
+use std::process::Abort;
+
+/// The text of a schema, the version of run lengths, the stride, the lines of rows; how many bytes the indexes and the
+/// streams of their stripe have, and all its bytes.
+type Whole = (
+    &'static str,
+    Rle,
+    u32,
+    &'static [&'static str],
+    u64,
+    u64,
+    &'static [u8],
+);
+
+static WHOLE: [Whole; 3] = [
+    (
+        "struct<n:bigint>",
+        Rle::One,
+        2,
+        &[r#"{"n":7}"#, r#"{"n":7}"#, r#"{"n":7}"#],
+        56,
+        3,
+        &[
+            0x0a, 0x06, 0x12, 0x04, 0x08, 0x02, 0x50, 0x00, 0x0a, 0x06, 0x12, 0x04, 0x08, 0x01,
+            0x50, 0x00, 0x0a, 0x12, 0x0a, 0x02, 0x00, 0x00, 0x12, 0x0c, 0x08, 0x02, 0x12, 0x06,
+            0x08, 0x0e, 0x10, 0x0e, 0x18, 0x1c, 0x50, 0x00, 0x0a, 0x12, 0x0a, 0x02, 0x00, 0x02,
+            0x12, 0x0c, 0x08, 0x01, 0x12, 0x06, 0x08, 0x0e, 0x10, 0x0e, 0x18, 0x0e, 0x50, 0x00,
+            0x00, 0x00, 0x0e, 0x0a, 0x06, 0x08, 0x06, 0x10, 0x00, 0x18, 0x10, 0x0a, 0x06, 0x08,
+            0x06, 0x10, 0x01, 0x18, 0x28, 0x0a, 0x06, 0x08, 0x01, 0x10, 0x01, 0x18, 0x03, 0x12,
+            0x02, 0x08, 0x00, 0x12, 0x02, 0x08, 0x00,
+        ],
+    ),
+    (
+        "struct<n:bigint>",
+        Rle::One,
+        2,
+        &[],
+        0,
+        0,
+        &[
+            0x0a, 0x06, 0x08, 0x06, 0x10, 0x00, 0x18, 0x00, 0x0a, 0x06, 0x08, 0x06, 0x10, 0x01,
+            0x18, 0x00, 0x12, 0x02, 0x08, 0x00, 0x12, 0x02, 0x08, 0x00,
+        ],
+    ),
+    (
+        "struct<l:array<array<int>>>",
+        Rle::One,
+        2,
+        &[
+            r#"{"l":[[1,2],[]]}"#,
+            r#"{"l":null}"#,
+            r#"{"l":[]}"#,
+            r#"{"l":[null,[3]]}"#,
+            r#"{"l":[[4,5,6]]}"#,
+        ],
+        174,
+        17,
+        &[
+            0x0a, 0x06, 0x12, 0x04, 0x08, 0x02, 0x50, 0x00, 0x0a, 0x06, 0x12, 0x04, 0x08, 0x02,
+            0x50, 0x00, 0x0a, 0x06, 0x12, 0x04, 0x08, 0x01, 0x50, 0x00, 0x0a, 0x0d, 0x0a, 0x05,
+            0x00, 0x00, 0x00, 0x00, 0x00, 0x12, 0x04, 0x08, 0x01, 0x50, 0x01, 0x0a, 0x0d, 0x0a,
+            0x05, 0x00, 0x00, 0x02, 0x00, 0x01, 0x12, 0x04, 0x08, 0x02, 0x50, 0x00, 0x0a, 0x0d,
+            0x0a, 0x05, 0x00, 0x00, 0x04, 0x00, 0x03, 0x12, 0x04, 0x08, 0x01, 0x50, 0x00, 0x0a,
+            0x0d, 0x0a, 0x05, 0x00, 0x00, 0x00, 0x00, 0x00, 0x12, 0x04, 0x08, 0x02, 0x50, 0x00,
+            0x0a, 0x0d, 0x0a, 0x05, 0x00, 0x00, 0x02, 0x00, 0x02, 0x12, 0x04, 0x08, 0x01, 0x50,
+            0x01, 0x0a, 0x0d, 0x0a, 0x05, 0x00, 0x00, 0x04, 0x00, 0x03, 0x12, 0x04, 0x08, 0x01,
+            0x50, 0x00, 0x0a, 0x12, 0x0a, 0x02, 0x00, 0x00, 0x12, 0x0c, 0x08, 0x02, 0x12, 0x06,
+            0x08, 0x02, 0x10, 0x04, 0x18, 0x06, 0x50, 0x00, 0x0a, 0x12, 0x0a, 0x02, 0x00, 0x02,
+            0x12, 0x0c, 0x08, 0x01, 0x12, 0x06, 0x08, 0x06, 0x10, 0x06, 0x18, 0x06, 0x50, 0x00,
+            0x0a, 0x12, 0x0a, 0x02, 0x00, 0x03, 0x12, 0x0c, 0x08, 0x03, 0x12, 0x06, 0x08, 0x08,
+            0x10, 0x0c, 0x18, 0x1e, 0x50, 0x00, 0xff, 0xb8, 0xfc, 0x02, 0x00, 0x02, 0x01, 0xff,
+            0xd8, 0xfc, 0x02, 0x00, 0x01, 0x03, 0x03, 0x01, 0x02, 0x0a, 0x06, 0x08, 0x06, 0x10,
+            0x00, 0x18, 0x18, 0x0a, 0x06, 0x08, 0x06, 0x10, 0x01, 0x18, 0x2d, 0x0a, 0x06, 0x08,
+            0x06, 0x10, 0x02, 0x18, 0x2d, 0x0a, 0x06, 0x08, 0x06, 0x10, 0x03, 0x18, 0x3c, 0x0a,
+            0x06, 0x08, 0x00, 0x10, 0x01, 0x18, 0x02, 0x0a, 0x06, 0x08, 0x02, 0x10, 0x01, 0x18,
+            0x05, 0x0a, 0x06, 0x08, 0x00, 0x10, 0x02, 0x18, 0x02, 0x0a, 0x06, 0x08, 0x02, 0x10,
+            0x02, 0x18, 0x05, 0x0a, 0x06, 0x08, 0x01, 0x10, 0x03, 0x18, 0x03, 0x12, 0x02, 0x08,
+            0x00, 0x12, 0x02, 0x08, 0x00, 0x12, 0x02, 0x08, 0x00, 0x12, 0x02, 0x08, 0x00,
+        ],
+    ),
+];
+
+/// The text of a schema, the version of run lengths, the stride, the lines of rows; a column, and its positions in each group.
+type Case = (
+    &'static str,
+    Rle,
+    u32,
+    &'static [&'static str],
+    usize,
+    &'static [&'static [u64]],
+);
+
+static CASES: [Case; 18] = [
+    (
+        "struct<b:boolean>",
+        Rle::One,
+        5,
+        &[
+            r#"{"b":true}"#,
+            r#"{"b":false}"#,
+            r#"{"b":false}"#,
+            r#"{"b":true}"#,
+            r#"{"b":false}"#,
+            r#"{"b":false}"#,
+            r#"{"b":true}"#,
+            r#"{"b":false}"#,
+            r#"{"b":false}"#,
+            r#"{"b":true}"#,
+            r#"{"b":false}"#,
+            r#"{"b":false}"#,
+            r#"{"b":true}"#,
+            r#"{"b":false}"#,
+            r#"{"b":false}"#,
+            r#"{"b":true}"#,
+            r#"{"b":false}"#,
+            r#"{"b":false}"#,
+            r#"{"b":true}"#,
+            r#"{"b":false}"#,
+        ],
+        1,
+        &[&[0, 0, 0], &[0, 0, 5], &[0, 1, 2], &[0, 1, 7]],
+    ),
+    (
+        "struct<b:boolean>",
+        Rle::One,
+        7,
+        &[
+            r#"{"b":true}"#,
+            r#"{"b":null}"#,
+            r#"{"b":false}"#,
+            r#"{"b":true}"#,
+            r#"{"b":false}"#,
+            r#"{"b":null}"#,
+            r#"{"b":true}"#,
+            r#"{"b":false}"#,
+            r#"{"b":false}"#,
+            r#"{"b":null}"#,
+            r#"{"b":false}"#,
+            r#"{"b":false}"#,
+            r#"{"b":true}"#,
+            r#"{"b":null}"#,
+            r#"{"b":false}"#,
+            r#"{"b":true}"#,
+            r#"{"b":false}"#,
+            r#"{"b":null}"#,
+            r#"{"b":true}"#,
+            r#"{"b":false}"#,
+        ],
+        1,
+        &[
+            &[0, 0, 0, 0, 0, 0],
+            &[0, 0, 7, 0, 0, 5],
+            &[0, 1, 6, 0, 1, 2],
+        ],
+    ),
+    (
+        "struct<n:tinyint>",
+        Rle::One,
+        3,
+        &[
+            r#"{"n":1}"#,
+            r#"{"n":1}"#,
+            r#"{"n":1}"#,
+            r#"{"n":1}"#,
+            r#"{"n":5}"#,
+            r#"{"n":6}"#,
+            r#"{"n":7}"#,
+            r#"{"n":-1}"#,
+            r#"{"n":-1}"#,
+            r#"{"n":-1}"#,
+        ],
+        1,
+        &[&[0, 0], &[0, 3], &[2, 2], &[6, 2]],
+    ),
+    (
+        "struct<s:string>",
+        Rle::One,
+        2,
+        &[
+            r#"{"s":"ab"}"#,
+            r#"{"s":"c"}"#,
+            r#"{"s":null}"#,
+            r#"{"s":""}"#,
+            r#"{"s":"def"}"#,
+        ],
+        1,
+        &[
+            &[0, 0, 0, 0, 0, 0],
+            &[0, 0, 2, 3, 0, 2],
+            &[0, 0, 4, 3, 3, 0],
+        ],
+    ),
+    (
+        "struct<s:string>",
+        Rle::One,
+        2,
+        &[
+            r#"{"s":"a"}"#,
+            r#"{"s":"b"}"#,
+            r#"{"s":"a"}"#,
+            r#"{"s":"b"}"#,
+            r#"{"s":"a"}"#,
+            r#"{"s":"a"}"#,
+        ],
+        1,
+        &[&[0, 0], &[0, 2], &[0, 4]],
+    ),
+    (
+        "struct<b:binary>",
+        Rle::Two,
+        1,
+        &[r#"{"b":"00ff"}"#, r#"{"b":""}"#, r#"{"b":"0102"}"#],
+        1,
+        &[&[0, 0, 0], &[2, 0, 1], &[2, 0, 2]],
+    ),
+    (
+        "struct<n:int>",
+        Rle::One,
+        2,
+        &[r#"{"n":1}"#, r#"{"n":2}"#, r#"{"n":null}"#, r#"{"n":null}"#],
+        1,
+        &[&[0, 0, 0, 0, 0], &[0, 0, 2, 3, 0]],
+    ),
+    (
+        "struct<n:int>",
+        Rle::One,
+        2,
+        &[r#"{"n":null}"#, r#"{"n":null}"#, r#"{"n":null}"#],
+        1,
+        &[&[0, 0, 0, 0, 0], &[0, 0, 2, 0, 0]],
+    ),
+    (
+        "struct<s:struct<n:int>>",
+        Rle::Two,
+        1,
+        &[r#"{"s":{"n":1}}"#, r#"{"s":null}"#, r#"{"s":{"n":null}}"#],
+        1,
+        &[&[0, 0, 0], &[0, 0, 1], &[0, 0, 2]],
+    ),
+    (
+        "struct<s:struct<n:int>>",
+        Rle::Two,
+        1,
+        &[r#"{"s":{"n":1}}"#, r#"{"s":null}"#, r#"{"s":{"n":null}}"#],
+        2,
+        &[&[0, 0, 0, 0, 0], &[0, 0, 1, 3, 0], &[0, 0, 1, 3, 0]],
+    ),
+    (
+        "struct<b:array<boolean>>",
+        Rle::One,
+        1,
+        &[r#"{"b":[true,false,true,true,true]}"#, r#"{"b":[]}"#],
+        1,
+        &[&[0, 0], &[0, 1]],
+    ),
+    (
+        "struct<b:array<boolean>>",
+        Rle::One,
+        1,
+        &[r#"{"b":[true,false,true,true,true]}"#, r#"{"b":[]}"#],
+        2,
+        &[&[0, 0, 0], &[0, 0, 5]],
+    ),
+    (
+        "struct<n:bigint>",
+        Rle::One,
+        1,
+        &[
+            r#"{"n":7}"#,
+            r#"{"n":7}"#,
+            r#"{"n":7}"#,
+            r#"{"n":7}"#,
+            r#"{"n":7}"#,
+            r#"{"n":7}"#,
+            r#"{"n":7}"#,
+            r#"{"n":7}"#,
+            r#"{"n":7}"#,
+            r#"{"n":7}"#,
+        ],
+        1,
+        &[
+            &[0, 0],
+            &[0, 1],
+            &[0, 2],
+            &[0, 3],
+            &[0, 4],
+            &[0, 5],
+            &[0, 6],
+            &[0, 7],
+            &[0, 8],
+            &[0, 9],
+        ],
+    ),
+    (
+        "struct<n:bigint>",
+        Rle::One,
+        2,
+        &[
+            r#"{"n":7}"#,
+            r#"{"n":7}"#,
+            r#"{"n":7}"#,
+            r#"{"n":7}"#,
+            r#"{"n":7}"#,
+            r#"{"n":7}"#,
+            r#"{"n":7}"#,
+            r#"{"n":7}"#,
+            r#"{"n":7}"#,
+            r#"{"n":7}"#,
+        ],
+        1,
+        &[&[0, 0], &[0, 2], &[0, 4], &[0, 6], &[0, 8]],
+    ),
+    (
+        "struct<n:bigint>",
+        Rle::One,
+        9,
+        &[
+            r#"{"n":7}"#,
+            r#"{"n":7}"#,
+            r#"{"n":7}"#,
+            r#"{"n":7}"#,
+            r#"{"n":7}"#,
+            r#"{"n":7}"#,
+            r#"{"n":7}"#,
+            r#"{"n":7}"#,
+            r#"{"n":7}"#,
+            r#"{"n":7}"#,
+        ],
+        1,
+        &[&[0, 0], &[0, 9]],
+    ),
+    (
+        "struct<n:bigint>",
+        Rle::One,
+        10,
+        &[
+            r#"{"n":7}"#,
+            r#"{"n":7}"#,
+            r#"{"n":7}"#,
+            r#"{"n":7}"#,
+            r#"{"n":7}"#,
+            r#"{"n":7}"#,
+            r#"{"n":7}"#,
+            r#"{"n":7}"#,
+            r#"{"n":7}"#,
+            r#"{"n":7}"#,
+        ],
+        1,
+        &[&[0, 0]],
+    ),
+    (
+        "struct<n:bigint>",
+        Rle::One,
+        11,
+        &[
+            r#"{"n":7}"#,
+            r#"{"n":7}"#,
+            r#"{"n":7}"#,
+            r#"{"n":7}"#,
+            r#"{"n":7}"#,
+            r#"{"n":7}"#,
+            r#"{"n":7}"#,
+            r#"{"n":7}"#,
+            r#"{"n":7}"#,
+            r#"{"n":7}"#,
+        ],
+        1,
+        &[&[0, 0]],
+    ),
+    (
+        "struct<n:bigint>",
+        Rle::One,
+        4294967295,
+        &[
+            r#"{"n":7}"#,
+            r#"{"n":7}"#,
+            r#"{"n":7}"#,
+            r#"{"n":7}"#,
+            r#"{"n":7}"#,
+            r#"{"n":7}"#,
+            r#"{"n":7}"#,
+            r#"{"n":7}"#,
+            r#"{"n":7}"#,
+            r#"{"n":7}"#,
+        ],
+        1,
+        &[&[0, 0]],
+    ),
+];
+
+pub(crate) fn schema_of(alloc: Global, text: &str) -> Result<Schema, StripeFault> {
+    match Schema::parse(alloc, text) {
+        Ok(schema) => Ok(schema),
+        Err(_) => Err(StripeFault::OutOfMemory),
+    }
+}
+
+/// The stripe has these bytes, and its rows print as the lines that it was made of.
+fn check_whole(rt: &impl Abort, alloc: Global, whole: &Whole) -> Result<(), StripeFault> {
+    let (text, rle, stride, lines, index_length, data_length, bytes) = whole;
+    let schema = schema_of(alloc, text)?;
+    let out = written(alloc, &schema, *rle, *stride, lines)?;
+    assert!(rt; out.bytes.as_slice() == *bytes, "{}", text);
+    assert!(rt; out.info.index_length == *index_length, "{}", text);
+    assert!(rt; out.info.data_length == *data_length, "{}", text);
+    check_groups(rt, alloc, &schema, &out, *stride, lines)?;
+    check_lines(rt, alloc, &schema, &out, lines)
+}
+
+fn check_all(rt: &impl Abort, alloc: Global) -> Result<(), StripeFault> {
+    for whole in &WHOLE {
+        check_whole(rt, alloc, whole)?;
+    }
+    Ok(())
+}
+
+#[test]
+fn whole_stripes(rt: HostRuntime) {
+    let answer = with_memory(|| check_all(&rt, rt.alloc()));
+    assert!(rt; answer == Ok(()));
+}
+
+/// Where the index of a column begins and how long it is, if the directory begins with an index of each column up to it.
+fn place_of(footer: &StripeFooter, column: usize) -> Option<(usize, usize)> {
+    let mut start = 0usize;
+    for (number, line) in footer.streams.as_slice().iter().enumerate() {
+        if line.kind != 6 || line.column as usize != number {
+            return None;
+        }
+        if number == column {
+            return Some((start, line.length as usize));
+        }
+        start = start.saturating_add(line.length as usize);
+    }
+    None
+}
+
+/// The bytes from a place on, and so many of these.
+fn part(bytes: &[u8], start: usize, length: usize) -> Option<&[u8]> {
+    bytes.get(start..)?.get(..length)
+}
+
+/// The index of a column of a stripe.
+fn index_of(alloc: Global, out: &StripeOut, column: usize) -> Result<RowIndexMsg, StripeFault> {
+    let front = out.info.index_length.saturating_add(out.info.data_length);
+    let Some(text) = out.bytes.get(front as usize..) else {
+        return Err(StripeFault::BadDirectory);
+    };
+    let Ok(footer) = StripeFooter::read(alloc, text) else {
+        return Err(StripeFault::OutOfMemory);
+    };
+    let Some((start, length)) = place_of(&footer, column) else {
+        return Err(StripeFault::BadDirectory);
+    };
+    let Some(index) = part(&out.bytes, start, length) else {
+        return Err(StripeFault::BadDirectory);
+    };
+    match RowIndexMsg::read(alloc, index) {
+        Ok(message) => Ok(message),
+        Err(_) => Err(StripeFault::OutOfMemory),
+    }
+}
+
+/// A reader of the stripe finds the positions of the column right, those of every group.
+fn check_right(
+    rt: &impl Abort,
+    alloc: Global,
+    schema: &Schema,
+    out: &StripeOut,
+    stride: u32,
+    column: usize,
+    groups: usize,
+) -> Result<(), StripeFault> {
+    let view = StripeView::open(alloc, schema, out.info, stride, &out.bytes)?;
+    if column >= schema.width() {
+        return Err(StripeFault::BadDirectory);
+    }
+    let right = view.positions_right(alloc, column)?;
+    assert!(rt; right.len() == groups);
+    assert!(rt; right.iter().all(|right| *right));
+    Ok(())
+}
+
+/// Whether the entries have these positions, one for each group.
+fn has_positions(index: &RowIndexMsg, groups: &[&[u64]]) -> bool {
+    let entries = index.entries.as_slice();
+    if entries.len() != groups.len() {
+        return false;
+    }
+    for (entry, positions) in entries.iter().zip(groups) {
+        if entry.positions.as_slice() != *positions {
+            return false;
+        }
+    }
+    true
+}
+
+fn check_case(rt: &impl Abort, alloc: Global, case: &Case) -> Result<(), StripeFault> {
+    let (text, rle, stride, lines, column, groups) = case;
+    let schema = schema_of(alloc, text)?;
+    let out = written(alloc, &schema, *rle, *stride, lines)?;
+    let index = index_of(alloc, &out, *column)?;
+    assert!(rt;
+        has_positions(&index, groups),
+        "{} stride {} column {}",
+        text,
+        stride,
+        column
+    );
+    check_right(rt, alloc, &schema, &out, *stride, *column, groups.len())?;
+    check_groups(rt, alloc, &schema, &out, *stride, lines)?;
+    check_lines(rt, alloc, &schema, &out, lines)
+}
+
+fn check_cases(rt: &impl Abort, alloc: Global) -> Result<(), StripeFault> {
+    for case in &CASES {
+        check_case(rt, alloc, case)?;
+    }
+    Ok(())
+}
+
+#[test]
+fn positions_of_groups(rt: HostRuntime) {
+    let answer = with_memory(|| check_cases(&rt, rt.alloc()));
+    assert!(rt; answer == Ok(()));
+}
+
+/// Where the numbers of a group's position stand in the stripe of arrays: the column, the group, the first one's place,
+/// and how many there are.
+static PLACES: [(usize, usize, usize, usize); 9] = [
+    (1, 0, 28, 5),
+    (1, 1, 43, 5),
+    (1, 2, 58, 5),
+    (2, 0, 73, 5),
+    (2, 1, 88, 5),
+    (2, 2, 103, 5),
+    (3, 0, 118, 2),
+    (3, 1, 138, 2),
+    (3, 2, 158, 2),
+];
+
+/// The stripe of arrays with a byte that is so much more is refused, or the positions of the group are found not right.
+fn check_number(
+    rt: &impl Abort,
+    alloc: Global,
+    whole: &Whole,
+    place: usize,
+    more: u8,
+    column: usize,
+    group: usize,
+) -> Result<(), StripeFault> {
+    let (text, rle, stride, lines, _, _, _) = whole;
+    let schema = schema_of(alloc, text)?;
+    let out = written(alloc, &schema, *rle, *stride, lines)?;
+    let mut bytes = Vec::new(alloc);
+    bytes.extend_from_slice(&out.bytes)?;
+    match bytes.get_mut(place) {
+        Some(byte) => *byte = byte.wrapping_add(more),
+        None => return Err(StripeFault::BadDirectory),
+    }
+    let view = StripeView::open(alloc, &schema, out.info, *stride, &bytes)?;
+    if column >= schema.width() {
+        return Err(StripeFault::BadDirectory);
+    }
+    match view.positions_right(alloc, column) {
+        Err(StripeFault::OutOfMemory) => return Err(StripeFault::OutOfMemory),
+        Err(_) => (),
+        Ok(right) => assert!(rt;
+            right.get(group).copied() == Some(false),
+            "byte {} plus {}",
+            place,
+            more
+        ),
+    }
+    Ok(())
+}
+
+/// Each number of each position, one more and one less.
+fn check_numbers(rt: &impl Abort, alloc: Global) -> Result<(), StripeFault> {
+    let [.., whole] = &WHOLE;
+    for (column, group, first, count) in &PLACES {
+        for place in *first..first.saturating_add(*count) {
+            check_number(rt, alloc, whole, place, 1, *column, *group)?;
+            check_number(rt, alloc, whole, place, 0xff, *column, *group)?;
+        }
+    }
+    Ok(())
+}
+
+#[test]
+fn positions_off_by_one(rt: HostRuntime) {
+    let answer = with_memory(|| check_numbers(&rt, rt.alloc()));
+    assert!(rt; answer == Ok(()));
+}
