@@ -1,7 +1,8 @@
 //! A file with a byte or two changed, and what is found then.
-use crate::written::{arrays, sums};
+use crate::written::{arrays, sums, texts};
 use orc_check::check;
 use orc_file::{FileFault, SliceSource};
+use orc_rle::Rle;
 use orc_test_support::{EMPTY, SEVENS};
 use std::alloc::Global;
 use std::process::Abort;
@@ -122,8 +123,10 @@ fn check_all(rt: &impl Abort, alloc: Global) -> Result<(), FileFault> {
     assert!(rt; file.len() == 420);
     check_cases(rt, alloc, &file, &OF_ARRAYS)?;
     // 2^63 - 1, 1 and -1 in stripes of two rows: the first one's sum isn't told, nor the file's
-    let file = sums(alloc)?;
-    check_cases(rt, alloc, &file, &[(&[], &[])])
+    check_found(rt, alloc, &sums(alloc)?, &[])?;
+    // stripes of several encodings
+    check_found(rt, alloc, &texts(alloc, Rle::One)?, &[])?;
+    check_found(rt, alloc, &texts(alloc, Rle::Two)?, &[])
 }
 
 #[test]

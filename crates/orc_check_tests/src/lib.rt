@@ -5,6 +5,10 @@
 #[cfg(test)]
 mod changed;
 #[cfg(test)]
+mod each_byte;
+#[cfg(test)]
+mod parts;
+#[cfg(test)]
 mod tails;
 #[cfg(test)]
 mod written;

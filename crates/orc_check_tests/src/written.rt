@@ -6,10 +6,11 @@ use orc_types::{Schema, row_from_json};
 use serde_json::Value as Json;
 use std::alloc::Global;
 
-/// The file of the rows that lines spell, in version 1.
+/// The file of the rows that lines spell.
 fn file_of(
     alloc: Global,
     schema: &str,
+    rle: Rle,
     stride: u32,
     stripe_rows: u32,
     lines: &[&str],
@@ -20,7 +21,7 @@ fn file_of(
     let Ok(of_rows) = Schema::parse(alloc, schema) else {
         return Err(FileFault::OutOfMemory);
     };
-    let Some(options) = Options::new(Rle::One, stride, stripe_rows) else {
+    let Some(options) = Options::new(rle, stride, stripe_rows) else {
         return Err(FileFault::Limit);
     };
     let mut writer = match Writer::new(alloc, columns, options, VecSink::new(alloc)) {
@@ -47,6 +48,7 @@ pub(crate) fn arrays(alloc: Global) -> Result<Vec<u8>, FileFault> {
     file_of(
         alloc,
         "struct<l:array<array<int>>>",
+        Rle::One,
         2,
         5,
         &[
@@ -64,8 +66,44 @@ pub(crate) fn sums(alloc: Global) -> Result<Vec<u8>, FileFault> {
     file_of(
         alloc,
         "struct<n:bigint>",
+        Rle::One,
         0,
         2,
         &[r#"{"n":9223372036854775807}"#, r#"{"n":1}"#, r#"{"n":-1}"#],
+    )
+}
+
+/// Three rows with a column of every kind, in groups of two.
+pub(crate) fn kinds(alloc: Global) -> Result<Vec<u8>, FileFault> {
+    file_of(
+        alloc,
+        "struct<a:boolean,b:tinyint,c:smallint,d:int,e:bigint,f:date,g:string,h:binary,i:array<int>>",
+        Rle::One,
+        2,
+        3,
+        &[
+            r#"{"a":true,"b":1,"c":2,"d":3,"e":4,"f":"1970-01-06","g":"b","h":"0102","i":[7,9]}"#,
+            r#"{"a":false,"b":3,"c":null,"d":7,"e":9,"f":"1970-01-03","g":"d","h":"03","i":[]}"#,
+            r#"{"a":true,"b":2,"c":6,"d":4,"e":5,"f":"1970-01-09","g":"c","h":"","i":[4]}"#,
+        ],
+    )
+}
+
+/// Texts that stand by themselves in the first stripe and in a dictionary in the second.
+pub(crate) fn texts(alloc: Global, rle: Rle) -> Result<Vec<u8>, FileFault> {
+    file_of(
+        alloc,
+        "struct<g:string>",
+        rle,
+        2,
+        3,
+        &[
+            r#"{"g":"north"}"#,
+            r#"{"g":""}"#,
+            r#"{"g":"south"}"#,
+            r#"{"g":"east"}"#,
+            r#"{"g":null}"#,
+            r#"{"g":"east"}"#,
+        ],
     )
 }
