@@ -2,6 +2,7 @@
 mod devices;
 mod files;
 mod outcomes;
+mod pages;
 mod statistics;
 mod steps;
 mod stripes;
