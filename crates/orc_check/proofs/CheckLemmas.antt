@@ -21,7 +21,8 @@ use Rattle.orc_columns.specs.declared.fault.StripeFault.TheVariants as stripe
 use Rattle.orc_file.proofs.RowLemmas.{one_file, no_file, parts_cut}
 use Rattle.orc_check.specs.declared.finding.Finding.{Finding}
 use Rattle.orc_check.specs.Findings.{OfEach, OfStripe, OfStripes, OfFile, Findings, Adds, rows_at}
-use Rattle.orc_check.specs.Checking.{IsChecked, AreChecked, AreOfSchema, AreOwn, CheckFault, text_at}
+use Rattle.orc_check.specs.Checking.{IsChecked, AreOfSchema, AreOwn, CheckFault}
+use Rattle.orc_check.proofs.Checked.{AreChecked, text_at}
 
 get_front : {X : Type 0} (xs : List X) (x d : X) (k : ℕ) → k < length xs → get_or (xs ++ x ∷ []) k d ≡ get_or xs k d
 get_front [] x d k lt = absurd (omega (arith, lt))

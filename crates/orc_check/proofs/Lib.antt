@@ -1,10 +1,12 @@
 mod ReportLemmas
+mod Checked
 mod CheckLemmas
 mod WholeLemmas
 mod CellLemmas
 mod GroupBounds
 mod IndexFound
 mod OneList
+mod EachFinding
 pub mod NoFinding
 pub mod WrittenIndexes
 mod GroupsFound

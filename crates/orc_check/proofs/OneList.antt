@@ -42,7 +42,7 @@ group_one s x cs bounds n c es g =
     (unless_one (TellsGroup s (group_of cs bounds g) (entry_at es g)) (IndexStatistic n c g)) (unless_one (AreReadPlaces s x (before_group cs bounds g) (entry_at es g).positions) (IndexPosition n c g))
 
 -- a column has one index at most
-one_index : (footer : StripeFooter) (bytes : List ℕ) (c : ℕ) (a b : RowIndexMsg) → HasIndex footer bytes c a → HasIndex footer bytes c b → a ≡ b
+pub one_index : (footer : StripeFooter) (bytes : List ℕ) (c : ℕ) (a b : RowIndexMsg) → HasIndex footer bytes c a → HasIndex footer bytes c b → a ≡ b
 one_index footer bytes c a b p q = one_spelled row_index 0 0 (index_text footer bytes c) a b p.1 q.1
 
 index_one : (view : Opened) (n : ℕ) (rows : List Cell) (c : ℕ) (a b : List Finding) → OfIndex view n rows c a → OfIndex view n rows c b → a ≡ b

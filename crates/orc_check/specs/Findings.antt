@@ -33,6 +33,7 @@ use Rattle.orc_check.specs.declared.finding.Finding.TheVariants.{StripeStatistic
 abbrev pub Unless : Type 0 → Finding → List Finding → Type 0
 Unless Holds finding found = (Holds × (found ≡ [])) ⊎ ((Holds → ⊥) × (found ≡ finding ∷ []))
 
+-- the finding, if what it is about isn't so
 abbrev pub reported : Bool → Finding → List Finding
 reported true finding = []
 reported false finding = finding ∷ []
@@ -60,25 +61,25 @@ entry_at entries group = get_or entries group (record { positions = []; statisti
 abbrev pub TellsGroup : Shape → List Cell → RowIndexEntry → Type 0
 TellsGroup s group entry = Tells (option_map (stat_read (kind_of s)) entry.statistics) (stat (kind_of s) group)
 
--- a group of column c of stripe n, whose shape is s and whose streams are x
+-- What is found of a group of column c of stripe n, whose shape is s and whose streams are x: its statistic, then its positions.
 abbrev pub OfGroup : Shape → Streams → List Cell → List ℕ → ℕ → ℕ → List RowIndexEntry → ℕ → List Finding → Type 0
 OfGroup s x cells bounds n c entries g =
     Both (Unless (TellsGroup s (group_of cells bounds g) (entry_at entries g)) (IndexStatistic n c g))
     (Unless (AreReadPlaces s x (before_group cells bounds g) (entry_at entries g).positions) (IndexPosition n c g))
 
--- all groups of the column, each with its entry
+-- what is found of the column's groups, of which each has an entry
 abbrev pub OfGroups : Opened → ℕ → List Cell → ℕ → List RowIndexEntry → List Finding → Type 0
 OfGroups view n rows c entries =
     OfEach (OfGroup (shape_at view.schema c) (columns_of view.footer view.bytes c) (cells view.schema c rows) (bounds_of view.schema c rows (starts view.stride (length rows))) n c entries)
     (length entries)
 
--- the column has no index with an entry for each group of the rows, or what is found of each group
+-- The one finding of entries where no index of the column has one for each group of the rows; else what is found of each group.
 abbrev pub OfEntries : Opened → ℕ → List Cell → ℕ → List Finding → Type 0
 OfEntries view n rows c found =
     (((message : RowIndexMsg) → HasIndex view.footer view.bytes c message → IsWhole view (length rows) message → ⊥) × (found ≡ IndexEntries n c ∷ []))
     ⊎ ((message : RowIndexMsg) × HasIndex view.footer view.bytes c message × IsWhole view (length rows) message × OfGroups view n rows c message.entries found)
 
--- a file of stride 0 has no index
+-- Where the stride is 0, nothing is found of indexes, whatever the directory lists.
 abbrev pub OfIndex : Opened → ℕ → List Cell → ℕ → List Finding → Type 0
 OfIndex view n rows c found = ((view.stride ≡ 0) × (found ≡ [])) ⊎ ((0 < view.stride) × OfEntries view n rows c found)
 
@@ -96,10 +97,11 @@ OfColumn view told n rows c = Both (Unless (TellsStripe view.schema told rows c)
 abbrev pub stripe_told : Tail → ℕ → List Stat
 stripe_told tail n = get_or tail.stripe_stats n []
 
+-- the stripe with this number, with these bytes and this footer
 abbrev pub opened : Tail → ℕ → List ℕ → StripeFooter → Opened
 opened tail n bytes footer = record { schema = tail.schema; info = stripe_at tail.stripes n; stride = tail.stride; bytes = bytes; footer = footer }
 
--- of the stripe with this number, which has these bytes and these rows
+-- What is found of the stripe with this number in these bytes, column by column, if these rows are its own.
 abbrev pub OfStripe : Tail → ℕ → List ℕ → List Cell → List Finding → Type 0
 OfStripe tail n bytes rows found =
     (footer : StripeFooter) × HasFooter tail.schema (stripe_at tail.stripes n) bytes footer × OfEach (OfColumn (opened tail n bytes footer) (stripe_told tail n) n rows) (width tail.schema) found
@@ -108,19 +110,21 @@ OfStripe tail n bytes rows found =
 abbrev pub rows_at : List (List Cell) → ℕ → List Cell
 rows_at parts n = get_or parts n []
 
+-- what is found of all stripes in their order
 abbrev pub OfStripes : List ℕ → Tail → List (List Cell) → List Finding → Type 0
 OfStripes bytes tail parts = OfEach (λ n. OfStripe tail n (stripe_bytes (stripe_at tail.stripes n) bytes) (rows_at parts n)) (length tail.stripes)
 
 -- ---- the file
 
--- the statistic of the whole file is that of all rows, but for a sum that some stripe's rows lose
+-- the statistic of the whole file is that of all rows, whose sum isn't known where that of some stripe isn't
 abbrev pub TellsFile : Tail → List (List Cell) → ℕ → Type 0
 TellsFile tail parts c = Tells (slice_get tail.file_stats c) (whole_of tail.schema parts c)
 
+-- what is found of the statistics of the whole file, column by column
 abbrev pub OfFile : Tail → List (List Cell) → List Finding → Type 0
 OfFile tail parts = OfEach (λ c. Unless (TellsFile tail parts c) (FileStatistic c)) (width tail.schema)
 
--- What is found of a file with this tail and these rows: stripe by stripe, in each column by column, for each column its statistic, then its
--- index, group by group; last the file's statistics by column.
+-- What is found of a file with this tail, if these rows are its own (`FileIs` says so): stripe by stripe, in each column by column, for each
+-- column its statistic, then its index, group by group; last the file's statistics by column.
 abbrev pub Findings : List ℕ → Tail → List Cell → List Finding → Type 0
 Findings bytes tail rows = Both (OfStripes bytes tail (cut_rows tail.stripes rows)) (OfFile tail (cut_rows tail.stripes rows))

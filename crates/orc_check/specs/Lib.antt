@@ -3,3 +3,4 @@ pub mod FindingText
 pub mod Findings
 pub mod RightIndexes
 pub mod Checking
+pub mod Meanings

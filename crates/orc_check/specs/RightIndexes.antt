@@ -18,7 +18,7 @@ pub record IsIndexed (s : Shape) (stride : ℕ) (info : StripeInfo) (bytes : Lis
   pub has_footer : HasFooter s info bytes footer
   pub right : (c : ℕ) → c < width s → HasRightIndex stride s rows footer bytes c
 
--- where the file has indexes, each of its stripes is indexed so
+-- where the stride is above 0, each of the stripes is indexed so
 abbrev pub HasIndexes : List ℕ → Tail → List Cell → Type 0
 HasIndexes bytes tail rows =
     0 < tail.stride → (n : ℕ) → n < length tail.stripes

@@ -48,6 +48,7 @@ fn check_tail<S: Source>(
     ensures fault { IfErr result (λ fault. ReadFault (S.told source.old) fault (λ bytes. FirstRefused tail.now.schema bytes 0 tail.now.stripes fault)) }
     ensures kept { OnOk result (S.failures source.new ≡ S.failures source.old) }
     ensures failed { IsErrOf result SourceFailed → S.failures source.old < S.failures source.new }
+    ensures unfailed { IfErr result (λ fault. (fault ≡ SourceFailed) ⊎ (S.failures source.new ≡ S.failures source.old)) }
     ensures memory { IsErrOf result OutOfMemory → S.failures source.new ≡ S.failures source.old }
 {
     let mut found = Vec::new(alloc);
@@ -63,11 +64,11 @@ fn check_tail<S: Source>(
 }
 
 /// What a file says of itself and is not so: stripe by stripe, in each column by column, for each column its statistic
-/// and then its row index, group by group; last the statistics of the whole file by column. The bytes of one stripe are
-/// held at a time.
+/// and then its row index, group by group; last the statistics of the whole file by column. Of the stripes' bytes those of one
+/// are held at a time.
 ///
 /// Refusals: those of `OrcFile::open`, and `Stripe` with the number of the first stripe that has no rows, and why;
-/// `SourceFailed` where the source failed; `OutOfMemory`. But for the last two the bytes are no file of any rows.
+/// `SourceFailed`, and no other, where the source failed; `OutOfMemory`. But for the last two the bytes are no file of any rows.
 pub fn check<S: Source>(alloc: Global, source: &mut S) -> Result<Vec<Finding>, FileFault>
     ensures found { IfOk result (λ found. IfSome (S.told source.old) (λ bytes. (tail : Tail) × (rows : List Cell) × FileIs bytes tail rows
         × Findings bytes tail rows found.items)) }
@@ -78,6 +79,7 @@ pub fn check<S: Source>(alloc: Global, source: &mut S) -> Result<Vec<Finding>, F
     ensures fault { IfErr result (λ fault. ReadFault (S.told source.old) fault (λ bytes. CheckFault bytes fault)) }
     ensures kept { OnOk result (S.failures source.new ≡ S.failures source.old) }
     ensures failed { IsErrOf result SourceFailed → S.failures source.old < S.failures source.new }
+    ensures unfailed { IfErr result (λ fault. (fault ≡ SourceFailed) ⊎ (S.failures source.new ≡ S.failures source.old)) }
     ensures memory { IsErrOf result OutOfMemory → S.failures source.new ≡ S.failures source.old }
 {
     let tail = read_tail(alloc, source)?;

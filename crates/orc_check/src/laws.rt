@@ -1,31 +1,34 @@
 //! Laws of findings. Each function does nothing: its contract is what it is for.
-ghost use Rattle.std.specs.Prelude.{◌≡◌, ◌↔◌, ℕ, List, []};
+ghost use Rattle.std.specs.Prelude.{◌≡◌, ◌↔◌, ℕ, List, [], Contains};
 ghost use Rattle.orc_types.specs.Cells.{Cell};
 ghost use Rattle.orc_types.specs.Shapes.{Shape};
 ghost use Rattle.orc_written.specs.declared.options.Options.{Options};
-ghost use Rattle.orc_file.specs.FileRows.{FileIs};
+ghost use Rattle.orc_file.specs.FileRows.{FileIs, cut_rows};
 ghost use Rattle.orc_file.specs.Honest.{Honest, HasWholeStats};
 ghost use Rattle.orc_file.specs.Writing.{IsWrittenFile};
 ghost use Rattle.orc_file.specs.declared.tail.Tail.{Tail};
 ghost use Rattle.orc_check.specs.declared.finding.Finding.{Finding};
 ghost use Rattle.orc_check.specs.Findings.{Findings};
+ghost use Rattle.orc_check.specs.Meanings.{IsSo};
 ghost use Rattle.orc_check.specs.RightIndexes.{HasIndexes, StartsAtGroups};
 
 use orc_stripe::group_laws;
 
-/// Of a file one list of findings stands at most. It is empty exactly where the statistics of each stripe and of the whole
+/// Of a file one list of findings stands at most. A finding is in it exactly where what it says of the file is so. It is empty exactly where the statistics of each stripe and of the whole
 /// file are those of the rows and, in a file with a stride, each column of each stripe has a right row index. Nothing is
 /// found of a file as it is written.
 pub fn finding_laws()
     ensures one { (bytes : List ℕ) (tail : Tail) (rows : List Cell) (a b : List Finding) → Findings bytes tail rows a → Findings bytes tail rows b → a ≡ b }
+    ensures each { (bytes : List ℕ) (tail : Tail) (rows : List Cell) (found : List Finding) (finding : Finding) → FileIs bytes tail rows → Findings bytes tail rows found
+        → Contains found finding ↔ IsSo bytes tail (cut_rows tail.stripes rows) finding }
     ensures none { (bytes : List ℕ) (tail : Tail) (rows : List Cell) → FileIs bytes tail rows
         → Findings bytes tail rows [] ↔ (Honest tail rows × HasWholeStats tail rows × HasIndexes bytes tail rows) }
     ensures written { (options : Options) (s : Shape) (tail : Tail) (bytes : List ℕ) (rows : List Cell) → IsWrittenFile options s tail bytes rows
         → FileIs bytes tail rows → Findings bytes tail rows [] }
 {}
 
-/// Where nothing is found of a file, each of its stripes starts at each of its groups: a cursor there reads the stripe's rows
-/// from the group's first one on, and is refused for memory alone.
+/// Where nothing is found of a file, each of its stripes starts at each of its groups (`StartsGroup`), which is all that `cursor_at`
+/// asks to stand for the stripe's rows from the group's first one on and to be refused for memory alone.
 pub fn start_laws()
     ensures { (bytes : List ℕ) (tail : Tail) (rows : List Cell) → FileIs bytes tail rows → Findings bytes tail rows [] → StartsAtGroups bytes tail rows }
 {

@@ -1,6 +1,6 @@
 //! The row index of a column: an entry for each group of rows.
 ghost use Rattle.std.specs.Prelude.{◌≡◌, ◌≢◌, ◌+◌, ◌<◌, ◌^◌, length, OnOk};
-ghost use Rattle.std.specs.Bool.{OnFalse};
+ghost use Rattle.std.specs.Bool.{MatchBool};
 ghost use Rattle.orc_types.specs.Columns as spec;
 ghost use Rattle.orc_types.specs.Fits.{RowsFit};
 ghost use Rattle.orc_types.specs.Lent.{lent_cells};
@@ -86,7 +86,7 @@ fn check_groups(
 
 /// Whether memory ran out.
 fn is_memory(fault: StripeFault) -> bool
-    ensures { OnFalse result (fault ≢ OutOfMemory) }
+    ensures { MatchBool result (fault ≡ OutOfMemory) (fault ≢ OutOfMemory) }
 {
     match fault {
         StripeFault::OutOfMemory => true,

@@ -1,5 +1,5 @@
 //! A stripe of a file.
-ghost use Rattle.std.specs.Prelude.{◌≡◌, ◌<◌, ◌≤◌, length, OnOk, IfOk, IfErr, IfSome, IsErrOf};
+ghost use Rattle.std.specs.Prelude.{◌≡◌, ◌<◌, ◌≤◌, ◌⊎◌, length, OnOk, IfOk, IfErr, IfSome, IsErrOf};
 ghost use Rattle.orc_file.specs.Stripes.{AllBefore, most_bytes, stripe_at, stripes_length};
 ghost use Rattle.orc_file.specs.FileRows as rows;
 ghost use Rattle.orc_file.specs.FileRows.{StripeRefused};
@@ -27,7 +27,7 @@ fn told_of(tail: &Tail, number: usize) -> &[Stat]
 }
 
 /// Puts what is found of the stripe with this number behind what was found before, and answers the statistics of its
-/// columns' cells. Its bytes are read in one call.
+/// columns' cells.
 pub(crate) fn check_stripe<S: Source>(
     alloc: Global,
     source: &mut S,
@@ -47,6 +47,7 @@ pub(crate) fn check_stripe<S: Source>(
         (λ all. StripeRefused tail.now.schema all number (stripe_at tail.now.stripes number) fault)) }
     ensures kept { OnOk result (S.failures source.new ≡ S.failures source.old) }
     ensures failed { IsErrOf result SourceFailed → S.failures source.old < S.failures source.new }
+    ensures unfailed { IfErr result (λ fault. (fault ≡ SourceFailed) ⊎ (S.failures source.new ≡ S.failures source.old)) }
     ensures memory { IsErrOf result OutOfMemory → S.failures source.new ≡ S.failures source.old }
 {
     load_stripe(source, tail, number, bytes)?;

@@ -3,7 +3,8 @@ use Rattle.std.proofs.lemmas.Result.{err_from_is_err_and}
 use Rattle.orc_stats.specs.declared.stat.Stat.{Stat}
 use Rattle.orc_check.specs.declared.finding.Finding.{Finding}
 use Rattle.orc_file.specs.Honest.{AreWhole}
-use Rattle.orc_check.specs.Checking.{AreChecked, AreOwn}
+use Rattle.orc_check.specs.Checking.{AreOwn}
+use Rattle.orc_check.proofs.Checked.{AreChecked}
 use Rattle.orc_check.proofs.CheckLemmas.{none_checked, none_told, more_checked, more_told, stripe_refused, file_found, are_own}
 use Rattle.orc_check.proofs.checking.check_tail.Goals as goal
 

@@ -5,6 +5,7 @@ use Rattle.orc_stats.specs.declared.stat.Stat.{Stat}
 use Rattle.orc_file.specs.Statistics.{AreStats}
 use Rattle.orc_file.proofs.Opened.{tail_within}
 use Rattle.orc_file.proofs.WrittenLaws.{written_honest, written_whole}
+use Rattle.orc_check.proofs.EachFinding.{each_found}
 use Rattle.orc_check.proofs.OneList.{one_findings}
 use Rattle.orc_check.proofs.NoFinding.{none_found, whole_found, honest_found, index_found}
 use Rattle.orc_check.proofs.WrittenIndexes.{written_indexes}
@@ -21,6 +22,9 @@ all_few s (xs ∷ xss) h = (h.0.few, all_few s xss h.1)
 
 pub returns-clause-one : goal.returns-clause-one
 returns-clause-one c = one_findings
+
+pub returns-clause-each : goal.returns-clause-each
+returns-clause-each c = λ bytes tail rows found finding is h. each_found bytes tail rows is found finding h
 
 pub returns-clause-none : goal.returns-clause-none
 returns-clause-none c = λ bytes tail rows is.
