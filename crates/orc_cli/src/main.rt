@@ -118,7 +118,9 @@ fn run<R: Env + Files<File = File> + AllocGlobal + Print + Eprint>(
         Asked::Request(matches) => match request_of(&matches) {
             Some(request) => answer(rt, request),
             None => {
-                let _ = eprintln!(rt; "error: --stride and --stripe-rows take decimal digits alone");
+                let _ = eprintln!(rt;
+                    "error: --stride and --stripe-rows take decimal digits alone"
+                );
                 Err(Ending::Refused(Refusal::NotUnderstood))
             }
         },

@@ -2,6 +2,7 @@
 
 use clap::error::ErrorKind;
 use clap::{ArgMatches, Error};
+use orc_output::number_of;
 use orc_request::{Request, SIGNS, VERSIONS, parsed, request_of};
 use orc_rle::{Rle, Sign};
 use std::alloc::Global;
@@ -167,6 +168,28 @@ fn numbers_of_write(rt: HostRuntime) {
             },
             Err(error) => assert!(rt; !asks && error.use_stderr(), "{words:?}: {error}"),
         }
+    }
+}
+
+/// Words, and the numbers that they write.
+static DIGITS: [(&str, Option<u32>); 11] = [
+    ("0", Some(0)),
+    ("007", Some(7)),
+    ("4294967295", Some(4_294_967_295)),
+    ("4294967296", None),
+    ("18446744073709551616", None),
+    ("", None),
+    ("+5", None),
+    ("-5", None),
+    (" 5", None),
+    ("5x", None),
+    ("0x5", None),
+];
+
+#[test]
+fn digits_write_numbers(rt: HostRuntime) {
+    for (word, number) in DIGITS {
+        assert_eq!(rt; number_of(word), number, "{word}");
     }
 }
 

@@ -10,8 +10,9 @@ use Rattle.orc_file.specs.declared.tail.Tail.{Tail}
 use Rattle.orc_file.specs.declared.fault.FileFault.{FileFault}
 use Rattle.orc_file.specs.declared.fault.FileFault.TheVariants.{WriteFailed, SourceFailed, OutOfMemory}
 use Rattle.orc_output.proofs.OpenFaults.{never_output}
-use Rattle.orc_output.specs.Output.{IsOutsideFile, write_failed}
+use Rattle.orc_output.specs.Output.{write_failed}
 use Rattle.orc_output.specs.declared.fault.CliFault.TheVariants.{File}
+use Rattle.orc_findings.specs.Lines.{IsSourceOrMemory}
 use Rattle.orc_check.specs.Checking.{CheckFault}
 
 -- ---- what a refusal isn't
@@ -37,9 +38,9 @@ no_output (Some bytes) why P (inr (inr bad)) failed = absurd (never_failed bytes
 
 -- a file of rows is refused for what is outside of it
 pub outside_found : (told : Option (List ℕ)) (why : FileFault) → IfSome told (λ bytes. (tail : Tail) (rows : List Cell) → FileIs bytes tail rows → (why ≡ OutOfMemory) ⊎ (why ≡ SourceFailed))
-    → IfSome told (λ bytes. (tail : Tail) (rows : List Cell) → FileIs bytes tail rows → IsOutsideFile (File why))
+    → IfSome told (λ bytes. (tail : Tail) (rows : List Cell) → FileIs bytes tail rows → (File why ≡ write_failed) ⊎ IsSourceOrMemory (File why))
 outside_found None why h = tt
 outside_found (Some bytes) why h = λ tail rows is. elim (h tail rows is) [
-  | inl memory ↦ inr (inr (inl (ap File memory)))
+  | inl memory ↦ inr (inr (ap File memory))
   | inr source ↦ inr (inl (ap File source))
 ]

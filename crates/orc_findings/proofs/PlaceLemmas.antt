@@ -17,7 +17,7 @@ use Rattle.orc_check.specs.RightIndexes.{StartsAtGroups}
 use Rattle.orc_check.proofs.NoFinding.{stripe_is}
 use Rattle.orc_rows.specs.Rows.{row_line, row_lines, HaveJson}
 use Rattle.orc_rows.specs.FromGroup.{opened, AreFromGroup, AreFrom, NoLinesFrom, EndsFrom}
-use Rattle.orc_rows.proofs.RowsLemmas.{stops_nowhere}
+use Rattle.orc_rows.proofs.RowsLemmas.{ends_outside as later_outside}
 use Rattle.orc_findings.specs.Places.{IsPlace, rows_before}
 
 -- ---- the stripes behind a number
@@ -121,8 +121,7 @@ module _ (bytes : List ℕ) (tail : Tail) (rows : List Cell) (is : FileIs bytes 
 
   pub ends_outside : (n group : ℕ) (old new : Option (List ℕ)) (fault : CliFault) → IsPlace tail n group → HaveJson tail.schema rows → EndsFrom bytes tail n group old new fault → IsOutsideFile fault
   ends_outside n group old new fault place have (inl h) = absurd (omega (arith, h.0, place.there))
-  ends_outside n group old new fault place have (inr (lt, inl (inl stops, kept))) = absurd (no_stop n group fault place have stops)
-  ends_outside n group old new fault place have (inr (lt, inl (inr source, kept))) = inr source
-  ends_outside n group old new fault place have (inr (lt, inr (inl failed))) = inl failed
-  ends_outside n group old new fault place have (inr (lt, inr (inr (inl h)))) = absurd (stops_nowhere tail.schema bytes tail.stripes h.0 rows fault h.2 is.has_rows have h.3)
-  ends_outside n group old new fault place have (inr (lt, inr (inr (inr source)))) = inr source
+  ends_outside n group old new fault place have (inr (lt, inl (inl (inl stops, kept)))) = absurd (no_stop n group fault place have stops)
+  ends_outside n group old new fault place have (inr (lt, inl (inl (inr source, kept)))) = inr source
+  ends_outside n group old new fault place have (inr (lt, inl (inr part))) = inl part.0
+  ends_outside n group old new fault place have (inr (lt, inr behind)) = later_outside bytes tail (n + 1) rows behind.middle new fault is.has_rows have behind.ends behind.ends.ends

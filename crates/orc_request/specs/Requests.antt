@@ -1,6 +1,5 @@
 -- What the words of a command line ask for, by the names of their options.
 use Rattle.std.specs.Prelude.{◌≡◌, ◌<◌, ◌^◌, ◌⊎◌, ℕ, List, [], Some, None, map, option_map, unwrap_or, codes}
-use Rattle.std.specs.Str.Parse.{IsNumeral, digits_value}
 use Rattle.clap.specs.Matches.{first_value, matched_of, raw_values, subcommand_name_of}
 use Rattle.clap.specs.Simple.{subcommand_rows_of}
 use Rattle.clap.specs.Walk.{rows_of}
@@ -11,6 +10,7 @@ use Rattle.orc_rle.specs.declared.sign.Rle.TheVariants.{One, Two}
 use Rattle.orc_rle.specs.declared.sign.Sign.{Sign}
 use Rattle.orc_rle.specs.declared.sign.Sign.TheVariants.{Signed, Unsigned}
 use Rattle.orc_written.specs.declared.options.Options.{Options}
+use Rattle.orc_output.specs.Numbers.{IsNumber}
 use Rattle.orc_request.specs.declared.request.Request.{Request}
 use Rattle.orc_request.specs.declared.request.Request.TheVariants.{Ints, Rows, Show, Check, Write, Merge}
 
@@ -39,13 +39,7 @@ pub record HasInts (found : Found) (rle : Rle) (sign : Sign) (hex : List ℕ) : 
   pub sign_is : first_value found (codes "sign") ≡ Some (sign_word sign)
   pub digits : first_value found (codes "hex") ≡ Some hex
 
--- a word is this number in decimal digits alone, with no sign, and 32 bits hold it
-pub record IsNumber (word : List ℕ) (n : ℕ) : Type 0 where
-  pub numeral : IsNumeral 10 word
-  pub value : n ≡ digits_value 10 word
-  pub fits : n < 2 ^ 32
-
--- the option's word is this number
+-- the option's word is this number, in decimal digits alone
 pub record HasNumber (found : Found) (option : List ℕ) (n : ℕ) : Type 0 where
   pub word : List ℕ
   pub given : first_value found option ≡ Some word

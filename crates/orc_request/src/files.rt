@@ -1,6 +1,8 @@
 //! The files that a command names.
-ghost use Rattle.std.specs.Prelude.{◌≡◌, IfOk, true};
+ghost use Rattle.std.specs.Prelude.{◌≡◌, IfOk, IfErr, true};
 ghost use Rattle.std.specs.Fs.{new_options, with_write, with_create_new};
+ghost use Rattle.orc_file.specs.declared.fault.FileFault.TheVariants.{SourceFailed, WriteFailed};
+ghost use Rattle.orc_output.specs.declared.fault.CliFault.TheVariants.{File as FileFaulted};
 
 use orc_file::{FileFault, FileSource, StdSink};
 use orc_output::CliFault;
@@ -13,6 +15,7 @@ pub fn source_of<'a, R: Files<File = File>>(
     path: &'a str,
 ) -> Result<FileSource<'a, R>, CliFault>
     ensures path { IfOk result (λ source. source.path.now ≡ path.now) }
+    ensures fault { IfErr result (λ fault. fault ≡ FileFaulted SourceFailed) }
 {
     match FileSource::open(rt, path) {
         Ok(source) => Ok(source),
@@ -30,7 +33,9 @@ fn as_new_file() -> OpenOptions
 }
 
 /// A new file of that path.
-pub fn new_file<R: Files<File = File>>(rt: &R, path: &str) -> Result<StdSink<File>, CliFault> {
+pub fn new_file<R: Files<File = File>>(rt: &R, path: &str) -> Result<StdSink<File>, CliFault>
+    ensures { IfErr result (λ fault. fault ≡ FileFaulted WriteFailed) }
+{
     match as_new_file().open(rt, path) {
         Ok(file) => Ok(StdSink::new(file)),
         Err(_) => Err(CliFault::File(FileFault::WriteFailed)),

@@ -8,13 +8,13 @@ pub(crate) static STATUSES: &str =
 /// What stands behind that of `rows`.
 pub(crate) static ROWS_HELP: &str =
     "A stripe's lines are printed once all of them are there. With --from 2:0 it begins at the first group of the third stripe, and
-reads nothing of the stripes before; the file has to have a row index.";
+reads none of the stripes before; the file has to have a row index.";
 
 /// What stands behind that of `check`.
 pub(crate) static CHECK_HELP: &str =
     "A line a finding: its name, and the numbers of the stripe, the column and the group, counted from 0.
   StripeStatistic S C    a statistic of a stripe is missing, or isn't that of its rows
-  IndexEntries S C       a row index is missing, or hasn't an entry for each group
+  IndexEntries S C       a row index is missing, doesn't read, or hasn't one entry for each group
   IndexStatistic S C G   a statistic of a group is missing, or isn't that of its rows
   IndexPosition S C G    an entry doesn't say where its group begins
   FileStatistic C        a statistic of the file is missing, or isn't that of its rows

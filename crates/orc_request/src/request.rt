@@ -7,9 +7,10 @@ ghost use Rattle.clap.specs.declared.parser.matches.Found.{Found};
 ghost use Rattle.orc_rle.specs.declared.sign.Rle.{Rle};
 ghost use Rattle.orc_rle.specs.declared.sign.Sign.{Sign};
 ghost use Rattle.orc_written.specs.declared.options.Options.{Options};
-ghost use Rattle.orc_request.specs.Requests.{Asks, version_word, sign_word, command_word, HasInts, IsNumber, HasWrite, IsNotUnderstood};
+ghost use Rattle.orc_request.specs.Requests.{Asks, version_word, sign_word, command_word, HasInts, HasWrite, IsNotUnderstood};
 
 use clap::ArgMatches;
+use orc_output::number_of;
 use orc_rle::{Rle, Sign};
 use orc_stripe::Options;
 
@@ -79,17 +80,6 @@ fn sign_of(word: &str) -> Option<Sign>
     }
 }
 
-/// The number that decimal digits alone write, where 32 bits hold it. There may be zeros in front, and no sign.
-fn number_of(digits: &str) -> Option<u32>
-    ensures found { IfSome result (IsNumber digits.now) }
-    ensures only { (n : ℕ) → IsNumber digits.now n → IsSome result }
-{
-    match digits.as_bytes().first() {
-        Some(b'+') => None,
-        _ => digits.parse::<u32>().ok(),
-    }
-}
-
 /// What the options of `ints` ask for.
 fn ints_of<'m, 'a>(found: &'m ArgMatches<'a>) -> Option<Request<'m, 'a>>
     ensures name { IfSome result (λ request. command_word request ≡ codes "ints") }
@@ -135,7 +125,8 @@ fn check_of<'m, 'a>(found: &'m ArgMatches<'a>) -> Option<Request<'m, 'a>>
     Some(Request::Check { file })
 }
 
-/// What the words of `write` ask for. Nothing where a number isn't one that files are written with.
+/// What the words of `write` ask for. Nothing where a number isn't written in decimal digits alone, or isn't one that files are
+/// written with.
 fn write_of<'m, 'a>(found: &'m ArgMatches<'a>) -> Option<Request<'m, 'a>>
     ensures name { IfSome result (λ request. command_word request ≡ codes "write") }
     ensures found { IfSome result (Asks (found_of found.now)) }

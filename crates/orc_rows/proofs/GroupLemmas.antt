@@ -1,7 +1,7 @@
 -- A stripe that is read from a group on, by a view of its bytes.
 use Rattle.std.proofs.Common.{◌≡◌, ◌≢◌, ◌∙◌, ℕ, zero, suc, ◌+◌, ◌*◌, ◌<◌, ◌⊎◌, inl, inr, List, [], ◌∷◌, ◌++◌, length, drop, Option, Some, None, Result, Ok, Err, refl, sym, ap, subst, arith}
 use Rattle.std.specs.Option.{IfSome}
-use Rattle.std.specs.Prelude.{IfErr, OnOk}
+use Rattle.std.specs.Prelude.{IfErr, OnOk, OnErr}
 use Rattle.std.specs.Io.KnownBytes.{Appends, Keeps}
 use Rattle.orc_types.specs.Cells.{Cell}
 use Rattle.orc_types.specs.Fits.{RowsFit}
@@ -11,20 +11,22 @@ use Rattle.orc_columns.specs.Stripe.{Streams, HasFooter}
 use Rattle.orc_columns.specs.declared.fault.StripeFault.{StripeFault}
 use Rattle.orc_columns.specs.declared.fault.StripeFault.TheVariants as stripe
 use Rattle.orc_stripe.specs.Opened.{Opened}
+use Rattle.orc_stripe.specs.Cursors.{IsGoing, HasRefused}
+use Rattle.orc_stripe.specs.declared.cursor.RowCursor.{RowCursor}
 use Rattle.orc_stripe.specs.Opening.{OpenFault}
-use Rattle.orc_stripe.specs.GroupCursors.{HasGroup, StartsGroup, GroupFault}
+use Rattle.orc_stripe.specs.GroupCursors.{HasGroup, HasEntries, StartsGroup, GroupFault}
 use Rattle.orc_stripe.proofs.OneStripe.{one_footer}
 use Rattle.orc_file.specs.Stripes.{stripe_at}
 use Rattle.orc_file.specs.FileRows.{stripe_bytes}
 use Rattle.orc_file.specs.declared.fault.FileFault.{FileFault}
 use Rattle.orc_file.specs.declared.fault.FileFault.TheVariants as file
 use Rattle.orc_file.specs.declared.tail.Tail.{Tail}
-use Rattle.orc_output.specs.Output.{write_failed, IsOfSource}
+use Rattle.orc_output.specs.Output.{write_failed, AppendsPart}
 use Rattle.orc_output.specs.declared.fault.CliFault.{CliFault}
 use Rattle.orc_output.specs.declared.fault.CliFault.TheVariants.{File}
 use Rattle.orc_output.proofs.OutputLemmas.{appends_more}
-use Rattle.orc_rows.specs.Rows.{AreOfStripes, EndsAt, EndsIn}
-use Rattle.orc_rows.specs.FromGroup.{opened, AreFromGroup, AreLinesFrom, StopsAtGroup, NoLinesFrom, AreFrom, EndsFrom}
+use Rattle.orc_rows.specs.Rows.{row_lines, HaveJson, AreOfStripes, EndsIn}
+use Rattle.orc_rows.specs.FromGroup.{opened, AreFromGroup, AreLinesFrom, IsRefusedBehind, StopsAtGroup, AreFrom, EndsAtGroup, EndsFrom}
 use Rattle.orc_rows.proofs.RowsLemmas.{keeps_itself}
 
 -- the view is of the stripe with this number
@@ -46,21 +48,26 @@ module _ (tail : Tail) (n : ℕ) (bytes : List ℕ) (group : ℕ) (view : Opened
       let same : footer ≡ view.footer = one_footer tail.schema (stripe_at tail.stripes n) bytes footer view.footer other has in
       subst (λ (v : Opened). StartsGroup v x all group) (sym view_is) (subst (λ (f : StripeFooter). StartsGroup (opened tail n bytes f) x all group) same starts)
 
-  pub from_view : (rows : List Cell) → HasGroup view group → RowsFit tail.schema rows → ((x : ℕ → Streams) (all : List Cell) → StartsGroup view x all group → rows ≡ drop (group * view.stride) all)
+  pub from_view : (rows : List Cell) → HasGroup view group → HasEntries view group → RowsFit tail.schema rows → ((x : ℕ → Streams) (all : List Cell) → StartsGroup view x all group → rows ≡ drop (group * view.stride) all)
       → AreFromGroup tail n bytes group rows
-  from_view rows there fit read = record {
+  from_view rows there entries fit read = record {
     footer = view.footer;
     has_footer = has;
     has_group = subst (λ (v : Opened). HasGroup v group) view_is there;
+    has_entries = subst (λ (v : Opened). HasEntries v group) view_is entries;
     fit = fit;
     rows_are = λ x all starts. read x all (starts_view view.footer x all has starts) ∙ ap (λ (k : ℕ). drop (group * k) all) is.2;
   }
 
-  pub stops_view : (why : StripeFault) → ((x : ℕ → Streams) (all : List Cell) → StartsGroup view x all group → ⊥) → GroupFault view group why ⊎ HasGroup view group → StopsAtGroup tail n bytes group why
+  pub stops_view : (why : StripeFault) → ((x : ℕ → Streams) (all : List Cell) → StartsGroup view x all group → ⊥) → GroupFault view group why ⊎ IsRefusedBehind view group why → StopsAtGroup tail n bytes group why
   stops_view why never reason = record {
     none = λ footer x all other starts. never x all (starts_view footer x all other starts);
-    reason = inr (view.footer, has, subst (λ (v : Opened). GroupFault v group why ⊎ HasGroup v group) view_is reason);
+    reason = inr (view.footer, has, subst (λ (v : Opened). GroupFault v group why ⊎ IsRefusedBehind v group why) view_is reason);
   }
+
+-- a cursor that hasn't refused yet
+pub never_refused : (cursor : RowCursor) → IsGoing cursor → HasRefused cursor → ⊥
+never_refused cursor going refused = cc
 
 -- a stripe that isn't opened
 pub stops_unopened : (tail : Tail) (n : ℕ) (bytes : List ℕ) (group : ℕ) (why : StripeFault) → ((footer : StripeFooter) → HasFooter tail.schema (stripe_at tail.stripes n) bytes footer → ⊥)
@@ -89,11 +96,27 @@ view_fault tail n bytes group result only (inr h) =
 -- a file's bytes are those that were read
 pub no_lines : (told : Option (List ℕ)) (tail : Tail) (n : ℕ) (bytes : List ℕ) (group : ℕ) (known : Option (List ℕ)) (why : FileFault) → IfSome told (λ all. bytes ≡ stripe_bytes (stripe_at tail.stripes n) all)
     → (why ≡ file.OutOfMemory) ⊎ ((w : StripeFault) × (why ≡ file.Stripe n w) × (w ≢ stripe.OutOfMemory) × StopsAtGroup tail n bytes group w)
-    → IfSome told (λ all. (File why ≡ write_failed) ⊎ ((NoLinesFrom tail n (stripe_bytes (stripe_at tail.stripes n) all) group (File why) ⊎ IsOfSource (File why)) × Keeps known known))
+    → IfSome told (λ all. EndsAtGroup all tail n group known known (File why))
 no_lines None tail n bytes group known why is h = tt
-no_lines (Some all) tail n bytes group known why is (inl memory) = inr (inr (inr (inl (ap File memory))), keeps_itself known)
+no_lines (Some all) tail n bytes group known why is (inl memory) = inl (inr (inr (inl (ap File memory))), keeps_itself known)
 no_lines (Some all) tail n bytes group known why is (inr h) =
-    inr (inl (inl (h.0, ap File h.1, h.2, subst (λ (b : List ℕ). StopsAtGroup tail n b group h.0) is h.3)), keeps_itself known)
+    inl (inl (inl (h.0, ap File h.1, h.2, subst (λ (b : List ℕ). StopsAtGroup tail n b group h.0) is h.3)), keeps_itself known)
+
+-- where the output failed
+pub lines_stop : {A : Type 0} (told : Option (List ℕ)) (tail : Tail) (n : ℕ) (bytes : List ℕ) (group : ℕ) (rows : List Cell) (lines : List ℕ) (old new : Option (List ℕ)) (r : Result A CliFault)
+    → IfSome told (λ all. bytes ≡ stripe_bytes (stripe_at tail.stripes n) all) → AreFromGroup tail n bytes group rows → HaveJson tail.schema rows → lines ≡ row_lines tail.schema rows
+    → IfErr r (λ fault. fault ≡ write_failed) → OnErr r (AppendsPart old new lines) → IfErr r (λ fault. IfSome told (λ all. EndsAtGroup all tail n group old new fault))
+lines_stop told tail n bytes group rows lines old new (Ok a) is from json lines_are failed part = tt
+lines_stop None tail n bytes group rows lines old new (Err e) is from json lines_are failed part = tt
+lines_stop (Some all) tail n bytes group rows lines old new (Err e) is from json lines_are failed part =
+    inr (
+      failed,
+      record {
+        lines = lines;
+        are = record { rows = rows; are = subst (λ (b : List ℕ). AreFromGroup tail n b group rows) is from; have_json = json; lines_are = lines_are };
+        part = part;
+      },
+    )
 
 -- ---- from the group to the end
 
@@ -109,22 +132,14 @@ from_both (Some all) tail n group old mid new (Ok a) lt first later = (
   appends_more old mid new first.0 later.0 first.2 later.2,
 )
 
--- where no line of the group's is out
 pub ends_at_group : (told : Option (List ℕ)) (tail : Tail) (n group : ℕ) (old new : Option (List ℕ)) (fault : CliFault) → n < length tail.stripes
-    → IfSome told (λ all. (fault ≡ write_failed) ⊎ ((NoLinesFrom tail n (stripe_bytes (stripe_at tail.stripes n) all) group fault ⊎ IsOfSource fault) × Keeps old new))
-    → IfSome told (λ all. EndsFrom all tail n group old new fault)
+    → IfSome told (λ all. EndsAtGroup all tail n group old new fault) → IfSome told (λ all. EndsFrom all tail n group old new fault)
 ends_at_group None tail n group old new fault lt h = tt
-ends_at_group (Some all) tail n group old new fault lt (inl failed) = inr (lt, inr (inl failed))
-ends_at_group (Some all) tail n group old new fault lt (inr h) = inr (lt, inl h)
-
-ends_behind_group : (all : List ℕ) (tail : Tail) (n group : ℕ) (old mid new : Option (List ℕ)) (fault : CliFault) → n < length tail.stripes → (h : EndsIn all tail (n + 1) mid new fault)
-    → EndsAt tail.schema all h.n (stripe_at tail.stripes h.n) h.lines mid new fault → EndsFrom all tail n group old new fault
-ends_behind_group all tail n group old mid new fault lt h (inl (inl stops, out)) = let begun = h.begun in inr (lt, inr (inr (inl (h.n, omega (arith, begun), h.some, stops))))
-ends_behind_group all tail n group old mid new fault lt h (inl (inr source, out)) = inr (lt, inr (inr (inr source)))
-ends_behind_group all tail n group old mid new fault lt h (inr part) = inr (lt, inr (inl part.0))
+ends_at_group (Some all) tail n group old new fault lt h = inr (lt, inl h)
 
 pub ends_later : {A : Type 0} (told : Option (List ℕ)) (tail : Tail) (n group : ℕ) (old mid new : Option (List ℕ)) (r : Result A CliFault) → n < length tail.stripes
+    → IfSome told (λ all. (own : List ℕ) × AreLinesFrom tail n (stripe_bytes (stripe_at tail.stripes n) all) group own × Appends old mid own)
     → IfErr r (λ fault. IfSome told (λ all. EndsIn all tail (n + 1) mid new fault)) → IfErr r (λ fault. IfSome told (λ all. EndsFrom all tail n group old new fault))
-ends_later told tail n group old mid new (Ok a) lt h = tt
-ends_later None tail n group old mid new (Err e) lt h = tt
-ends_later (Some all) tail n group old mid new (Err e) lt h = ends_behind_group all tail n group old mid new e lt h h.ends
+ends_later told tail n group old mid new (Ok a) lt first h = tt
+ends_later None tail n group old mid new (Err e) lt first h = tt
+ends_later (Some all) tail n group old mid new (Err e) lt first h = inr (lt, inr (record { own = first.0; of_group = first.1; middle = mid; out = first.2; ends = h }))

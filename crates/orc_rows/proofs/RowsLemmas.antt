@@ -193,7 +193,7 @@ own_rows s bytes (i ∷ is) (x ∷ xs) (suc n) lt p =
     let h = own_rows s bytes is xs n (omega (arith, lt)) p.1 in
     record { rows = h.rows; stripe = h.stripe; none = λ e. h.none (none_second x (joined xs) e) }
 
-pub stops_nowhere : (s : Shape) (bytes : List ℕ) (infos : List StripeInfo) (n : ℕ) (rows : List Cell) (fault : CliFault) → n < length infos → HasRows s bytes infos rows → HaveJson s rows
+stops_nowhere : (s : Shape) (bytes : List ℕ) (infos : List StripeInfo) (n : ℕ) (rows : List Cell) (fault : CliFault) → n < length infos → HasRows s bytes infos rows → HaveJson s rows
     → StripeStops s bytes n (stripe_at infos n) fault → ⊥
 stops_nowhere s bytes infos n rows fault lt p have (inl h) =
     let own = own_rows s bytes infos p.parts n lt p.stripes in
@@ -204,13 +204,13 @@ stops_nowhere s bytes infos n rows fault lt p (inl nothing) (inr h) =
     let same = one_stripe s (stripe_at infos n) (stripe_bytes (stripe_at infos n) bytes) h.1.rows own.rows h.1.stripe own.stripe in
     h.1.some (same ∙ own.none (sym p.rows_are ∙ nothing))
 
-ends_outside : (bytes : List ℕ) (tail : Tail) (rows : List Cell) (old new : Option (List ℕ)) (fault : CliFault) → HasRows tail.schema bytes tail.stripes rows → HaveJson tail.schema rows
-    → (h : EndsIn bytes tail 0 old new fault) → EndsAt tail.schema bytes h.n (stripe_at tail.stripes h.n) h.lines old new fault → IsOutsideFile fault
-ends_outside bytes tail rows old new fault p have h (inl q) = elim q.0 [
+pub ends_outside : (bytes : List ℕ) (tail : Tail) (first : ℕ) (rows : List Cell) (old new : Option (List ℕ)) (fault : CliFault) → HasRows tail.schema bytes tail.stripes rows → HaveJson tail.schema rows
+    → (h : EndsIn bytes tail first old new fault) → EndsAt tail.schema bytes h.n (stripe_at tail.stripes h.n) h.lines old new fault → IsOutsideFile fault
+ends_outside bytes tail first rows old new fault p have h (inl q) = elim q.0 [
   | inl stops ↦ absurd (stops_nowhere tail.schema bytes tail.stripes h.n rows fault h.some p have stops)
   | inr source ↦ inr source
 ]
-ends_outside bytes tail rows old new fault p have h (inr q) = inl q.0
+ends_outside bytes tail first rows old new fault p have h (inr q) = inl q.0
 
 refuses_outside : (bytes : List ℕ) (tail : Tail) (rows : List Cell) (old new : Option (List ℕ)) (fault : CliFault) → FileIs bytes tail rows → HaveJson tail.schema rows → RefusesFile bytes None old new fault
     → IsOutsideFile fault
@@ -220,7 +220,7 @@ refuses_outside bytes tail rows old new fault p have (inl h) = elim h.0 [
 ]
 refuses_outside bytes tail rows old new fault p have (inr h) =
     let same = (tail_tests bytes).one tail h.0 p.tail_is h.1 in
-    ends_outside bytes h.0 rows old new fault (subst (λ (t : Tail). HasRows t.schema bytes t.stripes rows) same p.has_rows) (subst (λ (t : Tail). HaveJson t.schema rows) same have) h.2 h.2.ends
+    ends_outside bytes h.0 0 rows old new fault (subst (λ (t : Tail). HasRows t.schema bytes t.stripes rows) same p.has_rows) (subst (λ (t : Tail). HaveJson t.schema rows) same have) h.2 h.2.ends
 
 -- without a text there is no place
 no_place : (start : Option Start) → IsAsked None start → start ≡ None

@@ -1,19 +1,17 @@
 //! The rows of a stripe from a group on, as lines of JSON.
-ghost use Rattle.std.specs.Prelude.{◌≡◌, ◌≢◌, ◌<◌, ◌⊎◌, ℕ, List, [], true, false, length, IfOk, OnOk, IfErr, IfSome, Err};
+ghost use Rattle.std.specs.Prelude.{◌≡◌, ◌≢◌, ◌<◌, ◌⊎◌, ℕ, List, length, IfOk, OnOk, IfErr, IfSome, Err};
 ghost use Rattle.std.specs.Bool.{MatchBool};
-ghost use Rattle.std.specs.Io.KnownBytes.{Appends, Keeps};
-ghost use Rattle.orc_types.specs.FieldNames.{is_distinct};
+ghost use Rattle.std.specs.Io.KnownBytes.{Appends};
 ghost use Rattle.orc_types.specs.Fits.{RowsFit};
 ghost use Rattle.orc_types.specs.Views.{views};
-ghost use Rattle.orc_types.specs.declared.json_fault.JsonFault.TheVariants as json;
 ghost use Rattle.orc_columns.specs.declared.fault.StripeFault.{StripeFault as Why};
 ghost use Rattle.orc_columns.specs.declared.fault.StripeFault.TheVariants as stripe;
 ghost use Rattle.orc_file.specs.FileRows.{stripe_bytes};
 ghost use Rattle.orc_file.specs.Stripes.{stripe_at};
 ghost use Rattle.orc_file.specs.declared.fault.FileFault.TheVariants.{Stripe, SourceFailed, OutOfMemory};
-ghost use Rattle.orc_output.specs.Output.{IsWantOfMemory, IsOfSource, write_failed};
-ghost use Rattle.orc_output.specs.declared.fault.CliFault.TheVariants.{Json, File};
-ghost use Rattle.orc_rows.specs.FromGroup.{AreFromGroup, AreLinesFrom, StopsAtGroup, GroupStops, NoLinesFrom};
+ghost use Rattle.orc_output.specs.Output.{IsWantOfMemory};
+ghost use Rattle.orc_output.specs.declared.fault.CliFault.TheVariants.{File};
+ghost use Rattle.orc_rows.specs.FromGroup.{AreFromGroup, AreLinesFrom, StopsAtGroup, EndsAtGroup};
 
 use crate::rows::lines_of;
 use crate::start::Start;
@@ -46,8 +44,10 @@ fn fault_of(number: usize, why: StripeFault) -> FileFault
     }
 }
 
-/// The rows of the stripe with this number from a group on, over its bytes. What is read there and is no row of the schema, as no
-/// right positions give it, is refused as `BadPosition` of the stripe.
+/// The rows of the stripe with this number from a group on, over its bytes.
+///
+/// Refusals: `Stripe` with the number, and the fault of the view, of `cursor_at` or of the cursor; where what is read is no row of the
+/// schema, as no right positions give it, that is `BadPosition` of the stripe; `OutOfMemory`.
 fn rows_from<'a>(
     alloc: Global,
     tail: &'a Tail,
@@ -87,9 +87,8 @@ pub(crate) fn print_group<S: Source, W: Write>(
         × Appends (W.contents out.old) (W.contents out.new) own)) }
     ensures kept { OnOk result (S.failures file.new.source ≡ S.failures file.old.source) }
 
-    ensures refused { IfErr result (λ fault. IfSome (S.told file.old.source) (λ all. ((fault ≡ write_failed)
-        ⊎ ((NoLinesFrom file.old.tail start.stripe (stripe_bytes (stripe_at file.old.tail.stripes start.stripe) all) start.group fault ⊎ IsOfSource fault)
-        × Keeps (W.contents out.old) (W.contents out.new))))) }
+    ensures refused { IfErr result (λ fault. IfSome (S.told file.old.source) (λ all.
+        EndsAtGroup all file.old.tail start.stripe start.group (W.contents out.old) (W.contents out.new) fault)) }
     ensures failed { result ≡ Err (File SourceFailed) → S.failures file.old.source < S.failures file.new.source }
     ensures memory { IfErr result (λ fault. IsWantOfMemory fault → S.failures file.new.source ≡ S.failures file.old.source) }
 {

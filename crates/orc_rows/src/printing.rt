@@ -114,15 +114,16 @@ fn print_file<S: Source, W: Write>(
 }
 
 /// Prints a line for each row of a file, in order: the row's JSON without blanks. A text such as `2:0` names a stripe and a group of
-/// it, from which on rows are printed: those of that stripe from the group's first row on, and those of all stripes behind it. The
-/// stripes before aren't read. A stripe's lines are written once all of them are there, so after a refusal in a stripe the lines
-/// of those before it stand, and no others. The bytes of one stripe and its lines are held at a time. The source is handed back.
+/// it, from which on rows are printed: those of that stripe from the group's first row on, and those of all stripes behind it. What
+/// stands in the stripes before has no part in the answer. A stripe's lines are written once all of them are there, so after a
+/// refusal in a stripe the lines of those before it stand, and no others. The bytes of one stripe and its lines are held at a time.
+/// The source is handed back.
 ///
 /// Refusals, in this order: `Json` with `Syntax` where the text names no place, before the source is read; `File` where the bytes are
-/// no file; `File` with `BadStripe` where the stripe isn't there, and with `Stripe` where it has no such group or isn't read from
-/// its positions on; `File` where a stripe has no rows; `Json` with `DuplicateField` where there are rows and a struct of the
-/// schema names a field twice; `File` with `WriteFailed` and a part of a stripe's lines written, `SourceFailed` where the source
-/// failed, or `OutOfMemory`, which a layer below may answer too.
+/// no file; `File` with `BadStripe` where the stripe isn't there; then, stripe by stripe, `File` with `Stripe` where the stripe has no
+/// rows, or no such group, or isn't read from its positions on, and `Json` with `DuplicateField` where it has rows and a struct
+/// of the schema names a field twice. Beside these `File` with `WriteFailed` and a part of a stripe's lines written, `SourceFailed`
+/// where the source failed, or `OutOfMemory`, which a layer below may answer too.
 pub fn rows_to<S: Source, W: Write>(
     alloc: Global,
     source: S,
@@ -138,7 +139,7 @@ pub fn rows_to<S: Source, W: Write>(
 
     ensures refused { IfErr result (λ e. IfSome (S.told source) (λ bytes. Refuses bytes from.entry (W.contents out.old) (W.contents out.new) e.0)) }
     ensures unread { ((start : Option Start) → IsAsked from.entry start → ⊥)
-        → MatchResult result (λ _. ⊥) (λ e. IsNotAsked from.entry e.0 × (S.failures e.1 ≡ S.failures source)) }
+        → MatchResult result (λ _. ⊥) (λ e. IsNotAsked from.entry e.0 × (S.failures e.1 ≡ S.failures source) × Keeps (W.contents out.old) (W.contents out.new)) }
     ensures failed { IfErr result (λ e. e.0 ≡ File SourceFailed → S.failures source < S.failures e.1) }
     ensures memory { IfErr result (λ e. IsWantOfMemory e.0 → S.failures e.1 ≡ S.failures source) }
     ensures back { IfErr result (λ e. S.told e.1 ≡ S.told source) }

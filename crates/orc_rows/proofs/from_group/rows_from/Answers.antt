@@ -9,7 +9,7 @@ use Rattle.orc_columns.specs.declared.fault.StripeFault.{StripeFault}
 use Rattle.orc_columns.specs.declared.fault.StripeFault.TheVariants as stripe
 use Rattle.orc_stripe.specs.GroupCursors.{StartsGroup}
 use Rattle.orc_rows.specs.FromGroup.{StopsAtGroup}
-use Rattle.orc_rows.proofs.GroupLemmas.{fit_behind, from_view, stops_view, stripe_fault}
+use Rattle.orc_rows.proofs.GroupLemmas.{fit_behind, from_view, stops_view, stripe_fault, never_refused}
 use Rattle.orc_rows.proofs.from_group.rows_from.Goals as goal
 
 pub returns-in-Err-clause-fault : goal.returns-in-Err-clause-fault
@@ -28,7 +28,7 @@ returns-in-Ok-rest-clause-found c =
     let starts = rw (c.from.ensures) at c.in-Ok.ensures.starts in
     let there = rw (c.from.ensures) at c.in-Ok.ensures.there in
     let fit = rw (c.deref.ensures.value) at c.if-all_fit.ensures in
-    from_view c.args.tail.now c.args.number c.args.bytes.now c.args.group view c.in_ok-view.ensures.same c.in_ok-view.ensures.found (views c.in-Ok-rest.rows.items) there.0 fit
+    from_view c.args.tail.now c.args.number c.args.bytes.now c.args.group view c.in_ok-view.ensures.same c.in_ok-view.ensures.found (views c.in-Ok-rest.rows.items) there.0 there.1 fit
     (λ x all s. c.in-Ok-rest.ensures.only (drop (c.args.group * view.stride) all) (starts x all s))
 
 pub returns-in-Ok-2-clause-fault : goal.returns-in-Ok-2-clause-fault
@@ -43,7 +43,7 @@ returns-in-Ok-2-clause-fault c =
     let read : views c.in-Ok-rest.rows.items ≡ drop (c.args.group * view.stride) all = c.in-Ok-rest.ensures.only (drop (c.args.group * view.stride) all) (starts x all s) in
     let fit : RowsFit view.schema (drop (c.args.group * view.stride) all) = fit_behind view.schema (c.args.group * view.stride) all s.spelled.fit in
     misfit (subst (λ (rows : List Cell). RowsFit tail.schema rows) (sym read) (subst (λ (t : Shape). RowsFit t (drop (c.args.group * view.stride) all)) c.in_ok-view.ensures.same.0 fit)) in
-    inr (why, refl, (λ e. cc), stops_view tail c.args.number c.args.bytes.now c.args.group view c.in_ok-view.ensures.same c.in_ok-view.ensures.found why never (inr there.0))
+    inr (why, refl, (λ e. cc), stops_view tail c.args.number c.args.bytes.now c.args.group view c.in_ok-view.ensures.same c.in_ok-view.ensures.found why never (inr (record { has_group = there.0; has_entries = there.1; first = λ e. cc })))
 
 pub returns-clause-fault : goal.returns-clause-fault
 returns-clause-fault c =
@@ -54,4 +54,5 @@ returns-clause-fault c =
     let there = rw (c.from.ensures) at c.in-Ok.ensures.there in
     stripe_fault c.fault_of-in-Err-rest.result c.args.number c.in-Err-rest.why (λ (w : StripeFault). StopsAtGroup tail c.args.number bytes c.args.group w) c.fault_of-in-Err-rest.ensures
     (λ other. stops_view tail c.args.number bytes c.args.group view c.in_ok-view.ensures.same c.in_ok-view.ensures.found c.in-Err-rest.why
-    (λ x all s. other (c.in-Err-rest.ensures.only (drop (c.args.group * view.stride) all) (starts x all s))) (inr there.0))
+    (λ x all s. other (c.in-Err-rest.ensures.only (drop (c.args.group * view.stride) all) (starts x all s)))
+    (inr (record { has_group = there.0; has_entries = there.1; first = λ e. never_refused c.in-Ok.cursor c.in-Ok.ensures.going (c.in-Err-rest.ensures.first e) })))

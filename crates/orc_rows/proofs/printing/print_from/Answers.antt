@@ -21,4 +21,4 @@ returns-clause-refused g c =
     let told = g.S.Source.told c.args.file.now.source in
     let lt = rw (c.as_slice.ensures, c.tail.ensures) at c.if-number-as_slice.false in
     let ends = rw (c.in_ok-print_group.ensures.tail, c.in_ok-print_group.ensures.told) at c.print_rows.ensures.refused in
-    ends_later told c.args.file.now.tail c.args.start.stripe c.args.start.group _ (g.W.Write.contents c.print_group.new.out) _ c.print_rows.result lt ends
+    ends_later told c.args.file.now.tail c.args.start.stripe c.args.start.group _ (g.W.Write.contents c.print_group.new.out) _ c.print_rows.result lt c.in_ok-print_group.ensures.written ends

@@ -1,6 +1,6 @@
 use Rattle.std.proofs.Common.{◌≡◌, ◌∙◌, ℕ, List, sym, subst, arith}
 use Rattle.std.specs.Option.{IsSome}
-use Rattle.orc_rows.specs.FromGroup.{IsNumber}
+use Rattle.orc_output.specs.Numbers.{IsNumber}
 use Rattle.orc_rows.proofs.StartLemmas.{start_parts}
 use Rattle.orc_rows.proofs.start.start_of.Goals as goal
 
