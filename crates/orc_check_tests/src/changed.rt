@@ -1,7 +1,7 @@
 //! A file with a byte or two changed, and what is found then.
 use crate::written::{arrays, sums, texts};
 use orc_check::check;
-use orc_file::{FileFault, SliceSource};
+use orc_file::{FileFault, SliceSource, Source};
 use orc_rle::Rle;
 use orc_test_support::{EMPTY, SEVENS};
 use std::alloc::Global;
@@ -74,20 +74,30 @@ static OF_ARRAYS: [Case; 14] = [
 /// Of the file of no stripes.
 static OF_EMPTY: [Case; 2] = [(&[], &[]), (&[(36, 0x05)], &[])];
 
-/// What is found of a file are these findings, in their order.
-pub(crate) fn check_found(
+/// What is found of a source's file are these findings, in their order.
+pub(crate) fn check_source<S: Source>(
     rt: &impl Abort,
     alloc: Global,
-    bytes: &[u8],
+    source: &mut S,
     wanted: &[&str],
 ) -> Result<(), FileFault> {
-    let found = check(alloc, &mut SliceSource::new(bytes))?;
+    let found = check(alloc, source)?;
     assert!(rt; found.len() == wanted.len(), "{:?}", found);
     for (finding, text) in found.iter().zip(wanted.iter()) {
         let line = finding.to_string(alloc)?;
         assert!(rt; line.as_str() == *text, "{} {}", line, text);
     }
     Ok(())
+}
+
+/// The same of a file in memory.
+pub(crate) fn check_found(
+    rt: &impl Abort,
+    alloc: Global,
+    bytes: &[u8],
+    wanted: &[&str],
+) -> Result<(), FileFault> {
+    check_source(rt, alloc, &mut SliceSource::new(bytes), wanted)
 }
 
 /// A file with such changes has these findings.

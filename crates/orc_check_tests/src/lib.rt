@@ -7,6 +7,8 @@ mod changed;
 #[cfg(test)]
 mod each_byte;
 #[cfg(test)]
+mod failing;
+#[cfg(test)]
 mod parts;
 #[cfg(test)]
 mod tails;

@@ -1,13 +1,17 @@
 //! `orcm`, a program for Apache ORC files.
 #![tactic(auto)]
 
-ghost use Rattle.std.specs.Prelude.{◌≡◌, ◌<◌};
+ghost use Rattle.std.specs.Prelude.{◌≡◌, ◌<◌, ◌^◌, [], IfOk, IfErr};
+ghost use Rattle.std.specs.Io.KnownBytes.{Keeps};
+ghost use Rattle.std.specs.Io.Buffered.{writer_inner, writer_buffer, writer_capacity, writer_contents};
+ghost use Rattle.orc_file.specs.declared.fault.FileFault.TheVariants.{WriteFailed, OutOfMemory};
+ghost use Rattle.orc_output.specs.declared.fault.CliFault.TheVariants.{File as FileFaulted};
 ghost use Rattle.orc_cli.specs.declared.Outcome.TheVariants.{Done, Found};
 
-use orc_file::FileFault;
+use orc_file::{FileFault, Sink, StdSink};
 pub use orc_findings::check_to;
 pub use orc_ints::ints_to;
-pub use orc_lines::write_from;
+pub use orc_lines::{write_from, write_lines};
 use orc_merge::MergeFault;
 pub use orc_merge::merge as merge_to;
 pub use orc_output::CliFault;
@@ -15,8 +19,9 @@ use orc_request::{Asked, Refusal, Request, new_file, read_words, request_of, sou
 pub use orc_rows::rows_to;
 pub use orc_show::show_to;
 use orc_stripe::Options;
-use std::fs::{self, File};
-use std::io;
+use std::alloc::Global;
+use std::fs::File;
+use std::io::{self, BufRead, BufReader, BufWriter, Write};
 use std::process::ExitCode;
 use std::rt::{Env, Files};
 
@@ -55,6 +60,7 @@ impl Outcome {
 }
 
 /// Why what the command line asks for isn't done: by a layer's fault, by its own words, or by the merger's fault.
+#[derive(Clone, Copy)]
 enum Ending {
     Refused(Refusal),
     NotMerged(MergeFault),
@@ -128,7 +134,76 @@ fn run<R: Env + Files<File = File> + AllocGlobal + Print + Eprint>(
     }
 }
 
-/// Writes a new file of the rows that the lines of another one spell.
+/// How many bytes of an output are gathered before they go out, and of the lines of `write` are read at once.
+const BUFFER: usize = 262_144;
+
+/// The output behind a buffer. Want of memory for it is that of the layer of files.
+fn with_buffer<W: Write + Drop>(alloc: Global, out: W) -> Result<BufWriter<W>, CliFault>
+    ensures output { IfOk result (λ buffered. writer_inner buffered ≡ out) }
+    ensures empty { IfOk result (λ buffered. writer_buffer buffered ≡ []) }
+    ensures capacity { IfOk result (λ buffered. writer_capacity buffered ≡ 2 ^ 18) }
+    ensures refused { IfErr result (λ fault. fault ≡ FileFaulted OutOfMemory) }
+{
+    match BufWriter::with_capacity(alloc, BUFFER, out) {
+        Ok(buffered) => Ok(buffered),
+        Err(_) => Err(CliFault::File(FileFault::OutOfMemory)),
+    }
+}
+
+/// Writes what the buffer still has, and hands the output back. It is refused, as `WriteFailed`, where the output
+/// doesn't take all of it, and what is left isn't tried again.
+fn flush_buffer<W: Write + Drop>(buffered: BufWriter<W>) -> Result<W, CliFault>
+    ensures all { IfOk result (λ out. Keeps (writer_contents W.contents buffered) (W.contents out)) }
+    ensures refused { IfErr result (λ fault. fault ≡ FileFaulted WriteFailed) }
+{
+    match buffered.into_inner() {
+        Ok(out) => Ok(out),
+        Err(error) => {
+            // (dropped as a whole it would try once more)
+            let _ = error.into_inner().into_parts();
+            Err(CliFault::File(FileFault::WriteFailed))
+        }
+    }
+}
+
+/// A file's bytes, from its front. That some of them are read, or that there are none, is seen before anything is made
+/// of them.
+fn reader_of<R: Files<File = File> + AllocGlobal>(
+    rt: &R,
+    path: &str,
+) -> Result<BufReader<File>, CliFault> {
+    let file = match File::open(rt, path) {
+        Ok(file) => file,
+        Err(error) if error.kind() == io::ErrorKind::OutOfMemory => {
+            return Err(CliFault::File(FileFault::OutOfMemory));
+        }
+        Err(_) => return Err(CliFault::File(FileFault::SourceFailed)),
+    };
+    let mut reader = match BufReader::with_capacity(rt.alloc(), BUFFER, file) {
+        Ok(reader) => reader,
+        Err(_) => return Err(CliFault::File(FileFault::OutOfMemory)),
+    };
+    if reader.fill_buf().is_err() {
+        return Err(CliFault::File(FileFault::SourceFailed));
+    }
+    Ok(reader)
+}
+
+/// Writes a file of the rows that lines spell, and lets the output go.
+fn write_rows<I: BufRead, W: Sink + Drop>(
+    alloc: Global,
+    schema: &str,
+    options: Options,
+    lines: &mut I,
+    out: W,
+) -> Result<(), CliFault> {
+    match write_lines(alloc, schema, options, lines, out) {
+        Ok(_) => Ok(()),
+        Err((fault, _)) => Err(fault),
+    }
+}
+
+/// Writes a new file of the rows that the lines of another one spell, which is read as it is written.
 fn write_file<R: Files<File = File> + AllocGlobal>(
     rt: &R,
     schema: &str,
@@ -136,17 +211,12 @@ fn write_file<R: Files<File = File> + AllocGlobal>(
     input: &str,
     output: &str,
 ) -> Result<(), CliFault> {
-    let lines = match fs::read(rt, input) {
-        Ok(lines) => lines,
-        Err(error) if error.kind() == io::ErrorKind::OutOfMemory => {
-            return Err(CliFault::File(FileFault::OutOfMemory));
-        }
-        Err(_) => return Err(CliFault::File(FileFault::SourceFailed)),
-    };
-    match write_from(rt.alloc(), schema, options, &lines, new_file(rt, output)?) {
-        Ok(_) => Ok(()),
-        Err((fault, _)) => Err(fault),
-    }
+    let mut lines = reader_of(rt, input)?;
+    let mut out = with_buffer(rt.alloc(), new_file(rt, output)?)?;
+    let sink = StdSink::new(&mut out);
+    let written = write_rows(rt.alloc(), schema, options, &mut lines, sink);
+    flush_buffer(out)?;
+    written
 }
 
 /// Joins files into a new one, which is made once all of them are found.
@@ -161,29 +231,32 @@ fn merge_files<R: Files<File = File> + AllocGlobal>(
             return Err(Ending::from(CliFault::File(FileFault::OutOfMemory)));
         }
     }
-    merge_to(rt.alloc(), &mut sources, &mut new_file(rt, output)?)?;
+    let mut out = with_buffer(rt.alloc(), new_file(rt, output)?)?;
+    let merged = merge_to(rt.alloc(), &mut sources, &mut StdSink::new(&mut out));
+    if flush_buffer(out).is_err() {
+        return Err(Ending::from(MergeFault::WriteFailed));
+    }
+    merged?;
     Ok(())
 }
 
-/// Answers one request on the standard output.
-fn answer<R: Files<File = File> + AllocGlobal + Print>(
+/// Answers one request, and prints to this output.
+fn answer_to<R: Files<File = File> + AllocGlobal, W: Write>(
     rt: &R,
     request: Request<'_, '_>,
+    out: &mut W,
 ) -> Result<Outcome, Ending> {
-    let mut out = io::writer(rt);
     match request {
-        Request::Ints { rle, sign, hex } => ints_to(rt.alloc(), rle, sign, hex, &mut out)?,
-        Request::Rows { file, from } => {
-            match rows_to(rt.alloc(), source_of(rt, file)?, from, &mut out) {
-                Ok(_) => {}
-                Err((fault, _)) => return Err(Ending::from(fault)),
-            }
-        }
-        Request::Check { file } => match check_to(rt.alloc(), source_of(rt, file)?, &mut out) {
+        Request::Ints { rle, sign, hex } => ints_to(rt.alloc(), rle, sign, hex, out)?,
+        Request::Rows { file, from } => match rows_to(rt.alloc(), source_of(rt, file)?, from, out) {
+            Ok(_) => {}
+            Err((fault, _)) => return Err(Ending::from(fault)),
+        },
+        Request::Check { file } => match check_to(rt.alloc(), source_of(rt, file)?, out) {
             Ok((findings, _)) => return Ok(Outcome::of_findings(findings)),
             Err((fault, _)) => return Err(Ending::from(fault)),
         },
-        Request::Show { file } => match show_to(rt.alloc(), source_of(rt, file)?, &mut out) {
+        Request::Show { file } => match show_to(rt.alloc(), source_of(rt, file)?, out) {
             Ok(_) => {}
             Err((fault, _)) => return Err(Ending::from(fault)),
         },
@@ -196,4 +269,16 @@ fn answer<R: Files<File = File> + AllocGlobal + Print>(
         Request::Merge { output, inputs } => merge_files(rt, output, inputs)?,
     }
     Ok(Outcome::Done)
+}
+
+/// Answers one request on the standard output. What was printed before a refusal goes out before it is told; where it
+/// doesn't, that is the refusal.
+fn answer<R: Files<File = File> + AllocGlobal + Print>(
+    rt: &R,
+    request: Request<'_, '_>,
+) -> Result<Outcome, Ending> {
+    let mut out = with_buffer(rt.alloc(), io::writer(rt))?;
+    let answered = answer_to(rt, request, &mut out);
+    flush_buffer(out)?;
+    answered
 }

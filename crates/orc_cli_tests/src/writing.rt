@@ -3,28 +3,63 @@
 use crate::commands::wants_memory;
 use crate::files::{NO_ROWS, SIX_SEVENS, THREE_SEVENS};
 use orc_file::{FileFault, VecSink};
-use orc_lines::write_from;
+use orc_lines::{write_from, write_lines};
 use orc_output::CliFault;
 use orc_rle::Rle;
 use orc_stripe::Options;
 use orc_types::{JsonFault, TypeFault};
 use std::alloc::Global;
+use std::io::{self, BufReader, Read};
 
 const NUMBERS: &str = "struct<n:bigint>";
 
-/// What is written of lines, with or without a fault.
+/// What is written of lines that are there, with or without a fault.
+fn written_whole(
+    alloc: Global,
+    schema: &str,
+    options: Options,
+    input: &[u8],
+) -> (Option<CliFault>, Vec<u8>) {
+    match write_from(alloc, schema, options, input, VecSink::new(alloc)) {
+        Ok((_, out)) => (None, out.into_vec()),
+        Err((fault, out)) => (Some(fault), out.into_vec()),
+    }
+}
+
+/// The same of lines that are read, so many bytes at once.
+fn written_read<R: Read + Drop>(
+    alloc: Global,
+    schema: &str,
+    options: Options,
+    input: R,
+    at_once: usize,
+) -> (Option<CliFault>, Vec<u8>) {
+    let Ok(mut lines) = BufReader::with_capacity(alloc, at_once, input) else {
+        return (
+            Some(CliFault::File(FileFault::OutOfMemory)),
+            Vec::new(alloc),
+        );
+    };
+    match write_lines(alloc, schema, options, &mut lines, VecSink::new(alloc)) {
+        Ok((_, out)) => (None, out.into_vec()),
+        Err((fault, out)) => (Some(fault), out.into_vec()),
+    }
+}
+
+/// What is written of lines: of those that are there, or of those that are read, so many bytes at once.
 fn written_now(
     alloc: Global,
     schema: &str,
     stripe_rows: u32,
     input: &[u8],
+    at_once: Option<usize>,
 ) -> (Option<CliFault>, Vec<u8>) {
     let Some(options) = Options::new(Rle::One, 0, stripe_rows) else {
         return (Some(CliFault::File(FileFault::Limit)), Vec::new(alloc));
     };
-    match write_from(alloc, schema, options, input, VecSink::new(alloc)) {
-        Ok((_, out)) => (None, out.into_vec()),
-        Err((fault, out)) => (Some(fault), out.into_vec()),
+    match at_once {
+        None => written_whole(alloc, schema, options, input),
+        Some(at_once) => written_read(alloc, schema, options, input, at_once),
     }
 }
 
@@ -34,17 +69,21 @@ fn written(
     schema: &str,
     stripe_rows: u32,
     input: &[u8],
+    at_once: Option<usize>,
 ) -> (Option<CliFault>, Vec<u8>) {
-    match written_now(alloc, schema, stripe_rows, input) {
+    match written_now(alloc, schema, stripe_rows, input, at_once) {
         (Some(fault), _)
             if wants_memory(fault)
                 || matches!(
                     fault,
                     CliFault::File(FileFault::WriteFailed) | CliFault::Types(TypeFault::OutOfMemory)
-                ) => { written_now(alloc, schema, stripe_rows, input) }
+                ) => { written_now(alloc, schema, stripe_rows, input, at_once) }
         answer => answer,
     }
 }
+
+/// Lines that are there, and lines that are read a byte, a part of a line, or all at once.
+static AT_ONCE: [Option<usize>; 4] = [None, Some(1), Some(9), Some(4096)];
 
 /// Lines, the rows of a stripe, and the file that is written of them.
 static FILES: [(&[u8], u32, &[u8]); 8] = [
@@ -73,9 +112,11 @@ static FILES: [(&[u8], u32, &[u8]); 8] = [
 #[test]
 fn files_of_lines(rt: HostRuntime) {
     for (input, stripe_rows, file) in FILES {
-        let (fault, bytes) = written(rt.alloc(), NUMBERS, stripe_rows, input);
-        assert_eq!(rt; fault, None);
-        assert_eq!(rt; bytes.as_slice(), file);
+        for at_once in AT_ONCE {
+            let (fault, bytes) = written(rt.alloc(), NUMBERS, stripe_rows, input, at_once);
+            assert_eq!(rt; fault, None);
+            assert_eq!(rt; bytes.as_slice(), file);
+        }
     }
 }
 
@@ -134,8 +175,54 @@ static REFUSED: [(&str, &[u8], CliFault, usize); 12] = [
 #[test]
 fn lines_that_are_refused(rt: HostRuntime) {
     for (schema, input, wanted, stands) in REFUSED {
-        let (fault, bytes) = written(rt.alloc(), schema, 3, input);
-        assert_eq!(rt; fault, Some(wanted));
+        for at_once in AT_ONCE {
+            let (fault, bytes) = written(rt.alloc(), schema, 3, input, at_once);
+            assert_eq!(rt; fault, Some(wanted));
+            assert!(rt; SIX_SEVENS.starts_with(&bytes) && bytes.len() == stands);
+        }
+    }
+}
+
+/// Bytes, and behind them a failure.
+#[derive(Drop)]
+struct Broken<'a> {
+    left: &'a [u8],
+}
+
+impl Read for Broken<'_> {
+    fn read(&mut self, into: &mut [u8]) -> io::Result<usize> {
+        if self.left.is_empty() {
+            return Err(io::Error::from(io::ErrorKind::Other));
+        }
+        let count = self.left.len().min(into.len());
+        into[..count].copy_from_slice(&self.left[..count]);
+        self.left = &self.left[count..];
+        Ok(count)
+    }
+}
+
+/// Lines behind which reading fails, in stripes of three rows, and how many bytes of a file of six sevens stand then.
+static BROKEN: [(&[u8], usize); 4] = [
+    (b"", 3),
+    (b"{\"n\":7}\n{\"n\":7}", 3),
+    (b"{\"n\":7}\n{\"n\":7}\n{\"n\":7}\n", 22),
+    (b"{\"n\":7}\n{\"n\":7}\n{\"n\":7}\n{\"n\":7}\n{\"n", 22),
+];
+
+#[test]
+fn lines_whose_reading_fails(rt: HostRuntime) {
+    let options = Options::new(Rle::One, 0, 3);
+    assert!(rt; options.is_some());
+    let Some(options) = options else {
+        return;
+    };
+    for (left, stands) in BROKEN {
+        let read = || written_read(rt.alloc(), NUMBERS, options, Broken { left }, 9);
+        let (fault, bytes) = match read() {
+            (Some(fault), _) if wants_memory(fault) => read(),
+            answer => answer,
+        };
+        assert_eq!(rt; fault, Some(CliFault::File(FileFault::SourceFailed)));
         assert!(rt; SIX_SEVENS.starts_with(&bytes) && bytes.len() == stands);
     }
 }

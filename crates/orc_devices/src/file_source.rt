@@ -8,21 +8,22 @@ use std::io;
 use std::os::unix::fs::FileExt;
 use std::rt::Files;
 
-/// A file of the system, up to the length that it had when it was found. It tells nothing of its bytes. The
-/// file is open during a read alone, so that there may be more sources than a process may have open files.
+/// A file of the system, up to the length that it had when it was found. It tells nothing of its bytes. The file
+/// stays open from a read to the next rest alone, so that there may be more sources than a process may have open
+/// files.
 #[derive(Drop)]
 pub struct FileSource<'a, R: Files<File = File>> {
     files: &'a R,
     path: &'a str,
     len: u64,
+    kept: Option<File>,
     failures: Failures,
 }
 
-/// The file and the length that it has now.
-fn opened<R: Files<File = File>>(files: &R, path: &str) -> io::Result<(File, u64)> {
-    let file = File::open(files, path)?;
-    let len = file.metadata()?.len();
-    Ok((file, len))
+/// The length that the file of that path has now.
+fn length_of<R: Files<File = File>>(files: &R, path: &str) -> io::Result<u64> {
+    let metadata = File::open(files, path)?.metadata()?;
+    Ok(metadata.len())
 }
 
 impl<'a, R: Files<File = File>> FileSource<'a, R> {
@@ -33,25 +34,42 @@ impl<'a, R: Files<File = File>> FileSource<'a, R> {
         ensures path { IfOk result (λ source. source.path.now ≡ path.now) }
         ensures fresh { IfOk result (λ source. source.failures ≡ 0) }
     {
-        match opened(files, path) {
-            Ok((_, len)) => Ok(FileSource {
+        match length_of(files, path) {
+            Ok(len) => Ok(FileSource {
                 files,
                 path,
                 len,
+                kept: None,
                 failures: Failures::new(),
             }),
             Err(_) => Err(SourceFault),
         }
     }
 
-    /// Opens the file again and fills the slice. A file that is shorter by now is an error, also where the
-    /// range still lies within it.
-    fn read_again(&self, at: u64, into: &mut [u8]) -> io::Result<()> {
-        let (file, len) = opened(self.files, self.path)?;
-        if len < self.len {
+    /// The file that an earlier read kept, or the file of the path, opened again.
+    fn take_file(&mut self) -> io::Result<File>
+        ensures len { self.new.len ≡ self.old.len }
+        ensures failures { self.new.failures ≡ self.old.failures }
+    {
+        match self.kept.take() {
+            Some(file) => Ok(file),
+            None => File::open(self.files, self.path),
+        }
+    }
+
+    /// Fills the slice, and keeps the file for the next read. A file that is shorter by now is an error, also where
+    /// the range still lies within it.
+    fn read_and_keep(&mut self, at: u64, into: &mut [u8]) -> io::Result<()>
+        ensures len { self.new.len ≡ self.old.len }
+        ensures failures { self.new.failures ≡ self.old.failures }
+    {
+        let file = self.take_file()?;
+        if file.metadata()?.len() < self.len {
             return Err(io::Error::from(io::ErrorKind::UnexpectedEof));
         }
-        file.read_exact_at(into, at)
+        file.read_exact_at(into, at)?;
+        self.kept = Some(file);
+        Ok(())
     }
 }
 
@@ -67,13 +85,20 @@ impl<R: Files<File = File>> Source for FileSource<'_, R> {
     }
 
     fn read_at(&mut self, at: u64, into: &mut [u8]) -> Result<(), SourceFault> {
-        match self.read_again(at, into) {
+        match self.read_and_keep(at, into) {
             Ok(()) => Ok(()),
             Err(_) => {
                 self.failures.note();
                 Err(SourceFault)
             }
         }
+    }
+
+    fn rest(&mut self)
+        ensures len { self.new.len ≡ self.old.len }
+        ensures failures { self.new.failures ≡ self.old.failures }
+    {
+        self.kept = None;
     }
 
     ghost told_size = { λ _. tt };

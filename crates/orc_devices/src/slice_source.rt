@@ -44,6 +44,10 @@ impl Source for SliceSource<'_> {
         Ok(())
     }
 
+    fn rest(&mut self)
+        ensures same { self.new ≡ self.old }
+    {}
+
     ghost told_size = { λ _. refl };
 
     ghost told_bytes = { λ source. source.are_bytes };

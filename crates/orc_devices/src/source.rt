@@ -31,6 +31,13 @@ pub trait Source {
         ensures told { told self.new ≡ told self.old }
         ensures failures { failures self.new ≡ failures_after result (failures self.old) };
 
+    /// Says that no read comes for now, so that what was kept for the next one can be given back. The next read is
+    /// answered as any other.
+    fn rest(&mut self)
+        ensures size { size self.new ≡ size self.old }
+        ensures told { told self.new ≡ told self.old }
+        ensures failures { failures self.new ≡ failures self.old };
+
     /// What is told is all of them.
     ghost told_size: { (source : Self) → IfSome (told source) (λ bytes. length bytes ≡ size source) };
 
@@ -51,6 +58,10 @@ impl<S: Source> Source for &mut S {
 
     fn read_at(&mut self, at: u64, into: &mut [u8]) -> Result<(), SourceFault> {
         (**self).read_at(at, into)
+    }
+
+    fn rest(&mut self) {
+        (**self).rest()
     }
 
     ghost told_size = { λ source. S.told_size source.now };

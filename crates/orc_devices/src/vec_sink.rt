@@ -41,7 +41,8 @@ impl Sink for VecSink {
 
     fn write(&mut self, bytes: &[u8]) -> Result<usize, SinkFault>
         ensures whole { IfOk result (λ n. n ≡ length bytes.now) }
-        ensures told { self.new.bytes.items ≡ (if is_ok result then self.old.bytes.items ++ bytes.now else self.old.bytes.items) }
+        ensures told { self.new.bytes.items
+            ≡ (if is_ok result then self.old.bytes.items ++ bytes.now else self.old.bytes.items) }
         ensures failures { self.new.failures ≡ failures_after result self.old.failures }
         ensures full { OnErr result (vec_capacity self.old.bytes < vec_len self.old.bytes + length bytes.now) }
     {

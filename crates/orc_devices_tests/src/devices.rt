@@ -1,10 +1,9 @@
 //! Devices: what is read of sources and written to sinks, and what is refused where they fail.
 
-use crate::narrow::Narrow;
 use orc_devices::{
     FileSource, RangeFault, Sink, SliceSource, Source, StdSink, VecSink, read_range, write_all,
 };
-use orc_test_support::{FailSink, FailSource, Full};
+use orc_test_support::{FailSink, FailSource, Full, Narrow};
 use std::alloc::{AllocError, Global};
 use std::fs::File;
 use std::path::PathBuf;
@@ -50,6 +49,10 @@ fn reads_ranges<A: Abort, S: Source>(rt: &A, alloc: Global, source: &mut S) {
         let read = range(alloc, source, at, len);
         let is_wanted = matches!(&read, Ok(read) if read.as_slice() == wanted);
         assert!(rt; is_wanted, "{len} bytes at {at}");
+        // a source that rested is read on as any other
+        if at == 10 {
+            source.rest();
+        }
     }
 }
 
@@ -180,6 +183,8 @@ fn files_are_read(rt: HostRuntime) -> Result<(), Fail> {
         .ok()
         .ok_or("not opened")?;
     reads_ranges(&rt, rt.alloc(), &mut source);
+    source.rest();
+    reads_ranges(&rt, rt.alloc(), &mut &mut source);
     fs::remove_file(&rt, path.as_path())?;
     Ok(())
 }
@@ -208,6 +213,9 @@ fn files_that_change_are_read_or_refused(rt: HostRuntime) -> Result<(), Fail> {
         assert_eq!(rt; source.len(), 11);
     }
     fs::remove_file(&rt, path.as_path())?;
+    // what the last read kept open is still there, and after a rest the path is asked again
+    assert!(rt; is_read(rt.alloc(), &mut source), "kept open");
+    source.rest();
     assert!(rt; !is_read(rt.alloc(), &mut source), "of no file");
     assert!(rt; FileSource::open(&rt, path.as_str()).is_err(), "no file");
     Ok(())

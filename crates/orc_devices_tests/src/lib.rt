@@ -3,5 +3,3 @@
 
 #[cfg(test)]
 mod devices;
-#[cfg(test)]
-mod narrow;

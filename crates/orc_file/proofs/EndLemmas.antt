@@ -75,3 +75,6 @@ module _ (told : Option (List ℕ)) (size n place : ℕ) (front last text : List
 
     pub ends_fail : (fault : FileFault) → (script_tests text place).fails fault → IfSome told (λ b. (end_tests b).fails fault)
     ends_fail fault h = all_of told (λ b. (end_tests b).fails fault) (fails fault h) size_is front_is last_is text_read
+
+    pub ends_length : IfSome told (λ b. n ≡ script_length b)
+    ends_length = all_of told (λ b. n ≡ script_length b) (λ b k. sym (length_is b k)) size_is front_is last_is text_read

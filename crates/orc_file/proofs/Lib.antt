@@ -9,6 +9,7 @@ pub mod TailText
 pub mod TailLemmas
 pub mod TailCover
 pub mod EndLemmas
+pub mod CapLemmas
 pub mod Opened
 pub mod ReadBits
 pub mod RowLemmas

@@ -17,11 +17,13 @@ pub record AddsOne (column : ℕ) (old new : List ℕ) : Type 0 where
 -- the columns of a type, which begin at a place, have the cells of some rows more
 pub record AddsCells (s : Shape) (place : ℕ) (rows : List Cell) (old new : List ℕ) : Type 0 where
   pub same : length new ≡ length old
-  pub added : (c : ℕ) → c < width s → IsMoreBy (length (cells s c rows)) (get_or old (place + c) 0) (get_or new (place + c) 0)
+  pub added : (c : ℕ) → c < width s
+      → IsMoreBy (length (cells s c rows)) (get_or old (place + c) 0) (get_or new (place + c) 0)
   pub others : (k : ℕ) → (k < place) ⊎ (place + width s ≤ k) → get_or new k 0 ≡ get_or old k 0
 
 -- the columns of fields likewise those of one struct's parts
 pub record AddsFields (fs : Fields) (place : ℕ) (parts : List Cell) (old new : List ℕ) : Type 0 where
   pub same : length new ≡ length old
-  pub added : (c : ℕ) → c < widths fs → IsMoreBy (length (cells_within fs c (parts ∷ []))) (get_or old (place + c) 0) (get_or new (place + c) 0)
+  pub added : (c : ℕ) → c < widths fs
+      → IsMoreBy (length (cells_within fs c (parts ∷ []))) (get_or old (place + c) 0) (get_or new (place + c) 0)
   pub others : (k : ℕ) → (k < place) ⊎ (place + widths fs ≤ k) → get_or new k 0 ≡ get_or old k 0

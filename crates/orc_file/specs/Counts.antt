@@ -28,14 +28,16 @@ are_few counts = list_all (λ n. nat_lt n (2 ^ 31)) counts
 
 -- A row more would pass a limit: of stripes, of a file's rows, or of a column's cells in a stripe.
 abbrev pub PassesLimit : Shape → List StripeInfo → ℕ → List ℕ → Cell → Type 0
-PassesLimit s infos total counts row = (most_stripes ≤ length infos) ⊎ ((most_rows ≤ total) ⊎ (are_few (with_row s 0 row counts) ≡ false))
+PassesLimit s infos total counts row = (most_stripes ≤ length infos)
+    ⊎ ((most_rows ≤ total) ⊎ (are_few (with_row s 0 row counts) ≡ false))
 
 -- ---- tests that a value may keep
 
 -- the stripes lie one after the other from a place on, each with fewer rows than the limit
 abbrev pub are_laid_with_few_rows : ℕ → List StripeInfo → Bool
 are_laid_with_few_rows place [] = true
-are_laid_with_few_rows place (i ∷ is) = (i.offset == place) && (nat_lt i.number_of_rows (2 ^ 31) && are_laid_with_few_rows (stripe_end i) is)
+are_laid_with_few_rows place (i ∷ is) =
+    (i.offset == place) && (nat_lt i.number_of_rows (2 ^ 31) && are_laid_with_few_rows (stripe_end i) is)
 
 -- nothing is known of the values
 abbrev pub is_unknown : Body → Bool
@@ -48,7 +50,8 @@ is_unknown (body.Bins t) = is_none t
 
 -- a statistic of a stripe's column
 abbrev pub is_column_stat : StatKind → Stat → Bool
-is_column_stat k x = body_is_of k x.body && (in_limits x && (nat_lt x.count (2 ^ 31) && (nat_lt 0 x.count || is_unknown x.body)))
+is_column_stat k x =
+    body_is_of k x.body && (in_limits x && (nat_lt x.count (2 ^ 31) && (nat_lt 0 x.count || is_unknown x.body)))
 
 -- of the columns from one on
 abbrev pub are_column_stats : Shape → ℕ → List Stat → Bool

@@ -27,7 +27,8 @@ abbrev pub AreOfStripes : Shape → List ℕ → List StripeInfo → List (List 
 AreOfStripes s bytes [] [] = Unit {0}
 AreOfStripes s bytes [] (rows ∷ parts) = ⊥
 AreOfStripes s bytes (info ∷ infos) [] = ⊥
-AreOfStripes s bytes (info ∷ infos) (rows ∷ parts) = IsStripe s info (stripe_bytes info bytes) rows × AreOfStripes s bytes infos parts
+AreOfStripes s bytes (info ∷ infos) (rows ∷ parts) = IsStripe s info (stripe_bytes info bytes) rows
+    × AreOfStripes s bytes infos parts
 
 -- lists of rows, one after the other
 abbrev pub joined : List (List Cell) → List Cell
@@ -47,12 +48,14 @@ pub record FileIs (bytes : List ℕ) (tail : Tail) (rows : List Cell) : Type 0 w
 -- Why bytes are no stripe: the directory isn't accepted, or by the footer that is there they spell no rows.
 pub record IsNoStripe (s : Shape) (info : StripeInfo) (bytes : List ℕ) (why : StripeFault) : Type 0 where
   pub none : (rows : List Cell) → IsStripe s info bytes rows → ⊥
-  pub reason : OpenFault s info bytes why ⊎ ((footer : StripeFooter) × HasFooter s info bytes footer × RowsFault s (columns_of footer bytes) info.number_of_rows why)
+  pub reason : OpenFault s info bytes why ⊎ ((footer : StripeFooter) × HasFooter s info bytes footer
+      × RowsFault s (columns_of footer bytes) info.number_of_rows why)
 
 -- this is refused of the stripe with this number
 abbrev pub StripeRefused : Shape → List ℕ → ℕ → StripeInfo → FileFault → Type 0
 StripeRefused s bytes n info fault =
-    (why : StripeFault) × (fault ≡ Stripe n why) × (why ≢ stripe.OutOfMemory) × IsNoStripe s info (stripe_bytes info bytes) why
+    (why : StripeFault) × (fault ≡ Stripe n why) × (why ≢ stripe.OutOfMemory)
+    × IsNoStripe s info (stripe_bytes info bytes) why
 
 -- The first stripe that has no rows, and why: those before it have some. The first one here has number n.
 abbrev pub FirstRefused : Shape → List ℕ → ℕ → List StripeInfo → FileFault → Type 0
@@ -63,7 +66,8 @@ FirstRefused s bytes n (info ∷ infos) fault =
 
 -- rows with those of a stripe behind them
 abbrev pub HasMore : Shape → StripeInfo → List ℕ → List Cell → List Cell → Type 0
-HasMore s info bytes before after = (rows : List Cell) × IsStripe s info (stripe_bytes info bytes) rows × (after ≡ before ++ rows)
+HasMore s info bytes before after = (rows : List Cell) × IsStripe s info (stripe_bytes info bytes) rows
+    × (after ≡ before ++ rows)
 
 -- a file's rows, cut into those of its stripes by the stripes' numbers of rows
 abbrev pub cut_rows : List StripeInfo → List Cell → List (List Cell)

@@ -5,6 +5,7 @@ pub mod Statistics
 pub mod Tails
 pub mod Images
 pub mod FileRows
+pub mod Caps
 pub mod Honest
 pub mod Counts
 pub mod Counting

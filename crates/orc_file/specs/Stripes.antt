@@ -11,7 +11,8 @@ stripe_length s = s.index_length + s.data_length + s.footer_length
 
 -- the stripe with a number, where there is one
 abbrev pub stripe_at : List StripeInfo → ℕ → StripeInfo
-stripe_at ss n = get_or ss n (record { offset = 0; index_length = 0; data_length = 0; footer_length = 0; number_of_rows = 0 })
+stripe_at ss n =
+    get_or ss n (record { offset = 0; index_length = 0; data_length = 0; footer_length = 0; number_of_rows = 0 })
 
 -- the bytes of all stripes together
 abbrev pub stripes_length : List StripeInfo → ℕ

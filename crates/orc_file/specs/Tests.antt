@@ -44,7 +44,8 @@ gives a = record {
   single = λ e f p q. absurd p;
 }
 
-pub one_check : {A : Type 0} (P : Type 0) (fault : FileFault) (rest : Test A) (e f : FileFault) → ((P → ⊥) × (e ≡ fault)) ⊎ (P × rest.fails e)
+pub one_check : {A : Type 0} (P : Type 0) (fault : FileFault) (rest : Test A) (e f : FileFault)
+    → ((P → ⊥) × (e ≡ fault)) ⊎ (P × rest.fails e)
     → ((P → ⊥) × (f ≡ fault)) ⊎ (P × rest.fails f) → AreAlike e f
 one_check P fault rest e f (inl p) (inl q) = inl (p.1 ∙ sym q.1)
 one_check P fault rest e f (inl p) (inr q) = absurd (p.0 q.0)
@@ -61,16 +62,20 @@ check P fault rest = record {
   single = one_check P fault rest;
 }
 
-pub fails_once : {A B : Type 0} (test : Test A) (rest : A → Test B) (b : B) (f : FileFault) → test.fails f ⊎ ((a : A) × test.finds a × (rest a).fails f) → (a : A) × test.finds a × (rest a).finds b → ⊥
+pub fails_once : {A B : Type 0} (test : Test A) (rest : A → Test B) (b : B) (f : FileFault)
+    → test.fails f ⊎ ((a : A) × test.finds a × (rest a).fails f) → (a : A) × test.finds a × (rest a).finds b → ⊥
 fails_once test rest b f (inl here) is = test.none is.0 f here is.1
-fails_once {A} test rest b f (inr later) is = (rest is.0).none b f (subst (λ (a : A). (rest a).fails f) (test.one later.0 is.0 later.1 is.1) later.2) is.2
+fails_once {A} test rest b f (inr later) is =
+    (rest is.0).none b f (subst (λ (a : A). (rest a).fails f) (test.one later.0 is.0 later.1 is.1) later.2) is.2
 
-pub one_then : {A B : Type 0} (test : Test A) (rest : A → Test B) (e f : FileFault) → test.fails e ⊎ ((a : A) × test.finds a × (rest a).fails e)
+pub one_then : {A B : Type 0} (test : Test A) (rest : A → Test B) (e f : FileFault)
+    → test.fails e ⊎ ((a : A) × test.finds a × (rest a).fails e)
     → test.fails f ⊎ ((a : A) × test.finds a × (rest a).fails f) → AreAlike e f
 one_then test rest e f (inl p) (inl q) = test.single e f p q
 one_then test rest e f (inl p) (inr q) = absurd (test.none q.0 e p q.1)
 one_then test rest e f (inr p) (inl q) = absurd (test.none p.0 f q p.1)
-one_then {A} test rest e f (inr p) (inr q) = (rest q.0).single e f (subst (λ (a : A). (rest a).fails e) (test.one p.0 q.0 p.1 q.1) p.2) q.2
+one_then {A} test rest e f (inr p) (inr q) =
+    (rest q.0).single e f (subst (λ (a : A). (rest a).fails e) (test.one p.0 q.0 p.1 q.1) p.2) q.2
 
 -- what the test finds is needed by the rest
 infixr 5 ◌then◌

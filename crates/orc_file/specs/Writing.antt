@@ -166,8 +166,8 @@ pub record HasTaken (first told : Option (List ℕ)) (written : ℕ) : Type 0 wh
 
 -- ---- what a writer has done so far
 
--- how it writes, and of what schema; what its output has told, and how many bytes it has taken; the stripes that are written, with their statistics; and
--- the rows that are kept
+-- how it writes, and of what schema; what its output has told, and how many bytes it has taken; the stripes that are
+-- written, with their statistics; and the rows that are kept
 pub record Progress : Type 0 where
   pub options : Options
   pub schema : Shape

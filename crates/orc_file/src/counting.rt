@@ -74,7 +74,8 @@ fn count_fields(fields: &[Field], parts: &[Row<'_>], column: usize, counts: &mut
 pub(crate) fn count_row(schema: &Schema, row: &Row<'_>, counts: &[u64], sums: &mut Vec<u64>) -> bool
     requires wide { length counts.now ≡ width schema.now }
     requires room { length sums.old.items ≡ width schema.now }
-    ensures few { OnTrue result ((sums.new.items ≡ with_row schema.now 0 (view row.now) counts.now) × (are_few sums.new.items ≡ true)) }
+    ensures few { OnTrue result ((sums.new.items ≡ with_row schema.now 0 (view row.now) counts.now)
+        × (are_few sums.new.items ≡ true)) }
     ensures many { OnFalse result (are_few (with_row schema.now 0 (view row.now) counts.now) ≡ false) }
     ensures wide { length sums.new.items ≡ width schema.now }
 {

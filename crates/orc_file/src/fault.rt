@@ -1,3 +1,4 @@
+//! Why bytes are no file, or why a file can't be read or written.
 ghost use Rattle.std.specs.Prelude.{◌≡◌};
 ghost use Rattle.orc_file.specs.declared.fault.FileFault.TheVariants as fault;
 

@@ -88,7 +88,8 @@ pub(crate) fn end_file<W: Sink>(
     ensures tail { IfOk result (λ tail. tail ≡ written_tail options schema stripes.infos.items stripes.stats.items) }
     ensures told { IfOk result (λ tail. W.told out.new ≡ appended (W.told out.old)
         (tail_text (written_tail options schema stripes.infos.items stripes.stats.items))) }
-    ensures few { IfOk result (λ _. length (tail_text (written_tail options schema stripes.infos.items stripes.stats.items)) < 2 ^ 63) }
+    ensures few { IfOk result
+        (λ _. length (tail_text (written_tail options schema stripes.infos.items stripes.stats.items)) < 2 ^ 63) }
     ensures schema { IsSchema schema }
     ensures cut { OnErr result ((n : ℕ)
         × (W.told out.new ≡ appended (W.told out.old)

@@ -82,9 +82,11 @@ pub fn file_statistics(
     schema: &Schema,
     stats: &[Items<Stat>],
 ) -> Result<Vec<Stat>, StatFault>
-    requires kinds { (c : ℕ) → c < width schema.now → All (λ (s : Stat). body_is_of (kind_at schema.now c) s.body ≡ true) (column_stats c stats.now) }
+    requires kinds { (c : ℕ) → c < width schema.now
+        → All (λ (s : Stat). body_is_of (kind_at schema.now c) s.body ≡ true) (column_stats c stats.now) }
     ensures found { IfOk result (λ found. found.items ≡ file_stats schema.now stats.now) }
-    ensures few { OnOk result ((c : ℕ) → c < width schema.now → sum_by (λ (s : Stat). s.count) (column_stats c stats.now) ≤ 2 ^ 62) }
+    ensures few { OnOk result ((c : ℕ) → c < width schema.now
+        → sum_by (λ (s : Stat). s.count) (column_stats c stats.now) ≤ 2 ^ 62) }
     ensures fault { IfErr result (λ e. (e ≡ fault.OutOfMemory)
         ⊎ ((e ≡ fault.CountTooLarge) × (c : ℕ) × (c < width schema.now)
         × (2 ^ 62 < sum_by (λ (s : Stat). s.count) (column_stats c stats.now)))) }

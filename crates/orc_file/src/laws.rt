@@ -16,7 +16,8 @@ pub fn tail_laws()
     ensures one { (bytes : List ℕ) (a b : Tail) → IsTail bytes a → IsTail bytes b → a ≡ b }
     ensures none { (bytes : List ℕ) (tail : Tail) (fault : FileFault) → OpenFault bytes fault → IsTail bytes tail → ⊥ }
     ensures single { (bytes : List ℕ) (e f : FileFault) → OpenFault bytes e → OpenFault bytes f → AreAlike e f }
-    ensures cover { (bytes : List ℕ) → AllBytes bytes → ((tail : Tail) × IsTail bytes tail) ⊎ ((fault : FileFault) × OpenFault bytes fault) }
+    ensures cover { (bytes : List ℕ) → AllBytes bytes → ((tail : Tail) × IsTail bytes tail)
+        ⊎ ((fault : FileFault) × OpenFault bytes fault) }
 
     ensures limits { (bytes : List ℕ) (tail : Tail) → IsTail bytes tail → IsWithinLimits tail }
     ensures bits { (bytes : List ℕ) (tail : Tail) → IsTail bytes tail → HasBits tail }
@@ -28,7 +29,8 @@ pub fn tail_laws()
 /// holds the length of the postscript there.
 pub fn image_laws()
     ensures image { (tail : Tail) (stripes : List ℕ) → IsWithinLimits tail → IsLaid 3 tail.stripes → HasBits tail
-        → length stripes ≡ stripes_length tail.stripes → length (image stripes tail) < 2 ^ 64 → IsTail (image stripes tail) tail }
+        → length stripes ≡ stripes_length tail.stripes → length (image stripes tail) < 2 ^ 64
+        → IsTail (image stripes tail) tail }
     ensures script { (tail : Tail) → IsWithinLimits tail → HasBits tail → length (tail_text tail) < 2 ^ 64
         → length (post_script_text.text (script_of tail)) < 256 }
 {}

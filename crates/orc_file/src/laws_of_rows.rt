@@ -14,12 +14,14 @@ ghost use Rattle.orc_file.specs.declared.fault.FileFault.{FileFault};
 /// Bytes are a file of one tail and one list of rows at most, and of none where a stripe is refused. The
 /// rows of each stripe are the file's, cut by the stripes' numbers of rows.
 pub fn row_laws()
-    ensures one { (bytes : List ℕ) (t u : Tail) (a b : List Cell) → FileIs bytes t a → FileIs bytes u b → (t ≡ u) × (a ≡ b) }
+    ensures one { (bytes : List ℕ) (t u : Tail) (a b : List Cell) → FileIs bytes t a → FileIs bytes u b → (t ≡ u)
+        × (a ≡ b) }
     ensures none { (bytes : List ℕ) (tail : Tail) (rows : List Cell) (fault : FileFault)
         → FirstRefused tail.schema bytes 0 tail.stripes fault → FileIs bytes tail rows → ⊥ }
     ensures cut { (bytes : List ℕ) (tail : Tail) (rows : List Cell) → FileIs bytes tail rows
         → AreOfStripes tail.schema bytes tail.stripes (cut_rows tail.stripes rows) }
-    ensures whole { (infos : List StripeInfo) (bytes : List ℕ) (s : Shape) (rows : List Cell) → HasRows s bytes infos rows
+    ensures whole { (infos : List StripeInfo) (bytes : List ℕ) (s : Shape) (rows : List Cell)
+        → HasRows s bytes infos rows
         → joined (cut_rows infos rows) ≡ rows }
 {}
 

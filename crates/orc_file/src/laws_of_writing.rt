@@ -20,14 +20,16 @@ ghost use Rattle.orc_file.specs.declared.tail.Tail.{Tail};
 /// the version of the run lengths, the stride, the rows of a stripe and the schema determine its bytes.
 pub fn written_laws()
     ensures read { (options : Options) (s : Shape) (tail : Tail) (first told : Option (List ℕ)) (rows : List Cell)
-        → IsWhole options s tail first told rows → (bytes : List ℕ) × (told ≡ appended first bytes) × IsWrittenFile options s tail bytes rows
+        → IsWhole options s tail first told rows → (bytes : List ℕ) × (told ≡ appended first bytes)
+        × IsWrittenFile options s tail bytes rows
         × FileIs bytes tail rows }
     ensures tail { (options : Options) (s : Shape) (tail : Tail) (bytes : List ℕ) (rows : List Cell)
         → IsSchema s → IsWrittenFile options s tail bytes rows → length bytes < 2 ^ 64 → IsTail bytes tail }
     ensures rows { (options : Options) (s : Shape) (tail : Tail) (bytes : List ℕ) (rows : List Cell)
         → IsSchema s → IsWrittenFile options s tail bytes rows → length bytes < 2 ^ 64 → FileIs bytes tail rows }
     ensures short { (options : Options) (s : Shape) (tail : Tail) (bytes : List ℕ) (rows : List Cell)
-        → IsSchema s → length (types_text s) < 2 ^ 62 → IsWrittenFile options s tail bytes rows → length bytes < 2 ^ 64 }
+        → IsSchema s → length (types_text s) < 2 ^ 62 → IsWrittenFile options s tail bytes rows
+        → length bytes < 2 ^ 64 }
     ensures front { (options : Options) (s : Shape) (first told : Option (List ℕ)) (rows : List Cell)
         → IsCutOff options s first told rows → length (types_text s) < 2 ^ 62 → IsFrontOfFile s first told rows }
     ensures honest { (options : Options) (s : Shape) (tail : Tail) (bytes : List ℕ) (rows : List Cell)

@@ -75,8 +75,10 @@ pub(crate) fn limits_of(
 ) -> Result<(Items<Stat>, Items<Items<Stat>>), FileFault>
     requires file_stats { length footer.now.statistics ≤ width schema.now }
     requires stripe_stats { have_few (width schema.now) metadata.now.stripe_stats ≡ true }
-    ensures found { IfOk result (λ stats. (limit_tests before footer.now schema.now metadata.now).finds (stats.0, stats.1)) }
-    ensures fault { IfErr result (λ fault. (fault ≡ OutOfMemory) ⊎ (limit_tests before footer.now schema.now metadata.now).fails fault) }
+    ensures found { IfOk result
+        (λ stats. (limit_tests before footer.now schema.now metadata.now).finds (stats.0, stats.1)) }
+    ensures fault { IfErr result (λ fault. (fault ≡ OutOfMemory)
+        ⊎ (limit_tests before footer.now schema.now metadata.now).fails fault) }
     ensures named { IfErr result (λ fault. IsOfTail fault) }
 {
     let file_stats = stats_in(alloc, schema, footer.statistics.as_slice())?;

@@ -1,6 +1,7 @@
 //! A stripe's bytes, read in one call, the view of them, and their rows.
-ghost use Rattle.std.specs.Prelude.{◌≡◌, ◌≢◌, ◌<◌, ◌≤◌, ◌^◌, ◌⊎◌, length, OnOk, IfOk, IfErr, IfSome, IsErrOf, MatchResult};
+ghost use Rattle.std.specs.Prelude.{◌≡◌, ◌≢◌, ◌<◌, ◌≤◌, ◌^◌, ◌⊎◌, length, false, Err, OnOk, IfOk, IfErr, IfSome, IsErrOf, MatchResult};
 ghost use Rattle.orc_wire.specs.declared.stripe_footer.StripeFooter.{StripeFooter};
+ghost use Rattle.std.specs.Bool.{OnTrue, OnFalse};
 ghost use Rattle.orc_columns.specs.Stripe.{HasFooter, IsStripe};
 ghost use Rattle.orc_stripe.specs.Opening.{OpenFault};
 ghost use Rattle.orc_columns.specs.declared.fault.StripeFault.{StripeFault};
@@ -8,7 +9,8 @@ ghost use Rattle.orc_columns.specs.declared.fault.StripeFault.TheVariants as str
 ghost use Rattle.orc_types.specs.Views.{views};
 ghost use Rattle.orc_file.specs.Stripes.{AllBefore, most_bytes, stripe_length, stripe_at, stripes_length};
 ghost use Rattle.orc_file.specs.FileRows.{stripe_bytes, IsNoStripe};
-ghost use Rattle.orc_file.specs.declared.fault.FileFault.TheVariants.{Stripe, SourceFailed, OutOfMemory};
+ghost use Rattle.orc_file.specs.Caps.{no_cap};
+ghost use Rattle.orc_file.specs.declared.fault.FileFault.TheVariants.{Stripe, SourceFailed, OutOfMemory, Limit};
 
 use crate::fault::FileFault;
 use crate::file::OrcFile;
@@ -51,7 +53,8 @@ pub fn load_stripe<S: Source>(
     requires there { number < length tail.now.stripes }
     requires within { AllBefore (S.size source.old) tail.now.stripes }
     requires most { stripes_length tail.now.stripes ≤ most_bytes }
-    ensures bytes { OnOk result (IfSome (S.told source.old) (λ bytes. into.new.items ≡ stripe_bytes (stripe_at tail.now.stripes number) bytes)) }
+    ensures bytes { OnOk result (IfSome (S.told source.old)
+        (λ bytes. into.new.items ≡ stripe_bytes (stripe_at tail.now.stripes number) bytes)) }
     ensures told { S.told source.new ≡ S.told source.old }
     ensures size { S.size source.new ≡ S.size source.old }
 
@@ -80,10 +83,13 @@ pub fn view_stripe<'a>(
     bytes: &'a [u8],
 ) -> Result<StripeView<'a>, FileFault>
     requires { number < length tail.now.stripes }
-    ensures found { IfOk result (λ view. HasFooter tail.now.schema (stripe_at tail.now.stripes number) bytes.now view.footer) }
-    ensures same { IfOk result (λ view. (view.schema ≡ tail.now.schema) × (view.info ≡ stripe_at tail.now.stripes number)
+    ensures found { IfOk result
+        (λ view. HasFooter tail.now.schema (stripe_at tail.now.stripes number) bytes.now view.footer) }
+    ensures same { IfOk result (λ view. (view.schema ≡ tail.now.schema)
+        × (view.info ≡ stripe_at tail.now.stripes number)
         × (view.stride ≡ tail.now.stride) × (view.bytes ≡ bytes.now)) }
-    ensures only { (footer : StripeFooter) → HasFooter tail.now.schema (stripe_at tail.now.stripes number) bytes.now footer
+    ensures only { (footer : StripeFooter)
+        → HasFooter tail.now.schema (stripe_at tail.now.stripes number) bytes.now footer
         → MatchResult result (λ view. view.footer ≡ footer) (λ fault. fault ≡ OutOfMemory) }
     ensures fault { IfErr result (λ fault. (fault ≡ OutOfMemory)
         ⊎ ((why : StripeFault) × (fault ≡ Stripe number why) × (why ≢ stripe.OutOfMemory)
@@ -106,7 +112,8 @@ pub fn stripe_rows<'a>(
     bytes: &'a [u8],
 ) -> Result<Vec<Row<'a>>, FileFault>
     requires { number < length tail.now.stripes }
-    ensures found { IfOk result (λ rows. IsStripe tail.now.schema (stripe_at tail.now.stripes number) bytes.now (views rows.items)) }
+    ensures found { IfOk result
+        (λ rows. IsStripe tail.now.schema (stripe_at tail.now.stripes number) bytes.now (views rows.items)) }
     ensures fault { IfErr result (λ fault. (fault ≡ OutOfMemory)
         ⊎ ((why : StripeFault) × (fault ≡ Stripe number why) × (why ≢ stripe.OutOfMemory)
         × IsNoStripe tail.now.schema (stripe_at tail.now.stripes number) bytes.now why)) }
@@ -119,23 +126,46 @@ pub fn stripe_rows<'a>(
 }
 
 impl<S: Source> OrcFile<S> {
-    /// Fills the vector with the bytes of the stripe with this number, which are read in one call; of a
-    /// stripe without bytes nothing is asked. After a refusal the vector holds anything, and the file is as
-    /// it was.
+    /// Whether the stripe with this number is longer than the cap.
+    fn is_above_cap(&self, number: usize) -> bool
+        requires { number < length self.now.tail.stripes }
+        ensures yes { OnTrue result (self.now.cap < stripe_length (stripe_at self.now.tail.stripes number)) }
+        ensures no { OnFalse result (stripe_length (stripe_at self.now.tail.stripes number) ≤ self.now.cap) }
+        ensures never { self.now.cap ≡ no_cap → result ≡ false }
+    {
+        let len = length_of(self.tail.stripes.as_slice()[number]);
+        len > self.cap
+    }
+
+    /// Fills the vector with the bytes of the stripe with this number, which are read in one call; of a stripe
+    /// without bytes nothing is asked. After another refusal than `Limit` the vector holds anything, and the file is
+    /// as it was.
     ///
-    /// Refusals: `SourceFailed` where the source failed; `OutOfMemory`.
+    /// Refusals: `Limit` where the stripe is longer than the file's cap, and then neither the source was asked nor
+    /// the vector touched; `SourceFailed` where the source failed; `OutOfMemory`.
     pub fn load(&mut self, number: usize, into: &mut Vec<u8>) -> Result<(), FileFault>
         requires { number < length self.old.tail.stripes }
-        ensures bytes { OnOk result (IfSome (S.told self.old.source) (λ bytes. into.new.items ≡ stripe_bytes (stripe_at self.old.tail.stripes number) bytes)) }
+        ensures bytes { OnOk result (IfSome (S.told self.old.source)
+            (λ bytes. into.new.items ≡ stripe_bytes (stripe_at self.old.tail.stripes number) bytes)) }
         ensures tail { self.new.tail ≡ self.old.tail }
+        ensures cap { self.new.cap ≡ self.old.cap }
         ensures told { S.told self.new.source ≡ S.told self.old.source }
         ensures size { S.size self.new.source ≡ S.size self.old.source }
 
-        ensures fault { IfErr result (λ fault. (fault ≡ OutOfMemory) ⊎ (fault ≡ SourceFailed)) }
+        ensures limit { self.old.cap < stripe_length (stripe_at self.old.tail.stripes number)
+            → (result ≡ Err Limit) × ((self.new ≡ self.old) × (into.new ≡ into.old)) }
+        ensures within { OnOk result (stripe_length (stripe_at self.old.tail.stripes number) ≤ self.old.cap) }
+        ensures fault { IfErr result (λ fault. (fault ≡ OutOfMemory) ⊎ ((fault ≡ SourceFailed)
+            ⊎ ((fault ≡ Limit) × (self.old.cap < stripe_length (stripe_at self.old.tail.stripes number))))) }
+        ensures uncapped { self.old.cap ≡ no_cap → IfErr result
+            (λ fault. (fault ≡ OutOfMemory) ⊎ (fault ≡ SourceFailed)) }
         ensures kept { OnOk result (S.failures self.new.source ≡ S.failures self.old.source) }
         ensures failed { IsErrOf result SourceFailed → S.failures self.old.source < S.failures self.new.source }
         ensures memory { IsErrOf result OutOfMemory → S.failures self.new.source ≡ S.failures self.old.source }
     {
+        if self.is_above_cap(number) {
+            return Err(FileFault::Limit);
+        }
         load_stripe(&mut self.source, &self.tail, number, into)
     }
 
@@ -149,10 +179,13 @@ impl<S: Source> OrcFile<S> {
         bytes: &'a [u8],
     ) -> Result<StripeView<'a>, FileFault>
         requires { number < length self.now.tail.stripes }
-        ensures found { IfOk result (λ view. HasFooter self.now.tail.schema (stripe_at self.now.tail.stripes number) bytes.now view.footer) }
-        ensures same { IfOk result (λ view. (view.schema ≡ self.now.tail.schema) × (view.info ≡ stripe_at self.now.tail.stripes number)
+        ensures found { IfOk result
+            (λ view. HasFooter self.now.tail.schema (stripe_at self.now.tail.stripes number) bytes.now view.footer) }
+        ensures same { IfOk result (λ view. (view.schema ≡ self.now.tail.schema)
+            × (view.info ≡ stripe_at self.now.tail.stripes number)
             × (view.stride ≡ self.now.tail.stride) × (view.bytes ≡ bytes.now)) }
-        ensures only { (footer : StripeFooter) → HasFooter self.now.tail.schema (stripe_at self.now.tail.stripes number) bytes.now footer
+        ensures only { (footer : StripeFooter)
+            → HasFooter self.now.tail.schema (stripe_at self.now.tail.stripes number) bytes.now footer
             → MatchResult result (λ view. view.footer ≡ footer) (λ fault. fault ≡ OutOfMemory) }
         ensures fault { IfErr result (λ fault. (fault ≡ OutOfMemory)
             ⊎ ((why : StripeFault) × (fault ≡ Stripe number why) × (why ≢ stripe.OutOfMemory)

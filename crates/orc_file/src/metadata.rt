@@ -31,7 +31,8 @@ pub(crate) fn metadata_in(
     schema: &Schema,
 ) -> Result<Metadata, FileFault>
     ensures found { IfOk result (λ m. (metadata_tests text.now footer.now schema.now).finds m) }
-    ensures fault { IfErr result (λ fault. (fault ≡ OutOfMemory) ⊎ (metadata_tests text.now footer.now schema.now).fails fault) }
+    ensures fault { IfErr result (λ fault. (fault ≡ OutOfMemory)
+        ⊎ (metadata_tests text.now footer.now schema.now).fails fault) }
     ensures named { IfErr result (λ fault. IsOfTail fault) }
 {
     let metadata = match Metadata::read(alloc, text) {

@@ -1,11 +1,12 @@
-//! Reading a file's tail: at most five ranges, in this order, and none that is empty: the first 3 bytes,
-//! the last byte, the postscript, the footer, the metadata. A test that fails ends the reading.
+//! Reading a file's tail: at most five ranges, in this order, and none that is empty: the first 3 bytes, the last
+//! byte, the postscript, the footer, the metadata. A test that fails ends the reading.
 ghost use Rattle.std.specs.Prelude.{◌≡◌, ◌+◌, ◌<◌, ◌≤◌, ◌⊎◌, length, OnOk, IfOk, IfErr, IfSome, IsErrOf};
 ghost use Rattle.orc_devices.specs.Devices.{bytes_at};
 ghost use Rattle.std.specs.Bool.{OnTrue, OnFalse};
-ghost use Rattle.orc_file.specs.Layout.{magic, script_place};
+ghost use Rattle.orc_file.specs.Layout.{magic, script_length, script_place};
 ghost use Rattle.orc_file.specs.Stripes.{AllBefore};
 ghost use Rattle.orc_file.specs.Tails.{most_versions, end_tests, IsTail, OpenFault, ReadFault, IsOfTail};
+ghost use Rattle.orc_file.specs.Caps.{no_cap, IsCappedTail, CappedFault};
 ghost use Rattle.orc_file.specs.Images.{IsWithinLimits};
 ghost use Rattle.orc_file.specs.declared.fault.FileFault.TheVariants.{SourceFailed, OutOfMemory};
 
@@ -19,11 +20,12 @@ use orc_devices::{RangeFault, Source, read_range};
 use orc_wire::PostScript;
 use std::alloc::Global;
 
-/// The postscript and the place where it begins.
+/// The postscript, the place where it begins, and how many bytes it has.
 #[derive(Drop)]
 struct End {
     script: PostScript,
     place: u64,
+    length: u64,
 }
 
 /// Fills the slice from a place on.
@@ -80,12 +82,18 @@ fn is_orc(front: &[u8]) -> bool
 fn read_end<S: Source>(alloc: Global, source: &mut S) -> Result<End, FileFault>
     ensures size { S.size source.new ≡ S.size source.old }
     ensures told { S.told source.new ≡ S.told source.old }
-    ensures found { IfOk result (λ end. IfSome (S.told source.old) (λ bytes. (end_tests bytes).finds end.script × (end.place ≡ script_place bytes))) }
+    ensures sized { S.size source.old ≤ no_cap }
+    ensures found { IfOk result (λ end. IfSome (S.told source.old)
+        (λ bytes. (end_tests bytes).finds end.script × (end.place ≡ script_place bytes))) }
+    ensures length { IfOk result (λ end. IfSome (S.told source.old) (λ bytes. end.length ≡ script_length bytes)) }
     ensures few { IfOk result (λ end. length end.script.version ≤ most_versions) }
-    ensures room { IfOk result (λ end. (3 + end.script.metadata_length + end.script.footer_length ≤ end.place) × (end.place ≤ S.size source.old)) }
+    ensures room { IfOk result (λ end. (3 + end.script.metadata_length + end.script.footer_length ≤ end.place)
+        × (end.place ≤ S.size source.old)) }
 
-    ensures fault { IfErr result (λ fault. ReadFault (S.told source.old) fault (λ bytes. (end_tests bytes).fails fault)) }
-    ensures unfailed { IfErr result (λ fault. (fault ≡ SourceFailed) ⊎ (IsOfTail fault × (S.failures source.new ≡ S.failures source.old))) }
+    ensures fault { IfErr result (λ fault. ReadFault (S.told source.old) fault
+        (λ bytes. (end_tests bytes).fails fault)) }
+    ensures unfailed { IfErr result (λ fault. (fault ≡ SourceFailed)
+        ⊎ (IsOfTail fault × (S.failures source.new ≡ S.failures source.old))) }
     ensures kept { OnOk result (S.failures source.new ≡ S.failures source.old) }
     ensures failed { IsErrOf result SourceFailed → S.failures source.old < S.failures source.new }
     ensures memory { IsErrOf result OutOfMemory → S.failures source.new ≡ S.failures source.old }
@@ -108,24 +116,51 @@ fn read_end<S: Source>(alloc: Global, source: &mut S) -> Result<End, FileFault>
     let place = len - 1 - length;
     let text = range_of(alloc, source, place, length)?;
     let script = script_in(alloc, &text, place)?;
-    Ok(End { script, place })
+    Ok(End {
+        script,
+        place,
+        length,
+    })
 }
 
-/// The tail of a file whose source is lent. Its tests and its refusals are those of `OrcFile::open`.
-pub fn read_tail<S: Source>(alloc: Global, source: &mut S) -> Result<Tail, FileFault>
+/// Whether a postscript, a footer and metadata of so many bytes are together longer than the cap.
+fn is_above(cap: u64, script: u64, footer: u64, metadata: u64) -> bool
+    ensures yes { OnTrue result (cap < script + footer + metadata) }
+    ensures no { OnFalse result (script + footer + metadata ≤ cap) }
+{
+    // three lengths of 64 bits need two bits more together
+    let parts = u128::from(script) + (u128::from(footer) + u128::from(metadata));
+    parts > u128::from(cap)
+}
+
+/// The tail of a file whose source is lent. Its tests and its refusals are those of `OrcFile::open_capped`.
+pub(crate) fn read_capped_tail<S: Source>(
+    alloc: Global,
+    source: &mut S,
+    cap: u64,
+) -> Result<Tail, FileFault>
+    ensures sized { S.size source.old ≤ no_cap }
     ensures size { S.size source.new ≡ S.size source.old }
     ensures told { S.told source.new ≡ S.told source.old }
-    ensures found { IfOk result (λ tail. IfSome (S.told source.old) (λ bytes. IsTail bytes tail)) }
+    ensures found { IfOk result (λ tail. IfSome (S.told source.old) (λ bytes. IsCappedTail cap bytes tail)) }
     ensures limits { IfOk result (λ tail. IsWithinLimits tail) }
     ensures within { IfOk result (λ tail. AllBefore (S.size source.old) tail.stripes) }
 
-    ensures fault { IfErr result (λ fault. ReadFault (S.told source.old) fault (λ bytes. OpenFault bytes fault)) }
-    ensures unfailed { IfErr result (λ fault. (fault ≡ SourceFailed) ⊎ (IsOfTail fault × (S.failures source.new ≡ S.failures source.old))) }
+    ensures fault { IfErr result (λ fault. ReadFault (S.told source.old) fault (λ bytes. CappedFault cap bytes fault)) }
+    ensures unfailed { IfErr result (λ fault. (fault ≡ SourceFailed)
+        ⊎ (IsOfTail fault × (S.failures source.new ≡ S.failures source.old))) }
     ensures kept { OnOk result (S.failures source.new ≡ S.failures source.old) }
     ensures failed { IsErrOf result SourceFailed → S.failures source.old < S.failures source.new }
     ensures memory { IsErrOf result OutOfMemory → S.failures source.new ≡ S.failures source.old }
 {
-    let End { script, place } = read_end(alloc, source)?;
+    let End {
+        script,
+        place,
+        length,
+    } = read_end(alloc, source)?;
+    if is_above(cap, length, script.footer_length, script.metadata_length) {
+        return Err(FileFault::Limit);
+    }
     let footer_at = place - script.footer_length;
     let text = range_of(alloc, source, footer_at, script.footer_length)?;
     let (footer, schema) = footer_in(alloc, &text)?;
@@ -146,4 +181,22 @@ pub fn read_tail<S: Source>(alloc: Global, source: &mut S) -> Result<Tail, FileF
         rows: footer.number_of_rows,
         other: footer.kept,
     })
+}
+
+/// The tail of a file whose source is lent. Its tests and its refusals are those of `OrcFile::open`.
+pub fn read_tail<S: Source>(alloc: Global, source: &mut S) -> Result<Tail, FileFault>
+    ensures size { S.size source.new ≡ S.size source.old }
+    ensures told { S.told source.new ≡ S.told source.old }
+    ensures found { IfOk result (λ tail. IfSome (S.told source.old) (λ bytes. IsTail bytes tail)) }
+    ensures limits { IfOk result (λ tail. IsWithinLimits tail) }
+    ensures within { IfOk result (λ tail. AllBefore (S.size source.old) tail.stripes) }
+
+    ensures fault { IfErr result (λ fault. ReadFault (S.told source.old) fault (λ bytes. OpenFault bytes fault)) }
+    ensures unfailed { IfErr result (λ fault. (fault ≡ SourceFailed)
+        ⊎ (IsOfTail fault × (S.failures source.new ≡ S.failures source.old))) }
+    ensures kept { OnOk result (S.failures source.new ≡ S.failures source.old) }
+    ensures failed { IsErrOf result SourceFailed → S.failures source.old < S.failures source.new }
+    ensures memory { IsErrOf result OutOfMemory → S.failures source.new ≡ S.failures source.old }
+{
+    read_capped_tail(alloc, source, u64::MAX)
 }

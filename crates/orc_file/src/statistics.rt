@@ -26,7 +26,8 @@ fn kind_of_type(type_of: &TypeMsg) -> StatKind
 fn stat_in(alloc: Global, kind: StatKind, message: &ColumnStats) -> Result<Stat, FileFault>
     ensures found { IfOk result (λ s. s ≡ stat_read kind message.now) }
     ensures limits { IfOk result (λ s. in_limits (stat_read kind message.now) ≡ true) }
-    ensures fault { IfErr result (λ fault. (fault ≡ OutOfMemory) ⊎ ((fault ≡ Limit) × (in_limits (stat_read kind message.now) ≡ false))) }
+    ensures fault { IfErr result (λ fault. (fault ≡ OutOfMemory)
+        ⊎ ((fault ≡ Limit) × (in_limits (stat_read kind message.now) ≡ false))) }
 {
     match Stat::read(alloc, kind, message) {
         Ok(stat) => Ok(stat),
@@ -44,7 +45,8 @@ pub(crate) fn stats_in(
     requires few { length messages.now ≤ width schema.now }
     ensures found { IfOk result (λ stats. stats ≡ stats_read schema.now 0 messages.now) }
     ensures limits { IfOk result (λ stats. list_all in_limits (stats_read schema.now 0 messages.now) ≡ true) }
-    ensures fault { IfErr result (λ fault. (fault ≡ OutOfMemory) ⊎ ((fault ≡ Limit) × (list_all in_limits (stats_read schema.now 0 messages.now) ≡ false))) }
+    ensures fault { IfErr result (λ fault. (fault ≡ OutOfMemory)
+        ⊎ ((fault ≡ Limit) × (list_all in_limits (stats_read schema.now 0 messages.now) ≡ false))) }
 {
     let types = schema.types();
     let mut stats = Vec::with_capacity(alloc, messages.len())?;
@@ -63,7 +65,8 @@ pub(crate) fn stripe_stats_in(
 ) -> Result<Items<Items<Stat>>, FileFault>
     requires few { have_few (width schema.now) messages.now ≡ true }
     ensures found { IfOk result (λ stats. stats ≡ stripe_stats_read schema.now messages.now) }
-    ensures limits { IfOk result (λ stats. list_all (list_all in_limits) (stripe_stats_read schema.now messages.now) ≡ true) }
+    ensures limits { IfOk result
+        (λ stats. list_all (list_all in_limits) (stripe_stats_read schema.now messages.now) ≡ true) }
     ensures fault { IfErr result (λ fault. (fault ≡ OutOfMemory)
         ⊎ ((fault ≡ Limit) × (list_all (list_all in_limits) (stripe_stats_read schema.now messages.now) ≡ false))) }
 {

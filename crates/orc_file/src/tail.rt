@@ -1,3 +1,4 @@
+//! What a file says of itself.
 use orc_stats::Stat;
 use orc_types::Schema;
 use orc_wire::{Bytes, Items, StripeInfo, UserMetadataItem};

@@ -88,7 +88,8 @@ fn put_message<M: Message>(n: u32, message: &M, out: &mut Vec<u8>) -> Result<(),
 
 /// A field for each message.
 fn put_each<M: Message>(n: u32, messages: &[M], out: &mut Vec<u8>) -> Result<(), FileFault>
-    ensures text { OnOk result (out.new.items ≡ out.old.items ++ list_text (λ m. sized (M.canonical.text m)) n messages.now) }
+    ensures text { OnOk result (out.new.items ≡ out.old.items ++ list_text
+        (λ m. sized (M.canonical.text m)) n messages.now) }
     ensures bounded { OnOk result (AllByRecursion M.canonical.bounded messages.now) }
     ensures refused { IfErr result (λ fault. fault ≡ OutOfMemory) }
     ensures front { KeepsFront out.old.items out.new.items }
@@ -116,7 +117,8 @@ fn messages_of(alloc: Global, stats: &[Stat]) -> Result<Items<ColumnStats>, File
 
 /// The metadata: a field for the statistics of each stripe.
 fn put_metadata(stats: &[Items<Stat>], out: &mut Vec<u8>) -> Result<(), FileFault>
-    ensures text { OnOk result (out.new.items ≡ out.old.items ++ list_text (λ xs. sized (stripe_stats_text.text (stripe_message xs))) 1 stats.now) }
+    ensures text { OnOk result (out.new.items ≡ out.old.items ++ list_text
+        (λ xs. sized (stripe_stats_text.text (stripe_message xs))) 1 stats.now) }
     ensures bounded { OnOk result (AllByRecursion (λ xs. stripe_stats_text.bounded (stripe_message xs)) stats.now) }
     ensures refused { IfErr result (λ fault. fault ≡ OutOfMemory) }
     ensures front { KeepsFront out.old.items out.new.items }

@@ -52,5 +52,16 @@ pub struct Writer<W: Sink> {
     ghost wide: { length counts.items ≡ width schema },
     ghost wide_sums: { length sums.items ≡ width schema },
     ghost few_cells: { are_few counts.items ≡ true },
-    ghost counted: { (c : ℕ) → c < width schema → get_or counts.items c 0 ≡ length (columns.cells schema c (views rows.items)) },
+    ghost counted: { (c : ℕ) → c < width schema
+        → get_or counts.items c 0 ≡ length (columns.cells schema c (views rows.items)) },
+}
+
+impl<W: Sink> Writer<W> {
+    /// How many bytes the output has taken so far, also once the writer answers `Failed`. Where the output tells its
+    /// bytes, it is how many it has got since the writer was made.
+    pub fn written(&self) -> u64
+        ensures { result ≡ self.now.written }
+    {
+        self.written
+    }
 }

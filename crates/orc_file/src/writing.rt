@@ -89,14 +89,18 @@ impl<W: Sink> Writer<W> {
     /// The kept rows as a stripe at its place in the file.
     fn stripe_of(&self) -> Result<StripeOut, FileFault>
         requires open { self.now.failed ≡ false }
-        ensures stripe { IfOk result (λ out. IsStripe self.now.schema out.info out.bytes.items (views self.now.rows.items)) }
-        ensures text { IfOk result (λ out. IsWrittenStripe self.now.options.rle self.now.options.stride self.now.schema (views self.now.rows.items)
-            (record out.info { offset = 0 }) out.bytes.items) }
-        ensures stats { IfOk result (λ out. HaveStats self.now.schema (views self.now.rows.items) (width self.now.schema) out.stats.items) }
+        ensures stripe { IfOk result
+            (λ out. IsStripe self.now.schema out.info out.bytes.items (views self.now.rows.items)) }
+        ensures text { IfOk result
+            (λ out. IsWrittenStripe self.now.options.rle self.now.options.stride self.now.schema
+            (views self.now.rows.items) (record out.info { offset = 0 }) out.bytes.items) }
+        ensures stats { IfOk result
+            (λ out. HaveStats self.now.schema (views self.now.rows.items) (width self.now.schema) out.stats.items) }
         ensures place { IfOk result (λ out. out.info.offset ≡ self.now.written) }
         ensures few { IfOk result (λ out. stripes_length self.now.infos.items + length out.bytes.items ≤ most_bytes) }
         ensures schema { IsSchema self.now.schema }
-        ensures limit { IsErrOf result fault.Limit → PassesBytes self.now.options self.now.schema self.now.infos.items (views self.now.rows.items) }
+        ensures limit { IsErrOf result fault.Limit
+            → PassesBytes self.now.options self.now.schema self.now.infos.items (views self.now.rows.items) }
         ensures refused { IfErr result (λ e. (e ≡ fault.Limit) ⊎ (e ≡ fault.OutOfMemory)) }
     {
         let _types = self.schema.types();
@@ -121,9 +125,10 @@ impl<W: Sink> Writer<W> {
         requires open { self.old.failed ≡ false }
         requires begun { 0 < length self.old.rows.items }
         requires stripe { IsStripe self.old.schema stripe.info stripe.bytes.items (views self.old.rows.items) }
-        requires text { IsWrittenStripe self.old.options.rle self.old.options.stride self.old.schema (views self.old.rows.items) (record stripe.info { offset = 0 })
-            stripe.bytes.items }
-        requires stats { HaveStats self.old.schema (views self.old.rows.items) (width self.old.schema) stripe.stats.items }
+        requires text { IsWrittenStripe self.old.options.rle self.old.options.stride self.old.schema
+            (views self.old.rows.items) (record stripe.info { offset = 0 }) stripe.bytes.items }
+        requires stats { HaveStats self.old.schema (views self.old.rows.items) (width self.old.schema)
+            stripe.stats.items }
         requires place { stripe.info.offset ≡ self.old.written }
         requires few { stripes_length self.old.infos.items + length stripe.bytes.items ≤ most_bytes }
         requires schema { IsSchema self.old.schema }
@@ -193,7 +198,8 @@ impl<W: Sink> Writer<W> {
         ensures same { (self.new.schema ≡ self.old.schema) × (self.new.options ≡ self.old.options) }
         ensures ok { OnOk result (self.new.failed ≡ false) }
         ensures failed { OnErr result (self.new.failed ≡ true) }
-        ensures limit { IsErrOf result fault.Limit → PassesBytes self.old.options self.old.schema self.old.infos.items (views self.old.rows.items) }
+        ensures limit { IsErrOf result fault.Limit
+            → PassesBytes self.old.options self.old.schema self.old.infos.items (views self.old.rows.items) }
         ensures refused { IfErr result (λ e. (e ≡ fault.WriteFailed) ⊎ ((e ≡ fault.Limit) ⊎ (e ≡ fault.OutOfMemory))) }
         ensures write_failed { IsErrOf result fault.WriteFailed → W.failures self.old.out < W.failures self.new.out }
         ensures memory { IsErrOf result fault.OutOfMemory → W.failures self.new.out ≡ W.failures self.old.out }
@@ -215,16 +221,20 @@ impl<W: Sink> Writer<W> {
         ensures fits { OnOk result (fitting.fits (view row.now) self.old.schema ≡ true) }
         ensures stripes { OnOk result (length self.old.infos.items < most_stripes) }
         ensures rows { OnOk result (self.old.total < most_rows) }
-        ensures counts { OnOk result (self.new.sums.items ≡ with_row self.old.schema 0 (view row.now) self.old.counts.items) }
+        ensures counts { OnOk result (self.new.sums.items
+            ≡ with_row self.old.schema 0 (view row.now) self.old.counts.items) }
         ensures few { OnOk result (are_few self.new.sums.items ≡ true) }
         ensures failed { IsErrOf result fault.Failed ↔ (self.old.failed ≡ true) }
-        ensures shape { self.old.failed ≡ false → (IsErrOf result fault.RowShape ↔ (fitting.fits (view row.now) self.old.schema ≡ false)) }
+        ensures shape { self.old.failed ≡ false → (IsErrOf result fault.RowShape
+            ↔ (fitting.fits (view row.now) self.old.schema ≡ false)) }
         ensures limit { self.old.failed ≡ false → fitting.fits (view row.now) self.old.schema ≡ true
-            → (IsErrOf result fault.Limit ↔ PassesLimit self.old.schema self.old.infos.items self.old.total self.old.counts.items
+            → (IsErrOf result fault.Limit
+            ↔ PassesLimit self.old.schema self.old.infos.items self.old.total self.old.counts.items
             (view row.now)) }
         ensures refused { IfErr result (λ e. (e ≡ fault.Failed) ⊎ ((e ≡ fault.RowShape) ⊎ (e ≡ fault.Limit))) }
         ensures same { (self.new.schema ≡ self.old.schema) × (self.new.options ≡ self.old.options) }
-        ensures stays { (self.new.out ≡ self.old.out) × (self.new.written ≡ self.old.written) × (self.new.infos ≡ self.old.infos)
+        ensures stays { (self.new.out ≡ self.old.out) × (self.new.written ≡ self.old.written)
+            × (self.new.infos ≡ self.old.infos)
             × (self.new.stats ≡ self.old.stats) × (self.new.rows ≡ self.old.rows) × (self.new.counts ≡ self.old.counts)
             × (self.new.total ≡ self.old.total) × (self.new.failed ≡ self.old.failed) }
     {
@@ -253,7 +263,8 @@ impl<W: Sink> Writer<W> {
         requires counts { self.old.sums.items ≡ with_row self.old.schema 0 (view row.now) self.old.counts.items }
         requires few { are_few self.old.sums.items ≡ true }
         ensures kept { OnOk result (views self.new.rows.items ≡ views self.old.rows.items ++ view row.now ∷ []) }
-        ensures stands { (self.new.out ≡ self.old.out) × (self.new.written ≡ self.old.written) × (self.new.infos ≡ self.old.infos)
+        ensures stands { (self.new.out ≡ self.old.out) × (self.new.written ≡ self.old.written)
+            × (self.new.infos ≡ self.old.infos)
             × (self.new.stats ≡ self.old.stats) }
         ensures ok { OnOk result (self.new.failed ≡ false) }
         ensures failed { OnErr result (self.new.failed ≡ true) }
@@ -289,19 +300,22 @@ impl<W: Sink> Writer<W> {
         ensures same { (self.new.schema ≡ self.old.schema) × (self.new.options ≡ self.old.options) }
 
         ensures failed { IsErrOf result fault.Failed ↔ (self.old.failed ≡ true) }
-        ensures shape { self.old.failed ≡ false → (IsErrOf result fault.RowShape ↔ (fitting.fits (view row.now) self.old.schema ≡ false)) }
+        ensures shape { self.old.failed ≡ false → (IsErrOf result fault.RowShape
+            ↔ (fitting.fits (view row.now) self.old.schema ≡ false)) }
         ensures limit { self.old.failed ≡ false → fitting.fits (view row.now) self.old.schema ≡ true
             → (PassesLimit self.old.schema self.old.infos.items self.old.total self.old.counts.items (view row.now)
             → IsErrOf result fault.Limit × (self.new.failed ≡ false)) }
         ensures only_limit { IsErrOf result fault.Limit → self.new.failed ≡ false
             → PassesLimit self.old.schema self.old.infos.items self.old.total self.old.counts.items (view row.now) }
         ensures long { IsErrOf result fault.Limit → self.new.failed ≡ true
-            → PassesBytes self.old.options self.old.schema self.old.infos.items (views self.old.rows.items ++ view row.now ∷ []) }
+            → PassesBytes self.old.options self.old.schema self.old.infos.items (views self.old.rows.items
+            ++ view row.now ∷ []) }
         ensures refused { IfErr result (λ e. (e ≡ fault.Failed)
             ⊎ ((e ≡ fault.RowShape) ⊎ ((e ≡ fault.Limit) ⊎ ((e ≡ fault.WriteFailed) ⊎ (e ≡ fault.OutOfMemory))))) }
         ensures shape_stays { IsErrOf result fault.RowShape → self.new.failed ≡ false }
         ensures unchanged { OnErr result (self.new.failed ≡ self.old.failed → (self.new.out ≡ self.old.out)
-            × (self.new.written ≡ self.old.written) × (self.new.infos ≡ self.old.infos) × (self.new.stats ≡ self.old.stats)
+            × (self.new.written ≡ self.old.written) × (self.new.infos ≡ self.old.infos)
+            × (self.new.stats ≡ self.old.stats)
             × (self.new.rows ≡ self.old.rows) × (self.new.counts ≡ self.old.counts) × (self.new.total ≡ self.old.total)
             × (self.new.failed ≡ self.old.failed)) }
         ensures write_fails { IsErrOf result fault.WriteFailed → self.new.failed ≡ true }
@@ -352,7 +366,8 @@ impl<W: Sink> Writer<W> {
         ensures empty { OnOk result (self.new.rows.items ≡ []) }
         ensures ok { OnOk result (self.new.failed ≡ false) }
         ensures same { (self.new.schema ≡ self.old.schema) × (self.new.options ≡ self.old.options) }
-        ensures limit { IsErrOf result fault.Limit → PassesBytes self.old.options self.old.schema self.old.infos.items (views self.old.rows.items) }
+        ensures limit { IsErrOf result fault.Limit
+            → PassesBytes self.old.options self.old.schema self.old.infos.items (views self.old.rows.items) }
         ensures begun { OnErr result (0 < length self.old.rows.items) }
         ensures refused { IfErr result (λ e. (e ≡ fault.WriteFailed) ⊎ ((e ≡ fault.Limit) ⊎ (e ≡ fault.OutOfMemory))) }
         ensures write_failed { IsErrOf result fault.WriteFailed → W.failures self.old.out < W.failures self.new.out }
@@ -376,10 +391,13 @@ impl<W: Sink> Writer<W> {
             → IfOk result (λ done. IsWhole self.options self.schema done.0 first (W.told done.1) rows) }
 
         ensures failed { IfErr result (λ e. e.0 ≡ fault.Failed → self.failed ≡ true) }
-        ensures stands { self.failed ≡ true → MatchResult result (λ _. ⊥) (λ e. (e.0 ≡ fault.Failed) × (e.1 ≡ self.out)) }
-        ensures long { IfErr result (λ e. e.0 ≡ fault.Limit → PassesBytes self.options self.schema self.infos.items (views self.rows.items)) }
+        ensures stands { self.failed ≡ true → MatchResult result (λ _. ⊥)
+            (λ e. (e.0 ≡ fault.Failed) × (e.1 ≡ self.out)) }
+        ensures long { IfErr result (λ e. e.0 ≡ fault.Limit
+            → PassesBytes self.options self.schema self.infos.items (views self.rows.items)) }
         ensures begun { IfErr result (λ e. e.0 ≡ fault.Limit → 0 < length self.rows.items) }
-        ensures refused { IfErr result (λ e. (e.0 ≡ fault.Failed) ⊎ ((e.0 ≡ fault.Limit) ⊎ ((e.0 ≡ fault.WriteFailed) ⊎ (e.0 ≡ fault.OutOfMemory)))) }
+        ensures refused { IfErr result (λ e. (e.0 ≡ fault.Failed)
+            ⊎ ((e.0 ≡ fault.Limit) ⊎ ((e.0 ≡ fault.WriteFailed) ⊎ (e.0 ≡ fault.OutOfMemory)))) }
         ensures cut { (first : Option (List ℕ)) (rows : List Cell)
             → HasPushed (progress W.told self) first rows
             → self.failed ≡ false

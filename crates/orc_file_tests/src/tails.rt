@@ -2,6 +2,7 @@
 ghost use Rattle.std.specs.Prelude.{IfOk};
 ghost use Rattle.orc_file.specs.Images.{IsWithinLimits};
 
+mod caps;
 mod first_faults;
 mod limits;
 mod put_again;

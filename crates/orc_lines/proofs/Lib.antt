@@ -2,3 +2,4 @@ pub mod WriteLemmas
 pub mod LinesLemmas
 pub mod WriteLaws
 pub mod LimitLemmas
+pub mod ReadLemmas

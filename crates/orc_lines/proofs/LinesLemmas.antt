@@ -1,5 +1,5 @@
 -- Lines of a text, taken off its front one by one, and where they stop.
-use Rattle.std.proofs.Common.{◌≡◌, ℕ, ◌+◌, ◌<◌, ◌≤◌, Bool, true, false, List, [], ◌∷◌, ◌++◌, length, take, drop, get_or, refl, sym, ap, ◌∙◌, subst, append_assoc, append-nil, arith, add-one, drop-cons, length-drop}
+use Rattle.std.proofs.Common.{◌≡◌, ℕ, ◌+◌, ◌<◌, ◌≤◌, Bool, true, false, List, [], ◌∷◌, ◌++◌, length, take, drop, get_or, refl, sym, ap, ◌∙◌, subst, append_assoc, append-nil, arith, inl, inr, add-one, drop-cons, length-drop}
 use Rattle.std.specs.Prelude.{◌==◌, ◌≢◌}
 use Rattle.std.specs.List.{flat_map}
 use Rattle.std.proofs.lemmas.Bool.{eqb-true, eqb-false}
@@ -8,8 +8,9 @@ use Rattle.std.proofs.Math.ListN.{drop_of_length-le}
 use Rattle.orc_types.specs.Shapes.{Shape}
 use Rattle.orc_types.specs.Cells.{Cell}
 use Rattle.orc_columns.proofs.RunsLemmas.{drop_twice}
-use Rattle.orc_lines.specs.Lines.{IsLine, AreLines, LineSpellsRows, AreRowsOf}
+use Rattle.orc_lines.specs.Lines.{IsLine, AreLines, LinesSpell, LineSpellsRows, AreRowsOf}
 use Rattle.orc_lines.specs.Writes.{EndsAtLine, StopsAt, EndsInLines}
+use Rattle.orc_lines.specs.Reads.{TakesLine, BeginWith}
 use Rattle.orc_output.specs.declared.fault.CliFault.{CliFault}
 use Rattle.orc_lines.proofs.WriteLemmas.{spell_more, rows_more, rows_last, rows_none, lines_more}
 
@@ -94,31 +95,76 @@ only_empty [] (b ∷ bs) before after line e p = absurd (cc)
 only_empty ([] ∷ ls) last before after line e p = absurd (cc)
 only_empty ((x ∷ xs) ∷ ls) last before after line e p = absurd (cc)
 
+-- ---- the first lines
+
+begins_more : (s : Shape) (line rest : List ℕ) (own more : List Cell) → IsLine line → LineSpellsRows s line own → BeginWith s rest more → BeginWith s (line ++ 10 ∷ rest) (own ++ more)
+begins_more s line rest own more is spells p = record {
+  ended = line ∷ p.ended;
+  last = p.last;
+  lines = lines_more line rest p.ended p.last is p.lines;
+  before = line ∷ p.before;
+  after = p.after;
+  lines_are = ap (λ (t : List (List ℕ)). line ∷ t) p.lines_are;
+  spell = spell_more s line own more p.before spells p.spell;
+}
+
+begin_none : (s : Shape) (ended : List (List ℕ)) (last : List ℕ) (before after : List (List ℕ)) (more : List Cell) → [] ≡ flat_map (λ (l : List ℕ). l ++ 10 ∷ []) ended ++ last
+    → ended ++ last ∷ [] ≡ before ++ after → LinesSpell s before more → more ≡ []
+begin_none s [] [] [] after more e p h = h
+begin_none s [] [] ([] ∷ []) after more e p h = h
+begin_none s [] [] ([] ∷ y ∷ ys) after more e p h = absurd (cc)
+begin_none s [] [] ((b ∷ bs) ∷ xs) after more e p h = absurd (cc)
+begin_none s [] (b ∷ bs) before after more e p h = absurd (cc)
+begin_none s ([] ∷ ls) last before after more e p h = absurd (cc)
+begin_none s ((x ∷ xs) ∷ ls) last before after more e p h = absurd (cc)
+
+begins_last : (s : Shape) (line : List ℕ) (own more : List Cell) → IsLine line → LineSpellsRows s line own → BeginWith s [] more → BeginWith s line (own ++ more)
+begins_last s line own more is spells p =
+    let none = begin_none s p.ended p.last p.before p.after more p.lines.joined p.lines_are p.spell in
+    record {
+      ended = [];
+      last = line;
+      lines = record { plain = tt; plain_last = is; joined = refl };
+      before = line ∷ [];
+      after = [];
+      lines_are = refl;
+      spell = subst (λ (t : List Cell). LinesSpell s (line ∷ []) t) (sym (ap (λ (t : List Cell). own ++ t) none ∙ append-nil own)) spells;
+    }
+
+begin_here : (s : Shape) (rest : List ℕ) → BeginWith s rest []
+begin_here s rest =
+    let p = has_lines rest in
+    record { ended = p.ended; last = p.last; lines = p.lines; before = []; after = p.ended ++ p.last ∷ []; lines_are = refl; spell = refl }
+
 -- ---- what the front of a text leads to: with whatever the rest spells
 
 pub record Leads (s : Shape) (bytes rest : List ℕ) (own : List Cell) : Type 0 where
   pub rows : (more : List Cell) → AreRowsOf s rest more → AreRowsOf s bytes (own ++ more)
   pub stops : (more : List Cell) (line : List ℕ) → StopsAt s rest more line → StopsAt s bytes (own ++ more) line
+  pub begins : (more : List Cell) → BeginWith s rest more → BeginWith s bytes (own ++ more)
 
 pub leads_none : (s : Shape) (bytes : List ℕ) → Leads s bytes bytes []
-leads_none s bytes = record { rows = λ more h. h; stops = λ more line h. h }
+leads_none s bytes = record { rows = λ more h. h; stops = λ more line h. h; begins = λ more h. h }
 
 pub leads_both : (s : Shape) (a b c : List ℕ) (own more : List Cell) → Leads s a b own → Leads s b c more → Leads s a c (own ++ more)
 leads_both s a b c own more p q = record {
   rows = λ rest h. subst (λ (t : List Cell). AreRowsOf s a t) (sym (append_assoc own more rest)) (p.rows (more ++ rest) (q.rows rest h));
   stops = λ rest line h. subst (λ (t : List Cell). StopsAt s a t line) (sym (append_assoc own more rest)) (p.stops (more ++ rest) line (q.stops rest line h));
+  begins = λ rest h. subst (λ (t : List Cell). BeginWith s a t) (sym (append_assoc own more rest)) (p.begins (more ++ rest) (q.begins rest h));
 }
 
 leads_line : (s : Shape) (line rest : List ℕ) (own : List Cell) → IsLine line → LineSpellsRows s line own → Leads s (line ++ 10 ∷ rest) rest own
 leads_line s line rest own is spells = record {
   rows = λ more h. rows_more s line rest own more is spells h;
   stops = λ more other h. stops_more s line rest own more other is spells h;
+  begins = λ more h. begins_more s line rest own more is spells h;
 }
 
 leads_last : (s : Shape) (line : List ℕ) (own : List Cell) → IsLine line → LineSpellsRows s line own → Leads s line [] own
 leads_last s line own is spells = record {
   rows = λ more h. rows_last s line own more is spells h;
   stops = λ more other h. absurd (h.some (only_empty h.ended h.last h.before h.after other h.lines.joined h.lines_are));
+  begins = λ more h. begins_last s line own more is spells h;
 }
 
 -- ---- the line at a place
@@ -165,6 +211,34 @@ ends_behind s input rest len own more fault h is end some ends = record {
   ends = ends;
   rows_are = refl;
 }
+
+-- ---- a line that was read
+
+pub leads_read : (s : Shape) (bytes line rest : List ℕ) (own : List Cell) → IsLine line → TakesLine bytes line rest → LineSpellsRows s line own → Leads s bytes rest own
+leads_read s bytes line rest own is (inl e) spells = subst (λ (t : List ℕ). Leads s t rest own) (sym e) (leads_line s line rest own is spells)
+leads_read s bytes line rest own is (inr e) spells =
+    subst (λ (t : List ℕ). Leads s bytes t own) (sym e.2) (subst (λ (t : List ℕ). Leads s t [] own) (sym e.0) (leads_last s line own is spells))
+
+stops_read : (s : Shape) (bytes line rest : List ℕ) → IsLine line → (line ≡ [] → ⊥) → TakesLine bytes line rest → StopsAt s bytes [] line
+stops_read s bytes line rest is some (inl e) = subst (λ (t : List ℕ). StopsAt s t [] line) (sym e) (stops_ended s line rest is some)
+stops_read s bytes line rest is some (inr e) = subst (λ (t : List ℕ). StopsAt s t [] line) (sym e.0) (stops_last s line is some)
+
+pub ends_read : (s : Shape) (input bytes line rest : List ℕ) (own more : List Cell) (fault : CliFault) → Leads s input bytes own → IsLine line → (line ≡ [] → ⊥) → TakesLine bytes line rest
+    → EndsAtLine s line fault more → EndsInLines s input fault (own ++ more)
+ends_read s input bytes line rest own more fault h is some takes ends = record {
+  line = line;
+  before = own;
+  own = more;
+  stops = subst (λ (t : List Cell). StopsAt s input t line) (append-nil own) (h.stops [] line (stops_read s bytes line rest is some takes));
+  ends = ends;
+  rows_are = refl;
+}
+
+pub all_read : (s : Shape) (input : List ℕ) (own : List Cell) → Leads s input [] own → AreRowsOf s input own
+all_read s input own h = subst (λ (t : List Cell). AreRowsOf s input t) (append-nil own) (h.rows [] (rows_none s))
+
+pub begun_read : (s : Shape) (input rest : List ℕ) (own : List Cell) → Leads s input rest own → BeginWith s input own
+begun_read s input rest own h = subst (λ (t : List Cell). BeginWith s input t) (append-nil own) (h.begins [] (begin_here s rest))
 
 -- ---- the same of an equal schema and an equal line
 

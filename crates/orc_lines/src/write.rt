@@ -48,7 +48,11 @@ fn row_of_line(alloc: Global, schema: &Schema, line: &[u8]) -> Result<Row<'stati
 }
 
 /// Pushes the row of a line, where it isn't empty.
-fn push_line<W: Sink>(alloc: Global, line: &[u8], writer: &mut Writer<W>) -> Result<(), CliFault>
+pub(crate) fn push_line<W: Sink>(
+    alloc: Global,
+    line: &[u8],
+    writer: &mut Writer<W>,
+) -> Result<(), CliFault>
     ensures pushed { OnOk result ((own : List Cell) × LineSpellsRows writer.old.schema line.now own × ((first : Option (List ℕ)) (rows : List Cell)
         → HasPushed (progress W.told writer.old) first rows
         → HasPushed (progress W.told writer.new) first (rows ++ own))) }

@@ -7,7 +7,7 @@ use Rattle.std.proofs.lemmas.List.Concat.{flat_map-append}
 use Rattle.orc_merge.specs.declared.copying.Piece.{Piece}
 use Rattle.orc_devices.specs.Devices.{appended, bytes_at}
 use Rattle.orc_devices.proofs.Appended.{appended-appended}
-use Rattle.orc_merge.specs.Copies.{Copied, CopiedSome, WroteSome, piece_bytes, pieces_bytes}
+use Rattle.orc_merge.specs.Copies.{Copied, CopiedSome, WroteSome, piece_at, piece_bytes, pieces_bytes}
 
 -- ---- fronts
 
@@ -35,17 +35,17 @@ all_is_some old new xs e = (length xs, e ∙ ap (appended old) (sym (take_all (l
 
 -- ---- pieces
 
-abbrev pub no_piece : Piece
+abbrev no_piece : Piece
 no_piece = record { input = 0; offset = 0; len = 0 }
 
 pieces_more : (files : List (List ℕ)) (pieces : List Piece) (i : ℕ) → i < length pieces
-    → pieces_bytes files (take (i + 1) pieces) ≡ pieces_bytes files (take i pieces) ++ piece_bytes files (slice_index_or pieces i no_piece)
+    → pieces_bytes files (take (i + 1) pieces) ≡ pieces_bytes files (take i pieces) ++ piece_bytes files (piece_at pieces i)
 pieces_more files pieces i lt =
-    ap (pieces_bytes files) (take_more pieces i no_piece lt) ∙ flat_map-append (piece_bytes files) (take i pieces) (slice_index_or pieces i no_piece ∷ [])
-    ∙ ap (λ (r : List ℕ). pieces_bytes files (take i pieces) ++ r) (append-nil (piece_bytes files (slice_index_or pieces i no_piece)))
+    ap (pieces_bytes files) (take_more pieces i no_piece lt) ∙ flat_map-append (piece_bytes files) (take i pieces) (piece_at pieces i ∷ [])
+    ∙ ap (λ (r : List ℕ). pieces_bytes files (take i pieces) ++ r) (append-nil (piece_bytes files (piece_at pieces i)))
 
 pieces_all : (files : List (List ℕ)) (pieces : List Piece) (i : ℕ) → i < length pieces
-    → pieces_bytes files (take i pieces) ++ (piece_bytes files (slice_index_or pieces i no_piece) ++ pieces_bytes files (drop (i + 1) pieces)) ≡ pieces_bytes files pieces
+    → pieces_bytes files (take i pieces) ++ (piece_bytes files (piece_at pieces i) ++ pieces_bytes files (drop (i + 1) pieces)) ≡ pieces_bytes files pieces
 pieces_all files pieces i lt =
     ap (λ (ps : List Piece). pieces_bytes files (take i pieces) ++ pieces_bytes files ps) (sym (drop_more pieces i no_piece lt))
     ∙ sym (flat_map-append (piece_bytes files) (take i pieces) (drop i pieces)) ∙ ap (pieces_bytes files) (take-append-drop i pieces)
@@ -68,27 +68,35 @@ copied_some (Some b) bytes at n mid new e c =
     let same : b ≡ bytes = cc in
     (c.0, c.2 ∙ ap (λ (x : List ℕ). appended mid (bytes_at at c.0 x)) same ∙ ap (appended mid) (sym (take-take c.0 n (drop at bytes) c.1)))
 
-pub copied_more : {A : Type 0} (told : A → Option (List ℕ)) (inputs : List A) (d : A) (files : List (List ℕ)) (pieces : List Piece) (i : ℕ) (first mid new : Option (List ℕ))
-    → i < length pieces → (slice_index_or pieces i no_piece).input < length inputs → map told inputs ≡ map Some files
-    → Copied (told (get_or inputs (slice_index_or pieces i no_piece).input d)) (slice_index_or pieces i no_piece).offset (slice_index_or pieces i no_piece).len mid new
-    → mid ≡ appended first (pieces_bytes files (take i pieces)) → new ≡ appended first (pieces_bytes files (take (i + 1) pieces))
-copied_more told inputs d files pieces i first mid new lt in_range same c e =
-    let p : Piece = slice_index_or pieces i no_piece in
+-- what was copied of a piece's input are the piece's bytes
+pub copied_piece : {A : Type 0} (told : A → Option (List ℕ)) (inputs : List A) (d : A) (files : List (List ℕ)) (p : Piece) (mid new : Option (List ℕ))
+    → p.input < length inputs → map told inputs ≡ map Some files
+    → Copied (told (get_or inputs p.input d)) p.offset p.len mid new → new ≡ appended mid (piece_bytes files p)
+copied_piece told inputs d files p mid new in_range same c =
     copied_is (told (get_or inputs p.input d)) (slice_index_or files p.input []) p.offset p.len mid new (told_at told inputs p.input d files in_range same) c
-    ∙ ap (λ (o : Option (List ℕ)). appended o (piece_bytes files p)) e ∙ appended-appended first (pieces_bytes files (take i pieces)) (piece_bytes files p)
+
+pub some_piece : {A : Type 0} (told : A → Option (List ℕ)) (inputs : List A) (d : A) (files : List (List ℕ)) (p : Piece) (mid new : Option (List ℕ))
+    → p.input < length inputs → map told inputs ≡ map Some files
+    → CopiedSome (told (get_or inputs p.input d)) p.offset p.len mid new → WroteSome mid new (piece_bytes files p)
+some_piece told inputs d files p mid new in_range same c =
+    copied_some (told (get_or inputs p.input d)) (slice_index_or files p.input []) p.offset p.len mid new (told_at told inputs p.input d files in_range same) c
+
+pub copied_more : (files : List (List ℕ)) (pieces : List Piece) (i : ℕ) (first mid new : Option (List ℕ)) → i < length pieces
+    → new ≡ appended mid (piece_bytes files (piece_at pieces i))
+    → mid ≡ appended first (pieces_bytes files (take i pieces)) → new ≡ appended first (pieces_bytes files (take (i + 1) pieces))
+copied_more files pieces i first mid new lt c e =
+    c ∙ ap (λ (o : Option (List ℕ)). appended o (piece_bytes files (piece_at pieces i))) e
+    ∙ appended-appended first (pieces_bytes files (take i pieces)) (piece_bytes files (piece_at pieces i))
     ∙ ap (appended first) (sym (pieces_more files pieces i lt))
 
-pub some_more : {A : Type 0} (told : A → Option (List ℕ)) (inputs : List A) (d : A) (files : List (List ℕ)) (pieces : List Piece) (i : ℕ) (first mid new : Option (List ℕ))
-    → i < length pieces → (slice_index_or pieces i no_piece).input < length inputs → map told inputs ≡ map Some files
-    → CopiedSome (told (get_or inputs (slice_index_or pieces i no_piece).input d)) (slice_index_or pieces i no_piece).offset (slice_index_or pieces i no_piece).len mid new
+pub some_more : (files : List (List ℕ)) (pieces : List Piece) (i : ℕ) (first mid new : Option (List ℕ)) → i < length pieces
+    → WroteSome mid new (piece_bytes files (piece_at pieces i))
     → mid ≡ appended first (pieces_bytes files (take i pieces)) → WroteSome first new (pieces_bytes files pieces)
-some_more told inputs d files pieces i first mid new lt in_range same c e =
-    let p : Piece = slice_index_or pieces i no_piece in
-    let here : WroteSome mid new (piece_bytes files p) =
-    copied_some (told (get_or inputs p.input d)) (slice_index_or files p.input []) p.offset p.len mid new (told_at told inputs p.input d files in_range same) c in
-    let all : WroteSome first new (pieces_bytes files (take i pieces) ++ (piece_bytes files p ++ pieces_bytes files (drop (i + 1) pieces))) =
-    whole_then_some first mid new (pieces_bytes files (take i pieces)) (piece_bytes files p ++ pieces_bytes files (drop (i + 1) pieces)) e
-    (some_of_more mid new (piece_bytes files p) (pieces_bytes files (drop (i + 1) pieces)) here) in
+some_more files pieces i first mid new lt here e =
+    let more : List ℕ = pieces_bytes files (drop (i + 1) pieces) in
+    let all : WroteSome first new (pieces_bytes files (take i pieces) ++ (piece_bytes files (piece_at pieces i) ++ more)) =
+    whole_then_some first mid new (pieces_bytes files (take i pieces)) (piece_bytes files (piece_at pieces i) ++ more) e
+    (some_of_more mid new (piece_bytes files (piece_at pieces i)) more here) in
     subst (λ (x : List ℕ). WroteSome first new x) (pieces_all files pieces i lt) all
 
 pub all_pieces : (files : List (List ℕ)) (pieces : List Piece) (i : ℕ) (first new : Option (List ℕ)) → length pieces ≤ i → new ≡ appended first (pieces_bytes files (take i pieces))

@@ -1,5 +1,5 @@
 -- What was copied of sources to a sink.
-use Rattle.std.specs.Prelude.{◌≡◌, ℕ, ◌≤◌, List, [], take, Option, slice_index_or}
+use Rattle.std.specs.Prelude.{◌≡◌, ◌≢◌, ℕ, ◌+◌, ◌≤◌, List, [], take, Option, slice_get, slice_index_or}
 use Rattle.std.specs.List.{flat_map}
 use Rattle.std.specs.Option.{IfSome}
 use Rattle.orc_devices.specs.Devices.{appended, bytes_at}
@@ -24,3 +24,11 @@ piece_bytes files p = bytes_at p.offset p.len (slice_index_or files p.input [])
 -- those of all pieces, in order
 abbrev pub pieces_bytes : List (List ℕ) → List Piece → List ℕ
 pieces_bytes files = flat_map (piece_bytes files)
+
+-- the piece with that number; where there is none, one without bytes
+abbrev pub piece_at : List Piece → ℕ → Piece
+piece_at pieces i = slice_index_or pieces i (record { input = 0; offset = 0; len = 0 })
+
+-- behind the piece with that number stands none, or one of another input
+abbrev pub IsLastOfInput : List Piece → ℕ → Type 0
+IsLastOfInput pieces i = IfSome (slice_get pieces (i + 1)) (λ next. next.input ≢ (piece_at pieces i).input)

@@ -1,8 +1,10 @@
 //! Bytes go out: pieces of the inputs through one array, and what stands before and behind them.
 ghost use Rattle.std.specs.Prelude.{◌≡◌, ◌+◌, ◌<◌, ◌≤◌, ◌++◌, ℕ, List, Some, length, map, slice_index, IfErr, OnOk, IsErrOf, All};
+ghost use Rattle.std.specs.Bool.{OnTrue, OnFalse};
 ghost use Rattle.orc_devices.specs.Devices.{appended};
 ghost use Rattle.orc_file.specs.Layout.{magic};
-ghost use Rattle.orc_merge.specs.Copies.{Copied, CopiedSome, WroteSome, pieces_bytes};
+ghost use Rattle.orc_merge.specs.Copies.{Copied, CopiedSome, WroteSome, IsLastOfInput};
+ghost use Rattle.orc_merge.specs.Copies.{piece_at, piece_bytes, pieces_bytes};
 
 use orc_file::{Sink, Source, write_all};
 
@@ -28,7 +30,8 @@ fn copy_range<S: Source, W: Sink>(
     ensures told { S.told source.new ≡ S.told source.old }
     ensures all { OnOk result (Copied (S.told source.old) at len (W.told out.old) (W.told out.new)) }
     ensures prefix { CopiedSome (S.told source.old) at len (W.told out.old) (W.told out.new) }
-    ensures kept { OnOk result ((S.failures source.new ≡ S.failures source.old) × (W.failures out.new ≡ W.failures out.old)) }
+    ensures kept { OnOk result ((S.failures source.new ≡ S.failures source.old)
+        × (W.failures out.new ≡ W.failures out.old)) }
     ensures source_failed { IsErrOf result CopyFault.SourceFailed → S.failures source.old < S.failures source.new }
     ensures write_failed { IsErrOf result CopyFault.WriteFailed → W.failures out.old < W.failures out.new }
 {
@@ -59,6 +62,58 @@ pub(crate) struct Piece {
     pub len: u64,
 }
 
+/// Whether the piece with this number is the last one in a row of its input's.
+fn is_last_of_input(pieces: &[Piece], i: usize) -> bool
+    requires { i < length pieces.now }
+    ensures yes { OnTrue result (IsLastOfInput pieces.now i) }
+    ensures no { OnFalse result (IsLastOfInput pieces.now i → ⊥) }
+{
+    match pieces.get(i + 1) {
+        Some(next) => next.input != pieces[i].input,
+        None => true,
+    }
+}
+
+/// Copies the piece with this number. After the last one in a row of its input's, and after a refusal, the input rests:
+/// pieces stand input by input, so each input rests before the next one is read. An `Err` says which input's.
+fn copy_piece<S: Source, W: Sink>(
+    inputs: &mut [S],
+    pieces: &[Piece],
+    i: usize,
+    out: &mut W,
+) -> Result<(), (usize, CopyFault)>
+    requires number { i < length pieces.now }
+    requires input { (piece_at pieces.now i).input < length inputs.old }
+    requires size { (piece_at pieces.now i).offset + (piece_at pieces.now i).len
+        ≤ slice_index (map S.size inputs.old) (piece_at pieces.now i).input }
+    ensures told { map S.told inputs.new ≡ map S.told inputs.old }
+    ensures sizes { map S.size inputs.new ≡ map S.size inputs.old }
+    ensures all { OnOk result ((files : List (List ℕ)) → map S.told inputs.old ≡ map Some files
+        → W.told out.new ≡ appended (W.told out.old) (piece_bytes files (piece_at pieces.now i))) }
+    ensures some { (files : List (List ℕ)) → map S.told inputs.old ≡ map Some files
+        → WroteSome (W.told out.old) (W.told out.new) (piece_bytes files (piece_at pieces.now i)) }
+    ensures kept { OnOk result ((map S.failures inputs.new ≡ map S.failures inputs.old)
+        × (W.failures out.new ≡ W.failures out.old)) }
+    ensures source_failed { IfErr result (λ e. e.1 ≡ CopyFault.SourceFailed
+        → slice_index (map S.failures inputs.old) e.0 < slice_index (map S.failures inputs.new) e.0) }
+    ensures write_failed { IfErr result (λ e. e.1 ≡ CopyFault.WriteFailed → W.failures out.old < W.failures out.new) }
+{
+    let piece = pieces[i];
+    let input = &mut inputs[piece.input];
+    match copy_range(input, piece.offset, piece.len, out) {
+        Ok(()) => {
+            if is_last_of_input(pieces, i) {
+                input.rest();
+            }
+            Ok(())
+        }
+        Err(fault) => {
+            input.rest();
+            Err((piece.input, fault))
+        }
+    }
+}
+
 /// Copies the pieces, one after the other. An `Err` says which input's.
 fn copy_pieces<S: Source, W: Sink>(
     inputs: &mut [S],
@@ -72,16 +127,16 @@ fn copy_pieces<S: Source, W: Sink>(
         → W.told out.new ≡ appended (W.told out.old) (pieces_bytes files pieces.now)) }
     ensures some { (files : List (List ℕ)) → map S.told inputs.old ≡ map Some files
         → WroteSome (W.told out.old) (W.told out.new) (pieces_bytes files pieces.now) }
-    ensures kept { OnOk result ((map S.failures inputs.new ≡ map S.failures inputs.old) × (W.failures out.new ≡ W.failures out.old)) }
+    ensures kept { OnOk result ((map S.failures inputs.new ≡ map S.failures inputs.old)
+        × (W.failures out.new ≡ W.failures out.old)) }
     ensures source_failed { IfErr result (λ e. e.1 ≡ CopyFault.SourceFailed
         → slice_index (map S.failures inputs.old) e.0 < slice_index (map S.failures inputs.new) e.0) }
     ensures write_failed { IfErr result (λ e. e.1 ≡ CopyFault.WriteFailed → W.failures out.old < W.failures out.new) }
 {
-    for piece in pieces {
-        let input = &mut inputs[piece.input];
-        match copy_range(input, piece.offset, piece.len, out) {
+    for i in 0..pieces.len() {
+        match copy_piece(inputs, pieces, i, out) {
             Ok(()) => {}
-            Err(fault) => return Err((piece.input, fault)),
+            Err(fault) => return Err(fault),
         }
     }
     Ok(())
@@ -101,7 +156,8 @@ pub(crate) fn write_merged<S: Source, W: Sink>(
         → W.told out.new ≡ appended (W.told out.old) (magic ++ (pieces_bytes files pieces.now ++ text.now))) }
     ensures some { (files : List (List ℕ)) → map S.told inputs.old ≡ map Some files
         → WroteSome (W.told out.old) (W.told out.new) (magic ++ (pieces_bytes files pieces.now ++ text.now)) }
-    ensures kept { OnOk result ((map S.failures inputs.new ≡ map S.failures inputs.old) × (W.failures out.new ≡ W.failures out.old)) }
+    ensures kept { OnOk result ((map S.failures inputs.new ≡ map S.failures inputs.old)
+        × (W.failures out.new ≡ W.failures out.old)) }
     ensures source_failed { IfErr result (λ e. e.1 ≡ CopyFault.SourceFailed
         → slice_index (map S.failures inputs.old) e.0 < slice_index (map S.failures inputs.new) e.0) }
     ensures write_failed { IfErr result (λ e. e.1 ≡ CopyFault.WriteFailed → W.failures out.old < W.failures out.new) }

@@ -19,7 +19,7 @@ use crate::gathered::{Gathered, take_lists};
 use orc_file::{FileFault, Source, Tail, read_tail};
 use std::alloc::Global;
 
-/// The tail of the input with this number.
+/// The tail of the input with this number, which rests then.
 fn tail_of<S: Source>(alloc: Global, number: usize, input: &mut S) -> Result<Tail, MergeFault>
     ensures size { S.size input.new ≡ S.size input.old }
     ensures told { S.told input.new ≡ S.told input.old }
@@ -34,7 +34,9 @@ fn tail_of<S: Source>(alloc: Global, number: usize, input: &mut S) -> Result<Tai
     ensures failed { IsErrOf result (fault.SourceFailed number) → S.failures input.old < S.failures input.new }
     ensures memory { IsErrOf result fault.OutOfMemory → S.failures input.new ≡ S.failures input.old }
 {
-    match read_tail(alloc, input) {
+    let read = read_tail(alloc, input);
+    input.rest();
+    match read {
         Ok(tail) => Ok(tail),
         Err(FileFault::SourceFailed) => Err(MergeFault::SourceFailed(number)),
         Err(FileFault::OutOfMemory) => Err(MergeFault::OutOfMemory),

@@ -3,6 +3,7 @@ mod devices;
 mod files;
 mod outcomes;
 mod pages;
+mod resting;
 mod statistics;
 mod steps;
 mod stripes;

@@ -4,7 +4,7 @@ ghost use Rattle.std.specs.Fs.{new_options, with_write, with_create_new};
 ghost use Rattle.orc_file.specs.declared.fault.FileFault.TheVariants.{SourceFailed, WriteFailed};
 ghost use Rattle.orc_output.specs.declared.fault.CliFault.TheVariants.{File as FileFaulted};
 
-use orc_file::{FileFault, FileSource, StdSink};
+use orc_file::{FileFault, FileSource};
 use orc_output::CliFault;
 use std::fs::{File, OpenOptions};
 use std::rt::Files;
@@ -33,11 +33,11 @@ fn as_new_file() -> OpenOptions
 }
 
 /// A new file of that path.
-pub fn new_file<R: Files<File = File>>(rt: &R, path: &str) -> Result<StdSink<File>, CliFault>
+pub fn new_file<R: Files<File = File>>(rt: &R, path: &str) -> Result<File, CliFault>
     ensures { IfErr result (λ fault. fault ≡ FileFaulted WriteFailed) }
 {
     match as_new_file().open(rt, path) {
-        Ok(file) => Ok(StdSink::new(file)),
+        Ok(file) => Ok(file),
         Err(_) => Err(CliFault::File(FileFault::WriteFailed)),
     }
 }

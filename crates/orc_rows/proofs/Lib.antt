@@ -1,4 +1,4 @@
-pub mod NoFloats
 pub mod RowsLemmas
+mod CursorLemmas
 mod StartLemmas
 mod GroupLemmas

@@ -24,7 +24,7 @@ use Rattle.orc_file.specs.declared.tail.Tail.{Tail}
 use Rattle.orc_output.specs.Output.{IsOutsideFile, IsWantOfMemory}
 use Rattle.orc_output.proofs.OutputLemmas.{appends_more}
 use Rattle.orc_rows.specs.Rows.{row_line, row_lines, HaveJson, AreOfStripe, AreOfStripes, HasNoJson, StripeStops, EndsAt, EndsIn}
-use Rattle.orc_rows.specs.Printed.{IsAsked, IsNotAsked, AreLines, ArePrinted, Ends, RefusesFile}
+use Rattle.orc_rows.specs.Printed.{IsAsked, IsNotAsked, AreLines, ArePrinted, Ends, Stops, RefusesFile}
 use Rattle.orc_rows.specs.declared.start.Start.{Start}
 use Rattle.orc_output.specs.declared.fault.CliFault.{CliFault}
 use Rattle.orc_output.specs.declared.fault.CliFault.TheVariants.{File, Json}
@@ -153,13 +153,25 @@ printed_file None tail start old new is h = tt
 printed_file (Some bytes) tail start old new is h = (tail, h.0, is, h.1, h.2)
 
 pub refused_file : (told : Option (List ℕ)) (tail : Tail) (start : Option Start) (old new : Option (List ℕ)) (fault : CliFault) → IfSome told (λ bytes. IsTail bytes tail)
-    → IfSome told (λ all. Ends all tail start old new fault) → IfSome told (λ bytes. RefusesFile bytes start old new fault)
+    → IfSome told (λ all. Stops all tail start old new fault) → IfSome told (λ bytes. RefusesFile bytes start old new fault)
 refused_file None tail start old new fault is h = tt
-refused_file (Some bytes) tail start old new fault is h = inr (tail, is, h)
+refused_file (Some bytes) tail start old new fault is (inl h) = inl (inr (inr h.0), h.1)
+refused_file (Some bytes) tail start old new fault is (inr h) = inr (tail, is, h)
 
 pub keeps_itself : (known : Option (List ℕ)) → Keeps known known
 keeps_itself None = tt
 keeps_itself (Some bytes) = refl
+
+pub no_printer : (told : Option (List ℕ)) (tail : Tail) (start : Option Start) (known : Option (List ℕ)) (fault : CliFault) → IsWantOfMemory fault
+    → IfSome told (λ all. Stops all tail start known known fault)
+no_printer None tail start known fault h = tt
+no_printer (Some all) tail start known fault h = inl (h, keeps_itself known)
+
+pub printer_ends : {A : Type 0} (r : Result A CliFault) (told : Option (List ℕ)) (tail : Tail) (start : Option Start) (old new : Option (List ℕ))
+    → IfErr r (λ fault. IfSome told (λ all. Ends all tail start old new fault)) → IfErr r (λ fault. IfSome told (λ all. Stops all tail start old new fault))
+printer_ends (Ok x) told tail start old new h = tt
+printer_ends (Err fault) None tail start old new h = tt
+printer_ends (Err fault) (Some all) tail start old new h = inr h
 
 pub refused_open : (told : Option (List ℕ)) (start : Option Start) (known : Option (List ℕ)) (why : FileFault) → ReadFault told why (λ bytes. OpenFault bytes why)
     → IfSome told (λ bytes. RefusesFile bytes start known known (File why))

@@ -5,7 +5,7 @@ use Rattle.std.specs.Io.KnownBytes.{Appends, Keeps}
 use Rattle.orc_types.specs.declared.json_fault.JsonFault.TheVariants as json
 use Rattle.orc_file.specs.Tails.{IsTail}
 use Rattle.orc_file.specs.declared.tail.Tail.{Tail}
-use Rattle.orc_output.specs.Output.{IsNotOpened}
+use Rattle.orc_output.specs.Output.{IsNotOpened, IsWantOfMemory}
 use Rattle.orc_output.specs.declared.fault.CliFault.{CliFault}
 use Rattle.orc_output.specs.declared.fault.CliFault.TheVariants.{Json}
 use Rattle.orc_rows.specs.declared.start.Start.{Start}
@@ -36,6 +36,10 @@ ArePrinted bytes start old new = (tail : Tail) × (lines : List ℕ) × IsTail b
 abbrev pub Ends : List ℕ → Tail → Option Start → Option (List ℕ) → Option (List ℕ) → CliFault → Type 0
 Ends bytes tail None old new fault = EndsIn bytes tail 0 old new fault
 Ends bytes tail (Some start) old new fault = EndsFrom bytes tail start.stripe start.group old new fault
+
+-- the same, or there is no memory for what prints the rows, and nothing is out
+abbrev pub Stops : List ℕ → Tail → Option Start → Option (List ℕ) → Option (List ℕ) → CliFault → Type 0
+Stops bytes tail start old new fault = (IsWantOfMemory fault × Keeps old new) ⊎ Ends bytes tail start old new fault
 
 -- why a file is refused, and what is out then: nothing where it isn't opened
 abbrev pub RefusesFile : List ℕ → Option Start → Option (List ℕ) → Option (List ℕ) → CliFault → Type 0

@@ -7,9 +7,12 @@ use Rattle.orc_wire.specs.declared.stripe_info.StripeInfo.{StripeInfo}
 use Rattle.orc_types.specs.Cells.{Cell}
 use Rattle.orc_types.specs.Shapes.{Shape}
 use Rattle.orc_types.specs.FieldNames.{is_distinct}
+use Rattle.orc_types.specs.Fits.{RowsFit}
 use Rattle.orc_types.specs.JsonPrinting.{json_of}
 use Rattle.orc_types.specs.declared.json_fault.JsonFault.TheVariants as json
 use Rattle.orc_columns.specs.Stripe.{IsStripe}
+use Rattle.orc_stripe.specs.Cursors.{StandsFor}
+use Rattle.orc_stripe.specs.declared.cursor.RowCursor.{RowCursor}
 use Rattle.orc_file.specs.Stripes.{stripe_at}
 use Rattle.orc_file.specs.FileRows.{stripe_bytes, HasRows, StripeRefused}
 use Rattle.orc_file.specs.declared.tail.Tail.{Tail}
@@ -29,6 +32,13 @@ row_lines s rows = flat_map (row_line s) rows
 -- Rows have JSON where no struct of their schema names a field twice; where there are none, nothing is asked.
 abbrev pub HaveJson : Shape → List Cell → Type 0
 HaveJson s rows = (rows ≡ []) ⊎ (is_distinct s ≡ true)
+
+-- the lines are those of the rows that a cursor has still to give, if these are rows of the schema
+pub record AreLinesBehind (s : Shape) (cursor : RowCursor) (lines : List ℕ) : Type 0 where
+  pub rows : List Cell
+  pub stands : StandsFor cursor rows
+  pub have_json : HaveJson s rows
+  pub lines_are : RowsFit s rows → lines ≡ row_lines s rows
 
 -- the lines are those of a stripe with these bytes
 pub record AreOfStripe (s : Shape) (info : StripeInfo) (bytes lines : List ℕ) : Type 0 where

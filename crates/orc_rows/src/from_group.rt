@@ -6,6 +6,7 @@ ghost use Rattle.orc_types.specs.Fits.{RowsFit};
 ghost use Rattle.orc_types.specs.Views.{views};
 ghost use Rattle.orc_columns.specs.declared.fault.StripeFault.{StripeFault as Why};
 ghost use Rattle.orc_columns.specs.declared.fault.StripeFault.TheVariants as stripe;
+ghost use Rattle.orc_file.specs.Caps.{no_cap};
 ghost use Rattle.orc_file.specs.FileRows.{stripe_bytes};
 ghost use Rattle.orc_file.specs.Stripes.{stripe_at};
 ghost use Rattle.orc_file.specs.declared.fault.FileFault.TheVariants.{Stripe, SourceFailed, OutOfMemory};
@@ -13,10 +14,11 @@ ghost use Rattle.orc_output.specs.Output.{IsWantOfMemory};
 ghost use Rattle.orc_output.specs.declared.fault.CliFault.TheVariants.{File};
 ghost use Rattle.orc_rows.specs.FromGroup.{AreFromGroup, AreLinesFrom, StopsAtGroup, EndsAtGroup};
 
-use crate::rows::lines_of;
+use crate::lines::lines_of;
 use crate::start::Start;
 use orc_file::{FileFault, OrcFile, Source, Tail, view_stripe};
 use orc_output::{CliFault, write_out};
+use orc_row_text::RowPrinter;
 use orc_stripe::{Spot, StripeFault};
 use orc_types::{Row, Schema, fits};
 use std::alloc::Global;
@@ -76,11 +78,15 @@ fn rows_from<'a>(
 pub(crate) fn print_group<S: Source, W: Write>(
     alloc: Global,
     file: &mut OrcFile<S>,
+    printer: &RowPrinter,
     start: Start,
     out: &mut W,
 ) -> Result<(), CliFault>
-    requires { start.stripe < length file.old.tail.stripes }
+    requires there { start.stripe < length file.old.tail.stripes }
+    requires of_schema { printer.now ≡ file.old.tail.schema }
+    requires uncapped { file.old.cap ≡ no_cap }
     ensures tail { file.new.tail ≡ file.old.tail }
+    ensures cap { file.new.cap ≡ file.old.cap }
     ensures told { S.told file.new.source ≡ S.told file.old.source }
     ensures written { OnOk result (IfSome (S.told file.old.source) (λ all. (own : List ℕ)
         × AreLinesFrom file.old.tail start.stripe (stripe_bytes (stripe_at file.old.tail.stripes start.stripe) all) start.group own
@@ -96,6 +102,6 @@ pub(crate) fn print_group<S: Source, W: Write>(
     let mut bytes = Vec::new(alloc);
     file.load(number, &mut bytes)?;
     let rows = rows_from(alloc, file.tail(), number, start.group, &bytes)?;
-    let lines = lines_of(alloc, file.schema(), &rows)?;
-    write_out(out, lines.as_bytes())
+    let lines = lines_of(alloc, printer, &rows)?;
+    write_out(out, &lines)
 }

@@ -2,6 +2,7 @@
 #![tactic(auto)]
 
 mod from_group;
+mod lines;
 mod printing;
 mod rows;
 mod start;

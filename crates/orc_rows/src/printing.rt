@@ -2,6 +2,7 @@
 ghost use Rattle.std.specs.Prelude.{◌≡◌, ◌<◌, ℕ, List, Option, MatchResult, None, IfOk, OnOk, IfErr, IfSome, Err};
 ghost use Rattle.std.specs.Io.KnownBytes.{Appends, Keeps};
 ghost use Rattle.orc_types.specs.Cells.{Cell};
+ghost use Rattle.orc_file.specs.Caps.{no_cap};
 ghost use Rattle.orc_file.specs.FileRows.{FileIs};
 ghost use Rattle.orc_file.specs.declared.fault.FileFault.TheVariants.{SourceFailed};
 ghost use Rattle.orc_file.specs.declared.tail.Tail.{Tail};
@@ -9,13 +10,14 @@ ghost use Rattle.orc_output.specs.Output.{IsOutsideFile, IsWantOfMemory};
 ghost use Rattle.orc_output.specs.declared.fault.CliFault.TheVariants.{File};
 ghost use Rattle.orc_rows.specs.Rows.{HaveJson};
 ghost use Rattle.orc_rows.specs.FromGroup.{AreFrom, EndsFrom};
-ghost use Rattle.orc_rows.specs.Printed.{IsAsked, IsNotAsked, AreLines, ArePrinted, Ends, RefusesFile, Refuses};
+ghost use Rattle.orc_rows.specs.Printed.{IsAsked, IsNotAsked, AreLines, ArePrinted, Ends, Stops, RefusesFile, Refuses};
 
 use crate::from_group::print_group;
 use crate::rows::print_rows;
 use crate::start::{Start, start_of};
 use orc_file::{FileFault, OrcFile, Source};
 use orc_output::CliFault;
+use orc_row_text::RowPrinter;
 use orc_types::JsonFault;
 use std::alloc::Global;
 use std::io::Write;
@@ -40,9 +42,12 @@ fn asked_of(from: Option<&str>) -> Result<Option<Start>, CliFault>
 fn print_from<S: Source, W: Write>(
     alloc: Global,
     file: &mut OrcFile<S>,
+    printer: &RowPrinter,
     start: Start,
     out: &mut W,
 ) -> Result<(), CliFault>
+    requires of_schema { printer.now ≡ file.old.tail.schema }
+    requires uncapped { file.old.cap ≡ no_cap }
     ensures told { S.told file.new.source ≡ S.told file.old.source }
     ensures written { OnOk result (IfSome (S.told file.old.source) (λ all. (lines : List ℕ) × AreFrom all file.old.tail start.stripe start.group lines
         × Appends (W.contents out.old) (W.contents out.new) lines)) }
@@ -57,17 +62,20 @@ fn print_from<S: Source, W: Write>(
     if number >= file.tail().stripes.as_slice().len() {
         return Err(CliFault::File(FileFault::BadStripe(number)));
     }
-    print_group(alloc, file, start, out)?;
-    print_rows(alloc, file, number + 1, out)
+    print_group(alloc, file, printer, start, out)?;
+    print_rows(alloc, file, printer, number + 1, out)
 }
 
 /// Prints the lines of a file's rows from a place on, or all of them.
 fn print_lines<S: Source, W: Write>(
     alloc: Global,
     file: &mut OrcFile<S>,
+    printer: &RowPrinter,
     start: Option<Start>,
     out: &mut W,
 ) -> Result<(), CliFault>
+    requires of_schema { printer.now ≡ file.old.tail.schema }
+    requires uncapped { file.old.cap ≡ no_cap }
     ensures told { S.told file.new.source ≡ S.told file.old.source }
     ensures written { OnOk result (IfSome (S.told file.old.source) (λ all. (lines : List ℕ) × AreLines all file.old.tail start lines
         × Appends (W.contents out.old) (W.contents out.new) lines)) }
@@ -79,9 +87,31 @@ fn print_lines<S: Source, W: Write>(
     ensures memory { IfErr result (λ fault. IsWantOfMemory fault → S.failures file.new.source ≡ S.failures file.old.source) }
 {
     match start {
-        None => print_rows(alloc, file, 0, out),
-        Some(start) => print_from(alloc, file, start, out),
+        None => print_rows(alloc, file, printer, 0, out),
+        Some(start) => print_from(alloc, file, printer, start, out),
     }
+}
+
+/// The same with a printer of the file's rows, which is made first: nothing is out where there is no memory for it.
+fn print_opened<S: Source, W: Write>(
+    alloc: Global,
+    file: &mut OrcFile<S>,
+    start: Option<Start>,
+    out: &mut W,
+) -> Result<(), CliFault>
+    requires { file.old.cap ≡ no_cap }
+    ensures told { S.told file.new.source ≡ S.told file.old.source }
+    ensures written { OnOk result (IfSome (S.told file.old.source) (λ all. (lines : List ℕ) × AreLines all file.old.tail start lines
+        × Appends (W.contents out.old) (W.contents out.new) lines)) }
+    ensures kept { OnOk result (S.failures file.new.source ≡ S.failures file.old.source) }
+
+    ensures refused { IfErr result (λ fault. IfSome (S.told file.old.source) (λ all.
+        Stops all file.old.tail start (W.contents out.old) (W.contents out.new) fault)) }
+    ensures failed { result ≡ Err (File SourceFailed) → S.failures file.old.source < S.failures file.new.source }
+    ensures memory { IfErr result (λ fault. IsWantOfMemory fault → S.failures file.new.source ≡ S.failures file.old.source) }
+{
+    let printer = RowPrinter::new(alloc, file.schema())?;
+    print_lines(alloc, file, &printer, start, out)
 }
 
 /// What is printed of a file from a place on, or all of it.
@@ -102,7 +132,7 @@ fn print_file<S: Source, W: Write>(
 {
     match OrcFile::open(alloc, source) {
         Ok(mut file) => {
-            let printed = print_lines(alloc, &mut file, start, out);
+            let printed = print_opened(alloc, &mut file, start, out);
             let (_, source) = file.into_parts();
             match printed {
                 Ok(()) => Ok(source),

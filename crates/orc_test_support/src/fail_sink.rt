@@ -18,6 +18,7 @@ pub struct FailSink {
     a_call: usize,
     room: usize,
     full: Full,
+    refusals: usize,
     failures: Failures,
     ghost reserved: { room ≤ vec_capacity bytes },
 }
@@ -35,6 +36,7 @@ impl FailSink {
             a_call,
             room,
             full,
+            refusals: 0,
             failures: Failures::new(),
         })
     }
@@ -42,6 +44,11 @@ impl FailSink {
     /// The bytes so far.
     pub fn bytes(&self) -> &[u8] {
         &self.bytes
+    }
+
+    /// How often some bytes were offered to it in vain.
+    pub fn refusals(&self) -> usize {
+        self.refusals
     }
 }
 
@@ -54,6 +61,7 @@ impl Sink for FailSink {
         let left = self.room.saturating_sub(self.bytes.len());
         let n = bytes.len().min(self.a_call).min(left);
         if n == 0 && !bytes.is_empty() {
+            self.refusals = self.refusals.saturating_add(1);
             self.failures.note();
             return match self.full {
                 Full::Fails => Err(SinkFault),

@@ -7,7 +7,8 @@ use orc_devices::{Failures, SliceSource, Source, SourceFault};
 #[derive(Drop)]
 pub struct FailSource<'a> {
     bytes: SliceSource<'a>,
-    before_failure: u64,
+    kth: u64,
+    reads: u64,
     failures: Failures,
 }
 
@@ -16,9 +17,15 @@ impl<'a> FailSource<'a> {
     pub fn new(bytes: &'a [u8], kth: u64) -> FailSource<'a> {
         FailSource {
             bytes: SliceSource::new(bytes),
-            before_failure: kth,
+            kth,
+            reads: 0,
             failures: Failures::new(),
         }
+    }
+
+    /// How many reads there were, with the one that failed.
+    pub fn reads(&self) -> u64 {
+        self.reads
     }
 }
 
@@ -36,14 +43,15 @@ impl Source for FailSource<'_> {
     }
 
     fn read_at(&mut self, at: u64, into: &mut [u8]) -> Result<(), SourceFault> {
-        let fails = self.before_failure == 1;
-        self.before_failure = self.before_failure.saturating_sub(1);
-        if fails {
+        self.reads = self.reads.saturating_add(1);
+        if self.reads == self.kth {
             self.failures.note();
             return Err(SourceFault);
         }
         self.bytes.read_at(at, into)
     }
+
+    fn rest(&mut self) {}
 
     ghost told_size = { λ _. refl };
 

@@ -47,6 +47,8 @@ impl Source for SeenSource<'_> {
         self.bytes.read_at(at, into)
     }
 
+    fn rest(&mut self) {}
+
     ghost told_size = { λ _. refl };
 
     ghost told_bytes = { λ source. source.bytes.are_bytes };

@@ -39,49 +39,53 @@ fn row(alloc: Global, number: i64) -> Result<Row<'static>, FileFault> {
     Ok(Some(Value::Struct(fields)))
 }
 
-/// Whether a writer that has failed says so when it is to finish, and its output.
-fn refused<W: Sink>(writer: Writer<W>) -> (bool, W) {
+/// Whether a writer that has failed says so when it gets a row and when it is to finish, and how many bytes it has
+/// written as before; and its output.
+fn refused<W: Sink>(mut writer: Writer<W>, row: &Row<'_>) -> (bool, W) {
+    let before = writer.written();
+    let stands = writer.push(row) == Err(FileFault::Failed) && writer.written() == before;
     match writer.finish() {
         Ok((_, out)) => (false, out),
-        Err((fault, out)) => (fault == FileFault::Failed, out),
+        Err((fault, out)) => (stands && fault == FileFault::Failed, out),
     }
 }
 
-/// A file of so many sevens: its tail, or the fault, and the output.
-fn written<W: Sink>(
-    alloc: Global,
-    rle: Rle,
-    stripe_rows: u32,
-    rows: usize,
-    out: W,
-) -> (Result<Tail, FileFault>, W) {
+/// What comes of a file: its tail, or the fault; how many bytes were written when the last row was pushed, where there
+/// was a writer; and the output.
+type Written<W> = (Result<Tail, FileFault>, Option<u64>, W);
+
+/// A file of so many sevens.
+fn written<W: Sink>(alloc: Global, rle: Rle, stripe_rows: u32, rows: usize, out: W) -> Written<W> {
     let mut writer = match begun(alloc, rle, stripe_rows, out) {
         Ok(writer) => writer,
-        Err((fault, out)) => return (Err(fault), out),
+        Err((fault, out)) => return (Err(fault), None, out),
     };
     for _ in 0..rows {
         let seven = match row(alloc, 7) {
             Ok(seven) => seven,
-            Err(fault) => return (Err(fault), writer.into_out()),
+            Err(fault) => return (Err(fault), None, writer.into_out()),
         };
         if let Err(fault) = writer.push(&seven) {
-            let (later, out) = refused(writer);
-            return (Err(if later { fault } else { FileFault::Limit }), out);
+            let count = writer.written();
+            let (stands, out) = refused(writer, &seven);
+            let fault = if stands { fault } else { FileFault::Limit };
+            return (Err(fault), Some(count), out);
         }
     }
+    let count = writer.written();
     match writer.finish() {
-        Ok((tail, out)) => (Ok(tail), out),
-        Err((fault, out)) => (Err(fault), out),
+        Ok((tail, out)) => (Ok(tail), Some(count), out),
+        Err((fault, out)) => (Err(fault), Some(count), out),
     }
 }
 
 /// A file in memory, once there is some.
 fn file(alloc: Global, rle: Rle, stripe_rows: u32, rows: usize) -> Result<Vec<u8>, FileFault> {
-    let (answer, out) = written(alloc, rle, stripe_rows, rows, VecSink::new(alloc));
+    let (answer, _, out) = written(alloc, rle, stripe_rows, rows, VecSink::new(alloc));
     match answer {
         Ok(_) => Ok(out.into_vec()),
         Err(_) => {
-            let (answer, out) = written(alloc, rle, stripe_rows, rows, VecSink::new(alloc));
+            let (answer, _, out) = written(alloc, rle, stripe_rows, rows, VecSink::new(alloc));
             answer?;
             Ok(out.into_vec())
         }
@@ -162,20 +166,31 @@ fn versions(rt: HostRuntime) -> Result<(), FileFault> {
     Ok(())
 }
 
-/// What a sink that is full after so many bytes has got, and whether the writer said so.
+/// How many bytes are written once the last of three rows was pushed, with which their stripe is written, or refused.
+fn count_at(room: usize) -> Option<u64> {
+    if room < 3 {
+        None
+    } else {
+        Some(room.min(22) as u64)
+    }
+}
+
+/// What a sink that is full after so many bytes has got, and whether the writer said so, and counted the bytes. Nothing
+/// is offered to a sink that has refused.
 fn cut_off(rt: &impl Abort, alloc: Global, a_call: usize, room: usize, full: Full) -> Option<bool> {
     let Ok(out) = FailSink::new(alloc, a_call, room, full) else {
         return None;
     };
-    let (answer, out) = written(alloc, Rle::One, 3, 3, out);
+    let (answer, count, out) = written(alloc, Rle::One, 3, 3, out);
     let wanted = out.bytes().len().min(SEVENS.len());
     assert_eq!(rt; out.bytes(), &SEVENS[..wanted], "room for {room}");
-    match answer {
-        Ok(_) => Some(out.bytes().len() == SEVENS.len()),
-        Err(FileFault::WriteFailed) => Some(out.bytes().len() == room && room < 120),
-        Err(FileFault::OutOfMemory) => None,
-        Err(_) => Some(false),
-    }
+    let (is_right, refusals) = match answer {
+        Ok(_) => (out.bytes().len() == SEVENS.len(), 0),
+        Err(FileFault::WriteFailed) => (out.bytes().len() == room && room < 120, 1),
+        Err(FileFault::OutOfMemory) => return None,
+        Err(_) => return Some(false),
+    };
+    Some(is_right && count == count_at(room) && out.refusals() == refusals)
 }
 
 #[test]
@@ -195,19 +210,27 @@ fn outputs_fail(rt: HostRuntime) {
     }
 }
 
-/// Rows of which the second fits no schema of a struct.
+/// How many bytes are written with no row, and with each of three.
+static COUNTS: [u64; 4] = [3, 3, 3, 22];
+
+/// Three rows; a row that fits no schema of a struct is refused before them and behind each.
 fn refused_between(alloc: Global) -> Result<Vec<u8>, FileFault> {
     let mut writer = match begun(alloc, Rle::One, 3, VecSink::new(alloc)) {
         Ok(writer) => writer,
         Err((fault, _)) => return Err(fault),
     };
     let seven = row(alloc, 7)?;
-    writer.push(&seven)?;
-    if writer.push(&Some(Value::Int(7))) != Err(FileFault::RowShape) {
-        return Err(FileFault::NotOrc);
+    for (rows, count) in COUNTS.iter().enumerate() {
+        if rows > 0 {
+            writer.push(&seven)?;
+        }
+        if writer.push(&Some(Value::Int(7))) != Err(FileFault::RowShape) {
+            return Err(FileFault::NotOrc);
+        }
+        if writer.written() != *count {
+            return Err(FileFault::BadLengths);
+        }
     }
-    writer.push(&seven)?;
-    writer.push(&seven)?;
     match writer.finish() {
         Ok((_, out)) => Ok(out.into_vec()),
         Err((fault, _)) => Err(fault),

@@ -8,11 +8,11 @@ use orc_types::TypeFault;
 use std::process::Abort;
 
 /// Bytes that are put at a place.
-type Change = (usize, &'static [u8]);
+pub(super) type Change = (usize, &'static [u8]);
 
 /// Changes of `SEVENS` that fail one test each, in the order of the tests; the fault, and how many ranges are
 /// read until then.
-static FAILING: [(&[Change], FileFault, usize); 19] = [
+pub(super) static FAILING: [(&[Change], FileFault, usize); 19] = [
     // not ORC in front
     (&[(0, &[0x50])], FileFault::NotOrc, 1),
     // a postscript longer than the file
@@ -96,7 +96,7 @@ fn overwrite(bytes: &mut [u8], place: usize, new: &[u8]) {
     }
 }
 
-fn change(bytes: &mut [u8], changes: &[Change]) {
+pub(super) fn change(bytes: &mut [u8], changes: &[Change]) {
     for (place, new) in changes {
         overwrite(bytes, *place, new);
     }

@@ -13,7 +13,7 @@ pub returns-clause-refused : goal.returns-clause-refused
 returns-clause-refused g c =
     let bytes = rw (← c.deref.ensures.value) at c.in_ok-load.ensures.bytes in
     let from = rw (c.tail.ensures, c.in_ok-load.ensures.tail) at c.in_ok-rows.ensures.found in
-    let json = rw (c.schema.ensures, c.in_ok-load.ensures.tail, c.deref-2.ensures.value) at c.in_ok-lines.ensures.json in
-    let found = rw (c.schema.ensures, c.in_ok-load.ensures.tail, c.deref-2.ensures.value) at c.in_ok-lines.ensures.found in
-    let part = rw c.as_bytes.ensures.value at c.write_out.ensures.part in
+    let json = rw (c.requires.of_schema, c.deref-2.ensures.value) at c.in_ok-lines.ensures.json in
+    let found = rw (c.requires.of_schema, c.deref-2.ensures.value) at c.in_ok-lines.ensures.found in
+    let part = rw c.deref-3.ensures.value at c.write_out.ensures.part in
     lines_stop _ _ _ _ _ _ _ _ _ c.write_out.result bytes from json found c.write_out.ensures.refused part

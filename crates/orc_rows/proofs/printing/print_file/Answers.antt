@@ -6,7 +6,7 @@ pub returns-in-Ok-printed-clause-written : goal.returns-in-Ok-printed-clause-wri
 returns-in-Ok-printed-clause-written g c =
     let told = g.S.Source.told c.args.source in
     let old = g.W.Write.contents c.args.out.now in
-    let new = g.W.Write.contents c.print_lines-printed.new.out in
+    let new = g.W.Write.contents c.print_opened-printed.new.out in
     let same = c.in-Ok.ensures.same in
     let written = c.in-Ok-printed.ensures.written in
     printed_file told c.in-Ok.file.tail c.args.start old new c.in-Ok.ensures.found (rw same at written)
@@ -15,7 +15,7 @@ pub returns-in-Err-printed-clause-refused : goal.returns-in-Err-printed-clause-r
 returns-in-Err-printed-clause-refused g c =
     let told = g.S.Source.told c.args.source in
     let old = g.W.Write.contents c.args.out.now in
-    let new = g.W.Write.contents c.print_lines-printed.new.out in
+    let new = g.W.Write.contents c.print_opened-printed.new.out in
     let same = c.in-Ok.ensures.same in
     let ends = c.in-Err-printed.ensures.refused in
     refused_file told c.in-Ok.file.tail c.args.start old new c.in-Err-printed.fault c.in-Ok.ensures.found (rw same at ends)

@@ -33,6 +33,7 @@ loop-number-preserved g c =
     record {
       begun = omega (arith, begun);
       tail = e.tail ∙ inv.tail;
+      cap = e.cap ∙ inv.cap;
       told = e.told ∙ inv.told;
       kept = c.in_ok-print_stripe.ensures.kept ∙ inv.kept;
       printed = printed_next told start.schema start.stripes c.args.first c.loop-number.number _ (g.W.Write.contents c.loop-number.out) _ inv.begun (rw (length, tail) at lt) inv.printed (rw (inv.told, inv.tail) at own);

@@ -1,0 +1,31 @@
+//! Laws of files that are opened with a cap. The function does nothing: its contract is what it is for.
+ghost use Rattle.std.specs.Prelude.{◌≡◌, ◌≤◌, ◌⊎◌, ℕ, List, length};
+ghost use Rattle.orc_wire.specs.declared.stripe_info.StripeInfo.{StripeInfo};
+ghost use Rattle.orc_types.specs.Shapes.{Shape};
+ghost use Rattle.orc_file.specs.Tails.{IsTail, OpenFault};
+ghost use Rattle.orc_file.specs.FileRows.{FirstRefused};
+ghost use Rattle.orc_file.specs.Caps.{no_cap, IsCappedTail, CappedFault, AllWithin, FirstCapped};
+ghost use Rattle.orc_file.specs.declared.tail.Tail.{Tail};
+ghost use Rattle.orc_file.specs.declared.fault.FileFault.{FileFault};
+ghost use Rattle.orc_file.specs.declared.fault.FileFault.TheVariants.{Limit};
+
+/// A cap adds one refusal, `Limit`, and changes no other. The greatest one adds none: the tail and the fault of bytes
+/// are those without a cap. Where no stripe is longer than the cap, the first that is refused is the first one that has
+/// no rows, for the same reason.
+pub fn cap_laws()
+    ensures tail { (cap : ℕ) (bytes : List ℕ) (tail : Tail) → IsCappedTail cap bytes tail → IsTail bytes tail }
+    ensures refusal { (cap : ℕ) (bytes : List ℕ) (fault : FileFault) → CappedFault cap bytes fault
+        → OpenFault bytes fault ⊎ (fault ≡ Limit) }
+
+    ensures greatest { (bytes : List ℕ) (tail : Tail) → length bytes ≤ no_cap → IsTail bytes tail
+        → IsCappedTail no_cap bytes tail }
+    ensures no_refusal { (bytes : List ℕ) (fault : FileFault) → length bytes ≤ no_cap → CappedFault no_cap bytes fault
+        → OpenFault bytes fault }
+    ensures all_refusals { (bytes : List ℕ) (fault : FileFault) → length bytes ≤ no_cap → OpenFault bytes fault
+        → CappedFault no_cap bytes fault }
+
+    ensures refused { (cap : ℕ) (s : Shape) (bytes : List ℕ) (infos : List StripeInfo) (fault : FileFault)
+        → AllWithin cap infos → FirstCapped cap s bytes 0 infos fault → FirstRefused s bytes 0 infos fault }
+    ensures first { (cap : ℕ) (s : Shape) (bytes : List ℕ) (infos : List StripeInfo) (fault : FileFault)
+        → AllWithin cap infos → FirstRefused s bytes 0 infos fault → FirstCapped cap s bytes 0 infos fault }
+{}
