@@ -19,8 +19,8 @@ length-digits w (v ∷ vs) =
     let m : w * suc (length vs) ≡ w * length vs + w = mul-suc w (length vs) in
     omega (arith, m, length-digits w vs, length-bits v w, length-append (bits v w) (digits w vs))
 
-halved : (x y k m : ℕ) → m ≡ k * 2 → (x * m + y) / 2 ≡ x * k + y / 2
-halved x y k m e = rw e (omega arith)
+half_of_sum : (x y k m : ℕ) → m ≡ k * 2 → (x * m + y) / 2 ≡ x * k + y / 2
+half_of_sum x y k m e = rw e (omega arith)
 
 same_parity : (x y k m : ℕ) → m ≡ k * 2 → (x * m + y) % 2 ≡ y % 2
 same_parity x y k m e = rw e (omega arith)
@@ -33,7 +33,7 @@ bits-append x y b zero h =
     rw (z, add-zero, append-nil (bits x b)) refl
 bits-append x y b (suc a) h =
     let small : y / 2 < 2 ^ a = omega (arith, pow-suc 2 a) in
-    let e : (x * 2 ^ suc a + y) / 2 ≡ x * 2 ^ a + y / 2 = halved x y (2 ^ a) (2 ^ suc a) (pow-suc 2 a) in
+    let e : (x * 2 ^ suc a + y) / 2 ≡ x * 2 ^ a + y / 2 = half_of_sum x y (2 ^ a) (2 ^ suc a) (pow-suc 2 a) in
     let p : (x * 2 ^ suc a + y) % 2 ≡ y % 2 = same_parity x y (2 ^ a) (2 ^ suc a) (pow-suc 2 a) in
     rw (add-suc, e, p, bits-append x (y / 2) b a small, append_assoc) refl
 

@@ -4,7 +4,7 @@ ghost use Rattle.orc_bits.specs.Packed.{Spells};
 
 /// The two halves of a number's digits.
 #[inline(always)]
-fn halved(number: u64, half: u32) -> (u64, u64)
+fn halves(number: u64, half: u32) -> (u64, u64)
     requires few { half ≤ 4 }
     requires fits { number < 2 ^ (half + half) }
     ensures front { result.0 < 2 ^ half }
@@ -31,7 +31,7 @@ fn put_halves(number: u64, half: u32, out: &mut [u64])
     requires len { length out.old ≡ 2 }
     ensures { Spells (half + half) (number ∷ []) half out.new }
 {
-    let (front, back) = halved(number, half);
+    let (front, back) = halves(number, half);
     out[0] = front;
     out[1] = back;
 }
@@ -44,7 +44,7 @@ fn put_quarters(number: u64, quarter: u32, out: &mut [u64])
     requires len { length out.old ≡ 4 }
     ensures { Spells ((quarter + quarter) + (quarter + quarter)) (number ∷ []) quarter out.new }
 {
-    let (front, back) = halved(number, quarter + quarter);
+    let (front, back) = halves(number, quarter + quarter);
     let (first, second) = out.split_at_mut(2);
     put_halves(front, quarter, first);
     put_halves(back, quarter, second);
@@ -57,7 +57,7 @@ fn put_eighths(byte: u64, out: &mut [u64])
     requires len { length out.old ≡ 8 }
     ensures { Spells 8 (byte ∷ []) 1 out.new }
 {
-    let (front, back) = halved(byte, 4);
+    let (front, back) = halves(byte, 4);
     let (first, second) = out.split_at_mut(4);
     put_quarters(front, 1, first);
     put_quarters(back, 1, second);

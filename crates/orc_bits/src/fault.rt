@@ -1,3 +1,4 @@
+//! Why no number can be read or written.
 use thiserror::Error;
 
 /// Why no number could be read or written.

@@ -6,7 +6,7 @@ use std::simd::prelude::*;
 
 /// The two halves of each lane's digits, one lane after the other.
 #[inline(always)]
-fn halved(lanes: u8x8, half: u32) -> (u8x8, u8x8)
+fn halves(lanes: u8x8, half: u32) -> (u8x8, u8x8)
     requires few { half ≤ 4 }
     requires fit { AllFit (half + half) lanes }
     ensures { Spells (half + half) lanes half (result.0 ++ result.1) }
@@ -33,7 +33,7 @@ fn put_halves(lanes: u8x8, half: u32, out: &mut [u64])
     requires len { length out.old ≡ 16 }
     ensures { Spells (half + half) lanes half out.new }
 {
-    let (front, back) = halved(lanes, half);
+    let (front, back) = halves(lanes, half);
     let (first, second) = out.split_at_mut(8);
     put_whole(front, first);
     put_whole(back, second);
@@ -47,7 +47,7 @@ fn put_quarters(lanes: u8x8, quarter: u32, out: &mut [u64])
     requires len { length out.old ≡ 32 }
     ensures { Spells ((quarter + quarter) + (quarter + quarter)) lanes quarter out.new }
 {
-    let (front, back) = halved(lanes, quarter + quarter);
+    let (front, back) = halves(lanes, quarter + quarter);
     let (first, second) = out.split_at_mut(16);
     put_halves(front, quarter, first);
     put_halves(back, quarter, second);
@@ -60,7 +60,7 @@ fn put_eighths(lanes: u8x8, out: &mut [u64])
     requires len { length out.old ≡ 64 }
     ensures { Spells 8 lanes 1 out.new }
 {
-    let (front, back) = halved(lanes, 4);
+    let (front, back) = halves(lanes, 4);
     let (first, second) = out.split_at_mut(32);
     put_quarters(front, 1, first);
     put_quarters(back, 1, second);

@@ -1,3 +1,4 @@
+//! Packed numbers: each has the digits of one width, highest first, one after the other over the bytes.
 ghost use Rattle.std.specs.Prelude.{◌≡◌, ℕ, ◌+◌, ◌-◌, ◌*◌, ◌/◌, ◌^◌, ◌<◌, ◌≤◌, ◌++◌, List, length, take, drop, IfOk, IfErr, OnOk, OnErr, vec_capacity, vec_len};
 ghost use Rattle.orc_bits.specs.Width.{width_at};
 ghost use Rattle.orc_bits.specs.Packed.{bits, digits, packed_len, AllFit, IsPacked, IsPackedText, AppendsPacked};
@@ -39,7 +40,8 @@ impl<'a> Reader<'a> {
         requires there { width ≤ self.old.have + 8 * (length self.old.bytes.now - self.old.at) }
         ensures same { self.new.bytes ≡ self.old.bytes }
         ensures digits { bits self.old.held self.old.have ++ digits 8 (drop self.old.at self.old.bytes.now)
-            ≡ bits result width ++ (bits self.new.held self.new.have ++ digits 8 (drop self.new.at self.old.bytes.now)) }
+            ≡ bits result width
+            ++ (bits self.new.held self.new.have ++ digits 8 (drop self.new.at self.old.bytes.now)) }
         ensures used { self.old.have + 8 * self.new.at ≡ width + self.new.have + 8 * self.old.at }
         ensures fits { result < 2 ^ width }
     {
@@ -148,7 +150,9 @@ fn put_digits(
     ensures below { result.1 < 2 ^ result.2 }
     ensures used { 8 * result.0 + result.2 ≡ 8 * at + have + width }
     ensures small { AllFit 8 (take at out.old) → AllFit 8 (take result.0 out.new) }
-    ensures digits { digits 8 (take result.0 out.new) ++ bits result.1 result.2 ≡ (digits 8 (take at out.old) ++ bits held have) ++ bits number width }
+    ensures digits { digits 8 (take result.0 out.new) ++ bits result.1 result.2
+        ≡ (digits 8 (take at out.old) ++ bits held have)
+        ++ bits number width }
 {
     let mut at = at;
     let mut rest = (u128::from(held) << width) + u128::from(number);
@@ -194,7 +198,8 @@ pub fn pack(values: &[u64], width: Width, out: &mut Vec<u8>) -> Result<(), BitFa
 
     ensures refused { IfErr result (λ fault. fault ≡ OutOfMemory) }
     ensures unchanged { OnErr result (out.new.items ≡ out.old.items) }
-    ensures full { OnErr result (vec_capacity out.old < vec_len out.old + packed_len (width_at width.code) (length values.now)) }
+    ensures full { OnErr result (vec_capacity out.old
+        < vec_len out.old + packed_len (width_at width.code) (length values.now)) }
 {
     let digits = width.digits();
     let len = least_len(values.len(), digits);
@@ -210,7 +215,8 @@ pub fn pack(values: &[u64], width: Width, out: &mut Vec<u8>) -> Result<(), BitFa
 /// list of numbers; the bytes that `pack` appends are packed, and no others are with spare digits of
 /// 0.
 pub fn packed_laws()
-    ensures prefix { (w : ℕ) (a b x y v u : List ℕ) → length v ≡ length u → IsPacked a w v → IsPacked b w u → a ++ x ≡ b ++ y → (a ≡ b) × (v ≡ u) }
+    ensures prefix { (w : ℕ) (a b x y v u : List ℕ)
+        → length v ≡ length u → IsPacked a w v → IsPacked b w u → a ++ x ≡ b ++ y → (a ≡ b) × (v ≡ u) }
     ensures one_text { (w : ℕ) (a b v : List ℕ) → IsPackedText a w v → IsPackedText b w v → a ≡ b }
     ensures again { (w : ℕ) (a v : List ℕ) → IsPackedText a w v → IsPacked a w v }
 {}

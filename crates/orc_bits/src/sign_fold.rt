@@ -1,3 +1,4 @@
+//! Zigzag: signed numbers as unsigned ones.
 ghost use Rattle.std.specs.Prelude.{◌≡◌, ℤ};
 ghost use Rattle.orc_bits.specs.Zigzag.{zig};
 

@@ -1,3 +1,4 @@
+//! Tests of numbers and their digits against tables, and the texts of faults.
 use crate::*;
 use std::alloc::Global;
 use std::process::Abort;

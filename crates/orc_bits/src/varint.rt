@@ -1,3 +1,4 @@
+//! Varints: numbers in groups of seven bits, the lowest group first, a byte each.
 ghost use Rattle.std.specs.Prelude.{◌≡◌, ℕ, ◌+◌, ◌<◌, ◌≤◌, ◌^◌, ◌++◌, ◌⊎◌, List, length, take, IfOk, IfErr, OnOk, OnErr, vec_capacity, vec_len};
 ghost use Rattle.orc_bits.specs.Varint.{IsVarint, IsShortest, AllBytes, HasVarint, NoVarint, varint_text};
 ghost use Rattle.orc_bits.specs.declared.fault.BitFault.{BitFault};
@@ -6,7 +7,7 @@ ghost use Rattle.orc_bits.specs.declared.fault.BitFault.TheVariants.{OutOfMemory
 use crate::fault::BitFault;
 
 /// A varint of 64 bits has at most this many bytes, of seven bits each.
-const MOST_BYTES: usize = 10;
+const MOST_VARINT_BYTES: usize = 10;
 
 /// The number of the varint at the front of `bytes`, and how many bytes it takes. Longer spellings
 /// than the shortest are varints too.
@@ -16,7 +17,8 @@ const MOST_BYTES: usize = 10;
 pub fn read_varint(bytes: &[u8]) -> Result<(u64, usize), BitFault>
     ensures found { IfOk result (λ found. IsVarint (take found.1 bytes.now) found.0) }
     ensures within { IfOk result (λ found. found.1 ≤ length bytes.now) }
-    ensures only { (front rest : List ℕ) (n : ℕ) → IsVarint front n → bytes.now ≡ front ++ rest → result ≡ Ok (n, length front) }
+    ensures only { (front rest : List ℕ) (n : ℕ)
+        → IsVarint front n → bytes.now ≡ front ++ rest → result ≡ Ok (n, length front) }
 
     ensures fault { IfErr result (NoVarint bytes.now) }
     ensures refused { (fault : BitFault) → NoVarint bytes.now fault → result ≡ Err fault }
@@ -26,7 +28,7 @@ pub fn read_varint(bytes: &[u8]) -> Result<(u64, usize), BitFault>
     for (i, byte) in bytes.iter().enumerate() {
         let byte = *byte;
         let used = i + 1;
-        if i == MOST_BYTES - 1 {
+        if i == MOST_VARINT_BYTES - 1 {
             if byte > 1 {
                 return Err(BitFault::TooLong);
             }
@@ -51,7 +53,7 @@ pub fn put_varint(n: u64, out: &mut Vec<u8>) -> Result<(), BitFault>
     ensures unchanged { OnErr result (out.new.items ≡ out.old.items) }
     ensures full { OnErr result (vec_capacity out.old < vec_len out.old + length (varint_text n)) }
 {
-    let mut text = [0u8; MOST_BYTES];
+    let mut text = [0u8; MOST_VARINT_BYTES];
     let mut len = 0;
     let mut rest = n;
     while rest >= 128 {

@@ -1,3 +1,4 @@
+//! The widths of packed numbers, and the codes by which headers name them.
 ghost use Rattle.std.specs.Prelude.{◌≡◌, ℕ, ◌<◌, ◌≤◌, MatchOption};
 ghost use Rattle.orc_bits.specs.Width.{width_at, IsLeastWidth};
 

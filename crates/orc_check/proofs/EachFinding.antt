@@ -1,14 +1,14 @@
 -- A finding is in the list exactly where what it says of the file is so.
-use Rattle.std.proofs.Common.{◌≡◌, ◌∙◌, ℕ, zero, suc, ◌+◌, ◌<◌, ◌⊎◌, inl, inr, List, [], ◌∷◌, ◌++◌, length, refl, sym, ap, subst, arith}
+use Rattle.std.proofs.Common.{◌≡◌, ℕ, zero, suc, ◌+◌, ◌<◌, ◌⊎◌, inl, inr, List, [], ◌∷◌, ◌++◌, length, refl, sym, subst, arith}
 use Rattle.std.specs.Prelude.{Contains}
 use Rattle.orc_wire.specs.declared.row_index.RowIndexEntry.{RowIndexEntry}
 use Rattle.orc_wire.specs.declared.row_index.RowIndexMsg.{RowIndexMsg}
 use Rattle.orc_wire.specs.declared.stripe_footer.StripeFooter.{StripeFooter}
 use Rattle.orc_types.specs.Cells.{Cell}
 use Rattle.orc_types.specs.Columns.{cells}
-use Rattle.orc_types.specs.Shapes.{Shape, width, shape_at}
+use Rattle.orc_types.specs.Shapes.{width, shape_at}
 use Rattle.orc_stats.specs.declared.stat.Stat.{Stat}
-use Rattle.orc_columns.specs.Stripe.{Streams, HasFooter, columns_of}
+use Rattle.orc_columns.specs.Stripe.{HasFooter, columns_of}
 use Rattle.orc_index.specs.Bounds.{before_group, group_of}
 use Rattle.orc_index.specs.Places.{AreReadPlaces}
 use Rattle.orc_written.specs.Groups.{starts, bounds_of}
@@ -16,12 +16,12 @@ use Rattle.orc_stripe.specs.Opened.{Opened}
 use Rattle.orc_stripe.specs.RowIndexes.{HasIndex, IsWhole}
 use Rattle.orc_stripe.proofs.OneStripe.{one_footer}
 use Rattle.orc_file.specs.Stripes.{stripe_at}
-use Rattle.orc_file.specs.FileRows.{cut_rows, FileIs}
+use Rattle.orc_file.specs.FileRows.{opened_stripe, cut_rows, FileIs}
 use Rattle.orc_file.specs.declared.tail.Tail.{Tail}
 use Rattle.orc_check.specs.declared.finding.Finding.{Finding}
 use Rattle.orc_check.specs.declared.finding.Finding.TheVariants.{StripeStatistic, IndexEntries, IndexStatistic, IndexPosition, FileStatistic}
-use Rattle.orc_check.specs.Findings.{Unless, Both, OfEach, OfGroup, OfIndex, OfColumn, OfStripe, OfStripes, OfFile, Findings, TellsStripe, TellsFile, TellsGroup, entry_at, stripe_told, opened, rows_at}
-use Rattle.orc_check.specs.Meanings.{text_of, IsColumnOf, HasEntries, HasGroupEntry, IsSo}
+use Rattle.orc_check.specs.Findings.{Unless, Both, OfEach, OfGroup, OfIndex, OfColumn, OfStripe, OfStripes, OfFile, Findings, TellsStripe, TellsFile, TellsGroup, entry_at, stripe_told, rows_at}
+use Rattle.orc_check.specs.Meanings.{text_of, IsColumnOf, HasGroupEntry, IsSo}
 use Rattle.orc_check.proofs.CheckLemmas.{below_or}
 use Rattle.orc_check.proofs.OneList.{one_index}
 use Rattle.orc_check.proofs.NoFinding.{stripe_is}
@@ -164,7 +164,7 @@ module _ (bytes : List ℕ) (tail : Tail) (rows : List Cell) (is : FileIs bytes 
 
   -- the stripe with this number as it is opened
   abbrev view_of : ℕ → StripeFooter → Opened
-  view_of n footer = opened tail n (text_of bytes tail n) footer
+  view_of n footer = opened_stripe tail n (text_of bytes tail n) footer
 
   record StripeSays (n : ℕ) (f : Finding) : Type 0 where
     footer : StripeFooter

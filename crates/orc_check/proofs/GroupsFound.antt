@@ -18,9 +18,9 @@ use Rattle.orc_stripe.specs.RowIndexes.{HasIndex, IsWhole, ArePositionsDecided}
 use Rattle.orc_stripe.specs.GroupCursors.{HasGroup, HasRightEntry, StartsGroup}
 use Rattle.orc_stripe.proofs.OneStripe.{one_footer, by_footer}
 use Rattle.orc_file.specs.Stripes.{stripe_at}
-use Rattle.orc_file.specs.FileRows.{stripe_bytes, cut_rows, FileIs}
+use Rattle.orc_file.specs.FileRows.{stripe_bytes, opened_stripe, cut_rows, FileIs}
 use Rattle.orc_file.specs.declared.tail.Tail.{Tail}
-use Rattle.orc_check.specs.Findings.{opened, rows_at}
+use Rattle.orc_check.specs.Findings.{rows_at}
 use Rattle.orc_check.specs.RightIndexes.{HasIndexes, StartsAtGroups}
 use Rattle.orc_check.proofs.GroupBounds.{bounds_long}
 use Rattle.orc_check.proofs.NoFinding.{stripe_is}
@@ -77,7 +77,7 @@ entry_found entry view rows c group counted has right =
 pub groups_found : StartsThere → EntryThere → (bytes : List ℕ) (tail : Tail) (rows : List Cell) → FileIs bytes tail rows → HasIndexes bytes tail rows → StartsAtGroups bytes tail rows
 groups_found there entry bytes tail rows is indexes n lt footer has group at =
     let text : List ℕ = stripe_bytes (stripe_at tail.stripes n) bytes in
-    let view : Opened = opened tail n text footer in
+    let view : Opened = opened_stripe tail n text footer in
     let part : List Cell = rows_at (cut_rows tail.stripes rows) n in
     let spelled = by_footer tail.schema (stripe_at tail.stripes n) text footer part has (stripe_is bytes tail rows is n lt) in
     let own = indexes at.indexed n lt in

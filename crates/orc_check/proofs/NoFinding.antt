@@ -22,14 +22,14 @@ use Rattle.orc_written.specs.Groups.{starts, bounds_of}
 use Rattle.orc_written.specs.WrittenStripe.{HaveStats, HasRightIndex, column_stat}
 use Rattle.orc_stripe.specs.Opened.{Opened}
 use Rattle.orc_file.specs.Stripes.{stripe_at}
-use Rattle.orc_file.specs.FileRows.{stripe_bytes, cut_rows, AreOfStripes, FileIs}
+use Rattle.orc_file.specs.FileRows.{stripe_bytes, opened_stripe, cut_rows, AreOfStripes, FileIs}
 use Rattle.orc_file.specs.Honest.{AreHonest, Honest, HasWholeStats, whole_of}
 use Rattle.orc_file.specs.declared.tail.Tail.{Tail}
 use Rattle.orc_file.proofs.RowLemmas.{rows_cut}
 use Rattle.orc_check.specs.declared.finding.Finding.{Finding}
 use Rattle.orc_check.specs.declared.finding.Finding.TheVariants.{StripeStatistic, IndexStatistic, IndexPosition, FileStatistic}
 use Rattle.orc_check.specs.Agreeing.{Tells}
-use Rattle.orc_check.specs.Findings.{Unless, Both, OfEach, OfGroup, OfIndex, OfColumn, OfStripe, OfStripes, OfFile, Findings, TellsStripe, TellsFile, TellsGroup, entry_at, stripe_told, opened, rows_at}
+use Rattle.orc_check.specs.Findings.{Unless, Both, OfEach, OfGroup, OfIndex, OfColumn, OfStripe, OfStripes, OfFile, Findings, TellsStripe, TellsFile, TellsGroup, entry_at, stripe_told, rows_at}
 use Rattle.orc_check.specs.RightIndexes.{HasIndexes}
 use Rattle.orc_check.proofs.CheckLemmas.{below_or}
 use Rattle.orc_check.proofs.GroupBounds.{bounds_long}
@@ -178,8 +178,8 @@ module _ (bytes : List ℕ) (tail : Tail) (rows : List Cell) (is : FileIs bytes 
 
   -- ---- from what is right to no finding
 
-  column_none : Honest tail rows → (n : ℕ) → n < length tail.stripes → (footer : StripeFooter) → (c : ℕ) → c < width tail.schema → OfIndex (opened tail n (text n) footer) n (rows_at parts n) c []
-      → OfColumn (opened tail n (text n) footer) (stripe_told tail n) n (rows_at parts n) c []
+  column_none : Honest tail rows → (n : ℕ) → n < length tail.stripes → (footer : StripeFooter) → (c : ℕ) → c < width tail.schema → OfIndex (opened_stripe tail n (text n) footer) n (rows_at parts n) c []
+      → OfColumn (opened_stripe tail n (text n) footer) (stripe_told tail n) n (rows_at parts n) c []
   column_none honest n lt footer c there index =
       let own = honest_at tail.schema parts tail.stripe_stats honest n (omega (arith, lt, cut_many tail.stripes rows)) in
       ([], [], inl (tells_of (slice_get (stripe_told tail n) c) (column_stat tail.schema (rows_at parts n) c) (own.each c there), refl), index, refl)
@@ -187,12 +187,12 @@ module _ (bytes : List ℕ) (tail : Tail) (rows : List Cell) (is : FileIs bytes 
   stripe_none : Honest tail rows → HasIndexes bytes tail rows → (n : ℕ) → n < length tail.stripes → OfStripe tail n (text n) (rows_at parts n) []
   stripe_none honest indexes n lt = elim (zero_or_more tail.stride) [
     | inl z ↦ (let h = stripe_is n lt in
-        (h.footer, h.has_footer, none_each (OfColumn (opened tail n (text n) h.footer) (stripe_told tail n) n (rows_at parts n)) (width tail.schema) (λ c there. column_none honest n lt h.footer c there (inl (z, refl)))))
+        (h.footer, h.has_footer, none_each (OfColumn (opened_stripe tail n (text n) h.footer) (stripe_told tail n) n (rows_at parts n)) (width tail.schema) (λ c there. column_none honest n lt h.footer c there (inl (z, refl)))))
     | inr some ↦ (let h = indexes some n lt in (
       h.footer,
       h.has_footer,
-      none_each (OfColumn (opened tail n (text n) h.footer) (stripe_told tail n) n (rows_at parts n)) (width tail.schema)
-          (λ c there. column_none honest n lt h.footer c there (right_index (opened tail n (text n) h.footer) n (rows_at parts n) c some (h.right c there))),
+      none_each (OfColumn (opened_stripe tail n (text n) h.footer) (stripe_told tail n) n (rows_at parts n)) (width tail.schema)
+          (λ c there. column_none honest n lt h.footer c there (right_index (opened_stripe tail n (text n) h.footer) n (rows_at parts n) c some (h.right c there))),
     ))
   ]
 
@@ -211,23 +211,23 @@ module _ (bytes : List ℕ) (tail : Tail) (rows : List Cell) (is : FileIs bytes 
   stripes_none f n lt = each_at (λ k. OfStripe tail k (text k) (rows_at parts k)) (length tail.stripes) (first_none (OfStripes bytes tail parts) (OfFile tail parts) f) n lt
 
   column_at : Findings bytes tail rows [] → (n : ℕ) → n < length tail.stripes → (c : ℕ) → c < width tail.schema
-      → (footer : StripeFooter) × HasFooter tail.schema (stripe_at tail.stripes n) (text n) footer × OfColumn (opened tail n (text n) footer) (stripe_told tail n) n (rows_at parts n) c []
-  column_at f n lt c there = let h = stripes_none f n lt in (h.0, h.1, each_at (OfColumn (opened tail n (text n) h.0) (stripe_told tail n) n (rows_at parts n)) (width tail.schema) h.2 c there)
+      → (footer : StripeFooter) × HasFooter tail.schema (stripe_at tail.stripes n) (text n) footer × OfColumn (opened_stripe tail n (text n) footer) (stripe_told tail n) n (rows_at parts n) c []
+  column_at f n lt c there = let h = stripes_none f n lt in (h.0, h.1, each_at (OfColumn (opened_stripe tail n (text n) h.0) (stripe_told tail n) n (rows_at parts n)) (width tail.schema) h.2 c there)
 
   told_at : Findings bytes tail rows [] → (n : ℕ) → n < length tail.stripes → (c : ℕ) → c < width tail.schema → slice_get (stripe_told tail n) c ≡ Some (column_stat tail.schema (rows_at parts n) c)
   told_at f n lt c there =
       let h = column_at f n lt c there in
       told_is (slice_get (stripe_told tail n) c) (column_stat tail.schema (rows_at parts n) c) (holds_of (TellsStripe tail.schema (stripe_told tail n) (rows_at parts n) c) (StripeStatistic n c)
-      (first_none (Unless (TellsStripe tail.schema (stripe_told tail n) (rows_at parts n) c) (StripeStatistic n c)) (OfIndex (opened tail n (text n) h.0) n (rows_at parts n) c) h.2))
+      (first_none (Unless (TellsStripe tail.schema (stripe_told tail n) (rows_at parts n) c) (StripeStatistic n c)) (OfIndex (opened_stripe tail n (text n) h.0) n (rows_at parts n) c) h.2))
 
   pub index_found : Findings bytes tail rows [] → HasIndexes bytes tail rows
   index_found f = λ some n lt. let h = stripes_none f n lt in record {
     footer = h.0;
     has_footer = h.1;
     right = λ c there.
-        let column = each_at (OfColumn (opened tail n (text n) h.0) (stripe_told tail n) n (rows_at parts n)) (width tail.schema) h.2 c there in
-        index_right (opened tail n (text n) h.0) n (rows_at parts n) c some
-        (second_none (Unless (TellsStripe tail.schema (stripe_told tail n) (rows_at parts n) c) (StripeStatistic n c)) (OfIndex (opened tail n (text n) h.0) n (rows_at parts n) c) column);
+        let column = each_at (OfColumn (opened_stripe tail n (text n) h.0) (stripe_told tail n) n (rows_at parts n)) (width tail.schema) h.2 c there in
+        index_right (opened_stripe tail n (text n) h.0) n (rows_at parts n) c some
+        (second_none (Unless (TellsStripe tail.schema (stripe_told tail n) (rows_at parts n) c) (StripeStatistic n c)) (OfIndex (opened_stripe tail n (text n) h.0) n (rows_at parts n) c) column);
   }
 
   whole_at : Findings bytes tail rows [] → (c : ℕ) → c < width tail.schema → slice_get tail.file_stats c ≡ Some (whole_of tail.schema parts c)

@@ -17,11 +17,11 @@ use Rattle.orc_stripe.specs.Opened.{Opened}
 use Rattle.orc_stripe.specs.RowIndexes.{HasIndex, index_text}
 use Rattle.orc_stripe.proofs.OneStripe.{one_footer}
 use Rattle.orc_file.specs.Stripes.{stripe_at}
-use Rattle.orc_file.specs.FileRows.{stripe_bytes, cut_rows}
+use Rattle.orc_file.specs.FileRows.{stripe_bytes, opened_stripe, cut_rows}
 use Rattle.orc_file.specs.declared.tail.Tail.{Tail}
 use Rattle.orc_check.specs.declared.finding.Finding.{Finding}
 use Rattle.orc_check.specs.declared.finding.Finding.TheVariants.{StripeStatistic, IndexStatistic, IndexPosition, FileStatistic}
-use Rattle.orc_check.specs.Findings.{Unless, Both, OfEach, OfGroup, OfGroups, OfIndex, OfColumn, OfStripe, OfStripes, OfFile, Findings, TellsStripe, TellsFile, TellsGroup, entry_at, stripe_told, opened, rows_at}
+use Rattle.orc_check.specs.Findings.{Unless, Both, OfEach, OfGroup, OfGroups, OfIndex, OfColumn, OfStripe, OfStripes, OfFile, Findings, TellsStripe, TellsFile, TellsGroup, entry_at, stripe_told, rows_at}
 
 unless_one : (P : Type 0) (f : Finding) (a b : List Finding) → Unless P f a → Unless P f b → a ≡ b
 unless_one P f a b (inl p) (inl q) = p.1 ∙ sym q.1
@@ -65,8 +65,8 @@ stripe_one : (tail : Tail) (n : ℕ) (bytes : List ℕ) (rows : List Cell) (a b 
 stripe_one tail n bytes rows a b x y =
     let told = stripe_told tail n in
     let same = one_footer tail.schema (stripe_at tail.stripes n) bytes y.0 x.0 y.1 x.1 in
-    each_one (OfColumn (opened tail n bytes x.0) told n rows) (column_one (opened tail n bytes x.0) told n rows) (width tail.schema) a b x.2
-    (subst (λ (f : StripeFooter). OfEach (OfColumn (opened tail n bytes f) told n rows) (width tail.schema) b) same y.2)
+    each_one (OfColumn (opened_stripe tail n bytes x.0) told n rows) (column_one (opened_stripe tail n bytes x.0) told n rows) (width tail.schema) a b x.2
+    (subst (λ (f : StripeFooter). OfEach (OfColumn (opened_stripe tail n bytes f) told n rows) (width tail.schema) b) same y.2)
 
 pub one_findings : (bytes : List ℕ) (tail : Tail) (rows : List Cell) (a b : List Finding) → Findings bytes tail rows a → Findings bytes tail rows b → a ≡ b
 one_findings bytes tail rows =

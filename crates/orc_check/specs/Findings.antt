@@ -1,5 +1,6 @@
--- What a file says of itself, and is not so (own): statistics of stripes, of groups of rows and of the whole file that aren't those of the rows
--- (ORC specification, "Column Statistics"), and a row index that doesn't say where groups of rows begin ("Row Group Index").
+-- What a file says of itself, and is not so (own): statistics of stripes, of groups of rows and of the whole
+-- file that aren't those of the rows (ORC specification, "Column Statistics"), and a row index that doesn't say
+-- where groups of rows begin ("Row Group Index").
 use Rattle.std.specs.Prelude.{◌≡◌, ℕ, zero, suc, ◌<◌, Bool, true, false, None, List, [], ◌∷◌, ◌++◌, length, ◌⊎◌, slice_get, get_or}
 use Rattle.std.specs.Option.{option_map}
 use Rattle.orc_wire.specs.declared.row_index.RowIndexEntry.{RowIndexEntry}
@@ -20,7 +21,7 @@ use Rattle.orc_written.specs.WrittenStripe.{column_stat}
 use Rattle.orc_stripe.specs.Opened.{Opened}
 use Rattle.orc_stripe.specs.RowIndexes.{HasIndex, IsWhole}
 use Rattle.orc_file.specs.Stripes.{stripe_at}
-use Rattle.orc_file.specs.FileRows.{stripe_bytes, cut_rows}
+use Rattle.orc_file.specs.FileRows.{stripe_bytes, opened_stripe, cut_rows}
 use Rattle.orc_file.specs.Honest.{whole_of}
 use Rattle.orc_file.specs.declared.tail.Tail.{Tail}
 use Rattle.orc_check.specs.Agreeing.{Tells}
@@ -61,7 +62,8 @@ entry_at entries group = get_or entries group (record { positions = []; statisti
 abbrev pub TellsGroup : Shape → List Cell → RowIndexEntry → Type 0
 TellsGroup s group entry = Tells (option_map (stat_read (kind_of s)) entry.statistics) (stat (kind_of s) group)
 
--- What is found of a group of column c of stripe n, whose shape is s and whose streams are x: its statistic, then its positions.
+-- What is found of a group of column c of stripe n, whose shape is s and whose streams are x: its statistic,
+-- then its positions.
 abbrev pub OfGroup : Shape → Streams → List Cell → List ℕ → ℕ → ℕ → List RowIndexEntry → ℕ → List Finding → Type 0
 OfGroup s x cells bounds n c entries g =
     Both (Unless (TellsGroup s (group_of cells bounds g) (entry_at entries g)) (IndexStatistic n c g))
@@ -70,14 +72,20 @@ OfGroup s x cells bounds n c entries g =
 -- what is found of the column's groups, of which each has an entry
 abbrev pub OfGroups : Opened → ℕ → List Cell → ℕ → List RowIndexEntry → List Finding → Type 0
 OfGroups view n rows c entries =
-    OfEach (OfGroup (shape_at view.schema c) (columns_of view.footer view.bytes c) (cells view.schema c rows) (bounds_of view.schema c rows (starts view.stride (length rows))) n c entries)
+    OfEach (OfGroup (shape_at view.schema c) (columns_of view.footer view.bytes c) (cells view.schema c rows)
+    (bounds_of view.schema c rows (starts view.stride (length rows))) n c entries)
     (length entries)
 
--- The one finding of entries where no index of the column has one for each group of the rows; else what is found of each group.
+-- The one finding of entries where no index of the column has one for each group of the rows; else what is
+-- found of each group.
 abbrev pub OfEntries : Opened → ℕ → List Cell → ℕ → List Finding → Type 0
 OfEntries view n rows c found =
-    (((message : RowIndexMsg) → HasIndex view.footer view.bytes c message → IsWhole view (length rows) message → ⊥) × (found ≡ IndexEntries n c ∷ []))
-    ⊎ ((message : RowIndexMsg) × HasIndex view.footer view.bytes c message × IsWhole view (length rows) message × OfGroups view n rows c message.entries found)
+    (((message : RowIndexMsg) → HasIndex view.footer view.bytes c message → IsWhole view (length rows) message → ⊥)
+    × (found ≡ IndexEntries n c ∷ []))
+    ⊎ ((message : RowIndexMsg)
+    × HasIndex view.footer view.bytes c message
+    × IsWhole view (length rows) message
+    × OfGroups view n rows c message.entries found)
 
 -- Where the stride is 0, nothing is found of indexes, whatever the directory lists.
 abbrev pub OfIndex : Opened → ℕ → List Cell → ℕ → List Finding → Type 0
@@ -91,20 +99,18 @@ TellsStripe schema told rows c = Tells (slice_get told c) (column_stat schema ro
 
 -- of a column: its statistic, and then its index
 abbrev pub OfColumn : Opened → List Stat → ℕ → List Cell → ℕ → List Finding → Type 0
-OfColumn view told n rows c = Both (Unless (TellsStripe view.schema told rows c) (StripeStatistic n c)) (OfIndex view n rows c)
+OfColumn view told n rows c =
+    Both (Unless (TellsStripe view.schema told rows c) (StripeStatistic n c)) (OfIndex view n rows c)
 
 -- what the tail tells of a stripe, by its columns
 abbrev pub stripe_told : Tail → ℕ → List Stat
 stripe_told tail n = get_or tail.stripe_stats n []
 
--- the stripe with this number, with these bytes and this footer
-abbrev pub opened : Tail → ℕ → List ℕ → StripeFooter → Opened
-opened tail n bytes footer = record { schema = tail.schema; info = stripe_at tail.stripes n; stride = tail.stride; bytes = bytes; footer = footer }
-
 -- What is found of the stripe with this number in these bytes, column by column, if these rows are its own.
 abbrev pub OfStripe : Tail → ℕ → List ℕ → List Cell → List Finding → Type 0
 OfStripe tail n bytes rows found =
-    (footer : StripeFooter) × HasFooter tail.schema (stripe_at tail.stripes n) bytes footer × OfEach (OfColumn (opened tail n bytes footer) (stripe_told tail n) n rows) (width tail.schema) found
+    (footer : StripeFooter) × HasFooter tail.schema (stripe_at tail.stripes n) bytes footer
+    × OfEach (OfColumn (opened_stripe tail n bytes footer) (stripe_told tail n) n rows) (width tail.schema) found
 
 -- the rows of the stripe with a number
 abbrev pub rows_at : List (List Cell) → ℕ → List Cell
@@ -112,7 +118,9 @@ rows_at parts n = get_or parts n []
 
 -- what is found of all stripes in their order
 abbrev pub OfStripes : List ℕ → Tail → List (List Cell) → List Finding → Type 0
-OfStripes bytes tail parts = OfEach (λ n. OfStripe tail n (stripe_bytes (stripe_at tail.stripes n) bytes) (rows_at parts n)) (length tail.stripes)
+OfStripes bytes tail parts =
+    OfEach (λ n. OfStripe tail n (stripe_bytes (stripe_at tail.stripes n) bytes) (rows_at parts n))
+    (length tail.stripes)
 
 -- ---- the file
 
@@ -124,7 +132,9 @@ TellsFile tail parts c = Tells (slice_get tail.file_stats c) (whole_of tail.sche
 abbrev pub OfFile : Tail → List (List Cell) → List Finding → Type 0
 OfFile tail parts = OfEach (λ c. Unless (TellsFile tail parts c) (FileStatistic c)) (width tail.schema)
 
--- What is found of a file with this tail, if these rows are its own (`FileIs` says so): stripe by stripe, in each column by column, for each
--- column its statistic, then its index, group by group; last the file's statistics by column.
+-- What is found of a file with this tail, if these rows are its own (`FileIs` says so): stripe by stripe, in
+-- each column by column, for each column its statistic, then its index, group by group; last the file's
+-- statistics by column.
 abbrev pub Findings : List ℕ → Tail → List Cell → List Finding → Type 0
-Findings bytes tail rows = Both (OfStripes bytes tail (cut_rows tail.stripes rows)) (OfFile tail (cut_rows tail.stripes rows))
+Findings bytes tail rows =
+    Both (OfStripes bytes tail (cut_rows tail.stripes rows)) (OfFile tail (cut_rows tail.stripes rows))

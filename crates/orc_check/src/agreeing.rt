@@ -70,7 +70,9 @@ pub(crate) fn agrees(told: &Stat, right: &Stat) -> bool
 
 /// Whether the statistic of a column is told, and agrees with the right one.
 pub(crate) fn tells(told: &[Stat], column: usize, right: &Stat) -> bool
-    ensures { MatchBool result (Tells (slice_get told.now column) right.now) (Tells (slice_get told.now column) right.now → ⊥) }
+    ensures { MatchBool result
+        (Tells (slice_get told.now column) right.now)
+        (Tells (slice_get told.now column) right.now → ⊥) }
 {
     match told.get(column) {
         Some(told) => agrees(told, right),

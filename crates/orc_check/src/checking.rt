@@ -45,10 +45,12 @@ fn check_tail<S: Source>(
     ensures size { S.size source.new ≡ S.size source.old }
     ensures told { S.told source.new ≡ S.told source.old }
 
-    ensures fault { IfErr result (λ fault. ReadFault (S.told source.old) fault (λ bytes. FirstRefused tail.now.schema bytes 0 tail.now.stripes fault)) }
+    ensures fault { IfErr result (λ fault. ReadFault (S.told source.old) fault
+        (λ bytes. FirstRefused tail.now.schema bytes 0 tail.now.stripes fault)) }
     ensures kept { OnOk result (S.failures source.new ≡ S.failures source.old) }
     ensures failed { IsErrOf result SourceFailed → S.failures source.old < S.failures source.new }
-    ensures unfailed { IfErr result (λ fault. (fault ≡ SourceFailed) ⊎ (S.failures source.new ≡ S.failures source.old)) }
+    ensures unfailed { IfErr result (λ fault. (fault ≡ SourceFailed)
+        ⊎ (S.failures source.new ≡ S.failures source.old)) }
     ensures memory { IsErrOf result OutOfMemory → S.failures source.new ≡ S.failures source.old }
 {
     let mut found = Vec::new(alloc);
@@ -63,23 +65,28 @@ fn check_tail<S: Source>(
     Ok(found)
 }
 
-/// What a file says of itself and is not so: stripe by stripe, in each column by column, for each column its statistic
-/// and then its row index, group by group; last the statistics of the whole file by column. Of the stripes' bytes those of one
-/// are held at a time.
+/// What a file says of itself and is not so: stripe by stripe, in each column by column, for each column its
+/// statistic and then its row index, group by group; last the statistics of the whole file by column. Of the
+/// stripes' bytes those of one are held at a time.
 ///
-/// Refusals: those of `OrcFile::open`, and `Stripe` with the number of the first stripe that has no rows, and why;
-/// `SourceFailed`, and no other, where the source failed; `OutOfMemory`. But for the last two the bytes are no file of any rows.
+/// Refusals: those of `OrcFile::open`, and `Stripe` with the number of the first stripe that has no rows, and
+/// why; `SourceFailed`, and no other, where the source failed; `OutOfMemory`. But for the last two the bytes
+/// are no file of any rows.
 pub fn check<S: Source>(alloc: Global, source: &mut S) -> Result<Vec<Finding>, FileFault>
-    ensures found { IfOk result (λ found. IfSome (S.told source.old) (λ bytes. (tail : Tail) × (rows : List Cell) × FileIs bytes tail rows
+    ensures found { IfOk result (λ found. IfSome (S.told source.old)
+        (λ bytes. (tail : Tail) × (rows : List Cell) × FileIs bytes tail rows
         × Findings bytes tail rows found.items)) }
     ensures only { IfSome (S.told source.old) (λ bytes. (tail : Tail) (rows : List Cell) → FileIs bytes tail rows
-        → MatchResult result (λ answered. Findings bytes tail rows answered.items) (λ fault. (fault ≡ OutOfMemory) ⊎ (fault ≡ SourceFailed))) }
+        → MatchResult result
+        (λ answered. Findings bytes tail rows answered.items)
+        (λ fault. (fault ≡ OutOfMemory) ⊎ (fault ≡ SourceFailed))) }
     ensures size { S.size source.new ≡ S.size source.old }
     ensures told { S.told source.new ≡ S.told source.old }
     ensures fault { IfErr result (λ fault. ReadFault (S.told source.old) fault (λ bytes. CheckFault bytes fault)) }
     ensures kept { OnOk result (S.failures source.new ≡ S.failures source.old) }
     ensures failed { IsErrOf result SourceFailed → S.failures source.old < S.failures source.new }
-    ensures unfailed { IfErr result (λ fault. (fault ≡ SourceFailed) ⊎ (S.failures source.new ≡ S.failures source.old)) }
+    ensures unfailed { IfErr result (λ fault. (fault ≡ SourceFailed)
+        ⊎ (S.failures source.new ≡ S.failures source.old)) }
     ensures memory { IsErrOf result OutOfMemory → S.failures source.new ≡ S.failures source.old }
 {
     let tail = read_tail(alloc, source)?;

@@ -48,7 +48,8 @@ fn check_column(
     requires there { column < width view.now.schema }
     requires same { (view.now.schema ≡ tail.now.schema) × (view.now.stride ≡ tail.now.stride) }
     requires stripe { IsStripe view.now.schema view.now.info view.now.bytes (views rows.now) }
-    ensures found { OnOk result (Adds (OfColumn view.now told.now number (views rows.now) column) found.old.items found.new.items) }
+    ensures found { OnOk result
+        (Adds (OfColumn view.now told.now number (views rows.now) column) found.old.items found.new.items) }
     ensures stat { IfOk result (λ stat. stat ≡ written.column_stat view.now.schema (views rows.now) column) }
 {
     let firsts = firsts_of(alloc, tail.stride, rows.len())?;
@@ -78,7 +79,9 @@ pub(crate) fn check_columns(
 ) -> Result<Items<Stat>, AllocError>
     requires same { (view.now.schema ≡ tail.now.schema) × (view.now.stride ≡ tail.now.stride) }
     requires stripe { IsStripe view.now.schema view.now.info view.now.bytes (views rows.now) }
-    ensures found { OnOk result (Adds (OfEach (OfColumn view.now told.now number (views rows.now)) (width view.now.schema)) found.old.items found.new.items) }
+    ensures found { OnOk result (Adds
+        (OfEach (OfColumn view.now told.now number (views rows.now)) (width view.now.schema))
+        found.old.items found.new.items) }
     ensures stats { IfOk result (λ stats. HaveStats view.now.schema (views rows.now) (width view.now.schema) stats) }
 {
     let mut stats = Vec::new(alloc);

@@ -1,11 +1,12 @@
 //! The entry of a group of rows in a column's row index.
-ghost use Rattle.std.specs.Prelude.{◌<◌, ◌^◌, Some, true, length, ◌≡◌, IfOk, MatchBool};
+ghost use Rattle.std.specs.Prelude.{◌<◌, Some, true, length, ◌≡◌, IfOk, MatchBool};
 ghost use Rattle.orc_types.specs.Fits.{RowsFit};
 ghost use Rattle.orc_types.specs.Lent.{lent_cells};
 ghost use Rattle.orc_types.specs.Views.{shape};
 ghost use Rattle.orc_stats.specs.Messages.{in_limits, stat_read};
 ghost use Rattle.orc_stats.specs.Kinds.{kind_of};
 ghost use Rattle.orc_stats.specs.Statistics.{stat};
+ghost use Rattle.orc_columns.specs.Stripe.{cell_limit};
 ghost use Rattle.orc_check.specs.Agreeing.{Tells};
 ghost use Rattle.orc_check.specs.Findings.{TellsGroup};
 
@@ -22,7 +23,7 @@ pub(crate) fn cells_stat(
     cells: &[Lent<'_, '_>],
 ) -> Result<Stat, AllocError>
     requires fit { RowsFit (shape tree.now) (lent_cells cells.now) }
-    requires few { length (lent_cells cells.now) < 2 ^ 31 }
+    requires few { length (lent_cells cells.now) < cell_limit }
     ensures { IfOk result (λ found. found ≡ stat (kind_of (shape tree.now)) (lent_cells cells.now)) }
 {
     match of_cells(alloc, StatKind::of_type(tree), cells) {
@@ -39,7 +40,9 @@ fn message_tells(
     right: &Stat,
 ) -> Result<bool, AllocError>
     requires { in_limits right.now ≡ true }
-    ensures { IfOk result (λ tells. MatchBool tells (Tells (Some (stat_read kind message.now)) right.now) (Tells (Some (stat_read kind message.now)) right.now → ⊥)) }
+    ensures { IfOk result (λ tells. MatchBool tells
+        (Tells (Some (stat_read kind message.now)) right.now)
+        (Tells (Some (stat_read kind message.now)) right.now → ⊥)) }
 {
     match Stat::read(alloc, kind, message) {
         Ok(told) => Ok(agrees(&told, right)),
@@ -56,8 +59,10 @@ pub(crate) fn entry_tells(
     cells: &[Lent<'_, '_>],
 ) -> Result<bool, AllocError>
     requires fit { RowsFit (shape tree.now) (lent_cells cells.now) }
-    requires few { length (lent_cells cells.now) < 2 ^ 31 }
-    ensures { IfOk result (λ tells. MatchBool tells (TellsGroup (shape tree.now) (lent_cells cells.now) entry.now) (TellsGroup (shape tree.now) (lent_cells cells.now) entry.now → ⊥)) }
+    requires few { length (lent_cells cells.now) < cell_limit }
+    ensures { IfOk result (λ tells. MatchBool tells
+        (TellsGroup (shape tree.now) (lent_cells cells.now) entry.now)
+        (TellsGroup (shape tree.now) (lent_cells cells.now) entry.now → ⊥)) }
 {
     let Some(message) = &entry.statistics else {
         return Ok(false);

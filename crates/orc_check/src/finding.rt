@@ -1,20 +1,22 @@
 //! What is found wrong in a file.
 use std::fmt;
 
-/// What a file says of itself, and is not so. Stripes, columns and groups are counted from 0. A statistic that is there has to tell all that
-/// is known of the rows: a part that it lacks, or that it doesn't say whether there are nulls, is a finding too.
+/// What a file says of itself, and is not so. Stripes, columns and groups are counted from 0. A statistic that
+/// is there has to tell all that is known of the rows: a part that it lacks, or that it doesn't say whether
+/// there are nulls, is a finding too.
 #[derive(Clone, Copy, Debug, PartialEq, Eq)]
 pub enum Finding {
     /// In this stripe this column's statistic is missing, or isn't that of the rows.
     StripeStatistic(usize, usize),
-    /// In a file with a stride, in this stripe, this column's row index is missing, doesn't read, or hasn't one entry for each group.
+    /// In a file with a stride, in this stripe, this column's row index is missing, doesn't read, or hasn't one
+    /// entry for each group.
     IndexEntries(usize, usize),
     /// In this stripe, for this column, this group's statistic is missing, or isn't that of the group's rows.
     IndexStatistic(usize, usize, usize),
     /// In this stripe, for this column, this group's positions aren't where its rows begin.
     IndexPosition(usize, usize, usize),
-    /// This column's statistic of the whole file is missing, or isn't that of all rows, whose sum isn't known where that of some stripe
-    /// doesn't fit 64 bits.
+    /// This column's statistic of the whole file is missing, or isn't that of all rows, whose sum isn't known where
+    /// that of some stripe doesn't fit 64 bits.
     FileStatistic(usize),
 }
 

@@ -14,23 +14,32 @@ ghost use Rattle.orc_check.specs.RightIndexes.{HasIndexes, StartsAtGroups};
 
 use orc_stripe::group_laws;
 
-/// Of a file one list of findings stands at most. A finding is in it exactly where what it says of the file is so. It is empty exactly where the statistics of each stripe and of the whole
-/// file are those of the rows and, in a file with a stride, each column of each stripe has a right row index. Nothing is
-/// found of a file as it is written.
+/// Of a file one list of findings stands at most. A finding is in it exactly where what it says of the file is
+/// so. It is empty exactly where the statistics of each stripe and of the whole file are those of the rows and,
+/// in a file with a stride, each column of each stripe has a right row index. Nothing is found of a file as it
+/// is written.
 pub fn finding_laws()
-    ensures one { (bytes : List ℕ) (tail : Tail) (rows : List Cell) (a b : List Finding) → Findings bytes tail rows a → Findings bytes tail rows b → a ≡ b }
-    ensures each { (bytes : List ℕ) (tail : Tail) (rows : List Cell) (found : List Finding) (finding : Finding) → FileIs bytes tail rows → Findings bytes tail rows found
+    ensures one { (bytes : List ℕ) (tail : Tail) (rows : List Cell) (a b : List Finding)
+        → Findings bytes tail rows a → Findings bytes tail rows b
+        → a ≡ b }
+    ensures each { (bytes : List ℕ) (tail : Tail) (rows : List Cell) (found : List Finding) (finding : Finding)
+        → FileIs bytes tail rows → Findings bytes tail rows found
         → Contains found finding ↔ IsSo bytes tail (cut_rows tail.stripes rows) finding }
     ensures none { (bytes : List ℕ) (tail : Tail) (rows : List Cell) → FileIs bytes tail rows
         → Findings bytes tail rows [] ↔ (Honest tail rows × HasWholeStats tail rows × HasIndexes bytes tail rows) }
-    ensures written { (options : Options) (s : Shape) (tail : Tail) (bytes : List ℕ) (rows : List Cell) → IsWrittenFile options s tail bytes rows
+    ensures written { (options : Options) (s : Shape) (tail : Tail) (bytes : List ℕ) (rows : List Cell)
+        → IsWrittenFile options s tail bytes rows
         → FileIs bytes tail rows → Findings bytes tail rows [] }
 {}
 
-/// Where nothing is found of a file, each of its stripes starts at each of its groups (`StartsGroup`), which is all that `cursor_at`
-/// asks to stand for the stripe's rows from the group's first one on and to be refused for memory alone.
+/// Where nothing is found of a file, each of its stripes starts at each of its groups (`StartsGroup`), which is
+/// all that `cursor_at` asks to stand for the stripe's rows from the group's first one on and to be refused for
+/// memory alone.
 pub fn start_laws()
-    ensures { (bytes : List ℕ) (tail : Tail) (rows : List Cell) → FileIs bytes tail rows → Findings bytes tail rows [] → StartsAtGroups bytes tail rows }
+    ensures { (bytes : List ℕ) (tail : Tail) (rows : List Cell)
+        → FileIs bytes tail rows → Findings bytes tail rows []
+        → StartsAtGroups bytes tail rows }
 {
+    // for its contract alone: a stripe starts at a group whose positions are right, as a look at them decides
     group_laws();
 }

@@ -1,12 +1,12 @@
 //! The row index of a column: an entry for each group of rows.
-ghost use Rattle.std.specs.Prelude.{◌≡◌, ◌≢◌, ◌+◌, ◌<◌, ◌^◌, length, OnOk};
+ghost use Rattle.std.specs.Prelude.{◌≡◌, ◌≢◌, ◌+◌, ◌<◌, length, OnOk};
 ghost use Rattle.std.specs.Bool.{MatchBool};
 ghost use Rattle.orc_types.specs.Columns as spec;
 ghost use Rattle.orc_types.specs.Fits.{RowsFit};
 ghost use Rattle.orc_types.specs.Lent.{lent_cells};
 ghost use Rattle.orc_types.specs.Shapes.{width, shape_at};
 ghost use Rattle.orc_types.specs.Views.{shape, views};
-ghost use Rattle.orc_columns.specs.Stripe.{Streams, IsStripe};
+ghost use Rattle.orc_columns.specs.Stripe.{Streams, IsStripe, cell_limit};
 ghost use Rattle.orc_columns.specs.declared.fault.StripeFault.TheVariants.{OutOfMemory};
 ghost use Rattle.orc_index.specs.Bounds.{AreBounds, bound_at, group_of};
 ghost use Rattle.orc_positions.specs.Decided.{AreDecided};
@@ -59,12 +59,14 @@ fn check_groups(
     found: &mut Vec<Finding>,
 ) -> Result<(), AllocError>
     requires fit { RowsFit (shape tree.now) (lent_cells cells.now) }
-    requires few { length (lent_cells cells.now) < 2 ^ 31 }
+    requires few { length (lent_cells cells.now) < cell_limit }
     requires bounds { AreBounds (length (lent_cells cells.now)) bounds.now }
     requires many { length entries.now ≡ length bounds.now }
     requires right { length right.now ≡ length entries.now }
-    ensures { OnOk result ((x : Streams) → AreDecided (shape tree.now) x (lent_cells cells.now) bounds.now entries.now right.now
-        → Adds (OfEach (OfGroup (shape tree.now) x (lent_cells cells.now) bounds.now number column entries.now) (length entries.now))
+    ensures { OnOk result ((x : Streams)
+        → AreDecided (shape tree.now) x (lent_cells cells.now) bounds.now entries.now right.now
+        → Adds (OfEach (OfGroup (shape tree.now) x (lent_cells cells.now) bounds.now number column entries.now)
+        (length entries.now))
         found.old.items found.new.items) }
 {
     for group in 0..entries.len() {
@@ -111,7 +113,8 @@ pub(crate) fn check_index(
     requires stripe { IsStripe view.now.schema view.now.info view.now.bytes (views rows.now) }
     requires cells { lent_cells groups.now.cells.items ≡ spec.cells view.now.schema column (views rows.now) }
     requires ascending { AreBounds (length (lent_cells groups.now.cells.items)) groups.now.bounds.items }
-    requires bounds { groups.now.bounds.items ≡ bounds_of view.now.schema column (views rows.now) (starts view.now.stride (length (views rows.now))) }
+    requires bounds { groups.now.bounds.items
+        ≡ bounds_of view.now.schema column (views rows.now) (starts view.now.stride (length (views rows.now))) }
     ensures { OnOk result (Adds (OfIndex view.now number (views rows.now) column) found.old.items found.new.items) }
 {
     let finding = Finding::IndexEntries(number, column);

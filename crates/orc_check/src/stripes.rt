@@ -39,15 +39,18 @@ pub(crate) fn check_stripe<S: Source>(
     requires there { number < length tail.now.stripes }
     requires within { AllBefore (S.size source.old) tail.now.stripes }
     requires most { stripes_length tail.now.stripes ≤ most_bytes }
-    ensures found { IfOk result (λ stats. IsChecked tail.now number bytes.new.items found.old.items found.new.items stats) }
-    ensures bytes { OnOk result (IfSome (S.told source.old) (λ all. bytes.new.items ≡ rows.stripe_bytes (stripe_at tail.now.stripes number) all)) }
+    ensures found { IfOk result
+        (λ stats. IsChecked tail.now number bytes.new.items found.old.items found.new.items stats) }
+    ensures bytes { OnOk result (IfSome (S.told source.old)
+        (λ all. bytes.new.items ≡ rows.stripe_bytes (stripe_at tail.now.stripes number) all)) }
     ensures told { S.told source.new ≡ S.told source.old }
     ensures size { S.size source.new ≡ S.size source.old }
     ensures fault { IfErr result (λ fault. ReadFault (S.told source.old) fault
         (λ all. StripeRefused tail.now.schema all number (stripe_at tail.now.stripes number) fault)) }
     ensures kept { OnOk result (S.failures source.new ≡ S.failures source.old) }
     ensures failed { IsErrOf result SourceFailed → S.failures source.old < S.failures source.new }
-    ensures unfailed { IfErr result (λ fault. (fault ≡ SourceFailed) ⊎ (S.failures source.new ≡ S.failures source.old)) }
+    ensures unfailed { IfErr result (λ fault. (fault ≡ SourceFailed)
+        ⊎ (S.failures source.new ≡ S.failures source.old)) }
     ensures memory { IsErrOf result OutOfMemory → S.failures source.new ≡ S.failures source.old }
 {
     load_stripe(source, tail, number, bytes)?;

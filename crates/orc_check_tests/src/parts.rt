@@ -5,8 +5,9 @@ use orc_file::FileFault;
 use std::alloc::Global;
 use std::process::Abort;
 
-/// A finding, and the places of a byte of each part of the statistic that it is about: the count, the least and the greatest
-/// value, the sum or the number of true ones, and whether there are nulls, as far as the kind has them.
+/// A finding, and the places of a byte of each part of the statistic that it is about: the count, the least and
+/// the greatest value, the sum or the number of true ones, and whether there are nulls, as far as the kind has
+/// them.
 static PARTS: [(&str, &[usize]); 44] = [
     ("IndexStatistic 0 0 0", &[8, 10]),
     ("IndexStatistic 0 0 1", &[16, 18]),

@@ -82,7 +82,8 @@ fn outputs_stop(rt: HostRuntime) {
     }
 }
 
-/// A byte of the file of three sevens, and the refusal: of the tail, and of the stripe, behind a statistic that is wrong, too.
+/// A byte of the file of three sevens, and the refusal: of the tail, and of the stripe, behind a statistic that is
+/// wrong, too.
 static REFUSED: [(&[(usize, u8)], &str); 2] = [
     (&[(107, 0x0c), (0, 0x50)], "file 1 NotOrc"),
     (

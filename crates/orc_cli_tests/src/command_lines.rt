@@ -3,7 +3,7 @@
 use clap::error::ErrorKind;
 use clap::{ArgMatches, Error};
 use orc_output::number_of;
-use orc_request::{Request, SIGNS, VERSIONS, parsed, request_of};
+use orc_request::{Request, SIGNS, VERSIONS, matches_of, request_of};
 use orc_rle::{Rle, Sign};
 use std::alloc::Global;
 use std::convert::AsStr;
@@ -195,9 +195,9 @@ fn digits_write_numbers(rt: HostRuntime) {
 
 /// What the parser finds once there is memory.
 fn found<'a, S: AsStr>(alloc: Global, words: &'a [S]) -> Result<ArgMatches<'a>, Error> {
-    let answer = parsed(alloc, words);
+    let answer = matches_of(alloc, words);
     if matches!(&answer, Err(error) if error.kind() == ErrorKind::OutOfMemory) {
-        return parsed(alloc, words);
+        return matches_of(alloc, words);
     }
     answer
 }

@@ -6,7 +6,7 @@ use orc_merge::{MergeFault, merge};
 use std::alloc::Global;
 
 /// What stands of two files that are joined, and the fault where there is one.
-fn joined_now(alloc: Global, first: &[u8], second: &[u8]) -> (Option<MergeFault>, Vec<u8>) {
+fn merge_two_once(alloc: Global, first: &[u8], second: &[u8]) -> (Option<MergeFault>, Vec<u8>) {
     let mut inputs = [SliceSource::new(first), SliceSource::new(second)];
     let mut out = VecSink::new(alloc);
     let answer = merge(alloc, &mut inputs, &mut out);
@@ -14,10 +14,10 @@ fn joined_now(alloc: Global, first: &[u8], second: &[u8]) -> (Option<MergeFault>
 }
 
 /// The same once there is memory.
-fn joined(alloc: Global, first: &[u8], second: &[u8]) -> (Option<MergeFault>, Vec<u8>) {
-    match joined_now(alloc, first, second) {
+fn merge_two(alloc: Global, first: &[u8], second: &[u8]) -> (Option<MergeFault>, Vec<u8>) {
+    match merge_two_once(alloc, first, second) {
         (Some(MergeFault::OutOfMemory | MergeFault::WriteFailed), _) => {
-            joined_now(alloc, first, second)
+            merge_two_once(alloc, first, second)
         }
         answer => answer,
     }
@@ -34,7 +34,7 @@ static FILES: [(&[u8], &[u8], &[u8]); 4] = [
 #[test]
 fn files_joined(rt: HostRuntime) {
     for (first, second, file) in FILES {
-        let (fault, bytes) = joined(rt.alloc(), first, second);
+        let (fault, bytes) = merge_two(rt.alloc(), first, second);
         assert_eq!(rt; fault, None);
         assert_eq!(rt; bytes.as_slice(), file);
     }
@@ -49,7 +49,7 @@ static REFUSED: [(&[u8], &[u8], MergeFault); 2] = [
 #[test]
 fn files_that_are_refused(rt: HostRuntime) {
     for (first, second, why) in REFUSED {
-        let (fault, bytes) = joined(rt.alloc(), first, second);
+        let (fault, bytes) = merge_two(rt.alloc(), first, second);
         assert_eq!(rt; fault, Some(why));
         assert!(rt; bytes.as_slice().is_empty());
     }

@@ -1,3 +1,4 @@
+//! Outputs that take few bytes a call, and from some number of bytes on fail or take nothing.
 ghost use Rattle.std.specs.Prelude.{◌≤◌};
 
 use std::io;

@@ -10,7 +10,7 @@ use Rattle.orc_types.specs.declared.tree.Field.{Field}
 use Rattle.orc_types.proofs.Listed.{fields_from}
 use Rattle.orc_types.specs.declared.value.Value.{Value, the_lemmas}
 use Rattle.orc_types.specs.declared.value.Value.TheOpen.{Value-F}
-use Rattle.orc_columns.specs.declared.column.Source.{Source}
+use Rattle.orc_columns.specs.declared.column.ValueSource.{ValueSource}
 use Rattle.orc_columns.specs.declared.column.ColumnReader.{ColumnReader}
 use Rattle.orc_columns.specs.Fronts.{Leaves, Lacks}
 use Rattle.orc_columns.specs.Spellings.{Nullable, Grouped, Within}
@@ -99,23 +99,23 @@ cell_lacks s (own ∷ below) own' d some e p q =
 
 -- ---- values of lists and structs
 
-pub list_value : (s e : Shape) (o : List ℕ) (source source' : Source) (below below' : List ColumnReader) (cells : List Cell) (v : Cell)
+pub list_value : (s e : Shape) (o : List ℕ) (source source' : ValueSource) (below below' : List ColumnReader) (cells : List Cell) (v : Cell)
     → s ≡ list_of e o → v ≡ list (cells_of cells) → Leaves (ListsLeft e source below) (ListsLeft e source' below') (cells ∷ [])
     → Leaves (ValuesLeft s source below) (ValuesLeft s source' below') (v ∷ [])
 list_value s e o source source' below below' cells v is w p =
     rw is (one_stands IsList one_list (ListsLeft e source below) (ListsLeft e source' below') cells v w p)
 
-pub list_lacks : (s e : Shape) (o : List ℕ) (source : Source) (below : List ColumnReader)
+pub list_lacks : (s e : Shape) (o : List ℕ) (source : ValueSource) (below : List ColumnReader)
     → s ≡ list_of e o → Lacks (ListsLeft e source below) 1 → Lacks (ValuesLeft s source below) 1
 list_lacks s e o source below is p = rw is (standing_lacks IsList (ListsLeft e source below) 1 p)
 
-pub struct_value : (s : Shape) (fs : Fields) (o : List ℕ) (source : Source) (below below' : List ColumnReader) (cells : List Cell) (v : Cell)
+pub struct_value : (s : Shape) (fs : Fields) (o : List ℕ) (source : ValueSource) (below below' : List ColumnReader) (cells : List Cell) (v : Cell)
     → s ≡ struct_of fs o → v ≡ struct (cells_of cells) → Leaves (FieldsLeft fs below) (FieldsLeft fs below') (cells ∷ [])
     → Leaves (ValuesLeft s source below) (ValuesLeft s source below') (v ∷ [])
 struct_value s fs o source below below' cells v is w p =
     rw is (one_stands IsRecord one_record (FieldsLeft fs below) (FieldsLeft fs below') cells v w p)
 
-pub struct_lacks : (s : Shape) (fs : Fields) (o : List ℕ) (source : Source) (below : List ColumnReader)
+pub struct_lacks : (s : Shape) (fs : Fields) (o : List ℕ) (source : ValueSource) (below : List ColumnReader)
     → s ≡ struct_of fs o → Lacks (FieldsLeft fs below) 1 → Lacks (ValuesLeft s source below) 1
 struct_lacks s fs o source below is p = rw is (standing_lacks IsRecord (FieldsLeft fs below) 1 p)
 

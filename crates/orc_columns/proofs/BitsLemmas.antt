@@ -11,7 +11,7 @@ use Rattle.orc_rle.specs.BitLaws.{one_held}
 use Rattle.orc_rle.proofs.BitLemmas.{digits_one, digits_fit}
 use Rattle.orc_rle.proofs.StreamLemmas.{one_stream}
 use Rattle.orc_columns.specs.declared.bits.Bits.{Bits}
-use Rattle.orc_columns.specs.declared.bytes.Bytes.{Bytes}
+use Rattle.orc_columns.specs.declared.bytes.RunLengthBytes.{RunLengthBytes}
 use Rattle.orc_columns.specs.Bits.{BitsLeft, BitsFirst}
 use Rattle.orc_columns.specs.Bytes.{AreBytes, BytesLeft, BytesFirst}
 use Rattle.orc_columns.specs.Fronts.{Leaves, Precedes, Lacks}
@@ -76,7 +76,7 @@ unfolding digits
 no_digits = refl
 
 -- the first digit of a byte that is read
-pub first_digit : (r : Bits) (b : Bytes) (byte : ℕ) (d : Bool) → r.left ≡ 0 → Leaves (BytesLeft r.bytes) (BytesLeft b) (byte ∷ []) → digit d ≡ byte / 2 ^ 7 % 2
+pub first_digit : (r : Bits) (b : RunLengthBytes) (byte : ℕ) (d : Bool) → r.left ≡ 0 → Leaves (BytesLeft r.bytes) (BytesLeft b) (byte ∷ []) → digit d ≡ byte / 2 ^ 7 % 2
     → Leaves (BitsLeft r) (BitsLeft (record { bytes = b; held = byte; left = 7 })) (d ∷ [])
 first_digit r b byte d none l dig =
     let first : bits byte 8 ≡ digit d ∷ bits byte 7 = bits_head byte 7 ∙ ap (λ (m : ℕ). m ∷ bits byte 7) (sym dig) in
@@ -91,7 +91,7 @@ first_digit r b byte d none l dig =
       only = λ all p le. byte_taken r b byte d none l first all p.packed p.spelled p.spare p.few p.digits_are le;
     }
   where
-    byte_taken : (r : Bits) (b : Bytes) (byte : ℕ) (d : Bool) → r.left ≡ 0 → Leaves (BytesLeft r.bytes) (BytesLeft b) (byte ∷ []) → bits byte 8 ≡ digit d ∷ bits byte 7
+    byte_taken : (r : Bits) (b : RunLengthBytes) (byte : ℕ) (d : Bool) → r.left ≡ 0 → Leaves (BytesLeft r.bytes) (BytesLeft b) (byte ∷ []) → bits byte 8 ≡ digit d ∷ bits byte 7
         → (all : List Bool) (packed : List ℕ) → BytesLeft r.bytes packed → (spare : List ℕ) → length spare < 8 → bits r.held r.left ++ digits 8 packed ≡ map digit all ++ spare → 1 ≤ length all
         → (rest : List Bool) × (all ≡ d ∷ rest) × BitsLeft (record { bytes = b; held = byte; left = 7 }) rest
     byte_taken r b byte d none l first [] packed sp spare few e le = absurd (omega (arith, le))
@@ -118,7 +118,7 @@ digit_first r w d is dig =
       digits_are = ap (λ (t : List ℕ). t ++ digits 8 q.packed) first ∙ ap (λ (t : List ℕ). digit d ∷ t) q.digits_are;
     }
 
-pub byte_first : (r : Bits) (b : Bytes) (byte : ℕ) (d : Bool) → r.left ≡ 0 → Precedes (BytesFirst r.bytes) (BytesFirst b) (byte ∷ []) → digit d ≡ byte / 2 ^ 7 % 2
+pub byte_first : (r : Bits) (b : RunLengthBytes) (byte : ℕ) (d : Bool) → r.left ≡ 0 → Precedes (BytesFirst r.bytes) (BytesFirst b) (byte ∷ []) → digit d ≡ byte / 2 ^ 7 % 2
     → Precedes (BitsFirst r) (BitsFirst (record { bytes = b; held = byte; left = 7 })) (d ∷ [])
 byte_first r b byte d none l dig =
     let first : bits byte 8 ≡ digit d ∷ bits byte 7 = bits_head byte 7 ∙ ap (λ (m : ℕ). m ∷ bits byte 7) (sym dig) in

@@ -2,7 +2,7 @@
 use Rattle.std.proofs.Common.{◌≡◌, ℕ, ◌<◌, List, [], ◌∷◌, ◌++◌, map, length, refl, sym, ap, ◌∙◌, subst, arith, append-nil, length-append}
 use Rattle.std.proofs.lemmas.List.{map-append}
 use Rattle.orc_rle.specs.declared.sign.Sign.TheVariants.{Unsigned}
-use Rattle.orc_columns.specs.declared.version.Version.{Version}
+use Rattle.orc_rle.specs.declared.sign.Rle.{Rle}
 use Rattle.orc_columns.specs.declared.numbers.Numbers.{Numbers}
 use Rattle.orc_columns.specs.declared.column.Entry.{Entry}
 use Rattle.orc_columns.specs.Fronts.{Leaves, Lacks}
@@ -14,7 +14,7 @@ use Rattle.orc_columns.specs.Columns.{entry_bytes}
 use Rattle.orc_columns.proofs.Fronts.{one_after_other, lacks_after}
 use Rattle.orc_columns.proofs.StartLemmas.{numbers_alike}
 
-pub begun : (v : Version) (lengths bytes : List ℕ) (r : Numbers) → NumbersStart v Unsigned lengths r → Leaves (Grouped (AreNumbers v Unsigned lengths) (Is bytes)) (Grouped (NumbersLeft r) (Is bytes)) []
+pub begun : (v : Rle) (lengths bytes : List ℕ) (r : Numbers) → NumbersStart v Unsigned lengths r → Leaves (Grouped (AreNumbers v Unsigned lengths) (Is bytes)) (Grouped (NumbersLeft r) (Is bytes)) []
 begun v lengths bytes r s =
     let a = numbers_alike v Unsigned lengths r s in
     record { found = λ rest h. (a.to (map size rest) h.0, h.1); only = λ all h le. (all, refl, (a.from (map size all) h.0, h.1)) }

@@ -8,7 +8,7 @@ use Rattle.orc_rle.specs.declared.fault.RunFault.{RunFault}
 use Rattle.orc_columns.specs.declared.bits.Bits.{Bits}
 use Rattle.std.specs.Prelude.{Option}
 use Rattle.orc_columns.specs.declared.column.ColumnReader.{ColumnReader}
-use Rattle.orc_columns.specs.declared.column.Source.{Source}
+use Rattle.orc_columns.specs.declared.column.ValueSource.{ValueSource}
 use Rattle.orc_columns.specs.declared.fault.StreamKind.TheVariants as stream
 use Rattle.orc_columns.specs.declared.fault.StripeFault.{StripeFault}
 use Rattle.orc_columns.specs.Columns.{MarksFirst, column_of, marks_of}
@@ -46,7 +46,7 @@ value_before : (s : Shape) (own own' after : ColumnReader) (below below' : List 
     → ((v : ℕ) → OwnMeet s (after ∷ below') all v f → OwnMeet s (own' ∷ below) all (suc v) f)
     → CellsMeet s (after ∷ below') all n f → CellsMeet s (own ∷ below) all (suc n) f
 value_before s own own' after below below' all n f e p g c same q (inl h) =
-    inl (present_before own after own'.present all n f (c ∙ ap (λ (r : Source). r.column) e) same g h)
+    inl (present_before own after own'.present all n f (c ∙ ap (λ (r : ValueSource). r.column) e) same g h)
 value_before s own own' after below below' all n f e p g c same q (inr h) =
     let need = subst (λ x. ValuesNeeded all n (MarksFirst x) h.0) same h.1 in
     inr (suc h.0, values_true all n h.0 (MarksFirst own.present) (MarksFirst own'.present) p need, own_values s own own' below all (suc h.0) f e (q h.0 h.2))
@@ -65,7 +65,7 @@ cell_before s (own ∷ below) (own'' ∷ below') own' d all n f some l e p g c m
 null_own : (s : Shape) (own own' : ColumnReader) (below : List ColumnReader) (all : Bool) (n : ℕ) (f : StripeFault) → own'.source ≡ own.source
     → Precedes (MarksFirst own.present) (MarksFirst own'.present) (false ∷ []) → ((m : ℕ) (g : RunFault) → MarksMeet own'.present m g → MarksMeet own.present (suc m) g)
     → CellsMeet s (own' ∷ below) all n f → CellsMeet s (own ∷ below) all (suc n) f
-null_own s own own' below all n f e p g (inl h) = inl (present_before own own' own'.present all n f (ap (λ (r : Source). r.column) e) refl g h)
+null_own s own own' below all n f e p g (inl h) = inl (present_before own own' own'.present all n f (ap (λ (r : ValueSource). r.column) e) refl g h)
 null_own s own own' below all n f e p g (inr h) =
     inr (h.0, values_false all n h.0 (MarksFirst own.present) (MarksFirst own'.present) p h.1, own_values s own own' below all h.0 f e h.2)
 
@@ -95,7 +95,7 @@ cell_over s (own ∷ below) f h = inr (0, values_end (MarksFirst own.present) (n
 
 -- ---- a value is read
 
-pub scalar_before : (s : Shape) (k : Scalar) (o : List ℕ) (before : List ColumnReader) (d : ColumnReader) (source : Source) (all : Bool) (n : ℕ) (f : StripeFault) → s ≡ scalar k o → 1 ≤ length before
+pub scalar_before : (s : Shape) (k : Scalar) (o : List ℕ) (before : List ColumnReader) (d : ColumnReader) (source : ValueSource) (all : Bool) (n : ℕ) (f : StripeFault) → s ≡ scalar k o → 1 ≤ length before
     → (ScalarMeets k source all n f → ScalarMeets k (get_or before 0 d).source all (suc n) f)
     → OwnMeet s (slice_set before 0 (record { present = (get_or before 0 d).present; source = source })) all n f → OwnMeet s before all (suc n) f
 scalar_before s k o [] d source all n f is some p h = absurd (omega (arith, some))
@@ -103,7 +103,7 @@ scalar_before s k o (own ∷ below) d source all n f is some p h =
     subst (λ z. OwnMeet z (own ∷ below) all (suc n) f) (sym is)
     (scalar_own k o own source below all n f p (subst (λ z. OwnMeet z (record { present = own.present; source = source } ∷ below) all n f) is h))
   where
-    scalar_own : (k : Scalar) (o : List ℕ) (own : ColumnReader) (source : Source) (below : List ColumnReader) (all : Bool) (n : ℕ) (f : StripeFault) → (ScalarMeets k source all n f → ScalarMeets k own.source all (suc n) f)
+    scalar_own : (k : Scalar) (o : List ℕ) (own : ColumnReader) (source : ValueSource) (below : List ColumnReader) (all : Bool) (n : ℕ) (f : StripeFault) → (ScalarMeets k source all n f → ScalarMeets k own.source all (suc n) f)
         → OwnMeet (scalar k o) (record { present = own.present; source = source } ∷ below) all n f → OwnMeet (scalar k o) (own ∷ below) all (suc n) f
     scalar_own k o own source below all n f p (inl h) = inl (p h)
     scalar_own k o own source below all n f p (inr h) = absurd h
@@ -220,7 +220,7 @@ from_down s columns c [] all n f deeper are h = absurd h
 from_down s columns c (own ∷ below) all n f deeper are h = own_down s columns c own below all n f are.0 (λ v k. deeper own below v are.0.0.1 are.1 k) h
 
 mutual
-  below_down : (s : Shape) (columns : ℕ → Streams) (c : ℕ) (source : Source) (below : List ColumnReader) (all : Bool) (n : ℕ) (f : StripeFault) → SourceStart s (columns c) source → AreBelow s columns c below
+  below_down : (s : Shape) (columns : ℕ → Streams) (c : ℕ) (source : ValueSource) (below : List ColumnReader) (all : Bool) (n : ℕ) (f : StripeFault) → SourceStart s (columns c) source → AreBelow s columns c below
       → BelowMeet s source below all n f → FaultBelow s columns c all n f
   below_down (scalar k o) columns c source below all n f start are h = h
   below_down (list_of s o) columns c source below all n f start are h = (

@@ -7,8 +7,8 @@ use Rattle.orc_rle.specs.declared.sign.Sign.{Sign}
 use Rattle.orc_rle.specs.declared.sign.Sign.TheVariants.{Unsigned}
 use Rattle.orc_rle.specs.Values.{InRange, AllInRange}
 use Rattle.orc_rle.specs.Stream.{AreRuns, IsStream}
-use Rattle.orc_columns.specs.declared.version.Version.{Version}
-use Rattle.orc_columns.specs.declared.version.Version.TheVariants.{One, Two}
+use Rattle.orc_rle.specs.declared.sign.Rle.{Rle}
+use Rattle.orc_rle.specs.declared.sign.Rle.TheVariants.{One, Two}
 use Rattle.orc_columns.specs.Fronts.{Precedes}
 use Rattle.orc_columns.specs.Numbers.{is_run}
 use Rattle.orc_columns.specs.ReaderFaults.{Pass}
@@ -118,11 +118,11 @@ all_front : {X : Type 0} (P : X → Type 0) (a b : List X) → AllByRecursion P 
 all_front P [] b p = tt
 all_front P (x ∷ a) b p = (p.0, all_front P a b p.1)
 
-run_in_range : (v : Version) (sign : Sign) (bytes : List ℕ) (values : List ℤ) → is_run v sign bytes values → AllInRange sign values
+run_in_range : (v : Rle) (sign : Sign) (bytes : List ℕ) (values : List ℤ) → is_run v sign bytes values → AllInRange sign values
 run_in_range One sign bytes values h = h.in_range
 run_in_range Two sign bytes values h = h.in_range
 
-runs_in_range : (v : Version) (sign : Sign) (pieces : List (List ℕ × List ℤ)) (bytes : List ℕ) (values : List ℤ) → AreRuns (is_run v sign) pieces bytes values → AllInRange sign values
+runs_in_range : (v : Rle) (sign : Sign) (pieces : List (List ℕ × List ℤ)) (bytes : List ℕ) (values : List ℤ) → AreRuns (is_run v sign) pieces bytes values → AllInRange sign values
 runs_in_range v sign [] bytes values h = subst (λ t. AllInRange sign t) (sym h.1) tt
 runs_in_range v sign (p ∷ ps) bytes values h =
     subst (λ t. AllInRange sign t) (sym h.4) (all_append (InRange sign) p.1 h.1 (run_in_range v sign p.0 p.1 h.2) (runs_in_range v sign ps h.0 h.1 h.5))
@@ -137,7 +137,7 @@ naturals_are [] h = refl
 naturals_are (pos n ∷ ns) h = ap (λ t. pos n ∷ t) (naturals_are ns h.1)
 naturals_are (negsuc n ∷ ns) h = absurd h.0
 
-pub begin_lengths : (v : Version) (bytes : List ℕ) (most : ℕ) → Pass (Begins (is_run v Unsigned) bytes) most → PassTogether (Begins (is_run v Unsigned) bytes) most
+pub begin_lengths : (v : Rle) (bytes : List ℕ) (most : ℕ) → Pass (Begins (is_run v Unsigned) bytes) most → PassTogether (Begins (is_run v Unsigned) bytes) most
 begin_lengths v bytes most h =
     let b = h.1 in
     let e = naturals_are h.0 (all_front (InRange Unsigned) h.0 b.2 (runs_in_range v Unsigned b.4.0 b.0 (h.0 ++ b.2) b.4.1)) in

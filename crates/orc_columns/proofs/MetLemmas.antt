@@ -3,8 +3,8 @@ use Rattle.std.proofs.Common.{◌≡◌, ℕ, suc, ◌+◌, ◌-◌, ◌/◌, �
 use Rattle.std.specs.Str.{is_utf8}
 use Rattle.orc_rle.specs.declared.fault.RunFault.{RunFault}
 use Rattle.orc_columns.specs.declared.bits.Bits.{Bits}
-use Rattle.orc_columns.specs.declared.bytes.Bytes.{Bytes}
-use Rattle.orc_columns.specs.declared.column.Source.{Source}
+use Rattle.orc_columns.specs.declared.bytes.RunLengthBytes.{RunLengthBytes}
+use Rattle.orc_columns.specs.declared.column.ValueSource.{ValueSource}
 use Rattle.orc_columns.specs.declared.fault.StreamKind.{StreamKind}
 use Rattle.orc_columns.specs.declared.fault.StreamKind.TheVariants as stream
 use Rattle.orc_columns.specs.declared.fault.StripeFault.{StripeFault}
@@ -40,7 +40,7 @@ none_marks (Some r) = record {
 
 -- ---- runs
 
-pub bits_byte : (r : Bits) (b : Bytes) (held n : ℕ) (f : RunFault) → r.left ≡ 0 → ((m : ℕ) (g : RunFault) → BytesMeet b m g → BytesMeet r.bytes (suc m) g) → BitsMeet (record { bytes = b; held = held; left = 7 }) n f → BitsMeet r (suc n) f
+pub bits_byte : (r : Bits) (b : RunLengthBytes) (held n : ℕ) (f : RunFault) → r.left ≡ 0 → ((m : ℕ) (g : RunFault) → BytesMeet b m g → BytesMeet r.bytes (suc m) g) → BitsMeet (record { bytes = b; held = held; left = 7 }) n f → BitsMeet r (suc n) f
 bits_byte r b held n f none p (inl h) =
     let e : suc (packed_len 1 (n - 7)) ≡ packed_len 1 (suc n - r.left) = omega (arith, none) in
     inl (subst (λ k. BytesMeet r.bytes k f) e (p (packed_len 1 (n - 7)) f h))
@@ -128,14 +128,14 @@ text_now r r' o o' all m column front p b bad = inr (refl, no_text_now (NumbersF
 
 -- ---- lists
 
-pub lists_before : (a b : Source) (all : Bool) (m size : ℕ) (f : StripeFault) → b.column ≡ a.column → ((m : ℕ) (g : RunFault) → NumbersMeet b.numbers m g → NumbersMeet a.numbers (suc m) g) → Precedes (NumbersFirst a.numbers) (NumbersFirst b.numbers) (pos size ∷ []) → a.room ≡ size + b.room
+pub lists_before : (a b : ValueSource) (all : Bool) (m size : ℕ) (f : StripeFault) → b.column ≡ a.column → ((m : ℕ) (g : RunFault) → NumbersMeet b.numbers m g → NumbersMeet a.numbers (suc m) g) → Precedes (NumbersFirst a.numbers) (NumbersFirst b.numbers) (pos size ∷ []) → a.room ≡ size + b.room
     → ListsMeet b all m f → ListsMeet a all (suc m) f
 lists_before a b all m size f c e p room (inl h) =
     inl (subst (λ k. RunsFail stream.Length k (Always all (suc m) (NumbersMeet a.numbers)) f) c (runs_more stream.Length b.column all m (NumbersMeet b.numbers) (NumbersMeet a.numbers) f e h))
 lists_before a b all m size f c e p room (inr h) = inr (h.0 ∙ ap (λ k. fault.TooMany k) c, pass_before size a.room b.room (NumbersFirst a.numbers) (NumbersFirst b.numbers) room p h.1)
 
-pub lists_over : (a : Source) (r' : Numbers) (all : Bool) (m size : ℕ) → Precedes (NumbersFirst a.numbers) (NumbersFirst r') (pos size ∷ []) → a.room < size → ListsMeet a all m (fault.TooMany a.column)
+pub lists_over : (a : ValueSource) (r' : Numbers) (all : Bool) (m size : ℕ) → Precedes (NumbersFirst a.numbers) (NumbersFirst r') (pos size ∷ []) → a.room < size → ListsMeet a all m (fault.TooMany a.column)
 lists_over a r' all m size p lt = inr (refl, pass_now size a.room (NumbersFirst a.numbers) (NumbersFirst r') lt p (none_first r'))
 
-pub lists_negative : (a : Source) (r' : Numbers) (all : Bool) (m k : ℕ) → Precedes (NumbersFirst a.numbers) (NumbersFirst r') (negsuc k ∷ []) → ListsMeet a all m (fault.TooMany a.column)
+pub lists_negative : (a : ValueSource) (r' : Numbers) (all : Bool) (m k : ℕ) → Precedes (NumbersFirst a.numbers) (NumbersFirst r') (negsuc k ∷ []) → ListsMeet a all m (fault.TooMany a.column)
 lists_negative a r' all m k p = inr (refl, pass_negative k a.room (NumbersFirst a.numbers) (NumbersFirst r') p (none_first r'))

@@ -1,5 +1,5 @@
 -- No reader answers `Failed`: a cursor alone does, which has refused before.
-use Rattle.std.proofs.Common.{◌≡◌, ℕ, List, [], ◌∷◌, Bool, ℤ, Option, Some, None, take, drop, inl, inr, map}
+use Rattle.std.proofs.Common.{ℕ, List, [], ◌∷◌, Bool, ℤ, Option, Some, None, take, drop, inl, inr, map}
 use Rattle.std.specs.declared.vec.Vec.{Vec}
 use Rattle.std.specs.declared.alloc.Global.{Global}
 use Rattle.orc_types.specs.Fits.{int_fits, signed_fits}
@@ -8,7 +8,7 @@ use Rattle.orc_types.specs.declared.kind.Scalar.{Scalar}
 use Rattle.orc_types.specs.declared.kind.Scalar.TheVariants as kind
 use Rattle.orc_rle.specs.declared.fault.RunFault.{RunFault}
 use Rattle.orc_columns.specs.declared.column.ColumnReader.{ColumnReader}
-use Rattle.orc_columns.specs.declared.column.Source.{Source}
+use Rattle.orc_columns.specs.declared.column.ValueSource.{ValueSource}
 use Rattle.orc_columns.specs.declared.column.Entry.{Entry}
 use Rattle.orc_columns.specs.declared.numbers.Numbers.{Numbers}
 use Rattle.orc_columns.specs.declared.octets.Octets.{Octets}
@@ -20,7 +20,7 @@ use Rattle.orc_columns.specs.Columns.{entry_bytes}
 use Rattle.orc_columns.specs.Faults.{RunsFail}
 use Rattle.orc_columns.specs.RunFaults.{Always}
 use Rattle.orc_columns.specs.RunsMet.{NumbersMeet, BytesMeet, BitsMeet, MarksMeet}
-use Rattle.orc_columns.specs.ReaderFaults.{IntsMeet, GroupsMeet, TextMeets, WordsMeet, TextsMeet, ScalarMeets, ListsMeet, ValuesMeet, ReadersMeet, BelowMeet, FieldsMeet, CellsMeet}
+use Rattle.orc_columns.specs.ReaderFaults.{IntsMeet, GroupsMeet, TextMeets, WordsMeet, TextsMeet, ScalarMeets, ValuesMeet, ReadersMeet, BelowMeet, FieldsMeet, CellsMeet}
 
 not_runs : (k : StreamKind) (c : ℕ) (stands : RunFault → Type 0) → RunsFail k c stands Failed → ⊥
 not_runs k c stands h = let e = h.1 in cc
@@ -42,11 +42,11 @@ not_words entries r all n c (inl h) = not_runs stream.Data c (Always all n (Numb
 not_words entries r all n c (inr (inl h)) = let e = h.0 in cc
 not_words entries r all n c (inr (inr h)) = let e = h.0 in cc
 
-not_texts : (entries : Option (Vec Entry Global)) (r : Source) (all : Bool) (n : ℕ) → TextsMeet entries r all n Failed → ⊥
+not_texts : (entries : Option (Vec Entry Global)) (r : ValueSource) (all : Bool) (n : ℕ) → TextsMeet entries r all n Failed → ⊥
 not_texts None r all n h = not_text r.numbers r.octets all n r.column h
 not_texts (Some entries) r all n h = not_words (map entry_bytes entries.items) r.numbers all n r.column h
 
-not_scalar : (k : Scalar) (r : Source) (all : Bool) (n : ℕ) → ScalarMeets k r all n Failed → ⊥
+not_scalar : (k : Scalar) (r : ValueSource) (all : Bool) (n : ℕ) → ScalarMeets k r all n Failed → ⊥
 not_scalar kind.Boolean r all n h = not_runs stream.Data r.column (Always all n (BitsMeet r.bits)) h
 not_scalar kind.Byte r all n h = not_runs stream.Data r.column (Always all n (BytesMeet r.bytes)) h
 not_scalar kind.Short r all n h = not_ints (int_fits kind.Short) r.numbers all n r.column h
@@ -56,13 +56,13 @@ not_scalar kind.Date r all n h = not_ints (signed_fits 31) r.numbers all n r.col
 not_scalar kind.Binary r all n h = not_groups stream.Data r.numbers r.octets all n r.column h
 not_scalar kind.String r all n h = not_texts r.entries r all n h
 
-not_values : (s : Shape) (r : Source) (all : Bool) (n : ℕ) → ValuesMeet s r all n Failed → ⊥
+not_values : (s : Shape) (r : ValueSource) (all : Bool) (n : ℕ) → ValuesMeet s r all n Failed → ⊥
 not_values (scalar k o) r all n h = not_scalar k r all n h
 not_values (list_of s o) r all n (inl h) = not_runs stream.Length r.column (Always all n (NumbersMeet r.numbers)) h
 not_values (list_of s o) r all n (inr h) = let e = h.0 in cc
 not_values (struct_of fs o) r all n h = h
 
-readers_never : (found : Source → List ColumnReader → Bool → ℕ → StripeFault → Type 0) → ((r : Source) (rs : List ColumnReader) (all : Bool) (n : ℕ) → found r rs all n Failed → ⊥)
+readers_never : (found : ValueSource → List ColumnReader → Bool → ℕ → StripeFault → Type 0) → ((r : ValueSource) (rs : List ColumnReader) (all : Bool) (n : ℕ) → found r rs all n Failed → ⊥)
     → (s : Shape) (rs : List ColumnReader) (all : Bool) (n : ℕ) → ReadersMeet found s rs all n Failed → ⊥
 readers_never found none s [] all n h = h
 readers_never found none s (r ∷ rs) all n (inl h) = not_runs stream.Present r.source.column (Always all n (MarksMeet r.present)) h
@@ -73,7 +73,7 @@ readers_never found none s (r ∷ rs) all n (inr h) =
     ]
 
 mutual
-  below_never : (s : Shape) (r : Source) (rs : List ColumnReader) (all : Bool) (n : ℕ) → BelowMeet s r rs all n Failed → ⊥
+  below_never : (s : Shape) (r : ValueSource) (rs : List ColumnReader) (all : Bool) (n : ℕ) → BelowMeet s r rs all n Failed → ⊥
   below_never (scalar k o) r rs all n h = h
   below_never (list_of s o) r rs all n h = readers_never (BelowMeet s) (below_never s) s rs all h.0 h.2
   below_never (struct_of fs o) r rs all n h = fields_never fs rs all n h

@@ -7,12 +7,12 @@ use Rattle.orc_rle.specs.ByteRun.{IsByteRun}
 use Rattle.orc_rle.specs.ByteLaws.{one_byte_run, byte_run_some, byte_run_values}
 use Rattle.orc_rle.specs.OneLaws.{one_run, not_empty, has_values}
 use Rattle.orc_rle.specs.TwoLaws.{one_run_two, not_empty_two, some_values_two}
-use Rattle.orc_columns.specs.declared.version.Version.{Version}
-use Rattle.orc_columns.specs.declared.version.Version.TheVariants.{One, Two}
+use Rattle.orc_rle.specs.declared.sign.Rle.{Rle}
+use Rattle.orc_rle.specs.declared.sign.Rle.TheVariants.{One, Two}
 use Rattle.orc_columns.specs.Numbers.{is_run}
 use Rattle.orc_columns.proofs.RunsLemmas.{RunLaws}
 
-pub laws_of : (version : Version) (sign : Sign) → RunLaws (is_run version sign)
+pub laws_of : (version : Rle) (sign : Sign) → RunLaws (is_run version sign)
 laws_of One sign = record { one = one_run sign; some = not_empty sign; values = has_values sign }
 laws_of Two sign = record { one = one_run_two sign; some = not_empty_two sign; values = some_values_two sign }
 

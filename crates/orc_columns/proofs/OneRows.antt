@@ -9,7 +9,7 @@ use Rattle.orc_types.specs.declared.kind.Scalar.TheVariants as kind
 use Rattle.orc_rle.specs.declared.sign.Sign.{Sign}
 use Rattle.orc_rle.specs.declared.sign.Sign.TheVariants.{Signed, Unsigned}
 use Rattle.orc_rle.proofs.StreamLemmas.{one_stream}
-use Rattle.orc_columns.specs.declared.version.Version.{Version}
+use Rattle.orc_rle.specs.declared.sign.Rle.{Rle}
 use Rattle.orc_columns.specs.Spellings.{Nullable, AllStand, Standing, size, joined, Grouped, Within, zip_cons, Fielded}
 use Rattle.orc_columns.specs.Numbers.{is_run, AreNumbers}
 use Rattle.orc_columns.specs.Bytes.{AreBytes}
@@ -27,7 +27,7 @@ use Rattle.orc_columns.proofs.ReaderLemmas.{one_bool, one_byte, one_int, one_dat
 abbrev pub One : {X : Type 0} → (List X → Type 0) → Type 0
 One {X = X} spelled = (a b : List X) → spelled a → spelled b → length a ≡ length b → a ≡ b
 
-one_numbers : (v : Version) (sign : Sign) (bytes : List ℕ) → One (AreNumbers v sign bytes)
+one_numbers : (v : Rle) (sign : Sign) (bytes : List ℕ) → One (AreNumbers v sign bytes)
 one_numbers v sign bytes a b p q l = one_stream (is_run v sign) (laws_of v sign).one (laws_of v sign).some bytes a b p q
 
 one_marks : (bytes : List ℕ) → One (Marks bytes)

@@ -10,14 +10,14 @@ use Rattle.orc_rle.specs.declared.sign.Sign.{Sign}
 use Rattle.orc_rle.specs.declared.sign.Sign.TheVariants.{Unsigned}
 use Rattle.orc_columns.specs.declared.bits.Bits.{Bits}
 use Rattle.orc_columns.specs.declared.column.Entry.{Entry}
-use Rattle.orc_columns.specs.declared.column.Source.{Source}
+use Rattle.orc_columns.specs.declared.column.ValueSource.{ValueSource}
 use Rattle.orc_columns.specs.declared.fault.StreamKind.{StreamKind}
 use Rattle.orc_columns.specs.declared.fault.StreamKind.TheVariants as stream
 use Rattle.orc_columns.specs.declared.fault.StripeFault.{StripeFault}
 use Rattle.orc_columns.specs.declared.fault.StripeFault.TheVariants as fault
 use Rattle.orc_columns.specs.declared.numbers.Numbers.{Numbers}
 use Rattle.orc_columns.specs.declared.octets.Octets.{Octets}
-use Rattle.orc_columns.specs.declared.version.Version.{Version}
+use Rattle.orc_rle.specs.declared.sign.Rle.{Rle}
 use Rattle.orc_bits.specs.Packed.{digits, packed_len}
 use Rattle.orc_rle.specs.Stream.{StopsWithin}
 use Rattle.orc_columns.specs.Bytes.{BytesFirst}
@@ -35,19 +35,19 @@ use Rattle.orc_columns.specs.ValueFaults.{NotAll, is_index, names_text}
 use Rattle.orc_columns.proofs.FirstLemmas.{first_begins, begin_lengths}
 use Rattle.orc_rle.specs.ByteRun.{IsByteRun, NoByteRun}
 use Rattle.orc_rle.specs.declared.fault.RunFault.{RunFault}
-use Rattle.orc_columns.specs.declared.bytes.Bytes.{Bytes}
+use Rattle.orc_columns.specs.declared.bytes.RunLengthBytes.{RunLengthBytes}
 use Rattle.orc_columns.specs.RunsMet.{RunsMeet, NumbersMeet, BytesMeet, BitsMeet, MarksMeet}
 use Rattle.orc_columns.proofs.BitsLemmas.{no_digit}
 use Rattle.orc_columns.proofs.NeedLemmas.{runs_all}
 use Rattle.orc_columns.proofs.RunsMetLemmas.{met_start}
 use Rattle.orc_columns.proofs.StartLemmas.{numbers_alike}
 
-abbrev pub integers_from : Version → Sign → List ℕ → Integers
+abbrev pub integers_from : Rle → Sign → List ℕ → Integers
 integers_from version sign bytes = record { version = version; sign = sign; bytes = bytes }
 
 -- ---- runs
 
-numbers_met : (v : Version) (sign : Sign) (bytes : List ℕ) (r : Numbers) (n : ℕ) (f : RunFault) → NumbersStart v sign bytes r → NumbersMeet r n f → StopsWithin (is_run v sign) (no_run v sign) n bytes f
+numbers_met : (v : Rle) (sign : Sign) (bytes : List ℕ) (r : Numbers) (n : ℕ) (f : RunFault) → NumbersStart v sign bytes r → NumbersMeet r n f → StopsWithin (is_run v sign) (no_run v sign) n bytes f
 numbers_met v sign bytes r n f s h =
     let pending : List ℤ = drop r.used r.run.values in
     let rest : List ℕ = drop r.at r.bytes.now in
@@ -58,7 +58,7 @@ numbers_met v sign bytes r n f s h =
     let m = subst (λ t. RunsMeet (is_run v sign) (no_run v sign) pending t r.start r.at (length r.bytes.now) n f) b l in
     met_start (is_run v sign) (no_run v sign) pending bytes r.start r.at (length r.bytes.now) n f d s.at_start (ap length s.bytes_are) m
 
-bytes_met : (bytes : List ℕ) (r : Bytes) (n : ℕ) (f : RunFault) → BytesStart bytes r → BytesMeet r n f → StopsWithin IsByteRun NoByteRun n bytes f
+bytes_met : (bytes : List ℕ) (r : RunLengthBytes) (n : ℕ) (f : RunFault) → BytesStart bytes r → BytesMeet r n f → StopsWithin IsByteRun NoByteRun n bytes f
 bytes_met bytes r n f s h =
     let pending : List ℕ = drop r.used r.run.values in
     let d : pending ≡ [] = ap (λ k. drop k r.run.values) s.unused ∙ s.no_run in
@@ -94,7 +94,7 @@ marks_start (b ∷ bs) (Some bits) c m all n f s e h = bools_fail stream.Present
 
 -- ---- marks that come first
 
-bytes_begin : (bytes : List ℕ) (r : Bytes) (all : List ℕ) → BytesStart bytes r → BytesFirst r all → Begins IsByteRun bytes all
+bytes_begin : (bytes : List ℕ) (r : RunLengthBytes) (all : List ℕ) → BytesStart bytes r → BytesFirst r all → Begins IsByteRun bytes all
 bytes_begin bytes r all s h =
     let pending : List ℕ = drop r.used r.run.values in
     let d : pending ≡ [] = ap (λ n. drop n r.run.values) s.unused ∙ s.no_run in
@@ -115,7 +115,7 @@ marks_begin (b ∷ bs) (Some r) marks s h = record {
 -- ---- values
 
 -- a reader at the start of a stream gives first what comes first in it
-pub first_start : (v : Version) (sign : Sign) (bytes : List ℕ) (r : Numbers) (all : List ℤ) → NumbersStart v sign bytes r → NumbersFirst r all → IntegersFirst (integers_from v sign bytes) all
+pub first_start : (v : Rle) (sign : Sign) (bytes : List ℕ) (r : Numbers) (all : List ℤ) → NumbersStart v sign bytes r → NumbersFirst r all → IntegersFirst (integers_from v sign bytes) all
 first_start v sign bytes r all s h =
     let pending : List ℤ = drop r.used r.run.values in
     let rest : List ℕ = drop r.at r.bytes.now in
@@ -133,10 +133,10 @@ ints_start : (fits : ℤ → Bool) (from : Integers) (r : Numbers) (c m : ℕ) (
 ints_start fits from r c m all n f s e (inl h) = inl (numbers_fail stream.Data from r c m all n f s e h)
 ints_start fits from r c m all n f s e (inr h) = inr (h.0 ∙ ap (λ k. fault.OutOfRange k) e, not_all_start fits from r s h.1)
 
-pass_start : (v : Version) (bytes : List ℕ) (r : Numbers) (most most' : ℕ) → NumbersStart v Unsigned bytes r → most ≡ most' → Pass (NumbersFirst r) most → Pass (IntegersFirst (integers_from v Unsigned bytes)) most'
+pass_start : (v : Rle) (bytes : List ℕ) (r : Numbers) (most most' : ℕ) → NumbersStart v Unsigned bytes r → most ≡ most' → Pass (NumbersFirst r) most → Pass (IntegersFirst (integers_from v Unsigned bytes)) most'
 pass_start v bytes r most most' s e h = subst (λ m. Pass (IntegersFirst (integers_from v Unsigned bytes)) m) e (h.0, first_start v Unsigned bytes r h.0 s h.1, h.2)
 
-pub groups_start : (kind : StreamKind) (v : Version) (lengths bytes : List ℕ) (r : Numbers) (o : Octets) (c m : ℕ) (all : Bool) (n : ℕ) (f : StripeFault) → NumbersStart v Unsigned lengths r → o.rest.now ≡ bytes → c ≡ m
+pub groups_start : (kind : StreamKind) (v : Rle) (lengths bytes : List ℕ) (r : Numbers) (o : Octets) (c m : ℕ) (all : Bool) (n : ℕ) (f : StripeFault) → NumbersStart v Unsigned lengths r → o.rest.now ≡ bytes → c ≡ m
     → GroupsMeet kind r o all n c f → GroupsFail kind (record { version = v; sign = Unsigned; bytes = lengths }) all n bytes m f
 groups_start kind v lengths bytes r o c m all n f s b e (inl h) = inl (numbers_fail stream.Length (integers_from v Unsigned lengths) r c m all n f s e h)
 groups_start kind v lengths bytes r o c m all n f s b e (inr (is, inl p)) =
@@ -158,20 +158,20 @@ words_start x entries r c m all n f d s e (inr (inl h)) =
 words_start x entries r c m all n f d s e (inr (inr h)) =
     inr (inr (h.0 ∙ ap (λ k. fault.NotUtf8 k stream.DictionaryData) e, (entries, d, not_all_start (names_text entries) (indexes_of x) r s h.1)))
 
-text_start : (x : Streams) (r : Source) (m : ℕ) (all : Bool) (n : ℕ) (f : StripeFault) → NumbersStart (version x) Unsigned (x.stream 2) r.numbers → r.octets.rest.now ≡ x.stream 1 → r.column ≡ m
+text_start : (x : Streams) (r : ValueSource) (m : ℕ) (all : Bool) (n : ℕ) (f : StripeFault) → NumbersStart (version x) Unsigned (x.stream 2) r.numbers → r.octets.rest.now ≡ x.stream 1 → r.column ≡ m
     → TextMeets r.numbers r.octets all n r.column f → TextsFail false x all n m f
 text_start x r m all n f s b e (inl h) = inl (groups_start stream.Data (version x) (x.stream 2) (x.stream 1) r.numbers r.octets r.column m all n f s b e h)
 text_start x r m all n f s b e (inr (is, h)) =
     inr (is ∙ ap (λ k. fault.NotUtf8 k stream.Data) e, (h.0, h.1, first_start (version x) Unsigned (x.stream 2) r.numbers (map size h.0) s h.2, sym b ∙ h.3, h.4))
 
-texts_start : (x : Streams) (dictionary : Bool) (entries : Option (Vec Entry Global)) (r : Source) (m : ℕ) (all : Bool) (n : ℕ) (f : StripeFault) → TextsStart dictionary x entries r → r.column ≡ m
+texts_start : (x : Streams) (dictionary : Bool) (entries : Option (Vec Entry Global)) (r : ValueSource) (m : ℕ) (all : Bool) (n : ℕ) (f : StripeFault) → TextsStart dictionary x entries r → r.column ≡ m
     → TextsMeet entries r all n f → TextsFail dictionary x all n m f
 texts_start x true None r m all n f s e h = absurd s
 texts_start x true (Some entries) r m all n f s e h = words_start x (map entry_bytes entries.items) r.numbers r.column m all n f s.0 s.1 e h
 texts_start x false None r m all n f s e h = text_start x r m all n f s.0 s.1 e h
 texts_start x false (Some entries) r m all n f s e h = absurd s
 
-scalar_start : (k : Scalar) (x : Streams) (r : Source) (m : ℕ) (all : Bool) (n : ℕ) (f : StripeFault) → ScalarStart k x r → r.column ≡ m → ScalarMeets k r all n f → ScalarFails k x all n m f
+scalar_start : (k : Scalar) (x : Streams) (r : ValueSource) (m : ℕ) (all : Bool) (n : ℕ) (f : StripeFault) → ScalarStart k x r → r.column ≡ m → ScalarMeets k r all n f → ScalarFails k x all n m f
 scalar_start kind.Boolean x r m all n f s e h = bools_fail stream.Data (x.stream 1) r.bits r.column m all n f s e h
 scalar_start kind.Byte x r m all n f s e h =
     runs_start stream.Data r.column m all n (BytesMeet r.bytes) (λ k. StopsWithin IsByteRun NoByteRun k (x.stream 1)) f e (λ k g l. bytes_met (x.stream 1) r.bytes k g s l) h
@@ -182,12 +182,12 @@ scalar_start kind.Date x r m all n f s e h = ints_start (signed_fits 31) (data_o
 scalar_start kind.Binary x r m all n f s e h = groups_start stream.Data (version x) (x.stream 2) (x.stream 1) r.numbers r.octets r.column m all n f s.0 s.1 e h
 scalar_start kind.String x r m all n f s e h = texts_start x (has_dictionary x) r.entries r m all n f s e h
 
-lists_start : (x : Streams) (r : Source) (m : ℕ) (all : Bool) (n : ℕ) (f : StripeFault) → NumbersStart (version x) Unsigned (x.stream 2) r.numbers → r.room ≡ most_cells → r.column ≡ m → ListsMeet r all n f → ListsFail x all n m f
+lists_start : (x : Streams) (r : ValueSource) (m : ℕ) (all : Bool) (n : ℕ) (f : StripeFault) → NumbersStart (version x) Unsigned (x.stream 2) r.numbers → r.room ≡ most_cells → r.column ≡ m → ListsMeet r all n f → ListsFail x all n m f
 lists_start x r m all n f s room e (inl h) = inl (numbers_fail stream.Length (lengths_of x) r.numbers r.column m all n f s e h)
 lists_start x r m all n f s room e (inr h) =
     inr (h.0 ∙ ap (λ k. fault.TooMany k) e, begin_lengths (version x) (x.stream 2) most_cells (pass_start (version x) (x.stream 2) r.numbers r.room most_cells s room h.1))
 
-pub values_start : (s : Shape) (x : Streams) (r : Source) (m : ℕ) (all : Bool) (n : ℕ) (f : StripeFault) → SourceStart s x r → r.column ≡ m → ValuesMeet s r all n f → ValuesFail s x all n m f
+pub values_start : (s : Shape) (x : Streams) (r : ValueSource) (m : ℕ) (all : Bool) (n : ℕ) (f : StripeFault) → SourceStart s x r → r.column ≡ m → ValuesMeet s r all n f → ValuesFail s x all n m f
 values_start (scalar k o) x r m all n f s e h = scalar_start k x r m all n f s e h
 values_start (list_of t o) x r m all n f s e h = lists_start x r m all n f s.0 s.1 e h
 values_start (struct_of fs o) x r m all n f s e h = h

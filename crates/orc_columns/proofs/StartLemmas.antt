@@ -6,12 +6,12 @@ use Rattle.orc_types.specs.declared.kind.Scalar.{Scalar}
 use Rattle.orc_types.specs.declared.kind.Scalar.TheVariants as kind
 use Rattle.orc_rle.specs.declared.sign.Sign.{Sign}
 use Rattle.orc_rle.specs.declared.sign.Sign.TheVariants.{Signed, Unsigned}
-use Rattle.orc_columns.specs.declared.version.Version.{Version}
+use Rattle.orc_rle.specs.declared.sign.Rle.{Rle}
 use Rattle.orc_columns.specs.declared.bits.Bits.{Bits}
-use Rattle.orc_columns.specs.declared.bytes.Bytes.{Bytes}
+use Rattle.orc_columns.specs.declared.bytes.RunLengthBytes.{RunLengthBytes}
 use Rattle.orc_columns.specs.declared.numbers.Numbers.{Numbers}
 use Rattle.orc_columns.specs.declared.column.Entry.{Entry}
-use Rattle.orc_columns.specs.declared.column.Source.{Source}
+use Rattle.orc_columns.specs.declared.column.ValueSource.{ValueSource}
 use Rattle.orc_columns.specs.declared.column.ColumnReader.{ColumnReader}
 use Rattle.orc_columns.specs.Spellings.{Nullable, Standing, size, joined, Grouped, Within, Fielded}
 use Rattle.orc_columns.specs.Numbers.{AreNumbers, NumbersLeft}
@@ -50,7 +50,7 @@ fielded_alike a b c d p q = record {
   from = λ xs r. record { heads = r.heads; tails = r.tails; alike = r.alike; parts = r.parts; first_spelled = p.from r.heads r.first_spelled; others_spelled = q.from r.tails r.others_spelled };
 }
 
-pub numbers_alike : (v : Version) (sign : Sign) (bytes : List ℕ) (r : Numbers) → NumbersStart v sign bytes r → Alike (NumbersLeft r) (AreNumbers v sign bytes)
+pub numbers_alike : (v : Rle) (sign : Sign) (bytes : List ℕ) (r : Numbers) → NumbersStart v sign bytes r → Alike (NumbersLeft r) (AreNumbers v sign bytes)
 numbers_alike v sign bytes r s =
     let d : drop r.used r.run.values ≡ [] = ap (λ n. drop n r.run.values) s.unused ∙ s.no_run in
     let b : drop r.at r.bytes.now ≡ bytes = ap (λ n. drop n r.bytes.now) s.at_start ∙ s.bytes_are in
@@ -67,7 +67,7 @@ numbers_alike v sign bytes r s =
           (all, sym (ap (λ t. t ++ all) d), m);
     }
 
-bytes_alike : (bytes : List ℕ) (r : Bytes) → BytesStart bytes r → Alike (BytesLeft r) (AreBytes bytes)
+bytes_alike : (bytes : List ℕ) (r : RunLengthBytes) → BytesStart bytes r → Alike (BytesLeft r) (AreBytes bytes)
 bytes_alike bytes r s =
     let d : drop r.used r.run.values ≡ [] = ap (λ n. drop n r.run.values) s.unused ∙ s.no_run in
     let b : drop r.at r.bytes.now ≡ bytes = ap (λ n. drop n r.bytes.now) s.at_start ∙ s.bytes_are in
@@ -95,10 +95,10 @@ marks_alike (b ∷ bs) (Some bits) s = bits_alike (b ∷ bs) bits s
 octets_alike : (bytes rest : List ℕ) → rest ≡ bytes → Alike (Is rest) (Is bytes)
 octets_alike bytes rest e = record { to = λ all h. h ∙ e; from = λ all h. h ∙ sym e }
 
-groups_alike : (x : Streams) (r : Source) → GroupsStart x r → Alike (GroupsLeft r) (Grouped (AreNumbers (version x) Unsigned (x.stream 2)) (Is (x.stream 1)))
+groups_alike : (x : Streams) (r : ValueSource) → GroupsStart x r → Alike (GroupsLeft r) (Grouped (AreNumbers (version x) Unsigned (x.stream 2)) (Is (x.stream 1)))
 groups_alike x r s = grouped_alike (NumbersLeft r.numbers) (AreNumbers (version x) Unsigned (x.stream 2)) (OctetsLeft r.octets) (Is (x.stream 1)) (numbers_alike (version x) Unsigned (x.stream 2) r.numbers s.0) (octets_alike (x.stream 1) r.octets.rest.now s.1)
 
-words_alike : (x : Streams) (entries : List (List ℕ)) (r : Source) → IsDictionary x entries → NumbersStart (version x) Unsigned (x.stream 1) r.numbers → Alike (Standing (IsWord entries) (NumbersLeft r.numbers)) (SpellsTexts x true)
+words_alike : (x : Streams) (entries : List (List ℕ)) (r : ValueSource) → IsDictionary x entries → NumbersStart (version x) Unsigned (x.stream 1) r.numbers → Alike (Standing (IsWord entries) (NumbersLeft r.numbers)) (SpellsTexts x true)
 words_alike x entries r d s =
     let n = numbers_alike (version x) Unsigned (x.stream 1) r.numbers s in
     record {
@@ -109,16 +109,16 @@ words_alike x entries r d s =
           (k.0, k.1, n.from k.0 k.2);
     }
 
-texts_alike : (x : Streams) (dictionary : Bool) (entries : Option (Vec Entry Global)) (r : Source) → TextsStart dictionary x entries r → Alike (TextsLeft entries r) (SpellsTexts x dictionary)
+texts_alike : (x : Streams) (dictionary : Bool) (entries : Option (Vec Entry Global)) (r : ValueSource) → TextsStart dictionary x entries r → Alike (TextsLeft entries r) (SpellsTexts x dictionary)
 texts_alike x true None r s = absurd s
 texts_alike x true (Some entries) r s = words_alike x (map entry_bytes entries.items) r s.0 s.1
 texts_alike x false None r s = standing_alike IsText (GroupsLeft r) (Grouped (AreNumbers (version x) Unsigned (x.stream 2)) (Is (x.stream 1))) (groups_alike x r s)
 texts_alike x false (Some entries) r s = absurd s
 
-ints_alike : (k : Scalar) (x : Streams) (r : Source) → NumbersStart (version x) Signed (x.stream 1) r.numbers → Alike (Standing (IsInt k) (NumbersLeft r.numbers)) (SpellsInts k x)
+ints_alike : (k : Scalar) (x : Streams) (r : ValueSource) → NumbersStart (version x) Signed (x.stream 1) r.numbers → Alike (Standing (IsInt k) (NumbersLeft r.numbers)) (SpellsInts k x)
 ints_alike k x r s = standing_alike (IsInt k) (NumbersLeft r.numbers) (AreNumbers (version x) Signed (x.stream 1)) (numbers_alike (version x) Signed (x.stream 1) r.numbers s)
 
-scalar_alike : (k : Scalar) (x : Streams) (r : Source) → ScalarStart k x r → Alike (ScalarLeft k r) (SpellsScalar k x)
+scalar_alike : (k : Scalar) (x : Streams) (r : ValueSource) → ScalarStart k x r → Alike (ScalarLeft k r) (SpellsScalar k x)
 scalar_alike kind.Boolean x r s = standing_alike IsBool (BitsLeft r.bits) (IsBitStream (x.stream 1)) (bits_alike (x.stream 1) r.bits s)
 scalar_alike kind.Byte x r s = standing_alike IsByte (BytesLeft r.bytes) (AreBytes (x.stream 1)) (bytes_alike (x.stream 1) r.bytes s)
 scalar_alike kind.Short x r s = ints_alike kind.Short x r s

@@ -5,8 +5,8 @@ use Rattle.orc_rle.specs.BitStream.{digit}
 use Rattle.orc_columns.specs.declared.bits.Bits.{Bits}
 use Rattle.orc_columns.specs.Bytes.{BytesLeft, BytesFirst}
 
--- Those that a reader has still to give: the digits that are left of the byte that it holds, and those of the bytes after it,
--- but for fewer than eight at the end, which are spare.
+-- Those that a reader has still to give: the digits that are left of the byte that it holds, and those of the bytes
+-- after it, but for fewer than eight at the end, which are spare.
 pub record BitsLeft (r : Bits) (all : List Bool) : Type 0 where
   pub packed : List ℕ
   pub spelled : BytesLeft r.bytes packed

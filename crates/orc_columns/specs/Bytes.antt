@@ -2,7 +2,7 @@
 use Rattle.std.specs.Prelude.{ℕ, List, drop}
 use Rattle.orc_rle.specs.ByteRun.{IsByteRun}
 use Rattle.orc_rle.specs.Stream.{IsStream}
-use Rattle.orc_columns.specs.declared.bytes.Bytes.{Bytes}
+use Rattle.orc_columns.specs.declared.bytes.RunLengthBytes.{RunLengthBytes}
 use Rattle.orc_columns.specs.Runs.{RunsLeft, RunsFirst}
 
 -- the bytes that a stream's bytes spell
@@ -10,9 +10,9 @@ abbrev pub AreBytes : List ℕ → List ℕ → Type 0
 AreBytes bytes values = IsStream IsByteRun bytes values
 
 -- those that a reader has still to give
-abbrev pub BytesLeft : Bytes → List ℕ → Type 0
+abbrev pub BytesLeft : RunLengthBytes → List ℕ → Type 0
 BytesLeft r all = RunsLeft IsByteRun (drop r.used r.run.values) (drop r.at r.bytes.now) all
 
 -- those that it gives first, whatever becomes of the others
-abbrev pub BytesFirst : Bytes → List ℕ → Type 0
+abbrev pub BytesFirst : RunLengthBytes → List ℕ → Type 0
 BytesFirst r all = RunsFirst IsByteRun (drop r.used r.run.values) (drop r.at r.bytes.now) all

@@ -9,7 +9,7 @@ use Rattle.orc_types.specs.declared.kind.Scalar.{Scalar}
 use Rattle.orc_types.specs.declared.kind.Scalar.TheVariants as kind
 use Rattle.orc_columns.specs.declared.bits.Bits.{Bits}
 use Rattle.orc_columns.specs.declared.column.Entry.{Entry}
-use Rattle.orc_columns.specs.declared.column.Source.{Source}
+use Rattle.orc_columns.specs.declared.column.ValueSource.{ValueSource}
 use Rattle.orc_columns.specs.declared.column.ColumnReader.{ColumnReader}
 use Rattle.std.specs.declared.vec.Vec.{Vec}
 use Rattle.std.specs.declared.alloc.Global.{Global}
@@ -64,18 +64,18 @@ abbrev pub IsRecord : List Cell → Cell → Type 0
 IsRecord cs c = c ≡ struct (cells_of cs)
 
 -- bytes of the sizes that LENGTH has
-abbrev pub GroupsLeft : Source → List (List ℕ) → Type 0
+abbrev pub GroupsLeft : ValueSource → List (List ℕ) → Type 0
 GroupsLeft source groups = Grouped (NumbersLeft source.numbers) (OctetsLeft source.octets) groups
 
 abbrev pub entry_bytes : Entry → List ℕ
 entry_bytes e = e.bytes.now
 
-abbrev pub TextsLeft : Option (Vec Entry Global) → Source → List Cell → Type 0
+abbrev pub TextsLeft : Option (Vec Entry Global) → ValueSource → List Cell → Type 0
 TextsLeft None source vs = Standing IsText (GroupsLeft source) vs
 TextsLeft (Some entries) source vs = Standing (IsWord (map entry_bytes entries.items)) (NumbersLeft source.numbers) vs
 
 -- the values of a column of a kind that contains no other
-abbrev pub ScalarLeft : Scalar → Source → List Cell → Type 0
+abbrev pub ScalarLeft : Scalar → ValueSource → List Cell → Type 0
 ScalarLeft kind.Boolean source vs = Standing IsBool (BitsLeft source.bits) vs
 ScalarLeft kind.Byte source vs = Standing IsByte (BytesLeft source.bytes) vs
 ScalarLeft kind.Short source vs = Standing (IsInt kind.Short) (NumbersLeft source.numbers) vs
@@ -86,26 +86,28 @@ ScalarLeft kind.Binary source vs = Standing IsBinary (GroupsLeft source) vs
 ScalarLeft kind.String source vs = TextsLeft source.entries source vs
 
 -- the cells of a column, whose values are spelled so
-abbrev pub ColumnLeft : (Source → List ColumnReader → List Cell → Type 0) → List ColumnReader → List Cell → Type 0
+abbrev pub ColumnLeft : (ValueSource → List ColumnReader → List Cell → Type 0) → List ColumnReader → List Cell → Type 0
 ColumnLeft found [] cells = ⊥
 ColumnLeft found (own ∷ below) cells = Nullable (MarksLeft own.present) (found own.source below) cells
 
 abbrev mutual
   -- the values of a column: lists of the child's cells, structs of the fields' cells
-  pub ValuesLeft : Shape → Source → List ColumnReader → List Cell → Type 0
+  pub ValuesLeft : Shape → ValueSource → List ColumnReader → List Cell → Type 0
   ValuesLeft (scalar k o) source below vs = ScalarLeft k source vs
-  ValuesLeft (list_of s o) source below vs = Standing IsList (Grouped (NumbersLeft source.numbers) (Within source.room (ColumnLeft (ValuesLeft s) below))) vs
+  ValuesLeft (list_of s o) source below vs =
+      Standing IsList (Grouped (NumbersLeft source.numbers) (Within source.room (ColumnLeft (ValuesLeft s) below))) vs
   ValuesLeft (struct_of fs o) source below vs = Standing IsRecord (FieldsLeft fs below) vs
 
   pub FieldsLeft : Fields → List ColumnReader → List (List Cell) → Type 0
   FieldsLeft no_field readers structs = AllByRecursion (λ cells. cells ≡ []) structs
-  FieldsLeft (field name s fs) readers structs = Fielded (ColumnLeft (ValuesLeft s) (take (width s) readers)) (FieldsLeft fs (drop (width s) readers)) structs
+  FieldsLeft (field name s fs) readers structs =
+      Fielded (ColumnLeft (ValuesLeft s) (take (width s) readers)) (FieldsLeft fs (drop (width s) readers)) structs
 
 -- the cells that a column and the columns below it still spell
 abbrev pub CellsLeft : Shape → List ColumnReader → List Cell → Type 0
 CellsLeft s readers cells = ColumnLeft (ValuesLeft s) readers cells
 
-abbrev pub ListsLeft : Shape → Source → List ColumnReader → List (List Cell) → Type 0
+abbrev pub ListsLeft : Shape → ValueSource → List ColumnReader → List (List Cell) → Type 0
 ListsLeft s source below lists = Grouped (NumbersLeft source.numbers) (Within source.room (CellsLeft s below)) lists
 
 -- of a column's readers, its own first: the column's number, the marks, the values, the lists

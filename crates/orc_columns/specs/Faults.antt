@@ -1,6 +1,6 @@
--- Which fault of a column can be answered, by its kind and encoding, and what it says of the column's streams (ORC specification,
--- "Column Encodings"). Of what the column needs so many are known: all, or those that come first.
-use Rattle.std.specs.Prelude.{◌≡◌, ◌≢◌, ℕ, suc, ◌+◌, ◌≤◌, ◌^◌, ℤ, Bool, true, false, List, [], ◌∷◌, ◌⊎◌}
+-- Which fault of a column can be answered, by its kind and encoding, and what it says of the column's streams (ORC
+-- specification, "Column Encodings"). Of what the column needs so many are known: all, or those that come first.
+use Rattle.std.specs.Prelude.{◌≡◌, ◌≢◌, ℕ, suc, ◌+◌, ◌≤◌, ℤ, Bool, true, false, List, [], ◌∷◌, ◌⊎◌}
 use Rattle.orc_types.specs.Cells.{Cell}
 use Rattle.orc_types.specs.Fits.{int_fits, signed_fits}
 use Rattle.orc_types.specs.Shapes.{Shape, scalar, list_of, struct_of, Fields, no_field, field, width}
@@ -16,11 +16,12 @@ use Rattle.orc_columns.specs.declared.fault.StripeFault.TheVariants as fault
 use Rattle.orc_columns.specs.Needs.{MarksBegin, ValuesNeeded, ElementsNeeded}
 use Rattle.orc_columns.specs.RunFaults.{Integers, IntegersFirst, IntegersFail, ByteRunsFail, BoolsFail}
 use Rattle.orc_columns.specs.ValueFaults.{NotAll, is_index, names_text, CutsNoText, PassTogether, HasOtherLength}
-use Rattle.orc_columns.specs.Stripe.{Streams, version, has_dictionary, IsDictionary, SpellRows, most_cells}
+use Rattle.orc_columns.specs.Stripe.{Streams, version, has_dictionary, IsDictionary, SpellRows, cell_limit, most_cells}
 
 -- the column's stream of this kind has no runs as the column needs them; what stands of the fault of its runs
 abbrev pub RunsFail : StreamKind → ℕ → (RunFault → Type 0) → StripeFault → Type 0
-RunsFail kind column stands f = (cause : RunFault) × (f ≡ fault.Run column kind cause) × (cause ≢ run.OutOfMemory) × stands cause
+RunsFail kind column stands f =
+    (cause : RunFault) × (f ≡ fault.Run column kind cause) × (cause ≢ run.OutOfMemory) × stands cause
 
 -- where there is no PRESENT, nothing is null
 abbrev pub MarksFail : List ℕ → Bool → ℕ → ℕ → StripeFault → Type 0
@@ -44,16 +45,19 @@ lengths_of x = record { version = version x; sign = Unsigned; bytes = x.stream 2
 
 -- numbers, and one of them outside of the column's type
 abbrev pub IntsFail : (ℤ → Bool) → (RunFault → Type 0) → (List ℤ → Type 0) → ℕ → StripeFault → Type 0
-IntsFail fits runs first column f = RunsFail stream.Data column runs f ⊎ ((f ≡ fault.OutOfRange column) × NotAll fits first)
+IntsFail fits runs first column f =
+    RunsFail stream.Data column runs f ⊎ ((f ≡ fault.OutOfRange column) × NotAll fits first)
 
 -- groups of bytes: their lengths, or a stream that has other bytes than these are together
 abbrev pub GroupsFail : StreamKind → Integers → Bool → ℕ → List ℕ → ℕ → StripeFault → Type 0
 GroupsFail kind lengths all n bytes column f =
-    NumbersFail stream.Length lengths all n column f ⊎ ((f ≡ fault.LengthSum column kind) × HasOtherLength lengths bytes)
+    NumbersFail stream.Length lengths all n column f
+    ⊎ ((f ≡ fault.LengthSum column kind) × HasOtherLength lengths bytes)
 
 -- an entry that an index names isn't UTF-8
 abbrev pub NamesNoText : Streams → Type 0
-NamesNoText x = (entries : List (List ℕ)) × IsDictionary x entries × NotAll (names_text entries) (IntegersFirst (indexes_of x))
+NamesNoText x =
+    (entries : List (List ℕ)) × IsDictionary x entries × NotAll (names_text entries) (IntegersFirst (indexes_of x))
 
 -- indexes, and one of them that has no entry, or one that is no text
 abbrev pub WordsFail : Streams → Bool → ℕ → ℕ → StripeFault → Type 0
@@ -87,7 +91,8 @@ ScalarFails kind.String x all n column f = TextsFail (has_dictionary x) x all n 
 -- lengths of n lists, which have more elements together than a column may have
 abbrev pub ListsFail : Streams → Bool → ℕ → ℕ → StripeFault → Type 0
 ListsFail x all n column f =
-    NumbersFail stream.Length (lengths_of x) all n column f ⊎ ((f ≡ fault.TooMany column) × PassTogether (IntegersFirst (lengths_of x)) most_cells)
+    NumbersFail stream.Length (lengths_of x) all n column f
+    ⊎ ((f ≡ fault.TooMany column) × PassTogether (IntegersFirst (lengths_of x)) most_cells)
 
 -- the streams beside PRESENT and the dictionary's, of n values; structs have none
 abbrev pub ValuesFail : Shape → Streams → Bool → ℕ → ℕ → StripeFault → Type 0
@@ -97,7 +102,8 @@ ValuesFail (struct_of fs o) x all n column f = ⊥
 
 -- the dictionary of a column that has one, by its size
 abbrev pub EntriesFail : Bool → Streams → ℕ → StripeFault → Type 0
-EntriesFail true x column f = GroupsFail stream.DictionaryData (lengths_of x) true x.encoding.dictionary_size (x.stream 3) column f
+EntriesFail true x column f =
+    GroupsFail stream.DictionaryData (lengths_of x) true x.encoding.dictionary_size (x.stream 3) column f
 EntriesFail false x column f = ⊥
 
 abbrev pub ScalarEntriesFail : Scalar → Streams → ℕ → StripeFault → Type 0
@@ -116,18 +122,23 @@ WordsOfFail (list_of s o) x column f = ⊥
 WordsOfFail (struct_of fs o) x column f = ⊥
 
 -- a column of so many cells: its PRESENT, its dictionary, the streams of its values, or what is below it
-abbrev pub FaultFrom : (ℕ → Bool → ℕ → StripeFault → Type 0) → Shape → (ℕ → Streams) → ℕ → Bool → ℕ → StripeFault → Type 0
+abbrev pub FaultFrom : (ℕ → Bool → ℕ → StripeFault → Type 0)
+    → Shape → (ℕ → Streams) → ℕ → Bool → ℕ → StripeFault → Type 0
 FaultFrom below s columns c all cells f =
     MarksFail ((columns c).stream 0) all cells c f
     ⊎ (WordsOfFail s (columns c) c f
-    ⊎ ((n : ℕ) × ValuesNeeded all cells (MarksBegin ((columns c).stream 0)) n × (ValuesFail s (columns c) all n c f ⊎ below c all n f)))
+    ⊎ ((n : ℕ)
+    × ValuesNeeded all cells (MarksBegin ((columns c).stream 0)) n
+    × (ValuesFail s (columns c) all n c f ⊎ below c all n f)))
 
 abbrev mutual
   -- the columns below one of n values: of its lists' elements, or of its structs' fields
   pub FaultBelow : Shape → (ℕ → Streams) → ℕ → Bool → ℕ → StripeFault → Type 0
   FaultBelow (scalar k o) columns c all n f = ⊥
   FaultBelow (list_of s o) columns c all n f =
-      (e : ℕ) × ElementsNeeded all n (IntegersFirst (lengths_of (columns c))) e × FaultFrom (FaultBelow s columns) s columns (suc c) all e f
+      (e : ℕ)
+      × ElementsNeeded all n (IntegersFirst (lengths_of (columns c))) e
+      × FaultFrom (FaultBelow s columns) s columns (suc c) all e f
   FaultBelow (struct_of fs o) columns c all n f = FaultWithin fs columns (suc c) all n f
 
   pub FaultWithin : Fields → (ℕ → Streams) → ℕ → Bool → ℕ → StripeFault → Type 0
@@ -145,7 +156,7 @@ HasFault schema columns count f = (all : Bool) × FaultDown schema columns 0 all
 
 -- more rows than a column may have cells
 abbrev pub TooManyRows : ℕ → StripeFault → Type 0
-TooManyRows count f = (f ≡ fault.TooMany 0) × (2 ^ 31 ≤ count)
+TooManyRows count f = (f ≡ fault.TooMany 0) × (cell_limit ≤ count)
 
 -- Why there are no rows: more of them than a column may have cells, or a fault of a column. No rows are spelled then.
 pub record RowsFault (schema : Shape) (columns : ℕ → Streams) (count : ℕ) (f : StripeFault) : Type 0 where

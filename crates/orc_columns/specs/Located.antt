@@ -14,10 +14,21 @@ stream_at slices column kind = get_or (map slice_bytes slices) (4 * column + kin
 -- the streams are those that the directory gives
 pub record AreLocated (columns : ℕ) (streams : List StreamMsg) (bytes : List ℕ) (slices : List Slice) : Type 0 where
   pub len : length slices ≡ 4 * columns
-  pub are : (column kind : ℕ) → column < columns → kind < 4 → stream_at slices column kind ≡ slice column kind streams bytes
+  pub are : (column kind : ℕ)
+      → column < columns
+      → kind < 4
+      → stream_at slices column kind ≡ slice column kind streams bytes
 
 -- what is known after one more stream, whose bytes are in front, of those that were found
 pub record Finds (columns : ℕ) (s : StreamMsg) (front : List ℕ) (old new : List Slice) : Type 0 where
   pub len : length new ≡ length old
-  pub this : (column kind : ℕ) → column < columns → kind < 4 → is_of column kind s ≡ true → stream_at new column kind ≡ front
-  pub others : (column kind : ℕ) → column < columns → kind < 4 → is_of column kind s ≡ false → stream_at new column kind ≡ stream_at old column kind
+  pub this : (column kind : ℕ)
+      → column < columns
+      → kind < 4
+      → is_of column kind s ≡ true
+      → stream_at new column kind ≡ front
+  pub others : (column kind : ℕ)
+      → column < columns
+      → kind < 4
+      → is_of column kind s ≡ false
+      → stream_at new column kind ≡ stream_at old column kind

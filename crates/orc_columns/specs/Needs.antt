@@ -1,5 +1,6 @@
--- How many values a column's cells are, and how many cells the column below it has, as far as streams say it (ORC specification,
--- "Column Encodings"). `first` are the marks, or the lengths, that come first in a stream, whatever follows.
+-- How many values a column's cells are, and how many cells the column below it has, as far as streams say it
+-- (ORC specification, "Column Encodings"). `first` are the marks, or the lengths, that come first in a stream,
+-- whatever follows.
 use Rattle.std.specs.Prelude.{◌≡◌, ℕ, suc, ℤ, pos, Bool, true, false, List, [], ◌∷◌, ◌++◌, length, replicate, map, sum}
 use Rattle.orc_bits.specs.Packed.{digits}
 use Rattle.orc_rle.specs.BitStream.{digit}

@@ -4,18 +4,18 @@ use Rattle.orc_rle.specs.declared.sign.Sign.{Sign}
 use Rattle.orc_rle.specs.RunOne.{IsRunOne}
 use Rattle.orc_rle.specs.RunTwo.{IsRunTwo}
 use Rattle.orc_rle.specs.Stream.{IsStream}
-use Rattle.orc_columns.specs.declared.version.Version.{Version}
-use Rattle.orc_columns.specs.declared.version.Version.TheVariants.{One, Two}
+use Rattle.orc_rle.specs.declared.sign.Rle.{Rle}
+use Rattle.orc_rle.specs.declared.sign.Rle.TheVariants.{One, Two}
 use Rattle.orc_columns.specs.declared.numbers.Numbers.{Numbers}
 use Rattle.orc_columns.specs.Runs.{RunsLeft, RunsFirst}
 
 -- a run of that version
-abbrev pub is_run : Version → Sign → List ℕ → List ℤ → Type 0
+abbrev pub is_run : Rle → Sign → List ℕ → List ℤ → Type 0
 is_run One sign bytes values = IsRunOne sign bytes values
 is_run Two sign bytes values = IsRunTwo sign bytes values
 
 -- the numbers that a stream's bytes spell
-abbrev pub AreNumbers : Version → Sign → List ℕ → List ℤ → Type 0
+abbrev pub AreNumbers : Rle → Sign → List ℕ → List ℤ → Type 0
 AreNumbers version sign bytes values = IsStream (is_run version sign) bytes values
 
 -- those that a reader has still to give

@@ -7,13 +7,13 @@ use Rattle.orc_rle.specs.ByteRun.{IsByteRun, NoByteRun}
 use Rattle.orc_rle.specs.RunOne.{NoRunOne}
 use Rattle.orc_rle.specs.RunTwo.{NoRunTwo}
 use Rattle.orc_rle.specs.Stream.{StopsWithin}
-use Rattle.orc_columns.specs.declared.version.Version.{Version}
-use Rattle.orc_columns.specs.declared.version.Version.TheVariants.{One, Two}
+use Rattle.orc_rle.specs.declared.sign.Rle.{Rle}
+use Rattle.orc_rle.specs.declared.sign.Rle.TheVariants.{One, Two}
 use Rattle.orc_columns.specs.Numbers.{is_run, AreNumbers}
 use Rattle.orc_columns.specs.Runs.{Begins}
 
 -- the fault of bytes that have no run of that version in front
-abbrev pub no_run : Version → Sign → List ℕ → RunFault → Type 0
+abbrev pub no_run : Rle → Sign → List ℕ → RunFault → Type 0
 no_run One sign bytes fault = NoRunOne sign bytes fault
 no_run Two sign bytes fault = NoRunTwo sign bytes fault
 
@@ -26,14 +26,16 @@ Needed false known n = known ≤ n
 abbrev pub Always : Bool → ℕ → (ℕ → RunFault → Type 0) → RunFault → Type 0
 Always all known stops fault = (n : ℕ) → Needed all known n → stops n fault
 
--- The bytes are no stream of as many values as are needed, for the reason that `decode` refuses them with: after a stream of at most
--- so many come bytes that have no run in front, or a run that passes their number, or nothing where values are missing.
-abbrev pub StreamFails : {A : Type 0} → (List ℕ → List A → Type 0) → (List ℕ → RunFault → Type 0) → Bool → ℕ → List ℕ → RunFault → Type 0
+-- The bytes are no stream of as many values as are needed, for the reason that `decode` refuses them with: after a
+-- stream of at most so many come bytes that have no run in front, or a run that passes their number, or nothing where
+-- values are missing.
+abbrev pub StreamFails : {A : Type 0} → (List ℕ → List A → Type 0) → (List ℕ → RunFault → Type 0)
+    → Bool → ℕ → List ℕ → RunFault → Type 0
 StreamFails is_run fails all known bytes fault = Always all known (λ n. StopsWithin is_run fails n bytes) fault
 
 -- a stream of integers: of which version, whether they have a sign, and its bytes
 pub record Integers : Type 0 where
-  pub version : Version
+  pub version : Rle
   pub sign : Sign
   pub bytes : List ℕ
 
@@ -45,7 +47,8 @@ abbrev pub IntegersFirst : Integers → List ℤ → Type 0
 IntegersFirst from all = Begins (is_run from.version from.sign) from.bytes all
 
 abbrev pub IntegersFail : Integers → Bool → ℕ → RunFault → Type 0
-IntegersFail from all known fault = StreamFails (is_run from.version from.sign) (no_run from.version from.sign) all known from.bytes fault
+IntegersFail from all known fault =
+    StreamFails (is_run from.version from.sign) (no_run from.version from.sign) all known from.bytes fault
 
 abbrev pub ByteRunsFail : Bool → ℕ → List ℕ → RunFault → Type 0
 ByteRunsFail all known bytes fault = StreamFails IsByteRun NoByteRun all known bytes fault

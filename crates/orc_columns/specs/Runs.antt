@@ -8,9 +8,14 @@ RunsLeft {A = A} is_run pending rest all = (more : List A) × (all ≡ pending +
 
 -- the values come first in the bytes, in whole runs, whatever follows
 abbrev pub Begins : {A : Type 0} → (List ℕ → List A → Type 0) → List ℕ → List A → Type 0
-Begins {A = A} is_run bytes values = (front : List ℕ) × (back : List ℕ) × (more : List A) × (bytes ≡ front ++ back) × IsStream is_run front (values ++ more)
+Begins {A = A} is_run bytes values =
+    (front : List ℕ) × (back : List ℕ) × (more : List A)
+    × (bytes ≡ front ++ back)
+    × IsStream is_run front (values ++ more)
 
 -- the same of what is left of a stream
 abbrev pub RunsFirst : {A : Type 0} → (List ℕ → List A → Type 0) → List A → List ℕ → List A → Type 0
 RunsFirst {A = A} is_run pending rest values =
-    (front : List ℕ) × (back : List ℕ) × (more : List A) × (rest ≡ front ++ back) × RunsLeft is_run pending front (values ++ more)
+    (front : List ℕ) × (back : List ℕ) × (more : List A)
+    × (rest ≡ front ++ back)
+    × RunsLeft is_run pending front (values ++ more)

@@ -6,7 +6,7 @@ use Rattle.orc_rle.specs.Stream.{IsStream, at_place}
 use Rattle.orc_rle.specs.declared.fault.RunFault.{RunFault}
 use Rattle.orc_rle.specs.declared.fault.RunFault.TheVariants as run
 use Rattle.orc_columns.specs.declared.bits.Bits.{Bits}
-use Rattle.orc_columns.specs.declared.bytes.Bytes.{Bytes}
+use Rattle.orc_columns.specs.declared.bytes.RunLengthBytes.{RunLengthBytes}
 use Rattle.orc_columns.specs.declared.numbers.Numbers.{Numbers}
 use Rattle.orc_columns.specs.Numbers.{is_run}
 use Rattle.orc_columns.specs.RunFaults.{no_run}
@@ -22,15 +22,20 @@ BreaksThere fails rest place f = (cause : RunFault) × (rest ≡ [] → ⊥) × 
 -- a run comes that passes n
 abbrev pub PassesThere : {A : Type 0} → (List ℕ → List A → Type 0) → List ℕ → ℕ → ℕ → ℕ → RunFault → Type 0
 PassesThere {A = A} is_run rest count n place f =
-    (text : List ℕ) × (more : List ℕ) × (past : List A) × is_run text past × (rest ≡ text ++ more) × (n < count + length past) × (f ≡ run.TooMany place)
+    (text : List ℕ) × (more : List ℕ) × (past : List A)
+    × is_run text past
+    × (rest ≡ text ++ more)
+    × (n < count + length past)
+    × (f ≡ run.TooMany place)
 
-abbrev pub StopsThere : {A : Type 0} → (List ℕ → List A → Type 0) → (List ℕ → RunFault → Type 0) → List ℕ → ℕ → ℕ → ℕ → ℕ → RunFault → Type 0
+abbrev pub StopsThere : {A : Type 0} → (List ℕ → List A → Type 0) → (List ℕ → RunFault → Type 0)
+    → List ℕ → ℕ → ℕ → ℕ → ℕ → RunFault → Type 0
 StopsThere is_run fails rest count n place total f =
     EndsThere rest count n total f ⊎ (BreaksThere fails rest place f ⊎ PassesThere is_run rest count n place f)
 
 -- in the bytes from the place on, behind values that are pending and some runs
-pub record StopsLater {A : Type 0} (is_run : List ℕ → List A → Type 0) (fails : List ℕ → RunFault → Type 0) (pending : List A) (bytes : List ℕ)
-    (at total n : ℕ) (f : RunFault) : Type 0 where
+pub record StopsLater {A : Type 0} (is_run : List ℕ → List A → Type 0) (fails : List ℕ → RunFault → Type 0)
+    (pending : List A) (bytes : List ℕ) (at total n : ℕ) (f : RunFault) : Type 0 where
   pub front : List ℕ
   pub rest : List ℕ
   pub values : List A
@@ -43,15 +48,20 @@ pub record StopsLater {A : Type 0} (is_run : List ℕ → List A → Type 0) (fa
 abbrev pub PassesNow : {A : Type 0} → List A → ℕ → ℕ → RunFault → Type 0
 PassesNow pending start n f = (n < length pending) × (f ≡ run.TooMany start)
 
-abbrev pub RunsMeet : {A : Type 0} → (List ℕ → List A → Type 0) → (List ℕ → RunFault → Type 0) → List A → List ℕ → ℕ → ℕ → ℕ → ℕ → RunFault → Type 0
-RunsMeet is_run fails pending bytes start at total n f = StopsLater is_run fails pending bytes at total n f ⊎ PassesNow pending start n f
+abbrev pub RunsMeet : {A : Type 0} → (List ℕ → List A → Type 0) → (List ℕ → RunFault → Type 0)
+    → List A → List ℕ → ℕ → ℕ → ℕ → ℕ → RunFault → Type 0
+RunsMeet is_run fails pending bytes start at total n f =
+    StopsLater is_run fails pending bytes at total n f ⊎ PassesNow pending start n f
 
 abbrev pub NumbersMeet : Numbers → ℕ → RunFault → Type 0
 NumbersMeet r n f =
-    RunsMeet (is_run r.version r.sign) (no_run r.version r.sign) (drop r.used r.run.values) (drop r.at r.bytes.now) r.start r.at (length r.bytes.now) n f
+    RunsMeet (is_run r.version r.sign) (no_run r.version r.sign) (drop r.used r.run.values)
+    (drop r.at r.bytes.now) r.start r.at (length r.bytes.now) n f
 
-abbrev pub BytesMeet : Bytes → ℕ → RunFault → Type 0
-BytesMeet r n f = RunsMeet IsByteRun NoByteRun (drop r.used r.run.values) (drop r.at r.bytes.now) r.start r.at (length r.bytes.now) n f
+abbrev pub BytesMeet : RunLengthBytes → ℕ → RunFault → Type 0
+BytesMeet r n f =
+    RunsMeet IsByteRun NoByteRun (drop r.used r.run.values) (drop r.at r.bytes.now)
+    r.start r.at (length r.bytes.now) n f
 
 -- booleans beyond those of the byte that is held; a byte whose digits are all held is of the last run
 abbrev pub BitsMeet : Bits → ℕ → RunFault → Type 0

@@ -7,19 +7,19 @@ use Rattle.orc_types.specs.declared.kind.Scalar.{Scalar}
 use Rattle.orc_types.specs.declared.kind.Scalar.TheVariants as kind
 use Rattle.orc_rle.specs.declared.sign.Sign.{Sign}
 use Rattle.orc_rle.specs.declared.sign.Sign.TheVariants.{Signed, Unsigned}
-use Rattle.orc_columns.specs.declared.version.Version.{Version}
+use Rattle.orc_rle.specs.declared.sign.Rle.{Rle}
 use Rattle.orc_columns.specs.declared.bits.Bits.{Bits}
-use Rattle.orc_columns.specs.declared.bytes.Bytes.{Bytes}
+use Rattle.orc_columns.specs.declared.bytes.RunLengthBytes.{RunLengthBytes}
 use Rattle.orc_columns.specs.declared.numbers.Numbers.{Numbers}
 use Rattle.orc_columns.specs.declared.column.Entry.{Entry}
-use Rattle.orc_columns.specs.declared.column.Source.{Source}
+use Rattle.orc_columns.specs.declared.column.ValueSource.{ValueSource}
 use Rattle.orc_columns.specs.declared.column.ColumnReader.{ColumnReader}
 use Rattle.orc_columns.specs.declared.starting.ColumnStreams.{ColumnStreams}
 use Rattle.orc_wire.specs.declared.stripe_footer.StripeFooter.{StripeFooter}
 use Rattle.orc_columns.specs.Columns.{entry_bytes}
 use Rattle.orc_columns.specs.Stripe.{Streams, version, has_dictionary, IsDictionary, most_cells, columns_of, columns_from}
 
-pub record NumbersStart (v : Version) (sign : Sign) (bytes : List ℕ) (r : Numbers) : Type 0 where
+pub record NumbersStart (v : Rle) (sign : Sign) (bytes : List ℕ) (r : Numbers) : Type 0 where
   pub version_is : r.version ≡ v
   pub sign_is : r.sign ≡ sign
   pub bytes_are : r.bytes.now ≡ bytes
@@ -27,7 +27,7 @@ pub record NumbersStart (v : Version) (sign : Sign) (bytes : List ℕ) (r : Numb
   pub no_run : r.run.values ≡ []
   pub unused : r.used ≡ 0
 
-pub record BytesStart (bytes : List ℕ) (r : Bytes) : Type 0 where
+pub record BytesStart (bytes : List ℕ) (r : RunLengthBytes) : Type 0 where
   pub bytes_are : r.bytes.now ≡ bytes
   pub at_start : r.at ≡ 0
   pub no_run : r.run.values ≡ []
@@ -43,16 +43,17 @@ MarksStart [] (Some bits) = ⊥
 MarksStart (b ∷ bs) None = ⊥
 MarksStart (b ∷ bs) (Some bits) = BitsStart (b ∷ bs) bits
 
-abbrev pub GroupsStart : Streams → Source → Type 0
+abbrev pub GroupsStart : Streams → ValueSource → Type 0
 GroupsStart x r = NumbersStart (version x) Unsigned (x.stream 2) r.numbers × (r.octets.rest.now ≡ x.stream 1)
 
-abbrev pub TextsStart : Bool → Streams → Option (Vec Entry Global) → Source → Type 0
-TextsStart true x (Some entries) r = IsDictionary x (map entry_bytes entries.items) × NumbersStart (version x) Unsigned (x.stream 1) r.numbers
+abbrev pub TextsStart : Bool → Streams → Option (Vec Entry Global) → ValueSource → Type 0
+TextsStart true x (Some entries) r =
+    IsDictionary x (map entry_bytes entries.items) × NumbersStart (version x) Unsigned (x.stream 1) r.numbers
 TextsStart true x None r = ⊥
 TextsStart false x (Some entries) r = ⊥
 TextsStart false x None r = GroupsStart x r
 
-abbrev pub ScalarStart : Scalar → Streams → Source → Type 0
+abbrev pub ScalarStart : Scalar → Streams → ValueSource → Type 0
 ScalarStart kind.Boolean x r = BitsStart (x.stream 1) r.bits
 ScalarStart kind.Byte x r = BytesStart (x.stream 1) r.bytes
 ScalarStart kind.Short x r = NumbersStart (version x) Signed (x.stream 1) r.numbers
@@ -63,7 +64,7 @@ ScalarStart kind.Binary x r = GroupsStart x r
 ScalarStart kind.String x r = TextsStart (has_dictionary x) x r.entries r
 
 -- of a column's own reader, what is beside the marks
-abbrev pub SourceStart : Shape → Streams → Source → Type 0
+abbrev pub SourceStart : Shape → Streams → ValueSource → Type 0
 SourceStart (scalar k o) x r = ScalarStart k x r
 SourceStart (list_of s o) x r = NumbersStart (version x) Unsigned (x.stream 2) r.numbers × (r.room ≡ most_cells)
 SourceStart (struct_of fs o) x r = Unit {0}
@@ -77,12 +78,15 @@ abbrev mutual
   pub TreeStart : Shape → (ℕ → Streams) → List ColumnReader → Type 0
   TreeStart s columns [] = ⊥
   TreeStart (scalar k o) columns (r ∷ rs) = OwnStart (scalar k o) (columns 0) r
-  TreeStart (list_of s o) columns (r ∷ rs) = OwnStart (list_of s o) (columns 0) r × TreeStart s (λ c. columns (suc c)) rs
-  TreeStart (struct_of fs o) columns (r ∷ rs) = OwnStart (struct_of fs o) (columns 0) r × FieldsStart fs (λ c. columns (suc c)) rs
+  TreeStart (list_of s o) columns (r ∷ rs) =
+      OwnStart (list_of s o) (columns 0) r × TreeStart s (λ c. columns (suc c)) rs
+  TreeStart (struct_of fs o) columns (r ∷ rs) =
+      OwnStart (struct_of fs o) (columns 0) r × FieldsStart fs (λ c. columns (suc c)) rs
 
   pub FieldsStart : Fields → (ℕ → Streams) → List ColumnReader → Type 0
   FieldsStart no_field columns rs = Unit {0}
-  FieldsStart (field name s fs) columns rs = TreeStart s columns (take (width s) rs) × FieldsStart fs (λ c. columns (width s + c)) (drop (width s) rs)
+  FieldsStart (field name s fs) columns rs =
+      TreeStart s columns (take (width s) rs) × FieldsStart fs (λ c. columns (width s + c)) (drop (width s) rs)
 
 abbrev pub LacksEntries : Bool → Streams → Type 0
 LacksEntries true x = (entries : List (List ℕ)) → IsDictionary x entries → ⊥
@@ -115,7 +119,7 @@ pub record AreStreams (x : Streams) (r : ColumnStreams) : Type 0 where
   pub words_are : r.words.now ≡ x.stream 3
 
 -- a source from the start of DATA, whatever is read from it
-pub record DataStart (x : Streams) (r : Source) : Type 0 where
+pub record DataStart (x : Streams) (r : ValueSource) : Type 0 where
   pub numbers : NumbersStart (version x) Signed (x.stream 1) r.numbers
   pub bytes : BytesStart (x.stream 1) r.bytes
   pub bits : BitsStart (x.stream 1) r.bits
@@ -137,13 +141,15 @@ abbrev mutual
   pub AreFields : Fields → (ℕ → Streams) → ℕ → List ColumnReader → Type 0
   AreFields no_field columns n readers = Unit {0}
   AreFields (field name s fs) columns n readers =
-      AreFrom (AreBelow s columns) s columns n (take (width s) readers) × AreFields fs columns (n + width s) (drop (width s) readers)
+      AreFrom (AreBelow s columns) s columns n (take (width s) readers)
+      × AreFields fs columns (n + width s) (drop (width s) readers)
 
 -- the readers of a column and of those below it, by the columns' numbers
 abbrev pub AreOf : Shape → (ℕ → Streams) → ℕ → List ColumnReader → Type 0
 AreOf s columns n readers = AreFrom (AreBelow s columns) s columns n readers
 
--- the readers of a column and of those below it stand behind the old ones; the column's number is the number of the old ones
+-- the readers of a column and of those below it stand behind the old ones;
+-- the column's number is the number of the old ones
 pub record Puts (footer : StripeFooter) (bytes : List ℕ) (s : Shape) (old new : List ColumnReader) : Type 0 where
   pub more : List ColumnReader
   pub parts : new ≡ old ++ more
@@ -151,7 +157,8 @@ pub record Puts (footer : StripeFooter) (bytes : List ℕ) (s : Shape) (old new 
   pub start : TreeStart s (columns_from footer bytes (length old)) more
   pub origins : AreOf s (columns_of footer bytes) (length old) more
 
-pub record PutsFields (footer : StripeFooter) (bytes : List ℕ) (fs : Fields) (old new : List ColumnReader) : Type 0 where
+pub record PutsFields (footer : StripeFooter) (bytes : List ℕ) (fs : Fields)
+    (old new : List ColumnReader) : Type 0 where
   pub more : List ColumnReader
   pub parts : new ≡ old ++ more
   pub counted : length more ≡ widths fs

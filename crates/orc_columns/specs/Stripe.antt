@@ -14,8 +14,8 @@ use Rattle.orc_wire.specs.declared.stripe_info.StripeInfo.{StripeInfo}
 use Rattle.orc_wire.specs.declared.stripe_footer.StripeFooter.{StripeFooter}
 use Rattle.orc_wire.specs.Messages.{stripe_footer}
 use Rattle.orc_wire.specs.Spells.{Spells}
-use Rattle.orc_columns.specs.declared.version.Version.{Version}
-use Rattle.orc_columns.specs.declared.version.Version.TheVariants.{One, Two}
+use Rattle.orc_rle.specs.declared.sign.Rle.{Rle}
+use Rattle.orc_rle.specs.declared.sign.Rle.TheVariants.{One, Two}
 use Rattle.orc_columns.specs.Spellings.{Nullable, Standing, size, Grouped, Within, Fielded}
 use Rattle.orc_columns.specs.Numbers.{AreNumbers}
 use Rattle.orc_columns.specs.Bytes.{AreBytes}
@@ -29,10 +29,10 @@ pub record Streams : Type 0 where
   pub stream : ℕ → List ℕ
 
 -- the version-2 kinds of encoding have integers of version 2
-abbrev pub version_at : ℕ → Version
+abbrev pub version_at : ℕ → Rle
 version_at encoding = if nat_lt encoding 2 then One else Two
 
-abbrev pub version : Streams → Version
+abbrev pub version : Streams → Rle
 version s = version_at s.encoding.kind
 
 -- DICTIONARY and DICTIONARY_V2
@@ -56,7 +56,10 @@ pub record IsDictionary (s : Streams) (entries : List (List ℕ)) : Type 0 where
   pub spelled : Grouped (AreNumbers (version s) Unsigned (s.stream 2)) (Is (s.stream 3)) entries
 
 abbrev pub SpellsTexts : Streams → Bool → List Cell → Type 0
-SpellsTexts s true vs = (entries : List (List ℕ)) × IsDictionary s entries × Standing (IsWord entries) (AreNumbers (version s) Unsigned (s.stream 1)) vs
+SpellsTexts s true vs =
+    (entries : List (List ℕ))
+    × IsDictionary s entries
+    × Standing (IsWord entries) (AreNumbers (version s) Unsigned (s.stream 1)) vs
 SpellsTexts s false vs = Standing IsText (Grouped (AreNumbers (version s) Unsigned (s.stream 2)) (Is (s.stream 1))) vs
 
 abbrev pub SpellsInts : Scalar → Streams → List Cell → Type 0
@@ -70,7 +73,8 @@ SpellsScalar kind.Short s vs = SpellsInts kind.Short s vs
 SpellsScalar kind.Int s vs = SpellsInts kind.Int s vs
 SpellsScalar kind.Long s vs = SpellsInts kind.Long s vs
 SpellsScalar kind.Date s vs = Standing IsDate (AreNumbers (version s) Signed (s.stream 1)) vs
-SpellsScalar kind.Binary s vs = Standing IsBinary (Grouped (AreNumbers (version s) Unsigned (s.stream 2)) (Is (s.stream 1))) vs
+SpellsScalar kind.Binary s vs =
+    Standing IsBinary (Grouped (AreNumbers (version s) Unsigned (s.stream 2)) (Is (s.stream 1))) vs
 SpellsScalar kind.String s vs = SpellsTexts s (has_dictionary s) vs
 
 -- the streams beside PRESENT spell the values of a column: of lists their lengths, of structs nothing
@@ -79,9 +83,17 @@ SpellsValues (scalar k o) s vs = SpellsScalar k s vs
 SpellsValues (list_of e o) s vs = AreNumbers (version s) Unsigned (s.stream 2) (map (λ v. size (parts v)) vs)
 SpellsValues (struct_of fs o) s vs = Unit {0}
 
+-- a column of a stripe has fewer cells than this
+abbrev pub cell_limit : ℕ
+cell_limit = 2 ^ 31
+
+-- the most that it may have
+abbrev pub most_cells : ℕ
+most_cells = cell_limit - 1
+
 -- the streams of a column spell its cells
 pub record IsColumn (shape : Shape) (s : Streams) (column : List Cell) : Type 0 where
-  pub few : length column < 2 ^ 31
+  pub few : length column < cell_limit
   pub marks : Marks (s.stream 0) (map is_value column)
   pub spelled : SpellsValues shape s (values column)
 
@@ -90,9 +102,6 @@ pub record SpellRows (schema : Shape) (columns : ℕ → Streams) (count : ℕ) 
   pub counted : length rows ≡ count
   pub fit : RowsFit schema rows
   pub column : (c : ℕ) → c < width schema → IsColumn (shape_at schema c) (columns c) (cells schema c rows)
-
-abbrev pub most_cells : ℕ
-most_cells = 2 ^ 31 - 1
 
 -- ---- the same by going down the schema, as a reader does
 
@@ -105,12 +114,14 @@ abbrev mutual
   SpellsTree (scalar k o) columns vs = SpellsScalar k (columns 0) vs
   SpellsTree (list_of s o) columns vs =
       Standing IsList
-      (Grouped (AreNumbers (version (columns 0)) Unsigned ((columns 0).stream 2)) (Within most_cells (SpellsColumn (SpellsTree s) (λ c. columns (suc c))))) vs
+      (Grouped (AreNumbers (version (columns 0)) Unsigned ((columns 0).stream 2))
+      (Within most_cells (SpellsColumn (SpellsTree s) (λ c. columns (suc c))))) vs
   SpellsTree (struct_of fs o) columns vs = Standing IsRecord (SpellsFields fs (λ c. columns (suc c))) vs
 
   pub SpellsFields : Fields → (ℕ → Streams) → List (List Cell) → Type 0
   SpellsFields no_field columns structs = AllByRecursion (λ cells. cells ≡ []) structs
-  SpellsFields (field name s fs) columns structs = Fielded (SpellsColumn (SpellsTree s) columns) (SpellsFields fs (λ c. columns (width s + c))) structs
+  SpellsFields (field name s fs) columns structs =
+      Fielded (SpellsColumn (SpellsTree s) columns) (SpellsFields fs (λ c. columns (width s + c))) structs
 
 -- a column's cells, with all below it
 abbrev pub SpellsCells : Shape → (ℕ → Streams) → List Cell → Type 0
@@ -126,7 +137,8 @@ encoding_at (e ∷ es) (suc c) = encoding_at es c
 
 -- each column's encoding, and its streams by the directory
 abbrev pub columns_of : StripeFooter → List ℕ → ℕ → Streams
-columns_of footer bytes c = record { encoding = encoding_at footer.columns c; stream = λ kind. slice c kind footer.streams bytes }
+columns_of footer bytes c =
+    record { encoding = encoding_at footer.columns c; stream = λ kind. slice c kind footer.streams bytes }
 
 -- the columns from one on
 abbrev pub columns_from : StripeFooter → List ℕ → ℕ → ℕ → Streams

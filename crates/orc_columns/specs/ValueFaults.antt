@@ -1,5 +1,5 @@
--- What is wrong with values that streams do spell (ORC specification, "Column Encodings"). `first` are the numbers that come first in
--- a stream, whatever follows.
+-- What is wrong with values that streams do spell (ORC specification, "Column Encodings"). `first` are the numbers that
+-- come first in a stream, whatever follows.
 use Rattle.std.specs.Prelude.{◌≡◌, ℕ, ◌<◌, ℤ, pos, negsuc, nat_lt, Bool, true, false, Option, Some, None, List, ◌++◌, length, map, sum, slice_get, ◌⊎◌}
 use Rattle.std.specs.List.{AllByRecursion}
 use Rattle.std.specs.Str.{is_utf8}
@@ -27,7 +27,10 @@ names_text entries (negsuc i) = true
 -- the lengths that come first cut the bytes into groups that aren't all UTF-8
 abbrev pub CutsNoText : (List ℤ → Type 0) → List ℕ → Type 0
 CutsNoText first bytes =
-    (groups : List (List ℕ)) × (rest : List ℕ) × first (map size groups) × (bytes ≡ joined groups ++ rest) × (AllByRecursion (λ g. is_utf8 g ≡ true) groups → ⊥)
+    (groups : List (List ℕ)) × (rest : List ℕ)
+    × first (map size groups)
+    × (bytes ≡ joined groups ++ rest)
+    × (AllByRecursion (λ g. is_utf8 g ≡ true) groups → ⊥)
 
 -- the lengths that come first are more than this together
 abbrev pub PassTogether : (List ℤ → Type 0) → ℕ → Type 0
@@ -39,4 +42,5 @@ StayBelow all count = (lengths : List ℕ) × all (map pos lengths) × (sum leng
 
 -- the bytes are fewer than the lengths say, or more
 abbrev pub HasOtherLength : Integers → List ℕ → Type 0
-HasOtherLength lengths bytes = PassTogether (IntegersFirst lengths) (length bytes) ⊎ StayBelow (AreIntegers lengths) (length bytes)
+HasOtherLength lengths bytes =
+    PassTogether (IntegersFirst lengths) (length bytes) ⊎ StayBelow (AreIntegers lengths) (length bytes)

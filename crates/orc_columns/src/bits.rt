@@ -9,14 +9,14 @@ ghost use Rattle.orc_rle.specs.BitStream.{digit};
 ghost use Rattle.orc_rle.specs.declared.fault.RunFault.TheVariants.{OutOfMemory};
 ghost use Rattle.orc_rle.specs.declared.fault.RunFault.{RunFault as Fault};
 
-use crate::bytes::{Bytes, bytes_end, bytes_left, bytes_of};
+use crate::bytes::{RunLengthBytes, bytes_end, bytes_left, bytes_of};
 use orc_rle::RunFault;
 
 /// What is left of a stream of booleans: so many digits of the byte that was read last, and the bytes
 /// after it. It takes no memory.
 #[derive(Drop)]
 pub struct Bits<'a> {
-    pub bytes: Bytes<'a>,
+    pub bytes: RunLengthBytes<'a>,
     pub held: u8,
     pub left: u32,
 }

@@ -8,13 +8,12 @@ ghost use Rattle.orc_columns.specs.Starting.{BytesStart};
 ghost use Rattle.orc_rle.specs.declared.fault.RunFault.TheVariants.{OutOfMemory};
 ghost use Rattle.orc_rle.specs.declared.fault.RunFault.{RunFault as Fault};
 
-use crate::fault::moved;
 use orc_rle::{ByteRuns, RunFault, RunU8};
 
 /// What is left of a stream of bytes in runs: the bytes of the run that was read last which weren't
 /// taken yet, and the runs after it. It takes no memory.
 #[derive(Drop)]
-pub struct Bytes<'a> {
+pub struct RunLengthBytes<'a> {
     pub bytes: &'a [u8],
     pub at: usize,
     // where the run that was read last begins
@@ -24,10 +23,10 @@ pub struct Bytes<'a> {
 }
 
 /// A stream of bytes in runs, from its start.
-pub(crate) fn bytes_of(bytes: &[u8]) -> Bytes<'_>
+pub(crate) fn bytes_of(bytes: &[u8]) -> RunLengthBytes<'_>
     ensures { BytesStart bytes.now result }
 {
-    Bytes {
+    RunLengthBytes {
         bytes,
         at: 0,
         start: 0,
@@ -36,7 +35,7 @@ pub(crate) fn bytes_of(bytes: &[u8]) -> Bytes<'_>
     }
 }
 
-impl<'a> Bytes<'a> {
+impl<'a> RunLengthBytes<'a> {
     /// Reads runs until a byte is there.
     fn fill(&mut self) -> Result<(), RunFault>
         ensures found { OnOk result (Leaves (BytesLeft self.old) (BytesLeft self.new) []) }
@@ -57,7 +56,7 @@ impl<'a> Bytes<'a> {
                     self.at += len;
                     self.used = 0;
                 }
-                Err(fault) => return Err(moved(fault, self.at)),
+                Err(fault) => return Err(fault.with_place(self.at)),
             }
         }
         Ok(())
@@ -83,7 +82,7 @@ impl<'a> Bytes<'a> {
 }
 
 /// Whether no byte of the runs is left.
-pub(crate) fn bytes_end(bytes: &Bytes<'_>) -> bool
+pub(crate) fn bytes_end(bytes: &RunLengthBytes<'_>) -> bool
     ensures { MatchBool result (BytesLeft bytes.now []) (BytesLeft bytes.now [] → ⊥) }
 {
     if bytes.used < bytes.run.values().len() {
@@ -96,7 +95,7 @@ pub(crate) fn bytes_end(bytes: &Bytes<'_>) -> bool
 }
 
 /// The fault of bytes in runs that are left over.
-pub(crate) fn bytes_left(bytes: &Bytes<'_>) -> RunFault
+pub(crate) fn bytes_left(bytes: &RunLengthBytes<'_>) -> RunFault
     requires more { BytesLeft bytes.now [] → ⊥ }
     ensures met { BytesMeet bytes.now 0 result }
     ensures no_memory { result ≢ OutOfMemory }
@@ -107,6 +106,6 @@ pub(crate) fn bytes_left(bytes: &Bytes<'_>) -> RunFault
     let (_, rest) = bytes.bytes.split_at(bytes.at);
     match ByteRuns::next_run(rest, &mut RunU8::new()) {
         Ok(_) => RunFault::TooMany(bytes.at),
-        Err(fault) => moved(fault, bytes.at),
+        Err(fault) => fault.with_place(bytes.at),
     }
 }

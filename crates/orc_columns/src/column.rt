@@ -19,7 +19,7 @@ ghost use Rattle.orc_rle.specs.declared.fault.RunFault.{RunFault as RunsFault};
 ghost use Rattle.orc_columns.specs.declared.fault.StripeFault.{StripeFault as Fault};
 
 use crate::bits::{Bits, bits_end, bits_left};
-use crate::bytes::{Bytes, bytes_end, bytes_left};
+use crate::bytes::{RunLengthBytes, bytes_end, bytes_left};
 use crate::dictionary::next_word;
 use crate::fault::{StreamKind, StripeFault, run_fault};
 use crate::groups::{groups_end, groups_left, next_binary, next_text};
@@ -29,6 +29,9 @@ use crate::octets::Octets;
 use crate::whole_numbers::{next_byte, next_date, next_int, next_long, next_number};
 use orc_types::{Scalar, Value};
 
+/// The most cells that a column of a stripe may have.
+pub const MOST_CELLS: u64 = 0x7fff_ffff;
+
 /// An entry of a dictionary.
 #[derive(Clone, Copy)]
 pub struct Entry<'a> {
@@ -37,12 +40,12 @@ pub struct Entry<'a> {
 
 /// What is left of the streams of a column beside PRESENT. Each kind of column uses some of them.
 #[derive(Drop)]
-pub struct Source<'a> {
+pub struct ValueSource<'a> {
     pub column: usize,
     /// DATA of whole numbers and of indexes, LENGTH of texts, bytes and lists.
     pub numbers: Numbers<'a>,
     /// DATA of whole numbers of 8 bits.
-    pub bytes: Bytes<'a>,
+    pub bytes: RunLengthBytes<'a>,
     /// DATA of booleans.
     pub bits: Bits<'a>,
     /// DATA of texts and bytes.
@@ -57,17 +60,22 @@ pub struct Source<'a> {
 #[derive(Drop)]
 pub struct ColumnReader<'a> {
     pub present: Option<Bits<'a>>,
-    pub source: Source<'a>,
+    pub source: ValueSource<'a>,
 }
 
 /// Whether the column's next cell is not null.
 pub fn next_present(reader: &mut ColumnReader<'_>) -> Result<bool, StripeFault>
-    ensures found { IfOk result (λ mark. Leaves (MarksLeft reader.old.present) (MarksLeft reader.new.present) (mark ∷ [])) }
+    ensures found { IfOk result
+        (λ mark. Leaves (MarksLeft reader.old.present) (MarksLeft reader.new.present) (mark ∷ [])) }
     ensures source { OnOk result (reader.new.source ≡ reader.old.source) }
-    ensures first { IfOk result (λ mark. Precedes (MarksFirst reader.old.present) (MarksFirst reader.new.present) (mark ∷ [])) }
+    ensures first { IfOk result
+        (λ mark. Precedes (MarksFirst reader.old.present) (MarksFirst reader.new.present) (mark ∷ [])) }
     ensures none { OnErr result (Lacks (MarksLeft reader.old.present) 1) }
-    ensures before { OnOk result ((n : ℕ) (f : RunsFault) → MarksMeet reader.new.present n f → MarksMeet reader.old.present (suc n) f) }
-    ensures fault { IfErr result (λ cause. cause ≢ fault.OutOfMemory → (n : ℕ) → PresentMeets reader.old false (suc n) cause) }
+    ensures before { OnOk result ((n : ℕ) (f : RunsFault)
+        → MarksMeet reader.new.present n f
+        → MarksMeet reader.old.present (suc n) f) }
+    ensures fault { IfErr result (λ cause. cause ≢ fault.OutOfMemory
+        → (n : ℕ) → PresentMeets reader.old false (suc n) cause) }
 {
     match next_mark(reader.source.column, &mut reader.present) {
         Ok(mark) => Ok(mark),
@@ -77,9 +85,11 @@ pub fn next_present(reader: &mut ColumnReader<'_>) -> Result<bool, StripeFault>
 
 /// The next value of a column of booleans.
 fn next_bool<'a>(column: usize, bits: &mut Bits<'a>) -> Result<Value<'a>, StripeFault>
-    ensures found { IfOk result (λ v. Leaves (Standing IsBool (BitsLeft bits.old)) (Standing IsBool (BitsLeft bits.new)) (cell_of_value v ∷ [])) }
+    ensures found { IfOk result (λ v. Leaves (Standing IsBool (BitsLeft bits.old))
+        (Standing IsBool (BitsLeft bits.new)) (cell_of_value v ∷ [])) }
     ensures none { OnErr result (Lacks (Standing IsBool (BitsLeft bits.old)) 1) }
-    ensures before { OnOk result ((all : Bool) (n : ℕ) (f : Fault) → RunsFail stream.Data column (Always all n (BitsMeet bits.new)) f
+    ensures before { OnOk result ((all : Bool) (n : ℕ) (f : Fault)
+        → RunsFail stream.Data column (Always all n (BitsMeet bits.new)) f
         → RunsFail stream.Data column (Always all (suc n) (BitsMeet bits.old)) f) }
     ensures fault { IfErr result (λ cause. cause ≢ fault.OutOfMemory
         → (n : ℕ) → RunsFail stream.Data column (Always false (suc n) (BitsMeet bits.old)) cause) }
@@ -90,14 +100,18 @@ fn next_bool<'a>(column: usize, bits: &mut Bits<'a>) -> Result<Value<'a>, Stripe
     }
 }
 
-impl<'a> Source<'a> {
+impl<'a> ValueSource<'a> {
     /// The next value of a column of a kind that contains no other. It takes no memory.
     pub fn next_scalar(&mut self, kind: Scalar) -> Result<Value<'a>, StripeFault>
-        ensures found { IfOk result (λ v. Leaves (ScalarLeft kind self.old) (ScalarLeft kind self.new) (cell_of_value v ∷ [])) }
+        ensures found { IfOk result
+            (λ v. Leaves (ScalarLeft kind self.old) (ScalarLeft kind self.new) (cell_of_value v ∷ [])) }
         ensures none { OnErr result (Lacks (ScalarLeft kind self.old) 1) }
         ensures column { self.new.column ≡ self.old.column }
-        ensures before { OnOk result ((all : Bool) (n : ℕ) (f : Fault) → ScalarMeets kind self.new all n f → ScalarMeets kind self.old all (suc n) f) }
-        ensures fault { IfErr result (λ cause. cause ≢ fault.OutOfMemory → (n : ℕ) → ScalarMeets kind self.old false (suc n) cause) }
+        ensures before { OnOk result ((all : Bool) (n : ℕ) (f : Fault)
+            → ScalarMeets kind self.new all n f
+            → ScalarMeets kind self.old all (suc n) f) }
+        ensures fault { IfErr result (λ cause. cause ≢ fault.OutOfMemory
+            → (n : ℕ) → ScalarMeets kind self.old false (suc n) cause) }
     {
         match kind {
             Scalar::Boolean => next_bool(self.column, &mut self.bits),
@@ -116,14 +130,19 @@ impl<'a> Source<'a> {
 }
 
 /// The size of the next list, for which there is room.
-pub fn next_size(source: &mut Source<'_>) -> Result<u64, StripeFault>
-    ensures found { IfOk result (λ size. Leaves (NumbersLeft source.old.numbers) (NumbersLeft source.new.numbers) (pos size ∷ [])) }
-    ensures first { IfOk result (λ size. Precedes (NumbersFirst source.old.numbers) (NumbersFirst source.new.numbers) (pos size ∷ [])) }
+pub fn next_size(source: &mut ValueSource<'_>) -> Result<u64, StripeFault>
+    ensures found { IfOk result
+        (λ size. Leaves (NumbersLeft source.old.numbers) (NumbersLeft source.new.numbers) (pos size ∷ [])) }
+    ensures first { IfOk result
+        (λ size. Precedes (NumbersFirst source.old.numbers) (NumbersFirst source.new.numbers) (pos size ∷ [])) }
     ensures room { IfOk result (λ size. (size ≤ source.old.room) × (source.new.room ≡ source.old.room - size)) }
     ensures none { OnErr result ((s : Shape) (below : List Reader) → Lacks (ListsLeft s source.old below) 1) }
     ensures column { source.new.column ≡ source.old.column }
-    ensures before { OnOk result ((all : Bool) (n : ℕ) (f : Fault) → ListsMeet source.new all n f → ListsMeet source.old all (suc n) f) }
-    ensures fault { IfErr result (λ cause. cause ≢ fault.OutOfMemory → (n : ℕ) → ListsMeet source.old false (suc n) cause) }
+    ensures before { OnOk result ((all : Bool) (n : ℕ) (f : Fault)
+        → ListsMeet source.new all n f
+        → ListsMeet source.old all (suc n) f) }
+    ensures fault { IfErr result (λ cause. cause ≢ fault.OutOfMemory
+        → (n : ℕ) → ListsMeet source.old false (suc n) cause) }
 {
     match next_number(source.column, StreamKind::Length, &mut source.numbers) {
         Ok(number) => {
@@ -141,7 +160,7 @@ pub fn next_size(source: &mut Source<'_>) -> Result<u64, StripeFault>
 }
 
 /// Whether no value is left of a column of a kind that contains no other.
-pub(crate) fn scalar_end(source: &Source<'_>, kind: Scalar) -> bool
+pub(crate) fn scalar_end(source: &ValueSource<'_>, kind: Scalar) -> bool
     ensures { MatchBool result (ScalarLeft kind source.now []) (ScalarLeft kind source.now [] → ⊥) }
 {
     match kind {
@@ -160,7 +179,7 @@ pub(crate) fn scalar_end(source: &Source<'_>, kind: Scalar) -> bool
 }
 
 /// The fault of numbers that are left over in DATA.
-fn data_left(source: &Source<'_>) -> StripeFault
+fn data_left(source: &ValueSource<'_>) -> StripeFault
     requires more { NumbersLeft source.now.numbers [] → ⊥ }
     ensures { RunsFail stream.Data source.now.column (Always true 0 (NumbersMeet source.now.numbers)) result }
 {
@@ -172,7 +191,7 @@ fn data_left(source: &Source<'_>) -> StripeFault
 }
 
 /// The fault of values that are left over, of a column of a kind that contains no other.
-pub(crate) fn scalar_left(source: &Source<'_>, kind: Scalar) -> StripeFault
+pub(crate) fn scalar_left(source: &ValueSource<'_>, kind: Scalar) -> StripeFault
     requires more { ScalarLeft kind source.now [] → ⊥ }
     ensures { ScalarMeets kind source.now true 0 result }
 {

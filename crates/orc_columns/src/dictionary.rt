@@ -21,9 +21,8 @@ use crate::fault::{StreamKind, StripeFault};
 use crate::groups::{groups_end, groups_left, next_group};
 use crate::numbers::{Numbers, numbers_of};
 use crate::octets::Octets;
-use crate::version::Version;
 use crate::whole_numbers::next_number;
-use orc_rle::Sign;
+use orc_rle::{Rle, Sign};
 use orc_types::Value;
 use std::alloc::Global;
 use std::borrow::CowStr;
@@ -32,7 +31,7 @@ use std::borrow::CowStr;
 pub fn entries_of<'a>(
     alloc: Global,
     column: usize,
-    version: Version,
+    version: Rle,
     lengths: &'a [u8],
     bytes: &'a [u8],
     size: u32,
@@ -42,7 +41,8 @@ pub fn entries_of<'a>(
     ensures none { IfErr result (λ cause. cause ≢ fault.OutOfMemory → (entries : List (List ℕ)) → length entries ≡ size
         → Grouped (AreNumbers version Unsigned lengths.now) (Is bytes.now) entries → ⊥) }
     ensures fault { IfErr result (λ cause. cause ≢ fault.OutOfMemory
-        → GroupsFail stream.DictionaryData (record { version = version; sign = Unsigned; bytes = lengths.now }) true size bytes.now column cause) }
+        → GroupsFail stream.DictionaryData (record { version = version; sign = Unsigned; bytes = lengths.now })
+        true size bytes.now column cause) }
 {
     let mut numbers = numbers_of(version, Sign::Unsigned, lengths);
     let mut octets = Octets { rest: bytes };
@@ -68,8 +68,10 @@ pub fn entries_of<'a>(
 fn word<'a>(column: usize, entries: &[Entry<'a>], number: i64) -> Result<Value<'a>, StripeFault>
     ensures found { IfOk result (λ v. IsWord (map entry_bytes entries.now) number (cell_of_value v)) }
     ensures none { OnErr result ((c : Cell) → IsWord (map entry_bytes entries.now) number c → ⊥) }
-    ensures fault { IfErr result (λ cause. ((cause ≡ fault.BadIndex column) × (is_index (length entries.now) number ≡ false))
-        ⊎ ((cause ≡ fault.NotUtf8 column stream.DictionaryData) × (names_text (map entry_bytes entries.now) number ≡ false))) }
+    ensures fault { IfErr result (λ cause.
+        ((cause ≡ fault.BadIndex column) × (is_index (length entries.now) number ≡ false))
+        ⊎ ((cause ≡ fault.NotUtf8 column stream.DictionaryData)
+        × (names_text (map entry_bytes entries.now) number ≡ false))) }
 {
     let Ok(index) = usize::try_from(number) else {
         return Err(StripeFault::BadIndex(column));
@@ -92,7 +94,8 @@ pub(crate) fn next_word<'a>(
     ensures found { IfOk result (λ v. Leaves (Standing (IsWord (map entry_bytes entries.now)) (NumbersLeft numbers.old))
         (Standing (IsWord (map entry_bytes entries.now)) (NumbersLeft numbers.new)) (cell_of_value v ∷ [])) }
     ensures none { OnErr result (Lacks (Standing (IsWord (map entry_bytes entries.now)) (NumbersLeft numbers.old)) 1) }
-    ensures before { OnOk result ((all : Bool) (n : ℕ) (f : Fault) → WordsMeet (map entry_bytes entries.now) numbers.new all n column f
+    ensures before { OnOk result ((all : Bool) (n : ℕ) (f : Fault)
+        → WordsMeet (map entry_bytes entries.now) numbers.new all n column f
         → WordsMeet (map entry_bytes entries.now) numbers.old all (suc n) column f) }
     ensures fault { IfErr result (λ cause. cause ≢ fault.OutOfMemory
         → (n : ℕ) → WordsMeet (map entry_bytes entries.now) numbers.old false (suc n) column cause) }

@@ -1,3 +1,4 @@
+//! A stripe's directory: whether its streams and its columns' encodings can be.
 ghost use Rattle.std.specs.Prelude.{◌≡◌, true, false, IfOk, IfErr, OnOk, ◌⊎◌};
 ghost use Rattle.orc_columns.specs.declared.fault.StripeFault.TheVariants.{BadDirectory, OutOfMemory};
 ghost use Rattle.orc_columns.specs.Directory as spec;
@@ -63,7 +64,8 @@ pub fn check_directory(
     streams: &[StreamMsg],
 ) -> Result<(), StripeFault>
     ensures accepted { OnOk result (spec.is_directory width room streams.now ≡ true) }
-    ensures refused { IfErr result (λ fault. (fault ≡ OutOfMemory) ⊎ ((fault ≡ BadDirectory) × (spec.is_directory width room streams.now ≡ false))) }
+    ensures refused { IfErr result (λ fault. (fault ≡ OutOfMemory)
+        ⊎ ((fault ≡ BadDirectory) × (spec.is_directory width room streams.now ≡ false))) }
 {
     if !have_room(room, streams) {
         return Err(StripeFault::BadDirectory);

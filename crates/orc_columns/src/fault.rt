@@ -1,5 +1,5 @@
+//! Why bytes are no stripe.
 ghost use Rattle.std.specs.Prelude.{◌≡◌, ◌≢◌, ◌⊎◌};
-ghost use Rattle.orc_rle.specs.Stream.{at_place};
 ghost use Rattle.orc_columns.specs.declared.fault.StripeFault.TheVariants as fault;
 ghost use Rattle.orc_wire.specs.declared.fault.WireFault.TheVariants as wire;
 ghost use Rattle.orc_rle.specs.declared.fault.RunFault.TheVariants as run;
@@ -91,26 +91,6 @@ pub fn run_fault(column: usize, kind: StreamKind, cause: RunFault) -> StripeFaul
     match cause {
         RunFault::OutOfMemory => StripeFault::OutOfMemory,
         cause => StripeFault::Run(column, kind, cause),
-    }
-}
-
-/// The same fault of a run at another place; `OutOfMemory` has none.
-pub fn moved(cause: RunFault, place: usize) -> RunFault
-    ensures same { result ≡ at_place cause place }
-    ensures no_memory { cause ≢ run.OutOfMemory → result ≢ run.OutOfMemory }
-{
-    match cause {
-        RunFault::Short(_) => RunFault::Short(place),
-        RunFault::BadVarint(_) => RunFault::BadVarint(place),
-        RunFault::ValueRange(_) => RunFault::ValueRange(place),
-        RunFault::BadDelta(_) => RunFault::BadDelta(place),
-        RunFault::PatchOrder(_) => RunFault::PatchOrder(place),
-        RunFault::PatchPlace(_) => RunFault::PatchPlace(place),
-        RunFault::PatchRange(_) => RunFault::PatchRange(place),
-        RunFault::TooFew(_) => RunFault::TooFew(place),
-        RunFault::TooMany(_) => RunFault::TooMany(place),
-        RunFault::BadPosition(_) => RunFault::BadPosition(place),
-        RunFault::OutOfMemory => RunFault::OutOfMemory,
     }
 }
 

@@ -29,11 +29,14 @@ pub fn next_group<'a>(
     ensures found { IfOk result (λ bytes. Leaves (Grouped (NumbersLeft numbers.old) (OctetsLeft octets.old))
         (Grouped (NumbersLeft numbers.new) (OctetsLeft octets.new)) (bytes.now ∷ [])) }
     ensures none { OnErr result (Lacks (Grouped (NumbersLeft numbers.old) (OctetsLeft octets.old)) 1) }
-    ensures first { IfOk result (λ bytes. Precedes (NumbersFirst numbers.old) (NumbersFirst numbers.new) (pos (length bytes.now) ∷ [])) }
+    ensures first { IfOk result
+        (λ bytes. Precedes (NumbersFirst numbers.old) (NumbersFirst numbers.new) (pos (length bytes.now) ∷ [])) }
     ensures bytes { IfOk result (λ bytes. octets.old.rest.now ≡ bytes.now ++ octets.new.rest.now) }
-    ensures before { OnOk result ((all : Bool) (n : ℕ) (f : Fault) → GroupsMeet kind numbers.new octets.new all n column f
+    ensures before { OnOk result ((all : Bool) (n : ℕ) (f : Fault)
+        → GroupsMeet kind numbers.new octets.new all n column f
         → GroupsMeet kind numbers.old octets.old all (suc n) column f) }
-    ensures fault { IfErr result (λ cause. cause ≢ fault.OutOfMemory → (n : ℕ) → GroupsMeet kind numbers.old octets.old false (suc n) column cause) }
+    ensures fault { IfErr result (λ cause. cause ≢ fault.OutOfMemory
+        → (n : ℕ) → GroupsMeet kind numbers.old octets.old false (suc n) column cause) }
 {
     match next_number(column, StreamKind::Length, numbers) {
         Ok(number) => {
@@ -85,12 +88,15 @@ pub(crate) fn next_text<'a>(
     numbers: &mut Numbers<'a>,
     octets: &mut Octets<'a>,
 ) -> Result<Value<'a>, StripeFault>
-    ensures found { IfOk result (λ v. Leaves (Standing IsText (Grouped (NumbersLeft numbers.old) (OctetsLeft octets.old)))
+    ensures found { IfOk result
+        (λ v. Leaves (Standing IsText (Grouped (NumbersLeft numbers.old) (OctetsLeft octets.old)))
         (Standing IsText (Grouped (NumbersLeft numbers.new) (OctetsLeft octets.new))) (cell_of_value v ∷ [])) }
-    ensures none { OnErr result (Lacks (Standing IsText (Grouped (NumbersLeft numbers.old) (OctetsLeft octets.old))) 1) }
+    ensures none { OnErr result
+        (Lacks (Standing IsText (Grouped (NumbersLeft numbers.old) (OctetsLeft octets.old))) 1) }
     ensures before { OnOk result ((all : Bool) (n : ℕ) (f : Fault) → TextMeets numbers.new octets.new all n column f
         → TextMeets numbers.old octets.old all (suc n) column f) }
-    ensures fault { IfErr result (λ cause. cause ≢ fault.OutOfMemory → (n : ℕ) → TextMeets numbers.old octets.old false (suc n) column cause) }
+    ensures fault { IfErr result (λ cause. cause ≢ fault.OutOfMemory
+        → (n : ℕ) → TextMeets numbers.old octets.old false (suc n) column cause) }
 {
     match next_group(column, StreamKind::Data, numbers, octets) {
         Ok(bytes) => match std::str::from_utf8(bytes) {
@@ -114,10 +120,13 @@ pub(crate) fn next_binary<'a>(
     numbers: &mut Numbers<'a>,
     octets: &mut Octets<'a>,
 ) -> Result<Value<'a>, StripeFault>
-    ensures found { IfOk result (λ v. Leaves (Standing IsBinary (Grouped (NumbersLeft numbers.old) (OctetsLeft octets.old)))
+    ensures found { IfOk result
+        (λ v. Leaves (Standing IsBinary (Grouped (NumbersLeft numbers.old) (OctetsLeft octets.old)))
         (Standing IsBinary (Grouped (NumbersLeft numbers.new) (OctetsLeft octets.new))) (cell_of_value v ∷ [])) }
-    ensures none { OnErr result (Lacks (Standing IsBinary (Grouped (NumbersLeft numbers.old) (OctetsLeft octets.old))) 1) }
-    ensures before { OnOk result ((all : Bool) (n : ℕ) (f : Fault) → GroupsMeet stream.Data numbers.new octets.new all n column f
+    ensures none { OnErr result
+        (Lacks (Standing IsBinary (Grouped (NumbersLeft numbers.old) (OctetsLeft octets.old))) 1) }
+    ensures before { OnOk result ((all : Bool) (n : ℕ) (f : Fault)
+        → GroupsMeet stream.Data numbers.new octets.new all n column f
         → GroupsMeet stream.Data numbers.old octets.old all (suc n) column f) }
     ensures fault { IfErr result (λ cause. cause ≢ fault.OutOfMemory
         → (n : ℕ) → GroupsMeet stream.Data numbers.old octets.old false (suc n) column cause) }

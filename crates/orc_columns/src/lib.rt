@@ -1,4 +1,5 @@
-//! Columns: streams to cells. What a stripe's streams spell, read column by column down the schema, and what can be wrong with them.
+//! Columns: streams to cells. What a stripe's streams spell, read column by column down the schema, and what can
+//! be wrong with them.
 #![tactic(auto)]
 
 pub mod bits;

@@ -56,7 +56,8 @@ pub fn locate<'a>(
 ) -> Result<Located<'a>, StripeFault>
     requires room { spec.have_room (length bytes.now) footer.now.streams ≡ true }
     requires once { spec.names_once footer.now.streams ≡ true }
-    ensures found { IfOk result (λ located. AreLocated (length footer.now.columns) footer.now.streams bytes.now located.slices.items) }
+    ensures found { IfOk result
+        (λ located. AreLocated (length footer.now.columns) footer.now.streams bytes.now located.slices.items) }
     ensures same { IfOk result (λ located. located.bytes.now ≡ bytes.now) }
     ensures refused { IfErr result (λ fault. fault ≡ OutOfMemory) }
 {

@@ -30,7 +30,9 @@ pub fn next_mark(column: usize, present: &mut Option<Bits<'_>>) -> Result<bool, 
     ensures found { IfOk result (λ mark. Leaves (MarksLeft present.old) (MarksLeft present.new) (mark ∷ [])) }
     ensures first { IfOk result (λ mark. Precedes (MarksFirst present.old) (MarksFirst present.new) (mark ∷ [])) }
     ensures none { OnErr result (Lacks (MarksLeft present.old) 1) }
-    ensures before { OnOk result ((n : ℕ) (f : RunsFault) → MarksMeet present.new n f → MarksMeet present.old (suc n) f) }
+    ensures before { OnOk result ((n : ℕ) (f : RunsFault)
+        → MarksMeet present.new n f
+        → MarksMeet present.old (suc n) f) }
     ensures fault { IfErr result (λ cause. cause ≢ fault.OutOfMemory
         → RunsFail stream.Present column (λ f. (n : ℕ) → MarksMeet present.old (suc n) f) cause) }
 {

@@ -8,15 +8,14 @@ ghost use Rattle.orc_columns.specs.Starting.{NumbersStart};
 ghost use Rattle.orc_rle.specs.declared.fault.RunFault.TheVariants.{OutOfMemory};
 ghost use Rattle.orc_rle.specs.declared.fault.RunFault.{RunFault as Fault};
 
-use crate::fault::moved;
-use crate::version::{Version, next_run};
-use orc_rle::{Run, RunFault, Sign};
+use crate::version::next_run;
+use orc_rle::{Rle, Run, RunFault, Sign};
 
 /// What is left of a stream of integers: the values of the run that was read last which weren't taken
 /// yet, and the bytes after it. It takes no memory.
 #[derive(Drop)]
 pub struct Numbers<'a> {
-    pub version: Version,
+    pub version: Rle,
     pub sign: Sign,
     pub bytes: &'a [u8],
     pub at: usize,
@@ -27,7 +26,7 @@ pub struct Numbers<'a> {
 }
 
 /// A stream of integers, from its start.
-pub fn numbers_of(version: Version, sign: Sign, bytes: &[u8]) -> Numbers<'_>
+pub fn numbers_of(version: Rle, sign: Sign, bytes: &[u8]) -> Numbers<'_>
     ensures { NumbersStart version sign bytes.now result }
 {
     Numbers {
@@ -63,7 +62,7 @@ impl<'a> Numbers<'a> {
                     self.at += len;
                     self.used = 0;
                 }
-                Err(fault) => return Err(moved(fault, self.at)),
+                Err(fault) => return Err(fault.with_place(self.at)),
             }
         }
         Ok(())
@@ -115,6 +114,6 @@ pub fn numbers_left(numbers: &Numbers<'_>) -> RunFault
     let (_, rest) = numbers.bytes.split_at(numbers.at);
     match next_run(numbers.version, rest, numbers.sign, &mut Run::new()) {
         Ok(_) => RunFault::TooMany(numbers.at),
-        Err(fault) => moved(fault, numbers.at),
+        Err(fault) => fault.with_place(numbers.at),
     }
 }

@@ -13,7 +13,8 @@ pub struct Octets<'a> {
 impl<'a> Octets<'a> {
     /// The next bytes, so many.
     pub fn take(&mut self, count: u64) -> Option<&'a [u8]>
-        ensures found { IfSome result (λ bytes. (length bytes.now ≡ count) × Leaves (OctetsLeft self.old) (OctetsLeft self.new) bytes.now) }
+        ensures found { IfSome result (λ bytes. (length bytes.now ≡ count)
+            × Leaves (OctetsLeft self.old) (OctetsLeft self.new) bytes.now) }
         ensures none { IfNone result (Lacks (OctetsLeft self.old) count) }
         ensures short { IfNone result (length self.old.rest.now < count) }
     {

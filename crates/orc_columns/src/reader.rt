@@ -1,3 +1,4 @@
+//! A column's cells, one after the other: marks, values, and what lists and structs have below them.
 ghost use Rattle.std.specs.Prelude.{◌≡◌, ◌≢◌, ◌+◌, ◌++◌, ℕ, suc, Bool, false, [], ◌∷◌, List, IfOk, IfErr, OnOk, length};
 ghost use Rattle.orc_types.specs.Cells.{Cell};
 ghost use Rattle.orc_types.specs.Shapes.{width, widths};
@@ -21,11 +22,13 @@ pub fn next_cell<'a>(
     readers: &mut [ColumnReader<'a>],
 ) -> Result<Row<'a>, StripeFault>
     requires { length readers.old ≡ width (shape tree.now) }
-    ensures found { IfOk result (λ row. Leaves (CellsLeft (shape tree.now) readers.old) (CellsLeft (shape tree.now) readers.new) (view row ∷ [])) }
+    ensures found { IfOk result (λ row. Leaves (CellsLeft (shape tree.now) readers.old)
+        (CellsLeft (shape tree.now) readers.new) (view row ∷ [])) }
     ensures none { IfErr result (λ fault. fault ≢ OutOfMemory → Lacks (CellsLeft (shape tree.now) readers.old) 1) }
     ensures before { OnOk result ((all : Bool) (n : ℕ) (f : Fault) → CellsMeet (shape tree.now) readers.new all n f
         → CellsMeet (shape tree.now) readers.old all (suc n) f) }
-    ensures fault { IfErr result (λ cause. cause ≢ OutOfMemory → (n : ℕ) → CellsMeet (shape tree.now) readers.old false (suc n) cause) }
+    ensures fault { IfErr result (λ cause. cause ≢ OutOfMemory
+        → (n : ℕ) → CellsMeet (shape tree.now) readers.old false (suc n) cause) }
 {
     match next_present(&mut readers[0]) {
         Ok(true) => match next_value(alloc, tree, readers) {
@@ -45,13 +48,15 @@ fn next_value<'a>(
     readers: &mut [ColumnReader<'a>],
 ) -> Result<Value<'a>, StripeFault>
     requires { length readers.old ≡ width (shape tree.now) }
-    ensures found { IfOk result (λ value. Leaves (OwnLeft (shape tree.now) readers.old) (OwnLeft (shape tree.now) readers.new) (cell_of_value value ∷ [])) }
+    ensures found { IfOk result (λ value. Leaves (OwnLeft (shape tree.now) readers.old)
+        (OwnLeft (shape tree.now) readers.new) (cell_of_value value ∷ [])) }
     ensures column { OnOk result (column_of readers.new ≡ column_of readers.old) }
     ensures marks { IfOk result (λ _. marks_of readers.new ≡ marks_of readers.old) }
     ensures none { IfErr result (λ fault. fault ≢ OutOfMemory → Lacks (OwnLeft (shape tree.now) readers.old) 1) }
     ensures before { OnOk result ((all : Bool) (n : ℕ) (f : Fault) → OwnMeet (shape tree.now) readers.new all n f
         → OwnMeet (shape tree.now) readers.old all (suc n) f) }
-    ensures fault { IfErr result (λ cause. cause ≢ OutOfMemory → (n : ℕ) → OwnMeet (shape tree.now) readers.old false (suc n) cause) }
+    ensures fault { IfErr result (λ cause. cause ≢ OutOfMemory
+        → (n : ℕ) → OwnMeet (shape tree.now) readers.old false (suc n) cause) }
 {
     match tree {
         Tree::Scalar(kind, _) => match readers[0].source.next_scalar(*kind) {
@@ -80,13 +85,15 @@ fn next_list<'a>(
     readers: &mut [ColumnReader<'a>],
 ) -> Result<Vec<Row<'a>>, StripeFault>
     requires { length readers.old ≡ 1 + width (shape element.now) }
-    ensures found { IfOk result (λ rows. Leaves (ListsOf (shape element.now) readers.old) (ListsOf (shape element.now) readers.new) (views rows.items ∷ [])) }
+    ensures found { IfOk result (λ rows. Leaves (ListsOf (shape element.now) readers.old)
+        (ListsOf (shape element.now) readers.new) (views rows.items ∷ [])) }
     ensures column { OnOk result (column_of readers.new ≡ column_of readers.old) }
     ensures marks { IfOk result (λ _. marks_of readers.new ≡ marks_of readers.old) }
     ensures none { IfErr result (λ fault. fault ≢ OutOfMemory → Lacks (ListsOf (shape element.now) readers.old) 1) }
     ensures before { OnOk result ((all : Bool) (n : ℕ) (f : Fault) → ListsOfMeet (shape element.now) readers.new all n f
         → ListsOfMeet (shape element.now) readers.old all (suc n) f) }
-    ensures fault { IfErr result (λ cause. cause ≢ OutOfMemory → (n : ℕ) → ListsOfMeet (shape element.now) readers.old false (suc n) cause) }
+    ensures fault { IfErr result (λ cause. cause ≢ OutOfMemory
+        → (n : ℕ) → ListsOfMeet (shape element.now) readers.old false (suc n) cause) }
 {
     match next_size(&mut readers[0].source) {
         Ok(size) => match next_cells(alloc, element, &mut readers[1..], size) {
@@ -106,12 +113,14 @@ pub fn next_cells<'a>(
     count: u64,
 ) -> Result<Vec<Row<'a>>, StripeFault>
     requires { length readers.old ≡ width (shape tree.now) }
-    ensures found { IfOk result (λ rows. Leaves (CellsLeft (shape tree.now) readers.old) (CellsLeft (shape tree.now) readers.new) (views rows.items)) }
+    ensures found { IfOk result (λ rows. Leaves (CellsLeft (shape tree.now) readers.old)
+        (CellsLeft (shape tree.now) readers.new) (views rows.items)) }
     ensures counted { IfOk result (λ rows. length (views rows.items) ≡ count) }
     ensures none { IfErr result (λ fault. fault ≢ OutOfMemory → Lacks (CellsLeft (shape tree.now) readers.old) count) }
     ensures before { OnOk result ((all : Bool) (n : ℕ) (f : Fault) → CellsMeet (shape tree.now) readers.new all n f
         → CellsMeet (shape tree.now) readers.old all (count + n) f) }
-    ensures fault { IfErr result (λ cause. cause ≢ OutOfMemory → (n : ℕ) → CellsMeet (shape tree.now) readers.old false (count + n) cause) }
+    ensures fault { IfErr result (λ cause. cause ≢ OutOfMemory
+        → (n : ℕ) → CellsMeet (shape tree.now) readers.old false (count + n) cause) }
 {
     let mut rows = Vec::new(alloc);
     for taken in 0..count {
@@ -133,11 +142,15 @@ fn next_fields<'a>(
 ) -> Result<(), StripeFault>
     requires { length readers.old ≡ widths (fields_view fields.now) }
     ensures found { OnOk result ((more : List Cell) × (views cells.new.items ≡ views cells.old.items ++ more)
-        × Leaves (FieldsLeft (fields_view fields.now) readers.old) (FieldsLeft (fields_view fields.now) readers.new) (more ∷ [])) }
-    ensures none { IfErr result (λ fault. fault ≢ OutOfMemory → Lacks (FieldsLeft (fields_view fields.now) readers.old) 1) }
-    ensures before { OnOk result ((all : Bool) (n : ℕ) (f : Fault) → FieldsMeet (fields_view fields.now) readers.new all n f
+        × Leaves (FieldsLeft (fields_view fields.now) readers.old)
+        (FieldsLeft (fields_view fields.now) readers.new) (more ∷ [])) }
+    ensures none { IfErr result (λ fault. fault ≢ OutOfMemory
+        → Lacks (FieldsLeft (fields_view fields.now) readers.old) 1) }
+    ensures before { OnOk result ((all : Bool) (n : ℕ) (f : Fault)
+        → FieldsMeet (fields_view fields.now) readers.new all n f
         → FieldsMeet (fields_view fields.now) readers.old all (suc n) f) }
-    ensures fault { IfErr result (λ cause. cause ≢ OutOfMemory → (n : ℕ) → FieldsMeet (fields_view fields.now) readers.old false (suc n) cause) }
+    ensures fault { IfErr result (λ cause. cause ≢ OutOfMemory
+        → (n : ℕ) → FieldsMeet (fields_view fields.now) readers.old false (suc n) cause) }
 {
     match fields {
         [] => Ok(()),

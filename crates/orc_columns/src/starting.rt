@@ -14,26 +14,23 @@ ghost use Rattle.orc_columns.specs.declared.fault.StreamKind.TheVariants.{Dictio
 
 use crate::bits::bits_of;
 use crate::bytes::bytes_of;
-use crate::column::{ColumnReader, Source};
+use crate::column::{ColumnReader, MOST_CELLS, ValueSource};
 use crate::dictionary::entries_of;
 use crate::fault::StripeFault;
 use crate::located::Located;
 use crate::marks::marks_of;
 use crate::numbers::numbers_of;
 use crate::octets::Octets;
-use crate::version::{Version, version_of};
-use orc_rle::Sign;
+use crate::version::version_of;
+use orc_rle::{Rle, Sign};
 use orc_types::{Field, Scalar, Tree};
 use orc_wire::{Encoding, StripeFooter};
 use std::alloc::Global;
 
-/// The most cells that a column of a stripe may have.
-const MOST_CELLS: u64 = 0x7fff_ffff;
-
 /// What a column's cells are read from, by its encoding and the directory.
 #[derive(Clone, Copy)]
 pub struct ColumnStreams<'a> {
-    pub version: Version,
+    pub version: Rle,
     pub has_dictionary: bool,
     pub dictionary_size: u32,
     pub present: &'a [u8],
@@ -64,7 +61,8 @@ pub fn streams_of<'a>(
     located: &Located<'a>,
 ) -> ColumnStreams<'a>
     requires there { column < length footer.now.columns }
-    requires located { AreLocated (length footer.now.columns) footer.now.streams located.now.bytes.now located.now.slices.items }
+    requires located { AreLocated (length footer.now.columns) footer.now.streams
+        located.now.bytes.now located.now.slices.items }
     ensures { AreStreams (columns_of footer.now located.now.bytes.now column) result }
 {
     let encoding = encoding_of(column, footer);
@@ -80,11 +78,11 @@ pub fn streams_of<'a>(
 }
 
 /// The source of a column whose values are in DATA.
-fn data_source<'a>(column: usize, streams: &ColumnStreams<'a>) -> Source<'a>
+fn data_source<'a>(column: usize, streams: &ColumnStreams<'a>) -> ValueSource<'a>
     ensures start { (x : Streams) → AreStreams x streams.now → DataStart x result }
     ensures column { result.column ≡ column }
 {
-    Source {
+    ValueSource {
         column,
         numbers: numbers_of(streams.version, Sign::Signed, streams.data),
         bytes: bytes_of(streams.data),
@@ -96,13 +94,13 @@ fn data_source<'a>(column: usize, streams: &ColumnStreams<'a>) -> Source<'a>
 }
 
 /// The source of a column whose values have sizes in LENGTH.
-fn group_source<'a>(column: usize, streams: &ColumnStreams<'a>) -> Source<'a>
+fn group_source<'a>(column: usize, streams: &ColumnStreams<'a>) -> ValueSource<'a>
     ensures groups { (x : Streams) → AreStreams x streams.now → GroupsStart x result }
     ensures no_entries { result.entries ≡ None }
     ensures room { result.room ≡ most_cells }
     ensures column { result.column ≡ column }
 {
-    Source {
+    ValueSource {
         column,
         numbers: numbers_of(streams.version, Sign::Unsigned, streams.lengths),
         bytes: bytes_of(streams.data),
@@ -118,9 +116,13 @@ fn word_source<'a>(
     alloc: Global,
     column: usize,
     streams: &ColumnStreams<'a>,
-) -> Result<Source<'a>, StripeFault>
-    ensures found { IfOk result (λ source. (x : Streams) → AreStreams x streams.now → TextsStart true x source.entries source) }
-    ensures none { IfErr result (λ fault. fault ≢ OutOfMemory → (x : Streams) → AreStreams x streams.now → (entries : List (List ℕ))
+) -> Result<ValueSource<'a>, StripeFault>
+    ensures found { IfOk result (λ source. (x : Streams)
+        → AreStreams x streams.now
+        → TextsStart true x source.entries source) }
+    ensures none { IfErr result (λ fault. fault ≢ OutOfMemory
+        → (x : Streams) → AreStreams x streams.now
+        → (entries : List (List ℕ))
         → IsDictionary x entries → ⊥) }
     ensures column { IfOk result (λ source. source.column ≡ column) }
     ensures fault { IfErr result (λ cause. cause ≢ OutOfMemory → (x : Streams) → AreStreams x streams.now
@@ -134,7 +136,7 @@ fn word_source<'a>(
         streams.words,
         streams.dictionary_size,
     ) {
-        Ok(entries) => Ok(Source {
+        Ok(entries) => Ok(ValueSource {
             column,
             numbers: numbers_of(streams.version, Sign::Unsigned, streams.data),
             bytes: bytes_of(streams.data),
@@ -152,9 +154,13 @@ fn text_source<'a>(
     alloc: Global,
     column: usize,
     streams: &ColumnStreams<'a>,
-) -> Result<Source<'a>, StripeFault>
-    ensures found { IfOk result (λ source. (x : Streams) → AreStreams x streams.now → TextsStart streams.now.has_dictionary x source.entries source) }
-    ensures none { IfErr result (λ fault. fault ≢ OutOfMemory → (x : Streams) → AreStreams x streams.now → LacksEntries streams.now.has_dictionary x) }
+) -> Result<ValueSource<'a>, StripeFault>
+    ensures found { IfOk result (λ source. (x : Streams)
+        → AreStreams x streams.now
+        → TextsStart streams.now.has_dictionary x source.entries source) }
+    ensures none { IfErr result (λ fault. fault ≢ OutOfMemory
+        → (x : Streams) → AreStreams x streams.now
+        → LacksEntries streams.now.has_dictionary x) }
     ensures column { IfOk result (λ source. source.column ≡ column) }
     ensures fault { IfErr result (λ cause. cause ≢ OutOfMemory → (x : Streams) → AreStreams x streams.now
         → EntriesFail streams.now.has_dictionary x column cause) }
@@ -175,11 +181,15 @@ fn scalar_source<'a>(
     kind: Scalar,
     column: usize,
     streams: &ColumnStreams<'a>,
-) -> Result<Source<'a>, StripeFault>
+) -> Result<ValueSource<'a>, StripeFault>
     ensures found { IfOk result (λ source. (x : Streams) → AreStreams x streams.now → ScalarStart kind x source) }
-    ensures none { IfErr result (λ fault. fault ≢ OutOfMemory → (x : Streams) → AreStreams x streams.now → ScalarLacks kind x) }
+    ensures none { IfErr result (λ fault. fault ≢ OutOfMemory
+        → (x : Streams) → AreStreams x streams.now
+        → ScalarLacks kind x) }
     ensures column { IfOk result (λ source. source.column ≡ column) }
-    ensures fault { IfErr result (λ cause. cause ≢ OutOfMemory → (x : Streams) → AreStreams x streams.now → ScalarEntriesFail kind x column cause) }
+    ensures fault { IfErr result (λ cause. cause ≢ OutOfMemory
+        → (x : Streams) → AreStreams x streams.now
+        → ScalarEntriesFail kind x column cause) }
 {
     match kind {
         Scalar::String => match text_source(alloc, column, streams) {
@@ -202,11 +212,17 @@ fn source_of<'a>(
     tree: &Tree,
     column: usize,
     streams: &ColumnStreams<'a>,
-) -> Result<Source<'a>, StripeFault>
-    ensures found { IfOk result (λ source. (x : Streams) → AreStreams x streams.now → SourceStart (shape tree.now) x source) }
-    ensures none { IfErr result (λ fault. fault ≢ OutOfMemory → (x : Streams) → AreStreams x streams.now → HasNoDictionary (shape tree.now) x) }
+) -> Result<ValueSource<'a>, StripeFault>
+    ensures found { IfOk result (λ source. (x : Streams)
+        → AreStreams x streams.now
+        → SourceStart (shape tree.now) x source) }
+    ensures none { IfErr result (λ fault. fault ≢ OutOfMemory
+        → (x : Streams) → AreStreams x streams.now
+        → HasNoDictionary (shape tree.now) x) }
     ensures column { IfOk result (λ source. source.column ≡ column) }
-    ensures fault { IfErr result (λ cause. cause ≢ OutOfMemory → (x : Streams) → AreStreams x streams.now → WordsOfFail (shape tree.now) x column cause) }
+    ensures fault { IfErr result (λ cause. cause ≢ OutOfMemory
+        → (x : Streams) → AreStreams x streams.now
+        → WordsOfFail (shape tree.now) x column cause) }
 {
     match tree {
         Tree::Scalar(kind, _) => match scalar_source(alloc, *kind, column, streams) {
@@ -227,9 +243,11 @@ fn reader_of<'a>(
     located: &Located<'a>,
 ) -> Result<ColumnReader<'a>, StripeFault>
     requires there { column < length footer.now.columns }
-    requires located { AreLocated (length footer.now.columns) footer.now.streams located.now.bytes.now located.now.slices.items }
+    requires located { AreLocated (length footer.now.columns) footer.now.streams
+        located.now.bytes.now located.now.slices.items }
     ensures found { IfOk result (OwnStart (shape tree.now) (columns_of footer.now located.now.bytes.now column)) }
-    ensures none { IfErr result (λ fault. fault ≢ OutOfMemory → HasNoDictionary (shape tree.now) (columns_of footer.now located.now.bytes.now column)) }
+    ensures none { IfErr result (λ fault. fault ≢ OutOfMemory
+        → HasNoDictionary (shape tree.now) (columns_of footer.now located.now.bytes.now column)) }
     ensures column { IfOk result (λ own. own.source.column ≡ column) }
     ensures fault { IfErr result (λ cause. cause ≢ OutOfMemory
         → WordsOfFail (shape tree.now) (columns_of footer.now located.now.bytes.now column) column cause) }
@@ -254,12 +272,16 @@ pub fn put_tree<'a>(
     readers: &mut Vec<ColumnReader<'a>>,
 ) -> Result<(), StripeFault>
     requires there { length readers.old.items + width (shape tree.now) ≤ length footer.now.columns }
-    requires located { AreLocated (length footer.now.columns) footer.now.streams located.now.bytes.now located.now.slices.items }
-    ensures found { OnOk result (Puts footer.now located.now.bytes.now (shape tree.now) readers.old.items readers.new.items) }
+    requires located { AreLocated (length footer.now.columns) footer.now.streams
+        located.now.bytes.now located.now.slices.items }
+    ensures found { OnOk result (Puts footer.now located.now.bytes.now
+        (shape tree.now) readers.old.items readers.new.items) }
     ensures none { IfErr result (λ fault. fault ≢ OutOfMemory → (cells : List Cell)
-        → SpellsCells (shape tree.now) (columns_from footer.now located.now.bytes.now (length readers.old.items)) cells → ⊥) }
+        → SpellsCells (shape tree.now) (columns_from footer.now located.now.bytes.now (length readers.old.items)) cells
+        → ⊥) }
     ensures fault { IfErr result (λ cause. cause ≢ OutOfMemory
-        → (count : ℕ) → FaultDown (shape tree.now) (columns_of footer.now located.now.bytes.now) (length readers.old.items) false count cause) }
+        → (count : ℕ) → FaultDown (shape tree.now) (columns_of footer.now located.now.bytes.now)
+        (length readers.old.items) false count cause) }
 {
     match reader_of(alloc, tree, readers.len(), footer, located) {
         Ok(own) => readers.push(own)?,
@@ -288,12 +310,17 @@ fn put_fields<'a>(
     readers: &mut Vec<ColumnReader<'a>>,
 ) -> Result<(), StripeFault>
     requires there { length readers.old.items + widths (fields_view fields.now) ≤ length footer.now.columns }
-    requires located { AreLocated (length footer.now.columns) footer.now.streams located.now.bytes.now located.now.slices.items }
-    ensures found { OnOk result (PutsFields footer.now located.now.bytes.now (fields_view fields.now) readers.old.items readers.new.items) }
+    requires located { AreLocated (length footer.now.columns) footer.now.streams
+        located.now.bytes.now located.now.slices.items }
+    ensures found { OnOk result (PutsFields footer.now located.now.bytes.now
+        (fields_view fields.now) readers.old.items readers.new.items) }
     ensures none { IfErr result (λ fault. fault ≢ OutOfMemory → (structs : List (List Cell))
-        → SpellsFields (fields_view fields.now) (columns_from footer.now located.now.bytes.now (length readers.old.items)) structs → ⊥) }
+        → SpellsFields (fields_view fields.now)
+        (columns_from footer.now located.now.bytes.now (length readers.old.items)) structs
+        → ⊥) }
     ensures fault { IfErr result (λ cause. cause ≢ OutOfMemory
-        → (count : ℕ) → FaultWithin (fields_view fields.now) (columns_of footer.now located.now.bytes.now) (length readers.old.items) false count cause) }
+        → (count : ℕ) → FaultWithin (fields_view fields.now) (columns_of footer.now located.now.bytes.now)
+        (length readers.old.items) false count cause) }
 {
     match fields {
         [] => Ok(()),

@@ -18,7 +18,7 @@ ghost use Rattle.orc_types.specs.declared.kind.Scalar.TheVariants as kinds;
 ghost use Rattle.orc_rle.specs.declared.fault.RunFault.{RunFault as RunsFault};
 ghost use Rattle.orc_columns.specs.declared.fault.StripeFault.{StripeFault as Fault};
 
-use crate::bytes::Bytes;
+use crate::bytes::RunLengthBytes;
 use crate::fault::{StreamKind, StripeFault, run_fault};
 use crate::numbers::Numbers;
 use orc_types::{Scalar, Value, int_fits};
@@ -32,7 +32,9 @@ pub fn next_number(
     ensures found { IfOk result (λ n. Leaves (NumbersLeft numbers.old) (NumbersLeft numbers.new) (n ∷ [])) }
     ensures first { IfOk result (λ n. Precedes (NumbersFirst numbers.old) (NumbersFirst numbers.new) (n ∷ [])) }
     ensures none { OnErr result (Lacks (NumbersLeft numbers.old) 1) }
-    ensures before { OnOk result ((n : ℕ) (f : RunsFault) → NumbersMeet numbers.new n f → NumbersMeet numbers.old (suc n) f) }
+    ensures before { OnOk result ((n : ℕ) (f : RunsFault)
+        → NumbersMeet numbers.new n f
+        → NumbersMeet numbers.old (suc n) f) }
     ensures fault { IfErr result (λ cause. cause ≢ fault.OutOfMemory
         → (n : ℕ) → RunsFail kind column (Always false (suc n) (NumbersMeet numbers.old)) cause) }
 {
@@ -48,12 +50,13 @@ pub(crate) fn next_int<'a>(
     kind: Scalar,
     numbers: &mut Numbers<'a>,
 ) -> Result<Value<'a>, StripeFault>
-    ensures found { IfOk result (λ v. Leaves (Standing (IsInt kind) (NumbersLeft numbers.old)) (Standing (IsInt kind) (NumbersLeft numbers.new))
-        (cell_of_value v ∷ [])) }
+    ensures found { IfOk result (λ v. Leaves (Standing (IsInt kind) (NumbersLeft numbers.old))
+        (Standing (IsInt kind) (NumbersLeft numbers.new)) (cell_of_value v ∷ [])) }
     ensures none { OnErr result (Lacks (Standing (IsInt kind) (NumbersLeft numbers.old)) 1) }
     ensures before { OnOk result ((all : Bool) (n : ℕ) (f : Fault) → IntsMeet (fits kind) numbers.new all n column f
         → IntsMeet (fits kind) numbers.old all (suc n) column f) }
-    ensures fault { IfErr result (λ cause. cause ≢ fault.OutOfMemory → (n : ℕ) → IntsMeet (fits kind) numbers.old false (suc n) column cause) }
+    ensures fault { IfErr result (λ cause. cause ≢ fault.OutOfMemory
+        → (n : ℕ) → IntsMeet (fits kind) numbers.old false (suc n) column cause) }
 {
     match next_number(column, StreamKind::Data, numbers) {
         Ok(number) => {
@@ -74,7 +77,8 @@ pub(crate) fn next_long<'a>(
     ensures found { IfOk result (λ v. Leaves (Standing (IsInt kinds.Long) (NumbersLeft numbers.old))
         (Standing (IsInt kinds.Long) (NumbersLeft numbers.new)) (cell_of_value v ∷ [])) }
     ensures none { OnErr result (Lacks (Standing (IsInt kinds.Long) (NumbersLeft numbers.old)) 1) }
-    ensures before { OnOk result ((all : Bool) (n : ℕ) (f : Fault) → RunsFail stream.Data column (Always all n (NumbersMeet numbers.new)) f
+    ensures before { OnOk result ((all : Bool) (n : ℕ) (f : Fault)
+        → RunsFail stream.Data column (Always all n (NumbersMeet numbers.new)) f
         → RunsFail stream.Data column (Always all (suc n) (NumbersMeet numbers.old)) f) }
     ensures fault { IfErr result (λ cause. cause ≢ fault.OutOfMemory
         → (n : ℕ) → RunsFail stream.Data column (Always false (suc n) (NumbersMeet numbers.old)) cause) }
@@ -90,11 +94,14 @@ pub(crate) fn next_date<'a>(
     column: usize,
     numbers: &mut Numbers<'a>,
 ) -> Result<Value<'a>, StripeFault>
-    ensures found { IfOk result (λ v. Leaves (Standing IsDate (NumbersLeft numbers.old)) (Standing IsDate (NumbersLeft numbers.new)) (cell_of_value v ∷ [])) }
+    ensures found { IfOk result (λ v. Leaves (Standing IsDate (NumbersLeft numbers.old))
+        (Standing IsDate (NumbersLeft numbers.new)) (cell_of_value v ∷ [])) }
     ensures none { OnErr result (Lacks (Standing IsDate (NumbersLeft numbers.old)) 1) }
-    ensures before { OnOk result ((all : Bool) (n : ℕ) (f : Fault) → IntsMeet (signed_fits 31) numbers.new all n column f
+    ensures before { OnOk result ((all : Bool) (n : ℕ) (f : Fault)
+        → IntsMeet (signed_fits 31) numbers.new all n column f
         → IntsMeet (signed_fits 31) numbers.old all (suc n) column f) }
-    ensures fault { IfErr result (λ cause. cause ≢ fault.OutOfMemory → (n : ℕ) → IntsMeet (signed_fits 31) numbers.old false (suc n) column cause) }
+    ensures fault { IfErr result (λ cause. cause ≢ fault.OutOfMemory
+        → (n : ℕ) → IntsMeet (signed_fits 31) numbers.old false (suc n) column cause) }
 {
     match next_number(column, StreamKind::Data, numbers) {
         Ok(number) => match i32::try_from(number) {
@@ -117,10 +124,15 @@ fn number_of(byte: u8) -> i64
 }
 
 /// The next value of a column of numbers of 8 bits.
-pub(crate) fn next_byte<'a>(column: usize, bytes: &mut Bytes<'a>) -> Result<Value<'a>, StripeFault>
-    ensures found { IfOk result (λ v. Leaves (Standing IsByte (BytesLeft bytes.old)) (Standing IsByte (BytesLeft bytes.new)) (cell_of_value v ∷ [])) }
+pub(crate) fn next_byte<'a>(
+    column: usize,
+    bytes: &mut RunLengthBytes<'a>,
+) -> Result<Value<'a>, StripeFault>
+    ensures found { IfOk result (λ v. Leaves (Standing IsByte (BytesLeft bytes.old))
+        (Standing IsByte (BytesLeft bytes.new)) (cell_of_value v ∷ [])) }
     ensures none { OnErr result (Lacks (Standing IsByte (BytesLeft bytes.old)) 1) }
-    ensures before { OnOk result ((all : Bool) (n : ℕ) (f : Fault) → RunsFail stream.Data column (Always all n (BytesMeet bytes.new)) f
+    ensures before { OnOk result ((all : Bool) (n : ℕ) (f : Fault)
+        → RunsFail stream.Data column (Always all n (BytesMeet bytes.new)) f
         → RunsFail stream.Data column (Always all (suc n) (BytesMeet bytes.old)) f) }
     ensures fault { IfErr result (λ cause. cause ≢ fault.OutOfMemory
         → (n : ℕ) → RunsFail stream.Data column (Always false (suc n) (BytesMeet bytes.old)) cause) }

@@ -5,9 +5,9 @@ use Rattle.orc_rle.specs.Stream.{IsStream}
 use Rattle.orc_rle.specs.declared.sign.Sign.{Sign}
 use Rattle.orc_seek.specs.Position.{Begins}
 use Rattle.orc_seek.specs.BitPosition.{BeginsBits}
-use Rattle.orc_columns.specs.declared.version.Version.{Version}
+use Rattle.orc_rle.specs.declared.sign.Rle.{Rle}
 use Rattle.orc_columns.specs.declared.bits.Bits.{Bits}
-use Rattle.orc_columns.specs.declared.bytes.Bytes.{Bytes}
+use Rattle.orc_columns.specs.declared.bytes.RunLengthBytes.{RunLengthBytes}
 use Rattle.orc_columns.specs.declared.numbers.Numbers.{Numbers}
 use Rattle.orc_columns.specs.Bits.{BitsLeft}
 use Rattle.orc_columns.specs.Bytes.{BytesLeft}
@@ -47,28 +47,28 @@ bit_at bytes other ps o s b n total e le h agree =
 
 -- ---- integers
 
-pub numbers_enter : (v : Version) (t : Sign) (bytes ps : List ℕ) (o s : ℕ) (r : Numbers) → ps ≡ o ∷ s ∷ [] → EntersRuns (is_run v t) bytes o s (NumbersLeft r) → Enters (number_runs v t bytes) ps (entered.Numbers r)
+pub numbers_enter : (v : Rle) (t : Sign) (bytes ps : List ℕ) (o s : ℕ) (r : Numbers) → ps ≡ o ∷ s ∷ [] → EntersRuns (is_run v t) bytes o s (NumbersLeft r) → Enters (number_runs v t bytes) ps (entered.Numbers r)
 numbers_enter v t bytes ps o s r e enters no_stream n h agree = absurd agree
 numbers_enter v t bytes ps o s r e enters (bit_runs b) n h agree = absurd agree
 numbers_enter v t bytes ps o s r e enters (byte_runs b) n h agree = absurd agree
 numbers_enter v t bytes ps o s r e enters (number_runs w u b) n h agree = λ all stream.
-    let place = subst (λ (k : Version). RunPlace (Begins (is_run k t) b) n ps) (sym agree.0) (subst (λ (k : Sign). RunPlace (Begins (is_run w k) b) n ps) (sym agree.1) h) in
-    let is = subst (λ (k : Version). IsStream (is_run k t) b all) (sym agree.0) (subst (λ (k : Sign). IsStream (is_run w k) b all) (sym agree.1) stream) in
+    let place = subst (λ (k : Rle). RunPlace (Begins (is_run k t) b) n ps) (sym agree.0) (subst (λ (k : Sign). RunPlace (Begins (is_run w k) b) n ps) (sym agree.1) h) in
+    let is = subst (λ (k : Rle). IsStream (is_run k t) b all) (sym agree.0) (subst (λ (k : Sign). IsStream (is_run w k) b all) (sym agree.1) stream) in
     let at = run_at (is_run v t) bytes b ps o s n e place agree.2 in
     enters b all n at.0 is at.1
 
-pub numbers_never : (v : Version) (t : Sign) (bytes ps : List ℕ) (o s : ℕ) → ps ≡ o ∷ s ∷ [] → EntersRuns (is_run v t) bytes o s (λ _. ⊥) → NeverEnters (number_runs v t bytes) ps
+pub numbers_never : (v : Rle) (t : Sign) (bytes ps : List ℕ) (o s : ℕ) → ps ≡ o ∷ s ∷ [] → EntersRuns (is_run v t) bytes o s (λ _. ⊥) → NeverEnters (number_runs v t bytes) ps
 numbers_never v t bytes ps o s e enters no_stream n h agree has = absurd agree
 numbers_never v t bytes ps o s e enters (bit_runs b) n h agree has = absurd agree
 numbers_never v t bytes ps o s e enters (byte_runs b) n h agree has = absurd agree
 numbers_never v t bytes ps o s e enters (number_runs w u b) n h agree has =
-    let place = subst (λ (k : Version). RunPlace (Begins (is_run k t) b) n ps) (sym agree.0) (subst (λ (k : Sign). RunPlace (Begins (is_run w k) b) n ps) (sym agree.1) h) in
-    let is = subst (λ (k : Version). IsStream (is_run k t) b has.0) (sym agree.0) (subst (λ (k : Sign). IsStream (is_run w k) b has.0) (sym agree.1) has.1) in
+    let place = subst (λ (k : Rle). RunPlace (Begins (is_run k t) b) n ps) (sym agree.0) (subst (λ (k : Sign). RunPlace (Begins (is_run w k) b) n ps) (sym agree.1) h) in
+    let is = subst (λ (k : Rle). IsStream (is_run k t) b has.0) (sym agree.0) (subst (λ (k : Sign). IsStream (is_run w k) b has.0) (sym agree.1) has.1) in
     let at = run_at (is_run v t) bytes b ps o s n e place agree.2 in
     enters b has.0 n at.0 is at.1
 
 -- numbers that are no two are no position of runs
-pub numbers_none : (v : Version) (t : Sign) (bytes ps : List ℕ) → ((o s : ℕ) → ps ≡ o ∷ s ∷ [] → ⊥) → NeverEnters (number_runs v t bytes) ps
+pub numbers_none : (v : Rle) (t : Sign) (bytes ps : List ℕ) → ((o s : ℕ) → ps ≡ o ∷ s ∷ [] → ⊥) → NeverEnters (number_runs v t bytes) ps
 numbers_none v t bytes ps none no_stream n h agree has = absurd agree
 numbers_none v t bytes ps none (bit_runs b) n h agree has = absurd agree
 numbers_none v t bytes ps none (byte_runs b) n h agree has = absurd agree
@@ -76,7 +76,7 @@ numbers_none v t bytes ps none (number_runs w u b) n h agree has = none h.0 h.1 
 
 -- ---- bytes
 
-pub bytes_enter : (bytes ps : List ℕ) (o s : ℕ) (r : Bytes) → ps ≡ o ∷ s ∷ [] → EntersRuns IsByteRun bytes o s (BytesLeft r) → Enters (byte_runs bytes) ps (entered.Bytes r)
+pub bytes_enter : (bytes ps : List ℕ) (o s : ℕ) (r : RunLengthBytes) → ps ≡ o ∷ s ∷ [] → EntersRuns IsByteRun bytes o s (BytesLeft r) → Enters (byte_runs bytes) ps (entered.Bytes r)
 bytes_enter bytes ps o s r e enters no_stream n h agree = absurd agree
 bytes_enter bytes ps o s r e enters (bit_runs b) n h agree = absurd agree
 bytes_enter bytes ps o s r e enters (byte_runs b) n h agree = λ all stream. let at = run_at IsByteRun bytes b ps o s n e h agree in enters b all n at.0 stream at.1

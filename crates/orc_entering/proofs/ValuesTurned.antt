@@ -19,9 +19,9 @@ use Rattle.orc_columns.specs.Numbers.{NumbersLeft, AreNumbers}
 use Rattle.orc_columns.specs.Spellings.{AllStand, Standing, Grouped, joined, size}
 use Rattle.orc_columns.specs.Stripe.{Streams, version, has_dictionary, Is, SpellsTexts, SpellsScalar, SpellsValues, most_cells}
 use Rattle.orc_columns.specs.declared.column.Entry.{Entry}
-use Rattle.orc_columns.specs.declared.column.Source.{Source}
+use Rattle.orc_columns.specs.declared.column.ValueSource.{ValueSource}
 use Rattle.orc_columns.specs.declared.bits.Bits.{Bits}
-use Rattle.orc_columns.specs.declared.bytes.Bytes.{Bytes}
+use Rattle.orc_columns.specs.declared.bytes.RunLengthBytes.{RunLengthBytes}
 use Rattle.orc_columns.specs.declared.numbers.Numbers.{Numbers}
 use Rattle.orc_columns.proofs.OneRows.{one_dictionary}
 use Rattle.orc_index.specs.Places.{octets_in, octets}
@@ -48,7 +48,7 @@ few stands xs b a h = omega (arith, stand_long stands xs (b ++ a) h, length-appe
 
 -- ---- booleans, bytes, numbers
 
-bits_turned : (stream : List ℕ) (b a : List Cell) (own : Entered) (source : Source) (rest : List ℕ) → LeftFrom (bit_runs stream) (length b) own → IsSource own rest source → Standing IsBool (IsBitStream stream) (b ++ a)
+bits_turned : (stream : List ℕ) (b a : List Cell) (own : Entered) (source : ValueSource) (rest : List ℕ) → LeftFrom (bit_runs stream) (length b) own → IsSource own rest source → Standing IsBool (IsBitStream stream) (b ++ a)
     → Standing IsBool (BitsLeft source.bits) a
 bits_turned stream b a entered.Nothing source rest left is h = absurd left
 bits_turned stream b a (entered.Bits r) source rest left is h =
@@ -56,23 +56,23 @@ bits_turned stream b a (entered.Bits r) source rest left is h =
 bits_turned stream b a (entered.Bytes r) source rest left is h = absurd left
 bits_turned stream b a (entered.Numbers r) source rest left is h = absurd left
 
-bytes_turned : (stream : List ℕ) (b a : List Cell) (own : Entered) (source : Source) (rest : List ℕ) → LeftFrom (byte_runs stream) (length b) own → IsSource own rest source → Standing IsByte (IsStream IsByteRun stream) (b ++ a)
+bytes_turned : (stream : List ℕ) (b a : List Cell) (own : Entered) (source : ValueSource) (rest : List ℕ) → LeftFrom (byte_runs stream) (length b) own → IsSource own rest source → Standing IsByte (IsStream IsByteRun stream) (b ++ a)
     → Standing IsByte (BytesLeft source.bytes) a
 bytes_turned stream b a entered.Nothing source rest left is h = absurd left
 bytes_turned stream b a (entered.Bits r) source rest left is h = absurd left
 bytes_turned stream b a (entered.Bytes r) source rest left is h =
-    (drop (length b) h.0, stand_drop IsByte h.0 b a h.1, subst (λ (y : Bytes). BytesLeft y (drop (length b) h.0)) (sym is.0) (left h.0 h.2))
+    (drop (length b) h.0, stand_drop IsByte h.0 b a h.1, subst (λ (y : RunLengthBytes). BytesLeft y (drop (length b) h.0)) (sym is.0) (left h.0 h.2))
 bytes_turned stream b a (entered.Numbers r) source rest left is h = absurd left
 
 -- the numbers of a stream from one on
-numbers_left : (x : Streams) (sign : _) (stream : List ℕ) (n : ℕ) (own : Entered) (source : Source) (rest : List ℕ) (all : List ℤ) → LeftFrom (number_runs (version x) sign stream) n own → IsSource own rest source
+numbers_left : (x : Streams) (sign : _) (stream : List ℕ) (n : ℕ) (own : Entered) (source : ValueSource) (rest : List ℕ) (all : List ℤ) → LeftFrom (number_runs (version x) sign stream) n own → IsSource own rest source
     → AreNumbers (version x) sign stream all → NumbersLeft source.numbers (drop n all)
 numbers_left x sign stream n entered.Nothing source rest all left is h = absurd left
 numbers_left x sign stream n (entered.Bits r) source rest all left is h = absurd left
 numbers_left x sign stream n (entered.Bytes r) source rest all left is h = absurd left
 numbers_left x sign stream n (entered.Numbers r) source rest all left is h = subst (λ (y : Numbers). NumbersLeft y (drop n all)) (sym is.0) (left all h)
 
-numbers_turned : (stands : ℤ → Cell → Type 0) (x : Streams) (sign : _) (stream : List ℕ) (b a : List Cell) (own : Entered) (source : Source) (rest : List ℕ) → LeftFrom (number_runs (version x) sign stream) (length b) own
+numbers_turned : (stands : ℤ → Cell → Type 0) (x : Streams) (sign : _) (stream : List ℕ) (b a : List Cell) (own : Entered) (source : ValueSource) (rest : List ℕ) → LeftFrom (number_runs (version x) sign stream) (length b) own
     → IsSource own rest source → Standing stands (AreNumbers (version x) sign stream) (b ++ a) → Standing stands (NumbersLeft source.numbers) a
 numbers_turned stands x sign stream b a own source rest left is h =
     (drop (length b) h.0, stand_drop stands h.0 b a h.1, numbers_left x sign stream (length b) own source rest h.0 left is h.2)
@@ -96,13 +96,13 @@ drop_exact : (a b : List ℕ) → drop (length a) (a ++ b) ≡ b
 drop_exact [] b = refl
 drop_exact (x ∷ a) b = drop_exact a b
 
-rest_of : (own : Entered) (rest : List ℕ) (source : Source) → IsSource own rest source → source.octets.rest.now ≡ rest
+rest_of : (own : Entered) (rest : List ℕ) (source : ValueSource) → IsSource own rest source → source.octets.rest.now ≡ rest
 rest_of entered.Nothing rest source h = h
 rest_of (entered.Bits r) rest source h = h.1
 rest_of (entered.Bytes r) rest source h = h.1
 rest_of (entered.Numbers r) rest source h = h.1
 
-groups_turned : (stands : List ℕ → Cell → Type 0) → ((t : List ℕ) (c : Cell) → stands t c → octets_in c ≡ length t) → (x : Streams) (content : List ℕ) (b a : List Cell) (own : Entered) (source : Source) (rest : List ℕ)
+groups_turned : (stands : List ℕ → Cell → Type 0) → ((t : List ℕ) (c : Cell) → stands t c → octets_in c ≡ length t) → (x : Streams) (content : List ℕ) (b a : List Cell) (own : Entered) (source : ValueSource) (rest : List ℕ)
     → LeftFrom (number_runs (version x) Unsigned (x.stream 2)) (length b) own → IsSource own rest source → rest ≡ drop (octets b) content
     → Standing stands (Grouped (AreNumbers (version x) Unsigned (x.stream 2)) (Is content)) (b ++ a) → Standing stands (GroupsLeft source) a
 groups_turned stands long x content b a own source rest left is from h =
@@ -120,7 +120,7 @@ text_long t c h = ap octets_in h.1
 binary_long : (t : List ℕ) (c : Cell) → IsBinary t c → octets_in c ≡ length t
 binary_long t c h = ap octets_in h.1
 
-texts_turned : (d : Bool) (x : Streams) (b a : List Cell) (own : Entered) (source : Source) (rest : List ℕ) (entries : Option (Vec Entry Global)) → LeftFrom (text_runs d x) (length b) own → IsSource own rest source
+texts_turned : (d : Bool) (x : Streams) (b a : List Cell) (own : Entered) (source : ValueSource) (rest : List ℕ) (entries : Option (Vec Entry Global)) → LeftFrom (text_runs d x) (length b) own → IsSource own rest source
     → HasEntries d x entries → IsCut (text_octets d x) (octets b) rest → SpellsTexts x d (b ++ a) → TextsLeft entries source a
 texts_turned true x b a own source rest (Some entries) left is has from h =
     let same = one_dictionary x h.0 (map entry_bytes entries.items) h.1 has in
@@ -132,7 +132,7 @@ texts_turned false x b a own source rest None left is has from h = groups_turned
 
 -- ---- by the kind of a column
 
-scalar_turned : (k : Scalar) (x : Streams) (b a : List Cell) (own : Entered) (source : Source) (rest : List ℕ) → LeftFrom (scalar_runs k x) (length b) own → IsSource own rest source → ScalarEntries k x source.entries
+scalar_turned : (k : Scalar) (x : Streams) (b a : List Cell) (own : Entered) (source : ValueSource) (rest : List ℕ) → LeftFrom (scalar_runs k x) (length b) own → IsSource own rest source → ScalarEntries k x source.entries
     → IsCut (scalar_octets k x) (octets b) rest → SpellsScalar k x (b ++ a) → ScalarLeft k source a
 scalar_turned kind.Boolean x b a own source rest left is has from h = bits_turned (x.stream 1) b a own source rest left is h
 scalar_turned kind.Byte x b a own source rest left is has from h = bytes_turned (x.stream 1) b a own source rest left is h
@@ -143,7 +143,7 @@ scalar_turned kind.Date x b a own source rest left is has from h = numbers_turne
 scalar_turned kind.Binary x b a own source rest left is has from h = groups_turned IsBinary binary_long x (x.stream 1) b a own source rest left is from h
 scalar_turned kind.String x b a own source rest left is has from h = texts_turned (has_dictionary x) x b a own source rest source.entries left is has from h
 
-pub values_turned : (s : Shape) (x : Streams) (b a : List Cell) (own : Entered) (source : Source) (rest : List ℕ) → LeftFrom (own_runs s x) (length b) own → IsSource own rest source → EntriesOf s x source.entries
+pub values_turned : (s : Shape) (x : Streams) (b a : List Cell) (own : Entered) (source : ValueSource) (rest : List ℕ) → LeftFrom (own_runs s x) (length b) own → IsSource own rest source → EntriesOf s x source.entries
     → IsCut (own_octets s x) (octets b) rest → source.room ≡ most_cells → SpellsValues s x (b ++ a) → OwnValuesLeft s source a
 values_turned (scalar k o) x b a own source rest left is has from room h = scalar_turned k x b a own source rest left is has from h
 values_turned (list_of s o) x b a own source rest left is has from room h = (

@@ -13,7 +13,7 @@ use Rattle.orc_columns.specs.Stripe.{Streams, IsColumn, IsDictionary, SpellsValu
 use Rattle.orc_columns.specs.declared.bits.Bits.{Bits}
 use Rattle.orc_columns.specs.declared.column.ColumnReader.{ColumnReader}
 use Rattle.orc_columns.specs.declared.column.Entry.{Entry}
-use Rattle.orc_columns.specs.declared.column.Source.{Source}
+use Rattle.orc_columns.specs.declared.column.ValueSource.{ValueSource}
 use Rattle.orc_seek.specs.BitPosition.{BeginsBits}
 use Rattle.orc_index.specs.Places.{AreReadPlaces, StreamPlace, begins, octets}
 use Rattle.orc_index.specs.Walking.{HasOctets}
@@ -36,7 +36,7 @@ CutsOctets None positions rest last = last ≡ positions
 CutsOctets (Some bytes) positions rest last = (offset : ℕ) × (positions ≡ offset ∷ last) × (rest ≡ drop offset bytes)
 
 -- a source has the stream that was entered, and the bytes
-abbrev pub IsSource : Entered → List ℕ → Source → Type 0
+abbrev pub IsSource : Entered → List ℕ → ValueSource → Type 0
 IsSource entered.Nothing rest source = source.octets.rest.now ≡ rest
 IsSource (entered.Bits bits) rest source = (source.bits ≡ bits) × (source.octets.rest.now ≡ rest)
 IsSource (entered.Bytes bytes) rest source = (source.bytes ≡ bytes) × (source.octets.rest.now ≡ rest)
@@ -77,8 +77,8 @@ OctetsAgree offset None (Some b) = ⊥
 OctetsAgree offset (Some a) None = ⊥
 OctetsAgree offset (Some a) (Some b) = AgreeFrom offset a b
 
--- These positions are right in streams x behind some cells, and streams y are the same from the positions' offsets on, and have the same
--- encoding and dictionary.
+-- These positions are right in streams x behind some cells, and streams y are the same from the positions'
+-- offsets on, and have the same encoding and dictionary.
 pub record AgreeFromPlaces (s : Shape) (x y : Streams) (before : List Cell) (positions : List ℕ) : Type 0 where
   pub places : AreReadPlaces s x before positions
   pub encoded : y.encoding ≡ x.encoding
@@ -103,9 +103,10 @@ pub record OwnTurns (s : Shape) (x y : Streams) (before after : List Cell) (last
   pub dictionary_same : has_dictionary x ≡ true → (y.stream 2 ≡ x.stream 2) × (y.stream 3 ≡ x.stream 3)
 
 -- what is left of the values of a column's own streams: of lists their lengths, of structs nothing
-abbrev pub OwnValuesLeft : Shape → Source → List Cell → Type 0
+abbrev pub OwnValuesLeft : Shape → ValueSource → List Cell → Type 0
 OwnValuesLeft (scalar k o) source vs = ScalarLeft k source vs
-OwnValuesLeft (list_of s o) source vs = NumbersLeft source.numbers (map (λ v. size (parts v)) vs) × (source.room ≡ most_cells)
+OwnValuesLeft (list_of s o) source vs =
+    NumbersLeft source.numbers (map (λ v. size (parts v)) vs) × (source.room ≡ most_cells)
 OwnValuesLeft (struct_of fs o) source vs = Unit {0}
 
 -- what a column's own reader has still to give

@@ -17,13 +17,16 @@ use Rattle.orc_columns.specs.declared.fault.StripeFault.TheVariants as fault
 use Rattle.orc_index.specs.Places.{octets_size, position_size}
 use Rattle.orc_index.specs.RunStreams.{RunStream, no_stream, bit_runs, byte_runs, number_runs, present_runs, own_runs, own_octets, kind_of_own}
 
--- the numbers are no position of the stream, or bytes that are no run are met on the way; where there are not as many numbers as a position
--- has, nothing is said
+-- the numbers are no position of the stream, or bytes that are no run are met on the way; where there are not
+-- as many numbers as a position has, nothing is said
 abbrev pub StreamFails : RunStream → List ℕ → RunFault → Type 0
 StreamFails no_stream positions cause = positions ≡ [] → ⊥
-StreamFails (bit_runs b) positions cause = (offset skip bits : ℕ) → positions ≡ offset ∷ skip ∷ bits ∷ [] → BitSeekFails b offset skip bits cause
-StreamFails (byte_runs b) positions cause = (offset skip : ℕ) → positions ≡ offset ∷ skip ∷ [] → SeekFails IsByteRun NoByteRun b offset skip cause
-StreamFails (number_runs v s b) positions cause = (offset skip : ℕ) → positions ≡ offset ∷ skip ∷ [] → SeekFails (is_run v s) (no_run v s) b offset skip cause
+StreamFails (bit_runs b) positions cause =
+    (offset skip bits : ℕ) → positions ≡ offset ∷ skip ∷ bits ∷ [] → BitSeekFails b offset skip bits cause
+StreamFails (byte_runs b) positions cause =
+    (offset skip : ℕ) → positions ≡ offset ∷ skip ∷ [] → SeekFails IsByteRun NoByteRun b offset skip cause
+StreamFails (number_runs v s b) positions cause =
+    (offset skip : ℕ) → positions ≡ offset ∷ skip ∷ [] → SeekFails (is_run v s) (no_run v s) b offset skip cause
 
 -- bytes as they are end before the position
 abbrev pub EndsBefore : Option (List ℕ) → List ℕ → Type 0
@@ -52,7 +55,8 @@ FailsAt c k stream positions f = (cause : RunFault) × StreamFails stream positi
 abbrev pub OwnRefused : Shape → Streams → ℕ → List ℕ → StripeFault → Type 0
 OwnRefused s x c positions f =
     ((f ≡ fault.BadPosition (spot.Stream c stream.Data)) × EndsBefore (own_octets s x) positions)
-    ⊎ (FailsAt c (kind_of_own s (has_dictionary x)) (own_runs s x) (drop (octets_size (own_octets s x)) positions) f ⊎ WordsOfFail s x c f)
+    ⊎ (FailsAt c (kind_of_own s (has_dictionary x)) (own_runs s x) (drop (octets_size (own_octets s x)) positions) f
+    ⊎ WordsOfFail s x c f)
 
 abbrev pub present_size : Streams → ℕ
 present_size x = position_size (present_runs (x.stream 0))
@@ -66,4 +70,5 @@ abbrev pub ColumnRefused : Shape → Streams → ℕ → List ℕ → StripeFaul
 ColumnRefused s x c positions f =
     ((f ≡ fault.BadPosition (spot.Column c)) × (length positions ≢ positions_size s x))
     ⊎ ((length positions ≡ positions_size s x)
-    × (FailsAt c stream.Present (present_runs (x.stream 0)) (take (present_size x) positions) f ⊎ OwnRefused s x c (drop (present_size x) positions) f))
+    × (FailsAt c stream.Present (present_runs (x.stream 0)) (take (present_size x) positions) f
+    ⊎ OwnRefused s x c (drop (present_size x) positions) f))

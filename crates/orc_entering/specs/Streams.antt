@@ -39,17 +39,20 @@ LeftFrom no_stream n (entered.Bits r) = ⊥
 LeftFrom no_stream n (entered.Bytes r) = ⊥
 LeftFrom no_stream n (entered.Numbers r) = ⊥
 LeftFrom (bit_runs b) n entered.Nothing = ⊥
-LeftFrom (bit_runs b) n (entered.Bits r) = (all : List Bool) → IsBitStream b all → n ≤ length all → BitsLeft r (drop n all)
+LeftFrom (bit_runs b) n (entered.Bits r) =
+    (all : List Bool) → IsBitStream b all → n ≤ length all → BitsLeft r (drop n all)
 LeftFrom (bit_runs b) n (entered.Bytes r) = ⊥
 LeftFrom (bit_runs b) n (entered.Numbers r) = ⊥
 LeftFrom (byte_runs b) n entered.Nothing = ⊥
 LeftFrom (byte_runs b) n (entered.Bits r) = ⊥
-LeftFrom (byte_runs b) n (entered.Bytes r) = (all : List ℕ) → IsStream IsByteRun b all → BytesLeft r (drop n all)
+LeftFrom (byte_runs b) n (entered.Bytes r) =
+    (all : List ℕ) → IsStream IsByteRun b all → BytesLeft r (drop n all)
 LeftFrom (byte_runs b) n (entered.Numbers r) = ⊥
 LeftFrom (number_runs v s b) n entered.Nothing = ⊥
 LeftFrom (number_runs v s b) n (entered.Bits r) = ⊥
 LeftFrom (number_runs v s b) n (entered.Bytes r) = ⊥
-LeftFrom (number_runs v s b) n (entered.Numbers r) = (all : List ℤ) → IsStream (is_run v s) b all → NumbersLeft r (drop n all)
+LeftFrom (number_runs v s b) n (entered.Numbers r) =
+    (all : List ℤ) → IsStream (is_run v s) b all → NumbersLeft r (drop n all)
 
 -- the bytes are a stream that has n values or more
 abbrev pub HasSome : RunStream → ℕ → Type 0
@@ -61,9 +64,13 @@ HasSome (number_runs v s b) n = (all : List ℤ) × IsStream (is_run v s) b all
 -- Whatever stream agrees from the positions' offset on, and has value n there: its values from n on are left.
 abbrev pub Enters : RunStream → List ℕ → Entered → Type 0
 Enters stream positions e =
-    (other : RunStream) (n : ℕ) → StreamPlace begins BeginsBits other n positions → RunsAgree (get_or positions 0 0) stream other → LeftFrom other n e
+    (other : RunStream) (n : ℕ) → StreamPlace begins BeginsBits other n positions
+    → RunsAgree (get_or positions 0 0) stream other
+    → LeftFrom other n e
 
 -- there is no such stream
 abbrev pub NeverEnters : RunStream → List ℕ → Type 0
 NeverEnters stream positions =
-    (other : RunStream) (n : ℕ) → StreamPlace begins BeginsBits other n positions → RunsAgree (get_or positions 0 0) stream other → HasSome other n → ⊥
+    (other : RunStream) (n : ℕ) → StreamPlace begins BeginsBits other n positions
+    → RunsAgree (get_or positions 0 0) stream other
+    → HasSome other n → ⊥

@@ -5,7 +5,7 @@ ghost use Rattle.orc_columns.specs.Bits.{BitsLeft};
 ghost use Rattle.orc_entering.specs.Entering.{EntersBits};
 
 use orc_columns::bits::Bits;
-use orc_columns::bytes::Bytes;
+use orc_columns::bytes::RunLengthBytes;
 use orc_rle::{BitPos, BitRuns, RunFault, RunU8};
 
 /// The byte that comes next.
@@ -19,15 +19,16 @@ fn next_byte(run: &RunU8) -> Option<u8>
     }
 }
 
-/// A stream of booleans from a position on: the runs of bytes from its offset to the value are decoded, and nothing before
-/// them.
+/// A stream of booleans from a position on: the runs of bytes from its offset to the value are decoded, and
+/// nothing before them.
 ///
 /// Refusals: those of `BitRuns::seek`. Bytes that are a right stream from the offset on, in which the position
 /// names a boolean, are never refused.
 pub fn bits_at(bytes: &[u8], pos: BitPos) -> Result<Bits<'_>, RunFault>
     ensures enters { MatchResult result (λ found. EntersBits bytes.now pos.offset pos.skip pos.bits (BitsLeft found))
         (λ _. EntersBits bytes.now pos.offset pos.skip pos.bits (λ _. ⊥)) }
-    ensures found { IfOk result (λ found. SeeksBits bytes.now pos.offset pos.skip pos.bits found.bytes.at found.bytes.run.values) }
+    ensures found { IfOk result
+        (λ found. SeeksBits bytes.now pos.offset pos.skip pos.bits found.bytes.at found.bytes.run.values) }
     ensures fault { IfErr result (BitSeekFails bytes.now pos.offset pos.skip pos.bits) }
 {
     let mut run = RunU8::new();
@@ -38,7 +39,7 @@ pub fn bits_at(bytes: &[u8], pos: BitPos) -> Result<Bits<'_>, RunFault>
     // the byte in which the position stands is held, without the digits that are passed
     match next_byte(&run) {
         Some(byte) => Ok(Bits {
-            bytes: Bytes {
+            bytes: RunLengthBytes {
                 bytes,
                 at,
                 start: pos.offset,
@@ -49,7 +50,7 @@ pub fn bits_at(bytes: &[u8], pos: BitPos) -> Result<Bits<'_>, RunFault>
             left: 8 - pos.bits as u32,
         }),
         None => Ok(Bits {
-            bytes: Bytes {
+            bytes: RunLengthBytes {
                 bytes,
                 at,
                 start: pos.offset,

@@ -5,7 +5,7 @@ ghost use Rattle.orc_rle.specs.Seeking.{Seeks, SeekFails};
 ghost use Rattle.orc_columns.specs.Bytes.{BytesLeft};
 ghost use Rattle.orc_entering.specs.Entering.{EntersRuns};
 
-use orc_columns::bytes::Bytes;
+use orc_columns::bytes::RunLengthBytes;
 use orc_rle::{ByteRuns, Pos, RunFault, RunU8};
 
 /// A stream of bytes in runs from a position on: the runs from its offset to the value are decoded, and nothing before
@@ -13,15 +13,16 @@ use orc_rle::{ByteRuns, Pos, RunFault, RunU8};
 ///
 /// Refusals: those of `ByteRuns::seek`. Bytes that are a right stream from the offset on, in which the position
 /// names a value, are never refused.
-pub fn bytes_at(bytes: &[u8], pos: Pos) -> Result<Bytes<'_>, RunFault>
+pub fn bytes_at(bytes: &[u8], pos: Pos) -> Result<RunLengthBytes<'_>, RunFault>
     ensures enters { MatchResult result (λ found. EntersRuns IsByteRun bytes.now pos.offset pos.skip (BytesLeft found))
         (λ _. EntersRuns IsByteRun bytes.now pos.offset pos.skip (λ _. ⊥)) }
-    ensures found { IfOk result (λ found. Seeks IsByteRun bytes.now pos.offset pos.skip pos.skip found.at found.run.values) }
+    ensures found { IfOk result
+        (λ found. Seeks IsByteRun bytes.now pos.offset pos.skip pos.skip found.at found.run.values) }
     ensures fault { IfErr result (SeekFails IsByteRun NoByteRun bytes.now pos.offset pos.skip) }
 {
     let mut run = RunU8::new();
     match ByteRuns::seek(bytes, pos, &mut run) {
-        Ok(at) => Ok(Bytes {
+        Ok(at) => Ok(RunLengthBytes {
             bytes,
             at,
             start: pos.offset,

@@ -10,11 +10,10 @@ use crate::bits::bits_at;
 use crate::bytes::bytes_at;
 use crate::numbers::numbers_at;
 use orc_columns::bits::Bits;
-use orc_columns::bytes::Bytes;
+use orc_columns::bytes::RunLengthBytes;
 use orc_columns::numbers::Numbers;
-use orc_columns::version::Version;
 use orc_index::RunBytes;
-use orc_rle::{BitPos, Pos, RunFault, Sign};
+use orc_rle::{BitPos, Pos, Rle, RunFault, Sign};
 
 /// A stream of runs from a position on.
 #[derive(Drop)]
@@ -24,7 +23,7 @@ pub(crate) enum Entered<'a> {
     /// Booleans.
     Bits(Bits<'a>),
     /// Bytes.
-    Bytes(Bytes<'a>),
+    Bytes(RunLengthBytes<'a>),
     /// Integers.
     Numbers(Numbers<'a>),
 }
@@ -60,12 +59,14 @@ fn bit_pos_of(positions: &[u64]) -> Option<BitPos>
 
 /// Integers from a position on, where the numbers are one.
 fn numbers_from<'a>(
-    version: Version,
+    version: Rle,
     sign: Sign,
     bytes: &'a [u8],
     positions: &[u64],
 ) -> Result<Entered<'a>, RunFault>
-    ensures enters { MatchResult result (Enters (number_runs version sign bytes.now) positions.now) (λ _. NeverEnters (number_runs version sign bytes.now) positions.now) }
+    ensures enters { MatchResult result
+        (Enters (number_runs version sign bytes.now) positions.now)
+        (λ _. NeverEnters (number_runs version sign bytes.now) positions.now) }
     ensures fault { IfErr result (StreamFails (number_runs version sign bytes.now) positions.now) }
 {
     let Some(pos) = pos_of(positions) else {
@@ -79,7 +80,9 @@ fn numbers_from<'a>(
 
 /// Bytes from a position on, where the numbers are one.
 fn bytes_from<'a>(bytes: &'a [u8], positions: &[u64]) -> Result<Entered<'a>, RunFault>
-    ensures enters { MatchResult result (Enters (byte_runs bytes.now) positions.now) (λ _. NeverEnters (byte_runs bytes.now) positions.now) }
+    ensures enters { MatchResult result
+        (Enters (byte_runs bytes.now) positions.now)
+        (λ _. NeverEnters (byte_runs bytes.now) positions.now) }
     ensures fault { IfErr result (StreamFails (byte_runs bytes.now) positions.now) }
 {
     let Some(pos) = pos_of(positions) else {
@@ -93,7 +96,9 @@ fn bytes_from<'a>(bytes: &'a [u8], positions: &[u64]) -> Result<Entered<'a>, Run
 
 /// Booleans from a position on, where the numbers are one.
 pub(crate) fn bits_from<'a>(bytes: &'a [u8], positions: &[u64]) -> Result<Bits<'a>, RunFault>
-    ensures enters { MatchResult result (λ bits. Enters (bit_runs bytes.now) positions.now (entered.Bits bits)) (λ _. NeverEnters (bit_runs bytes.now) positions.now) }
+    ensures enters { MatchResult result
+        (λ bits. Enters (bit_runs bytes.now) positions.now (entered.Bits bits))
+        (λ _. NeverEnters (bit_runs bytes.now) positions.now) }
     ensures fault { IfErr result (StreamFails (bit_runs bytes.now) positions.now) }
 {
     let Some(pos) = bit_pos_of(positions) else {
@@ -107,7 +112,9 @@ pub(crate) fn bits_from<'a>(bytes: &'a [u8], positions: &[u64]) -> Result<Bits<'
 
 /// A stream of runs from its positions on.
 pub(crate) fn enter<'a>(stream: &RunBytes<'a>, positions: &[u64]) -> Result<Entered<'a>, RunFault>
-    ensures enters { MatchResult result (Enters (runs stream.now) positions.now) (λ _. NeverEnters (runs stream.now) positions.now) }
+    ensures enters { MatchResult result
+        (Enters (runs stream.now) positions.now)
+        (λ _. NeverEnters (runs stream.now) positions.now) }
     ensures fault { IfErr result (StreamFails (runs stream.now) positions.now) }
 {
     match *stream {

@@ -20,9 +20,14 @@ fn words_of<'a>(
     column: usize,
     streams: &ColumnStreams<'a>,
 ) -> Result<Option<Vec<Entry<'a>>>, StripeFault>
-    ensures found { IfOk result (λ entries. (x : Streams) → AreStreams x streams.now → HasEntries streams.now.has_dictionary x entries) }
-    ensures none { IfErr result (λ fault. fault ≢ OutOfMemory → (x : Streams) → AreStreams x streams.now → LacksEntries streams.now.has_dictionary x) }
-    ensures fault { IfErr result (λ cause. cause ≢ OutOfMemory → (x : Streams) → AreStreams x streams.now → EntriesFail streams.now.has_dictionary x column cause) }
+    ensures found { IfOk result (λ entries. (x : Streams) → AreStreams x streams.now
+        → HasEntries streams.now.has_dictionary x entries) }
+    ensures none { IfErr result (λ fault. fault ≢ OutOfMemory
+        → (x : Streams) → AreStreams x streams.now
+        → LacksEntries streams.now.has_dictionary x) }
+    ensures fault { IfErr result (λ cause. cause ≢ OutOfMemory
+        → (x : Streams) → AreStreams x streams.now
+        → EntriesFail streams.now.has_dictionary x column cause) }
 {
     if !streams.has_dictionary {
         return Ok(None);
@@ -47,9 +52,14 @@ pub(crate) fn column_entries<'a>(
     column: usize,
     streams: &ColumnStreams<'a>,
 ) -> Result<Option<Vec<Entry<'a>>>, StripeFault>
-    ensures found { IfOk result (λ entries. (x : Streams) → AreStreams x streams.now → EntriesOf (shape tree.now) x entries) }
-    ensures none { IfErr result (λ fault. fault ≢ OutOfMemory → (x : Streams) → AreStreams x streams.now → HasNoDictionary (shape tree.now) x) }
-    ensures fault { IfErr result (λ cause. cause ≢ OutOfMemory → (x : Streams) → AreStreams x streams.now → WordsOfFail (shape tree.now) x column cause) }
+    ensures found { IfOk result (λ entries. (x : Streams) → AreStreams x streams.now
+        → EntriesOf (shape tree.now) x entries) }
+    ensures none { IfErr result (λ fault. fault ≢ OutOfMemory
+        → (x : Streams) → AreStreams x streams.now
+        → HasNoDictionary (shape tree.now) x) }
+    ensures fault { IfErr result (λ cause. cause ≢ OutOfMemory
+        → (x : Streams) → AreStreams x streams.now
+        → WordsOfFail (shape tree.now) x column cause) }
 {
     match tree {
         Tree::Scalar(Scalar::String, _) => words_of(alloc, column, streams),

@@ -12,7 +12,7 @@ mod octets;
 mod own;
 mod reader;
 mod readers;
-mod source;
+mod value_source;
 
 pub use bits::bits_at;
 pub use bytes::bytes_at;

@@ -14,7 +14,9 @@ pub(crate) fn marks_from<'a>(
     present: &'a [u8],
     positions: &[u64],
 ) -> Result<Option<Bits<'a>>, RunFault>
-    ensures enters { MatchResult result (EntersMarks present.now positions.now) (λ _. NeverEnters (present_runs present.now) positions.now) }
+    ensures enters { MatchResult result
+        (EntersMarks present.now positions.now)
+        (λ _. NeverEnters (present_runs present.now) positions.now) }
     ensures fault { IfErr result (StreamFails (present_runs present.now) positions.now) }
 {
     match present {

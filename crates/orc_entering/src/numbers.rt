@@ -6,25 +6,19 @@ ghost use Rattle.orc_columns.specs.RunFaults.{no_run};
 ghost use Rattle.orc_entering.specs.Entering.{EntersRuns};
 
 use orc_columns::numbers::Numbers;
-use orc_columns::version::Version;
-use orc_rle::{Pos, Run, RunCodec, RunFault, Sign, V1, V2};
+use orc_rle::{Pos, Rle, Run, RunCodec, RunFault, Sign, V1, V2};
 
 /// Goes to a position, whatever the version.
-fn seek(
-    version: Version,
-    bytes: &[u8],
-    sign: Sign,
-    pos: Pos,
-    run: &mut Run,
-) -> Result<usize, RunFault>
-    ensures found { IfOk result (λ at. Seeks (is_run version sign) bytes.now pos.offset pos.skip pos.skip at run.new.values) }
+fn seek(version: Rle, bytes: &[u8], sign: Sign, pos: Pos, run: &mut Run) -> Result<usize, RunFault>
+    ensures found { IfOk result
+        (λ at. Seeks (is_run version sign) bytes.now pos.offset pos.skip pos.skip at run.new.values) }
     ensures only { (at : ℕ) (left : List ℤ) → Seeks (is_run version sign) bytes.now pos.offset pos.skip pos.skip at left
         → (result ≡ Ok at) × (run.new.values ≡ left) }
     ensures fault { IfErr result (SeekFails (is_run version sign) (no_run version sign) bytes.now pos.offset pos.skip) }
 {
     match version {
-        Version::One => V1::seek(bytes, sign, pos, run),
-        Version::Two => V2::seek(bytes, sign, pos, run),
+        Rle::One => V1::seek(bytes, sign, pos, run),
+        Rle::Two => V2::seek(bytes, sign, pos, run),
     }
 }
 
@@ -33,14 +27,16 @@ fn seek(
 /// Refusals: those of `seek`. Bytes that are a right stream from the offset on, in which the position names a
 /// value, are never refused.
 pub fn numbers_at<'a>(
-    version: Version,
+    version: Rle,
     sign: Sign,
     bytes: &'a [u8],
     pos: Pos,
 ) -> Result<Numbers<'a>, RunFault>
-    ensures enters { MatchResult result (λ numbers. EntersRuns (is_run version sign) bytes.now pos.offset pos.skip (NumbersLeft numbers))
+    ensures enters { MatchResult result
+        (λ numbers. EntersRuns (is_run version sign) bytes.now pos.offset pos.skip (NumbersLeft numbers))
         (λ _. EntersRuns (is_run version sign) bytes.now pos.offset pos.skip (λ _. ⊥)) }
-    ensures found { IfOk result (λ numbers. Seeks (is_run version sign) bytes.now pos.offset pos.skip pos.skip numbers.at numbers.run.values) }
+    ensures found { IfOk result
+        (λ numbers. Seeks (is_run version sign) bytes.now pos.offset pos.skip pos.skip numbers.at numbers.run.values) }
     ensures fault { IfErr result (SeekFails (is_run version sign) (no_run version sign) bytes.now pos.offset pos.skip) }
 {
     let mut run = Run::new();

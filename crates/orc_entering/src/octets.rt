@@ -17,7 +17,8 @@ pub(crate) fn octets_from<'a, 'p>(
     content: Option<&'a [u8]>,
     positions: &'p [u64],
 ) -> Option<Cut<'a, 'p>>
-    ensures found { IfSome result (λ cut. CutsOctets (lent_bytes content.entry) positions.now cut.rest.now cut.positions.now) }
+    ensures found { IfSome result
+        (λ cut. CutsOctets (lent_bytes content.entry) positions.now cut.rest.now cut.positions.now) }
     ensures none { IfNone result (EndsBefore (lent_bytes content.entry) positions.now) }
 {
     let Some(bytes) = content else {

@@ -14,8 +14,8 @@ use crate::entered::enter;
 use crate::entries::column_entries;
 use crate::faults::entering_fault;
 use crate::octets::octets_from;
-use crate::source::source_from;
-use orc_columns::column::Source;
+use crate::value_source::source_from;
+use orc_columns::column::ValueSource;
 use orc_columns::fault::{Spot, StreamKind, StripeFault};
 use orc_columns::starting::ColumnStreams;
 use orc_index::{own_kind, placed_streams};
@@ -24,19 +24,25 @@ use std::alloc::Global;
 
 /// The source of a column's values, from the positions of its streams beside PRESENT on.
 ///
-/// Refusals: `BadPosition` of the stream that a position lies outside of; `Run` where no run is decoded there; those of a
-/// dictionary; `OutOfMemory`, and nothing else where the positions are right.
+/// Refusals: `BadPosition` of the stream that a position lies outside of; `Run` where no run is decoded there;
+/// those of a dictionary; `OutOfMemory`, and nothing else where the positions are right.
 pub(crate) fn own_from<'a>(
     alloc: Global,
     tree: &Tree,
     column: usize,
     streams: &ColumnStreams<'a>,
     positions: &[u64],
-) -> Result<Source<'a>, StripeFault>
-    ensures left { (x y : Streams) (before after : List Cell) (last : List ℕ) → AreStreams y streams.now → OwnTurns (shape tree.now) x y before after last
+) -> Result<ValueSource<'a>, StripeFault>
+    ensures left { (x y : Streams) (before after : List Cell) (last : List ℕ)
+        → AreStreams y streams.now
+        → OwnTurns (shape tree.now) x y before after last
         → positions.now ≡ octets_place (own_octets (shape tree.now) x) (octets before) ++ last
-        → MatchResult result (λ source. OwnValuesLeft (shape tree.now) source (values after)) (λ fault. fault ≡ OutOfMemory) }
-    ensures fault { IfErr result (λ cause. cause ≢ OutOfMemory → (x : Streams) → AreStreams x streams.now → OwnRefused (shape tree.now) x column positions.now cause) }
+        → MatchResult result
+        (λ source. OwnValuesLeft (shape tree.now) source (values after))
+        (λ fault. fault ≡ OutOfMemory) }
+    ensures fault { IfErr result (λ cause. cause ≢ OutOfMemory
+        → (x : Streams) → AreStreams x streams.now
+        → OwnRefused (shape tree.now) x column positions.now cause) }
 {
     let placed = placed_streams(tree, streams);
     let Some(cut) = octets_from(placed.content, positions) else {

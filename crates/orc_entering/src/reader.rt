@@ -32,16 +32,17 @@ fn octets_size(content: Option<&[u8]>) -> usize
 
 /// How many numbers the positions of a column have.
 fn positions_size(placed: &PlacedStreams<'_>) -> usize
-    ensures { result ≡ spec.position_size (runs placed.now.present) + (spec.octets_size (lent_bytes placed.now.content) + spec.position_size (runs placed.now.own)) }
+    ensures { result ≡ spec.position_size (runs placed.now.present)
+        + (spec.octets_size (lent_bytes placed.now.content) + spec.position_size (runs placed.now.own)) }
 {
     placed.present.position_size() + (octets_size(placed.content) + placed.own.position_size())
 }
 
 /// The reader of a column by itself, from its positions on.
 ///
-/// Refusals: `BadPosition`, of the column where the positions are not as many as its streams have, and of the stream
-/// that one lies outside of; `Run` where no run is decoded there; those of a dictionary; `OutOfMemory`, and nothing else
-/// where the positions are right.
+/// Refusals: `BadPosition`, of the column where the positions are not as many as its streams have, and of the
+/// stream that one lies outside of; `Run` where no run is decoded there; those of a dictionary; `OutOfMemory`,
+/// and nothing else where the positions are right.
 pub(crate) fn reader_at<'a>(
     alloc: Global,
     tree: &Tree,
@@ -49,9 +50,13 @@ pub(crate) fn reader_at<'a>(
     streams: &ColumnStreams<'a>,
     positions: &[u64],
 ) -> Result<ColumnReader<'a>, StripeFault>
-    ensures left { (x y : Streams) (before after : List Cell) → AreStreams y streams.now → Turns (shape tree.now) x y before after positions.now
+    ensures left { (x y : Streams) (before after : List Cell)
+        → AreStreams y streams.now
+        → Turns (shape tree.now) x y before after positions.now
         → MatchResult result (λ reader. ColumnIsLeft (shape tree.now) reader after) (λ fault. fault ≡ OutOfMemory) }
-    ensures fault { IfErr result (λ cause. cause ≢ OutOfMemory → (x : Streams) → AreStreams x streams.now → ColumnRefused (shape tree.now) x column positions.now cause) }
+    ensures fault { IfErr result (λ cause. cause ≢ OutOfMemory
+        → (x : Streams) → AreStreams x streams.now
+        → ColumnRefused (shape tree.now) x column positions.now cause) }
 {
     let placed = placed_streams(tree, streams);
     if positions.len() != positions_size(&placed) {

@@ -32,12 +32,17 @@ pub fn readers_at<'a>(
     entries: &[RowIndexEntry],
 ) -> Result<Vec<ColumnReader<'a>>, StripeFault>
     requires columns { width (shape tree.now) ≡ length footer.now.columns }
-    requires located { AreLocated (length footer.now.columns) footer.now.streams located.now.bytes.now located.now.slices.items }
+    requires located { AreLocated (length footer.now.columns) footer.now.streams
+        located.now.bytes.now located.now.slices.items }
     requires entries { length entries.now ≡ width (shape tree.now) }
     ensures counted { IfOk result (λ readers. length readers.items ≡ width (shape tree.now)) }
-    ensures left { (x : ℕ → Streams) (before after : List Cell) → RowsTurn (shape tree.now) x (columns_of footer.now located.now.bytes.now) before after entries.now
-        → MatchResult result (λ readers. CellsLeft (shape tree.now) readers.items after) (λ fault. fault ≡ OutOfMemory) }
-    ensures fault { IfErr result (λ cause. cause ≢ OutOfMemory → EntriesRefused (shape tree.now) (columns_of footer.now located.now.bytes.now) entries.now cause) }
+    ensures left { (x : ℕ → Streams) (before after : List Cell)
+        → RowsTurn (shape tree.now) x (columns_of footer.now located.now.bytes.now) before after entries.now
+        → MatchResult result
+        (λ readers. CellsLeft (shape tree.now) readers.items after)
+        (λ fault. fault ≡ OutOfMemory) }
+    ensures fault { IfErr result (λ cause. cause ≢ OutOfMemory
+        → EntriesRefused (shape tree.now) (columns_of footer.now located.now.bytes.now) entries.now cause) }
 {
     let mut readers = Vec::new(alloc);
     for column in 0..width_of(tree) {

@@ -1,13 +1,13 @@
 //! What comes from a position on, and that what stands before its offset has no part in it.
 use orc_columns::bits::Bits;
-use orc_columns::bytes::Bytes;
+use orc_columns::bytes::RunLengthBytes;
 use orc_columns::numbers::Numbers;
-use orc_columns::version::Version;
 use orc_entering::{bits_at, bytes_at, numbers_at};
-use orc_rle::{BitPos, Pos, RunFault, Sign};
+use orc_rle::{BitPos, Pos, Rle, RunFault, Sign};
 use std::process::Abort;
 
-/// The bytes of a stream of version 1 with a sign, an offset, how many values are passed from there; and the values that come then.
+/// The bytes of a stream of version 1 with a sign, an offset, how many values are passed from there; and the
+/// values that come then.
 type Integers = (&'static [u8], usize, usize, &'static [i64]);
 
 static INTEGERS: [Integers; 9] = [
@@ -52,7 +52,7 @@ fn integers(rt: HostRuntime) {
             offset: *offset,
             skip: *skip,
         };
-        match numbers_at(Version::One, Sign::Signed, bytes, pos) {
+        match numbers_at(Rle::One, Sign::Signed, bytes, pos) {
             Ok(mut numbers) => assert!(&rt; are_numbers(&mut numbers, values)),
             Err(_) => assert!(&rt; false, "({}, {})", offset, skip),
         }
@@ -62,7 +62,7 @@ fn integers(rt: HostRuntime) {
             offset: *offset,
             skip: *skip,
         };
-        assert!(&rt; numbers_at(Version::One, Sign::Signed, bytes, pos).err() == Some(*fault));
+        assert!(&rt; numbers_at(Rle::One, Sign::Signed, bytes, pos).err() == Some(*fault));
     }
 }
 
@@ -70,7 +70,7 @@ fn integers(rt: HostRuntime) {
 static OCTETS: [u8; 8] = [0x01, 0x01, 0xfd, 0x05, 0x06, 0x07, 0x00, 0xff];
 
 /// The bytes that are left are these.
-fn are_bytes(found: &mut Bytes<'_>, values: &[u8]) -> bool {
+fn are_bytes(found: &mut RunLengthBytes<'_>, values: &[u8]) -> bool {
     for value in values {
         if found.next() != Ok(*value) {
             return false;

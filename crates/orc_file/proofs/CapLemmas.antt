@@ -1,19 +1,19 @@
 -- Tests with a cap beside those without: what they find, and how they fail.
-use Rattle.std.specs.Prelude.{◌≡◌, ℕ, ◌+◌, ◌<◌, ◌≤◌, zero, suc, List, [], ◌∷◌, length, ◌⊎◌, Option, Some, None, Result, Ok, Err}
+use Rattle.std.specs.Prelude.{◌≡◌, ℕ, ◌+◌, ◌<◌, ◌≤◌, zero, suc, List, [], ◌∷◌, length, ◌⊎◌, Option, Some, None, Result}
 use Rattle.std.proofs.Common.{refl, sym, subst, inl, inr, arith}
 use Rattle.std.specs.Option.{IfSome}
-use Rattle.std.specs.Result.{IfOk, IfErr, MatchResult}
+use Rattle.std.specs.Result.{MatchResult}
 use Rattle.orc_wire.specs.declared.stripe_info.StripeInfo.{StripeInfo}
 use Rattle.orc_wire.specs.declared.post_script.PostScript.{PostScript}
 use Rattle.orc_types.specs.Shapes.{Shape}
 use Rattle.orc_file.specs.Layout.{script_length, script_place}
 use Rattle.orc_file.specs.Stripes.{stripe_length, stripe_at, stripes_length, most_bytes}
-use Rattle.orc_file.specs.Tails.{end_tests, tail_tests, IsTail, OpenFault, ReadFault}
+use Rattle.orc_file.specs.Tails.{end_tests, IsTail, OpenFault, ReadFault}
 use Rattle.orc_file.specs.FileRows.{FirstRefused}
-use Rattle.orc_file.specs.Caps.{no_cap, tail_length, capped_tests, IsCappedTail, CappedFault, AllWithin, FirstCapped}
+use Rattle.orc_file.specs.Caps.{no_cap, tail_length, IsCappedTail, CappedFault, AllWithin, FirstCapped}
 use Rattle.orc_file.specs.declared.tail.Tail.{Tail}
 use Rattle.orc_file.specs.declared.fault.FileFault.{FileFault}
-use Rattle.orc_file.specs.declared.fault.FileFault.TheVariants.{Limit, SourceFailed, OutOfMemory}
+use Rattle.orc_file.specs.declared.fault.FileFault.TheVariants.{Limit}
 
 -- the tail's parts lie within the file
 pub tail_short : (bytes : List ℕ) (script : PostScript) → length bytes ≤ no_cap → (end_tests bytes).finds script → tail_length bytes script ≤ no_cap

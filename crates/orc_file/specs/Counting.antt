@@ -1,12 +1,13 @@
 -- How a cell that is counted changes the counts of the columns. They are counted up to the limit of a stripe.
-use Rattle.std.specs.Prelude.{◌≡◌, ◌≢◌, ℕ, ◌+◌, ◌<◌, ◌≤◌, ◌⊎◌, ◌^◌, min, List, [], ◌∷◌, length, get_or}
+use Rattle.std.specs.Prelude.{◌≡◌, ◌≢◌, ℕ, ◌+◌, ◌<◌, ◌≤◌, ◌⊎◌, min, List, [], ◌∷◌, length, get_or}
 use Rattle.orc_types.specs.Shapes.{Shape, Fields, width, widths}
 use Rattle.orc_types.specs.Cells.{Cell}
 use Rattle.orc_types.specs.Columns.{cells, cells_within}
+use Rattle.orc_columns.specs.Stripe.{cell_limit}
 
 -- one number is more than another by so many, where neither is above the limit
 abbrev pub IsMoreBy : ℕ → ℕ → ℕ → Type 0
-IsMoreBy more old new = min (2 ^ 31) new ≡ min (2 ^ 31) (old + more)
+IsMoreBy more old new = min (cell_limit) new ≡ min (cell_limit) (old + more)
 
 -- a column's count is one more, and the others stay
 pub record AddsOne (column : ℕ) (old new : List ℕ) : Type 0 where

@@ -1,5 +1,5 @@
 -- How many cells the columns of the rows have that a writer keeps, and its limits (this project's).
-use Rattle.std.specs.Prelude.{◌≡◌, ℕ, ◌+◌, ◌≤◌, ◌⊎◌, ◌^◌, Bool, true, false, ◌&&◌, ◌||◌, ◌==◌, nat_lt, List, [], ◌∷◌, length}
+use Rattle.std.specs.Prelude.{◌≡◌, ℕ, ◌+◌, ◌≤◌, ◌⊎◌, Bool, true, false, ◌&&◌, ◌||◌, ◌==◌, nat_lt, List, [], ◌∷◌, length}
 use Rattle.std.specs.List.{list_all}
 use Rattle.std.specs.Option.{is_none}
 use Rattle.orc_wire.specs.declared.stripe_info.StripeInfo.{StripeInfo}
@@ -12,6 +12,7 @@ use Rattle.orc_stats.specs.declared.stat.Body.{Body}
 use Rattle.orc_stats.specs.declared.stat.Body.TheVariants as body
 use Rattle.orc_stats.specs.Kinds.{body_is_of}
 use Rattle.orc_stats.specs.Messages.{in_limits}
+use Rattle.orc_columns.specs.Stripe.{cell_limit}
 use Rattle.orc_file.specs.Statistics.{kind_at}
 use Rattle.orc_file.specs.Stripes.{stripe_end, most_stripes, most_rows}
 
@@ -24,7 +25,7 @@ with_row s c row (n ∷ ns) = (n + length (cells s c (row ∷ []))) ∷ with_row
 
 -- all are below the limit of a column's cells in a stripe
 abbrev pub are_few : List ℕ → Bool
-are_few counts = list_all (λ n. nat_lt n (2 ^ 31)) counts
+are_few counts = list_all (λ n. nat_lt n (cell_limit)) counts
 
 -- A row more would pass a limit: of stripes, of a file's rows, or of a column's cells in a stripe.
 abbrev pub PassesLimit : Shape → List StripeInfo → ℕ → List ℕ → Cell → Type 0
@@ -37,7 +38,7 @@ PassesLimit s infos total counts row = (most_stripes ≤ length infos)
 abbrev pub are_laid_with_few_rows : ℕ → List StripeInfo → Bool
 are_laid_with_few_rows place [] = true
 are_laid_with_few_rows place (i ∷ is) =
-    (i.offset == place) && (nat_lt i.number_of_rows (2 ^ 31) && are_laid_with_few_rows (stripe_end i) is)
+    (i.offset == place) && (nat_lt i.number_of_rows (cell_limit) && are_laid_with_few_rows (stripe_end i) is)
 
 -- nothing is known of the values
 abbrev pub is_unknown : Body → Bool
@@ -51,7 +52,7 @@ is_unknown (body.Bins t) = is_none t
 -- a statistic of a stripe's column
 abbrev pub is_column_stat : StatKind → Stat → Bool
 is_column_stat k x =
-    body_is_of k x.body && (in_limits x && (nat_lt x.count (2 ^ 31) && (nat_lt 0 x.count || is_unknown x.body)))
+    body_is_of k x.body && (in_limits x && (nat_lt x.count (cell_limit) && (nat_lt 0 x.count || is_unknown x.body)))
 
 -- of the columns from one on
 abbrev pub are_column_stats : Shape → ℕ → List Stat → Bool

@@ -7,12 +7,13 @@ use Rattle.orc_wire.specs.declared.stripe_footer.StripeFooter.{StripeFooter}
 use Rattle.orc_types.specs.Cells.{Cell}
 use Rattle.orc_types.specs.Shapes.{Shape}
 use Rattle.orc_columns.specs.Stripe.{HasFooter, IsStripe, columns_of}
+use Rattle.orc_stripe.specs.Opened.{Opened}
 use Rattle.orc_stripe.specs.Opening.{OpenFault}
 use Rattle.orc_columns.specs.Faults.{RowsFault}
 use Rattle.orc_columns.specs.declared.fault.StripeFault.{StripeFault}
 use Rattle.orc_columns.specs.declared.fault.StripeFault.TheVariants as stripe
 use Rattle.orc_devices.specs.Devices.{bytes_at}
-use Rattle.orc_file.specs.Stripes.{stripe_length}
+use Rattle.orc_file.specs.Stripes.{stripe_length, stripe_at}
 use Rattle.orc_file.specs.Tails.{IsTail}
 use Rattle.orc_file.specs.declared.tail.Tail.{Tail}
 use Rattle.orc_file.specs.declared.fault.FileFault.{FileFault}
@@ -21,6 +22,17 @@ use Rattle.orc_file.specs.declared.fault.FileFault.TheVariants.{Stripe}
 -- a stripe's bytes, of those of its file
 abbrev pub stripe_bytes : StripeInfo → List ℕ → List ℕ
 stripe_bytes info bytes = bytes_at info.offset (stripe_length info) bytes
+
+-- the stripe of a file with this number, with these bytes and this footer
+abbrev pub opened_stripe : Tail → ℕ → List ℕ → StripeFooter → Opened
+opened_stripe tail n bytes footer =
+    record {
+      schema = tail.schema;
+      info = stripe_at tail.stripes n;
+      stride = tail.stride;
+      bytes = bytes;
+      footer = footer;
+    }
 
 -- each list has the rows of one stripe, in the stripes' order
 abbrev pub AreOfStripes : Shape → List ℕ → List StripeInfo → List (List Cell) → Type 0

@@ -57,8 +57,9 @@ ended metadata footer script = metadata ++ (footer ++ (script ++ length script �
 
 -- what follows the stripes
 abbrev pub tail_text : Tail → List ℕ
-tail_text tail =
-    ended (metadata_text.text (metadata_of tail)) (footer_text.text (footer_of tail)) (post_script_text.text (script_of tail))
+tail_text tail = ended (metadata_text.text (metadata_of tail))
+    (footer_text.text (footer_of tail))
+    (post_script_text.text (script_of tail))
 
 abbrev pub image : List ℕ → Tail → List ℕ
 image stripes tail = magic ++ (stripes ++ tail_text tail)

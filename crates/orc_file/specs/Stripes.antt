@@ -1,8 +1,9 @@
 -- Where stripes stand in a file, and the limits on them (ORC specification, "Stripes"; the limits are this
 -- project's).
-use Rattle.std.specs.Prelude.{◌≡◌, ℕ, ◌+◌, ◌^◌, ◌-◌, ◌≤◌, List, [], ◌∷◌, get_or}
+use Rattle.std.specs.Prelude.{◌≡◌, ℕ, ◌+◌, ◌^◌, ◌≤◌, List, [], ◌∷◌, get_or}
 use Rattle.std.specs.List.{AllByRecursion}
 use Rattle.orc_wire.specs.declared.stripe_info.StripeInfo.{StripeInfo}
+use Rattle.orc_columns.specs.Stripe.{most_cells}
 use Rattle.orc_file.specs.Tests.{Test, check, gives}
 use Rattle.orc_file.specs.declared.fault.FileFault.TheVariants.{BadStripe, Limit}
 
@@ -31,7 +32,7 @@ abbrev pub most_stripes : ℕ
 most_stripes = 65536
 
 abbrev pub most_stripe_rows : ℕ
-most_stripe_rows = 2 ^ 31 - 1
+most_stripe_rows = most_cells
 
 abbrev pub most_rows : ℕ
 most_rows = 2 ^ 40

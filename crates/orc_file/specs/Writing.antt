@@ -118,7 +118,8 @@ pub record PassesBytes (options : Options) (s : Shape) (infos : List StripeInfo)
 
 -- The bytes are `ORC`, stripes one after the other, of so many rows but for the last one, and the canonical
 -- text of the tail that lists them. Their rows, joined, are the file's.
-pub record IsWrittenFile (options : Options) (s : Shape) (tail : Tail) (bytes : List ℕ) (rows : List Cell) : Type 0 where
+pub record IsWrittenFile (options : Options) (s : Shape) (tail : Tail)
+    (bytes : List ℕ) (rows : List Cell) : Type 0 where
   pub closed : List Closed
   pub are : AreClosed options s 3 closed
   pub filled : AreFilled options.stripe_rows closed
@@ -132,7 +133,8 @@ abbrev pub IsSomeFile : Options → Shape → List ℕ → List Cell → Type 0
 IsSomeFile options s bytes rows = (tail : Tail) × IsWrittenFile options s tail bytes rows
 
 -- behind what the output had told first, a file with this tail stands, and its length fits 64 bits
-pub record IsWhole (options : Options) (s : Shape) (tail : Tail) (first told : Option (List ℕ)) (rows : List Cell) : Type 0 where
+pub record IsWhole (options : Options) (s : Shape) (tail : Tail)
+    (first told : Option (List ℕ)) (rows : List Cell) : Type 0 where
   pub bytes : List ℕ
   pub told_is : told ≡ appended first bytes
   pub file : IsWrittenFile options s tail bytes rows

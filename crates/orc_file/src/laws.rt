@@ -9,6 +9,14 @@ ghost use Rattle.orc_file.specs.Images.{image, tail_text, script_of, IsWithinLim
 ghost use Rattle.orc_file.specs.declared.tail.Tail.{Tail};
 ghost use Rattle.orc_file.specs.declared.fault.FileFault.{FileFault};
 
+mod of_caps;
+mod of_rows;
+mod of_writing;
+
+pub use of_caps::cap_laws;
+pub use of_rows::{row_laws, whole_laws};
+pub use of_writing::written_laws;
+
 /// Bytes have one tail at most, and none where a test fails. One fault is the first, but that what is
 /// wrong with types may be said in several ways. Any bytes have a tail or a fault. A tail that bytes have
 /// is within the limits, each of its numbers fits its field, and its stripes end within the bytes.

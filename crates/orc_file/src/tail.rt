@@ -1,7 +1,20 @@
 //! What a file says of itself.
+mod extent;
+mod footer;
+mod laid;
+mod limits;
+mod metadata;
+mod postscript;
+mod reading;
+mod statistics;
+
+pub use extent::stripe_length;
+pub use limits::{MOST_BYTES, MOST_ROWS, MOST_STRIPE_ROWS, MOST_STRIPES};
 use orc_stats::Stat;
 use orc_types::Schema;
 use orc_wire::{Bytes, Items, StripeInfo, UserMetadataItem};
+pub(crate) use reading::read_capped_tail;
+pub use reading::read_tail;
 
 /// What a file says of itself behind its stripes (ORC specification, "File Tail").
 #[derive(Debug, Drop)]

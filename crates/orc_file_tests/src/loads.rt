@@ -19,7 +19,7 @@ static RANGES: [(u64, u64); 8] = [
     (41, 19),
 ];
 
-fn opened(alloc: Global) -> Result<OrcFile<SeenSource<'static>>, FileFault> {
+fn open_upwards(alloc: Global) -> Result<OrcFile<SeenSource<'static>>, FileFault> {
     match OrcFile::open(alloc, SeenSource::new(&UPWARDS)) {
         Ok(file) => Ok(file),
         Err((fault, _)) => Err(fault),
@@ -49,7 +49,7 @@ fn has_rows(
 
 /// The stripes are loaded into one vector, each in one range behind those of the tail.
 fn check_loads(rt: &impl Abort, alloc: Global) -> Result<(), FileFault> {
-    let mut file = opened(alloc)?;
+    let mut file = open_upwards(alloc)?;
     assert_eq!(rt; file.schema().width(), 2);
     let mut bytes = b"before".to_vec(alloc)?;
     for (number, wanted) in [7i64, 8, 9].iter().enumerate() {
@@ -84,7 +84,7 @@ fn stripes_are_loaded(rt: HostRuntime) {
 
 /// All rows are read in the same ranges.
 fn check_rows(rt: &impl Abort, alloc: Global) -> Result<(), FileFault> {
-    let mut file = opened(alloc)?;
+    let mut file = open_upwards(alloc)?;
     let rows = file.rows(alloc)?;
     assert!(rt; have_numbers(&rows, &[7, 7, 7, 8, 8, 8, 9, 9, 9]));
     assert_eq!(rt; file.into_parts().1.ranges(), RANGES.as_slice());
@@ -102,7 +102,7 @@ fn rows_are_read_in_as_many_ranges(rt: HostRuntime) {
 
 /// Why so many bytes are no stripe 2, by its rows and by its view.
 fn refused(alloc: Global, len: usize) -> Result<(Option<FileFault>, Option<FileFault>), FileFault> {
-    let file = opened(alloc)?;
+    let file = open_upwards(alloc)?;
     if file.tail().stripes.as_slice().len() <= 2 {
         return Err(FileFault::RowCount);
     }

@@ -9,7 +9,7 @@ use std::alloc::{AllocError, Global};
 use std::process::Abort;
 
 /// A file of these bytes once there is memory for its tail.
-fn opened<S: Source + Drop>(alloc: Global, source: S) -> Result<OrcFile<S>, FileFault> {
+fn open_file<S: Source + Drop>(alloc: Global, source: S) -> Result<OrcFile<S>, FileFault> {
     match OrcFile::open(alloc, source) {
         Err((FileFault::OutOfMemory, source)) => match OrcFile::open(alloc, source) {
             Ok(file) => Ok(file),
@@ -74,7 +74,7 @@ pub(crate) fn have_numbers(rows: &[Row<'_>], wanted: &[i64]) -> bool {
 #[test]
 fn rows_are_read(rt: HostRuntime) -> Result<(), FileFault> {
     for (bytes, wanted) in FILES {
-        let mut file = opened(rt.alloc(), SliceSource::new(bytes))?;
+        let mut file = open_file(rt.alloc(), SliceSource::new(bytes))?;
         let rows = rows_of(rt.alloc(), &mut file)?;
         assert!(rt; have_numbers(&rows, wanted), "{} bytes", bytes.len());
     }
@@ -141,7 +141,7 @@ fn changed(alloc: Global, bytes: &[u8], place: usize, byte: u8) -> Result<Vec<u8
 fn the_first_bad_stripe_is_named(rt: HostRuntime) -> Result<(), FileFault> {
     for (bytes, place, byte, stripe, why) in CHANGES {
         let changed = changed(rt.alloc(), bytes, place, byte)?;
-        let mut file = opened(rt.alloc(), SliceSource::new(&changed))?;
+        let mut file = open_file(rt.alloc(), SliceSource::new(&changed))?;
         for _ in 0..2 {
             let fault = rows_of(rt.alloc(), &mut file).err();
             assert_eq!(rt;

@@ -1,6 +1,6 @@
 //! The statistics of a file's columns, joined of its stripes'.
 
-use crate::tails::{numbers, opened};
+use crate::tails::{numbers, tail_of};
 use orc_file::{FileFault, file_statistics};
 use orc_stats::StatFault;
 use orc_test_support::{EMPTY, SEVENS, TWICE, UPWARDS};
@@ -16,8 +16,8 @@ const FILES: [(&[u8], Option<(u64, i64, i64, i64)>); 4] = [
 ];
 
 /// The numbers of the second column, joined of those that the file says of its stripes.
-fn joined(alloc: Global, bytes: &[u8]) -> Result<Option<(u64, i64, i64, i64)>, FileFault> {
-    let tail = opened(alloc, bytes)?;
+fn joined_numbers(alloc: Global, bytes: &[u8]) -> Result<Option<(u64, i64, i64, i64)>, FileFault> {
+    let tail = tail_of(alloc, bytes)?;
     match file_statistics(alloc, &tail.schema, tail.stripe_stats.as_slice()) {
         Ok(stats) => match stats.as_slice() {
             [_, column] => Ok(numbers(column)),
@@ -31,8 +31,8 @@ fn joined(alloc: Global, bytes: &[u8]) -> Result<Option<(u64, i64, i64, i64)>, F
 #[test]
 fn statistics_are_joined(rt: HostRuntime) {
     for (bytes, wanted) in FILES {
-        let answer = match joined(rt.alloc(), bytes) {
-            Err(FileFault::OutOfMemory) => joined(rt.alloc(), bytes),
+        let answer = match joined_numbers(rt.alloc(), bytes) {
+            Err(FileFault::OutOfMemory) => joined_numbers(rt.alloc(), bytes),
             answer => answer,
         };
         assert_eq!(rt; answer, Ok(wanted), "{} bytes", bytes.len());

@@ -17,7 +17,7 @@ use std::alloc::Global;
 use std::process::Abort;
 
 /// The tail of bytes once there is memory for it: what wanted some is asked again.
-pub(crate) fn opened(alloc: Global, bytes: &[u8]) -> Result<Tail, FileFault>
+pub(crate) fn tail_of(alloc: Global, bytes: &[u8]) -> Result<Tail, FileFault>
     ensures limits { IfOk result (λ tail. IsWithinLimits tail) }
 {
     match OrcFile::open(alloc, SliceSource::new(bytes)) {
@@ -44,7 +44,7 @@ pub(crate) fn numbers(stat: &Stat) -> Option<(u64, i64, i64, i64)> {
 
 #[test]
 fn a_file_without_stripes(rt: HostRuntime) -> Result<(), FileFault> {
-    let tail = opened(rt.alloc(), &EMPTY)?;
+    let tail = tail_of(rt.alloc(), &EMPTY)?;
     assert_eq!(rt; tail.version.as_slice(), [0u32, 11].as_slice());
     assert_eq!(rt; tail.writer, Some(99));
     assert_eq!(rt; tail.writer_version, Some(6));
@@ -57,7 +57,7 @@ fn a_file_without_stripes(rt: HostRuntime) -> Result<(), FileFault> {
 
 #[test]
 fn a_file_with_a_stripe(rt: HostRuntime) -> Result<(), FileFault> {
-    let tail = opened(rt.alloc(), &SEVENS)?;
+    let tail = tail_of(rt.alloc(), &SEVENS)?;
     assert_eq!(rt; tail.rows, 3);
     assert_eq!(rt; tail.stride, 0);
     assert_eq!(rt; tail.user.as_slice().len(), 0);
@@ -95,11 +95,11 @@ static FRONTS: [(usize, FileFault); 6] = [
 #[test]
 fn fronts_are_no_files(rt: HostRuntime) {
     for (len, wanted) in FRONTS {
-        let fault = opened(rt.alloc(), &SEVENS[..len.min(120)]).err();
+        let fault = tail_of(rt.alloc(), &SEVENS[..len.min(120)]).err();
         assert_eq!(rt; fault, Some(wanted), "{len} bytes");
     }
     for len in 0..120usize {
-        assert!(rt; opened(rt.alloc(), &SEVENS[..len]).is_err(), "{len} bytes");
+        assert!(rt; tail_of(rt.alloc(), &SEVENS[..len]).is_err(), "{len} bytes");
     }
 }
 

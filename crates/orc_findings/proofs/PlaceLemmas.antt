@@ -7,7 +7,7 @@ use Rattle.orc_types.specs.Shapes.{Shape}
 use Rattle.orc_columns.specs.Stripe.{columns_of}
 use Rattle.orc_stripe.specs.GroupCursors.{HasGroup}
 use Rattle.orc_file.specs.Stripes.{stripe_at, stripes_rows}
-use Rattle.orc_file.specs.FileRows.{stripe_bytes, cut_rows, joined, AreOfStripes, HasRows, FileIs}
+use Rattle.orc_file.specs.FileRows.{stripe_bytes, opened_stripe, cut_rows, joined, AreOfStripes, HasRows, FileIs}
 use Rattle.orc_file.specs.declared.tail.Tail.{Tail}
 use Rattle.orc_file.proofs.RowLemmas.{rows_cut, cut_whole, one_rows}
 use Rattle.orc_output.specs.Output.{IsOutsideFile}
@@ -16,7 +16,7 @@ use Rattle.orc_check.specs.Findings.{rows_at}
 use Rattle.orc_check.specs.RightIndexes.{StartsAtGroups}
 use Rattle.orc_check.proofs.NoFinding.{stripe_is}
 use Rattle.orc_rows.specs.Rows.{row_line, row_lines, HaveJson}
-use Rattle.orc_rows.specs.FromGroup.{opened, AreFromGroup, AreFrom, NoLinesFrom, EndsFrom}
+use Rattle.orc_rows.specs.FromGroup.{AreFromGroup, AreFrom, NoLinesFrom, EndsFrom}
 use Rattle.orc_rows.proofs.RowsLemmas.{ends_outside as later_outside}
 use Rattle.orc_findings.specs.Places.{IsPlace, rows_before}
 
@@ -114,7 +114,7 @@ module _ (bytes : List ℕ) (tail : Tail) (rows : List Cell) (is : FileIs bytes 
   no_stop n group fault place have (inl h) =
       let stripe = stripe_is bytes tail rows is n place.there in
       let text : List ℕ = stripe_bytes (stripe_at tail.stripes n) bytes in
-      let has : HasGroup (opened tail n text stripe.footer) group = record { indexed = place.indexed; there = place.begun } in
+      let has : HasGroup (opened_stripe tail n text stripe.footer) group = record { indexed = place.indexed; there = place.begun } in
       h.3.none stripe.footer (columns_of stripe.footer text) (rows_at parts n) stripe.has_footer (starts n place.there stripe.footer stripe.has_footer group has)
   no_stop n group fault place (inl none) (inr h) = some_rows n group place none
   no_stop n group fault place (inr distinct) (inr h) = let twice = h.1 in cc

@@ -23,7 +23,9 @@ finding_lines found = flat_map finding_line found
 
 -- the bytes are a file of some rows, and this holds of what is found of it
 abbrev pub IsFoundOf : List ℕ → (List Finding → Type 0) → Type 0
-IsFoundOf bytes Holds = (tail : Tail) × (rows : List Cell) × (found : List Finding) × FileIs bytes tail rows × Findings bytes tail rows found × Holds found
+IsFoundOf bytes Holds =
+    (tail : Tail) × (rows : List Cell) × (found : List Finding)
+    × FileIs bytes tail rows × Findings bytes tail rows found × Holds found
 
 -- the source failed, or memory ran out, named as a fault of the layer of files
 abbrev pub IsSourceOrMemory : CliFault → Type 0

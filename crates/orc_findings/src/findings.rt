@@ -29,18 +29,19 @@ fn lines_of(alloc: Global, found: &[Finding]) -> Result<String, AllocError>
 /// Prints a line a finding, once all of them are there.
 fn print_findings<W: Write>(alloc: Global, found: &[Finding], out: &mut W) -> Result<(), CliFault>
     ensures written { OnOk result (Appends (W.contents out.old) (W.contents out.new) (finding_lines found.now)) }
-    ensures refused { IfErr result (λ fault. ((fault ≡ write_failed) × AppendsPart (W.contents out.old) (W.contents out.new) (finding_lines found.now))
+    ensures refused { IfErr result (λ fault.
+        ((fault ≡ write_failed) × AppendsPart (W.contents out.old) (W.contents out.new) (finding_lines found.now))
         ⊎ ((fault ≡ File OutOfMemory) × Keeps (W.contents out.old) (W.contents out.new))) }
 {
     let lines = lines_of(alloc, found)?;
     write_out(out, lines.as_bytes())
 }
 
-/// Prints what is found of a file, a finding a line: its name and its numbers, with a blank between them. Nothing is written
-/// before all of the file is checked. How many findings there are is answered, and the source is handed back.
+/// Prints what is found of a file, a finding a line: its name and its numbers, with a blank between them. Nothing is
+/// written before all of the file is checked. How many findings there are is answered, and the source is handed back.
 ///
-/// Refusals: `File` with the fault of `check`, of the bytes, the source or memory, and nothing is written; or with `WriteFailed`, and
-/// a part of the lines is written.
+/// Refusals: `File` with the fault of `check`, of the bytes, the source or memory, and nothing is written; or with
+/// `WriteFailed`, and a part of the lines is written.
 pub fn check_to<S: Source, W: Write>(
     alloc: Global,
     source: S,
@@ -48,11 +49,13 @@ pub fn check_to<S: Source, W: Write>(
 ) -> Result<(usize, S), (CliFault, S)>
     ensures written { IfOk result (λ done. IfSome (S.told source) (λ bytes. IsFoundOf bytes
         (λ found. (done.0 ≡ length found) × Appends (W.contents out.old) (W.contents out.new) (finding_lines found)))) }
-    ensures only { IfSome (S.told source) (λ bytes. (tail : Tail) (rows : List Cell) → FileIs bytes tail rows → IfErr result (λ e. (e.0 ≡ write_failed) ⊎ IsSourceOrMemory e.0)) }
+    ensures only { IfSome (S.told source) (λ bytes. (tail : Tail) (rows : List Cell) → FileIs bytes tail rows
+        → IfErr result (λ e. (e.0 ≡ write_failed) ⊎ IsSourceOrMemory e.0)) }
     ensures same { IfOk result (λ done. S.told done.1 ≡ S.told source) }
     ensures kept { IfOk result (λ done. S.failures done.1 ≡ S.failures source) }
 
-    ensures refused { IfErr result (λ e. IfSome (S.told source) (λ bytes. e.0 ≢ write_failed → IsNotChecked bytes e.0)) }
+    ensures refused { IfErr result (λ e. IfSome (S.told source)
+        (λ bytes. e.0 ≢ write_failed → IsNotChecked bytes e.0)) }
     ensures nothing { IfErr result (λ e. e.0 ≢ write_failed → Keeps (W.contents out.old) (W.contents out.new)) }
     ensures part { IfErr result (λ e. e.0 ≡ write_failed → IfSome (S.told source) (λ bytes. IsFoundOf bytes
         (λ found. AppendsPart (W.contents out.old) (W.contents out.new) (finding_lines found)))) }

@@ -17,7 +17,8 @@ before_group cells bounds group = take (bound_at (length cells) bounds group) ce
 
 -- those of a group: from its bound to the next one, or to the end
 abbrev pub group_of : List Cell → List ℕ → ℕ → List Cell
-group_of cells bounds group = drop (bound_at (length cells) bounds group) (take (bound_at (length cells) bounds (suc group)) cells)
+group_of cells bounds group =
+    drop (bound_at (length cells) bounds group) (take (bound_at (length cells) bounds (suc group)) cells)
 
 -- the elements of the lists among the first cells
 abbrev pub elements_before : List Cell → ℕ → ℕ

@@ -1,4 +1,5 @@
--- The positions of a column behind some of its cells, in the order of its streams (ORC specification, "Row Group Index").
+-- The positions of a column behind some of its cells, in the order of its streams
+-- (ORC specification, "Row Group Index").
 use Rattle.std.specs.Prelude.{◌≡◌, ℕ, ℤ, Option, Some, None, List, [], ◌∷◌, ◌++◌, length, sum_by}
 use Rattle.orc_rle.specs.ByteRun.{IsByteRun}
 use Rattle.orc_seek.specs.Position.{Begins, IsPlace}
@@ -9,11 +10,13 @@ use Rattle.orc_columns.specs.Numbers.{is_run}
 use Rattle.orc_columns.specs.Stripe.{Streams}
 use Rattle.orc_index.specs.RunStreams.{RunStream, no_stream, bit_runs, byte_runs, number_runs, present_runs, own_runs, own_octets}
 
--- what makes a position that of value n of a stream of runs: of its bytes, the offset, how many values are passed, and n
+-- what makes a position that of value n of a stream of runs:
+-- of its bytes, the offset, how many values are passed, and n
 abbrev pub RunRelation : Type 1
 RunRelation = (A : Type 0) → (List ℕ → List A → Type 0) → List ℕ → ℕ → ℕ → ℕ → Type 0
 
--- the same of a stream of so many booleans: of its bytes, how many, the offset, how many bytes and then booleans are passed, and n
+-- the same of a stream of booleans, of which n is one of the first so many, or the end of these:
+-- of its bytes, so many, the offset, how many bytes and then booleans are passed, and n
 abbrev pub BitRelation : Type 1
 BitRelation = List ℕ → ℕ → ℕ → ℕ → ℕ → ℕ → Type 0
 
@@ -23,14 +26,17 @@ RunPlace is n positions = (offset : ℕ) × (skip : ℕ) × (positions ≡ offse
 
 -- three are that of boolean n
 abbrev pub BitPlace : (ℕ → ℕ → ℕ → ℕ → Type 0) → ℕ → List ℕ → Type 0
-BitPlace is n positions = (offset : ℕ) × (skip : ℕ) × (bits : ℕ) × (positions ≡ offset ∷ skip ∷ bits ∷ []) × is offset skip bits n
+BitPlace is n positions =
+    (offset : ℕ) × (skip : ℕ) × (bits : ℕ) × (positions ≡ offset ∷ skip ∷ bits ∷ []) × is offset skip bits n
 
--- the position of value n in a stream
+-- The position of value n in a stream. The bytes of one of booleans don't tell how many it has, since there may be
+-- digits to spare, so n itself stands for that here: that the stream has as many is said of its column's cells.
 abbrev pub StreamPlace : RunRelation → BitRelation → RunStream → ℕ → List ℕ → Type 0
 StreamPlace run bit no_stream n positions = positions ≡ []
 StreamPlace run bit (bit_runs stream) n positions = BitPlace (bit stream n) n positions
 StreamPlace run bit (byte_runs stream) n positions = RunPlace (run ℕ IsByteRun stream) n positions
-StreamPlace run bit (number_runs version sign stream) n positions = RunPlace (run ℤ (is_run version sign) stream) n positions
+StreamPlace run bit (number_runs version sign stream) n positions =
+    RunPlace (run ℤ (is_run version sign) stream) n positions
 
 -- how many numbers a position of the stream has
 abbrev pub position_size : RunStream → ℕ
@@ -63,8 +69,10 @@ abbrev pub octets_size : Option (List ℕ) → ℕ
 octets_size None = 0
 octets_size (Some stream) = 1
 
--- Positions of PRESENT, which count all the cells; of bytes as they are; and of the runs beside PRESENT, which count those that are not null.
-pub record PlacesIn (run : RunRelation) (bit : BitRelation) (present : RunStream) (content : Option (List ℕ)) (own : RunStream) (before : List Cell) (positions : List ℕ) : Type 0 where
+-- Positions of PRESENT, which count all the cells; of bytes as they are; and of the runs beside PRESENT, which count
+-- those that are not null.
+pub record PlacesIn (run : RunRelation) (bit : BitRelation) (present : RunStream) (content : Option (List ℕ))
+    (own : RunStream) (before : List Cell) (positions : List ℕ) : Type 0 where
   pub first : List ℕ
   pub last : List ℕ
   pub parts : positions ≡ first ++ (octets_place content (octets before) ++ last)
@@ -73,7 +81,8 @@ pub record PlacesIn (run : RunRelation) (bit : BitRelation) (present : RunStream
 
 -- the positions of a column behind these cells
 abbrev pub ArePlacesBy : RunRelation → BitRelation → Shape → Streams → List Cell → List ℕ → Type 0
-ArePlacesBy run bit s x before positions = PlacesIn run bit (present_runs (x.stream 0)) (own_octets s x) (own_runs s x) before positions
+ArePlacesBy run bit s x before positions =
+    PlacesIn run bit (present_runs (x.stream 0)) (own_octets s x) (own_runs s x) before positions
 
 abbrev pub begins : RunRelation
 begins A is_run stream offset skip n = Begins is_run stream offset skip n
@@ -88,7 +97,9 @@ AreReadPlaces s x before positions = ArePlacesBy begins BeginsBits s x before po
 -- the positions behind those of PRESENT
 abbrev pub OwnPlaces : Option (List ℕ) → RunStream → List Cell → List ℕ → Type 0
 OwnPlaces content own before positions =
-    (last : List ℕ) × (positions ≡ octets_place content (octets before) ++ last) × StreamPlace begins BeginsBits own (length (values before)) last
+    (last : List ℕ)
+    × (positions ≡ octets_place content (octets before) ++ last)
+    × StreamPlace begins BeginsBits own (length (values before)) last
 
 -- those that a writer gives
 abbrev pub AreWrittenPlaces : Shape → Streams → List Cell → List ℕ → Type 0

@@ -21,9 +21,12 @@ pub record IsWrittenEntry (s : Shape) (x : Streams) (before group : List Cell) (
   pub statistics : entry.statistics ≡ Some (message_of (stat (kind_of s) group))
 
 -- the entries of the first groups
-pub record AreEntries (s : Shape) (x : Streams) (cells : List Cell) (bounds : List ℕ) (groups : ℕ) (entries : List RowIndexEntry) : Type 0 where
+pub record AreEntries (s : Shape) (x : Streams) (cells : List Cell) (bounds : List ℕ) (groups : ℕ)
+    (entries : List RowIndexEntry) : Type 0 where
   pub counted : length entries ≡ groups
-  pub each : (g : ℕ) (entry : RowIndexEntry) → slice_get entries g ≡ Some entry → IsWrittenEntry s x (before_group cells bounds g) (group_of cells bounds g) entry
+  pub each : (g : ℕ) (entry : RowIndexEntry)
+      → slice_get entries g ≡ Some entry
+      → IsWrittenEntry s x (before_group cells bounds g) (group_of cells bounds g) entry
 
 -- The bytes of a column's ROW_INDEX, as they are written: the canonical text of a message with an entry for each bound.
 pub record IsWrittenIndex (s : Shape) (x : Streams) (cells : List Cell) (bounds text : List ℕ) : Type 0 where
@@ -34,12 +37,20 @@ pub record IsWrittenIndex (s : Shape) (x : Streams) (cells : List Cell) (bounds 
 
 -- an entry says the statistic of the group's cells
 abbrev pub SaysStat : Shape → List Cell → RowIndexEntry → Type 0
-SaysStat s group entry = (message : ColumnStats) × (entry.statistics ≡ Some message) × (stat_read (kind_of s) message ≡ stat (kind_of s) group)
+SaysStat s group entry =
+    (message : ColumnStats)
+    × (entry.statistics ≡ Some message)
+    × (stat_read (kind_of s) message ≡ stat (kind_of s) group)
 
--- Bytes that a reader takes for the index of these groups: as many entries as bounds, each with places from which it goes on, and with the statistic of its group.
+-- Bytes that a reader takes for the index of these groups: as many entries as bounds, each with places from which it
+-- goes on, and with the statistic of its group.
 pub record IsRightIndex (s : Shape) (x : Streams) (cells : List Cell) (bounds text : List ℕ) : Type 0 where
   pub message : RowIndexMsg
   pub spelled : Spells row_index 0 0 text message
   pub counted : length message.entries ≡ length bounds
-  pub places : (g : ℕ) (entry : RowIndexEntry) → slice_get message.entries g ≡ Some entry → AreReadPlaces s x (before_group cells bounds g) entry.positions
-  pub statistics : (g : ℕ) (entry : RowIndexEntry) → slice_get message.entries g ≡ Some entry → SaysStat s (group_of cells bounds g) entry
+  pub places : (g : ℕ) (entry : RowIndexEntry)
+      → slice_get message.entries g ≡ Some entry
+      → AreReadPlaces s x (before_group cells bounds g) entry.positions
+  pub statistics : (g : ℕ) (entry : RowIndexEntry)
+      → slice_get message.entries g ≡ Some entry
+      → SaysStat s (group_of cells bounds g) entry

@@ -5,7 +5,7 @@ use Rattle.orc_rle.specs.declared.sign.Sign.TheVariants.{Signed, Unsigned}
 use Rattle.orc_types.specs.Shapes.{Shape, scalar, list_of, struct_of}
 use Rattle.orc_types.specs.declared.kind.Scalar.{Scalar}
 use Rattle.orc_types.specs.declared.kind.Scalar.TheVariants as kind
-use Rattle.orc_columns.specs.declared.version.Version.{Version}
+use Rattle.orc_rle.specs.declared.sign.Rle.{Rle}
 use Rattle.orc_columns.specs.Stripe.{Streams, version, has_dictionary}
 use Rattle.orc_columns.specs.declared.fault.StreamKind.{StreamKind}
 use Rattle.orc_columns.specs.declared.fault.StreamKind.TheVariants as stream
@@ -15,14 +15,15 @@ pub data RunStream : Type 0 where
   no_stream : RunStream
   bit_runs : List ℕ → RunStream
   byte_runs : List ℕ → RunStream
-  number_runs : Version → Sign → List ℕ → RunStream
+  number_runs : Rle → Sign → List ℕ → RunStream
 
 -- PRESENT has positions where it has bytes
 abbrev pub present_runs : List ℕ → RunStream
 present_runs [] = no_stream
 present_runs (b ∷ bs) = bit_runs (b ∷ bs)
 
--- of texts: DATA has their places in the dictionary, or LENGTH their lengths; a dictionary's own streams have no positions
+-- of texts: DATA has their places in the dictionary, or LENGTH their lengths;
+-- a dictionary's own streams have no positions
 abbrev pub text_runs : Bool → Streams → RunStream
 text_runs true x = number_runs (version x) Unsigned (x.stream 1)
 text_runs false x = number_runs (version x) Unsigned (x.stream 2)

@@ -42,7 +42,8 @@ abbrev pub BeginsBefore : RunStream → ℕ → ℕ → ℕ → Type 0
 BeginsBefore no_stream offset before n = Unit {0}
 BeginsBefore (bit_runs stream) offset before n = Begins IsByteRun stream offset 0 before × (before ≤ n / 8)
 BeginsBefore (byte_runs stream) offset before n = Begins IsByteRun stream offset 0 before × (before ≤ n)
-BeginsBefore (number_runs version sign stream) offset before n = Begins (is_run version sign) stream offset 0 before × (before ≤ n)
+BeginsBefore (number_runs version sign stream) offset before n =
+    Begins (is_run version sign) stream offset 0 before × (before ≤ n)
 
 -- bytes as they are are n or more
 abbrev pub HasOctets : Option (List ℕ) → ℕ → Type 0
@@ -60,7 +61,8 @@ pub record AreCounted (counts : Counts) (cells : List Cell) : Type 0 where
   pub octets_are : counts.octets ≡ min most (octets cells)
 
 -- the streams have the values of these cells
-pub record HavePlaces (present : RunStream) (content : Option (List ℕ)) (own : RunStream) (before : List Cell) : Type 0 where
+pub record HavePlaces (present : RunStream) (content : Option (List ℕ)) (own : RunStream)
+    (before : List Cell) : Type 0 where
   pub in_present : HasPlace present (length before)
   pub in_content : HasOctets content (octets before)
   pub in_own : HasPlace own (length (values before))

@@ -1,3 +1,4 @@
+//! Some of a column's cells, from one place to another.
 ghost use Rattle.std.specs.Prelude.{◌≡◌, ◌-◌, ◌≤◌, take, drop, length};
 ghost use Rattle.orc_types.specs.Lent.{lent_cells};
 

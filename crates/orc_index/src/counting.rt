@@ -1,3 +1,4 @@
+//! The counts of a column's cells, group after group.
 ghost use Rattle.std.specs.Prelude.{◌≡◌, ◌+◌, ◌^◌, ◌<◌, min, length};
 ghost use Rattle.orc_types.specs.Cells.{values};
 ghost use Rattle.orc_types.specs.Lent.{lent_cells};
@@ -20,7 +21,7 @@ fn octets_of(row: &Row<'_>) -> usize
 }
 
 /// The counts of some cells and of these behind them, by the counts of the first.
-pub fn counted(before: Counts, cells: &[Lent<'_, '_>]) -> Counts
+pub fn counts_after(before: Counts, cells: &[Lent<'_, '_>]) -> Counts
     requires cells { before.cells + length cells.now < 2 ^ 64 }
     requires values { before.values + length cells.now < 2 ^ 64 }
     ensures cells { result.cells ≡ before.cells + length (lent_cells cells.now) }

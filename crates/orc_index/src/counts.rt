@@ -1,3 +1,4 @@
+//! What is counted of a column's cells before a group.
 ghost use Rattle.std.specs.Prelude.{◌≡◌};
 
 /// How many cells there are, how many of them are not null, and how many bytes the texts and byte strings

@@ -1,5 +1,5 @@
 //! The entries of a column's row index, group by group.
-ghost use Rattle.std.specs.Prelude.{◌≡◌, ◌<◌, ◌+◌, ◌^◌, length, IfOk};
+ghost use Rattle.std.specs.Prelude.{◌≡◌, ◌<◌, ◌+◌, length, IfOk};
 ghost use Rattle.orc_types.specs.Fits.{RowsFit};
 ghost use Rattle.orc_types.specs.Lent.{lent_cells};
 ghost use Rattle.orc_types.specs.Views.{shape};
@@ -7,12 +7,12 @@ ghost use Rattle.orc_stats.specs.Kinds.{kind_of};
 ghost use Rattle.orc_stats.specs.Messages.{message_of};
 ghost use Rattle.orc_stats.specs.Statistics.{stat};
 ghost use Rattle.orc_columns.specs.Starting.{AreStreams};
-ghost use Rattle.orc_columns.specs.Stripe.{Streams, IsColumn};
+ghost use Rattle.orc_columns.specs.Stripe.{Streams, IsColumn, cell_limit};
 ghost use Rattle.orc_index.specs.Bounds.{AreBounds, bound_at};
 ghost use Rattle.orc_index.specs.RowIndex.{AreEntries};
 
 use crate::between::cells_between;
-use crate::counting::counted;
+use crate::counting::counts_after;
 use crate::counts::Counts;
 use crate::placed::{placed_streams, put_places};
 use crate::walk::Walk;
@@ -25,7 +25,7 @@ use std::alloc::{AllocError, Global};
 /// The message of the statistic of a group's cells.
 fn stat_of(alloc: Global, tree: &Tree, cells: &[Lent<'_, '_>]) -> Result<ColumnStats, AllocError>
     requires fit { RowsFit (shape tree.now) (lent_cells cells.now) }
-    requires few { length (lent_cells cells.now) < 2 ^ 31 }
+    requires few { length (lent_cells cells.now) < cell_limit }
     ensures { IfOk result (λ message. message ≡ message_of (stat (kind_of (shape tree.now)) (lent_cells cells.now))) }
 {
     let Ok(found) = of_cells(alloc, StatKind::of_type(tree), cells) else {
@@ -70,7 +70,7 @@ pub(crate) fn column_entries(
     for group in 0..bounds.len() {
         let start = bounds[group];
         let end = group_end(bounds, group, cells.len());
-        counts = counted(counts, cells_between(cells, at, start));
+        counts = counts_after(counts, cells_between(cells, at, start));
         let mut positions = Vec::new(alloc);
         walk = put_places(&placed, walk, counts, &mut positions)?;
         entries.push(RowIndexEntry {

@@ -1,9 +1,10 @@
-ghost use Rattle.std.specs.Prelude.{◌≡◌, ◌<◌, ◌^◌, ℕ, List, map, length};
+//! Laws of row indexes as they are written. The function does nothing: its contract is what it is for.
+ghost use Rattle.std.specs.Prelude.{◌≡◌, ◌<◌, ℕ, List, map, length};
 ghost use Rattle.std.specs.List.{flat_map};
 ghost use Rattle.orc_types.specs.Cells.{Cell, parts, values};
 ghost use Rattle.orc_types.specs.Fits.{RowsFit};
 ghost use Rattle.orc_types.specs.Shapes.{Shape};
-ghost use Rattle.orc_columns.specs.Stripe.{Streams};
+ghost use Rattle.orc_columns.specs.Stripe.{Streams, cell_limit};
 ghost use Rattle.orc_index.specs.Bounds.{AreBounds, elements_before, values_before};
 ghost use Rattle.orc_index.specs.Places.{AreReadPlaces, AreWrittenPlaces};
 ghost use Rattle.orc_index.specs.RowIndex.{IsWrittenIndex, IsRightIndex};
@@ -13,14 +14,22 @@ ghost use Rattle.orc_index.specs.RowIndex.{IsWrittenIndex, IsRightIndex};
 /// are right for every reader; of cells that fit and are few, an index reads back, with the places and the
 /// statistic of each group. Bounds that are taken down a level are bounds there.
 pub fn index_laws()
-    ensures one_text { (s : Shape) (x : Streams) (cells : List Cell) (bounds a b : List ℕ) → IsWrittenIndex s x cells bounds a
-        → IsWrittenIndex s x cells bounds b → a ≡ b }
-    ensures one_places { (s : Shape) (x : Streams) (before : List Cell) (a b : List ℕ) → AreWrittenPlaces s x before a
-        → AreWrittenPlaces s x before b → a ≡ b }
-    ensures places { (s : Shape) (x : Streams) (before : List Cell) (positions : List ℕ) → AreWrittenPlaces s x before positions
+    ensures one_text { (s : Shape) (x : Streams) (cells : List Cell) (bounds a b : List ℕ)
+        → IsWrittenIndex s x cells bounds a
+        → IsWrittenIndex s x cells bounds b
+        → a ≡ b }
+    ensures one_places { (s : Shape) (x : Streams) (before : List Cell) (a b : List ℕ)
+        → AreWrittenPlaces s x before a
+        → AreWrittenPlaces s x before b
+        → a ≡ b }
+    ensures places { (s : Shape) (x : Streams) (before : List Cell) (positions : List ℕ)
+        → AreWrittenPlaces s x before positions
         → AreReadPlaces s x before positions }
-    ensures right { (s : Shape) (x : Streams) (cells : List Cell) (bounds text : List ℕ) → RowsFit s cells → length cells < 2 ^ 31
-        → IsWrittenIndex s x cells bounds text → IsRightIndex s x cells bounds text }
+    ensures right { (s : Shape) (x : Streams) (cells : List Cell) (bounds text : List ℕ)
+        → RowsFit s cells
+        → length cells < cell_limit
+        → IsWrittenIndex s x cells bounds text
+        → IsRightIndex s x cells bounds text }
     ensures elements { (cells : List Cell) (bounds : List ℕ) → AreBounds (length cells) bounds
         → AreBounds (length (flat_map parts (values cells))) (map (elements_before cells) bounds) }
     ensures fields { (cells : List Cell) (bounds : List ℕ) → AreBounds (length cells) bounds

@@ -14,7 +14,7 @@ mod walk;
 
 pub use between::cells_between;
 pub use bounds::{element_bounds, field_bounds};
-pub use counting::counted;
+pub use counting::counts_after;
 pub use counts::Counts;
 pub use laws::index_laws;
 pub use placed::{PlacedStreams, own_kind, placed_streams};

@@ -152,13 +152,18 @@ pub(crate) fn put_places(
     counts: Counts,
     out: &mut Vec<u64>,
 ) -> Result<Walk, AllocError>
-    requires { (before : List Cell) × AreCounted counts before × HavePlaces (runs placed.now.present) (lent_bytes placed.now.content) (runs placed.now.own) before
+    requires { (before : List Cell)
+        × AreCounted counts before
+        × HavePlaces (runs placed.now.present) (lent_bytes placed.now.content) (runs placed.now.own) before
         × WalkedBefore (runs placed.now.present) (runs placed.now.own) from before }
     ensures places { (before : List Cell) → AreCounted counts before
         → HavePlaces (runs placed.now.present) (lent_bytes placed.now.content) (runs placed.now.own) before
-        → OnOk result (Adds (PlacesIn is_place IsBitPlace (runs placed.now.present) (lent_bytes placed.now.content) (runs placed.now.own) before)
+        → OnOk result (Adds (PlacesIn is_place IsBitPlace (runs placed.now.present)
+        (lent_bytes placed.now.content) (runs placed.now.own) before)
         out.old.items out.new.items) }
-    ensures walked { IfOk result (λ walk. (before : List Cell) → AreCounted counts before → WalkedBefore (runs placed.now.present) (runs placed.now.own) walk before) }
+    ensures walked { IfOk result (λ walk. (before : List Cell)
+        → AreCounted counts before
+        → WalkedBefore (runs placed.now.present) (runs placed.now.own) walk before) }
 {
     let present = put_place(&placed.present, from.present, counts.cells, out)?;
     put_octets(placed.content, counts.octets, out)?;

@@ -6,8 +6,7 @@ ghost use Rattle.orc_columns.specs.Numbers.{is_run};
 ghost use Rattle.orc_index.specs.Places.{StreamPlace, is_place, Adds, position_size};
 ghost use Rattle.orc_index.specs.Walking.{runs, HasPlace, BeginsBefore};
 
-use orc_columns::version::Version;
-use orc_rle::{BitPos, Pos, Sign, V1, V2};
+use orc_rle::{BitPos, Pos, Rle, Sign, V1, V2};
 use orc_seek::{Mark, byte_mark_at, mark_at};
 use std::alloc::AllocError;
 
@@ -21,7 +20,7 @@ pub enum RunBytes<'a> {
     /// Bytes.
     Bytes(&'a [u8]),
     /// Integers of a version, with or without a sign.
-    Numbers(Version, Sign, &'a [u8]),
+    Numbers(Rle, Sign, &'a [u8]),
 }
 
 impl RunBytes<'_> {
@@ -39,7 +38,7 @@ impl RunBytes<'_> {
 }
 
 /// The mark of number `n`, whatever the version.
-fn number_mark(version: Version, sign: Sign, bytes: &[u8], from: Mark, n: usize) -> Mark
+fn number_mark(version: Rle, sign: Sign, bytes: &[u8], from: Mark, n: usize) -> Mark
     requires there { HasValues (is_run version sign) bytes.now n }
     requires start { Begins (is_run version sign) bytes.now from.offset 0 from.before }
     requires ahead { from.before ≤ n }
@@ -48,8 +47,8 @@ fn number_mark(version: Version, sign: Sign, bytes: &[u8], from: Mark, n: usize)
     ensures ahead { result.before ≤ n }
 {
     match version {
-        Version::One => mark_at::<V1>(bytes, sign, from, n),
-        Version::Two => mark_at::<V2>(bytes, sign, from, n),
+        Rle::One => mark_at::<V1>(bytes, sign, from, n),
+        Rle::Two => mark_at::<V2>(bytes, sign, from, n),
     }
 }
 
@@ -82,7 +81,8 @@ pub(crate) fn put_place(
 ) -> Result<Mark, AllocError>
     requires there { HasPlace (runs stream.now) n }
     requires from { BeginsBefore (runs stream.now) from.offset from.before n }
-    ensures place { OnOk result (Adds (StreamPlace is_place IsBitPlace (runs stream.now) n) out.old.items out.new.items) }
+    ensures place { OnOk result
+        (Adds (StreamPlace is_place IsBitPlace (runs stream.now) n) out.old.items out.new.items) }
     ensures from { IfOk result (λ mark. BeginsBefore (runs stream.now) mark.offset mark.before n) }
 {
     match *stream {

@@ -1,3 +1,4 @@
+//! Where the walk through a column's streams has come.
 ghost use Rattle.std.specs.Prelude.{◌≡◌};
 
 use orc_seek::Mark;

@@ -57,4 +57,6 @@ RefusesDigits rle sign text (File fault) = fault ≡ file.OutOfMemory
 
 -- why `ints` refuses: for its digits, or, where they spell numbers, for its output
 abbrev pub RefusesInts : Rle → Sign → List ℕ → CliFault → Type 0
-RefusesInts rle sign text fault = RefusesDigits rle sign text fault ⊎ ((fault ≡ write_failed) × ((values : List ℤ) × SpellsInts rle sign text values))
+RefusesInts rle sign text fault =
+    RefusesDigits rle sign text fault
+    ⊎ ((fault ≡ write_failed) × ((values : List ℤ) × SpellsInts rle sign text values))

@@ -50,7 +50,8 @@ fn decode_all(alloc: Global, rle: Rle, sign: Sign, bytes: &[u8]) -> Result<Vec<i
 fn values_of(alloc: Global, rle: Rle, sign: Sign, text: &str) -> Result<Vec<i64>, CliFault>
     ensures found { IfOk result (λ found. SpellsInts rle sign text.now found.items) }
     ensures only { (values : List ℤ) → SpellsInts rle sign text.now values → IfErr result IsWantOfMemory }
-    ensures same { (values : List ℤ) → SpellsInts rle sign text.now values → IfOk result (λ found. found.items ≡ values) }
+    ensures same { (values : List ℤ) → SpellsInts rle sign text.now values
+        → IfOk result (λ found. found.items ≡ values) }
     ensures refused { IfErr result (RefusesDigits rle sign text.now) }
     ensures no_hex { IsNoHex text.now → IsErrAnd result (λ e. (e ≡ Json json.BadHex) ⊎ IsWantOfMemory e) }
     ensures stops { (fault : RunFault) → StopsInts rle sign text.now fault

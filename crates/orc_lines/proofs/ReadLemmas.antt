@@ -12,7 +12,7 @@ use Rattle.orc_types.specs.declared.json_fault.JsonFault.{JsonFault}
 use Rattle.orc_file.specs.declared.fault.FileFault.TheVariants as file
 use Rattle.orc_lines.specs.Writes.{IsOfWriter, EndsAtLine, EndsInLines}
 use Rattle.orc_types.specs.SchemaText.{HasText}
-use Rattle.orc_lines.specs.Reads.{TakesLine, HasRead, BeginWith, EndsReading}
+use Rattle.orc_lines.specs.Reads.{HasRead, BeginWith, EndsReading}
 use Rattle.orc_lines.proofs.LinesLemmas.{Leads, leads_none, leads_both, leads_read, ends_read, all_read, begun_read}
 use Rattle.orc_lines.proofs.WriteLaws.{only_outside}
 use Rattle.orc_output.specs.Output.{IsOutside, IsWantOfMemory, IsOfSource}

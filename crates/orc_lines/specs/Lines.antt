@@ -12,7 +12,8 @@ use Rattle.orc_types.specs.FieldNames.{is_distinct}
 abbrev pub IsLine : List ℕ → Type 0
 IsLine line = AllByRecursion (λ b. b ≢ 10) line
 
--- Each line but the last one has its end, the byte 0a. The last one has none: it is empty where the bytes end with an end.
+-- Each line but the last one has its end, the byte 0a. The last one has none: it is empty where the bytes end with
+-- an end.
 pub record AreLines (bytes : List ℕ) (ended : List (List ℕ)) (last : List ℕ) : Type 0 where
   pub plain : AllByRecursion IsLine ended
   pub plain_last : IsLine last

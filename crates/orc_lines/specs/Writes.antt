@@ -1,5 +1,5 @@
 -- Why no file is written of lines, and what stands of one then.
-use Rattle.std.specs.Prelude.{◌≡◌, ◌≢◌, ◌<◌, ◌≤◌, ◌^◌, ◌⊎◌, ℕ, List, [], ◌∷◌, ◌++◌, length, Option, Some, None, false, IsUtf8}
+use Rattle.std.specs.Prelude.{◌≡◌, ◌≢◌, ◌<◌, ◌≤◌, ◌⊎◌, ℕ, List, [], ◌∷◌, ◌++◌, length, Option, Some, None, false, IsUtf8}
 use Rattle.serde_json.specs.Data.{Data}
 use Rattle.serde_json.specs.Read.{read as read_text}
 use Rattle.orc_written.specs.declared.options.Options.{Options}
@@ -13,6 +13,7 @@ use Rattle.orc_types.specs.JsonFaults.{FaultAt, Somewhere}
 use Rattle.orc_types.specs.declared.fault.TypeFault.{TypeFault}
 use Rattle.orc_types.specs.declared.json_fault.JsonFault.{JsonFault}
 use Rattle.orc_types.specs.declared.json_fault.JsonFault.TheVariants as json
+use Rattle.orc_columns.specs.Stripe.{cell_limit}
 use Rattle.orc_devices.specs.Devices.{appended}
 use Rattle.orc_file.specs.Layout.{magic}
 use Rattle.orc_file.specs.Stripes.{most_stripes, most_rows}
@@ -34,7 +35,8 @@ ValueFault s value why = ((why ≡ json.DuplicateField) × (is_distinct s ≡ fa
 -- why a line spells no row: it is no text of JSON, or it is one, of a value that spells none
 abbrev pub LineFault : Shape → List ℕ → JsonFault → Type 0
 LineFault s line why =
-    ((why ≡ json.Syntax) × IsNoJson line) ⊎ ((value : Data) × IsUtf8 line × (read_text line ≡ Some value) × ValueFault s value why)
+    ((why ≡ json.Syntax) × IsNoJson line)
+    ⊎ ((value : Data) × IsUtf8 line × (read_text line ≡ Some value) × ValueFault s value why)
 
 -- the refusals of a writer whose rows fit its schema
 abbrev pub IsOfWriter : CliFault → Type 0
@@ -71,11 +73,14 @@ pub record EndsInLines (s : Shape) (bytes : List ℕ) (fault : CliFault) (rows :
 -- Why no file of this schema is written: at a line, or by the output or for memory before the first row, or by the
 -- writer behind the last one.
 abbrev pub EndsUnder : Shape → List ℕ → CliFault → List Cell → Type 0
-EndsUnder s bytes fault rows = EndsInLines s bytes fault rows ⊎ (((rows ≡ []) × IsOutside fault) ⊎ (AreRowsOf s bytes rows × IsOfWriter fault))
+EndsUnder s bytes fault rows =
+    EndsInLines s bytes fault rows
+    ⊎ (((rows ≡ []) × IsOutside fault)
+    ⊎ (AreRowsOf s bytes rows × IsOfWriter fault))
 
 -- a column of a stripe's rows has more cells than it may have
 abbrev pub HaveManyCells : Shape → List Cell → Type 0
-HaveManyCells s rows = (c : ℕ) × (c < width s) × (2 ^ 31 ≤ length (cells s c rows))
+HaveManyCells s rows = (c : ℕ) × (c < width s) × (cell_limit ≤ length (cells s c rows))
 
 -- A file of the rows would pass a limit. They are those of full stripes, one after the other behind `ORC`, and of a
 -- last one, which has a row at least and no more than a full one. With it there are too many stripes or rows, or it
@@ -88,7 +93,9 @@ pub record PassesLimits (options : Options) (s : Shape) (rows : List Cell) : Typ
   pub some : 0 < length last
   pub most : length last ≤ options.stripe_rows
   pub rows_are : rows ≡ rows_of closed ++ last
-  pub passes : (most_stripes ≤ length closed) ⊎ ((most_rows < length rows) ⊎ (HaveManyCells s last ⊎ PassesBytes options s (infos_of closed) last))
+  pub passes : (most_stripes ≤ length closed)
+      ⊎ ((most_rows < length rows)
+      ⊎ (HaveManyCells s last ⊎ PassesBytes options s (infos_of closed) last))
 
 -- a limit is the refusal only where the rows that the writer was given pass one
 abbrev pub LimitStands : Options → Shape → CliFault → List Cell → Type 0
@@ -115,5 +122,5 @@ OpenAtLine options s first told fault rows = (why : JsonFault) → fault ≡ Jso
 abbrev pub RefusesWrite : Options → List ℕ → List ℕ → Option (List ℕ) → Option (List ℕ) → CliFault → Type 0
 RefusesWrite options text bytes old new fault =
     ((why : TypeFault) × (fault ≡ Types why) × TextFault text why × (new ≡ old))
-    ⊎ ((s : Shape) × (rows : List Cell) × HasText s text × EndsUnder s bytes fault rows × LimitStands options s fault rows × IsCutOff options s old new rows
-    × OpenAtLine options s old new fault rows)
+    ⊎ ((s : Shape) × (rows : List Cell) × HasText s text × EndsUnder s bytes fault rows
+    × LimitStands options s fault rows × IsCutOff options s old new rows × OpenAtLine options s old new fault rows)

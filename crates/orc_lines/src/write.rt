@@ -53,21 +53,25 @@ pub(crate) fn push_line<W: Sink>(
     line: &[u8],
     writer: &mut Writer<W>,
 ) -> Result<(), CliFault>
-    ensures pushed { OnOk result ((own : List Cell) × LineSpellsRows writer.old.schema line.now own × ((first : Option (List ℕ)) (rows : List Cell)
+    ensures pushed { OnOk result ((own : List Cell) × LineSpellsRows writer.old.schema line.now own
+        × ((first : Option (List ℕ)) (rows : List Cell)
         → HasPushed (progress W.told writer.old) first rows
         → HasPushed (progress W.told writer.new) first (rows ++ own))) }
     ensures same { (writer.new.schema ≡ writer.old.schema) × (writer.new.options ≡ writer.old.options) }
     ensures ready { OnOk result (writer.old.failed ≡ false → writer.new.failed ≡ false) }
     ensures no_failure { OnOk result (W.failures writer.new.out ≡ W.failures writer.old.out) }
 
-    ensures refused { writer.old.failed ≡ false → IfErr result (λ fault. (own : List Cell) × (line.now ≢ []) × EndsAtLine writer.old.schema line.now fault own
+    ensures refused { writer.old.failed ≡ false → IfErr result (λ fault. (own : List Cell) × (line.now ≢ [])
+        × EndsAtLine writer.old.schema line.now fault own
         × ((first : Option (List ℕ)) (rows : List Cell)
         → HasPushed (progress W.told writer.old) first rows
         → LimitStands writer.old.options writer.old.schema fault (rows ++ own)
         × IsCutOff writer.old.options writer.old.schema first (W.told writer.new.out) (rows ++ own)
         × OpenAtLine writer.old.options writer.old.schema first (W.told writer.new.out) fault (rows ++ own))) }
-    ensures write_failed { IfErr result (λ fault. fault ≡ write_failed → W.failures writer.old.out < W.failures writer.new.out) }
-    ensures memory { IfErr result (λ fault. IsWantOfMemory fault → W.failures writer.new.out ≡ W.failures writer.old.out) }
+    ensures write_failed { IfErr result (λ fault. fault ≡ write_failed
+        → W.failures writer.old.out < W.failures writer.new.out) }
+    ensures memory { IfErr result (λ fault. IsWantOfMemory fault
+        → W.failures writer.new.out ≡ W.failures writer.old.out) }
 {
     if line.is_empty() {
         return Ok(());
@@ -76,27 +80,31 @@ pub(crate) fn push_line<W: Sink>(
     // for its contract alone: the types are those of a schema
     let _types = schema.types();
     let row = row_of_line(alloc, schema, line)?;
-    writer.push(&row)?;
+    writer.push_owned(row)?;
     Ok(())
 }
 
 /// Pushes the rows of lines.
 fn push_lines<W: Sink>(alloc: Global, input: &[u8], writer: &mut Writer<W>) -> Result<(), CliFault>
-    ensures pushed { OnOk result ((own : List Cell) × AreRowsOf writer.old.schema input.now own × ((first : Option (List ℕ)) (rows : List Cell)
+    ensures pushed { OnOk result ((own : List Cell) × AreRowsOf writer.old.schema input.now own
+        × ((first : Option (List ℕ)) (rows : List Cell)
         → HasPushed (progress W.told writer.old) first rows
         → HasPushed (progress W.told writer.new) first (rows ++ own))) }
     ensures same { (writer.new.schema ≡ writer.old.schema) × (writer.new.options ≡ writer.old.options) }
     ensures ready { OnOk result (writer.old.failed ≡ false → writer.new.failed ≡ false) }
     ensures no_failure { OnOk result (W.failures writer.new.out ≡ W.failures writer.old.out) }
 
-    ensures refused { writer.old.failed ≡ false → IfErr result (λ fault. (own : List Cell) × EndsInLines writer.old.schema input.now fault own
+    ensures refused { writer.old.failed ≡ false → IfErr result (λ fault. (own : List Cell)
+        × EndsInLines writer.old.schema input.now fault own
         × ((first : Option (List ℕ)) (rows : List Cell)
         → HasPushed (progress W.told writer.old) first rows
         → LimitStands writer.old.options writer.old.schema fault (rows ++ own)
         × IsCutOff writer.old.options writer.old.schema first (W.told writer.new.out) (rows ++ own)
         × OpenAtLine writer.old.options writer.old.schema first (W.told writer.new.out) fault (rows ++ own))) }
-    ensures write_failed { IfErr result (λ fault. fault ≡ write_failed → W.failures writer.old.out < W.failures writer.new.out) }
-    ensures memory { IfErr result (λ fault. IsWantOfMemory fault → W.failures writer.new.out ≡ W.failures writer.old.out) }
+    ensures write_failed { IfErr result (λ fault. fault ≡ write_failed
+        → W.failures writer.old.out < W.failures writer.new.out) }
+    ensures memory { IfErr result (λ fault. IsWantOfMemory fault
+        → W.failures writer.new.out ≡ W.failures writer.old.out) }
 {
     let mut at = 0;
     while at < input.len() {
@@ -127,7 +135,8 @@ pub fn write_from<W: Sink>(
     input: &[u8],
     out: W,
 ) -> Result<(Tail, W), (CliFault, W)>
-    ensures written { IfOk result (λ done. (s : Shape) × (rows : List Cell) × HasText s schema.now × AreRowsOf s input.now rows
+    ensures written { IfOk result (λ done. (s : Shape) × (rows : List Cell)
+        × HasText s schema.now × AreRowsOf s input.now rows
         × IsWhole options s done.0 (W.told out) (W.told done.1) rows) }
     ensures only { (s : Shape) (rows : List Cell) → HasText s schema.now → AreRowsOf s input.now rows
         → IfErr result (λ e. IsOfWriter e.0) }

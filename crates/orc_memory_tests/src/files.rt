@@ -9,7 +9,7 @@ use std::process::Abort;
 type File = OrcFile<SliceSource<'static>>;
 
 /// The file, once there is memory for its tail.
-fn opened(alloc: Global) -> Result<File, FileFault> {
+fn open_sevens(alloc: Global) -> Result<File, FileFault> {
     match OrcFile::open(alloc, SliceSource::new(&SEVENS)) {
         Ok(file) => Ok(file),
         Err((_, source)) => match OrcFile::open(alloc, source) {
@@ -49,7 +49,7 @@ fn a_source_is_opened(rt: HostRuntime) -> Result<(), FileFault> {
 /// The file is as it was, and gives its rows.
 #[test]
 fn rows_are_read(rt: HostRuntime) -> Result<(), FileFault> {
-    let mut file = opened(rt.alloc())?;
+    let mut file = open_sevens(rt.alloc())?;
     match file.rows(rt.alloc()) {
         Ok(rows) => assert!(rt; have_numbers(&rows, &[7, 7, 7])),
         Err(fault) => {
@@ -71,7 +71,7 @@ fn load(file: &mut File, into: &mut Vec<u8>) -> Result<(), FileFault> {
 /// The file is as it was: it gives its rows, and then the stripe's bytes.
 #[test]
 fn a_stripe_is_loaded(rt: HostRuntime) -> Result<(), FileFault> {
-    let mut file = opened(rt.alloc())?;
+    let mut file = open_sevens(rt.alloc())?;
     let mut bytes = Vec::new(rt.alloc());
     if let Err(fault) = load(&mut file, &mut bytes) {
         assert_eq!(rt; fault, FileFault::OutOfMemory);

@@ -20,7 +20,7 @@ use Rattle.orc_stats.specs.declared.stat.Stat.{Stat}
 use Rattle.orc_stats.specs.declared.stat.Body.{Body}
 use Rattle.orc_stats.specs.declared.stat.Body.TheVariants as body
 use Rattle.orc_stats.specs.Statistics.{onto, reduce, lower, least, exact_total, in_64, total}
-use Rattle.orc_stats.specs.Joining.{all_known, of_known, in_limit, trues_total, least_int, greatest_int, least_date, greatest_date, trues_of, sum_of}
+use Rattle.orc_stats.specs.Joining.{parts_if_known, of_known, in_limit, trues_total, least_int, greatest_int, least_date, greatest_date, trues_of, sum_of}
 use Rattle.orc_stats.specs.Joining.{bodies_joined, has_values, valued_bodies, joined}
 use Rattle.orc_stats.specs.Messages.{message_of, ints_record, dates_record, texts_record, bins_record, bools_record, int_record, date_record, text_record}
 use Rattle.orc_stats.specs.Messages.{bucket_record, bin_record}
@@ -75,10 +75,10 @@ known_cons P x None p a = tt
 known_cons P x (Some xs) p a = (p, a)
 
 known_keeps : {A : Type 0} (P : A → Type 0) (os : List (Option A)) → AllByRecursion (λ (o : Option A). IfSome o P) os
-    → IfSome (all_known os) (AllByRecursion P)
+    → IfSome (parts_if_known os) (AllByRecursion P)
 known_keeps P [] a = tt
 known_keeps P (None ∷ os) a = tt
-known_keeps P (Some x ∷ os) a = known_cons P x (all_known os) a.0 (known_keeps P os a.1)
+known_keeps P (Some x ∷ os) a = known_cons P x (parts_if_known os) a.0 (known_keeps P os a.1)
 
 then_keeps : {A B : Type 0} (P : A → Type 0) (Q : B → Type 0) (f : A → Option B) → ((x : A) → P x → IfSome (f x) Q) → (o : Option A) → IfSome o P
     → IfSome (option_and_then f o) Q
@@ -87,7 +87,7 @@ then_keeps P Q f k (Some x) p = k x p
 
 known_least : {A : Type 0} (P : A → Type 0) (cmp : A → A → Ordering) (os : List (Option A)) → AllByRecursion (λ (o : Option A). IfSome o P) os
     → IfSome (of_known (least cmp) os) P
-known_least P cmp os a = then_keeps (AllByRecursion P) P (least cmp) (λ xs p. least_keeps P cmp xs p) (all_known os) (known_keeps P os a)
+known_least P cmp os a = then_keeps (AllByRecursion P) P (least cmp) (λ xs p. least_keeps P cmp xs p) (parts_if_known os) (known_keeps P os a)
 
 -- what fits 64 bits has them
 zig_fits : (z : ℤ) → signed_fits 63 z ≡ true → zig z < 2 ^ 64
@@ -106,7 +106,7 @@ then_all Q f k None = tt
 then_all Q f k (Some x) = k x
 
 total_wide : (os : List (Option ℤ)) → Wide (of_known total os)
-total_wide os = then_all (λ (z : ℤ). zig z < 2 ^ 64) total (λ zs. then_all (λ (z : ℤ). zig z < 2 ^ 64) in_64 in_wide (exact_total zs)) (all_known os)
+total_wide os = then_all (λ (z : ℤ). zig z < 2 ^ 64) total (λ zs. then_all (λ (z : ℤ). zig z < 2 ^ 64) in_64 in_wide (exact_total zs)) (parts_if_known os)
 
 small_of : (n : ℕ) (b : Bool) → nat_le n (2 ^ 62) ≡ b → Small (if b then Some n else None)
 small_of n true e = let le : n ≤ 2 ^ 62 = grind (arith, nat_tests) in omega (arith, le)
@@ -114,7 +114,7 @@ small_of n false e = tt
 
 trues_small : (os : List (Option ℕ)) → Small (of_known trues_total os)
 trues_small os = then_all (λ (n : ℕ). n < 2 ^ 64) trues_total
-    (λ ns. then_all (λ (n : ℕ). n < 2 ^ 64) in_limit (λ n. small_of n (nat_le n (2 ^ 62)) refl) (reduce ◌+◌ ns)) (all_known os)
+    (λ ns. then_all (λ (n : ℕ). n < 2 ^ 64) in_limit (λ n. small_of n (nat_le n (2 ^ 62)) refl) (reduce ◌+◌ ns)) (parts_if_known os)
 
 -- ---- the parts of bodies
 

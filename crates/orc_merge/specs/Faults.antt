@@ -40,7 +40,8 @@ AreGathered (first ∷ rest) = CanMerge first (first ∷ rest)
 -- this input is no file, or is refused behind those before it
 abbrev pub InputFault : List Tail → List ℕ → MergeFault → Type 0
 InputFault before bytes fault =
-    ((why : FileFault) × OpenFault bytes why × (fault ≡ File (length before) why)) ⊎ ((tail : Tail) × IsTail bytes tail × NextFault before tail fault)
+    ((why : FileFault) × OpenFault bytes why × (fault ≡ File (length before) why))
+    ⊎ ((tail : Tail) × IsTail bytes tail × NextFault before tail fault)
 
 -- the inputs before this one are gathered, and this one is refused
 pub record IsRefusedAt (inputs : List (List ℕ)) (fault : MergeFault) : Type 0 where

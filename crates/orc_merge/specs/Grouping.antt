@@ -39,13 +39,16 @@ abbrev mutual
 
   pub AllGive : Groups → List (List ℕ) → Type 0
   AllGive (one g) files = (out : List ℕ) × Gives g out × (files ≡ out ∷ [])
-  AllGive (and g gs) files = (out : List ℕ) × (rest : List (List ℕ)) × Gives g out × AllGive gs rest × (files ≡ out ∷ rest)
+  AllGive (and g gs) files =
+      (out : List ℕ) × (rest : List (List ℕ)) × Gives g out × AllGive gs rest × (files ≡ out ∷ rest)
 
 -- a step of it is refused
 abbrev mutual
   pub StepRefused : Group → MergeFault → Type 0
   StepRefused (input bytes) fault = ⊥
-  StepRefused (merge groups) fault = SomeRefused groups fault ⊎ ((files : List (List ℕ)) × AllGive groups files × IsRefused files fault)
+  StepRefused (merge groups) fault =
+      SomeRefused groups fault
+      ⊎ ((files : List (List ℕ)) × AllGive groups files × IsRefused files fault)
 
   pub SomeRefused : Groups → MergeFault → Type 0
   SomeRefused (one g) fault = StepRefused g fault
@@ -65,11 +68,14 @@ abbrev mutual
 abbrev mutual
   pub Wrote : Group → List ℕ → Type 0
   Wrote (input bytes) out = out ≡ bytes
-  Wrote (merge groups) out = (files : List (List ℕ)) × (tail : Tail) × AllWrote groups files × IsMerge files tail out × (length out < 2 ^ 64)
+  Wrote (merge groups) out =
+      (files : List (List ℕ)) × (tail : Tail) × AllWrote groups files × IsMerge files tail out
+      × (length out < 2 ^ 64)
 
   pub AllWrote : Groups → List (List ℕ) → Type 0
   AllWrote (one g) files = (out : List ℕ) × Wrote g out × (files ≡ out ∷ [])
-  AllWrote (and g gs) files = (out : List ℕ) × (rest : List (List ℕ)) × Wrote g out × AllWrote gs rest × (files ≡ out ∷ rest)
+  AllWrote (and g gs) files =
+      (out : List ℕ) × (rest : List (List ℕ)) × Wrote g out × AllWrote gs rest × (files ≡ out ∷ rest)
 
 -- each input is a file of these rows
 abbrev pub HaveRows : List (List ℕ) → List (List Cell) → Type 0
@@ -83,7 +89,8 @@ abbrev pub AreHonestFiles : List (List ℕ) → List (List Cell) → Type 0
 AreHonestFiles [] [] = Unit {0}
 AreHonestFiles [] (rows ∷ parts) = ⊥
 AreHonestFiles (b ∷ bs) [] = ⊥
-AreHonestFiles (b ∷ bs) (rows ∷ parts) = ((tail : Tail) × FileIs b tail rows × Honest tail rows) × AreHonestFiles bs parts
+AreHonestFiles (b ∷ bs) (rows ∷ parts) =
+    ((tail : Tail) × FileIs b tail rows × Honest tail rows) × AreHonestFiles bs parts
 
 -- The inputs are files, and of one kind: user metadata and the limits alone can speak against merging them.
 pub record AreFellows (inputs : List (List ℕ)) : Type 0 where

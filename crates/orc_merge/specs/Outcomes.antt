@@ -20,4 +20,5 @@ pub record WroteMerge (files : List (List ℕ)) (tail : Tail) (old new : Option 
 
 -- nothing went out, or a part of the merged file from its front on
 abbrev pub WrotePart : List (List ℕ) → Option (List ℕ) → Option (List ℕ) → Type 0
-WrotePart files old new = (new ≡ old) ⊎ ((tail : Tail) × (bytes : List ℕ) × IsMerge files tail bytes × WroteSome old new bytes)
+WrotePart files old new =
+    (new ≡ old) ⊎ ((tail : Tail) × (bytes : List ℕ) × IsMerge files tail bytes × WroteSome old new bytes)

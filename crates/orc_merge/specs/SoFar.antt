@@ -23,7 +23,8 @@ pub record HasGathered (first : Tail) (tails : List Tail) (g : Gathered) : Type 
   pub counts : AreCounts g.counts.items (all_stats tails)
 
 -- inputs of one kind are gathered, and the next one, which has this number and is of their kind, has these lists
-pub record IsNext (first : Tail) (tails : List Tail) (tail : Tail) (number : ℕ) (lists : Lists) (g : Gathered) : Type 0 where
+pub record IsNext (first : Tail) (tails : List Tail) (tail : Tail) (number : ℕ) (lists : Lists)
+    (g : Gathered) : Type 0 where
   pub number_is : number ≡ length tails
   pub gathered : HasGathered first tails g
   pub merges : CanMerge first tails

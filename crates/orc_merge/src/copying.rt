@@ -35,6 +35,7 @@ fn copy_range<S: Source, W: Sink>(
     ensures source_failed { IsErrOf result CopyFault.SourceFailed → S.failures source.old < S.failures source.new }
     ensures write_failed { IsErrOf result CopyFault.WriteFailed → W.failures out.old < W.failures out.new }
 {
+    // for its contract alone: the source's size is a number of 64 bits, and so is each place in it
     let _all = source.len();
     let mut window = [0u8; WINDOW];
     let mut done = 0;

@@ -1,3 +1,4 @@
+//! Why files are not merged.
 ghost use Rattle.std.specs.Prelude.{◌≡◌};
 ghost use Rattle.orc_merge.specs.declared.fault.MergeFault.TheVariants as fault;
 

@@ -22,20 +22,14 @@ use crate::fault::MergeFault;
 use crate::stripe_places::{add_pieces, place_stripes};
 use crate::user_pairs::add_pairs;
 use crate::value_counts::{add_counts, are_few};
-use orc_file::{Tail, file_statistics};
+use orc_file::{MOST_BYTES, MOST_ROWS, MOST_STRIPES, Tail, file_statistics};
 use orc_stats::Stat;
 use orc_wire::{Items, StripeInfo, UserMetadataItem};
 use std::alloc::{AllocError, Global};
 use std::mem;
 
-/// The most stripes of a file.
-const MOST_STRIPES: usize = 65_536;
-
-/// The most rows of a file.
-const MOST_ROWS: u64 = 1 << 40;
-
 /// The place behind the most bytes of stripes.
-const LAST_PLACE: u64 = 3 + (1 << 40);
+const LAST_PLACE: u64 = 3 + MOST_BYTES;
 
 /// What is joined of an input.
 #[derive(Drop)]
@@ -69,8 +63,10 @@ pub(crate) fn take_lists(alloc: Global, tail: &mut Tail) -> Lists
 
 /// Whether there are statistics of so many stripes, each of so many columns.
 fn has_statistics(stripes: usize, columns: usize, stats: &[Items<Stat>]) -> bool
-    ensures yes { OnTrue result ((length stats.now ≡ stripes) × AllByRecursion (λ (xs : List Stat). length xs ≡ columns) stats.now) }
-    ensures no { OnFalse result ((length stats.now ≡ stripes) × AllByRecursion (λ (xs : List Stat). length xs ≡ columns) stats.now → ⊥) }
+    ensures yes { OnTrue result ((length stats.now ≡ stripes)
+        × AllByRecursion (λ (xs : List Stat). length xs ≡ columns) stats.now) }
+    ensures no { OnFalse result ((length stats.now ≡ stripes)
+        × AllByRecursion (λ (xs : List Stat). length xs ≡ columns) stats.now → ⊥) }
 {
     if stats.len() != stripes {
         return false;
@@ -139,7 +135,8 @@ impl Gathered {
         requires rows { self.old.rows ≤ most_rows }
         requires more_bytes { stripes_length stripes.now ≤ most_bytes }
         requires more_rows { rows ≤ most_rows }
-        ensures stripes { OnOk result (self.new.stripes.items ≡ self.old.stripes.items ++ placed self.old.end stripes.now) }
+        ensures stripes { OnOk result
+            (self.new.stripes.items ≡ self.old.stripes.items ++ placed self.old.end stripes.now) }
         ensures end { OnOk result (self.new.end ≡ self.old.end + stripes_length stripes.now) }
         ensures rows { OnOk result (self.new.rows ≡ self.old.rows + rows) }
         ensures pieces { OnOk result (self.new.pieces.items ≡ self.old.pieces.items ++ pieces_in number stripes.now) }
@@ -147,10 +144,13 @@ impl Gathered {
             → AreCounts self.new.counts.items (before ++ stats.now)) }
         ensures limits { OnOk result ((before : List (List Stat)) → AreCounts self.old.counts.items before
             → AreFewTogether (length self.new.stripes.items) self.new.end self.new.rows (before ++ stats.now)) }
-        ensures others { (self.new.first ≡ self.old.first) × (self.new.user ≡ self.old.user) × (self.new.stripe_stats ≡ self.old.stripe_stats) }
+        ensures others { (self.new.first ≡ self.old.first)
+            × (self.new.user ≡ self.old.user)
+            × (self.new.stripe_stats ≡ self.old.stripe_stats) }
         ensures fault { IfErr result (λ e. (e ≡ fault.OutOfMemory)
             ⊎ ((e ≡ fault.Limit number) × ((before : List (List Stat)) → AreCounts self.old.counts.items before
-            → AreFewTogether (length self.old.stripes.items + length stripes.now) (self.old.end + stripes_length stripes.now)
+            → AreFewTogether (length self.old.stripes.items + length stripes.now)
+            (self.old.end + stripes_length stripes.now)
             (self.old.rows + rows) (before ++ stats.now) → ⊥))) }
     {
         let end = place_stripes(&mut self.stripes, self.end, stripes)?;
@@ -176,9 +176,11 @@ impl Gathered {
         requires rows { self.old.rows ≤ most_rows }
         requires more_bytes { stripes_length lists.stripes.items ≤ most_bytes }
         requires more_rows { lists.rows ≤ most_rows }
-        ensures gathered { OnOk result ((first tail : Tail) (tails : List Tail) → IsNext first tails tail number lists self.old
+        ensures gathered { OnOk result ((first tail : Tail) (tails : List Tail)
+            → IsNext first tails tail number lists self.old
             → HasGathered first (tails ++ tail ∷ []) self.new) }
-        ensures merges { OnOk result ((first tail : Tail) (tails : List Tail) → IsNext first tails tail number lists self.old
+        ensures merges { OnOk result ((first tail : Tail) (tails : List Tail)
+            → IsNext first tails tail number lists self.old
             → CanMerge first (tails ++ tail ∷ [])) }
         ensures fault { IfErr result (λ e. (e ≡ fault.OutOfMemory)
             ⊎ ((first tail : Tail) (tails : List Tail) → IsNext first tails tail number lists self.old
@@ -202,9 +204,14 @@ impl Gathered {
     /// The merged file's tail, and where its stripes stand in the inputs.
     pub fn finish(self, alloc: Global) -> Result<(Tail, Vec<Piece>), MergeFault>
         requires { (c : ℕ) → c < width self.first.schema
-            → All (λ (s : Stat). body_is_of (kind_at self.first.schema c) s.body ≡ true) (column_stats c self.stripe_stats.items) }
-        ensures tail { IfOk result (λ found. (first : Tail) (tails : List Tail) → HasGathered first tails self → found.0 ≡ merged first tails) }
-        ensures pieces { IfOk result (λ found. (first : Tail) (tails : List Tail) → HasGathered first tails self → found.1.items ≡ pieces_of 0 tails) }
+            → All (λ (s : Stat). body_is_of (kind_at self.first.schema c) s.body ≡ true)
+            (column_stats c self.stripe_stats.items) }
+        ensures tail { IfOk result (λ found. (first : Tail) (tails : List Tail)
+            → HasGathered first tails self
+            → found.0 ≡ merged first tails) }
+        ensures pieces { IfOk result (λ found. (first : Tail) (tails : List Tail)
+            → HasGathered first tails self
+            → found.1.items ≡ pieces_of 0 tails) }
         ensures fault { IfErr result (λ e. e ≡ fault.OutOfMemory) }
     {
         let Gathered {

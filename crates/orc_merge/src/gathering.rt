@@ -29,7 +29,10 @@ fn tail_of<S: Source>(alloc: Global, number: usize, input: &mut S) -> Result<Tai
 
     ensures fault { IfErr result (λ e. (e ≡ fault.OutOfMemory)
         ⊎ ((e ≡ fault.SourceFailed number)
-        ⊎ ((why : FileFault) × (e ≡ fault.File number why) × IfSome (S.told input.old) (λ bytes. OpenFault bytes why) × IsOfBytes why))) }
+        ⊎ ((why : FileFault)
+        × (e ≡ fault.File number why)
+        × IfSome (S.told input.old) (λ bytes. OpenFault bytes why)
+        × IsOfBytes why))) }
     ensures kept { OnOk result (S.failures input.new ≡ S.failures input.old) }
     ensures failed { IsErrOf result (fault.SourceFailed number) → S.failures input.old < S.failures input.new }
     ensures memory { IsErrOf result fault.OutOfMemory → S.failures input.new ≡ S.failures input.old }
@@ -51,7 +54,8 @@ fn gather_first<S: Source>(alloc: Global, inputs: &mut [S]) -> Result<Gathered, 
     ensures sizes { map S.size inputs.new ≡ map S.size inputs.old }
     ensures found { IfOk result (λ gathered. IsGatheredOf (map S.told inputs.old) (map S.size inputs.old) 1 gathered) }
 
-    ensures refused { IfErr result (λ e. (files : List (List ℕ)) → map S.told inputs.old ≡ map Some files → IsAnswer files e) }
+    ensures refused { IfErr result (λ e. (files : List (List ℕ))
+        → map S.told inputs.old ≡ map Some files → IsAnswer files e) }
     ensures counted { IfErr result (λ e. IsCounted (map S.failures inputs.old) (map S.failures inputs.new) e) }
     ensures kept { OnOk result (map S.failures inputs.new ≡ map S.failures inputs.old) }
     ensures memory { IsErrOf result MergeFault.OutOfMemory → map S.failures inputs.new ≡ map S.failures inputs.old }
@@ -74,9 +78,11 @@ fn gather_next<S: Source>(
     requires before { IsGatheredOf (map S.told inputs.old) (map S.size inputs.old) number gathered.old }
     ensures told { map S.told inputs.new ≡ map S.told inputs.old }
     ensures sizes { map S.size inputs.new ≡ map S.size inputs.old }
-    ensures found { OnOk result (IsGatheredOf (map S.told inputs.old) (map S.size inputs.old) (number + 1) gathered.new) }
+    ensures found { OnOk result
+        (IsGatheredOf (map S.told inputs.old) (map S.size inputs.old) (number + 1) gathered.new) }
 
-    ensures refused { IfErr result (λ e. (files : List (List ℕ)) → map S.told inputs.old ≡ map Some files → IsAnswer files e) }
+    ensures refused { IfErr result (λ e. (files : List (List ℕ))
+        → map S.told inputs.old ≡ map Some files → IsAnswer files e) }
     ensures counted { IfErr result (λ e. IsCounted (map S.failures inputs.old) (map S.failures inputs.new) e) }
     ensures kept { OnOk result (map S.failures inputs.new ≡ map S.failures inputs.old) }
     ensures memory { IsErrOf result MergeFault.OutOfMemory → map S.failures inputs.new ≡ map S.failures inputs.old }
@@ -103,9 +109,11 @@ pub(crate) fn gather<S: Source>(
     ensures limits { IfOk result (λ found. IsWithinLimits found.0) }
     ensures laid { IfOk result (λ found. IsLaid 3 found.0.stripes) }
     ensures inputs { IfOk result (λ found. All (λ p. p.input < length inputs.old) found.1.items) }
-    ensures within { IfOk result (λ found. All (λ p. p.offset + p.len ≤ slice_index (map S.size inputs.old) p.input) found.1.items) }
+    ensures within { IfOk result
+        (λ found. All (λ p. p.offset + p.len ≤ slice_index (map S.size inputs.old) p.input) found.1.items) }
 
-    ensures refused { IfErr result (λ e. (files : List (List ℕ)) → map S.told inputs.old ≡ map Some files → IsAnswer files e) }
+    ensures refused { IfErr result (λ e. (files : List (List ℕ))
+        → map S.told inputs.old ≡ map Some files → IsAnswer files e) }
     ensures kept { OnOk result (map S.failures inputs.new ≡ map S.failures inputs.old) }
     ensures memory { IsErrOf result MergeFault.OutOfMemory → map S.failures inputs.new ≡ map S.failures inputs.old }
     ensures source_failed { (i : ℕ) → IsErrOf result (MergeFault.SourceFailed i)

@@ -29,22 +29,36 @@ ghost use Rattle.orc_merge.specs.Grouping.{Groups, merge, all_leaves, Gives, All
 /// So where a grouping was merged step by step, all inputs can be merged at once, and two groupings of one list of
 /// inputs gave one file.
 pub fn grouping()
-    ensures same { (groups : Groups) (tail : Tail) (out : List ℕ) → AllShort groups → IsMerge (all_leaves groups) tail out → Gives (merge groups) out }
-    ensures one { (groups : Groups) (tail : Tail) (out other : List ℕ) → AllShort groups → IsMerge (all_leaves groups) tail out → Gives (merge groups) other
+    ensures same { (groups : Groups) (tail : Tail) (out : List ℕ)
+        → AllShort groups → IsMerge (all_leaves groups) tail out
+        → Gives (merge groups) out }
+    ensures one { (groups : Groups) (tail : Tail) (out other : List ℕ)
+        → AllShort groups → IsMerge (all_leaves groups) tail out
+        → Gives (merge groups) other
         → other ≡ out }
-    ensures back { (groups : Groups) (out : List ℕ) → AllShort groups → Gives (merge groups) out → (tail : Tail) × IsMerge (all_leaves groups) tail out }
+    ensures back { (groups : Groups) (out : List ℕ)
+        → AllShort groups → Gives (merge groups) out
+        → (tail : Tail) × IsMerge (all_leaves groups) tail out }
 
-    ensures step { (groups : Groups) (files : List (List ℕ)) (tail : Tail) (old new : Option (List ℕ)) → AllWrote groups files
+    ensures step { (groups : Groups) (files : List (List ℕ)) (tail : Tail) (old new : Option (List ℕ))
+        → AllWrote groups files
         → WroteMerge files tail old new → (out : List ℕ) × Wrote (merge groups) out × (new ≡ appended old out) }
-    ensures wrote { (groups : Groups) (out : List ℕ) → Wrote (merge groups) out → AllShort groups × Gives (merge groups) out }
+    ensures wrote { (groups : Groups) (out : List ℕ)
+        → Wrote (merge groups) out
+        → AllShort groups × Gives (merge groups) out }
     ensures alike { (groups others : Groups) (out other : List ℕ) → all_leaves others ≡ all_leaves groups
         → Wrote (merge groups) out → Wrote (merge others) other → other ≡ out }
 
-    ensures accepted { (inputs : List (List ℕ)) (tail : Tail) (out : List ℕ) → IsMerge inputs tail out → length out < 2 ^ 64 → IsTail out tail }
-    ensures rows { (inputs : List (List ℕ)) (tail : Tail) (out : List ℕ) (parts : List (List Cell)) → IsMerge inputs tail out → length out < 2 ^ 64
+    ensures accepted { (inputs : List (List ℕ)) (tail : Tail) (out : List ℕ)
+        → IsMerge inputs tail out → length out < 2 ^ 64
+        → IsTail out tail }
+    ensures rows { (inputs : List (List ℕ)) (tail : Tail) (out : List ℕ) (parts : List (List Cell))
+        → IsMerge inputs tail out → length out < 2 ^ 64
         → HaveRows inputs parts → FileIs out tail (rows.joined parts) }
 
-    ensures refused { (groups : Groups) → AllShort groups → AreFellows (all_leaves groups) → IsFlatRefused groups ↔ IsStepRefused groups }
+    ensures refused { (groups : Groups) → AllShort groups
+        → AreFellows (all_leaves groups)
+        → IsFlatRefused groups ↔ IsStepRefused groups }
 {}
 
 /// Joined statistics are the same for every order of what is joined. So what can be merged can be merged in every
@@ -52,27 +66,38 @@ pub fn grouping()
 /// file's statistics are those of all rows, and a sum stands exactly where that of each stripe does and the total
 /// of all rows fits 64 bits.
 pub fn orders()
-    ensures joined { (k : StatKind) (stats others : List Stat) → IsPermutation stats others → joined k others ≡ joined k stats }
-    ensures exists { (inputs others : List (List ℕ)) (tail : Tail) (out : List ℕ) → IsPermutation inputs others → IsMerge inputs tail out
+    ensures joined { (k : StatKind) (stats others : List Stat)
+        → IsPermutation stats others
+        → joined k others ≡ joined k stats }
+    ensures exists { (inputs others : List (List ℕ)) (tail : Tail) (out : List ℕ)
+        → IsPermutation inputs others → IsMerge inputs tail out
         → (other : Tail) × (bytes : List ℕ) × IsMerge others other bytes }
-    ensures merged { (inputs others : List (List ℕ)) (tail other : Tail) (out bytes : List ℕ) → IsPermutation inputs others → IsMerge inputs tail out
+    ensures merged { (inputs others : List (List ℕ)) (tail other : Tail) (out bytes : List ℕ)
+        → IsPermutation inputs others → IsMerge inputs tail out
         → IsMerge others other bytes → tail.file_stats ≡ other.file_stats }
 
-    ensures honest { (inputs : List (List ℕ)) (tail : Tail) (out : List ℕ) (parts : List (List Cell)) → IsMerge inputs tail out
+    ensures honest { (inputs : List (List ℕ)) (tail : Tail) (out : List ℕ) (parts : List (List Cell))
+        → IsMerge inputs tail out
         → AreHonestFiles inputs parts → Honest tail (rows.joined parts) }
-    ensures whole { (inputs : List (List ℕ)) (tail : Tail) (out : List ℕ) (parts : List (List Cell)) → IsMerge inputs tail out → AreHonestFiles inputs parts
+    ensures whole { (inputs : List (List ℕ)) (tail : Tail) (out : List ℕ) (parts : List (List Cell))
+        → IsMerge inputs tail out → AreHonestFiles inputs parts
         → HasWholeStats tail (rows.joined parts) }
     ensures sum { (k : StatKind) (stripes : List (List Cell))
-        → has_sum (whole k stripes).body ≡ (list_all (λ rows. keeps_sum (stat k rows)) stripes && has_sum (stat k (flat_map (λ rows. rows) stripes)).body) }
+        → has_sum (whole k stripes).body
+        ≡ (list_all (λ rows. keeps_sum (stat k rows)) stripes
+        && has_sum (stat k (flat_map (λ rows. rows) stripes)).body) }
 {}
 
 /// Inputs of bytes have a merged file or are refused. They have one merged file at most, and none where they are
 /// refused. One fault is the first, but that what is wrong with a file's types may be said in several ways.
 pub fn outcomes()
-    ensures one { (inputs : List (List ℕ)) (tail other : Tail) (out bytes : List ℕ) → IsMerge inputs tail out → IsMerge inputs other bytes
+    ensures one { (inputs : List (List ℕ)) (tail other : Tail) (out bytes : List ℕ)
+        → IsMerge inputs tail out → IsMerge inputs other bytes
         → (other ≡ tail) × (bytes ≡ out) }
     ensures cover { (inputs : List (List ℕ)) → AllByRecursion AllBytes inputs
         → ((tail : Tail) × (out : List ℕ) × IsMerge inputs tail out) ⊎ ((fault : MergeFault) × IsRefused inputs fault) }
-    ensures none { (inputs : List (List ℕ)) (tail : Tail) (out : List ℕ) (fault : MergeFault) → IsMerge inputs tail out → IsRefused inputs fault → ⊥ }
-    ensures single { (inputs : List (List ℕ)) (e f : MergeFault) → IsRefused inputs e → IsRefused inputs f → AreOne e f }
+    ensures none { (inputs : List (List ℕ)) (tail : Tail) (out : List ℕ) (fault : MergeFault)
+        → IsMerge inputs tail out → IsRefused inputs fault → ⊥ }
+    ensures single { (inputs : List (List ℕ)) (e f : MergeFault)
+        → IsRefused inputs e → IsRefused inputs f → AreOne e f }
 {}

@@ -13,11 +13,12 @@ use std::alloc::Global;
 /// Merges files into one: the inputs' stripes as they are, and a tail that is theirs together. All tests come before
 /// the first byte is written.
 ///
-/// Refusals: `NoInput`; input by input, with its number, the first test that it doesn't pass: `File`, then, compared
-/// with the first input, `SchemaDiffers`, `VersionDiffers`, `StrideDiffers`, `OtherFooterFields`, and of what is
-/// gathered so far `UserMetadataConflict`, `NoStripeStatistics`, `Limit`. After those and after `OutOfMemory` nothing was
-/// written. After `SourceFailed` or `WriteFailed` nothing was written, or a part of the merged file from its front on.
-/// `File` has a fault of the input's bytes; want of memory and a source that fails are refusals of their own.
+/// Refusals: `NoInput`; input by input, with its number, the first test that it doesn't pass: `File`, then,
+/// compared with the first input, `SchemaDiffers`, `VersionDiffers`, `StrideDiffers`, `OtherFooterFields`, and
+/// of what is gathered so far `UserMetadataConflict`, `NoStripeStatistics`, `Limit`. After those and after
+/// `OutOfMemory` nothing was written. After `SourceFailed` or `WriteFailed` nothing was written, or a part of
+/// the merged file from its front on. `File` has a fault of the input's bytes; want of memory and a source that
+/// fails are refusals of their own.
 pub fn merge<S: Source, W: Sink>(
     alloc: Global,
     inputs: &mut [S],
@@ -26,14 +27,19 @@ pub fn merge<S: Source, W: Sink>(
     ensures merged { IfOk result (λ tail. (files : List (List ℕ)) → map S.told inputs.old ≡ map Some files
         → WroteMerge files tail (W.told out.old) (W.told out.new)) }
 
-    ensures refused { IfErr result (λ e. (files : List (List ℕ)) → map S.told inputs.old ≡ map Some files → IsAnswer files e) }
+    ensures refused { IfErr result (λ e. (files : List (List ℕ))
+        → map S.told inputs.old ≡ map Some files → IsAnswer files e) }
     ensures nothing { IfErr result (λ e. (IsDeviceFault e → ⊥) → W.told out.new ≡ W.told out.old) }
-    ensures some { IfErr result (λ e. (files : List (List ℕ)) → map S.told inputs.old ≡ map Some files → WrotePart files (W.told out.old) (W.told out.new)) }
-    ensures memory { IsErrOf result MergeFault.OutOfMemory → (W.told out.new ≡ W.told out.old) × (W.failures out.new ≡ W.failures out.old)
+    ensures some { IfErr result (λ e. (files : List (List ℕ))
+        → map S.told inputs.old ≡ map Some files
+        → WrotePart files (W.told out.old) (W.told out.new)) }
+    ensures memory { IsErrOf result MergeFault.OutOfMemory
+        → (W.told out.new ≡ W.told out.old) × (W.failures out.new ≡ W.failures out.old)
         × (map S.failures inputs.new ≡ map S.failures inputs.old) }
 
     ensures told { map S.told inputs.new ≡ map S.told inputs.old }
-    ensures kept { OnOk result ((map S.failures inputs.new ≡ map S.failures inputs.old) × (W.failures out.new ≡ W.failures out.old)) }
+    ensures kept { OnOk result ((map S.failures inputs.new ≡ map S.failures inputs.old)
+        × (W.failures out.new ≡ W.failures out.old)) }
     ensures source_failed { (i : ℕ) → IsErrOf result (MergeFault.SourceFailed i)
         → slice_index (map S.failures inputs.old) i < slice_index (map S.failures inputs.new) i }
     ensures file { (i : ℕ) (why : FileFault) → IsErrOf result (MergeFault.File i why) → IsOfBytes why }

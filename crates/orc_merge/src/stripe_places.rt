@@ -1,20 +1,13 @@
 //! Where stripes stand, in the inputs and in the merged file.
 ghost use Rattle.std.specs.Prelude.{◌≡◌, ◌+◌, ◌<◌, ◌^◌, ◌++◌, IfOk, OnOk};
-ghost use Rattle.orc_file.specs.Stripes.{stripe_length, stripes_length};
+ghost use Rattle.orc_file.specs.Stripes.{stripes_length};
 ghost use Rattle.orc_merge.specs.Merging.{placed};
 ghost use Rattle.orc_merge.specs.Gathering.{pieces_in};
 
 use crate::copying::Piece;
+use orc_file::stripe_length;
 use orc_wire::StripeInfo;
 use std::alloc::AllocError;
-
-/// How many bytes a stripe has.
-fn length_of(stripe: &StripeInfo) -> u64
-    requires { stripe_length stripe.now < 2 ^ 64 }
-    ensures { result ≡ stripe_length stripe.now }
-{
-    stripe.index_length + stripe.data_length + stripe.footer_length
-}
 
 /// Adds stripes, which stand one after the other from a place on, and answers the place behind them.
 pub(crate) fn place_stripes(
@@ -32,7 +25,7 @@ pub(crate) fn place_stripes(
             offset: end,
             ..*stripe
         })?;
-        end += length_of(stripe);
+        end += stripe_length(*stripe);
     }
     Ok(end)
 }
@@ -50,7 +43,7 @@ pub(crate) fn add_pieces(
         pieces.push(Piece {
             input,
             offset: stripe.offset,
-            len: length_of(stripe),
+            len: stripe_length(*stripe),
         })?;
     }
     Ok(())

@@ -29,10 +29,12 @@ fn add_pair(
     number: usize,
     pair: UserMetadataItem,
 ) -> Result<(), MergeFault>
-    ensures added { OnOk result ((before : List UserMetadataItem) → HasPairs before pairs.old.items → HasPairs (before ++ pair ∷ []) pairs.new.items) }
+    ensures added { OnOk result ((before : List UserMetadataItem) → HasPairs before pairs.old.items
+        → HasPairs (before ++ pair ∷ []) pairs.new.items) }
     ensures fault { IfErr result (λ e. (e ≡ fault.OutOfMemory)
         ⊎ ((e ≡ fault.UserMetadataConflict number)
-        × ((before more : List UserMetadataItem) → HasPairs before pairs.old.items → Agree (before ++ pair ∷ more) → ⊥))) }
+        × ((before more : List UserMetadataItem) → HasPairs before pairs.old.items
+        → Agree (before ++ pair ∷ more) → ⊥))) }
 {
     match find(pairs, pair.name.as_slice()) {
         None => {
@@ -55,7 +57,8 @@ pub(crate) fn add_pairs(
     number: usize,
     more: Vec<UserMetadataItem>,
 ) -> Result<(), MergeFault>
-    ensures added { OnOk result ((before : List UserMetadataItem) → HasPairs before pairs.old.items → HasPairs (before ++ more.items) pairs.new.items) }
+    ensures added { OnOk result ((before : List UserMetadataItem) → HasPairs before pairs.old.items
+        → HasPairs (before ++ more.items) pairs.new.items) }
     ensures fault { IfErr result (λ e. (e ≡ fault.OutOfMemory)
         ⊎ ((e ≡ fault.UserMetadataConflict number)
         × ((before : List UserMetadataItem) → HasPairs before pairs.old.items → Agree (before ++ more.items) → ⊥))) }

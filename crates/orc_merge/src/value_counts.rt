@@ -8,8 +8,8 @@ use orc_stats::Stat;
 use orc_wire::Items;
 use std::alloc::AllocError;
 
-/// The most values of a column.
-const MOST_VALUES: u64 = 1 << 62;
+/// The most values that a column has in all stripes together.
+const MOST_COLUMN_VALUES: u64 = 1 << 62;
 
 /// Makes room for so many columns. Those that are new have no value.
 fn widen(counts: &mut Vec<u64>, columns: usize) -> Result<(), AllocError>
@@ -25,7 +25,8 @@ fn widen(counts: &mut Vec<u64>, columns: usize) -> Result<(), AllocError>
 /// Adds the values that a stripe's columns have. A number that 64 bits don't hold stays at the greatest that they
 /// do.
 fn add_stripe(counts: &mut Vec<u64>, stats: &[Stat]) -> Result<(), AllocError>
-    ensures { OnOk result ((before : List (List Stat)) → AreCounts counts.old.items before → AreCounts counts.new.items (before ++ stats.now ∷ [])) }
+    ensures { OnOk result ((before : List (List Stat)) → AreCounts counts.old.items before
+        → AreCounts counts.new.items (before ++ stats.now ∷ [])) }
 {
     widen(counts, stats.len())?;
     for (i, stat) in stats.iter().enumerate() {
@@ -36,7 +37,8 @@ fn add_stripe(counts: &mut Vec<u64>, stats: &[Stat]) -> Result<(), AllocError>
 
 /// Adds the values of all stripes.
 pub(crate) fn add_counts(counts: &mut Vec<u64>, stripes: &[Items<Stat>]) -> Result<(), AllocError>
-    ensures { OnOk result ((before : List (List Stat)) → AreCounts counts.old.items before → AreCounts counts.new.items (before ++ stripes.now)) }
+    ensures { OnOk result ((before : List (List Stat)) → AreCounts counts.old.items before
+        → AreCounts counts.new.items (before ++ stripes.now)) }
 {
     for stats in stripes {
         add_stripe(counts, stats.as_slice())?;
@@ -49,5 +51,5 @@ pub(crate) fn are_few(counts: &[u64]) -> bool
     ensures yes { OnTrue result (All (λ n. n ≤ 2 ^ 62) counts.now) }
     ensures no { OnFalse result (All (λ n. n ≤ 2 ^ 62) counts.now → ⊥) }
 {
-    counts.iter().all(|count| *count <= MOST_VALUES)
+    counts.iter().all(|count| *count <= MOST_COLUMN_VALUES)
 }

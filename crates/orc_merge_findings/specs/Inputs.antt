@@ -10,4 +10,5 @@ abbrev pub AreWithoutFinding : List (List ℕ) → List (List Cell) → Type 0
 AreWithoutFinding [] [] = Unit {0}
 AreWithoutFinding [] (rows ∷ parts) = ⊥
 AreWithoutFinding (b ∷ bs) [] = ⊥
-AreWithoutFinding (b ∷ bs) (rows ∷ parts) = ((tail : Tail) × FileIs b tail rows × Findings b tail rows []) × AreWithoutFinding bs parts
+AreWithoutFinding (b ∷ bs) (rows ∷ parts) =
+    ((tail : Tail) × FileIs b tail rows × Findings b tail rows []) × AreWithoutFinding bs parts

@@ -16,7 +16,9 @@ pub fn in_two_steps<S: Source, W: Sink>(
     right: &mut [S],
     out: &mut W,
 ) -> Result<Tail, MergeFault>
-    ensures merged { IfOk result (λ tail. (xs ys : List (List ℕ)) → map S.told left.old ≡ map Some xs → map S.told right.old ≡ map Some ys
+    ensures merged { IfOk result (λ tail. (xs ys : List (List ℕ))
+        → map S.told left.old ≡ map Some xs
+        → map S.told right.old ≡ map Some ys
         → WroteMerge (xs ++ ys) tail (W.told out.old) (W.told out.new)) }
 {
     let mut first = VecSink::new(alloc);

@@ -13,14 +13,14 @@ use orc_merge::{MergeFault, merge};
 use std::alloc::Global;
 
 /// What merging files writes, once there is memory for it: what wanted some is asked again.
-pub(crate) fn merged(alloc: Global, files: &[&[u8]]) -> Result<Vec<u8>, MergeFault> {
-    match merged_once(alloc, files) {
-        Err(MergeFault::OutOfMemory | MergeFault::WriteFailed) => merged_once(alloc, files),
+pub(crate) fn merge_all(alloc: Global, files: &[&[u8]]) -> Result<Vec<u8>, MergeFault> {
+    match merge_once(alloc, files) {
+        Err(MergeFault::OutOfMemory | MergeFault::WriteFailed) => merge_once(alloc, files),
         done => done,
     }
 }
 
-fn merged_once(alloc: Global, files: &[&[u8]]) -> Result<Vec<u8>, MergeFault> {
+fn merge_once(alloc: Global, files: &[&[u8]]) -> Result<Vec<u8>, MergeFault> {
     let mut inputs = Vec::new(alloc);
     for file in files {
         inputs.push(SliceSource::new(file))?;

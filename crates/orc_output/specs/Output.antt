@@ -20,7 +20,11 @@ write_failed = File file.WriteFailed
 
 -- a growth was refused, in the program's own work or in a layer below
 abbrev pub IsWantOfMemory : CliFault → Type 0
-IsWantOfMemory fault = (fault ≡ File file.OutOfMemory) ⊎ ((fault ≡ Run run.OutOfMemory) ⊎ ((fault ≡ Json json.OutOfMemory) ⊎ (fault ≡ Types types.OutOfMemory)))
+IsWantOfMemory fault =
+    (fault ≡ File file.OutOfMemory)
+    ⊎ ((fault ≡ Run run.OutOfMemory)
+    ⊎ ((fault ≡ Json json.OutOfMemory)
+    ⊎ (fault ≡ Types types.OutOfMemory)))
 
 -- the output failed, or a growth was refused
 abbrev pub IsOutside : CliFault → Type 0

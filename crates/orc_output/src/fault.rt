@@ -8,7 +8,8 @@ use thiserror::Error;
 
 /// The fault of the layer that refused. Its text is the layer, the fault's number and name in that
 /// layer, and its place where it has one; an inner layer's fault follows. Where the program itself can't
-/// open a file, write its output or get memory, that is a fault of the layer of files. Merging refuses with the merger's own fault.
+/// open a file, write its output or get memory, that is a fault of the layer of files. Merging refuses
+/// with the merger's own fault.
 #[derive(Clone, Copy, Debug, PartialEq, Eq, Error)]
 pub enum CliFault {
     /// The bytes are no stream of runs.

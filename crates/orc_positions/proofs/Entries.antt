@@ -1,6 +1,6 @@
 -- The entries of a row index, group by group.
 use Rattle.std.specs.Prelude.{MatchBool}
-use Rattle.std.proofs.Common.{◌≡◌, ℕ, zero, suc, ◌+◌, ◌≤◌, Bool, Option, Some, List, [], ◌∷◌, ◌++◌, length, take, slice_get, refl, sym, ap, ◌∙◌, subst, arith, inl, inr, ◌⊎◌, length-append}
+use Rattle.std.proofs.Common.{◌≡◌, ℕ, ◌+◌, ◌≤◌, Bool, Option, Some, List, [], ◌∷◌, ◌++◌, length, take, slice_get, refl, sym, ap, ◌∙◌, subst, arith, inl, inr, ◌⊎◌, length-append}
 use Rattle.orc_wire.specs.declared.row_index.RowIndexEntry.{RowIndexEntry}
 use Rattle.orc_seek.specs.BitPosition.{BeginsBits}
 use Rattle.orc_types.specs.Cells.{Cell}
@@ -11,7 +11,7 @@ use Rattle.orc_columns.specs.declared.fault.StreamKind.{StreamKind}
 use Rattle.orc_columns.specs.declared.fault.StreamKind.TheVariants.{Present}
 use Rattle.orc_columns.specs.declared.fault.StripeFault.{StripeFault}
 use Rattle.orc_columns.specs.declared.starting.ColumnStreams.{ColumnStreams}
-use Rattle.orc_index.specs.Bounds.{bound_at, AreBounds, before_group}
+use Rattle.orc_index.specs.Bounds.{bound_at, AreBounds}
 use Rattle.orc_index.specs.Places.{PlacesIn, AreReadPlaces, begins}
 use Rattle.orc_index.specs.RunStreams.{RunStream, present_runs, own_octets}
 use Rattle.orc_index.specs.Walking.{runs, lent_bytes, ArePlaced, AreCounted}

@@ -1,5 +1,5 @@
 -- The streams of a column have no more values than the column has cells.
-use Rattle.std.proofs.Common.{◌≡◌, ℕ, suc, ◌+◌, ◌*◌, ◌/◌, ◌<◌, ◌≤◌, ◌^◌, Bool, true, false, List, [], ◌∷◌, length, map, refl, ap, arith}
+use Rattle.std.proofs.Common.{ℕ, ◌<◌, ◌^◌, Bool, true, false, List, [], ◌∷◌, length, map, arith}
 use Rattle.std.proofs.lemmas.List.{length-map}
 use Rattle.orc_rle.specs.BitLaws.{held_len}
 use Rattle.orc_rle.specs.BitStream.{IsBitStream}
@@ -9,7 +9,7 @@ use Rattle.orc_types.specs.Shapes.{Shape, scalar, list_of, struct_of}
 use Rattle.orc_types.specs.declared.kind.Scalar.{Scalar}
 use Rattle.orc_types.specs.declared.kind.Scalar.TheVariants as kind
 use Rattle.orc_columns.specs.Columns.{IsBool, IsByte, IsInt, IsDate, IsText, IsBinary}
-use Rattle.orc_columns.specs.Spellings.{AllStand, size}
+use Rattle.orc_columns.specs.Spellings.{size}
 use Rattle.orc_columns.specs.Stripe.{Streams, has_dictionary, Marks, SpellsTexts, SpellsScalar, SpellsValues, IsColumn}
 use Rattle.orc_index.specs.RunStreams.{present_runs, text_runs, scalar_runs, own_runs}
 use Rattle.orc_index.proofs.ColumnPlaces.{stand_long}

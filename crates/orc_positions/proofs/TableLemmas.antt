@@ -1,6 +1,6 @@
 -- What is looked up among the places of a stream's runs is what its positions name.
 use Rattle.std.specs.Prelude.{MatchBool}
-use Rattle.std.proofs.Common.{◌≡◌, ℕ, ◌/◌, ◌≤◌, Bool, true, false, List, length, ap, arith}
+use Rattle.std.proofs.Common.{ℕ, ◌/◌, ◌≤◌, Bool, true, false, List, arith}
 use Rattle.orc_rle.specs.ByteRun.{IsByteRun}
 use Rattle.orc_seek.specs.Position.{HasValues}
 use Rattle.orc_seek.specs.BitPosition.{BeginsBits}

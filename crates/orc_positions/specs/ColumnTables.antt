@@ -1,4 +1,5 @@
--- The runs of a column's streams, in which its positions are looked up (ORC specification, "Row Group Index", "Column Encodings").
+-- The runs of a column's streams, in which its positions are looked up (ORC specification, "Row Group Index",
+-- "Column Encodings").
 use Rattle.std.specs.Prelude.{◌≡◌, ℕ, ◌⊎◌, Option, List}
 use Rattle.orc_rle.specs.declared.fault.RunFault.{RunFault}
 use Rattle.orc_types.specs.Shapes.{Shape}
@@ -13,7 +14,8 @@ use Rattle.orc_positions.specs.declared.column_table.ColumnTable.{ColumnTable}
 use Rattle.orc_positions.specs.Tables.{IsTable, RunsFail}
 
 -- these are the tables of a column's streams
-pub record AreTables (present : RunStream) (content : Option (List ℕ)) (own : RunStream) (tables : ColumnTable) : Type 0 where
+pub record AreTables (present : RunStream) (content : Option (List ℕ)) (own : RunStream)
+    (tables : ColumnTable) : Type 0 where
   pub of_present : IsTable present tables.present
   pub of_content : lent_bytes tables.content ≡ content
   pub of_own : IsTable own tables.own
@@ -25,4 +27,5 @@ FailsIn column kind runs fault = (cause : RunFault) × (fault ≡ Run column kin
 -- the fault of the runs of one of the column's streams that have positions
 abbrev pub ColumnFails : Shape → Streams → ℕ → StripeFault → Type 0
 ColumnFails s x column fault =
-    FailsIn column stream.Present (present_runs (x.stream 0)) fault ⊎ FailsIn column (kind_of_own s (has_dictionary x)) (own_runs s x) fault
+    FailsIn column stream.Present (present_runs (x.stream 0)) fault
+    ⊎ FailsIn column (kind_of_own s (has_dictionary x)) (own_runs s x) fault

@@ -42,7 +42,8 @@ abbrev pub RunsFail : RunStream → RunFault → Type 0
 RunsFail no_stream fault = ⊥
 RunsFail (bit_runs stream) fault = StopsWithin IsByteRun NoByteRun most stream fault
 RunsFail (byte_runs stream) fault = StopsWithin IsByteRun NoByteRun most stream fault
-RunsFail (number_runs version sign stream) fault = StopsWithin (is_run version sign) (no_run version sign) most stream fault
+RunsFail (number_runs version sign stream) fault =
+    StopsWithin (is_run version sign) (no_run version sign) most stream fault
 
 -- the position of value n, as it is looked up
 abbrev pub TablePlace : StreamTable → ℕ → List ℕ → Type 0

@@ -51,8 +51,11 @@ pub(crate) fn tables_of<'a>(
     kind: StreamKind,
     placed: &PlacedStreams<'a>,
 ) -> Result<ColumnTable<'a>, StripeFault>
-    ensures found { IfOk result (AreTables (runs placed.now.present) (lent_bytes placed.now.content) (runs placed.now.own)) }
-    ensures only { IsFew (runs placed.now.present) → IsFew (runs placed.now.own) → IfErr result (λ fault. fault ≡ OutOfMemory) }
+    ensures found { IfOk result
+        (AreTables (runs placed.now.present) (lent_bytes placed.now.content) (runs placed.now.own)) }
+    ensures only { IsFew (runs placed.now.present)
+        → IsFew (runs placed.now.own)
+        → IfErr result (λ fault. fault ≡ OutOfMemory) }
     ensures fault { IfErr result (λ fault. fault ≢ OutOfMemory
         → FailsIn column Present (runs placed.now.present) fault ⊎ FailsIn column kind (runs placed.now.own) fault) }
 {
@@ -76,9 +79,12 @@ fn octets_before(bytes: &[u8], counted: usize) -> usize
 impl<'a> ColumnTable<'a> {
     /// Whether these are the positions behind those of PRESENT, where so much comes before.
     fn own_right(&self, positions: &[u64], counts: Counts) -> bool
-        ensures { (present : RunStream) (content : Option (List ℕ)) (own : RunStream) (before : List Cell) → AreTables present content own self.now
+        ensures { (present : RunStream) (content : Option (List ℕ)) (own : RunStream) (before : List Cell)
+            → AreTables present content own self.now
             → AreCounted counts before → HavePlaces present content own before
-            → MatchBool result (OwnPlaces content own before positions.now) (OwnPlaces content own before positions.now → ⊥) }
+            → MatchBool result
+            (OwnPlaces content own before positions.now)
+            (OwnPlaces content own before positions.now → ⊥) }
     {
         let Some(bytes) = self.content else {
             return self.own.right(positions, counts.values as u64);
@@ -96,7 +102,8 @@ impl<'a> ColumnTable<'a> {
 
     /// Whether these are the positions of the column, where so much comes before.
     pub(crate) fn right(&self, positions: &[u64], counts: Counts) -> bool
-        ensures { (present : RunStream) (content : Option (List ℕ)) (own : RunStream) (before : List Cell) → AreTables present content own self.now
+        ensures { (present : RunStream) (content : Option (List ℕ)) (own : RunStream) (before : List Cell)
+            → AreTables present content own self.now
             → AreCounted counts before → HavePlaces present content own before
             → MatchBool result (PlacesIn begins BeginsBits present content own before positions.now)
             (PlacesIn begins BeginsBits present content own before positions.now → ⊥) }

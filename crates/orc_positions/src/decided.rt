@@ -12,7 +12,7 @@ ghost use Rattle.orc_positions.specs.Decided.{AreDecided};
 use crate::column_table::tables_of;
 use orc_columns::fault::StripeFault;
 use orc_columns::starting::ColumnStreams;
-use orc_index::{Counts, cells_between, counted, own_kind, placed_streams};
+use orc_index::{Counts, cells_between, counts_after, own_kind, placed_streams};
 use orc_types::{Lent, Tree};
 use orc_wire::RowIndexEntry;
 use std::alloc::Global;
@@ -36,8 +36,9 @@ fn group_start(bounds: &[usize], group: usize, count: usize) -> usize
 ///
 /// The bounds ascend up to the number of cells: a condition.
 ///
-/// Refusals: `Run` where a stream of the column that has positions is no stream of runs, with its first run from
-/// the left that is none, or has more than 2^64 - 1 values; `OutOfMemory`, and nothing else where the streams spell the cells.
+/// Refusals: `Run` where a stream of the column that has positions is no stream of runs, with its first run
+/// from the left that is none, or has more than 2^64 - 1 values; `OutOfMemory`, and nothing else where the
+/// streams spell the cells.
 pub fn positions_right(
     alloc: Global,
     tree: &Tree,
@@ -49,8 +50,12 @@ pub fn positions_right(
 ) -> Result<Vec<bool>, StripeFault>
     requires { AreBounds (length (lent_cells cells.now)) bounds.now }
     ensures right { (x : Streams) → AreStreams x streams.now → IsColumn (shape tree.now) x (lent_cells cells.now)
-        → MatchResult result (λ right. AreDecided (shape tree.now) x (lent_cells cells.now) bounds.now entries.now right.items) (λ fault. fault ≡ OutOfMemory) }
-    ensures fault { IfErr result (λ fault. fault ≢ OutOfMemory → (x : Streams) → AreStreams x streams.now → ColumnFails (shape tree.now) x column fault) }
+        → MatchResult result
+        (λ right. AreDecided (shape tree.now) x (lent_cells cells.now) bounds.now entries.now right.items)
+        (λ fault. fault ≡ OutOfMemory) }
+    ensures fault { IfErr result (λ fault. fault ≢ OutOfMemory
+        → (x : Streams) → AreStreams x streams.now
+        → ColumnFails (shape tree.now) x column fault) }
 {
     let placed = placed_streams(tree, streams);
     let kind = own_kind(tree, streams.has_dictionary);
@@ -63,7 +68,7 @@ pub fn positions_right(
     let mut at = 0;
     for (group, entry) in entries.iter().enumerate() {
         let start = group_start(bounds, group, cells.len());
-        counts = counted(counts, cells_between(cells, at, start));
+        counts = counts_after(counts, cells_between(cells, at, start));
         right.push(tables.right(entry.positions.as_slice(), counts))?;
         at = start;
     }

@@ -11,9 +11,8 @@ ghost use Rattle.orc_index.specs.Walking.{runs, most};
 ghost use Rattle.orc_index.specs.Places.{position_size};
 ghost use Rattle.orc_positions.specs.Tables.{IsTable, IsFew, RunsFail, TablePlace};
 
-use orc_columns::version::Version;
 use orc_index::RunBytes;
-use orc_rle::{RunFault, Sign, V1, V2};
+use orc_rle::{Rle, RunFault, Sign, V1, V2};
 use orc_seek::{RunPlaces, byte_places, run_places};
 use std::alloc::Global;
 
@@ -31,18 +30,19 @@ pub(crate) enum StreamTable {
 /// The places of a stream of integers, whatever the version.
 fn number_places(
     alloc: Global,
-    version: Version,
+    version: Rle,
     sign: Sign,
     bytes: &[u8],
 ) -> Result<RunPlaces, RunFault>
     ensures found { IfOk result (ArePlaces (is_run version sign) bytes.now) }
     ensures only { (values : List ℤ) → IsStream (is_run version sign) bytes.now values → length values < 2 ^ 64
         → IfErr result (λ fault. fault ≡ OutOfMemory) }
-    ensures fault { IfErr result (λ fault. (fault ≡ OutOfMemory) ⊎ StopsWithin (is_run version sign) (no_run version sign) most bytes.now fault) }
+    ensures fault { IfErr result (λ fault. (fault ≡ OutOfMemory)
+        ⊎ StopsWithin (is_run version sign) (no_run version sign) most bytes.now fault) }
 {
     match version {
-        Version::One => run_places::<V1>(alloc, bytes, sign),
-        Version::Two => run_places::<V2>(alloc, bytes, sign),
+        Rle::One => run_places::<V1>(alloc, bytes, sign),
+        Rle::Two => run_places::<V2>(alloc, bytes, sign),
     }
 }
 
@@ -67,7 +67,9 @@ pub(crate) fn table_of(alloc: Global, stream: &RunBytes<'_>) -> Result<StreamTab
 
 /// Whether these are an offset and how many values are passed from there, and name value `n`.
 fn run_right(places: &RunPlaces, positions: &[u64], n: u64) -> bool
-    ensures { MatchBool result (RunPlace (Names places.now) n positions.now) (RunPlace (Names places.now) n positions.now → ⊥) }
+    ensures { MatchBool result
+        (RunPlace (Names places.now) n positions.now)
+        (RunPlace (Names places.now) n positions.now → ⊥) }
 {
     match positions {
         [offset, skip] => places.begins(*offset, *skip, n),
@@ -77,7 +79,9 @@ fn run_right(places: &RunPlaces, positions: &[u64], n: u64) -> bool
 
 /// The same of boolean `n`: an offset, how many bytes are passed, and how many booleans of the next one.
 fn bits_right(places: &RunPlaces, positions: &[u64], n: u64) -> bool
-    ensures { MatchBool result (BitPlace (NamesBit places.now) n positions.now) (BitPlace (NamesBit places.now) n positions.now → ⊥) }
+    ensures { MatchBool result
+        (BitPlace (NamesBit places.now) n positions.now)
+        (BitPlace (NamesBit places.now) n positions.now → ⊥) }
 {
     match positions {
         [offset, skip, bits] => places.begins_bit(*offset, *skip, *bits, n),

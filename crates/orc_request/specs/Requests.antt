@@ -66,7 +66,8 @@ pub record HasMerge (found : Found) (output : List ℕ) (inputs : List (List ℕ
 -- the words that the parser found ask for this
 abbrev pub Asks : Found → Request → Type 0
 Asks found (Ints rle sign hex) = HasInts found rle sign hex.now
-Asks found (Rows file from) = (first_value found (codes "file") ≡ Some file.now) × (first_value found (codes "from") ≡ option_map (λ word. word.now) from)
+Asks found (Rows file from) = (first_value found (codes "file") ≡ Some file.now)
+    × (first_value found (codes "from") ≡ option_map (λ word. word.now) from)
 Asks found (Show file) = first_value found (codes "file") ≡ Some file.now
 Asks found (Check file) = first_value found (codes "file") ≡ Some file.now
 Asks found (Write schema options input output) = HasWrite found schema.now options input.now output.now
@@ -74,15 +75,22 @@ Asks found (Merge output inputs) = HasMerge found output.now (map (λ word. word
 
 -- the name is a command's, and the words behind it have all that it needs
 pub data IsUnderstood (name : List ℕ) (found : Found) : Type 0 where
-  ints : (rle : Rle) (sign : Sign) (hex : List ℕ) → name ≡ codes "ints" → HasInts found rle sign hex → IsUnderstood name found
-  rows : (file : List ℕ) → name ≡ codes "rows" → first_value found (codes "file") ≡ Some file → IsUnderstood name found
-  show : (file : List ℕ) → name ≡ codes "show" → first_value found (codes "file") ≡ Some file → IsUnderstood name found
-  check : (file : List ℕ) → name ≡ codes "check" → first_value found (codes "file") ≡ Some file → IsUnderstood name found
-  write : (schema : List ℕ) (options : Options) (input output : List ℕ) → name ≡ codes "write" → HasWrite found schema options input output
-      → IsUnderstood name found
-  merge : (output : List ℕ) → name ≡ codes "merge" → first_value found (codes "out") ≡ Some output → IsUnderstood name found
+  ints : (rle : Rle) (sign : Sign) (hex : List ℕ)
+      → name ≡ codes "ints" → HasInts found rle sign hex → IsUnderstood name found
+  rows : (file : List ℕ)
+      → name ≡ codes "rows" → first_value found (codes "file") ≡ Some file → IsUnderstood name found
+  show : (file : List ℕ)
+      → name ≡ codes "show" → first_value found (codes "file") ≡ Some file → IsUnderstood name found
+  check : (file : List ℕ)
+      → name ≡ codes "check" → first_value found (codes "file") ≡ Some file → IsUnderstood name found
+  write : (schema : List ℕ) (options : Options) (input output : List ℕ)
+      → name ≡ codes "write" → HasWrite found schema options input output → IsUnderstood name found
+  merge : (output : List ℕ)
+      → name ≡ codes "merge" → first_value found (codes "out") ≡ Some output → IsUnderstood name found
 
 -- no command is named, or one whose words aren't understood
 abbrev pub IsNotUnderstood : ArgMatches → Type 0
-IsNotUnderstood m = (subcommand_name_of m ≡ None) ⊎ ((name : List ℕ) × (found : Found) × (subcommand_name_of m ≡ Some name)
+IsNotUnderstood m =
+    (subcommand_name_of m ≡ None)
+    ⊎ ((name : List ℕ) × (found : Found) × (subcommand_name_of m ≡ Some name)
     × (option_map (λ p. p.1) (subcommand_rows_of m) ≡ Some (rows_of found)) × (IsUnderstood name found → ⊥))

@@ -5,7 +5,7 @@ use crate::request::{SIGNS, VERSIONS};
 use clap::builder::ValueParser;
 use clap::error::ErrorKind;
 use clap::{Arg, ArgAction, ArgMatches, Command, Error};
-use orc_file::FileFault;
+use orc_file::{FileFault, MOST_STRIPE_ROWS};
 use orc_output::CliFault;
 use std::alloc::Global;
 use std::convert::AsStr;
@@ -17,9 +17,6 @@ const VERSION: &str = "0.1.0";
 
 /// After how many rows a group of the row index may begin at most.
 const MOST_STRIDE: u64 = 4_294_967_295;
-
-/// After how many rows a stripe may end at most.
-const MOST_STRIPE_ROWS: u64 = 2_147_483_647;
 
 /// What the words of a command line ask for.
 pub enum Asked<'a> {
@@ -69,7 +66,7 @@ pub fn read_words<'a, R: AllocGlobal + Print + Eprint>(
     rt: &R,
     words: &'a [String],
 ) -> Result<Asked<'a>, Refusal> {
-    let error = match parsed(rt.alloc(), words) {
+    let error = match matches_of(rt.alloc(), words) {
         Ok(matches) => return Ok(Asked::Request(matches)),
         Err(error) => error,
     };
@@ -87,7 +84,7 @@ pub fn read_words<'a, R: AllocGlobal + Print + Eprint>(
 }
 
 /// What the parser finds in the words.
-pub fn parsed<'a, S: AsStr>(alloc: Global, words: &'a [S]) -> Result<ArgMatches<'a>, Error> {
+pub fn matches_of<'a, S: AsStr>(alloc: Global, words: &'a [S]) -> Result<ArgMatches<'a>, Error> {
     Command::new(alloc, "orcm")
         .bin_name("orcm")?
         .version(VERSION)

@@ -6,6 +6,6 @@ mod files;
 mod help;
 mod request;
 
-pub use command_line::{Asked, Refusal, parsed, read_words, words_of};
+pub use command_line::{Asked, Refusal, matches_of, read_words, words_of};
 pub use files::{new_file, source_of};
 pub use request::{Request, SIGNS, VERSIONS, request_of};

@@ -84,7 +84,8 @@ fn sign_of(word: &str) -> Option<Sign>
 fn ints_of<'m, 'a>(found: &'m ArgMatches<'a>) -> Option<Request<'m, 'a>>
     ensures name { IfSome result (λ request. command_word request ≡ codes "ints") }
     ensures found { IfSome result (Asks (found_of found.now)) }
-    ensures only { (rle : Rle) (sign : Sign) (hex : List ℕ) → HasInts (found_of found.now) rle sign hex → IsSome result }
+    ensures only { (rle : Rle) (sign : Sign) (hex : List ℕ)
+        → HasInts (found_of found.now) rle sign hex → IsSome result }
 {
     Some(Request::Ints {
         rle: version_of(found.get_str("rle")?)?,
@@ -125,13 +126,13 @@ fn check_of<'m, 'a>(found: &'m ArgMatches<'a>) -> Option<Request<'m, 'a>>
     Some(Request::Check { file })
 }
 
-/// What the words of `write` ask for. Nothing where a number isn't written in decimal digits alone, or isn't one that files are
-/// written with.
+/// What the words of `write` ask for. Nothing where a number isn't written in decimal digits alone, or isn't one that
+/// files are written with.
 fn write_of<'m, 'a>(found: &'m ArgMatches<'a>) -> Option<Request<'m, 'a>>
     ensures name { IfSome result (λ request. command_word request ≡ codes "write") }
     ensures found { IfSome result (Asks (found_of found.now)) }
-    ensures only { (schema : List ℕ) (options : Options) (input output : List ℕ) → HasWrite (found_of found.now) schema options input output
-        → IsSome result }
+    ensures only { (schema : List ℕ) (options : Options) (input output : List ℕ)
+        → HasWrite (found_of found.now) schema options input output → IsSome result }
 {
     let rle = version_of(found.get_str("rle")?)?;
     let stride = number_of(found.get_str("stride")?)?;

@@ -1,3 +1,4 @@
+//! Booleans, eight in a byte, and the bytes in runs of bytes: streams of them, positions, and their one text.
 ghost use Rattle.std.specs.Prelude.{◌≡◌, ℕ, List, [], ◌∷◌, ◌++◌, ◌+◌, ◌^◌, ◌<◌, ◌≤◌, length, drop, map, get_or, Bool, ◌⊎◌, Result, Ok, Err, IfOk, IfErr, OnOk, OnErr, MatchResult};
 ghost use Rattle.orc_bits.specs.Packed.{bits, digits, packed_len, AllFit, IsPackedText};
 ghost use Rattle.orc_rle.specs.declared.fault.RunFault.{RunFault};
@@ -28,8 +29,10 @@ impl BitRuns {
         ensures only { (values : List Bool) → IsBitStream bytes.now values → length values ≡ n
             → MatchResult result (λ decoded. decoded.items ≡ values) (λ fault. fault ≡ OutOfMemory) }
 
-        ensures fault { IfErr result (λ fault. (fault ≡ OutOfMemory) ⊎ StopsWithin IsByteRun NoByteRun (packed_len 1 n) bytes.now fault) }
-        ensures refused { (fault : RunFault) → StopsWithin IsByteRun NoByteRun (packed_len 1 n) bytes.now fault → Refuses result fault }
+        ensures fault { IfErr result (λ fault. (fault ≡ OutOfMemory)
+            ⊎ StopsWithin IsByteRun NoByteRun (packed_len 1 n) bytes.now fault) }
+        ensures refused { (fault : RunFault)
+            → StopsWithin IsByteRun NoByteRun (packed_len 1 n) bytes.now fault → Refuses result fault }
     {
         let packed = ByteRuns::decode(alloc, bytes, n.div_ceil(8))?;
         let mut values = Vec::from_elem(alloc, false, n)?;
@@ -55,7 +58,8 @@ impl BitRuns {
             → (result ≡ Ok at) × (run.new.values ≡ left) }
 
         ensures fault { IfErr result (BitSeekFails bytes.now pos.offset pos.skip pos.bits) }
-        ensures refused { (fault : RunFault) → BitSeekFails bytes.now pos.offset pos.skip pos.bits fault → result ≡ Err fault }
+        ensures refused { (fault : RunFault)
+            → BitSeekFails bytes.now pos.offset pos.skip pos.bits fault → result ≡ Err fault }
         ensures empty { OnErr result (run.new.values ≡ []) }
 
         ensures count { run.new.count ≤ run.old.count + bytes_needed pos.skip pos.bits }
@@ -131,7 +135,8 @@ fn pack_digits(alloc: Global, values: &[bool]) -> Result<Vec<u8>, RunFault>
 fn put_digit(out: &mut Vec<u8>, held: u8, count: u32, value: bool) -> Result<(u8, u32), RunFault>
     requires few { count < 8 }
     requires below { held < 2 ^ count }
-    ensures digits { IfOk result (λ left. digits 8 out.new.items ++ bits left.0 left.1 ≡ (digits 8 out.old.items ++ bits held count) ++ digit value ∷ []) }
+    ensures digits { IfOk result (λ left. digits 8 out.new.items ++ bits left.0 left.1
+        ≡ (digits 8 out.old.items ++ bits held count) ++ digit value ∷ []) }
     ensures bytes { AllFit 8 out.old.items → OnOk result (AllFit 8 out.new.items) }
     ensures few { IfOk result (λ left. left.1 < 8) }
     ensures below { IfOk result (λ left. left.0 < 2 ^ left.1) }
@@ -160,8 +165,10 @@ pub fn bit_round_trip(alloc: Global, values: &[bool]) -> Result<Vec<bool>, RunFa
 /// `decode` has a reason to refuse, the bytes are no stream of `n` booleans, and by `byte_stream_laws` it
 /// has no other reason; booleans have one text, and it is a stream of them.
 pub fn bit_stream_laws()
-    ensures one_list { (bytes : List ℕ) (v w : List Bool) → length v ≡ length w → IsBitStream bytes v → IsBitStream bytes w → v ≡ w }
-    ensures none_within { (n : ℕ) (bytes : List ℕ) (v : List Bool) (fault : RunFault) → StopsWithin IsByteRun NoByteRun (packed_len 1 n) bytes fault
+    ensures one_list { (bytes : List ℕ) (v w : List Bool)
+        → length v ≡ length w → IsBitStream bytes v → IsBitStream bytes w → v ≡ w }
+    ensures none_within { (n : ℕ) (bytes : List ℕ) (v : List Bool) (fault : RunFault)
+        → StopsWithin IsByteRun NoByteRun (packed_len 1 n) bytes fault
         → IsBitStream bytes v → length v ≡ n → ⊥ }
     ensures no_bytes { (v : List Bool) → IsBitStream [] v → v ≡ [] }
 

@@ -7,14 +7,14 @@ use Rattle.orc_types.specs.Shapes.{Shape}
 use Rattle.orc_types.specs.JsonPrinting.{members_json}
 use Rattle.serde_json.specs.Written.{comma_if}
 use Rattle.orc_types.specs.Cells.{Cell, null, cells_of}
-use Rattle.orc_types.specs.Views.{shape, named, fields_of, view, views}
+use Rattle.orc_types.specs.Views.{shape, name_and_type, fields_of, view, views}
 use Rattle.orc_types.specs.declared.kind.Scalar.{Scalar as Kind}
 use Rattle.orc_types.specs.declared.tree.Field.{Field}
 use Rattle.orc_types.specs.declared.tree.Tree.{Tree, Scalar as TreeScalar, List as TreeList, Struct as TreeStruct}
 use Rattle.orc_types.specs.declared.value.Value.{Value, List as Rows, Struct as Parts}
-use Rattle.orc_types.proofs.Views.{shape-Scalar, shape-List, shape-Struct, view-List, view-Struct, list_of-views, named-is}
-use Rattle.orc_row_text.specs.Layouts.{Part, text_by, part, parts, leaf_text, list_text, struct_text, elements_text, parts_text}
-use Rattle.orc_row_text.specs.Texts.{Prints, PrintsStruct, no_name, shape_in, json_in, members_at, AreInOrder}
+use Rattle.orc_types.proofs.Views.{shape-Scalar, shape-List, shape-Struct, view-List, view-Struct, list_of-views, name_and_type-is}
+use Rattle.orc_row_text.specs.Layouts.{Part, text_by, part, member_parts, leaf_text, list_text, struct_text, elements_text, parts_text}
+use Rattle.orc_row_text.specs.Texts.{Prints, PrintsStruct, no_name, shape_in, json_in, members_at, ArePlacesInOrder}
 use Rattle.orc_row_text.specs.declared.layout.Layout.{Layout, Leaf, List as ListOf, Struct}
 use Rattle.orc_row_text.specs.declared.layout.Layout.TheFolds.{the_lemmas}
 use Rattle.orc_row_text.specs.declared.layout.Member.{Member}
@@ -26,7 +26,7 @@ text_by-Leaf = search (rules, the_lemmas)
 pub text_by-List : (b : Box Layout Global) → text_by (ListOf b) ≡ list_text (text_by b.value)
 text_by-List b = search (rules, the_lemmas)
 
-pub text_by-Struct : (ms : Vec Member Global) → text_by (Struct ms) ≡ struct_text (parts ms.items)
+pub text_by-Struct : (ms : Vec Member Global) → text_by (Struct ms) ≡ struct_text (member_parts ms.items)
 text_by-Struct ms = search (rules, the_lemmas)
 
 pub part-is : (m : Member) → part m ≡ (record { key = m.key.items; place = m.place; text = text_by m.layout })
@@ -40,7 +40,7 @@ laid_leaf t k o is = rw (is, shape-Scalar k o, text_by-Leaf) (prints_leaf k o.it
 pub laid_list : (t : Tree) (e : Box Tree Global) (o : Vec ℕ Global) (b : Box Layout Global) → t ≡ TreeList e o → Prints (text_by b.value) (shape e.value) → Prints (text_by (ListOf b)) (shape t)
 laid_list t e o b is u = rw (is, shape-List e o, text_by-List b) (prints_list (text_by b.value) (shape e.value) o.items u)
 
-pub laid_struct : (t : Tree) (fs : Vec Field Global) (o : Vec ℕ Global) (ms : Vec Member Global) → t ≡ TreeStruct fs o → PrintsStruct (struct_text (parts ms.items)) (map named fs.items) → Prints (text_by (Struct ms)) (shape t)
+pub laid_struct : (t : Tree) (fs : Vec Field Global) (o : Vec ℕ Global) (ms : Vec Member Global) → t ≡ TreeStruct fs o → PrintsStruct (struct_text (member_parts ms.items)) (map name_and_type fs.items) → Prints (text_by (Struct ms)) (shape t)
 laid_struct t fs o ms is u = rw (is, shape-Struct fs o, text_by-Struct ms) (u o.items)
 
 -- ---- the text of a list's row, and of a struct's
@@ -50,17 +50,17 @@ pub printed_list : (l : Layout) (b : Box Layout Global) (r : Option Value) (v : 
 printed_list l b r v rows il is at = rw (il, is, at, text_by-List b, view-List rows) (ap (λ (cs : List Cell). 91 ∷ elements_text (text_by b.value) false cs) (list_of-views rows.items))
 
 pub printed_struct : (l : Layout) (ms : Vec Member Global) (r : Option Value) (v : Value) (rows : Vec (Option Value) Global) → l ≡ Struct ms → r ≡ Some v → v ≡ Parts rows
-    → text_by l (view r) ≡ 123 ∷ parts_text (parts ms.items) (views rows.items)
-printed_struct l ms r v rows il is at = rw (il, is, at, text_by-Struct ms, view-Struct rows) (ap (λ (cs : List Cell). 123 ∷ parts_text (parts ms.items) cs) (list_of-views rows.items))
+    → text_by l (view r) ≡ 123 ∷ parts_text (member_parts ms.items) (views rows.items)
+printed_struct l ms r v rows il is at = rw (il, is, at, text_by-Struct ms, view-Struct rows) (ap (λ (cs : List Cell). 123 ∷ parts_text (member_parts ms.items) cs) (list_of-views rows.items))
 
 pub printed_member : (m : Member) (cs : List Cell) (ps : List Part) → parts_text (part m ∷ ps) cs ≡ m.key.items ++ (text_by m.layout (get_or cs m.place null) ++ parts_text ps cs)
 printed_member m cs ps = rw (part-is m) refl
 
 -- ---- one more
 
-pub parts_more : (ms : List Member) (m : Member) → parts (ms ++ m ∷ []) ≡ parts ms ++ (record { key = m.key.items; place = m.place; text = text_by m.layout }) ∷ []
-parts_more [] m = ap (λ (p : Part). p ∷ []) (part-is m)
-parts_more (x ∷ ms) m = ap (λ (ps : List Part). part x ∷ ps) (parts_more ms m)
+pub member_parts_more : (ms : List Member) (m : Member) → member_parts (ms ++ m ∷ []) ≡ member_parts ms ++ (record { key = m.key.items; place = m.place; text = text_by m.layout }) ∷ []
+member_parts_more [] m = ap (λ (p : Part). p ∷ []) (part-is m)
+member_parts_more (x ∷ ms) m = ap (λ (ps : List Part). part x ∷ ps) (member_parts_more ms m)
 
 pub elements_next : (f : Cell → List ℕ) (later : Bool) (rs : List (Option Value)) (i : ℕ) (r : Option Value) (out mid new whole : List ℕ) → i < length rs → r ≡ get_or rs i r
     → mid ≡ out ++ comma_if later → new ≡ mid ++ f (view r) → out ++ elements_text f later (views (drop i rs)) ≡ whole → new ++ elements_text f true (views (drop (i + 1) rs)) ≡ whole
@@ -70,39 +70,39 @@ elements_next f later rs i r out mid new whole lt is m n done =
     rw (add-one, n, m) (append_assoc (out ++ comma_if later) (f (view r)) rest ∙ append_assoc out (comma_if later) (f (view r) ++ rest) ∙ sym here ∙ done)
 
 pub members_next_text : (ms : List Member) (i : ℕ) (m : Member) (cs : List Cell) (out new whole : List ℕ) → i < length ms → m ≡ get_or ms i m
-    → new ≡ out ++ (m.key.items ++ text_by m.layout (get_or cs m.place null)) → out ++ parts_text (parts (drop i ms)) cs ≡ whole → new ++ parts_text (parts (drop (i + 1) ms)) cs ≡ whole
+    → new ≡ out ++ (m.key.items ++ text_by m.layout (get_or cs m.place null)) → out ++ parts_text (member_parts (drop i ms)) cs ≡ whole → new ++ parts_text (member_parts (drop (i + 1) ms)) cs ≡ whole
 members_next_text ms i m cs out new whole lt is n done =
-    let rest = parts_text (parts (drop (suc i) ms)) cs in
+    let rest = parts_text (member_parts (drop (suc i) ms)) cs in
     let own = text_by m.layout (get_or cs m.place null) in
-    let here : out ++ parts_text (parts (drop i ms)) cs ≡ out ++ (m.key.items ++ (own ++ rest)) = rw (drop-cons ms i m, ← is) (ap (λ (t : List ℕ). out ++ t) (printed_member m cs (parts (drop (suc i) ms)))) in
+    let here : out ++ parts_text (member_parts (drop i ms)) cs ≡ out ++ (m.key.items ++ (own ++ rest)) = rw (drop-cons ms i m, ← is) (ap (λ (t : List ℕ). out ++ t) (printed_member m cs (member_parts (drop (suc i) ms)))) in
     rw (add-one, n) (append_assoc out (m.key.items ++ own) rest ∙ ap (λ (t : List ℕ). out ++ t) (append_assoc m.key.items own rest) ∙ sym here ∙ done)
 
 -- ---- the places of fields
 
-pub places_next : (fs : List Field) (cs : List Cell) (i : ℕ) (f : Field) (es new : List Entry) (k : String Global) → i < length fs → length cs ≡ length (map named fs) → f ≡ get_or fs i f
+pub places_next : (fs : List Field) (cs : List Cell) (i : ℕ) (f : Field) (es new : List Entry) (k : String Global) → i < length fs → length cs ≡ length (map name_and_type fs) → f ≡ get_or fs i f
     → string_bytes k ≡ string_bytes f.name → new ≡ insert_entry string_cmp es k i
-    → members_json (fields_of (drop (i + 1) (map named fs))) (cells_of (drop (i + 1) cs)) (members_at (json_in (map named fs) cs) new)
-    ≡ members_json (fields_of (drop i (map named fs))) (cells_of (drop i cs)) (members_at (json_in (map named fs) cs) es)
+    → members_json (fields_of (drop (i + 1) (map name_and_type fs))) (cells_of (drop (i + 1) cs)) (members_at (json_in (map name_and_type fs) cs) new)
+    ≡ members_json (fields_of (drop i (map name_and_type fs))) (cells_of (drop i cs)) (members_at (json_in (map name_and_type fs) cs) es)
 places_next fs cs i f es new k lt same is key e =
-    let all = map named fs in
+    let all = map name_and_type fs in
     let json = json_in all cs in
     let old = members_at json es in
-    let many : length all ≡ length fs = length-map fs named in
-    let here : get_or all i no_name ≡ (string_bytes f.name, shape f.tree) = get_or-map named fs i f no_name lt ∙ ap named (sym is) ∙ named-is f in
+    let many : length all ≡ length fs = length-map fs name_and_type in
+    let here : get_or all i no_name ≡ (string_bytes f.name, shape f.tree) = get_or-map name_and_type fs i f no_name lt ∙ ap name_and_type (sym is) ∙ name_and_type-is f in
     let name : (get_or all i no_name).0 ≡ string_bytes k = ap (λ (p : List ℕ × Shape). p.0) here ∙ sym key in
     rw (add-one, e, members_at-insert_entry json es k i)
     (ap (λ (n : List ℕ). members_json (fields_of (drop (suc i) all)) (cells_of (drop (suc i) cs)) (put n (json i) old)) (sym name) ∙ members_next all cs i old (omega (arith, lt, many)) same)
 
 pub places_last : (fs items : List Field) (i : ℕ) (es : List Entry) → items ≡ fs → length items ≤ i
-    → ((cs : List Cell) → length cs ≡ length (map named items) → members_json (fields_of (drop i (map named items))) (cells_of (drop i cs)) (members_at (json_in (map named items) cs) es)
-    ≡ members_json (fields_of (map named items)) (cells_of cs) no_members)
-    → AreInOrder (map named fs) es
+    → ((cs : List Cell) → length cs ≡ length (map name_and_type items) → members_json (fields_of (drop i (map name_and_type items))) (cells_of (drop i cs)) (members_at (json_in (map name_and_type items) cs) es)
+    ≡ members_json (fields_of (map name_and_type items)) (cells_of cs) no_members)
+    → ArePlacesInOrder (map name_and_type fs) es
 places_last fs items i es is le h =
-    let all = map named items in
-    let many : length all ≡ length items = length-map items named in
+    let all = map name_and_type items in
+    let many : length all ≡ length items = length-map items name_and_type in
     let none : drop i all ≡ [] = drop_all i all (omega (arith, le, many)) in
-    subst (λ (t : List Field). AreInOrder (map named t) es) is
+    subst (λ (t : List Field). ArePlacesInOrder (map name_and_type t) es) is
     (λ cs same. sym (ap (λ (t : List (List ℕ × Shape)). members_json (fields_of t) (cells_of (drop i cs)) (members_at (json_in all cs) es)) none) ∙ h cs same)
 
-pub shape_placed : (fs : List Field) (i : ℕ) (f : Field) → i < length fs → f ≡ get_or fs i f → shape f.tree ≡ shape_in (map named fs) i
-shape_placed fs i f lt is = sym (ap (λ (p : List ℕ × Shape). p.1) (get_or-map named fs i f no_name lt ∙ ap named (sym is) ∙ named-is f))
+pub shape_placed : (fs : List Field) (i : ℕ) (f : Field) → i < length fs → f ≡ get_or fs i f → shape f.tree ≡ shape_in (map name_and_type fs) i
+shape_placed fs i f lt is = sym (ap (λ (p : List ℕ × Shape). p.1) (get_or-map name_and_type fs i f no_name lt ∙ ap name_and_type (sym is) ∙ name_and_type-is f))

@@ -14,7 +14,7 @@ use Rattle.orc_types.specs.Views.{fields_of}
 use Rattle.orc_types.specs.declared.kind.Scalar.{Scalar}
 use Rattle.orc_types.proofs.Views.{cells_of-list_of_cells}
 use Rattle.orc_row_text.specs.Layouts.{Part, leaf_text, elements_text, parts_text, list_text, struct_text}
-use Rattle.orc_row_text.specs.Texts.{Prints, PrintsStruct, no_name, shape_in, cell_in, json_in, members_at, AreInOrder, AreWithin}
+use Rattle.orc_row_text.specs.Texts.{Prints, PrintsStruct, no_name, shape_in, cell_in, json_in, members_at, ArePlacesInOrder, AreWithin}
 
 pub prints_leaf : (k : Scalar) (o : List ℕ) → Prints leaf_text (scalar k o)
 prints_leaf k o = λ c h. refl
@@ -95,7 +95,7 @@ as_many end (f ∷ fs) h = cc
 as_many (more c cs) [] h = cc
 as_many (more c cs) (f ∷ fs) h = ap suc (as_many cs fs (and_parts (fits c f.1) (each_fits cs (fields_of fs)) h).1)
 
-pub prints_struct : (fs : List (List ℕ × Shape)) (ps : List Part) (es : List Entry) → Match fs ps false es → AreInOrder fs es → (o : List ℕ) → Prints (struct_text ps) (struct_of (fields_of fs) o)
+pub prints_struct : (fs : List (List ℕ × Shape)) (ps : List Part) (es : List Entry) → Match fs ps false es → ArePlacesInOrder fs es → (o : List ℕ) → Prints (struct_text ps) (struct_of (fields_of fs) o)
 prints_struct fs ps es m order o null h = refl
 prints_struct fs ps es m order o (leaf a) h = refl
 prints_struct fs ps es m order o (list cs) h = refl
@@ -110,11 +110,11 @@ prints_struct fs ps es m order o (struct cs) h =
 -- whatever prints the places that are left makes all of it print
 pub record Laying (n : ℕ) (fs : List (List ℕ × Shape)) (ms : List Part) (later : Bool) (left : List Entry) : Type 0 where
   pub places : List Entry
-  pub order : AreInOrder fs places
+  pub order : ArePlacesInOrder fs places
   pub rest : (ps : List Part) → Match fs ps later left → Match fs (ms ++ ps) false places
   pub within : AreWithin n left
 
-pub laying_first : (n : ℕ) (fs : List (List ℕ × Shape)) (es : List Entry) → AreInOrder fs es → AreWithin n es → Laying n fs [] false es
+pub laying_first : (n : ℕ) (fs : List (List ℕ × Shape)) (es : List Entry) → ArePlacesInOrder fs es → AreWithin n es → Laying n fs [] false es
 laying_first n fs es order within = record { places = es; order = order; rest = λ ps m. m; within = within }
 
 pub laying_next : (n : ℕ) (fs : List (List ℕ × Shape)) (ms : List Part) (p : Part) (later : Bool) (e : Entry) (left others : List Entry) → left ≡ e ∷ others

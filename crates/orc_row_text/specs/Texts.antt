@@ -39,8 +39,8 @@ members_at f [] = no_members
 members_at f (e ∷ es) = member (string_bytes e.0) (f e.1) (members_at f es)
 
 -- the places are those of the fields in the order that the JSON has them in
-abbrev pub AreInOrder : List (List ℕ × Shape) → List (String Global × ℕ) → Type 0
-AreInOrder fs es = (cs : List Cell) → length cs ≡ length fs
+abbrev pub ArePlacesInOrder : List (List ℕ × Shape) → List (String Global × ℕ) → Type 0
+ArePlacesInOrder fs es = (cs : List Cell) → length cs ≡ length fs
     → members_at (json_in fs cs) es ≡ members_json (fields_of fs) (cells_of cs) no_members
 
 abbrev pub AreWithin : ℕ → List (String Global × ℕ) → Type 0

@@ -4,7 +4,7 @@ ghost use Rattle.serde_json.specs.Written.{comma_if};
 ghost use Rattle.orc_types.specs.Cells.{null};
 ghost use Rattle.orc_types.specs.Views.{view, views};
 ghost use Rattle.orc_row_text.specs.Growth.{Grows};
-ghost use Rattle.orc_row_text.specs.Layouts.{text_by, parts, list_text, struct_text, elements_text, parts_text};
+ghost use Rattle.orc_row_text.specs.Layouts.{text_by, member_parts, list_text, struct_text, elements_text, parts_text};
 
 use crate::layout::{Layout, Member};
 use crate::leaf_text::push_leaf;
@@ -81,7 +81,7 @@ fn push_members(
     out: &mut Vec<u8>,
 ) -> Result<(), AllocError>
     ensures found { OnOk result (out.new.items
-        ≡ out.old.items ++ 123 ∷ parts_text (parts members.now.items) (views rows.now.items)) }
+        ≡ out.old.items ++ 123 ∷ parts_text (member_parts members.now.items) (views rows.now.items)) }
     ensures front { Grows out.old.items out.new.items }
 {
     out.push(b'{')?;

@@ -158,7 +158,7 @@ static NESTED: [Case; 14] = [
 ];
 
 /// What stands before, and the row behind it, straight.
-fn pushed(alloc: Global, schema: &Schema, row: &Row<'_>) -> Result<Vec<u8>, JsonFault>
+fn text_straight(alloc: Global, schema: &Schema, row: &Row<'_>) -> Result<Vec<u8>, JsonFault>
     requires { spec_fits (view row.now) schema.now ≡ true }
 {
     let mut out = BEFORE.as_bytes().to_vec(alloc)?;
@@ -167,7 +167,7 @@ fn pushed(alloc: Global, schema: &Schema, row: &Row<'_>) -> Result<Vec<u8>, Json
 }
 
 /// The same by way of a value.
-fn by_value(alloc: Global, schema: &Schema, row: &Row<'_>) -> Result<String, JsonFault>
+fn text_by_value(alloc: Global, schema: &Schema, row: &Row<'_>) -> Result<String, JsonFault>
     requires { spec_fits (view row.now) schema.now ≡ true }
 {
     let json = row_to_json(alloc, schema, row)?.to_string(alloc)?;
@@ -185,8 +185,8 @@ fn is_printed_as(
 {
     let wanted = format!(in alloc; "{BEFORE}{text}")?;
     Ok(
-        pushed(alloc, schema, row)?.as_slice() == wanted.as_bytes()
-            && by_value(alloc, schema, row)?.as_str() == wanted.as_str(),
+        text_straight(alloc, schema, row)?.as_slice() == wanted.as_bytes()
+            && text_by_value(alloc, schema, row)?.as_str() == wanted.as_str(),
     )
 }
 

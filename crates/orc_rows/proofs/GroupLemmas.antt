@@ -17,7 +17,7 @@ use Rattle.orc_stripe.specs.Opening.{OpenFault}
 use Rattle.orc_stripe.specs.GroupCursors.{HasGroup, HasEntries, StartsGroup, GroupFault}
 use Rattle.orc_stripe.proofs.OneStripe.{one_footer}
 use Rattle.orc_file.specs.Stripes.{stripe_at}
-use Rattle.orc_file.specs.FileRows.{stripe_bytes}
+use Rattle.orc_file.specs.FileRows.{stripe_bytes, opened_stripe}
 use Rattle.orc_file.specs.declared.fault.FileFault.{FileFault}
 use Rattle.orc_file.specs.declared.fault.FileFault.TheVariants as file
 use Rattle.orc_file.specs.declared.tail.Tail.{Tail}
@@ -26,7 +26,7 @@ use Rattle.orc_output.specs.declared.fault.CliFault.{CliFault}
 use Rattle.orc_output.specs.declared.fault.CliFault.TheVariants.{File}
 use Rattle.orc_output.proofs.OutputLemmas.{appends_more}
 use Rattle.orc_rows.specs.Rows.{row_lines, HaveJson, AreOfStripes, EndsIn}
-use Rattle.orc_rows.specs.FromGroup.{opened, AreFromGroup, AreLinesFrom, IsRefusedBehind, StopsAtGroup, AreFrom, EndsAtGroup, EndsFrom}
+use Rattle.orc_rows.specs.FromGroup.{AreFromGroup, AreLinesFrom, IsRefusedBehind, StopsAtGroup, AreFrom, EndsAtGroup, EndsFrom}
 use Rattle.orc_rows.proofs.RowsLemmas.{keeps_itself}
 
 -- the view is of the stripe with this number
@@ -40,13 +40,13 @@ fit_behind s (suc k) [] h = tt
 fit_behind s (suc k) (r ∷ rows) h = fit_behind s k rows h.1
 
 module _ (tail : Tail) (n : ℕ) (bytes : List ℕ) (group : ℕ) (view : Opened) (is : IsViewOf tail n bytes view) (has : HasFooter tail.schema (stripe_at tail.stripes n) bytes view.footer) where
-  view_is : view ≡ opened tail n bytes view.footer
+  view_is : view ≡ opened_stripe tail n bytes view.footer
   view_is = λ i. record { schema = is.0 i; info = is.1 i; stride = is.2 i; bytes = is.3 i; footer = view.footer }
 
-  starts_view : (footer : StripeFooter) (x : ℕ → Streams) (all : List Cell) → HasFooter tail.schema (stripe_at tail.stripes n) bytes footer → StartsGroup (opened tail n bytes footer) x all group → StartsGroup view x all group
+  starts_view : (footer : StripeFooter) (x : ℕ → Streams) (all : List Cell) → HasFooter tail.schema (stripe_at tail.stripes n) bytes footer → StartsGroup (opened_stripe tail n bytes footer) x all group → StartsGroup view x all group
   starts_view footer x all other starts =
       let same : footer ≡ view.footer = one_footer tail.schema (stripe_at tail.stripes n) bytes footer view.footer other has in
-      subst (λ (v : Opened). StartsGroup v x all group) (sym view_is) (subst (λ (f : StripeFooter). StartsGroup (opened tail n bytes f) x all group) same starts)
+      subst (λ (v : Opened). StartsGroup v x all group) (sym view_is) (subst (λ (f : StripeFooter). StartsGroup (opened_stripe tail n bytes f) x all group) same starts)
 
   pub from_view : (rows : List Cell) → HasGroup view group → HasEntries view group → RowsFit tail.schema rows → ((x : ℕ → Streams) (all : List Cell) → StartsGroup view x all group → rows ≡ drop (group * view.stride) all)
       → AreFromGroup tail n bytes group rows

@@ -13,7 +13,7 @@ use Rattle.orc_stripe.specs.Opened.{Opened}
 use Rattle.orc_stripe.specs.Opening.{OpenFault}
 use Rattle.orc_stripe.specs.GroupCursors.{HasGroup, HasEntries, StartsGroup, GroupFault}
 use Rattle.orc_file.specs.Stripes.{stripe_at}
-use Rattle.orc_file.specs.FileRows.{stripe_bytes}
+use Rattle.orc_file.specs.FileRows.{stripe_bytes, opened_stripe}
 use Rattle.orc_file.specs.declared.tail.Tail.{Tail}
 use Rattle.orc_file.specs.declared.fault.FileFault.TheVariants.{Stripe, BadStripe}
 use Rattle.orc_output.specs.Numbers.{IsNumber}
@@ -34,19 +34,17 @@ pub record IsStart (text : List ℕ) (stripe group : ℕ) : Type 0 where
 
 -- ---- the first stripe
 
--- the stripe of a file with this number, with these bytes and this footer
-abbrev pub opened : Tail → ℕ → List ℕ → StripeFooter → Opened
-opened tail n bytes footer = record { schema = tail.schema; info = stripe_at tail.stripes n; stride = tail.stride; bytes = bytes; footer = footer }
-
--- Rows that a stripe with these bytes is read as from a group on, which each column's index has an entry of. Where the stripe starts there in
--- some streams, as a reader enters it, they are these streams' rows from the group's first one on; elsewhere they are any rows of the schema.
+-- Rows that a stripe with these bytes is read as from a group on, which each column's index has an entry of. Where the
+-- stripe starts there in some streams, as a reader enters it, they are these streams' rows from the group's first one
+-- on; elsewhere they are any rows of the schema.
 pub record AreFromGroup (tail : Tail) (n : ℕ) (bytes : List ℕ) (group : ℕ) (rows : List Cell) : Type 0 where
   pub footer : StripeFooter
   pub has_footer : HasFooter tail.schema (stripe_at tail.stripes n) bytes footer
-  pub has_group : HasGroup (opened tail n bytes footer) group
-  pub has_entries : HasEntries (opened tail n bytes footer) group
+  pub has_group : HasGroup (opened_stripe tail n bytes footer) group
+  pub has_entries : HasEntries (opened_stripe tail n bytes footer) group
   pub fit : RowsFit tail.schema rows
-  pub rows_are : (x : ℕ → Streams) (all : List Cell) → StartsGroup (opened tail n bytes footer) x all group → rows ≡ drop (group * tail.stride) all
+  pub rows_are : (x : ℕ → Streams) (all : List Cell) → StartsGroup (opened_stripe tail n bytes footer) x all group
+      → rows ≡ drop (group * tail.stride) all
 
 -- the lines of such rows, which have JSON
 pub record AreLinesFrom (tail : Tail) (n : ℕ) (bytes : List ℕ) (group : ℕ) (lines : List ℕ) : Type 0 where
@@ -61,24 +59,29 @@ pub record IsRefusedBehind (view : Opened) (group : ℕ) (why : StripeFault) : T
   pub has_entries : HasEntries view group
   pub first : why ≢ stripe.Failed
 
--- Why a stripe isn't read from a group on: it doesn't start there, and it isn't opened, or there is no cursor at the group, or there is one, and
--- behind the group's positions stand no rows of the schema.
+-- Why a stripe isn't read from a group on: it doesn't start there, and it isn't opened, or there is no cursor at the
+-- group, or there is one, and behind the group's positions stand no rows of the schema.
 pub record StopsAtGroup (tail : Tail) (n : ℕ) (bytes : List ℕ) (group : ℕ) (why : StripeFault) : Type 0 where
-  pub none : (footer : StripeFooter) (x : ℕ → Streams) (all : List Cell) → HasFooter tail.schema (stripe_at tail.stripes n) bytes footer
-      → StartsGroup (opened tail n bytes footer) x all group → ⊥
+  pub none : (footer : StripeFooter) (x : ℕ → Streams) (all : List Cell)
+      → HasFooter tail.schema (stripe_at tail.stripes n) bytes footer
+      → StartsGroup (opened_stripe tail n bytes footer) x all group → ⊥
   pub reason : OpenFault tail.schema (stripe_at tail.stripes n) bytes why
       ⊎ ((footer : StripeFooter) × HasFooter tail.schema (stripe_at tail.stripes n) bytes footer
-      × (GroupFault (opened tail n bytes footer) group why ⊎ IsRefusedBehind (opened tail n bytes footer) group why))
+      × (GroupFault (opened_stripe tail n bytes footer) group why
+      ⊎ IsRefusedBehind (opened_stripe tail n bytes footer) group why))
 
 -- that, as a fault of the stripe with this number
 abbrev pub GroupStops : Tail → ℕ → List ℕ → ℕ → CliFault → Type 0
-GroupStops tail n bytes group fault = (why : StripeFault) × (fault ≡ File (Stripe n why)) × ((why ≡ stripe.OutOfMemory) → ⊥) × StopsAtGroup tail n bytes group why
+GroupStops tail n bytes group fault =
+    (why : StripeFault) × (fault ≡ File (Stripe n why)) × ((why ≡ stripe.OutOfMemory) → ⊥)
+    × StopsAtGroup tail n bytes group why
 
 -- why nothing is out: the stripe isn't read from the group on, or its rows there have no JSON
 abbrev pub NoLinesFrom : Tail → ℕ → List ℕ → ℕ → CliFault → Type 0
 NoLinesFrom tail n bytes group fault =
     GroupStops tail n bytes group fault
-    ⊎ ((fault ≡ Json json.DuplicateField) × (is_distinct tail.schema ≡ false) × (rows : List Cell) × AreFromGroup tail n bytes group rows × ((rows ≡ []) → ⊥))
+    ⊎ ((fault ≡ Json json.DuplicateField) × (is_distinct tail.schema ≡ false)
+    × (rows : List Cell) × AreFromGroup tail n bytes group rows × ((rows ≡ []) → ⊥))
 
 -- ---- the file
 
@@ -100,11 +103,13 @@ pub record ArePartlyOut (tail : Tail) (n : ℕ) (bytes : List ℕ) (group : ℕ)
 -- why the stripe's lines from the group on aren't out: none of them, or a part where the output failed
 abbrev pub EndsAtGroup : List ℕ → Tail → ℕ → ℕ → Option (List ℕ) → Option (List ℕ) → CliFault → Type 0
 EndsAtGroup bytes tail n group old new fault =
-    ((NoLinesFrom tail n (stripe_bytes (stripe_at tail.stripes n) bytes) group fault ⊎ IsOfSource fault) × Keeps old new)
+    ((NoLinesFrom tail n (stripe_bytes (stripe_at tail.stripes n) bytes) group fault ⊎ IsOfSource fault)
+    × Keeps old new)
     ⊎ ((fault ≡ write_failed) × ArePartlyOut tail n (stripe_bytes (stripe_at tail.stripes n) bytes) group old new)
 
 -- the stripe's lines from the group on are out, and behind them printing ends as it does from the next stripe on
-pub record EndsBehind (bytes : List ℕ) (tail : Tail) (n group : ℕ) (old new : Option (List ℕ)) (fault : CliFault) : Type 0 where
+pub record EndsBehind (bytes : List ℕ) (tail : Tail) (n group : ℕ)
+    (old new : Option (List ℕ)) (fault : CliFault) : Type 0 where
   pub own : List ℕ
   pub of_group : AreLinesFrom tail n (stripe_bytes (stripe_at tail.stripes n) bytes) group own
   pub middle : Option (List ℕ)
@@ -115,4 +120,5 @@ pub record EndsBehind (bytes : List ℕ) (tail : Tail) (n group : ℕ) (old new 
 abbrev pub EndsFrom : List ℕ → Tail → ℕ → ℕ → Option (List ℕ) → Option (List ℕ) → CliFault → Type 0
 EndsFrom bytes tail n group old new fault =
     ((length tail.stripes ≤ n) × (fault ≡ File (BadStripe n)) × Keeps old new)
-    ⊎ ((n < length tail.stripes) × (EndsAtGroup bytes tail n group old new fault ⊎ EndsBehind bytes tail n group old new fault))
+    ⊎ ((n < length tail.stripes)
+    × (EndsAtGroup bytes tail n group old new fault ⊎ EndsBehind bytes tail n group old new fault))

@@ -30,7 +30,8 @@ AreLines bytes tail (Some start) lines = AreFrom bytes tail start.stripe start.g
 
 -- the bytes have a tail, and these lines are out
 abbrev pub ArePrinted : List ℕ → Option Start → Option (List ℕ) → Option (List ℕ) → Type 0
-ArePrinted bytes start old new = (tail : Tail) × (lines : List ℕ) × IsTail bytes tail × AreLines bytes tail start lines × Appends old new lines
+ArePrinted bytes start old new =
+    (tail : Tail) × (lines : List ℕ) × IsTail bytes tail × AreLines bytes tail start lines × Appends old new lines
 
 -- why printing ends in a file with this tail
 abbrev pub Ends : List ℕ → Tail → Option Start → Option (List ℕ) → Option (List ℕ) → CliFault → Type 0
@@ -43,8 +44,12 @@ Stops bytes tail start old new fault = (IsWantOfMemory fault × Keeps old new) �
 
 -- why a file is refused, and what is out then: nothing where it isn't opened
 abbrev pub RefusesFile : List ℕ → Option Start → Option (List ℕ) → Option (List ℕ) → CliFault → Type 0
-RefusesFile bytes start old new fault = (IsNotOpened bytes fault × Keeps old new) ⊎ ((tail : Tail) × IsTail bytes tail × Ends bytes tail start old new fault)
+RefusesFile bytes start old new fault =
+    (IsNotOpened bytes fault × Keeps old new)
+    ⊎ ((tail : Tail) × IsTail bytes tail × Ends bytes tail start old new fault)
 
 -- the text names no place, with nothing out, or the file is refused
 abbrev pub Refuses : List ℕ → Option (Bor (List ℕ)) → Option (List ℕ) → Option (List ℕ) → CliFault → Type 0
-Refuses bytes from old new fault = (IsNotAsked from fault × Keeps old new) ⊎ ((start : Option Start) × IsAsked from start × RefusesFile bytes start old new fault)
+Refuses bytes from old new fault =
+    (IsNotAsked from fault × Keeps old new)
+    ⊎ ((start : Option Start) × IsAsked from start × RefusesFile bytes start old new fault)

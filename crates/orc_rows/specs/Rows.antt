@@ -75,9 +75,10 @@ EndsAt s bytes n info before old new fault =
     ⊎ ((fault ≡ write_failed) × ((own : List ℕ) × AreOfStripe s info (stripe_bytes info bytes) own
     × ((count : ℕ) × (count < length own) × Appends old new (before ++ take count own))))
 
--- Why printing ends in a file with this tail, which began with the stripe of this number: the lines of some stripes from there on are
--- out, all of them, and of the next one there is a reason why its lines aren't.
-pub record EndsIn (bytes : List ℕ) (tail : Tail) (first : ℕ) (old new : Option (List ℕ)) (fault : CliFault) : Type 0 where
+-- Why printing ends in a file with this tail, which began with the stripe of this number: the lines of some stripes
+-- from there on are out, all of them, and of the next one there is a reason why its lines aren't.
+pub record EndsIn (bytes : List ℕ) (tail : Tail) (first : ℕ)
+    (old new : Option (List ℕ)) (fault : CliFault) : Type 0 where
   pub n : ℕ
   pub begun : first ≤ n
   pub some : n < length tail.stripes

@@ -38,7 +38,8 @@ fn all_fit(schema: &Schema, rows: &[Row<'_>]) -> bool
 
 /// The fault of the stripe with this number.
 fn fault_of(number: usize, why: StripeFault) -> FileFault
-    ensures { ((why ≡ stripe.OutOfMemory) × (result ≡ OutOfMemory)) ⊎ ((why ≢ stripe.OutOfMemory) × (result ≡ Stripe number why)) }
+    ensures { ((why ≡ stripe.OutOfMemory) × (result ≡ OutOfMemory))
+        ⊎ ((why ≢ stripe.OutOfMemory) × (result ≡ Stripe number why)) }
 {
     match why {
         StripeFault::OutOfMemory => FileFault::OutOfMemory,
@@ -48,8 +49,8 @@ fn fault_of(number: usize, why: StripeFault) -> FileFault
 
 /// The rows of the stripe with this number from a group on, over its bytes.
 ///
-/// Refusals: `Stripe` with the number, and the fault of the view, of `cursor_at` or of the cursor; where what is read is no row of the
-/// schema, as no right positions give it, that is `BadPosition` of the stripe; `OutOfMemory`.
+/// Refusals: `Stripe` with the number, and the fault of the view, of `cursor_at` or of the cursor; where what is read
+/// is no row of the schema, as no right positions give it, that is `BadPosition` of the stripe; `OutOfMemory`.
 fn rows_from<'a>(
     alloc: Global,
     tail: &'a Tail,
@@ -60,7 +61,8 @@ fn rows_from<'a>(
     requires { number < length tail.now.stripes }
     ensures found { IfOk result (λ rows. AreFromGroup tail.now number bytes.now group (views rows.items)) }
     ensures fault { IfErr result (λ fault. (fault ≡ OutOfMemory)
-        ⊎ ((why : Why) × (fault ≡ Stripe number why) × (why ≢ stripe.OutOfMemory) × StopsAtGroup tail.now number bytes.now group why)) }
+        ⊎ ((why : Why) × (fault ≡ Stripe number why) × (why ≢ stripe.OutOfMemory)
+        × StopsAtGroup tail.now number bytes.now group why)) }
 {
     let view = view_stripe(alloc, tail, number, bytes)?;
     let cursor = match view.cursor_at(alloc, u64::from(group)) {
@@ -89,14 +91,16 @@ pub(crate) fn print_group<S: Source, W: Write>(
     ensures cap { file.new.cap ≡ file.old.cap }
     ensures told { S.told file.new.source ≡ S.told file.old.source }
     ensures written { OnOk result (IfSome (S.told file.old.source) (λ all. (own : List ℕ)
-        × AreLinesFrom file.old.tail start.stripe (stripe_bytes (stripe_at file.old.tail.stripes start.stripe) all) start.group own
+        × AreLinesFrom file.old.tail start.stripe
+        (stripe_bytes (stripe_at file.old.tail.stripes start.stripe) all) start.group own
         × Appends (W.contents out.old) (W.contents out.new) own)) }
     ensures kept { OnOk result (S.failures file.new.source ≡ S.failures file.old.source) }
 
     ensures refused { IfErr result (λ fault. IfSome (S.told file.old.source) (λ all.
         EndsAtGroup all file.old.tail start.stripe start.group (W.contents out.old) (W.contents out.new) fault)) }
     ensures failed { result ≡ Err (File SourceFailed) → S.failures file.old.source < S.failures file.new.source }
-    ensures memory { IfErr result (λ fault. IsWantOfMemory fault → S.failures file.new.source ≡ S.failures file.old.source) }
+    ensures memory { IfErr result (λ fault. IsWantOfMemory fault
+        → S.failures file.new.source ≡ S.failures file.old.source) }
 {
     let number = start.stripe as usize;
     let mut bytes = Vec::new(alloc);

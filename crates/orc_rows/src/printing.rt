@@ -24,8 +24,8 @@ use std::io::Write;
 
 /// Where reading starts, if a text says so.
 ///
-/// Refusal: `Json` with `Syntax` where the text isn't two numbers with a colon between them, of decimal digits alone, each at most
-/// 4,294,967,295.
+/// Refusal: `Json` with `Syntax` where the text isn't two numbers with a colon between them, of decimal digits alone,
+/// each at most 4,294,967,295.
 fn asked_of(from: Option<&str>) -> Result<Option<Start>, CliFault>
     ensures { MatchResult result (IsAsked from.entry) (IsNotAsked from.entry) }
 {
@@ -49,14 +49,16 @@ fn print_from<S: Source, W: Write>(
     requires of_schema { printer.now ≡ file.old.tail.schema }
     requires uncapped { file.old.cap ≡ no_cap }
     ensures told { S.told file.new.source ≡ S.told file.old.source }
-    ensures written { OnOk result (IfSome (S.told file.old.source) (λ all. (lines : List ℕ) × AreFrom all file.old.tail start.stripe start.group lines
+    ensures written { OnOk result (IfSome (S.told file.old.source) (λ all. (lines : List ℕ)
+        × AreFrom all file.old.tail start.stripe start.group lines
         × Appends (W.contents out.old) (W.contents out.new) lines)) }
     ensures kept { OnOk result (S.failures file.new.source ≡ S.failures file.old.source) }
 
     ensures refused { IfErr result (λ fault. IfSome (S.told file.old.source) (λ all.
         EndsFrom all file.old.tail start.stripe start.group (W.contents out.old) (W.contents out.new) fault)) }
     ensures failed { result ≡ Err (File SourceFailed) → S.failures file.old.source < S.failures file.new.source }
-    ensures memory { IfErr result (λ fault. IsWantOfMemory fault → S.failures file.new.source ≡ S.failures file.old.source) }
+    ensures memory { IfErr result (λ fault. IsWantOfMemory fault
+        → S.failures file.new.source ≡ S.failures file.old.source) }
 {
     let number = start.stripe as usize;
     if number >= file.tail().stripes.as_slice().len() {
@@ -77,14 +79,16 @@ fn print_lines<S: Source, W: Write>(
     requires of_schema { printer.now ≡ file.old.tail.schema }
     requires uncapped { file.old.cap ≡ no_cap }
     ensures told { S.told file.new.source ≡ S.told file.old.source }
-    ensures written { OnOk result (IfSome (S.told file.old.source) (λ all. (lines : List ℕ) × AreLines all file.old.tail start lines
+    ensures written { OnOk result (IfSome (S.told file.old.source) (λ all. (lines : List ℕ)
+        × AreLines all file.old.tail start lines
         × Appends (W.contents out.old) (W.contents out.new) lines)) }
     ensures kept { OnOk result (S.failures file.new.source ≡ S.failures file.old.source) }
 
     ensures refused { IfErr result (λ fault. IfSome (S.told file.old.source) (λ all.
         Ends all file.old.tail start (W.contents out.old) (W.contents out.new) fault)) }
     ensures failed { result ≡ Err (File SourceFailed) → S.failures file.old.source < S.failures file.new.source }
-    ensures memory { IfErr result (λ fault. IsWantOfMemory fault → S.failures file.new.source ≡ S.failures file.old.source) }
+    ensures memory { IfErr result (λ fault. IsWantOfMemory fault
+        → S.failures file.new.source ≡ S.failures file.old.source) }
 {
     match start {
         None => print_rows(alloc, file, printer, 0, out),
@@ -101,14 +105,16 @@ fn print_opened<S: Source, W: Write>(
 ) -> Result<(), CliFault>
     requires { file.old.cap ≡ no_cap }
     ensures told { S.told file.new.source ≡ S.told file.old.source }
-    ensures written { OnOk result (IfSome (S.told file.old.source) (λ all. (lines : List ℕ) × AreLines all file.old.tail start lines
+    ensures written { OnOk result (IfSome (S.told file.old.source) (λ all. (lines : List ℕ)
+        × AreLines all file.old.tail start lines
         × Appends (W.contents out.old) (W.contents out.new) lines)) }
     ensures kept { OnOk result (S.failures file.new.source ≡ S.failures file.old.source) }
 
     ensures refused { IfErr result (λ fault. IfSome (S.told file.old.source) (λ all.
         Stops all file.old.tail start (W.contents out.old) (W.contents out.new) fault)) }
     ensures failed { result ≡ Err (File SourceFailed) → S.failures file.old.source < S.failures file.new.source }
-    ensures memory { IfErr result (λ fault. IsWantOfMemory fault → S.failures file.new.source ≡ S.failures file.old.source) }
+    ensures memory { IfErr result (λ fault. IsWantOfMemory fault
+        → S.failures file.new.source ≡ S.failures file.old.source) }
 {
     let printer = RowPrinter::new(alloc, file.schema())?;
     print_lines(alloc, file, &printer, start, out)
@@ -121,11 +127,13 @@ fn print_file<S: Source, W: Write>(
     start: Option<Start>,
     out: &mut W,
 ) -> Result<S, (CliFault, S)>
-    ensures written { OnOk result (IfSome (S.told source) (λ bytes. ArePrinted bytes start (W.contents out.old) (W.contents out.new))) }
+    ensures written { OnOk result (IfSome (S.told source)
+        (λ bytes. ArePrinted bytes start (W.contents out.old) (W.contents out.new))) }
     ensures same { IfOk result (λ back. S.told back ≡ S.told source) }
     ensures kept { IfOk result (λ back. S.failures back ≡ S.failures source) }
 
-    ensures refused { IfErr result (λ e. IfSome (S.told source) (λ bytes. RefusesFile bytes start (W.contents out.old) (W.contents out.new) e.0)) }
+    ensures refused { IfErr result (λ e. IfSome (S.told source)
+        (λ bytes. RefusesFile bytes start (W.contents out.old) (W.contents out.new) e.0)) }
     ensures failed { IfErr result (λ e. e.0 ≡ File SourceFailed → S.failures source < S.failures e.1) }
     ensures memory { IfErr result (λ e. IsWantOfMemory e.0 → S.failures e.1 ≡ S.failures source) }
     ensures back { IfErr result (λ e. S.told e.1 ≡ S.told source) }
@@ -143,17 +151,18 @@ fn print_file<S: Source, W: Write>(
     }
 }
 
-/// Prints a line for each row of a file, in order: the row's JSON without blanks. A text such as `2:0` names a stripe and a group of
-/// it, from which on rows are printed: those of that stripe from the group's first row on, and those of all stripes behind it. What
-/// stands in the stripes before has no part in the answer. A stripe's lines are written once all of them are there, so after a
-/// refusal in a stripe the lines of those before it stand, and no others. The bytes of one stripe and its lines are held at a time.
-/// The source is handed back.
+/// Prints a line for each row of a file, in order: the row's JSON without blanks. A text such as `2:0` names a stripe
+/// and a group of it, from which on rows are printed: those of that stripe from the group's first row on, and those of
+/// all stripes behind it. What stands in the stripes before has no part in the answer. A stripe's lines are written
+/// once all of them are there, so after a refusal in a stripe the lines of those before it stand, and no others. The
+/// bytes of one stripe and its lines are held at a time. The source is handed back.
 ///
-/// Refusals, in this order: `Json` with `Syntax` where the text names no place, before the source is read; `File` where the bytes are
-/// no file; `File` with `BadStripe` where the stripe isn't there; then, stripe by stripe, `File` with `Stripe` where the stripe has no
-/// rows, or no such group, or isn't read from its positions on, and `Json` with `DuplicateField` where it has rows and a struct
-/// of the schema names a field twice. Beside these `File` with `WriteFailed` and a part of a stripe's lines written, `SourceFailed`
-/// where the source failed, or `OutOfMemory`, which a layer below may answer too.
+/// Refusals, in this order: `Json` with `Syntax` where the text names no place, before the source is read; `File`
+/// where the bytes are no file; `File` with `BadStripe` where the stripe isn't there; then, stripe by stripe, `File`
+/// with `Stripe` where the stripe has no rows, or no such group, or isn't read from its positions on, and `Json` with
+/// `DuplicateField` where it has rows and a struct of the schema names a field twice. Beside these `File` with
+/// `WriteFailed` and a part of a stripe's lines written, `SourceFailed` where the source failed, or `OutOfMemory`,
+/// which a layer below may answer too.
 pub fn rows_to<S: Source, W: Write>(
     alloc: Global,
     source: S,
@@ -162,14 +171,18 @@ pub fn rows_to<S: Source, W: Write>(
 ) -> Result<S, (CliFault, S)>
     ensures written { OnOk result (IfSome (S.told source) (λ bytes. (start : Option Start) × IsAsked from.entry start
         × ArePrinted bytes start (W.contents out.old) (W.contents out.new))) }
-    ensures only { from.entry ≡ None → IfSome (S.told source) (λ bytes. (tail : Tail) (rows : List Cell) → FileIs bytes tail rows → HaveJson tail.schema rows
+    ensures only { from.entry ≡ None → IfSome (S.told source) (λ bytes. (tail : Tail) (rows : List Cell)
+        → FileIs bytes tail rows → HaveJson tail.schema rows
         → IfErr result (λ e. IsOutsideFile e.0)) }
     ensures same { IfOk result (λ back. S.told back ≡ S.told source) }
     ensures kept { IfOk result (λ back. S.failures back ≡ S.failures source) }
 
-    ensures refused { IfErr result (λ e. IfSome (S.told source) (λ bytes. Refuses bytes from.entry (W.contents out.old) (W.contents out.new) e.0)) }
+    ensures refused { IfErr result (λ e. IfSome (S.told source)
+        (λ bytes. Refuses bytes from.entry (W.contents out.old) (W.contents out.new) e.0)) }
     ensures unread { ((start : Option Start) → IsAsked from.entry start → ⊥)
-        → MatchResult result (λ _. ⊥) (λ e. IsNotAsked from.entry e.0 × (S.failures e.1 ≡ S.failures source) × Keeps (W.contents out.old) (W.contents out.new)) }
+        → MatchResult result (λ _. ⊥) (λ e. IsNotAsked from.entry e.0
+        × (S.failures e.1 ≡ S.failures source)
+        × Keeps (W.contents out.old) (W.contents out.new)) }
     ensures failed { IfErr result (λ e. e.0 ≡ File SourceFailed → S.failures source < S.failures e.1) }
     ensures memory { IfErr result (λ e. IsWantOfMemory e.0 → S.failures e.1 ≡ S.failures source) }
     ensures back { IfErr result (λ e. S.told e.1 ≡ S.told source) }

@@ -30,11 +30,13 @@ fn stripe_lines<S: Source>(
 ) -> Result<Vec<u8>, CliFault>
     requires there { number < length file.now.tail.stripes }
     requires of_schema { printer.now ≡ file.now.tail.schema }
-    ensures found { IfOk result (λ lines. AreOfStripe file.now.tail.schema (stripe_at file.now.tail.stripes number) bytes.now lines.items) }
+    ensures found { IfOk result
+        (λ lines. AreOfStripe file.now.tail.schema (stripe_at file.now.tail.stripes number) bytes.now lines.items) }
     ensures fault { IfErr result (λ fault. IsWantOfMemory fault
         ⊎ (((why : StripeFault) × (fault ≡ File (Stripe number why)) × (why ≢ stripe.OutOfMemory)
         × IsNoStripe file.now.tail.schema (stripe_at file.now.tail.stripes number) bytes.now why)
-        ⊎ ((fault ≡ Json json.DuplicateField) × HasNoJson file.now.tail.schema (stripe_at file.now.tail.stripes number) bytes.now))) }
+        ⊎ ((fault ≡ Json json.DuplicateField)
+        × HasNoJson file.now.tail.schema (stripe_at file.now.tail.stripes number) bytes.now))) }
 {
     if let Some(lines) = lines_row_by_row(alloc, printer, file.tail(), number, bytes) {
         return Ok(lines);
@@ -59,14 +61,17 @@ fn print_stripe<S: Source, W: Write>(
     ensures cap { file.new.cap ≡ file.old.cap }
     ensures told { S.told file.new.source ≡ S.told file.old.source }
     ensures written { OnOk result (IfSome (S.told file.old.source) (λ all. (own : List ℕ)
-        × AreOfStripe file.old.tail.schema (stripe_at file.old.tail.stripes number) (stripe_bytes (stripe_at file.old.tail.stripes number) all) own
+        × AreOfStripe file.old.tail.schema (stripe_at file.old.tail.stripes number)
+        (stripe_bytes (stripe_at file.old.tail.stripes number) all) own
         × Appends (W.contents out.old) (W.contents out.new) own)) }
     ensures kept { OnOk result (S.failures file.new.source ≡ S.failures file.old.source) }
 
     ensures refused { IfErr result (λ fault. IfSome (S.told file.old.source) (λ all.
-        EndsAt file.old.tail.schema all number (stripe_at file.old.tail.stripes number) [] (W.contents out.old) (W.contents out.new) fault)) }
+        EndsAt file.old.tail.schema all number (stripe_at file.old.tail.stripes number) []
+        (W.contents out.old) (W.contents out.new) fault)) }
     ensures failed { result ≡ Err (File SourceFailed) → S.failures file.old.source < S.failures file.new.source }
-    ensures memory { IfErr result (λ fault. IsWantOfMemory fault → S.failures file.new.source ≡ S.failures file.old.source) }
+    ensures memory { IfErr result (λ fault. IsWantOfMemory fault
+        → S.failures file.new.source ≡ S.failures file.old.source) }
 {
     file.load(number, bytes)?;
     let lines = stripe_lines(alloc, file, printer, number, bytes)?;
@@ -93,7 +98,8 @@ pub(crate) fn print_rows<S: Source, W: Write>(
     ensures refused { IfErr result (λ fault. IfSome (S.told file.old.source) (λ all.
         EndsIn all file.old.tail first (W.contents out.old) (W.contents out.new) fault)) }
     ensures failed { result ≡ Err (File SourceFailed) → S.failures file.old.source < S.failures file.new.source }
-    ensures memory { IfErr result (λ fault. IsWantOfMemory fault → S.failures file.new.source ≡ S.failures file.old.source) }
+    ensures memory { IfErr result (λ fault. IsWantOfMemory fault
+        → S.failures file.new.source ≡ S.failures file.old.source) }
 {
     let mut bytes = Vec::new(alloc);
     for number in first..file.tail().stripes.as_slice().len() {

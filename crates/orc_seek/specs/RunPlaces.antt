@@ -31,7 +31,10 @@ pub record ArePlaces {A : Type 0} (is_run : List ℕ → List A → Type 0) (byt
 
 -- the offset is one of the places, and the values before it and those that are passed from there make n
 abbrev pub Names : Places → ℕ → ℕ → ℕ → Type 0
-Names places offset skip n = (i : ℕ) × (i < length places.offsets) × (get_or places.offsets i 0 ≡ offset) × (get_or places.counts i 0 + skip ≡ n)
+Names places offset skip n =
+    (i : ℕ) × (i < length places.offsets)
+    × (get_or places.offsets i 0 ≡ offset)
+    × (get_or places.counts i 0 + skip ≡ n)
 
 -- the same of booleans: eight for each byte, and 0 to 8 more
 abbrev pub NamesBit : Places → ℕ → ℕ → ℕ → ℕ → Type 0

@@ -44,7 +44,8 @@ pub fn run_places<C: RunCodec>(
     ensures only { (values : List ℤ) → IsStream (C.is_run sign) bytes.now values → length values < 2 ^ 64
         → IfErr result (λ fault. fault ≡ OutOfMemory) }
 
-    ensures fault { IfErr result (λ fault. (fault ≡ OutOfMemory) ⊎ StopsWithin (C.is_run sign) (C.fails sign) (2 ^ 64 - 1) bytes.now fault) }
+    ensures fault { IfErr result (λ fault. (fault ≡ OutOfMemory)
+        ⊎ StopsWithin (C.is_run sign) (C.fails sign) (2 ^ 64 - 1) bytes.now fault) }
 {
     let mut offsets = Vec::new(alloc);
     let mut counts = Vec::new(alloc);
@@ -57,7 +58,7 @@ pub fn run_places<C: RunCodec>(
         let (_, rest) = bytes.split_at(at);
         let len = match C::next_run(rest, sign, &mut run) {
             Ok(len) => len,
-            Err(fault) => return Err(fault.at(at)),
+            Err(fault) => return Err(fault.with_place(at)),
         };
         let found = run.values().len() as u64;
         if u64::MAX - before < found {
@@ -77,7 +78,8 @@ pub fn byte_places(alloc: Global, bytes: &[u8]) -> Result<RunPlaces, RunFault>
     ensures only { (values : List ℕ) → IsStream IsByteRun bytes.now values → length values < 2 ^ 64
         → IfErr result (λ fault. fault ≡ OutOfMemory) }
 
-    ensures fault { IfErr result (λ fault. (fault ≡ OutOfMemory) ⊎ StopsWithin IsByteRun NoByteRun (2 ^ 64 - 1) bytes.now fault) }
+    ensures fault { IfErr result (λ fault. (fault ≡ OutOfMemory)
+        ⊎ StopsWithin IsByteRun NoByteRun (2 ^ 64 - 1) bytes.now fault) }
 {
     let mut offsets = Vec::new(alloc);
     let mut counts = Vec::new(alloc);
@@ -90,7 +92,7 @@ pub fn byte_places(alloc: Global, bytes: &[u8]) -> Result<RunPlaces, RunFault>
         let (_, rest) = bytes.split_at(at);
         let len = match ByteRuns::next_run(rest, &mut run) {
             Ok(len) => len,
-            Err(fault) => return Err(fault.at(at)),
+            Err(fault) => return Err(fault.with_place(at)),
         };
         let found = run.values().len() as u64;
         if u64::MAX - before < found {
@@ -154,10 +156,15 @@ impl RunPlaces {
 /// Laws of places: a position that is looked up in those of a stream names the value that it is looked up for, if
 /// there are that many, and each position that names a value is found so.
 pub fn place_laws<C: RunCodec>()
-    ensures named { (sign : Sign) (bytes : List ℕ) (places : Places) (offset skip n : ℕ) → ArePlaces (C.is_run sign) bytes places
-        → HasValues (C.is_run sign) bytes n → Names places offset skip n → Begins (C.is_run sign) bytes offset skip n }
-    ensures begins { (sign : Sign) (bytes : List ℕ) (places : Places) (offset skip n : ℕ) → ArePlaces (C.is_run sign) bytes places
-        → Begins (C.is_run sign) bytes offset skip n → Names places offset skip n }
+    ensures named { (sign : Sign) (bytes : List ℕ) (places : Places) (offset skip n : ℕ)
+        → ArePlaces (C.is_run sign) bytes places
+        → HasValues (C.is_run sign) bytes n
+        → Names places offset skip n
+        → Begins (C.is_run sign) bytes offset skip n }
+    ensures begins { (sign : Sign) (bytes : List ℕ) (places : Places) (offset skip n : ℕ)
+        → ArePlaces (C.is_run sign) bytes places
+        → Begins (C.is_run sign) bytes offset skip n
+        → Names places offset skip n }
 {}
 
 /// The same of streams of bytes and of booleans.
@@ -166,8 +173,14 @@ pub fn byte_place_laws()
         → HasValues IsByteRun bytes n → Names places offset skip n → Begins IsByteRun bytes offset skip n }
     ensures begins { (bytes : List ℕ) (places : Places) (offset skip n : ℕ) → ArePlaces IsByteRun bytes places
         → Begins IsByteRun bytes offset skip n → Names places offset skip n }
-    ensures named_bit { (bytes : List ℕ) (places : Places) (total offset skip bits n : ℕ) → ArePlaces IsByteRun bytes places
-        → HasBits bytes total → n ≤ total → NamesBit places offset skip bits n → BeginsBits bytes total offset skip bits n }
-    ensures begins_bit { (bytes : List ℕ) (places : Places) (total offset skip bits n : ℕ) → ArePlaces IsByteRun bytes places
-        → BeginsBits bytes total offset skip bits n → NamesBit places offset skip bits n }
+    ensures named_bit { (bytes : List ℕ) (places : Places) (total offset skip bits n : ℕ)
+        → ArePlaces IsByteRun bytes places
+        → HasBits bytes total
+        → n ≤ total
+        → NamesBit places offset skip bits n
+        → BeginsBits bytes total offset skip bits n }
+    ensures begins_bit { (bytes : List ℕ) (places : Places) (total offset skip bits n : ℕ)
+        → ArePlaces IsByteRun bytes places
+        → BeginsBits bytes total offset skip bits n
+        → NamesBit places offset skip bits n }
 {}

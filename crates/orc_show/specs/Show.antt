@@ -41,11 +41,13 @@ known name of (Some x) = 32 ∷ (name ++ 32 ∷ of x)
 abbrev pub body_text : Body → List ℕ
 body_text Plain = []
 body_text (Ints least greatest sum) =
-    known (codes "min") signed_decimal least ++ (known (codes "max") signed_decimal greatest ++ known (codes "sum") signed_decimal sum)
+    known (codes "min") signed_decimal least
+    ++ (known (codes "max") signed_decimal greatest ++ known (codes "sum") signed_decimal sum)
 body_text (Bools trues) = known (codes "true") decimal trues
 body_text (Dates least greatest) = known (codes "min") date_text least ++ known (codes "max") date_text greatest
 body_text (Texts least greatest sum) =
-    known (codes "min") name_text least ++ (known (codes "max") name_text greatest ++ known (codes "sum") signed_decimal sum)
+    known (codes "min") name_text least
+    ++ (known (codes "max") name_text greatest ++ known (codes "sum") signed_decimal sum)
 body_text (Bins sum) = known (codes "sum") signed_decimal sum
 
 -- a pair of the user's: its name, and its value's bytes as digits
@@ -54,13 +56,19 @@ pair_line pair = codes "meta " ++ (name_text pair.name ++ 32 ∷ (encode_lower p
 
 abbrev pub stripe_line : ℕ → StripeInfo → List ℕ
 stripe_line n s =
-    codes "stripe " ++ (decimal n ++ (codes " offset " ++ (decimal s.offset ++ (codes " index " ++ (decimal s.index_length
-    ++ (codes " data " ++ (decimal s.data_length ++ (codes " footer " ++ (decimal s.footer_length
+    codes "stripe " ++ (decimal n
+    ++ (codes " offset " ++ (decimal s.offset
+    ++ (codes " index " ++ (decimal s.index_length
+    ++ (codes " data " ++ (decimal s.data_length
+    ++ (codes " footer " ++ (decimal s.footer_length
     ++ (codes " rows " ++ (decimal s.number_of_rows ++ 10 ∷ [])))))))))))
 
 abbrev pub column_line : ℕ → Stat → List ℕ
 column_line n s =
-    codes "column " ++ (decimal n ++ (codes " count " ++ (decimal s.count ++ (codes " nulls " ++ (nulls_word s.nulls ++ (body_text s.body ++ 10 ∷ []))))))
+    codes "column " ++ (decimal n
+    ++ (codes " count " ++ (decimal s.count
+    ++ (codes " nulls " ++ (nulls_word s.nulls
+    ++ (body_text s.body ++ 10 ∷ []))))))
 
 -- a line for each, which are numbered from this number on
 abbrev pub numbered : {A : Type 0} → (ℕ → A → List ℕ) → ℕ → List A → List ℕ
@@ -70,9 +78,17 @@ numbered of n (x ∷ xs) = of n x ++ numbered of (n + 1) xs
 -- the lines of the file as a whole
 abbrev pub head_lines : Tail → List ℕ
 head_lines tail =
-    codes "schema " ++ (text tail.schema ++ (codes "\nversion " ++ (version_text tail.version ++ (codes "\nwriter " ++ (number_or_none tail.writer
-    ++ 32 ∷ (number_or_none tail.writer_version ++ (codes "\nrows " ++ (decimal tail.rows ++ (codes "\nstride " ++ (decimal tail.stride ++ 10 ∷ []))))))))))
+    codes "schema " ++ (text tail.schema
+    ++ (codes "\nversion " ++ (version_text tail.version
+    ++ (codes "\nwriter " ++ (number_or_none tail.writer
+    ++ 32 ∷ (number_or_none tail.writer_version
+    ++ (codes "\nrows " ++ (decimal tail.rows
+    ++ (codes "\nstride " ++ (decimal tail.stride ++ 10 ∷ []))))))))))
 
 -- those, and one for each pair of the user's, each stripe, and each column's statistic that the file has
 abbrev pub show_lines : Tail → List ℕ
-show_lines tail = head_lines tail ++ (flat_map pair_line tail.user ++ (numbered stripe_line 0 tail.stripes ++ numbered column_line 0 tail.file_stats))
+show_lines tail =
+    head_lines tail
+    ++ (flat_map pair_line tail.user
+    ++ (numbered stripe_line 0 tail.stripes
+    ++ numbered column_line 0 tail.file_stats))

@@ -93,7 +93,8 @@ fn put_text(
     name: &str,
     part: &Option<Bytes>,
 ) -> Result<(), AllocError>
-    ensures { OnOk result (string_bytes lines.new ≡ string_bytes lines.old ++ spec.known name.now spec.name_text part.now) }
+    ensures { OnOk result
+        (string_bytes lines.new ≡ string_bytes lines.old ++ spec.known name.now spec.name_text part.now) }
 {
     match part {
         Some(bytes) => write!(lines, " {name} {}", name_of(alloc, bytes.as_slice())?),
@@ -230,7 +231,8 @@ fn put_pairs(
 
 /// Puts the lines of stripes.
 fn put_stripes(lines: &mut String, stripes: &[StripeInfo]) -> Result<(), AllocError>
-    ensures { OnOk result (string_bytes lines.new ≡ string_bytes lines.old ++ spec.numbered spec.stripe_line 0 stripes.now) }
+    ensures { OnOk result
+        (string_bytes lines.new ≡ string_bytes lines.old ++ spec.numbered spec.stripe_line 0 stripes.now) }
 {
     for (number, stripe) in stripes.iter().enumerate() {
         put_stripe(lines, number, *stripe)?;
@@ -240,7 +242,8 @@ fn put_stripes(lines: &mut String, stripes: &[StripeInfo]) -> Result<(), AllocEr
 
 /// Puts the lines of columns' statistics.
 fn put_columns(alloc: Global, lines: &mut String, stats: &[Stat]) -> Result<(), AllocError>
-    ensures { OnOk result (string_bytes lines.new ≡ string_bytes lines.old ++ spec.numbered spec.column_line 0 stats.now) }
+    ensures { OnOk result
+        (string_bytes lines.new ≡ string_bytes lines.old ++ spec.numbered spec.column_line 0 stats.now) }
 {
     for (number, stat) in stats.iter().enumerate() {
         put_column(alloc, lines, number, stat)?;
@@ -274,13 +277,15 @@ pub fn show_to<S: Source, W: Write>(
 ) -> Result<S, (CliFault, S)>
     ensures written { OnOk result (IfSome (S.told source) (λ bytes. (tail : Tail) × IsTail bytes tail
         × Appends (W.contents out.old) (W.contents out.new) (spec.show_lines tail))) }
-    ensures only { IfSome (S.told source) (λ bytes. (tail : Tail) → IsTail bytes tail → IfErr result (λ e. IsOutsideFile e.0)) }
+    ensures only { IfSome (S.told source) (λ bytes. (tail : Tail) → IsTail bytes tail
+        → IfErr result (λ e. IsOutsideFile e.0)) }
     ensures same { IfOk result (λ back. S.told back ≡ S.told source) }
     ensures kept { IfOk result (λ back. S.failures back ≡ S.failures source) }
 
     ensures refused { IfErr result (λ e. IfSome (S.told source) (λ bytes. e.0 ≢ write_failed → IsNotOpened bytes e.0)) }
     ensures nothing { IfErr result (λ e. e.0 ≢ write_failed → Keeps (W.contents out.old) (W.contents out.new)) }
-    ensures part { IfErr result (λ e. e.0 ≡ write_failed → IfSome (S.told source) (λ bytes. (tail : Tail) × IsTail bytes tail
+    ensures part { IfErr result (λ e. e.0 ≡ write_failed → IfSome (S.told source)
+        (λ bytes. (tail : Tail) × IsTail bytes tail
         × AppendsPart (W.contents out.old) (W.contents out.new) (spec.show_lines tail))) }
     ensures failed { IfErr result (λ e. e.0 ≡ File SourceFailed → S.failures source < S.failures e.1) }
     ensures memory { IfErr result (λ e. IsWantOfMemory e.0 → S.failures e.1 ≡ S.failures source) }
@@ -302,7 +307,8 @@ pub fn show_to<S: Source, W: Write>(
 /// Prints what a tail says.
 fn show_tail<W: Write>(alloc: Global, tail: &Tail, out: &mut W) -> Result<(), CliFault>
     ensures written { OnOk result (Appends (W.contents out.old) (W.contents out.new) (spec.show_lines tail.now)) }
-    ensures refused { IfErr result (λ fault. ((fault ≡ write_failed) × AppendsPart (W.contents out.old) (W.contents out.new) (spec.show_lines tail.now))
+    ensures refused { IfErr result (λ fault.
+        ((fault ≡ write_failed) × AppendsPart (W.contents out.old) (W.contents out.new) (spec.show_lines tail.now))
         ⊎ (IsWantOfMemory fault × Keeps (W.contents out.old) (W.contents out.new))) }
 {
     let lines = lines_of(alloc, tail)?;

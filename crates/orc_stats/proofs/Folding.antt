@@ -12,8 +12,8 @@ use Rattle.orc_stats.specs.declared.fault.StatFault.TheVariants.{OutOfMemory}
 use Rattle.orc_stats.specs.Kinds.{is_of, body_is_of}
 use Rattle.orc_stats.specs.Faults.{JoinFault}
 use Rattle.orc_stats.specs.Statistics.{bit}
-use Rattle.orc_stats.specs.Tallies.{Measure, Kept, together, cell_kept, stat_kept, counted, gathered}
-use Rattle.orc_stats.specs.TallyLaws.{together_assoc, none_together, counted_count, gathered_count}
+use Rattle.orc_stats.specs.Tallies.{Measure, Kept, together, cell_kept, stat_kept, cells_kept, stats_kept}
+use Rattle.orc_stats.specs.TallyLaws.{together_assoc, none_together, cells_kept_count, stats_kept_count}
 
 pub few_values : (cells : List Cell) → length (values cells) ≤ length cells
 few_values [] = omega arith
@@ -28,41 +28,41 @@ few_lent (x ∷ xs) = ap suc (few_lent xs)
 
 module _ {P : Type 0} (m : Measure P) where
   pub cells_none : (k : Kept P) (xs : List Lent) (i : ℕ) → length xs ≤ i
-      → together m k (counted m (lent_cells (drop i xs))) ≡ counted m (lent_cells xs) → k ≡ counted m (lent_cells xs)
-  cells_none k xs i h e = sym (none_together m k) ∙ ap (λ ys. together m k (counted m (lent_cells ys))) (sym (drop_all i xs h)) ∙ e
+      → together m k (cells_kept m (lent_cells (drop i xs))) ≡ cells_kept m (lent_cells xs) → k ≡ cells_kept m (lent_cells xs)
+  cells_none k xs i h e = sym (none_together m k) ∙ ap (λ ys. together m k (cells_kept m (lent_cells ys))) (sym (drop_all i xs h)) ∙ e
 
   pub cells_more : (k : Kept P) (xs : List Lent) (i : ℕ) (x : Lent) → i < length xs → x ≡ get_or xs i x
-      → together m k (counted m (lent_cells (drop i xs))) ≡ counted m (lent_cells xs)
-      → together m (together m k (cell_kept m (view x.0.now))) (counted m (lent_cells (drop (i + 1) xs))) ≡ counted m (lent_cells xs)
+      → together m k (cells_kept m (lent_cells (drop i xs))) ≡ cells_kept m (lent_cells xs)
+      → together m (together m k (cell_kept m (view x.0.now))) (cells_kept m (lent_cells (drop (i + 1) xs))) ≡ cells_kept m (lent_cells xs)
   cells_more k xs i x h is e =
-      together_assoc m k (cell_kept m (view x.0.now)) (counted m (lent_cells (drop (i + 1) xs)))
-      ∙ ap (λ ys. together m k (counted m (lent_cells ys))) (sym (drop_more xs i x h ∙ ap (λ y. y ∷ drop (i + 1) xs) (sym is))) ∙ e
+      together_assoc m k (cell_kept m (view x.0.now)) (cells_kept m (lent_cells (drop (i + 1) xs)))
+      ∙ ap (λ ys. together m k (cells_kept m (lent_cells ys))) (sym (drop_more xs i x h ∙ ap (λ y. y ∷ drop (i + 1) xs) (sym is))) ∙ e
 
   pub cells_fit : (k : Kept P) (xs : List Lent) (i : ℕ) (x : Lent) → i < length xs → x ≡ get_or xs i x → length xs ≤ 2 ^ 62
-      → together m k (counted m (lent_cells (drop i xs))) ≡ counted m (lent_cells xs)
+      → together m k (cells_kept m (lent_cells (drop i xs))) ≡ cells_kept m (lent_cells xs)
       → k.count + bit (is_value (view x.0.now)) ≤ 2 ^ 62
   cells_fit k xs i x h is most e =
       let whole = ap (λ t. t.count) (cells_more k xs i x h is e) in
-      let all = counted_count m (lent_cells xs) in
+      let all = cells_kept_count m (lent_cells xs) in
       omega (arith, few_values (lent_cells xs), few_lent xs)
 
   pub stats_none : (k : Kept P) (ss : List Stat) (i : ℕ) → length ss ≤ i
-      → together m k (gathered m (drop i ss)) ≡ gathered m ss → k ≡ gathered m ss
-  stats_none k ss i h e = sym (none_together m k) ∙ ap (λ ys. together m k (gathered m ys)) (sym (drop_all i ss h)) ∙ e
+      → together m k (stats_kept m (drop i ss)) ≡ stats_kept m ss → k ≡ stats_kept m ss
+  stats_none k ss i h e = sym (none_together m k) ∙ ap (λ ys. together m k (stats_kept m ys)) (sym (drop_all i ss h)) ∙ e
 
   pub stats_more : (k : Kept P) (ss : List Stat) (i : ℕ) (x : Stat) → i < length ss → x ≡ get_or ss i x
-      → together m k (gathered m (drop i ss)) ≡ gathered m ss
-      → together m (together m k (stat_kept m x)) (gathered m (drop (i + 1) ss)) ≡ gathered m ss
+      → together m k (stats_kept m (drop i ss)) ≡ stats_kept m ss
+      → together m (together m k (stat_kept m x)) (stats_kept m (drop (i + 1) ss)) ≡ stats_kept m ss
   stats_more k ss i x h is e =
-      together_assoc m k (stat_kept m x) (gathered m (drop (i + 1) ss))
-      ∙ ap (λ ys. together m k (gathered m ys)) (sym (drop_more ss i x h ∙ ap (λ y. y ∷ drop (i + 1) ss) (sym is))) ∙ e
+      together_assoc m k (stat_kept m x) (stats_kept m (drop (i + 1) ss))
+      ∙ ap (λ ys. together m k (stats_kept m ys)) (sym (drop_more ss i x h ∙ ap (λ y. y ∷ drop (i + 1) ss) (sym is))) ∙ e
 
   -- the values so far and those of the next statistic are among all
   pub stats_exceed : (k : Kept P) (ss : List Stat) (i : ℕ) (x : Stat) → i < length ss → x ≡ get_or ss i x
-      → together m k (gathered m (drop i ss)) ≡ gathered m ss → k.count + x.count ≤ sum_by (λ s. s.count) ss
+      → together m k (stats_kept m (drop i ss)) ≡ stats_kept m ss → k.count + x.count ≤ sum_by (λ s. s.count) ss
   stats_exceed k ss i x h is e =
       let whole = ap (λ t. t.count) (stats_more k ss i x h is e) in
-      let all = gathered_count m ss in
+      let all = stats_kept_count m ss in
       omega arith
 
 -- each cell that is lent is of the kind

@@ -9,7 +9,7 @@ use Rattle.std.specs.Ordering.{is_gt, int_cmp, flip_args, ordering_reverse}
 use Rattle.std.specs.declared.cmp.Ordering.{Ordering}
 use Rattle.std.specs.declared.cmp.Ordering.TheVariants.{Less, Equal, Greater}
 use Rattle.orc_stats.specs.Statistics.{lower, onto, reduce, bit, least, greatest, text_cmp, exact_total}
-use Rattle.orc_stats.specs.Meanings.{IsLowest, added, trues}
+use Rattle.orc_stats.specs.Meanings.{IsLowest, sum_without_limit, trues}
 use Rattle.orc_stats.specs.Orders.{flipped_same}
 
 module _ {A : Type 0} (cmp : A → A → Ordering) (total : IsTotalOrder cmp) (same : IsAntisymmetric cmp) where
@@ -99,7 +99,7 @@ least_texts = lowest text_cmp nat_list_cmp_total texts_same
 pub greatest_texts : (ts : List (List ℕ)) (t : List ℕ) → (greatest text_cmp ts ≡ Some t) ↔ IsLowest (flip_args text_cmp) ts t
 greatest_texts = lowest (flip_args text_cmp) (back_total nat_list_cmp_total) (flipped_same texts_same)
 
-pub totals : (z : ℤ) (zs : List ℤ) → exact_total (z ∷ zs) ≡ Some (added (z ∷ zs))
+pub totals : (z : ℤ) (zs : List ℤ) → exact_total (z ∷ zs) ≡ Some (sum_without_limit (z ∷ zs))
 totals z [] = ap Some (alone z)
   where
     alone : (z : ℤ) → z ≡ z +ℤ pos 0

@@ -12,7 +12,7 @@ use Rattle.orc_stats.specs.declared.stat.Body.{Body}
 use Rattle.orc_stats.specs.declared.stat.Body.TheVariants as body
 use Rattle.orc_stats.specs.Kinds.{is_of, body_is_of}
 use Rattle.orc_stats.specs.Statistics.{reduce, bit, least, greatest, total, lengths, text_cmp, bool_of, values_body, stat}
-use Rattle.orc_stats.specs.Joining.{in_limit, trues_total, all_known, has_values, valued_bodies, bodies_joined, trues_of, joined}
+use Rattle.orc_stats.specs.Joining.{in_limit, trues_total, parts_if_known, has_values, valued_bodies, bodies_joined, trues_of, joined}
 use Rattle.orc_stats.specs.Messages.{unknown, few_trues, IsStat}
 use Rattle.orc_stats.specs.TallyKinds.{picked_map, few_bits, few_picked}
 use Rattle.orc_stats.proofs.Folding.{few_values}
@@ -45,7 +45,7 @@ joined_kind kind.Bins bs = refl
 joined_trues : (k : StatKind) (bs : List Body) → few_trues (trues_of (bodies_joined k bs)) ≡ true
 joined_trues kind.Plain bs = refl
 joined_trues kind.Ints bs = refl
-joined_trues kind.Bools bs = few_known (all_known (map trues_of bs))
+joined_trues kind.Bools bs = few_known (parts_if_known (map trues_of bs))
 joined_trues kind.Dates bs = refl
 joined_trues kind.Texts bs = refl
 joined_trues kind.Bins bs = refl

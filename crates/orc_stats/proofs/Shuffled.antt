@@ -20,9 +20,9 @@ use Rattle.orc_stats.specs.Seen.{known_of}
 use Rattle.orc_stats.specs.Statistics.{reduce, bit, bool_of, stat}
 use Rattle.orc_stats.specs.Orders.{nat_sums}
 use Rattle.orc_stats.specs.Joining.{joined}
-use Rattle.orc_stats.specs.Tallies.{Measure, Kept, together, cell_kept, stat_kept, all_kept, counted, gathered, closed}
+use Rattle.orc_stats.specs.Tallies.{Measure, Kept, together, cell_kept, stat_kept, all_kept, cells_kept, stats_kept, stat_of_kept}
 use Rattle.orc_stats.specs.Measures.{ints, dates, texts, bools, bins, plain}
-use Rattle.orc_stats.specs.TallyLaws.{together_comm, together_assoc, stat_is, counted_parts, counted_count, counted_nulls, known_values}
+use Rattle.orc_stats.specs.TallyLaws.{together_comm, together_assoc, stat_is, cells_kept_parts, cells_kept_count, cells_kept_nulls, known_values}
 use Rattle.orc_stats.specs.TallyKinds.{ints_cells, dates_cells, texts_cells, bins_cells, plain_cells, ints_stats, dates_stats, texts_stats, bools_stats, bins_stats, plain_stats, picked_map}
 
 module _ {P : Type 0} (m : Measure P) where
@@ -73,40 +73,40 @@ module _ {P : Type 0} (m : Measure P) where
   all_kept-shuffled : (xs ys : List (Kept P)) → IsPermutation xs ys → all_kept m ys ≡ all_kept m xs
   all_kept-shuffled xs ys same = IsPermutation-keeps xs (λ l. all_kept m l ≡ all_kept m xs) refl (λ l i j p q h. swapped l i j p q ∙ h) ys same
 
-  pub counted-shuffled : (xs ys : List Cell) → IsPermutation xs ys → counted m ys ≡ counted m xs
-  counted-shuffled xs ys same = all_kept-shuffled (map (cell_kept m) xs) (map (cell_kept m) ys) (IsPermutation-map (cell_kept m) xs ys same)
+  pub cells_kept-shuffled : (xs ys : List Cell) → IsPermutation xs ys → cells_kept m ys ≡ cells_kept m xs
+  cells_kept-shuffled xs ys same = all_kept-shuffled (map (cell_kept m) xs) (map (cell_kept m) ys) (IsPermutation-map (cell_kept m) xs ys same)
 
-  pub gathered-shuffled : (xs ys : List Stat) → IsPermutation xs ys → gathered m ys ≡ gathered m xs
-  gathered-shuffled xs ys same = all_kept-shuffled (map (stat_kept m) xs) (map (stat_kept m) ys) (IsPermutation-map (stat_kept m) xs ys same)
+  pub stats_kept-shuffled : (xs ys : List Stat) → IsPermutation xs ys → stats_kept m ys ≡ stats_kept m xs
+  stats_kept-shuffled xs ys same = all_kept-shuffled (map (stat_kept m) xs) (map (stat_kept m) ys) (IsPermutation-map (stat_kept m) xs ys same)
 
 -- the statistic of cells has no order
-trues_counted : (cells : List Cell) → known_of (counted bools cells).parts ≡ reduce ◌+◌ (map bit (filter_map bool_of cells))
+trues_counted : (cells : List Cell) → known_of (cells_kept bools cells).parts ≡ reduce ◌+◌ (map bit (filter_map bool_of cells))
 trues_counted cells =
-    ap known_of (counted_parts bools cells)
+    ap known_of (cells_kept_parts bools cells)
     ∙ known_values ◌+◌ nat_sums (λ c. option_map bit (bool_of c)) cells
     ∙ ap (reduce ◌+◌) (picked_map bit bool_of cells)
 
 pub stat-shuffled : (k : StatKind) (xs ys : List Cell) → IsPermutation xs ys → stat k ys ≡ stat k xs
-stat-shuffled kind.Plain xs ys same = sym (plain_cells ys) ∙ ap (closed plain) (counted-shuffled plain xs ys same) ∙ plain_cells xs
-stat-shuffled kind.Ints xs ys same = sym (ints_cells ys) ∙ ap (closed ints) (counted-shuffled ints xs ys same) ∙ ints_cells xs
+stat-shuffled kind.Plain xs ys same = sym (plain_cells ys) ∙ ap (stat_of_kept plain) (cells_kept-shuffled plain xs ys same) ∙ plain_cells xs
+stat-shuffled kind.Ints xs ys same = sym (ints_cells ys) ∙ ap (stat_of_kept ints) (cells_kept-shuffled ints xs ys same) ∙ ints_cells xs
 stat-shuffled kind.Bools xs ys same =
-    let kept = counted-shuffled bools xs ys same in
+    let kept = cells_kept-shuffled bools xs ys same in
     stat_is bools
-    (sym (counted_count bools ys) ∙ ap (λ t. t.count) kept ∙ counted_count bools xs)
-    (sym (counted_nulls bools ys) ∙ ap (λ t. t.nulls) kept ∙ counted_nulls bools xs)
+    (sym (cells_kept_count bools ys) ∙ ap (λ t. t.count) kept ∙ cells_kept_count bools xs)
+    (sym (cells_kept_nulls bools ys) ∙ ap (λ t. t.nulls) kept ∙ cells_kept_nulls bools xs)
     (ap body.Bools (sym (trues_counted ys) ∙ ap (λ t. known_of t.parts) kept ∙ trues_counted xs))
-stat-shuffled kind.Dates xs ys same = sym (dates_cells ys) ∙ ap (closed dates) (counted-shuffled dates xs ys same) ∙ dates_cells xs
-stat-shuffled kind.Texts xs ys same = sym (texts_cells ys) ∙ ap (closed texts) (counted-shuffled texts xs ys same) ∙ texts_cells xs
-stat-shuffled kind.Bins xs ys same = sym (bins_cells ys) ∙ ap (closed bins) (counted-shuffled bins xs ys same) ∙ bins_cells xs
+stat-shuffled kind.Dates xs ys same = sym (dates_cells ys) ∙ ap (stat_of_kept dates) (cells_kept-shuffled dates xs ys same) ∙ dates_cells xs
+stat-shuffled kind.Texts xs ys same = sym (texts_cells ys) ∙ ap (stat_of_kept texts) (cells_kept-shuffled texts xs ys same) ∙ texts_cells xs
+stat-shuffled kind.Bins xs ys same = sym (bins_cells ys) ∙ ap (stat_of_kept bins) (cells_kept-shuffled bins xs ys same) ∙ bins_cells xs
 
 -- joined statistics have no order
 pub joined-shuffled : (k : StatKind) (xs ys : List Stat) → IsPermutation xs ys → joined k ys ≡ joined k xs
-joined-shuffled kind.Plain xs ys same = sym (plain_stats ys) ∙ ap (closed plain) (gathered-shuffled plain xs ys same) ∙ plain_stats xs
-joined-shuffled kind.Ints xs ys same = sym (ints_stats ys) ∙ ap (closed ints) (gathered-shuffled ints xs ys same) ∙ ints_stats xs
-joined-shuffled kind.Bools xs ys same = sym (bools_stats ys) ∙ ap (closed bools) (gathered-shuffled bools xs ys same) ∙ bools_stats xs
-joined-shuffled kind.Dates xs ys same = sym (dates_stats ys) ∙ ap (closed dates) (gathered-shuffled dates xs ys same) ∙ dates_stats xs
-joined-shuffled kind.Texts xs ys same = sym (texts_stats ys) ∙ ap (closed texts) (gathered-shuffled texts xs ys same) ∙ texts_stats xs
-joined-shuffled kind.Bins xs ys same = sym (bins_stats ys) ∙ ap (closed bins) (gathered-shuffled bins xs ys same) ∙ bins_stats xs
+joined-shuffled kind.Plain xs ys same = sym (plain_stats ys) ∙ ap (stat_of_kept plain) (stats_kept-shuffled plain xs ys same) ∙ plain_stats xs
+joined-shuffled kind.Ints xs ys same = sym (ints_stats ys) ∙ ap (stat_of_kept ints) (stats_kept-shuffled ints xs ys same) ∙ ints_stats xs
+joined-shuffled kind.Bools xs ys same = sym (bools_stats ys) ∙ ap (stat_of_kept bools) (stats_kept-shuffled bools xs ys same) ∙ bools_stats xs
+joined-shuffled kind.Dates xs ys same = sym (dates_stats ys) ∙ ap (stat_of_kept dates) (stats_kept-shuffled dates xs ys same) ∙ dates_stats xs
+joined-shuffled kind.Texts xs ys same = sym (texts_stats ys) ∙ ap (stat_of_kept texts) (stats_kept-shuffled texts xs ys same) ∙ texts_stats xs
+joined-shuffled kind.Bins xs ys same = sym (bins_stats ys) ∙ ap (stat_of_kept bins) (stats_kept-shuffled bins xs ys same) ∙ bins_stats xs
 
 -- a statistic of no cells adds nothing
 pub joined-empty : (k : StatKind) (o : Body) (ss : List Stat)

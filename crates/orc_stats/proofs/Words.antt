@@ -17,7 +17,7 @@ use Rattle.orc_stats.specs.Whole.{has_sum, keeps_sum}
 use Rattle.orc_stats.specs.Seen.{both, seen_of, known_of, value_seen}
 use Rattle.orc_stats.specs.Orders.{IsOrderly, both_orderly, int_sums}
 use Rattle.orc_stats.specs.Tallies.{all}
-use Rattle.orc_stats.specs.Measures.{seen, int_totals}
+use Rattle.orc_stats.specs.Measures.{seen_joins, int_totals}
 use Rattle.orc_stats.specs.TallyLaws.{value_onto, unknown_stays, known_value, known_all, known_all_in}
 
 positive : (n k : ℕ) → n ≡ suc k → nat_lt 0 n ≡ true
@@ -34,14 +34,14 @@ module _ {A : Type 0} (op : A → A → A) (o : IsOrderly op) where
       ∙ value_onto op o x (reduce op (xs ++ ys))
 
   valued_more : (f : Body → Seen A) (b : Bool) (s : Stat) (ss : List Stat)
-      → all (seen op o) (map f (map (λ t. t.body) (if b then s ∷ ss else ss))) ≡ both op (if b then f s.body else Nothing) (all (seen op o) (map f (map (λ t. t.body) ss)))
+      → all (seen_joins op o) (map f (map (λ t. t.body) (if b then s ∷ ss else ss))) ≡ both op (if b then f s.body else Nothing) (all (seen_joins op o) (map f (map (λ t. t.body) ss)))
   valued_more f true s ss = refl
   valued_more f false s ss = refl
 
   -- a part adds what its body has, where it has values
   pub valued : (f : Body → Seen A) (k : StatKind) (p : List Cell) (ps : List (List Cell))
-      → all (seen op o) (map f (valued_bodies (map (stat k) (p ∷ ps))))
-      ≡ both op (if has_values (stat k p) then f (values_body k p) else Nothing) (all (seen op o) (map f (valued_bodies (map (stat k) ps))))
+      → all (seen_joins op o) (map f (valued_bodies (map (stat k) (p ∷ ps))))
+      ≡ both op (if has_values (stat k p) then f (values_body k p) else Nothing) (all (seen_joins op o) (map f (valued_bodies (map (stat k) ps))))
   valued f k p ps = valued_more f (has_values (stat k p)) (stat k p) (filter has_values (map (stat k) ps))
 
   value_same : (n : ℕ) (xs : List A) → n ≡ length xs → (if nat_lt 0 n then seen_of (reduce op xs) else Nothing) ≡ value_seen (reduce op xs)
@@ -57,7 +57,7 @@ module _ {A : Type 0} (op : A → A → A) (o : IsOrderly op) where
     part_same p h = ap (λ r. if has_values (stat k p) then seen_of r else Nothing) (is p) ∙ value_same (length (values p)) (filter_map pick p) (few p h)
 
     parts_same : (parts : List (List Cell)) → AllByRecursion (AllByRecursion (λ c. is_of k c ≡ true)) parts
-        → all (seen op o) (map (λ b. seen_of (part b)) (valued_bodies (map (stat k) parts))) ≡ value_seen (reduce op (filter_map pick (flat_map (λ p. p) parts)))
+        → all (seen_joins op o) (map (λ b. seen_of (part b)) (valued_bodies (map (stat k) parts))) ≡ value_seen (reduce op (filter_map pick (flat_map (λ p. p) parts)))
     parts_same [] h = refl
     parts_same (p ∷ ps) h =
         valued (λ b. seen_of (part b)) k p ps

@@ -14,6 +14,6 @@ JoinFault memory ss CountTooLarge = 2 ^ 62 < sum_by (λ s. s.count) ss
 JoinFault memory ss OutOfMemory = memory × (sum_by (λ s. s.count) ss ≤ 2 ^ 62)
 
 -- of a message, by the kind of column: too much is counted; or memory was wanted, for texts
-abbrev pub ReadFault : StatKind → ColumnStats → StatFault → Type 0
-ReadFault k m CountTooLarge = in_limits (stat_read k m) ≡ false
-ReadFault k m OutOfMemory = (k ≡ kind.Texts) × (in_limits (stat_read k m) ≡ true)
+abbrev pub MessageFault : StatKind → ColumnStats → StatFault → Type 0
+MessageFault k m CountTooLarge = in_limits (stat_read k m) ≡ false
+MessageFault k m OutOfMemory = (k ≡ kind.Texts) × (in_limits (stat_read k m) ≡ true)

@@ -10,13 +10,13 @@ use Rattle.orc_stats.specs.declared.stat.Body.TheVariants as body
 use Rattle.orc_stats.specs.Statistics.{reduce, least, greatest, text_cmp, total}
 
 -- all the parts, where each is known
-abbrev pub all_known : {A : Type 0} → List (Option A) → Option (List A)
-all_known [] = Some []
-all_known (p ∷ ps) = option_and_then (λ x. option_map (λ xs. x ∷ xs) (all_known ps)) p
+abbrev pub parts_if_known : {A : Type 0} → List (Option A) → Option (List A)
+parts_if_known [] = Some []
+parts_if_known (p ∷ ps) = option_and_then (λ x. option_map (λ xs. x ∷ xs) (parts_if_known ps)) p
 
 -- what a word says of the parts, where each is known
 abbrev pub of_known : {A : Type 0} → (List A → Option A) → List (Option A) → Option A
-of_known f ps = option_and_then f (all_known ps)
+of_known f ps = option_and_then f (parts_if_known ps)
 
 -- true where one is, else not known where one isn't, else false
 abbrev pub or_known : Option Bool → Option Bool → Option Bool
@@ -75,11 +75,18 @@ sum_of _ = None
 abbrev pub bodies_joined : StatKind → List Body → Body
 bodies_joined kind.Plain bs = body.Plain
 bodies_joined kind.Ints bs =
-    body.Ints (of_known (least int_cmp) (map least_int bs)) (of_known (greatest int_cmp) (map greatest_int bs)) (of_known total (map sum_of bs))
+    body.Ints
+    (of_known (least int_cmp) (map least_int bs))
+    (of_known (greatest int_cmp) (map greatest_int bs))
+    (of_known total (map sum_of bs))
 bodies_joined kind.Bools bs = body.Bools (of_known trues_total (map trues_of bs))
-bodies_joined kind.Dates bs = body.Dates (of_known (least int_cmp) (map least_date bs)) (of_known (greatest int_cmp) (map greatest_date bs))
+bodies_joined kind.Dates bs =
+    body.Dates (of_known (least int_cmp) (map least_date bs)) (of_known (greatest int_cmp) (map greatest_date bs))
 bodies_joined kind.Texts bs =
-    body.Texts (of_known (least text_cmp) (map least_text bs)) (of_known (greatest text_cmp) (map greatest_text bs)) (of_known total (map sum_of bs))
+    body.Texts
+    (of_known (least text_cmp) (map least_text bs))
+    (of_known (greatest text_cmp) (map greatest_text bs))
+    (of_known total (map sum_of bs))
 bodies_joined kind.Bins bs = body.Bins (of_known total (map sum_of bs))
 
 abbrev pub has_values : Stat → Bool

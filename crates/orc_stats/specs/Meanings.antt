@@ -15,6 +15,6 @@ trues (false ∷ bs) = trues bs
 trues (true ∷ bs) = suc (trues bs)
 
 -- numbers added without a limit
-abbrev pub added : List ℤ → ℤ
-added [] = pos 0
-added (z ∷ zs) = z +ℤ added zs
+abbrev pub sum_without_limit : List ℤ → ℤ
+sum_without_limit [] = pos 0
+sum_without_limit (z ∷ zs) = z +ℤ sum_without_limit zs

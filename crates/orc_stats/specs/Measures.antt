@@ -12,26 +12,26 @@ use Rattle.orc_stats.specs.Orders.{both_orderly, pairs_orderly, pair_is, int_sum
 use Rattle.orc_stats.specs.Tallies.{Joins, Measure}
 
 -- parts of one word
-abbrev pub seen : {A : Type 0} (op : A → A → A) → IsOrderly op → Joins (Seen A)
-seen op o = record { none = Nothing; join = both op; unit = λ p. refl; orderly = both_orderly op o }
+abbrev pub seen_joins : {A : Type 0} (op : A → A → A) → IsOrderly op → Joins (Seen A)
+seen_joins op o = record { none = Nothing; join = both op; unit = λ p. refl; orderly = both_orderly op o }
 
 abbrev pub least_ints : Joins (Seen ℤ)
-least_ints = seen (lower int_cmp) lower_ints
+least_ints = seen_joins (lower int_cmp) lower_ints
 
 abbrev pub greatest_ints : Joins (Seen ℤ)
-greatest_ints = seen (lower (flip_args int_cmp)) higher_ints
+greatest_ints = seen_joins (lower (flip_args int_cmp)) higher_ints
 
 abbrev pub least_texts : Joins (Seen (List ℕ))
-least_texts = seen (lower text_cmp) lower_texts
+least_texts = seen_joins (lower text_cmp) lower_texts
 
 abbrev pub greatest_texts : Joins (Seen (List ℕ))
-greatest_texts = seen (lower (flip_args text_cmp)) higher_texts
+greatest_texts = seen_joins (lower (flip_args text_cmp)) higher_texts
 
 abbrev pub int_totals : Joins (Seen ℤ)
-int_totals = seen ◌+ℤ◌ int_sums
+int_totals = seen_joins ◌+ℤ◌ int_sums
 
 abbrev pub nat_totals : Joins (Seen ℕ)
-nat_totals = seen ◌+◌ nat_sums
+nat_totals = seen_joins ◌+◌ nat_sums
 
 infixr 5 ◌and◌
 abbrev pub ◌and◌ : {P Q : Type 0} → Joins P → Joins Q → Joins (P × Q)
@@ -66,7 +66,8 @@ dates = record {
 abbrev pub texts : Measure (Seen (List ℕ) × (Seen (List ℕ) × Seen ℤ))
 texts = record {
   joins = least_texts and greatest_texts and int_totals;
-  of_cell = λ c. (value_seen (text_of c), (value_seen (text_of c), value_seen (option_map (λ t. pos (length t)) (text_of c))));
+  of_cell = λ c.
+      (value_seen (text_of c), (value_seen (text_of c), value_seen (option_map (λ t. pos (length t)) (text_of c))));
   of_null = refl;
   of_body = λ b. (seen_of (least_text b), (seen_of (greatest_text b), seen_of (sum_of b)));
   body = λ p. body.Texts (known_of p.0) (known_of p.1.0) (option_and_then in_64 (known_of p.1.1));
@@ -95,7 +96,12 @@ bins = record {
 -- LIST and STRUCT: nothing
 abbrev pub plain : Measure (Unit {0})
 plain = record {
-  joins = record { none = tt; join = λ p q. tt; unit = λ p. refl; orderly = record { comm = λ p q. refl; assoc = λ p q r. refl } };
+  joins = record {
+    none = tt;
+    join = λ p q. tt;
+    unit = λ p. refl;
+    orderly = record { comm = λ p q. refl; assoc = λ p q r. refl };
+  };
   of_cell = λ c. tt;
   of_null = refl;
   of_body = λ b. tt;

@@ -77,13 +77,15 @@ in_limits s = nat_le s.count (2 ^ 62) && few_trues (trues_of s.body)
 
 -- A record stands where a part is known.
 abbrev pub ints_record : Option ℤ → Option ℤ → Option ℤ → Option IntegerStatistics
-ints_record l g s = if is_some l || is_some g || is_some s then Some (record { minimum = l; maximum = g; sum = s }) else None
+ints_record l g s =
+    if is_some l || is_some g || is_some s then Some (record { minimum = l; maximum = g; sum = s }) else None
 
 abbrev pub dates_record : Option ℤ → Option ℤ → Option DateStatistics
 dates_record l g = if is_some l || is_some g then Some (record { minimum = l; maximum = g }) else None
 
 abbrev pub texts_record : Option (List ℕ) → Option (List ℕ) → Option ℤ → Option StringStatistics
-texts_record l g s = if is_some l || is_some g || is_some s then Some (record { minimum = l; maximum = g; sum = s }) else None
+texts_record l g s =
+    if is_some l || is_some g || is_some s then Some (record { minimum = l; maximum = g; sum = s }) else None
 
 abbrev pub bins_record : Option ℤ → Option BinaryStatistics
 bins_record None = None

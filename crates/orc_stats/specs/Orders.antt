@@ -91,7 +91,11 @@ module _ {P Q : Type 0} {f : P → P → P} {g : Q → Q → Q} where
 
 -- the lower of two in a total order in which no two differ and tie
 module _ {A : Type 0} (cmp : A → A → Ordering) (total : IsTotalOrder cmp) (same : IsAntisymmetric cmp) where
-  lower_swaps : (x y : A) (o p : Ordering) → cmp x y ≡ o → cmp y x ≡ p → o ≡ ordering_reverse p → (if is_gt o then y else x) ≡ (if is_gt p then x else y)
+  lower_swaps : (x y : A) (o p : Ordering)
+      → cmp x y ≡ o
+      → cmp y x ≡ p
+      → o ≡ ordering_reverse p
+      → (if is_gt o then y else x) ≡ (if is_gt p then x else y)
   lower_swaps x y Less Less e f r = cc
   lower_swaps x y Less Equal e f r = cc
   lower_swaps x y Less Greater e f r = refl
@@ -143,4 +147,6 @@ pub lower_texts : IsOrderly (lower text_cmp)
 lower_texts = lower_orderly text_cmp nat_list_cmp_total (slice_cmp-IsAntisymmetric nat_cmp-IsAntisymmetric)
 
 pub higher_texts : IsOrderly (lower (flip_args text_cmp))
-higher_texts = lower_orderly (flip_args text_cmp) (back_total nat_list_cmp_total) (flipped_same (slice_cmp-IsAntisymmetric nat_cmp-IsAntisymmetric))
+higher_texts =
+    lower_orderly (flip_args text_cmp) (back_total nat_list_cmp_total)
+    (flipped_same (slice_cmp-IsAntisymmetric nat_cmp-IsAntisymmetric))

@@ -110,10 +110,12 @@ bytes_of (struct cs) = None
 
 abbrev pub values_body : StatKind → List Cell → Body
 values_body kind.Plain cells = body.Plain
-values_body kind.Ints cells = let zs = filter_map int_of cells in body.Ints (least int_cmp zs) (greatest int_cmp zs) (total zs)
+values_body kind.Ints cells =
+    let zs = filter_map int_of cells in body.Ints (least int_cmp zs) (greatest int_cmp zs) (total zs)
 values_body kind.Bools cells = body.Bools (reduce ◌+◌ (map bit (filter_map bool_of cells)))
 values_body kind.Dates cells = let zs = filter_map date_of cells in body.Dates (least int_cmp zs) (greatest int_cmp zs)
-values_body kind.Texts cells = let ts = filter_map text_of cells in body.Texts (least text_cmp ts) (greatest text_cmp ts) (total (lengths ts))
+values_body kind.Texts cells =
+    let ts = filter_map text_of cells in body.Texts (least text_cmp ts) (greatest text_cmp ts) (total (lengths ts))
 values_body kind.Bins cells = body.Bins (total (lengths (filter_map bytes_of cells)))
 
 -- whether a cell is null

@@ -37,7 +37,8 @@ abbrev pub none_kept : {P : Type 0} → Measure P → Kept P
 none_kept m = record { count = 0; nulls = Some false; parts = m.joins.none }
 
 abbrev pub together : {P : Type 0} → Measure P → Kept P → Kept P → Kept P
-together m a b = record { count = a.count + b.count; nulls = or_known a.nulls b.nulls; parts = m.joins.join a.parts b.parts }
+together m a b =
+    record { count = a.count + b.count; nulls = or_known a.nulls b.nulls; parts = m.joins.join a.parts b.parts }
 
 -- of a cell
 abbrev pub cell_kept : {P : Type 0} → Measure P → Cell → Kept P
@@ -45,17 +46,18 @@ cell_kept m c = record { count = bit (is_value c); nulls = Some (not (is_value c
 
 -- of a statistic, whose body counts where it has values
 abbrev pub stat_kept : {P : Type 0} → Measure P → Stat → Kept P
-stat_kept m s = record { count = s.count; nulls = s.nulls; parts = if has_values s then m.of_body s.body else m.joins.none }
+stat_kept m s =
+    record { count = s.count; nulls = s.nulls; parts = if has_values s then m.of_body s.body else m.joins.none }
 
 abbrev pub all_kept : {P : Type 0} → Measure P → List (Kept P) → Kept P
 all_kept m [] = none_kept m
 all_kept m (k ∷ ks) = together m k (all_kept m ks)
 
-abbrev pub counted : {P : Type 0} → Measure P → List Cell → Kept P
-counted m cells = all_kept m (map (cell_kept m) cells)
+abbrev pub cells_kept : {P : Type 0} → Measure P → List Cell → Kept P
+cells_kept m cells = all_kept m (map (cell_kept m) cells)
 
-abbrev pub gathered : {P : Type 0} → Measure P → List Stat → Kept P
-gathered m ss = all_kept m (map (stat_kept m) ss)
+abbrev pub stats_kept : {P : Type 0} → Measure P → List Stat → Kept P
+stats_kept m ss = all_kept m (map (stat_kept m) ss)
 
-abbrev pub closed : {P : Type 0} → Measure P → Kept P → Stat
-closed m k = record { count = k.count; nulls = k.nulls; body = m.body k.parts }
+abbrev pub stat_of_kept : {P : Type 0} → Measure P → Kept P → Stat
+stat_of_kept m k = record { count = k.count; nulls = k.nulls; body = m.body k.parts }

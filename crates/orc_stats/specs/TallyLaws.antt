@@ -12,14 +12,15 @@ use Rattle.orc_stats.specs.declared.seen.Seen.TheVariants.{Nothing, Known, Unkno
 use Rattle.orc_stats.specs.Seen.{both, seen_of, known_of, value_seen}
 use Rattle.orc_stats.specs.Orders.{IsOrderly, or_known_orderly}
 use Rattle.orc_stats.specs.Statistics.{onto, reduce, values_body, has_null, stat}
-use Rattle.orc_stats.specs.Joining.{all_known, of_known, or_known, nulls_joined, bodies_joined, has_values, valued_bodies, joined}
-use Rattle.orc_stats.specs.Tallies.{Joins, all, Measure, Kept, none_kept, together, cell_kept, stat_kept, all_kept, counted, gathered, closed}
-use Rattle.orc_stats.specs.Measures.{seen, ◌and◌}
+use Rattle.orc_stats.specs.Joining.{parts_if_known, of_known, or_known, nulls_joined, bodies_joined, has_values, valued_bodies, joined}
+use Rattle.orc_stats.specs.Tallies.{Joins, all, Measure, Kept, none_kept, together, cell_kept, stat_kept, all_kept, cells_kept, stats_kept, stat_of_kept}
+use Rattle.orc_stats.specs.Measures.{seen_joins, ◌and◌}
 
 -- ---- tallies in any order and grouping
 module _ {P : Type 0} (m : Measure P) where
   pub kept_is : {a c : ℕ} {n o : Option Bool} {p q : P} → a ≡ c → n ≡ o → p ≡ q
-      → (let x : Kept P = record { count = a; nulls = n; parts = p } in let y : Kept P = record { count = c; nulls = o; parts = q } in x ≡ y)
+      → (let x : Kept P = record { count = a; nulls = n; parts = p } in
+      let y : Kept P = record { count = c; nulls = o; parts = q } in x ≡ y)
   kept_is e f g = λ i. record { count = e i; nulls = f i; parts = g i }
 
   pub together_comm : (a b : Kept P) → together m a b ≡ together m b a
@@ -45,70 +46,74 @@ module _ {P : Type 0} (m : Measure P) where
   all_kept-append [] ys = sym (together_none (all_kept m ys))
   all_kept-append (x ∷ xs) ys = ap (together m x) (all_kept-append xs ys) ∙ sym (together_assoc x (all_kept m xs) (all_kept m ys))
 
-  pub counted-append : (a b : List Cell) → counted m (a ++ b) ≡ together m (counted m a) (counted m b)
-  counted-append [] b = sym (together_none (counted m b))
-  counted-append (c ∷ a) b = ap (together m (cell_kept m c)) (counted-append a b) ∙ sym (together_assoc (cell_kept m c) (counted m a) (counted m b))
+  pub cells_kept-append : (a b : List Cell) → cells_kept m (a ++ b) ≡ together m (cells_kept m a) (cells_kept m b)
+  cells_kept-append [] b = sym (together_none (cells_kept m b))
+  cells_kept-append (c ∷ a) b = ap (together m (cell_kept m c)) (cells_kept-append a b) ∙ sym (together_assoc (cell_kept m c) (cells_kept m a) (cells_kept m b))
 
-  pub gathered-append : (a b : List Stat) → gathered m (a ++ b) ≡ together m (gathered m a) (gathered m b)
-  gathered-append [] b = sym (together_none (gathered m b))
-  gathered-append (s ∷ a) b = ap (together m (stat_kept m s)) (gathered-append a b) ∙ sym (together_assoc (stat_kept m s) (gathered m a) (gathered m b))
+  pub stats_kept-append : (a b : List Stat) → stats_kept m (a ++ b) ≡ together m (stats_kept m a) (stats_kept m b)
+  stats_kept-append [] b = sym (together_none (stats_kept m b))
+  stats_kept-append (s ∷ a) b = ap (together m (stat_kept m s)) (stats_kept-append a b) ∙ sym (together_assoc (stat_kept m s) (stats_kept m a) (stats_kept m b))
 
   -- the parts of tallies
-  pub counted_parts : (cells : List Cell) → (counted m cells).parts ≡ all m.joins (map m.of_cell cells)
-  counted_parts [] = refl
-  counted_parts (c ∷ cells) = ap (m.joins.join (m.of_cell c)) (counted_parts cells)
+  pub cells_kept_parts : (cells : List Cell) → (cells_kept m cells).parts ≡ all m.joins (map m.of_cell cells)
+  cells_kept_parts [] = refl
+  cells_kept_parts (c ∷ cells) = ap (m.joins.join (m.of_cell c)) (cells_kept_parts cells)
 
-  pub counted_nulls : (cells : List Cell) → (counted m cells).nulls ≡ Some (has_null cells)
-  counted_nulls [] = refl
-  counted_nulls (null ∷ cells) = refl
-  counted_nulls (leaf a ∷ cells) = counted_nulls cells
-  counted_nulls (list cs ∷ cells) = counted_nulls cells
-  counted_nulls (struct cs ∷ cells) = counted_nulls cells
+  pub cells_kept_nulls : (cells : List Cell) → (cells_kept m cells).nulls ≡ Some (has_null cells)
+  cells_kept_nulls [] = refl
+  cells_kept_nulls (null ∷ cells) = refl
+  cells_kept_nulls (leaf a ∷ cells) = cells_kept_nulls cells
+  cells_kept_nulls (list cs ∷ cells) = cells_kept_nulls cells
+  cells_kept_nulls (struct cs ∷ cells) = cells_kept_nulls cells
 
-  pub counted_count : (cells : List Cell) → (counted m cells).count ≡ length (values cells)
-  counted_count [] = refl
-  counted_count (null ∷ cells) = zero-add _ ∙ counted_count cells
-  counted_count (leaf a ∷ cells) = let e = counted_count cells in omega arith
-  counted_count (list cs ∷ cells) = let e = counted_count cells in omega arith
-  counted_count (struct cs ∷ cells) = let e = counted_count cells in omega arith
+  pub cells_kept_count : (cells : List Cell) → (cells_kept m cells).count ≡ length (values cells)
+  cells_kept_count [] = refl
+  cells_kept_count (null ∷ cells) = zero-add _ ∙ cells_kept_count cells
+  cells_kept_count (leaf a ∷ cells) = let e = cells_kept_count cells in omega arith
+  cells_kept_count (list cs ∷ cells) = let e = cells_kept_count cells in omega arith
+  cells_kept_count (struct cs ∷ cells) = let e = cells_kept_count cells in omega arith
 
   pub stat_is : {a c : ℕ} {n o : Option Bool} {p q : Body} → a ≡ c → n ≡ o → p ≡ q
-      → (let x : Stat = record { count = a; nulls = n; body = p } in let y : Stat = record { count = c; nulls = o; body = q } in x ≡ y)
+      → (let x : Stat = record { count = a; nulls = n; body = p } in
+      let y : Stat = record { count = c; nulls = o; body = q } in x ≡ y)
   stat_is e f g = λ i. record { count = e i; nulls = f i; body = g i }
 
   -- the statistic of cells, where its body is
-  pub closed_cells : (k : StatKind) (cells : List Cell)
-      → m.body (all m.joins (map m.of_cell cells)) ≡ values_body k cells → closed m (counted m cells) ≡ stat k cells
-  closed_cells k cells e = stat_is (counted_count cells) (counted_nulls cells) (ap m.body (counted_parts cells) ∙ e)
+  pub stat_of_kept_cells : (k : StatKind) (cells : List Cell)
+      → m.body (all m.joins (map m.of_cell cells)) ≡ values_body k cells → stat_of_kept m (cells_kept m cells) ≡ stat k cells
+  stat_of_kept_cells k cells e = stat_is (cells_kept_count cells) (cells_kept_nulls cells) (ap m.body (cells_kept_parts cells) ∙ e)
 
-  pub gathered_count : (ss : List Stat) → (gathered m ss).count ≡ sum_by (λ s. s.count) ss
-  gathered_count [] = refl
-  gathered_count (s ∷ ss) = ap (λ n. s.count + n) (gathered_count ss) ∙ sym (sum_by-cons (λ t. t.count) s ss)
+  pub stats_kept_count : (ss : List Stat) → (stats_kept m ss).count ≡ sum_by (λ s. s.count) ss
+  stats_kept_count [] = refl
+  stats_kept_count (s ∷ ss) = ap (λ n. s.count + n) (stats_kept_count ss) ∙ sym (sum_by-cons (λ t. t.count) s ss)
 
-  pub gathered_nulls : (ss : List Stat) → (gathered m ss).nulls ≡ nulls_joined (map (λ s. s.nulls) ss)
-  gathered_nulls [] = refl
-  gathered_nulls (s ∷ ss) = ap (or_known s.nulls) (gathered_nulls ss)
+  pub stats_kept_nulls : (ss : List Stat) → (stats_kept m ss).nulls ≡ nulls_joined (map (λ s. s.nulls) ss)
+  stats_kept_nulls [] = refl
+  stats_kept_nulls (s ∷ ss) = ap (or_known s.nulls) (stats_kept_nulls ss)
 
-  gathered_more : (b : Bool) (o : Body) (p : P) (bs : List Body) → p ≡ all m.joins (map m.of_body bs)
-      → m.joins.join (if b then m.of_body o else m.joins.none) p ≡ all m.joins (map m.of_body (if b then o ∷ bs else bs))
-  gathered_more true o p bs e = ap (m.joins.join (m.of_body o)) e
-  gathered_more false o p bs e = m.joins.unit p ∙ e
+  stats_kept_more : (b : Bool) (o : Body) (p : P) (bs : List Body) → p ≡ all m.joins (map m.of_body bs)
+      → m.joins.join (if b then m.of_body o else m.joins.none) p
+      ≡ all m.joins (map m.of_body (if b then o ∷ bs else bs))
+  stats_kept_more true o p bs e = ap (m.joins.join (m.of_body o)) e
+  stats_kept_more false o p bs e = m.joins.unit p ∙ e
 
   with_values : (b : Bool) (s : Stat) (ss : List Stat)
-      → map (λ t. t.body) (if b then s ∷ ss else ss) ≡ (if b then s.body ∷ map (λ t. t.body) ss else map (λ t. t.body) ss)
+      → map (λ t. t.body) (if b then s ∷ ss else ss)
+      ≡ (if b then s.body ∷ map (λ t. t.body) ss else map (λ t. t.body) ss)
   with_values true s ss = refl
   with_values false s ss = refl
 
-  gathered_parts : (ss : List Stat) → (gathered m ss).parts ≡ all m.joins (map m.of_body (valued_bodies ss))
-  gathered_parts [] = refl
-  gathered_parts (s ∷ ss) =
-      gathered_more (has_values s) s.body (gathered m ss).parts (map (λ t. t.body) (filter has_values ss)) (gathered_parts ss)
+  stats_kept_parts : (ss : List Stat) → (stats_kept m ss).parts ≡ all m.joins (map m.of_body (valued_bodies ss))
+  stats_kept_parts [] = refl
+  stats_kept_parts (s ∷ ss) =
+      stats_kept_more (has_values s) s.body (stats_kept m ss).parts (map (λ t. t.body) (filter has_values ss)) (stats_kept_parts ss)
       ∙ ap (λ bs. all m.joins (map m.of_body bs)) (sym (with_values (has_values s) s (filter has_values ss)))
 
   -- the statistic of statistics, where its body is
-  pub closed_stats : (k : StatKind) (ss : List Stat)
-      → ((bs : List Body) → m.body (all m.joins (map m.of_body bs)) ≡ bodies_joined k bs) → closed m (gathered m ss) ≡ joined k ss
-  closed_stats k ss e = stat_is (gathered_count ss) (gathered_nulls ss) (ap m.body (gathered_parts ss) ∙ e (valued_bodies ss))
+  pub stat_of_kept_stats : (k : StatKind) (ss : List Stat)
+      → ((bs : List Body) → m.body (all m.joins (map m.of_body bs)) ≡ bodies_joined k bs)
+      → stat_of_kept m (stats_kept m ss) ≡ joined k ss
+  stat_of_kept_stats k ss e = stat_is (stats_kept_count ss) (stats_kept_nulls ss) (ap m.body (stats_kept_parts ss) ∙ e (valued_bodies ss))
 
 -- ---- parts of one word
 module _ {A : Type 0} (op : A → A → A) (o : IsOrderly op) where
@@ -116,12 +121,13 @@ module _ {A : Type 0} (op : A → A → A) (o : IsOrderly op) where
   value_onto x None = refl
   value_onto x (Some y) = refl
 
-  value_more : (v : Option A) (vs : List A) → both op (value_seen v) (value_seen (reduce op vs)) ≡ value_seen (reduce op (cons_option v vs))
+  value_more : (v : Option A) (vs : List A)
+      → both op (value_seen v) (value_seen (reduce op vs)) ≡ value_seen (reduce op (cons_option v vs))
   value_more None vs = refl
   value_more (Some x) vs = value_onto x (reduce op vs)
 
   pub seen_values : {X : Type 0} (pick : X → Option A) (xs : List X)
-      → all (seen op o) (map (λ x. value_seen (pick x)) xs) ≡ value_seen (reduce op (filter_map pick xs))
+      → all (seen_joins op o) (map (λ x. value_seen (pick x)) xs) ≡ value_seen (reduce op (filter_map pick xs))
   seen_values pick [] = refl
   seen_values pick (x ∷ xs) = ap (both op (value_seen (pick x))) (seen_values pick xs) ∙ value_more (pick x) (filter_map pick xs)
 
@@ -135,17 +141,20 @@ module _ {A : Type 0} (op : A → A → A) (o : IsOrderly op) where
   unknown_stays (Known y) = refl
   unknown_stays Unknown = refl
 
-  parts_onto : (x : A) (p : Option (List A)) → both op (Known x) (parts_seen p) ≡ parts_seen (option_map (λ xs. x ∷ xs) p)
+  parts_onto : (x : A) (p : Option (List A))
+      → both op (Known x) (parts_seen p) ≡ parts_seen (option_map (λ xs. x ∷ xs) p)
   unfolding parts_seen
   parts_onto x None = refl
   parts_onto x (Some xs) = value_onto x (reduce op xs)
 
-  parts_more : (p : Option A) (ps : List (Option A)) → both op (seen_of p) (parts_seen (all_known ps)) ≡ parts_seen (all_known (p ∷ ps))
+  parts_more : (p : Option A) (ps : List (Option A))
+      → both op (seen_of p) (parts_seen (parts_if_known ps)) ≡ parts_seen (parts_if_known (p ∷ ps))
   unfolding parts_seen
-  parts_more None ps = unknown_stays (parts_seen (all_known ps))
-  parts_more (Some x) ps = parts_onto x (all_known ps)
+  parts_more None ps = unknown_stays (parts_seen (parts_if_known ps))
+  parts_more (Some x) ps = parts_onto x (parts_if_known ps)
 
-  pub seen_parts : {X : Type 0} (part : X → Option A) (xs : List X) → all (seen op o) (map (λ x. seen_of (part x)) xs) ≡ parts_seen (all_known (map part xs))
+  pub seen_parts : {X : Type 0} (part : X → Option A) (xs : List X)
+      → all (seen_joins op o) (map (λ x. seen_of (part x)) xs) ≡ parts_seen (parts_if_known (map part xs))
   unfolding parts_seen
   seen_parts part [] = refl
   seen_parts part (x ∷ xs) = ap (both op (seen_of (part x))) (seen_parts part xs) ∙ parts_more (part x) (map part xs)
@@ -167,16 +176,17 @@ module _ {A : Type 0} (op : A → A → A) (o : IsOrderly op) where
   known_reduced (Some xs) = known_value (reduce op xs)
 
   pub known_values : {X : Type 0} (pick : X → Option A) (xs : List X)
-      → known_of (all (seen op o) (map (λ x. value_seen (pick x)) xs)) ≡ reduce op (filter_map pick xs)
+      → known_of (all (seen_joins op o) (map (λ x. value_seen (pick x)) xs)) ≡ reduce op (filter_map pick xs)
   known_values pick xs = ap known_of (seen_values pick xs) ∙ known_value (reduce op (filter_map pick xs))
 
   pub known_all : {X : Type 0} (part : X → Option A) (xs : List X)
-      → known_of (all (seen op o) (map (λ x. seen_of (part x)) xs)) ≡ of_known (reduce op) (map part xs)
-  known_all part xs = ap known_of (seen_parts part xs) ∙ known_reduced (all_known (map part xs))
+      → known_of (all (seen_joins op o) (map (λ x. seen_of (part x)) xs)) ≡ of_known (reduce op) (map part xs)
+  known_all part xs = ap known_of (seen_parts part xs) ∙ known_reduced (parts_if_known (map part xs))
 
   pub known_all_in : (f : A → Option A) {X : Type 0} (part : X → Option A) (xs : List X)
-      → option_and_then f (known_of (all (seen op o) (map (λ x. seen_of (part x)) xs))) ≡ of_known (λ ys. option_and_then f (reduce op ys)) (map part xs)
-  known_all_in f part xs = ap (λ s. option_and_then f (known_of s)) (seen_parts part xs) ∙ known_parts f (all_known (map part xs))
+      → option_and_then f (known_of (all (seen_joins op o) (map (λ x. seen_of (part x)) xs)))
+      ≡ of_known (λ ys. option_and_then f (reduce op ys)) (map part xs)
+  known_all_in f part xs = ap (λ s. option_and_then f (known_of s)) (seen_parts part xs) ∙ known_parts f (parts_if_known (map part xs))
 
 -- ---- parts side by side
 module _ {P Q X : Type 0} (a : Joins P) (b : Joins Q) (f : X → P) (g : X → Q) where

@@ -1,3 +1,4 @@
+//! The statistic of cells, and the one that several are joined to.
 ghost use Rattle.std.specs.Prelude.{◌≡◌, ◌≤◌, ◌^◌, IfOk, IfErr, OnOk, All, length, sum_by, true};
 ghost use Rattle.orc_types.specs.Lent.{lent_cells};
 ghost use Rattle.orc_stats.specs.declared.kind.StatKind.TheVariants.{Texts as text_kind};

@@ -1,6 +1,6 @@
 //! Laws of statistics. Each function does nothing: its contract is what it is for.
 ghost use Rattle.std.specs.Ordering.{int_cmp, flip_args};
-ghost use Rattle.orc_stats.specs.Meanings.{IsLowest, added, trues};
+ghost use Rattle.orc_stats.specs.Meanings.{IsLowest, sum_without_limit, trues};
 ghost use Rattle.std.specs.Prelude.{◌≡◌, ◌↔◌, ℕ, ℤ, pos, negsuc, ◌≤◌, ◌+◌, ◌^◌, ◌++◌, ◌∷◌, Bool, true, false, Some, None, List, [], sum_by, IsPermutation, flat_map, length, map};
 ghost use Rattle.std.specs.List.{AllByRecursion};
 ghost use Rattle.orc_types.specs.Cells.{Cell};
@@ -16,7 +16,7 @@ ghost use Rattle.orc_stats.specs.Statistics.{reduce, bit, least, greatest, text_
 ghost use Rattle.orc_stats.specs.Joining.{sum_of, joined};
 ghost use Rattle.orc_stats.specs.Whole.{whole};
 ghost use Rattle.orc_stats.specs.Messages.{IsStat, stat_read, message_of};
-ghost use Rattle.orc_stats.specs.Tallies.{Kept, none_kept, together, counted, gathered, closed};
+ghost use Rattle.orc_stats.specs.Tallies.{Kept, none_kept, together, cells_kept, stats_kept, stat_of_kept};
 
 use crate::tally::Tally;
 
@@ -32,13 +32,18 @@ pub fn stat_laws()
     ensures order { (k : StatKind) (xs ys : List Cell) → IsPermutation xs ys → stat k ys ≡ stat k xs }
 
     ensures least_number { (zs : List ℤ) (z : ℤ) → (least int_cmp zs ≡ Some z) ↔ IsLowest int_cmp zs z }
-    ensures greatest_number { (zs : List ℤ) (z : ℤ) → (greatest int_cmp zs ≡ Some z) ↔ IsLowest (flip_args int_cmp) zs z }
+    ensures greatest_number { (zs : List ℤ) (z : ℤ)
+        → (greatest int_cmp zs ≡ Some z) ↔ IsLowest (flip_args int_cmp) zs z }
     ensures least_text { (ts : List (List ℕ)) (t : List ℕ) → (least text_cmp ts ≡ Some t) ↔ IsLowest text_cmp ts t }
-    ensures greatest_text { (ts : List (List ℕ)) (t : List ℕ) → (greatest text_cmp ts ≡ Some t) ↔ IsLowest (flip_args text_cmp) ts t }
-    ensures total { (z : ℤ) (zs : List ℤ) → exact_total (z ∷ zs) ≡ Some (added (z ∷ zs)) }
+    ensures greatest_text { (ts : List (List ℕ)) (t : List ℕ)
+        → (greatest text_cmp ts ≡ Some t) ↔ IsLowest (flip_args text_cmp) ts t }
+    ensures total { (z : ℤ) (zs : List ℤ) → exact_total (z ∷ zs) ≡ Some (sum_without_limit (z ∷ zs)) }
     ensures true_count { (b : Bool) (bs : List Bool) → reduce ◌+◌ (map bit (b ∷ bs)) ≡ Some (trues (b ∷ bs)) }
 
-    ensures normal { (k : StatKind) (cells : List Cell) → AllByRecursion (λ c. is_of k c ≡ true) cells → length cells ≤ 2 ^ 62 → IsStat k (stat k cells) }
+    ensures normal { (k : StatKind) (cells : List Cell)
+        → AllByRecursion (λ c. is_of k c ≡ true) cells
+        → length cells ≤ 2 ^ 62
+        → IsStat k (stat k cells) }
 {}
 
 /// Joined statistics have no order, one of no cells adds nothing, and those of the parts of a column are
@@ -48,10 +53,13 @@ pub fn join_laws()
     ensures order { (k : StatKind) (xs ys : List Stat) → IsPermutation xs ys → joined k ys ≡ joined k xs }
     ensures empty { (k : StatKind) (o : Body) (ss : List Stat) →
         let none : Stat = record { count = 0; nulls = Some false; body = o } in joined k (none ∷ ss) ≡ joined k ss }
-    ensures parts { (k : StatKind) (parts : List (List Cell)) → AllByRecursion (AllByRecursion (λ c. is_of k c ≡ true)) parts
-        → length (flat_map (λ p. p) parts) ≤ 2 ^ 62 → joined k (map (stat k) parts) ≡ whole k parts }
+    ensures parts { (k : StatKind) (parts : List (List Cell))
+        → AllByRecursion (AllByRecursion (λ c. is_of k c ≡ true)) parts
+        → length (flat_map (λ p. p) parts) ≤ 2 ^ 62
+        → joined k (map (stat k) parts) ≡ whole k parts }
     ensures normal { (k : StatKind) (ss : List Stat) → sum_by (λ s. s.count) ss ≤ 2 ^ 62 → IsStat k (joined k ss) }
-    ensures regrouped { let one : ℤ → Stat = λ z. record { count = 1; nulls = Some false; body = body.Ints (Some z) (Some z) (Some z) } in
+    ensures regrouped { let one : ℤ → Stat =
+        λ z. record { count = 1; nulls = Some false; body = body.Ints (Some z) (Some z) (Some z) } in
         let most : ℤ = pos 9223372036854775807 in
         let two : Stat = joined kind.Ints (one most ∷ one (pos 1) ∷ []) in
         let three : Stat = joined kind.Ints (one most ∷ one (pos 1) ∷ one (negsuc 0) ∷ []) in
@@ -59,7 +67,7 @@ pub fn join_laws()
 {}
 
 /// A statistic that was put reads back by its kind.
-pub fn message_laws()
+pub fn stat_message_laws()
     ensures { (k : StatKind) (s : Stat) → IsStat k s → stat_read k (message_of s) ≡ s }
 {}
 
@@ -68,11 +76,16 @@ pub fn message_laws()
 /// That of cells, closed, is their statistic, and that of statistics is what they are joined.
 pub fn tally_laws<'r, T: Tally<'r>>()
     ensures commutative { (a b : Kept T.Parts) → together T.measure a b ≡ together T.measure b a }
-    ensures associative { (a b c : Kept T.Parts) → together T.measure (together T.measure a b) c ≡ together T.measure a (together T.measure b c) }
+    ensures associative { (a b c : Kept T.Parts)
+        → together T.measure (together T.measure a b) c ≡ together T.measure a (together T.measure b c) }
     ensures unit { (a : Kept T.Parts) → together T.measure (none_kept T.measure) a ≡ a }
-    ensures append { (a b : List Cell) → counted T.measure (a ++ b) ≡ together T.measure (counted T.measure a) (counted T.measure b) }
-    ensures append_statistics { (a b : List Stat) → gathered T.measure (a ++ b) ≡ together T.measure (gathered T.measure a) (gathered T.measure b) }
+    ensures append { (a b : List Cell)
+        → cells_kept T.measure (a ++ b) ≡ together T.measure (cells_kept T.measure a) (cells_kept T.measure b) }
+    ensures append_statistics { (a b : List Stat)
+        → stats_kept T.measure (a ++ b) ≡ together T.measure (stats_kept T.measure a) (stats_kept T.measure b) }
 
-    ensures cells { (cells : List Cell) → length cells ≤ 2 ^ 62 → closed T.measure (counted T.measure cells) ≡ stat T.kind cells }
-    ensures statistics { (ss : List Stat) → closed T.measure (gathered T.measure ss) ≡ joined T.kind ss }
+    ensures cells { (cells : List Cell)
+        → length cells ≤ 2 ^ 62
+        → stat_of_kept T.measure (cells_kept T.measure cells) ≡ stat T.kind cells }
+    ensures statistics { (ss : List Stat) → stat_of_kept T.measure (stats_kept T.measure ss) ≡ joined T.kind ss }
 {}

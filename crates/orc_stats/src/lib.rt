@@ -20,7 +20,7 @@ pub use counted::Counted;
 pub use fault::StatFault;
 pub use join::{join_all, of_cells};
 pub use kind::StatKind;
-pub use laws::{join_laws, kind_laws, message_laws, stat_laws, tally_laws};
+pub use laws::{join_laws, kind_laws, stat_laws, stat_message_laws, tally_laws};
 pub use measures::{Bins, Bools, Dates, Ints, Measures, Plain, Sizes, Texts};
 pub use seen::Seen;
 pub use stat::{Body, Stat};

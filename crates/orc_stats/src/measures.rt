@@ -37,7 +37,7 @@ pub trait Measures<'r>: Sizes + Sized + Drop {
     ghost use Rattle.orc_stats.specs.Kinds.{is_of, body_is_of};
     ghost use Rattle.orc_stats.specs.Statistics.{stat};
     ghost use Rattle.orc_stats.specs.Joining.{joined};
-    ghost use Rattle.orc_stats.specs.Tallies.{Measure, counted, gathered, closed};
+    ghost use Rattle.orc_stats.specs.Tallies.{Measure, cells_kept, stats_kept, stat_of_kept};
 
     // What is kept of the values.
     ghost Parts: { Type 0 };
@@ -50,9 +50,11 @@ pub trait Measures<'r>: Sizes + Sized + Drop {
     // Whether `body` takes memory.
     ghost TakesMemory: { Type 0 };
     // What was counted of cells, once closed, is their statistic.
-    ghost cells_are: { (cells : List Cell) → length cells ≤ 2 ^ 62 → closed measure (counted measure cells) ≡ stat kind cells };
+    ghost cells_are: { (cells : List Cell)
+        → length cells ≤ 2 ^ 62
+        → stat_of_kept measure (cells_kept measure cells) ≡ stat kind cells };
     // What was counted of statistics is what they are joined.
-    ghost stats_are: { (ss : List Stat) → closed measure (gathered measure ss) ≡ joined kind ss };
+    ghost stats_are: { (ss : List Stat) → stat_of_kept measure (stats_kept measure ss) ≡ joined kind ss };
 
     /// Of no values.
     fn none() -> Self

@@ -1,8 +1,9 @@
+//! Statistics and their messages in a file, read and written.
 ghost use Rattle.std.specs.Prelude.{◌≡◌, IfOk, IfErr, true};
 ghost use Rattle.orc_stats.specs.Messages as spec;
 ghost use Rattle.orc_stats.specs.Messages.{stat_read, body_read, few_trues, in_limits, message_of, takes_memory};
 ghost use Rattle.orc_stats.specs.Joining.{trues_of};
-ghost use Rattle.orc_stats.specs.Faults.{ReadFault};
+ghost use Rattle.orc_stats.specs.Faults.{MessageFault};
 ghost use Rattle.orc_stats.specs.declared.kind.StatKind.TheVariants as kind_name;
 ghost use Rattle.orc_stats.specs.declared.fault.StatFault.TheVariants.{OutOfMemory};
 
@@ -27,7 +28,7 @@ impl Stat {
     pub fn read(alloc: Global, kind: StatKind, message: &ColumnStats) -> Result<Stat, StatFault>
         ensures found { IfOk result (λ s. s ≡ stat_read kind message.now) }
         ensures limits { IfOk result (λ s. in_limits s ≡ true) }
-        ensures fault { IfErr result (ReadFault kind message.now) }
+        ensures fault { IfErr result (MessageFault kind message.now) }
     {
         if message.number_of_values > MOST_VALUES {
             return Err(StatFault::CountTooLarge);

@@ -5,7 +5,7 @@ ghost use Rattle.std.specs.Option.{is_some};
 ghost use Rattle.orc_stats.specs.Messages as spec;
 
 use crate::stat::Body;
-use crate::text_parts::copied_part;
+use crate::text_parts::copy_part;
 use orc_wire::{
     BinaryStatistics, BucketStatistics, Bytes, DateStatistics, IntegerStatistics, Items,
     StringStatistics,
@@ -118,8 +118,8 @@ pub(crate) fn texts_body(
 {
     match found {
         Some(record) => Ok(Body::Texts {
-            least: copied_part(alloc, &record.minimum)?,
-            greatest: copied_part(alloc, &record.maximum)?,
+            least: copy_part(alloc, &record.minimum)?,
+            greatest: copy_part(alloc, &record.maximum)?,
             sum: record.sum,
         }),
         None => Ok(Body::Texts {
@@ -142,8 +142,8 @@ pub(crate) fn texts_record(
 {
     if least.is_some() || greatest.is_some() || sum.is_some() {
         Ok(Some(StringStatistics {
-            minimum: copied_part(alloc, least)?,
-            maximum: copied_part(alloc, greatest)?,
+            minimum: copy_part(alloc, least)?,
+            maximum: copy_part(alloc, greatest)?,
             sum,
         }))
     } else {

@@ -1,3 +1,4 @@
+//! A part of a statistic while it is counted: of no values yet, known, or not to be known any more.
 ghost use Rattle.std.specs.Prelude.{◌≡◌};
 ghost use Rattle.std.specs.Ordering.{flip_args};
 ghost use Rattle.orc_stats.specs.Seen.{both, seen_of, known_of};

@@ -1,3 +1,4 @@
+//! A column's statistic.
 use orc_wire::Bytes;
 
 /// A statistic of a list of cells (ORC specification, "Column Statistics"). A part of `body` that is

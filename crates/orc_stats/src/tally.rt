@@ -21,7 +21,7 @@ pub trait Tally<'r>: Sized + Drop {
     ghost use Rattle.orc_stats.specs.Kinds.{is_of, body_is_of};
     ghost use Rattle.orc_stats.specs.Statistics.{stat, bit};
     ghost use Rattle.orc_stats.specs.Joining.{joined};
-    ghost use Rattle.orc_stats.specs.Tallies.{Measure, Kept, none_kept, together, cell_kept, stat_kept, counted, gathered, closed};
+    ghost use Rattle.orc_stats.specs.Tallies.{Measure, Kept, none_kept, together, cell_kept, stat_kept, cells_kept, stats_kept, stat_of_kept};
     ghost use Rattle.orc_stats.specs.Faults.{JoinFault};
 
     // What is counted of the values.
@@ -35,9 +35,11 @@ pub trait Tally<'r>: Sized + Drop {
     // Whether `close` takes memory.
     ghost TakesMemory: { Type 0 };
     // What was counted of cells, once closed, is their statistic.
-    ghost cells_are: { (cells : List Cell) → length cells ≤ 2 ^ 62 → closed measure (counted measure cells) ≡ stat kind cells };
+    ghost cells_are: { (cells : List Cell)
+        → length cells ≤ 2 ^ 62
+        → stat_of_kept measure (cells_kept measure cells) ≡ stat kind cells };
     // What was counted of statistics is what they are joined.
-    ghost stats_are: { (ss : List Stat) → closed measure (gathered measure ss) ≡ joined kind ss };
+    ghost stats_are: { (ss : List Stat) → stat_of_kept measure (stats_kept measure ss) ≡ joined kind ss };
 
     /// Of nothing.
     fn unit() -> Self
@@ -64,7 +66,7 @@ pub trait Tally<'r>: Sized + Drop {
     ///
     /// Refusal: `OutOfMemory`, where a text has to be copied.
     fn close(&self, alloc: Global) -> Result<Stat, StatFault>
-        ensures found { IfOk result (λ s. s ≡ closed measure (kept self.now)) }
+        ensures found { IfOk result (λ s. s ≡ stat_of_kept measure (kept self.now)) }
         ensures fault { IfErr result (λ fault. (fault ≡ OutOfMemory) × TakesMemory) };
 
     /// The statistic of cells.

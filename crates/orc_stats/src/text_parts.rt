@@ -18,7 +18,7 @@ pub(crate) fn lent_part(part: &Option<Bytes>) -> Seen<&[u8]>
 }
 
 /// Bytes of our own.
-fn copied(alloc: Global, bytes: &[u8]) -> Result<Bytes, AllocError>
+fn copy_bytes(alloc: Global, bytes: &[u8]) -> Result<Bytes, AllocError>
     ensures { IfOk result (λ copy. copy ≡ bytes.now) }
 {
     let mut copy = Vec::new(alloc);
@@ -31,18 +31,18 @@ pub(crate) fn owned_part(alloc: Global, part: Seen<&[u8]>) -> Result<Option<Byte
     ensures { IfOk result (λ text. text ≡ known_of (seen_now part.entry)) }
 {
     match part {
-        Seen::Known(bytes) => Ok(Some(copied(alloc, bytes)?)),
+        Seen::Known(bytes) => Ok(Some(copy_bytes(alloc, bytes)?)),
         Seen::Nothing | Seen::Unknown => Ok(None),
     }
 }
 
 /// A text of our own, if there is one.
-pub(crate) fn copied_part(alloc: Global, part: &Option<Bytes>) -> Result<Option<Bytes>, AllocError>
+pub(crate) fn copy_part(alloc: Global, part: &Option<Bytes>) -> Result<Option<Bytes>, AllocError>
     ensures found { IfOk result (λ copy. copy ≡ part.now) }
     ensures fault { IfErr result (λ _. is_some part.now ≡ true) }
 {
     match part {
-        Some(bytes) => Ok(Some(copied(alloc, bytes.as_slice())?)),
+        Some(bytes) => Ok(Some(copy_bytes(alloc, bytes.as_slice())?)),
         None => Ok(None),
     }
 }

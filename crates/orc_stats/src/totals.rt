@@ -1,3 +1,4 @@
+//! Sums and numbers of values while they are counted. A sum may pass 64 bits on the way.
 ghost use Rattle.std.specs.Prelude.{◌≡◌, ◌+◌, ◌+ℤ◌, ◌^◌, ◌<◌, ◌≤◌, pos, length};
 ghost use Rattle.std.specs.Option.{option_and_then};
 ghost use Rattle.orc_stats.specs.Seen.{both, seen_of, known_of};

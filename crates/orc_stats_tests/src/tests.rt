@@ -1,3 +1,4 @@
+//! What statistics say, as the tests compare it.
 ghost use Rattle.std.specs.Prelude.{◌≡◌, true};
 ghost use Rattle.orc_stats.specs.Kinds.{body_is_of};
 ghost use Rattle.orc_stats.specs.declared.kind.StatKind.TheVariants as kind;
@@ -20,7 +21,7 @@ struct Said {
     total: Option<i64>,
 }
 
-fn told(stat: &Stat) -> Said {
+fn summary_of(stat: &Stat) -> Said {
     let (least, greatest, total) = match &stat.body {
         Body::Plain => (None, None, None),
         Body::Ints {
@@ -43,7 +44,7 @@ fn told(stat: &Stat) -> Said {
 }
 
 /// So many values, and whether there is null; of the values nothing is known.
-fn counted(count: u64, nulls: Option<bool>) -> Said {
+fn count_of(count: u64, nulls: Option<bool>) -> Said {
     Said {
         count,
         nulls,
@@ -75,7 +76,7 @@ impl Said {
 /// Whether the answer is a statistic that says this.
 fn says(answer: &Result<Stat, StatFault>, wanted: Said) -> bool {
     match answer {
-        Ok(stat) => told(stat) == wanted,
+        Ok(stat) => summary_of(stat) == wanted,
         Err(_) => false,
     }
 }

@@ -1,11 +1,11 @@
 -- Rows from a group on, as its positions are entered (ORC specification, "Row Group Index").
-use Rattle.std.specs.Prelude.{◌≡◌, ℕ, ◌*◌, ◌<◌, ◌≤◌, ◌^◌, Some, List, take, slice_get, ◌⊎◌}
+use Rattle.std.specs.Prelude.{◌≡◌, ℕ, ◌*◌, ◌<◌, ◌≤◌, Some, List, take, slice_get, ◌⊎◌}
 use Rattle.orc_types.specs.Cells.{Cell}
 use Rattle.orc_types.specs.Columns.{cells}
 use Rattle.orc_types.specs.Shapes.{width, shape_at}
 use Rattle.orc_wire.specs.declared.row_index.RowIndexEntry.{RowIndexEntry}
 use Rattle.orc_wire.specs.declared.row_index.RowIndexMsg.{RowIndexMsg}
-use Rattle.orc_columns.specs.Stripe.{Streams, SpellRows, columns_of}
+use Rattle.orc_columns.specs.Stripe.{Streams, SpellRows, columns_of, cell_limit}
 use Rattle.orc_columns.specs.declared.fault.Spot.TheVariants as spot
 use Rattle.orc_columns.specs.declared.fault.StripeFault.{StripeFault}
 use Rattle.orc_columns.specs.declared.fault.StripeFault.TheVariants as fault
@@ -23,25 +23,32 @@ pub record HasGroup (view : Opened) (group : ℕ) : Type 0 where
 -- the entry of a group in column c's index, which has one for each group
 abbrev pub IsGroupEntry : Opened → ℕ → ℕ → RowIndexEntry → Type 0
 IsGroupEntry view c group entry =
-    (message : RowIndexMsg) × HasIndex view.footer view.bytes c message × IsWhole view view.info.number_of_rows message × (slice_get message.entries group ≡ Some entry)
+    (message : RowIndexMsg) × HasIndex view.footer view.bytes c message
+    × IsWhole view view.info.number_of_rows message
+    × (slice_get message.entries group ≡ Some entry)
 
--- the group's positions in column c are right in streams x behind the cells before it, and the stripe's streams are the same from these on
+-- the group's positions in column c are right in streams x behind the cells before it, and the stripe's streams
+-- are the same from these on
 abbrev pub StartsColumn : Opened → Streams → List Cell → ℕ → ℕ → Type 0
 StartsColumn view x before c group =
-    (entry : RowIndexEntry) × IsGroupEntry view c group entry × AgreeFromPlaces (shape_at view.schema c) x (columns_of view.footer view.bytes c) before entry.positions
+    (entry : RowIndexEntry) × IsGroupEntry view c group entry
+    × AgreeFromPlaces (shape_at view.schema c) x (columns_of view.footer view.bytes c) before entry.positions
 
--- Columns x spell rows, as many as the stripe has. The stripe has the group, and each column of it starts behind the rows before. Where x are the
--- stripe's own columns, the rows are the stripe's; else it differs from a stripe of these rows only in what stands before the positions.
+-- Columns x spell rows, as many as the stripe has. The stripe has the group, and each column of it starts
+-- behind the rows before. Where x are the stripe's own columns, the rows are the stripe's; else it differs from
+-- a stripe of these rows only in what stands before the positions.
 pub record StartsGroup (view : Opened) (x : ℕ → Streams) (rows : List Cell) (group : ℕ) : Type 0 where
   pub has_group : HasGroup view group
   pub spelled : SpellRows view.schema x view.info.number_of_rows rows
-  pub column : (c : ℕ) → c < width view.schema → StartsColumn view (x c) (cells view.schema c (take (group * view.stride) rows)) c group
+  pub column : (c : ℕ) → c < width view.schema
+      → StartsColumn view (x c) (cells view.schema c (take (group * view.stride) rows)) c group
 
 -- the group's positions in column c are right in the stripe's own streams
 abbrev pub HasRightEntry : Opened → List Cell → ℕ → ℕ → Type 0
 HasRightEntry view rows c group =
     (entry : RowIndexEntry) × IsGroupEntry view c group entry
-    × AreReadPlaces (shape_at view.schema c) (columns_of view.footer view.bytes c) (cells view.schema c (take (group * view.stride) rows)) entry.positions
+    × AreReadPlaces (shape_at view.schema c) (columns_of view.footer view.bytes c)
+    (cells view.schema c (take (group * view.stride) rows)) entry.positions
 
 -- why a column has no entry of a group that the stripe has
 abbrev pub EntryFault : Opened → ℕ → StripeFault → Type 0
@@ -60,14 +67,22 @@ abbrev pub NoGroup : Opened → ℕ → StripeFault → Type 0
 NoGroup view group f =
     ((f ≡ fault.NoIndex spot.Stripe) × (view.stride ≡ 0))
     ⊎ ((0 < view.stride)
-    × (((f ≡ fault.TooMany 0) × (2 ^ 31 ≤ view.info.number_of_rows))
-    ⊎ ((f ≡ fault.BadPosition spot.Stripe) × (view.info.number_of_rows < 2 ^ 31) × (view.info.number_of_rows ≤ group * view.stride))))
+    × (((f ≡ fault.TooMany 0) × (cell_limit ≤ view.info.number_of_rows))
+    ⊎ ((f ≡ fault.BadPosition spot.Stripe)
+    × (view.info.number_of_rows < cell_limit)
+    × (view.info.number_of_rows ≤ group * view.stride))))
 
 -- one of the columns isn't entered at its entry's positions
 abbrev pub GroupRefused : Opened → ℕ → StripeFault → Type 0
 GroupRefused view group f =
-    (c : ℕ) × (entry : RowIndexEntry) × IsGroupEntry view c group entry × ColumnRefused (shape_at view.schema c) (columns_of view.footer view.bytes c) c entry.positions f
+    (c : ℕ) × (entry : RowIndexEntry)
+    × IsGroupEntry view c group entry
+    × ColumnRefused (shape_at view.schema c) (columns_of view.footer view.bytes c) c entry.positions f
 
--- why there is no cursor at a group: it isn't there, or a column has no entry of it, or each has one, and a column isn't entered there
+-- why there is no cursor at a group: it isn't there, or a column has no entry of it, or each has one, and a
+-- column isn't entered there
 abbrev pub GroupFault : Opened → ℕ → StripeFault → Type 0
-GroupFault view group f = NoGroup view group f ⊎ (HasGroup view group × (EntriesFault view f ⊎ (HasEntries view group × GroupRefused view group f)))
+GroupFault view group f =
+    NoGroup view group f
+    ⊎ (HasGroup view group
+    × (EntriesFault view f ⊎ (HasEntries view group × GroupRefused view group f)))

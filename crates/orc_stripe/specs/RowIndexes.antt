@@ -23,15 +23,19 @@ index_text footer bytes c = slice c 6 footer.streams bytes
 
 -- the directory lists an index of column c, and its bytes are this message
 abbrev pub HasIndex : StripeFooter → List ℕ → ℕ → RowIndexMsg → Type 0
-HasIndex footer bytes c message = (has_stream c 6 footer.streams ≡ true) × Spells row_index 0 0 (index_text footer bytes c) message
+HasIndex footer bytes c message =
+    (has_stream c 6 footer.streams ≡ true) × Spells row_index 0 0 (index_text footer bytes c) message
 
 -- why a column has no index
 abbrev pub IndexFault : Opened → ℕ → StripeFault → Type 0
 IndexFault view c (fault.NoIndex spot.Stripe) = view.stride ≡ 0
-IndexFault view c (fault.NoIndex (spot.Column column)) = (0 < view.stride) × (column ≡ c) × (has_stream c 6 view.footer.streams ≡ false)
+IndexFault view c (fault.NoIndex (spot.Column column)) =
+    (0 < view.stride) × (column ≡ c) × (has_stream c 6 view.footer.streams ≡ false)
 IndexFault view c (fault.NoIndex (spot.Stream column stream)) = ⊥
 IndexFault view c (fault.Wire wire) =
-    (0 < view.stride) × (has_stream c 6 view.footer.streams ≡ true) × Faults row_index 0 0 (index_text view.footer view.bytes c) wire
+    (0 < view.stride)
+    × (has_stream c 6 view.footer.streams ≡ true)
+    × Faults row_index 0 0 (index_text view.footer view.bytes c) wire
 IndexFault view c fault.OutOfMemory = Unit {0}
 IndexFault view c fault.BadDirectory = ⊥
 IndexFault view c (fault.BadEncoding column) = ⊥
@@ -48,21 +52,28 @@ IndexFault view c fault.Failed = ⊥
 abbrev pub IsWhole : Opened → ℕ → RowIndexMsg → Type 0
 IsWhole view rows message = length message.entries ≡ group_count view.stride rows
 
--- each entry has a truth value that says whether its positions are those behind the column's cells of the rows before its group
+-- each entry has a truth value that says whether its positions are those behind the column's cells of the rows
+-- before its group
 abbrev pub ArePositionsDecided : Opened → ℕ → List Cell → RowIndexMsg → List Bool → Type 0
 ArePositionsDecided view c rows message right =
-    AreDecided (shape_at view.schema c) (columns_of view.footer view.bytes c) (cells view.schema c rows) (bounds_of view.schema c rows (starts view.stride (length rows)))
+    AreDecided (shape_at view.schema c) (columns_of view.footer view.bytes c) (cells view.schema c rows)
+    (bounds_of view.schema c rows (starts view.stride (length rows)))
     message.entries right
 
 -- an index that has another number of entries
 abbrev pub HasOtherEntries : Opened → ℕ → ℕ → StripeFault → Type 0
 HasOtherEntries view c rows f =
-    (f ≡ fault.BadPosition (spot.Column c)) × (message : RowIndexMsg) × HasIndex view.footer view.bytes c message × (IsWhole view rows message → ⊥)
+    (f ≡ fault.BadPosition (spot.Column c))
+    × (message : RowIndexMsg) × HasIndex view.footer view.bytes c message
+    × (IsWhole view rows message → ⊥)
 
 -- rows that the stripe hasn't, in whose place a fault of a stream's runs was met
 abbrev pub HasOtherRows : Opened → ℕ → List Cell → StripeFault → Type 0
-HasOtherRows view c rows f = (IsStripe view.schema view.info view.bytes rows → ⊥) × ColumnFails (shape_at view.schema c) (columns_of view.footer view.bytes c) c f
+HasOtherRows view c rows f =
+    (IsStripe view.schema view.info view.bytes rows → ⊥)
+    × ColumnFails (shape_at view.schema c) (columns_of view.footer view.bytes c) c f
 
 -- why positions of a column's index aren't told right from wrong over rows
 abbrev pub PositionsFault : Opened → ℕ → List Cell → StripeFault → Type 0
-PositionsFault view c rows f = IndexFault view c f ⊎ (HasOtherEntries view c (length rows) f ⊎ HasOtherRows view c rows f)
+PositionsFault view c rows f =
+    IndexFault view c f ⊎ (HasOtherEntries view c (length rows) f ⊎ HasOtherRows view c rows f)

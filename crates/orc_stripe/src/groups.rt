@@ -27,7 +27,8 @@ fn put_cells<'r, 'a>(
     out: &mut Vec<Lent<'r, 'a>>,
 ) -> Result<(), AllocError>
     requires { column < width schema.now }
-    ensures { OnOk result (lent_cells out.new.items ≡ lent_cells out.old.items ++ spec.cells schema.now column (views rows.now)) }
+    ensures { OnOk result
+        (lent_cells out.new.items ≡ lent_cells out.old.items ++ spec.cells schema.now column (views rows.now)) }
 {
     let Ok(found) = cells(alloc, schema, column, rows) else {
         return Err(AllocError);
@@ -58,8 +59,10 @@ pub fn column_groups<'r, 'a>(
 ) -> Result<ColumnGroups<'r, 'a>, AllocError>
     requires column { column < width schema.now }
     requires firsts { AreBounds (length (views rows.now)) firsts.now }
-    ensures cells { IfOk result (λ groups. lent_cells groups.cells.items ≡ spec.cells schema.now column (views rows.now)) }
-    ensures bounds { IfOk result (λ groups. groups.bounds.items ≡ bounds_of schema.now column (views rows.now) firsts.now) }
+    ensures cells { IfOk result
+        (λ groups. lent_cells groups.cells.items ≡ spec.cells schema.now column (views rows.now)) }
+    ensures bounds { IfOk result
+        (λ groups. groups.bounds.items ≡ bounds_of schema.now column (views rows.now) firsts.now) }
     ensures ascending { IfOk result (λ groups. AreBounds (length (lent_cells groups.cells.items)) groups.bounds.items) }
 {
     let mut found = Vec::new(alloc);

@@ -18,7 +18,8 @@ impl<'a> RowCursor<'a> {
     /// Refusals: those of `StripeView::rows`, and `Failed` after each of them.
     pub fn next(&mut self) -> Result<Option<Row<'a>>, StripeFault>
         ensures found { IfOk result (Gave self.old self.new) }
-        ensures only { (rows : List Cell) → StandsFor self.old rows → MatchResult result (Gives rows self.new) (λ fault. fault ≡ OutOfMemory) }
+        ensures only { (rows : List Cell) → StandsFor self.old rows
+            → MatchResult result (Gives rows self.new) (λ fault. fault ≡ OutOfMemory) }
         ensures before { OnOk result ((f : Fault) → MeetsFault self.new f → MeetsFault self.old f) }
         ensures fault { IfErr result (λ fault. fault ≢ OutOfMemory → fault ≢ Failed → MeetsFault self.old fault) }
         ensures failed { HasRefused self.old → result ≡ Err Failed }
@@ -41,7 +42,8 @@ impl<'a> RowCursor<'a> {
     fn advance(&mut self) -> Result<Option<Row<'a>>, StripeFault>
         requires going { IsGoing self.old }
         ensures found { IfOk result (Gave self.old self.new) }
-        ensures only { (rows : List Cell) → StandsFor self.old rows → MatchResult result (Gives rows self.new) (λ fault. fault ≡ OutOfMemory) }
+        ensures only { (rows : List Cell) → StandsFor self.old rows
+            → MatchResult result (Gives rows self.new) (λ fault. fault ≡ OutOfMemory) }
         ensures before { OnOk result ((f : Fault) → MeetsFault self.new f → MeetsFault self.old f) }
         ensures fault { IfErr result (λ fault. fault ≢ OutOfMemory → MeetsFault self.old fault) }
         ensures going { IsGoing self.new }

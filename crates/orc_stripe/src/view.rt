@@ -1,3 +1,4 @@
+//! A stripe of which the directory and the encodings are accepted, and its rows: all at once, or by a cursor.
 ghost use Rattle.std.specs.Prelude.{◌≡◌, ◌≢◌, ◌+◌, ℕ, List, true, false, Some, None, ◌⊎◌, IfOk, IfErr, MatchResult, length, drop};
 ghost use Rattle.orc_types.specs.Cells.{Cell};
 ghost use Rattle.orc_wire.specs.declared.stripe_footer.StripeFooter.{StripeFooter};
@@ -42,7 +43,8 @@ impl<'a> Model for StripeView<'a> {
 
     ghost coded = { Prim.hlevel (codes, coded_shape) };
 
-    ghost view = { λ v. record { schema = v.schema.now; info = v.info; stride = v.stride; bytes = v.bytes.now; footer = v.footer } };
+    ghost view = { λ v.
+        record { schema = v.schema.now; info = v.info; stride = v.stride; bytes = v.bytes.now; footer = v.footer } };
 
     ghost invariant = { λ v. HasFooter v.schema.now v.info v.bytes.now v.footer };
 }
@@ -62,7 +64,10 @@ impl<'a> StripeView<'a> {
         bytes: &'a [u8],
     ) -> Result<StripeView<'a>, StripeFault>
         ensures found { IfOk result (λ view. HasFooter schema.now info bytes.now view.footer) }
-        ensures same { IfOk result (λ view. (view.schema ≡ schema.now) × (view.info ≡ info) × (view.stride ≡ stride) × (view.bytes ≡ bytes.now)) }
+        ensures same { IfOk result (λ view. (view.schema ≡ schema.now)
+            × (view.info ≡ info)
+            × (view.stride ≡ stride)
+            × (view.bytes ≡ bytes.now)) }
         ensures only { (footer : StripeFooter) → HasFooter schema.now info bytes.now footer
             → MatchResult result (λ view. view.footer ≡ footer) (λ fault. fault ≡ OutOfMemory) }
         ensures fault { IfErr result (OpenFault schema.now info bytes.now) }
@@ -116,7 +121,8 @@ impl<'a> StripeView<'a> {
         ensures only { (rows : List Cell) → IsStripe self.now.schema self.now.info self.now.bytes rows
             → MatchResult result (λ answered. views answered.items ≡ rows) (λ fault. fault ≡ OutOfMemory) }
         ensures fault { IfErr result (λ cause. cause ≢ OutOfMemory
-            → RowsFault self.now.schema (columns_of self.now.footer self.now.bytes) self.now.info.number_of_rows cause) }
+            → RowsFault self.now.schema (columns_of self.now.footer self.now.bytes)
+            self.now.info.number_of_rows cause) }
     {
         // for the proof, which knows that the bytes have the footer where a field is used
         let _ = &self.schema;
@@ -141,7 +147,8 @@ impl<'a> StripeView<'a> {
         ensures meets { IfOk result (λ cursor. (f : Fault) → MeetsFault cursor f
             → HasFault self.now.schema (columns_of self.now.footer self.now.bytes) self.now.info.number_of_rows f) }
         ensures fault { IfErr result (λ cause. cause ≢ OutOfMemory
-            → RowsFault self.now.schema (columns_of self.now.footer self.now.bytes) self.now.info.number_of_rows cause) }
+            → RowsFault self.now.schema (columns_of self.now.footer self.now.bytes)
+            self.now.info.number_of_rows cause) }
     {
         let count = self.info.number_of_rows;
         if count >= 0x8000_0000 {

@@ -1,4 +1,5 @@
-//! What test crates share: the bytes of whole files, devices that fail or keep what was read, and a stripe's rows as lines.
+//! What test crates share: the bytes of whole files, devices that fail or keep what was read, and a stripe's
+//! rows as lines.
 #![tactic(auto)]
 
 mod fail_sink;

@@ -43,8 +43,8 @@ pub fn lines_at_once(
 /// What no stripe is refused for: the answer where a cursor does what none should.
 const WRONG: StripeFault = StripeFault::OutOfRange(usize::MAX);
 
-/// The same lines by a cursor. At the end it is asked once more; where it refuses, twice more. Where it answers otherwise than it
-/// should then, the answer is a fault that no stripe has.
+/// The same lines by a cursor. At the end it is asked once more; where it refuses, twice more. Where it answers
+/// otherwise than it should then, the answer is a fault that no stripe has.
 pub fn lines_one_by_one(
     alloc: Global,
     schema: &Schema,

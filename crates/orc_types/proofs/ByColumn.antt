@@ -7,10 +7,10 @@ use Rattle.orc_types.specs.Shapes.{Shape, Fields, no_field, field, width, widths
 use Rattle.orc_types.specs.Cells.{Cell, null, leaf, list, struct, cells_of, parts, values}
 use Rattle.orc_types.specs.Columns.{cells, cells_within, IsLocated}
 use Rattle.orc_types.specs.Fits.{fits, each_fits}
-use Rattle.orc_types.specs.Views.{shape, named, fields, view, views}
+use Rattle.orc_types.specs.Views.{shape, name_and_type, fields, view, views}
 use Rattle.orc_types.specs.declared.tree.Field.{Field}
 use Rattle.orc_types.specs.declared.value.Value.{Value}
-use Rattle.orc_types.proofs.Views.{named-is, shape-List, shape-Struct}
+use Rattle.orc_types.proofs.Views.{name_and_type-is, shape-List, shape-Struct}
 
 none_left : (i : ℕ) → take 1 (drop i (let e : List Cell = [] in e)) ≡ []
 none_left zero = refl
@@ -40,12 +40,12 @@ pub located_cells : (fs : List Field) (c i d : ℕ) (f : Field) (structs : List 
     → cells_within (fields fs) c structs ≡ cells (shape f.tree) d (flat_map (λ x. take 1 (drop i x)) structs)
 located_cells [] c i d f structs is h = absurd h
 located_cells (g ∷ fs) c zero d f structs is h =
-    let t : ltb c (width (named g).1) ≡ true = lt-ltb _ _ h.0 in
-    let e : (named g).1 ≡ shape f.tree = ap (λ (p : List ℕ × Shape). p.1) (named-is g) ∙ ap (λ (x : Field). shape x.tree) (sym is) in
+    let t : ltb c (width (name_and_type g).1) ≡ true = lt-ltb _ _ h.0 in
+    let e : (name_and_type g).1 ≡ shape f.tree = ap (λ (p : List ℕ × Shape). p.1) (name_and_type-is g) ∙ ap (λ (x : Field). shape x.tree) (sym is) in
     rw t (ap (λ s. cells s c (flat_map (take 1) structs)) e ∙ ap (λ n. cells (shape f.tree) n (flat_map (take 1) structs)) h.1)
 located_cells (g ∷ fs) c (suc i) d f structs is h =
-    let t : ltb c (width (named g).1) ≡ false = le-ltb _ _ h.0 in
-    rw t (located_cells fs (c - width (named g).1) i d f (map (drop 1) structs) is h.1 ∙ ap (cells (shape f.tree) d) (heads_later i structs))
+    let t : ltb c (width (name_and_type g).1) ≡ false = le-ltb _ _ h.0 in
+    rw t (located_cells fs (c - width (name_and_type g).1) i d f (map (drop 1) structs) is h.1 ∙ ap (cells (shape f.tree) d) (heads_later i structs))
 
 -- past the last column there is nothing
 pub not_located : (fs : Fields) (c : ℕ) (structs : List (List Cell)) → widths fs ≤ c → cells_within fs c structs ≡ []
@@ -67,27 +67,27 @@ list_cells x b o (suc c) rows is h = rw (is, shape-List b o, sub-one) (ap (cells
 pub width_within : (fs : List Field) (i : ℕ) (f : Field) → i < length fs → f ≡ get_or fs i f → width (shape f.tree) ≤ widths (fields fs)
 width_within [] i f h is = absurd (omega arith)
 width_within (g ∷ fs) zero f h is =
-    let e : width (shape f.tree) ≡ width (named g).1 = ap (λ (x : Field). width (shape x.tree)) is ∙ sym (ap (λ (p : List ℕ × Shape). width p.1) (named-is g)) in
+    let e : width (shape f.tree) ≡ width (name_and_type g).1 = ap (λ (x : Field). width (shape x.tree)) is ∙ sym (ap (λ (p : List ℕ × Shape). width p.1) (name_and_type-is g)) in
     omega arith
 width_within (g ∷ fs) (suc i) f h is = omega (arith, width_within fs i f (omega arith) is)
 
 pub located_more : (fs : List Field) (i left : ℕ) (f : Field) → i < length fs → f ≡ get_or fs i f → width (shape f.tree) ≤ left
     → (j d : ℕ) → IsLocated (fields (drop (suc i) fs)) (left - width (shape f.tree)) j d → IsLocated (fields (drop i fs)) left (suc j) d
 located_more fs i left f h is w j d l =
-    rw (drop-cons fs i f, ← is, named-is f) (w, l)
+    rw (drop-cons fs i f, ← is, name_and_type-is f) (w, l)
 
 pub located_here : (fs : List Field) (i left : ℕ) (f : Field) → i < length fs → f ≡ get_or fs i f → left < width (shape f.tree) → IsLocated (fields (drop i fs)) left 0 left
-located_here fs i left f h is w = rw (drop-cons fs i f, ← is, named-is f) (w, refl)
+located_here fs i left f h is w = rw (drop-cons fs i f, ← is, name_and_type-is f) (w, refl)
 
 pub located_next : (fs : List Field) (c i j d : ℕ) → IsLocated (fields fs) c (i + suc j) d → IsLocated (fields fs) c (suc i + j) d
 located_next fs c i j d l = let e : i + suc j ≡ suc i + j = omega arith in subst (λ (n : ℕ). IsLocated (fields fs) c n d) e l
 
 pub past_more : (fs : List Field) (i left : ℕ) (f : Field) → i < length fs → f ≡ get_or fs i f → width (shape f.tree) ≤ left
     → widths (fields (drop (suc i) fs)) ≤ left - width (shape f.tree) → widths (fields (drop i fs)) ≤ left
-past_more fs i left f h is w p = rw (drop-cons fs i f, ← is, named-is f) (omega arith)
+past_more fs i left f h is w p = rw (drop-cons fs i f, ← is, name_and_type-is f) (omega arith)
 
 pub past_here : (fs : List Field) (i left : ℕ) (f : Field) → i < length fs → f ≡ get_or fs i f → widths (fields (drop i fs)) ≤ left → width (shape f.tree) + widths (fields (drop (suc i) fs)) ≤ left
-past_here fs i left f h is p = rw (drop-cons fs i f, ← is, named-is f) at p
+past_here fs i left f h is p = rw (drop-cons fs i f, ← is, name_and_type-is f) at p
 
 -- ---- rows of fields
 
@@ -104,9 +104,9 @@ each_fits_lengths (r ∷ rs) (f ∷ fs) h =
 pub each_fits_step : (rs : List (Option Value)) (fs : List Field) (i : ℕ) (r : Option Value) (f : Field) → i < length rs → i < length fs
     → r ≡ get_or rs i r → f ≡ get_or fs i f → fits (view r) (shape f.tree) ≡ true
     → each_fits (cells_of (views (drop (suc i) rs))) (fields (drop (suc i) fs)) ≡ each_fits (cells_of (views (drop i rs))) (fields (drop i fs))
-each_fits_step rs fs i r f h k is at e = rw (drop-cons rs i r, drop-cons fs i f, ← is, ← at, named-is f, e) refl
+each_fits_step rs fs i r f h k is at e = rw (drop-cons rs i r, drop-cons fs i f, ← is, ← at, name_and_type-is f, e) refl
 
 pub each_fits_wrong : (rs : List (Option Value)) (fs : List Field) (i : ℕ) (r : Option Value) (f : Field) → i < length rs → i < length fs
     → r ≡ get_or rs i r → f ≡ get_or fs i f → fits (view r) (shape f.tree) ≡ false
     → each_fits (cells_of (views (drop i rs))) (fields (drop i fs)) ≡ false
-each_fits_wrong rs fs i r f h k is at e = rw (drop-cons rs i r, drop-cons fs i f, ← is, ← at, named-is f, e) refl
+each_fits_wrong rs fs i r f h k is at e = rw (drop-cons rs i r, drop-cons fs i f, ← is, ← at, name_and_type-is f, e) refl

@@ -12,7 +12,7 @@ use Rattle.orc_wire.specs.declared.type_msg.TypeMsg.{TypeMsg}
 use Rattle.orc_types.specs.Shapes.{Shape, scalar, list_of, struct_of, Fields, no_field, field}
 use Rattle.orc_types.specs.Schemas.{HasTypes, AllKept}
 use Rattle.orc_types.specs.Faults.{HasForeignKind, TypesFault}
-use Rattle.orc_types.specs.Preorder.{Found, FoundFields, NoFieldsAt, PlaceFault, FieldsFault}
+use Rattle.orc_types.specs.Preorder.{Found, FoundFields, NoFieldsAt, PlaceFault, FieldsPlaceFault}
 use Rattle.orc_types.proofs.Trees.{number-scalar_of, foreign, got_below, past_end, list_wrong, list_fault, list_found, struct_fault, struct_found}
 use Rattle.orc_types.proofs.Trees.{scalar_wrong, scalar_found, lengths_wrong, place_wrong, one_more, field_fault, Reached, reached_none, reached_more}
 use Rattle.orc_types.proofs.Trees.{schema_from, more_types, root_fault, no_root, empty_root}
@@ -60,13 +60,13 @@ abbrev PlaceCovered : List TypeMsg → ℕ → ℕ → Type 0
 PlaceCovered ts n d = ((s : Shape) × (e : ℕ) × Found ts n d s e) ⊎ HasFault (PlaceFault ts n d)
 
 abbrev FieldsCovered : List TypeMsg → ℕ → ℕ → List ℕ → List (List ℕ) → Type 0
-FieldsCovered ts n d ss names = ((fs : Fields) × (e : ℕ) × FoundFields ts n d ss names fs e) ⊎ HasFault (FieldsFault ts n d ss names)
+FieldsCovered ts n d ss names = ((fs : Fields) × (e : ℕ) × FoundFields ts n d ss names fs e) ⊎ HasFault (FieldsPlaceFault ts n d ss names)
 
 module _ (ts : List TypeMsg) (n d : ℕ) (ss : List ℕ) (name : List ℕ) (names : List (List ℕ)) where
   first : Reached ts n d (n ∷ ss) (name ∷ names) [] (n ∷ ss) (name ∷ names) n
   first = reached_none ts n d (n ∷ ss) (name ∷ names)
 
-  first_fault : (f : TypeFault) → PlaceFault ts n d f → FieldsFault ts n d (n ∷ ss) (name ∷ names) f
+  first_fault : (f : TypeFault) → PlaceFault ts n d f → FieldsPlaceFault ts n d (n ∷ ss) (name ∷ names) f
   first_fault f bad = field_fault ts n d (n ∷ ss) (name ∷ names) [] 0 n f (omega arith) refl first bad
 
   module _ (text : is_utf8 name ≡ true) (t : Shape) (e : ℕ) (found : Found ts n d t e) where
@@ -76,7 +76,7 @@ module _ (ts : List TypeMsg) (n d : ℕ) (ss : List ℕ) (name : List ℕ) (name
         second.none none
 
     -- the fault of a later field is one of the fields
-    later_fault : (f : TypeFault) → FieldsFault ts e d ss names f → FieldsFault ts n d (n ∷ ss) (name ∷ names) f
+    later_fault : (f : TypeFault) → FieldsPlaceFault ts e d ss names f → FieldsPlaceFault ts n d (n ∷ ss) (name ∷ names) f
     later_fault (fault.UnsupportedKind k) bad = bad
     later_fault fault.BadTree bad = none_later bad
     later_fault fault.TooDeep bad = record {

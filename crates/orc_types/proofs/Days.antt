@@ -14,7 +14,7 @@ use Rattle.jiff_core.proofs.SignedLemmas.{signed_arith}
 use Rattle.jiff_fmt.specs.Temporal.{DateParts, date_parts, parse_date}
 use Rattle.jiff_fmt.specs.Text.{date_text}
 use Rattle.jiff_fmt.proofs.RoundTrip.{parse_date-date_text}
-use Rattle.orc_types.specs.Days.{next_date, date_after, from_first, has_text, parts_text, day_text, IsDayText}
+use Rattle.orc_types.specs.Days.{next_date, date_after, from_first, has_text, date_parts_text, day_text, IsDayText}
 
 -- a date of the calendar, so many days after 0001-01-01
 pub record IsDated (d : DateParts) (k : ℕ) : Type 0 where
@@ -127,7 +127,7 @@ pub day_dated : (n : ℤ) → has_text n ≡ true → (d : Date) × (epoch_day d
 day_dated n h = let found = date_of n h in (found.date, found.day)
 
 pub same_text : (d e : Date) → date_parts d ≡ date_parts e → date_text d ≡ date_text e
-same_text d e h = ap parts_text h
+same_text d e h = ap date_parts_text h
 
 pub same_day : (d e : Date) → date_parts d ≡ date_parts e → epoch_day d ≡ epoch_day e
 same_day d e h = ap (λ (p : DateParts). days_from_civil p.year p.month p.day) h

@@ -15,7 +15,7 @@ use Rattle.orc_types.specs.declared.value.Value.{Value, List as ListOf, Struct a
 use Rattle.orc_types.specs.FieldNames.{all_known}
 use Rattle.orc_types.specs.JsonRows.{Spells, EachSpells, MemberSpells, FieldsSpell}
 use Rattle.orc_types.specs.JsonFaults.{Somewhere, InElement, InField}
-use Rattle.orc_types.proofs.Views.{named-is, shape-List, shape-Struct, view-List, view-Struct}
+use Rattle.orc_types.proofs.Views.{name_and_type-is, shape-List, shape-Struct, view-List, view-Struct}
 
 abbrev pub before : List Cell → Cells → Cells
 before [] ys = ys
@@ -52,7 +52,7 @@ FieldsRead fs d i xs = (ys : Cells) → FieldsSpell (fields_view (drop i fs)) d 
 pub fields_more : (fs : List Field) (d : Data) (i : ℕ) (f : Field) (xs : List Cell) (x : Cell) → i < length fs → f ≡ get_or fs i f
     → MemberSpells (λ e y. Spells (shape f.tree) e y) (get (string_bytes f.name) d) x → FieldsRead fs d i xs → FieldsRead fs d (suc i) (xs ++ x ∷ [])
 fields_more fs d i f xs x h is one so_far ys later =
-    rw (before-push xs x ys) (so_far (more x ys) (rw (drop-cons fs i f, ← is, named-is f) (one, later)))
+    rw (before-push xs x ys) (so_far (more x ys) (rw (drop-cons fs i f, ← is, name_and_type-is f) (one, later)))
 
 pub fields_all : (fs : List Field) (d : Data) (i : ℕ) (xs : List Cell) → length fs ≤ i → FieldsRead fs d i xs → FieldsSpell (fields_view fs) d (cells_of xs)
 fields_all fs d i xs h so_far = rw (← before-end xs) (so_far end (rw (drop_all i fs h) tt))
@@ -60,7 +60,7 @@ fields_all fs d i xs h so_far = rw (← before-end xs) (so_far end (rw (drop_all
 pub in_field : (Is : Shape → Data → Type 0) (fs : List Field) (d e : Data) (i : ℕ) (f : Field) → i < length fs → f ≡ get_or fs i f
     → get (string_bytes f.name) d ≡ Some e → Somewhere Is (shape f.tree) e → InField Is (fields_view fs) d
 in_field Is [] d e i f h is at there = absurd (omega (arith, h))
-in_field Is (g ∷ fs) d e zero f h is at there = rw (← is, named-is f) (inl (e, at, there))
+in_field Is (g ∷ fs) d e zero f h is at there = rw (← is, name_and_type-is f) (inl (e, at, there))
 in_field Is (g ∷ fs) d e (suc i) f h is at there = inr (in_field Is fs d e i f (omega (arith, h)) is at there)
 
 -- ---- a list's array, a struct's object

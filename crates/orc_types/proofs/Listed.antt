@@ -5,12 +5,12 @@ use Rattle.orc_types.specs.Types.{types, fields_types}
 use Rattle.orc_types.specs.Views.{shape, fields}
 use Rattle.orc_types.specs.declared.tree.Field.{Field}
 use Rattle.orc_wire.specs.declared.type_msg.TypeMsg.{TypeMsg}
-use Rattle.orc_types.proofs.Views.{named-is}
+use Rattle.orc_types.proofs.Views.{name_and_type-is}
 use Rattle.orc_types.proofs.Trees.{length-types}
 
 -- the fields from a place on are one field and those behind it
 pub fields_from : (fs : List Field) (i : ℕ) (f : Field) → i < length fs → f ≡ get_or fs i f → fields (drop i fs) ≡ field (string_bytes f.name) (shape f.tree) (fields (drop (suc i) fs))
-fields_from fs i f h is = rw (drop-cons fs i f, ← is, named-is f) refl
+fields_from fs i f h is = rw (drop-cons fs i f, ← is, name_and_type-is f) refl
 
 pub widths_from : (fs : List Field) (i : ℕ) (f : Field) → i < length fs → f ≡ get_or fs i f → widths (fields (drop i fs)) ≡ width (shape f.tree) + widths (fields (drop (suc i) fs))
 widths_from fs i f h is = ap widths (fields_from fs i f h is)

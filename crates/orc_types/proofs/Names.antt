@@ -16,10 +16,10 @@ use Rattle.serde_json.specs.View.{view as json_view, members_view}
 use Rattle.serde_json.specs.declared.value.Value.{Null, the_lemmas}
 use Rattle.serde_json.proofs.Views.{Entry, member_here, member_later, get_member-put, get_member-put_other}
 use Rattle.orc_types.specs.Shapes.{Shape, names_of}
-use Rattle.orc_types.specs.Views.{shape, named, fields}
+use Rattle.orc_types.specs.Views.{shape, name_and_type, fields}
 use Rattle.orc_types.specs.FieldNames.{is_among, all_differ, are_distinct, is_distinct, all_known}
 use Rattle.orc_types.specs.declared.tree.Field.{Field}
-use Rattle.orc_types.proofs.Views.{named-is}
+use Rattle.orc_types.proofs.Views.{name_and_type-is}
 
 -- ---- names that differ
 
@@ -82,7 +82,7 @@ pub differ_after-none : (ns : List (List ℕ)) → differ_after no_members ns �
 differ_after-none ns = differ_by no_members ns ∙ ap (λ (b : Bool). b && all_differ ns) (all_new ns)
 
 pub names_of-drop : (fs : List Field) (i : ℕ) (f : Field) → i < length fs → f ≡ get_or fs i f → names_of (fields (drop i fs)) ≡ string_bytes f.name ∷ names_of (fields (drop (suc i) fs))
-names_of-drop fs i f lt is = rw (drop-cons fs i f lt, ← is) (ap (λ (x : List ℕ × Shape). x.0 ∷ names_of (fields (drop (suc i) fs))) (named-is f))
+names_of-drop fs i f lt is = rw (drop-cons fs i f lt, ← is) (ap (λ (x : List ℕ × Shape). x.0 ∷ names_of (fields (drop (suc i) fs))) (name_and_type-is f))
 
 pub differ_stop : (ms : Members) (n : List ℕ) (ns all : List (List ℕ)) (whole : Bool) → all ≡ n ∷ ns → is_some (get_member n ms) ≡ true → differ_after ms all ≡ whole → false ≡ whole
 differ_stop ms n ns all whole e there h =
@@ -188,8 +188,8 @@ some_map f (Some x) = refl
 pub distinct_at : (fs : List Field) (i : ℕ) (f : Field) → i < length fs → f ≡ get_or fs i f → are_distinct (fields fs) ≡ true → is_distinct (shape f.tree) ≡ true
 distinct_at [] i f lt is h = absurd (omega (arith, lt))
 distinct_at (g ∷ fs) zero f lt is h =
-    let p = and_parts (is_distinct (named g).1) (are_distinct (fields fs)) h in
-    ap (λ (x : Field). is_distinct (shape x.tree)) is ∙ (ap (λ (x : List ℕ × Shape). is_distinct x.1) (sym (named-is g)) ∙ p.0)
+    let p = and_parts (is_distinct (name_and_type g).1) (are_distinct (fields fs)) h in
+    ap (λ (x : Field). is_distinct (shape x.tree)) is ∙ (ap (λ (x : List ℕ × Shape). is_distinct x.1) (sym (name_and_type-is g)) ∙ p.0)
 distinct_at (g ∷ fs) (suc i) f lt is h =
-    let p = and_parts (is_distinct (named g).1) (are_distinct (fields fs)) h in
+    let p = and_parts (is_distinct (name_and_type g).1) (are_distinct (fields fs)) h in
     distinct_at fs i f (omega (arith, lt)) is p.1

@@ -12,7 +12,7 @@ use Rattle.orc_types.specs.declared.fault.TypeFault.TheVariants as fault
 use Rattle.orc_types.specs.Shapes.{Shape, scalar, list_of, struct_of, Fields, no_field, field, depth, depths}
 use Rattle.orc_types.specs.SchemaText.{kind_name, comma, colon, text, fields_text, is_word, AreWords, IsName, IsPlain, ArePlain}
 use Rattle.orc_types.specs.TextFaults.{is_empty, EntersField, Enters, element, member, Opens}
-use Rattle.orc_types.specs.TextFronts.{IsFront, IsFieldFront, IsFieldsFront, NoFront, NoFieldFront, NoFieldsFront, ReadFault, FrontFault, FieldOpens, FieldFault, FieldsFault}
+use Rattle.orc_types.specs.TextFronts.{IsFront, IsFieldFront, IsFieldsFront, NoFront, NoFieldFront, NoFieldsFront, FrontFaultBy, FrontFault, FieldOpens, FieldFault, FieldsFault}
 use Rattle.orc_types.specs.Preorder.{NameFault}
 use Rattle.orc_types.specs.Views.{fields_of, fields}
 use Rattle.orc_types.specs.declared.tree.Field.{Field}
@@ -114,7 +114,7 @@ enters bytes inner zero p is deeper = absurd (omega arith)
 enters bytes inner (suc d) p is deeper = (inner, is, rw sub-one at deeper)
 
 -- a fault further on is one of the whole
-fault_turned : (a b : List ℕ) (D E N M : Type 0) (f : TypeFault) → length a ≤ length b → (D → E) → (N → M) → ReadFault a D N f → ReadFault b E M f
+fault_turned : (a b : List ℕ) (D E N M : Type 0) (f : TypeFault) → length a ≤ length b → (D → E) → (N → M) → FrontFaultBy a D N f → FrontFaultBy b E M f
 fault_turned a b D E N M (fault.UnsupportedKind k) h deep wrong bad = bad
 fault_turned a b D E N M fault.BadTree h deep wrong bad = bad
 fault_turned a b D E N M fault.TooDeep h deep wrong bad = deep bad

@@ -4,8 +4,8 @@ use Rattle.std.proofs.Math.Dec.{eqb-suc-zero}
 use Rattle.orc_types.specs.SchemaText.{text, fields_text, comma, colon}
 use Rattle.orc_types.specs.Views.{shape, fields}
 use Rattle.orc_types.specs.declared.tree.Field.{Field}
-use Rattle.orc_types.proofs.Views.{named-is}
+use Rattle.orc_types.proofs.Views.{name_and_type-is}
 
 pub text_more : (fs : List Field) (i : ℕ) (f : Field) (a b : List ℕ) → i < length fs → f ≡ get_or fs i f → b ≡ a ++ comma (i == 0) ++ string_bytes f.name ++ colon ++ text (shape f.tree)
     → b ++ fields_text (suc i == 0) (fields (drop (suc i) fs)) ≡ a ++ fields_text (i == 0) (fields (drop i fs))
-text_more fs i f a b h is e = rw (drop-cons fs i f, ← is, named-is f, e, eqb-suc-zero i) (simp append_assoc)
+text_more fs i f a b h is e = rw (drop-cons fs i f, ← is, name_and_type-is f, e, eqb-suc-zero i) (simp append_assoc)

@@ -15,7 +15,7 @@ use Rattle.orc_wire.specs.declared.type_msg.TypeMsg.{TypeMsg}
 use Rattle.orc_types.specs.Shapes.{Shape, scalar, list_of, struct_of, Fields, no_field, field, width, widths, names_of, IsStruct}
 use Rattle.orc_types.specs.Schemas.{HasTypes, AllKept}
 use Rattle.orc_types.specs.Faults.{IsBelow, Descends, HasNoRoot, TypesFault}
-use Rattle.orc_types.specs.Preorder.{Found, FoundFields, NoneAt, NoFieldsAt, NameFault, PlaceFault, FieldsFault}
+use Rattle.orc_types.specs.Preorder.{Found, FoundFields, NoneAt, NoFieldsAt, NameFault, PlaceFault, FieldsPlaceFault}
 use Rattle.orc_types.specs.Views.{fields_of}
 
 -- ---- kinds and their numbers
@@ -347,7 +347,7 @@ get_or-any (x ∷ xs) zero d e h = refl
 get_or-any (x ∷ xs) (suc i) d e h = get_or-any xs i d e (omega arith)
 
 -- why a name is refused
-pub name_fault : (ts : List TypeMsg) (n d : ℕ) (ss : List ℕ) (names : List (List ℕ)) (i : ℕ) (name : List ℕ) (f : TypeFault) → i < length names → get_or names i [] ≡ name → NameFault name f → FieldsFault ts n d ss names f
+pub name_fault : (ts : List TypeMsg) (n d : ℕ) (ss : List ℕ) (names : List (List ℕ)) (i : ℕ) (name : List ℕ) (f : TypeFault) → i < length names → get_or names i [] ≡ name → NameFault name f → FieldsPlaceFault ts n d ss names f
 name_fault ts n d ss names i name (fault.UnsupportedKind k) h called bad = absurd bad
 name_fault ts n d ss names i name fault.BadTree h called bad = absurd bad
 name_fault ts n d ss names i name fault.TooDeep h called bad = absurd bad
@@ -359,7 +359,7 @@ name_fault ts n d ss names i name fault.OutOfMemory h called bad = tt
 
 -- why a field's type is refused
 pub field_fault : (ts : List TypeMsg) (from d : ℕ) (ss : List ℕ) (names : List (List ℕ)) (gs : List (List ℕ × Shape)) (i next : ℕ) (f : TypeFault)
-    → i < length ss → get_or ss i 0 ≡ next → Reached ts from d ss names gs (drop i ss) (drop i names) next → PlaceFault ts next d f → FieldsFault ts from d ss names f
+    → i < length ss → get_or ss i 0 ≡ next → Reached ts from d ss names gs (drop i ss) (drop i names) next → PlaceFault ts next d f → FieldsPlaceFault ts from d ss names f
 field_fault ts from d ss names gs i next (fault.UnsupportedKind k) h here r bad = bad
 field_fault ts from d ss names gs i next fault.BadTree h here r bad =
     r.none (rw (drop-cons ss i 0 h) (child_none ts next (get_or ss i 0) (drop (suc i) ss) (drop i names) bad))
@@ -388,7 +388,7 @@ list_fault ts n d y (fault.BadText place) p at is ss bad = bad
 list_fault ts n d y fault.OutOfMemory p at is ss bad = tt
 
 -- why a struct is refused for its fields
-pub struct_fault : (ts : List TypeMsg) (n d : ℕ) (y : TypeMsg) (f : TypeFault) → 0 < d → slice_get ts n ≡ Some y → y.kind ≡ 12 → FieldsFault ts (n + 1) (d - 1) y.subtypes y.field_names f → PlaceFault ts n d f
+pub struct_fault : (ts : List TypeMsg) (n d : ℕ) (y : TypeMsg) (f : TypeFault) → 0 < d → slice_get ts n ≡ Some y → y.kind ≡ 12 → FieldsPlaceFault ts (n + 1) (d - 1) y.subtypes y.field_names f → PlaceFault ts n d f
 struct_fault ts n d y (fault.UnsupportedKind k) p at is bad = bad
 struct_fault ts n d y fault.BadTree p at is bad = struct_none ts n y at is bad
 struct_fault ts n d y fault.TooDeep p at is bad = (

@@ -5,7 +5,7 @@ use Rattle.std.specs.declared.borrow.CowSlice.{CowSlice}
 use Rattle.std.specs.declared.borrow.CowStr.{CowStr}
 use Rattle.orc_types.specs.Shapes.{scalar, list_of, struct_of}
 use Rattle.orc_types.specs.Cells.{bytes, text, Cell, null, leaf, list, struct, Cells, end, more, cells_of, list_of_cells}
-use Rattle.orc_types.specs.Views.{shape, named, fields, view, views, or_null, cell_of_value, cell_step}
+use Rattle.orc_types.specs.Views.{shape, name_and_type, fields, view, views, or_null, cell_of_value, cell_step}
 use Rattle.orc_types.specs.declared.kind.Scalar.{Scalar as Kind}
 use Rattle.orc_types.specs.declared.tree.Tree.{Tree, Scalar, List as TreeList, Struct as TreeStruct}
 use Rattle.orc_types.specs.declared.tree.Tree.TheFolds.{the_lemmas as tree_lemmas}
@@ -41,8 +41,8 @@ shape-List b o = search (rules, tree_lemmas)
 pub shape-Struct : (fs : Vec Field Global) (o : Vec ℕ Global) → shape (TreeStruct fs o) ≡ struct_of (fields fs.items) o.items
 shape-Struct fs o = search (rules, tree_lemmas)
 
-pub named-is : (f : Field) → named f ≡ (string_bytes f.name, shape f.tree)
-named-is f = search (rules, tree_lemmas)
+pub name_and_type-is : (f : Field) → name_and_type f ≡ (string_bytes f.name, shape f.tree)
+name_and_type-is f = search (rules, tree_lemmas)
 
 pub list_of_cells-cells_of : (cs : List Cell) → list_of_cells (cells_of cs) ≡ cs
 list_of_cells-cells_of [] = refl

@@ -62,12 +62,14 @@ number_back kind.Binary = refl
 number_back kind.Date = refl
 
 mutual
-  pub run-post : (s : Shape) (rest : List Token) (ss : List Shape) (fs : List Fields) → run (post s rest) ss fs ≡ run rest (s ∷ ss) fs
+  pub run-post : (s : Shape) (rest : List Token) (ss : List Shape) (fs : List Fields)
+      → run (post s rest) ss fs ≡ run rest (s ∷ ss) fs
   run-post (scalar k o) rest ss fs = ap (λ (j : Scalar). run rest (scalar j o ∷ ss) fs) (number_back k)
   run-post (list_of s o) rest ss fs = run-post s (inr (inl o) ∷ rest) ss fs
   run-post (struct_of gs o) rest ss fs = run-posts gs (inr (inr (inl o)) ∷ rest) ss fs
 
-  pub run-posts : (gs : Fields) (rest : List Token) (ss : List Shape) (fs : List Fields) → run (posts gs rest) ss fs ≡ run rest ss (gs ∷ fs)
+  pub run-posts : (gs : Fields) (rest : List Token) (ss : List Shape) (fs : List Fields)
+      → run (posts gs rest) ss fs ≡ run rest ss (gs ∷ fs)
   run-posts no_field rest ss fs = refl
   run-posts (field name s gs) rest ss fs =
       run-posts gs (post s (inr (inr (inr (inr name))) ∷ rest)) ss fs ∙ run-post s (inr (inr (inr (inr name))) ∷ rest) ss (gs ∷ fs)

@@ -1,4 +1,5 @@
--- The cells of each column, by the column's number in pre-order (ORC specification, "Column Encodings": struct and list columns).
+-- The cells of each column, by the column's number in pre-order (ORC specification, "Column Encodings":
+-- struct and list columns).
 use Rattle.std.specs.Prelude.{ℕ, zero, suc, ◌-◌, ◌<◌, ◌≤◌, ◌≡◌, nat_lt, if◌then◌else◌, List, [], map, take, drop}
 use Rattle.std.specs.List.{flat_map}
 use Rattle.orc_types.specs.Shapes.{Shape, scalar, list_of, struct_of, Fields, no_field, field, width}
@@ -18,7 +19,8 @@ abbrev mutual
   pub cells_within : Fields → ℕ → List (List Cell) → List Cell
   cells_within no_field c structs = []
   cells_within (field name s fs) c structs =
-      if nat_lt c (width s) then cells s c (flat_map (take 1) structs) else cells_within fs (c - width s) (map (drop 1) structs)
+      if nat_lt c (width s) then cells s c (flat_map (take 1) structs)
+      else cells_within fs (c - width s) (map (drop 1) structs)
 
 -- column c of the fields is column d of the field at i
 abbrev pub IsLocated : Fields → ℕ → ℕ → ℕ → Type 0

@@ -28,11 +28,11 @@ has_text (pos n) = nat_le n 2932896
 has_text (negsuc n) = nat_lt n 719162
 
 -- `YYYY-MM-DD`
-abbrev pub parts_text : DateParts → List ℕ
-parts_text d = year_text d.year ++ 45 ∷ [] ++ pad2 d.month ++ 45 ∷ [] ++ pad2 d.day
+abbrev pub date_parts_text : DateParts → List ℕ
+date_parts_text d = year_text d.year ++ 45 ∷ [] ++ pad2 d.month ++ 45 ∷ [] ++ pad2 d.day
 
 abbrev pub day_text : ℤ → List ℕ
-day_text n = parts_text (date_after (from_first n))
+day_text n = date_parts_text (date_after (from_first n))
 
 -- a day as that text in those years, and as its number in others
 abbrev pub date_text : ℤ → List ℕ

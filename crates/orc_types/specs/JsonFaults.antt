@@ -1,4 +1,5 @@
--- What stands where a JSON value spells no row of a schema (values by RFC 8259, types by the ORC specification, "Types").
+-- What stands where a JSON value spells no row of a schema
+-- (values by RFC 8259, types by the ORC specification, "Types").
 use Rattle.std.specs.Prelude.{ℕ, List, ◌≡◌, ◌≢◌, ◌⊎◌, false, Some}
 use Rattle.serde_json.specs.Data.{Data, null as nothing, array, object, Items, Members}
 use Rattle.serde_json.specs.Find.{at, get}
@@ -24,7 +25,8 @@ HasUnknownKey names d = (ms : Members) × (d ≡ object ms) × (all_known names 
 abbrev pub FaultAt : JsonFault → Shape → Data → Type 0
 FaultAt e (scalar k o) d = LeafFault k d e
 FaultAt e (list_of s o) d = (e ≡ fault.WrongShape) × IsNoArray d
-FaultAt e (struct_of fs o) d = ((e ≡ fault.WrongShape) × IsNoObject d) ⊎ ((e ≡ fault.UnknownField) × HasUnknownKey (names_of fs) d)
+FaultAt e (struct_of fs o) d =
+    ((e ≡ fault.WrongShape) × IsNoObject d) ⊎ ((e ≡ fault.UnknownField) × HasUnknownKey (names_of fs) d)
 
 abbrev pub InElement : (Data → Type 0) → Data → Type 0
 InElement Is d = (i : ℕ) × (e : Data) × (at i d ≡ Some e) × Is e

@@ -66,7 +66,9 @@ IsMisfit k (object ms) = Unit {0}
 
 -- an integer that is neither a number nor a date of the kind, which takes numbers
 abbrev pub IsOutOfRange : Scalar → Data → Type 0
-IsOutOfRange k d = (takes_numbers k ≡ true) × ((z : ℤ) × IsInteger d z × (atom_fits k (int z) ≡ false) × (atom_fits k (date z) ≡ false))
+IsOutOfRange k d =
+    (takes_numbers k ≡ true)
+    × ((z : ℤ) × IsInteger d z × (atom_fits k (int z) ≡ false) × (atom_fits k (date z) ≡ false))
 
 -- a string under a date that is no date's text
 abbrev pub IsBadDate : Scalar → Data → Type 0

@@ -28,7 +28,8 @@ ArraySpells Is d c = (ds : Items) × (cs : Cells) × (d ≡ array ds) × (c ≡ 
 
 -- no key but the fields' names
 abbrev pub ObjectSpells : List (List ℕ) → (Cells → Type 0) → Data → Cell → Type 0
-ObjectSpells names Are d c = (ms : Members) × (cs : Cells) × (d ≡ object ms) × (c ≡ struct cs) × (all_known names ms ≡ true) × Are cs
+ObjectSpells names Are d c =
+    (ms : Members) × (cs : Cells) × (d ≡ object ms) × (c ≡ struct cs) × (all_known names ms ≡ true) × Are cs
 
 abbrev mutual
   pub Spells : Shape → Data → Cell → Type 0

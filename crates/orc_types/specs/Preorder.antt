@@ -16,7 +16,8 @@ pub record Found (ts : List TypeMsg) (n d : ℕ) (s : Shape) (e : ℕ) : Type 0 
   pub ends_at : e ≡ n + width s
 
 -- the fields whose types stand one after the other from one place to another
-pub record FoundFields (ts : List TypeMsg) (n d : ℕ) (subtypes : List ℕ) (names : List (List ℕ)) (fs : Fields) (e : ℕ) : Type 0 where
+pub record FoundFields (ts : List TypeMsg) (n d : ℕ) (subtypes : List ℕ) (names : List (List ℕ)) (fs : Fields)
+    (e : ℕ) : Type 0 where
   pub texts : HaveTextNames fs
   pub levels : depths fs ≤ d
   pub begins : starts fs n ≡ subtypes
@@ -30,7 +31,12 @@ NoneAt ts n = (s : Shape) (rest : List TypeMsg) → drop n ts ≡ types s n ++ r
 
 -- no fields' types stand at the place
 abbrev pub NoFieldsAt : List TypeMsg → ℕ → List ℕ → List (List ℕ) → Type 0
-NoFieldsAt ts n subtypes names = (fs : Fields) (rest : List TypeMsg) → starts fs n ≡ subtypes → names_of fs ≡ names → drop n ts ≡ fields_types fs n ++ rest → ⊥
+NoFieldsAt ts n subtypes names =
+    (fs : Fields) (rest : List TypeMsg)
+    → starts fs n ≡ subtypes
+    → names_of fs ≡ names
+    → drop n ts ≡ fields_types fs n ++ rest
+    → ⊥
 
 -- why bytes are no name
 abbrev pub NameFault : List ℕ → TypeFault → Type 0
@@ -69,11 +75,11 @@ pub record FieldDescends (ts : List TypeMsg) (n : ℕ) (subtypes : List ℕ) (d 
   pub deeper : Descends ts below d
 
 -- why there are no such fields
-abbrev pub FieldsFault : List TypeMsg → ℕ → ℕ → List ℕ → List (List ℕ) → TypeFault → Type 0
-FieldsFault ts n d subtypes names (fault.UnsupportedKind k) = HasForeignKind ts k
-FieldsFault ts n d subtypes names fault.BadTree = NoFieldsAt ts n subtypes names
-FieldsFault ts n d subtypes names fault.TooDeep = FieldDescends ts n subtypes d
-FieldsFault ts n d subtypes names fault.TooMany = ⊥
-FieldsFault ts n d subtypes names fault.RootNotStruct = ⊥
-FieldsFault ts n d subtypes names (fault.BadText place) = (place ≡ 0) × (HasBadAmong names ⊎ HasBadName ts)
-FieldsFault ts n d subtypes names fault.OutOfMemory = Unit {0}
+abbrev pub FieldsPlaceFault : List TypeMsg → ℕ → ℕ → List ℕ → List (List ℕ) → TypeFault → Type 0
+FieldsPlaceFault ts n d subtypes names (fault.UnsupportedKind k) = HasForeignKind ts k
+FieldsPlaceFault ts n d subtypes names fault.BadTree = NoFieldsAt ts n subtypes names
+FieldsPlaceFault ts n d subtypes names fault.TooDeep = FieldDescends ts n subtypes d
+FieldsPlaceFault ts n d subtypes names fault.TooMany = ⊥
+FieldsPlaceFault ts n d subtypes names fault.RootNotStruct = ⊥
+FieldsPlaceFault ts n d subtypes names (fault.BadText place) = (place ≡ 0) × (HasBadAmong names ⊎ HasBadName ts)
+FieldsPlaceFault ts n d subtypes names fault.OutOfMemory = Unit {0}

@@ -1,4 +1,5 @@
--- The text of a schema: the names that the types have in Hive, as the examples of the ORC specification, "Types", write them.
+-- The text of a schema: the names that the types have in Hive,
+-- as the examples of the ORC specification, "Types", write them.
 use Rattle.std.specs.Prelude.{◌≡◌, ◌<◌, ◌==◌, ℕ, List, [], ◌++◌, length, Bool, true, false, ◌||◌, codes}
 use Rattle.std.specs.List.{AllByRecursion}
 use Rattle.std.specs.Char.{is_ascii_alphanumeric}

@@ -13,7 +13,8 @@ pub record IsFront (bytes : List ℕ) (levels : ℕ) (s : Shape) (rest : List �
   pub spelled : bytes ≡ text s ++ rest
 
 -- a field's text, and then the rest
-pub record IsFieldFront (bytes : List ℕ) (first : Bool) (levels : ℕ) (name : List ℕ) (s : Shape) (rest : List ℕ) : Type 0 where
+pub record IsFieldFront (bytes : List ℕ) (first : Bool) (levels : ℕ) (name : List ℕ) (s : Shape)
+    (rest : List ℕ) : Type 0 where
   pub named : IsName name
   pub plain : IsPlain s
   pub depth : depth s ≤ levels
@@ -31,24 +32,29 @@ NoFront bytes = (s : Shape) (rest : List ℕ) → IsPlain s → bytes ≡ text s
 
 abbrev pub NoFieldFront : List ℕ → Bool → Type 0
 NoFieldFront bytes first =
-    (name : List ℕ) (s : Shape) (rest : List ℕ) → IsName name → IsPlain s → bytes ≡ comma first ++ (name ++ (colon ++ (text s ++ rest))) → ⊥
+    (name : List ℕ) (s : Shape) (rest : List ℕ)
+    → IsName name
+    → IsPlain s
+    → bytes ≡ comma first ++ (name ++ (colon ++ (text s ++ rest)))
+    → ⊥
 
 abbrev pub NoFieldsFront : List ℕ → Bool → Type 0
-NoFieldsFront bytes first = (fs : Fields) (rest : List ℕ) → ArePlain fs → bytes ≡ fields_text first fs ++ (codes ">" ++ rest) → ⊥
+NoFieldsFront bytes first =
+    (fs : Fields) (rest : List ℕ) → ArePlain fs → bytes ≡ fields_text first fs ++ (codes ">" ++ rest) → ⊥
 
 -- Why what is read isn't in front: it goes too deep, or it is wrong where so many bytes are left.
-abbrev pub ReadFault : List ℕ → Type 0 → Type 0 → TypeFault → Type 0
-ReadFault bytes deep wrong (fault.UnsupportedKind k) = ⊥
-ReadFault bytes deep wrong fault.BadTree = ⊥
-ReadFault bytes deep wrong fault.TooDeep = deep
-ReadFault bytes deep wrong fault.TooMany = ⊥
-ReadFault bytes deep wrong fault.RootNotStruct = ⊥
-ReadFault bytes deep wrong (fault.BadText left) = (left ≤ length bytes) × wrong
-ReadFault bytes deep wrong fault.OutOfMemory = Unit {0}
+abbrev pub FrontFaultBy : List ℕ → Type 0 → Type 0 → TypeFault → Type 0
+FrontFaultBy bytes deep wrong (fault.UnsupportedKind k) = ⊥
+FrontFaultBy bytes deep wrong fault.BadTree = ⊥
+FrontFaultBy bytes deep wrong fault.TooDeep = deep
+FrontFaultBy bytes deep wrong fault.TooMany = ⊥
+FrontFaultBy bytes deep wrong fault.RootNotStruct = ⊥
+FrontFaultBy bytes deep wrong (fault.BadText left) = (left ≤ length bytes) × wrong
+FrontFaultBy bytes deep wrong fault.OutOfMemory = Unit {0}
 
 -- no type of so many levels
 abbrev pub FrontFault : List ℕ → ℕ → TypeFault → Type 0
-FrontFault bytes levels f = ReadFault bytes (Opens bytes levels) (NoFront bytes) f
+FrontFault bytes levels f = FrontFaultBy bytes (Opens bytes levels) (NoFront bytes) f
 
 -- the name and the colon of a field, whose type goes deeper
 pub record FieldOpens (bytes : List ℕ) (first : Bool) (levels : ℕ) : Type 0 where
@@ -60,8 +66,9 @@ pub record FieldOpens (bytes : List ℕ) (first : Bool) (levels : ℕ) : Type 0 
 
 -- no field
 abbrev pub FieldFault : List ℕ → Bool → ℕ → TypeFault → Type 0
-FieldFault bytes first levels f = ReadFault bytes (FieldOpens bytes first levels) (NoFieldFront bytes first) f
+FieldFault bytes first levels f = FrontFaultBy bytes (FieldOpens bytes first levels) (NoFieldFront bytes first) f
 
 -- no fields
 abbrev pub FieldsFault : List ℕ → ℕ → TypeFault → Type 0
-FieldsFault bytes levels f = ReadFault bytes ((inner : List ℕ) × EntersField bytes inner × Opens inner levels) (NoFieldsFront bytes true) f
+FieldsFault bytes levels f =
+    FrontFaultBy bytes ((inner : List ℕ) × EntersField bytes inner × Opens inner levels) (NoFieldsFront bytes true) f

@@ -14,8 +14,11 @@ starts (field name s fs) n = n ∷ starts fs (n + width s)
 abbrev mutual
   pub types : Shape → ℕ → List TypeMsg
   types (scalar k o) n = record { kind = number k; subtypes = []; field_names = []; kept = o } ∷ []
-  types (list_of s o) n = record { kind = list_number; subtypes = (n + 1) ∷ []; field_names = []; kept = o } ∷ types s (n + 1)
-  types (struct_of fs o) n = record { kind = struct_number; subtypes = starts fs (n + 1); field_names = names_of fs; kept = o } ∷ fields_types fs (n + 1)
+  types (list_of s o) n =
+      record { kind = list_number; subtypes = (n + 1) ∷ []; field_names = []; kept = o } ∷ types s (n + 1)
+  types (struct_of fs o) n =
+      record { kind = struct_number; subtypes = starts fs (n + 1); field_names = names_of fs; kept = o }
+      ∷ fields_types fs (n + 1)
 
   pub fields_types : Fields → ℕ → List TypeMsg
   fields_types no_field n = []

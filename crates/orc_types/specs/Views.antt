@@ -26,11 +26,11 @@ abbrev pub shape : Tree → Shape
 shape = fold-Tree Shape (List ℕ × Shape) shape_step field_step
 
 -- a field's name and type
-abbrev pub named : Field → List ℕ × Shape
-named = fold-Field Shape (List ℕ × Shape) shape_step field_step
+abbrev pub name_and_type : Field → List ℕ × Shape
+name_and_type = fold-Field Shape (List ℕ × Shape) shape_step field_step
 
 abbrev pub fields : List Field → Fields
-fields fs = fields_of (map named fs)
+fields fs = fields_of (map name_and_type fs)
 
 abbrev pub or_null : Option Cell → Cell
 or_null None = null
@@ -57,5 +57,5 @@ abbrev pub views : List (Option Value) → List Cell
 views rs = map view rs
 
 -- the cells of rows that are lent
-abbrev pub seen : List (Bor (Option Value)) → List Cell
-seen rs = map (λ r. view r.now) rs
+abbrev pub lent_views : List (Bor (Option Value)) → List Cell
+lent_views rs = map (λ r. view r.now) rs

@@ -1,10 +1,11 @@
+//! The cells of a column, found among rows: elements of lists and fields of structs, down the schema.
 ghost use Rattle.std.specs.Prelude.{◌≡◌, ◌<◌, ◌^◌, ◌++◌, ◌≤◌, IfOk, IfErr, OnOk, IfSome, IfNone, take, drop, map, length, option_map, slice_get};
 ghost use Rattle.std.specs.List.{flat_map};
 ghost use Rattle.orc_types.specs.Shapes.{width, widths};
 ghost use Rattle.orc_types.specs.Cells.{parts, values};
 ghost use Rattle.orc_types.specs.Columns as spec;
 ghost use Rattle.orc_types.specs.Columns.{IsLocated};
-ghost use Rattle.orc_types.specs.Views.{view, views, seen, shape, fields as fields_view};
+ghost use Rattle.orc_types.specs.Views.{view, views, lent_views, shape, fields as fields_view};
 ghost use Rattle.orc_types.specs.declared.fault.TypeFault.TheVariants.{OutOfMemory};
 
 use crate::fault::TypeFault;
@@ -26,7 +27,7 @@ pub fn parts_of<'r, 'a>(row: &'r Row<'a>) -> &'r [Row<'a>]
 
 /// Adds each of the rows at the end.
 fn lend_all<'r, 'a>(found: &mut Vec<&'r Row<'a>>, rows: &'r [Row<'a>]) -> Result<(), AllocError>
-    ensures { OnOk result (seen found.new.items ≡ seen found.old.items ++ views rows.now) }
+    ensures { OnOk result (lent_views found.new.items ≡ lent_views found.old.items ++ views rows.now) }
 {
     for row in rows {
         found.push(row)?;
@@ -36,7 +37,7 @@ fn lend_all<'r, 'a>(found: &mut Vec<&'r Row<'a>>, rows: &'r [Row<'a>]) -> Result
 
 /// The elements of the lists that are not null, in order.
 fn elements<'r, 'a>(alloc: Global, rows: Vec<&'r Row<'a>>) -> Result<Vec<&'r Row<'a>>, AllocError>
-    ensures { IfOk result (λ v. seen v.items ≡ flat_map parts (seen rows.entry.items)) }
+    ensures { IfOk result (λ v. lent_views v.items ≡ flat_map parts (lent_views rows.entry.items)) }
 {
     let mut found = Vec::new(alloc);
     for row in rows {
@@ -58,7 +59,8 @@ fn lend_field<'r, 'a>(
     row: &'r Row<'a>,
     i: usize,
 ) -> Result<(), AllocError>
-    ensures { OnOk result (seen found.new.items ≡ seen found.old.items ++ take 1 (drop i (parts (view row.now)))) }
+    ensures { OnOk result (lent_views found.new.items
+        ≡ lent_views found.old.items ++ take 1 (drop i (parts (view row.now)))) }
 {
     let Some(field) = field_at(row, i) else {
         return Ok(());
@@ -73,7 +75,8 @@ fn members<'r, 'a>(
     rows: Vec<&'r Row<'a>>,
     i: usize,
 ) -> Result<Vec<&'r Row<'a>>, AllocError>
-    ensures { IfOk result (λ v. seen v.items ≡ flat_map (λ c. take 1 (drop i (parts c))) (seen rows.entry.items)) }
+    ensures { IfOk result
+        (λ v. lent_views v.items ≡ flat_map (λ c. take 1 (drop i (parts c))) (lent_views rows.entry.items)) }
 {
     let mut found = Vec::new(alloc);
     for row in rows {
@@ -83,9 +86,10 @@ fn members<'r, 'a>(
 }
 
 /// Which field has a column of the fields, and the column's number in that field.
-fn locate(fields: &Vec<Field>, column: usize) -> Option<(usize, usize)>
+fn field_of_column(fields: &Vec<Field>, column: usize) -> Option<(usize, usize)>
     requires { widths (fields_view fields.now.items) < 2 ^ 32 }
-    ensures some { IfSome result (λ p. (p.0 < length fields.now.items) × IsLocated (fields_view fields.now.items) column p.0 p.1) }
+    ensures some { IfSome result (λ p. (p.0 < length fields.now.items)
+        × IsLocated (fields_view fields.now.items) column p.0 p.1) }
     ensures none { IfNone result (widths (fields_view fields.now.items) ≤ column) }
 {
     let mut left = column;
@@ -107,7 +111,7 @@ fn cells_of<'r, 'a>(
     rows: Vec<&'r Row<'a>>,
 ) -> Result<Vec<&'r Row<'a>>, AllocError>
     requires { width (shape tree.now) < 2 ^ 32 }
-    ensures { IfOk result (λ v. seen v.items ≡ spec.cells (shape tree.now) column (seen rows.entry.items)) }
+    ensures { IfOk result (λ v. lent_views v.items ≡ spec.cells (shape tree.now) column (lent_views rows.entry.items)) }
 {
     if column == 0 {
         return Ok(rows);
@@ -119,7 +123,7 @@ fn cells_of<'r, 'a>(
             cells_of(alloc, element, column - 1, below)
         }
         Tree::Struct(fields, _) => {
-            let Some((i, below)) = locate(fields, column - 1) else {
+            let Some((i, below)) = field_of_column(fields, column - 1) else {
                 return Ok(Vec::new(alloc));
             };
             let structs = members(alloc, rows, i)?;
@@ -140,7 +144,7 @@ pub fn cells<'r, 'a>(
     rows: &'r [Row<'a>],
 ) -> Result<Vec<&'r Row<'a>>, TypeFault>
     requires { column < width schema.now }
-    ensures found { IfOk result (λ found. seen found.items ≡ spec.cells schema.now column (views rows.now)) }
+    ensures found { IfOk result (λ found. lent_views found.items ≡ spec.cells schema.now column (views rows.now)) }
     ensures fault { IfErr result (λ fault. fault ≡ OutOfMemory) }
 {
     let mut found = Vec::new(alloc);

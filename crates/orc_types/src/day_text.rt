@@ -1,3 +1,4 @@
+//! Dates: a number of days since 1970-01-01, and its text `YYYY-MM-DD`.
 ghost use Rattle.std.specs.Prelude.{◌≡◌, ℤ, true, IfOk, MatchOption, string_bytes};
 ghost use Rattle.orc_types.specs.Days as spec;
 

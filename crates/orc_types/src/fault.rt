@@ -1,3 +1,4 @@
+//! Why types or a text are no schema's.
 ghost use Rattle.std.specs.Prelude.{◌≡◌};
 ghost use Rattle.orc_types.specs.declared.fault.TypeFault.TheVariants as fault;
 

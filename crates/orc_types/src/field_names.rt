@@ -1,3 +1,4 @@
+//! The names of a struct's fields: whether one is given twice, and whether an object has others as keys.
 ghost use Rattle.std.specs.Prelude.{◌≡◌, IfOk, is_some, true};
 ghost use Rattle.serde_json.specs.Find.{get_member};
 ghost use Rattle.serde_json.specs.View.{members_view};

@@ -1,3 +1,4 @@
+//! Whether a row is one of a schema.
 ghost use Rattle.std.specs.Prelude.{◌≡◌};
 ghost use Rattle.orc_types.specs.Cells.{text, bytes, cells_of};
 ghost use Rattle.orc_types.specs.Views.{view, views, cell_of_value, shape, fields as fields_view};

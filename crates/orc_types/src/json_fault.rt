@@ -1,3 +1,4 @@
+//! Why JSON is no row's, or a row has none.
 ghost use Rattle.std.specs.Prelude.{◌≡◌};
 ghost use Rattle.orc_types.specs.declared.json_fault.JsonFault.TheVariants as fault;
 

@@ -1,3 +1,4 @@
+//! JSON of the values that contain no other, read and printed.
 ghost use Rattle.std.specs.Prelude.{◌≡◌, IfOk, IfErr};
 ghost use Rattle.serde_json.specs.Data.{number as json_number, string as json_string};
 ghost use Rattle.serde_json.specs.View.{view as json_view, number_view};

@@ -1,3 +1,4 @@
+//! Rows to JSON.
 ghost use Rattle.std.specs.Prelude.{◌≡◌, ◌≢◌, IfOk, IfErr, OnOk, true, false, map};
 ghost use Rattle.serde_json.specs.Data.{no_members, put as spec_put};
 ghost use Rattle.serde_json.specs.View.{view as json_view, members_view};
@@ -28,7 +29,8 @@ pub fn row_to_json(alloc: Global, schema: &Schema, row: &Row<'_>) -> Result<Json
     ensures found { IfOk result (λ json. json_view json ≡ spec.json_of schema.now (view row.now)) }
     ensures again { IfOk result (λ json. Spells schema.now (json_view json) (view row.now)) }
     ensures distinct { IfOk result (λ json. spec_distinct schema.now ≡ true) }
-    ensures fault { IfErr result (λ e. e ≢ fault.OutOfMemory → (e ≡ fault.DuplicateField) × (spec_distinct schema.now ≡ false)) }
+    ensures fault { IfErr result (λ e. e ≢ fault.OutOfMemory
+        → (e ≡ fault.DuplicateField) × (spec_distinct schema.now ≡ false)) }
 {
     if !schema.has_distinct_names() {
         return Err(JsonFault::DuplicateField);
@@ -62,7 +64,8 @@ fn json_of(alloc: Global, tree: &Tree, row: &Row<'_>) -> Result<Json, AllocError
 #[cycle(printing)]
 fn array_of(alloc: Global, tree: &Tree, rows: &Vec<Row<'_>>) -> Result<Vec<Json>, AllocError>
     requires { all_fit (cells_of (views rows.now.items)) (shape tree.now) ≡ true }
-    ensures { IfOk result (λ array. map json_view array.items ≡ map (spec.json_of (shape tree.now)) (views rows.now.items)) }
+    ensures { IfOk result
+        (λ array. map json_view array.items ≡ map (spec.json_of (shape tree.now)) (views rows.now.items)) }
 {
     let mut array = Vec::new(alloc);
     for row in rows {
@@ -79,7 +82,8 @@ fn object_of(
     rows: &Vec<Row<'_>>,
 ) -> Result<Map<String, Json>, AllocError>
     requires { each_fits (cells_of (views rows.now.items)) (fields_view fields.now.items) ≡ true }
-    ensures { IfOk result (λ object. members_view object.entries ≡ spec.members_json (fields_view fields.now.items) (cells_of (views rows.now.items)) no_members) }
+    ensures { IfOk result (λ object. members_view object.entries
+        ≡ spec.members_json (fields_view fields.now.items) (cells_of (views rows.now.items)) no_members) }
 {
     let mut object = Map::new(alloc);
     for (i, field) in fields.iter().enumerate() {
@@ -96,7 +100,8 @@ pub(crate) fn put(
     key: &str,
     json: Json,
 ) -> Result<(), AllocError>
-    ensures { OnOk result (members_view object.new.entries ≡ spec_put key.now (json_view json) (members_view object.old.entries)) }
+    ensures { OnOk result (members_view object.new.entries
+        ≡ spec_put key.now (json_view json) (members_view object.old.entries)) }
 {
     let key = String::from_str(alloc, key)?;
     drop(object.insert(key, json)?);

@@ -1,3 +1,4 @@
+//! JSON to rows.
 ghost use Rattle.std.specs.Prelude.{◌≡◌, ◌≢◌, IfOk, IfErr, MatchResult, true, false};
 ghost use Rattle.serde_json.specs.Data.{array};
 ghost use Rattle.serde_json.specs.View.{view as json_view, items_view};
@@ -30,11 +31,16 @@ use std::alloc::Global;
 /// `BadDate` and `BadHex` for a string that is none; `OutOfMemory`.
 pub fn row_from_json(alloc: Global, schema: &Schema, json: &Json) -> Result<Row<'static>, JsonFault>
     ensures found { IfOk result (λ row. Spells schema.now (json_view json.now) (view row)) }
-    ensures only { (row : Cell) → spec_distinct schema.now ≡ true → Spells schema.now (json_view json.now) row → MatchResult result (λ found. view found ≡ row) (λ e. e ≡ fault.OutOfMemory) }
+    ensures only { (row : Cell)
+        → spec_distinct schema.now ≡ true
+        → Spells schema.now (json_view json.now) row
+        → MatchResult result (λ found. view found ≡ row) (λ e. e ≡ fault.OutOfMemory) }
     ensures fits { IfOk result (λ row. fits (view row) schema.now ≡ true) }
     ensures distinct { IfOk result (λ row. spec_distinct schema.now ≡ true) }
 
-    ensures fault { IfErr result (λ e. e ≢ fault.OutOfMemory → e ≢ fault.DuplicateField → Somewhere (FaultAt e) schema.now (json_view json.now)) }
+    ensures fault { IfErr result (λ e. e ≢ fault.OutOfMemory
+        → e ≢ fault.DuplicateField
+        → Somewhere (FaultAt e) schema.now (json_view json.now)) }
     ensures duplicate { IfErr result (λ e. e ≡ fault.DuplicateField → spec_distinct schema.now ≡ false) }
 {
     if !schema.has_distinct_names() {
@@ -48,7 +54,8 @@ pub fn row_from_json(alloc: Global, schema: &Schema, json: &Json) -> Result<Row<
 fn row_of(alloc: Global, tree: &Tree, json: &Json) -> Result<Row<'static>, JsonFault>
     requires { spec_distinct (shape tree.now) ≡ true }
     ensures found { IfOk result (λ row. Spells (shape tree.now) (json_view json.now) (view row)) }
-    ensures fault { IfErr result (λ e. e ≢ fault.OutOfMemory → Somewhere (FaultAt e) (shape tree.now) (json_view json.now)) }
+    ensures fault { IfErr result (λ e. e ≢ fault.OutOfMemory
+        → Somewhere (FaultAt e) (shape tree.now) (json_view json.now)) }
 {
     match tree {
         Tree::Scalar(kind, _) => leaf_from_json(alloc, *kind, json),
@@ -78,8 +85,10 @@ fn elements_of(
     items: &Vec<Json>,
 ) -> Result<Vec<Row<'static>>, JsonFault>
     requires { spec_distinct (shape tree.now) ≡ true }
-    ensures found { IfOk result (λ rows. EachSpells (Spells (shape tree.now)) (items_view items.now.items) (cells_of (views rows.items))) }
-    ensures fault { IfErr result (λ e. e ≢ fault.OutOfMemory → InElement (Somewhere (FaultAt e) (shape tree.now)) (array (items_view items.now.items))) }
+    ensures found { IfOk result
+        (λ rows. EachSpells (Spells (shape tree.now)) (items_view items.now.items) (cells_of (views rows.items))) }
+    ensures fault { IfErr result (λ e. e ≢ fault.OutOfMemory
+        → InElement (Somewhere (FaultAt e) (shape tree.now)) (array (items_view items.now.items))) }
 {
     let mut rows = Vec::new(alloc);
     for item in items {
@@ -96,8 +105,10 @@ fn fields_of(
     json: &Json,
 ) -> Result<Vec<Row<'static>>, JsonFault>
     requires { are_distinct (fields_view fields.now.items) ≡ true }
-    ensures found { IfOk result (λ rows. FieldsSpell (fields_view fields.now.items) (json_view json.now) (cells_of (views rows.items))) }
-    ensures fault { IfErr result (λ e. e ≢ fault.OutOfMemory → InField (FaultAt e) (fields_view fields.now.items) (json_view json.now)) }
+    ensures found { IfOk result
+        (λ rows. FieldsSpell (fields_view fields.now.items) (json_view json.now) (cells_of (views rows.items))) }
+    ensures fault { IfErr result (λ e. e ≢ fault.OutOfMemory
+        → InField (FaultAt e) (fields_view fields.now.items) (json_view json.now)) }
 {
     let mut rows = Vec::new(alloc);
     for field in fields {

@@ -1,3 +1,4 @@
+//! The kinds of types, and their numbers in a list of types.
 ghost use Rattle.std.specs.Prelude.{◌≡◌};
 ghost use Rattle.orc_types.specs.Kinds.{number as number_of, scalar_of};
 

@@ -1,3 +1,4 @@
+//! Laws of schemas, texts, cells, days and JSON. Each function does nothing: its contract is what it is for.
 ghost use Rattle.std.specs.Prelude.{◌≡◌, ◌≢◌, ◌↔◌, ◌++◌, ◌+◌, ◌<◌, length, sum_by, slice_get, Some, ◌≤ℤ◌, ◌⊎◌, ℕ, ℤ, pos, List, true};
 ghost use Rattle.orc_types.specs.Shapes.{Shape, list_of, struct_of, Fields, width, shape_at};
 ghost use Rattle.orc_types.specs.Types.{types, starts};
@@ -30,8 +31,13 @@ ghost use Rattle.orc_types.specs.declared.fault.TypeFault.TheVariants.{OutOfMemo
 pub fn schema_laws()
     ensures one_tree { (s t : Shape) → types s 0 ≡ types t 0 → s ≡ t }
     ensures equal { (s t : Shape) → (same_types s t ≡ true) ↔ (s ≡ t) }
-    ensures none { (ts : List TypeMsg) (s : Shape) (fault : TypeFault) → HasTypes s ts → TypesFault ts fault → fault ≡ OutOfMemory }
-    ensures cover { (ts : List TypeMsg) → AllKept ts → ((s : Shape) × HasTypes s ts) ⊎ ((fault : TypeFault) × (fault ≢ OutOfMemory) × TypesFault ts fault) }
+    ensures none { (ts : List TypeMsg) (s : Shape) (fault : TypeFault)
+        → HasTypes s ts
+        → TypesFault ts fault
+        → fault ≡ OutOfMemory }
+    ensures cover { (ts : List TypeMsg)
+        → AllKept ts
+        → ((s : Shape) × HasTypes s ts) ⊎ ((fault : TypeFault) × (fault ≢ OutOfMemory) × TypesFault ts fault) }
 {}
 
 /// Laws of schemas' texts: a text is of one schema at most; that of any schema with plain names is of
@@ -39,7 +45,10 @@ pub fn schema_laws()
 pub fn schema_text_laws()
     ensures one_schema { (bytes : List ℕ) (s t : Shape) → HasText s bytes → HasText t bytes → s ≡ t }
     ensures kinds_and_names { (s : Shape) → IsSchema s → IsPlain (bare s) → HasText (bare s) (text s) }
-    ensures none { (bytes : List ℕ) (s : Shape) (fault : TypeFault) → HasText s bytes → TextFault bytes fault → fault ≡ OutOfMemory }
+    ensures none { (bytes : List ℕ) (s : Shape) (fault : TypeFault)
+        → HasText s bytes
+        → TextFault bytes fault
+        → fault ≡ OutOfMemory }
 {}
 
 /// Laws of cells: the cells of rows one after the other stand one after the other; those of a column
@@ -47,12 +56,23 @@ pub fn schema_text_laws()
 /// list's child has as many cells as the lists have elements together, and in rows that fit a field's
 /// column, which `starts` tells, has one for each struct that isn't null.
 pub fn cells_laws()
-    ensures append { (s : Shape) (column : ℕ) (a b : List Cell) → cells s column (a ++ b) ≡ cells s column a ++ cells s column b }
-    ensures fit { (s : Shape) (column : ℕ) (rows : List Cell) → column < width s → RowsFit s rows → RowsFit (shape_at s column) (cells s column rows) }
-    ensures deeper { (s : Shape) (column below : ℕ) (rows : List Cell) → column < width s → below < width (shape_at s column) → cells s (column + below) rows ≡ cells (shape_at s column) below (cells s column rows) }
+    ensures append { (s : Shape) (column : ℕ) (a b : List Cell)
+        → cells s column (a ++ b) ≡ cells s column a ++ cells s column b }
+    ensures fit { (s : Shape) (column : ℕ) (rows : List Cell)
+        → column < width s
+        → RowsFit s rows
+        → RowsFit (shape_at s column) (cells s column rows) }
+    ensures deeper { (s : Shape) (column below : ℕ) (rows : List Cell)
+        → column < width s
+        → below < width (shape_at s column)
+        → cells s (column + below) rows ≡ cells (shape_at s column) below (cells s column rows) }
 
-    ensures elements { (s : Shape) (kept : List ℕ) (rows : List Cell) → length (cells (list_of s kept) 1 rows) ≡ sum_by (λ c. length (parts c)) rows }
-    ensures members { (fs : Fields) (kept : List ℕ) (i column : ℕ) (rows : List Cell) → RowsFit (struct_of fs kept) rows → slice_get (starts fs 1) i ≡ Some column → length (cells (struct_of fs kept) column rows) ≡ length (values rows) }
+    ensures elements { (s : Shape) (kept : List ℕ) (rows : List Cell)
+        → length (cells (list_of s kept) 1 rows) ≡ sum_by (λ c. length (parts c)) rows }
+    ensures members { (fs : Fields) (kept : List ℕ) (i column : ℕ) (rows : List Cell)
+        → RowsFit (struct_of fs kept) rows
+        → slice_get (starts fs 1) i ≡ Some column
+        → length (cells (struct_of fs kept) column rows) ≡ length (values rows) }
 {}
 
 /// Laws of days: a text is one day's; the days that have a text are those of the calendar's dates from
@@ -72,8 +92,15 @@ pub fn day_laws()
 pub fn json_laws()
     ensures one_row { (s : Shape) (json : Data) (a b : Cell) → Spells s json a → Spells s json b → a ≡ b }
     ensures fit { (s : Shape) (json : Data) (row : Cell) → Spells s json row → fits row s ≡ true }
-    ensures none { (fault : JsonFault) (s : Shape) (json : Data) (row : Cell) → fault ≢ NoMemory → Somewhere (FaultAt fault) s json → Spells s json row → ⊥ }
-    ensures one_fault { (kind : Scalar) (json : Data) (a b : JsonFault) → LeafFault kind json a → LeafFault kind json b → (a ≡ b) ⊎ ((a ≡ NoMemory) ⊎ (b ≡ NoMemory)) }
+    ensures none { (fault : JsonFault) (s : Shape) (json : Data) (row : Cell)
+        → fault ≢ NoMemory
+        → Somewhere (FaultAt fault) s json
+        → Spells s json row
+        → ⊥ }
+    ensures one_fault { (kind : Scalar) (json : Data) (a b : JsonFault)
+        → LeafFault kind json a
+        → LeafFault kind json b
+        → (a ≡ b) ⊎ ((a ≡ NoMemory) ⊎ (b ≡ NoMemory)) }
     ensures keys { (s : Shape) (row : Cell) (members : Members) → json_of s row ≡ object members → AreInOrder members }
     ensures again { (s : Shape) (row : Cell) → is_distinct s ≡ true → fits row s ≡ true → Spells s (json_of s row) row }
 {}

@@ -1,5 +1,6 @@
+//! Cells that are lent: rows of another's, in a slice.
 ghost use Rattle.std.specs.Prelude.{◌≡◌, IfOk, IfErr};
-ghost use Rattle.orc_types.specs.Views.{seen};
+ghost use Rattle.orc_types.specs.Views.{lent_views};
 ghost use Rattle.orc_types.specs.Lent.{lent_cells};
 ghost use Rattle.orc_types.specs.declared.fault.TypeFault.TheVariants.{OutOfMemory};
 
@@ -15,7 +16,7 @@ pub struct Lent<'r, 'a>(pub &'r Row<'a>);
 ///
 /// Refusal: `OutOfMemory`.
 pub fn lend<'r, 'a>(alloc: Global, cells: Vec<&'r Row<'a>>) -> Result<Vec<Lent<'r, 'a>>, TypeFault>
-    ensures found { IfOk result (λ lent. lent_cells lent.items ≡ seen cells.entry.items) }
+    ensures found { IfOk result (λ lent. lent_cells lent.items ≡ lent_views cells.entry.items) }
     ensures fault { IfErr result (λ fault. fault ≡ OutOfMemory) }
 {
     let mut lent = Vec::new(alloc);

@@ -1,9 +1,10 @@
+//! A schema's tree to the list of its types, in pre-order.
 ghost use Rattle.std.specs.Prelude.{◌≡◌, ◌+◌, ◌<◌, ◌^◌, ◌++◌, IfOk, OnOk, length};
 ghost use Rattle.orc_types.specs.Shapes.{width, widths, names_of as spec_names};
-ghost use Rattle.orc_types.specs.Types.{types as types_of, fields_types, starts as spec_starts};
+ghost use Rattle.orc_types.specs.Types.{types as spec_types, fields_types, starts as spec_starts};
 ghost use Rattle.orc_types.specs.Views.{shape, fields as fields_view};
 
-use crate::copies::copied_bytes;
+use crate::copies::copy_bytes;
 use crate::kind::{LIST, STRUCT};
 use crate::tree::{Field, Tree, width_of};
 use orc_wire::{Bytes, Items, TypeMsg};
@@ -29,7 +30,7 @@ fn names_of(alloc: Global, fields: &[Field]) -> Result<Vec<Bytes>, AllocError>
 {
     let mut names = Vec::with_capacity(alloc, fields.len())?;
     for field in fields {
-        names.push(Items::from_vec(copied_bytes(alloc, field.name.as_bytes())?))?;
+        names.push(Items::from_vec(copy_bytes(alloc, field.name.as_bytes())?))?;
     }
     Ok(names)
 }
@@ -42,13 +43,14 @@ fn type_msg(
     names: Vec<Bytes>,
     kept: &[u8],
 ) -> Result<TypeMsg, AllocError>
-    ensures { IfOk result (λ t. t ≡ record { kind = kind; subtypes = subtypes.items; field_names = names.items; kept = kept.now }) }
+    ensures { IfOk result
+        (λ t. t ≡ record { kind = kind; subtypes = subtypes.items; field_names = names.items; kept = kept.now }) }
 {
     Ok(TypeMsg {
         kind,
         subtypes: Items::from_vec(subtypes),
         field_names: Items::from_vec(names),
-        kept: Items::from_vec(copied_bytes(alloc, kept)?),
+        kept: Items::from_vec(copy_bytes(alloc, kept)?),
     })
 }
 
@@ -56,7 +58,7 @@ fn type_msg(
 #[cycle(list)]
 fn list_tree(alloc: Global, types: &mut Vec<TypeMsg>, tree: &Tree) -> Result<(), AllocError>
     requires { length types.old.items + width (shape tree.now) < 2 ^ 32 }
-    ensures { OnOk result (types.new.items ≡ types.old.items ++ types_of (shape tree.now) (length types.old.items)) }
+    ensures { OnOk result (types.new.items ≡ types.old.items ++ spec_types (shape tree.now) (length types.old.items)) }
 {
     let next = types.len() + 1;
     match tree {
@@ -82,7 +84,8 @@ fn list_tree(alloc: Global, types: &mut Vec<TypeMsg>, tree: &Tree) -> Result<(),
 #[cycle(list)]
 fn list_fields(alloc: Global, types: &mut Vec<TypeMsg>, fields: &[Field]) -> Result<(), AllocError>
     requires { length types.old.items + widths (fields_view fields.now) < 2 ^ 32 }
-    ensures { OnOk result (types.new.items ≡ types.old.items ++ fields_types (fields_view fields.now) (length types.old.items)) }
+    ensures { OnOk result (types.new.items ≡ types.old.items
+        ++ fields_types (fields_view fields.now) (length types.old.items)) }
 {
     for field in fields {
         list_tree(alloc, types, &field.tree)?;
@@ -91,9 +94,9 @@ fn list_fields(alloc: Global, types: &mut Vec<TypeMsg>, fields: &[Field]) -> Res
 }
 
 /// The types of a tree, in pre-order.
-pub(crate) fn listed(alloc: Global, tree: &Tree) -> Result<Vec<TypeMsg>, AllocError>
+pub(crate) fn types_of(alloc: Global, tree: &Tree) -> Result<Vec<TypeMsg>, AllocError>
     requires { width (shape tree.now) < 2 ^ 32 }
-    ensures { IfOk result (λ types. types.items ≡ types_of (shape tree.now) 0) }
+    ensures { IfOk result (λ types. types.items ≡ spec_types (shape tree.now) 0) }
 {
     let mut types = Vec::new(alloc);
     list_tree(alloc, &mut types, tree)?;

@@ -1,13 +1,14 @@
+//! A list of types in pre-order to the tree of a schema.
 ghost use Rattle.std.specs.Prelude.{◌≡◌, ◌<◌, ◌↔◌, IsTrue, IfOk, IfErr, IfSome, slice_get, option_map, [], ◌∷◌, true, string_bytes};
 ghost use Rattle.std.specs.List.{AllByRecursion};
 ghost use Rattle.std.specs.Str.{is_utf8};
 ghost use Rattle.orc_types.specs.Kinds.{IsKind};
 ghost use Rattle.orc_types.specs.Schemas.{HasTypes, AllKept};
 ghost use Rattle.orc_types.specs.Faults.{TypesFault};
-ghost use Rattle.orc_types.specs.Preorder.{Found, FoundFields, NameFault, PlaceFault, FieldsFault};
+ghost use Rattle.orc_types.specs.Preorder.{Found, FoundFields, NameFault, PlaceFault, FieldsPlaceFault};
 ghost use Rattle.orc_types.specs.Views.{shape, fields as fields_view};
 
-use crate::copies::copied_bytes;
+use crate::copies::copy_bytes;
 use crate::fault::TypeFault;
 use crate::kind::{LIST, STRUCT, Scalar};
 use crate::tree::{Field, Tree};
@@ -78,12 +79,12 @@ fn subtree(
             return Err(TypeFault::BadTree);
         }
         let (element, end) = subtree(alloc, types, next, levels - 1)?;
-        let kept = copied_bytes(alloc, t.kept.as_slice())?;
+        let kept = copy_bytes(alloc, t.kept.as_slice())?;
         return Ok((Tree::List(Box::new(alloc, element)?, kept), end));
     }
     if t.kind == STRUCT {
-        let (fields, end) = fields_from(alloc, types, t, next, levels - 1)?;
-        let kept = copied_bytes(alloc, t.kept.as_slice())?;
+        let (fields, end) = subtree_fields(alloc, types, t, next, levels - 1)?;
+        let kept = copy_bytes(alloc, t.kept.as_slice())?;
         return Ok((Tree::Struct(fields, kept), end));
     }
     let Some(kind) = Scalar::from_number(t.kind) else {
@@ -92,21 +93,22 @@ fn subtree(
     if !has_no_subtype(t) {
         return Err(TypeFault::BadTree);
     }
-    let kept = copied_bytes(alloc, t.kept.as_slice())?;
+    let kept = copy_bytes(alloc, t.kept.as_slice())?;
     Ok((Tree::Scalar(kind, kept), next))
 }
 
 /// The fields of a struct, whose types begin at a place, and where they end.
 #[cycle(subtree)]
-fn fields_from(
+fn subtree_fields(
     alloc: Global,
     types: &[TypeMsg],
     t: &TypeMsg,
     from: usize,
     levels: u32,
 ) -> Result<(Vec<Field>, usize), TypeFault>
-    ensures found { IfOk result (λ found. FoundFields types.now from levels t.now.subtypes t.now.field_names (fields_view found.0.items) found.1) }
-    ensures fault { IfErr result (FieldsFault types.now from levels t.now.subtypes t.now.field_names) }
+    ensures found { IfOk result (λ found. FoundFields types.now from levels t.now.subtypes t.now.field_names
+        (fields_view found.0.items) found.1) }
+    ensures fault { IfErr result (FieldsPlaceFault types.now from levels t.now.subtypes t.now.field_names) }
 {
     let subtypes = t.subtypes.as_slice();
     let names = t.field_names.as_slice();

@@ -1,3 +1,4 @@
+//! Copies of rows, which borrow nothing.
 ghost use Rattle.std.specs.Prelude.{◌≡◌, IfOk};
 ghost use Rattle.orc_types.specs.Views.{view, views, cell_of_value};
 

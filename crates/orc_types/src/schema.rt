@@ -1,18 +1,19 @@
+//! Schemas: a tree of types, and the list of its types in pre-order, which is what a file has.
 ghost use Rattle.std.specs.Prelude.{◌≡◌, ◌≤◌, IfOk, IfErr, MatchResult, ◌==◌};
 ghost use Rattle.std.specs.Cmp.{partial_equiv_from_equiv};
 ghost use Rattle.std.specs.Cmp.Lexicographic.{pointwise};
 ghost use Rattle.orc_types.specs.Shapes.{Shape, width};
-ghost use Rattle.orc_types.specs.Types.{types as types_of};
+ghost use Rattle.orc_types.specs.Types.{types as spec_types};
 ghost use Rattle.orc_types.specs.Schemas.{IsSchema, HasTypes, AllKept, same_node, same_types, same_types_equiv};
 ghost use Rattle.orc_types.specs.Faults.{TypesFault};
 ghost use Rattle.orc_types.specs.FieldNames.{is_distinct as distinct_names};
 ghost use Rattle.orc_types.specs.Views.{shape};
 ghost use Rattle.orc_types.specs.declared.fault.TypeFault.TheVariants.{OutOfMemory};
 
-use crate::copies::copied_types;
+use crate::copies::copy_types;
 use crate::fault::TypeFault;
 use crate::field_names::is_distinct;
-use crate::listing::listed;
+use crate::listing::types_of;
 use crate::preorder::tree_of;
 use crate::tree::Tree;
 use orc_wire::{Bytes, TypeMsg};
@@ -55,12 +56,14 @@ impl Schema {
     pub fn from_types(alloc: Global, types: &[TypeMsg]) -> Result<Schema, TypeFault>
         requires { AllKept types.now }
         ensures found { IfOk result (λ found. HasTypes found types.now) }
-        ensures only { (s : Shape) → HasTypes s types.now → MatchResult result (λ found. found ≡ s) (λ fault. fault ≡ OutOfMemory) }
+        ensures only { (s : Shape)
+            → HasTypes s types.now
+            → MatchResult result (λ found. found ≡ s) (λ fault. fault ≡ OutOfMemory) }
 
         ensures fault { IfErr result (TypesFault types.now) }
     {
         let tree = tree_of(alloc, types)?;
-        let types = copied_types(alloc, types)?;
+        let types = copy_types(alloc, types)?;
         let distinct = is_distinct(alloc, &tree)?;
         Ok(Schema {
             types,
@@ -74,7 +77,7 @@ impl Schema {
         requires { IsSchema (shape tree) }
         ensures { IfOk result (λ found. found ≡ shape tree) }
     {
-        let types = listed(alloc, &tree)?;
+        let types = types_of(alloc, &tree)?;
         let distinct = is_distinct(alloc, &tree)?;
         Ok(Schema {
             types,
@@ -85,7 +88,7 @@ impl Schema {
 
     /// The types, in pre-order.
     pub fn types(&self) -> &[TypeMsg]
-        ensures same { result.now ≡ types_of self.now 0 }
+        ensures same { result.now ≡ spec_types self.now 0 }
         ensures schema { IsSchema self.now }
     {
         &self.types

@@ -1,3 +1,4 @@
+//! The text of a schema, such as `struct<a:int,b:array<string>>`, written and read.
 ghost use Rattle.std.specs.Prelude.{◌↔◌, IsTrue, ◌≡◌, ◌≢◌, ◌++◌, ℕ, List, [], IfOk, IfErr, IfSome, IfNone, OnOk, MatchOption, MatchResult, true, string_bytes};
 ghost use Rattle.orc_types.specs.Shapes.{Shape, IsStruct};
 ghost use Rattle.orc_types.specs.SchemaText as spec;
@@ -38,7 +39,9 @@ impl Schema {
     /// of several is answered is open.
     pub fn parse(alloc: Global, text: &str) -> Result<Schema, TypeFault>
         ensures found { IfOk result (λ found. HasText found text.now) }
-        ensures only { (s : Shape) → HasText s text.now → MatchResult result (λ found. found ≡ s) (λ fault. fault ≡ OutOfMemory) }
+        ensures only { (s : Shape)
+            → HasText s text.now
+            → MatchResult result (λ found. found ≡ s) (λ fault. fault ≡ OutOfMemory) }
 
         ensures fault { IfErr result (TextFault text.now) }
     {
@@ -117,7 +120,11 @@ fn put_tree(text: &mut String, tree: &Tree) -> Result<(), AllocError>
 /// Adds the text of a field.
 #[cycle(put)]
 fn put_field(text: &mut String, first: bool, field: &Field) -> Result<(), AllocError>
-    ensures { OnOk result (string_bytes text.new ≡ string_bytes text.old ++ spec.comma first ++ string_bytes field.now.name ++ spec.colon ++ spec.text (shape field.now.tree)) }
+    ensures { OnOk result (string_bytes text.new ≡ string_bytes text.old
+        ++ spec.comma first
+        ++ string_bytes field.now.name
+        ++ spec.colon
+        ++ spec.text (shape field.now.tree)) }
 {
     if !first {
         add(text, ",")?;
@@ -131,7 +138,8 @@ fn put_field(text: &mut String, first: bool, field: &Field) -> Result<(), AllocE
 /// Adds the text of the fields.
 #[cycle(put)]
 fn put_fields(text: &mut String, fields: &Vec<Field>) -> Result<(), AllocError>
-    ensures { OnOk result (string_bytes text.new ≡ string_bytes text.old ++ spec.fields_text true (fields_view fields.now.items)) }
+    ensures { OnOk result (string_bytes text.new ≡ string_bytes text.old
+        ++ spec.fields_text true (fields_view fields.now.items)) }
 {
     for (i, field) in fields.iter().enumerate() {
         put_field(text, i == 0, field)?;
@@ -140,17 +148,23 @@ fn put_fields(text: &mut String, fields: &Vec<Field>) -> Result<(), AllocError>
 }
 
 /// What stands behind a word, if the text begins with the word.
-fn after<'t>(text: &'t [u8], word: &str) -> Option<&'t [u8]>
-    ensures { MatchOption result ((rest : List ℕ) → text.now ≢ word.now ++ rest) (λ rest. text.now ≡ word.now ++ rest.now) }
+fn text_behind<'t>(text: &'t [u8], word: &str) -> Option<&'t [u8]>
+    ensures { MatchOption result ((rest : List ℕ) → text.now ≢ word.now ++ rest)
+        (λ rest. text.now ≡ word.now ++ rest.now) }
 {
     text.strip_prefix(word.as_bytes())
 }
 
 /// What stands behind the comma that each field but the first has in front.
-fn after_comma<'t>(text: &'t [u8], first: bool) -> Option<&'t [u8]>
-    ensures { MatchOption result ((rest : List ℕ) → text.now ≢ spec.comma first ++ rest) (λ rest. text.now ≡ spec.comma first ++ rest.now) }
+fn text_behind_comma<'t>(text: &'t [u8], first: bool) -> Option<&'t [u8]>
+    ensures { MatchOption result ((rest : List ℕ) → text.now ≢ spec.comma first ++ rest)
+        (λ rest. text.now ≡ spec.comma first ++ rest.now) }
 {
-    if first { Some(text) } else { after(text, ",") }
+    if first {
+        Some(text)
+    } else {
+        text_behind(text, ",")
+    }
 }
 
 /// Whether a byte can stand in a name.
@@ -185,7 +199,7 @@ fn kind_from(text: &[u8]) -> Option<(Scalar, &[u8])>
     ensures none { IfNone result ((kind : Scalar) (rest : List ℕ) → text.now ≢ spec.kind_name kind ++ rest) }
 {
     for kind in SCALARS {
-        if let Some(rest) = after(text, kind_name(kind)) {
+        if let Some(rest) = text_behind(text, kind_name(kind)) {
             return Some((kind, rest));
         }
     }
@@ -202,9 +216,9 @@ fn tree_from<'t>(alloc: Global, text: &'t [u8], levels: u32) -> Result<(Tree, &'
     if levels == 0 {
         return Err(TypeFault::TooDeep);
     }
-    if let Some(inner) = after(text, "array<") {
+    if let Some(inner) = text_behind(text, "array<") {
         let (element, rest) = tree_from(alloc, inner, levels - 1)?;
-        let Some(outer) = after(rest, ">") else {
+        let Some(outer) = text_behind(rest, ">") else {
             return Err(TypeFault::BadText(rest.len()));
         };
         return Ok((
@@ -212,7 +226,7 @@ fn tree_from<'t>(alloc: Global, text: &'t [u8], levels: u32) -> Result<(Tree, &'
             outer,
         ));
     }
-    if let Some(inner) = after(text, "struct<") {
+    if let Some(inner) = text_behind(text, "struct<") {
         let (fields, rest) = fields_from(alloc, inner, levels - 1)?;
         return Ok((Tree::Struct(fields, Vec::new(alloc)), rest));
     }
@@ -230,10 +244,11 @@ fn field_from<'t>(
     first: bool,
     levels: u32,
 ) -> Result<(Field, &'t [u8]), TypeFault>
-    ensures found { IfOk result (λ found. IsFieldFront text.now first levels (string_bytes found.0.name) (shape found.0.tree) found.1.now) }
+    ensures found { IfOk result
+        (λ found. IsFieldFront text.now first levels (string_bytes found.0.name) (shape found.0.tree) found.1.now) }
     ensures fault { IfErr result (FieldFault text.now first levels) }
 {
-    let Some(named) = after_comma(text, first) else {
+    let Some(named) = text_behind_comma(text, first) else {
         return Err(TypeFault::BadText(text.len()));
     };
     let Some((name, inner)) = name_from(named) else {
@@ -257,7 +272,7 @@ fn fields_from<'t>(
     let mut fields = Vec::new(alloc);
     let mut left = text;
     loop {
-        if let Some(rest) = after(left, ">") {
+        if let Some(rest) = text_behind(left, ">") {
             return Ok((fields, rest));
         }
         let (field, rest) = field_from(alloc, left, fields.is_empty(), levels)?;
@@ -274,7 +289,7 @@ fn is_struct(tree: &Tree) -> bool
 }
 
 /// The fault with its place counted from the front of the text.
-fn placed(text: &[u8], fault: TypeFault) -> TypeFault
+fn fault_from_front(text: &[u8], fault: TypeFault) -> TypeFault
     requires { FrontFault text.now 32 fault }
     ensures { FrontFault text.now 32 result }
 {
@@ -292,6 +307,6 @@ fn whole_tree(alloc: Global, text: &[u8]) -> Result<Tree, TypeFault>
     match tree_from(alloc, text, MOST_LEVELS) {
         Ok((tree, [])) => Ok(tree),
         Ok((_, rest)) => Err(TypeFault::BadText(text.len() - rest.len())),
-        Err(fault) => Err(placed(text, fault)),
+        Err(fault) => Err(fault_from_front(text, fault)),
     }
 }

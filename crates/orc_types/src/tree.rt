@@ -1,3 +1,4 @@
+//! Types with all that they contain, and their columns, which are counted in pre-order.
 ghost use Rattle.std.specs.Prelude.{◌≡◌, ◌<◌, ◌^◌};
 ghost use Rattle.orc_types.specs.Shapes.{width, widths, shape_at, shape_within};
 ghost use Rattle.orc_types.specs.Views.{shape, fields as fields_view};

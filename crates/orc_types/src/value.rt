@@ -1,3 +1,4 @@
+//! Values and rows.
 use std::borrow::{CowSlice, CowStr};
 
 /// A value that is not null. Texts and bytes are borrowed from a file's bytes or owned. A date is a

@@ -1,3 +1,4 @@
+//! Schemas of lists of types, which are given back as they came and compared; and what all tests share.
 ghost use Rattle.std.specs.Prelude.{◌≡◌, [], IfOk};
 ghost use Rattle.orc_wire.specs.CanonicalKinds.{AreKept};
 ghost use Rattle.orc_types.specs.Schemas.{AllKept};
@@ -36,7 +37,7 @@ static OTHER_NAME: [Listed; 4] = [
 ];
 
 /// The same bytes, in memory of their own.
-fn copied_bytes(alloc: Global, bytes: &[u8]) -> Result<Vec<u8>, AllocError>
+fn copy_bytes(alloc: Global, bytes: &[u8]) -> Result<Vec<u8>, AllocError>
     ensures { IfOk result (λ copy. copy.items ≡ bytes.now) }
 {
     bytes.to_vec(alloc)
@@ -46,7 +47,7 @@ fn copied_bytes(alloc: Global, bytes: &[u8]) -> Result<Vec<u8>, AllocError>
 fn field_five(alloc: Global) -> Result<Bytes, AllocError>
     ensures { IfOk result (AreKept 4) }
 {
-    Ok(Items::from_vec(copied_bytes(alloc, &[0x28, 0x01])?))
+    Ok(Items::from_vec(copy_bytes(alloc, &[0x28, 0x01])?))
 }
 
 fn names_of(alloc: Global, names: &[&'static [u8]]) -> Result<Vec<Bytes>, AllocError> {

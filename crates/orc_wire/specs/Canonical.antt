@@ -23,8 +23,8 @@ pub record IsBetween (low high : ℕ) (item : Item) : Type 0 where
   pub most : item.number < high
 
 -- more fields behind the front, which make the member say v
-pub record Adds {V : Type 0} (member : Member V) (low high : ℕ) (always : ℕ → Type 0) (base : ℕ) (before : List Item) (front added : List ℕ)
-    (v : V) : Type 0 where
+pub record Adds {V : Type 0} (member : Member V) (low high : ℕ) (always : ℕ → Type 0)
+    (base : ℕ) (before : List Item) (front added : List ℕ) (v : V) : Type 0 where
   pub more : List Item
   pub are : IsFields base (more ++ before) (front ++ added)
   pub says : member.says (more ++ before) v
@@ -46,33 +46,43 @@ pub record Canonical {V : Type 0} (member : Member V) : Type 1 where
   pub few : high ≤ 2 ^ 29
   pub always : ℕ → Type 0
   -- other fields say nothing of it
-  pub deaf : (item : Item) (before : List Item) (v : V) → item.number < 2 ^ 29 → IsOutside low high item.number → member.says before v
-      → member.says (item ∷ before) v
+  pub deaf : (item : Item) (before : List Item) (v : V)
+      → item.number < 2 ^ 29 → IsOutside low high item.number → member.says before v → member.says (item ∷ before) v
   -- its text says it
-  pub again : (v : V) → bounded v → whole v → length (text v) < 2 ^ 64 → (base : ℕ) (before : List Item) (front : List ℕ) → IsFields base before front
+  pub again : (v : V)
+      → bounded v
+      → whole v
+      → length (text v) < 2 ^ 64
+      → (base : ℕ) (before : List Item) (front : List ℕ)
+      → IsFields base before front
       → member.says before member.start
       → Adds member low high always base before front (text v) v
   -- it refuses its own fields alone, each for one reason
   pub hears : (item : Item) (v : V) (fault : WireFault) → member.refuses item v fault → IsBetween low high item
   pub single : (item : Item) (v : V) (e f : WireFault) → member.refuses item v e → member.refuses item v f → e ≡ f
   -- what is read has numbers of those bits
-  pub read : (base : ℕ) (fields : List Item) (bytes : List ℕ) (v : V) → IsFields base fields bytes → member.says fields v → bounded v
+  pub read : (base : ℕ) (fields : List Item) (bytes : List ℕ) (v : V)
+      → IsFields base fields bytes → member.says fields v → bounded v
 
-deaf_all : {V : Type 0} (member : Member V) (w : Canonical member) (low high : ℕ) (more before : List Item) (v : V) → high ≤ 2 ^ 29
+deaf_all : {V : Type 0} (member : Member V) (w : Canonical member) (low high : ℕ) (more before : List Item) (v : V)
+    → high ≤ 2 ^ 29
     → ((n : ℕ) → low ≤ n → n < high → IsOutside w.low w.high n)
-    → AllByRecursion (IsBetween low high) more → member.says before v → member.says (more ++ before) v
+    → AllByRecursion (IsBetween low high) more
+    → member.says before v
+    → member.says (more ++ before) v
 deaf_all member w low high [] before v few out h says = says
 deaf_all member w low high (item ∷ more) before v few out h says =
     let most = h.0.most in
     w.deaf item (more ++ before) v (omega (arith, most, few)) (out item.number h.0.least h.0.most) (deaf_all member w low high more before v few out h.1 says)
 
-all_widen : (low high low2 high2 : ℕ) (more : List Item) → low2 ≤ low → high ≤ high2 → AllByRecursion (IsBetween low high) more
-    → AllByRecursion (IsBetween low2 high2) more
+all_widen : (low high low2 high2 : ℕ) (more : List Item)
+    → low2 ≤ low → high ≤ high2 → AllByRecursion (IsBetween low high) more → AllByRecursion (IsBetween low2 high2) more
 all_widen low high low2 high2 [] p q h = tt
 all_widen low high low2 high2 (item ∷ more) p q h =
     (let b = h.0 in record { least = omega (arith, b.least, p); most = omega (arith, b.most, q) }, all_widen low high low2 high2 more p q h.1)
 
-pub all_both : {V : Type 0} (P : V → Type 0) (a b : List V) → AllByRecursion P a → AllByRecursion P b → AllByRecursion P (a ++ b)
+pub all_both : {V : Type 0} (P : V → Type 0) (a b : List V)
+    → AllByRecursion P a → AllByRecursion P b → AllByRecursion P (a ++ b)
 all_both P [] b p q = q
 all_both P (x ∷ a) b p q = (p.0, all_both P a b p.1 q)
 
@@ -86,7 +96,10 @@ none_wanted n (item ∷ before) e = ap (λ (b : Bool). b || is_some (number_in n
 
 -- one member after the other, in ascending numbers
 module _ {V W : Type 0} (a : Member V) (b : Member W) (x : Canonical a) (y : Canonical b) (apart : x.high ≤ y.low) where
-  pub both_deaf : (item : Item) (before : List Item) (v : V × W) → item.number < 2 ^ 29 → IsOutside x.low y.high item.number → (a and b).says before v
+  pub both_deaf : (item : Item) (before : List Item) (v : V × W)
+      → item.number < 2 ^ 29
+      → IsOutside x.low y.high item.number
+      → (a and b).says before v
       → (a and b).says (item ∷ before) v
   both_deaf item before v few (inl lt) says =
       let p = x.ordered in
@@ -95,9 +108,13 @@ module _ {V W : Type 0} (a : Member V) (b : Member W) (x : Canonical a) (y : Can
       let p = y.ordered in
       (x.deaf item before v.0 few (inr (omega (arith, ge, apart, p))) says.0, y.deaf item before v.1 few (inr ge) says.1)
 
-  pub both_again : (v : V × W) → x.bounded v.0 × y.bounded v.1 → x.whole v.0 × y.whole v.1 → length (x.text v.0 ++ y.text v.1) < 2 ^ 64
+  pub both_again : (v : V × W)
+      → x.bounded v.0 × y.bounded v.1
+      → x.whole v.0 × y.whole v.1
+      → length (x.text v.0 ++ y.text v.1) < 2 ^ 64
       → (base : ℕ) (before : List Item) (front : List ℕ)
-      → IsFields base before front → (a and b).says before (a and b).start
+      → IsFields base before front
+      → (a and b).says before (a and b).start
       → Adds (a and b) x.low y.high (λ n. x.always n ⊎ y.always n) base before front (x.text v.0 ++ y.text v.1) v
   both_again v can whole len base before front are says =
       let p = x.ordered in
@@ -123,18 +140,20 @@ module _ {V W : Type 0} (a : Member V) (b : Member W) (x : Canonical a) (y : Can
   pub both_ordered : x.low ≤ y.high
   both_ordered = let p = x.ordered in let q = y.ordered in omega (arith, p, q, apart)
 
-  pub both_hears : (item : Item) (v : V × W) (fault : WireFault) → (a and b).refuses item v fault → IsBetween x.low y.high item
+  pub both_hears : (item : Item) (v : V × W) (fault : WireFault)
+      → (a and b).refuses item v fault → IsBetween x.low y.high item
   both_hears item v fault (inl r) = let h = x.hears item v.0 fault r in let q = y.ordered in record { least = h.least; most = omega (arith, h.most, apart, q) }
   both_hears item v fault (inr r) = let h = y.hears item v.1 fault r in let p = x.ordered in record { least = omega (arith, h.least, apart, p); most = h.most }
 
-  pub both_single : (item : Item) (v : V × W) (e f : WireFault) → (a and b).refuses item v e → (a and b).refuses item v f → e ≡ f
+  pub both_single : (item : Item) (v : V × W) (e f : WireFault)
+      → (a and b).refuses item v e → (a and b).refuses item v f → e ≡ f
   both_single item v e f (inl r) (inl s) = x.single item v.0 e f r s
   both_single item v e f (inl r) (inr s) = let h = x.hears item v.0 e r in let k = y.hears item v.1 f s in absurd (omega (arith, h.most, k.least, apart))
   both_single item v e f (inr r) (inl s) = let h = x.hears item v.0 f s in let k = y.hears item v.1 e r in absurd (omega (arith, h.most, k.least, apart))
   both_single item v e f (inr r) (inr s) = y.single item v.1 e f r s
 
-  pub both_read : (base : ℕ) (fields : List Item) (bytes : List ℕ) (v : V × W) → IsFields base fields bytes → (a and b).says fields v
-      → x.bounded v.0 × y.bounded v.1
+  pub both_read : (base : ℕ) (fields : List Item) (bytes : List ℕ) (v : V × W)
+      → IsFields base fields bytes → (a and b).says fields v → x.bounded v.0 × y.bounded v.1
   both_read base fields bytes v are says = (x.read base fields bytes v.0 are says.0, y.read base fields bytes v.1 are says.1)
 
   abbrev pub both : Canonical (a and b)
@@ -155,7 +174,8 @@ module _ {V W : Type 0} (a : Member V) (b : Member W) (x : Canonical a) (y : Can
   }
 
 -- the second is written where the first passes a test; elsewhere it must be as if no field spoke of it
-module _ {V W : Type 0} (a : Member V) (b : Member W) (x : Canonical a) (y : Canonical b) (test : V → Bool) (apart : x.high ≤ y.low) where
+module _ {V W : Type 0} (a : Member V) (b : Member W) (x : Canonical a) (y : Canonical b) (test : V → Bool)
+    (apart : x.high ≤ y.low) where
   abbrev pub WholeIf : Bool → V × W → Type 0
   WholeIf true v = x.whole v.0 × y.whole v.1
   WholeIf false v = x.whole v.0 × (v.1 ≡ b.start)
@@ -164,9 +184,14 @@ module _ {V W : Type 0} (a : Member V) (b : Member W) (x : Canonical a) (y : Can
   text_if true v = x.text v.0 ++ y.text v.1
   text_if false v = x.text v.0
 
-  pub again_if : (t : Bool) (v : V × W) → x.bounded v.0 × y.bounded v.1 → WholeIf t v → length (text_if t v) < 2 ^ 64
+  pub again_if : (t : Bool) (v : V × W)
+      → x.bounded v.0 × y.bounded v.1
+      → WholeIf t v
+      → length (text_if t v) < 2 ^ 64
       → (base : ℕ) (before : List Item) (front : List ℕ)
-      → IsFields base before front → (a and b).says before (a and b).start → Adds (a and b) x.low y.high x.always base before front (text_if t v) v
+      → IsFields base before front
+      → (a and b).says before (a and b).start
+      → Adds (a and b) x.low y.high x.always base before front (text_if t v) v
   again_if true v can whole len base before front are says =
       let r = both_again a b x y apart v can whole len base before front are says in
       record { more = r.more; are = r.are; says = r.says; between = r.between; shows = λ n h. r.shows n (inl h) }
@@ -201,9 +226,13 @@ module _ {V W : Type 0} (a : Member V) (b : Member W) (x : Canonical a) (y : Can
 
 -- the members of a record
 module _ {V W : Type 0} (shape : Shape V W) (m : Member V) (x : Canonical m) where
-  pub shaped_again : (w : W) → x.bounded (shape.into w) → x.whole (shape.into w) → length (x.text (shape.into w)) < 2 ^ 64
+  pub shaped_again : (w : W)
+      → x.bounded (shape.into w)
+      → x.whole (shape.into w)
+      → length (x.text (shape.into w)) < 2 ^ 64
       → (base : ℕ) (before : List Item) (front : List ℕ)
-      → IsFields base before front → (shaped shape m).says before (shaped shape m).start
+      → IsFields base before front
+      → (shaped shape m).says before (shaped shape m).start
       → Adds (shaped shape m) x.low x.high x.always base before front (x.text (shape.into w)) w
   shaped_again w can whole len base before front are says =
       let r = x.again (shape.into w) can whole len base before front are (subst (λ (v : V). m.says before v) (shape.here m.start) says) in
@@ -227,8 +256,11 @@ module _ {V W : Type 0} (shape : Shape V W) (m : Member V) (x : Canonical m) whe
   }
 
 -- the text of a message is that message
-pub spells_again : {C : Type 0} (member : Member C) (w : Canonical member) (required base : ℕ) (c : C) → w.bounded c → w.whole c
-    → length (w.text c) < 2 ^ 64 → (required ≡ 0) ⊎ w.always required
+pub spells_again : {C : Type 0} (member : Member C) (w : Canonical member) (required base : ℕ) (c : C)
+    → w.bounded c
+    → w.whole c
+    → length (w.text c) < 2 ^ 64
+    → (required ≡ 0) ⊎ w.always required
     → Spells member required base (w.text c) c
 spells_again member w required base c can whole len there =
     let r = w.again c can whole len base [] [] refl member.starts in

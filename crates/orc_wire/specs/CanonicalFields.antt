@@ -63,7 +63,8 @@ wire_most (eight n) = omega arith
 wire_most (four n) = omega arith
 wire_most (sized n) = omega arith
 
-pub field_at : (n : ℕ) (payload : Payload) (place : ℕ) → IsNumber n → IsPayload payload (payload_text payload) → IsField place (item_at n payload place)
+pub field_at : (n : ℕ) (payload : Payload) (place : ℕ)
+    → IsNumber n → IsPayload payload (payload_text payload) → IsField place (item_at n payload place)
 field_at n payload place is holds = record {
   key = varint_text (n * 8 + wire payload);
   rest = payload_text payload;
@@ -95,7 +96,8 @@ number_is n v place = rw (eqb_same n) refl
 pub bytes_is : (n : ℕ) (b : List ℕ) (place : ℕ) → Some b ≡ bytes_in n (item_at n (sized b) place)
 bytes_is n b place = rw (eqb_same n) refl
 
-pub shows_number : (n v place m : ℕ) (before : List Item) → m ≡ n → has_number m (item_at n (varint v) place ∷ before) ≡ true
+pub shows_number : (n v place m : ℕ) (before : List Item)
+    → m ≡ n → has_number m (item_at n (varint v) place ∷ before) ≡ true
 shows_number n v place m before e =
     let here : has_number n (item_at n (varint v) place ∷ before) ≡ true = rw (eqb_same n) (or_true (has_number n before)) in
     subst (λ (k : ℕ). has_number k (item_at n (varint v) place ∷ before) ≡ true) (sym e) here
@@ -108,10 +110,16 @@ pub record Single {V : Type 0} (n : ℕ) (part : Part (Option V)) : Type 1 where
   pub bounded : V → Type 0
   pub whole : V → Type 0
   pub counts : ℕ → Type 0
-  pub holds : (v : V) → bounded v → length (field_text n (payload v)) < 2 ^ 64 → IsPayload (payload v) (payload_text (payload v))
-  pub gives : (v : V) (place : ℕ) → bounded v → whole v → length (field_text n (payload v)) < 2 ^ 64 → part.gives (item_at n (payload v) place) (Some v)
+  pub holds : (v : V)
+      → bounded v → length (field_text n (payload v)) < 2 ^ 64 → IsPayload (payload v) (payload_text (payload v))
+  pub gives : (v : V) (place : ℕ)
+      → bounded v
+      → whole v
+      → length (field_text n (payload v)) < 2 ^ 64
+      → part.gives (item_at n (payload v) place) (Some v)
   pub silent : (item : Item) → IsOutside n (n + 1) item.number → part.gives item None
-  pub shows : (v : V) (place m : ℕ) (before : List Item) → counts m → has_number m (item_at n (payload v) place ∷ before) ≡ true
+  pub shows : (v : V) (place m : ℕ) (before : List Item)
+      → counts m → has_number m (item_at n (payload v) place ∷ before) ≡ true
   pub hears : (item : Item) (fault : WireFault) → part.refuses item fault → IsBetween n (n + 1) item
   pub single : (item : Item) (e f : WireFault) → part.refuses item e → part.refuses item f → e ≡ f
   pub read : (place : ℕ) (item : Item) (p : Option V) → IsField place item → part.gives item p → IfSome p bounded
@@ -130,7 +138,8 @@ cond_fits P false o h = tt
 pub number_fits : (n place : ℕ) (item : Item) → IsField place item → IfSome (number_in n item) (λ v. v < 2 ^ 64)
 number_fits n place item is = cond_fits (λ v. v < 2 ^ 64) (item.number == n) (as_number item.payload) (payload_fits item.payload is.rest is.holds)
 
-pub signed_fits : (limit : ℕ) (p : Option ℤ) (o : Option ℕ) → option_map zig p ≡ o → IfSome o (λ v. v < limit) → IfSome p (λ z. zig z < limit)
+pub signed_fits : (limit : ℕ) (p : Option ℤ) (o : Option ℕ)
+    → option_map zig p ≡ o → IfSome o (λ v. v < limit) → IfSome p (λ z. zig z < limit)
 signed_fits limit None o e h = tt
 signed_fits limit (Some z) o e h = subst (λ (t : Option ℕ). IfSome t (λ v. v < limit)) (sym e) h
 
@@ -240,22 +249,30 @@ a_text n = record {
   read = λ place item p is gives. some_top p;
 }
 
-module _ {C : Type 0} (members : Member C) (w : Canonical members) (required : ℕ) (there : (required ≡ 0) ⊎ w.always required) (n : ℕ) where
-  pub message_is : (c : C) (place : ℕ) → w.bounded c → w.whole c → length (w.text c) < 2 ^ 64
-      → MessageIn members required n (item_at n (sized (w.text c)) place) (bytes_in n (item_at n (sized (w.text c)) place)) (Some c)
+module _ {C : Type 0} (members : Member C) (w : Canonical members) (required : ℕ)
+    (there : (required ≡ 0) ⊎ w.always required) (n : ℕ) where
+  pub message_is : (c : C) (place : ℕ)
+      → w.bounded c
+      → w.whole c
+      → length (w.text c) < 2 ^ 64
+      → MessageIn members required n (item_at n (sized (w.text c)) place)
+      (bytes_in n (item_at n (sized (w.text c)) place)) (Some c)
   message_is c place can whole len =
       let item = item_at n (sized (w.text c)) place in
       let is : Spells members required (inside item (w.text c)) (w.text c) c = spells_again members w required (inside item (w.text c)) c can whole len there in
       subst (λ (t : Option (List ℕ)). MessageIn members required n item t (Some c)) (bytes_is n (w.text c) place) (c, refl, is)
 
-  pub message_silent : (item : Item) → IsOutside n (n + 1) item.number → MessageIn members required n item (bytes_in n item) None
+  pub message_silent : (item : Item)
+      → IsOutside n (n + 1) item.number → MessageIn members required n item (bytes_in n item) None
   message_silent item out = subst (λ (t : Option (List ℕ)). MessageIn members required n item t None) (no_bytes n item out) refl
 
-  fails_some : (item : Item) (bytes : Option (List ℕ)) (fault : WireFault) → MessageFails members required n item bytes fault → (b : List ℕ) × (bytes ≡ Some b)
+  fails_some : (item : Item) (bytes : Option (List ℕ)) (fault : WireFault)
+      → MessageFails members required n item bytes fault → (b : List ℕ) × (bytes ≡ Some b)
   fails_some item None fault bad = absurd bad
   fails_some item (Some b) fault bad = (b, refl)
 
-  pub message_hears : (item : Item) (fault : WireFault) → MessageFails members required n item (bytes_in n item) fault → IsBetween n (n + 1) item
+  pub message_hears : (item : Item) (fault : WireFault)
+      → MessageFails members required n item (bytes_in n item) fault → IsBetween n (n + 1) item
   message_hears item fault bad = let s = fails_some item (bytes_in n item) fault bad in bytes_hears n item s.0 s.1
 
   one_message : (item : Item) (bytes : Option (List ℕ)) (e f : WireFault) → MessageFails members required n item bytes e
@@ -267,7 +284,8 @@ module _ {C : Type 0} (members : Member C) (w : Canonical members) (required : �
       → MessageFails members required n item (bytes_in n item) f → e ≡ f
   message_single item e f p q = one_message item (bytes_in n item) e f p q
 
-  pub message_read : (item : Item) (bytes : Option (List ℕ)) (p : Option C) → MessageIn members required n item bytes p → IfSome p w.bounded
+  pub message_read : (item : Item) (bytes : Option (List ℕ)) (p : Option C)
+      → MessageIn members required n item bytes p → IfSome p w.bounded
   message_read item None p e = subst (λ (t : Option C). IfSome t w.bounded) (sym e) tt
   message_read item (Some b) p h =
       let is = h.2 in subst (λ (t : Option C). IfSome t w.bounded) (sym h.1) (w.read (inside item b) is.fields b h.0 is.are is.says)

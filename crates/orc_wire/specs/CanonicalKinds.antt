@@ -26,12 +26,15 @@ use Rattle.orc_wire.specs.CanonicalFields.{bytes_hears, item_at, field_at, sized
 use Rattle.orc_wire.specs.CanonicalFields.{a_number, a_small, a_signed, a_small_signed, a_flag, a_text}
 use Rattle.orc_wire.specs.CanonicalFields.{message_is, message_silent, message_hears, message_single, message_read, a_message}
 
-pub between_push : {low high : ℕ} (more : List Item) (item : Item) → IsBetween low high item → AllByRecursion (IsBetween low high) more
+pub between_push : {low high : ℕ} (more : List Item) (item : Item)
+    → IsBetween low high item
+    → AllByRecursion (IsBetween low high) more
     → AllByRecursion (IsBetween low high) (more ++ item ∷ [])
 between_push [] item is h = (is, tt)
 between_push (x ∷ more) item is h = (h.0, between_push more item is h.1)
 
-pub one_between : (n : ℕ) (payload : Payload) (place : ℕ) → AllByRecursion (IsBetween n (n + 1)) (item_at n payload place ∷ [])
+pub one_between : (n : ℕ) (payload : Payload) (place : ℕ)
+    → AllByRecursion (IsBetween n (n + 1)) (item_at n payload place ∷ [])
 one_between n payload place = (record { least = omega arith; most = omega arith }, tt)
 
 pub next_number : (n : ℕ) → n ≤ n + 1
@@ -41,8 +44,8 @@ pub last_number : (n : ℕ) → IsNumber n → n + 1 ≤ 2 ^ 29
 last_number n is = let m = is.most in omega (arith, m)
 
 -- nothing is added
-pub adds_none : {V : Type 0} (member : Member V) (low high base : ℕ) (before : List Item) (front : List ℕ) (v : V) → IsFields base before front
-    → member.says before v → Adds member low high (λ m. ⊥) base before front [] v
+pub adds_none : {V : Type 0} (member : Member V) (low high base : ℕ) (before : List Item) (front : List ℕ) (v : V)
+    → IsFields base before front → member.says before v → Adds member low high (λ m. ⊥) base before front [] v
 adds_none member low high base before front v are says = record {
   more = [];
   are = subst (λ (t : List ℕ). IsFields base before t) (sym (append-nil front)) are;
@@ -64,9 +67,14 @@ listed_fits P None given = tt
 listed_fits P (Some v) given = (given, tt)
 
 module _ {V : Type 0} (n : ℕ) (is : IsNumber n) (part : Part (Option V)) (s : Single n part) where
-  pub last_again : (default v : V) → s.bounded v → s.whole v → length (field_text n (s.payload v)) < 2 ^ 64
-      → (base : ℕ) (before : List Item) (front : List ℕ) → IsFields base before front
-      → (last default part).says before default → Adds (last default part) n (n + 1) s.counts base before front (field_text n (s.payload v)) v
+  pub last_again : (default v : V)
+      → s.bounded v
+      → s.whole v
+      → length (field_text n (s.payload v)) < 2 ^ 64
+      → (base : ℕ) (before : List Item) (front : List ℕ)
+      → IsFields base before front
+      → (last default part).says before default
+      → Adds (last default part) n (n + 1) s.counts base before front (field_text n (s.payload v)) v
   last_again default v can whole len base before front are says = record {
     more = item_at n (s.payload v) (base + length front) ∷ [];
     are = (front, refl, are, field_at n (s.payload v) (base + length front) is (s.holds v can len));
@@ -75,8 +83,12 @@ module _ {V : Type 0} (n : ℕ) (is : IsNumber n) (part : Part (Option V)) (s : 
     shows = λ m e. s.shows v (base + length front) m before e;
   }
 
-  pub last_read : (default : V) → s.bounded default → (base : ℕ) (fields : List Item) (bytes : List ℕ) (v : V) → IsFields base fields bytes
-      → (last default part).says fields v → s.bounded v
+  pub last_read : (default : V)
+      → s.bounded default
+      → (base : ℕ) (fields : List Item) (bytes : List ℕ) (v : V)
+      → IsFields base fields bytes
+      → (last default part).says fields v
+      → s.bounded v
   last_read default fits base [] bytes v are e = subst s.bounded (sym e) fits
   last_read default fits base (item ∷ before) bytes v are says =
       let old = last_read default fits base before are.0 says.0 are.2 says.2 in
@@ -101,9 +113,14 @@ module _ {V : Type 0} (n : ℕ) (is : IsNumber n) (part : Part (Option V)) (s : 
     read = last_read default fits;
   }
 
-  pub known_again : (v : Option V) → IfSome v s.bounded → IfSome v s.whole → length (known_text s.payload n v) < 2 ^ 64
-      → (base : ℕ) (before : List Item) (front : List ℕ) → IsFields base before front
-      → (known part).says before None → Adds (known part) n (n + 1) (λ m. ⊥) base before front (known_text s.payload n v) v
+  pub known_again : (v : Option V)
+      → IfSome v s.bounded
+      → IfSome v s.whole
+      → length (known_text s.payload n v) < 2 ^ 64
+      → (base : ℕ) (before : List Item) (front : List ℕ)
+      → IsFields base before front
+      → (known part).says before None
+      → Adds (known part) n (n + 1) (λ m. ⊥) base before front (known_text s.payload n v) v
   known_again None can whole len base before front are says = adds_none (known part) n (n + 1) base before front None are says
   known_again (Some v) can whole len base before front are says = record {
     more = item_at n (s.payload v) (base + length front) ∷ [];
@@ -113,8 +130,8 @@ module _ {V : Type 0} (n : ℕ) (is : IsNumber n) (part : Part (Option V)) (s : 
     shows = λ m e. absurd e;
   }
 
-  pub known_read : (base : ℕ) (fields : List Item) (bytes : List ℕ) (v : Option V) → IsFields base fields bytes → (known part).says fields v
-      → IfSome v s.bounded
+  pub known_read : (base : ℕ) (fields : List Item) (bytes : List ℕ) (v : Option V)
+      → IsFields base fields bytes → (known part).says fields v → IfSome v s.bounded
   known_read base [] bytes v are e = subst (λ (t : Option V). IfSome t s.bounded) (sym e) tt
   known_read base (item ∷ before) bytes v are says =
       let old = known_read base before are.0 says.0 are.2 says.2 in
@@ -139,9 +156,14 @@ module _ {V : Type 0} (n : ℕ) (is : IsNumber n) (part : Part (Option V)) (s : 
     read = known_read;
   }
 
-  pub each_adds : (vs : List V) → AllByRecursion s.bounded vs → AllByRecursion s.whole vs → length (list_text s.payload n vs) < 2 ^ 64
+  pub each_adds : (vs : List V)
+      → AllByRecursion s.bounded vs
+      → AllByRecursion s.whole vs
+      → length (list_text s.payload n vs) < 2 ^ 64
       → (old : List V) (base : ℕ) (before : List Item) (front : List ℕ)
-      → IsFields base before front → (each part).says before old → Adds (each part) n (n + 1) (λ m. ⊥) base before front (list_text s.payload n vs) (old ++ vs)
+      → IsFields base before front
+      → (each part).says before old
+      → Adds (each part) n (n + 1) (λ m. ⊥) base before front (list_text s.payload n vs) (old ++ vs)
   each_adds [] can whole len old base before front are says =
       adds_none (each part) n (n + 1) base before front (old ++ []) are (subst (λ (t : List V). (each part).says before t) (sym (append-nil old)) says)
   each_adds (v ∷ vs) can whole len old base before front are says =
@@ -163,8 +185,8 @@ module _ {V : Type 0} (n : ℕ) (is : IsNumber n) (part : Part (Option V)) (s : 
         shows = λ m e. absurd e;
       }
 
-  pub each_read : (base : ℕ) (fields : List Item) (bytes : List ℕ) (vs : List V) → IsFields base fields bytes → (each part).says fields vs
-      → AllByRecursion s.bounded vs
+  pub each_read : (base : ℕ) (fields : List Item) (bytes : List ℕ) (vs : List V)
+      → IsFields base fields bytes → (each part).says fields vs → AllByRecursion s.bounded vs
   each_read base [] bytes vs are e = subst (λ (t : List V). AllByRecursion s.bounded t) (sym e) tt
   each_read base (item ∷ before) bytes vs are says =
       let old = each_read base before are.0 says.0 are.2 says.2 in
@@ -194,7 +216,8 @@ module _ {V : Type 0} (n : ℕ) (is : IsNumber n) (part : Part (Option V)) (s : 
 abbrev pub AreBelow : ℕ → List ℕ → Type 0
 AreBelow limit ns = AllByRecursion (λ n. n < limit) ns
 
-pub varints_are : (limit : ℕ) → limit ≤ 2 ^ 64 → (ns : List ℕ) → AreBelow limit ns → AreVarints limit ns (varints_text ns)
+pub varints_are : (limit : ℕ)
+    → limit ≤ 2 ^ 64 → (ns : List ℕ) → AreBelow limit ns → AreVarints limit ns (varints_text ns)
 varints_are limit le [] h = refl
 varints_are limit le (n ∷ ns) h =
     (varint_text n, varints_text ns, (let b = h.0 in varint_text-is n (omega (arith, b, le))).varint, h.0, refl, varints_are limit le ns h.1)
@@ -210,9 +233,13 @@ no_values : (limit : ℕ) (ns : List ℕ) → AreVarints limit ns [] → [] ≡ 
 no_values limit [] are = refl
 no_values limit (n ∷ ns) are = absurd (no_front are.0 are.1 n are.2 are.4)
 
-packed_adds : (limit n : ℕ) (is : IsNumber n) (ns bytes : List ℕ) → AreVarints limit ns bytes → (bytes ≡ varints_text ns)
-    → length (some_text n bytes) < 2 ^ 64 → (base : ℕ) (before : List Item) (front : List ℕ)
-    → IsFields base before front → (all (packed limit n)).says before []
+packed_adds : (limit n : ℕ) (is : IsNumber n) (ns bytes : List ℕ)
+    → AreVarints limit ns bytes
+    → (bytes ≡ varints_text ns)
+    → length (some_text n bytes) < 2 ^ 64
+    → (base : ℕ) (before : List Item) (front : List ℕ)
+    → IsFields base before front
+    → (all (packed limit n)).says before []
     → Adds (all (packed limit n)) n (n + 1) (λ m. ⊥) base before front (some_text n bytes) ns
 packed_adds limit n is ns [] are e len base before front fields says =
     adds_none (all (packed limit n)) n (n + 1) base before front ns fields
@@ -232,7 +259,8 @@ packed_adds limit n is ns (b ∷ bytes) are e len base before front fields says 
   shows = λ m e. absurd e;
 }
 
-same_next : (limit : ℕ) (bytes : List ℕ) (place : ℕ) (e f : WireFault) → FailsNext limit bytes place e → FailsNext limit bytes place f → e ≡ f
+same_next : (limit : ℕ) (bytes : List ℕ) (place : ℕ) (e f : WireFault)
+    → FailsNext limit bytes place e → FailsNext limit bytes place f → e ≡ f
 same_next limit bytes place e f (inl p) (inl q) = p.3 ∙ (ap (fault_at place) (one_fault bytes p.1 q.1 p.2 q.2) ∙ sym q.3)
 same_next limit bytes place e f (inl p) (inr q) =
     absurd (no_varint q.0.front q.0.rest q.0.value p.1 (subst (λ (t : List ℕ). NoVarint t p.1) q.0.parts p.2) q.0.is)
@@ -241,16 +269,21 @@ same_next limit bytes place e f (inr p) (inl q) =
 same_next limit bytes place e f (inr p) (inr q) = p.1 ∙ sym q.1
 
 -- a good varint in front, so no fault
-good_next : (limit : ℕ) (bytes front rest : List ℕ) (n place : ℕ) (e : WireFault) → FailsNext limit bytes place e → IsVarint front n → n < limit
-    → bytes ≡ front ++ rest → ⊥
+good_next : (limit : ℕ) (bytes front rest : List ℕ) (n place : ℕ) (e : WireFault)
+    → FailsNext limit bytes place e → IsVarint front n → n < limit → bytes ≡ front ++ rest → ⊥
 good_next limit bytes front rest n place e (inl p) is lt parts = no_varint front rest n p.1 (subst (λ (t : List ℕ). NoVarint t p.1) parts p.2) is
 good_next limit bytes front rest n place e (inr p) is lt parts =
     let t = one_varint front p.0.front rest p.0.rest n p.0.value is p.0.is (sym parts ∙ p.0.parts) in
     omega (arith, t.number, lt, p.0.large)
 
-same_within : (limit : ℕ) (ns ms a b x y bytes : List ℕ) (place : ℕ) (e f : WireFault) → AreVarints limit ns a → AreVarints limit ms b
-    → bytes ≡ a ++ x → bytes ≡ b ++ y
-    → FailsNext limit x place e → FailsNext limit y place f → e ≡ f
+same_within : (limit : ℕ) (ns ms a b x y bytes : List ℕ) (place : ℕ) (e f : WireFault)
+    → AreVarints limit ns a
+    → AreVarints limit ms b
+    → bytes ≡ a ++ x
+    → bytes ≡ b ++ y
+    → FailsNext limit x place e
+    → FailsNext limit y place f
+    → e ≡ f
 same_within limit [] [] a b x y bytes place e f p q u v g h =
     let at : x ≡ y = sym (u ∙ ap (λ (t : List ℕ). t ++ x) p) ∙ (v ∙ ap (λ (t : List ℕ). t ++ y) q) in
     same_next limit y place e f (subst (λ (t : List ℕ). FailsNext limit t place e) at g) h
@@ -266,15 +299,18 @@ same_within limit (n ∷ ns) (m ∷ ms) a b x y bytes place e f p q u v g h =
     let t = one_varint p.0 q.0 (p.1 ++ x) (q.1 ++ y) n m p.2 q.2 (sym left ∙ right) in
     same_within limit ns ms p.1 q.1 x y (p.1 ++ x) place e f p.5 q.5 refl t.rest g h
 
-one_packed_fault : (limit : ℕ) (payload : Payload) (place : ℕ) (e f : WireFault) → PackedFails limit payload place e → PackedFails limit payload place f → e ≡ f
+one_packed_fault : (limit : ℕ) (payload : Payload) (place : ℕ) (e f : WireFault)
+    → PackedFails limit payload place e → PackedFails limit payload place f → e ≡ f
 one_packed_fault limit (varint v) place e f p q = p.1 ∙ sym q.1
 one_packed_fault limit (eight b) place e f p q = absurd p
 one_packed_fault limit (four b) place e f p q = absurd p
 one_packed_fault limit (sized b) place e f p q =
     same_within limit p.values q.values p.front q.front p.rest q.rest b place e f p.are q.are p.parts q.parts p.fails q.fails
 
-one_if_fault : (test : Bool) (limit : ℕ) (payload : Payload) (place : ℕ) (e f : WireFault) → MatchBool test (PackedFails limit payload place e) ⊥
-    → MatchBool test (PackedFails limit payload place f) ⊥ → e ≡ f
+one_if_fault : (test : Bool) (limit : ℕ) (payload : Payload) (place : ℕ) (e f : WireFault)
+    → MatchBool test (PackedFails limit payload place e) ⊥
+    → MatchBool test (PackedFails limit payload place f) ⊥
+    → e ≡ f
 one_if_fault true limit payload place e f p q = one_packed_fault limit payload place e f p q
 one_if_fault false limit payload place e f p q = absurd p
 
@@ -292,22 +328,30 @@ packed_below limit (eight b) ns e = subst (λ (t : List ℕ). AreBelow limit t) 
 packed_below limit (four b) ns e = subst (λ (t : List ℕ). AreBelow limit t) (sym e) tt
 packed_below limit (sized b) ns are = varints_below limit ns b are
 
-below_if : (test : Bool) (limit : ℕ) (payload : Payload) (ns : List ℕ) → MatchBool test (PackedPart limit payload ns) (ns ≡ []) → AreBelow limit ns
+below_if : (test : Bool) (limit : ℕ) (payload : Payload) (ns : List ℕ)
+    → MatchBool test (PackedPart limit payload ns) (ns ≡ []) → AreBelow limit ns
 below_if true limit payload ns is = packed_below limit payload ns is
 below_if false limit payload ns e = subst (λ (t : List ℕ). AreBelow limit t) (sym e) tt
 
 module _ (limit n : ℕ) (few : limit ≤ 2 ^ 64) (is : IsNumber n) where
-  pub packed_again : (ns : List ℕ) → AreBelow limit ns → ⊤ → length (packed_text n ns) < 2 ^ 64 → (base : ℕ) (before : List Item) (front : List ℕ)
+  pub packed_again : (ns : List ℕ)
+      → AreBelow limit ns
+      → ⊤
+      → length (packed_text n ns) < 2 ^ 64
+      → (base : ℕ) (before : List Item) (front : List ℕ)
       → IsFields base before front
-      → (all (packed limit n)).says before [] → Adds (all (packed limit n)) n (n + 1) (λ m. ⊥) base before front (packed_text n ns) ns
+      → (all (packed limit n)).says before []
+      → Adds (all (packed limit n)) n (n + 1) (λ m. ⊥) base before front (packed_text n ns) ns
   packed_again ns can whole len base before front are says =
       packed_adds limit n is ns (varints_text ns) (varints_are limit few ns can) refl len base before front are says
 
-  pub packed_hears : (item : Item) (v : List ℕ) (fault : WireFault) → (packed limit n).refuses item fault → IsBetween n (n + 1) item
+  pub packed_hears : (item : Item) (v : List ℕ) (fault : WireFault)
+      → (packed limit n).refuses item fault → IsBetween n (n + 1) item
   packed_hears item v fault bad =
       at_number n item.number (eqb_is item.number n (test_true (item.number == n) (PackedFails limit item.payload item.place fault) bad)) item refl
 
-  pub packed_single : (item : Item) (v : List ℕ) (e f : WireFault) → (packed limit n).refuses item e → (packed limit n).refuses item f → e ≡ f
+  pub packed_single : (item : Item) (v : List ℕ) (e f : WireFault)
+      → (packed limit n).refuses item e → (packed limit n).refuses item f → e ≡ f
   packed_single item v e f p q = one_if_fault (item.number == n) limit item.payload item.place e f p q
 
   pub packed_read : (fields : List Item) (ns : List ℕ) → (all (packed limit n)).says fields ns → AreBelow limit ns
@@ -349,7 +393,8 @@ le_yes m n le = grind (arith, nat_tests)
 pub le_no : (m n : ℕ) → n < m → nat_le m n ≡ false
 le_no m n lt = grind (arith, nat_tests)
 
-pub kept_silent : (n : ℕ) (item : Item) → item.number < 2 ^ 29 → IsOutside n (2 ^ 29) item.number → (kept_from n).gives item []
+pub kept_silent : (n : ℕ) (item : Item)
+    → item.number < 2 ^ 29 → IsOutside n (2 ^ 29) item.number → (kept_from n).gives item []
 kept_silent n item most (inl lt) = rw (le_no n item.number lt) refl
 kept_silent n item most (inr ge) = absurd (omega (arith, ge, most))
 
@@ -375,8 +420,13 @@ record KeptBehind (n base : ℕ) (before : List Item) (front bytes : List ℕ) :
   says : (all (kept_from n)).says (more ++ before) bytes
   between : AllByRecursion (IsBetween n (2 ^ 29)) more
 
-kept_behind : (n base : ℕ) (before : List Item) (front : List ℕ) → IsFields base before front → (all (kept_from n)).says before []
-    → (fields : List Item) (bytes : List ℕ) → IsFields 0 fields bytes → AllByRecursion (IsBetween n (2 ^ 29)) fields → KeptBehind n base before front bytes
+kept_behind : (n base : ℕ) (before : List Item) (front : List ℕ)
+    → IsFields base before front
+    → (all (kept_from n)).says before []
+    → (fields : List Item) (bytes : List ℕ)
+    → IsFields 0 fields bytes
+    → AllByRecursion (IsBetween n (2 ^ 29)) fields
+    → KeptBehind n base before front bytes
 kept_behind n base before front are says [] bytes e from = record {
   more = [];
   are = subst (λ (t : List ℕ). IsFields base before t) (sym (ap (λ (t : List ℕ). front ++ t) e ∙ append-nil front)) are;
@@ -395,7 +445,10 @@ kept_behind n base before front are says (item ∷ fields) bytes h from =
       between = (record { least = b.least; most = b.most }, r.between);
     }
 
-pub kept_again : (n : ℕ) (bytes : List ℕ) → AreKept n bytes → (base : ℕ) (before : List Item) (front : List ℕ) → IsFields base before front
+pub kept_again : (n : ℕ) (bytes : List ℕ)
+    → AreKept n bytes
+    → (base : ℕ) (before : List Item) (front : List ℕ)
+    → IsFields base before front
     → (all (kept_from n)).says before []
     → Adds (all (kept_from n)) n (2 ^ 29) (λ m. ⊥) base before front bytes bytes
 kept_again n bytes kept base before front are says =
@@ -425,7 +478,8 @@ module _ (n : ℕ) (is : IsNumber n) where
   }
 
 -- what the fields of a message say that is kept are fields with kept numbers
-pub says_kept : (n base : ℕ) (fields : List Item) (bytes kept : List ℕ) → IsFields base fields bytes → (all (kept_from n)).says fields kept → AreKept n kept
+pub says_kept : (n base : ℕ) (fields : List Item) (bytes kept : List ℕ)
+    → IsFields base fields bytes → (all (kept_from n)).says fields kept → AreKept n kept
 says_kept n base [] bytes kept are e = record { fields = []; are = e; from = tt }
 says_kept n base (item ∷ before) bytes kept are says =
     let old = says_kept n base before are.0 says.0 are.2 says.2 in
@@ -446,13 +500,20 @@ says_kept n base (item ∷ before) bytes kept are says =
 
 -- ---- a message that stands once, written where its text is not empty
 
-module _ {C : Type 0} (members : Member C) (w : Canonical members) (required : ℕ) (there : (required ≡ 0) ⊎ w.always required) (n : ℕ) (is : IsNumber n) where
+module _ {C : Type 0} (members : Member C) (w : Canonical members) (required : ℕ)
+    (there : (required ≡ 0) ⊎ w.always required) (n : ℕ) (is : IsNumber n) where
   abbrev pub IsShown : C → Type 0
   IsShown c = w.whole c × (w.text c ≡ [] → ⊥)
 
-  only_some : (c : C) (bytes : List ℕ) → bytes ≡ w.text c → w.bounded c → w.whole c → (bytes ≡ [] → ⊥) → length (some_text n bytes) < 2 ^ 64
+  only_some : (c : C) (bytes : List ℕ)
+      → bytes ≡ w.text c
+      → w.bounded c
+      → w.whole c
+      → (bytes ≡ [] → ⊥)
+      → length (some_text n bytes) < 2 ^ 64
       → (base : ℕ) (before : List Item) (front : List ℕ)
-      → IsFields base before front → (only members required n).says before None
+      → IsFields base before front
+      → (only members required n).says before None
       → Adds (only members required n) n (n + 1) (λ m. ⊥) base before front (some_text n bytes) (Some c)
   only_some c [] e can whole some len base before front are says = absurd (some refl)
   only_some c (b ∷ bytes) e can whole some len base before front are says =
@@ -473,22 +534,31 @@ module _ {C : Type 0} (members : Member C) (w : Canonical members) (required : �
         shows = λ m e. absurd e;
       }
 
-  pub only_again : (v : Option C) → IfSome v w.bounded → IfSome v IsShown → length (shown_text w.text n v) < 2 ^ 64
-      → (base : ℕ) (before : List Item) (front : List ℕ) → IsFields base before front
-      → (only members required n).says before None → Adds (only members required n) n (n + 1) (λ m. ⊥) base before front (shown_text w.text n v) v
+  pub only_again : (v : Option C)
+      → IfSome v w.bounded
+      → IfSome v IsShown
+      → length (shown_text w.text n v) < 2 ^ 64
+      → (base : ℕ) (before : List Item) (front : List ℕ)
+      → IsFields base before front
+      → (only members required n).says before None
+      → Adds (only members required n) n (n + 1) (λ m. ⊥) base before front (shown_text w.text n v) v
   only_again None can whole len base before front are says = adds_none (only members required n) n (n + 1) base before front None are says
   only_again (Some c) can whole len base before front are says = only_some c (w.text c) refl can whole.0 whole.1 len base before front are says
 
-  pub only_deaf : (item : Item) (before : List Item) (v : Option C) → IsOutside n (n + 1) item.number → (only members required n).says before v
+  pub only_deaf : (item : Item) (before : List Item) (v : Option C)
+      → IsOutside n (n + 1) item.number
+      → (only members required n).says before v
       → (only members required n).says (item ∷ before) v
   only_deaf item before None out says = (None, None, says, message_silent members w required there n item out, refl)
   only_deaf item before (Some c) out says = (Some c, None, says, message_silent members w required there n item out, (refl, refl))
 
-  pub only_hears : (item : Item) (v : Option C) (fault : WireFault) → OnlyFails members required n item v fault → IsBetween n (n + 1) item
+  pub only_hears : (item : Item) (v : Option C) (fault : WireFault)
+      → OnlyFails members required n item v fault → IsBetween n (n + 1) item
   only_hears item None fault bad = message_hears members w required there n item fault bad
   only_hears item (Some c) fault bad = bytes_hears n item bad.0 bad.1
 
-  pub only_single : (item : Item) (v : Option C) (e f : WireFault) → OnlyFails members required n item v e → OnlyFails members required n item v f → e ≡ f
+  pub only_single : (item : Item) (v : Option C) (e f : WireFault)
+      → OnlyFails members required n item v e → OnlyFails members required n item v f → e ≡ f
   only_single item None e f p q = message_single members w required there n item e f p q
   only_single item (Some c) e f p q = p.2 ∙ sym q.2
 
@@ -547,9 +617,10 @@ text_where_known n is = where_known n is (text n) (a_text n)
 abbrev pub each_as_text : (n : ℕ) → IsNumber n → Canonical (each (text n))
 each_as_text n is = for_each n is (text n) (a_text n)
 
-abbrev pub each_message : {C : Type 0} (members : Member C) (w : Canonical members) (required : ℕ) → (required ≡ 0) ⊎ w.always required → (n : ℕ)
-    → IsNumber n → Canonical (each (message members required n))
-each_message members w required there n is = for_each n is (message members required n) (a_message members w required there n)
+abbrev pub each_message : {C : Type 0} (members : Member C) (w : Canonical members) (required : ℕ)
+    → (required ≡ 0) ⊎ w.always required → (n : ℕ) → IsNumber n → Canonical (each (message members required n))
+each_message members w required there n is =
+    for_each n is (message members required n) (a_message members w required there n)
 
 abbrev pub small_list : (n : ℕ) → IsNumber n → Canonical (all (packed (2 ^ 32) n))
 small_list n is = as_packed (2 ^ 32) n (lit≤ tt) is

@@ -51,11 +51,13 @@ is_dictionary kind = (kind == 1) || (kind == 3)
 
 -- kind; dictionarySize for dictionary kinds
 abbrev pub encoding_text : Canonical encoding
-encoding_text = shaped_text encoding_shape _ (both_if _ _ (always_small 1 one) (always_small 2 two) is_dictionary (lit≤ tt))
+encoding_text = shaped_text encoding_shape _
+    (both_if _ _ (always_small 1 one) (always_small 2 two) is_dictionary (lit≤ tt))
 
 -- kind, column, length
 abbrev pub stream_text : Canonical stream
-stream_text = shaped_text stream_shape _ (both _ _ (always_small 1 one) (both _ _ (always_small 2 two) (always_number 3 three) (lit≤ tt)) (lit≤ tt))
+stream_text = shaped_text stream_shape _ (both _ _ (always_small 1 one)
+    (both _ _ (always_small 2 two) (always_number 3 three) (lit≤ tt)) (lit≤ tt))
 
 abbrev pub encoding_complete : (◌≡◌ {A = ℕ} 1 0) ⊎ encoding_text.always 1
 encoding_complete = inr refl
@@ -65,7 +67,8 @@ stream_complete = inr (inl refl)
 
 -- streams, columns
 abbrev pub stripe_footer_text : Canonical stripe_footer
-stripe_footer_text = shaped_text stripe_footer_shape _ (both _ _ (each_message stream stream_text 1 stream_complete 1 one)
+stripe_footer_text = shaped_text stripe_footer_shape _ (both _ _
+    (each_message stream stream_text 1 stream_complete 1 one)
     (each_message encoding encoding_text 1 encoding_complete 2 two) (lit≤ tt))
 
 -- footerLength, compression, version, metadataLength, writerVersion where known, magic
@@ -127,7 +130,8 @@ bucket_stats_complete = inl refl
 
 -- minimum, maximum
 abbrev pub date_stats_text : Canonical date_stats
-date_stats_text = shaped_text date_stats_shape _ (both _ _ (known_small_signed 1 one) (known_small_signed 2 two) (lit≤ tt))
+date_stats_text = shaped_text date_stats_shape _
+    (both _ _ (known_small_signed 1 one) (known_small_signed 2 two) (lit≤ tt))
 
 abbrev pub date_stats_complete : (◌≡◌ {A = ℕ} 0 0) ⊎ date_stats_text.always 0
 date_stats_complete = inl refl
@@ -146,7 +150,8 @@ column_stats_text = shaped_text column_stats_shape _ (both _ _ (always_number 1 
     (both _ _ (where_shown string_stats string_stats_text 0 string_stats_complete 4 four)
     (both _ _ (where_shown bucket_stats bucket_stats_text 0 bucket_stats_complete 5 five)
     (both _ _ (where_shown date_stats date_stats_text 0 date_stats_complete 7 seven)
-    (both _ _ (where_shown binary_stats binary_stats_text 0 binary_stats_complete 8 eight) (known_flag 10 ten) (lit≤ tt))
+    (both _ _ (where_shown binary_stats binary_stats_text 0 binary_stats_complete 8 eight)
+    (known_flag 10 ten) (lit≤ tt))
     (lit≤ tt)) (lit≤ tt)) (lit≤ tt)) (lit≤ tt)) (lit≤ tt))
 
 abbrev pub column_stats_complete : (◌≡◌ {A = ℕ} 0 0) ⊎ column_stats_text.always 0
@@ -154,14 +159,16 @@ column_stats_complete = inl refl
 
 -- col_stats
 abbrev pub stripe_stats_text : Canonical stripe_stats
-stripe_stats_text = shaped_text stripe_stats_shape _ (each_message column_stats column_stats_text 0 column_stats_complete 1 one)
+stripe_stats_text = shaped_text stripe_stats_shape _
+    (each_message column_stats column_stats_text 0 column_stats_complete 1 one)
 
 abbrev pub stripe_stats_complete : (◌≡◌ {A = ℕ} 0 0) ⊎ stripe_stats_text.always 0
 stripe_stats_complete = inl refl
 
 -- stripe_stats
 abbrev pub metadata_text : Canonical metadata
-metadata_text = shaped_text metadata_shape _ (each_message stripe_stats stripe_stats_text 0 stripe_stats_complete 1 one)
+metadata_text = shaped_text metadata_shape _
+    (each_message stripe_stats stripe_stats_text 0 stripe_stats_complete 1 one)
 
 abbrev pub metadata_complete : (◌≡◌ {A = ℕ} 0 0) ⊎ metadata_text.always 0
 metadata_complete = inl refl
@@ -176,7 +183,8 @@ row_index_entry_complete = inl refl
 
 -- entries
 abbrev pub row_index_text : Canonical row_index
-row_index_text = shaped_text row_index_shape _ (each_message row_index_entry row_index_entry_text 0 row_index_entry_complete 1 one)
+row_index_text = shaped_text row_index_shape _
+    (each_message row_index_entry row_index_entry_text 0 row_index_entry_complete 1 one)
 
 abbrev pub row_index_complete : (◌≡◌ {A = ℕ} 0 0) ⊎ row_index_text.always 0
 row_index_complete = inl refl

@@ -13,7 +13,8 @@ use Rattle.orc_wire.specs.FieldLaws.{one_varint}
 no_sized : (bytes : List ℕ) (why : BitFault) → NoVarint bytes why → IsCut bytes → ⊥
 no_sized bytes why none cut = no_varint cut.size cut.rest cut.most why (subst (λ (t : List ℕ). NoVarint t why) cut.parts none) cut.sized
 
-short_long : (w : ℕ) (bytes : List ℕ) → NoPayload w bytes bits.Short → NoPayload w bytes bits.TooLong → bits.Short ≡ bits.TooLong
+short_long : (w : ℕ) (bytes : List ℕ)
+    → NoPayload w bytes bits.Short → NoPayload w bytes bits.TooLong → bits.Short ≡ bits.TooLong
 short_long w bytes (inl p) q = one_fault bytes bits.Short bits.TooLong p.1 q.1
 short_long w bytes (inr (inl p)) q = elim q.0 [ inl z ↦ absurd (omega (arith, p.0, z)) | inr z ↦ absurd (omega (arith, p.0, z)) ]
 short_long w bytes (inr (inr (inl (z, inl p)))) q = one_fault bytes bits.Short bits.TooLong p q.1
@@ -99,5 +100,6 @@ one_why place bytes e f (inr (inl p)) (inr (inr q)) = absurd (lacks_bad place by
 one_why place bytes e f (inr (inr p)) (inr (inl q)) = absurd (lacks_bad place bytes f e q p)
 one_why place bytes e f (inr (inr p)) (inr (inr q)) = p.fails ∙ sym q.fails
 
-pub one_no_field : (place : ℕ) (bytes : List ℕ) (e f : WireFault) → NoField place bytes e → NoField place bytes f → e ≡ f
+pub one_no_field : (place : ℕ) (bytes : List ℕ) (e f : WireFault)
+    → NoField place bytes e → NoField place bytes f → e ≡ f
 one_no_field place bytes e f p q = one_why place bytes e f (why_not place bytes e p) (why_not place bytes f q)

@@ -146,7 +146,8 @@ good_or_bad key = elim (cases_lt 0 (key / 8)) [
 abbrev SomeField : ℕ → List ℕ → Type 0
 SomeField place bytes = HasField place bytes ⊎ ((fault : WireFault) × NoField place bytes fault)
 
-behind_key : (place : ℕ) (bytes : List ℕ) (h : HasVarint bytes) → IsGoodKey h.number → HasPayload (h.number % 8) h.rest → HasField place bytes
+behind_key : (place : ℕ) (bytes : List ℕ) (h : HasVarint bytes)
+    → IsGoodKey h.number → HasPayload (h.number % 8) h.rest → HasField place bytes
 behind_key place bytes h good p =
     let key : h.number / 8 * 8 + wire p.payload ≡ h.number = let kind = p.kind in omega (arith, kind) in
     record {
@@ -165,7 +166,8 @@ behind_key place bytes h good p =
       };
     }
 
-lacks : (bytes : List ℕ) (h : HasVarint bytes) (why : BitFault) → IsGoodKey h.number → NoPayload (h.number % 8) h.rest why → LacksPayload bytes why
+lacks : (bytes : List ℕ) (h : HasVarint bytes) (why : BitFault)
+    → IsGoodKey h.number → NoPayload (h.number % 8) h.rest why → LacksPayload bytes why
 lacks bytes h why good none = record {
   key = h.front;
   rest = h.rest;
@@ -176,7 +178,8 @@ lacks bytes h why good none = record {
   missing = none;
 }
 
-after_key : (place : ℕ) (bytes : List ℕ) (h : HasVarint bytes) → AllBytes h.rest → IsGoodKey h.number → SomeField place bytes
+after_key : (place : ℕ) (bytes : List ℕ) (h : HasVarint bytes)
+    → AllBytes h.rest → IsGoodKey h.number → SomeField place bytes
 after_key place bytes h are good = elim (some_payload (h.number % 8) h.rest are good.kind) [
   | inl p ↦ inl (behind_key place bytes h good p)
   | inr (bits.Short, none) ↦ inr (Short place, (refl, inr (lacks bytes h bits.Short good none)))
@@ -184,7 +187,8 @@ after_key place bytes h are good = elim (some_payload (h.number % 8) h.rest are 
   | inr (bits.OutOfMemory, none) ↦ absurd none
 ]
 
-pub some_field : (place : ℕ) (bytes : List ℕ) → AllBytes bytes → HasField place bytes ⊎ ((fault : WireFault) × NoField place bytes fault)
+pub some_field : (place : ℕ) (bytes : List ℕ)
+    → AllBytes bytes → HasField place bytes ⊎ ((fault : WireFault) × NoField place bytes fault)
 some_field place bytes are = elim (some_varint bytes are) [
   | inl h ↦ elim (good_or_bad h.number) [
     | inl good ↦ after_key place bytes h (bytes_behind h.front h.rest (subst AllBytes h.parts are)) good

@@ -8,7 +8,8 @@ use Rattle.orc_wire.specs.Fields.{Item, HoldsBytes}
 -- What the fields say, joined in order from what each of them gives. The last field stands first in the list.
 abbrev pub Joined : {V P : Type 0} → V → (V → P → V → Type 0) → (Item → P → Type 0) → List Item → V → Type 0
 Joined zero join gives [] v = v ≡ zero
-Joined {V} {P} zero join gives (item ∷ before) v = (old : V) × (part : P) × Joined zero join gives before old × gives item part × join old part v
+Joined {V} {P} zero join gives (item ∷ before) v =
+    (old : V) × (part : P) × Joined zero join gives before old × gives item part × join old part v
 
 -- How a member is read: what a list of fields says, what one more field makes of a value, and which fault it has.
 pub record Member (V : Type 0) : Type 1 where
@@ -20,16 +21,23 @@ pub record Member (V : Type 0) : Type 1 where
   pub grow : (item : Item) (before : List Item) (v w : V) → says before v → steps item v w → says (item ∷ before) w
   pub back : (item : Item) (before : List Item) (w : V) → says (item ∷ before) w → (v : V) × says before v
   pub one : (fields : List Item) (v w : V) → says fields v → says fields w → v ≡ w
-  pub none : (item : Item) (before : List Item) (v w : V) (fault : WireFault) → says before v → refuses item v fault → says (item ∷ before) w → ⊥
-  pub cover : (item : Item) (v : V) → HoldsBytes item.payload → ((w : V) × steps item v w) ⊎ ((fault : WireFault) × refuses item v fault)
+  pub none : (item : Item) (before : List Item) (v w : V) (fault : WireFault)
+      → says before v → refuses item v fault → says (item ∷ before) w → ⊥
+  pub cover : (item : Item) (v : V)
+      → HoldsBytes item.payload → ((w : V) × steps item v w) ⊎ ((fault : WireFault) × refuses item v fault)
 
-module _ {V P : Type 0} (zero : V) (join : V → P → V → Type 0) (gives : Item → P → Type 0) (refuses : Item → V → WireFault → Type 0)
+module _ {V P : Type 0} (zero : V) (join : V → P → V → Type 0) (gives : Item → P → Type 0)
+    (refuses : Item → V → WireFault → Type 0)
     (one_part : (item : Item) (a b : P) → gives item a → gives item b → a ≡ b)
     (one_join : (old : V) (part : P) (v w : V) → join old part v → join old part w → v ≡ w)
-    (no_step : (item : Item) (old : V) (part : P) (v : V) (fault : WireFault) → refuses item old fault → gives item part → join old part v → ⊥)
-    (some_step : (item : Item) (old : V) → HoldsBytes item.payload
-    → ((v : V) × ((part : P) × gives item part × join old part v)) ⊎ ((fault : WireFault) × refuses item old fault)) where
-  pub one_joined : (fields : List Item) (v w : V) → Joined zero join gives fields v → Joined zero join gives fields w → v ≡ w
+    (no_step : (item : Item) (old : V) (part : P) (v : V) (fault : WireFault)
+    → refuses item old fault → gives item part → join old part v → ⊥)
+    (some_step : (item : Item) (old : V)
+    → HoldsBytes item.payload
+    → ((v : V) × ((part : P) × gives item part × join old part v))
+    ⊎ ((fault : WireFault) × refuses item old fault)) where
+  pub one_joined : (fields : List Item) (v w : V)
+      → Joined zero join gives fields v → Joined zero join gives fields w → v ≡ w
   one_joined [] v w p q = p ∙ sym q
   one_joined (item ∷ before) v w p q =
       let olds = one_joined before q.0 p.0 q.2 p.2 in
@@ -37,8 +45,8 @@ module _ {V P : Type 0} (zero : V) (join : V → P → V → Type 0) (gives : It
       let moved = subst (λ (t : P). join p.0 t w) parts (subst (λ (t : V). join t q.1 w) olds q.4) in
       one_join p.0 p.1 v w p.4 moved
 
-  pub none_joined : (item : Item) (before : List Item) (v w : V) (fault : WireFault) → Joined zero join gives before v → refuses item v fault
-      → Joined zero join gives (item ∷ before) w → ⊥
+  pub none_joined : (item : Item) (before : List Item) (v w : V) (fault : WireFault)
+      → Joined zero join gives before v → refuses item v fault → Joined zero join gives (item ∷ before) w → ⊥
   none_joined item before v w fault says bad h =
       let olds = one_joined before h.0 v h.2 says in
       no_step item v h.1 w fault bad h.3 (subst (λ (t : V). join t h.1 w) olds h.4)
@@ -61,8 +69,10 @@ module _ {V P : Type 0} (zero : V) (join : V → P → V → Type 0) (gives : It
 pub one_pair : {V W : Type 0} (a b : V × W) → a.0 ≡ b.0 → a.1 ≡ b.1 → a ≡ b
 one_pair {V} {W} a b p q = ap (λ (t : V). let r : V × W = (t, a.1) in r) p ∙ ap (λ (t : W). let r : V × W = (b.0, t) in r) q
 
-pub pair_steps : {V W : Type 0} (a : Member V) (b : Member W) (item : Item) (v : V × W) → HoldsBytes item.payload
-    → ((w : V × W) × (a.steps item v.0 w.0 × b.steps item v.1 w.1)) ⊎ ((fault : WireFault) × (a.refuses item v.0 fault ⊎ b.refuses item v.1 fault))
+pub pair_steps : {V W : Type 0} (a : Member V) (b : Member W) (item : Item) (v : V × W)
+    → HoldsBytes item.payload
+    → ((w : V × W) × (a.steps item v.0 w.0 × b.steps item v.1 w.1))
+    ⊎ ((fault : WireFault) × (a.refuses item v.0 fault ⊎ b.refuses item v.1 fault))
 pair_steps a b item v are = elim (a.cover item v.0 are) [
   | inl x ↦ elim (b.cover item v.1 are) [ inl y ↦ inl ((x.0, y.0), (x.1, y.1)) | inr bad ↦ inr (bad.0, inr bad.1) ]
   | inr bad ↦ inr (bad.0, inl bad.1)
@@ -91,8 +101,10 @@ pub record Shape (V W : Type 0) : Type 0 where
   pub there : (w : W) → from (into w) ≡ w
   pub here : (v : V) → into (from v) ≡ v
 
-pub shaped_steps : {V W : Type 0} (shape : Shape V W) (m : Member V) (item : Item) (v : W) → HoldsBytes item.payload
-    → ((w : W) × m.steps item (shape.into v) (shape.into w)) ⊎ ((fault : WireFault) × m.refuses item (shape.into v) fault)
+pub shaped_steps : {V W : Type 0} (shape : Shape V W) (m : Member V) (item : Item) (v : W)
+    → HoldsBytes item.payload
+    → ((w : W) × m.steps item (shape.into v) (shape.into w))
+    ⊎ ((fault : WireFault) × m.refuses item (shape.into v) fault)
 shaped_steps {V} {W} shape m item v are = elim (m.cover item (shape.into v) are) [
   | inl x ↦ inl (shape.from x.0, subst (λ (u : V). m.steps item (shape.into v) u) (sym (shape.here x.0)) x.1)
   | inr bad ↦ inr bad

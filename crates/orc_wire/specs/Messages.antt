@@ -70,8 +70,13 @@ post_script_shape = record {
 }
 
 abbrev pub post_script : Member PostScript
-post_script = shaped post_script_shape (last 0 (number 1) and last 0 (small 2) and all (packed (2 ^ 32) 4) and last 0 (number 5)
-    and known (small 6) and last [] (text 8000))
+post_script = shaped post_script_shape
+    (last 0 (number 1)
+    and last 0 (small 2)
+    and all (packed (2 ^ 32) 4)
+    and last 0 (number 5)
+    and known (small 6)
+    and last [] (text 8000))
 
 abbrev pub type_shape : Shape (ℕ × (List ℕ × (List (List ℕ) × List ℕ))) TypeMsg
 type_shape = record {
@@ -93,7 +98,12 @@ stripe_info_shape = record {
 }
 
 abbrev pub stripe_info : Member StripeInfo
-stripe_info = shaped stripe_info_shape (last 0 (number 1) and last 0 (number 2) and last 0 (number 3) and last 0 (number 4) and last 0 (number 5))
+stripe_info = shaped stripe_info_shape
+    (last 0 (number 1)
+    and last 0 (number 2)
+    and last 0 (number 3)
+    and last 0 (number 4)
+    and last 0 (number 5))
 
 abbrev pub integer_stats_shape : Shape (Option ℤ × (Option ℤ × Option ℤ)) IntegerStatistics
 integer_stats_shape = record {
@@ -168,8 +178,14 @@ column_stats_shape = record {
 }
 
 abbrev pub column_stats : Member ColumnStats
-column_stats = shaped column_stats_shape (last 0 (number 1) and only integer_stats 0 2 and only string_stats 0 4 and only bucket_stats 0 5
-    and only date_stats 0 7 and only binary_stats 0 8 and known (flag 10))
+column_stats = shaped column_stats_shape
+    (last 0 (number 1)
+    and only integer_stats 0 2
+    and only string_stats 0 4
+    and only bucket_stats 0 5
+    and only date_stats 0 7
+    and only binary_stats 0 8
+    and known (flag 10))
 
 abbrev pub stripe_stats_shape : Shape (List ColumnStats) StripeStatistics
 stripe_stats_shape = record {
@@ -248,6 +264,14 @@ footer_shape = record {
 }
 
 abbrev pub footer : Member Footer
-footer = shaped footer_shape (last 0 (number 1) and last 0 (number 2) and each (message stripe_info 0 3) and each (message type_msg 1 4)
-    and each (message user_metadata 0 5) and last 0 (number 6) and each (message column_stats 0 7) and last 0 (small 8) and known (small 9)
+footer = shaped footer_shape
+    (last 0 (number 1)
+    and last 0 (number 2)
+    and each (message stripe_info 0 3)
+    and each (message type_msg 1 4)
+    and each (message user_metadata 0 5)
+    and last 0 (number 6)
+    and each (message column_stats 0 7)
+    and last 0 (small 8)
+    and known (small 9)
     and all (kept_from 10))

@@ -19,7 +19,11 @@ pub record IsTooLarge (limit : ℕ) (n : ℕ) (item : Item) (fault : WireFault) 
 -- varints below the limit, joined
 abbrev pub AreVarints : ℕ → List ℕ → List ℕ → Type 0
 AreVarints limit [] bytes = bytes ≡ []
-AreVarints limit (n ∷ ns) bytes = (front : List ℕ) × (rest : List ℕ) × IsVarint front n × (n < limit) × (bytes ≡ front ++ rest) × AreVarints limit ns rest
+AreVarints limit (n ∷ ns) bytes =
+    (front : List ℕ) × (rest : List ℕ) × IsVarint front n
+    × (n < limit)
+    × (bytes ≡ front ++ rest)
+    × AreVarints limit ns rest
 
 pub record IsLargeVarint (limit : ℕ) (bytes : List ℕ) : Type 0 where
   pub front : List ℕ
@@ -31,8 +35,9 @@ pub record IsLargeVarint (limit : ℕ) (bytes : List ℕ) : Type 0 where
 
 -- after good ones comes what is no varint, or one past the limit
 abbrev pub FailsNext : ℕ → List ℕ → ℕ → WireFault → Type 0
-FailsNext limit bytes place fault = ((bytes ≡ [] → ⊥) × (why : BitFault) × NoVarint bytes why × (fault ≡ fault_at place why)) ⊎
-    (IsLargeVarint limit bytes × (fault ≡ ValueRange place))
+FailsNext limit bytes place fault =
+    ((bytes ≡ [] → ⊥) × (why : BitFault) × NoVarint bytes why × (fault ≡ fault_at place why))
+    ⊎ (IsLargeVarint limit bytes × (fault ≡ ValueRange place))
 
 pub record FailsWithin (limit : ℕ) (bytes : List ℕ) (place : ℕ) (fault : WireFault) : Type 0 where
   pub values : List ℕ

@@ -30,7 +30,8 @@ below_or_large limit n item (Some v) e = elim (cases_lt v limit) [
 ]
 
 pub some_small : (limit n : ℕ) (item : Item)
-    → ((p : Option ℕ) × ((p ≡ number_in n item) × IfSome p (λ v. v < limit))) ⊎ ((fault : WireFault) × IsTooLarge limit n item fault)
+    → ((p : Option ℕ) × ((p ≡ number_in n item) × IfSome p (λ v. v < limit)))
+    ⊎ ((fault : WireFault) × IsTooLarge limit n item fault)
 some_small limit n item = elim (below_or_large limit n item (number_in n item) refl) [
   | inl less ↦ inl (number_in n item, (refl, less))
   | inr bad ↦ inr bad
@@ -75,7 +76,9 @@ shorter k bytes h le =
 
 module _ (limit place : ℕ) where
   abbrev SomeVarints : List ℕ → Type 0
-  SomeVarints bytes = ((ns : List ℕ) × AreVarints limit ns bytes) ⊎ ((fault : WireFault) × FailsWithin limit bytes place fault)
+  SomeVarints bytes =
+      ((ns : List ℕ) × AreVarints limit ns bytes)
+      ⊎ ((fault : WireFault) × FailsWithin limit bytes place fault)
 
   one_more : (bytes : List ℕ) (h : HasVarint bytes) → h.number < limit → SomeVarints h.rest → SomeVarints bytes
   one_more bytes h less (inl more) = inl (h.number ∷ more.0, (h.front, h.rest, h.is, less, h.parts, more.1))
@@ -145,7 +148,8 @@ module _ (limit place : ℕ) where
 
 -- ---- messages
 
-held_by : (test : Bool) (payload : Payload) (b : List ℕ) → HoldsBytes payload → cond test (as_bytes payload) None ≡ Some b → AllBytes b
+held_by : (test : Bool) (payload : Payload) (b : List ℕ)
+    → HoldsBytes payload → cond test (as_bytes payload) None ≡ Some b → AllBytes b
 held_by true (varint n) b are e = absurd cc
 held_by true (eight c) b are e = absurd cc
 held_by true (four c) b are e = absurd cc
@@ -153,8 +157,10 @@ held_by true (sized c) b are e = let same : c ≡ b = cc in subst AllBytes same 
 held_by false payload b are e = absurd cc
 
 module _ {C : Type 0} (members : Member C) (required n : ℕ) (item : Item) (are : HoldsBytes item.payload) where
-  message_or : (t : Option (List ℕ)) → bytes_in n item ≡ t
-      → ((p : Option C) × MessageIn members required n item t p) ⊎ ((fault : WireFault) × MessageFails members required n item t fault)
+  message_or : (t : Option (List ℕ))
+      → bytes_in n item ≡ t
+      → ((p : Option C) × MessageIn members required n item t p)
+      ⊎ ((fault : WireFault) × MessageFails members required n item t fault)
   message_or None e = inl (None, refl)
   message_or (Some b) e = elim (some_spelled members required (inside item b) b (held_by (item.number == n) item.payload b are e)) [
     | inl is ↦ inl (Some is.0, (is.0, refl, is.1))
@@ -166,8 +172,9 @@ module _ {C : Type 0} (members : Member C) (required n : ℕ) (item : Item) (are
   some_message = message_or (bytes_in n item) refl
 
   abbrev SomeOnly : Option C → Type 0
-  SomeOnly old = ((v : Option C) × ((p : Option C) × MessageIn members required n item (bytes_in n item) p × JoinsOnly old p v)) ⊎
-      ((fault : WireFault) × OnlyFails members required n item old fault)
+  SomeOnly old =
+      ((v : Option C) × ((p : Option C) × MessageIn members required n item (bytes_in n item) p × JoinsOnly old p v))
+      ⊎ ((fault : WireFault) × OnlyFails members required n item old fault)
 
   another : (c : C) (t : Option (List ℕ)) → bytes_in n item ≡ t → SomeOnly (Some c)
   another c None e = inl (Some c, (None, subst (λ (t : Option (List ℕ)). MessageIn members required n item t None) (sym e) refl, (refl, refl)))

@@ -14,7 +14,9 @@ use Rattle.orc_wire.specs.SpellsLaws.{text_some}
 
 module _ {C : Type 0} (members : Member C) (required base : ℕ) (bytes : List ℕ) where
   abbrev SomeContent : Type 0
-  SomeContent = ((content : C) × Spells members required base bytes content) ⊎ ((fault : WireFault) × Faults members required base bytes fault)
+  SomeContent =
+      ((content : C) × Spells members required base bytes content)
+      ⊎ ((fault : WireFault) × Faults members required base bytes fault)
 
   -- the fields read so far, what they say, and what is left
   record IsBefore (rest : List ℕ) : Type 0 where
@@ -44,7 +46,8 @@ module _ {C : Type 0} (members : Member C) (required base : ℕ) (bytes : List �
         )
       ]
 
-  ends : (rest : List ℕ) (r : IsBefore rest) (fault : WireFault) → (rest ≡ [] → ⊥) → NoField (base + length r.front) rest fault → SomeContent
+  ends : (rest : List ℕ) (r : IsBefore rest) (fault : WireFault)
+      → (rest ≡ [] → ⊥) → NoField (base + length r.front) rest fault → SomeContent
   ends rest r fault some none = inr (
     fault,
     inl (record {
@@ -60,7 +63,8 @@ module _ {C : Type 0} (members : Member C) (required base : ℕ) (bytes : List �
     }),
   )
 
-  whole_parts : (front rest text more : List ℕ) → bytes ≡ front ++ rest → rest ≡ text ++ more → bytes ≡ front ++ (text ++ more)
+  whole_parts : (front rest text more : List ℕ)
+      → bytes ≡ front ++ rest → rest ≡ text ++ more → bytes ≡ front ++ (text ++ more)
   whole_parts front rest text more e f = e ∙ ap (λ (t : List ℕ). front ++ t) f
 
   refused : (rest : List ℕ) (r : IsBefore rest) (next : HasField (base + length r.front) rest) (fault : WireFault)
@@ -81,8 +85,8 @@ module _ {C : Type 0} (members : Member C) (required base : ℕ) (bytes : List �
     })),
   )
 
-  grown : (rest : List ℕ) (r : IsBefore rest) (next : HasField (base + length r.front) rest) (new : C) → members.steps next.item r.content new
-      → IsBefore next.rest
+  grown : (rest : List ℕ) (r : IsBefore rest) (next : HasField (base + length r.front) rest) (new : C)
+      → members.steps next.item r.content new → IsBefore next.rest
   grown rest r next new step = record {
     fields = next.item ∷ r.fields;
     front = r.front ++ next.item.text;
@@ -117,7 +121,8 @@ module _ {C : Type 0} (members : Member C) (required base : ℕ) (bytes : List �
 
   -- bytes spell a message or have a fault
   pub some_spelled : AllBytes bytes
-      → ((content : C) × Spells members required base bytes content) ⊎ ((fault : WireFault) × Faults members required base bytes fault)
+      → ((content : C) × Spells members required base bytes content)
+      ⊎ ((fault : WireFault) × Faults members required base bytes fault)
   some_spelled are =
       read_on (length bytes) bytes (omega arith) are
       (record { fields = []; front = []; content = members.start; parts = refl; are = refl; says = members.starts })

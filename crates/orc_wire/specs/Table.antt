@@ -40,7 +40,8 @@ GivesParts gives (item ∷ before) [] = ⊥
 GivesParts gives (item ∷ before) (part ∷ parts) = gives item part × GivesParts gives before parts
 
 -- all parts of a list are joined in order
-pub record JoinsParts {V : Type 0} (gives : Item → List V → Type 0) (fields : List Item) (values : List V) : Type 0 where
+pub record JoinsParts {V : Type 0} (gives : Item → List V → Type 0)
+    (fields : List Item) (values : List V) : Type 0 where
   pub parts : List (List V)
   pub are : GivesParts gives fields parts
   pub joined : values ≡ joined_parts parts
@@ -51,7 +52,8 @@ some_parts [] = []
 some_parts (part ∷ before) = some_parts before ++ option_to_list part
 
 -- what each field gives, if anything, in order
-pub record JoinsSome {V : Type 0} (gives : Item → Option V → Type 0) (fields : List Item) (values : List V) : Type 0 where
+pub record JoinsSome {V : Type 0} (gives : Item → Option V → Type 0)
+    (fields : List Item) (values : List V) : Type 0 where
   pub parts : List (Option V)
   pub are : GivesParts gives fields parts
   pub joined : values ≡ some_parts parts

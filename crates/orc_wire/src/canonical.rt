@@ -248,7 +248,8 @@ pub(crate) fn put_each<M: Message>(
     messages: &[M],
     out: &mut Vec<u8>,
 ) -> Result<(), WireFault>
-    ensures text { OnOk result (out.new.items ≡ out.old.items ++ list_text (λ m. sized (M.canonical.text m)) n messages.now) }
+    ensures text { OnOk result (out.new.items ≡ out.old.items
+        ++ list_text (λ m. sized (M.canonical.text m)) n messages.now) }
     ensures bounded { OnOk result (AllByRecursion M.canonical.bounded messages.now) }
     ensures refused { IfErr result (λ fault. fault ≡ OutOfMemory) }
     ensures front { KeepsFront out.old.items out.new.items }

@@ -1,3 +1,4 @@
+//! The statistics of a column, of a stripe's columns, and of all stripes of a file.
 use crate::canonical::{put_each, put_known_flag, put_number, put_shown};
 use crate::fault::WireFault;
 use crate::field::Field;

@@ -1,3 +1,4 @@
+//! How a column is encoded in a stripe.
 use crate::canonical::put_number;
 use crate::fault::WireFault;
 use crate::field::Field;

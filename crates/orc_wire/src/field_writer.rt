@@ -1,3 +1,4 @@
+//! Writing fields, one after the other, behind what a vector holds.
 ghost use Rattle.std.specs.Prelude.{◌≡◌, ℕ, ◌++◌, ◌^◌, ◌⊎◌, length, Err, IfErr, OnOk, OnErr};
 ghost use Rattle.orc_wire.specs.declared.fault.WireFault.TheVariants.{BadWireType, OutOfMemory};
 ghost use Rattle.orc_wire.specs.Fields.{IsField};
@@ -31,11 +32,13 @@ impl<'a> FieldWriter<'a> {
     /// has, 0 or above 2^29-1, at the place where its key would stand, which is the vector's length;
     /// `OutOfMemory`.
     pub fn put(&mut self, number: u32, value: Value<'_>) -> Result<(), WireFault>
-        ensures text { OnOk result (self.new.out.now.items ≡ self.old.out.now.items ++ field_text number (payload_of value.entry)) }
+        ensures text { OnOk result (self.new.out.now.items ≡ self.old.out.now.items
+            ++ field_text number (payload_of value.entry)) }
         ensures again { OnOk result ((place : ℕ) → IsField place (item_at number (payload_of value.entry) place)) }
 
         ensures bad { IsOutside 1 (2 ^ 29) number → result ≡ Err (BadWireType (length self.old.out.now.items)) }
-        ensures refused { IfErr result (λ fault. (fault ≡ OutOfMemory) ⊎ (IsOutside 1 (2 ^ 29) number × (fault ≡ BadWireType (length self.old.out.now.items)))) }
+        ensures refused { IfErr result (λ fault. (fault ≡ OutOfMemory)
+            ⊎ (IsOutside 1 (2 ^ 29) number × (fault ≡ BadWireType (length self.old.out.now.items)))) }
         ensures unchanged { OnErr result (self.new.out.now.items ≡ self.old.out.now.items) }
         ensures same_vector { self.new.out.ghost_name ≡ self.old.out.ghost_name }
     {

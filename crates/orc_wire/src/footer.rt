@@ -1,3 +1,4 @@
+//! The footer of a file, and the pairs of its user metadata.
 use crate::canonical::{put_each, put_kept, put_known_u32, put_number, put_text};
 use crate::column_stats::ColumnStats;
 use crate::fault::WireFault;

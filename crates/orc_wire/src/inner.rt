@@ -1,3 +1,4 @@
+//! Members that are messages themselves: one that may stand once, or a list of them.
 ghost use Rattle.std.specs.Prelude.{◌≡◌, ◌⊎◌, IfErr, OnOk};
 ghost use Rattle.orc_wire.specs.declared.fault.WireFault.TheVariants.{OutOfMemory};
 ghost use Rattle.orc_wire.specs.FieldItem.{item_of};
@@ -17,7 +18,8 @@ pub(crate) fn take_only<M: Message>(
     field: &Field,
 ) -> Result<(), WireFault>
     ensures ok { OnOk result ((only M.members M.REQUIRED n).steps (item_of field.now) slot.old slot.new) }
-    ensures fault { IfErr result (λ fault. (fault ≡ OutOfMemory) ⊎ (only M.members M.REQUIRED n).refuses (item_of field.now) slot.old fault) }
+    ensures fault { IfErr result (λ fault. (fault ≡ OutOfMemory)
+        ⊎ (only M.members M.REQUIRED n).refuses (item_of field.now) slot.old fault) }
 {
     match field.message(n) {
         None => Ok(()),
@@ -39,7 +41,8 @@ pub(crate) fn take_each<M: Message>(
     field: &Field,
 ) -> Result<(), WireFault>
     ensures ok { OnOk result ((each (message M.members M.REQUIRED n)).steps (item_of field.now) slot.old slot.new) }
-    ensures fault { IfErr result (λ fault. (fault ≡ OutOfMemory) ⊎ (each (message M.members M.REQUIRED n)).refuses (item_of field.now) slot.old fault) }
+    ensures fault { IfErr result (λ fault. (fault ≡ OutOfMemory)
+        ⊎ (each (message M.members M.REQUIRED n)).refuses (item_of field.now) slot.old fault) }
 {
     match field.message(n) {
         None => Ok(()),

@@ -38,47 +38,79 @@ use crate::message::Message;
 /// No field begins another, so bytes have one list of fields at most; and whatever bytes stand, a
 /// field is in front of them or one fault says why not.
 pub fn field_laws()
-    ensures one_field { (place : ℕ) (a b : Item) (x y : List ℕ) → IsField place a → IsField place b → a.text ++ x ≡ b.text ++ y → a ≡ b }
-    ensures one_list { (base : ℕ) (a b : List Item) (bytes : List ℕ) → IsFields base a bytes → IsFields base b bytes → a ≡ b }
-    ensures none { (place : ℕ) (item : Item) (rest : List ℕ) (fault : WireFault) → NoField place (item.text ++ rest) fault → IsField place item → ⊥ }
-    ensures one_fault { (place : ℕ) (bytes : List ℕ) (e f : WireFault) → NoField place bytes e → NoField place bytes f → e ≡ f }
-    ensures cover { (place : ℕ) (bytes : List ℕ) → AllBytes bytes → HasField place bytes ⊎ ((fault : WireFault) × NoField place bytes fault) }
+    ensures one_field { (place : ℕ) (a b : Item) (x y : List ℕ)
+        → IsField place a → IsField place b → a.text ++ x ≡ b.text ++ y → a ≡ b }
+    ensures one_list { (base : ℕ) (a b : List Item) (bytes : List ℕ)
+        → IsFields base a bytes → IsFields base b bytes → a ≡ b }
+    ensures none { (place : ℕ) (item : Item) (rest : List ℕ) (fault : WireFault)
+        → NoField place (item.text ++ rest) fault → IsField place item → ⊥ }
+    ensures one_fault { (place : ℕ) (bytes : List ℕ) (e f : WireFault)
+        → NoField place bytes e → NoField place bytes f → e ≡ f }
+    ensures cover { (place : ℕ) (bytes : List ℕ)
+        → AllBytes bytes → HasField place bytes ⊎ ((fault : WireFault) × NoField place bytes fault) }
 {}
 
 /// What the fields of a message say of each kind of member, and nothing else: the newest number or
 /// text of that field number, a list's parts or texts in their order, kept fields as they stood. Where
 /// 32 bits are wanted, each number of that field number has them.
 pub fn table_laws()
-    ensures number_last { (n default : ℕ) (fields : List Item) (v : ℕ) → (last default (number n)).says fields v ↔ (v ≡ unwrap_or (newest (number_in n) fields) default) }
-    ensures small_last { (n default : ℕ) (fields : List Item) (v : ℕ) → (last default (small n)).says fields v ↔ ((v ≡ unwrap_or (newest (number_in n) fields) default) × AreSmall n fields) }
-    ensures text_last { (n : ℕ) (default : List ℕ) (fields : List Item) (v : List ℕ) → (last default (text n)).says fields v ↔ (v ≡ unwrap_or (newest (bytes_in n) fields) default) }
+    ensures number_last { (n default : ℕ) (fields : List Item) (v : ℕ)
+        → (last default (number n)).says fields v ↔ (v ≡ unwrap_or (newest (number_in n) fields) default) }
+    ensures small_last { (n default : ℕ) (fields : List Item) (v : ℕ)
+        → (last default (small n)).says fields v
+        ↔ ((v ≡ unwrap_or (newest (number_in n) fields) default) × AreSmall n fields) }
+    ensures text_last { (n : ℕ) (default : List ℕ) (fields : List Item) (v : List ℕ)
+        → (last default (text n)).says fields v ↔ (v ≡ unwrap_or (newest (bytes_in n) fields) default) }
 
-    ensures small_known { (n : ℕ) (fields : List Item) (v : Option ℕ) → (known (small n)).says fields v ↔ ((v ≡ newest (number_in n) fields) × AreSmall n fields) }
-    ensures signed_known { (n : ℕ) (fields : List Item) (v : Option ℤ) → (known (signed n)).says fields v ↔ (option_map zig v ≡ newest (number_in n) fields) }
-    ensures small_signed_known { (n : ℕ) (fields : List Item) (v : Option ℤ) → (known (small_signed n)).says fields v ↔ ((option_map zig v ≡ newest (number_in n) fields) × AreSmall n fields) }
-    ensures flag_known { (n : ℕ) (fields : List Item) (v : Option Bool) → (known (flag n)).says fields v ↔ (v ≡ option_map (λ k. not (k == 0)) (newest (number_in n) fields)) }
-    ensures text_known { (n : ℕ) (fields : List Item) (v : Option (List ℕ)) → (known (text n)).says fields v ↔ (v ≡ newest (bytes_in n) fields) }
+    ensures small_known { (n : ℕ) (fields : List Item) (v : Option ℕ)
+        → (known (small n)).says fields v ↔ ((v ≡ newest (number_in n) fields) × AreSmall n fields) }
+    ensures signed_known { (n : ℕ) (fields : List Item) (v : Option ℤ)
+        → (known (signed n)).says fields v ↔ (option_map zig v ≡ newest (number_in n) fields) }
+    ensures small_signed_known { (n : ℕ) (fields : List Item) (v : Option ℤ)
+        → (known (small_signed n)).says fields v
+        ↔ ((option_map zig v ≡ newest (number_in n) fields) × AreSmall n fields) }
+    ensures flag_known { (n : ℕ) (fields : List Item) (v : Option Bool)
+        → (known (flag n)).says fields v ↔ (v ≡ option_map (λ k. not (k == 0)) (newest (number_in n) fields)) }
+    ensures text_known { (n : ℕ) (fields : List Item) (v : Option (List ℕ))
+        → (known (text n)).says fields v ↔ (v ≡ newest (bytes_in n) fields) }
 
-    ensures packed_list { (limit n : ℕ) (fields : List Item) (v : List ℕ) → (all (packed limit n)).says fields v ↔ JoinsParts (packed limit n).gives fields v }
-    ensures texts { (n : ℕ) (fields : List Item) (v : List (List ℕ)) → (each (text n)).says fields v ↔ (v ≡ in_order (bytes_in n) fields) }
-    ensures kept { (n : ℕ) (fields : List Item) (v : List ℕ) → (all (kept_from n)).says fields v ↔ (v ≡ kept_texts n fields) }
+    ensures packed_list { (limit n : ℕ) (fields : List Item) (v : List ℕ)
+        → (all (packed limit n)).says fields v ↔ JoinsParts (packed limit n).gives fields v }
+    ensures texts { (n : ℕ) (fields : List Item) (v : List (List ℕ))
+        → (each (text n)).says fields v ↔ (v ≡ in_order (bytes_in n) fields) }
+    ensures kept { (n : ℕ) (fields : List Item) (v : List ℕ)
+        → (all (kept_from n)).says fields v ↔ (v ≡ kept_texts n fields) }
 {}
 
 /// Bytes spell one message at most, and where a fault applies none, and no other fault; whatever bytes
-/// stand, they spell a message or a fault applies. A list of messages in one has them in the order of their fields; a message that may stand once stands in one
-/// field at most. What is read has numbers of its fields' bits, and where its canonical text holds all
-/// of it, that text is it again.
+/// stand, they spell a message or a fault applies. A list of messages in one has them in the order of
+/// their fields; a message that may stand once stands in one field at most. What is read has numbers
+/// of its fields' bits, and where its canonical text holds all of it, that text is it again.
 pub fn message_laws<M: Message>()
-    ensures one { (base : ℕ) (bytes : List ℕ) (a b : M) → Spells M.members M.REQUIRED base bytes a → Spells M.members M.REQUIRED base bytes b → a ≡ b }
-    ensures none { (base : ℕ) (bytes : List ℕ) (a : M) (fault : WireFault) → Faults M.members M.REQUIRED base bytes fault → Spells M.members M.REQUIRED base bytes a → ⊥ }
-    ensures one_fault { (base : ℕ) (bytes : List ℕ) (e f : WireFault) → Faults M.members M.REQUIRED base bytes e → Faults M.members M.REQUIRED base bytes f → e ≡ f }
-    ensures cover { (base : ℕ) (bytes : List ℕ) → AllBytes bytes → ((a : M) × Spells M.members M.REQUIRED base bytes a) ⊎ ((fault : WireFault) × Faults M.members M.REQUIRED base bytes fault) }
+    ensures one { (base : ℕ) (bytes : List ℕ) (a b : M)
+        → Spells M.members M.REQUIRED base bytes a → Spells M.members M.REQUIRED base bytes b → a ≡ b }
+    ensures none { (base : ℕ) (bytes : List ℕ) (a : M) (fault : WireFault)
+        → Faults M.members M.REQUIRED base bytes fault → Spells M.members M.REQUIRED base bytes a → ⊥ }
+    ensures one_fault { (base : ℕ) (bytes : List ℕ) (e f : WireFault)
+        → Faults M.members M.REQUIRED base bytes e → Faults M.members M.REQUIRED base bytes f → e ≡ f }
+    ensures cover { (base : ℕ) (bytes : List ℕ)
+        → AllBytes bytes
+        → ((a : M) × Spells M.members M.REQUIRED base bytes a)
+        ⊎ ((fault : WireFault) × Faults M.members M.REQUIRED base bytes fault) }
 
-    ensures each { (n : ℕ) (fields : List Item) (v : List M) → (each (message M.members M.REQUIRED n)).says fields v ↔ JoinsSome (message M.members M.REQUIRED n).gives fields v }
-    ensures only { (n : ℕ) (fields : List Item) (v : Option M) → (only M.members M.REQUIRED n).says fields v ↔ OnlyMessage M.members M.REQUIRED n fields v }
+    ensures each { (n : ℕ) (fields : List Item) (v : List M)
+        → (each (message M.members M.REQUIRED n)).says fields v
+        ↔ JoinsSome (message M.members M.REQUIRED n).gives fields v }
+    ensures only { (n : ℕ) (fields : List Item) (v : Option M)
+        → (only M.members M.REQUIRED n).says fields v ↔ OnlyMessage M.members M.REQUIRED n fields v }
 
-    ensures bounded { (base : ℕ) (bytes : List ℕ) (a : M) → Spells M.members M.REQUIRED base bytes a → M.canonical.bounded a }
-    ensures again { (base place : ℕ) (bytes : List ℕ) (a : M) → Spells M.members M.REQUIRED base bytes a → M.canonical.whole a → length (M.canonical.text a) < 2 ^ 64 → Spells M.members M.REQUIRED place (M.canonical.text a) a }
+    ensures bounded { (base : ℕ) (bytes : List ℕ) (a : M)
+        → Spells M.members M.REQUIRED base bytes a → M.canonical.bounded a }
+    ensures again { (base place : ℕ) (bytes : List ℕ) (a : M)
+        → Spells M.members M.REQUIRED base bytes a
+        → M.canonical.whole a
+        → length (M.canonical.text a) < 2 ^ 64
+        → Spells M.members M.REQUIRED place (M.canonical.text a) a }
 {}
 
 /// When a message's canonical text holds all of it, so that it reads back: always, but for an
@@ -96,8 +128,13 @@ pub fn whole_laws()
 
     ensures stripe { (m : StripeInfo) → stripe_info_text.whole m }
     ensures pair { (m : UserMetadataItem) → user_metadata_text.whole m }
-    ensures footer_of_kept { (m : Footer) → AllByRecursion (λ t. AreKept 4 t.kept) m.types → AllByRecursion column_stats_text.whole m.statistics → AreKept 10 m.kept → footer_text.whole m }
-    ensures footer_read { (base : ℕ) (bytes : List ℕ) (m : Footer) → Spells footer 0 base bytes m → AreKept 10 m.kept × AllByRecursion (λ t. AreKept 4 t.kept) m.types }
+    ensures footer_of_kept { (m : Footer)
+        → AllByRecursion (λ t. AreKept 4 t.kept) m.types
+        → AllByRecursion column_stats_text.whole m.statistics
+        → AreKept 10 m.kept
+        → footer_text.whole m }
+    ensures footer_read { (base : ℕ) (bytes : List ℕ) (m : Footer)
+        → Spells footer 0 base bytes m → AreKept 10 m.kept × AllByRecursion (λ t. AreKept 4 t.kept) m.types }
     ensures kept_or_not { (m n : ℕ) (bytes : List ℕ) → AreKept m bytes → AreKept n bytes ⊎ (AreKept n bytes → ⊥) }
 
     ensures integers { (m : IntegerStatistics) → integer_stats_text.whole m }
@@ -105,13 +142,23 @@ pub fn whole_laws()
     ensures buckets { (m : BucketStatistics) → bucket_stats_text.whole m }
     ensures dates { (m : DateStatistics) → date_stats_text.whole m }
     ensures binaries { (m : BinaryStatistics) → binary_stats_text.whole m }
-    ensures column { (m : ColumnStats) → IfSome m.int_statistics (λ s. integer_stats_text.text s ≡ [] → ⊥) → IfSome m.string_statistics (λ s. string_stats_text.text s ≡ [] → ⊥) → IfSome m.bucket_statistics (λ s. bucket_stats_text.text s ≡ [] → ⊥) → IfSome m.date_statistics (λ s. date_stats_text.text s ≡ [] → ⊥) → IfSome m.binary_statistics (λ s. binary_stats_text.text s ≡ [] → ⊥) → column_stats_text.whole m }
-    ensures integer_shown { (m : IntegerStatistics) → IsSome m.minimum ⊎ (IsSome m.maximum ⊎ IsSome m.sum) → integer_stats_text.text m ≡ [] → ⊥ }
-    ensures string_shown { (m : StringStatistics) → IsSome m.minimum ⊎ (IsSome m.maximum ⊎ IsSome m.sum) → string_stats_text.text m ≡ [] → ⊥ }
-    ensures bucket_shown { (m : BucketStatistics) → AreBelow (2 ^ 64) m.count → (m.count ≡ [] → ⊥) → bucket_stats_text.text m ≡ [] → ⊥ }
+    ensures column { (m : ColumnStats)
+        → IfSome m.int_statistics (λ s. integer_stats_text.text s ≡ [] → ⊥)
+        → IfSome m.string_statistics (λ s. string_stats_text.text s ≡ [] → ⊥)
+        → IfSome m.bucket_statistics (λ s. bucket_stats_text.text s ≡ [] → ⊥)
+        → IfSome m.date_statistics (λ s. date_stats_text.text s ≡ [] → ⊥)
+        → IfSome m.binary_statistics (λ s. binary_stats_text.text s ≡ [] → ⊥)
+        → column_stats_text.whole m }
+    ensures integer_shown { (m : IntegerStatistics)
+        → IsSome m.minimum ⊎ (IsSome m.maximum ⊎ IsSome m.sum) → integer_stats_text.text m ≡ [] → ⊥ }
+    ensures string_shown { (m : StringStatistics)
+        → IsSome m.minimum ⊎ (IsSome m.maximum ⊎ IsSome m.sum) → string_stats_text.text m ≡ [] → ⊥ }
+    ensures bucket_shown { (m : BucketStatistics)
+        → AreBelow (2 ^ 64) m.count → (m.count ≡ [] → ⊥) → bucket_stats_text.text m ≡ [] → ⊥ }
     ensures date_shown { (m : DateStatistics) → IsSome m.minimum ⊎ IsSome m.maximum → date_stats_text.text m ≡ [] → ⊥ }
     ensures binary_shown { (m : BinaryStatistics) → IsSome m.sum → binary_stats_text.text m ≡ [] → ⊥ }
-    ensures stripes { (m : StripeStatistics) → AllByRecursion column_stats_text.whole m.col_stats → stripe_stats_text.whole m }
+    ensures stripes { (m : StripeStatistics)
+        → AllByRecursion column_stats_text.whole m.col_stats → stripe_stats_text.whole m }
     ensures metadata { (m : Metadata) → AllByRecursion stripe_stats_text.whole m.stripe_stats → metadata_text.whole m }
     ensures entry { (m : RowIndexEntry) → IfSome m.statistics column_stats_text.whole → row_index_entry_text.whole m }
     ensures index { (m : RowIndexMsg) → AllByRecursion row_index_entry_text.whole m.entries → row_index_text.whole m }
@@ -120,23 +167,62 @@ pub fn whole_laws()
 
 /// The canonical texts, written out.
 pub fn canonical_laws()
-    ensures stream { (m : StreamMsg) → stream_text.text m ≡ number_text 1 m.kind ++ (number_text 2 m.column ++ number_text 3 m.length) }
-    ensures dictionary { (m : Encoding) → is_dictionary m.kind ≡ true → encoding_text.text m ≡ number_text 1 m.kind ++ number_text 2 m.dictionary_size }
+    ensures stream { (m : StreamMsg)
+        → stream_text.text m ≡ number_text 1 m.kind ++ (number_text 2 m.column ++ number_text 3 m.length) }
+    ensures dictionary { (m : Encoding)
+        → is_dictionary m.kind ≡ true → encoding_text.text m ≡ number_text 1 m.kind ++ number_text 2 m.dictionary_size }
     ensures direct { (m : Encoding) → is_dictionary m.kind ≡ false → encoding_text.text m ≡ number_text 1 m.kind }
-    ensures footer { (m : StripeFooter) → stripe_footer_text.text m ≡ list_text (λ s. sized (stream_text.text s)) 1 m.streams ++ list_text (λ e. sized (encoding_text.text e)) 2 m.columns }
-    ensures script { (m : PostScript) → post_script_text.text m ≡ number_text 1 m.footer_length ++ (number_text 2 m.compression ++ (packed_text 4 m.version ++ (number_text 5 m.metadata_length ++ (known_text (λ v. varint v) 6 m.writer_version ++ sized_text 8000 m.magic)))) }
-    ensures stripe { (m : StripeInfo) → stripe_info_text.text m ≡ number_text 1 m.offset ++ (number_text 2 m.index_length ++ (number_text 3 m.data_length ++ (number_text 4 m.footer_length ++ number_text 5 m.number_of_rows))) }
+    ensures footer { (m : StripeFooter)
+        → stripe_footer_text.text m ≡ list_text (λ s. sized (stream_text.text s)) 1 m.streams
+        ++ list_text (λ e. sized (encoding_text.text e)) 2 m.columns }
+    ensures script { (m : PostScript)
+        → post_script_text.text m ≡ number_text 1 m.footer_length
+        ++ (number_text 2 m.compression
+        ++ (packed_text 4 m.version
+        ++ (number_text 5 m.metadata_length
+        ++ (known_text (λ v. varint v) 6 m.writer_version ++ sized_text 8000 m.magic)))) }
+    ensures stripe { (m : StripeInfo)
+        → stripe_info_text.text m ≡ number_text 1 m.offset
+        ++ (number_text 2 m.index_length
+        ++ (number_text 3 m.data_length ++ (number_text 4 m.footer_length ++ number_text 5 m.number_of_rows))) }
     ensures pair { (m : UserMetadataItem) → user_metadata_text.text m ≡ sized_text 1 m.name ++ sized_text 2 m.value }
-    ensures integers { (m : IntegerStatistics) → integer_stats_text.text m ≡ known_text (λ v. varint (zig v)) 1 m.minimum ++ (known_text (λ v. varint (zig v)) 2 m.maximum ++ known_text (λ v. varint (zig v)) 3 m.sum) }
-    ensures strings { (m : StringStatistics) → string_stats_text.text m ≡ known_text (λ v. sized v) 1 m.minimum ++ (known_text (λ v. sized v) 2 m.maximum ++ known_text (λ v. varint (zig v)) 3 m.sum) }
+    ensures integers { (m : IntegerStatistics)
+        → integer_stats_text.text m ≡ known_text (λ v. varint (zig v)) 1 m.minimum
+        ++ (known_text (λ v. varint (zig v)) 2 m.maximum ++ known_text (λ v. varint (zig v)) 3 m.sum) }
+    ensures strings { (m : StringStatistics)
+        → string_stats_text.text m ≡ known_text (λ v. sized v) 1 m.minimum
+        ++ (known_text (λ v. sized v) 2 m.maximum ++ known_text (λ v. varint (zig v)) 3 m.sum) }
     ensures buckets { (m : BucketStatistics) → bucket_stats_text.text m ≡ packed_text 1 m.count }
-    ensures dates { (m : DateStatistics) → date_stats_text.text m ≡ known_text (λ v. varint (zig v)) 1 m.minimum ++ known_text (λ v. varint (zig v)) 2 m.maximum }
+    ensures dates { (m : DateStatistics)
+        → date_stats_text.text m ≡ known_text (λ v. varint (zig v)) 1 m.minimum
+        ++ known_text (λ v. varint (zig v)) 2 m.maximum }
     ensures binaries { (m : BinaryStatistics) → binary_stats_text.text m ≡ known_text (λ v. varint (zig v)) 1 m.sum }
-    ensures column { (m : ColumnStats) → column_stats_text.text m ≡ number_text 1 m.number_of_values ++ (shown_text integer_stats_text.text 2 m.int_statistics ++ (shown_text string_stats_text.text 4 m.string_statistics ++ (shown_text bucket_stats_text.text 5 m.bucket_statistics ++ (shown_text date_stats_text.text 7 m.date_statistics ++ (shown_text binary_stats_text.text 8 m.binary_statistics ++ known_text (λ v. varint (flag_number v)) 10 m.has_null))))) }
-    ensures stripes { (m : StripeStatistics) → stripe_stats_text.text m ≡ list_text (λ c. sized (column_stats_text.text c)) 1 m.col_stats }
-    ensures metadata { (m : Metadata) → metadata_text.text m ≡ list_text (λ s. sized (stripe_stats_text.text s)) 1 m.stripe_stats }
-    ensures entry { (m : RowIndexEntry) → row_index_entry_text.text m ≡ packed_text 1 m.positions ++ shown_text column_stats_text.text 2 m.statistics }
-    ensures index { (m : RowIndexMsg) → row_index_text.text m ≡ list_text (λ e. sized (row_index_entry_text.text e)) 1 m.entries }
-    ensures file { (m : Footer) → footer_text.text m ≡ number_text 1 m.header_length ++ (number_text 2 m.content_length ++ (list_text (λ s. sized (stripe_info_text.text s)) 3 m.stripes ++ (list_text (λ t. sized (type_text.text t)) 4 m.types ++ (list_text (λ p. sized (user_metadata_text.text p)) 5 m.metadata ++ (number_text 6 m.number_of_rows ++ (list_text (λ c. sized (column_stats_text.text c)) 7 m.statistics ++ (number_text 8 m.row_index_stride ++ (known_text (λ v. varint v) 9 m.writer ++ m.kept)))))))) }
-    ensures type_of { (m : TypeMsg) → type_text.text m ≡ number_text 1 m.kind ++ (packed_text 2 m.subtypes ++ (list_text (λ t. sized t) 3 m.field_names ++ m.kept)) }
+    ensures column { (m : ColumnStats)
+        → column_stats_text.text m ≡ number_text 1 m.number_of_values
+        ++ (shown_text integer_stats_text.text 2 m.int_statistics
+        ++ (shown_text string_stats_text.text 4 m.string_statistics
+        ++ (shown_text bucket_stats_text.text 5 m.bucket_statistics
+        ++ (shown_text date_stats_text.text 7 m.date_statistics
+        ++ (shown_text binary_stats_text.text 8 m.binary_statistics
+        ++ known_text (λ v. varint (flag_number v)) 10 m.has_null))))) }
+    ensures stripes { (m : StripeStatistics)
+        → stripe_stats_text.text m ≡ list_text (λ c. sized (column_stats_text.text c)) 1 m.col_stats }
+    ensures metadata { (m : Metadata)
+        → metadata_text.text m ≡ list_text (λ s. sized (stripe_stats_text.text s)) 1 m.stripe_stats }
+    ensures entry { (m : RowIndexEntry)
+        → row_index_entry_text.text m ≡ packed_text 1 m.positions ++ shown_text column_stats_text.text 2 m.statistics }
+    ensures index { (m : RowIndexMsg)
+        → row_index_text.text m ≡ list_text (λ e. sized (row_index_entry_text.text e)) 1 m.entries }
+    ensures file { (m : Footer)
+        → footer_text.text m ≡ number_text 1 m.header_length
+        ++ (number_text 2 m.content_length
+        ++ (list_text (λ s. sized (stripe_info_text.text s)) 3 m.stripes
+        ++ (list_text (λ t. sized (type_text.text t)) 4 m.types
+        ++ (list_text (λ p. sized (user_metadata_text.text p)) 5 m.metadata
+        ++ (number_text 6 m.number_of_rows
+        ++ (list_text (λ c. sized (column_stats_text.text c)) 7 m.statistics
+        ++ (number_text 8 m.row_index_stride ++ (known_text (λ v. varint v) 9 m.writer ++ m.kept)))))))) }
+    ensures type_of { (m : TypeMsg)
+        → type_text.text m ≡ number_text 1 m.kind
+        ++ (packed_text 2 m.subtypes ++ (list_text (λ t. sized t) 3 m.field_names ++ m.kept)) }
 {}

@@ -1,3 +1,4 @@
+//! Members that are texts, packed lists or kept fields: what one more field adds to them.
 ghost use Rattle.std.specs.Prelude.{◌≡◌, [], ◌^◌, ◌⊎◌, IfErr, OnOk};
 ghost use Rattle.orc_wire.specs.declared.fault.WireFault.TheVariants.{OutOfMemory};
 ghost use Rattle.orc_wire.specs.FieldItem.{item_of};
@@ -75,7 +76,8 @@ fn take_varints(slot: &mut Items<u32>, bytes: &[u8], place: usize) -> Result<(),
 /// All parts of a packed list.
 pub(crate) fn take_packed(slot: &mut Items<u32>, n: u32, field: &Field) -> Result<(), WireFault>
     ensures ok { OnOk result ((all (packed (2 ^ 32) n)).steps (item_of field.now) slot.old slot.new) }
-    ensures fault { IfErr result (λ fault. (fault ≡ OutOfMemory) ⊎ (all (packed (2 ^ 32) n)).refuses (item_of field.now) slot.old fault) }
+    ensures fault { IfErr result (λ fault. (fault ≡ OutOfMemory)
+        ⊎ (all (packed (2 ^ 32) n)).refuses (item_of field.now) slot.old fault) }
 {
     if field.number != n {
         return Ok(());
@@ -132,7 +134,8 @@ fn take_wide_varints(slot: &mut Items<u64>, bytes: &[u8], place: usize) -> Resul
 /// All parts of a packed list of 64-bit numbers.
 pub(crate) fn take_packed_u64(slot: &mut Items<u64>, n: u32, field: &Field) -> Result<(), WireFault>
     ensures ok { OnOk result ((all (packed (2 ^ 64) n)).steps (item_of field.now) slot.old slot.new) }
-    ensures fault { IfErr result (λ fault. (fault ≡ OutOfMemory) ⊎ (all (packed (2 ^ 64) n)).refuses (item_of field.now) slot.old fault) }
+    ensures fault { IfErr result (λ fault. (fault ≡ OutOfMemory)
+        ⊎ (all (packed (2 ^ 64) n)).refuses (item_of field.now) slot.old fault) }
 {
     if field.number != n {
         return Ok(());

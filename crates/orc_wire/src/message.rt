@@ -1,3 +1,4 @@
+//! What every message has: its members, reading it from bytes, and its canonical text.
 ghost use Rattle.std.specs.Prelude.{◌≡◌, ℕ, ◌++◌, ◌+◌, ◌⊎◌, IfOk, IfErr, OnOk, OnErr, MatchResult};
 ghost use Rattle.orc_wire.specs.declared.fault.WireFault.{WireFault};
 ghost use Rattle.orc_wire.specs.declared.fault.WireFault.TheVariants.{OutOfMemory};
@@ -48,10 +49,16 @@ pub trait Message: Sized + Drop {
 
     /// The message of the fields, whose places count on from where they stand.
     final fn read_fields(alloc: Global, fields: Fields<'_>) -> Result<Self, WireFault>
-        ensures found { IfOk result (λ message. Spells members REQUIRED fields.entry.place fields.entry.rest.now message) }
-        ensures only { (content : Self) → Spells members REQUIRED fields.entry.place fields.entry.rest.now content → MatchResult result (λ message. message ≡ content) (λ e. e ≡ OutOfMemory) }
-        ensures fault { IfErr result (λ e. (e ≡ OutOfMemory) ⊎ Faults members REQUIRED fields.entry.place fields.entry.rest.now e) }
-        ensures refused { (fault : WireFault) → Faults members REQUIRED fields.entry.place fields.entry.rest.now fault → MatchResult result (λ _. ⊥) (λ e. (e ≡ OutOfMemory) ⊎ (e ≡ fault)) }
+        ensures found { IfOk result (λ message.
+            Spells members REQUIRED fields.entry.place fields.entry.rest.now message) }
+        ensures only { (content : Self)
+            → Spells members REQUIRED fields.entry.place fields.entry.rest.now content
+            → MatchResult result (λ message. message ≡ content) (λ e. e ≡ OutOfMemory) }
+        ensures fault { IfErr result (λ e. (e ≡ OutOfMemory)
+            ⊎ Faults members REQUIRED fields.entry.place fields.entry.rest.now e) }
+        ensures refused { (fault : WireFault)
+            → Faults members REQUIRED fields.entry.place fields.entry.rest.now fault
+            → MatchResult result (λ _. ⊥) (λ e. (e ≡ OutOfMemory) ⊎ (e ≡ fault)) }
     {
         let mut message = Self::empty(alloc);
         let mut complete = Self::REQUIRED == 0;
@@ -74,9 +81,13 @@ pub trait Message: Sized + Drop {
     /// last within its message. `OutOfMemory` may come instead.
     final fn read(alloc: Global, bytes: &[u8]) -> Result<Self, WireFault>
         ensures found { IfOk result (λ message. Spells members REQUIRED 0 bytes.now message) }
-        ensures only { (content : Self) → Spells members REQUIRED 0 bytes.now content → MatchResult result (λ message. message ≡ content) (λ e. e ≡ OutOfMemory) }
+        ensures only { (content : Self)
+            → Spells members REQUIRED 0 bytes.now content
+            → MatchResult result (λ message. message ≡ content) (λ e. e ≡ OutOfMemory) }
         ensures fault { IfErr result (λ e. (e ≡ OutOfMemory) ⊎ Faults members REQUIRED 0 bytes.now e) }
-        ensures refused { (fault : WireFault) → Faults members REQUIRED 0 bytes.now fault → MatchResult result (λ _. ⊥) (λ e. (e ≡ OutOfMemory) ⊎ (e ≡ fault)) }
+        ensures refused { (fault : WireFault)
+            → Faults members REQUIRED 0 bytes.now fault
+            → MatchResult result (λ _. ⊥) (λ e. (e ≡ OutOfMemory) ⊎ (e ≡ fault)) }
     {
         Self::read_fields(alloc, Fields::new(bytes))
     }
@@ -85,7 +96,8 @@ pub trait Message: Sized + Drop {
     /// it was.
     final fn put(&self, out: &mut Vec<u8>) -> Result<(), WireFault>
         ensures text { OnOk result (out.new.items ≡ out.old.items ++ canonical.text self.now) }
-        ensures again { OnOk result (canonical.whole self.now → Spells members REQUIRED 0 (canonical.text self.now) self.now) }
+        ensures again { OnOk result (canonical.whole self.now
+            → Spells members REQUIRED 0 (canonical.text self.now) self.now) }
 
         ensures refused { IfErr result (λ fault. fault ≡ OutOfMemory) }
         ensures unchanged { OnErr result (out.new.items ≡ out.old.items) }

@@ -1,3 +1,4 @@
+//! The postscript, with which a file ends.
 use crate::canonical::{put_known_u32, put_number, put_packed_u32, put_text};
 use crate::fault::WireFault;
 use crate::field::Field;

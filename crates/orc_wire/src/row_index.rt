@@ -1,3 +1,4 @@
+//! The row index of a column: where each group of its rows begins.
 use crate::canonical::{put_each, put_packed_u64, put_shown};
 use crate::column_stats::ColumnStats;
 use crate::fault::WireFault;

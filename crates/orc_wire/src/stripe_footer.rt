@@ -1,3 +1,4 @@
+//! The directory of a stripe: its streams, and how each column is encoded.
 use crate::canonical::{put_each, put_number};
 use crate::encoding::Encoding;
 use crate::fault::WireFault;

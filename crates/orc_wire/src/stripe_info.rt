@@ -1,3 +1,4 @@
+//! Where a stripe stands in its file.
 use crate::canonical::put_number;
 use crate::fault::WireFault;
 use crate::field::Field;

@@ -1,3 +1,4 @@
+//! A type of a file's schema.
 use crate::canonical::{put_kept, put_number, put_packed_u32, put_texts};
 use crate::fault::WireFault;
 use crate::field::Field;

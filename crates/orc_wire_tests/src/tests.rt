@@ -1,3 +1,4 @@
+//! Messages of texts, read, written and read again, and texts that are refused, from tables.
 use orc_wire::*;
 use std::alloc::{AllocError, Global};
 use std::process::Abort;
@@ -54,7 +55,7 @@ fn check_written<M: Message>(rt: &impl Abort, alloc: Global, text: &[u8], canoni
 }
 
 /// What a fault is shown as.
-fn shown(alloc: Global, fault: WireFault) -> Result<String, AllocError> {
+fn fault_text(alloc: Global, fault: WireFault) -> Result<String, AllocError> {
     match format!(in alloc; "{fault}") {
         Err(_) => format!(in alloc; "{fault}"),
         answer => answer,
@@ -73,7 +74,7 @@ fn fault_texts(rt: HostRuntime) -> Result<(), Fail> {
         (WireFault::OutOfMemory, "wire 7 OutOfMemory"),
     ];
     for (fault, text) in table {
-        let shown = shown(rt.alloc(), fault)?;
+        let shown = fault_text(rt.alloc(), fault)?;
         assert_eq!(rt; shown.as_str(), text);
     }
     Ok(())

@@ -9,7 +9,7 @@ use std::alloc::Global;
 use std::process::Abort;
 
 /// The tail of bytes once there is memory for it.
-fn opened(alloc: Global, bytes: &[u8]) -> Result<Tail, FileFault> {
+fn tail_of(alloc: Global, bytes: &[u8]) -> Result<Tail, FileFault> {
     match read_tail(alloc, &mut SliceSource::new(bytes)) {
         Err(FileFault::OutOfMemory) => read_tail(alloc, &mut SliceSource::new(bytes)),
         answer => answer,
@@ -102,7 +102,7 @@ fn a_writer_has_its_schema(rt: HostRuntime) -> Result<(), FileFault> {
     let Ok(writer) = begun else {
         return Err(FileFault::OutOfMemory);
     };
-    assert!(rt; *writer.schema() == opened(alloc, &EMPTY)?.schema);
+    assert!(rt; *writer.schema() == tail_of(alloc, &EMPTY)?.schema);
     Ok(())
 }
 
@@ -135,7 +135,7 @@ static STRIPES: [(u32, usize, &[u64]); 6] = [
 fn stripes_are_filled(rt: HostRuntime) -> Result<(), FileFault> {
     for (stripe_rows, rows, wanted) in STRIPES {
         let bytes = file(rt.alloc(), Rle::One, stripe_rows, rows)?;
-        let tail = opened(rt.alloc(), &bytes)?;
+        let tail = tail_of(rt.alloc(), &bytes)?;
         assert_eq!(rt;
             tail.stripes.as_slice().len(),
             wanted.len(),
@@ -157,7 +157,7 @@ fn stripes_are_filled(rt: HostRuntime) -> Result<(), FileFault> {
 fn versions(rt: HostRuntime) -> Result<(), FileFault> {
     for (rle, minor) in [(Rle::One, 11u32), (Rle::Two, 12)] {
         let bytes = file(rt.alloc(), rle, 2, 3)?;
-        let tail = opened(rt.alloc(), &bytes)?;
+        let tail = tail_of(rt.alloc(), &bytes)?;
         assert_eq!(rt; tail.version.as_slice(), [0, minor].as_slice());
         assert_eq!(rt; tail.writer, Some(99));
         assert_eq!(rt; tail.writer_version, Some(6));

@@ -181,7 +181,7 @@ fn check_case(rt: &impl Abort, alloc: Global, rle: Rle, case: &Case) -> Result<(
     for (stride, stripe_rows) in [(0, 1), (1, 2), (2, 1000), (1000, 2)] {
         let mut writer = begun(alloc, text, rle, stride, stripe_rows)?;
         for line in *lines {
-            writer.push(&row_of(alloc, &schema, line)?)?;
+            writer.push_owned(row_of(alloc, &schema, line)?)?;
         }
         check_rows(rt, alloc, &ended(writer)?, text, stride, lines)?;
     }

@@ -68,8 +68,8 @@ pub bits_added : (c : ℕ) (o d : Body) (e : Encoding) (bs cs : List Bool) → e
 bits_added c o d e bs cs k q h =
     content_added (IsBitText bs) (λ w. HasBits w cs) c e plain o d k h (λ w p others. record { content_is = subst (λ xs. IsBitText xs w.content) q p; others = others })
 
-pub octets_added : (c : ℕ) (o d : Body) (e : Encoding) (bs cs : List ℕ) → e ≡ plain → bs ≡ cs → AddsStream (IsWritten byte_rule bs) c 1 o d → AddsValues (λ w. HasBytes w cs) c o d e
-octets_added c o d e bs cs k q h =
+pub bytes_added : (c : ℕ) (o d : Body) (e : Encoding) (bs cs : List ℕ) → e ≡ plain → bs ≡ cs → AddsStream (IsWritten byte_rule bs) c 1 o d → AddsValues (λ w. HasBytes w cs) c o d e
+bytes_added c o d e bs cs k q h =
     content_added (IsWritten byte_rule bs) (λ w. HasBytes w cs) c e plain o d k h (λ w p others. record { content_is = subst (λ xs. IsWritten byte_rule xs w.content) q p; others = others })
 
 pub numbers_added : (rle : Rle) (c : ℕ) (o d : Body) (e : Encoding) (ns ms : List ℤ) → e ≡ direct rle → ns ≡ ms → AddsStream (AreWrittenInts rle Signed ns) c 1 o d → AddsValues (λ w. HasNumbers rle w ms) c o d e

@@ -12,11 +12,11 @@ use Rattle.orc_types.specs.Lent.{lent_cells}
 use Rattle.orc_types.specs.Views.{view, views}
 use Rattle.orc_types.specs.declared.lent.Lent.{Lent}
 use Rattle.orc_types.specs.declared.value.Value.{Value}
-use Rattle.orc_written.specs.declared.cell_values.Piece.{Piece}
+use Rattle.orc_written.specs.declared.cell_values.ByteString.{ByteString}
 use Rattle.orc_columns.specs.Spellings.{AllStand, size, joined}
 use Rattle.orc_columns.specs.Columns.{IsBool, IsByte, IsInt, IsDate, IsText, IsBinary}
-use Rattle.orc_written.specs.CellValues.{bools_in, ints_in, octets_in, all_bytes_in, sizes_in, byte_of}
-use Rattle.orc_written.specs.WordList.{piece_bytes}
+use Rattle.orc_written.specs.CellValues.{bools_in, ints_in, number_bytes_in, all_bytes_in, sizes_in, byte_of}
+use Rattle.orc_written.specs.WordList.{byte_strings}
 
 -- a kind of whole numbers
 pub record IsIntKind (k : Scalar) : Type 0 where
@@ -76,16 +76,16 @@ bools_stand o (leaf (bytes t) ∷ cs) h = let wrong = h.0 in cc
 bools_stand o (list xs ∷ cs) h = let wrong = h.0 in cc
 bools_stand o (struct xs ∷ cs) h = let wrong = h.0 in cc
 
-pub octets_stand : (o : List ℕ) (cs : List Cell) → RowsFit (scalar kind.Byte o) cs → AllStand IsByte (octets_in cs) (values cs)
-octets_stand o [] h = tt
-octets_stand o (null ∷ cs) h = octets_stand o cs h.1
-octets_stand o (leaf (bool b) ∷ cs) h = let wrong = h.0 in cc
-octets_stand o (leaf (int n) ∷ cs) h = (byte_stands n h.0, octets_stand o cs h.1)
-octets_stand o (leaf (date n) ∷ cs) h = let wrong = h.0 in cc
-octets_stand o (leaf (text t) ∷ cs) h = let wrong = h.0 in cc
-octets_stand o (leaf (bytes t) ∷ cs) h = let wrong = h.0 in cc
-octets_stand o (list xs ∷ cs) h = let wrong = h.0 in cc
-octets_stand o (struct xs ∷ cs) h = let wrong = h.0 in cc
+pub number_bytes_stand : (o : List ℕ) (cs : List Cell) → RowsFit (scalar kind.Byte o) cs → AllStand IsByte (number_bytes_in cs) (values cs)
+number_bytes_stand o [] h = tt
+number_bytes_stand o (null ∷ cs) h = number_bytes_stand o cs h.1
+number_bytes_stand o (leaf (bool b) ∷ cs) h = let wrong = h.0 in cc
+number_bytes_stand o (leaf (int n) ∷ cs) h = (byte_stands n h.0, number_bytes_stand o cs h.1)
+number_bytes_stand o (leaf (date n) ∷ cs) h = let wrong = h.0 in cc
+number_bytes_stand o (leaf (text t) ∷ cs) h = let wrong = h.0 in cc
+number_bytes_stand o (leaf (bytes t) ∷ cs) h = let wrong = h.0 in cc
+number_bytes_stand o (list xs ∷ cs) h = let wrong = h.0 in cc
+number_bytes_stand o (struct xs ∷ cs) h = let wrong = h.0 in cc
 
 pub dates_stand : (o : List ℕ) (cs : List Cell) → RowsFit (scalar kind.Date o) cs → AllStand IsDate (ints_in cs) (values cs)
 dates_stand o [] h = tt
@@ -128,7 +128,7 @@ sizes_are (leaf a ∷ cs) = ap (λ xs. pos 0 ∷ xs) (sizes_are cs)
 sizes_are (list xs ∷ cs) = ap (λ ys. pos (length (parts (list xs))) ∷ ys) (sizes_are cs)
 sizes_are (struct xs ∷ cs) = ap (λ ys. pos (length (parts (struct xs))) ∷ ys) (sizes_are cs)
 
-pub joined_is : (ps : List Piece) → joined (piece_bytes ps) ≡ flat_map (λ (p : Piece). p.0.now) ps
+pub joined_is : (ps : List ByteString) → joined (byte_strings ps) ≡ flat_map (λ (p : ByteString). p.0.now) ps
 joined_is [] = refl
 joined_is (p ∷ ps) = ap (λ bs. p.0.now ++ bs) (joined_is ps)
 

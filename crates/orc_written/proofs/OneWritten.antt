@@ -9,7 +9,7 @@ use Rattle.orc_rle.specs.declared.sign.Rle.{Rle}
 use Rattle.orc_rle.specs.declared.sign.Rle.TheVariants.{One, Two}
 use Rattle.orc_rle.specs.declared.sign.Sign.{Sign}
 use Rattle.orc_rle.specs.declared.sign.Sign.TheVariants.{Signed, Unsigned}
-use Rattle.orc_rle.specs.WrittenLaws.{one_text}
+use Rattle.orc_rle.specs.WrittenLaws.{one_text_one}
 use Rattle.orc_rle.specs.TwoWrittenLaws.{one_text_two}
 use Rattle.orc_rle.specs.ByteLaws.{one_byte_text}
 use Rattle.orc_rle.specs.BitLaws.{one_bit_text}
@@ -30,7 +30,7 @@ use Rattle.orc_written.proofs.WordListLemmas.{less_in, not_itself, one_distinct}
 -- ---- one stream
 
 one_ints : (rle : Rle) (sign : Sign) (ns ms : List ℤ) (a b : List ℕ) → ns ≡ ms → AreWrittenInts rle sign ns a → AreWrittenInts rle sign ms b → a ≡ b
-one_ints One sign ns ms a b e p q = one_text sign ms a b (subst (λ xs. AreWrittenInts One sign xs a) e p).1 q.1
+one_ints One sign ns ms a b e p q = one_text_one sign ms a b (subst (λ xs. AreWrittenInts One sign xs a) e p).1 q.1
 one_ints Two sign ns ms a b e p q = one_text_two sign ms a b (subst (λ xs. AreWrittenInts Two sign xs a) e p).1 q.1
 
 marks_if : (t : Bool) (ms : List Bool) (a b : List ℕ) → AreMarksIf t ms a → AreMarksIf t ms b → a ≡ b

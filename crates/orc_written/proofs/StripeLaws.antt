@@ -25,7 +25,7 @@ use Rattle.orc_seek.specs.BitPosition.{BeginsBits}
 use Rattle.orc_written.specs.Groups.{starts, bounds_of}
 use Rattle.orc_written.specs.Indexes.{streams_written, index_lines, index_bytes}
 use Rattle.orc_written.specs.WrittenColumn.{Written}
-use Rattle.orc_written.specs.WrittenStripe.{AreFew, column_bytes, lines_from, indexed, IsWrittenStripe, HasRightIndex}
+use Rattle.orc_written.specs.WrittenStripe.{AreFew, column_bytes, lines_from, indexed_columns, IsWrittenStripe, HasRightIndex}
 use Rattle.orc_written.proofs.IndexLemmas.{get_within}
 use Rattle.orc_written.proofs.OneWritten.{one_columns}
 use Rattle.orc_written.proofs.StripeReads.{index_met, indexed_few, columns_found, column_encoded}
@@ -134,7 +134,7 @@ got [] c lt = absurd (omega (arith, lt))
 got (x ∷ xs) zero lt = (x, refl)
 got (x ∷ xs) (suc c) lt = got xs c (omega (arith, lt))
 
-pub all_indexed : (stride n : ℕ) → 0 < stride → indexed stride n ≡ n
+pub all_indexed : (stride n : ℕ) → 0 < stride → indexed_columns stride n ≡ n
 all_indexed zero n h = absurd (omega (arith, h))
 all_indexed (suc k) n h = refl
 

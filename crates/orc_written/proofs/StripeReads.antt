@@ -15,7 +15,7 @@ use Rattle.orc_types.specs.Shapes.{Shape, width, shape_at}
 use Rattle.orc_columns.specs.Directory.{has_stream, slice, have_room, names_once, have_columns, is_directory}
 use Rattle.orc_columns.specs.Stripe.{encoding_at, columns_of, IsStripe}
 use Rattle.orc_written.specs.WrittenColumn.{Written}
-use Rattle.orc_written.specs.WrittenStripe.{AreFew, column_bytes, lines_from, HasColumns, indexed, IsWrittenStripe}
+use Rattle.orc_written.specs.WrittenStripe.{AreFew, column_bytes, lines_from, HasColumns, indexed_columns, IsWrittenStripe}
 use Rattle.orc_written.proofs.WrittenDirectory.{drop_front, take_front, from_zero, same_stream, other_kind, other_column, before, after, not_listed, lines_before, AreFound, lines_found, lines_once, lines_of, lines_room}
 use Rattle.orc_written.proofs.WrittenReads.{column_at, there, encodings_at, written_at, column_read, encodings_right, both_true}
 use Rattle.orc_written.specs.Indexes.{index_lines, index_bytes}
@@ -73,7 +73,7 @@ index_columns b (t ∷ ts) ls n le h = let lt : nat_lt b n ≡ true = lt-ltb b n
 
 -- ---- reading back
 
-pub indexed_few : (stride n : ℕ) → indexed stride n ≤ n
+pub indexed_few : (stride n : ℕ) → indexed_columns stride n ≤ n
 indexed_few zero n = omega arith
 indexed_few (suc k) n = omega arith
 

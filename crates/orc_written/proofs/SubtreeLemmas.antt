@@ -13,7 +13,7 @@ use Rattle.orc_types.specs.Columns.{cells}
 use Rattle.orc_types.specs.Fits.{RowsFit}
 use Rattle.orc_types.specs.Views.{shape, fields}
 use Rattle.orc_types.proofs.Together.{heads_fit, tails_fit}
-use Rattle.orc_types.proofs.Views.{named-is}
+use Rattle.orc_types.proofs.Views.{name_and_type-is}
 use Rattle.orc_columns.proofs.Arms.{some_width}
 use Rattle.orc_written.specs.WrittenColumn.{Written}
 use Rattle.orc_written.specs.WrittenStripe.{AreFew, HasColumns}
@@ -41,7 +41,7 @@ heads_at n (xs ∷ xss) = ap (λ ys. take 1 (drop n xs) ++ ys) (heads_at n xss)
 
 -- the fields from a place on: the first of them, and the others
 pub fields_at : (fs : List Field) (n : ℕ) (f : Field) → n < length fs → f ≡ get_or fs n f → fields (drop n fs) ≡ field (string_bytes f.name) (shape f.tree) (fields (drop (n + 1) fs))
-fields_at fs n f less is = rw (drop-cons fs n f, ← is, named-is f) (let e : suc n ≡ n + 1 = omega arith in ap (λ k. field (string_bytes f.name) (shape f.tree) (fields (drop k fs))) e)
+fields_at fs n f less is = rw (drop-cons fs n f, ← is, name_and_type-is f) (let e : suc n ≡ n + 1 = omega arith in ap (λ k. field (string_bytes f.name) (shape f.tree) (fields (drop k fs))) e)
 
 -- ---- which columns
 

@@ -6,7 +6,7 @@ use Rattle.orc_rle.specs.declared.sign.Rle.{Rle}
 use Rattle.orc_rle.specs.declared.sign.Rle.TheVariants.{One, Two}
 use Rattle.orc_rle.specs.declared.sign.Sign.{Sign}
 use Rattle.orc_rle.specs.declared.sign.Sign.TheVariants.{Signed, Unsigned}
-use Rattle.orc_rle.specs.WrittenLaws.{written_is_stream}
+use Rattle.orc_rle.specs.WrittenLaws.{written_one_is_stream}
 use Rattle.orc_rle.specs.TwoWrittenLaws.{written_two_is_stream}
 use Rattle.orc_rle.specs.ByteLaws.{bytes_written}
 use Rattle.orc_rle.specs.ByteLaws.{byte_run_some}
@@ -25,8 +25,6 @@ use Rattle.orc_types.specs.Types.{types, fields_types}
 use Rattle.orc_types.specs.Cells.{Cell, is_value, parts, values}
 use Rattle.orc_types.specs.Columns.{cells}
 use Rattle.orc_types.proofs.Trees.{length-types}
-use Rattle.orc_columns.specs.declared.version.Version.{Version}
-use Rattle.orc_columns.specs.declared.version.Version.TheVariants as version
 use Rattle.orc_columns.specs.Spellings.{AllStand, Standing, size, Grouped}
 use Rattle.orc_columns.specs.Numbers.{AreNumbers}
 use Rattle.orc_columns.specs.Bytes.{AreBytes}
@@ -67,16 +65,11 @@ marks_read ms bytes w = marks_if (list_all (λ m. m) ms) ms bytes refl w
 
 -- ---- values
 
--- the version of the runs that are written so
-abbrev version_of : Rle → Version
-version_of One = version.One
-version_of Two = version.Two
-
-direct_version : (rle : Rle) → version_at (direct rle).kind ≡ version_of rle
+direct_version : (rle : Rle) → version_at (direct rle).kind ≡ rle
 direct_version One = refl
 direct_version Two = refl
 
-dictionary_version : (rle : Rle) (n : ℕ) → version_at (dictionary rle n).kind ≡ version_of rle
+dictionary_version : (rle : Rle) (n : ℕ) → version_at (dictionary rle n).kind ≡ rle
 dictionary_version One n = refl
 dictionary_version Two n = refl
 
@@ -92,8 +85,8 @@ dictionary_size : (rle : Rle) (n : ℕ) → (dictionary rle n).dictionary_size �
 dictionary_size One n = refl
 dictionary_size Two n = refl
 
-ints_read : (rle : Rle) (sign : Sign) (ns : List ℤ) (bytes : List ℕ) → AreWrittenInts rle sign ns bytes → AreNumbers (version_of rle) sign bytes ns
-ints_read One sign ns bytes w = written_is_stream sign ns bytes w.1 w.0
+ints_read : (rle : Rle) (sign : Sign) (ns : List ℤ) (bytes : List ℕ) → AreWrittenInts rle sign ns bytes → AreNumbers rle sign bytes ns
+ints_read One sign ns bytes w = written_one_is_stream sign ns bytes w.1 w.0
 ints_read Two sign ns bytes w = written_two_is_stream sign ns bytes w.1 w.0
 
 -- the streams of a column are those that were written
@@ -101,10 +94,10 @@ pub record AreRead (x : Streams) (w : Written) : Type 0 where
   pub encoded : x.encoding ≡ w.encoding
   pub found : AreFound x.stream w
 
-numbers_at : (rle : Rle) (sign : Sign) (ns : List ℤ) (a b : List ℕ) (v : Version) → v ≡ version_of rle → a ≡ b → AreWrittenInts rle sign ns b → AreNumbers v sign a ns
+numbers_at : (rle : Rle) (sign : Sign) (ns : List ℤ) (a b : List ℕ) (v : Rle) → v ≡ rle → a ≡ b → AreWrittenInts rle sign ns b → AreNumbers v sign a ns
 numbers_at rle sign ns a b v e p w = rw (e, p) (ints_read rle sign ns b w)
 
-is_direct : (rle : Rle) (x : Streams) (w v : Written) → AreRead x w → w ≡ v → v.encoding ≡ direct rle → version_at x.encoding.kind ≡ version_of rle
+is_direct : (rle : Rle) (x : Streams) (w v : Written) → AreRead x w → w ≡ v → v.encoding ≡ direct rle → version_at x.encoding.kind ≡ rle
 is_direct rle x w v r e k = ap (λ (n : Encoding). version_at n.kind) (r.encoded ∙ ap (λ (u : Written). u.encoding) e ∙ k) ∙ direct_version rle
 
 groups_read : (rle : Rle) (x : Streams) (w : Written) (groups : List (List ℕ)) → AreRead x w → HasGroups rle w groups → Grouped (AreNumbers (version_at x.encoding.kind) Unsigned (x.stream 2)) (Is (x.stream 1)) groups
@@ -136,7 +129,7 @@ texts_if : (t : Bool) (rle : Rle) (x : Streams) (w : Written) (vs : List Cell) (
 texts_if true rle x w vs entries texts r stand h =
     let e : x.encoding ≡ dictionary rle (length entries) = r.encoded ∙ h.encoded in
     let uses : uses_dictionary x.encoding.kind ≡ true = ap (λ (n : Encoding). uses_dictionary n.kind) e ∙ dictionary_uses rle (length entries) in
-    let v : version_at x.encoding.kind ≡ version_of rle = ap (λ (n : Encoding). version_at n.kind) e ∙ dictionary_version rle (length entries) in
+    let v : version_at x.encoding.kind ≡ rle = ap (λ (n : Encoding). version_at n.kind) e ∙ dictionary_version rle (length entries) in
     let n : x.encoding.dictionary_size ≡ length entries = ap (λ (n : Encoding). n.dictionary_size) e ∙ dictionary_size rle (length entries) in
     subst (λ (b : Bool). SpellsTexts x b vs) (sym uses) (
       entries,

@@ -24,12 +24,15 @@ pub record AddsValues (is_written : Written → Type 0) (c : ℕ) (old new : Bod
   pub content : List ℕ
   pub lengths : List ℕ
   pub words : List ℕ
-  pub is : (marks : List ℕ) → is_written (record { encoding = encoding; marks = marks; content = content; lengths = lengths; words = words })
+  pub is : (marks : List ℕ)
+      → is_written (record { encoding = encoding; marks = marks; content = content; lengths = lengths; words = words })
   pub bytes : new.bytes.items ≡ old.bytes.items ++ (content ++ (lengths ++ words))
-  pub directory : new.directory.items ≡ old.directory.items ++ (line c 1 content ++ (line c 2 lengths ++ line c 3 words))
+  pub directory : new.directory.items
+      ≡ old.directory.items ++ (line c 1 content ++ (line c 2 lengths ++ line c 3 words))
 
 -- the streams of one more column
-pub record AddsColumn (rle : Rle) (s : Shape) (column : List Cell) (c : ℕ) (old new : Body) (encoding : Encoding) : Type 0 where
+pub record AddsColumn (rle : Rle) (s : Shape) (column : List Cell) (c : ℕ) (old new : Body)
+    (encoding : Encoding) : Type 0 where
   pub written : Written
   pub is : IsWrittenColumn rle s column written
   pub encoded : encoding ≡ written.encoding

@@ -3,16 +3,7 @@ use Rattle.std.specs.Prelude.{ℕ, ◌-◌, ℤ, pos, negsuc, nat_lt, if◌then�
 use Rattle.std.specs.List.{flat_map}
 use Rattle.std.specs.Option.{option_to_list}
 use Rattle.orc_types.specs.Cells.{Cell, null, leaf, list, struct, bool, int, date, text, bytes, list_of_cells}
-
-abbrev pub bool_in : Cell → Option Bool
-bool_in null = None
-bool_in (leaf (bool b)) = Some b
-bool_in (leaf (int n)) = None
-bool_in (leaf (date n)) = None
-bool_in (leaf (text t)) = None
-bool_in (leaf (bytes t)) = None
-bool_in (list cs) = None
-bool_in (struct cs) = None
+use Rattle.orc_stats.specs.Statistics.{bool_of}
 
 -- a whole number, or a date's day
 abbrev pub int_in : Cell → Option ℤ
@@ -49,13 +40,13 @@ size_in (list cs) = Some (length (list_of_cells cs))
 size_in (struct cs) = Some (length (list_of_cells cs))
 
 abbrev pub bools_in : List Cell → List Bool
-bools_in cs = flat_map (λ c. option_to_list (bool_in c)) cs
+bools_in cs = flat_map (λ c. option_to_list (bool_of c)) cs
 
 abbrev pub ints_in : List Cell → List ℤ
 ints_in cs = flat_map (λ c. option_to_list (int_in c)) cs
 
-abbrev pub octets_in : List Cell → List ℕ
-octets_in cs = flat_map (λ c. option_to_list (option_map byte_of (int_in c))) cs
+abbrev pub number_bytes_in : List Cell → List ℕ
+number_bytes_in cs = flat_map (λ c. option_to_list (option_map byte_of (int_in c))) cs
 
 abbrev pub all_bytes_in : List Cell → List (List ℕ)
 all_bytes_in cs = flat_map (λ c. option_to_list (bytes_in c)) cs

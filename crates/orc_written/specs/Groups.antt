@@ -1,4 +1,5 @@
--- The groups of rows that row indexes tell of, and the cells that each column has of them (ORC specification, "Row Group Index").
+-- The groups of rows that row indexes tell of, and the cells that each column has of them (ORC specification,
+-- "Row Group Index").
 use Rattle.std.specs.Prelude.{◌≡◌, ℕ, ◌+◌, ◌*◌, ◌/◌, ◌%◌, ◌<◌, min, List, length, map, take}
 use Rattle.std.specs.List.{range_with_len}
 use Rattle.orc_types.specs.Cells.{Cell}
@@ -27,8 +28,10 @@ bounds_within fs c structs firsts = map (λ start. length (cells_within fs c (ta
 
 -- the groups of the columns of s from number c on are those of t over these cells, with these bounds
 abbrev pub AreGroupsFrom : Shape → List Cell → List ℕ → ℕ → Shape → List Cell → List ℕ → Type 0
-AreGroupsFrom s rows firsts c t column bounds = (d : ℕ) → d < width t → bounds_of s (c + d) rows firsts ≡ bounds_of t d column bounds
+AreGroupsFrom s rows firsts c t column bounds =
+    (d : ℕ) → d < width t → bounds_of s (c + d) rows firsts ≡ bounds_of t d column bounds
 
 -- the same of the fields of structs
 abbrev pub AreFieldGroupsFrom : Shape → List Cell → List ℕ → ℕ → Fields → List (List Cell) → List ℕ → Type 0
-AreFieldGroupsFrom s rows firsts c fs structs bounds = (d : ℕ) → d < widths fs → bounds_of s (c + d) rows firsts ≡ bounds_within fs d structs bounds
+AreFieldGroupsFrom s rows firsts c fs structs bounds =
+    (d : ℕ) → d < widths fs → bounds_of s (c + d) rows firsts ≡ bounds_within fs d structs bounds

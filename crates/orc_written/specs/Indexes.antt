@@ -1,5 +1,5 @@
--- The row indexes of a stripe's columns as they are written: one a column, in front of the streams of data (ORC specification, "Stripes", "Row Group
--- Index").
+-- The row indexes of a stripe's columns as they are written: one a column, in front of the streams of data (ORC
+-- specification, "Stripes", "Row Group Index").
 use Rattle.std.specs.Prelude.{◌≡◌, ℕ, zero, suc, ◌+◌, ◌<◌, Some, List, [], ◌∷◌, ◌++◌, length, slice_get}
 use Rattle.std.specs.List.{flat_map}
 use Rattle.orc_wire.specs.declared.stripe_footer.StreamMsg.{StreamMsg}
@@ -39,13 +39,15 @@ abbrev pub index_bytes : List (List ℕ) → List ℕ
 index_bytes indexes = flat_map (λ t. t) indexes
 
 -- the indexes of the first n columns, of groups that begin with these rows
-pub record HasIndexes (s : Shape) (rows : List Cell) (firsts : List ℕ) (columns : List Written) (n : ℕ) (indexes : List (List ℕ)) : Type 0 where
+pub record HasIndexes (s : Shape) (rows : List Cell) (firsts : List ℕ) (columns : List Written) (n : ℕ)
+    (indexes : List (List ℕ)) : Type 0 where
   pub counted : length indexes ≡ n
   pub each : (c : ℕ) (w : Written) (t : List ℕ) → slice_get columns c ≡ Some w → slice_get indexes c ≡ Some t
       → IsWrittenIndex (shape_at s c) (streams_written w) (cells s c rows) (bounds_of s c rows firsts) t
 
 -- the body has the bytes and the lines of the indexes of the first n columns
-pub record HaveIndexes (s : Shape) (rows : List Cell) (firsts : List ℕ) (columns : List Written) (n : ℕ) (body : Body) : Type 0 where
+pub record HaveIndexes (s : Shape) (rows : List Cell) (firsts : List ℕ) (columns : List Written) (n : ℕ)
+    (body : Body) : Type 0 where
   pub indexes : List (List ℕ)
   pub are : HasIndexes s rows firsts columns n indexes
   pub bytes_are : body.bytes.items ≡ index_bytes indexes
@@ -66,7 +68,9 @@ pub record AreAllStreams (footer : StripeFooter) (bytes : List ℕ) (streams : L
 -- they are those that were written
 pub record AreAsWritten (columns : List Written) (streams : List ColumnStreams) : Type 0 where
   pub counted : length columns ≡ length streams
-  pub each : (c : ℕ) (w : Written) (r : ColumnStreams) → slice_get columns c ≡ Some w → slice_get streams c ≡ Some r → AreStreams (streams_written w) r
+  pub each : (c : ℕ) (w : Written) (r : ColumnStreams)
+      → slice_get columns c ≡ Some w → slice_get streams c ≡ Some r
+      → AreStreams (streams_written w) r
 
 -- the streams of column c are there, and spell these cells
 abbrev pub SpellColumn : List ColumnStreams → ℕ → Shape → List Cell → Type 0
@@ -79,4 +83,5 @@ SpellFrom streams c t column = (d : ℕ) → d < width t → SpellColumn streams
 
 -- the same of the fields of structs
 abbrev pub SpellFieldsFrom : List ColumnStreams → ℕ → Fields → List (List Cell) → Type 0
-SpellFieldsFrom streams c fs structs = (d : ℕ) → d < widths fs → SpellColumn streams (c + d) (shape_within fs d) (cells_within fs d structs)
+SpellFieldsFrom streams c fs structs =
+    (d : ℕ) → d < widths fs → SpellColumn streams (c + d) (shape_within fs d) (cells_within fs d structs)

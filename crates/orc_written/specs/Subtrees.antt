@@ -1,22 +1,26 @@
--- A part of a type's columns as the columns of the type at its root, with the cells of that one (ORC specification, "Types": columns are
--- numbered in pre-order).
-use Rattle.std.specs.Prelude.{◌≡◌, ℕ, ◌+◌, ◌<◌, ◌^◌, List, true, length}
+-- A part of a type's columns as the columns of the type at its root, with the cells of that one (ORC
+-- specification, "Types": columns are numbered in pre-order).
+use Rattle.std.specs.Prelude.{◌≡◌, ℕ, ◌+◌, ◌<◌, List, true, length}
 use Rattle.std.specs.List.{AllByRecursion}
 use Rattle.orc_rle.specs.declared.sign.Rle.{Rle}
 use Rattle.orc_types.specs.Shapes.{Shape, Fields, width, widths, shape_at, shape_within}
 use Rattle.orc_types.specs.Cells.{Cell, cells_of}
 use Rattle.orc_types.specs.Columns.{cells, cells_within}
 use Rattle.orc_types.specs.Fits.{each_fits}
+use Rattle.orc_columns.specs.Stripe.{cell_limit}
 use Rattle.orc_written.specs.declared.columns.Columns.{Columns}
 use Rattle.orc_written.specs.WrittenStripe.{HasColumns, HaveStats}
 
 -- the columns of s from number c on, over the rows, are those of t over these cells
 abbrev pub AreColumnsFrom : Shape → List Cell → ℕ → Shape → List Cell → Type 0
-AreColumnsFrom s rows c t column = (d : ℕ) → d < width t → (shape_at s (c + d) ≡ shape_at t d) × (cells s (c + d) rows ≡ cells t d column)
+AreColumnsFrom s rows c t column =
+    (d : ℕ) → d < width t → (shape_at s (c + d) ≡ shape_at t d) × (cells s (c + d) rows ≡ cells t d column)
 
 -- the same of the fields of structs, each struct a list of cells
 abbrev pub AreFieldsFrom : Shape → List Cell → ℕ → Fields → List (List Cell) → Type 0
-AreFieldsFrom s rows c fs structs = (d : ℕ) → d < widths fs → (shape_at s (c + d) ≡ shape_within fs d) × (cells s (c + d) rows ≡ cells_within fs d structs)
+AreFieldsFrom s rows c fs structs =
+    (d : ℕ) → d < widths fs
+    → (shape_at s (c + d) ≡ shape_within fs d) × (cells s (c + d) rows ≡ cells_within fs d structs)
 
 -- each struct has a cell of each field
 abbrev pub FieldsFit : Fields → List (List Cell) → Type 0
@@ -24,7 +28,7 @@ FieldsFit fs structs = AllByRecursion (λ x. each_fits (cells_of x) fs ≡ true)
 
 -- no column of the fields has more cells than a stripe may have
 abbrev pub FieldsAreFew : Fields → List (List Cell) → Type 0
-FieldsAreFew fs structs = (d : ℕ) → d < widths fs → length (cells_within fs d structs) < 2 ^ 31
+FieldsAreFew fs structs = (d : ℕ) → d < widths fs → length (cells_within fs d structs) < cell_limit
 
 -- the first n columns of the rows are written, and their statistics
 pub record HasWritten (rle : Rle) (s : Shape) (rows : List Cell) (n : ℕ) (out : Columns) : Type 0 where

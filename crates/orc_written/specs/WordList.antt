@@ -5,11 +5,11 @@ use Rattle.std.specs.List.{Contains}
 use Rattle.std.specs.List.Sorted.{IsStrictlySortedBy}
 use Rattle.std.specs.Ordering.{nat_cmp}
 use Rattle.std.specs.Cmp.Lexicographic.{slice_cmp}
-use Rattle.orc_written.specs.declared.cell_values.Piece.{Piece}
+use Rattle.orc_written.specs.declared.cell_values.ByteString.{ByteString}
 
--- the bytes of pieces
-abbrev pub piece_bytes : List Piece → List (List ℕ)
-piece_bytes ps = map (λ (p : Piece). p.0.now) ps
+-- the bytes of strings
+abbrev pub byte_strings : List ByteString → List (List ℕ)
+byte_strings ps = map (λ (p : ByteString). p.0.now) ps
 
 -- the bytes that the references point to
 abbrev pub lent_bytes : List (Bor (List ℕ)) → List (List ℕ)

@@ -1,5 +1,5 @@
--- What the writer makes of a column's cells (ORC specification, "Column Encodings").
--- The specification leaves the encoding to the writer. Ours takes a dictionary where it is worth it, and leaves out streams without bytes.
+-- What the writer makes of a column's cells (ORC specification, "Column Encodings"). The specification leaves
+-- the encoding to the writer. Ours takes a dictionary where it is worth it, and leaves out streams without bytes.
 use Rattle.std.specs.Prelude.{◌≡◌, ℕ, ℤ, Bool, true, false, List, [], length, map}
 use Rattle.orc_rle.specs.declared.sign.Rle.{Rle}
 use Rattle.orc_rle.specs.declared.sign.Rle.TheVariants.{One, Two}
@@ -17,7 +17,8 @@ use Rattle.orc_columns.specs.Columns.{IsBool, IsByte, IsInt, IsDate, IsText, IsB
 use Rattle.orc_written.specs.WordList.{AreDistinct, AreNamed, is_worth}
 use Rattle.orc_written.specs.WrittenStreams.{AreWrittenInts, AreWrittenMarks}
 
--- a column as it is written: its encoding, and the bytes of PRESENT, DATA, LENGTH and DICTIONARY_DATA; a stream that it hasn't has none
+-- a column as it is written: its encoding, and the bytes of PRESENT, DATA, LENGTH and DICTIONARY_DATA; a stream
+-- that it hasn't has none
 pub record Written : Type 0 where
   pub encoding : Encoding
   pub marks : List ℕ
@@ -58,7 +59,8 @@ pub record HasNumbers (rle : Rle) (w : Written) (numbers : List ℤ) : Type 0 wh
 pub record HasGroups (rle : Rle) (w : Written) (groups : List (List ℕ)) : Type 0 where
   pub content_is : w.content ≡ joined groups
   pub lengths_are : AreWrittenInts rle Unsigned (map size groups) w.lengths
-  pub others : w ≡ record { encoding = direct rle; marks = w.marks; content = w.content; lengths = w.lengths; words = [] }
+  pub others : w
+      ≡ record { encoding = direct rle; marks = w.marks; content = w.content; lengths = w.lengths; words = [] }
 
 -- DATA has the place of each text among the entries, DICTIONARY_DATA and LENGTH have the entries
 pub record HasWords (rle : Rle) (w : Written) (entries texts : List (List ℕ)) : Type 0 where

@@ -1,4 +1,5 @@
--- What the writer makes of the values of one stream (ORC specification, "Run Length Encoding", "Boolean Run Length Encoding").
+-- What the writer makes of the values of one stream (ORC specification, "Run Length Encoding", "Boolean Run
+-- Length Encoding").
 use Rattle.std.specs.Prelude.{◌≡◌, ℕ, ℤ, Bool, true, false, List, []}
 use Rattle.std.specs.List.{list_all}
 use Rattle.orc_rle.specs.declared.sign.Rle.{Rle}

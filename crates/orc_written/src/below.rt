@@ -57,7 +57,8 @@ fn lend_field<'r, 'a>(
     row: &'r Row<'a>,
     place: usize,
 ) -> Result<(), AllocError>
-    ensures { OnOk result (lent_cells found.new.items ≡ lent_cells found.old.items ++ take 1 (drop place (parts (view row.now)))) }
+    ensures { OnOk result
+        (lent_cells found.new.items ≡ lent_cells found.old.items ++ take 1 (drop place (parts (view row.now)))) }
 {
     let Some(field) = field_at(row, place) else {
         return Ok(());
@@ -72,7 +73,8 @@ pub(crate) fn fields_of<'r, 'a>(
     structs: &[Lent<'r, 'a>],
     place: usize,
 ) -> Result<Vec<Lent<'r, 'a>>, AllocError>
-    ensures { IfOk result (λ found. lent_cells found.items ≡ flat_map (λ c. take 1 (drop place (parts c))) (lent_cells structs.now)) }
+    ensures { IfOk result
+        (λ found. lent_cells found.items ≡ flat_map (λ c. take 1 (drop place (parts c))) (lent_cells structs.now)) }
 {
     let mut found = Vec::new(alloc);
     for row in structs {

@@ -1,15 +1,16 @@
+//! The streams of a stripe as they are written, one behind the other, and the directory that lists them.
 ghost use Rattle.std.specs.Prelude.{◌≡◌, ◌++◌, ◌≤◌, length, drop, OnOk};
 ghost use Rattle.orc_rle.specs.Values.{AllInRange};
 ghost use Rattle.orc_rle.specs.Cut.{IsWritten};
 ghost use Rattle.orc_rle.specs.ByteRun.{byte_rule};
 ghost use Rattle.orc_rle.specs.BitStream.{IsBitText};
 ghost use Rattle.orc_columns.specs.Spellings.{joined};
-ghost use Rattle.orc_written.specs.WordList.{piece_bytes};
+ghost use Rattle.orc_written.specs.WordList.{byte_strings};
 ghost use Rattle.orc_written.specs.WrittenStreams.{AreWrittenInts};
 ghost use Rattle.orc_written.specs.WrittenStripe.{line};
 ghost use Rattle.orc_written.specs.Adding.{AddsStream, AppendsText};
 
-use crate::cell_values::{Piece, append_pieces};
+use crate::cell_values::{ByteString, append_byte_strings};
 use orc_rle::{BitRuns, ByteRuns, Rle, RunCodec, Sign, V1, V2};
 use orc_wire::StreamMsg;
 use std::alloc::AllocError;
@@ -40,10 +41,10 @@ fn append_bits(bits: &[bool], out: &mut Vec<u8>) -> Result<(), AllocError>
 }
 
 /// Appends the bytes in runs.
-fn append_octets(octets: &[u8], out: &mut Vec<u8>) -> Result<(), AllocError>
-    ensures { OnOk result (AppendsText (IsWritten byte_rule octets.now) out.old.items out.new.items) }
+fn append_bytes(bytes: &[u8], out: &mut Vec<u8>) -> Result<(), AllocError>
+    ensures { OnOk result (AppendsText (IsWritten byte_rule bytes.now) out.old.items out.new.items) }
 {
-    match ByteRuns::put_runs(octets, out) {
+    match ByteRuns::put_runs(bytes, out) {
         Ok(()) => Ok(()),
         Err(_) => Err(AllocError),
     }
@@ -61,7 +62,8 @@ impl Body {
     fn list(&mut self, column: u32, kind: u32, start: usize) -> Result<(), AllocError>
         requires { start ≤ length self.old.bytes.items }
         ensures bytes { OnOk result (self.new.bytes.items ≡ self.old.bytes.items) }
-        ensures directory { OnOk result (self.new.directory.items ≡ self.old.directory.items ++ line column kind (drop start self.old.bytes.items)) }
+        ensures directory { OnOk result (self.new.directory.items
+            ≡ self.old.directory.items ++ line column kind (drop start self.old.bytes.items)) }
     {
         let length = self.bytes.len() - start;
         if length == 0 {
@@ -107,30 +109,31 @@ impl Body {
     }
 
     /// Adds a stream of bytes in runs.
-    pub(crate) fn put_octets(
+    pub(crate) fn put_bytes(
         &mut self,
         column: u32,
         kind: u32,
-        octets: &[u8],
+        bytes: &[u8],
     ) -> Result<(), AllocError>
-        ensures { OnOk result (AddsStream (IsWritten byte_rule octets.now) column kind self.old self.new) }
+        ensures { OnOk result (AddsStream (IsWritten byte_rule bytes.now) column kind self.old self.new) }
     {
         let start = self.bytes.len();
-        append_octets(octets, &mut self.bytes)?;
+        append_bytes(bytes, &mut self.bytes)?;
         self.list(column, kind, start)
     }
 
     /// Adds a stream of the pieces' bytes, one after the other.
-    pub(crate) fn put_pieces(
+    pub(crate) fn put_byte_strings(
         &mut self,
         column: u32,
         kind: u32,
-        pieces: &[Piece<'_>],
+        strings: &[ByteString<'_>],
     ) -> Result<(), AllocError>
-        ensures { OnOk result (AddsStream (λ text. text ≡ joined (piece_bytes pieces.now)) column kind self.old self.new) }
+        ensures { OnOk result
+            (AddsStream (λ text. text ≡ joined (byte_strings strings.now)) column kind self.old self.new) }
     {
         let start = self.bytes.len();
-        append_pieces(pieces, &mut self.bytes)?;
+        append_byte_strings(strings, &mut self.bytes)?;
         self.list(column, kind, start)
     }
 }

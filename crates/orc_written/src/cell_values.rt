@@ -7,16 +7,17 @@ ghost use Rattle.orc_types.specs.Cells.{is_value};
 ghost use Rattle.orc_types.specs.Views.{view, cell_of_value};
 ghost use Rattle.orc_types.specs.Lent.{lent_cells};
 ghost use Rattle.orc_columns.specs.Spellings.{size, joined};
+ghost use Rattle.orc_stats.specs.Statistics as stats;
 ghost use Rattle.orc_written.specs.CellValues as spec;
-ghost use Rattle.orc_written.specs.CellValues.{bool_in, int_in, bytes_in, size_in, bools_in, ints_in, octets_in, all_bytes_in, sizes_in};
-ghost use Rattle.orc_written.specs.WordList.{piece_bytes};
+ghost use Rattle.orc_written.specs.CellValues.{int_in, bytes_in, size_in, bools_in, ints_in, number_bytes_in, all_bytes_in, sizes_in};
+ghost use Rattle.orc_written.specs.WordList.{byte_strings};
 
 use orc_types::{Lent, Row, Value};
 use std::alloc::{AllocError, Global};
 
-/// Bytes that are lent, as one element of a slice.
+/// The bytes of a text, or of a byte string, that are lent: one element of a slice.
 #[derive(Clone, Copy)]
-pub(crate) struct Piece<'r>(pub(crate) &'r [u8]);
+pub(crate) struct ByteString<'r>(pub(crate) &'r [u8]);
 
 /// Whether no cell is null.
 pub(crate) fn are_all_values(cells: &[Lent<'_, '_>]) -> bool
@@ -43,7 +44,7 @@ pub(crate) fn marks_in(alloc: Global, cells: &[Lent<'_, '_>]) -> Result<Vec<bool
 
 /// The truth value in a cell.
 fn bool_of(row: &Row<'_>) -> Option<bool>
-    ensures { result ≡ bool_in (view row.now) }
+    ensures { result ≡ stats.bool_of (view row.now) }
 {
     match row {
         Some(Value::Bool(bit)) => Some(*bit),
@@ -108,16 +109,16 @@ fn byte_of(number: i64) -> u8
 }
 
 /// The bytes that stand for the whole numbers among the cells.
-pub(crate) fn octets_of(alloc: Global, cells: &[Lent<'_, '_>]) -> Result<Vec<u8>, AllocError>
-    ensures { IfOk result (λ octets. octets.items ≡ octets_in (lent_cells cells.now)) }
+pub(crate) fn number_bytes_of(alloc: Global, cells: &[Lent<'_, '_>]) -> Result<Vec<u8>, AllocError>
+    ensures { IfOk result (λ bytes. bytes.items ≡ number_bytes_in (lent_cells cells.now)) }
 {
-    let mut octets = Vec::new(alloc);
+    let mut bytes = Vec::new(alloc);
     for cell in cells {
         if let Some(number) = int_of(cell.0) {
-            octets.push(byte_of(number))?;
+            bytes.push(byte_of(number))?;
         }
     }
-    Ok(octets)
+    Ok(bytes)
 }
 
 /// A text's bytes, or bytes.
@@ -142,19 +143,19 @@ fn bytes_of<'r>(row: &'r Row<'_>) -> Option<&'r [u8]>
 }
 
 /// The texts, or the byte strings, among the cells.
-pub(crate) fn pieces_of<'r>(
+pub(crate) fn byte_strings_of<'r>(
     alloc: Global,
     cells: &[Lent<'r, '_>],
-) -> Result<Vec<Piece<'r>>, AllocError>
-    ensures { IfOk result (λ pieces. piece_bytes pieces.items ≡ all_bytes_in (lent_cells cells.now)) }
+) -> Result<Vec<ByteString<'r>>, AllocError>
+    ensures { IfOk result (λ strings. byte_strings strings.items ≡ all_bytes_in (lent_cells cells.now)) }
 {
-    let mut pieces = Vec::new(alloc);
+    let mut strings = Vec::new(alloc);
     for cell in cells {
         if let Some(bytes) = bytes_of(cell.0) {
-            pieces.push(Piece(bytes))?;
+            strings.push(ByteString(bytes))?;
         }
     }
-    Ok(pieces)
+    Ok(strings)
 }
 
 /// A length, or a place, as a number of a stream. None is above 2^63 - 1, so the refusal never comes.
@@ -168,25 +169,31 @@ pub(crate) fn number_of(length: usize) -> Result<i64, AllocError>
     }
 }
 
-/// How many bytes each piece has.
-pub(crate) fn piece_lengths(alloc: Global, pieces: &[Piece<'_>]) -> Result<Vec<i64>, AllocError>
-    ensures lengths { IfOk result (λ found. found.items ≡ map size (piece_bytes pieces.now)) }
+/// How many bytes each string has.
+pub(crate) fn byte_string_lengths(
+    alloc: Global,
+    strings: &[ByteString<'_>],
+) -> Result<Vec<i64>, AllocError>
+    ensures lengths { IfOk result (λ found. found.items ≡ map size (byte_strings strings.now)) }
     ensures in_range { IfOk result (λ found. AllInRange Unsigned found.items) }
 {
     let mut found = Vec::new(alloc);
-    for piece in pieces {
-        found.push(number_of(piece.0.len())?)?;
+    for string in strings {
+        found.push(number_of(string.0.len())?)?;
     }
     Ok(found)
 }
 
-/// Appends the pieces, one after the other.
+/// Appends the strings, one after the other.
 #[tactic(auto, using(crate::proofs::CellValuesLemmas::joined_is))]
-pub(crate) fn append_pieces(pieces: &[Piece<'_>], out: &mut Vec<u8>) -> Result<(), AllocError>
-    ensures { OnOk result (out.new.items ≡ out.old.items ++ joined (piece_bytes pieces.now)) }
+pub(crate) fn append_byte_strings(
+    strings: &[ByteString<'_>],
+    out: &mut Vec<u8>,
+) -> Result<(), AllocError>
+    ensures { OnOk result (out.new.items ≡ out.old.items ++ joined (byte_strings strings.now)) }
 {
-    for piece in pieces {
-        out.extend_from_slice(piece.0)?;
+    for string in strings {
+        out.extend_from_slice(string.0)?;
     }
     Ok(())
 }

@@ -1,5 +1,5 @@
 //! The columns of rows as they are written: each before those below it, its streams, its encoding and its statistic.
-ghost use Rattle.std.specs.Prelude.{◌≡◌, ◌+◌, ◌<◌, ◌^◌, ℕ, List, map, length, IfOk, OnOk};
+ghost use Rattle.std.specs.Prelude.{◌≡◌, ◌+◌, ◌<◌, ℕ, List, map, length, IfOk, OnOk};
 ghost use Rattle.orc_types.specs.Shapes.{Shape, width, widths, shape_at};
 ghost use Rattle.orc_types.specs.Cells.{Cell, parts, values};
 ghost use Rattle.orc_types.specs.Columns as spec;
@@ -8,6 +8,7 @@ ghost use Rattle.orc_types.specs.Views.{shape, fields as fields_view};
 ghost use Rattle.orc_types.specs.Lent.{lent_cells};
 ghost use Rattle.orc_stats.specs.Kinds.{kind_of};
 ghost use Rattle.orc_stats.specs.Statistics.{stat};
+ghost use Rattle.orc_columns.specs.Stripe.{cell_limit};
 ghost use Rattle.orc_written.specs.WrittenStripe.{AreFew};
 ghost use Rattle.orc_written.specs.Subtrees.{AreColumnsFrom, AreFieldsFrom, FieldsFit, FieldsAreFew, HasWritten};
 
@@ -31,7 +32,7 @@ pub(crate) struct Columns {
 /// The statistic of a column's cells.
 fn cells_stat(alloc: Global, tree: &Tree, cells: &[Lent<'_, '_>]) -> Result<Stat, AllocError>
     requires fit { RowsFit (shape tree.now) (lent_cells cells.now) }
-    requires few { length (lent_cells cells.now) < 2 ^ 31 }
+    requires few { length (lent_cells cells.now) < cell_limit }
     ensures { IfOk result (λ found. found ≡ stat (kind_of (shape tree.now)) (lent_cells cells.now)) }
 {
     match of_cells(alloc, StatKind::of_type(tree), cells) {
@@ -49,9 +50,11 @@ fn put_column(
     out: &mut Columns,
 ) -> Result<(), AllocError>
     requires fit { RowsFit (shape tree.now) (lent_cells cells.now) }
-    requires few { length (lent_cells cells.now) < 2 ^ 31 }
+    requires few { length (lent_cells cells.now) < cell_limit }
     ensures { OnOk result ((s : Shape) (rows : List Cell) (c : ℕ) → HasWritten rle s rows c out.old
-        → shape_at s c ≡ shape tree.now → spec.cells s c rows ≡ lent_cells cells.now → HasWritten rle s rows (c + 1) out.new) }
+        → shape_at s c ≡ shape tree.now
+        → spec.cells s c rows ≡ lent_cells cells.now
+        → HasWritten rle s rows (c + 1) out.new) }
 {
     let Ok(column) = u32::try_from(out.encodings.len()) else {
         return Err(AllocError);
@@ -74,7 +77,8 @@ pub(crate) fn put_columns(
 ) -> Result<(), AllocError>
     requires fit { RowsFit (shape tree.now) (lent_cells cells.now) }
     requires few { AreFew (shape tree.now) (lent_cells cells.now) }
-    ensures { OnOk result ((s : Shape) (rows : List Cell) (c : ℕ) → AreColumnsFrom s rows c (shape tree.now) (lent_cells cells.now)
+    ensures { OnOk result ((s : Shape) (rows : List Cell) (c : ℕ)
+        → AreColumnsFrom s rows c (shape tree.now) (lent_cells cells.now)
         → HasWritten rle s rows c out.old → HasWritten rle s rows (c + width (shape tree.now)) out.new) }
 {
     put_column(alloc, rle, tree, cells, out)?;

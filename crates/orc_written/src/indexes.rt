@@ -110,11 +110,13 @@ pub(crate) fn put_indexes(
     requires spelled { SpellFrom streams.now (length out.old.directory.items) (shape tree.now) (lent_cells cells.now) }
     requires bounds { AreBounds (length (lent_cells cells.now)) bounds.now }
     requires there { length out.old.directory.items < length streams.now }
-    ensures counted { OnOk result (length out.new.directory.items ≡ length out.old.directory.items + width (shape tree.now)) }
+    ensures counted { OnOk result
+        (length out.new.directory.items ≡ length out.old.directory.items + width (shape tree.now)) }
     ensures indexes { OnOk result ((s : Shape) (rows : List Cell) (firsts : List ℕ) (columns : List Written) (c : ℕ)
         → AreAsWritten columns streams.now → AreColumnsFrom s rows c (shape tree.now) (lent_cells cells.now)
         → AreGroupsFrom s rows firsts c (shape tree.now) (lent_cells cells.now) bounds.now
-        → HaveIndexes s rows firsts columns c out.old → HaveIndexes s rows firsts columns (c + width (shape tree.now)) out.new) }
+        → HaveIndexes s rows firsts columns c out.old
+        → HaveIndexes s rows firsts columns (c + width (shape tree.now)) out.new) }
 {
     let own = streams_at(streams, out.directory.len());
     put_column_index(alloc, tree, own, cells, bounds, out)?;
@@ -144,13 +146,18 @@ fn put_field_indexes(
     out: &mut Body,
 ) -> Result<(), AllocError>
     requires fit { FieldsFit (fields_view fields.now) (map parts (values (lent_cells structs.now))) }
-    requires spelled { SpellFieldsFrom streams.now (length out.old.directory.items) (fields_view fields.now) (map parts (values (lent_cells structs.now))) }
+    requires spelled { SpellFieldsFrom streams.now (length out.old.directory.items) (fields_view fields.now)
+        (map parts (values (lent_cells structs.now))) }
     requires bounds { AreBounds (length (values (lent_cells structs.now))) bounds.now }
-    ensures counted { OnOk result (length out.new.directory.items ≡ length out.old.directory.items + widths (fields_view fields.now)) }
+    ensures counted { OnOk result
+        (length out.new.directory.items ≡ length out.old.directory.items + widths (fields_view fields.now)) }
     ensures indexes { OnOk result ((s : Shape) (rows : List Cell) (firsts : List ℕ) (columns : List Written) (c : ℕ)
-        → AreAsWritten columns streams.now → AreFieldsFrom s rows c (fields_view fields.now) (map parts (values (lent_cells structs.now)))
-        → AreFieldGroupsFrom s rows firsts c (fields_view fields.now) (map parts (values (lent_cells structs.now))) bounds.now
-        → HaveIndexes s rows firsts columns c out.old → HaveIndexes s rows firsts columns (c + widths (fields_view fields.now)) out.new) }
+        → AreAsWritten columns streams.now
+        → AreFieldsFrom s rows c (fields_view fields.now) (map parts (values (lent_cells structs.now)))
+        → AreFieldGroupsFrom s rows firsts c (fields_view fields.now)
+        (map parts (values (lent_cells structs.now))) bounds.now
+        → HaveIndexes s rows firsts columns c out.old
+        → HaveIndexes s rows firsts columns (c + widths (fields_view fields.now)) out.new) }
 {
     for (place, field) in fields.iter().enumerate() {
         let cells = fields_of(alloc, structs, place)?;

@@ -1,3 +1,4 @@
+//! Whether rows are few enough for one stripe: each column has a greatest number of cells.
 ghost use Rattle.std.specs.Prelude.{IfOk, IfErr, ◌≡◌, map};
 ghost use Rattle.std.specs.Bool.{OnTrue, OnFalse};
 ghost use Rattle.orc_types.specs.Cells.{parts, values};
@@ -38,8 +39,10 @@ fn fields_are_few(
     fields: &[Field],
     structs: &[Lent<'_, '_>],
 ) -> Result<bool, AllocError>
-    ensures yes { IfOk result (λ few. OnTrue few (FieldsAreFew (fields_view fields.now) (map parts (values (lent_cells structs.now))))) }
-    ensures no { IfOk result (λ few. OnFalse few (FieldsAreFew (fields_view fields.now) (map parts (values (lent_cells structs.now))) → ⊥)) }
+    ensures yes { IfOk result
+        (λ few. OnTrue few (FieldsAreFew (fields_view fields.now) (map parts (values (lent_cells structs.now))))) }
+    ensures no { IfOk result
+        (λ few. OnFalse few (FieldsAreFew (fields_view fields.now) (map parts (values (lent_cells structs.now))) → ⊥)) }
 {
     for (place, field) in fields.iter().enumerate() {
         let cells = fields_of(alloc, structs, place)?;

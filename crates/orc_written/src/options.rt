@@ -1,9 +1,11 @@
+//! How stripes are written.
 ghost use Rattle.std.specs.Prelude.{◌≡◌, ◌<◌, ◌≤◌, ◌⊎◌, ◌^◌, IfSome, IfNone};
+ghost use Rattle.orc_columns.specs.Stripe.{cell_limit};
 
 use orc_rle::Rle;
 
-/// How stripes are written: the version of integer run lengths, after how many rows a group of the row index begins, and after how
-/// many rows a stripe is closed.
+/// How stripes are written: the version of integer run lengths, after how many rows a group of the row index
+/// begins, and after how many rows a stripe is closed.
 #[derive(Clone, Copy, Debug, PartialEq, Eq)]
 pub struct Options {
     rle: Rle,
@@ -11,7 +13,7 @@ pub struct Options {
     stripe_rows: u32,
     ghost fits: { stride < 2 ^ 32 },
     ghost some: { 0 < stripe_rows },
-    ghost most: { stripe_rows < 2 ^ 31 },
+    ghost most: { stripe_rows < cell_limit },
 }
 
 impl Options {
@@ -20,8 +22,10 @@ impl Options {
     ///
     /// `None` where `stripe_rows` is 0 or more than that.
     pub fn new(rle: Rle, stride: u32, stripe_rows: u32) -> Option<Options>
-        ensures some { IfSome result (λ options. (options.rle ≡ rle) × (options.stride ≡ stride) × (options.stripe_rows ≡ stripe_rows)) }
-        ensures none { IfNone result ((stripe_rows ≡ 0) ⊎ (2 ^ 31 ≤ stripe_rows)) }
+        ensures some { IfSome result (λ options. (options.rle ≡ rle)
+            × (options.stride ≡ stride)
+            × (options.stripe_rows ≡ stripe_rows)) }
+        ensures none { IfNone result ((stripe_rows ≡ 0) ⊎ (cell_limit ≤ stripe_rows)) }
     {
         if stripe_rows == 0 || stripe_rows >= 0x8000_0000 {
             return None;
@@ -51,7 +55,7 @@ impl Options {
     pub fn stripe_rows(self) -> u32
         ensures rows { result ≡ self.stripe_rows }
         ensures some { 0 < result }
-        ensures most { result < 2 ^ 31 }
+        ensures most { result < cell_limit }
     {
         self.stripe_rows
     }

@@ -7,8 +7,8 @@ ghost use Rattle.orc_types.specs.Shapes.{scalar};
 ghost use Rattle.orc_types.specs.Views.{shape};
 ghost use Rattle.orc_types.specs.Fits.{RowsFit};
 ghost use Rattle.orc_types.specs.Lent.{lent_cells};
-ghost use Rattle.orc_written.specs.CellValues.{bools_in, octets_in, ints_in, sizes_in};
-ghost use Rattle.orc_written.specs.WordList.{piece_bytes, AreNamed};
+ghost use Rattle.orc_written.specs.CellValues.{bools_in, number_bytes_in, ints_in, sizes_in};
+ghost use Rattle.orc_written.specs.WordList.{byte_strings, AreNamed};
 ghost use Rattle.orc_written.specs.WrittenStreams.{AreWrittenMarks};
 ghost use Rattle.orc_written.specs.WrittenColumn as spec;
 ghost use Rattle.orc_written.specs.WrittenColumn.{HasBits, HasBytes, HasNumbers, HasGroups, HasWords, HasTexts, HasSizes, WritesValues};
@@ -16,8 +16,8 @@ ghost use Rattle.orc_written.specs.Adding.{AddsStream, AddsValues, AddsColumn};
 
 use crate::body::Body;
 use crate::cell_values::{
-    Piece, are_all_values, bools_of, ints_of, marks_in, octets_of, piece_lengths, pieces_of,
-    sizes_of,
+    ByteString, are_all_values, bools_of, byte_string_lengths, byte_strings_of, ints_of, marks_in,
+    number_bytes_of, sizes_of,
 };
 use crate::word_list::{WordList, entries_of, is_worth, word_list_of};
 use orc_rle::{Rle, Sign};
@@ -83,7 +83,8 @@ fn put_marks(
     cells: &[Lent<'_, '_>],
     body: &mut Body,
 ) -> Result<(), AllocError>
-    ensures { OnOk result (AddsStream (AreWrittenMarks (map is_value (lent_cells cells.now))) column 0 body.old body.new) }
+    ensures { OnOk result
+        (AddsStream (AreWrittenMarks (map is_value (lent_cells cells.now))) column 0 body.old body.new) }
 {
     if are_all_values(cells) {
         return Ok(());
@@ -107,16 +108,17 @@ fn put_bools(
 }
 
 /// Adds the DATA of numbers of 8 bits.
-fn put_octets(
+fn put_bytes(
     alloc: Global,
     column: u32,
     cells: &[Lent<'_, '_>],
     body: &mut Body,
 ) -> Result<Encoding, AllocError>
-    ensures { IfOk result (AddsValues (λ w. HasBytes w (octets_in (lent_cells cells.now))) column body.old body.new) }
+    ensures { IfOk result
+        (AddsValues (λ w. HasBytes w (number_bytes_in (lent_cells cells.now))) column body.old body.new) }
 {
-    let octets = octets_of(alloc, cells)?;
-    body.put_octets(column, DATA, &octets)?;
+    let bytes = number_bytes_of(alloc, cells)?;
+    body.put_bytes(column, DATA, &bytes)?;
     Ok(plain())
 }
 
@@ -128,25 +130,26 @@ fn put_numbers(
     cells: &[Lent<'_, '_>],
     body: &mut Body,
 ) -> Result<Encoding, AllocError>
-    ensures { IfOk result (AddsValues (λ w. HasNumbers rle w (ints_in (lent_cells cells.now))) column body.old body.new) }
+    ensures { IfOk result
+        (AddsValues (λ w. HasNumbers rle w (ints_in (lent_cells cells.now))) column body.old body.new) }
 {
     let numbers = ints_of(alloc, cells)?;
     body.put_ints(rle, column, DATA, Sign::Signed, &numbers)?;
     Ok(direct(rle))
 }
 
-/// Adds the pieces, and their lengths.
+/// Adds the strings, and their lengths.
 fn put_groups(
     alloc: Global,
     rle: Rle,
     column: u32,
-    pieces: &[Piece<'_>],
+    strings: &[ByteString<'_>],
     body: &mut Body,
 ) -> Result<Encoding, AllocError>
-    ensures { IfOk result (AddsValues (λ w. HasGroups rle w (piece_bytes pieces.now)) column body.old body.new) }
+    ensures { IfOk result (AddsValues (λ w. HasGroups rle w (byte_strings strings.now)) column body.old body.new) }
 {
-    let lengths = piece_lengths(alloc, pieces)?;
-    body.put_pieces(column, DATA, pieces)?;
+    let lengths = byte_string_lengths(alloc, strings)?;
+    body.put_byte_strings(column, DATA, strings)?;
     body.put_ints(rle, column, LENGTH, Sign::Unsigned, &lengths)?;
     Ok(direct(rle))
 }
@@ -160,16 +163,18 @@ fn put_words(
     body: &mut Body,
 ) -> Result<Encoding, AllocError>
     requires { AllInRange Unsigned found.now.places.items }
-    ensures { IfOk result (λ encoding. (texts : List (List ℕ)) → AreNamed (piece_bytes found.now.entries.items) found.now.places.items texts
-        → AddsValues (λ w. HasWords rle w (piece_bytes found.now.entries.items) texts) column body.old body.new encoding) }
+    ensures { IfOk result (λ encoding. (texts : List (List ℕ))
+        → AreNamed (byte_strings found.now.entries.items) found.now.places.items texts
+        → AddsValues (λ w. HasWords rle w (byte_strings found.now.entries.items) texts)
+        column body.old body.new encoding) }
 {
     let Ok(entries) = u32::try_from(found.entries.len()) else {
         return Err(AllocError);
     };
-    let lengths = piece_lengths(alloc, &found.entries)?;
+    let lengths = byte_string_lengths(alloc, &found.entries)?;
     body.put_ints(rle, column, DATA, Sign::Unsigned, &found.places)?;
     body.put_ints(rle, column, LENGTH, Sign::Unsigned, &lengths)?;
-    body.put_pieces(column, DICTIONARY_DATA, &found.entries)?;
+    body.put_byte_strings(column, DICTIONARY_DATA, &found.entries)?;
     Ok(dictionary(rle, entries))
 }
 
@@ -178,17 +183,17 @@ fn put_texts(
     alloc: Global,
     rle: Rle,
     column: u32,
-    pieces: &[Piece<'_>],
+    strings: &[ByteString<'_>],
     body: &mut Body,
 ) -> Result<Encoding, AllocError>
-    ensures { IfOk result (AddsValues (λ w. HasTexts rle w (piece_bytes pieces.now)) column body.old body.new) }
+    ensures { IfOk result (AddsValues (λ w. HasTexts rle w (byte_strings strings.now)) column body.old body.new) }
 {
-    let entries = entries_of(alloc, pieces)?;
-    if is_worth(entries.len(), pieces.len()) {
-        let found = word_list_of(alloc, entries, pieces)?;
+    let entries = entries_of(alloc, strings)?;
+    if is_worth(entries.len(), strings.len()) {
+        let found = word_list_of(alloc, entries, strings)?;
         put_words(alloc, rle, column, &found, body)
     } else {
-        put_groups(alloc, rle, column, pieces, body)
+        put_groups(alloc, rle, column, strings, body)
     }
 }
 
@@ -200,7 +205,8 @@ fn put_sizes(
     cells: &[Lent<'_, '_>],
     body: &mut Body,
 ) -> Result<Encoding, AllocError>
-    ensures { IfOk result (AddsValues (λ w. HasSizes rle w (sizes_in (lent_cells cells.now))) column body.old body.new) }
+    ensures { IfOk result
+        (AddsValues (λ w. HasSizes rle w (sizes_in (lent_cells cells.now))) column body.old body.new) }
 {
     let sizes = sizes_of(alloc, cells)?;
     body.put_ints(rle, column, LENGTH, Sign::Unsigned, &sizes)?;
@@ -217,22 +223,23 @@ fn put_scalars(
     body: &mut Body,
 ) -> Result<Encoding, AllocError>
     ensures { (o : List ℕ) → RowsFit (scalar kind o) (lent_cells cells.now)
-        → IfOk result (AddsValues (λ w. WritesValues rle w (scalar kind o) (values (lent_cells cells.now))) column body.old body.new) }
+        → IfOk result (AddsValues (λ w. WritesValues rle w (scalar kind o) (values (lent_cells cells.now)))
+        column body.old body.new) }
 {
     match kind {
         Scalar::Boolean => put_bools(alloc, column, cells, body),
-        Scalar::Byte => put_octets(alloc, column, cells, body),
+        Scalar::Byte => put_bytes(alloc, column, cells, body),
         Scalar::Short => put_numbers(alloc, rle, column, cells, body),
         Scalar::Int => put_numbers(alloc, rle, column, cells, body),
         Scalar::Long => put_numbers(alloc, rle, column, cells, body),
         Scalar::Date => put_numbers(alloc, rle, column, cells, body),
         Scalar::String => {
-            let pieces = pieces_of(alloc, cells)?;
-            put_texts(alloc, rle, column, &pieces, body)
+            let strings = byte_strings_of(alloc, cells)?;
+            put_texts(alloc, rle, column, &strings, body)
         }
         Scalar::Binary => {
-            let pieces = pieces_of(alloc, cells)?;
-            put_groups(alloc, rle, column, &pieces, body)
+            let strings = byte_strings_of(alloc, cells)?;
+            put_groups(alloc, rle, column, &strings, body)
         }
     }
 }
@@ -247,7 +254,8 @@ fn put_values(
     body: &mut Body,
 ) -> Result<Encoding, AllocError>
     requires { RowsFit (shape tree.now) (lent_cells cells.now) }
-    ensures { IfOk result (AddsValues (λ w. WritesValues rle w (shape tree.now) (values (lent_cells cells.now))) column body.old body.new) }
+    ensures { IfOk result (AddsValues (λ w. WritesValues rle w (shape tree.now) (values (lent_cells cells.now)))
+        column body.old body.new) }
 {
     match tree {
         Tree::Scalar(kind, _) => put_scalars(alloc, rle, *kind, column, cells, body),

@@ -7,16 +7,16 @@ ghost use Rattle.std.specs.Cmp.Lexicographic.{slice_cmp};
 ghost use Rattle.orc_rle.specs.declared.sign.Sign.TheVariants.{Unsigned};
 ghost use Rattle.orc_rle.specs.Values.{AllInRange};
 ghost use Rattle.orc_written.specs.WordList as spec;
-ghost use Rattle.orc_written.specs.WordList.{piece_bytes, lent_bytes, AreDistinct, AreNamed};
+ghost use Rattle.orc_written.specs.WordList.{byte_strings, lent_bytes, AreDistinct, AreNamed};
 
-use crate::cell_values::{Piece, number_of};
+use crate::cell_values::{ByteString, number_of};
 use std::alloc::{AllocError, Global};
 
 /// The texts of a column, each once, and for each text its place among them.
 #[derive(Drop)]
 pub(crate) struct WordList<'r> {
     /// In the order of unsigned bytes.
-    pub(crate) entries: Vec<Piece<'r>>,
+    pub(crate) entries: Vec<ByteString<'r>>,
     pub(crate) places: Vec<i64>,
 }
 
@@ -29,12 +29,12 @@ pub(crate) fn is_worth(entries: usize, texts: usize) -> bool
 }
 
 /// The texts, as a list that can be sorted.
-fn texts_of<'r>(alloc: Global, pieces: &[Piece<'r>]) -> Result<Vec<&'r [u8]>, AllocError>
-    ensures { IfOk result (λ texts. lent_bytes texts.items ≡ piece_bytes pieces.now) }
+fn texts_of<'r>(alloc: Global, strings: &[ByteString<'r>]) -> Result<Vec<&'r [u8]>, AllocError>
+    ensures { IfOk result (λ texts. lent_bytes texts.items ≡ byte_strings strings.now) }
 {
     let mut texts = Vec::new(alloc);
-    for piece in pieces {
-        texts.push(piece.0)?;
+    for string in strings {
+        texts.push(string.0)?;
     }
     Ok(texts)
 }
@@ -64,52 +64,57 @@ fn place_of<'r>(entries: &Vec<&'r [u8]>, text: &'r [u8]) -> usize
 fn places_of<'r>(
     alloc: Global,
     entries: &Vec<&'r [u8]>,
-    pieces: &[Piece<'r>],
+    strings: &[ByteString<'r>],
 ) -> Result<Vec<i64>, AllocError>
-    requires { AreDistinct (piece_bytes pieces.now) (lent_bytes entries.now.items) }
-    ensures named { IfOk result (λ places. AreNamed (lent_bytes entries.now.items) places.items (piece_bytes pieces.now)) }
+    requires { AreDistinct (byte_strings strings.now) (lent_bytes entries.now.items) }
+    ensures named { IfOk result
+        (λ places. AreNamed (lent_bytes entries.now.items) places.items (byte_strings strings.now)) }
     ensures in_range { IfOk result (λ places. AllInRange Unsigned places.items) }
 {
     let mut places = Vec::new(alloc);
-    for piece in pieces {
-        places.push(number_of(place_of(entries, piece.0))?)?;
+    for string in strings {
+        places.push(number_of(place_of(entries, string.0))?)?;
     }
     Ok(places)
 }
 
 /// The same texts, as elements of a slice.
-fn pieces_from<'r>(alloc: Global, texts: Vec<&'r [u8]>) -> Result<Vec<Piece<'r>>, AllocError>
-    ensures { IfOk result (λ pieces. piece_bytes pieces.items ≡ lent_bytes texts.entry.items) }
+fn byte_strings_from<'r>(
+    alloc: Global,
+    texts: Vec<&'r [u8]>,
+) -> Result<Vec<ByteString<'r>>, AllocError>
+    ensures { IfOk result (λ strings. byte_strings strings.items ≡ lent_bytes texts.entry.items) }
 {
-    let mut pieces = Vec::new(alloc);
+    let mut strings = Vec::new(alloc);
     for text in texts {
-        pieces.push(Piece(text))?;
+        strings.push(ByteString(text))?;
     }
-    Ok(pieces)
+    Ok(strings)
 }
 
 /// The texts, each once, in the order of unsigned bytes.
 pub(crate) fn entries_of<'r>(
     alloc: Global,
-    pieces: &[Piece<'r>],
+    strings: &[ByteString<'r>],
 ) -> Result<Vec<&'r [u8]>, AllocError>
-    ensures { IfOk result (λ entries. AreDistinct (piece_bytes pieces.now) (lent_bytes entries.items)) }
+    ensures { IfOk result (λ entries. AreDistinct (byte_strings strings.now) (lent_bytes entries.items)) }
 {
-    Ok(distinct(texts_of(alloc, pieces)?))
+    Ok(distinct(texts_of(alloc, strings)?))
 }
 
 /// The entries, and the place of each text among them.
 pub(crate) fn word_list_of<'r>(
     alloc: Global,
     entries: Vec<&'r [u8]>,
-    pieces: &[Piece<'r>],
+    strings: &[ByteString<'r>],
 ) -> Result<WordList<'r>, AllocError>
-    requires { AreDistinct (piece_bytes pieces.now) (lent_bytes entries.items) }
-    ensures entries { IfOk result (λ found. piece_bytes found.entries.items ≡ lent_bytes entries.entry.items) }
-    ensures named { IfOk result (λ found. AreNamed (piece_bytes found.entries.items) found.places.items (piece_bytes pieces.now)) }
+    requires { AreDistinct (byte_strings strings.now) (lent_bytes entries.items) }
+    ensures entries { IfOk result (λ found. byte_strings found.entries.items ≡ lent_bytes entries.entry.items) }
+    ensures named { IfOk result
+        (λ found. AreNamed (byte_strings found.entries.items) found.places.items (byte_strings strings.now)) }
     ensures in_range { IfOk result (λ found. AllInRange Unsigned found.places.items) }
 {
-    let places = places_of(alloc, &entries, pieces)?;
-    let entries = pieces_from(alloc, entries)?;
+    let places = places_of(alloc, &entries, strings)?;
+    let entries = byte_strings_from(alloc, entries)?;
     Ok(WordList { entries, places })
 }

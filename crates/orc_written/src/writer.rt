@@ -8,7 +8,7 @@ ghost use Rattle.orc_types.specs.Views.{views};
 ghost use Rattle.orc_columns.specs.Stripe.{IsStripe};
 ghost use Rattle.orc_written.specs.Groups.{starts};
 ghost use Rattle.orc_written.specs.Indexes.{HaveIndexes};
-ghost use Rattle.orc_written.specs.WrittenStripe.{AreFew, indexed, HasColumns, HaveStats, IsWrittenStripe};
+ghost use Rattle.orc_written.specs.WrittenStripe.{AreFew, indexed_columns, HasColumns, HaveStats, IsWrittenStripe};
 ghost use Rattle.orc_written.specs.Subtrees.{HasWritten};
 ghost use Rattle.orc_columns.specs.declared.fault.StripeFault.TheVariants.{OutOfMemory};
 
@@ -71,10 +71,13 @@ fn all_indexes(
     requires stride { 0 < stride }
     requires fit { RowsFit schema.now (views rows.now) }
     requires few { AreFew schema.now (views rows.now) }
-    requires columns { (rle : Rle) × HasColumns rle schema.now (views rows.now) (width schema.now) bytes.now footer.now.streams footer.now.columns }
+    requires columns { (rle : Rle) × HasColumns rle schema.now (views rows.now) (width schema.now)
+        bytes.now footer.now.streams footer.now.columns }
     ensures { IfOk result (λ body. (rle : Rle)
-        (h : HasColumns rle schema.now (views rows.now) (width schema.now) bytes.now footer.now.streams footer.now.columns)
-        → HaveIndexes schema.now (views rows.now) (starts stride (length (views rows.now))) h.columns (width schema.now) body) }
+        (h : HasColumns rle schema.now (views rows.now) (width schema.now)
+        bytes.now footer.now.streams footer.now.columns)
+        → HaveIndexes schema.now (views rows.now) (starts stride (length (views rows.now))) h.columns
+        (width schema.now) body) }
 {
     let mut out = Body {
         bytes: Vec::new(alloc),
@@ -98,10 +101,13 @@ fn indexes_of(
 ) -> Result<Body, AllocError>
     requires fit { RowsFit schema.now (views rows.now) }
     requires few { AreFew schema.now (views rows.now) }
-    requires columns { (rle : Rle) × HasColumns rle schema.now (views rows.now) (width schema.now) bytes.now footer.now.streams footer.now.columns }
+    requires columns { (rle : Rle) × HasColumns rle schema.now (views rows.now) (width schema.now)
+        bytes.now footer.now.streams footer.now.columns }
     ensures { IfOk result (λ body. (rle : Rle)
-        (h : HasColumns rle schema.now (views rows.now) (width schema.now) bytes.now footer.now.streams footer.now.columns)
-        → HaveIndexes schema.now (views rows.now) (starts stride (length (views rows.now))) h.columns (indexed stride (width schema.now)) body) }
+        (h : HasColumns rle schema.now (views rows.now) (width schema.now)
+        bytes.now footer.now.streams footer.now.columns)
+        → HaveIndexes schema.now (views rows.now) (starts stride (length (views rows.now))) h.columns
+        (indexed_columns stride (width schema.now)) body) }
 {
     if stride == 0 {
         return Ok(Body {
@@ -113,19 +119,21 @@ fn indexes_of(
 }
 
 /// Puts the streams behind the indexes, and the footer behind both.
-fn joined(
+fn assemble(
     indexes: Body,
     streams: Vec<u8>,
     footer: StripeFooter,
     stats: Vec<Stat>,
     number_of_rows: u64,
 ) -> Result<StripeOut, AllocError>
-    ensures written { IfOk result (λ out. (rle : Rle) (stride : ℕ) (s : Shape) (rows : List Cell) → length rows ≡ number_of_rows
+    ensures written { IfOk result (λ out. (rle : Rle) (stride : ℕ) (s : Shape) (rows : List Cell)
+        → length rows ≡ number_of_rows
         → (h : HasColumns rle s rows (width s) streams.items footer.streams footer.columns)
-        → HaveIndexes s rows (starts stride (length rows)) h.columns (indexed stride (width s)) indexes
+        → HaveIndexes s rows (starts stride (length rows)) h.columns (indexed_columns stride (width s)) indexes
         → IsWrittenStripe rle stride s rows out.info out.bytes.items) }
     ensures stats { IfOk result (λ out. out.stats.items ≡ stats.items) }
 {
+    // for its contract alone: a directory reads back from its text where each of its encodings does
     whole_laws();
     let mut bytes = indexes.bytes;
     let mut lines = indexes.directory;
@@ -172,7 +180,9 @@ pub fn write_stripe(
     requires fit { RowsFit schema.now (views rows.now) }
     requires few { AreFew schema.now (views rows.now) }
     ensures stripe { IfOk result (λ out. IsStripe schema.now out.info out.bytes.items (views rows.now)) }
-    ensures written { IfOk result (λ out. IsWrittenStripe options.now.rle options.now.stride schema.now (views rows.now) out.info out.bytes.items) }
+    ensures written { IfOk result
+        (λ out. IsWrittenStripe options.now.rle options.now.stride schema.now
+        (views rows.now) out.info out.bytes.items) }
     ensures stats { IfOk result (λ out. HaveStats schema.now (views rows.now) (width schema.now) out.stats.items) }
     ensures refused { IfErr result (λ fault. fault ≡ OutOfMemory) }
 {
@@ -184,5 +194,5 @@ pub fn write_stripe(
     };
     let stride = options.stride() as usize;
     let indexes = indexes_of(alloc, stride, schema, &footer, &streams, rows)?;
-    Ok(joined(indexes, streams, footer, columns.stats, rows.len() as u64)?)
+    Ok(assemble(indexes, streams, footer, columns.stats, rows.len() as u64)?)
 }

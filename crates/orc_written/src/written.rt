@@ -1,3 +1,4 @@
+//! Laws of stripes as they are written. The function does nothing: its contract is what it is for.
 ghost use Rattle.std.specs.Prelude.{◌≡◌, ◌<◌, ℕ, List};
 ghost use Rattle.orc_rle.specs.declared.sign.Rle.{Rle};
 ghost use Rattle.orc_wire.specs.declared.stripe_info.StripeInfo.{StripeInfo};

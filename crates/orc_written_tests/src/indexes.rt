@@ -89,7 +89,8 @@ static WHOLE: [Whole; 3] = [
     ),
 ];
 
-/// The text of a schema, the version of run lengths, the stride, the lines of rows; a column, and its positions in each group.
+/// The text of a schema, the version of run lengths, the stride, the lines of rows; a column, and its positions
+/// in each group.
 type Case = (
     &'static str,
     Rle,
@@ -429,7 +430,8 @@ fn whole_stripes(rt: HostRuntime) {
     assert!(rt; answer == Ok(()));
 }
 
-/// Where the index of a column begins and how long it is, if the directory begins with an index of each column up to it.
+/// Where the index of a column begins and how long it is, if the directory begins with an index of each column
+/// up to it.
 fn place_of(footer: &StripeFooter, column: usize) -> Option<(usize, usize)> {
     let mut start = 0usize;
     for (number, line) in footer.streams.as_slice().iter().enumerate() {

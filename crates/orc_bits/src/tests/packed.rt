@@ -1,3 +1,4 @@
+//! Tests of packed numbers: tables of bytes and what they hold, and each width there and back.
 ghost use Rattle.std.specs.Prelude.{◌^◌, ◌<◌, ◌≤◌, length};
 ghost use Rattle.orc_bits.specs.Packed.{AllFit};
 ghost use Rattle.orc_bits.specs.Width.{width_at};

@@ -1,3 +1,4 @@
+//! Tests of zigzag and of varints: the shortest, longer ones, and those that are refused.
 use super::with_memory;
 use crate::*;
 use std::alloc::Global;

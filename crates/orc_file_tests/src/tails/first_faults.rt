@@ -1,7 +1,7 @@
 //! Files that fail tests: each one alone, and two at once, of which the first answers.
 
-use super::opened;
 use super::reads::read_seen;
+use super::tail_of;
 use orc_file::FileFault;
 use orc_test_support::SEVENS;
 use orc_types::TypeFault;
@@ -121,7 +121,7 @@ fn two_tests_fail(rt: HostRuntime) {
             let mut bytes = SEVENS;
             change(&mut bytes, later);
             change(&mut bytes, changes);
-            let fault = opened(rt.alloc(), &bytes).err();
+            let fault = tail_of(rt.alloc(), &bytes).err();
             assert_eq!(rt; fault, Some(*wanted), "tests {i} and {j}");
         }
     }
@@ -147,7 +147,7 @@ fn each_changed_byte_is_answered(rt: HostRuntime) {
             let mut bytes = SEVENS;
             overwrite(&mut bytes, place, &[byte]);
             let is_same = bytes == SEVENS;
-            let is_right = match opened(rt.alloc(), &bytes) {
+            let is_right = match tail_of(rt.alloc(), &bytes) {
                 Ok(_) => place >= 3,
                 Err(fault) => !is_same && is_of_bytes(fault),
             };

@@ -1,6 +1,6 @@
 //! Files at the limits of their numbers of stripes and rows, and past them.
 
-use super::opened;
+use super::tail_of;
 use orc_bits::put_varint;
 use orc_file::FileFault;
 use std::alloc::Global;
@@ -83,7 +83,7 @@ fn stripes_opened(alloc: Global, stripes: &[Stripes], rows: u64) -> Result<usize
         Err(_) => file_of(alloc, stripes, rows)?,
         Ok(file) => file,
     };
-    Ok(opened(alloc, &file)?.stripes.as_slice().len())
+    Ok(tail_of(alloc, &file)?.stripes.as_slice().len())
 }
 
 #[test]

@@ -1,6 +1,6 @@
 //! Files opened, and their tails put again.
 
-use super::opened;
+use super::tail_of;
 use orc_file::{FileFault, Tail};
 use orc_test_support::{EMPTY, NAMED, SEVENS, TWICE};
 use std::alloc::Global;
@@ -8,7 +8,7 @@ use std::process::Abort;
 
 /// The first bytes of a file, and the text of its tail behind them.
 fn put_once(alloc: Global, bytes: &[u8], front: usize) -> Result<Vec<u8>, FileFault> {
-    let tail = opened(alloc, bytes)?;
+    let tail = tail_of(alloc, bytes)?;
     if !tail.is_laid() {
         return Err(FileFault::BadStripe(0));
     }
@@ -43,7 +43,7 @@ fn files_are_put_again(rt: HostRuntime) {
 
 #[test]
 fn pairs_of_the_user_are_read(rt: HostRuntime) -> Result<(), FileFault> {
-    let tail = opened(rt.alloc(), &NAMED)?;
+    let tail = tail_of(rt.alloc(), &NAMED)?;
     let [pair] = tail.user.as_slice() else {
         return Err(FileFault::BadFooter);
     };
@@ -54,7 +54,7 @@ fn pairs_of_the_user_are_read(rt: HostRuntime) -> Result<(), FileFault> {
 
 #[test]
 fn two_stripes_are_read(rt: HostRuntime) -> Result<(), FileFault> {
-    let tail = opened(rt.alloc(), &TWICE)?;
+    let tail = tail_of(rt.alloc(), &TWICE)?;
     assert_eq!(rt; tail.rows, 6);
     let [first, second] = tail.stripes.as_slice() else {
         return Err(FileFault::BadFooter);
@@ -68,7 +68,7 @@ fn two_stripes_are_read(rt: HostRuntime) -> Result<(), FileFault> {
 fn second_at(alloc: Global, place: u8) -> Result<Tail, FileFault> {
     let mut bytes = TWICE;
     bytes[104] = place;
-    opened(alloc, &bytes)
+    tail_of(alloc, &bytes)
 }
 
 #[test]
@@ -84,7 +84,7 @@ fn second_stripes_lie_behind_the_first(rt: HostRuntime) {
 fn gaps_are_accepted(rt: HostRuntime) -> Result<(), FileFault> {
     let mut bytes = TWICE;
     bytes[96] = 0x02;
-    let tail = opened(rt.alloc(), &bytes)?;
+    let tail = tail_of(rt.alloc(), &bytes)?;
     assert!(rt; !tail.is_laid());
     Ok(())
 }

@@ -1,5 +1,5 @@
 //! What comes of merging: files and refusals.
-use super::merged;
+use super::merge_all;
 use orc_file::FileFault;
 use orc_merge::MergeFault;
 use orc_test_support::{EMPTY, NAMED, SEVENS, TWICE};
@@ -16,10 +16,10 @@ fn pairs_of_files(rt: HostRuntime) -> Result<(), MergeFault> {
         (&NAMED, &NAMED, &NAMED),
     ];
     for (first, second, wanted) in pairs {
-        let out = merged(rt.alloc(), &[first, second])?;
+        let out = merge_all(rt.alloc(), &[first, second])?;
         assert!(rt; out.as_slice() == wanted);
     }
-    let alone = merged(rt.alloc(), &[&SEVENS])?;
+    let alone = merge_all(rt.alloc(), &[&SEVENS])?;
     assert!(rt; alone.as_slice() == SEVENS.as_slice());
     Ok(())
 }
@@ -44,7 +44,7 @@ static CHANGES: [(usize, u8, MergeFault); 4] = [
 fn inputs_of_another_kind(rt: HostRuntime) {
     for (place, byte, wanted) in CHANGES {
         let other = changed(SEVENS, place, byte);
-        let fault = merged(rt.alloc(), &[&SEVENS, &other]).err();
+        let fault = merge_all(rt.alloc(), &[&SEVENS, &other]).err();
         assert_eq!(rt; fault, Some(wanted), "byte {place}");
     }
 }
@@ -53,7 +53,7 @@ fn inputs_of_another_kind(rt: HostRuntime) {
 fn user_metadata_and_no_input(rt: HostRuntime) {
     let mut other = NAMED;
     other[28] = 1;
-    let fault = merged(rt.alloc(), &[&NAMED, &other]).err();
+    let fault = merge_all(rt.alloc(), &[&NAMED, &other]).err();
     assert_eq!(rt; fault, Some(MergeFault::UserMetadataConflict(1)));
-    assert_eq!(rt; merged(rt.alloc(), &[]).err(), Some(MergeFault::NoInput));
+    assert_eq!(rt; merge_all(rt.alloc(), &[]).err(), Some(MergeFault::NoInput));
 }

@@ -24,7 +24,7 @@ fn numbers_of<S: Source + Drop>(alloc: Global, source: S) -> Result<Vec<i64>, Fi
 }
 
 /// The file that two files are joined into.
-fn joined(alloc: Global, first: &[u8], second: &[u8]) -> Result<Vec<u8>, MergeFault> {
+fn merge_two(alloc: Global, first: &[u8], second: &[u8]) -> Result<Vec<u8>, MergeFault> {
     let mut inputs = [SliceSource::new(first), SliceSource::new(second)];
     let mut out = VecSink::new(alloc);
     merge(alloc, &mut inputs, &mut out)?;
@@ -33,7 +33,7 @@ fn joined(alloc: Global, first: &[u8], second: &[u8]) -> Result<Vec<u8>, MergeFa
 
 /// The numbers of two files, one behind the other.
 fn numbers_joined(alloc: Global) -> Result<Vec<i64>, MergeFault> {
-    let file = joined(alloc, &SEVENS, &UPWARDS)?;
+    let file = merge_two(alloc, &SEVENS, &UPWARDS)?;
     match numbers_of(alloc, SliceSource::new(&file)) {
         Ok(numbers) => Ok(numbers),
         Err(FileFault::OutOfMemory) => Err(MergeFault::OutOfMemory),

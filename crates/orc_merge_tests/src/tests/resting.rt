@@ -1,7 +1,7 @@
 //! Inputs that rest: one of them is open at a time.
 ghost use Rattle.std.specs.Prelude.{Some, length};
 
-use super::merged;
+use super::merge_all;
 use orc_file::{Failures, SliceSource, Source, SourceFault};
 use orc_merge::{MergeFault, merge};
 use orc_test_support::{EMPTY, FailSink, Full, SEVENS, TWICE};
@@ -115,7 +115,7 @@ fn merged_resting(alloc: Global, room: usize) -> Result<Rested, MergeFault> {
 
 #[test]
 fn one_input_is_open_at_a_time(rt: HostRuntime) -> Result<(), MergeFault> {
-    let wanted = merged(rt.alloc(), &[&EMPTY, &TWICE, &SEVENS])?;
+    let wanted = merge_all(rt.alloc(), &[&EMPTY, &TWICE, &SEVENS])?;
     let rested = merged_resting(rt.alloc(), 1000)?;
     assert_eq!(rt; rested.answer, Ok(()));
     assert!(rt; !rested.some_open);

@@ -1,6 +1,6 @@
 //! Statistics of merged files, in every order and grouping.
 use super::files::{MINUS_ONE, MOST, MOST_AND_ONE, ONE};
-use super::merged;
+use super::merge_all;
 use orc_file::{FileFault, OrcFile, SliceSource};
 use orc_merge::MergeFault;
 use orc_stats::Body;
@@ -38,8 +38,8 @@ const ALL: Numbers = (
 );
 
 /// What merging two files writes.
-fn joined<'a>(alloc: Global, first: &'a [u8], second: &'a [u8]) -> Result<Vec<u8>, MergeFault> {
-    merged(alloc, &[first, second])
+fn merge_two<'a>(alloc: Global, first: &'a [u8], second: &'a [u8]) -> Result<Vec<u8>, MergeFault> {
+    merge_all(alloc, &[first, second])
 }
 
 #[test]
@@ -53,13 +53,13 @@ fn orders_and_groupings(rt: HostRuntime) -> Result<(), MergeFault> {
         (&MINUS_ONE, &ONE, &MOST),
     ];
     for (a, b, c) in orders {
-        let flat = merged(rt.alloc(), &[a, b, c])?;
+        let flat = merge_all(rt.alloc(), &[a, b, c])?;
         assert_eq!(rt; numbers(rt.alloc(), &flat), Some(ALL));
-        let front = joined(rt.alloc(), a, b)?;
-        let left = joined(rt.alloc(), &front, c)?;
+        let front = merge_two(rt.alloc(), a, b)?;
+        let left = merge_two(rt.alloc(), &front, c)?;
         assert!(rt; left.as_slice() == flat.as_slice());
-        let back = joined(rt.alloc(), b, c)?;
-        let right = joined(rt.alloc(), a, &back)?;
+        let back = merge_two(rt.alloc(), b, c)?;
+        let right = merge_two(rt.alloc(), a, &back)?;
         assert!(rt; right.as_slice() == flat.as_slice());
     }
     Ok(())
@@ -67,7 +67,7 @@ fn orders_and_groupings(rt: HostRuntime) -> Result<(), MergeFault> {
 
 #[test]
 fn a_sum_that_no_stripe_has(rt: HostRuntime) -> Result<(), MergeFault> {
-    let out = merged(rt.alloc(), &[&MOST_AND_ONE, &MINUS_ONE])?;
+    let out = merge_all(rt.alloc(), &[&MOST_AND_ONE, &MINUS_ONE])?;
     let wanted = (
         3,
         Some(false),

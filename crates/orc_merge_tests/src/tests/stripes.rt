@@ -1,7 +1,7 @@
 //! Stripes' bytes on their way, and devices that fail.
 use super::devices::LongSource;
 use super::files::LONG_END;
-use super::merged;
+use super::merge_all;
 use orc_file::{FileFault, OrcFile, SliceSource, VecSink};
 use orc_merge::{MergeFault, merge};
 use orc_test_support::{FailSink, FailSource, Full, SEVENS, TWICE};
@@ -67,7 +67,7 @@ fn a_bad_stripe(rt: HostRuntime) -> Result<(), MergeFault> {
     bad[3] = 0x80;
     let mut wanted = TWICE;
     wanted[22] = 0x80;
-    let out = merged(rt.alloc(), &[&SEVENS, &bad])?;
+    let out = merge_all(rt.alloc(), &[&SEVENS, &bad])?;
     assert!(rt; out.as_slice() == wanted.as_slice());
     let fault = fault_of_rows(rt.alloc(), &out);
     assert!(rt; matches!(fault, Some(FileFault::Stripe(1, _))));

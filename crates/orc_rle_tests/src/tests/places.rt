@@ -148,6 +148,7 @@ fn place_of<C: RunCodec>(
     sign: Sign,
     n: usize,
 ) -> Result<Pos, RunFault> {
+    // for its contract alone: the first value of a stream begins at its start
     seek_laws::<C>();
     let values = C::decode_all(alloc, bytes, sign)?;
     if n > values.len() {
@@ -239,6 +240,7 @@ fn bytes_from(
 
 /// The writer's position of a byte, where there are that many.
 fn byte_place_of(alloc: Global, bytes: &[u8], total: usize, n: usize) -> Result<Pos, RunFault> {
+    // for its contract alone: the first byte of a stream begins at its start
     byte_seek_laws();
     let values = ByteRuns::decode(alloc, bytes, total)?;
     if n > values.len() {
@@ -302,7 +304,9 @@ fn places_of_bytes(rt: HostRuntime) {
 
 /// The writer's position of a boolean, where there are that many.
 fn bit_place_of(alloc: Global, bytes: &[u8], total: usize, n: usize) -> Result<BitPos, RunFault> {
+    // for its contract alone: the first byte of a stream begins at its start
     byte_seek_laws();
+    // for its contract alone: a position of a boolean names that boolean, and those behind it go on from there
     bit_seek_laws();
     let values = BitRuns::decode(alloc, bytes, total)?;
     if n > values.len() {

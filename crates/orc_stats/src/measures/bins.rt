@@ -1,3 +1,4 @@
+//! BINARY: the sum of lengths.
 use crate::fault::StatFault;
 use crate::measures::{Measures, Sizes};
 use crate::seen::Seen;

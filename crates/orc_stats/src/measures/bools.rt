@@ -1,3 +1,4 @@
+//! BOOLEAN: how many are true.
 use crate::fault::StatFault;
 use crate::measures::{Measures, Sizes};
 use crate::seen::Seen;

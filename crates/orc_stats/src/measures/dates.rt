@@ -1,3 +1,4 @@
+//! DATE: least and greatest.
 use crate::fault::StatFault;
 use crate::measures::{Measures, Sizes};
 use crate::seen::Seen;

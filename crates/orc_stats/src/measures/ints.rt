@@ -1,3 +1,4 @@
+//! BYTE, SHORT, INT and LONG: least, greatest and sum.
 use crate::fault::StatFault;
 use crate::measures::{Measures, Sizes};
 use crate::seen::Seen;

@@ -1,3 +1,4 @@
+//! LIST and STRUCT: nothing beside what every column has.
 use crate::fault::StatFault;
 use crate::measures::{Measures, Sizes};
 use crate::stat::Body;

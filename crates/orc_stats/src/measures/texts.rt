@@ -1,3 +1,4 @@
+//! STRING: least and greatest, and the sum of lengths.
 use crate::fault::StatFault;
 use crate::measures::{Measures, Sizes};
 use crate::seen::Seen;

@@ -1,3 +1,4 @@
+//! Statistics of cells.
 ghost use Rattle.std.specs.Prelude.{◌≡◌, ◌≤◌, ◌^◌, true, All, length};
 ghost use Rattle.orc_types.specs.Lent.{lent_cells};
 ghost use Rattle.orc_stats.specs.Kinds.{is_of};
@@ -17,12 +18,12 @@ fn numbers(rt: HostRuntime) {
         StatKind::Ints,
         &[Lent(&seven), Lent(&null), Lent(&less), Lent(&seven)],
     );
-    assert!(&rt; says(&found, counted(3, Some(true)).span(-9, 7).total(5)));
+    assert!(&rt; says(&found, count_of(3, Some(true)).span(-9, 7).total(5)));
 
     let late: Row<'_> = Some(Value::Date(19782));
     let early: Row<'_> = Some(Value::Date(-719162));
     let found = of_cells(alloc, StatKind::Dates, &[Lent(&late), Lent(&early)]);
-    assert!(&rt; says(&found, counted(2, Some(false)).span(-719162, 19782)));
+    assert!(&rt; says(&found, count_of(2, Some(false)).span(-719162, 19782)));
 
     let yes: Row<'_> = Some(Value::Bool(true));
     let no: Row<'_> = Some(Value::Bool(false));
@@ -31,7 +32,7 @@ fn numbers(rt: HostRuntime) {
         StatKind::Bools,
         &[Lent(&yes), Lent(&no), Lent(&yes), Lent(&null)],
     );
-    assert!(&rt; says(&found, counted(3, Some(true)).total(2)));
+    assert!(&rt; says(&found, count_of(3, Some(true)).total(2)));
 }
 
 #[test]
@@ -43,17 +44,17 @@ fn texts_and_bytes(rt: HostRuntime) {
     let accent: Row<'_> = Some(Value::Text(CowStr::Borrowed("\u{e9}")));
     let null: Row<'_> = None;
     let found = of_texts(alloc, &[Lent(&b), Lent(&ab), Lent(&null), Lent(&none)]);
-    assert!(&rt; says(&found, counted(3, Some(true)).total(3)));
+    assert!(&rt; says(&found, count_of(3, Some(true)).total(3)));
     assert!(&rt; spans(&found, b"", b"b"));
     let found = of_texts(alloc, &[Lent(&accent), Lent(&b)]);
-    assert!(&rt; says(&found, counted(2, Some(false)).total(3)));
+    assert!(&rt; says(&found, count_of(2, Some(false)).total(3)));
     assert!(&rt; spans(&found, b"b", b"\xc3\xa9"));
 
     let high: Row<'_> = Some(Value::Bytes(CowSlice::Borrowed(b"\xff\x00")));
     let found = of_cells(alloc, StatKind::Bins, &[Lent(&high), Lent(&high)]);
-    assert!(&rt; says(&found, counted(2, Some(false)).total(4)));
+    assert!(&rt; says(&found, count_of(2, Some(false)).total(4)));
     let found = of_cells(alloc, StatKind::Plain, &[Lent(&null)]);
-    assert!(&rt; says(&found, counted(0, Some(true))));
+    assert!(&rt; says(&found, count_of(0, Some(true))));
 }
 
 /// The statistic of texts; where memory was refused, it is asked again.

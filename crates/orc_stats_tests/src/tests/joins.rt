@@ -1,3 +1,4 @@
+//! Statistics that are joined: sums and counts at their limits, nulls, and every kind in two parts.
 ghost use Rattle.std.specs.Prelude.{◌≡◌, true, IfOk};
 ghost use Rattle.orc_stats.specs.Kinds.{body_is_of};
 ghost use Rattle.orc_stats.specs.declared.kind.StatKind.TheVariants as kind;
@@ -26,12 +27,12 @@ fn sums_pass_64_bits_on_the_way(rt: HostRuntime) {
         assert!(&rt;
             says(
                 &joined,
-                counted(3, Some(false)).span(-1, i64::MAX).total(i64::MAX)
+                count_of(3, Some(false)).span(-1, i64::MAX).total(i64::MAX)
             )
         );
     }
     let joined = join_all(rt.alloc(), StatKind::Ints, &[one(i64::MAX), one(1)]);
-    assert!(&rt; says(&joined, counted(2, Some(false)).span(1, i64::MAX)));
+    assert!(&rt; says(&joined, count_of(2, Some(false)).span(1, i64::MAX)));
 }
 
 /// A statistic of as many cells as can be without nulls, of which so many are true.
@@ -50,10 +51,10 @@ fn limits_of_counts(rt: HostRuntime) {
     let most = 1 << 62;
     let stats = [of_bools(1, most), of_bools(1, most)];
     let joined = join_all(rt.alloc(), StatKind::Bools, &stats);
-    assert!(&rt; says(&joined, counted(2, Some(false))));
+    assert!(&rt; says(&joined, count_of(2, Some(false))));
     let stats = [of_bools(most - 1, 1), of_bools(1, 0)];
     let joined = join_all(rt.alloc(), StatKind::Bools, &stats);
-    assert!(&rt; says(&joined, counted(most, Some(false)).total(1)));
+    assert!(&rt; says(&joined, count_of(most, Some(false)).total(1)));
     let stats = [of_bools(most, 1), of_bools(1, 0)];
     let joined = join_all(rt.alloc(), StatKind::Bools, &stats);
     assert!(&rt; matches!(&joined, Err(StatFault::CountTooLarge)));
@@ -88,7 +89,7 @@ fn nulls_that_are_not_known(rt: HostRuntime) {
             StatKind::Plain,
             &[of_nothing(one), of_nothing(other)],
         );
-        assert!(&rt; says(&joined, counted(0, both)));
+        assert!(&rt; says(&joined, count_of(0, both)));
     }
 }
 
@@ -103,7 +104,7 @@ fn nothing_of_each_kind(rt: HostRuntime) {
         StatKind::Bins,
     ];
     for kind in kinds {
-        let nothing = counted(0, Some(false));
+        let nothing = count_of(0, Some(false));
         assert!(&rt; says(&join_all(rt.alloc(), kind, &[]), nothing));
         assert!(&rt; says(&of_cells(rt.alloc(), kind, &[]), nothing));
     }
@@ -137,7 +138,7 @@ fn totals_at_the_edge_of_64_bits(rt: HostRuntime) {
     for (one, other, both) in TOTALS {
         let parts = [of_many(one), of_many(other)];
         match join_all(rt.alloc(), StatKind::Ints, &parts) {
-            Ok(stat) => assert_eq!(&rt; told(&stat).total, both),
+            Ok(stat) => assert_eq!(&rt; summary_of(&stat).total, both),
             Err(_) => assert!(&rt; false),
         }
     }
@@ -159,7 +160,7 @@ fn three_sevens(alloc: Global) -> Result<Stat, StatFault>
 fn six_sevens_in_two_parts(rt: HostRuntime) -> Result<(), Fail> {
     let parts = [three_sevens(rt.alloc())?, three_sevens(rt.alloc())?];
     let joined = join_all(rt.alloc(), StatKind::Ints, &parts);
-    assert!(&rt; says(&joined, counted(6, Some(false)).span(7, 7).total(42)));
+    assert!(&rt; says(&joined, count_of(6, Some(false)).span(7, 7).total(42)));
     Ok(())
 }
 
@@ -171,7 +172,7 @@ fn a_cell_and_a_statistic_in_one_tally(rt: HostRuntime) {
     tally.add(&seven);
     tally.join(&Counted::<Ints>::of_stat(&nine));
     let stat = tally.close(rt.alloc());
-    assert!(&rt; says(&stat, counted(2, Some(false)).span(7, 9).total(16)));
+    assert!(&rt; says(&stat, count_of(2, Some(false)).span(7, 9).total(16)));
 }
 
 /// The statistic of two texts.
@@ -191,7 +192,7 @@ fn check_texts(rt: &impl Abort, alloc: Global) -> Result<(), StatFault> {
     match join_all(alloc, StatKind::Texts, &parts) {
         Err(StatFault::OutOfMemory) => Err(StatFault::OutOfMemory),
         joined => {
-            assert!(rt; says(&joined, counted(4, Some(false)).total(5)));
+            assert!(rt; says(&joined, count_of(4, Some(false)).total(5)));
             assert!(rt; spans(&joined, b"", b"\xc3\xa9"));
             Ok(())
         }
@@ -234,10 +235,10 @@ fn dates_and_bytes_in_two_parts(rt: HostRuntime) -> Result<(), Fail> {
         of_two_dates(alloc, -719162, 7)?,
     ];
     let joined = join_all(alloc, StatKind::Dates, &parts);
-    assert!(&rt; says(&joined, counted(4, Some(false)).span(-719162, 19782)));
+    assert!(&rt; says(&joined, count_of(4, Some(false)).span(-719162, 19782)));
 
     let parts = [of_bytes(alloc, b"\xff\x00")?, of_bytes(alloc, b"abc")?];
     let joined = join_all(alloc, StatKind::Bins, &parts);
-    assert!(&rt; says(&joined, counted(2, Some(true)).total(5)));
+    assert!(&rt; says(&joined, count_of(2, Some(true)).total(5)));
     Ok(())
 }

@@ -1,3 +1,4 @@
+//! Statistics as bytes of a file, read and written again.
 use super::*;
 use orc_types::{Scalar, Tree};
 use orc_wire::{ColumnStats, Message};
@@ -117,7 +118,7 @@ fn said_and_written(
     let stat = Stat::read(alloc, kind, &message)?;
     let mut again = Vec::new(alloc);
     match stat.put(alloc)?.put(&mut again) {
-        Ok(()) => Ok((told(&stat), again)),
+        Ok(()) => Ok((summary_of(&stat), again)),
         Err(_) => Err(StatFault::OutOfMemory),
     }
 }

@@ -46,8 +46,12 @@ impl<'a> StripeView<'a> {
     fn group_entries(&self, alloc: Global, group: u64) -> Result<Vec<RowIndexEntry>, StripeFault>
         requires { HasGroup self.now group }
         ensures counted { IfOk result (λ entries. length entries.items ≡ width self.now.schema) }
-        ensures found { IfOk result (λ entries. (c : ℕ) (entry : IndexEntry) → slice_get entries.items c ≡ Some entry → IsGroupEntry self.now c group entry) }
-        ensures only { IfOk result (λ entries. (c : ℕ) (found entry : IndexEntry) → slice_get entries.items c ≡ Some found → IsGroupEntry self.now c group entry → found ≡ entry) }
+        ensures found { IfOk result (λ entries. (c : ℕ) (entry : IndexEntry)
+            → slice_get entries.items c ≡ Some entry
+            → IsGroupEntry self.now c group entry) }
+        ensures only { IfOk result (λ entries. (c : ℕ) (found entry : IndexEntry)
+            → slice_get entries.items c ≡ Some found
+            → IsGroupEntry self.now c group entry → found ≡ entry) }
         ensures refused { IfErr result (λ fault. HasEntries self.now group → fault ≡ OutOfMemory) }
         ensures fault { IfErr result (λ cause. cause ≢ OutOfMemory → EntriesFault self.now cause) }
     {
@@ -72,7 +76,9 @@ impl<'a> StripeView<'a> {
     /// a dictionary; `OutOfMemory`. All indexes are read before a stream is.
     pub fn cursor_at(&self, alloc: Global, group: u64) -> Result<RowCursor<'a>, StripeFault>
         ensures starts { (x : ℕ → Streams) (rows : List Cell) → StartsGroup self.now x rows group
-            → MatchResult result (λ cursor. StandsFor cursor (drop (group * self.now.stride) rows)) (λ fault. fault ≡ OutOfMemory) }
+            → MatchResult result
+            (λ cursor. StandsFor cursor (drop (group * self.now.stride) rows))
+            (λ fault. fault ≡ OutOfMemory) }
         ensures going { IfOk result IsGoing }
         ensures there { IfOk result (λ _. HasGroup self.now group × HasEntries self.now group) }
         ensures fault { IfErr result (λ cause. cause ≢ OutOfMemory → GroupFault self.now group cause) }

@@ -31,7 +31,8 @@ fn is_index(stream: &StreamMsg, column: usize) -> bool
 /// The bytes of a column's row index, where the directory lists one.
 fn index_bytes<'a>(column: usize, streams: &[StreamMsg], bytes: &'a [u8]) -> Option<&'a [u8]>
     requires { have_room (length bytes.now) streams.now ≡ true }
-    ensures there { IfSome result (λ text. (has_stream column 6 streams.now ≡ true) × (text.now ≡ slice column 6 streams.now bytes.now)) }
+    ensures there { IfSome result (λ text. (has_stream column 6 streams.now ≡ true)
+        × (text.now ≡ slice column 6 streams.now bytes.now)) }
     ensures missing { result ≡ None → has_stream column 6 streams.now ≡ false }
 {
     let mut left = bytes;
@@ -51,8 +52,10 @@ impl<'a> StripeView<'a> {
     /// Refusals: `NoIndex`, of the stripe where the stride is 0, even if there is such a stream, and of the column
     /// where the directory lists none; `Wire`; `OutOfMemory`.
     pub fn index(&self, alloc: Global, column: usize) -> Result<RowIndexMsg, StripeFault>
-        ensures found { IfOk result (λ message. (0 < self.now.stride) × HasIndex self.now.footer self.now.bytes column message) }
-        ensures only { (message : IndexMessage) → 0 < self.now.stride → HasIndex self.now.footer self.now.bytes column message
+        ensures found { IfOk result (λ message. (0 < self.now.stride)
+            × HasIndex self.now.footer self.now.bytes column message) }
+        ensures only { (message : IndexMessage) → 0 < self.now.stride
+            → HasIndex self.now.footer self.now.bytes column message
             → MatchResult result (λ found. found ≡ message) (λ fault. fault ≡ OutOfMemory) }
         ensures fault { IfErr result (IndexFault self.now column) }
     {
@@ -84,13 +87,19 @@ impl<'a> StripeView<'a> {
         rows: &[Row<'_>],
     ) -> Result<Vec<bool>, StripeFault>
         requires { column < width self.now.schema }
-        ensures index { IfOk result (λ _. (message : IndexMessage) × HasIndex self.now.footer self.now.bytes column message
+        ensures index { IfOk result (λ _. (message : IndexMessage)
+            × HasIndex self.now.footer self.now.bytes column message
             × IsWhole self.now (length (views rows.now)) message × (0 < self.now.stride)) }
-        ensures right { (message : IndexMessage) → IsStripe self.now.schema self.now.info self.now.bytes (views rows.now) → 0 < self.now.stride
+        ensures right { (message : IndexMessage)
+            → IsStripe self.now.schema self.now.info self.now.bytes (views rows.now)
+            → 0 < self.now.stride
             → HasIndex self.now.footer self.now.bytes column message
-            → MatchResult result (λ right. IsWhole self.now (length (views rows.now)) message × ArePositionsDecided self.now column (views rows.now) message right.items)
+            → MatchResult result
+            (λ right. IsWhole self.now (length (views rows.now)) message
+            × ArePositionsDecided self.now column (views rows.now) message right.items)
             (λ fault. (fault ≡ OutOfMemory) ⊎ HasOtherEntries self.now column (length (views rows.now)) fault) }
-        ensures fault { IfErr result (λ fault. fault ≢ OutOfMemory → PositionsFault self.now column (views rows.now) fault) }
+        ensures fault { IfErr result (λ fault. fault ≢ OutOfMemory
+            → PositionsFault self.now column (views rows.now) fault) }
     {
         let index = match self.index(alloc, column) {
             Ok(index) => index,
@@ -123,9 +132,13 @@ impl<'a> StripeView<'a> {
     /// Refusals: those of `rows`, and then those of `positions_right_of` but `Run`.
     pub fn positions_right(&self, alloc: Global, column: usize) -> Result<Vec<bool>, StripeFault>
         requires { column < width self.now.schema }
-        ensures right { (rows : List Cell) (message : IndexMessage) → IsStripe self.now.schema self.now.info self.now.bytes rows → 0 < self.now.stride
+        ensures right { (rows : List Cell) (message : IndexMessage)
+            → IsStripe self.now.schema self.now.info self.now.bytes rows
+            → 0 < self.now.stride
             → HasIndex self.now.footer self.now.bytes column message
-            → MatchResult result (λ right. IsWhole self.now (length rows) message × ArePositionsDecided self.now column rows message right.items)
+            → MatchResult result
+            (λ right. IsWhole self.now (length rows) message
+            × ArePositionsDecided self.now column rows message right.items)
             (λ fault. (fault ≡ OutOfMemory) ⊎ HasOtherEntries self.now column (length rows) fault) }
         ensures fault { IfErr result (λ cause. cause ≢ OutOfMemory
             → RowsFault self.now.schema (columns_of self.now.footer self.now.bytes) self.now.info.number_of_rows cause

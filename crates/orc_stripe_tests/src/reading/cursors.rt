@@ -1,3 +1,4 @@
+//! Rows by a cursor: as many as a stripe may have, those before bytes that are no run, and what is left.
 use super::shapes::{MOST_COLUMNS, footer_of, wide_schema};
 use super::{FOUR_BYTES, THREE_BYTES, stripe_of};
 use orc_rle::RunFault;

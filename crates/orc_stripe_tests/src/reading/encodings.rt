@@ -1,3 +1,4 @@
+//! Which encodings a column of each type may have.
 use super::lines_of;
 use orc_stripe::StripeFault;
 use orc_test_support::with_memory;

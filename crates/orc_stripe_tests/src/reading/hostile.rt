@@ -1,3 +1,4 @@
+//! A stripe that is cut short, or has one byte changed: it is refused, or has rows.
 use super::ONE_WORD;
 use orc_stripe::StripeFault;
 use orc_test_support::{lines_at_once, with_memory};

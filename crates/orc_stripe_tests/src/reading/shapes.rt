@@ -1,3 +1,4 @@
+//! Schemas as wide and as deep as they may be.
 use super::lines_of;
 use orc_stripe::{StreamKind, StripeFault};
 use orc_test_support::with_memory;

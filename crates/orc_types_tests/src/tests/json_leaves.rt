@@ -1,3 +1,4 @@
+//! JSON of values that contain no other, type by type, and the texts of days.
 use super::json_rows::comes_to;
 use super::*;
 use orc_types::date_text;

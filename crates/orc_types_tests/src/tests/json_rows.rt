@@ -1,3 +1,4 @@
+//! JSON of whole rows, read and printed again, and rows that have none.
 ghost use Rattle.std.specs.Prelude.{◌≡◌, true};
 ghost use Rattle.orc_types.specs.Fits.{fits as spec_fits};
 ghost use Rattle.orc_types.specs.Views.{view};
@@ -102,7 +103,7 @@ const KINDS_JSON: &str =
     r#"{"a":[8,9],"b":true,"d":"1970-01-04","i":3,"l":4,"s":2,"t":"x","v":"78","y":1}"#;
 
 /// The text that the row is printed as.
-fn printed(alloc: Global, schema: &Schema, row: &Row<'_>) -> Result<String, JsonFault>
+fn row_text(alloc: Global, schema: &Schema, row: &Row<'_>) -> Result<String, JsonFault>
     requires { spec_fits (view row.now) schema.now ≡ true }
 {
     let json = row_to_json(alloc, schema, row)?;
@@ -110,18 +111,18 @@ fn printed(alloc: Global, schema: &Schema, row: &Row<'_>) -> Result<String, Json
 }
 
 /// What the row that the JSON spells is printed as.
-fn printed_under(alloc: Global, schema: &Schema, json: &str) -> Result<String, JsonFault> {
+fn text_again(alloc: Global, schema: &Schema, json: &str) -> Result<String, JsonFault> {
     let Ok(json) = Json::from_str(alloc, json) else {
         return Err(JsonFault::OutOfMemory);
     };
     let row = row_from_json(alloc, schema, &json)?;
-    printed(alloc, schema, &row)
+    row_text(alloc, schema, &row)
 }
 
 /// The same under the schema of a text. Of the texts of the tests, want of memory alone refuses any.
-fn printed_again(alloc: Global, schema: &str, json: &str) -> Result<String, JsonFault> {
+fn text_again_under(alloc: Global, schema: &str, json: &str) -> Result<String, JsonFault> {
     match Schema::parse(alloc, schema) {
-        Ok(schema) => printed_under(alloc, &schema, json),
+        Ok(schema) => text_again(alloc, &schema, json),
         Err(_) => Err(JsonFault::OutOfMemory),
     }
 }
@@ -133,7 +134,7 @@ pub(crate) fn comes_to(
     json: &str,
     wanted: Result<&str, JsonFault>,
 ) -> Result<bool, JsonFault> {
-    match (printed_again(alloc, schema, json), wanted) {
+    match (text_again_under(alloc, schema, json), wanted) {
         (Ok(found), Ok(wanted)) => Ok(found.as_str() == wanted),
         (Err(JsonFault::OutOfMemory), _) => Err(JsonFault::OutOfMemory),
         (Err(found), Err(wanted)) => Ok(found == wanted),
@@ -169,7 +170,7 @@ fn is_printed_as(
     if !fits(schema, row) {
         return Ok(false);
     }
-    Ok(printed(alloc, schema, row)?.as_str() == text)
+    Ok(row_text(alloc, schema, row)?.as_str() == text)
 }
 
 /// A row of borrowed values is printed.
@@ -226,7 +227,7 @@ fn wide(alloc: Global, fields: u32, last: &str) -> Result<String, AllocError> {
 /// The most fields that a schema has, of which the last has a name of its own.
 fn prints_the_last(alloc: Global) -> Result<bool, JsonFault> {
     let schema = wide(alloc, 4094, "g")?;
-    let text = printed_again(alloc, schema.as_str(), r#"{"g":1,"f4093":2}"#)?;
+    let text = text_again_under(alloc, schema.as_str(), r#"{"g":1,"f4093":2}"#)?;
     Ok(text.as_str().ends_with(r#","f999":null,"g":1}"#))
 }
 

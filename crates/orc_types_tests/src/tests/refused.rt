@@ -1,3 +1,4 @@
+//! Lists of types that are no schema's, and the limits on schemas.
 ghost use Rattle.std.specs.Prelude.{◌≡◌, [], IfOk};
 ghost use Rattle.orc_types.specs.Schemas.{AllKept};
 
@@ -93,7 +94,7 @@ fn open_lists(alloc: Global, lists: u32) -> Result<Vec<TypeMsg>, AllocError>
 }
 
 /// A struct of lists within lists, of that many levels and two.
-fn nested(alloc: Global, lists: u32) -> Result<Vec<TypeMsg>, AllocError>
+fn nested_lists(alloc: Global, lists: u32) -> Result<Vec<TypeMsg>, AllocError>
     ensures { IfOk result (λ types. AllKept types.items) }
 {
     let mut types = open_lists(alloc, lists)?;
@@ -172,7 +173,7 @@ fn nested_comes_to(
     lists: u32,
     wanted: Result<usize, TypeFault>,
 ) -> Result<bool, TypeFault> {
-    let types = nested(alloc, lists)?;
+    let types = nested_lists(alloc, lists)?;
     is_answer(count_of(alloc, &types), wanted)
 }
 

@@ -1,3 +1,4 @@
+//! Rows that fit a schema, the cells of their columns, their parts, and copies of them.
 ghost use Rattle.std.specs.Prelude.{◌<◌};
 ghost use Rattle.orc_types.specs.Shapes.{width};
 
@@ -348,8 +349,8 @@ fn value_of(token: Token) -> Row<'static> {
     }
 }
 
-/// The last rows, taken off.
-fn taken(rows: &mut Vec<Row<'static>>, count: usize) -> Result<Vec<Row<'static>>, AllocError> {
+/// Takes off the last rows.
+fn take_last(rows: &mut Vec<Row<'static>>, count: usize) -> Result<Vec<Row<'static>>, AllocError> {
     if count <= rows.len() {
         rows.split_off(rows.len() - count)
     } else {
@@ -362,8 +363,8 @@ pub(crate) fn rows_of(alloc: Global, tokens: &[Token]) -> Result<Vec<Row<'static
     let mut rows = Vec::new(alloc);
     for token in tokens {
         let row = match *token {
-            List(count) => Some(Value::List(taken(&mut rows, count)?)),
-            Struct(count) => Some(Value::Struct(taken(&mut rows, count)?)),
+            List(count) => Some(Value::List(take_last(&mut rows, count)?)),
+            Struct(count) => Some(Value::Struct(take_last(&mut rows, count)?)),
             plain => value_of(plain),
         };
         rows.push(row)?;

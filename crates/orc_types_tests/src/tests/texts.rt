@@ -1,3 +1,4 @@
+//! Texts of schemas, texts that are none's, and the limits on them.
 use super::rows::{KINDS, KINDS_TEXT};
 use super::*;
 
@@ -73,7 +74,7 @@ static NO_TEXTS: [(&'static str, TypeFault); 26] = [
 ];
 
 /// A text with another so many times in its middle.
-fn around(
+fn text_around(
     alloc: Global,
     front: &str,
     middle: &str,
@@ -89,14 +90,14 @@ fn around(
 }
 
 /// A struct of one list within others, so many in all.
-fn nested(alloc: Global, lists: u32) -> Result<String, AllocError> {
-    let front = around(alloc, "struct<a:", "array<", lists, "int")?;
-    around(alloc, front.as_str(), ">", lists, ">")
+fn nested_lists(alloc: Global, lists: u32) -> Result<String, AllocError> {
+    let front = text_around(alloc, "struct<a:", "array<", lists, "int")?;
+    text_around(alloc, front.as_str(), ">", lists, ">")
 }
 
 /// A struct of one field more than so many.
 fn wide(alloc: Global, fields: u32) -> Result<String, AllocError> {
-    around(alloc, "struct<", "a:int,", fields, "b:date>")
+    text_around(alloc, "struct<", "a:int,", fields, "b:date>")
 }
 
 /// Whether the text is read as the schema of the types.
@@ -191,12 +192,12 @@ fn has_width(alloc: Global, text: &str, width: usize) -> Result<bool, TypeFault>
 }
 
 fn nested_has_width(alloc: Global, lists: u32, width: usize) -> Result<bool, TypeFault> {
-    let text = nested(alloc, lists)?;
+    let text = nested_lists(alloc, lists)?;
     has_width(alloc, text.as_str(), width)
 }
 
 fn nested_is_refused(alloc: Global, lists: u32, fault: TypeFault) -> Result<bool, TypeFault> {
-    let text = nested(alloc, lists)?;
+    let text = nested_lists(alloc, lists)?;
     is_no_schema(alloc, text.as_str(), fault)
 }
 

@@ -1,3 +1,4 @@
+//! Tests of the messages that say where things stand in a file: postscripts, footers and stripes' directories.
 use super::*;
 
 /// The end of a file without rows, of one stripe, and of two.

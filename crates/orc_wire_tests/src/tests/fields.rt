@@ -1,3 +1,4 @@
+//! Tests of fields: a field of each wire type, read and written, and what is no field.
 use super::*;
 
 /// A field of each wire type, and its place in `TEXT`.

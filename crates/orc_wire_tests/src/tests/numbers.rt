@@ -1,3 +1,4 @@
+//! Tests of numbers in messages: which one counts where several stand, and which are too large.
 use super::*;
 
 /// Texts of an encoding, and its kind and dictionary's size, or its fault.

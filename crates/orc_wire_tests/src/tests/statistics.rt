@@ -1,3 +1,4 @@
+//! Tests of the statistics of columns: each kind of record, with parts that are missing.
 use super::*;
 
 /// A record of each kind, some with a part missing, and 2^64-1 values, with what is written; a record

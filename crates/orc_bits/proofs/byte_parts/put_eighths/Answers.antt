@@ -4,4 +4,4 @@ use Rattle.orc_bits.proofs.byte_parts.put_eighths.Goals as goal
 
 pub returns : goal.returns
 returns c =
-    Spells-parts 8 4 1 (c.args.byte ∷ []) (c.halved-front.result.0 ∷ []) (c.halved-front.result.1 ∷ []) _ _ c.halved-front.ensures.spelled c.put_quarters.ensures c.put_quarters-2.ensures
+    Spells-parts 8 4 1 (c.args.byte ∷ []) (c.halves-front.result.0 ∷ []) (c.halves-front.result.1 ∷ []) _ _ c.halves-front.ensures.spelled c.put_quarters.ensures c.put_quarters-2.ensures

@@ -5,4 +5,4 @@ use Rattle.orc_bits.proofs.byte_parts.put_halves.Goals as goal
 
 pub returns : goal.returns
 returns c =
-    subst (Spells (c.args.half + c.args.half) (c.args.number ∷ []) c.args.half) (sym (both_set c.args.out.now c.halved-front.result.0 c.halved-front.result.1 c.requires.len)) c.halved-front.ensures.spelled
+    subst (Spells (c.args.half + c.args.half) (c.args.number ∷ []) c.args.half) (sym (both_set c.args.out.now c.halves-front.result.0 c.halves-front.result.1 c.requires.len)) c.halves-front.ensures.spelled

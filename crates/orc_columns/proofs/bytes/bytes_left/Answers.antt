@@ -28,5 +28,5 @@ returns-clause-met c =
     let r = c.args.bytes.now in
     let used : length r.run.values ≤ r.used = omega (arith, c.if-bytes-values.false, ap length c.values.ensures.values) in
     let there = bytes_more IsByteRun r.run.values r.used r.bytes.now r.at used c.requires.more in
-    met_stop IsByteRun NoByteRun (drop r.used r.run.values) r.bytes.now r.start r.at (length r.bytes.now) 0 c.in-Err.fault c.moved.result (past_end r.used r.run.values used) there
-    (rw c.split_at.ensures.back at c.in-Err.ensures.fault) c.moved.ensures.same
+    met_stop IsByteRun NoByteRun (drop r.used r.run.values) r.bytes.now r.start r.at (length r.bytes.now) 0 c.in-Err.fault c.with_place.result (past_end r.used r.run.values used) there
+    (rw c.split_at.ensures.back at c.in-Err.ensures.fault) c.with_place.ensures

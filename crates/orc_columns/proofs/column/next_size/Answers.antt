@@ -7,7 +7,7 @@ use Rattle.orc_columns.specs.Columns.{CellsLeft}
 use Rattle.orc_columns.proofs.Fronts.{grouped_lacks_sizes, no_room}
 use Rattle.orc_columns.proofs.ReaderLemmas.{no_size, group_lacks}
 use Rattle.orc_columns.proofs.Sizes.{sized, negative}
-use Rattle.orc_columns.specs.declared.column.Source.{Source}
+use Rattle.orc_columns.specs.declared.column.ValueSource.{ValueSource}
 use Rattle.orc_columns.specs.Fronts.{Precedes}
 use Rattle.orc_columns.specs.Numbers.{NumbersFirst}
 use Rattle.orc_columns.proofs.MetLemmas.{lists_before, lists_over, lists_negative}
@@ -62,7 +62,7 @@ returns-else-size-source-clause-before c = λ all m f.
     let e = c.in-Ok-try_from.ensures in
     let n = sized (to_z w64 (of_z w64 c.in-Ok.number)) c.in-Ok.number c.in-Ok-try_from.size z e.0 e.1 in
     let r = c.args.source.now in
-    let after : Source = record { column = r.column; numbers = c.next_number.new.numbers; bytes = r.bytes; bits = r.bits; octets = r.octets; entries = r.entries; room = r.room - c.in-Ok-try_from.size } in
+    let after : ValueSource = record { column = r.column; numbers = c.next_number.new.numbers; bytes = r.bytes; bits = r.bits; octets = r.octets; entries = r.entries; room = r.room - c.in-Ok-try_from.size } in
     lists_before c.args.source.now after all m c.in-Ok-try_from.size f refl c.in-Ok.ensures.before (subst (λ k. Precedes (NumbersFirst c.args.source.now.numbers) (NumbersFirst c.next_number.new.numbers) (k ∷ [])) n c.in-Ok.ensures.first) (omega (arith, c.if-size-source.false))
 
 pub returns-in-Err-clause-fault : goal.returns-in-Err-clause-fault

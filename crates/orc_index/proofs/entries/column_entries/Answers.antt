@@ -22,8 +22,8 @@ loop-group-init c =
 pub cells_between-requires-clause-there : goal.cells_between-requires-clause-there
 cells_between-requires-clause-there c = bound_there c.args.cells.now c.args.bounds.now c.loop-group.group c.requires.bounds c.loop-group-test.true
 
-pub counted-counts-requires-clause-values : goal.counted-counts-requires-clause-values
-counted-counts-requires-clause-values c =
+pub counts_after-counts-requires-clause-values : goal.counts_after-counts-requires-clause-values
+counts_after-counts-requires-clause-values c =
     let cells = lent_cells c.args.cells.now in
     let at = c.loop-group.at in
     let start = get_or c.args.bounds.now c.loop-group.group 0 in
@@ -50,9 +50,9 @@ put_places-requires c =
     let at = c.loop-group.at in
     let start = get_or c.args.bounds.now c.loop-group.group 0 in
     let ahead = bound_ahead (length cells) c.args.bounds.now c.loop-group.group at c.loop-group-test.true c.loop-group.invariant.begun in
-    let k = c.counted-counts.ensures in (
+    let k = c.counts_after-counts.ensures in (
       take start cells,
-      counted_to cells at start c.loop-group.counts c.counted-counts.result (lent_cells c.cells_between.result.now) ahead c.cells_between.ensures c.loop-group.invariant.counted k.cells k.values k.octets,
+      counted_to cells at start c.loop-group.counts c.counts_after-counts.result (lent_cells c.cells_between.result.now) ahead c.cells_between.ensures c.loop-group.invariant.counted k.cells k.values k.octets,
       front_there s c.args.streams.now cells placed start c.requires.spelled c.placed_streams-placed.ensures,
       walked_to (runs placed.present) (runs placed.own) c.loop-group.walk cells at start ahead c.loop-group.invariant.walked,
     )
@@ -84,16 +84,16 @@ loop-group-preserved c =
     let at = c.loop-group.at in
     let start = get_or bounds group 0 in
     let ahead = bound_ahead (length cells) bounds group at c.loop-group-test.true c.loop-group.invariant.begun in
-    let k = c.counted-counts.ensures in
-    let counted = counted_to cells at start c.loop-group.counts c.counted-counts.result (lent_cells c.cells_between.result.now) ahead c.cells_between.ensures c.loop-group.invariant.counted k.cells k.values k.octets in
+    let k = c.counts_after-counts.ensures in
+    let counted = counted_to cells at start c.loop-group.counts c.counts_after-counts.result (lent_cells c.cells_between.result.now) ahead c.cells_between.ensures c.loop-group.invariant.counted k.cells k.values k.octets in
     let there = front_there s streams cells placed start c.requires.spelled c.placed_streams-placed.ensures in
     let put = c.in_ok-walk.ensures.places (take start cells) counted there in
     let positions : c.from_vec.result ≡ put.0 = c.from_vec.ensures ∙ put.2 ∙ ap (λ (ps : List ℕ). ps ++ put.0) c.new-positions.ensures.items in
     let end : c.group_end-end.result ≡ bound_at (length cells) bounds (group + 1) = c.group_end-end.ensures ∙ ap (λ (n : ℕ). bound_at n bounds (group + 1)) (sym (lent_long c.args.cells.now)) in
     let read = bound_read (length cells) bounds group c.loop-group-test.true in
     let found : lent_cells c.cells_between-in-loop-group.result.now ≡ group_of cells bounds group = c.cells_between-in-loop-group.ensures ∙ group_between cells bounds group start c.group_end-end.result c.requires.bounds read end in
-    subst (λ (es : List RowIndexEntry). Stands s streams cells bounds placed (group + 1) start es c.counted-counts.result c.in_ok-walk.walk) (sym c.in_ok-push.ensures.items)
-    (stands_more s streams cells bounds placed group at start c.loop-group.entries.items c.loop-group.counts c.counted-counts.result c.loop-group.walk c.in_ok-walk.walk
+    subst (λ (es : List RowIndexEntry). Stands s streams cells bounds placed (group + 1) start es c.counts_after-counts.result c.in_ok-walk.walk) (sym c.in_ok-push.ensures.items)
+    (stands_more s streams cells bounds placed group at start c.loop-group.entries.items c.loop-group.counts c.counts_after-counts.result c.loop-group.walk c.in_ok-walk.walk
     (lent_cells c.cells_between-in-loop-group.result.now) (record { positions = c.from_vec.result; statistics = Some c.in_ok-stat_of.field-0 }) c.requires.bounds c.placed_streams-placed.ensures c.loop-group.invariant read
     found counted (c.in_ok-walk.ensures.walked (take start cells) counted)
     (subst (λ (ps : List ℕ). PlacesIn is_place IsBitPlace (runs placed.present) (lent_bytes placed.content) (runs placed.own) (take start cells) ps) (sym positions) put.1)

@@ -1,4 +1,4 @@
-use Rattle.std.proofs.Common.{◌≡◌, ◌++◌, [], refl, ◌∙◌, append_assoc, append-nil, inl, inr, arith, true, false}
+use Rattle.std.proofs.Common.{◌++◌, [], refl, ◌∙◌, append_assoc, append-nil, inl, inr, arith, true, false}
 use Rattle.std.proofs.lemmas.Result.{err_from_is_err_and}
 use Rattle.orc_types.specs.Schemas.{IsSchema}
 use Rattle.orc_types.specs.Views.{views}

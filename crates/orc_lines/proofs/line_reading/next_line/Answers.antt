@@ -1,4 +1,4 @@
-use Rattle.std.proofs.Common.{◌≡◌, ◌<◌, length, arith, []}
+use Rattle.std.proofs.Common.{arith}
 use Rattle.orc_lines.proofs.ReadLemmas.{has_read}
 use Rattle.orc_lines.proofs.line_reading.next_line.Goals as goal
 

@@ -1,11 +1,10 @@
 use Rattle.std.specs.Prelude.{MatchBool}
-use Rattle.std.proofs.Common.{◌≡◌, ◌∙◌, ℕ, ◌-◌, ◌+◌, ◌≤◌, Bool, Some, List, ◌++◌, ◌∷◌, [], length, take, drop, slice_get, refl, sym, ap, subst, arith}
+use Rattle.std.proofs.Common.{◌≡◌, ◌∙◌, ℕ, ◌-◌, ◌+◌, ◌≤◌, Bool, Some, List, length, take, drop, slice_get, refl, sym, ap, subst, arith}
 use Rattle.std.proofs.lemmas.List.{length-take}
 use Rattle.std.proofs.lemmas.Option.{slice_get_read}
 use Rattle.orc_seek.specs.BitPosition.{BeginsBits}
 use Rattle.orc_types.specs.Lent.{lent_cells}
 use Rattle.orc_types.specs.Views.{shape}
-use Rattle.orc_columns.specs.Stripe.{has_dictionary}
 use Rattle.orc_index.specs.Bounds.{bound_at}
 use Rattle.orc_index.specs.Places.{PlacesIn, begins}
 use Rattle.orc_index.specs.RunStreams.{RunStream}
@@ -13,7 +12,7 @@ use Rattle.orc_index.specs.Walking.{runs, lent_bytes}
 use Rattle.orc_index.proofs.Groups.{bound_within, lent_long, values_few, counted_to, front_there}
 use Rattle.orc_index.specs.RunStreams.{kind_of_own}
 use Rattle.orc_positions.specs.Tables.{IsFew}
-use Rattle.orc_positions.proofs.Entries.{Going, going_none, going_more, going_end, group_decided, fails_in}
+use Rattle.orc_positions.proofs.Entries.{Going, going_more, group_decided, fails_in}
 use Rattle.orc_positions.proofs.FewValues.{few_in_present, few_in_own}
 use Rattle.orc_positions.proofs.decided.positions_right.Goals as goal
 
@@ -38,8 +37,8 @@ cells_between-requires-clause-there c =
     let end : bound_at (length c.args.cells.now) bounds group ≡ bound_at count bounds group = ap (λ (n : ℕ). bound_at n bounds group) (sym (lent_long c.args.cells.now)) in
     omega (arith, bound_within count bounds group c.requires, end, c.group_start-start.ensures, lent_long c.args.cells.now)
 
-pub counted-counts-requires-clause-values : goal.counted-counts-requires-clause-values
-counted-counts-requires-clause-values c =
+pub counts_after-counts-requires-clause-values : goal.counts_after-counts-requires-clause-values
+counts_after-counts-requires-clause-values c =
     let cells = lent_cells c.args.cells.now in
     let bounds = c.args.bounds.now in
     let group = c.loop-group.group in
@@ -75,12 +74,12 @@ loop-group-preserved c =
     let entry = c.index-entries-group.result in
     let st : start ≡ bound_at (length cells) bounds group = c.group_start-start.ensures ∙ ap (λ (n : ℕ). bound_at n bounds group) (sym (lent_long c.args.cells.now)) in
     let ahead : at ≤ start = omega (arith, c.loop-group.invariant.begun, st) in
-    let k = c.counted-counts.ensures in
-    let counted = counted_to cells at start c.loop-group.counts c.counted-counts.result (lent_cells c.cells_between.result.now) ahead c.cells_between.ensures c.loop-group.invariant.counted k.cells k.values k.octets in
+    let k = c.counts_after-counts.ensures in
+    let counted = counted_to cells at start c.loop-group.counts c.counts_after-counts.result (lent_cells c.cells_between.result.now) ahead c.cells_between.ensures c.loop-group.invariant.counted k.cells k.values k.octets in
     let there : slice_get entries group ≡ Some entry = slice_get_read entries (length entries) group entry refl c.loop-group-test.true c.index-entries-group.is in
     let positions : c.as_slice.result.now ≡ entry.positions = c.as_slice.ensures in
-    subst (λ (r : List Bool). Going s streams cells bounds entries (group + 1) start r c.counted-counts.result) (sym c.in_ok-push.ensures.items)
-    (going_more s streams cells bounds entries group at start c.loop-group.right.items c.loop-group.counts c.counted-counts.result entry b c.requires c.loop-group.invariant st counted there
+    subst (λ (r : List Bool). Going s streams cells bounds entries (group + 1) start r c.counts_after-counts.result) (sym c.in_ok-push.ensures.items)
+    (going_more s streams cells bounds entries group at start c.loop-group.right.items c.loop-group.counts c.counts_after-counts.result entry b c.requires c.loop-group.invariant st counted there
     (λ x is column. group_decided s x placed cells bounds group start entry.positions b (c.placed_streams-placed.ensures x is) st
     (subst (λ (ps : List ℕ). MatchBool b (PlacesIn begins BeginsBits (runs placed.present) (lent_bytes placed.content) (runs placed.own) (take start cells) ps)
     (PlacesIn begins BeginsBits (runs placed.present) (lent_bytes placed.content) (runs placed.own) (take start cells) ps → ⊥)) positions

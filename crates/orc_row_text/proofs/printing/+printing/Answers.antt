@@ -1,6 +1,6 @@
 use Rattle.std.proofs.Common.{ℕ, List, ◌++◌, false, sym, ap, ◌∙◌}
 use Rattle.std.proofs.lemmas.Result.{on_ok_weaker}
-use Rattle.orc_row_text.specs.Layouts.{text_by, parts, elements_text, parts_text}
+use Rattle.orc_row_text.specs.Layouts.{text_by, member_parts, elements_text, parts_text}
 use Rattle.orc_types.specs.Views.{views}
 use Rattle.orc_row_text.proofs.Growth.{grows_on}
 use Rattle.orc_row_text.proofs.Layouts.{printed_list, printed_struct, elements_next, members_next_text}
@@ -28,6 +28,6 @@ push_elements-loop-row-preserved t c = record {
 pub push_members-loop-member-preserved : goal.push_members-loop-member-preserved
 push_members-loop-member-preserved t c = record {
   done = members_next_text c.deref-member-items.result.now c.loop-member.member-index c.member-item.result (views c.args.rows.now.items) c.loop-member.out.items c.push_member.new.out.items
-      (c.push.new.self.items ++ parts_text (parts c.deref-member-items.result.now) (views c.args.rows.now.items)) c.loop-member-test.true c.member-item.is c.in_ok-push_member.ensures.found c.loop-member.invariant.done;
+      (c.push.new.self.items ++ parts_text (member_parts c.deref-member-items.result.now) (views c.args.rows.now.items)) c.loop-member-test.true c.member-item.is c.in_ok-push_member.ensures.found c.loop-member.invariant.done;
   grown = grows_on c.push.new.self.items c.loop-member.out.items c.push_member.new.out.items c.loop-member.invariant.grown c.push_member.ensures.front;
 }

@@ -19,8 +19,8 @@ pub returns-in-Err-clause-fault : goal.returns-in-Err-clause-fault
 returns-in-Err-clause-fault c =
     let w = c.loop-at.invariant in
     let fails = rw c.split_at.ensures.back at c.in-Err.ensures.fault in
-    inr (within_no_run IsByteRun NoByteRun 18446744073709551615 c.args.bytes.now c.loop-at.at w.values c.in-Err.fault c.at.result c.loop-at-test.true (w.runs, w.stream)
-    (omega (arith, w.counted, c.loop-at.auto.before-fits)) fails c.at.ensures)
+    inr (within_no_run IsByteRun NoByteRun 18446744073709551615 c.args.bytes.now c.loop-at.at w.values c.in-Err.fault c.with_place.result c.loop-at-test.true (w.runs, w.stream)
+    (omega (arith, w.counted, c.loop-at.auto.before-fits)) fails c.with_place.ensures)
 
 pub returns-then-before-found-clause-only : goal.returns-then-before-found-clause-only
 returns-then-before-found-clause-only c = λ values stream few.

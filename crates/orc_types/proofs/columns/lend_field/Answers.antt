@@ -1,7 +1,7 @@
 use Rattle.std.proofs.Common.{◌≡◌, ℕ, zero, suc, Some, None, List, [], ◌∷◌, ◌++◌, take, drop, refl, sym, ap, ◌∙◌, append-nil, slice_get}
 use Rattle.std.proofs.lemmas.List.{map-append}
 use Rattle.orc_types.specs.Cells.{Cell, parts}
-use Rattle.orc_types.specs.Views.{seen, view}
+use Rattle.orc_types.specs.Views.{lent_views, view}
 use Rattle.orc_types.proofs.columns.lend_field.Goals as goal
 
 there : (xs : List Cell) (i : ℕ) (c : Cell) → Some c ≡ slice_get xs i → c ∷ [] ≡ take 1 (drop i xs)
@@ -18,7 +18,7 @@ missing (x ∷ xs) (suc i) h = missing xs i h
 
 pub returns : goal.returns
 returns c =
-    ap seen c.in_ok-push.ensures.items ∙ map-append (λ r. view r.now) c.args.found.now.items (c.in-Some.field ∷ []) ∙ ap (λ xs. seen c.args.found.now.items ++ xs) (there (parts (view c.args.row.now)) c.args.i (view c.in-Some.field.now) c.in-Some.ensures)
+    ap lent_views c.in_ok-push.ensures.items ∙ map-append (λ r. view r.now) c.args.found.now.items (c.in-Some.field ∷ []) ∙ ap (λ xs. lent_views c.args.found.now.items ++ xs) (there (parts (view c.args.row.now)) c.args.i (view c.in-Some.field.now) c.in-Some.ensures)
 
 pub returns-in_default : goal.returns-in_default
-returns-in_default c = sym (append-nil (seen c.args.found.now.items)) ∙ ap (λ xs. seen c.args.found.now.items ++ xs) (missing (parts (view c.args.row.now)) c.args.i c.in_default.ensures)
+returns-in_default c = sym (append-nil (lent_views c.args.found.now.items)) ∙ ap (λ xs. lent_views c.args.found.now.items ++ xs) (missing (parts (view c.args.row.now)) c.args.i c.in_default.ensures)

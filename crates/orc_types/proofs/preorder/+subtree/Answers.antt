@@ -2,9 +2,9 @@ use Rattle.std.proofs.Common.{◌≡◌, ℕ, ◌<◌, length, get_or, List, [],
 use Rattle.orc_types.specs.declared.tree.Field.{Field}
 use Rattle.std.proofs.lemmas.Result.{err_from_is_err_and}
 use Rattle.std.proofs.lemmas.List.{map-append}
-use Rattle.orc_types.specs.Views.{named, shape, fields}
+use Rattle.orc_types.specs.Views.{name_and_type, shape, fields}
 use Rattle.orc_types.specs.Preorder.{NoFieldsAt}
-use Rattle.orc_types.proofs.Views.{named-is, shape-Scalar, shape-List, shape-Struct}
+use Rattle.orc_types.proofs.Views.{name_and_type-is, shape-Scalar, shape-List, shape-Struct}
 use Rattle.orc_types.proofs.Trees.{get_or-any, number-scalar_of, got_below, past_end, list_wrong, list_fault, list_found, struct_fault, struct_found, scalar_wrong, scalar_found, lengths_wrong, name_fault, field_fault, reached_place, reached_more, reached_all}
 use Rattle.orc_types.proofs.preorder.+subtree.Goals as goal
 
@@ -57,39 +57,39 @@ subtree-returns-clause-found t c =
     (scalar_found c.args.types.now c.args.at c.args.levels c.in-Some.t.now c.in-Some-from_number.kind (omega arith) (sym c.in-Some.ensures.node)
     (number-scalar_of c.in-Some.t.now.kind c.in-Some-from_number.kind (sym c.in-Some-from_number.ensures)) none.0 none.1)
 
-pub fields_from-returns-then-subtypes-names-clause-fault : goal.fields_from-returns-then-subtypes-names-clause-fault
-fields_from-returns-then-subtypes-names-clause-fault t c =
+pub subtree_fields-returns-then-subtypes-names-clause-fault : goal.subtree_fields-returns-then-subtypes-names-clause-fault
+subtree_fields-returns-then-subtypes-names-clause-fault t c =
     lengths_wrong c.args.types.now c.args.from c.args.t.now.subtypes c.args.t.now.field_names
     (λ e. c.if-subtypes-names.true (ap length c.as_slice-subtypes.ensures ∙ e ∙ sym (ap length c.as_slice-names.ensures)))
 
-pub fields_from-returns-in_err-name-clause-fault : goal.fields_from-returns-in_err-name-clause-fault
-fields_from-returns-in_err-name-clause-fault t c =
+pub subtree_fields-returns-in_err-name-clause-fault : goal.subtree_fields-returns-in_err-name-clause-fault
+subtree_fields-returns-in_err-name-clause-fault t c =
     let n : c.loop-i.i < length c.as_slice-names.result.now = omega (arith, c.loop-i-test.true, c.if-subtypes-names.false) in
     let called : get_or c.as_slice-names.result.now c.loop-i.i [] ≡ c.as_slice.result.now = get_or-any c.as_slice-names.result.now c.loop-i.i [] c.index-names-i.result n ∙ sym c.index-names-i.is ∙ sym c.as_slice.ensures in
     let p = err_from_is_err_and c.from_residual.result c.from_residual.ensures.1 in
     rw (p.1, p.2, ← c.as_slice-subtypes.ensures, ← c.as_slice-names.ensures) (name_fault c.args.types.now c.args.from c.args.levels c.as_slice-subtypes.result.now c.as_slice-names.result.now c.loop-i.i c.as_slice.result.now c.in_err-name.field-0.0 n called c.in_err-name.ensures.fault)
 
-pub fields_from-returns-then-subtype-next-clause-fault : goal.fields_from-returns-then-subtype-next-clause-fault
-fields_from-returns-then-subtype-next-clause-fault t c =
+pub subtree_fields-returns-then-subtype-next-clause-fault : goal.subtree_fields-returns-then-subtype-next-clause-fault
+subtree_fields-returns-then-subtype-next-clause-fault t c =
     let none : NoFieldsAt c.args.types.now c.args.from c.as_slice-subtypes.result.now c.as_slice-names.result.now =
-    reached_place c.args.types.now c.args.from c.args.levels c.as_slice-subtypes.result.now c.as_slice-names.result.now (map named c.loop-i.fields.items) c.loop-i.i c.loop-i.next c.loop-i-test.true c.if-subtype-next.true c.loop-i.invariant in
+    reached_place c.args.types.now c.args.from c.args.levels c.as_slice-subtypes.result.now c.as_slice-names.result.now (map name_and_type c.loop-i.fields.items) c.loop-i.i c.loop-i.next c.loop-i-test.true c.if-subtype-next.true c.loop-i.invariant in
     λ fs rest begins called. none fs rest (begins ∙ sym c.as_slice-subtypes.ensures) (called ∙ sym c.as_slice-names.ensures)
 
-pub fields_from-returns-in_err-tree-clause-fault : goal.fields_from-returns-in_err-tree-clause-fault
-fields_from-returns-in_err-tree-clause-fault t c =
+pub subtree_fields-returns-in_err-tree-clause-fault : goal.subtree_fields-returns-in_err-tree-clause-fault
+subtree_fields-returns-in_err-tree-clause-fault t c =
     let p = err_from_is_err_and c.from_residual-in_err-tree.result c.from_residual-in_err-tree.ensures.1 in
-    rw (p.1, p.2, ← c.as_slice-subtypes.ensures, ← c.as_slice-names.ensures) (field_fault c.args.types.now c.args.from c.args.levels c.as_slice-subtypes.result.now c.as_slice-names.result.now (map named c.loop-i.fields.items) c.loop-i.i c.loop-i.next c.in_err-tree.field-0.0 c.loop-i-test.true c.if-subtype-next.false c.loop-i.invariant c.in_err-tree.ensures.fault)
+    rw (p.1, p.2, ← c.as_slice-subtypes.ensures, ← c.as_slice-names.ensures) (field_fault c.args.types.now c.args.from c.args.levels c.as_slice-subtypes.result.now c.as_slice-names.result.now (map name_and_type c.loop-i.fields.items) c.loop-i.i c.loop-i.next c.in_err-tree.field-0.0 c.loop-i-test.true c.if-subtype-next.false c.loop-i.invariant c.in_err-tree.ensures.fault)
 
-pub fields_from-loop-i-preserved : goal.fields_from-loop-i-preserved
-fields_from-loop-i-preserved t c =
+pub subtree_fields-loop-i-preserved : goal.subtree_fields-loop-i-preserved
+subtree_fields-loop-i-preserved t c =
     let n : c.loop-i.i < length c.as_slice-names.result.now = omega (arith, c.loop-i-test.true, c.if-subtypes-names.false) in
     let called : get_or c.as_slice-names.result.now c.loop-i.i [] ≡ c.as_slice.result.now = get_or-any c.as_slice-names.result.now c.loop-i.i [] c.index-names-i.result n ∙ sym c.index-names-i.is ∙ sym c.as_slice.ensures in
     let one : Field = record { name = c.in_ok-name.name; tree = c.in_ok-tree.tree } in
-    let pushed : map named c.push.new.self.items ≡ map named c.loop-i.fields.items ++ (c.as_slice.result.now, shape c.in_ok-tree.tree) ∷ [] =
-    ap (map named) c.in_ok-push.ensures.items ∙ map-append named c.loop-i.fields.items (one ∷ []) ∙ ap (λ g. map named c.loop-i.fields.items ++ g ∷ []) (named-is one ∙ ap (λ (b : List ℕ). (b, shape c.in_ok-tree.tree)) c.in_ok-name.ensures.text) in
-    rw (pushed, add-one) (reached_more c.args.types.now c.args.from c.args.levels c.as_slice-subtypes.result.now c.as_slice-names.result.now (map named c.loop-i.fields.items) c.loop-i.i c.loop-i.next c.in_ok-tree.end c.as_slice.result.now (shape c.in_ok-tree.tree)
+    let pushed : map name_and_type c.push.new.self.items ≡ map name_and_type c.loop-i.fields.items ++ (c.as_slice.result.now, shape c.in_ok-tree.tree) ∷ [] =
+    ap (map name_and_type) c.in_ok-push.ensures.items ∙ map-append name_and_type c.loop-i.fields.items (one ∷ []) ∙ ap (λ g. map name_and_type c.loop-i.fields.items ++ g ∷ []) (name_and_type-is one ∙ ap (λ (b : List ℕ). (b, shape c.in_ok-tree.tree)) c.in_ok-name.ensures.text) in
+    rw (pushed, add-one) (reached_more c.args.types.now c.args.from c.args.levels c.as_slice-subtypes.result.now c.as_slice-names.result.now (map name_and_type c.loop-i.fields.items) c.loop-i.i c.loop-i.next c.in_ok-tree.end c.as_slice.result.now (shape c.in_ok-tree.tree)
     c.loop-i-test.true n c.if-subtype-next.false called c.in_ok-name.ensures.utf8 c.in_ok-tree.ensures.found c.loop-i.invariant)
 
-pub fields_from-returns-clause-found : goal.fields_from-returns-clause-found
-fields_from-returns-clause-found t c =
-    rw (← c.as_slice-subtypes.ensures, ← c.as_slice-names.ensures) (reached_all c.args.types.now c.args.from c.args.levels c.as_slice-subtypes.result.now c.as_slice-names.result.now (map named c.loop-i.fields.items) c.loop-i.i c.loop-i.next (omega (arith, c.loop-i-test.false)) (omega (arith, c.loop-i-test.false, c.if-subtypes-names.false)) c.loop-i.invariant)
+pub subtree_fields-returns-clause-found : goal.subtree_fields-returns-clause-found
+subtree_fields-returns-clause-found t c =
+    rw (← c.as_slice-subtypes.ensures, ← c.as_slice-names.ensures) (reached_all c.args.types.now c.args.from c.args.levels c.as_slice-subtypes.result.now c.as_slice-names.result.now (map name_and_type c.loop-i.fields.items) c.loop-i.i c.loop-i.next (omega (arith, c.loop-i-test.false)) (omega (arith, c.loop-i-test.false, c.if-subtypes-names.false)) c.loop-i.invariant)

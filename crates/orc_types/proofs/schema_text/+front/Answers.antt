@@ -1,8 +1,8 @@
 use Rattle.std.proofs.Common.{◌≡◌, [], ◌∷◌, ◌++◌, map, ap, ◌∙◌, arith, string_bytes}
 use Rattle.std.proofs.lemmas.Result.{err_from_is_err_and}
 use Rattle.std.proofs.lemmas.List.{map-append}
-use Rattle.orc_types.specs.Views.{named, shape, fields}
-use Rattle.orc_types.proofs.Views.{named-is, shape-List, shape-Struct}
+use Rattle.orc_types.specs.Views.{name_and_type, shape, fields}
+use Rattle.orc_types.proofs.Views.{name_and_type-is, shape-List, shape-Struct}
 use Rattle.orc_types.proofs.TextFronts.{array_front, struct_front, no_front, array_fault, open_array, struct_fault, name_fault, type_fault, reached_none, reached_more, none_yet, field_fault}
 use Rattle.orc_types.proofs.schema_text.+front.Goals as goal
 
@@ -11,28 +11,28 @@ tree_from-returns-in_err-element-clause-fault t c =
     let p = err_from_is_err_and c.from_residual.result c.from_residual.ensures.1 in
     rw (p.1, p.2) (array_fault c.args.text.now c.in-Some.inner.now c.args.levels c.in_err-element.field-0.0 (omega arith) c.in-Some.ensures c.in_err-element.ensures.fault)
 
-pub tree_from-returns-in_default-after-clause-fault : goal.tree_from-returns-in_default-after-clause-fault
-tree_from-returns-in_default-after-clause-fault t c =
-    open_array c.args.text.now c.in-Some.inner.now _ (shape c.in_ok-element.element) c.in_ok-element.rest.now c.in-Some.ensures c.in_ok-element.ensures.found (c.in_default-after.ensures)
+pub tree_from-returns-in_default-text_behind-clause-fault : goal.tree_from-returns-in_default-text_behind-clause-fault
+tree_from-returns-in_default-text_behind-clause-fault t c =
+    open_array c.args.text.now c.in-Some.inner.now _ (shape c.in_ok-element.element) c.in_ok-element.rest.now c.in-Some.ensures c.in_ok-element.ensures.found (c.in_default-text_behind.ensures)
 
 pub tree_from-returns-in-Some-clause-found : goal.tree_from-returns-in-Some-clause-found
 tree_from-returns-in-Some-clause-found t c =
     rw (shape-List c.in_ok-new.field-0 c.new-in-Some.result, c.new-in-Some.ensures.items, c.in_ok-new.ensures.ok)
-    (array_front c.args.text.now c.in-Some.inner.now c.args.levels (shape c.in_ok-element.element) c.in_ok-element.rest.now c.in-Some-after.outer.now (omega arith) c.in-Some.ensures c.in_ok-element.ensures.found c.in-Some-after.ensures)
+    (array_front c.args.text.now c.in-Some.inner.now c.args.levels (shape c.in_ok-element.element) c.in_ok-element.rest.now c.in-Some-text_behind.outer.now (omega arith) c.in-Some.ensures c.in_ok-element.ensures.found c.in-Some-text_behind.ensures)
 
 pub tree_from-returns-in_err-fields-clause-fault : goal.tree_from-returns-in_err-fields-clause-fault
 tree_from-returns-in_err-fields-clause-fault t c =
     let p = err_from_is_err_and c.from_residual-in_err-fields.result c.from_residual-in_err-fields.ensures.1 in
-    rw (p.1, p.2) (struct_fault c.args.text.now c.in-Some-after-2.inner.now c.args.levels c.in_err-fields.field-0.0 (omega arith) c.in-Some-after-2.ensures c.in_err-fields.ensures.fault)
+    rw (p.1, p.2) (struct_fault c.args.text.now c.in-Some-text_behind-2.inner.now c.args.levels c.in_err-fields.field-0.0 (omega arith) c.in-Some-text_behind-2.ensures c.in_err-fields.ensures.fault)
 
-pub tree_from-returns-in-Some-after-2-clause-found : goal.tree_from-returns-in-Some-after-2-clause-found
-tree_from-returns-in-Some-after-2-clause-found t c =
-    rw (shape-Struct c.in_ok-fields.fields c.new-in-Some-after-2.result, c.new-in-Some-after-2.ensures.items)
-    (struct_front c.args.text.now c.in-Some-after-2.inner.now c.args.levels (fields c.in_ok-fields.fields.items) c.in_ok-fields.rest.now (omega arith) c.in-Some-after-2.ensures c.in_ok-fields.ensures.found)
+pub tree_from-returns-in-Some-text_behind-2-clause-found : goal.tree_from-returns-in-Some-text_behind-2-clause-found
+tree_from-returns-in-Some-text_behind-2-clause-found t c =
+    rw (shape-Struct c.in_ok-fields.fields c.new-in-Some-text_behind-2.result, c.new-in-Some-text_behind-2.ensures.items)
+    (struct_front c.args.text.now c.in-Some-text_behind-2.inner.now c.args.levels (fields c.in_ok-fields.fields.items) c.in_ok-fields.rest.now (omega arith) c.in-Some-text_behind-2.ensures c.in_ok-fields.ensures.found)
 
 pub tree_from-returns-in_default-kind_from-clause-fault : goal.tree_from-returns-in_default-kind_from-clause-fault
 tree_from-returns-in_default-kind_from-clause-fault t c =
-    (omega arith, no_front c.args.text.now (c.in_default.ensures) (c.in_default-after-2.ensures) (c.in_default-kind_from.ensures.none))
+    (omega arith, no_front c.args.text.now (c.in_default.ensures) (c.in_default-text_behind-2.ensures) (c.in_default-kind_from.ensures.none))
 
 pub field_from-returns-in_err-name-clause-fault : goal.field_from-returns-in_err-name-clause-fault
 field_from-returns-in_err-name-clause-fault t c =
@@ -50,11 +50,11 @@ fields_from-loop-rest-init t c = rw c.new-fields.ensures.items (reached_none c.a
 pub fields_from-returns-in_err-field-clause-fault : goal.fields_from-returns-in_err-field-clause-fault
 fields_from-returns-in_err-field-clause-fault t c =
     let p = err_from_is_err_and c.from_residual.result c.from_residual.ensures.1 in
-    rw (p.1, p.2) (field_fault c.args.text.now c.args.levels (map named c.loop-rest.fields.items) c.loop-rest.left.now c.is_empty.result c.in_err-field.field-0.0 (c.is_empty.ensures ∙ none_yet c.loop-rest.fields.items _ (c.loop-rest.fields.ok.0)) (c.in_default.ensures) c.loop-rest.invariant c.in_err-field.ensures.fault)
+    rw (p.1, p.2) (field_fault c.args.text.now c.args.levels (map name_and_type c.loop-rest.fields.items) c.loop-rest.left.now c.is_empty.result c.in_err-field.field-0.0 (c.is_empty.ensures ∙ none_yet c.loop-rest.fields.items _ (c.loop-rest.fields.ok.0)) (c.in_default.ensures) c.loop-rest.invariant c.in_err-field.ensures.fault)
 
 pub fields_from-loop-rest-preserved : goal.fields_from-loop-rest-preserved
 fields_from-loop-rest-preserved t c =
     let one = c.in_ok-field.field in
-    let pushed : map named c.push.new.self.items ≡ map named c.loop-rest.fields.items ++ (string_bytes one.name, shape one.tree) ∷ [] =
-    ap (map named) c.in_ok-push.ensures.items ∙ map-append named c.loop-rest.fields.items (one ∷ []) ∙ ap (λ g. map named c.loop-rest.fields.items ++ g ∷ []) (named-is one) in
-    rw pushed (reached_more c.args.text.now c.args.levels (map named c.loop-rest.fields.items) c.loop-rest.left.now c.is_empty.result (string_bytes one.name) (shape one.tree) c.in_ok-field.rest.now (c.is_empty.ensures ∙ none_yet c.loop-rest.fields.items _ (c.loop-rest.fields.ok.0)) c.in_ok-field.ensures.found c.loop-rest.invariant)
+    let pushed : map name_and_type c.push.new.self.items ≡ map name_and_type c.loop-rest.fields.items ++ (string_bytes one.name, shape one.tree) ∷ [] =
+    ap (map name_and_type) c.in_ok-push.ensures.items ∙ map-append name_and_type c.loop-rest.fields.items (one ∷ []) ∙ ap (λ g. map name_and_type c.loop-rest.fields.items ++ g ∷ []) (name_and_type-is one) in
+    rw pushed (reached_more c.args.text.now c.args.levels (map name_and_type c.loop-rest.fields.items) c.loop-rest.left.now c.is_empty.result (string_bytes one.name) (shape one.tree) c.in_ok-field.rest.now (c.is_empty.ensures ∙ none_yet c.loop-rest.fields.items _ (c.loop-rest.fields.ok.0)) c.in_ok-field.ensures.found c.loop-rest.invariant)

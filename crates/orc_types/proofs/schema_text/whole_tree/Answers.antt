@@ -9,4 +9,4 @@ returns-in-Ok-clause-fault c =
     (omega arith, more_text c.args.text.now 32 (shape c.in-Ok.field-0-0) c.in-Ok.rest.now c.in-Ok.ensures.found some)
 
 pub returns-in-Err-clause-fault : goal.returns-in-Err-clause-fault
-returns-in-Err-clause-fault c = front_fault c.args.text.now c.placed.result c.placed.ensures
+returns-in-Err-clause-fault c = front_fault c.args.text.now c.fault_from_front.result c.fault_from_front.ensures

@@ -19,4 +19,4 @@ unfolding five
 kept = record { fields = five ∷ []; are = ([], refl, refl, is_field); from = (record { least = omega arith; most = omega arith }, tt) }
 
 pub returns : goal.returns
-returns c = subst (AreKept 4) (sym (c.from_vec.ensures ∙ c.in_ok-copied_bytes.ensures)) kept
+returns c = subst (AreKept 4) (sym (c.from_vec.ensures ∙ c.in_ok-copy_bytes.ensures)) kept

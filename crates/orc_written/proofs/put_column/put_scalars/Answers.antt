@@ -9,12 +9,12 @@ use Rattle.orc_types.specs.Cells.{Cell, values}
 use Rattle.orc_types.specs.Fits.{RowsFit}
 use Rattle.orc_types.specs.Lent.{lent_cells}
 use Rattle.orc_written.specs.declared.body.Body.{Body}
-use Rattle.orc_written.specs.CellValues.{bools_in, octets_in, ints_in, all_bytes_in}
-use Rattle.orc_written.specs.WordList.{piece_bytes}
+use Rattle.orc_written.specs.CellValues.{bools_in, number_bytes_in, ints_in, all_bytes_in}
+use Rattle.orc_written.specs.WordList.{byte_strings}
 use Rattle.orc_written.specs.WrittenColumn.{Written, HasBits, HasBytes, HasNumbers, HasGroups, HasTexts, WritesValues}
 use Rattle.orc_written.specs.Adding.{AddsValues}
 use Rattle.orc_written.proofs.AddingLemmas.{adds_weaker}
-use Rattle.orc_written.proofs.CellValuesLemmas.{short_is, int_is, long_is, bools_stand, octets_stand, ints_stand, dates_stand, texts_stand, binaries_stand}
+use Rattle.orc_written.proofs.CellValuesLemmas.{short_is, int_is, long_is, bools_stand, number_bytes_stand, ints_stand, dates_stand, texts_stand, binaries_stand}
 use Rattle.orc_written.proofs.put_column.put_scalars.Goals as goal
 
 -- what is written of the values found is what is written of the column
@@ -31,8 +31,8 @@ returns-in-Boolean c = λ o fit. let cs = lent_cells c.args.cells.now in
 
 pub returns-in-Byte : goal.returns-in-Byte
 returns-in-Byte c = λ o fit. let cs = lent_cells c.args.cells.now in
-    IfOk-weaker c.put_octets.result _ _ (λ e h. of_kind c.args.rle kind.Byte c.args.kind o cs (λ w. HasBytes w (octets_in cs)) c.args.column c.args.body.now c.put_octets.new.body e c.in-Byte.is fit
-    (λ g w p. (octets_in cs, octets_stand o cs g, p)) h) c.put_octets.ensures
+    IfOk-weaker c.put_bytes.result _ _ (λ e h. of_kind c.args.rle kind.Byte c.args.kind o cs (λ w. HasBytes w (number_bytes_in cs)) c.args.column c.args.body.now c.put_bytes.new.body e c.in-Byte.is fit
+    (λ g w p. (number_bytes_in cs, number_bytes_stand o cs g, p)) h) c.put_bytes.ensures
 
 pub returns-in-Short : goal.returns-in-Short
 returns-in-Short c = λ o fit. let cs = lent_cells c.args.cells.now in
@@ -54,14 +54,14 @@ returns-in-Date c = λ o fit. let cs = lent_cells c.args.cells.now in
     IfOk-weaker c.put_numbers-in-Date.result _ _ (λ e h. of_kind c.args.rle kind.Date c.args.kind o cs (λ w. HasNumbers c.args.rle w (ints_in cs)) c.args.column c.args.body.now c.put_numbers-in-Date.new.body e c.in-Date.is fit
     (λ g w p. (ints_in cs, dates_stand o cs g, p)) h) c.put_numbers-in-Date.ensures
 
-pub returns-in_ok-pieces-in-String : goal.returns-in_ok-pieces-in-String
-returns-in_ok-pieces-in-String c = λ o fit. let cs = lent_cells c.args.cells.now in
-    let are : piece_bytes c.deref.result.now ≡ all_bytes_in cs = ap piece_bytes c.deref.ensures.value ∙ c.in_ok-pieces-in-String.ensures in
-    IfOk-weaker c.put_texts.result _ _ (λ e h. of_kind c.args.rle kind.String c.args.kind o cs (λ w. HasTexts c.args.rle w (piece_bytes c.deref.result.now)) c.args.column c.args.body.now c.put_texts.new.body e c.in-String.is fit
+pub returns-in_ok-strings-in-String : goal.returns-in_ok-strings-in-String
+returns-in_ok-strings-in-String c = λ o fit. let cs = lent_cells c.args.cells.now in
+    let are : byte_strings c.deref.result.now ≡ all_bytes_in cs = ap byte_strings c.deref.ensures.value ∙ c.in_ok-strings-in-String.ensures in
+    IfOk-weaker c.put_texts.result _ _ (λ e h. of_kind c.args.rle kind.String c.args.kind o cs (λ w. HasTexts c.args.rle w (byte_strings c.deref.result.now)) c.args.column c.args.body.now c.put_texts.new.body e c.in-String.is fit
     (λ g w p. (all_bytes_in cs, texts_stand o cs g, subst (λ ps. HasTexts c.args.rle w ps) are p)) h) c.put_texts.ensures
 
-pub returns-in_ok-pieces-in-Binary : goal.returns-in_ok-pieces-in-Binary
-returns-in_ok-pieces-in-Binary c = λ o fit. let cs = lent_cells c.args.cells.now in
-    let are : piece_bytes c.deref-in-Binary.result.now ≡ all_bytes_in cs = ap piece_bytes c.deref-in-Binary.ensures.value ∙ c.in_ok-pieces-in-Binary.ensures in
-    IfOk-weaker c.put_groups.result _ _ (λ e h. of_kind c.args.rle kind.Binary c.args.kind o cs (λ w. HasGroups c.args.rle w (piece_bytes c.deref-in-Binary.result.now)) c.args.column c.args.body.now c.put_groups.new.body e c.in-Binary.is fit
+pub returns-in_ok-strings-in-Binary : goal.returns-in_ok-strings-in-Binary
+returns-in_ok-strings-in-Binary c = λ o fit. let cs = lent_cells c.args.cells.now in
+    let are : byte_strings c.deref-in-Binary.result.now ≡ all_bytes_in cs = ap byte_strings c.deref-in-Binary.ensures.value ∙ c.in_ok-strings-in-Binary.ensures in
+    IfOk-weaker c.put_groups.result _ _ (λ e h. of_kind c.args.rle kind.Binary c.args.kind o cs (λ w. HasGroups c.args.rle w (byte_strings c.deref-in-Binary.result.now)) c.args.column c.args.body.now c.put_groups.new.body e c.in-Binary.is fit
     (λ g w p. (all_bytes_in cs, binaries_stand o cs g, subst (λ ps. HasGroups c.args.rle w ps) are p)) h) c.put_groups.ensures

@@ -1,8 +1,8 @@
 use Rattle.std.proofs.Common.{◌≡◌, List, length, map, sym, ap, ◌∙◌, subst, rules}
 use Rattle.std.proofs.lemmas.List.{length-map}
-use Rattle.orc_written.specs.declared.cell_values.Piece.{Piece}
+use Rattle.orc_written.specs.declared.cell_values.ByteString.{ByteString}
 use Rattle.orc_columns.specs.Spellings.{size, joined}
-use Rattle.orc_written.specs.WordList.{piece_bytes}
+use Rattle.orc_written.specs.WordList.{byte_strings}
 use Rattle.orc_written.specs.WrittenColumn.{dictionary}
 use Rattle.orc_written.specs.Adding.{AddsStream}
 use Rattle.orc_written.proofs.AddingLemmas.{words_added}
@@ -12,7 +12,7 @@ pub returns : goal.returns
 returns c = λ texts named.
     let items = c.args.found.now.entries.items in
     let many : c.in-Ok.entries ≡ length items = search rules in
-    let sized : c.in-Ok.entries ≡ length (piece_bytes items) = many ∙ sym (length-map items (λ (p : Piece). p.0.now)) in
-    words_added c.args.rle c.args.column c.args.body.now c.put_ints.new.self c.put_ints-2.new.self c.put_pieces.new.self c.dictionary.result c.args.found.now.places.items c.deref-2.result.now c.deref-3.result.now (piece_bytes items) texts
-    (c.dictionary.ensures ∙ ap (dictionary c.args.rle) sized) c.deref-2.ensures.value (c.deref-3.ensures.value ∙ c.in_ok-lengths.ensures.lengths ∙ ap (λ (ps : List Piece). map size (piece_bytes ps)) c.deref.ensures.value) named
-    c.in_ok-put_ints.ensures c.in_ok-put_ints-2.ensures (subst (λ (ps : List Piece). AddsStream (λ text. text ≡ joined (piece_bytes ps)) c.args.column 3 c.put_ints-2.new.self c.put_pieces.new.self) c.deref-4.ensures.value c.in_ok-put_pieces.ensures)
+    let sized : c.in-Ok.entries ≡ length (byte_strings items) = many ∙ sym (length-map items (λ (p : ByteString). p.0.now)) in
+    words_added c.args.rle c.args.column c.args.body.now c.put_ints.new.self c.put_ints-2.new.self c.put_byte_strings.new.self c.dictionary.result c.args.found.now.places.items c.deref-2.result.now c.deref-3.result.now (byte_strings items) texts
+    (c.dictionary.ensures ∙ ap (dictionary c.args.rle) sized) c.deref-2.ensures.value (c.deref-3.ensures.value ∙ c.in_ok-lengths.ensures.lengths ∙ ap (λ (ps : List ByteString). map size (byte_strings ps)) c.deref.ensures.value) named
+    c.in_ok-put_ints.ensures c.in_ok-put_ints-2.ensures (subst (λ (ps : List ByteString). AddsStream (λ text. text ≡ joined (byte_strings ps)) c.args.column 3 c.put_ints-2.new.self c.put_byte_strings.new.self) c.deref-4.ensures.value c.in_ok-put_byte_strings.ensures)

@@ -58,8 +58,8 @@ pub returns-in-Err-clause-fault : goal.returns-in-Err-clause-fault
 returns-in-Err-clause-fault c = λ n.
     let r = c.loop-self.self in
     let used : length r.run.values ≤ r.used = omega (arith, c.loop-self-test.true, ap length c.values.ensures.values) in
-    c.loop-self.invariant.1 (suc n) c.moved.result
-    (met_stop (is_run r.version r.sign) (no_run r.version r.sign) (drop r.used r.run.values) r.bytes.now r.start r.at (length r.bytes.now) (suc n) c.in-Err.fault c.moved.result (past_end r.used r.run.values used) c.if-self.false (rw c.split_at.ensures.back at c.in-Err.ensures.fault) c.moved.ensures.same)
+    c.loop-self.invariant.1 (suc n) c.with_place.result
+    (met_stop (is_run r.version r.sign) (no_run r.version r.sign) (drop r.used r.run.values) r.bytes.now r.start r.at (length r.bytes.now) (suc n) c.in-Err.fault c.with_place.result (past_end r.used r.run.values used) c.if-self.false (rw c.split_at.ensures.back at c.in-Err.ensures.fault) c.with_place.ensures)
 
 pub returns-clause-before : goal.returns-clause-before
 returns-clause-before c = c.loop-self.invariant.1

@@ -1,0 +1,187 @@
+//! A stripe's bytes, read in one call, the view of them, and their rows.
+ghost use Rattle.std.specs.Prelude.{◌≡◌, ◌≢◌, ◌<◌, ◌≤◌, ◌^◌, ◌⊎◌, length, false, Err, OnOk, IfOk, IfErr, IfSome, IsErrOf, MatchResult};
+ghost use Rattle.orc_wire.specs.declared.stripe_footer.StripeFooter.{StripeFooter};
+ghost use Rattle.std.specs.Bool.{OnTrue, OnFalse};
+ghost use Rattle.orc_columns.specs.Stripe.{HasFooter, IsStripe};
+ghost use Rattle.orc_stripe.specs.Opening.{OpenFault};
+ghost use Rattle.orc_columns.specs.declared.fault.StripeFault.{StripeFault};
+ghost use Rattle.orc_columns.specs.declared.fault.StripeFault.TheVariants as stripe;
+ghost use Rattle.orc_types.specs.Views.{views};
+ghost use Rattle.orc_file.specs.Stripes.{AllBefore, most_bytes, stripe_length, stripe_at, stripes_length};
+ghost use Rattle.orc_file.specs.FileRows.{stripe_bytes, IsNoStripe};
+ghost use Rattle.orc_file.specs.Caps.{no_cap};
+ghost use Rattle.orc_file.specs.declared.fault.FileFault.TheVariants.{Stripe, SourceFailed, OutOfMemory, Limit};
+
+use crate::fault::FileFault;
+use crate::file::OrcFile;
+use crate::tail::{Tail, stripe_length};
+use orc_devices::Source;
+use orc_stripe::{StripeFault, StripeView};
+use orc_types::Row;
+use std::alloc::Global;
+
+/// The fault of the stripe with this number.
+fn stripe_fault(number: usize, cause: StripeFault) -> FileFault
+    ensures memory { cause ≡ stripe.OutOfMemory → result ≡ OutOfMemory }
+    ensures either { (result ≡ OutOfMemory) ⊎ ((result ≡ Stripe number cause) × (cause ≢ stripe.OutOfMemory)) }
+{
+    match cause {
+        StripeFault::OutOfMemory => FileFault::OutOfMemory,
+        cause => FileFault::Stripe(number, cause),
+    }
+}
+
+/// Fills the vector with the bytes of the stripe with this number, which are read in one call; of a stripe without
+/// bytes nothing is asked. After a refusal the vector holds anything.
+///
+/// Refusals: `SourceFailed` where the source failed; `OutOfMemory`.
+pub fn load_stripe<S: Source>(
+    source: &mut S,
+    tail: &Tail,
+    number: usize,
+    into: &mut Vec<u8>,
+) -> Result<(), FileFault>
+    requires there { number < length tail.now.stripes }
+    requires within { AllBefore (S.size source.old) tail.now.stripes }
+    requires most { stripes_length tail.now.stripes ≤ most_bytes }
+    ensures bytes { OnOk result (IfSome (S.told source.old)
+        (λ bytes. into.new.items ≡ stripe_bytes (stripe_at tail.now.stripes number) bytes)) }
+    ensures told { S.told source.new ≡ S.told source.old }
+    ensures size { S.size source.new ≡ S.size source.old }
+
+    ensures fault { IfErr result (λ fault. (fault ≡ OutOfMemory) ⊎ (fault ≡ SourceFailed)) }
+    ensures kept { OnOk result (S.failures source.new ≡ S.failures source.old) }
+    ensures failed { IsErrOf result SourceFailed → S.failures source.old < S.failures source.new }
+    ensures memory { IsErrOf result OutOfMemory → S.failures source.new ≡ S.failures source.old }
+{
+    let stripe = tail.stripes.as_slice()[number];
+    let len = stripe_length(stripe);
+    into.clear();
+    into.resize(len as usize, 0)?;
+    if len > 0 && source.read_at(stripe.offset, into).is_err() {
+        return Err(FileFault::SourceFailed);
+    }
+    Ok(())
+}
+
+/// The view of the stripe with this number, over its bytes.
+///
+/// Refusals: `Stripe` with the number, and the fault of `StripeView::open`; `OutOfMemory`.
+pub fn view_stripe<'a>(
+    alloc: Global,
+    tail: &'a Tail,
+    number: usize,
+    bytes: &'a [u8],
+) -> Result<StripeView<'a>, FileFault>
+    requires { number < length tail.now.stripes }
+    ensures found { IfOk result
+        (λ view. HasFooter tail.now.schema (stripe_at tail.now.stripes number) bytes.now view.footer) }
+    ensures same { IfOk result (λ view. (view.schema ≡ tail.now.schema)
+        × (view.info ≡ stripe_at tail.now.stripes number)
+        × (view.stride ≡ tail.now.stride) × (view.bytes ≡ bytes.now)) }
+    ensures only { (footer : StripeFooter)
+        → HasFooter tail.now.schema (stripe_at tail.now.stripes number) bytes.now footer
+        → MatchResult result (λ view. view.footer ≡ footer) (λ fault. fault ≡ OutOfMemory) }
+    ensures fault { IfErr result (λ fault. (fault ≡ OutOfMemory)
+        ⊎ ((why : StripeFault) × (fault ≡ Stripe number why) × (why ≢ stripe.OutOfMemory)
+        × OpenFault tail.now.schema (stripe_at tail.now.stripes number) bytes.now why)) }
+{
+    let stripe = tail.stripes.as_slice()[number];
+    match StripeView::open(alloc, &tail.schema, stripe, tail.stride, bytes) {
+        Ok(view) => Ok(view),
+        Err(cause) => Err(stripe_fault(number, cause)),
+    }
+}
+
+/// The rows of the stripe with this number, over its bytes. Their texts and bytes are slices of these.
+///
+/// Refusals: `Stripe` with the number, and why the bytes are no stripe of any rows; `OutOfMemory`.
+pub fn stripe_rows<'a>(
+    alloc: Global,
+    tail: &'a Tail,
+    number: usize,
+    bytes: &'a [u8],
+) -> Result<Vec<Row<'a>>, FileFault>
+    requires { number < length tail.now.stripes }
+    ensures found { IfOk result
+        (λ rows. IsStripe tail.now.schema (stripe_at tail.now.stripes number) bytes.now (views rows.items)) }
+    ensures fault { IfErr result (λ fault. (fault ≡ OutOfMemory)
+        ⊎ ((why : StripeFault) × (fault ≡ Stripe number why) × (why ≢ stripe.OutOfMemory)
+        × IsNoStripe tail.now.schema (stripe_at tail.now.stripes number) bytes.now why)) }
+{
+    let view = view_stripe(alloc, tail, number, bytes)?;
+    match view.rows(alloc) {
+        Ok(rows) => Ok(rows),
+        Err(cause) => Err(stripe_fault(number, cause)),
+    }
+}
+
+impl<S: Source> OrcFile<S> {
+    /// Whether the stripe with this number is longer than the cap.
+    fn is_above_cap(&self, number: usize) -> bool
+        requires { number < length self.now.tail.stripes }
+        ensures yes { OnTrue result (self.now.cap < stripe_length (stripe_at self.now.tail.stripes number)) }
+        ensures no { OnFalse result (stripe_length (stripe_at self.now.tail.stripes number) ≤ self.now.cap) }
+        ensures never { self.now.cap ≡ no_cap → result ≡ false }
+    {
+        let len = stripe_length(self.tail.stripes.as_slice()[number]);
+        len > self.cap
+    }
+
+    /// Fills the vector with the bytes of the stripe with this number, which are read in one call; of a stripe
+    /// without bytes nothing is asked. After another refusal than `Limit` the vector holds anything, and the file is
+    /// as it was.
+    ///
+    /// Refusals: `Limit` where the stripe is longer than the file's cap, and then neither the source was asked nor
+    /// the vector touched; `SourceFailed` where the source failed; `OutOfMemory`.
+    pub fn load(&mut self, number: usize, into: &mut Vec<u8>) -> Result<(), FileFault>
+        requires { number < length self.old.tail.stripes }
+        ensures bytes { OnOk result (IfSome (S.told self.old.source)
+            (λ bytes. into.new.items ≡ stripe_bytes (stripe_at self.old.tail.stripes number) bytes)) }
+        ensures tail { self.new.tail ≡ self.old.tail }
+        ensures cap { self.new.cap ≡ self.old.cap }
+        ensures told { S.told self.new.source ≡ S.told self.old.source }
+        ensures size { S.size self.new.source ≡ S.size self.old.source }
+
+        ensures limit { self.old.cap < stripe_length (stripe_at self.old.tail.stripes number)
+            → (result ≡ Err Limit) × ((self.new ≡ self.old) × (into.new ≡ into.old)) }
+        ensures within { OnOk result (stripe_length (stripe_at self.old.tail.stripes number) ≤ self.old.cap) }
+        ensures fault { IfErr result (λ fault. (fault ≡ OutOfMemory) ⊎ ((fault ≡ SourceFailed)
+            ⊎ ((fault ≡ Limit) × (self.old.cap < stripe_length (stripe_at self.old.tail.stripes number))))) }
+        ensures uncapped { self.old.cap ≡ no_cap → IfErr result
+            (λ fault. (fault ≡ OutOfMemory) ⊎ (fault ≡ SourceFailed)) }
+        ensures kept { OnOk result (S.failures self.new.source ≡ S.failures self.old.source) }
+        ensures failed { IsErrOf result SourceFailed → S.failures self.old.source < S.failures self.new.source }
+        ensures memory { IsErrOf result OutOfMemory → S.failures self.new.source ≡ S.failures self.old.source }
+    {
+        if self.is_above_cap(number) {
+            return Err(FileFault::Limit);
+        }
+        load_stripe(&mut self.source, &self.tail, number, into)
+    }
+
+    /// The view of the stripe with this number, over its bytes.
+    ///
+    /// Refusals: `Stripe` with the number, and the fault of `StripeView::open`; `OutOfMemory`.
+    pub fn view<'a>(
+        &'a self,
+        alloc: Global,
+        number: usize,
+        bytes: &'a [u8],
+    ) -> Result<StripeView<'a>, FileFault>
+        requires { number < length self.now.tail.stripes }
+        ensures found { IfOk result
+            (λ view. HasFooter self.now.tail.schema (stripe_at self.now.tail.stripes number) bytes.now view.footer) }
+        ensures same { IfOk result (λ view. (view.schema ≡ self.now.tail.schema)
+            × (view.info ≡ stripe_at self.now.tail.stripes number)
+            × (view.stride ≡ self.now.tail.stride) × (view.bytes ≡ bytes.now)) }
+        ensures only { (footer : StripeFooter)
+            → HasFooter self.now.tail.schema (stripe_at self.now.tail.stripes number) bytes.now footer
+            → MatchResult result (λ view. view.footer ≡ footer) (λ fault. fault ≡ OutOfMemory) }
+        ensures fault { IfErr result (λ fault. (fault ≡ OutOfMemory)
+            ⊎ ((why : StripeFault) × (fault ≡ Stripe number why) × (why ≢ stripe.OutOfMemory)
+            × OpenFault self.now.tail.schema (stripe_at self.now.tail.stripes number) bytes.now why)) }
+    {
+        view_stripe(alloc, &self.tail, number, bytes)
+    }
+}

@@ -1,0 +1,121 @@
+//! A file's rows, read stripe by stripe: the bytes of one stripe are held at a time.
+ghost use Rattle.std.specs.Prelude.{◌≡◌, ◌≢◌, ◌<◌, ◌≤◌, ◌++◌, ◌⊎◌, List, length, OnOk, IfOk, IfErr, IfSome, IsErrOf, MatchResult};
+ghost use Rattle.orc_types.specs.Cells.{Cell};
+ghost use Rattle.orc_types.specs.Views.{views};
+ghost use Rattle.orc_columns.specs.Stripe.{IsStripe};
+ghost use Rattle.orc_columns.specs.declared.fault.StripeFault.{StripeFault};
+ghost use Rattle.orc_columns.specs.declared.fault.StripeFault.TheVariants as stripe;
+ghost use Rattle.orc_file.specs.Stripes.{stripe_at, stripe_length};
+ghost use Rattle.orc_file.specs.Tails.{IsTail, ReadFault};
+ghost use Rattle.orc_file.specs.FileRows.{stripe_bytes, IsNoStripe, HasMore, FileIs};
+ghost use Rattle.orc_file.specs.Caps.{AllWithin, CappedRefused, FirstCapped};
+ghost use Rattle.orc_file.specs.declared.fault.FileFault.TheVariants.{Stripe, SourceFailed, OutOfMemory, Limit};
+
+use crate::fault::FileFault;
+use crate::file::OrcFile;
+use crate::rows::loading::stripe_rows;
+use orc_devices::Source;
+use orc_types::{Row, owned};
+use std::alloc::{AllocError, Global};
+
+/// Puts rows with texts of their own behind others.
+fn append_owned(
+    alloc: Global,
+    from: &[Row<'_>],
+    rows: &mut Vec<Row<'static>>,
+) -> Result<(), AllocError>
+    ensures { OnOk result (views rows.new.items ≡ views rows.old.items ++ views from.now) }
+{
+    for row in from {
+        rows.push(owned(alloc, row)?)?;
+    }
+    Ok(())
+}
+
+impl<S: Source> OrcFile<S> {
+    /// The rows of the stripe with this number, over its bytes. Their texts and bytes are slices of these.
+    ///
+    /// Refusals: `Stripe` with the number, and why the bytes are no stripe of any rows; `OutOfMemory`.
+    pub fn stripe_rows<'a>(
+        &'a self,
+        alloc: Global,
+        number: usize,
+        bytes: &'a [u8],
+    ) -> Result<Vec<Row<'a>>, FileFault>
+        requires { number < length self.now.tail.stripes }
+        ensures found { IfOk result
+            (λ rows. IsStripe self.now.tail.schema (stripe_at self.now.tail.stripes number) bytes.now
+            (views rows.items)) }
+        ensures fault { IfErr result (λ fault. (fault ≡ OutOfMemory)
+            ⊎ ((why : StripeFault) × (fault ≡ Stripe number why) × (why ≢ stripe.OutOfMemory)
+            × IsNoStripe self.now.tail.schema (stripe_at self.now.tail.stripes number) bytes.now why)) }
+    {
+        stripe_rows(alloc, &self.tail, number, bytes)
+    }
+
+    /// Reads the rows of the stripe with this number behind others.
+    fn read_stripe(
+        &mut self,
+        alloc: Global,
+        number: usize,
+        bytes: &mut Vec<u8>,
+        rows: &mut Vec<Row<'static>>,
+    ) -> Result<(), FileFault>
+        requires { number < length self.old.tail.stripes }
+        ensures found { OnOk result (IfSome (S.told self.old.source)
+            (λ all. HasMore self.old.tail.schema (stripe_at self.old.tail.stripes number) all (views rows.old.items)
+            (views rows.new.items))) }
+        ensures within { OnOk result (stripe_length (stripe_at self.old.tail.stripes number) ≤ self.old.cap) }
+        ensures tail { self.new.tail ≡ self.old.tail }
+        ensures cap { self.new.cap ≡ self.old.cap }
+        ensures told { S.told self.new.source ≡ S.told self.old.source }
+        ensures size { S.size self.new.source ≡ S.size self.old.source }
+
+        ensures fault { IfErr result (λ fault. ReadFault (S.told self.old.source) fault
+            (λ all. CappedRefused self.old.cap self.old.tail.schema all number
+            (stripe_at self.old.tail.stripes number) fault)) }
+        ensures limit { IsErrOf result Limit → self.old.cap < stripe_length (stripe_at self.old.tail.stripes number) }
+        ensures kept { OnOk result (S.failures self.new.source ≡ S.failures self.old.source) }
+        ensures failed { IsErrOf result SourceFailed → S.failures self.old.source < S.failures self.new.source }
+        ensures memory { IsErrOf result OutOfMemory → S.failures self.new.source ≡ S.failures self.old.source }
+    {
+        self.load(number, bytes)?;
+        let own = self.stripe_rows(alloc, number, bytes)?;
+        append_owned(alloc, &own, rows)?;
+        Ok(())
+    }
+
+    /// The file's rows, with texts of their own. Each stripe's bytes are read in one call, and those of one
+    /// stripe are held at a time. After a refusal the file is as it was, and may be asked again.
+    ///
+    /// Refusals: of the first stripe that is refused `Limit` where it is longer than the file's cap, or `Stripe` with
+    /// its number where it has no rows, and why; `SourceFailed` where the source failed; `OutOfMemory`. Where it is
+    /// `Stripe` the bytes are no file of any rows.
+    pub fn rows(&mut self, alloc: Global) -> Result<Vec<Row<'static>>, FileFault>
+        ensures found { IfOk result (λ rows. IfSome (S.told self.old.source) (λ bytes. IsTail bytes self.old.tail
+            → FileIs bytes self.old.tail (views rows.items))) }
+        ensures within { OnOk result (AllWithin self.old.cap self.old.tail.stripes) }
+        ensures only { AllWithin self.old.cap self.old.tail.stripes
+            → IfSome (S.told self.old.source) (λ bytes. (rows : List Cell) → FileIs bytes self.old.tail rows
+            → MatchResult result (λ answered. views answered.items ≡ rows)
+            (λ fault. (fault ≡ OutOfMemory) ⊎ (fault ≡ SourceFailed))) }
+        ensures tail { self.new.tail ≡ self.old.tail }
+        ensures cap { self.new.cap ≡ self.old.cap }
+        ensures told { S.told self.new.source ≡ S.told self.old.source }
+        ensures size { S.size self.new.source ≡ S.size self.old.source }
+
+        ensures fault { IfErr result (λ fault. ReadFault (S.told self.old.source) fault
+            (λ bytes. FirstCapped self.old.cap self.old.tail.schema bytes 0 self.old.tail.stripes fault)) }
+        ensures limit { IsErrOf result Limit → AllWithin self.old.cap self.old.tail.stripes → ⊥ }
+        ensures kept { OnOk result (S.failures self.new.source ≡ S.failures self.old.source) }
+        ensures failed { IsErrOf result SourceFailed → S.failures self.old.source < S.failures self.new.source }
+        ensures memory { IsErrOf result OutOfMemory → S.failures self.new.source ≡ S.failures self.old.source }
+    {
+        let mut rows = Vec::new(alloc);
+        let mut bytes = Vec::new(alloc);
+        for number in 0..self.tail.stripes.as_slice().len() {
+            self.read_stripe(alloc, number, &mut bytes, &mut rows)?;
+        }
+        Ok(rows)
+    }
+}

@@ -1,0 +1,102 @@
+//! The statistics of a file's columns, joined of those of its stripes.
+ghost use Rattle.std.specs.Prelude.{◌≡◌, ◌≤◌, ◌<◌, ◌^◌, ◌⊎◌, ℕ, true, sum_by, All, IfOk, OnOk, IfErr};
+ghost use Rattle.orc_types.specs.Shapes.{width};
+ghost use Rattle.orc_stats.specs.declared.stat.Stat.{Stat};
+ghost use Rattle.orc_stats.specs.declared.fault.StatFault.TheVariants as fault;
+ghost use Rattle.orc_stats.specs.Kinds.{body_is_of};
+ghost use Rattle.orc_file.specs.Statistics.{kind_at};
+ghost use Rattle.orc_file.specs.Writing.{file_stats, column_stats};
+
+use orc_stats::{Body, Stat, StatFault, StatKind, join_all};
+use orc_types::{Schema, tree_at};
+use orc_wire::{Bytes, Items};
+use std::alloc::{AllocError, Global};
+
+/// A copy of bytes that may be there.
+fn copy_bytes(alloc: Global, bytes: &Option<Bytes>) -> Result<Option<Bytes>, AllocError>
+    ensures { IfOk result (λ copy. copy ≡ bytes.now) }
+{
+    match bytes {
+        None => Ok(None),
+        Some(bytes) => Ok(Some(Items::from_vec(bytes.as_slice().to_vec(alloc)?))),
+    }
+}
+
+/// A copy of a statistic.
+fn copy_stat(alloc: Global, stat: &Stat) -> Result<Stat, AllocError>
+    ensures { IfOk result (λ copy. copy ≡ stat.now) }
+{
+    let body = match &stat.body {
+        Body::Plain => Body::Plain,
+        Body::Ints {
+            least,
+            greatest,
+            sum,
+        } => Body::Ints {
+            least: *least,
+            greatest: *greatest,
+            sum: *sum,
+        },
+        Body::Bools { trues } => Body::Bools { trues: *trues },
+        Body::Dates { least, greatest } => Body::Dates {
+            least: *least,
+            greatest: *greatest,
+        },
+        Body::Texts {
+            least,
+            greatest,
+            sum,
+        } => Body::Texts {
+            least: copy_bytes(alloc, least)?,
+            greatest: copy_bytes(alloc, greatest)?,
+            sum: *sum,
+        },
+        Body::Bins { sum } => Body::Bins { sum: *sum },
+    };
+    Ok(Stat {
+        count: stat.count,
+        nulls: stat.nulls,
+        body,
+    })
+}
+
+/// The statistics of a column in each stripe, copied.
+fn of_column(alloc: Global, stats: &[Items<Stat>], column: usize) -> Result<Vec<Stat>, AllocError>
+    ensures { IfOk result (λ found. found.items ≡ column_stats column stats.now) }
+{
+    let mut found = Vec::new(alloc);
+    for stripe in stats {
+        if let Some(stat) = stripe.as_slice().get(column) {
+            found.push(copy_stat(alloc, stat)?)?;
+        }
+    }
+    Ok(found)
+}
+
+/// The statistics of a file's columns, one for each: all that its stripes have of the column, joined (ORC
+/// specification, "Column Statistics"). Each stripe's statistics stand by the number of the column.
+///
+/// Refusals: `CountTooLarge` where a column has more than 2^62 values; and `OutOfMemory`.
+pub fn file_statistics(
+    alloc: Global,
+    schema: &Schema,
+    stats: &[Items<Stat>],
+) -> Result<Vec<Stat>, StatFault>
+    requires kinds { (c : ℕ) → c < width schema.now
+        → All (λ (s : Stat). body_is_of (kind_at schema.now c) s.body ≡ true) (column_stats c stats.now) }
+    ensures found { IfOk result (λ found. found.items ≡ file_stats schema.now stats.now) }
+    ensures few { OnOk result ((c : ℕ) → c < width schema.now
+        → sum_by (λ (s : Stat). s.count) (column_stats c stats.now) ≤ 2 ^ 62) }
+    ensures fault { IfErr result (λ e. (e ≡ fault.OutOfMemory)
+        ⊎ ((e ≡ fault.CountTooLarge) × (c : ℕ) × (c < width schema.now)
+        × (2 ^ 62 < sum_by (λ (s : Stat). s.count) (column_stats c stats.now)))) }
+{
+    let mut found = Vec::new(alloc);
+    for column in 0..schema.width() {
+        let kind = StatKind::of_type(tree_at(schema.tree(), column));
+        let stripes = of_column(alloc, stats, column)?;
+        let stat = join_all(alloc, kind, &stripes)?;
+        found.push(stat)?;
+    }
+    Ok(found)
+}

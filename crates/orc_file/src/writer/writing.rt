@@ -1,0 +1,483 @@
+//! Rows to a file.
+ghost use Rattle.std.specs.Prelude.{◌≡◌, ◌+◌, ◌<◌, ◌≤◌, ◌⊎◌, ◌↔◌, ◌++◌, ◌∷◌, [], ℕ, List, Option, length, get_or, map, true, false, IfOk, IfErr, OnOk, OnErr, IsErrOf, MatchResult};
+ghost use Rattle.orc_rle.specs.declared.sign.Rle.{Rle};
+ghost use Rattle.orc_wire.specs.declared.stripe_info.StripeInfo.{StripeInfo};
+ghost use Rattle.orc_types.specs.Shapes.{width};
+ghost use Rattle.orc_types.specs.Schemas.{IsSchema};
+ghost use Rattle.orc_types.specs.Cells.{Cell, cells_of};
+ghost use Rattle.orc_types.specs.Columns as columns;
+ghost use Rattle.orc_types.specs.Fits as fitting;
+ghost use Rattle.orc_types.specs.Views.{view, views};
+ghost use Rattle.orc_columns.specs.Stripe.{IsStripe};
+ghost use Rattle.orc_written.specs.WrittenStripe.{IsWrittenStripe, HaveStats};
+ghost use Rattle.orc_devices.specs.Devices.{appended};
+ghost use Rattle.orc_file.specs.Stripes.{stripe_length, stripes_length, stripes_rows, most_stripes, most_rows, most_bytes};
+ghost use Rattle.orc_file.specs.Counts.{are_laid_with_few_rows, are_few, are_all_stats, with_row, PassesLimit};
+ghost use Rattle.orc_file.specs.Writing.{HasTaken, HasKept, HasPushed, HasFilled, IsCutOff, IsWhole, PassesBytes};
+ghost use Rattle.orc_file.specs.Progress.{progress};
+ghost use Rattle.orc_file.specs.declared.fault.FileFault.TheVariants as fault;
+
+use crate::fault::FileFault;
+use crate::tail::{MOST_BYTES, MOST_ROWS, MOST_STRIPES, Tail};
+use crate::writer::Writer;
+use crate::writer::counting::{count_row, no_cells, reset};
+use crate::writer::file_end::{Stripes, end_file};
+use orc_devices::{Sink, write_all};
+use orc_stats::Stat;
+use orc_stripe::{Options, StripeOut, write_stripe};
+use orc_types::{Row, Schema, fits, owned};
+use orc_wire::{Items, StripeInfo};
+use std::alloc::Global;
+use std::mem::swap;
+
+impl<W: Sink> Writer<W> {
+    /// A writer of a file of this schema, without rows yet. It has written `ORC`.
+    ///
+    /// Refusals: `WriteFailed` and `OutOfMemory`. They hand the output back.
+    pub fn new(
+        alloc: Global,
+        schema: Schema,
+        options: Options,
+        out: W,
+    ) -> Result<Writer<W>, (FileFault, W)>
+        ensures pushed { IfOk result (λ w. HasPushed (progress W.told w) (W.told out) []) }
+        ensures made { IfOk result (λ w. (w.schema ≡ schema) × (w.options ≡ options) × (w.failed ≡ false)) }
+        ensures taken { IfOk result (λ w. HasTaken (W.told out) (W.told w.out) w.written) }
+
+        ensures refused { IfErr result (λ e. (e.0 ≡ fault.WriteFailed) ⊎ (e.0 ≡ fault.OutOfMemory)) }
+        ensures cut { IfErr result (λ e. IsCutOff options schema (W.told out) (W.told e.1) []) }
+        ensures write_failed { IfErr result (λ e. e.0 ≡ fault.WriteFailed → W.failures out < W.failures e.1) }
+        ensures memory { IfErr result (λ e. e.0 ≡ fault.OutOfMemory → W.failures e.1 ≡ W.failures out) }
+        ensures no_failure { IfOk result (λ w. W.failures w.out ≡ W.failures out) }
+    {
+        // for its contract alone: the types are those of a schema
+        let _types = schema.types();
+        let mut out = out;
+        let Ok(counts) = no_cells(alloc, schema.width()) else {
+            return Err((FileFault::OutOfMemory, out));
+        };
+        let Ok(sums) = no_cells(alloc, schema.width()) else {
+            return Err((FileFault::OutOfMemory, out));
+        };
+        match write_all(&mut out, b"ORC") {
+            Ok(()) => Ok(Writer {
+                alloc,
+                schema,
+                options,
+                out,
+                infos: Vec::new(alloc),
+                stats: Vec::new(alloc),
+                written: 3,
+                total: 0,
+                rows: Vec::new(alloc),
+                counts,
+                sums,
+                failed: false,
+            }),
+            Err(_) => Err((FileFault::WriteFailed, out)),
+        }
+    }
+
+    /// The kept rows as a stripe at its place in the file.
+    fn stripe_of(&self) -> Result<StripeOut, FileFault>
+        requires open { self.now.failed ≡ false }
+        ensures stripe { IfOk result
+            (λ out. IsStripe self.now.schema out.info out.bytes.items (views self.now.rows.items)) }
+        ensures text { IfOk result
+            (λ out. IsWrittenStripe self.now.options.rle self.now.options.stride self.now.schema
+            (views self.now.rows.items) (record out.info { offset = 0 }) out.bytes.items) }
+        ensures stats { IfOk result
+            (λ out. HaveStats self.now.schema (views self.now.rows.items) (width self.now.schema) out.stats.items) }
+        ensures place { IfOk result (λ out. out.info.offset ≡ self.now.written) }
+        ensures few { IfOk result (λ out. stripes_length self.now.infos.items + length out.bytes.items ≤ most_bytes) }
+        ensures schema { IsSchema self.now.schema }
+        ensures limit { IsErrOf result fault.Limit
+            → PassesBytes self.now.options self.now.schema self.now.infos.items (views self.now.rows.items) }
+        ensures refused { IfErr result (λ e. (e ≡ fault.Limit) ⊎ (e ≡ fault.OutOfMemory)) }
+    {
+        // for its contract alone: the types are those of a schema
+        let _types = self.schema.types();
+        let Ok(out) = write_stripe(self.alloc, &self.schema, &self.options, &self.rows) else {
+            return Err(FileFault::OutOfMemory);
+        };
+        if out.bytes.len() as u64 > MOST_BYTES - (self.written - 3) {
+            return Err(FileFault::Limit);
+        }
+        Ok(StripeOut {
+            bytes: out.bytes,
+            info: StripeInfo {
+                offset: self.written,
+                ..out.info
+            },
+            stats: out.stats,
+        })
+    }
+
+    /// Writes a stripe of the kept rows. After a refusal the writer has failed.
+    fn send(&mut self, stripe: StripeOut) -> Result<(), FileFault>
+        requires open { self.old.failed ≡ false }
+        requires begun { 0 < length self.old.rows.items }
+        requires stripe { IsStripe self.old.schema stripe.info stripe.bytes.items (views self.old.rows.items) }
+        requires text { IsWrittenStripe self.old.options.rle self.old.options.stride self.old.schema
+            (views self.old.rows.items) (record stripe.info { offset = 0 }) stripe.bytes.items }
+        requires stats { HaveStats self.old.schema (views self.old.rows.items) (width self.old.schema)
+            stripe.stats.items }
+        requires place { stripe.info.offset ≡ self.old.written }
+        requires few { stripes_length self.old.infos.items + length stripe.bytes.items ≤ most_bytes }
+        requires schema { IsSchema self.old.schema }
+        ensures kept { (first : Option (List ℕ)) (rows : List Cell)
+            → length self.old.rows.items ≡ self.old.options.stripe_rows
+            → HasKept (progress W.told self.old) first rows
+            → OnOk result (HasKept (record (progress W.told self.new) { kept = [] }) first rows) }
+        ensures last { (first : Option (List ℕ)) (rows : List Cell)
+            → length self.old.rows.items ≤ self.old.options.stripe_rows
+            → HasKept (progress W.told self.old) first rows
+            → OnOk result (HasFilled (progress W.told self.new) first rows) }
+        ensures cut { (first : Option (List ℕ)) (rows : List Cell)
+            → length self.old.rows.items ≤ self.old.options.stripe_rows
+            → HasKept (progress W.told self.old) first rows
+            → OnErr result (IsCutOff self.old.options self.old.schema first (W.told self.new.out) rows) }
+        ensures taken { (first : Option (List ℕ)) → HasTaken first (W.told self.old.out) self.old.written
+            → HasTaken first (W.told self.new.out) self.new.written }
+        ensures empty { OnOk result (self.new.rows.items ≡ []) }
+        ensures same { (self.new.schema ≡ self.old.schema) × (self.new.options ≡ self.old.options) }
+        ensures ok { OnOk result (self.new.failed ≡ false) }
+        ensures failed { OnErr result (self.new.failed ≡ true) }
+        ensures refused { IfErr result (λ e. (e ≡ fault.WriteFailed) ⊎ (e ≡ fault.OutOfMemory)) }
+        ensures write_failed { IsErrOf result fault.WriteFailed → W.failures self.old.out < W.failures self.new.out }
+        ensures memory { IsErrOf result fault.OutOfMemory → W.failures self.new.out ≡ W.failures self.old.out }
+        ensures no_failure { OnOk result (W.failures self.new.out ≡ W.failures self.old.out) }
+    {
+        self.failed = true;
+        match write_all(&mut self.out, &stripe.bytes) {
+            Ok(()) => self.written += stripe.bytes.len() as u64,
+            Err(taken) => {
+                self.written += taken as u64;
+                return Err(FileFault::WriteFailed);
+            }
+        }
+        let Ok(()) = self.stats.push(Items::from_vec(stripe.stats)) else {
+            return Err(FileFault::OutOfMemory);
+        };
+        let Ok(()) = self.infos.push(stripe.info) else {
+            return Err(FileFault::OutOfMemory);
+        };
+        self.rows.clear();
+        reset(&mut self.counts);
+        self.failed = false;
+        Ok(())
+    }
+
+    /// Writes the kept rows, of which there is one at least, as a stripe. After a refusal the writer has
+    /// failed.
+    fn close(&mut self) -> Result<(), FileFault>
+        requires open { self.old.failed ≡ false }
+        requires begun { 0 < length self.old.rows.items }
+        ensures kept { (first : Option (List ℕ)) (rows : List Cell)
+            → length self.old.rows.items ≡ self.old.options.stripe_rows
+            → HasKept (progress W.told self.old) first rows
+            → OnOk result (HasKept (record (progress W.told self.new) { kept = [] }) first rows) }
+        ensures last { (first : Option (List ℕ)) (rows : List Cell)
+            → length self.old.rows.items ≤ self.old.options.stripe_rows
+            → HasKept (progress W.told self.old) first rows
+            → OnOk result (HasFilled (progress W.told self.new) first rows) }
+        ensures cut { (first : Option (List ℕ)) (rows : List Cell)
+            → length self.old.rows.items ≤ self.old.options.stripe_rows
+            → HasKept (progress W.told self.old) first rows
+            → OnErr result (IsCutOff self.old.options self.old.schema first (W.told self.new.out) rows) }
+        ensures taken { (first : Option (List ℕ)) → HasTaken first (W.told self.old.out) self.old.written
+            → HasTaken first (W.told self.new.out) self.new.written }
+        ensures empty { OnOk result (self.new.rows.items ≡ []) }
+        ensures same { (self.new.schema ≡ self.old.schema) × (self.new.options ≡ self.old.options) }
+        ensures ok { OnOk result (self.new.failed ≡ false) }
+        ensures failed { OnErr result (self.new.failed ≡ true) }
+        ensures limit { IsErrOf result fault.Limit
+            → PassesBytes self.old.options self.old.schema self.old.infos.items (views self.old.rows.items) }
+        ensures refused { IfErr result (λ e. (e ≡ fault.WriteFailed) ⊎ ((e ≡ fault.Limit) ⊎ (e ≡ fault.OutOfMemory))) }
+        ensures write_failed { IsErrOf result fault.WriteFailed → W.failures self.old.out < W.failures self.new.out }
+        ensures memory { IsErrOf result fault.OutOfMemory → W.failures self.new.out ≡ W.failures self.old.out }
+        ensures no_failure { OnOk result (W.failures self.new.out ≡ W.failures self.old.out) }
+    {
+        match self.stripe_of() {
+            Ok(stripe) => self.send(stripe),
+            Err(fault) => {
+                self.failed = true;
+                Err(fault)
+            }
+        }
+    }
+
+    /// Whether a row may be pushed. Then `sums` has the counts with it.
+    fn admit(&mut self, row: &Row<'_>) -> Result<(), FileFault>
+        ensures open { OnOk result (self.old.failed ≡ false) }
+        ensures schema { IsSchema self.old.schema }
+        ensures fits { OnOk result (fitting.fits (view row.now) self.old.schema ≡ true) }
+        ensures stripes { OnOk result (length self.old.infos.items < most_stripes) }
+        ensures rows { OnOk result (self.old.total < most_rows) }
+        ensures counts { OnOk result (self.new.sums.items
+            ≡ with_row self.old.schema 0 (view row.now) self.old.counts.items) }
+        ensures few { OnOk result (are_few self.new.sums.items ≡ true) }
+        ensures failed { IsErrOf result fault.Failed ↔ (self.old.failed ≡ true) }
+        ensures shape { self.old.failed ≡ false → (IsErrOf result fault.RowShape
+            ↔ (fitting.fits (view row.now) self.old.schema ≡ false)) }
+        ensures limit { self.old.failed ≡ false → fitting.fits (view row.now) self.old.schema ≡ true
+            → (IsErrOf result fault.Limit
+            ↔ PassesLimit self.old.schema self.old.infos.items self.old.total self.old.counts.items
+            (view row.now)) }
+        ensures refused { IfErr result (λ e. (e ≡ fault.Failed) ⊎ ((e ≡ fault.RowShape) ⊎ (e ≡ fault.Limit))) }
+        ensures same { (self.new.schema ≡ self.old.schema) × (self.new.options ≡ self.old.options) }
+        ensures stays { (self.new.out ≡ self.old.out) × (self.new.written ≡ self.old.written)
+            × (self.new.infos ≡ self.old.infos)
+            × (self.new.stats ≡ self.old.stats) × (self.new.rows ≡ self.old.rows) × (self.new.counts ≡ self.old.counts)
+            × (self.new.total ≡ self.old.total) × (self.new.failed ≡ self.old.failed) }
+    {
+        let _types = self.schema.types();
+        if self.failed {
+            return Err(FileFault::Failed);
+        }
+        if !fits(&self.schema, row) {
+            return Err(FileFault::RowShape);
+        }
+        if self.infos.len() >= MOST_STRIPES || self.total >= MOST_ROWS {
+            return Err(FileFault::Limit);
+        }
+        if !count_row(&self.schema, row, &self.counts, &mut self.sums) {
+            return Err(FileFault::Limit);
+        }
+        Ok(())
+    }
+
+    /// Keeps a row that was admitted. After a refusal the writer has failed.
+    fn keep(&mut self, row: Row<'static>) -> Result<(), FileFault>
+        requires open { self.old.failed ≡ false }
+        requires fits { fitting.fits (view row) self.old.schema ≡ true }
+        requires stripes { length self.old.infos.items < most_stripes }
+        requires rows { self.old.total < most_rows }
+        requires counts { self.old.sums.items ≡ with_row self.old.schema 0 (view row) self.old.counts.items }
+        requires few { are_few self.old.sums.items ≡ true }
+        ensures kept { OnOk result (views self.new.rows.items ≡ views self.old.rows.items ++ view row.entry ∷ []) }
+        ensures stands { (self.new.out ≡ self.old.out) × (self.new.written ≡ self.old.written)
+            × (self.new.infos ≡ self.old.infos)
+            × (self.new.stats ≡ self.old.stats) }
+        ensures ok { OnOk result (self.new.failed ≡ false) }
+        ensures failed { OnErr result (self.new.failed ≡ true) }
+        ensures refused { IfErr result (λ e. e ≡ fault.OutOfMemory) }
+        ensures same { (self.new.schema ≡ self.old.schema) × (self.new.options ≡ self.old.options) }
+    {
+        let Ok(()) = self.rows.push(row) else {
+            self.failed = true;
+            return Err(FileFault::OutOfMemory);
+        };
+        self.total += 1;
+        swap(&mut self.counts, &mut self.sums);
+        Ok(())
+    }
+
+    /// Adds a row, and takes it: nothing of it is copied. With the last row of a stripe the stripe is written.
+    ///
+    /// Refusals: `Failed`, where an earlier call failed; `RowShape` where the row doesn't fit the schema, and
+    /// `Limit` where a limit of stripes, of rows or of a column's cells would be passed, which leave the
+    /// writer as it was; `WriteFailed`, `OutOfMemory`, and `Limit` where the file's stripes would have too
+    /// many bytes, after which the writer has failed: what was written then is the front of a file of some
+    /// of the rows pushed, this one among them.
+    pub fn push_owned(&mut self, row: Row<'static>) -> Result<(), FileFault>
+        ensures pushed { (first : Option (List ℕ)) (rows : List Cell)
+            → HasPushed (progress W.told self.old) first rows
+            → OnOk result (HasPushed (progress W.told self.new) first (rows ++ view row.entry ∷ [])) }
+        ensures taken { (first : Option (List ℕ)) → HasTaken first (W.told self.old.out) self.old.written
+            → HasTaken first (W.told self.new.out) self.new.written }
+        ensures same { (self.new.schema ≡ self.old.schema) × (self.new.options ≡ self.old.options) }
+
+        ensures failed { IsErrOf result fault.Failed ↔ (self.old.failed ≡ true) }
+        ensures shape { self.old.failed ≡ false → (IsErrOf result fault.RowShape
+            ↔ (fitting.fits (view row.entry) self.old.schema ≡ false)) }
+        ensures limit { self.old.failed ≡ false → fitting.fits (view row.entry) self.old.schema ≡ true
+            → (PassesLimit self.old.schema self.old.infos.items self.old.total self.old.counts.items (view row.entry)
+            → IsErrOf result fault.Limit × (self.new.failed ≡ false)) }
+        ensures only_limit { IsErrOf result fault.Limit → self.new.failed ≡ false
+            → PassesLimit self.old.schema self.old.infos.items self.old.total self.old.counts.items (view row.entry) }
+        ensures long { IsErrOf result fault.Limit → self.new.failed ≡ true
+            → PassesBytes self.old.options self.old.schema self.old.infos.items (views self.old.rows.items
+            ++ view row.entry ∷ []) }
+        ensures refused { IfErr result (λ e. (e ≡ fault.Failed)
+            ⊎ ((e ≡ fault.RowShape) ⊎ ((e ≡ fault.Limit) ⊎ ((e ≡ fault.WriteFailed) ⊎ (e ≡ fault.OutOfMemory))))) }
+        ensures shape_stays { IsErrOf result fault.RowShape → self.new.failed ≡ false }
+        ensures unchanged { OnErr result (self.new.failed ≡ self.old.failed → (self.new.out ≡ self.old.out)
+            × (self.new.written ≡ self.old.written) × (self.new.infos ≡ self.old.infos)
+            × (self.new.stats ≡ self.old.stats)
+            × (self.new.rows ≡ self.old.rows) × (self.new.counts ≡ self.old.counts) × (self.new.total ≡ self.old.total)
+            × (self.new.failed ≡ self.old.failed)) }
+        ensures write_fails { IsErrOf result fault.WriteFailed → self.new.failed ≡ true }
+        ensures memory_fails { IsErrOf result fault.OutOfMemory → self.new.failed ≡ true }
+        ensures stays_failed { self.old.failed ≡ true → self.new.failed ≡ true }
+        ensures ok { OnOk result (self.new.failed ≡ false) }
+
+        ensures cut { (first : Option (List ℕ)) (rows : List Cell)
+            → HasPushed (progress W.told self.old) first rows
+            → self.old.failed ≡ false → self.new.failed ≡ true
+            → IsCutOff self.old.options self.old.schema first (W.told self.new.out)
+            (rows ++ view row.entry ∷ []) }
+        ensures write_failed { IsErrOf result fault.WriteFailed → W.failures self.old.out < W.failures self.new.out }
+        ensures memory { IsErrOf result fault.OutOfMemory → W.failures self.new.out ≡ W.failures self.old.out }
+        ensures no_failure { OnOk result (W.failures self.new.out ≡ W.failures self.old.out) }
+    {
+        self.admit(&row)?;
+        self.keep(row)?;
+        if self.rows.len() >= self.options.stripe_rows() as usize {
+            return self.close();
+        }
+        Ok(())
+    }
+
+    /// Adds a copy of a row, as `push_owned` adds a row that the caller gives away.
+    ///
+    /// Refusals: `Failed`, where an earlier call failed; `RowShape` where the row doesn't fit the schema, and
+    /// `Limit` where a limit of stripes, of rows or of a column's cells would be passed, which leave the
+    /// writer as it was; `WriteFailed`, `OutOfMemory`, and `Limit` where the file's stripes would have too
+    /// many bytes, after which the writer has failed: what was written then is the front of a file of some
+    /// of the rows pushed, this one among them.
+    pub fn push(&mut self, row: &Row<'_>) -> Result<(), FileFault>
+        ensures pushed { (first : Option (List ℕ)) (rows : List Cell)
+            → HasPushed (progress W.told self.old) first rows
+            → OnOk result (HasPushed (progress W.told self.new) first (rows ++ view row.now ∷ [])) }
+        ensures taken { (first : Option (List ℕ)) → HasTaken first (W.told self.old.out) self.old.written
+            → HasTaken first (W.told self.new.out) self.new.written }
+        ensures same { (self.new.schema ≡ self.old.schema) × (self.new.options ≡ self.old.options) }
+
+        ensures failed { IsErrOf result fault.Failed ↔ (self.old.failed ≡ true) }
+        ensures shape { self.old.failed ≡ false → (IsErrOf result fault.RowShape
+            ↔ (fitting.fits (view row.now) self.old.schema ≡ false)) }
+        ensures limit { self.old.failed ≡ false → fitting.fits (view row.now) self.old.schema ≡ true
+            → (PassesLimit self.old.schema self.old.infos.items self.old.total self.old.counts.items (view row.now)
+            → IsErrOf result fault.Limit × (self.new.failed ≡ false)) }
+        ensures only_limit { IsErrOf result fault.Limit → self.new.failed ≡ false
+            → PassesLimit self.old.schema self.old.infos.items self.old.total self.old.counts.items (view row.now) }
+        ensures long { IsErrOf result fault.Limit → self.new.failed ≡ true
+            → PassesBytes self.old.options self.old.schema self.old.infos.items (views self.old.rows.items
+            ++ view row.now ∷ []) }
+        ensures refused { IfErr result (λ e. (e ≡ fault.Failed)
+            ⊎ ((e ≡ fault.RowShape) ⊎ ((e ≡ fault.Limit) ⊎ ((e ≡ fault.WriteFailed) ⊎ (e ≡ fault.OutOfMemory))))) }
+        ensures shape_stays { IsErrOf result fault.RowShape → self.new.failed ≡ false }
+        ensures unchanged { OnErr result (self.new.failed ≡ self.old.failed → (self.new.out ≡ self.old.out)
+            × (self.new.written ≡ self.old.written) × (self.new.infos ≡ self.old.infos)
+            × (self.new.stats ≡ self.old.stats)
+            × (self.new.rows ≡ self.old.rows) × (self.new.counts ≡ self.old.counts) × (self.new.total ≡ self.old.total)
+            × (self.new.failed ≡ self.old.failed)) }
+        ensures write_fails { IsErrOf result fault.WriteFailed → self.new.failed ≡ true }
+        ensures memory_fails { IsErrOf result fault.OutOfMemory → self.new.failed ≡ true }
+        ensures stays_failed { self.old.failed ≡ true → self.new.failed ≡ true }
+        ensures ok { OnOk result (self.new.failed ≡ false) }
+
+        ensures cut { (first : Option (List ℕ)) (rows : List Cell)
+            → HasPushed (progress W.told self.old) first rows
+            → self.old.failed ≡ false → self.new.failed ≡ true
+            → IsCutOff self.old.options self.old.schema first (W.told self.new.out)
+            (rows ++ view row.now ∷ []) }
+        ensures write_failed { IsErrOf result fault.WriteFailed → W.failures self.old.out < W.failures self.new.out }
+        ensures memory { IsErrOf result fault.OutOfMemory → W.failures self.new.out ≡ W.failures self.old.out }
+        ensures no_failure { OnOk result (W.failures self.new.out ≡ W.failures self.old.out) }
+    {
+        self.admit(row)?;
+        let Ok(copy) = owned(self.alloc, row) else {
+            self.failed = true;
+            return Err(FileFault::OutOfMemory);
+        };
+        self.push_owned(copy)
+    }
+
+    /// The schema of its rows.
+    pub fn schema(&self) -> &Schema
+        ensures { result.now ≡ self.now.schema }
+    {
+        &self.schema
+    }
+
+    /// The output as it stands. The rows that are kept aren't written, nor is a tail.
+    pub fn into_out(self) -> W
+        ensures { result ≡ self.out }
+    {
+        self.out
+    }
+
+    /// Writes what is kept as the file's last stripe, where a row is.
+    fn close_rest(&mut self) -> Result<(), FileFault>
+        requires open { self.old.failed ≡ false }
+        ensures last { (first : Option (List ℕ)) (rows : List Cell)
+            → HasPushed (progress W.told self.old) first rows
+            → OnOk result (HasFilled (progress W.told self.new) first rows) }
+        ensures cut { (first : Option (List ℕ)) (rows : List Cell)
+            → HasPushed (progress W.told self.old) first rows
+            → OnErr result (IsCutOff self.old.options self.old.schema first (W.told self.new.out) rows) }
+        ensures empty { OnOk result (self.new.rows.items ≡ []) }
+        ensures ok { OnOk result (self.new.failed ≡ false) }
+        ensures same { (self.new.schema ≡ self.old.schema) × (self.new.options ≡ self.old.options) }
+        ensures limit { IsErrOf result fault.Limit
+            → PassesBytes self.old.options self.old.schema self.old.infos.items (views self.old.rows.items) }
+        ensures begun { OnErr result (0 < length self.old.rows.items) }
+        ensures refused { IfErr result (λ e. (e ≡ fault.WriteFailed) ⊎ ((e ≡ fault.Limit) ⊎ (e ≡ fault.OutOfMemory))) }
+        ensures write_failed { IsErrOf result fault.WriteFailed → W.failures self.old.out < W.failures self.new.out }
+        ensures memory { IsErrOf result fault.OutOfMemory → W.failures self.new.out ≡ W.failures self.old.out }
+        ensures no_failure { OnOk result (W.failures self.new.out ≡ W.failures self.old.out) }
+    {
+        if self.rows.is_empty() {
+            return Ok(());
+        }
+        self.close()
+    }
+
+    /// Writes the last stripe, where a row is kept, and the tail. The output comes back with the tail, or
+    /// with a refusal.
+    ///
+    /// Refusals: `Failed`, where an earlier call failed; `WriteFailed`, `OutOfMemory`, and `Limit` where the
+    /// file's stripes would have too many bytes.
+    pub fn finish(self) -> Result<(Tail, W), (FileFault, W)>
+        ensures whole { (first : Option (List ℕ)) (rows : List Cell)
+            → HasPushed (progress W.told self) first rows
+            → IfOk result (λ done. IsWhole self.options self.schema done.0 first (W.told done.1) rows) }
+
+        ensures failed { IfErr result (λ e. e.0 ≡ fault.Failed → self.failed ≡ true) }
+        ensures stands { self.failed ≡ true → MatchResult result (λ _. ⊥)
+            (λ e. (e.0 ≡ fault.Failed) × (e.1 ≡ self.out)) }
+        ensures long { IfErr result (λ e. e.0 ≡ fault.Limit
+            → PassesBytes self.options self.schema self.infos.items (views self.rows.items)) }
+        ensures begun { IfErr result (λ e. e.0 ≡ fault.Limit → 0 < length self.rows.items) }
+        ensures refused { IfErr result (λ e. (e.0 ≡ fault.Failed)
+            ⊎ ((e.0 ≡ fault.Limit) ⊎ ((e.0 ≡ fault.WriteFailed) ⊎ (e.0 ≡ fault.OutOfMemory)))) }
+        ensures cut { (first : Option (List ℕ)) (rows : List Cell)
+            → HasPushed (progress W.told self) first rows
+            → self.failed ≡ false
+            → IfErr result (λ e. IsCutOff self.options self.schema first (W.told e.1) rows) }
+        ensures write_failed { IfErr result (λ e. e.0 ≡ fault.WriteFailed → W.failures self.out < W.failures e.1) }
+        ensures memory { IfErr result (λ e. e.0 ≡ fault.OutOfMemory → W.failures e.1 ≡ W.failures self.out) }
+        ensures no_failure { IfOk result (λ done. W.failures done.1 ≡ W.failures self.out) }
+    {
+        let mut writer = self;
+        if writer.failed {
+            return Err((FileFault::Failed, writer.out));
+        }
+        match writer.close_rest() {
+            Ok(()) => {}
+            Err(fault) => return Err((fault, writer.out)),
+        }
+        let Writer {
+            alloc,
+            schema,
+            options,
+            out,
+            infos,
+            stats,
+            total,
+            ..
+        } = writer;
+        let mut out = out;
+        let stripes = Stripes {
+            infos,
+            stats,
+            rows: total,
+        };
+        match end_file(alloc, options, schema, stripes, &mut out) {
+            Ok(tail) => Ok((tail, out)),
+            Err(fault) => Err((fault, out)),
+        }
+    }
+}
