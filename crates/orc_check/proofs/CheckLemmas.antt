@@ -8,10 +8,8 @@ use Rattle.orc_types.specs.Cells.{Cell}
 use Rattle.orc_types.specs.Shapes.{Shape, width}
 use Rattle.orc_stats.specs.declared.stat.Stat.{Stat}
 use Rattle.orc_columns.specs.Stripe.{IsStripe}
-use Rattle.orc_written.specs.WrittenStripe.{HaveStats}
 use Rattle.orc_file.specs.Stripes.{stripe_at, most_stripes}
 use Rattle.orc_file.specs.FileRows.{stripe_bytes, joined, AreOfStripes, HasRows, FileIs, IsNoStripe, StripeRefused, FirstRefused, cut_rows}
-use Rattle.orc_file.specs.Honest.{AreHonest}
 use Rattle.orc_file.specs.Tails.{IsTail, OpenFault, ReadFault, tail_tests}
 use Rattle.orc_file.specs.declared.tail.Tail.{Tail}
 use Rattle.orc_file.specs.declared.fault.FileFault.{FileFault}
@@ -20,8 +18,8 @@ use Rattle.orc_columns.specs.declared.fault.StripeFault.{StripeFault}
 use Rattle.orc_columns.specs.declared.fault.StripeFault.TheVariants as stripe
 use Rattle.orc_file.proofs.RowLemmas.{one_file, no_file, parts_cut}
 use Rattle.orc_check.specs.declared.finding.Finding.{Finding}
-use Rattle.orc_check.specs.Findings.{OfEach, OfStripe, OfStripes, OfFile, Findings, Adds, rows_at}
-use Rattle.orc_check.specs.Checking.{IsChecked, AreOfSchema, AreOwn, CheckFault}
+use Rattle.orc_check.specs.Findings.{OfEach, OfStripe, OfStripes, OfFile, Findings, Adds, stripe_told, rows_at}
+use Rattle.orc_check.specs.Checking.{HaveKnown, AreKnown, IsChecked, AreOfSchema, AreOwn, CheckFault}
 use Rattle.orc_check.proofs.Checked.{AreChecked, text_at}
 
 get_front : {X : Type 0} (xs : List X) (x d : X) (k : ℕ) → k < length xs → get_or (xs ++ x ∷ []) k d ≡ get_or xs k d
@@ -43,12 +41,14 @@ all_more : {X : Type 0} (P : X → Type 0) (xs : List X) (x : X) → AllByRecurs
 all_more P [] x h p = (p, tt)
 all_more P (y ∷ xs) x h p = (h.0, all_more P xs x h.1 p)
 
-honest_more : (s : Shape) (parts : List (List Cell)) (own : List (List Stat)) (rows : List Cell) (stats : List Stat) → AreHonest s parts own → HaveStats s rows (width s) stats
-    → AreHonest s (parts ++ rows ∷ []) (own ++ stats ∷ [])
-honest_more s [] [] rows stats h p = (p, tt)
-honest_more s [] (x ∷ own) rows stats h p = absurd h
-honest_more s (r ∷ parts) [] rows stats h p = absurd h
-honest_more s (r ∷ parts) (x ∷ own) rows stats h p = (h.0, honest_more s parts own rows stats h.1 p)
+known_more : (s : Shape) (told : List (List Stat)) (parts : List (List Cell)) (own : List (List Stat)) (rows : List Cell) (stats : List Stat) → AreKnown s told parts own
+    → HaveKnown s (get_or told (length parts) []) rows (width s) stats → AreKnown s told (parts ++ rows ∷ []) (own ++ stats ∷ [])
+known_more s [] [] [] rows stats h p = (p, tt)
+known_more s (t ∷ told) [] [] rows stats h p = (p, tt)
+known_more s told [] (x ∷ own) rows stats h p = absurd h
+known_more s told (r ∷ parts) [] rows stats h p = absurd h
+known_more s [] (r ∷ parts) (x ∷ own) rows stats h p = (h.0, known_more s [] parts own rows stats h.1 p)
+known_more s (t ∷ told) (r ∷ parts) (x ∷ own) rows stats h p = (h.0, known_more s told parts own rows stats h.1 p)
 
 of_schema : (s : Shape) (info : StripeInfo) (bytes : List ℕ) (rows : List Cell) → IsStripe s info bytes rows → AreOfSchema s rows
 of_schema s info bytes rows h = record { fit = h.spelled.fit; few = λ c lt. (h.spelled.column c lt).few }
@@ -61,7 +61,7 @@ below_or (suc k) (suc n) lt = elim (below_or k n (omega (arith, lt))) [ inl e �
 
 -- nothing is checked yet
 pub none_checked : (tail : Tail) → AreChecked tail 0 [] [] [] []
-none_checked tail = record { texts_many = refl; many = refl; fit = tt; honest = tt; stripes = λ k lt. absurd (omega (arith, lt)); found_are = refl }
+none_checked tail = record { texts_many = refl; many = refl; fit = tt; known = tt; stripes = λ k lt. absurd (omega (arith, lt)); found_are = refl }
 
 module _ (tail : Tail) (n : ℕ) (texts : List (List ℕ)) (parts : List (List Cell)) (found after : List Finding) (own : List (List Stat)) (bytes : List ℕ) (stats : List Stat) where
   pub more_checked : AreChecked tail n texts parts found own → (h : IsChecked tail n bytes found after stats) → AreChecked tail (n + 1) (texts ++ bytes ∷ []) (parts ++ h.rows ∷ []) after (own ++ stats ∷ [])
@@ -80,7 +80,8 @@ module _ (tail : Tail) (n : ℕ) (texts : List (List ℕ)) (parts : List (List C
         texts_many = length-append texts (bytes ∷ []) ∙ ap (λ k. k + 1) c.texts_many;
         many = length-append parts (rows ∷ []) ∙ ap (λ k. k + 1) c.many;
         fit = all_more (AreOfSchema tail.schema) parts rows c.fit (of_schema tail.schema (stripe_at tail.stripes n) bytes rows h.stripe);
-        honest = honest_more tail.schema parts own rows stats c.honest h.counted;
+        known = known_more tail.schema tail.stripe_stats parts own rows stats c.known
+            (subst (λ (k : ℕ). HaveKnown tail.schema (stripe_told tail k) rows (width tail.schema) stats) (sym c.many) h.counted);
         stripes = λ k lt. elim (below_or k n lt) [
           | inl e ↦ subst (λ (j : ℕ). IsStripe tail.schema (stripe_at tail.stripes j) (text_at (texts ++ bytes ∷ []) j) (rows_at (parts ++ rows ∷ []) j)) (sym e)
               (subst (λ (t : List ℕ). IsStripe tail.schema (stripe_at tail.stripes n) t (rows_at (parts ++ rows ∷ []) n)) (sym (get_last texts bytes [] n c.texts_many))
@@ -185,8 +186,8 @@ file_found None tail n texts parts found all own e c t more = tt
 file_found (Some bytes) tail n texts parts found all own e c t more = λ is.
     all_found tail texts parts found own bytes all is (subst (λ (k : ℕ). AreChecked tail k texts parts found own) e c) (subst (λ (k : ℕ). AreTold (Some bytes) tail k texts) e t) more
 
-pub are_own : (tail : Tail) (n : ℕ) (texts : List (List ℕ)) (parts : List (List Cell)) (found : List Finding) (own : List (List Stat)) → n ≤ most_stripes → AreChecked tail n texts parts found own → AreOwn tail.schema parts own
-are_own tail n texts parts found own few c = record { fit = c.fit; few = omega (arith, few, c.many); honest = c.honest }
+pub are_own : (tail : Tail) (n : ℕ) (texts : List (List ℕ)) (parts : List (List Cell)) (found : List Finding) (own : List (List Stat)) → n ≤ most_stripes → AreChecked tail n texts parts found own → AreOwn tail.schema tail.stripe_stats parts own
+are_own tail n texts parts found own few c = record { fit = c.fit; few = omega (arith, few, c.many); known = c.known }
 
 -- ---- what it comes to
 

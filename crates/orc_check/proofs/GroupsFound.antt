@@ -12,7 +12,6 @@ use Rattle.orc_types.specs.Shapes.{width, shape_at}
 use Rattle.orc_columns.specs.Stripe.{SpellRows, columns_of}
 use Rattle.orc_positions.specs.Decided.{Decides, AreDecided}
 use Rattle.orc_written.specs.Groups.{group_count, starts, bounds_of}
-use Rattle.orc_written.specs.WrittenStripe.{HasRightIndex}
 use Rattle.orc_stripe.specs.Opened.{Opened}
 use Rattle.orc_stripe.specs.RowIndexes.{HasIndex, IsWhole, ArePositionsDecided}
 use Rattle.orc_stripe.specs.GroupCursors.{HasGroup, HasRightEntry, StartsGroup}
@@ -21,7 +20,7 @@ use Rattle.orc_file.specs.Stripes.{stripe_at}
 use Rattle.orc_file.specs.FileRows.{stripe_bytes, opened_stripe, cut_rows, FileIs}
 use Rattle.orc_file.specs.declared.tail.Tail.{Tail}
 use Rattle.orc_check.specs.Findings.{rows_at}
-use Rattle.orc_check.specs.RightIndexes.{HasIndexes, StartsAtGroups}
+use Rattle.orc_check.specs.RightIndexes.{HasAgreeingIndex, HasIndexes, StartsAtGroups}
 use Rattle.orc_check.proofs.GroupBounds.{bounds_long}
 use Rattle.orc_check.proofs.NoFinding.{stripe_is}
 
@@ -57,7 +56,7 @@ EntryThere =
     → HasIndex view.footer view.bytes c message → IsWhole view (length rows) message → ArePositionsDecided view c rows message right → slice_get right group ≡ Some true
     → HasRightEntry view rows c group
 
-entry_found : EntryThere → (view : Opened) (rows : List Cell) (c group : ℕ) → length rows ≡ view.info.number_of_rows → HasGroup view group → HasRightIndex view.stride view.schema rows view.footer view.bytes c
+entry_found : EntryThere → (view : Opened) (rows : List Cell) (c group : ℕ) → length rows ≡ view.info.number_of_rows → HasGroup view group → HasAgreeingIndex view.stride view.schema rows view.footer view.bytes c
     → HasRightEntry view rows c group
 entry_found entry view rows c group counted has right =
     let r = right.1 in
@@ -83,4 +82,4 @@ groups_found there entry bytes tail rows is indexes n lt footer has group at =
     let own = indexes at.indexed n lt in
     let same : own.footer ≡ footer = one_footer tail.schema (stripe_at tail.stripes n) text own.footer footer own.has_footer has in
     there view part group spelled at
-    (λ c lower. entry_found entry view part c group spelled.counted at (subst (λ (f : StripeFooter). HasRightIndex tail.stride tail.schema part f text c) same (own.right c lower)))
+    (λ c lower. entry_found entry view part c group spelled.counted at (subst (λ (f : StripeFooter). HasAgreeingIndex tail.stride tail.schema part f text c) same (own.right c lower)))

@@ -1,5 +1,6 @@
 mod ReportLemmas
 mod Checked
+mod ToldLemmas
 mod CheckLemmas
 mod WholeLemmas
 mod CellLemmas

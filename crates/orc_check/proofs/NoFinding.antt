@@ -1,36 +1,36 @@
--- Nothing is found of a file exactly where its statistics and its row indexes are those of its rows.
+-- Nothing is found of a file exactly where its statistics and its row indexes agree with its rows.
 use Rattle.std.proofs.Common.{◌≡◌, ◌∙◌, ℕ, zero, suc, ◌<◌, ◌≤◌, ◌⊎◌, inl, inr, List, [], ◌∷◌, ◌++◌, length, get_or, slice_get, Some, None, Option, refl, sym, ap, subst, arith}
 use Rattle.std.specs.Option.{option_map}
 use Rattle.std.specs.List.{AllByRecursion}
-use Rattle.orc_wire.specs.declared.column_stats.ColumnStats.{ColumnStats}
 use Rattle.orc_wire.specs.declared.row_index.RowIndexEntry.{RowIndexEntry}
 use Rattle.orc_wire.specs.declared.stripe_footer.StripeFooter.{StripeFooter}
 use Rattle.orc_wire.specs.declared.stripe_info.StripeInfo.{StripeInfo}
 use Rattle.orc_types.specs.Cells.{Cell}
 use Rattle.orc_types.specs.Columns.{cells}
 use Rattle.orc_types.specs.Shapes.{Shape, width, shape_at}
-use Rattle.orc_stats.specs.declared.kind.StatKind.{StatKind}
 use Rattle.orc_stats.specs.declared.stat.Stat.{Stat}
 use Rattle.orc_stats.specs.Kinds.{kind_of}
+use Rattle.orc_stats.specs.Known.{Agrees}
 use Rattle.orc_stats.specs.Messages.{stat_read}
 use Rattle.orc_stats.specs.Statistics.{stat}
+use Rattle.orc_stats.proofs.Agreed.{same_agrees}
 use Rattle.orc_columns.specs.Stripe.{Streams, HasFooter, IsStripe, columns_of}
 use Rattle.orc_index.specs.Bounds.{before_group, group_of}
 use Rattle.orc_index.specs.Places.{AreReadPlaces}
 use Rattle.orc_index.specs.RowIndex.{SaysStat}
 use Rattle.orc_written.specs.Groups.{starts, bounds_of}
-use Rattle.orc_written.specs.WrittenStripe.{HaveStats, HasRightIndex, column_stat}
+use Rattle.orc_written.specs.WrittenStripe.{HasRightIndex, column_stat}
 use Rattle.orc_stripe.specs.Opened.{Opened}
 use Rattle.orc_file.specs.Stripes.{stripe_at}
 use Rattle.orc_file.specs.FileRows.{stripe_bytes, opened_stripe, cut_rows, AreOfStripes, FileIs}
-use Rattle.orc_file.specs.Honest.{AreHonest, Honest, HasWholeStats, whole_of}
+use Rattle.orc_file.specs.Honest.{AgreeStats, AreHonest, Honest, HasWholeStats, known_whole_of}
 use Rattle.orc_file.specs.declared.tail.Tail.{Tail}
 use Rattle.orc_file.proofs.RowLemmas.{rows_cut}
 use Rattle.orc_check.specs.declared.finding.Finding.{Finding}
 use Rattle.orc_check.specs.declared.finding.Finding.TheVariants.{StripeStatistic, IndexStatistic, IndexPosition, FileStatistic}
 use Rattle.orc_check.specs.Agreeing.{Tells}
-use Rattle.orc_check.specs.Findings.{Unless, Both, OfEach, OfGroup, OfIndex, OfColumn, OfStripe, OfStripes, OfFile, Findings, TellsStripe, TellsFile, TellsGroup, entry_at, stripe_told, rows_at}
-use Rattle.orc_check.specs.RightIndexes.{HasIndexes}
+use Rattle.orc_check.specs.Findings.{Unless, Both, OfEach, OfGroup, OfIndex, OfColumn, OfStripe, OfStripes, OfFile, Findings, TellsStripe, TellsFile, TellsWhole, TellsGroup, entry_at, stripe_told, rows_at}
+use Rattle.orc_check.specs.RightIndexes.{HasAgreeingIndex, HasIndexes}
 use Rattle.orc_check.proofs.CheckLemmas.{below_or}
 use Rattle.orc_check.proofs.GroupBounds.{bounds_long}
 
@@ -67,19 +67,41 @@ holds_of P f (inr h) = let wrong = h.1 in cc
 -- ---- what is told
 
 tells_of : (told : Option Stat) (right : Stat) → told ≡ Some right → Tells told right
-tells_of told right e = subst (λ (t : Option Stat). Tells t right) (sym e) refl
+tells_of told right e = subst (λ (t : Option Stat). Tells t right) (sym e) (same_agrees right)
 
-told_is : (told : Option Stat) (right : Stat) → Tells told right → told ≡ Some right
+-- what is told, and agrees
+abbrev IsTold : Option Stat → Stat → Type 0
+IsTold told right = (x : Stat) × (told ≡ Some x) × Agrees x right
+
+told_tells : (told : Option Stat) (right : Stat) → IsTold told right → Tells told right
+told_tells told right h = subst (λ (t : Option Stat). Tells t right) (sym h.1) h.2
+
+told_is : (told : Option Stat) (right : Stat) → Tells told right → IsTold told right
 told_is None right h = absurd h
-told_is (Some x) right h = ap Some h
+told_is (Some x) right h = (x, refl, h)
 
--- an entry tells its group's statistic exactly where it says it
+-- an entry that says its group's statistic tells it
 says_of : (s : Shape) (group : List Cell) (entry : RowIndexEntry) → SaysStat s group entry → TellsGroup s group entry
 says_of s group entry h = tells_of (option_map (stat_read (kind_of s)) entry.statistics) (stat (kind_of s) group) (ap (option_map (stat_read (kind_of s))) h.1 ∙ ap Some h.2)
 
-message_of_told : (k : StatKind) (told : Option ColumnStats) (right : Stat) → Tells (option_map (stat_read k) told) right → (m : ColumnStats) × (told ≡ Some m) × (stat_read k m ≡ right)
-message_of_told k None right h = absurd h
-message_of_told k (Some m) right h = (m, refl, h)
+-- an index that is right agrees with the rows
+pub right_agrees : (stride : ℕ) (s : Shape) (rows : List Cell) (footer : StripeFooter) (bytes : List ℕ) (c : ℕ) → HasRightIndex stride s rows footer bytes c → HasAgreeingIndex stride s rows footer bytes c
+right_agrees stride s rows footer bytes c h =
+    let r = h.1 in
+    let group : ℕ → List Cell = group_of (cells s c rows) (bounds_of s c rows (starts stride (length rows))) in (
+      h.0,
+      record {
+        message = r.message;
+        spelled = r.spelled;
+        counted = r.counted;
+        places = r.places;
+        statistics = λ g e got. says_of (shape_at s c) (group g) e (r.statistics g e got);
+      },
+    )
+
+-- so does the statistic of the whole file that is right
+pub whole_tells : (tail : Tail) (rows : List Cell) → HasWholeStats tail rows → TellsWhole tail rows
+whole_tells tail rows h c lt = tells_of (slice_get tail.file_stats c) (known_whole_of tail.schema tail.stripe_stats (cut_rows tail.stripes rows) c) (h.each c lt)
 
 -- ---- entries
 
@@ -106,7 +128,7 @@ module _ (view : Opened) (n : ℕ) (rows : List Cell) (c : ℕ) (some : 0 < view
   abbrev bounds : List ℕ
   bounds = bounds_of view.schema c rows (starts view.stride (length rows))
 
-  index_right : OfIndex view n rows c [] → HasRightIndex view.stride view.schema rows view.footer view.bytes c
+  index_right : OfIndex view n rows c [] → HasAgreeingIndex view.stride view.schema rows view.footer view.bytes c
   index_right (inl z) = absurd (omega (arith, z.0, some))
   index_right (inr (k, inl h)) = let wrong = h.1 in cc
   index_right (inr (k, inr h)) =
@@ -122,13 +144,11 @@ module _ (view : Opened) (n : ℕ) (rows : List Cell) (c : ℕ) (some : 0 < view
           spelled = h.1.1;
           counted = h.2 ∙ sym (bounds_long view.schema c view.stride rows);
           places = λ g e got. let b = entry_below es g e got in subst (λ (y : RowIndexEntry). AreReadPlaces s x (before_group cs bounds g) y.positions) b.1 (places g b.0);
-          statistics = λ g e got.
-              let b = entry_below es g e got in
-              subst (λ (y : RowIndexEntry). SaysStat s (group_of cs bounds g) y) b.1 (message_of_told (kind_of s) (entry_at es g).statistics (stat (kind_of s) (group_of cs bounds g)) (tells g b.0));
+          statistics = λ g e got. let b = entry_below es g e got in subst (λ (y : RowIndexEntry). TellsGroup s (group_of cs bounds g) y) b.1 (tells g b.0);
         },
       )
 
-  right_index : HasRightIndex view.stride view.schema rows view.footer view.bytes c → OfIndex view n rows c []
+  right_index : HasAgreeingIndex view.stride view.schema rows view.footer view.bytes c → OfIndex view n rows c []
   right_index h =
       let r = h.1 in
       let es : List RowIndexEntry = r.message.entries in
@@ -139,13 +159,13 @@ module _ (view : Opened) (n : ℕ) (rows : List Cell) (c : ℕ) (some : 0 < view
           (h.0, r.spelled),
           r.counted ∙ bounds_long view.schema c view.stride rows,
           none_each (OfGroup s x cs bounds n c es) (length es)
-              (λ g lt. let got = entry_there es g lt in ([], [], inl (says_of s (group_of cs bounds g) (entry_at es g) (r.statistics g (entry_at es g) got), refl), inl (r.places g (entry_at es g) got, refl), refl)),
+              (λ g lt. let got = entry_there es g lt in ([], [], inl (r.statistics g (entry_at es g) got, refl), inl (r.places g (entry_at es g) got, refl), refl)),
         ),
       )
 
 -- ---- the stripes
 
-honest_at : (s : Shape) (parts : List (List Cell)) (stats : List (List Stat)) → AreHonest s parts stats → (n : ℕ) → n < length parts → HaveStats s (rows_at parts n) (width s) (get_or stats n [])
+honest_at : (s : Shape) (parts : List (List Cell)) (stats : List (List Stat)) → AreHonest s parts stats → (n : ℕ) → n < length parts → AgreeStats s (rows_at parts n) (width s) (get_or stats n [])
 honest_at s [] stats h n lt = absurd (omega (arith, lt))
 honest_at s (p ∷ parts) [] h n lt = absurd h
 honest_at s (p ∷ parts) (y ∷ stats) h zero lt = h.0
@@ -182,7 +202,7 @@ module _ (bytes : List ℕ) (tail : Tail) (rows : List Cell) (is : FileIs bytes 
       → OfColumn (opened_stripe tail n (text n) footer) (stripe_told tail n) n (rows_at parts n) c []
   column_none honest n lt footer c there index =
       let own = honest_at tail.schema parts tail.stripe_stats honest n (omega (arith, lt, cut_many tail.stripes rows)) in
-      ([], [], inl (tells_of (slice_get (stripe_told tail n) c) (column_stat tail.schema (rows_at parts n) c) (own.each c there), refl), index, refl)
+      ([], [], inl (told_tells (slice_get (stripe_told tail n) c) (column_stat tail.schema (rows_at parts n) c) (own.each c there), refl), index, refl)
 
   stripe_none : Honest tail rows → HasIndexes bytes tail rows → (n : ℕ) → n < length tail.stripes → OfStripe tail n (text n) (rows_at parts n) []
   stripe_none honest indexes n lt = elim (zero_or_more tail.stride) [
@@ -196,12 +216,12 @@ module _ (bytes : List ℕ) (tail : Tail) (rows : List Cell) (is : FileIs bytes 
     ))
   ]
 
-  pub none_found : Honest tail rows → HasWholeStats tail rows → HasIndexes bytes tail rows → Findings bytes tail rows []
+  pub none_found : Honest tail rows → TellsWhole tail rows → HasIndexes bytes tail rows → Findings bytes tail rows []
   none_found honest whole indexes = (
     [],
     [],
     none_each (λ n. OfStripe tail n (text n) (rows_at parts n)) (length tail.stripes) (stripe_none honest indexes),
-    none_each (λ c. Unless (TellsFile tail parts c) (FileStatistic c)) (width tail.schema) (λ c there. inl (tells_of (slice_get tail.file_stats c) (whole_of tail.schema parts c) (whole.each c there), refl)),
+    none_each (λ c. Unless (TellsFile tail parts c) (FileStatistic c)) (width tail.schema) (λ c there. inl (whole c there, refl)),
     refl,
   )
 
@@ -214,7 +234,7 @@ module _ (bytes : List ℕ) (tail : Tail) (rows : List Cell) (is : FileIs bytes 
       → (footer : StripeFooter) × HasFooter tail.schema (stripe_at tail.stripes n) (text n) footer × OfColumn (opened_stripe tail n (text n) footer) (stripe_told tail n) n (rows_at parts n) c []
   column_at f n lt c there = let h = stripes_none f n lt in (h.0, h.1, each_at (OfColumn (opened_stripe tail n (text n) h.0) (stripe_told tail n) n (rows_at parts n)) (width tail.schema) h.2 c there)
 
-  told_at : Findings bytes tail rows [] → (n : ℕ) → n < length tail.stripes → (c : ℕ) → c < width tail.schema → slice_get (stripe_told tail n) c ≡ Some (column_stat tail.schema (rows_at parts n) c)
+  told_at : Findings bytes tail rows [] → (n : ℕ) → n < length tail.stripes → (c : ℕ) → c < width tail.schema → IsTold (slice_get (stripe_told tail n) c) (column_stat tail.schema (rows_at parts n) c)
   told_at f n lt c there =
       let h = column_at f n lt c there in
       told_is (slice_get (stripe_told tail n) c) (column_stat tail.schema (rows_at parts n) c) (holds_of (TellsStripe tail.schema (stripe_told tail n) (rows_at parts n) c) (StripeStatistic n c)
@@ -230,10 +250,9 @@ module _ (bytes : List ℕ) (tail : Tail) (rows : List Cell) (is : FileIs bytes 
         (second_none (Unless (TellsStripe tail.schema (stripe_told tail n) (rows_at parts n) c) (StripeStatistic n c)) (OfIndex (opened_stripe tail n (text n) h.0) n (rows_at parts n) c) column);
   }
 
-  whole_at : Findings bytes tail rows [] → (c : ℕ) → c < width tail.schema → slice_get tail.file_stats c ≡ Some (whole_of tail.schema parts c)
-  whole_at f c there =
-      told_is (slice_get tail.file_stats c) (whole_of tail.schema parts c)
-      (holds_of (TellsFile tail parts c) (FileStatistic c) (each_at (λ k. Unless (TellsFile tail parts k) (FileStatistic k)) (width tail.schema) (second_none (OfStripes bytes tail parts) (OfFile tail parts) f) c there))
+  pub whole_found : Findings bytes tail rows [] → TellsWhole tail rows
+  whole_found f c there =
+      holds_of (TellsFile tail parts c) (FileStatistic c) (each_at (λ k. Unless (TellsFile tail parts k) (FileStatistic k)) (width tail.schema) (second_none (OfStripes bytes tail parts) (OfFile tail parts) f) c there)
 
 -- ---- as many statistics as columns
 
@@ -243,19 +262,13 @@ some_below [] (suc n) le h = let wrong = (h 0 (omega arith)).1 in cc
 some_below (y ∷ xs) zero le h = absurd (omega (arith, le))
 some_below (y ∷ xs) (suc n) le h = ap suc (some_below xs n (omega (arith, le)) (λ c lt. h (suc c) (omega (arith, lt))))
 
-pub whole_found : (bytes : List ℕ) (tail : Tail) (rows : List Cell) → FileIs bytes tail rows → length tail.file_stats ≤ width tail.schema → Findings bytes tail rows [] → HasWholeStats tail rows
-whole_found bytes tail rows is few f = record {
-  counted = some_below tail.file_stats (width tail.schema) few (λ c there. (whole_of tail.schema (cut_rows tail.stripes rows) c, whole_at bytes tail rows is f c there));
-  each = whole_at bytes tail rows is f;
-}
-
 honest_all : (s : Shape) (parts : List (List Cell)) (stats : List (List Stat)) → length stats ≤ length parts → AllByRecursion (λ (xs : List Stat). length xs ≤ width s) stats → 0 < width s
-    → ((n : ℕ) → n < length parts → (c : ℕ) → c < width s → slice_get (get_or stats n []) c ≡ Some (column_stat s (rows_at parts n) c)) → AreHonest s parts stats
+    → ((n : ℕ) → n < length parts → (c : ℕ) → c < width s → IsTold (slice_get (get_or stats n []) c) (column_stat s (rows_at parts n) c)) → AreHonest s parts stats
 honest_all s [] [] le few some h = tt
 honest_all s [] (y ∷ stats) le few some h = absurd (omega (arith, le))
-honest_all s (p ∷ parts) [] le few some h = let wrong = h 0 (omega arith) 0 some in cc
+honest_all s (p ∷ parts) [] le few some h = let wrong = (h 0 (omega arith) 0 some).1 in cc
 honest_all s (p ∷ parts) (y ∷ stats) le few some h = (
-  record { counted = some_below y (width s) few.0 (λ c lt. (column_stat s p c, h 0 (omega arith) c lt)); each = λ c lt. h 0 (omega arith) c lt },
+  record { counted = some_below y (width s) few.0 (λ c lt. let own = h 0 (omega arith) c lt in (own.0, own.1)); each = λ c lt. h 0 (omega arith) c lt },
   honest_all s parts stats (omega (arith, le)) few.1 some (λ n lt. h (suc n) (omega (arith, lt))),
 )
 

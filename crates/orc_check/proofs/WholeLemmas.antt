@@ -1,5 +1,5 @@
--- The statistics of the whole file are joined of those of the stripes' rows.
-use Rattle.std.proofs.Common.{◌≡◌, ◌∙◌, ℕ, zero, suc, ◌+◌, ◌*◌, ◌<◌, ◌≤◌, ◌^◌, ◌⊎◌, inl, inr, true, List, [], ◌∷◌, ◌++◌, length, map, take, drop, slice_get, Some, refl, sym, ap, subst, arith, length-append}
+-- The statistics of the whole file are joined of those of the stripes' rows, as far as they are told.
+use Rattle.std.proofs.Common.{◌≡◌, ◌∙◌, ℕ, zero, suc, ◌+◌, ◌*◌, ◌<◌, ◌≤◌, ◌^◌, ◌⊎◌, inl, inr, true, List, [], ◌∷◌, ◌++◌, length, map, take, drop, slice_get, Some, refl, sym, ap, subst, arith, length-append, Option}
 use Rattle.std.specs.Prelude.{All, sum_by}
 use Rattle.std.specs.List.{AllByRecursion, flat_map}
 use Rattle.std.proofs.lemmas.List.Concat.{flat_map-cons}
@@ -14,30 +14,37 @@ use Rattle.orc_stats.specs.declared.kind.StatKind.TheVariants as kind
 use Rattle.orc_stats.specs.declared.fault.StatFault.{StatFault}
 use Rattle.orc_stats.specs.declared.fault.StatFault.TheVariants as fault
 use Rattle.orc_stats.specs.declared.stat.Stat.{Stat}
+use Rattle.orc_stats.specs.declared.stat.Body.{Body}
+use Rattle.orc_stats.specs.declared.stat.Body.TheVariants as body
 use Rattle.orc_stats.specs.Kinds.{is_of, body_is_of}
 use Rattle.orc_stats.specs.Statistics.{stat, values_body}
 use Rattle.orc_stats.specs.Joining.{joined}
-use Rattle.orc_stats.proofs.Parts.{joined-parts}
+use Rattle.orc_stats.specs.Known.{known_in, known_as, told_body, known_stats}
+use Rattle.orc_stats.proofs.KnownParts.{joined-known}
 use Rattle.orc_written.specs.WrittenStripe.{column_stat}
 use Rattle.orc_file.specs.Statistics.{kind_at}
-use Rattle.orc_file.specs.Honest.{AreHonest, AreWhole, whole_of}
+use Rattle.orc_file.specs.Honest.{AreWhole, told_at, known_whole_of}
 use Rattle.orc_file.specs.Writing.{column_stats, of_columns, file_stats}
 use Rattle.orc_file.proofs.StatTests.{are_of_kind, values_few}
-use Rattle.orc_check.specs.Checking.{AreOfSchema, AreOwn}
+use Rattle.orc_check.specs.Checking.{AreKnown, AreOfSchema, AreOwn}
 
 some_take : (xs : List Stat) (c : ℕ) (x : Stat) → slice_get xs c ≡ Some x → take 1 (drop c xs) ≡ x ∷ []
 some_take [] c x e = cc
 some_take (y ∷ ys) zero x e = let same : y ≡ x = cc in ap (λ (z : Stat). z ∷ []) same
 some_take (y ∷ ys) (suc c) x e = some_take ys c x e
 
-pub column_is : (s : Shape) (c : ℕ) (parts : List (List Cell)) (stats : List (List Stat)) → c < width s → AreHonest s parts stats
-    → column_stats c stats ≡ map (stat (kind_at s c)) (map (cells s c) parts)
-column_is s c [] [] lt h = refl
-column_is s c [] (x ∷ stats) lt h = absurd h
-column_is s c (p ∷ parts) [] lt h = absurd h
-column_is s c (p ∷ parts) (x ∷ stats) lt h =
-    ap (λ (z : List Stat). z ++ column_stats c stats) (some_take x c (column_stat s p c) (h.0.each c lt))
-    ∙ ap (λ (z : List Stat). column_stat s p c ∷ z) (column_is s c parts stats lt h.1)
+pub column_is : (s : Shape) (c : ℕ) (told : List (List Stat)) (parts : List (List Cell)) (own : List (List Stat)) → c < width s → AreKnown s told parts own
+    → column_stats c own ≡ known_stats (kind_at s c) (told_at told c) (map (cells s c) parts)
+column_is s c told [] [] lt h = refl
+column_is s c told [] (x ∷ own) lt h = absurd h
+column_is s c told (p ∷ parts) [] lt h = absurd h
+column_is s c [] (p ∷ parts) (x ∷ own) lt h =
+    ap (λ (z : List Stat). z ++ column_stats c own) (some_take x c (known_as body.Plain (column_stat s p c)) (h.0.each c lt))
+    ∙ ap (λ (z : List Stat). known_as body.Plain (column_stat s p c) ∷ z) (column_is s c [] parts own lt h.1)
+column_is s c (t ∷ told) (p ∷ parts) (x ∷ own) lt h =
+    let o : Body = told_body (slice_get t c) in
+    ap (λ (z : List Stat). z ++ column_stats c own) (some_take x c (known_as o (column_stat s p c)) (h.0.each c lt))
+    ∙ ap (λ (z : List Stat). known_as o (column_stat s p c) ∷ z) (column_is s c told parts own lt h.1)
 
 kinds_are : (s : Shape) (c : ℕ) (parts : List (List Cell)) → c < width s → AllByRecursion (AreOfSchema s) parts
     → AllByRecursion (AllByRecursion (λ x. is_of (kind_at s c) x ≡ true)) (map (cells s c) parts)
@@ -63,8 +70,9 @@ pub columns_many : (f : ℕ → Stat) (d n : ℕ) → length (of_columns f d n) 
 columns_many f d zero = refl
 columns_many f d (suc n) = ap suc (columns_many f (suc d) n)
 
-pub whole_column : (s : Shape) (parts : List (List Cell)) (own : List (List Stat)) (c : ℕ) → c < width s → AreOwn s parts own → slice_get (file_stats s own) c ≡ Some (whole_of s parts c)
-whole_column s parts own c lt h =
+pub whole_column : (s : Shape) (told : List (List Stat)) (parts : List (List Cell)) (own : List (List Stat)) (c : ℕ) → c < width s → AreOwn s told parts own
+    → slice_get (file_stats s own) c ≡ Some (known_whole_of s told parts c)
+whole_column s told parts own c lt h =
     let k : StatKind = kind_at s c in
     let count = cells_few s c parts lt h.fit in
     let few = h.few in
@@ -72,51 +80,60 @@ whole_column s parts own c lt h =
     let most : length (flat_map (λ p. p) (map (cells s c) parts)) ≤ 2 ^ 62 = omega (arith, count, few) in
     at_column (λ d. joined (kind_at s d) (column_stats d own)) 0 (width s) c lt
     ∙ ap (λ d. Some (joined (kind_at s d) (column_stats d own))) z
-    ∙ ap (λ (xs : List Stat). Some (joined k xs)) (column_is s c parts own lt h.honest)
-    ∙ ap Some (joined-parts k (map (cells s c) parts) (kinds_are s c parts lt h.fit) most)
+    ∙ ap (λ (xs : List Stat). Some (joined k xs)) (column_is s c told parts own lt h.known)
+    ∙ ap Some (joined-known k (told_at told c) (map (cells s c) parts) (kinds_are s c parts lt h.fit) most)
 
-pub whole_is : (s : Shape) (parts : List (List Cell)) (own : List (List Stat)) (whole : List Stat) → whole ≡ file_stats s own → AreOwn s parts own → AreWhole s parts whole
-whole_is s parts own whole e h = subst (λ (xs : List Stat). AreWhole s parts xs) (sym e) (record {
+pub whole_is : (s : Shape) (told : List (List Stat)) (parts : List (List Cell)) (own : List (List Stat)) (whole : List Stat) → whole ≡ file_stats s own → AreOwn s told parts own → AreWhole s told parts whole
+whole_is s told parts own whole e h = subst (λ (xs : List Stat). AreWhole s told parts xs) (sym e) (record {
   counted = columns_many (λ d. joined (kind_at s d) (column_stats d own)) 0 (width s);
-  each = λ c lt. whole_column s parts own c lt h;
+  each = λ c lt. whole_column s told parts own c lt h;
 })
 
-body_is : (k : StatKind) (cs : List Cell) → body_is_of k (values_body k cs) ≡ true
-body_is kind.Plain cs = refl
-body_is kind.Ints cs = refl
-body_is kind.Bools cs = refl
-body_is kind.Dates cs = refl
-body_is kind.Texts cs = refl
-body_is kind.Bins cs = refl
+body_is : (k : StatKind) (o : Body) (cs : List Cell) → body_is_of k (known_in (o ∷ []) (values_body k cs)) ≡ true
+body_is kind.Plain o cs = refl
+body_is kind.Ints o cs = refl
+body_is kind.Bools o cs = refl
+body_is kind.Dates o cs = refl
+body_is kind.Texts o cs = refl
+body_is kind.Bins o cs = refl
+body_is kind.Children o cs = refl
 
-bodies_are : (k : StatKind) (parts : List (List Cell)) → AllByRecursion (λ (x : Stat). body_is_of k x.body ≡ true) (map (stat k) parts)
-bodies_are k [] = tt
-bodies_are k (p ∷ parts) = (body_is k p, bodies_are k parts)
+bodies_are : (k : StatKind) (told : List (Option Stat)) (parts : List (List Cell)) → AllByRecursion (λ (x : Stat). body_is_of k x.body ≡ true) (known_stats k told parts)
+bodies_are k told [] = tt
+bodies_are k [] (p ∷ parts) = (body_is k body.Plain p, bodies_are k [] parts)
+bodies_are k (t ∷ told) (p ∷ parts) = (body_is k (told_body t) p, bodies_are k told parts)
 
-pub own_kinds : (s : Shape) (parts : List (List Cell)) (own : List (List Stat)) (c : ℕ) → c < width s → AreOwn s parts own
+pub own_kinds : (s : Shape) (told : List (List Stat)) (parts : List (List Cell)) (own : List (List Stat)) (c : ℕ) → c < width s → AreOwn s told parts own
     → All (λ (x : Stat). body_is_of (kind_at s c) x.body ≡ true) (column_stats c own)
-own_kinds s parts own c lt h =
-    subst (λ (xs : List Stat). All (λ (x : Stat). body_is_of (kind_at s c) x.body ≡ true) xs) (sym (column_is s c parts own lt h.honest))
-    (All-from_recursion (λ (x : Stat). body_is_of (kind_at s c) x.body ≡ true) (map (stat (kind_at s c)) (map (cells s c) parts)) (bodies_are (kind_at s c) (map (cells s c) parts)))
+own_kinds s told parts own c lt h =
+    let k : StatKind = kind_at s c in
+    subst (λ (xs : List Stat). All (λ (x : Stat). body_is_of k x.body ≡ true) xs) (sym (column_is s c told parts own lt h.known))
+    (All-from_recursion (λ (x : Stat). body_is_of k x.body ≡ true) (known_stats k (told_at told c) (map (cells s c) parts)) (bodies_are k (told_at told c) (map (cells s c) parts)))
 
 -- ---- a column has too few values to be refused
 
-counts_few : (k : StatKind) (parts : List (List Cell)) → sum_by (λ (x : Stat). x.count) (map (stat k) parts) ≤ length (flat_map (λ p. p) parts)
-counts_few k [] = omega arith
-counts_few k (p ∷ parts) =
-    let sum = sum_by-cons (λ (x : Stat). x.count) (stat k p) (map (stat k) parts) in
+counts_few : (k : StatKind) (told : List (Option Stat)) (parts : List (List Cell)) → sum_by (λ (x : Stat). x.count) (known_stats k told parts) ≤ length (flat_map (λ p. p) parts)
+counts_few k told [] = omega arith
+counts_few k [] (p ∷ parts) =
+    let sum = sum_by-cons (λ (x : Stat). x.count) (known_as body.Plain (stat k p)) (known_stats k [] parts) in
     let all = flat_map-cons (λ (x : List Cell). x) p parts in
     let len = length-append p (flat_map (λ (x : List Cell). x) parts) in
-    omega (arith, sum, ap length all, len, values_few p, counts_few k parts)
+    omega (arith, sum, ap length all, len, values_few p, counts_few k [] parts)
+counts_few k (t ∷ told) (p ∷ parts) =
+    let sum = sum_by-cons (λ (x : Stat). x.count) (known_as (told_body t) (stat k p)) (known_stats k told parts) in
+    let all = flat_map-cons (λ (x : List Cell). x) p parts in
+    let len = length-append p (flat_map (λ (x : List Cell). x) parts) in
+    omega (arith, sum, ap length all, len, values_few p, counts_few k told parts)
 
-pub own_few : (s : Shape) (parts : List (List Cell)) (own : List (List Stat)) (c : ℕ) → c < width s → AreOwn s parts own → sum_by (λ (x : Stat). x.count) (column_stats c own) ≤ 2 ^ 62
-own_few s parts own c lt h =
+pub own_few : (s : Shape) (told : List (List Stat)) (parts : List (List Cell)) (own : List (List Stat)) (c : ℕ) → c < width s → AreOwn s told parts own
+    → sum_by (λ (x : Stat). x.count) (column_stats c own) ≤ 2 ^ 62
+own_few s told parts own c lt h =
     let cells_of : List (List Cell) = map (cells s c) parts in
     let count = cells_few s c parts lt h.fit in
     let few = h.few in
-    subst (λ (xs : List Stat). sum_by (λ (x : Stat). x.count) xs ≤ 2 ^ 62) (sym (column_is s c parts own lt h.honest)) (omega (arith, counts_few (kind_at s c) cells_of, count, few))
+    subst (λ (xs : List Stat). sum_by (λ (x : Stat). x.count) xs ≤ 2 ^ 62) (sym (column_is s c told parts own lt h.known)) (omega (arith, counts_few (kind_at s c) (told_at told c) cells_of, count, few))
 
-pub never_large : (s : Shape) (parts : List (List Cell)) (own : List (List Stat)) (e : StatFault) → AreOwn s parts own → e ≡ fault.CountTooLarge
+pub never_large : (s : Shape) (told : List (List Stat)) (parts : List (List Cell)) (own : List (List Stat)) (e : StatFault) → AreOwn s told parts own → e ≡ fault.CountTooLarge
     → (e ≡ fault.OutOfMemory) ⊎ ((e ≡ fault.CountTooLarge) × (c : ℕ) × (c < width s) × (2 ^ 62 < sum_by (λ (x : Stat). x.count) (column_stats c own))) → ⊥
-never_large s parts own e h large (inl memory) = let wrong : fault.CountTooLarge ≡ fault.OutOfMemory = sym large ∙ memory in cc
-never_large s parts own e h large (inr why) = omega (arith, why.3, own_few s parts own why.1 why.2 h)
+never_large s told parts own e h large (inl memory) = let wrong : fault.CountTooLarge ≡ fault.OutOfMemory = sym large ∙ memory in cc
+never_large s told parts own e h large (inr why) = omega (arith, why.3, own_few s told parts own why.1 why.2 h)

@@ -27,6 +27,7 @@ use Rattle.orc_file.proofs.WriterLemmas as writer
 use Rattle.orc_file.proofs.WrittenLaws.{parts_of}
 use Rattle.orc_check.specs.Findings.{rows_at}
 use Rattle.orc_check.specs.RightIndexes.{IsIndexed, HasIndexes}
+use Rattle.orc_check.proofs.NoFinding.{right_agrees}
 
 -- an index says nothing of where its stripe stands
 pub indexed_moved : (s : Shape) (stride : ℕ) (info : StripeInfo) (bytes : List ℕ) (rows : List Cell) (at : ℕ) → IsIndexed s stride info bytes rows → IsIndexed s stride (record info { offset = at }) bytes rows
@@ -55,7 +56,7 @@ module _ (options : Options) (s : Shape) (some : 0 < options.stride) where
       record {
         footer = w.footer;
         has_footer = subst (λ (f : StripeFooter). HasFooter s c.info c.bytes f) same is.has_footer;
-        right = indexes_right options.rle options.stride s c.rows own c.bytes w some fit few;
+        right = λ k lt. right_agrees options.stride s c.rows w.footer c.bytes k (indexes_right options.rle options.stride s c.rows own c.bytes w some fit few k lt);
       }
 
   -- in a file's bytes, the stripe with a number among these

@@ -1,30 +1,45 @@
 -- What is done of a file that is checked.
-use Rattle.std.specs.Prelude.{◌≡◌, ◌<◌, ◌≤◌, ◌⊎◌, ℕ, List, length}
+use Rattle.std.specs.Prelude.{◌≡◌, ◌<◌, ◌≤◌, ◌⊎◌, ℕ, Some, List, [], ◌∷◌, length, slice_get}
 use Rattle.std.specs.List.{AllByRecursion}
 use Rattle.orc_types.specs.Shapes.{Shape, width}
 use Rattle.orc_types.specs.Columns.{cells}
 use Rattle.orc_types.specs.Fits.{RowsFit}
 use Rattle.orc_file.specs.FileRows.{FirstRefused}
-use Rattle.orc_file.specs.Honest.{AreHonest, AreWhole}
+use Rattle.orc_file.specs.Honest.{AreWhole}
 use Rattle.orc_file.specs.Stripes.{most_stripes, stripe_at}
 use Rattle.orc_file.specs.Tails.{IsTail, OpenFault}
 use Rattle.orc_file.specs.declared.fault.FileFault.{FileFault}
 use Rattle.orc_types.specs.Cells.{Cell}
 use Rattle.orc_stats.specs.declared.stat.Stat.{Stat}
+use Rattle.orc_stats.specs.Known.{known_as, told_body}
 use Rattle.orc_columns.specs.Stripe.{IsStripe, cell_limit}
-use Rattle.orc_written.specs.WrittenStripe.{HaveStats}
+use Rattle.orc_written.specs.WrittenStripe.{column_stat}
 use Rattle.orc_file.specs.declared.tail.Tail.{Tail}
 use Rattle.orc_check.specs.declared.finding.Finding.{Finding}
-use Rattle.orc_check.specs.Findings.{OfStripe, Adds}
+use Rattle.orc_check.specs.Findings.{OfStripe, Adds, stripe_told}
+
+-- the statistics of the first n columns of some rows, of children no more than is told of the column
+pub record HaveKnown (s : Shape) (told : List Stat) (rows : List Cell) (n : ℕ) (stats : List Stat) : Type 0 where
+  pub counted : length stats ≡ n
+  pub each : (c : ℕ) → c < n → slice_get stats c ≡ Some (known_as (told_body (slice_get told c)) (column_stat s rows c))
+
+-- those of each stripe's rows; of a stripe of which nothing is told nothing is known of children
+abbrev pub AreKnown : Shape → List (List Stat) → List (List Cell) → List (List Stat) → Type 0
+AreKnown s told [] [] = Unit {0}
+AreKnown s told [] (stats ∷ own) = ⊥
+AreKnown s told (rows ∷ parts) [] = ⊥
+AreKnown s [] (rows ∷ parts) (stats ∷ own) = HaveKnown s [] rows (width s) stats × AreKnown s [] parts own
+AreKnown s (told ∷ more) (rows ∷ parts) (stats ∷ own) =
+    HaveKnown s told rows (width s) stats × AreKnown s more parts own
 
 -- These bytes of the stripe with this number have rows; what is found of them stands behind what was found before, and
--- these are the statistics of their columns.
+-- these are the statistics of their columns, as far as they are told.
 pub record IsChecked (tail : Tail) (n : ℕ) (bytes : List ℕ) (before after : List Finding)
     (stats : List Stat) : Type 0 where
   pub rows : List Cell
   pub stripe : IsStripe tail.schema (stripe_at tail.stripes n) bytes rows
   pub found : Adds (OfStripe tail n bytes rows) before after
-  pub counted : HaveStats tail.schema rows (width tail.schema) stats
+  pub counted : HaveKnown tail.schema (stripe_told tail n) rows (width tail.schema) stats
 
 -- Why bytes have no list of findings, not even an empty one: they have no tail, or a stripe has no rows.
 abbrev pub CheckFault : List ℕ → FileFault → Type 0
@@ -36,17 +51,20 @@ pub record AreOfSchema (s : Shape) (rows : List Cell) : Type 0 where
   pub fit : RowsFit s rows
   pub few : (column : ℕ) → column < width s → length (cells s column rows) < cell_limit
 
--- these are the statistics of the rows of some stripes, of which there are no more than a file may have
-pub record AreOwn (s : Shape) (parts : List (List Cell)) (own : List (List Stat)) : Type 0 where
+-- These are the statistics of the rows of some stripes, as far as this tells of children, and there are no more stripes
+-- than a file may have.
+pub record AreOwn (s : Shape) (told : List (List Stat)) (parts : List (List Cell))
+    (own : List (List Stat)) : Type 0 where
   pub fit : AllByRecursion (AreOfSchema s) parts
   pub few : length parts ≤ most_stripes
-  pub honest : AreHonest s parts own
+  pub known : AreKnown s told parts own
 
--- of some rows
+-- of some rows, of which something is told
 abbrev pub HaveOwn : Shape → List (List Stat) → Type 0
-HaveOwn s own = (parts : List (List Cell)) × AreOwn s parts own
+HaveOwn s own = (told : List (List Stat)) × (parts : List (List Cell)) × AreOwn s told parts own
 
 -- and these are the statistics of all their rows
 abbrev pub IsWholeOf : Shape → List (List Stat) → List Stat → Type 0
 IsWholeOf s own whole =
-    (length whole ≡ width s) × ((parts : List (List Cell)) → AreOwn s parts own → AreWhole s parts whole)
+    (length whole ≡ width s)
+    × ((told : List (List Stat)) (parts : List (List Cell)) → AreOwn s told parts own → AreWhole s told parts whole)

@@ -22,7 +22,7 @@ use Rattle.orc_stripe.specs.Opened.{Opened}
 use Rattle.orc_stripe.specs.RowIndexes.{HasIndex, IsWhole}
 use Rattle.orc_file.specs.Stripes.{stripe_at}
 use Rattle.orc_file.specs.FileRows.{stripe_bytes, opened_stripe, cut_rows}
-use Rattle.orc_file.specs.Honest.{whole_of}
+use Rattle.orc_file.specs.Honest.{known_whole_of}
 use Rattle.orc_file.specs.declared.tail.Tail.{Tail}
 use Rattle.orc_check.specs.Agreeing.{Tells}
 use Rattle.orc_check.specs.declared.finding.Finding.{Finding}
@@ -58,7 +58,7 @@ Adds Of before after = (own : List Finding) × Of own × (after ≡ before ++ ow
 abbrev pub entry_at : List RowIndexEntry → ℕ → RowIndexEntry
 entry_at entries group = get_or entries group (record { positions = []; statistics = None })
 
--- an entry tells the statistic of its group's cells
+-- an entry tells the statistic of its group's cells, of children perhaps less
 abbrev pub TellsGroup : Shape → List Cell → RowIndexEntry → Type 0
 TellsGroup s group entry = Tells (option_map (stat_read (kind_of s)) entry.statistics) (stat (kind_of s) group)
 
@@ -93,7 +93,7 @@ OfIndex view n rows c found = ((view.stride ≡ 0) × (found ≡ [])) ⊎ ((0 < 
 
 -- ---- stripes
 
--- the statistic that is told of a column in a stripe is that of its cells in the rows
+-- The statistic that is told of a column in a stripe is that of its cells in the rows; of children it may say less.
 abbrev pub TellsStripe : Shape → List Stat → List Cell → ℕ → Type 0
 TellsStripe schema told rows c = Tells (slice_get told c) (column_stat schema rows c)
 
@@ -124,9 +124,14 @@ OfStripes bytes tail parts =
 
 -- ---- the file
 
--- the statistic of the whole file is that of all rows, whose sum isn't known where that of some stripe isn't
+-- The statistic of the whole file is that of all rows, whose sum isn't known where that of some stripe isn't, nor a
+-- part of children where some stripe with a value doesn't tell it.
 abbrev pub TellsFile : Tail → List (List Cell) → ℕ → Type 0
-TellsFile tail parts c = Tells (slice_get tail.file_stats c) (whole_of tail.schema parts c)
+TellsFile tail parts c = Tells (slice_get tail.file_stats c) (known_whole_of tail.schema tail.stripe_stats parts c)
+
+-- the same of each column of a file of these rows
+abbrev pub TellsWhole : Tail → List Cell → Type 0
+TellsWhole tail rows = (c : ℕ) → c < width tail.schema → TellsFile tail (cut_rows tail.stripes rows) c
 
 -- what is found of the statistics of the whole file, column by column
 abbrev pub OfFile : Tail → List (List Cell) → List Finding → Type 0

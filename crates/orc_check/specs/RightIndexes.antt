@@ -1,23 +1,51 @@
 -- The row indexes of a file of which nothing is found (ORC specification, "Row Group Index").
-use Rattle.std.specs.Prelude.{ℕ, ◌<◌, List, length}
+use Rattle.std.specs.Prelude.{◌≡◌, ℕ, ◌<◌, Some, true, List, length, slice_get}
+use Rattle.orc_wire.specs.Messages.{row_index}
+use Rattle.orc_wire.specs.Spells.{Spells}
+use Rattle.orc_wire.specs.declared.row_index.RowIndexEntry.{RowIndexEntry}
+use Rattle.orc_wire.specs.declared.row_index.RowIndexMsg.{RowIndexMsg}
 use Rattle.orc_wire.specs.declared.stripe_footer.StripeFooter.{StripeFooter}
 use Rattle.orc_wire.specs.declared.stripe_info.StripeInfo.{StripeInfo}
 use Rattle.orc_types.specs.Cells.{Cell}
-use Rattle.orc_types.specs.Shapes.{Shape, width}
-use Rattle.orc_columns.specs.Stripe.{HasFooter, columns_of}
-use Rattle.orc_written.specs.WrittenStripe.{HasRightIndex}
+use Rattle.orc_types.specs.Columns.{cells}
+use Rattle.orc_types.specs.Shapes.{Shape, width, shape_at}
+use Rattle.orc_columns.specs.Directory.{has_stream, slice}
+use Rattle.orc_columns.specs.Stripe.{Streams, HasFooter, columns_of}
+use Rattle.orc_index.specs.Bounds.{before_group, group_of}
+use Rattle.orc_index.specs.Places.{AreReadPlaces}
+use Rattle.orc_written.specs.Groups.{starts, bounds_of}
 use Rattle.orc_stripe.specs.GroupCursors.{HasGroup, StartsGroup}
 use Rattle.orc_file.specs.Stripes.{stripe_at}
 use Rattle.orc_file.specs.FileRows.{stripe_bytes, opened_stripe, cut_rows}
 use Rattle.orc_file.specs.declared.tail.Tail.{Tail}
-use Rattle.orc_check.specs.Findings.{rows_at}
+use Rattle.orc_check.specs.Findings.{TellsGroup, rows_at}
 
--- each column of a stripe has an index with an entry for each group of these rows: its statistic, and where a
--- reader goes on
+-- Bytes that are taken for the index of these groups: as many entries as bounds, each with places from which a reader
+-- goes on, and with a statistic that agrees with that of its group.
+pub record IsAgreeingIndex (s : Shape) (x : Streams) (cells : List Cell) (bounds text : List ℕ) : Type 0 where
+  pub message : RowIndexMsg
+  pub spelled : Spells row_index 0 0 text message
+  pub counted : length message.entries ≡ length bounds
+  pub places : (g : ℕ) (entry : RowIndexEntry)
+      → slice_get message.entries g ≡ Some entry
+      → AreReadPlaces s x (before_group cells bounds g) entry.positions
+  pub statistics : (g : ℕ) (entry : RowIndexEntry)
+      → slice_get message.entries g ≡ Some entry
+      → TellsGroup s (group_of cells bounds g) entry
+
+-- the directory lists such an index of column c
+abbrev pub HasAgreeingIndex : ℕ → Shape → List Cell → StripeFooter → List ℕ → ℕ → Type 0
+HasAgreeingIndex stride s rows footer bytes c =
+    (has_stream c 6 footer.streams ≡ true)
+    × IsAgreeingIndex (shape_at s c) (columns_of footer bytes c) (cells s c rows)
+    (bounds_of s c rows (starts stride (length rows))) (slice c 6 footer.streams bytes)
+
+-- Each column of a stripe has an index with an entry for each group of these rows: its statistic, of children perhaps
+-- less, and where a reader goes on.
 pub record IsIndexed (s : Shape) (stride : ℕ) (info : StripeInfo) (bytes : List ℕ) (rows : List Cell) : Type 0 where
   pub footer : StripeFooter
   pub has_footer : HasFooter s info bytes footer
-  pub right : (c : ℕ) → c < width s → HasRightIndex stride s rows footer bytes c
+  pub right : (c : ℕ) → c < width s → HasAgreeingIndex stride s rows footer bytes c
 
 -- where the stride is above 0, each of the stripes is indexed so
 abbrev pub HasIndexes : List ℕ → Tail → List Cell → Type 0

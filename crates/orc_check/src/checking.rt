@@ -19,7 +19,7 @@ use orc_types::Schema;
 use orc_wire::Items;
 use std::alloc::{AllocError, Global};
 
-/// The statistics of the whole file, from those of its stripes' rows.
+/// The statistics of the whole file, from those of its stripes' rows, as far as each is told.
 fn whole_stats(alloc: Global, schema: &Schema, own: &[Items<Stat>]) -> Result<Vec<Stat>, AllocError>
     requires stripes { HaveOwn schema.now own.now }
     ensures { IfOk result (λ whole. IsWholeOf schema.now own.now whole.items) }

@@ -6,10 +6,10 @@ ghost use Rattle.orc_types.specs.Shapes.{width};
 ghost use Rattle.orc_types.specs.Views.{views};
 ghost use Rattle.orc_columns.specs.Stripe.{IsStripe};
 ghost use Rattle.orc_written.specs.WrittenStripe as written;
-ghost use Rattle.orc_written.specs.WrittenStripe.{HaveStats};
+ghost use Rattle.orc_check.specs.Checking.{HaveKnown};
 ghost use Rattle.orc_check.specs.Findings.{Adds, OfEach, OfColumn};
 
-use crate::agreeing::tells;
+use crate::agreeing::{keep_told, tells};
 use crate::entries::cells_stat;
 use crate::finding::Finding;
 use crate::reports::report;
@@ -67,7 +67,8 @@ fn check_column(
     Ok(right)
 }
 
-/// Puts what is found of the columns behind what was found before, and answers the statistics of their cells.
+/// Puts what is found of the columns behind what was found before, and answers the statistics of their cells, of
+/// children no more than is told.
 pub(crate) fn check_columns(
     alloc: Global,
     tail: &Tail,
@@ -82,11 +83,13 @@ pub(crate) fn check_columns(
     ensures found { OnOk result (Adds
         (OfEach (OfColumn view.now told.now number (views rows.now)) (width view.now.schema))
         found.old.items found.new.items) }
-    ensures stats { IfOk result (λ stats. HaveStats view.now.schema (views rows.now) (width view.now.schema) stats) }
+    ensures stats { IfOk result
+        (λ stats. HaveKnown view.now.schema told.now (views rows.now) (width view.now.schema) stats) }
 {
     let mut stats = Vec::new(alloc);
     for column in 0..tail.schema.width() {
-        let stat = check_column(alloc, tail, told, number, column, view, rows, found)?;
+        let mut stat = check_column(alloc, tail, told, number, column, view, rows, found)?;
+        keep_told(&mut stat, told, column);
         stats.push(stat)?;
     }
     Ok(Items::from_vec(stats))

@@ -10,7 +10,6 @@ ghost use Rattle.orc_columns.specs.Stripe.{cell_limit};
 ghost use Rattle.orc_check.specs.Agreeing.{Tells};
 ghost use Rattle.orc_check.specs.Findings.{TellsGroup};
 
-use crate::agreeing::agrees;
 use orc_stats::{Stat, StatFault, StatKind, of_cells};
 use orc_types::{Lent, Tree};
 use orc_wire::{ColumnStats, RowIndexEntry};
@@ -45,7 +44,7 @@ fn message_tells(
         (Tells (Some (stat_read kind message.now)) right.now → ⊥)) }
 {
     match Stat::read(alloc, kind, message) {
-        Ok(told) => Ok(agrees(&told, right)),
+        Ok(told) => Ok(told.agrees(right)),
         Err(StatFault::CountTooLarge) => Ok(false),
         Err(StatFault::OutOfMemory) => Err(AllocError),
     }

@@ -3,7 +3,7 @@ use std::fmt;
 
 /// What a file says of itself, and is not so. Stripes, columns and groups are counted from 0. A statistic that
 /// is there has to tell all that is known of the rows: a part that it lacks, or that it doesn't say whether
-/// there are nulls, is a finding too.
+/// there are nulls, is a finding too. Only of numbers of children it may lack parts: many files tell none.
 #[derive(Clone, Copy, Debug, PartialEq, Eq)]
 pub enum Finding {
     /// In this stripe this column's statistic is missing, or isn't that of the rows.
@@ -16,7 +16,7 @@ pub enum Finding {
     /// In this stripe, for this column, this group's positions aren't where its rows begin.
     IndexPosition(usize, usize, usize),
     /// This column's statistic of the whole file is missing, or isn't that of all rows, whose sum isn't known where
-    /// that of some stripe doesn't fit 64 bits.
+    /// that of some stripe doesn't fit 64 bits, and of whose children no more is known than each stripe tells.
     FileStatistic(usize),
 }
 

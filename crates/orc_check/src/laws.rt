@@ -4,20 +4,20 @@ ghost use Rattle.orc_types.specs.Cells.{Cell};
 ghost use Rattle.orc_types.specs.Shapes.{Shape};
 ghost use Rattle.orc_written.specs.declared.options.Options.{Options};
 ghost use Rattle.orc_file.specs.FileRows.{FileIs, cut_rows};
-ghost use Rattle.orc_file.specs.Honest.{Honest, HasWholeStats};
+ghost use Rattle.orc_file.specs.Honest.{Honest};
 ghost use Rattle.orc_file.specs.Writing.{IsWrittenFile};
 ghost use Rattle.orc_file.specs.declared.tail.Tail.{Tail};
 ghost use Rattle.orc_check.specs.declared.finding.Finding.{Finding};
-ghost use Rattle.orc_check.specs.Findings.{Findings};
+ghost use Rattle.orc_check.specs.Findings.{Findings, TellsWhole};
 ghost use Rattle.orc_check.specs.Meanings.{IsSo};
 ghost use Rattle.orc_check.specs.RightIndexes.{HasIndexes, StartsAtGroups};
 
 use orc_stripe::group_laws;
 
 /// Of a file one list of findings stands at most. A finding is in it exactly where what it says of the file is
-/// so. It is empty exactly where the statistics of each stripe and of the whole file are those of the rows and,
-/// in a file with a stride, each column of each stripe has a right row index. Nothing is found of a file as it
-/// is written.
+/// so. It is empty exactly where the statistics of each stripe and of the whole file are those of the rows, but
+/// for parts of children that they don't know, and, in a file with a stride, each column of each stripe has a
+/// row index of which the same holds. Nothing is found of a file as it is written.
 pub fn finding_laws()
     ensures one { (bytes : List ℕ) (tail : Tail) (rows : List Cell) (a b : List Finding)
         → Findings bytes tail rows a → Findings bytes tail rows b
@@ -26,7 +26,7 @@ pub fn finding_laws()
         → FileIs bytes tail rows → Findings bytes tail rows found
         → Contains found finding ↔ IsSo bytes tail (cut_rows tail.stripes rows) finding }
     ensures none { (bytes : List ℕ) (tail : Tail) (rows : List Cell) → FileIs bytes tail rows
-        → Findings bytes tail rows [] ↔ (Honest tail rows × HasWholeStats tail rows × HasIndexes bytes tail rows) }
+        → Findings bytes tail rows [] ↔ (Honest tail rows × TellsWhole tail rows × HasIndexes bytes tail rows) }
     ensures written { (options : Options) (s : Shape) (tail : Tail) (bytes : List ℕ) (rows : List Cell)
         → IsWrittenFile options s tail bytes rows
         → FileIs bytes tail rows → Findings bytes tail rows [] }

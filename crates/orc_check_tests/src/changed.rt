@@ -32,27 +32,30 @@ static OF_SEVENS: [Case; 11] = [
 ];
 
 /// Of the file of five rows of arrays, in groups of two.
-static OF_ARRAYS: [Case; 14] = [
+static OF_ARRAYS: [Case; 29] = [
     (&[], &[]),
     // no stride, so no index is looked at
-    (&[(397, 0x00)], &[]),
-    (&[(142, 0x03)], &["IndexPosition 0 3 1"]),
-    (&[(50, 0x02)], &["IndexPosition 0 1 1"]),
-    (&[(48, 0x03)], &["IndexPosition 0 1 1"]),
-    (&[(134, 0x08)], &["IndexStatistic 0 3 0"]),
-    (&[(135, 0x58)], &["IndexStatistic 0 3 0"]),
-    (&[(123, 0x1a)], &["IndexStatistic 0 3 0"]),
+    (&[(477, 0x00)], &[]),
+    (&[(190, 0x03)], &["IndexPosition 0 3 1"]),
+    (&[(58, 0x02)], &["IndexPosition 0 1 1"]),
+    (&[(56, 0x03)], &["IndexPosition 0 1 1"]),
+    (&[(182, 0x08)], &["IndexStatistic 0 3 0"]),
+    (&[(183, 0x58)], &["IndexStatistic 0 3 0"]),
+    (&[(171, 0x1a)], &["IndexStatistic 0 3 0"]),
     (
-        &[(134, 0x08), (142, 0x03)],
+        &[(182, 0x08), (190, 0x03)],
         &["IndexStatistic 0 3 0", "IndexPosition 0 3 1"],
     ),
     // another kind of stream, two entries, and one that doesn't read
-    (&[(221, 0x07)], &["IndexEntries 0 3"]),
-    (&[(117, 0x12)], &["IndexEntries 0 3"]),
-    (&[(118, 0x7f)], &["IndexEntries 0 3"]),
+    (&[(269, 0x07)], &["IndexEntries 0 3"]),
+    (&[(165, 0x12)], &["IndexEntries 0 3"]),
+    (&[(166, 0x7f)], &["IndexEntries 0 3"]),
+    // numbers of children that don't read, and that stand twice
+    (&[(67, 0x0b)], &["IndexEntries 0 1"]),
+    (&[(63, 0x62), (64, 0x00)], &["IndexEntries 0 1"]),
     // two groups, and five
     (
-        &[(397, 0x03)],
+        &[(477, 0x03)],
         &[
             "IndexEntries 0 0",
             "IndexEntries 0 1",
@@ -61,7 +64,7 @@ static OF_ARRAYS: [Case; 14] = [
         ],
     ),
     (
-        &[(397, 0x01)],
+        &[(477, 0x01)],
         &[
             "IndexEntries 0 0",
             "IndexEntries 0 1",
@@ -69,6 +72,27 @@ static OF_ARRAYS: [Case; 14] = [
             "IndexEntries 0 3",
         ],
     ),
+    // a wrong number of children: of the stripe the total, the least and the greatest one, the file's total, and the
+    // total of a group
+    (&[(351, 0x06)], &["StripeStatistic 0 1"]),
+    (&[(347, 0x01)], &["StripeStatistic 0 1"]),
+    (&[(363, 0x04)], &["StripeStatistic 0 2"]),
+    (&[(447, 0x06)], &["FileStatistic 1"]),
+    (&[(72, 0x03)], &["IndexStatistic 0 1 1"]),
+    // none told of a group, of the file, and of neither the stripe nor the file
+    (&[(65, 0x6a)], &[]),
+    (&[(440, 0x6a)], &[]),
+    (&[(344, 0x6a), (440, 0x6a)], &[]),
+    // none told of the stripe, so that what the file tells can't be known
+    (&[(344, 0x6a)], &["FileStatistic 1"]),
+    (
+        &[(344, 0x6a), (358, 0x6a)],
+        &["FileStatistic 1", "FileStatistic 2"],
+    ),
+    // the total alone isn't told of the stripe, of the file, and of both
+    (&[(350, 0x20)], &["FileStatistic 1"]),
+    (&[(446, 0x20)], &[]),
+    (&[(350, 0x20), (446, 0x20)], &[]),
 ];
 
 /// Of the file of no stripes.
@@ -130,7 +154,7 @@ fn check_all(rt: &impl Abort, alloc: Global) -> Result<(), FileFault> {
     check_cases(rt, alloc, &EMPTY, &OF_EMPTY)?;
     check_cases(rt, alloc, &SEVENS, &OF_SEVENS)?;
     let file = arrays(alloc)?;
-    assert!(rt; file.len() == 420);
+    assert!(rt; file.len() == 500);
     check_cases(rt, alloc, &file, &OF_ARRAYS)?;
     // 2^63 - 1, 1 and -1 in stripes of two rows: the first one's sum isn't told, nor the file's
     check_found(rt, alloc, &sums(alloc)?, &[])?;

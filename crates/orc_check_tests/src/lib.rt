@@ -5,6 +5,8 @@
 #[cfg(test)]
 mod changed;
 #[cfg(test)]
+mod children;
+#[cfg(test)]
 mod each_byte;
 #[cfg(test)]
 mod failing;

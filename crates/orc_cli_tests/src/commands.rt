@@ -361,7 +361,7 @@ static SHOWN: [(&[u8], &str); 5] = [
         column 2 count 2 nulls unknown min 1970-01-01 max 1970-01-02\n\
         column 3 count 2 nulls no min \"a\" max hex:ff sum 3\n\
         column 4 count 1 nulls no sum 5\n\
-        column 5 count 1 nulls no\n\
+        column 5 count 1 nulls no min 1 max 2 sum 4\n\
         column 6 count 2 nulls no min -1 max 2\n",
     ),
 ];

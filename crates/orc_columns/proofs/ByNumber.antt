@@ -2,15 +2,17 @@
 use Rattle.std.proofs.Common.{◌≡◌, ℕ, zero, suc, ◌+◌, ◌-◌, ◌<◌, ◌≤◌, ◌^◌, ℤ, pos, negsuc, Bool, true, false, ltb, List, [], ◌∷◌, ◌++◌, map, length, take, drop, refl, sym, ap, ◌∙◌, subst, arith, inl, inr}
 use Rattle.std.proofs.lemmas.Bool.{lt-ltb, le-ltb, and_parts, cases_lt}
 use Rattle.std.specs.List.{AllByRecursion, flat_map}
-use Rattle.orc_types.specs.Cells.{Cell, null, leaf, list, struct, Cells, end, more, cells_of, list_of_cells, parts, values}
-use Rattle.orc_types.specs.Shapes.{Shape, scalar, list_of, struct_of, Fields, no_field, field, width, widths, shape_at, shape_within}
-use Rattle.orc_types.specs.Fits.{fits, int_fits, all_fit, each_fits, RowsFit}
+use Rattle.orc_types.specs.Cells.{Cell, null, leaf, list, struct, pairs, Cells, end, more, cells_of, list_of_cells, pairs_of, parts, pairs_in, keys_in, values_in, values}
+use Rattle.orc_types.specs.Shapes.{Shape, scalar, list_of, map_of, struct_of, Fields, no_field, field, width, widths, shape_at, shape_within}
+use Rattle.orc_types.specs.Fits.{fits, int_fits, all_fit, pairs_fit, each_fits, RowsFit}
 use Rattle.orc_types.specs.Columns.{cells, cells_within}
 use Rattle.orc_types.specs.declared.kind.Scalar.{Scalar}
 use Rattle.orc_types.specs.declared.kind.Scalar.TheVariants as kind
-use Rattle.orc_types.proofs.Views.{list_of_cells-cells_of, cells_of-list_of_cells}
+use Rattle.orc_types.proofs.Views.{list_of_cells-cells_of, cells_of-list_of_cells, list_of_pairs-pairs_of, pairs_of-list_of_pairs}
+use Rattle.orc_types.proofs.Together.{keys_fit, values_fit as seconds_fit}
+use Rattle.std.proofs.lemmas.List.{length-map, map-append}
 use Rattle.orc_columns.specs.Spellings.{AllStand, size, joined, zip_cons}
-use Rattle.orc_columns.specs.Columns.{IsBool, IsByte, signed_byte, IsInt, IsDate, IsText, IsBinary, IsWord, IsList, IsRecord}
+use Rattle.orc_columns.specs.Columns.{IsBool, IsByte, signed_byte, IsInt, IsDate, IsText, IsBinary, IsWord, IsList, IsMap, IsRecord}
 use Rattle.orc_columns.specs.Stripe.{Streams, SpellsScalar, IsColumn, SpellRows, SpellsFields, SpellsCells, has_dictionary, SpellsTexts}
 use Rattle.orc_columns.proofs.Fronts.{length-zip, stand_length}
 
@@ -33,6 +35,7 @@ fits_of_values s (null ∷ cs) h = (null_fits s, fits_of_values s cs h)
 fits_of_values s (leaf x ∷ cs) h = (h.0, fits_of_values s cs h.1)
 fits_of_values s (list x ∷ cs) h = (h.0, fits_of_values s cs h.1)
 fits_of_values s (struct x ∷ cs) h = (h.0, fits_of_values s cs h.1)
+fits_of_values s (pairs x ∷ cs) h = (h.0, fits_of_values s cs h.1)
 
 values_fit : (s : Shape) (cs : List Cell) → RowsFit s cs → RowsFit s (values cs)
 values_fit s [] h = tt
@@ -40,6 +43,7 @@ values_fit s (null ∷ cs) h = values_fit s cs h.1
 values_fit s (leaf x ∷ cs) h = (h.0, values_fit s cs h.1)
 values_fit s (list x ∷ cs) h = (h.0, values_fit s cs h.1)
 values_fit s (struct x ∷ cs) h = (h.0, values_fit s cs h.1)
+values_fit s (pairs x ∷ cs) h = (h.0, values_fit s cs h.1)
 
 standing_fits : {X : Type 0} (stands : X → Cell → Type 0) (s : Shape) → ((x : X) (v : Cell) → stands x v → fits v s ≡ true) → (xs : List X) (vs : List Cell) → AllStand stands xs vs → RowsFit s vs
 standing_fits stands s one [] [] h = tt
@@ -130,6 +134,7 @@ are_lists s o [] h = record { stand = tt; fit = tt }
 are_lists s o (null ∷ cs) h = are_lists s o cs h.1
 are_lists s o (leaf x ∷ cs) h = let k = h.0 in cc
 are_lists s o (struct x ∷ cs) h = let k = h.0 in cc
+are_lists s o (pairs x ∷ cs) h = let k = h.0 in cc
 are_lists s o (list x ∷ cs) h =
     let r = are_lists s o cs h.1 in
     record { stand = (ap list (sym (cells_of-list_of_cells x)), r.stand); fit = all-append (λ c. fits c s ≡ true) (list_of_cells x) (joined (map parts (values cs))) (fit_of_all s x h.0) r.fit }
@@ -141,6 +146,64 @@ joined_parts (v ∷ vs) = ap (λ t. parts v ++ t) (joined_parts vs)
 pub map_sizes : (vs : List Cell) → map size (map parts vs) ≡ map (λ v. size (parts v)) vs
 map_sizes [] = refl
 map_sizes (v ∷ vs) = ap (λ t. size (parts v) ∷ t) (map_sizes vs)
+
+-- ---- maps
+
+abbrev first_of : Cell × Cell → Cell
+first_of p = p.0
+
+abbrev second_of : Cell × Cell → Cell
+second_of p = p.1
+
+pairs_fit_of : (k v : Shape) (ps : List (Cell × Cell)) → RowsFit k (map first_of ps) → RowsFit v (map second_of ps) → pairs_fit (pairs_of ps) k v ≡ true
+pairs_fit_of k v [] h f = refl
+pairs_fit_of k v (p ∷ ps) h f = rw (h.0, f.0, pairs_fit_of k v ps h.1 f.1) refl
+
+-- maps, their keys and values joined, and how many pairs they have
+record Maps (k v : Shape) (o : List ℕ) (groups : List (List (Cell × Cell))) (vs : List Cell) : Type 0 where
+  fit : RowsFit (map_of k v o) vs
+  keys : flat_map keys_in vs ≡ map first_of (joined groups)
+  seconds : flat_map values_in vs ≡ map second_of (joined groups)
+  sizes : map (λ m. size (pairs_in m)) vs ≡ map size groups
+
+maps_of : (k v : Shape) (o : List ℕ) (groups : List (List (Cell × Cell))) (vs : List Cell) → AllStand IsMap groups vs → RowsFit k (map first_of (joined groups)) → RowsFit v (map second_of (joined groups)) → Maps k v o groups vs
+maps_of k v o [] [] h f e = record { fit = tt; keys = refl; seconds = refl; sizes = refl }
+maps_of k v o [] (c ∷ vs) h f e = absurd h
+maps_of k v o (g ∷ groups) [] h f e = absurd h
+maps_of k v o (g ∷ groups) (c ∷ vs) h f e =
+    let i = map-append first_of g (joined groups) in
+    let j = map-append second_of g (joined groups) in
+    let a = all-front (λ x. fits x k ≡ true) (map first_of g) (map first_of (joined groups)) (subst (RowsFit k) i f) in
+    let b = all-front (λ x. fits x v ≡ true) (map second_of g) (map second_of (joined groups)) (subst (RowsFit v) j e) in
+    let l = maps_of k v o groups vs h.1 a.1 b.1 in
+    let p : pairs_in c ≡ g = ap pairs_in h.0 ∙ list_of_pairs-pairs_of g in
+    record {
+      fit = (ap (λ x. fits x (map_of k v o)) h.0 ∙ pairs_fit_of k v g a.0 b.0, l.fit);
+      keys = ap (λ t. map first_of t ++ flat_map keys_in vs) p ∙ ap (λ t. map first_of g ++ t) l.keys ∙ sym i;
+      seconds = ap (λ t. map second_of t ++ flat_map values_in vs) p ∙ ap (λ t. map second_of g ++ t) l.seconds ∙ sym j;
+      sizes = ap (λ t. size t ∷ map (λ m. size (pairs_in m)) vs) p ∙ ap (λ t. size g ∷ t) l.sizes;
+    }
+
+-- values that fit a map's type are maps
+pub are_maps : (k v : Shape) (o : List ℕ) (cs : List Cell) → RowsFit (map_of k v o) cs → AllStand IsMap (map pairs_in (values cs)) (values cs)
+are_maps k v o [] h = tt
+are_maps k v o (null ∷ cs) h = are_maps k v o cs h.1
+are_maps k v o (leaf x ∷ cs) h = let q = h.0 in cc
+are_maps k v o (list x ∷ cs) h = let q = h.0 in cc
+are_maps k v o (struct x ∷ cs) h = let q = h.0 in cc
+are_maps k v o (pairs x ∷ cs) h = (ap pairs (sym (pairs_of-list_of_pairs x)), are_maps k v o cs h.1)
+
+pub joined_keys : (vs : List Cell) → map first_of (joined (map pairs_in vs)) ≡ flat_map keys_in vs
+joined_keys [] = refl
+joined_keys (c ∷ vs) = map-append first_of (pairs_in c) (joined (map pairs_in vs)) ∙ ap (λ t. keys_in c ++ t) (joined_keys vs)
+
+pub joined_seconds : (vs : List Cell) → map second_of (joined (map pairs_in vs)) ≡ flat_map values_in vs
+joined_seconds [] = refl
+joined_seconds (c ∷ vs) = map-append second_of (pairs_in c) (joined (map pairs_in vs)) ∙ ap (λ t. values_in c ++ t) (joined_seconds vs)
+
+pub pair_sizes : (vs : List Cell) → map size (map pairs_in vs) ≡ map (λ m. size (pairs_in m)) vs
+pair_sizes [] = refl
+pair_sizes (c ∷ vs) = ap (λ t. size (pairs_in c) ∷ t) (pair_sizes vs)
 
 -- ---- structs
 
@@ -190,6 +253,7 @@ are_records fs o [] h = record { stand = tt; fit = tt }
 are_records fs o (null ∷ cs) h = are_records fs o cs h.1
 are_records fs o (leaf x ∷ cs) h = let k = h.0 in cc
 are_records fs o (list x ∷ cs) h = let k = h.0 in cc
+are_records fs o (pairs x ∷ cs) h = let k = h.0 in cc
 are_records fs o (struct x ∷ cs) h =
     let r = are_records fs o cs h.1 in
     record { stand = (ap struct (sym (cells_of-list_of_cells x)), r.stand); fit = (ap (λ t. each_fits t fs) (cells_of-list_of_cells x) ∙ h.0, r.fit) }
@@ -200,6 +264,7 @@ values_few (null ∷ cs) = omega (arith, values_few cs)
 values_few (leaf x ∷ cs) = omega (arith, values_few cs)
 values_few (list x ∷ cs) = omega (arith, values_few cs)
 values_few (struct x ∷ cs) = omega (arith, values_few cs)
+values_few (pairs x ∷ cs) = omega (arith, values_few cs)
 
 empties_fit : (structs : List (List Cell)) → AllByRecursion (λ cs. cs ≡ []) structs → FieldsFit no_field structs
 empties_fit [] h = tt
@@ -216,6 +281,17 @@ list_column : (s : Shape) (o : List ℕ) (x : ℕ → Streams) (cs : List Cell) 
     → (c : ℕ) → c < 1 + width s → IsColumn (shape_at (list_of s o) c) (x c) (cells (list_of s o) c cs)
 list_column s o x cs n own below zero lt = own
 list_column s o x cs n own below (suc c) lt = below.column c (omega (arith, lt))
+
+map_column : (k v : Shape) (o : List ℕ) (x : ℕ → Streams) (cs : List Cell) (n m : ℕ) → IsColumn (map_of k v o) (x 0) cs → SpellRows k (λ c. x (suc c)) n (flat_map keys_in (values cs)) → SpellRows v (λ c. x (suc (width k + c))) m (flat_map values_in (values cs))
+    → (c : ℕ) → c < 1 + (width k + width v) → IsColumn (shape_at (map_of k v o) c) (x c) (cells (map_of k v o) c cs)
+map_column k v o x cs n m own first second zero lt = own
+map_column k v o x cs n m own first second (suc c) lt = elim (cases_lt c (width k)) [
+  | inl below ↦ rw (lt-ltb c (width k) below) (first.column c below)
+  | inr past ↦
+      let e : width k + (c - width k) ≡ c = omega (arith, past) in
+      let r = second.column (c - width k) (omega (arith, past, lt)) in
+      rw (le-ltb c (width k) past) (subst (λ (d : ℕ). IsColumn (shape_at v (c - width k)) (x (suc d)) (cells v (c - width k) (flat_map values_in (values cs)))) e r)
+]
 
 struct_column : (fs : Fields) (o : List ℕ) (x : ℕ → Streams) (cs : List Cell) → IsColumn (struct_of fs o) (x 0) cs → FieldRows fs (λ c. x (suc c)) (map parts (values cs))
     → (c : ℕ) → c < 1 + widths fs → IsColumn (shape_at (struct_of fs o) c) (x c) (cells (struct_of fs o) c cs)
@@ -246,6 +322,19 @@ mutual
         fit = fits_of_values (list_of s o) cs l.fit;
         column = list_column s o x cs (length (joined r.0)) (record { few = few; marks = h.0; spelled = rw l.sizes r.2.0 }) below;
       }
+  to_number (map_of k v o) x cs few h =
+      let r = h.1 in
+      let ps = joined r.0 in
+      let first = to_number k (λ c. x (suc c)) (map first_of ps) (omega (arith, r.2.1.0, length-map ps first_of)) r.2.1.1.0 in
+      let second = to_number v (λ c. x (suc (width k + c))) (map second_of ps) (omega (arith, r.2.1.0, length-map ps second_of)) r.2.1.1.1 in
+      let l = maps_of k v o r.0 (values cs) r.1 first.fit second.fit in
+      let keys = subst (λ (t : List Cell). SpellRows k (λ c. x (suc c)) (length (map first_of ps)) t) (sym l.keys) first in
+      let seconds = subst (λ (t : List Cell). SpellRows v (λ c. x (suc (width k + c))) (length (map second_of ps)) t) (sym l.seconds) second in
+      record {
+        counted = refl;
+        fit = fits_of_values (map_of k v o) cs l.fit;
+        column = map_column k v o x cs (length (map first_of ps)) (length (map second_of ps)) (record { few = few; marks = h.0; spelled = rw l.sizes r.2.0 }) keys seconds;
+      }
   to_number (struct_of fs o) x cs few h =
       let r = h.1 in
       let count = stand_length IsRecord r.0 (values cs) r.1 in
@@ -275,11 +364,13 @@ mutual
 pub first_cells : (s : Shape) (rows : List Cell) → cells s 0 rows ≡ rows
 first_cells (scalar k o) rows = refl
 first_cells (list_of s o) rows = refl
+first_cells (map_of k v o) rows = refl
 first_cells (struct_of fs o) rows = refl
 
 pub wide : (s : Shape) → 0 < width s
 wide (scalar k o) = omega arith
 wide (list_of s o) = omega arith
+wide (map_of k v o) = omega arith
 wide (struct_of fs o) = omega arith
 
 few_cells : (s : Shape) (x : ℕ → Streams) (n : ℕ) (rows : List Cell) → SpellRows s x n rows → length rows < 2 ^ 31
@@ -313,6 +404,18 @@ other_column name s fs x structs all c lt =
     let e : width s + c - width s ≡ c = omega arith in
     rw (t, e) at k
 
+key_column : (k v : Shape) (o : List ℕ) (x : ℕ → Streams) (cs : List Cell) → ((c : ℕ) → c < 1 + (width k + width v) → IsColumn (shape_at (map_of k v o) c) (x c) (cells (map_of k v o) c cs))
+    → (c : ℕ) → c < width k → IsColumn (shape_at k c) (x (suc c)) (cells k c (flat_map keys_in (values cs)))
+key_column k v o x cs all c lt = let r = all (suc c) (omega (arith, lt)) in let t : ltb c (width k) ≡ true = lt-ltb c (width k) lt in rw t at r
+
+second_column : (k v : Shape) (o : List ℕ) (x : ℕ → Streams) (cs : List Cell) → ((c : ℕ) → c < 1 + (width k + width v) → IsColumn (shape_at (map_of k v o) c) (x c) (cells (map_of k v o) c cs))
+    → (c : ℕ) → c < width v → IsColumn (shape_at v c) (x (suc (width k + c))) (cells v c (flat_map values_in (values cs)))
+second_column k v o x cs all c lt =
+    let r = all (suc (width k + c)) (omega (arith, lt)) in
+    let t : ltb (width k + c) (width k) ≡ false = le-ltb (width k + c) (width k) (omega arith) in
+    let e : width k + c - width k ≡ c = omega arith in
+    rw (t, e) at r
+
 pub fit_empty : (structs : List (List Cell)) → FieldsFit no_field structs → AllByRecursion (λ cs. cs ≡ []) structs
 fit_empty [] h = tt
 fit_empty ([] ∷ structs) h = (refl, fit_empty structs h.1)
@@ -330,6 +433,30 @@ mutual
       let inner = from_number s (λ c. x (suc c)) (length (flat_map parts (values cs))) (flat_map parts (values cs)) below in
       let few = few_cells s (λ c. x (suc c)) (length (flat_map parts (values cs))) (flat_map parts (values cs)) below in
       (own.marks, (map parts (values cs), l.stand, (rw (map_sizes (values cs)) own.spelled, (omega (arith, few, ap length e), subst (SpellsCells s (λ c. x (suc c))) (sym e) inner))))
+  from_number (map_of k v o) x n cs r =
+      let own = r.column 0 (omega arith) in
+      let vs = values cs in
+      let ps = joined (map pairs_in vs) in
+      let keys : SpellRows k (λ c. x (suc c)) (length (flat_map keys_in vs)) (flat_map keys_in vs) =
+      record { counted = refl; fit = keys_fit k v o cs r.fit; column = key_column k v o x cs r.column } in
+      let seconds : SpellRows v (λ c. x (suc (width k + c))) (length (flat_map values_in vs)) (flat_map values_in vs) =
+      record { counted = refl; fit = seconds_fit k v o cs r.fit; column = second_column k v o x cs r.column } in
+      let first = from_number k (λ c. x (suc c)) (length (flat_map keys_in vs)) (flat_map keys_in vs) keys in
+      let second = from_number v (λ c. x (suc (width k + c))) (length (flat_map values_in vs)) (flat_map values_in vs) seconds in
+      let few = few_cells k (λ c. x (suc c)) (length (flat_map keys_in vs)) (flat_map keys_in vs) keys in (
+        own.marks,
+        (
+          map pairs_in vs,
+          are_maps k v o cs r.fit,
+          (
+            rw (pair_sizes vs) own.spelled,
+            (
+              omega (arith, few, ap length (joined_keys vs), length-map ps first_of),
+              (subst (SpellsCells k (λ c. x (suc c))) (sym (joined_keys vs)) first, subst (SpellsCells v (λ c. x (suc (width k + c)))) (sym (joined_seconds vs)) second),
+            ),
+          ),
+        ),
+      )
   from_number (struct_of fs o) x n cs r =
       let own = r.column 0 (omega arith) in
       let l = are_records fs o cs r.fit in

@@ -2,12 +2,12 @@
 use Rattle.std.proofs.Common.{◌≡◌, ℕ, ◌-◌, ◌≤◌, Bool, true, false, List, [], ◌∷◌, length, take, drop, get_or, refl, sym, ap, ◌∙◌, subst, arith, length-drop}
 use Rattle.std.specs.Bool.{MatchBool}
 use Rattle.std.proofs.Math.Seq.{take-length}
-use Rattle.orc_types.specs.Shapes.{Shape, scalar, list_of, struct_of, Fields, field, width}
+use Rattle.orc_types.specs.Shapes.{Shape, scalar, list_of, map_of, struct_of, Fields, field, width}
 use Rattle.orc_types.specs.declared.kind.Scalar.{Scalar}
 use Rattle.orc_columns.specs.declared.column.ColumnReader.{ColumnReader}
 use Rattle.orc_columns.specs.Numbers.{NumbersLeft}
 use Rattle.orc_columns.specs.Spellings.{AllStand, Standing, Fielded, zip_cons}
-use Rattle.orc_columns.specs.Columns.{IsList, IsRecord, MarksLeft, ScalarLeft, CellsLeft, OwnLeft, ValuesLeft, ListsLeft, FieldsLeft}
+use Rattle.orc_columns.specs.Columns.{IsList, IsMap, IsRecord, MarksLeft, ScalarLeft, CellsLeft, OwnLeft, ValuesLeft, ListsLeft, MapsLeft, PairsLeft, FieldsLeft}
 use Rattle.orc_columns.proofs.Arms.{behind}
 
 -- ---- the ways of spelling
@@ -65,6 +65,20 @@ pub list_cells : (s e : Shape) (o : List ℕ) (rs : List ColumnReader) → s ≡
 list_cells s e o [] is h = absurd h
 list_cells s e o (own ∷ below) is h =
     subst (λ t. CellsLeft e t []) (sym (behind own below)) (standing_end IsList (ListsLeft e own.source below) (subst (λ t. ValuesLeft t own.source below []) is h)).1.1
+
+pub map_ended : (s k v : Shape) (o : List ℕ) (rs : List ColumnReader) (d : ColumnReader) → s ≡ map_of k v o → 1 ≤ length rs → NumbersLeft (get_or rs 0 d).source.numbers [] → PairsLeft k v (take (length rs - 1) (drop 1 rs)) [] → OwnLeft s rs []
+map_ended s k v o [] d is some p q = absurd (omega (arith, some))
+map_ended s k v o (own ∷ below) d is some p q =
+    rw is (standing_ends IsMap (MapsLeft k v own.source below) (p, (omega arith, subst (λ t. PairsLeft k v t []) (behind own below) q)))
+
+pub map_numbers : (s k v : Shape) (o : List ℕ) (rs : List ColumnReader) (d : ColumnReader) → s ≡ map_of k v o → OwnLeft s rs [] → NumbersLeft (get_or rs 0 d).source.numbers []
+map_numbers s k v o [] d is h = absurd h
+map_numbers s k v o (own ∷ below) d is h = (standing_end IsMap (MapsLeft k v own.source below) (subst (λ t. ValuesLeft t own.source below []) is h)).0
+
+pub map_pairs : (s k v : Shape) (o : List ℕ) (rs : List ColumnReader) → s ≡ map_of k v o → OwnLeft s rs [] → PairsLeft k v (take (length rs - 1) (drop 1 rs)) []
+map_pairs s k v o [] is h = absurd h
+map_pairs s k v o (own ∷ below) is h =
+    subst (λ t. PairsLeft k v t []) (sym (behind own below)) (standing_end IsMap (MapsLeft k v own.source below) (subst (λ t. ValuesLeft t own.source below []) is h)).1.1
 
 pub struct_ended : (s : Shape) (fs : Fields) (o : List ℕ) (rs : List ColumnReader) → s ≡ struct_of fs o → 1 ≤ length rs → FieldsLeft fs (take (length rs - 1) (drop 1 rs)) [] → OwnLeft s rs []
 struct_ended s fs o [] is some p = absurd (omega (arith, some))

@@ -2,7 +2,7 @@
 use Rattle.std.proofs.Common.{◌≡◌, ℕ, suc, ◌+◌, ◌-◌, ◌≤◌, Bool, true, false, pos, List, [], ◌∷◌, ◌++◌, length, take, drop, get_or, slice_set, refl, sym, ap, ◌∙◌, subst, inl, inr, ◌⊎◌, arith}
 use Rattle.std.proofs.Math.Seq.{take-append_seam, drop-append_seam}
 use borrow.Rule.Slice.PartMut.{put_mid}
-use Rattle.orc_types.specs.Shapes.{Shape, scalar, list_of, struct_of, Fields, no_field, field, width}
+use Rattle.orc_types.specs.Shapes.{Shape, scalar, list_of, map_of, struct_of, Fields, no_field, field, width}
 use Rattle.orc_types.specs.declared.kind.Scalar.{Scalar}
 use Rattle.orc_rle.specs.declared.fault.RunFault.{RunFault}
 use Rattle.orc_columns.specs.declared.bits.Bits.{Bits}
@@ -16,7 +16,7 @@ use Rattle.orc_columns.specs.Faults.{RunsFail, HasFault, WordsOfFail, ValuesFail
 use Rattle.orc_columns.specs.Fronts.{Precedes}
 use Rattle.orc_columns.specs.Needs.{MarksBegin, ValuesNeeded}
 use Rattle.orc_columns.specs.Numbers.{NumbersFirst}
-use Rattle.orc_columns.specs.ReaderFaults.{ScalarMeets, ListsMeet, ValuesMeet, PresentMeets, CellsMeet, BelowMeet, FieldsMeet, OwnMeet, ListsOfMeet}
+use Rattle.orc_columns.specs.ReaderFaults.{ScalarMeets, ListsMeet, ValuesMeet, PresentMeets, CellsMeet, BelowMeet, FieldsMeet, OwnMeet, ListsOfMeet, PairsMeet, MapsOfMeet}
 use Rattle.orc_columns.specs.RunFaults.{Always, IntegersFirst}
 use Rattle.orc_columns.specs.RunsMet.{MarksMeet}
 use Rattle.orc_columns.specs.Starting.{SourceStart, IsOf, AreOf, AreBelow, AreFields}
@@ -121,6 +121,14 @@ pub own_lists : (s e : Shape) (o : List ℕ) (readers : List ColumnReader) (all 
 own_lists s e o [] all n f is h = h
 own_lists s e o (own ∷ below) all n f is h = subst (λ z. OwnMeet z (own ∷ below) all n f) is h
 
+pub maps_own : (s k v : Shape) (o : List ℕ) (readers : List ColumnReader) (all : Bool) (n : ℕ) (f : StripeFault) → s ≡ map_of k v o → MapsOfMeet k v readers all n f → OwnMeet s readers all n f
+maps_own s k v o [] all n f is h = h
+maps_own s k v o (own ∷ below) all n f is h = subst (λ z. OwnMeet z (own ∷ below) all n f) (sym is) h
+
+pub own_maps : (s k v : Shape) (o : List ℕ) (readers : List ColumnReader) (all : Bool) (n : ℕ) (f : StripeFault) → s ≡ map_of k v o → OwnMeet s readers all n f → MapsOfMeet k v readers all n f
+own_maps s k v o [] all n f is h = h
+own_maps s k v o (own ∷ below) all n f is h = subst (λ z. OwnMeet z (own ∷ below) all n f) is h
+
 struct_own : (fs : Fields) (o : List ℕ) (own : ColumnReader) (below ys : List ColumnReader) (all : Bool) (n : ℕ) (f : StripeFault) → (FieldsMeet fs ys all n f → FieldsMeet fs below all (suc n) f)
     → OwnMeet (struct_of fs o) (own ∷ ys) all n f → OwnMeet (struct_of fs o) (own ∷ below) all (suc n) f
 struct_own fs o own below ys all n f q (inl h) = absurd h
@@ -173,6 +181,57 @@ pub lists_below : (e : Shape) (readers : List ColumnReader) (f : StripeFault) �
 lists_below e [] f some h = absurd (omega (arith, some))
 lists_below e (own ∷ below) f some h =
     inr (0, elements_end (NumbersFirst own.source.numbers) (none_first own.source.numbers), subst (λ t. CellsMeet e t true 0 f) (behind own below) h)
+
+-- ---- a map is read
+
+map_own : (k v : Shape) (own own' : ColumnReader) (below ys : List ColumnReader) (all : Bool) (n size : ℕ) (f : StripeFault) → Precedes (NumbersFirst own.source.numbers) (NumbersFirst own'.source.numbers) (pos size ∷ [])
+    → (ListsMeet own'.source all n f → ListsMeet own.source all (suc n) f) → ((m : ℕ) → PairsMeet k v ys all m f → PairsMeet k v below all (size + m) f) → MapsOfMeet k v (own' ∷ ys) all n f → MapsOfMeet k v (own ∷ below) all (suc n) f
+map_own k v own own' below ys all n size f first p q (inl h) = inl (p h)
+map_own k v own own' below ys all n size f first p q (inr h) =
+    inr (size + h.0, elements_more all n size h.0 (NumbersFirst own.source.numbers) (NumbersFirst own'.source.numbers) first h.1, q h.0 h.2)
+
+pub map_before : (k v : Shape) (before ys : List ColumnReader) (d : ColumnReader) (own' : ColumnReader) (all : Bool) (n size : ℕ) (f : StripeFault) → 1 ≤ length before
+    → Precedes (NumbersFirst (get_or before 0 d).source.numbers) (NumbersFirst own'.source.numbers) (pos size ∷ []) → (ListsMeet own'.source all n f → ListsMeet (get_or before 0 d).source all (suc n) f)
+    → ((m : ℕ) → PairsMeet k v ys all m f → PairsMeet k v (take (length (slice_set before 0 own') - 1) (drop 1 (slice_set before 0 own'))) all (size + m) f)
+    → MapsOfMeet k v (put_mid 1 (length (slice_set before 0 own') - 1) (slice_set before 0 own') ys) all n f → MapsOfMeet k v before all (suc n) f
+map_before k v [] ys d own' all n size f some first p q h = absurd (omega (arith, some))
+map_before k v (own ∷ below) ys d own' all n size f some first p q h =
+    map_own k v own own' below ys all n size f first p (λ m r. subst (λ t. PairsMeet k v t all (size + m) f) (behind own' below) (q m r)) (subst (λ t. MapsOfMeet k v t all n f) (put_behind own' below ys) h)
+
+pub maps_size : (k v : Shape) (before : List ColumnReader) (d : ColumnReader) (all : Bool) (n : ℕ) (f : StripeFault) → 1 ≤ length before → ListsMeet (get_or before 0 d).source all n f → MapsOfMeet k v before all n f
+maps_size k v [] d all n f some h = absurd (omega (arith, some))
+maps_size k v (own ∷ below) d all n f some h = inl h
+
+-- how many pairs there are is read, and a pair isn't
+pub maps_pairs : (k v : Shape) (before : List ColumnReader) (d : ColumnReader) (own' : ColumnReader) (n size : ℕ) (f : StripeFault) → 1 ≤ length before
+    → Precedes (NumbersFirst (get_or before 0 d).source.numbers) (NumbersFirst own'.source.numbers) (pos size ∷ [])
+    → PairsMeet k v (take (length (slice_set before 0 own') - 1) (drop 1 (slice_set before 0 own'))) false (size + 0) f → MapsOfMeet k v before false (suc n) f
+maps_pairs k v [] d own' n size f some first h = absurd (omega (arith, some))
+maps_pairs k v (own ∷ below) d own' n size f some first h =
+    let z : size + 0 ≡ size = omega arith in
+    let r = subst (λ t. PairsMeet k v t false (size + 0) f) (behind own' below) h in
+    inr (size, elements_now n size (NumbersFirst own.source.numbers) (NumbersFirst own'.source.numbers) first (none_first own'.source.numbers), subst (λ m. PairsMeet k v below false m f) z r)
+
+-- no map is to be read, and keys or values are left over
+pub maps_below : (k v : Shape) (readers : List ColumnReader) (f : StripeFault) → 1 ≤ length readers → PairsMeet k v (take (length readers - 1) (drop 1 readers)) true 0 f → MapsOfMeet k v readers true 0 f
+maps_below k v [] f some h = absurd (omega (arith, some))
+maps_below k v (own ∷ below) f some h =
+    inr (0, elements_end (NumbersFirst own.source.numbers) (none_first own.source.numbers), subst (λ t. PairsMeet k v t true 0 f) (behind own below) h)
+
+-- ---- a pair is read
+
+pair_own : (k v : Shape) (before after : List ColumnReader) (all : Bool) (n : ℕ) (f : StripeFault) → (CellsMeet k (take (width k) after) all n f → CellsMeet k (take (width k) before) all (suc n) f)
+    → (CellsMeet v (drop (width k) after) all n f → CellsMeet v (drop (width k) before) all (suc n) f) → PairsMeet k v after all n f → PairsMeet k v before all (suc n) f
+pair_own k v before after all n f p q (inl h) = inl (p h)
+pair_own k v before after all n f p q (inr h) = inr (q h)
+
+pub pair_before : (k v : Shape) (before after own own' rest rest' : List ColumnReader) (all : Bool) (n : ℕ) (f : StripeFault)
+    → own ≡ take (width k) before → rest ≡ drop (width k) before → after ≡ own' ++ rest' → length own' ≡ width k
+    → (CellsMeet k own' all n f → CellsMeet k own all (suc n) f) → (CellsMeet v rest' all n f → CellsMeet v rest all (suc n) f) → PairsMeet k v after all n f → PairsMeet k v before all (suc n) f
+pair_before k v before after own own' rest rest' all n f eo er ea w p q h =
+    let to : take (width k) after ≡ own' = ap (λ t. take (width k) t) ea ∙ ap (λ m. take m (own' ++ rest')) (sym w) ∙ take-append_seam own' rest' in
+    let tr : drop (width k) after ≡ rest' = ap (λ t. drop (width k) t) ea ∙ ap (λ m. drop m (own' ++ rest')) (sym w) ∙ drop-append_seam own' rest' in
+    pair_own k v before after all n f (λ r. subst (λ t. CellsMeet k t all (suc n) f) eo (p (subst (λ t. CellsMeet k t all n f) to r))) (λ r. subst (λ t. CellsMeet v t all (suc n) f) er (q (subst (λ t. CellsMeet v t all n f) tr r))) h
 
 -- ---- the fields of a struct are read
 
@@ -228,6 +287,14 @@ mutual
     elements_map all n h.0 (NumbersFirst source.numbers) (IntegersFirst (lengths_of (columns c))) (λ lengths k. first_start (version (columns c)) Unsigned ((columns c).stream 2) source.numbers lengths start.0 k) h.1,
     from_down s columns (suc c) below all h.0 f (λ own b v i a k. below_down s columns (suc c) own.source b all v f i a k) are h.2,
   )
+  below_down (map_of k v o) columns c source below all n f start are h = (
+    h.0,
+    elements_map all n h.0 (NumbersFirst source.numbers) (IntegersFirst (lengths_of (columns c))) (λ lengths r. first_start (version (columns c)) Unsigned ((columns c).stream 2) source.numbers lengths start.0 r) h.1,
+    elim h.2 [
+      | inl first ↦ inl (from_down k columns (suc c) (take (width k) below) all h.0 f (λ own b m i a r. below_down k columns (suc c) own.source b all m f i a r) are.0 first)
+      | inr second ↦ inr (from_down v columns (suc c + width k) (drop (width k) below) all h.0 f (λ own b m i a r. below_down v columns (suc c + width k) own.source b all m f i a r) are.1 second)
+    ],
+  )
   below_down (struct_of fs o) columns c source below all n f start are h = fields_down fs columns (suc c) below all n f are h
 
   fields_down : (fs : Fields) (columns : ℕ → Streams) (c : ℕ) (readers : List ColumnReader) (all : Bool) (n : ℕ) (f : StripeFault) → AreFields fs columns c readers → FieldsMeet fs readers all n f → FaultWithin fs columns c all n f
@@ -253,6 +320,21 @@ down_list s e o columns c m n f is next h =
     let k = subst (λ k. FaultDown e columns k false 0 f) g (h 0) in
     subst (λ t. FaultDown t columns c false n f) (sym is)
     (below_from (list_of e o) columns c n f (0, elements_none 0 (IntegersFirst (lengths_of (columns c))) (no_integers (lengths_of (columns c))), k))
+
+-- of the keys' columns, and of the values', which come behind them
+pub down_key : (s k v : Shape) (o : List ℕ) (columns : ℕ → Streams) (c m n : ℕ) (f : StripeFault) → s ≡ map_of k v o → m ≡ c + 1 → ((i : ℕ) → FaultDown k columns m false i f) → FaultDown s columns c false n f
+down_key s k v o columns c m n f is next h =
+    let g : m ≡ suc c = omega (arith, next) in
+    let r = subst (λ i. FaultDown k columns i false 0 f) g (h 0) in
+    subst (λ t. FaultDown t columns c false n f) (sym is)
+    (below_from (map_of k v o) columns c n f (0, elements_none 0 (IntegersFirst (lengths_of (columns c))) (no_integers (lengths_of (columns c))), inl r))
+
+pub down_value : (s k v : Shape) (o : List ℕ) (columns : ℕ → Streams) (c m n : ℕ) (f : StripeFault) → s ≡ map_of k v o → m ≡ c + 1 + width k → ((i : ℕ) → FaultDown v columns m false i f) → FaultDown s columns c false n f
+down_value s k v o columns c m n f is next h =
+    let g : m ≡ suc c + width k = omega (arith, next) in
+    let r = subst (λ i. FaultDown v columns i false 0 f) g (h 0) in
+    subst (λ t. FaultDown t columns c false n f) (sym is)
+    (below_from (map_of k v o) columns c n f (0, elements_none 0 (IntegersFirst (lengths_of (columns c))) (no_integers (lengths_of (columns c))), inr r))
 
 pub down_struct : (s : Shape) (fs : Fields) (o : List ℕ) (columns : ℕ → Streams) (c m n : ℕ) (f : StripeFault) → s ≡ struct_of fs o → m ≡ c + 1 → ((k : ℕ) → FaultWithin fs columns m false k f) → FaultDown s columns c false n f
 down_struct s fs o columns c m n f is next h =

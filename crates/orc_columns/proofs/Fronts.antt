@@ -1,10 +1,10 @@
 -- A front of what is spelled, for each way of spelling.
 use Rattle.std.proofs.Common.{◌≡◌, ℕ, zero, suc, ◌+◌, ◌-◌, ◌<◌, ◌≤◌, ℤ, Bool, List, [], ◌∷◌, ◌++◌, map, length, refl, sym, ap, ◌∙◌, subst, arith, append_assoc, length-append}
 use Rattle.std.proofs.lemmas.List.{length-map, map-append}
-use Rattle.orc_types.specs.Cells.{Cell, null, leaf, list, struct, is_value, values}
+use Rattle.orc_types.specs.Cells.{Cell, null, leaf, list, struct, pairs, is_value, values}
 use Rattle.orc_columns.specs.Fronts.{Leaves, Lacks}
 use Rattle.orc_columns.specs.Needs.{trues}
-use Rattle.orc_columns.specs.Spellings.{Nullable, AllStand, Standing, size, joined, Grouped, Within, zip_cons, Fielded}
+use Rattle.orc_columns.specs.Spellings.{Nullable, AllStand, Standing, size, joined, Grouped, Within, Paired, zip_cons, Fielded}
 
 -- nothing was taken
 pub nothing : {X : Type 0} (before : List X → Type 0) → Leaves before before []
@@ -185,6 +185,7 @@ values-append (null ∷ a) b = values-append a b
 values-append (leaf x ∷ a) b = ap (λ t. leaf x ∷ t) (values-append a b)
 values-append (list x ∷ a) b = ap (λ t. list x ∷ t) (values-append a b)
 values-append (struct x ∷ a) b = ap (λ t. struct x ∷ t) (values-append a b)
+values-append (pairs x ∷ a) b = ap (λ t. pairs x ∷ t) (values-append a b)
 
 pub length-values : (cs : List Cell) → length (values cs) ≡ trues (map is_value cs)
 length-values [] = refl
@@ -192,6 +193,7 @@ length-values (null ∷ cs) = length-values cs
 length-values (leaf x ∷ cs) = omega (arith, length-values cs)
 length-values (list x ∷ cs) = omega (arith, length-values cs)
 length-values (struct x ∷ cs) = omega (arith, length-values cs)
+length-values (pairs x ∷ cs) = omega (arith, length-values cs)
 
 -- the marks and the values are all that there is
 pub same_cells : (a b : List Cell) → map is_value a ≡ map is_value b → values a ≡ values b → a ≡ b
@@ -214,6 +216,15 @@ same_cells (struct x ∷ a) (null ∷ b) m v = cc
 same_cells (struct x ∷ a) (leaf y ∷ b) m v = cc
 same_cells (struct x ∷ a) (list y ∷ b) m v = cc
 same_cells (struct x ∷ a) (struct y ∷ b) m v = let h : struct x ≡ struct y = cc in let n : map is_value a ≡ map is_value b = cc in let w : values a ≡ values b = cc in ap (λ t. t ∷ a) h ∙ ap (λ t. struct y ∷ t) (same_cells a b n w)
+same_cells (null ∷ a) (pairs y ∷ b) m v = cc
+same_cells (leaf x ∷ a) (pairs y ∷ b) m v = cc
+same_cells (list x ∷ a) (pairs y ∷ b) m v = cc
+same_cells (struct x ∷ a) (pairs y ∷ b) m v = cc
+same_cells (pairs x ∷ a) (null ∷ b) m v = cc
+same_cells (pairs x ∷ a) (leaf y ∷ b) m v = cc
+same_cells (pairs x ∷ a) (list y ∷ b) m v = cc
+same_cells (pairs x ∷ a) (struct y ∷ b) m v = cc
+same_cells (pairs x ∷ a) (pairs y ∷ b) m v = let h : pairs x ≡ pairs y = cc in let n : map is_value a ≡ map is_value b = cc in let w : values a ≡ values b = cc in ap (λ t. t ∷ a) h ∙ ap (λ t. pairs y ∷ t) (same_cells a b n w)
 
 -- the cells in front, by their marks
 pub record CellsApart (all : List Cell) (marks more : List Bool) : Type 0 where
@@ -313,3 +324,34 @@ within_lacks room n elements p = λ all r le. p all r.1 le
 
 pub no_room : {X : Type 0} (room n : ℕ) (elements : List X → Type 0) → room < n → Lacks (Within room elements) n
 no_room room n elements h = λ all r le. omega (arith, h, r.0, le)
+
+-- ---- pairs
+
+-- the firsts and the seconds are all that there is
+pub same_pairs : {X Y : Type 0} (a b : List (X × Y)) → map (λ p. p.0) a ≡ map (λ p. p.0) b → map (λ p. p.1) a ≡ map (λ p. p.1) b → a ≡ b
+same_pairs [] [] h k = refl
+same_pairs [] (q ∷ b) h k = cc
+same_pairs (p ∷ a) [] h k = cc
+same_pairs {X = X} {Y = Y} (p ∷ a) (q ∷ b) h k =
+    let first : p.0 ≡ q.0 = cc in
+    let second : p.1 ≡ q.1 = cc in
+    let firsts : map (λ (r : X × Y). r.0) a ≡ map (λ (r : X × Y). r.0) b = cc in
+    let seconds : map (λ (r : X × Y). r.1) a ≡ map (λ (r : X × Y). r.1) b = cc in
+    let one : p ≡ q = ap (λ (x : X). (x, p.1)) first ∙ ap (λ (y : Y). (q.0, y)) second in
+    ap (λ t. t ∷ a) one ∙ ap (λ t. q ∷ t) (same_pairs a b firsts seconds)
+
+pub paired_leaves : {X Y : Type 0} (first first' : List X → Type 0) (second second' : List Y → Type 0) (front : List (X × Y)) → Leaves first first' (map (λ p. p.0) front) → Leaves second second' (map (λ p. p.1) front)
+    → Leaves (Paired first second) (Paired first' second') front
+paired_leaves {X = X} {Y = Y} first first' second second' front p q =
+    let f : X × Y → X = λ r. r.0 in
+    let g : X × Y → Y = λ r. r.1 in
+    record {
+      found = λ rest r. (subst first (sym (map-append f front rest)) (p.found (map f rest) r.0), subst second (sym (map-append g front rest)) (q.found (map g rest) r.1));
+      only = λ all r le.
+          let i = p.only (map f all) r.0 (omega (arith, le, length-map all f, length-map front f)) in
+          let j = q.only (map g all) r.1 (omega (arith, le, length-map all g, length-map front g)) in
+          let c = cut all (length front) le in
+          let a = same_pieces (map f c.front) (map f front) (map f c.back) i.0 (length-map c.front f ∙ c.counted ∙ sym (length-map front f)) (sym (map-append f c.front c.back) ∙ ap (map f) (sym c.parts) ∙ i.1) in
+          let b = same_pieces (map g c.front) (map g front) (map g c.back) j.0 (length-map c.front g ∙ c.counted ∙ sym (length-map front g)) (sym (map-append g c.front c.back) ∙ ap (map g) (sym c.parts) ∙ j.1) in
+          (c.back, c.parts ∙ ap (λ t. t ++ c.back) (same_pairs c.front front a.front b.front), (subst first' (sym a.back) i.2, subst second' (sym b.back) j.2));
+    }

@@ -3,7 +3,7 @@ use Rattle.std.proofs.Common.{ℕ, List, [], ◌∷◌, Bool, ℤ, Option, Some,
 use Rattle.std.specs.declared.vec.Vec.{Vec}
 use Rattle.std.specs.declared.alloc.Global.{Global}
 use Rattle.orc_types.specs.Fits.{int_fits, signed_fits}
-use Rattle.orc_types.specs.Shapes.{Shape, scalar, list_of, struct_of, Fields, no_field, field, width}
+use Rattle.orc_types.specs.Shapes.{Shape, scalar, list_of, map_of, struct_of, Fields, no_field, field, width}
 use Rattle.orc_types.specs.declared.kind.Scalar.{Scalar}
 use Rattle.orc_types.specs.declared.kind.Scalar.TheVariants as kind
 use Rattle.orc_rle.specs.declared.fault.RunFault.{RunFault}
@@ -20,7 +20,7 @@ use Rattle.orc_columns.specs.Columns.{entry_bytes}
 use Rattle.orc_columns.specs.Faults.{RunsFail}
 use Rattle.orc_columns.specs.RunFaults.{Always}
 use Rattle.orc_columns.specs.RunsMet.{NumbersMeet, BytesMeet, BitsMeet, MarksMeet}
-use Rattle.orc_columns.specs.ReaderFaults.{IntsMeet, GroupsMeet, TextMeets, WordsMeet, TextsMeet, ScalarMeets, ValuesMeet, ReadersMeet, BelowMeet, FieldsMeet, CellsMeet}
+use Rattle.orc_columns.specs.ReaderFaults.{IntsMeet, GroupsMeet, TextMeets, WordsMeet, TextsMeet, ScalarMeets, ListsMeet, ValuesMeet, ReadersMeet, BelowMeet, FieldsMeet, CellsMeet}
 
 not_runs : (k : StreamKind) (c : ℕ) (stands : RunFault → Type 0) → RunsFail k c stands Failed → ⊥
 not_runs k c stands h = let e = h.1 in cc
@@ -56,10 +56,14 @@ not_scalar kind.Date r all n h = not_ints (signed_fits 31) r.numbers all n r.col
 not_scalar kind.Binary r all n h = not_groups stream.Data r.numbers r.octets all n r.column h
 not_scalar kind.String r all n h = not_texts r.entries r all n h
 
+not_lists : (r : ValueSource) (all : Bool) (n : ℕ) → ListsMeet r all n Failed → ⊥
+not_lists r all n (inl h) = not_runs stream.Length r.column (Always all n (NumbersMeet r.numbers)) h
+not_lists r all n (inr h) = let e = h.0 in cc
+
 not_values : (s : Shape) (r : ValueSource) (all : Bool) (n : ℕ) → ValuesMeet s r all n Failed → ⊥
 not_values (scalar k o) r all n h = not_scalar k r all n h
-not_values (list_of s o) r all n (inl h) = not_runs stream.Length r.column (Always all n (NumbersMeet r.numbers)) h
-not_values (list_of s o) r all n (inr h) = let e = h.0 in cc
+not_values (list_of s o) r all n h = not_lists r all n h
+not_values (map_of k v o) r all n h = not_lists r all n h
 not_values (struct_of fs o) r all n h = h
 
 readers_never : (found : ValueSource → List ColumnReader → Bool → ℕ → StripeFault → Type 0) → ((r : ValueSource) (rs : List ColumnReader) (all : Bool) (n : ℕ) → found r rs all n Failed → ⊥)
@@ -76,6 +80,11 @@ mutual
   below_never : (s : Shape) (r : ValueSource) (rs : List ColumnReader) (all : Bool) (n : ℕ) → BelowMeet s r rs all n Failed → ⊥
   below_never (scalar k o) r rs all n h = h
   below_never (list_of s o) r rs all n h = readers_never (BelowMeet s) (below_never s) s rs all h.0 h.2
+  below_never (map_of k v o) r rs all n h =
+      elim h.2 [
+        | inl first ↦ readers_never (BelowMeet k) (below_never k) k (take (width k) rs) all h.0 first
+        | inr second ↦ readers_never (BelowMeet v) (below_never v) v (drop (width k) rs) all h.0 second
+      ]
   below_never (struct_of fs o) r rs all n h = fields_never fs rs all n h
 
   fields_never : (fs : Fields) (rs : List ColumnReader) (all : Bool) (n : ℕ) → FieldsMeet fs rs all n Failed → ⊥

@@ -3,26 +3,26 @@ use Rattle.std.proofs.Common.{◌≡◌, ℕ, suc, ◌+◌, ℤ, Bool, true, fal
 use Rattle.std.specs.List.{AllByRecursion}
 use Rattle.std.proofs.lemmas.List.{length-map}
 use Rattle.orc_types.specs.Cells.{Cell, is_value, values}
-use Rattle.orc_types.specs.Shapes.{Shape, scalar, list_of, struct_of, Fields, no_field, field, width}
+use Rattle.orc_types.specs.Shapes.{Shape, scalar, list_of, map_of, struct_of, Fields, no_field, field, width}
 use Rattle.orc_types.specs.declared.kind.Scalar.{Scalar}
 use Rattle.orc_types.specs.declared.kind.Scalar.TheVariants as kind
 use Rattle.orc_rle.specs.declared.sign.Sign.{Sign}
 use Rattle.orc_rle.specs.declared.sign.Sign.TheVariants.{Signed, Unsigned}
 use Rattle.orc_rle.proofs.StreamLemmas.{one_stream}
 use Rattle.orc_rle.specs.declared.sign.Rle.{Rle}
-use Rattle.orc_columns.specs.Spellings.{Nullable, AllStand, Standing, size, joined, Grouped, Within, zip_cons, Fielded}
+use Rattle.orc_columns.specs.Spellings.{Nullable, AllStand, Standing, size, joined, Grouped, Within, Paired, zip_cons, Fielded}
 use Rattle.orc_columns.specs.Numbers.{is_run, AreNumbers}
 use Rattle.orc_columns.specs.Bytes.{AreBytes}
 use Rattle.orc_rle.specs.ByteRun.{IsByteRun}
 use Rattle.orc_rle.specs.ByteLaws.{one_byte_run, byte_run_some}
 use Rattle.orc_rle.specs.BitStream.{IsBitStream}
-use Rattle.orc_columns.specs.Columns.{IsBool, IsByte, IsInt, IsDate, IsText, IsBinary, IsWord, IsList, IsRecord}
+use Rattle.orc_columns.specs.Columns.{IsBool, IsByte, IsInt, IsDate, IsText, IsBinary, IsWord, IsList, IsMap, IsRecord}
 use Rattle.orc_columns.specs.Stripe.{Streams, version, Marks, Is, IsDictionary, SpellsScalar, SpellsTexts, SpellsInts, SpellsTree, SpellsFields, SpellsCells, has_dictionary, most_cells}
-use Rattle.orc_columns.proofs.Fronts.{length-zip, stand_length, one_standing, same_groups, joined_length, same_cells, length-values}
+use Rattle.orc_columns.proofs.Fronts.{same_pairs, length-zip, stand_length, one_standing, same_groups, joined_length, same_cells, length-values}
 use Rattle.orc_columns.specs.Needs.{trues}
 use Rattle.orc_columns.proofs.NumbersLemmas.{laws_of}
 use Rattle.orc_columns.proofs.BitsLemmas.{one_bit_stream}
-use Rattle.orc_columns.proofs.ReaderLemmas.{one_bool, one_byte, one_int, one_date, one_text, one_binary, one_word, one_list, one_record}
+use Rattle.orc_columns.proofs.ReaderLemmas.{one_bool, one_byte, one_int, one_date, one_text, one_binary, one_word, one_list, one_map, one_record}
 
 abbrev pub One : {X : Type 0} → (List X → Type 0) → Type 0
 One {X = X} spelled = (a b : List X) → spelled a → spelled b → length a ≡ length b → a ≡ b
@@ -56,6 +56,12 @@ one_fielded first others f o z a b p q l =
     let h = f p.heads q.heads p.first_spelled q.first_spelled n in
     let t = o p.tails q.tails p.others_spelled q.others_spelled (sym p.alike ∙ n ∙ q.alike) in
     p.parts ∙ ap (λ s. zip_cons s p.tails) h ∙ ap (λ s. zip_cons q.heads s) t ∙ sym q.parts
+
+one_paired : {X Y : Type 0} (first : List X → Type 0) (second : List Y → Type 0) → One first → One second → One (Paired first second)
+one_paired {X = X} {Y = Y} first second f g a b p q l =
+    let h : X × Y → X = λ t. t.0 in
+    let k : X × Y → Y = λ t. t.1 in
+    same_pairs a b (f (map h a) (map h b) p.0 q.0 (length-map a h ∙ l ∙ sym (length-map b h))) (g (map k a) (map k b) p.1 q.1 (length-map a k ∙ l ∙ sym (length-map b k)))
 
 one_within : {X : Type 0} (room : ℕ) (elements : List X → Type 0) → One elements → One (Within room elements)
 one_within room elements one a b p q l = one a b p.1 q.1 l
@@ -106,6 +112,14 @@ mutual
   one_tree (list_of s o) x = one_standings IsList (Grouped (AreNumbers (version (x 0)) Unsigned ((x 0).stream 2)) (Within most_cells (SpellsCells s (λ c. x (suc c))))) one_list
       (one_grouped (AreNumbers (version (x 0)) Unsigned ((x 0).stream 2)) (Within most_cells (SpellsCells s (λ c. x (suc c)))) (one_numbers (version (x 0)) Unsigned ((x 0).stream 2))
       (one_within most_cells (SpellsCells s (λ c. x (suc c))) (one_nullable (Marks ((x 1).stream 0)) (SpellsTree s (λ c. x (suc c))) (one_marks ((x 1).stream 0)) (one_tree s (λ c. x (suc c))))))
+  one_tree (map_of k v o) x =
+      let keys = SpellsCells k (λ c. x (suc c)) in
+      let seconds = SpellsCells v (λ c. x (suc (width k + c))) in
+      one_standings IsMap (Grouped (AreNumbers (version (x 0)) Unsigned ((x 0).stream 2)) (Within most_cells (Paired keys seconds))) one_map
+      (one_grouped (AreNumbers (version (x 0)) Unsigned ((x 0).stream 2)) (Within most_cells (Paired keys seconds)) (one_numbers (version (x 0)) Unsigned ((x 0).stream 2))
+      (one_within most_cells (Paired keys seconds) (one_paired keys seconds
+      (one_nullable (Marks ((x 1).stream 0)) (SpellsTree k (λ c. x (suc c))) (one_marks ((x 1).stream 0)) (one_tree k (λ c. x (suc c))))
+      (one_nullable (Marks ((x (suc (width k + 0))).stream 0)) (SpellsTree v (λ c. x (suc (width k + c)))) (one_marks ((x (suc (width k + 0))).stream 0)) (one_tree v (λ c. x (suc (width k + c))))))))
   one_tree (struct_of fs o) x = one_standings IsRecord (SpellsFields fs (λ c. x (suc c))) one_record (one_fields fs (λ c. x (suc c)))
 
   one_fields : (fs : Fields) (x : ℕ → Streams) → One (SpellsFields fs x)

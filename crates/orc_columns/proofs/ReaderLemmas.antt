@@ -4,7 +4,7 @@ use Rattle.std.specs.List.{AllByRecursion}
 use Rattle.orc_types.specs.Cells.{Cell, null, leaf, text, is_value, values}
 use Rattle.orc_columns.specs.Fronts.{Leaves, Lacks}
 use Rattle.orc_columns.specs.Spellings.{Nullable, AllStand, Standing, size, joined, Grouped}
-use Rattle.orc_columns.specs.Columns.{IsBool, IsByte, IsInt, IsDate, IsText, IsBinary, IsWord, IsList, IsRecord}
+use Rattle.orc_columns.specs.Columns.{IsBool, IsByte, IsInt, IsDate, IsText, IsBinary, IsWord, IsList, IsMap, IsRecord}
 use Rattle.orc_columns.proofs.Fronts.{standing_leaves, none_stands, grouped_leaves, nullable_leaves, nullable_lacks_values, nothing}
 
 -- one value stands for one thing
@@ -45,6 +45,9 @@ one_word entries (negsuc i) y z p q = absurd p
 
 pub one_list : (cs : List Cell) (y z : Cell) → IsList cs y → IsList cs z → y ≡ z
 one_list cs y z p q = p ∙ sym q
+
+pub one_map : (ps : List (Cell × Cell)) (y z : Cell) → IsMap ps y → IsMap ps z → y ≡ z
+one_map ps y z p q = p ∙ sym q
 
 pub one_record : (cs : List Cell) (y z : Cell) → IsRecord cs y → IsRecord cs z → y ≡ z
 one_record cs y z p q = p ∙ sym q

@@ -1,7 +1,7 @@
 -- What a reader meets at the start of its streams is a fault of its streams.
 use Rattle.std.proofs.Common.{◌≡◌, ℕ, ℤ, pos, Bool, true, false, Option, Some, None, List, [], ◌∷◌, ◌-◌, ◌<◌, map, length, drop, sum, refl, sym, ap, ◌∙◌, subst, inl, inr, arith}
 use Rattle.orc_types.specs.Fits.{int_fits, signed_fits}
-use Rattle.orc_types.specs.Shapes.{Shape, scalar, list_of, struct_of}
+use Rattle.orc_types.specs.Shapes.{Shape, scalar, list_of, map_of, struct_of}
 use Rattle.orc_types.specs.declared.kind.Scalar.{Scalar}
 use Rattle.orc_types.specs.declared.kind.Scalar.TheVariants as kind
 use Rattle.std.specs.declared.vec.Vec.{Vec}
@@ -190,4 +190,5 @@ lists_start x r m all n f s room e (inr h) =
 pub values_start : (s : Shape) (x : Streams) (r : ValueSource) (m : ℕ) (all : Bool) (n : ℕ) (f : StripeFault) → SourceStart s x r → r.column ≡ m → ValuesMeet s r all n f → ValuesFail s x all n m f
 values_start (scalar k o) x r m all n f s e h = scalar_start k x r m all n f s e h
 values_start (list_of t o) x r m all n f s e h = lists_start x r m all n f s.0 s.1 e h
+values_start (map_of k v o) x r m all n f s e h = lists_start x r m all n f s.0 s.1 e h
 values_start (struct_of fs o) x r m all n f s e h = h

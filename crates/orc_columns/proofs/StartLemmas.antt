@@ -1,7 +1,7 @@
 -- Readers at the start of their streams spell what the streams spell.
 use Rattle.std.proofs.Common.{◌≡◌, ℕ, suc, ◌+◌, ℤ, Bool, true, false, Option, Some, None, List, [], ◌∷◌, ◌++◌, map, take, drop, sym, ap, ◌∙◌, subst, arith}
 use Rattle.orc_types.specs.Cells.{Cell, is_value, values}
-use Rattle.orc_types.specs.Shapes.{Shape, scalar, list_of, struct_of, Fields, no_field, field, width}
+use Rattle.orc_types.specs.Shapes.{Shape, scalar, list_of, map_of, struct_of, Fields, no_field, field, width}
 use Rattle.orc_types.specs.declared.kind.Scalar.{Scalar}
 use Rattle.orc_types.specs.declared.kind.Scalar.TheVariants as kind
 use Rattle.orc_rle.specs.declared.sign.Sign.{Sign}
@@ -13,14 +13,14 @@ use Rattle.orc_columns.specs.declared.numbers.Numbers.{Numbers}
 use Rattle.orc_columns.specs.declared.column.Entry.{Entry}
 use Rattle.orc_columns.specs.declared.column.ValueSource.{ValueSource}
 use Rattle.orc_columns.specs.declared.column.ColumnReader.{ColumnReader}
-use Rattle.orc_columns.specs.Spellings.{Nullable, Standing, size, joined, Grouped, Within, Fielded}
+use Rattle.orc_columns.specs.Spellings.{Nullable, Standing, size, joined, Grouped, Within, Paired, Fielded}
 use Rattle.orc_columns.specs.Numbers.{AreNumbers, NumbersLeft}
 use Rattle.orc_rle.specs.BitStream.{IsBitStream}
 use Rattle.orc_columns.specs.Bytes.{AreBytes, BytesLeft}
 use Rattle.orc_columns.specs.Bits.{BitsLeft}
 use Rattle.orc_columns.proofs.BitsLemmas.{are_bits, held_bits}
 use Rattle.orc_columns.specs.Octets.{OctetsLeft}
-use Rattle.orc_columns.specs.Columns.{MarksLeft, GroupsLeft, TextsLeft, ScalarLeft, ValuesLeft, FieldsLeft, CellsLeft, entry_bytes, IsBool, IsByte, IsInt, IsDate, IsText, IsBinary, IsWord, IsList, IsRecord}
+use Rattle.orc_columns.specs.Columns.{MarksLeft, GroupsLeft, TextsLeft, ScalarLeft, ValuesLeft, FieldsLeft, CellsLeft, entry_bytes, IsBool, IsByte, IsInt, IsDate, IsText, IsBinary, IsWord, IsList, IsMap, IsRecord}
 use Rattle.orc_columns.specs.Stripe.{Streams, version, has_dictionary, Marks, Is, IsDictionary, SpellsTexts, SpellsInts, SpellsScalar, SpellsTree, SpellsFields, SpellsCells, most_cells}
 use Rattle.orc_columns.specs.Starting.{NumbersStart, BytesStart, BitsStart, MarksStart, GroupsStart, TextsStart, ScalarStart, TreeStart, FieldsStart}
 use Rattle.std.specs.declared.vec.Vec.{Vec}
@@ -43,6 +43,12 @@ nullable_alike a b c d p q = record { to = λ xs r. (p.to (map is_value xs) r.0,
 
 within_alike : {X : Type 0} (m n : ℕ) (c d : List X → Type 0) → m ≡ n → Alike c d → Alike (Within m c) (Within n d)
 within_alike m n c d e q = record { to = λ xs r. (omega (arith, r.0, e), q.to xs r.1); from = λ xs r. (omega (arith, r.0, e), q.from xs r.1) }
+
+paired_alike : {X Y : Type 0} (a b : List X → Type 0) (c d : List Y → Type 0) → Alike a b → Alike c d → Alike (Paired a c) (Paired b d)
+paired_alike {X = X} {Y = Y} a b c d p q =
+    let f : X × Y → X = λ t. t.0 in
+    let g : X × Y → Y = λ t. t.1 in
+    record { to = λ xs r. (p.to (map f xs) r.0, q.to (map g xs) r.1); from = λ xs r. (p.from (map f xs) r.0, q.from (map g xs) r.1) }
 
 fielded_alike : {X : Type 0} (a b : List X → Type 0) (c d : List (List X) → Type 0) → Alike a b → Alike c d → Alike (Fielded a c) (Fielded b d)
 fielded_alike a b c d p q = record {
@@ -138,6 +144,16 @@ mutual
       (standing_alike IsList (Grouped (NumbersLeft r.source.numbers) (Within r.source.room (CellsLeft s rs))) (Grouped (AreNumbers (version (x 0)) Unsigned ((x 0).stream 2)) (Within most_cells (SpellsCells s (λ c. x (suc c)))))
       (grouped_alike (NumbersLeft r.source.numbers) (AreNumbers (version (x 0)) Unsigned ((x 0).stream 2)) (Within r.source.room (CellsLeft s rs)) (Within most_cells (SpellsCells s (λ c. x (suc c))))
       (numbers_alike (version (x 0)) Unsigned ((x 0).stream 2) r.source.numbers h.0.1.0) (within_alike r.source.room most_cells (CellsLeft s rs) (SpellsCells s (λ c. x (suc c))) h.0.1.1 (tree_alike s (λ c. x (suc c)) rs h.1))))
+  tree_alike (map_of k v o) x (r ∷ rs) h =
+      let sizes = AreNumbers (version (x 0)) Unsigned ((x 0).stream 2) in
+      let left = Paired (CellsLeft k (take (width k) rs)) (CellsLeft v (drop (width k) rs)) in
+      let spelled = Paired (SpellsCells k (λ c. x (suc c))) (SpellsCells v (λ c. x (suc (width k + c)))) in
+      nullable_alike (MarksLeft r.present) (Marks ((x 0).stream 0)) (ValuesLeft (map_of k v o) r.source rs) (SpellsTree (map_of k v o) x) (marks_alike ((x 0).stream 0) r.present h.0.0)
+      (standing_alike IsMap (Grouped (NumbersLeft r.source.numbers) (Within r.source.room left)) (Grouped sizes (Within most_cells spelled))
+      (grouped_alike (NumbersLeft r.source.numbers) sizes (Within r.source.room left) (Within most_cells spelled)
+      (numbers_alike (version (x 0)) Unsigned ((x 0).stream 2) r.source.numbers h.0.1.0) (within_alike r.source.room most_cells left spelled h.0.1.1
+      (paired_alike (CellsLeft k (take (width k) rs)) (SpellsCells k (λ c. x (suc c))) (CellsLeft v (drop (width k) rs)) (SpellsCells v (λ c. x (suc (width k + c))))
+      (tree_alike k (λ c. x (suc c)) (take (width k) rs) h.1) (tree_alike v (λ c. x (suc (width k + c))) (drop (width k) rs) h.2)))))
   tree_alike (struct_of fs o) x (r ∷ rs) h =
       nullable_alike (MarksLeft r.present) (Marks ((x 0).stream 0)) (ValuesLeft (struct_of fs o) r.source rs) (SpellsTree (struct_of fs o) x) (marks_alike ((x 0).stream 0) r.present h.0.0)
       (standing_alike IsRecord (FieldsLeft fs rs) (SpellsFields fs (λ c. x (suc c))) (fields_alike fs (λ c. x (suc c)) rs h.1))

@@ -1,9 +1,9 @@
 -- Readers that are made from the footer, in the columns' order.
-use Rattle.std.proofs.Common.{◌≡◌, ℕ, zero, suc, ◌+◌, ◌<◌, Bool, true, false, List, [], ◌∷◌, ◌++◌, length, take, drop, get_or, refl, sym, ap, ◌∙◌, subst, arith, append_assoc, append-nil, length-append}
+use Rattle.std.proofs.Common.{◌≡◌, ℕ, zero, suc, ◌+◌, ◌<◌, Bool, true, false, List, [], ◌∷◌, ◌++◌, map, length, take, drop, get_or, refl, sym, ap, ◌∙◌, subst, arith, append_assoc, append-nil, length-append}
 use Rattle.std.proofs.Math.Path.{fun_ext}
 use Rattle.std.proofs.Math.Seq.{take-append_seam, drop-append_seam}
 use Rattle.orc_types.specs.Cells.{Cell, values}
-use Rattle.orc_types.specs.Shapes.{Shape, scalar, list_of, struct_of, Fields, no_field, field, width, widths}
+use Rattle.orc_types.specs.Shapes.{Shape, scalar, list_of, map_of, struct_of, Fields, no_field, field, width, widths}
 use Rattle.orc_types.specs.declared.kind.Scalar.{Scalar}
 use Rattle.orc_types.specs.declared.kind.Scalar.TheVariants as kind
 use Rattle.orc_wire.specs.declared.encoding.Encoding.{Encoding}
@@ -25,6 +25,10 @@ from_first f b n = let e : n + 0 ≡ n = omega arith in ap (columns_of f b) e
 
 from_more : (f : StripeFooter) (b : List ℕ) (n w m : ℕ) → m ≡ n + w → (λ c. columns_from f b n (w + c)) ≡ columns_from f b m
 from_more f b n w m is = fun_ext (λ c. let e : n + (w + c) ≡ m + c = omega (arith, is) in ap (columns_of f b) e)
+
+-- those behind a column and w columns more
+from_behind : (f : StripeFooter) (b : List ℕ) (n w m : ℕ) → m ≡ n + 1 + w → (λ c. columns_from f b n (suc (w + c))) ≡ columns_from f b m
+from_behind f b n w m is = fun_ext (λ c. let e : n + suc (w + c) ≡ m + c = omega (arith, is) in ap (columns_of f b) e)
 
 from_next : (f : StripeFooter) (b : List ℕ) (n m : ℕ) → m ≡ n + 1 → (λ c. columns_from f b n (suc c)) ≡ columns_from f b m
 from_next f b n m is = fun_ext (λ c. let e : n + suc c ≡ m + c = omega (arith, is) in ap (columns_of f b) e)
@@ -50,6 +54,22 @@ are_list s e o columns n m own more is next i a =
     let j : IsOf (list_of e o) columns n own = subst (λ t. IsOf t columns n own) is i in
     let g : m ≡ suc n = omega (arith, next) in
     subst (λ t. AreOf t columns n (own ∷ more)) (sym is) (j, subst (λ k. AreOf e columns k more) g a)
+
+are_map : (s k v : Shape) (o : List ℕ) (columns : ℕ → Streams) (n m l : ℕ) (own : ColumnReader) (a b : List ColumnReader) → s ≡ map_of k v o → m ≡ n + 1 → l ≡ m + width k → length a ≡ width k
+    → IsOf s columns n own → AreOf k columns m a → AreOf v columns l b → AreOf s columns n (own ∷ (a ++ b))
+are_map s k v o columns n m l own a b is next behind counted i first second =
+    let j : IsOf (map_of k v o) columns n own = subst (λ t. IsOf t columns n own) is i in
+    let g : m ≡ suc n = omega (arith, next) in
+    let h : l ≡ suc n + width k = omega (arith, next, behind) in
+    let t : take (width k) (a ++ b) ≡ a = ap (λ m. take m (a ++ b)) (sym counted) ∙ take-append_seam a b in
+    let d : drop (width k) (a ++ b) ≡ b = ap (λ m. drop m (a ++ b)) (sym counted) ∙ drop-append_seam a b in
+    subst (λ z. AreOf z columns n (own ∷ (a ++ b))) (sym is) (
+      j,
+      (
+        subst (λ rs. AreOf k columns (suc n) rs) (sym t) (subst (λ m. AreOf k columns m a) g first),
+        subst (λ rs. AreOf v columns (suc n + width k) rs) (sym d) (subst (λ m. AreOf v columns m b) h second),
+      ),
+    )
 
 are_struct : (s : Shape) (fs : Fields) (o : List ℕ) (columns : ℕ → Streams) (n m : ℕ) (own : ColumnReader) (more : List ColumnReader) → s ≡ struct_of fs o → m ≡ n + 1 → IsOf s columns n own → AreFields fs columns m more
     → AreOf s columns n (own ∷ more)
@@ -90,6 +110,32 @@ put_list f b s e o old mid new own is m h i p = record {
   origins = are_list s e o (columns_of f b) (length old) (length mid) own p.more is (pushed old own mid m) i p.origins;
 }
 
+-- how many readers there are behind those of a column
+pub counted_behind : (f : StripeFooter) (b : List ℕ) (s : Shape) (old mid : List ColumnReader) → Puts f b s old mid → length mid ≡ length old + width s
+counted_behind f b s old mid p = ap length p.parts ∙ length-append old p.more ∙ ap (λ k. length old + k) p.counted
+
+pub put_map : (f : StripeFooter) (b : List ℕ) (s k v : Shape) (o : List ℕ) (old mid keys new : List ColumnReader) (own : ColumnReader) → s ≡ map_of k v o → mid ≡ old ++ own ∷ [] → OwnStart s (columns_of f b (length old)) own → IsOf s (columns_of f b) (length old) own
+    → Puts f b k mid keys → Puts f b v keys new → Puts f b s old new
+put_map f b s k v o old mid keys new own is m h i p q =
+    let t : take (width k) (p.more ++ q.more) ≡ p.more = ap (λ n. take n (p.more ++ q.more)) (sym p.counted) ∙ take-append_seam p.more q.more in
+    let d : drop (width k) (p.more ++ q.more) ≡ q.more = ap (λ n. drop n (p.more ++ q.more)) (sym p.counted) ∙ drop-append_seam p.more q.more in
+    let l : length keys ≡ length mid + width k = counted_behind f b k mid keys p in
+    let one : length mid ≡ length old + 1 = pushed old own mid m in
+    let all : length keys ≡ length old + 1 + width k = omega (arith, l, one) in
+    record {
+      more = own ∷ (p.more ++ q.more);
+      parts = behind_own old own mid (p.more ++ q.more) new m (q.parts ∙ ap (λ t. t ++ q.more) p.parts ∙ append_assoc mid p.more q.more);
+      counted = let n : width s ≡ 1 + (width k + width v) = ap width is in omega (arith, length-append p.more q.more, p.counted, q.counted, n);
+      start = rw is (
+        own_first f b (length old) (map_of k v o) own (subst (λ t. OwnStart t (columns_of f b (length old)) own) is h),
+        subst (λ rs. TreeStart k (λ c. columns_from f b (length old) (suc c)) rs) (sym t)
+            (subst (λ x. TreeStart k x p.more) (sym (from_next f b (length old) (length mid) one)) p.start),
+        subst (λ rs. TreeStart v (λ c. columns_from f b (length old) (suc (width k + c))) rs) (sym d)
+            (subst (λ x. TreeStart v x q.more) (sym (from_behind f b (length old) (width k) (length keys) all)) q.start),
+      );
+      origins = are_map s k v o (columns_of f b) (length old) (length mid) (length keys) own p.more q.more is one l p.counted i p.origins q.origins;
+    }
+
 pub put_struct : (f : StripeFooter) (b : List ℕ) (s : Shape) (fs : Fields) (o : List ℕ) (old mid new : List ColumnReader) (own : ColumnReader) → s ≡ struct_of fs o → mid ≡ old ++ own ∷ [] → OwnStart s (columns_of f b (length old)) own → IsOf s (columns_of f b) (length old) own → PutsFields f b fs mid new
     → Puts f b s old new
 put_struct f b s fs o old mid new own is m h i p = record {
@@ -110,7 +156,7 @@ pub put_more : (f : StripeFooter) (b : List ℕ) (all : Fields) (name : List ℕ
 put_more f b all name s fs old mid new is p q =
     let t : take (width s) (p.more ++ q.more) ≡ p.more = ap (λ k. take k (p.more ++ q.more)) (sym p.counted) ∙ take-append_seam p.more q.more in
     let d : drop (width s) (p.more ++ q.more) ≡ q.more = ap (λ k. drop k (p.more ++ q.more)) (sym p.counted) ∙ drop-append_seam p.more q.more in
-    let l : length mid ≡ length old + width s = ap length p.parts ∙ length-append old p.more ∙ ap (λ k. length old + k) p.counted in
+    let l : length mid ≡ length old + width s = counted_behind f b s old mid p in
     record {
       more = p.more ++ q.more;
       parts = q.parts ∙ ap (λ t. t ++ q.more) p.parts ∙ append_assoc old p.more q.more;
@@ -142,6 +188,7 @@ lacks_scalar kind.String x vs h t = lacks_texts (has_dictionary x) x vs h t
 lacks_own : (s : Shape) (cols : ℕ → Streams) (cells : List Cell) → HasNoDictionary s (cols 0) → SpellsCells s cols cells → ⊥
 lacks_own (scalar k o) cols cells h t = lacks_scalar k (cols 0) (values cells) h t.1
 lacks_own (list_of s o) cols cells h t = h
+lacks_own (map_of k v o) cols cells h t = h
 lacks_own (struct_of fs o) cols cells h t = h
 
 pub no_own : (f : StripeFooter) (b : List ℕ) (n : ℕ) (s : Shape) (cells : List Cell) → HasNoDictionary s (columns_of f b n) → SpellsCells s (columns_from f b n) cells → ⊥
@@ -152,6 +199,21 @@ pub no_element : (f : StripeFooter) (b : List ℕ) (s e : Shape) (o : List ℕ) 
 no_element f b s e o old mid own cells is m none t =
     let k = (subst (λ z. SpellsCells z (columns_from f b (length old)) cells) is t).1 in
     none (joined k.0) (subst (λ x. SpellsCells e x (joined k.0)) (from_next f b (length old) (length mid) (pushed old own mid m)) k.2.1.1)
+
+pub no_key : (f : StripeFooter) (b : List ℕ) (s k v : Shape) (o : List ℕ) (old mid : List ColumnReader) (own : ColumnReader) (cells : List Cell) → s ≡ map_of k v o → mid ≡ old ++ own ∷ []
+    → ((inner : List Cell) → SpellsCells k (columns_from f b (length mid)) inner → ⊥) → SpellsCells s (columns_from f b (length old)) cells → ⊥
+no_key f b s k v o old mid own cells is m none t =
+    let r = (subst (λ z. SpellsCells z (columns_from f b (length old)) cells) is t).1 in
+    let keys : List Cell = map (λ (p : Cell × Cell). p.0) (joined r.0) in
+    none keys (subst (λ x. SpellsCells k x keys) (from_next f b (length old) (length mid) (pushed old own mid m)) r.2.1.1.0)
+
+pub no_value : (f : StripeFooter) (b : List ℕ) (s k v : Shape) (o : List ℕ) (old mid keys : List ColumnReader) (own : ColumnReader) (cells : List Cell) → s ≡ map_of k v o → mid ≡ old ++ own ∷ [] → Puts f b k mid keys
+    → ((inner : List Cell) → SpellsCells v (columns_from f b (length keys)) inner → ⊥) → SpellsCells s (columns_from f b (length old)) cells → ⊥
+no_value f b s k v o old mid keys own cells is m p none t =
+    let r = (subst (λ z. SpellsCells z (columns_from f b (length old)) cells) is t).1 in
+    let seconds : List Cell = map (λ (p : Cell × Cell). p.1) (joined r.0) in
+    let all : length keys ≡ length old + 1 + width k = omega (arith, counted_behind f b k mid keys p, pushed old own mid m) in
+    none seconds (subst (λ x. SpellsCells v x seconds) (from_behind f b (length old) (width k) (length keys) all) r.2.1.1.1)
 
 pub no_struct : (f : StripeFooter) (b : List ℕ) (s : Shape) (fs : Fields) (o : List ℕ) (old mid : List ColumnReader) (own : ColumnReader) (cells : List Cell) → s ≡ struct_of fs o → mid ≡ old ++ own ∷ []
     → ((inner : List (List Cell)) → SpellsFields fs (columns_from f b (length mid)) inner → ⊥) → SpellsCells s (columns_from f b (length old)) cells → ⊥
@@ -169,7 +231,7 @@ pub no_others : (f : StripeFooter) (b : List ℕ) (all : Fields) (name : List �
     → ((inner : List (List Cell)) → SpellsFields fs (columns_from f b (length mid)) inner → ⊥) → SpellsFields all (columns_from f b (length old)) structs → ⊥
 no_others f b all name s fs old mid structs is p none t =
     let k = subst (λ z. SpellsFields z (columns_from f b (length old)) structs) is t in
-    let l : length mid ≡ length old + width s = ap length p.parts ∙ length-append old p.more ∙ ap (λ k. length old + k) p.counted in
+    let l : length mid ≡ length old + width s = counted_behind f b s old mid p in
     none k.tails (subst (λ x. SpellsFields fs x k.tails) (from_more f b (length old) (width s) (length mid) l) k.others_spelled)
 
 -- ---- the readers of a whole stripe

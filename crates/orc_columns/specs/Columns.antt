@@ -2,8 +2,8 @@
 use Rattle.std.specs.Prelude.{◌≡◌, ℕ, ◌-◌, ◌<◌, nat_lt, if◌then◌else◌, ℤ, pos, negsuc, Bool, true, Option, Some, None, List, [], ◌∷◌, length, replicate, map, take, drop, slice_get}
 use Rattle.std.specs.Str.{is_utf8}
 use Rattle.std.specs.List.{AllByRecursion}
-use Rattle.orc_types.specs.Cells.{Cell, bool, int, date, text, bytes, leaf, list, struct, cells_of}
-use Rattle.orc_types.specs.Shapes.{Shape, scalar, list_of, struct_of, Fields, no_field, field, width}
+use Rattle.orc_types.specs.Cells.{Cell, bool, int, date, text, bytes, leaf, list, struct, pairs, cells_of, pairs_of}
+use Rattle.orc_types.specs.Shapes.{Shape, scalar, list_of, map_of, struct_of, Fields, no_field, field, width}
 use Rattle.orc_types.specs.Fits.{int_fits, signed_fits, are_bytes}
 use Rattle.orc_types.specs.declared.kind.Scalar.{Scalar}
 use Rattle.orc_types.specs.declared.kind.Scalar.TheVariants as kind
@@ -13,7 +13,7 @@ use Rattle.orc_columns.specs.declared.column.ValueSource.{ValueSource}
 use Rattle.orc_columns.specs.declared.column.ColumnReader.{ColumnReader}
 use Rattle.std.specs.declared.vec.Vec.{Vec}
 use Rattle.std.specs.declared.alloc.Global.{Global}
-use Rattle.orc_columns.specs.Spellings.{Nullable, Standing, Grouped, Within, Fielded}
+use Rattle.orc_columns.specs.Spellings.{Nullable, Standing, Grouped, Within, Paired, Fielded}
 use Rattle.orc_columns.specs.Numbers.{NumbersLeft}
 use Rattle.orc_columns.specs.Bits.{BitsLeft, BitsFirst}
 use Rattle.orc_columns.specs.Bytes.{BytesLeft}
@@ -60,6 +60,9 @@ IsWord entries (negsuc i) c = ⊥
 abbrev pub IsList : List Cell → Cell → Type 0
 IsList cs c = c ≡ list (cells_of cs)
 
+abbrev pub IsMap : List (Cell × Cell) → Cell → Type 0
+IsMap ps c = c ≡ pairs (pairs_of ps)
+
 abbrev pub IsRecord : List Cell → Cell → Type 0
 IsRecord cs c = c ≡ struct (cells_of cs)
 
@@ -91,11 +94,18 @@ ColumnLeft found [] cells = ⊥
 ColumnLeft found (own ∷ below) cells = Nullable (MarksLeft own.present) (found own.source below) cells
 
 abbrev mutual
-  -- the values of a column: lists of the child's cells, structs of the fields' cells
+  -- the values of a column: lists of the child's cells, maps of the cells of the keys and of the values, structs of the
+  -- fields' cells
   pub ValuesLeft : Shape → ValueSource → List ColumnReader → List Cell → Type 0
   ValuesLeft (scalar k o) source below vs = ScalarLeft k source vs
   ValuesLeft (list_of s o) source below vs =
       Standing IsList (Grouped (NumbersLeft source.numbers) (Within source.room (ColumnLeft (ValuesLeft s) below))) vs
+  ValuesLeft (map_of k v o) source below vs =
+      Standing IsMap
+      (Grouped (NumbersLeft source.numbers)
+      (Within source.room
+      (Paired (ColumnLeft (ValuesLeft k) (take (width k) below))
+      (ColumnLeft (ValuesLeft v) (drop (width k) below))))) vs
   ValuesLeft (struct_of fs o) source below vs = Standing IsRecord (FieldsLeft fs below) vs
 
   pub FieldsLeft : Fields → List ColumnReader → List (List Cell) → Type 0
@@ -126,3 +136,16 @@ OwnLeft s (own ∷ below) vs = ValuesLeft s own.source below vs
 abbrev pub ListsOf : Shape → List ColumnReader → List (List Cell) → Type 0
 ListsOf s [] lists = ⊥
 ListsOf s (own ∷ below) lists = ListsLeft s own.source below lists
+
+-- of a column of maps: the pairs that the columns of its keys and of its values spell, and its maps
+abbrev pub PairsLeft : Shape → Shape → List ColumnReader → List (Cell × Cell) → Type 0
+PairsLeft k v below ps =
+    Paired (CellsLeft k (take (width k) below)) (CellsLeft v (drop (width k) below)) ps
+
+abbrev pub MapsLeft : Shape → Shape → ValueSource → List ColumnReader → List (List (Cell × Cell)) → Type 0
+MapsLeft k v source below maps =
+    Grouped (NumbersLeft source.numbers) (Within source.room (PairsLeft k v below)) maps
+
+abbrev pub MapsOf : Shape → Shape → List ColumnReader → List (List (Cell × Cell)) → Type 0
+MapsOf k v [] maps = ⊥
+MapsOf k v (own ∷ below) maps = MapsLeft k v own.source below maps

@@ -3,7 +3,7 @@
 use Rattle.std.specs.Prelude.{◌≡◌, ◌≢◌, ℕ, suc, ◌+◌, ◌≤◌, ℤ, Bool, true, false, List, [], ◌∷◌, ◌⊎◌}
 use Rattle.orc_types.specs.Cells.{Cell}
 use Rattle.orc_types.specs.Fits.{int_fits, signed_fits}
-use Rattle.orc_types.specs.Shapes.{Shape, scalar, list_of, struct_of, Fields, no_field, field, width}
+use Rattle.orc_types.specs.Shapes.{Shape, scalar, list_of, map_of, struct_of, Fields, no_field, field, width}
 use Rattle.orc_types.specs.declared.kind.Scalar.{Scalar}
 use Rattle.orc_types.specs.declared.kind.Scalar.TheVariants as kind
 use Rattle.orc_rle.specs.declared.fault.RunFault.{RunFault}
@@ -88,7 +88,7 @@ ScalarFails kind.Date x all n column f = SignedFail (signed_fits 31) x all n col
 ScalarFails kind.Binary x all n column f = GroupsFail stream.Data (lengths_of x) all n (x.stream 1) column f
 ScalarFails kind.String x all n column f = TextsFail (has_dictionary x) x all n column f
 
--- lengths of n lists, which have more elements together than a column may have
+-- lengths of n lists, or of maps, which have more elements or pairs together than a column may have cells
 abbrev pub ListsFail : Streams → Bool → ℕ → ℕ → StripeFault → Type 0
 ListsFail x all n column f =
     NumbersFail stream.Length (lengths_of x) all n column f
@@ -98,6 +98,7 @@ ListsFail x all n column f =
 abbrev pub ValuesFail : Shape → Streams → Bool → ℕ → ℕ → StripeFault → Type 0
 ValuesFail (scalar k o) x all n column f = ScalarFails k x all n column f
 ValuesFail (list_of s o) x all n column f = ListsFail x all n column f
+ValuesFail (map_of k v o) x all n column f = ListsFail x all n column f
 ValuesFail (struct_of fs o) x all n column f = ⊥
 
 -- the dictionary of a column that has one, by its size
@@ -119,6 +120,7 @@ ScalarEntriesFail kind.String x column f = EntriesFail (has_dictionary x) x colu
 abbrev pub WordsOfFail : Shape → Streams → ℕ → StripeFault → Type 0
 WordsOfFail (scalar k o) x column f = ScalarEntriesFail k x column f
 WordsOfFail (list_of s o) x column f = ⊥
+WordsOfFail (map_of k v o) x column f = ⊥
 WordsOfFail (struct_of fs o) x column f = ⊥
 
 -- a column of so many cells: its PRESENT, its dictionary, the streams of its values, or what is below it
@@ -132,13 +134,18 @@ FaultFrom below s columns c all cells f =
     × (ValuesFail s (columns c) all n c f ⊎ below c all n f)))
 
 abbrev mutual
-  -- the columns below one of n values: of its lists' elements, or of its structs' fields
+  -- the columns below one of n values: of its lists' elements, of its maps' keys and values, or of its structs' fields
   pub FaultBelow : Shape → (ℕ → Streams) → ℕ → Bool → ℕ → StripeFault → Type 0
   FaultBelow (scalar k o) columns c all n f = ⊥
   FaultBelow (list_of s o) columns c all n f =
       (e : ℕ)
       × ElementsNeeded all n (IntegersFirst (lengths_of (columns c))) e
       × FaultFrom (FaultBelow s columns) s columns (suc c) all e f
+  FaultBelow (map_of k v o) columns c all n f =
+      (e : ℕ)
+      × ElementsNeeded all n (IntegersFirst (lengths_of (columns c))) e
+      × (FaultFrom (FaultBelow k columns) k columns (suc c) all e f
+      ⊎ FaultFrom (FaultBelow v columns) v columns (suc c + width k) all e f)
   FaultBelow (struct_of fs o) columns c all n f = FaultWithin fs columns (suc c) all n f
 
   pub FaultWithin : Fields → (ℕ → Streams) → ℕ → Bool → ℕ → StripeFault → Type 0

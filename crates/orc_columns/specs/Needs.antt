@@ -33,7 +33,7 @@ pub record ValuesNeeded (all : Bool) (cells : ℕ) (first : List Bool → Type 0
   pub known : Needed all (length marks) cells
   pub counted : n ≡ trues marks
 
--- so many lists have n elements: all lengths are known, or those that come first
+-- so many lists have n elements, or so many maps n pairs: all lengths are known, or those that come first
 pub record ElementsNeeded (all : Bool) (lists : ℕ) (first : List ℤ → Type 0) (n : ℕ) : Type 0 where
   pub lengths : List ℕ
   pub come_first : first (map pos lengths)

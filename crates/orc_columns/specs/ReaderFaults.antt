@@ -2,7 +2,7 @@
 -- one leaves each fault that it meets afterwards as one that it met before.
 use Rattle.std.specs.Prelude.{◌≡◌, ℕ, ◌<◌, ℤ, pos, Bool, Option, Some, None, List, [], ◌∷◌, length, map, take, drop, sum, ◌⊎◌}
 use Rattle.orc_types.specs.Fits.{int_fits, signed_fits}
-use Rattle.orc_types.specs.Shapes.{Shape, scalar, list_of, struct_of, Fields, no_field, field, width}
+use Rattle.orc_types.specs.Shapes.{Shape, scalar, list_of, map_of, struct_of, Fields, no_field, field, width}
 use Rattle.orc_types.specs.declared.kind.Scalar.{Scalar}
 use Rattle.orc_types.specs.declared.kind.Scalar.TheVariants as kind
 use Rattle.std.specs.declared.vec.Vec.{Vec}
@@ -65,6 +65,7 @@ ScalarMeets kind.Date r all n f = IntsMeet (signed_fits 31) r.numbers all n r.co
 ScalarMeets kind.Binary r all n f = GroupsMeet stream.Data r.numbers r.octets all n r.column f
 ScalarMeets kind.String r all n f = TextsMeet r.entries r all n f
 
+-- sizes of lists or of maps, for which there is room
 abbrev pub ListsMeet : ValueSource → Bool → ℕ → StripeFault → Type 0
 ListsMeet r all n f =
     RunsFail stream.Length r.column (Always all n (NumbersMeet r.numbers)) f
@@ -73,6 +74,7 @@ ListsMeet r all n f =
 abbrev pub ValuesMeet : Shape → ValueSource → Bool → ℕ → StripeFault → Type 0
 ValuesMeet (scalar k o) r all n f = ScalarMeets k r all n f
 ValuesMeet (list_of s o) r all n f = ListsMeet r all n f
+ValuesMeet (map_of k v o) r all n f = ListsMeet r all n f
 ValuesMeet (struct_of fs o) r all n f = ⊥
 
 -- of PRESENT
@@ -94,6 +96,11 @@ abbrev mutual
   BelowMeet (scalar k o) source below all n f = ⊥
   BelowMeet (list_of s o) source below all n f =
       (e : ℕ) × ElementsNeeded all n (NumbersFirst source.numbers) e × ReadersMeet (BelowMeet s) s below all e f
+  BelowMeet (map_of k v o) source below all n f =
+      (e : ℕ)
+      × ElementsNeeded all n (NumbersFirst source.numbers) e
+      × (ReadersMeet (BelowMeet k) k (take (width k) below) all e f
+      ⊎ ReadersMeet (BelowMeet v) v (drop (width k) below) all e f)
   BelowMeet (struct_of fs o) source below all n f = FieldsMeet fs below all n f
 
   pub FieldsMeet : Fields → List ColumnReader → Bool → ℕ → StripeFault → Type 0
@@ -113,3 +120,10 @@ OwnMeet s (own ∷ below) all n f = ValuesMeet s own.source all n f ⊎ BelowMee
 -- of a column of lists
 abbrev pub ListsOfMeet : Shape → List ColumnReader → Bool → ℕ → StripeFault → Type 0
 ListsOfMeet element readers all n f = OwnMeet (list_of element []) readers all n f
+
+-- of the columns of a map's keys and of its values, which are to give n pairs more, and of a column of maps
+abbrev pub PairsMeet : Shape → Shape → List ColumnReader → Bool → ℕ → StripeFault → Type 0
+PairsMeet k v below all n f = CellsMeet k (take (width k) below) all n f ⊎ CellsMeet v (drop (width k) below) all n f
+
+abbrev pub MapsOfMeet : Shape → Shape → List ColumnReader → Bool → ℕ → StripeFault → Type 0
+MapsOfMeet k v readers all n f = OwnMeet (map_of k v []) readers all n f

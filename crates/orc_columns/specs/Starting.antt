@@ -2,7 +2,7 @@
 use Rattle.std.specs.Prelude.{◌≡◌, ℕ, suc, ◌+◌, Bool, true, false, Option, Some, None, List, [], ◌∷◌, ◌++◌, length, map, take, drop}
 use Rattle.std.specs.declared.vec.Vec.{Vec}
 use Rattle.std.specs.declared.alloc.Global.{Global}
-use Rattle.orc_types.specs.Shapes.{Shape, scalar, list_of, struct_of, Fields, no_field, field, width, widths}
+use Rattle.orc_types.specs.Shapes.{Shape, scalar, list_of, map_of, struct_of, Fields, no_field, field, width, widths}
 use Rattle.orc_types.specs.declared.kind.Scalar.{Scalar}
 use Rattle.orc_types.specs.declared.kind.Scalar.TheVariants as kind
 use Rattle.orc_rle.specs.declared.sign.Sign.{Sign}
@@ -67,6 +67,7 @@ ScalarStart kind.String x r = TextsStart (has_dictionary x) x r.entries r
 abbrev pub SourceStart : Shape → Streams → ValueSource → Type 0
 SourceStart (scalar k o) x r = ScalarStart k x r
 SourceStart (list_of s o) x r = NumbersStart (version x) Unsigned (x.stream 2) r.numbers × (r.room ≡ most_cells)
+SourceStart (map_of k v o) x r = NumbersStart (version x) Unsigned (x.stream 2) r.numbers × (r.room ≡ most_cells)
 SourceStart (struct_of fs o) x r = Unit {0}
 
 -- a column's own reader
@@ -80,6 +81,10 @@ abbrev mutual
   TreeStart (scalar k o) columns (r ∷ rs) = OwnStart (scalar k o) (columns 0) r
   TreeStart (list_of s o) columns (r ∷ rs) =
       OwnStart (list_of s o) (columns 0) r × TreeStart s (λ c. columns (suc c)) rs
+  TreeStart (map_of k v o) columns (r ∷ rs) =
+      OwnStart (map_of k v o) (columns 0) r
+      × TreeStart k (λ c. columns (suc c)) (take (width k) rs)
+      × TreeStart v (λ c. columns (suc (width k + c))) (drop (width k) rs)
   TreeStart (struct_of fs o) columns (r ∷ rs) =
       OwnStart (struct_of fs o) (columns 0) r × FieldsStart fs (λ c. columns (suc c)) rs
 
@@ -106,6 +111,7 @@ ScalarLacks kind.String x = LacksEntries (has_dictionary x) x
 abbrev pub HasNoDictionary : Shape → Streams → Type 0
 HasNoDictionary (scalar k o) x = ScalarLacks k x
 HasNoDictionary (list_of s o) x = ⊥
+HasNoDictionary (map_of k v o) x = ⊥
 HasNoDictionary (struct_of fs o) x = ⊥
 
 -- what a column's cells are read from
@@ -136,6 +142,9 @@ abbrev mutual
   pub AreBelow : Shape → (ℕ → Streams) → ℕ → List ColumnReader → Type 0
   AreBelow (scalar k o) columns n below = Unit {0}
   AreBelow (list_of s o) columns n below = AreFrom (AreBelow s columns) s columns (suc n) below
+  AreBelow (map_of k v o) columns n below =
+      AreFrom (AreBelow k columns) k columns (suc n) (take (width k) below)
+      × AreFrom (AreBelow v columns) v columns (suc n + width k) (drop (width k) below)
   AreBelow (struct_of fs o) columns n below = AreFields fs columns (suc n) below
 
   pub AreFields : Fields → (ℕ → Streams) → ℕ → List ColumnReader → Type 0

@@ -1,8 +1,8 @@
 -- Bytes that are a stripe of rows (ORC specification, "Stripes", "Column Encodings").
 use Rattle.std.specs.Prelude.{◌≡◌, ℕ, zero, suc, ◌+◌, ◌-◌, ◌<◌, ◌^◌, ◌||◌, ◌==◌, nat_lt, if◌then◌else◌, Bool, true, false, None, List, [], ◌∷◌, length, replicate, map, drop}
 use Rattle.std.specs.List.{AllByRecursion}
-use Rattle.orc_types.specs.Cells.{Cell, is_value, parts, values}
-use Rattle.orc_types.specs.Shapes.{Shape, scalar, list_of, struct_of, Fields, no_field, field, width, shape_at}
+use Rattle.orc_types.specs.Cells.{Cell, is_value, parts, pairs_in, values}
+use Rattle.orc_types.specs.Shapes.{Shape, scalar, list_of, map_of, struct_of, Fields, no_field, field, width, shape_at}
 use Rattle.orc_types.specs.Types.{types}
 use Rattle.orc_types.specs.Fits.{RowsFit}
 use Rattle.orc_types.specs.Columns.{cells}
@@ -16,11 +16,11 @@ use Rattle.orc_wire.specs.Messages.{stripe_footer}
 use Rattle.orc_wire.specs.Spells.{Spells}
 use Rattle.orc_rle.specs.declared.sign.Rle.{Rle}
 use Rattle.orc_rle.specs.declared.sign.Rle.TheVariants.{One, Two}
-use Rattle.orc_columns.specs.Spellings.{Nullable, Standing, size, Grouped, Within, Fielded}
+use Rattle.orc_columns.specs.Spellings.{Nullable, Standing, size, Grouped, Within, Paired, Fielded}
 use Rattle.orc_columns.specs.Numbers.{AreNumbers}
 use Rattle.orc_columns.specs.Bytes.{AreBytes}
 use Rattle.orc_rle.specs.BitStream.{IsBitStream}
-use Rattle.orc_columns.specs.Columns.{IsBool, IsByte, IsInt, IsDate, IsText, IsBinary, IsWord, IsList, IsRecord}
+use Rattle.orc_columns.specs.Columns.{IsBool, IsByte, IsInt, IsDate, IsText, IsBinary, IsWord, IsList, IsMap, IsRecord}
 use Rattle.orc_columns.specs.Directory.{slice, is_directory, first_wrong}
 
 -- what a column's cells are read from: its encoding, and the bytes of its stream of each kind
@@ -77,10 +77,12 @@ SpellsScalar kind.Binary s vs =
     Standing IsBinary (Grouped (AreNumbers (version s) Unsigned (s.stream 2)) (Is (s.stream 1))) vs
 SpellsScalar kind.String s vs = SpellsTexts s (has_dictionary s) vs
 
--- the streams beside PRESENT spell the values of a column: of lists their lengths, of structs nothing
+-- the streams beside PRESENT spell the values of a column: of lists their lengths, of maps how many pairs they have,
+-- of structs nothing
 abbrev pub SpellsValues : Shape → Streams → List Cell → Type 0
 SpellsValues (scalar k o) s vs = SpellsScalar k s vs
 SpellsValues (list_of e o) s vs = AreNumbers (version s) Unsigned (s.stream 2) (map (λ v. size (parts v)) vs)
+SpellsValues (map_of k v o) s vs = AreNumbers (version s) Unsigned (s.stream 2) (map (λ m. size (pairs_in m)) vs)
 SpellsValues (struct_of fs o) s vs = Unit {0}
 
 -- a column of a stripe has fewer cells than this
@@ -109,13 +111,20 @@ abbrev pub SpellsColumn : ((ℕ → Streams) → List Cell → Type 0) → (ℕ 
 SpellsColumn found columns cells = Nullable (Marks ((columns 0).stream 0)) (found columns) cells
 
 abbrev mutual
-  -- a column's values, with all below it: lists of the child's cells, structs of the fields' cells
+  -- a column's values, with all below it: lists of the child's cells, maps of the cells of the keys and of
+  -- the values, structs of the fields' cells
   pub SpellsTree : Shape → (ℕ → Streams) → List Cell → Type 0
   SpellsTree (scalar k o) columns vs = SpellsScalar k (columns 0) vs
   SpellsTree (list_of s o) columns vs =
       Standing IsList
       (Grouped (AreNumbers (version (columns 0)) Unsigned ((columns 0).stream 2))
       (Within most_cells (SpellsColumn (SpellsTree s) (λ c. columns (suc c))))) vs
+  SpellsTree (map_of k v o) columns vs =
+      Standing IsMap
+      (Grouped (AreNumbers (version (columns 0)) Unsigned ((columns 0).stream 2))
+      (Within most_cells
+      (Paired (SpellsColumn (SpellsTree k) (λ c. columns (suc c)))
+      (SpellsColumn (SpellsTree v) (λ c. columns (suc (width k + c))))))) vs
   SpellsTree (struct_of fs o) columns vs = Standing IsRecord (SpellsFields fs (λ c. columns (suc c))) vs
 
   pub SpellsFields : Fields → (ℕ → Streams) → List (List Cell) → Type 0

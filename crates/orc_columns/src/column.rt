@@ -1,4 +1,4 @@
-//! What is left of a column's streams: its next mark, value or list size, and whether values are left over.
+//! What is left of a column's streams: its next mark, value or size of a list or map, and whether values are left over.
 
 ghost use Rattle.std.specs.Prelude.{◌≡◌, ◌≢◌, ◌≤◌, ◌-◌, ◌∷◌, [], ℕ, suc, Bool, true, false, List, pos, IfOk, IfErr, OnOk, OnErr, MatchBool};
 ghost use Rattle.orc_types.specs.Shapes.{Shape};
@@ -7,7 +7,7 @@ ghost use Rattle.orc_columns.specs.Fronts.{Leaves, Precedes, Lacks};
 ghost use Rattle.orc_columns.specs.Numbers.{NumbersLeft, NumbersFirst};
 ghost use Rattle.orc_columns.specs.Bits.{BitsLeft};
 ghost use Rattle.orc_columns.specs.Spellings.{Standing};
-ghost use Rattle.orc_columns.specs.Columns.{MarksLeft, MarksFirst, ScalarLeft, ListsLeft, IsBool};
+ghost use Rattle.orc_columns.specs.Columns.{MarksLeft, MarksFirst, ScalarLeft, ListsLeft, MapsLeft, IsBool};
 ghost use Rattle.orc_columns.specs.RunsMet.{NumbersMeet, BitsMeet, MarksMeet};
 ghost use Rattle.orc_columns.specs.Faults.{RunsFail};
 ghost use Rattle.orc_columns.specs.RunFaults.{Always};
@@ -42,7 +42,7 @@ pub struct Entry<'a> {
 #[derive(Drop)]
 pub struct ValueSource<'a> {
     pub column: usize,
-    /// DATA of whole numbers and of indexes, LENGTH of texts, bytes and lists.
+    /// DATA of whole numbers and of indexes, LENGTH of texts, bytes, lists and maps.
     pub numbers: Numbers<'a>,
     /// DATA of whole numbers of 8 bits.
     pub bytes: RunLengthBytes<'a>,
@@ -52,7 +52,7 @@ pub struct ValueSource<'a> {
     pub octets: Octets<'a>,
     /// The dictionary of a column that has one.
     pub entries: Option<Vec<Entry<'a>>>,
-    /// How many more elements a list's child may have.
+    /// How many more elements a list's child may have, or pairs a map's two children.
     pub room: u64,
 }
 
@@ -129,7 +129,7 @@ impl<'a> ValueSource<'a> {
     }
 }
 
-/// The size of the next list, for which there is room.
+/// The size of the next list or map, for which there is room.
 pub fn next_size(source: &mut ValueSource<'_>) -> Result<u64, StripeFault>
     ensures found { IfOk result
         (λ size. Leaves (NumbersLeft source.old.numbers) (NumbersLeft source.new.numbers) (pos size ∷ [])) }
@@ -137,6 +137,7 @@ pub fn next_size(source: &mut ValueSource<'_>) -> Result<u64, StripeFault>
         (λ size. Precedes (NumbersFirst source.old.numbers) (NumbersFirst source.new.numbers) (pos size ∷ [])) }
     ensures room { IfOk result (λ size. (size ≤ source.old.room) × (source.new.room ≡ source.old.room - size)) }
     ensures none { OnErr result ((s : Shape) (below : List Reader) → Lacks (ListsLeft s source.old below) 1) }
+    ensures no_map { OnErr result ((k v : Shape) (below : List Reader) → Lacks (MapsLeft k v source.old below) 1) }
     ensures column { source.new.column ≡ source.old.column }
     ensures before { OnOk result ((all : Bool) (n : ℕ) (f : Fault)
         → ListsMeet source.new all n f

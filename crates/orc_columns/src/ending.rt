@@ -1,10 +1,10 @@
 //! Tests that the readers of a schema's columns have nothing left.
 
-ghost use Rattle.std.specs.Prelude.{◌≡◌, [], true, length, IfErr, OnOk, OnErr};
+ghost use Rattle.std.specs.Prelude.{◌≡◌, ◌+◌, [], true, length, IfErr, OnOk, OnErr};
 ghost use Rattle.orc_types.specs.Shapes.{width, widths};
 ghost use Rattle.orc_types.specs.Views.{shape, fields as fields_view};
-ghost use Rattle.orc_columns.specs.Columns.{CellsLeft, OwnLeft, FieldsLeft};
-ghost use Rattle.orc_columns.specs.ReaderFaults.{CellsMeet, OwnMeet, FieldsMeet};
+ghost use Rattle.orc_columns.specs.Columns.{CellsLeft, OwnLeft, PairsLeft, FieldsLeft};
+ghost use Rattle.orc_columns.specs.ReaderFaults.{CellsMeet, OwnMeet, PairsMeet, FieldsMeet};
 
 use crate::column::{ColumnReader, scalar_end, scalar_left};
 use crate::fault::{StreamKind, StripeFault, run_fault};
@@ -63,10 +63,41 @@ fn values_end(tree: &Tree, readers: &[ColumnReader<'_>]) -> Result<(), StripeFau
                 Err(fault) => Err(fault),
             }
         }
+        Tree::Map(key, value, _) => {
+            if !numbers_end(&own.source.numbers) {
+                return Err(run_fault(
+                    own.source.column,
+                    StreamKind::Length,
+                    numbers_left(&own.source.numbers),
+                ));
+            }
+            match pairs_end(key, value, &readers[1..]) {
+                Ok(()) => Ok(()),
+                Err(fault) => Err(fault),
+            }
+        }
         Tree::Struct(fields, _) => match fields_end(fields, &readers[1..]) {
             Ok(()) => Ok(()),
             Err(fault) => Err(fault),
         },
+    }
+}
+
+/// Tests that no key of maps is left, and no value of their pairs.
+#[cycle(ending)]
+fn pairs_end(key: &Tree, value: &Tree, readers: &[ColumnReader<'_>]) -> Result<(), StripeFault>
+    requires { length readers.now ≡ width (shape key.now) + width (shape value.now) }
+    ensures all { OnOk result (PairsLeft (shape key.now) (shape value.now) readers.now []) }
+    ensures more { OnErr result (PairsLeft (shape key.now) (shape value.now) readers.now [] → ⊥) }
+    ensures fault { IfErr result (PairsMeet (shape key.now) (shape value.now) readers.now true 0) }
+{
+    let own = width_of(key);
+    match cells_end(key, &readers[..own]) {
+        Ok(()) => match cells_end(value, &readers[own..]) {
+            Ok(()) => Ok(()),
+            Err(fault) => Err(fault),
+        },
+        Err(fault) => Err(fault),
     }
 }
 

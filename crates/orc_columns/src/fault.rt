@@ -68,7 +68,8 @@ pub enum StripeFault {
     /// The footer is no message, or the index of a column is none.
     #[error("stripe 9 Wire: {0}")]
     Wire(WireFault),
-    /// There are more rows than a column may have cells (column 0), or more elements in the column's lists.
+    /// There are more rows than a column may have cells (column 0), or more elements in the column's lists, or pairs in
+    /// its maps.
     #[error("stripe 10 TooMany({0})")]
     TooMany(usize),
     /// Memory ran out.

@@ -1,17 +1,17 @@
-//! A column's cells, one after the other: marks, values, and what lists and structs have below them.
-ghost use Rattle.std.specs.Prelude.{◌≡◌, ◌≢◌, ◌+◌, ◌++◌, ℕ, suc, Bool, false, [], ◌∷◌, List, IfOk, IfErr, OnOk, length};
+//! A column's cells, one after the other: marks, values, and what lists, maps and structs have below them.
+ghost use Rattle.std.specs.Prelude.{map, ◌≡◌, ◌≢◌, ◌+◌, ◌++◌, ℕ, suc, Bool, false, [], ◌∷◌, List, IfOk, IfErr, OnOk, length};
 ghost use Rattle.orc_types.specs.Cells.{Cell};
 ghost use Rattle.orc_types.specs.Shapes.{width, widths};
-ghost use Rattle.orc_types.specs.Views.{view, views, cell_of_value, shape, fields as fields_view};
+ghost use Rattle.orc_types.specs.Views.{view, views, paired, cell_of_value, shape, fields as fields_view};
 ghost use Rattle.orc_columns.specs.Fronts.{Leaves, Lacks};
-ghost use Rattle.orc_columns.specs.Columns.{CellsLeft, OwnLeft, ListsOf, FieldsLeft, column_of, marks_of};
-ghost use Rattle.orc_columns.specs.ReaderFaults.{CellsMeet, OwnMeet, ListsOfMeet, FieldsMeet};
+ghost use Rattle.orc_columns.specs.Columns.{CellsLeft, OwnLeft, ListsOf, MapsOf, PairsLeft, FieldsLeft, column_of, marks_of};
+ghost use Rattle.orc_columns.specs.ReaderFaults.{CellsMeet, OwnMeet, ListsOfMeet, MapsOfMeet, PairsMeet, FieldsMeet};
 ghost use Rattle.orc_columns.specs.declared.fault.StripeFault.{StripeFault as Fault};
 ghost use Rattle.orc_columns.specs.declared.fault.StripeFault.TheVariants.{OutOfMemory};
 
 use crate::column::{ColumnReader, next_present, next_size};
 use crate::fault::StripeFault;
-use orc_types::{Field, Row, Tree, Value, width_of};
+use orc_types::{Field, MapPair, Row, Tree, Value, width_of};
 use std::alloc::Global;
 
 /// The next cell of a column.
@@ -67,6 +67,10 @@ fn next_value<'a>(
             Ok(elements) => Ok(Value::List(elements)),
             Err(fault) => Err(fault),
         },
+        Tree::Map(key, value, _) => match next_map(alloc, key, value, readers) {
+            Ok(pairs) => Ok(Value::Map(pairs)),
+            Err(fault) => Err(fault),
+        },
         Tree::Struct(fields, _) => {
             let mut cells = Vec::with_capacity(alloc, fields.len())?;
             match next_fields(alloc, fields, &mut readers[1..], &mut cells) {
@@ -98,6 +102,99 @@ fn next_list<'a>(
     match next_size(&mut readers[0].source) {
         Ok(size) => match next_cells(alloc, element, &mut readers[1..], size) {
             Ok(rows) => Ok(rows),
+            Err(fault) => Err(fault),
+        },
+        Err(fault) => Err(fault),
+    }
+}
+
+/// The pairs of the next map.
+#[cycle(reader)]
+fn next_map<'a>(
+    alloc: Global,
+    key: &Tree,
+    value: &Tree,
+    readers: &mut [ColumnReader<'a>],
+) -> Result<Vec<MapPair<'a>>, StripeFault>
+    requires { length readers.old ≡ 1 + (width (shape key.now) + width (shape value.now)) }
+    ensures found { IfOk result (λ pairs. Leaves (MapsOf (shape key.now) (shape value.now) readers.old)
+        (MapsOf (shape key.now) (shape value.now) readers.new) (map paired pairs.items ∷ [])) }
+    ensures column { OnOk result (column_of readers.new ≡ column_of readers.old) }
+    ensures marks { IfOk result (λ _. marks_of readers.new ≡ marks_of readers.old) }
+    ensures none { IfErr result (λ fault. fault ≢ OutOfMemory
+        → Lacks (MapsOf (shape key.now) (shape value.now) readers.old) 1) }
+    ensures before { OnOk result ((all : Bool) (n : ℕ) (f : Fault)
+        → MapsOfMeet (shape key.now) (shape value.now) readers.new all n f
+        → MapsOfMeet (shape key.now) (shape value.now) readers.old all (suc n) f) }
+    ensures fault { IfErr result (λ cause. cause ≢ OutOfMemory
+        → (n : ℕ) → MapsOfMeet (shape key.now) (shape value.now) readers.old false (suc n) cause) }
+{
+    match next_size(&mut readers[0].source) {
+        Ok(size) => match next_pairs(alloc, key, value, &mut readers[1..], size) {
+            Ok(pairs) => Ok(pairs),
+            Err(fault) => Err(fault),
+        },
+        Err(fault) => Err(fault),
+    }
+}
+
+/// The next pairs of a map's columns, so many.
+#[cycle(reader)]
+fn next_pairs<'a>(
+    alloc: Global,
+    key: &Tree,
+    value: &Tree,
+    readers: &mut [ColumnReader<'a>],
+    count: u64,
+) -> Result<Vec<MapPair<'a>>, StripeFault>
+    requires { length readers.old ≡ width (shape key.now) + width (shape value.now) }
+    ensures found { IfOk result (λ pairs. Leaves (PairsLeft (shape key.now) (shape value.now) readers.old)
+        (PairsLeft (shape key.now) (shape value.now) readers.new) (map paired pairs.items)) }
+    ensures counted { IfOk result (λ pairs. length (map paired pairs.items) ≡ count) }
+    ensures none { IfErr result (λ fault. fault ≢ OutOfMemory
+        → Lacks (PairsLeft (shape key.now) (shape value.now) readers.old) count) }
+    ensures before { OnOk result ((all : Bool) (n : ℕ) (f : Fault)
+        → PairsMeet (shape key.now) (shape value.now) readers.new all n f
+        → PairsMeet (shape key.now) (shape value.now) readers.old all (count + n) f) }
+    ensures fault { IfErr result (λ cause. cause ≢ OutOfMemory
+        → (n : ℕ) → PairsMeet (shape key.now) (shape value.now) readers.old false (count + n) cause) }
+{
+    let mut pairs = Vec::new(alloc);
+    for taken in 0..count {
+        match next_pair(alloc, key, value, readers) {
+            Ok(pair) => pairs.push(pair)?,
+            Err(fault) => return Err(fault),
+        }
+    }
+    Ok(pairs)
+}
+
+/// The next pair: a cell of the key's columns, and one of the value's.
+#[cycle(reader)]
+fn next_pair<'a>(
+    alloc: Global,
+    key: &Tree,
+    value: &Tree,
+    readers: &mut [ColumnReader<'a>],
+) -> Result<MapPair<'a>, StripeFault>
+    requires { length readers.old ≡ width (shape key.now) + width (shape value.now) }
+    ensures found { IfOk result (λ pair. Leaves (PairsLeft (shape key.now) (shape value.now) readers.old)
+        (PairsLeft (shape key.now) (shape value.now) readers.new) (paired pair ∷ [])) }
+    ensures none { IfErr result (λ fault. fault ≢ OutOfMemory
+        → Lacks (PairsLeft (shape key.now) (shape value.now) readers.old) 1) }
+    ensures before { OnOk result ((all : Bool) (n : ℕ) (f : Fault)
+        → PairsMeet (shape key.now) (shape value.now) readers.new all n f
+        → PairsMeet (shape key.now) (shape value.now) readers.old all (suc n) f) }
+    ensures fault { IfErr result (λ cause. cause ≢ OutOfMemory
+        → (n : ℕ) → PairsMeet (shape key.now) (shape value.now) readers.old false (suc n) cause) }
+{
+    let own = width_of(key);
+    match next_cell(alloc, key, &mut readers[..own]) {
+        Ok(first) => match next_cell(alloc, value, &mut readers[own..]) {
+            Ok(second) => Ok(MapPair {
+                key: first,
+                value: second,
+            }),
             Err(fault) => Err(fault),
         },
         Err(fault) => Err(fault),

@@ -229,7 +229,7 @@ fn source_of<'a>(
             Ok(source) => Ok(source),
             Err(fault) => Err(fault),
         },
-        Tree::List(_, _) => Ok(group_source(column, streams)),
+        Tree::List(_, _) | Tree::Map(_, _, _) => Ok(group_source(column, streams)),
         Tree::Struct(_, _) => Ok(data_source(column, streams)),
     }
 }
@@ -291,6 +291,13 @@ pub fn put_tree<'a>(
         Tree::Scalar(_, _) => Ok(()),
         Tree::List(element, _) => match put_tree(alloc, element, footer, located, readers) {
             Ok(()) => Ok(()),
+            Err(fault) => Err(fault),
+        },
+        Tree::Map(key, value, _) => match put_tree(alloc, key, footer, located, readers) {
+            Ok(()) => match put_tree(alloc, value, footer, located, readers) {
+                Ok(()) => Ok(()),
+                Err(fault) => Err(fault),
+            },
             Err(fault) => Err(fault),
         },
         Tree::Struct(fields, _) => match put_fields(alloc, fields, footer, located, readers) {

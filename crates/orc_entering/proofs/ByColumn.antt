@@ -1,16 +1,18 @@
 -- Readers that have what is left of each column, by its number, have what is left of the rows.
 use Rattle.std.proofs.Common.{◌≡◌, ℕ, zero, suc, ◌+◌, ◌-◌, ◌^◌, ◌<◌, true, false, ltb, Some, List, [], ◌∷◌, map, length, take, drop, refl, sym, ap, ◌∙◌, subst, arith, slice_get, length-drop}
 use Rattle.std.proofs.lemmas.Bool.{lt-ltb, le-ltb}
-use Rattle.std.proofs.lemmas.List.{length-take-le}
+use Rattle.std.proofs.lemmas.List.{length-map, length-take-le}
 use Rattle.std.proofs.lemmas.Option.{slice_get_within}
 use Rattle.std.specs.List.{flat_map}
-use Rattle.orc_types.specs.Cells.{Cell, parts, values}
-use Rattle.orc_types.specs.Shapes.{Shape, scalar, list_of, struct_of, Fields, no_field, field, width, widths, shape_at, shape_within}
+use Rattle.orc_types.specs.Cells.{Cell, parts, pairs_in, keys_in, values_in, values}
+use Rattle.orc_types.specs.Shapes.{Shape, scalar, list_of, map_of, struct_of, Fields, no_field, field, width, widths, shape_at, shape_within}
 use Rattle.orc_types.specs.Fits.{RowsFit}
 use Rattle.orc_types.specs.Columns.{cells, cells_within}
+use Rattle.orc_types.proofs.Together.{keys_fit, values_fit}
 use Rattle.orc_columns.specs.Columns.{CellsLeft, FieldsLeft}
+use Rattle.orc_columns.specs.Spellings.{joined}
 use Rattle.orc_columns.specs.declared.column.ColumnReader.{ColumnReader}
-use Rattle.orc_columns.proofs.ByNumber.{are_lists, joined_parts, map_sizes, are_records, FieldsFit, split, fit_empty, wide, first_cells}
+use Rattle.orc_columns.proofs.ByNumber.{are_lists, joined_parts, map_sizes, are_maps, joined_keys, joined_seconds, pair_sizes, are_records, FieldsFit, split, fit_empty, wide, first_cells}
 use Rattle.orc_entering.specs.Columns.{ColumnIsLeft}
 
 -- all readers have still to give what is left of the rows
@@ -69,6 +71,41 @@ others_left name s fs rs structs all c r e =
     let d : width s + c - width s ≡ c = omega arith in
     rw (t, d) at k
 
+-- the columns of a map's keys
+keys_left : (k v : Shape) (o : List ℕ) (r : ColumnReader) (rs : List ColumnReader) (cs : List Cell) → ReadersLeft (map_of k v o) (r ∷ rs) cs → ReadersLeft k (take (width k) rs) (flat_map keys_in (values cs))
+keys_left k v o r rs cs h =
+    let counted : length rs ≡ width k + width v = omega (arith, h.counted) in
+    let front = length-take-le (width k) rs (omega (arith, counted)) in
+    record {
+      counted = front;
+      fit = keys_fit k v o cs h.fit;
+      few = λ c lt. let n = h.few (suc c) (omega (arith, lt)) in let t : ltb c (width k) ≡ true = lt-ltb c (width k) lt in rw t at n;
+      column = λ c b g.
+          let own = h.column (suc c) b (get_take (width k) rs c b g) in
+          let w = slice_get_within (take (width k) rs) c b g in
+          let t : ltb c (width k) ≡ true = lt-ltb c (width k) (omega (arith, w, front)) in
+          rw t at own;
+    }
+
+-- and of their values
+seconds_left : (k v : Shape) (o : List ℕ) (r : ColumnReader) (rs : List ColumnReader) (cs : List Cell) → ReadersLeft (map_of k v o) (r ∷ rs) cs → ReadersLeft v (drop (width k) rs) (flat_map values_in (values cs))
+seconds_left k v o r rs cs h =
+    let counted : length rs ≡ width k + width v = omega (arith, h.counted) in
+    record {
+      counted = omega (arith, counted, length-drop (width k) rs);
+      fit = values_fit k v o cs h.fit;
+      few = λ c lt.
+          let n = h.few (suc (width k + c)) (omega (arith, lt)) in
+          let t : ltb (width k + c) (width k) ≡ false = le-ltb (width k + c) (width k) (omega arith) in
+          let d : width k + c - width k ≡ c = omega arith in
+          rw (t, d) at n;
+      column = λ c b g.
+          let own = h.column (suc (width k + c)) b (sym (get_drop (width k) rs c) ∙ g) in
+          let t : ltb (width k + c) (width k) ≡ false = le-ltb (width k + c) (width k) (omega arith) in
+          let d : width k + c - width k ≡ c = omega arith in
+          rw (t, d) at own;
+    }
+
 mutual
   pub left_by_tree : (s : Shape) (rs : List ColumnReader) (cs : List Cell) → ReadersLeft s rs cs → CellsLeft s rs cs
   left_by_tree s [] cs h = let w = wide s in omega (arith, w, h.counted)
@@ -82,6 +119,16 @@ mutual
       let inner = left_by_tree s rs (flat_map parts (values cs)) below in
       let few = below.few 0 (wide s) in
       (own.marks, (map parts (values cs), l.stand, (rw (map_sizes (values cs)) own.spelled.0, (omega (arith, own.spelled.1, few, ap length (first_cells s (flat_map parts (values cs))), ap length e), subst (CellsLeft s rs) (sym e) inner))))
+  left_by_tree (map_of k v o) (r ∷ rs) cs h =
+      let own = h.column 0 r refl in
+      let keys = keys_left k v o r rs cs h in
+      let first = left_by_tree k (take (width k) rs) (flat_map keys_in (values cs)) keys in
+      let second = left_by_tree v (drop (width k) rs) (flat_map values_in (values cs)) (seconds_left k v o r rs cs h) in
+      let ps = map pairs_in (values cs) in
+      let e = joined_keys (values cs) in
+      let few = keys.few 0 (wide k) in
+      let long : length (joined ps) < 2 ^ 31 = omega (arith, few, ap length (first_cells k (flat_map keys_in (values cs))), ap length e, length-map (joined ps) (λ (p : Cell × Cell). p.0)) in
+      (own.marks, (ps, are_maps k v o cs h.fit, (rw (pair_sizes (values cs)) own.spelled.0, (omega (arith, own.spelled.1, long), (subst (CellsLeft k (take (width k) rs)) (sym e) first, subst (CellsLeft v (drop (width k) rs)) (sym (joined_seconds (values cs))) second)))))
   left_by_tree (struct_of fs o) (r ∷ rs) cs h =
       let own = h.column 0 r refl in
       let l = are_records fs o cs h.fit in

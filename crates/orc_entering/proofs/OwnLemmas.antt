@@ -4,7 +4,7 @@ use Rattle.std.specs.declared.vec.Vec.{Vec}
 use Rattle.std.specs.declared.alloc.Global.{Global}
 use Rattle.orc_seek.specs.BitPosition.{BeginsBits}
 use Rattle.orc_types.specs.Cells.{Cell, values}
-use Rattle.orc_types.specs.Shapes.{Shape, scalar, list_of, struct_of}
+use Rattle.orc_types.specs.Shapes.{Shape, scalar, list_of, map_of, struct_of}
 use Rattle.orc_types.specs.declared.kind.Scalar.TheVariants as kind
 use Rattle.orc_columns.specs.Columns.{entry_bytes}
 use Rattle.orc_columns.specs.Starting.{HasNoDictionary, LacksEntries}
@@ -65,6 +65,7 @@ entries_turned (scalar kind.String o) x y entries e same h =
     let d : has_dictionary y ≡ has_dictionary x = ap (λ (k : Encoding). uses_dictionary k.kind) e in
     entries_here (has_dictionary x) x y entries e same (subst (λ (b : Bool). HasEntries b y entries) d h)
 entries_turned (list_of s o) x y entries e same h = tt
+entries_turned (map_of k v o) x y entries e same h = tt
 entries_turned (struct_of fs o) x y entries e same h = tt
 
 other_way : (x y : Streams) → y.encoding ≡ x.encoding → (y.stream 2 ≡ x.stream 2) × (y.stream 3 ≡ x.stream 3) → (x.stream 2 ≡ y.stream 2) × (x.stream 3 ≡ y.stream 3)
@@ -87,6 +88,7 @@ dictionary_there (scalar kind.String o) x y vs e same h none =
     let d : has_dictionary y ≡ has_dictionary x = ap (λ (k : Encoding). uses_dictionary k.kind) e in
     lacks_none (has_dictionary x) x y vs e same h (subst (λ (b : Bool). LacksEntries b y) d none)
 dictionary_there (list_of s o) x y vs e same h none = none
+dictionary_there (map_of k v o) x y vs e same h none = none
 dictionary_there (struct_of fs o) x y vs e same h none = none
 
 -- ---- the stream of runs

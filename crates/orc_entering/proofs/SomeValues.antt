@@ -1,7 +1,7 @@
 -- Streams that spell a column's cells have the values behind each front of them.
 use Rattle.std.proofs.Common.{ℕ, ◌≤◌, Bool, true, false, List, [], ◌∷◌, length, map, arith}
-use Rattle.orc_types.specs.Cells.{Cell, parts}
-use Rattle.orc_types.specs.Shapes.{Shape, scalar, list_of, struct_of}
+use Rattle.orc_types.specs.Cells.{Cell, parts, pairs_in}
+use Rattle.orc_types.specs.Shapes.{Shape, scalar, list_of, map_of, struct_of}
 use Rattle.orc_types.specs.declared.kind.Scalar.{Scalar}
 use Rattle.orc_types.specs.declared.kind.Scalar.TheVariants as kind
 use Rattle.orc_columns.specs.Columns.{IsBool}
@@ -32,4 +32,5 @@ scalar_some kind.Binary x vs n h le = (map size h.0, h.2.0)
 pub own_some : (s : Shape) (x : Streams) (vs : List Cell) (n : ℕ) → SpellsValues s x vs → n ≤ length vs → HasSome (own_runs s x) n
 own_some (scalar k o) x vs n h le = scalar_some k x vs n h le
 own_some (list_of s o) x vs n h le = (map (λ v. size (parts v)) vs, h)
+own_some (map_of k v o) x vs n h le = (map (λ m. size (pairs_in m)) vs, h)
 own_some (struct_of fs o) x vs n h le = tt

@@ -8,8 +8,8 @@ use Rattle.orc_rle.specs.BitStream.{IsBitStream}
 use Rattle.orc_rle.specs.ByteRun.{IsByteRun}
 use Rattle.orc_rle.specs.Stream.{IsStream}
 use Rattle.orc_rle.specs.declared.sign.Sign.TheVariants.{Signed, Unsigned}
-use Rattle.orc_types.specs.Cells.{Cell, parts}
-use Rattle.orc_types.specs.Shapes.{Shape, scalar, list_of, struct_of}
+use Rattle.orc_types.specs.Cells.{Cell, parts, pairs_in}
+use Rattle.orc_types.specs.Shapes.{Shape, scalar, list_of, map_of, struct_of}
 use Rattle.orc_types.specs.declared.kind.Scalar.{Scalar}
 use Rattle.orc_types.specs.declared.kind.Scalar.TheVariants as kind
 use Rattle.orc_columns.specs.Bits.{BitsLeft}
@@ -148,6 +148,10 @@ pub values_turned : (s : Shape) (x : Streams) (b a : List Cell) (own : Entered) 
 values_turned (scalar k o) x b a own source rest left is has from room h = scalar_turned k x b a own source rest left is has from h
 values_turned (list_of s o) x b a own source rest left is has from room h = (
   subst (NumbersLeft source.numbers) (drop_mapped (λ v. size (parts v)) b a) (numbers_left x Unsigned (x.stream 2) (length b) own source rest (map (λ v. size (parts v)) (b ++ a)) left is h),
+  room,
+)
+values_turned (map_of k v o) x b a own source rest left is has from room h = (
+  subst (NumbersLeft source.numbers) (drop_mapped (λ m. size (pairs_in m)) b a) (numbers_left x Unsigned (x.stream 2) (length b) own source rest (map (λ m. size (pairs_in m)) (b ++ a)) left is h),
   room,
 )
 values_turned (struct_of fs o) x b a own source rest left is has from room h = tt

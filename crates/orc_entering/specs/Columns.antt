@@ -1,7 +1,7 @@
 -- Columns that are entered at their positions (ORC specification, "Row Group Index", "Column Encodings").
 use Rattle.std.specs.Prelude.{◌≡◌, ℕ, Bool, true, false, Option, Some, None, List, [], ◌∷◌, ◌++◌, length, map, drop, get_or}
-use Rattle.orc_types.specs.Cells.{Cell, is_value, parts, values}
-use Rattle.orc_types.specs.Shapes.{Shape, scalar, list_of, struct_of}
+use Rattle.orc_types.specs.Cells.{Cell, is_value, parts, pairs_in, values}
+use Rattle.orc_types.specs.Shapes.{Shape, scalar, list_of, map_of, struct_of}
 use Rattle.std.specs.declared.vec.Vec.{Vec}
 use Rattle.std.specs.declared.alloc.Global.{Global}
 use Rattle.orc_types.specs.declared.kind.Scalar.{Scalar}
@@ -68,6 +68,7 @@ ScalarEntries kind.String x entries = HasEntries (has_dictionary x) x entries
 abbrev pub EntriesOf : Shape → Streams → Option (Vec Entry Global) → Type 0
 EntriesOf (scalar k o) x entries = ScalarEntries k x entries
 EntriesOf (list_of s o) x entries = Unit {0}
+EntriesOf (map_of k v o) x entries = Unit {0}
 EntriesOf (struct_of fs o) x entries = Unit {0}
 
 -- bytes as they are, the same from so many on
@@ -102,11 +103,14 @@ pub record OwnTurns (s : Shape) (x y : Streams) (before after : List Cell) (last
   pub own_same : RunsAgree (get_or last 0 0) (own_runs s y) (own_runs s x)
   pub dictionary_same : has_dictionary x ≡ true → (y.stream 2 ≡ x.stream 2) × (y.stream 3 ≡ x.stream 3)
 
--- what is left of the values of a column's own streams: of lists their lengths, of structs nothing
+-- what is left of the values of a column's own streams: of lists their lengths, of maps how many pairs they have,
+-- of structs nothing
 abbrev pub OwnValuesLeft : Shape → ValueSource → List Cell → Type 0
 OwnValuesLeft (scalar k o) source vs = ScalarLeft k source vs
 OwnValuesLeft (list_of s o) source vs =
     NumbersLeft source.numbers (map (λ v. size (parts v)) vs) × (source.room ≡ most_cells)
+OwnValuesLeft (map_of k v o) source vs =
+    NumbersLeft source.numbers (map (λ m. size (pairs_in m)) vs) × (source.room ≡ most_cells)
 OwnValuesLeft (struct_of fs o) source vs = Unit {0}
 
 -- what a column's own reader has still to give

@@ -7,8 +7,8 @@ use Rattle.orc_wire.specs.Canonical.{all_both}
 use Rattle.orc_wire.specs.declared.stripe_footer.StreamMsg.{StreamMsg}
 use Rattle.orc_wire.specs.declared.stripe_info.StripeInfo.{StripeInfo}
 use Rattle.orc_types.specs.declared.kind.Scalar.TheVariants as scalar_kind
-use Rattle.orc_types.specs.Shapes.{Shape, scalar, list_of, struct_of, width, shape_at}
-use Rattle.orc_types.specs.Cells.{Cell, null, leaf, list, struct, values}
+use Rattle.orc_types.specs.Shapes.{Shape, scalar, list_of, map_of, struct_of, width, shape_at}
+use Rattle.orc_types.specs.Cells.{Cell, null, leaf, list, struct, pairs, values}
 use Rattle.orc_types.specs.Columns.{cells}
 use Rattle.orc_stats.specs.declared.kind.StatKind.{StatKind}
 use Rattle.orc_stats.specs.declared.kind.StatKind.TheVariants as kind
@@ -72,6 +72,7 @@ with_nulls most (null ∷ cs) h = (tt, with_nulls most cs h)
 with_nulls most (leaf a ∷ cs) h = (h.0, with_nulls most cs h.1)
 with_nulls most (list l ∷ cs) h = (h.0, with_nulls most cs h.1)
 with_nulls most (struct l ∷ cs) h = (h.0, with_nulls most cs h.1)
+with_nulls most (pairs l ∷ cs) h = (h.0, with_nulls most cs h.1)
 
 -- ---- streams
 
@@ -109,6 +110,7 @@ column_short (scalar scalar_kind.Long o) s most cs h few = λ e. cc
 column_short (scalar scalar_kind.Binary o) s most cs h few = λ e. cc
 column_short (scalar scalar_kind.Date o) s most cs h few = λ e. cc
 column_short (list_of e o) s most cs h few = λ e. cc
+column_short (map_of k v o) s most cs h few = λ e. cc
 column_short (struct_of fs o) s most cs h few = λ e. cc
 
 -- a stripe's column
@@ -141,6 +143,7 @@ body_short most kind.Texts cs h =
     let all = all_picked most cs (h refl) in
     (least_is (λ t. length t ≤ most) text_cmp (filter_map text_of cs) all, least_is (λ t. length t ≤ most) (flip_args text_cmp) (filter_map text_of cs) all)
 body_short most kind.Bins cs h = tt
+body_short most kind.Children cs h = tt
 
 less_short : (most : ℕ) (b : Body) → HasShortTexts most b → HasShortTexts most (without_sum b)
 less_short most body.Plain h = tt
@@ -149,6 +152,7 @@ less_short most (body.Bools t) h = tt
 less_short most (body.Dates l g) h = tt
 less_short most (body.Texts l g s) h = h
 less_short most (body.Bins s) h = tt
+less_short most (body.Children l g t) h = tt
 
 pub either_short : (most : ℕ) (b : Bool) (x : Body) → HasShortTexts most x → HasShortTexts most (if b then x else without_sum x)
 either_short most true x h = h

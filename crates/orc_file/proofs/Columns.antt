@@ -11,7 +11,7 @@ use Rattle.orc_wire.specs.declared.column_stats.StripeStatistics.{StripeStatisti
 use Rattle.orc_types.specs.declared.kind.Scalar.{Scalar}
 use Rattle.orc_types.specs.declared.kind.Scalar.TheVariants as scalar_kind
 use Rattle.orc_types.specs.Kinds.{number}
-use Rattle.orc_types.specs.Shapes.{Shape, scalar, list_of, struct_of, Fields, no_field, field, width, widths, shape_at, shape_within}
+use Rattle.orc_types.specs.Shapes.{Shape, scalar, list_of, map_of, struct_of, Fields, no_field, field, width, widths, shape_at, shape_within}
 use Rattle.orc_types.specs.Types.{types, fields_types}
 use Rattle.orc_types.proofs.Trees.{length-types}
 use Rattle.orc_stats.specs.declared.stat.Stat.{Stat}
@@ -36,6 +36,15 @@ mutual
   type_kind (scalar k o) n (suc c) d lt = absurd (omega (arith, lt))
   type_kind (list_of s o) n zero d lt = refl
   type_kind (list_of s o) n (suc c) d lt = type_kind s (n + 1) c d (omega (arith, lt))
+  type_kind (map_of k v o) n zero d lt = refl
+  type_kind (map_of k v o) n (suc c) d lt = elim (cases_lt c (width k)) [
+    | inl less ↦
+        let t : ltb c (width k) ≡ true = lt-ltb _ _ less in
+        rw (t, get_or_append_left (types k (n + 1)) (types v (n + 1 + width k)) d c (omega (arith, less, length-types k (n + 1)))) (type_kind k (n + 1) c d less)
+    | inr least ↦
+        let t : ltb c (width k) ≡ false = le-ltb _ _ least in
+        rw (t, get_or-append_right (types k (n + 1)) (types v (n + 1 + width k)) (width k) c d (length-types k (n + 1)) least) (type_kind v (n + 1 + width k) (c - width k) d (omega (arith, least, lt)))
+  ]
   type_kind (struct_of fs o) n zero d lt = refl
   type_kind (struct_of fs o) n (suc c) d lt = fields_kind fs (n + 1) c d (omega (arith, lt))
 

@@ -2,7 +2,7 @@
 use Rattle.std.proofs.Common.{◌≡◌, ℕ, zero, suc, ◌+◌, ◌-◌, inl, inr, ◌<◌, ◌^◌, true, ltb, List, [], ◌∷◌, ◌++◌, length, get_or, replicate, refl, sym, ap, ◌∙◌, arith, length-append}
 use Rattle.std.proofs.lemmas.Bool.{ltb-true, and_parts}
 use Rattle.std.proofs.lemmas.Bool.Decides.{leb_tells}
-use Rattle.orc_types.specs.Shapes.{Shape, scalar, list_of, struct_of, Fields, no_field, field, width}
+use Rattle.orc_types.specs.Shapes.{Shape, scalar, list_of, map_of, struct_of, Fields, no_field, field, width}
 use Rattle.orc_types.specs.Cells.{Cell}
 use Rattle.orc_types.specs.Columns.{cells, cells_within}
 use Rattle.orc_types.proofs.Together.{cells-append}
@@ -45,6 +45,9 @@ mutual
   no_rows (scalar k o) c = refl
   no_rows (list_of s o) zero = refl
   no_rows (list_of s o) (suc c) = no_rows s c
+  no_rows (map_of k v o) zero = refl
+  no_rows (map_of k v o) (suc c) =
+      elim (leb_tells (suc c) (width k)) [ inl p ↦ rw p.0 (no_rows k c) | inr p ↦ rw p.0 (no_rows v (c - width k)) ]
   no_rows (struct_of fs o) zero = refl
   no_rows (struct_of fs o) (suc c) = no_structs fs c
 

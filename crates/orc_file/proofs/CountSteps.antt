@@ -1,5 +1,5 @@
 -- One walk of a row, cell by cell, counts the cells of each column.
-use Rattle.std.proofs.Common.{◌≡◌, ℕ, zero, suc, ◌+◌, ◌-◌, ◌<◌, ◌≤◌, ◌^◌, inl, inr, Bool, true, false, ltb, List, [], ◌∷◌, ◌++◌, length, get_or, map, take, drop, Option, refl, sym, ap, ◌∙◌, arith, add-one, length-append, append-nil}
+use Rattle.std.proofs.Common.{◌≡◌, ℕ, zero, suc, ◌+◌, ◌-◌, ◌<◌, ◌≤◌, ◌^◌, inl, inr, Bool, true, false, ltb, List, [], ◌∷◌, ◌++◌, length, get_or, map, flat_map, take, drop, Option, refl, sym, ap, ◌∙◌, arith, add-one, length-append, append-nil}
 use Rattle.std.specs.Prelude.{min}
 use Rattle.std.specs.Bool.{OnTrue, OnFalse}
 use Rattle.std.proofs.Math.Seq.{take-suc}
@@ -7,12 +7,13 @@ use Rattle.std.proofs.lemmas.Bool.{lt-ltb, le-ltb, ltb-true, and_parts}
 use Rattle.std.proofs.lemmas.Bool.Decides.{leb_tells}
 use Rattle.std.proofs.lemmas.List.{map-append, take_all}
 use Rattle.orc_types.specs.declared.kind.Scalar.{Scalar}
-use Rattle.orc_types.specs.Shapes.{Shape, scalar, list_of, struct_of, Fields, no_field, field, width, widths}
-use Rattle.orc_types.specs.Cells.{Cell, null, leaf, list, struct, parts, values}
+use Rattle.orc_types.specs.Shapes.{Shape, scalar, list_of, map_of, struct_of, Fields, no_field, field, width, widths}
+use Rattle.orc_types.specs.Cells.{Cell, null, leaf, list, struct, pairs, parts, keys_in, values_in, values}
 use Rattle.orc_types.specs.Columns.{cells, cells_within}
-use Rattle.orc_types.specs.Views.{view, views}
+use Rattle.orc_types.specs.Views.{view, views, paired}
 use Rattle.orc_types.specs.declared.value.Value.{Value}
-use Rattle.orc_types.proofs.ByColumn.{parts_values}
+use Rattle.orc_types.specs.declared.value.MapPair.{MapPair}
+use Rattle.orc_types.proofs.ByColumn.{parts_values, keys_values, values_values}
 use Rattle.orc_types.proofs.Together.{cells-append}
 use Rattle.orc_file.specs.Counts.{with_row, are_few}
 use Rattle.orc_file.specs.Counting.{IsMoreBy, AddsOne, AddsCells, AddsFields}
@@ -72,6 +73,40 @@ module _ (s : Shape) (o : List ℕ) (place : ℕ) (cell : Cell) (old mid new : L
     others = λ k h. q.others k (elim h [ inl a ↦ inl (omega arith) | inr b ↦ inr (omega arith) ]) ∙ p.others k (λ w. elim h [ inl a ↦ omega arith | inr b ↦ omega arith ]);
   }
 
+module _ (k v : Shape) (o : List ℕ) (place : ℕ) (cell : Cell) (old one mid new : List ℕ) (p : AddsOne place old one)
+    (q : AddsCells k (place + 1) (keys_in cell) one mid) (r : AddsCells v (place + 1 + width k) (values_in cell) mid new) where
+  map_added : (c : ℕ) → c < 1 + (width k + width v) → IsMoreBy (length (cells (map_of k v o) c (cell ∷ []))) (get_or old (place + c) 0) (get_or new (place + c) 0)
+  map_added zero l =
+      let e : place + 0 ≡ place = omega arith in
+      let n = r.others place (inl (omega arith)) in
+      let m = q.others place (inl (omega arith)) in
+      rw (e, n, m) p.added
+  map_added (suc c) l =
+      elim (leb_tells (suc c) (width k)) [
+        | inl t ↦
+            let e : place + suc c ≡ (place + 1) + c = omega arith in
+            let f : cells k c (flat_map keys_in (values (cell ∷ []))) ≡ cells k c (keys_in cell) = ap (cells k c) (keys_values (cell ∷ []) ∙ append-nil (keys_in cell)) in
+            let n = r.others ((place + 1) + c) (inl (omega (arith, t.1))) in
+            let m = p.others ((place + 1) + c) (λ w. omega (arith, w)) in
+            rw (t.0, f, e, n, ← m) (q.added c t.1)
+        | inr t ↦
+            let e : place + suc c ≡ (place + 1 + width k) + (c - width k) = omega (arith, t.1) in
+            let f : cells v (c - width k) (flat_map values_in (values (cell ∷ []))) ≡ cells v (c - width k) (values_in cell) = ap (cells v (c - width k)) (values_values (cell ∷ []) ∙ append-nil (values_in cell)) in
+            let n = q.others ((place + 1 + width k) + (c - width k)) (inr (omega arith)) in
+            let m = p.others ((place + 1 + width k) + (c - width k)) (λ w. omega (arith, w)) in
+            rw (t.0, f, e, ← m, ← n) (r.added (c - width k) (omega (arith, l, t.1)))
+      ]
+
+  pub adds_map : AddsCells (map_of k v o) place (cell ∷ []) old new
+  adds_map = record {
+    same = r.same ∙ q.same ∙ p.same;
+    added = map_added;
+    others = λ i h.
+        r.others i (elim h [ inl a ↦ inl (omega arith) | inr b ↦ inr (omega arith) ])
+        ∙ q.others i (elim h [ inl a ↦ inl (omega arith) | inr b ↦ inr (omega arith) ])
+        ∙ p.others i (λ w. elim h [ inl a ↦ omega arith | inr b ↦ omega arith ]);
+  }
+
 -- a struct with no parts
 no_parts : (fs : Fields) (c : ℕ) → cells_within fs c ([] ∷ []) ≡ []
 no_parts no_field c = refl
@@ -83,6 +118,7 @@ one_struct fs c null = no_structs fs c ∙ sym (no_parts fs c)
 one_struct fs c (leaf a) = refl
 one_struct fs c (list cs) = refl
 one_struct fs c (struct cs) = refl
+one_struct fs c (pairs ps) = refl
 
 module _ (fs : Fields) (o : List ℕ) (place : ℕ) (cell : Cell) (old mid new : List ℕ) (p : AddsOne place old mid) (q : AddsFields fs (place + 1) (parts cell) mid new) where
   struct_added : (c : ℕ) → c < 1 + widths fs → IsMoreBy (length (cells (struct_of fs o) c (cell ∷ []))) (get_or old (place + c) 0) (get_or new (place + c) 0)
@@ -139,6 +175,10 @@ module _ (name : List ℕ) (s : Shape) (fs : Fields) (place : ℕ) (part : Cell)
 pub list_counted : (x s : Shape) (o : List ℕ) (place : ℕ) (cell : Cell) (old mid new : List ℕ) → x ≡ list_of s o → AddsOne place old mid → AddsCells s (place + 1) (parts cell) mid new → AddsCells x place (cell ∷ []) old new
 list_counted x s o place cell old mid new e p q = rw e (adds_list s o place cell old mid new p q)
 
+pub map_counted : (x k v : Shape) (o : List ℕ) (place : ℕ) (cell : Cell) (old one mid new : List ℕ) → x ≡ map_of k v o → AddsOne place old one
+    → AddsCells k (place + 1) (keys_in cell) one mid → AddsCells v (place + 1 + width k) (values_in cell) mid new → AddsCells x place (cell ∷ []) old new
+map_counted x k v o place cell old one mid new e p q r = rw e (adds_map k v o place cell old one mid new p q r)
+
 pub struct_counted : (x : Shape) (fs : Fields) (o : List ℕ) (place : ℕ) (cell : Cell) (old mid new : List ℕ) → x ≡ struct_of fs o → AddsOne place old mid → AddsFields fs (place + 1) (parts cell) mid new → AddsCells x place (cell ∷ []) old new
 struct_counted x fs o place cell old mid new e p q = rw e (adds_struct fs o place cell old mid new p q)
 
@@ -153,6 +193,19 @@ part_counted s place rows i r old mid new l is p q =
     let t : take (i + 1) rows ≡ take i rows ++ r ∷ [] = ap (λ n. take n rows) (add-one i) ∙ take-suc rows i r l ∙ ap (λ x. take i rows ++ x ∷ []) (sym is) in
     let e : views (take (i + 1) rows) ≡ views (take i rows) ++ view r ∷ [] = ap views t ∙ map-append view (take i rows) (r ∷ []) in
     rw e (adds_more s place (views (take i rows)) (view r ∷ []) old mid new p q)
+
+-- a pair more, of which one part is counted
+pub pair_counted : (f : Cell × Cell → Cell) (s : Shape) (place : ℕ) (ps : List MapPair) (i : ℕ) (p : MapPair) (c : Cell) (old mid new : List ℕ) → i < length ps → p ≡ get_or ps i p → f (paired p) ≡ c
+    → AddsCells s place (map f (map paired (take i ps))) old mid → AddsCells s place (c ∷ []) mid new → AddsCells s place (map f (map paired (take (i + 1) ps))) old new
+pair_counted f s place ps i p c old mid new l is own before now =
+    let t : take (i + 1) ps ≡ take i ps ++ p ∷ [] = ap (λ n. take n ps) (add-one i) ∙ take-suc ps i p l ∙ ap (λ x. take i ps ++ x ∷ []) (sym is) in
+    let e : map f (map paired (take (i + 1) ps)) ≡ map f (map paired (take i ps)) ++ c ∷ [] =
+    ap (λ x. map f (map paired x)) t ∙ ap (map f) (map-append paired (take i ps) (p ∷ [])) ∙ map-append f (map paired (take i ps)) (paired p ∷ []) ∙ ap (λ x. map f (map paired (take i ps)) ++ x ∷ []) own in
+    rw e (adds_more s place (map f (map paired (take i ps))) (c ∷ []) old mid new before now)
+
+-- all pairs
+pub pairs_counted : (f : Cell × Cell → Cell) (s : Shape) (place : ℕ) (ps : List MapPair) (i : ℕ) (old new : List ℕ) → length ps ≤ i → AddsCells s place (map f (map paired (take i ps))) old new → AddsCells s place (map f (map paired ps)) old new
+pairs_counted f s place ps i old new l p = rw (take_all i ps l) at p
 
 -- all parts
 pub parts_counted : (s : Shape) (place : ℕ) (rows : List (Option Value)) (i : ℕ) (old new : List ℕ) → length rows ≤ i → AddsCells s place (views (take i rows)) old new → AddsCells s place (views rows) old new

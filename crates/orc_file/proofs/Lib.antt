@@ -22,6 +22,7 @@ pub mod Spread
 pub mod WriterLemmas
 pub mod PushLemmas
 pub mod TailLimits
+pub mod ChildrenRoom
 pub mod WrittenBits
 pub mod WrittenLaws
 pub mod OneWritten

@@ -18,7 +18,7 @@ use Rattle.orc_stats.specs.declared.kind.StatKind.TheVariants as kind
 use Rattle.orc_stats.specs.declared.stat.Stat.{Stat}
 use Rattle.orc_stats.specs.declared.stat.Body.{Body}
 use Rattle.orc_stats.specs.Kinds.{body_is_of}
-use Rattle.orc_stats.specs.Messages.{unknown, body_read, ints_body, dates_body, texts_body, bins_body, bools_body, stat_read, in_limits, IsStat}
+use Rattle.orc_stats.specs.Messages.{unknown, body_read, ints_body, dates_body, texts_body, bins_body, bools_body, children_body, stat_read, in_limits, IsStat}
 use Rattle.orc_file.specs.Layout.{footer_bytes, metadata_bytes, metadata_place}
 use Rattle.orc_file.specs.Stripes.{stripe_tests, stripe_end, most_stripe_rows, AllBefore}
 use Rattle.orc_file.specs.Statistics.{kind_at, stats_read, stripe_stats_read, have_few, AreOfColumns, AreStats}
@@ -36,6 +36,7 @@ unknown_is kind.Bools = refl
 unknown_is kind.Dates = refl
 unknown_is kind.Texts = refl
 unknown_is kind.Bins = refl
+unknown_is kind.Children = refl
 
 by_option : {X : Type 0} (k : StatKind) (f : Option X → Body) → body_is_of k (f None) ≡ true → ((x : X) → body_is_of k (f (Some x)) ≡ true) → (o : Option X) → body_is_of k (f o) ≡ true
 by_option k f none some None = none
@@ -48,6 +49,7 @@ read_is kind.Bools m = by_option kind.Bools bools_body refl (λ r. refl) m.bucke
 read_is kind.Dates m = by_option kind.Dates dates_body refl (λ r. refl) m.date_statistics
 read_is kind.Texts m = by_option kind.Texts texts_body refl (λ r. refl) m.string_statistics
 read_is kind.Bins m = by_option kind.Bins bins_body refl (λ r. refl) m.binary_statistics
+read_is kind.Children m = by_option kind.Children children_body refl (λ r. refl) m.collection_statistics
 
 either_is : (k : StatKind) (b : Bool) (x y : Body) → body_is_of k x ≡ true → body_is_of k y ≡ true → body_is_of k (if b then x else y) ≡ true
 either_is k true x y p q = p

@@ -7,7 +7,7 @@ use Rattle.orc_wire.specs.Members.{Member}
 use Rattle.orc_wire.specs.Messages.{post_script, footer, metadata}
 use Rattle.orc_wire.specs.Spells.{Spells}
 use Rattle.orc_wire.specs.Canonical.{Canonical}
-use Rattle.orc_wire.specs.CanonicalMessages.{post_script_text, footer_text, metadata_text, column_stats_text, stripe_stats_text, integer_stats_text, string_stats_text, bucket_stats_text, date_stats_text, binary_stats_text, type_text}
+use Rattle.orc_wire.specs.CanonicalMessages.{post_script_text, footer_text, metadata_text, column_stats_text, collection_stats_text, stripe_stats_text, integer_stats_text, string_stats_text, bucket_stats_text, date_stats_text, binary_stats_text, type_text}
 use Rattle.orc_wire.specs.declared.column_stats.ColumnStats.{ColumnStats}
 use Rattle.orc_wire.specs.declared.column_stats.StripeStatistics.{StripeStatistics}
 use Rattle.orc_wire.specs.declared.column_stats.Metadata.{Metadata}
@@ -19,14 +19,15 @@ use Rattle.orc_wire.specs.declared.stats_records.StringStatistics.{StringStatist
 use Rattle.orc_wire.specs.declared.stats_records.BucketStatistics.{BucketStatistics}
 use Rattle.orc_wire.specs.declared.stats_records.DateStatistics.{DateStatistics}
 use Rattle.orc_wire.specs.declared.stats_records.BinaryStatistics.{BinaryStatistics}
+use Rattle.orc_wire.specs.declared.stats_records.CollectionStatistics.{CollectionStatistics}
 use Rattle.orc_types.specs.Shapes.{Shape}
 use Rattle.orc_types.specs.Schemas.{HasTypes}
 use Rattle.orc_stats.specs.declared.kind.StatKind.{StatKind}
 use Rattle.orc_stats.specs.declared.kind.StatKind.TheVariants as kind
 use Rattle.orc_stats.specs.declared.stat.Stat.{Stat}
 use Rattle.orc_stats.specs.declared.stat.Body.{Body}
-use Rattle.orc_stats.specs.Messages.{unknown, body_read, ints_body, dates_body, texts_body, bins_body, bools_body, first_of, stat_read, message_of}
-use Rattle.orc_stats.specs.Messages.{bins_record, bools_record, int_record, text_record, bucket_record, date_record, bin_record}
+use Rattle.orc_stats.specs.Messages.{unknown, body_read, ints_body, dates_body, texts_body, bins_body, bools_body, children_body, first_of, stat_read, message_of}
+use Rattle.orc_stats.specs.Messages.{bins_record, bools_record, int_record, text_record, bucket_record, date_record, bin_record, collection_record}
 use Rattle.orc_file.specs.Layout.{footer_bytes, metadata_bytes}
 use Rattle.orc_file.specs.Statistics.{kind_at, stats_read, stripe_stats_read}
 use Rattle.orc_file.specs.Tails.{IsTail, end_tests, footer_tests, metadata_tests, tail_of}
@@ -42,55 +43,61 @@ abbrev pub BodyBits : Body → Type 0
 BodyBits b = IfSome (int_record b) integer_stats_text.bounded
     × (IfSome (text_record b) string_stats_text.bounded
     × (IfSome (bucket_record b) bucket_stats_text.bounded
-    × (IfSome (date_record b) date_stats_text.bounded × IfSome (bin_record b) binary_stats_text.bounded)))
+    × (IfSome (date_record b) date_stats_text.bounded × (IfSome (bin_record b) binary_stats_text.bounded × IfSome (collection_record b) collection_stats_text.bounded))))
 
 pub where_so : {X : Type 0} (P : X → Type 0) (b : Bool) (x : X) → P x → IfSome (if b then Some x else None) P
 where_so P true x h = h
 where_so P false x h = tt
 
 unknown_bits : (k : StatKind) → BodyBits (unknown k)
-unknown_bits kind.Plain = (tt, (tt, (tt, (tt, tt))))
-unknown_bits kind.Ints = (tt, (tt, (tt, (tt, tt))))
-unknown_bits kind.Bools = (tt, (tt, (tt, (tt, tt))))
-unknown_bits kind.Dates = (tt, (tt, (tt, (tt, tt))))
-unknown_bits kind.Texts = (tt, (tt, (tt, (tt, tt))))
-unknown_bits kind.Bins = (tt, (tt, (tt, (tt, tt))))
+unknown_bits kind.Plain = (tt, (tt, (tt, (tt, (tt, tt)))))
+unknown_bits kind.Ints = (tt, (tt, (tt, (tt, (tt, tt)))))
+unknown_bits kind.Bools = (tt, (tt, (tt, (tt, (tt, tt)))))
+unknown_bits kind.Dates = (tt, (tt, (tt, (tt, (tt, tt)))))
+unknown_bits kind.Texts = (tt, (tt, (tt, (tt, (tt, tt)))))
+unknown_bits kind.Bins = (tt, (tt, (tt, (tt, (tt, tt)))))
+unknown_bits kind.Children = (tt, (tt, (tt, (tt, (tt, tt)))))
 
 ints_bits : (o : Option IntegerStatistics) → IfSome o integer_stats_text.bounded → BodyBits (ints_body o)
-ints_bits None h = (tt, (tt, (tt, (tt, tt))))
-ints_bits (Some r) h = (where_so integer_stats_text.bounded _ _ h, (tt, (tt, (tt, tt))))
+ints_bits None h = (tt, (tt, (tt, (tt, (tt, tt)))))
+ints_bits (Some r) h = (where_so integer_stats_text.bounded _ _ h, (tt, (tt, (tt, (tt, tt)))))
 
 texts_bits : (o : Option StringStatistics) → IfSome o string_stats_text.bounded → BodyBits (texts_body o)
-texts_bits None h = (tt, (tt, (tt, (tt, tt))))
-texts_bits (Some r) h = (tt, (where_so string_stats_text.bounded _ _ h, (tt, (tt, tt))))
+texts_bits None h = (tt, (tt, (tt, (tt, (tt, tt)))))
+texts_bits (Some r) h = (tt, (where_so string_stats_text.bounded _ _ h, (tt, (tt, (tt, tt)))))
 
 dates_bits : (o : Option DateStatistics) → IfSome o date_stats_text.bounded → BodyBits (dates_body o)
-dates_bits None h = (tt, (tt, (tt, (tt, tt))))
-dates_bits (Some r) h = (tt, (tt, (tt, (where_so date_stats_text.bounded _ _ h, tt))))
+dates_bits None h = (tt, (tt, (tt, (tt, (tt, tt)))))
+dates_bits (Some r) h = (tt, (tt, (tt, (where_so date_stats_text.bounded _ _ h, (tt, tt)))))
 
 sum_bits : (sum : Option ℤ) → binary_stats_text.bounded (record { sum = sum }) → IfSome (bins_record sum) binary_stats_text.bounded
 sum_bits None h = tt
 sum_bits (Some n) h = h
 
 bins_bits : (o : Option BinaryStatistics) → IfSome o binary_stats_text.bounded → BodyBits (bins_body o)
-bins_bits None h = (tt, (tt, (tt, (tt, tt))))
-bins_bits (Some r) h = (tt, (tt, (tt, (tt, sum_bits r.sum h))))
+bins_bits None h = (tt, (tt, (tt, (tt, (tt, tt)))))
+bins_bits (Some r) h = (tt, (tt, (tt, (tt, (sum_bits r.sum h, tt)))))
 
 first_bits : (counts : List ℕ) → bucket_stats_text.bounded (record { count = counts }) → IfSome (bools_record (first_of counts)) bucket_stats_text.bounded
 first_bits [] h = tt
 first_bits (n ∷ ns) h = (h.0, tt)
 
 bools_bits : (o : Option BucketStatistics) → IfSome o bucket_stats_text.bounded → BodyBits (bools_body o)
-bools_bits None h = (tt, (tt, (tt, (tt, tt))))
-bools_bits (Some r) h = (tt, (tt, (first_bits r.count h, (tt, tt))))
+bools_bits None h = (tt, (tt, (tt, (tt, (tt, tt)))))
+bools_bits (Some r) h = (tt, (tt, (first_bits r.count h, (tt, (tt, tt)))))
+
+children_bits : (o : Option CollectionStatistics) → IfSome o collection_stats_text.bounded → BodyBits (children_body o)
+children_bits None h = (tt, (tt, (tt, (tt, (tt, tt)))))
+children_bits (Some r) h = (tt, (tt, (tt, (tt, (tt, where_so collection_stats_text.bounded _ _ h)))))
 
 body_bits : (k : StatKind) (m : ColumnStats) → column_stats_text.bounded m → BodyBits (body_read k m)
-body_bits kind.Plain m h = (tt, (tt, (tt, (tt, tt))))
+body_bits kind.Plain m h = (tt, (tt, (tt, (tt, (tt, tt)))))
 body_bits kind.Ints m h = ints_bits m.int_statistics h.1.0
 body_bits kind.Texts m h = texts_bits m.string_statistics h.1.1.0
 body_bits kind.Bools m h = bools_bits m.bucket_statistics h.1.1.1.0
 body_bits kind.Dates m h = dates_bits m.date_statistics h.1.1.1.1.0
 body_bits kind.Bins m h = bins_bits m.binary_statistics h.1.1.1.1.1.0
+body_bits kind.Children m h = children_bits m.collection_statistics h.1.1.1.1.1.1.1
 
 either_bits : (b : Bool) (x y : Body) → BodyBits x → BodyBits y → BodyBits (if b then x else y)
 either_bits true x y p q = p
@@ -100,7 +107,7 @@ either_bits false x y p q = q
 stat_bits : (k : StatKind) (m : ColumnStats) → column_stats_text.bounded m → column_stats_text.bounded (message_of (stat_read k m))
 stat_bits k m h =
     let b = either_bits (m.number_of_values == 0) (unknown k) (body_read k m) (unknown_bits k) (body_bits k m h) in
-    (h.0, (b.0, (b.1.0, (b.1.1.0, (b.1.1.1.0, (b.1.1.1.1, h.1.1.1.1.1.1))))))
+    (h.0, (b.0, (b.1.0, (b.1.1.0, (b.1.1.1.0, (b.1.1.1.1.0, (h.1.1.1.1.1.1.0, b.1.1.1.1.1)))))))
 
 stats_bits : (s : Shape) (column : ℕ) (ms : List ColumnStats) → AllByRecursion column_stats_text.bounded ms
     → AllByRecursion (λ x. column_stats_text.bounded (message_of x)) (stats_read s column ms)

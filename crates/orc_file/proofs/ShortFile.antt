@@ -37,14 +37,14 @@ stripe_stats_short options s at c h =
     each_got (λ x. HasShortTexts (length c.bytes) x.body) (column_stat s c.rows) c.stats (λ k l. have.each k (omega (arith, l, n)))
     (λ k l. body_short (length c.bytes) (kind_at s k) (cells s k c.rows) (stripe_short s c.info c.bytes c.rows (length c.bytes) k h.read (omega arith) (omega (arith, l, n))))
 
-stripe_message_most : (options : Options) (s : Shape) (at : ℕ) (c : Closed) → width s ≤ 4096 → IsClosed options s at c → length (stripe_stats_text.text (stripe_message c.stats)) ≤ 4096 * (370 + 2 * length c.bytes)
+stripe_message_most : (options : Options) (s : Shape) (at : ℕ) (c : Closed) → width s ≤ 4096 → IsClosed options s at c → length (stripe_stats_text.text (stripe_message c.stats)) ≤ 4096 * (450 + 2 * length c.bytes)
 stripe_message_most options s at c columns h =
     let have = h.counted in let n = have.counted in
     stats_most 1 (length c.bytes) c.stats (omega (arith, n, columns)) (stripe_stats_short options s at c h)
 
 -- those of all stripes: a field with its key and length for each
 metadata_most : (options : Options) (s : Shape) (at : ℕ) (cs : List Closed) → width s ≤ 4096 → AreClosed options s at cs
-    → length (list_text (λ m. sized (stripe_stats_text.text m)) 1 (map stripe_message (stats_of cs))) ≤ 1515540 * length cs + 8192 * length (bytes_of cs)
+    → length (list_text (λ m. sized (stripe_stats_text.text m)) 1 (map stripe_message (stats_of cs))) ≤ 1843220 * length cs + 8192 * length (bytes_of cs)
 metadata_most options s at [] columns h = omega arith
 metadata_most options s at (c ∷ cs) columns h =
     let own = stripe_stats_text.text (stripe_message c.stats) in
@@ -93,7 +93,7 @@ module _ (options : Options) (s : Shape) (tail : Tail) (bytes : List ℕ) (rows 
   metadata_short : length (metadata_text.text (metadata_of (written_tail options s (infos_of h.closed) (stats_of h.closed)))) ≤ 2 ^ 54
   metadata_short = let count = schema.count in let m = metadata_most options s 3 h.closed count h.are in omega (arith, m, stripe_bytes, stripes)
 
-  columns_short : length (list_text (λ m. sized (column_stats_text.text m)) 7 (map message_of (file_stats s (stats_of h.closed)))) ≤ 4096 * (370 + 2 * 2 ^ 40)
+  columns_short : length (list_text (λ m. sized (column_stats_text.text m)) 7 (map message_of (file_stats s (stats_of h.closed)))) ≤ 4096 * (450 + 2 * 2 ^ 40)
   columns_short =
       let f = λ (k : ℕ). joining.joined (kind_at s k) (column_stats k (stats_of h.closed)) in let count = schema.count in let l = length-of_columns f 0 (width s) in
       stats_most 7 (2 ^ 40) (file_stats s (stats_of h.closed)) (omega (arith, l, count))

@@ -5,13 +5,13 @@ use Rattle.std.specs.List.{AllByRecursion, list_all}
 use Rattle.std.specs.Option.{IfSome}
 use Rattle.std.proofs.lemmas.List.{length-map}
 use Rattle.orc_wire.specs.CanonicalKinds.{le_yes}
-use Rattle.orc_wire.specs.CanonicalMessages.{column_stats_text, integer_stats_text, string_stats_text, bucket_stats_text, date_stats_text, binary_stats_text}
-use Rattle.orc_wire.proofs.WholeLaws.{column_whole, integer_shown, string_shown, bucket_shown, date_shown, binary_shown}
+use Rattle.orc_wire.specs.CanonicalMessages.{column_stats_text, integer_stats_text, string_stats_text, bucket_stats_text, date_stats_text, binary_stats_text, collection_stats_text}
+use Rattle.orc_wire.proofs.WholeLaws.{column_whole, integer_shown, string_shown, bucket_shown, date_shown, binary_shown, collection_shown}
 use Rattle.orc_types.specs.Shapes.{Shape, width}
 use Rattle.orc_stats.specs.declared.stat.Stat.{Stat}
 use Rattle.orc_stats.specs.declared.stat.Body.{Body}
 use Rattle.orc_stats.specs.declared.stat.Body.TheVariants as body
-use Rattle.orc_stats.specs.Messages.{message_of, in_limits, ints_record, dates_record, texts_record, bins_record, bools_record, int_record, date_record, text_record, bucket_record, bin_record}
+use Rattle.orc_stats.specs.Messages.{message_of, in_limits, ints_record, dates_record, texts_record, bins_record, bools_record, children_record, int_record, date_record, text_record, bucket_record, bin_record, collection_record}
 use Rattle.orc_stats.proofs.ReadBack.{reads_back}
 use Rattle.orc_file.specs.Statistics.{kind_at, stats_read, stripe_stats_read, have_few, AreOfColumns, AreStats, stripe_message}
 
@@ -100,8 +100,18 @@ bin_part : (b : Body) → IfSome (bin_record b) (λ r. binary_stats_text.text r 
 bin_part (body.Bins s) = bins_shown s
 bin_part _ = tt
 
+children_shown : (l g t : Option ℕ) → IfSome (children_record l g t) (λ r. collection_stats_text.text r ≡ [] → ⊥)
+children_shown (Some l) g t = collection_shown (record { min_children = Some l; max_children = g; total_children = t }) (inl refl)
+children_shown None (Some g) t = collection_shown (record { min_children = None; max_children = Some g; total_children = t }) (inr (inl refl))
+children_shown None None (Some t) = collection_shown (record { min_children = None; max_children = None; total_children = Some t }) (inr (inr refl))
+children_shown None None None = tt
+
+collection_part : (b : Body) → IfSome (collection_record b) (λ r. collection_stats_text.text r ≡ [] → ⊥)
+collection_part (body.Children l g t) = children_shown l g t
+collection_part _ = tt
+
 stat_whole : (x : Stat) → column_stats_text.bounded (message_of x) → column_stats_text.whole (message_of x)
-stat_whole x can = column_whole (message_of x) (int_part x.body) (text_part x.body) (bucket_part x.body can.1.1.1.0) (date_part x.body) (bin_part x.body)
+stat_whole x can = column_whole (message_of x) (int_part x.body) (text_part x.body) (bucket_part x.body can.1.1.1.0) (date_part x.body) (bin_part x.body) (collection_part x.body)
 
 pub stats_whole : (xs : List Stat) → AllByRecursion (λ x. column_stats_text.bounded (message_of x)) xs → AllByRecursion column_stats_text.whole (map message_of xs)
 stats_whole [] h = tt

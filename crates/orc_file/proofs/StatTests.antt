@@ -5,7 +5,7 @@ use Rattle.std.specs.List.{AllByRecursion, All, list_all}
 use Rattle.std.proofs.lemmas.Bool.{lt-ltb, and_parts, eq-eqb}
 use Rattle.std.proofs.lemmas.List.Folds.{list_all-append}
 use Rattle.orc_types.specs.Shapes.{Shape, width, shape_at}
-use Rattle.orc_types.specs.Cells.{Cell, values, null, leaf, list, struct}
+use Rattle.orc_types.specs.Cells.{Cell, values, null, leaf, list, struct, pairs}
 use Rattle.orc_types.specs.Columns.{cells}
 use Rattle.orc_types.specs.Fits.{RowsFit}
 use Rattle.orc_types.proofs.Together.{cells_fit}
@@ -35,6 +35,7 @@ values_few (null ∷ cs) = let h = values_few cs in omega (arith, h)
 values_few (leaf a ∷ cs) = let h = values_few cs in omega (arith, h)
 values_few (list a ∷ cs) = let h = values_few cs in omega (arith, h)
 values_few (struct a ∷ cs) = let h = values_few cs in omega (arith, h)
+values_few (pairs a ∷ cs) = let h = values_few cs in omega (arith, h)
 
 pub are_of_kind : (s : Shape) (cs : List Cell) → RowsFit s cs → AllByRecursion (λ c. is_of (kind_of s) c ≡ true) cs
 are_of_kind s [] h = tt
@@ -47,6 +48,7 @@ unknown_is kind.Bools = refl
 unknown_is kind.Dates = refl
 unknown_is kind.Texts = refl
 unknown_is kind.Bins = refl
+unknown_is kind.Children = refl
 
 counted_or : (k : StatKind) (n : ℕ) (b : Body) → (n ≡ 0 → b ≡ unknown k) → (nat_lt 0 n || is_unknown b) ≡ true
 counted_or k zero b h = ap is_unknown (h refl) ∙ unknown_is k

@@ -51,6 +51,10 @@ unknown_body kind.Texts (body.Texts l g t) p q =
 unknown_body kind.Texts _ p q = cc
 unknown_body kind.Bins (body.Bins t) p q = ap body.Bins (none_is t q)
 unknown_body kind.Bins _ p q = cc
+unknown_body kind.Children (body.Children l g t) p q =
+    let a = and_parts (is_none l) (is_none g && is_none t) q in let b = and_parts (is_none g) (is_none t) a.1 in
+    rw (none_is l a.0, none_is g b.0, none_is t b.1) refl
+unknown_body kind.Children _ p q = cc
 
 or_other : (n : ℕ) (b : Bool) → n ≡ 0 → (nat_lt 0 n || b) ≡ true → b ≡ true
 or_other zero b e h = h

@@ -8,17 +8,18 @@ use Rattle.orc_bits.specs.Varint.{groups, varint_text}
 use Rattle.orc_bits.specs.Zigzag.{zig}
 use Rattle.orc_wire.specs.Fields.{varint, sized}
 use Rattle.orc_wire.specs.CanonicalText.{number_text, sized_text, some_text, known_text, list_text, shown_text, packed_text, varints_text, flag_number}
-use Rattle.orc_wire.specs.CanonicalMessages.{integer_stats_text, string_stats_text, bucket_stats_text, date_stats_text, binary_stats_text, column_stats_text}
+use Rattle.orc_wire.specs.CanonicalMessages.{integer_stats_text, string_stats_text, bucket_stats_text, date_stats_text, binary_stats_text, collection_stats_text, column_stats_text}
 use Rattle.orc_wire.specs.CanonicalMessages.{stripe_info_text}
 use Rattle.orc_wire.specs.declared.stripe_info.StripeInfo.{StripeInfo}
 use Rattle.orc_wire.specs.declared.stats_records.IntegerStatistics.{IntegerStatistics}
 use Rattle.orc_wire.specs.declared.stats_records.StringStatistics.{StringStatistics}
 use Rattle.orc_wire.specs.declared.stats_records.DateStatistics.{DateStatistics}
 use Rattle.orc_wire.specs.declared.stats_records.BinaryStatistics.{BinaryStatistics}
+use Rattle.orc_wire.specs.declared.stats_records.CollectionStatistics.{CollectionStatistics}
 use Rattle.orc_stats.specs.declared.stat.Stat.{Stat}
 use Rattle.orc_stats.specs.declared.stat.Body.{Body}
 use Rattle.orc_stats.specs.declared.stat.Body.TheVariants as body
-use Rattle.orc_stats.specs.Messages.{message_of, int_record, text_record, bucket_record, date_record, bin_record}
+use Rattle.orc_stats.specs.Messages.{message_of, int_record, text_record, bucket_record, date_record, bin_record, collection_record}
 use Rattle.orc_file.proofs.ReadBits.{where_so}
 
 -- ---- fields
@@ -110,6 +111,12 @@ dates_most r =
     let text = λ (n : ℕ) (o : Option ℤ). known_text (λ z. varint (zig z)) n o in
     omega (arith, length-append (text 1 r.minimum) (text 2 r.maximum), known_most zig 1 r.minimum, known_most zig 2 r.maximum)
 
+children_most : (r : CollectionStatistics) → length (collection_stats_text.text r) ≤ 60
+children_most r =
+    let text = λ (n : ℕ) (o : Option ℕ). known_text (λ v. varint v) n o in
+    let most = λ (n : ℕ) (o : Option ℕ). known_most (λ (v : ℕ). v) n o in
+    omega (arith, three (text 1 r.min_children) (text 2 r.max_children) (text 3 r.total_children), most 1 r.min_children, most 2 r.max_children, most 3 r.total_children)
+
 -- ---- a column's statistic
 
 -- the least and the greatest text have no more bytes than that
@@ -120,6 +127,7 @@ HasShortTexts most (body.Bools t) = Unit {0}
 HasShortTexts most (body.Dates l g) = Unit {0}
 HasShortTexts most (body.Texts l g s) = IfSome l (λ t. length t ≤ most) × IfSome g (λ t. length t ≤ most)
 HasShortTexts most (body.Bins s) = Unit {0}
+HasShortTexts most (body.Children l g t) = Unit {0}
 
 every : {A : Type 0} (P : A → Type 0) (o : Option A) → ((a : A) → P a) → IfSome o P
 every P None all = tt
@@ -134,6 +142,7 @@ text_record_most most (body.Texts l g s) h =
     let r : StringStatistics = record { minimum = l; maximum = g; sum = s } in
     where_so (λ (x : StringStatistics). length (string_stats_text.text x) ≤ 60 + 2 * most) _ r (texts_most most r h.0 h.1)
 text_record_most most (body.Bins s) h = tt
+text_record_most most (body.Children l g t) h = tt
 
 bucket_record_most : (b : Body) → IfSome (bucket_record b) (λ r. length (bucket_stats_text.text r) ≤ 30)
 bucket_record_most body.Plain = tt
@@ -143,14 +152,17 @@ bucket_record_most (body.Bools (Some n)) = bucket_most n
 bucket_record_most (body.Dates l g) = tt
 bucket_record_most (body.Texts l g s) = tt
 bucket_record_most (body.Bins s) = tt
+bucket_record_most (body.Children l g t) = tt
 
-pub stat_most : (most : ℕ) (x : Stat) → HasShortTexts most x.body → length (column_stats_text.text (message_of x)) ≤ 350 + 2 * most
+pub stat_most : (most : ℕ) (x : Stat) → HasShortTexts most x.body → length (column_stats_text.text (message_of x)) ≤ 430 + 2 * most
 stat_most most x h =
     let ints = int_record x.body in let texts = text_record x.body in let buckets = bucket_record x.body in let dates = date_record x.body in let bins = bin_record x.body in
+    let nulls = known_text (λ (b : Bool). varint (flag_number b)) 10 x.nulls in let children = collection_record x.body in
     omega (
       arith,
       seven (number_text 1 x.count) (shown_text integer_stats_text.text 2 ints) (shown_text string_stats_text.text 4 texts) (shown_text bucket_stats_text.text 5 buckets)
-          (shown_text date_stats_text.text 7 dates) (shown_text binary_stats_text.text 8 bins) (known_text (λ (b : Bool). varint (flag_number b)) 10 x.nulls),
+          (shown_text date_stats_text.text 7 dates) (shown_text binary_stats_text.text 8 bins) (nulls ++ shown_text collection_stats_text.text 12 children),
+      length-append nulls (shown_text collection_stats_text.text 12 children),
       number_most 1 x.count,
       shown_most integer_stats_text.text 2 60 ints (every _ ints ints_most),
       shown_most string_stats_text.text 4 (60 + 2 * most) texts (text_record_most most x.body h),
@@ -158,10 +170,11 @@ stat_most most x h =
       shown_most date_stats_text.text 7 40 dates (every _ dates dates_most),
       shown_most binary_stats_text.text 8 20 bins (every _ bins (λ (r : BinaryStatistics). known_most zig 1 r.sum)),
       known_most flag_number 10 x.nulls,
+      shown_most collection_stats_text.text 12 60 children (every _ children children_most),
     )
 
 all_stats_most : (most : ℕ) (xs : List Stat) → AllByRecursion (λ x. HasShortTexts most x.body) xs
-    → AllByRecursion (λ m. length (column_stats_text.text m) ≤ 350 + 2 * most) (map message_of xs)
+    → AllByRecursion (λ m. length (column_stats_text.text m) ≤ 430 + 2 * most) (map message_of xs)
 all_stats_most most [] h = tt
 all_stats_most most (x ∷ xs) h = (stat_most most x h.0, all_stats_most most xs h.1)
 
@@ -173,11 +186,11 @@ map_count f (x ∷ xs) = ap suc (map_count f xs)
 
 -- the statistics of no more columns than a schema has
 pub stats_most : (n most : ℕ) (xs : List Stat) → length xs ≤ 4096 → AllByRecursion (λ x. HasShortTexts most x.body) xs
-    → length (list_text (λ m. sized (column_stats_text.text m)) n (map message_of xs)) ≤ 4096 * (370 + 2 * most)
+    → length (list_text (λ m. sized (column_stats_text.text m)) n (map message_of xs)) ≤ 4096 * (450 + 2 * most)
 stats_most n most xs few h =
-    let sum = list_most column_stats_text.text n (350 + 2 * most) (map message_of xs) (all_stats_most most xs h) in
+    let sum = list_most column_stats_text.text n (430 + 2 * most) (map message_of xs) (all_stats_most most xs h) in
     let count = map_count message_of xs in
-    let times = mul-le-mul_left {m = length (map message_of xs)} {n = 4096} (20 + (350 + 2 * most)) (omega (arith, count, few)) in
+    let times = mul-le-mul_left {m = length (map message_of xs)} {n = 4096} (20 + (430 + 2 * most)) (omega (arith, count, few)) in
     omega (arith, sum, times)
 
 info_most : (i : StripeInfo) → length (stripe_info_text.text i) ≤ 100

@@ -7,7 +7,7 @@ use Rattle.std.proofs.lemmas.Bool.{lt-ltb, ltb-true, and_parts, eqb-true, eq-eqb
 use Rattle.std.proofs.lemmas.List.{map-append, take_all, take-append-drop, length-take-le}
 use Rattle.orc_written.specs.declared.options.Options.{Options}
 use Rattle.orc_wire.specs.declared.stripe_info.StripeInfo.{StripeInfo}
-use Rattle.orc_types.specs.Shapes.{Shape, scalar, list_of, struct_of, width}
+use Rattle.orc_types.specs.Shapes.{Shape, scalar, list_of, map_of, struct_of, width}
 use Rattle.orc_types.specs.Schemas.{IsSchema}
 use Rattle.orc_types.specs.Cells.{Cell, cells_of}
 use Rattle.orc_types.specs.Columns.{cells}
@@ -45,11 +45,13 @@ stripe_rows s info bytes rows h = h.spelled.counted
 all_rows : (s : Shape) (rows : List Cell) → cells s 0 rows ≡ rows
 all_rows (scalar k o) rows = refl
 all_rows (list_of s o) rows = refl
+all_rows (map_of k v o) rows = refl
 all_rows (struct_of fs o) rows = refl
 
 pub has_root : (s : Shape) → 0 < width s
 has_root (scalar k o) = omega arith
 has_root (list_of s o) = omega arith
+has_root (map_of k v o) = omega arith
 has_root (struct_of fs o) = omega arith
 
 -- the rows are the cells of the root

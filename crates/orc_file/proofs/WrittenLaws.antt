@@ -1,5 +1,5 @@
 -- A file that is written is a file with its tail and its rows, and its statistics are those of the rows.
-use Rattle.std.proofs.Common.{◌≡◌, ℕ, zero, suc, ◌+◌, ◌*◌, ◌<◌, ◌≤◌, ◌^◌, true, ltb, List, [], ◌∷◌, ◌++◌, length, map, take, drop, Some, refl, sym, ap, ◌∙◌, subst, arith, append_assoc, length-append}
+use Rattle.std.proofs.Common.{◌≡◌, ℕ, zero, suc, ◌+◌, ◌*◌, ◌<◌, ◌≤◌, ◌^◌, true, ltb, List, [], ◌∷◌, ◌++◌, length, map, take, drop, sum_by, Option, Some, refl, sym, ap, ◌∙◌, subst, arith, append_assoc, length-append}
 use Rattle.std.specs.Prelude.{◌==◌, slice_get}
 use Rattle.std.specs.List.{AllByRecursion, flat_map, list_all}
 use Rattle.std.proofs.lemmas.Bool.{lt-ltb, eq-eqb}
@@ -19,6 +19,11 @@ use Rattle.orc_stats.specs.Messages.{message_of}
 use Rattle.orc_stats.specs.Whole.{keeps_sum}
 use Rattle.orc_stats.specs.Joining as joining
 use Rattle.orc_stats.proofs.Parts.{joined-parts}
+use Rattle.orc_stats.proofs.KnownParts.{all-told}
+use Rattle.orc_stats.proofs.Agreed.{same_agrees}
+use Rattle.orc_stats.specs.Known.{known_whole}
+use Rattle.orc_stats.specs.declared.kind.StatKind.TheVariants as kind
+use Rattle.std.proofs.lemmas.List.Sums.{sum_by-append}
 use Rattle.orc_columns.specs.Stripe.{IsStripe}
 use Rattle.orc_written.specs.WrittenStripe.{AreFew, column_stat}
 use Rattle.orc_file.specs.Layout.{magic}
@@ -27,7 +32,7 @@ use Rattle.orc_file.specs.Statistics.{kind_at}
 use Rattle.orc_file.specs.Tails.{IsTail}
 use Rattle.orc_file.specs.Images.{image, tail_text, IsWithinLimits, HasBits}
 use Rattle.orc_file.specs.FileRows.{stripe_bytes, joined, AreOfStripes, HasRows, FileIs, cut_rows}
-use Rattle.orc_file.specs.Honest.{AreHonest, Honest, whole_of, AreWhole, HasWholeStats}
+use Rattle.orc_file.specs.Honest.{AreHonest, Honest, whole_of, told_at, known_whole_of, AreWhole, HasWholeStats}
 use Rattle.orc_file.specs.Counts.{are_laid_with_few_rows, are_stripe_stats, are_all_stats}
 use Rattle.orc_file.specs.Writing.{Closed, IsClosed, AreClosed, bytes_of, rows_of, infos_of, stats_of, of_columns, column_stats, file_stats, written_tail, IsWrittenFile}
 use Rattle.orc_file.specs.declared.tail.Tail.{Tail}
@@ -35,9 +40,10 @@ use Rattle.orc_file.proofs.WriterLemmas as writer
 use Rattle.orc_file.proofs.WriterLemmas.{both, root_rows, has_root, laid_places, all_length}
 use Rattle.orc_file.proofs.StatTests.{stripe_stats_are, are_of_kind, some_or}
 use Rattle.orc_file.proofs.TailLimits.{tail_within, length-of_columns}
-use Rattle.orc_file.proofs.WrittenBits.{version_bits, types_bits, cells_stat, cells_whole}
+use Rattle.orc_file.proofs.WrittenBits.{version_bits, types_bits, FewChildren, cells_stat, cells_whole}
 use Rattle.orc_file.proofs.ImageLaws.{image_is}
 use Rattle.orc_file.proofs.Seams.{between}
+use Rattle.orc_file.proofs.ChildrenRoom.{child_number, few_children}
 use Rattle.orc_file.proofs.HonestLemmas.{all_cells}
 use Rattle.orc_file.proofs.RowLemmas.{parts_cut}
 
@@ -121,7 +127,10 @@ rows_joined (c ∷ cs) = ap (λ x. c.rows ++ x) (rows_joined cs)
 
 are_honest : (options : Options) (s : Shape) (at : ℕ) (cs : List Closed) → AreClosed options s at cs → AreHonest s (parts_of cs) (stats_of cs)
 are_honest options s at [] h = tt
-are_honest options s at (c ∷ cs) h = (let i = h.0 in i.counted, are_honest options s (at + length c.bytes) cs h.1)
+are_honest options s at (c ∷ cs) h = (
+  let i = h.0 in let have = i.counted in record { counted = have.counted; each = λ k l. (column_stat s c.rows k, have.each k l, same_agrees (column_stat s c.rows k)) },
+  are_honest options s (at + length c.bytes) cs h.1,
+)
 
 -- ---- a column's statistics
 
@@ -152,20 +161,49 @@ module _ (options : Options) (s : Shape) (k : ℕ) (lt : k < width s) where
       let l = length-append (cells s k c.rows) (flat_map (λ p. p) (map (cells s k) (parts_of cs))) in
       omega (arith, few, rest, l)
 
+  -- all of them are told
+  told_is : (at : ℕ) (cs : List Closed) → AreClosed options s at cs → told_at (stats_of cs) k ≡ map (λ p. Some (stat (kind_at s k) p)) (map (cells s k) (parts_of cs))
+  told_is at [] h = refl
+  told_is at (c ∷ cs) h =
+      let i = h.0 in let have = i.counted in
+      ap (λ x. x ∷ told_at (stats_of cs) k) (have.each k lt)
+      ∙ ap (λ (x : List (Option Stat)). Some (column_stat s c.rows k) ∷ x) (told_is (at + length c.bytes) cs h.1)
+
+  known_stat : (at : ℕ) (cs : List Closed) → AreClosed options s at cs → length cs ≤ most_stripes → known_whole_of s (stats_of cs) (parts_of cs) k ≡ whole_of s (parts_of cs) k
+  known_stat at cs h most =
+      let few = cells_few at cs h in
+      ap (λ (t : List (Option Stat)). known_whole (kind_at s k) t (map (cells s k) (parts_of cs))) (told_is at cs h)
+      ∙ all-told (kind_at s k) (map (cells s k) (parts_of cs)) (of_kind at cs h) (omega (arith, few, most))
+
   -- joined, they are that of the whole file
   pub file_stat : (at : ℕ) (cs : List Closed) → AreClosed options s at cs → length cs ≤ most_stripes → joining.joined (kind_at s k) (column_stats k (stats_of cs)) ≡ whole_of s (parts_of cs) k
   file_stat at cs h most =
       let few = cells_few at cs h in
       ap (joining.joined (kind_at s k)) (column_is at cs h) ∙ joined-parts (kind_at s k) (map (cells s k) (parts_of cs)) (of_kind at cs h) (omega (arith, few, most))
 
+  -- the children are the cells of the column below
+  file_children : (at : ℕ) (cs : List Closed) → AreClosed options s at cs → kind_at s k ≡ kind.Children
+      → sum_by (child_number (shape_at s k)) (flat_map (λ p. p) (map (cells s k) (parts_of cs))) ≤ 2 ^ 31 * length cs
+  file_children at [] h e = omega arith
+  file_children at (c ∷ cs) h e =
+      let own = few_children s k lt c.rows e (few_cells options s at c h.0) in
+      let rest = file_children (at + length c.bytes) cs h.1 e in
+      let l = sum_by-append (child_number (shape_at s k)) (cells s k c.rows) (flat_map (λ p. p) (map (cells s k) (parts_of cs))) in
+      omega (arith, own, rest, l)
+
+  all_children : (at : ℕ) (cs : List Closed) → AreClosed options s at cs → length cs ≤ most_stripes → kind_at s k ≡ kind.Children
+      → sum_by (child_number (shape_at s k)) (flat_map (λ p. p) (map (cells s k) (parts_of cs))) < 2 ^ 64
+  all_children at cs h most e = let few = file_children at cs h e in omega (arith, few, most)
+
   file_bits : (at : ℕ) (cs : List Closed) → AreClosed options s at cs → length cs ≤ most_stripes → column_stats_text.bounded (message_of (joining.joined (kind_at s k) (column_stats k (stats_of cs))))
   file_bits at cs h most =
       let few = cells_few at cs h in
       let all = flat_map (λ p. p) (map (cells s k) (parts_of cs)) in
+      let room : FewChildren (kind_at s k) (shape_at s k) all = λ e. all_children at cs h most e in
       let same : cells s k (rows_of cs) ≡ all = ap (cells s k) (rows_joined cs) ∙ sym (all_cells s k (parts_of cs)) in
       let fit : RowsFit (shape_at s k) all = subst (λ (x : List Cell). RowsFit (shape_at s k) x) same (cells_fit s k (rows_of cs) lt (all_rows_fit options s at cs h)) in
       subst (λ (x : Stat). column_stats_text.bounded (message_of x)) (sym (file_stat at cs h most))
-      (cells_whole (shape_at s k) all fit (omega (arith, few, most)) (list_all (λ p. keeps_sum (stat (kind_at s k) p)) (map (cells s k) (parts_of cs))))
+      (cells_whole (shape_at s k) all room fit (omega (arith, few, most)) (list_all (λ p. keeps_sum (stat (kind_at s k) p)) (map (cells s k) (parts_of cs))))
 
 -- ---- the columns' statistics
 
@@ -189,7 +227,7 @@ stripe_bits options s at [] h = tt
 stripe_bits options s at (c ∷ cs) h =
     let i = h.0 in let have = i.counted in let n = have.counted in (
       each_got (λ x. column_stats_text.bounded (message_of x)) (column_stat s c.rows) c.stats (λ k l. have.each k (omega (arith, l, n)))
-          (λ k l. let lt : k < width s = omega (arith, l, n) in let few = few_cells options s at c h.0 k lt in cells_stat (shape_at s k) (cells s k c.rows) (cells_fit s k c.rows lt (rows_fit options s at c h.0)) (omega (arith, few))),
+          (λ k l. let lt : k < width s = omega (arith, l, n) in let few = few_cells options s at c h.0 k lt in cells_stat (shape_at s k) (cells s k c.rows) (λ e. let own = few_children s k lt c.rows e (few_cells options s at c h.0) in omega (arith, own)) (cells_fit s k c.rows lt (rows_fit options s at c h.0)) (omega (arith, few))),
       stripe_bits options s (at + length c.bytes) cs h.1,
     )
 
@@ -246,13 +284,13 @@ module _ (options : Options) (s : Shape) (tail : Tail) (bytes : List ℕ) (rows 
   written_honest =
       subst (λ (x : Tail). Honest x rows) (sym h.tail_is) (subst (λ (p : List (List Cell)). AreHonest s p (stats_of h.closed)) (sym cut_is) (are_honest options s 3 h.closed h.are))
 
-  are_whole : AreWhole s (parts_of h.closed) (file_stats s (stats_of h.closed))
+  are_whole : AreWhole s (stats_of h.closed) (parts_of h.closed) (file_stats s (stats_of h.closed))
   are_whole =
       let f = λ (k : ℕ). joining.joined (kind_at s k) (column_stats k (stats_of h.closed)) in
       record {
         counted = length-of_columns f 0 (width s);
-        each = λ k l. at_column f 0 (width s) k l ∙ ap Some (let z : 0 + k ≡ k = omega arith in ap f z ∙ file_stat options s k l 3 h.closed h.are most_closed);
+        each = λ k l. at_column f 0 (width s) k l ∙ ap Some (let z : 0 + k ≡ k = omega arith in ap f z ∙ file_stat options s k l 3 h.closed h.are most_closed ∙ sym (known_stat options s k l 3 h.closed h.are most_closed));
       }
 
   pub written_whole : HasWholeStats tail rows
-  written_whole = subst (λ (x : Tail). HasWholeStats x rows) (sym h.tail_is) (subst (λ (p : List (List Cell)). AreWhole s p (file_stats s (stats_of h.closed))) (sym cut_is) are_whole)
+  written_whole = subst (λ (x : Tail). HasWholeStats x rows) (sym h.tail_is) (subst (λ (p : List (List Cell)). AreWhole s (stats_of h.closed) p (file_stats s (stats_of h.closed))) (sym cut_is) are_whole)

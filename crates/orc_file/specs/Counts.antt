@@ -48,6 +48,7 @@ is_unknown (body.Bools t) = is_none t
 is_unknown (body.Dates l g) = is_none l && is_none g
 is_unknown (body.Texts l g t) = is_none l && (is_none g && is_none t)
 is_unknown (body.Bins t) = is_none t
+is_unknown (body.Children l g t) = is_none l && (is_none g && is_none t)
 
 -- a statistic of a stripe's column
 abbrev pub is_column_stat : StatKind → Stat → Bool

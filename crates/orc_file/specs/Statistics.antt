@@ -1,10 +1,10 @@
 -- Statistics of columns, as a tail holds them (ORC specification, "Column Statistics", "File Tail"): each
 -- by its column's number and kind.
-use Rattle.std.specs.Prelude.{ℕ, ◌+◌, ◌≤◌, nat_le, Bool, true, ◌&&◌, Option, Some, None, List, [], ◌∷◌, length, map}
+use Rattle.std.specs.Prelude.{ℕ, ◌+◌, ◌≤◌, nat_le, Bool, true, ◌&&◌, ◌||◌, ◌==◌, if◌then◌else◌, Option, Some, None, List, [], ◌∷◌, length, map}
 use Rattle.orc_wire.specs.declared.column_stats.ColumnStats.{ColumnStats}
 use Rattle.orc_wire.specs.declared.column_stats.StripeStatistics.{StripeStatistics}
 use Rattle.orc_types.specs.declared.kind.Scalar.{Scalar}
-use Rattle.orc_types.specs.Kinds.{scalar_of}
+use Rattle.orc_types.specs.Kinds.{scalar_of, list_number, map_number}
 use Rattle.orc_types.specs.Shapes.{Shape, width, shape_at}
 use Rattle.orc_stats.specs.declared.kind.StatKind.{StatKind}
 use Rattle.orc_stats.specs.declared.stat.Stat.{Stat}
@@ -12,14 +12,14 @@ use Rattle.orc_stats.specs.declared.kind.StatKind.TheVariants as kind
 use Rattle.orc_stats.specs.Kinds.{kind_of, kind_of_scalar}
 use Rattle.orc_stats.specs.Messages.{stat_read, message_of, IsStat}
 
--- what is counted of a type that contains no other, and of one that does
-abbrev pub kind_of_scalars : Option Scalar → StatKind
-kind_of_scalars None = kind.Plain
-kind_of_scalars (Some k) = kind_of_scalar k
+-- what is counted of a type that contains no other, and of one that does: of these LIST and MAP count something
+abbrev pub kind_of_scalars : ℕ → Option Scalar → StatKind
+kind_of_scalars n None = if (n == list_number) || (n == map_number) then kind.Children else kind.Plain
+kind_of_scalars n (Some k) = kind_of_scalar k
 
 -- what is counted of a column whose type's kind has this number
 abbrev pub kind_of_number : ℕ → StatKind
-kind_of_number n = kind_of_scalars (scalar_of n)
+kind_of_number n = kind_of_scalars n (scalar_of n)
 
 -- what is counted of a column
 abbrev pub kind_at : Shape → ℕ → StatKind

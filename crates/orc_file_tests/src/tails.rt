@@ -108,8 +108,8 @@ static TEXTS: [(FileFault, &str); 5] = [
     (FileFault::NotOrc, "file 1 NotOrc"),
     (FileFault::Compressed(1), "file 3 Compressed(1)"),
     (
-        FileFault::BadTypes(TypeFault::UnsupportedKind(11)),
-        "file 8 BadTypes: type 1 UnsupportedKind(11)",
+        FileFault::BadTypes(TypeFault::UnsupportedKind(5)),
+        "file 8 BadTypes: type 1 UnsupportedKind(5)",
     ),
     (
         FileFault::Stripe(

@@ -3,8 +3,8 @@ use Rattle.std.proofs.Common.{◌≡◌, ℕ, suc, ◌+◌, ◌≤◌, min, Bool
 use Rattle.std.proofs.lemmas.List.{length-map}
 use Rattle.std.proofs.lemmas.List.Sums.{sum_by-append, sum_by-cons}
 use Rattle.orc_seek.proofs.BitPositionLemmas.{has_bytes}
-use Rattle.orc_types.specs.Cells.{Cell, null, leaf, list, struct, is_value, parts, values}
-use Rattle.orc_types.specs.Shapes.{Shape, scalar, list_of, struct_of}
+use Rattle.orc_types.specs.Cells.{Cell, null, leaf, list, struct, pairs, is_value, parts, pairs_in, values}
+use Rattle.orc_types.specs.Shapes.{Shape, scalar, list_of, map_of, struct_of}
 use Rattle.orc_types.specs.declared.kind.Scalar.{Scalar}
 use Rattle.orc_types.specs.declared.kind.Scalar.TheVariants as kind
 use Rattle.orc_types.proofs.Together.{values-append}
@@ -42,6 +42,7 @@ octets_of_values (null ∷ cs) = octets_of_values cs ∙ sym (sum_by-cons octets
 octets_of_values (leaf a ∷ cs) = sum_by-cons octets_in (leaf a) (values cs) ∙ ap (λ (n : ℕ). octets_in (leaf a) + n) (octets_of_values cs) ∙ sym (sum_by-cons octets_in (leaf a) cs)
 octets_of_values (list xs ∷ cs) = sum_by-cons octets_in (list xs) (values cs) ∙ ap (λ (n : ℕ). octets_in (list xs) + n) (octets_of_values cs) ∙ sym (sum_by-cons octets_in (list xs) cs)
 octets_of_values (struct xs ∷ cs) = sum_by-cons octets_in (struct xs) (values cs) ∙ ap (λ (n : ℕ). octets_in (struct xs) + n) (octets_of_values cs) ∙ sym (sum_by-cons octets_in (struct xs) cs)
+octets_of_values (pairs ps ∷ cs) = sum_by-cons octets_in (pairs ps) (values cs) ∙ ap (λ (n : ℕ). octets_in (pairs ps) + n) (octets_of_values cs) ∙ sym (sum_by-cons octets_in (pairs ps) cs)
 
 pub stand_long : {X : Type 0} (stands : X → Cell → Type 0) (xs : List X) (cs : List Cell) → AllStand stands xs cs → length xs ≡ length cs
 stand_long stands [] [] h = refl
@@ -86,6 +87,7 @@ scalar_there kind.Binary x vs n h le = (map size h.0, h.2.0, omega (arith, le, s
 own_there : (s : Shape) (x : Streams) (vs : List Cell) (n : ℕ) → SpellsValues s x vs → n ≤ length vs → HasPlace (own_runs s x) n
 own_there (scalar k o) x vs n h le = scalar_there k x vs n h le
 own_there (list_of s o) x vs n h le = (map (λ v. size (parts v)) vs, h, omega (arith, le, length-map vs (λ (v : Cell). size (parts v))))
+own_there (map_of k v o) x vs n h le = (map (λ m. size (pairs_in m)) vs, h, omega (arith, le, length-map vs (λ (m : Cell). size (pairs_in m))))
 own_there (struct_of fs o) x vs n h le = tt
 
 text_content : (d : Bool) (x : Streams) (vs : List Cell) (n : ℕ) → SpellsTexts x d vs → n ≤ octets vs → HasOctets (text_octets d x) n
@@ -105,6 +107,7 @@ scalar_content kind.Binary x vs n h le = omega (arith, ap length h.2.1, stand_oc
 own_content : (s : Shape) (x : Streams) (vs : List Cell) (n : ℕ) → SpellsValues s x vs → n ≤ octets vs → HasOctets (own_octets s x) n
 own_content (scalar k o) x vs n h le = scalar_content k x vs n h le
 own_content (list_of s o) x vs n h le = tt
+own_content (map_of k v o) x vs n h le = tt
 own_content (struct_of fs o) x vs n h le = tt
 
 -- streams that spell a column's cells have the places behind each front of them

@@ -7,7 +7,7 @@ use Rattle.std.proofs.lemmas.Grind.{get_or_default_zero}
 use Rattle.std.proofs.lemmas.List.{length-map, take_all, take-append-drop, drop-take, take-map}
 use Rattle.orc_seek.specs.BitPosition.{IsBitPlace}
 use Rattle.orc_wire.specs.declared.row_index.RowIndexEntry.{RowIndexEntry}
-use Rattle.orc_types.specs.Cells.{Cell, null, leaf, list, struct, parts, values}
+use Rattle.orc_types.specs.Cells.{Cell, null, leaf, list, struct, pairs, parts, pairs_in, keys_in, values_in, values}
 use Rattle.orc_types.specs.Fits.{fits, RowsFit}
 use Rattle.orc_types.specs.Lent.{lent_cells}
 use Rattle.orc_types.specs.Shapes.{Shape}
@@ -20,7 +20,7 @@ use Rattle.orc_stats.specs.Statistics.{stat}
 use Rattle.orc_columns.specs.Starting.{AreStreams}
 use Rattle.orc_columns.specs.Stripe.{Streams, IsColumn}
 use Rattle.orc_columns.specs.declared.starting.ColumnStreams.{ColumnStreams}
-use Rattle.orc_index.specs.Bounds.{bound_at, AreBounds, before_group, group_of, elements_before, values_before}
+use Rattle.orc_index.specs.Bounds.{bound_at, AreBounds, before_group, group_of, elements_before, pairs_before, values_before}
 use Rattle.orc_index.specs.Places.{octets, PlacesIn, is_place, AreWrittenPlaces}
 use Rattle.orc_index.specs.RowIndex.{IsWrittenEntry, AreEntries}
 use Rattle.orc_index.specs.RunStreams.{RunStream, present_runs, own_octets}
@@ -104,19 +104,33 @@ bounds_map f rises count bounds h = λ group.
     let d = get_or-map f bounds (suc group) count in
     omega (arith, e, d, rises (bound_at count bounds group) (bound_at count bounds (suc group)) (h group))
 
-pub elements_more : (a b : List Cell) → length (flat_map parts (values (a ++ b))) ≡ length (flat_map parts (values a)) + length (flat_map parts (values b))
-elements_more a b =
-    ap (λ vs. length (flat_map parts vs)) (values-append a b) ∙ ap length (flat_map-append parts (values a) (values b)) ∙ length-append (flat_map parts (values a)) (flat_map parts (values b))
+-- what cells contain, by any rule: of more cells it is more
+contents_more : {X : Type 0} (inside : Cell → List X) (a b : List Cell) → length (flat_map inside (values (a ++ b))) ≡ length (flat_map inside (values a)) + length (flat_map inside (values b))
+contents_more inside a b =
+    ap (λ vs. length (flat_map inside vs)) (values-append a b) ∙ ap length (flat_map-append inside (values a) (values b)) ∙ length-append (flat_map inside (values a)) (flat_map inside (values b))
+
+-- so much do the first cells contain
+abbrev contents_before : {X : Type 0} → (Cell → List X) → List Cell → ℕ → ℕ
+contents_before inside cells bound = length (flat_map inside (values (take bound cells)))
+
+contents_between : {X : Type 0} (inside : Cell → List X) (cells : List Cell) (at start : ℕ) → at ≤ start
+    → contents_before inside cells start ≡ contents_before inside cells at + length (flat_map inside (values (take (start - at) (drop at cells))))
+contents_between inside cells at start le =
+    ap (λ cs. length (flat_map inside (values cs))) (cells_between cells at start le) ∙ contents_more inside (take at cells) (take (start - at) (drop at cells))
+
+contents_rise : {X : Type 0} (inside : Cell → List X) (cells : List Cell) (a b : ℕ) → a ≤ b → contents_before inside cells a ≤ contents_before inside cells b
+contents_rise inside cells a b le = omega (arith, contents_between inside cells a b le)
 
 pub elements_between : (cells : List Cell) (at start : ℕ) → at ≤ start
     → elements_before cells start ≡ elements_before cells at + length (flat_map parts (values (take (start - at) (drop at cells))))
-elements_between cells at start le = ap (λ cs. length (flat_map parts (values cs))) (cells_between cells at start le) ∙ elements_more (take at cells) (take (start - at) (drop at cells))
+elements_between = contents_between parts
+
+pub pairs_between : (cells : List Cell) (at start : ℕ) → at ≤ start
+    → pairs_before cells start ≡ pairs_before cells at + length (flat_map pairs_in (values (take (start - at) (drop at cells))))
+pairs_between = contents_between pairs_in
 
 pub values_between : (cells : List Cell) (at start : ℕ) → at ≤ start → values_before cells start ≡ values_before cells at + length (values (take (start - at) (drop at cells)))
 values_between cells at start le = ap (λ cs. length (values cs)) (cells_between cells at start le) ∙ values_more (take at cells) (take (start - at) (drop at cells))
-
-elements_rise : (cells : List Cell) (a b : ℕ) → a ≤ b → elements_before cells a ≤ elements_before cells b
-elements_rise cells a b le = omega (arith, elements_between cells a b le)
 
 values_rise : (cells : List Cell) (a b : ℕ) → a ≤ b → values_before cells a ≤ values_before cells b
 values_rise cells a b le = omega (arith, values_between cells a b le)
@@ -124,13 +138,38 @@ values_rise cells a b le = omega (arith, values_between cells a b le)
 whole_front : (cells : List Cell) → take (length cells) cells ≡ cells
 whole_front cells = take_all (length cells) cells (omega arith)
 
+contents_within : {X : Type 0} (inside : Cell → List X) (cells : List Cell) (a : ℕ) → a ≤ length cells → contents_before inside cells a ≤ length (flat_map inside (values cells))
+contents_within inside cells a le = omega (arith, contents_rise inside cells a (length cells) le, ap (λ cs. length (flat_map inside (values cs))) (whole_front cells))
+
 pub elements_within : (cells : List Cell) (a : ℕ) → a ≤ length cells → elements_before cells a ≤ length (flat_map parts (values cells))
-elements_within cells a le = omega (arith, elements_rise cells a (length cells) le, ap (λ cs. length (flat_map parts (values cs))) (whole_front cells))
+elements_within = contents_within parts
+
+pub pairs_within : (cells : List Cell) (a : ℕ) → a ≤ length cells → pairs_before cells a ≤ length (flat_map pairs_in (values cells))
+pairs_within = contents_within pairs_in
+
+content_bounds_are : {X : Type 0} (inside : Cell → List X) (cells : List Cell) (bounds : List ℕ) → AreBounds (length cells) bounds
+    → AreBounds (length (flat_map inside (values cells))) (map (contents_before inside cells) bounds)
+content_bounds_are inside cells bounds h =
+    subst (λ (n : ℕ). AreBounds n (map (contents_before inside cells) bounds)) (ap (λ cs. length (flat_map inside (values cs))) (whole_front cells))
+    (bounds_map (contents_before inside cells) (contents_rise inside cells) (length cells) bounds h)
 
 pub element_bounds_are : (cells : List Cell) (bounds : List ℕ) → AreBounds (length cells) bounds → AreBounds (length (flat_map parts (values cells))) (map (elements_before cells) bounds)
-element_bounds_are cells bounds h =
-    subst (λ (n : ℕ). AreBounds n (map (elements_before cells) bounds)) (ap (λ cs. length (flat_map parts (values cs))) (whole_front cells))
-    (bounds_map (elements_before cells) (elements_rise cells) (length cells) bounds h)
+element_bounds_are = content_bounds_are parts
+
+-- the keys of maps are as many as their pairs, and the values
+pub keys_long : (ms : List Cell) → length (flat_map keys_in ms) ≡ length (flat_map pairs_in ms)
+keys_long [] = refl
+keys_long (m ∷ ms) = omega (arith, length-append (keys_in m) (flat_map keys_in ms), length-append (pairs_in m) (flat_map pairs_in ms), length-map (pairs_in m) (λ (p : Cell × Cell). p.0), keys_long ms)
+
+pub map_values_long : (ms : List Cell) → length (flat_map values_in ms) ≡ length (flat_map pairs_in ms)
+map_values_long [] = refl
+map_values_long (m ∷ ms) = omega (arith, length-append (values_in m) (flat_map values_in ms), length-append (pairs_in m) (flat_map pairs_in ms), length-map (pairs_in m) (λ (p : Cell × Cell). p.1), map_values_long ms)
+
+pub key_bounds_are : (cells : List Cell) (bounds : List ℕ) → AreBounds (length cells) bounds → AreBounds (length (flat_map keys_in (values cells))) (map (pairs_before cells) bounds)
+key_bounds_are cells bounds h = subst (λ (n : ℕ). AreBounds n (map (pairs_before cells) bounds)) (sym (keys_long (values cells))) (content_bounds_are pairs_in cells bounds h)
+
+pub value_bounds_are : (cells : List Cell) (bounds : List ℕ) → AreBounds (length cells) bounds → AreBounds (length (flat_map values_in (values cells))) (map (pairs_before cells) bounds)
+value_bounds_are cells bounds h = subst (λ (n : ℕ). AreBounds n (map (pairs_before cells) bounds)) (sym (map_values_long (values cells))) (content_bounds_are pairs_in cells bounds h)
 
 pub field_bounds_are : (cells : List Cell) (bounds : List ℕ) → AreBounds (length cells) bounds → AreBounds (length (values cells)) (map (values_before cells) bounds)
 field_bounds_are cells bounds h =
@@ -277,3 +316,4 @@ values_few (null ∷ cs) = omega (arith, values_few cs)
 values_few (leaf a ∷ cs) = omega (arith, values_few cs)
 values_few (list xs ∷ cs) = omega (arith, values_few cs)
 values_few (struct xs ∷ cs) = omega (arith, values_few cs)
+values_few (pairs ps ∷ cs) = omega (arith, values_few cs)

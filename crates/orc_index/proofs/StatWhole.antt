@@ -2,13 +2,13 @@
 use Rattle.std.proofs.Common.{◌≡◌, ℕ, ◌≤◌, ◌^◌, nat_le, true, ℤ, List, [], ◌∷◌, Option, Some, None, refl, inl, inr, arith, leb-true}
 use Rattle.std.specs.Option.{IfSome}
 use Rattle.std.proofs.lemmas.Bool.{and_parts}
-use Rattle.orc_wire.specs.CanonicalMessages.{column_stats_text, integer_stats_text, string_stats_text, bucket_stats_text, date_stats_text, binary_stats_text}
-use Rattle.orc_wire.proofs.WholeLaws.{column_whole, integer_shown, string_shown, bucket_shown, date_shown, binary_shown}
+use Rattle.orc_wire.specs.CanonicalMessages.{column_stats_text, integer_stats_text, string_stats_text, bucket_stats_text, date_stats_text, binary_stats_text, collection_stats_text}
+use Rattle.orc_wire.proofs.WholeLaws.{column_whole, integer_shown, string_shown, bucket_shown, date_shown, binary_shown, collection_shown}
 use Rattle.orc_stats.specs.declared.stat.Stat.{Stat}
 use Rattle.orc_stats.specs.declared.stat.Body.{Body}
 use Rattle.orc_stats.specs.declared.stat.Body.TheVariants as body
 use Rattle.orc_stats.specs.Joining.{trues_of}
-use Rattle.orc_stats.specs.Messages.{message_of, few_trues, in_limits, ints_record, dates_record, texts_record, bins_record, bools_record, int_record, date_record, text_record, bucket_record, bin_record}
+use Rattle.orc_stats.specs.Messages.{message_of, few_trues, in_limits, ints_record, dates_record, texts_record, bins_record, bools_record, int_record, date_record, text_record, bucket_record, bin_record, children_record, collection_record}
 
 -- ---- a record stands where a part is known, and then its text isn't empty
 
@@ -37,6 +37,12 @@ bools_shown : (t : Option ℕ) → few_trues t ≡ true → IfSome (bools_record
 bools_shown (Some n) can = bucket_shown (record { count = n ∷ [] }) (let few : n ≤ 2 ^ 62 = leb-true n (2 ^ 62) can in (omega (arith, few), tt)) (λ e. let f : n ∷ [] ≡ [] = e in cc)
 bools_shown None can = tt
 
+children_shown : (l g t : Option ℕ) → IfSome (children_record l g t) (λ r. collection_stats_text.text r ≡ [] → ⊥)
+children_shown (Some l) g t = collection_shown (record { min_children = Some l; max_children = g; total_children = t }) (inl refl)
+children_shown None (Some g) t = collection_shown (record { min_children = None; max_children = Some g; total_children = t }) (inr (inl refl))
+children_shown None None (Some t) = collection_shown (record { min_children = None; max_children = None; total_children = Some t }) (inr (inr refl))
+children_shown None None None = tt
+
 int_part : (b : Body) → IfSome (int_record b) (λ r. integer_stats_text.text r ≡ [] → ⊥)
 int_part (body.Ints l g s) = ints_shown l g s
 int_part _ = tt
@@ -57,7 +63,11 @@ bin_part : (b : Body) → IfSome (bin_record b) (λ r. binary_stats_text.text r 
 bin_part (body.Bins s) = bins_shown s
 bin_part _ = tt
 
+collection_part : (b : Body) → IfSome (collection_record b) (λ r. collection_stats_text.text r ≡ [] → ⊥)
+collection_part (body.Children l g t) = children_shown l g t
+collection_part _ = tt
+
 pub stat_whole : (x : Stat) → in_limits x ≡ true → column_stats_text.whole (message_of x)
 stat_whole x h =
     let trues = (and_parts (nat_le x.count (2 ^ 62)) (few_trues (trues_of x.body)) h).1 in
-    column_whole (message_of x) (int_part x.body) (text_part x.body) (bucket_part x.body trues) (date_part x.body) (bin_part x.body)
+    column_whole (message_of x) (int_part x.body) (text_part x.body) (bucket_part x.body trues) (date_part x.body) (bin_part x.body) (collection_part x.body)

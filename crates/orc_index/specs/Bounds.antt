@@ -1,7 +1,7 @@
 -- The groups of a column's cells: how many cells come before each (ORC specification, "Row Group Index").
 use Rattle.std.specs.Prelude.{ℕ, suc, ◌≤◌, List, length, get_or, take, drop}
 use Rattle.std.specs.List.{flat_map}
-use Rattle.orc_types.specs.Cells.{Cell, parts, values}
+use Rattle.orc_types.specs.Cells.{Cell, parts, pairs_in, values}
 
 -- where a group of so many cells begins: at its bound, and behind the last group at the end
 abbrev pub bound_at : ℕ → List ℕ → ℕ → ℕ
@@ -23,6 +23,10 @@ group_of cells bounds group =
 -- the elements of the lists among the first cells
 abbrev pub elements_before : List Cell → ℕ → ℕ
 elements_before cells bound = length (flat_map parts (values (take bound cells)))
+
+-- the pairs of the maps among the first cells: so many keys, and so many values
+abbrev pub pairs_before : List Cell → ℕ → ℕ
+pairs_before cells bound = length (flat_map pairs_in (values (take bound cells)))
 
 -- the first cells that are not null
 abbrev pub values_before : List Cell → ℕ → ℕ

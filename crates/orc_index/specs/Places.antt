@@ -4,7 +4,7 @@ use Rattle.std.specs.Prelude.{◌≡◌, ℕ, ℤ, Option, Some, None, List, [],
 use Rattle.orc_rle.specs.ByteRun.{IsByteRun}
 use Rattle.orc_seek.specs.Position.{Begins, IsPlace}
 use Rattle.orc_seek.specs.BitPosition.{BeginsBits, IsBitPlace}
-use Rattle.orc_types.specs.Cells.{Cell, null, leaf, list, struct, bool, int, date, text, bytes, values}
+use Rattle.orc_types.specs.Cells.{Cell, null, leaf, list, struct, pairs, bool, int, date, text, bytes, values}
 use Rattle.orc_types.specs.Shapes.{Shape}
 use Rattle.orc_columns.specs.Numbers.{is_run}
 use Rattle.orc_columns.specs.Stripe.{Streams}
@@ -55,6 +55,7 @@ octets_in (leaf (text t)) = length t
 octets_in (leaf (bytes t)) = length t
 octets_in (list cs) = 0
 octets_in (struct cs) = 0
+octets_in (pairs ps) = 0
 
 -- how many those among the cells have together
 abbrev pub octets : List Cell → ℕ

@@ -2,7 +2,7 @@
 use Rattle.std.specs.Prelude.{ℕ, Bool, true, false, Option, Some, None, List, [], ◌∷◌}
 use Rattle.orc_rle.specs.declared.sign.Sign.{Sign}
 use Rattle.orc_rle.specs.declared.sign.Sign.TheVariants.{Signed, Unsigned}
-use Rattle.orc_types.specs.Shapes.{Shape, scalar, list_of, struct_of}
+use Rattle.orc_types.specs.Shapes.{Shape, scalar, list_of, map_of, struct_of}
 use Rattle.orc_types.specs.declared.kind.Scalar.{Scalar}
 use Rattle.orc_types.specs.declared.kind.Scalar.TheVariants as kind
 use Rattle.orc_rle.specs.declared.sign.Rle.{Rle}
@@ -42,6 +42,7 @@ scalar_runs kind.String x = text_runs (has_dictionary x) x
 abbrev pub own_runs : Shape → Streams → RunStream
 own_runs (scalar k o) x = scalar_runs k x
 own_runs (list_of s o) x = number_runs (version x) Unsigned (x.stream 2)
+own_runs (map_of k v o) x = number_runs (version x) Unsigned (x.stream 2)
 own_runs (struct_of fs o) x = no_stream
 
 abbrev pub kind_of_texts : Bool → StreamKind
@@ -62,6 +63,7 @@ kind_of_scalar kind.String d = kind_of_texts d
 abbrev pub kind_of_own : Shape → Bool → StreamKind
 kind_of_own (scalar k o) d = kind_of_scalar k d
 kind_of_own (list_of s o) d = stream.Length
+kind_of_own (map_of k v o) d = stream.Length
 kind_of_own (struct_of fs o) d = stream.Data
 
 abbrev pub text_octets : Bool → Streams → Option (List ℕ)
@@ -82,4 +84,5 @@ scalar_octets kind.String x = text_octets (has_dictionary x) x
 abbrev pub own_octets : Shape → Streams → Option (List ℕ)
 own_octets (scalar k o) x = scalar_octets k x
 own_octets (list_of s o) x = None
+own_octets (map_of k v o) x = None
 own_octets (struct_of fs o) x = None

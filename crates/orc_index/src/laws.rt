@@ -1,11 +1,11 @@
 //! Laws of row indexes as they are written. The function does nothing: its contract is what it is for.
 ghost use Rattle.std.specs.Prelude.{◌≡◌, ◌<◌, ℕ, List, map, length};
 ghost use Rattle.std.specs.List.{flat_map};
-ghost use Rattle.orc_types.specs.Cells.{Cell, parts, values};
+ghost use Rattle.orc_types.specs.Cells.{Cell, parts, keys_in, values_in, values};
 ghost use Rattle.orc_types.specs.Fits.{RowsFit};
 ghost use Rattle.orc_types.specs.Shapes.{Shape};
 ghost use Rattle.orc_columns.specs.Stripe.{Streams, cell_limit};
-ghost use Rattle.orc_index.specs.Bounds.{AreBounds, elements_before, values_before};
+ghost use Rattle.orc_index.specs.Bounds.{AreBounds, elements_before, pairs_before, values_before};
 ghost use Rattle.orc_index.specs.Places.{AreReadPlaces, AreWrittenPlaces};
 ghost use Rattle.orc_index.specs.RowIndex.{IsWrittenIndex, IsRightIndex};
 
@@ -32,6 +32,10 @@ pub fn index_laws()
         → IsRightIndex s x cells bounds text }
     ensures elements { (cells : List Cell) (bounds : List ℕ) → AreBounds (length cells) bounds
         → AreBounds (length (flat_map parts (values cells))) (map (elements_before cells) bounds) }
+    ensures keys { (cells : List Cell) (bounds : List ℕ) → AreBounds (length cells) bounds
+        → AreBounds (length (flat_map keys_in (values cells))) (map (pairs_before cells) bounds) }
+    ensures map_values { (cells : List Cell) (bounds : List ℕ) → AreBounds (length cells) bounds
+        → AreBounds (length (flat_map values_in (values cells))) (map (pairs_before cells) bounds) }
     ensures fields { (cells : List Cell) (bounds : List ℕ) → AreBounds (length cells) bounds
         → AreBounds (length (values cells)) (map (values_before cells) bounds) }
 {}

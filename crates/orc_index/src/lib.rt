@@ -13,7 +13,7 @@ mod run_bytes;
 mod walk;
 
 pub use between::cells_between;
-pub use bounds::{element_bounds, field_bounds};
+pub use bounds::{element_bounds, field_bounds, pair_bounds};
 pub use counting::counts_after;
 pub use counts::Counts;
 pub use laws::index_laws;

@@ -98,7 +98,7 @@ pub fn placed_streams<'a>(tree: &Tree, streams: &ColumnStreams<'a>) -> PlacedStr
             content: scalar_content(*kind, streams),
             own: scalar_stream(*kind, streams),
         },
-        Tree::List(_, _) => PlacedStreams {
+        Tree::List(_, _) | Tree::Map(_, _, _) => PlacedStreams {
             present,
             content: None,
             own: RunBytes::Numbers(streams.version, Sign::Unsigned, streams.lengths),
@@ -125,7 +125,7 @@ pub fn own_kind(tree: &Tree, has_dictionary: bool) -> StreamKind
         }
         Tree::Scalar(Scalar::Binary, _) => StreamKind::Length,
         Tree::Scalar(_, _) => StreamKind::Data,
-        Tree::List(_, _) => StreamKind::Length,
+        Tree::List(_, _) | Tree::Map(_, _, _) => StreamKind::Length,
         Tree::Struct(_, _) => StreamKind::Data,
     }
 }

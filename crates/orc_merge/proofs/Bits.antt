@@ -1,29 +1,30 @@
 -- The numbers of a merged tail have the bits of their fields.
 use Rattle.std.proofs.Common.{◌≡◌, ℕ, zero, suc, ◌+◌, ◌^◌, ◌<◌, ◌≤◌, ℤ, pos, negsuc, nat_le, Bool, true, false, if◌then◌else◌, List, [], ◌∷◌, ◌++◌, map}
 use Rattle.std.proofs.Common.{filter, sum_by, take, drop, Option, Some, None, refl, arith}
-use Rattle.std.specs.Prelude.{cond}
+use Rattle.std.specs.Prelude.{cond, nat_lt}
 use Rattle.std.specs.Option.{IfSome, option_map, option_and_then}
-use Rattle.std.specs.Ordering.{int_cmp, is_gt, flip_args}
+use Rattle.std.specs.Ordering.{int_cmp, nat_cmp, is_gt, flip_args}
 use Rattle.std.specs.declared.cmp.Ordering.{Ordering}
 use Rattle.std.specs.List.{AllByRecursion}
+use Rattle.std.proofs.lemmas.Bool.{ltb-true}
 use Rattle.std.proofs.lemmas.Bool.Decides.{nat_tests}
 use Rattle.orc_bits.specs.Zigzag.{zig}
 use Rattle.orc_wire.specs.declared.stripe_info.StripeInfo.{StripeInfo}
 use Rattle.orc_wire.specs.declared.footer.UserMetadataItem.{UserMetadataItem}
 use Rattle.orc_wire.specs.CanonicalFields.{some_top}
 use Rattle.orc_wire.specs.CanonicalMessages.{stripe_info_text, user_metadata_text, column_stats_text, integer_stats_text, string_stats_text}
-use Rattle.orc_wire.specs.CanonicalMessages.{bucket_stats_text, date_stats_text, binary_stats_text}
+use Rattle.orc_wire.specs.CanonicalMessages.{bucket_stats_text, date_stats_text, binary_stats_text, collection_stats_text}
 use Rattle.orc_types.specs.Fits.{signed_fits}
 use Rattle.orc_stats.specs.declared.kind.StatKind.{StatKind}
 use Rattle.orc_stats.specs.declared.kind.StatKind.TheVariants as kind
 use Rattle.orc_stats.specs.declared.stat.Stat.{Stat}
 use Rattle.orc_stats.specs.declared.stat.Body.{Body}
 use Rattle.orc_stats.specs.declared.stat.Body.TheVariants as body
-use Rattle.orc_stats.specs.Statistics.{onto, reduce, lower, least, exact_total, in_64, total}
+use Rattle.orc_stats.specs.Statistics.{onto, reduce, lower, least, exact_total, in_64, total, in_u64, children_total}
 use Rattle.orc_stats.specs.Joining.{parts_if_known, of_known, in_limit, trues_total, least_int, greatest_int, least_date, greatest_date, trues_of, sum_of}
-use Rattle.orc_stats.specs.Joining.{bodies_joined, has_values, valued_bodies, joined}
+use Rattle.orc_stats.specs.Joining.{least_children, greatest_children, total_children, bodies_joined, has_values, valued_bodies, joined}
 use Rattle.orc_stats.specs.Messages.{message_of, ints_record, dates_record, texts_record, bins_record, bools_record, int_record, date_record, text_record}
-use Rattle.orc_stats.specs.Messages.{bucket_record, bin_record}
+use Rattle.orc_stats.specs.Messages.{bucket_record, bin_record, collection_record, children_record}
 use Rattle.orc_types.specs.Shapes.{Shape, width}
 use Rattle.orc_file.specs.Stripes.{stripe_length, stripes_length}
 use Rattle.orc_file.specs.Statistics.{kind_at}
@@ -50,6 +51,7 @@ PartBits (body.Bools t) = Small t
 PartBits (body.Dates l g) = Narrow l × Narrow g
 PartBits (body.Texts l g s) = Wide s
 PartBits (body.Bins s) = Wide s
+PartBits (body.Children l g t) = Small l × (Small g × Small t)
 
 onto_keeps : {A : Type 0} (P : A → Type 0) (op : A → A → A) → ((x y : A) → P x → P y → P (op x y)) → (x : A) (o : Option A) → P x → IfSome o P
     → P (onto op x o)
@@ -131,6 +133,7 @@ least_int_bits (body.Bools t) h = tt
 least_int_bits (body.Dates l g) h = tt
 least_int_bits (body.Texts l g s) h = tt
 least_int_bits (body.Bins s) h = tt
+least_int_bits (body.Children l g t) h = tt
 
 greatest_int_bits : (b : Body) → PartBits b → Wide (greatest_int b)
 greatest_int_bits (body.Ints l g s) h = h.1.0
@@ -139,6 +142,7 @@ greatest_int_bits (body.Bools t) h = tt
 greatest_int_bits (body.Dates l g) h = tt
 greatest_int_bits (body.Texts l g s) h = tt
 greatest_int_bits (body.Bins s) h = tt
+greatest_int_bits (body.Children l g t) h = tt
 
 least_date_bits : (b : Body) → PartBits b → Narrow (least_date b)
 least_date_bits (body.Dates l g) h = h.0
@@ -147,6 +151,7 @@ least_date_bits (body.Bools t) h = tt
 least_date_bits (body.Ints l g s) h = tt
 least_date_bits (body.Texts l g s) h = tt
 least_date_bits (body.Bins s) h = tt
+least_date_bits (body.Children l g t) h = tt
 
 greatest_date_bits : (b : Body) → PartBits b → Narrow (greatest_date b)
 greatest_date_bits (body.Dates l g) h = h.1
@@ -155,6 +160,33 @@ greatest_date_bits (body.Bools t) h = tt
 greatest_date_bits (body.Ints l g s) h = tt
 greatest_date_bits (body.Texts l g s) h = tt
 greatest_date_bits (body.Bins s) h = tt
+greatest_date_bits (body.Children l g t) h = tt
+
+least_children_bits : (b : Body) → PartBits b → Small (least_children b)
+least_children_bits (body.Children l g t) h = h.0
+least_children_bits body.Plain h = tt
+least_children_bits (body.Ints l g s) h = tt
+least_children_bits (body.Bools t) h = tt
+least_children_bits (body.Dates l g) h = tt
+least_children_bits (body.Texts l g s) h = tt
+least_children_bits (body.Bins s) h = tt
+
+greatest_children_bits : (b : Body) → PartBits b → Small (greatest_children b)
+greatest_children_bits (body.Children l g t) h = h.1.0
+greatest_children_bits body.Plain h = tt
+greatest_children_bits (body.Ints l g s) h = tt
+greatest_children_bits (body.Bools t) h = tt
+greatest_children_bits (body.Dates l g) h = tt
+greatest_children_bits (body.Texts l g s) h = tt
+greatest_children_bits (body.Bins s) h = tt
+
+room_if : (n : ℕ) (b : Bool) → nat_lt n (2 ^ 64) ≡ b → Small (if b then Some n else None)
+room_if n true e = ltb-true n (2 ^ 64) e
+room_if n false e = tt
+
+children_small : (os : List (Option ℕ)) → Small (of_known children_total os)
+children_small os = then_all (λ (n : ℕ). n < 2 ^ 64) children_total
+    (λ ns. then_all (λ (n : ℕ). n < 2 ^ 64) in_u64 (λ n. room_if n (nat_lt n (2 ^ 64)) refl) (reduce ◌+◌ ns)) (parts_if_known os)
 
 bodies_bits : (k : StatKind) (bs : List Body) → AllByRecursion PartBits bs → PartBits (bodies_joined k bs)
 bodies_bits kind.Plain bs a = tt
@@ -174,6 +206,13 @@ bodies_bits kind.Dates bs a = (
 )
 bodies_bits kind.Texts bs a = total_wide (map sum_of bs)
 bodies_bits kind.Bins bs a = total_wide (map sum_of bs)
+bodies_bits kind.Children bs a = (
+  known_least (λ (n : ℕ). n < 2 ^ 64) nat_cmp (map least_children bs) (all_parts (λ (n : ℕ). n < 2 ^ 64) least_children least_children_bits bs a),
+  (
+    known_least (λ (n : ℕ). n < 2 ^ 64) (flip_args nat_cmp) (map greatest_children bs) (all_parts (λ (n : ℕ). n < 2 ^ 64) greatest_children greatest_children_bits bs a),
+    children_small (map total_children bs),
+  ),
+)
 
 -- ---- a statistic as a message
 
@@ -219,6 +258,18 @@ bools_parts : (t : Option ℕ) → Small t → IfSome (bools_record t) bucket_st
 bools_parts (Some n) h = (h, tt)
 bools_parts None h = tt
 
+parts_children : (l g t : Option ℕ) → IfSome (children_record l g t) collection_stats_text.bounded → Small l × (Small g × Small t)
+parts_children (Some l) g t h = h
+parts_children None (Some g) t h = h
+parts_children None None (Some t) h = h
+parts_children None None None h = (tt, (tt, tt))
+
+children_parts : (l g t : Option ℕ) → Small l × (Small g × Small t) → IfSome (children_record l g t) collection_stats_text.bounded
+children_parts (Some l) g t h = h
+children_parts None (Some g) t h = h
+children_parts None None (Some t) h = h
+children_parts None None None h = tt
+
 parts_bins : (s : Option ℤ) → IfSome (bins_record s) binary_stats_text.bounded → Wide s
 parts_bins (Some s) h = h
 parts_bins None h = tt
@@ -232,7 +283,7 @@ abbrev BodyBits : Body → Type 0
 BodyBits b = IfSome (int_record b) integer_stats_text.bounded
     × (IfSome (text_record b) string_stats_text.bounded
     × (IfSome (bucket_record b) bucket_stats_text.bounded
-    × (IfSome (date_record b) date_stats_text.bounded × IfSome (bin_record b) binary_stats_text.bounded)))
+    × (IfSome (date_record b) date_stats_text.bounded × (IfSome (bin_record b) binary_stats_text.bounded × IfSome (collection_record b) collection_stats_text.bounded))))
 
 parts_of : (b : Body) → BodyBits b → PartBits b
 parts_of body.Plain h = tt
@@ -240,24 +291,26 @@ parts_of (body.Ints l g s) h = parts_ints l g s h.0
 parts_of (body.Bools t) h = parts_bools t h.1.1.0
 parts_of (body.Dates l g) h = parts_dates l g h.1.1.1.0
 parts_of (body.Texts l g s) h = parts_texts l g s h.1.0
-parts_of (body.Bins s) h = parts_bins s h.1.1.1.1
+parts_of (body.Bins s) h = parts_bins s h.1.1.1.1.0
+parts_of (body.Children l g t) h = parts_children l g t h.1.1.1.1.1
 
 of_parts : (b : Body) → PartBits b → BodyBits b
-of_parts body.Plain h = (tt, (tt, (tt, (tt, tt))))
-of_parts (body.Ints l g s) h = (ints_parts l g s h, (tt, (tt, (tt, tt))))
-of_parts (body.Bools t) h = (tt, (tt, (bools_parts t h, (tt, tt))))
-of_parts (body.Dates l g) h = (tt, (tt, (tt, (dates_parts l g h, tt))))
-of_parts (body.Texts l g s) h = (tt, (texts_parts l g s h, (tt, (tt, tt))))
-of_parts (body.Bins s) h = (tt, (tt, (tt, (tt, bins_parts s h))))
+of_parts body.Plain h = (tt, (tt, (tt, (tt, (tt, tt)))))
+of_parts (body.Ints l g s) h = (ints_parts l g s h, (tt, (tt, (tt, (tt, tt)))))
+of_parts (body.Bools t) h = (tt, (tt, (bools_parts t h, (tt, (tt, tt)))))
+of_parts (body.Dates l g) h = (tt, (tt, (tt, (dates_parts l g h, (tt, tt)))))
+of_parts (body.Texts l g s) h = (tt, (texts_parts l g s h, (tt, (tt, (tt, tt)))))
+of_parts (body.Bins s) h = (tt, (tt, (tt, (tt, (bins_parts s h, tt)))))
+of_parts (body.Children l g t) h = (tt, (tt, (tt, (tt, (tt, children_parts l g t h)))))
 
 abbrev pub StatBits : Stat → Type 0
 StatBits s = column_stats_text.bounded (message_of s)
 
 stat_parts : (s : Stat) → StatBits s → PartBits s.body
-stat_parts s h = parts_of s.body (h.1.0, (h.1.1.0, (h.1.1.1.0, (h.1.1.1.1.0, h.1.1.1.1.1.0))))
+stat_parts s h = parts_of s.body (h.1.0, (h.1.1.0, (h.1.1.1.0, (h.1.1.1.1.0, (h.1.1.1.1.1.0, h.1.1.1.1.1.1.1)))))
 
 parts_stat : (s : Stat) → s.count < 2 ^ 64 → PartBits s.body → StatBits s
-parts_stat s few h = let b = of_parts s.body h in (few, (b.0, (b.1.0, (b.1.1.0, (b.1.1.1.0, (b.1.1.1.1, some_top s.nulls))))))
+parts_stat s few h = let b = of_parts s.body h in (few, (b.0, (b.1.0, (b.1.1.0, (b.1.1.1.0, (b.1.1.1.1.0, (some_top s.nulls, b.1.1.1.1.1)))))))
 
 with_value : (b : Bool) (s : Stat) (ss : List Stat) → PartBits s.body → AllByRecursion PartBits (map (λ (t : Stat). t.body) ss)
     → AllByRecursion PartBits (map (λ (t : Stat). t.body) (cond b (s ∷ ss) ss))

@@ -1,6 +1,6 @@
 -- Statistics of files whose stripes' statistics are those of the rows.
 use Rattle.std.proofs.Common.{◌≡◌, ℕ, zero, suc, ◌+◌, ◌*◌, ◌<◌, ◌≤◌, ◌^◌, Bool, true, false, ◌&&◌, if◌then◌else◌, List, [], ◌∷◌, ◌++◌, length, map, take}
-use Rattle.std.proofs.Common.{drop, slice_get, Some, refl, sym, ap, ◌∙◌, subst, arith, length-append}
+use Rattle.std.proofs.Common.{drop, slice_get, Option, Some, refl, sym, ap, ◌∙◌, subst, arith, length-append}
 use Rattle.std.specs.Prelude.{◌||◌}
 use Rattle.std.specs.List.{AllByRecursion, concat, flat_map, list_all}
 use Rattle.std.proofs.lemmas.List.Concat.{flat_map-cons}
@@ -17,13 +17,13 @@ use Rattle.orc_stats.specs.Kinds.{is_of}
 use Rattle.orc_stats.specs.Statistics.{stat}
 use Rattle.orc_stats.specs.Joining.{joined}
 use Rattle.orc_stats.specs.Whole.{has_sum, without_sum, keeps_sum, whole}
-use Rattle.orc_stats.proofs.Parts.{joined-parts}
-use Rattle.orc_written.specs.WrittenStripe.{column_stat}
+use Rattle.orc_stats.proofs.KnownParts.{joined-agreed}
+use Rattle.orc_stats.specs.Known.{AllAgree, known_whole}
 use Rattle.orc_file.specs.Stripes.{most_stripes}
 use Rattle.orc_file.specs.Statistics.{kind_at}
 use Rattle.orc_file.specs.FileRows.{HasRows, FileIs, cut_rows}
 use Rattle.orc_file.specs.FileRows as rows
-use Rattle.orc_file.specs.Honest.{AreHonest, Honest, whole_of, AreWhole, HasWholeStats}
+use Rattle.orc_file.specs.Honest.{AreHonest, Honest, told_at, known_whole_of, AreWhole, HasWholeStats}
 use Rattle.orc_file.specs.Tails.{tail_tests}
 use Rattle.orc_file.specs.Images.{image}
 use Rattle.orc_file.specs.declared.tail.Tail.{Tail}
@@ -92,14 +92,19 @@ some_take [] c x e = cc
 some_take (y ∷ ys) zero x e = let same : y ≡ x = cc in ap (λ (z : Stat). z ∷ []) same
 some_take (y ∷ ys) (suc c) x e = some_take ys c x e
 
-column_is : (s : Shape) (c : ℕ) (parts : List (List Cell)) (stats : List (List Stat)) → c < width s → AreHonest s parts stats
-    → column_stats c stats ≡ map (stat (kind_at s c)) (map (cells s c) parts)
-column_is s c [] [] lt h = refl
-column_is s c [] (x ∷ stats) lt h = absurd h
-column_is s c (p ∷ parts) [] lt h = absurd h
-column_is s c (p ∷ parts) (x ∷ stats) lt h =
-    ap (λ (z : List Stat). z ++ column_stats c stats) (some_take x c (column_stat s p c) (h.0.each c lt))
-    ∙ ap (λ (z : List Stat). column_stat s p c ∷ z) (column_is s c parts stats lt h.1)
+column_agrees : (s : Shape) (c : ℕ) (parts : List (List Cell)) (stats : List (List Stat)) → c < width s → AreHonest s parts stats
+    → AllAgree (kind_at s c) (column_stats c stats) (map (cells s c) parts) × (told_at stats c ≡ map (λ x. Some x) (column_stats c stats))
+column_agrees s c [] [] lt h = (tt, refl)
+column_agrees s c [] (x ∷ stats) lt h = absurd h
+column_agrees s c (p ∷ parts) [] lt h = absurd h
+column_agrees s c (p ∷ parts) (x ∷ stats) lt h =
+    let have = h.0 in
+    let own = have.each c lt in
+    let rest = column_agrees s c parts stats lt h.1 in
+    let first : column_stats c (x ∷ stats) ≡ own.0 ∷ column_stats c stats = ap (λ (z : List Stat). z ++ column_stats c stats) (some_take x c own.0 own.1) in (
+      subst (λ (z : List Stat). AllAgree (kind_at s c) z (cells s c p ∷ map (cells s c) parts)) (sym first) (own.2, rest.0),
+      ap (λ (o : Option Stat). o ∷ told_at stats c) own.1 ∙ ap (λ (os : List (Option Stat)). Some own.0 ∷ os) rest.1 ∙ ap (λ (z : List Stat). map (λ x. Some x) z) (sym first),
+    )
 
 kinds_are : (s : Shape) (c : ℕ) (is : List StripeInfo) (bs : List (List ℕ)) (parts : List (List Cell)) → c < width s → AreStripes s is bs parts
     → AllByRecursion (AllByRecursion (λ x. is_of (kind_at s c) x ≡ true)) (map (cells s c) parts)
@@ -134,16 +139,17 @@ at_column f d (suc n) (suc c) lt = let z : suc d + c ≡ d + suc c = omega arith
 
 whole_column : (s : Shape) (is : List StripeInfo) (bs : List (List ℕ)) (stats : List (List Stat)) (parts : List (List Cell)) (c : ℕ) → c < width s
     → length is ≤ most_stripes
-    → AreStripes s is bs parts → AreHonest s parts stats → slice_get (file_stats s stats) c ≡ Some (whole_of s parts c)
+    → AreStripes s is bs parts → AreHonest s parts stats → slice_get (file_stats s stats) c ≡ Some (known_whole_of s stats parts c)
 whole_column s is bs stats parts c lt few stripes honest =
     let k : StatKind = kind_at s c in
     let count = cells_few s c is bs parts lt stripes in
+    let own = column_agrees s c parts stats lt honest in
     let z : 0 + c ≡ c = omega arith in
     let most : length (flat_map (λ p. p) (map (cells s c) parts)) ≤ 2 ^ 62 = omega (arith, count, few) in
     at_column (λ d. joined (kind_at s d) (column_stats d stats)) 0 (width s) c lt
     ∙ ap (λ d. Some (joined (kind_at s d) (column_stats d stats))) z
-    ∙ ap (λ (xs : List Stat). Some (joined k xs)) (column_is s c parts stats lt honest)
-    ∙ ap Some (joined-parts k (map (cells s c) parts) (kinds_are s c is bs parts lt stripes) most)
+    ∙ ap Some (joined-agreed k (column_stats c stats) (map (cells s c) parts) (kinds_are s c is bs parts lt stripes) most own.0)
+    ∙ ap (λ (told : List (Option Stat)). Some (known_whole k told (map (cells s c) parts))) (sym own.1)
 
 -- ---- the merged file
 
@@ -161,13 +167,13 @@ honest_merge xs tail out parts m h =
     let cut : cut_rows (placed 3 (all_stripes (l.first ∷ l.rest))) (rows.joined parts) ≡ p.parts = parts_cut _ _ _ _ there in
     let honest : Honest (merged l.first (l.first ∷ l.rest)) (rows.joined parts) = subst
     (λ (q : List (List Cell)). AreHonest l.first.schema q (all_stats (l.first ∷ l.rest))) (sym cut) p.honest in
-    let whole_parts : AreWhole l.first.schema p.parts (file_stats l.first.schema (all_stats (l.first ∷ l.rest))) = record {
+    let whole_parts : AreWhole l.first.schema (all_stats (l.first ∷ l.rest)) p.parts (file_stats l.first.schema (all_stats (l.first ∷ l.rest))) = record {
       counted = length-of_columns (λ d. joined (kind_at l.first.schema d) (column_stats d (all_stats (l.first ∷ l.rest)))) 0 (width l.first.schema);
       each = λ c lt. whole_column l.first.schema (all_stripes (l.first ∷ l.rest)) (bodies xs (l.first ∷ l.rest))
           (all_stats (l.first ∷ l.rest)) p.parts c lt room.stripes p.stripes p.honest;
     } in
     let stats : HasWholeStats (merged l.first (l.first ∷ l.rest)) (rows.joined parts)
-    = subst (λ (q : List (List Cell)). AreWhole l.first.schema q (file_stats l.first.schema (all_stats (l.first ∷ l.rest)))) (sym cut) whole_parts in (
+    = subst (λ (q : List (List Cell)). AreWhole l.first.schema (all_stats (l.first ∷ l.rest)) q (file_stats l.first.schema (all_stats (l.first ∷ l.rest)))) (sym cut) whole_parts in (
       subst (λ (u : Tail). Honest u (rows.joined parts)) (sym l.tail_is) honest,
       subst (λ (u : Tail). HasWholeStats u (rows.joined parts))
           (sym l.tail_is) stats,
@@ -195,3 +201,4 @@ sum_stands kind.Bools parts = rw (no_sums kind.Bools (λ cs. or_true _) parts) r
 sum_stands kind.Dates parts = rw (no_sums kind.Dates (λ cs. or_true _) parts) refl
 sum_stands kind.Texts parts = sum_if (list_all (λ p. keeps_sum (stat kind.Texts p)) parts) (stat kind.Texts (flat_map (λ p. p) parts)).body refl
 sum_stands kind.Bins parts = sum_if (list_all (λ p. keeps_sum (stat kind.Bins p)) parts) (stat kind.Bins (flat_map (λ p. p) parts)).body refl
+sum_stands kind.Children parts = rw (no_sums kind.Children (λ cs. or_true _) parts) refl

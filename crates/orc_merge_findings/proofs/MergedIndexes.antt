@@ -7,12 +7,12 @@ use Rattle.orc_types.specs.Cells.{Cell}
 use Rattle.orc_types.specs.Shapes.{Shape}
 use Rattle.orc_file.specs.Stripes.{stripe_at, stripe_length}
 use Rattle.orc_file.specs.FileRows.{stripe_bytes, joined, HasRows, FileIs, cut_rows}
-use Rattle.orc_file.specs.Honest.{Honest, HasWholeStats}
+use Rattle.orc_file.specs.Honest.{Honest}
 use Rattle.orc_file.specs.Tails.{tail_tests}
 use Rattle.orc_file.specs.Images.{image}
 use Rattle.orc_file.specs.declared.tail.Tail.{Tail}
 use Rattle.orc_file.proofs.RowLemmas.{parts_cut}
-use Rattle.orc_check.specs.Findings.{Findings, rows_at}
+use Rattle.orc_check.specs.Findings.{Findings, TellsWhole, rows_at}
 use Rattle.orc_check.specs.RightIndexes.{IsIndexed, HasIndexes}
 use Rattle.orc_check.proofs.NoFinding.{cut_many}
 use Rattle.orc_check.proofs.WrittenIndexes.{indexed_moved}
@@ -74,7 +74,7 @@ record IndexedParts (s : Shape) (stride : ℕ) (is : List StripeInfo) (bs : List
 
 -- nothing is found exactly where all is right, of which the indexes are asked here
 abbrev pub NoneLaw : Type 0
-NoneLaw = (bytes : List ℕ) (tail : Tail) (rows : List Cell) → FileIs bytes tail rows → Findings bytes tail rows [] ↔ (Honest tail rows × HasWholeStats tail rows × HasIndexes bytes tail rows)
+NoneLaw = (bytes : List ℕ) (tail : Tail) (rows : List Cell) → FileIs bytes tail rows → Findings bytes tail rows [] ↔ (Honest tail rows × TellsWhole tail rows × HasIndexes bytes tail rows)
 
 own_parts : (t : Tail) (bytes : List ℕ) (r : List Cell) → 0 < t.stride → FileIs bytes t r → HasIndexes bytes t r → IndexedParts t.schema t.stride t.stripes (stripes_of bytes t) r
 own_parts t bytes r some is has =

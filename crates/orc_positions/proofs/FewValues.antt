@@ -4,8 +4,8 @@ use Rattle.std.proofs.lemmas.List.{length-map}
 use Rattle.orc_rle.specs.BitLaws.{held_len}
 use Rattle.orc_rle.specs.BitStream.{IsBitStream}
 use Rattle.orc_rle.specs.ByteRun.{IsByteRun}
-use Rattle.orc_types.specs.Cells.{Cell, is_value, parts, values}
-use Rattle.orc_types.specs.Shapes.{Shape, scalar, list_of, struct_of}
+use Rattle.orc_types.specs.Cells.{Cell, is_value, parts, pairs_in, values}
+use Rattle.orc_types.specs.Shapes.{Shape, scalar, list_of, map_of, struct_of}
 use Rattle.orc_types.specs.declared.kind.Scalar.{Scalar}
 use Rattle.orc_types.specs.declared.kind.Scalar.TheVariants as kind
 use Rattle.orc_columns.specs.Columns.{IsBool, IsByte, IsInt, IsDate, IsText, IsBinary}
@@ -40,6 +40,7 @@ scalar_few kind.Binary x vs h few = (map size h.0, h.2.0, omega (arith, few, sta
 own_few : (s : Shape) (x : Streams) (vs : List Cell) → SpellsValues s x vs → length vs < 2 ^ 31 → IsFew (own_runs s x)
 own_few (scalar k o) x vs h few = scalar_few k x vs h few
 own_few (list_of s o) x vs h few = (map (λ v. size (parts v)) vs, h, omega (arith, few, length-map vs (λ (v : Cell). size (parts v))))
+own_few (map_of k v o) x vs h few = (map (λ m. size (pairs_in m)) vs, h, omega (arith, few, length-map vs (λ (m : Cell). size (pairs_in m))))
 own_few (struct_of fs o) x vs h few = tt
 
 pub few_in_present : (s : Shape) (x : Streams) (column : List Cell) → IsColumn s x column → IsFew (present_runs (x.stream 0))

@@ -23,8 +23,9 @@ The status is 3 where there is one, and 0 where nothing is found.";
 /// What stands behind that of `write`.
 pub(crate) static WRITE_HELP: &str =
     "A schema is a struct of named fields. The kinds are boolean, tinyint, smallint, int, bigint, date, string, binary,
-array<KIND> and struct<NAME:KIND,..>, as in
+array<KIND>, map<KIND,KIND> and struct<NAME:KIND,..>, as in
   struct<city:string,sold:array<struct<item:string,price:bigint>>>
+The JSON of a map is an array of its pairs, each an array of a key and its value.
 Version 2 of the run lengths (Hive 0.12) is the smaller one, and readers of today know it; 1 is what older ones read.
 A stripe's rows are held in memory while it is written and while it is read: 100000 is a good start.
 A row index lets readers begin in the middle of a stripe and pass over groups by their statistics: 10000 is what most

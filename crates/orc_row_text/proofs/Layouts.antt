@@ -7,24 +7,32 @@ use Rattle.orc_types.specs.Shapes.{Shape}
 use Rattle.orc_types.specs.JsonPrinting.{members_json}
 use Rattle.serde_json.specs.Written.{comma_if}
 use Rattle.orc_types.specs.Cells.{Cell, null, cells_of}
-use Rattle.orc_types.specs.Views.{shape, name_and_type, fields_of, view, views}
+use Rattle.orc_types.specs.Views.{shape, name_and_type, fields_of, view, views, paired}
 use Rattle.orc_types.specs.declared.kind.Scalar.{Scalar as Kind}
 use Rattle.orc_types.specs.declared.tree.Field.{Field}
-use Rattle.orc_types.specs.declared.tree.Tree.{Tree, Scalar as TreeScalar, List as TreeList, Struct as TreeStruct}
-use Rattle.orc_types.specs.declared.value.Value.{Value, List as Rows, Struct as Parts}
-use Rattle.orc_types.proofs.Views.{shape-Scalar, shape-List, shape-Struct, view-List, view-Struct, list_of-views, name_and_type-is}
-use Rattle.orc_row_text.specs.Layouts.{Part, text_by, part, member_parts, leaf_text, list_text, struct_text, elements_text, parts_text}
+use Rattle.orc_types.specs.declared.tree.Tree.{Tree, Scalar as TreeScalar, List as TreeList, Map as TreeMap, Struct as TreeStruct}
+use Rattle.orc_types.specs.declared.value.Value.{Value, List as Rows, Struct as Parts, Map as MapOf}
+use Rattle.orc_types.specs.declared.value.MapPair.{MapPair}
+use Rattle.orc_types.proofs.Views.{shape-Scalar, shape-List, shape-Map, shape-Struct, view-List, view-Struct, view-Map, list_of-views, list_of-paired, name_and_type-is}
+use Rattle.orc_row_text.specs.Layouts.{Part, PairTexts, text_by, part, member_parts, pair_texts, leaf_text, list_text, map_text, struct_text, elements_text, pair_text, pairs_text, parts_text}
 use Rattle.orc_row_text.specs.Texts.{Prints, PrintsStruct, no_name, shape_in, json_in, members_at, ArePlacesInOrder}
-use Rattle.orc_row_text.specs.declared.layout.Layout.{Layout, Leaf, List as ListOf, Struct}
+use Rattle.orc_row_text.specs.declared.layout.Layout.{Layout, Leaf, List as ListOf, Map as MapLayout, Struct}
 use Rattle.orc_row_text.specs.declared.layout.Layout.TheFolds.{the_lemmas}
 use Rattle.orc_row_text.specs.declared.layout.Member.{Member}
-use Rattle.orc_row_text.proofs.Prints.{Entry, prints_leaf, prints_list, members_at-insert_entry, members_next}
+use Rattle.orc_row_text.specs.declared.layout.PairLayout.{PairLayout}
+use Rattle.orc_row_text.proofs.Prints.{Entry, prints_leaf, prints_list, prints_map, members_at-insert_entry, members_next}
 
 pub text_by-Leaf : text_by Leaf ≡ leaf_text
 text_by-Leaf = search (rules, the_lemmas)
 
 pub text_by-List : (b : Box Layout Global) → text_by (ListOf b) ≡ list_text (text_by b.value)
 text_by-List b = search (rules, the_lemmas)
+
+pub text_by-Map : (b : Box PairLayout Global) → text_by (MapLayout b) ≡ map_text (pair_texts b.value)
+text_by-Map b = search (rules, the_lemmas)
+
+pub pair_texts-is : (p : PairLayout) → pair_texts p ≡ (record { key = text_by p.key; value = text_by p.value })
+pair_texts-is p = search (rules, the_lemmas)
 
 pub text_by-Struct : (ms : Vec Member Global) → text_by (Struct ms) ≡ struct_text (member_parts ms.items)
 text_by-Struct ms = search (rules, the_lemmas)
@@ -40,14 +48,21 @@ laid_leaf t k o is = rw (is, shape-Scalar k o, text_by-Leaf) (prints_leaf k o.it
 pub laid_list : (t : Tree) (e : Box Tree Global) (o : Vec ℕ Global) (b : Box Layout Global) → t ≡ TreeList e o → Prints (text_by b.value) (shape e.value) → Prints (text_by (ListOf b)) (shape t)
 laid_list t e o b is u = rw (is, shape-List e o, text_by-List b) (prints_list (text_by b.value) (shape e.value) o.items u)
 
+pub laid_map : (t : Tree) (k v : Box Tree Global) (o : Vec ℕ Global) (b : Box PairLayout Global) → t ≡ TreeMap k v o → Prints (text_by b.value.key) (shape k.value) → Prints (text_by b.value.value) (shape v.value) → Prints (text_by (MapLayout b)) (shape t)
+laid_map t k v o b is u w = rw (is, shape-Map k v o, text_by-Map b, pair_texts-is b.value) (prints_map (record { key = text_by b.value.key; value = text_by b.value.value }) (shape k.value) (shape v.value) o.items u w)
+
 pub laid_struct : (t : Tree) (fs : Vec Field Global) (o : Vec ℕ Global) (ms : Vec Member Global) → t ≡ TreeStruct fs o → PrintsStruct (struct_text (member_parts ms.items)) (map name_and_type fs.items) → Prints (text_by (Struct ms)) (shape t)
 laid_struct t fs o ms is u = rw (is, shape-Struct fs o, text_by-Struct ms) (u o.items)
 
--- ---- the text of a list's row, and of a struct's
+-- ---- the text of a list's row, of a map's, and of a struct's
 
 pub printed_list : (l : Layout) (b : Box Layout Global) (r : Option Value) (v : Value) (rows : Vec (Option Value) Global) → l ≡ ListOf b → r ≡ Some v → v ≡ Rows rows
     → text_by l (view r) ≡ 91 ∷ elements_text (text_by b.value) false (views rows.items)
 printed_list l b r v rows il is at = rw (il, is, at, text_by-List b, view-List rows) (ap (λ (cs : List Cell). 91 ∷ elements_text (text_by b.value) false cs) (list_of-views rows.items))
+
+pub printed_map : (l : Layout) (b : Box PairLayout Global) (r : Option Value) (v : Value) (ps : Vec MapPair Global) → l ≡ MapLayout b → r ≡ Some v → v ≡ MapOf ps
+    → text_by l (view r) ≡ 91 ∷ pairs_text (pair_texts b.value) false (map paired ps.items)
+printed_map l b r v ps il is at = rw (il, is, at, text_by-Map b, view-Map ps) (ap (λ (qs : List (Cell × Cell)). 91 ∷ pairs_text (pair_texts b.value) false qs) (list_of-paired ps.items))
 
 pub printed_struct : (l : Layout) (ms : Vec Member Global) (r : Option Value) (v : Value) (rows : Vec (Option Value) Global) → l ≡ Struct ms → r ≡ Some v → v ≡ Parts rows
     → text_by l (view r) ≡ 123 ∷ parts_text (member_parts ms.items) (views rows.items)
@@ -68,6 +83,14 @@ elements_next f later rs i r out mid new whole lt is m n done =
     let rest = elements_text f true (views (drop (suc i) rs)) in
     let here : out ++ elements_text f later (views (drop i rs)) ≡ out ++ (comma_if later ++ (f (view r) ++ rest)) = rw (drop-cons rs i r, ← is) refl in
     rw (add-one, n, m) (append_assoc (out ++ comma_if later) (f (view r)) rest ∙ append_assoc out (comma_if later) (f (view r) ++ rest) ∙ sym here ∙ done)
+
+pub pairs_next : (t : PairTexts) (later : Bool) (ps : List MapPair) (i : ℕ) (p : MapPair) (out mid new whole : List ℕ) → i < length ps → p ≡ get_or ps i p
+    → mid ≡ out ++ comma_if later → new ≡ mid ++ pair_text t (paired p) → out ++ pairs_text t later (map paired (drop i ps)) ≡ whole → new ++ pairs_text t true (map paired (drop (i + 1) ps)) ≡ whole
+pairs_next t later ps i p out mid new whole lt is m n done =
+    let rest = pairs_text t true (map paired (drop (suc i) ps)) in
+    let own = pair_text t (paired p) in
+    let here : out ++ pairs_text t later (map paired (drop i ps)) ≡ out ++ (comma_if later ++ (own ++ rest)) = rw (drop-cons ps i p, ← is) refl in
+    rw (add-one, n, m) (append_assoc (out ++ comma_if later) own rest ∙ append_assoc out (comma_if later) (own ++ rest) ∙ sym here ∙ done)
 
 pub members_next_text : (ms : List Member) (i : ℕ) (m : Member) (cs : List Cell) (out new whole : List ℕ) → i < length ms → m ≡ get_or ms i m
     → new ≡ out ++ (m.key.items ++ text_by m.layout (get_or cs m.place null)) → out ++ parts_text (member_parts (drop i ms)) cs ≡ whole → new ++ parts_text (member_parts (drop (i + 1) ms)) cs ≡ whole

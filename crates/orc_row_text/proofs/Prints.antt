@@ -1,19 +1,20 @@
 -- Texts by layouts are those of the rows' JSON.
 use Rattle.std.proofs.Common.{◌≡◌, ℕ, zero, suc, ◌<◌, List, [], ◌∷◌, ◌++◌, Bool, true, false, String, Global, string_bytes, length, get_or, drop, refl, sym, ap, ap₂, ◌∙◌, subst, arith, append_assoc, append-nil, drop-cons, Ordering, Less, Equal, Greater, string_cmp}
+use Rattle.std.specs.Prelude.{◌&&◌}
 use Rattle.std.proofs.lemmas.Bool.{and_parts}
 use Rattle.std.specs.Ordering.{match_ordering}
 use Rattle.std.specs.BTreeMap.{insert_entry}
 use Rattle.json.specs.Print.{quoted}
 use Rattle.serde_json.specs.Data.{Data, Members, no_members, put}
 use Rattle.serde_json.specs.Written.{compact_text, comma_if, items_text, members_text}
-use Rattle.orc_types.specs.Shapes.{Shape, scalar, list_of, struct_of}
-use Rattle.orc_types.specs.Cells.{Cell, null, leaf, list, struct, Cells, end, more, cells_of, list_of_cells}
-use Rattle.orc_types.specs.Fits.{fits, all_fit, each_fits}
-use Rattle.orc_types.specs.JsonPrinting.{json_of, each_json, members_json}
+use Rattle.orc_types.specs.Shapes.{Shape, scalar, list_of, map_of, struct_of}
+use Rattle.orc_types.specs.Cells.{Cell, null, leaf, list, struct, pairs, Cells, end, more, Pairs, no_pair, pair, cells_of, list_of_cells, list_of_pairs}
+use Rattle.orc_types.specs.Fits.{fits, all_fit, pairs_fit, each_fits}
+use Rattle.orc_types.specs.JsonPrinting.{json_of, each_json, pair_json, pairs_json, members_json}
 use Rattle.orc_types.specs.Views.{fields_of}
 use Rattle.orc_types.specs.declared.kind.Scalar.{Scalar}
 use Rattle.orc_types.proofs.Views.{cells_of-list_of_cells}
-use Rattle.orc_row_text.specs.Layouts.{Part, leaf_text, elements_text, parts_text, list_text, struct_text}
+use Rattle.orc_row_text.specs.Layouts.{Part, PairTexts, leaf_text, elements_text, pair_text, pairs_text, parts_text, list_text, map_text, struct_text}
 use Rattle.orc_row_text.specs.Texts.{Prints, PrintsStruct, no_name, shape_in, cell_in, json_in, members_at, ArePlacesInOrder, AreWithin}
 
 pub prints_leaf : (k : Scalar) (o : List ℕ) → Prints leaf_text (scalar k o)
@@ -32,6 +33,27 @@ prints_list text s o u null h = refl
 prints_list text s o u (leaf a) h = refl
 prints_list text s o u (list cs) h = ap (λ (t : List ℕ). 91 ∷ t) (elements_print text s u false cs h)
 prints_list text s o u (struct cs) h = refl
+prints_list text s o u (pairs ps) h = refl
+
+-- ---- maps
+
+pair_prints : (t : PairTexts) (k v : Shape) → Prints t.key k → Prints t.value v → (x y : Cell) → fits x k ≡ true → fits y v ≡ true → pair_text t (x, y) ≡ compact_text (pair_json (json_of k x) (json_of v y))
+pair_prints t k v u w x y h i = ap₂ (λ (a b : List ℕ). 91 ∷ (a ++ 44 ∷ (b ++ 93 ∷ []))) (u x h) (w y i)
+
+pairs_print : (t : PairTexts) (k v : Shape) → Prints t.key k → Prints t.value v → (later : Bool) (ps : Pairs) → pairs_fit ps k v ≡ true
+    → pairs_text t later (list_of_pairs ps) ≡ items_text later (pairs_json (λ x. json_of k x) (λ x. json_of v x) ps)
+pairs_print t k v u w later no_pair h = refl
+pairs_print t k v u w later (pair x y ps) h =
+    let p = and_parts (fits x k) (fits y v && pairs_fit ps k v) h in
+    let q = and_parts (fits y v) (pairs_fit ps k v) p.1 in
+    ap₂ (λ (a b : List ℕ). comma_if later ++ (a ++ b)) (pair_prints t k v u w x y p.0 q.0) (pairs_print t k v u w true ps q.1)
+
+pub prints_map : (t : PairTexts) (k v : Shape) (o : List ℕ) → Prints t.key k → Prints t.value v → Prints (map_text t) (map_of k v o)
+prints_map t k v o u w null h = refl
+prints_map t k v o u w (leaf a) h = refl
+prints_map t k v o u w (list cs) h = refl
+prints_map t k v o u w (struct cs) h = refl
+prints_map t k v o u w (pairs ps) h = ap (λ (x : List ℕ). 91 ∷ x) (pairs_print t k v u w false ps h)
 
 -- ---- the order of a struct's fields: what is done to places is done to what stands at them
 
@@ -99,6 +121,7 @@ pub prints_struct : (fs : List (List ℕ × Shape)) (ps : List Part) (es : List 
 prints_struct fs ps es m order o null h = refl
 prints_struct fs ps es m order o (leaf a) h = refl
 prints_struct fs ps es m order o (list cs) h = refl
+prints_struct fs ps es m order o (pairs qs) h = refl
 prints_struct fs ps es m order o (struct cs) h =
     let xs = list_of_cells cs in
     let own = parts_print fs xs (fits_in cs fs h) ps false es m in

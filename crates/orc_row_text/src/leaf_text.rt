@@ -81,6 +81,6 @@ pub(crate) fn push_leaf(
         Value::Date(day) => push_date(alloc, *day, out),
         Value::Text(text) => push_quoted(alloc, text.as_str(), out),
         Value::Bytes(octets) => push_hex(alloc, octets.as_slice(), out),
-        Value::List(_) | Value::Struct(_) => out.extend_from_slice(b"null"),
+        Value::List(_) | Value::Struct(_) | Value::Map(_) => out.extend_from_slice(b"null"),
     }
 }

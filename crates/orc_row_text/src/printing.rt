@@ -1,14 +1,14 @@
 //! Rows as text, by a layout.
-ghost use Rattle.std.specs.Prelude.{◌≡◌, ◌++◌, ◌∷◌, false, get_or, OnOk};
+ghost use Rattle.std.specs.Prelude.{◌≡◌, ◌++◌, ◌∷◌, false, get_or, map, OnOk};
 ghost use Rattle.serde_json.specs.Written.{comma_if};
 ghost use Rattle.orc_types.specs.Cells.{null};
-ghost use Rattle.orc_types.specs.Views.{view, views};
+ghost use Rattle.orc_types.specs.Views.{view, views, paired};
 ghost use Rattle.orc_row_text.specs.Growth.{Grows};
-ghost use Rattle.orc_row_text.specs.Layouts.{text_by, member_parts, list_text, struct_text, elements_text, parts_text};
+ghost use Rattle.orc_row_text.specs.Layouts.{text_by, member_parts, elements_text, pair_text, pair_texts, pairs_text, parts_text};
 
-use crate::layout::{Layout, Member};
+use crate::layout::{Layout, Member, PairLayout};
 use crate::leaf_text::push_leaf;
-use orc_types::{Row, Value};
+use orc_types::{MapPair, Row, Value};
 use std::alloc::{AllocError, Global};
 
 /// Appends the text of a row.
@@ -29,6 +29,10 @@ pub(crate) fn push_text(
         Layout::Leaf => push_leaf(alloc, value, out),
         Layout::List(element) => match value {
             Value::List(rows) => push_elements(alloc, element, rows, out),
+            _ => out.extend_from_slice(b"null"),
+        },
+        Layout::Map(layouts) => match value {
+            Value::Map(pairs) => push_pairs(alloc, layouts, pairs, out),
             _ => out.extend_from_slice(b"null"),
         },
         Layout::Struct(members) => match value {
@@ -69,6 +73,49 @@ fn push_elements(
         later = true;
     }
     out.push(b']')?;
+    Ok(())
+}
+
+/// Appends the pairs of a map, in brackets.
+#[cycle(printing)]
+fn push_pairs(
+    alloc: Global,
+    layouts: &PairLayout,
+    pairs: &Vec<MapPair<'_>>,
+    out: &mut Vec<u8>,
+) -> Result<(), AllocError>
+    ensures found { OnOk result (out.new.items
+        ≡ out.old.items ++ 91 ∷ pairs_text (pair_texts layouts.now) false (map paired pairs.now.items)) }
+    ensures front { Grows out.old.items out.new.items }
+{
+    out.push(b'[')?;
+    let mut follows = false;
+    for pair in pairs {
+        push_comma_if(follows, out)?;
+        push_pair(alloc, layouts, pair, out)?;
+        follows = true;
+    }
+    out.extend_from_slice(b"]")?;
+    Ok(())
+}
+
+/// Appends a pair of a map: its key and its value, in brackets.
+#[cycle(printing)]
+fn push_pair(
+    alloc: Global,
+    layouts: &PairLayout,
+    pair: &MapPair<'_>,
+    out: &mut Vec<u8>,
+) -> Result<(), AllocError>
+    ensures found { OnOk result (out.new.items
+        ≡ out.old.items ++ pair_text (pair_texts layouts.now) (paired pair.now)) }
+    ensures front { Grows out.old.items out.new.items }
+{
+    out.extend_from_slice(b"[")?;
+    push_text(alloc, &layouts.key, &pair.key, out)?;
+    out.extend_from_slice(b",")?;
+    push_text(alloc, &layouts.value, &pair.value, out)?;
+    out.extend_from_slice(b"]")?;
     Ok(())
 }
 

@@ -3,4 +3,6 @@
 #![tactic(auto)]
 
 #[cfg(test)]
+mod maps;
+#[cfg(test)]
 mod tests;

@@ -19,7 +19,7 @@ use std::process::Abort;
 const BEFORE: &str = "[";
 
 /// A schema's text, JSON that spells a row of it, and the text that the row is printed as.
-type Case = (&'static str, &'static str, &'static str);
+pub(crate) type Case = (&'static str, &'static str, &'static str);
 
 /// Values that contain no other. A text is escaped where RFC 8259, "Strings", asks for it, with the short
 /// escape where there is one, and nowhere else.
@@ -191,7 +191,7 @@ fn is_printed_as(
 }
 
 /// The schema of a text. Of the texts of the tests, want of memory alone refuses any.
-fn schema_of(alloc: Global, text: &str) -> Result<Schema, JsonFault> {
+pub(crate) fn schema_of(alloc: Global, text: &str) -> Result<Schema, JsonFault> {
     match Schema::parse(alloc, text) {
         Ok(schema) => Ok(schema),
         Err(_) => Err(JsonFault::OutOfMemory),
@@ -214,7 +214,7 @@ fn case_holds(alloc: Global, case: &Case) -> Result<bool, JsonFault> {
 }
 
 /// Each row is printed as its text.
-fn check_cases(rt: &impl Abort, alloc: Global, cases: &[Case]) {
+pub(crate) fn check_cases(rt: &impl Abort, alloc: Global, cases: &[Case]) {
     for case in cases {
         let mut held = case_holds(alloc, case);
         if held.is_err() {
@@ -331,7 +331,7 @@ static TWICE: [&'static str; 3] = [
 ];
 
 /// Whether a row of such a schema is refused, and what was printed before stays as it was.
-fn refuses_twice(alloc: Global, schema: &str) -> Result<bool, JsonFault> {
+pub(crate) fn refuses_twice(alloc: Global, schema: &str) -> Result<bool, JsonFault> {
     let schema = schema_of(alloc, schema)?;
     let printer = RowPrinter::new(alloc, &schema)?;
     let mut out = BEFORE.as_bytes().to_vec(alloc)?;

@@ -12,7 +12,7 @@ use Rattle.orc_types.specs.Days.{date_text}
 use Rattle.orc_types.specs.SchemaText.{text}
 use Rattle.orc_stats.specs.declared.stat.Stat.{Stat}
 use Rattle.orc_stats.specs.declared.stat.Body.{Body}
-use Rattle.orc_stats.specs.declared.stat.Body.TheVariants.{Plain, Ints, Bools, Dates, Texts, Bins}
+use Rattle.orc_stats.specs.declared.stat.Body.TheVariants.{Plain, Ints, Bools, Dates, Texts, Bins, Children}
 use Rattle.orc_file.specs.declared.tail.Tail.{Tail}
 
 abbrev pub number_or_none : Option ℕ → List ℕ
@@ -49,6 +49,9 @@ body_text (Texts least greatest sum) =
     known (codes "min") name_text least
     ++ (known (codes "max") name_text greatest ++ known (codes "sum") signed_decimal sum)
 body_text (Bins sum) = known (codes "sum") signed_decimal sum
+body_text (Children least greatest total) =
+    known (codes "min") decimal least
+    ++ (known (codes "max") decimal greatest ++ known (codes "sum") decimal total)
 
 -- a pair of the user's: its name, and its value's bytes as digits
 abbrev pub pair_line : UserMetadataItem → List ℕ

@@ -71,6 +71,16 @@ fn put_number(lines: &mut String, name: &str, part: Option<i64>) -> Result<(), A
     }
 }
 
+/// Puts a part's name and how many it counts, where it is known.
+fn put_count(lines: &mut String, name: &str, part: Option<u64>) -> Result<(), AllocError>
+    ensures { OnOk result (string_bytes lines.new ≡ string_bytes lines.old ++ spec.known name.now decimal part) }
+{
+    match part {
+        Some(count) => write!(lines, " {name} {count}"),
+        None => Ok(()),
+    }
+}
+
 /// Puts a part's name and its date, where it is known.
 fn put_date(
     alloc: Global,
@@ -142,6 +152,15 @@ fn put_body(alloc: Global, lines: &mut String, body: &Body) -> Result<(), AllocE
             put_number(lines, "sum", *sum)
         }
         Body::Bins { sum } => put_number(lines, "sum", *sum),
+        Body::Children {
+            least,
+            greatest,
+            total,
+        } => {
+            put_count(lines, "min", *least)?;
+            put_count(lines, "max", *greatest)?;
+            put_count(lines, "sum", *total)
+        }
     }
 }
 

@@ -2,8 +2,8 @@
 use Rattle.std.proofs.Common.{◌≡◌, refl, true}
 use Rattle.orc_types.specs.declared.kind.Scalar.{Scalar}
 use Rattle.orc_types.specs.declared.kind.Scalar.TheVariants as scalar_kind
-use Rattle.orc_types.specs.Shapes.{Shape, scalar, list_of, struct_of}
-use Rattle.orc_types.specs.Cells.{Atom, bool, int, date, text, bytes, Cell, null, leaf, list, struct}
+use Rattle.orc_types.specs.Shapes.{Shape, scalar, list_of, map_of, struct_of}
+use Rattle.orc_types.specs.Cells.{Atom, bool, int, date, text, bytes, Cell, null, leaf, list, struct, pairs}
 use Rattle.orc_types.specs.Fits.{atom_fits, fits}
 use Rattle.orc_stats.specs.Kinds.{kind_of_scalar, kind_of, atom_is_of, is_of}
 
@@ -29,10 +29,17 @@ pub cell_kind : (c : Cell) (s : Shape) → fits c s ≡ true → is_of (kind_of 
 cell_kind null s h = refl
 cell_kind (leaf a) (scalar k o) h = atom_kind k a h
 cell_kind (leaf a) (list_of s o) h = cc
+cell_kind (leaf a) (map_of k v o) h = cc
 cell_kind (leaf a) (struct_of fs o) h = cc
 cell_kind (list cs) (scalar k o) h = cc
 cell_kind (list cs) (list_of s o) h = refl
+cell_kind (list cs) (map_of k v o) h = cc
 cell_kind (list cs) (struct_of fs o) h = cc
 cell_kind (struct cs) (scalar k o) h = cc
 cell_kind (struct cs) (list_of s o) h = cc
+cell_kind (struct cs) (map_of k v o) h = cc
 cell_kind (struct cs) (struct_of fs o) h = refl
+cell_kind (pairs ps) (scalar k o) h = cc
+cell_kind (pairs ps) (list_of s o) h = cc
+cell_kind (pairs ps) (map_of k v o) h = refl
+cell_kind (pairs ps) (struct_of fs o) h = cc

@@ -1,7 +1,7 @@
 -- Tallies of lists, one after the other.
 use Rattle.std.proofs.Common.{◌≡◌, refl, sym, ◌∙◌, ap, arith, ℕ, suc, ◌+◌, ◌^◌, ◌<◌, ◌≤◌, List, [], ◌∷◌, length, drop, get_or, sum_by, true, All, Result, Ok, Err, IfErr, OnOk, subst}
 use Rattle.std.proofs.lemmas.List.{drop_more, drop_all, get_or-map}
-use Rattle.orc_types.specs.Cells.{Cell, null, leaf, list, struct, is_value, values}
+use Rattle.orc_types.specs.Cells.{Cell, null, leaf, list, struct, pairs, is_value, values}
 use Rattle.orc_types.specs.Views.{view}
 use Rattle.orc_types.specs.Lent.{lent_cells}
 use Rattle.orc_types.specs.declared.lent.Lent.{Lent}
@@ -21,6 +21,7 @@ few_values (null ∷ cells) = let h = few_values cells in omega arith
 few_values (leaf a ∷ cells) = let h = few_values cells in omega arith
 few_values (list cs ∷ cells) = let h = few_values cells in omega arith
 few_values (struct cs ∷ cells) = let h = few_values cells in omega arith
+few_values (pairs ps ∷ cells) = let h = few_values cells in omega arith
 
 pub few_lent : (xs : List Lent) → length (lent_cells xs) ≡ length xs
 few_lent [] = refl

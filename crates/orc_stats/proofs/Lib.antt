@@ -1,8 +1,12 @@
 pub mod Fitting
 pub mod Folding
+pub mod ListSizes
 pub mod Shuffled
 pub mod Meanings
 pub mod Words
+pub mod ChildTotals
 pub mod Parts
+pub mod Agreed
+pub mod KnownParts
 pub mod Normal
 pub mod ReadBack

@@ -1,11 +1,12 @@
 -- What the words of a statistic mean.
-use Rattle.std.proofs.Common.{◌≡◌, refl, ap, ◌∙◌, subst, arith, ℕ, zero, suc, ◌+◌, ℤ, pos, ◌+ℤ◌, Bool, true, false, if◌then◌else◌, List, [], ◌∷◌, map, Some, None, ◌↔◌}
+use Rattle.std.proofs.Common.{◌≡◌, refl, sym, ap, ◌∙◌, subst, arith, ℕ, zero, suc, ◌+◌, sum, ℤ, pos, ◌+ℤ◌, Bool, true, false, if◌then◌else◌, List, [], ◌∷◌, map, Some, None, ◌↔◌}
 use Rattle.std.proofs.lemmas.Int.{ints}
-use Rattle.std.proofs.lemmas.Cmp.{int_cmp_total, nat_list_cmp_total, back_total, upto}
+use Rattle.std.proofs.lemmas.List.Sums.{sum_by-cons}
+use Rattle.std.proofs.lemmas.Cmp.{int_cmp_total, nat_cmp_total, nat_list_cmp_total, back_total, upto}
 use Rattle.std.specs.FinMap.{IsAntisymmetric, int_cmp-IsAntisymmetric, nat_cmp-IsAntisymmetric, slice_cmp-IsAntisymmetric}
 use Rattle.std.specs.List.{AllByRecursion, Contains}
 use Rattle.std.specs.Cmp.{IsTotalOrder}
-use Rattle.std.specs.Ordering.{is_gt, int_cmp, flip_args, ordering_reverse}
+use Rattle.std.specs.Ordering.{is_gt, int_cmp, nat_cmp, flip_args, ordering_reverse}
 use Rattle.std.specs.declared.cmp.Ordering.{Ordering}
 use Rattle.std.specs.declared.cmp.Ordering.TheVariants.{Less, Equal, Greater}
 use Rattle.orc_stats.specs.Statistics.{lower, onto, reduce, bit, least, greatest, text_cmp, exact_total}
@@ -98,6 +99,16 @@ least_texts = lowest text_cmp nat_list_cmp_total texts_same
 
 pub greatest_texts : (ts : List (List ℕ)) (t : List ℕ) → (greatest text_cmp ts ≡ Some t) ↔ IsLowest (flip_args text_cmp) ts t
 greatest_texts = lowest (flip_args text_cmp) (back_total nat_list_cmp_total) (flipped_same texts_same)
+
+pub least_counts : (ns : List ℕ) (n : ℕ) → (least nat_cmp ns ≡ Some n) ↔ IsLowest nat_cmp ns n
+least_counts = lowest nat_cmp nat_cmp_total nat_cmp-IsAntisymmetric
+
+pub greatest_counts : (ns : List ℕ) (n : ℕ) → (greatest nat_cmp ns ≡ Some n) ↔ IsLowest (flip_args nat_cmp) ns n
+greatest_counts = lowest (flip_args nat_cmp) (back_total nat_cmp_total) (flipped_same nat_cmp-IsAntisymmetric)
+
+pub count_totals : (n : ℕ) (ns : List ℕ) → reduce ◌+◌ (n ∷ ns) ≡ Some (sum (n ∷ ns))
+count_totals n [] = ap Some (omega arith)
+count_totals n (m ∷ ns) = ap (λ r. Some (onto ◌+◌ n r)) (count_totals m ns) ∙ ap Some (sym (sum_by-cons (λ (x : ℕ). x) n (m ∷ ns)))
 
 pub totals : (z : ℤ) (zs : List ℤ) → exact_total (z ∷ zs) ≡ Some (sum_without_limit (z ∷ zs))
 totals z [] = ap Some (alone z)

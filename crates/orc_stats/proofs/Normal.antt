@@ -3,7 +3,7 @@ use Rattle.std.proofs.Common.{◌≡◌, refl, sym, ◌∙◌, ap, arith, ℕ, �
 use Rattle.std.proofs.lemmas.List.Sums.{sum_by-cons}
 use Rattle.std.specs.List.{filter_map, AllByRecursion}
 use Rattle.std.specs.Option.{option_and_then, IfSome}
-use Rattle.std.specs.Ordering.{int_cmp}
+use Rattle.std.specs.Ordering.{int_cmp, nat_cmp}
 use Rattle.orc_types.specs.Cells.{Cell, values}
 use Rattle.orc_stats.specs.declared.kind.StatKind.{StatKind}
 use Rattle.orc_stats.specs.declared.kind.StatKind.TheVariants as kind
@@ -11,12 +11,13 @@ use Rattle.orc_stats.specs.declared.stat.Stat.{Stat}
 use Rattle.orc_stats.specs.declared.stat.Body.{Body}
 use Rattle.orc_stats.specs.declared.stat.Body.TheVariants as body
 use Rattle.orc_stats.specs.Kinds.{is_of, body_is_of}
-use Rattle.orc_stats.specs.Statistics.{reduce, bit, least, greatest, total, lengths, text_cmp, bool_of, values_body, stat}
+use Rattle.orc_stats.specs.Statistics.{reduce, bit, least, greatest, total, lengths, children_total, text_cmp, bool_of, values_body, stat}
 use Rattle.orc_stats.specs.Joining.{in_limit, trues_total, parts_if_known, has_values, valued_bodies, bodies_joined, trues_of, joined}
 use Rattle.orc_stats.specs.Messages.{unknown, few_trues, IsStat}
 use Rattle.orc_stats.specs.TallyKinds.{picked_map, few_bits, few_picked}
 use Rattle.orc_stats.proofs.Folding.{few_values}
 use Rattle.orc_stats.proofs.Parts.{few_ints, few_dates, few_bools, few_texts, few_bins}
+use Rattle.orc_stats.proofs.ChildTotals.{few_children}
 
 within : (n : ℕ) (t : Option ℕ) → n ≤ 2 ^ 62 → few_trues t ≡ true → (nat_le n (2 ^ 62) && few_trues t) ≡ true
 within n t most few = ap (λ b. b && few_trues t) (le-leb n (2 ^ 62) most) ∙ few
@@ -41,6 +42,7 @@ joined_kind kind.Bools bs = refl
 joined_kind kind.Dates bs = refl
 joined_kind kind.Texts bs = refl
 joined_kind kind.Bins bs = refl
+joined_kind kind.Children bs = refl
 
 joined_trues : (k : StatKind) (bs : List Body) → few_trues (trues_of (bodies_joined k bs)) ≡ true
 joined_trues kind.Plain bs = refl
@@ -49,6 +51,7 @@ joined_trues kind.Bools bs = few_known (parts_if_known (map trues_of bs))
 joined_trues kind.Dates bs = refl
 joined_trues kind.Texts bs = refl
 joined_trues kind.Bins bs = refl
+joined_trues kind.Children bs = refl
 
 none_joined : (k : StatKind) → bodies_joined k [] ≡ unknown k
 none_joined kind.Plain = refl
@@ -57,6 +60,7 @@ none_joined kind.Bools = refl
 none_joined kind.Dates = refl
 none_joined kind.Texts = refl
 none_joined kind.Bins = refl
+none_joined kind.Children = refl
 
 without_values : (s : Stat) (ss : List Stat) → s.count ≡ 0 → valued_bodies (s ∷ ss) ≡ valued_bodies ss
 without_values s ss e = ap (λ n. map (λ t. t.body) (if nat_lt 0 n then s ∷ filter has_values ss else filter has_values ss)) e
@@ -82,6 +86,7 @@ cells_kind kind.Bools cells = refl
 cells_kind kind.Dates cells = refl
 cells_kind kind.Texts cells = refl
 cells_kind kind.Bins cells = refl
+cells_kind kind.Children cells = refl
 
 few_of : (r : Option ℕ) (n : ℕ) → IfSome r (λ k. k ≤ n) → n ≤ 2 ^ 62 → few_trues r ≡ true
 few_of None n few most = refl
@@ -97,6 +102,7 @@ cells_trues kind.Bools cells most =
 cells_trues kind.Dates cells most = refl
 cells_trues kind.Texts cells most = refl
 cells_trues kind.Bins cells most = refl
+cells_trues kind.Children cells most = refl
 
 nothing : {A : Type 0} (xs : List A) (n : ℕ) → n ≡ length xs → n ≡ 0 → xs ≡ []
 nothing [] n e z = refl
@@ -109,6 +115,7 @@ cells_unknown kind.Bools cells h e = ap (λ ns. body.Bools (reduce ◌+◌ ns)) 
 cells_unknown kind.Dates cells h e = ap (λ zs. body.Dates (least int_cmp zs) (greatest int_cmp zs)) (nothing _ _ (few_dates cells h) e)
 cells_unknown kind.Texts cells h e = ap (λ ts. body.Texts (least text_cmp ts) (greatest text_cmp ts) (total (lengths ts))) (nothing _ _ (few_texts cells h) e)
 cells_unknown kind.Bins cells h e = ap (λ ts. body.Bins (total (lengths ts))) (nothing _ _ (few_bins cells h) e)
+cells_unknown kind.Children cells h e = ap (λ ns. body.Children (least nat_cmp ns) (greatest nat_cmp ns) (children_total ns)) (nothing _ _ (few_children cells h) e)
 
 pub stat-normal : (k : StatKind) (cells : List Cell) → AllByRecursion (λ c. is_of k c ≡ true) cells → length cells ≤ 2 ^ 62 → IsStat k (stat k cells)
 stat-normal k cells h most = record {

@@ -4,23 +4,24 @@ use Rattle.std.proofs.lemmas.List.Sums.{sum_by-cons}
 use Rattle.std.proofs.lemmas.List.Folds.{list_any-append}
 use Rattle.std.specs.List.{filter_map, list_all, AllByRecursion}
 use Rattle.std.specs.Option.{option_map, option_and_then}
-use Rattle.std.specs.Ordering.{int_cmp, flip_args}
+use Rattle.std.specs.Ordering.{int_cmp, nat_cmp, flip_args}
 use Rattle.orc_types.proofs.Together.{values-append}
-use Rattle.orc_types.specs.Cells.{bool, int, date, text, bytes, Cell, null, leaf, list, struct, values}
+use Rattle.orc_types.specs.Cells.{bool, int, date, text, bytes, Cell, null, leaf, list, struct, pairs, values}
 use Rattle.orc_stats.specs.declared.kind.StatKind.{StatKind}
 use Rattle.orc_stats.specs.declared.kind.StatKind.TheVariants as kind
 use Rattle.orc_stats.specs.declared.stat.Stat.{Stat}
 use Rattle.orc_stats.specs.declared.stat.Body.{Body}
 use Rattle.orc_stats.specs.declared.stat.Body.TheVariants as body
 use Rattle.orc_stats.specs.Kinds.{is_of}
-use Rattle.orc_stats.specs.Statistics.{lower, reduce, text_cmp, total, lengths, bit, int_of, date_of, bool_of, text_of, bytes_of, has_null, values_body, stat}
-use Rattle.orc_stats.specs.Joining.{or_known, in_limit, nulls_joined, least_int, greatest_int, least_date, greatest_date, least_text, greatest_text, trues_of, valued_bodies, bodies_joined, joined}
+use Rattle.orc_stats.specs.Statistics.{lower, reduce, text_cmp, total, lengths, bit, int_of, date_of, bool_of, text_of, bytes_of, children_of, has_null, values_body, stat}
+use Rattle.orc_stats.specs.Joining.{or_known, in_limit, nulls_joined, least_int, greatest_int, least_date, greatest_date, least_text, greatest_text, trues_of, least_children, greatest_children, valued_bodies, bodies_joined, joined}
 use Rattle.orc_stats.specs.Whole.{without_sum, keeps_sum, whole}
-use Rattle.orc_stats.specs.Orders.{nat_sums, lower_ints, higher_ints, lower_texts, higher_texts}
+use Rattle.orc_stats.specs.Orders.{nat_sums, lower_ints, higher_ints, lower_texts, higher_texts, lower_nats, higher_nats}
 use Rattle.orc_stats.specs.Measures.{plain}
 use Rattle.orc_stats.specs.TallyLaws.{stat_is}
-use Rattle.orc_stats.specs.TallyKinds.{ints_is, dates_is, texts_is, picked_map, trues_kept}
+use Rattle.orc_stats.specs.TallyKinds.{ints_is, dates_is, texts_is, children_is, picked_map, trues_kept}
 use Rattle.orc_stats.proofs.Words.{word, word_in, sum_word}
+use Rattle.orc_stats.proofs.ChildTotals.{few_children, total_word}
 
 -- counts and nulls, of any kind
 whole_count : (k : StatKind) (parts : List (List Cell)) → sum_by (λ s. s.count) (map (stat k) parts) ≡ length (values (flat_map (λ p. p) parts))
@@ -57,6 +58,7 @@ few_ints (leaf (int z) ∷ p) h = ap suc (few_ints p h.1)
 few_ints (leaf _ ∷ p) h = cc
 few_ints (list cs ∷ p) h = cc
 few_ints (struct cs ∷ p) h = cc
+few_ints (pairs ps ∷ p) h = cc
 
 pub few_dates : (p : List Cell) → AllByRecursion (λ c. is_of kind.Dates c ≡ true) p → length (values p) ≡ length (filter_map date_of p)
 few_dates [] h = refl
@@ -65,6 +67,7 @@ few_dates (leaf (date z) ∷ p) h = ap suc (few_dates p h.1)
 few_dates (leaf _ ∷ p) h = cc
 few_dates (list cs ∷ p) h = cc
 few_dates (struct cs ∷ p) h = cc
+few_dates (pairs ps ∷ p) h = cc
 
 pub few_bools : (p : List Cell) → AllByRecursion (λ c. is_of kind.Bools c ≡ true) p → length (values p) ≡ length (filter_map (λ c. option_map bit (bool_of c)) p)
 few_bools [] h = refl
@@ -73,6 +76,7 @@ few_bools (leaf (bool z) ∷ p) h = ap suc (few_bools p h.1)
 few_bools (leaf _ ∷ p) h = cc
 few_bools (list cs ∷ p) h = cc
 few_bools (struct cs ∷ p) h = cc
+few_bools (pairs ps ∷ p) h = cc
 
 pub few_texts : (p : List Cell) → AllByRecursion (λ c. is_of kind.Texts c ≡ true) p → length (values p) ≡ length (filter_map text_of p)
 few_texts [] h = refl
@@ -81,6 +85,7 @@ few_texts (leaf (text z) ∷ p) h = ap suc (few_texts p h.1)
 few_texts (leaf _ ∷ p) h = cc
 few_texts (list cs ∷ p) h = cc
 few_texts (struct cs ∷ p) h = cc
+few_texts (pairs ps ∷ p) h = cc
 
 pub few_bins : (p : List Cell) → AllByRecursion (λ c. is_of kind.Bins c ≡ true) p → length (values p) ≡ length (filter_map bytes_of p)
 few_bins [] h = refl
@@ -89,6 +94,7 @@ few_bins (leaf (bytes z) ∷ p) h = ap suc (few_bins p h.1)
 few_bins (leaf _ ∷ p) h = cc
 few_bins (list cs ∷ p) h = cc
 few_bins (struct cs ∷ p) h = cc
+few_bins (pairs ps ∷ p) h = cc
 
 -- the lengths of what is picked
 length_picked : (pick : Cell → Option (List ℕ)) (p : List Cell) → length (filter_map pick p) ≡ length (filter_map (λ c. option_map (λ t. pos (length t)) (pick c)) p)
@@ -162,6 +168,15 @@ bools_parts parts h most = whole_is kind.Bools parts
 plain_parts : (parts : List (List Cell)) → joined kind.Plain (map (stat kind.Plain) parts) ≡ whole kind.Plain parts
 plain_parts parts = whole_is kind.Plain parts (either_way (list_all (λ p. keeps_sum (stat kind.Plain p)) parts) body.Plain)
 
+-- where a part's total doesn't fit, that of all doesn't
+children_parts : (parts : List (List Cell)) → AllByRecursion (AllByRecursion (λ c. is_of kind.Children c ≡ true)) parts → joined kind.Children (map (stat kind.Children) parts) ≡ whole kind.Children parts
+children_parts parts h = whole_is kind.Children parts
+    (children_is
+    (word (lower nat_cmp) lower_nats kind.Children least_children children_of (λ p. refl) few_children parts h)
+    (word (lower (flip_args nat_cmp)) higher_nats kind.Children greatest_children children_of (λ p. refl) few_children parts h)
+    (total_word parts h)
+    ∙ either_way (list_all (λ p. keeps_sum (stat kind.Children p)) parts) (values_body kind.Children (flat_map (λ p. p) parts)))
+
 pub joined-parts : (k : StatKind) (parts : List (List Cell)) → AllByRecursion (AllByRecursion (λ c. is_of k c ≡ true)) parts → length (flat_map (λ p. p) parts) ≤ 2 ^ 62
     → joined k (map (stat k) parts) ≡ whole k parts
 joined-parts kind.Plain parts h most = plain_parts parts
@@ -170,3 +185,4 @@ joined-parts kind.Bools parts h most = bools_parts parts h most
 joined-parts kind.Dates parts h most = dates_parts parts h
 joined-parts kind.Texts parts h most = texts_parts parts h
 joined-parts kind.Bins parts h most = bins_parts parts h
+joined-parts kind.Children parts h most = children_parts parts h

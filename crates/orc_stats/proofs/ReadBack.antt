@@ -6,7 +6,7 @@ use Rattle.orc_stats.specs.declared.stat.Stat.{Stat}
 use Rattle.orc_stats.specs.declared.stat.Body.{Body}
 use Rattle.orc_stats.specs.declared.stat.Body.TheVariants as body
 use Rattle.orc_stats.specs.Kinds.{body_is_of}
-use Rattle.orc_stats.specs.Messages.{unknown, ints_body, ints_record, dates_body, dates_record, texts_body, texts_record, bins_body, bins_record, bools_body, bools_record, body_read, stat_read, message_of, IsStat}
+use Rattle.orc_stats.specs.Messages.{unknown, ints_body, ints_record, dates_body, dates_record, texts_body, texts_record, bins_body, bins_record, bools_body, bools_record, children_body, children_record, body_read, stat_read, message_of, IsStat}
 use Rattle.orc_stats.specs.TallyLaws.{stat_is}
 use Rattle.orc_stats.specs.Measures.{plain}
 
@@ -31,6 +31,12 @@ bins_back : (s : Option ℤ) → bins_body (bins_record s) ≡ body.Bins s
 bins_back (Some s) = refl
 bins_back None = refl
 
+children_back : (l g t : Option ℕ) → children_body (children_record l g t) ≡ body.Children l g t
+children_back (Some l) g t = refl
+children_back None (Some g) t = refl
+children_back None None (Some t) = refl
+children_back None None None = refl
+
 trues_back : (t : Option ℕ) → bools_body (bools_record t) ≡ body.Bools t
 trues_back (Some t) = refl
 trues_back None = refl
@@ -49,6 +55,8 @@ body_back kind.Texts n o (body.Texts l g s) e = texts_back l g s
 body_back kind.Texts n o _ e = cc
 body_back kind.Bins n o (body.Bins s) e = bins_back s
 body_back kind.Bins n o _ e = cc
+body_back kind.Children n o (body.Children l g t) e = children_back l g t
+body_back kind.Children n o _ e = cc
 
 by_count : (b : Bool) (n : ℕ) (x y z : Body) → (n == 0) ≡ b → (n ≡ 0 → z ≡ x) → y ≡ z → (if b then x else y) ≡ z
 by_count true n x y z e empty back = sym (empty (eqb-true n 0 e))

@@ -21,9 +21,9 @@ use Rattle.orc_stats.specs.Statistics.{reduce, bit, bool_of, stat}
 use Rattle.orc_stats.specs.Orders.{nat_sums}
 use Rattle.orc_stats.specs.Joining.{joined}
 use Rattle.orc_stats.specs.Tallies.{Measure, Kept, together, cell_kept, stat_kept, all_kept, cells_kept, stats_kept, stat_of_kept}
-use Rattle.orc_stats.specs.Measures.{ints, dates, texts, bools, bins, plain}
+use Rattle.orc_stats.specs.Measures.{ints, dates, texts, bools, bins, children, plain}
 use Rattle.orc_stats.specs.TallyLaws.{together_comm, together_assoc, stat_is, cells_kept_parts, cells_kept_count, cells_kept_nulls, known_values}
-use Rattle.orc_stats.specs.TallyKinds.{ints_cells, dates_cells, texts_cells, bins_cells, plain_cells, ints_stats, dates_stats, texts_stats, bools_stats, bins_stats, plain_stats, picked_map}
+use Rattle.orc_stats.specs.TallyKinds.{ints_cells, dates_cells, texts_cells, bins_cells, children_cells, plain_cells, ints_stats, dates_stats, texts_stats, bools_stats, bins_stats, children_stats, plain_stats, picked_map}
 
 module _ {P : Type 0} (m : Measure P) where
   together_left : (x u r : Kept P) → together m x (together m u r) ≡ together m u (together m x r)
@@ -98,6 +98,7 @@ stat-shuffled kind.Bools xs ys same =
 stat-shuffled kind.Dates xs ys same = sym (dates_cells ys) ∙ ap (stat_of_kept dates) (cells_kept-shuffled dates xs ys same) ∙ dates_cells xs
 stat-shuffled kind.Texts xs ys same = sym (texts_cells ys) ∙ ap (stat_of_kept texts) (cells_kept-shuffled texts xs ys same) ∙ texts_cells xs
 stat-shuffled kind.Bins xs ys same = sym (bins_cells ys) ∙ ap (stat_of_kept bins) (cells_kept-shuffled bins xs ys same) ∙ bins_cells xs
+stat-shuffled kind.Children xs ys same = sym (children_cells ys) ∙ ap (stat_of_kept children) (cells_kept-shuffled children xs ys same) ∙ children_cells xs
 
 -- joined statistics have no order
 pub joined-shuffled : (k : StatKind) (xs ys : List Stat) → IsPermutation xs ys → joined k ys ≡ joined k xs
@@ -107,6 +108,7 @@ joined-shuffled kind.Bools xs ys same = sym (bools_stats ys) ∙ ap (stat_of_kep
 joined-shuffled kind.Dates xs ys same = sym (dates_stats ys) ∙ ap (stat_of_kept dates) (stats_kept-shuffled dates xs ys same) ∙ dates_stats xs
 joined-shuffled kind.Texts xs ys same = sym (texts_stats ys) ∙ ap (stat_of_kept texts) (stats_kept-shuffled texts xs ys same) ∙ texts_stats xs
 joined-shuffled kind.Bins xs ys same = sym (bins_stats ys) ∙ ap (stat_of_kept bins) (stats_kept-shuffled bins xs ys same) ∙ bins_stats xs
+joined-shuffled kind.Children xs ys same = sym (children_stats ys) ∙ ap (stat_of_kept children) (stats_kept-shuffled children xs ys same) ∙ children_stats xs
 
 -- a statistic of no cells adds nothing
 pub joined-empty : (k : StatKind) (o : Body) (ss : List Stat)

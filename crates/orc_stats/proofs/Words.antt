@@ -20,7 +20,7 @@ use Rattle.orc_stats.specs.Tallies.{all}
 use Rattle.orc_stats.specs.Measures.{seen_joins, int_totals}
 use Rattle.orc_stats.specs.TallyLaws.{value_onto, unknown_stays, known_value, known_all, known_all_in}
 
-positive : (n k : ℕ) → n ≡ suc k → nat_lt 0 n ≡ true
+pub positive : (n k : ℕ) → n ≡ suc k → nat_lt 0 n ≡ true
 positive n k e = lt-ltb 0 n (omega arith)
 
 module _ {A : Type 0} (op : A → A → A) (o : IsOrderly op) where

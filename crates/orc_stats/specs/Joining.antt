@@ -1,13 +1,13 @@
 -- The statistic of what several statistics are of (own: parts that aren't known, and the limit of true values).
 use Rattle.std.specs.Prelude.{ℕ, ◌+◌, ◌^◌, nat_lt, nat_le, ℤ, Bool, true, false, if◌then◌else◌, List, [], ◌∷◌, map, filter, sum_by, Option, Some, None}
 use Rattle.std.specs.Option.{option_map, option_and_then}
-use Rattle.std.specs.Ordering.{int_cmp}
+use Rattle.std.specs.Ordering.{int_cmp, nat_cmp}
 use Rattle.orc_stats.specs.declared.kind.StatKind.{StatKind}
 use Rattle.orc_stats.specs.declared.kind.StatKind.TheVariants as kind
 use Rattle.orc_stats.specs.declared.stat.Stat.{Stat}
 use Rattle.orc_stats.specs.declared.stat.Body.{Body}
 use Rattle.orc_stats.specs.declared.stat.Body.TheVariants as body
-use Rattle.orc_stats.specs.Statistics.{reduce, least, greatest, text_cmp, total}
+use Rattle.orc_stats.specs.Statistics.{reduce, least, greatest, text_cmp, total, children_total}
 
 -- all the parts, where each is known
 abbrev pub parts_if_known : {A : Type 0} → List (Option A) → Option (List A)
@@ -72,6 +72,18 @@ sum_of (body.Texts l g s) = s
 sum_of (body.Bins s) = s
 sum_of _ = None
 
+abbrev pub least_children : Body → Option ℕ
+least_children (body.Children l g t) = l
+least_children _ = None
+
+abbrev pub greatest_children : Body → Option ℕ
+greatest_children (body.Children l g t) = g
+greatest_children _ = None
+
+abbrev pub total_children : Body → Option ℕ
+total_children (body.Children l g t) = t
+total_children _ = None
+
 abbrev pub bodies_joined : StatKind → List Body → Body
 bodies_joined kind.Plain bs = body.Plain
 bodies_joined kind.Ints bs =
@@ -88,6 +100,11 @@ bodies_joined kind.Texts bs =
     (of_known (greatest text_cmp) (map greatest_text bs))
     (of_known total (map sum_of bs))
 bodies_joined kind.Bins bs = body.Bins (of_known total (map sum_of bs))
+bodies_joined kind.Children bs =
+    body.Children
+    (of_known (least nat_cmp) (map least_children bs))
+    (of_known (greatest nat_cmp) (map greatest_children bs))
+    (of_known children_total (map total_children bs))
 
 abbrev pub has_values : Stat → Bool
 has_values s = nat_lt 0 s.count

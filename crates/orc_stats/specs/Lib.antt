@@ -2,6 +2,7 @@ pub mod Kinds
 pub mod Statistics
 pub mod Joining
 pub mod Whole
+pub mod Known
 pub mod Meanings
 pub mod Messages
 pub mod Faults

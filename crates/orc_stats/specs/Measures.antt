@@ -1,14 +1,14 @@
 -- What is counted of the values of each kind of column (ORC specification, "Column Statistics").
 use Rattle.std.specs.Prelude.{refl, ◌+◌, ℕ, ℤ, ◌+ℤ◌, pos, List, length}
 use Rattle.std.specs.Option.{option_map, option_and_then}
-use Rattle.std.specs.Ordering.{int_cmp, flip_args}
+use Rattle.std.specs.Ordering.{int_cmp, nat_cmp, flip_args}
 use Rattle.orc_stats.specs.declared.stat.Body.TheVariants as body
 use Rattle.orc_stats.specs.declared.seen.Seen.{Seen}
 use Rattle.orc_stats.specs.declared.seen.Seen.TheVariants.{Nothing}
-use Rattle.orc_stats.specs.Statistics.{lower, text_cmp, in_64, bit, int_of, date_of, bool_of, text_of, bytes_of}
-use Rattle.orc_stats.specs.Joining.{in_limit, least_int, greatest_int, least_date, greatest_date, least_text, greatest_text, trues_of, sum_of}
+use Rattle.orc_stats.specs.Statistics.{lower, text_cmp, in_64, in_u64, bit, int_of, date_of, bool_of, text_of, bytes_of, children_of}
+use Rattle.orc_stats.specs.Joining.{in_limit, least_int, greatest_int, least_date, greatest_date, least_text, greatest_text, trues_of, sum_of, least_children, greatest_children, total_children}
 use Rattle.orc_stats.specs.Seen.{both, seen_of, known_of, value_seen}
-use Rattle.orc_stats.specs.Orders.{both_orderly, pairs_orderly, pair_is, int_sums, nat_sums, lower_ints, higher_ints, lower_texts, higher_texts, IsOrderly}
+use Rattle.orc_stats.specs.Orders.{both_orderly, pairs_orderly, pair_is, int_sums, nat_sums, lower_ints, higher_ints, lower_texts, higher_texts, lower_nats, higher_nats, IsOrderly}
 use Rattle.orc_stats.specs.Tallies.{Joins, Measure}
 
 -- parts of one word
@@ -26,6 +26,12 @@ least_texts = seen_joins (lower text_cmp) lower_texts
 
 abbrev pub greatest_texts : Joins (Seen (List ℕ))
 greatest_texts = seen_joins (lower (flip_args text_cmp)) higher_texts
+
+abbrev pub least_nats : Joins (Seen ℕ)
+least_nats = seen_joins (lower nat_cmp) lower_nats
+
+abbrev pub greatest_nats : Joins (Seen ℕ)
+greatest_nats = seen_joins (lower (flip_args nat_cmp)) higher_nats
 
 abbrev pub int_totals : Joins (Seen ℤ)
 int_totals = seen_joins ◌+ℤ◌ int_sums
@@ -93,7 +99,17 @@ bins = record {
   body = λ p. body.Bins (option_and_then in_64 (known_of p));
 }
 
--- LIST and STRUCT: nothing
+-- LIST and MAP: least, greatest and total of the numbers of children
+abbrev pub children : Measure (Seen ℕ × (Seen ℕ × Seen ℕ))
+children = record {
+  joins = least_nats and greatest_nats and nat_totals;
+  of_cell = λ c. (value_seen (children_of c), (value_seen (children_of c), value_seen (children_of c)));
+  of_null = refl;
+  of_body = λ b. (seen_of (least_children b), (seen_of (greatest_children b), seen_of (total_children b)));
+  body = λ p. body.Children (known_of p.0) (known_of p.1.0) (option_and_then in_u64 (known_of p.1.1));
+}
+
+-- STRUCT: nothing
 abbrev pub plain : Measure (Unit {0})
 plain = record {
   joins = record {

@@ -7,6 +7,7 @@ use Rattle.orc_wire.specs.declared.stats_records.StringStatistics.{StringStatist
 use Rattle.orc_wire.specs.declared.stats_records.BucketStatistics.{BucketStatistics}
 use Rattle.orc_wire.specs.declared.stats_records.DateStatistics.{DateStatistics}
 use Rattle.orc_wire.specs.declared.stats_records.BinaryStatistics.{BinaryStatistics}
+use Rattle.orc_wire.specs.declared.stats_records.CollectionStatistics.{CollectionStatistics}
 use Rattle.orc_stats.specs.declared.kind.StatKind.{StatKind}
 use Rattle.orc_stats.specs.declared.kind.StatKind.TheVariants as kind
 use Rattle.orc_stats.specs.declared.stat.Stat.{Stat}
@@ -23,6 +24,7 @@ unknown kind.Bools = body.Bools None
 unknown kind.Dates = body.Dates None None
 unknown kind.Texts = body.Texts None None None
 unknown kind.Bins = body.Bins None
+unknown kind.Children = body.Children None None None
 
 -- What the record of each kind says; without it nothing is known.
 abbrev pub ints_body : Option IntegerStatistics → Body
@@ -41,6 +43,10 @@ abbrev pub bins_body : Option BinaryStatistics → Body
 bins_body None = body.Bins None
 bins_body (Some r) = body.Bins r.sum
 
+abbrev pub children_body : Option CollectionStatistics → Body
+children_body None = body.Children None None None
+children_body (Some r) = body.Children r.min_children r.max_children r.total_children
+
 -- the first of the buckets is the count of true
 abbrev pub first_of : List ℕ → Option ℕ
 first_of [] = None
@@ -58,6 +64,7 @@ body_read kind.Bools m = bools_body m.bucket_statistics
 body_read kind.Dates m = dates_body m.date_statistics
 body_read kind.Texts m = texts_body m.string_statistics
 body_read kind.Bins m = bins_body m.binary_statistics
+body_read kind.Children m = children_body m.collection_statistics
 
 -- the statistic of a column of that kind that a message is; where it counts no values, its record means nothing
 abbrev pub stat_read : StatKind → ColumnStats → Stat
@@ -91,6 +98,12 @@ abbrev pub bins_record : Option ℤ → Option BinaryStatistics
 bins_record None = None
 bins_record (Some s) = Some (record { sum = Some s })
 
+abbrev pub children_record : Option ℕ → Option ℕ → Option ℕ → Option CollectionStatistics
+children_record l g t =
+    if is_some l || is_some g || is_some t
+    then Some (record { min_children = l; max_children = g; total_children = t })
+    else None
+
 abbrev pub bools_record : Option ℕ → Option BucketStatistics
 bools_record None = None
 bools_record (Some n) = Some (record { count = n ∷ [] })
@@ -116,6 +129,10 @@ abbrev pub bin_record : Body → Option BinaryStatistics
 bin_record (body.Bins s) = bins_record s
 bin_record _ = None
 
+abbrev pub collection_record : Body → Option CollectionStatistics
+collection_record (body.Children l g t) = children_record l g t
+collection_record _ = None
+
 abbrev pub message_of : Stat → ColumnStats
 message_of s = record {
   number_of_values = s.count;
@@ -125,6 +142,7 @@ message_of s = record {
   date_statistics = date_record s.body;
   binary_statistics = bin_record s.body;
   has_null = s.nulls;
+  collection_statistics = collection_record s.body;
 }
 
 -- whether its record takes memory: for a text, or for the list of buckets
@@ -135,6 +153,7 @@ takes_memory (body.Bools t) = is_some t
 takes_memory (body.Dates l g) = false
 takes_memory (body.Texts l g s) = is_some l || is_some g
 takes_memory (body.Bins s) = false
+takes_memory (body.Children l g t) = false
 
 -- a statistic of a column of that kind, within the limits; of no values nothing is known
 pub record IsStat (k : StatKind) (s : Stat) : Type 0 where

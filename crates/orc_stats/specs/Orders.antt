@@ -1,11 +1,11 @@
 -- Words that put two together, in any order and grouping.
 use Rattle.std.specs.Prelude.{◌≡◌, ◌+◌, ◌+ℤ◌, Bool, true, false, if◌then◌else◌, Option, Some, None, refl}
-use Rattle.std.specs.Ordering.{is_gt, int_cmp, flip_args, ordering_reverse}
+use Rattle.std.specs.Ordering.{is_gt, int_cmp, nat_cmp, flip_args, ordering_reverse}
 use Rattle.std.specs.declared.cmp.Ordering.{Ordering}
 use Rattle.std.specs.declared.cmp.Ordering.TheVariants.{Less, Equal, Greater}
 use Rattle.std.specs.Cmp.{IsTotalOrder}
 use Rattle.std.proofs.lemmas.Int.{ints}
-use Rattle.std.proofs.lemmas.Cmp.{int_cmp_total, nat_list_cmp_total, back_total, upto}
+use Rattle.std.proofs.lemmas.Cmp.{int_cmp_total, nat_cmp_total, nat_list_cmp_total, back_total, upto}
 use Rattle.std.specs.FinMap.{IsAntisymmetric, int_cmp-IsAntisymmetric, nat_cmp-IsAntisymmetric, slice_cmp-IsAntisymmetric}
 use Rattle.std.proofs.Common.{sym, ◌∙◌, ap, arith}
 use Rattle.orc_stats.specs.declared.seen.Seen.{Seen}
@@ -150,3 +150,9 @@ pub higher_texts : IsOrderly (lower (flip_args text_cmp))
 higher_texts =
     lower_orderly (flip_args text_cmp) (back_total nat_list_cmp_total)
     (flipped_same (slice_cmp-IsAntisymmetric nat_cmp-IsAntisymmetric))
+
+pub lower_nats : IsOrderly (lower nat_cmp)
+lower_nats = lower_orderly nat_cmp nat_cmp_total nat_cmp-IsAntisymmetric
+
+pub higher_nats : IsOrderly (lower (flip_args nat_cmp))
+higher_nats = lower_orderly (flip_args nat_cmp) (back_total nat_cmp_total) (flipped_same nat_cmp-IsAntisymmetric)

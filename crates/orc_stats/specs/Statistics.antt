@@ -1,11 +1,11 @@
 -- The statistic of a list of cells (ORC specification, "Column Statistics").
-use Rattle.std.specs.Prelude.{ℕ, ◌+◌, ℤ, pos, ◌+ℤ◌, Bool, true, false, not, if◌then◌else◌, List, [], ◌∷◌, length, map, Option, Some, None}
+use Rattle.std.specs.Prelude.{ℕ, ◌+◌, ◌^◌, nat_lt, ℤ, pos, ◌+ℤ◌, Bool, true, false, not, if◌then◌else◌, List, [], ◌∷◌, length, map, Option, Some, None}
 use Rattle.std.specs.List.{filter_map, list_any}
 use Rattle.std.specs.Option.{option_and_then}
 use Rattle.std.specs.Ordering.{is_gt, int_cmp, nat_cmp, flip_args}
 use Rattle.std.specs.Cmp.Lexicographic.{slice_cmp}
 use Rattle.std.specs.declared.cmp.Ordering.{Ordering}
-use Rattle.orc_types.specs.Cells.{bool, int, date, text, bytes, Cell, null, leaf, list, struct, values, is_value}
+use Rattle.orc_types.specs.Cells.{bool, int, date, text, bytes, Cell, null, leaf, list, struct, pairs, list_of_cells, list_of_pairs, values, is_value}
 use Rattle.orc_types.specs.Fits.{signed_fits}
 use Rattle.orc_stats.specs.declared.kind.StatKind.{StatKind}
 use Rattle.orc_stats.specs.declared.kind.StatKind.TheVariants as kind
@@ -50,6 +50,14 @@ in_64 z = if signed_fits 63 z then Some z else None
 abbrev pub total : List ℤ → Option ℤ
 total zs = option_and_then in_64 (exact_total zs)
 
+-- a number where it has 64 bits
+abbrev pub in_u64 : ℕ → Option ℕ
+in_u64 n = if nat_lt n (2 ^ 64) then Some n else None
+
+-- the exact total of numbers of children, where there is one and it has 64 bits
+abbrev pub children_total : List ℕ → Option ℕ
+children_total ns = option_and_then in_u64 (reduce ◌+◌ ns)
+
 abbrev pub lengths : List (List ℕ) → List ℤ
 lengths ts = map (λ t. pos (length t)) ts
 
@@ -67,6 +75,7 @@ int_of (leaf (text s)) = None
 int_of (leaf (bytes s)) = None
 int_of (list cs) = None
 int_of (struct cs) = None
+int_of (pairs ps) = None
 
 abbrev pub date_of : Cell → Option ℤ
 date_of null = None
@@ -77,6 +86,7 @@ date_of (leaf (text s)) = None
 date_of (leaf (bytes s)) = None
 date_of (list cs) = None
 date_of (struct cs) = None
+date_of (pairs ps) = None
 
 abbrev pub bool_of : Cell → Option Bool
 bool_of null = None
@@ -87,6 +97,7 @@ bool_of (leaf (text s)) = None
 bool_of (leaf (bytes s)) = None
 bool_of (list cs) = None
 bool_of (struct cs) = None
+bool_of (pairs ps) = None
 
 abbrev pub text_of : Cell → Option (List ℕ)
 text_of null = None
@@ -97,6 +108,7 @@ text_of (leaf (text s)) = Some s
 text_of (leaf (bytes s)) = None
 text_of (list cs) = None
 text_of (struct cs) = None
+text_of (pairs ps) = None
 
 abbrev pub bytes_of : Cell → Option (List ℕ)
 bytes_of null = None
@@ -107,6 +119,15 @@ bytes_of (leaf (text s)) = None
 bytes_of (leaf (bytes s)) = Some s
 bytes_of (list cs) = None
 bytes_of (struct cs) = None
+bytes_of (pairs ps) = None
+
+-- how many children a list has, or pairs a map; one that is null has no such number
+abbrev pub children_of : Cell → Option ℕ
+children_of null = None
+children_of (leaf a) = None
+children_of (list cs) = Some (length (list_of_cells cs))
+children_of (struct cs) = None
+children_of (pairs ps) = Some (length (list_of_pairs ps))
 
 abbrev pub values_body : StatKind → List Cell → Body
 values_body kind.Plain cells = body.Plain
@@ -117,6 +138,8 @@ values_body kind.Dates cells = let zs = filter_map date_of cells in body.Dates (
 values_body kind.Texts cells =
     let ts = filter_map text_of cells in body.Texts (least text_cmp ts) (greatest text_cmp ts) (total (lengths ts))
 values_body kind.Bins cells = body.Bins (total (lengths (filter_map bytes_of cells)))
+values_body kind.Children cells =
+    let ns = filter_map children_of cells in body.Children (least nat_cmp ns) (greatest nat_cmp ns) (children_total ns)
 
 -- whether a cell is null
 abbrev pub has_null : List Cell → Bool

@@ -7,11 +7,11 @@ use Rattle.orc_stats.specs.declared.kind.StatKind.TheVariants as kind
 use Rattle.orc_stats.specs.declared.stat.Stat.{Stat}
 use Rattle.orc_stats.specs.declared.stat.Body.TheVariants as body
 use Rattle.orc_stats.specs.Seen.{seen_of, known_of, value_seen}
-use Rattle.orc_stats.specs.Orders.{int_sums, nat_sums, lower_ints, higher_ints, lower_texts, higher_texts}
-use Rattle.orc_stats.specs.Statistics.{onto, reduce, total, lengths, in_64, bit, int_of, date_of, bool_of, text_of, bytes_of, stat}
-use Rattle.orc_stats.specs.Joining.{in_limit, least_int, greatest_int, least_date, greatest_date, least_text, greatest_text, trues_of, sum_of, joined}
+use Rattle.orc_stats.specs.Orders.{int_sums, nat_sums, lower_ints, higher_ints, lower_texts, higher_texts, lower_nats, higher_nats}
+use Rattle.orc_stats.specs.Statistics.{onto, reduce, total, lengths, in_64, in_u64, bit, int_of, date_of, bool_of, text_of, bytes_of, children_of, stat}
+use Rattle.orc_stats.specs.Joining.{in_limit, least_int, greatest_int, least_date, greatest_date, least_text, greatest_text, trues_of, sum_of, least_children, greatest_children, total_children, joined}
 use Rattle.orc_stats.specs.Tallies.{Joins, all, cells_kept, stats_kept, stat_of_kept}
-use Rattle.orc_stats.specs.Measures.{◌and◌, least_ints, greatest_ints, least_texts, greatest_texts, int_totals, ints, dates, texts, bools, bins, plain}
+use Rattle.orc_stats.specs.Measures.{◌and◌, least_ints, greatest_ints, least_texts, greatest_texts, least_nats, greatest_nats, int_totals, nat_totals, ints, dates, texts, bools, bins, children, plain}
 use Rattle.orc_stats.specs.TallyLaws.{stat_of_kept_cells, stat_of_kept_stats, known_values, known_all, known_all_in, all-and}
 
 pub picked_map : {X A B : Type 0} (f : A → B) (pick : X → Option A) (xs : List X)
@@ -36,6 +36,9 @@ pub texts_is : {l m g h : Option (List ℕ)} {s t : Option ℤ}
     → s ≡ t
     → body.Texts l g s ≡ body.Texts m h t
 texts_is e f d = λ i. body.Texts (e i) (f i) (d i)
+
+pub children_is : {l m g h s t : Option ℕ} → l ≡ m → g ≡ h → s ≡ t → body.Children l g s ≡ body.Children m h t
+children_is e f d = λ i. body.Children (e i) (f i) (d i)
 
 -- three parts side by side
 module _ {A B C X : Type 0} where
@@ -136,6 +139,22 @@ bools_cells cells most = stat_of_kept_cells bools kind.Bools cells
 
 pub bools_stats : (ss : List Stat) → stat_of_kept bools (stats_kept bools ss) ≡ joined kind.Bools ss
 bools_stats ss = stat_of_kept_stats bools kind.Bools ss λ bs. ap body.Bools (known_all_in _ nat_sums in_limit trues_of bs)
+
+pub children_cells : (cells : List Cell) → stat_of_kept children (cells_kept children cells) ≡ stat kind.Children cells
+children_cells cells = stat_of_kept_cells children kind.Children cells
+    (ap children.body
+    (three least_nats greatest_nats nat_totals
+    (λ c. value_seen (children_of c)) (λ c. value_seen (children_of c)) (λ c. value_seen (children_of c)) cells)
+    ∙ children_is (known_values _ lower_nats children_of cells) (known_values _ higher_nats children_of cells)
+    (ap (option_and_then in_u64) (known_values _ nat_sums children_of cells)))
+
+pub children_stats : (ss : List Stat) → stat_of_kept children (stats_kept children ss) ≡ joined kind.Children ss
+children_stats ss = stat_of_kept_stats children kind.Children ss λ bs.
+    ap children.body
+    (three least_nats greatest_nats nat_totals
+    (λ b. seen_of (least_children b)) (λ b. seen_of (greatest_children b)) (λ b. seen_of (total_children b)) bs)
+    ∙ children_is (known_all _ lower_nats least_children bs) (known_all _ higher_nats greatest_children bs)
+    (known_all_in _ nat_sums in_u64 total_children bs)
 
 pub plain_cells : (cells : List Cell) → stat_of_kept plain (cells_kept plain cells) ≡ stat kind.Plain cells
 plain_cells cells = stat_of_kept_cells plain kind.Plain cells refl

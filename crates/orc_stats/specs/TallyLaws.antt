@@ -3,7 +3,7 @@ use Rattle.std.proofs.Common.{◌≡◌, refl, sym, ◌∙◌, ap, arith, ℕ, �
 use Rattle.std.proofs.lemmas.List.Sums.{sum_by-cons}
 use Rattle.std.specs.List.{filter_map, cons_option}
 use Rattle.std.specs.Option.{option_map, option_and_then}
-use Rattle.orc_types.specs.Cells.{Cell, null, leaf, list, struct, values}
+use Rattle.orc_types.specs.Cells.{Cell, null, leaf, list, struct, pairs, values}
 use Rattle.orc_stats.specs.declared.kind.StatKind.{StatKind}
 use Rattle.orc_stats.specs.declared.stat.Stat.{Stat}
 use Rattle.orc_stats.specs.declared.stat.Body.{Body}
@@ -65,6 +65,7 @@ module _ {P : Type 0} (m : Measure P) where
   cells_kept_nulls (leaf a ∷ cells) = cells_kept_nulls cells
   cells_kept_nulls (list cs ∷ cells) = cells_kept_nulls cells
   cells_kept_nulls (struct cs ∷ cells) = cells_kept_nulls cells
+  cells_kept_nulls (pairs ps ∷ cells) = cells_kept_nulls cells
 
   pub cells_kept_count : (cells : List Cell) → (cells_kept m cells).count ≡ length (values cells)
   cells_kept_count [] = refl
@@ -72,6 +73,7 @@ module _ {P : Type 0} (m : Measure P) where
   cells_kept_count (leaf a ∷ cells) = let e = cells_kept_count cells in omega arith
   cells_kept_count (list cs ∷ cells) = let e = cells_kept_count cells in omega arith
   cells_kept_count (struct cs ∷ cells) = let e = cells_kept_count cells in omega arith
+  cells_kept_count (pairs ps ∷ cells) = let e = cells_kept_count cells in omega arith
 
   pub stat_is : {a c : ℕ} {n o : Option Bool} {p q : Body} → a ≡ c → n ≡ o → p ≡ q
       → (let x : Stat = record { count = a; nulls = n; body = p } in

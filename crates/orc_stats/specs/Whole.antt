@@ -10,7 +10,8 @@ use Rattle.orc_stats.specs.declared.stat.Body.TheVariants as body
 use Rattle.orc_stats.specs.Statistics.{stat}
 use Rattle.orc_stats.specs.Joining.{has_values}
 
--- a body whose kind has no sum lacks none
+-- A body whose kind has no sum lacks none. A total of children is no sum: where that of a part doesn't fit, that of
+-- all doesn't.
 abbrev pub has_sum : Body → Bool
 has_sum body.Plain = true
 has_sum (body.Ints l g s) = is_some s
@@ -18,6 +19,7 @@ has_sum (body.Bools t) = true
 has_sum (body.Dates l g) = true
 has_sum (body.Texts l g s) = is_some s
 has_sum (body.Bins s) = is_some s
+has_sum (body.Children l g t) = true
 
 abbrev pub without_sum : Body → Body
 without_sum body.Plain = body.Plain
@@ -26,6 +28,7 @@ without_sum (body.Bools t) = body.Bools t
 without_sum (body.Dates l g) = body.Dates l g
 without_sum (body.Texts l g s) = body.Texts l g None
 without_sum (body.Bins s) = body.Bins None
+without_sum (body.Children l g t) = body.Children l g t
 
 -- the total of the values fits 64 bits, if there are any
 abbrev pub keeps_sum : Stat → Bool

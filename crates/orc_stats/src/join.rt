@@ -11,7 +11,7 @@ ghost use Rattle.orc_stats.specs.Faults.{JoinFault};
 use crate::counted::Counted;
 use crate::fault::StatFault;
 use crate::kind::StatKind;
-use crate::measures::{Bins, Bools, Dates, Ints, Plain, Texts};
+use crate::measures::{Bins, Bools, Children, Dates, Ints, Plain, Texts};
 use crate::stat::Stat;
 use crate::tally::Tally;
 use orc_types::Lent;
@@ -33,6 +33,7 @@ pub fn of_cells(alloc: Global, kind: StatKind, cells: &[Lent<'_, '_>]) -> Result
         StatKind::Dates => Counted::<Dates>::of_cells(alloc, cells),
         StatKind::Texts => Counted::<Texts<'_>>::of_cells(alloc, cells),
         StatKind::Bins => Counted::<Bins>::of_cells(alloc, cells),
+        StatKind::Children => Counted::<Children>::of_cells(alloc, cells),
     }
 }
 
@@ -53,5 +54,6 @@ pub fn join_all(alloc: Global, kind: StatKind, stats: &[Stat]) -> Result<Stat, S
         StatKind::Dates => Counted::<Dates>::of_stats(alloc, stats),
         StatKind::Texts => Counted::<Texts<'_>>::of_stats(alloc, stats),
         StatKind::Bins => Counted::<Bins>::of_stats(alloc, stats),
+        StatKind::Children => Counted::<Children>::of_stats(alloc, stats),
     }
 }

@@ -1,7 +1,7 @@
 //! Laws of statistics. Each function does nothing: its contract is what it is for.
-ghost use Rattle.std.specs.Ordering.{int_cmp, flip_args};
+ghost use Rattle.std.specs.Ordering.{int_cmp, nat_cmp, flip_args};
 ghost use Rattle.orc_stats.specs.Meanings.{IsLowest, sum_without_limit, trues};
-ghost use Rattle.std.specs.Prelude.{◌≡◌, ◌↔◌, ℕ, ℤ, pos, negsuc, ◌≤◌, ◌+◌, ◌^◌, ◌++◌, ◌∷◌, Bool, true, false, Some, None, List, [], sum_by, IsPermutation, flat_map, length, map};
+ghost use Rattle.std.specs.Prelude.{◌≡◌, ◌↔◌, ℕ, ℤ, pos, negsuc, ◌≤◌, ◌+◌, ◌^◌, ◌++◌, ◌∷◌, Bool, true, false, Option, Some, None, List, [], sum, sum_by, IsPermutation, flat_map, length, map};
 ghost use Rattle.std.specs.List.{AllByRecursion};
 ghost use Rattle.orc_types.specs.Cells.{Cell};
 ghost use Rattle.orc_types.specs.Shapes.{Shape};
@@ -11,10 +11,11 @@ ghost use Rattle.orc_stats.specs.declared.kind.StatKind.TheVariants as kind;
 ghost use Rattle.orc_stats.specs.declared.stat.Stat.{Stat};
 ghost use Rattle.orc_stats.specs.declared.stat.Body.{Body};
 ghost use Rattle.orc_stats.specs.declared.stat.Body.TheVariants as body;
-ghost use Rattle.orc_stats.specs.Kinds.{is_of, kind_of};
+ghost use Rattle.orc_stats.specs.Kinds.{is_of, kind_of, body_is_of};
 ghost use Rattle.orc_stats.specs.Statistics.{reduce, bit, least, greatest, text_cmp, exact_total, stat};
 ghost use Rattle.orc_stats.specs.Joining.{sum_of, joined};
 ghost use Rattle.orc_stats.specs.Whole.{whole};
+ghost use Rattle.orc_stats.specs.Known.{known_as, IsPart, Agrees, known_whole, known_stats, AllAgree};
 ghost use Rattle.orc_stats.specs.Messages.{IsStat, stat_read, message_of};
 ghost use Rattle.orc_stats.specs.Tallies.{Kept, none_kept, together, cells_kept, stats_kept, stat_of_kept};
 
@@ -34,11 +35,15 @@ pub fn stat_laws()
     ensures least_number { (zs : List ℤ) (z : ℤ) → (least int_cmp zs ≡ Some z) ↔ IsLowest int_cmp zs z }
     ensures greatest_number { (zs : List ℤ) (z : ℤ)
         → (greatest int_cmp zs ≡ Some z) ↔ IsLowest (flip_args int_cmp) zs z }
+    ensures least_count { (ns : List ℕ) (n : ℕ) → (least nat_cmp ns ≡ Some n) ↔ IsLowest nat_cmp ns n }
+    ensures greatest_count { (ns : List ℕ) (n : ℕ)
+        → (greatest nat_cmp ns ≡ Some n) ↔ IsLowest (flip_args nat_cmp) ns n }
     ensures least_text { (ts : List (List ℕ)) (t : List ℕ) → (least text_cmp ts ≡ Some t) ↔ IsLowest text_cmp ts t }
     ensures greatest_text { (ts : List (List ℕ)) (t : List ℕ)
         → (greatest text_cmp ts ≡ Some t) ↔ IsLowest (flip_args text_cmp) ts t }
     ensures total { (z : ℤ) (zs : List ℤ) → exact_total (z ∷ zs) ≡ Some (sum_without_limit (z ∷ zs)) }
     ensures true_count { (b : Bool) (bs : List Bool) → reduce ◌+◌ (map bit (b ∷ bs)) ≡ Some (trues (b ∷ bs)) }
+    ensures count_total { (n : ℕ) (ns : List ℕ) → reduce ◌+◌ (n ∷ ns) ≡ Some (sum (n ∷ ns)) }
 
     ensures normal { (k : StatKind) (cells : List Cell)
         → AllByRecursion (λ c. is_of k c ≡ true) cells
@@ -57,6 +62,19 @@ pub fn join_laws()
         → AllByRecursion (AllByRecursion (λ c. is_of k c ≡ true)) parts
         → length (flat_map (λ p. p) parts) ≤ 2 ^ 62
         → joined k (map (stat k) parts) ≡ whole k parts }
+    ensures known { (k : StatKind) (told : List (Option Stat)) (parts : List (List Cell))
+        → AllByRecursion (AllByRecursion (λ c. is_of k c ≡ true)) parts
+        → length (flat_map (λ p. p) parts) ≤ 2 ^ 62
+        → joined k (known_stats k told parts) ≡ known_whole k told parts }
+    ensures agreed { (k : StatKind) (ss : List Stat) (parts : List (List Cell))
+        → AllByRecursion (AllByRecursion (λ c. is_of k c ≡ true)) parts
+        → length (flat_map (λ p. p) parts) ≤ 2 ^ 62
+        → AllAgree k ss parts
+        → joined k ss ≡ known_whole k (map (λ s. Some s) ss) parts }
+    ensures all_told { (k : StatKind) (parts : List (List Cell))
+        → AllByRecursion (AllByRecursion (λ c. is_of k c ≡ true)) parts
+        → length (flat_map (λ p. p) parts) ≤ 2 ^ 62
+        → known_whole k (map (λ p. Some (stat k p)) parts) parts ≡ whole k parts }
     ensures normal { (k : StatKind) (ss : List Stat) → sum_by (λ s. s.count) ss ≤ 2 ^ 62 → IsStat k (joined k ss) }
     ensures regrouped { let one : ℤ → Stat =
         λ z. record { count = 1; nulls = Some false; body = body.Ints (Some z) (Some z) (Some z) } in
@@ -64,6 +82,25 @@ pub fn join_laws()
         let two : Stat = joined kind.Ints (one most ∷ one (pos 1) ∷ []) in
         let three : Stat = joined kind.Ints (one most ∷ one (pos 1) ∷ one (negsuc 0) ∷ []) in
         (sum_of three.body ≡ Some most) × (sum_of (joined kind.Ints (two ∷ one (negsuc 0) ∷ [])).body ≡ None) }
+{}
+
+/// What agrees: the same statistic, and one that knows less of children, part by part; of other columns no
+/// other. It has one direction.
+pub fn agree_laws()
+    ensures same { (s : Stat) → Agrees s s }
+    ensures less { (o : Body) (s : Stat) → Agrees (known_as o s) s }
+    ensures parts { (n c : ℕ) (a b : Option Bool) (l g t m h u : Option ℕ) →
+        let x : Stat = record { count = n; nulls = a; body = body.Children l g t } in
+        let y : Stat = record { count = c; nulls = b; body = body.Children m h u } in
+        Agrees x y ↔ ((n ≡ c) × (a ≡ b) × IsPart l m × IsPart g h × IsPart t u) }
+    ensures others { (k : StatKind) (x y : Stat)
+        → body_is_of k y.body ≡ true
+        → (k ≡ kind.Children → ⊥)
+        → Agrees x y
+        → x ≡ y }
+    ensures one_way { let none : Stat = record { count = 1; nulls = Some false; body = body.Children None None None } in
+        let empty : Stat = record { count = 1; nulls = Some false; body = body.Children (Some 0) (Some 0) (Some 0) } in
+        Agrees none empty × (Agrees empty none → ⊥) }
 {}
 
 /// A statistic that was put reads back by its kind.

@@ -1,6 +1,7 @@
 //! Statistics of a column's cells, how they join, and their messages.
 #![tactic(auto)]
 
+mod agreeing;
 mod counted;
 mod fault;
 mod join;
@@ -20,8 +21,8 @@ pub use counted::Counted;
 pub use fault::StatFault;
 pub use join::{join_all, of_cells};
 pub use kind::StatKind;
-pub use laws::{join_laws, kind_laws, stat_laws, stat_message_laws, tally_laws};
-pub use measures::{Bins, Bools, Dates, Ints, Measures, Plain, Sizes, Texts};
+pub use laws::{agree_laws, join_laws, kind_laws, stat_laws, stat_message_laws, tally_laws};
+pub use measures::{Bins, Bools, Children, Dates, Ints, Measures, Plain, Sizes, Texts};
 pub use seen::Seen;
 pub use stat::{Body, Stat};
 pub use tally::Tally;

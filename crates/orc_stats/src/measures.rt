@@ -3,6 +3,7 @@ ghost use Rattle.std.specs.Prelude.{ℕ};
 
 mod bins;
 mod bools;
+mod children;
 mod dates;
 mod ints;
 mod plain;
@@ -12,6 +13,7 @@ use crate::fault::StatFault;
 use crate::stat::Body;
 pub use bins::Bins;
 pub use bools::Bools;
+pub use children::Children;
 pub use dates::Dates;
 pub use ints::Ints;
 use orc_types::Value;

@@ -10,8 +10,8 @@ ghost use Rattle.orc_stats.specs.declared.fault.StatFault.TheVariants.{OutOfMemo
 use crate::fault::StatFault;
 use crate::kind::StatKind;
 use crate::records::{
-    bins_body, bins_record, bools_body, bools_record, dates_body, dates_record, ints_body,
-    ints_record, texts_body, texts_record,
+    bins_body, bins_record, bools_body, bools_record, children_body, children_record, dates_body,
+    dates_record, ints_body, ints_record, texts_body, texts_record,
 };
 use crate::stat::{Body, Stat};
 use crate::tally::MOST_VALUES;
@@ -64,6 +64,7 @@ impl Stat {
             date_statistics: None,
             binary_statistics: None,
             has_null: self.nulls,
+            collection_statistics: None,
         };
         match &self.body {
             Body::Plain => {}
@@ -82,6 +83,11 @@ impl Stat {
                 sum,
             } => message.string_statistics = texts_record(alloc, least, greatest, *sum)?,
             Body::Bins { sum } => message.binary_statistics = bins_record(*sum),
+            Body::Children {
+                least,
+                greatest,
+                total,
+            } => message.collection_statistics = children_record(*least, *greatest, *total),
         }
         Ok(message)
     }
@@ -102,6 +108,7 @@ fn unknown(kind: StatKind) -> Body
             sum: None,
         },
         StatKind::Bins => bins_body(&None),
+        StatKind::Children => children_body(&None),
     }
 }
 
@@ -117,6 +124,7 @@ fn body_of(alloc: Global, kind: StatKind, message: &ColumnStats) -> Result<Body,
         StatKind::Dates => Ok(dates_body(&message.date_statistics)),
         StatKind::Texts => texts_body(alloc, &message.string_statistics),
         StatKind::Bins => Ok(bins_body(&message.binary_statistics)),
+        StatKind::Children => Ok(children_body(&message.collection_statistics)),
     }
 }
 

@@ -7,8 +7,8 @@ ghost use Rattle.orc_stats.specs.Messages as spec;
 use crate::stat::Body;
 use crate::text_parts::copy_part;
 use orc_wire::{
-    BinaryStatistics, BucketStatistics, Bytes, DateStatistics, IntegerStatistics, Items,
-    StringStatistics,
+    BinaryStatistics, BucketStatistics, Bytes, CollectionStatistics, DateStatistics,
+    IntegerStatistics, Items, StringStatistics,
 };
 use std::alloc::{AllocError, Global};
 
@@ -168,5 +168,42 @@ pub(crate) fn bins_record(sum: Option<i64>) -> Option<BinaryStatistics>
     match sum {
         Some(_) => Some(BinaryStatistics { sum }),
         None => None,
+    }
+}
+
+/// What a record of lists or maps says.
+pub(crate) fn children_body(found: &Option<CollectionStatistics>) -> Body
+    ensures { result ≡ spec.children_body found.now }
+{
+    match found {
+        Some(record) => Body::Children {
+            least: record.min_children,
+            greatest: record.max_children,
+            total: record.total_children,
+        },
+        None => Body::Children {
+            least: None,
+            greatest: None,
+            total: None,
+        },
+    }
+}
+
+/// The record of lists or maps.
+pub(crate) fn children_record(
+    least: Option<u64>,
+    greatest: Option<u64>,
+    total: Option<u64>,
+) -> Option<CollectionStatistics>
+    ensures { result ≡ spec.children_record least greatest total }
+{
+    if least.is_some() || greatest.is_some() || total.is_some() {
+        Some(CollectionStatistics {
+            min_children: least,
+            max_children: greatest,
+            total_children: total,
+        })
+    } else {
+        None
     }
 }

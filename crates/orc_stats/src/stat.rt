@@ -16,7 +16,7 @@ pub struct Stat {
 /// What is known of the values of a column, by its kind.
 #[derive(Debug, Drop)]
 pub enum Body {
-    /// Of lists and structs: no more than every column has.
+    /// Of structs: no more than every column has.
     Plain,
     /// Of whole numbers: the least, the greatest and their sum.
     Ints {
@@ -43,5 +43,12 @@ pub enum Body {
     /// Of byte strings: the sum of their lengths.
     Bins {
         sum: Option<i64>,
+    },
+    /// Of lists and maps: the least and the greatest number of children, which of a map are its pairs,
+    /// and the total of all these numbers. A file that was written without them knows none.
+    Children {
+        least: Option<u64>,
+        greatest: Option<u64>,
+        total: Option<u64>,
     },
 }

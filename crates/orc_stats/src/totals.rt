@@ -2,7 +2,7 @@
 ghost use Rattle.std.specs.Prelude.{◌≡◌, ◌+◌, ◌+ℤ◌, ◌^◌, ◌<◌, ◌≤◌, pos, length};
 ghost use Rattle.std.specs.Option.{option_and_then};
 ghost use Rattle.orc_stats.specs.Seen.{both, seen_of, known_of};
-ghost use Rattle.orc_stats.specs.Statistics.{in_64 as fit};
+ghost use Rattle.orc_stats.specs.Statistics.{in_64 as fit, in_u64 as room};
 ghost use Rattle.orc_stats.specs.Joining.{in_limit as limit};
 ghost use Rattle.orc_stats.specs.declared.seen.Seen.TheVariants.{Known};
 ghost use Rattle.orc_stats.specs.Sizes.{size, count_size};
@@ -82,5 +82,15 @@ pub(crate) fn in_limit(number: Seen<u128>) -> Option<u64>
     match number {
         Seen::Known(number) if number <= 1 << 62 => u64::try_from(number).ok(),
         _ => None,
+    }
+}
+
+/// The number, where it is known and has 64 bits.
+pub(crate) fn in_u64(number: Seen<u128>) -> Option<u64>
+    ensures { result ≡ option_and_then room (known_of number) }
+{
+    match number {
+        Seen::Known(number) => u64::try_from(number).ok(),
+        Seen::Nothing | Seen::Unknown => None,
     }
 }

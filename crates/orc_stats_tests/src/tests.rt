@@ -8,6 +8,7 @@ use orc_types::{Lent, Row, Value};
 use std::alloc::Global;
 
 mod cells;
+mod children;
 mod joins;
 mod messages;
 
@@ -33,6 +34,11 @@ fn summary_of(stat: &Stat) -> Said {
         Body::Dates { least, greatest } => (least.map(i64::from), greatest.map(i64::from), None),
         Body::Texts { sum, .. } => (None, None, *sum),
         Body::Bins { sum } => (None, None, *sum),
+        Body::Children {
+            least,
+            greatest,
+            total,
+        } => (in_i64(*least), in_i64(*greatest), in_i64(*total)),
     };
     Said {
         count: stat.count,
@@ -41,6 +47,11 @@ fn summary_of(stat: &Stat) -> Said {
         greatest,
         total,
     }
+}
+
+/// A number of children as the other numbers are compared.
+fn in_i64(part: Option<u64>) -> Option<i64> {
+    part.and_then(|n| i64::try_from(n).ok())
 }
 
 /// So many values, and whether there is null; of the values nothing is known.

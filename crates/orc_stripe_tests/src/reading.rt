@@ -4,6 +4,7 @@ mod borrowed;
 mod cursors;
 mod encodings;
 mod hostile;
+mod maps;
 mod run_faults;
 mod shapes;
 mod skipped;
@@ -367,8 +368,8 @@ fn check_case(
 }
 
 /// Each stripe has its lines, or is refused so, all at once and one by one.
-fn check_cases(rt: &impl Abort, alloc: Global) -> Result<(), StripeFault> {
-    for case in &CASES {
+fn check_cases(rt: &impl Abort, alloc: Global, cases: &[Case]) -> Result<(), StripeFault> {
+    for case in cases {
         let Ok(schema) = Schema::parse(alloc, case.0) else {
             return Err(StripeFault::OutOfMemory);
         };
@@ -381,6 +382,6 @@ fn check_cases(rt: &impl Abort, alloc: Global) -> Result<(), StripeFault> {
 
 #[test]
 fn stripes(rt: HostRuntime) {
-    let answer = with_memory(|| check_cases(&rt, rt.alloc()));
+    let answer = with_memory(|| check_cases(&rt, rt.alloc(), &CASES));
     assert!(rt; answer == Ok(()));
 }

@@ -11,7 +11,7 @@ mod seen_source;
 
 pub use fail_sink::{FailSink, Full};
 pub use fail_source::FailSource;
-pub use files::{EMPTY, NAMED, SEVENS, TWICE, UPWARDS};
+pub use files::{EMPTY, LISTS_BEFORE, NAMED, SEVENS, TWICE, UPWARDS};
 pub use lines::{line_of, lines_at_once, lines_one_by_one, with_memory};
 pub use narrow::Narrow;
 pub use seen_source::SeenSource;

@@ -1,6 +1,6 @@
 -- A schema's text is that of its kinds and names.
 use Rattle.std.proofs.Common.{◌≡◌, [], Bool, true, false, refl, sym, ◌∙◌, append-nil}
-use Rattle.orc_types.specs.Shapes.{Shape, scalar, list_of, struct_of, Fields, no_field, field, width, widths, depth, depths, IsStruct}
+use Rattle.orc_types.specs.Shapes.{Shape, scalar, list_of, map_of, struct_of, Fields, no_field, field, width, widths, depth, depths, IsStruct}
 use Rattle.orc_types.specs.Schemas.{IsSchema}
 use Rattle.orc_types.specs.SchemaText.{text, fields_text, IsPlain, bare, bare_fields, HasText}
 use Rattle.orc_types.specs.TextFronts.{IsFront}
@@ -10,6 +10,7 @@ mutual
   text-bare : (s : Shape) → text (bare s) ≡ text s
   text-bare (scalar k o) = refl
   text-bare (list_of s o) = rw (text-bare s) refl
+  text-bare (map_of s t o) = rw (text-bare s, text-bare t) refl
   text-bare (struct_of fs o) = rw (fields_text-bare true fs) refl
 
   fields_text-bare : (first : Bool) (fs : Fields) → fields_text first (bare_fields fs) ≡ fields_text first fs
@@ -20,6 +21,7 @@ mutual
   width-bare : (s : Shape) → width (bare s) ≡ width s
   width-bare (scalar k o) = refl
   width-bare (list_of s o) = rw (width-bare s) refl
+  width-bare (map_of s t o) = rw (width-bare s, width-bare t) refl
   width-bare (struct_of fs o) = rw (widths-bare fs) refl
 
   widths-bare : (fs : Fields) → widths (bare_fields fs) ≡ widths fs
@@ -30,6 +32,7 @@ mutual
   depth-bare : (s : Shape) → depth (bare s) ≡ depth s
   depth-bare (scalar k o) = refl
   depth-bare (list_of s o) = rw (depth-bare s) refl
+  depth-bare (map_of s t o) = rw (depth-bare s, depth-bare t) refl
   depth-bare (struct_of fs o) = rw (depths-bare fs) refl
 
   depths-bare : (fs : Fields) → depths (bare_fields fs) ≡ depths fs
@@ -39,6 +42,7 @@ mutual
 struct-bare : (s : Shape) → IsStruct s → IsStruct (bare s)
 struct-bare (scalar k o) h = h
 struct-bare (list_of s o) h = h
+struct-bare (map_of s t o) h = h
 struct-bare (struct_of fs o) h = h
 
 pub bare_text : (s : Shape) → IsSchema s → IsPlain (bare s) → HasText (bare s) (text s)

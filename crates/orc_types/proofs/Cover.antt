@@ -1,5 +1,5 @@
 -- A list of types is a tree's, or has a fault.
-use Rattle.std.proofs.Common.{◌≡◌, ℕ, zero, suc, ◌+◌, ◌≤◌, List, [], ◌∷◌, length, refl, sym, subst, arith, sub-one, inl, inr}
+use Rattle.std.proofs.Common.{◌≡◌, ℕ, zero, suc, ◌+◌, ◌≤◌, List, [], ◌∷◌, length, get_or, refl, sym, subst, arith, sub-one, inl, inr}
 use Rattle.std.proofs.Common.{Bool, true, false, Option, Some, None}
 use Rattle.std.specs.Prelude.{◌⊎◌, ◌≢◌, slice_get}
 use Rattle.std.specs.List.{AllByRecursion}
@@ -9,11 +9,11 @@ use Rattle.orc_types.specs.declared.fault.TypeFault.{TypeFault}
 use Rattle.orc_types.specs.declared.fault.TypeFault.TheVariants as fault
 use Rattle.orc_types.specs.Kinds.{scalar_of, IsKind}
 use Rattle.orc_wire.specs.declared.type_msg.TypeMsg.{TypeMsg}
-use Rattle.orc_types.specs.Shapes.{Shape, scalar, list_of, struct_of, Fields, no_field, field}
+use Rattle.orc_types.specs.Shapes.{Shape, scalar, list_of, map_of, struct_of, Fields, no_field, field}
 use Rattle.orc_types.specs.Schemas.{HasTypes, AllKept}
 use Rattle.orc_types.specs.Faults.{HasForeignKind, TypesFault}
-use Rattle.orc_types.specs.Preorder.{Found, FoundFields, NoFieldsAt, PlaceFault, FieldsPlaceFault}
-use Rattle.orc_types.proofs.Trees.{number-scalar_of, foreign, got_below, past_end, list_wrong, list_fault, list_found, struct_fault, struct_found}
+use Rattle.orc_types.specs.Preorder.{HasKeyAt, Found, FoundFields, NoFieldsAt, PlaceFault, FieldsPlaceFault}
+use Rattle.orc_types.proofs.Trees.{number-scalar_of, foreign, got_below, past_end, list_wrong, list_fault, list_found, struct_fault, struct_found, map_wrong, key_fault, value_wrong, value_fault, map_found}
 use Rattle.orc_types.proofs.Trees.{scalar_wrong, scalar_found, lengths_wrong, place_wrong, one_more, field_fault, Reached, reached_none, reached_more}
 use Rattle.orc_types.proofs.Trees.{schema_from, more_types, root_fault, no_root, empty_root}
 use Rattle.orc_types.proofs.Decisions.{Decided, both, same_number, at_most, same_list, same_numbers}
@@ -29,15 +29,25 @@ HasSubtypes y ss = (y.subtypes ≡ ss) × (y.field_names ≡ [])
 has_subtypes : (y : TypeMsg) (ss : List ℕ) → Decided (HasSubtypes y ss)
 has_subtypes y ss = both (same_numbers y.subtypes ss) (same_list same_numbers y.field_names [])
 
+-- two subtypes, the first of which begins at the place
+has_key_at : (y : TypeMsg) (n : ℕ) → Decided (HasKeyAt y n)
+has_key_at y n = by (same_number (length y.subtypes) 2) (same_number (get_or y.subtypes 0 0) n) (same_list same_numbers y.field_names []) where
+  by : Decided (length y.subtypes ≡ 2) → Decided (get_or y.subtypes 0 0 ≡ n) → Decided (y.field_names ≡ []) → Decided (HasKeyAt y n)
+  by (inl p) (inl q) (inl r) = inl (p, q, r)
+  by (inr p) q r = inr (λ h. p h.0)
+  by (inl p) (inr q) r = inr (λ h. q h.1)
+  by (inl p) (inl q) (inr r) = inr (λ h. r h.2)
+
 -- ---- kinds
 
 kind_decided : (n : ℕ) → Decided (IsKind n)
-kind_decided n = by (same_number n 10) (same_number n 12) (scalar_of n) refl where
-  by : Decided (n ≡ 10) → Decided (n ≡ 12) → (o : Option Scalar) → scalar_of n ≡ o → Decided (IsKind n)
-  by (inl p) q o e = inl (inr (inl p))
-  by (inr p) (inl q) o e = inl (inr (inr q))
-  by (inr p) (inr q) None e = inr (foreign n e p q)
-  by (inr p) (inr q) (Some k) e = inl (inl (k, number-scalar_of n k e))
+kind_decided n = by (same_number n 10) (same_number n 12) (same_number n 11) (scalar_of n) refl where
+  by : Decided (n ≡ 10) → Decided (n ≡ 12) → Decided (n ≡ 11) → (o : Option Scalar) → scalar_of n ≡ o → Decided (IsKind n)
+  by (inl p) q m o e = inl (inr (inl p))
+  by (inr p) (inl q) m o e = inl (inr (inr (inl q)))
+  by (inr p) (inr q) (inl m) o e = inl (inr (inr (inr m)))
+  by (inr p) (inr q) (inr m) None e = inr (foreign n e p q m)
+  by (inr p) (inr q) (inr m) (Some k) e = inl (inl (k, number-scalar_of n k e))
 
 later_foreign : (t : TypeMsg) (ts : List TypeMsg) (k : ℕ) → HasForeignKind ts k → HasForeignKind (t ∷ ts) k
 later_foreign t ts k h = record { place = suc h.place; type = h.type; stands = h.stands; kind = h.kind; foreign = h.foreign }
@@ -126,22 +136,34 @@ module _ (ts : List TypeMsg) (n d : ℕ) (y : TypeMsg) (at : slice_get ts n ≡ 
       inl (list_of here.0 y.kept, here.1, list_found ts n (suc d) here.1 y here.0 (omega arith) at is p.0 p.1 (rw sub-one here.2))
   list_cover is (inl p) (inr bad) = inr (bad.0, bad.1, list_fault ts n (suc d) y bad.0 (omega arith) at is p.0 (rw sub-one bad.2))
 
+  value_cover : y.kind ≡ 11 → HasKeyAt y (n + 1) → (s : Shape) (mid : ℕ) → Found ts (n + 1) d s mid → Decided (get_or y.subtypes 1 0 ≡ mid) → PlaceCovered ts mid d → PlaceCovered ts n (suc d)
+  value_cover is key s mid found (inr wrong) child = inr (fault.BadTree, λ e. cc, value_wrong ts n d mid y s at is found wrong)
+  value_cover is key s mid found (inl p) (inl here) =
+      inl (map_of s here.0 y.kept, here.1, map_found ts n (suc d) mid here.1 y s here.0 (omega arith) at is key p (rw sub-one found) (rw sub-one here.2))
+  value_cover is key s mid found (inl p) (inr bad) = inr (bad.0, bad.1, value_fault ts n (suc d) mid y s bad.0 (omega arith) at is key p (rw sub-one found) (rw sub-one bad.2))
+
+  map_cover : y.kind ≡ 11 → Decided (HasKeyAt y (n + 1)) → ((m : ℕ) → PlaceCovered ts m d) → PlaceCovered ts (n + 1) d → PlaceCovered ts n (suc d)
+  map_cover is (inr wrong) place child = inr (fault.BadTree, λ e. cc, map_wrong ts n y at is wrong)
+  map_cover is (inl key) place (inl here) = value_cover is key here.0 here.1 here.2 (same_number (get_or y.subtypes 1 0) here.1) (place here.1)
+  map_cover is (inl key) place (inr bad) = inr (bad.0, bad.1, key_fault ts n (suc d) y bad.0 (omega arith) at is key (rw sub-one bad.2))
+
   struct_cover : y.kind ≡ 12 → FieldsCovered ts (n + 1) d y.subtypes y.field_names → PlaceCovered ts n (suc d)
   struct_cover is (inl fields) =
       inl (struct_of fields.0 y.kept, fields.1, struct_found ts n (suc d) fields.1 y fields.0 (omega arith) at is (rw sub-one fields.2))
   struct_cover is (inr bad) = inr (bad.0, bad.1, struct_fault ts n (suc d) y bad.0 (omega arith) at is (rw sub-one bad.2))
 
-  scalar_cover : (o : Option Scalar) → scalar_of y.kind ≡ o → y.kind ≢ 10 → y.kind ≢ 12 → Decided (HasSubtypes y []) → PlaceCovered ts n (suc d)
-  scalar_cover None e l s parts =
-      inr (fault.UnsupportedKind y.kind, λ e. cc, record { place = n; type = y; stands = at; kind = refl; foreign = foreign y.kind e l s })
-  scalar_cover (Some k) e l s (inr wrong) = inr (fault.BadTree, λ e. cc, scalar_wrong ts n y at l s wrong)
-  scalar_cover (Some k) e l s (inl p) = inl (scalar k y.kept, n + 1, scalar_found ts n (suc d) y k (omega arith) at (number-scalar_of y.kind k e) p.0 p.1)
+  scalar_cover : (o : Option Scalar) → scalar_of y.kind ≡ o → y.kind ≢ 10 → y.kind ≢ 12 → y.kind ≢ 11 → Decided (HasSubtypes y []) → PlaceCovered ts n (suc d)
+  scalar_cover None e l s m parts =
+      inr (fault.UnsupportedKind y.kind, λ e. cc, record { place = n; type = y; stands = at; kind = refl; foreign = foreign y.kind e l s m })
+  scalar_cover (Some k) e l s m (inr wrong) = inr (fault.BadTree, λ e. cc, scalar_wrong ts n y at l s m wrong)
+  scalar_cover (Some k) e l s m (inl p) = inl (scalar k y.kept, n + 1, scalar_found ts n (suc d) y k (omega arith) at (number-scalar_of y.kind k e) p.0 p.1)
 
   -- by the type's kind
-  type_cover : ((m : ℕ) → PlaceCovered ts m d) → Decided (y.kind ≡ 10) → Decided (y.kind ≡ 12) → PlaceCovered ts n (suc d)
-  type_cover place (inl l) s = list_cover l (has_subtypes y ((n + 1) ∷ [])) (place (n + 1))
-  type_cover place (inr l) (inl s) = struct_cover s (fields_cover ts d place (n + 1) y.subtypes y.field_names)
-  type_cover place (inr l) (inr s) = scalar_cover (scalar_of y.kind) refl l s (has_subtypes y [])
+  type_cover : ((m : ℕ) → PlaceCovered ts m d) → Decided (y.kind ≡ 10) → Decided (y.kind ≡ 12) → Decided (y.kind ≡ 11) → PlaceCovered ts n (suc d)
+  type_cover place (inl l) s m = list_cover l (has_subtypes y ((n + 1) ∷ [])) (place (n + 1))
+  type_cover place (inr l) (inl s) m = struct_cover s (fields_cover ts d place (n + 1) y.subtypes y.field_names)
+  type_cover place (inr l) (inr s) (inl m) = map_cover m (has_key_at y (n + 1)) place (place (n + 1))
+  type_cover place (inr l) (inr s) (inr m) = scalar_cover (scalar_of y.kind) refl l s m (has_subtypes y [])
 
 at_cover : (ts : List TypeMsg) (n d : ℕ) → ((y : TypeMsg) → slice_get ts n ≡ Some y → PlaceCovered ts n d)
     → (o : Option TypeMsg) → slice_get ts n ≡ o → PlaceCovered ts n d
@@ -151,7 +173,7 @@ at_cover ts n d here (Some y) at = here y at
 place_cover : (ts : List TypeMsg) (d n : ℕ) → PlaceCovered ts n d
 place_cover ts zero n = at_cover ts n 0 (λ y at. inr (fault.TooDeep, λ e. cc, (got_below ts n y at, tt))) (slice_get ts n) refl
 place_cover ts (suc d) n =
-    at_cover ts n (suc d) (λ y at. type_cover ts n d y at (place_cover ts d) (same_number y.kind 10) (same_number y.kind 12)) (slice_get ts n) refl
+    at_cover ts n (suc d) (λ y at. type_cover ts n d y at (place_cover ts d) (same_number y.kind 10) (same_number y.kind 12) (same_number y.kind 11)) (slice_get ts n) refl
 
 -- ---- a schema's list
 

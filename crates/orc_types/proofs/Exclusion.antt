@@ -1,5 +1,5 @@
 -- A fault that stands leaves no schema, and schemas compare equal exactly where they are one tree.
-use Rattle.std.proofs.Common.{◌≡◌, ℕ, zero, suc, ◌+◌, ◌<◌, ◌++◌, List, [], ◌∷◌, length, drop, Bool, true, false, ◌==◌, Some, refl, sym, ap, ◌∙◌, subst, append_assoc, arith, append-nil, inl, inr}
+use Rattle.std.proofs.Common.{◌≡◌, ℕ, zero, suc, ◌+◌, ◌<◌, ◌++◌, ◌⊎◌, List, [], ◌∷◌, length, drop, Bool, true, false, ◌==◌, Some, refl, sym, ap, ◌∙◌, subst, append_assoc, arith, append-nil, inl, inr}
 use Rattle.std.proofs.lemmas.Bool.{and_parts}
 use Rattle.std.specs.Prelude.{slice_get, ◌↔◌}
 use Rattle.std.specs.List.{AllByRecursion}
@@ -11,7 +11,7 @@ use Rattle.orc_types.specs.declared.fault.TypeFault.{TypeFault}
 use Rattle.orc_types.specs.declared.fault.TypeFault.TheVariants as fault
 use Rattle.orc_types.specs.Kinds.{IsKind}
 use Rattle.orc_types.specs.Types.{starts, types, fields_types}
-use Rattle.orc_types.specs.Shapes.{Shape, scalar, list_of, struct_of, Fields, no_field, field, width, depth, depths, HasTextNames, HaveTextNames, names_of, IsStruct}
+use Rattle.orc_types.specs.Shapes.{Shape, scalar, list_of, map_of, struct_of, Fields, no_field, field, width, depth, depths, HasTextNames, HaveTextNames, names_of, IsStruct}
 use Rattle.orc_types.specs.Schemas.{HasTypes, same_node, same_types}
 use Rattle.orc_types.specs.Faults.{HasNoRoot, IsBelow, Descends, TypesFault}
 use Rattle.orc_types.proofs.Trees.{past, slice_get_at, drop_suc, length-types, one_list}
@@ -35,7 +35,8 @@ mutual
   kinds_of : (s : Shape) (n : ℕ) → AllByRecursion HasKind (types s n)
   kinds_of (scalar k o) n = (inl (k, refl), tt)
   kinds_of (list_of s o) n = (inr (inl refl), kinds_of s (n + 1))
-  kinds_of (struct_of fs o) n = (inr (inr refl), kinds_of_fields fs (n + 1))
+  kinds_of (map_of s t o) n = (inr (inr (inr refl)), all_append HasKind (types s (n + 1)) (types t (n + 1 + width s)) (kinds_of s (n + 1)) (kinds_of t (n + 1 + width s)))
+  kinds_of (struct_of fs o) n = (inr (inr (inl refl)), kinds_of_fields fs (n + 1))
 
   kinds_of_fields : (fs : Fields) (n : ℕ) → AllByRecursion HasKind (fields_types fs n)
   kinds_of_fields no_field n = tt
@@ -55,6 +56,7 @@ mutual
   texts_of : (s : Shape) (n : ℕ) → HasTextNames s → AllByRecursion HasTexts (types s n)
   texts_of (scalar k o) n h = (tt, tt)
   texts_of (list_of s o) n h = (tt, texts_of s (n + 1) h)
+  texts_of (map_of s t o) n h = (tt, all_append HasTexts (types s (n + 1)) (types t (n + 1 + width s)) (texts_of s (n + 1) h.0) (texts_of t (n + 1 + width s) h.1))
   texts_of (struct_of fs o) n h = (names_texts fs h, texts_of_fields fs (n + 1) h)
 
   texts_of_fields : (fs : Fields) (n : ℕ) → HaveTextNames fs → AllByRecursion HasTexts (fields_types fs n)
@@ -71,6 +73,10 @@ one_got : (a i x : ℕ) → slice_get (a ∷ []) i ≡ Some x → a ≡ x
 one_got a zero x h = cc
 one_got a (suc i) x h = absurd (none_got i x h)
 
+two_got : (a b i x : ℕ) → slice_get (a ∷ b ∷ []) i ≡ Some x → (a ≡ x) ⊎ (b ≡ x)
+two_got a b zero x h = inl cc
+two_got a b (suc i) x h = inr (one_got b i x h)
+
 below_of : (ts : List TypeMsg) (n : ℕ) (y : TypeMsg) (rest : List TypeMsg) (below : ℕ) → drop n ts ≡ y ∷ rest → IsBelow ts n below → (index : ℕ) × (slice_get y.subtypes index ≡ Some below)
 below_of ts n y rest below h b =
     let at : Some b.type ≡ Some y = sym b.stands ∙ slice_get_at ts n y rest h in
@@ -80,6 +86,7 @@ below_of ts n y rest below h b =
 pub depth_pos : (s : Shape) → 0 < depth s
 depth_pos (scalar k o) = omega arith
 depth_pos (list_of s o) = omega arith
+depth_pos (map_of s t o) = omega arith
 depth_pos (struct_of fs o) = omega arith
 
 -- a way down is shorter than the tree is deep
@@ -94,6 +101,14 @@ mutual
       let at : n + 1 ≡ way.0 = one_got (n + 1) b.0 way.0 b.1 in
       let more : steps < depth s = descends_tree s ts (n + 1) rest steps (drop_suc ts n _ (types s (n + 1) ++ rest) h) (subst (λ (m : ℕ). Descends ts m steps) (sym at) way.2) in
       omega arith
+  descends_tree (map_of s t o) ts n rest (suc steps) h way =
+      let b = below_of ts n _ ((types s (n + 1) ++ types t (n + 1 + width s)) ++ rest) way.0 h way.1 in
+      let r : drop (n + 1) ts ≡ types s (n + 1) ++ (types t (n + 1 + width s) ++ rest) =
+      drop_suc ts n _ ((types s (n + 1) ++ types t (n + 1 + width s)) ++ rest) h ∙ append_assoc (types s (n + 1)) (types t (n + 1 + width s)) rest in
+      elim (two_got (n + 1) (n + 1 + width s) b.0 way.0 b.1) [
+        | inl e ↦ (let more : steps < depth s = descends_tree s ts (n + 1) (types t (n + 1 + width s) ++ rest) steps r (subst (λ (m : ℕ). Descends ts m steps) (sym e) way.2) in omega arith)
+        | inr e ↦ (let more : steps < depth t = descends_tree t ts (n + 1 + width s) rest steps (past ts s (n + 1) (types t (n + 1 + width s) ++ rest) r) (subst (λ (m : ℕ). Descends ts m steps) (sym e) way.2) in omega arith)
+      ]
   descends_tree (struct_of fs o) ts n rest (suc steps) h way =
       let b = below_of ts n _ (fields_types fs (n + 1) ++ rest) way.0 h way.1 in
       let more : steps < depths fs = descends_fields fs ts (n + 1) rest b.0 way.0 steps (drop_suc ts n _ (fields_types fs (n + 1) ++ rest) h) b.1 way.2 in
@@ -112,6 +127,7 @@ mutual
 no_struct : (s : Shape) (ts : List TypeMsg) → IsStruct s → ts ≡ types s 0 → HasNoRoot ts → ⊥
 no_struct (scalar k o) ts is e bad = is
 no_struct (list_of s o) ts is e bad = is
+no_struct (map_of s t o) ts is e bad = is
 no_struct (struct_of fs o) ts is e bad = subst HasNoRoot e bad refl
 
 -- a fault that stands leaves no schema

@@ -8,14 +8,14 @@ use Rattle.std.proofs.lemmas.Slice.Eq.{bytes_eq-Decides}
 use Rattle.serde_json.specs.Data.{Data, object, Members, no_members, member, put}
 use Rattle.serde_json.specs.Find.{get_member}
 use Rattle.serde_json.proofs.Views.{get_member-put, get_member-put_other}
-use Rattle.orc_types.specs.Shapes.{Shape, scalar, list_of, struct_of, Fields, no_field, field, names_of}
-use Rattle.orc_types.specs.Cells.{Atom, bool, int, date, text, bytes, Cell, null, leaf, list, struct, Cells, end, more}
-use Rattle.orc_types.specs.Fits.{fits, all_fit, each_fits}
+use Rattle.orc_types.specs.Shapes.{Shape, scalar, list_of, map_of, struct_of, Fields, no_field, field, names_of}
+use Rattle.orc_types.specs.Cells.{Atom, bool, int, date, text, bytes, Cell, null, leaf, list, struct, pairs, Cells, end, more, Pairs, no_pair, pair}
+use Rattle.orc_types.specs.Fits.{fits, all_fit, each_fits, pairs_fit}
 use Rattle.orc_types.specs.FieldNames.{is_among, all_differ, is_distinct, are_distinct, all_known}
 use Rattle.orc_types.specs.Days.{has_text}
 use Rattle.orc_types.specs.JsonLeaves.{atom_json, date_json}
-use Rattle.orc_types.specs.JsonRows.{Spells, EachSpells, FieldsSpell}
-use Rattle.orc_types.specs.JsonPrinting.{json_of, each_json, members_json, IsBelow, AreInOrder}
+use Rattle.orc_types.specs.JsonRows.{Spells, PairsSpell, EachSpells, FieldsSpell}
+use Rattle.orc_types.specs.JsonPrinting.{json_of, each_json, pairs_json, members_json, IsBelow, AreInOrder}
 use Rattle.orc_types.proofs.JsonLeaves.{leaf_back}
 
 -- ---- names
@@ -114,13 +114,21 @@ object_in_order (struct_of fs o) (struct cs) ms h =
 object_in_order (scalar k o) null ms h = let none : ⊥ = cc in absurd none
 object_in_order (scalar k o) (list cs) ms h = let none : ⊥ = cc in absurd none
 object_in_order (scalar k o) (struct cs) ms h = let none : ⊥ = cc in absurd none
+object_in_order (scalar k o) (pairs ps) ms h = let none : ⊥ = cc in absurd none
 object_in_order (list_of s o) null ms h = let none : ⊥ = cc in absurd none
 object_in_order (list_of s o) (leaf a) ms h = let none : ⊥ = cc in absurd none
 object_in_order (list_of s o) (list cs) ms h = let none : ⊥ = cc in absurd none
 object_in_order (list_of s o) (struct cs) ms h = let none : ⊥ = cc in absurd none
+object_in_order (list_of s o) (pairs ps) ms h = let none : ⊥ = cc in absurd none
+object_in_order (map_of s t o) null ms h = let none : ⊥ = cc in absurd none
+object_in_order (map_of s t o) (leaf a) ms h = let none : ⊥ = cc in absurd none
+object_in_order (map_of s t o) (list cs) ms h = let none : ⊥ = cc in absurd none
+object_in_order (map_of s t o) (struct cs) ms h = let none : ⊥ = cc in absurd none
+object_in_order (map_of s t o) (pairs ps) ms h = let none : ⊥ = cc in absurd none
 object_in_order (struct_of fs o) null ms h = let none : ⊥ = cc in absurd none
 object_in_order (struct_of fs o) (leaf a) ms h = let none : ⊥ = cc in absurd none
 object_in_order (struct_of fs o) (list cs) ms h = let none : ⊥ = cc in absurd none
+object_in_order (struct_of fs o) (pairs ps) ms h = let none : ⊥ = cc in absurd none
 
 -- ---- what fits reads back
 
@@ -130,19 +138,37 @@ each_back Is g s r (more c cs) h =
     let q = and_parts (fits c s) (all_fit cs s) h in
     (r c q.0, each_back Is g s r cs q.1)
 
+pairs_back : (K V : Data → Cell → Type 0) (f g : Cell → Data) (s t : Shape) → ((c : Cell) → fits c s ≡ true → K (f c) c) → ((c : Cell) → fits c t ≡ true → V (g c) c) → (ps : Pairs) → pairs_fit ps s t ≡ true
+    → PairsSpell K V (pairs_json f g ps) ps
+pairs_back K V f g s t a b no_pair h = tt
+pairs_back K V f g s t a b (pair k v ps) h =
+    let q = and_parts (fits k s) _ h in
+    let r = and_parts (fits v t) (pairs_fit ps s t) q.1 in
+    ((f k, g v, refl, a k q.0, b v r.0), pairs_back K V f g s t a b ps r.1)
+
 mutual
   pub reads_back : (s : Shape) (c : Cell) → is_distinct s ≡ true → fits c s ≡ true → Spells s (json_of s c) c
   reads_back (scalar k o) null u h = refl
   reads_back (scalar k o) (leaf a) u h = leaf_back k a h
   reads_back (scalar k o) (list cs) u h = cc
   reads_back (scalar k o) (struct cs) u h = cc
+  reads_back (scalar k o) (pairs ps) u h = cc
   reads_back (list_of s o) null u h = inl (refl, refl)
   reads_back (list_of s o) (leaf a) u h = cc
   reads_back (list_of s o) (list cs) u h = inr (each_json (λ x. json_of s x) cs, cs, refl, refl, each_back (λ e x. Spells s e x) (λ x. json_of s x) s (λ c q. reads_back s c u q) cs h)
   reads_back (list_of s o) (struct cs) u h = cc
+  reads_back (list_of s o) (pairs ps) u h = cc
+  reads_back (map_of s t o) null u h = inl (refl, refl)
+  reads_back (map_of s t o) (leaf a) u h = cc
+  reads_back (map_of s t o) (list cs) u h = cc
+  reads_back (map_of s t o) (struct cs) u h = cc
+  reads_back (map_of s t o) (pairs ps) u h =
+      let w = and_parts (is_distinct s) (is_distinct t) u in
+      inr (pairs_json (λ x. json_of s x) (λ x. json_of t x) ps, ps, refl, refl, pairs_back (λ e x. Spells s e x) (λ e x. Spells t e x) (λ x. json_of s x) (λ x. json_of t x) s t (λ c q. reads_back s c w.0 q) (λ c q. reads_back t c w.1 q) ps h)
   reads_back (struct_of fs o) null u h = inl (refl, refl)
   reads_back (struct_of fs o) (leaf a) u h = cc
   reads_back (struct_of fs o) (list cs) u h = cc
+  reads_back (struct_of fs o) (pairs ps) u h = cc
   reads_back (struct_of fs o) (struct cs) u h =
       let q = and_parts (all_differ (names_of fs)) (are_distinct fs) u in
       inr (members_json fs cs no_members, cs, refl, refl, members_known (names_of fs) fs cs no_members (all_among (names_of fs)) refl, fields_back fs cs no_members q.0 q.1 h)

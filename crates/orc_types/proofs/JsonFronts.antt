@@ -1,21 +1,23 @@
 -- Elements and fields that were read, before those that are left.
-use Rattle.std.proofs.Common.{◌≡◌, ℕ, zero, suc, ◌<◌, ◌≤◌, List, [], ◌∷◌, ◌++◌, length, get_or, drop, true, Option, Some, inl, inr, Vec, Box, Global, String, BTreeMap, string_bytes, refl, sym, ap, ◌∙◌, arith, drop-cons}
+use Rattle.std.proofs.Common.{◌≡◌, ℕ, zero, suc, ◌<◌, ◌≤◌, List, [], ◌∷◌, ◌++◌, length, get_or, drop, map, true, Option, Some, inl, inr, Vec, Box, Global, String, BTreeMap, string_bytes, refl, sym, ap, ◌∙◌, arith, drop-cons}
 use Rattle.std.proofs.lemmas.List.{drop_all}
-use Rattle.serde_json.specs.Data.{Data, array}
+use Rattle.serde_json.specs.Data.{Data, array, Items, item, no_items}
 use Rattle.serde_json.specs.Find.{get, get_item}
 use Rattle.serde_json.specs.View.{view as json_view, items_view, members_view}
 use Rattle.serde_json.specs.declared.value.Value.{Value as Json, Array, Object}
 use Rattle.serde_json.proofs.Views.{view-Array, view-Object}
-use Rattle.orc_types.specs.Cells.{Cell, Cells, end, more, cells_of}
-use Rattle.orc_types.specs.Shapes.{Shape, names_of}
-use Rattle.orc_types.specs.Views.{view, views, shape, fields as fields_view}
-use Rattle.orc_types.specs.declared.tree.Tree.{Tree, List as TreeList, Struct as TreeStruct}
+use Rattle.orc_types.specs.Cells.{Cell, Cells, end, more, Pairs, no_pair, pair, cells_of, pairs_of}
+use Rattle.orc_types.specs.Shapes.{Shape, map_of, names_of}
+use Rattle.orc_types.specs.Views.{view, views, paired, shape, fields as fields_view}
+use Rattle.orc_types.specs.declared.tree.Tree.{Tree, List as TreeList, Map as TreeMap, Struct as TreeStruct}
 use Rattle.orc_types.specs.declared.tree.Field.{Field}
-use Rattle.orc_types.specs.declared.value.Value.{Value, List as ListOf, Struct as StructOf}
+use Rattle.orc_types.specs.declared.value.Value.{Value, List as ListOf, Map as MapOf, Struct as StructOf}
+use Rattle.orc_types.specs.declared.value.MapPair.{MapPair}
 use Rattle.orc_types.specs.FieldNames.{all_known}
-use Rattle.orc_types.specs.JsonRows.{Spells, EachSpells, MemberSpells, FieldsSpell}
-use Rattle.orc_types.specs.JsonFaults.{Somewhere, InElement, InField}
-use Rattle.orc_types.proofs.Views.{name_and_type-is, shape-List, shape-Struct, view-List, view-Struct}
+use Rattle.orc_types.specs.JsonRows.{Spells, PairSpells, PairsSpell, EachSpells, MemberSpells, FieldsSpell}
+use Rattle.orc_types.specs.JsonFaults.{FaultAt, PairFault, Somewhere, InElement, InField}
+use Rattle.orc_types.specs.declared.json_fault.JsonFault.{JsonFault}
+use Rattle.orc_types.proofs.Views.{name_and_type-is, paired-is, shape-List, shape-Map, shape-Struct, view-List, view-Map, view-Struct}
 
 abbrev pub before : List Cell → Cells → Cells
 before [] ys = ys
@@ -39,6 +41,30 @@ elements_more Is js i j xs x h is one so_far ys later =
 
 pub elements_all : (Is : Data → Cell → Type 0) (js : List Json) (i : ℕ) (xs : List Cell) → length js ≤ i → ElementsRead Is js i xs → EachSpells Is (items_view js) (cells_of xs)
 elements_all Is js i xs h so_far = rw (← before-end xs) (so_far end (rw (drop_all i js h) tt))
+
+-- the same of pairs
+abbrev pub before_pairs : List (Cell × Cell) → Pairs → Pairs
+before_pairs [] qs = qs
+before_pairs (p ∷ ps) qs = pair p.0 p.1 (before_pairs ps qs)
+
+before_pairs-push : (ps : List (Cell × Cell)) (p : Cell × Cell) (qs : Pairs) → before_pairs (ps ++ p ∷ []) qs ≡ before_pairs ps (pair p.0 p.1 qs)
+before_pairs-push [] p qs = refl
+before_pairs-push (q ∷ ps) p qs = ap (λ zs. pair q.0 q.1 zs) (before_pairs-push ps p qs)
+
+before_pairs-end : (ps : List (Cell × Cell)) → before_pairs ps no_pair ≡ pairs_of ps
+before_pairs-end [] = refl
+before_pairs-end (p ∷ ps) = ap (λ zs. pair p.0 p.1 zs) (before_pairs-end ps)
+
+abbrev pub PairsRead : (Data → Cell → Type 0) → (Data → Cell → Type 0) → List Json → ℕ → List (Cell × Cell) → Type 0
+PairsRead K V js i ps = (qs : Pairs) → PairsSpell K V (items_view (drop i js)) qs → PairsSpell K V (items_view js) (before_pairs ps qs)
+
+pub pairs_more : (K V : Data → Cell → Type 0) (js : List Json) (i : ℕ) (j : Json) (ps : List (Cell × Cell)) (p : MapPair) → i < length js → j ≡ get_or js i j → PairSpells K V (json_view j) (view p.key) (view p.value)
+    → PairsRead K V js i ps → PairsRead K V js (suc i) (ps ++ paired p ∷ [])
+pairs_more K V js i j ps p h is one so_far qs later =
+    rw (paired-is p, before_pairs-push ps (view p.key, view p.value) qs) (so_far (pair (view p.key) (view p.value) qs) (rw (drop-cons js i j, ← is) (one, later)))
+
+pub pairs_all : (K V : Data → Cell → Type 0) (js : List Json) (i : ℕ) (ps : List (Cell × Cell)) → length js ≤ i → PairsRead K V js i ps → PairsSpell K V (items_view js) (pairs_of ps)
+pairs_all K V js i ps h so_far = rw (← before_pairs-end ps) (so_far no_pair (rw (drop_all i js h) tt))
 
 pub element_at : (js : List Json) (i : ℕ) (j : Json) → i < length js → j ≡ get_or js i j → get_item i (items_view js) ≡ Some (json_view j)
 element_at [] i j h is = absurd (omega (arith, h))
@@ -81,3 +107,32 @@ array_fault Is t b o j js it is h = rw (it, is, shape-List b o, view-Array js) (
 
 pub object_fault : (Is : Shape → Data → Type 0) (t : Tree) (fs : Vec Field Global) (o : Vec ℕ Global) (d : Data) → t ≡ TreeStruct fs o → InField Is (fields_view fs.items) d → Somewhere Is (shape t) d
 object_fault Is t fs o d it h = rw (it, shape-Struct fs o) (inr h)
+
+-- ---- a map's array
+
+pub pairs_spell : (t : Tree) (k v : Box Tree Global) (o : Vec ℕ Global) (j : Json) (js : Vec Json Global) (ps : Vec MapPair Global) → t ≡ TreeMap k v o → j ≡ Array js
+    → PairsSpell (Spells (shape k.value)) (Spells (shape v.value)) (items_view js.items) (pairs_of (map paired ps.items)) → Spells (shape t) (json_view j) (view (Some (MapOf ps)))
+pairs_spell t k v o j js ps it is h =
+    rw (it, is, shape-Map k v o) (inr (items_view js.items, pairs_of (map paired ps.items), view-Array js, view-Map ps, h))
+
+map_fault_by : (e : JsonFault) (s t : Shape) (o : List ℕ) (js : Items) → InElement (PairFault e s t) (array js) → Somewhere (FaultAt e) (map_of s t o) (array js)
+map_fault_by e s t o js (i, p, there, inl none) = inl (none.0, inr (i, p, there, none.1))
+map_fault_by e s t o js (i, p, there, inr bad) = inr (i, p, there, bad)
+
+pub map_fault : (e : JsonFault) (t : Tree) (k v : Box Tree Global) (o : Vec ℕ Global) (j : Json) (js : Vec Json Global) → t ≡ TreeMap k v o → j ≡ Array js
+    → InElement (PairFault e (shape k.value) (shape v.value)) (array (items_view js.items)) → Somewhere (FaultAt e) (shape t) (json_view j)
+map_fault e t k v o j js it is h = rw (it, is, shape-Map k v o, view-Array js) (map_fault_by e (shape k.value) (shape v.value) o.items (items_view js.items) h)
+
+-- ---- an array of two
+
+pub no_two : (js : List Json) → ¬ (length js ≡ 2) → (x y : Data) → array (items_view js) ≡ array (item x (item y no_items)) → ⊥
+no_two [] wrong x y h = cc
+no_two (a ∷ []) wrong x y h = cc
+no_two (a ∷ b ∷ []) wrong x y h = wrong refl
+no_two (a ∷ b ∷ c ∷ js) wrong x y h = cc
+
+pub two_parts : (js : List Json) (a b : Json) → length js ≡ 2 → a ≡ get_or js 0 a → b ≡ get_or js 1 b → array (items_view js) ≡ array (item (json_view a) (item (json_view b) no_items))
+two_parts [] a b l p q = absurd (omega (arith, l))
+two_parts (x ∷ []) a b l p q = absurd (omega (arith, l))
+two_parts (x ∷ y ∷ []) a b l p q = rw (p, q) refl
+two_parts (x ∷ y ∷ z ∷ js) a b l p q = absurd (omega (arith, l))

@@ -3,7 +3,7 @@ use Rattle.std.proofs.Common.{◌≡◌, ℕ, List, [], ◌∷◌, ◌++◌, Boo
 use Rattle.std.proofs.lemmas.List.{append_cancel_left}
 use Rattle.orc_types.specs.declared.kind.Scalar.{Scalar}
 use Rattle.orc_types.specs.declared.kind.Scalar.TheVariants as kind
-use Rattle.orc_types.specs.Shapes.{Shape, scalar, list_of, struct_of, Fields, no_field, field}
+use Rattle.orc_types.specs.Shapes.{Shape, scalar, list_of, map_of, struct_of, Fields, no_field, field}
 use Rattle.orc_types.specs.SchemaText.{kind_name, comma, colon, text, fields_text, is_word, AreWords, IsName, IsPlain, ArePlain}
 
 -- ---- the first bytes tell the kind
@@ -39,6 +39,15 @@ kind_or_array k x y h = let e : Some k ≡ None = sym (kind_is_begun k x) ∙ ap
 pub kind_or_struct : (k : Scalar) (x y : List ℕ) → kind_name k ++ x ≡ codes "struct<" ++ y → ⊥
 kind_or_struct k x y h = let e : Some k ≡ None = sym (kind_is_begun k x) ∙ ap kind_begun h in cc
 
+pub kind_or_map : (k : Scalar) (x y : List ℕ) → kind_name k ++ x ≡ codes "map<" ++ y → ⊥
+kind_or_map k x y h = let e : Some k ≡ None = sym (kind_is_begun k x) ∙ ap kind_begun h in cc
+
+pub array_or_map : (x y : List ℕ) → codes "array<" ++ x ≡ codes "map<" ++ y → ⊥
+array_or_map x y h = let e : ◌≡◌ {A = ℕ} 97 109 = ap (λ (b : List ℕ). get_or b 0 0) h in omega (arith, e)
+
+pub map_or_struct : (x y : List ℕ) → codes "map<" ++ x ≡ codes "struct<" ++ y → ⊥
+map_or_struct x y h = let e : ◌≡◌ {A = ℕ} 109 115 = ap (λ (b : List ℕ). get_or b 0 0) h in omega (arith, e)
+
 pub array_or_struct : (x y : List ℕ) → codes "array<" ++ x ≡ codes "struct<" ++ y → ⊥
 array_or_struct x y h = let e : ◌≡◌ {A = ℕ} 97 115 = ap (λ (b : List ℕ). get_or b 0 0) h in omega (arith, e)
 
@@ -52,6 +61,9 @@ struct_text fs o x = ap (λ (r : List ℕ). codes "struct<" ++ r) (append_assoc 
 
 five : (a b c d e x : List ℕ) → ((((a ++ b) ++ c) ++ d) ++ e) ++ x ≡ a ++ (b ++ (c ++ (d ++ (e ++ x))))
 five a b c d e x = simp append_assoc
+
+pub map_text : (k v : Shape) (o x : List ℕ) → text (map_of k v o) ++ x ≡ codes "map<" ++ (text k ++ (codes "," ++ (text v ++ (codes ">" ++ x))))
+map_text k v o x = five (codes "map<") (text k) (codes ",") (text v) (codes ">") x
 
 pub field_text : (first : Bool) (name : List ℕ) (s : Shape) (fs : Fields) (x : List ℕ)
     → fields_text first (field name s fs) ++ x ≡ comma first ++ (name ++ (colon ++ (text s ++ (fields_text false fs ++ x))))
@@ -111,6 +123,16 @@ mutual
       let r = one_text s t (codes ">" ++ x) (codes ">" ++ y) a.1 b.1 (append_cancel_left (codes "array<") _ _ (sym (array_text s o x) ∙ h ∙ array_text t p y)) in
       (rw (r.0, a.0, b.0) refl, append_cancel_left (codes ">") x y r.1)
   one_text (list_of s o) (struct_of gs p) x y a b h = absurd (array_or_struct _ _ (sym (array_text s o x) ∙ h ∙ struct_text gs p y))
+  one_text (scalar k o) (map_of s t p) x y a b h = absurd (kind_or_map k x _ (h ∙ map_text s t p y))
+  one_text (list_of s o) (map_of t u p) x y a b h = absurd (array_or_map _ _ (sym (array_text s o x) ∙ h ∙ map_text t u p y))
+  one_text (map_of s t o) (scalar k p) x y a b h = absurd (kind_or_map k y _ (sym h ∙ map_text s t o x))
+  one_text (map_of s t o) (list_of u p) x y a b h = absurd (array_or_map _ _ (sym (array_text u p y) ∙ sym h ∙ map_text s t o x))
+  one_text (map_of s t o) (struct_of gs p) x y a b h = absurd (map_or_struct _ _ (sym (map_text s t o x) ∙ h ∙ struct_text gs p y))
+  one_text (map_of s t o) (map_of u v p) x y a b h =
+      let r = one_text s u (codes "," ++ (text t ++ (codes ">" ++ x))) (codes "," ++ (text v ++ (codes ">" ++ y))) a.1 b.1 (append_cancel_left (codes "map<") _ _ (sym (map_text s t o x) ∙ h ∙ map_text u v p y)) in
+      let q = one_text t v (codes ">" ++ x) (codes ">" ++ y) a.2 b.2 (append_cancel_left (codes ",") _ _ r.1) in
+      (rw (r.0, q.0, a.0, b.0) refl, append_cancel_left (codes ">") x y q.1)
+  one_text (struct_of fs o) (map_of u v p) x y a b h = absurd (map_or_struct _ _ (sym (map_text u v p y) ∙ sym h ∙ struct_text fs o x))
   one_text (struct_of fs o) (scalar k p) x y a b h = absurd (kind_or_struct k y _ (sym h ∙ struct_text fs o x))
   one_text (struct_of fs o) (list_of t p) x y a b h = absurd (array_or_struct _ _ (sym (array_text t p y) ∙ sym h ∙ struct_text fs o x))
   one_text (struct_of fs o) (struct_of gs p) x y a b h =

@@ -3,11 +3,11 @@ use Rattle.std.proofs.Common.{◌≡◌, ℕ, zero, suc, ◌<◌, List, [], ◌+
 use Rattle.std.proofs.lemmas.List.{append_cancel_left}
 use Rattle.orc_types.specs.declared.fault.TypeFault.{TypeFault}
 use Rattle.orc_types.specs.declared.fault.TypeFault.TheVariants as fault
-use Rattle.orc_types.specs.Shapes.{Shape, scalar, list_of, struct_of, Fields, no_field, field, width, depth, depths, IsStruct}
+use Rattle.orc_types.specs.Shapes.{Shape, scalar, list_of, map_of, struct_of, Fields, no_field, field, width, depth, depths, IsStruct}
 use Rattle.orc_types.specs.SchemaText.{comma, colon, text, fields_text, IsName, IsPlain, ArePlain, HasText}
-use Rattle.orc_types.specs.TextFaults.{is_empty, element, member, Opens, TextFault}
+use Rattle.orc_types.specs.TextFaults.{is_empty, element, key, value, member, Opens, TextFault}
 use Rattle.orc_types.proofs.Exclusion.{depth_pos}
-use Rattle.orc_types.proofs.OneText.{kind_or_array, kind_or_struct, array_or_struct, array_text, struct_text, field_text, no_field_closes, one_field, one_text, one_whole}
+use Rattle.orc_types.proofs.OneText.{kind_or_map, array_or_map, map_or_struct, map_text, kind_or_array, kind_or_struct, array_or_struct, array_text, struct_text, field_text, no_field_closes, one_field, one_text, one_whole}
 
 -- whether a field would be the first behind these
 abbrev pub begins : Bool → Fields → Bool
@@ -28,6 +28,21 @@ mutual
   opens_tree s bytes rest zero plain h way = depth_pos s
   opens_tree (scalar k o) bytes rest (suc steps) plain h (inner, element e, deeper) = absurd (kind_or_array k rest inner (sym h ∙ e))
   opens_tree (scalar k o) bytes rest (suc steps) plain h (inner, member fields e enters, deeper) = absurd (kind_or_struct k rest fields (sym h ∙ e))
+  opens_tree (scalar k o) bytes rest (suc steps) plain h (inner, key e, deeper) = absurd (kind_or_map k rest _ (sym h ∙ e))
+  opens_tree (scalar k o) bytes rest (suc steps) plain h (inner, value t is e, deeper) = absurd (kind_or_map k rest _ (sym h ∙ e))
+  opens_tree (list_of s o) bytes rest (suc steps) plain h (inner, key e, deeper) = absurd (array_or_map _ _ (sym (array_text s o rest) ∙ sym h ∙ e))
+  opens_tree (list_of s o) bytes rest (suc steps) plain h (inner, value t is e, deeper) = absurd (array_or_map _ _ (sym (array_text s o rest) ∙ sym h ∙ e))
+  opens_tree (struct_of fs o) bytes rest (suc steps) plain h (inner, key e, deeper) = absurd (map_or_struct _ _ (sym e ∙ h ∙ struct_text fs o rest))
+  opens_tree (struct_of fs o) bytes rest (suc steps) plain h (inner, value t is e, deeper) = absurd (map_or_struct _ _ (sym e ∙ h ∙ struct_text fs o rest))
+  opens_tree (map_of s t o) bytes rest (suc steps) plain h (inner, element e, deeper) = absurd (array_or_map inner _ (sym e ∙ h ∙ map_text s t o rest))
+  opens_tree (map_of s t o) bytes rest (suc steps) plain h (inner, member fields e enters, deeper) = absurd (map_or_struct _ fields (sym (map_text s t o rest) ∙ sym h ∙ e))
+  opens_tree (map_of s t o) bytes rest (suc steps) plain h (inner, key e, deeper) =
+      let more : steps < depth s = opens_tree s inner (codes "," ++ (text t ++ (codes ">" ++ rest))) steps plain.1 (append_cancel_left (codes "map<") _ _ (sym e ∙ h ∙ map_text s t o rest)) deeper in
+      omega arith
+  opens_tree (map_of s t o) bytes rest (suc steps) plain h (inner, value u is e, deeper) =
+      let r = one_text u s (codes "," ++ inner) (codes "," ++ (text t ++ (codes ">" ++ rest))) is plain.1 (append_cancel_left (codes "map<") _ _ (sym e ∙ h ∙ map_text s t o rest)) in
+      let more : steps < depth t = opens_tree t inner (codes ">" ++ rest) steps plain.2 (append_cancel_left (codes ",") _ _ r.1) deeper in
+      omega arith
   opens_tree (list_of s o) bytes rest (suc steps) plain h (inner, element e, deeper) =
       let more : steps < depth s = opens_tree s inner (codes ">" ++ rest) steps plain.1 (append_cancel_left (codes "array<") _ _ (sym e ∙ h ∙ array_text s o rest)) deeper in
       omega arith

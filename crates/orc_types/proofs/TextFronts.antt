@@ -9,16 +9,16 @@ use Rattle.orc_types.specs.declared.kind.Scalar.{Scalar}
 use Rattle.orc_types.specs.declared.kind.Scalar.TheVariants as kind
 use Rattle.orc_types.specs.declared.fault.TypeFault.{TypeFault}
 use Rattle.orc_types.specs.declared.fault.TypeFault.TheVariants as fault
-use Rattle.orc_types.specs.Shapes.{Shape, scalar, list_of, struct_of, Fields, no_field, field, depth, depths}
+use Rattle.orc_types.specs.Shapes.{Shape, scalar, list_of, map_of, struct_of, Fields, no_field, field, depth, depths}
 use Rattle.orc_types.specs.SchemaText.{kind_name, comma, colon, text, fields_text, is_word, AreWords, IsName, IsPlain, ArePlain}
-use Rattle.orc_types.specs.TextFaults.{is_empty, EntersField, Enters, element, member, Opens}
+use Rattle.orc_types.specs.TextFaults.{is_empty, EntersField, Enters, element, key, value, member, Opens}
 use Rattle.orc_types.specs.TextFronts.{IsFront, IsFieldFront, IsFieldsFront, NoFront, NoFieldFront, NoFieldsFront, FrontFaultBy, FrontFault, FieldOpens, FieldFault, FieldsFault}
 use Rattle.orc_types.specs.Preorder.{NameFault}
 use Rattle.orc_types.specs.Views.{fields_of, fields}
 use Rattle.orc_types.specs.declared.tree.Field.{Field}
 use Rattle.std.proofs.Math.Dec.{eqb-suc-zero}
 use Rattle.std.proofs.lemmas.Bool.Decides.{nat_tests}
-use Rattle.orc_types.proofs.OneText.{colon_ends, one_front, kind_or_array, kind_or_struct, array_or_struct, array_text, struct_text, field_text, no_field_closes, one_field, one_text}
+use Rattle.orc_types.proofs.OneText.{kind_or_map, array_or_map, map_or_struct, map_text, colon_ends, one_front, kind_or_array, kind_or_struct, array_or_struct, array_text, struct_text, field_text, no_field_closes, one_field, one_text}
 use Rattle.orc_types.proofs.TextExclusion.{begins, begins_later, begins_first}
 
 -- ---- names
@@ -84,6 +84,15 @@ array_front bytes inner d s left rest p h found closes =
       spelled = h ∙ ap (λ (r : List ℕ). codes "array<" ++ r) (found.spelled ∙ ap (λ (r : List ℕ). text s ++ r) closes) ∙ sym (array_text s [] rest);
     }
 
+pub map_front : (bytes inner : List ℕ) (d : ℕ) (s : Shape) (left second : List ℕ) (t : Shape) (last rest : List ℕ) → 0 < d → bytes ≡ codes "map<" ++ inner → IsFront inner (d - 1) s left → left ≡ codes "," ++ second
+    → IsFront second (d - 1) t last → last ≡ codes ">" ++ rest → IsFront bytes d (map_of s t []) rest
+map_front bytes inner d s left second t last rest p h found goes_on more closes =
+    record {
+      plain = (refl, found.plain, more.plain);
+      depth = omega (arith, found.depth, more.depth);
+      spelled = h ∙ ap (λ (r : List ℕ). codes "map<" ++ r) (found.spelled ∙ ap (λ (r : List ℕ). text s ++ r) (goes_on ∙ ap (λ (r : List ℕ). codes "," ++ r) (more.spelled ∙ ap (λ (r : List ℕ). text t ++ r) closes))) ∙ sym (map_text s t [] rest);
+    }
+
 pub struct_front : (bytes inner : List ℕ) (d : ℕ) (fs : Fields) (rest : List ℕ) → 0 < d → bytes ≡ codes "struct<" ++ inner → IsFieldsFront inner (d - 1) fs rest → IsFront bytes d (struct_of fs []) rest
 struct_front bytes inner d fs rest p h found =
     record {
@@ -92,21 +101,34 @@ struct_front bytes inner d fs rest p h found =
       spelled = h ∙ ap (λ (r : List ℕ). codes "struct<" ++ r) found.spelled ∙ sym (struct_text fs [] rest);
     }
 
--- neither of the three begins
-pub no_front : (bytes : List ℕ) → ((rest : List ℕ) → bytes ≢ codes "array<" ++ rest) → ((rest : List ℕ) → bytes ≢ codes "struct<" ++ rest) → ((k : Scalar) (rest : List ℕ) → bytes ≢ kind_name k ++ rest) → NoFront bytes
-no_front bytes array struct kinds (scalar k o) rest plain h = kinds k rest h
-no_front bytes array struct kinds (list_of s o) rest plain h = array _ (h ∙ array_text s o rest)
-no_front bytes array struct kinds (struct_of fs o) rest plain h = struct _ (h ∙ struct_text fs o rest)
+-- none of the four begins
+pub no_front : (bytes : List ℕ) → ((rest : List ℕ) → bytes ≢ codes "array<" ++ rest) → ((rest : List ℕ) → bytes ≢ codes "map<" ++ rest) → ((rest : List ℕ) → bytes ≢ codes "struct<" ++ rest) → ((k : Scalar) (rest : List ℕ) → bytes ≢ kind_name k ++ rest) → NoFront bytes
+no_front bytes array mapped struct kinds (scalar k o) rest plain h = kinds k rest h
+no_front bytes array mapped struct kinds (list_of s o) rest plain h = array _ (h ∙ array_text s o rest)
+no_front bytes array mapped struct kinds (map_of s t o) rest plain h = mapped _ (h ∙ map_text s t o rest)
+no_front bytes array mapped struct kinds (struct_of fs o) rest plain h = struct _ (h ∙ struct_text fs o rest)
 
 -- an array whose inner text begins with no element and its bracket
 no_array : (bytes inner : List ℕ) → bytes ≡ codes "array<" ++ inner → ((s : Shape) (rest : List ℕ) → IsPlain s → inner ≢ text s ++ (codes ">" ++ rest)) → NoFront bytes
 no_array bytes inner e none (scalar k o) rest plain h = kind_or_array k rest inner (sym h ∙ e)
 no_array bytes inner e none (list_of s o) rest plain h = none s rest plain.1 (append_cancel_left (codes "array<") _ _ (sym e ∙ h ∙ array_text s o rest))
+no_array bytes inner e none (map_of s t o) rest plain h = array_or_map inner _ (sym e ∙ h ∙ map_text s t o rest)
 no_array bytes inner e none (struct_of fs o) rest plain h = array_or_struct inner _ (sym e ∙ h ∙ struct_text fs o rest)
+
+-- a map whose inner text begins with no key, comma, value and bracket
+abbrev NoPairFront : List ℕ → Type 0
+NoPairFront inner = (s t : Shape) (rest : List ℕ) → IsPlain s → IsPlain t → inner ≢ text s ++ (codes "," ++ (text t ++ (codes ">" ++ rest)))
+
+no_map : (bytes inner : List ℕ) → bytes ≡ codes "map<" ++ inner → NoPairFront inner → NoFront bytes
+no_map bytes inner e none (scalar k o) rest plain h = kind_or_map k rest inner (sym h ∙ e)
+no_map bytes inner e none (list_of s o) rest plain h = array_or_map _ inner (sym (array_text s o rest) ∙ sym h ∙ e)
+no_map bytes inner e none (map_of s t o) rest plain h = none s t rest plain.1 plain.2 (append_cancel_left (codes "map<") _ _ (sym e ∙ h ∙ map_text s t o rest))
+no_map bytes inner e none (struct_of fs o) rest plain h = map_or_struct inner _ (sym e ∙ h ∙ struct_text fs o rest)
 
 no_struct : (bytes inner : List ℕ) → bytes ≡ codes "struct<" ++ inner → NoFieldsFront inner true → NoFront bytes
 no_struct bytes inner e none (scalar k o) rest plain h = kind_or_struct k rest inner (sym h ∙ e)
 no_struct bytes inner e none (list_of s o) rest plain h = array_or_struct _ inner (sym (array_text s o rest) ∙ sym h ∙ e)
+no_struct bytes inner e none (map_of s t o) rest plain h = map_or_struct _ inner (sym (map_text s t o rest) ∙ sym h ∙ e)
 no_struct bytes inner e none (struct_of fs o) rest plain h = none fs rest plain.1 (append_cancel_left (codes "struct<") _ _ (sym e ∙ h ∙ struct_text fs o rest))
 
 enters : (bytes inner : List ℕ) (d : ℕ) → 0 < d → Enters bytes inner → Opens inner (d - 1) → Opens bytes d
@@ -134,6 +156,41 @@ pub open_array : (bytes inner : List ℕ) (levels : ℕ) (s : Shape) (left : Lis
 open_array bytes inner levels s left h found goes_on = (
   omega (arith, behind bytes (codes "array<") inner h, behind inner (text s) left found.spelled),
   no_array bytes inner h (λ t rest plain e. goes_on rest (one_text s t left (codes ">" ++ rest) found.plain plain (sym found.spelled ∙ e)).1),
+)
+
+-- why a map is refused for its key
+pub key_fault : (bytes inner : List ℕ) (d : ℕ) (f : TypeFault) → 0 < d → bytes ≡ codes "map<" ++ inner → FrontFault inner (d - 1) f → FrontFault bytes d f
+key_fault bytes inner d f p h =
+    fault_turned inner bytes (Opens inner (d - 1)) (Opens bytes d) (NoFront inner) (NoFront bytes) f (behind bytes (codes "map<") inner h) (enters bytes inner d p (key h))
+    (λ none. no_map bytes inner h (λ s t rest is_s is_t e. none s (codes "," ++ (text t ++ (codes ">" ++ rest))) is_s e))
+
+-- no comma stands behind the key
+pub open_key : (bytes inner : List ℕ) (levels : ℕ) (s : Shape) (left : List ℕ) → bytes ≡ codes "map<" ++ inner → IsFront inner levels s left → ((rest : List ℕ) → left ≢ codes "," ++ rest) → (length left ≤ length bytes) × NoFront bytes
+open_key bytes inner levels s left h found goes_on = (
+  omega (arith, behind bytes (codes "map<") inner h, behind inner (text s) left found.spelled),
+  no_map bytes inner h (λ t u rest is_t is_u e. goes_on (text u ++ (codes ">" ++ rest)) (one_text s t left (codes "," ++ (text u ++ (codes ">" ++ rest))) found.plain is_t (sym found.spelled ∙ e)).1),
+)
+
+-- what stands behind the comma is a map's, as the key is the map's
+second_same : (inner left second : List ℕ) (levels : ℕ) (s t u : Shape) (rest : List ℕ) → IsFront inner levels s left → left ≡ codes "," ++ second → IsPlain t → inner ≡ text t ++ (codes "," ++ (text u ++ (codes ">" ++ rest)))
+    → second ≡ text u ++ (codes ">" ++ rest)
+second_same inner left second levels s t u rest found e is_t h =
+    append_cancel_left (codes ",") second (text u ++ (codes ">" ++ rest)) (sym e ∙ (one_text s t left (codes "," ++ (text u ++ (codes ">" ++ rest))) found.plain is_t (sym found.spelled ∙ h)).1)
+
+-- why a map is refused for its value
+pub value_fault : (bytes inner left second : List ℕ) (d : ℕ) (s : Shape) (f : TypeFault) → 0 < d → bytes ≡ codes "map<" ++ inner → IsFront inner (d - 1) s left → left ≡ codes "," ++ second → FrontFault second (d - 1) f → FrontFault bytes d f
+value_fault bytes inner left second d s f p h found e =
+    fault_turned second bytes (Opens second (d - 1)) (Opens bytes d) (NoFront second) (NoFront bytes) f
+    (omega (arith, behind bytes (codes "map<") inner h, behind inner (text s) left found.spelled, behind left (codes ",") second e))
+    (enters bytes second d p (value s found.plain (h ∙ ap (λ (r : List ℕ). codes "map<" ++ r) (found.spelled ∙ ap (λ (r : List ℕ). text s ++ r) e))))
+    (λ none. no_map bytes inner h (λ t u rest is_t is_u g. none u (codes ">" ++ rest) is_u (second_same inner left second (d - 1) s t u rest found e is_t g)))
+
+-- no bracket closes the map
+pub open_map : (bytes inner left second : List ℕ) (levels : ℕ) (s v : Shape) (last : List ℕ) → bytes ≡ codes "map<" ++ inner → IsFront inner levels s left → left ≡ codes "," ++ second → IsFront second levels v last
+    → ((rest : List ℕ) → last ≢ codes ">" ++ rest) → (length last ≤ length bytes) × NoFront bytes
+open_map bytes inner left second levels s v last h found e more goes_on = (
+  omega (arith, behind bytes (codes "map<") inner h, behind inner (text s) left found.spelled, behind left (codes ",") second e, behind second (text v) last more.spelled),
+  no_map bytes inner h (λ t u rest is_t is_u g. goes_on rest (one_text v u last (codes ">" ++ rest) more.plain is_u (sym more.spelled ∙ second_same inner left second levels s t u rest found e is_t g)).1),
 )
 
 -- why a struct is refused for its fields

@@ -6,7 +6,7 @@ use Rattle.orc_types.specs.declared.kind.Scalar.{Scalar}
 use Rattle.orc_types.specs.declared.kind.Scalar.TheVariants as kind
 use Rattle.orc_types.specs.declared.fault.TypeFault.{TypeFault}
 use Rattle.orc_types.specs.declared.fault.TypeFault.TheVariants as fault
-use Rattle.orc_types.specs.Shapes.{Shape, scalar, list_of, struct_of, Fields, no_field, field, width, widths, IsStruct, HasTextNames, HaveTextNames}
+use Rattle.orc_types.specs.Shapes.{Shape, scalar, list_of, map_of, struct_of, Fields, no_field, field, width, widths, IsStruct, HasTextNames, HaveTextNames}
 use Rattle.orc_types.specs.Types.{types, fields_types}
 use Rattle.orc_types.specs.Schemas.{AllKept}
 use Rattle.orc_types.specs.SchemaText.{kind_name, comma, colon, text, fields_text, IsPlain, ArePlain, HasText}
@@ -21,6 +21,7 @@ mutual
   plain_names : (s : Shape) → IsPlain s → HasTextNames s
   plain_names (scalar k o) plain = tt
   plain_names (list_of s o) plain = plain_names s plain.1
+  plain_names (map_of s t o) plain = (plain_names s plain.1, plain_names t plain.2)
   plain_names (struct_of fs o) plain = all_plain_names fs plain.1
 
   all_plain_names : (fs : Fields) → ArePlain fs → HaveTextNames fs
@@ -31,6 +32,8 @@ mutual
   plain_kept : (s : Shape) (n : ℕ) → IsPlain s → AllKept (types s n)
   plain_kept (scalar k o) n plain = (none_kept o plain, tt)
   plain_kept (list_of s o) n plain = (none_kept o plain.0, plain_kept s (n + 1) plain.1)
+  plain_kept (map_of s t o) n plain =
+      (none_kept o plain.0, all_append (λ (t : TypeMsg). AreKept 4 t.kept) (types s (n + 1)) (types t (n + 1 + width s)) (plain_kept s (n + 1) plain.1) (plain_kept t (n + 1 + width s) plain.2))
   plain_kept (struct_of fs o) n plain = (none_kept o plain.0, all_plain_kept fs (n + 1) plain.1)
 
   all_plain_kept : (fs : Fields) (n : ℕ) → ArePlain fs → AllKept (fields_types fs n)
@@ -56,6 +59,8 @@ mutual
   width_text : (s : Shape) → width s ≤ length (text s)
   width_text (scalar k o) = kind_long k
   width_text (list_of s o) = omega (arith, length-append (text s) (codes ">"), width_text s)
+  width_text (map_of s t o) =
+      omega (arith, length-append (text s ++ codes "," ++ text t) (codes ">"), length-append (text s ++ codes ",") (text t), length-append (text s) (codes ","), width_text s, width_text t)
   width_text (struct_of fs o) = omega (arith, length-append (fields_text true fs) (codes ">"), widths_text true fs)
 
   widths_text : (first : Bool) (fs : Fields) → widths fs ≤ length (fields_text first fs)

@@ -12,10 +12,10 @@ use Rattle.orc_types.specs.declared.fault.TypeFault.TheVariants as fault
 use Rattle.orc_types.specs.Kinds.{number, scalar_of, IsKind}
 use Rattle.orc_types.specs.Types.{starts, types, fields_types}
 use Rattle.orc_wire.specs.declared.type_msg.TypeMsg.{TypeMsg}
-use Rattle.orc_types.specs.Shapes.{Shape, scalar, list_of, struct_of, Fields, no_field, field, width, widths, names_of, IsStruct}
+use Rattle.orc_types.specs.Shapes.{Shape, scalar, list_of, map_of, struct_of, Fields, no_field, field, width, widths, names_of, IsStruct}
 use Rattle.orc_types.specs.Schemas.{HasTypes, AllKept}
 use Rattle.orc_types.specs.Faults.{IsBelow, Descends, HasNoRoot, TypesFault}
-use Rattle.orc_types.specs.Preorder.{Found, FoundFields, NoneAt, NoFieldsAt, NameFault, PlaceFault, FieldsPlaceFault}
+use Rattle.orc_types.specs.Preorder.{HasKeyAt, Found, FoundFields, NoneAt, NoFieldsAt, NameFault, PlaceFault, FieldsPlaceFault}
 use Rattle.orc_types.specs.Views.{fields_of}
 
 -- ---- kinds and their numbers
@@ -58,10 +58,14 @@ not_list k e = no_number k 10 refl e
 pub not_struct : (k : Scalar) → number k ≡ 12 → ⊥
 not_struct k e = no_number k 12 refl e
 
-pub foreign : (n : ℕ) → scalar_of n ≡ None → ¬ (n ≡ 10) → ¬ (n ≡ 12) → IsKind n → ⊥
-foreign n none l s (inl (k, e)) = no_number k n none e
-foreign n none l s (inr (inl e)) = l e
-foreign n none l s (inr (inr e)) = s e
+pub not_map : (k : Scalar) → number k ≡ 11 → ⊥
+not_map k e = no_number k 11 refl e
+
+pub foreign : (n : ℕ) → scalar_of n ≡ None → ¬ (n ≡ 10) → ¬ (n ≡ 12) → ¬ (n ≡ 11) → IsKind n → ⊥
+foreign n none l s m (inl (k, e)) = no_number k n none e
+foreign n none l s m (inr (inl e)) = l e
+foreign n none l s m (inr (inr (inl e))) = s e
+foreign n none l s m (inr (inr (inr e))) = m e
 
 known_scalar : (n : ℕ) (o : Option Scalar) → scalar_of n ≡ o → is_some o ≡ true → IsKind n
 known_scalar n None e h = cc
@@ -74,7 +78,7 @@ no_scalar : (o : Option Scalar) → is_some o ≡ false → o ≡ None
 no_scalar None h = refl
 no_scalar (Some k) h = cc
 
-pub unknown : (n : ℕ) → is_some (scalar_of n) ≡ false → ¬ (n ≡ 10) → ¬ (n ≡ 12) → IsKind n → ⊥
+pub unknown : (n : ℕ) → is_some (scalar_of n) ≡ false → ¬ (n ≡ 10) → ¬ (n ≡ 12) → ¬ (n ≡ 11) → IsKind n → ⊥
 unknown n h = foreign n (no_scalar (scalar_of n) h)
 
 pub node_at : (ms : List TypeMsg) (i : ℕ) (m : TypeMsg) → i < length ms → m ≡ get_or ms i m → slice_get ms i ≡ Some m
@@ -94,6 +98,8 @@ mutual
   pub length-types : (s : Shape) (n : ℕ) → length (types s n) ≡ width s
   length-types (scalar k o) n = refl
   length-types (list_of s o) n = omega (arith, length-types s (n + 1))
+  length-types (map_of k v o) n =
+      omega (arith, length-append (types k (n + 1)) (types v (n + 1 + width k)), length-types k (n + 1), length-types v (n + 1 + width k))
   length-types (struct_of fs o) n = omega (arith, length-fields_types fs (n + 1))
 
   pub length-fields_types : (fs : Fields) (n : ℕ) → length (fields_types fs n) ≡ widths fs
@@ -152,6 +158,20 @@ mutual
   one_tree (scalar k o) (scalar j p) n xs ys h = let e = same_head _ _ _ _ h in (rw (one_number k j e.kind, e.kept) refl, e.rest)
   one_tree (scalar k o) (list_of t p) n xs ys h = absurd (not_list k (same_head _ _ _ _ h).kind)
   one_tree (scalar k o) (struct_of fs p) n xs ys h = absurd (not_struct k (same_head _ _ _ _ h).kind)
+  one_tree (scalar k o) (map_of s t p) n xs ys h = absurd (not_map k (same_head _ _ _ _ h).kind)
+  one_tree (map_of s t o) (scalar k p) n xs ys h = absurd (not_map k (sym (same_head _ _ _ _ h).kind))
+  one_tree (map_of s t o) (list_of u p) n xs ys h = let e : ◌≡◌ {A = ℕ} 11 10 = (same_head _ _ _ _ h).kind in absurd (omega (arith, e))
+  one_tree (map_of s t o) (struct_of fs p) n xs ys h = let e : ◌≡◌ {A = ℕ} 11 12 = (same_head _ _ _ _ h).kind in absurd (omega (arith, e))
+  one_tree (map_of s t o) (map_of u v p) n xs ys h =
+      let e = same_head _ _ _ _ h in
+      let here : types s (n + 1) ++ (types t (n + 1 + width s) ++ xs) ≡ types u (n + 1) ++ (types v (n + 1 + width u) ++ ys) =
+      sym (append_assoc (types s (n + 1)) (types t (n + 1 + width s)) xs) ∙ e.rest ∙ append_assoc (types u (n + 1)) (types v (n + 1 + width u)) ys in
+      let r = one_tree s u (n + 1) _ _ here in
+      let rest : types t (n + 1 + width s) ++ xs ≡ types v (n + 1 + width s) ++ ys = rw (← r.0) at r.1 in
+      let q = one_tree t v (n + 1 + width s) xs ys rest in
+      (rw (e.kept, r.0, q.0) refl, q.1)
+  one_tree (list_of s o) (map_of u v p) n xs ys h = let e : ◌≡◌ {A = ℕ} 10 11 = (same_head _ _ _ _ h).kind in absurd (omega (arith, e))
+  one_tree (struct_of fs o) (map_of u v p) n xs ys h = let e : ◌≡◌ {A = ℕ} 12 11 = (same_head _ _ _ _ h).kind in absurd (omega (arith, e))
   one_tree (list_of s o) (scalar k p) n xs ys h = absurd (not_list k (sym (same_head _ _ _ _ h).kind))
   one_tree (list_of s o) (list_of t p) n xs ys h =
       let e = same_head _ _ _ _ h in
@@ -218,6 +238,25 @@ list_found ts n d e y s p at k ss names found =
       ends_at = omega (arith, found.ends_at);
     }
 
+two_items : (ss : List ℕ) (a b : ℕ) → length ss ≡ 2 → get_or ss 0 0 ≡ a → get_or ss 1 0 ≡ b → ss ≡ a ∷ b ∷ []
+two_items [] a b l p q = absurd (omega (arith, l))
+two_items (x ∷ []) a b l p q = absurd (omega (arith, l))
+two_items (x ∷ y ∷ []) a b l p q = rw (p, q) refl
+two_items (x ∷ y ∷ z ∷ ss) a b l p q = absurd (omega (arith, l))
+
+pub map_found : (ts : List TypeMsg) (n d mid e : ℕ) (y : TypeMsg) (s t : Shape) → 0 < d → slice_get ts n ≡ Some y → y.kind ≡ 11 → HasKeyAt y (n + 1) → get_or y.subtypes 1 0 ≡ mid
+    → Found ts (n + 1) (d - 1) s mid → Found ts mid (d - 1) t e → Found ts n d (map_of s t y.kept) e
+map_found ts n d mid e y s t p at k key value one more =
+    let parts : y.subtypes ≡ (n + 1) ∷ mid ∷ [] = two_items y.subtypes (n + 1) mid key.0 key.1 value in
+    let both : drop (n + 1) ts ≡ (types s (n + 1) ++ types t mid) ++ drop e ts =
+    one.stands ∙ ap (λ r. types s (n + 1) ++ r) more.stands ∙ sym (append_assoc (types s (n + 1)) (types t mid) (drop e ts)) in
+    record {
+      names = (one.names, more.names);
+      levels = omega (arith, one.levels, more.levels);
+      stands = rw (← one.ends_at) (slice_get_drop ts n y at ∙ ap (λ z. z ∷ drop (n + 1) ts) (node_is y 11 ((n + 1) ∷ mid ∷ []) [] k parts key.2) ∙ ap (λ r. record { kind = 11; subtypes = (n + 1) ∷ mid ∷ []; field_names = []; kept = y.kept } ∷ r) both);
+      ends_at = omega (arith, one.ends_at, more.ends_at);
+    }
+
 pub one_more : (ts : List TypeMsg) (n mid e d : ℕ) (name : List ℕ) (s : Shape) (fs : Fields) (ss : List ℕ) (names : List (List ℕ)) → is_utf8 name ≡ true → Found ts n d s mid → FoundFields ts mid d ss names fs e → FoundFields ts n d (n ∷ ss) (name ∷ names) (field name s fs) e
 one_more ts n mid e d name s fs ss names u one more =
     record {
@@ -240,29 +279,65 @@ got_below (t ∷ ts) (suc n) y at = omega (arith, got_below ts n y at)
 pub past_end : (ts : List TypeMsg) (n : ℕ) → slice_get ts n ≡ None → NoneAt ts n
 past_end ts n at (scalar k o) rest h = let e = slice_get_at ts n _ rest h in cc
 past_end ts n at (list_of s o) rest h = let e = slice_get_at ts n _ (types s (n + 1) ++ rest) h in cc
+past_end ts n at (map_of s t o) rest h = let e = slice_get_at ts n _ ((types s (n + 1) ++ types t (n + 1 + width s)) ++ rest) h in cc
 past_end ts n at (struct_of fs o) rest h = let e = slice_get_at ts n _ (fields_types fs (n + 1) ++ rest) h in cc
 
 pub list_none : (ts : List TypeMsg) (n : ℕ) (y : TypeMsg) → slice_get ts n ≡ Some y → y.kind ≡ 10 → NoneAt ts (n + 1) → NoneAt ts n
 list_none ts n y at k none (scalar j o) rest h = not_list j (sym (at_place ts n y _ rest at h).kind ∙ k)
 list_none ts n y at k none (list_of s o) rest h = none s rest (at_place ts n y _ (types s (n + 1) ++ rest) at h).rest
+list_none ts n y at k none (map_of s t o) rest h = let e : ◌≡◌ {A = ℕ} 11 10 = sym (at_place ts n y _ ((types s (n + 1) ++ types t (n + 1 + width s)) ++ rest) at h).kind ∙ k in omega (arith, e)
 list_none ts n y at k none (struct_of fs o) rest h = let e : ◌≡◌ {A = ℕ} 12 10 = sym (at_place ts n y _ (fields_types fs (n + 1) ++ rest) at h).kind ∙ k in omega (arith, e)
 
 pub list_wrong : (ts : List TypeMsg) (n : ℕ) (y : TypeMsg) → slice_get ts n ≡ Some y → y.kind ≡ 10 → ¬ ((y.subtypes ≡ (n + 1) ∷ []) × (y.field_names ≡ [])) → NoneAt ts n
 list_wrong ts n y at k wrong (scalar j o) rest h = not_list j (sym (at_place ts n y _ rest at h).kind ∙ k)
 list_wrong ts n y at k wrong (list_of s o) rest h = let e = at_place ts n y _ (types s (n + 1) ++ rest) at h in wrong (e.subtypes, e.names)
+list_wrong ts n y at k wrong (map_of s t o) rest h = let e : ◌≡◌ {A = ℕ} 11 10 = sym (at_place ts n y _ ((types s (n + 1) ++ types t (n + 1 + width s)) ++ rest) at h).kind ∙ k in omega (arith, e)
 list_wrong ts n y at k wrong (struct_of fs o) rest h = let e : ◌≡◌ {A = ℕ} 12 10 = sym (at_place ts n y _ (fields_types fs (n + 1) ++ rest) at h).kind ∙ k in omega (arith, e)
 
 pub struct_none : (ts : List TypeMsg) (n : ℕ) (y : TypeMsg) → slice_get ts n ≡ Some y → y.kind ≡ 12 → NoFieldsAt ts (n + 1) y.subtypes y.field_names → NoneAt ts n
 struct_none ts n y at k none (scalar j o) rest h = not_struct j (sym (at_place ts n y _ rest at h).kind ∙ k)
 struct_none ts n y at k none (list_of s o) rest h = let e : ◌≡◌ {A = ℕ} 10 12 = sym (at_place ts n y _ (types s (n + 1) ++ rest) at h).kind ∙ k in omega (arith, e)
+struct_none ts n y at k none (map_of s t o) rest h = let e : ◌≡◌ {A = ℕ} 11 12 = sym (at_place ts n y _ ((types s (n + 1) ++ types t (n + 1 + width s)) ++ rest) at h).kind ∙ k in omega (arith, e)
 struct_none ts n y at k none (struct_of fs o) rest h =
     let e = at_place ts n y _ (fields_types fs (n + 1) ++ rest) at h in
     none fs rest (sym e.subtypes) (sym e.names) e.rest
 
-pub scalar_wrong : (ts : List TypeMsg) (n : ℕ) (y : TypeMsg) → slice_get ts n ≡ Some y → ¬ (y.kind ≡ 10) → ¬ (y.kind ≡ 12) → ¬ ((y.subtypes ≡ []) × (y.field_names ≡ [])) → NoneAt ts n
-scalar_wrong ts n y at l k wrong (scalar j o) rest h = let e = at_place ts n y _ rest at h in wrong (e.subtypes, e.names)
-scalar_wrong ts n y at l k wrong (list_of s o) rest h = l (at_place ts n y _ (types s (n + 1) ++ rest) at h).kind
-scalar_wrong ts n y at l k wrong (struct_of fs o) rest h = k (at_place ts n y _ (fields_types fs (n + 1) ++ rest) at h).kind
+-- a map's types, but for those of its two parts
+abbrev NoMapAt : List TypeMsg → ℕ → TypeMsg → Type 0
+NoMapAt ts n y = (s t : Shape) (rest : List TypeMsg) → y.subtypes ≡ (n + 1) ∷ (n + 1 + width s) ∷ [] → y.field_names ≡ [] → drop (n + 1) ts ≡ types s (n + 1) ++ (types t (n + 1 + width s) ++ rest) → ⊥
+
+map_none : (ts : List TypeMsg) (n : ℕ) (y : TypeMsg) → slice_get ts n ≡ Some y → y.kind ≡ 11 → NoMapAt ts n y → NoneAt ts n
+map_none ts n y at k none (scalar j o) rest h = not_map j (sym (at_place ts n y _ rest at h).kind ∙ k)
+map_none ts n y at k none (list_of s o) rest h = let e : ◌≡◌ {A = ℕ} 10 11 = sym (at_place ts n y _ (types s (n + 1) ++ rest) at h).kind ∙ k in omega (arith, e)
+map_none ts n y at k none (struct_of fs o) rest h = let e : ◌≡◌ {A = ℕ} 12 11 = sym (at_place ts n y _ (fields_types fs (n + 1) ++ rest) at h).kind ∙ k in omega (arith, e)
+map_none ts n y at k none (map_of s t o) rest h =
+    let e = at_place ts n y _ ((types s (n + 1) ++ types t (n + 1 + width s)) ++ rest) at h in
+    none s t rest e.subtypes e.names (e.rest ∙ append_assoc (types s (n + 1)) (types t (n + 1 + width s)) rest)
+
+pub map_wrong : (ts : List TypeMsg) (n : ℕ) (y : TypeMsg) → slice_get ts n ≡ Some y → y.kind ≡ 11 → ¬ (HasKeyAt y (n + 1)) → NoneAt ts n
+map_wrong ts n y at k wrong = map_none ts n y at k (λ s t rest ss names h. wrong (ap length ss, ap (λ (xs : List ℕ). get_or xs 0 0) ss, names))
+
+pub key_none : (ts : List TypeMsg) (n : ℕ) (y : TypeMsg) → slice_get ts n ≡ Some y → y.kind ≡ 11 → NoneAt ts (n + 1) → NoneAt ts n
+key_none ts n y at k none = map_none ts n y at k (λ s t rest ss names h. none s (types t (n + 1 + width s) ++ rest) h)
+
+-- a key that is found is the map's
+key_same : (ts : List TypeMsg) (n d mid : ℕ) (s t u : Shape) (rest : List TypeMsg) → Found ts (n + 1) d s mid → drop (n + 1) ts ≡ types t (n + 1) ++ (types u (n + 1 + width t) ++ rest) → (n + 1 + width t ≡ mid) × (drop mid ts ≡ types u mid ++ rest)
+key_same ts n d mid s t u rest found h =
+    let r = one_tree s t (n + 1) (drop mid ts) (types u (n + 1 + width t) ++ rest) (sym found.stands ∙ h) in
+    let at : n + 1 + width t ≡ mid = ap (λ x. n + 1 + width x) (sym r.0) ∙ sym found.ends_at in
+    (at, r.1 ∙ ap (λ m. types u m ++ rest) at)
+
+pub value_wrong : (ts : List TypeMsg) (n d mid : ℕ) (y : TypeMsg) (s : Shape) → slice_get ts n ≡ Some y → y.kind ≡ 11 → Found ts (n + 1) d s mid → ¬ (get_or y.subtypes 1 0 ≡ mid) → NoneAt ts n
+value_wrong ts n d mid y s at k found wrong = map_none ts n y at k (λ t u rest ss names h. wrong (ap (λ (xs : List ℕ). get_or xs 1 0) ss ∙ (key_same ts n d mid s t u rest found h).0))
+
+pub value_none : (ts : List TypeMsg) (n d mid : ℕ) (y : TypeMsg) (s : Shape) → slice_get ts n ≡ Some y → y.kind ≡ 11 → Found ts (n + 1) d s mid → NoneAt ts mid → NoneAt ts n
+value_none ts n d mid y s at k found none = map_none ts n y at k (λ t u rest ss names h. none u rest (key_same ts n d mid s t u rest found h).1)
+
+pub scalar_wrong : (ts : List TypeMsg) (n : ℕ) (y : TypeMsg) → slice_get ts n ≡ Some y → ¬ (y.kind ≡ 10) → ¬ (y.kind ≡ 12) → ¬ (y.kind ≡ 11) → ¬ ((y.subtypes ≡ []) × (y.field_names ≡ [])) → NoneAt ts n
+scalar_wrong ts n y at l k m wrong (scalar j o) rest h = let e = at_place ts n y _ rest at h in wrong (e.subtypes, e.names)
+scalar_wrong ts n y at l k m wrong (list_of s o) rest h = l (at_place ts n y _ (types s (n + 1) ++ rest) at h).kind
+scalar_wrong ts n y at l k m wrong (map_of s t o) rest h = m (at_place ts n y _ ((types s (n + 1) ++ types t (n + 1 + width s)) ++ rest) at h).kind
+scalar_wrong ts n y at l k m wrong (struct_of fs o) rest h = k (at_place ts n y _ (fields_types fs (n + 1) ++ rest) at h).kind
 
 pub lengths_wrong : (ts : List TypeMsg) (n : ℕ) (ss : List ℕ) (names : List (List ℕ)) → ¬ (length ss ≡ length names) → NoFieldsAt ts n ss names
 lengths_wrong ts n ss names wrong fs rest begins named h = wrong (sym (ap length begins) ∙ length-starts fs n ∙ ap length named)
@@ -387,13 +462,36 @@ list_fault ts n d y fault.RootNotStruct p at is ss bad = bad
 list_fault ts n d y (fault.BadText place) p at is ss bad = bad
 list_fault ts n d y fault.OutOfMemory p at is ss bad = tt
 
+-- why a map is refused for its key, or its value
+part_fault : (ts : List TypeMsg) (n d index below : ℕ) (y : TypeMsg) (f : TypeFault) → 0 < d → slice_get ts n ≡ Some y → y.kind ≡ 11 → slice_get y.subtypes index ≡ Some below → n < below
+    → (NoneAt ts below → NoneAt ts n) → PlaceFault ts below (d - 1) f → PlaceFault ts n d f
+part_fault ts n d index below y (fault.UnsupportedKind k) p at is ss later none bad = bad
+part_fault ts n d index below y fault.BadTree p at is ss later none bad = none bad
+part_fault ts n d index below y fault.TooDeep p at is ss later none bad = (
+  omega (arith, bad.0, later),
+  deeper ts n below d p record { type = y; index = index; stands = at; holds = inr (inr is); subtype = ss; later = later; listed = bad.0 } bad.1,
+)
+part_fault ts n d index below y fault.TooMany p at is ss later none bad = bad
+part_fault ts n d index below y fault.RootNotStruct p at is ss later none bad = bad
+part_fault ts n d index below y (fault.BadText place) p at is ss later none bad = bad
+part_fault ts n d index below y fault.OutOfMemory p at is ss later none bad = tt
+
+pub key_fault : (ts : List TypeMsg) (n d : ℕ) (y : TypeMsg) (f : TypeFault) → 0 < d → slice_get ts n ≡ Some y → y.kind ≡ 11 → HasKeyAt y (n + 1) → PlaceFault ts (n + 1) (d - 1) f → PlaceFault ts n d f
+key_fault ts n d y f p at is key =
+    part_fault ts n d 0 (n + 1) y f p at is (slice_get_within y.subtypes 0 0 (omega (arith, key.0)) ∙ ap Some key.1) (omega arith) (key_none ts n y at is)
+
+pub value_fault : (ts : List TypeMsg) (n d mid : ℕ) (y : TypeMsg) (s : Shape) (f : TypeFault) → 0 < d → slice_get ts n ≡ Some y → y.kind ≡ 11 → HasKeyAt y (n + 1) → get_or y.subtypes 1 0 ≡ mid → Found ts (n + 1) (d - 1) s mid
+    → PlaceFault ts mid (d - 1) f → PlaceFault ts n d f
+value_fault ts n d mid y s f p at is key value found =
+    part_fault ts n d 1 mid y f p at is (slice_get_within y.subtypes 1 0 (omega (arith, key.0)) ∙ ap Some value) (omega (arith, found.ends_at)) (value_none ts n (d - 1) mid y s at is found)
+
 -- why a struct is refused for its fields
 pub struct_fault : (ts : List TypeMsg) (n d : ℕ) (y : TypeMsg) (f : TypeFault) → 0 < d → slice_get ts n ≡ Some y → y.kind ≡ 12 → FieldsPlaceFault ts (n + 1) (d - 1) y.subtypes y.field_names f → PlaceFault ts n d f
 struct_fault ts n d y (fault.UnsupportedKind k) p at is bad = bad
 struct_fault ts n d y fault.BadTree p at is bad = struct_none ts n y at is bad
 struct_fault ts n d y fault.TooDeep p at is bad = (
   omega (arith, bad.later, bad.listed),
-  deeper ts n bad.below d p record { type = y; index = bad.index; stands = at; holds = inr is; subtype = bad.subtype; later = omega (arith, bad.later); listed = bad.listed } bad.deeper,
+  deeper ts n bad.below d p record { type = y; index = bad.index; stands = at; holds = inr (inl is); subtype = bad.subtype; later = omega (arith, bad.later); listed = bad.listed } bad.deeper,
 )
 struct_fault ts n d y fault.TooMany p at is bad = bad
 struct_fault ts n d y fault.RootNotStruct p at is bad = bad
@@ -407,6 +505,7 @@ struct_fault ts n d y fault.OutOfMemory p at is bad = tt
 struct_root : (s : Shape) (ts : List TypeMsg) (y : TypeMsg) (rest : List TypeMsg) → ts ≡ types s 0 ++ rest → slice_get ts 0 ≡ Some y → y.kind ≡ 12 → IsStruct s
 struct_root (struct_of fs o) ts y rest e g k = tt
 struct_root (list_of t o) ts y rest e g k = cc
+struct_root (map_of t u o) ts y rest e g k = cc
 struct_root (scalar j o) ts y rest e g k = (let same : number j ≡ 12 = cc in absurd (not_struct j same))
 
 whole_list : (ts : List TypeMsg) (e : ℕ) (s : Shape) → Found ts 0 32 s e → e ≡ length ts → ts ≡ types s 0

@@ -1,5 +1,5 @@
 -- A row, or a part of one, by what it means (ORC specification, "Types" and "Column Encodings").
-use Rattle.std.specs.Prelude.{ℕ, ℤ, List, [], ◌∷◌, Bool, true, false, if◌then◌else◌}
+use Rattle.std.specs.Prelude.{ℕ, ℤ, List, [], ◌∷◌, map, Bool, true, false, if◌then◌else◌}
 
 -- a value of a type that contains no other; texts and bytes are lists of bytes
 pub data Atom : Type 0 where
@@ -16,10 +16,17 @@ mutual
     leaf : Atom → Cell
     list : Cells → Cell
     struct : Cells → Cell
+    -- of a map
+    pairs : Pairs → Cell
 
   pub data Cells : Type 0 where
     end : Cells
     more : Cell → Cells → Cells
+
+  -- a map's keys, each with its value, in order; a key may stand there more than once, and be null
+  pub data Pairs : Type 0 where
+    no_pair : Pairs
+    pair : Cell → Cell → Pairs → Pairs
 
 abbrev pub cells_of : List Cell → Cells
 cells_of [] = end
@@ -29,11 +36,20 @@ abbrev pub list_of_cells : Cells → List Cell
 list_of_cells end = []
 list_of_cells (more c cs) = c ∷ list_of_cells cs
 
+abbrev pub pairs_of : List (Cell × Cell) → Pairs
+pairs_of [] = no_pair
+pairs_of (p ∷ ps) = pair p.0 p.1 (pairs_of ps)
+
+abbrev pub list_of_pairs : Pairs → List (Cell × Cell)
+list_of_pairs no_pair = []
+list_of_pairs (pair k v ps) = (k, v) ∷ list_of_pairs ps
+
 abbrev pub is_value : Cell → Bool
 is_value null = false
 is_value (leaf a) = true
 is_value (list cs) = true
 is_value (struct cs) = true
+is_value (pairs ps) = true
 
 -- the elements of a list, the fields of a struct
 abbrev pub parts : Cell → List Cell
@@ -41,6 +57,22 @@ parts null = []
 parts (leaf a) = []
 parts (list cs) = list_of_cells cs
 parts (struct cs) = list_of_cells cs
+parts (pairs ps) = []
+
+-- the pairs of a map
+abbrev pub pairs_in : Cell → List (Cell × Cell)
+pairs_in null = []
+pairs_in (leaf a) = []
+pairs_in (list cs) = []
+pairs_in (struct cs) = []
+pairs_in (pairs ps) = list_of_pairs ps
+
+-- the keys of a map, and its values
+abbrev pub keys_in : Cell → List Cell
+keys_in c = map (λ p. p.0) (pairs_in c)
+
+abbrev pub values_in : Cell → List Cell
+values_in c = map (λ p. p.1) (pairs_in c)
 
 -- the cells that are not null
 abbrev pub values : List Cell → List Cell

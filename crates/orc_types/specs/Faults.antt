@@ -3,7 +3,7 @@ use Rattle.std.specs.Prelude.{◌≡◌, ◌<◌, ◌⊎◌, ℕ, zero, suc, Lis
 use Rattle.std.specs.List.{AllByRecursion}
 use Rattle.std.specs.Str.{is_utf8}
 use Rattle.orc_wire.specs.declared.type_msg.TypeMsg.{TypeMsg}
-use Rattle.orc_types.specs.Kinds.{IsKind, list_number, struct_number}
+use Rattle.orc_types.specs.Kinds.{IsKind, list_number, map_number, struct_number}
 use Rattle.orc_types.specs.Shapes.{Shape}
 use Rattle.orc_types.specs.Types.{types}
 use Rattle.orc_types.specs.declared.fault.TypeFault.{TypeFault}
@@ -22,12 +22,12 @@ pub record IsNoTree (ts : List TypeMsg) : Type 0 where
   pub kinds : AllByRecursion (λ t. IsKind t.kind) ts
   pub none : (s : Shape) → ts ≡ types s 0 → ⊥
 
--- one type is a subtype of another, which is a LIST or a STRUCT, and listed behind it
+-- one type is a subtype of another, which is a LIST, a STRUCT or a MAP, and listed behind it
 pub record IsBelow (ts : List TypeMsg) (above below : ℕ) : Type 0 where
   pub type : TypeMsg
   pub index : ℕ
   pub stands : slice_get ts above ≡ Some type
-  pub holds : (type.kind ≡ list_number) ⊎ (type.kind ≡ struct_number)
+  pub holds : (type.kind ≡ list_number) ⊎ ((type.kind ≡ struct_number) ⊎ (type.kind ≡ map_number))
   pub subtype : slice_get type.subtypes index ≡ Some below
   pub later : above < below
   pub listed : below < length ts

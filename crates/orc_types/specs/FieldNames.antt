@@ -1,7 +1,7 @@
 -- The names of a schema's fields, which JSON objects have as their keys (RFC 8259, "Objects").
 use Rattle.std.specs.Prelude.{ℕ, List, [], ◌∷◌, Bool, true, false, not, ◌&&◌, ◌||◌, bytes_eq}
 use Rattle.serde_json.specs.Data.{Members, no_members, member}
-use Rattle.orc_types.specs.Shapes.{Shape, scalar, list_of, struct_of, Fields, no_field, field, names_of}
+use Rattle.orc_types.specs.Shapes.{Shape, scalar, list_of, map_of, struct_of, Fields, no_field, field, names_of}
 
 abbrev pub is_among : List (List ℕ) → List ℕ → Bool
 is_among [] n = false
@@ -16,6 +16,7 @@ abbrev mutual
   pub is_distinct : Shape → Bool
   is_distinct (scalar k o) = true
   is_distinct (list_of s o) = is_distinct s
+  is_distinct (map_of k v o) = is_distinct k && is_distinct v
   is_distinct (struct_of fs o) = all_differ (names_of fs) && are_distinct fs
 
   pub are_distinct : Fields → Bool

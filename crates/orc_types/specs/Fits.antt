@@ -5,8 +5,8 @@ use Rattle.orc_types.specs.declared.kind.Scalar.{Scalar}
 use Rattle.orc_types.specs.declared.kind.Scalar.TheVariants as kind
 use Rattle.std.specs.Str.{is_utf8}
 use Rattle.orc_types.specs.Kinds.{is_kind}
-use Rattle.orc_types.specs.Shapes.{Shape, scalar, list_of, struct_of, Fields, no_field, field}
-use Rattle.orc_types.specs.Cells.{Atom, bool, int, date, text, bytes, Cell, null, leaf, list, struct, Cells, end, more}
+use Rattle.orc_types.specs.Shapes.{Shape, scalar, list_of, map_of, struct_of, Fields, no_field, field}
+use Rattle.orc_types.specs.Cells.{Atom, bool, int, date, text, bytes, Cell, null, leaf, list, struct, pairs, Cells, end, more, Pairs, no_pair, pair}
 
 -- a whole number of that many bits, and a sign
 abbrev pub signed_fits : ℕ → ℤ → Bool
@@ -43,13 +43,20 @@ abbrev mutual
   fits null s = true
   fits (leaf a) (scalar k o) = atom_fits k a
   fits (leaf a) (list_of s o) = false
+  fits (leaf a) (map_of k v o) = false
   fits (leaf a) (struct_of fs o) = false
   fits (list cs) (scalar k o) = false
   fits (list cs) (list_of s o) = all_fit cs s
+  fits (list cs) (map_of k v o) = false
   fits (list cs) (struct_of fs o) = false
   fits (struct cs) (scalar k o) = false
   fits (struct cs) (list_of s o) = false
+  fits (struct cs) (map_of k v o) = false
   fits (struct cs) (struct_of fs o) = each_fits cs fs
+  fits (pairs ps) (scalar k o) = false
+  fits (pairs ps) (list_of s o) = false
+  fits (pairs ps) (map_of k v o) = pairs_fit ps k v
+  fits (pairs ps) (struct_of fs o) = false
 
   pub all_fit : Cells → Shape → Bool
   all_fit end s = true
@@ -62,6 +69,11 @@ abbrev mutual
   each_fits (more c cs) no_field = false
   each_fits (more c cs) (field name s fs) = fits c s && each_fits cs fs
 
+  -- keys of one type, values of another
+  pub pairs_fit : Pairs → Shape → Shape → Bool
+  pairs_fit no_pair s t = true
+  pairs_fit (pair k v ps) s t = fits k s && (fits v t && pairs_fit ps s t)
+
 -- all rows are of the type
 abbrev pub RowsFit : Shape → List Cell → Type 0
 RowsFit s rows = AllByRecursion (λ c. fits c s ≡ true) rows
@@ -71,3 +83,4 @@ scalar_fits k null = true
 scalar_fits k (leaf a) = atom_fits k a
 scalar_fits k (list cs) = false
 scalar_fits k (struct cs) = false
+scalar_fits k (pairs ps) = false

@@ -8,7 +8,7 @@ use Rattle.orc_types.specs.declared.kind.Scalar.{Scalar}
 use Rattle.orc_types.specs.declared.kind.Scalar.TheVariants as kind
 use Rattle.orc_types.specs.declared.json_fault.JsonFault.{JsonFault}
 use Rattle.orc_types.specs.declared.json_fault.JsonFault.TheVariants as fault
-use Rattle.orc_types.specs.Cells.{Atom, bool, int, date, text, bytes, Cell, null as null_cell, leaf, list, struct}
+use Rattle.orc_types.specs.Cells.{Atom, bool, int, date, text, bytes, Cell, null as null_cell, leaf, list, struct, pairs}
 use Rattle.orc_types.specs.Days.{has_text, day_text, IsDayText}
 use Rattle.orc_types.specs.Fits.{atom_fits}
 use Rattle.orc_types.specs.Kinds.{is_kind}
@@ -39,6 +39,7 @@ ScalarSpells k d null_cell = d ≡ null
 ScalarSpells k d (leaf a) = LeafSpells k d a
 ScalarSpells k d (list cs) = ⊥
 ScalarSpells k d (struct cs) = ⊥
+ScalarSpells k d (pairs ps) = ⊥
 
 -- ---- why a value is refused; null never is
 
@@ -108,6 +109,7 @@ IsLeaf null_cell = ⊥
 IsLeaf (leaf a) = Unit {0}
 IsLeaf (list cs) = ⊥
 IsLeaf (struct cs) = ⊥
+IsLeaf (pairs ps) = ⊥
 
 -- the value of JSON is that of the leaf
 abbrev pub LeafPrints : Cell → Data → Type 0
@@ -115,3 +117,4 @@ LeafPrints null_cell d = ⊥
 LeafPrints (leaf a) d = d ≡ atom_json a
 LeafPrints (list cs) d = ⊥
 LeafPrints (struct cs) d = ⊥
+LeafPrints (pairs ps) d = ⊥

@@ -3,8 +3,8 @@ use Rattle.std.specs.Prelude.{ℕ, ◌≡◌, List, true}
 use Rattle.std.specs.Ordering.{is_lt, nat_cmp}
 use Rattle.std.specs.Cmp.Lexicographic.{slice_cmp}
 use Rattle.serde_json.specs.Data.{Data, null as nothing, array, object, Items, no_items, item, Members, no_members, member, put}
-use Rattle.orc_types.specs.Shapes.{Shape, scalar, list_of, struct_of, Fields, no_field, field}
-use Rattle.orc_types.specs.Cells.{Cell, null, leaf, list, struct, Cells, end, more}
+use Rattle.orc_types.specs.Shapes.{Shape, scalar, list_of, map_of, struct_of, Fields, no_field, field}
+use Rattle.orc_types.specs.Cells.{Cell, null, leaf, list, struct, pairs, Cells, end, more, Pairs, no_pair, pair}
 use Rattle.orc_types.specs.JsonLeaves.{atom_json}
 
 abbrev pub each_json : (Cell → Data) → Cells → Items
@@ -17,24 +17,43 @@ scalar_json null = nothing
 scalar_json (leaf a) = atom_json a
 scalar_json (list cs) = nothing
 scalar_json (struct cs) = nothing
+scalar_json (pairs ps) = nothing
 
 abbrev pub list_json : (Cell → Data) → Cell → Data
 list_json f null = nothing
 list_json f (leaf a) = nothing
 list_json f (list cs) = array (each_json f cs)
 list_json f (struct cs) = nothing
+list_json f (pairs ps) = nothing
+
+-- an array of two
+abbrev pub pair_json : Data → Data → Data
+pair_json k v = array (item k (item v no_items))
+
+abbrev pub pairs_json : (Cell → Data) → (Cell → Data) → Pairs → Items
+pairs_json f g no_pair = no_items
+pairs_json f g (pair k v ps) = item (pair_json (f k) (g v)) (pairs_json f g ps)
+
+abbrev pub map_json : (Cell → Data) → (Cell → Data) → Cell → Data
+map_json f g null = nothing
+map_json f g (leaf a) = nothing
+map_json f g (list cs) = nothing
+map_json f g (struct cs) = nothing
+map_json f g (pairs ps) = array (pairs_json f g ps)
 
 abbrev pub struct_json : (Cells → Members) → Cell → Data
 struct_json f null = nothing
 struct_json f (leaf a) = nothing
 struct_json f (list cs) = nothing
 struct_json f (struct cs) = object (f cs)
+struct_json f (pairs ps) = nothing
 
 -- an object has its fields' names as keys, in byte order, which `put` keeps
 abbrev mutual
   pub json_of : Shape → Cell → Data
   json_of (scalar k o) c = scalar_json c
   json_of (list_of s o) c = list_json (λ x. json_of s x) c
+  json_of (map_of k v o) c = map_json (λ x. json_of k x) (λ x. json_of v x) c
   json_of (struct_of fs o) c = struct_json (λ cs. members_json fs cs no_members) c
 
   -- the members so far, and those of the fields

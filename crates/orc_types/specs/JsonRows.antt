@@ -2,8 +2,8 @@
 use Rattle.std.specs.Prelude.{ℕ, ◌≡◌, ◌⊎◌, List, true, Option, Some, None}
 use Rattle.serde_json.specs.Data.{Data, null as nothing, array, object, Items, no_items, item, Members}
 use Rattle.serde_json.specs.Find.{get}
-use Rattle.orc_types.specs.Shapes.{Shape, scalar, list_of, struct_of, Fields, no_field, field, names_of}
-use Rattle.orc_types.specs.Cells.{Cell, null, list, struct, Cells, end, more}
+use Rattle.orc_types.specs.Shapes.{Shape, scalar, list_of, map_of, struct_of, Fields, no_field, field, names_of}
+use Rattle.orc_types.specs.Cells.{Cell, null, list, struct, pairs, Cells, end, more, Pairs, no_pair, pair}
 use Rattle.orc_types.specs.FieldNames.{all_known}
 use Rattle.orc_types.specs.JsonLeaves.{ScalarSpells}
 
@@ -26,6 +26,21 @@ MemberSpells Is (Some d) c = Is d c
 abbrev pub ArraySpells : (Data → Cell → Type 0) → Data → Cell → Type 0
 ArraySpells Is d c = (ds : Items) × (cs : Cells) × (d ≡ array ds) × (c ≡ list cs) × EachSpells Is ds cs
 
+-- an array of two spells a key and its value
+abbrev pub PairSpells : (Data → Cell → Type 0) → (Data → Cell → Type 0) → Data → Cell → Cell → Type 0
+PairSpells IsKey IsValue d k v =
+    (x : Data) × (y : Data) × (d ≡ array (item x (item y no_items))) × IsKey x k × IsValue y v
+
+abbrev pub PairsSpell : (Data → Cell → Type 0) → (Data → Cell → Type 0) → Items → Pairs → Type 0
+PairsSpell IsKey IsValue no_items no_pair = Unit {0}
+PairsSpell IsKey IsValue no_items (pair k v ps) = ⊥
+PairsSpell IsKey IsValue (item d ds) no_pair = ⊥
+PairsSpell IsKey IsValue (item d ds) (pair k v ps) = PairSpells IsKey IsValue d k v × PairsSpell IsKey IsValue ds ps
+
+abbrev pub MapSpells : (Data → Cell → Type 0) → (Data → Cell → Type 0) → Data → Cell → Type 0
+MapSpells IsKey IsValue d c =
+    (ds : Items) × (ps : Pairs) × (d ≡ array ds) × (c ≡ pairs ps) × PairsSpell IsKey IsValue ds ps
+
 -- no key but the fields' names
 abbrev pub ObjectSpells : List (List ℕ) → (Cells → Type 0) → Data → Cell → Type 0
 ObjectSpells names Are d c =
@@ -35,6 +50,7 @@ abbrev mutual
   pub Spells : Shape → Data → Cell → Type 0
   Spells (scalar k o) d c = ScalarSpells k d c
   Spells (list_of s o) d c = OrNull d c (ArraySpells (λ e x. Spells s e x) d c)
+  Spells (map_of k v o) d c = OrNull d c (MapSpells (λ e x. Spells k e x) (λ e x. Spells v e x) d c)
   Spells (struct_of fs o) d c = OrNull d c (ObjectSpells (names_of fs) (λ cs. FieldsSpell fs d cs) d c)
 
   -- each field, by its name

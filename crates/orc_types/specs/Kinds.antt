@@ -21,6 +21,9 @@ is_kind j k = number j == number k
 abbrev pub list_number : ℕ
 list_number = 10
 
+abbrev pub map_number : ℕ
+map_number = 11
+
 abbrev pub struct_number : ℕ
 struct_number = 12
 
@@ -38,4 +41,4 @@ scalar_of n =
 
 -- a number of one of the kinds that a column can have
 abbrev pub IsKind : ℕ → Type 0
-IsKind n = ((k : Scalar) × (number k ≡ n)) ⊎ ((n ≡ list_number) ⊎ (n ≡ struct_number))
+IsKind n = ((k : Scalar) × (number k ≡ n)) ⊎ ((n ≡ list_number) ⊎ ((n ≡ struct_number) ⊎ (n ≡ map_number)))

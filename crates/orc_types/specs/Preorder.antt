@@ -1,6 +1,6 @@
 -- The tree whose types begin at a place of a list (ORC specification, "Types").
 use Rattle.std.specs.Str.{is_utf8}
-use Rattle.std.specs.Prelude.{◌⊎◌, false, ℕ, ◌+◌, ◌<◌, ◌≤◌, ◌≡◌, length, ◌++◌, drop, List, slice_get, Some}
+use Rattle.std.specs.Prelude.{◌⊎◌, false, ℕ, ◌+◌, ◌<◌, ◌≤◌, ◌≡◌, length, ◌++◌, drop, List, [], slice_get, get_or, Some}
 use Rattle.orc_wire.specs.declared.type_msg.TypeMsg.{TypeMsg}
 use Rattle.orc_types.specs.Types.{types, fields_types, starts}
 use Rattle.orc_types.specs.Shapes.{Shape, Fields, width, widths, depth, depths, HasTextNames, HaveTextNames, names_of}
@@ -24,6 +24,10 @@ pub record FoundFields (ts : List TypeMsg) (n d : ℕ) (subtypes : List ℕ) (na
   pub named : names_of fs ≡ names
   pub stands : drop n ts ≡ fields_types fs n ++ drop e ts
   pub ends_at : e ≡ n + widths fs
+
+-- two subtypes, the first of which begins at the place, and no name
+abbrev pub HasKeyAt : TypeMsg → ℕ → Type 0
+HasKeyAt t n = (length t.subtypes ≡ 2) × (get_or t.subtypes 0 0 ≡ n) × (t.field_names ≡ [])
 
 -- no tree's types stand at the place
 abbrev pub NoneAt : List TypeMsg → ℕ → Type 0

@@ -5,7 +5,7 @@ use Rattle.std.specs.List.{AllByRecursion}
 use Rattle.std.specs.Char.{is_ascii_alphanumeric}
 use Rattle.orc_types.specs.declared.kind.Scalar.{Scalar}
 use Rattle.orc_types.specs.declared.kind.Scalar.TheVariants as kind
-use Rattle.orc_types.specs.Shapes.{Shape, scalar, list_of, struct_of, Fields, no_field, field}
+use Rattle.orc_types.specs.Shapes.{Shape, scalar, list_of, map_of, struct_of, Fields, no_field, field}
 use Rattle.orc_types.specs.Schemas.{IsSchema}
 
 abbrev pub kind_name : Scalar → List ℕ
@@ -30,6 +30,7 @@ abbrev mutual
   pub text : Shape → List ℕ
   text (scalar k o) = kind_name k
   text (list_of s o) = codes "array<" ++ text s ++ codes ">"
+  text (map_of k v o) = codes "map<" ++ text k ++ codes "," ++ text v ++ codes ">"
   text (struct_of fs o) = codes "struct<" ++ fields_text true fs ++ codes ">"
 
   -- a comma before each field but the first
@@ -54,6 +55,7 @@ abbrev mutual
   pub IsPlain : Shape → Type 0
   IsPlain (scalar k o) = o ≡ []
   IsPlain (list_of s o) = (o ≡ []) × IsPlain s
+  IsPlain (map_of k v o) = (o ≡ []) × IsPlain k × IsPlain v
   IsPlain (struct_of fs o) = (o ≡ []) × ArePlain fs
 
   pub ArePlain : Fields → Type 0
@@ -65,6 +67,7 @@ abbrev mutual
   pub bare : Shape → Shape
   bare (scalar k o) = scalar k []
   bare (list_of s o) = list_of (bare s) []
+  bare (map_of k v o) = map_of (bare k) (bare v) []
   bare (struct_of fs o) = struct_of (bare_fields fs) []
 
   pub bare_fields : Fields → Fields

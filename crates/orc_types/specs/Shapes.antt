@@ -9,6 +9,8 @@ mutual
   pub data Shape : Type 0 where
     scalar : Scalar → List ℕ → Shape
     list_of : Shape → List ℕ → Shape
+    -- keys and values
+    map_of : Shape → Shape → List ℕ → Shape
     struct_of : Fields → List ℕ → Shape
 
   -- each field has a name and a type
@@ -21,6 +23,7 @@ abbrev mutual
   pub width : Shape → ℕ
   width (scalar k o) = 1
   width (list_of s o) = 1 + width s
+  width (map_of k v o) = 1 + (width k + width v)
   width (struct_of fs o) = 1 + widths fs
 
   pub widths : Fields → ℕ
@@ -32,6 +35,7 @@ abbrev mutual
   pub depth : Shape → ℕ
   depth (scalar k o) = 1
   depth (list_of s o) = 1 + depth s
+  depth (map_of k v o) = 1 + max (depth k) (depth v)
   depth (struct_of fs o) = 1 + depths fs
 
   pub depths : Fields → ℕ
@@ -43,6 +47,7 @@ abbrev mutual
   pub HasTextNames : Shape → Type 0
   HasTextNames (scalar k o) = Unit {0}
   HasTextNames (list_of s o) = HasTextNames s
+  HasTextNames (map_of k v o) = HasTextNames k × HasTextNames v
   HasTextNames (struct_of fs o) = HaveTextNames fs
 
   pub HaveTextNames : Fields → Type 0
@@ -52,6 +57,7 @@ abbrev mutual
 abbrev pub IsStruct : Shape → Type 0
 IsStruct (scalar k o) = ⊥
 IsStruct (list_of s o) = ⊥
+IsStruct (map_of k v o) = ⊥
 IsStruct (struct_of fs o) = Unit {0}
 
 abbrev pub names_of : Fields → List (List ℕ)
@@ -64,6 +70,8 @@ abbrev mutual
   shape_at (scalar k o) c = scalar k o
   shape_at (list_of s o) zero = list_of s o
   shape_at (list_of s o) (suc c) = shape_at s c
+  shape_at (map_of k v o) zero = map_of k v o
+  shape_at (map_of k v o) (suc c) = if nat_lt c (width k) then shape_at k c else shape_at v (c - width k)
   shape_at (struct_of fs o) zero = struct_of fs o
   shape_at (struct_of fs o) (suc c) = shape_within fs c
 

@@ -17,9 +17,11 @@ pub record EntersField (bytes inner : List ℕ) : Type 0 where
   pub named : IsName name
   pub spelled : bytes ≡ fields_text true before ++ (comma (is_empty before) ++ (name ++ (colon ++ inner)))
 
--- the text up to an array's element or to a struct's field's type, and then the inner text
+-- the text up to an array's element, a map's key or value, or a struct's field's type, and then the inner text
 pub data Enters (bytes inner : List ℕ) : Type 0 where
   element : bytes ≡ codes "array<" ++ inner → Enters bytes inner
+  key : bytes ≡ codes "map<" ++ inner → Enters bytes inner
+  value : (k : Shape) → IsPlain k → bytes ≡ codes "map<" ++ (text k ++ (codes "," ++ inner)) → Enters bytes inner
   member : (fields : List ℕ) → bytes ≡ codes "struct<" ++ fields → EntersField fields inner → Enters bytes inner
 
 -- so many types are open, whatever follows

@@ -2,13 +2,14 @@
 use Rattle.std.specs.Prelude.{ℕ, List, [], ◌∷◌, map, Option, Some, None, string_bytes}
 use Rattle.std.specs.Borrow.{Bor}
 use Rattle.std.specs.Cow.{cow_str_bytes, cow_slice_items}
-use Rattle.orc_types.specs.Shapes.{Shape, scalar, list_of, struct_of, Fields, no_field, field}
-use Rattle.orc_types.specs.Cells.{bool, int, date, text, bytes, Cell, null, leaf, list, struct, cells_of}
+use Rattle.orc_types.specs.Shapes.{Shape, scalar, list_of, map_of, struct_of, Fields, no_field, field}
+use Rattle.orc_types.specs.Cells.{bool, int, date, text, bytes, Cell, null, leaf, list, struct, pairs, cells_of, pairs_of}
 use Rattle.orc_types.specs.declared.tree.Tree.{Tree, fold-Tree}
 use Rattle.orc_types.specs.declared.tree.Field.{Field, fold-Field}
 use Rattle.orc_types.specs.declared.tree.Tree.TheOpen.{Tree-F, Field-F}
 use Rattle.orc_types.specs.declared.value.Value.{Value, fold-Value}
-use Rattle.orc_types.specs.declared.value.Value.TheOpen.{Value-F}
+use Rattle.orc_types.specs.declared.value.MapPair.{MapPair, fold-MapPair}
+use Rattle.orc_types.specs.declared.value.Value.TheOpen.{Value-F, MapPair-F}
 
 abbrev pub fields_of : List (List ℕ × Shape) → Fields
 fields_of [] = no_field
@@ -17,6 +18,7 @@ fields_of (f ∷ fs) = field f.0 f.1 (fields_of fs)
 abbrev pub shape_step : Tree-F Shape (List ℕ × Shape) → Shape
 shape_step (Tree-F.Scalar k o) = scalar k o.items
 shape_step (Tree-F.List s o) = list_of s.value o.items
+shape_step (Tree-F.Map k v o) = map_of k.value v.value o.items
 shape_step (Tree-F.Struct fs o) = struct_of (fields_of fs.items) o.items
 
 abbrev pub field_step : Field-F Shape (List ℕ × Shape) → List ℕ × Shape
@@ -36,7 +38,7 @@ abbrev pub or_null : Option Cell → Cell
 or_null None = null
 or_null (Some c) = c
 
-abbrev pub cell_step : Value-F Cell → Cell
+abbrev pub cell_step : Value-F Cell (Cell × Cell) → Cell
 cell_step (Value-F.Bool b) = leaf (bool b)
 cell_step (Value-F.Int n) = leaf (int n)
 cell_step (Value-F.Date n) = leaf (date n)
@@ -44,9 +46,17 @@ cell_step (Value-F.Text s) = leaf (text (cow_str_bytes s))
 cell_step (Value-F.Bytes s) = leaf (bytes (cow_slice_items s))
 cell_step (Value-F.List v) = list (cells_of (map or_null v.items))
 cell_step (Value-F.Struct v) = struct (cells_of (map or_null v.items))
+cell_step (Value-F.Map v) = pairs (pairs_of v.items)
+
+abbrev pub pair_step : MapPair-F Cell (Cell × Cell) → Cell × Cell
+pair_step p = (or_null p.key, or_null p.value)
 
 abbrev pub cell_of_value : Value → Cell
-cell_of_value = fold-Value Cell cell_step
+cell_of_value = fold-Value Cell (Cell × Cell) cell_step pair_step
+
+-- a map's key and its value
+abbrev pub paired : MapPair → Cell × Cell
+paired = fold-MapPair Cell (Cell × Cell) cell_step pair_step
 
 -- the cell of a row
 abbrev pub view : Option Value → Cell

@@ -1,17 +1,18 @@
-//! The cells of a column, found among rows: elements of lists and fields of structs, down the schema.
+//! The cells of a column, found among rows: elements of lists, keys and values of maps, fields of structs, down the
+//! schema.
 ghost use Rattle.std.specs.Prelude.{◌≡◌, ◌<◌, ◌^◌, ◌++◌, ◌≤◌, IfOk, IfErr, OnOk, IfSome, IfNone, take, drop, map, length, option_map, slice_get};
 ghost use Rattle.std.specs.List.{flat_map};
 ghost use Rattle.orc_types.specs.Shapes.{width, widths};
-ghost use Rattle.orc_types.specs.Cells.{parts, values};
+ghost use Rattle.orc_types.specs.Cells.{parts, values, pairs_in, keys_in, values_in};
 ghost use Rattle.orc_types.specs.Columns as spec;
 ghost use Rattle.orc_types.specs.Columns.{IsLocated};
-ghost use Rattle.orc_types.specs.Views.{view, views, lent_views, shape, fields as fields_view};
+ghost use Rattle.orc_types.specs.Views.{view, views, lent_views, paired, shape, fields as fields_view};
 ghost use Rattle.orc_types.specs.declared.fault.TypeFault.TheVariants.{OutOfMemory};
 
 use crate::fault::TypeFault;
 use crate::schema::Schema;
 use crate::tree::{Field, Tree, width_of};
-use crate::value::{Row, Value};
+use crate::value::{MapPair, Row, Value};
 use std::alloc::{AllocError, Global};
 
 /// The elements of a list or the fields of a struct, in order, and none of another cell.
@@ -85,6 +86,66 @@ fn members<'r, 'a>(
     Ok(found)
 }
 
+/// The pairs of a map, in order, and none of another cell.
+pub fn pairs_of<'r, 'a>(row: &'r Row<'a>) -> &'r [MapPair<'a>]
+    ensures { map paired result.now ≡ pairs_in (view row.now) }
+{
+    match row {
+        Some(Value::Map(pairs)) => pairs,
+        _ => &[],
+    }
+}
+
+/// Adds the key of each pair at the end.
+fn lend_keys<'r, 'a>(
+    found: &mut Vec<&'r Row<'a>>,
+    pairs: &'r [MapPair<'a>],
+) -> Result<(), AllocError>
+    ensures { OnOk result (lent_views found.new.items
+        ≡ lent_views found.old.items ++ map (λ p. p.0) (map paired pairs.now)) }
+{
+    for pair in pairs {
+        found.push(&pair.key)?;
+    }
+    Ok(())
+}
+
+/// Adds the value of each pair at the end.
+fn lend_values<'r, 'a>(
+    found: &mut Vec<&'r Row<'a>>,
+    pairs: &'r [MapPair<'a>],
+) -> Result<(), AllocError>
+    ensures { OnOk result (lent_views found.new.items
+        ≡ lent_views found.old.items ++ map (λ p. p.1) (map paired pairs.now)) }
+{
+    for pair in pairs {
+        found.push(&pair.value)?;
+    }
+    Ok(())
+}
+
+/// The keys of the maps that are not null, in order.
+fn keys<'r, 'a>(alloc: Global, rows: Vec<&'r Row<'a>>) -> Result<Vec<&'r Row<'a>>, AllocError>
+    ensures { IfOk result (λ v. lent_views v.items ≡ flat_map keys_in (lent_views rows.entry.items)) }
+{
+    let mut found = Vec::new(alloc);
+    for row in rows {
+        lend_keys(&mut found, pairs_of(row))?;
+    }
+    Ok(found)
+}
+
+/// The values of the maps that are not null, in order.
+fn map_values<'r, 'a>(alloc: Global, rows: Vec<&'r Row<'a>>) -> Result<Vec<&'r Row<'a>>, AllocError>
+    ensures { IfOk result (λ v. lent_views v.items ≡ flat_map values_in (lent_views rows.entry.items)) }
+{
+    let mut found = Vec::new(alloc);
+    for row in rows {
+        lend_values(&mut found, pairs_of(row))?;
+    }
+    Ok(found)
+}
+
 /// Which field has a column of the fields, and the column's number in that field.
 fn field_of_column(fields: &Vec<Field>, column: usize) -> Option<(usize, usize)>
     requires { widths (fields_view fields.now.items) < 2 ^ 32 }
@@ -122,6 +183,16 @@ fn cells_of<'r, 'a>(
             let below = elements(alloc, rows)?;
             cells_of(alloc, element, column - 1, below)
         }
+        Tree::Map(key, value, _) => {
+            let width = width_of(key);
+            if column - 1 < width {
+                let below = keys(alloc, rows)?;
+                cells_of(alloc, key, column - 1, below)
+            } else {
+                let below = map_values(alloc, rows)?;
+                cells_of(alloc, value, column - 1 - width, below)
+            }
+        }
         Tree::Struct(fields, _) => {
             let Some((i, below)) = field_of_column(fields, column - 1) else {
                 return Ok(Vec::new(alloc));
@@ -133,8 +204,9 @@ fn cells_of<'r, 'a>(
 }
 
 /// The cells of a column: of the root all the rows, of a list's child the elements of the lists that
-/// are not null, of a struct's field that field of the structs that are not null, in order (ORC
-/// specification, "Column Encodings").
+/// are not null, of a map's children the keys, and the values, of the maps that are not null, of a
+/// struct's field that field of the structs that are not null, in order (ORC specification, "Column
+/// Encodings").
 ///
 /// Refusal: `OutOfMemory`.
 pub fn cells<'r, 'a>(

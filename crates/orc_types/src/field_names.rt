@@ -41,6 +41,12 @@ pub(crate) fn is_distinct(alloc: Global, tree: &Tree) -> Result<bool, AllocError
     match tree {
         Tree::Scalar(_, _) => Ok(true),
         Tree::List(element, _) => is_distinct(alloc, element),
+        Tree::Map(key, value, _) => {
+            if !is_distinct(alloc, key)? {
+                return Ok(false);
+            }
+            is_distinct(alloc, value)
+        }
         Tree::Struct(fields, _) => {
             if !all_differ(alloc, fields)? {
                 return Ok(false);

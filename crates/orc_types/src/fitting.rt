@@ -1,13 +1,13 @@
 //! Whether a row is one of a schema.
-ghost use Rattle.std.specs.Prelude.{◌≡◌};
-ghost use Rattle.orc_types.specs.Cells.{text, bytes, cells_of};
-ghost use Rattle.orc_types.specs.Views.{view, views, cell_of_value, shape, fields as fields_view};
+ghost use Rattle.std.specs.Prelude.{◌≡◌, map};
+ghost use Rattle.orc_types.specs.Cells.{text, bytes, cells_of, pairs_of};
+ghost use Rattle.orc_types.specs.Views.{view, views, paired, cell_of_value, shape, fields as fields_view};
 ghost use Rattle.orc_types.specs.Fits as spec;
 
 use crate::kind::Scalar;
 use crate::schema::Schema;
 use crate::tree::{Field, Tree};
-use crate::value::{Row, Value};
+use crate::value::{MapPair, Row, Value};
 
 /// Whether the number lies in the range of a column of this kind: 8, 16, 32 or 64 bits, the sign
 /// among them, and never for a kind that has no whole numbers.
@@ -51,7 +51,7 @@ fn scalar_fits(kind: Scalar, value: &Value<'_>) -> bool
         }
         Value::Text(content) => text_fits(kind, content.as_str()),
         Value::Bytes(octets) => bytes_fit(kind, octets.as_slice()),
-        Value::List(_) | Value::Struct(_) => false,
+        Value::List(_) | Value::Struct(_) | Value::Map(_) => false,
     }
 }
 
@@ -77,6 +77,10 @@ fn value_fits(tree: &Tree, value: &Value<'_>) -> bool
             Value::List(items) => all_fit(element, items),
             _ => false,
         },
+        Tree::Map(key, value_tree, _) => match value {
+            Value::Map(pairs) => pairs_fit(key, value_tree, pairs),
+            _ => false,
+        },
         Tree::Struct(fields, _) => match value {
             Value::Struct(items) => each_fits(fields, items),
             _ => false,
@@ -94,6 +98,44 @@ fn all_fit(tree: &Tree, rows: &Vec<Row<'_>>) -> bool
             if !value_fits(tree, value) {
                 return false;
             }
+        }
+    }
+    true
+}
+
+/// Whether the key of a pair is of the type.
+#[cycle(value)]
+fn key_fits(tree: &Tree, pair: &MapPair<'_>) -> bool
+    ensures { result ≡ spec.fits (view pair.now.key) (shape tree.now) }
+{
+    match &pair.key {
+        None => true,
+        Some(value) => value_fits(tree, value),
+    }
+}
+
+/// Whether the value of a pair is of the type.
+#[cycle(value)]
+fn mapped_fits(tree: &Tree, pair: &MapPair<'_>) -> bool
+    ensures { result ≡ spec.fits (view pair.now.value) (shape tree.now) }
+{
+    match &pair.value {
+        None => true,
+        Some(value) => value_fits(tree, value),
+    }
+}
+
+/// Whether the keys are of one type and the values of another.
+#[cycle(value)]
+fn pairs_fit(key: &Tree, value: &Tree, pairs: &Vec<MapPair<'_>>) -> bool
+    ensures { result ≡ spec.pairs_fit (pairs_of (map paired pairs.now.items)) (shape key.now) (shape value.now) }
+{
+    for pair in pairs {
+        if !key_fits(key, pair) {
+            return false;
+        }
+        if !mapped_fits(value, pair) {
+            return false;
         }
     }
     true

@@ -125,7 +125,7 @@ pub(crate) fn leaf_to_json(alloc: Global, value: &Value<'_>) -> Result<Json, All
         Value::Date(day) => date_to_json(alloc, *day),
         Value::Text(text) => Ok(Json::String(String::from_str(alloc, text.as_str())?)),
         Value::Bytes(bytes) => bytes_to_json(alloc, bytes.as_slice()),
-        Value::List(_) | Value::Struct(_) => unreachable!(),
+        Value::List(_) | Value::Struct(_) | Value::Map(_) => unreachable!(),
     }
 }
 

@@ -2,9 +2,9 @@
 ghost use Rattle.std.specs.Prelude.{◌≡◌, ◌≢◌, IfOk, IfErr, OnOk, true, false, map};
 ghost use Rattle.serde_json.specs.Data.{no_members, put as spec_put};
 ghost use Rattle.serde_json.specs.View.{view as json_view, members_view};
-ghost use Rattle.orc_types.specs.Cells.{cells_of};
-ghost use Rattle.orc_types.specs.Fits.{fits, all_fit, each_fits};
-ghost use Rattle.orc_types.specs.Views.{view, views, shape, fields as fields_view};
+ghost use Rattle.orc_types.specs.Cells.{cells_of, pairs_of};
+ghost use Rattle.orc_types.specs.Fits.{fits, all_fit, pairs_fit, each_fits};
+ghost use Rattle.orc_types.specs.Views.{view, views, paired, shape, fields as fields_view};
 ghost use Rattle.orc_types.specs.FieldNames.{is_distinct as spec_distinct};
 ghost use Rattle.orc_types.specs.JsonRows.{Spells};
 ghost use Rattle.orc_types.specs.JsonPrinting as spec;
@@ -14,14 +14,15 @@ use crate::json_fault::JsonFault;
 use crate::json_leaf::leaf_to_json;
 use crate::schema::Schema;
 use crate::tree::{Field, Tree};
-use crate::value::{Row, Value};
+use crate::value::{MapPair, Row, Value};
 use serde_json::{Map, Value as Json};
 use std::alloc::{AllocError, Global};
 
 /// The JSON of a row of the schema: null; true and false; numbers; a date of the years 0001 to 9999
 /// as `"YYYY-MM-DD"`, any other as its number of days since 1970-01-01; binary values as lower-case
-/// hexadecimal text; lists as arrays; structs as objects with their keys in byte order (kinds by the
-/// ORC specification, "Types"). It spells the row, so that `row_from_json` reads the row back.
+/// hexadecimal text; lists as arrays; maps as arrays of arrays of two, each a key and its value;
+/// structs as objects with their keys in byte order (kinds by the ORC specification, "Types"). It
+/// spells the row, so that `row_from_json` reads the row back.
 ///
 /// Refusals: `DuplicateField` where some struct of the schema names a field twice; `OutOfMemory`.
 pub fn row_to_json(alloc: Global, schema: &Schema, row: &Row<'_>) -> Result<Json, JsonFault>
@@ -51,6 +52,10 @@ fn json_of(alloc: Global, tree: &Tree, row: &Row<'_>) -> Result<Json, AllocError
         Tree::Scalar(_, _) => leaf_to_json(alloc, value),
         Tree::List(element, _) => match value {
             Value::List(rows) => Ok(Json::Array(array_of(alloc, element, rows)?)),
+            _ => unreachable!(),
+        },
+        Tree::Map(key, value_tree, _) => match value {
+            Value::Map(pairs) => Ok(Json::Array(pairs_to(alloc, key, value_tree, pairs)?)),
             _ => unreachable!(),
         },
         Tree::Struct(fields, _) => match value {
@@ -91,6 +96,38 @@ fn object_of(
         put(alloc, &mut object, field.name.as_str(), json)?;
     }
     Ok(object)
+}
+
+/// The arrays of two of a map's array.
+#[cycle(printing)]
+fn pairs_to(
+    alloc: Global,
+    key: &Tree,
+    value: &Tree,
+    pairs: &Vec<MapPair<'_>>,
+) -> Result<Vec<Json>, AllocError>
+    requires { pairs_fit (pairs_of (map paired pairs.now.items)) (shape key.now) (shape value.now) ≡ true }
+    ensures { IfOk result (λ array. map json_view array.items
+        ≡ map (λ p. spec.pair_json (spec.json_of (shape key.now) p.0) (spec.json_of (shape value.now) p.1))
+        (map paired pairs.now.items)) }
+{
+    let mut array = Vec::new(alloc);
+    for pair in pairs {
+        let first = json_of(alloc, key, &pair.key)?;
+        let second = json_of(alloc, value, &pair.value)?;
+        array.push(two(alloc, first, second)?)?;
+    }
+    Ok(array)
+}
+
+/// An array of two.
+fn two(alloc: Global, first: Json, second: Json) -> Result<Json, AllocError>
+    ensures { IfOk result (λ json. json_view json ≡ spec.pair_json (json_view first) (json_view second)) }
+{
+    let mut items = Vec::new(alloc);
+    items.push(first)?;
+    items.push(second)?;
+    Ok(Json::Array(items))
 }
 
 /// Puts a value at a key.

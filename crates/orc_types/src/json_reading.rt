@@ -1,13 +1,13 @@
 //! JSON to rows.
-ghost use Rattle.std.specs.Prelude.{◌≡◌, ◌≢◌, IfOk, IfErr, MatchResult, true, false};
-ghost use Rattle.serde_json.specs.Data.{array};
+ghost use Rattle.std.specs.Prelude.{◌≡◌, ◌≢◌, ◌⊎◌, IfOk, IfErr, MatchOption, MatchResult, true, false, map};
+ghost use Rattle.serde_json.specs.Data.{array, item, no_items};
 ghost use Rattle.serde_json.specs.View.{view as json_view, items_view};
-ghost use Rattle.orc_types.specs.Cells.{Cell, cells_of};
+ghost use Rattle.orc_types.specs.Cells.{Cell, cells_of, pairs_of};
 ghost use Rattle.orc_types.specs.Fits.{fits};
-ghost use Rattle.orc_types.specs.Views.{view, views, shape, fields as fields_view};
+ghost use Rattle.orc_types.specs.Views.{view, views, paired, shape, fields as fields_view};
 ghost use Rattle.orc_types.specs.FieldNames.{is_distinct as spec_distinct, are_distinct};
-ghost use Rattle.orc_types.specs.JsonRows.{Spells, EachSpells, FieldsSpell};
-ghost use Rattle.orc_types.specs.JsonFaults.{FaultAt, Somewhere, InElement, InField};
+ghost use Rattle.orc_types.specs.JsonRows.{Spells, EachSpells, PairsSpell, PairSpells, FieldsSpell};
+ghost use Rattle.orc_types.specs.JsonFaults.{FaultAt, PairFault, Somewhere, IsNoPair, InElement, InPair, InField};
 ghost use Rattle.orc_types.specs.declared.json_fault.JsonFault.TheVariants as fault;
 
 use crate::field_names::all_known;
@@ -15,15 +15,16 @@ use crate::json_fault::JsonFault;
 use crate::json_leaf::leaf_from_json;
 use crate::schema::Schema;
 use crate::tree::{Field, Tree};
-use crate::value::{Row, Value};
+use crate::value::{MapPair, Row, Value};
 use serde_json::Value as Json;
 use std::alloc::Global;
 
 /// The row that a JSON value spells under the schema. Null is null, whatever the type. A BOOLEAN is
 /// true or false; whole numbers are numbers in their kind's range; a STRING is a string; a BINARY is
 /// a string of hexadecimal digits in either case; a DATE is a string `YYYY-MM-DD` of the years 0001
-/// to 9999, or a number of days since 1970-01-01 in 32 bits; a LIST is an array; a STRUCT is an
-/// object, in which a missing key is null (kinds by the ORC specification, "Types").
+/// to 9999, or a number of days since 1970-01-01 in 32 bits; a LIST is an array; a MAP is an array of
+/// arrays of two, each a key and its value; a STRUCT is an object, in which a missing key is null
+/// (kinds by the ORC specification, "Types").
 ///
 /// Refusals: `DuplicateField` where some struct of the schema names a field twice; `WrongShape` for
 /// JSON of another type, a number that is held neither as an `i64` nor as a `u64` among them;
@@ -64,6 +65,11 @@ fn row_of(alloc: Global, tree: &Tree, json: &Json) -> Result<Row<'static>, JsonF
             Json::Array(items) => Ok(Some(Value::List(elements_of(alloc, element, items)?))),
             _ => Err(JsonFault::WrongShape),
         },
+        Tree::Map(key, value, _) => match json {
+            Json::Null => Ok(None),
+            Json::Array(items) => Ok(Some(Value::Map(pairs_from(alloc, key, value, items)?))),
+            _ => Err(JsonFault::WrongShape),
+        },
         Tree::Struct(fields, _) => match json {
             Json::Null => Ok(None),
             Json::Object(members) => {
@@ -95,6 +101,66 @@ fn elements_of(
         rows.push(row_of(alloc, tree, item)?)?;
     }
     Ok(rows)
+}
+
+/// The parts of an array of two.
+fn two_of(json: &Json) -> Option<(&Json, &Json)>
+    ensures { MatchOption result (IsNoPair (json_view json.now))
+        (λ p. json_view json.now ≡ array (item (json_view p.0.now) (item (json_view p.1.now) no_items))) }
+{
+    let Json::Array(items) = json else {
+        return None;
+    };
+    let items = items.as_slice();
+    if items.len() != 2 {
+        return None;
+    }
+    Some((&items[0], &items[1]))
+}
+
+/// The key and the value that an array of two spells.
+#[cycle(reading)]
+fn pair_from(
+    alloc: Global,
+    key: &Tree,
+    value: &Tree,
+    json: &Json,
+) -> Result<MapPair<'static>, JsonFault>
+    requires keys { spec_distinct (shape key.now) ≡ true }
+    requires values { spec_distinct (shape value.now) ≡ true }
+    ensures found { IfOk result (λ pair. PairSpells (Spells (shape key.now)) (Spells (shape value.now))
+        (json_view json.now) (view pair.key) (view pair.value)) }
+    ensures fault { IfErr result (λ e. e ≢ fault.OutOfMemory
+        → PairFault e (shape key.now) (shape value.now) (json_view json.now)) }
+{
+    let Some((first, second)) = two_of(json) else {
+        return Err(JsonFault::WrongShape);
+    };
+    let key = row_of(alloc, key, first)?;
+    let value = row_of(alloc, value, second)?;
+    Ok(MapPair { key, value })
+}
+
+/// The pairs that the elements of an array spell.
+#[cycle(reading)]
+fn pairs_from(
+    alloc: Global,
+    key: &Tree,
+    value: &Tree,
+    items: &Vec<Json>,
+) -> Result<Vec<MapPair<'static>>, JsonFault>
+    requires keys { spec_distinct (shape key.now) ≡ true }
+    requires values { spec_distinct (shape value.now) ≡ true }
+    ensures found { IfOk result (λ pairs. PairsSpell (Spells (shape key.now)) (Spells (shape value.now))
+        (items_view items.now.items) (pairs_of (map paired pairs.items))) }
+    ensures fault { IfErr result (λ e. e ≢ fault.OutOfMemory
+        → InElement (PairFault e (shape key.now) (shape value.now)) (array (items_view items.now.items))) }
+{
+    let mut pairs = Vec::new(alloc);
+    for item in items {
+        pairs.push(pair_from(alloc, key, value, item)?)?;
+    }
+    Ok(pairs)
 }
 
 /// The rows that an object spells, field by field.

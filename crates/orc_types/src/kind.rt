@@ -18,6 +18,9 @@ pub enum Scalar {
 /// The number of kind LIST in a list of types.
 pub(crate) const LIST: u32 = 10;
 
+/// The number of kind MAP in a list of types.
+pub(crate) const MAP: u32 = 11;
+
 /// The number of kind STRUCT in a list of types.
 pub(crate) const STRUCT: u32 = 12;
 

@@ -1,13 +1,13 @@
 //! Laws of schemas, texts, cells, days and JSON. Each function does nothing: its contract is what it is for.
 ghost use Rattle.std.specs.Prelude.{◌≡◌, ◌≢◌, ◌↔◌, ◌++◌, ◌+◌, ◌<◌, length, sum_by, slice_get, Some, ◌≤ℤ◌, ◌⊎◌, ℕ, ℤ, pos, List, true};
-ghost use Rattle.orc_types.specs.Shapes.{Shape, list_of, struct_of, Fields, width, shape_at};
+ghost use Rattle.orc_types.specs.Shapes.{Shape, list_of, map_of, struct_of, Fields, width, shape_at};
 ghost use Rattle.orc_types.specs.Types.{types, starts};
 ghost use Rattle.orc_wire.specs.declared.type_msg.TypeMsg.{TypeMsg};
 ghost use Rattle.orc_types.specs.Schemas.{IsSchema, HasTypes, AllKept, same_types};
 ghost use Rattle.orc_types.specs.Faults.{TypesFault};
 ghost use Rattle.orc_types.specs.SchemaText.{text, bare, IsPlain, HasText};
 ghost use Rattle.orc_types.specs.TextFaults.{TextFault};
-ghost use Rattle.orc_types.specs.Cells.{Cell, parts, values};
+ghost use Rattle.orc_types.specs.Cells.{Cell, parts, pairs_in, values};
 ghost use Rattle.orc_types.specs.Columns.{cells};
 ghost use Rattle.orc_types.specs.Fits.{RowsFit, fits};
 ghost use Rattle.orc_types.specs.Days.{has_text, day_text, IsDayText};
@@ -53,8 +53,9 @@ pub fn schema_text_laws()
 
 /// Laws of cells: the cells of rows one after the other stand one after the other; those of a column
 /// of rows that fit are rows of the column's type, and the columns below it have the cells of these. A
-/// list's child has as many cells as the lists have elements together, and in rows that fit a field's
-/// column, which `starts` tells, has one for each struct that isn't null.
+/// list's child has as many cells as the lists have elements together, a map's keys and its values as
+/// many as the maps have pairs together, and in rows that fit a field's column, which `starts` tells,
+/// has one for each struct that isn't null.
 pub fn cells_laws()
     ensures append { (s : Shape) (column : ℕ) (a b : List Cell)
         → cells s column (a ++ b) ≡ cells s column a ++ cells s column b }
@@ -69,6 +70,10 @@ pub fn cells_laws()
 
     ensures elements { (s : Shape) (kept : List ℕ) (rows : List Cell)
         → length (cells (list_of s kept) 1 rows) ≡ sum_by (λ c. length (parts c)) rows }
+    ensures keys { (key value : Shape) (kept : List ℕ) (rows : List Cell)
+        → length (cells (map_of key value kept) 1 rows) ≡ sum_by (λ c. length (pairs_in c)) rows }
+    ensures map_values { (key value : Shape) (kept : List ℕ) (rows : List Cell)
+        → length (cells (map_of key value kept) (1 + width key) rows) ≡ sum_by (λ c. length (pairs_in c)) rows }
     ensures members { (fs : Fields) (kept : List ℕ) (i column : ℕ) (rows : List Cell)
         → RowsFit (struct_of fs kept) rows
         → slice_get (starts fs 1) i ≡ Some column

@@ -22,7 +22,7 @@ mod schema_text;
 mod tree;
 mod value;
 
-pub use columns::{cells, parts_of};
+pub use columns::{cells, pairs_of, parts_of};
 pub use day_text::date_text;
 pub use fault::TypeFault;
 pub use fitting::{fits, int_fits};
@@ -35,4 +35,4 @@ pub use lent::{Lent, lend};
 pub use row_copies::owned;
 pub use schema::Schema;
 pub use tree::{Field, Tree, tree_at, width_of};
-pub use value::{Row, Value};
+pub use value::{MapPair, Row, Value};

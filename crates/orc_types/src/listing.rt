@@ -1,11 +1,11 @@
 //! A schema's tree to the list of its types, in pre-order.
-ghost use Rattle.std.specs.Prelude.{◌≡◌, ◌+◌, ◌<◌, ◌^◌, ◌++◌, IfOk, OnOk, length};
-ghost use Rattle.orc_types.specs.Shapes.{width, widths, names_of as spec_names};
+ghost use Rattle.std.specs.Prelude.{◌≡◌, ◌+◌, ◌<◌, ◌^◌, ◌++◌, [], ◌∷◌, IfOk, OnOk, length};
+ghost use Rattle.orc_types.specs.Shapes.{map_of, width, widths, names_of as spec_names};
 ghost use Rattle.orc_types.specs.Types.{types as spec_types, fields_types, starts as spec_starts};
 ghost use Rattle.orc_types.specs.Views.{shape, fields as fields_view};
 
 use crate::copies::copy_bytes;
-use crate::kind::{LIST, STRUCT};
+use crate::kind::{LIST, MAP, STRUCT};
 use crate::tree::{Field, Tree, width_of};
 use orc_wire::{Bytes, Items, TypeMsg};
 use std::alloc::{AllocError, Global};
@@ -54,6 +54,18 @@ fn type_msg(
     })
 }
 
+/// A map's type: its key's types begin at a place and are so many, and its value's types follow them.
+fn map_msg(alloc: Global, next: usize, width: usize, kept: &[u8]) -> Result<TypeMsg, AllocError>
+    requires { next + width < 2 ^ 32 }
+    ensures { IfOk result (λ t. t
+        ≡ record { kind = 11; subtypes = next ∷ (next + width) ∷ []; field_names = []; kept = kept.now }) }
+{
+    let mut subtypes = Vec::new(alloc);
+    subtypes.push(next as u32)?;
+    subtypes.push((next + width) as u32)?;
+    type_msg(alloc, MAP, subtypes, Vec::new(alloc), kept)
+}
+
 /// Adds the types of a tree, in pre-order.
 #[cycle(list)]
 fn list_tree(alloc: Global, types: &mut Vec<TypeMsg>, tree: &Tree) -> Result<(), AllocError>
@@ -71,6 +83,10 @@ fn list_tree(alloc: Global, types: &mut Vec<TypeMsg>, tree: &Tree) -> Result<(),
             types.push(type_msg(alloc, LIST, subtypes, Vec::new(alloc), kept)?)?;
             list_tree(alloc, types, element)
         }
+        Tree::Map(key, value, kept) => {
+            list_map(alloc, types, key, value, kept)?;
+            Ok(())
+        }
         Tree::Struct(fields, kept) => {
             let subtypes = starts_of(alloc, fields, next)?;
             let names = names_of(alloc, fields)?;
@@ -78,6 +94,26 @@ fn list_tree(alloc: Global, types: &mut Vec<TypeMsg>, tree: &Tree) -> Result<(),
             list_fields(alloc, types, fields)
         }
     }
+}
+
+/// Adds the types of a map, in pre-order.
+#[cycle(list)]
+fn list_map(
+    alloc: Global,
+    types: &mut Vec<TypeMsg>,
+    key: &Tree,
+    value: &Tree,
+    kept: &[u8],
+) -> Result<(), AllocError>
+    requires { length types.old.items + (1 + (width (shape key.now) + width (shape value.now))) < 2 ^ 32 }
+    ensures { OnOk result (types.new.items ≡ types.old.items
+        ++ spec_types (map_of (shape key.now) (shape value.now) kept.now) (length types.old.items)) }
+{
+    let message = map_msg(alloc, types.len() + 1, width_of(key), kept)?;
+    types.push(message)?;
+    list_tree(alloc, types, key)?;
+    list_tree(alloc, types, value)?;
+    Ok(())
 }
 
 /// Adds the types of the fields, one field after the other.

@@ -1,16 +1,16 @@
 //! A list of types in pre-order to the tree of a schema.
-ghost use Rattle.std.specs.Prelude.{◌≡◌, ◌<◌, ◌↔◌, IsTrue, IfOk, IfErr, IfSome, slice_get, option_map, [], ◌∷◌, true, string_bytes};
+ghost use Rattle.std.specs.Prelude.{◌≡◌, ◌<◌, ◌↔◌, IsTrue, IfOk, IfErr, IfSome, slice_get, option_map, [], ◌∷◌, true, string_bytes, length, get_or};
 ghost use Rattle.std.specs.List.{AllByRecursion};
 ghost use Rattle.std.specs.Str.{is_utf8};
 ghost use Rattle.orc_types.specs.Kinds.{IsKind};
 ghost use Rattle.orc_types.specs.Schemas.{HasTypes, AllKept};
 ghost use Rattle.orc_types.specs.Faults.{TypesFault};
-ghost use Rattle.orc_types.specs.Preorder.{Found, FoundFields, NameFault, PlaceFault, FieldsPlaceFault};
+ghost use Rattle.orc_types.specs.Preorder.{HasKeyAt, Found, FoundFields, NameFault, PlaceFault, FieldsPlaceFault};
 ghost use Rattle.orc_types.specs.Views.{shape, fields as fields_view};
 
 use crate::copies::copy_bytes;
 use crate::fault::TypeFault;
-use crate::kind::{LIST, STRUCT, Scalar};
+use crate::kind::{LIST, MAP, STRUCT, Scalar};
 use crate::tree::{Field, Tree};
 use orc_wire::TypeMsg;
 use std::alloc::Global;
@@ -49,6 +49,23 @@ fn has_one_subtype(t: &TypeMsg, next: usize) -> bool
     subtypes.len() == 1 && t.field_names.as_slice().len() == 0 && subtypes[0] as usize == next
 }
 
+/// Whether a type has two subtypes, the first of which begins at a place, and no name.
+fn has_key_at(t: &TypeMsg, next: usize) -> bool
+    ensures { IsTrue result ↔ HasKeyAt t.now next }
+{
+    let subtypes = t.subtypes.as_slice();
+    subtypes.len() == 2 && t.field_names.as_slice().len() == 0 && subtypes[0] as usize == next
+}
+
+/// Whether the second of two subtypes of a type begins at a place.
+fn has_value_at(t: &TypeMsg, next: usize) -> bool
+    requires { length t.now.subtypes ≡ 2 }
+    ensures { IsTrue result ↔ (get_or t.now.subtypes 1 0 ≡ next) }
+{
+    let subtypes = t.subtypes.as_slice();
+    subtypes[1] as usize == next
+}
+
 /// Whether a type has no subtype and no name.
 fn has_no_subtype(t: &TypeMsg) -> bool
     ensures { IsTrue result ↔ ((t.now.subtypes ≡ []) × (t.now.field_names ≡ [])) }
@@ -81,6 +98,21 @@ fn subtree(
         let (element, end) = subtree(alloc, types, next, levels - 1)?;
         let kept = copy_bytes(alloc, t.kept.as_slice())?;
         return Ok((Tree::List(Box::new(alloc, element)?, kept), end));
+    }
+    if t.kind == MAP {
+        if !has_key_at(t, next) {
+            return Err(TypeFault::BadTree);
+        }
+        let (key, middle) = subtree(alloc, types, next, levels - 1)?;
+        if !has_value_at(t, middle) {
+            return Err(TypeFault::BadTree);
+        }
+        let (value, end) = subtree(alloc, types, middle, levels - 1)?;
+        let kept = copy_bytes(alloc, t.kept.as_slice())?;
+        return Ok((
+            Tree::Map(Box::new(alloc, key)?, Box::new(alloc, value)?, kept),
+            end,
+        ));
     }
     if t.kind == STRUCT {
         let (fields, end) = subtree_fields(alloc, types, t, next, levels - 1)?;
@@ -135,7 +167,11 @@ fn test_kinds(types: &[TypeMsg]) -> Result<(), TypeFault>
     ensures fault { IfErr result (TypesFault types.now) }
 {
     for t in types {
-        if t.kind != LIST && t.kind != STRUCT && Scalar::from_number(t.kind).is_none() {
+        if t.kind != LIST
+            && t.kind != STRUCT
+            && t.kind != MAP
+            && Scalar::from_number(t.kind).is_none()
+        {
             return Err(TypeFault::UnsupportedKind(t.kind));
         }
     }

@@ -1,8 +1,8 @@
 //! Copies of rows, which borrow nothing.
-ghost use Rattle.std.specs.Prelude.{◌≡◌, IfOk};
-ghost use Rattle.orc_types.specs.Views.{view, views, cell_of_value};
+ghost use Rattle.std.specs.Prelude.{◌≡◌, IfOk, map};
+ghost use Rattle.orc_types.specs.Views.{view, views, paired, cell_of_value};
 
-use crate::value::{Row, Value};
+use crate::value::{MapPair, Row, Value};
 use std::alloc::{AllocError, Global};
 use std::borrow::{CowSlice, CowStr};
 
@@ -33,6 +33,7 @@ fn owned_value(alloc: Global, value: &Value<'_>) -> Result<Value<'static>, Alloc
         Value::Bytes(octets) => Ok(Value::Bytes(CowSlice::Owned(octets.as_slice().to_vec(alloc)?))),
         Value::List(items) => Ok(Value::List(owned_rows(alloc, items)?)),
         Value::Struct(items) => Ok(Value::Struct(owned_rows(alloc, items)?)),
+        Value::Map(pairs) => Ok(Value::Map(owned_pairs(alloc, pairs)?)),
     }
 }
 
@@ -48,6 +49,26 @@ fn owned_rows(alloc: Global, rows: &Vec<Row<'_>>) -> Result<Vec<Row<'static>>, A
             Some(value) => Some(owned_value(alloc, value)?),
         };
         copies.push(copy)?;
+    }
+    Ok(copies)
+}
+
+/// The same pairs, with texts and bytes of their own.
+#[cycle(copying)]
+fn owned_pairs(alloc: Global, pairs: &Vec<MapPair<'_>>) -> Result<Vec<MapPair<'static>>, AllocError>
+    ensures { IfOk result (λ copies. map paired copies.items ≡ map paired pairs.now.items) }
+{
+    let mut copies = Vec::new(alloc);
+    for pair in pairs {
+        let key = match &pair.key {
+            None => None,
+            Some(value) => Some(owned_value(alloc, value)?),
+        };
+        let value = match &pair.value {
+            None => None,
+            Some(value) => Some(owned_value(alloc, value)?),
+        };
+        copies.push(MapPair { key, value })?;
     }
     Ok(copies)
 }

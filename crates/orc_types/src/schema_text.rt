@@ -18,8 +18,8 @@ use std::alloc::{AllocError, Global};
 
 impl Schema {
     /// The schema's text: `boolean`, `tinyint`, `smallint`, `int`, `bigint`, `string`, `binary`,
-    /// `date`, `array<T>` and `struct<name:T,..>`, with no spaces. It has the kinds and the names,
-    /// and nothing of what types keep (ORC specification, "Types").
+    /// `date`, `array<T>`, `map<K,V>` and `struct<name:T,..>`, with no spaces. It has the kinds and the
+    /// names, and nothing of what types keep (ORC specification, "Types").
     ///
     /// Refusal: `OutOfMemory`.
     pub fn text(&self, alloc: Global) -> Result<String, TypeFault>
@@ -105,6 +105,14 @@ fn put_tree(text: &mut String, tree: &Tree) -> Result<(), AllocError>
         Tree::List(element, _) => {
             add(text, "array<")?;
             put_tree(text, element)?;
+            add(text, ">")?;
+            Ok(())
+        }
+        Tree::Map(key, value, _) => {
+            add(text, "map<")?;
+            put_tree(text, key)?;
+            add(text, ",")?;
+            put_tree(text, value)?;
             add(text, ">")?;
             Ok(())
         }
@@ -223,6 +231,24 @@ fn tree_from<'t>(alloc: Global, text: &'t [u8], levels: u32) -> Result<(Tree, &'
         };
         return Ok((
             Tree::List(Box::new(alloc, element)?, Vec::new(alloc)),
+            outer,
+        ));
+    }
+    if let Some(inner) = text_behind(text, "map<") {
+        let (key, rest) = tree_from(alloc, inner, levels - 1)?;
+        let Some(second) = text_behind(rest, ",") else {
+            return Err(TypeFault::BadText(rest.len()));
+        };
+        let (value, rest) = tree_from(alloc, second, levels - 1)?;
+        let Some(outer) = text_behind(rest, ">") else {
+            return Err(TypeFault::BadText(rest.len()));
+        };
+        return Ok((
+            Tree::Map(
+                Box::new(alloc, key)?,
+                Box::new(alloc, value)?,
+                Vec::new(alloc),
+            ),
             outer,
         ));
     }

@@ -12,6 +12,8 @@ use crate::kind::Scalar;
 pub enum Tree {
     Scalar(Scalar, Vec<u8>),
     List(Box<Tree>, Vec<u8>),
+    /// The type of the keys, and that of the values.
+    Map(Box<Tree>, Box<Tree>, Vec<u8>),
     Struct(Vec<Field>, Vec<u8>),
 }
 
@@ -32,6 +34,7 @@ pub fn width_of(tree: &Tree) -> usize
     match tree {
         Tree::Scalar(_, _) => 1,
         Tree::List(element, _) => 1 + width_of(element),
+        Tree::Map(key, value, _) => 1 + width_of(key) + width_of(value),
         Tree::Struct(fields, _) => 1 + widths_of(fields),
     }
 }
@@ -61,6 +64,14 @@ pub fn tree_at(tree: &Tree, column: usize) -> &Tree
     match tree {
         Tree::Scalar(_, _) => tree,
         Tree::List(element, _) => tree_at(element, column - 1),
+        Tree::Map(key, value, _) => {
+            let width = width_of(key);
+            if column - 1 < width {
+                tree_at(key, column - 1)
+            } else {
+                tree_at(value, column - 1 - width)
+            }
+        }
         Tree::Struct(fields, _) => tree_within(fields, column - 1),
     }
 }

@@ -14,6 +14,8 @@ mod refused;
 mod rows;
 mod texts;
 
+use rows::MAPS;
+
 // What memory refused is tried again, and its answer is then demanded. Long tables are statics: of
 // a constant, the proof of each function that reads it goes through every row.
 
@@ -145,15 +147,17 @@ fn gives_lists_back(alloc: Global) -> Result<bool, TypeFault> {
     Ok(are_of_lists(schema.types()))
 }
 
-/// Types are given back as they came, with what a struct, lists and a number keep, and schemas are
-/// equal where their types are.
+/// Types are given back as they came, with what a struct, lists, a map and a number keep, and schemas
+/// are equal where their types are.
 fn schemas_hold(alloc: Global) -> Result<bool, TypeFault> {
     Ok(
         gives_lists_back(alloc)?
             && are_equal(alloc, &LISTS, &LISTS)?
             && !are_equal(alloc, &LISTS, &OTHER_NAME)?
             && gives_kept_back(alloc, &LISTS)?
-            && differs_by_kept(alloc, &LISTS)?,
+            && differs_by_kept(alloc, &LISTS)?
+            && gives_kept_back(alloc, &MAPS)?
+            && differs_by_kept(alloc, &MAPS)?,
     )
 }
 

@@ -91,6 +91,12 @@ text_last n default fields v = (
   λ e. last_says (bytes_in n) (text n) (λ item. ⊤) (λ item q. refl) default fields v (all_top fields) e,
 )
 
+pub number_known : (n : ℕ) (fields : List Item) (v : Option ℕ) → (known (number n)).says fields v ↔ (v ≡ newest (number_in n) fields)
+number_known n fields v = (
+  known_is (number_in n) (number n) (λ item p e. e) fields v,
+  λ e. known_says (number_in n) (number n) (λ item. ⊤) (λ item q. refl) fields v (all_top fields) e,
+)
+
 pub small_known : (n : ℕ) (fields : List Item) (v : Option ℕ) → (known (small n)).says fields v ↔ ((v ≡ newest (number_in n) fields) × AreSmall n fields)
 small_known n fields v = (
   λ h. (known_is (number_in n) (small n) (λ item p e. e.0) fields v h, joined_all None (λ old p w. w ≡ option_or p old) (small n).gives _ (is_small n) fields v h),

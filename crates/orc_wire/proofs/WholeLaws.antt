@@ -12,6 +12,7 @@ use Rattle.orc_wire.specs.declared.footer.Footer.{Footer}
 use Rattle.orc_wire.specs.declared.footer.UserMetadataItem.{UserMetadataItem}
 use Rattle.orc_wire.specs.declared.stats_records.BinaryStatistics.{BinaryStatistics}
 use Rattle.orc_wire.specs.declared.stats_records.BucketStatistics.{BucketStatistics}
+use Rattle.orc_wire.specs.declared.stats_records.CollectionStatistics.{CollectionStatistics}
 use Rattle.orc_wire.specs.declared.stats_records.DateStatistics.{DateStatistics}
 use Rattle.orc_wire.specs.declared.stats_records.IntegerStatistics.{IntegerStatistics}
 use Rattle.orc_wire.specs.declared.stats_records.StringStatistics.{StringStatistics}
@@ -32,7 +33,7 @@ use Rattle.orc_wire.specs.CanonicalText.{payload_text, field_text, known_text, s
 use Rattle.orc_wire.specs.Canonical.{WholeIf, all_both}
 use Rattle.orc_wire.specs.CanonicalFields.{IsNumber, wire_most, some_top, all_top}
 use Rattle.orc_wire.specs.CanonicalKinds.{AreBelow, always_small, AreKept, says_kept}
-use Rattle.orc_wire.specs.CanonicalMessages.{one, two, three, is_dictionary, encoding_text, stream_text, stripe_footer_text, row_index_entry_text, row_index_text, stripe_stats_text, metadata_text, type_text, stripe_info_text, user_metadata_text, footer_text, integer_stats_text, string_stats_text, bucket_stats_text, date_stats_text, binary_stats_text, column_stats_text}
+use Rattle.orc_wire.specs.CanonicalMessages.{one, two, three, is_dictionary, encoding_text, stream_text, stripe_footer_text, row_index_entry_text, row_index_text, stripe_stats_text, metadata_text, type_text, stripe_info_text, user_metadata_text, footer_text, integer_stats_text, string_stats_text, bucket_stats_text, date_stats_text, binary_stats_text, collection_stats_text, column_stats_text}
 
 pub encoding_whole : (test : Bool) (m : Encoding) → (test ≡ false → m.dictionary_size ≡ 0)
     → WholeIf (last 0 (small 1)) (last 0 (small 2)) (always_small 1 one) (always_small 2 two) is_dictionary (lit≤ tt) test (m.kind, m.dictionary_size)
@@ -93,9 +94,13 @@ date_whole m = (some_top m.minimum, some_top m.maximum)
 pub binary_whole : (m : BinaryStatistics) → binary_stats_text.whole m
 binary_whole m = some_top m.sum
 
+pub collection_whole : (m : CollectionStatistics) → collection_stats_text.whole m
+collection_whole m = (some_top m.min_children, (some_top m.max_children, some_top m.total_children))
+
 pub column_whole : (m : ColumnStats) → IfSome m.int_statistics (λ s. integer_stats_text.text s ≡ [] → ⊥) → IfSome m.string_statistics (λ s. string_stats_text.text s ≡ [] → ⊥) → IfSome m.bucket_statistics (λ s. bucket_stats_text.text s ≡ [] → ⊥)
-    → IfSome m.date_statistics (λ s. date_stats_text.text s ≡ [] → ⊥) → IfSome m.binary_statistics (λ s. binary_stats_text.text s ≡ [] → ⊥) → column_stats_text.whole m
-column_whole m i s b d y = (
+    → IfSome m.date_statistics (λ s. date_stats_text.text s ≡ [] → ⊥) → IfSome m.binary_statistics (λ s. binary_stats_text.text s ≡ [] → ⊥)
+    → IfSome m.collection_statistics (λ s. collection_stats_text.text s ≡ [] → ⊥) → column_stats_text.whole m
+column_whole m i s b d y n = (
   tt,
   (
     shown_if integer_stats_text.whole integer_stats_text.text integer_whole m.int_statistics i,
@@ -103,7 +108,13 @@ column_whole m i s b d y = (
       shown_if string_stats_text.whole string_stats_text.text string_whole m.string_statistics s,
       (
         shown_if bucket_stats_text.whole bucket_stats_text.text bucket_whole m.bucket_statistics b,
-        (shown_if date_stats_text.whole date_stats_text.text date_whole m.date_statistics d, (shown_if binary_stats_text.whole binary_stats_text.text binary_whole m.binary_statistics y, some_top m.has_null)),
+        (
+          shown_if date_stats_text.whole date_stats_text.text date_whole m.date_statistics d,
+          (
+            shown_if binary_stats_text.whole binary_stats_text.text binary_whole m.binary_statistics y,
+            (some_top m.has_null, shown_if collection_stats_text.whole collection_stats_text.text collection_whole m.collection_statistics n),
+          ),
+        ),
       ),
     ),
   ),
@@ -175,6 +186,17 @@ date_shown m h e =
 
 pub binary_shown : (m : BinaryStatistics) → IsSome m.sum → binary_stats_text.text m ≡ [] → ⊥
 binary_shown m h e = known_some (λ v. varint (zig v)) 1 m.sum one h e
+
+pub collection_shown : (m : CollectionStatistics) → IsSome m.min_children ⊎ (IsSome m.max_children ⊎ IsSome m.total_children) → collection_stats_text.text m ≡ [] → ⊥
+collection_shown m h e =
+    let a = known_text (λ v. varint v) 1 m.min_children in
+    let b = known_text (λ v. varint v) 2 m.max_children in
+    let c = known_text (λ v. varint v) 3 m.total_children in
+    elim h [
+      | inl k ↦ known_some (λ v. varint v) 1 m.min_children one k (front_empty a (b ++ c) e)
+      | inr (inl k) ↦ known_some (λ v. varint v) 2 m.max_children two k (front_empty b c (rest_empty a (b ++ c) e))
+      | inr (inr k) ↦ known_some (λ v. varint v) 3 m.total_children three k (rest_empty b c (rest_empty a (b ++ c) e))
+    ]
 
 some_empty : (n : ℕ) (bytes : List ℕ) → IsNumber n → some_text n bytes ≡ [] → bytes ≡ []
 some_empty n [] is e = refl

@@ -599,6 +599,9 @@ always_small n is = written_always n is (small n) (a_small n) 0 (lit< tt)
 abbrev pub always_text : (n : ℕ) → IsNumber n → Canonical (last [] (text n))
 always_text n is = written_always n is (text n) (a_text n) [] tt
 
+abbrev pub known_number : (n : ℕ) → IsNumber n → Canonical (known (number n))
+known_number n is = where_known n is (number n) (a_number n)
+
 abbrev pub known_small : (n : ℕ) → IsNumber n → Canonical (known (small n))
 known_small n is = where_known n is (small n) (a_small n)
 

@@ -5,11 +5,12 @@ use Rattle.std.proofs.Common.{inl, inr, lit<, lit≤, ◌⊎◌}
 use Rattle.orc_wire.specs.Messages.{encoding, encoding_shape, stream, stream_shape, stripe_footer, stripe_footer_shape, post_script, post_script_shape}
 use Rattle.orc_wire.specs.Messages.{type_msg, type_shape, stripe_info, stripe_info_shape, integer_stats, integer_stats_shape, string_stats}
 use Rattle.orc_wire.specs.Messages.{string_stats_shape, bucket_stats, bucket_stats_shape, date_stats, date_stats_shape, binary_stats, binary_stats_shape}
+use Rattle.orc_wire.specs.Messages.{collection_stats, collection_stats_shape}
 use Rattle.orc_wire.specs.Messages.{column_stats, column_stats_shape, stripe_stats, stripe_stats_shape, metadata, metadata_shape, row_index_entry}
 use Rattle.orc_wire.specs.Messages.{row_index_entry_shape, row_index, row_index_shape, user_metadata, user_metadata_shape, footer, footer_shape}
 use Rattle.orc_wire.specs.Canonical.{Canonical, both, both_if, shaped_text}
 use Rattle.orc_wire.specs.CanonicalFields.{IsNumber}
-use Rattle.orc_wire.specs.CanonicalKinds.{always_number, always_small, always_text, known_small, known_signed, known_small_signed, known_flag}
+use Rattle.orc_wire.specs.CanonicalKinds.{always_number, always_small, always_text, known_number, known_small, known_signed, known_small_signed, known_flag}
 use Rattle.orc_wire.specs.CanonicalKinds.{text_where_known, each_as_text, each_message, small_list, number_list, as_kept, where_shown}
 
 pub one : IsNumber 1
@@ -41,6 +42,9 @@ nine = record { least = lit≤ tt; most = lit< tt }
 
 pub ten : IsNumber 10
 ten = record { least = lit≤ tt; most = lit< tt }
+
+pub twelve : IsNumber 12
+twelve = record { least = lit≤ tt; most = lit< tt }
 
 pub eight_thousand : IsNumber 8000
 eight_thousand = record { least = lit≤ tt; most = lit< tt }
@@ -143,7 +147,15 @@ binary_stats_text = shaped_text binary_stats_shape _ (known_signed 1 one)
 abbrev pub binary_stats_complete : (◌≡◌ {A = ℕ} 0 0) ⊎ binary_stats_text.always 0
 binary_stats_complete = inl refl
 
--- number_of_values, int_statistics, string_statistics, bucket_statistics, date_statistics, binary_statistics, has_null
+-- min_children, max_children, total_children
+abbrev pub collection_stats_text : Canonical collection_stats
+collection_stats_text = shaped_text collection_stats_shape _ (both _ _ (known_number 1 one)
+    (both _ _ (known_number 2 two) (known_number 3 three) (lit≤ tt)) (lit≤ tt))
+
+abbrev pub collection_stats_complete : (◌≡◌ {A = ℕ} 0 0) ⊎ collection_stats_text.always 0
+collection_stats_complete = inl refl
+
+-- number_of_values, int_statistics, string_statistics, bucket_statistics, date_statistics, binary_statistics, has_null, collection_statistics
 abbrev pub column_stats_text : Canonical column_stats
 column_stats_text = shaped_text column_stats_shape _ (both _ _ (always_number 1 one)
     (both _ _ (where_shown integer_stats integer_stats_text 0 integer_stats_complete 2 two)
@@ -151,8 +163,8 @@ column_stats_text = shaped_text column_stats_shape _ (both _ _ (always_number 1 
     (both _ _ (where_shown bucket_stats bucket_stats_text 0 bucket_stats_complete 5 five)
     (both _ _ (where_shown date_stats date_stats_text 0 date_stats_complete 7 seven)
     (both _ _ (where_shown binary_stats binary_stats_text 0 binary_stats_complete 8 eight)
-    (known_flag 10 ten) (lit≤ tt))
-    (lit≤ tt)) (lit≤ tt)) (lit≤ tt)) (lit≤ tt)) (lit≤ tt))
+    (both _ _ (known_flag 10 ten) (where_shown collection_stats collection_stats_text 0 collection_stats_complete 12 twelve) (lit≤ tt))
+    (lit≤ tt)) (lit≤ tt)) (lit≤ tt)) (lit≤ tt)) (lit≤ tt)) (lit≤ tt))
 
 abbrev pub column_stats_complete : (◌≡◌ {A = ℕ} 0 0) ⊎ column_stats_text.always 0
 column_stats_complete = inl refl

@@ -11,6 +11,7 @@ use Rattle.orc_wire.specs.declared.stats_records.StringStatistics.{StringStatist
 use Rattle.orc_wire.specs.declared.stats_records.BucketStatistics.{BucketStatistics}
 use Rattle.orc_wire.specs.declared.stats_records.DateStatistics.{DateStatistics}
 use Rattle.orc_wire.specs.declared.stats_records.BinaryStatistics.{BinaryStatistics}
+use Rattle.orc_wire.specs.declared.stats_records.CollectionStatistics.{CollectionStatistics}
 use Rattle.orc_wire.specs.declared.column_stats.ColumnStats.{ColumnStats}
 use Rattle.orc_wire.specs.declared.column_stats.StripeStatistics.{StripeStatistics}
 use Rattle.orc_wire.specs.declared.column_stats.Metadata.{Metadata}
@@ -160,10 +161,22 @@ binary_stats_shape = record {
 abbrev pub binary_stats : Member BinaryStatistics
 binary_stats = shaped binary_stats_shape (known (signed 1))
 
+abbrev pub collection_stats_shape : Shape (Option ℕ × (Option ℕ × Option ℕ)) CollectionStatistics
+collection_stats_shape = record {
+  into = λ m. (m.min_children, (m.max_children, m.total_children));
+  from = λ p. record { min_children = p.0; max_children = p.1.0; total_children = p.1.1 };
+  there = λ m. refl;
+  here = λ p. refl;
+}
+
+abbrev pub collection_stats : Member CollectionStatistics
+collection_stats = shaped collection_stats_shape (known (number 1) and known (number 2) and known (number 3))
+
 abbrev pub column_stats_shape : Shape (ℕ × (Option IntegerStatistics × (Option StringStatistics ×
-    (Option BucketStatistics × (Option DateStatistics × (Option BinaryStatistics × Option Bool)))))) ColumnStats
+    (Option BucketStatistics × (Option DateStatistics × (Option BinaryStatistics × (Option Bool × Option CollectionStatistics))))))) ColumnStats
 column_stats_shape = record {
-  into = λ m. (m.number_of_values, (m.int_statistics, (m.string_statistics, (m.bucket_statistics, (m.date_statistics, (m.binary_statistics, m.has_null))))));
+  into = λ m.
+      (m.number_of_values, (m.int_statistics, (m.string_statistics, (m.bucket_statistics, (m.date_statistics, (m.binary_statistics, (m.has_null, m.collection_statistics)))))));
   from = λ p. record {
     number_of_values = p.0;
     int_statistics = p.1.0;
@@ -171,7 +184,8 @@ column_stats_shape = record {
     bucket_statistics = p.1.1.1.0;
     date_statistics = p.1.1.1.1.0;
     binary_statistics = p.1.1.1.1.1.0;
-    has_null = p.1.1.1.1.1.1;
+    has_null = p.1.1.1.1.1.1.0;
+    collection_statistics = p.1.1.1.1.1.1.1;
   };
   there = λ m. refl;
   here = λ p. refl;
@@ -185,7 +199,8 @@ column_stats = shaped column_stats_shape
     and only bucket_stats 0 5
     and only date_stats 0 7
     and only binary_stats 0 8
-    and known (flag 10))
+    and known (flag 10)
+    and only collection_stats 0 12)
 
 abbrev pub stripe_stats_shape : Shape (List ColumnStats) StripeStatistics
 stripe_stats_shape = record {

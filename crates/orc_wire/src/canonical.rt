@@ -92,6 +92,19 @@ pub(crate) fn put_known_u32(n: u32, value: Option<u32>, out: &mut Vec<u8>) -> Re
     }
 }
 
+/// Appends a number of 64 bits that is known.
+pub(crate) fn put_known_u64(n: u32, value: Option<u64>, out: &mut Vec<u8>) -> Result<(), WireFault>
+    ensures text { OnOk result (out.new.items ≡ out.old.items ++ known_text (λ v. varint v) n value) }
+    ensures bounded { IfSome value (λ v. v < 2 ^ 64) }
+    ensures refused { IfErr result (λ fault. fault ≡ OutOfMemory) }
+    ensures front { KeepsFront out.old.items out.new.items }
+{
+    match value {
+        None => Ok(()),
+        Some(value) => put_number(n, value, out),
+    }
+}
+
 /// Appends a signed number that is known.
 pub(crate) fn put_known_i64(n: u32, value: Option<i64>, out: &mut Vec<u8>) -> Result<(), WireFault>
     ensures text { OnOk result (out.new.items ≡ out.old.items ++ known_text (λ v. varint (zig v)) n value) }

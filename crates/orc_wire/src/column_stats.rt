@@ -7,7 +7,8 @@ use crate::items::Items;
 use crate::members::{take_known_flag, take_u64};
 use crate::message::Message;
 use crate::stats_records::{
-    BinaryStatistics, BucketStatistics, DateStatistics, IntegerStatistics, StringStatistics,
+    BinaryStatistics, BucketStatistics, CollectionStatistics, DateStatistics, IntegerStatistics,
+    StringStatistics,
 };
 use std::alloc::Global;
 
@@ -29,6 +30,8 @@ pub struct ColumnStats {
     pub binary_statistics: Option<BinaryStatistics>,
     /// Whether a value is null, where that is known.
     pub has_null: Option<bool>,
+    /// What is known of a column of lists or maps.
+    pub collection_statistics: Option<CollectionStatistics>,
 }
 
 impl Message for ColumnStats {
@@ -52,6 +55,7 @@ impl Message for ColumnStats {
             date_statistics: None,
             binary_statistics: None,
             has_null: None,
+            collection_statistics: None,
         }
     }
 
@@ -63,7 +67,7 @@ impl Message for ColumnStats {
         take_only(alloc, &mut self.date_statistics, 7, field)?;
         take_only(alloc, &mut self.binary_statistics, 8, field)?;
         take_known_flag(&mut self.has_null, 10, field);
-        Ok(())
+        take_only(alloc, &mut self.collection_statistics, 12, field)
     }
 
     fn put_members(&self, out: &mut Vec<u8>) -> Result<(), WireFault> {
@@ -73,7 +77,8 @@ impl Message for ColumnStats {
         put_shown(5, &self.bucket_statistics, out)?;
         put_shown(7, &self.date_statistics, out)?;
         put_shown(8, &self.binary_statistics, out)?;
-        put_known_flag(10, self.has_null, out)
+        put_known_flag(10, self.has_null, out)?;
+        put_shown(12, &self.collection_statistics, out)
     }
 
     ghost complete = { column_stats_complete };

@@ -15,6 +15,7 @@ ghost use Rattle.orc_wire.specs.declared.footer.Footer.{Footer};
 ghost use Rattle.orc_wire.specs.declared.footer.UserMetadataItem.{UserMetadataItem};
 ghost use Rattle.orc_wire.specs.declared.stats_records.BinaryStatistics.{BinaryStatistics};
 ghost use Rattle.orc_wire.specs.declared.stats_records.BucketStatistics.{BucketStatistics};
+ghost use Rattle.orc_wire.specs.declared.stats_records.CollectionStatistics.{CollectionStatistics};
 ghost use Rattle.orc_wire.specs.declared.stats_records.DateStatistics.{DateStatistics};
 ghost use Rattle.orc_wire.specs.declared.stats_records.IntegerStatistics.{IntegerStatistics};
 ghost use Rattle.orc_wire.specs.declared.stats_records.StringStatistics.{StringStatistics};
@@ -31,7 +32,7 @@ ghost use Rattle.orc_wire.specs.Messages.{type_msg, footer};
 ghost use Rattle.orc_wire.specs.CanonicalText.{number_text, sized_text, known_text, list_text, packed_text, shown_text};
 ghost use Rattle.orc_wire.specs.CanonicalText.{flag_number};
 ghost use Rattle.orc_wire.specs.CanonicalKinds.{AreBelow, AreKept};
-ghost use Rattle.orc_wire.specs.CanonicalMessages.{is_dictionary, encoding_text, stream_text, stripe_footer_text, post_script_text, type_text, stripe_info_text, user_metadata_text, footer_text, integer_stats_text, string_stats_text, bucket_stats_text, date_stats_text, binary_stats_text, column_stats_text, stripe_stats_text, metadata_text, row_index_entry_text, row_index_text};
+ghost use Rattle.orc_wire.specs.CanonicalMessages.{is_dictionary, encoding_text, stream_text, stripe_footer_text, post_script_text, type_text, stripe_info_text, user_metadata_text, footer_text, integer_stats_text, string_stats_text, bucket_stats_text, date_stats_text, binary_stats_text, collection_stats_text, column_stats_text, stripe_stats_text, metadata_text, row_index_entry_text, row_index_text};
 
 use crate::message::Message;
 
@@ -64,6 +65,8 @@ pub fn table_laws()
 
     ensures small_known { (n : ℕ) (fields : List Item) (v : Option ℕ)
         → (known (small n)).says fields v ↔ ((v ≡ newest (number_in n) fields) × AreSmall n fields) }
+    ensures number_known { (n : ℕ) (fields : List Item) (v : Option ℕ)
+        → (known (number n)).says fields v ↔ (v ≡ newest (number_in n) fields) }
     ensures signed_known { (n : ℕ) (fields : List Item) (v : Option ℤ)
         → (known (signed n)).says fields v ↔ (option_map zig v ≡ newest (number_in n) fields) }
     ensures small_signed_known { (n : ℕ) (fields : List Item) (v : Option ℤ)
@@ -142,12 +145,14 @@ pub fn whole_laws()
     ensures buckets { (m : BucketStatistics) → bucket_stats_text.whole m }
     ensures dates { (m : DateStatistics) → date_stats_text.whole m }
     ensures binaries { (m : BinaryStatistics) → binary_stats_text.whole m }
+    ensures collections { (m : CollectionStatistics) → collection_stats_text.whole m }
     ensures column { (m : ColumnStats)
         → IfSome m.int_statistics (λ s. integer_stats_text.text s ≡ [] → ⊥)
         → IfSome m.string_statistics (λ s. string_stats_text.text s ≡ [] → ⊥)
         → IfSome m.bucket_statistics (λ s. bucket_stats_text.text s ≡ [] → ⊥)
         → IfSome m.date_statistics (λ s. date_stats_text.text s ≡ [] → ⊥)
         → IfSome m.binary_statistics (λ s. binary_stats_text.text s ≡ [] → ⊥)
+        → IfSome m.collection_statistics (λ s. collection_stats_text.text s ≡ [] → ⊥)
         → column_stats_text.whole m }
     ensures integer_shown { (m : IntegerStatistics)
         → IsSome m.minimum ⊎ (IsSome m.maximum ⊎ IsSome m.sum) → integer_stats_text.text m ≡ [] → ⊥ }
@@ -157,6 +162,9 @@ pub fn whole_laws()
         → AreBelow (2 ^ 64) m.count → (m.count ≡ [] → ⊥) → bucket_stats_text.text m ≡ [] → ⊥ }
     ensures date_shown { (m : DateStatistics) → IsSome m.minimum ⊎ IsSome m.maximum → date_stats_text.text m ≡ [] → ⊥ }
     ensures binary_shown { (m : BinaryStatistics) → IsSome m.sum → binary_stats_text.text m ≡ [] → ⊥ }
+    ensures collection_shown { (m : CollectionStatistics)
+        → IsSome m.min_children ⊎ (IsSome m.max_children ⊎ IsSome m.total_children)
+        → collection_stats_text.text m ≡ [] → ⊥ }
     ensures stripes { (m : StripeStatistics)
         → AllByRecursion column_stats_text.whole m.col_stats → stripe_stats_text.whole m }
     ensures metadata { (m : Metadata) → AllByRecursion stripe_stats_text.whole m.stripe_stats → metadata_text.whole m }
@@ -197,6 +205,9 @@ pub fn canonical_laws()
         → date_stats_text.text m ≡ known_text (λ v. varint (zig v)) 1 m.minimum
         ++ known_text (λ v. varint (zig v)) 2 m.maximum }
     ensures binaries { (m : BinaryStatistics) → binary_stats_text.text m ≡ known_text (λ v. varint (zig v)) 1 m.sum }
+    ensures collections { (m : CollectionStatistics)
+        → collection_stats_text.text m ≡ known_text (λ v. varint v) 1 m.min_children
+        ++ (known_text (λ v. varint v) 2 m.max_children ++ known_text (λ v. varint v) 3 m.total_children) }
     ensures column { (m : ColumnStats)
         → column_stats_text.text m ≡ number_text 1 m.number_of_values
         ++ (shown_text integer_stats_text.text 2 m.int_statistics
@@ -204,7 +215,8 @@ pub fn canonical_laws()
         ++ (shown_text bucket_stats_text.text 5 m.bucket_statistics
         ++ (shown_text date_stats_text.text 7 m.date_statistics
         ++ (shown_text binary_stats_text.text 8 m.binary_statistics
-        ++ known_text (λ v. varint (flag_number v)) 10 m.has_null))))) }
+        ++ (known_text (λ v. varint (flag_number v)) 10 m.has_null
+        ++ shown_text collection_stats_text.text 12 m.collection_statistics)))))) }
     ensures stripes { (m : StripeStatistics)
         → stripe_stats_text.text m ≡ list_text (λ c. sized (column_stats_text.text c)) 1 m.col_stats }
     ensures metadata { (m : Metadata)

@@ -37,7 +37,8 @@ pub use message::Message;
 pub use post_script::PostScript;
 pub use row_index::{RowIndexEntry, RowIndexMsg};
 pub use stats_records::{
-    BinaryStatistics, BucketStatistics, DateStatistics, IntegerStatistics, StringStatistics,
+    BinaryStatistics, BucketStatistics, CollectionStatistics, DateStatistics, IntegerStatistics,
+    StringStatistics,
 };
 pub use stripe_footer::{StreamMsg, StripeFooter};
 pub use stripe_info::StripeInfo;

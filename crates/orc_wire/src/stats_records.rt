@@ -1,11 +1,13 @@
 //! The records of a column's statistics, one for each kind of column. A part that is missing is not
 //! known.
-use crate::canonical::{put_known_i32, put_known_i64, put_known_text, put_packed_u64};
+use crate::canonical::{
+    put_known_i32, put_known_i64, put_known_text, put_known_u64, put_packed_u64,
+};
 use crate::fault::WireFault;
 use crate::field::Field;
 use crate::items::{Bytes, Items};
 use crate::lists::{take_known_text, take_packed_u64};
-use crate::members::{take_known_i32, take_known_i64};
+use crate::members::{take_known_i32, take_known_i64, take_known_u64};
 use crate::message::Message;
 use std::alloc::Global;
 
@@ -213,4 +215,51 @@ impl Message for BinaryStatistics {
     }
 
     ghost complete = { binary_stats_complete };
+}
+
+/// Statistics of lists and maps (CollectionStatistics): of how many elements, or pairs, each has.
+#[derive(Clone, Copy, Debug, PartialEq, Eq)]
+pub struct CollectionStatistics {
+    /// The least number of children.
+    pub min_children: Option<u64>,
+    /// The greatest number of children.
+    pub max_children: Option<u64>,
+    /// How many children all have together.
+    pub total_children: Option<u64>,
+}
+
+impl Message for CollectionStatistics {
+    ghost use Rattle.orc_wire.specs.Messages.{collection_stats};
+    ghost use Rattle.orc_wire.specs.CanonicalMessages.{collection_stats_text, collection_stats_complete};
+
+    ghost members = { collection_stats };
+
+    ghost canonical = { collection_stats_text };
+
+    ghost REQUIRED = { 0 };
+
+    const REQUIRED: u32 = 0;
+
+    fn empty(_alloc: Global) -> CollectionStatistics {
+        CollectionStatistics {
+            min_children: None,
+            max_children: None,
+            total_children: None,
+        }
+    }
+
+    fn take(&mut self, _alloc: Global, field: &Field) -> Result<(), WireFault> {
+        take_known_u64(&mut self.min_children, 1, field);
+        take_known_u64(&mut self.max_children, 2, field);
+        take_known_u64(&mut self.total_children, 3, field);
+        Ok(())
+    }
+
+    fn put_members(&self, out: &mut Vec<u8>) -> Result<(), WireFault> {
+        put_known_u64(1, self.min_children, out)?;
+        put_known_u64(2, self.max_children, out)?;
+        put_known_u64(3, self.total_children, out)
+    }
+
+    ghost complete = { collection_stats_complete };
 }

@@ -5,13 +5,14 @@ use Rattle.std.proofs.lemmas.List.{length-map}
 use Rattle.orc_types.specs.declared.kind.Scalar.{Scalar}
 use Rattle.orc_types.specs.declared.kind.Scalar.TheVariants as kind
 use Rattle.orc_types.specs.Kinds.{is_kind}
-use Rattle.orc_types.specs.Shapes.{scalar}
-use Rattle.orc_types.specs.Cells.{bool, int, date, text, bytes, Cell, null, leaf, list, struct, cells_of, list_of_cells, parts, values}
+use Rattle.orc_types.specs.Shapes.{Shape, scalar, list_of, map_of}
+use Rattle.orc_types.specs.Cells.{bool, int, date, text, bytes, Cell, null, leaf, list, struct, pairs, cells_of, list_of_cells, list_of_pairs, pairs_of, parts, pairs_in, values}
 use Rattle.orc_types.specs.Fits.{signed_fits, RowsFit}
 use Rattle.orc_types.specs.Lent.{lent_cells}
-use Rattle.orc_types.specs.Views.{view, views}
+use Rattle.orc_types.specs.Views.{paired, view, views}
 use Rattle.orc_types.specs.declared.lent.Lent.{Lent}
 use Rattle.orc_types.specs.declared.value.Value.{Value}
+use Rattle.orc_types.specs.declared.value.MapPair.{MapPair}
 use Rattle.orc_written.specs.declared.cell_values.ByteString.{ByteString}
 use Rattle.orc_columns.specs.Spellings.{AllStand, size, joined}
 use Rattle.orc_columns.specs.Columns.{IsBool, IsByte, IsInt, IsDate, IsText, IsBinary}
@@ -51,6 +52,7 @@ ints_stand k o (leaf (text t) ∷ cs) i h = absurd (never_both (is_kind kind.Str
 ints_stand k o (leaf (bytes t) ∷ cs) i h = absurd (never_both (is_kind kind.Binary k) _ i.no_bytes h.0)
 ints_stand k o (list xs ∷ cs) i h = let wrong = h.0 in cc
 ints_stand k o (struct xs ∷ cs) i h = let wrong = h.0 in cc
+ints_stand k o (pairs ps ∷ cs) i h = let wrong = h.0 in cc
 
 pub byte_stands : (n : ℤ) → signed_fits 7 n ≡ true → IsByte (byte_of n) (leaf (int n))
 byte_stands (pos n) h =
@@ -75,6 +77,7 @@ bools_stand o (leaf (text t) ∷ cs) h = let wrong = h.0 in cc
 bools_stand o (leaf (bytes t) ∷ cs) h = let wrong = h.0 in cc
 bools_stand o (list xs ∷ cs) h = let wrong = h.0 in cc
 bools_stand o (struct xs ∷ cs) h = let wrong = h.0 in cc
+bools_stand o (pairs ps ∷ cs) h = let wrong = h.0 in cc
 
 pub number_bytes_stand : (o : List ℕ) (cs : List Cell) → RowsFit (scalar kind.Byte o) cs → AllStand IsByte (number_bytes_in cs) (values cs)
 number_bytes_stand o [] h = tt
@@ -86,6 +89,7 @@ number_bytes_stand o (leaf (text t) ∷ cs) h = let wrong = h.0 in cc
 number_bytes_stand o (leaf (bytes t) ∷ cs) h = let wrong = h.0 in cc
 number_bytes_stand o (list xs ∷ cs) h = let wrong = h.0 in cc
 number_bytes_stand o (struct xs ∷ cs) h = let wrong = h.0 in cc
+number_bytes_stand o (pairs ps ∷ cs) h = let wrong = h.0 in cc
 
 pub dates_stand : (o : List ℕ) (cs : List Cell) → RowsFit (scalar kind.Date o) cs → AllStand IsDate (ints_in cs) (values cs)
 dates_stand o [] h = tt
@@ -97,6 +101,7 @@ dates_stand o (leaf (text t) ∷ cs) h = let wrong = h.0 in cc
 dates_stand o (leaf (bytes t) ∷ cs) h = let wrong = h.0 in cc
 dates_stand o (list xs ∷ cs) h = let wrong = h.0 in cc
 dates_stand o (struct xs ∷ cs) h = let wrong = h.0 in cc
+dates_stand o (pairs ps ∷ cs) h = let wrong = h.0 in cc
 
 pub texts_stand : (o : List ℕ) (cs : List Cell) → RowsFit (scalar kind.String o) cs → AllStand IsText (all_bytes_in cs) (values cs)
 texts_stand o [] h = tt
@@ -108,6 +113,7 @@ texts_stand o (leaf (text t) ∷ cs) h = ((h.0, refl), texts_stand o cs h.1)
 texts_stand o (leaf (bytes t) ∷ cs) h = let wrong = h.0 in cc
 texts_stand o (list xs ∷ cs) h = let wrong = h.0 in cc
 texts_stand o (struct xs ∷ cs) h = let wrong = h.0 in cc
+texts_stand o (pairs ps ∷ cs) h = let wrong = h.0 in cc
 
 pub binaries_stand : (o : List ℕ) (cs : List Cell) → RowsFit (scalar kind.Binary o) cs → AllStand IsBinary (all_bytes_in cs) (values cs)
 binaries_stand o [] h = tt
@@ -119,14 +125,25 @@ binaries_stand o (leaf (text t) ∷ cs) h = let wrong = h.0 in cc
 binaries_stand o (leaf (bytes t) ∷ cs) h = ((h.0, refl), binaries_stand o cs h.1)
 binaries_stand o (list xs ∷ cs) h = let wrong = h.0 in cc
 binaries_stand o (struct xs ∷ cs) h = let wrong = h.0 in cc
+binaries_stand o (pairs ps ∷ cs) h = let wrong = h.0 in cc
 
--- how long the lists are, of cells of any kind
-pub sizes_are : (cs : List Cell) → sizes_in cs ≡ map (λ v. size (parts v)) (values cs)
-sizes_are [] = refl
-sizes_are (null ∷ cs) = sizes_are cs
-sizes_are (leaf a ∷ cs) = ap (λ xs. pos 0 ∷ xs) (sizes_are cs)
-sizes_are (list xs ∷ cs) = ap (λ ys. pos (length (parts (list xs))) ∷ ys) (sizes_are cs)
-sizes_are (struct xs ∷ cs) = ap (λ ys. pos (length (parts (struct xs))) ∷ ys) (sizes_are cs)
+-- how long the lists are
+pub list_sizes : (s : Shape) (o : List ℕ) (cs : List Cell) → RowsFit (list_of s o) cs → sizes_in cs ≡ map (λ v. size (parts v)) (values cs)
+list_sizes s o [] h = refl
+list_sizes s o (null ∷ cs) h = list_sizes s o cs h.1
+list_sizes s o (leaf a ∷ cs) h = let wrong = h.0 in cc
+list_sizes s o (list xs ∷ cs) h = ap (λ ys. pos (length (parts (list xs))) ∷ ys) (list_sizes s o cs h.1)
+list_sizes s o (struct xs ∷ cs) h = let wrong = h.0 in cc
+list_sizes s o (pairs ps ∷ cs) h = let wrong = h.0 in cc
+
+-- how many pairs the maps have
+pub map_sizes : (k v : Shape) (o : List ℕ) (cs : List Cell) → RowsFit (map_of k v o) cs → sizes_in cs ≡ map (λ m. size (pairs_in m)) (values cs)
+map_sizes k v o [] h = refl
+map_sizes k v o (null ∷ cs) h = map_sizes k v o cs h.1
+map_sizes k v o (leaf a ∷ cs) h = let wrong = h.0 in cc
+map_sizes k v o (list xs ∷ cs) h = let wrong = h.0 in cc
+map_sizes k v o (struct xs ∷ cs) h = let wrong = h.0 in cc
+map_sizes k v o (pairs ps ∷ cs) h = ap (λ ys. pos (length (pairs_in (pairs ps))) ∷ ys) (map_sizes k v o cs h.1)
 
 pub joined_is : (ps : List ByteString) → joined (byte_strings ps) ≡ flat_map (λ (p : ByteString). p.0.now) ps
 joined_is [] = refl
@@ -135,6 +152,10 @@ joined_is (p ∷ ps) = ap (λ bs. p.0.now ++ bs) (joined_is ps)
 pub as_long : (rs : List (Option Value)) → length (list_of_cells (cells_of (views rs))) ≡ length rs
 as_long [] = refl
 as_long (r ∷ rs) = ap suc (as_long rs)
+
+pub as_many_pairs : (ps : List MapPair) → length (list_of_pairs (pairs_of (map paired ps))) ≡ length ps
+as_many_pairs [] = refl
+as_many_pairs (p ∷ ps) = ap suc (as_many_pairs ps)
 
 pub views_long : (rs : List (Option Value)) → length (views rs) ≡ length rs
 views_long [] = refl

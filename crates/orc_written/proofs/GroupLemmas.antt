@@ -1,18 +1,18 @@
 -- The bounds of groups, down the schema, and the rows with which groups begin.
-use Rattle.std.proofs.Common.{◌≡◌, ℕ, zero, suc, ◌+◌, ◌-◌, ◌*◌, ◌<◌, ◌≤◌, min, nat_lt, true, false, List, [], ◌∷◌, ◌++◌, length, map, take, drop, get_or, refl, sym, ap, ◌∙◌, arith, inl, inr, lt-ltb, le-ltb}
+use Rattle.std.proofs.Common.{◌≡◌, ℕ, zero, suc, ◌+◌, ◌-◌, ◌*◌, ◌<◌, ◌≤◌, min, nat_lt, true, false, List, [], ◌∷◌, ◌++◌, length, map, take, drop, get_or, refl, sym, ap, ◌∙◌, subst, arith, inl, inr, lt-ltb, le-ltb}
 use Rattle.std.specs.List.{flat_map, range_with_len}
 use Rattle.std.proofs.lemmas.Bool.{cases_lt}
 use Rattle.std.proofs.lemmas.Grind.{div_ceil_times}
 use Rattle.std.proofs.lemmas.List.{take-append-drop, take-map}
 use Rattle.std.proofs.lemmas.List.FromFn.{length-map-range_with_len, get_or-map-range_with_len}
-use Rattle.orc_types.specs.Cells.{Cell, parts, values}
+use Rattle.orc_types.specs.Cells.{Cell, parts, pairs_in, keys_in, values_in, values}
 use Rattle.orc_types.specs.Columns.{cells, cells_within}
-use Rattle.orc_types.specs.Shapes.{Shape, list_of, struct_of, Fields, field, width}
-use Rattle.orc_types.proofs.Together.{values-append, flat_map-append}
+use Rattle.orc_types.specs.Shapes.{Shape, list_of, map_of, struct_of, Fields, field, width}
+use Rattle.orc_types.proofs.Together.{values-append, flat_map-append, keys-append, map_values-append}
 use Rattle.orc_columns.proofs.Arms.{some_width}
-use Rattle.orc_index.specs.Bounds.{AreBounds, elements_before, values_before}
-use Rattle.orc_index.proofs.Groups.{bound_within}
-use Rattle.orc_written.specs.Groups.{group_count, starts, cells_before, bounds_of, AreGroupsFrom, AreFieldGroupsFrom}
+use Rattle.orc_index.specs.Bounds.{AreBounds, elements_before, pairs_before, values_before}
+use Rattle.orc_index.proofs.Groups.{bound_within, keys_long, map_values_long, key_bounds_are}
+use Rattle.orc_written.specs.Groups.{group_count, starts, cells_before, bounds_of, AreGroupsFrom, ArePairGroupsFrom, AreFieldGroupsFrom}
 use Rattle.orc_written.specs.Subtrees.{FieldsFit}
 use Rattle.orc_written.proofs.SubtreeLemmas.{root_cells}
 
@@ -69,6 +69,49 @@ groups_element s rows firsts c t o column bounds h d less =
     ap (λ (k : ℕ). bounds_of s k rows firsts) e ∙ h (suc d) (omega (arith, less))
     ∙ map_through (cells_before (list_of t o) (suc d) column) (cells_before t d (flat_map parts (values column))) (elements_before column) bounds
     (λ n. ap (λ cs. length (cells t d cs)) (sym (front_through (λ cs. flat_map parts (values cs)) elements_join n column)))
+
+pub pair_bounds_are : (cells : List Cell) (bounds : List ℕ) → AreBounds (length cells) bounds → AreBounds (length (flat_map pairs_in (values cells))) (map (pairs_before cells) bounds)
+pair_bounds_are cells bounds h = subst (λ (n : ℕ). AreBounds n (map (pairs_before cells) bounds)) (keys_long (values cells)) (key_bounds_are cells bounds h)
+
+-- so many keys, and so many values, as pairs
+keys_taken : (n : ℕ) (column : List Cell) → take (pairs_before column n) (flat_map keys_in (values column)) ≡ flat_map keys_in (values (take n column))
+keys_taken n column =
+    ap (λ (j : ℕ). take j (flat_map keys_in (values column))) (sym (keys_long (values (take n column)))) ∙ front_through (λ cs. flat_map keys_in (values cs)) keys-append n column
+
+map_values_taken : (n : ℕ) (column : List Cell) → take (pairs_before column n) (flat_map values_in (values column)) ≡ flat_map values_in (values (take n column))
+map_values_taken n column =
+    ap (λ (j : ℕ). take j (flat_map values_in (values column))) (sym (map_values_long (values (take n column)))) ∙ front_through (λ cs. flat_map values_in (values cs)) map_values-append n column
+
+key_before : (k v : Shape) (o : List ℕ) (column : List Cell) (d n : ℕ) → d < width k
+    → length (cells (map_of k v o) (suc d) (take n column)) ≡ length (cells k d (take (pairs_before column n) (flat_map keys_in (values column))))
+key_before k v o column d n less =
+    let u : nat_lt d (width k) ≡ true = lt-ltb _ _ less in
+    rw u (ap (λ cs. length (cells k d cs)) (sym (keys_taken n column)))
+
+map_value_before : (k v : Shape) (o : List ℕ) (column : List Cell) (d n : ℕ)
+    → length (cells (map_of k v o) (suc (width k + d)) (take n column)) ≡ length (cells v d (take (pairs_before column n) (flat_map values_in (values column))))
+map_value_before k v o column d n =
+    let u : nat_lt (width k + d) (width k) ≡ false = le-ltb _ _ (omega arith) in
+    let back : width k + d - width k ≡ d = omega arith in
+    rw (u, back) (ap (λ cs. length (cells v d cs)) (sym (map_values_taken n column)))
+
+groups_keys : (s : Shape) (rows : List Cell) (firsts : List ℕ) (c : ℕ) (k v : Shape) (o : List ℕ) (column : List Cell) (bounds : List ℕ) → AreGroupsFrom s rows firsts c (map_of k v o) column bounds
+    → AreGroupsFrom s rows firsts (c + 1) k (flat_map keys_in (values column)) (map (pairs_before column) bounds)
+groups_keys s rows firsts c k v o column bounds h d less =
+    let e : c + 1 + d ≡ c + suc d = omega arith in
+    ap (λ (j : ℕ). bounds_of s j rows firsts) e ∙ h (suc d) (omega (arith, less))
+    ∙ map_through (cells_before (map_of k v o) (suc d) column) (cells_before k d (flat_map keys_in (values column))) (pairs_before column) bounds (λ n. key_before k v o column d n less)
+
+groups_map_values : (s : Shape) (rows : List Cell) (firsts : List ℕ) (c : ℕ) (k v : Shape) (o : List ℕ) (column : List Cell) (bounds : List ℕ) → AreGroupsFrom s rows firsts c (map_of k v o) column bounds
+    → AreGroupsFrom s rows firsts (c + 1 + width k) v (flat_map values_in (values column)) (map (pairs_before column) bounds)
+groups_map_values s rows firsts c k v o column bounds h d less =
+    let e : c + 1 + width k + d ≡ c + suc (width k + d) = omega arith in
+    ap (λ (j : ℕ). bounds_of s j rows firsts) e ∙ h (suc (width k + d)) (omega (arith, less))
+    ∙ map_through (cells_before (map_of k v o) (suc (width k + d)) column) (cells_before v d (flat_map values_in (values column))) (pairs_before column) bounds (λ n. map_value_before k v o column d n)
+
+pub groups_pairs : (s : Shape) (rows : List Cell) (firsts : List ℕ) (c : ℕ) (k v : Shape) (o : List ℕ) (column : List Cell) (bounds : List ℕ) → AreGroupsFrom s rows firsts c (map_of k v o) column bounds
+    → ArePairGroupsFrom s rows firsts (c + 1) k v column (map (pairs_before column) bounds)
+groups_pairs s rows firsts c k v o column bounds h = (groups_keys s rows firsts c k v o column bounds h, groups_map_values s rows firsts c k v o column bounds h)
 
 pub groups_fields : (s : Shape) (rows : List Cell) (firsts : List ℕ) (c : ℕ) (fs : Fields) (o : List ℕ) (column : List Cell) (bounds : List ℕ) → AreGroupsFrom s rows firsts c (struct_of fs o) column bounds
     → AreFieldGroupsFrom s rows firsts (c + 1) fs (map parts (values column)) (map (values_before column) bounds)

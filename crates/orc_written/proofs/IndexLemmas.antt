@@ -3,8 +3,8 @@ use Rattle.std.proofs.Common.{◌≡◌, ℕ, zero, suc, ◌+◌, ◌-◌, ◌<�
 use Rattle.std.specs.List.{flat_map}
 use Rattle.orc_wire.specs.declared.stripe_footer.StripeFooter.{StripeFooter}
 use Rattle.orc_types.specs.declared.tree.Field.{Field}
-use Rattle.orc_types.specs.Shapes.{Shape, list_of, struct_of, Fields, field, width, widths, shape_at, shape_within}
-use Rattle.orc_types.specs.Cells.{Cell, parts, values}
+use Rattle.orc_types.specs.Shapes.{Shape, list_of, map_of, struct_of, Fields, field, width, widths, shape_at, shape_within}
+use Rattle.orc_types.specs.Cells.{Cell, parts, pairs_in, keys_in, values_in, values}
 use Rattle.orc_types.specs.Columns.{cells, cells_within}
 use Rattle.orc_types.specs.Fits.{RowsFit}
 use Rattle.orc_types.specs.Views.{shape, fields}
@@ -14,10 +14,11 @@ use Rattle.orc_columns.specs.Starting.{AreStreams}
 use Rattle.orc_columns.specs.Stripe.{Streams, columns_of}
 use Rattle.orc_columns.specs.declared.starting.ColumnStreams.{ColumnStreams}
 use Rattle.orc_index.specs.Bounds.{AreBounds}
+use Rattle.orc_index.proofs.Groups.{keys_long}
 use Rattle.orc_index.specs.RowIndex.{IsWrittenIndex}
 use Rattle.orc_written.specs.declared.body.Body.{Body}
 use Rattle.orc_written.specs.Groups.{bounds_of, AreGroupsFrom, AreFieldGroupsFrom}
-use Rattle.orc_written.specs.Indexes.{streams_written, index_line, index_lines, index_bytes, HaveIndexes, AddsIndex, AreAsWritten, SpellColumn, SpellFrom, SpellFieldsFrom}
+use Rattle.orc_written.specs.Indexes.{streams_written, index_line, index_lines, index_bytes, HaveIndexes, AddsIndex, AreAsWritten, SpellColumn, SpellFrom, SpellPairsFrom, SpellFieldsFrom}
 use Rattle.orc_written.specs.Subtrees.{AreColumnsFrom, AreFieldsFrom, FieldsFit}
 use Rattle.orc_written.specs.WrittenColumn.{Written}
 use Rattle.orc_written.proofs.GroupLemmas.{bounds_here, groups_first, groups_others, heads_long}
@@ -160,6 +161,32 @@ pub few_elements_spelled : (streams : List ColumnStreams) (n : ℕ) (t : Shape) 
 few_elements_spelled streams n t o column h =
     let k = here_spelled streams (n + 1) t (flat_map parts (values column)) (element_spelled streams n (n + 1) t o column refl h) in
     k.4.few
+
+keys_spelled : (streams : List ColumnStreams) (n m : ℕ) (k v : Shape) (o : List ℕ) (column : List Cell) → m ≡ n + 1 → SpellFrom streams n (map_of k v o) column → SpellFrom streams m k (flat_map keys_in (values column))
+keys_spelled streams n m k v o column more h d less =
+    let u : nat_lt d (width k) ≡ true = lt-ltb _ _ less in
+    let e : n + suc d ≡ m + d = omega (arith, more) in
+    let f = h (suc d) (omega (arith, less)) in
+    let g = rw u at f in
+    subst (λ (j : ℕ). SpellColumn streams j (shape_at k d) (cells k d (flat_map keys_in (values column)))) e g
+
+map_values_spelled : (streams : List ColumnStreams) (n m : ℕ) (k v : Shape) (o : List ℕ) (column : List Cell) → m ≡ n + 1 → SpellFrom streams n (map_of k v o) column
+    → SpellFrom streams (m + width k) v (flat_map values_in (values column))
+map_values_spelled streams n m k v o column more h d less =
+    let u : nat_lt (width k + d) (width k) ≡ false = le-ltb _ _ (omega arith) in
+    let back : width k + d - width k ≡ d = omega arith in
+    let e : n + suc (width k + d) ≡ m + width k + d = omega (arith, more) in
+    let f = h (suc (width k + d)) (omega (arith, less)) in
+    let g = rw (u, back) at f in
+    subst (λ (j : ℕ). SpellColumn streams j (shape_at v d) (cells v d (flat_map values_in (values column)))) e g
+
+pub pairs_spelled : (streams : List ColumnStreams) (n m : ℕ) (k v : Shape) (o : List ℕ) (column : List Cell) → m ≡ n + 1 → SpellFrom streams n (map_of k v o) column → SpellPairsFrom streams m k v column
+pairs_spelled streams n m k v o column more h = (keys_spelled streams n m k v o column more h, map_values_spelled streams n m k v o column more h)
+
+pub few_pairs_spelled : (streams : List ColumnStreams) (n : ℕ) (k v : Shape) (o : List ℕ) (column : List Cell) → SpellFrom streams n (map_of k v o) column → length (flat_map pairs_in (values column)) < 2 ^ 31
+few_pairs_spelled streams n k v o column h =
+    let keys = here_spelled streams (n + 1) k (flat_map keys_in (values column)) (keys_spelled streams n (n + 1) k v o column refl h) in
+    omega (arith, keys.4.few, keys_long (values column))
 
 pub fields_spelled : (streams : List ColumnStreams) (n m : ℕ) (fs : Fields) (o : List ℕ) (column : List Cell) → m ≡ n + 1 → SpellFrom streams n (struct_of fs o) column → SpellFieldsFrom streams m fs (map parts (values column))
 fields_spelled streams n m fs o column more h d less =

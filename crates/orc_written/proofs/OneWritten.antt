@@ -16,8 +16,8 @@ use Rattle.orc_rle.specs.BitLaws.{one_bit_text}
 use Rattle.orc_wire.specs.declared.encoding.Encoding.{Encoding}
 use Rattle.orc_types.specs.declared.kind.Scalar.{Scalar}
 use Rattle.orc_types.specs.declared.kind.Scalar.TheVariants as kind
-use Rattle.orc_types.specs.Shapes.{Shape, scalar, list_of, struct_of, shape_at}
-use Rattle.orc_types.specs.Cells.{Cell, leaf, int, is_value, parts, values}
+use Rattle.orc_types.specs.Shapes.{Shape, scalar, list_of, map_of, struct_of, shape_at}
+use Rattle.orc_types.specs.Cells.{Cell, leaf, int, is_value, parts, pairs_in, values}
 use Rattle.orc_types.specs.Columns.{cells}
 use Rattle.orc_columns.specs.Spellings.{AllStand, size, joined}
 use Rattle.orc_columns.specs.Columns.{IsBool, IsByte, IsInt, IsDate, IsText, IsBinary, signed_byte}
@@ -189,6 +189,7 @@ one_scalar rle kind.Binary w v vs m p q = one_groups rle w v p.0 q.0 m (one_stoo
 one_values : (rle : Rle) (s : Shape) (w v : Written) (vs : List Cell) → w.marks ≡ v.marks → WritesValues rle w s vs → WritesValues rle v s vs → w ≡ v
 one_values rle (scalar k o) w v vs m p q = one_scalar rle k w v vs m p q
 one_values rle (list_of s o) w v vs m p q = one_sizes rle w v (map (λ x. size (parts x)) vs) m p q
+one_values rle (map_of key value o) w v vs m p q = one_sizes rle w v (map (λ x. size (pairs_in x)) vs) m p q
 one_values rle (struct_of fs o) w v vs m p q = p ∙ (λ i. filled plain (m i) [] [] []) ∙ sym q
 
 one_column : (rle : Rle) (s : Shape) (column : List Cell) (w v : Written) → IsWrittenColumn rle s column w → IsWrittenColumn rle s column v → w ≡ v

@@ -11,7 +11,7 @@ use Rattle.orc_wire.specs.CanonicalMessages.{stripe_footer_text}
 use Rattle.orc_types.specs.Cells.{Cell}
 use Rattle.orc_types.specs.Columns.{cells}
 use Rattle.orc_types.specs.Fits.{RowsFit}
-use Rattle.orc_types.specs.Shapes.{Shape, scalar, list_of, struct_of, width, shape_at}
+use Rattle.orc_types.specs.Shapes.{Shape, scalar, list_of, map_of, struct_of, width, shape_at}
 use Rattle.orc_types.specs.declared.kind.Scalar.TheVariants as kind
 use Rattle.orc_types.proofs.Together.{cells_fit}
 use Rattle.orc_columns.specs.Directory.{has_stream, slice}
@@ -82,6 +82,7 @@ contents_same false false x y t a = ap Some a
 -- positions are those of the same streams
 own_same : (s : Shape) (x y : Streams) → x.encoding ≡ y.encoding → x.stream 1 ≡ y.stream 1 → x.stream 2 ≡ y.stream 2 → own_runs s x ≡ own_runs s y
 own_same (list_of s o) x y e a b = λ i. number_runs (version_at (e i).kind) Unsigned (b i)
+own_same (map_of k v o) x y e a b = λ i. number_runs (version_at (e i).kind) Unsigned (b i)
 own_same (struct_of fs o) x y e a b = refl
 own_same (scalar kind.Boolean o) x y e a b = ap bit_runs a
 own_same (scalar kind.Byte o) x y e a b = ap byte_runs a
@@ -94,6 +95,7 @@ own_same (scalar kind.String o) x y e a b = texts_same (uses_dictionary x.encodi
 
 octets_same : (s : Shape) (x y : Streams) → x.encoding ≡ y.encoding → x.stream 1 ≡ y.stream 1 → own_octets s x ≡ own_octets s y
 octets_same (list_of s o) x y e a = refl
+octets_same (map_of k v o) x y e a = refl
 octets_same (struct_of fs o) x y e a = refl
 octets_same (scalar kind.Boolean o) x y e a = refl
 octets_same (scalar kind.Byte o) x y e a = refl

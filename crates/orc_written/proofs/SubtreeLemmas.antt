@@ -7,17 +7,17 @@ use Rattle.orc_rle.specs.declared.sign.Rle.{Rle}
 use Rattle.orc_wire.specs.declared.encoding.Encoding.{Encoding}
 use Rattle.orc_wire.specs.declared.stripe_footer.StreamMsg.{StreamMsg}
 use Rattle.orc_types.specs.declared.tree.Field.{Field}
-use Rattle.orc_types.specs.Shapes.{Shape, scalar, list_of, struct_of, Fields, no_field, field, width, widths, shape_at}
-use Rattle.orc_types.specs.Cells.{Cell, parts, values}
+use Rattle.orc_types.specs.Shapes.{Shape, scalar, list_of, map_of, struct_of, Fields, no_field, field, width, widths, shape_at}
+use Rattle.orc_types.specs.Cells.{Cell, parts, keys_in, values_in, values}
 use Rattle.orc_types.specs.Columns.{cells}
 use Rattle.orc_types.specs.Fits.{RowsFit}
 use Rattle.orc_types.specs.Views.{shape, fields}
-use Rattle.orc_types.proofs.Together.{heads_fit, tails_fit}
+use Rattle.orc_types.proofs.Together.{keys_fit, values_fit, heads_fit, tails_fit}
 use Rattle.orc_types.proofs.Views.{name_and_type-is}
 use Rattle.orc_columns.proofs.Arms.{some_width}
 use Rattle.orc_written.specs.WrittenColumn.{Written}
 use Rattle.orc_written.specs.WrittenStripe.{AreFew, HasColumns}
-use Rattle.orc_written.specs.Subtrees.{AreColumnsFrom, AreFieldsFrom, FieldsFit, FieldsAreFew, HasWritten}
+use Rattle.orc_written.specs.Subtrees.{AreColumnsFrom, ArePairsFrom, AreFieldsFrom, PairsFit, FieldsFit, PairsAreFew, FieldsAreFew, HasWritten}
 use Rattle.orc_written.specs.declared.columns.Columns.{Columns}
 
 -- ---- the fields at a place
@@ -48,11 +48,13 @@ fields_at fs n f less is = rw (drop-cons fs n f, ← is, name_and_type-is f) (le
 pub root_type : (s : Shape) → shape_at s 0 ≡ s
 root_type (scalar k o) = refl
 root_type (list_of s o) = refl
+root_type (map_of k v o) = refl
 root_type (struct_of fs o) = refl
 
 pub root_cells : (s : Shape) (column : List Cell) → cells s 0 column ≡ column
 root_cells (scalar k o) column = refl
 root_cells (list_of s o) column = refl
+root_cells (map_of k v o) column = refl
 root_cells (struct_of fs o) column = refl
 
 pub all_columns_from : (s : Shape) (rows : List Cell) → AreColumnsFrom s rows 0 s rows
@@ -70,6 +72,28 @@ element_from s rows c t o column h d less =
     let e : c + 1 + d ≡ c + suc d = omega arith in
     let f = h (suc d) (omega (arith, less)) in
     (ap (shape_at s) e ∙ f.0, ap (λ k. cells s k rows) e ∙ f.1)
+
+keys_from : (s : Shape) (rows : List Cell) (c : ℕ) (k v : Shape) (o : List ℕ) (column : List Cell) → AreColumnsFrom s rows c (map_of k v o) column
+    → AreColumnsFrom s rows (c + 1) k (flat_map keys_in (values column))
+keys_from s rows c k v o column h d less =
+    let u : nat_lt d (width k) ≡ true = lt-ltb _ _ less in
+    let e : c + 1 + d ≡ c + suc d = omega arith in
+    let f = h (suc d) (omega (arith, less)) in
+    let g = rw u at f in
+    (ap (shape_at s) e ∙ g.0, ap (λ j. cells s j rows) e ∙ g.1)
+
+map_values_from : (s : Shape) (rows : List Cell) (c : ℕ) (k v : Shape) (o : List ℕ) (column : List Cell) → AreColumnsFrom s rows c (map_of k v o) column
+    → AreColumnsFrom s rows (c + 1 + width k) v (flat_map values_in (values column))
+map_values_from s rows c k v o column h d less =
+    let u : nat_lt (width k + d) (width k) ≡ false = le-ltb _ _ (omega arith) in
+    let back : width k + d - width k ≡ d = omega arith in
+    let e : c + 1 + width k + d ≡ c + suc (width k + d) = omega arith in
+    let f = h (suc (width k + d)) (omega (arith, less)) in
+    let g = rw (u, back) at f in
+    (ap (shape_at s) e ∙ g.0, ap (λ j. cells s j rows) e ∙ g.1)
+
+pub pairs_from : (s : Shape) (rows : List Cell) (c : ℕ) (k v : Shape) (o : List ℕ) (column : List Cell) → AreColumnsFrom s rows c (map_of k v o) column → ArePairsFrom s rows (c + 1) k v column
+pairs_from s rows c k v o column h = (keys_from s rows c k v o column h, map_values_from s rows c k v o column h)
 
 pub fields_from : (s : Shape) (rows : List Cell) (c : ℕ) (fs : Fields) (o : List ℕ) (column : List Cell) → AreColumnsFrom s rows c (struct_of fs o) column
     → AreFieldsFrom s rows (c + 1) fs (map parts (values column))
@@ -95,6 +119,9 @@ others_from s rows c name t fs structs h d less =
     let g = rw (u, back) at f in
     (ap (shape_at s) e ∙ g.0, ap (λ k. cells s k rows) e ∙ g.1)
 
+pub pairs_fit : (k v : Shape) (o : List ℕ) (column : List Cell) → RowsFit (map_of k v o) column → PairsFit k v column
+pairs_fit k v o column h = (keys_fit k v o column h, values_fit k v o column h)
+
 -- ---- how many cells
 
 pub few_here : (s : Shape) (column : List Cell) → AreFew s column → length column < 2 ^ 31
@@ -102,6 +129,16 @@ few_here s column h = subst (λ (cs : List Cell). length cs < 2 ^ 31) (root_cell
 
 pub few_elements : (s : Shape) (o : List ℕ) (column : List Cell) → AreFew (list_of s o) column → AreFew s (flat_map parts (values column))
 few_elements s o column h c less = h (suc c) (omega (arith, less))
+
+pub few_pairs : (k v : Shape) (o : List ℕ) (column : List Cell) → AreFew (map_of k v o) column → PairsAreFew k v column
+few_pairs k v o column h = (
+  λ c less. (let u : nat_lt c (width k) ≡ true = lt-ltb _ _ less in let f = h (suc c) (omega (arith, less)) in rw u at f),
+  λ c less. (
+      let u : nat_lt (width k + c) (width k) ≡ false = le-ltb _ _ (omega arith) in
+      let back : width k + c - width k ≡ c = omega arith in
+      let f = h (suc (width k + c)) (omega (arith, less)) in
+      rw (u, back) at f),
+)
 
 pub few_fields : (fs : Fields) (o : List ℕ) (column : List Cell) → AreFew (struct_of fs o) column → FieldsAreFew fs (map parts (values column))
 few_fields fs o column h c less = h (suc c) (omega (arith, less))
@@ -127,6 +164,14 @@ few_scalar s column one few c less =
 pub few_list : (s : Shape) (o : List ℕ) (column : List Cell) → length column < 2 ^ 31 → AreFew s (flat_map parts (values column)) → AreFew (list_of s o) column
 few_list s o column few h zero less = few
 few_list s o column few h (suc c) less = h c (omega (arith, less))
+
+pub few_map : (k v : Shape) (o : List ℕ) (column : List Cell) → length column < 2 ^ 31 → PairsAreFew k v column → AreFew (map_of k v o) column
+few_map k v o column few h zero less = few
+few_map k v o column few h (suc c) less =
+    elim (leb_tells (suc c) (width k)) [
+      | inl p ↦ rw p.0 (h.0 c p.1)
+      | inr p ↦ rw p.0 (h.1 (c - width k) (omega (arith, p.1, less)))
+    ]
 
 pub few_struct : (fs : Fields) (o : List ℕ) (column : List Cell) → length column < 2 ^ 31 → FieldsAreFew fs (map parts (values column)) → AreFew (struct_of fs o) column
 few_struct fs o column few h zero less = few

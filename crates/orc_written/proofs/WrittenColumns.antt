@@ -10,7 +10,7 @@ use Rattle.orc_wire.specs.declared.stripe_footer.StreamMsg.{StreamMsg}
 use Rattle.orc_wire.specs.CanonicalMessages.{is_dictionary}
 use Rattle.orc_types.specs.declared.kind.Scalar.{Scalar}
 use Rattle.orc_types.specs.declared.kind.Scalar.TheVariants as kind
-use Rattle.orc_types.specs.Shapes.{Shape, scalar, list_of, struct_of, shape_at}
+use Rattle.orc_types.specs.Shapes.{Shape, scalar, list_of, map_of, struct_of, shape_at}
 use Rattle.orc_types.specs.Cells.{Cell, values}
 use Rattle.orc_types.specs.Columns.{cells}
 use Rattle.orc_stats.specs.declared.stat.Stat.{Stat}
@@ -58,6 +58,7 @@ scalar_sized rle kind.Binary w vs h = others_sized rle w _ h.2.others refl
 values_sized : (rle : Rle) (s : Shape) (w : Written) (vs : List Cell) → WritesValues rle w s vs → IsSized w.encoding
 values_sized rle (scalar k o) w vs h = scalar_sized rle k w vs h
 values_sized rle (list_of s o) w vs h = others_sized rle w _ h.others refl
+values_sized rle (map_of k v o) w vs h = others_sized rle w _ h.others refl
 values_sized rle (struct_of fs o) w vs h = others_sized One w _ h refl
 
 columns_sized : (rle : Rle) (s : Shape) (rows : List Cell) (b : ℕ) (ws : List Written) → AreWrittenColumns rle s rows b ws → AllByRecursion IsSized (map (λ (w : Written). w.encoding) ws)

@@ -20,9 +20,9 @@ use Rattle.orc_wire.specs.declared.stripe_footer.StreamMsg.{StreamMsg}
 use Rattle.orc_types.specs.declared.kind.Scalar.{Scalar}
 use Rattle.orc_types.specs.declared.kind.Scalar.TheVariants as kind
 use Rattle.orc_types.specs.Kinds.{number}
-use Rattle.orc_types.specs.Shapes.{Shape, scalar, list_of, struct_of, Fields, no_field, field, width, widths, shape_at, shape_within}
+use Rattle.orc_types.specs.Shapes.{Shape, scalar, list_of, map_of, struct_of, Fields, no_field, field, width, widths, shape_at, shape_within}
 use Rattle.orc_types.specs.Types.{types, fields_types}
-use Rattle.orc_types.specs.Cells.{Cell, is_value, parts, values}
+use Rattle.orc_types.specs.Cells.{Cell, is_value, parts, pairs_in, values}
 use Rattle.orc_types.specs.Columns.{cells}
 use Rattle.orc_types.proofs.Trees.{length-types}
 use Rattle.orc_columns.specs.Spellings.{AllStand, Standing, size, Grouped}
@@ -166,6 +166,7 @@ scalar_read rle kind.Binary x w vs r h = (h.0, h.1, groups_read rle x w h.0 r h.
 values_read : (rle : Rle) (s : Shape) (x : Streams) (w : Written) (vs : List Cell) → AreRead x w → WritesValues rle w s vs → SpellsValues s x vs
 values_read rle (scalar k o) x w vs r h = scalar_read rle k x w vs r h
 values_read rle (list_of s o) x w vs r h = numbers_at rle Unsigned (map (λ v. size (parts v)) vs) (x.stream 2) w.lengths _ (is_direct rle x w _ r h.others refl) r.found.lengths h.lengths_are
+values_read rle (map_of k v o) x w vs r h = numbers_at rle Unsigned (map (λ m. size (pairs_in m)) vs) (x.stream 2) w.lengths _ (is_direct rle x w _ r h.others refl) r.found.lengths h.lengths_are
 values_read rle (struct_of fs o) x w vs r h = tt
 
 -- a written column spells its cells
@@ -201,6 +202,7 @@ others_taken rle n w v e k = taken n w.encoding (direct rle) (ap (λ (u : Writte
 abbrev kind_number : Shape → ℕ
 kind_number (scalar k o) = number k
 kind_number (list_of s o) = 10
+kind_number (map_of k v o) = 11
 kind_number (struct_of fs o) = 12
 
 scalar_taken : (rle : Rle) (k : Scalar) (w : Written) (vs : List Cell) → WritesScalar rle w k vs → takes_encoding (number k) w.encoding.kind ≡ true
@@ -216,6 +218,7 @@ scalar_taken rle kind.Binary w vs h = others_taken rle (number kind.Binary) w _ 
 column_taken : (rle : Rle) (s : Shape) (vs : List Cell) (w : Written) → WritesValues rle w s vs → takes_encoding (kind_number s) w.encoding.kind ≡ true
 column_taken rle (scalar k o) vs w h = scalar_taken rle k w vs h
 column_taken rle (list_of s o) vs w h = others_taken rle 10 w _ h.others refl
+column_taken rle (map_of k v o) vs w h = others_taken rle 11 w _ h.others refl
 column_taken rle (struct_of fs o) vs w h = others_taken One 12 w _ h refl
 
 -- the kind's number of a type in the list
@@ -240,6 +243,13 @@ mutual
   kinds_are (scalar k o) n (suc c) h = absurd (omega (arith, h))
   kinds_are (list_of s o) n zero h = refl
   kinds_are (list_of s o) n (suc c) h = kinds_are s (n + 1) c (omega (arith, h))
+  kinds_are (map_of k v o) n zero h = refl
+  kinds_are (map_of k v o) n (suc c) h =
+      let l = length-types k (n + 1) in
+      elim (leb_tells (suc c) (width k)) [
+        | inl p ↦ rw p.0 (kind_front (types k (n + 1)) (types v (n + 1 + width k)) c (omega (arith, l, p.1)) ∙ kinds_are k (n + 1) c p.1)
+        | inr p ↦ rw p.0 (kind_back (types k (n + 1)) (types v (n + 1 + width k)) c (omega (arith, l, p.1)) ∙ ap (λ m. kind_at (types v (n + 1 + width k)) (c - m)) l ∙ kinds_are v (n + 1 + width k) (c - width k) (omega (arith, h, p.1)))
+      ]
   kinds_are (struct_of fs o) n zero h = refl
   kinds_are (struct_of fs o) n (suc c) h = kinds_within fs (n + 1) c (omega (arith, h))
 

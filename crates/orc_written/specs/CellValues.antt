@@ -2,7 +2,7 @@
 use Rattle.std.specs.Prelude.{ℕ, ◌-◌, ℤ, pos, negsuc, nat_lt, if◌then◌else◌, Bool, Option, Some, None, List, length, option_map}
 use Rattle.std.specs.List.{flat_map}
 use Rattle.std.specs.Option.{option_to_list}
-use Rattle.orc_types.specs.Cells.{Cell, null, leaf, list, struct, bool, int, date, text, bytes, list_of_cells}
+use Rattle.orc_types.specs.Cells.{Cell, null, leaf, list, struct, pairs, bool, int, date, text, bytes, list_of_cells, list_of_pairs}
 use Rattle.orc_stats.specs.Statistics.{bool_of}
 
 -- a whole number, or a date's day
@@ -15,6 +15,7 @@ int_in (leaf (text t)) = None
 int_in (leaf (bytes t)) = None
 int_in (list cs) = None
 int_in (struct cs) = None
+int_in (pairs ps) = None
 
 -- the byte that stands for a number of 8 bits and a sign
 abbrev pub byte_of : ℤ → ℕ
@@ -31,13 +32,15 @@ bytes_in (leaf (text t)) = Some t
 bytes_in (leaf (bytes t)) = Some t
 bytes_in (list cs) = None
 bytes_in (struct cs) = None
+bytes_in (pairs ps) = None
 
--- how many elements or fields a cell has that is not null
+-- how many elements, fields or pairs a cell has that is not null
 abbrev pub size_in : Cell → Option ℕ
 size_in null = None
 size_in (leaf a) = Some 0
 size_in (list cs) = Some (length (list_of_cells cs))
 size_in (struct cs) = Some (length (list_of_cells cs))
+size_in (pairs ps) = Some (length (list_of_pairs ps))
 
 abbrev pub bools_in : List Cell → List Bool
 bools_in cs = flat_map (λ c. option_to_list (bool_of c)) cs

@@ -1,8 +1,8 @@
 -- The groups of rows that row indexes tell of, and the cells that each column has of them (ORC specification,
 -- "Row Group Index").
 use Rattle.std.specs.Prelude.{◌≡◌, ℕ, ◌+◌, ◌*◌, ◌/◌, ◌%◌, ◌<◌, min, List, length, map, take}
-use Rattle.std.specs.List.{range_with_len}
-use Rattle.orc_types.specs.Cells.{Cell}
+use Rattle.std.specs.List.{range_with_len, flat_map}
+use Rattle.orc_types.specs.Cells.{Cell, keys_in, values_in, values}
 use Rattle.orc_types.specs.Columns.{cells, cells_within}
 use Rattle.orc_types.specs.Shapes.{Shape, Fields, width, widths}
 
@@ -30,6 +30,12 @@ bounds_within fs c structs firsts = map (λ start. length (cells_within fs c (ta
 abbrev pub AreGroupsFrom : Shape → List Cell → List ℕ → ℕ → Shape → List Cell → List ℕ → Type 0
 AreGroupsFrom s rows firsts c t column bounds =
     (d : ℕ) → d < width t → bounds_of s (c + d) rows firsts ≡ bounds_of t d column bounds
+
+-- the same of the keys of maps, and behind them of their values
+abbrev pub ArePairGroupsFrom : Shape → List Cell → List ℕ → ℕ → Shape → Shape → List Cell → List ℕ → Type 0
+ArePairGroupsFrom s rows firsts c k v maps bounds =
+    AreGroupsFrom s rows firsts c k (flat_map keys_in (values maps)) bounds
+    × AreGroupsFrom s rows firsts (c + width k) v (flat_map values_in (values maps)) bounds
 
 -- the same of the fields of structs
 abbrev pub AreFieldGroupsFrom : Shape → List Cell → List ℕ → ℕ → Fields → List (List Cell) → List ℕ → Type 0

@@ -4,7 +4,7 @@ use Rattle.std.specs.Prelude.{◌≡◌, ℕ, zero, suc, ◌+◌, ◌<◌, Some,
 use Rattle.std.specs.List.{flat_map}
 use Rattle.orc_wire.specs.declared.stripe_footer.StreamMsg.{StreamMsg}
 use Rattle.orc_wire.specs.declared.stripe_footer.StripeFooter.{StripeFooter}
-use Rattle.orc_types.specs.Cells.{Cell}
+use Rattle.orc_types.specs.Cells.{Cell, keys_in, values_in, values}
 use Rattle.orc_types.specs.Columns.{cells, cells_within}
 use Rattle.orc_types.specs.Shapes.{Shape, Fields, width, widths, shape_at, shape_within}
 use Rattle.orc_columns.specs.Starting.{AreStreams}
@@ -80,6 +80,12 @@ SpellColumn streams c t column =
 -- those of the columns from number c on spell the cells of t's
 abbrev pub SpellFrom : List ColumnStreams → ℕ → Shape → List Cell → Type 0
 SpellFrom streams c t column = (d : ℕ) → d < width t → SpellColumn streams (c + d) (shape_at t d) (cells t d column)
+
+-- the same of the keys of maps, and behind them of their values
+abbrev pub SpellPairsFrom : List ColumnStreams → ℕ → Shape → Shape → List Cell → Type 0
+SpellPairsFrom streams c k v maps =
+    SpellFrom streams c k (flat_map keys_in (values maps))
+    × SpellFrom streams (c + width k) v (flat_map values_in (values maps))
 
 -- the same of the fields of structs
 abbrev pub SpellFieldsFrom : List ColumnStreams → ℕ → Fields → List (List Cell) → Type 0

@@ -10,8 +10,8 @@ use Rattle.orc_rle.specs.BitStream.{IsBitText}
 use Rattle.orc_wire.specs.declared.encoding.Encoding.{Encoding}
 use Rattle.orc_types.specs.declared.kind.Scalar.{Scalar}
 use Rattle.orc_types.specs.declared.kind.Scalar.TheVariants as kind
-use Rattle.orc_types.specs.Shapes.{Shape, scalar, list_of, struct_of}
-use Rattle.orc_types.specs.Cells.{Cell, is_value, parts, values}
+use Rattle.orc_types.specs.Shapes.{Shape, scalar, list_of, map_of, struct_of}
+use Rattle.orc_types.specs.Cells.{Cell, is_value, parts, pairs_in, values}
 use Rattle.orc_columns.specs.Spellings.{Standing, size, joined}
 use Rattle.orc_columns.specs.Columns.{IsBool, IsByte, IsInt, IsDate, IsText, IsBinary}
 use Rattle.orc_written.specs.WordList.{AreDistinct, AreNamed, is_worth}
@@ -100,10 +100,11 @@ WritesScalar rle w kind.Date vs = Standing IsDate (HasNumbers rle w) vs
 WritesScalar rle w kind.String vs = Standing IsText (HasTexts rle w) vs
 WritesScalar rle w kind.Binary vs = Standing IsBinary (HasGroups rle w) vs
 
--- the streams beside PRESENT are those of the values: of lists their lengths, of structs none
+-- the streams beside PRESENT are those of the values: of lists and maps their lengths, of structs none
 abbrev pub WritesValues : Rle → Written → Shape → List Cell → Type 0
 WritesValues rle w (scalar k o) vs = WritesScalar rle w k vs
 WritesValues rle w (list_of s o) vs = HasSizes rle w (map (λ v. size (parts v)) vs)
+WritesValues rle w (map_of k v o) vs = HasSizes rle w (map (λ m. size (pairs_in m)) vs)
 WritesValues rle w (struct_of fs o) vs = HasNothing w
 
 -- what is written of a column's cells

@@ -1,11 +1,11 @@
 //! The cells of the columns right below a column (ORC specification, "Column Encodings").
-ghost use Rattle.std.specs.Prelude.{◌≡◌, ◌++◌, IfOk, OnOk, take, drop, option_map, slice_get};
+ghost use Rattle.std.specs.Prelude.{◌≡◌, ◌++◌, IfOk, OnOk, map, take, drop, option_map, slice_get};
 ghost use Rattle.std.specs.List.{flat_map};
-ghost use Rattle.orc_types.specs.Cells.{parts};
+ghost use Rattle.orc_types.specs.Cells.{parts, keys_in, values_in};
 ghost use Rattle.orc_types.specs.Lent.{lent_cells};
-ghost use Rattle.orc_types.specs.Views.{view, views};
+ghost use Rattle.orc_types.specs.Views.{paired, view, views};
 
-use orc_types::{Lent, Row, parts_of};
+use orc_types::{Lent, MapPair, Row, pairs_of, parts_of};
 use std::alloc::{AllocError, Global};
 
 /// Adds each of the rows at the end.
@@ -79,6 +79,62 @@ pub(crate) fn fields_of<'r, 'a>(
     let mut found = Vec::new(alloc);
     for row in structs {
         lend_field(&mut found, row.0, place)?;
+    }
+    Ok(found)
+}
+
+/// Adds the key of each pair at the end.
+fn lend_keys<'r, 'a>(
+    found: &mut Vec<Lent<'r, 'a>>,
+    pairs: &'r [MapPair<'a>],
+) -> Result<(), AllocError>
+    ensures { OnOk result
+        (lent_cells found.new.items ≡ lent_cells found.old.items ++ map (λ p. p.0) (map paired pairs.now)) }
+{
+    for pair in pairs {
+        found.push(Lent(&pair.key))?;
+    }
+    Ok(())
+}
+
+/// Adds the value of each pair at the end.
+fn lend_values<'r, 'a>(
+    found: &mut Vec<Lent<'r, 'a>>,
+    pairs: &'r [MapPair<'a>],
+) -> Result<(), AllocError>
+    ensures { OnOk result
+        (lent_cells found.new.items ≡ lent_cells found.old.items ++ map (λ p. p.1) (map paired pairs.now)) }
+{
+    for pair in pairs {
+        found.push(Lent(&pair.value))?;
+    }
+    Ok(())
+}
+
+/// The keys of the maps that are not null, joined in order.
+pub(crate) fn keys_of<'r, 'a>(
+    alloc: Global,
+    maps: &[Lent<'r, 'a>],
+) -> Result<Vec<Lent<'r, 'a>>, AllocError>
+    ensures { IfOk result (λ found. lent_cells found.items ≡ flat_map keys_in (lent_cells maps.now)) }
+{
+    let mut found = Vec::new(alloc);
+    for row in maps {
+        lend_keys(&mut found, pairs_of(row.0))?;
+    }
+    Ok(found)
+}
+
+/// The values of the maps that are not null, joined in order.
+pub(crate) fn map_values_of<'r, 'a>(
+    alloc: Global,
+    maps: &[Lent<'r, 'a>],
+) -> Result<Vec<Lent<'r, 'a>>, AllocError>
+    ensures { IfOk result (λ found. lent_cells found.items ≡ flat_map values_in (lent_cells maps.now)) }
+{
+    let mut found = Vec::new(alloc);
+    for row in maps {
+        lend_values(&mut found, pairs_of(row.0))?;
     }
     Ok(found)
 }

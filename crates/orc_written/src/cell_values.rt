@@ -198,19 +198,20 @@ pub(crate) fn append_byte_strings(
     Ok(())
 }
 
-/// How many elements a list has, or fields a struct.
+/// How many elements a list has, or fields a struct, or pairs a map.
 fn size_of(row: &Row<'_>) -> Option<usize>
     ensures { result ≡ size_in (view row.now) }
 {
     match row {
         Some(Value::List(items)) => Some(items.len()),
         Some(Value::Struct(items)) => Some(items.len()),
+        Some(Value::Map(pairs)) => Some(pairs.len()),
         Some(_) => Some(0),
         None => None,
     }
 }
 
-/// How many elements each list has that is not null.
+/// How many elements each list has, or pairs each map, that is not null.
 pub(crate) fn sizes_of(alloc: Global, cells: &[Lent<'_, '_>]) -> Result<Vec<i64>, AllocError>
     ensures sizes { IfOk result (λ found. found.items ≡ sizes_in (lent_cells cells.now)) }
     ensures in_range { IfOk result (λ found. AllInRange Unsigned found.items) }

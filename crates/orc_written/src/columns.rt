@@ -10,9 +10,9 @@ ghost use Rattle.orc_stats.specs.Kinds.{kind_of};
 ghost use Rattle.orc_stats.specs.Statistics.{stat};
 ghost use Rattle.orc_columns.specs.Stripe.{cell_limit};
 ghost use Rattle.orc_written.specs.WrittenStripe.{AreFew};
-ghost use Rattle.orc_written.specs.Subtrees.{AreColumnsFrom, AreFieldsFrom, FieldsFit, FieldsAreFew, HasWritten};
+ghost use Rattle.orc_written.specs.Subtrees.{AreColumnsFrom, ArePairsFrom, AreFieldsFrom, PairsFit, FieldsFit, PairsAreFew, FieldsAreFew, HasWritten};
 
-use crate::below::{elements_of, fields_of};
+use crate::below::{elements_of, fields_of, keys_of, map_values_of};
 use crate::body::Body;
 use crate::put_column::put_cells;
 use orc_rle::Rle;
@@ -88,8 +88,32 @@ pub(crate) fn put_columns(
             let elements = elements_of(alloc, cells)?;
             put_columns(alloc, rle, element, &elements, out)
         }
+        Tree::Map(key, value, _) => put_pairs(alloc, rle, key, value, cells, out),
         Tree::Struct(fields, _) => put_fields(alloc, rle, fields, cells, out),
     }
+}
+
+/// Adds the columns of the maps' keys and of their values, and all that are below them.
+#[cycle(columns)]
+fn put_pairs(
+    alloc: Global,
+    rle: Rle,
+    key: &Tree,
+    value: &Tree,
+    maps: &[Lent<'_, '_>],
+    out: &mut Columns,
+) -> Result<(), AllocError>
+    requires fit { PairsFit (shape key.now) (shape value.now) (lent_cells maps.now) }
+    requires few { PairsAreFew (shape key.now) (shape value.now) (lent_cells maps.now) }
+    ensures { OnOk result ((s : Shape) (rows : List Cell) (c : ℕ)
+        → ArePairsFrom s rows c (shape key.now) (shape value.now) (lent_cells maps.now)
+        → HasWritten rle s rows c out.old
+        → HasWritten rle s rows (c + (width (shape key.now) + width (shape value.now))) out.new) }
+{
+    let keys = keys_of(alloc, maps)?;
+    put_columns(alloc, rle, key, &keys, out)?;
+    let map_values = map_values_of(alloc, maps)?;
+    put_columns(alloc, rle, value, &map_values, out)
 }
 
 /// Adds the columns of the structs' fields, and all that are below them.

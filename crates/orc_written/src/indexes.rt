@@ -1,7 +1,8 @@
 //! The row indexes of columns: each before those below it, from the streams that were written.
 ghost use Rattle.std.specs.Prelude.{◌≡◌, ◌+◌, ◌<◌, ℕ, true, Some, List, map, length, slice_get, IfOk, OnOk};
+ghost use Rattle.std.specs.List.{flat_map};
 ghost use Rattle.orc_types.specs.Shapes.{Shape, width, widths};
-ghost use Rattle.orc_types.specs.Cells.{Cell, parts, values};
+ghost use Rattle.orc_types.specs.Cells.{Cell, parts, pairs_in, values};
 ghost use Rattle.orc_types.specs.Fits.{RowsFit};
 ghost use Rattle.orc_types.specs.Views.{shape, fields as fields_view};
 ghost use Rattle.orc_types.specs.Lent.{lent_cells};
@@ -10,16 +11,16 @@ ghost use Rattle.orc_columns.specs.Starting.{AreStreams};
 ghost use Rattle.orc_columns.specs.Stripe.{Streams, IsColumn};
 ghost use Rattle.orc_index.specs.Bounds.{AreBounds};
 ghost use Rattle.orc_index.specs.RowIndex.{IsWrittenIndex};
-ghost use Rattle.orc_written.specs.Groups.{starts, AreGroupsFrom, AreFieldGroupsFrom};
-ghost use Rattle.orc_written.specs.Indexes.{AddsIndex, AreAllStreams, AreAsWritten, HaveIndexes, SpellFrom, SpellFieldsFrom};
-ghost use Rattle.orc_written.specs.Subtrees.{AreColumnsFrom, AreFieldsFrom, FieldsFit};
+ghost use Rattle.orc_written.specs.Groups.{starts, AreGroupsFrom, ArePairGroupsFrom, AreFieldGroupsFrom};
+ghost use Rattle.orc_written.specs.Indexes.{AddsIndex, AreAllStreams, AreAsWritten, HaveIndexes, SpellFrom, SpellPairsFrom, SpellFieldsFrom};
+ghost use Rattle.orc_written.specs.Subtrees.{AreColumnsFrom, ArePairsFrom, AreFieldsFrom, PairsFit, FieldsFit};
 ghost use Rattle.orc_written.specs.WrittenColumn.{Written};
 
-use crate::below::{elements_of, fields_of};
+use crate::below::{elements_of, fields_of, keys_of, map_values_of};
 use crate::body::Body;
 use orc_columns::located::locate;
 use orc_columns::starting::{ColumnStreams, streams_of};
-use orc_index::{element_bounds, field_bounds, put_index};
+use orc_index::{element_bounds, field_bounds, pair_bounds, put_index};
 use orc_types::{Field, Lent, Tree};
 use orc_wire::{StreamMsg, StripeFooter};
 use std::alloc::{AllocError, Global};
@@ -127,11 +128,46 @@ pub(crate) fn put_indexes(
             let below = element_bounds(alloc, cells, bounds)?;
             put_indexes(alloc, element, streams, &elements, &below, out)
         }
+        Tree::Map(key, value, _) => {
+            let below = pair_bounds(alloc, cells, bounds)?;
+            put_pair_indexes(alloc, key, value, streams, cells, &below, out)
+        }
         Tree::Struct(fields, _) => {
             let below = field_bounds(alloc, cells, bounds)?;
             put_field_indexes(alloc, fields, streams, cells, &below, out)
         }
     }
+}
+
+/// Adds the indexes of the columns of the maps' keys and of their values, and of all that are below them. A bound
+/// says how many pairs come before a group.
+#[cycle(indexes)]
+fn put_pair_indexes(
+    alloc: Global,
+    key: &Tree,
+    value: &Tree,
+    streams: &[ColumnStreams<'_>],
+    maps: &[Lent<'_, '_>],
+    bounds: &[usize],
+    out: &mut Body,
+) -> Result<(), AllocError>
+    requires fit { PairsFit (shape key.now) (shape value.now) (lent_cells maps.now) }
+    requires spelled { SpellPairsFrom streams.now (length out.old.directory.items) (shape key.now) (shape value.now)
+        (lent_cells maps.now) }
+    requires bounds { AreBounds (length (flat_map pairs_in (values (lent_cells maps.now)))) bounds.now }
+    ensures counted { OnOk result (length out.new.directory.items
+        ≡ length out.old.directory.items + (width (shape key.now) + width (shape value.now))) }
+    ensures indexes { OnOk result ((s : Shape) (rows : List Cell) (firsts : List ℕ) (columns : List Written) (c : ℕ)
+        → AreAsWritten columns streams.now
+        → ArePairsFrom s rows c (shape key.now) (shape value.now) (lent_cells maps.now)
+        → ArePairGroupsFrom s rows firsts c (shape key.now) (shape value.now) (lent_cells maps.now) bounds.now
+        → HaveIndexes s rows firsts columns c out.old
+        → HaveIndexes s rows firsts columns (c + (width (shape key.now) + width (shape value.now))) out.new) }
+{
+    let keys = keys_of(alloc, maps)?;
+    put_indexes(alloc, key, streams, &keys, bounds, out)?;
+    let map_values = map_values_of(alloc, maps)?;
+    put_indexes(alloc, value, streams, &map_values, bounds, out)
 }
 
 /// Adds the indexes of the columns of the structs' fields, and of all that are below them. A bound says how many of

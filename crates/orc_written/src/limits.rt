@@ -4,11 +4,11 @@ ghost use Rattle.std.specs.Bool.{OnTrue, OnFalse};
 ghost use Rattle.orc_types.specs.Cells.{parts, values};
 ghost use Rattle.orc_types.specs.Lent.{lent_cells};
 ghost use Rattle.orc_types.specs.Views.{views, shape, fields as fields_view};
-ghost use Rattle.orc_written.specs.Subtrees.{FieldsAreFew};
+ghost use Rattle.orc_written.specs.Subtrees.{PairsAreFew, FieldsAreFew};
 ghost use Rattle.orc_written.specs.WrittenStripe.{AreFew};
 ghost use Rattle.orc_columns.specs.declared.fault.StripeFault.TheVariants.{OutOfMemory};
 
-use crate::below::{elements_of, fields_of, lent_rows};
+use crate::below::{elements_of, fields_of, keys_of, lent_rows, map_values_of};
 use orc_columns::fault::StripeFault;
 use orc_types::{Field, Lent, Row, Schema, Tree};
 use std::alloc::{AllocError, Global};
@@ -28,8 +28,30 @@ fn columns_are_few(alloc: Global, tree: &Tree, cells: &[Lent<'_, '_>]) -> Result
             let elements = elements_of(alloc, cells)?;
             columns_are_few(alloc, element, &elements)
         }
+        Tree::Map(key, value, _) => pairs_are_few(alloc, key, value, cells),
         Tree::Struct(fields, _) => fields_are_few(alloc, fields, cells),
     }
+}
+
+/// The same of the columns of the maps' keys and of their values.
+#[cycle(limits)]
+fn pairs_are_few(
+    alloc: Global,
+    key: &Tree,
+    value: &Tree,
+    maps: &[Lent<'_, '_>],
+) -> Result<bool, AllocError>
+    ensures yes { IfOk result
+        (λ few. OnTrue few (PairsAreFew (shape key.now) (shape value.now) (lent_cells maps.now))) }
+    ensures no { IfOk result
+        (λ few. OnFalse few (PairsAreFew (shape key.now) (shape value.now) (lent_cells maps.now) → ⊥)) }
+{
+    let keys = keys_of(alloc, maps)?;
+    if !columns_are_few(alloc, key, &keys)? {
+        return Ok(false);
+    }
+    let map_values = map_values_of(alloc, maps)?;
+    columns_are_few(alloc, value, &map_values)
 }
 
 /// The same of the columns of the structs' fields.

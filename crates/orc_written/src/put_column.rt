@@ -197,7 +197,7 @@ fn put_texts(
     }
 }
 
-/// Adds the lengths of lists.
+/// Adds the lengths of lists, or how many pairs maps have.
 fn put_sizes(
     alloc: Global,
     rle: Rle,
@@ -260,6 +260,7 @@ fn put_values(
     match tree {
         Tree::Scalar(kind, _) => put_scalars(alloc, rle, *kind, column, cells, body),
         Tree::List(_, _) => put_sizes(alloc, rle, column, cells, body),
+        Tree::Map(_, _, _) => put_sizes(alloc, rle, column, cells, body),
         Tree::Struct(_, _) => Ok(plain()),
     }
 }

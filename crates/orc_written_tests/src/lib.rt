@@ -7,6 +7,8 @@ mod from_groups;
 #[cfg(test)]
 mod indexes;
 #[cfg(test)]
+mod maps;
+#[cfg(test)]
 mod positions;
 #[cfg(test)]
 mod writing;

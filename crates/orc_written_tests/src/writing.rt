@@ -15,7 +15,7 @@ use std::process::Abort;
 
 /// The text of a schema, the version of run lengths, the lines of rows; and the streams and the footer
 /// of their stripe.
-type Case = (
+pub(crate) type Case = (
     &'static str,
     Rle,
     &'static [&'static str],
@@ -349,7 +349,7 @@ pub(crate) fn check_lines(
 
 /// The stripe has these streams and this footer, and its rows print as the lines that it was made of, in
 /// either version.
-fn check_case(rt: &impl Abort, alloc: Global, case: &Case) -> Result<(), StripeFault> {
+pub(crate) fn check_case(rt: &impl Abort, alloc: Global, case: &Case) -> Result<(), StripeFault> {
     let (text, rle, lines, data, footer) = case;
     let Ok(schema) = Schema::parse(alloc, text) else {
         return Err(StripeFault::OutOfMemory);

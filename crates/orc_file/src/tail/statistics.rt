@@ -12,12 +12,19 @@ use orc_types::{Scalar, Schema};
 use orc_wire::{ColumnStats, Items, StripeStatistics, TypeMsg};
 use std::alloc::Global;
 
+/// The number of kind LIST in a list of types.
+const LIST: u32 = 10;
+
+/// That of kind MAP.
+const MAP: u32 = 11;
+
 /// What is counted of a column of this type.
 fn kind_of_type(type_of: &TypeMsg) -> StatKind
     ensures { result ≡ kind_of_number type_of.now.kind }
 {
     match Scalar::from_number(type_of.kind) {
         Some(kind) => StatKind::of_scalar(kind),
+        None if type_of.kind == LIST || type_of.kind == MAP => StatKind::Children,
         None => StatKind::Plain,
     }
 }

@@ -1,13 +1,13 @@
 //! How many cells the columns of some rows have.
-ghost use Rattle.std.specs.Prelude.{◌≡◌, ◌+◌, ◌≤◌, ◌<◌, ◌^◌, ◌∷◌, [], true, false, length, replicate, IfOk};
+ghost use Rattle.std.specs.Prelude.{◌≡◌, ◌+◌, ◌≤◌, ◌<◌, ◌^◌, ◌∷◌, [], true, false, length, map, replicate, IfOk};
 ghost use Rattle.std.specs.Bool.{OnTrue, OnFalse};
 ghost use Rattle.orc_types.specs.Shapes.{width, widths};
 ghost use Rattle.orc_types.specs.Cells.{parts};
-ghost use Rattle.orc_types.specs.Views.{view, views, shape, fields as fields_view};
+ghost use Rattle.orc_types.specs.Views.{view, views, paired, shape, fields as fields_view};
 ghost use Rattle.orc_file.specs.Counts.{with_row, are_few};
 ghost use Rattle.orc_file.specs.Counting.{AddsOne, AddsCells, AddsFields};
 
-use orc_types::{Field, Row, Schema, Tree, Value, width_of};
+use orc_types::{Field, MapPair, Row, Schema, Tree, Value, pairs_of, width_of};
 use std::alloc::{AllocError, Global};
 
 /// A column of a stripe has fewer cells than this.
@@ -48,7 +48,35 @@ fn count_cell(tree: &Tree, cell: &Row<'_>, column: usize, counts: &mut Vec<u64>)
                 count_cell(element, part, column + 1, counts);
             }
         }
+        Tree::Map(key, value, _) => {
+            count_keys(key, pairs_of(cell), column + 1, counts);
+            count_values(value, pairs_of(cell), column + 1 + width_of(key), counts);
+        }
         Tree::Struct(fields, _) => count_fields(fields, parts_of(cell), column + 1, counts),
+    }
+}
+
+/// Counts the keys of a map.
+#[cycle(counting)]
+fn count_keys(key: &Tree, pairs: &[MapPair<'_>], column: usize, counts: &mut Vec<u64>)
+    requires { column + width (shape key.now) ≤ length counts.old.items }
+    ensures { AddsCells (shape key.now) column (map (λ p. p.0) (map paired pairs.now))
+        counts.old.items counts.new.items }
+{
+    for pair in pairs {
+        count_cell(key, &pair.key, column, counts);
+    }
+}
+
+/// Counts the values of a map.
+#[cycle(counting)]
+fn count_values(value: &Tree, pairs: &[MapPair<'_>], column: usize, counts: &mut Vec<u64>)
+    requires { column + width (shape value.now) ≤ length counts.old.items }
+    ensures { AddsCells (shape value.now) column (map (λ p. p.1) (map paired pairs.now))
+        counts.old.items counts.new.items }
+{
+    for pair in pairs {
+        count_cell(value, &pair.value, column, counts);
     }
 }
 

@@ -52,6 +52,15 @@ fn copy_stat(alloc: Global, stat: &Stat) -> Result<Stat, AllocError>
             sum: *sum,
         },
         Body::Bins { sum } => Body::Bins { sum: *sum },
+        Body::Children {
+            least,
+            greatest,
+            total,
+        } => Body::Children {
+            least: *least,
+            greatest: *greatest,
+            total: *total,
+        },
     };
     Ok(Stat {
         count: stat.count,

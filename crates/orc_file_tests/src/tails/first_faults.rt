@@ -37,10 +37,10 @@ pub(super) static FAILING: [(&[Change], FileFault, usize); 19] = [
     (&[(48, &[0x1b])], FileFault::BadFooter, 4),
     // field 10 in place of the writer
     (&[(98, &[0x52, 0x00])], FileFault::Encrypted, 4),
-    // the column is a map
+    // the column is a float
     (
-        &[(64, &[0x12, 1, 1, 0x1a, 1, 0x6e, 0x22, 2, 8, 0x0b])],
-        FileFault::BadTypes(TypeFault::UnsupportedKind(11)),
+        &[(64, &[0x12, 1, 1, 0x1a, 1, 0x6e, 0x22, 2, 8, 0x05])],
+        FileFault::BadTypes(TypeFault::UnsupportedKind(5)),
         4,
     ),
     // a struct without fields, and fields 11 in place of the second type

@@ -1,11 +1,11 @@
-//! LIST and STRUCT: nothing beside what every column has.
+//! STRUCT: nothing beside what every column has.
 use crate::fault::StatFault;
 use crate::measures::{Measures, Sizes};
 use crate::stat::Body;
 use orc_types::Value;
 use std::alloc::Global;
 
-/// Of lists and structs: nothing.
+/// Of structs: nothing.
 #[derive(Clone, Copy, Debug)]
 pub struct Plain;
 

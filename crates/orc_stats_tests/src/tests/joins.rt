@@ -102,6 +102,7 @@ fn nothing_of_each_kind(rt: HostRuntime) {
         StatKind::Dates,
         StatKind::Texts,
         StatKind::Bins,
+        StatKind::Children,
     ];
     for kind in kinds {
         let nothing = count_of(0, Some(false));

@@ -12,7 +12,7 @@ struct Spelled {
     again: &'static [u8],
 }
 
-static SPELLED: [Spelled; 7] = [
+static SPELLED: [Spelled; 12] = [
     // six sevens
     Spelled {
         kind: StatKind::Ints,
@@ -103,6 +103,71 @@ static SPELLED: [Spelled; 7] = [
             total: Some(5),
         },
         again: b"\x08\x01\x42\x02\x08\x0a",
+    },
+    // four lists, of none to two children, five together
+    Spelled {
+        kind: StatKind::Children,
+        bytes: b"\x08\x04\x50\x01\x62\x06\x08\x00\x10\x02\x18\x05",
+        said: Said {
+            count: 4,
+            nulls: Some(true),
+            least: Some(0),
+            greatest: Some(2),
+            total: Some(5),
+        },
+        again: b"\x08\x04\x50\x01\x62\x06\x08\x00\x10\x02\x18\x05",
+    },
+    // the same as written without the record
+    Spelled {
+        kind: StatKind::Children,
+        bytes: b"\x08\x04\x50\x01",
+        said: Said {
+            count: 4,
+            nulls: Some(true),
+            least: None,
+            greatest: None,
+            total: None,
+        },
+        again: b"\x08\x04\x50\x01",
+    },
+    // with an empty record
+    Spelled {
+        kind: StatKind::Children,
+        bytes: b"\x08\x04\x50\x01\x62\x00",
+        said: Said {
+            count: 4,
+            nulls: Some(true),
+            least: None,
+            greatest: None,
+            total: None,
+        },
+        again: b"\x08\x04\x50\x01",
+    },
+    // of no lists
+    Spelled {
+        kind: StatKind::Children,
+        bytes: b"\x08\x00\x62\x02\x18\x05",
+        said: Said {
+            count: 0,
+            nulls: None,
+            least: None,
+            greatest: None,
+            total: None,
+        },
+        again: b"\x08\x00",
+    },
+    // of a column of structs
+    Spelled {
+        kind: StatKind::Plain,
+        bytes: b"\x08\x04\x50\x01\x62\x06\x08\x00\x10\x02\x18\x05",
+        said: Said {
+            count: 4,
+            nulls: Some(true),
+            least: None,
+            greatest: None,
+            total: None,
+        },
+        again: b"\x08\x04\x50\x01",
     },
 ];
 

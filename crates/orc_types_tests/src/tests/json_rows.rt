@@ -98,6 +98,129 @@ static NESTED_ROWS: [Case; 18] = [
     ),
 ];
 
+static MAP_ROWS: [Case; 24] = [
+    (
+        "struct<m:map<string,int>>",
+        r#"{"m":[["a",1],["b",null]]}"#,
+        Ok(r#"{"m":[["a",1],["b",null]]}"#),
+    ),
+    (
+        "struct<m:map<string,int>>",
+        r#"{"m":null}"#,
+        Ok(r#"{"m":null}"#),
+    ),
+    (
+        "struct<m:map<string,int>>",
+        r#"{"m":[]}"#,
+        Ok(r#"{"m":[]}"#),
+    ),
+    (
+        "struct<m:map<string,int>>",
+        r#"{"m":[["b",1],["a",2],["b",3],["b",3]]}"#,
+        Ok(r#"{"m":[["b",1],["a",2],["b",3],["b",3]]}"#),
+    ),
+    (
+        "struct<m:map<string,int>>",
+        r#"{"m":[[null,1],[null,null]]}"#,
+        Ok(r#"{"m":[[null,1],[null,null]]}"#),
+    ),
+    (
+        "struct<m:map<string,int>>",
+        r#"{"m":[["a"]]}"#,
+        Err(WrongShape),
+    ),
+    (
+        "struct<m:map<string,int>>",
+        r#"{"m":[["a",1,2]]}"#,
+        Err(WrongShape),
+    ),
+    (
+        "struct<m:map<string,int>>",
+        r#"{"m":{"a":1}}"#,
+        Err(WrongShape),
+    ),
+    (
+        "struct<m:map<string,int>>",
+        r#"{"m":["a",1]}"#,
+        Err(WrongShape),
+    ),
+    (
+        "struct<m:map<string,int>>",
+        r#"{"m":[[]]}"#,
+        Err(WrongShape),
+    ),
+    (
+        "struct<m:map<string,int>>",
+        r#"{"m":[null]}"#,
+        Err(WrongShape),
+    ),
+    (
+        "struct<m:map<string,int>>",
+        r#"{"m":[{"a":1}]}"#,
+        Err(WrongShape),
+    ),
+    (
+        "struct<m:map<string,int>>",
+        r#"{"m":[[1,"a"]]}"#,
+        Err(WrongShape),
+    ),
+    (
+        "struct<m:map<string,int>>",
+        r#"{"m":[["a",1],["b",2147483648]]}"#,
+        Err(Range),
+    ),
+    (
+        "struct<m:map<map<int,date>,map<int,int>>>",
+        r#"{"m":[[[[1,3],[1,"1970-01-02"]],[[4,5]]],[null,[]],[[],null]]}"#,
+        Ok(r#"{"m":[[[[1,"1970-01-04"],[1,"1970-01-02"]],[[4,5]]],[null,[]],[[],null]]}"#),
+    ),
+    (
+        "struct<m:map<array<int>,array<map<int,int>>>>",
+        r#"{"m":[[[1,2],[[[3,4]],null,[]]]]}"#,
+        Ok(r#"{"m":[[[1,2],[[[3,4]],null,[]]]]}"#),
+    ),
+    (
+        "struct<m:map<struct<k:int>,struct<b:int,a:int>>>",
+        r#"{"m":[[{"k":1},{"b":2,"a":3}],[{},null]]}"#,
+        Ok(r#"{"m":[[{"k":1},{"a":3,"b":2}],[{"k":null},null]]}"#),
+    ),
+    (
+        "struct<m:map<struct<k:int>,int>>",
+        r#"{"m":[[{"l":1},2]]}"#,
+        Err(UnknownField),
+    ),
+    (
+        "struct<m:map<int,struct<v:binary>>>",
+        r#"{"m":[[1,{"v":"0g"}]]}"#,
+        Err(JsonFault::BadHex),
+    ),
+    (
+        "struct<m:map<date,int>>",
+        r#"{"m":[["x",1]]}"#,
+        Err(JsonFault::BadDate),
+    ),
+    (
+        "struct<m:map<int,map<int,int>>>",
+        r#"{"m":[[1,[[2]]]]}"#,
+        Err(WrongShape),
+    ),
+    (
+        "struct<m:map<int,struct<a:int,a:int>>>",
+        "null",
+        Err(DuplicateField),
+    ),
+    (
+        "struct<m:map<struct<a:int,a:int>,int>>",
+        "null",
+        Err(DuplicateField),
+    ),
+    (
+        "struct<m:map<struct<a:int>,struct<a:int>>>",
+        r#"{"m":[[{"a":1},{"a":2}]]}"#,
+        Ok(r#"{"m":[[{"a":1},{"a":2}]]}"#),
+    ),
+];
+
 /// The JSON of a row with a value of each kind.
 const KINDS_JSON: &str =
     r#"{"a":[8,9],"b":true,"d":"1970-01-04","i":3,"l":4,"s":2,"t":"x","v":"78","y":1}"#;
@@ -158,6 +281,7 @@ fn json_rows(rt: HostRuntime) {
     let alloc = rt.alloc();
     check_cases(&rt, alloc, &LEAF_ROWS);
     check_cases(&rt, alloc, &NESTED_ROWS);
+    check_cases(&rt, alloc, &MAP_ROWS);
 }
 
 /// Whether the row fits, and is printed as the text.

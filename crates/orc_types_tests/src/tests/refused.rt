@@ -5,7 +5,7 @@ ghost use Rattle.orc_types.specs.Schemas.{AllKept};
 use super::*;
 
 /// Types that are no schema's, and why.
-static REFUSED: [(&'static [Listed], TypeFault); 22] = [
+static REFUSED: [(&'static [Listed], TypeFault); 29] = [
     (&[], TypeFault::RootNotStruct),
     (&[(1, &[], &[])], TypeFault::RootNotStruct),
     (&[(10, &[1], &[]), (3, &[], &[])], TypeFault::RootNotStruct),
@@ -15,12 +15,12 @@ static REFUSED: [(&'static [Listed], TypeFault); 22] = [
     ),
     (
         &[
-            (12, &[1], &[b"m"]),
-            (11, &[2, 3], &[]),
+            (12, &[1], &[b"u"]),
+            (13, &[2, 3], &[]),
             (3, &[], &[]),
             (3, &[], &[]),
         ],
-        TypeFault::UnsupportedKind(11),
+        TypeFault::UnsupportedKind(13),
     ),
     (
         &[(12, &[1], &[b"x"]), (18, &[], &[])],
@@ -42,6 +42,53 @@ static REFUSED: [(&'static [Listed], TypeFault); 22] = [
     ),
     (
         &[(12, &[1], &[b"a"]), (10, &[0], &[]), (3, &[], &[])],
+        TypeFault::BadTree,
+    ),
+    (
+        &[(12, &[1], &[b"m"]), (11, &[2], &[]), (3, &[], &[])],
+        TypeFault::BadTree,
+    ),
+    (
+        &[
+            (12, &[1], &[b"m"]),
+            (11, &[2, 3, 4], &[]),
+            (3, &[], &[]),
+            (3, &[], &[]),
+            (3, &[], &[]),
+        ],
+        TypeFault::BadTree,
+    ),
+    (
+        &[
+            (12, &[1], &[b"m"]),
+            (11, &[2, 3], &[b"k", b"v"]),
+            (3, &[], &[]),
+            (3, &[], &[]),
+        ],
+        TypeFault::BadTree,
+    ),
+    (&[(12, &[1], &[b"m"]), (11, &[], &[])], TypeFault::BadTree),
+    (
+        &[
+            (12, &[1], &[b"m"]),
+            (11, &[3, 2], &[]),
+            (3, &[], &[]),
+            (3, &[], &[]),
+        ],
+        TypeFault::BadTree,
+    ),
+    (
+        &[
+            (12, &[1], &[b"m"]),
+            (11, &[2, 3], &[]),
+            (10, &[3], &[]),
+            (3, &[], &[]),
+            (3, &[], &[]),
+        ],
+        TypeFault::BadTree,
+    ),
+    (
+        &[(12, &[1], &[b"m"]), (11, &[2, 3], &[]), (3, &[], &[])],
         TypeFault::BadTree,
     ),
     (&[(12, &[0], &[b"a"]), (3, &[], &[])], TypeFault::BadTree),
@@ -98,6 +145,23 @@ fn nested_lists(alloc: Global, lists: u32) -> Result<Vec<TypeMsg>, AllocError>
     ensures { IfOk result (λ types. AllKept types.items) }
 {
     let mut types = open_lists(alloc, lists)?;
+    types.push(type_msg(alloc, &(0, &[], &[]))?)?;
+    Ok(types)
+}
+
+/// A struct of maps within maps' values, of that many levels and two, whose keys are numbers.
+fn nested_maps(alloc: Global, maps: u32) -> Result<Vec<TypeMsg>, AllocError>
+    ensures { IfOk result (λ types. AllKept types.items) }
+{
+    let mut types = Vec::new(alloc);
+    types.push(type_msg(alloc, &(12, &[1], &[b"m"]))?)?;
+    for i in 0..maps {
+        let mut map = type_msg(alloc, &(11, &[], &[]))?;
+        let key = i % 2048 * 2 + 2;
+        map.subtypes = Items::from_vec([key, key + 1].to_vec(alloc)?);
+        types.push(map)?;
+        types.push(type_msg(alloc, &(3, &[], &[]))?)?;
+    }
     types.push(type_msg(alloc, &(0, &[], &[]))?)?;
     Ok(types)
 }
@@ -177,6 +241,15 @@ fn nested_comes_to(
     is_answer(count_of(alloc, &types), wanted)
 }
 
+fn maps_come_to(
+    alloc: Global,
+    maps: u32,
+    wanted: Result<usize, TypeFault>,
+) -> Result<bool, TypeFault> {
+    let types = nested_maps(alloc, maps)?;
+    is_answer(count_of(alloc, &types), wanted)
+}
+
 fn open_lists_come_to(
     alloc: Global,
     lists: u32,
@@ -195,11 +268,14 @@ fn wide_comes_to(
     is_answer(count_of(alloc, &types), wanted)
 }
 
-/// 32 levels and 4,096 types are a schema, 33 and 4,097 aren't, and 32 with no type below the last.
+/// 32 levels and 4,096 types are a schema, through lists and through maps, 33 and 4,097 aren't, and 32
+/// with no type below the last.
 fn limits_hold(alloc: Global) -> Result<bool, TypeFault> {
     Ok(
         nested_comes_to(alloc, 30, Ok(32))?
             && nested_comes_to(alloc, 31, Err(TypeFault::TooDeep))?
+            && maps_come_to(alloc, 30, Ok(62))?
+            && maps_come_to(alloc, 31, Err(TypeFault::TooDeep))?
             && open_lists_come_to(alloc, 31, Err(TypeFault::BadTree))?
             && wide_comes_to(alloc, 4095, Ok(4096))?
             && wide_comes_to(alloc, 4096, Err(TypeFault::TooMany))?,

@@ -1,11 +1,12 @@
-//! Rows that fit a schema, the cells of their columns, their parts, and copies of them.
+//! Rows that fit a schema, the cells of their columns, their parts and pairs, and copies of them.
 ghost use Rattle.std.specs.Prelude.{◌<◌};
 ghost use Rattle.orc_types.specs.Shapes.{width};
 
 use super::*;
 use std::borrow::{CowSlice, CowStr};
 
-/// Rows in postfix: a list or a struct is made of so many rows that stand before it.
+/// Rows in postfix: a list or a struct is made of so many rows that stand before it, a map of so many
+/// pairs of them.
 #[derive(Clone, Copy)]
 pub(crate) enum Token {
     Null,
@@ -16,9 +17,10 @@ pub(crate) enum Token {
     Bytes,
     List(usize),
     Struct(usize),
+    Map(usize),
 }
 
-use Token::{Bytes as Blob, Date, Int, List, Null, Struct, Text, Truth};
+use Token::{Bytes as Blob, Date, Int, List, Map, Null, Struct, Text, Truth};
 
 /// A struct of a field of every kind, in the order of their numbers but for DATE.
 pub(crate) const KINDS: [Listed; 11] = [
@@ -109,6 +111,75 @@ const STRUCTS_IN_LISTS_ROWS: [Token; 12] = [
     Struct(1),
 ];
 
+/// A struct of a map of numbers to lists of numbers: `struct<m:map<int,array<int>>>`.
+pub(crate) const MAPS: [Listed; 5] = [
+    (12, &[1], &[b"m"]),
+    (11, &[2, 3], &[]),
+    (3, &[], &[]),
+    (10, &[4], &[]),
+    (3, &[], &[]),
+];
+
+/// A map of 1 to a list, of null to null, and of 1 again to the empty list; a map that is null; an
+/// empty map; a row that is null; a map of 2 to a list of one.
+const MAP_ROWS: [Token; 20] = [
+    Int(1),
+    Int(10),
+    Null,
+    List(2),
+    Null,
+    Null,
+    Int(1),
+    List(0),
+    Map(3),
+    Struct(1),
+    Null,
+    Struct(1),
+    Map(0),
+    Struct(1),
+    Null,
+    Int(2),
+    Int(20),
+    List(1),
+    Map(1),
+    Struct(1),
+];
+
+/// A struct of a map whose keys are maps and whose values are structs of maps:
+/// `struct<m:map<map<int,int>,struct<n:map<int,int>>>>`.
+const MAPS_IN_MAPS: [Listed; 9] = [
+    (12, &[1], &[b"m"]),
+    (11, &[2, 5], &[]),
+    (11, &[3, 4], &[]),
+    (3, &[], &[]),
+    (3, &[], &[]),
+    (12, &[6], &[b"n"]),
+    (11, &[7, 8], &[]),
+    (3, &[], &[]),
+    (3, &[], &[]),
+];
+
+/// A map of a map to a struct of a map of two, of null to a struct of null, and of the empty map to
+/// null.
+const MAPS_IN_MAPS_ROWS: [Token; 16] = [
+    Int(1),
+    Int(2),
+    Map(1),
+    Int(3),
+    Int(4),
+    Int(5),
+    Int(6),
+    Map(2),
+    Struct(1),
+    Null,
+    Null,
+    Struct(1),
+    Map(0),
+    Null,
+    Map(3),
+    Struct(1),
+];
+
 /// A value of each kind.
 pub(crate) const KINDS_ROW: [Token; 12] = [
     Truth,
@@ -128,7 +199,7 @@ pub(crate) const KINDS_ROW: [Token; 12] = [
 /// A schema's types, rows, a column, and its cells.
 type CellCase = (&'static [Listed], &'static [Token], usize, &'static [Token]);
 
-static CELLS: [CellCase; 23] = [
+static CELLS: [CellCase; 32] = [
     (&STRUCTS, &STRUCT_ROWS, 0, &STRUCT_ROWS),
     (&LISTS, &[Null, List(1), List(1), Struct(1)], 3, &[Null]),
     (
@@ -283,10 +354,55 @@ static CELLS: [CellCase; 23] = [
         5,
         &[Int(5)],
     ),
+    (&MAPS, &MAP_ROWS, 0, &MAP_ROWS),
+    (
+        &MAPS,
+        &MAP_ROWS,
+        1,
+        &[
+            Int(1),
+            Int(10),
+            Null,
+            List(2),
+            Null,
+            Null,
+            Int(1),
+            List(0),
+            Map(3),
+            Null,
+            Map(0),
+            Int(2),
+            Int(20),
+            List(1),
+            Map(1),
+        ],
+    ),
+    (&MAPS, &MAP_ROWS, 2, &[Int(1), Null, Int(1), Int(2)]),
+    (
+        &MAPS,
+        &MAP_ROWS,
+        3,
+        &[Int(10), Null, List(2), Null, List(0), Int(20), List(1)],
+    ),
+    (&MAPS, &MAP_ROWS, 4, &[Int(10), Null, Int(20)]),
+    (
+        &MAPS_IN_MAPS,
+        &MAPS_IN_MAPS_ROWS,
+        2,
+        &[Int(1), Int(2), Map(1), Null, Map(0)],
+    ),
+    (&MAPS_IN_MAPS, &MAPS_IN_MAPS_ROWS, 4, &[Int(2)]),
+    (
+        &MAPS_IN_MAPS,
+        &MAPS_IN_MAPS_ROWS,
+        6,
+        &[Int(3), Int(4), Int(5), Int(6), Map(2), Null],
+    ),
+    (&MAPS_IN_MAPS, &MAPS_IN_MAPS_ROWS, 7, &[Int(3), Int(5)]),
 ];
 
 /// Values and the fields of KINDS that they fit.
-static FITTING: [(Token, &'static [usize]); 19] = [
+static FITTING: [(Token, &'static [usize]); 20] = [
     (Null, &[0, 1, 2, 3, 4, 5, 6, 7, 8]),
     (Truth, &[0]),
     (Int(-128), &[1, 2, 3, 4]),
@@ -305,12 +421,13 @@ static FITTING: [(Token, &'static [usize]); 19] = [
     (Text, &[5]),
     (Blob, &[6]),
     (List(0), &[7]),
+    (Map(0), &[]),
     (Date(i32::MIN), &[8]),
 ];
 
 /// A schema's types, a row, and whether it fits: within a list of lists, within an inner struct, of
-/// another shape, and null.
-static SHAPES: [(&'static [Listed], &'static [Token], bool); 12] = [
+/// another shape, null, and within maps.
+static SHAPES: [(&'static [Listed], &'static [Token], bool); 21] = [
     (
         &LISTS,
         &[Int(2147483647), List(1), List(1), Struct(1)],
@@ -335,9 +452,30 @@ static SHAPES: [(&'static [Listed], &'static [Token], bool); 12] = [
     (&KINDS, &[List(0)], false),
     (&KINDS, &[Truth], false),
     (&KINDS, &[Null], true),
+    (&MAPS, &[Int(1), List(0), Map(1), Struct(1)], true),
+    (&MAPS, &[Null, Null, Null, Null, Map(2), Struct(1)], true),
+    (&MAPS, &[Int(2147483648), List(0), Map(1), Struct(1)], false),
+    (
+        &MAPS,
+        &[Int(1), Null, Int(1), Int(1), Map(2), Struct(1)],
+        false,
+    ),
+    (
+        &MAPS,
+        &[Int(1), Int(2147483648), List(1), Map(1), Struct(1)],
+        false,
+    ),
+    (&MAPS, &[Int(1), List(1), Struct(1)], false),
+    (
+        &MAPS,
+        &[Int(1), List(0), Struct(2), List(1), Struct(1)],
+        false,
+    ),
+    (&LISTS, &[Map(0), Struct(1)], false),
+    (&STRUCTS, &[Map(0), Struct(1)], false),
 ];
 
-/// The value of a token that stands for no list and no struct.
+/// The value of a token that stands for no list, no struct and no map.
 fn value_of(token: Token) -> Row<'static> {
     match token {
         Truth => Some(Value::Bool(true)),
@@ -358,6 +496,33 @@ fn take_last(rows: &mut Vec<Row<'static>>, count: usize) -> Result<Vec<Row<'stat
     }
 }
 
+/// Each two of the rows as a key and its value.
+fn pair_up(alloc: Global, rows: Vec<Row<'static>>) -> Result<Vec<MapPair<'static>>, AllocError> {
+    let mut pairs = Vec::new(alloc);
+    let mut key = None;
+    for (i, row) in rows.into_iter().enumerate() {
+        if i % 2 == 0 {
+            key = row;
+        } else {
+            pairs.push(MapPair {
+                key: key.take(),
+                value: row,
+            })?;
+        }
+    }
+    Ok(pairs)
+}
+
+/// The map of so many pairs of the last rows.
+fn take_map(
+    alloc: Global,
+    rows: &mut Vec<Row<'static>>,
+    count: usize,
+) -> Result<Row<'static>, AllocError> {
+    let last = take_last(rows, count % 1024 * 2)?;
+    Ok(Some(Value::Map(pair_up(alloc, last)?)))
+}
+
 /// The rows that stand in postfix.
 pub(crate) fn rows_of(alloc: Global, tokens: &[Token]) -> Result<Vec<Row<'static>>, AllocError> {
     let mut rows = Vec::new(alloc);
@@ -365,6 +530,7 @@ pub(crate) fn rows_of(alloc: Global, tokens: &[Token]) -> Result<Vec<Row<'static
         let row = match *token {
             List(count) => Some(Value::List(take_last(&mut rows, count)?)),
             Struct(count) => Some(Value::Struct(take_last(&mut rows, count)?)),
+            Map(count) => take_map(alloc, &mut rows, count)?,
             plain => value_of(plain),
         };
         rows.push(row)?;
@@ -503,7 +669,7 @@ fn cells_of_columns(rt: HostRuntime) {
 }
 
 /// A row, and how many parts it has: the rows that stand before it.
-static PARTS: [(&[Token], usize); 7] = [
+static PARTS: [(&[Token], usize); 8] = [
     (&[Null], 0),
     (&[Int(7)], 0),
     (&[Text], 0),
@@ -511,6 +677,7 @@ static PARTS: [(&[Token], usize); 7] = [
     (&[Int(1), Null, Int(2), List(3)], 3),
     (&[Struct(0)], 0),
     (&[Truth, Blob, Struct(2)], 2),
+    (&[Int(1), Int(2), Map(1)], 0),
 ];
 
 /// Whether the parts of the row are these.
@@ -549,13 +716,64 @@ fn parts_of_rows(rt: HostRuntime) {
     }
 }
 
-/// Columns of KINDS, and the kinds of their types.
-static COLUMNS: [(usize, Option<Scalar>); 5] = [
-    (0, None),
-    (1, Some(Scalar::Boolean)),
-    (8, None),
-    (9, Some(Scalar::Int)),
-    (10, Some(Scalar::Date)),
+/// A row, and how many pairs it has: each two of the rows that stand before it.
+static PAIRS: [(&[Token], usize); 7] = [
+    (&[Null], 0),
+    (&[Text], 0),
+    (&[Int(1), Int(2), List(2)], 0),
+    (&[Int(1), Int(2), Struct(2)], 0),
+    (&[Map(0)], 0),
+    (&[Int(1), Null, Map(1)], 1),
+    (&[Null, Int(1), Int(2), Text, Int(2), Text, Map(3)], 3),
+];
+
+/// Whether the pairs of the row are each two of these.
+fn has_pairs(row: &Row<'static>, wanted: &[Row<'static>]) -> bool {
+    let pairs = pairs_of(row);
+    if pairs.len() != wanted.len() / 2 {
+        return false;
+    }
+    for (i, pair) in pairs.iter().enumerate() {
+        if pair.key != wanted[2 * i] || pair.value != wanted[2 * i + 1] {
+            return false;
+        }
+    }
+    true
+}
+
+/// Whether the tokens are one row with so many pairs, those before it.
+fn pairs_come_to(alloc: Global, tokens: &[Token], count: usize) -> Result<bool, TypeFault> {
+    let rows = rows_of(alloc, tokens)?;
+    if rows.len() != 1 || tokens.len() / 2 < count {
+        return Ok(false);
+    }
+    let wanted = rows_of(alloc, &tokens[..2 * count])?;
+    Ok(has_pairs(&rows[0], &wanted))
+}
+
+#[test]
+fn pairs_of_rows(rt: HostRuntime) {
+    let alloc = rt.alloc();
+    for (i, &(tokens, count)) in PAIRS.iter().enumerate() {
+        let mut held = pairs_come_to(alloc, tokens, count);
+        if held.is_err() {
+            held = pairs_come_to(alloc, tokens, count);
+        }
+        assert!(rt; matches!(held, Ok(true)), "row {i}");
+    }
+}
+
+/// Columns, and the kinds of their types.
+static COLUMNS: [(&'static [Listed], usize, Option<Scalar>); 9] = [
+    (&KINDS, 0, None),
+    (&KINDS, 1, Some(Scalar::Boolean)),
+    (&KINDS, 8, None),
+    (&KINDS, 9, Some(Scalar::Int)),
+    (&KINDS, 10, Some(Scalar::Date)),
+    (&MAPS, 1, None),
+    (&MAPS, 2, Some(Scalar::Int)),
+    (&MAPS, 3, None),
+    (&MAPS, 4, Some(Scalar::Int)),
 ];
 
 /// The kind of a column's type, where that contains no other.
@@ -568,21 +786,26 @@ fn kind_at(schema: &Schema, column: usize) -> Option<Scalar>
     }
 }
 
-/// Whether the column of `KINDS` has a type of this kind.
-fn has_kind(alloc: Global, column: usize, kind: Option<Scalar>) -> Result<bool, TypeFault> {
-    let schema = schema_of(alloc, &KINDS)?;
+/// Whether the column has a type of this kind.
+fn has_kind(
+    alloc: Global,
+    types: &[Listed],
+    column: usize,
+    kind: Option<Scalar>,
+) -> Result<bool, TypeFault> {
+    let schema = schema_of(alloc, types)?;
     Ok(column < schema.width() && kind_at(&schema, column) == kind)
 }
 
 #[test]
 fn types_of_columns(rt: HostRuntime) {
     let alloc = rt.alloc();
-    for &(column, kind) in &COLUMNS {
-        let mut held = has_kind(alloc, column, kind);
+    for (i, &(types, column, kind)) in COLUMNS.iter().enumerate() {
+        let mut held = has_kind(alloc, types, column, kind);
         if held.is_err() {
-            held = has_kind(alloc, column, kind);
+            held = has_kind(alloc, types, column, kind);
         }
-        assert!(rt; matches!(held, Ok(true)), "of column {column}");
+        assert!(rt; matches!(held, Ok(true)), "row {i}");
     }
 }
 
@@ -603,7 +826,12 @@ fn are_copied(alloc: Global, tokens: &[Token]) -> Result<bool, AllocError> {
 }
 
 fn copies_hold(alloc: Global) -> Result<bool, AllocError> {
-    Ok(are_copied(alloc, &STRUCTS_IN_LISTS_ROWS)? && are_copied(alloc, &KINDS_ROW)?)
+    Ok(
+        are_copied(alloc, &STRUCTS_IN_LISTS_ROWS)?
+            && are_copied(alloc, &KINDS_ROW)?
+            && are_copied(alloc, &MAP_ROWS)?
+            && are_copied(alloc, &MAPS_IN_MAPS_ROWS)?,
+    )
 }
 
 #[test]

@@ -3,7 +3,7 @@ use super::rows::{KINDS, KINDS_TEXT};
 use super::*;
 
 /// Texts of schemas, and the types of each.
-static TEXTS: [(&'static str, &'static [Listed]); 4] = [
+static TEXTS: [(&'static str, &'static [Listed]); 6] = [
     ("struct<>", &[(12, &[], &[])]),
     ("struct<n:bigint>", &[(12, &[1], &[b"n"]), (4, &[], &[])]),
     (
@@ -38,13 +38,37 @@ static TEXTS: [(&'static str, &'static [Listed]); 4] = [
             (8, &[], &[]),
         ],
     ),
+    (
+        "struct<m:map<string,int>>",
+        &[
+            (12, &[1], &[b"m"]),
+            (11, &[2, 3], &[]),
+            (7, &[], &[]),
+            (3, &[], &[]),
+        ],
+    ),
+    (
+        "struct<m:map<map<int,array<string>>,struct<n:map<date,binary>>>>",
+        &[
+            (12, &[1], &[b"m"]),
+            (11, &[2, 6], &[]),
+            (11, &[3, 4], &[]),
+            (3, &[], &[]),
+            (10, &[5], &[]),
+            (7, &[], &[]),
+            (12, &[7], &[b"n"]),
+            (11, &[8, 9], &[]),
+            (15, &[], &[]),
+            (8, &[], &[]),
+        ],
+    ),
 ];
 
 /// A struct of a field whose name no text has.
 static DASHED: [Listed; 2] = [(12, &[1], &[b"a-b"]), (3, &[], &[])];
 
 /// Texts that are no schema's, and why.
-static NO_TEXTS: [(&'static str, TypeFault); 26] = [
+static NO_TEXTS: [(&'static str, TypeFault); 33] = [
     ("", TypeFault::BadText(0)),
     (" struct<>", TypeFault::BadText(0)),
     ("Int", TypeFault::BadText(0)),
@@ -68,9 +92,16 @@ static NO_TEXTS: [(&'static str, TypeFault); 26] = [
     ("struct<a:array<>>", TypeFault::BadText(15)),
     ("struct<a:array<int>", TypeFault::BadText(19)),
     ("struct<a:array<int,int>>", TypeFault::BadText(18)),
-    ("struct<m:map<int,int>>", TypeFault::BadText(9)),
+    ("map<string>", TypeFault::BadText(10)),
+    ("map<string,int,int>", TypeFault::BadText(14)),
+    ("map<>", TypeFault::BadText(4)),
+    ("struct<m:map<int,>>", TypeFault::BadText(17)),
+    ("struct<m:map<int;int>>", TypeFault::BadText(16)),
+    ("struct<m:map<int,int>", TypeFault::BadText(21)),
+    ("struct<m:map<int,map<int>>>", TypeFault::BadText(24)),
     ("int", TypeFault::RootNotStruct),
     ("array<struct<>>", TypeFault::RootNotStruct),
+    ("map<struct<>,struct<>>", TypeFault::RootNotStruct),
 ];
 
 /// A text with another so many times in its middle.
@@ -93,6 +124,12 @@ fn text_around(
 fn nested_lists(alloc: Global, lists: u32) -> Result<String, AllocError> {
     let front = text_around(alloc, "struct<a:", "array<", lists, "int")?;
     text_around(alloc, front.as_str(), ">", lists, ">")
+}
+
+/// A struct of one map, with others in its keys and in those of these, so many in all.
+fn nested_maps(alloc: Global, maps: u32) -> Result<String, AllocError> {
+    let front = text_around(alloc, "struct<m:", "map<", maps, "int")?;
+    text_around(alloc, front.as_str(), ",int>", maps, ">")
 }
 
 /// A struct of one field more than so many.
@@ -201,6 +238,16 @@ fn nested_is_refused(alloc: Global, lists: u32, fault: TypeFault) -> Result<bool
     is_no_schema(alloc, text.as_str(), fault)
 }
 
+fn maps_have_width(alloc: Global, maps: u32, width: usize) -> Result<bool, TypeFault> {
+    let text = nested_maps(alloc, maps)?;
+    has_width(alloc, text.as_str(), width)
+}
+
+fn maps_are_refused(alloc: Global, maps: u32, fault: TypeFault) -> Result<bool, TypeFault> {
+    let text = nested_maps(alloc, maps)?;
+    is_no_schema(alloc, text.as_str(), fault)
+}
+
 fn wide_has_width(alloc: Global, fields: u32, width: usize) -> Result<bool, TypeFault> {
     let text = wide(alloc, fields)?;
     has_width(alloc, text.as_str(), width)
@@ -211,11 +258,13 @@ fn wide_is_refused(alloc: Global, fields: u32, fault: TypeFault) -> Result<bool,
     is_no_schema(alloc, text.as_str(), fault)
 }
 
-/// 32 levels and 4,096 types are a schema, 33 and 4,097 aren't.
+/// 32 levels and 4,096 types are a schema, through lists and through maps, 33 and 4,097 aren't.
 fn limits_hold(alloc: Global) -> Result<bool, TypeFault> {
     Ok(
         nested_has_width(alloc, 30, 32)?
             && nested_is_refused(alloc, 31, TypeFault::TooDeep)?
+            && maps_have_width(alloc, 30, 62)?
+            && maps_are_refused(alloc, 31, TypeFault::TooDeep)?
             && wide_has_width(alloc, 4094, 4096)?
             && wide_is_refused(alloc, 4095, TypeFault::TooMany)?
             && wide_is_refused(alloc, 4096, TypeFault::TooMany)?,

@@ -67,6 +67,7 @@ returns-clause-found g c =
     let limits = c.requires.limits in
     let few = limits.stripes in
     let own = are_own tail n d.0 d.1 c.loop-number.found.items c.loop-number.own.items (omega (arith, few, end)) d.2 in
-    let whole : AreWhole tail.schema d.1 c.in_ok-whole.whole.items = c.in_ok-whole.ensures.1 d.1 (subst (λ (xs : List (List Stat)). AreOwn tail.schema d.1 xs) (sym c.deref.ensures.value) own) in
+    let told_of = tail.stripe_stats in
+    let whole : AreWhole tail.schema told_of d.1 c.in_ok-whole.whole.items = c.in_ok-whole.ensures.1 told_of d.1 (subst (λ (xs : List (List Stat)). AreOwn tail.schema told_of d.1 xs) (sym c.deref.ensures.value) own) in
     file_found told tail n d.0 d.1 c.loop-number.found.items c.check_file.new.found.items c.loop-number.own.items end d.2 d.3
-    (c.in_ok-check_file.ensures d.1 (subst (λ (xs : List Stat). AreWhole tail.schema d.1 xs) (sym c.deref-2.ensures.value) whole))
+    (c.in_ok-check_file.ensures d.1 (subst (λ (xs : List Stat). AreWhole tail.schema told_of d.1 xs) (sym c.deref-2.ensures.value) whole))

@@ -2,7 +2,7 @@ use Rattle.std.proofs.Common.{◌≡◌, ◌∙◌, ℕ, ◌<◌, List, slice_ge
 use Rattle.std.specs.Prelude.{MatchBool}
 use Rattle.orc_types.specs.Shapes.{width}
 use Rattle.orc_stats.specs.declared.stat.Stat.{Stat}
-use Rattle.orc_file.specs.Honest.{whole_of}
+use Rattle.orc_file.specs.Honest.{known_whole_of}
 use Rattle.std.proofs.lemmas.Option.{get_or_from_slice_get}
 use Rattle.orc_check.specs.declared.finding.Finding.TheVariants.{FileStatistic}
 use Rattle.orc_check.specs.Agreeing.{Tells}
@@ -19,8 +19,9 @@ loop-column-preserved c = record {
       let b = c.tells.result in
       let P : List Stat → Stat → Type 0 = λ told stat. Tells (slice_get told n) stat in
       let told : c.as_slice-told.result.now ≡ tail.file_stats = c.as_slice-told.ensures in
-      let right : c.index-right-column.result ≡ whole_of tail.schema parts n
-      = c.index-right-column.is ∙ get_or_from_slice_get c.args.right.now n (whole_of tail.schema parts n) c.index-right-column.result (whole.each n lt) in
+      let whole_is : Stat = known_whole_of tail.schema tail.stripe_stats parts n in
+      let right : c.index-right-column.result ≡ whole_is
+      = c.index-right-column.is ∙ get_or_from_slice_get c.args.right.now n whole_is c.index-right-column.result (whole.each n lt) in
       let holds : MatchBool b (TellsFile tail parts n) (TellsFile tail parts n → ⊥)
       = subst (λ (x : Stat). MatchBool b (P tail.file_stats x) (P tail.file_stats x → ⊥)) right (subst (λ (t : List Stat). MatchBool b (P t c.index-right-column.result) (P t c.index-right-column.result → ⊥)) told c.tells.ensures) in
       adds_next (λ k. Unless (TellsFile tail parts k) (FileStatistic k)) n c.args.found.now.items c.loop-column.found.items c.report.new.found.items (c.loop-column.invariant.found parts whole)

@@ -3,7 +3,7 @@ use Rattle.std.proofs.lemmas.Int.{to_z-of_z}
 use Rattle.orc_columns.specs.Fronts.{Leaves}
 use Rattle.orc_columns.specs.Spellings.{Within}
 use Rattle.orc_columns.specs.Numbers.{NumbersLeft}
-use Rattle.orc_columns.specs.Columns.{CellsLeft}
+use Rattle.orc_columns.specs.Columns.{CellsLeft, PairsLeft}
 use Rattle.orc_columns.proofs.Fronts.{grouped_lacks_sizes, no_room}
 use Rattle.orc_columns.proofs.ReaderLemmas.{no_size, group_lacks}
 use Rattle.orc_columns.proofs.Sizes.{sized, negative}
@@ -74,3 +74,24 @@ returns-else-size-source-clause-first c =
     let e = c.in-Ok-try_from.ensures in
     let n = sized (to_z w64 (of_z w64 c.in-Ok.number)) c.in-Ok.number c.in-Ok-try_from.size z e.0 e.1 in
     subst (λ k. Precedes (NumbersFirst c.args.source.now.numbers) (NumbersFirst c.next_number.new.numbers) (k ∷ [])) n c.in-Ok.ensures.first
+
+pub returns-in_default-clause-no_map : goal.returns-in_default-clause-no_map
+returns-in_default-clause-no_map c = λ k v below.
+    let z : to_z w64 (of_z w64 c.in-Ok.number) ≡ c.in-Ok.number = to_z-of_z w64 c.in-Ok.number (search rules) in
+    let e = c.in_default.ensures in
+    let none = rw z at e in
+    let n = negative c.in-Ok.number (search rules) none in
+    no_size (NumbersLeft c.args.source.now.numbers) (NumbersLeft c.next_number.new.numbers) (Within c.args.source.now.room (PairsLeft k v below)) n.0
+    (subst (λ m. Leaves (NumbersLeft c.args.source.now.numbers) (NumbersLeft c.next_number.new.numbers) (m ∷ [])) n.1 c.in-Ok.ensures.found)
+
+pub returns-then-size-source-clause-no_map : goal.returns-then-size-source-clause-no_map
+returns-then-size-source-clause-no_map c = λ k v below.
+    let z : to_z w64 (of_z w64 c.in-Ok.number) ≡ c.in-Ok.number = to_z-of_z w64 c.in-Ok.number (search rules) in
+    let e = c.in-Ok-try_from.ensures in
+    let n = sized (to_z w64 (of_z w64 c.in-Ok.number)) c.in-Ok.number c.in-Ok-try_from.size z e.0 e.1 in
+    group_lacks (NumbersLeft c.args.source.now.numbers) (NumbersLeft c.next_number.new.numbers) (Within c.args.source.now.room (PairsLeft k v below)) c.in-Ok-try_from.size
+    (subst (λ m. Leaves (NumbersLeft c.args.source.now.numbers) (NumbersLeft c.next_number.new.numbers) (m ∷ [])) n c.in-Ok.ensures.found)
+    (no_room c.args.source.now.room c.in-Ok-try_from.size (PairsLeft k v below) c.if-size-source.true)
+
+pub returns-in-Err-clause-no_map : goal.returns-in-Err-clause-no_map
+returns-in-Err-clause-no_map c = λ k v below. grouped_lacks_sizes (NumbersLeft c.args.source.now.numbers) (Within c.args.source.now.room (PairsLeft k v below)) 1 c.in-Err.ensures.none

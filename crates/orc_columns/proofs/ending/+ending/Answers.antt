@@ -1,14 +1,14 @@
 use Rattle.std.proofs.Common.{true, inl, [], length, take, drop, ◌-◌, sym, ap, ◌∙◌, subst, arith, string_bytes}
 use Rattle.orc_types.specs.Views.{shape}
 use Rattle.orc_types.specs.Views.{fields as fields_view}
-use Rattle.orc_types.proofs.Views.{shape-Scalar, shape-List, shape-Struct}
+use Rattle.orc_types.proofs.Views.{shape-Scalar, shape-List, shape-Map, shape-Struct}
 use Rattle.orc_columns.specs.Columns.{ScalarLeft}
 use Rattle.orc_columns.specs.Numbers.{NumbersLeft}
 use Rattle.orc_columns.proofs.Arms.{some_width, first_field}
-use Rattle.orc_columns.proofs.Ends.{scalar_ended, list_ended, list_numbers, list_cells, struct_ended, struct_fields, fields_ended, fields_first, fields_others, rest_of}
+use Rattle.orc_columns.proofs.Ends.{scalar_ended, list_ended, list_numbers, list_cells, map_ended, map_numbers, map_pairs, struct_ended, struct_fields, fields_ended, fields_first, fields_others, rest_of}
 use Rattle.orc_columns.specs.RunsMet.{NumbersMeet, MarksMeet}
 use Rattle.orc_columns.specs.ReaderFaults.{PresentMeets, ListsMeet}
-use Rattle.orc_columns.proofs.FaultLemmas.{cell_mark, cell_over, own_struct_meets, lists_own, lists_size, lists_below, fields_first_fault, fields_others_fault}
+use Rattle.orc_columns.proofs.FaultLemmas.{cell_mark, cell_over, own_struct_meets, lists_own, lists_size, lists_below, maps_own, maps_size, maps_below, fields_first_fault, fields_others_fault}
 use Rattle.orc_columns.proofs.NeedLemmas.{always_end}
 use Rattle.orc_columns.proofs.ending.+ending.Goals as goal
 
@@ -103,3 +103,43 @@ values_end-returns-then-not-numbers_end-clause-fault t c =
     (lists_size (shape c.in-List.element.value) c.args.readers.now c.index-readers-0.result true 0 c.run_fault.result (omega (arith, c.requires, w))
     (subst (λ r. ListsMeet r.source true 0 c.run_fault.result) c.index-readers-0.is
     (inl (c.numbers_left.result, c.run_fault.ensures.same c.numbers_left.ensures.no_memory, c.numbers_left.ensures.no_memory, always_end (NumbersMeet c.index-readers-0.result.source.numbers) c.numbers_left.result c.numbers_left.ensures.met))))
+
+-- ---- maps
+
+pub values_end-returns-then-not-numbers_end-2-clause-more : goal.values_end-returns-then-not-numbers_end-2-clause-more
+values_end-returns-then-not-numbers_end-2-clause-more t c = λ h.
+    let e = c.numbers_end-in-Map.ensures in
+    let f = rw c.if-not-numbers_end-2.true at e in
+    f (subst (λ r. NumbersLeft r.source.numbers []) (sym c.index-readers-0.is) (map_numbers (shape c.args.tree.now) (shape c.in-Map.key.value) (shape c.in-Map.value.value) c.in-Map.field-2.items c.args.readers.now c.index-readers-0.result (ap shape c.in-Map.is ∙ shape-Map c.in-Map.key c.in-Map.value c.in-Map.field-2) h))
+
+pub values_end-returns-then-not-numbers_end-2-clause-fault : goal.values_end-returns-then-not-numbers_end-2-clause-fault
+values_end-returns-then-not-numbers_end-2-clause-fault t c =
+    let w = some_width (shape c.args.tree.now) in
+    let left = c.numbers_left-then-not-numbers_end-2.ensures in
+    let fault = c.run_fault-then-not-numbers_end-2.result in
+    maps_own (shape c.args.tree.now) (shape c.in-Map.key.value) (shape c.in-Map.value.value) c.in-Map.field-2.items c.args.readers.now true 0 fault (ap shape c.in-Map.is ∙ shape-Map c.in-Map.key c.in-Map.value c.in-Map.field-2)
+    (maps_size (shape c.in-Map.key.value) (shape c.in-Map.value.value) c.args.readers.now c.index-readers-0.result true 0 fault (omega (arith, c.requires, w))
+    (subst (λ r. ListsMeet r.source true 0 fault) c.index-readers-0.is
+    (inl (c.numbers_left-then-not-numbers_end-2.result, c.run_fault-then-not-numbers_end-2.ensures.same left.no_memory, left.no_memory, always_end (NumbersMeet c.index-readers-0.result.source.numbers) c.numbers_left-then-not-numbers_end-2.result left.met))))
+
+pub values_end-returns-in-Ok-pairs_end-clause-all : goal.values_end-returns-in-Ok-pairs_end-clause-all
+values_end-returns-in-Ok-pairs_end-clause-all t c =
+    let w = some_width (shape c.args.tree.now) in
+    let e = c.numbers_end-in-Map.ensures in
+    let f = rw c.if-not-numbers_end-2.false at e in
+    let g = c.in-Ok-pairs_end.ensures.all in
+    map_ended (shape c.args.tree.now) (shape c.in-Map.key.value) (shape c.in-Map.value.value) c.in-Map.field-2.items c.args.readers.now c.index-readers-0.result (ap shape c.in-Map.is ∙ shape-Map c.in-Map.key c.in-Map.value c.in-Map.field-2) (omega (arith, c.requires, w))
+    (subst (λ r. NumbersLeft r.source.numbers []) c.index-readers-0.is f) (rw (c.deref-in-Map.ensures, c.deref-in-Map-2.ensures) at g)
+
+pub values_end-returns-in-Err-pairs_end-clause-more : goal.values_end-returns-in-Err-pairs_end-clause-more
+values_end-returns-in-Err-pairs_end-clause-more t c = λ h.
+    let g = c.in-Err-pairs_end.ensures.more in
+    let k = rw (c.deref-in-Map.ensures, c.deref-in-Map-2.ensures) at g in
+    k (map_pairs (shape c.args.tree.now) (shape c.in-Map.key.value) (shape c.in-Map.value.value) c.in-Map.field-2.items c.args.readers.now (ap shape c.in-Map.is ∙ shape-Map c.in-Map.key c.in-Map.value c.in-Map.field-2) h)
+
+pub values_end-returns-in-Err-pairs_end-clause-fault : goal.values_end-returns-in-Err-pairs_end-clause-fault
+values_end-returns-in-Err-pairs_end-clause-fault t c =
+    let w = some_width (shape c.args.tree.now) in
+    let f = c.in-Err-pairs_end.ensures.fault in
+    maps_own (shape c.args.tree.now) (shape c.in-Map.key.value) (shape c.in-Map.value.value) c.in-Map.field-2.items c.args.readers.now true 0 c.in-Err-pairs_end.fault (ap shape c.in-Map.is ∙ shape-Map c.in-Map.key c.in-Map.value c.in-Map.field-2)
+    (maps_below (shape c.in-Map.key.value) (shape c.in-Map.value.value) c.args.readers.now c.in-Err-pairs_end.fault (omega (arith, c.requires, w)) (rw (c.deref-in-Map.ensures, c.deref-in-Map-2.ensures) at f))

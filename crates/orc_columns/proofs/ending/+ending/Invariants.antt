@@ -9,5 +9,8 @@ decreases-cells_end l = 3 * width (shape l.tree.now)
 abbrev pub decreases-values_end : goal.decreases-values_end
 decreases-values_end l = 3 * width (shape l.tree.now) - 1
 
+abbrev pub decreases-pairs_end : goal.decreases-pairs_end
+decreases-pairs_end l = 3 * (width (shape l.key.now) + width (shape l.value.now)) + 1
+
 abbrev pub decreases-fields_end : goal.decreases-fields_end
 decreases-fields_end l = 3 * widths (fields_view l.fields.now) + 1

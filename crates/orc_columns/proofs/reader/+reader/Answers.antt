@@ -1,13 +1,17 @@
-use Rattle.std.proofs.Common.{rules, ◌≡◌, ℕ, suc, ◌+◌, false, subst, [], ◌∷◌, length, take, drop, ◌-◌, ◌++◌, append-nil, string_bytes, get_or, sym, ap, ◌∙◌, arith}
+use Rattle.std.proofs.Common.{rules, ◌≡◌, ℕ, suc, ◌+◌, false, subst, [], ◌∷◌, map, length, take, drop, ◌-◌, ◌++◌, append-nil, string_bytes, get_or, sym, ap, ◌∙◌, arith}
+use Rattle.std.specs.Prelude.{Option}
 use Rattle.orc_types.specs.Cells.{struct, cells_of}
-use Rattle.orc_types.specs.Views.{view, views, cell_of_value, shape}
+use Rattle.orc_types.specs.Shapes.{width}
+use Rattle.orc_types.specs.declared.value.MapPair.{roll-MapPair, the_lemmas}
+use Rattle.orc_types.specs.declared.value.Value.{Value}
+use Rattle.orc_types.specs.Views.{view, views, paired, cell_of_value, shape}
 use Rattle.orc_types.specs.Views.{fields as fields_view}
-use Rattle.orc_types.proofs.Views.{shape-List, shape-Struct, view-List, view-Struct}
-use Rattle.orc_columns.specs.Columns.{CellsLeft}
-use Rattle.orc_columns.proofs.Arms.{value_is, some_width, fields_put, fields_behind, cell_value, cell_null, cell_lacks, own_list, own_list_lacks, own_struct, own_struct_lacks, list_taken, list_lacking, cells_more, cells_counted, cells_lacking, no_fields, first_field, fields_none, fields_next, fields_lack_first, fields_lack_others, fields_counted, cells_joined}
+use Rattle.orc_types.proofs.Views.{shape-List, shape-Map, shape-Struct, view-List, view-Map, view-Struct, paired-is}
+use Rattle.orc_columns.specs.Columns.{CellsLeft, PairsLeft}
+use Rattle.orc_columns.proofs.Arms.{value_is, some_width, fields_put, fields_behind, cell_value, cell_null, cell_lacks, own_list, own_list_lacks, own_map, own_map_lacks, own_struct, own_struct_lacks, list_taken, list_lacking, map_taken, map_lacking, cells_more, cells_counted, pairs_more, pairs_counted, cells_lacking, pair_next, first_counted, no_fields, first_field, fields_none, fields_next, fields_lack_first, fields_lack_others, fields_counted, cells_joined}
 use Rattle.orc_columns.specs.declared.column.ColumnReader.{ColumnReader}
-use Rattle.orc_columns.specs.ReaderFaults.{CellsMeet}
-use Rattle.orc_columns.proofs.FaultLemmas.{cell_before, null_before, cell_now, cell_mark, list_before, lists_own, own_lists, struct_before, own_struct_meets, fields_before, lists_size, lists_elements, fields_first_fault, fields_others_fault}
+use Rattle.orc_columns.specs.ReaderFaults.{CellsMeet, PairsMeet}
+use Rattle.orc_columns.proofs.FaultLemmas.{cell_before, null_before, cell_now, cell_mark, list_before, lists_own, own_lists, struct_before, own_struct_meets, fields_before, lists_size, lists_elements, map_before, maps_own, own_maps, maps_size, maps_pairs, pair_before, fields_first_fault, fields_others_fault}
 use Rattle.orc_columns.proofs.reader.+reader.Goals as goal
 
 pub next_cells-loop-taken-preserved : goal.next_cells-loop-taken-preserved
@@ -216,3 +220,97 @@ next_fields-returns-in-Ok-next_fields-clause-before t c = λ all n f h.
     fields_before (fields_view c.args.fields.now) (string_bytes c.first-item.result.name) (shape c.first-item.result.tree) (fields_view (take (length c.args.fields.now - 1) (drop 1 c.args.fields.now))) c.args.readers.now _ (take c.width_of-own.result c.args.readers.now) c.next_cell.new.readers _ c.next_fields.new.readers all n f
     e (ap (λ k. take k c.args.readers.now) we) (fields_behind c.width_of-own.result c.args.readers.now c.next_cell.new.readers l ∙ ap (λ k. drop k c.args.readers.now) we)
     (fields_put c.width_of-own.result c.args.readers.now c.next_cell.new.readers c.next_fields.new.readers l) (l ∙ we) (c.in-Ok.ensures.before all n f) (c.in-Ok-next_fields.ensures.before all n f) h
+
+-- ---- maps
+
+pub next_pairs-loop-taken-preserved : goal.next_pairs-loop-taken-preserved
+next_pairs-loop-taken-preserved t c =
+    let k = shape c.args.key.now in
+    let v = shape c.args.value.now in (
+      pairs_more (PairsLeft k v c.args.readers.now) (PairsLeft k v c.loop-taken.readers) (PairsLeft k v c.next_pair.new.readers)
+          c.loop-taken.pairs.items c.push.new.self.items c.in-Ok.pair c.in_ok-push-in-Ok.ensures.items c.loop-taken.invariant.0 c.in-Ok.ensures.found,
+      pairs_counted c.loop-taken.pairs.items c.push.new.self.items c.in-Ok.pair c.loop-taken.taken c.in_ok-push-in-Ok.ensures.items c.loop-taken.invariant.1,
+      search rules,
+      λ all n f h.
+          let e : c.loop-taken.taken + suc n ≡ c.loop-taken.taken + 1 + n = omega arith in
+          subst (λ m. PairsMeet k v c.args.readers.now all m f) e (c.loop-taken.invariant.3 all (suc n) f (c.in-Ok.ensures.before all n f h)),
+    )
+
+pub next_pairs-returns-in-Err-clause-fault : goal.next_pairs-returns-in-Err-clause-fault
+next_pairs-returns-in-Err-clause-fault t c = λ memory n.
+    let more : ℕ = c.args.count + n - c.loop-taken.taken - 1 in
+    let e : c.loop-taken.taken + suc more ≡ c.args.count + n = omega (arith, c.loop-taken-test.true) in
+    subst (λ m. PairsMeet (shape c.args.key.now) (shape c.args.value.now) c.args.readers.now false m c.in-Err.fault) e (c.loop-taken.invariant.3 false (suc more) c.in-Err.fault (c.in-Err.ensures.fault memory more))
+
+pub next_map-returns-in-Ok-next_pairs-clause-found : goal.next_map-returns-in-Ok-next_pairs-clause-found
+next_map-returns-in-Ok-next_pairs-clause-found t c =
+    map_taken (shape c.args.key.now) (shape c.args.value.now) c.args.readers.now c.next_pairs.new.readers (record { present = (get_or c.args.readers.now 0 c.index-readers-0.result).present; source = c.next_size.new.source }) c.index-readers-0.result c.in-Ok.size (map paired c.in-Ok-next_pairs.pairs.items) (omega (arith, c.requires))
+    c.in-Ok.ensures.found c.in-Ok.ensures.room.0 c.in-Ok.ensures.room.1 c.in-Ok-next_pairs.ensures.counted c.in-Ok-next_pairs.ensures.found
+
+pub next_map-returns-in-Err-next_pairs-clause-none : goal.next_map-returns-in-Err-next_pairs-clause-none
+next_map-returns-in-Err-next_pairs-clause-none t c = λ memory.
+    map_lacking (shape c.args.key.now) (shape c.args.value.now) c.args.readers.now (record { present = (get_or c.args.readers.now 0 c.index-readers-0.result).present; source = c.next_size.new.source }) c.index-readers-0.result c.in-Ok.size
+    c.in-Ok.ensures.found (c.in-Err-next_pairs.ensures.none memory)
+
+pub next_map-returns-in-Err-next_pairs-clause-fault : goal.next_map-returns-in-Err-next_pairs-clause-fault
+next_map-returns-in-Err-next_pairs-clause-fault t c = λ memory n.
+    let own : ColumnReader = record { present = (get_or c.args.readers.now 0 c.index-readers-0.result).present; source = c.next_size.new.source } in
+    maps_pairs (shape c.args.key.now) (shape c.args.value.now) c.args.readers.now c.index-readers-0.result own n c.in-Ok.size c.in-Err-next_pairs.fault (omega (arith, c.requires)) c.in-Ok.ensures.first (c.in-Err-next_pairs.ensures.fault memory 0)
+
+pub next_map-returns-in-Err-clause-fault : goal.next_map-returns-in-Err-clause-fault
+next_map-returns-in-Err-clause-fault t c = λ memory n.
+    maps_size (shape c.args.key.now) (shape c.args.value.now) c.args.readers.now c.index-readers-0.result false (suc n) c.in-Err.fault (omega (arith, c.requires)) (c.in-Err.ensures.fault memory n)
+
+pub next_map-returns-in-Ok-next_pairs-clause-before : goal.next_map-returns-in-Ok-next_pairs-clause-before
+next_map-returns-in-Ok-next_pairs-clause-before t c = λ all n f h.
+    let own : ColumnReader = record { present = (get_or c.args.readers.now 0 c.index-readers-0.result).present; source = c.next_size.new.source } in
+    map_before (shape c.args.key.now) (shape c.args.value.now) c.args.readers.now c.next_pairs.new.readers c.index-readers-0.result own all n c.in-Ok.size f (omega (arith, c.requires)) c.in-Ok.ensures.first (c.in-Ok.ensures.before all n f)
+    (λ m. c.in-Ok-next_pairs.ensures.before all m f) h
+
+pub next_value-returns-in-Ok-next_map-clause-found : goal.next_value-returns-in-Ok-next_map-clause-found
+next_value-returns-in-Ok-next_map-clause-found t c =
+    let w = some_width (shape c.args.tree.now) in
+    let f = c.in-Ok-next_map.ensures.found in
+    own_map (shape c.args.tree.now) (shape c.in-Map.key.value) (shape c.in-Map.value.value) c.in-Map.field-2.items c.args.readers.now c.next_map.new.readers (map paired c.in-Ok-next_map.pairs.items) _
+    (ap shape c.in-Map.is ∙ shape-Map c.in-Map.key c.in-Map.value c.in-Map.field-2) (view-Map c.in-Ok-next_map.pairs) (omega (arith, c.requires, w)) c.next_map.auto.readers (rw (c.deref-in-Map.ensures, c.deref-in-Map-2.ensures) at f)
+
+pub next_value-returns-in-Map-clause-none : goal.next_value-returns-in-Map-clause-none
+next_value-returns-in-Map-clause-none t c = λ memory.
+    let f = c.in-Err-next_map.ensures.none memory in
+    own_map_lacks (shape c.args.tree.now) (shape c.in-Map.key.value) (shape c.in-Map.value.value) c.in-Map.field-2.items c.args.readers.now
+    (ap shape c.in-Map.is ∙ shape-Map c.in-Map.key c.in-Map.value c.in-Map.field-2) (rw (c.deref-in-Map.ensures, c.deref-in-Map-2.ensures) at f)
+
+pub next_value-returns-in-Map-clause-fault : goal.next_value-returns-in-Map-clause-fault
+next_value-returns-in-Map-clause-fault t c = λ memory n.
+    let f = c.in-Err-next_map.ensures.fault memory n in
+    maps_own (shape c.args.tree.now) (shape c.in-Map.key.value) (shape c.in-Map.value.value) c.in-Map.field-2.items c.args.readers.now false (suc n) c.in-Err-next_map.fault (ap shape c.in-Map.is ∙ shape-Map c.in-Map.key c.in-Map.value c.in-Map.field-2) (rw (c.deref-in-Map.ensures, c.deref-in-Map-2.ensures) at f)
+
+pub next_value-returns-in-Ok-next_map-clause-before : goal.next_value-returns-in-Ok-next_map-clause-before
+next_value-returns-in-Ok-next_map-clause-before t c = λ all n f h.
+    let is = ap shape c.in-Map.is ∙ shape-Map c.in-Map.key c.in-Map.value c.in-Map.field-2 in
+    let b = c.in-Ok-next_map.ensures.before all n f in
+    let r = rw (c.deref-in-Map.ensures, c.deref-in-Map-2.ensures) at b in
+    maps_own (shape c.args.tree.now) (shape c.in-Map.key.value) (shape c.in-Map.value.value) c.in-Map.field-2.items c.args.readers.now all (suc n) f is
+    (r (own_maps (shape c.args.tree.now) (shape c.in-Map.key.value) (shape c.in-Map.value.value) c.in-Map.field-2.items c.next_map.new.readers all n f is h))
+
+made : (a b : Option Value) → paired (roll-MapPair (record { key = a; value = b })) ≡ (view a, view b)
+made a b = search (rules, the_lemmas, paired-is)
+
+pub next_pair-returns-in-Ok-next_cell-clause-found : goal.next_pair-returns-in-Ok-next_cell-clause-found
+next_pair-returns-in-Ok-next_cell-clause-found t c =
+    let k = shape c.args.key.now in
+    let v = shape c.args.value.now in
+    let w = c.width_of-own.ensures in
+    let n : length c.next_cell.new.readers ≡ c.width_of-own.result = first_counted c.width_of-own.result (width v) c.args.readers.now c.next_cell.new.readers (omega (arith, c.requires, w)) c.next_cell.auto.readers in
+    rw (made c.in-Ok.first c.in-Ok-next_cell.second)
+    (pair_next k v c.args.readers.now _ (take c.width_of-own.result c.args.readers.now) c.next_cell.new.readers _ c.next_cell-in-Ok.new.readers (view c.in-Ok.first, view c.in-Ok-next_cell.second)
+    (ap (λ m. take m c.args.readers.now) w) (fields_behind c.width_of-own.result c.args.readers.now c.next_cell.new.readers n ∙ ap (λ m. drop m c.args.readers.now) w)
+    (fields_put c.width_of-own.result c.args.readers.now c.next_cell.new.readers c.next_cell-in-Ok.new.readers n) (n ∙ w) c.in-Ok.ensures.found c.in-Ok-next_cell.ensures.found)
+
+pub next_pair-returns-in-Ok-next_cell-clause-before : goal.next_pair-returns-in-Ok-next_cell-clause-before
+next_pair-returns-in-Ok-next_cell-clause-before t c = λ all n f h.
+    let w = c.width_of-own.ensures in
+    let l : length c.next_cell.new.readers ≡ c.width_of-own.result = first_counted c.width_of-own.result (width (shape c.args.value.now)) c.args.readers.now c.next_cell.new.readers (omega (arith, c.requires, w)) c.next_cell.auto.readers in
+    pair_before (shape c.args.key.now) (shape c.args.value.now) c.args.readers.now _ (take c.width_of-own.result c.args.readers.now) c.next_cell.new.readers _ c.next_cell-in-Ok.new.readers all n f
+    (ap (λ m. take m c.args.readers.now) w) (fields_behind c.width_of-own.result c.args.readers.now c.next_cell.new.readers l ∙ ap (λ m. drop m c.args.readers.now) w)
+    (fields_put c.width_of-own.result c.args.readers.now c.next_cell.new.readers c.next_cell-in-Ok.new.readers l) (l ∙ w) (c.in-Ok.ensures.before all n f) (c.in-Ok-next_cell.ensures.before all n f) h

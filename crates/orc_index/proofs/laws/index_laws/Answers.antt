@@ -1,5 +1,5 @@
 use Rattle.orc_index.proofs.ColumnPlaces.{places_read, one_places}
-use Rattle.orc_index.proofs.Groups.{element_bounds_are, field_bounds_are}
+use Rattle.orc_index.proofs.Groups.{element_bounds_are, key_bounds_are, value_bounds_are, field_bounds_are}
 use Rattle.orc_index.proofs.WrittenIndex.{one_index, index_right}
 use Rattle.orc_index.proofs.laws.index_laws.Goals as goal
 
@@ -17,6 +17,12 @@ returns-clause-right c = index_right
 
 pub returns-clause-elements : goal.returns-clause-elements
 returns-clause-elements c = element_bounds_are
+
+pub returns-clause-keys : goal.returns-clause-keys
+returns-clause-keys c = key_bounds_are
+
+pub returns-clause-map_values : goal.returns-clause-map_values
+returns-clause-map_values c = value_bounds_are
 
 pub returns-clause-fields : goal.returns-clause-fields
 returns-clause-fields c = field_bounds_are

@@ -1,4 +1,5 @@
 use Rattle.orc_file.specs.FileRows.{joined}
+use Rattle.orc_check.proofs.NoFinding.{whole_tells}
 use Rattle.orc_merge_findings.proofs.MergedIndexes.{merged_indexes, are_files, are_honest}
 use Rattle.orc_merge_findings.proofs.laws.merged_finding_laws.Goals as goal
 
@@ -10,7 +11,7 @@ returns c = λ inputs tail out parts merge few found.
       is,
       (none out tail (joined parts) is).1 (
         c.orders.ensures.honest inputs tail out parts merge honest,
-        c.orders.ensures.whole inputs tail out parts merge honest,
+        whole_tells tail (joined parts) (c.orders.ensures.whole inputs tail out parts merge honest),
         merged_indexes none inputs tail out parts merge found,
       ),
     )

@@ -4,12 +4,19 @@ use Rattle.serde_json.specs.Written.{comma_if}
 use Rattle.orc_types.specs.Views.{name_and_type}
 use Rattle.orc_row_text.specs.Layouts.{text_by, member_parts}
 use Rattle.orc_row_text.proofs.Prints.{laying_first, laying_next, laying_place, laying_last}
-use Rattle.orc_row_text.proofs.Layouts.{laid_list, laid_struct, member_parts_more, shape_placed}
+use Rattle.orc_row_text.proofs.Layouts.{laid_list, laid_map, laid_struct, member_parts_more, shape_placed}
 use Rattle.orc_row_text.proofs.layout.+laying.Goals as goal
 
 pub layout_of-returns-in_ok-new-in-List : goal.layout_of-returns-in_ok-new-in-List
 layout_of-returns-in_ok-new-in-List t c =
     laid_list c.args.tree.now c.in-List.element c.in-List.field-1 c.in_ok-new-in-List.field-0 c.in-List.is (rw (c.in_ok-new-in-List.ensures.ok, ← c.deref.ensures) c.in_ok-layout_of-in-List.ensures)
+
+pub layout_of-returns-in_ok-new-in-Map : goal.layout_of-returns-in_ok-new-in-Map
+layout_of-returns-in_ok-new-in-Map t c =
+    let pair = c.in_ok-new-in-Map.field-0 in
+    laid_map c.args.tree.now c.in-Map.key c.in-Map.value c.in-Map.field-2 pair c.in-Map.is
+    (rw (c.in_ok-new-in-Map.ensures.ok, ← c.deref-in-Map.ensures) c.in_ok-key-in-Map.ensures)
+    (rw (c.in_ok-new-in-Map.ensures.ok, ← c.deref-in-Map-2.ensures) c.in_ok-value-in-Map.ensures)
 
 pub layout_of-returns-in_ok-members_of-in-Struct : goal.layout_of-returns-in_ok-members_of-in-Struct
 layout_of-returns-in_ok-members_of-in-Struct t c =

@@ -3,7 +3,7 @@ use Rattle.serde_json.specs.Data.{no_members}
 use Rattle.serde_json.specs.View.{view as json_view, members_view}
 use Rattle.orc_types.specs.Cells.{cells_of}
 use Rattle.orc_types.specs.Shapes.{width, widths}
-use Rattle.orc_types.specs.Views.{views, shape, fields as fields_view}
+use Rattle.orc_types.specs.Views.{views, paired, shape, fields as fields_view}
 use Rattle.orc_types.specs.JsonPrinting as spec
 use Rattle.orc_types.proofs.json_printing.+printing.Given as goal
 
@@ -23,3 +23,10 @@ decreases-array_of l = 2 * width (shape l.tree.now) + 1
 
 abbrev pub decreases-object_of : goal.decreases-object_of
 decreases-object_of l = 2 * widths (fields_view l.fields.now.items) + 1
+
+abbrev pub invariant-pairs_to-loop-pair : goal.invariant-pairs_to-loop-pair
+invariant-pairs_to-loop-pair l =
+    map json_view l.array.items ≡ map (λ p. spec.pair_json (spec.json_of (shape l.key) p.0) (spec.json_of (shape l.value) p.1)) (map paired (take l.pair-index l.pair-items))
+
+abbrev pub decreases-pairs_to : goal.decreases-pairs_to
+decreases-pairs_to l = 2 * (width (shape l.key.now) + width (shape l.value.now)) + 1

@@ -1,17 +1,17 @@
-use Rattle.std.proofs.Common.{◌≡◌, true, ◌*◌, ◌<◌, Some, [], ◌∷◌, ◌++◌, string_bytes, refl, sym, ap, ◌∙◌, subst, arith, add-one}
+use Rattle.std.proofs.Common.{◌≡◌, true, map, ◌*◌, ◌<◌, Some, [], ◌∷◌, ◌++◌, string_bytes, refl, sym, ap, ◌∙◌, subst, arith, add-one}
 use Rattle.std.proofs.lemmas.Result.{err_from_is_err_and}
 use Rattle.std.proofs.lemmas.List.{map-append}
 use Rattle.serde_json.specs.Data.{array}
 use Rattle.serde_json.specs.Find.{get}
 use Rattle.serde_json.specs.View.{view as json_view, items_view, members_view}
 use Rattle.orc_types.specs.Shapes.{width, widths, names_of}
-use Rattle.orc_types.specs.Cells.{cells_of}
-use Rattle.orc_types.specs.Views.{view, views, shape, fields as fields_view}
+use Rattle.orc_types.specs.Cells.{cells_of, pairs_of}
+use Rattle.orc_types.specs.Views.{view, views, paired, shape, fields as fields_view}
 use Rattle.orc_types.specs.FieldNames.{all_known, are_distinct}
-use Rattle.orc_types.specs.JsonRows.{Spells, EachSpells, MemberSpells, FieldsSpell}
-use Rattle.orc_types.specs.JsonFaults.{FaultAt, Somewhere, InElement}
+use Rattle.orc_types.specs.JsonRows.{Spells, PairsSpell, EachSpells, MemberSpells, FieldsSpell}
+use Rattle.orc_types.specs.JsonFaults.{FaultAt, PairFault, Somewhere, InElement}
 use Rattle.orc_types.proofs.ByColumn.{width_within}
-use Rattle.orc_types.proofs.JsonFronts.{elements_more, elements_all, element_at, fields_more, fields_all, in_field, array_spells, object_spells, array_fault, object_fault}
+use Rattle.orc_types.proofs.JsonFronts.{pairs_more, pairs_all, pairs_spell, map_fault, elements_more, elements_all, element_at, fields_more, fields_all, in_field, array_spells, object_spells, array_fault, object_fault}
 use Rattle.orc_types.proofs.Names.{distinct_at}
 use Rattle.orc_types.proofs.json_reading.+reading.Goals as goal
 use Rattle.orc_types.proofs.json_reading.+reading.Goals.{fields_of-in-None, fields_of-in-Some+in_ok-row-in-Some}
@@ -83,3 +83,35 @@ pub row_of-returns-in_err-fields_of-in-Object-clause-fault : goal.row_of-returns
 row_of-returns-in_err-fields_of-in-Object-clause-fault t c =
     let p = err_from_is_err_and c.from_residual-in_err-fields_of-in-Object.result c.from_residual-in_err-fields_of-in-Object.ensures.1 in
     rw (p.1, p.2) (λ memory. object_fault (FaultAt c.in_err-fields_of-in-Object.field-0.0) c.args.tree.now c.in-Struct.fields c.in-Struct.field-1 (json_view c.args.json.now) c.in-Struct.is (c.in_err-fields_of-in-Object.ensures.fault memory))
+
+pub pairs_from-returns-in_err-pair_from-clause-fault : goal.pairs_from-returns-in_err-pair_from-clause-fault
+pairs_from-returns-in_err-pair_from-clause-fault t c =
+    let p = err_from_is_err_and c.from_residual.result c.from_residual.ensures.1 in
+    rw (p.1, p.2, ← c.deref-item-items.ensures.value) (λ memory. (c.loop-item.item-index, json_view c.item-item.result, element_at c.deref-item-items.result.now c.loop-item.item-index c.item-item.result c.loop-item-test.true c.item-item.is, c.in_err-pair_from.ensures.fault memory))
+
+pub pairs_from-loop-item-preserved : goal.pairs_from-loop-item-preserved
+pairs_from-loop-item-preserved t c =
+    let pushed : map paired c.push.new.self.items ≡ map paired c.loop-item.pairs.items ++ paired c.in_ok-pair_from.field-0 ∷ [] = ap (map paired) c.in_ok-push.ensures.items ∙ map-append paired c.loop-item.pairs.items (c.in_ok-pair_from.field-0 ∷ []) in
+    rw (pushed, add-one) (pairs_more (Spells (shape c.args.key.now)) (Spells (shape c.args.value.now)) c.deref-item-items.result.now c.loop-item.item-index c.item-item.result (map paired c.loop-item.pairs.items) c.in_ok-pair_from.field-0 c.loop-item-test.true c.item-item.is c.in_ok-pair_from.ensures.found c.loop-item.invariant)
+
+pub pairs_from-returns-clause-found : goal.pairs_from-returns-clause-found
+pairs_from-returns-clause-found t c =
+    subst (λ js. PairsSpell (Spells (shape c.args.key.now)) (Spells (shape c.args.value.now)) (items_view js) (pairs_of (map paired c.loop-item.pairs.items))) c.deref-item-items.ensures.value
+    (pairs_all (Spells (shape c.args.key.now)) (Spells (shape c.args.value.now)) c.deref-item-items.result.now c.loop-item.item-index (map paired c.loop-item.pairs.items) (omega (arith, c.loop-item-test.false)) c.loop-item.invariant)
+
+pub row_of-returns-in_err-pairs_from-in-Array-json-clause-fault : goal.row_of-returns-in_err-pairs_from-in-Array-json-clause-fault
+row_of-returns-in_err-pairs_from-in-Array-json-clause-fault t c =
+    let p = err_from_is_err_and c.from_residual-in_err-pairs_from-in-Array-json.result c.from_residual-in_err-pairs_from-in-Array-json.ensures.1 in
+    let e = c.in_err-pairs_from-in-Array-json.field-0.0 in
+    let js = array (items_view c.in-Array-json.items.items) in
+    rw (p.1, p.2) (λ memory. map_fault e c.args.tree.now c.in-Map.key c.in-Map.value c.in-Map.field-2 c.args.json.now c.in-Array-json.items c.in-Map.is c.in-Array-json.is
+    (subst (λ x. InElement (PairFault e (shape c.in-Map.key.value) (shape x)) js) c.deref-in-Array-json-2.ensures
+    (subst (λ x. InElement (PairFault e (shape x) (shape c.deref-in-Array-json-2.result.now)) js) c.deref-in-Array-json.ensures (c.in_err-pairs_from-in-Array-json.ensures.fault memory))))
+
+pub row_of-returns-in_ok-pairs_from-in-Array-json-clause-found : goal.row_of-returns-in_ok-pairs_from-in-Array-json-clause-found
+row_of-returns-in_ok-pairs_from-in-Array-json-clause-found t c =
+    let js = items_view c.in-Array-json.items.items in
+    let ps = pairs_of (map paired c.in_ok-pairs_from-in-Array-json.field-0.items) in
+    pairs_spell c.args.tree.now c.in-Map.key c.in-Map.value c.in-Map.field-2 c.args.json.now c.in-Array-json.items c.in_ok-pairs_from-in-Array-json.field-0 c.in-Map.is c.in-Array-json.is
+    (subst (λ x. PairsSpell (Spells (shape c.in-Map.key.value)) (Spells (shape x)) js ps) c.deref-in-Array-json-2.ensures
+    (subst (λ x. PairsSpell (Spells (shape x)) (Spells (shape c.deref-in-Array-json-2.result.now)) js ps) c.deref-in-Array-json.ensures c.in_ok-pairs_from-in-Array-json.ensures.found))

@@ -1,9 +1,9 @@
-use Rattle.std.proofs.Common.{◌+◌, ◌*◌}
+use Rattle.std.proofs.Common.{◌+◌, ◌*◌, map}
 use Rattle.serde_json.specs.View.{view as json_view}
 use Rattle.orc_types.specs.Shapes.{width, widths}
-use Rattle.orc_types.specs.Views.{views, shape, fields as fields_view}
+use Rattle.orc_types.specs.Views.{views, paired, shape, fields as fields_view}
 use Rattle.orc_types.specs.JsonRows.{Spells}
-use Rattle.orc_types.proofs.JsonFronts.{ElementsRead, FieldsRead}
+use Rattle.orc_types.proofs.JsonFronts.{ElementsRead, PairsRead, FieldsRead}
 use Rattle.orc_types.proofs.json_reading.+reading.Given as goal
 
 abbrev pub invariant-elements_of-loop-item : goal.invariant-elements_of-loop-item
@@ -20,3 +20,12 @@ decreases-elements_of l = 2 * width (shape l.tree.now) + 1
 
 abbrev pub decreases-fields_of : goal.decreases-fields_of
 decreases-fields_of l = 2 * widths (fields_view l.fields.now.items) + 1
+
+abbrev pub invariant-pairs_from-loop-item : goal.invariant-pairs_from-loop-item
+invariant-pairs_from-loop-item l = PairsRead (Spells (shape l.key)) (Spells (shape l.value)) l.item-items l.item-index (map paired l.pairs.items)
+
+abbrev pub decreases-pair_from : goal.decreases-pair_from
+decreases-pair_from l = 2 * (width (shape l.key.now) + width (shape l.value.now))
+
+abbrev pub decreases-pairs_from : goal.decreases-pairs_from
+decreases-pairs_from l = 2 * (width (shape l.key.now) + width (shape l.value.now)) + 1

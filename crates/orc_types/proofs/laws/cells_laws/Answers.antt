@@ -1,5 +1,5 @@
 use Rattle.orc_types.proofs.Together.{cells-append, cells_fit}
-use Rattle.orc_types.proofs.Deeper.{cells-add, elements-length, members-length}
+use Rattle.orc_types.proofs.Deeper.{cells-add, elements-length, keys-length, map_values-length, members-length}
 use Rattle.orc_types.proofs.laws.cells_laws.Goals as goal
 
 pub returns-clause-append : goal.returns-clause-append
@@ -16,3 +16,9 @@ returns-clause-elements c = elements-length
 
 pub returns-clause-members : goal.returns-clause-members
 returns-clause-members c = members-length
+
+pub returns-clause-keys : goal.returns-clause-keys
+returns-clause-keys c = keys-length
+
+pub returns-clause-map_values : goal.returns-clause-map_values
+returns-clause-map_values c = map_values-length

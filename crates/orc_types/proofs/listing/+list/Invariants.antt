@@ -17,3 +17,6 @@ invariant-list_fields-loop-field l =
       whole : l.types.items ++ fields_types (fields (drop l.field-index l.fields)) (length l.types.items) ≡ l.initial.types.items ++ fields_types (fields l.fields) (length l.initial.types.items);
       left : length l.types.items + widths (fields (drop l.field-index l.fields)) ≡ length l.initial.types.items + widths (fields l.fields);
     }
+
+abbrev pub decreases-list_map : goal.decreases-list_map
+decreases-list_map l = 2 * (width (shape l.key.now) + width (shape l.value.now)) + 1

@@ -2,8 +2,8 @@ use Rattle.std.proofs.Common.{◌≡◌, [], ◌∷◌, ◌++◌, map, ap, ◌�
 use Rattle.std.proofs.lemmas.Result.{err_from_is_err_and}
 use Rattle.std.proofs.lemmas.List.{map-append}
 use Rattle.orc_types.specs.Views.{name_and_type, shape, fields}
-use Rattle.orc_types.proofs.Views.{name_and_type-is, shape-List, shape-Struct}
-use Rattle.orc_types.proofs.TextFronts.{array_front, struct_front, no_front, array_fault, open_array, struct_fault, name_fault, type_fault, reached_none, reached_more, none_yet, field_fault}
+use Rattle.orc_types.proofs.Views.{name_and_type-is, shape-List, shape-Map, shape-Struct}
+use Rattle.orc_types.proofs.TextFronts.{map_front, key_fault, open_key, value_fault, open_map, array_front, struct_front, no_front, array_fault, open_array, struct_fault, name_fault, type_fault, reached_none, reached_more, none_yet, field_fault}
 use Rattle.orc_types.proofs.schema_text.+front.Goals as goal
 
 pub tree_from-returns-in_err-element-clause-fault : goal.tree_from-returns-in_err-element-clause-fault
@@ -23,16 +23,16 @@ tree_from-returns-in-Some-clause-found t c =
 pub tree_from-returns-in_err-fields-clause-fault : goal.tree_from-returns-in_err-fields-clause-fault
 tree_from-returns-in_err-fields-clause-fault t c =
     let p = err_from_is_err_and c.from_residual-in_err-fields.result c.from_residual-in_err-fields.ensures.1 in
-    rw (p.1, p.2) (struct_fault c.args.text.now c.in-Some-text_behind-2.inner.now c.args.levels c.in_err-fields.field-0.0 (omega arith) c.in-Some-text_behind-2.ensures c.in_err-fields.ensures.fault)
+    rw (p.1, p.2) (struct_fault c.args.text.now c.in-Some-text_behind-5.inner.now c.args.levels c.in_err-fields.field-0.0 (omega arith) c.in-Some-text_behind-5.ensures c.in_err-fields.ensures.fault)
 
-pub tree_from-returns-in-Some-text_behind-2-clause-found : goal.tree_from-returns-in-Some-text_behind-2-clause-found
-tree_from-returns-in-Some-text_behind-2-clause-found t c =
-    rw (shape-Struct c.in_ok-fields.fields c.new-in-Some-text_behind-2.result, c.new-in-Some-text_behind-2.ensures.items)
-    (struct_front c.args.text.now c.in-Some-text_behind-2.inner.now c.args.levels (fields c.in_ok-fields.fields.items) c.in_ok-fields.rest.now (omega arith) c.in-Some-text_behind-2.ensures c.in_ok-fields.ensures.found)
+pub tree_from-returns-in-Some-text_behind-5-clause-found : goal.tree_from-returns-in-Some-text_behind-5-clause-found
+tree_from-returns-in-Some-text_behind-5-clause-found t c =
+    rw (shape-Struct c.in_ok-fields.fields c.new-in-Some-text_behind-5.result, c.new-in-Some-text_behind-5.ensures.items)
+    (struct_front c.args.text.now c.in-Some-text_behind-5.inner.now c.args.levels (fields c.in_ok-fields.fields.items) c.in_ok-fields.rest.now (omega arith) c.in-Some-text_behind-5.ensures c.in_ok-fields.ensures.found)
 
 pub tree_from-returns-in_default-kind_from-clause-fault : goal.tree_from-returns-in_default-kind_from-clause-fault
 tree_from-returns-in_default-kind_from-clause-fault t c =
-    (omega arith, no_front c.args.text.now (c.in_default.ensures) (c.in_default-text_behind-2.ensures) (c.in_default-kind_from.ensures.none))
+    (omega arith, no_front c.args.text.now (c.in_default.ensures) (c.in_default-text_behind-2.ensures) (c.in_default-text_behind-5.ensures) (c.in_default-kind_from.ensures.none))
 
 pub field_from-returns-in_err-name-clause-fault : goal.field_from-returns-in_err-name-clause-fault
 field_from-returns-in_err-name-clause-fault t c =
@@ -58,3 +58,29 @@ fields_from-loop-rest-preserved t c =
     let pushed : map name_and_type c.push.new.self.items ≡ map name_and_type c.loop-rest.fields.items ++ (string_bytes one.name, shape one.tree) ∷ [] =
     ap (map name_and_type) c.in_ok-push.ensures.items ∙ map-append name_and_type c.loop-rest.fields.items (one ∷ []) ∙ ap (λ g. map name_and_type c.loop-rest.fields.items ++ g ∷ []) (name_and_type-is one) in
     rw pushed (reached_more c.args.text.now c.args.levels (map name_and_type c.loop-rest.fields.items) c.loop-rest.left.now c.is_empty.result (string_bytes one.name) (shape one.tree) c.in_ok-field.rest.now (c.is_empty.ensures ∙ none_yet c.loop-rest.fields.items _ (c.loop-rest.fields.ok.0)) c.in_ok-field.ensures.found c.loop-rest.invariant)
+
+pub tree_from-returns-in_err-key-clause-fault : goal.tree_from-returns-in_err-key-clause-fault
+tree_from-returns-in_err-key-clause-fault t c =
+    let p = err_from_is_err_and c.from_residual-in_err-key.result c.from_residual-in_err-key.ensures.1 in
+    rw (p.1, p.2) (key_fault c.args.text.now c.in-Some-text_behind-2.inner.now c.args.levels c.in_err-key.field-0.0 (omega arith) c.in-Some-text_behind-2.ensures c.in_err-key.ensures.fault)
+
+pub tree_from-returns-in_default-text_behind-3-clause-fault : goal.tree_from-returns-in_default-text_behind-3-clause-fault
+tree_from-returns-in_default-text_behind-3-clause-fault t c =
+    open_key c.args.text.now c.in-Some-text_behind-2.inner.now _ (shape c.in_ok-key.key) c.in_ok-key.rest.now c.in-Some-text_behind-2.ensures c.in_ok-key.ensures.found (c.in_default-text_behind-3.ensures)
+
+pub tree_from-returns-in_err-value-clause-fault : goal.tree_from-returns-in_err-value-clause-fault
+tree_from-returns-in_err-value-clause-fault t c =
+    let p = err_from_is_err_and c.from_residual-in_err-value.result c.from_residual-in_err-value.ensures.1 in
+    rw (p.1, p.2) (value_fault c.args.text.now c.in-Some-text_behind-2.inner.now c.in_ok-key.rest.now c.in-Some-text_behind-3.second.now c.args.levels (shape c.in_ok-key.key) c.in_err-value.field-0.0 (omega arith)
+    c.in-Some-text_behind-2.ensures c.in_ok-key.ensures.found c.in-Some-text_behind-3.ensures c.in_err-value.ensures.fault)
+
+pub tree_from-returns-in_default-text_behind-4-clause-fault : goal.tree_from-returns-in_default-text_behind-4-clause-fault
+tree_from-returns-in_default-text_behind-4-clause-fault t c =
+    open_map c.args.text.now c.in-Some-text_behind-2.inner.now c.in_ok-key.rest.now c.in-Some-text_behind-3.second.now _ (shape c.in_ok-key.key) (shape c.in_ok-value.value) c.in_ok-value.rest.now c.in-Some-text_behind-2.ensures
+    c.in_ok-key.ensures.found c.in-Some-text_behind-3.ensures c.in_ok-value.ensures.found (c.in_default-text_behind-4.ensures)
+
+pub tree_from-returns-in-Some-text_behind-2-clause-found : goal.tree_from-returns-in-Some-text_behind-2-clause-found
+tree_from-returns-in-Some-text_behind-2-clause-found t c =
+    rw (shape-Map c.in_ok-new-2.field-0 c.in_ok-new-3.field-0 c.new-in-Some-text_behind-2-3.result, c.new-in-Some-text_behind-2-3.ensures.items, c.in_ok-new-2.ensures.ok, c.in_ok-new-3.ensures.ok)
+    (map_front c.args.text.now c.in-Some-text_behind-2.inner.now c.args.levels (shape c.in_ok-key.key) c.in_ok-key.rest.now c.in-Some-text_behind-3.second.now (shape c.in_ok-value.value) c.in_ok-value.rest.now c.in-Some-text_behind-4.outer.now (omega arith)
+    c.in-Some-text_behind-2.ensures c.in_ok-key.ensures.found c.in-Some-text_behind-3.ensures c.in_ok-value.ensures.found c.in-Some-text_behind-4.ensures)

@@ -1,5 +1,5 @@
 use Rattle.orc_wire.specs.Kinds.{packed}
-use Rattle.orc_wire.proofs.TableLaws.{number_last, small_last, text_last, small_known, signed_known, small_signed_known, flag_known, text_known, text_each, all_parts, kept_parts}
+use Rattle.orc_wire.proofs.TableLaws.{number_last, small_last, text_last, number_known, small_known, signed_known, small_signed_known, flag_known, text_known, text_each, all_parts, kept_parts}
 use Rattle.orc_wire.proofs.laws.table_laws.Goals as goal
 
 pub returns-clause-number_last : goal.returns-clause-number_last
@@ -10,6 +10,9 @@ returns-clause-small_last c = small_last
 
 pub returns-clause-text_last : goal.returns-clause-text_last
 returns-clause-text_last c = text_last
+
+pub returns-clause-number_known : goal.returns-clause-number_known
+returns-clause-number_known c = number_known
 
 pub returns-clause-small_known : goal.returns-clause-small_known
 returns-clause-small_known c = small_known

@@ -1,7 +1,7 @@
 use Rattle.orc_wire.specs.CanonicalKinds.{says_kept}
 use Rattle.orc_wire.specs.CanonicalMessages.{is_dictionary}
 use Rattle.orc_wire.proofs.KeptLaws.{kept_or_not}
-use Rattle.orc_wire.proofs.WholeLaws.{encoding_whole, footer_whole, footer_kept, column_whole, directory_whole, entry_whole, integer_shown, string_shown, bucket_shown, date_shown, binary_shown, column_shown, integer_whole, string_whole, bucket_whole, date_whole, binary_whole, stripes_whole, metadata_whole, index_whole}
+use Rattle.orc_wire.proofs.WholeLaws.{encoding_whole, footer_whole, footer_kept, column_whole, directory_whole, entry_whole, integer_shown, string_shown, bucket_shown, date_shown, binary_shown, collection_shown, column_shown, integer_whole, string_whole, bucket_whole, date_whole, binary_whole, collection_whole, stripes_whole, metadata_whole, index_whole}
 use Rattle.orc_wire.proofs.laws.whole_laws.Goals as goal
 
 pub returns-clause-encoding : goal.returns-clause-encoding
@@ -60,6 +60,12 @@ returns-clause-dates c = date_whole
 
 pub returns-clause-binaries : goal.returns-clause-binaries
 returns-clause-binaries c = binary_whole
+
+pub returns-clause-collections : goal.returns-clause-collections
+returns-clause-collections c = collection_whole
+
+pub returns-clause-collection_shown : goal.returns-clause-collection_shown
+returns-clause-collection_shown c = collection_shown
 
 pub returns-clause-stripes : goal.returns-clause-stripes
 returns-clause-stripes c = stripes_whole

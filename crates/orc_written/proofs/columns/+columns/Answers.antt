@@ -1,17 +1,17 @@
 use Rattle.std.proofs.Common.{◌≡◌, ℕ, ◌+◌, ◌≤◌, List, map, drop, take, sym, ap, ◌∙◌, subst, arith}
 use Rattle.std.proofs.lemmas.Result.{on_ok_weaker}
 use Rattle.std.specs.List.{flat_map}
-use Rattle.orc_types.specs.Shapes.{Shape, list_of, struct_of, width, widths}
-use Rattle.orc_types.specs.Cells.{Cell, parts, values}
+use Rattle.orc_types.specs.Shapes.{Shape, list_of, map_of, struct_of, width, widths}
+use Rattle.orc_types.specs.Cells.{Cell, parts, keys_in, values_in, values}
 use Rattle.orc_types.specs.Fits.{RowsFit}
 use Rattle.orc_types.specs.Views.{shape, fields}
 use Rattle.orc_types.specs.Lent.{lent_cells}
-use Rattle.orc_types.proofs.ByColumn.{width_within, parts_values, members_values}
+use Rattle.orc_types.proofs.ByColumn.{width_within, parts_values, keys_values, values_values, members_values}
 use Rattle.orc_types.proofs.Together.{elements_fit, structs_fit}
-use Rattle.orc_types.proofs.Views.{shape-Scalar, shape-List, shape-Struct}
+use Rattle.orc_types.proofs.Views.{shape-Scalar, shape-List, shape-Map, shape-Struct}
 use Rattle.orc_written.specs.WrittenStripe.{AreFew}
 use Rattle.orc_written.specs.Subtrees.{AreColumnsFrom, HasWritten}
-use Rattle.orc_written.proofs.SubtreeLemmas.{heads_at, type_from, cells_from, element_from, fields_from, few_elements, few_fields, fields_begin, first_fits, first_few, fields_step, fields_end}
+use Rattle.orc_written.proofs.SubtreeLemmas.{heads_at, type_from, cells_from, element_from, pairs_from, fields_from, pairs_fit, few_elements, few_pairs, few_fields, fields_begin, first_fits, first_few, fields_step, fields_end}
 use Rattle.orc_written.proofs.columns.+columns.Goals as goal
 
 pub put_columns-put_columns-requires : goal.put_columns-put_columns-requires
@@ -38,6 +38,16 @@ put_columns-put_fields-requires t c =
     let w : width (shape c.args.tree.now) ≡ 1 + widths fs = ap width is in
     (omega (arith, w, c.decreases), (structs_fit fs o cs (subst (λ (x : Shape). RowsFit x cs) is c.requires.fit), few_fields fs o cs (subst (λ (x : Shape). AreFew x cs) is c.requires.few)))
 
+pub put_columns-put_pairs-requires : goal.put_columns-put_pairs-requires
+put_columns-put_pairs-requires t c =
+    let o = c.in-Map.field-2.items in
+    let k = shape c.deref-in-Map.result.now in
+    let v = shape c.deref-in-Map-2.result.now in
+    let cs = lent_cells c.args.cells.now in
+    let is : shape c.args.tree.now ≡ map_of k v o = ap shape c.in-Map.is ∙ shape-Map c.in-Map.key c.in-Map.value c.in-Map.field-2 ∙ ap (λ x. map_of (shape x) (shape c.in-Map.value.value) o) (sym c.deref-in-Map.ensures) ∙ ap (λ x. map_of k (shape x) o) (sym c.deref-in-Map-2.ensures) in
+    let w : width (shape c.args.tree.now) ≡ 1 + (width k + width v) = ap width is in
+    (omega (arith, w, c.decreases), (pairs_fit k v o cs (subst (λ (x : Shape). RowsFit x cs) is c.requires.fit), few_pairs k v o cs (subst (λ (x : Shape). AreFew x cs) is c.requires.few)))
+
 pub put_columns-returns-in-Scalar : goal.put_columns-returns-in-Scalar
 put_columns-returns-in-Scalar t c = λ s rows n from h.
     let w : width (shape c.args.tree.now) ≡ 1 = ap width (ap shape c.in-Scalar.is ∙ shape-Scalar c.in-Scalar.field-0 c.in-Scalar.field-1) in
@@ -61,6 +71,21 @@ put_columns-returns-in_ok-elements-in-List t c =
     subst (λ (k : ℕ). HasWritten c.args.rle s rows k c.put_columns.new.out) e (h s rows (n + 1) (subst (λ (xs : List Cell). AreColumnsFrom s rows (n + 1) below xs) (sym here) from_element) mid))
     c.put_columns.ensures
 
+pub put_columns-returns-in-Map : goal.put_columns-returns-in-Map
+put_columns-returns-in-Map t c =
+    let o = c.in-Map.field-2.items in
+    let k = shape c.deref-in-Map.result.now in
+    let v = shape c.deref-in-Map-2.result.now in
+    let cs = lent_cells c.args.cells.now in
+    let is : shape c.args.tree.now ≡ map_of k v o = ap shape c.in-Map.is ∙ shape-Map c.in-Map.key c.in-Map.value c.in-Map.field-2 ∙ ap (λ x. map_of (shape x) (shape c.in-Map.value.value) o) (sym c.deref-in-Map.ensures) ∙ ap (λ x. map_of k (shape x) o) (sym c.deref-in-Map-2.ensures) in
+    let w : width (shape c.args.tree.now) ≡ 1 + (width k + width v) = ap width is in
+    on_ok_weaker c.put_pairs.result
+    (λ h s rows n from written.
+    let e : n + 1 + (width k + width v) ≡ n + width (shape c.args.tree.now) = omega (arith, w) in
+    let mid = c.in_ok-put_column.ensures s rows n written (type_from s rows n (shape c.args.tree.now) cs from) (cells_from s rows n (shape c.args.tree.now) cs from) in
+    subst (λ (j : ℕ). HasWritten c.args.rle s rows j c.put_pairs.new.out) e (h s rows (n + 1) (pairs_from s rows n k v o cs (subst (λ (x : Shape). AreColumnsFrom s rows n x cs) is from)) mid))
+    c.put_pairs.ensures
+
 pub put_columns-returns-in-Struct : goal.put_columns-returns-in-Struct
 put_columns-returns-in-Struct t c =
     let o = c.in-Struct.field-1.items in
@@ -74,6 +99,36 @@ put_columns-returns-in-Struct t c =
     let mid = c.in_ok-put_column.ensures s rows n written (type_from s rows n (shape c.args.tree.now) cs from) (cells_from s rows n (shape c.args.tree.now) cs from) in
     subst (λ (k : ℕ). HasWritten c.args.rle s rows k c.put_fields.new.out) e (h s rows (n + 1) (fields_from s rows n fs o cs (subst (λ (x : Shape). AreColumnsFrom s rows n x cs) is from)) mid))
     c.put_fields.ensures
+
+pub put_pairs-put_columns-requires : goal.put_pairs-put_columns-requires
+put_pairs-put_columns-requires t c =
+    let k = shape c.args.key.now in
+    let v = shape c.args.value.now in
+    let cs = lent_cells c.args.maps.now in
+    let here : lent_cells c.deref.result.now ≡ flat_map keys_in (values cs) = ap lent_cells c.deref.ensures.value ∙ c.in_ok-keys.ensures ∙ sym (keys_values cs) in
+    (omega (arith, c.decreases), (subst (λ (xs : List Cell). RowsFit k xs) (sym here) c.requires.fit.0, subst (λ (xs : List Cell). AreFew k xs) (sym here) c.requires.few.0))
+
+pub put_pairs-put_columns-requires-2 : goal.put_pairs-put_columns-requires-2
+put_pairs-put_columns-requires-2 t c =
+    let k = shape c.args.key.now in
+    let v = shape c.args.value.now in
+    let cs = lent_cells c.args.maps.now in
+    let there : lent_cells c.deref-2.result.now ≡ flat_map values_in (values cs) = ap lent_cells c.deref-2.ensures.value ∙ c.in_ok-map_values.ensures ∙ sym (values_values cs) in
+    (omega (arith, c.decreases), (subst (λ (xs : List Cell). RowsFit v xs) (sym there) c.requires.fit.1, subst (λ (xs : List Cell). AreFew v xs) (sym there) c.requires.few.1))
+
+pub put_pairs-returns : goal.put_pairs-returns
+put_pairs-returns t c =
+    let k = shape c.args.key.now in
+    let v = shape c.args.value.now in
+    let cs = lent_cells c.args.maps.now in
+    let here : lent_cells c.deref.result.now ≡ flat_map keys_in (values cs) = ap lent_cells c.deref.ensures.value ∙ c.in_ok-keys.ensures ∙ sym (keys_values cs) in
+    let there : lent_cells c.deref-2.result.now ≡ flat_map values_in (values cs) = ap lent_cells c.deref-2.ensures.value ∙ c.in_ok-map_values.ensures ∙ sym (values_values cs) in
+    on_ok_weaker c.put_columns-2.result
+    (λ h s rows n from written.
+    let e : n + width k + width v ≡ n + (width k + width v) = omega arith in
+    let mid = c.in_ok-put_columns.ensures s rows n (subst (λ (xs : List Cell). AreColumnsFrom s rows n k xs) (sym here) from.0) written in
+    subst (λ (j : ℕ). HasWritten c.args.rle s rows j c.put_columns-2.new.out) e (h s rows (n + width k) (subst (λ (xs : List Cell). AreColumnsFrom s rows (n + width k) v xs) (sym there) from.1) mid))
+    c.put_columns-2.ensures
 
 pub put_fields-loop-place-init : goal.put_fields-loop-place-init
 put_fields-loop-place-init t c = fields_begin c.args.rle c.args.fields.now (map parts (values (lent_cells c.args.structs.now))) c.args.out.now c.requires.fit c.requires.few

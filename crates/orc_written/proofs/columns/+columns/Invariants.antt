@@ -9,6 +9,9 @@ use Rattle.orc_written.proofs.columns.+columns.Given as goal
 abbrev pub decreases-put_columns : goal.decreases-put_columns
 decreases-put_columns l = 2 * width (shape l.tree.now)
 
+abbrev pub decreases-put_pairs : goal.decreases-put_pairs
+decreases-put_pairs l = 2 * (width (shape l.key.now) + width (shape l.value.now)) + 1
+
 abbrev pub decreases-put_fields : goal.decreases-put_fields
 decreases-put_fields l = 2 * widths (fields_view l.fields.now) + 1
 

@@ -9,6 +9,9 @@ use Rattle.orc_written.proofs.indexes.+indexes.Given as goal
 abbrev pub decreases-put_indexes : goal.decreases-put_indexes
 decreases-put_indexes l = 2 * width (shape l.tree.now)
 
+abbrev pub decreases-put_pair_indexes : goal.decreases-put_pair_indexes
+decreases-put_pair_indexes l = 2 * (width (shape l.key.now) + width (shape l.value.now)) + 1
+
 abbrev pub decreases-put_field_indexes : goal.decreases-put_field_indexes
 decreases-put_field_indexes l = 2 * widths (fields_view l.fields.now) + 1
 

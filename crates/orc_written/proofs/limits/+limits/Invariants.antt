@@ -9,6 +9,9 @@ use Rattle.orc_written.proofs.limits.+limits.Given as goal
 abbrev pub decreases-columns_are_few : goal.decreases-columns_are_few
 decreases-columns_are_few l = 2 * width (shape l.tree.now)
 
+abbrev pub decreases-pairs_are_few : goal.decreases-pairs_are_few
+decreases-pairs_are_few l = 2 * (width (shape l.key.now) + width (shape l.value.now)) + 1
+
 abbrev pub decreases-fields_are_few : goal.decreases-fields_are_few
 decreases-fields_are_few l = 2 * widths (fields_view l.fields.now) + 1
 

@@ -1,6 +1,6 @@
-use Rattle.std.proofs.Common.{◌+◌, ◌*◌, take}
+use Rattle.std.proofs.Common.{◌+◌, ◌*◌, map, take}
 use Rattle.orc_types.specs.Shapes.{width, widths}
-use Rattle.orc_types.specs.Views.{views, shape, fields}
+use Rattle.orc_types.specs.Views.{views, paired, shape, fields}
 use Rattle.orc_file.specs.Counting.{AddsCells}
 use Rattle.orc_file.proofs.writer.counting.+counting.Given as goal
 
@@ -8,8 +8,21 @@ use Rattle.orc_file.proofs.writer.counting.+counting.Given as goal
 abbrev pub invariant-count_cell-loop-part : goal.invariant-count_cell-loop-part
 invariant-count_cell-loop-part l = AddsCells (shape l.element.value) (l.column + 1) (views (take l.part-index l.part-items)) l.initial.counts.items l.counts.items
 
+-- the columns of the keys, or of the values, have those of the first pairs more
+abbrev pub invariant-count_keys-loop-pair : goal.invariant-count_keys-loop-pair
+invariant-count_keys-loop-pair l = AddsCells (shape l.key) l.column (map (λ p. p.0) (map paired (take l.pair-index l.pairs))) l.initial.counts.items l.counts.items
+
+abbrev pub invariant-count_values-loop-pair : goal.invariant-count_values-loop-pair
+invariant-count_values-loop-pair l = AddsCells (shape l.value) l.column (map (λ p. p.1) (map paired (take l.pair-index l.pairs))) l.initial.counts.items l.counts.items
+
 abbrev pub decreases-count_cell : goal.decreases-count_cell
 decreases-count_cell l = 2 * width (shape l.tree.now)
 
 abbrev pub decreases-count_fields : goal.decreases-count_fields
 decreases-count_fields l = 2 * widths (fields l.fields.now) + 1
+
+abbrev pub decreases-count_keys : goal.decreases-count_keys
+decreases-count_keys l = 2 * width (shape l.key.now) + 1
+
+abbrev pub decreases-count_values : goal.decreases-count_values
+decreases-count_values l = 2 * width (shape l.value.now) + 1

@@ -1,0 +1,73 @@
+-- What several statistics know of children (ORC specification, "Column Statistics": each part of CollectionStatistics,
+-- field 12 of ColumnStatistics, may be missing, and files of before the field have none; own: what is known together).
+use Rattle.std.specs.Prelude.{◌≡◌, ℕ, if◌then◌else◌, List, [], ◌∷◌, map, Option, Some, None}
+use Rattle.std.specs.List.{list_all}
+use Rattle.std.specs.Option.{is_some}
+use Rattle.orc_types.specs.Cells.{Cell}
+use Rattle.orc_stats.specs.declared.kind.StatKind.{StatKind}
+use Rattle.orc_stats.specs.declared.stat.Stat.{Stat}
+use Rattle.orc_stats.specs.declared.stat.Body.{Body}
+use Rattle.orc_stats.specs.declared.stat.Body.TheVariants as body
+use Rattle.orc_stats.specs.Statistics.{stat}
+use Rattle.orc_stats.specs.Joining.{least_children, greatest_children, total_children, has_values}
+use Rattle.orc_stats.specs.Whole.{whole}
+
+-- a part, where each of several is known
+abbrev pub where_known : {A B : Type 0} → List (Option A) → Option B → Option B
+where_known ps y = if list_all is_some ps then y else None
+
+-- of a body, the parts of children that each of several others knows; all other parts stay
+abbrev pub known_in : List Body → Body → Body
+known_in bs body.Plain = body.Plain
+known_in bs (body.Ints l g s) = body.Ints l g s
+known_in bs (body.Bools t) = body.Bools t
+known_in bs (body.Dates l g) = body.Dates l g
+known_in bs (body.Texts l g s) = body.Texts l g s
+known_in bs (body.Bins s) = body.Bins s
+known_in bs (body.Children l g t) =
+    body.Children
+    (where_known (map least_children bs) l)
+    (where_known (map greatest_children bs) g)
+    (where_known (map total_children bs) t)
+
+-- of a statistic, what one such body knows
+abbrev pub known_as : Body → Stat → Stat
+known_as o s = record s { body = known_in (o ∷ []) s.body }
+
+-- The first says what the second says, but for parts of children that the first doesn't know.
+abbrev pub Agrees : Stat → Stat → Type 0
+Agrees x y = x ≡ known_as x.body y
+
+-- a part that isn't known, or is the right one
+abbrev pub IsPart : Option ℕ → Option ℕ → Type 0
+IsPart None right = Unit {0}
+IsPart (Some n) right = Some n ≡ right
+
+-- the body that is told, if one is; one of no children knows nothing of them
+abbrev pub told_body : Option Stat → Body
+told_body None = body.Plain
+told_body (Some s) = s.body
+
+-- of what is told of each part, that of the parts that have a value; of one of which nothing is told no more is known
+abbrev pub told_of : StatKind → List (Option Stat) → List (List Cell) → List Body
+told_of k told [] = []
+told_of k [] (p ∷ ps) = if has_values (stat k p) then body.Plain ∷ told_of k [] ps else told_of k [] ps
+told_of k (t ∷ ts) (p ∷ ps) = if has_values (stat k p) then told_body t ∷ told_of k ts ps else told_of k ts ps
+
+-- the statistic of all the cells, of which some parts tell theirs: as `whole`, but of children no more than each of
+-- them knows
+abbrev pub known_whole : StatKind → List (Option Stat) → List (List Cell) → Stat
+known_whole k told parts = let all = whole k parts in record all { body = known_in (told_of k told parts) all.body }
+
+-- the parts' statistics, each with no more of children than is told
+abbrev pub known_stats : StatKind → List (Option Stat) → List (List Cell) → List Stat
+known_stats k told [] = []
+known_stats k [] (p ∷ ps) = known_as body.Plain (stat k p) ∷ known_stats k [] ps
+known_stats k (t ∷ ts) (p ∷ ps) = known_as (told_body t) (stat k p) ∷ known_stats k ts ps
+
+-- each statistic agrees with that of its part
+abbrev pub AllAgree : StatKind → List Stat → List (List Cell) → Type 0
+AllAgree k [] [] = Unit {0}
+AllAgree k [] (p ∷ ps) = ⊥
+AllAgree k (s ∷ ss) [] = ⊥
+AllAgree k (s ∷ ss) (p ∷ ps) = Agrees s (stat k p) × AllAgree k ss ps

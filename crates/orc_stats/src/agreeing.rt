@@ -1,0 +1,149 @@
+//! Whether a statistic that is told of cells is theirs. Of children it may know less.
+ghost use Rattle.std.specs.Prelude.{◌≡◌, ◌∷◌, []};
+ghost use Rattle.std.specs.Bool.{OnTrue, OnFalse};
+ghost use Rattle.orc_stats.specs.Joining.{least_children, greatest_children, total_children};
+ghost use Rattle.orc_stats.specs.Known.{where_known, known_in, known_as, Agrees};
+
+use crate::stat::{Body, Stat};
+use orc_wire::Bytes;
+
+/// Whether two texts are one, or neither is known.
+fn same_text(told: &Option<Bytes>, right: &Option<Bytes>) -> bool
+    ensures yes { OnTrue result (told.now ≡ right.now) }
+    ensures no { OnFalse result (told.now ≡ right.now → ⊥) }
+{
+    match (told, right) {
+        (None, None) => true,
+        (Some(told), Some(right)) => told.as_slice() == right.as_slice(),
+        (None, Some(_)) | (Some(_), None) => false,
+    }
+}
+
+/// Whether a part of children is the right one, or isn't known.
+fn is_part(told: Option<u64>, right: Option<u64>) -> bool
+    ensures yes { OnTrue result (told ≡ where_known (told ∷ []) right) }
+    ensures no { OnFalse result (told ≡ where_known (told ∷ []) right → ⊥) }
+{
+    match told {
+        Some(_) => told == right,
+        None => true,
+    }
+}
+
+/// Whether what is told of the values is right.
+fn is_body(told: &Body, right: &Body) -> bool
+    ensures yes { OnTrue result (told.now ≡ known_in (told.now ∷ []) right.now) }
+    ensures no { OnFalse result (told.now ≡ known_in (told.now ∷ []) right.now → ⊥) }
+{
+    match (told, right) {
+        (Body::Plain, Body::Plain) => true,
+        (
+            Body::Ints {
+                least,
+                greatest,
+                sum,
+            },
+            Body::Ints {
+                least: right_least,
+                greatest: right_greatest,
+                sum: right_sum,
+            },
+        ) => least == right_least && greatest == right_greatest && sum == right_sum,
+        (Body::Bools { trues }, Body::Bools { trues: right }) => trues == right,
+        (
+            Body::Dates { least, greatest },
+            Body::Dates {
+                least: right_least,
+                greatest: right_greatest,
+            },
+        ) => least == right_least && greatest == right_greatest,
+        (
+            Body::Texts {
+                least,
+                greatest,
+                sum,
+            },
+            Body::Texts {
+                least: right_least,
+                greatest: right_greatest,
+                sum: right_sum,
+            },
+        ) => {
+            same_text(least, right_least) && same_text(greatest, right_greatest) && sum == right_sum
+        }
+        (Body::Bins { sum }, Body::Bins { sum: right }) => sum == right,
+        (
+            Body::Children {
+                least,
+                greatest,
+                total,
+            },
+            Body::Children {
+                least: right_least,
+                greatest: right_greatest,
+                total: right_total,
+            },
+        ) => {
+            is_part(*least, *right_least)
+                && is_part(*greatest, *right_greatest)
+                && is_part(*total, *right_total)
+        }
+        _ => false,
+    }
+}
+
+/// A part of children, where another is known.
+fn kept(told: Option<u64>, part: Option<u64>) -> Option<u64>
+    ensures { result ≡ where_known (told ∷ []) part }
+{
+    match told {
+        Some(_) => part,
+        None => None,
+    }
+}
+
+/// The parts of children that a body knows: the least, the greatest and the total.
+fn children_in(body: &Body) -> (Option<u64>, Option<u64>, Option<u64>)
+    ensures least { result.0 ≡ least_children body.now }
+    ensures greatest { result.1 ≡ greatest_children body.now }
+    ensures total { result.2 ≡ total_children body.now }
+{
+    match body {
+        Body::Children {
+            least,
+            greatest,
+            total,
+        } => (*least, *greatest, *total),
+        _ => (None, None, None),
+    }
+}
+
+impl Stat {
+    /// Whether this says what the right statistic says, but for parts of children that this doesn't
+    /// know. It has one direction.
+    pub fn agrees(&self, right: &Stat) -> bool
+        ensures yes { OnTrue result (Agrees self.now right.now) }
+        ensures no { OnFalse result (Agrees self.now right.now → ⊥) }
+    {
+        self.count == right.count && self.nulls == right.nulls && is_body(&self.body, &right.body)
+    }
+
+    /// Forgets the parts of children that a body doesn't know.
+    pub fn keep_known(&mut self, told: &Body)
+        ensures { self.new ≡ known_as told.now self.old }
+    {
+        if let Body::Children {
+            least,
+            greatest,
+            total,
+        } = &self.body
+        {
+            let known = children_in(told);
+            self.body = Body::Children {
+                least: kept(known.0, *least),
+                greatest: kept(known.1, *greatest),
+                total: kept(known.2, *total),
+            };
+        }
+    }
+}
