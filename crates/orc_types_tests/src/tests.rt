@@ -10,6 +10,7 @@ use std::process::Abort;
 
 mod json_leaves;
 mod json_rows;
+mod parts;
 mod refused;
 mod rows;
 mod texts;

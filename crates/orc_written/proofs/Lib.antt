@@ -1,5 +1,8 @@
 pub mod CellValuesLemmas
 pub mod WordListLemmas
+pub mod EachOnceLemmas
+pub mod EntriesLemmas
+pub mod PlacesLemmas
 pub mod AddingLemmas
 pub mod WrittenDirectory
 pub mod WrittenReads

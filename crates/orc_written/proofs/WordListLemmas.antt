@@ -1,19 +1,14 @@
 -- Dictionaries of texts as they are written.
-use Rattle.std.proofs.Common.{◌≡◌, ℕ, zero, suc, ◌<◌, ◌≤◌, List, [], ◌∷◌, length, map, get_or, nat_eq, refl, sym, ap, subst, ◌∙◌, arith, inl, inr, ◌⊎◌}
-use Rattle.std.specs.List.{Contains, AllByRecursion, dedup, slice_get, HoldsAt}
-use Rattle.std.specs.List.Sorted.{IsStrictlySortedBy, IsSorted, IsPermutation, IsNonDecreasingBy, IsPartitionPoint}
+use Rattle.std.proofs.Common.{◌≡◌, ℕ, zero, suc, List, [], ◌∷◌, map, nat_eq, refl, sym, ap, subst, ◌∙◌, arith, inl, inr, ◌⊎◌}
+use Rattle.std.specs.List.{Contains, AllByRecursion, dedup}
+use Rattle.std.specs.List.Sorted.{IsStrictlySortedBy, IsSorted, IsPermutation}
 use Rattle.std.specs.List.Retain.{IsFiltered, DiffersFromLast}
 use Rattle.std.specs.Ordering.{nat_cmp, ordering_index, ordering_reverse}
 use Rattle.std.specs.declared.cmp.Ordering.{Ordering}
 use Rattle.std.specs.declared.cmp.Ordering.TheVariants.{Less, Equal, Greater}
 use Rattle.std.specs.Cmp.{on_equiv, unsigned_ties}
 use Rattle.std.specs.Cmp.Lexicographic.{slice_cmp, pointwise, same_text, lists_ties, on_texts}
-use Rattle.std.specs.declared.option.Option.TheVariants.{Some}
-use Rattle.std.proofs.lemmas.Bool.{cases_lt}
 use Rattle.std.proofs.lemmas.Cmp.{tied_itself, nat_list_eq_equiv, nat_list_cmp_total}
-use Rattle.std.proofs.Math.ListN.{get_or-map}
-use Rattle.std.proofs.lemmas.List.{length-map}
-use Rattle.std.proofs.lemmas.Map.Keys.{Less-from_sorted}
 use Rattle.std.proofs.lemmas.Map.Lookups.{exact_bytes}
 use Rattle.std.proofs.lemmas.List.Filters.{dedup_is}
 use Rattle.std.proofs.lemmas.List.Kept.{IsStrictlySortedBy-dedup, Any-dedup, Contains-from_dedup}
@@ -69,62 +64,7 @@ distinct_are {X = X} now old sorted new moved ordered kept =
           subst (λ (t : List ℕ). Contains (map now old) t) a.is (to_map now old a.of b);
     }
 
--- a text is before or after those that it is compared with, as they ascend
-rises : (a b x : List ℕ) (p q : Ordering) → slice_cmp nat_cmp a b ≡ Less → slice_cmp nat_cmp a x ≡ p → slice_cmp nat_cmp b x ≡ q → ordering_index p ≤ ordering_index q
-rises a b x Less q lt h k = omega arith
-rises a b x Equal Equal lt h k = omega arith
-rises a b x Equal Greater lt h k = omega arith
-rises a b x Greater Greater lt h k = omega arith
-rises a b x Equal Less lt h k =
-    let after : slice_cmp nat_cmp x b ≡ Less = sym (nat_list_cmp_total.congr a x b h) ∙ lt in
-    let back : Less ≡ Greater = sym k ∙ (nat_list_cmp_total.antisymm b x ∙ ap ordering_reverse after) in
-    omega (arith, ap ordering_index back)
-rises a b x Greater Less lt h k =
-    let before : slice_cmp nat_cmp x a ≡ Less = nat_list_cmp_total.antisymm x a ∙ ap ordering_reverse h in
-    let back : Less ≡ Greater = sym k ∙ (nat_list_cmp_total.antisymm b x ∙ ap ordering_reverse (nat_list_cmp_total.trans x a b before lt)) in
-    omega (arith, ap ordering_index back)
-rises a b x Greater Equal lt h k =
-    let before : slice_cmp nat_cmp x a ≡ Less = nat_list_cmp_total.antisymm x a ∙ ap ordering_reverse h in
-    let back : Equal ≡ Greater = sym k ∙ (nat_list_cmp_total.antisymm b x ∙ ap ordering_reverse (nat_list_cmp_total.trans x a b before lt)) in
-    omega (arith, ap ordering_index back)
-
-non_decreasing : {X : Type 0} (now : X → List ℕ) (xs : List X) (text : List ℕ) → IsStrictlySortedBy (slice_cmp nat_cmp) (map now xs) → IsNonDecreasingBy (λ y. ordering_index (slice_cmp nat_cmp (now y) text)) xs
-non_decreasing now xs text h i j d le lt =
-    elim (cases_lt i j) [
-      | inl less ↦
-          let at_i : get_or (map now xs) i (now d) ≡ now (get_or xs i d) = get_or-map now xs i d in
-          let at_j : get_or (map now xs) j (now d) ≡ now (get_or xs j d) = get_or-map now xs j d in
-          let ascends = Less-from_sorted (slice_cmp nat_cmp) (map now xs) i j (now d) h less (omega (arith, lt, length-map xs now)) in
-          rises (now (get_or xs i d)) (now (get_or xs j d)) text _ _ (rw (at_i, at_j) at ascends) refl refl
-      | inr ge ↦ let same : i ≡ j = omega (arith, le, ge) in rw same (omega arith)
-    ]
-
-pub found_there : {X : Type 0} (now : X → List ℕ) (xs : List X) (i : ℕ) (text : List ℕ) → i < length xs → HoldsAt (λ y. slice_cmp nat_cmp (now y) text ≡ Equal) xs i → slice_get (map now xs) i ≡ Some text
-found_there now [] i text lt h = absurd (omega (arith, lt))
-found_there now (x ∷ xs) zero text lt h = ap Some (exact_bytes (now x) text (h x))
-found_there now (x ∷ xs) (suc i) text lt h = found_there now xs i text (omega (arith, lt)) h
-
-pub not_missed : {X : Type 0} (now : X → List ℕ) (xs : List X) (i : ℕ) (text : List ℕ) → IsStrictlySortedBy (slice_cmp nat_cmp) (map now xs) → Contains (map now xs) text
-    → (IsNonDecreasingBy (λ y. ordering_index (slice_cmp nat_cmp (now y) text)) xs → IsPartitionPoint (λ y. slice_cmp nat_cmp (now y) text ≡ Less) (λ y. slice_cmp nat_cmp (now y) text ≡ Greater) xs i) → ⊥
-not_missed now xs i text ascend there position =
-    let split = position (non_decreasing now xs text ascend) in
-    let a = from_map now xs text there in
-    let here : slice_cmp nat_cmp (now (get_or xs a.there.0 a.of)) text ≡ Equal = ap (λ (t : List ℕ). slice_cmp nat_cmp t text) (ap now a.there.2 ∙ a.is) ∙ tied_itself nat_list_cmp_total text in
-    elim (cases_lt a.there.0 i) [
-      | inl before ↦ let bad : Equal ≡ Less = sym here ∙ split.0 a.there.0 a.of (omega arith) before in omega (arith, ap ordering_index bad)
-      | inr after ↦ let bad : Equal ≡ Greater = sym here ∙ split.1 a.there.0 a.of after a.there.1 in omega (arith, ap ordering_index bad)
-    ]
-
--- what a search answers, in the list that the slice is
-pub found_in : {X : Type 0} (now : X → List ℕ) (ys xs : List X) (i : ℕ) (text : List ℕ) → ys ≡ xs → i < length ys → HoldsAt (λ y. slice_cmp nat_cmp (now y) text ≡ Equal) ys i → slice_get (map now xs) i ≡ Some text
-found_in {X = X} now ys xs i text e lt h = subst (λ (t : List X). slice_get (map now t) i ≡ Some text) e (found_there now ys i text lt h)
-
-pub not_missed_in : {X : Type 0} (now : X → List ℕ) (ys xs : List X) (i : ℕ) (text : List ℕ) → ys ≡ xs → IsStrictlySortedBy (slice_cmp nat_cmp) (map now xs) → Contains (map now xs) text
-    → (IsNonDecreasingBy (λ y. ordering_index (slice_cmp nat_cmp (now y) text)) ys → IsPartitionPoint (λ y. slice_cmp nat_cmp (now y) text ≡ Less) (λ y. slice_cmp nat_cmp (now y) text ≡ Greater) ys i) → ⊥
-not_missed_in {X = X} now ys xs i text e ascend there position =
-    not_missed now ys i text (subst (λ (t : List X). IsStrictlySortedBy (slice_cmp nat_cmp) (map now t)) (sym e) ascend) (subst (λ (t : List X). Contains (map now t) text) (sym e) there) position
-
-in_tail : (x t : List ℕ) (xs : List (List ℕ)) → Contains (x ∷ xs) t → (x ≡ t) ⊎ Contains xs t
+pub in_tail : (x t : List ℕ) (xs : List (List ℕ)) → Contains (x ∷ xs) t → (x ≡ t) ⊎ Contains xs t
 in_tail x t xs (zero, lt, e) = inl e
 in_tail x t xs (suc k, lt, e) = inr (k, omega (arith, lt), e)
 
@@ -152,10 +92,10 @@ rest_there : (x y t : List ℕ) (xs ys : List (List ℕ)) → x ≡ y → AllByR
 rest_there x y t xs ys same h c d =
     elim (in_tail y t ys d) [ inl e ↦ absurd (not_itself x (subst (λ (z : List ℕ). slice_cmp nat_cmp x z ≡ Less) (sym (same ∙ e)) (less_in x t xs h c))) | inr more ↦ more ]
 
-here : (x : List ℕ) (xs : List (List ℕ)) → Contains (x ∷ xs) x
+pub here : (x : List ℕ) (xs : List (List ℕ)) → Contains (x ∷ xs) x
 here x xs = (zero, omega arith, refl)
 
-later : (x t : List ℕ) (xs : List (List ℕ)) → Contains xs t → Contains (x ∷ xs) t
+pub later : (x t : List ℕ) (xs : List (List ℕ)) → Contains xs t → Contains (x ∷ xs) t
 later x t xs c = (suc c.0, omega (arith, c.1), c.2)
 
 -- texts in order are one list

@@ -1,4 +1,6 @@
 pub mod WordList
+pub mod WordChoice
+pub mod WordPlaces
 pub mod CellValues
 pub mod WrittenStreams
 pub mod WrittenColumn

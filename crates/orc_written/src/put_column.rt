@@ -19,7 +19,7 @@ use crate::cell_values::{
     ByteString, are_all_values, bools_of, byte_string_lengths, byte_strings_of, ints_of, marks_in,
     number_bytes_of, sizes_of,
 };
-use crate::word_list::{WordList, entries_of, is_worth, word_list_of};
+use crate::word_list::{WordList, entries_of, word_list_of};
 use orc_rle::{Rle, Sign};
 use orc_types::{Lent, Scalar, Tree};
 use orc_wire::Encoding;
@@ -188,12 +188,12 @@ fn put_texts(
 ) -> Result<Encoding, AllocError>
     ensures { IfOk result (AddsValues (λ w. HasTexts rle w (byte_strings strings.now)) column body.old body.new) }
 {
-    let entries = entries_of(alloc, strings)?;
-    if is_worth(entries.len(), strings.len()) {
-        let found = word_list_of(alloc, entries, strings)?;
-        put_words(alloc, rle, column, &found, body)
-    } else {
-        put_groups(alloc, rle, column, strings, body)
+    match entries_of(alloc, strings)? {
+        Some(entries) => {
+            let found = word_list_of(alloc, entries, strings)?;
+            put_words(alloc, rle, column, &found, body)
+        }
+        None => put_groups(alloc, rle, column, strings, body),
     }
 }
 

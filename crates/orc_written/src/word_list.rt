@@ -1,16 +1,18 @@
 //! The dictionary of a column of texts, as it is written.
-ghost use Rattle.std.specs.Prelude.{◌≡◌, length, IfOk, Some, slice_get};
-ghost use Rattle.std.specs.List.{Contains};
-ghost use Rattle.std.specs.List.Sorted.{IsStrictlySortedBy};
-ghost use Rattle.std.specs.Ordering.{nat_cmp};
-ghost use Rattle.std.specs.Cmp.Lexicographic.{slice_cmp};
+ghost use Rattle.std.specs.Prelude.{◌≡◌, length, IfOk};
+ghost use Rattle.std.specs.HashMap.{get};
+ghost use Rattle.std.specs.Option.{MatchOption};
 ghost use Rattle.orc_rle.specs.declared.sign.Sign.TheVariants.{Unsigned};
 ghost use Rattle.orc_rle.specs.Values.{AllInRange};
 ghost use Rattle.orc_written.specs.WordList as spec;
+ghost use Rattle.orc_written.specs.WordChoice.{AreEachOnce, AreWorthy, HasTooMany, HaveManyEntries};
+ghost use Rattle.orc_written.specs.WordPlaces.{same_bytes, ArePlaces};
 ghost use Rattle.orc_written.specs.WordList.{byte_strings, lent_bytes, AreDistinct, AreNamed};
 
 use crate::cell_values::{ByteString, number_of};
 use std::alloc::{AllocError, Global};
+use std::collections::{HashMap, HashSet};
+use std::hash::Hash;
 
 /// The texts of a column, each once, and for each text its place among them.
 #[derive(Drop)]
@@ -22,13 +24,13 @@ pub(crate) struct WordList<'r> {
 
 /// Whether texts are written by a dictionary: there is one, and there are at least twice as many as
 /// distinct ones.
-pub(crate) fn is_worth(entries: usize, texts: usize) -> bool
+fn is_worth(entries: usize, texts: usize) -> bool
     ensures { result ≡ spec.is_worth entries texts }
 {
     0 < texts && entries <= texts / 2
 }
 
-/// The texts, as a list that can be sorted.
+/// The texts, as a list.
 fn texts_of<'r>(alloc: Global, strings: &[ByteString<'r>]) -> Result<Vec<&'r [u8]>, AllocError>
     ensures { IfOk result (λ texts. lent_bytes texts.items ≡ byte_strings strings.now) }
 {
@@ -37,6 +39,24 @@ fn texts_of<'r>(alloc: Global, strings: &[ByteString<'r>]) -> Result<Vec<&'r [u8
         texts.push(string.0)?;
     }
     Ok(texts)
+}
+
+/// The items, each once, as they come; nothing once they are too many for a dictionary.
+fn each_once<K: Eq + Hash + Copy>(alloc: Global, items: &[K]) -> Result<Option<Vec<K>>, AllocError>
+    ensures { IfOk result (λ found. MatchOption found
+        (HasTooMany K.eq items.now) (λ few. AreEachOnce K.eq items.now few.items)) }
+{
+    let mut seen = HashSet::new(alloc);
+    let mut few = Vec::new(alloc);
+    for item in items {
+        if !is_worth(few.len(), items.len()) {
+            return Ok(None);
+        }
+        if seen.insert(*item)? {
+            few.push(*item)?;
+        }
+    }
+    Ok(Some(few))
 }
 
 /// Keeps each text once, in the order of unsigned bytes. It takes no memory.
@@ -48,16 +68,18 @@ fn distinct<'r>(mut texts: Vec<&'r [u8]>) -> Vec<&'r [u8]>
     texts
 }
 
-/// The place of a text among entries that ascend.
-fn place_of<'r>(entries: &Vec<&'r [u8]>, text: &'r [u8]) -> usize
-    requires ascend { IsStrictlySortedBy (slice_cmp nat_cmp) (lent_bytes entries.now.items) }
-    requires there { Contains (lent_bytes entries.now.items) text.now }
-    ensures { slice_get (lent_bytes entries.now.items) result ≡ Some text.now }
+/// The place of each entry.
+fn entry_places<'r>(
+    alloc: Global,
+    entries: &Vec<&'r [u8]>,
+) -> Result<HashMap<&'r [u8], usize>, AllocError>
+    ensures { IfOk result (λ places. ArePlaces (get same_bytes places) (lent_bytes entries.now.items)) }
 {
-    match entries.binary_search(&text) {
-        Ok(place) => place,
-        Err(place) => place,
+    let mut places = HashMap::with_capacity(alloc, entries.len())?;
+    for place in 0..entries.len() {
+        places.insert(entries[place], place)?;
     }
+    Ok(places)
 }
 
 /// For each text its place among the entries.
@@ -71,9 +93,13 @@ fn places_of<'r>(
         (λ places. AreNamed (lent_bytes entries.now.items) places.items (byte_strings strings.now)) }
     ensures in_range { IfOk result (λ places. AllInRange Unsigned places.items) }
 {
+    let known = entry_places(alloc, entries)?;
     let mut places = Vec::new(alloc);
     for string in strings {
-        places.push(number_of(place_of(entries, string.0))?)?;
+        match known.get(&string.0) {
+            Some(place) => places.push(number_of(*place)?)?,
+            None => unreachable!(),
+        }
     }
     Ok(places)
 }
@@ -92,14 +118,24 @@ fn byte_strings_from<'r>(
     Ok(strings)
 }
 
-/// The texts, each once, in the order of unsigned bytes.
+/// The texts, each once, in the order of unsigned bytes; nothing where a dictionary of them isn't worth it.
+/// Only distinct texts are sorted, and no more of them than half of all.
 pub(crate) fn entries_of<'r>(
     alloc: Global,
     strings: &[ByteString<'r>],
-) -> Result<Vec<&'r [u8]>, AllocError>
-    ensures { IfOk result (λ entries. AreDistinct (byte_strings strings.now) (lent_bytes entries.items)) }
+) -> Result<Option<Vec<&'r [u8]>>, AllocError>
+    ensures { IfOk result (λ found. MatchOption found (HaveManyEntries (byte_strings strings.now))
+        (λ entries. AreWorthy (byte_strings strings.now) (lent_bytes entries.items))) }
 {
-    Ok(distinct(texts_of(alloc, strings)?))
+    let Some(texts) = each_once(alloc, &texts_of(alloc, strings)?)? else {
+        return Ok(None);
+    };
+    let entries = distinct(texts);
+    if is_worth(entries.len(), strings.len()) {
+        Ok(Some(entries))
+    } else {
+        Ok(None)
+    }
 }
 
 /// The entries, and the place of each text among them.
