@@ -1,7 +1,6 @@
 -- That any texts have entries, and that distinct ones of them are no more.
-use Rattle.std.proofs.Common.{◌≡◌, ℕ, zero, suc, ◌<◌, ◌≤◌, ◌+◌, ◌*◌, Bool, true, false, ◌&&◌, ◌||◌, nat_eq, nat_lt, nat_le, List, [], ◌∷◌, length, map, refl, sym, ap, subst, ◌∙◌, arith, inl, inr, ◌⊎◌}
+use Rattle.std.proofs.Common.{◌≡◌, ℕ, zero, ◌≤◌, Bool, true, false, nat_eq, List, [], ◌∷◌, length, map, refl, sym, ap, subst, ◌∙◌, arith, inl, inr, ◌⊎◌}
 use Rattle.std.specs.Borrow.{Bor}
-use Rattle.std.specs.Cmp.{IsEquivalence}
 use Rattle.std.specs.Cmp.Lexicographic.{slice_cmp, pointwise, same_text}
 use Rattle.std.specs.List.{Contains, AllByRecursion, IsDistinct, list_any}
 use Rattle.std.specs.List.Sorted.{IsStrictlySortedBy}
@@ -15,7 +14,7 @@ use Rattle.std.proofs.lemmas.Map.Lookups.{exact_bytes}
 use Rattle.std.proofs.lemmas.Map.Made.{length-le_from_is_member}
 use Rattle.orc_written.specs.WordList.{AreDistinct, is_worth}
 use Rattle.orc_written.specs.WordChoice.{AreEachOnce, HasTooMany, HaveManyEntries}
-use Rattle.orc_written.proofs.WordListLemmas.{Image, from_map, to_map, in_tail, here, later}
+use Rattle.orc_written.proofs.WordListLemmas.{from_map, to_map, in_tail, here, later}
 
 -- a text put among others in order
 abbrev pub by : Ordering → List (List ℕ) → List (List ℕ) → List (List ℕ) → List (List ℕ)

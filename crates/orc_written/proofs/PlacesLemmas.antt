@@ -1,5 +1,5 @@
 -- Where entries stand, as far as they were looked at.
-use Rattle.std.proofs.Common.{◌≡◌, ℕ, zero, suc, ◌<◌, ◌≤◌, ◌+◌, nat_eq, map, Bool, true, false, cond, ◌||◌, Option, Some, None, List, length, take, get_or, slice_get, IfSome, ℤ, pos, [], ◌∷◌, ◌++◌, refl, sym, ap, ◌∙◌, subst, arith}
+use Rattle.std.proofs.Common.{◌≡◌, ℕ, zero, suc, ◌<◌, ◌≤◌, ◌+◌, nat_eq, map, Bool, true, false, cond, ◌||◌, Option, Some, List, length, take, get_or, slice_get, IfSome, ℤ, pos, [], ◌∷◌, ◌++◌, refl, sym, ap, ◌∙◌, subst, arith}
 use Rattle.std.specs.Borrow.{Bor}
 use Rattle.std.specs.List.{list_any, Contains}
 use Rattle.std.specs.Cmp.Lexicographic.{pointwise, same_text}

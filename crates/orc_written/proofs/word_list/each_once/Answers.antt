@@ -1,4 +1,4 @@
-use Rattle.std.proofs.Common.{rules, ◌≡◌, length, ℕ, ◌+◌, ◌<◌, ◌≤◌, Bool, true, false, List, [], ◌∷◌, ◌++◌, take, sym, ap, ◌∙◌, subst, arith}
+use Rattle.std.proofs.Common.{rules, ◌≡◌, ◌+◌, take, sym, ap, ◌∙◌, subst}
 use Rattle.orc_written.proofs.EachOnceLemmas.{AreFound, new_item, old_item, all_found, too_many, absent_by, present_by}
 use Rattle.orc_written.proofs.word_list.each_once.Goals as goal
 use Rattle.orc_written.proofs.word_list.each_once.Goals.{then-branch+in_ok-push, else-branch}

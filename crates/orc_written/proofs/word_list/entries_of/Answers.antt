@@ -1,6 +1,5 @@
-use Rattle.std.proofs.Common.{rules, ◌≡◌, length, ℕ, List, true, false, subst, sym, ap, ◌∙◌}
+use Rattle.std.proofs.Common.{rules, ◌≡◌, length, ℕ, List, subst, sym, ap, ◌∙◌}
 use Rattle.std.proofs.lemmas.List.{length-map}
-use Rattle.std.specs.Borrow.{Bor}
 use Rattle.orc_written.specs.declared.cell_values.ByteString.{ByteString}
 use Rattle.orc_written.specs.WordList.{byte_strings, lent_bytes, is_worth, AreDistinct}
 use Rattle.orc_written.specs.WordChoice.{AreEachOnce, HasTooMany, HaveManyEntries}

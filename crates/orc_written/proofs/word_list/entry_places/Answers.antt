@@ -1,5 +1,4 @@
-use Rattle.std.proofs.Common.{rules, ◌≡◌, ℕ, Option, List}
-use Rattle.std.specs.Borrow.{Bor}
+use Rattle.std.proofs.Common.{rules}
 use Rattle.std.specs.HashMap.{get}
 use Rattle.orc_written.specs.WordPlaces.{same_bytes}
 use Rattle.orc_written.proofs.PlacesLemmas.{places_more, all_places}

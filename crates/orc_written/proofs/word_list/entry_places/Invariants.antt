@@ -1,7 +1,4 @@
-use Rattle.std.proofs.Common.{◌≡◌, ℕ, List, true, take, slice_get, Some, IfSome}
-use Rattle.std.specs.Borrow.{Bor}
 use Rattle.std.specs.HashMap.{get}
-use Rattle.orc_written.specs.WordList.{lent_bytes}
 use Rattle.orc_written.specs.WordPlaces.{same_bytes}
 use Rattle.orc_written.proofs.PlacesLemmas.{ArePlacesOf}
 use Rattle.orc_written.proofs.word_list.entry_places.Given as goal

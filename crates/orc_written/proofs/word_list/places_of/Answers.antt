@@ -2,7 +2,6 @@ use Rattle.std.proofs.Common.{rules, ◌≡◌, ℕ, ℤ, pos, ◌+◌, [], ◌�
 use Rattle.std.specs.Option.{is_some}
 use Rattle.orc_rle.specs.declared.sign.Sign.TheVariants.{Unsigned}
 use Rattle.orc_rle.specs.Values.{InRange, AllInRange}
-use Rattle.std.specs.Borrow.{Bor}
 use Rattle.orc_written.specs.WordList.{byte_strings, lent_bytes, AreNamed}
 use Rattle.orc_written.proofs.PlacesLemmas.{string_there, named_more, in_range_more, untrue}
 use Rattle.orc_written.proofs.word_list.places_of.Goals as goal
