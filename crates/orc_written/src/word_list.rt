@@ -41,7 +41,7 @@ fn texts_of<'r>(alloc: Global, strings: &[ByteString<'r>]) -> Result<Vec<&'r [u8
     Ok(texts)
 }
 
-/// The items, each once, as they come; nothing once they are too many for a dictionary.
+/// The items, each once, as they come; nothing where more come once they are too many for a dictionary.
 fn each_once<K: Eq + Hash + Copy>(alloc: Global, items: &[K]) -> Result<Option<Vec<K>>, AllocError>
     ensures { IfOk result (λ found. MatchOption found
         (HasTooMany K.eq items.now) (λ few. AreEachOnce K.eq items.now few.items)) }
@@ -119,7 +119,7 @@ fn byte_strings_from<'r>(
 }
 
 /// The texts, each once, in the order of unsigned bytes; nothing where a dictionary of them isn't worth it.
-/// Only distinct texts are sorted, and no more of them than half of all.
+/// Only distinct texts are sorted, of which there are one more than half of all at most.
 pub(crate) fn entries_of<'r>(
     alloc: Global,
     strings: &[ByteString<'r>],
