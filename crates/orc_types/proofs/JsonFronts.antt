@@ -1,5 +1,9 @@
 -- Elements and fields that were read, before those that are left.
-use Rattle.std.proofs.Common.{◌≡◌, ℕ, zero, suc, ◌<◌, ◌≤◌, List, [], ◌∷◌, ◌++◌, length, get_or, drop, map, true, Option, Some, inl, inr, Vec, Box, Global, String, BTreeMap, string_bytes, refl, sym, ap, ◌∙◌, arith, drop-cons}
+use Rattle.std.proofs.Common.{◌≡◌, ◌==◌, ℕ, zero, suc, ◌<◌, ◌≤◌, List, [], ◌∷◌, ◌++◌, length, get_or, drop, map, true, false, Option, Some, inl, inr, Vec, Box, Global, String, BTreeMap, string_bytes, string_cmp, refl, sym, ap, ◌∙◌, arith, drop-cons}
+use Rattle.std.specs.List.Sorted.{IsStrictlySortedBy}
+use Rattle.std.specs.Map.{keys_of}
+use Rattle.std.proofs.lemmas.Bool.{and_parts}
+use Rattle.std.proofs.lemmas.Bool.Decides.{nat_tests}
 use Rattle.std.proofs.lemmas.List.{drop_all}
 use Rattle.serde_json.specs.Data.{Data, array, Items, item, no_items}
 use Rattle.serde_json.specs.Find.{get, get_item}
@@ -13,10 +17,13 @@ use Rattle.orc_types.specs.declared.tree.Tree.{Tree, List as TreeList, Map as Tr
 use Rattle.orc_types.specs.declared.tree.Field.{Field}
 use Rattle.orc_types.specs.declared.value.Value.{Value, List as ListOf, Map as MapOf, Struct as StructOf}
 use Rattle.orc_types.specs.declared.value.MapPair.{MapPair}
-use Rattle.orc_types.specs.FieldNames.{all_known}
+use Rattle.orc_types.specs.FieldNames.{is_distinct, all_differ, are_distinct, all_known}
+use Rattle.orc_types.specs.KnownKeys.{count_keys}
 use Rattle.orc_types.specs.JsonRows.{Spells, PairSpells, PairsSpell, EachSpells, MemberSpells, FieldsSpell}
 use Rattle.orc_types.specs.JsonFaults.{FaultAt, PairFault, Somewhere, InElement, InField}
 use Rattle.orc_types.specs.declared.json_fault.JsonFault.{JsonFault}
+use Rattle.orc_types.specs.declared.json_fault.JsonFault.TheVariants as fault
+use Rattle.orc_types.proofs.Names.{counted_known}
 use Rattle.orc_types.proofs.Views.{name_and_type-is, paired-is, shape-List, shape-Map, shape-Struct, view-List, view-Map, view-Struct}
 
 abbrev pub before : List Cell → Cells → Cells
@@ -96,7 +103,7 @@ pub array_spells : (t : Tree) (b : Box Tree Global) (o : Vec ℕ Global) (j : Js
 array_spells t b o j js rows it is h =
     rw (it, is, shape-List b o) (inr (items_view js.items, cells_of (views rows.items), view-Array js, view-List rows, h))
 
-pub object_spells : (t : Tree) (fs : Vec Field Global) (o : Vec ℕ Global) (j : Json) (m : BTreeMap (String Global) Json) (rows : Vec (Option Value) Global) → t ≡ TreeStruct fs o → j ≡ Object m
+object_spells : (t : Tree) (fs : Vec Field Global) (o : Vec ℕ Global) (j : Json) (m : BTreeMap (String Global) Json) (rows : Vec (Option Value) Global) → t ≡ TreeStruct fs o → j ≡ Object m
     → all_known (names_of (fields_view fs.items)) (members_view m.entries) ≡ true → FieldsSpell (fields_view fs.items) (json_view j) (cells_of (views rows.items)) → Spells (shape t) (json_view j) (view (Some (StructOf rows)))
 object_spells t fs o j m rows it is known h =
     rw (it, shape-Struct fs o) (inr (members_view m.entries, cells_of (views rows.items), ap json_view is ∙ view-Object m, view-Struct rows, known, h))
@@ -107,6 +114,34 @@ array_fault Is t b o j js it is h = rw (it, is, shape-List b o, view-Array js) (
 
 pub object_fault : (Is : Shape → Data → Type 0) (t : Tree) (fs : Vec Field Global) (o : Vec ℕ Global) (d : Data) → t ≡ TreeStruct fs o → InField Is (fields_view fs.items) d → Somewhere Is (shape t) d
 object_fault Is t fs o d it h = rw (it, shape-Struct fs o) (inr h)
+
+known_all : (t : Tree) (fs : Vec Field Global) (o : Vec ℕ Global) (j : Json) (m : BTreeMap (String Global) Json) (known len : ℕ) → t ≡ TreeStruct fs o → j ≡ Object m
+    → is_distinct (shape t) ≡ true → IsStrictlySortedBy string_cmp (keys_of m.entries) → known ≡ count_keys (names_of (fields_view fs.items)) (json_view j) → len ≡ length m.entries
+    → (known == len) ≡ all_known (names_of (fields_view fs.items)) (members_view m.entries)
+known_all t fs o j m known len it is distinct sorted count size =
+    let parts = and_parts (all_differ (names_of (fields_view fs.items))) (are_distinct (fields_view fs.items)) (ap is_distinct (sym (ap shape it ∙ shape-Struct fs o)) ∙ distinct) in
+    counted_known m.entries (names_of (fields_view fs.items)) known len sorted parts.0 (count ∙ ap (count_keys (names_of (fields_view fs.items))) (ap json_view is ∙ view-Object m)) size
+
+equal_is : (a b : ℕ) → a ≡ b → (a == b) ≡ true
+equal_is a b same = grind (arith, nat_tests, same)
+
+unequal_is : (a b : ℕ) → (a ≡ b → ⊥) → (a == b) ≡ false
+unequal_is a b other = grind (arith, nat_tests, other)
+
+-- as many of the fields as there are keys were read
+pub object_read : (t : Tree) (fs : Vec Field Global) (o : Vec ℕ Global) (j : Json) (m : BTreeMap (String Global) Json) (rows : Vec (Option Value) Global) (known len : ℕ) → t ≡ TreeStruct fs o → j ≡ Object m
+    → is_distinct (shape t) ≡ true → IsStrictlySortedBy string_cmp (keys_of m.entries) → known ≡ count_keys (names_of (fields_view fs.items)) (json_view j) → len ≡ length m.entries
+    → known ≡ len → FieldsSpell (fields_view fs.items) (json_view j) (cells_of (views rows.items)) → Spells (shape t) (json_view j) (view (Some (StructOf rows)))
+object_read t fs o j m rows known len it is distinct sorted count size same h =
+    object_spells t fs o j m rows it is (sym (known_all t fs o j m known len it is distinct sorted count size) ∙ equal_is known len same) h
+
+-- fewer were
+pub object_unknown : (t : Tree) (fs : Vec Field Global) (o : Vec ℕ Global) (j : Json) (m : BTreeMap (String Global) Json) (known len : ℕ) → t ≡ TreeStruct fs o → j ≡ Object m
+    → is_distinct (shape t) ≡ true → IsStrictlySortedBy string_cmp (keys_of m.entries) → known ≡ count_keys (names_of (fields_view fs.items)) (json_view j) → len ≡ length m.entries
+    → (known ≡ len → ⊥) → Somewhere (FaultAt fault.UnknownField) (shape t) (json_view j)
+object_unknown t fs o j m known len it is distinct sorted count size other =
+    let unknown = sym (known_all t fs o j m known len it is distinct sorted count size) ∙ unequal_is known len other in
+    rw (it, shape-Struct fs o) (inl (inr (refl, (members_view m.entries, ap json_view is ∙ view-Object m, unknown))))
 
 -- ---- a map's array
 

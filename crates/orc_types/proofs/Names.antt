@@ -10,14 +10,15 @@ use Rattle.std.proofs.lemmas.List.{drop_all}
 use Rattle.std.proofs.lemmas.Bool.Decides.{nat_tests}
 use Rattle.std.proofs.lemmas.Cmp.{nat_list_cmp_total, tied_itself}
 use Rattle.std.proofs.lemmas.Slice.Eq.{bytes_eq-Decides}
-use Rattle.serde_json.specs.Data.{Members, null, no_members, put}
-use Rattle.serde_json.specs.Find.{get_member}
+use Rattle.serde_json.specs.Data.{Data, Members, null, object, no_members, put}
+use Rattle.serde_json.specs.Find.{get, get_member}
 use Rattle.serde_json.specs.View.{view as json_view, members_view}
 use Rattle.serde_json.specs.declared.value.Value.{Null, the_lemmas}
 use Rattle.serde_json.proofs.Views.{Entry, member_here, member_later, get_member-put, get_member-put_other}
 use Rattle.orc_types.specs.Shapes.{Shape, names_of}
 use Rattle.orc_types.specs.Views.{shape, name_and_type, fields}
 use Rattle.orc_types.specs.FieldNames.{is_among, all_differ, are_distinct, is_distinct, all_known}
+use Rattle.orc_types.specs.KnownKeys.{one_if_some, count_keys}
 use Rattle.orc_types.specs.declared.tree.Field.{Field}
 use Rattle.orc_types.proofs.Views.{name_and_type-is}
 
@@ -97,12 +98,12 @@ differ_more ms more n ns all whole e fresh is h =
 
 -- ---- keys that are known
 
-abbrev pub one_if : Bool → ℕ
+abbrev one_if : Bool → ℕ
 one_if true = 1
 one_if false = 0
 
 -- how many of the names are keys
-abbrev pub hits : Members → List (List ℕ) → ℕ
+abbrev hits : Members → List (List ℕ) → ℕ
 hits ms [] = 0
 hits ms (n ∷ ns) = one_if (is_some (get_member n ms)) + hits ms ns
 
@@ -146,7 +147,7 @@ hits_more e es (n ∷ ns) none differ = by (hits_more e es ns none (and_parts (n
       let other : n ≡ string_bytes e.0 → ⊥ = λ same. let t : bytes_eq n (string_bytes e.0) ≡ true = (bytes_eq-Decides n (string_bytes e.0)).1 same in cc in
       hit_later _ _ (bytes_eq n (string_bytes e.0)) (is_among ns (string_bytes e.0)) _ _ (ap is_some (member_later n e es other)) is rest
 
-pub record Counted (es : List Entry) (ns : List (List ℕ)) : Type 0 where
+record Counted (es : List Entry) (ns : List (List ℕ)) : Type 0 where
   pub most : hits (members_view es) ns ≤ length es
   pub same : (hits (members_view es) ns == length es) ≡ all_known ns (members_view es)
 
@@ -160,12 +161,12 @@ counted_next : (among : Bool) (h n : ℕ) (known : Bool) → h ≤ n → (h == n
 counted_next true h n known le e = one_more h n ∙ e
 counted_next false h n known le e = too_few h n le
 
-one_at_most : (b : Bool) → one_if b ≤ 1
-one_at_most true = omega arith
-one_at_most false = omega arith
+one_or_none : (b : Bool) → one_if b ≤ 1
+one_or_none true = omega arith
+one_or_none false = omega arith
 
 -- as many names are keys as there are keys, exactly where each key is a name
-pub counted : (es : List Entry) (ns : List (List ℕ)) → IsStrictlySortedBy string_cmp (keys_of es) → all_differ ns ≡ true → Counted es ns
+counted : (es : List Entry) (ns : List (List ℕ)) → IsStrictlySortedBy string_cmp (keys_of es) → all_differ ns ≡ true → Counted es ns
 unfolding IsStrictlySortedBy
 counted [] ns sorted differ = record { most = omega (arith, no_hits ns); same = rw (no_hits ns) refl }
 counted (e ∷ es) ns sorted differ =
@@ -173,12 +174,37 @@ counted (e ∷ es) ns sorted differ =
     let more = hits_more e es ns (not_later e.0 es sorted.0) differ in
     let among = is_among ns (string_bytes e.0) in
     record {
-      most = omega (arith, more, rest.most, one_at_most among);
+      most = omega (arith, more, rest.most, one_or_none among);
       same = ap (λ (m : ℕ). m == suc (length es)) more ∙ counted_next among (hits (members_view es) ns) (length es) (all_known ns (members_view es)) rest.most rest.same;
     }
 
-pub hits_none : (ms : Members) (fs : List Field) (i : ℕ) → length fs ≤ i → hits ms (names_of (fields (drop i fs))) ≡ 0
-hits_none ms fs i le = rw (drop_all i fs le) refl
+one_if_same : (o : Option Data) → one_if_some o ≡ one_if (is_some o)
+one_if_same None = refl
+one_if_same (Some d) = refl
+
+-- the names that are keys of an object are those that are keys of its members
+count_is_hits : (ms : Members) (ns : List (List ℕ)) → count_keys ns (object ms) ≡ hits ms ns
+count_is_hits ms [] = refl
+count_is_hits ms (n ∷ ns) = ap (λ (x : ℕ). x + count_keys ns (object ms)) (one_if_same (get_member n ms)) ∙ ap (λ (x : ℕ). one_if (is_some (get_member n ms)) + x) (count_is_hits ms ns)
+
+-- as many names are keys of the object as it has keys, exactly where each key is a name
+pub counted_known : (es : List Entry) (ns : List (List ℕ)) (known len : ℕ) → IsStrictlySortedBy string_cmp (keys_of es) → all_differ ns ≡ true
+    → known ≡ count_keys ns (object (members_view es)) → len ≡ length es → (known == len) ≡ all_known ns (members_view es)
+counted_known es ns known len sorted differ is size =
+    ap (λ (n : ℕ). n == len) (is ∙ count_is_hits (members_view es) ns) ∙ ap (λ (n : ℕ). hits (members_view es) ns == n) size ∙ (counted es ns sorted differ).same
+
+-- ---- keys that are counted field by field
+
+pub one_at_most : (o : Option Data) → one_if_some o ≤ 1
+one_at_most None = omega arith
+one_at_most (Some d) = omega arith
+
+pub count_none : (fs : List Field) (d : Data) (i : ℕ) → length fs ≤ i → count_keys (names_of (fields (drop i fs))) d ≡ 0
+count_none fs d i le = rw (drop_all i fs le) refl
+
+pub count_more : (fs : List Field) (d : Data) (i : ℕ) (f : Field) → i < length fs → f ≡ get_or fs i f
+    → count_keys (names_of (fields (drop i fs))) d ≡ one_if_some (get (string_bytes f.name) d) + count_keys (names_of (fields (drop (suc i) fs))) d
+count_more fs d i f lt is = ap (λ (ns : List (List ℕ)). count_keys ns d) (names_of-drop fs i f lt is)
 
 pub some_map : {X Y : Type 0} (f : X → Y) (o : Option X) → is_some o ≡ is_some (option_map f o)
 some_map f None = refl

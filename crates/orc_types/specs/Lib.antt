@@ -9,6 +9,7 @@ pub mod Columns
 pub mod Coding
 pub mod Views
 pub mod Preorder
+pub mod KnownKeys
 pub mod Lent
 pub mod SchemaText
 pub mod TextFaults

@@ -1,4 +1,4 @@
-//! The names of a struct's fields: whether one is given twice, and whether an object has others as keys.
+//! The names of a struct's fields: whether one is given twice.
 ghost use Rattle.std.specs.Prelude.{◌≡◌, IfOk, is_some, true};
 ghost use Rattle.serde_json.specs.Find.{get_member};
 ghost use Rattle.serde_json.specs.View.{members_view};
@@ -67,18 +67,4 @@ fn are_distinct(alloc: Global, fields: &[Field]) -> Result<bool, AllocError>
         }
     }
     Ok(true)
-}
-
-/// Whether each key is the name of a field: whether as many fields are there as there are keys.
-pub(crate) fn all_known(fields: &[Field], members: &Map<String, Json>) -> bool
-    requires { spec.all_differ (names_of (fields_view fields.now)) ≡ true }
-    ensures { result ≡ spec.all_known (names_of (fields_view fields.now)) (members_view members.now.entries) }
-{
-    let mut found = 0;
-    for field in fields {
-        if has_key(members, field.name.as_str()) {
-            found += 1;
-        }
-    }
-    found == members.len()
 }

@@ -5,12 +5,13 @@ ghost use Rattle.serde_json.specs.View.{view as json_view, items_view};
 ghost use Rattle.orc_types.specs.Cells.{Cell, cells_of, pairs_of};
 ghost use Rattle.orc_types.specs.Fits.{fits};
 ghost use Rattle.orc_types.specs.Views.{view, views, paired, shape, fields as fields_view};
+ghost use Rattle.orc_types.specs.Shapes.{names_of};
 ghost use Rattle.orc_types.specs.FieldNames.{is_distinct as spec_distinct, are_distinct};
+ghost use Rattle.orc_types.specs.KnownKeys.{count_keys};
 ghost use Rattle.orc_types.specs.JsonRows.{Spells, EachSpells, PairsSpell, PairSpells, FieldsSpell};
 ghost use Rattle.orc_types.specs.JsonFaults.{FaultAt, PairFault, Somewhere, IsNoPair, InElement, InPair, InField};
 ghost use Rattle.orc_types.specs.declared.json_fault.JsonFault.TheVariants as fault;
 
-use crate::field_names::all_known;
 use crate::json_fault::JsonFault;
 use crate::json_leaf::leaf_from_json;
 use crate::schema::Schema;
@@ -73,10 +74,11 @@ fn row_of(alloc: Global, tree: &Tree, json: &Json) -> Result<Row<'static>, JsonF
         Tree::Struct(fields, _) => match json {
             Json::Null => Ok(None),
             Json::Object(members) => {
-                if !all_known(fields, members) {
+                let (rows, known) = fields_of(alloc, fields, json)?;
+                if known != members.len() {
                     return Err(JsonFault::UnknownField);
                 }
-                Ok(Some(Value::Struct(fields_of(alloc, fields, json)?)))
+                Ok(Some(Value::Struct(rows)))
             }
             _ => Err(JsonFault::WrongShape),
         },
@@ -96,7 +98,7 @@ fn elements_of(
     ensures fault { IfErr result (λ e. e ≢ fault.OutOfMemory
         → InElement (Somewhere (FaultAt e) (shape tree.now)) (array (items_view items.now.items))) }
 {
-    let mut rows = Vec::new(alloc);
+    let mut rows = Vec::with_capacity(alloc, items.len())?;
     for item in items {
         rows.push(row_of(alloc, tree, item)?)?;
     }
@@ -156,33 +158,39 @@ fn pairs_from(
     ensures fault { IfErr result (λ e. e ≢ fault.OutOfMemory
         → InElement (PairFault e (shape key.now) (shape value.now)) (array (items_view items.now.items))) }
 {
-    let mut pairs = Vec::new(alloc);
+    let mut pairs = Vec::with_capacity(alloc, items.len())?;
     for item in items {
         pairs.push(pair_from(alloc, key, value, item)?)?;
     }
     Ok(pairs)
 }
 
-/// The rows that an object spells, field by field.
+/// The rows that an object spells, field by field, and how many of the fields it has.
 #[cycle(reading)]
 fn fields_of(
     alloc: Global,
     fields: &Vec<Field>,
     json: &Json,
-) -> Result<Vec<Row<'static>>, JsonFault>
+) -> Result<(Vec<Row<'static>>, usize), JsonFault>
     requires { are_distinct (fields_view fields.now.items) ≡ true }
     ensures found { IfOk result
-        (λ rows. FieldsSpell (fields_view fields.now.items) (json_view json.now) (cells_of (views rows.items))) }
+        (λ read. FieldsSpell (fields_view fields.now.items) (json_view json.now) (cells_of (views read.0.items))) }
+    ensures known { IfOk result
+        (λ read. read.1 ≡ count_keys (names_of (fields_view fields.now.items)) (json_view json.now)) }
     ensures fault { IfErr result (λ e. e ≢ fault.OutOfMemory
         → InField (FaultAt e) (fields_view fields.now.items) (json_view json.now)) }
 {
-    let mut rows = Vec::new(alloc);
+    let mut rows = Vec::with_capacity(alloc, fields.len())?;
+    let mut known = 0;
     for field in fields {
         let row = match json.get(field.name.as_str()) {
             None => None,
-            Some(member) => row_of(alloc, &field.tree, member)?,
+            Some(member) => {
+                known += 1;
+                row_of(alloc, &field.tree, member)?
+            }
         };
         rows.push(row)?;
     }
-    Ok(rows)
+    Ok((rows, known))
 }

@@ -1,6 +1,7 @@
-use Rattle.std.proofs.Common.{◌+◌, ◌*◌, map}
+use Rattle.std.proofs.Common.{◌≡◌, ◌≤◌, ◌+◌, ◌*◌, drop, map}
 use Rattle.serde_json.specs.View.{view as json_view}
-use Rattle.orc_types.specs.Shapes.{width, widths}
+use Rattle.orc_types.specs.Shapes.{width, widths, names_of}
+use Rattle.orc_types.specs.KnownKeys.{count_keys}
 use Rattle.orc_types.specs.Views.{views, paired, shape, fields as fields_view}
 use Rattle.orc_types.specs.JsonRows.{Spells}
 use Rattle.orc_types.proofs.JsonFronts.{ElementsRead, PairsRead, FieldsRead}
@@ -10,7 +11,10 @@ abbrev pub invariant-elements_of-loop-item : goal.invariant-elements_of-loop-ite
 invariant-elements_of-loop-item l = ElementsRead (Spells (shape l.tree)) l.item-items l.item-index (views l.rows.items)
 
 abbrev pub invariant-fields_of-loop-field : goal.invariant-fields_of-loop-field
-invariant-fields_of-loop-field l = FieldsRead l.field-items (json_view l.json) l.field-index (views l.rows.items)
+invariant-fields_of-loop-field l =
+    FieldsRead l.field-items (json_view l.json) l.field-index (views l.rows.items)
+    × (l.known + count_keys (names_of (fields_view (drop l.field-index l.field-items))) (json_view l.json) ≡ count_keys (names_of (fields_view l.field-items)) (json_view l.json))
+    × (l.known ≤ l.field-index)
 
 abbrev pub decreases-row_of : goal.decreases-row_of
 decreases-row_of l = 2 * width (shape l.tree.now)
