@@ -1,13 +1,13 @@
-use Rattle.std.proofs.Common.{◌≡◌, true, map, ◌+◌, ◌*◌, ◌<◌, Some, [], ◌∷◌, ◌++◌, string_bytes, refl, sym, ap, ◌∙◌, subst, arith, add-one}
+use Rattle.std.proofs.Common.{◌≡◌, map, ◌+◌, ◌*◌, ◌<◌, Some, [], ◌∷◌, ◌++◌, string_bytes, refl, sym, ap, ◌∙◌, subst, arith, add-one}
 use Rattle.std.proofs.lemmas.Result.{err_from_is_err_and}
 use Rattle.std.proofs.lemmas.List.{map-append}
 use Rattle.serde_json.specs.Data.{array}
 use Rattle.serde_json.specs.Find.{get}
-use Rattle.serde_json.specs.View.{view as json_view, items_view, members_view}
+use Rattle.serde_json.specs.View.{view as json_view, items_view}
 use Rattle.orc_types.specs.Shapes.{width, widths, names_of}
 use Rattle.orc_types.specs.Cells.{cells_of, pairs_of}
 use Rattle.orc_types.specs.Views.{view, views, paired, shape, fields as fields_view}
-use Rattle.orc_types.specs.FieldNames.{all_known, are_distinct}
+use Rattle.orc_types.specs.FieldNames.{are_distinct}
 use Rattle.orc_types.specs.KnownKeys.{one_if_some, count_keys}
 use Rattle.orc_types.specs.JsonRows.{Spells, PairsSpell, EachSpells, MemberSpells, FieldsSpell}
 use Rattle.orc_types.specs.JsonFaults.{FaultAt, PairFault, Somewhere, InElement}
@@ -62,10 +62,11 @@ fields_of-loop-field-preserved t c =
       | fields_of-in-Some+in_ok-row-in-Some w ↦ rw (named, ← w.in-Some.ensures, w.known-is) refl
     ] in
     let rest = count_more c.deref-field-items.result.now (json_view c.args.json.now) c.loop-field.field-index c.field-item.result c.loop-field-test.true c.field-item.is in
-    rw (pushed, add-one)
-    (fields_more c.deref-field-items.result.now (json_view c.args.json.now) c.loop-field.field-index c.field-item.result (views c.loop-field.rows.items) (view c.match-get.row) c.loop-field-test.true c.field-item.is found c.loop-field.invariant.0,
-    omega (arith, hit, rest, c.loop-field.invariant.1),
-    omega (arith, hit, one_at_most (get (string_bytes c.field-item.result.name) (json_view c.args.json.now)), c.loop-field.invariant.2))
+    rw (pushed, add-one) (
+      fields_more c.deref-field-items.result.now (json_view c.args.json.now) c.loop-field.field-index c.field-item.result (views c.loop-field.rows.items) (view c.match-get.row) c.loop-field-test.true c.field-item.is found c.loop-field.invariant.0,
+      omega (arith, hit, rest, c.loop-field.invariant.1),
+      omega (arith, hit, one_at_most (get (string_bytes c.field-item.result.name) (json_view c.args.json.now)), c.loop-field.invariant.2),
+    )
 
 pub fields_of-returns-clause-known : goal.fields_of-returns-clause-known
 fields_of-returns-clause-known t c =
