@@ -15,6 +15,3 @@ pub use packed_digits::{pack, packed_laws, unpack};
 pub use sign_fold::{unzigzag, zigzag};
 pub use varint::{put_varint, read_varint, varint_laws};
 pub use width::{Width, code_of, fixed_at_least, width_laws, width_of};
-
-#[cfg(test)]
-mod tests;

@@ -1,6 +1,7 @@
 //! What `check` prints.
 
-use crate::commands::{text_of, wants_memory};
+use crate::assertions::{check_bytes, check_same, demand};
+use crate::commands::{check_text, wants_memory};
 use crate::files::{NO_ROWS, SIX_SEVENS, THREE_SEVENS};
 use crate::trickle::{AtItsEnd, Trickle};
 use orc_file::{FileFault, SliceSource};
@@ -25,12 +26,25 @@ fn checked(alloc: Global, file: &[u8], out: &mut Trickle) -> Result<usize, CliFa
     }
 }
 
+/// This is answered of the file, and the output has got these lines.
+fn check_lines(
+    rt: &impl Abort,
+    alloc: Global,
+    file: &[u8],
+    mut out: Trickle,
+    wanted: Result<usize, CliFault>,
+    lines: &[u8],
+) {
+    let answer = checked(alloc, file, &mut out);
+    check_same(rt, "findings", &answer, &wanted);
+    check_bytes(rt, "lines", out.written(), lines);
+}
+
 #[test]
 fn nothing_is_found(rt: HostRuntime) {
     for file in [NO_ROWS.as_slice(), &THREE_SEVENS, &SIX_SEVENS] {
-        let mut out = Trickle::new(7, 512, AtItsEnd::Fails);
-        assert_eq!(rt; checked(rt.alloc(), file, &mut out), Ok(0));
-        assert_eq!(rt; out.written().len(), 0);
+        let out = Trickle::new(7, 512, AtItsEnd::Fails);
+        check_lines(&rt, rt.alloc(), file, out, Ok(0), b"");
     }
 }
 
@@ -61,9 +75,15 @@ fn changed(changes: &[(usize, u8)]) -> [u8; 120] {
 #[test]
 fn findings_are_printed(rt: HostRuntime) {
     for (changes, count, lines) in FOUND {
-        let mut out = Trickle::new(7, 512, AtItsEnd::Fails);
-        assert_eq!(rt; checked(rt.alloc(), &changed(changes), &mut out), Ok(count));
-        assert_eq!(rt; out.written(), lines.as_bytes());
+        let out = Trickle::new(7, 512, AtItsEnd::Fails);
+        check_lines(
+            &rt,
+            rt.alloc(),
+            &changed(changes),
+            out,
+            Ok(count),
+            lines.as_bytes(),
+        );
     }
 }
 
@@ -72,12 +92,18 @@ fn findings_are_printed(rt: HostRuntime) {
 fn outputs_stop(rt: HostRuntime) {
     let (changes, _, lines) = FOUND[2];
     let file = changed(changes);
+    let fault = CliFault::File(FileFault::WriteFailed);
     for at_its_end in [AtItsEnd::Fails, AtItsEnd::TakesNothing] {
         for stop in 0..lines.len() {
-            let mut out = Trickle::new(3, stop, at_its_end);
-            let answer = checked(rt.alloc(), &file, &mut out);
-            assert_eq!(rt; answer, Err(CliFault::File(FileFault::WriteFailed)));
-            assert_eq!(rt; out.written(), &lines.as_bytes()[..stop]);
+            let out = Trickle::new(3, stop, at_its_end);
+            check_lines(
+                &rt,
+                rt.alloc(),
+                &file,
+                out,
+                Err(fault),
+                &lines.as_bytes()[..stop],
+            );
         }
     }
 }
@@ -92,15 +118,27 @@ static REFUSED: [(&[(usize, u8)], &str); 2] = [
     ),
 ];
 
+/// Nothing is printed of the file, for this reason.
+fn check_refused(
+    rt: &impl Abort,
+    alloc: Global,
+    file: &[u8],
+    text: &str,
+) -> Result<(), AllocError> {
+    let mut out = Trickle::new(512, 512, AtItsEnd::Fails);
+    let answer = checked(alloc, file, &mut out);
+    demand(rt, out.written().is_empty(), text, out.written().len());
+    match answer {
+        Ok(findings) => demand(rt, false, text, findings),
+        Err(fault) => check_text(rt, alloc, fault, text)?,
+    }
+    Ok(())
+}
+
 #[test]
 fn refused_files_have_no_findings(rt: HostRuntime) -> Result<(), AllocError> {
     for (changes, text) in REFUSED {
-        let mut out = Trickle::new(512, 512, AtItsEnd::Fails);
-        match checked(rt.alloc(), &changed(changes), &mut out) {
-            Ok(_) => assert!(rt; false, "{text}"),
-            Err(fault) => assert_eq!(rt; text_of(rt.alloc(), fault)?.as_str(), text),
-        }
-        assert_eq!(rt; out.written().len(), 0);
+        check_refused(&rt, rt.alloc(), &changed(changes), text)?;
     }
     Ok(())
 }

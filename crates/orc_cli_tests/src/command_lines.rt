@@ -1,5 +1,6 @@
 //! Lists of words, and what they ask for.
 
+use crate::assertions::check_same;
 use clap::error::ErrorKind;
 use clap::{ArgMatches, Error};
 use orc_output::number_of;
@@ -7,6 +8,7 @@ use orc_request::{Request, SIGNS, VERSIONS, matches_of, request_of};
 use orc_rle::{Rle, Sign};
 use std::alloc::Global;
 use std::convert::AsStr;
+use std::process::Abort;
 
 /// What a command line asks for, but `write`: no table can hold its options.
 enum Asked {
@@ -126,9 +128,64 @@ static NUMBERS: [(&str, &str, bool); 13] = [
     ("0", "", false),
 ];
 
+/// It holds of these words.
+fn demand_of(rt: &impl Abort, holds: bool, words: &[&str]) {
+    assert!(rt; holds, "{words:?}");
+}
+
+/// It holds of these words, of which the parser says this.
+fn demand_error(rt: &impl Abort, holds: bool, words: &[&str], error: &Error) {
+    assert!(rt; holds, "{words:?}: {error}");
+}
+
+/// `request_of`, without its contract.
+fn asked_of<'m, 'a>(matches: &'m ArgMatches<'a>) -> Option<Request<'m, 'a>> {
+    request_of(matches)
+}
+
+/// Whether a request is the one to write with these numbers.
+fn asks_write(request: &Request<'_, '_>, stride: &str, stripe_rows: &str) -> bool {
+    match request {
+        Request::Write {
+            schema,
+            options,
+            input,
+            output,
+        } => {
+            options.rle() == Rle::Two
+                && Some(options.stride()) == stride.parse::<u32>().ok()
+                && Some(options.stripe_rows()) == stripe_rows.parse::<u32>().ok()
+                && *schema == "struct<n:bigint>"
+                && *input == "lines"
+                && *output == "made.orc"
+        }
+        _ => false,
+    }
+}
+
+/// Whether the words of `write` ask for anything, and then for it with these numbers.
+fn check_numbers(
+    rt: &impl Abort,
+    alloc: Global,
+    words: &[&str],
+    numbers: (&str, &str),
+    asks: bool,
+) {
+    match found(alloc, words) {
+        Ok(matches) => {
+            let is_right = match asked_of(&matches) {
+                Some(request) => asks && asks_write(&request, numbers.0, numbers.1),
+                None => !asks,
+            };
+            demand_of(rt, is_right, words);
+        }
+        Err(error) => demand_error(rt, !asks && error.use_stderr(), words, &error),
+    }
+}
+
 #[test]
 fn numbers_of_write(rt: HostRuntime) {
-    for (stride, stripe_rows, asks) in NUMBERS {
+    for (stride, stripe_rows, asks) in &NUMBERS {
         let words = [
             "orcm",
             "write",
@@ -143,31 +200,7 @@ fn numbers_of_write(rt: HostRuntime) {
             "lines",
             "made.orc",
         ];
-        match found(rt.alloc(), &words) {
-            Ok(matches) => match request_of(&matches) {
-                Some(
-                    Request::Write {
-                        schema,
-                        options,
-                        input,
-                        output,
-                    },
-                ) => {
-                    assert!(rt; asks, "{words:?}");
-                    assert_eq!(rt; schema, "struct<n:bigint>");
-                    assert_eq!(rt; options.rle(), Rle::Two);
-                    assert_eq!(rt; Some(options.stride()), stride.parse::<u32>().ok());
-                    assert_eq!(rt;
-                        Some(options.stripe_rows()),
-                        stripe_rows.parse::<u32>().ok()
-                    );
-                    assert_eq!(rt; (input, output), ("lines", "made.orc"));
-                }
-                Some(_) => assert!(rt; false, "{words:?} asks for another command"),
-                None => assert!(rt; !asks, "{words:?} asks for nothing"),
-            },
-            Err(error) => assert!(rt; !asks && error.use_stderr(), "{words:?}: {error}"),
-        }
+        check_numbers(&rt, rt.alloc(), &words, (stride, stripe_rows), *asks);
     }
 }
 
@@ -188,8 +221,8 @@ static DIGITS: [(&str, Option<u32>); 11] = [
 
 #[test]
 fn digits_write_numbers(rt: HostRuntime) {
-    for (word, number) in DIGITS {
-        assert_eq!(rt; number_of(word), number, "{word}");
+    for (word, number) in &DIGITS {
+        check_same(&rt, word, &number_of(word), number);
     }
 }
 
@@ -218,22 +251,43 @@ fn is_asked(request: &Request<'_, '_>, asked: &Asked) -> bool {
     }
 }
 
+/// The words are this request.
+fn check_request(rt: &impl Abort, alloc: Global, words: &[&str], asked: &Asked) {
+    match found(alloc, words) {
+        Ok(matches) => {
+            let is_right = match asked_of(&matches) {
+                Some(request) => is_asked(&request, asked),
+                None => false,
+            };
+            demand_of(rt, is_right, words);
+        }
+        Err(error) => demand_error(rt, false, words, &error),
+    }
+}
+
+/// The words are none, and the parser finds this in them.
+fn check_other(rt: &impl Abort, alloc: Global, words: &[&str], kind: ErrorKind) {
+    match found(alloc, words) {
+        Ok(_) => demand_of(rt, false, words),
+        Err(error) => demand_error(rt, error.kind() == kind, words, &error),
+    }
+}
+
 #[test]
 fn requests(rt: HostRuntime) {
     for (words, asked) in &REQUESTS {
-        match found(rt.alloc(), words) {
-            Ok(matches) => match request_of(&matches) {
-                Some(request) => assert!(rt; is_asked(&request, asked), "{words:?}"),
-                None => assert!(rt; false, "{words:?} asks for nothing"),
-            },
-            Err(error) => assert!(rt; false, "{words:?}: {error}"),
-        }
+        check_request(&rt, rt.alloc(), words, asked);
     }
     for (words, kind) in &OTHERS {
-        match found(rt.alloc(), words) {
-            Ok(_) => assert!(rt; false, "{words:?} is a request"),
-            Err(error) => assert!(rt; error.kind() == *kind, "{words:?}: {error}"),
-        }
+        check_other(&rt, rt.alloc(), words, *kind);
+    }
+}
+
+/// The words are some request.
+fn check_option(rt: &impl Abort, alloc: Global, words: &[&str]) {
+    match found(alloc, words) {
+        Ok(matches) => demand_of(rt, asked_of(&matches).is_some(), words),
+        Err(error) => demand_error(rt, false, words, &error),
     }
 }
 
@@ -243,10 +297,7 @@ fn words_of_options(rt: HostRuntime) {
     for rle in VERSIONS {
         for sign in SIGNS {
             let words = ["orcm", "ints", "--rle", rle, "--sign", sign, "00"];
-            match found(rt.alloc(), &words) {
-                Ok(matches) => assert!(rt; request_of(&matches).is_some(), "{words:?}"),
-                Err(error) => assert!(rt; false, "{words:?}: {error}"),
-            }
+            check_option(&rt, rt.alloc(), &words);
         }
     }
 }

@@ -1,5 +1,6 @@
 //! What `ints`, `rows` and `show` print, and the texts of faults.
 
+use crate::assertions::{check_bytes, check_same, demand};
 use crate::files::{
     ALL_KINDS, NO_ROWS, NO_ROWS_OF_TWINS, SEVEN, SIX_SEVENS, THREE_SEVENS, TWINS, USER_PAIR,
 };
@@ -133,17 +134,33 @@ pub(crate) fn wants_memory(fault: CliFault) -> bool {
     )
 }
 
-/// `ints_to` once there is memory: a call that wanted some wrote nothing, and is made again.
+/// `ints_to`, without its contract.
+fn ints_now(
+    alloc: Global,
+    rle: Rle,
+    sign: Sign,
+    hex: &str,
+    out: &mut Trickle,
+) -> Result<(), CliFault> {
+    ints_to(alloc, rle, sign, hex, out)
+}
+
+/// The same once there is memory: a call that wanted some wrote nothing, and is made again.
 fn ints(alloc: Global, rle: Rle, sign: Sign, hex: &str, out: &mut Trickle) -> Result<(), CliFault> {
-    match ints_to(alloc, rle, sign, hex, out) {
-        Err(fault) if wants_memory(fault) => ints_to(alloc, rle, sign, hex, out),
+    match ints_now(alloc, rle, sign, hex, out) {
+        Err(fault) if wants_memory(fault) => ints_now(alloc, rle, sign, hex, out),
         answer => answer,
     }
 }
 
 /// `rows_to` of a file with these bytes.
-fn printed(alloc: Global, file: &[u8], out: &mut Trickle) -> Result<(), CliFault> {
-    match rows_to(alloc, SliceSource::new(file), None, out) {
+fn printed(
+    alloc: Global,
+    file: &[u8],
+    from: Option<&str>,
+    out: &mut Trickle,
+) -> Result<(), CliFault> {
+    match rows_to(alloc, SliceSource::new(file), from, out) {
         Ok(_) => Ok(()),
         Err((fault, _)) => Err(fault),
     }
@@ -151,60 +168,119 @@ fn printed(alloc: Global, file: &[u8], out: &mut Trickle) -> Result<(), CliFault
 
 /// The same, once there is memory: the files here have few stripes, and what
 /// an output got before memory was wanted is passed over.
-fn rows(alloc: Global, file: &[u8], out: &mut Trickle) -> Result<(), CliFault> {
+pub(crate) fn rows(
+    alloc: Global,
+    file: &[u8],
+    from: Option<&str>,
+    out: &mut Trickle,
+) -> Result<(), CliFault> {
     let start = out.written().len();
-    match printed(alloc, file, out) {
+    match printed(alloc, file, from, out) {
         Err(fault) if wants_memory(fault) => {
             out.cut(start);
-            printed(alloc, file, out)
+            printed(alloc, file, from, out)
         }
         answer => answer,
     }
 }
 
+/// This is answered of a stream, and the output has got these bytes.
+fn check_ints(
+    rt: &impl Abort,
+    alloc: Global,
+    stream: (Rle, Sign, &str),
+    mut out: Trickle,
+    wanted: Result<(), CliFault>,
+    bytes: &[u8],
+) {
+    let (rle, sign, hex) = stream;
+    let answer = ints(alloc, rle, sign, hex, &mut out);
+    check_same(rt, hex, &answer, &wanted);
+    check_bytes(rt, hex, out.written(), bytes);
+}
+
 #[test]
 fn numbers_of_streams(rt: HostRuntime) {
-    for (rle, sign, hex, wanted) in STREAMS {
-        let mut out = Trickle::new(1, 512, AtItsEnd::Fails);
-        let answer = ints(rt.alloc(), rle, sign, hex, &mut out);
-        match wanted {
-            Ok(line) => {
-                assert_eq!(rt; answer, Ok(()), "of {hex}");
-                assert_eq!(rt; out.written(), line.as_bytes(), "of {hex}");
-            }
-            Err(fault) => {
-                assert_eq!(rt; answer, Err(fault), "of {hex}");
-                assert_eq!(rt; out.written().len(), 0, "of {hex}");
-            }
-        }
+    for (rle, sign, hex, wanted) in &STREAMS {
+        let out = Trickle::new(1, 512, AtItsEnd::Fails);
+        let (answer, line) = match wanted {
+            Ok(line) => (Ok(()), *line),
+            Err(fault) => (Err(*fault), ""),
+        };
+        check_ints(
+            &rt,
+            rt.alloc(),
+            (*rle, *sign, hex),
+            out,
+            answer,
+            line.as_bytes(),
+        );
+    }
+}
+
+/// The byte at a place of a line of sevens that has so many bytes.
+fn byte_of_line(place: usize, len: usize) -> u8 {
+    match place % 2 {
+        0 => b'7',
+        _ if place.saturating_add(1) == len => b'\n',
+        _ => b' ',
     }
 }
 
 /// Whether this is the line of so many sevens.
 fn check_line_of_sevens(rt: &impl Abort, written: &[u8], count: usize) {
-    assert_eq!(rt; written.len() / 2, count);
+    demand(rt, written.len() / 2 == count, "bytes", written.len());
     for (place, byte) in written.iter().enumerate() {
-        let wanted = match place % 2 {
-            0 => b'7',
-            _ if place == written.len() - 1 => b'\n',
-            _ => b' ',
-        };
-        assert_eq!(rt; *byte, wanted, "at {place}");
+        demand(
+            rt,
+            *byte == byte_of_line(place, written.len()),
+            "byte",
+            place,
+        );
     }
+}
+
+/// The rows of a file are so many sevens.
+fn check_rows(rt: &impl Abort, alloc: Global, file: &[u8], mut out: Trickle, count: usize) {
+    let answer = rows(alloc, file, None, &mut out);
+    check_same(rt, "rows", &answer, &Ok(()));
+    check_sevens(rt, out.written(), count);
+}
+
+/// A long line.
+fn check_long(rt: &impl Abort, alloc: Global, mut out: Trickle) {
+    let answer = ints(alloc, Rle::One, Sign::Unsigned, MANY_SEVENS, &mut out);
+    check_same(rt, "long line", &answer, &Ok(()));
+    check_line_of_sevens(rt, out.written(), 2600);
 }
 
 /// Outputs of several KiB come out whole, however many bytes a call takes.
 #[test]
 fn long_outputs(rt: HostRuntime) {
     for a_call in BYTES_A_CALL {
-        let mut out = Trickle::new(a_call, 8192, AtItsEnd::Fails);
-        let answer = ints(rt.alloc(), Rle::One, Sign::Unsigned, MANY_SEVENS, &mut out);
-        assert_eq!(rt; answer, Ok(()), "{a_call} bytes a call");
-        check_line_of_sevens(&rt, out.written(), 2600);
-        let mut out = Trickle::new(a_call, 8192, AtItsEnd::Fails);
-        assert_eq!(rt; rows(rt.alloc(), &many_sevens(), &mut out), Ok(()));
-        check_sevens(&rt, out.written(), 127);
+        check_long(&rt, rt.alloc(), Trickle::new(a_call, 8192, AtItsEnd::Fails));
+        let out = Trickle::new(a_call, 8192, AtItsEnd::Fails);
+        check_rows(&rt, rt.alloc(), &many_sevens(), out, 127);
     }
+}
+
+/// Of the rows this output has got these bytes, and no more.
+fn check_stopped_rows(rt: &impl Abort, alloc: Global, mut out: Trickle, bytes: &[u8]) {
+    let answer = rows(alloc, &THREE_SEVENS, None, &mut out);
+    check_same(
+        rt,
+        "rows",
+        &answer,
+        &Err(CliFault::File(FileFault::WriteFailed)),
+    );
+    check_bytes(rt, "rows", out.written(), bytes);
+}
+
+/// The same of a line of numbers.
+fn check_stopped_ints(rt: &impl Abort, alloc: Global, out: Trickle, bytes: &[u8]) {
+    let stream = (Rle::One, Sign::Unsigned, "fb020306070b");
+    let fault = CliFault::File(FileFault::WriteFailed);
+    check_ints(rt, alloc, stream, out, Err(fault), bytes);
 }
 
 /// An output that stops after each number of bytes has got these, and the refusal says so.
@@ -214,31 +290,26 @@ fn outputs_that_stop(rt: HostRuntime) {
     let lines = b"{\"n\":7}\n{\"n\":7}\n{\"n\":7}\n";
     for at_its_end in [AtItsEnd::Fails, AtItsEnd::TakesNothing] {
         for stop in 0..lines.len() {
-            let mut out = Trickle::new(3, stop, at_its_end);
-            let answer = rows(rt.alloc(), &THREE_SEVENS, &mut out);
-            assert_eq!(rt; answer, Err(CliFault::File(FileFault::WriteFailed)));
-            assert_eq!(rt; out.written(), &lines[..stop]);
-            if stop < line.len() {
-                let mut out = Trickle::new(3, stop, at_its_end);
-                let answer = ints(
-                    rt.alloc(),
-                    Rle::One,
-                    Sign::Unsigned,
-                    "fb020306070b",
-                    &mut out,
-                );
-                assert_eq!(rt; answer, Err(CliFault::File(FileFault::WriteFailed)));
-                assert_eq!(rt; out.written(), &line[..stop]);
-            }
+            let out = Trickle::new(3, stop, at_its_end);
+            check_stopped_rows(&rt, rt.alloc(), out, &lines[..stop]);
+        }
+        for stop in 0..line.len() {
+            let out = Trickle::new(3, stop, at_its_end);
+            check_stopped_ints(&rt, rt.alloc(), out, &line[..stop]);
         }
     }
 }
 
 /// Whether these are the lines of so many sevens.
 fn check_sevens(rt: &impl Abort, written: &[u8], count: usize) {
-    assert_eq!(rt; written.len() / SEVEN.len(), count);
+    demand(
+        rt,
+        written.len() / SEVEN.len() == count,
+        "bytes",
+        written.len(),
+    );
     for line in written.chunks(SEVEN.len()) {
-        assert_eq!(rt; line, SEVEN.as_slice());
+        check_bytes(rt, "row", line, &SEVEN);
     }
 }
 
@@ -262,9 +333,8 @@ static FILES: [(&[u8], usize); 4] = [
 #[test]
 fn rows_of_files(rt: HostRuntime) {
     for (file, count) in FILES {
-        let mut out = Trickle::new(512, 512, AtItsEnd::Fails);
-        assert_eq!(rt; rows(rt.alloc(), file, &mut out), Ok(()));
-        check_sevens(&rt, out.written(), count);
+        let out = Trickle::new(512, 512, AtItsEnd::Fails);
+        check_rows(&rt, rt.alloc(), file, out, count);
     }
 }
 
@@ -312,18 +382,57 @@ static CHANGES: [(&[u8], usize, &[u8], usize, &str); 10] = [
     (&THREE_SEVENS, 0, b"ORK", 0, "file 1 NotOrc"),
 ];
 
+/// Puts bytes at a place and behind it.
+fn put(file: &mut [u8], place: usize, bytes: &[u8]) {
+    for (at, byte) in bytes.iter().enumerate() {
+        if let Some(old) = file.get_mut(place.saturating_add(at)) {
+            *old = *byte;
+        }
+    }
+}
+
+/// The file with such bytes at a place.
+fn changed(alloc: Global, file: &[u8], place: usize, bytes: &[u8]) -> Result<Vec<u8>, AllocError> {
+    let mut file = file.to_vec(alloc)?;
+    put(&mut file, place, bytes);
+    Ok(file)
+}
+
+/// This is refused of a file, and the lines before are so many sevens.
+fn check_refused(
+    rt: &impl Abort,
+    alloc: Global,
+    file: &[u8],
+    count: usize,
+    text: &str,
+) -> Result<(), AllocError> {
+    let mut out = Trickle::new(512, 512, AtItsEnd::Fails);
+    let answer = rows(alloc, file, None, &mut out);
+    check_sevens(rt, out.written(), count);
+    match answer {
+        Ok(()) => demand(rt, false, text, 0),
+        Err(fault) => check_text(rt, alloc, fault, text)?,
+    }
+    Ok(())
+}
+
+fn check_change(
+    rt: &impl Abort,
+    alloc: Global,
+    change: (&[u8], usize, &[u8]),
+    count: usize,
+    text: &str,
+) -> Result<(), AllocError> {
+    let (file, place, bytes) = change;
+    let changed = changed(alloc, file, place, bytes)?;
+    check_refused(rt, alloc, &changed, count, text)
+}
+
 /// What is refused of a file with bytes changed, and the lines before.
 #[test]
 fn refused_files(rt: HostRuntime) -> Result<(), AllocError> {
     for (file, place, bytes, count, text) in &CHANGES {
-        let mut changed = file.to_vec(rt.alloc())?;
-        changed[*place..*place + bytes.len()].copy_from_slice(bytes);
-        let mut out = Trickle::new(512, 512, AtItsEnd::Fails);
-        match rows(rt.alloc(), &changed, &mut out) {
-            Ok(()) => assert!(rt; false, "{text}"),
-            Err(fault) => assert_eq!(rt; text_of(rt.alloc(), fault)?.as_str(), *text),
-        }
-        check_sevens(&rt, out.written(), *count);
+        check_change(&rt, rt.alloc(), (file, *place, bytes), *count, text)?;
     }
     Ok(())
 }
@@ -382,43 +491,93 @@ fn shown(alloc: Global, file: &[u8], out: &mut Trickle) -> Result<(), CliFault> 
     }
 }
 
+/// This is answered of a file, and the output has got these bytes.
+fn check_shown(
+    rt: &impl Abort,
+    alloc: Global,
+    file: &[u8],
+    mut out: Trickle,
+    wanted: Result<(), CliFault>,
+    bytes: &[u8],
+) {
+    let answer = shown(alloc, file, &mut out);
+    check_same(rt, "shown", &answer, &wanted);
+    check_bytes(rt, "shown", out.written(), bytes);
+}
+
 #[test]
 fn shown_files(rt: HostRuntime) {
-    for (file, wanted) in SHOWN {
-        let mut out = Trickle::new(7, 1024, AtItsEnd::Fails);
-        assert_eq!(rt; shown(rt.alloc(), file, &mut out), Ok(()));
-        assert_eq!(rt; out.written(), wanted.as_bytes());
+    for (file, wanted) in &SHOWN {
+        let out = Trickle::new(7, 1024, AtItsEnd::Fails);
+        check_shown(&rt, rt.alloc(), file, out, Ok(()), wanted.as_bytes());
     }
     let (file, wanted) = SHOWN[0];
+    let fault = CliFault::File(FileFault::WriteFailed);
     for at_its_end in [AtItsEnd::Fails, AtItsEnd::TakesNothing] {
         for stop in 0..wanted.len() {
-            let mut out = Trickle::new(7, stop, at_its_end);
-            let answer = shown(rt.alloc(), file, &mut out);
-            assert_eq!(rt; answer, Err(CliFault::File(FileFault::WriteFailed)));
-            assert_eq!(rt; out.written(), &wanted.as_bytes()[..stop]);
+            let out = Trickle::new(7, stop, at_its_end);
+            check_shown(
+                &rt,
+                rt.alloc(),
+                file,
+                out,
+                Err(fault),
+                &wanted.as_bytes()[..stop],
+            );
         }
     }
+}
+
+/// This front of a file is none.
+fn check_front(rt: &impl Abort, alloc: Global, front: &[u8]) {
+    let mut out = Trickle::new(512, 512, AtItsEnd::Fails);
+    let answer = rows(alloc, front, None, &mut out);
+    demand(
+        rt,
+        matches!(answer, Err(CliFault::File(_))),
+        "rows, bytes",
+        front.len(),
+    );
+    let answer = shown(alloc, front, &mut out);
+    demand(
+        rt,
+        matches!(answer, Err(CliFault::File(_))),
+        "shown, bytes",
+        front.len(),
+    );
+    demand(rt, out.written().is_empty(), "nothing, bytes", front.len());
 }
 
 /// No front of a file is one.
 #[test]
 fn files_cut_off(rt: HostRuntime) {
     for len in 0..THREE_SEVENS.len() {
-        let mut out = Trickle::new(512, 512, AtItsEnd::Fails);
-        let answer = rows(rt.alloc(), &THREE_SEVENS[..len], &mut out);
-        assert!(rt; matches!(answer, Err(CliFault::File(_))), "{len} bytes");
-        let answer = shown(rt.alloc(), &THREE_SEVENS[..len], &mut out);
-        assert!(rt; matches!(answer, Err(CliFault::File(_))), "{len} bytes");
-        assert_eq!(rt; out.written().len(), 0);
+        check_front(&rt, rt.alloc(), &THREE_SEVENS[..len]);
     }
 }
 
+fn text_now(alloc: Global, fault: CliFault) -> Result<String, AllocError> {
+    format!(in alloc; "{fault}")
+}
+
 /// The text of a fault once there is memory.
-pub(crate) fn text_of(alloc: Global, fault: CliFault) -> Result<String, AllocError> {
-    match format!(in alloc; "{fault}") {
+fn text_of(alloc: Global, fault: CliFault) -> Result<String, AllocError> {
+    match text_now(alloc, fault) {
         Ok(text) => Ok(text),
-        Err(_) => format!(in alloc; "{fault}"),
+        Err(_) => text_now(alloc, fault),
     }
+}
+
+/// The fault has this text.
+pub(crate) fn check_text(
+    rt: &impl Abort,
+    alloc: Global,
+    fault: CliFault,
+    text: &str,
+) -> Result<(), AllocError> {
+    let found = text_of(alloc, fault)?;
+    assert_eq!(rt; found.as_str(), text);
+    Ok(())
 }
 
 #[test]
@@ -456,7 +615,7 @@ fn fault_texts(rt: HostRuntime) -> Result<(), AllocError> {
         ),
     ];
     for (fault, text) in table {
-        assert_eq!(rt; text_of(rt.alloc(), fault)?.as_str(), text);
+        check_text(&rt, rt.alloc(), fault, text)?;
     }
     Ok(())
 }

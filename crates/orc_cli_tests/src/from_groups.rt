@@ -1,13 +1,13 @@
 //! What `rows` prints from a group on.
 
-use crate::commands::{text_of, wants_memory};
+use crate::assertions::{check_bytes, check_same, demand};
+use crate::commands::{check_text, rows, wants_memory};
 use crate::files::THREE_SEVENS;
 use crate::trickle::{AtItsEnd, Trickle};
-use orc_file::{FileFault, SliceSource, VecSink};
-use orc_lines::write_from;
+use crate::writing::written_whole;
+use orc_file::FileFault;
 use orc_output::CliFault;
 use orc_rle::Rle;
-use orc_rows::rows_to;
 use orc_stripe::Options;
 use std::alloc::{AllocError, Global};
 use std::process::Abort;
@@ -21,16 +21,9 @@ fn indexed(alloc: Global, rle: Rle) -> Result<Vec<u8>, CliFault> {
     let Some(options) = Options::new(rle, 2, 5) else {
         return Err(CliFault::File(FileFault::Limit));
     };
-    let made = write_from(
-        alloc,
-        "struct<n:bigint>",
-        options,
-        LINES.as_bytes(),
-        VecSink::new(alloc),
-    );
-    match made {
-        Ok((_, out)) => Ok(out.into_vec()),
-        Err((fault, _)) => Err(fault),
+    match written_whole(alloc, "struct<n:bigint>", options, LINES.as_bytes()) {
+        (None, file) => Ok(file),
+        (Some(fault), _) => Err(fault),
     }
 }
 
@@ -39,25 +32,6 @@ fn file_of(alloc: Global, rle: Rle) -> Result<Vec<u8>, CliFault> {
     match indexed(alloc, rle) {
         Err(fault) if wants_memory(fault) || fault == CliFault::File(FileFault::WriteFailed) => {
             indexed(alloc, rle)
-        }
-        answer => answer,
-    }
-}
-
-/// `rows_to` of a file with these bytes from a place on.
-fn printed(alloc: Global, file: &[u8], from: &str, out: &mut Trickle) -> Result<(), CliFault> {
-    match rows_to(alloc, SliceSource::new(file), Some(from), out) {
-        Ok(_) => Ok(()),
-        Err((fault, _)) => Err(fault),
-    }
-}
-
-/// The same once there is memory.
-fn rows(alloc: Global, file: &[u8], from: &str, out: &mut Trickle) -> Result<(), CliFault> {
-    match printed(alloc, file, from, out) {
-        Err(fault) if wants_memory(fault) => {
-            out.cut(0);
-            printed(alloc, file, from, out)
         }
         answer => answer,
     }
@@ -85,17 +59,26 @@ fn lines_behind(count: usize) -> &'static str {
     rest
 }
 
-#[test]
-fn rows_are_printed_from_a_group_on(rt: HostRuntime) -> Result<(), CliFault> {
-    for rle in [Rle::One, Rle::Two] {
-        let file = file_of(rt.alloc(), rle)?;
-        for (from, before) in PLACES {
-            let mut out = Trickle::new(7, 512, AtItsEnd::Fails);
-            assert_eq!(rt; rows(rt.alloc(), &file, from, &mut out), Ok(()), "{from}");
-            assert_eq!(rt; out.written(), lines_behind(before).as_bytes(), "{from}");
-        }
+/// From this place on the rows behind so many are printed.
+fn check_place(rt: &impl Abort, alloc: Global, file: &[u8], from: &str, before: usize) {
+    let mut out = Trickle::new(7, 512, AtItsEnd::Fails);
+    let answer = rows(alloc, file, Some(from), &mut out);
+    check_same(rt, from, &answer, &Ok(()));
+    check_bytes(rt, from, out.written(), lines_behind(before).as_bytes());
+}
+
+fn check_places(rt: &impl Abort, alloc: Global, rle: Rle) -> Result<(), CliFault> {
+    let file = file_of(alloc, rle)?;
+    for (from, before) in &PLACES {
+        check_place(rt, alloc, &file, from, *before);
     }
     Ok(())
+}
+
+#[test]
+fn rows_are_printed_from_a_group_on(rt: HostRuntime) -> Result<(), CliFault> {
+    check_places(&rt, rt.alloc(), Rle::One)?;
+    check_places(&rt, rt.alloc(), Rle::Two)
 }
 
 /// Texts that name no place, and places that aren't there.
@@ -122,25 +105,6 @@ static REFUSED: [(&str, &str); 20] = [
     ("1:1", "file 12 Stripe(1): stripe 8 BadPosition"),
 ];
 
-#[test]
-fn places_that_are_refused(rt: HostRuntime) -> Result<(), CliFault> {
-    let file = file_of(rt.alloc(), Rle::One)?;
-    for (from, text) in REFUSED {
-        check_refused(&rt, rt.alloc(), &file, from, text)?;
-    }
-    // a text is read before the file is, and a file before its stripe
-    check_refused(&rt, rt.alloc(), b"ORC", "x", "json 1 Syntax")?;
-    check_refused(&rt, rt.alloc(), b"ORC", "9:9", "file 1 NotOrc")?;
-    check_refused(
-        &rt,
-        rt.alloc(),
-        &THREE_SEVENS,
-        "0:0",
-        "file 12 Stripe(0): stripe 7 NoIndex",
-    )?;
-    Ok(())
-}
-
 /// Nothing is printed, for this reason.
 fn check_refused(
     rt: &impl Abort,
@@ -150,10 +114,34 @@ fn check_refused(
     text: &str,
 ) -> Result<(), AllocError> {
     let mut out = Trickle::new(512, 512, AtItsEnd::Fails);
-    match rows(alloc, file, from, &mut out) {
-        Ok(()) => assert!(rt; false, "{from}"),
-        Err(fault) => assert_eq!(rt; text_of(alloc, fault)?.as_str(), text, "{from}"),
+    let answer = rows(alloc, file, Some(from), &mut out);
+    demand(rt, out.written().is_empty(), from, out.written().len());
+    match answer {
+        Ok(()) => demand(rt, false, from, 0),
+        Err(fault) => check_text(rt, alloc, fault, text)?,
     }
-    assert_eq!(rt; out.written().len(), 0, "{from}");
+    Ok(())
+}
+
+fn check_all_refused(rt: &impl Abort, alloc: Global, file: &[u8]) -> Result<(), AllocError> {
+    for (from, text) in &REFUSED {
+        check_refused(rt, alloc, file, from, text)?;
+    }
+    Ok(())
+}
+
+/// A text is read before the file is, and a file before its stripe.
+fn check_order(rt: &impl Abort, alloc: Global) -> Result<(), AllocError> {
+    check_refused(rt, alloc, b"ORC", "x", "json 1 Syntax")?;
+    check_refused(rt, alloc, b"ORC", "9:9", "file 1 NotOrc")?;
+    let text = "file 12 Stripe(0): stripe 7 NoIndex";
+    check_refused(rt, alloc, &THREE_SEVENS, "0:0", text)
+}
+
+#[test]
+fn places_that_are_refused(rt: HostRuntime) -> Result<(), CliFault> {
+    check_order(&rt, rt.alloc())?;
+    let file = file_of(rt.alloc(), Rle::One)?;
+    check_all_refused(&rt, rt.alloc(), &file)?;
     Ok(())
 }

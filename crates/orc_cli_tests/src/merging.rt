@@ -1,9 +1,11 @@
 //! Files joined into one.
 
+use crate::assertions::{check_bytes, check_same};
 use crate::files::{NO_ROWS, SIX_SEVENS, THREE_SEVENS, TWINS};
 use orc_file::{FileFault, SliceSource, VecSink};
 use orc_merge::{MergeFault, merge};
 use std::alloc::Global;
+use std::process::Abort;
 
 /// What stands of two files that are joined, and the fault where there is one.
 fn merge_two_once(alloc: Global, first: &[u8], second: &[u8]) -> (Option<MergeFault>, Vec<u8>) {
@@ -23,6 +25,19 @@ fn merge_two(alloc: Global, first: &[u8], second: &[u8]) -> (Option<MergeFault>,
     }
 }
 
+/// This fault is answered of two files, and these bytes stand.
+fn check_two(
+    rt: &impl Abort,
+    alloc: Global,
+    files: (&[u8], &[u8]),
+    wanted: Option<MergeFault>,
+    stands: &[u8],
+) {
+    let (fault, bytes) = merge_two(alloc, files.0, files.1);
+    check_same(rt, "fault", &fault, &wanted);
+    check_bytes(rt, "joined", &bytes, stands);
+}
+
 /// Two files, and the one that they are joined into.
 static FILES: [(&[u8], &[u8], &[u8]); 4] = [
     (&THREE_SEVENS, &THREE_SEVENS, &SIX_SEVENS),
@@ -34,9 +49,7 @@ static FILES: [(&[u8], &[u8], &[u8]); 4] = [
 #[test]
 fn files_joined(rt: HostRuntime) {
     for (first, second, file) in FILES {
-        let (fault, bytes) = merge_two(rt.alloc(), first, second);
-        assert_eq!(rt; fault, None);
-        assert_eq!(rt; bytes.as_slice(), file);
+        check_two(&rt, rt.alloc(), (first, second), None, file);
     }
 }
 
@@ -49,8 +62,6 @@ static REFUSED: [(&[u8], &[u8], MergeFault); 2] = [
 #[test]
 fn files_that_are_refused(rt: HostRuntime) {
     for (first, second, why) in REFUSED {
-        let (fault, bytes) = merge_two(rt.alloc(), first, second);
-        assert_eq!(rt; fault, Some(why));
-        assert!(rt; bytes.as_slice().is_empty());
+        check_two(&rt, rt.alloc(), (first, second), Some(why), b"");
     }
 }

@@ -1,5 +1,6 @@
 //! Files written of lines.
 
+use crate::assertions::{check_bytes, check_same, demand};
 use crate::commands::wants_memory;
 use crate::files::{NO_ROWS, SIX_SEVENS, THREE_SEVENS};
 use orc_file::{FileFault, VecSink};
@@ -10,11 +11,12 @@ use orc_stripe::Options;
 use orc_types::{JsonFault, TypeFault};
 use std::alloc::Global;
 use std::io::{self, BufReader, Read};
+use std::process::Abort;
 
 const NUMBERS: &str = "struct<n:bigint>";
 
 /// What is written of lines that are there, with or without a fault.
-fn written_whole(
+pub(crate) fn written_whole(
     alloc: Global,
     schema: &str,
     options: Options,
@@ -109,13 +111,25 @@ static FILES: [(&[u8], u32, &[u8]); 8] = [
     ),
 ];
 
+/// The file is written of these lines.
+fn check_written(
+    rt: &impl Abort,
+    alloc: Global,
+    stripe_rows: u32,
+    input: &[u8],
+    at_once: Option<usize>,
+    file: &[u8],
+) {
+    let (fault, bytes) = written(alloc, NUMBERS, stripe_rows, input, at_once);
+    check_same(rt, "fault", &fault, &None);
+    check_bytes(rt, "file", &bytes, file);
+}
+
 #[test]
 fn files_of_lines(rt: HostRuntime) {
-    for (input, stripe_rows, file) in FILES {
+    for (input, stripe_rows, file) in &FILES {
         for at_once in AT_ONCE {
-            let (fault, bytes) = written(rt.alloc(), NUMBERS, stripe_rows, input, at_once);
-            assert_eq!(rt; fault, None);
-            assert_eq!(rt; bytes.as_slice(), file);
+            check_written(&rt, rt.alloc(), *stripe_rows, input, at_once, file);
         }
     }
 }
@@ -172,13 +186,36 @@ static REFUSED: [(&str, &[u8], CliFault, usize); 12] = [
     ("bigint", b"{", CliFault::Types(TypeFault::RootNotStruct), 0),
 ];
 
+/// So many bytes of a file of six sevens stand.
+fn check_stands(rt: &impl Abort, bytes: &[u8], stands: usize) {
+    demand(rt, bytes.len() == stands, "bytes", bytes.len());
+    demand(
+        rt,
+        SIX_SEVENS.starts_with(bytes),
+        "front, bytes",
+        bytes.len(),
+    );
+}
+
+/// These lines are refused.
+fn check_refused(
+    rt: &impl Abort,
+    alloc: Global,
+    schema: &str,
+    input: &[u8],
+    at_once: Option<usize>,
+    wanted: (CliFault, usize),
+) {
+    let (fault, bytes) = written(alloc, schema, 3, input, at_once);
+    check_same(rt, schema, &fault, &Some(wanted.0));
+    check_stands(rt, &bytes, wanted.1);
+}
+
 #[test]
 fn lines_that_are_refused(rt: HostRuntime) {
-    for (schema, input, wanted, stands) in REFUSED {
+    for (schema, input, wanted, stands) in &REFUSED {
         for at_once in AT_ONCE {
-            let (fault, bytes) = written(rt.alloc(), schema, 3, input, at_once);
-            assert_eq!(rt; fault, Some(wanted));
-            assert!(rt; SIX_SEVENS.starts_with(&bytes) && bytes.len() == stands);
+            check_refused(&rt, rt.alloc(), schema, input, at_once, (*wanted, *stands));
         }
     }
 }
@@ -209,6 +246,34 @@ static BROKEN: [(&[u8], usize); 4] = [
     (b"{\"n\":7}\n{\"n\":7}\n{\"n\":7}\n{\"n\":7}\n{\"n", 22),
 ];
 
+/// What is written of lines behind which reading fails.
+fn written_broken_once(
+    alloc: Global,
+    options: Options,
+    left: &[u8],
+) -> (Option<CliFault>, Vec<u8>) {
+    written_read(alloc, NUMBERS, options, Broken { left }, 9)
+}
+
+/// The same once there is memory.
+fn written_broken(alloc: Global, options: Options, left: &[u8]) -> (Option<CliFault>, Vec<u8>) {
+    match written_broken_once(alloc, options, left) {
+        (Some(fault), _) if wants_memory(fault) => written_broken_once(alloc, options, left),
+        answer => answer,
+    }
+}
+
+fn check_broken(rt: &impl Abort, alloc: Global, options: Options, left: &[u8], stands: usize) {
+    let (fault, bytes) = written_broken(alloc, options, left);
+    check_same(
+        rt,
+        "fault",
+        &fault,
+        &Some(CliFault::File(FileFault::SourceFailed)),
+    );
+    check_stands(rt, &bytes, stands);
+}
+
 #[test]
 fn lines_whose_reading_fails(rt: HostRuntime) {
     let options = Options::new(Rle::One, 0, 3);
@@ -217,12 +282,6 @@ fn lines_whose_reading_fails(rt: HostRuntime) {
         return;
     };
     for (left, stands) in BROKEN {
-        let read = || written_read(rt.alloc(), NUMBERS, options, Broken { left }, 9);
-        let (fault, bytes) = match read() {
-            (Some(fault), _) if wants_memory(fault) => read(),
-            answer => answer,
-        };
-        assert_eq!(rt; fault, Some(CliFault::File(FileFault::SourceFailed)));
-        assert!(rt; SIX_SEVENS.starts_with(&bytes) && bytes.len() == stands);
+        check_broken(&rt, rt.alloc(), options, left, stands);
     }
 }

@@ -1,7 +1,13 @@
-//! Tests of `orc_file` by its public calls that read: tails, statistics, stripes loaded, and the rows of files. They
-//! stand apart from it, so that it is not proved again with them.
+//! Tests of `orc_file` by its public calls that read, and of the devices below it: sources and sinks, tails, statistics,
+//! stripes loaded, and the rows of files. They stand apart from both, so that neither is proved again with them.
 #![tactic(auto)]
 
+#[cfg(test)]
+mod assertions;
+#[cfg(test)]
+mod calls;
+#[cfg(test)]
+mod devices;
 #[cfg(test)]
 mod loads;
 #[cfg(test)]

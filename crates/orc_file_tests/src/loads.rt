@@ -1,9 +1,11 @@
 //! Stripes loaded by their numbers, viewed and read, and the ranges of the source that are read for them.
 
-use crate::rows_of_files::have_numbers;
+use crate::assertions::{check_list, check_same, demand, passes};
+use crate::calls::{load, opened, stripe_rows, view, viewed_rows};
+use crate::rows_of_files::{has_upwards, have_numbers};
 use orc_file::{FileFault, OrcFile};
-use orc_stripe::StripeFault;
-use orc_test_support::{SeenSource, UPWARDS};
+use orc_stripe::{StripeFault, StripeView};
+use orc_test_devices::{SeenSource, UPWARDS};
 use std::alloc::Global;
 use std::process::Abort;
 
@@ -19,57 +21,72 @@ static RANGES: [(u64, u64); 8] = [
     (41, 19),
 ];
 
-fn open_upwards(alloc: Global) -> Result<OrcFile<SeenSource<'static>>, FileFault> {
-    match OrcFile::open(alloc, SeenSource::new(&UPWARDS)) {
-        Ok(file) => Ok(file),
-        Err((fault, _)) => Err(fault),
-    }
-}
-
-/// Whether a stripe's bytes and their view have three rows of a number.
-fn has_rows(
-    file: &OrcFile<SeenSource<'static>>,
+/// Whether the rows of a stripe's view have these numbers.
+fn has_numbers(
     alloc: Global,
     number: usize,
-    bytes: &[u8],
-    wanted: i64,
+    view: &StripeView<'_>,
+    wanted: &[i64],
 ) -> Result<bool, FileFault> {
-    if number >= file.tail().stripes.as_slice().len() {
-        return Err(FileFault::RowCount);
+    match viewed_rows(alloc, view) {
+        Ok(rows) => Ok(have_numbers(&rows, wanted)),
+        Err(StripeFault::OutOfMemory) => Err(FileFault::OutOfMemory),
+        Err(why) => Err(FileFault::Stripe(number, why)),
     }
-    let read = file.stripe_rows(alloc, number, bytes)?;
-    let viewed = match file.view(alloc, number, bytes)?.rows(alloc) {
-        Ok(rows) => rows,
-        Err(StripeFault::OutOfMemory) => return Err(FileFault::OutOfMemory),
-        Err(why) => return Err(FileFault::Stripe(number, why)),
-    };
-    let wanted = [wanted; 3];
-    Ok(have_numbers(&read, &wanted) && have_numbers(&viewed, &wanted))
 }
 
-/// The stripes are loaded into one vector, each in one range behind those of the tail.
-fn check_loads(rt: &impl Abort, alloc: Global) -> Result<(), FileFault> {
-    let mut file = open_upwards(alloc)?;
-    assert_eq!(rt; file.schema().width(), 2);
-    let mut bytes = b"before".to_vec(alloc)?;
+/// A stripe is loaded into the vector, in place of what was there, and its bytes and their view have three rows of a
+/// number.
+fn check_stripe(
+    rt: &impl Abort,
+    alloc: Global,
+    file: &mut OrcFile<SeenSource<'static>>,
+    number: usize,
+    wanted: i64,
+    bytes: &mut Vec<u8>,
+) -> Result<(), FileFault> {
+    load(file, number, bytes)?;
+    let place = number.saturating_mul(19).saturating_add(3).min(41);
+    check_list(
+        rt,
+        bytes,
+        &UPWARDS[place..place + 19],
+        "stripe",
+        &[number as u64],
+    );
+    let wanted = [wanted; 3];
+    let is_read = have_numbers(&stripe_rows(alloc, file, number, bytes)?, &wanted);
+    demand(rt, is_read, "rows of stripe", &[number as u64]);
+    let is_viewed = has_numbers(alloc, number, &view(alloc, file, number, bytes)?, &wanted)?;
+    demand(
+        rt,
+        is_viewed,
+        "rows of the view of stripe",
+        &[number as u64],
+    );
+    Ok(())
+}
+
+/// The stripes are loaded into one vector.
+fn check_stripes(
+    rt: &impl Abort,
+    alloc: Global,
+    file: &mut OrcFile<SeenSource<'static>>,
+    bytes: &mut Vec<u8>,
+) -> Result<(), FileFault> {
     for (number, wanted) in [7i64, 8, 9].iter().enumerate() {
-        if number >= file.tail().stripes.as_slice().len() {
-            return Err(FileFault::RowCount);
-        }
-        file.load(number, &mut bytes)?;
-        let place = (3 + number * 19).min(41);
-        assert_eq!(rt;
-            bytes.as_slice(),
-            &UPWARDS[place..place + 19],
-            "stripe {number}"
-        );
-        assert_eq!(rt;
-            has_rows(&file, alloc, number, &bytes, *wanted),
-            Ok(true),
-            "stripe {number}"
-        );
+        check_stripe(rt, alloc, file, number, *wanted, bytes)?;
     }
-    assert_eq!(rt; file.into_parts().1.ranges(), RANGES.as_slice());
+    Ok(())
+}
+
+/// The stripes are loaded, each in one range behind those of the tail.
+fn check_loads(rt: &impl Abort, alloc: Global) -> Result<(), FileFault> {
+    let mut file = opened(alloc, SeenSource::new(&UPWARDS))?;
+    check_same(rt, &file.schema().width(), &2, "columns", &[]);
+    let mut bytes = b"before".to_vec(alloc)?;
+    check_stripes(rt, alloc, &mut file, &mut bytes)?;
+    check_list(rt, file.into_parts().1.ranges(), &RANGES, "ranges", &[]);
     Ok(())
 }
 
@@ -79,15 +96,14 @@ fn stripes_are_loaded(rt: HostRuntime) {
         Err(FileFault::OutOfMemory) => check_loads(&rt, rt.alloc()),
         answer => answer,
     };
-    assert_eq!(rt; answer, Ok(()));
+    passes(&rt, answer);
 }
 
 /// All rows are read in the same ranges.
 fn check_rows(rt: &impl Abort, alloc: Global) -> Result<(), FileFault> {
-    let mut file = open_upwards(alloc)?;
-    let rows = file.rows(alloc)?;
-    assert!(rt; have_numbers(&rows, &[7, 7, 7, 8, 8, 8, 9, 9, 9]));
-    assert_eq!(rt; file.into_parts().1.ranges(), RANGES.as_slice());
+    let mut file = opened(alloc, SeenSource::new(&UPWARDS))?;
+    demand(rt, has_upwards(alloc, &mut file)?, "rows", &[]);
+    check_list(rt, file.into_parts().1.ranges(), &RANGES, "ranges", &[]);
     Ok(())
 }
 
@@ -97,19 +113,16 @@ fn rows_are_read_in_as_many_ranges(rt: HostRuntime) {
         Err(FileFault::OutOfMemory) => check_rows(&rt, rt.alloc()),
         answer => answer,
     };
-    assert_eq!(rt; answer, Ok(()));
+    passes(&rt, answer);
 }
 
 /// Why so many bytes are no stripe 2, by its rows and by its view.
 fn refused(alloc: Global, len: usize) -> Result<(Option<FileFault>, Option<FileFault>), FileFault> {
-    let file = open_upwards(alloc)?;
-    if file.tail().stripes.as_slice().len() <= 2 {
-        return Err(FileFault::RowCount);
-    }
+    let file = opened(alloc, SeenSource::new(&UPWARDS))?;
     let bytes = &UPWARDS[41..41 + len.min(20)];
     Ok((
-        file.stripe_rows(alloc, 2, bytes).err(),
-        file.view(alloc, 2, bytes).err(),
+        stripe_rows(alloc, &file, 2, bytes).err(),
+        view(alloc, &file, 2, bytes).err(),
     ))
 }
 
@@ -123,6 +136,6 @@ fn bytes_that_are_no_stripe(rt: HostRuntime) {
             Ok((rows, view)) if rows == memory || view == memory => refused(rt.alloc(), len),
             answer => answer,
         };
-        assert_eq!(rt; answer, Ok((wanted, wanted)), "{len} bytes");
+        check_same(&rt, &answer, &Ok((wanted, wanted)), "bytes", &[len as u64]);
     }
 }

@@ -1,8 +1,11 @@
 //! A file's rows, read from bytes.
+
+use crate::assertions::{check_same, demand};
+use crate::calls::{open, opened, rows};
 use orc_file::{FileFault, OrcFile, SliceSource, Source};
 use orc_rle::RunFault;
 use orc_stripe::{StreamKind, StripeFault};
-use orc_test_support::{EMPTY, FailSource, SEVENS, TWICE, UPWARDS};
+use orc_test_devices::{EMPTY, FailSource, SEVENS, TWICE, UPWARDS};
 use orc_types::{Row, Value};
 use orc_wire::WireFault;
 use std::alloc::{AllocError, Global};
@@ -10,11 +13,8 @@ use std::process::Abort;
 
 /// A file of these bytes once there is memory for its tail.
 fn open_file<S: Source + Drop>(alloc: Global, source: S) -> Result<OrcFile<S>, FileFault> {
-    match OrcFile::open(alloc, source) {
-        Err((FileFault::OutOfMemory, source)) => match OrcFile::open(alloc, source) {
-            Ok(file) => Ok(file),
-            Err((fault, _)) => Err(fault),
-        },
+    match open(alloc, source) {
+        Err((FileFault::OutOfMemory, source)) => opened(alloc, source),
         Err((fault, _)) => Err(fault),
         Ok(file) => Ok(file),
     }
@@ -25,8 +25,8 @@ fn rows_of<S: Source>(
     alloc: Global,
     file: &mut OrcFile<S>,
 ) -> Result<Vec<Row<'static>>, FileFault> {
-    match file.rows(alloc) {
-        Err(FileFault::OutOfMemory) => file.rows(alloc),
+    match rows(alloc, file) {
+        Err(FileFault::OutOfMemory) => rows(alloc, file),
         answer => answer,
     }
 }
@@ -71,12 +71,18 @@ pub(crate) fn have_numbers(rows: &[Row<'_>], wanted: &[i64]) -> bool {
     true
 }
 
+/// Whether the rows of these bytes have these numbers.
+fn is_read(alloc: Global, bytes: &[u8], wanted: &[i64]) -> Result<bool, FileFault> {
+    let mut file = open_file(alloc, SliceSource::new(bytes))?;
+    let rows = rows_of(alloc, &mut file)?;
+    Ok(have_numbers(&rows, wanted))
+}
+
 #[test]
 fn rows_are_read(rt: HostRuntime) -> Result<(), FileFault> {
     for (bytes, wanted) in FILES {
-        let mut file = open_file(rt.alloc(), SliceSource::new(bytes))?;
-        let rows = rows_of(rt.alloc(), &mut file)?;
-        assert!(rt; have_numbers(&rows, wanted), "{} bytes", bytes.len());
+        let is_read = is_read(rt.alloc(), bytes, wanted)?;
+        demand(&rt, is_read, "bytes", &[bytes.len() as u64]);
     }
     Ok(())
 }
@@ -137,21 +143,39 @@ fn changed(alloc: Global, bytes: &[u8], place: usize, byte: u8) -> Result<Vec<u8
     Ok(changed)
 }
 
+/// Why the rows of these bytes aren't read, and why they aren't where they are asked for again.
+fn refused_twice(
+    alloc: Global,
+    bytes: &[u8],
+) -> Result<(Option<FileFault>, Option<FileFault>), FileFault> {
+    let mut file = open_file(alloc, SliceSource::new(bytes))?;
+    let first = rows_of(alloc, &mut file).err();
+    Ok((first, rows_of(alloc, &mut file).err()))
+}
+
 #[test]
 fn the_first_bad_stripe_is_named(rt: HostRuntime) -> Result<(), FileFault> {
     for (bytes, place, byte, stripe, why) in CHANGES {
-        let changed = changed(rt.alloc(), bytes, place, byte)?;
-        let mut file = open_file(rt.alloc(), SliceSource::new(&changed))?;
-        for _ in 0..2 {
-            let fault = rows_of(rt.alloc(), &mut file).err();
-            assert_eq!(rt;
-                fault,
-                Some(FileFault::Stripe(stripe, why)),
-                "{byte} at {place}"
-            );
-        }
+        let faults = refused_twice(rt.alloc(), &changed(rt.alloc(), bytes, place, byte)?)?;
+        let wanted = Some(FileFault::Stripe(stripe, why));
+        check_same(
+            &rt,
+            &faults,
+            &(wanted, wanted),
+            "byte, place",
+            &[u64::from(byte), place as u64],
+        );
     }
     Ok(())
+}
+
+/// Whether the file has the rows of `UPWARDS`.
+pub(crate) fn has_upwards<S: Source>(
+    alloc: Global,
+    file: &mut OrcFile<S>,
+) -> Result<bool, FileFault> {
+    let rows = rows(alloc, file)?;
+    Ok(have_numbers(&rows, &[7, 7, 7, 8, 8, 8, 9, 9, 9]))
 }
 
 /// Which read fails: the stripes are read behind the five ranges of the tail.
@@ -159,17 +183,13 @@ static FAILING: [u64; 3] = [6, 7, 8];
 
 /// Why the rows aren't read where that read fails, and whether they are read when they are asked for again.
 fn read_twice(alloc: Global, read: u64) -> Result<(FileFault, bool), FileFault> {
-    let mut file = match OrcFile::open(alloc, FailSource::new(&UPWARDS, read)) {
-        Ok(file) => file,
-        Err((fault, _)) => return Err(fault),
+    let mut file = opened(alloc, FailSource::new(&UPWARDS, read))?;
+    let fault = match rows(alloc, &mut file).err() {
+        Some(FileFault::OutOfMemory) => return Err(FileFault::OutOfMemory),
+        Some(fault) => fault,
+        None => FileFault::Failed,
     };
-    let fault = match file.rows(alloc) {
-        Err(FileFault::OutOfMemory) => return Err(FileFault::OutOfMemory),
-        Err(fault) => fault,
-        Ok(_) => FileFault::Failed,
-    };
-    let rows = file.rows(alloc)?;
-    Ok((fault, have_numbers(&rows, &[7, 7, 7, 8, 8, 8, 9, 9, 9])))
+    Ok((fault, has_upwards(alloc, &mut file)?))
 }
 
 /// What wants memory on the way is read anew, so that the same read fails.
@@ -180,6 +200,12 @@ fn rows_are_read_after_a_failure(rt: HostRuntime) {
             Err(FileFault::OutOfMemory) => read_twice(rt.alloc(), read),
             answer => answer,
         };
-        assert_eq!(rt; answer, Ok((FileFault::SourceFailed, true)), "read {read}");
+        check_same(
+            &rt,
+            &answer,
+            &Ok((FileFault::SourceFailed, true)),
+            "read",
+            &[read],
+        );
     }
 }

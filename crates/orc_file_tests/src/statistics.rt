@@ -1,9 +1,10 @@
 //! The statistics of a file's columns, joined of its stripes'.
 
+use crate::assertions::check_same;
 use crate::tails::{numbers, tail_of};
 use orc_file::{FileFault, file_statistics};
 use orc_stats::StatFault;
-use orc_test_support::{EMPTY, SEVENS, TWICE, UPWARDS};
+use orc_test_devices::{EMPTY, SEVENS, TWICE, UPWARDS};
 use std::alloc::Global;
 use std::process::Abort;
 
@@ -35,6 +36,6 @@ fn statistics_are_joined(rt: HostRuntime) {
             Err(FileFault::OutOfMemory) => joined_numbers(rt.alloc(), bytes),
             answer => answer,
         };
-        assert_eq!(rt; answer, Ok(wanted), "{} bytes", bytes.len());
+        check_same(&rt, &answer, &Ok(wanted), "bytes", &[bytes.len() as u64]);
     }
 }

@@ -8,26 +8,43 @@ mod limits;
 mod put_again;
 mod reads;
 
-use orc_file::{FileFault, OrcFile, SliceSource, Tail};
+use crate::assertions::{check_list, check_same, demand};
+use orc_file::{FileFault, OrcFile, SliceSource, Source, Tail};
 use orc_stats::{Body, Stat};
 use orc_stripe::{StreamKind, StripeFault};
-use orc_test_support::{EMPTY, SEVENS};
+use orc_test_devices::{EMPTY, SEVENS};
 use orc_types::TypeFault;
+use orc_wire::{Items, StripeInfo};
 use std::alloc::Global;
 use std::process::Abort;
+
+/// The tail of a file, or the fault and the file's source. Of what `open` promises its callers need the limits alone.
+fn tail_or_source<S: Source + Drop>(alloc: Global, source: S) -> Result<Tail, (FileFault, S)>
+    ensures limits { IfOk result (λ tail. IsWithinLimits tail) }
+{
+    match OrcFile::open(alloc, source) {
+        Ok(file) => Ok(file.into_parts().0),
+        Err(refused) => Err(refused),
+    }
+}
 
 /// The tail of bytes once there is memory for it: what wanted some is asked again.
 pub(crate) fn tail_of(alloc: Global, bytes: &[u8]) -> Result<Tail, FileFault>
     ensures limits { IfOk result (λ tail. IsWithinLimits tail) }
 {
-    match OrcFile::open(alloc, SliceSource::new(bytes)) {
-        Ok(file) => Ok(file.into_parts().0),
-        Err((FileFault::OutOfMemory, source)) => match OrcFile::open(alloc, source) {
-            Ok(file) => Ok(file.into_parts().0),
+    match tail_or_source(alloc, SliceSource::new(bytes)) {
+        Ok(tail) => Ok(tail),
+        Err((FileFault::OutOfMemory, source)) => match tail_or_source(alloc, source) {
+            Ok(tail) => Ok(tail),
             Err((fault, _)) => Err(fault),
         },
         Err((fault, _)) => Err(fault),
     }
+}
+
+/// Why the bytes have no tail.
+pub(crate) fn refusal(alloc: Global, bytes: &[u8]) -> Option<FileFault> {
+    tail_of(alloc, bytes).err()
 }
 
 /// The numbers of a statistic of whole numbers: how many, least, greatest, sum.
@@ -45,40 +62,70 @@ pub(crate) fn numbers(stat: &Stat) -> Option<(u64, i64, i64, i64)> {
 #[test]
 fn a_file_without_stripes(rt: HostRuntime) -> Result<(), FileFault> {
     let tail = tail_of(rt.alloc(), &EMPTY)?;
-    assert_eq!(rt; tail.version.as_slice(), [0u32, 11].as_slice());
-    assert_eq!(rt; tail.writer, Some(99));
-    assert_eq!(rt; tail.writer_version, Some(6));
-    assert_eq!(rt; tail.schema.width(), 2);
-    assert_eq!(rt; tail.stripes.as_slice().len(), 0);
-    assert_eq!(rt; tail.rows, 0);
-    assert_eq!(rt; tail.file_stats.as_slice().len(), 2);
+    check_list(&rt, tail.version.as_slice(), &[0, 11], "version", &[]);
+    check_same(&rt, &tail.writer, &Some(99), "writer", &[]);
+    check_same(&rt, &tail.writer_version, &Some(6), "writer's version", &[]);
+    check_same(&rt, &tail.schema.width(), &2, "columns", &[]);
+    check_same(&rt, &tail.stripes.as_slice().len(), &0, "stripes", &[]);
+    check_same(&rt, &tail.rows, &0, "rows", &[]);
+    check_same(
+        &rt,
+        &tail.file_stats.as_slice().len(),
+        &2,
+        "statistics",
+        &[],
+    );
     Ok(())
+}
+
+/// The numbers of the second of two columns.
+fn numbers_of_second(stats: &[Stat]) -> Option<(u64, i64, i64, i64)> {
+    match stats {
+        [_, column] => numbers(column),
+        _ => None,
+    }
+}
+
+/// Each stripe lies where the one of three sevens does.
+fn check_places(rt: &impl Abort, stripes: &[StripeInfo]) {
+    for stripe in stripes {
+        let place = (stripe.offset, stripe.data_length, stripe.footer_length);
+        check_same(rt, &place, &(3, 3, 16), "place", &[]);
+    }
+}
+
+/// The statistics of one stripe are those of three sevens.
+fn check_one_stripe(rt: &impl Abort, stripe_stats: &[Items<Stat>]) {
+    let found = match stripe_stats {
+        [stripe] => numbers_of_second(stripe.as_slice()),
+        _ => None,
+    };
+    check_same(
+        rt,
+        &found,
+        &Some((3, 7, 7, 21)),
+        "statistics of one stripe",
+        &[],
+    );
 }
 
 #[test]
 fn a_file_with_a_stripe(rt: HostRuntime) -> Result<(), FileFault> {
     let tail = tail_of(rt.alloc(), &SEVENS)?;
-    assert_eq!(rt; tail.rows, 3);
-    assert_eq!(rt; tail.stride, 0);
-    assert_eq!(rt; tail.user.as_slice().len(), 0);
-    assert_eq!(rt; tail.other.as_slice().len(), 0);
-    for stripe in tail.stripes.as_slice() {
-        assert_eq!(rt;
-            (stripe.offset, stripe.data_length, stripe.footer_length),
-            (3, 3, 16)
-        );
-    }
-    let [_, column] = tail.file_stats.as_slice() else {
-        return Err(FileFault::BadFooter);
-    };
-    assert_eq!(rt; numbers(column), Some((3, 7, 7, 21)));
-    let [stripe] = tail.stripe_stats.as_slice() else {
-        return Err(FileFault::BadMetadata);
-    };
-    let [_, column] = stripe.as_slice() else {
-        return Err(FileFault::BadMetadata);
-    };
-    assert_eq!(rt; numbers(column), Some((3, 7, 7, 21)));
+    check_same(&rt, &tail.rows, &3, "rows", &[]);
+    check_same(&rt, &tail.stride, &0, "stride", &[]);
+    check_same(
+        &rt,
+        &tail.user.as_slice().len(),
+        &0,
+        "pairs of the user's",
+        &[],
+    );
+    check_same(&rt, &tail.other.as_slice().len(), &0, "other fields", &[]);
+    check_places(&rt, tail.stripes.as_slice());
+    let found = numbers_of_second(tail.file_stats.as_slice());
+    check_same(&rt, &found, &Some((3, 7, 7, 21)), "statistics", &[]);
+    check_one_stripe(&rt, tail.stripe_stats.as_slice());
     Ok(())
 }
 
@@ -95,11 +142,12 @@ static FRONTS: [(usize, FileFault); 6] = [
 #[test]
 fn fronts_are_no_files(rt: HostRuntime) {
     for (len, wanted) in FRONTS {
-        let fault = tail_of(rt.alloc(), &SEVENS[..len.min(120)]).err();
-        assert_eq!(rt; fault, Some(wanted), "{len} bytes");
+        let fault = refusal(rt.alloc(), &SEVENS[..len.min(120)]);
+        check_same(&rt, &fault, &Some(wanted), "bytes", &[len as u64]);
     }
     for len in 0..120usize {
-        assert!(rt; tail_of(rt.alloc(), &SEVENS[..len]).is_err(), "{len} bytes");
+        let is_refused = refusal(rt.alloc(), &SEVENS[..len]).is_some();
+        demand(&rt, is_refused, "bytes", &[len as u64]);
     }
 }
 
@@ -133,7 +181,7 @@ fn text_of(alloc: Global, fault: FileFault) -> Result<String, FileFault> {
 fn texts_of_faults(rt: HostRuntime) -> Result<(), FileFault> {
     for (fault, wanted) in TEXTS {
         let text = text_of(rt.alloc(), fault)?;
-        assert_eq!(rt; text.as_str(), wanted);
+        check_same(&rt, &text.as_str(), &wanted, "text", &[]);
     }
     Ok(())
 }

@@ -1,12 +1,17 @@
 //! What several tests hand to their calls.
-use orc_test_support::{FailSink, Full};
+use orc_test_devices::{FailSink, Full};
 use orc_types::{Row, Schema, TypeFault, Value};
 use std::alloc::{AllocError, Global};
 
+/// `Schema::parse`, without its contract.
+fn parsed(alloc: Global, text: &str) -> Result<Schema, TypeFault> {
+    Schema::parse(alloc, text)
+}
+
 /// A schema of this text, once there is memory for it.
 pub(crate) fn schema_of(alloc: Global, text: &str) -> Result<Schema, TypeFault> {
-    match Schema::parse(alloc, text) {
-        Err(TypeFault::OutOfMemory) => Schema::parse(alloc, text),
+    match parsed(alloc, text) {
+        Err(TypeFault::OutOfMemory) => parsed(alloc, text),
         made => made,
     }
 }

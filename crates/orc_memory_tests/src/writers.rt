@@ -1,12 +1,16 @@
 //! Files that are written.
+use crate::assertions::{demand, is_front, same, same_bytes};
 use crate::sevens::{output, schema_of};
 use orc_file::{FileFault, Writer};
 use orc_rle::Rle;
 use orc_stripe::Options;
-use orc_test_support::{FailSink, SEVENS};
-use orc_types::{Row, Value};
+use orc_test_devices::{FailSink, SEVENS};
+use orc_types::{Row, Schema, Value};
 use std::alloc::{AllocError, Global};
 use std::process::Abort;
+
+/// A writer of the file of sevens.
+type SevensWriter = Writer<FailSink>;
 
 fn seven_once(alloc: Global) -> Result<Row<'static>, AllocError> {
     let mut fields: Vec<Row<'static>> = Vec::new(alloc);
@@ -22,22 +26,39 @@ fn seven(alloc: Global) -> Result<Row<'static>, AllocError> {
     }
 }
 
-fn begun_once(alloc: Global, stripe_rows: u32) -> Result<Writer<FailSink>, FileFault> {
-    let Ok(schema) = schema_of(alloc, "struct<n:bigint>") else {
-        return Err(FileFault::OutOfMemory);
-    };
-    let out = output(alloc)?;
-    let Some(options) = Options::new(Rle::One, 0, stripe_rows) else {
-        return Err(FileFault::Limit);
-    };
+// The next two calls have no contract, so that what a writer's promise is no part of each caller's proof.
+
+/// A writer to this output.
+fn writer_to(
+    alloc: Global,
+    schema: Schema,
+    options: Options,
+    out: FailSink,
+) -> Result<SevensWriter, FileFault> {
     match Writer::new(alloc, schema, options, out) {
         Ok(writer) => Ok(writer),
         Err((fault, _)) => Err(fault),
     }
 }
 
+/// Pushes a row.
+fn push(writer: &mut SevensWriter, row: &Row<'_>) -> Result<(), FileFault> {
+    writer.push(row)
+}
+
+fn begun_once(alloc: Global, stripe_rows: u32) -> Result<SevensWriter, FileFault> {
+    let Some(options) = Options::new(Rle::One, 0, stripe_rows) else {
+        return Err(FileFault::Limit);
+    };
+    let Ok(schema) = schema_of(alloc, "struct<n:bigint>") else {
+        return Err(FileFault::OutOfMemory);
+    };
+    let out = output(alloc)?;
+    writer_to(alloc, schema, options, out)
+}
+
 /// A writer of one number a row, in stripes of so many rows, once there is memory for it.
-fn begun(alloc: Global, stripe_rows: u32) -> Result<Writer<FailSink>, FileFault> {
+fn begun(alloc: Global, stripe_rows: u32) -> Result<SevensWriter, FileFault> {
     match begun_once(alloc, stripe_rows) {
         Err(_) => begun_once(alloc, stripe_rows),
         writer => writer,
@@ -45,32 +66,59 @@ fn begun(alloc: Global, stripe_rows: u32) -> Result<Writer<FailSink>, FileFault>
 }
 
 /// Pushes three rows.
-fn push_three(writer: &mut Writer<FailSink>, row: &Row<'_>) -> Result<(), FileFault> {
+fn push_three(writer: &mut SevensWriter, row: &Row<'_>) -> Result<(), FileFault> {
     for _ in 0..3 {
-        writer.push(row)?;
+        push(writer, row)?;
     }
     Ok(())
 }
 
-/// What an output has got is a front of the file of sevens.
-fn check_front(rt: &impl Abort, out: &FailSink) {
-    let len = out.bytes().len().min(120);
-    assert_eq!(rt; out.bytes(), &SEVENS[..len]);
+/// A writer that refused a row refuses what comes, and writes nothing more.
+fn check_refused(rt: &impl Abort, writer: &mut SevensWriter, row: &Row<'_>, count: u64) {
+    let found = push(writer, row).err();
+    same(rt, &found, &Some(FileFault::Failed));
+    same(rt, &writer.written(), &count);
+}
+
+/// Such a writer isn't finished, and its output has got a front of the file of sevens.
+fn check_unfinished(rt: &impl Abort, writer: SevensWriter, count: u64) {
+    match writer.finish() {
+        Ok(_) => demand(rt, false, "finished"),
+        Err((fault, out)) => {
+            same(rt, &fault, &FileFault::Failed);
+            same(rt, &(out.bytes().len() as u64), &count);
+            is_front(rt, out.bytes(), &SEVENS);
+        }
+    }
 }
 
 /// A writer that refused a row refuses all that comes, and writes nothing more.
-fn check_failed(rt: &impl Abort, mut writer: Writer<FailSink>, row: &Row<'_>) {
+fn check_failed(rt: &impl Abort, mut writer: SevensWriter, row: &Row<'_>) {
     let count = writer.written();
-    for _ in 0..2 {
-        assert_eq!(rt; writer.push(row), Err(FileFault::Failed));
-        assert_eq!(rt; writer.written(), count);
-    }
-    match writer.finish() {
-        Ok(_) => assert!(rt; false, "finished"),
-        Err((fault, out)) => {
-            assert_eq!(rt; fault, FileFault::Failed);
-            assert_eq!(rt; out.bytes().len() as u64, count);
-            check_front(rt, &out);
+    check_refused(rt, &mut writer, row, count);
+    check_refused(rt, &mut writer, row, count);
+    check_unfinished(rt, writer, count);
+}
+
+/// The first stripe is written to the output.
+fn check_stripe(rt: &impl Abort, writer: SevensWriter) {
+    same(rt, &writer.written(), &22);
+    let out = writer.into_out();
+    same_bytes(rt, out.bytes(), &SEVENS[..22]);
+}
+
+/// Whether a new writer takes the rows, and writes their stripe. If not, it refuses all that comes.
+fn takes_rows(rt: &impl Abort, alloc: Global, row: &Row<'_>) -> Result<bool, FileFault> {
+    let mut writer = begun(alloc, 3)?;
+    match push_three(&mut writer, row) {
+        Ok(()) => {
+            check_stripe(rt, writer);
+            Ok(true)
+        }
+        Err(fault) => {
+            same(rt, &fault, &FileFault::OutOfMemory);
+            check_failed(rt, writer, row);
+            Ok(false)
         }
     }
 }
@@ -79,50 +127,54 @@ fn check_failed(rt: &impl Abort, mut writer: Writer<FailSink>, row: &Row<'_>) {
 #[test]
 fn rows_are_pushed(rt: HostRuntime) -> Result<(), FileFault> {
     let row = seven(rt.alloc())?;
-    for _ in 0..2 {
-        let mut writer = begun(rt.alloc(), 3)?;
-        match push_three(&mut writer, &row) {
-            Ok(()) => {
-                assert_eq!(rt; writer.written(), 22);
-                let out = writer.into_out();
-                assert_eq!(rt; out.bytes(), &SEVENS[..22]);
-                return Ok(());
-            }
-            Err(fault) => {
-                assert_eq!(rt; fault, FileFault::OutOfMemory);
-                check_failed(&rt, writer, &row);
-            }
-        }
+    if takes_rows(&rt, rt.alloc(), &row)? {
+        return Ok(());
+    }
+    if takes_rows(&rt, rt.alloc(), &row)? {
+        return Ok(());
     }
     Err(FileFault::OutOfMemory)
 }
 
-/// A writer with three rows that aren't written yet, once there is memory for them.
-fn filled(alloc: Global) -> Result<Writer<FailSink>, FileFault> {
-    let row = seven(alloc)?;
+fn filled_once(alloc: Global, row: &Row<'_>) -> Result<SevensWriter, FileFault> {
     let mut writer = begun(alloc, 4)?;
-    if push_three(&mut writer, &row).is_err() {
-        writer = begun(alloc, 4)?;
-        push_three(&mut writer, &row)?;
-    }
+    push_three(&mut writer, row)?;
     Ok(writer)
+}
+
+/// A writer with three rows that aren't written yet, once there is memory for them.
+fn filled(alloc: Global) -> Result<SevensWriter, FileFault> {
+    let row = seven(alloc)?;
+    match filled_once(alloc, &row) {
+        Err(_) => filled_once(alloc, &row),
+        writer => writer,
+    }
+}
+
+/// Whether the writer writes the file whole. If not, the output comes back with a front of it.
+fn finishes(rt: &impl Abort, writer: SevensWriter) -> bool {
+    match writer.finish() {
+        Ok((tail, out)) => {
+            same(rt, &tail.rows, &3);
+            same_bytes(rt, out.bytes(), &SEVENS);
+            true
+        }
+        Err((fault, out)) => {
+            same(rt, &fault, &FileFault::OutOfMemory);
+            is_front(rt, out.bytes(), &SEVENS);
+            false
+        }
+    }
 }
 
 /// The output comes back with a front of the file, and another writer writes it whole.
 #[test]
 fn files_are_finished(rt: HostRuntime) -> Result<(), FileFault> {
-    for _ in 0..2 {
-        match filled(rt.alloc())?.finish() {
-            Ok((tail, out)) => {
-                assert_eq!(rt; tail.rows, 3);
-                assert_eq!(rt; out.bytes(), SEVENS.as_slice());
-                return Ok(());
-            }
-            Err((fault, out)) => {
-                assert_eq!(rt; fault, FileFault::OutOfMemory);
-                check_front(&rt, &out);
-            }
-        }
+    if finishes(&rt, filled(rt.alloc())?) {
+        return Ok(());
+    }
+    if finishes(&rt, filled(rt.alloc())?) {
+        return Ok(());
     }
     Err(FileFault::OutOfMemory)
 }

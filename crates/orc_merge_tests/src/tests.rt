@@ -8,9 +8,12 @@ mod statistics;
 mod steps;
 mod stripes;
 
+use crate::assertions::check_bytes;
+use crate::calls::merged;
 use orc_file::{SliceSource, VecSink};
-use orc_merge::{MergeFault, merge};
+use orc_merge::MergeFault;
 use std::alloc::Global;
+use std::process::Abort;
 
 /// What merging files writes, once there is memory for it: what wanted some is asked again.
 pub(crate) fn merge_all(alloc: Global, files: &[&[u8]]) -> Result<Vec<u8>, MergeFault> {
@@ -21,11 +24,35 @@ pub(crate) fn merge_all(alloc: Global, files: &[&[u8]]) -> Result<Vec<u8>, Merge
 }
 
 fn merge_once(alloc: Global, files: &[&[u8]]) -> Result<Vec<u8>, MergeFault> {
-    let mut inputs = Vec::new(alloc);
-    for file in files {
-        inputs.push(SliceSource::new(file))?;
-    }
+    let mut inputs = sources(alloc, files)?;
     let mut out = VecSink::new(alloc);
-    merge(alloc, &mut inputs, &mut out)?;
-    Ok(out.into_vec())
+    match merged(alloc, &mut inputs, &mut out) {
+        Ok(()) => Ok(out.into_vec()),
+        Err(fault) => Err(fault),
+    }
+}
+
+/// A source for each file.
+pub(crate) fn sources<'a>(
+    alloc: Global,
+    files: &[&'a [u8]],
+) -> Result<Vec<SliceSource<'a>>, MergeFault> {
+    let mut sources = Vec::new(alloc);
+    for file in files {
+        sources.push(SliceSource::new(file))?;
+    }
+    Ok(sources)
+}
+
+/// Files are merged into this one.
+pub(crate) fn check_merged(
+    rt: &impl Abort,
+    alloc: Global,
+    what: &str,
+    files: &[&[u8]],
+    wanted: &[u8],
+) -> Result<(), MergeFault> {
+    let out = merge_all(alloc, files)?;
+    check_bytes(rt, what, files.len() as u64, out.as_slice(), wanted);
+    Ok(())
 }

@@ -1,9 +1,9 @@
 //! Maps as JSON text: arrays of arrays of two, in the order of their pairs.
 
-use crate::tests::{Case, check_cases, refuses_twice, schema_of};
+use crate::tests::{Case, append, check_cases, refuses_twice, schema_of};
 use orc_row_text::RowPrinter;
-use orc_types::{JsonFault, MapPair, Value, fits};
-use std::alloc::Global;
+use orc_types::{JsonFault, MapPair, Row, Value, fits};
+use std::alloc::{AllocError, Global};
 use std::borrow::CowStr;
 
 /// Maps of each kind of keys and values, in lists and structs and in one another.
@@ -78,26 +78,32 @@ fn maps(rt: HostRuntime) {
     check_cases(&rt, alloc, &MAPS);
 }
 
-/// A map of borrowed texts.
+/// A row of a map of borrowed texts.
+fn borrowed_map(alloc: Global) -> Result<Row<'static>, AllocError> {
+    let mut pairs = Vec::new(alloc);
+    pairs.push(MapPair {
+        key: Some(Value::Text(CowStr::Borrowed("a\tb"))),
+        value: Some(Value::Int(-1)),
+    })?;
+    pairs.push(MapPair {
+        key: None,
+        value: None,
+    })?;
+    let mut values = Vec::new(alloc);
+    values.push(Some(Value::Map(pairs)))?;
+    Ok(Some(Value::Struct(values)))
+}
+
+/// A map of borrowed texts fits, and is printed.
 fn borrowed_pairs_hold(alloc: Global) -> Result<bool, JsonFault> {
     let schema = schema_of(alloc, "struct<m:map<string,int>>")?;
-    let printer = RowPrinter::new(alloc, &schema)?;
-    let pairs = vec![in alloc;
-        MapPair {
-            key: Some(Value::Text(CowStr::Borrowed("a\tb"))),
-            value: Some(Value::Int(-1)),
-        },
-        MapPair {
-            key: None,
-            value: None,
-        },
-    ]?;
-    let row = Some(Value::Struct(vec![in alloc; Some(Value::Map(pairs))]?));
+    let row = borrowed_map(alloc)?;
     if !fits(&schema, &row) {
         return Ok(false);
     }
+    let printer = RowPrinter::new(alloc, &schema)?;
     let mut out = Vec::new(alloc);
-    printer.push_row(alloc, &row, &mut out)?;
+    append(alloc, &printer, &row, &mut out)?;
     let wanted = r#"{"m":[["a\tb",-1],[null,null]]}"#;
     Ok(out.as_slice() == wanted.as_bytes())
 }

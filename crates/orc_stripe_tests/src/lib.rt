@@ -1,6 +1,8 @@
-//! Tests of `orc_stripe` by its public calls that read: stripes all at once and row by row. They stand apart
-//! from it, so that it is not proved again with them.
+//! Tests of `orc_stripe` and of `orc_entering` below it by their public calls that read: stripes all at once, row by
+//! row, and readers that enter at positions. They stand apart from both, so that neither is proved again with them.
 #![tactic(auto)]
 
+#[cfg(test)]
+mod entering;
 #[cfg(test)]
 mod reading;

@@ -1,5 +1,16 @@
 //! Stripes read: rows of each kind, refusals, changed bytes, and shapes at the limits.
 
+/// What a check answers, which is asked again where memory was refused once. A closure would be proved anew in
+/// each test.
+macro_rules! with_memory {
+    ($check:expr) => {
+        match $check {
+            Err(StripeFault::OutOfMemory) => $check,
+            answer => answer,
+        }
+    };
+}
+
 mod borrowed;
 mod cursors;
 mod encodings;
@@ -11,11 +22,72 @@ mod skipped;
 
 use orc_rle::RunFault;
 use orc_stripe::{StreamKind, StripeFault};
-use orc_test_support::{lines_at_once, lines_one_by_one, with_memory};
-use orc_types::Schema;
+use orc_test_lines::{lines_at_once, lines_one_by_one, schema_of};
 use orc_wire::StripeInfo;
 use std::alloc::Global;
 use std::process::Abort;
+
+// Each assertion with a message takes a second or two to prove where it stands, so these few have those of all tests.
+
+/// What was asked of these bytes holds.
+fn demand(rt: &impl Abort, holds: bool, what: &str, bytes: &[u8]) {
+    assert!(rt; holds, "{what}: {bytes:?}");
+}
+
+/// The check passes.
+fn passes(rt: &impl Abort, answer: Result<(), StripeFault>) {
+    assert!(rt; answer == Ok(()));
+}
+
+/// The bytes are refused with this fault. Want of memory is handed on.
+fn check_refused<T: Drop>(
+    rt: &impl Abort,
+    answer: Result<T, StripeFault>,
+    wanted: StripeFault,
+    what: &str,
+    bytes: &[u8],
+) -> Result<(), StripeFault> {
+    match answer {
+        Err(StripeFault::OutOfMemory) => Err(StripeFault::OutOfMemory),
+        Err(fault) => {
+            demand(rt, fault == wanted, what, bytes);
+            Ok(())
+        }
+        Ok(_) => {
+            demand(rt, false, what, bytes);
+            Ok(())
+        }
+    }
+}
+
+/// Whether the lines are these.
+fn are_lines(lines: &[String], wanted: &[&str]) -> bool {
+    if lines.len() != wanted.len() {
+        return false;
+    }
+    for (line, text) in lines.iter().zip(wanted) {
+        if line.as_str() != *text {
+            return false;
+        }
+    }
+    true
+}
+
+/// The rows of the bytes print as these lines. Want of memory is handed on.
+fn check_lines(
+    rt: &impl Abort,
+    answer: Result<Vec<String>, StripeFault>,
+    wanted: &[&str],
+    what: &str,
+    bytes: &[u8],
+) -> Result<(), StripeFault> {
+    match answer {
+        Err(StripeFault::OutOfMemory) => return Err(StripeFault::OutOfMemory),
+        Err(_) => demand(rt, false, what, bytes),
+        Ok(lines) => demand(rt, are_lines(&lines, wanted), what, bytes),
+    }
+    Ok(())
+}
 
 /// A stripe without an index: the text of its schema, its data, its footer and its number of rows; and
 /// the lines that its rows print as, or why it has none.
@@ -340,9 +412,7 @@ fn lines_of(
     footer: &[u8],
     rows: u64,
 ) -> Result<Vec<String>, StripeFault> {
-    let Ok(schema) = Schema::parse(alloc, text) else {
-        return Err(StripeFault::OutOfMemory);
-    };
+    let schema = schema_of(alloc, text)?;
     let (info, bytes) = stripe_of(alloc, data, footer, rows)?;
     lines_at_once(alloc, &schema, info, &bytes)
 }
@@ -353,35 +423,32 @@ fn check_case(
     case: &Case,
     answer: Result<Vec<String>, StripeFault>,
 ) -> Result<(), StripeFault> {
-    match (answer, case.4) {
-        (Err(StripeFault::OutOfMemory), _) => return Err(StripeFault::OutOfMemory),
-        (Ok(lines), Ok(wanted)) => {
-            assert!(rt; lines.len() == wanted.len(), "{}", case.0);
-            for (line, text) in lines.iter().zip(wanted) {
-                assert!(rt; line.as_str() == *text);
-            }
-        }
-        (Err(fault), Err(wanted)) => assert!(rt; fault == wanted, "{}", case.0),
-        (_, _) => assert!(rt; false, "{}", case.0),
+    match case.4 {
+        Ok(wanted) => check_lines(rt, answer, wanted, case.0, case.1),
+        Err(wanted) => check_refused(rt, answer, wanted, case.0, case.1),
+    }
+}
+
+/// The stripe has its lines, or is refused so, all at once and one by one.
+fn check_both(rt: &impl Abort, alloc: Global, case: &Case) -> Result<(), StripeFault> {
+    let schema = schema_of(alloc, case.0)?;
+    let (info, bytes) = stripe_of(alloc, case.1, case.2, case.3)?;
+    check_case(rt, case, lines_at_once(alloc, &schema, info, &bytes))?;
+    check_case(rt, case, lines_one_by_one(alloc, &schema, info, &bytes))
+}
+
+fn check_cases(rt: &impl Abort, alloc: Global, cases: &[Case]) -> Result<(), StripeFault> {
+    for case in cases {
+        check_both(rt, alloc, case)?;
     }
     Ok(())
 }
 
-/// Each stripe has its lines, or is refused so, all at once and one by one.
-fn check_cases(rt: &impl Abort, alloc: Global, cases: &[Case]) -> Result<(), StripeFault> {
-    for case in cases {
-        let Ok(schema) = Schema::parse(alloc, case.0) else {
-            return Err(StripeFault::OutOfMemory);
-        };
-        let (info, bytes) = stripe_of(alloc, case.1, case.2, case.3)?;
-        check_case(rt, case, lines_at_once(alloc, &schema, info, &bytes))?;
-        check_case(rt, case, lines_one_by_one(alloc, &schema, info, &bytes))?;
-    }
-    Ok(())
+fn check_stripes(rt: &impl Abort, alloc: Global) -> Result<(), StripeFault> {
+    check_cases(rt, alloc, &CASES)
 }
 
 #[test]
 fn stripes(rt: HostRuntime) {
-    let answer = with_memory(|| check_cases(&rt, rt.alloc(), &CASES));
-    assert!(rt; answer == Ok(()));
+    passes(&rt, with_memory!(check_stripes(&rt, rt.alloc())));
 }

@@ -6,7 +6,24 @@ ghost use Rattle.orc_types.specs.Schemas.{AllKept};
 use orc_types::*;
 use orc_wire::{Bytes, Items, TypeMsg};
 use std::alloc::{AllocError, Global};
+use std::fmt;
 use std::process::Abort;
+
+/// What a check answers, which is asked again where memory was refused once. Its answer is then demanded.
+macro_rules! with_memory {
+    ($check:expr) => {
+        match $check {
+            Err(_) => $check,
+            answer => answer,
+        }
+    };
+}
+
+/// The check of a case of a table holds. An assertion with a message takes two seconds to prove where it stands, so
+/// this one has those of all tables.
+fn demand<C: fmt::Debug, E: Drop>(rt: &impl Abort, held: Result<bool, E>, case: &C) {
+    assert!(rt; matches!(held, Ok(true)), "of {case:?}");
+}
 
 mod json_leaves;
 mod json_rows;
@@ -17,8 +34,7 @@ mod texts;
 
 use rows::MAPS;
 
-// What memory refused is tried again, and its answer is then demanded. Long tables are statics: of
-// a constant, the proof of each function that reads it goes through every row.
+// Long tables are statics: of a constant, the proof of each function that reads it goes through every row.
 
 /// A type of a table: its kind's number, its subtypes, its fields' names.
 type Listed = (u32, &'static [u32], &'static [&'static [u8]]);
@@ -82,15 +98,27 @@ fn types_of(alloc: Global, table: &[Listed]) -> Result<Vec<TypeMsg>, AllocError>
     Ok(types)
 }
 
+/// A type that keeps another field.
+fn type_that_keeps(alloc: Global, listed: &Listed) -> Result<TypeMsg, AllocError>
+    ensures { IfOk result (λ t. AreKept 4 t.kept) }
+{
+    let subtypes = listed.1.to_vec(alloc)?;
+    let field_names = names_of(alloc, listed.2)?;
+    Ok(TypeMsg {
+        kind: listed.0,
+        subtypes: Items::from_vec(subtypes),
+        field_names: Items::from_vec(field_names),
+        kept: field_five(alloc)?,
+    })
+}
+
 /// The types, each of which keeps another field.
 fn types_that_keep(alloc: Global, table: &[Listed]) -> Result<Vec<TypeMsg>, AllocError>
     ensures { IfOk result (λ types. AllKept types.items) }
 {
     let mut types = Vec::new(alloc);
     for listed in table {
-        let mut t = type_msg(alloc, listed)?;
-        t.kept = field_five(alloc)?;
-        types.push(t)?;
+        types.push(type_that_keeps(alloc, listed)?)?;
     }
     Ok(types)
 }
@@ -165,9 +193,6 @@ fn schemas_hold(alloc: Global) -> Result<bool, TypeFault> {
 #[test]
 fn schemas(rt: HostRuntime) {
     let alloc = rt.alloc();
-    let mut held = schemas_hold(alloc);
-    if held.is_err() {
-        held = schemas_hold(alloc);
-    }
+    let held = with_memory!(schemas_hold(alloc));
     assert!(rt; matches!(held, Ok(true)));
 }

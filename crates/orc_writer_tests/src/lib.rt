@@ -3,6 +3,10 @@
 #![tactic(auto)]
 
 #[cfg(test)]
+mod assertions;
+#[cfg(test)]
+mod calls;
+#[cfg(test)]
 mod writers;
 #[cfg(test)]
 mod written_again;

@@ -1,5 +1,8 @@
 //! Files of every kind of column, written and read again.
-use orc_file::{FileFault, OrcFile, SliceSource, VecSink, Writer};
+
+use crate::assertions::{check_same, demand, passes};
+use crate::calls::{finish, new_writer, open, push, push_owned, rows};
+use orc_file::{FileFault, VecSink, Writer};
 use orc_rle::Rle;
 use orc_stripe::Options;
 use orc_types::{Row, Schema, row_from_json};
@@ -136,7 +139,7 @@ fn begun(
     let Some(options) = Options::new(rle, stride, stripe_rows) else {
         return Err(FileFault::Limit);
     };
-    match Writer::new(alloc, schema, options, VecSink::new(alloc)) {
+    match new_writer(alloc, schema, options, VecSink::new(alloc)) {
         Ok(writer) => Ok(writer),
         Err((fault, _)) => Err(fault),
     }
@@ -144,10 +147,44 @@ fn begun(
 
 /// The bytes of the file that the writer has written.
 fn ended(writer: Writer<VecSink>) -> Result<Vec<u8>, FileFault> {
-    match writer.finish() {
+    match finish(writer) {
         Ok((_, out)) => Ok(out.into_vec()),
         Err((fault, _)) => Err(fault),
     }
+}
+
+/// The stride that these bytes say, and their rows.
+fn read(alloc: Global, bytes: &[u8]) -> Result<(u32, Vec<Row<'static>>), FileFault> {
+    let mut file = open(alloc, bytes)?;
+    let rows = rows(alloc, &mut file)?;
+    Ok((file.tail().stride, rows))
+}
+
+/// Whether a row is the one that a line spells.
+fn is_of_line(
+    alloc: Global,
+    schema: &Schema,
+    row: &Row<'static>,
+    line: &str,
+) -> Result<bool, FileFault> {
+    let wanted = row_of(alloc, schema, line)?;
+    Ok(*row == wanted)
+}
+
+/// The rows are those of the lines.
+fn check_lines(
+    rt: &impl Abort,
+    alloc: Global,
+    text: &str,
+    rows: &[Row<'static>],
+    lines: &[&str],
+) -> Result<(), FileFault> {
+    let schema = schema_of(alloc, text)?;
+    check_same(rt, &rows.len(), &lines.len(), text, &[]);
+    for (row, line) in rows.iter().zip(lines) {
+        demand(rt, is_of_line(alloc, &schema, row, line)?, line, text);
+    }
+    Ok(())
 }
 
 /// The rows of these bytes are those of the lines, and the stride is the one that was asked for.
@@ -159,31 +196,45 @@ fn check_rows(
     stride: u32,
     lines: &[&str],
 ) -> Result<(), FileFault> {
+    let (found, rows) = read(alloc, bytes)?;
+    check_same(rt, &found, &stride, text, &[]);
+    check_lines(rt, alloc, text, &rows, lines)
+}
+
+/// Pushes the rows of the lines.
+fn push_lines(
+    alloc: Global,
+    text: &str,
+    lines: &[&str],
+    writer: &mut Writer<VecSink>,
+) -> Result<(), FileFault> {
     let schema = schema_of(alloc, text)?;
-    let mut file = match OrcFile::open(alloc, SliceSource::new(bytes)) {
-        Ok(file) => file,
-        Err((fault, _)) => return Err(fault),
-    };
-    assert_eq!(rt; file.tail().stride, stride);
-    let rows = file.rows(alloc)?;
-    assert_eq!(rt; rows.len(), lines.len(), "{text}");
-    for (row, line) in rows.iter().zip(lines) {
-        let wanted = row_of(alloc, &schema, line)?;
-        assert!(rt; *row == wanted, "{line} of {text}");
+    for line in lines {
+        push_owned(writer, row_of(alloc, &schema, line)?)?;
     }
     Ok(())
+}
+
+/// The bytes of the rows of a case.
+fn written(
+    alloc: Global,
+    rle: Rle,
+    case: &Case,
+    stride: u32,
+    stripe_rows: u32,
+) -> Result<Vec<u8>, FileFault> {
+    let (text, lines) = case;
+    let mut writer = begun(alloc, text, rle, stride, stripe_rows)?;
+    push_lines(alloc, text, lines, &mut writer)?;
+    ended(writer)
 }
 
 /// The rows of a case are written and read again, with indexes and without, in stripes of several sizes.
 fn check_case(rt: &impl Abort, alloc: Global, rle: Rle, case: &Case) -> Result<(), FileFault> {
     let (text, lines) = case;
-    let schema = schema_of(alloc, text)?;
     for (stride, stripe_rows) in [(0, 1), (1, 2), (2, 1000), (1000, 2)] {
-        let mut writer = begun(alloc, text, rle, stride, stripe_rows)?;
-        for line in *lines {
-            writer.push_owned(row_of(alloc, &schema, line)?)?;
-        }
-        check_rows(rt, alloc, &ended(writer)?, text, stride, lines)?;
+        let bytes = written(alloc, rle, case, stride, stripe_rows)?;
+        check_rows(rt, alloc, &bytes, text, stride, lines)?;
     }
     Ok(())
 }
@@ -199,7 +250,7 @@ fn rows_are_read_again(rt: HostRuntime) {
                 ),
                 answer => answer,
             };
-            assert_eq!(rt; answer, Ok(()), "{}", case.0);
+            passes(&rt, answer, case.0);
         }
     }
 }
@@ -215,7 +266,26 @@ static MISFITS: [(&'static str, &'static str, &'static str); 7] = [
     ("struct<n:array<int>>", "struct<n:struct<>>", r#"{"n":{}}"#),
 ];
 
-/// A row that doesn't fit is refused between two nulls, and they alone are read again.
+/// A row that doesn't fit is refused between two nulls.
+fn push_misfit(
+    rt: &impl Abort,
+    writer: &mut Writer<VecSink>,
+    misfit: &Row<'_>,
+    line: &str,
+) -> Result<(), FileFault> {
+    push(writer, &None)?;
+    let answer = push(writer, misfit);
+    check_same(rt, &answer, &Err(FileFault::RowShape), line, &[]);
+    push(writer, &None)
+}
+
+/// The row of another schema that a line spells.
+fn misfit_of(alloc: Global, other: &str, line: &str) -> Result<Row<'static>, FileFault> {
+    let schema = schema_of(alloc, other)?;
+    row_of(alloc, &schema, line)
+}
+
+/// The nulls round a row that is refused alone are read again.
 fn check_misfit(
     rt: &impl Abort,
     alloc: Global,
@@ -223,11 +293,9 @@ fn check_misfit(
     other: &str,
     line: &str,
 ) -> Result<(), FileFault> {
-    let misfit = row_of(alloc, &schema_of(alloc, other)?, line)?;
+    let misfit = misfit_of(alloc, other, line)?;
     let mut writer = begun(alloc, text, Rle::Two, 1, 3)?;
-    writer.push(&None)?;
-    assert_eq!(rt; writer.push(&misfit), Err(FileFault::RowShape), "{line}");
-    writer.push(&None)?;
+    push_misfit(rt, &mut writer, &misfit, line)?;
     check_rows(rt, alloc, &ended(writer)?, text, 1, &["null", "null"])
 }
 
@@ -241,6 +309,6 @@ fn misfits_are_left_out(rt: HostRuntime) {
             ),
             answer => answer,
         };
-        assert_eq!(rt; answer, Ok(()), "{line}");
+        passes(&rt, answer, line);
     }
 }

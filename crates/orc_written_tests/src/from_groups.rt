@@ -1,14 +1,54 @@
 //! Stripes read on from a group, at the positions of its entries.
-use crate::indexes::schema_of;
-use crate::positions::{index_text, stripe_of};
-use crate::writing::written;
+use crate::assertions::{demand, passes, refusal, same_fault};
+use crate::indexes::{footer_of, with_byte};
+use crate::positions::{index_text, stripe_of, stripe_with};
+use crate::writing::{schema_of, written};
 use orc_rle::{Rle, RunFault};
-use orc_stripe::{Spot, StreamKind, StripeFault, StripeOut, StripeView};
-use orc_test_support::{line_of, with_memory};
-use orc_types::Schema;
-use orc_wire::{Message, StripeFooter};
+use orc_stripe::{RowCursor, Spot, StreamKind, StripeFault, StripeOut, StripeView};
+use orc_test_lines::line_of;
+use orc_types::{Row, Schema};
+use orc_wire::{StripeFooter, StripeInfo};
 use std::alloc::Global;
 use std::process::Abort;
+
+/// Whether the row prints as this line.
+fn is_line(alloc: Global, schema: &Schema, row: &Row<'_>, text: &str) -> Result<bool, StripeFault> {
+    let line = line_of(alloc, schema, row)?;
+    Ok(line.as_str() == text)
+}
+
+/// Whether there is a next row, and it prints as this line.
+fn is_next(
+    alloc: Global,
+    schema: &Schema,
+    cursor: &mut RowCursor<'_>,
+    text: &str,
+) -> Result<bool, StripeFault> {
+    match cursor.next()? {
+        Some(row) => is_line(alloc, schema, &row, text),
+        None => Ok(false),
+    }
+}
+
+/// Whether there is no row more.
+fn is_end(cursor: &mut RowCursor<'_>) -> Result<bool, StripeFault> {
+    Ok(cursor.next()?.is_none())
+}
+
+/// The rows still to come print as these lines, and then there are none.
+fn check_rest(
+    rt: &impl Abort,
+    alloc: Global,
+    schema: &Schema,
+    cursor: &mut RowCursor<'_>,
+    wanted: &[&str],
+) -> Result<(), StripeFault> {
+    for text in wanted {
+        demand(rt, is_next(alloc, schema, cursor, text)?, text);
+    }
+    demand(rt, is_end(cursor)?, "a row more");
+    Ok(())
+}
 
 /// The rows from a group on print as these lines, and then there are none.
 fn check_from(
@@ -20,17 +60,51 @@ fn check_from(
     wanted: &[&str],
 ) -> Result<(), StripeFault> {
     let mut cursor = view.cursor_at(alloc, group)?;
-    for text in wanted {
-        match cursor.next()? {
-            Some(row) => assert!(rt; line_of(alloc, schema, &row)?.as_str() == *text),
-            None => assert!(rt; false, "a row is missing"),
+    check_rest(rt, alloc, schema, &mut cursor, wanted)
+}
+
+/// The group isn't there, or the rows from it on print as these lines.
+fn check_group(
+    rt: &impl Abort,
+    alloc: Global,
+    schema: &Schema,
+    view: &StripeView<'_>,
+    group: u64,
+    rest: Option<&[&str]>,
+) -> Result<(), StripeFault> {
+    match rest {
+        None | Some([]) => {
+            let found = view.cursor_at(alloc, group).err();
+            let wanted = Some(StripeFault::BadPosition(Spot::Stripe));
+            same_fault(rt, found, wanted);
+            Ok(())
         }
+        Some(rest) => check_from(rt, alloc, schema, view, group, rest),
     }
-    assert!(rt; cursor.next()?.is_none(), "a row more");
+}
+
+/// The lines of the rows from a group on, if there are so many rows.
+fn lines_from<'a, 'b>(lines: &'a [&'b str], stride: u32, group: u64) -> Option<&'a [&'b str]> {
+    lines.get((group as usize).saturating_mul(stride as usize)..)
+}
+
+/// From each group on, the view's rows print as the lines from its first row on; and it has no group more.
+fn check_each(
+    rt: &impl Abort,
+    alloc: Global,
+    schema: &Schema,
+    view: &StripeView<'_>,
+    stride: u32,
+    lines: &[&str],
+) -> Result<(), StripeFault> {
+    for group in 0..(lines.len() as u64).saturating_add(1) {
+        let rest = lines_from(lines, stride, group);
+        check_group(rt, alloc, schema, view, group, rest)?;
+    }
     Ok(())
 }
 
-/// From each group on, the stripe's rows print as the lines from its first row on; and it has no group more.
+/// The same of a stripe's rows.
 pub(crate) fn check_groups(
     rt: &impl Abort,
     alloc: Global,
@@ -40,16 +114,7 @@ pub(crate) fn check_groups(
     lines: &[&str],
 ) -> Result<(), StripeFault> {
     let view = StripeView::open(alloc, schema, out.info, stride, &out.bytes)?;
-    for group in 0..lines.len().saturating_add(1) {
-        match lines.get(group.saturating_mul(stride as usize)..) {
-            None | Some([]) => assert!(rt;
-                view.cursor_at(alloc, group as u64).err()
-                    == Some(StripeFault::BadPosition(Spot::Stripe))
-            ),
-            Some(rest) => check_from(rt, alloc, schema, &view, group as u64, rest)?,
-        }
-    }
-    Ok(())
+    check_each(rt, alloc, schema, &view, stride, lines)
 }
 
 /// The text of a schema, the version of run lengths, the stride, the lines of rows; a group, and streams of column 1 by
@@ -135,54 +200,139 @@ static CHANGED: [Changed; 5] = [
     ),
 ];
 
-/// Where a stream of column 1 begins in a stripe.
-fn start_of(alloc: Global, out: &StripeOut, kind: u32) -> Result<usize, StripeFault> {
-    let front = out.info.index_length.saturating_add(out.info.data_length);
-    let Some(text) = out.bytes.get(front as usize..) else {
-        return Err(StripeFault::BadDirectory);
-    };
-    let Ok(footer) = StripeFooter::read(alloc, text) else {
-        return Err(StripeFault::OutOfMemory);
-    };
+/// Where a stream of column 1 begins in a stripe with this footer.
+fn start_in(footer: &StripeFooter, kind: u32) -> Option<usize> {
     let mut start = 0usize;
     for line in footer.streams.as_slice() {
         if line.kind == kind && line.column == 1 {
-            return Ok(start);
+            return Some(start);
         }
         start = start.saturating_add(line.length as usize);
     }
-    Err(StripeFault::BadDirectory)
+    None
 }
 
-/// The rows from the group on are the same, whatever one byte before an offset is.
-fn check_changed(rt: &impl Abort, alloc: Global, case: &Changed) -> Result<(), StripeFault> {
-    let (text, rle, stride, lines, group, fronts) = case;
-    let schema = schema_of(alloc, text)?;
-    let out = written(alloc, &schema, *rle, *stride, lines)?;
-    let first = (*group as usize).saturating_mul(*stride as usize);
-    let Some(wanted) = lines.get(first..) else {
+/// Where a stream of column 1 begins in a stripe.
+fn start_of(alloc: Global, out: &StripeOut, kind: u32) -> Result<usize, StripeFault> {
+    let footer = footer_of(alloc, out)?;
+    match start_in(&footer, kind) {
+        Some(start) => Ok(start),
+        None => Err(StripeFault::BadDirectory),
+    }
+}
+
+/// The rows of a stripe's bytes from a group on print as these lines.
+fn check_bytes(
+    rt: &impl Abort,
+    alloc: Global,
+    schema: &Schema,
+    info: StripeInfo,
+    bytes: &[u8],
+    (stride, group): (u32, u64),
+    wanted: &[&str],
+) -> Result<(), StripeFault> {
+    let view = StripeView::open(alloc, schema, info, stride, bytes)?;
+    check_from(rt, alloc, schema, &view, group, wanted)
+}
+
+/// The rows from the group on are the same where the byte at a place is this one.
+fn check_byte(
+    rt: &impl Abort,
+    alloc: Global,
+    schema: &Schema,
+    out: &StripeOut,
+    case: &Changed,
+    place: usize,
+    value: u8,
+) -> Result<(), StripeFault> {
+    let (_, _, stride, lines, group, _) = case;
+    let Some(wanted) = lines_from(lines, *stride, *group) else {
         return Err(StripeFault::BadDirectory);
     };
+    let bytes = with_byte(alloc, &out.bytes, place, value)?;
+    check_bytes(
+        rt,
+        alloc,
+        schema,
+        out.info,
+        &bytes,
+        (*stride, *group),
+        wanted,
+    )
+}
+
+/// What a byte before an offset is changed to.
+static VALUES: [u8; 4] = [0x00, 0x01, 0x80, 0xff];
+
+/// The rows from the group on are the same, whatever the byte at a place is.
+fn check_place(
+    rt: &impl Abort,
+    alloc: Global,
+    schema: &Schema,
+    out: &StripeOut,
+    case: &Changed,
+    place: usize,
+) -> Result<(), StripeFault> {
+    for value in &VALUES {
+        check_byte(rt, alloc, schema, out, case, place, *value)?;
+    }
+    Ok(())
+}
+
+/// The same of each byte before an offset.
+fn check_fronts(
+    rt: &impl Abort,
+    alloc: Global,
+    schema: &Schema,
+    out: &StripeOut,
+    case: &Changed,
+) -> Result<(), StripeFault> {
+    let (_, _, _, _, _, fronts) = case;
     for (kind, front) in fronts.iter() {
-        let start = start_of(alloc, &out, *kind)?;
+        let start = start_of(alloc, out, *kind)?;
         for place in start..start.saturating_add(*front) {
-            for value in [0x00, 0x01, 0x80, 0xff] {
-                let mut bytes = Vec::new(alloc);
-                bytes.extend_from_slice(&out.bytes)?;
-                match bytes.get_mut(place) {
-                    Some(byte) => *byte = value,
-                    None => return Err(StripeFault::BadDirectory),
-                }
-                let view = StripeView::open(alloc, &schema, out.info, *stride, &bytes)?;
-                check_from(rt, alloc, &schema, &view, *group, wanted)?;
-            }
+            check_place(rt, alloc, schema, out, case, place)?;
         }
     }
     Ok(())
 }
 
+/// The rows from the group on are the same, whatever one byte before an offset is.
+fn check_changed(rt: &impl Abort, alloc: Global, case: &Changed) -> Result<(), StripeFault> {
+    let (text, rle, stride, lines, _, _) = case;
+    let schema = schema_of(alloc, text)?;
+    let out = written(alloc, &schema, *rle, *stride, lines)?;
+    check_fronts(rt, alloc, &schema, &out, case)
+}
+
 /// Three times 7, and three times 9.
 static SEVENS: [u8; 6] = [0x00, 0x00, 0x0e, 0x00, 0x00, 0x12];
+
+/// A stripe with these streams, whose columns have such entries: the root's, and those of column 1.
+fn stripe_of_both(
+    alloc: Global,
+    root: &[&[u64]],
+    own: &[&[u64]],
+    data: &[u8],
+    rows: u64,
+) -> Result<(StripeInfo, Vec<u8>), StripeFault> {
+    let root = index_text(alloc, root, &[])?;
+    let own = index_text(alloc, own, &[])?;
+    stripe_of(alloc, &[(0, &root), (1, &own)], data, rows)
+}
+
+/// What a group of a stripe's bytes is refused for.
+fn group_refusal(
+    alloc: Global,
+    schema: &Schema,
+    info: StripeInfo,
+    bytes: &[u8],
+    stride: u32,
+    group: u64,
+) -> Result<Option<StripeFault>, StripeFault> {
+    let view = StripeView::open(alloc, schema, info, stride, bytes)?;
+    refusal(view.cursor_at(alloc, group).err())
+}
 
 /// The refusal of a group of this stripe, whose columns have such entries: the root's, and those of column 1.
 fn refused(
@@ -193,15 +343,9 @@ fn refused(
     root: &[&[u64]],
     own: &[&[u64]],
 ) -> Result<Option<StripeFault>, StripeFault> {
+    let (info, bytes) = stripe_of_both(alloc, root, own, &SEVENS, rows)?;
     let schema = schema_of(alloc, "struct<n:bigint>")?;
-    let root = index_text(alloc, root, &[])?;
-    let own = index_text(alloc, own, &[])?;
-    let (info, bytes) = stripe_of(alloc, &[(0, &root), (1, &own)], &SEVENS, rows)?;
-    let view = StripeView::open(alloc, &schema, info, stride, &bytes)?;
-    match view.cursor_at(alloc, group) {
-        Err(StripeFault::OutOfMemory) => Err(StripeFault::OutOfMemory),
-        answer => Ok(answer.err()),
-    }
+    group_refusal(alloc, &schema, info, &bytes, stride, group)
 }
 
 /// How many entries the root has, the positions of column 1, the group, and the refusal.
@@ -279,59 +423,103 @@ static REFUSALS: [Refusal; 12] = [
     ),
 ];
 
+/// The refusal of a group of this stripe is that one.
+fn check_refused(
+    rt: &impl Abort,
+    alloc: Global,
+    stride: u32,
+    rows: u64,
+    refusal: &Refusal,
+) -> Result<(), StripeFault> {
+    let (root, own, group, wanted) = refusal;
+    let found = refused(alloc, stride, rows, *group, root, own)?;
+    same_fault(rt, found, *wanted);
+    Ok(())
+}
+
+/// Where the rows have no index, and where they are too many.
+static NO_STRIDE: Refusal = (
+    &[&[], &[]],
+    &[&[0, 0], &[3, 0]],
+    0,
+    Some(StripeFault::NoIndex(Spot::Stripe)),
+);
+
+static TOO_MANY: Refusal = (
+    &[&[], &[]],
+    &[&[0, 0], &[3, 0]],
+    0,
+    Some(StripeFault::TooMany(0)),
+);
+
 fn check_refusals(rt: &impl Abort, alloc: Global) -> Result<(), StripeFault> {
-    for (root, own, group, wanted) in &REFUSALS {
-        assert!(rt; refused(alloc, 3, 6, *group, root, own)? == *wanted);
+    for refusal in &REFUSALS {
+        check_refused(rt, alloc, 3, 6, refusal)?;
     }
-    let entries = &[&[0, 0][..], &[3, 0][..]][..];
-    let root = &[&[][..], &[][..]][..];
-    assert!(rt;
-        refused(alloc, 0, 6, 0, root, entries)? == Some(StripeFault::NoIndex(Spot::Stripe))
-    );
-    assert!(rt; refused(alloc, 3, 0x8000_0000, 0, root, entries)? == Some(StripeFault::TooMany(0)));
+    check_refused(rt, alloc, 0, 6, &NO_STRIDE)?;
+    check_refused(rt, alloc, 3, 0x8000_0000, &TOO_MANY)
+}
+
+/// Where only one column has an index, no group is read.
+fn check_lone(
+    rt: &impl Abort,
+    alloc: Global,
+    column: u32,
+    entries: &[&[u64]],
+    missing: usize,
+) -> Result<(), StripeFault> {
+    let (info, bytes) = stripe_with(alloc, column, entries, &[], &SEVENS, 6)?;
+    let schema = schema_of(alloc, "struct<n:bigint>")?;
+    let found = group_refusal(alloc, &schema, info, &bytes, 3, 1)?;
+    let wanted = Some(StripeFault::NoIndex(Spot::Column(missing)));
+    same_fault(rt, found, wanted);
     Ok(())
 }
 
 /// Where a column has no index, no group is read.
 fn check_missing(rt: &impl Abort, alloc: Global) -> Result<(), StripeFault> {
-    let schema = schema_of(alloc, "struct<n:bigint>")?;
-    let root = index_text(alloc, &[&[], &[]], &[])?;
-    let own = index_text(alloc, &[&[0, 0], &[3, 0]], &[])?;
-    for (column, index, missing) in [(0u32, &root, 1), (1, &own, 0)] {
-        let (info, bytes) = stripe_of(alloc, &[(column, index)], &SEVENS, 6)?;
-        let view = StripeView::open(alloc, &schema, info, 3, &bytes)?;
-        let wanted = Some(StripeFault::NoIndex(Spot::Column(missing)));
-        match view.cursor_at(alloc, 1) {
-            Err(StripeFault::OutOfMemory) => return Err(StripeFault::OutOfMemory),
-            answer => assert!(rt; answer.err() == wanted),
-        }
-    }
-    Ok(())
+    check_lone(rt, alloc, 0, &[&[], &[]], 1)?;
+    check_lone(rt, alloc, 1, &[&[0, 0], &[3, 0]], 0)
 }
+
+/// What the rows of a stripe's bytes are refused for.
+fn rows_refusal(
+    alloc: Global,
+    schema: &Schema,
+    info: StripeInfo,
+    bytes: &[u8],
+) -> Result<Option<StripeFault>, StripeFault> {
+    let view = StripeView::open(alloc, schema, info, 3, bytes)?;
+    refusal(view.rows(alloc).err())
+}
+
+/// The first run is one of too many values.
+static BROKEN: [u8; 6] = [0x01, 0x00, 0x0e, 0x00, 0x00, 0x12];
+
+/// The rows of the second group.
+static NINES: [&'static str; 3] = [r#"{"n":9}"#, r#"{"n":9}"#, r#"{"n":9}"#];
 
 /// A run of too many values before the offset has no part in the rows of the group, and in all rows one.
 fn check_broken_front(rt: &impl Abort, alloc: Global) -> Result<(), StripeFault> {
+    let (info, bytes) = stripe_of_both(alloc, &[&[], &[]], &[&[0, 0], &[3, 0]], &BROKEN, 6)?;
     let schema = schema_of(alloc, "struct<n:bigint>")?;
-    let root = index_text(alloc, &[&[], &[]], &[])?;
-    let own = index_text(alloc, &[&[0, 0], &[3, 0]], &[])?;
-    let broken = [0x01, 0x00, 0x0e, 0x00, 0x00, 0x12];
-    let (info, bytes) = stripe_of(alloc, &[(0, &root), (1, &own)], &broken, 6)?;
-    let view = StripeView::open(alloc, &schema, info, 3, &bytes)?;
-    let nines = [r#"{"n":9}"#; 3];
-    check_from(rt, alloc, &schema, &view, 1, &nines)?;
-    match view.rows(alloc) {
-        Err(StripeFault::OutOfMemory) => return Err(StripeFault::OutOfMemory),
-        answer => assert!(rt;
-            answer.err() == Some(StripeFault::Run(1, StreamKind::Data, RunFault::TooMany(3)))
-        ),
+    check_bytes(rt, alloc, &schema, info, &bytes, (3, 1), &NINES)?;
+    let found = rows_refusal(alloc, &schema, info, &bytes)?;
+    let wanted = Some(StripeFault::Run(1, StreamKind::Data, RunFault::TooMany(3)));
+    same_fault(rt, found, wanted);
+    Ok(())
+}
+
+/// Each case holds.
+fn check_cases(rt: &impl Abort, alloc: Global) -> Result<(), StripeFault> {
+    for case in &CHANGED {
+        check_changed(rt, alloc, case)?;
     }
     Ok(())
 }
 
 fn check_all(rt: &impl Abort, alloc: Global) -> Result<(), StripeFault> {
-    for case in &CHANGED {
-        check_changed(rt, alloc, case)?;
-    }
+    check_cases(rt, alloc)?;
     check_refusals(rt, alloc)?;
     check_missing(rt, alloc)?;
     check_broken_front(rt, alloc)
@@ -339,6 +527,5 @@ fn check_all(rt: &impl Abort, alloc: Global) -> Result<(), StripeFault> {
 
 #[test]
 fn rows_from_groups(rt: HostRuntime) {
-    let answer = with_memory(|| check_all(&rt, rt.alloc()));
-    assert!(rt; answer == Ok(()));
+    passes(&rt, with_memory!(check_all(&rt, rt.alloc())));
 }

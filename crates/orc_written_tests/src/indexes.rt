@@ -1,9 +1,10 @@
 //! Row indexes of stripes, as they are written.
+use crate::assertions::{demand, passes};
 use crate::from_groups::check_groups;
-use crate::writing::{check_lines, written};
+use crate::positions::{all_right, right_of};
+use crate::writing::{check_lines, schema_of, written};
 use orc_rle::Rle;
-use orc_stripe::{StripeFault, StripeOut, StripeView};
-use orc_test_support::with_memory;
+use orc_stripe::{StripeFault, StripeOut};
 use orc_types::Schema;
 use orc_wire::{Message, RowIndexMsg, StripeFooter};
 use std::alloc::Global;
@@ -402,23 +403,28 @@ static CASES: [Case; 18] = [
     ),
 ];
 
-pub(crate) fn schema_of(alloc: Global, text: &str) -> Result<Schema, StripeFault> {
-    match Schema::parse(alloc, text) {
-        Ok(schema) => Ok(schema),
-        Err(_) => Err(StripeFault::OutOfMemory),
-    }
-}
-
 /// The stripe has these bytes, and its rows print as the lines that it was made of.
 fn check_whole(rt: &impl Abort, alloc: Global, whole: &Whole) -> Result<(), StripeFault> {
     let (text, rle, stride, lines, index_length, data_length, bytes) = whole;
     let schema = schema_of(alloc, text)?;
     let out = written(alloc, &schema, *rle, *stride, lines)?;
-    assert!(rt; out.bytes.as_slice() == *bytes, "{}", text);
-    assert!(rt; out.info.index_length == *index_length, "{}", text);
-    assert!(rt; out.info.data_length == *data_length, "{}", text);
-    check_groups(rt, alloc, &schema, &out, *stride, lines)?;
-    check_lines(rt, alloc, &schema, &out, lines)
+    demand(rt, out.bytes.as_slice() == *bytes, text);
+    demand(rt, out.info.index_length == *index_length, text);
+    demand(rt, out.info.data_length == *data_length, text);
+    check_rows(rt, alloc, &schema, &out, *stride, lines)
+}
+
+/// The rows of the stripe print as these lines, from each group on, all at once and one by one.
+fn check_rows(
+    rt: &impl Abort,
+    alloc: Global,
+    schema: &Schema,
+    out: &StripeOut,
+    stride: u32,
+    lines: &[&str],
+) -> Result<(), StripeFault> {
+    check_groups(rt, alloc, schema, out, stride, lines)?;
+    check_lines(rt, alloc, schema, out, lines)
 }
 
 fn check_all(rt: &impl Abort, alloc: Global) -> Result<(), StripeFault> {
@@ -430,8 +436,7 @@ fn check_all(rt: &impl Abort, alloc: Global) -> Result<(), StripeFault> {
 
 #[test]
 fn whole_stripes(rt: HostRuntime) {
-    let answer = with_memory(|| check_all(&rt, rt.alloc()));
-    assert!(rt; answer == Ok(()));
+    passes(&rt, with_memory!(check_all(&rt, rt.alloc())));
 }
 
 /// Where the index of a column begins and how long it is, if the directory begins with an index of each column
@@ -455,19 +460,28 @@ fn part(bytes: &[u8], start: usize, length: usize) -> Option<&[u8]> {
     bytes.get(start..)?.get(..length)
 }
 
-/// The index of a column of a stripe.
-fn index_of(alloc: Global, out: &StripeOut, column: usize) -> Result<RowIndexMsg, StripeFault> {
+/// The footer of a stripe.
+pub(crate) fn footer_of(alloc: Global, out: &StripeOut) -> Result<StripeFooter, StripeFault> {
     let front = out.info.index_length.saturating_add(out.info.data_length);
     let Some(text) = out.bytes.get(front as usize..) else {
         return Err(StripeFault::BadDirectory);
     };
-    let Ok(footer) = StripeFooter::read(alloc, text) else {
-        return Err(StripeFault::OutOfMemory);
-    };
-    let Some((start, length)) = place_of(&footer, column) else {
-        return Err(StripeFault::BadDirectory);
-    };
-    let Some(index) = part(&out.bytes, start, length) else {
+    match StripeFooter::read(alloc, text) {
+        Ok(footer) => Ok(footer),
+        Err(_) => Err(StripeFault::OutOfMemory),
+    }
+}
+
+/// The bytes of a column's index.
+fn index_bytes<'a>(footer: &StripeFooter, bytes: &'a [u8], column: usize) -> Option<&'a [u8]> {
+    let (start, length) = place_of(footer, column)?;
+    part(bytes, start, length)
+}
+
+/// The index of a column of a stripe.
+fn index_of(alloc: Global, out: &StripeOut, column: usize) -> Result<RowIndexMsg, StripeFault> {
+    let footer = footer_of(alloc, out)?;
+    let Some(index) = index_bytes(&footer, &out.bytes, column) else {
         return Err(StripeFault::BadDirectory);
     };
     match RowIndexMsg::read(alloc, index) {
@@ -482,17 +496,12 @@ fn check_right(
     alloc: Global,
     schema: &Schema,
     out: &StripeOut,
-    stride: u32,
-    column: usize,
-    groups: usize,
+    case: &Case,
 ) -> Result<(), StripeFault> {
-    let view = StripeView::open(alloc, schema, out.info, stride, &out.bytes)?;
-    if column >= schema.width() {
-        return Err(StripeFault::BadDirectory);
-    }
-    let right = view.positions_right(alloc, column)?;
-    assert!(rt; right.len() == groups);
-    assert!(rt; right.iter().all(|right| *right));
+    let (text, _, stride, _, column, groups) = case;
+    let right = right_of(alloc, schema, out.info, *stride, &out.bytes, *column)?;
+    demand(rt, right.len() == groups.len(), text);
+    demand(rt, all_right(&right), text);
     Ok(())
 }
 
@@ -510,11 +519,15 @@ fn has_positions(index: &RowIndexMsg, groups: &[&[u64]]) -> bool {
     true
 }
 
-fn check_case(rt: &impl Abort, alloc: Global, case: &Case) -> Result<(), StripeFault> {
-    let (text, rle, stride, lines, column, groups) = case;
-    let schema = schema_of(alloc, text)?;
-    let out = written(alloc, &schema, *rle, *stride, lines)?;
-    let index = index_of(alloc, &out, *column)?;
+/// The column's index has these positions.
+fn check_positions(
+    rt: &impl Abort,
+    alloc: Global,
+    out: &StripeOut,
+    case: &Case,
+) -> Result<(), StripeFault> {
+    let (text, _, stride, _, column, groups) = case;
+    let index = index_of(alloc, out, *column)?;
     assert!(rt;
         has_positions(&index, groups),
         "{} stride {} column {}",
@@ -522,9 +535,16 @@ fn check_case(rt: &impl Abort, alloc: Global, case: &Case) -> Result<(), StripeF
         stride,
         column
     );
-    check_right(rt, alloc, &schema, &out, *stride, *column, groups.len())?;
-    check_groups(rt, alloc, &schema, &out, *stride, lines)?;
-    check_lines(rt, alloc, &schema, &out, lines)
+    Ok(())
+}
+
+fn check_case(rt: &impl Abort, alloc: Global, case: &Case) -> Result<(), StripeFault> {
+    let (text, rle, stride, lines, _, _) = case;
+    let schema = schema_of(alloc, text)?;
+    let out = written(alloc, &schema, *rle, *stride, lines)?;
+    check_positions(rt, alloc, &out, case)?;
+    check_right(rt, alloc, &schema, &out, case)?;
+    check_rows(rt, alloc, &schema, &out, *stride, lines)
 }
 
 fn check_cases(rt: &impl Abort, alloc: Global) -> Result<(), StripeFault> {
@@ -536,8 +556,7 @@ fn check_cases(rt: &impl Abort, alloc: Global) -> Result<(), StripeFault> {
 
 #[test]
 fn positions_of_groups(rt: HostRuntime) {
-    let answer = with_memory(|| check_cases(&rt, rt.alloc()));
-    assert!(rt; answer == Ok(()));
+    passes(&rt, with_memory!(check_cases(&rt, rt.alloc())));
 }
 
 /// Where the numbers of a group's position stand in the stripe of arrays: the column, the group, the first one's place,
@@ -554,56 +573,78 @@ static PLACES: [(usize, usize, usize, usize); 9] = [
     (3, 2, 206, 2),
 ];
 
+/// The bytes with another one at a place.
+pub(crate) fn with_byte(
+    alloc: Global,
+    bytes: &[u8],
+    place: usize,
+    value: u8,
+) -> Result<Vec<u8>, StripeFault> {
+    let mut changed = Vec::new(alloc);
+    changed.extend_from_slice(bytes)?;
+    match changed.get_mut(place) {
+        Some(byte) => *byte = value,
+        None => return Err(StripeFault::BadDirectory),
+    }
+    Ok(changed)
+}
+
+/// Whether the bytes were refused, or the positions of the group found not right. Want of memory is handed on.
+fn is_wrong(answer: Result<Vec<bool>, StripeFault>, group: usize) -> Result<bool, StripeFault> {
+    match answer {
+        Err(StripeFault::OutOfMemory) => Err(StripeFault::OutOfMemory),
+        Err(_) => Ok(true),
+        Ok(right) => Ok(matches!(right.get(group), Some(false))),
+    }
+}
+
 /// The stripe of arrays with a byte that is so much more is refused, or the positions of the group are found not right.
 fn check_number(
     rt: &impl Abort,
     alloc: Global,
-    whole: &Whole,
+    schema: &Schema,
+    out: &StripeOut,
+    (column, group, stride): (usize, usize, u32),
     place: usize,
     more: u8,
-    column: usize,
-    group: usize,
 ) -> Result<(), StripeFault> {
-    let (text, rle, stride, lines, _, _, _) = whole;
-    let schema = schema_of(alloc, text)?;
-    let out = written(alloc, &schema, *rle, *stride, lines)?;
-    let mut bytes = Vec::new(alloc);
-    bytes.extend_from_slice(&out.bytes)?;
-    match bytes.get_mut(place) {
-        Some(byte) => *byte = byte.wrapping_add(more),
-        None => return Err(StripeFault::BadDirectory),
-    }
-    let view = StripeView::open(alloc, &schema, out.info, *stride, &bytes)?;
-    if column >= schema.width() {
+    let Some(byte) = out.bytes.get(place) else {
         return Err(StripeFault::BadDirectory);
-    }
-    match view.positions_right(alloc, column) {
-        Err(StripeFault::OutOfMemory) => return Err(StripeFault::OutOfMemory),
-        Err(_) => (),
-        Ok(right) => assert!(rt;
-            right.get(group).copied() == Some(false),
-            "byte {} plus {}",
-            place,
-            more
-        ),
-    }
+    };
+    let bytes = with_byte(alloc, &out.bytes, place, byte.wrapping_add(more))?;
+    let answer = right_of(alloc, schema, out.info, stride, &bytes, column);
+    let holds = is_wrong(answer, group)?;
+    assert!(rt; holds, "byte {place} plus {more}");
     Ok(())
 }
 
 /// Each number of each position, one more and one less.
-fn check_numbers(rt: &impl Abort, alloc: Global) -> Result<(), StripeFault> {
-    let [.., whole] = &WHOLE;
+fn check_places(
+    rt: &impl Abort,
+    alloc: Global,
+    schema: &Schema,
+    out: &StripeOut,
+    stride: u32,
+) -> Result<(), StripeFault> {
     for (column, group, first, count) in &PLACES {
+        let entry = (*column, *group, stride);
         for place in *first..first.saturating_add(*count) {
-            check_number(rt, alloc, whole, place, 1, *column, *group)?;
-            check_number(rt, alloc, whole, place, 0xff, *column, *group)?;
+            check_number(rt, alloc, schema, out, entry, place, 1)?;
+            check_number(rt, alloc, schema, out, entry, place, 0xff)?;
         }
     }
     Ok(())
 }
 
+fn check_numbers(rt: &impl Abort, alloc: Global) -> Result<(), StripeFault> {
+    let [.., whole] = &WHOLE;
+    let (text, rle, stride, lines, _, _, _) = whole;
+    let schema = schema_of(alloc, text)?;
+    let out = written(alloc, &schema, *rle, *stride, lines)?;
+    check_places(rt, alloc, &schema, &out, *stride)
+}
+
 #[test]
 fn positions_off_by_one(rt: HostRuntime) {
-    let answer = with_memory(|| check_numbers(&rt, rt.alloc()));
-    assert!(rt; answer == Ok(()));
+    passes(&rt, with_memory!(check_numbers(&rt, rt.alloc())));
 }

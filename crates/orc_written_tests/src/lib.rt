@@ -2,6 +2,20 @@
 //! apart from those that only read, so that both are proved side by side.
 #![tactic(auto)]
 
+/// What a check answers, which is asked again where memory was refused once. A closure would be proved anew in each
+/// test.
+#[cfg(test)]
+macro_rules! with_memory {
+    ($check:expr) => {
+        match $check {
+            Err(StripeFault::OutOfMemory) => $check,
+            answer => answer,
+        }
+    };
+}
+
+#[cfg(test)]
+mod assertions;
 #[cfg(test)]
 mod from_groups;
 #[cfg(test)]

@@ -1,12 +1,11 @@
 //! Stripes of maps as they are written, and read again: LENGTH counts the pairs, the keys' columns come next, then the
 //! values'.
 
-use crate::writing::{Case, check_case, written};
+use crate::assertions::{demand, passes};
+use crate::writing::{Case, check_case, has_counts, schema_of, written};
 use orc_rle::Rle;
-use orc_stats::Body;
+use orc_stats::{Body, Stat};
 use orc_stripe::StripeFault;
-use orc_test_support::with_memory;
-use orc_types::Schema;
 use std::alloc::Global;
 use std::process::Abort;
 
@@ -100,37 +99,42 @@ fn check_cases(rt: &impl Abort, alloc: Global) -> Result<(), StripeFault> {
 
 #[test]
 fn maps_written(rt: HostRuntime) {
-    let answer = with_memory(|| check_cases(&rt, rt.alloc()));
-    assert!(rt; answer == Ok(()));
+    passes(&rt, with_memory!(check_cases(&rt, rt.alloc())));
+}
+
+/// Whether the least number of pairs is 0, the greatest 2, and 2 are all.
+fn are_pairs(body: &Body) -> bool {
+    matches!(
+        body,
+        Body::Children {
+            least: Some(0),
+            greatest: Some(2),
+            total: Some(2),
+        }
+    )
+}
+
+/// Two of three maps are not null, and have two pairs together.
+fn check_maps(rt: &impl Abort, stats: &[Stat]) {
+    match stats {
+        [_, maps, _, _] => {
+            demand(rt, has_counts(maps, 2, true), "maps");
+            demand(rt, are_pairs(&maps.body), "children");
+        }
+        _ => demand(rt, false, "four statistics"),
+    }
 }
 
 /// Of three maps one is null, one has two pairs, and one none.
 fn check_stats(rt: &impl Abort, alloc: Global) -> Result<(), StripeFault> {
     let (text, rle, lines, _, _) = &CASES[0];
-    let Ok(schema) = Schema::parse(alloc, text) else {
-        return Err(StripeFault::OutOfMemory);
-    };
+    let schema = schema_of(alloc, text)?;
     let out = written(alloc, &schema, *rle, 0, lines)?;
-    assert!(rt; out.stats.len() == 4);
-    assert!(rt; out.stats[1].count == 2);
-    assert!(rt; out.stats[1].nulls == Some(true));
-    match &out.stats[1].body {
-        Body::Children {
-            least,
-            greatest,
-            total,
-        } => {
-            assert!(rt; *least == Some(0));
-            assert!(rt; *greatest == Some(2));
-            assert!(rt; *total == Some(2));
-        }
-        _ => assert!(rt; false, "children"),
-    }
+    check_maps(rt, &out.stats);
     Ok(())
 }
 
 #[test]
 fn statistics_of_maps(rt: HostRuntime) {
-    let answer = with_memory(|| check_stats(&rt, rt.alloc()));
-    assert!(rt; answer == Ok(()));
+    passes(&rt, with_memory!(check_stats(&rt, rt.alloc())));
 }

@@ -1,14 +1,16 @@
 //! Stripes as they are written, and read again.
-ghost use Rattle.std.specs.Prelude.{IfOk};
-ghost use Rattle.orc_types.specs.Fits.{RowsFit};
-ghost use Rattle.orc_types.specs.Views.{views};
+ghost use Rattle.std.specs.Prelude.{◌≡◌, true, IfOk};
+ghost use Rattle.orc_types.specs.Fits.{RowsFit, fits};
+ghost use Rattle.orc_types.specs.Views.{view, views};
 
+use crate::assertions::{demand, passes};
 use crate::from_groups::check_groups;
 use orc_rle::Rle;
-use orc_stats::Body;
+use orc_stats::{Body, Stat};
 use orc_stripe::{Options, StripeFault, StripeOut, are_few, write_stripe};
-use orc_test_support::{lines_at_once, lines_one_by_one, with_memory};
+use orc_test_lines::{lines_at_once, lines_one_by_one};
 use orc_types::{Row, Schema, row_from_json};
+use orc_wire::StripeInfo;
 use serde_json::Value as Json;
 use std::alloc::Global;
 use std::process::Abort;
@@ -284,21 +286,54 @@ static CASES: [Case; 18] = [
     ),
 ];
 
+pub(crate) fn schema_of(alloc: Global, text: &str) -> Result<Schema, StripeFault> {
+    match Schema::parse(alloc, text) {
+        Ok(schema) => Ok(schema),
+        Err(_) => Err(StripeFault::OutOfMemory),
+    }
+}
+
+/// The row that a line spells.
+fn row_of(alloc: Global, schema: &Schema, line: &str) -> Result<Row<'static>, StripeFault>
+    ensures { IfOk result (λ row. fits (view row) schema.now ≡ true) }
+{
+    let Ok(json) = Json::from_str(alloc, line) else {
+        return Err(StripeFault::OutOfMemory);
+    };
+    match row_from_json(alloc, schema, &json) {
+        Ok(row) => Ok(row),
+        Err(_) => Err(StripeFault::OutOfMemory),
+    }
+}
+
 /// The rows that the lines spell.
 fn rows_of(alloc: Global, schema: &Schema, lines: &[&str]) -> Result<Vec<Row<'static>>, StripeFault>
     ensures { IfOk result (λ rows. RowsFit schema.now (views rows.items)) }
 {
     let mut rows = Vec::new(alloc);
     for line in lines {
-        let Ok(json) = Json::from_str(alloc, line) else {
-            return Err(StripeFault::OutOfMemory);
-        };
-        let Ok(row) = row_from_json(alloc, schema, &json) else {
-            return Err(StripeFault::OutOfMemory);
-        };
-        rows.push(row)?;
+        rows.push(row_of(alloc, schema, line)?)?;
     }
     Ok(rows)
+}
+
+/// The stripe of the rows, with a row index of groups of that many rows.
+fn stripe_of_rows(
+    alloc: Global,
+    schema: &Schema,
+    rle: Rle,
+    stride: u32,
+    rows: &[Row<'_>],
+) -> Result<StripeOut, StripeFault>
+    requires { RowsFit schema.now (views rows.now) }
+{
+    if !are_few(alloc, schema, rows)? {
+        return Err(StripeFault::TooMany(0));
+    }
+    match Options::new(rle, stride, 10) {
+        Some(options) => write_stripe(alloc, schema, &options, rows),
+        None => Err(StripeFault::BadDirectory),
+    }
 }
 
 /// The stripe of the rows that the lines spell, with a row index of groups of that many rows.
@@ -310,20 +345,20 @@ pub(crate) fn written(
     lines: &[&str],
 ) -> Result<StripeOut, StripeFault> {
     let rows = rows_of(alloc, schema, lines)?;
-    if !are_few(alloc, schema, &rows)? {
-        return Err(StripeFault::TooMany(0));
-    }
-    let Some(options) = Options::new(rle, stride, 10) else {
-        return Err(StripeFault::BadDirectory);
-    };
-    write_stripe(alloc, schema, &options, &rows)
+    stripe_of_rows(alloc, schema, rle, stride, &rows)
 }
 
-fn are_lines(rt: &impl Abort, lines: &[String], wanted: &[&str]) {
-    assert!(rt; lines.len() == wanted.len());
-    for (line, text) in lines.iter().zip(wanted) {
-        assert!(rt; line.as_str() == *text);
+/// Whether the lines are these.
+fn are_lines(lines: &[String], wanted: &[&str]) -> bool {
+    if lines.len() != wanted.len() {
+        return false;
     }
+    for (line, text) in lines.iter().zip(wanted) {
+        if line.as_str() != *text {
+            return false;
+        }
+    }
+    true
 }
 
 /// The rows of the stripe print as these lines, all at once and one by one.
@@ -334,45 +369,90 @@ pub(crate) fn check_lines(
     out: &StripeOut,
     lines: &[&str],
 ) -> Result<(), StripeFault> {
-    are_lines(
-        rt,
-        &lines_at_once(alloc, schema, out.info, &out.bytes)?,
-        lines,
-    );
-    are_lines(
-        rt,
-        &lines_one_by_one(alloc, schema, out.info, &out.bytes)?,
-        lines,
-    );
+    let found = lines_at_once(alloc, schema, out.info, &out.bytes)?;
+    demand(rt, are_lines(&found, lines), "rows all at once");
+    check_one_by_one(rt, alloc, schema, out, lines)
+}
+
+/// The rows of the stripe print as these lines, one by one.
+fn check_one_by_one(
+    rt: &impl Abort,
+    alloc: Global,
+    schema: &Schema,
+    out: &StripeOut,
+    lines: &[&str],
+) -> Result<(), StripeFault> {
+    let found = lines_one_by_one(alloc, schema, out.info, &out.bytes)?;
+    demand(rt, are_lines(&found, lines), "rows one by one");
     Ok(())
+}
+
+/// Whether the bytes are these streams and this footer.
+fn are_parts(bytes: &[u8], data: &[u8], footer: &[u8]) -> bool {
+    match bytes.strip_prefix(data) {
+        Some(rest) => rest == footer,
+        None => false,
+    }
+}
+
+/// Whether a stripe is said to have that many bytes of streams and of its footer, and that many rows.
+fn has_lengths(info: StripeInfo, data: usize, footer: usize, rows: usize) -> bool {
+    info.data_length == data as u64
+        && info.footer_length == footer as u64
+        && info.number_of_rows == rows as u64
+}
+
+/// The stripe has these streams and this footer, and its rows print as the lines that it was made of.
+fn check_parts(
+    rt: &impl Abort,
+    alloc: Global,
+    schema: &Schema,
+    case: &Case,
+) -> Result<(), StripeFault> {
+    let (text, rle, lines, data, footer) = case;
+    let out = written(alloc, schema, *rle, 0, lines)?;
+    demand(rt, are_parts(&out.bytes, data, footer), text);
+    let lengths = has_lengths(out.info, data.len(), footer.len(), lines.len());
+    demand(rt, lengths, text);
+    check_lines(rt, alloc, schema, &out, lines)
+}
+
+/// The lines come back from the other version too.
+fn check_other(
+    rt: &impl Abort,
+    alloc: Global,
+    schema: &Schema,
+    case: &Case,
+) -> Result<(), StripeFault> {
+    let (_, rle, lines, _, _) = case;
+    let other = match rle {
+        Rle::One => Rle::Two,
+        Rle::Two => Rle::One,
+    };
+    let out = written(alloc, schema, other, 0, lines)?;
+    check_lines(rt, alloc, schema, &out, lines)
+}
+
+/// And with groups of two rows, each read from its positions on.
+fn check_pairs(
+    rt: &impl Abort,
+    alloc: Global,
+    schema: &Schema,
+    case: &Case,
+) -> Result<(), StripeFault> {
+    let (_, rle, lines, _, _) = case;
+    let out = written(alloc, schema, *rle, 2, lines)?;
+    check_groups(rt, alloc, schema, &out, 2, lines)
 }
 
 /// The stripe has these streams and this footer, and its rows print as the lines that it was made of, in
 /// either version.
 pub(crate) fn check_case(rt: &impl Abort, alloc: Global, case: &Case) -> Result<(), StripeFault> {
-    let (text, rle, lines, data, footer) = case;
-    let Ok(schema) = Schema::parse(alloc, text) else {
-        return Err(StripeFault::OutOfMemory);
-    };
-    let out = written(alloc, &schema, *rle, 0, lines)?;
-    let mut wanted = Vec::new(alloc);
-    wanted.extend_from_slice(data)?;
-    wanted.extend_from_slice(footer)?;
-    assert!(rt; out.bytes.as_slice() == wanted.as_slice(), "{}", text);
-    assert!(rt; out.info.data_length == data.len() as u64, "{}", text);
-    assert!(rt; out.info.footer_length == footer.len() as u64, "{}", text);
-    assert!(rt; out.info.number_of_rows == lines.len() as u64, "{}", text);
-    check_lines(rt, alloc, &schema, &out, lines)?;
-    // and in the other version
-    let other = match rle {
-        Rle::One => Rle::Two,
-        Rle::Two => Rle::One,
-    };
-    let out = written(alloc, &schema, other, 0, lines)?;
-    check_lines(rt, alloc, &schema, &out, lines)?;
-    // and with groups of two rows, each read from its positions on
-    let out = written(alloc, &schema, *rle, 2, lines)?;
-    check_groups(rt, alloc, &schema, &out, 2, lines)
+    let (text, _, _, _, _) = case;
+    let schema = schema_of(alloc, text)?;
+    check_parts(rt, alloc, &schema, case)?;
+    check_other(rt, alloc, &schema, case)?;
+    check_pairs(rt, alloc, &schema, case)
 }
 
 /// Each case holds.
@@ -385,56 +465,73 @@ fn check_cases(rt: &impl Abort, alloc: Global) -> Result<(), StripeFault> {
 
 #[test]
 fn stripes_written(rt: HostRuntime) {
-    let answer = with_memory(|| check_cases(&rt, rt.alloc()));
-    assert!(rt; answer == Ok(()));
+    passes(&rt, with_memory!(check_cases(&rt, rt.alloc())));
 }
 
-/// Three sevens and a null: four cells of the root, and of the column three values, 21 together.
-fn check_stats(rt: &impl Abort, alloc: Global) -> Result<(), StripeFault> {
-    let Ok(schema) = Schema::parse(alloc, "struct<n:bigint>") else {
-        return Err(StripeFault::OutOfMemory);
-    };
-    let lines = [r#"{"n":7}"#, r#"{"n":7}"#, r#"{"n":null}"#, r#"{"n":7}"#];
-    let out = written(alloc, &schema, Rle::One, 0, &lines)?;
-    assert!(rt; out.stats.len() == 2);
-    assert!(rt; out.stats[0].count == 4);
-    assert!(rt; out.stats[0].nulls == Some(false));
-    assert!(rt; out.stats[1].count == 3);
-    assert!(rt; out.stats[1].nulls == Some(true));
-    match &out.stats[1].body {
+/// Whether a statistic says that there are so many values, and whether a cell is null.
+pub(crate) fn has_counts(stat: &Stat, count: u64, nulls: bool) -> bool {
+    stat.count == count && stat.nulls == Some(nulls)
+}
+
+/// Whether the least and the greatest number are 7, and their sum is 21.
+fn are_sevens(body: &Body) -> bool {
+    matches!(
+        body,
         Body::Ints {
-            least,
-            greatest,
-            sum,
-        } => {
-            assert!(rt; *least == Some(7));
-            assert!(rt; *greatest == Some(7));
-            assert!(rt; *sum == Some(21));
+            least: Some(7),
+            greatest: Some(7),
+            sum: Some(21),
         }
-        _ => assert!(rt; false, "numbers"),
+    )
+}
+
+/// Four cells of the root, and of the column three values, 21 together.
+fn check_sevens(rt: &impl Abort, stats: &[Stat]) {
+    match stats {
+        [root, column] => {
+            demand(rt, has_counts(root, 4, false), "the root's cells");
+            demand(rt, has_counts(column, 3, true), "the column's cells");
+            demand(rt, are_sevens(&column.body), "numbers");
+        }
+        _ => demand(rt, false, "two statistics"),
     }
+}
+
+/// Three sevens and a null.
+static SEVENS: [&'static str; 4] = [r#"{"n":7}"#, r#"{"n":7}"#, r#"{"n":null}"#, r#"{"n":7}"#];
+
+fn check_stats(rt: &impl Abort, alloc: Global) -> Result<(), StripeFault> {
+    let schema = schema_of(alloc, "struct<n:bigint>")?;
+    let out = written(alloc, &schema, Rle::One, 0, &SEVENS)?;
+    check_sevens(rt, &out.stats);
     Ok(())
 }
 
 #[test]
 fn stripe_statistics(rt: HostRuntime) {
-    let answer = with_memory(|| check_stats(&rt, rt.alloc()));
-    assert!(rt; answer == Ok(()));
+    passes(&rt, with_memory!(check_stats(&rt, rt.alloc())));
+}
+
+/// A stride, the number of rows of a stripe, and whether there are such options.
+static OPTIONS: [(u32, u32, bool); 8] = [
+    (0, 1, true),
+    (0, 2_147_483_647, true),
+    (0, 0, false),
+    (0, 2_147_483_648, false),
+    (1, 1, true),
+    (4_294_967_295, 10, true),
+    (1, 0, false),
+    (10_000, 4_294_967_295, false),
+];
+
+fn check_options(rt: &impl Abort, stride: u32, stripe_rows: u32, made: bool) {
+    let options = Options::new(Rle::Two, stride, stripe_rows);
+    assert!(rt; options.is_some() == made, "{stride} {stripe_rows}");
 }
 
 #[test]
 fn options_made(rt: HostRuntime) {
-    for (stride, stripe_rows, made) in [
-        (0, 1, true),
-        (0, 2_147_483_647, true),
-        (0, 0, false),
-        (0, 2_147_483_648, false),
-        (1, 1, true),
-        (4_294_967_295, 10, true),
-        (1, 0, false),
-        (10_000, 4_294_967_295, false),
-    ] {
-        let options = Options::new(Rle::Two, stride, stripe_rows);
-        assert!(rt; options.is_some() == made, "{stride} {stripe_rows}");
+    for (stride, stripe_rows, made) in &OPTIONS {
+        check_options(&rt, *stride, *stripe_rows, *made);
     }
 }

@@ -1,32 +1,49 @@
 //! Caps: a tail that is longer isn't read, nor is a stripe of a file that was opened so.
 
-use super::first_faults::{FAILING, change};
-use orc_file::{FileFault, OrcFile};
-use orc_test_support::{EMPTY, NAMED, SEVENS, SeenSource, TWICE, UPWARDS};
+use super::first_faults::{Change, FAILING, change};
+use crate::assertions::{check_list, check_same, passes};
+use crate::calls::{load, open_capped, rows};
+use orc_file::{FileFault, OrcFile, Source};
+use orc_test_devices::{EMPTY, NAMED, SEVENS, SeenSource, TWICE, UPWARDS};
 use orc_types::TypeFault;
 use std::alloc::Global;
 use std::process::Abort;
 
-fn read_once(alloc: Global, bytes: &[u8], cap: u64) -> (Result<usize, FileFault>, SeenSource<'_>) {
-    match OrcFile::open_capped(alloc, SeenSource::new(bytes), cap) {
-        Ok(mut file) => {
-            let rows = file.rows(alloc).map(|rows| rows.len());
-            (rows, file.into_parts().1)
-        }
-        Err((fault, source)) => (Err(fault), source),
+/// How many rows a file has.
+fn rows_counted<S: Source>(alloc: Global, file: &mut OrcFile<S>) -> Result<usize, FileFault> {
+    match rows(alloc, file) {
+        Ok(rows) => Ok(rows.len()),
+        Err(fault) => Err(fault),
     }
 }
 
-/// How many rows are read of a file under a cap, once there is memory for it, and the source with what was read of it.
-fn read_capped(
-    alloc: Global,
-    bytes: &[u8],
-    cap: u64,
-) -> (Result<usize, FileFault>, SeenSource<'_>) {
+fn read_once(alloc: Global, bytes: &[u8], cap: u64) -> (Result<usize, FileFault>, usize) {
+    match open_capped(alloc, SeenSource::new(bytes), cap) {
+        Ok(mut file) => {
+            let rows = rows_counted(alloc, &mut file);
+            (rows, file.into_parts().1.ranges().len())
+        }
+        Err((fault, source)) => (Err(fault), source.ranges().len()),
+    }
+}
+
+/// How many rows are read of a file under a cap, once there is memory for it, and how many ranges.
+fn read_capped(alloc: Global, bytes: &[u8], cap: u64) -> (Result<usize, FileFault>, usize) {
     match read_once(alloc, bytes, cap) {
         (Err(FileFault::OutOfMemory), _) => read_once(alloc, bytes, cap),
         answer => answer,
     }
+}
+
+/// The same of the file of sevens with these changes.
+fn changed_capped(
+    alloc: Global,
+    changes: &[Change],
+    cap: u64,
+) -> (Result<usize, FileFault>, usize) {
+    let mut bytes = SEVENS;
+    change(&mut bytes, changes);
+    read_capped(alloc, &bytes, cap)
 }
 
 /// A file, how many bytes its metadata, its footer and its postscript have together, and its rows.
@@ -39,20 +56,24 @@ const FILES: [(&[u8], u64, usize); 5] = [
 ];
 
 /// Of a tail that is longer than the cap both ends and the postscript are read, and no more.
+fn check_caps(rt: &impl Abort, alloc: Global, bytes: &[u8], tail: u64, rows: usize) {
+    for cap in [tail, tail.saturating_add(1), u64::MAX] {
+        let (answer, _) = read_capped(alloc, bytes, cap);
+        check_same(rt, &answer, &Ok(rows), "so many bytes, under", &[tail, cap]);
+    }
+    for cap in [0, 18, 19, 36, 37, 56, tail.saturating_sub(1)] {
+        if cap < tail {
+            let answer = read_capped(alloc, bytes, cap);
+            let wanted = (Err(FileFault::Limit), 3);
+            check_same(rt, &answer, &wanted, "so many bytes, under", &[tail, cap]);
+        }
+    }
+}
+
 #[test]
 fn tails_at_their_caps(rt: HostRuntime) {
     for (bytes, tail, rows) in FILES {
-        for cap in [tail, tail.saturating_add(1), u64::MAX] {
-            let (answer, _) = read_capped(rt.alloc(), bytes, cap);
-            assert_eq!(rt; answer, Ok(rows), "{tail} bytes under {cap}");
-        }
-        for cap in [0, 18, 19, 36, 37, 56, tail.saturating_sub(1)] {
-            if cap < tail {
-                let (answer, source) = read_capped(rt.alloc(), bytes, cap);
-                assert_eq!(rt; answer, Err(FileFault::Limit), "{tail} bytes under {cap}");
-                assert_eq!(rt; source.ranges().len(), 3, "{tail} bytes under {cap}");
-            }
-        }
+        check_caps(&rt, rt.alloc(), bytes, tail, rows);
     }
 }
 
@@ -72,32 +93,49 @@ static ALL_METADATA: [(u64, FileFault); 4] = [
 ];
 
 /// The cap is tested behind the postscript and the lengths, and before the footer.
-#[test]
-fn where_the_cap_is_tested(rt: HostRuntime) {
+fn check_order(rt: &impl Abort, alloc: Global) {
     for (i, (changes, fault, reads)) in FAILING.iter().enumerate() {
-        let mut bytes = SEVENS;
-        change(&mut bytes, changes);
         let wanted = if *reads <= 3 {
             *fault
         } else {
             FileFault::Limit
         };
-        let (answer, source) = read_capped(rt.alloc(), &bytes, 0);
-        assert_eq!(rt; answer, Err(wanted), "test {i}");
-        assert_eq!(rt; source.ranges().len(), (*reads).min(3), "test {i}");
+        let answer = changed_capped(alloc, changes, 0);
+        check_same(
+            rt,
+            &answer,
+            &(Err(wanted), (*reads).min(3)),
+            "test",
+            &[i as u64],
+        );
     }
+}
+
+fn check_halves(rt: &impl Abort, alloc: Global) {
     for cap in [0, 37, u64::MAX] {
-        let (answer, source) = read_capped(rt.alloc(), &HALVES, cap);
-        assert_eq!(rt; answer, Err(FileFault::BadLengths), "under {cap}");
-        assert_eq!(rt; source.ranges().len(), 3, "under {cap}");
+        let answer = read_capped(alloc, &HALVES, cap);
+        check_same(
+            rt,
+            &answer,
+            &(Err(FileFault::BadLengths), 3),
+            "halves under",
+            &[cap],
+        );
     }
-    let mut bytes = SEVENS;
-    change(&mut bytes, &[(101, &[0x00]), (109, &[0x4e])]);
+}
+
+fn check_all_metadata(rt: &impl Abort, alloc: Global) {
     for (cap, wanted) in ALL_METADATA {
-        let (answer, source) = read_capped(rt.alloc(), &bytes, cap);
-        assert_eq!(rt; answer, Err(wanted), "under {cap}");
-        assert_eq!(rt; source.ranges().len(), 3, "under {cap}");
+        let answer = changed_capped(alloc, &[(101, &[0x00]), (109, &[0x4e])], cap);
+        check_same(rt, &answer, &(Err(wanted), 3), "all metadata under", &[cap]);
     }
+}
+
+#[test]
+fn where_the_cap_is_tested(rt: HostRuntime) {
+    check_order(&rt, rt.alloc());
+    check_halves(&rt, rt.alloc());
+    check_all_metadata(&rt, rt.alloc());
 }
 
 /// The file of two stripes with 120 bytes more in the second, which has 139 then; the first has 19, and the tail 131.
@@ -112,55 +150,68 @@ fn lengthened(alloc: Global) -> Result<Vec<u8>, FileFault> {
     Ok(bytes)
 }
 
-/// `load`, where the stripe is there.
-fn load(
+/// The second stripe is refused, and the vector stays as the first one filled it.
+fn check_second(
+    rt: &impl Abort,
+    alloc: Global,
     file: &mut OrcFile<SeenSource<'_>>,
-    number: usize,
-    into: &mut Vec<u8>,
+    loaded: &mut Vec<u8>,
+    cap: u64,
 ) -> Result<(), FileFault> {
-    if number >= file.tail().stripes.as_slice().len() {
-        return Err(FileFault::RowCount);
+    let answer = load(file, 1, loaded);
+    check_same(rt, &answer, &Err(FileFault::Limit), "under", &[cap]);
+    check_list(rt, loaded, &TWICE[3..22], "under", &[cap]);
+    let fault = rows(alloc, file).err();
+    if fault == Some(FileFault::OutOfMemory) {
+        return Err(FileFault::OutOfMemory);
     }
-    file.load(number, into)
+    check_same(rt, &fault, &Some(FileFault::Limit), "under", &[cap]);
+    Ok(())
 }
 
-/// The second stripe is refused each time, without a read of it, and the vector stays as the first one filled it.
+/// Nothing was read behind the tail's five ranges but the first stripe.
+fn check_ranges(rt: &impl Abort, ranges: &[(u64, u64)], cap: u64) {
+    for range in ranges.iter().skip(5) {
+        check_same(rt, range, &(3, 19), "under", &[cap]);
+    }
+}
+
+/// The second stripe is refused each time, without a read of it.
 fn check_refused(rt: &impl Abort, alloc: Global, bytes: &[u8], cap: u64) -> Result<(), FileFault> {
-    let mut file = match OrcFile::open_capped(alloc, SeenSource::new(bytes), cap) {
+    let mut file = match open_capped(alloc, SeenSource::new(bytes), cap) {
         Ok(file) => file,
         Err((fault, _)) => return Err(fault),
     };
     let mut loaded = Vec::new(alloc);
     load(&mut file, 0, &mut loaded)?;
-    for _ in 0..2 {
-        assert_eq!(rt;
-            load(&mut file, 1, &mut loaded),
-            Err(FileFault::Limit),
-            "under {cap}"
-        );
-        assert_eq!(rt; loaded.as_slice(), &TWICE[3..22], "under {cap}");
-        match file.rows(alloc) {
-            Err(FileFault::OutOfMemory) => return Err(FileFault::OutOfMemory),
-            answer => assert_eq!(rt; answer.err(), Some(FileFault::Limit), "under {cap}"),
-        }
+    check_second(rt, alloc, &mut file, &mut loaded, cap)?;
+    check_second(rt, alloc, &mut file, &mut loaded, cap)?;
+    check_ranges(rt, file.into_parts().1.ranges(), cap);
+    Ok(())
+}
+
+fn check_lengthened(rt: &impl Abort, alloc: Global, bytes: &[u8]) -> Result<(), FileFault> {
+    for cap in [131, 138] {
+        check_refused(rt, alloc, bytes, cap)?;
     }
-    let (_, source) = file.into_parts();
-    for range in source.ranges().iter().skip(5) {
-        assert_eq!(rt; *range, (3, 19), "under {cap}");
+    for (cap, wanted) in [
+        (130, Err(FileFault::Limit)),
+        (139, Ok(6)),
+        (u64::MAX, Ok(6)),
+    ] {
+        check_same(
+            rt,
+            &read_capped(alloc, bytes, cap).0,
+            &wanted,
+            "under",
+            &[cap],
+        );
     }
     Ok(())
 }
 
 fn check_stripes(rt: &impl Abort, alloc: Global) -> Result<(), FileFault> {
-    let bytes = lengthened(alloc)?;
-    for cap in [131, 138] {
-        check_refused(rt, alloc, &bytes, cap)?;
-    }
-    assert_eq!(rt; read_capped(alloc, &bytes, 130).0, Err(FileFault::Limit));
-    for cap in [139, u64::MAX] {
-        assert_eq!(rt; read_capped(alloc, &bytes, cap).0, Ok(6), "under {cap}");
-    }
-    Ok(())
+    check_lengthened(rt, alloc, &lengthened(alloc)?)
 }
 
 #[test]
@@ -169,5 +220,5 @@ fn stripes_at_their_caps(rt: HostRuntime) {
         Err(FileFault::OutOfMemory) => check_stripes(&rt, rt.alloc()),
         answer => answer,
     };
-    assert_eq!(rt; answer, Ok(()));
+    passes(&rt, answer);
 }

@@ -1,10 +1,12 @@
 //! Files that fail tests: each one alone, and two at once, of which the first answers.
 
 use super::reads::read_seen;
-use super::tail_of;
+use super::refusal;
+use crate::assertions::{check_same, demand};
 use orc_file::FileFault;
-use orc_test_support::SEVENS;
+use orc_test_devices::SEVENS;
 use orc_types::TypeFault;
+use std::alloc::Global;
 use std::process::Abort;
 
 /// Bytes that are put at a place.
@@ -89,11 +91,9 @@ pub(super) static FAILING: [(&[Change], FileFault, usize); 19] = [
 
 /// Puts bytes at a place, as many as there is room for.
 fn overwrite(bytes: &mut [u8], place: usize, new: &[u8]) {
-    for (i, byte) in new.iter().enumerate() {
-        if let Some(old) = bytes.get_mut(place.saturating_add(i)) {
-            *old = *byte;
-        }
-    }
+    let start = place.min(bytes.len());
+    let len = new.len().min(bytes.len() - start);
+    bytes[start..start + len].copy_from_slice(&new[..len]);
 }
 
 pub(super) fn change(bytes: &mut [u8], changes: &[Change]) {
@@ -102,27 +102,37 @@ pub(super) fn change(bytes: &mut [u8], changes: &[Change]) {
     }
 }
 
+/// The answer of `open` on the changed file, and how many ranges are read of it.
+fn answer_of(alloc: Global, changes: &[Change]) -> (Option<FileFault>, usize) {
+    let mut bytes = SEVENS;
+    change(&mut bytes, changes);
+    let (fault, source) = read_seen(alloc, &bytes);
+    (fault, source.ranges().len())
+}
+
 #[test]
 fn one_test_fails(rt: HostRuntime) {
     for (i, (changes, wanted, reads)) in FAILING.iter().enumerate() {
-        let mut bytes = SEVENS;
-        change(&mut bytes, changes);
-        let (fault, source) = read_seen(rt.alloc(), &bytes);
-        assert_eq!(rt; fault, Some(*wanted), "test {i}");
-        assert_eq!(rt; source.ranges().len(), *reads, "test {i}");
+        let answer = answer_of(rt.alloc(), changes);
+        check_same(&rt, &answer, &(Some(*wanted), *reads), "test", &[i as u64]);
     }
 }
 
-/// The later test's bytes are put first, so where both change a byte the earlier test's stands.
+/// Why the file with both changes isn't opened. The later test's bytes are put first, so where both change a byte the
+/// earlier test's stands.
+fn refusal_of_both(alloc: Global, earlier: &[Change], later: &[Change]) -> Option<FileFault> {
+    let mut bytes = SEVENS;
+    change(&mut bytes, later);
+    change(&mut bytes, earlier);
+    refusal(alloc, &bytes)
+}
+
 #[test]
 fn two_tests_fail(rt: HostRuntime) {
     for (i, (changes, wanted, _)) in FAILING.iter().enumerate() {
         for (j, (later, _, _)) in FAILING.iter().enumerate().skip(i) {
-            let mut bytes = SEVENS;
-            change(&mut bytes, later);
-            change(&mut bytes, changes);
-            let fault = tail_of(rt.alloc(), &bytes).err();
-            assert_eq!(rt; fault, Some(*wanted), "tests {i} and {j}");
+            let fault = refusal_of_both(rt.alloc(), changes, later);
+            check_same(&rt, &fault, &Some(*wanted), "tests", &[i as u64, j as u64]);
         }
     }
 }
@@ -140,18 +150,29 @@ fn is_of_bytes(fault: FileFault) -> bool {
     )
 }
 
+/// Whether the file with this byte at a place is the same, or is opened or refused as it may be.
+fn is_answered(alloc: Global, place: usize, byte: u8) -> bool {
+    let mut bytes = SEVENS;
+    overwrite(&mut bytes, place, &[byte]);
+    let is_same = bytes == SEVENS;
+    let is_right = match refusal(alloc, &bytes) {
+        None => place >= 3,
+        Some(fault) => !is_same && is_of_bytes(fault),
+    };
+    is_right || is_same
+}
+
 #[test]
 fn each_changed_byte_is_answered(rt: HostRuntime) {
     for place in 0..120usize {
         for byte in 0..=255u8 {
-            let mut bytes = SEVENS;
-            overwrite(&mut bytes, place, &[byte]);
-            let is_same = bytes == SEVENS;
-            let is_right = match tail_of(rt.alloc(), &bytes) {
-                Ok(_) => place >= 3,
-                Err(fault) => !is_same && is_of_bytes(fault),
-            };
-            assert!(rt; is_right || is_same, "{byte} at {place}");
+            let is_right = is_answered(rt.alloc(), place, byte);
+            demand(
+                &rt,
+                is_right,
+                "byte, place",
+                &[u64::from(byte), place as u64],
+            );
         }
     }
 }

@@ -1,8 +1,10 @@
 //! Files opened, and their tails put again.
 
-use super::tail_of;
-use orc_file::{FileFault, Tail};
-use orc_test_support::{EMPTY, NAMED, SEVENS, TWICE};
+use super::{refusal, tail_of};
+use crate::assertions::{check_list, check_same, demand};
+use orc_file::FileFault;
+use orc_test_devices::{EMPTY, NAMED, SEVENS, TWICE};
+use orc_wire::{StripeInfo, UserMetadataItem};
 use std::alloc::Global;
 use std::process::Abort;
 
@@ -35,47 +37,70 @@ fn is_same(alloc: Global, bytes: &[u8], front: usize) -> bool {
 
 #[test]
 fn files_are_put_again(rt: HostRuntime) {
-    assert!(rt; is_same(rt.alloc(), &EMPTY, 3), "no stripe");
-    assert!(rt; is_same(rt.alloc(), &SEVENS, 22), "one stripe");
-    assert!(rt; is_same(rt.alloc(), &TWICE, 41), "two stripes");
-    assert!(rt; is_same(rt.alloc(), &NAMED, 3), "a pair of the user's");
+    demand(&rt, is_same(rt.alloc(), &EMPTY, 3), "no stripe", &[]);
+    demand(&rt, is_same(rt.alloc(), &SEVENS, 22), "one stripe", &[]);
+    demand(&rt, is_same(rt.alloc(), &TWICE, 41), "two stripes", &[]);
+    demand(
+        &rt,
+        is_same(rt.alloc(), &NAMED, 3),
+        "a pair of the user's",
+        &[],
+    );
+}
+
+/// There is one pair, of `k` and a zero.
+fn check_pair(rt: &impl Abort, user: &[UserMetadataItem]) -> Result<(), FileFault> {
+    let [pair] = user else {
+        return Err(FileFault::BadFooter);
+    };
+    check_list(rt, pair.name.as_slice(), b"k", "name", &[]);
+    check_list(rt, pair.value.as_slice(), &[0], "value", &[]);
+    Ok(())
 }
 
 #[test]
 fn pairs_of_the_user_are_read(rt: HostRuntime) -> Result<(), FileFault> {
     let tail = tail_of(rt.alloc(), &NAMED)?;
-    let [pair] = tail.user.as_slice() else {
+    check_pair(&rt, tail.user.as_slice())
+}
+
+/// There are two stripes of three rows, one behind the other.
+fn check_two(rt: &impl Abort, stripes: &[StripeInfo]) -> Result<(), FileFault> {
+    let [first, second] = stripes else {
         return Err(FileFault::BadFooter);
     };
-    assert_eq!(rt; pair.name.as_slice(), b"k".as_slice());
-    assert_eq!(rt; pair.value.as_slice(), [0u8].as_slice());
+    let found = (first.offset, first.number_of_rows);
+    check_same(rt, &found, &(3, 3), "stripe", &[0]);
+    let found = (second.offset, second.number_of_rows);
+    check_same(rt, &found, &(22, 3), "stripe", &[1]);
     Ok(())
 }
 
 #[test]
 fn two_stripes_are_read(rt: HostRuntime) -> Result<(), FileFault> {
     let tail = tail_of(rt.alloc(), &TWICE)?;
-    assert_eq!(rt; tail.rows, 6);
-    let [first, second] = tail.stripes.as_slice() else {
-        return Err(FileFault::BadFooter);
-    };
-    assert_eq!(rt; (first.offset, first.number_of_rows), (3, 3));
-    assert_eq!(rt; (second.offset, second.number_of_rows), (22, 3));
-    Ok(())
+    check_same(&rt, &tail.rows, &6, "rows", &[]);
+    check_two(&rt, tail.stripes.as_slice())
 }
 
 /// The second stripe begins at another byte.
-fn second_at(alloc: Global, place: u8) -> Result<Tail, FileFault> {
+fn second_at(alloc: Global, place: u8) -> Option<FileFault> {
     let mut bytes = TWICE;
     bytes[104] = place;
-    tail_of(alloc, &bytes)
+    refusal(alloc, &bytes)
 }
 
 #[test]
 fn second_stripes_lie_behind_the_first(rt: HostRuntime) {
     for place in [0x15u8, 0x17] {
-        let fault = second_at(rt.alloc(), place).err();
-        assert_eq!(rt; fault, Some(FileFault::BadStripe(1)), "at {place}");
+        let fault = second_at(rt.alloc(), place);
+        check_same(
+            &rt,
+            &fault,
+            &Some(FileFault::BadStripe(1)),
+            "at",
+            &[u64::from(place)],
+        );
     }
 }
 
@@ -85,6 +110,6 @@ fn gaps_are_accepted(rt: HostRuntime) -> Result<(), FileFault> {
     let mut bytes = TWICE;
     bytes[96] = 0x02;
     let tail = tail_of(rt.alloc(), &bytes)?;
-    assert!(rt; !tail.is_laid());
+    demand(&rt, !tail.is_laid(), "gap", &[]);
     Ok(())
 }

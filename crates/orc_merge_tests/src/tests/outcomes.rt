@@ -1,10 +1,10 @@
 //! What comes of merging: files and refusals.
-use super::merge_all;
+use super::{check_merged, merge_all};
+use crate::assertions::check_same;
 use orc_file::FileFault;
 use orc_merge::MergeFault;
-use orc_test_support::{EMPTY, NAMED, SEVENS, TWICE};
+use orc_test_devices::{EMPTY, NAMED, SEVENS, TWICE};
 use std::alloc::Global;
-use std::process::Abort;
 
 #[test]
 fn pairs_of_files(rt: HostRuntime) -> Result<(), MergeFault> {
@@ -16,12 +16,9 @@ fn pairs_of_files(rt: HostRuntime) -> Result<(), MergeFault> {
         (&NAMED, &NAMED, &NAMED),
     ];
     for (first, second, wanted) in pairs {
-        let out = merge_all(rt.alloc(), &[first, second])?;
-        assert!(rt; out.as_slice() == wanted);
+        check_merged(&rt, rt.alloc(), "files", &[first, second], wanted)?;
     }
-    let alone = merge_all(rt.alloc(), &[&SEVENS])?;
-    assert!(rt; alone.as_slice() == SEVENS.as_slice());
-    Ok(())
+    check_merged(&rt, rt.alloc(), "files", &[&SEVENS], &SEVENS)
 }
 
 /// A file with a byte changed.
@@ -30,6 +27,11 @@ fn changed(mut file: [u8; 120], place: usize, byte: u8) -> [u8; 120] {
         *old = byte;
     }
     file
+}
+
+/// Why files aren't merged.
+fn fault_of(alloc: Global, files: &[&[u8]]) -> Option<MergeFault> {
+    merge_all(alloc, files).err()
 }
 
 /// A place, the byte that stands there instead, and the fault of the second input.
@@ -44,8 +46,8 @@ static CHANGES: [(usize, u8, MergeFault); 4] = [
 fn inputs_of_another_kind(rt: HostRuntime) {
     for (place, byte, wanted) in CHANGES {
         let other = changed(SEVENS, place, byte);
-        let fault = merge_all(rt.alloc(), &[&SEVENS, &other]).err();
-        assert_eq!(rt; fault, Some(wanted), "byte {place}");
+        let fault = fault_of(rt.alloc(), &[&SEVENS, &other]);
+        check_same(&rt, "byte", place as u64, &fault, &Some(wanted));
     }
 }
 
@@ -53,7 +55,14 @@ fn inputs_of_another_kind(rt: HostRuntime) {
 fn user_metadata_and_no_input(rt: HostRuntime) {
     let mut other = NAMED;
     other[28] = 1;
-    let fault = merge_all(rt.alloc(), &[&NAMED, &other]).err();
-    assert_eq!(rt; fault, Some(MergeFault::UserMetadataConflict(1)));
-    assert_eq!(rt; merge_all(rt.alloc(), &[]).err(), Some(MergeFault::NoInput));
+    let fault = fault_of(rt.alloc(), &[&NAMED, &other]);
+    check_same(
+        &rt,
+        "files",
+        2,
+        &fault,
+        &Some(MergeFault::UserMetadataConflict(1)),
+    );
+    let fault = fault_of(rt.alloc(), &[]);
+    check_same(&rt, "files", 0, &fault, &Some(MergeFault::NoInput));
 }

@@ -1,10 +1,12 @@
 //! Inputs that rest: one of them is open at a time.
 ghost use Rattle.std.specs.Prelude.{Some, length};
 
-use super::merge_all;
+use super::check_merged;
+use crate::assertions::{check_same, demand};
+use crate::calls::merged;
 use orc_file::{Failures, SliceSource, Source, SourceFault};
-use orc_merge::{MergeFault, merge};
-use orc_test_support::{EMPTY, FailSink, Full, SEVENS, TWICE};
+use orc_merge::MergeFault;
+use orc_test_devices::{EMPTY, FailSink, Full, SEVENS, TWICE};
 use std::alloc::Global;
 use std::cell::Cell;
 use std::process::Abort;
@@ -84,18 +86,17 @@ struct Rested {
 /// What comes of merging files without a stripe, with two and with one, for an output that fails once it has got so
 /// many bytes.
 fn merged_resting_once(alloc: Global, room: usize) -> Result<Rested, MergeFault> {
+    let mut out = FailSink::new(alloc, 200, room, Full::Fails)?;
     let some_open = Cell::new(false);
     let mut inputs = [
         OpenSource::new(&EMPTY, &some_open),
         OpenSource::new(&TWICE, &some_open),
         OpenSource::new(&SEVENS, &some_open),
     ];
-    let mut out = FailSink::new(alloc, 200, room, Full::Fails)?;
-    let answer = match merge(alloc, &mut inputs, &mut out) {
-        Ok(_) => Ok(()),
-        Err(MergeFault::OutOfMemory) => return Err(MergeFault::OutOfMemory),
-        Err(fault) => Err(fault),
-    };
+    let answer = merged(alloc, &mut inputs, &mut out);
+    if matches!(answer, Err(MergeFault::OutOfMemory)) {
+        return Err(MergeFault::OutOfMemory);
+    }
     let [none, two, one] = &inputs;
     Ok(Rested {
         answer,
@@ -113,24 +114,32 @@ fn merged_resting(alloc: Global, room: usize) -> Result<Rested, MergeFault> {
     }
 }
 
+/// For an output with so much room this comes of it, and no input is open then.
+fn check_answer(rt: &impl Abort, room: usize, rested: &Rested, wanted: Result<(), MergeFault>) {
+    check_same(rt, "bytes", room as u64, &rested.answer, &wanted);
+    demand(rt, !rested.some_open, "none is open, bytes", room as u64);
+}
+
 #[test]
 fn one_input_is_open_at_a_time(rt: HostRuntime) -> Result<(), MergeFault> {
-    let wanted = merge_all(rt.alloc(), &[&EMPTY, &TWICE, &SEVENS])?;
     let rested = merged_resting(rt.alloc(), 1000)?;
-    assert_eq!(rt; rested.answer, Ok(()));
-    assert!(rt; !rested.some_open);
+    check_answer(&rt, 1000, &rested, Ok(()));
     // once for the tail, and once for all stripes
-    assert_eq!(rt; rested.opened, [1, 2, 2]);
-    assert_eq!(rt; rested.out.bytes(), wanted.as_slice());
+    check_same(&rt, "opened of", 3, &rested.opened, &[1, 2, 2]);
+    let out = rested.out.bytes();
+    check_merged(&rt, rt.alloc(), "files", &[&EMPTY, &TWICE, &SEVENS], out)
+}
+
+fn check_refusal(rt: &impl Abort, alloc: Global, room: usize) -> Result<(), MergeFault> {
+    let rested = merged_resting(alloc, room)?;
+    check_answer(rt, room, &rested, Err(MergeFault::WriteFailed));
     Ok(())
 }
 
 #[test]
 fn no_input_is_open_after_a_refusal(rt: HostRuntime) -> Result<(), MergeFault> {
     for room in [0, 2, 3, 20, 22, 30, 41, 50, 60, 61, 100] {
-        let rested = merged_resting(rt.alloc(), room)?;
-        assert_eq!(rt; rested.answer, Err(MergeFault::WriteFailed), "{room} bytes");
-        assert!(rt; !rested.some_open, "{room} bytes");
+        check_refusal(&rt, rt.alloc(), room)?;
     }
     Ok(())
 }

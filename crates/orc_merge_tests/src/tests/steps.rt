@@ -1,8 +1,10 @@
 //! Files merged in two steps.
+use super::sources;
+use crate::assertions::{check_bytes, check_same};
 use crate::in_two_steps;
-use orc_file::{SliceSource, VecSink};
+use orc_file::VecSink;
 use orc_merge::MergeFault;
-use orc_test_support::{EMPTY, SEVENS, TWICE};
+use orc_test_devices::{EMPTY, SEVENS, TWICE};
 use std::alloc::Global;
 use std::process::Abort;
 
@@ -30,25 +32,39 @@ fn in_steps_once<'a>(
     Ok(out.into_vec())
 }
 
-fn sources<'a>(alloc: Global, files: &[&'a [u8]]) -> Result<Vec<SliceSource<'a>>, MergeFault> {
-    let mut sources = Vec::new(alloc);
-    for file in files {
-        sources.push(SliceSource::new(file))?;
-    }
-    Ok(sources)
+/// Two lists of files are merged into this one.
+fn check_steps<'a>(
+    rt: &impl Abort,
+    alloc: Global,
+    left: &[&'a [u8]],
+    right: &[&'a [u8]],
+    wanted: &[u8],
+) -> Result<(), MergeFault> {
+    let out = in_steps(alloc, left, right)?;
+    check_bytes(
+        rt,
+        "files on the left",
+        left.len() as u64,
+        out.as_slice(),
+        wanted,
+    );
+    Ok(())
 }
 
 #[test]
 fn two_lists_of_files(rt: HostRuntime) -> Result<(), MergeFault> {
-    let both = in_steps(rt.alloc(), &[&EMPTY, &SEVENS], &[&SEVENS])?;
-    assert!(rt; both.as_slice() == TWICE.as_slice());
-    let none = in_steps(rt.alloc(), &[&EMPTY], &[&EMPTY, &EMPTY])?;
-    assert!(rt; none.as_slice() == EMPTY.as_slice());
-    Ok(())
+    check_steps(&rt, rt.alloc(), &[&EMPTY, &SEVENS], &[&SEVENS], &TWICE)?;
+    check_steps(&rt, rt.alloc(), &[&EMPTY], &[&EMPTY, &EMPTY], &EMPTY)
 }
 
 #[test]
 fn a_list_without_files(rt: HostRuntime) {
     let fault = in_steps(rt.alloc(), &[&SEVENS], &[]).err();
-    assert_eq!(rt; fault, Some(MergeFault::NoInput));
+    check_same(
+        &rt,
+        "files on the right",
+        0,
+        &fault,
+        &Some(MergeFault::NoInput),
+    );
 }

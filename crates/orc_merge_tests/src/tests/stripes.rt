@@ -1,10 +1,12 @@
 //! Stripes' bytes on their way, and devices that fail.
 use super::devices::LongSource;
 use super::files::LONG_END;
-use super::merge_all;
-use orc_file::{FileFault, OrcFile, SliceSource, VecSink};
-use orc_merge::{MergeFault, merge};
-use orc_test_support::{FailSink, FailSource, Full, SEVENS, TWICE};
+use super::{check_merged, merge_all};
+use crate::assertions::{check_bytes, check_same, demand};
+use crate::calls::{count_rows, merged};
+use orc_file::{FileFault, SliceSource, VecSink};
+use orc_merge::MergeFault;
+use orc_test_devices::{FailSink, FailSource, Full, SEVENS, TWICE};
 use std::alloc::Global;
 use std::process::Abort;
 
@@ -26,37 +28,44 @@ static RANGES: [(u64, u64); 10] = [
 fn long_merged(alloc: Global) -> Result<(Vec<u8>, LongSource<'static>), MergeFault> {
     let mut inputs = [LongSource::new(70_003, &LONG_END)];
     let mut out = VecSink::new(alloc);
-    merge(alloc, &mut inputs, &mut out)?;
+    let answer = merged(alloc, &mut inputs, &mut out);
     let [input] = inputs;
-    Ok((out.into_vec(), input))
+    match answer {
+        Ok(()) => Ok((out.into_vec(), input)),
+        Err(fault) => Err(fault),
+    }
+}
+
+/// These are the long file's bytes, and it was read in these ranges.
+fn check_long(rt: &impl Abort, out: &[u8], input: &LongSource<'_>) {
+    demand(
+        rt,
+        input.ranges() == RANGES.as_slice(),
+        "ranges",
+        RANGES.len() as u64,
+    );
+    demand(rt, out.len() == 70_123, "bytes", out.len() as u64);
+    for (place, byte) in out.iter().enumerate() {
+        demand(rt, *byte == input.byte(place as u64), "byte", place as u64);
+    }
 }
 
 #[test]
 fn a_long_stripe(rt: HostRuntime) -> Result<(), MergeFault> {
-    let (out, input) = match long_merged(rt.alloc()) {
-        Err(MergeFault::OutOfMemory | MergeFault::WriteFailed) => long_merged(rt.alloc())?,
-        done => done?,
+    let answer = match long_merged(rt.alloc()) {
+        Err(MergeFault::OutOfMemory | MergeFault::WriteFailed) => long_merged(rt.alloc()),
+        done => done,
     };
-    assert_eq!(rt; input.ranges(), RANGES.as_slice());
-    assert_eq!(rt; out.len(), 70_123);
-    for (place, byte) in out.iter().enumerate() {
-        assert!(rt; *byte == input.byte(place as u64), "byte {place}");
-    }
+    let (out, input) = answer?;
+    check_long(&rt, &out, &input);
     Ok(())
 }
 
 /// Why a file's rows aren't read, once there is memory for them.
 fn fault_of_rows(alloc: Global, bytes: &[u8]) -> Option<FileFault> {
-    match fault_of_rows_once(alloc, bytes) {
-        Some(FileFault::OutOfMemory) => fault_of_rows_once(alloc, bytes),
-        done => done,
-    }
-}
-
-fn fault_of_rows_once(alloc: Global, bytes: &[u8]) -> Option<FileFault> {
-    match OrcFile::open(alloc, SliceSource::new(bytes)) {
-        Ok(mut file) => file.rows(alloc).err(),
-        Err((fault, _)) => Some(fault),
+    match count_rows(alloc, bytes) {
+        Err(FileFault::OutOfMemory) => count_rows(alloc, bytes).err(),
+        done => done.err(),
     }
 }
 
@@ -67,10 +76,14 @@ fn a_bad_stripe(rt: HostRuntime) -> Result<(), MergeFault> {
     bad[3] = 0x80;
     let mut wanted = TWICE;
     wanted[22] = 0x80;
-    let out = merge_all(rt.alloc(), &[&SEVENS, &bad])?;
-    assert!(rt; out.as_slice() == wanted.as_slice());
-    let fault = fault_of_rows(rt.alloc(), &out);
-    assert!(rt; matches!(fault, Some(FileFault::Stripe(1, _))));
+    check_merged(&rt, rt.alloc(), "files", &[&SEVENS, &bad], &wanted)?;
+    let fault = fault_of_rows(rt.alloc(), &wanted);
+    demand(
+        &rt,
+        matches!(fault, Some(FileFault::Stripe(1, _))),
+        "stripe",
+        1,
+    );
     Ok(())
 }
 
@@ -79,12 +92,11 @@ type Failing = (Result<(), MergeFault>, Vec<u8>, (u64, u64));
 
 /// What comes of merging two files where one read of one input fails, once there is memory for it.
 fn merged_failing(alloc: Global, first: u64, second: u64) -> Failing {
-    let (answer, out, reads) = merged_failing_once(alloc, first, second);
-    match answer {
-        Err(MergeFault::OutOfMemory | MergeFault::WriteFailed) => {
+    match merged_failing_once(alloc, first, second) {
+        (Err(MergeFault::OutOfMemory | MergeFault::WriteFailed), _, _) => {
             merged_failing_once(alloc, first, second)
         }
-        answer => (answer, out, reads),
+        failing => failing,
     }
 }
 
@@ -94,29 +106,55 @@ fn merged_failing_once(alloc: Global, first: u64, second: u64) -> Failing {
         FailSource::new(&SEVENS, second),
     ];
     let mut out = VecSink::new(alloc);
-    let answer = match merge(alloc, &mut inputs, &mut out) {
-        Ok(_) => Ok(()),
-        Err(fault) => Err(fault),
-    };
+    let answer = merged(alloc, &mut inputs, &mut out);
     let [one, other] = &inputs;
     (answer, out.into_vec(), (one.reads(), other.reads()))
 }
 
+/// Where one input fails at this read, this is refused, and written before.
+fn check_failing(
+    rt: &impl Abort,
+    alloc: Global,
+    first: u64,
+    second: u64,
+    wanted: MergeFault,
+    written: &[u8],
+) {
+    let (answer, out, _) = merged_failing(alloc, first, second);
+    check_same(rt, "read", first.max(second), &answer, &Err(wanted));
+    check_bytes(rt, "written before read", first.max(second), &out, written);
+}
+
+/// Where none fails, each is read six times.
+fn check_unfailed(rt: &impl Abort, alloc: Global) {
+    let (answer, out, reads) = merged_failing(alloc, 0, 0);
+    check_same(rt, "read", 0, &answer, &Ok(()));
+    check_same(rt, "reads", 6, &reads, &(6, 6));
+    check_bytes(rt, "written before read", 0, &out, &TWICE);
+}
+
 #[test]
 fn sources_that_fail(rt: HostRuntime) {
-    let (answer, out, reads) = merged_failing(rt.alloc(), 0, 0);
-    assert_eq!(rt; answer, Ok(()));
-    assert_eq!(rt; reads, (6, 6));
-    assert!(rt; out.as_slice() == TWICE.as_slice());
+    check_unfailed(&rt, rt.alloc());
     for k in 1..=6u64 {
-        let (answer, out, _) = merged_failing(rt.alloc(), k, 0);
-        assert_eq!(rt; answer, Err(MergeFault::SourceFailed(0)), "read {k}");
-        let wanted = if k == 6 { 3 } else { 0 };
-        assert!(rt; out.as_slice() == &TWICE[..wanted], "read {k}");
-        let (answer, out, _) = merged_failing(rt.alloc(), 0, k);
-        assert_eq!(rt; answer, Err(MergeFault::SourceFailed(1)), "read {k}");
-        let wanted = if k == 6 { 22 } else { 0 };
-        assert!(rt; out.as_slice() == &TWICE[..wanted], "read {k}");
+        let written = if k == 6 { 3 } else { 0 };
+        check_failing(
+            &rt,
+            rt.alloc(),
+            k,
+            0,
+            MergeFault::SourceFailed(0),
+            &TWICE[..written],
+        );
+        let written = if k == 6 { 22 } else { 0 };
+        check_failing(
+            &rt,
+            rt.alloc(),
+            0,
+            k,
+            MergeFault::SourceFailed(1),
+            &TWICE[..written],
+        );
     }
 }
 
@@ -128,8 +166,8 @@ fn is_merged_into(alloc: Global, a_call: usize, room: usize, full: Full) -> Opti
         return None;
     };
     let mut inputs = [SliceSource::new(&SEVENS), SliceSource::new(&SEVENS)];
-    let (wanted, refusals) = match merge(alloc, &mut inputs, &mut out) {
-        Ok(_) => (173, 0),
+    let (wanted, refusals) = match merged(alloc, &mut inputs, &mut out) {
+        Ok(()) => (173, 0),
         Err(MergeFault::WriteFailed) => (room, 1),
         Err(MergeFault::OutOfMemory) => return None,
         Err(_) => return Some(false),
@@ -137,17 +175,21 @@ fn is_merged_into(alloc: Global, a_call: usize, room: usize, full: Full) -> Opti
     Some(out.bytes() == &TWICE[..wanted.min(173)] && out.refusals() == refusals)
 }
 
+/// The same, once there is memory for it.
+fn check_sink(rt: &impl Abort, alloc: Global, a_call: usize, room: usize, full: Full) {
+    let is_right = match is_merged_into(alloc, a_call, room, full) {
+        None => is_merged_into(alloc, a_call, room, full),
+        answer => answer,
+    };
+    check_same(rt, "bytes", room as u64, &is_right, &Some(true));
+}
+
 #[test]
 fn sinks_that_fail(rt: HostRuntime) {
     for a_call in [1, 7, 200] {
         for room in 0..175usize {
-            for full in [Full::Fails, Full::TakesNothing] {
-                let is_right = match is_merged_into(rt.alloc(), a_call, room, full) {
-                    None => is_merged_into(rt.alloc(), a_call, room, full),
-                    answer => answer,
-                };
-                assert_eq!(rt; is_right, Some(true), "{room} bytes");
-            }
+            check_sink(&rt, rt.alloc(), a_call, room, Full::Fails);
+            check_sink(&rt, rt.alloc(), a_call, room, Full::TakesNothing);
         }
     }
 }

@@ -1,5 +1,5 @@
 //! A writer's positions: which they are, what comes from them, and that the places of the runs have them.
-use super::with_memory;
+use super::{demand, passes, values_of};
 use Sign::{Signed, Unsigned};
 use orc_rle::*;
 use orc_seek::*;
@@ -125,6 +125,14 @@ fn from_number<T>(values: &[T], n: usize) -> Result<&[T], RunFault> {
     Ok(wanted)
 }
 
+/// Values, and those after them.
+fn joined(alloc: Global, front: &[i64], rest: &[i64]) -> Result<Vec<i64>, RunFault> {
+    let mut values = Vec::new(alloc);
+    values.extend_from_slice(front)?;
+    values.extend_from_slice(rest)?;
+    Ok(values)
+}
+
 /// The values from a position on: those that are left of the run there, and those of the runs after it.
 fn values_from<C: RunCodec>(
     alloc: Global,
@@ -134,11 +142,8 @@ fn values_from<C: RunCodec>(
 ) -> Result<Vec<i64>, RunFault> {
     let mut run = Run::new();
     let at = C::seek(bytes, sign, pos, &mut run)?;
-    let mut values = Vec::new(alloc);
-    values.extend_from_slice(run.values())?;
-    let rest = C::decode_all(alloc, from_number(bytes, at)?, sign)?;
-    values.extend_from_slice(&rest)?;
-    Ok(values)
+    let rest = values_of::<C>(alloc, from_number(bytes, at)?, sign)?;
+    joined(alloc, run.values(), &rest)
 }
 
 /// The writer's position of a value, where there are that many.
@@ -160,14 +165,24 @@ fn place_of<C: RunCodec>(
     Ok(pos)
 }
 
+/// Whether the position is one of the places, with no contract, of which each caller would prove more.
+fn begins(places: &RunPlaces, offset: u64, skip: u64, n: u64) -> bool {
+    places.begins(offset, skip, n)
+}
+
+/// The same of a boolean.
+fn begins_bit(places: &RunPlaces, offset: u64, skip: u64, bits: u64, n: u64) -> bool {
+    places.begins_bit(offset, skip, bits, n)
+}
+
 /// Whether a position is found for a number, and none that passes one value more or begins a byte later.
 fn is_found(places: &RunPlaces, pos: Pos, n: usize) -> bool {
     let offset = pos.offset as u64;
     let skip = pos.skip as u64;
     let n = n as u64;
-    places.begins(offset, skip, n)
-        && !places.begins(offset, skip.saturating_add(1), n)
-        && !places.begins(offset.saturating_add(1), skip, n)
+    begins(places, offset, skip, n)
+        && !begins(places, offset, skip.saturating_add(1), n)
+        && !begins(places, offset.saturating_add(1), skip, n)
 }
 
 /// Whether the writer's position of a number has this offset and skip.
@@ -199,25 +214,49 @@ fn goes_on<C: RunCodec>(
     )
 }
 
+/// Each of the positions is the writer's.
+fn check_places<C: RunCodec>(
+    rt: &impl Abort,
+    alloc: Global,
+    text: &[u8],
+    sign: Sign,
+    places: &[(usize, usize, usize)],
+) -> Result<(), RunFault> {
+    for place in places {
+        let holds = has_place::<C>(alloc, text, sign, *place)?;
+        demand(rt, holds, "the position", place.0, text);
+    }
+    Ok(())
+}
+
+/// From each number on, the values come from the writer's position of it.
+fn check_numbers<C: RunCodec>(
+    rt: &impl Abort,
+    alloc: Global,
+    values: &[i64],
+    sign: Sign,
+    text: &[u8],
+) -> Result<(), RunFault> {
+    let table = run_places::<C>(alloc, text, sign)?;
+    for n in 0..=values.len() {
+        let holds = goes_on::<C>(alloc, values, sign, text, n, &table)?;
+        demand(rt, holds, "what comes from the position", n, values);
+    }
+    Ok(())
+}
+
 fn check_rows<C: RunCodec>(rt: &impl Abort, alloc: Global, rows: &[Row]) -> Result<(), RunFault> {
     for (values, sign, text, places) in rows {
-        let table = run_places::<C>(alloc, text, *sign)?;
-        for place in places.iter() {
-            assert!(rt; has_place::<C>(alloc, text, *sign, *place)?, "{}", place.0);
-        }
-        for n in 0..=values.len() {
-            assert!(rt; goes_on::<C>(alloc, values, *sign, text, n, &table)?, "{n}");
-        }
+        check_places::<C>(rt, alloc, text, *sign, places)?;
+        check_numbers::<C>(rt, alloc, values, *sign, text)?;
     }
     Ok(())
 }
 
 #[test]
 fn places_of_integers(rt: HostRuntime) {
-    let answer = with_memory(|| check_rows::<V1>(&rt, rt.alloc(), &ONE));
-    assert_eq!(rt; answer, Ok(()));
-    let answer = with_memory(|| check_rows::<V2>(&rt, rt.alloc(), &TWO));
-    assert_eq!(rt; answer, Ok(()));
+    passes(&rt, with_memory!(check_rows::<V1>(&rt, rt.alloc(), &ONE)));
+    passes(&rt, with_memory!(check_rows::<V2>(&rt, rt.alloc(), &TWO)));
 }
 
 /// So many bytes from a position on: those that are left of the run there, and those of the runs after it.
@@ -236,6 +275,13 @@ fn bytes_from(
     let rest = ByteRuns::decode(alloc, from_number(bytes, at)?, count - values.len())?;
     values.extend_from_slice(&rest)?;
     Ok(values)
+}
+
+/// So many bytes from a position on.
+fn bytes_at(alloc: Global, text: &[u8], pos: Pos, count: usize) -> Result<Vec<u8>, RunFault> {
+    let mut run = RunU8::new();
+    let at = ByteRuns::seek(text, pos, &mut run)?;
+    bytes_from(alloc, text, count, at, &run)
 }
 
 /// The writer's position of a byte, where there are that many.
@@ -273,33 +319,51 @@ fn bytes_go_on(
 ) -> Result<bool, RunFault> {
     let pos = byte_place_of(alloc, text, values.len(), n)?;
     let wanted = from_number(values, n)?;
-    let mut run = RunU8::new();
-    let at = ByteRuns::seek(text, pos, &mut run)?;
-    let found = bytes_from(alloc, text, wanted.len(), at, &run)?;
+    let found = bytes_at(alloc, text, pos, wanted.len())?;
     Ok(found.as_slice() == wanted && is_found(table, pos, n))
+}
+
+/// Each of the positions is the writer's.
+fn check_byte_places(
+    rt: &impl Abort,
+    alloc: Global,
+    text: &[u8],
+    total: usize,
+    places: &[(usize, usize, usize)],
+) -> Result<(), RunFault> {
+    for place in places {
+        let holds = has_byte_place(alloc, text, total, *place)?;
+        demand(rt, holds, "the position", place.0, text);
+    }
+    Ok(())
+}
+
+/// From each number on, the bytes come from the writer's position of it.
+fn check_byte_numbers(
+    rt: &impl Abort,
+    alloc: Global,
+    values: &[u8],
+    text: &[u8],
+) -> Result<(), RunFault> {
+    let table = byte_places(alloc, text)?;
+    for n in 0..=values.len() {
+        let holds = bytes_go_on(alloc, values, text, n, &table)?;
+        demand(rt, holds, "what comes from the position", n, values);
+    }
+    Ok(())
 }
 
 fn check_bytes(rt: &impl Abort, alloc: Global) -> Result<(), RunFault> {
     for (values, text, places) in &BYTES {
-        let table = byte_places(alloc, text)?;
-        for place in places.iter() {
-            assert!(rt;
-                has_byte_place(alloc, text, values.len(), *place)?,
-                "{}",
-                place.0
-            );
-        }
-        for n in 0..=values.len() {
-            assert!(rt; bytes_go_on(alloc, values, text, n, &table)?, "{n}");
-        }
+        check_byte_places(rt, alloc, text, values.len(), places)?;
+        check_byte_numbers(rt, alloc, values, text)?;
     }
     Ok(())
 }
 
 #[test]
 fn places_of_bytes(rt: HostRuntime) {
-    let answer = with_memory(|| check_bytes(&rt, rt.alloc()));
-    assert_eq!(rt; answer, Ok(()));
+    passes(&rt, with_memory!(check_bytes(&rt, rt.alloc())));
 }
 
 /// The writer's position of a boolean, where there are that many.
@@ -316,6 +380,13 @@ fn bit_place_of(alloc: Global, bytes: &[u8], total: usize, n: usize) -> Result<B
     let mut run = RunU8::new();
     bit_seek_place(bytes, pos, &mut run)?;
     Ok(pos)
+}
+
+/// So many bytes from the one on that a boolean's position names.
+fn packed_at(alloc: Global, text: &[u8], pos: BitPos, count: usize) -> Result<Vec<u8>, RunFault> {
+    let mut run = RunU8::new();
+    let at = BitRuns::seek(text, pos, &mut run)?;
+    bytes_from(alloc, text, count, at, &run)
 }
 
 /// Whether the digits of the bytes, without so many at first, begin with the booleans.
@@ -339,9 +410,9 @@ fn is_bit_found(places: &RunPlaces, pos: BitPos, n: usize) -> bool {
     let skip = pos.skip as u64;
     let bits = pos.bits as u64;
     let n = n as u64;
-    places.begins_bit(offset, skip, bits, n)
-        && !places.begins_bit(offset, skip, bits.saturating_add(1), n)
-        && !places.begins_bit(offset, skip.saturating_add(1), bits, n)
+    begins_bit(places, offset, skip, bits, n)
+        && !begins_bit(places, offset, skip, bits.saturating_add(1), n)
+        && !begins_bit(places, offset, skip.saturating_add(1), bits, n)
 }
 
 /// Whether the writer's position of a boolean has this offset, skip and bits.
@@ -365,61 +436,97 @@ fn bits_go_on(
 ) -> Result<bool, RunFault> {
     let pos = bit_place_of(alloc, text, values.len(), n)?;
     let wanted = from_number(values, n)?;
-    let mut run = RunU8::new();
-    let at = BitRuns::seek(text, pos, &mut run)?;
     let count = pos.bits.saturating_add(wanted.len()).div_ceil(8);
-    let packed = bytes_from(alloc, text, count, at, &run)?;
+    let packed = packed_at(alloc, text, pos, count)?;
     Ok(holds_bits(&packed, pos.bits, wanted) && is_bit_found(table, pos, n))
+}
+
+/// Each of the positions is the writer's.
+fn check_bit_places(
+    rt: &impl Abort,
+    alloc: Global,
+    text: &[u8],
+    total: usize,
+    places: &[(usize, usize, usize, usize)],
+) -> Result<(), RunFault> {
+    for place in places {
+        let holds = has_bit_place(alloc, text, total, *place)?;
+        demand(rt, holds, "the position", place.0, text);
+    }
+    Ok(())
+}
+
+/// From each number on, the booleans come from the writer's position of it.
+fn check_bit_numbers(
+    rt: &impl Abort,
+    alloc: Global,
+    values: &[bool],
+    text: &[u8],
+) -> Result<(), RunFault> {
+    let table = byte_places(alloc, text)?;
+    for n in 0..=values.len() {
+        let holds = bits_go_on(alloc, values, text, n, &table)?;
+        demand(rt, holds, "what comes from the position", n, values);
+    }
+    Ok(())
 }
 
 fn check_bits(rt: &impl Abort, alloc: Global) -> Result<(), RunFault> {
     for (values, text, places) in &BITS {
-        let table = byte_places(alloc, text)?;
-        for place in places.iter() {
-            assert!(rt;
-                has_bit_place(alloc, text, values.len(), *place)?,
-                "{}",
-                place.0
-            );
-        }
-        for n in 0..=values.len() {
-            assert!(rt; bits_go_on(alloc, values, text, n, &table)?, "{n}");
-        }
+        check_bit_places(rt, alloc, text, values.len(), places)?;
+        check_bit_numbers(rt, alloc, values, text)?;
     }
     Ok(())
 }
 
 #[test]
 fn places_of_booleans(rt: HostRuntime) {
-    let answer = with_memory(|| check_bits(&rt, rt.alloc()));
-    assert_eq!(rt; answer, Ok(()));
+    passes(&rt, with_memory!(check_bits(&rt, rt.alloc())));
 }
 
 /// Positions that no writer of ours makes, and that are none.
 fn check_others(rt: &impl Abort, alloc: Global) -> Result<(), RunFault> {
     let runs = run_places::<V1>(alloc, &[0x00, 1, 1, 0xfe, 3, 3], Unsigned)?;
-    assert!(rt; runs.begins(0, 3, 3));
-    assert!(rt; runs.begins(3, 2, 5));
-    assert!(rt; !runs.begins(1, 0, 0));
-    assert!(rt; !runs.begins(3, 3, 2));
-    assert!(rt; !runs.begins(7, 0, 5));
-    assert!(rt; !runs.begins(u64::MAX, 0, 5));
-    assert!(rt; !runs.begins(3, u64::MAX, 2));
-    let bits = byte_places(alloc, &[0xfe, 0xef, 0x80])?;
-    assert!(rt; bits.begins_bit(0, 0, 8, 8));
-    assert!(rt; bits.begins_bit(0, 1, 1, 9));
-    assert!(rt; !bits.begins_bit(0, 0, 9, 9));
-    assert!(rt; !bits.begins_bit(0, 0, 4, 3));
-    assert!(rt; !bits.begins_bit(1, 0, 0, 0));
-    let short = run_places::<V1>(alloc, &[0x00, 0x00, 0x02, 0xff], Signed);
-    assert!(rt; matches!(short, Err(RunFault::Short(3) | RunFault::OutOfMemory)));
-    let short = byte_places(alloc, &[0x61, 0x00, 0x00]);
-    assert!(rt; matches!(short, Err(RunFault::Short(2) | RunFault::OutOfMemory)));
+    assert!(rt; begins(&runs, 0, 3, 3));
+    assert!(rt; begins(&runs, 3, 2, 5));
+    assert!(rt; !begins(&runs, 1, 0, 0));
+    assert!(rt; !begins(&runs, 3, 3, 2));
+    assert!(rt; !begins(&runs, 7, 0, 5));
+    assert!(rt; !begins(&runs, u64::MAX, 0, 5));
+    assert!(rt; !begins(&runs, 3, u64::MAX, 2));
+    check_other_bits(rt, alloc)?;
+    check_short(rt, alloc);
     Ok(())
+}
+
+/// The same of booleans.
+fn check_other_bits(rt: &impl Abort, alloc: Global) -> Result<(), RunFault> {
+    let bits = byte_places(alloc, &[0xfe, 0xef, 0x80])?;
+    assert!(rt; begins_bit(&bits, 0, 0, 8, 8));
+    assert!(rt; begins_bit(&bits, 0, 1, 1, 9));
+    assert!(rt; !begins_bit(&bits, 0, 0, 9, 9));
+    assert!(rt; !begins_bit(&bits, 0, 0, 4, 3));
+    assert!(rt; !begins_bit(&bits, 1, 0, 0, 0));
+    Ok(())
+}
+
+/// Whether there are no places, for this fault or for want of memory.
+fn has_none(places: Result<RunPlaces, RunFault>, fault: RunFault) -> bool {
+    match places {
+        Ok(_) => false,
+        Err(found) => found == fault || found == RunFault::OutOfMemory,
+    }
+}
+
+/// Streams whose last run ends too soon have no places.
+fn check_short(rt: &impl Abort, alloc: Global) {
+    let short = run_places::<V1>(alloc, &[0x00, 0x00, 0x02, 0xff], Signed);
+    assert!(rt; has_none(short, RunFault::Short(3)));
+    let short = byte_places(alloc, &[0x61, 0x00, 0x00]);
+    assert!(rt; has_none(short, RunFault::Short(2)));
 }
 
 #[test]
 fn other_places(rt: HostRuntime) {
-    let answer = with_memory(|| check_others(&rt, rt.alloc()));
-    assert_eq!(rt; answer, Ok(()));
+    passes(&rt, with_memory!(check_others(&rt, rt.alloc())));
 }

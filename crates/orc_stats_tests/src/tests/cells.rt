@@ -1,9 +1,4 @@
 //! Statistics of cells.
-ghost use Rattle.std.specs.Prelude.{◌≡◌, ◌≤◌, ◌^◌, true, All, length};
-ghost use Rattle.orc_types.specs.Lent.{lent_cells};
-ghost use Rattle.orc_stats.specs.Kinds.{is_of};
-ghost use Rattle.orc_stats.specs.declared.kind.StatKind.TheVariants as kind;
-
 use super::*;
 use std::borrow::{CowSlice, CowStr};
 
@@ -13,7 +8,7 @@ fn numbers(rt: HostRuntime) {
     let seven: Row<'_> = Some(Value::Int(7));
     let less: Row<'_> = Some(Value::Int(-9));
     let null: Row<'_> = None;
-    let found = of_cells(
+    let found = stat_of(
         alloc,
         StatKind::Ints,
         &[Lent(&seven), Lent(&null), Lent(&less), Lent(&seven)],
@@ -22,12 +17,12 @@ fn numbers(rt: HostRuntime) {
 
     let late: Row<'_> = Some(Value::Date(19782));
     let early: Row<'_> = Some(Value::Date(-719162));
-    let found = of_cells(alloc, StatKind::Dates, &[Lent(&late), Lent(&early)]);
+    let found = stat_of(alloc, StatKind::Dates, &[Lent(&late), Lent(&early)]);
     assert!(&rt; says(&found, count_of(2, Some(false)).span(-719162, 19782)));
 
     let yes: Row<'_> = Some(Value::Bool(true));
     let no: Row<'_> = Some(Value::Bool(false));
-    let found = of_cells(
+    let found = stat_of(
         alloc,
         StatKind::Bools,
         &[Lent(&yes), Lent(&no), Lent(&yes), Lent(&null)],
@@ -51,19 +46,16 @@ fn texts_and_bytes(rt: HostRuntime) {
     assert!(&rt; spans(&found, b"b", b"\xc3\xa9"));
 
     let high: Row<'_> = Some(Value::Bytes(CowSlice::Borrowed(b"\xff\x00")));
-    let found = of_cells(alloc, StatKind::Bins, &[Lent(&high), Lent(&high)]);
+    let found = stat_of(alloc, StatKind::Bins, &[Lent(&high), Lent(&high)]);
     assert!(&rt; says(&found, count_of(2, Some(false)).total(4)));
-    let found = of_cells(alloc, StatKind::Plain, &[Lent(&null)]);
+    let found = stat_of(alloc, StatKind::Plain, &[Lent(&null)]);
     assert!(&rt; says(&found, count_of(0, Some(true))));
 }
 
 /// The statistic of texts; where memory was refused, it is asked again.
-fn of_texts(alloc: Global, cells: &[Lent<'_, '_>]) -> Result<Stat, StatFault>
-    requires kind { All (λ c. is_of kind.Texts c ≡ true) (lent_cells cells.now) }
-    requires most { length cells.now ≤ 2 ^ 62 }
-{
-    match of_cells(alloc, StatKind::Texts, cells) {
-        Err(StatFault::OutOfMemory) => of_cells(alloc, StatKind::Texts, cells),
+fn of_texts(alloc: Global, cells: &[Lent<'_, '_>]) -> Result<Stat, StatFault> {
+    match stat_of(alloc, StatKind::Texts, cells) {
+        Err(StatFault::OutOfMemory) => stat_of(alloc, StatKind::Texts, cells),
         found => found,
     }
 }

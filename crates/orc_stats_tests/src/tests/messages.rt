@@ -171,21 +171,32 @@ static SPELLED: [Spelled; 12] = [
     },
 ];
 
+/// What stands in the bytes of a column of the kind.
+fn read_stat(alloc: Global, kind: StatKind, bytes: &[u8]) -> Result<Stat, StatFault> {
+    match ColumnStats::read(alloc, bytes) {
+        Ok(message) => Stat::read(alloc, kind, &message),
+        Err(_) => Err(StatFault::OutOfMemory),
+    }
+}
+
+/// The bytes of a message.
+fn written(alloc: Global, message: &ColumnStats) -> Result<Vec<u8>, StatFault> {
+    let mut bytes = Vec::new(alloc);
+    match message.put(&mut bytes) {
+        Ok(()) => Ok(bytes),
+        Err(_) => Err(StatFault::OutOfMemory),
+    }
+}
+
 /// What the bytes say of a column of the kind, and how that is written again.
 fn said_and_written(
     alloc: Global,
     kind: StatKind,
     bytes: &[u8],
 ) -> Result<(Said, Vec<u8>), StatFault> {
-    let Ok(message) = ColumnStats::read(alloc, bytes) else {
-        return Err(StatFault::OutOfMemory);
-    };
-    let stat = Stat::read(alloc, kind, &message)?;
-    let mut again = Vec::new(alloc);
-    match stat.put(alloc)?.put(&mut again) {
-        Ok(()) => Ok((summary_of(&stat), again)),
-        Err(_) => Err(StatFault::OutOfMemory),
-    }
+    let stat = read_stat(alloc, kind, bytes)?;
+    let again = written(alloc, &stat.put(alloc)?)?;
+    Ok((summary_of(&stat), again))
 }
 
 /// The same; where memory was refused, it is asked again.

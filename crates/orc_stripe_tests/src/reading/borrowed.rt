@@ -1,9 +1,8 @@
 //! Texts and bytes of rows are slices of the stripe, entries of a dictionary included.
-use super::{ONE_BYTE, ONE_WORD};
-use orc_stripe::{StripeFault, StripeView};
-use orc_test_support::with_memory;
-use orc_types::{Row, Schema, Value};
-use orc_wire::StripeInfo;
+use super::{ONE_BYTE, ONE_WORD, demand, passes, stripe_of};
+use orc_stripe::StripeFault;
+use orc_test_lines::{rows_of, schema_of};
+use orc_types::{Row, Value};
 use std::alloc::Global;
 use std::borrow::{CowSlice, CowStr};
 use std::process::Abort;
@@ -35,33 +34,40 @@ fn is_borrowed(row: &Row<'_>) -> bool {
     }
 }
 
+/// Whether the cell of each row is.
+fn are_borrowed(rows: &[Row<'_>]) -> bool {
+    for row in rows {
+        if !is_borrowed(row) {
+            return false;
+        }
+    }
+    true
+}
+
+fn check_stripe(
+    rt: &impl Abort,
+    alloc: Global,
+    text: &str,
+    data: &[u8],
+    footer: &[u8],
+    count: u64,
+) -> Result<(), StripeFault> {
+    let schema = schema_of(alloc, text)?;
+    let (info, bytes) = stripe_of(alloc, data, footer, count)?;
+    let rows = rows_of(alloc, &schema, info, &bytes)?;
+    let holds = rows.len() as u64 == count && are_borrowed(&rows);
+    demand(rt, holds, text, data);
+    Ok(())
+}
+
 fn check_borrowed(rt: &impl Abort, alloc: Global) -> Result<(), StripeFault> {
     for (text, data, footer, count) in &CASES {
-        let Ok(schema) = Schema::parse(alloc, text) else {
-            return Err(StripeFault::OutOfMemory);
-        };
-        let mut bytes = Vec::new(alloc);
-        bytes.extend_from_slice(data)?;
-        bytes.extend_from_slice(footer)?;
-        let info = StripeInfo {
-            offset: 3,
-            index_length: 0,
-            data_length: data.len() as u64,
-            footer_length: footer.len() as u64,
-            number_of_rows: *count,
-        };
-        let view = StripeView::open(alloc, &schema, info, 0, &bytes)?;
-        let rows = view.rows(alloc)?;
-        assert!(rt; rows.len() as u64 == *count, "{text}");
-        for row in &rows {
-            assert!(rt; is_borrowed(row), "{text}");
-        }
+        check_stripe(rt, alloc, text, data, footer, *count)?;
     }
     Ok(())
 }
 
 #[test]
 fn texts_are_borrowed(rt: HostRuntime) {
-    let answer = with_memory(|| check_borrowed(&rt, rt.alloc()));
-    assert!(rt; answer == Ok(()));
+    passes(&rt, with_memory!(check_borrowed(&rt, rt.alloc())));
 }

@@ -1,10 +1,11 @@
 //! Rows by a cursor: as many as a stripe may have, those before bytes that are no run, and what is left.
 use super::shapes::{MOST_COLUMNS, footer_of, wide_schema};
-use super::{FOUR_BYTES, THREE_BYTES, stripe_of};
+use super::{FOUR_BYTES, THREE_BYTES, check_refused, demand, passes, stripe_of};
 use orc_rle::RunFault;
-use orc_stripe::{RowCursor, StreamKind, StripeFault, StripeView};
-use orc_test_support::{line_of, with_memory};
-use orc_types::Schema;
+use orc_stripe::{RowCursor, StreamKind, StripeFault};
+use orc_test_lines::{cursor_of, line_of, next_row, rest_of, schema_of};
+use orc_types::{Row, Schema};
+use orc_wire::StripeInfo;
 use std::alloc::Global;
 use std::process::Abort;
 
@@ -48,6 +49,13 @@ fn many_nulls(alloc: Global) -> Result<Vec<u8>, StripeFault> {
     Ok(marks)
 }
 
+/// The next row is a null.
+fn check_null(rt: &impl Abort, cursor: &mut RowCursor<'_>) -> Result<(), StripeFault> {
+    let row = next_row(cursor)?;
+    demand(rt, matches!(row, Some(None)), "a null", &[]);
+    Ok(())
+}
+
 /// The next rows are so many nulls.
 fn check_nulls(
     rt: &impl Abort,
@@ -55,92 +63,159 @@ fn check_nulls(
     count: usize,
 ) -> Result<(), StripeFault> {
     for _ in 0..count {
-        match cursor.next()? {
-            Some(row) => assert!(rt; row.is_none(), "a value"),
-            None => assert!(rt; false, "a row is missing"),
-        }
+        check_null(rt, cursor)?;
     }
     Ok(())
 }
 
-/// The first thousand of as many rows as a stripe may have; and a row of 4,096 columns.
-fn check_limits(rt: &impl Abort, alloc: Global) -> Result<(), StripeFault> {
-    let Ok(narrow) = Schema::parse(alloc, "struct<n:bigint>") else {
-        return Err(StripeFault::OutOfMemory);
-    };
+/// There is no row more.
+fn check_end(rt: &impl Abort, cursor: &mut RowCursor<'_>) -> Result<(), StripeFault> {
+    let row = next_row(cursor)?;
+    demand(rt, row.is_none(), "no row more", &[]);
+    Ok(())
+}
+
+/// As many rows as a stripe may have, all null.
+fn long_stripe(alloc: Global) -> Result<(StripeInfo, Vec<u8>), StripeFault> {
     let marks = many_nulls(alloc)?;
-    let (info, bytes) = stripe_of(alloc, &marks, &MANY_MARKS, 0x7fff_ffff)?;
-    let view = StripeView::open(alloc, &narrow, info, 0, &bytes)?;
-    check_nulls(rt, &mut view.cursor(alloc)?, 1000)?;
-    let text = wide_schema(alloc)?;
-    let Ok(wide) = Schema::parse(alloc, text.as_str()) else {
-        return Err(StripeFault::OutOfMemory);
-    };
+    stripe_of(alloc, &marks, &MANY_MARKS, 0x7fff_ffff)
+}
+
+/// The first thousand of as many rows as a stripe may have.
+fn check_long(rt: &impl Abort, alloc: Global) -> Result<(), StripeFault> {
+    let schema = schema_of(alloc, "struct<n:bigint>")?;
+    let (info, bytes) = long_stripe(alloc)?;
+    let mut cursor = cursor_of(alloc, &schema, info, &bytes)?;
+    check_nulls(rt, &mut cursor, 1000)
+}
+
+/// A row of 4,096 columns, which is null.
+fn wide_stripe(alloc: Global) -> Result<(StripeInfo, Vec<u8>), StripeFault> {
     // PRESENT of the root with two bytes
     let present = [0x0a, 0x06, 0x08, 0x00, 0x10, 0x00, 0x18, 0x02];
     let footer = footer_of(alloc, MOST_COLUMNS, &present)?;
-    let (info, bytes) = stripe_of(alloc, &[0xff, 0x00], &footer, 1)?;
-    let view = StripeView::open(alloc, &wide, info, 0, &bytes)?;
-    let mut cursor = view.cursor(alloc)?;
-    check_nulls(rt, &mut cursor, 1)?;
-    assert!(rt; cursor.next()?.is_none(), "a row more");
+    stripe_of(alloc, &[0xff, 0x00], &footer, 1)
+}
+
+/// The schema of that row.
+fn schema_of_wide(alloc: Global) -> Result<Schema, StripeFault> {
+    let text = wide_schema(alloc)?;
+    schema_of(alloc, text.as_str())
+}
+
+/// A row of 4,096 columns.
+fn check_wide(rt: &impl Abort, alloc: Global) -> Result<(), StripeFault> {
+    let schema = schema_of_wide(alloc)?;
+    let (info, bytes) = wide_stripe(alloc)?;
+    let mut cursor = cursor_of(alloc, &schema, info, &bytes)?;
+    check_null(rt, &mut cursor)?;
+    check_end(rt, &mut cursor)
+}
+
+/// The row prints as the line.
+fn check_line(
+    rt: &impl Abort,
+    alloc: Global,
+    schema: &Schema,
+    row: &Row<'_>,
+    wanted: &str,
+) -> Result<(), StripeFault> {
+    let line = line_of(alloc, schema, row)?;
+    demand(rt, line.as_str() == wanted, wanted, &[]);
     Ok(())
 }
 
-/// Three rows come before bytes that are no run, and then the fault; the rows behind the first are what is
-/// left when it was given.
-fn check_broken(rt: &impl Abort, alloc: Global) -> Result<(), StripeFault> {
-    let Ok(schema) = Schema::parse(alloc, "struct<n:bigint>") else {
-        return Err(StripeFault::OutOfMemory);
-    };
-    let (info, bytes) = stripe_of(alloc, &[0x00, 0x00, 0x0e, 0xff], &FOUR_BYTES, 4)?;
-    let view = StripeView::open(alloc, &schema, info, 0, &bytes)?;
-    let mut cursor = view.cursor(alloc)?;
-    for _ in 0..3 {
-        match cursor.next()? {
-            Some(row) => {
-                assert!(rt; line_of(alloc, &schema, &row)?.as_str() == r#"{"n":7}"#);
-            }
-            None => assert!(rt; false, "a row is missing"),
+/// The next row is a seven.
+fn check_seven(
+    rt: &impl Abort,
+    alloc: Global,
+    schema: &Schema,
+    cursor: &mut RowCursor<'_>,
+) -> Result<(), StripeFault> {
+    match next_row(cursor)? {
+        Some(row) => check_line(rt, alloc, schema, &row, r#"{"n":7}"#),
+        None => {
+            demand(rt, false, "a seven", &[]);
+            Ok(())
         }
+    }
+}
+
+/// Three rows come before bytes that are no run, and then the fault.
+fn check_until(
+    rt: &impl Abort,
+    alloc: Global,
+    schema: &Schema,
+    cursor: &mut RowCursor<'_>,
+) -> Result<(), StripeFault> {
+    for _ in 0..3 {
+        check_seven(rt, alloc, schema, cursor)?;
     }
     let fault = StripeFault::Run(1, StreamKind::Data, RunFault::Short(3));
     for wanted in [fault, StripeFault::Failed, StripeFault::Failed] {
-        match cursor.next() {
-            Err(StripeFault::OutOfMemory) => return Err(StripeFault::OutOfMemory),
-            answer => assert!(rt; answer.err() == Some(wanted)),
+        check_refused(rt, next_row(cursor), wanted, "no row", &[])?;
+    }
+    Ok(())
+}
+
+/// Rows come until the fault, behind which nothing is left.
+fn check_broken(rt: &impl Abort, alloc: Global) -> Result<(), StripeFault> {
+    let schema = schema_of(alloc, "struct<n:bigint>")?;
+    let (info, bytes) = stripe_of(alloc, &[0x00, 0x00, 0x0e, 0xff], &FOUR_BYTES, 4)?;
+    let mut cursor = cursor_of(alloc, &schema, info, &bytes)?;
+    check_until(rt, alloc, &schema, &mut cursor)?;
+    check_refused(rt, rest_of(cursor), StripeFault::Failed, "no rest", &[])
+}
+
+/// The rows are an eight and a nine.
+fn check_two(
+    rt: &impl Abort,
+    alloc: Global,
+    schema: &Schema,
+    rows: &[Row<'_>],
+) -> Result<(), StripeFault> {
+    match rows {
+        [eight, nine] => {
+            check_line(rt, alloc, schema, eight, r#"{"n":8}"#)?;
+            check_line(rt, alloc, schema, nine, r#"{"n":9}"#)
+        }
+        _ => {
+            demand(rt, false, "two rows", &[]);
+            Ok(())
         }
     }
-    assert!(rt; cursor.rest().err() == Some(StripeFault::Failed));
-    Ok(())
+}
+
+/// What is left behind the first row are these.
+fn check_left(
+    rt: &impl Abort,
+    alloc: Global,
+    schema: &Schema,
+    cursor: RowCursor<'_>,
+) -> Result<(), StripeFault> {
+    let rest = rest_of(cursor)?;
+    check_two(rt, alloc, schema, &rest)
 }
 
 /// What is left behind the first row is given at once.
 fn check_rest(rt: &impl Abort, alloc: Global) -> Result<(), StripeFault> {
-    let Ok(schema) = Schema::parse(alloc, "struct<n:bigint>") else {
-        return Err(StripeFault::OutOfMemory);
-    };
+    let schema = schema_of(alloc, "struct<n:bigint>")?;
     // three numbers from 7 on, each one more than the one before
     let (info, bytes) = stripe_of(alloc, &[0x00, 0x01, 0x0e], &THREE_BYTES, 3)?;
-    let view = StripeView::open(alloc, &schema, info, 0, &bytes)?;
-    let mut cursor = view.cursor(alloc)?;
-    assert!(rt; cursor.next()?.is_some(), "a row is missing");
-    let rest = cursor.rest()?;
-    assert!(rt; rest.len() == 2);
-    for (row, wanted) in rest.iter().zip([r#"{"n":8}"#, r#"{"n":9}"#]) {
-        assert!(rt; line_of(alloc, &schema, row)?.as_str() == wanted);
-    }
-    Ok(())
+    let mut cursor = cursor_of(alloc, &schema, info, &bytes)?;
+    let first = next_row(&mut cursor)?;
+    demand(rt, first.is_some(), "a first row", &[]);
+    check_left(rt, alloc, &schema, cursor)
 }
 
 fn check_all(rt: &impl Abort, alloc: Global) -> Result<(), StripeFault> {
-    check_limits(rt, alloc)?;
+    check_long(rt, alloc)?;
+    check_wide(rt, alloc)?;
     check_broken(rt, alloc)?;
     check_rest(rt, alloc)
 }
 
 #[test]
 fn cursors(rt: HostRuntime) {
-    let answer = with_memory(|| check_all(&rt, rt.alloc()));
-    assert!(rt; answer == Ok(()));
+    passes(&rt, with_memory!(check_all(&rt, rt.alloc())));
 }

@@ -1,7 +1,6 @@
 //! Which encodings a column of each type may have.
-use super::lines_of;
+use super::{check_lines, check_refused, lines_of, passes};
 use orc_stripe::StripeFault;
-use orc_test_support::with_memory;
 use std::alloc::Global;
 use std::process::Abort;
 
@@ -30,19 +29,27 @@ fn footer_of(alloc: Global, encoding: u8, below: usize) -> Result<Vec<u8>, Strip
 }
 
 /// DIRECT and DIRECT_V2 are read for each type, the two of a dictionary for texts, and no others.
+fn check_encoding(
+    rt: &impl Abort,
+    alloc: Global,
+    text: &str,
+    below: usize,
+    words: bool,
+    encoding: u8,
+) -> Result<(), StripeFault> {
+    let footer = footer_of(alloc, encoding, below)?;
+    let answer = lines_of(alloc, text, &[], &footer, 0);
+    if encoding == 0 || encoding == 2 || (words && encoding < 4) {
+        check_lines(rt, answer, &[], text, &footer)
+    } else {
+        check_refused(rt, answer, StripeFault::BadEncoding(1), text, &footer)
+    }
+}
+
 fn check_encodings(rt: &impl Abort, alloc: Global) -> Result<(), StripeFault> {
     for (text, below, words) in &TYPES {
         for encoding in 0u8..6 {
-            let footer = footer_of(alloc, encoding, *below)?;
-            let allowed = encoding == 0 || encoding == 2 || (*words && encoding < 4);
-            match lines_of(alloc, text, &[], &footer, 0) {
-                Err(StripeFault::OutOfMemory) => return Err(StripeFault::OutOfMemory),
-                Ok(lines) => assert!(rt; allowed && lines.len() == 0, "{text} {encoding}"),
-                Err(fault) => {
-                    assert!(rt; !allowed, "{text} {encoding}");
-                    assert!(rt; fault == StripeFault::BadEncoding(1), "{text} {encoding}");
-                }
-            }
+            check_encoding(rt, alloc, text, *below, *words, encoding)?;
         }
     }
     Ok(())
@@ -50,6 +57,5 @@ fn check_encodings(rt: &impl Abort, alloc: Global) -> Result<(), StripeFault> {
 
 #[test]
 fn encodings(rt: HostRuntime) {
-    let answer = with_memory(|| check_encodings(&rt, rt.alloc()));
-    assert!(rt; answer == Ok(()));
+    passes(&rt, with_memory!(check_encodings(&rt, rt.alloc())));
 }

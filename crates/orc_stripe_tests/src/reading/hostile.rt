@@ -1,7 +1,7 @@
 //! A stripe that is cut short, or has one byte changed: it is refused, or has rows.
-use super::ONE_WORD;
+use super::{ONE_WORD, check_refused, demand, passes};
 use orc_stripe::StripeFault;
-use orc_test_support::{lines_at_once, with_memory};
+use orc_test_lines::{lines_at_once, schema_of};
 use orc_types::Schema;
 use orc_wire::StripeInfo;
 use std::alloc::Global;
@@ -25,50 +25,80 @@ fn good_stripe(alloc: Global) -> Result<(Vec<u8>, StripeInfo), StripeFault> {
     Ok((bytes, info))
 }
 
-/// Each shorter front of a good stripe is refused for its length.
-fn check_fronts(rt: &impl Abort, alloc: Global) -> Result<(), StripeFault> {
-    let Ok(schema) = Schema::parse(alloc, "struct<s:string>") else {
-        return Err(StripeFault::OutOfMemory);
-    };
-    let (bytes, info) = good_stripe(alloc)?;
+/// Each shorter front of a stripe is refused for its length.
+fn check_each_front(
+    rt: &impl Abort,
+    alloc: Global,
+    schema: &Schema,
+    info: StripeInfo,
+    bytes: &[u8],
+) -> Result<(), StripeFault> {
     for len in 0..bytes.len() {
-        match lines_at_once(alloc, &schema, info, &bytes[..len]) {
-            Err(StripeFault::OutOfMemory) => return Err(StripeFault::OutOfMemory),
-            answer => assert!(rt; answer.err() == Some(StripeFault::BadDirectory), "{len}"),
-        }
+        let front = &bytes[..len];
+        check_refused(
+            rt,
+            lines_at_once(alloc, schema, info, front),
+            StripeFault::BadDirectory,
+            "a front",
+            front,
+        )?;
     }
     Ok(())
 }
 
-/// A good stripe with one byte changed has two rows, or none.
-fn check_changes(rt: &impl Abort, alloc: Global) -> Result<(), StripeFault> {
-    let Ok(schema) = Schema::parse(alloc, "struct<s:string>") else {
-        return Err(StripeFault::OutOfMemory);
-    };
-    let (mut bytes, info) = good_stripe(alloc)?;
+fn check_fronts(rt: &impl Abort, alloc: Global) -> Result<(), StripeFault> {
+    let schema = schema_of(alloc, "struct<s:string>")?;
+    let (bytes, info) = good_stripe(alloc)?;
+    check_each_front(rt, alloc, &schema, info, &bytes)
+}
+
+/// A stripe has two rows, or none.
+fn check_changed(
+    rt: &impl Abort,
+    alloc: Global,
+    schema: &Schema,
+    info: StripeInfo,
+    bytes: &[u8],
+) -> Result<(), StripeFault> {
+    match lines_at_once(alloc, schema, info, bytes) {
+        Err(StripeFault::OutOfMemory) => return Err(StripeFault::OutOfMemory),
+        Ok(lines) => demand(rt, lines.len() == 2, "two rows", bytes),
+        Err(_) => {}
+    }
+    Ok(())
+}
+
+/// The same of a stripe with any one byte changed.
+fn check_each_change(
+    rt: &impl Abort,
+    alloc: Global,
+    schema: &Schema,
+    info: StripeInfo,
+    bytes: &mut [u8],
+) -> Result<(), StripeFault> {
     for i in 0..bytes.len() {
         let byte = bytes[i];
         for change in [0x01u8, 0x80, 0xff] {
             bytes[i] = byte ^ change;
-            match lines_at_once(alloc, &schema, info, &bytes) {
-                Err(StripeFault::OutOfMemory) => return Err(StripeFault::OutOfMemory),
-                Ok(lines) => assert!(rt; lines.len() == 2, "{i} {change}"),
-                Err(_) => {}
-            }
+            check_changed(rt, alloc, schema, info, bytes)?;
         }
         bytes[i] = byte;
     }
     Ok(())
 }
 
+fn check_changes(rt: &impl Abort, alloc: Global) -> Result<(), StripeFault> {
+    let schema = schema_of(alloc, "struct<s:string>")?;
+    let (mut bytes, info) = good_stripe(alloc)?;
+    check_each_change(rt, alloc, &schema, info, &mut bytes)
+}
+
 #[test]
 fn fronts(rt: HostRuntime) {
-    let answer = with_memory(|| check_fronts(&rt, rt.alloc()));
-    assert!(rt; answer == Ok(()));
+    passes(&rt, with_memory!(check_fronts(&rt, rt.alloc())));
 }
 
 #[test]
 fn changes(rt: HostRuntime) {
-    let answer = with_memory(|| check_changes(&rt, rt.alloc()));
-    assert!(rt; answer == Ok(()));
+    passes(&rt, with_memory!(check_changes(&rt, rt.alloc())));
 }

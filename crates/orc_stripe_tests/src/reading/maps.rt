@@ -1,9 +1,10 @@
 //! Stripes with maps read: the number of pairs of each, then the keys and the values, each as a column of its own.
 
-use super::{Case, check_cases};
+use super::{Case, check_cases, passes};
 use orc_rle::RunFault;
 use orc_stripe::{StreamKind, StripeFault};
-use orc_test_support::with_memory;
+use std::alloc::Global;
+use std::process::Abort;
 
 static CASES: [Case; 8] = [
     // the pairs of two maps, a map that is null, and one without pairs
@@ -131,8 +132,11 @@ static CASES: [Case; 8] = [
     ),
 ];
 
+fn check_maps(rt: &impl Abort, alloc: Global) -> Result<(), StripeFault> {
+    check_cases(rt, alloc, &CASES)
+}
+
 #[test]
 fn maps(rt: HostRuntime) {
-    let answer = with_memory(|| check_cases(&rt, rt.alloc(), &CASES));
-    assert!(rt; answer == Ok(()));
+    passes(&rt, with_memory!(check_maps(&rt, rt.alloc())));
 }

@@ -1,8 +1,7 @@
 //! Which fault of a stream's runs is answered, and at which place.
-use super::{FOUR_BYTES, SIX_BYTES, THREE_BYTES, lines_of};
+use super::{FOUR_BYTES, SIX_BYTES, THREE_BYTES, check_refused, lines_of, passes};
 use orc_rle::RunFault;
 use orc_stripe::{StreamKind, StripeFault};
-use orc_test_support::with_memory;
 use std::alloc::Global;
 use std::process::Abort;
 
@@ -162,20 +161,19 @@ static CASES: [Case; 15] = [
 
 fn check_cases(rt: &impl Abort, alloc: Global) -> Result<(), StripeFault> {
     for (text, data, footer, rows, (column, kind, cause)) in &CASES {
-        match lines_of(alloc, text, data, footer, *rows) {
-            Err(StripeFault::OutOfMemory) => return Err(StripeFault::OutOfMemory),
-            answer => assert_eq!(rt;
-                answer.err(),
-                Some(StripeFault::Run(*column, *kind, *cause)),
-                "{text} {data:?}"
-            ),
-        }
+        let wanted = StripeFault::Run(*column, *kind, *cause);
+        check_refused(
+            rt,
+            lines_of(alloc, text, data, footer, *rows),
+            wanted,
+            text,
+            data,
+        )?;
     }
     Ok(())
 }
 
 #[test]
 fn faults_of_runs(rt: HostRuntime) {
-    let answer = with_memory(|| check_cases(&rt, rt.alloc()));
-    assert!(rt; answer == Ok(()));
+    passes(&rt, with_memory!(check_cases(&rt, rt.alloc())));
 }

@@ -1,7 +1,7 @@
 //! Schemas as wide and as deep as they may be.
-use super::lines_of;
+use super::{check_lines, check_refused, demand, lines_of, passes};
+use orc_rle::RunFault;
 use orc_stripe::{StreamKind, StripeFault};
-use orc_test_support::with_memory;
 use std::alloc::Global;
 use std::process::Abort;
 
@@ -51,49 +51,60 @@ pub(super) fn footer_of(
     Ok(footer)
 }
 
-/// A struct of 4,096 columns without rows is read; where the last column has a stream, it is found.
-fn check_wide(rt: &impl Abort, alloc: Global) -> Result<(), StripeFault> {
-    let text = wide_schema(alloc)?;
+/// A struct of 4,096 columns without rows is read.
+fn check_no_rows(rt: &impl Abort, alloc: Global, text: &str) -> Result<(), StripeFault> {
     let footer = footer_of(alloc, MOST_COLUMNS, &[])?;
-    let lines = lines_of(alloc, text.as_str(), &[], &footer, 0)?;
-    assert!(rt; lines.len() == 0);
+    let answer = lines_of(alloc, text, &[], &footer, 0);
+    check_lines(rt, answer, &[], "no rows", &[])
+}
+
+/// Where the last column has a stream, it is found.
+fn check_last(rt: &impl Abort, alloc: Global, text: &str) -> Result<(), StripeFault> {
     // DATA of column 4,095 with three bytes
     let last = [0x0a, 0x07, 0x08, 0x01, 0x10, 0xff, 0x1f, 0x18, 0x03];
     let footer = footer_of(alloc, MOST_COLUMNS, &last)?;
-    match lines_of(alloc, text.as_str(), &[0x00, 0x00, 0x0e], &footer, 0) {
-        Err(StripeFault::OutOfMemory) => return Err(StripeFault::OutOfMemory),
-        answer => assert_eq!(rt;
-            answer.err(),
-            Some(StripeFault::Run(4095, StreamKind::Data, orc_rle::RunFault::TooMany(0)))
-        ),
-    }
-    Ok(())
+    let answer = lines_of(alloc, text, &[0x00, 0x00, 0x0e], &footer, 0);
+    let wanted = StripeFault::Run(4095, StreamKind::Data, RunFault::TooMany(0));
+    check_refused(rt, answer, wanted, "the last column", &last)
 }
 
-/// Three rows of the number 7 within 31 structs.
-fn check_deep(rt: &impl Abort, alloc: Global) -> Result<(), StripeFault> {
+fn check_wide(rt: &impl Abort, alloc: Global) -> Result<(), StripeFault> {
+    let text = wide_schema(alloc)?;
+    check_no_rows(rt, alloc, text.as_str())?;
+    check_last(rt, alloc, text.as_str())
+}
+
+/// The lines of three rows of the number 7 within 31 structs.
+fn deep_lines(alloc: Global) -> Result<Vec<String>, StripeFault> {
     let text = deep_schema(alloc)?;
     // DATA of column 31 with three bytes
     let last = [0x0a, 0x06, 0x08, 0x01, 0x10, 0x1f, 0x18, 0x03];
     let footer = footer_of(alloc, MOST_LEVELS, &last)?;
-    let lines = lines_of(alloc, text.as_str(), &[0x00, 0x00, 0x0e], &footer, 3)?;
-    assert!(rt; lines.len() == 3);
-    for line in &lines {
-        // 31 times `{"a":`, the number, and 31 times `}`
-        assert!(rt; line.len() == 31 * 5 + 1 + 31);
-        assert!(rt; line.as_str().contains(":7}"));
+    lines_of(alloc, text.as_str(), &[0x00, 0x00, 0x0e], &footer, 3)
+}
+
+/// Whether each line is 31 times `{"a":`, the number, and 31 times `}`.
+fn are_deep(lines: &[String]) -> bool {
+    for line in lines {
+        if line.len() != 31 * 5 + 1 + 31 || !line.as_str().contains(":7}") {
+            return false;
+        }
     }
+    true
+}
+
+fn check_deep(rt: &impl Abort, alloc: Global) -> Result<(), StripeFault> {
+    let lines = deep_lines(alloc)?;
+    demand(rt, lines.len() == 3 && are_deep(&lines), "deep lines", &[]);
     Ok(())
 }
 
 #[test]
 fn wide(rt: HostRuntime) {
-    let answer = with_memory(|| check_wide(&rt, rt.alloc()));
-    assert!(rt; answer == Ok(()));
+    passes(&rt, with_memory!(check_wide(&rt, rt.alloc())));
 }
 
 #[test]
 fn deep(rt: HostRuntime) {
-    let answer = with_memory(|| check_deep(&rt, rt.alloc()));
-    assert!(rt; answer == Ok(()));
+    passes(&rt, with_memory!(check_deep(&rt, rt.alloc())));
 }

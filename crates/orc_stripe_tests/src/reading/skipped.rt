@@ -1,7 +1,7 @@
 //! Streams that rows aren't read from: they are stepped over.
+use super::{check_lines, passes};
 use orc_stripe::StripeFault;
-use orc_test_support::{lines_at_once, with_memory};
-use orc_types::Schema;
+use orc_test_lines::{lines_at_once, schema_of};
 use orc_wire::StripeInfo;
 use std::alloc::Global;
 use std::process::Abort;
@@ -17,10 +17,9 @@ const FOOTER: [u8; 40] = [
 /// Three bytes of index, three times the number 7, and two bytes behind them.
 const STREAMS: [u8; 8] = [0xaa, 0xbb, 0xcc, 0x00, 0x00, 0x0e, 0xdd, 0xee];
 
-fn check_skipped(rt: &impl Abort, alloc: Global) -> Result<(), StripeFault> {
-    let Ok(schema) = Schema::parse(alloc, "struct<n:bigint>") else {
-        return Err(StripeFault::OutOfMemory);
-    };
+/// The lines of the rows of the stripe.
+fn lines_read(alloc: Global) -> Result<Vec<String>, StripeFault> {
+    let schema = schema_of(alloc, "struct<n:bigint>")?;
     let mut bytes = Vec::new(alloc);
     bytes.extend_from_slice(&STREAMS)?;
     bytes.extend_from_slice(&FOOTER)?;
@@ -31,16 +30,15 @@ fn check_skipped(rt: &impl Abort, alloc: Global) -> Result<(), StripeFault> {
         footer_length: 40,
         number_of_rows: 3,
     };
-    let lines = lines_at_once(alloc, &schema, info, &bytes)?;
-    assert!(rt; lines.len() == 3);
-    for line in &lines {
-        assert!(rt; line.as_str() == r#"{"n":7}"#);
-    }
-    Ok(())
+    lines_at_once(alloc, &schema, info, &bytes)
+}
+
+fn check_skipped(rt: &impl Abort, alloc: Global) -> Result<(), StripeFault> {
+    let sevens = [r#"{"n":7}"#, r#"{"n":7}"#, r#"{"n":7}"#];
+    check_lines(rt, lines_read(alloc), &sevens, "stepped over", &STREAMS)
 }
 
 #[test]
 fn streams_stepped_over(rt: HostRuntime) {
-    let answer = with_memory(|| check_skipped(&rt, rt.alloc()));
-    assert!(rt; answer == Ok(()));
+    passes(&rt, with_memory!(check_skipped(&rt, rt.alloc())));
 }

@@ -117,25 +117,19 @@ fn is_day(alloc: Global, day: i32, text: &str) -> Result<bool, JsonFault> {
     )
 }
 
+/// Whether the day has this text.
+fn has_text(alloc: Global, day: i32, text: &str) -> Result<bool, AllocError> {
+    Ok(date_text(alloc, day)?.as_str() == text)
+}
+
 #[test]
 fn days(rt: HostRuntime) {
     let alloc = rt.alloc();
     for &(day, text) in &DAYS {
-        let mut held = is_day(alloc, day, text);
-        if held.is_err() {
-            held = is_day(alloc, day, text);
-        }
-        assert!(rt; matches!(held, Ok(true)), "day {day}");
+        demand(&rt, with_memory!(is_day(alloc, day, text)), &day);
     }
     for &(day, text) in DAYS.iter().chain(&OTHER_DAYS) {
-        let mut found = date_text(alloc, day);
-        if found.is_err() {
-            found = date_text(alloc, day);
-        }
-        assert!(rt;
-            matches!(&found, Ok(found) if found.as_str() == text),
-            "day {day}"
-        );
+        demand(&rt, with_memory!(has_text(alloc, day, text)), &day);
     }
 }
 
@@ -166,11 +160,11 @@ fn is_printed_again(alloc: Global, kind: &str, json: &str, again: &str) -> Resul
 fn leaves(rt: HostRuntime) {
     let alloc = rt.alloc();
     for &(kind, json, again) in &SPELLED {
-        let mut held = is_printed_again(alloc, kind, json, again);
-        if held.is_err() {
-            held = is_printed_again(alloc, kind, json, again);
-        }
-        assert!(rt; matches!(held, Ok(true)), "{json} under {kind}");
+        demand(
+            &rt,
+            with_memory!(is_printed_again(alloc, kind, json, again)),
+            &(json, kind),
+        );
     }
 }
 
@@ -178,11 +172,11 @@ fn leaves(rt: HostRuntime) {
 fn no_leaves(rt: HostRuntime) {
     let alloc = rt.alloc();
     for &(kind, json, fault) in &UNSPELLED {
-        let mut held = leaf_comes_to(alloc, kind, json, Err(fault));
-        if held.is_err() {
-            held = leaf_comes_to(alloc, kind, json, Err(fault));
-        }
-        assert!(rt; matches!(held, Ok(true)), "{json} under {kind}");
+        demand(
+            &rt,
+            with_memory!(leaf_comes_to(alloc, kind, json, Err(fault))),
+            &(json, kind),
+        );
     }
 }
 
@@ -205,10 +199,6 @@ fn json_fault_texts(rt: HostRuntime) {
         (JsonFault::OutOfMemory, "json 8 OutOfMemory"),
     ];
     for (fault, text) in table {
-        let mut held = is_shown_as(alloc, fault, text);
-        if held.is_err() {
-            held = is_shown_as(alloc, fault, text);
-        }
-        assert!(rt; matches!(held, Ok(true)), "{text}");
+        demand(&rt, with_memory!(is_shown_as(alloc, fault, text)), &text);
     }
 }

@@ -268,11 +268,11 @@ pub(crate) fn comes_to(
 /// Each comes to what is wanted.
 fn check_cases(rt: &impl Abort, alloc: Global, cases: &[Case]) {
     for &(schema, json, wanted) in cases {
-        let mut held = comes_to(alloc, schema, json, wanted);
-        if held.is_err() {
-            held = comes_to(alloc, schema, json, wanted);
-        }
-        assert!(rt; matches!(held, Ok(true)), "{json} under {schema}");
+        demand(
+            rt,
+            with_memory!(comes_to(alloc, schema, json, wanted)),
+            &(json, schema),
+        );
     }
 }
 
@@ -324,10 +324,7 @@ fn printing_holds(alloc: Global) -> Result<bool, JsonFault> {
 #[test]
 fn rows_printed(rt: HostRuntime) {
     let alloc = rt.alloc();
-    let mut held = printing_holds(alloc);
-    if held.is_err() {
-        held = printing_holds(alloc);
-    }
+    let held = with_memory!(printing_holds(alloc));
     assert!(rt; matches!(held, Ok(true)));
 }
 
@@ -368,9 +365,6 @@ fn many_fields_hold(alloc: Global) -> Result<bool, JsonFault> {
 #[test]
 fn many_fields(rt: HostRuntime) {
     let alloc = rt.alloc();
-    let mut held = many_fields_hold(alloc);
-    if held.is_err() {
-        held = many_fields_hold(alloc);
-    }
+    let held = with_memory!(many_fields_hold(alloc));
     assert!(rt; matches!(held, Ok(true)));
 }

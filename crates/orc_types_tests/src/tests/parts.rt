@@ -43,11 +43,7 @@ fn parts_come_to(alloc: Global, tokens: &[Token], count: usize) -> Result<bool, 
 fn parts_of_rows(rt: HostRuntime) {
     let alloc = rt.alloc();
     for (i, &(tokens, count)) in PARTS.iter().enumerate() {
-        let mut held = parts_come_to(alloc, tokens, count);
-        if held.is_err() {
-            held = parts_come_to(alloc, tokens, count);
-        }
-        assert!(rt; matches!(held, Ok(true)), "row {i}");
+        demand(&rt, with_memory!(parts_come_to(alloc, tokens, count)), &i);
     }
 }
 
@@ -90,10 +86,6 @@ fn pairs_come_to(alloc: Global, tokens: &[Token], count: usize) -> Result<bool, 
 fn pairs_of_rows(rt: HostRuntime) {
     let alloc = rt.alloc();
     for (i, &(tokens, count)) in PAIRS.iter().enumerate() {
-        let mut held = pairs_come_to(alloc, tokens, count);
-        if held.is_err() {
-            held = pairs_come_to(alloc, tokens, count);
-        }
-        assert!(rt; matches!(held, Ok(true)), "row {i}");
+        demand(&rt, with_memory!(pairs_come_to(alloc, tokens, count)), &i);
     }
 }

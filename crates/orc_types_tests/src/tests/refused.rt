@@ -126,6 +126,19 @@ static REFUSED: [(&'static [Listed], TypeFault); 29] = [
     ),
 ];
 
+/// A type without names that keeps nothing.
+fn type_over(alloc: Global, kind: u32, subtypes: &[u32]) -> Result<TypeMsg, AllocError>
+    ensures { IfOk result (λ t. t.kept ≡ []) }
+{
+    let subtypes = subtypes.to_vec(alloc)?;
+    Ok(TypeMsg {
+        kind,
+        subtypes: Items::from_vec(subtypes),
+        field_names: Items::from_vec(Vec::new(alloc)),
+        kept: Items::from_vec(Vec::new(alloc)),
+    })
+}
+
 /// A struct of lists within lists, the last of which points past the end.
 fn open_lists(alloc: Global, lists: u32) -> Result<Vec<TypeMsg>, AllocError>
     ensures { IfOk result (λ types. AllKept types.items) }
@@ -133,9 +146,7 @@ fn open_lists(alloc: Global, lists: u32) -> Result<Vec<TypeMsg>, AllocError>
     let mut types = Vec::new(alloc);
     types.push(type_msg(alloc, &(12, &[1], &[b"a"]))?)?;
     for i in 0..lists {
-        let mut list = type_msg(alloc, &(10, &[], &[]))?;
-        list.subtypes = Items::from_vec([i % 4096 + 2].to_vec(alloc)?);
-        types.push(list)?;
+        types.push(type_over(alloc, 10, &[i % 4096 + 2])?)?;
     }
     Ok(types)
 }
@@ -149,18 +160,26 @@ fn nested_lists(alloc: Global, lists: u32) -> Result<Vec<TypeMsg>, AllocError>
     Ok(types)
 }
 
+/// A type of maps within maps' values: a map at an even place, and its key, a number, at the odd one behind it.
+fn nested_map(alloc: Global, place: u32) -> Result<TypeMsg, AllocError>
+    ensures { IfOk result (λ t. t.kept ≡ []) }
+{
+    let place = place % 4096;
+    if place % 2 == 0 {
+        type_over(alloc, 11, &[place + 2, place + 3])
+    } else {
+        type_over(alloc, 3, &[])
+    }
+}
+
 /// A struct of maps within maps' values, of that many levels and two, whose keys are numbers.
 fn nested_maps(alloc: Global, maps: u32) -> Result<Vec<TypeMsg>, AllocError>
     ensures { IfOk result (λ types. AllKept types.items) }
 {
     let mut types = Vec::new(alloc);
     types.push(type_msg(alloc, &(12, &[1], &[b"m"]))?)?;
-    for i in 0..maps {
-        let mut map = type_msg(alloc, &(11, &[], &[]))?;
-        let key = i % 2048 * 2 + 2;
-        map.subtypes = Items::from_vec([key, key + 1].to_vec(alloc)?);
-        types.push(map)?;
-        types.push(type_msg(alloc, &(3, &[], &[]))?)?;
+    for place in 0..maps.saturating_mul(2) {
+        types.push(nested_map(alloc, place)?)?;
     }
     types.push(type_msg(alloc, &(0, &[], &[]))?)?;
     Ok(types)
@@ -224,11 +243,7 @@ fn is_refused(alloc: Global, table: &[Listed], fault: TypeFault) -> Result<bool,
 fn refusals(rt: HostRuntime) {
     let alloc = rt.alloc();
     for &(types, fault) in &REFUSED {
-        let mut held = is_refused(alloc, types, fault);
-        if held.is_err() {
-            held = is_refused(alloc, types, fault);
-        }
-        assert!(rt; matches!(held, Ok(true)), "{fault}");
+        demand(&rt, with_memory!(is_refused(alloc, types, fault)), &fault);
     }
 }
 
@@ -285,10 +300,7 @@ fn limits_hold(alloc: Global) -> Result<bool, TypeFault> {
 #[test]
 fn limits(rt: HostRuntime) {
     let alloc = rt.alloc();
-    let mut held = limits_hold(alloc);
-    if held.is_err() {
-        held = limits_hold(alloc);
-    }
+    let held = with_memory!(limits_hold(alloc));
     assert!(rt; matches!(held, Ok(true)));
 }
 
@@ -310,10 +322,6 @@ fn fault_texts(rt: HostRuntime) {
         (TypeFault::OutOfMemory, "type 7 OutOfMemory"),
     ];
     for (fault, text) in table {
-        let mut held = is_shown_as(alloc, fault, text);
-        if held.is_err() {
-            held = is_shown_as(alloc, fault, text);
-        }
-        assert!(rt; matches!(held, Ok(true)), "{text}");
+        demand(&rt, with_memory!(is_shown_as(alloc, fault, text)), &text);
     }
 }

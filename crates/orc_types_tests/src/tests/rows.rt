@@ -496,21 +496,19 @@ fn take_last(rows: &mut Vec<Row<'static>>, count: usize) -> Result<Vec<Row<'stat
     }
 }
 
-/// Each two of the rows as a key and its value.
-fn pair_up(alloc: Global, rows: Vec<Row<'static>>) -> Result<Vec<MapPair<'static>>, AllocError> {
-    let mut pairs = Vec::new(alloc);
-    let mut key = None;
-    for (i, row) in rows.into_iter().enumerate() {
-        if i % 2 == 0 {
-            key = row;
-        } else {
-            pairs.push(MapPair {
-                key: key.take(),
-                value: row,
-            })?;
-        }
+/// Takes off the last row, or null where there is none.
+fn take_one(rows: &mut Vec<Row<'static>>) -> Row<'static> {
+    match rows.pop() {
+        Some(row) => row,
+        None => None,
     }
-    Ok(pairs)
+}
+
+/// Takes off the last two rows as a key and its value.
+fn take_pair(rows: &mut Vec<Row<'static>>) -> MapPair<'static> {
+    let value = take_one(rows);
+    let key = take_one(rows);
+    MapPair { key, value }
 }
 
 /// The map of so many pairs of the last rows.
@@ -519,20 +517,33 @@ fn take_map(
     rows: &mut Vec<Row<'static>>,
     count: usize,
 ) -> Result<Row<'static>, AllocError> {
-    let last = take_last(rows, count % 1024 * 2)?;
-    Ok(Some(Value::Map(pair_up(alloc, last)?)))
+    let mut pairs = Vec::new(alloc);
+    for _ in 0..count {
+        pairs.push(take_pair(rows))?;
+    }
+    pairs.reverse();
+    Ok(Some(Value::Map(pairs)))
+}
+
+/// The row of a token, which is made of the last rows or of none.
+fn take_row(
+    alloc: Global,
+    rows: &mut Vec<Row<'static>>,
+    token: Token,
+) -> Result<Row<'static>, AllocError> {
+    match token {
+        List(count) => Ok(Some(Value::List(take_last(rows, count)?))),
+        Struct(count) => Ok(Some(Value::Struct(take_last(rows, count)?))),
+        Map(count) => take_map(alloc, rows, count),
+        plain => Ok(value_of(plain)),
+    }
 }
 
 /// The rows that stand in postfix.
 pub(crate) fn rows_of(alloc: Global, tokens: &[Token]) -> Result<Vec<Row<'static>>, AllocError> {
     let mut rows = Vec::new(alloc);
-    for token in tokens {
-        let row = match *token {
-            List(count) => Some(Value::List(take_last(&mut rows, count)?)),
-            Struct(count) => Some(Value::Struct(take_last(&mut rows, count)?)),
-            Map(count) => take_map(alloc, &mut rows, count)?,
-            plain => value_of(plain),
-        };
+    for &token in tokens {
+        let row = take_row(alloc, &mut rows, token)?;
         rows.push(row)?;
     }
     Ok(rows)
@@ -583,11 +594,7 @@ fn fields_fit(alloc: Global, token: Token, fields: &[usize]) -> Result<bool, Typ
 fn ranges(rt: HostRuntime) {
     let alloc = rt.alloc();
     for (i, &(token, fields)) in FITTING.iter().enumerate() {
-        let mut held = fields_fit(alloc, token, fields);
-        if held.is_err() {
-            held = fields_fit(alloc, token, fields);
-        }
-        assert!(rt; matches!(held, Ok(true)), "row {i}");
+        demand(&rt, with_memory!(fields_fit(alloc, token, fields)), &i);
     }
 }
 
@@ -606,11 +613,11 @@ fn is_shaped(
 fn shapes(rt: HostRuntime) {
     let alloc = rt.alloc();
     for (i, &(types, tokens, fitting)) in SHAPES.iter().enumerate() {
-        let mut held = is_shaped(alloc, types, tokens, fitting);
-        if held.is_err() {
-            held = is_shaped(alloc, types, tokens, fitting);
-        }
-        assert!(rt; matches!(held, Ok(true)), "row {i}");
+        demand(
+            &rt,
+            with_memory!(is_shaped(alloc, types, tokens, fitting)),
+            &i,
+        );
     }
 }
 
@@ -627,6 +634,19 @@ fn are_rows(cells: &[Lent<'_, 'static>], rows: &[Row<'static>]) -> bool {
     true
 }
 
+/// The cells of the column, lent.
+fn cells_at<'r>(
+    alloc: Global,
+    schema: &Schema,
+    column: usize,
+    rows: &'r [Row<'static>],
+) -> Result<Vec<Lent<'r, 'static>>, TypeFault>
+    requires { column < width schema.now }
+{
+    let found = cells(alloc, schema, column, rows)?;
+    lend(alloc, found)
+}
+
 /// Whether the wanted rows are the cells of the column.
 fn has_cells(
     alloc: Global,
@@ -637,7 +657,7 @@ fn has_cells(
 ) -> Result<bool, TypeFault>
     requires { column < width schema.now }
 {
-    let found = lend(alloc, cells(alloc, schema, column, rows)?)?;
+    let found = cells_at(alloc, schema, column, rows)?;
     Ok(are_rows(&found, wanted))
 }
 
@@ -660,11 +680,7 @@ fn cells_come_to(
 fn cells_of_columns(rt: HostRuntime) {
     let alloc = rt.alloc();
     for (i, case) in CELLS.iter().enumerate() {
-        let mut held = cells_come_to(alloc, case);
-        if held.is_err() {
-            held = cells_come_to(alloc, case);
-        }
-        assert!(rt; matches!(held, Ok(true)), "row {i}");
+        demand(&rt, with_memory!(cells_come_to(alloc, case)), &i);
     }
 }
 
@@ -706,11 +722,7 @@ fn has_kind(
 fn types_of_columns(rt: HostRuntime) {
     let alloc = rt.alloc();
     for (i, &(types, column, kind)) in COLUMNS.iter().enumerate() {
-        let mut held = has_kind(alloc, types, column, kind);
-        if held.is_err() {
-            held = has_kind(alloc, types, column, kind);
-        }
-        assert!(rt; matches!(held, Ok(true)), "row {i}");
+        demand(&rt, with_memory!(has_kind(alloc, types, column, kind)), &i);
     }
 }
 
@@ -742,9 +754,6 @@ fn copies_hold(alloc: Global) -> Result<bool, AllocError> {
 #[test]
 fn copies(rt: HostRuntime) {
     let alloc = rt.alloc();
-    let mut held = copies_hold(alloc);
-    if held.is_err() {
-        held = copies_hold(alloc);
-    }
+    let held = with_memory!(copies_hold(alloc));
     assert!(rt; matches!(held, Ok(true)));
 }

@@ -162,11 +162,7 @@ fn is_text_of(alloc: Global, text: &str, types: &[Listed]) -> Result<bool, TypeF
 fn texts(rt: HostRuntime) {
     let alloc = rt.alloc();
     for &(text, types) in &TEXTS {
-        let mut held = is_text_of(alloc, text, types);
-        if held.is_err() {
-            held = is_text_of(alloc, text, types);
-        }
-        assert!(rt; matches!(held, Ok(true)), "{text}");
+        demand(&rt, with_memory!(is_text_of(alloc, text, types)), &text);
     }
 }
 
@@ -195,10 +191,7 @@ fn texts_hold(alloc: Global) -> Result<bool, TypeFault> {
 #[test]
 fn texts_of_types(rt: HostRuntime) {
     let alloc = rt.alloc();
-    let mut held = texts_hold(alloc);
-    if held.is_err() {
-        held = texts_hold(alloc);
-    }
+    let held = with_memory!(texts_hold(alloc));
     assert!(rt; matches!(held, Ok(true)));
 }
 
@@ -215,11 +208,7 @@ fn is_no_schema(alloc: Global, text: &str, fault: TypeFault) -> Result<bool, Typ
 fn no_texts(rt: HostRuntime) {
     let alloc = rt.alloc();
     for &(text, fault) in &NO_TEXTS {
-        let mut held = is_no_schema(alloc, text, fault);
-        if held.is_err() {
-            held = is_no_schema(alloc, text, fault);
-        }
-        assert!(rt; matches!(held, Ok(true)), "{text}: {fault}");
+        demand(&rt, with_memory!(is_no_schema(alloc, text, fault)), &text);
     }
 }
 
@@ -274,9 +263,6 @@ fn limits_hold(alloc: Global) -> Result<bool, TypeFault> {
 #[test]
 fn text_limits(rt: HostRuntime) {
     let alloc = rt.alloc();
-    let mut held = limits_hold(alloc);
-    if held.is_err() {
-        held = limits_hold(alloc);
-    }
+    let held = with_memory!(limits_hold(alloc));
     assert!(rt; matches!(held, Ok(true)));
 }

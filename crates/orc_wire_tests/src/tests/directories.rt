@@ -91,47 +91,81 @@ static NO_FOOTERS: [(&'static [u8], WireFault); 1] = [(
     WireFault::Short(4),
 )];
 
+/// The text is a postscript with these lengths of the footer and of the metadata, and is written so again.
+fn check_script(
+    rt: &impl Abort,
+    alloc: Global,
+    text: &[u8],
+    lengths: (u64, u64),
+) -> Result<(), WireFault> {
+    let (script, out) = both_ways::<PostScript>(alloc, text)?;
+    check_list(rt, "a postscript again", &out, text);
+    let found = (script.footer_length, script.metadata_length);
+    check_same(rt, "lengths", &found, &lengths);
+    check_same(rt, "compression", &script.compression, &0);
+    check_same(rt, "writer version", &script.writer_version, &Some(6));
+    check_list(rt, "version", script.version.as_slice(), &[0, 11]);
+    check_list(rt, "magic", script.magic.as_slice(), b"ORC");
+    Ok(())
+}
+
 #[test]
 fn postscripts(rt: HostRuntime) -> Result<(), Fail> {
-    let footers = [(36, 0), (56, 22), (68, 44)];
-    for (text, (footer, metadata)) in SCRIPTS.iter().zip(footers) {
-        let (script, out) = both_ways::<PostScript>(rt.alloc(), text)?;
-        assert_eq!(rt; out.as_slice(), text.as_slice());
-        let lengths = (script.footer_length, script.metadata_length);
-        assert_eq!(rt; lengths, (footer, metadata));
-        assert_eq!(rt; (script.compression, script.writer_version), (0, Some(6)));
-        assert_eq!(rt; script.version.as_slice(), [0, 11].as_slice());
-        assert_eq!(rt; script.magic.as_slice(), b"ORC".as_slice());
+    let lengths = [(36, 0), (56, 22), (68, 44)];
+    for (text, lengths) in SCRIPTS.iter().zip(lengths) {
+        check_script(&rt, rt.alloc(), text, lengths)?;
     }
     Ok(())
 }
 
 #[test]
 fn directories(rt: HostRuntime) -> Result<(), Fail> {
-    let (footer, out) = both_ways::<StripeFooter>(rt.alloc(), &DIRECTORY)?;
-    assert_eq!(rt; out.as_slice(), DIRECTORY.as_slice());
+    check_directory(&rt, rt.alloc())?;
+    check_refused::<StripeFooter>(&rt, rt.alloc(), &NO_DIRECTORIES);
+    Ok(())
+}
+
+fn check_directory(rt: &impl Abort, alloc: Global) -> Result<(), WireFault> {
+    let (footer, out) = both_ways::<StripeFooter>(alloc, &DIRECTORY)?;
+    check_list(rt, "a directory again", &out, &DIRECTORY);
+    check_stream(rt, footer.streams.as_slice());
+    check_same(rt, "columns", &footer.columns.as_slice().len(), &2);
+    Ok(())
+}
+
+/// The one stream of the directory.
+fn check_stream(rt: &impl Abort, streams: &[StreamMsg]) {
     let stream = StreamMsg {
         kind: 1,
         column: 1,
         length: 3,
     };
-    assert_eq!(rt; footer.streams.as_slice(), [stream].as_slice());
-    assert_eq!(rt; footer.columns.as_slice().len(), 2);
-    check_refused::<StripeFooter>(&rt, rt.alloc(), &NO_DIRECTORIES);
-    Ok(())
+    check_list(rt, "streams", streams, &[stream]);
 }
 
 #[test]
 fn packed_lists(rt: HostRuntime) -> Result<(), Fail> {
-    let plain = read_message::<PostScript>(rt.alloc(), &[0x20, 0x00, 0x20, 0x0b])?;
-    assert_eq!(rt; plain.version.as_slice(), [0, 11].as_slice());
-    // plain, packed and in three parts, before and behind other fields
-    let version = [
-        0x20, 0x00, 0x22, 0x02, 0x0b, 0x05, 0x08, 0x01, 0x22, 0x00, 0x20, 0x07,
-    ];
-    let script = read_message::<PostScript>(rt.alloc(), &version)?;
-    assert_eq!(rt; script.version.as_slice(), [0, 11, 5, 7].as_slice());
-    assert_eq!(rt; (script.footer_length, script.writer_version), (1, None));
+    check_plain(&rt, rt.alloc())?;
+    check_packed(&rt, rt.alloc())?;
+    Ok(())
+}
+
+fn check_plain(rt: &impl Abort, alloc: Global) -> Result<(), WireFault> {
+    let plain = read_message::<PostScript>(alloc, &[0x20, 0x00, 0x20, 0x0b])?;
+    check_list(rt, "version", plain.version.as_slice(), &[0, 11]);
+    Ok(())
+}
+
+/// Plain, packed and in three parts, before and behind other fields.
+static VERSION: [u8; 12] = [
+    0x20, 0x00, 0x22, 0x02, 0x0b, 0x05, 0x08, 0x01, 0x22, 0x00, 0x20, 0x07,
+];
+
+fn check_packed(rt: &impl Abort, alloc: Global) -> Result<(), WireFault> {
+    let script = read_message::<PostScript>(alloc, &VERSION)?;
+    check_list(rt, "version", script.version.as_slice(), &[0, 11, 5, 7]);
+    check_same(rt, "footer length", &script.footer_length, &1);
+    check_same(rt, "writer version", &script.writer_version, &None);
     Ok(())
 }
 
@@ -148,41 +182,72 @@ fn types(rt: HostRuntime) -> Result<(), Fail> {
     for text in TYPES {
         check_written::<TypeMsg>(&rt, rt.alloc(), text, text);
     }
-    // kept fields between known ones
-    let kept = [
-        0x22, 0x01, 0x61, 0x08, 0x0c, 0x12, 0x01, 0x01, 0x2d, 1, 2, 3, 4, 0x1a, 0x01, b'n', 0x28,
-        0x80, 0x00,
-    ];
-    let message = read_message::<TypeMsg>(rt.alloc(), &kept)?;
-    assert_eq!(rt; message.kind, 12);
-    assert_eq!(rt; message.subtypes.as_slice(), [1].as_slice());
-    assert_eq!(rt; message.field_names.as_slice().len(), 1);
-    for name in message.field_names.as_slice() {
-        assert_eq!(rt; name.as_slice(), b"n".as_slice());
-    }
-    let fields = [0x22, 0x01, 0x61, 0x2d, 1, 2, 3, 4, 0x28, 0x80, 0x00];
-    assert_eq!(rt; message.kept.as_slice(), fields.as_slice());
-    let back = Items::from_vec(message.kept.into_vec());
-    assert_eq!(rt; back.as_slice(), fields.as_slice());
+    check_kept(&rt, rt.alloc())?;
     Ok(())
+}
+
+/// A struct with kept fields between known ones.
+static KEPT: [u8; 19] = [
+    0x22, 0x01, 0x61, 0x08, 0x0c, 0x12, 0x01, 0x01, 0x2d, 1, 2, 3, 4, 0x1a, 0x01, b'n', 0x28, 0x80,
+    0x00,
+];
+
+/// The kept fields alone.
+static FIELDS: [u8; 11] = [0x22, 0x01, 0x61, 0x2d, 1, 2, 3, 4, 0x28, 0x80, 0x00];
+
+fn check_kept(rt: &impl Abort, alloc: Global) -> Result<(), WireFault> {
+    let message = read_message::<TypeMsg>(alloc, &KEPT)?;
+    check_same(rt, "kind", &message.kind, &12);
+    check_list(rt, "subtypes", message.subtypes.as_slice(), &[1]);
+    check_names(rt, message.field_names.as_slice());
+    check_list(rt, "kept", message.kept.as_slice(), &FIELDS);
+    let back = Items::from_vec(message.kept.into_vec());
+    check_list(rt, "kept, as a vector and back", back.as_slice(), &FIELDS);
+    Ok(())
+}
+
+/// One name, which is n.
+fn check_names(rt: &impl Abort, names: &[Bytes]) {
+    check_same(rt, "names", &names.len(), &1);
+    for name in names {
+        check_list(rt, "a name", name.as_slice(), b"n");
+    }
 }
 
 #[test]
 fn footers(rt: HostRuntime) -> Result<(), Fail> {
     for (text, seen) in FOOTERS {
-        let (footer, out) = both_ways::<Footer>(rt.alloc(), text)?;
-        let is = (footer.content_length, footer.number_of_rows, footer.writer);
-        assert_eq!(rt; is, seen, "of {text:?}");
-        assert_eq!(rt; out.as_slice(), text);
+        check_footer(&rt, rt.alloc(), text, seen)?;
     }
-    // unknown fields between known ones, and a known number with another wire type
-    let mixed = &[
-        0x58, 0x01, 0x08, 0x03, 0x0a, 0x00, 0x62, 0x01, 0xff, 0x10, 0x05, 0xc0, 0xb8, 0x02, 0x05,
-    ];
-    let footer = read_message::<Footer>(rt.alloc(), mixed)?;
-    assert_eq!(rt; (footer.header_length, footer.writer), (3, None));
-    let kept = &[0x58, 0x01, 0x62, 0x01, 0xff, 0xc0, 0xb8, 0x02, 0x05];
-    assert_eq!(rt; footer.kept.as_slice(), kept.as_slice());
+    check_mixed(&rt, rt.alloc())?;
     check_refused::<Footer>(&rt, rt.alloc(), &NO_FOOTERS);
+    Ok(())
+}
+
+/// The text is a footer with this content's length, these rows and this writer, and is written so again.
+fn check_footer(
+    rt: &impl Abort,
+    alloc: Global,
+    text: &[u8],
+    seen: (u64, u64, Option<u32>),
+) -> Result<(), WireFault> {
+    let (footer, out) = both_ways::<Footer>(alloc, text)?;
+    let is = (footer.content_length, footer.number_of_rows, footer.writer);
+    check_same(rt, "content length, rows and writer", &is, &seen);
+    check_list(rt, "a footer again", &out, text);
+    Ok(())
+}
+
+/// A footer with unknown fields between known ones, and a known number with another wire type.
+static MIXED: [u8; 15] = [
+    0x58, 0x01, 0x08, 0x03, 0x0a, 0x00, 0x62, 0x01, 0xff, 0x10, 0x05, 0xc0, 0xb8, 0x02, 0x05,
+];
+
+fn check_mixed(rt: &impl Abort, alloc: Global) -> Result<(), WireFault> {
+    let footer = read_message::<Footer>(alloc, &MIXED)?;
+    check_same(rt, "header length", &footer.header_length, &3);
+    check_same(rt, "writer", &footer.writer, &None);
+    let kept = &[0x58, 0x01, 0x62, 0x01, 0xff, 0xc0, 0xb8, 0x02, 0x05];
+    check_list(rt, "kept", footer.kept.as_slice(), kept);
     Ok(())
 }

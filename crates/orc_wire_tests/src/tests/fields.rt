@@ -40,37 +40,57 @@ fn put_field(writer: &mut FieldWriter<'_>, number: u32, value: Value<'_>) -> Res
     }
 }
 
+/// Puts each of the fields, and none with a number that no field has.
+fn put_fields(rt: &impl Abort, writer: &mut FieldWriter<'_>) {
+    for (number, value, _) in FIELDS {
+        let put = put_field(writer, number, value);
+        check_same(rt, "a field", &(number, put), &(number, Ok(())));
+    }
+    for number in NO_NUMBERS {
+        let put = put_field(writer, number, Value::Varint(1));
+        let refused = Err(WireFault::BadWireType(28));
+        check_same(rt, "no field", &(number, put), &(number, refused));
+    }
+}
+
 #[test]
 fn fields_written(rt: HostRuntime) {
     let mut out = Vec::new(rt.alloc());
-    let mut writer = FieldWriter::new(&mut out);
-    for (number, value, _) in FIELDS {
-        assert_eq!(rt; put_field(&mut writer, number, value), Ok(()));
+    put_fields(&rt, &mut FieldWriter::new(&mut out));
+    check_list(&rt, "fields", &out, &TEXT);
+}
+
+/// A field with this number, value and place was read.
+fn check_field(
+    rt: &impl Abort,
+    read: Result<Field<'_>, WireFault>,
+    wanted: (u32, Value<'_>, usize),
+) {
+    match read {
+        Ok(field) => {
+            let found = (field.number, field.value, field.place);
+            check_same(rt, "a field", &found, &wanted);
+        }
+        Err(fault) => assert!(rt; false, "{fault}"),
     }
-    for number in NO_NUMBERS {
-        let put = put_field(&mut writer, number, Value::Varint(1));
-        assert_eq!(rt; put, Err(WireFault::BadWireType(28)), "of {number}");
+}
+
+/// The fault of the last of the bytes' fields.
+fn last_fault(text: &[u8]) -> Option<WireFault> {
+    let mut last = None;
+    for read in Fields::new(text) {
+        last = read.err();
     }
-    assert_eq!(rt; out.as_slice(), TEXT.as_slice());
+    last
 }
 
 #[test]
 fn fields_read(rt: HostRuntime) {
     assert_eq!(rt; Fields::new(&TEXT).count(), 4);
-    for (read, (number, value, place)) in Fields::new(&TEXT).zip(FIELDS) {
-        match read {
-            Ok(field) => {
-                assert_eq!(rt; (field.number, field.place), (number, place));
-                assert_eq!(rt; field.value, value);
-            }
-            Err(fault) => assert!(rt; false, "{fault}"),
-        }
+    for (read, wanted) in Fields::new(&TEXT).zip(FIELDS) {
+        check_field(&rt, read, wanted);
     }
     for (text, answer) in FAULTS {
-        let mut last = None;
-        for read in Fields::new(text) {
-            last = read.err();
-        }
-        assert_eq!(rt; last, Some(answer), "of {text:?}");
+        check_fault(&rt, text, last_fault(text), answer);
     }
 }

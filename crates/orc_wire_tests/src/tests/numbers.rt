@@ -64,36 +64,46 @@ static WRITTEN: [(u32, &'static [u8]); 4] = [
     (3, &[0x08, 0x03, 0x10, 0x05]),
 ];
 
+/// The kind and the dictionary's size of an encoding's text, which takes no memory.
+fn encoding_of(alloc: Global, text: &[u8]) -> Result<(u32, u32), WireFault> {
+    let found = Encoding::read(alloc, text)?;
+    Ok((found.kind, found.dictionary_size))
+}
+
+/// The kind, column and length of a stream's text, which takes no memory.
+fn stream_of(alloc: Global, text: &[u8]) -> Result<(u32, u32, u64), WireFault> {
+    let found = StreamMsg::read(alloc, text)?;
+    Ok((found.kind, found.column, found.length))
+}
+
 /// Reading a message of numbers alone takes no memory.
 #[test]
 fn numbers_alone(rt: HostRuntime) {
     for (text, answer) in ENCODINGS {
-        let read = Encoding::read(rt.alloc(), text);
-        assert_eq!(rt;
-            read.map(|found| (found.kind, found.dictionary_size)),
-            answer,
-            "of {text:?}"
-        );
+        let found = encoding_of(rt.alloc(), text);
+        check_same(&rt, "an encoding", &(text, found), &(text, answer));
     }
     for (text, answer) in STREAMS {
-        let read = StreamMsg::read(rt.alloc(), text);
-        assert_eq!(rt;
-            read.map(|found| (found.kind, found.column, found.length)),
-            answer,
-            "of {text:?}"
-        );
+        let found = stream_of(rt.alloc(), text);
+        check_same(&rt, "a stream", &(text, found), &(text, answer));
     }
 }
 
 #[test]
 fn encodings_written(rt: HostRuntime) -> Result<(), Fail> {
     for (kind, text) in WRITTEN {
-        let encoding = Encoding {
-            kind,
-            dictionary_size: 5,
-        };
-        let out = text_of(rt.alloc(), &encoding)?;
-        assert_eq!(rt; out.as_slice(), text);
+        check_encoding(&rt, rt.alloc(), kind, text)?;
     }
+    Ok(())
+}
+
+/// An encoding of this kind with a dictionary of five is written so.
+fn check_encoding(rt: &impl Abort, alloc: Global, kind: u32, text: &[u8]) -> Result<(), WireFault> {
+    let encoding = Encoding {
+        kind,
+        dictionary_size: 5,
+    };
+    let out = text_of(alloc, &encoding)?;
+    check_list(rt, "an encoding", &out, text);
     Ok(())
 }

@@ -105,11 +105,27 @@ fn stripes(rt: HostRuntime) -> Result<(), Fail> {
     // of a file without stripes, of one and of two
     let twice = [*metadata, *metadata];
     let all = twice.as_flattened();
-    for (text, stripes) in [(&all[..0], 0), (&all[..22], 1), (all, 2)] {
-        let (message, out) = both_ways::<Metadata>(rt.alloc(), text)?;
-        assert_eq!(rt; message.stripe_stats.as_slice().len(), stripes);
-        assert_eq!(rt; out.as_slice(), text);
-    }
+    check_metadata(&rt, rt.alloc(), &all[..0], 0)?;
+    check_metadata(&rt, rt.alloc(), &all[..22], 1)?;
+    check_metadata(&rt, rt.alloc(), all, 2)?;
+    Ok(())
+}
+
+/// The text is of statistics of so many stripes, and is written so again.
+fn check_metadata(
+    rt: &impl Abort,
+    alloc: Global,
+    text: &[u8],
+    stripes: usize,
+) -> Result<(), WireFault> {
+    let (message, out) = both_ways::<Metadata>(alloc, text)?;
+    check_same(
+        rt,
+        "stripes",
+        &message.stripe_stats.as_slice().len(),
+        &stripes,
+    );
+    check_list(rt, "metadata again", &out, text);
     Ok(())
 }
 
@@ -121,18 +137,32 @@ static INDEX: [u8; 27] = [
 
 #[test]
 fn indexes(rt: HostRuntime) -> Result<(), Fail> {
-    let alloc = rt.alloc();
+    check_index(&rt, rt.alloc())?;
+    check_unpacked(&rt, rt.alloc())?;
+    Ok(())
+}
+
+fn check_index(rt: &impl Abort, alloc: Global) -> Result<(), WireFault> {
     let (index, out) = both_ways::<RowIndexMsg>(alloc, &INDEX)?;
-    assert_eq!(rt; out.as_slice(), INDEX.as_slice());
+    check_list(rt, "an index again", &out, &INDEX);
+    check_entries(rt, index.entries.as_slice());
+    Ok(())
+}
+
+/// The positions of the index's two entries.
+fn check_entries(rt: &impl Abort, entries: &[RowIndexEntry]) {
     let positions: [&[u64]; 2] = [&[0, 0], &[5, 300]];
-    assert_eq!(rt; index.entries.as_slice().len(), 2);
-    for (entry, answer) in index.entries.as_slice().iter().zip(positions) {
-        assert_eq!(rt; entry.positions.as_slice(), answer);
+    check_same(rt, "entries", &entries.len(), &2);
+    for (entry, answer) in entries.iter().zip(positions) {
+        check_list(rt, "positions", entry.positions.as_slice(), answer);
     }
-    // positions unpacked, packed and unpacked again
+}
+
+/// Positions unpacked, packed and unpacked again.
+fn check_unpacked(rt: &impl Abort, alloc: Global) -> Result<(), WireFault> {
     let unpacked = [0x08, 0x00, 0x0a, 0x02, 0xac, 0x02, 0x08, 0x05];
     let entry = read_message::<RowIndexEntry>(alloc, &unpacked)?;
-    assert_eq!(rt; entry.positions.as_slice(), [0, 300, 5].as_slice());
+    check_list(rt, "positions", entry.positions.as_slice(), &[0, 300, 5]);
     Ok(())
 }
 
@@ -142,16 +172,22 @@ fn columns(rt: HostRuntime) -> Result<(), Fail> {
     for (text, canonical) in COLUMNS {
         check_written::<ColumnStats>(&rt, alloc, text, canonical);
     }
-    // and a field that isn't known, whose bytes are no message
+    check_only_sum(&rt, alloc)?;
+    check_refused::<ColumnStats>(&rt, alloc, &NO_COLUMNS);
+    Ok(())
+}
+
+/// A sum alone, and a field that isn't known, whose bytes are no message.
+fn check_only_sum(rt: &impl Abort, alloc: Global) -> Result<(), WireFault> {
     let only_sum = [0x12, 0x02, 0x18, 0x01, 0x6a, 0x03, 0x08, 0x01, 0x80];
     let stats = read_message::<ColumnStats>(alloc, &only_sum)?;
-    assert_eq!(rt; (stats.number_of_values, stats.has_null), (0, None));
+    check_same(rt, "values", &stats.number_of_values, &0);
+    check_same(rt, "nulls", &stats.has_null, &None);
     let integers = IntegerStatistics {
         minimum: None,
         maximum: None,
         sum: Some(-1),
     };
-    assert_eq!(rt; stats.int_statistics, Some(integers));
-    check_refused::<ColumnStats>(&rt, alloc, &NO_COLUMNS);
+    check_same(rt, "integers", &stats.int_statistics, &Some(integers));
     Ok(())
 }

@@ -1,0 +1,25 @@
+//! Assertions. Each that shows its values takes seconds to prove where it stands, so these few have those of all tests.
+//! Of each a word says which one it is.
+
+use std::fmt;
+use std::process::Abort;
+
+/// What was found is what is wanted.
+pub(crate) fn check_same<T: PartialEq + fmt::Debug>(
+    rt: &impl Abort,
+    what: &str,
+    found: &T,
+    wanted: &T,
+) {
+    assert_eq!(rt; *found, *wanted, "{what}");
+}
+
+/// The bytes are those that are wanted.
+pub(crate) fn check_bytes(rt: &impl Abort, what: &str, found: &[u8], wanted: &[u8]) {
+    assert_eq!(rt; found, wanted, "{what}");
+}
+
+/// It holds.
+pub(crate) fn demand(rt: &impl Abort, holds: bool, what: &str, number: usize) {
+    assert!(rt; holds, "{what} {number}");
+}

@@ -1,0 +1,295 @@
+//! Devices: what is read of sources and written to sinks, and what is refused where they fail.
+
+use crate::assertions::{check_list, check_same, demand};
+use orc_devices::{
+    FileSource, RangeFault, Sink, SliceSource, Source, StdSink, VecSink, read_range, write_all,
+};
+use orc_test_devices::{FailSink, FailSource, Full, Narrow};
+use std::alloc::{AllocError, Global};
+use std::path::PathBuf;
+use std::process::Abort;
+use std::test::Fail;
+use std::{env, fs, io, process};
+
+/// Some bytes, no two of them alike.
+const BYTES: [u8; 11] = [0x4f, 0x52, 0x43, 0, 1, 2, 0x80, 0xfe, 0xff, 7, 3];
+
+/// A place, a length, and the bytes there.
+const RANGES: [(u64, u64, &[u8]); 8] = [
+    (0, 3, &[0x4f, 0x52, 0x43]),
+    (10, 1, &[3]),
+    (0, 1, &[0x4f]),
+    (5, 3, &[2, 0x80, 0xfe]),
+    (6, 5, &[0x80, 0xfe, 0xff, 7, 3]),
+    (11, 0, &[]),
+    (0, 0, &[]),
+    (0, 11, &BYTES),
+];
+
+/// `read_range`, where the range lies within the source.
+fn range_once<S: Source>(
+    alloc: Global,
+    source: &mut S,
+    at: u64,
+    len: u64,
+) -> Result<Vec<u8>, RangeFault> {
+    if source.len() < len || source.len() - len < at {
+        return Err(RangeFault::SourceFailed);
+    }
+    read_range(alloc, source, at, len)
+}
+
+/// The same once there is memory: what wanted some is asked again.
+fn range<S: Source>(
+    alloc: Global,
+    source: &mut S,
+    at: u64,
+    len: u64,
+) -> Result<Vec<u8>, RangeFault> {
+    match range_once(alloc, source, at, len) {
+        Err(RangeFault::OutOfMemory) => range_once(alloc, source, at, len),
+        answer => answer,
+    }
+}
+
+/// Whether that range is read, and has these bytes.
+fn has_range<S: Source>(alloc: Global, source: &mut S, at: u64, len: u64, wanted: &[u8]) -> bool {
+    match range(alloc, source, at, len) {
+        Ok(read) => read.as_slice() == wanted,
+        Err(_) => false,
+    }
+}
+
+/// Every range of the table is read from a source of `BYTES`.
+fn reads_ranges<A: Abort, S: Source>(rt: &A, alloc: Global, source: &mut S) {
+    check_same(rt, &source.len(), &11, "bytes", &[]);
+    for (at, len, wanted) in RANGES {
+        let is_wanted = has_range(alloc, source, at, len, wanted);
+        demand(rt, is_wanted, "so many bytes, and their place", &[len, at]);
+        // a source that rested is read on as any other
+        if at == 10 {
+            source.rest();
+        }
+    }
+}
+
+#[test]
+fn slices_are_read(rt: HostRuntime) {
+    let mut source = SliceSource::new(&BYTES);
+    reads_ranges(&rt, rt.alloc(), &mut source);
+    reads_ranges(&rt, rt.alloc(), &mut &mut source);
+}
+
+/// Of three reads the k-th alone fails.
+fn check_reads(rt: &impl Abort, alloc: Global, source: &mut FailSource<'_>, kth: u64) {
+    for read in 1..4u64 {
+        let fault = range(alloc, source, read, 2).err();
+        let wanted = if read == kth {
+            Some(RangeFault::SourceFailed)
+        } else {
+            None
+        };
+        check_same(rt, &fault, &wanted, "read, failure", &[read, kth]);
+    }
+}
+
+#[test]
+fn one_read_fails(rt: HostRuntime) {
+    for kth in 1..4u64 {
+        check_reads(&rt, rt.alloc(), &mut FailSource::new(&BYTES, kth), kth);
+    }
+}
+
+/// `write_all`, of whose contract its callers need nothing.
+fn sent<W: Sink>(sink: &mut W, bytes: &[u8]) -> Result<(), usize> {
+    write_all(sink, bytes)
+}
+
+/// `write_all` to a vector once there is memory: what is left is written by a second call.
+fn gather<W: Sink>(sink: &mut W, bytes: &[u8]) -> Result<(), usize> {
+    match sent(sink, bytes) {
+        Err(taken) if taken < bytes.len() => sent(sink, &bytes[taken..]),
+        answer => answer,
+    }
+}
+
+#[test]
+fn bytes_are_gathered(rt: HostRuntime) {
+    let mut sink = VecSink::new(rt.alloc());
+    for piece in [&BYTES[..3], &[], &BYTES[3..4], &BYTES[4..]] {
+        let answer = gather(&mut sink, piece);
+        check_same(&rt, &answer, &Ok(()), "a piece of", &[piece.len() as u64]);
+    }
+    check_list(&rt, &sink.into_vec(), &BYTES, "pieces", &[]);
+    let mut sink = VecSink::new(rt.alloc());
+    let answer = gather(&mut &mut sink, &BYTES);
+    check_same(&rt, &answer, &Ok(()), "all at once", &[]);
+    check_list(&rt, &sink.into_vec(), &BYTES, "all at once", &[]);
+}
+
+/// Bytes that a sink takes a call.
+static A_CALL: [usize; 4] = [1, 2, 7, 100];
+
+/// What `write_all` of `BYTES` answers where so many are taken in all.
+fn answer_at(room: usize) -> Result<(), usize> {
+    if room < BYTES.len() {
+        Err(room)
+    } else {
+        Ok(())
+    }
+}
+
+/// A sink once there is memory for it.
+fn full_sink(
+    alloc: Global,
+    a_call: usize,
+    room: usize,
+    full: Full,
+) -> Result<FailSink, AllocError> {
+    match FailSink::new(alloc, a_call, room, full) {
+        Err(AllocError) => FailSink::new(alloc, a_call, room, full),
+        made => made,
+    }
+}
+
+/// What was answered, and the bytes that were taken, where there is room for so many.
+fn check_taken(
+    rt: &impl Abort,
+    answer: Result<(), usize>,
+    taken: &[u8],
+    a_call: usize,
+    room: usize,
+) {
+    let numbers = [a_call as u64, room as u64];
+    check_same(rt, &answer, &answer_at(room), "a call, room for", &numbers);
+    check_list(
+        rt,
+        taken,
+        &BYTES[..room.min(11)],
+        "a call, room for",
+        &numbers,
+    );
+}
+
+fn check_sink(
+    rt: &impl Abort,
+    alloc: Global,
+    a_call: usize,
+    room: usize,
+    full: Full,
+) -> Result<(), AllocError> {
+    let mut sink = full_sink(alloc, a_call, room, full)?;
+    let answer = sent(&mut sink, &BYTES);
+    check_taken(rt, answer, sink.bytes(), a_call, room);
+    Ok(())
+}
+
+#[test]
+fn sinks_fill_up(rt: HostRuntime) -> Result<(), AllocError> {
+    for a_call in A_CALL {
+        for room in 0..13usize {
+            for full in [Full::Fails, Full::TakesNothing] {
+                check_sink(&rt, rt.alloc(), a_call, room, full)?;
+            }
+        }
+    }
+    Ok(())
+}
+
+fn check_writer(
+    rt: &impl Abort,
+    alloc: Global,
+    a_call: usize,
+    room: usize,
+    full: Full,
+) -> Result<(), AllocError> {
+    let mut out = Narrow(full_sink(alloc, a_call, room, full)?);
+    let answer = sent(&mut StdSink::new(&mut out), &BYTES);
+    check_taken(rt, answer, out.0.bytes(), a_call, room);
+    Ok(())
+}
+
+#[test]
+fn writers_fill_up(rt: HostRuntime) -> Result<(), AllocError> {
+    for a_call in A_CALL {
+        for room in 0..13usize {
+            for full in [Full::Fails, Full::TakesNothing] {
+                check_writer(&rt, rt.alloc(), a_call, room, full)?;
+            }
+        }
+    }
+    Ok(())
+}
+
+/// The path of a file of this process alone.
+fn path_of(rt: &HostRuntime, name: &str) -> io::Result<PathBuf> {
+    let mut path = env::temp_dir(rt)?;
+    let name = format!(in rt.alloc(); "orc_devices-{}-{name}", process::id(rt.process()))?;
+    path.push(name.as_str())?;
+    Ok(path)
+}
+
+/// The same once there is memory for it.
+fn made_path(rt: &HostRuntime, name: &str) -> io::Result<PathBuf> {
+    match path_of(rt, name) {
+        Err(_) => path_of(rt, name),
+        path => path,
+    }
+}
+
+#[test]
+fn files_are_read(rt: HostRuntime) -> Result<(), Fail> {
+    let path = made_path(&rt, "read")?;
+    fs::write(&rt, path.as_path(), &BYTES)?;
+    let mut source = FileSource::open(&rt, path.as_str())
+        .ok()
+        .ok_or("not opened")?;
+    reads_ranges(&rt, rt.alloc(), &mut source);
+    source.rest();
+    reads_ranges(&rt, rt.alloc(), &mut &mut source);
+    fs::remove_file(&rt, path.as_path())?;
+    Ok(())
+}
+
+/// Whether three bytes are read from the front.
+fn is_read<S: Source>(alloc: Global, source: &mut S) -> bool {
+    has_range(alloc, source, 0, 3, b"ORC")
+}
+
+/// `BYTES` and one more.
+const LONGER: [u8; 12] = [0x4f, 0x52, 0x43, 0, 1, 2, 0x80, 0xfe, 0xff, 7, 3, 0];
+
+/// How many bytes a file of eleven has then, and whether it is read.
+const LENGTHS: [(usize, bool); 5] = [(11, true), (12, true), (10, false), (3, false), (11, true)];
+
+/// Whether a source that had eleven bytes is read from the front where its file has so many now.
+fn check_len<S: Source>(rt: &impl Abort, alloc: Global, source: &mut S, len: u64, wanted: bool) {
+    let is_read = is_read(alloc, source);
+    check_same(rt, &is_read, &wanted, "of so many bytes", &[len]);
+    check_same(rt, &source.len(), &11, "of so many bytes", &[len]);
+}
+
+/// What the last read kept open is still there, and after a rest the path is asked again.
+fn check_removed<S: Source>(rt: &impl Abort, alloc: Global, source: &mut S) {
+    demand(rt, is_read(alloc, source), "kept open", &[]);
+    source.rest();
+    demand(rt, !is_read(alloc, source), "of no file", &[]);
+}
+
+#[test]
+fn files_that_change_are_read_or_refused(rt: HostRuntime) -> Result<(), Fail> {
+    let path = made_path(&rt, "changed")?;
+    fs::write(&rt, path.as_path(), &BYTES)?;
+    let mut source = FileSource::open(&rt, path.as_str())
+        .ok()
+        .ok_or("not opened")?;
+    for (len, wanted) in LENGTHS {
+        fs::write(&rt, path.as_path(), &LONGER[..len.min(12)])?;
+        check_len(&rt, rt.alloc(), &mut source, len as u64, wanted);
+    }
+    fs::remove_file(&rt, path.as_path())?;
+    check_removed(&rt, rt.alloc(), &mut source);
+    let opened = FileSource::open(&rt, path.as_str()).is_ok();
+    demand(&rt, !opened, "no file", &[]);
+    Ok(())
+}

@@ -1,0 +1,56 @@
+//! The calls that stripes are read by. None has a contract here: what the called ones promise is long, and would be a
+//! part of the proof of each test that makes them, of which the proof says nothing but that it is safe.
+use orc_stripe::{RowCursor, StripeFault, StripeView};
+use orc_types::{Row, Schema};
+use orc_wire::StripeInfo;
+use std::alloc::Global;
+
+/// The schema of a text that has one.
+pub fn schema_of(alloc: Global, text: &str) -> Result<Schema, StripeFault> {
+    match Schema::parse(alloc, text) {
+        Ok(schema) => Ok(schema),
+        Err(_) => Err(StripeFault::OutOfMemory),
+    }
+}
+
+/// The view of a stripe's bytes, as of a file without a stride.
+fn view_of<'a>(
+    alloc: Global,
+    schema: &'a Schema,
+    info: StripeInfo,
+    bytes: &'a [u8],
+) -> Result<StripeView<'a>, StripeFault> {
+    StripeView::open(alloc, schema, info, 0, bytes)
+}
+
+/// The rows of a stripe's bytes, all at once.
+pub fn rows_of<'a>(
+    alloc: Global,
+    schema: &'a Schema,
+    info: StripeInfo,
+    bytes: &'a [u8],
+) -> Result<Vec<Row<'a>>, StripeFault> {
+    let view = view_of(alloc, schema, info, bytes)?;
+    view.rows(alloc)
+}
+
+/// A cursor at the first row of a stripe's bytes.
+pub fn cursor_of<'a>(
+    alloc: Global,
+    schema: &'a Schema,
+    info: StripeInfo,
+    bytes: &'a [u8],
+) -> Result<RowCursor<'a>, StripeFault> {
+    let view = view_of(alloc, schema, info, bytes)?;
+    view.cursor(alloc)
+}
+
+/// The next row of a cursor; at the end `None`.
+pub fn next_row<'a>(cursor: &mut RowCursor<'a>) -> Result<Option<Row<'a>>, StripeFault> {
+    cursor.next()
+}
+
+/// All rows that a cursor has still to give.
+pub fn rest_of<'a>(cursor: RowCursor<'a>) -> Result<Vec<Row<'a>>, StripeFault> {
+    cursor.rest()
+}

@@ -1,0 +1,125 @@
+//! The lines that a stripe's rows print as, all at once or one by one.
+use crate::calls::{cursor_of, next_row, rows_of};
+use orc_stripe::{RowCursor, StripeFault};
+use orc_types::{Row, Schema, fits, row_to_json};
+use orc_wire::StripeInfo;
+use std::alloc::Global;
+
+/// What a check answers, which is asked again where memory was refused once.
+pub fn with_memory<F: Fn() -> Result<(), StripeFault>>(check: F) -> Result<(), StripeFault>
+    requires { F.IsAlwaysCallable check }
+{
+    match check() {
+        Err(StripeFault::OutOfMemory) => check(),
+        answer => answer,
+    }
+}
+
+/// The line that a row prints as.
+pub fn line_of(alloc: Global, schema: &Schema, row: &Row<'_>) -> Result<String, StripeFault> {
+    if !fits(schema, row) {
+        return Err(StripeFault::BadDirectory);
+    }
+    match row_to_json(alloc, schema, row) {
+        Ok(json) => Ok(json.to_string(alloc)?),
+        Err(_) => Err(StripeFault::OutOfMemory),
+    }
+}
+
+/// The lines that the rows of a stripe's bytes print as.
+pub fn lines_at_once(
+    alloc: Global,
+    schema: &Schema,
+    info: StripeInfo,
+    bytes: &[u8],
+) -> Result<Vec<String>, StripeFault> {
+    let rows = rows_of(alloc, schema, info, bytes)?;
+    let mut lines = Vec::new(alloc);
+    put_lines(alloc, schema, &rows, &mut lines)?;
+    Ok(lines)
+}
+
+/// Appends the line of each row.
+fn put_lines(
+    alloc: Global,
+    schema: &Schema,
+    rows: &[Row<'_>],
+    lines: &mut Vec<String>,
+) -> Result<(), StripeFault> {
+    for row in rows {
+        lines.push(line_of(alloc, schema, row)?)?;
+    }
+    Ok(())
+}
+
+/// What no stripe is refused for: the answer where a cursor does what none should.
+const WRONG: StripeFault = StripeFault::OutOfRange(usize::MAX);
+
+/// The same lines by a cursor. At the end it is asked once more; where it refuses, twice more. Where it answers
+/// otherwise than it should then, the answer is a fault that no stripe has.
+pub fn lines_one_by_one(
+    alloc: Global,
+    schema: &Schema,
+    info: StripeInfo,
+    bytes: &[u8],
+) -> Result<Vec<String>, StripeFault> {
+    let mut cursor = cursor_of(alloc, schema, info, bytes)?;
+    let mut lines = Vec::new(alloc);
+    put_each(alloc, schema, &mut cursor, info.number_of_rows, &mut lines)?;
+    Ok(lines)
+}
+
+/// Appends the line of each of so many rows, behind which there are no others.
+fn put_each(
+    alloc: Global,
+    schema: &Schema,
+    cursor: &mut RowCursor<'_>,
+    count: u64,
+    lines: &mut Vec<String>,
+) -> Result<(), StripeFault> {
+    for _ in 0..count {
+        put_next(alloc, schema, cursor, lines)?;
+    }
+    see_end(cursor)?;
+    see_end(cursor)
+}
+
+/// Appends the line of the next row.
+fn put_next(
+    alloc: Global,
+    schema: &Schema,
+    cursor: &mut RowCursor<'_>,
+    lines: &mut Vec<String>,
+) -> Result<(), StripeFault> {
+    match next_row(cursor) {
+        Ok(Some(row)) => {
+            lines.push(line_of(alloc, schema, &row)?)?;
+            Ok(())
+        }
+        Ok(None) => Err(WRONG),
+        Err(fault) => Err(refused(cursor, fault)),
+    }
+}
+
+/// The cursor says that there are no more rows.
+fn see_end(cursor: &mut RowCursor<'_>) -> Result<(), StripeFault> {
+    match next_row(cursor) {
+        Ok(None) => Ok(()),
+        Ok(Some(_)) => Err(WRONG),
+        Err(fault) => Err(refused(cursor, fault)),
+    }
+}
+
+/// The fault of a cursor that was refused, and is so from then on.
+fn refused(cursor: &mut RowCursor<'_>, fault: StripeFault) -> StripeFault {
+    if has_failed(cursor) && has_failed(cursor) {
+        fault
+    } else {
+        WRONG
+    }
+}
+
+/// Whether the cursor says that it was refused before.
+fn has_failed(cursor: &mut RowCursor<'_>) -> bool {
+    matches!(next_row(cursor), Err(StripeFault::Failed))
+}
