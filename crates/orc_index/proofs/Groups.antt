@@ -6,6 +6,8 @@ use Rattle.std.proofs.Math.Seq.{take-add}
 use Rattle.std.proofs.lemmas.Grind.{get_or_default_zero}
 use Rattle.std.proofs.lemmas.List.{length-map, take_all, take-append-drop, drop-take, take-map}
 use Rattle.orc_seek.specs.BitPosition.{IsBitPlace}
+use Rattle.orc_seek.specs.Marks.{start_of_stream}
+use Rattle.orc_seek.specs.declared.mark.Mark.{Mark}
 use Rattle.orc_wire.specs.declared.row_index.RowIndexEntry.{RowIndexEntry}
 use Rattle.orc_types.specs.Cells.{Cell, null, leaf, list, struct, pairs, parts, pairs_in, keys_in, values_in, values}
 use Rattle.orc_types.specs.Fits.{fits, RowsFit}
@@ -233,11 +235,11 @@ written_in s x placed before ps are h =
     (subst (λ (y : Option (List ℕ)). PlacesIn is_place IsBitPlace (present_runs (x.stream 0)) y (runs placed.own) before ps) are.content_is
     (subst (λ (y : RunStream). PlacesIn is_place IsBitPlace y (lent_bytes placed.content) (runs placed.own) before ps) are.present_is h))
 
-at_start : (c : RunStream) (n offset before : ℕ) → BeginsBefore c 0 0 n → offset ≡ 0 → before ≡ 0 → BeginsBefore c offset before n
-at_start c n offset before h p q = subst (λ (i : ℕ). BeginsBefore c i before n) (sym p) (subst (λ (i : ℕ). BeginsBefore c 0 i n) (sym q) h)
+at_start : (c : RunStream) (mark : Mark) (n : ℕ) → mark ≡ start_of_stream → BeginsBefore c start_of_stream n → BeginsBefore c mark n
+at_start c mark n e h = subst (λ (m : Mark). BeginsBefore c m n) (sym e) h
 
 pub stands_none : (s : Shape) (streams : ColumnStreams) (cells : List Cell) (bounds : List ℕ) (placed : PlacedStreams) (k : Counts) (w : Walk) → Spelled s streams cells → Placed s streams placed
-    → (k.cells ≡ 0) × (k.values ≡ 0) × (k.octets ≡ 0) → (w.present.offset ≡ 0) × (w.present.before ≡ 0) → (w.own.offset ≡ 0) × (w.own.before ≡ 0)
+    → (k.cells ≡ 0) × (k.values ≡ 0) × (k.octets ≡ 0) → w.present ≡ start_of_stream → w.own ≡ start_of_stream
     → Stands s streams cells bounds placed 0 0 [] k w
 stands_none s streams cells bounds placed k w h p zeros wp wo =
     let there = front_there s streams cells placed 0 h p in
@@ -246,8 +248,8 @@ stands_none s streams cells bounds placed k w h p zeros wp wo =
       are = λ x h. record { counted = refl; each = λ g e at. absurd cc };
       counted = record { cells_are = zeros.0; values_are = zeros.1; octets_are = omega (arith, zeros.2) };
       walked = record {
-        in_present = at_start (runs placed.present) 0 w.present.offset w.present.before (starts_before (runs placed.present) 0 0 there.in_present) wp.0 wp.1;
-        in_own = at_start (runs placed.own) 0 w.own.offset w.own.before (starts_before (runs placed.own) 0 0 there.in_own) wo.0 wo.1;
+        in_present = at_start (runs placed.present) w.present 0 wp (starts_before (runs placed.present) 0 0 there.in_present);
+        in_own = at_start (runs placed.own) w.own 0 wo (starts_before (runs placed.own) 0 0 there.in_own);
       };
     }
 
@@ -263,8 +265,8 @@ walked_to present own walk cells at start le h =
     let e = cells_between cells at start le in
     let more = take (start - at) (drop at cells) in
     record {
-      in_present = later_before present walk.present.offset walk.present.before (length (take at cells)) (length (take start cells)) (omega (arith, ap length e, length-append (take at cells) more)) h.in_present;
-      in_own = later_before own walk.own.offset walk.own.before (length (values (take at cells))) (length (values (take start cells))) (omega (arith, ap (λ cs. length (values cs)) e, values_more (take at cells) more)) h.in_own;
+      in_present = later_before present walk.present (length (take at cells)) (length (take start cells)) (omega (arith, ap length e, length-append (take at cells) more)) h.in_present;
+      in_own = later_before own walk.own (length (values (take at cells))) (length (values (take start cells))) (omega (arith, ap (λ cs. length (values cs)) e, values_more (take at cells) more)) h.in_own;
     }
 
 pub stands_more : (s : Shape) (streams : ColumnStreams) (cells : List Cell) (bounds : List ℕ) (placed : PlacedStreams) (group at start : ℕ) (entries : List RowIndexEntry) (k m : Counts) (w v : Walk)

@@ -3,7 +3,10 @@ use Rattle.std.proofs.Common.{◌≡◌, ℕ, ◌≤◌, List, [], ◌∷◌, sy
 use Rattle.orc_rle.specs.ByteRun.{IsByteRun}
 use Rattle.orc_rle.specs.ByteLaws.{one_byte_run, byte_run_some}
 use Rattle.orc_seek.specs.BitPosition.{BeginsBits, IsBitPlace}
-use Rattle.orc_seek.proofs.PositionLemmas.{one_place, start_mark}
+use Rattle.orc_seek.specs.Marks.{start_of_stream}
+use Rattle.orc_seek.specs.declared.mark.Mark.{Mark}
+use Rattle.orc_seek.proofs.PositionLemmas.{one_place}
+use Rattle.orc_seek.proofs.MarkLemmas.{mark_start}
 use Rattle.orc_seek.proofs.BitPositionLemmas.{bit_place_begins, one_bit_place}
 use Rattle.orc_columns.specs.Numbers.{is_run}
 use Rattle.orc_columns.proofs.NumbersLemmas.{laws_of}
@@ -33,15 +36,15 @@ one_stream_place (number_runs v sign b) n ps qs h k =
     h.2 ∙ (λ i. same.offset i ∷ same.skip i ∷ []) ∙ sym k.2
 
 -- a walk begins at the stream's start
-pub starts_before : (c : RunStream) (n m : ℕ) → HasPlace c n → BeginsBefore c 0 0 m
+pub starts_before : (c : RunStream) (n m : ℕ) → HasPlace c n → BeginsBefore c start_of_stream m
 starts_before no_stream n m h = tt
-starts_before (bit_runs b) n m h = (start_mark IsByteRun b h.0 h.1, omega arith)
-starts_before (byte_runs b) n m h = (start_mark IsByteRun b h.0 h.1, omega arith)
-starts_before (number_runs v sign b) n m h = (start_mark (is_run v sign) b h.0 h.1, omega arith)
+starts_before (bit_runs b) n m h = (mark_start IsByteRun b h.0 h.1, omega arith)
+starts_before (byte_runs b) n m h = (mark_start IsByteRun b h.0 h.1, omega arith)
+starts_before (number_runs v sign b) n m h = (mark_start (is_run v sign) b h.0 h.1, omega arith)
 
 -- what is not behind a value is not behind a later one
-pub later_before : (c : RunStream) (offset before n m : ℕ) → n ≤ m → BeginsBefore c offset before n → BeginsBefore c offset before m
-later_before no_stream o k n m le h = tt
-later_before (bit_runs b) o k n m le h = (h.0, omega (arith, le, h.1))
-later_before (byte_runs b) o k n m le h = (h.0, omega (arith, le, h.1))
-later_before (number_runs v sign b) o k n m le h = (h.0, omega (arith, le, h.1))
+pub later_before : (c : RunStream) (mark : Mark) (n m : ℕ) → n ≤ m → BeginsBefore c mark n → BeginsBefore c mark m
+later_before no_stream mark n m le h = tt
+later_before (bit_runs b) mark n m le h = (h.0, omega (arith, le, h.1))
+later_before (byte_runs b) mark n m le h = (h.0, omega (arith, le, h.1))
+later_before (number_runs v sign b) mark n m le h = (h.0, omega (arith, le, h.1))

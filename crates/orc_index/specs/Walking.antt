@@ -2,7 +2,9 @@
 use Rattle.std.specs.Prelude.{◌≡◌, ℕ, ◌-◌, ◌/◌, ◌^◌, ◌≤◌, min, Option, Some, None, option_map, List, length}
 use Rattle.std.specs.Borrow.{Bor}
 use Rattle.orc_rle.specs.ByteRun.{IsByteRun}
-use Rattle.orc_seek.specs.Position.{Begins, HasValues}
+use Rattle.orc_seek.specs.Position.{HasValues}
+use Rattle.orc_seek.specs.Marks.{IsMark}
+use Rattle.orc_seek.specs.declared.mark.Mark.{Mark}
 use Rattle.orc_types.specs.Cells.{Cell, values}
 use Rattle.orc_types.specs.Shapes.{Shape}
 use Rattle.orc_columns.specs.Numbers.{is_run}
@@ -37,13 +39,12 @@ HasPlace (bit_runs stream) n = HasValues IsByteRun stream (n / 8)
 HasPlace (byte_runs stream) n = HasValues IsByteRun stream n
 HasPlace (number_runs version sign stream) n = HasValues (is_run version sign) stream n
 
--- a run begins at the offset, or the stream ends there; the values before it are no more than n
-abbrev pub BeginsBefore : RunStream → ℕ → ℕ → ℕ → Type 0
-BeginsBefore no_stream offset before n = Unit {0}
-BeginsBefore (bit_runs stream) offset before n = Begins IsByteRun stream offset 0 before × (before ≤ n / 8)
-BeginsBefore (byte_runs stream) offset before n = Begins IsByteRun stream offset 0 before × (before ≤ n)
-BeginsBefore (number_runs version sign stream) offset before n =
-    Begins (is_run version sign) stream offset 0 before × (before ≤ n)
+-- a mark in the stream that isn't behind value n
+abbrev pub BeginsBefore : RunStream → Mark → ℕ → Type 0
+BeginsBefore no_stream mark n = Unit {0}
+BeginsBefore (bit_runs stream) mark n = IsMark IsByteRun stream mark × (mark.before ≤ n / 8)
+BeginsBefore (byte_runs stream) mark n = IsMark IsByteRun stream mark × (mark.before ≤ n)
+BeginsBefore (number_runs version sign stream) mark n = IsMark (is_run version sign) stream mark × (mark.before ≤ n)
 
 -- bytes as they are are n or more
 abbrev pub HasOctets : Option (List ℕ) → ℕ → Type 0
@@ -69,5 +70,5 @@ pub record HavePlaces (present : RunStream) (content : Option (List ℕ)) (own :
 
 -- the walk has come no further than these cells
 pub record WalkedBefore (present own : RunStream) (walk : Walk) (before : List Cell) : Type 0 where
-  pub in_present : BeginsBefore present walk.present.offset walk.present.before (length before)
-  pub in_own : BeginsBefore own walk.own.offset walk.own.before (length (values before))
+  pub in_present : BeginsBefore present walk.present (length before)
+  pub in_own : BeginsBefore own walk.own (length (values before))

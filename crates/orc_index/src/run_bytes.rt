@@ -1,6 +1,7 @@
 //! One stream of a column, and the positions of its values.
 ghost use Rattle.std.specs.Prelude.{◌≡◌, ◌-◌, ◌≤◌, ◌++◌, [], ◌∷◌, IfOk, OnOk};
-ghost use Rattle.orc_seek.specs.Position.{Begins, IsPlace, HasValues};
+ghost use Rattle.orc_seek.specs.Position.{IsPlace, HasValues};
+ghost use Rattle.orc_seek.specs.Marks.{IsMark};
 ghost use Rattle.orc_seek.specs.BitPosition.{IsBitPlace};
 ghost use Rattle.orc_columns.specs.Numbers.{is_run};
 ghost use Rattle.orc_index.specs.Places.{StreamPlace, is_place, Adds, position_size};
@@ -40,10 +41,10 @@ impl RunBytes<'_> {
 /// The mark of number `n`, whatever the version.
 fn number_mark(version: Rle, sign: Sign, bytes: &[u8], from: Mark, n: usize) -> Mark
     requires there { HasValues (is_run version sign) bytes.now n }
-    requires start { Begins (is_run version sign) bytes.now from.offset 0 from.before }
+    requires from { IsMark (is_run version sign) bytes.now from }
     requires ahead { from.before ≤ n }
     ensures place { IsPlace (is_run version sign) bytes.now result.offset (n - result.before) n }
-    ensures start { Begins (is_run version sign) bytes.now result.offset 0 result.before }
+    ensures mark { IsMark (is_run version sign) bytes.now result }
     ensures ahead { result.before ≤ n }
 {
     match version {
@@ -80,10 +81,10 @@ pub(crate) fn put_place(
     out: &mut Vec<u64>,
 ) -> Result<Mark, AllocError>
     requires there { HasPlace (runs stream.now) n }
-    requires from { BeginsBefore (runs stream.now) from.offset from.before n }
+    requires from { BeginsBefore (runs stream.now) from n }
     ensures place { OnOk result
         (Adds (StreamPlace is_place IsBitPlace (runs stream.now) n) out.old.items out.new.items) }
-    ensures from { IfOk result (λ mark. BeginsBefore (runs stream.now) mark.offset mark.before n) }
+    ensures from { IfOk result (λ mark. BeginsBefore (runs stream.now) mark n) }
 {
     match *stream {
         RunBytes::Nothing => Ok(from),

@@ -1,5 +1,6 @@
 //! Where the walk through a column's streams has come.
 ghost use Rattle.std.specs.Prelude.{◌≡◌};
+ghost use Rattle.orc_seek.specs.Marks.{start_of_stream};
 
 use orc_seek::Mark;
 
@@ -13,8 +14,8 @@ pub(crate) struct Walk {
 impl Walk {
     /// At the start of both.
     pub(crate) fn start() -> Walk
-        ensures present { (result.present.offset ≡ 0) × (result.present.before ≡ 0) }
-        ensures own { (result.own.offset ≡ 0) × (result.own.before ≡ 0) }
+        ensures present { result.present ≡ start_of_stream }
+        ensures own { result.own ≡ start_of_stream }
     {
         Walk {
             present: Mark::start(),

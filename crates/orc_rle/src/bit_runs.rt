@@ -5,7 +5,7 @@ ghost use Rattle.orc_rle.specs.declared.fault.RunFault.{RunFault};
 ghost use Rattle.orc_rle.specs.declared.fault.RunFault.TheVariants.{OutOfMemory};
 ghost use Rattle.orc_rle.specs.Values.{AppendsBytes};
 ghost use Rattle.orc_rle.specs.Stream.{StopsWithin, Refuses};
-ghost use Rattle.orc_rle.specs.Seeking.{bytes_needed, SeeksBits, BitSeekFails};
+ghost use Rattle.orc_rle.specs.Seeking.{bytes_needed, SeeksBits, BitSeekFails, CountsRuns};
 ghost use Rattle.orc_rle.specs.ByteRun.{IsByteRun, NoByteRun};
 ghost use Rattle.orc_rle.specs.BitStream.{digit, IsBitStream, IsBitText};
 
@@ -50,8 +50,9 @@ impl BitRuns {
     /// Refusals: `BadPosition` at the offset, where `bits` is above 8, which is tested first, where the offset
     /// lies past the end, or where the runs from there on hold fewer than `skip` bytes, or no more and `bits`
     /// is above 0; the fault of bytes that are no run, met on the way, at their place. After a refusal `run` is
-    /// empty. The count of `run` rises by `skip` at most, and by one more where `bits` is above 0; by one at
-    /// most where the first run has all these bytes. It takes no memory.
+    /// empty. The count of `run` never falls, and rises by `skip` at most, and by one more where `bits` is above
+    /// 0; by one at most where the first run has all these bytes; without a refusal by the number of runs
+    /// from the offset to the answer. It takes no memory.
     pub fn seek(bytes: &[u8], pos: BitPos, run: &mut RunU8) -> Result<usize, RunFault>
         ensures found { IfOk result (λ at. SeeksBits bytes.now pos.offset pos.skip pos.bits at run.new.values) }
         ensures only { (at : ℕ) (left : List ℕ) → SeeksBits bytes.now pos.offset pos.skip pos.bits at left
@@ -65,6 +66,10 @@ impl BitRuns {
         ensures count { run.new.count ≤ run.old.count + bytes_needed pos.skip pos.bits }
         ensures one_run { (front rest v : List ℕ) → IsByteRun front v → drop pos.offset bytes.now ≡ front ++ rest
             → bytes_needed pos.skip pos.bits ≤ length v → run.new.count ≤ run.old.count + 1 }
+        ensures counted { IfOk result
+            (λ at. CountsRuns IsByteRun bytes.now pos.offset at run.old.count run.new.count) }
+        ensures grows { run.old.count ≤ run.new.count }
+        ensures uncounted { 8 < pos.bits → run.new.count ≡ run.old.count }
     {
         if pos.bits > 8 {
             run.clear();

@@ -1,13 +1,14 @@
 -- Positions in streams of runs: what they name, and what comes from there on.
-use Rattle.std.proofs.Common.{◌≡◌, ℕ, suc, zero, ◌+◌, ◌-◌, ◌<◌, ◌≤◌, List, [], ◌∷◌, ◌++◌, length, take, drop, refl, sym, ap, subst, ◌∙◌, arith, inl, inr, append_assoc, length-drop, length-append}
+use Rattle.std.proofs.Common.{◌≡◌, ℕ, suc, zero, min, ◌+◌, ◌-◌, ◌<◌, ◌≤◌, List, [], ◌∷◌, ◌++◌, length, take, drop, refl, sym, ap, subst, ◌∙◌, arith, inl, inr, append_assoc, length-drop, length-append}
 use Rattle.std.proofs.Math.Seq.{drop-append_seam, drop-append-add}
 use Rattle.std.proofs.lemmas.List.{append-nil, take-append-drop, length-take-le, drop-drop, drop-append-le, nil_from_length}
 use Rattle.std.proofs.lemmas.Bool.{cases_lt}
 use Rattle.orc_bits.proofs.PackedLaws.{same_length}
 use Rattle.orc_rle.specs.declared.fault.RunFault.{RunFault}
 use Rattle.orc_rle.specs.Stream.{AreRuns, IsStream}
-use Rattle.orc_rle.specs.Seeking.{Passes, Seeks, SeekFails}
+use Rattle.orc_rle.specs.Seeking.{Passes, Seeks, CountsRuns, SeekFails}
 use Rattle.orc_rle.proofs.RunLemmas.{One, Some, None}
+use Rattle.orc_rle.proofs.SeekLemmas.{counts_some, counts_zero}
 use Rattle.orc_rle.proofs.StreamLemmas.{Going, fronts, runs_push, runs_rest, one_stream, no_first, single, empty_front}
 use Rattle.orc_seek.specs.Position.{Begins, RunsLeft, GoesOn, IsInside, IsPlace, HasValues, IsOneRun}
 
@@ -310,3 +311,35 @@ goes_on_alone R a b offset skip need all same le h = record {
   seeks = seek_alone R a b offset skip need h.at h.left same le h.seeks;
   goes_on = subst (λ (t : List ℕ). RunsLeft R h.left t all) (rest_alone a b offset h.seeks.len h.at same h.seeks.at_is) h.goes_on;
 }
+
+-- a position that begins is found
+pub record Found {A : Type 0} (R : List ℕ → List A → Type 0) (bytes : List ℕ) (offset skip need : ℕ) : Type 0 where
+  pub at : ℕ
+  pub left : List A
+  pub seeks : Seeks R bytes offset skip need at left
+
+pub place_found : {A : Type 0} (R : List ℕ → List A → Type 0) (bytes : List ℕ) (offset skip n : ℕ) → Begins R bytes offset skip n → Found R bytes offset skip skip
+place_found R bytes offset skip n h =
+    let rest = subst (λ (t : List ℕ). IsStream R t h.after) (sym (rest_is R bytes offset skip n h)) h.more in
+    let r = reach_there R rest.0 (drop offset bytes) h.after skip skip rest.1 h.there in
+    record { at = offset + r.len; left = r.left; seeks = record { within = offset_within R bytes offset skip n h; len = r.len; passes = r.passes; at_is = refl } }
+
+-- one run is decoded where any are needed, and else none
+text_some : {A : Type 0} (R : List ℕ → List A → Type 0) → Some R → (text : List ℕ) (v : List A) → R text v → 0 < length text
+text_some R some [] v r = absurd (some v r)
+text_some R some (b ∷ text) v r = omega arith
+
+pub counts_exact : {A : Type 0} (R : List ℕ → List A → Type 0) → Some R → (bytes : List ℕ) (offset skip need at old new : ℕ) (left : List A) → Seeks R bytes offset skip need at left
+    → CountsRuns R bytes offset at old new → new ≤ old + 1 → new ≡ old + min 1 need
+counts_exact {A = A} R some bytes offset skip need at old new left h k le =
+    elim h.passes [
+      | inl none ↦
+          let here : at ≡ offset = omega (arith, h.at_is, none.1) in
+          let zero = counts_zero R some bytes offset old new (subst (λ (to : ℕ). CountsRuns R bytes offset to old new) here k) in
+          omega (arith, zero, none.0)
+      | inr r ↦
+          let pos = text_some R some r.text r.last r.run in
+          let size = ap length r.parts ∙ (length-append r.front (r.text ++ r.rest) ∙ ap (λ (n : ℕ). length r.front + n) (length-append r.text r.rest)) in
+          let one = counts_some R bytes offset at old new k (omega (arith, h.at_is, r.len_is, pos)) (omega (arith, h.at_is, r.len_is, size, length-drop offset bytes, h.within)) in
+          omega (arith, one, le, r.few)
+    ]

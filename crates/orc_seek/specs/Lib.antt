@@ -1,3 +1,4 @@
 pub mod Position
 pub mod BitPosition
 pub mod RunPlaces
+pub mod Marks
