@@ -38,7 +38,7 @@ pub(crate) fn leaf_from_json(
             Err(JsonFault::WrongShape)
         },
         Json::Number(number) => from_number(kind, number),
-        Json::String(text) => from_string(alloc, kind, text.as_str()),
+        Json::String(text) => leaf_from_text(alloc, kind, text.as_str()),
         Json::Array(_) | Json::Object(_) => Err(JsonFault::WrongShape),
     }
 }
@@ -81,8 +81,11 @@ fn from_number(kind: Scalar, number: &Number) -> Result<Row<'static>, JsonFault>
     }
 }
 
-/// The value that a string spells.
-fn from_string(alloc: Global, kind: Scalar, text: &str) -> Result<Row<'static>, JsonFault>
+/// The value that a string of JSON spells under a kind: its text under STRING, the bytes of its pairs of hexadecimal digits
+/// under BINARY, the day of its `YYYY-MM-DD` under DATE.
+///
+/// Refusals: `WrongShape`, `BadDate`, `BadHex`, each where it stands; `OutOfMemory`.
+pub fn leaf_from_text(alloc: Global, kind: Scalar, text: &str) -> Result<Row<'static>, JsonFault>
     ensures found { IfOk result (λ row. spec.ScalarSpells kind (json_string text.now) (view row)) }
     ensures fault { IfErr result (λ fault. spec.LeafFault kind (json_string text.now) fault) }
 {

@@ -27,6 +27,7 @@ pub use day_text::date_text;
 pub use fault::TypeFault;
 pub use fitting::{fits, int_fits};
 pub use json_fault::JsonFault;
+pub use json_leaf::leaf_from_text;
 pub use json_printing::row_to_json;
 pub use json_reading::row_from_json;
 pub use kind::Scalar;

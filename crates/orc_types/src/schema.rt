@@ -111,7 +111,7 @@ impl Schema {
     }
 
     /// Whether no struct names a field twice.
-    pub(crate) fn has_distinct_names(&self) -> bool
+    pub fn has_distinct_names(&self) -> bool
         ensures { result ≡ distinct_names self.now }
     {
         self.distinct

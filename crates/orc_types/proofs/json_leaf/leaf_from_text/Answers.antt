@@ -2,7 +2,7 @@ use Rattle.std.specs.String.{string_bytes}
 use Rattle.std.proofs.lemmas.Str.{is_utf8-from_IsUtf8}
 use Rattle.orc_types.proofs.JsonLeaves.{text_spells}
 use Rattle.orc_types.proofs.Views.{view-Text}
-use Rattle.orc_types.proofs.json_leaf.from_string.Goals as goal
+use Rattle.orc_types.proofs.json_leaf.leaf_from_text.Goals as goal
 
 pub returns-in_ok-from_str-in-String-clause-found : goal.returns-in_ok-from_str-in-String-clause-found
 returns-in_ok-from_str-in-String-clause-found c =
