@@ -1,0 +1,97 @@
+//! Rows from texts of JSON.
+ghost use Rattle.std.specs.Prelude.{◌≡◌, ◌≢◌, true, IfOk, IfErr, MatchResult};
+ghost use Rattle.orc_types.specs.Cells.{Cell};
+ghost use Rattle.orc_types.specs.FieldNames.{is_distinct};
+ghost use Rattle.orc_types.specs.Fits.{fits};
+ghost use Rattle.orc_types.specs.Views.{view};
+ghost use Rattle.orc_types.specs.declared.json_fault.JsonFault.TheVariants as fault;
+ghost use Rattle.orc_json_reader.specs.RowTexts.{TextSpells, RowTextFault};
+
+use crate::reading::row_of;
+use crate::unread::Unread;
+use json::{Reader, Scratch};
+use orc_types::{JsonFault, Row, Schema, row_from_json};
+use serde_json::Value as Json;
+use serde_json::error::Category;
+use std::alloc::Global;
+
+/// How deep arrays and objects nest at most in a text that `serde_json` reads (RFC 8259, "Parsers", lets a parser set a limit).
+const MAX_DEPTH: usize = 127;
+
+/// What reads rows from texts of JSON, one after another and under any schema. It keeps room for the longest text that it has
+/// read, a byte a byte; else each text is read as if it were the first.
+#[derive(Drop)]
+pub struct RowReader {
+    scratch: Scratch,
+}
+
+/// The row that a text spells, by way of its value, or why it spells none.
+fn row_by_value(alloc: Global, schema: &Schema, text: &[u8]) -> Result<Row<'static>, JsonFault>
+    ensures found { IfOk result (λ row. TextSpells schema.now text.now (view row)) }
+    ensures fault { IfErr result (λ why. why ≢ fault.OutOfMemory → RowTextFault schema.now text.now why) }
+{
+    let json = match Json::from_slice(alloc, text) {
+        Ok(json) => json,
+        Err(error) if error.classify() == Category::Memory => return Err(JsonFault::OutOfMemory),
+        Err(_) => return Err(JsonFault::Syntax),
+    };
+    row_from_json(alloc, schema, &json)
+}
+
+impl RowReader {
+    /// A reader that has no room yet.
+    pub fn new(alloc: Global) -> RowReader {
+        RowReader {
+            scratch: Scratch::new(alloc),
+        }
+    }
+
+    /// The row that a text spells, where it can be read straight.
+    fn read_straight(
+        &mut self,
+        alloc: Global,
+        schema: &Schema,
+        text: &[u8],
+    ) -> Result<Row<'static>, Unread>
+        ensures { IfOk result (λ row. TextSpells schema.now text.now (view row)) }
+    {
+        if !schema.has_distinct_names() {
+            return Err(Unread::Declined);
+        }
+        let Ok(text) = simdutf8::compat::from_utf8(text) else {
+            return Err(Unread::Declined);
+        };
+        let mut reader = Reader::new(text, &mut self.scratch)?;
+        let row = row_of(alloc, schema.tree(), MAX_DEPTH, &mut reader)?;
+        if reader.next().is_some() {
+            return Err(Unread::Declined);
+        }
+        Ok(row)
+    }
+
+    /// The row that a text of JSON spells under a schema: the one that `row_from_json` answers of the value that `serde_json`
+    /// reads in it, exactly. A value is made only where a refusal has to be told, or where the keys of a struct of more than
+    /// 64 fields come in another order than its fields.
+    ///
+    /// Refusals: `Syntax` where the text isn't UTF-8 (RFC 8259, "Character Encoding") or `serde_json` reads no value in it;
+    /// those of `row_from_json` of the value that it reads; `OutOfMemory`. After each of them the reader reads on as before.
+    pub fn read_row(
+        &mut self,
+        alloc: Global,
+        schema: &Schema,
+        text: &[u8],
+    ) -> Result<Row<'static>, JsonFault>
+        ensures found { IfOk result (λ row. TextSpells schema.now text.now (view row)) }
+        ensures only { (row : Cell) → TextSpells schema.now text.now row
+            → MatchResult result (λ found. view found ≡ row) (λ e. e ≡ fault.OutOfMemory) }
+        ensures fits { IfOk result (λ row. fits (view row) schema.now ≡ true) }
+
+        ensures fault { IfErr result (λ why. why ≢ fault.OutOfMemory → RowTextFault schema.now text.now why) }
+    {
+        match self.read_straight(alloc, schema, text) {
+            Ok(row) => Ok(row),
+            Err(Unread::OutOfMemory) => Err(JsonFault::OutOfMemory),
+            Err(Unread::Declined) => row_by_value(alloc, schema, text),
+        }
+    }
+}
