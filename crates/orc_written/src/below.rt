@@ -25,7 +25,7 @@ pub(crate) fn lent_rows<'r, 'a>(
 ) -> Result<Vec<Lent<'r, 'a>>, AllocError>
     ensures { IfOk result (λ found. lent_cells found.items ≡ views rows.now) }
 {
-    let mut found = Vec::new(alloc);
+    let mut found = Vec::with_capacity(alloc, rows.len())?;
     lend_all(&mut found, rows)?;
     Ok(found)
 }
@@ -76,7 +76,7 @@ pub(crate) fn fields_of<'r, 'a>(
     ensures { IfOk result
         (λ found. lent_cells found.items ≡ flat_map (λ c. take 1 (drop place (parts c))) (lent_cells structs.now)) }
 {
-    let mut found = Vec::new(alloc);
+    let mut found = Vec::with_capacity(alloc, structs.len())?;
     for row in structs {
         lend_field(&mut found, row.0, place)?;
     }

@@ -35,7 +35,7 @@ pub(crate) fn are_all_values(cells: &[Lent<'_, '_>]) -> bool
 pub(crate) fn marks_in(alloc: Global, cells: &[Lent<'_, '_>]) -> Result<Vec<bool>, AllocError>
     ensures { IfOk result (λ marks. marks.items ≡ map is_value (lent_cells cells.now)) }
 {
-    let mut marks = Vec::new(alloc);
+    let mut marks = Vec::with_capacity(alloc, cells.len())?;
     for cell in cells {
         marks.push(cell.0.is_some())?;
     }
@@ -56,7 +56,7 @@ fn bool_of(row: &Row<'_>) -> Option<bool>
 pub(crate) fn bools_of(alloc: Global, cells: &[Lent<'_, '_>]) -> Result<Vec<bool>, AllocError>
     ensures { IfOk result (λ bools. bools.items ≡ bools_in (lent_cells cells.now)) }
 {
-    let mut bools = Vec::new(alloc);
+    let mut bools = Vec::with_capacity(alloc, cells.len())?;
     for cell in cells {
         if let Some(bit) = bool_of(cell.0) {
             bools.push(bit)?;
@@ -91,7 +91,7 @@ pub(crate) fn ints_of(alloc: Global, cells: &[Lent<'_, '_>]) -> Result<Vec<i64>,
     ensures ints { IfOk result (λ ints. ints.items ≡ ints_in (lent_cells cells.now)) }
     ensures in_range { IfOk result (λ ints. AllInRange Signed ints.items) }
 {
-    let mut ints = Vec::new(alloc);
+    let mut ints = Vec::with_capacity(alloc, cells.len())?;
     for cell in cells {
         if let Some(number) = int_of(cell.0) {
             ints.push(number)?;
@@ -112,7 +112,7 @@ fn byte_of(number: i64) -> u8
 pub(crate) fn number_bytes_of(alloc: Global, cells: &[Lent<'_, '_>]) -> Result<Vec<u8>, AllocError>
     ensures { IfOk result (λ bytes. bytes.items ≡ number_bytes_in (lent_cells cells.now)) }
 {
-    let mut bytes = Vec::new(alloc);
+    let mut bytes = Vec::with_capacity(alloc, cells.len())?;
     for cell in cells {
         if let Some(number) = int_of(cell.0) {
             bytes.push(byte_of(number))?;
@@ -149,7 +149,7 @@ pub(crate) fn byte_strings_of<'r>(
 ) -> Result<Vec<ByteString<'r>>, AllocError>
     ensures { IfOk result (λ strings. byte_strings strings.items ≡ all_bytes_in (lent_cells cells.now)) }
 {
-    let mut strings = Vec::new(alloc);
+    let mut strings = Vec::with_capacity(alloc, cells.len())?;
     for cell in cells {
         if let Some(bytes) = bytes_of(cell.0) {
             strings.push(ByteString(bytes))?;
@@ -177,7 +177,7 @@ pub(crate) fn byte_string_lengths(
     ensures lengths { IfOk result (λ found. found.items ≡ map size (byte_strings strings.now)) }
     ensures in_range { IfOk result (λ found. AllInRange Unsigned found.items) }
 {
-    let mut found = Vec::new(alloc);
+    let mut found = Vec::with_capacity(alloc, strings.len())?;
     for string in strings {
         found.push(number_of(string.0.len())?)?;
     }
@@ -216,7 +216,7 @@ pub(crate) fn sizes_of(alloc: Global, cells: &[Lent<'_, '_>]) -> Result<Vec<i64>
     ensures sizes { IfOk result (λ found. found.items ≡ sizes_in (lent_cells cells.now)) }
     ensures in_range { IfOk result (λ found. AllInRange Unsigned found.items) }
 {
-    let mut found = Vec::new(alloc);
+    let mut found = Vec::with_capacity(alloc, cells.len())?;
     for cell in cells {
         if let Some(size) = size_of(cell.0) {
             found.push(number_of(size)?)?;

@@ -34,7 +34,7 @@ fn is_worth(entries: usize, texts: usize) -> bool
 fn texts_of<'r>(alloc: Global, strings: &[ByteString<'r>]) -> Result<Vec<&'r [u8]>, AllocError>
     ensures { IfOk result (λ texts. lent_bytes texts.items ≡ byte_strings strings.now) }
 {
-    let mut texts = Vec::new(alloc);
+    let mut texts = Vec::with_capacity(alloc, strings.len())?;
     for string in strings {
         texts.push(string.0)?;
     }
@@ -94,7 +94,7 @@ fn places_of<'r>(
     ensures in_range { IfOk result (λ places. AllInRange Unsigned places.items) }
 {
     let known = entry_places(alloc, entries)?;
-    let mut places = Vec::new(alloc);
+    let mut places = Vec::with_capacity(alloc, strings.len())?;
     for string in strings {
         match known.get(&string.0) {
             Some(place) => places.push(number_of(*place)?)?,
@@ -111,7 +111,7 @@ fn byte_strings_from<'r>(
 ) -> Result<Vec<ByteString<'r>>, AllocError>
     ensures { IfOk result (λ strings. byte_strings strings.items ≡ lent_bytes texts.entry.items) }
 {
-    let mut strings = Vec::new(alloc);
+    let mut strings = Vec::with_capacity(alloc, texts.len())?;
     for text in texts {
         strings.push(ByteString(text))?;
     }
