@@ -5,8 +5,8 @@ ghost use Rattle.orc_types.specs.declared.tree.Field.{Field as SpecField};
 use orc_types::{Field, Row};
 use std::alloc::{AllocError, Global};
 
-/// In a struct of more fields than this, a key is looked for nowhere but behind the key before it, so that no row takes time
-/// that grows with the square of its fields.
+/// Among how many fields a key is looked for at most, from the field behind that of the key before it on, and among all where a
+/// struct has no more. So the time that a row takes doesn't grow with the square of its fields.
 const MOST_SEARCHED: usize = 64;
 
 /// So many nulls.
@@ -20,25 +20,29 @@ pub(crate) fn nulls(alloc: Global, count: usize) -> Result<Vec<Row<'static>>, Al
     Ok(rows)
 }
 
-/// The place of the field of that name. It is looked for at `first` before any other, which is where a key that comes in the
-/// fields' own order has it, and in a struct of many fields nowhere else.
-pub(crate) fn place_of(fields: &[Field], name: &str, first: usize) -> Option<usize>
+/// The place of the field of that name, where it is one of so many from a place on.
+fn place_from(fields: &[Field], name: &str, from: usize) -> Option<usize>
     ensures { IfSome result (λ place. (place < length fields.now)
         × ((f : SpecField) → f ≡ get_or fields.now place f → string_bytes f.name ≡ name.now)) }
 {
-    if first < fields.len() {
-        let field = &fields[first];
-        if field.name.as_str() == name {
-            return Some(first);
-        }
-    }
-    if fields.len() > MOST_SEARCHED {
-        return None;
-    }
-    for (place, field) in fields.iter().enumerate() {
+    let end = from.saturating_add(MOST_SEARCHED).min(fields.len());
+    for place in from..end {
+        let field = &fields[place];
         if field.name.as_str() == name {
             return Some(place);
         }
     }
     None
+}
+
+/// The place of the field of that name. It is looked for from `next` on first, where keys in the fields' own order have it,
+/// some of them left out or none; and then, where there are few fields, among all.
+pub(crate) fn place_of(fields: &[Field], name: &str, next: usize) -> Option<usize>
+    ensures { IfSome result (λ place. (place < length fields.now)
+        × ((f : SpecField) → f ≡ get_or fields.now place f → string_bytes f.name ≡ name.now)) }
+{
+    match place_from(fields, name, next) {
+        None if fields.len() <= MOST_SEARCHED => place_from(fields, name, 0),
+        found => found,
+    }
 }

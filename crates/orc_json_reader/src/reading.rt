@@ -204,15 +204,15 @@ fn fields_of(
     ensures shorter { OnOk result (length reader.new < length reader.old) }
 {
     let mut rows = nulls(alloc, fields.len())?;
-    let mut first = 0;
+    let mut next = 0;
     'members: while let Some(name) = reader.next_key()? {
-        let Some(place) = place_of(fields, name, first) else {
+        let Some(place) = place_of(fields, name, next) else {
             return Err(Unread::Declined);
         };
         let field = &fields[place];
         let row = row_of(alloc, &field.tree, depth, reader)?;
         rows[place] = row;
-        first = place + 1;
+        next = place + 1;
     }
     Ok(rows)
 }

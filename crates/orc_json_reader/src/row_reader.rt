@@ -70,8 +70,8 @@ impl RowReader {
     }
 
     /// The row that a text of JSON spells under a schema: the one that `row_from_json` answers of the value that `serde_json`
-    /// reads in it, exactly. A value is made only where a refusal has to be told, or where the keys of a struct of more than
-    /// 64 fields come in another order than its fields.
+    /// reads in it, exactly. A value is made only where a refusal has to be told, and where in an object under a struct of more
+    /// than 64 fields a key's field stands before that of the last key, or more than 64 behind it.
     ///
     /// Refusals: `Syntax` where the text isn't UTF-8 (RFC 8259, "Character Encoding") or `serde_json` reads no value in it;
     /// those of `row_from_json` of the value that it reads; `OutOfMemory`. After each of them the reader reads on as before.

@@ -67,25 +67,32 @@ fn wide(alloc: Global, fields: u32) -> Result<String, AllocError> {
     Ok(text)
 }
 
-/// Whether a text is read as the same row both ways.
-fn is_read_alike(
+/// One row of such a struct: its keys in the fields' order, turned round, and the first one twice, before and behind the others.
+static ALIKE: [&[u8]; 3] = [
+    br#"{"f0":1,"f1":2,"last":3}"#,
+    br#"{"last":3,"f1":2,"f0":1}"#,
+    br#"{"f0":4,"f1":2,"last":3,"f0":1}"#,
+];
+
+/// Whether each is read both ways as the row of that text.
+fn all_come_to(
     alloc: Global,
     schema: &Schema,
     reader: &mut RowReader,
-    text: &[u8],
-    same: &[u8],
+    wanted: &str,
 ) -> Result<bool, JsonFault> {
-    let wanted = by_value(alloc, schema, same)?;
-    comes_to(alloc, schema, reader, text, &Ok(wanted.as_str()))
+    let mut alike = true;
+    for text in &ALIKE {
+        alike &= comes_to(alloc, schema, reader, text, &Ok(wanted))?;
+    }
+    Ok(alike)
 }
 
+/// Whether each is read both ways as the first of them by its value.
 fn orders_are_alike(alloc: Global, schema: &Schema) -> Result<bool, JsonFault> {
+    let wanted = by_value(alloc, schema, ALIKE[0])?;
     let mut reader = RowReader::new(alloc);
-    let in_order = br#"{"f0":1,"f1":2,"last":3}"#;
-    let turned = br#"{"last":3,"f1":2,"f0":1}"#;
-    let kept = is_read_alike(alloc, schema, &mut reader, in_order, in_order)?;
-    let other = is_read_alike(alloc, schema, &mut reader, turned, in_order)?;
-    Ok(kept && other)
+    all_come_to(alloc, schema, &mut reader, wanted.as_str())
 }
 
 fn wide_holds(alloc: Global, fields: u32) -> Result<bool, JsonFault> {
@@ -96,12 +103,12 @@ fn wide_holds(alloc: Global, fields: u32) -> Result<bool, JsonFault> {
     }
 }
 
-/// Keys in the fields' order and in another, of a struct whose fields are searched for each key, and of one with too many
-/// fields for that, up to the most that a schema has.
+/// Keys in the fields' order and in others, of structs all of whose fields are looked through for a key, and of structs with too
+/// many for that, up to the most that a schema has.
 #[test]
 fn many_fields(rt: HostRuntime) {
     let alloc = rt.alloc();
-    for fields in [3u32, 64, 65, 4095] {
+    for fields in [3u32, 64, 65, 66, 67, 4095] {
         demand(&rt, with_memory!(wide_holds(alloc, fields)), &fields);
     }
 }
