@@ -10,8 +10,9 @@ use Rattle.orc_types.specs.JsonFaults.{FaultAt, Somewhere}
 use Rattle.orc_types.specs.declared.json_fault.JsonFault.{JsonFault}
 use Rattle.orc_types.proofs.JsonLaws.{only_memory}
 use Rattle.orc_types.proofs.OneText.{one_whole}
+use Rattle.orc_json_reader.specs.RowTexts.{ValueFault}
 use Rattle.orc_lines.specs.Lines.{IsLine, LineSpells, LinesSpell, AreRowsOf}
-use Rattle.orc_lines.specs.Writes.{LineFault, ValueFault, IsOfWriter, EndsAtLine, EndsInLines}
+use Rattle.orc_lines.specs.Writes.{LineFault, IsOfWriter, EndsAtLine, EndsInLines}
 use Rattle.orc_output.specs.declared.fault.CliFault.{CliFault}
 use Rattle.orc_output.specs.declared.fault.CliFault.TheVariants.{Json}
 

@@ -1,12 +1,9 @@
 -- The lines of a text, and the rows that they spell, a row a line as JSON.
-use Rattle.std.specs.Prelude.{◌≡◌, ◌≢◌, ℕ, List, [], ◌∷◌, ◌++◌, Some, true, IsUtf8}
+use Rattle.std.specs.Prelude.{◌≡◌, ◌≢◌, ℕ, List, [], ◌∷◌, ◌++◌}
 use Rattle.std.specs.List.{flat_map, AllByRecursion}
-use Rattle.serde_json.specs.Data.{Data}
-use Rattle.serde_json.specs.Read.{read as read_text}
 use Rattle.orc_types.specs.Shapes.{Shape}
 use Rattle.orc_types.specs.Cells.{Cell}
-use Rattle.orc_types.specs.JsonRows.{Spells}
-use Rattle.orc_types.specs.FieldNames.{is_distinct}
+use Rattle.orc_json_reader.specs.RowTexts.{TextSpells}
 
 -- no byte ends the line
 abbrev pub IsLine : List ℕ → Type 0
@@ -20,12 +17,8 @@ pub record AreLines (bytes : List ℕ) (ended : List (List ℕ)) (last : List �
   pub joined : bytes ≡ flat_map (λ (line : List ℕ). line ++ 10 ∷ []) ended ++ last
 
 -- the line is a text of JSON that spells the row
-pub record LineSpells (s : Shape) (line : List ℕ) (row : Cell) : Type 0 where
-  pub value : Data
-  pub utf8 : IsUtf8 line
-  pub read : read_text line ≡ Some value
-  pub spells : Spells s value row
-  pub distinct : is_distinct s ≡ true
+abbrev pub LineSpells : Shape → List ℕ → Cell → Type 0
+LineSpells s line row = TextSpells s line row
 
 -- each line spells a row, but for the empty ones, which are skipped
 abbrev pub LinesSpell : Shape → List (List ℕ) → List Cell → Type 0

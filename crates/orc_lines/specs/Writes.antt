@@ -1,18 +1,14 @@
 -- Why no file is written of lines, and what stands of one then.
-use Rattle.std.specs.Prelude.{◌≡◌, ◌≢◌, ◌<◌, ◌≤◌, ◌⊎◌, ℕ, List, [], ◌∷◌, ◌++◌, length, Option, Some, None, false, IsUtf8}
-use Rattle.serde_json.specs.Data.{Data}
-use Rattle.serde_json.specs.Read.{read as read_text}
+use Rattle.std.specs.Prelude.{◌≡◌, ◌≢◌, ◌<◌, ◌≤◌, ◌⊎◌, ℕ, List, [], ◌∷◌, ◌++◌, length, Option}
 use Rattle.orc_written.specs.declared.options.Options.{Options}
 use Rattle.orc_types.specs.Shapes.{Shape, width}
 use Rattle.orc_types.specs.Cells.{Cell}
 use Rattle.orc_types.specs.Columns.{cells}
-use Rattle.orc_types.specs.FieldNames.{is_distinct}
 use Rattle.orc_types.specs.SchemaText.{HasText}
 use Rattle.orc_types.specs.TextFaults.{TextFault}
-use Rattle.orc_types.specs.JsonFaults.{FaultAt, Somewhere}
 use Rattle.orc_types.specs.declared.fault.TypeFault.{TypeFault}
 use Rattle.orc_types.specs.declared.json_fault.JsonFault.{JsonFault}
-use Rattle.orc_types.specs.declared.json_fault.JsonFault.TheVariants as json
+use Rattle.orc_json_reader.specs.RowTexts.{RowTextFault}
 use Rattle.orc_columns.specs.Stripe.{cell_limit}
 use Rattle.orc_devices.specs.Devices.{appended}
 use Rattle.orc_file.specs.Layout.{magic}
@@ -24,19 +20,9 @@ use Rattle.orc_output.specs.Output.{IsWantOfMemory, IsOutside}
 use Rattle.orc_output.specs.declared.fault.CliFault.{CliFault}
 use Rattle.orc_output.specs.declared.fault.CliFault.TheVariants.{Types, Json, File}
 
--- the line isn't UTF-8, or it is no text of JSON
-abbrev pub IsNoJson : List ℕ → Type 0
-IsNoJson line = IsUtf8 line → read_text line ≡ None
-
--- why a value spells no row: some struct of the schema names a field twice, or the fault is in the value
-abbrev pub ValueFault : Shape → Data → JsonFault → Type 0
-ValueFault s value why = ((why ≡ json.DuplicateField) × (is_distinct s ≡ false)) ⊎ Somewhere (FaultAt why) s value
-
 -- why a line spells no row: it is no text of JSON, or it is one, of a value that spells none
 abbrev pub LineFault : Shape → List ℕ → JsonFault → Type 0
-LineFault s line why =
-    ((why ≡ json.Syntax) × IsNoJson line)
-    ⊎ ((value : Data) × IsUtf8 line × (read_text line ≡ Some value) × ValueFault s value why)
+LineFault s line why = RowTextFault s line why
 
 -- the refusals of a writer whose rows fit its schema
 abbrev pub IsOfWriter : CliFault → Type 0

@@ -15,6 +15,7 @@ ghost use Rattle.orc_output.specs.declared.fault.CliFault.TheVariants.{File};
 use crate::line_reading::next_line;
 use crate::write::push_line;
 use orc_file::{FileFault, Sink, Tail, Writer};
+use orc_json_reader::RowReader;
 use orc_output::CliFault;
 use orc_stripe::Options;
 use orc_types::Schema;
@@ -50,19 +51,21 @@ fn push_read<I: BufRead, W: Sink>(
 {
     // for its contract alone: the types are those of a schema
     let _types = writer.schema().types();
+    let mut reader = RowReader::new(alloc);
     let mut line = Vec::new(alloc);
     for _ in 0..u64::MAX {
         if !next_line(input, &mut line)? {
             return Ok(());
         }
-        push_line(alloc, &line, writer)?;
+        push_line(alloc, &mut reader, &line, writer)?;
     }
     // nobody waits for so many lines
     Err(CliFault::File(FileFault::OutOfMemory))
 }
 
 /// Writes a file of the rows that lines of JSON spell, as `write_from` does, of lines that are read one after another:
-/// no more than one line of the input is held, beside what the reader itself holds.
+/// no more than one line of the input is held, beside what the reader itself holds, and room as long as the longest line
+/// for strings with escapes.
 ///
 /// Refusals: those of `write_from`, and `File` with `SourceFailed` where the input failed, after which `ORC` and the
 /// full stripes of the rows before are written, and neither a last stripe nor a tail.

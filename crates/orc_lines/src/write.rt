@@ -1,23 +1,19 @@
 //! `orcm write`: a file of the rows that lines of JSON spell.
-ghost use Rattle.std.specs.Prelude.{◌≡◌, ◌≢◌, ◌<◌, ◌≤◌, ◌++◌, ℕ, List, [], length, take, drop, get_or, Option, IfOk, IfErr, OnOk, true, false};
+ghost use Rattle.std.specs.Prelude.{◌≡◌, ◌≢◌, ◌<◌, ◌≤◌, ◌++◌, ℕ, List, [], length, take, drop, get_or, Option, IfOk, IfErr, OnOk, false};
 ghost use Rattle.orc_types.specs.Cells.{Cell};
-ghost use Rattle.orc_types.specs.Fits.{fits};
-ghost use Rattle.orc_types.specs.Views.{view, views};
 ghost use Rattle.orc_types.specs.Shapes.{Shape};
 ghost use Rattle.orc_types.specs.SchemaText.{HasText};
-ghost use Rattle.orc_types.specs.declared.json_fault.JsonFault.TheVariants as json;
 ghost use Rattle.orc_file.specs.Progress.{progress};
 ghost use Rattle.orc_file.specs.Writing.{HasPushed, IsWhole, IsCutOff};
-ghost use Rattle.orc_lines.specs.Lines.{IsLine, LineSpells, LineSpellsRows, AreRowsOf};
+ghost use Rattle.orc_lines.specs.Lines.{IsLine, LineSpellsRows, AreRowsOf};
 ghost use Rattle.orc_output.specs.Output.{IsWantOfMemory, write_failed};
-ghost use Rattle.orc_lines.specs.Writes.{LineFault, IsOfWriter, EndsAtLine, EndsInLines, LimitStands, OpenAtLine, RefusesWrite};
+ghost use Rattle.orc_lines.specs.Writes.{IsOfWriter, EndsAtLine, EndsInLines, LimitStands, OpenAtLine, RefusesWrite};
 
 use orc_file::{Sink, Tail, Writer};
+use orc_json_reader::RowReader;
 use orc_output::CliFault;
 use orc_stripe::Options;
-use orc_types::{JsonFault, Row, Schema, row_from_json};
-use serde_json::Value as Json;
-use serde_json::error::Category;
+use orc_types::Schema;
 use std::alloc::Global;
 
 /// How many bytes stand before the first end of a line.
@@ -33,23 +29,10 @@ fn line_length(bytes: &[u8]) -> usize
     at
 }
 
-/// The row that a line spells.
-fn row_of_line(alloc: Global, schema: &Schema, line: &[u8]) -> Result<Row<'static>, JsonFault>
-    ensures found { IfOk result (λ row. LineSpells schema.now line.now (view row)) }
-    ensures fits { IfOk result (λ row. fits (view row) schema.now ≡ true) }
-    ensures fault { IfErr result (λ why. why ≢ json.OutOfMemory → LineFault schema.now line.now why) }
-{
-    let json = match Json::from_slice(alloc, line) {
-        Ok(json) => json,
-        Err(error) if error.classify() == Category::Memory => return Err(JsonFault::OutOfMemory),
-        Err(_) => return Err(JsonFault::Syntax),
-    };
-    row_from_json(alloc, schema, &json)
-}
-
 /// Pushes the row of a line, where it isn't empty.
 pub(crate) fn push_line<W: Sink>(
     alloc: Global,
+    reader: &mut RowReader,
     line: &[u8],
     writer: &mut Writer<W>,
 ) -> Result<(), CliFault>
@@ -79,7 +62,7 @@ pub(crate) fn push_line<W: Sink>(
     let schema = writer.schema();
     // for its contract alone: the types are those of a schema
     let _types = schema.types();
-    let row = row_of_line(alloc, schema, line)?;
+    let row = reader.read_row(alloc, schema, line)?;
     writer.push_owned(row)?;
     Ok(())
 }
@@ -106,12 +89,13 @@ fn push_lines<W: Sink>(alloc: Global, input: &[u8], writer: &mut Writer<W>) -> R
     ensures memory { IfErr result (λ fault. IsWantOfMemory fault
         → W.failures writer.new.out ≡ W.failures writer.old.out) }
 {
+    let mut reader = RowReader::new(alloc);
     let mut at = 0;
     while at < input.len() {
         let (_, rest) = input.split_at(at);
         let len = line_length(rest);
         let (line, _) = rest.split_at(len);
-        push_line(alloc, line, writer)?;
+        push_line(alloc, &mut reader, line, writer)?;
         at += len;
         if at < input.len() {
             at += 1;
