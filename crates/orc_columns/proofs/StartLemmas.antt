@@ -92,7 +92,7 @@ bits_alike bytes r s =
           record { packed = h.packed; spelled = a.from h.packed h.runs; spare = k.spare; few = k.few; digits_are = k.digits_are };
     }
 
-marks_alike : (bytes : List ℕ) (r : Option Bits) → MarksStart bytes r → Alike (MarksLeft r) (Marks bytes)
+pub marks_alike : (bytes : List ℕ) (r : Option Bits) → MarksStart bytes r → Alike (MarksLeft r) (Marks bytes)
 marks_alike [] None s = record { to = λ all h. h; from = λ all h. h }
 marks_alike [] (Some bits) s = absurd s
 marks_alike (b ∷ bs) None s = absurd s
@@ -124,7 +124,7 @@ texts_alike x false (Some entries) r s = absurd s
 ints_alike : (k : Scalar) (x : Streams) (r : ValueSource) → NumbersStart (version x) Signed (x.stream 1) r.numbers → Alike (Standing (IsInt k) (NumbersLeft r.numbers)) (SpellsInts k x)
 ints_alike k x r s = standing_alike (IsInt k) (NumbersLeft r.numbers) (AreNumbers (version x) Signed (x.stream 1)) (numbers_alike (version x) Signed (x.stream 1) r.numbers s)
 
-scalar_alike : (k : Scalar) (x : Streams) (r : ValueSource) → ScalarStart k x r → Alike (ScalarLeft k r) (SpellsScalar k x)
+pub scalar_alike : (k : Scalar) (x : Streams) (r : ValueSource) → ScalarStart k x r → Alike (ScalarLeft k r) (SpellsScalar k x)
 scalar_alike kind.Boolean x r s = standing_alike IsBool (BitsLeft r.bits) (IsBitStream (x.stream 1)) (bits_alike (x.stream 1) r.bits s)
 scalar_alike kind.Byte x r s = standing_alike IsByte (BytesLeft r.bytes) (AreBytes (x.stream 1)) (bytes_alike (x.stream 1) r.bytes s)
 scalar_alike kind.Short x r s = ints_alike kind.Short x r s

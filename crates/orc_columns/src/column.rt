@@ -161,7 +161,7 @@ pub fn next_size(source: &mut ValueSource<'_>) -> Result<u64, StripeFault>
 }
 
 /// Whether no value is left of a column of a kind that contains no other.
-pub(crate) fn scalar_end(source: &ValueSource<'_>, kind: Scalar) -> bool
+pub fn scalar_end(source: &ValueSource<'_>, kind: Scalar) -> bool
     ensures { MatchBool result (ScalarLeft kind source.now []) (ScalarLeft kind source.now [] → ⊥) }
 {
     match kind {
@@ -192,7 +192,7 @@ fn data_left(source: &ValueSource<'_>) -> StripeFault
 }
 
 /// The fault of values that are left over, of a column of a kind that contains no other.
-pub(crate) fn scalar_left(source: &ValueSource<'_>, kind: Scalar) -> StripeFault
+pub fn scalar_left(source: &ValueSource<'_>, kind: Scalar) -> StripeFault
     requires more { ScalarLeft kind source.now [] → ⊥ }
     ensures { ScalarMeets kind source.now true 0 result }
 {

@@ -46,7 +46,7 @@ pub fn next_mark(column: usize, present: &mut Option<Bits<'_>>) -> Result<bool, 
 }
 
 /// Whether no mark is left.
-pub(crate) fn marks_end(present: &Option<Bits<'_>>) -> bool
+pub fn marks_end(present: &Option<Bits<'_>>) -> bool
     ensures { MatchBool result (MarksLeft present.now []) (MarksLeft present.now [] → ⊥) }
 {
     match present {
@@ -56,7 +56,7 @@ pub(crate) fn marks_end(present: &Option<Bits<'_>>) -> bool
 }
 
 /// The fault of marks that are left over.
-pub(crate) fn marks_left(present: &Option<Bits<'_>>) -> RunFault
+pub fn marks_left(present: &Option<Bits<'_>>) -> RunFault
     requires more { MarksLeft present.now [] → ⊥ }
     ensures met { MarksMeet present.now 0 result }
     ensures no_memory { result ≢ run.OutOfMemory }

@@ -234,8 +234,8 @@ fn source_of<'a>(
     }
 }
 
-/// The reader of a column by itself, from the start of its streams.
-fn reader_of<'a>(
+/// The reader of a column by itself, from the start of its streams. The entries of a dictionary are read.
+pub fn reader_of<'a>(
     alloc: Global,
     tree: &Tree,
     column: usize,

@@ -1,0 +1,13 @@
+pub mod ChildlessLemmas
+pub mod OneOwn
+pub mod Spread
+pub mod RowsOf
+pub mod OwnRows
+pub mod RefusedLemmas
+pub mod ReadLemmas
+pub mod MarkLemmas
+pub mod SizeLemmas
+pub mod ScalarLemmas
+pub mod StartedLemmas
+pub mod TreeLemmas
+pub mod ValueLemmas

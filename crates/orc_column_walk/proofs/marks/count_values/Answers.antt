@@ -1,0 +1,24 @@
+use Rattle.std.proofs.Common.{true, false}
+use Rattle.orc_columns.specs.Columns.{MarksLeft}
+use Rattle.orc_columns.specs.RunsMet.{MarksMeet}
+use Rattle.orc_columns.proofs.NeedLemmas.{always_end}
+use Rattle.orc_column_walk.proofs.ReadLemmas.{lack_read, over_fault}
+use Rattle.orc_column_walk.proofs.MarkLemmas.{PresentMet, all_marked}
+use Rattle.orc_column_walk.proofs.marks.count_values.Goals as goal
+
+pub returns-then-is_none-clause-found : goal.returns-then-is_none-clause-found
+returns-then-is_none-clause-found c = all_marked c.args.present.now c.args.count c.if-is_none.ensures
+
+pub returns-then-not-marks_end-clause-fault : goal.returns-then-not-marks_end-clause-fault
+returns-then-not-marks_end-clause-fault c = λ memory.
+    let e = c.marks_left.ensures in (
+      true,
+      over_fault (PresentMet c.args.column c.args.present.now) (PresentMet c.args.column c.read_marks.new.present) c.args.count c.run_fault.result c.in-Ok.ensures.before
+          (c.marks_left.result, c.run_fault.ensures.same e.no_memory, e.no_memory, always_end (MarksMeet c.read_marks.new.present) c.marks_left.result e.met),
+    )
+
+pub returns-in-Err-clause-none : goal.returns-in-Err-clause-none
+returns-in-Err-clause-none c = λ memory marks h e. lack_read (MarksLeft c.args.present.now) c.args.count c.in-Err.ensures.none marks h e
+
+pub returns-in-Err-clause-fault : goal.returns-in-Err-clause-fault
+returns-in-Err-clause-fault c = λ memory. (false, c.in-Err.ensures.fault memory)

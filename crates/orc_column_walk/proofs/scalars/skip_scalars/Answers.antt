@@ -1,0 +1,38 @@
+use Rattle.std.proofs.Common.{arith, [], ◌∷◌, ◌++◌}
+use Rattle.orc_types.specs.Views.{cell_of_value}
+use Rattle.orc_columns.specs.Columns.{ScalarLeft}
+use Rattle.orc_column_walk.proofs.ReadLemmas.{none_read, one_read, read_lacks, read_fault, read_on}
+use Rattle.orc_column_walk.proofs.ScalarLemmas.{ScalarMet}
+use Rattle.orc_column_walk.proofs.scalars.skip_scalars.Goals as goal
+
+pub loop-init : goal.loop-init
+loop-init c = ([], none_read (ScalarLeft c.args.kind c.args.source.now) (ScalarMet c.args.kind c.args.source.now))
+
+pub loop-preserved : goal.loop-preserved
+loop-preserved c =
+    let value = cell_of_value c.in-Ok.field-0 in
+    let k = c.args.kind in (
+      c.loop.invariant.0 ++ value ∷ [],
+      one_read (ScalarLeft k c.args.source.now) (ScalarLeft k c.loop.source) (ScalarLeft k c.next_scalar.new.self) (ScalarMet k c.args.source.now) (ScalarMet k c.loop.source) (ScalarMet k c.next_scalar.new.self) c.loop.counter c.loop.invariant.0 value c.loop.invariant.1
+          c.in-Ok.ensures.found c.in-Ok.ensures.before,
+    )
+
+pub returns-in-Err-clause-none : goal.returns-in-Err-clause-none
+returns-in-Err-clause-none c =
+    let k = c.args.kind in
+    read_lacks (ScalarLeft k c.args.source.now) (ScalarLeft k c.loop.source) (ScalarMet k c.args.source.now) (ScalarMet k c.loop.source) c.loop.counter c.args.count c.loop.invariant.0 c.loop.invariant.1 c.loop-test.true c.in-Err.ensures.none
+
+pub returns-in-Err-clause-fault : goal.returns-in-Err-clause-fault
+returns-in-Err-clause-fault c = λ memory.
+    let k = c.args.kind in
+    read_fault (ScalarLeft k c.args.source.now) (ScalarLeft k c.loop.source) (ScalarMet k c.args.source.now) (ScalarMet k c.loop.source) c.loop.counter c.args.count c.loop.invariant.0 c.in-Err.fault c.loop.invariant.1 c.loop-test.true (c.in-Err.ensures.fault memory)
+
+pub returns-clause-found : goal.returns-clause-found
+returns-clause-found c =
+    let r = c.loop.invariant in (r.0, omega (arith, r.1.counted, c.loop-test.false, c.loop.auto.counter-end), r.1.leave)
+
+pub returns-clause-before : goal.returns-clause-before
+returns-clause-before c =
+    let k = c.args.kind in
+    read_on (ScalarLeft k c.args.source.now) (ScalarLeft k c.loop.source) (ScalarMet k c.args.source.now) (ScalarMet k c.loop.source) c.loop.counter c.args.count c.loop.invariant.0 c.loop.invariant.1
+    (omega (arith, c.loop-test.false, c.loop.auto.counter-end))

@@ -1,0 +1,34 @@
+use Rattle.std.proofs.Common.{[], refl, arith}
+use Rattle.orc_types.specs.Shapes.{struct_of, no_field}
+use Rattle.orc_columns.specs.ReaderFaults.{ListsMeet}
+use Rattle.orc_column_walk.specs.OwnLeft.{SizesLeft}
+use Rattle.orc_column_walk.proofs.ReadLemmas.{read_lacks, read_fault, read_on}
+use Rattle.orc_column_walk.proofs.SizeLemmas.{no_sizes_read, size_read, sizes_lack}
+use Rattle.orc_column_walk.proofs.sizes.add_sizes.Goals as goal
+
+pub loop-init : goal.loop-init
+loop-init c = no_sizes_read c.args.source.now
+
+pub loop-preserved : goal.loop-preserved
+loop-preserved c =
+    size_read c.args.source.now c.loop.source c.next_size.new.source c.loop.counter c.loop.together c.in-Ok.size _ c.loop.invariant
+    c.in-Ok.ensures.found c.in-Ok.ensures.room.0 c.in-Ok.ensures.room.1 c.next_size.ensures.column c.in-Ok.ensures.before refl
+
+pub returns-in-Err-clause-none : goal.returns-in-Err-clause-none
+returns-in-Err-clause-none c =
+    let a = c.args.source.now in
+    let b = c.loop.source in
+    read_lacks (SizesLeft a) (SizesLeft b) (λ all n f. ListsMeet a all n f) (λ all n f. ListsMeet b all n f) c.loop.counter c.args.count c.loop.invariant.sizes c.loop.invariant.read c.loop-test.true
+    (sizes_lack b (λ below. c.in-Err.ensures.none (struct_of no_field []) below))
+
+pub returns-in-Err-clause-fault : goal.returns-in-Err-clause-fault
+returns-in-Err-clause-fault c = λ memory.
+    let a = c.args.source.now in
+    let b = c.loop.source in
+    read_fault (SizesLeft a) (SizesLeft b) (λ all n f. ListsMeet a all n f) (λ all n f. ListsMeet b all n f) c.loop.counter c.args.count c.loop.invariant.sizes c.in-Err.fault c.loop.invariant.read c.loop-test.true (c.in-Err.ensures.fault memory)
+
+pub returns-clause-before : goal.returns-clause-before
+returns-clause-before c =
+    let a = c.args.source.now in
+    let b = c.loop.source in
+    read_on (SizesLeft a) (SizesLeft b) (λ all n f. ListsMeet a all n f) (λ all n f. ListsMeet b all n f) c.loop.counter c.args.count c.loop.invariant.sizes c.loop.invariant.read (omega (arith, c.loop-test.false, c.loop.auto.counter-end))

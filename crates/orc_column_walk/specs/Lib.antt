@@ -1,0 +1,4 @@
+pub mod Childless
+pub mod OwnColumns
+pub mod OwnLeft
+pub mod OwnFaults

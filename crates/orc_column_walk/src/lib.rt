@@ -1,0 +1,13 @@
+//! Whether a stripe's columns spell rows, column by column down the schema, each from its own streams. No row is made,
+//! and no value held.
+#![tactic(auto)]
+
+mod laws;
+mod marks;
+mod scalars;
+mod sizes;
+mod values;
+mod walk;
+
+pub use laws::own_column_laws;
+pub use walk::walk_columns;

@@ -1,0 +1,79 @@
+//! PRESENT of a column by itself: how many of its cells are not null.
+ghost use Rattle.std.specs.Prelude.{◌≡◌, ◌≢◌, ◌+◌, ◌∷◌, [], ℕ, Bool, false, List, length, IfOk, IfErr, OnErr};
+ghost use Rattle.orc_columns.specs.Columns.{MarksLeft};
+ghost use Rattle.orc_columns.specs.Faults.{RunsFail};
+ghost use Rattle.orc_columns.specs.Fronts.{Leaves, Lacks};
+ghost use Rattle.orc_columns.specs.Needs.{trues};
+ghost use Rattle.orc_columns.specs.RunFaults.{Always};
+ghost use Rattle.orc_columns.specs.RunsMet.{MarksMeet};
+ghost use Rattle.orc_columns.specs.declared.fault.StripeFault.{StripeFault as Fault};
+ghost use Rattle.orc_columns.specs.declared.fault.StripeFault.TheVariants.{OutOfMemory};
+ghost use Rattle.orc_columns.specs.declared.fault.StreamKind.TheVariants.{Present};
+
+use orc_columns::bits::Bits;
+use orc_columns::fault::{StreamKind, StripeFault, run_fault};
+use orc_columns::marks::{marks_end, marks_left, next_mark};
+
+/// How many values a cell with this mark is.
+fn value_count(mark: bool) -> usize
+    ensures { result ≡ trues (mark ∷ []) }
+{
+    if mark { 1 } else { 0 }
+}
+
+/// Reads the next marks, so many, and answers how many are true.
+fn read_marks(
+    column: usize,
+    present: &mut Option<Bits<'_>>,
+    count: usize,
+) -> Result<usize, StripeFault>
+    ensures found { IfOk result (λ values. (marks : List Bool)
+        × (length marks ≡ count)
+        × Leaves (MarksLeft present.old) (MarksLeft present.new) marks
+        × (values ≡ trues marks)) }
+    ensures none { OnErr result (Lacks (MarksLeft present.old) count) }
+    ensures before { IfOk result (λ values. (all : Bool) (n : ℕ) (f : Fault)
+        → RunsFail Present column (Always all n (MarksMeet present.new)) f
+        → RunsFail Present column (Always all (count + n) (MarksMeet present.old)) f) }
+    ensures fault { IfErr result (λ cause. cause ≢ OutOfMemory
+        → RunsFail Present column (Always false count (MarksMeet present.old)) cause) }
+{
+    let mut values = 0;
+    for _ in 0..count {
+        match next_mark(column, present) {
+            Ok(mark) => values += value_count(mark),
+            Err(fault) => return Err(fault),
+        }
+    }
+    Ok(values)
+}
+
+/// Reads all marks of a column, which are to be so many, and answers how many cells are values. Where there is no
+/// PRESENT, all are, and none is looked at.
+pub(crate) fn count_values(
+    column: usize,
+    present: &mut Option<Bits<'_>>,
+    count: usize,
+) -> Result<usize, StripeFault>
+    ensures found { IfOk result (λ values. (marks : List Bool)
+        × (length marks ≡ count)
+        × MarksLeft present.old marks
+        × (values ≡ trues marks)) }
+    ensures none { IfErr result (λ fault. fault ≢ OutOfMemory
+        → (marks : List Bool) → MarksLeft present.old marks → length marks ≡ count → ⊥) }
+    ensures fault { IfErr result (λ cause. cause ≢ OutOfMemory
+        → (all : Bool) × RunsFail Present column (Always all count (MarksMeet present.old)) cause) }
+{
+    if present.is_none() {
+        return Ok(count);
+    }
+    match read_marks(column, present, count) {
+        Ok(values) => {
+            if !marks_end(present) {
+                return Err(run_fault(column, StreamKind::Present, marks_left(present)));
+            }
+            Ok(values)
+        }
+        Err(fault) => Err(fault),
+    }
+}

@@ -1,0 +1,55 @@
+//! The values of a column of a kind that contains no other, read to the end of their streams.
+ghost use Rattle.std.specs.Prelude.{◌≡◌, ◌≢◌, ◌+◌, ℕ, Bool, false, List, length, IfOk, IfErr, OnOk, OnErr};
+ghost use Rattle.orc_types.specs.Cells.{Cell};
+ghost use Rattle.orc_columns.specs.Columns.{ScalarLeft};
+ghost use Rattle.orc_columns.specs.Fronts.{Leaves, Lacks};
+ghost use Rattle.orc_columns.specs.ReaderFaults.{ScalarMeets};
+ghost use Rattle.orc_columns.specs.declared.fault.StripeFault.{StripeFault as Fault};
+ghost use Rattle.orc_columns.specs.declared.fault.StripeFault.TheVariants.{OutOfMemory};
+
+use orc_columns::column::{ValueSource, scalar_end, scalar_left};
+use orc_columns::fault::StripeFault;
+use orc_types::Scalar;
+
+/// Reads the next values, so many, and holds none.
+fn skip_scalars(source: &mut ValueSource<'_>, kind: Scalar, count: usize) -> Result<(), StripeFault>
+    ensures found { OnOk result ((values : List Cell)
+        × (length values ≡ count)
+        × Leaves (ScalarLeft kind source.old) (ScalarLeft kind source.new) values) }
+    ensures none { OnErr result (Lacks (ScalarLeft kind source.old) count) }
+    ensures before { OnOk result ((all : Bool) (n : ℕ) (f : Fault)
+        → ScalarMeets kind source.new all n f
+        → ScalarMeets kind source.old all (count + n) f) }
+    ensures fault { IfErr result (λ cause. cause ≢ OutOfMemory → ScalarMeets kind source.old false count cause) }
+{
+    for _ in 0..count {
+        match source.next_scalar(kind) {
+            Ok(_) => {}
+            Err(fault) => return Err(fault),
+        }
+    }
+    Ok(())
+}
+
+/// Reads all values, which are to be so many.
+pub(crate) fn read_scalars(
+    source: &mut ValueSource<'_>,
+    kind: Scalar,
+    count: usize,
+) -> Result<(), StripeFault>
+    ensures found { OnOk result ((values : List Cell) × (length values ≡ count) × ScalarLeft kind source.old values) }
+    ensures none { IfErr result (λ fault. fault ≢ OutOfMemory
+        → (values : List Cell) → ScalarLeft kind source.old values → length values ≡ count → ⊥) }
+    ensures fault { IfErr result (λ cause. cause ≢ OutOfMemory
+        → (all : Bool) × ScalarMeets kind source.old all count cause) }
+{
+    match skip_scalars(source, kind, count) {
+        Ok(()) => {
+            if !scalar_end(source, kind) {
+                return Err(scalar_left(source, kind));
+            }
+            Ok(())
+        }
+        Err(fault) => Err(fault),
+    }
+}

@@ -1,0 +1,62 @@
+//! The sizes of a column of lists, or of maps, read to the end of LENGTH.
+ghost use Rattle.std.specs.Prelude.{◌≡◌, ◌≢◌, ◌+◌, ◌≤◌, ℕ, Bool, false, List, length, sum, IfOk, IfErr, OnErr};
+ghost use Rattle.orc_columns.specs.Fronts.{Leaves, Lacks};
+ghost use Rattle.orc_columns.specs.ReaderFaults.{ListsMeet};
+ghost use Rattle.orc_columns.specs.declared.fault.StripeFault.{StripeFault as Fault};
+ghost use Rattle.orc_columns.specs.declared.fault.StripeFault.TheVariants.{OutOfMemory};
+ghost use Rattle.orc_column_walk.specs.OwnLeft.{SizesLeft};
+
+use orc_columns::column::{ValueSource, next_size};
+use orc_columns::fault::{StreamKind, StripeFault, run_fault};
+use orc_columns::numbers::{numbers_end, numbers_left};
+
+/// Reads the next sizes, so many, and answers how many elements the lists have together, or pairs the maps.
+fn add_sizes(source: &mut ValueSource<'_>, count: usize) -> Result<usize, StripeFault>
+    ensures found { IfOk result (λ together. (sizes : List ℕ)
+        × (length sizes ≡ count)
+        × Leaves (SizesLeft source.old) (SizesLeft source.new) sizes
+        × (together ≡ sum sizes)) }
+    ensures room { IfOk result (λ together. together ≤ source.old.room) }
+    ensures none { OnErr result (Lacks (SizesLeft source.old) count) }
+    ensures before { IfOk result (λ together. (all : Bool) (n : ℕ) (f : Fault)
+        → ListsMeet source.new all n f
+        → ListsMeet source.old all (count + n) f) }
+    ensures column { IfOk result (λ together. source.new.column ≡ source.old.column) }
+    ensures fault { IfErr result (λ cause. cause ≢ OutOfMemory → ListsMeet source.old false count cause) }
+{
+    // for the proof, which knows that the room is a number of 64 bits where it is read
+    let _room = source.room;
+    let mut together = 0;
+    for _ in 0..count {
+        match next_size(source) {
+            Ok(size) => together += size as usize,
+            Err(fault) => return Err(fault),
+        }
+    }
+    Ok(together)
+}
+
+/// Reads all sizes, which are to be so many, and answers their sum.
+pub(crate) fn sum_sizes(source: &mut ValueSource<'_>, count: usize) -> Result<usize, StripeFault>
+    ensures found { IfOk result (λ together. (sizes : List ℕ)
+        × (length sizes ≡ count)
+        × SizesLeft source.old sizes
+        × (together ≡ sum sizes)) }
+    ensures none { IfErr result (λ fault. fault ≢ OutOfMemory
+        → (sizes : List ℕ) → SizesLeft source.old sizes → length sizes ≡ count → ⊥) }
+    ensures fault { IfErr result (λ cause. cause ≢ OutOfMemory → (all : Bool) × ListsMeet source.old all count cause) }
+{
+    match add_sizes(source, count) {
+        Ok(together) => {
+            if !numbers_end(&source.numbers) {
+                return Err(run_fault(
+                    source.column,
+                    StreamKind::Length,
+                    numbers_left(&source.numbers),
+                ));
+            }
+            Ok(together)
+        }
+        Err(fault) => Err(fault),
+    }
+}

@@ -1,0 +1,46 @@
+//! The values of a column by themselves, whatever its kind, and how many children they have.
+ghost use Rattle.std.specs.Prelude.{◌≡◌, ◌≢◌, Bool, List, length, IfOk, IfErr};
+ghost use Rattle.orc_types.specs.Cells.{Cell};
+ghost use Rattle.orc_types.specs.Views.{shape};
+ghost use Rattle.orc_columns.specs.ReaderFaults.{ValuesMeet};
+ghost use Rattle.orc_columns.specs.declared.fault.StripeFault.TheVariants.{OutOfMemory};
+ghost use Rattle.orc_column_walk.specs.OwnLeft.{OwnValuesLeft, children};
+
+use crate::scalars::read_scalars;
+use crate::sizes::sum_sizes;
+use orc_columns::column::ValueSource;
+use orc_columns::fault::StripeFault;
+use orc_types::Tree;
+
+/// Reads all values of a column, which are to be so many, and answers how many children they have: elements of lists,
+/// pairs of maps, or structs, each of which has one in each field.
+pub(crate) fn read_values(
+    tree: &Tree,
+    source: &mut ValueSource<'_>,
+    count: usize,
+) -> Result<usize, StripeFault>
+    ensures found { IfOk result (λ below. (values : List Cell)
+        × (length values ≡ count)
+        × OwnValuesLeft (shape tree.now) source.old values
+        × (below ≡ children (shape tree.now) values)) }
+    ensures none { IfErr result (λ fault. fault ≢ OutOfMemory
+        → (values : List Cell) → OwnValuesLeft (shape tree.now) source.old values → length values ≡ count → ⊥) }
+    ensures fault { IfErr result (λ cause. cause ≢ OutOfMemory
+        → (all : Bool) × ValuesMeet (shape tree.now) source.old all count cause) }
+{
+    match tree {
+        Tree::Scalar(kind, _) => match read_scalars(source, *kind, count) {
+            Ok(()) => Ok(0),
+            Err(fault) => Err(fault),
+        },
+        Tree::List(_, _) => match sum_sizes(source, count) {
+            Ok(elements) => Ok(elements),
+            Err(fault) => Err(fault),
+        },
+        Tree::Map(_, _, _) => match sum_sizes(source, count) {
+            Ok(pairs) => Ok(pairs),
+            Err(fault) => Err(fault),
+        },
+        Tree::Struct(_, _) => Ok(count),
+    }
+}

@@ -1,0 +1,169 @@
+//! All columns of a stripe, one after the other, in the order of their numbers: a column, and then those below it.
+ghost use Rattle.std.specs.Prelude.{◌≡◌, ◌≢◌, ◌+◌, ◌<◌, ◌≤◌, ℕ, Bool, List, length, IfOk, IfErr, OnOk};
+ghost use Rattle.orc_types.specs.Cells.{Cell, values};
+ghost use Rattle.orc_types.specs.Shapes.{width, widths};
+ghost use Rattle.orc_types.specs.Views.{shape, fields as fields_view};
+ghost use Rattle.orc_columns.specs.Faults.{RowsFault};
+ghost use Rattle.orc_columns.specs.Located.{AreLocated};
+ghost use Rattle.orc_columns.specs.Stripe.{SpellRows, columns_of, cell_limit};
+ghost use Rattle.orc_columns.specs.declared.fault.StripeFault.TheVariants.{OutOfMemory};
+ghost use Rattle.orc_column_walk.specs.OwnColumns.{IsOwnColumn, OwnDown, OwnWithin};
+ghost use Rattle.orc_column_walk.specs.OwnFaults.{IsRefused, RefusedDown, RefusedWithin};
+ghost use Rattle.orc_column_walk.specs.OwnLeft.{children};
+
+use crate::marks::count_values;
+use crate::values::read_values;
+use orc_columns::column::MOST_CELLS;
+use orc_columns::fault::StripeFault;
+use orc_columns::located::Located;
+use orc_columns::starting::reader_of;
+use orc_types::{Field, Tree};
+use orc_wire::StripeFooter;
+use std::alloc::Global;
+
+/// Reads a column of so many cells from its own streams, and answers how many children they have.
+fn read_column(
+    alloc: Global,
+    tree: &Tree,
+    column: usize,
+    footer: &StripeFooter,
+    located: &Located<'_>,
+    count: usize,
+) -> Result<usize, StripeFault>
+    requires there { column < length footer.now.columns }
+    requires located { AreLocated (length footer.now.columns) footer.now.streams
+        located.now.bytes.now located.now.slices.items }
+    requires few { count < cell_limit }
+    ensures found { IfOk result (λ below. (own : List Cell)
+        × IsOwnColumn (shape tree.now) (columns_of footer.now located.now.bytes.now column) count own
+        × (below ≡ children (shape tree.now) (values own))) }
+    ensures few { IfOk result (λ below. below < cell_limit) }
+    ensures fault { IfErr result (λ cause. cause ≢ OutOfMemory
+        → (all : Bool)
+        × IsRefused (shape tree.now) (columns_of footer.now located.now.bytes.now column) column all count cause) }
+{
+    match reader_of(alloc, tree, column, footer, located) {
+        Ok(mut reader) => match count_values(column, &mut reader.present, count) {
+            Ok(values) => match read_values(tree, &mut reader.source, values) {
+                Ok(below) => Ok(below),
+                Err(fault) => Err(fault),
+            },
+            Err(fault) => Err(fault),
+        },
+        Err(fault) => Err(fault),
+    }
+}
+
+/// Reads a column of so many cells, and then those below it, each with as many cells as the one above has children.
+/// It answers the number of the column that comes next.
+#[cycle(walking)]
+fn walk_tree(
+    alloc: Global,
+    tree: &Tree,
+    column: usize,
+    footer: &StripeFooter,
+    located: &Located<'_>,
+    count: usize,
+) -> Result<usize, StripeFault>
+    requires there { column + width (shape tree.now) ≤ length footer.now.columns }
+    requires located { AreLocated (length footer.now.columns) footer.now.streams
+        located.now.bytes.now located.now.slices.items }
+    requires few { count < cell_limit }
+    ensures found { OnOk result
+        (OwnDown (shape tree.now) (columns_of footer.now located.now.bytes.now) column count) }
+    ensures next { IfOk result (λ next. next ≡ column + width (shape tree.now)) }
+    ensures fault { IfErr result (λ cause. cause ≢ OutOfMemory
+        → (all : Bool)
+        × RefusedDown (shape tree.now) (columns_of footer.now located.now.bytes.now) column all count cause) }
+{
+    match read_column(alloc, tree, column, footer, located, count) {
+        Ok(below) => match tree {
+            Tree::Scalar(_, _) => Ok(column + 1),
+            Tree::List(element, _) => {
+                match walk_tree(alloc, element, column + 1, footer, located, below) {
+                    Ok(next) => Ok(next),
+                    Err(fault) => Err(fault),
+                }
+            }
+            Tree::Map(key, value, _) => {
+                match walk_tree(alloc, key, column + 1, footer, located, below) {
+                    Ok(second) => match walk_tree(alloc, value, second, footer, located, below) {
+                        Ok(next) => Ok(next),
+                        Err(fault) => Err(fault),
+                    },
+                    Err(fault) => Err(fault),
+                }
+            }
+            Tree::Struct(fields, _) => {
+                match walk_fields(alloc, fields, column + 1, footer, located, below) {
+                    Ok(next) => Ok(next),
+                    Err(fault) => Err(fault),
+                }
+            }
+        },
+        Err(fault) => Err(fault),
+    }
+}
+
+/// Reads the columns of the fields of so many structs, one field after the other, and answers the number of the column
+/// that comes next.
+#[cycle(walking)]
+fn walk_fields(
+    alloc: Global,
+    fields: &[Field],
+    column: usize,
+    footer: &StripeFooter,
+    located: &Located<'_>,
+    count: usize,
+) -> Result<usize, StripeFault>
+    requires there { column + widths (fields_view fields.now) ≤ length footer.now.columns }
+    requires located { AreLocated (length footer.now.columns) footer.now.streams
+        located.now.bytes.now located.now.slices.items }
+    requires few { count < cell_limit }
+    ensures found { OnOk result
+        (OwnWithin (fields_view fields.now) (columns_of footer.now located.now.bytes.now) column count) }
+    ensures next { IfOk result (λ next. next ≡ column + widths (fields_view fields.now)) }
+    ensures fault { IfErr result (λ cause. cause ≢ OutOfMemory
+        → (all : Bool)
+        × RefusedWithin (fields_view fields.now) (columns_of footer.now located.now.bytes.now) column
+        all count cause) }
+{
+    let mut next = column;
+    for field in fields {
+        match walk_tree(alloc, &field.tree, next, footer, located, count) {
+            Ok(after) => next = after,
+            Err(fault) => return Err(fault),
+        }
+    }
+    Ok(next)
+}
+
+/// Reads a stripe's columns, one after the other, and tests that they spell so many rows of the type. No row is made. A
+/// struct's column without PRESENT is counted at once, so that the time is that of the bytes and of the columns.
+///
+/// Refusals: those of a stripe's rows, which come column by column here: the fault of the first column that doesn't
+/// spell as many cells as the column above has children. `TooMany(0)` where the rows are more than 2,147,483,647;
+/// `OutOfMemory`.
+pub fn walk_columns(
+    alloc: Global,
+    tree: &Tree,
+    footer: &StripeFooter,
+    located: &Located<'_>,
+    rows: u64,
+) -> Result<(), StripeFault>
+    requires there { width (shape tree.now) ≤ length footer.now.columns }
+    requires located { AreLocated (length footer.now.columns) footer.now.streams
+        located.now.bytes.now located.now.slices.items }
+    ensures found { OnOk result ((cells : List Cell)
+        × SpellRows (shape tree.now) (columns_of footer.now located.now.bytes.now) rows cells) }
+    ensures fault { IfErr result (λ cause. cause ≢ OutOfMemory
+        → RowsFault (shape tree.now) (columns_of footer.now located.now.bytes.now) rows cause) }
+{
+    if rows > MOST_CELLS {
+        return Err(StripeFault::TooMany(0));
+    }
+    match walk_tree(alloc, tree, 0, footer, located, rows as usize) {
+        Ok(_) => Ok(()),
+        Err(fault) => Err(fault),
+    }
+}
