@@ -17,24 +17,24 @@ use Rattle.orc_column_walk.specs.OwnColumns.{SpellsOwnValues, IsOwnColumn, eleme
 
 -- ---- of each cell
 
-pub value_bare : (c : Cell) → is_value (childless c) ≡ is_value c
-value_bare null = refl
-value_bare (leaf a) = refl
-value_bare (list cs) = refl
-value_bare (struct cs) = refl
-value_bare (pairs ps) = refl
+pub value_childless : (c : Cell) → is_value (childless c) ≡ is_value c
+value_childless null = refl
+value_childless (leaf a) = refl
+value_childless (list cs) = refl
+value_childless (struct cs) = refl
+value_childless (pairs ps) = refl
 
-pub marks_bare : (cs : List Cell) → map is_value (map childless cs) ≡ map is_value cs
-marks_bare [] = refl
-marks_bare (c ∷ cs) = λ i. value_bare c i ∷ marks_bare cs i
+pub marks_childless : (cs : List Cell) → map is_value (map childless cs) ≡ map is_value cs
+marks_childless [] = refl
+marks_childless (c ∷ cs) = λ i. value_childless c i ∷ marks_childless cs i
 
-pub values_bare : (cs : List Cell) → values (map childless cs) ≡ map childless (values cs)
-values_bare [] = refl
-values_bare (null ∷ cs) = values_bare cs
-values_bare (leaf a ∷ cs) = ap (λ t. leaf a ∷ t) (values_bare cs)
-values_bare (list x ∷ cs) = ap (λ t. childless (list x) ∷ t) (values_bare cs)
-values_bare (struct x ∷ cs) = ap (λ t. childless_struct ∷ t) (values_bare cs)
-values_bare (pairs x ∷ cs) = ap (λ t. childless (pairs x) ∷ t) (values_bare cs)
+pub values_childless : (cs : List Cell) → values (map childless cs) ≡ map childless (values cs)
+values_childless [] = refl
+values_childless (null ∷ cs) = values_childless cs
+values_childless (leaf a ∷ cs) = ap (λ t. leaf a ∷ t) (values_childless cs)
+values_childless (list x ∷ cs) = ap (λ t. childless (list x) ∷ t) (values_childless cs)
+values_childless (struct x ∷ cs) = ap (λ t. childless_struct ∷ t) (values_childless cs)
+values_childless (pairs x ∷ cs) = ap (λ t. childless (pairs x) ∷ t) (values_childless cs)
 
 -- ---- sizes
 
@@ -44,32 +44,32 @@ list_size n = ap length (list_of_cells-cells_of (replicate n null)) ∙ length-r
 pub map_size : (n : ℕ) → length (pairs_in (map_of_size n)) ≡ n
 map_size n = ap length (list_of_pairs-pairs_of (replicate n (null, null))) ∙ length-replicate n (null, null)
 
-pub elements_bare : (s : Shape) (o : List ℕ) (cs : List Cell) → RowsFit (list_of s o) cs → elements_together (map childless cs) ≡ elements_together cs
-elements_bare s o [] h = refl
-elements_bare s o (null ∷ cs) h = elements_bare s o cs h.1
-elements_bare s o (leaf a ∷ cs) h = let wrong = h.0 in cc
-elements_bare s o (struct x ∷ cs) h = let wrong = h.0 in cc
-elements_bare s o (pairs x ∷ cs) h = let wrong = h.0 in cc
-elements_bare s o (list x ∷ cs) h =
+pub elements_childless : (s : Shape) (o : List ℕ) (cs : List Cell) → RowsFit (list_of s o) cs → elements_together (map childless cs) ≡ elements_together cs
+elements_childless s o [] h = refl
+elements_childless s o (null ∷ cs) h = elements_childless s o cs h.1
+elements_childless s o (leaf a ∷ cs) h = let wrong = h.0 in cc
+elements_childless s o (struct x ∷ cs) h = let wrong = h.0 in cc
+elements_childless s o (pairs x ∷ cs) h = let wrong = h.0 in cc
+elements_childless s o (list x ∷ cs) h =
     let n = length (list_of_cells x) in
     let a = length-append (parts (list_of_size n)) (flat_map parts (values (map childless cs))) in
     let b = length-append (list_of_cells x) (flat_map parts (values cs)) in
-    omega (arith, a, b, list_size n, elements_bare s o cs h.1)
+    omega (arith, a, b, list_size n, elements_childless s o cs h.1)
 
-pub pairs_bare : (k v : Shape) (o : List ℕ) (cs : List Cell) → RowsFit (map_of k v o) cs → pairs_together (map childless cs) ≡ pairs_together cs
-pairs_bare k v o [] h = refl
-pairs_bare k v o (null ∷ cs) h = pairs_bare k v o cs h.1
-pairs_bare k v o (leaf a ∷ cs) h = let wrong = h.0 in cc
-pairs_bare k v o (struct x ∷ cs) h = let wrong = h.0 in cc
-pairs_bare k v o (list x ∷ cs) h = let wrong = h.0 in cc
-pairs_bare k v o (pairs x ∷ cs) h =
+pub pairs_childless : (k v : Shape) (o : List ℕ) (cs : List Cell) → RowsFit (map_of k v o) cs → pairs_together (map childless cs) ≡ pairs_together cs
+pairs_childless k v o [] h = refl
+pairs_childless k v o (null ∷ cs) h = pairs_childless k v o cs h.1
+pairs_childless k v o (leaf a ∷ cs) h = let wrong = h.0 in cc
+pairs_childless k v o (struct x ∷ cs) h = let wrong = h.0 in cc
+pairs_childless k v o (list x ∷ cs) h = let wrong = h.0 in cc
+pairs_childless k v o (pairs x ∷ cs) h =
     let n = length (list_of_pairs x) in
     let a = length-append (pairs_in (map_of_size n)) (flat_map pairs_in (values (map childless cs))) in
     let b = length-append (list_of_pairs x) (flat_map pairs_in (values cs)) in
-    omega (arith, a, b, map_size n, pairs_bare k v o cs h.1)
+    omega (arith, a, b, map_size n, pairs_childless k v o cs h.1)
 
-pub structs_bare : (cs : List Cell) → length (values (map childless cs)) ≡ length (values cs)
-structs_bare cs = ap length (values_bare cs) ∙ length-map (values cs) childless
+pub structs_childless : (cs : List Cell) → length (values (map childless cs)) ≡ length (values cs)
+structs_childless cs = ap length (values_childless cs) ∙ length-map (values cs) childless
 
 -- so many keys, and so many values, as pairs
 pub keys_long : (vs : List Cell) → length (flat_map keys_in vs) ≡ length (flat_map pairs_in vs)
@@ -162,5 +162,5 @@ pub own_of : (s : Shape) (x : Streams) (cs : List Cell) → RowsFit s cs → Has
 own_of s x cs fit room h = record {
   counted = length-map cs childless;
   few = h.few;
-  spelled = (subst (Marks (x.stream 0)) (sym (marks_bare cs)) h.marks, subst (SpellsOwnValues s x) (sym (values_bare cs)) (own_values s x cs fit room h.spelled));
+  spelled = (subst (Marks (x.stream 0)) (sym (marks_childless cs)) h.marks, subst (SpellsOwnValues s x) (sym (values_childless cs)) (own_values s x cs fit room h.spelled));
 }

@@ -12,7 +12,7 @@ use Rattle.orc_columns.specs.Stripe.{Streams, IsColumn, SpellRows, most_cells}
 use Rattle.orc_columns.proofs.ByNumber.{to_number, first_cells, wide}
 use Rattle.orc_column_walk.specs.Childless.{childless}
 use Rattle.orc_column_walk.specs.OwnColumns.{AreOwnColumns, AreOwnFields, elements_together, pairs_together, OwnDown}
-use Rattle.orc_column_walk.proofs.ChildlessLemmas.{own_of, elements_bare, pairs_bare, structs_bare, keys_long, map_values_long}
+use Rattle.orc_column_walk.proofs.ChildlessLemmas.{own_of, elements_childless, pairs_childless, structs_childless, keys_long, map_values_long}
 use Rattle.orc_column_walk.proofs.OneOwn.{own_same, fields_same, one_own}
 use Rattle.orc_column_walk.proofs.RowsOf.{own_down, rows_down}
 
@@ -94,10 +94,10 @@ mutual
   kept_own (list_of s o) x rows fit h =
       let below = kept_own s (λ c. x (suc c)) (flat_map parts (values rows)) (elements_fit s o rows fit) (λ c lt. h (suc c) (omega (arith, lt))) in (
         own_of (list_of s o) (x 0) rows fit (few_elements s o x rows h) (h 0 (omega arith)),
-        subst (AreOwnColumns s (λ c. x (suc c)) (kept s (flat_map parts (values rows)))) (sym (elements_bare s o rows fit)) below,
+        subst (AreOwnColumns s (λ c. x (suc c)) (kept s (flat_map parts (values rows)))) (sym (elements_childless s o rows fit)) below,
       )
   kept_own (map_of k v o) x rows fit h =
-      let many = sym (pairs_bare k v o rows fit) in
+      let many = sym (pairs_childless k v o rows fit) in
       let keys = kept_own k (λ c. x (suc c)) (flat_map keys_in (values rows)) (keys_fit k v o rows fit) (key_column k v o x rows h) in
       let seconds = kept_own v (λ c. x (suc (width k + c))) (flat_map values_in (values rows)) (values_fit k v o rows fit) (second_column k v o x rows h) in (
         own_of (map_of k v o) (x 0) rows fit (few_pairs k v o x rows h) (h 0 (omega arith)),
@@ -109,7 +109,7 @@ mutual
   kept_own (struct_of fs o) x rows fit h =
       let below = kept_fields fs (λ c. x (suc c)) (map parts (values rows)) (structs_fit fs o rows fit) (λ c lt. h (suc c) (omega (arith, lt))) in (
         own_of (struct_of fs o) (x 0) rows fit tt (h 0 (omega arith)),
-        subst (AreOwnFields fs (λ c. x (suc c)) (kept_within fs (map parts (values rows)))) (length-map (values rows) parts ∙ sym (structs_bare rows)) below,
+        subst (AreOwnFields fs (λ c. x (suc c)) (kept_within fs (map parts (values rows)))) (length-map (values rows) parts ∙ sym (structs_childless rows)) below,
       )
 
   kept_fields : (fs : Fields) (x : ℕ → Streams) (structs : List (List Cell)) → StructsFit fs structs → SpelledWithin fs x structs → AreOwnFields fs x (kept_within fs structs) (length structs)

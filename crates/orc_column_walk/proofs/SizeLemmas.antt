@@ -1,5 +1,5 @@
 -- Sizes of lists, or of maps, one after the other.
-use Rattle.std.proofs.Common.{◌≡◌, ℕ, zero, suc, ◌+◌, ◌-◌, ◌≤◌, pos, Bool, true, None, List, [], ◌∷◌, ◌++◌, map, length, replicate, sum, refl, sym, ap, ◌∙◌, subst, arith, length-append}
+use Rattle.std.proofs.Common.{◌≡◌, ℕ, zero, suc, ◌+◌, ◌-◌, ◌≤◌, pos, Bool, true, None, List, [], ◌∷◌, ◌++◌, map, length, replicate, sum, refl, sym, ap, subst, arith, length-append}
 use Rattle.std.specs.List.{AllByRecursion}
 use Rattle.std.proofs.lemmas.List.{length-map, length-replicate}
 use Rattle.orc_types.specs.Cells.{Cell, struct, cells_of, is_value, values}
@@ -101,21 +101,19 @@ pub record SizesRead (before after : ValueSource) (count together : ℕ) : Type 
   pub read : AreRead (SizesLeft before) (SizesLeft after) (λ all n f. ListsMeet before all n f) (λ all n f. ListsMeet after all n f) count sizes
   pub summed : together ≡ sum sizes
   pub room : together + after.room ≡ before.room
-  pub column : after.column ≡ before.column
 
 pub no_sizes_read : (source : ValueSource) → SizesRead source source 0 0
-no_sizes_read source = record { sizes = []; read = none_read (SizesLeft source) (λ all n f. ListsMeet source all n f); summed = refl; room = omega arith; column = refl }
+no_sizes_read source = record { sizes = []; read = none_read (SizesLeft source) (λ all n f. ListsMeet source all n f); summed = refl; room = omega arith }
 
 pub size_read : (before between after : ValueSource) (count together size together' : ℕ) → SizesRead before between count together → Leaves (NumbersLeft between.numbers) (NumbersLeft after.numbers) (pos size ∷ [])
-    → size ≤ between.room → after.room ≡ between.room - size → after.column ≡ between.column → ((all : Bool) (n : ℕ) (f : StripeFault) → ListsMeet after all n f → ListsMeet between all (suc n) f)
+    → size ≤ between.room → after.room ≡ between.room - size → ((all : Bool) (n : ℕ) (f : StripeFault) → ListsMeet after all n f → ListsMeet between all (suc n) f)
     → together' ≡ together + size → SizesRead before after (count + 1) together'
-size_read before between after count together size together' r leave le room column fault is = record {
+size_read before between after count together size together' r leave le room fault is = record {
   sizes = r.sizes ++ size ∷ [];
   read = one_read (SizesLeft before) (SizesLeft between) (SizesLeft after) (λ all n f. ListsMeet before all n f) (λ all n f. ListsMeet between all n f) (λ all n f. ListsMeet after all n f) count r.sizes size r.read
       (sizes_leave between after size leave le room) fault;
   summed = omega (arith, r.summed, is, sum_append r.sizes (size ∷ []), sum_more size []);
   room = omega (arith, r.room, is, le, room);
-  column = column ∙ r.column;
 }
 
 pub no_sizes : (source : ValueSource) → NumbersLeft source.numbers [] → SizesLeft source []

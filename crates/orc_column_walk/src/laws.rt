@@ -7,7 +7,7 @@ ghost use Rattle.orc_columns.specs.Faults.{RowsFault};
 ghost use Rattle.orc_columns.specs.Stripe.{Streams, SpellRows};
 ghost use Rattle.orc_columns.specs.declared.fault.StripeFault.{StripeFault};
 ghost use Rattle.orc_column_walk.specs.Childless.{childless};
-ghost use Rattle.orc_column_walk.specs.OwnColumns.{AreOwnColumns, OwnDown};
+ghost use Rattle.orc_column_walk.specs.OwnColumns.{AreOwnColumns};
 ghost use Rattle.orc_column_walk.specs.OwnFaults.{RefusedDown};
 
 /// Where the streams of each column by themselves spell cells, as many as the column above has children, there are rows
@@ -23,9 +23,6 @@ pub fn own_column_laws()
     ensures cells { (s : Shape) (x : ℕ → Streams) (n : ℕ) (own : ℕ → List Cell) (rows : List Cell)
         → AreOwnColumns s x own n → SpellRows s x n rows
         → (c : ℕ) → c < width s → own c ≡ map childless (cells s c rows) }
-    ensures down { (s : Shape) (columns : ℕ → Streams) (n : ℕ)
-        → OwnDown s columns 0 n
-        → (rows : List Cell) × SpellRows s columns n rows }
     ensures refused { (s : Shape) (columns : ℕ → Streams) (all : Bool) (n : ℕ) (f : StripeFault)
         → RefusedDown s columns 0 all n f
         → RowsFault s columns n f }

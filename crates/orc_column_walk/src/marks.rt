@@ -1,5 +1,5 @@
 //! PRESENT of a column by itself: how many of its cells are not null.
-ghost use Rattle.std.specs.Prelude.{◌≡◌, ◌≢◌, ◌+◌, ◌∷◌, [], ℕ, Bool, false, List, length, IfOk, IfErr, OnErr};
+ghost use Rattle.std.specs.Prelude.{◌≡◌, ◌≢◌, ◌+◌, ◌∷◌, [], ℕ, Bool, false, List, length, IfOk, IfErr, OnOk, OnErr};
 ghost use Rattle.orc_columns.specs.Columns.{MarksLeft};
 ghost use Rattle.orc_columns.specs.Faults.{RunsFail};
 ghost use Rattle.orc_columns.specs.Fronts.{Leaves, Lacks};
@@ -32,7 +32,7 @@ fn read_marks(
         × Leaves (MarksLeft present.old) (MarksLeft present.new) marks
         × (values ≡ trues marks)) }
     ensures none { OnErr result (Lacks (MarksLeft present.old) count) }
-    ensures before { IfOk result (λ values. (all : Bool) (n : ℕ) (f : Fault)
+    ensures before { OnOk result ((all : Bool) (n : ℕ) (f : Fault)
         → RunsFail Present column (Always all n (MarksMeet present.new)) f
         → RunsFail Present column (Always all (count + n) (MarksMeet present.old)) f) }
     ensures fault { IfErr result (λ cause. cause ≢ OutOfMemory

@@ -1,5 +1,5 @@
 //! The sizes of a column of lists, or of maps, read to the end of LENGTH.
-ghost use Rattle.std.specs.Prelude.{◌≡◌, ◌≢◌, ◌+◌, ◌≤◌, ℕ, Bool, false, List, length, sum, IfOk, IfErr, OnErr};
+ghost use Rattle.std.specs.Prelude.{◌≡◌, ◌≢◌, ◌+◌, ◌≤◌, ℕ, Bool, false, List, length, sum, IfOk, IfErr, OnOk, OnErr};
 ghost use Rattle.orc_columns.specs.Fronts.{Leaves, Lacks};
 ghost use Rattle.orc_columns.specs.ReaderFaults.{ListsMeet};
 ghost use Rattle.orc_columns.specs.declared.fault.StripeFault.{StripeFault as Fault};
@@ -18,10 +18,9 @@ fn add_sizes(source: &mut ValueSource<'_>, count: usize) -> Result<usize, Stripe
         × (together ≡ sum sizes)) }
     ensures room { IfOk result (λ together. together ≤ source.old.room) }
     ensures none { OnErr result (Lacks (SizesLeft source.old) count) }
-    ensures before { IfOk result (λ together. (all : Bool) (n : ℕ) (f : Fault)
+    ensures before { OnOk result ((all : Bool) (n : ℕ) (f : Fault)
         → ListsMeet source.new all n f
         → ListsMeet source.old all (count + n) f) }
-    ensures column { IfOk result (λ together. source.new.column ≡ source.old.column) }
     ensures fault { IfErr result (λ cause. cause ≢ OutOfMemory → ListsMeet source.old false count cause) }
 {
     // for the proof, which knows that the room is a number of 64 bits where it is read

@@ -1,4 +1,4 @@
-use Rattle.orc_column_walk.proofs.OwnRows.{own_rows, own_cells, stripe_rows, down_rows}
+use Rattle.orc_column_walk.proofs.OwnRows.{own_rows, own_cells, stripe_rows}
 use Rattle.orc_column_walk.proofs.RefusedLemmas.{refused_rows}
 use Rattle.orc_column_walk.proofs.laws.own_column_laws.Goals as goal
 
@@ -10,9 +10,6 @@ returns-clause-own c = own_rows
 
 pub returns-clause-cells : goal.returns-clause-cells
 returns-clause-cells c = own_cells
-
-pub returns-clause-down : goal.returns-clause-down
-returns-clause-down c = down_rows
 
 pub returns-clause-refused : goal.returns-clause-refused
 returns-clause-refused c = refused_rows

@@ -12,7 +12,7 @@ loop-init c = no_sizes_read c.args.source.now
 pub loop-preserved : goal.loop-preserved
 loop-preserved c =
     size_read c.args.source.now c.loop.source c.next_size.new.source c.loop.counter c.loop.together c.in-Ok.size _ c.loop.invariant
-    c.in-Ok.ensures.found c.in-Ok.ensures.room.0 c.in-Ok.ensures.room.1 c.next_size.ensures.column c.in-Ok.ensures.before refl
+    c.in-Ok.ensures.found c.in-Ok.ensures.room.0 c.in-Ok.ensures.room.1 c.in-Ok.ensures.before refl
 
 pub returns-in-Err-clause-none : goal.returns-in-Err-clause-none
 returns-in-Err-clause-none c =
