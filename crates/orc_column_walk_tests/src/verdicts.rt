@@ -16,6 +16,7 @@ mod lists;
 mod maps;
 mod numbers;
 mod texts;
+mod wide;
 
 use orc_column_walk::walk_columns;
 use orc_columns::directory::check_directory;
