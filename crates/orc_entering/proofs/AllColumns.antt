@@ -11,6 +11,7 @@ use Rattle.orc_columns.specs.declared.column.ColumnReader.{ColumnReader}
 use Rattle.orc_columns.specs.Stripe.{Streams, IsColumn}
 use Rattle.orc_columns.proofs.ByNumber.{all-front}
 use Rattle.orc_entering.specs.Columns.{ColumnIsLeft, Turns}
+use Rattle.orc_entering.specs.ReadersAt.{ColumnAt}
 use Rattle.orc_entering.specs.Rows.{RowsTurn}
 use Rattle.orc_entering.proofs.ByColumn.{left_by_tree}
 
@@ -54,3 +55,20 @@ all_left s x y entries before after readers t n all = left_by_tree s readers aft
   few = λ c lt. let k = (t.spelled.column c lt).few in omega (arith, k, ap length (cells-append s c before after), length-append (cells s c before) (cells s c after));
   column = all;
 })
+
+pub one_more_at : (s own : Shape) (y : ℕ → Streams) (entries : List RowIndexEntry) (old new : List ColumnReader) (r : ColumnReader) (k : ℕ) (last : RowIndexEntry) → new ≡ old ++ r ∷ [] → length old ≡ k → own ≡ shape_at s k
+    → slice_get entries k ≡ Some last
+    → ((c : ℕ) (entry : RowIndexEntry) (q : ColumnReader) → slice_get entries c ≡ Some entry → slice_get old c ≡ Some q → ColumnAt (shape_at s c) (y c) c entry.positions q) → ColumnAt own (y k) k last.positions r
+    → (c : ℕ) (entry : RowIndexEntry) (q : ColumnReader) → slice_get entries c ≡ Some entry → slice_get new c ≡ Some q → ColumnAt (shape_at s c) (y c) c entry.positions q
+one_more_at s own y entries old new r k last e n o there all here c entry q found at = elim (pushed_get old r c q (ap (λ t. slice_get t c) (sym e) ∙ at)) [
+  | inl h ↦ all c entry q found h
+  | inr h ↦
+      let i : k ≡ c = sym n ∙ sym h.0 in
+      let same : last ≡ entry = some_same last entry (sym there ∙ ap (slice_get entries) i ∙ found) in
+      let l = subst (λ (z : Shape). ColumnAt z (y k) k last.positions r) o here in
+      subst (λ (p : ColumnReader). ColumnAt (shape_at s c) (y c) c entry.positions p) h.1
+      (subst (λ (x : RowIndexEntry). ColumnAt (shape_at s c) (y c) c x.positions r) same (subst (λ (j : ℕ). ColumnAt (shape_at s j) (y j) j last.positions r) i l))
+]
+  where
+    some_same : (a b : RowIndexEntry) → Some a ≡ Some b → a ≡ b
+    some_same a b eq = cc

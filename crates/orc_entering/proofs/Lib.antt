@@ -9,3 +9,4 @@ mod ByColumn
 mod AllColumns
 pub mod OnlyMemory
 mod Refused
+mod RunStarts

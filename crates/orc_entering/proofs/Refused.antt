@@ -27,7 +27,7 @@ runs_refused s x placed c ps rest last k cause f are e cut fails named =
 
 -- ---- the column
 
-size_of : (s : Shape) (x : Streams) (placed : PlacedStreams) → ArePlaced s x placed → position_size (runs placed.present) + (octets_size (lent_bytes placed.content) + position_size (runs placed.own)) ≡ positions_size s x
+pub size_of : (s : Shape) (x : Streams) (placed : PlacedStreams) → ArePlaced s x placed → position_size (runs placed.present) + (octets_size (lent_bytes placed.content) + position_size (runs placed.own)) ≡ positions_size s x
 size_of s x placed are i = position_size (are.present_is i) + (octets_size (are.content_is i) + position_size (are.own_is i))
 
 pub own_refused : (s : Shape) (x : Streams) (placed : PlacedStreams) (c : ℕ) (ps last : List ℕ) (all size : ℕ) (f : StripeFault) → ArePlaced s x placed

@@ -13,6 +13,7 @@ use Rattle.orc_columns.specs.Bits.{BitsLeft}
 use Rattle.orc_columns.specs.declared.bits.Bits.{Bits}
 use Rattle.orc_columns.proofs.BitsLemmas.{no_digit}
 use Rattle.orc_entering.specs.Entering.{AgreeFrom}
+use Rattle.orc_entering.specs.ReadersAt.{HoldsFirst}
 
 within : (bytes other : List ℕ) (total offset skip digits n : ℕ) → BeginsBits other total offset skip digits n → AgreeFrom offset bytes other → (offset ≤ length bytes) × (offset ≤ length other)
 within bytes other total offset skip digits n b agree = let le = offset_within IsByteRun other offset skip b.whole b.begins in (omega (arith, le, agree.long), le)
@@ -69,3 +70,13 @@ some_left bytes left offset skip (suc passed) at none s = absurd (by_runs s.1.pa
     by_runs : Passes IsByteRun (drop offset bytes) skip (bytes_needed skip (suc passed)) s.1.len left → ⊥
     by_runs (inl h) = omega (arith, h.0)
     by_runs (inr h) = omega (arith, h.few, h.enough, ap length h.left_is, ap length none, length-drop (skip - length h.before) h.last)
+
+-- ---- what a reader holds of the bytes that are left
+
+pub holds_first : (left : List ℕ) (passed : ℕ) (r : Bits) → slice_get left 0 ≡ Some r.held → r.left ≡ 8 - passed → drop r.bytes.used r.bytes.run.values ≡ drop 1 left → HoldsFirst left passed r
+holds_first [] passed r first many pending = absurd cc
+holds_first (f ∷ more) passed r first many pending = (cc, many, pending)
+
+pub holds_none : (left : List ℕ) (passed : ℕ) (r : Bits) → left ≡ [] → r.left ≡ 0 → drop r.bytes.used r.bytes.run.values ≡ [] → HoldsFirst left passed r
+holds_none [] passed r none many pending = (many, pending)
+holds_none (f ∷ more) passed r none many pending = absurd cc

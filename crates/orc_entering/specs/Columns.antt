@@ -1,5 +1,5 @@
 -- Columns that are entered at their positions (ORC specification, "Row Group Index", "Column Encodings").
-use Rattle.std.specs.Prelude.{◌≡◌, ℕ, Bool, true, false, Option, Some, None, List, [], ◌∷◌, ◌++◌, length, map, drop, get_or}
+use Rattle.std.specs.Prelude.{◌≡◌, ℕ, ◌≤◌, Bool, true, false, Option, Some, None, List, [], ◌∷◌, ◌++◌, length, map, drop, get_or}
 use Rattle.orc_types.specs.Cells.{Cell, is_value, parts, pairs_in, values}
 use Rattle.orc_types.specs.Shapes.{Shape, scalar, list_of, map_of, struct_of}
 use Rattle.std.specs.declared.vec.Vec.{Vec}
@@ -30,10 +30,11 @@ EntersMarks [] positions (Some bits) = ⊥
 EntersMarks (b ∷ bs) positions None = ⊥
 EntersMarks (b ∷ bs) positions (Some bits) = Enters (bit_runs (b ∷ bs)) positions (entered.Bits bits)
 
--- bytes as they are, from their position on, and the positions behind it
+-- bytes as they are, from their position on, which lies within them, and the positions behind it
 abbrev pub CutsOctets : Option (List ℕ) → List ℕ → List ℕ → List ℕ → Type 0
 CutsOctets None positions rest last = last ≡ positions
-CutsOctets (Some bytes) positions rest last = (offset : ℕ) × (positions ≡ offset ∷ last) × (rest ≡ drop offset bytes)
+CutsOctets (Some bytes) positions rest last =
+    (offset : ℕ) × (positions ≡ offset ∷ last) × (rest ≡ drop offset bytes) × (offset ≤ length bytes)
 
 -- a source has the stream that was entered, and the bytes
 abbrev pub IsSource : Entered → List ℕ → ValueSource → Type 0

@@ -3,3 +3,5 @@ pub mod Streams
 pub mod Columns
 pub mod Rows
 pub mod Refusals
+pub mod RunsPassed
+pub mod ReadersAt

@@ -3,7 +3,9 @@ ghost use Rattle.std.specs.Prelude.{◌≡◌, ◌-◌, ◌≤◌, [], length, d
 ghost use Rattle.orc_rle.specs.Seeking.{SeeksBits, BitSeekFails};
 ghost use Rattle.orc_columns.specs.Bits.{BitsLeft};
 ghost use Rattle.orc_entering.specs.Entering.{EntersBits};
+ghost use Rattle.orc_entering.specs.ReadersAt.{BitsAt};
 
+use crate::run_starts::last_byte_start;
 use orc_columns::bits::Bits;
 use orc_columns::bytes::RunLengthBytes;
 use orc_rle::{BitPos, BitRuns, RunFault, RunU8};
@@ -29,6 +31,7 @@ pub fn bits_at(bytes: &[u8], pos: BitPos) -> Result<Bits<'_>, RunFault>
         (λ _. EntersBits bytes.now pos.offset pos.skip pos.bits (λ _. ⊥)) }
     ensures found { IfOk result
         (λ found. SeeksBits bytes.now pos.offset pos.skip pos.bits found.bytes.at found.bytes.run.values) }
+    ensures at { IfOk result (BitsAt bytes.now pos.offset pos.skip pos.bits) }
     ensures fault { IfErr result (BitSeekFails bytes.now pos.offset pos.skip pos.bits) }
 {
     let mut run = RunU8::new();
@@ -36,13 +39,14 @@ pub fn bits_at(bytes: &[u8], pos: BitPos) -> Result<Bits<'_>, RunFault>
         Ok(at) => at,
         Err(fault) => return Err(fault),
     };
+    let start = last_byte_start(bytes, pos.offset, at);
     // the byte in which the position stands is held, without the digits that are passed
     match next_byte(&run) {
         Some(byte) => Ok(Bits {
             bytes: RunLengthBytes {
                 bytes,
                 at,
-                start: pos.offset,
+                start,
                 run,
                 used: 1,
             },
@@ -53,7 +57,7 @@ pub fn bits_at(bytes: &[u8], pos: BitPos) -> Result<Bits<'_>, RunFault>
             bytes: RunLengthBytes {
                 bytes,
                 at,
-                start: pos.offset,
+                start,
                 run,
                 used: 0,
             },

@@ -4,7 +4,9 @@ ghost use Rattle.orc_rle.specs.ByteRun.{IsByteRun, NoByteRun};
 ghost use Rattle.orc_rle.specs.Seeking.{Seeks, SeekFails};
 ghost use Rattle.orc_columns.specs.Bytes.{BytesLeft};
 ghost use Rattle.orc_entering.specs.Entering.{EntersRuns};
+ghost use Rattle.orc_entering.specs.ReadersAt.{BytesAt};
 
+use crate::run_starts::last_byte_start;
 use orc_columns::bytes::RunLengthBytes;
 use orc_rle::{ByteRuns, Pos, RunFault, RunU8};
 
@@ -18,6 +20,7 @@ pub fn bytes_at(bytes: &[u8], pos: Pos) -> Result<RunLengthBytes<'_>, RunFault>
         (λ _. EntersRuns IsByteRun bytes.now pos.offset pos.skip (λ _. ⊥)) }
     ensures found { IfOk result
         (λ found. Seeks IsByteRun bytes.now pos.offset pos.skip pos.skip found.at found.run.values) }
+    ensures at { IfOk result (BytesAt bytes.now pos.offset pos.skip) }
     ensures fault { IfErr result (SeekFails IsByteRun NoByteRun bytes.now pos.offset pos.skip) }
 {
     let mut run = RunU8::new();
@@ -25,7 +28,7 @@ pub fn bytes_at(bytes: &[u8], pos: Pos) -> Result<RunLengthBytes<'_>, RunFault>
         Ok(at) => Ok(RunLengthBytes {
             bytes,
             at,
-            start: pos.offset,
+            start: last_byte_start(bytes, pos.offset, at),
             run,
             used: 0,
         }),

@@ -1,7 +1,8 @@
 //! A column's streams of runs that are entered, whatever their runs are of.
-ghost use Rattle.std.specs.Prelude.{◌≡◌, ◌∷◌, ℕ, [], IfSome, IfNone, IfErr, MatchResult};
+ghost use Rattle.std.specs.Prelude.{◌≡◌, ◌∷◌, ℕ, [], IfSome, IfNone, IfOk, IfErr, MatchResult};
 ghost use Rattle.orc_index.specs.RunStreams.{bit_runs, byte_runs, number_runs};
 ghost use Rattle.orc_index.specs.Walking.{runs};
+ghost use Rattle.orc_entering.specs.ReadersAt.{StreamAt};
 ghost use Rattle.orc_entering.specs.Refusals.{StreamFails};
 ghost use Rattle.orc_entering.specs.Streams.{Enters, NeverEnters};
 ghost use Rattle.orc_entering.specs.declared.entered.Entered.TheVariants as entered;
@@ -67,6 +68,7 @@ fn numbers_from<'a>(
     ensures enters { MatchResult result
         (Enters (number_runs version sign bytes.now) positions.now)
         (λ _. NeverEnters (number_runs version sign bytes.now) positions.now) }
+    ensures at { IfOk result (StreamAt (number_runs version sign bytes.now) positions.now) }
     ensures fault { IfErr result (StreamFails (number_runs version sign bytes.now) positions.now) }
 {
     let Some(pos) = pos_of(positions) else {
@@ -83,6 +85,7 @@ fn bytes_from<'a>(bytes: &'a [u8], positions: &[u64]) -> Result<Entered<'a>, Run
     ensures enters { MatchResult result
         (Enters (byte_runs bytes.now) positions.now)
         (λ _. NeverEnters (byte_runs bytes.now) positions.now) }
+    ensures at { IfOk result (StreamAt (byte_runs bytes.now) positions.now) }
     ensures fault { IfErr result (StreamFails (byte_runs bytes.now) positions.now) }
 {
     let Some(pos) = pos_of(positions) else {
@@ -99,6 +102,7 @@ pub(crate) fn bits_from<'a>(bytes: &'a [u8], positions: &[u64]) -> Result<Bits<'
     ensures enters { MatchResult result
         (λ bits. Enters (bit_runs bytes.now) positions.now (entered.Bits bits))
         (λ _. NeverEnters (bit_runs bytes.now) positions.now) }
+    ensures at { IfOk result (λ bits. StreamAt (bit_runs bytes.now) positions.now (entered.Bits bits)) }
     ensures fault { IfErr result (StreamFails (bit_runs bytes.now) positions.now) }
 {
     let Some(pos) = bit_pos_of(positions) else {
@@ -115,6 +119,7 @@ pub(crate) fn enter<'a>(stream: &RunBytes<'a>, positions: &[u64]) -> Result<Ente
     ensures enters { MatchResult result
         (Enters (runs stream.now) positions.now)
         (λ _. NeverEnters (runs stream.now) positions.now) }
+    ensures at { IfOk result (StreamAt (runs stream.now) positions.now) }
     ensures fault { IfErr result (StreamFails (runs stream.now) positions.now) }
 {
     match *stream {

@@ -12,6 +12,7 @@ mod octets;
 mod own;
 mod reader;
 mod readers;
+mod run_starts;
 mod value_source;
 
 pub use bits::bits_at;

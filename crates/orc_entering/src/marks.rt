@@ -1,7 +1,8 @@
 //! PRESENT from its positions on.
-ghost use Rattle.std.specs.Prelude.{IfErr, MatchResult};
+ghost use Rattle.std.specs.Prelude.{IfOk, IfErr, MatchResult};
 ghost use Rattle.orc_index.specs.RunStreams.{present_runs};
 ghost use Rattle.orc_entering.specs.Columns.{EntersMarks};
+ghost use Rattle.orc_entering.specs.ReadersAt.{MarksAt};
 ghost use Rattle.orc_entering.specs.Refusals.{StreamFails};
 ghost use Rattle.orc_entering.specs.Streams.{NeverEnters};
 
@@ -17,6 +18,7 @@ pub(crate) fn marks_from<'a>(
     ensures enters { MatchResult result
         (EntersMarks present.now positions.now)
         (λ _. NeverEnters (present_runs present.now) positions.now) }
+    ensures at { IfOk result (MarksAt present.now positions.now) }
     ensures fault { IfErr result (StreamFails (present_runs present.now) positions.now) }
 {
     match present {

@@ -4,7 +4,9 @@ ghost use Rattle.orc_rle.specs.Seeking.{Seeks, SeekFails};
 ghost use Rattle.orc_columns.specs.Numbers.{is_run, NumbersLeft};
 ghost use Rattle.orc_columns.specs.RunFaults.{no_run};
 ghost use Rattle.orc_entering.specs.Entering.{EntersRuns};
+ghost use Rattle.orc_entering.specs.ReadersAt.{NumbersAt};
 
+use crate::run_starts::last_start;
 use orc_columns::numbers::Numbers;
 use orc_rle::{Pos, Rle, Run, RunCodec, RunFault, Sign, V1, V2};
 
@@ -23,6 +25,7 @@ fn seek(version: Rle, bytes: &[u8], sign: Sign, pos: Pos, run: &mut Run) -> Resu
 }
 
 /// A stream of integers from a position on: the runs from its offset to the value are decoded, and nothing before them.
+/// A fault that is met later names the run that has it, and not the position.
 ///
 /// Refusals: those of `seek`. Bytes that are a right stream from the offset on, in which the position names a
 /// value, are never refused.
@@ -37,6 +40,7 @@ pub fn numbers_at<'a>(
         (λ _. EntersRuns (is_run version sign) bytes.now pos.offset pos.skip (λ _. ⊥)) }
     ensures found { IfOk result
         (λ numbers. Seeks (is_run version sign) bytes.now pos.offset pos.skip pos.skip numbers.at numbers.run.values) }
+    ensures at { IfOk result (NumbersAt version sign bytes.now pos.offset pos.skip) }
     ensures fault { IfErr result (SeekFails (is_run version sign) (no_run version sign) bytes.now pos.offset pos.skip) }
 {
     let mut run = Run::new();
@@ -46,7 +50,7 @@ pub fn numbers_at<'a>(
             sign,
             bytes,
             at,
-            start: pos.offset,
+            start: last_start(version, sign, bytes, pos.offset, at),
             run,
             used: 0,
         }),

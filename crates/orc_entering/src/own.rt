@@ -1,5 +1,5 @@
 //! What a column's values are read from, from its positions on.
-ghost use Rattle.std.specs.Prelude.{◌≡◌, ◌≢◌, ◌++◌, ℕ, List, IfErr, MatchResult};
+ghost use Rattle.std.specs.Prelude.{◌≡◌, ◌≢◌, ◌++◌, ℕ, List, IfOk, IfErr, MatchResult};
 ghost use Rattle.orc_types.specs.Cells.{Cell, values};
 ghost use Rattle.orc_types.specs.Views.{shape};
 ghost use Rattle.orc_columns.specs.Starting.{AreStreams};
@@ -8,6 +8,7 @@ ghost use Rattle.orc_columns.specs.declared.fault.StripeFault.TheVariants.{OutOf
 ghost use Rattle.orc_index.specs.Places.{octets, octets_place};
 ghost use Rattle.orc_index.specs.RunStreams.{own_octets};
 ghost use Rattle.orc_entering.specs.Columns.{OwnTurns, OwnValuesLeft};
+ghost use Rattle.orc_entering.specs.ReadersAt.{SourceAt};
 ghost use Rattle.orc_entering.specs.Refusals.{OwnRefused};
 
 use crate::entered::enter;
@@ -40,6 +41,8 @@ pub(crate) fn own_from<'a>(
         → MatchResult result
         (λ source. OwnValuesLeft (shape tree.now) source (values after))
         (λ fault. fault ≡ OutOfMemory) }
+    ensures at { IfOk result (λ source. (x : Streams) → AreStreams x streams.now
+        → SourceAt (shape tree.now) x column positions.now source) }
     ensures fault { IfErr result (λ cause. cause ≢ OutOfMemory
         → (x : Streams) → AreStreams x streams.now
         → OwnRefused (shape tree.now) x column positions.now cause) }

@@ -1,5 +1,5 @@
 //! A column's reader, from its positions on.
-ghost use Rattle.std.specs.Prelude.{◌≡◌, ◌≢◌, ◌++◌, ◌+◌, List, length, IfErr, MatchResult};
+ghost use Rattle.std.specs.Prelude.{◌≡◌, ◌≢◌, ◌++◌, ◌+◌, List, length, IfOk, IfErr, MatchResult};
 ghost use Rattle.orc_types.specs.Cells.{Cell};
 ghost use Rattle.orc_types.specs.Views.{shape};
 ghost use Rattle.orc_columns.specs.Starting.{AreStreams};
@@ -8,6 +8,7 @@ ghost use Rattle.orc_columns.specs.declared.fault.StripeFault.TheVariants.{OutOf
 ghost use Rattle.orc_index.specs.Places as spec;
 ghost use Rattle.orc_index.specs.Walking.{runs, lent_bytes};
 ghost use Rattle.orc_entering.specs.Columns.{ColumnIsLeft, Turns};
+ghost use Rattle.orc_entering.specs.ReadersAt.{ColumnAt};
 ghost use Rattle.orc_entering.specs.Refusals.{ColumnRefused};
 
 use crate::faults::entering_fault;
@@ -54,6 +55,8 @@ pub(crate) fn reader_at<'a>(
         → AreStreams y streams.now
         → Turns (shape tree.now) x y before after positions.now
         → MatchResult result (λ reader. ColumnIsLeft (shape tree.now) reader after) (λ fault. fault ≡ OutOfMemory) }
+    ensures at { IfOk result (λ reader. (x : Streams) → AreStreams x streams.now
+        → ColumnAt (shape tree.now) x column positions.now reader) }
     ensures fault { IfErr result (λ cause. cause ≢ OutOfMemory
         → (x : Streams) → AreStreams x streams.now
         → ColumnRefused (shape tree.now) x column positions.now cause) }

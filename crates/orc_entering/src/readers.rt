@@ -7,6 +7,7 @@ ghost use Rattle.orc_columns.specs.Columns.{CellsLeft};
 ghost use Rattle.orc_columns.specs.Located.{AreLocated};
 ghost use Rattle.orc_columns.specs.Stripe.{Streams, columns_of};
 ghost use Rattle.orc_columns.specs.declared.fault.StripeFault.TheVariants.{OutOfMemory};
+ghost use Rattle.orc_entering.specs.ReadersAt.{ReadersAt};
 ghost use Rattle.orc_entering.specs.Rows.{EntriesRefused, RowsTurn};
 
 use crate::reader::reader_at;
@@ -41,6 +42,8 @@ pub fn readers_at<'a>(
         → MatchResult result
         (λ readers. CellsLeft (shape tree.now) readers.items after)
         (λ fault. fault ≡ OutOfMemory) }
+    ensures at { IfOk result (λ readers.
+        ReadersAt (shape tree.now) (columns_of footer.now located.now.bytes.now) entries.now readers.items) }
     ensures fault { IfErr result (λ cause. cause ≢ OutOfMemory
         → EntriesRefused (shape tree.now) (columns_of footer.now located.now.bytes.now) entries.now cause) }
 {

@@ -1,11 +1,12 @@
-use Rattle.std.proofs.Common.{Option, length, sym, ap, ◌∙◌, subst}
+use Rattle.std.proofs.Common.{ℕ, List, Option, length, sym, ap, ◌∙◌, subst}
 use Rattle.std.specs.declared.vec.Vec.{Vec}
 use Rattle.std.specs.declared.alloc.Global.{Global}
 use Rattle.orc_types.specs.Cells.{values}
 use Rattle.orc_types.specs.Views.{shape}
 use Rattle.orc_columns.specs.declared.column.Entry.{Entry}
-use Rattle.orc_index.specs.RunStreams.{own_runs, kind_of_own}
-use Rattle.orc_entering.specs.Columns.{EntriesOf}
+use Rattle.orc_index.specs.RunStreams.{RunStream, own_runs, kind_of_own}
+use Rattle.orc_entering.specs.Columns.{CutsOctets, EntriesOf}
+use Rattle.orc_entering.specs.ReadersAt.{StreamAt}
 use Rattle.orc_entering.proofs.OwnLemmas.{at_own, own_never, entries_turned, dictionary_there}
 use Rattle.orc_entering.proofs.OnlyMemory.{only_memory}
 use Rattle.orc_entering.proofs.ValuesTurned.{values_turned}
@@ -40,3 +41,20 @@ returns-in-Err-clause-fault c = λ memory x are.
     let s = shape c.args.tree.now in
     runs_refused s x c.placed_streams-placed.result c.args.column c.args.positions.now c.in-Some.cut.rest.now c.in-Some.cut.positions.now c.own_kind-kind.result c.in-Err.fault c.entering_fault.result
     (c.placed_streams-placed.ensures x are) (c.own_kind-kind.ensures ∙ ap (kind_of_own s) are.dictionary_is) c.in-Some.ensures.found c.in-Err.ensures.fault c.entering_fault.ensures
+
+pub returns-in-Ok-column_entries-clause-at : goal.returns-in-Ok-column_entries-clause-at
+returns-in-Ok-column_entries-clause-at c = λ x are.
+    let s = shape c.args.tree.now in
+    let placed = c.placed_streams-placed.ensures x are in
+    let cut = c.in-Some.cut in
+    record {
+      own = c.in-Ok.own;
+      rest = cut.rest.now;
+      last = cut.positions.now;
+      cut = subst (λ (o : Option (List ℕ)). CutsOctets o c.args.positions.now cut.rest.now cut.positions.now) placed.content_is c.in-Some.ensures.found;
+      entered = subst (λ (r : RunStream). StreamAt r cut.positions.now c.in-Ok.own) placed.own_is c.in-Ok.ensures.at;
+      source_is = c.source_from.ensures.source;
+      entries = subst (λ (es : Option (Vec Entry Global)). EntriesOf s x es) (sym c.source_from.ensures.entries) (c.in-Ok-column_entries.ensures.found x are);
+      room = c.source_from.ensures.room;
+      column = c.source_from.ensures.column;
+    }

@@ -1,7 +1,10 @@
-use Rattle.std.proofs.Common.{◌∙◌}
+use Rattle.std.proofs.Common.{◌≡◌, ℕ, List, take, drop, ap, ◌∙◌, subst}
 use Rattle.orc_types.specs.Views.{shape}
+use Rattle.orc_index.specs.Places.{position_size}
+use Rattle.orc_entering.specs.ReadersAt.{MarksAt, SourceAt}
+use Rattle.orc_entering.specs.Refusals as refusals
 use Rattle.orc_entering.proofs.ColumnTurned.{present_size, at_present, marks_left, own_turns, own_positions}
-use Rattle.orc_entering.proofs.Refused.{own_refused}
+use Rattle.orc_entering.proofs.Refused.{size_of, own_refused}
 use Rattle.orc_entering.proofs.reader.reader_at.Goals as goal
 
 pub returns-in-Ok-own_from-clause-left : goal.returns-in-Ok-own_from-clause-left
@@ -28,3 +31,19 @@ pub returns-clause-fault : goal.returns-clause-fault
 returns-clause-fault c = λ memory x are.
     own_refused (shape c.args.tree.now) x c.placed_streams-placed.result c.args.column c.args.positions.now c.split_at.result.1.now c.positions_size.result c.position_size.result c.in-Err-own_from.fault
     (c.placed_streams-placed.ensures x are) c.positions_size.ensures c.if-positions-positions_size.false c.position_size.ensures c.split_at.ensures.back (c.in-Err-own_from.ensures.fault memory x are)
+
+pub returns-in-Ok-own_from-clause-at : goal.returns-in-Ok-own_from-clause-at
+returns-in-Ok-own_from-clause-at c = λ x are.
+    let s = shape c.args.tree.now in
+    let ps = c.args.positions.now in
+    let placed = c.placed_streams-placed.result in
+    let is = c.placed_streams-placed.ensures x are in
+    let size : c.position_size.result ≡ refusals.present_size x = c.position_size.ensures ∙ ap position_size is.present_is in
+    record {
+      counted = c.if-positions-positions_size.false ∙ c.positions_size.ensures ∙ size_of s x placed is;
+      marks = subst (λ (n : ℕ). MarksAt (x.stream 0) (take n ps) c.in-Ok.present) size
+          (subst (λ (t : List ℕ). MarksAt (x.stream 0) t c.in-Ok.present) c.split_at.ensures.front
+          (subst (λ (b : List ℕ). MarksAt b c.split_at.result.0.now c.in-Ok.present) are.present_is c.in-Ok.ensures.at));
+      source = subst (λ (n : ℕ). SourceAt s x c.args.column (drop n ps) c.in-Ok-own_from.source) size
+          (subst (λ (t : List ℕ). SourceAt s x c.args.column t c.in-Ok-own_from.source) c.split_at.ensures.back (c.in-Ok-own_from.ensures.at x are));
+    }

@@ -6,6 +6,8 @@ use Rattle.orc_types.specs.Views.{shape}
 use Rattle.orc_columns.specs.Stripe.{Streams, columns_of}
 use Rattle.orc_columns.specs.declared.column.ColumnReader.{ColumnReader}
 use Rattle.orc_entering.specs.Columns.{ColumnIsLeft}
+use Rattle.orc_wire.specs.declared.row_index.RowIndexEntry.{RowIndexEntry}
+use Rattle.orc_entering.specs.ReadersAt.{ColumnAt}
 use Rattle.orc_entering.specs.Rows.{RowsTurn}
 use Rattle.orc_entering.proofs.readers.readers_at.Given as goal
 
@@ -14,3 +16,5 @@ abbrev pub invariant-loop-column : goal.invariant-loop-column
 invariant-loop-column l =
     (length l.readers.items ≡ l.column) × ((x : ℕ → Streams) (before after : List Cell) → RowsTurn (shape l.tree) x (columns_of l.footer l.located.bytes.now) before after l.entries
     → (c : ℕ) (r : ColumnReader) → slice_get l.readers.items c ≡ Some r → ColumnIsLeft (shape_at (shape l.tree) c) r (cells (shape l.tree) c after))
+    × ((c : ℕ) (entry : RowIndexEntry) (r : ColumnReader) → slice_get l.entries c ≡ Some entry → slice_get l.readers.items c ≡ Some r
+    → ColumnAt (shape_at (shape l.tree) c) (columns_of l.footer l.located.bytes.now c) c entry.positions r)
