@@ -10,13 +10,15 @@ use Rattle.orc_types.specs.Shapes.{Shape, width, shape_at}
 use Rattle.orc_wire.specs.declared.row_index.RowIndexEntry.{RowIndexEntry}
 use Rattle.orc_columns.specs.Stripe.{Streams, SpellRows, columns_of}
 use Rattle.orc_entering.specs.Columns.{AgreeFromPlaces}
+use Rattle.orc_columns.specs.declared.column.ColumnReader.{ColumnReader}
 use Rattle.orc_columns.specs.declared.fault.StripeFault.{StripeFault}
+use Rattle.orc_entering.specs.ReadersAt.{ReadersAt}
 use Rattle.orc_entering.specs.Refusals.{ColumnRefused}
 use Rattle.orc_entering.specs.Rows.{RowsTurn, EntriesRefused}
 use Rattle.orc_written.specs.Groups.{group_count}
 use Rattle.orc_written.proofs.IndexLemmas.{pushed_get}
 use Rattle.orc_stripe.specs.Opened.{Opened}
-use Rattle.orc_stripe.specs.GroupCursors.{IsGroupEntry, StartsGroup, HasEntries, GroupRefused}
+use Rattle.orc_stripe.specs.GroupCursors.{IsGroupEntry, StartsGroup, HasEntries, GroupRefused, EntersGroup}
 
 both_parts : (s : Shape) (x : ℕ → Streams) (count n : ℕ) (rows : List Cell) → SpellRows s x count rows → SpellRows s x (length (take n rows ++ drop n rows)) (take n rows ++ drop n rows)
 both_parts s x count n rows h = subst (λ (rs : List Cell). SpellRows s x (length rs) rs) (sym (take-append-drop n rows)) (subst (λ (k : ℕ). SpellRows s x k rows) (sym h.counted) h)
@@ -77,3 +79,13 @@ group_refused view group s bytes given entries f es eb eg all h =
       subst (λ (t : Shape). ColumnRefused (shape_at t c) (columns_of view.footer view.bytes c) c h.1.positions f) es
           (subst (λ (b : List ℕ). ColumnRefused (shape_at s c) (columns_of view.footer b c) c h.1.positions f) eb h.4),
     )
+
+pub enters_group : (view : Opened) (group : ℕ) (s : Shape) (bytes : List ℕ) (given entries : List RowIndexEntry) (readers : List ColumnReader) → s ≡ view.schema → bytes ≡ view.bytes → given ≡ entries → length entries ≡ width view.schema
+    → ((c : ℕ) (entry : RowIndexEntry) → slice_get entries c ≡ Some entry → IsGroupEntry view c group entry) → ReadersAt s (columns_of view.footer bytes) given readers → EntersGroup view group readers
+enters_group view group s bytes given entries readers es eb eg counted all h = record {
+  entries = entries;
+  counted = counted;
+  of_group = all;
+  stand = subst (λ (t : Shape). ReadersAt t (columns_of view.footer view.bytes) entries readers) es
+      (subst (λ (b : List ℕ). ReadersAt s (columns_of view.footer b) entries readers) eb (subst (λ (es : List RowIndexEntry). ReadersAt s (columns_of view.footer bytes) es readers) eg h));
+}

@@ -1,5 +1,5 @@
 -- Rows one after the other (ORC specification, "Stripes").
-use Rattle.std.specs.Prelude.{◌≡◌, Bool, true, false, Option, Some, None, List, [], ◌∷◌, length}
+use Rattle.std.specs.Prelude.{◌≡◌, ◌+◌, Bool, true, false, Option, Some, None, List, [], ◌∷◌, length}
 use Rattle.orc_types.specs.Cells.{Cell}
 use Rattle.orc_types.specs.Views.{view, shape}
 use Rattle.orc_types.specs.declared.value.Value.{Value}
@@ -32,6 +32,11 @@ Gives (r ∷ rest) after (Some row) = (view row ≡ r) × StandsFor after rest
 abbrev pub Gave : RowCursor → RowCursor → Option (Option Value) → Type 0
 Gave before after None = StandsFor before []
 Gave before after (Some row) = (rest : List Cell) → StandsFor after rest → StandsFor before (view row ∷ rest)
+
+-- a row that was answered is one fewer to come
+abbrev pub CountsDown : RowCursor → RowCursor → Option (Option Value) → Type 0
+CountsDown before after None = after.left ≡ before.left
+CountsDown before after (Some row) = before.left ≡ after.left + 1
 
 -- a fault of what is left of the columns' streams, which are to give as many rows as the cursor has left
 abbrev pub MeetsFault : RowCursor → StripeFault → Type 0

@@ -1,16 +1,20 @@
 -- Rows from a group on, as its positions are entered (ORC specification, "Row Group Index").
-use Rattle.std.specs.Prelude.{◌≡◌, ℕ, ◌*◌, ◌<◌, ◌≤◌, Some, List, take, slice_get, ◌⊎◌}
+use Rattle.std.specs.Prelude.{◌≡◌, ℕ, ◌+◌, ◌-◌, ◌*◌, ◌<◌, ◌≤◌, Bool, Some, List, length, take, slice_get, ◌⊎◌}
 use Rattle.orc_types.specs.Cells.{Cell}
 use Rattle.orc_types.specs.Columns.{cells}
 use Rattle.orc_types.specs.Shapes.{width, shape_at}
 use Rattle.orc_wire.specs.declared.row_index.RowIndexEntry.{RowIndexEntry}
 use Rattle.orc_wire.specs.declared.row_index.RowIndexMsg.{RowIndexMsg}
 use Rattle.orc_columns.specs.Stripe.{Streams, SpellRows, columns_of, cell_limit}
+use Rattle.orc_columns.specs.Columns.{CellsLeft}
+use Rattle.orc_columns.specs.ReaderFaults.{CellsMeet}
+use Rattle.orc_columns.specs.declared.column.ColumnReader.{ColumnReader}
 use Rattle.orc_columns.specs.declared.fault.Spot.TheVariants as spot
 use Rattle.orc_columns.specs.declared.fault.StripeFault.{StripeFault}
 use Rattle.orc_columns.specs.declared.fault.StripeFault.TheVariants as fault
 use Rattle.orc_index.specs.Places.{AreReadPlaces}
 use Rattle.orc_entering.specs.Columns.{AgreeFromPlaces}
+use Rattle.orc_entering.specs.ReadersAt.{ReadersAt}
 use Rattle.orc_entering.specs.Refusals.{ColumnRefused}
 use Rattle.orc_stripe.specs.Opened.{Opened}
 use Rattle.orc_stripe.specs.RowIndexes.{HasIndex, IndexFault, IsWhole, HasOtherEntries}
@@ -61,6 +65,34 @@ EntriesFault view f = (c : ℕ) × (c < width view.schema) × EntryFault view c 
 -- each column has one
 abbrev pub HasEntries : Opened → ℕ → Type 0
 HasEntries view group = (c : ℕ) → c < width view.schema → (entry : RowIndexEntry) × IsGroupEntry view c group entry
+
+-- The readers of all columns stand at the positions that these have in the group's entries: each entry has as many
+-- positions as its column's streams have, and each of them lies within its stream.
+pub record EntersGroup (view : Opened) (group : ℕ) (readers : List ColumnReader) : Type 0 where
+  pub entries : List RowIndexEntry
+  pub counted : length entries ≡ width view.schema
+  pub of_group : (c : ℕ) (entry : RowIndexEntry)
+      → slice_get entries c ≡ Some entry
+      → IsGroupEntry view c group entry
+  pub stand : ReadersAt view.schema (columns_of view.footer view.bytes) entries readers
+
+-- there are such readers
+abbrev pub IsEntered : Opened → ℕ → Type 0
+IsEntered view group = (readers : List ColumnReader) × EntersGroup view group readers
+
+-- What stands behind the group's positions are these rows, as many as the stripe has from the group's first one on.
+pub record SpellsFrom (view : Opened) (group : ℕ) (rows : List Cell) : Type 0 where
+  pub readers : List ColumnReader
+  pub entered : EntersGroup view group readers
+  pub counted : group * view.stride + length rows ≡ view.info.number_of_rows
+  pub spelled : CellsLeft view.schema readers rows
+
+-- A fault of what stands behind the group's positions, which are to give as many rows.
+pub record MeetsFrom (view : Opened) (group : ℕ) (f : StripeFault) : Type 0 where
+  pub readers : List ColumnReader
+  pub entered : EntersGroup view group readers
+  pub all : Bool
+  pub met : CellsMeet view.schema readers all (view.info.number_of_rows - group * view.stride) f
 
 -- rows have no index; or they are more than a column may have cells, or have no such group
 abbrev pub NoGroup : Opened → ℕ → StripeFault → Type 0

@@ -4,7 +4,7 @@ ghost use Rattle.orc_types.specs.Cells.{Cell};
 ghost use Rattle.orc_types.specs.Views.{views};
 ghost use Rattle.orc_columns.specs.declared.fault.StripeFault.{StripeFault as Fault};
 ghost use Rattle.orc_columns.specs.declared.fault.StripeFault.TheVariants.{OutOfMemory, Failed};
-ghost use Rattle.orc_stripe.specs.Cursors.{HasRefused, IsGoing, StandsFor, Gives, Gave, MeetsFault};
+ghost use Rattle.orc_stripe.specs.Cursors.{HasRefused, IsGoing, StandsFor, Gives, Gave, CountsDown, MeetsFault};
 
 use crate::cursor::RowCursor;
 use orc_columns::ending::cells_end;
@@ -20,6 +20,7 @@ impl<'a> RowCursor<'a> {
         ensures found { IfOk result (Gave self.old self.new) }
         ensures only { (rows : List Cell) → StandsFor self.old rows
             → MatchResult result (Gives rows self.new) (λ fault. fault ≡ OutOfMemory) }
+        ensures fewer { IfOk result (CountsDown self.old self.new) }
         ensures before { OnOk result ((f : Fault) → MeetsFault self.new f → MeetsFault self.old f) }
         ensures fault { IfErr result (λ fault. fault ≢ OutOfMemory → fault ≢ Failed → MeetsFault self.old fault) }
         ensures failed { HasRefused self.old → result ≡ Err Failed }
@@ -44,6 +45,7 @@ impl<'a> RowCursor<'a> {
         ensures found { IfOk result (Gave self.old self.new) }
         ensures only { (rows : List Cell) → StandsFor self.old rows
             → MatchResult result (Gives rows self.new) (λ fault. fault ≡ OutOfMemory) }
+        ensures fewer { IfOk result (CountsDown self.old self.new) }
         ensures before { OnOk result ((f : Fault) → MeetsFault self.new f → MeetsFault self.old f) }
         ensures fault { IfErr result (λ fault. fault ≢ OutOfMemory → MeetsFault self.old fault) }
         ensures going { IsGoing self.new }

@@ -4,9 +4,10 @@ ghost use Rattle.orc_types.specs.Cells.{Cell};
 ghost use Rattle.orc_types.specs.Shapes.{width};
 ghost use Rattle.orc_wire.specs.declared.row_index.RowIndexEntry.{RowIndexEntry as IndexEntry};
 ghost use Rattle.orc_columns.specs.Stripe.{Streams};
+ghost use Rattle.orc_columns.specs.declared.fault.StripeFault.{StripeFault as Fault};
 ghost use Rattle.orc_columns.specs.declared.fault.StripeFault.TheVariants.{OutOfMemory};
-ghost use Rattle.orc_stripe.specs.Cursors.{IsGoing, StandsFor};
-ghost use Rattle.orc_stripe.specs.GroupCursors.{HasGroup, HasEntries, IsGroupEntry, EntryFault, EntriesFault, GroupFault, StartsGroup};
+ghost use Rattle.orc_stripe.specs.Cursors.{IsGoing, StandsFor, MeetsFault};
+ghost use Rattle.orc_stripe.specs.GroupCursors.{HasGroup, HasEntries, IsGroupEntry, EntryFault, EntriesFault, GroupFault, StartsGroup, IsEntered, SpellsFrom, MeetsFrom};
 
 use crate::cursor::RowCursor;
 use crate::view::StripeView;
@@ -73,7 +74,8 @@ impl<'a> StripeView<'a> {
     /// where the rows are more than 2,147,483,647; `BadPosition` of the stripe where it has no such group, of a column
     /// where its index hasn't as many entries as there are groups, or its entry not as many positions as the column's
     /// streams, and of a stream that a position lies outside of; `Run` where no run is decoded there; `Wire`; those of
-    /// a dictionary; `OutOfMemory`. All indexes are read before a stream is.
+    /// a dictionary; `OutOfMemory`. All indexes are read before a stream is. What the cursor refuses later is a fault of
+    /// the columns' streams as they stand from the positions on, with its place in the stream.
     pub fn cursor_at(&self, alloc: Global, group: u64) -> Result<RowCursor<'a>, StripeFault>
         ensures starts { (x : ℕ → Streams) (rows : List Cell) → StartsGroup self.now x rows group
             → MatchResult result
@@ -81,6 +83,10 @@ impl<'a> StripeView<'a> {
             (λ fault. fault ≡ OutOfMemory) }
         ensures going { IfOk result IsGoing }
         ensures there { IfOk result (λ _. HasGroup self.now group × HasEntries self.now group) }
+        ensures entered { IfOk result (λ _. IsEntered self.now group) }
+        ensures found { IfOk result (λ cursor. (rows : List Cell) → StandsFor cursor rows
+            → SpellsFrom self.now group rows) }
+        ensures meets { IfOk result (λ cursor. (f : Fault) → MeetsFault cursor f → MeetsFrom self.now group f) }
         ensures fault { IfErr result (λ cause. cause ≢ OutOfMemory → GroupFault self.now group cause) }
     {
         let count = self.info.number_of_rows;

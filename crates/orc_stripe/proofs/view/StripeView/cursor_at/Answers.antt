@@ -1,11 +1,14 @@
-use Rattle.std.proofs.Common.{◌∙◌, ℕ, ◌*◌, List, take, drop, refl, sym, ap, inr, subst, arith, length-drop}
+use Rattle.std.proofs.Common.{◌≡◌, ◌∙◌, ℕ, ◌*◌, ◌-◌, List, take, drop, refl, sym, ap, inr, subst, arith, length-drop}
 use Rattle.orc_types.specs.Shapes.{Shape, width}
 use Rattle.orc_types.specs.Views.{shape}
 use Rattle.orc_wire.specs.declared.row_index.RowIndexEntry.{RowIndexEntry}
+use Rattle.orc_columns.specs.Columns.{CellsLeft}
+use Rattle.orc_columns.specs.ReaderFaults.{CellsMeet}
 use Rattle.orc_columns.specs.Stripe.{columns_of}
 use Rattle.orc_entering.specs.Rows.{RowsTurn}
-use Rattle.orc_stripe.specs.GroupCursors.{HasGroup, GroupRefused}
-use Rattle.orc_stripe.proofs.GroupTurned.{group_turns, all_there, group_refused}
+use Rattle.orc_stripe.specs.GroupCursors.{HasGroup, GroupRefused, EntersGroup}
+use Rattle.orc_stripe.specs.Opened.{Opened}
+use Rattle.orc_stripe.proofs.GroupTurned.{group_turns, all_there, group_refused, enters_group}
 use Rattle.orc_stripe.proofs.Opened.{footer_room, footer_columns}
 use Rattle.orc_stripe.proofs.RowsLemmas.{rows_too_many}
 use Rattle.orc_stripe.proofs.view.StripeView.cursor_at.Goals as goal
@@ -75,3 +78,47 @@ returns-clause-fault c = λ memory.
     c.deref.result.now c.in-Ok.entries.items c.in-Err-readers_at.fault c.tree-tree.ensures.same c.in_ok-located.ensures.same c.deref.ensures.value found (c.in-Err-readers_at.ensures.fault memory) in
     let here : GroupRefused c.args.self.now c.args.group c.in-Err-readers_at.fault = rw (← c.self.view_is) refused in
     inr (has, inr (all, here))
+
+-- ---- what the cursor has to give
+
+pub returns-in-Ok-readers_at-clause-entered : goal.returns-in-Ok-readers_at-clause-entered
+returns-in-Ok-readers_at-clause-entered c =
+    let v = c.self.inside in
+    let view : Opened = record { schema = v.schema.now; info = v.info; stride = v.stride; bytes = v.bytes.now; footer = v.footer } in
+    let of_group = rw (← c.self.view_is) at c.in-Ok.ensures.found in
+    let counted = rw (← c.self.view_is) at c.in-Ok.ensures.counted in
+    let enters : EntersGroup view c.args.group c.in-Ok-readers_at.readers.items = enters_group view c.args.group (shape c.tree-tree.result.now) c.in_ok-located.located.bytes.now c.deref.result.now c.in-Ok.entries.items
+    c.in-Ok-readers_at.readers.items c.tree-tree.ensures.same c.in_ok-located.ensures.same c.deref.ensures.value counted of_group c.in-Ok-readers_at.ensures.at in
+    rw (← c.self.view_is) (c.in-Ok-readers_at.readers.items, enters)
+
+pub returns-in-Ok-readers_at-clause-found : goal.returns-in-Ok-readers_at-clause-found
+returns-in-Ok-readers_at-clause-found c = λ rows stands.
+    let v = c.self.inside in
+    let view : Opened = record { schema = v.schema.now; info = v.info; stride = v.stride; bytes = v.bytes.now; footer = v.footer } in
+    let of_group = rw (← c.self.view_is) at c.in-Ok.ensures.found in
+    let counted = rw (← c.self.view_is) at c.in-Ok.ensures.counted in
+    let enters : EntersGroup view c.args.group c.in-Ok-readers_at.readers.items = enters_group view c.args.group (shape c.tree-tree.result.now) c.in_ok-located.located.bytes.now c.deref.result.now c.in-Ok.entries.items
+    c.in-Ok-readers_at.readers.items c.tree-tree.ensures.same c.in_ok-located.ensures.same c.deref.ensures.value counted of_group c.in-Ok-readers_at.ensures.at in
+    rw (← c.self.view_is) (record {
+      readers = c.in-Ok-readers_at.readers.items;
+      entered = enters;
+      counted = omega (arith, stands.counted, c.in-Some.ensures, c.if-first-count.false);
+      spelled = subst (λ (s : Shape). CellsLeft s c.in-Ok-readers_at.readers.items rows) c.tree-tree.ensures.same stands.spelled;
+    })
+
+pub returns-in-Ok-readers_at-clause-meets : goal.returns-in-Ok-readers_at-clause-meets
+returns-in-Ok-readers_at-clause-meets c = λ f met.
+    let v = c.self.inside in
+    let view : Opened = record { schema = v.schema.now; info = v.info; stride = v.stride; bytes = v.bytes.now; footer = v.footer } in
+    let of_group = rw (← c.self.view_is) at c.in-Ok.ensures.found in
+    let counted = rw (← c.self.view_is) at c.in-Ok.ensures.counted in
+    let enters : EntersGroup view c.args.group c.in-Ok-readers_at.readers.items = enters_group view c.args.group (shape c.tree-tree.result.now) c.in_ok-located.located.bytes.now c.deref.result.now c.in-Ok.entries.items
+    c.in-Ok-readers_at.readers.items c.tree-tree.ensures.same c.in_ok-located.ensures.same c.deref.ensures.value counted of_group c.in-Ok-readers_at.ensures.at in
+    let left : v.info.number_of_rows - c.in-Some.first ≡ v.info.number_of_rows - c.args.group * v.stride = ap (λ (n : ℕ). v.info.number_of_rows - n) c.in-Some.ensures.1 in
+    rw (← c.self.view_is) (record {
+      readers = c.in-Ok-readers_at.readers.items;
+      entered = enters;
+      all = met.0;
+      met = subst (λ (n : ℕ). CellsMeet v.schema.now c.in-Ok-readers_at.readers.items met.0 n f) left
+          (subst (λ (s : Shape). CellsMeet s c.in-Ok-readers_at.readers.items met.0 (v.info.number_of_rows - c.in-Some.first) f) c.tree-tree.ensures.same met.1);
+    })
