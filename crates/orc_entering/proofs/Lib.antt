@@ -10,3 +10,8 @@ mod AllColumns
 pub mod OnlyMemory
 mod Refused
 mod RunStarts
+mod PassedRuns
+mod ReadersBehind
+mod SourcesBehind
+mod TreeBehind
+pub mod ColumnsBehind

@@ -12,7 +12,7 @@ drop_front : (xs ys : List ℕ) (n : ℕ) → n ≡ length xs → drop n (xs ++ 
 drop_front xs ys n e = ap (λ (k : ℕ). drop k (xs ++ ys)) e ∙ drop-append_seam xs ys
 
 -- what comes behind a front
-drop_behind : (bytes front rest : List ℕ) (from to : ℕ) → drop from bytes ≡ front ++ rest → to ≡ from + length front → drop to bytes ≡ rest
+pub drop_behind : (bytes front rest : List ℕ) (from to : ℕ) → drop from bytes ≡ front ++ rest → to ≡ from + length front → drop to bytes ≡ rest
 drop_behind bytes front rest from to parts e =
     ap (λ (k : ℕ). drop k bytes) e ∙ sym (drop-drop (length front) from bytes) ∙ ap (drop (length front)) parts ∙ drop_front front rest (length front) refl
 

@@ -1,5 +1,5 @@
 -- A position of booleans that is gone to leaves the booleans from there on.
-use Rattle.std.proofs.Common.{◌≡◌, ℕ, zero, suc, ◌-◌, ◌≤◌, Bool, Some, List, [], ◌∷◌, ◌++◌, length, drop, slice_get, refl, sym, ap, ◌∙◌, subst, arith, inl, inr, length-drop}
+use Rattle.std.proofs.Common.{◌≡◌, ℕ, zero, suc, ◌-◌, ◌<◌, ◌≤◌, ◌⊎◌, Bool, Some, List, [], ◌∷◌, ◌++◌, length, drop, slice_get, refl, sym, ap, ◌∙◌, subst, arith, inl, inr, length-drop}
 use Rattle.orc_bits.specs.Packed.{bits, digits}
 use Rattle.orc_rle.specs.BitStream.{IsBitStream}
 use Rattle.orc_rle.specs.ByteRun.{IsByteRun}
@@ -52,9 +52,9 @@ held_left r (f ∷ more) rest passed all few first many pending here h =
       digits_are = (λ i. bits (sym same i) (many i) ++ digits 8 packed) ∙ sym (held_digits f passed packed few) ∙ ap (λ (t : List ℕ). drop passed (digits 8 t)) (sym whole) ∙ h.digits_are;
     }
 
--- without such a byte nothing of one is passed
-pub none_left : (r : Bits) (left rest : List ℕ) (all : List Bool) → left ≡ [] → r.left ≡ 0 → drop r.bytes.used r.bytes.run.values ≡ left → drop r.bytes.at r.bytes.bytes.now ≡ rest → seek.BitsLeft left rest 0 all → BitsLeft r all
-none_left r left rest all none many pending here h = record {
+-- where nothing of a byte is passed, none is held
+pub none_left : (r : Bits) (left rest : List ℕ) (all : List Bool) → r.left ≡ 0 → drop r.bytes.used r.bytes.run.values ≡ left → drop r.bytes.at r.bytes.bytes.now ≡ rest → seek.BitsLeft left rest 0 all → BitsLeft r all
+none_left r left rest all many pending here h = record {
   packed = h.packed;
   spelled = (h.runs.0, h.runs.1 ∙ ap (λ (t : List ℕ). t ++ h.runs.0) (sym pending), subst (λ (t : List ℕ). IsStream IsByteRun t h.runs.0) (sym here) h.runs.2);
   spare = h.spare;
@@ -73,10 +73,16 @@ some_left bytes left offset skip (suc passed) at none s = absurd (by_runs s.1.pa
 
 -- ---- what a reader holds of the bytes that are left
 
-pub holds_first : (left : List ℕ) (passed : ℕ) (r : Bits) → slice_get left 0 ≡ Some r.held → r.left ≡ 8 - passed → drop r.bytes.used r.bytes.run.values ≡ drop 1 left → HoldsFirst left passed r
-holds_first [] passed r first many pending = absurd cc
-holds_first (f ∷ more) passed r first many pending = (cc, many, pending)
+pub holds_first : (left : List ℕ) (passed : ℕ) (r : Bits) → 0 < passed → slice_get left 0 ≡ Some r.held → r.left ≡ 8 - passed → drop r.bytes.used r.bytes.run.values ≡ drop 1 left → HoldsFirst left passed r
+holds_first left zero r some first many pending = absurd (omega (arith, some))
+holds_first [] (suc passed) r some first many pending = absurd cc
+holds_first (f ∷ more) (suc passed) r some first many pending = (cc, many, pending)
 
-pub holds_none : (left : List ℕ) (passed : ℕ) (r : Bits) → left ≡ [] → r.left ≡ 0 → drop r.bytes.used r.bytes.run.values ≡ [] → HoldsFirst left passed r
-holds_none [] passed r none many pending = (many, pending)
-holds_none (f ∷ more) passed r none many pending = absurd cc
+-- where no byte is held, no digit is passed
+pub none_passed : (bytes left : List ℕ) (offset skip passed at : ℕ) → (passed ≡ 0) ⊎ (left ≡ []) → SeeksBits bytes offset skip passed at left → passed ≡ 0
+none_passed bytes left offset skip passed at (inl h) s = h
+none_passed bytes left offset skip passed at (inr h) s = some_left bytes left offset skip passed at h s
+
+pub holds_none : (left : List ℕ) (passed : ℕ) (r : Bits) → passed ≡ 0 → r.left ≡ 0 → drop r.bytes.used r.bytes.run.values ≡ left → HoldsFirst left passed r
+holds_none left zero r none many pending = (many, pending)
+holds_none left (suc passed) r none many pending = absurd (omega (arith, none))

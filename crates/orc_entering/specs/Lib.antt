@@ -5,3 +5,4 @@ pub mod Rows
 pub mod Refusals
 pub mod RunsPassed
 pub mod ReadersAt
+pub mod Behind

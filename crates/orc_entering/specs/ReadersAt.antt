@@ -1,5 +1,5 @@
 -- Readers that stand at their positions (ORC specification, "Row Group Index", "Column Encodings").
-use Rattle.std.specs.Prelude.{◌≡◌, ℕ, ◌-◌, Option, Some, None, List, [], ◌∷◌, length, take, drop, slice_get}
+use Rattle.std.specs.Prelude.{◌≡◌, ℕ, zero, suc, ◌-◌, Option, Some, None, List, [], ◌∷◌, length, take, drop, slice_get}
 use Rattle.orc_rle.specs.ByteRun.{IsByteRun}
 use Rattle.orc_rle.specs.Seeking.{Seeks, SeeksBits}
 use Rattle.orc_rle.specs.declared.sign.Rle.{Rle}
@@ -35,11 +35,12 @@ pub record BytesAt (bytes : List ℕ) (offset skip : ℕ) (r : RunLengthBytes) :
   pub seeks : Seeks IsByteRun bytes offset skip skip r.at (drop r.used r.run.values)
   pub last : IsLastRun IsByteRun bytes offset r.start r.at
 
--- the first byte of those that are left is held, without the digits that are passed
+-- where digits are passed, the first byte of those that are left is held, without these digits
 abbrev pub HoldsFirst : List ℕ → ℕ → Bits → Type 0
-HoldsFirst [] bits r = (r.left ≡ 0) × (drop r.bytes.used r.bytes.run.values ≡ [])
-HoldsFirst (byte ∷ more) bits r =
-    (r.held ≡ byte) × (r.left ≡ 8 - bits) × (drop r.bytes.used r.bytes.run.values ≡ more)
+HoldsFirst left zero r = (r.left ≡ 0) × (drop r.bytes.used r.bytes.run.values ≡ left)
+HoldsFirst [] (suc bits) r = ⊥
+HoldsFirst (byte ∷ more) (suc bits) r =
+    (r.held ≡ byte) × (r.left ≡ 8 - suc bits) × (drop r.bytes.used r.bytes.run.values ≡ more)
 
 -- the same of booleans
 pub record BitsAt (bytes : List ℕ) (offset skip bits : ℕ) (r : Bits) : Type 0 where
@@ -96,9 +97,10 @@ pub record ColumnAt (s : Shape) (x : Streams) (c : ℕ) (positions : List ℕ) (
   pub marks : MarksAt (x.stream 0) (take (present_size x) positions) reader.present
   pub source : SourceAt s x c (drop (present_size x) positions) reader.source
 
--- the readers of all columns, each from the positions of its entry on
+-- the readers of all columns, each from the positions of its entry on; each column has one
 pub record ReadersAt (s : Shape) (y : ℕ → Streams) (entries : List RowIndexEntry)
     (readers : List ColumnReader) : Type 0 where
+  pub listed : length entries ≡ width s
   pub counted : length readers ≡ width s
   pub column : (c : ℕ) (entry : RowIndexEntry) (reader : ColumnReader)
       → slice_get entries c ≡ Some entry

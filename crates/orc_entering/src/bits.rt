@@ -1,5 +1,5 @@
 //! Booleans from a position on.
-ghost use Rattle.std.specs.Prelude.{◌≡◌, ◌-◌, ◌≤◌, [], length, drop, slice_get, Some, IfOk, IfErr, IfNone, IfSome, MatchResult};
+ghost use Rattle.std.specs.Prelude.{◌≡◌, ◌-◌, ◌≤◌, ◌<◌, ◌⊎◌, [], length, drop, slice_get, Some, IfOk, IfErr, IfNone, IfSome, MatchResult};
 ghost use Rattle.orc_rle.specs.Seeking.{SeeksBits, BitSeekFails};
 ghost use Rattle.orc_columns.specs.Bits.{BitsLeft};
 ghost use Rattle.orc_entering.specs.Entering.{EntersBits};
@@ -21,6 +21,17 @@ fn next_byte(run: &RunU8) -> Option<u8>
     }
 }
 
+/// The byte of which digits are passed, where some are.
+fn held_byte(run: &RunU8, passed: usize) -> Option<u8>
+    ensures there { IfSome result (λ byte. (0 < passed) × (slice_get run.now.values 0 ≡ Some byte)) }
+    ensures none { IfNone result ((passed ≡ 0) ⊎ (run.now.values ≡ [])) }
+{
+    if passed == 0 {
+        return None;
+    }
+    next_byte(run)
+}
+
 /// A stream of booleans from a position on: the runs of bytes from its offset to the value are decoded, and
 /// nothing before them.
 ///
@@ -40,8 +51,8 @@ pub fn bits_at(bytes: &[u8], pos: BitPos) -> Result<Bits<'_>, RunFault>
         Err(fault) => return Err(fault),
     };
     let start = last_byte_start(bytes, pos.offset, at);
-    // the byte in which the position stands is held, without the digits that are passed
-    match next_byte(&run) {
+    // the byte of which digits are passed is held, without these digits
+    match held_byte(&run, pos.bits) {
         Some(byte) => Ok(Bits {
             bytes: RunLengthBytes {
                 bytes,

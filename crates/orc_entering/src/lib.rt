@@ -6,6 +6,7 @@ mod bytes;
 mod entered;
 mod entries;
 mod faults;
+mod laws;
 mod marks;
 mod numbers;
 mod octets;
@@ -17,5 +18,6 @@ mod value_source;
 
 pub use bits::bits_at;
 pub use bytes::bytes_at;
+pub use laws::entering_laws;
 pub use numbers::numbers_at;
 pub use readers::readers_at;

@@ -14,7 +14,7 @@ use Rattle.orc_stripe.specs.Opened.{Opened}
 use Rattle.orc_stripe.specs.Cursors.{IsGoing, HasRefused}
 use Rattle.orc_stripe.specs.declared.cursor.RowCursor.{RowCursor}
 use Rattle.orc_stripe.specs.Opening.{OpenFault}
-use Rattle.orc_stripe.specs.GroupCursors.{HasGroup, HasEntries, StartsGroup, GroupFault}
+use Rattle.orc_stripe.specs.GroupCursors.{HasGroup, HasEntries, StartsGroup, SpellsFrom, GroupFault}
 use Rattle.orc_stripe.proofs.OneStripe.{one_footer}
 use Rattle.orc_file.specs.Stripes.{stripe_at}
 use Rattle.orc_file.specs.FileRows.{stripe_bytes, opened_stripe}
@@ -48,14 +48,15 @@ module _ (tail : Tail) (n : ℕ) (bytes : List ℕ) (group : ℕ) (view : Opened
       let same : footer ≡ view.footer = one_footer tail.schema (stripe_at tail.stripes n) bytes footer view.footer other has in
       subst (λ (v : Opened). StartsGroup v x all group) (sym view_is) (subst (λ (f : StripeFooter). StartsGroup (opened_stripe tail n bytes f) x all group) same starts)
 
-  pub from_view : (rows : List Cell) → HasGroup view group → HasEntries view group → RowsFit tail.schema rows → ((x : ℕ → Streams) (all : List Cell) → StartsGroup view x all group → rows ≡ drop (group * view.stride) all)
+  pub from_view : (rows : List Cell) → HasGroup view group → HasEntries view group → RowsFit tail.schema rows → SpellsFrom view group rows → ((x : ℕ → Streams) (all : List Cell) → StartsGroup view x all group → rows ≡ drop (group * view.stride) all)
       → AreFromGroup tail n bytes group rows
-  from_view rows there entries fit read = record {
+  from_view rows there entries fit spelled read = record {
     footer = view.footer;
     has_footer = has;
     has_group = subst (λ (v : Opened). HasGroup v group) view_is there;
     has_entries = subst (λ (v : Opened). HasEntries v group) view_is entries;
     fit = fit;
+    spelled = subst (λ (v : Opened). SpellsFrom v group rows) view_is spelled;
     rows_are = λ x all starts. read x all (starts_view view.footer x all has starts) ∙ ap (λ (k : ℕ). drop (group * k) all) is.2;
   }
 

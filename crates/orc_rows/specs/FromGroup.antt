@@ -7,11 +7,12 @@ use Rattle.orc_types.specs.FieldNames.{is_distinct}
 use Rattle.orc_types.specs.Fits.{RowsFit}
 use Rattle.orc_types.specs.declared.json_fault.JsonFault.TheVariants as json
 use Rattle.orc_columns.specs.Stripe.{Streams, HasFooter}
+use Rattle.orc_columns.specs.declared.fault.Spot.TheVariants as spot
 use Rattle.orc_columns.specs.declared.fault.StripeFault.{StripeFault}
 use Rattle.orc_columns.specs.declared.fault.StripeFault.TheVariants as stripe
 use Rattle.orc_stripe.specs.Opened.{Opened}
 use Rattle.orc_stripe.specs.Opening.{OpenFault}
-use Rattle.orc_stripe.specs.GroupCursors.{HasGroup, HasEntries, StartsGroup, GroupFault}
+use Rattle.orc_stripe.specs.GroupCursors.{HasGroup, HasEntries, StartsGroup, SpellsFrom, MeetsFrom, GroupFault}
 use Rattle.orc_file.specs.Stripes.{stripe_at}
 use Rattle.orc_file.specs.FileRows.{stripe_bytes, opened_stripe}
 use Rattle.orc_file.specs.declared.tail.Tail.{Tail}
@@ -34,15 +35,16 @@ pub record IsStart (text : List ℕ) (stripe group : ℕ) : Type 0 where
 
 -- ---- the first stripe
 
--- Rows that a stripe with these bytes is read as from a group on, which each column's index has an entry of. Where the
--- stripe starts there in some streams, as a reader enters it, they are these streams' rows from the group's first one
--- on; elsewhere they are any rows of the schema.
+-- Rows that a stripe with these bytes is read as from a group on, which each column's index has an entry of: they are
+-- rows of the schema, and what stands behind the group's positions. Where the stripe starts there in some streams, as
+-- a reader enters it, they are these streams' rows from the group's first one on.
 pub record AreFromGroup (tail : Tail) (n : ℕ) (bytes : List ℕ) (group : ℕ) (rows : List Cell) : Type 0 where
   pub footer : StripeFooter
   pub has_footer : HasFooter tail.schema (stripe_at tail.stripes n) bytes footer
   pub has_group : HasGroup (opened_stripe tail n bytes footer) group
   pub has_entries : HasEntries (opened_stripe tail n bytes footer) group
   pub fit : RowsFit tail.schema rows
+  pub spelled : SpellsFrom (opened_stripe tail n bytes footer) group rows
   pub rows_are : (x : ℕ → Streams) (all : List Cell) → StartsGroup (opened_stripe tail n bytes footer) x all group
       → rows ≡ drop (group * tail.stride) all
 
@@ -53,11 +55,19 @@ pub record AreLinesFrom (tail : Tail) (n : ℕ) (bytes : List ℕ) (group : ℕ)
   pub have_json : HaveJson tail.schema rows
   pub lines_are : lines ≡ row_lines tail.schema rows
 
--- the group is there, with an entry in each column's index, and what comes behind its positions is refused
+-- behind the group's positions stand rows that aren't those of the schema
+abbrev pub SpellsOther : Opened → ℕ → StripeFault → Type 0
+SpellsOther view group why =
+    (why ≡ stripe.BadPosition spot.Stripe)
+    × (rows : List Cell) × SpellsFrom view group rows × (RowsFit view.schema rows → ⊥)
+
+-- the group is there, with an entry in each column's index, and what stands behind its positions has this fault, or is
+-- no rows of the schema
 pub record IsRefusedBehind (view : Opened) (group : ℕ) (why : StripeFault) : Type 0 where
   pub has_group : HasGroup view group
   pub has_entries : HasEntries view group
   pub first : why ≢ stripe.Failed
+  pub reason : MeetsFrom view group why ⊎ SpellsOther view group why
 
 -- Why a stripe isn't read from a group on: it doesn't start there, and it isn't opened, or there is no cursor at the
 -- group, or there is one, and behind the group's positions stand no rows of the schema.

@@ -6,3 +6,4 @@ mod GroupCells
 mod IndexFaults
 mod GroupTurned
 mod GroupStarts
+mod FaultsBehind

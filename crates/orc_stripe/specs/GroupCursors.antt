@@ -2,6 +2,7 @@
 use Rattle.std.specs.Prelude.{◌≡◌, ℕ, ◌+◌, ◌-◌, ◌*◌, ◌<◌, ◌≤◌, Bool, Some, List, length, take, slice_get, ◌⊎◌}
 use Rattle.orc_types.specs.Cells.{Cell}
 use Rattle.orc_types.specs.Columns.{cells}
+use Rattle.orc_types.specs.Fits.{RowsFit}
 use Rattle.orc_types.specs.Shapes.{width, shape_at}
 use Rattle.orc_wire.specs.declared.row_index.RowIndexEntry.{RowIndexEntry}
 use Rattle.orc_wire.specs.declared.row_index.RowIndexMsg.{RowIndexMsg}
@@ -13,6 +14,7 @@ use Rattle.orc_columns.specs.declared.fault.Spot.TheVariants as spot
 use Rattle.orc_columns.specs.declared.fault.StripeFault.{StripeFault}
 use Rattle.orc_columns.specs.declared.fault.StripeFault.TheVariants as fault
 use Rattle.orc_index.specs.Places.{AreReadPlaces}
+use Rattle.orc_entering.specs.Behind.{IsBehind}
 use Rattle.orc_entering.specs.Columns.{AgreeFromPlaces}
 use Rattle.orc_entering.specs.ReadersAt.{ReadersAt}
 use Rattle.orc_entering.specs.Refusals.{ColumnRefused}
@@ -93,6 +95,16 @@ pub record MeetsFrom (view : Opened) (group : ℕ) (f : StripeFault) : Type 0 wh
   pub entered : EntersGroup view group readers
   pub all : Bool
   pub met : CellsMeet view.schema readers all (view.info.number_of_rows - group * view.stride) f
+
+-- The group's positions are those behind these rows, as many as there are before its first one, whatever the stripe's
+-- streams have behind them.
+pub record LeadsBehind (view : Opened) (before : List Cell) (group : ℕ) : Type 0 where
+  pub has_group : HasGroup view group
+  pub counted : length before ≡ group * view.stride
+  pub fit : RowsFit view.schema before
+  pub column : (c : ℕ) (entry : RowIndexEntry) → c < width view.schema
+      → IsGroupEntry view c group entry
+      → IsBehind (shape_at view.schema c) (columns_of view.footer view.bytes c) (cells view.schema c before) entry.positions
 
 -- rows have no index; or they are more than a column may have cells, or have no such group
 abbrev pub NoGroup : Opened → ℕ → StripeFault → Type 0

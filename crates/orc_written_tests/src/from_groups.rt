@@ -18,7 +18,7 @@ fn is_line(alloc: Global, schema: &Schema, row: &Row<'_>, text: &str) -> Result<
 }
 
 /// Whether there is a next row, and it prints as this line.
-fn is_next(
+pub(crate) fn is_next(
     alloc: Global,
     schema: &Schema,
     cursor: &mut RowCursor<'_>,
@@ -309,7 +309,7 @@ fn check_changed(rt: &impl Abort, alloc: Global, case: &Changed) -> Result<(), S
 static SEVENS: [u8; 6] = [0x00, 0x00, 0x0e, 0x00, 0x00, 0x12];
 
 /// A stripe with these streams, whose columns have such entries: the root's, and those of column 1.
-fn stripe_of_both(
+pub(crate) fn stripe_of_both(
     alloc: Global,
     root: &[&[u64]],
     own: &[&[u64]],
@@ -483,7 +483,7 @@ fn check_missing(rt: &impl Abort, alloc: Global) -> Result<(), StripeFault> {
 }
 
 /// What the rows of a stripe's bytes are refused for.
-fn rows_refusal(
+pub(crate) fn rows_refusal(
     alloc: Global,
     schema: &Schema,
     info: StripeInfo,

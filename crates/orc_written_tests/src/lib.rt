@@ -21,6 +21,8 @@ mod from_groups;
 #[cfg(test)]
 mod indexes;
 #[cfg(test)]
+mod late_faults;
+#[cfg(test)]
 mod maps;
 #[cfg(test)]
 mod positions;

@@ -70,6 +70,7 @@ returns-in-Err-clause-fault c = λ memory.
 
 pub returns-clause-at : goal.returns-clause-at
 returns-clause-at c = record {
+  listed = c.requires.entries;
   counted = omega (arith, c.loop-column.invariant.0, c.loop-column-test.false, c.width_of-column-end.ensures, c.loop-column.auto.column-end);
   column = c.loop-column.invariant.2;
 }

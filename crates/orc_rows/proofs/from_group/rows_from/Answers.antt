@@ -27,8 +27,10 @@ returns-in-Ok-rest-clause-found c =
     let view = c.in_ok-view.view in
     let starts = rw (c.from.ensures) at c.in-Ok.ensures.starts in
     let there = rw (c.from.ensures) at c.in-Ok.ensures.there in
+    let spelled = rw (c.from.ensures) at c.in-Ok.ensures.found in
     let fit = rw (c.deref.ensures.value) at c.if-all_fit.ensures in
     from_view c.args.tail.now c.args.number c.args.bytes.now c.args.group view c.in_ok-view.ensures.same c.in_ok-view.ensures.found (views c.in-Ok-rest.rows.items) there.0 there.1 fit
+    (spelled (views c.in-Ok-rest.rows.items) c.in-Ok-rest.ensures.found)
     (λ x all s. c.in-Ok-rest.ensures.only (drop (c.args.group * view.stride) all) (starts x all s))
 
 pub returns-in-Ok-2-clause-fault : goal.returns-in-Ok-2-clause-fault
@@ -38,12 +40,20 @@ returns-in-Ok-2-clause-fault c =
     let why : StripeFault = stripe.BadPosition spot.Stripe in
     let starts = rw (c.from.ensures) at c.in-Ok.ensures.starts in
     let there = rw (c.from.ensures) at c.in-Ok.ensures.there in
+    let spelled = rw (c.from.ensures) at c.in-Ok.ensures.found in
     let misfit = rw (c.deref.ensures.value) at c.if-all_fit.ensures in
+    let other : RowsFit view.schema (views c.in-Ok-rest.rows.items) → ⊥ = λ fit. misfit (subst (λ (t : Shape). RowsFit t (views c.in-Ok-rest.rows.items)) c.in_ok-view.ensures.same.0 fit) in
     let never : (x : ℕ → Streams) (all : List Cell) → StartsGroup view x all c.args.group → ⊥ = λ x all s.
     let read : views c.in-Ok-rest.rows.items ≡ drop (c.args.group * view.stride) all = c.in-Ok-rest.ensures.only (drop (c.args.group * view.stride) all) (starts x all s) in
     let fit : RowsFit view.schema (drop (c.args.group * view.stride) all) = fit_behind view.schema (c.args.group * view.stride) all s.spelled.fit in
     misfit (subst (λ (rows : List Cell). RowsFit tail.schema rows) (sym read) (subst (λ (t : Shape). RowsFit t (drop (c.args.group * view.stride) all)) c.in_ok-view.ensures.same.0 fit)) in
-    inr (why, refl, (λ e. cc), stops_view tail c.args.number c.args.bytes.now c.args.group view c.in_ok-view.ensures.same c.in_ok-view.ensures.found why never (inr (record { has_group = there.0; has_entries = there.1; first = λ e. cc })))
+    inr (
+      why,
+      refl,
+      (λ e. cc),
+      stops_view tail c.args.number c.args.bytes.now c.args.group view c.in_ok-view.ensures.same c.in_ok-view.ensures.found why never
+          (inr (record { has_group = there.0; has_entries = there.1; first = λ e. cc; reason = inr (refl, views c.in-Ok-rest.rows.items, spelled (views c.in-Ok-rest.rows.items) c.in-Ok-rest.ensures.found, other) })),
+    )
 
 pub returns-clause-fault : goal.returns-clause-fault
 returns-clause-fault c =
@@ -52,7 +62,13 @@ returns-clause-fault c =
     let view = c.in_ok-view.view in
     let starts = rw (c.from.ensures) at c.in-Ok.ensures.starts in
     let there = rw (c.from.ensures) at c.in-Ok.ensures.there in
+    let meets = rw (c.from.ensures) at c.in-Ok.ensures.meets in
     stripe_fault c.fault_of-in-Err-rest.result c.args.number c.in-Err-rest.why (λ (w : StripeFault). StopsAtGroup tail c.args.number bytes c.args.group w) c.fault_of-in-Err-rest.ensures
     (λ other. stops_view tail c.args.number bytes c.args.group view c.in_ok-view.ensures.same c.in_ok-view.ensures.found c.in-Err-rest.why
     (λ x all s. other (c.in-Err-rest.ensures.only (drop (c.args.group * view.stride) all) (starts x all s)))
-    (inr (record { has_group = there.0; has_entries = there.1; first = λ e. never_refused c.in-Ok.cursor c.in-Ok.ensures.going (c.in-Err-rest.ensures.first e) })))
+    (inr (record {
+      has_group = there.0;
+      has_entries = there.1;
+      first = λ e. never_refused c.in-Ok.cursor c.in-Ok.ensures.going (c.in-Err-rest.ensures.first e);
+      reason = inl (meets c.in-Err-rest.why (c.in-Err-rest.ensures.fault other (λ e. never_refused c.in-Ok.cursor c.in-Ok.ensures.going (c.in-Err-rest.ensures.first e))));
+    })))

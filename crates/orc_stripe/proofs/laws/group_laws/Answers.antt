@@ -1,4 +1,5 @@
 use Rattle.orc_stripe.proofs.GroupStarts.{starts_itself, right_entry}
+use Rattle.orc_stripe.proofs.FaultsBehind.{fault_behind}
 use Rattle.orc_stripe.proofs.laws.group_laws.Goals as goal
 
 pub returns-clause-starts : goal.returns-clause-starts
@@ -6,3 +7,6 @@ returns-clause-starts c = starts_itself
 
 pub returns-clause-right : goal.returns-clause-right
 returns-clause-right c = right_entry
+
+pub returns-clause-faults : goal.returns-clause-faults
+returns-clause-faults c = λ view before group f leads met. fault_behind view before group f leads met
