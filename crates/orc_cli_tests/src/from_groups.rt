@@ -145,3 +145,93 @@ fn places_that_are_refused(rt: HostRuntime) -> Result<(), CliFault> {
     check_all_refused(&rt, rt.alloc(), &file)?;
     Ok(())
 }
+
+/// What stands before a text in bytes, and behind it.
+fn around<'a>(bytes: &'a [u8], text: &[u8]) -> Option<(&'a [u8], &'a [u8])> {
+    for at in 0..bytes.len() {
+        let (front, rest) = bytes.split_at(at);
+        if let Some(behind) = rest.strip_prefix(text) {
+            return Some((front, behind));
+        }
+    }
+    None
+}
+
+/// The bytes with another text in the place of that one.
+fn with_text(alloc: Global, bytes: &[u8], text: &[u8], new: &[u8]) -> Result<Vec<u8>, AllocError> {
+    let (front, behind) = around(bytes, text).unwrap_or((bytes, &[]));
+    let mut out = Vec::new(alloc);
+    out.extend_from_slice(front)?;
+    out.extend_from_slice(new)?;
+    out.extend_from_slice(behind)?;
+    Ok(out)
+}
+
+/// DATA of a stripe and what is put in its place, whose last run has one value more than there are bytes for; a place
+/// before that, the lines that are printed from there on, and what is refused then.
+type Broken = (
+    &'static [u8],
+    &'static [u8],
+    &'static str,
+    &'static str,
+    &'static str,
+);
+
+static BROKEN: [Broken; 3] = [
+    // 1, 2, 3 in one run and 5 in another, of the first stripe: no line of the stripe's is printed
+    (
+        &[0x00, 0x01, 0x02, 0xff, 0x0a],
+        &[0x00, 0x01, 0x02, 0xfe, 0x0a],
+        "0:1",
+        "",
+        "file 12 Stripe(0): stripe 3 Run(1, DATA): run 1 Short at 3",
+    ),
+    // 6 and 7, of the second one: the first one's lines are
+    (
+        &[0xfe, 0x0c, 0x0e],
+        &[0xfd, 0x0c, 0x0e],
+        "0:1",
+        "{\"n\":3}\n{\"n\":null}\n{\"n\":5}\n",
+        "file 12 Stripe(1): stripe 3 Run(1, DATA): run 1 Short at 0",
+    ),
+    (
+        &[0xfe, 0x0c, 0x0e],
+        &[0xfd, 0x0c, 0x0e],
+        "0:2",
+        "{\"n\":5}\n",
+        "file 12 Stripe(1): stripe 3 Run(1, DATA): run 1 Short at 0",
+    ),
+];
+
+/// The lines are printed from the place on, and then it is refused.
+fn check_broken(
+    rt: &impl Abort,
+    alloc: Global,
+    file: &[u8],
+    case: &Broken,
+) -> Result<(), AllocError> {
+    let (text, new, from, lines, wanted) = case;
+    let bytes = with_text(alloc, file, text, new)?;
+    let mut out = Trickle::new(512, 512, AtItsEnd::Fails);
+    let answer = rows(alloc, &bytes, Some(from), &mut out);
+    check_bytes(rt, from, out.written(), lines.as_bytes());
+    match answer {
+        Ok(()) => demand(rt, false, from, 0),
+        Err(fault) => check_text(rt, alloc, fault, wanted)?,
+    }
+    Ok(())
+}
+
+fn check_all_broken(rt: &impl Abort, alloc: Global, file: &[u8]) -> Result<(), AllocError> {
+    for case in &BROKEN {
+        check_broken(rt, alloc, file, case)?;
+    }
+    Ok(())
+}
+
+#[test]
+fn stripes_that_are_broken_behind_a_place(rt: HostRuntime) -> Result<(), CliFault> {
+    let file = file_of(rt.alloc(), Rle::One)?;
+    check_all_broken(&rt, rt.alloc(), &file)?;
+    Ok(())
+}
