@@ -1,17 +1,15 @@
 -- A column's reader at positions that are behind some cells, as a reader of the whole column behind these.
-use Rattle.std.proofs.Common.{◌≡◌, ℕ, zero, suc, ◌+◌, ◌<◌, ◌≤◌, ℤ, pos, Bool, true, false, Option, Some, None, List, [], ◌∷◌, ◌++◌, length, map, take, drop, refl, sym, ap, ◌∙◌, subst, arith, slice_get, append-nil, length-append}
+use Rattle.std.proofs.Common.{◌≡◌, ℕ, zero, suc, ◌+◌, ◌<◌, ℤ, pos, Bool, true, false, Option, Some, None, List, [], ◌∷◌, ◌++◌, length, map, take, drop, refl, sym, ap, ◌∙◌, subst, arith, slice_get, append-nil}
 use Rattle.std.proofs.Math.Seq.{take-append_seam, drop-append_seam}
 use Rattle.std.proofs.lemmas.List.{length-map}
 use Rattle.std.proofs.lemmas.Option.{slice_get_within}
-use Rattle.std.specs.declared.vec.Vec.{Vec}
-use Rattle.std.specs.declared.alloc.Global.{Global}
 use Rattle.orc_rle.specs.declared.sign.Rle.{Rle}
 use Rattle.orc_rle.specs.declared.sign.Sign.{Sign}
 use Rattle.orc_rle.specs.declared.sign.Sign.TheVariants.{Signed, Unsigned}
 use Rattle.orc_types.specs.Cells.{Cell, parts, pairs_in, values}
 use Rattle.orc_types.specs.Columns.{cells}
 use Rattle.orc_types.specs.Fits.{RowsFit}
-use Rattle.orc_types.specs.Shapes.{Shape, scalar, list_of, map_of, struct_of, width, shape_at}
+use Rattle.orc_types.specs.Shapes.{Shape, scalar, list_of, map_of, struct_of, shape_at}
 use Rattle.orc_types.specs.declared.kind.Scalar.{Scalar}
 use Rattle.orc_types.specs.declared.kind.Scalar.TheVariants as kind
 use Rattle.orc_wire.specs.declared.row_index.RowIndexEntry.{RowIndexEntry}
@@ -35,7 +33,7 @@ use Rattle.orc_index.specs.Places.{StreamPlace, octets, octets_place, position_s
 use Rattle.orc_index.specs.RunStreams.{RunStream, no_stream, bit_runs, byte_runs, number_runs, present_runs, text_runs, own_runs, own_octets, text_octets}
 use Rattle.orc_entering.specs.Behind.{LeadsTo, LeadsToBit, leads, leads_bits, GroupsBegin, TextsBegin, SizesBegin, IsBehind}
 use Rattle.orc_entering.specs.Columns.{CutsOctets, IsCut, IsSource, HasEntries, EntriesOf}
-use Rattle.orc_entering.specs.ReadersAt.{StreamAt, MarksAt, SourceAt, ColumnAt, ReadersAt}
+use Rattle.orc_entering.specs.ReadersAt.{StreamAt, MarksAt, ColumnAt, ReadersAt}
 use Rattle.orc_entering.specs.Refusals as refusals
 use Rattle.orc_entering.specs.declared.entered.Entered.{Entered}
 use Rattle.orc_entering.specs.declared.entered.Entered.TheVariants as entered

@@ -1,16 +1,16 @@
 -- What a reader that was entered at a position meets and gives is what its whole stream has behind the values passed.
-use Rattle.std.proofs.Common.{◌≡◌, ℕ, ◌+◌, ◌-◌, ◌<◌, ◌≤◌, List, [], ◌∷◌, ◌++◌, length, take, drop, refl, sym, ap, ◌∙◌, subst, arith, inl, inr, ◌⊎◌, append_assoc, length-append, length-drop, take-append-drop}
+use Rattle.std.proofs.Common.{◌≡◌, ℕ, ◌+◌, ◌-◌, ◌<◌, ◌≤◌, List, [], ◌∷◌, ◌++◌, length, take, drop, refl, sym, ap, ◌∙◌, subst, arith, inl, inr, ◌⊎◌, append_assoc, length-append, take-append-drop}
 use Rattle.std.proofs.lemmas.List.{length-take-le, nil_from_length}
 use Rattle.orc_bits.proofs.PackedLaws.{same_length}
-use Rattle.orc_rle.specs.Seeking.{Passes, Seeks}
+use Rattle.orc_rle.specs.Seeking.{Passes}
 use Rattle.orc_rle.specs.Stream.{AreRuns, IsStream, StopsWithin, at_place}
 use Rattle.orc_rle.specs.declared.fault.RunFault.{RunFault}
 use Rattle.orc_rle.specs.declared.fault.RunFault.TheVariants as run
 use Rattle.orc_rle.proofs.StreamLemmas.{Going, fronts, runs_push, one_stream}
 use Rattle.orc_columns.specs.Runs.{RunsLeft, RunsFirst, Begins}
-use Rattle.orc_columns.specs.RunsMet.{StopsLater, StopsThere, RunsMeet}
+use Rattle.orc_columns.specs.RunsMet.{StopsThere, RunsMeet}
 use Rattle.orc_columns.proofs.RunsLemmas.{RunLaws}
-use Rattle.orc_entering.specs.RunsPassed.{BeginsLast, IsLastRun}
+use Rattle.orc_entering.specs.RunsPassed.{IsLastRun}
 use Rattle.orc_entering.specs.Behind.{LeadsTo}
 use Rattle.orc_entering.proofs.RunStarts.{drop_behind}
 

@@ -1,9 +1,8 @@
 -- What a column's reader meets and gives that stands at positions, as a reader of the whole column behind some cells.
-use Rattle.std.proofs.Common.{◌≡◌, ◌≢◌, ℕ, zero, suc, ◌+◌, ◌-◌, ◌<◌, ◌≤◌, ℤ, pos, Bool, true, false, Option, Some, None, List, [], ◌∷◌, ◌++◌, length, map, take, drop, sum, replicate, refl, sym, ap, ◌∙◌, subst, arith, inl, inr, ◌⊎◌, append_assoc, length-append}
-use Rattle.std.proofs.Math.Seq.{take-append_seam, drop-append_seam}
+use Rattle.std.proofs.Common.{◌≡◌, ℕ, ◌+◌, ◌-◌, ◌<◌, ◌≤◌, ℤ, pos, Bool, true, false, Option, Some, None, List, [], ◌∷◌, ◌++◌, length, map, take, drop, sum, replicate, refl, sym, ap, ◌∙◌, subst, arith, inl, inr, append_assoc, length-append}
 use Rattle.std.proofs.lemmas.List.{map-append, length-map, take-append-drop}
 use Rattle.std.proofs.lemmas.List.Sums.{sum_by-append}
-use Rattle.std.specs.List.{AllByRecursion, drop-map}
+use Rattle.std.specs.List.{AllByRecursion}
 use Rattle.std.specs.declared.vec.Vec.{Vec}
 use Rattle.std.specs.declared.alloc.Global.{Global}
 use Rattle.orc_rle.specs.ByteRun.{IsByteRun, NoByteRun}
@@ -13,7 +12,7 @@ use Rattle.orc_rle.specs.declared.sign.Rle.{Rle}
 use Rattle.orc_rle.specs.declared.sign.Sign.{Sign}
 use Rattle.orc_rle.specs.declared.sign.Sign.TheVariants.{Signed, Unsigned}
 use Rattle.orc_bits.specs.Packed.{packed_len}
-use Rattle.orc_types.specs.Cells.{Cell, is_value, parts, pairs_in, values}
+use Rattle.orc_types.specs.Cells.{Cell, parts, pairs_in}
 use Rattle.orc_types.specs.Fits.{int_fits, signed_fits}
 use Rattle.orc_types.specs.Shapes.{Shape, scalar, list_of, map_of, struct_of}
 use Rattle.orc_types.specs.declared.kind.Scalar.{Scalar}
@@ -21,14 +20,13 @@ use Rattle.orc_types.specs.declared.kind.Scalar.TheVariants as kind
 use Rattle.orc_columns.specs.Columns.{entry_bytes, MarksFirst}
 use Rattle.orc_columns.specs.Faults.{RunsFail, MarksFail, NumbersFail, IntsFail, GroupsFail, WordsFail, TextsFail, ScalarFails, ListsFail, ValuesFail, data_of, indexes_of, lengths_of}
 use Rattle.orc_columns.specs.Needs.{MarksBegin}
-use Rattle.orc_columns.specs.Numbers.{is_run, NumbersFirst, NumbersLeft}
+use Rattle.orc_columns.specs.Numbers.{is_run, NumbersFirst}
 use Rattle.orc_columns.specs.ReaderFaults.{Pass, IntsMeet, GroupsMeet, TextMeets, WordsMeet, TextsMeet, ScalarMeets, ListsMeet, ValuesMeet}
-use Rattle.orc_columns.specs.RunFaults.{Needed, Always, Integers, IntegersFirst, AreIntegers, IntegersFail, BoolsFail, no_run}
-use Rattle.orc_columns.specs.Runs.{Begins}
+use Rattle.orc_columns.specs.RunFaults.{Always, IntegersFirst, AreIntegers, IntegersFail, BoolsFail, no_run}
 use Rattle.orc_columns.specs.RunsMet.{NumbersMeet, BytesMeet, BitsMeet, MarksMeet}
 use Rattle.orc_columns.specs.Spellings.{size, joined}
 use Rattle.orc_columns.specs.Stripe.{Streams, version, has_dictionary, IsDictionary, most_cells}
-use Rattle.orc_columns.specs.ValueFaults.{NotAll, is_index, names_text, CutsNoText, PassTogether, StayBelow, HasOtherLength}
+use Rattle.orc_columns.specs.ValueFaults.{NotAll, is_index, names_text, PassTogether}
 use Rattle.orc_columns.specs.declared.bits.Bits.{Bits}
 use Rattle.orc_columns.specs.declared.column.Entry.{Entry}
 use Rattle.orc_columns.specs.declared.column.ValueSource.{ValueSource}
@@ -37,7 +35,6 @@ use Rattle.orc_columns.specs.declared.fault.StreamKind.TheVariants as stream
 use Rattle.orc_columns.specs.declared.fault.StripeFault.{StripeFault}
 use Rattle.orc_columns.specs.declared.fault.StripeFault.TheVariants as fault
 use Rattle.orc_columns.specs.declared.numbers.Numbers.{Numbers}
-use Rattle.orc_columns.specs.declared.octets.Octets.{Octets}
 use Rattle.orc_columns.proofs.FirstLemmas.{begin_lengths}
 use Rattle.orc_columns.proofs.StartFaults.{integers_from}
 use Rattle.orc_entering.specs.Columns.{HasEntries}

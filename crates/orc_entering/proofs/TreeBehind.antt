@@ -1,5 +1,5 @@
 -- What readers meet that stand behind some rows is a fault of the whole columns, going down the schema.
-use Rattle.std.proofs.Common.{◌≡◌, ℕ, zero, suc, ◌+◌, ◌-◌, ◌<◌, ltb, ℤ, pos, Bool, true, false, Some, List, [], ◌∷◌, ◌++◌, length, map, take, drop, sum, refl, sym, ap, ◌∙◌, subst, arith, inl, inr, ◌⊎◌, slice_get, length-append, length-drop}
+use Rattle.std.proofs.Common.{◌≡◌, ℕ, suc, ◌+◌, ◌-◌, ltb, ℤ, pos, Bool, true, false, Some, List, [], ◌∷◌, ◌++◌, length, map, take, drop, sum, refl, sym, ap, ◌∙◌, subst, arith, inl, inr, ◌⊎◌, slice_get, length-append, length-drop}
 use Rattle.std.proofs.lemmas.Bool.{lt-ltb, le-ltb}
 use Rattle.std.proofs.lemmas.List.{map-append, length-map, length-take-le}
 use Rattle.std.proofs.lemmas.List.Sums.{sum_by-append}
@@ -16,12 +16,11 @@ use Rattle.orc_columns.specs.Needs.{trues, MarksBegin, ValuesNeeded, ElementsNee
 use Rattle.orc_columns.specs.Numbers.{NumbersFirst}
 use Rattle.orc_columns.specs.ReaderFaults.{ValuesMeet, BelowMeet, FieldsMeet, CellsMeet}
 use Rattle.orc_columns.specs.RunFaults.{Needed, IntegersFirst}
-use Rattle.orc_columns.specs.Spellings.{joined}
 use Rattle.orc_columns.specs.Stripe.{Streams}
 use Rattle.orc_columns.specs.declared.column.ColumnReader.{ColumnReader}
 use Rattle.orc_columns.specs.declared.column.ValueSource.{ValueSource}
 use Rattle.orc_columns.specs.declared.fault.StripeFault.{StripeFault}
-use Rattle.orc_columns.proofs.ByNumber.{are_lists, joined_parts, are_records, FieldsFit, split, wide}
+use Rattle.orc_columns.proofs.ByNumber.{are_lists, joined_parts, are_records, FieldsFit, split}
 use Rattle.orc_entering.proofs.ByColumn.{get_take, get_drop}
 use Rattle.orc_entering.proofs.SourcesBehind.{MarksBehind, marks_met, marks_first, SizesBehind, list_lengths, map_lengths, SourceBehind, values_met}
 

@@ -1,4 +1,4 @@
-use Rattle.std.proofs.Common.{◌≡◌, ◌+◌, ◌∙◌, ◌++◌, length, ap, arith, length-drop, length-append}
+use Rattle.std.proofs.Common.{◌≡◌, ◌∙◌, ◌++◌, length, ap, arith, length-drop, length-append}
 use Rattle.orc_rle.specs.ByteRun.{IsByteRun}
 use Rattle.orc_columns.proofs.NumbersLemmas.{byte_laws}
 use Rattle.orc_entering.proofs.RunStarts.{walk_begins, next_run, next_some, walk_more, walk_within, walk_ends}

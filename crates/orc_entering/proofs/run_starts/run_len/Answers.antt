@@ -1,4 +1,3 @@
-use Rattle.std.proofs.Common.{◌≡◌}
 use Rattle.orc_entering.proofs.run_starts.run_len.Goals as goal
 
 pub returns-in-One : goal.returns-in-One
