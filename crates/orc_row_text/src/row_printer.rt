@@ -6,6 +6,7 @@ ghost use Rattle.orc_types.specs.Fits.{fits};
 ghost use Rattle.orc_types.specs.JsonPrinting.{json_of};
 ghost use Rattle.orc_types.specs.Views.{view};
 ghost use Rattle.orc_types.specs.declared.json_fault.JsonFault.TheVariants as fault;
+ghost use Rattle.orc_row_text.specs.Growth.{Grows};
 
 use crate::layout::{Layout, layout_of};
 use crate::printing::push_text;
@@ -66,13 +67,15 @@ impl RowPrinter {
     }
 
     /// Appends the JSON of a row, without blanks: what `serde_json` prints of `row_to_json`'s value. What it
-    /// appends of a row that isn't one of the schema is left open, so that no row has to be looked at first.
+    /// appends of a row that isn't one of the schema is left open, so that no row has to be looked at first; what
+    /// `out` held before stays in front whatever the row.
     ///
     /// Refusals, each of which leaves `out` as it was: `DuplicateField` where some struct of the schema
     /// names a field twice; `OutOfMemory`.
     pub fn push_row(&self, alloc: Global, row: &Row<'_>, out: &mut Vec<u8>) -> Result<(), JsonFault>
         ensures found { fits (view row.now) self.now ≡ true
             → OnOk result (out.new.items ≡ out.old.items ++ compact_text (json_of self.now (view row.now))) }
+        ensures front { OnOk result (Grows out.old.items out.new.items) }
         ensures distinct { OnOk result (is_distinct self.now ≡ true) }
 
         ensures fault { IfErr result (λ e. e ≢ fault.OutOfMemory

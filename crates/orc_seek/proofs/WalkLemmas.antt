@@ -1,11 +1,13 @@
 -- One walk over a stream's runs, which notes where each begins and how many values come before it.
-use Rattle.std.proofs.Common.{◌≡◌, ℕ, ◌+◌, ◌<◌, ◌≤◌, List, [], ◌∷◌, ◌++◌, length, take, drop, refl, sym, ap, ◌∙◌, subst, arith, append_assoc, length-append, length-drop}
+use Rattle.std.proofs.Common.{◌≡◌, ◌≢◌, ℕ, ◌+◌, ◌<◌, ◌≤◌, List, [], ◌∷◌, ◌++◌, length, take, drop, refl, sym, ap, ◌∙◌, subst, arith, inl, inr, append_assoc, length-append, length-drop}
 use Rattle.std.proofs.Math.Seq.{take-add}
+use Rattle.std.proofs.lemmas.Bool.{cases_lt}
 use Rattle.std.proofs.lemmas.List.{append-nil, take-append-drop, length-take-le, take_all}
 use Rattle.orc_rle.specs.declared.fault.RunFault.{RunFault}
-use Rattle.orc_rle.specs.Stream.{AreRuns, IsStream}
-use Rattle.orc_rle.proofs.RunLemmas.{One, Some, None}
-use Rattle.orc_rle.proofs.StreamLemmas.{runs_rest, runs_push, no_first}
+use Rattle.orc_rle.specs.declared.fault.RunFault.TheVariants.{TooFew}
+use Rattle.orc_rle.specs.Stream.{AreRuns, IsStream, StopsWithin}
+use Rattle.orc_rle.proofs.RunLemmas.{One, Some, None, OneFault}
+use Rattle.orc_rle.proofs.StreamLemmas.{runs_rest, runs_push, no_first, within_few, within_none, one_stop_within}
 use Rattle.orc_seek.specs.RunPlaces.{Places, offsets_of, counts_of, ArePlaces}
 
 -- one run more
@@ -96,3 +98,17 @@ walk_fits R one some bytes at before len offsets counts v all w run stream =
     sym (take-append-drop at bytes) ∙ (ap (λ (t : List ℕ). take at bytes ++ t) (sym (take-append-drop len (drop at bytes))) ∙ sym (append_assoc (take at bytes) (take len (drop at bytes)) (drop len (drop at bytes)))) in
     let r = runs_rest R one some s.0 stream.0 (take at bytes ++ take len (drop at bytes)) (drop len (drop at bytes)) bytes (w.values ++ v) all s.1 stream.1 parts in
     omega (arith, ap length r.parts, length-append (w.values ++ v) r.values, length-append w.values v, w.counted)
+
+-- at the end of the bytes nothing stops it but that more values are asked for
+pub walk_stops : {A : Type 0} (R : List ℕ → List A → Type 0) (F : List ℕ → RunFault → Type 0) → One R → Some R → None R F → OneFault F → (n : ℕ) (bytes : List ℕ)
+    (at before : ℕ) (offsets counts : List ℕ) (fault : RunFault) → Walked R bytes at before offsets counts → length bytes ≤ at → before ≤ n → StopsWithin R F n bytes fault
+    → fault ≢ TooFew (length bytes) → ⊥
+walk_stops {A = A} R F one some none one_fault n bytes at before offsets counts fault w le most stops other =
+    elim (cases_lt before n) [
+      | inl lt ↦
+          let few = within_few R F n bytes at w.values (TooFew (length bytes)) le (w.runs, w.stream) (omega (arith, lt, w.counted)) refl in
+          other (one_stop_within R F one some none one_fault n bytes fault (TooFew (length bytes)) stops few)
+      | inr ge ↦
+          let stream : IsStream R bytes w.values = (w.runs, subst (λ (t : List ℕ). AreRuns R w.runs t w.values) (take_all at bytes le) w.stream) in
+          within_none R F one some none n bytes fault w.values stops stream (omega (arith, ge, most, w.counted))
+    ]

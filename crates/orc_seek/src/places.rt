@@ -1,8 +1,9 @@
 //! The places of a stream's runs, by one walk over it, and positions that are looked up in them.
-ghost use Rattle.std.specs.Prelude.{◌≡◌, ◌<◌, ◌≤◌, ◌+◌, ◌*◌, ◌-◌, ◌^◌, ◌⊎◌, ℕ, ℤ, None, List, length, IfOk, IfErr, IfSome, MatchBool};
-ghost use Rattle.orc_rle.specs.declared.fault.RunFault.TheVariants.{OutOfMemory};
+ghost use Rattle.std.specs.Prelude.{◌≡◌, ◌≢◌, ◌<◌, ◌≤◌, ◌+◌, ◌*◌, ◌-◌, ◌^◌, ◌⊎◌, ℕ, ℤ, None, List, length, IfOk, IfErr, IfSome, MatchBool};
+ghost use Rattle.orc_rle.specs.declared.fault.RunFault.{RunFault};
+ghost use Rattle.orc_rle.specs.declared.fault.RunFault.TheVariants.{TooFew, OutOfMemory};
 ghost use Rattle.orc_rle.specs.declared.sign.Sign.{Sign};
-ghost use Rattle.orc_rle.specs.Stream.{IsStream, StopsWithin};
+ghost use Rattle.orc_rle.specs.Stream.{IsStream, StopsWithin, Refuses};
 ghost use Rattle.orc_rle.specs.ByteRun.{IsByteRun, NoByteRun};
 ghost use Rattle.orc_seek.specs.Position.{Begins, HasValues};
 ghost use Rattle.orc_seek.specs.BitPosition.{BeginsBits, HasBits};
@@ -34,7 +35,7 @@ impl Model for RunPlaces {
 /// The places of a stream of integers, of 2^64 - 1 values at most.
 ///
 /// Refusals: the fault of the first run from the left that is none, or `TooMany` where it goes past that number
-/// of values, with its place; and `OutOfMemory`.
+/// of values, with its place; and `OutOfMemory`. Fewer values are no fault.
 pub fn run_places<C: RunCodec>(
     alloc: Global,
     bytes: &[u8],
@@ -46,6 +47,8 @@ pub fn run_places<C: RunCodec>(
 
     ensures fault { IfErr result (λ fault. (fault ≡ OutOfMemory)
         ⊎ StopsWithin (C.is_run sign) (C.fails sign) (2 ^ 64 - 1) bytes.now fault) }
+    ensures refused { (fault : RunFault) → StopsWithin (C.is_run sign) (C.fails sign) (2 ^ 64 - 1) bytes.now fault
+        → fault ≢ TooFew (length bytes.now) → Refuses result fault }
 {
     let mut offsets = Vec::new(alloc);
     let mut counts = Vec::new(alloc);
@@ -80,6 +83,8 @@ pub fn byte_places(alloc: Global, bytes: &[u8]) -> Result<RunPlaces, RunFault>
 
     ensures fault { IfErr result (λ fault. (fault ≡ OutOfMemory)
         ⊎ StopsWithin IsByteRun NoByteRun (2 ^ 64 - 1) bytes.now fault) }
+    ensures refused { (fault : RunFault) → StopsWithin IsByteRun NoByteRun (2 ^ 64 - 1) bytes.now fault
+        → fault ≢ TooFew (length bytes.now) → Refuses result fault }
 {
     let mut offsets = Vec::new(alloc);
     let mut counts = Vec::new(alloc);
