@@ -132,6 +132,10 @@ impl<'a> StripeView<'a> {
     /// Refusals: those of `rows`, and then those of `positions_right_of` but `Run`.
     pub fn positions_right(&self, alloc: Global, column: usize) -> Result<Vec<bool>, StripeFault>
         requires { column < width self.now.schema }
+        ensures index { IfOk result (λ _. (rows : List Cell) × (message : IndexMessage)
+            × IsStripe self.now.schema self.now.info self.now.bytes rows
+            × HasIndex self.now.footer self.now.bytes column message
+            × IsWhole self.now (length rows) message × (0 < self.now.stride)) }
         ensures right { (rows : List Cell) (message : IndexMessage)
             → IsStripe self.now.schema self.now.info self.now.bytes rows
             → 0 < self.now.stride

@@ -1,5 +1,6 @@
 use Rattle.std.specs.Prelude.{MatchResult}
 use Rattle.std.proofs.Common.{◌≡◌, ◌∙◌, ◌⊎◌, List, length, inl, inr, sym, ap, subst}
+use Rattle.std.proofs.lemmas.Result.{IfOk-weaker}
 use Rattle.orc_types.specs.Cells.{Cell}
 use Rattle.orc_types.specs.Views.{views}
 use Rattle.orc_columns.specs.Stripe.{IsStripe}
@@ -7,6 +8,13 @@ use Rattle.orc_columns.specs.declared.fault.StripeFault.TheVariants.{OutOfMemory
 use Rattle.orc_stripe.specs.RowIndexes.{IsWhole, ArePositionsDecided, HasOtherEntries}
 use Rattle.orc_stripe.proofs.IndexFaults.{err_by, own_rows}
 use Rattle.orc_stripe.proofs.view.StripeView.positions_right.Goals as goal
+
+pub returns-in-Ok-clause-index : goal.returns-in-Ok-clause-index
+returns-in-Ok-clause-index c =
+    let view = c.args.self.now in
+    let rows = views c.deref.result.now in
+    let is : IsStripe view.schema view.info view.bytes rows = subst (λ (rs : List Cell). IsStripe view.schema view.info view.bytes rs) (sym (ap views c.deref.ensures.value)) c.in-Ok.ensures.found in
+    IfOk-weaker c.positions_right_of.result _ _ (λ right h. (rows, h.0, is, h.1, h.2, h.3)) c.positions_right_of.ensures.index
 
 pub returns-in-Ok-clause-right : goal.returns-in-Ok-clause-right
 returns-in-Ok-clause-right c = λ rows message is some h.
