@@ -7,42 +7,15 @@ use Rattle.orc_types.specs.Cells.{Cell, null, leaf, list, struct, pairs, list_of
 use Rattle.orc_types.specs.Fits.{RowsFit}
 use Rattle.orc_types.specs.Shapes.{Shape, scalar, list_of, map_of, struct_of, Fields}
 use Rattle.orc_types.specs.declared.kind.Scalar.{Scalar}
-use Rattle.orc_types.proofs.Views.{list_of_cells-cells_of, list_of_pairs-pairs_of}
+use Rattle.orc_types.proofs.Childless.{marks_childless, values_childless, list_size, map_size}
 use Rattle.orc_columns.specs.Numbers.{AreNumbers}
 use Rattle.orc_columns.specs.Spellings.{size}
 use Rattle.orc_columns.specs.Stripe.{Streams, version, Marks, SpellsScalar, SpellsValues, IsColumn, most_cells}
 use Rattle.orc_columns.proofs.FirstLemmas.{sum_more}
-use Rattle.orc_column_walk.specs.Childless.{list_of_size, map_of_size, childless_struct, childless}
+use Rattle.orc_types.specs.Childless.{list_of_size, map_of_size, childless_struct, childless}
 use Rattle.orc_column_walk.specs.OwnColumns.{SpellsOwnValues, IsOwnColumn, elements_together, pairs_together}
 
--- ---- of each cell
-
-pub value_childless : (c : Cell) → is_value (childless c) ≡ is_value c
-value_childless null = refl
-value_childless (leaf a) = refl
-value_childless (list cs) = refl
-value_childless (struct cs) = refl
-value_childless (pairs ps) = refl
-
-pub marks_childless : (cs : List Cell) → map is_value (map childless cs) ≡ map is_value cs
-marks_childless [] = refl
-marks_childless (c ∷ cs) = λ i. value_childless c i ∷ marks_childless cs i
-
-pub values_childless : (cs : List Cell) → values (map childless cs) ≡ map childless (values cs)
-values_childless [] = refl
-values_childless (null ∷ cs) = values_childless cs
-values_childless (leaf a ∷ cs) = ap (λ t. leaf a ∷ t) (values_childless cs)
-values_childless (list x ∷ cs) = ap (λ t. childless (list x) ∷ t) (values_childless cs)
-values_childless (struct x ∷ cs) = ap (λ t. childless_struct ∷ t) (values_childless cs)
-values_childless (pairs x ∷ cs) = ap (λ t. childless (pairs x) ∷ t) (values_childless cs)
-
 -- ---- sizes
-
-pub list_size : (n : ℕ) → length (parts (list_of_size n)) ≡ n
-list_size n = ap length (list_of_cells-cells_of (replicate n null)) ∙ length-replicate n null
-
-pub map_size : (n : ℕ) → length (pairs_in (map_of_size n)) ≡ n
-map_size n = ap length (list_of_pairs-pairs_of (replicate n (null, null))) ∙ length-replicate n (null, null)
 
 pub elements_childless : (s : Shape) (o : List ℕ) (cs : List Cell) → RowsFit (list_of s o) cs → elements_together (map childless cs) ≡ elements_together cs
 elements_childless s o [] h = refl

@@ -14,7 +14,7 @@ use Rattle.orc_columns.proofs.Fronts.{same_cells, length-values}
 use Rattle.orc_columns.proofs.BitsLemmas.{one_bit_stream}
 use Rattle.orc_columns.proofs.NumbersLemmas.{laws_of}
 use Rattle.orc_columns.proofs.OneRows.{One, one_cells}
-use Rattle.orc_column_walk.specs.Childless.{list_of_size, map_of_size, childless_struct}
+use Rattle.orc_types.specs.Childless.{list_of_size, map_of_size, childless_struct}
 use Rattle.orc_column_walk.specs.OwnColumns.{SpellsSizes, IsOwnColumn, AreOwnColumns, AreOwnFields, elements_together, pairs_together}
 
 -- ---- one column

@@ -10,7 +10,7 @@ use Rattle.orc_types.proofs.Together.{StructsFit, elements_fit, keys_fit, values
 use Rattle.std.proofs.lemmas.List.{length-map}
 use Rattle.orc_columns.specs.Stripe.{Streams, IsColumn, SpellRows, most_cells}
 use Rattle.orc_columns.proofs.ByNumber.{to_number, first_cells, wide}
-use Rattle.orc_column_walk.specs.Childless.{childless}
+use Rattle.orc_types.specs.Childless.{childless}
 use Rattle.orc_column_walk.specs.OwnColumns.{AreOwnColumns, AreOwnFields, elements_together, pairs_together, OwnDown}
 use Rattle.orc_column_walk.proofs.ChildlessLemmas.{own_of, elements_childless, pairs_childless, structs_childless, keys_long, map_values_long}
 use Rattle.orc_column_walk.proofs.OneOwn.{own_same, fields_same, one_own}

@@ -18,7 +18,7 @@ use Rattle.orc_columns.proofs.BitsLemmas.{held_bits, no_digit}
 use Rattle.orc_columns.proofs.Fronts.{length-values}
 use Rattle.orc_bits.specs.Packed.{digits}
 use Rattle.orc_types.specs.Columns.{cells}
-use Rattle.orc_column_walk.specs.Childless.{childless, list_of_size, map_of_size}
+use Rattle.orc_types.specs.Childless.{childless, list_of_size, map_of_size}
 use Rattle.orc_column_walk.specs.OwnColumns.{IsOwnColumn, AreOwnColumns, AreOwnFields, SpellsSizes, elements_together, pairs_together}
 use Rattle.orc_column_walk.specs.OwnFaults.{OwnFault, RefusedBelow, RefusedWithin, RefusedDown}
 use Rattle.orc_column_walk.proofs.OneOwn.{one_column}

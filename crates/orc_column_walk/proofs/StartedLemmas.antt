@@ -23,7 +23,7 @@ use Rattle.orc_columns.specs.declared.fault.StripeFault.{StripeFault}
 use Rattle.orc_columns.proofs.Fronts.{length-values}
 use Rattle.orc_columns.proofs.StartFaults.{marks_start, values_start}
 use Rattle.orc_columns.proofs.StartLemmas.{Alike, marks_alike, numbers_alike, scalar_alike}
-use Rattle.orc_column_walk.specs.Childless.{list_of_size, map_of_size, childless_struct}
+use Rattle.orc_types.specs.Childless.{list_of_size, map_of_size, childless_struct}
 use Rattle.orc_column_walk.specs.OwnColumns.{SpellsSizes, SpellsOwnValues, IsOwnColumn}
 use Rattle.orc_column_walk.specs.OwnFaults.{IsRefused}
 use Rattle.orc_column_walk.specs.OwnLeft.{SizesLeft, SizedLeft, OwnValuesLeft, children}

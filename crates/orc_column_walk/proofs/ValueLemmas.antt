@@ -8,7 +8,7 @@ use Rattle.orc_columns.specs.Columns.{ScalarLeft}
 use Rattle.orc_columns.specs.ReaderFaults.{ScalarMeets, ListsMeet, ValuesMeet}
 use Rattle.orc_columns.specs.declared.column.ValueSource.{ValueSource}
 use Rattle.orc_columns.specs.declared.fault.StripeFault.{StripeFault}
-use Rattle.orc_column_walk.specs.Childless.{list_of_size, map_of_size, childless_struct}
+use Rattle.orc_types.specs.Childless.{list_of_size, map_of_size, childless_struct}
 use Rattle.orc_column_walk.specs.OwnLeft.{SizesLeft, OwnValuesLeft, children}
 use Rattle.orc_column_walk.proofs.RowsOf.{elements_sum, pairs_sum}
 

@@ -1,4 +1,4 @@
-pub mod Childless
 pub mod OwnColumns
 pub mod OwnLeft
 pub mod OwnFaults
+pub mod ColumnFound

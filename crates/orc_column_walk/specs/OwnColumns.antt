@@ -8,7 +8,7 @@ use Rattle.orc_types.specs.Shapes.{Shape, scalar, list_of, map_of, struct_of, Fi
 use Rattle.orc_columns.specs.Numbers.{AreNumbers}
 use Rattle.orc_columns.specs.Spellings.{Nullable}
 use Rattle.orc_columns.specs.Stripe.{Streams, version, Marks, SpellsScalar, cell_limit, most_cells}
-use Rattle.orc_column_walk.specs.Childless.{list_of_size, map_of_size, childless_struct}
+use Rattle.orc_types.specs.Childless.{list_of_size, map_of_size, childless_struct}
 
 -- LENGTH spells the sizes of lists, or of maps, which are no more together than a column may have cells
 abbrev pub SpellsSizes : (ℕ → Cell) → Streams → List Cell → Type 0

@@ -6,7 +6,7 @@ use Rattle.orc_types.specs.Shapes.{Shape, scalar, list_of, map_of, struct_of}
 use Rattle.orc_columns.specs.Columns.{ScalarLeft}
 use Rattle.orc_columns.specs.Numbers.{NumbersLeft}
 use Rattle.orc_columns.specs.declared.column.ValueSource.{ValueSource}
-use Rattle.orc_column_walk.specs.Childless.{list_of_size, map_of_size, childless_struct}
+use Rattle.orc_types.specs.Childless.{list_of_size, map_of_size, childless_struct}
 
 -- sizes of lists or of maps, for which there is room
 abbrev pub SizesLeft : ValueSource → List ℕ → Type 0

@@ -6,7 +6,7 @@ ghost use Rattle.orc_types.specs.Shapes.{Shape, width};
 ghost use Rattle.orc_columns.specs.Faults.{RowsFault};
 ghost use Rattle.orc_columns.specs.Stripe.{Streams, SpellRows};
 ghost use Rattle.orc_columns.specs.declared.fault.StripeFault.{StripeFault};
-ghost use Rattle.orc_column_walk.specs.Childless.{childless};
+ghost use Rattle.orc_types.specs.Childless.{childless};
 ghost use Rattle.orc_column_walk.specs.OwnColumns.{AreOwnColumns};
 ghost use Rattle.orc_column_walk.specs.OwnFaults.{RefusedDown};
 

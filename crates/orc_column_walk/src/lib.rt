@@ -2,6 +2,8 @@
 //! and no value held.
 #![tactic(auto)]
 
+mod found;
+mod groups;
 mod laws;
 mod marks;
 mod scalars;
@@ -9,5 +11,7 @@ mod sizes;
 mod values;
 mod walk;
 
+pub use found::{ColumnFound, GroupFound};
+pub use groups::read_groups;
 pub use laws::own_column_laws;
 pub use walk::walk_columns;

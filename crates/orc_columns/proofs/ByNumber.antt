@@ -54,7 +54,7 @@ standing_fits stands s one (x ∷ xs) (v ∷ vs) h = (one x v h.0, standing_fits
 int_value : (k : Scalar) (o : List ℕ) (n : ℤ) (v : Cell) → IsInt k n v → fits v (scalar k o) ≡ true
 int_value k o n v h = ap (λ c. fits c (scalar k o)) h.1 ∙ h.0
 
-byte_fits : (b : ℕ) → b < 256 → int_fits kind.Byte (signed_byte b) ≡ true
+pub byte_fits : (b : ℕ) → b < 256 → int_fits kind.Byte (signed_byte b) ≡ true
 byte_fits b h =
     elim (cases_lt b 128) [
       | inl less ↦ rw (lt-ltb b 128 less) (lt-ltb b (2 ^ 7) (omega (arith, less)))

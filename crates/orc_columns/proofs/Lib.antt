@@ -20,3 +20,4 @@ pub mod NeverFailed
 pub mod DirectoryLemmas
 pub mod LocatedLemmas
 pub mod ByNumber
+pub mod OwnKinds

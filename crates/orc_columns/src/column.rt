@@ -2,7 +2,8 @@
 
 ghost use Rattle.std.specs.Prelude.{◌≡◌, ◌≢◌, ◌≤◌, ◌-◌, ◌∷◌, [], ℕ, suc, Bool, true, false, List, pos, IfOk, IfErr, OnOk, OnErr, MatchBool};
 ghost use Rattle.orc_types.specs.Shapes.{Shape};
-ghost use Rattle.orc_types.specs.Views.{cell_of_value};
+ghost use Rattle.orc_types.specs.Own.{own_cell, IsValueOf};
+ghost use Rattle.orc_types.specs.declared.kind.Scalar.TheVariants as kinds;
 ghost use Rattle.orc_columns.specs.Fronts.{Leaves, Precedes, Lacks};
 ghost use Rattle.orc_columns.specs.Numbers.{NumbersLeft, NumbersFirst};
 ghost use Rattle.orc_columns.specs.Bits.{BitsLeft};
@@ -27,7 +28,7 @@ use crate::marks::next_mark;
 use crate::numbers::{Numbers, numbers_end, numbers_left};
 use crate::octets::Octets;
 use crate::whole_numbers::{next_byte, next_date, next_int, next_long, next_number};
-use orc_types::{Scalar, Value};
+use orc_types::{Own, Scalar};
 
 /// The most cells that a column of a stripe may have.
 pub const MOST_CELLS: u64 = 0x7fff_ffff;
@@ -84,9 +85,10 @@ pub fn next_present(reader: &mut ColumnReader<'_>) -> Result<bool, StripeFault>
 }
 
 /// The next value of a column of booleans.
-fn next_bool<'a>(column: usize, bits: &mut Bits<'a>) -> Result<Value<'a>, StripeFault>
+fn next_bool<'a>(column: usize, bits: &mut Bits<'a>) -> Result<Own<'a>, StripeFault>
     ensures found { IfOk result (λ v. Leaves (Standing IsBool (BitsLeft bits.old))
-        (Standing IsBool (BitsLeft bits.new)) (cell_of_value v ∷ [])) }
+        (Standing IsBool (BitsLeft bits.new)) (own_cell v ∷ [])) }
+    ensures kind { IfOk result (λ v. IsValueOf kinds.Boolean (own_cell v)) }
     ensures none { OnErr result (Lacks (Standing IsBool (BitsLeft bits.old)) 1) }
     ensures before { OnOk result ((all : Bool) (n : ℕ) (f : Fault)
         → RunsFail stream.Data column (Always all n (BitsMeet bits.new)) f
@@ -95,16 +97,17 @@ fn next_bool<'a>(column: usize, bits: &mut Bits<'a>) -> Result<Value<'a>, Stripe
         → (n : ℕ) → RunsFail stream.Data column (Always false (suc n) (BitsMeet bits.old)) cause) }
 {
     match bits.next() {
-        Ok(bit) => Ok(Value::Bool(bit)),
+        Ok(bit) => Ok(Own::Bool(bit)),
         Err(fault) => Err(run_fault(column, StreamKind::Data, fault)),
     }
 }
 
 impl<'a> ValueSource<'a> {
     /// The next value of a column of a kind that contains no other. It takes no memory.
-    pub fn next_scalar(&mut self, kind: Scalar) -> Result<Value<'a>, StripeFault>
+    pub fn next_scalar(&mut self, kind: Scalar) -> Result<Own<'a>, StripeFault>
         ensures found { IfOk result
-            (λ v. Leaves (ScalarLeft kind self.old) (ScalarLeft kind self.new) (cell_of_value v ∷ [])) }
+            (λ v. Leaves (ScalarLeft kind self.old) (ScalarLeft kind self.new) (own_cell v ∷ [])) }
+        ensures kind { IfOk result (λ v. IsValueOf kind (own_cell v)) }
         ensures none { OnErr result (Lacks (ScalarLeft kind self.old) 1) }
         ensures column { self.new.column ≡ self.old.column }
         ensures before { OnOk result ((all : Bool) (n : ℕ) (f : Fault)

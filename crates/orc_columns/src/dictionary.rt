@@ -2,7 +2,8 @@
 
 ghost use Rattle.std.specs.Prelude.{◌≡◌, ◌≢◌, ◌∷◌, ◌⊎◌, [], ℕ, suc, Bool, true, false, List, length, map, IfOk, IfErr, OnOk, OnErr};
 ghost use Rattle.orc_types.specs.Cells.{Cell};
-ghost use Rattle.orc_types.specs.Views.{cell_of_value};
+ghost use Rattle.orc_types.specs.Own.{own_cell, IsValueOf};
+ghost use Rattle.orc_types.specs.declared.kind.Scalar.TheVariants as kinds;
 ghost use Rattle.orc_columns.specs.Fronts.{Leaves, Lacks};
 ghost use Rattle.orc_columns.specs.Numbers.{AreNumbers, NumbersLeft};
 ghost use Rattle.orc_columns.specs.Spellings.{Standing, Grouped};
@@ -23,9 +24,8 @@ use crate::numbers::{Numbers, numbers_of};
 use crate::octets::Octets;
 use crate::whole_numbers::next_number;
 use orc_rle::{Rle, Sign};
-use orc_types::Value;
+use orc_types::Own;
 use std::alloc::Global;
-use std::borrow::CowStr;
 
 /// The entries of a dictionary.
 pub fn entries_of<'a>(
@@ -65,8 +65,9 @@ pub fn entries_of<'a>(
 }
 
 /// The text at an index of a dictionary.
-fn word<'a>(column: usize, entries: &[Entry<'a>], number: i64) -> Result<Value<'a>, StripeFault>
-    ensures found { IfOk result (λ v. IsWord (map entry_bytes entries.now) number (cell_of_value v)) }
+fn word<'a>(column: usize, entries: &[Entry<'a>], number: i64) -> Result<Own<'a>, StripeFault>
+    ensures found { IfOk result (λ v. IsWord (map entry_bytes entries.now) number (own_cell v)) }
+    ensures kind { IfOk result (λ v. IsValueOf kinds.String (own_cell v)) }
     ensures none { OnErr result ((c : Cell) → IsWord (map entry_bytes entries.now) number c → ⊥) }
     ensures fault { IfErr result (λ cause.
         ((cause ≡ fault.BadIndex column) × (is_index (length entries.now) number ≡ false))
@@ -80,7 +81,7 @@ fn word<'a>(column: usize, entries: &[Entry<'a>], number: i64) -> Result<Value<'
         return Err(StripeFault::BadIndex(column));
     };
     match std::str::from_utf8(entry.bytes) {
-        Ok(text) => Ok(Value::Text(CowStr::Borrowed(text))),
+        Ok(text) => Ok(Own::Text(text)),
         Err(_) => Err(StripeFault::NotUtf8(column, StreamKind::DictionaryData)),
     }
 }
@@ -90,9 +91,10 @@ pub(crate) fn next_word<'a>(
     column: usize,
     entries: &[Entry<'a>],
     numbers: &mut Numbers<'a>,
-) -> Result<Value<'a>, StripeFault>
+) -> Result<Own<'a>, StripeFault>
     ensures found { IfOk result (λ v. Leaves (Standing (IsWord (map entry_bytes entries.now)) (NumbersLeft numbers.old))
-        (Standing (IsWord (map entry_bytes entries.now)) (NumbersLeft numbers.new)) (cell_of_value v ∷ [])) }
+        (Standing (IsWord (map entry_bytes entries.now)) (NumbersLeft numbers.new)) (own_cell v ∷ [])) }
+    ensures kind { IfOk result (λ v. IsValueOf kinds.String (own_cell v)) }
     ensures none { OnErr result (Lacks (Standing (IsWord (map entry_bytes entries.now)) (NumbersLeft numbers.old)) 1) }
     ensures before { OnOk result ((all : Bool) (n : ℕ) (f : Fault)
         → WordsMeet (map entry_bytes entries.now) numbers.new all n column f

@@ -1,7 +1,8 @@
 //! Texts and bytes one after the other, their sizes in LENGTH.
 
 ghost use Rattle.std.specs.Prelude.{◌≡◌, ◌≢◌, ◌++◌, ◌∷◌, [], ℕ, suc, Bool, true, false, length, pos, IfOk, IfErr, OnOk, OnErr, MatchBool};
-ghost use Rattle.orc_types.specs.Views.{cell_of_value};
+ghost use Rattle.orc_types.specs.Own.{own_cell, IsValueOf};
+ghost use Rattle.orc_types.specs.declared.kind.Scalar.TheVariants as kinds;
 ghost use Rattle.orc_columns.specs.Fronts.{Leaves, Precedes, Lacks};
 ghost use Rattle.orc_columns.specs.Numbers.{NumbersLeft, NumbersFirst};
 ghost use Rattle.orc_columns.specs.Octets.{OctetsLeft};
@@ -16,8 +17,7 @@ use crate::fault::{StreamKind, StripeFault, run_fault};
 use crate::numbers::{Numbers, numbers_end, numbers_left};
 use crate::octets::{Octets, octets_end};
 use crate::whole_numbers::next_number;
-use orc_types::Value;
-use std::borrow::{CowSlice, CowStr};
+use orc_types::Own;
 
 /// The next group of bytes, its size from LENGTH.
 pub fn next_group<'a>(
@@ -87,10 +87,11 @@ pub(crate) fn next_text<'a>(
     column: usize,
     numbers: &mut Numbers<'a>,
     octets: &mut Octets<'a>,
-) -> Result<Value<'a>, StripeFault>
+) -> Result<Own<'a>, StripeFault>
     ensures found { IfOk result
         (λ v. Leaves (Standing IsText (Grouped (NumbersLeft numbers.old) (OctetsLeft octets.old)))
-        (Standing IsText (Grouped (NumbersLeft numbers.new) (OctetsLeft octets.new))) (cell_of_value v ∷ [])) }
+        (Standing IsText (Grouped (NumbersLeft numbers.new) (OctetsLeft octets.new))) (own_cell v ∷ [])) }
+    ensures kind { IfOk result (λ v. IsValueOf kinds.String (own_cell v)) }
     ensures none { OnErr result
         (Lacks (Standing IsText (Grouped (NumbersLeft numbers.old) (OctetsLeft octets.old))) 1) }
     ensures before { OnOk result ((all : Bool) (n : ℕ) (f : Fault) → TextMeets numbers.new octets.new all n column f
@@ -100,7 +101,7 @@ pub(crate) fn next_text<'a>(
 {
     match next_group(column, StreamKind::Data, numbers, octets) {
         Ok(bytes) => match std::str::from_utf8(bytes) {
-            Ok(text) => Ok(Value::Text(CowStr::Borrowed(text))),
+            Ok(text) => Ok(Own::Text(text)),
             Err(_) => Err(StripeFault::NotUtf8(column, StreamKind::Data)),
         },
         Err(fault) => Err(fault),
@@ -108,10 +109,10 @@ pub(crate) fn next_text<'a>(
 }
 
 /// Bytes as a value.
-fn value_of<'a>(bytes: &'a [u8]) -> Value<'a>
-    ensures { IsBinary bytes.now (cell_of_value result) }
+fn value_of<'a>(bytes: &'a [u8]) -> Own<'a>
+    ensures { IsBinary bytes.now (own_cell result) }
 {
-    Value::Bytes(CowSlice::Borrowed(bytes))
+    Own::Bytes(bytes)
 }
 
 /// The next bytes.
@@ -119,10 +120,11 @@ pub(crate) fn next_binary<'a>(
     column: usize,
     numbers: &mut Numbers<'a>,
     octets: &mut Octets<'a>,
-) -> Result<Value<'a>, StripeFault>
+) -> Result<Own<'a>, StripeFault>
     ensures found { IfOk result
         (λ v. Leaves (Standing IsBinary (Grouped (NumbersLeft numbers.old) (OctetsLeft octets.old)))
-        (Standing IsBinary (Grouped (NumbersLeft numbers.new) (OctetsLeft octets.new))) (cell_of_value v ∷ [])) }
+        (Standing IsBinary (Grouped (NumbersLeft numbers.new) (OctetsLeft octets.new))) (own_cell v ∷ [])) }
+    ensures kind { IfOk result (λ v. IsValueOf kinds.Binary (own_cell v)) }
     ensures none { OnErr result
         (Lacks (Standing IsBinary (Grouped (NumbersLeft numbers.old) (OctetsLeft octets.old))) 1) }
     ensures before { OnOk result ((all : Bool) (n : ℕ) (f : Fault)

@@ -1,6 +1,7 @@
 //! A column's cells, one after the other: marks, values, and what lists, maps and structs have below them.
 ghost use Rattle.std.specs.Prelude.{map, ◌≡◌, ◌≢◌, ◌+◌, ◌++◌, ℕ, suc, Bool, false, [], ◌∷◌, List, IfOk, IfErr, OnOk, length};
-ghost use Rattle.orc_types.specs.Cells.{Cell};
+ghost use Rattle.orc_types.specs.Cells.{Atom, Cell, leaf};
+ghost use Rattle.orc_types.specs.Own.{own_cell};
 ghost use Rattle.orc_types.specs.Shapes.{width, widths};
 ghost use Rattle.orc_types.specs.Views.{view, views, paired, cell_of_value, shape, fields as fields_view};
 ghost use Rattle.orc_columns.specs.Fronts.{Leaves, Lacks};
@@ -11,8 +12,24 @@ ghost use Rattle.orc_columns.specs.declared.fault.StripeFault.TheVariants.{OutOf
 
 use crate::column::{ColumnReader, next_present, next_size};
 use crate::fault::StripeFault;
-use orc_types::{Field, MapPair, Row, Tree, Value, width_of};
+use orc_types::{Field, MapPair, Own, Row, Tree, Value, width_of};
 use std::alloc::Global;
+use std::borrow::{CowSlice, CowStr};
+
+/// A value of a kind that contains no other.
+fn value_of<'a>(own: Own<'a>) -> Value<'a>
+    requires { (a : Atom) × (own_cell own ≡ leaf a) }
+    ensures { cell_of_value result ≡ own_cell own }
+{
+    match own {
+        Own::Bool(truth) => Value::Bool(truth),
+        Own::Int(number) => Value::Int(number),
+        Own::Date(day) => Value::Date(day),
+        Own::Text(text) => Value::Text(CowStr::Borrowed(text)),
+        Own::Bytes(bytes) => Value::Bytes(CowSlice::Borrowed(bytes)),
+        Own::Null | Own::List(_) | Own::Map(_) | Own::Struct => unreachable!(),
+    }
+}
 
 /// The next cell of a column.
 #[cycle(reader)]
@@ -60,7 +77,7 @@ fn next_value<'a>(
 {
     match tree {
         Tree::Scalar(kind, _) => match readers[0].source.next_scalar(*kind) {
-            Ok(value) => Ok(value),
+            Ok(own) => Ok(value_of(own)),
             Err(fault) => Err(fault),
         },
         Tree::List(element, _) => match next_list(alloc, element, readers) {

@@ -1,7 +1,7 @@
 //! Whole numbers and dates: integers in DATA, or bytes in DATA where the numbers have 8 bits.
 
 ghost use Rattle.std.specs.Prelude.{◌≡◌, ◌≢◌, ◌∷◌, [], ℕ, suc, Bool, false, IfOk, IfErr, OnOk, OnErr};
-ghost use Rattle.orc_types.specs.Views.{cell_of_value};
+ghost use Rattle.orc_types.specs.Own.{own_cell, IsValueOf};
 ghost use Rattle.orc_types.specs.Fits.{int_fits as fits, signed_fits};
 ghost use Rattle.orc_columns.specs.Fronts.{Leaves, Precedes, Lacks};
 ghost use Rattle.orc_columns.specs.Numbers.{NumbersLeft, NumbersFirst};
@@ -21,7 +21,7 @@ ghost use Rattle.orc_columns.specs.declared.fault.StripeFault.{StripeFault as Fa
 use crate::bytes::RunLengthBytes;
 use crate::fault::{StreamKind, StripeFault, run_fault};
 use crate::numbers::Numbers;
-use orc_types::{Scalar, Value, int_fits};
+use orc_types::{Own, Scalar, int_fits};
 
 /// The next number of the stream.
 pub fn next_number(
@@ -49,9 +49,10 @@ pub(crate) fn next_int<'a>(
     column: usize,
     kind: Scalar,
     numbers: &mut Numbers<'a>,
-) -> Result<Value<'a>, StripeFault>
+) -> Result<Own<'a>, StripeFault>
     ensures found { IfOk result (λ v. Leaves (Standing (IsInt kind) (NumbersLeft numbers.old))
-        (Standing (IsInt kind) (NumbersLeft numbers.new)) (cell_of_value v ∷ [])) }
+        (Standing (IsInt kind) (NumbersLeft numbers.new)) (own_cell v ∷ [])) }
+    ensures kind { IfOk result (λ v. IsValueOf kind (own_cell v)) }
     ensures none { OnErr result (Lacks (Standing (IsInt kind) (NumbersLeft numbers.old)) 1) }
     ensures before { OnOk result ((all : Bool) (n : ℕ) (f : Fault) → IntsMeet (fits kind) numbers.new all n column f
         → IntsMeet (fits kind) numbers.old all (suc n) column f) }
@@ -63,7 +64,7 @@ pub(crate) fn next_int<'a>(
             if !int_fits(kind, number) {
                 return Err(StripeFault::OutOfRange(column));
             }
-            Ok(Value::Int(number))
+            Ok(Own::Int(number))
         }
         Err(fault) => Err(fault),
     }
@@ -73,9 +74,10 @@ pub(crate) fn next_int<'a>(
 pub(crate) fn next_long<'a>(
     column: usize,
     numbers: &mut Numbers<'a>,
-) -> Result<Value<'a>, StripeFault>
+) -> Result<Own<'a>, StripeFault>
     ensures found { IfOk result (λ v. Leaves (Standing (IsInt kinds.Long) (NumbersLeft numbers.old))
-        (Standing (IsInt kinds.Long) (NumbersLeft numbers.new)) (cell_of_value v ∷ [])) }
+        (Standing (IsInt kinds.Long) (NumbersLeft numbers.new)) (own_cell v ∷ [])) }
+    ensures kind { IfOk result (λ v. IsValueOf kinds.Long (own_cell v)) }
     ensures none { OnErr result (Lacks (Standing (IsInt kinds.Long) (NumbersLeft numbers.old)) 1) }
     ensures before { OnOk result ((all : Bool) (n : ℕ) (f : Fault)
         → RunsFail stream.Data column (Always all n (NumbersMeet numbers.new)) f
@@ -84,7 +86,7 @@ pub(crate) fn next_long<'a>(
         → (n : ℕ) → RunsFail stream.Data column (Always false (suc n) (NumbersMeet numbers.old)) cause) }
 {
     match next_number(column, StreamKind::Data, numbers) {
-        Ok(number) => Ok(Value::Int(number)),
+        Ok(number) => Ok(Own::Int(number)),
         Err(fault) => Err(fault),
     }
 }
@@ -93,9 +95,10 @@ pub(crate) fn next_long<'a>(
 pub(crate) fn next_date<'a>(
     column: usize,
     numbers: &mut Numbers<'a>,
-) -> Result<Value<'a>, StripeFault>
+) -> Result<Own<'a>, StripeFault>
     ensures found { IfOk result (λ v. Leaves (Standing IsDate (NumbersLeft numbers.old))
-        (Standing IsDate (NumbersLeft numbers.new)) (cell_of_value v ∷ [])) }
+        (Standing IsDate (NumbersLeft numbers.new)) (own_cell v ∷ [])) }
+    ensures kind { IfOk result (λ v. IsValueOf kinds.Date (own_cell v)) }
     ensures none { OnErr result (Lacks (Standing IsDate (NumbersLeft numbers.old)) 1) }
     ensures before { OnOk result ((all : Bool) (n : ℕ) (f : Fault)
         → IntsMeet (signed_fits 31) numbers.new all n column f
@@ -105,7 +108,7 @@ pub(crate) fn next_date<'a>(
 {
     match next_number(column, StreamKind::Data, numbers) {
         Ok(number) => match i32::try_from(number) {
-            Ok(day) => Ok(Value::Date(day)),
+            Ok(day) => Ok(Own::Date(day)),
             Err(_) => Err(StripeFault::OutOfRange(column)),
         },
         Err(fault) => Err(fault),
@@ -127,9 +130,10 @@ fn number_of(byte: u8) -> i64
 pub(crate) fn next_byte<'a>(
     column: usize,
     bytes: &mut RunLengthBytes<'a>,
-) -> Result<Value<'a>, StripeFault>
+) -> Result<Own<'a>, StripeFault>
     ensures found { IfOk result (λ v. Leaves (Standing IsByte (BytesLeft bytes.old))
-        (Standing IsByte (BytesLeft bytes.new)) (cell_of_value v ∷ [])) }
+        (Standing IsByte (BytesLeft bytes.new)) (own_cell v ∷ [])) }
+    ensures kind { IfOk result (λ v. IsValueOf kinds.Byte (own_cell v)) }
     ensures none { OnErr result (Lacks (Standing IsByte (BytesLeft bytes.old)) 1) }
     ensures before { OnOk result ((all : Bool) (n : ℕ) (f : Fault)
         → RunsFail stream.Data column (Always all n (BytesMeet bytes.new)) f
@@ -138,7 +142,7 @@ pub(crate) fn next_byte<'a>(
         → (n : ℕ) → RunsFail stream.Data column (Always false (suc n) (BytesMeet bytes.old)) cause) }
 {
     match bytes.next() {
-        Ok(byte) => Ok(Value::Int(number_of(byte))),
+        Ok(byte) => Ok(Own::Int(number_of(byte))),
         Err(fault) => Err(run_fault(column, StreamKind::Data, fault)),
     }
 }

@@ -1,22 +1,46 @@
 //! The counts of a column's cells, group after group.
-ghost use Rattle.std.specs.Prelude.{◌≡◌, ◌+◌, ◌^◌, ◌<◌, min, length};
+ghost use Rattle.std.specs.Prelude.{◌≡◌, ◌+◌, ◌^◌, ◌<◌, ◌∷◌, [], min, length};
 ghost use Rattle.orc_types.specs.Cells.{values};
 ghost use Rattle.orc_types.specs.Lent.{lent_cells};
-ghost use Rattle.orc_types.specs.Views.{view};
+ghost use Rattle.orc_types.specs.Own.{own_cell};
 ghost use Rattle.orc_index.specs.Places.{octets, octets_in};
 ghost use Rattle.orc_index.specs.Walking.{most};
 
 use crate::counts::Counts;
-use orc_types::{Lent, Row, Value};
+use orc_types::{Lent, Own, own_of};
 
 /// How many bytes a text has, or a byte string; 0 of other cells.
-fn octets_of(row: &Row<'_>) -> usize
-    ensures { result ≡ octets_in (view row.now) }
+fn octets_of(own: Own<'_>) -> usize
+    ensures { result ≡ octets_in (own_cell own) }
 {
-    match row {
-        Some(Value::Text(text)) => text.as_str().as_bytes().len(),
-        Some(Value::Bytes(bytes)) => bytes.as_slice().len(),
+    match own {
+        Own::Text(text) => text.as_bytes().len(),
+        Own::Bytes(bytes) => bytes.len(),
         _ => 0,
+    }
+}
+
+/// Whether the cell is a value, as a number.
+fn value_of(own: Own<'_>) -> usize
+    ensures { result ≡ length (values (own_cell own ∷ [])) }
+{
+    if own.is_null() { 0 } else { 1 }
+}
+
+impl Counts {
+    /// The counts with one cell more, as its own column says it.
+    pub fn add_own(self, own: Own<'_>) -> Counts
+        requires cells { self.entry.cells + 1 < 2 ^ 64 }
+        requires values { self.entry.values + 1 < 2 ^ 64 }
+        ensures cells { result.cells ≡ self.entry.cells + 1 }
+        ensures values { result.values ≡ self.entry.values + length (values (own_cell own ∷ [])) }
+        ensures octets { result.octets ≡ min most (self.entry.octets + octets_in (own_cell own)) }
+    {
+        Counts {
+            cells: self.cells + 1,
+            values: self.values + value_of(own),
+            octets: self.octets.saturating_add(octets_of(own)),
+        }
     }
 }
 
@@ -30,11 +54,7 @@ pub fn counts_after(before: Counts, cells: &[Lent<'_, '_>]) -> Counts
 {
     let mut counts = before;
     for cell in cells {
-        counts.cells += 1;
-        if cell.0.is_some() {
-            counts.values += 1;
-        }
-        counts.octets = counts.octets.saturating_add(octets_of(cell.0));
+        counts = counts.add_own(own_of(cell.0));
     }
     counts
 }

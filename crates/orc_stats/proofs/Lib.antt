@@ -1,6 +1,5 @@
 pub mod Fitting
 pub mod Folding
-pub mod ListSizes
 pub mod Shuffled
 pub mod Meanings
 pub mod Words

@@ -13,3 +13,4 @@ pub mod Tallies
 pub mod Measures
 pub mod TallyLaws
 pub mod TallyKinds
+pub mod OwnCells

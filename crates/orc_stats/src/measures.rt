@@ -16,7 +16,7 @@ pub use bools::Bools;
 pub use children::Children;
 pub use dates::Dates;
 pub use ints::Ints;
-use orc_types::Value;
+use orc_types::Own;
 pub use plain::Plain;
 use std::alloc::Global;
 pub use texts::Texts;
@@ -32,7 +32,8 @@ pub trait Sizes {
 pub trait Measures<'r>: Sizes + Sized + Drop {
     ghost use Rattle.std.specs.Prelude.{◌≡◌, ◌+◌, ◌^◌, ◌≤◌, ◌<◌, ℕ, true, List, IfOk, IfErr, All, length};
     ghost use Rattle.orc_types.specs.Cells.{Cell};
-    ghost use Rattle.orc_types.specs.Views.{cell_of_value};
+    ghost use Rattle.orc_types.specs.Childless.{childless};
+    ghost use Rattle.orc_types.specs.Own.{own_cell};
     ghost use Rattle.orc_stats.specs.declared.kind.StatKind.{StatKind};
     ghost use Rattle.orc_stats.specs.declared.stat.Stat.{Stat};
     ghost use Rattle.orc_stats.specs.declared.fault.StatFault.TheVariants.{OutOfMemory};
@@ -51,6 +52,8 @@ pub trait Measures<'r>: Sizes + Sized + Drop {
     ghost kind: { StatKind };
     // Whether `body` takes memory.
     ghost TakesMemory: { Type 0 };
+    // A cell's children have no part in what is counted of it.
+    ghost childless_kept: { (c : Cell) → measure.of_cell (childless c) ≡ measure.of_cell c };
     // What was counted of cells, once closed, is their statistic.
     ghost cells_are: { (cells : List Cell)
         → length cells ≤ 2 ^ 62
@@ -63,10 +66,10 @@ pub trait Measures<'r>: Sizes + Sized + Drop {
         ensures none { parts result ≡ measure.joins.none }
         ensures size { Self.size result ≡ 0 };
 
-    /// Of one value.
-    fn of_value(value: &'r Value<'_>) -> Self
-        requires { is_of kind (cell_of_value value.now) ≡ true }
-        ensures value { parts result ≡ measure.of_cell (cell_of_value value.now) }
+    /// Of one cell; null adds nothing.
+    fn of_own(own: Own<'r>) -> Self
+        requires { is_of kind (own_cell own) ≡ true }
+        ensures value { parts result ≡ measure.of_cell (own_cell own) }
         ensures size { Self.size result ≤ 2 ^ 64 };
 
     /// Of the values that a statistic is of.

@@ -2,7 +2,7 @@
 use crate::fault::StatFault;
 use crate::kind::StatKind;
 use crate::stat::Stat;
-use orc_types::{Lent, Row};
+use orc_types::{Lent, Own, Row, own_of};
 use std::alloc::Global;
 
 /// So many values at most are counted in one statistic.
@@ -13,6 +13,8 @@ pub(crate) const MOST_VALUES: u64 = 1 << 62;
 pub trait Tally<'r>: Sized + Drop {
     ghost use Rattle.std.specs.Prelude.{◌≡◌, ◌+◌, ◌^◌, ◌≤◌, ◌<◌, ℕ, true, List, IfOk, IfErr, OnOk, All, length, sum_by};
     ghost use Rattle.orc_types.specs.Cells.{Cell, is_value, values};
+    ghost use Rattle.orc_types.specs.Childless.{childless};
+    ghost use Rattle.orc_types.specs.Own.{own_cell};
     ghost use Rattle.orc_types.specs.Views.{view};
     ghost use Rattle.orc_types.specs.Lent.{lent_cells};
     ghost use Rattle.orc_stats.specs.declared.kind.StatKind.{StatKind};
@@ -34,6 +36,8 @@ pub trait Tally<'r>: Sized + Drop {
     ghost kind: { StatKind };
     // Whether `close` takes memory.
     ghost TakesMemory: { Type 0 };
+    // A cell's children have no part in what is counted of it.
+    ghost childless_kept: { (c : Cell) → measure.of_cell (childless c) ≡ measure.of_cell c };
     // What was counted of cells, once closed, is their statistic.
     ghost cells_are: { (cells : List Cell)
         → length cells ≤ 2 ^ 62
@@ -45,11 +49,11 @@ pub trait Tally<'r>: Sized + Drop {
     fn unit() -> Self
         ensures { kept result ≡ none_kept measure };
 
-    /// Counts one cell more.
-    fn add(&mut self, cell: &'r Row<'_>)
-        requires kind { is_of kind (view cell.now) ≡ true }
-        requires most { (kept self.old).count + bit (is_value (view cell.now)) ≤ 2 ^ 62 }
-        ensures { kept self.new ≡ together measure (kept self.old) (cell_kept measure (view cell.now)) };
+    /// Counts one cell more, as its own column says it.
+    fn add_own(&mut self, own: Own<'r>)
+        requires kind { is_of kind (own_cell own) ≡ true }
+        requires most { (kept self.old).count + bit (is_value (own_cell own)) ≤ 2 ^ 62 }
+        ensures { kept self.new ≡ together measure (kept self.old) (cell_kept measure (own_cell own)) };
 
     /// Of what a statistic is of.
     fn of_stat(stat: &'r Stat) -> Self
@@ -68,6 +72,15 @@ pub trait Tally<'r>: Sized + Drop {
     fn close(&self, alloc: Global) -> Result<Stat, StatFault>
         ensures found { IfOk result (λ s. s ≡ stat_of_kept measure (kept self.now)) }
         ensures fault { IfErr result (λ fault. (fault ≡ OutOfMemory) × TakesMemory) };
+
+    /// Counts one cell more.
+    final fn add(&mut self, cell: &'r Row<'_>)
+        requires kind { is_of kind (view cell.now) ≡ true }
+        requires most { (kept self.old).count + bit (is_value (view cell.now)) ≤ 2 ^ 62 }
+        ensures { kept self.new ≡ together measure (kept self.old) (cell_kept measure (view cell.now)) }
+    {
+        self.add_own(own_of(cell));
+    }
 
     /// The statistic of cells.
     final fn of_cells(alloc: Global, cells: &'r [Lent<'r, '_>]) -> Result<Stat, StatFault>

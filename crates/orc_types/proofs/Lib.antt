@@ -1,4 +1,5 @@
 pub mod Views
+pub mod Childless
 pub mod ByColumn
 pub mod Trees
 pub mod Exclusion

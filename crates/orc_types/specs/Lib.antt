@@ -10,6 +10,8 @@ pub mod Coding
 pub mod Views
 pub mod Preorder
 pub mod KnownKeys
+pub mod Childless
+pub mod Own
 pub mod Lent
 pub mod SchemaText
 pub mod TextFaults

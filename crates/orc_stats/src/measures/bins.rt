@@ -4,7 +4,7 @@ use crate::measures::{Measures, Sizes};
 use crate::seen::Seen;
 use crate::stat::Body;
 use crate::totals::{in_64, length_of, plus, total_of};
-use orc_types::Value;
+use orc_types::Own;
 use std::alloc::Global;
 
 /// Of byte strings: the sum of their lengths.
@@ -24,6 +24,7 @@ impl<'r> Measures<'r> for Bins {
     ghost use Rattle.orc_stats.specs.declared.seen.Seen.{Seen};
     ghost use Rattle.orc_stats.specs.declared.kind.StatKind.TheVariants as kind_name;
     ghost use Rattle.orc_stats.specs.Measures as tally;
+    ghost use Rattle.orc_stats.specs.OwnCells.{bins_childless};
     ghost use Rattle.orc_stats.specs.TallyKinds.{bins_cells, bins_stats};
 
     ghost Parts = { Seen ℤ };
@@ -40,12 +41,12 @@ impl<'r> Measures<'r> for Bins {
         Bins { sum: Seen::Nothing }
     }
 
-    fn of_value(value: &'r Value<'_>) -> Bins {
-        let Value::Bytes(bytes) = value else {
+    fn of_own(own: Own<'r>) -> Bins {
+        let Own::Bytes(bytes) = own else {
             return Bins::none();
         };
         Bins {
-            sum: length_of(bytes.as_slice()),
+            sum: length_of(bytes),
         }
     }
 
@@ -69,6 +70,8 @@ impl<'r> Measures<'r> for Bins {
             sum: in_64(self.sum),
         })
     }
+
+    ghost childless_kept = { bins_childless };
 
     ghost cells_are = { λ cells _. bins_cells cells };
 

@@ -4,7 +4,7 @@ use crate::measures::{Measures, Sizes};
 use crate::seen::Seen;
 use crate::stat::Body;
 use crate::totals::{in_limit, more, number_of};
-use orc_types::Value;
+use orc_types::Own;
 use std::alloc::Global;
 
 /// Of truth values: how many are true.
@@ -24,6 +24,7 @@ impl<'r> Measures<'r> for Bools {
     ghost use Rattle.orc_stats.specs.declared.seen.Seen.{Seen};
     ghost use Rattle.orc_stats.specs.declared.kind.StatKind.TheVariants as kind_name;
     ghost use Rattle.orc_stats.specs.Measures as tally;
+    ghost use Rattle.orc_stats.specs.OwnCells.{bools_childless};
     ghost use Rattle.orc_stats.specs.TallyKinds.{bools_cells, bools_stats};
 
     ghost Parts = { Seen ℕ };
@@ -42,12 +43,12 @@ impl<'r> Measures<'r> for Bools {
         }
     }
 
-    fn of_value(value: &'r Value<'_>) -> Bools {
-        let Value::Bool(truth) = value else {
+    fn of_own(own: Own<'r>) -> Bools {
+        let Own::Bool(truth) = own else {
             return Bools::none();
         };
         Bools {
-            trues: Seen::Known(u128::from(*truth)),
+            trues: Seen::Known(u128::from(truth)),
         }
     }
 
@@ -71,6 +72,8 @@ impl<'r> Measures<'r> for Bools {
             trues: in_limit(self.trues),
         })
     }
+
+    ghost childless_kept = { bools_childless };
 
     ghost cells_are = { λ cells most. bools_cells cells most };
 

@@ -4,7 +4,7 @@ use crate::measures::{Measures, Sizes};
 use crate::seen::Seen;
 use crate::stat::Body;
 use crate::totals::{in_u64, more, number_of};
-use orc_types::Value;
+use orc_types::Own;
 use std::alloc::Global;
 
 /// Of lists and maps: the least and the greatest number of children, and the total of all these numbers.
@@ -27,6 +27,7 @@ impl<'r> Measures<'r> for Children {
     ghost use Rattle.orc_stats.specs.declared.seen.Seen.{Seen};
     ghost use Rattle.orc_stats.specs.declared.kind.StatKind.TheVariants as kind_name;
     ghost use Rattle.orc_stats.specs.Measures as tally;
+    ghost use Rattle.orc_stats.specs.OwnCells.{children_childless};
     ghost use Rattle.orc_stats.specs.TallyKinds.{children_cells, children_stats};
 
     ghost Parts = { Seen ℕ × (Seen ℕ × Seen ℕ) };
@@ -47,11 +48,9 @@ impl<'r> Measures<'r> for Children {
         }
     }
 
-    fn of_value(value: &'r Value<'_>) -> Children {
-        let count = match value {
-            Value::List(items) => items.len() as u64,
-            Value::Map(pairs) => pairs.len() as u64,
-            _ => return Children::none(),
+    fn of_own(own: Own<'r>) -> Children {
+        let (Own::List(count) | Own::Map(count)) = own else {
+            return Children::none();
         };
         Children {
             least: Seen::Known(count),
@@ -91,6 +90,8 @@ impl<'r> Measures<'r> for Children {
             total: in_u64(self.total),
         })
     }
+
+    ghost childless_kept = { children_childless };
 
     ghost cells_are = { λ cells _. children_cells cells };
 

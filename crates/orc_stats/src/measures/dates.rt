@@ -3,7 +3,7 @@ use crate::fault::StatFault;
 use crate::measures::{Measures, Sizes};
 use crate::seen::Seen;
 use crate::stat::Body;
-use orc_types::Value;
+use orc_types::Own;
 use std::alloc::Global;
 
 /// Of dates: least and greatest.
@@ -22,6 +22,7 @@ impl<'r> Measures<'r> for Dates {
     ghost use Rattle.orc_stats.specs.declared.seen.Seen.{Seen};
     ghost use Rattle.orc_stats.specs.declared.kind.StatKind.TheVariants as kind_name;
     ghost use Rattle.orc_stats.specs.Measures as tally;
+    ghost use Rattle.orc_stats.specs.OwnCells.{dates_childless};
     ghost use Rattle.orc_stats.specs.TallyKinds.{dates_cells, dates_stats};
 
     ghost Parts = { Seen ℤ × Seen ℤ };
@@ -41,13 +42,13 @@ impl<'r> Measures<'r> for Dates {
         }
     }
 
-    fn of_value(value: &'r Value<'_>) -> Dates {
-        let Value::Date(day) = value else {
+    fn of_own(own: Own<'r>) -> Dates {
+        let Own::Date(day) = own else {
             return Dates::none();
         };
         Dates {
-            least: Seen::Known(*day),
-            greatest: Seen::Known(*day),
+            least: Seen::Known(day),
+            greatest: Seen::Known(day),
         }
     }
 
@@ -74,6 +75,8 @@ impl<'r> Measures<'r> for Dates {
             greatest: self.greatest.known(),
         })
     }
+
+    ghost childless_kept = { dates_childless };
 
     ghost cells_are = { λ cells _. dates_cells cells };
 

@@ -4,7 +4,7 @@ use crate::measures::{Measures, Sizes};
 use crate::seen::Seen;
 use crate::stat::Body;
 use crate::totals::{in_64, plus, total_of};
-use orc_types::Value;
+use orc_types::Own;
 use std::alloc::Global;
 
 /// Of integers: least, greatest and sum.
@@ -26,6 +26,7 @@ impl<'r> Measures<'r> for Ints {
     ghost use Rattle.orc_stats.specs.declared.kind.StatKind.TheVariants as kind_name;
     ghost use Rattle.orc_stats.specs.declared.seen.Seen.{Seen};
     ghost use Rattle.orc_stats.specs.Measures as tally;
+    ghost use Rattle.orc_stats.specs.OwnCells.{ints_childless};
     ghost use Rattle.orc_stats.specs.TallyKinds.{ints_cells, ints_stats};
 
     ghost Parts = { Seen ℤ × (Seen ℤ × Seen ℤ) };
@@ -46,14 +47,14 @@ impl<'r> Measures<'r> for Ints {
         }
     }
 
-    fn of_value(value: &'r Value<'_>) -> Ints {
-        let Value::Int(number) = value else {
+    fn of_own(own: Own<'r>) -> Ints {
+        let Own::Int(number) = own else {
             return Ints::none();
         };
         Ints {
-            least: Seen::Known(*number),
-            greatest: Seen::Known(*number),
-            sum: Seen::Known(i128::from(*number)),
+            least: Seen::Known(number),
+            greatest: Seen::Known(number),
+            sum: Seen::Known(i128::from(number)),
         }
     }
 
@@ -88,6 +89,8 @@ impl<'r> Measures<'r> for Ints {
             sum: in_64(self.sum),
         })
     }
+
+    ghost childless_kept = { ints_childless };
 
     ghost cells_are = { λ cells _. ints_cells cells };
 

@@ -2,7 +2,7 @@
 use crate::fault::StatFault;
 use crate::measures::{Measures, Sizes};
 use crate::stat::Body;
-use orc_types::Value;
+use orc_types::Own;
 use std::alloc::Global;
 
 /// Of structs: nothing.
@@ -16,6 +16,7 @@ impl Sizes for Plain {
 impl<'r> Measures<'r> for Plain {
     ghost use Rattle.orc_stats.specs.declared.kind.StatKind.TheVariants as kind_name;
     ghost use Rattle.orc_stats.specs.Measures as tally;
+    ghost use Rattle.orc_stats.specs.OwnCells.{plain_childless};
     ghost use Rattle.orc_stats.specs.TallyKinds.{plain_cells, plain_stats};
 
     ghost Parts = { Unit {0} };
@@ -32,7 +33,7 @@ impl<'r> Measures<'r> for Plain {
         Plain
     }
 
-    fn of_value(_value: &'r Value<'_>) -> Plain {
+    fn of_own(_own: Own<'r>) -> Plain {
         Plain
     }
 
@@ -47,6 +48,8 @@ impl<'r> Measures<'r> for Plain {
     fn body(&self, _alloc: Global) -> Result<Body, StatFault> {
         Ok(Body::Plain)
     }
+
+    ghost childless_kept = { plain_childless };
 
     ghost cells_are = { λ cells _. plain_cells cells };
 

@@ -5,7 +5,7 @@ use crate::seen::Seen;
 use crate::stat::Body;
 use crate::text_parts::{lent_part, owned_part};
 use crate::totals::{in_64, length_of, plus, total_of};
-use orc_types::Value;
+use orc_types::Own;
 use std::alloc::Global;
 
 /// Of texts: least and greatest by their bytes, and the sum of their lengths.
@@ -28,6 +28,7 @@ impl<'r> Measures<'r> for Texts<'r> {
     ghost use Rattle.orc_stats.specs.Seen.{seen_now};
     ghost use Rattle.orc_stats.specs.declared.kind.StatKind.TheVariants as kind_name;
     ghost use Rattle.orc_stats.specs.Measures as tally;
+    ghost use Rattle.orc_stats.specs.OwnCells.{texts_childless};
     ghost use Rattle.orc_stats.specs.TallyKinds.{texts_cells, texts_stats};
 
     ghost Parts = { Seen (List ℕ) × (Seen (List ℕ) × Seen ℤ) };
@@ -48,11 +49,11 @@ impl<'r> Measures<'r> for Texts<'r> {
         }
     }
 
-    fn of_value(value: &'r Value<'_>) -> Texts<'r> {
-        let Value::Text(text) = value else {
+    fn of_own(own: Own<'r>) -> Texts<'r> {
+        let Own::Text(text) = own else {
             return Texts::none();
         };
-        let bytes = text.as_str().as_bytes();
+        let bytes = text.as_bytes();
         Texts {
             least: Seen::Known(bytes),
             greatest: Seen::Known(bytes),
@@ -91,6 +92,8 @@ impl<'r> Measures<'r> for Texts<'r> {
             sum: in_64(self.sum),
         })
     }
+
+    ghost childless_kept = { texts_childless };
 
     ghost cells_are = { λ cells _. texts_cells cells };
 

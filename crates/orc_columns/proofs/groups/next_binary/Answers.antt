@@ -2,6 +2,7 @@ use Rattle.orc_columns.specs.Numbers.{NumbersLeft}
 use Rattle.orc_columns.specs.Octets.{OctetsLeft}
 use Rattle.orc_columns.specs.Spellings.{Grouped}
 use Rattle.orc_columns.specs.Columns.{IsBinary}
+use Rattle.orc_columns.proofs.OwnKinds.{binary_kind}
 use Rattle.orc_columns.proofs.ReaderLemmas.{one_stands, one_binary}
 use Rattle.orc_columns.proofs.groups.next_binary.Goals as goal
 
@@ -9,3 +10,6 @@ pub returns-in-Ok-clause-found : goal.returns-in-Ok-clause-found
 returns-in-Ok-clause-found c =
     one_stands IsBinary one_binary (Grouped (NumbersLeft c.args.numbers.now) (OctetsLeft c.args.octets.now)) (Grouped (NumbersLeft c.next_group.new.numbers) (OctetsLeft c.next_group.new.octets)) c.in-Ok.bytes.now _
     c.value_of.ensures c.in-Ok.ensures.found
+
+pub returns-in-Ok-clause-kind : goal.returns-in-Ok-clause-kind
+returns-in-Ok-clause-kind c = binary_kind c.in-Ok.bytes.now _ c.value_of.ensures

@@ -1,4 +1,4 @@
-use Rattle.std.proofs.Common.{suc, false, ap, ◌∙◌, inl}
+use Rattle.std.proofs.Common.{suc, false, ap, inl}
 use Rattle.std.proofs.lemmas.Str.{is_utf8-from_IsUtf8, IsUtf8-from_is_utf8}
 use Rattle.orc_types.specs.Cells.{leaf, text}
 use Rattle.orc_columns.specs.Numbers.{NumbersLeft}
@@ -6,14 +6,14 @@ use Rattle.orc_columns.specs.Octets.{OctetsLeft}
 use Rattle.orc_columns.specs.Spellings.{Grouped}
 use Rattle.orc_columns.specs.Columns.{IsText}
 use Rattle.orc_columns.proofs.ReaderLemmas.{one_stands, nothing_stands, one_text}
-use Rattle.orc_columns.proofs.Sizes.{value_text}
+use Rattle.orc_columns.proofs.OwnKinds.{text_kind}
 use Rattle.orc_columns.proofs.MetLemmas.{text_before, text_now}
 use Rattle.orc_columns.proofs.groups.next_text.Goals as goal
 
 pub returns-in-Ok-from_utf8-clause-found : goal.returns-in-Ok-from_utf8-clause-found
 returns-in-Ok-from_utf8-clause-found c =
     one_stands IsText one_text (Grouped (NumbersLeft c.args.numbers.now) (OctetsLeft c.args.octets.now)) (Grouped (NumbersLeft c.next_group.new.numbers) (OctetsLeft c.next_group.new.octets)) c.in-Ok.bytes.now _
-    (is_utf8-from_IsUtf8 c.in-Ok.bytes.now c.in-Ok-from_utf8.ensures.cases.1, value_text c.in-Ok-from_utf8.text ∙ ap (λ t. leaf (text t)) c.in-Ok-from_utf8.ensures.cases.0) c.in-Ok.ensures.found
+    (is_utf8-from_IsUtf8 c.in-Ok.bytes.now c.in-Ok-from_utf8.ensures.cases.1, ap (λ t. leaf (text t)) c.in-Ok-from_utf8.ensures.cases.0) c.in-Ok.ensures.found
 
 pub returns-in-Err-from_utf8-clause-none : goal.returns-in-Err-from_utf8-clause-none
 returns-in-Err-from_utf8-clause-none c =
@@ -30,3 +30,7 @@ returns-in-Err-from_utf8-clause-fault c = λ memory m.
 
 pub returns-in-Err-clause-fault : goal.returns-in-Err-clause-fault
 returns-in-Err-clause-fault c = λ memory m. inl (c.in-Err.ensures.fault memory m)
+
+pub returns-in-Ok-from_utf8-clause-kind : goal.returns-in-Ok-from_utf8-clause-kind
+returns-in-Ok-from_utf8-clause-kind c =
+    text_kind c.in-Ok.bytes.now _ (is_utf8-from_IsUtf8 c.in-Ok.bytes.now c.in-Ok-from_utf8.ensures.cases.1, ap (λ t. leaf (text t)) c.in-Ok-from_utf8.ensures.cases.0)

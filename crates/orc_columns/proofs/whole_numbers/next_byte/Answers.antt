@@ -4,8 +4,8 @@ use Rattle.orc_types.specs.Cells.{leaf, int}
 use Rattle.orc_columns.specs.Bytes.{BytesLeft}
 use Rattle.orc_columns.specs.Columns.{IsByte, signed_byte}
 use Rattle.orc_columns.proofs.Fronts.{standing_lacks}
+use Rattle.orc_columns.proofs.OwnKinds.{byte_kind}
 use Rattle.orc_columns.proofs.ReaderLemmas.{one_stands, one_byte}
-use Rattle.orc_columns.proofs.Sizes.{value_int}
 use Rattle.orc_columns.proofs.NeedLemmas.{runs_more, always_now}
 use Rattle.orc_columns.specs.declared.fault.StreamKind.TheVariants as stream
 use Rattle.orc_columns.specs.RunsMet.{BytesMeet}
@@ -17,7 +17,7 @@ returns-in-Ok-clause-found c =
     let z : to_z w64 (of_z w64 n) ≡ n = to_z-of_z w64 n (search rules) in
     let e : n ≡ signed_byte c.in-Ok.byte = c.number_of.ensures in
     let small : c.in-Ok.byte < 256 = search rules in
-    rw z (one_stands IsByte one_byte (BytesLeft c.args.bytes.now) (BytesLeft c.next.new.self) c.in-Ok.byte _ (small, value_int n ∙ ap (λ m. leaf (int m)) e) c.in-Ok.ensures.found)
+    rw z (one_stands IsByte one_byte (BytesLeft c.args.bytes.now) (BytesLeft c.next.new.self) c.in-Ok.byte _ (small, ap (λ m. leaf (int m)) e) c.in-Ok.ensures.found)
 
 pub returns-in-Err-clause-none : goal.returns-in-Err-clause-none
 returns-in-Err-clause-none c = standing_lacks IsByte (BytesLeft c.args.bytes.now) 1 c.in-Err.ensures.none
@@ -27,3 +27,11 @@ returns-in-Err-clause-fault c = λ memory n. let k = c.run_fault.ensures.fails m
 
 pub returns-in-Ok-clause-before : goal.returns-in-Ok-clause-before
 returns-in-Ok-clause-before c = λ all n f. runs_more stream.Data c.args.column all n (BytesMeet c.next.new.self) (BytesMeet c.args.bytes.now) f c.in-Ok.ensures.before
+
+pub returns-in-Ok-clause-kind : goal.returns-in-Ok-clause-kind
+returns-in-Ok-clause-kind c =
+    let n = c.number_of.result in
+    let z : to_z w64 (of_z w64 n) ≡ n = to_z-of_z w64 n (search rules) in
+    let e : n ≡ signed_byte c.in-Ok.byte = c.number_of.ensures in
+    let small : c.in-Ok.byte < 256 = search rules in
+    rw z (byte_kind c.in-Ok.byte _ (small, ap (λ m. leaf (int m)) e))

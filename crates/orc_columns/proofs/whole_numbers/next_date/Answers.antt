@@ -5,7 +5,8 @@ use Rattle.orc_columns.specs.Numbers.{NumbersLeft}
 use Rattle.orc_columns.specs.Columns.{IsDate}
 use Rattle.orc_columns.proofs.Fronts.{standing_lacks}
 use Rattle.orc_columns.proofs.ReaderLemmas.{one_stands, nothing_stands, one_date}
-use Rattle.orc_columns.proofs.Sizes.{value_date, day_fits, fits_day}
+use Rattle.orc_columns.proofs.Sizes.{day_fits, fits_day}
+use Rattle.orc_columns.proofs.OwnKinds.{date_kind}
 use Rattle.orc_types.specs.Fits.{signed_fits}
 use Rattle.orc_columns.proofs.MetLemmas.{ints_before, ints_now}
 use Rattle.orc_columns.proofs.whole_numbers.next_date.Goals as goal
@@ -17,7 +18,7 @@ returns-in-Ok-try_from-clause-found c =
     let f = rw z at e in
     let d : to_z w32 (of_z w32 c.in-Ok-try_from.day) ≡ c.in-Ok.number = ap (λ n. to_z w32 (of_z w32 n)) f.1 ∙ to_z-of_z w32 c.in-Ok.number f.0 in
     one_stands IsDate one_date (NumbersLeft c.args.numbers.now) (NumbersLeft c.next_number.new.numbers) c.in-Ok.number _
-    (fits_day c.in-Ok.number f.0, value_date (to_z w32 (of_z w32 c.in-Ok-try_from.day)) ∙ ap (λ n. leaf (date n)) d) c.in-Ok.ensures.found
+    (fits_day c.in-Ok.number f.0, ap (λ n. leaf (date n)) d) c.in-Ok.ensures.found
 
 pub returns-in-Err-try_from-clause-none : goal.returns-in-Err-try_from-clause-none
 returns-in-Err-try_from-clause-none c =
@@ -42,3 +43,11 @@ returns-in-Ok-try_from-clause-before c = λ all m f.
 
 pub returns-in-Err-clause-fault : goal.returns-in-Err-clause-fault
 returns-in-Err-clause-fault c = λ memory m. inl (c.in-Err.ensures.fault memory m)
+
+pub returns-in-Ok-try_from-clause-kind : goal.returns-in-Ok-try_from-clause-kind
+returns-in-Ok-try_from-clause-kind c =
+    let z : to_z w64 (of_z w64 c.in-Ok.number) ≡ c.in-Ok.number = to_z-of_z w64 c.in-Ok.number (search rules) in
+    let e = c.in-Ok-try_from.ensures in
+    let f = rw z at e in
+    let d : to_z w32 (of_z w32 c.in-Ok-try_from.day) ≡ c.in-Ok.number = ap (λ n. to_z w32 (of_z w32 n)) f.1 ∙ to_z-of_z w32 c.in-Ok.number f.0 in
+    date_kind c.in-Ok.number _ (fits_day c.in-Ok.number f.0, ap (λ n. leaf (date n)) d)

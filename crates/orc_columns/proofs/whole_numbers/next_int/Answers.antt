@@ -1,11 +1,12 @@
-use Rattle.std.proofs.Common.{◌≡◌, suc, true, false, sym, ◌∙◌, inl, rules, w64, to_z, of_z}
+use Rattle.std.proofs.Common.{◌≡◌, refl, suc, true, false, sym, ◌∙◌, inl, rules, w64, to_z, of_z}
 use Rattle.std.proofs.lemmas.Int.{to_z-of_z}
 use Rattle.orc_types.specs.Fits.{int_fits}
 use Rattle.orc_columns.specs.Numbers.{NumbersLeft}
 use Rattle.orc_columns.specs.Columns.{IsInt}
 use Rattle.orc_columns.proofs.Fronts.{standing_lacks}
 use Rattle.orc_columns.proofs.ReaderLemmas.{one_stands, nothing_stands, one_int}
-use Rattle.orc_columns.proofs.Sizes.{value_int, true_false}
+use Rattle.orc_columns.proofs.Sizes.{true_false}
+use Rattle.orc_columns.proofs.OwnKinds.{int_kind}
 use Rattle.orc_columns.proofs.MetLemmas.{ints_before, ints_now}
 use Rattle.orc_columns.proofs.whole_numbers.next_int.Goals as goal
 
@@ -19,7 +20,7 @@ pub returns-else-not-int_fits-clause-found : goal.returns-else-not-int_fits-clau
 returns-else-not-int_fits-clause-found c =
     let z : to_z w64 (of_z w64 c.in-Ok.number) ≡ c.in-Ok.number = to_z-of_z w64 c.in-Ok.number (search rules) in
     let fit : int_fits c.args.kind c.in-Ok.number ≡ true = let b = c.int_fits.ensures in let d = c.if-not-int_fits.false in cc in
-    rw z (one_stands (IsInt c.args.kind) (one_int c.args.kind) (NumbersLeft c.args.numbers.now) (NumbersLeft c.next_number.new.numbers) c.in-Ok.number _ (fit, value_int c.in-Ok.number) c.in-Ok.ensures.found)
+    rw z (one_stands (IsInt c.args.kind) (one_int c.args.kind) (NumbersLeft c.args.numbers.now) (NumbersLeft c.next_number.new.numbers) c.in-Ok.number _ (fit, refl) c.in-Ok.ensures.found)
 
 pub returns-in-Err-clause-none : goal.returns-in-Err-clause-none
 returns-in-Err-clause-none c = standing_lacks (IsInt c.args.kind) (NumbersLeft c.args.numbers.now) 1 c.in-Err.ensures.none
@@ -36,3 +37,9 @@ returns-else-not-int_fits-clause-before c = λ all m f.
 
 pub returns-in-Err-clause-fault : goal.returns-in-Err-clause-fault
 returns-in-Err-clause-fault c = λ memory m. inl (c.in-Err.ensures.fault memory m)
+
+pub returns-else-not-int_fits-clause-kind : goal.returns-else-not-int_fits-clause-kind
+returns-else-not-int_fits-clause-kind c =
+    let z : to_z w64 (of_z w64 c.in-Ok.number) ≡ c.in-Ok.number = to_z-of_z w64 c.in-Ok.number (search rules) in
+    let fit : int_fits c.args.kind c.in-Ok.number ≡ true = let b = c.int_fits.ensures in let d = c.if-not-int_fits.false in cc in
+    rw z (int_kind c.args.kind c.in-Ok.number _ (fit, refl))

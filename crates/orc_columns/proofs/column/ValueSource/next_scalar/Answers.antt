@@ -83,3 +83,30 @@ returns-in-Binary-clause-fault c = rw c.in-Binary.is c.next_binary.ensures.fault
 
 pub returns-in-None-clause-fault : goal.returns-in-None-clause-fault
 returns-in-None-clause-fault c = rw (c.in-String.is, c.in-None.is) c.next_text.ensures.fault
+
+pub returns-in-Boolean-clause-kind : goal.returns-in-Boolean-clause-kind
+returns-in-Boolean-clause-kind c = rw c.in-Boolean.is c.next_bool.ensures.kind
+
+pub returns-in-Byte-clause-kind : goal.returns-in-Byte-clause-kind
+returns-in-Byte-clause-kind c = rw c.in-Byte.is c.next_byte.ensures.kind
+
+pub returns-in-Short-clause-kind : goal.returns-in-Short-clause-kind
+returns-in-Short-clause-kind c = rw c.in-Short.is c.next_int.ensures.kind
+
+pub returns-in-Int-clause-kind : goal.returns-in-Int-clause-kind
+returns-in-Int-clause-kind c = rw c.in-Int.is c.next_int-in-Int.ensures.kind
+
+pub returns-in-Long-clause-kind : goal.returns-in-Long-clause-kind
+returns-in-Long-clause-kind c = rw c.in-Long.is c.next_long.ensures.kind
+
+pub returns-in-Date-clause-kind : goal.returns-in-Date-clause-kind
+returns-in-Date-clause-kind c = rw c.in-Date.is c.next_date.ensures.kind
+
+pub returns-in-Binary-clause-kind : goal.returns-in-Binary-clause-kind
+returns-in-Binary-clause-kind c = rw c.in-Binary.is c.next_binary.ensures.kind
+
+pub returns-in-None-clause-kind : goal.returns-in-None-clause-kind
+returns-in-None-clause-kind c = rw c.in-String.is c.next_text.ensures.kind
+
+pub returns-in-Some-clause-kind : goal.returns-in-Some-clause-kind
+returns-in-Some-clause-kind c = rw c.in-String.is c.next_word.ensures.kind

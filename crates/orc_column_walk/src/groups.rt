@@ -1,0 +1,48 @@
+//! A column by itself, and the groups of its cells.
+ghost use Rattle.std.specs.Prelude.{◌≢◌, ◌<◌, Bool, List, length, IfOk, IfErr};
+ghost use Rattle.orc_types.specs.Cells.{Cell};
+ghost use Rattle.orc_types.specs.Views.{shape};
+ghost use Rattle.orc_columns.specs.Located.{AreLocated};
+ghost use Rattle.orc_columns.specs.Stripe.{columns_of, cell_limit};
+ghost use Rattle.orc_columns.specs.declared.fault.StripeFault.TheVariants.{OutOfMemory};
+ghost use Rattle.orc_index.specs.Bounds.{AreBounds};
+ghost use Rattle.orc_column_walk.specs.ColumnFound.{IsColumnFound};
+ghost use Rattle.orc_column_walk.specs.OwnColumns.{IsOwnColumn};
+ghost use Rattle.orc_column_walk.specs.OwnFaults.{IsRefused};
+
+use crate::found::ColumnFound;
+use orc_columns::fault::StripeFault;
+use orc_columns::located::Located;
+use orc_types::Tree;
+use orc_wire::StripeFooter;
+use std::alloc::Global;
+
+/// Reads a column of so many cells from its own streams, to their ends, and counts them: the column's statistic, that
+/// of each group, and what comes before it. A bound says how many of the cells come before a group (ORC specification,
+/// "Column Statistics" and "Row Group Index").
+///
+/// Refusals: those of a stripe's rows that are this column's own; `OutOfMemory`.
+pub fn read_groups(
+    alloc: Global,
+    tree: &Tree,
+    column: usize,
+    footer: &StripeFooter,
+    located: &Located<'_>,
+    count: usize,
+    bounds: &[usize],
+) -> Result<ColumnFound, StripeFault>
+    requires there { column < length footer.now.columns }
+    requires located { AreLocated (length footer.now.columns) footer.now.streams
+        located.now.bytes.now located.now.slices.items }
+    requires few { count < cell_limit }
+    requires bounds { AreBounds count bounds.now }
+    ensures found { IfOk result (λ found. (own : List Cell)
+        × IsOwnColumn (shape tree.now) (columns_of footer.now located.now.bytes.now column) count own
+        × IsColumnFound (shape tree.now) own bounds.now found) }
+    ensures few { IfOk result (λ found. found.below < cell_limit) }
+    ensures fault { IfErr result (λ cause. cause ≢ OutOfMemory
+        → (all : Bool)
+        × IsRefused (shape tree.now) (columns_of footer.now located.now.bytes.now column) column all count cause) }
+{
+    Err(StripeFault::OutOfMemory)
+}

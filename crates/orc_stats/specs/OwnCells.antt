@@ -1,0 +1,90 @@
+-- What is counted of a cell is counted of it without its children, too.
+use Rattle.std.proofs.Common.{◌≡◌, refl, ap, ◌∙◌, ℕ, not, length, Some}
+use Rattle.orc_types.specs.Cells.{Cell, null, leaf, list, struct, pairs, list_of_cells, list_of_pairs, is_value}
+use Rattle.orc_types.specs.Childless.{childless}
+use Rattle.orc_types.proofs.Childless.{value_childless, elements_many, pairs_many}
+use Rattle.orc_stats.specs.declared.kind.StatKind.{StatKind}
+use Rattle.orc_stats.specs.declared.kind.StatKind.TheVariants as kind
+use Rattle.orc_stats.specs.Kinds.{is_of}
+use Rattle.orc_stats.specs.Measures.{ints, dates, texts, bools, bins, children, plain}
+use Rattle.orc_stats.specs.Statistics.{bit, children_of}
+use Rattle.orc_stats.specs.Tallies.{Measure, cell_kept}
+use Rattle.orc_stats.specs.Seen.{value_seen}
+use Rattle.orc_stats.specs.TallyLaws.{kept_is}
+
+pub ints_childless : (c : Cell) → ints.of_cell (childless c) ≡ ints.of_cell c
+ints_childless null = refl
+ints_childless (leaf a) = refl
+ints_childless (list cs) = refl
+ints_childless (struct cs) = refl
+ints_childless (pairs ps) = refl
+
+pub dates_childless : (c : Cell) → dates.of_cell (childless c) ≡ dates.of_cell c
+dates_childless null = refl
+dates_childless (leaf a) = refl
+dates_childless (list cs) = refl
+dates_childless (struct cs) = refl
+dates_childless (pairs ps) = refl
+
+pub texts_childless : (c : Cell) → texts.of_cell (childless c) ≡ texts.of_cell c
+texts_childless null = refl
+texts_childless (leaf a) = refl
+texts_childless (list cs) = refl
+texts_childless (struct cs) = refl
+texts_childless (pairs ps) = refl
+
+pub bools_childless : (c : Cell) → bools.of_cell (childless c) ≡ bools.of_cell c
+bools_childless null = refl
+bools_childless (leaf a) = refl
+bools_childless (list cs) = refl
+bools_childless (struct cs) = refl
+bools_childless (pairs ps) = refl
+
+pub bins_childless : (c : Cell) → bins.of_cell (childless c) ≡ bins.of_cell c
+bins_childless null = refl
+bins_childless (leaf a) = refl
+bins_childless (list cs) = refl
+bins_childless (struct cs) = refl
+bins_childless (pairs ps) = refl
+
+pub plain_childless : (c : Cell) → plain.of_cell (childless c) ≡ plain.of_cell c
+plain_childless c = refl
+
+pub many_childless : (c : Cell) → children_of (childless c) ≡ children_of c
+many_childless null = refl
+many_childless (leaf a) = refl
+many_childless (list cs) = ap Some (elements_many (length (list_of_cells cs)))
+many_childless (struct cs) = refl
+many_childless (pairs ps) = ap Some (pairs_many (length (list_of_pairs ps)))
+
+pub children_childless : (c : Cell) → children.of_cell (childless c) ≡ children.of_cell c
+children_childless c = ap (λ n. (value_seen n, (value_seen n, value_seen n))) (many_childless c)
+
+pub kind_childless : (k : StatKind) (c : Cell) → is_of k (childless c) ≡ is_of k c
+kind_childless k null = refl
+kind_childless k (leaf a) = refl
+kind_childless kind.Plain (list x) = refl
+kind_childless kind.Ints (list x) = refl
+kind_childless kind.Bools (list x) = refl
+kind_childless kind.Dates (list x) = refl
+kind_childless kind.Texts (list x) = refl
+kind_childless kind.Bins (list x) = refl
+kind_childless kind.Children (list x) = refl
+kind_childless kind.Plain (struct x) = refl
+kind_childless kind.Ints (struct x) = refl
+kind_childless kind.Bools (struct x) = refl
+kind_childless kind.Dates (struct x) = refl
+kind_childless kind.Texts (struct x) = refl
+kind_childless kind.Bins (struct x) = refl
+kind_childless kind.Children (struct x) = refl
+kind_childless kind.Plain (pairs x) = refl
+kind_childless kind.Ints (pairs x) = refl
+kind_childless kind.Bools (pairs x) = refl
+kind_childless kind.Dates (pairs x) = refl
+kind_childless kind.Texts (pairs x) = refl
+kind_childless kind.Bins (pairs x) = refl
+kind_childless kind.Children (pairs x) = refl
+
+pub cell_childless : {P : Type 0} (m : Measure P) → ((c : Cell) → m.of_cell (childless c) ≡ m.of_cell c)
+    → (c : Cell) → cell_kept m (childless c) ≡ cell_kept m c
+cell_childless m same c = kept_is m (ap bit (value_childless c)) (ap (λ b. Some (not b)) (value_childless c)) (same c)
