@@ -1,5 +1,7 @@
 pub mod ChildlessLemmas
 pub mod OneOwn
+pub mod StatChildless
+pub mod FoundLemmas
 pub mod Spread
 pub mod RowsOf
 pub mod OwnRows

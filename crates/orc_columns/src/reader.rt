@@ -19,7 +19,7 @@ use std::borrow::{CowSlice, CowStr};
 /// A value of a kind that contains no other.
 fn value_of<'a>(own: Own<'a>) -> Value<'a>
     requires { (a : Atom) × (own_cell own ≡ leaf a) }
-    ensures { cell_of_value result ≡ own_cell own }
+    ensures { cell_of_value result ≡ own_cell own.entry }
 {
     match own {
         Own::Bool(truth) => Value::Bool(truth),

@@ -11,7 +11,7 @@ use orc_types::{Lent, Own, own_of};
 
 /// How many bytes a text has, or a byte string; 0 of other cells.
 fn octets_of(own: Own<'_>) -> usize
-    ensures { result ≡ octets_in (own_cell own) }
+    ensures { result ≡ octets_in (own_cell own.entry) }
 {
     match own {
         Own::Text(text) => text.as_bytes().len(),
@@ -22,7 +22,7 @@ fn octets_of(own: Own<'_>) -> usize
 
 /// Whether the cell is a value, as a number.
 fn value_of(own: Own<'_>) -> usize
-    ensures { result ≡ length (values (own_cell own ∷ [])) }
+    ensures { result ≡ length (values (own_cell own.entry ∷ [])) }
 {
     if own.is_null() { 0 } else { 1 }
 }
@@ -30,11 +30,11 @@ fn value_of(own: Own<'_>) -> usize
 impl Counts {
     /// The counts with one cell more, as its own column says it.
     pub fn add_own(self, own: Own<'_>) -> Counts
-        requires cells { self.entry.cells + 1 < 2 ^ 64 }
-        requires values { self.entry.values + 1 < 2 ^ 64 }
-        ensures cells { result.cells ≡ self.entry.cells + 1 }
-        ensures values { result.values ≡ self.entry.values + length (values (own_cell own ∷ [])) }
-        ensures octets { result.octets ≡ min most (self.entry.octets + octets_in (own_cell own)) }
+        requires cells { self.cells + 1 < 2 ^ 64 }
+        requires values { self.values + 1 < 2 ^ 64 }
+        ensures cells { result.cells ≡ self.cells + 1 }
+        ensures values { result.values ≡ self.values + length (values (own_cell own.entry ∷ [])) }
+        ensures octets { result.octets ≡ min most (self.octets + octets_in (own_cell own.entry)) }
     {
         Counts {
             cells: self.cells + 1,

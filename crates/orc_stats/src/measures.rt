@@ -69,7 +69,7 @@ pub trait Measures<'r>: Sizes + Sized + Drop {
     /// Of one cell; null adds nothing.
     fn of_own(own: Own<'r>) -> Self
         requires { is_of kind (own_cell own) ≡ true }
-        ensures value { parts result ≡ measure.of_cell (own_cell own) }
+        ensures value { parts result ≡ measure.of_cell (own_cell own.entry) }
         ensures size { Self.size result ≤ 2 ^ 64 };
 
     /// Of the values that a statistic is of.

@@ -53,7 +53,7 @@ pub trait Tally<'r>: Sized + Drop {
     fn add_own(&mut self, own: Own<'r>)
         requires kind { is_of kind (own_cell own) ≡ true }
         requires most { (kept self.old).count + bit (is_value (own_cell own)) ≤ 2 ^ 62 }
-        ensures { kept self.new ≡ together measure (kept self.old) (cell_kept measure (own_cell own)) };
+        ensures { kept self.new ≡ together measure (kept self.old) (cell_kept measure (own_cell own.entry)) };
 
     /// Of what a statistic is of.
     fn of_stat(stat: &'r Stat) -> Self

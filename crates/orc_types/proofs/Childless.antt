@@ -1,9 +1,12 @@
 -- What a cell without its children keeps.
-use Rattle.std.proofs.Common.{◌≡◌, ℕ, List, [], ◌∷◌, map, length, replicate, refl, ap, ◌∙◌}
-use Rattle.std.proofs.lemmas.List.{length-replicate}
+use Rattle.std.proofs.Common.{◌≡◌, ℕ, suc, List, [], ◌∷◌, map, length, replicate, Option, Some, Vec, Global, refl, ap, ◌∙◌}
+use Rattle.std.proofs.lemmas.List.{length-map, length-replicate}
 use Rattle.orc_types.specs.Cells.{Cell, null, leaf, list, struct, pairs, cells_of, list_of_cells, pairs_of, list_of_pairs, is_value, parts, pairs_in, values}
 use Rattle.orc_types.specs.Childless.{list_of_size, map_of_size, childless_struct, childless}
-use Rattle.orc_types.proofs.Views.{list_of_cells-cells_of, list_of_pairs-pairs_of}
+use Rattle.orc_types.specs.Views.{view, views, paired}
+use Rattle.orc_types.specs.declared.value.Value.{Value, List as ListOf, Map as MapOf}
+use Rattle.orc_types.specs.declared.value.MapPair.{MapPair}
+use Rattle.orc_types.proofs.Views.{view-List, view-Map, list_of_cells-cells_of, list_of_pairs-pairs_of}
 
 pub value_childless : (c : Cell) → is_value (childless c) ≡ is_value c
 value_childless null = refl
@@ -35,3 +38,17 @@ list_size n = elements_many n
 
 pub map_size : (n : ℕ) → length (pairs_in (map_of_size n)) ≡ n
 map_size n = pairs_many n
+
+-- ---- of rows in memory
+
+many_views : (rs : List (Option Value)) → length (list_of_cells (cells_of (views rs))) ≡ length rs
+many_views [] = refl
+many_views (r ∷ rs) = ap suc (many_views rs)
+
+pub childless_list : (v : Vec (Option Value) Global) → childless (view (Some (ListOf v))) ≡ list_of_size (length v.items)
+childless_list v = ap childless (view-List v) ∙ ap list_of_size (many_views v.items)
+
+
+
+pub childless_map : (v : Vec MapPair Global) → childless (view (Some (MapOf v))) ≡ map_of_size (length v.items)
+childless_map v = ap childless (view-Map v) ∙ ap map_of_size (ap length (list_of_pairs-pairs_of (map paired v.items)) ∙ length-map v.items paired)

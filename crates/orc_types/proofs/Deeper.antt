@@ -22,7 +22,7 @@ width_pos (struct_of fs o) = omega arith
 
 -- a column's columns are the type's
 mutual
-  at_within : (s : Shape) (c : ℕ) → c < width s → c + width (shape_at s c) ≤ width s
+  pub at_within : (s : Shape) (c : ℕ) → c < width s → c + width (shape_at s c) ≤ width s
   at_within (scalar k o) c lt = omega (arith, lt)
   at_within (list_of s o) zero lt = omega arith
   at_within (list_of s o) (suc c) lt = omega (arith, at_within s c (omega (arith, lt)))
