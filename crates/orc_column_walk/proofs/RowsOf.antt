@@ -13,7 +13,7 @@ use Rattle.orc_columns.proofs.FirstLemmas.{sum_more}
 use Rattle.orc_columns.proofs.Fronts.{length-values, length-zip}
 use Rattle.orc_types.specs.Childless.{list_of_size, map_of_size}
 use Rattle.orc_column_walk.specs.OwnColumns.{IsOwnColumn, AreOwnColumns, AreOwnFields, elements_together, pairs_together, OwnBelow, OwnWithin, OwnDown}
-use Rattle.orc_column_walk.proofs.ChildlessLemmas.{list_size, map_size}
+use Rattle.orc_types.proofs.Childless.{list_size, map_size}
 use Rattle.orc_column_walk.proofs.Spread.{AreValues, spread, spread_is}
 
 -- other values in the places of a column's own

@@ -1,5 +1,5 @@
 use Rattle.std.proofs.Common.{arith, [], ◌∷◌, ◌++◌}
-use Rattle.orc_types.specs.Views.{cell_of_value}
+use Rattle.orc_types.specs.Own.{own_cell}
 use Rattle.orc_columns.specs.Columns.{ScalarLeft}
 use Rattle.orc_column_walk.proofs.ReadLemmas.{none_read, one_read, read_lacks, read_fault, read_on}
 use Rattle.orc_column_walk.proofs.ScalarLemmas.{ScalarMet}
@@ -10,7 +10,7 @@ loop-init c = ([], none_read (ScalarLeft c.args.kind c.args.source.now) (ScalarM
 
 pub loop-preserved : goal.loop-preserved
 loop-preserved c =
-    let value = cell_of_value c.in-Ok.field-0 in
+    let value = own_cell c.in-Ok.field-0 in
     let k = c.args.kind in (
       c.loop.invariant.0 ++ value ∷ [],
       one_read (ScalarLeft k c.args.source.now) (ScalarLeft k c.loop.source) (ScalarLeft k c.next_scalar.new.self) (ScalarMet k c.args.source.now) (ScalarMet k c.loop.source) (ScalarMet k c.next_scalar.new.self) c.loop.counter c.loop.invariant.0 value c.loop.invariant.1
