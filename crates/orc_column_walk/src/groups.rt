@@ -1,11 +1,11 @@
 //! A column by itself, and the groups of its cells.
-ghost use Rattle.std.specs.Prelude.{◌≢◌, ◌<◌, Bool, List, length, IfOk, IfErr};
+ghost use Rattle.std.specs.Prelude.{◌≡◌, ◌≢◌, ◌<◌, Bool, List, length, IfOk, IfErr};
 ghost use Rattle.orc_types.specs.Cells.{Cell};
 ghost use Rattle.orc_types.specs.Views.{shape};
 ghost use Rattle.orc_columns.specs.Located.{AreLocated};
 ghost use Rattle.orc_columns.specs.Stripe.{columns_of, cell_limit};
 ghost use Rattle.orc_columns.specs.declared.fault.StripeFault.TheVariants.{OutOfMemory};
-ghost use Rattle.orc_index.specs.Bounds.{AreBounds};
+ghost use Rattle.orc_index.specs.Bounds.{AreBounds, bound_at};
 ghost use Rattle.orc_column_walk.specs.ColumnFound.{IsColumnFound};
 ghost use Rattle.orc_column_walk.specs.OwnColumns.{IsOwnColumn};
 ghost use Rattle.orc_column_walk.specs.OwnFaults.{IsRefused};
@@ -36,6 +36,7 @@ pub fn read_groups(
         located.now.bytes.now located.now.slices.items }
     requires few { count < cell_limit }
     requires bounds { AreBounds count bounds.now }
+    requires first { bound_at count bounds.now 0 ≡ 0 }
     ensures found { IfOk result (λ found. (own : List Cell)
         × IsOwnColumn (shape tree.now) (columns_of footer.now located.now.bytes.now column) count own
         × IsColumnFound (shape tree.now) own bounds.now found) }
