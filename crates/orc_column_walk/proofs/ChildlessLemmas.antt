@@ -1,9 +1,9 @@
 -- What a cell without its children keeps, and that a column's own streams spell it.
 use Rattle.std.proofs.Common.{◌≡◌, ◌≤◌, ℕ, pos, List, [], ◌∷◌, map, length, replicate, sum, refl, sym, ap, ◌∙◌, subst, arith, length-append}
 use Rattle.std.specs.List.{flat_map}
-use Rattle.std.proofs.lemmas.List.{length-map, length-replicate}
+use Rattle.std.proofs.lemmas.List.{length-map}
 use Rattle.orc_rle.specs.declared.sign.Sign.TheVariants.{Unsigned}
-use Rattle.orc_types.specs.Cells.{Cell, null, leaf, list, struct, pairs, list_of_cells, list_of_pairs, is_value, parts, pairs_in, keys_in, values_in, values}
+use Rattle.orc_types.specs.Cells.{Cell, null, leaf, list, struct, pairs, list_of_cells, list_of_pairs, parts, pairs_in, keys_in, values_in, values}
 use Rattle.orc_types.specs.Fits.{RowsFit}
 use Rattle.orc_types.specs.Shapes.{Shape, scalar, list_of, map_of, struct_of, Fields}
 use Rattle.orc_types.specs.declared.kind.Scalar.{Scalar}

@@ -9,7 +9,12 @@ pub mod RefusedLemmas
 pub mod ReadLemmas
 pub mod MarkLemmas
 pub mod SizeLemmas
+pub mod NextLemmas
 pub mod ScalarLemmas
 pub mod StartedLemmas
 pub mod TreeLemmas
 pub mod ValueLemmas
+pub mod PassedLemmas
+pub mod KeptLemmas
+pub mod GroupLemmas
+pub mod GroupMarkLemmas

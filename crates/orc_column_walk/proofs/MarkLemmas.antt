@@ -17,7 +17,7 @@ use Rattle.orc_column_walk.proofs.ReadLemmas.{Meets, AreRead, none_read, one_rea
 abbrev pub PresentMet : ℕ → Option Bits → Meets
 PresentMet column present all n f = RunsFail Present column (Always all n (MarksMeet present)) f
 
-trues_append : (a b : List Bool) → trues (a ++ b) ≡ trues a + trues b
+pub trues_append : (a b : List Bool) → trues (a ++ b) ≡ trues a + trues b
 trues_append [] b = omega arith
 trues_append (false ∷ a) b = trues_append a b
 trues_append (true ∷ a) b = omega (arith, trues_append a b)
@@ -46,7 +46,7 @@ mark_read column before between after count values more values' mark r leave fau
   few = omega (arith, r.few, im, is, few_trues mark);
 }
 
-trues_all : (n : ℕ) → trues (replicate n true) ≡ n
+pub trues_all : (n : ℕ) → trues (replicate n true) ≡ n
 trues_all zero = refl
 trues_all (suc n) = ap suc (trues_all n)
 

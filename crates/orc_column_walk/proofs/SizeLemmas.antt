@@ -28,7 +28,7 @@ sizes_only a b n p le room (m ∷ sizes) h some =
     let others : map pos sizes ≡ i.0 = cc in
     (sizes, ap (λ k. k ∷ sizes) first, (subst (NumbersLeft b.numbers) (sym others) i.2, omega (arith, h.1, sum_more m sizes, first, room, le)))
 
-sizes_leave : (a b : ValueSource) (n : ℕ) → Leaves (NumbersLeft a.numbers) (NumbersLeft b.numbers) (pos n ∷ []) → n ≤ a.room → b.room ≡ a.room - n → Leaves (SizesLeft a) (SizesLeft b) (n ∷ [])
+pub sizes_leave : (a b : ValueSource) (n : ℕ) → Leaves (NumbersLeft a.numbers) (NumbersLeft b.numbers) (pos n ∷ []) → n ≤ a.room → b.room ≡ a.room - n → Leaves (SizesLeft a) (SizesLeft b) (n ∷ [])
 sizes_leave a b n p le room = record {
   found = λ rest r. (p.found (map pos rest) r.0, omega (arith, r.1, sum_more n rest, room, le));
   only = λ all r some. sizes_only a b n p le room all r some;

@@ -86,7 +86,7 @@ values_alike (struct_of fs o) x r s = record { to = λ vs h. h; from = λ vs h. 
 
 -- a column's own cells, by its marks and values
 pub own_found : (s : Shape) (x : Streams) (r : ColumnReader) (n v : ℕ) (marks : List Bool) (vs : List Cell) → OwnStart s x r → n < cell_limit → length marks ≡ n → MarksLeft r.present marks → v ≡ trues marks
-    → length vs ≡ v → OwnValuesLeft s r.source vs → (own : List Cell) × IsOwnColumn s x n own × (children s vs ≡ children s (values own))
+    → length vs ≡ v → OwnValuesLeft s r.source vs → (own : List Cell) × IsOwnColumn s x n own × (children s vs ≡ children s (values own)) × (map is_value own ≡ marks) × (values own ≡ vs)
 own_found s x r n v marks vs start few long m count as_many h =
     let spelled = (values_alike s x r.source start.1).to vs h in
     let p = spread_is marks vs (own_values_are s x vs spelled) (as_many ∙ count) in
@@ -101,13 +101,15 @@ own_found s x r n v marks vs start few long m count as_many h =
         );
       },
       ap (children s) (sym p.values_are),
+      p.marks,
+      p.values_are,
     )
 
 -- the columns below have few cells
 sized_few : (sizes : List ℕ) (r : ValueSource) (n : ℕ) → SizesLeft r sizes → r.room ≡ most_cells → n ≡ sum sizes → n < cell_limit
 sized_few sizes r n h room is = omega (arith, h.1, room, is)
 
-trues_few : (marks : List Bool) → trues marks ≤ length marks
+pub trues_few : (marks : List Bool) → trues marks ≤ length marks
 trues_few [] = omega arith
 trues_few (false ∷ marks) = omega (arith, trues_few marks)
 trues_few (true ∷ marks) = omega (arith, trues_few marks)

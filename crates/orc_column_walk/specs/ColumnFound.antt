@@ -1,6 +1,6 @@
 -- What is found of a column's cells: its statistic, that of each group, and what comes before it (ORC specification,
 -- "Column Statistics" and "Row Group Index").
-use Rattle.std.specs.Prelude.{◌≡◌, ℕ, Some, List, [], map, length, take, slice_get}
+use Rattle.std.specs.Prelude.{◌≡◌, ℕ, Some, List, map, length, slice_get}
 use Rattle.orc_types.specs.Cells.{Cell, values}
 use Rattle.orc_types.specs.Shapes.{Shape, scalar, list_of, map_of, struct_of}
 use Rattle.orc_stats.specs.Kinds.{kind_of}
@@ -11,9 +11,9 @@ use Rattle.orc_column_walk.specs.OwnLeft.{children}
 use Rattle.orc_column_walk.specs.declared.found.ColumnFound.{ColumnFound}
 use Rattle.orc_column_walk.specs.declared.found.GroupFound.{GroupFound}
 
--- the bounds of the same groups in the columns right below
+-- the bounds of the same groups in the columns right below; 0 where there is none
 abbrev pub bounds_below : Shape → List Cell → List ℕ → List ℕ
-bounds_below (scalar k o) cells bounds = []
+bounds_below (scalar k o) cells bounds = map (λ b. 0) bounds
 bounds_below (list_of s o) cells bounds = map (elements_before cells) bounds
 bounds_below (map_of k v o) cells bounds = map (pairs_before cells) bounds
 bounds_below (struct_of fs o) cells bounds = map (values_before cells) bounds

@@ -2,3 +2,4 @@ pub mod OwnColumns
 pub mod OwnLeft
 pub mod OwnFaults
 pub mod ColumnFound
+pub mod Passed

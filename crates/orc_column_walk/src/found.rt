@@ -21,6 +21,6 @@ pub struct ColumnFound {
     /// How many cells each column right below has: the elements of the lists, the pairs of the maps, or the structs
     /// that aren't null; 0 where there is no such column.
     pub below: usize,
-    /// How many of these come before each group; none where there is no such column.
+    /// How many of these come before each group.
     pub bounds_below: Vec<usize>,
 }

@@ -11,8 +11,11 @@ ghost use Rattle.orc_column_walk.specs.OwnColumns.{IsOwnColumn};
 ghost use Rattle.orc_column_walk.specs.OwnFaults.{IsRefused};
 
 use crate::found::ColumnFound;
+use crate::group_values::find_values;
+use crate::marks::count_values_by_group;
 use orc_columns::fault::StripeFault;
 use orc_columns::located::Located;
+use orc_columns::starting::reader_of;
 use orc_types::Tree;
 use orc_wire::StripeFooter;
 use std::alloc::Global;
@@ -45,5 +48,19 @@ pub fn read_groups(
         → (all : Bool)
         × IsRefused (shape tree.now) (columns_of footer.now located.now.bytes.now column) column all count cause) }
 {
-    Err(StripeFault::OutOfMemory)
+    match reader_of(alloc, tree, column, footer, located) {
+        Ok(mut reader) => {
+            match count_values_by_group(alloc, column, &mut reader.present, count, bounds) {
+                Ok(marked) => {
+                    let source = &mut reader.source;
+                    match find_values(alloc, tree, source, count, bounds, marked.values, &marked.before) {
+                        Ok(found) => Ok(found),
+                        Err(fault) => Err(fault),
+                    }
+                }
+                Err(fault) => Err(fault),
+            }
+        }
+        Err(fault) => Err(fault),
+    }
 }

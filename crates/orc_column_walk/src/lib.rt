@@ -2,10 +2,14 @@
 //! and no value held.
 #![tactic(auto)]
 
+mod bounds;
 mod found;
+mod group_values;
 mod groups;
 mod laws;
 mod marks;
+mod own_values;
+mod passed;
 mod scalars;
 mod sizes;
 mod values;

@@ -1,5 +1,5 @@
 //! PRESENT of a column by itself: how many of its cells are not null.
-ghost use Rattle.std.specs.Prelude.{◌≡◌, ◌≢◌, ◌+◌, ◌∷◌, [], ℕ, Bool, false, List, length, IfOk, IfErr, OnOk, OnErr};
+ghost use Rattle.std.specs.Prelude.{◌≡◌, ◌≢◌, ◌+◌, ◌∷◌, [], ℕ, Bool, false, List, length, map, IfOk, IfErr, OnOk, OnErr};
 ghost use Rattle.orc_columns.specs.Columns.{MarksLeft};
 ghost use Rattle.orc_columns.specs.Faults.{RunsFail};
 ghost use Rattle.orc_columns.specs.Fronts.{Leaves, Lacks};
@@ -9,10 +9,14 @@ ghost use Rattle.orc_columns.specs.RunsMet.{MarksMeet};
 ghost use Rattle.orc_columns.specs.declared.fault.StripeFault.{StripeFault as Fault};
 ghost use Rattle.orc_columns.specs.declared.fault.StripeFault.TheVariants.{OutOfMemory};
 ghost use Rattle.orc_columns.specs.declared.fault.StreamKind.TheVariants.{Present};
+ghost use Rattle.orc_index.specs.Bounds.{AreBounds, bound_at};
+ghost use Rattle.orc_column_walk.specs.Passed.{trues_before};
 
+use crate::bounds::bound_of;
 use orc_columns::bits::Bits;
 use orc_columns::fault::{StreamKind, StripeFault, run_fault};
 use orc_columns::marks::{marks_end, marks_left, next_mark};
+use std::alloc::{AllocError, Global};
 
 /// How many values a cell with this mark is.
 fn value_count(mark: bool) -> usize
@@ -36,7 +40,7 @@ fn read_marks(
         → RunsFail Present column (Always all n (MarksMeet present.new)) f
         → RunsFail Present column (Always all (count + n) (MarksMeet present.old)) f) }
     ensures fault { IfErr result (λ cause. cause ≢ OutOfMemory
-        → RunsFail Present column (Always false count (MarksMeet present.old)) cause) }
+        → (n : ℕ) → RunsFail Present column (Always false (count + n) (MarksMeet present.old)) cause) }
 {
     let mut values = 0;
     for _ in 0..count {
@@ -46,6 +50,95 @@ fn read_marks(
         }
     }
     Ok(values)
+}
+
+/// How many of a column's cells are values, and how many of these come before each group.
+#[derive(Drop)]
+pub(crate) struct ValueBounds {
+    pub(crate) values: usize,
+    pub(crate) before: Vec<usize>,
+}
+
+/// Reads the marks of all groups, one group after the other. A bound says how many of the cells come before a group.
+fn read_groups_marks(
+    alloc: Global,
+    column: usize,
+    present: &mut Option<Bits<'_>>,
+    count: usize,
+    bounds: &[usize],
+) -> Result<ValueBounds, StripeFault>
+    requires bounds { AreBounds count bounds.now }
+    requires first { bound_at count bounds.now 0 ≡ 0 }
+    ensures found { IfOk result (λ found. (marks : List Bool)
+        × (length marks ≡ count)
+        × Leaves (MarksLeft present.old) (MarksLeft present.new) marks
+        × (found.values ≡ trues marks)
+        × (found.before.items ≡ map (trues_before marks) bounds.now)) }
+    ensures none { IfErr result (λ fault. fault ≢ OutOfMemory → Lacks (MarksLeft present.old) count) }
+    ensures before { OnOk result ((all : Bool) (n : ℕ) (f : Fault)
+        → RunsFail Present column (Always all n (MarksMeet present.new)) f
+        → RunsFail Present column (Always all (count + n) (MarksMeet present.old)) f) }
+    ensures fault { IfErr result (λ cause. cause ≢ OutOfMemory
+        → RunsFail Present column (Always false count (MarksMeet present.old)) cause) }
+{
+    let mut values = 0;
+    let mut before = Vec::new(alloc);
+    for group in 0..bounds.len() {
+        let cells = bound_of(bounds, group + 1, count) - bound_of(bounds, group, count);
+        before.push(values)?;
+        match read_marks(column, present, cells) {
+            Ok(more) => values += more,
+            Err(fault) => return Err(fault),
+        }
+    }
+    Ok(ValueBounds { values, before })
+}
+
+/// The same bounds.
+fn copy_bounds(alloc: Global, bounds: &[usize]) -> Result<Vec<usize>, AllocError>
+    ensures { IfOk result (λ copy. copy.items ≡ bounds.now) }
+{
+    let mut copy = Vec::new(alloc);
+    copy.extend_from_slice(bounds)?;
+    Ok(copy)
+}
+
+/// Reads all marks of a column, which are to be so many, and answers how many cells are values, and how many of them come
+/// before each group. Where there is no PRESENT, all are, and none is looked at.
+pub(crate) fn count_values_by_group(
+    alloc: Global,
+    column: usize,
+    present: &mut Option<Bits<'_>>,
+    count: usize,
+    bounds: &[usize],
+) -> Result<ValueBounds, StripeFault>
+    requires bounds { AreBounds count bounds.now }
+    requires first { bound_at count bounds.now 0 ≡ 0 }
+    ensures found { IfOk result (λ found. (marks : List Bool)
+        × (length marks ≡ count)
+        × MarksLeft present.old marks
+        × (found.values ≡ trues marks)
+        × (found.before.items ≡ map (trues_before marks) bounds.now)) }
+    ensures none { IfErr result (λ fault. fault ≢ OutOfMemory
+        → (marks : List Bool) → MarksLeft present.old marks → length marks ≡ count → ⊥) }
+    ensures fault { IfErr result (λ cause. cause ≢ OutOfMemory
+        → (all : Bool) × RunsFail Present column (Always all count (MarksMeet present.old)) cause) }
+{
+    if present.is_none() {
+        return Ok(ValueBounds {
+            values: count,
+            before: copy_bounds(alloc, bounds)?,
+        });
+    }
+    match read_groups_marks(alloc, column, present, count, bounds) {
+        Ok(found) => {
+            if !marks_end(present) {
+                return Err(run_fault(column, StreamKind::Present, marks_left(present)));
+            }
+            Ok(found)
+        }
+        Err(fault) => Err(fault),
+    }
 }
 
 /// Reads all marks of a column, which are to be so many, and answers how many cells are values. Where there is no

@@ -1,4 +1,4 @@
-use Rattle.std.proofs.Common.{true, false}
+use Rattle.std.proofs.Common.{◌≡◌, ◌+◌, ℕ, true, false, subst, arith}
 use Rattle.orc_columns.specs.Columns.{MarksLeft}
 use Rattle.orc_columns.specs.RunsMet.{MarksMeet}
 use Rattle.orc_columns.proofs.NeedLemmas.{always_end}
@@ -21,4 +21,6 @@ pub returns-in-Err-clause-none : goal.returns-in-Err-clause-none
 returns-in-Err-clause-none c = λ memory marks h e. lack_read (MarksLeft c.args.present.now) c.args.count c.in-Err.ensures.none marks h e
 
 pub returns-in-Err-clause-fault : goal.returns-in-Err-clause-fault
-returns-in-Err-clause-fault c = λ memory. (false, c.in-Err.ensures.fault memory)
+returns-in-Err-clause-fault c = λ memory.
+    let e : c.args.count + 0 ≡ c.args.count = omega arith in
+    (false, subst (λ (k : ℕ). PresentMet c.args.column c.args.present.now false k c.in-Err.fault) e (c.in-Err.ensures.fault memory 0))

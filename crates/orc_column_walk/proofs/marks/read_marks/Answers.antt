@@ -1,4 +1,4 @@
-use Rattle.std.proofs.Common.{refl, arith}
+use Rattle.std.proofs.Common.{◌+◌, refl, arith}
 use Rattle.orc_columns.specs.Columns.{MarksLeft}
 use Rattle.orc_columns.specs.RunsMet.{MarksMeet}
 use Rattle.orc_columns.specs.declared.fault.StreamKind.TheVariants.{Present}
@@ -20,9 +20,9 @@ returns-in-Err-clause-none c =
     read_lacks (MarksLeft c.args.present.now) (MarksLeft c.loop.present) (PresentMet c.args.column c.args.present.now) (PresentMet c.args.column c.loop.present) c.loop.counter c.args.count c.loop.invariant.marks c.loop.invariant.read c.loop-test.true c.in-Err.ensures.none
 
 pub returns-in-Err-clause-fault : goal.returns-in-Err-clause-fault
-returns-in-Err-clause-fault c = λ memory.
-    read_fault (MarksLeft c.args.present.now) (MarksLeft c.loop.present) (PresentMet c.args.column c.args.present.now) (PresentMet c.args.column c.loop.present) c.loop.counter c.args.count c.loop.invariant.marks c.in-Err.fault c.loop.invariant.read c.loop-test.true
-    (λ n. runs_now Present c.args.column n (MarksMeet c.loop.present) c.in-Err.fault (c.in-Err.ensures.fault memory))
+returns-in-Err-clause-fault c = λ memory n.
+    read_fault (MarksLeft c.args.present.now) (MarksLeft c.loop.present) (PresentMet c.args.column c.args.present.now) (PresentMet c.args.column c.loop.present) c.loop.counter (c.args.count + n) c.loop.invariant.marks c.in-Err.fault c.loop.invariant.read (omega (arith, c.loop-test.true))
+    (λ k. runs_now Present c.args.column k (MarksMeet c.loop.present) c.in-Err.fault (c.in-Err.ensures.fault memory))
 
 pub returns-clause-before : goal.returns-clause-before
 returns-clause-before c =

@@ -1,0 +1,66 @@
+-- What is counted of a column's cells while they are read (ORC specification, "Row Group Index": what comes before a group).
+use Rattle.std.specs.Prelude.{◌≡◌, ◌≤◌, ℕ, suc, ◌+◌, Bool, Some, List, length, map, min, slice_get, take}
+use Rattle.orc_types.specs.Cells.{Cell, values}
+use Rattle.orc_types.specs.Shapes.{Shape}
+use Rattle.orc_types.specs.declared.own.Own.{Own}
+use Rattle.orc_types.specs.declared.own.Own.TheVariants as own
+use Rattle.orc_columns.specs.Needs.{trues}
+use Rattle.orc_stats.specs.Kinds.{kind_of}
+use Rattle.orc_stats.specs.Statistics.{stat}
+use Rattle.orc_index.specs.Bounds.{AreBounds, bound_at, values_before}
+use Rattle.orc_index.specs.Walking.{AreCounted, most}
+use Rattle.orc_column_walk.specs.ColumnFound.{IsGroupFound}
+use Rattle.orc_column_walk.specs.OwnLeft.{children}
+use Rattle.orc_column_walk.specs.declared.found.ColumnFound.{ColumnFound}
+use Rattle.orc_column_walk.specs.declared.found.GroupFound.{GroupFound}
+use Rattle.orc_column_walk.specs.declared.passed.Passed.{Passed}
+
+-- how many children a value has
+abbrev pub own_children : Own → ℕ
+own_children own.Null = 0
+own_children (own.Bool b) = 0
+own_children (own.Int n) = 0
+own_children (own.Date n) = 0
+own_children (own.Text t) = 0
+own_children (own.Bytes b) = 0
+own_children (own.List n) = n
+own_children (own.Map n) = n
+own_children own.Struct = 1
+
+-- how many children the first cells have, counted up to the most
+abbrev pub children_before : Shape → List Cell → ℕ → ℕ
+children_before s cells bound = min most (children s (values (take bound cells)))
+
+-- these cells were passed
+pub record IsPassed (s : Shape) (cells : List Cell) (passed : Passed) : Type 0 where
+  pub counted : AreCounted passed.counts cells
+  pub children_are : passed.children ≡ min most (children s (values cells))
+
+-- the cells have these values, and so many of them come before each bound
+pub record HasValues (count : ℕ) (bounds value_bounds : List ℕ) (vs cells : List Cell) : Type 0 where
+  pub counted : length cells ≡ count
+  pub values_are : values cells ≡ vs
+  pub before : map (values_before cells) bounds ≡ value_bounds
+
+-- so many of the first cells are not null, by their marks
+abbrev pub trues_before : List Bool → ℕ → ℕ
+trues_before marks bound = trues (take bound marks)
+
+-- So many values come before each bound: no more than cells, and none of a group is one of another.
+pub record AreValueBounds (count : ℕ) (bounds : List ℕ) (values : ℕ) (value_bounds : List ℕ) : Type 0 where
+  pub as_many : length value_bounds ≡ length bounds
+  pub ascending : AreBounds values value_bounds
+  pub first : bound_at values value_bounds 0 ≡ 0
+  pub fewer : (g : ℕ) → bound_at values value_bounds (suc g) + bound_at count bounds g ≤ bound_at values value_bounds g + bound_at count bounds (suc g)
+
+-- what is found of the first groups of these cells
+pub record AreGroupsFound (s : Shape) (cells : List Cell) (bounds : List ℕ) (n : ℕ) (groups : List GroupFound) : Type 0 where
+  pub counted : length groups ≡ n
+  pub each : (g : ℕ) (group : GroupFound) → slice_get groups g ≡ Some group → IsGroupFound s cells bounds g group
+
+-- The same of all groups, with what is found of the whole. Children are counted up to the most.
+pub record IsCounted (s : Shape) (cells : List Cell) (bounds : List ℕ) (found : ColumnFound) : Type 0 where
+  pub stat_is : found.stat ≡ stat (kind_of s) cells
+  pub groups_are : AreGroupsFound s cells bounds (length bounds) found.groups.items
+  pub below_is : found.below ≡ min most (children s (values cells))
+  pub bounds_are : found.bounds_below.items ≡ map (children_before s cells) bounds

@@ -1,0 +1,13 @@
+//! Where the groups of a column's cells begin.
+ghost use Rattle.std.specs.Prelude.{◌≡◌};
+ghost use Rattle.orc_index.specs.Bounds.{bound_at};
+
+/// Where a group begins: at its bound, or at the end.
+pub(crate) fn bound_of(bounds: &[usize], group: usize, count: usize) -> usize
+    ensures { result ≡ bound_at count bounds.now group }
+{
+    match bounds.get(group) {
+        Some(start) => *start,
+        None => count,
+    }
+}

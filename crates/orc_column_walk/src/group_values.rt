@@ -1,0 +1,265 @@
+//! The values of a column, counted group by group. None is held but the least and the greatest text.
+ghost use Rattle.std.specs.Prelude.{◌≡◌, ◌≢◌, ◌<◌, ◌≤◌, ◌+◌, ◌-◌, ◌^◌, ◌++◌, ℕ, Bool, false, List, length, map, take, IfOk, IfErr, OnOk, OnErr};
+ghost use Rattle.orc_types.specs.Cells.{Cell, values as values_of};
+ghost use Rattle.orc_types.specs.Views.{shape};
+ghost use Rattle.orc_columns.specs.Fronts.{Leaves, Lacks};
+ghost use Rattle.orc_columns.specs.ReaderFaults.{ValuesMeet};
+ghost use Rattle.orc_columns.specs.Stripe.{cell_limit};
+ghost use Rattle.orc_columns.specs.declared.fault.StripeFault.{StripeFault as Fault};
+ghost use Rattle.orc_columns.specs.declared.fault.StripeFault.TheVariants.{OutOfMemory};
+ghost use Rattle.orc_index.specs.Bounds.{AreBounds, bound_at};
+ghost use Rattle.orc_stats.specs.Kinds.{kind_of};
+ghost use Rattle.orc_stats.specs.Tallies.{together, cells_kept, stat_of_kept};
+ghost use Rattle.orc_column_walk.specs.ColumnFound.{IsColumnFound};
+ghost use Rattle.orc_column_walk.specs.OwnLeft.{OwnValuesLeft};
+ghost use Rattle.orc_column_walk.specs.Passed.{IsPassed, HasValues, AreValueBounds, IsCounted};
+
+use crate::bounds::bound_of;
+use crate::found::{ColumnFound, GroupFound};
+use crate::own_values::{next_own, values_end, values_left};
+use crate::passed::Passed;
+use orc_columns::column::ValueSource;
+use orc_columns::fault::StripeFault;
+use orc_stats::{Bins, Bools, Children, Counted, Dates, Ints, Plain, Stat, StatKind, Tally, Texts};
+use orc_types::{Own, Tree};
+use std::alloc::{AllocError, Global};
+
+/// Reads the next values, so many, and counts each.
+fn read_values<'a, T: Tally<'a>>(
+    tree: &Tree,
+    source: &mut ValueSource<'a>,
+    count: usize,
+    before: Passed,
+    tally: &mut T,
+) -> Result<Passed, StripeFault>
+    requires kind { T.kind ≡ kind_of (shape tree.now) }
+    requires most { (T.kept tally.old).count + count ≤ 2 ^ 62 }
+    requires cells { before.counts.cells + count < 2 ^ 64 }
+    requires values { before.counts.values + count < 2 ^ 64 }
+    ensures found { IfOk result (λ passed. (values : List Cell)
+        × (length values ≡ count)
+        × Leaves (OwnValuesLeft (shape tree.now) source.old) (OwnValuesLeft (shape tree.now) source.new) values
+        × (values_of values ≡ values)
+        × (T.kept tally.new ≡ together T.measure (T.kept tally.old) (cells_kept T.measure values))
+        × ((cells : List Cell) → IsPassed (shape tree.now) cells before
+        → IsPassed (shape tree.now) (cells ++ values) passed)) }
+    ensures cells { IfOk result (λ passed. passed.counts.cells ≡ before.counts.cells + count) }
+    ensures values { IfOk result (λ passed. passed.counts.values ≤ before.counts.values + count) }
+    ensures none { OnErr result (Lacks (OwnValuesLeft (shape tree.now) source.old) count) }
+    ensures before { OnOk result ((all : Bool) (n : ℕ) (f : Fault)
+        → ValuesMeet (shape tree.now) source.new all n f
+        → ValuesMeet (shape tree.now) source.old all (count + n) f) }
+    ensures fault { IfErr result (λ cause. cause ≢ OutOfMemory
+        → (n : ℕ) → ValuesMeet (shape tree.now) source.old false (count + n) cause) }
+{
+    let mut passed = before;
+    for _ in 0..count {
+        match next_own(tree, source) {
+            Ok(own) => {
+                tally.add_own(own);
+                passed = passed.add(own);
+            }
+            Err(fault) => return Err(fault),
+        }
+    }
+    Ok(passed)
+}
+
+/// Reads the next cells, so many, of which so many are values, and counts each.
+fn read_part<'a, T: Tally<'a>>(
+    tree: &Tree,
+    source: &mut ValueSource<'a>,
+    cells: usize,
+    count: usize,
+    before: Passed,
+    tally: &mut T,
+) -> Result<Passed, StripeFault>
+    requires kind { T.kind ≡ kind_of (shape tree.now) }
+    requires few { count ≤ cells }
+    requires most { (T.kept tally.old).count + count ≤ 2 ^ 62 }
+    requires cells { before.counts.cells + cells < 2 ^ 64 }
+    requires values { before.counts.values + count < 2 ^ 64 }
+    ensures found { IfOk result (λ passed. (values : List Cell)
+        × (length values ≡ count)
+        × Leaves (OwnValuesLeft (shape tree.now) source.old) (OwnValuesLeft (shape tree.now) source.new) values
+        × ((part : List Cell) → values_of part ≡ values → length part ≡ cells
+        → (T.kept tally.new ≡ together T.measure (T.kept tally.old) (cells_kept T.measure part))
+        × ((front : List Cell) → IsPassed (shape tree.now) front before
+        → IsPassed (shape tree.now) (front ++ part) passed))) }
+    ensures counted { OnOk result ((T.kept tally.new).count ≡ (T.kept tally.old).count + count) }
+    ensures cells { IfOk result (λ passed. passed.counts.cells ≡ before.counts.cells + cells) }
+    ensures values { IfOk result (λ passed. passed.counts.values ≤ before.counts.values + count) }
+    ensures none { OnErr result (Lacks (OwnValuesLeft (shape tree.now) source.old) count) }
+    ensures before { OnOk result ((all : Bool) (n : ℕ) (f : Fault)
+        → ValuesMeet (shape tree.now) source.new all n f
+        → ValuesMeet (shape tree.now) source.old all (count + n) f) }
+    ensures fault { IfErr result (λ cause. cause ≢ OutOfMemory
+        → (n : ℕ) → ValuesMeet (shape tree.now) source.old false (count + n) cause) }
+{
+    match read_values(tree, source, count, before, tally) {
+        Ok(passed) => {
+            if count < cells {
+                tally.add_own(Own::Null);
+            }
+            Ok(passed.pad(cells, count))
+        }
+        Err(fault) => Err(fault),
+    }
+}
+
+/// The statistic of what was counted.
+fn closed<'a, T: Tally<'a>>(alloc: Global, tally: &T) -> Result<Stat, AllocError>
+    ensures { IfOk result (λ found. found ≡ stat_of_kept T.measure (T.kept tally.now)) }
+{
+    match tally.close(alloc) {
+        Ok(stat) => Ok(stat),
+        Err(_) => Err(AllocError),
+    }
+}
+
+/// Reads the values of all groups, and counts them group by group; each value is counted once, and the groups' tallies
+/// are joined. A bound says how many of the cells come before a group, and another how many of the values.
+fn count_groups<'a, T: Tally<'a>>(
+    alloc: Global,
+    tree: &Tree,
+    source: &mut ValueSource<'a>,
+    count: usize,
+    bounds: &[usize],
+    values: usize,
+    value_bounds: &[usize],
+) -> Result<ColumnFound, StripeFault>
+    requires kind { T.kind ≡ kind_of (shape tree.now) }
+    requires few { count < cell_limit }
+    requires bounds { AreBounds count bounds.now }
+    requires first { bound_at count bounds.now 0 ≡ 0 }
+    requires values { AreValueBounds count bounds.now values value_bounds.now }
+    ensures found { IfOk result (λ found. (read : List Cell)
+        × (length read ≡ values)
+        × Leaves (OwnValuesLeft (shape tree.now) source.old) (OwnValuesLeft (shape tree.now) source.new) read
+        × ((cells : List Cell) → HasValues count bounds.now value_bounds.now read cells
+        → IsCounted (shape tree.now) cells bounds.now found)) }
+    ensures none { IfErr result (λ fault. fault ≢ OutOfMemory
+        → Lacks (OwnValuesLeft (shape tree.now) source.old) values) }
+    ensures before { OnOk result ((all : Bool) (n : ℕ) (f : Fault)
+        → ValuesMeet (shape tree.now) source.new all n f
+        → ValuesMeet (shape tree.now) source.old all (values + n) f) }
+    ensures fault { IfErr result (λ cause. cause ≢ OutOfMemory
+        → ValuesMeet (shape tree.now) source.old false values cause) }
+{
+    let mut whole = T::unit();
+    let mut passed = Passed::nothing();
+    let mut groups = Vec::new(alloc);
+    let mut bounds_below = Vec::new(alloc);
+    for group in 0..bounds.len() {
+        let cells = bound_of(bounds, group + 1, count) - bound_of(bounds, group, count);
+        let part = bound_of(value_bounds, group + 1, values) - bound_of(value_bounds, group, values);
+        let before = passed;
+        let mut tally = T::unit();
+        match read_part(tree, source, cells, part, before, &mut tally) {
+            Ok(after) => passed = after,
+            Err(fault) => return Err(fault),
+        }
+        let stat = closed(alloc, &tally)?;
+        groups.push(GroupFound {
+            stat,
+            before: before.counts,
+        })?;
+        bounds_below.push(before.children)?;
+        whole.join(&tally);
+    }
+    Ok(ColumnFound {
+        stat: closed(alloc, &whole)?,
+        groups,
+        below: passed.children,
+        bounds_below,
+    })
+}
+
+/// The same by the kind of the column.
+fn count_by_kind(
+    alloc: Global,
+    tree: &Tree,
+    source: &mut ValueSource<'_>,
+    count: usize,
+    bounds: &[usize],
+    values: usize,
+    value_bounds: &[usize],
+) -> Result<ColumnFound, StripeFault>
+    requires few { count < cell_limit }
+    requires bounds { AreBounds count bounds.now }
+    requires first { bound_at count bounds.now 0 ≡ 0 }
+    requires values { AreValueBounds count bounds.now values value_bounds.now }
+    ensures found { IfOk result (λ found. (read : List Cell)
+        × (length read ≡ values)
+        × Leaves (OwnValuesLeft (shape tree.now) source.old) (OwnValuesLeft (shape tree.now) source.new) read
+        × ((cells : List Cell) → HasValues count bounds.now value_bounds.now read cells
+        → IsCounted (shape tree.now) cells bounds.now found)) }
+    ensures none { IfErr result (λ fault. fault ≢ OutOfMemory
+        → Lacks (OwnValuesLeft (shape tree.now) source.old) values) }
+    ensures before { OnOk result ((all : Bool) (n : ℕ) (f : Fault)
+        → ValuesMeet (shape tree.now) source.new all n f
+        → ValuesMeet (shape tree.now) source.old all (values + n) f) }
+    ensures fault { IfErr result (λ cause. cause ≢ OutOfMemory
+        → ValuesMeet (shape tree.now) source.old false values cause) }
+{
+    match StatKind::of_type(tree) {
+        StatKind::Plain => {
+            count_groups::<Counted<Plain>>(alloc, tree, source, count, bounds, values, value_bounds)
+        }
+        StatKind::Ints => {
+            count_groups::<Counted<Ints>>(alloc, tree, source, count, bounds, values, value_bounds)
+        }
+        StatKind::Bools => {
+            count_groups::<Counted<Bools>>(alloc, tree, source, count, bounds, values, value_bounds)
+        }
+        StatKind::Dates => {
+            count_groups::<Counted<Dates>>(alloc, tree, source, count, bounds, values, value_bounds)
+        }
+        StatKind::Texts => {
+            count_groups::<Counted<Texts<'_>>>(alloc, tree, source, count, bounds, values, value_bounds)
+        }
+        StatKind::Bins => {
+            count_groups::<Counted<Bins>>(alloc, tree, source, count, bounds, values, value_bounds)
+        }
+        StatKind::Children => {
+            count_groups::<Counted<Children>>(alloc, tree, source, count, bounds, values, value_bounds)
+        }
+    }
+}
+
+/// Reads all values of a column, which are to be so many, and counts them group by group.
+pub(crate) fn find_values(
+    alloc: Global,
+    tree: &Tree,
+    source: &mut ValueSource<'_>,
+    count: usize,
+    bounds: &[usize],
+    values: usize,
+    value_bounds: &[usize],
+) -> Result<ColumnFound, StripeFault>
+    requires few { count < cell_limit }
+    requires bounds { AreBounds count bounds.now }
+    requires first { bound_at count bounds.now 0 ≡ 0 }
+    requires values { AreValueBounds count bounds.now values value_bounds.now }
+    ensures found { IfOk result (λ found. (read : List Cell)
+        × (length read ≡ values)
+        × OwnValuesLeft (shape tree.now) source.old read
+        × ((cells : List Cell) → HasValues count bounds.now value_bounds.now read cells
+        → IsColumnFound (shape tree.now) cells bounds.now found)) }
+    ensures none { IfErr result (λ fault. fault ≢ OutOfMemory
+        → (read : List Cell) → OwnValuesLeft (shape tree.now) source.old read → length read ≡ values → ⊥) }
+    ensures fault { IfErr result (λ cause. cause ≢ OutOfMemory
+        → (all : Bool) × ValuesMeet (shape tree.now) source.old all values cause) }
+{
+    // for the proof, which knows that the room is a number of 64 bits where it is read
+    let _room = source.room;
+    match count_by_kind(alloc, tree, source, count, bounds, values, value_bounds) {
+        Ok(found) => {
+            if !values_end(tree, source) {
+                return Err(values_left(tree, source));
+            }
+            Ok(found)
+        }
+        Err(fault) => Err(fault),
+    }
+}
