@@ -1,6 +1,6 @@
 -- The entries of a row index, group by group.
 use Rattle.std.specs.Prelude.{MatchBool}
-use Rattle.std.proofs.Common.{◌≡◌, ℕ, ◌+◌, ◌≤◌, Bool, Option, Some, List, [], ◌∷◌, ◌++◌, length, take, slice_get, refl, sym, ap, ◌∙◌, subst, arith, inl, inr, ◌⊎◌, length-append}
+use Rattle.std.proofs.Common.{◌≡◌, ℕ, ◌+◌, ◌<◌, ◌≤◌, Bool, Option, Some, List, [], ◌∷◌, ◌++◌, length, take, slice_get, refl, sym, ap, ◌∙◌, subst, arith, inl, inr, ◌⊎◌, length-append}
 use Rattle.orc_wire.specs.declared.row_index.RowIndexEntry.{RowIndexEntry}
 use Rattle.orc_seek.specs.BitPosition.{BeginsBits}
 use Rattle.orc_types.specs.Cells.{Cell}
@@ -11,33 +11,27 @@ use Rattle.orc_columns.specs.declared.fault.StreamKind.{StreamKind}
 use Rattle.orc_columns.specs.declared.fault.StreamKind.TheVariants.{Present}
 use Rattle.orc_columns.specs.declared.fault.StripeFault.{StripeFault}
 use Rattle.orc_columns.specs.declared.starting.ColumnStreams.{ColumnStreams}
-use Rattle.orc_index.specs.Bounds.{bound_at, AreBounds}
+use Rattle.orc_index.specs.Bounds.{bound_at}
 use Rattle.orc_index.specs.Places.{PlacesIn, AreReadPlaces, begins}
 use Rattle.orc_index.specs.RunStreams.{RunStream, present_runs, own_octets}
-use Rattle.orc_index.specs.Walking.{runs, lent_bytes, ArePlaced, AreCounted}
+use Rattle.orc_index.specs.Walking.{runs, lent_bytes, ArePlaced}
 use Rattle.orc_index.specs.declared.counts.Counts.{Counts}
 use Rattle.orc_index.specs.declared.placed.PlacedStreams.{PlacedStreams}
-use Rattle.orc_index.proofs.Groups.{bound_up, pushed_get}
+use Rattle.orc_index.proofs.Groups.{pushed_get}
 use Rattle.orc_index.specs.RunStreams.{kind_of_own}
 use Rattle.orc_positions.specs.ColumnTables.{FailsIn, ColumnFails}
+use Rattle.orc_positions.specs.CountedBefore.{AreCountedBefore}
 use Rattle.orc_positions.specs.Decided.{Decides, AreDecided}
 
--- In front of a group: the entries before it are decided, and so many cells come before the place that was counted to.
-pub record Going (s : Shape) (streams : ColumnStreams) (cells : List Cell) (bounds : List ℕ) (entries : List RowIndexEntry) (group at : ℕ) (right : List Bool) (counts : Counts) : Type 0 where
-  pub begun : at ≤ bound_at (length cells) bounds group
+-- the entries before a group are decided, of whatever cells and bounds the counts are
+pub record Deciding (s : Shape) (streams : ColumnStreams) (counts : List Counts) (entries : List RowIndexEntry) (group : ℕ) (right : List Bool) : Type 0 where
   pub long : length right ≡ group
-  pub counted : AreCounted counts (take at cells)
-  pub each : (x : Streams) → AreStreams x streams → IsColumn s x cells → (g : ℕ) (entry : RowIndexEntry) (b : Bool) → slice_get entries g ≡ Some entry → slice_get right g ≡ Some b
-      → Decides s x cells bounds g entry.positions b
+  pub each : (x : Streams) (cells : List Cell) (bounds : List ℕ) → AreStreams x streams → IsColumn s x cells → AreCountedBefore counts cells bounds (length entries) → (g : ℕ) (entry : RowIndexEntry) (b : Bool)
+      → slice_get entries g ≡ Some entry → slice_get right g ≡ Some b → Decides s x cells bounds g entry.positions b
 
-pub going_none : (s : Shape) (streams : ColumnStreams) (cells : List Cell) (bounds : List ℕ) (entries : List RowIndexEntry) (k : Counts) → (k.cells ≡ 0) × (k.values ≡ 0) × (k.octets ≡ 0)
-    → Going s streams cells bounds entries 0 0 [] k
-going_none s streams cells bounds entries k zeros = record {
-  begun = omega arith;
-  long = refl;
-  counted = record { cells_are = zeros.0; values_are = zeros.1; octets_are = omega (arith, zeros.2) };
-  each = λ x is column g entry b there at. absurd cc;
-}
+pub deciding_none : (s : Shape) (streams : ColumnStreams) (counts : List Counts) (entries : List RowIndexEntry) (right : List Bool) → right ≡ [] → Deciding s streams counts entries 0 right
+deciding_none s streams counts entries right none =
+    subst (λ (bs : List Bool). Deciding s streams counts entries 0 bs) (sym none) (record { long = refl; each = λ x cells bounds is column counted g entry b there at. absurd cc })
 
 -- what is said of the streams that are walked is said of the column's
 decided_in : (s : Shape) (x : Streams) (placed : PlacedStreams) (before : List Cell) (ps : List ℕ) (b : Bool) → ArePlaced s x placed
@@ -59,27 +53,31 @@ group_decided s x placed cells bounds group start ps b are at h =
 same_entry : (a b : RowIndexEntry) → Some a ≡ Some b → a ≡ b
 same_entry a b e = cc
 
-pub going_more : (s : Shape) (streams : ColumnStreams) (cells : List Cell) (bounds : List ℕ) (entries : List RowIndexEntry) (group at start : ℕ) (right : List Bool) (k m : Counts) (entry : RowIndexEntry) (b : Bool)
-    → AreBounds (length cells) bounds → Going s streams cells bounds entries group at right k → start ≡ bound_at (length cells) bounds group → AreCounted m (take start cells) → slice_get entries group ≡ Some entry
-    → ((x : Streams) → AreStreams x streams → IsColumn s x cells → Decides s x cells bounds group entry.positions b) → Going s streams cells bounds entries (group + 1) start (right ++ b ∷ []) m
-going_more s streams cells bounds entries group at start right k m entry b rise h st counted there last = record {
-  begun = omega (arith, bound_up (length cells) bounds group rise, st);
-  long = length-append right (b ∷ []) ∙ ap (λ (n : ℕ). n + 1) h.long;
-  counted = counted;
-  each = λ x is column g e c met found. elim (pushed_get right b g c found) [
-    | inl old ↦ h.each x is column g e c met old
-    | inr new ↦
-        let here : group ≡ g = sym h.long ∙ sym new.0 in
-        let same : entry ≡ e = same_entry entry e (sym there ∙ ap (slice_get entries) here ∙ met) in
-        subst (λ (d : Bool). Decides s x cells bounds g e.positions d) new.1
-        (subst (λ (y : RowIndexEntry). Decides s x cells bounds g y.positions b) same
-        (subst (λ (n : ℕ). Decides s x cells bounds n entry.positions b) here (last x is column)))
-  ];
-}
+pub deciding_more : (s : Shape) (streams : ColumnStreams) (counts : List Counts) (entries : List RowIndexEntry) (group : ℕ) (right new : List Bool) (entry : RowIndexEntry) (b : Bool)
+    → Deciding s streams counts entries group right → slice_get entries group ≡ Some entry → new ≡ right ++ b ∷ []
+    → ((x : Streams) (cells : List Cell) (bounds : List ℕ) → AreStreams x streams → IsColumn s x cells → AreCountedBefore counts cells bounds (length entries) → Decides s x cells bounds group entry.positions b)
+    → Deciding s streams counts entries (group + 1) new
+deciding_more s streams counts entries group right new entry b h there pushed last =
+    subst (λ (bs : List Bool). Deciding s streams counts entries (group + 1) bs) (sym pushed) (record {
+      long = length-append right (b ∷ []) ∙ ap (λ (n : ℕ). n + 1) h.long;
+      each = λ x cells bounds is column counted g e c met found. elim (pushed_get right b g c found) [
+        | inl old ↦ h.each x cells bounds is column counted g e c met old
+        | inr fresh ↦
+            let here : group ≡ g = sym h.long ∙ sym fresh.0 in
+            let same : entry ≡ e = same_entry entry e (sym there ∙ ap (slice_get entries) here ∙ met) in
+            subst (λ (d : Bool). Decides s x cells bounds g e.positions d) fresh.1
+            (subst (λ (y : RowIndexEntry). Decides s x cells bounds g y.positions b) same
+            (subst (λ (n : ℕ). Decides s x cells bounds n entry.positions b) here (last x cells bounds is column counted)))
+      ];
+    })
 
-pub going_end : (s : Shape) (streams : ColumnStreams) (cells : List Cell) (bounds : List ℕ) (entries : List RowIndexEntry) (group at : ℕ) (right : List Bool) (k : Counts) (x : Streams)
-    → Going s streams cells bounds entries group at right k → group ≡ length entries → AreStreams x streams → IsColumn s x cells → AreDecided s x cells bounds entries right
-going_end s streams cells bounds entries group at right k x h all is column = record { counted = h.long ∙ all; each = h.each x is column }
+pub deciding_end : (s : Shape) (streams : ColumnStreams) (counts : List Counts) (entries : List RowIndexEntry) (group : ℕ) (right : List Bool) (x : Streams) (cells : List Cell) (bounds : List ℕ)
+    → Deciding s streams counts entries group right → group ≡ length entries → AreStreams x streams → IsColumn s x cells → AreCountedBefore counts cells bounds (length entries) → AreDecided s x cells bounds entries right
+deciding_end s streams counts entries group right x cells bounds h all is column counted = record { counted = h.long ∙ all; each = h.each x cells bounds is column counted }
+
+-- each entry has its counts
+pub counts_there : (counts : List Counts) (cells : List Cell) (bounds : List ℕ) (n group : ℕ) → AreCountedBefore counts cells bounds n → group < n → length counts ≤ group → ⊥
+counts_there counts cells bounds n group h lt le = omega (arith, h.counted, lt, le)
 
 -- ---- streams that are none of runs
 

@@ -2,3 +2,4 @@ mod TableLemmas
 mod ColumnLemmas
 mod FewValues
 mod Entries
+mod CountedLemmas
