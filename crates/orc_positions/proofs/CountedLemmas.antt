@@ -1,5 +1,5 @@
 -- The counts of what comes before each group, one group after the other.
-use Rattle.std.proofs.Common.{◌≡◌, ℕ, ◌+◌, ◌≤◌, Some, List, [], ◌∷◌, ◌++◌, length, take, slice_get, refl, sym, ap, ◌∙◌, subst, arith, inl, inr, length-append}
+use Rattle.std.proofs.Common.{◌≡◌, ℕ, ◌+◌, ◌≤◌, List, [], ◌∷◌, ◌++◌, length, take, refl, sym, ap, ◌∙◌, subst, arith, inl, inr, length-append}
 use Rattle.orc_types.specs.Cells.{Cell}
 use Rattle.orc_index.specs.Bounds.{bound_at, AreBounds, before_group}
 use Rattle.orc_index.specs.Walking.{AreCounted}

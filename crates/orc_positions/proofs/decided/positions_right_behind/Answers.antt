@@ -1,5 +1,5 @@
 use Rattle.std.specs.Prelude.{MatchBool}
-use Rattle.std.proofs.Common.{◌≡◌, ◌∙◌, ℕ, ◌+◌, Bool, Some, List, length, take, slice_get, refl, sym, ap, subst, arith, ltb-true}
+use Rattle.std.proofs.Common.{◌≡◌, ◌∙◌, ℕ, Some, List, length, slice_get, refl, sym, ap, subst, arith, ltb-true}
 use Rattle.std.proofs.lemmas.Option.{slice_get_read}
 use Rattle.orc_seek.specs.BitPosition.{BeginsBits}
 use Rattle.orc_types.specs.Views.{shape}
@@ -9,7 +9,7 @@ use Rattle.orc_index.specs.RunStreams.{RunStream, kind_of_own}
 use Rattle.orc_index.specs.Walking.{runs, lent_bytes}
 use Rattle.orc_index.proofs.Groups.{front_there}
 use Rattle.orc_positions.specs.Tables.{IsFew}
-use Rattle.orc_positions.proofs.Entries.{deciding_more, deciding_end, counts_there, group_decided, fails_in}
+use Rattle.orc_positions.proofs.Entries.{deciding_more, deciding_end, group_decided, fails_in}
 use Rattle.orc_positions.proofs.FewValues.{few_in_present, few_in_own}
 use Rattle.orc_positions.proofs.decided.positions_right_behind.Goals as goal
 
