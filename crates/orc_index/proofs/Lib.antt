@@ -4,3 +4,4 @@ pub mod Groups
 pub mod StatWhole
 pub mod WrittenIndex
 pub mod PositionParts
+pub mod GroupFolds

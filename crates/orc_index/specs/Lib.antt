@@ -3,3 +3,4 @@ pub mod Places
 pub mod Bounds
 pub mod RowIndex
 pub mod Walking
+pub mod GroupStats

@@ -6,6 +6,8 @@ mod bounds;
 mod counting;
 mod counts;
 mod entries;
+mod group_bounds;
+mod group_stats;
 mod laws;
 mod placed;
 mod row_index;

@@ -12,7 +12,7 @@ use Rattle.orc_types.proofs.Together.{values-append, flat_map-append, keys-appen
 use Rattle.orc_columns.proofs.Arms.{some_width}
 use Rattle.orc_index.specs.Bounds.{AreBounds, elements_before, pairs_before, values_before}
 use Rattle.orc_index.proofs.Groups.{bound_within, keys_long, map_values_long, key_bounds_are}
-use Rattle.orc_written.specs.Groups.{group_count, starts, cells_before, bounds_of, AreGroupsFrom, ArePairGroupsFrom, AreFieldGroupsFrom}
+use Rattle.orc_written.specs.Groups.{group_count, starts, firsts_of, cells_before, bounds_of, AreGroupsFrom, ArePairGroupsFrom, AreFieldGroupsFrom}
 use Rattle.orc_written.specs.Subtrees.{FieldsFit}
 use Rattle.orc_written.proofs.SubtreeLemmas.{root_cells}
 
@@ -195,6 +195,11 @@ starts_are_bounds stride rows some g =
             | inr past ↦ let a = start_past stride rows g rows past in omega (arith, a, b)
           ]
     ]
+
+-- so are those of a stripe's indexes, of which there are none without a stride
+pub firsts_are_bounds : (stride rows : ℕ) → AreBounds rows (firsts_of stride rows)
+firsts_are_bounds zero rows g = omega arith
+firsts_are_bounds (suc k) rows g = starts_are_bounds (suc k) rows (omega arith) g
 
 range_more : (a n : ℕ) → range_with_len a (suc n) ≡ range_with_len a n ++ (a + n) ∷ []
 range_more a zero = let e : a ≡ a + 0 = omega arith in λ i. e i ∷ []

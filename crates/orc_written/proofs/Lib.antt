@@ -13,4 +13,5 @@ pub mod GroupLemmas
 pub mod IndexLemmas
 pub mod StripeReads
 pub mod StripeLaws
-pub mod WriterLemmas
+pub mod FieldsWritten
+pub mod LastColumn

@@ -12,13 +12,12 @@ use Rattle.orc_types.specs.Cells.{Cell, parts, keys_in, values_in, values}
 use Rattle.orc_types.specs.Columns.{cells}
 use Rattle.orc_types.specs.Fits.{RowsFit}
 use Rattle.orc_types.specs.Views.{shape, fields}
-use Rattle.orc_types.proofs.Together.{keys_fit, values_fit, heads_fit, tails_fit}
+use Rattle.orc_types.proofs.Together.{keys_fit, values_fit}
 use Rattle.orc_types.proofs.Views.{name_and_type-is}
 use Rattle.orc_columns.proofs.Arms.{some_width}
 use Rattle.orc_written.specs.WrittenColumn.{Written}
 use Rattle.orc_written.specs.WrittenStripe.{AreFew, HasColumns}
-use Rattle.orc_written.specs.Subtrees.{AreColumnsFrom, ArePairsFrom, AreFieldsFrom, PairsFit, FieldsFit, PairsAreFew, FieldsAreFew, HasWritten}
-use Rattle.orc_written.specs.declared.columns.Columns.{Columns}
+use Rattle.orc_written.specs.Subtrees.{AreColumnsFrom, ArePairsFrom, AreFieldsFrom, PairsFit, PairsAreFew, FieldsAreFew}
 
 -- ---- the fields at a place
 
@@ -191,86 +190,11 @@ pub written_count : (rle : Rle) (s : Shape) (rows : List Cell) (n : ℕ) (stream
     → length encodings ≡ n
 written_count rle s rows n streams directory encodings h = ap length h.encoded ∙ length-map h.columns (λ (w : Written). w.encoding) ∙ h.counted
 
-pub nothing_written : (rle : Rle) (s : Shape) (rows : List Cell) (out : Columns) → out.body.bytes.items ≡ [] → out.body.directory.items ≡ [] → out.encodings.items ≡ [] → out.stats.items ≡ []
-    → HasWritten rle s rows 0 out
-nothing_written rle s rows out bytes directory encodings stats = record {
-  columns = record { columns = []; counted = refl; are = tt; joined = bytes; listed = directory; encoded = encodings };
-  stats = record { counted = ap length stats; each = λ c less. absurd (omega (arith, less)) };
-}
-
--- ---- the fields of structs, one after the other
-
--- the columns before number `at` are written, and behind them come those of the fields that are left
-pub record Reached (rle : Rle) (s : Shape) (rows : List Cell) (fs : Fields) (structs : List (List Cell)) (end : ℕ) (out : Columns) : Type 0 where
-  pub at : ℕ
-  pub left : at + widths fs ≡ end
-  pub from : AreFieldsFrom s rows at fs structs
-  pub written : HasWritten rle s rows at out
-
--- what stands once the fields before a place are written
-pub record FieldsStand (rle : Rle) (fs : List Field) (structs : List (List Cell)) (place : ℕ) (old new : Columns) : Type 0 where
-  pub fit : FieldsFit (fields (drop place fs)) (map (drop place) structs)
-  pub few : FieldsAreFew (fields (drop place fs)) (map (drop place) structs)
-  pub reached : (s : Shape) (rows : List Cell) (c : ℕ) → AreFieldsFrom s rows c (fields fs) structs → HasWritten rle s rows c old
-      → Reached rle s rows (fields (drop place fs)) (map (drop place) structs) (c + widths (fields fs)) new
-
-pub fields_begin : (rle : Rle) (fs : List Field) (structs : List (List Cell)) (out : Columns) → FieldsFit (fields fs) structs → FieldsAreFew (fields fs) structs → FieldsStand rle fs structs 0 out out
-fields_begin rle fs structs out fit few =
-    let e : structs ≡ map (drop 0) structs = sym (nothing_dropped structs) in
-    record {
-      fit = subst (λ (xss : List (List Cell)). FieldsFit (fields fs) xss) e fit;
-      few = subst (λ (xss : List (List Cell)). FieldsAreFew (fields fs) xss) e few;
-      reached = λ s rows c from written. record { at = c; left = refl; from = subst (λ (xss : List (List Cell)). AreFieldsFrom s rows c (fields fs) xss) e from; written = written };
-    }
-
-pub first_fits : (rle : Rle) (fs : List Field) (structs : List (List Cell)) (n : ℕ) (f : Field) (old new : Columns) → n < length fs → f ≡ get_or fs n f → FieldsStand rle fs structs n old new
-    → RowsFit (shape f.tree) (flat_map (take 1) (map (drop n) structs))
-first_fits rle fs structs n f old new less is h =
-    heads_fit (string_bytes f.name) (shape f.tree) (fields (drop (n + 1) fs)) (map (drop n) structs) (subst (λ (x : Fields). FieldsFit x (map (drop n) structs)) (fields_at fs n f less is) h.fit)
-
-pub first_few : (rle : Rle) (fs : List Field) (structs : List (List Cell)) (n : ℕ) (f : Field) (old new : Columns) → n < length fs → f ≡ get_or fs n f → FieldsStand rle fs structs n old new
-    → AreFew (shape f.tree) (flat_map (take 1) (map (drop n) structs))
-first_few rle fs structs n f old new less is h =
-    few_first (string_bytes f.name) (shape f.tree) (fields (drop (n + 1) fs)) (map (drop n) structs) (subst (λ (x : Fields). FieldsAreFew x (map (drop n) structs)) (fields_at fs n f less is) h.few)
-
-pub fields_step : (rle : Rle) (fs : List Field) (structs : List (List Cell)) (n : ℕ) (f : Field) (column : List Cell) (old mid new : Columns) → n < length fs → f ≡ get_or fs n f
-    → column ≡ flat_map (take 1) (map (drop n) structs) → FieldsStand rle fs structs n old mid
-    → ((s : Shape) (rows : List Cell) (c : ℕ) → AreColumnsFrom s rows c (shape f.tree) column → HasWritten rle s rows c mid → HasWritten rle s rows (c + width (shape f.tree)) new)
-    → FieldsStand rle fs structs (n + 1) old new
-fields_step rle fs structs n f column old mid new less is are h put =
-    let name = string_bytes f.name in
-    let t = shape f.tree in
-    let others = fields (drop (n + 1) fs) in
-    let e : fields (drop n fs) ≡ field name t others = fields_at fs n f less is in
-    let more : map (drop 1) (map (drop n) structs) ≡ map (drop (n + 1)) structs = dropped_more n structs in
-    record {
-      fit = subst (λ (xss : List (List Cell)). FieldsFit others xss) more (tails_fit name t others (map (drop n) structs) (subst (λ (x : Fields). FieldsFit x (map (drop n) structs)) e h.fit));
-      few = subst (λ (xss : List (List Cell)). FieldsAreFew others xss) more (few_others name t others (map (drop n) structs) (subst (λ (x : Fields). FieldsAreFew x (map (drop n) structs)) e h.few));
-      reached = λ s rows c from written.
-          let r = h.reached s rows c from written in
-          let here = subst (λ (x : Fields). AreFieldsFrom s rows r.at x (map (drop n) structs)) e r.from in
-          let w : widths (fields (drop n fs)) ≡ width t + widths others = ap widths e in
-          record {
-            at = r.at + width t;
-            left = omega (arith, w, r.left);
-            from = subst (λ (xss : List (List Cell)). AreFieldsFrom s rows (r.at + width t) others xss) more (others_from s rows r.at name t others (map (drop n) structs) here);
-            written = put s rows r.at (subst (λ (cs : List Cell). AreColumnsFrom s rows r.at t cs) (sym are) (first_from s rows r.at name t others (map (drop n) structs) here)) r.written;
-          };
-    }
-
 pub none_after : (fs : List Field) (n : ℕ) → length fs ≤ n → fields (drop n fs) ≡ no_field
 none_after [] zero h = refl
 none_after [] (suc n) h = refl
 none_after (f ∷ fs) zero h = absurd (omega arith)
 none_after (f ∷ fs) (suc n) h = none_after fs n (omega (arith, h))
-
-pub fields_end : (rle : Rle) (fs : List Field) (structs : List (List Cell)) (n : ℕ) (old new : Columns) → length fs ≤ n → FieldsStand rle fs structs n old new
-    → (s : Shape) (rows : List Cell) (c : ℕ) → AreFieldsFrom s rows c (fields fs) structs → HasWritten rle s rows c old → HasWritten rle s rows (c + widths (fields fs)) new
-fields_end rle fs structs n old new all h s rows c from written =
-    let r = h.reached s rows c from written in
-    let w : widths (fields (drop n fs)) ≡ 0 = ap widths (none_after fs n all) in
-    let e : r.at ≡ c + widths (fields fs) = omega (arith, w, r.left) in
-    subst (λ (k : ℕ). HasWritten rle s rows k new) e r.written
 
 -- ---- whether the fields' columns are few
 

@@ -71,12 +71,12 @@ encodings_sized rle s rows n streams directory encodings h = subst (AllByRecursi
 
 -- ---- one more column
 
-more_are : (rle : Rle) (s : Shape) (rows : List Cell) (b : ℕ) (ws : List Written) (w : Written) (c : ℕ) → AreWrittenColumns rle s rows b ws → b + length ws ≡ c
+pub more_are : (rle : Rle) (s : Shape) (rows : List Cell) (b : ℕ) (ws : List Written) (w : Written) (c : ℕ) → AreWrittenColumns rle s rows b ws → b + length ws ≡ c
     → IsWrittenColumn rle (shape_at s c) (cells s c rows) w → AreWrittenColumns rle s rows b (ws ++ w ∷ [])
 more_are rle s rows b [] w c h e i = let at : c ≡ b = omega arith in (subst (λ n. IsWrittenColumn rle (shape_at s n) (cells s n rows) w) at i, tt)
 more_are rle s rows b (v ∷ vs) w c h e i = (h.0, more_are rle s rows (suc b) vs w c h.1 (omega arith) i)
 
-pub more_columns : (rle : Rle) (s : Shape) (rows : List Cell) (n : ℕ) (old new : Body) (encodings : List Encoding) (e : Encoding) → HasColumns rle s rows n old.bytes.items old.directory.items encodings
+abbrev pub more_columns : (rle : Rle) (s : Shape) (rows : List Cell) (n : ℕ) (old new : Body) (encodings : List Encoding) (e : Encoding) → HasColumns rle s rows n old.bytes.items old.directory.items encodings
     → AddsColumn rle (shape_at s n) (cells s n rows) n old new e → HasColumns rle s rows (n + 1) new.bytes.items new.directory.items (encodings ++ e ∷ [])
 more_columns rle s rows n old new encodings e h a =
     let w = a.written in

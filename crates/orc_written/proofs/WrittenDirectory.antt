@@ -109,7 +109,7 @@ pub record AreFound (x : ℕ → List ℕ) (w : Written) : Type 0 where
   pub lengths : x 2 ≡ w.lengths
   pub words : x 3 ≡ w.words
 
-column_found : (c : ℕ) (w : Written) (ms : List StreamMsg) (rest : List ℕ) → ((j : ℕ) → slice c j ms rest ≡ [])
+pub column_found : (c : ℕ) (w : Written) (ms : List StreamMsg) (rest : List ℕ) → ((j : ℕ) → slice c j ms rest ≡ [])
     → AreFound (λ j. slice c j (column_lines c w ++ ms) (column_bytes w ++ rest)) w
 column_found c w ms rest none = record {
   marks = apart c w ms rest c 0 ∙ met c 0 w.marks _ _ (passed c 1 w.content _ _ c 0 (other_kind c c 1 0 refl) ∙ passed c 2 w.lengths _ _ c 0 (other_kind c c 2 0 refl) ∙ passed c 3 w.words ms rest c 0 (other_kind c c 3 0 refl) ∙ none 0);
@@ -130,7 +130,7 @@ column_of c w ms width h o =
     ap (have_columns width) (lines_before c w ms)
     ∙ has_column c 0 w.marks _ width h (has_column c 1 w.content _ width h (has_column c 2 w.lengths _ width h (has_column c 3 w.words ms width h o)))
 
-column_room : (c : ℕ) (w : Written) (ms : List StreamMsg) (room : ℕ) → have_room room ms ≡ true → have_room (length (column_bytes w) + room) (column_lines c w ++ ms) ≡ true
+pub column_room : (c : ℕ) (w : Written) (ms : List StreamMsg) (room : ℕ) → have_room room ms ≡ true → have_room (length (column_bytes w) + room) (column_lines c w ++ ms) ≡ true
 column_room c w ms room h =
     let l : length (column_bytes w) ≡ length w.marks + (length w.content + (length w.lengths + length w.words)) = simp length-append in
     let all : length (column_bytes w) + room ≡ length w.marks + (length w.content + (length w.lengths + (length w.words + room))) = omega (arith, l) in

@@ -9,7 +9,9 @@ use Rattle.orc_types.specs.Columns.{cells, cells_within}
 use Rattle.orc_types.specs.Fits.{each_fits, RowsFit}
 use Rattle.orc_columns.specs.Stripe.{cell_limit}
 use Rattle.orc_written.specs.declared.columns.Columns.{Columns}
-use Rattle.orc_written.specs.WrittenStripe.{AreFew, HasColumns, HaveStats}
+use Rattle.orc_written.specs.Groups.{firsts_of}
+use Rattle.orc_written.specs.Indexes.{HaveIndexes}
+use Rattle.orc_written.specs.WrittenStripe.{AreFew, indexed_columns, HasColumns, HaveStats}
 
 -- the columns of s from number c on, over the rows, are those of t over these cells
 abbrev pub AreColumnsFrom : Shape → List Cell → ℕ → Shape → List Cell → Type 0
@@ -44,7 +46,9 @@ PairsAreFew k v maps = AreFew k (flat_map keys_in (values maps)) × AreFew v (fl
 abbrev pub FieldsAreFew : Fields → List (List Cell) → Type 0
 FieldsAreFew fs structs = (d : ℕ) → d < widths fs → length (cells_within fs d structs) < cell_limit
 
--- the first n columns of the rows are written, and their statistics
-pub record HasWritten (rle : Rle) (s : Shape) (rows : List Cell) (n : ℕ) (out : Columns) : Type 0 where
+-- the first n columns of the rows are written, their statistics, and where there is a stride their indexes
+pub record HasWritten (rle : Rle) (stride : ℕ) (s : Shape) (rows : List Cell) (n : ℕ) (out : Columns) : Type 0 where
   pub columns : HasColumns rle s rows n out.body.bytes.items out.body.directory.items out.encodings.items
   pub stats : HaveStats s rows n out.stats.items
+  pub indexes : HaveIndexes s rows (firsts_of stride (length rows)) columns.columns (indexed_columns stride n)
+      out.indexes

@@ -1,5 +1,5 @@
 //! The streams of a stripe as they are written, one behind the other, and the directory that lists them.
-ghost use Rattle.std.specs.Prelude.{◌≡◌, ◌++◌, ◌≤◌, length, drop, OnOk};
+ghost use Rattle.std.specs.Prelude.{◌≡◌, [], ◌++◌, ◌≤◌, length, drop, OnOk};
 ghost use Rattle.orc_rle.specs.Values.{AllInRange};
 ghost use Rattle.orc_rle.specs.Cut.{IsWritten};
 ghost use Rattle.orc_rle.specs.ByteRun.{byte_rule};
@@ -13,7 +13,7 @@ ghost use Rattle.orc_written.specs.Adding.{AddsStream, AppendsText};
 use crate::cell_values::{ByteString, append_byte_strings};
 use orc_rle::{BitRuns, ByteRuns, Rle, RunCodec, Sign, V1, V2};
 use orc_wire::StreamMsg;
-use std::alloc::AllocError;
+use std::alloc::{AllocError, Global};
 
 /// Appends the numbers in a version of integer run lengths.
 fn append_ints(rle: Rle, sign: Sign, numbers: &[i64], out: &mut Vec<u8>) -> Result<(), AllocError>
@@ -58,6 +58,17 @@ pub(crate) struct Body {
 }
 
 impl Body {
+    /// No streams.
+    pub(crate) fn new(alloc: Global) -> Body
+        ensures bytes { result.bytes.items ≡ [] }
+        ensures directory { result.directory.items ≡ [] }
+    {
+        Body {
+            bytes: Vec::new(alloc),
+            directory: Vec::new(alloc),
+        }
+    }
+
     /// Lists the bytes from `start` on as a stream, where there are any.
     fn list(&mut self, column: u32, kind: u32, start: usize) -> Result<(), AllocError>
         requires { start ≤ length self.old.bytes.items }

@@ -4,6 +4,7 @@
 mod below;
 mod body;
 mod cell_values;
+mod column_streams;
 mod columns;
 mod indexes;
 mod limits;

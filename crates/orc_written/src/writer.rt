@@ -1,5 +1,5 @@
 //! Rows to the bytes of a stripe.
-ghost use Rattle.std.specs.Prelude.{◌≡◌, ◌<◌, ℕ, List, length, IfOk, IfErr};
+ghost use Rattle.std.specs.Prelude.{◌≡◌, ℕ, List, length, IfOk, IfErr};
 ghost use Rattle.orc_rle.specs.declared.sign.Rle.{Rle};
 ghost use Rattle.orc_types.specs.Shapes.{Shape, width};
 ghost use Rattle.orc_types.specs.Cells.{Cell};
@@ -15,10 +15,9 @@ ghost use Rattle.orc_columns.specs.declared.fault.StripeFault.TheVariants.{OutOf
 use crate::below::lent_rows;
 use crate::body::Body;
 use crate::columns::{Columns, put_columns};
-use crate::indexes::{all_streams, group_starts, put_indexes};
+use crate::indexes::first_rows;
 use crate::options::Options;
 use orc_columns::fault::StripeFault;
-use orc_rle::Rle;
 use orc_stats::Stat;
 use orc_types::{Row, Schema};
 use orc_wire::{Items, Message, StripeFooter, StripeInfo, whole_laws};
@@ -35,87 +34,28 @@ pub struct StripeOut {
     pub stats: Vec<Stat>,
 }
 
-/// The streams of all columns, their directory, their encodings and their statistics.
+/// The streams of all columns, their directory, their encodings, their statistics and their indexes.
 fn all_columns(
     alloc: Global,
-    rle: Rle,
+    options: &Options,
     schema: &Schema,
     rows: &[Row<'_>],
 ) -> Result<Columns, AllocError>
     requires fit { RowsFit schema.now (views rows.now) }
     requires few { AreFew schema.now (views rows.now) }
-    ensures { IfOk result (HasWritten rle schema.now (views rows.now) (width schema.now)) }
+    ensures { IfOk result
+        (HasWritten options.now.rle options.now.stride schema.now (views rows.now) (width schema.now)) }
 {
     let mut out = Columns {
-        body: Body {
-            bytes: Vec::new(alloc),
-            directory: Vec::new(alloc),
-        },
+        body: Body::new(alloc),
+        indexes: Body::new(alloc),
         encodings: Vec::new(alloc),
         stats: Vec::new(alloc),
     };
     let cells = lent_rows(alloc, rows)?;
-    put_columns(alloc, rle, schema.tree(), &cells, &mut out)?;
+    let bounds = first_rows(alloc, options.stride() as usize, rows.len())?;
+    put_columns(alloc, options, schema.tree(), &cells, &bounds, &mut out)?;
     Ok(out)
-}
-
-/// The indexes of all columns, from the streams that were written.
-fn all_indexes(
-    alloc: Global,
-    stride: usize,
-    schema: &Schema,
-    footer: &StripeFooter,
-    bytes: &[u8],
-    rows: &[Row<'_>],
-) -> Result<Body, AllocError>
-    requires stride { 0 < stride }
-    requires fit { RowsFit schema.now (views rows.now) }
-    requires few { AreFew schema.now (views rows.now) }
-    requires columns { (rle : Rle) × HasColumns rle schema.now (views rows.now) (width schema.now)
-        bytes.now footer.now.streams footer.now.columns }
-    ensures { IfOk result (λ body. (rle : Rle)
-        (h : HasColumns rle schema.now (views rows.now) (width schema.now)
-        bytes.now footer.now.streams footer.now.columns)
-        → HaveIndexes schema.now (views rows.now) (starts stride (length (views rows.now))) h.columns
-        (width schema.now) body) }
-{
-    let mut out = Body {
-        bytes: Vec::new(alloc),
-        directory: Vec::new(alloc),
-    };
-    let streams = all_streams(alloc, footer, bytes)?;
-    let cells = lent_rows(alloc, rows)?;
-    let bounds = group_starts(alloc, stride, rows.len())?;
-    put_indexes(alloc, schema.tree(), &streams, &cells, &bounds, &mut out)?;
-    Ok(out)
-}
-
-/// The indexes of all columns, or none without a stride.
-fn indexes_of(
-    alloc: Global,
-    stride: usize,
-    schema: &Schema,
-    footer: &StripeFooter,
-    bytes: &[u8],
-    rows: &[Row<'_>],
-) -> Result<Body, AllocError>
-    requires fit { RowsFit schema.now (views rows.now) }
-    requires few { AreFew schema.now (views rows.now) }
-    requires columns { (rle : Rle) × HasColumns rle schema.now (views rows.now) (width schema.now)
-        bytes.now footer.now.streams footer.now.columns }
-    ensures { IfOk result (λ body. (rle : Rle)
-        (h : HasColumns rle schema.now (views rows.now) (width schema.now)
-        bytes.now footer.now.streams footer.now.columns)
-        → HaveIndexes schema.now (views rows.now) (starts stride (length (views rows.now))) h.columns
-        (indexed_columns stride (width schema.now)) body) }
-{
-    if stride == 0 {
-        return Ok(Body {
-            bytes: Vec::new(alloc),
-            directory: Vec::new(alloc),
-        });
-    }
-    all_indexes(alloc, stride, schema, footer, bytes, rows)
 }
 
 /// Puts the streams behind the indexes, and the footer behind both.
@@ -186,13 +126,17 @@ pub fn write_stripe(
     ensures stats { IfOk result (λ out. HaveStats schema.now (views rows.now) (width schema.now) out.stats.items) }
     ensures refused { IfErr result (λ fault. fault ≡ OutOfMemory) }
 {
-    let columns = all_columns(alloc, options.rle(), schema, rows)?;
+    let columns = all_columns(alloc, options, schema, rows)?;
     let streams = columns.body.bytes;
     let footer = StripeFooter {
         streams: Items::from_vec(columns.body.directory),
         columns: Items::from_vec(columns.encodings),
     };
-    let stride = options.stride() as usize;
-    let indexes = indexes_of(alloc, stride, schema, &footer, &streams, rows)?;
-    Ok(assemble(indexes, streams, footer, columns.stats, rows.len() as u64)?)
+    Ok(assemble(
+        columns.indexes,
+        streams,
+        footer,
+        columns.stats,
+        rows.len() as u64,
+    )?)
 }

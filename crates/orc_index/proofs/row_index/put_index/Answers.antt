@@ -13,7 +13,7 @@ returns-in-Ok-clause-index c = λ x is.
     let cells = lent_cells c.args.cells.now in
     let n = length c.args.bounds.now in
     let are : AreEntries s x cells c.args.bounds.now n c.from_vec.result =
-    subst (λ (es : List RowIndexEntry). AreEntries s x cells c.args.bounds.now n es) (sym c.from_vec.ensures) (c.in_ok-entries.ensures x is) in
+    subst (λ (es : List RowIndexEntry). AreEntries s x cells c.args.bounds.now n es) (sym c.from_vec.ensures) (c.in_ok-found.ensures.entries x is) in
     let whole = entries_whole s x cells c.args.bounds.now n c.from_vec.result c.requires.fit c.requires.spelled.2.few are in (
       row_index_text.text (record { entries = c.from_vec.result }),
       record { entries = c.from_vec.result; are = are; text_is = refl; spelled = c.in-Ok.ensures.again whole },

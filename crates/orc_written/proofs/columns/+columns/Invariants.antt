@@ -3,7 +3,7 @@ use Rattle.orc_types.specs.Cells.{parts, values}
 use Rattle.orc_types.specs.Lent.{lent_cells}
 use Rattle.orc_types.specs.Shapes.{width, widths}
 use Rattle.orc_types.specs.Views.{shape, fields as fields_view}
-use Rattle.orc_written.proofs.SubtreeLemmas.{FieldsStand}
+use Rattle.orc_written.proofs.FieldsWritten.{FieldsStand}
 use Rattle.orc_written.proofs.columns.+columns.Given as goal
 
 abbrev pub decreases-put_columns : goal.decreases-put_columns
@@ -16,4 +16,4 @@ abbrev pub decreases-put_fields : goal.decreases-put_fields
 decreases-put_fields l = 2 * widths (fields_view l.fields.now) + 1
 
 abbrev pub invariant-put_fields-loop-place : goal.invariant-put_fields-loop-place
-invariant-put_fields-loop-place l = FieldsStand l.rle l.fields (map parts (values (lent_cells l.structs))) l.place l.initial.out l.out
+invariant-put_fields-loop-place l = FieldsStand l.options.rle l.options.stride l.fields (map parts (values (lent_cells l.structs))) l.bounds l.place l.initial.out l.out
