@@ -1,24 +1,27 @@
 -- Layouts, level by level.
-use Rattle.std.proofs.Common.{◌≡◌, ℕ, suc, ◌+◌, ◌<◌, List, [], ◌∷◌, ◌++◌, Bool, true, false, length, map, get_or, drop, Option, Some, Vec, Box, Global, refl, sym, ap, ◌∙◌, subst, arith, rules, add-one, append_assoc, drop-cons, ◌≤◌, String, string_bytes, string_cmp}
+use Rattle.std.proofs.Common.{◌≡◌, ℕ, zero, suc, ◌+◌, ◌<◌, List, [], ◌∷◌, ◌++◌, Bool, true, false, length, map, get_or, drop, Option, Some, Vec, Box, Global, refl, sym, ap, ◌∙◌, subst, arith, rules, add-one, append_assoc, drop-cons, ◌≤◌, String, string_bytes, string_cmp}
 use Rattle.std.proofs.lemmas.List.{get_or-map, drop_all, length-map}
 use Rattle.std.specs.BTreeMap.{insert_entry}
 use Rattle.serde_json.specs.Data.{no_members, put}
-use Rattle.orc_types.specs.Shapes.{Shape}
+use Rattle.orc_types.specs.Shapes.{Shape, width, widths}
 use Rattle.orc_types.specs.JsonPrinting.{members_json}
 use Rattle.serde_json.specs.Written.{comma_if}
-use Rattle.orc_types.specs.Cells.{Cell, null, cells_of}
-use Rattle.orc_types.specs.Views.{shape, name_and_type, fields_of, view, views, paired}
+use Rattle.orc_types.specs.Cells.{Cell, null, leaf, list, struct, pairs, cells_of}
+use Rattle.orc_types.specs.Childless.{childless}
+use Rattle.orc_types.specs.Views.{shape, fields, name_and_type, fields_of, view, views, paired}
 use Rattle.orc_types.specs.declared.kind.Scalar.{Scalar as Kind}
 use Rattle.orc_types.specs.declared.tree.Field.{Field}
 use Rattle.orc_types.specs.declared.tree.Tree.{Tree, Scalar as TreeScalar, List as TreeList, Map as TreeMap, Struct as TreeStruct}
 use Rattle.orc_types.specs.declared.value.Value.{Value, List as Rows, Struct as Parts, Map as MapOf}
 use Rattle.orc_types.specs.declared.value.MapPair.{MapPair}
+use Rattle.orc_types.proofs.Listed.{widths_from}
 use Rattle.orc_types.proofs.Views.{shape-Scalar, shape-List, shape-Map, shape-Struct, view-List, view-Struct, view-Map, list_of-views, list_of-paired, name_and_type-is}
 use Rattle.orc_row_text.specs.Layouts.{Part, PairTexts, text_by, part, member_parts, pair_texts, leaf_text, list_text, map_text, struct_text, elements_text, pair_text, pairs_text, parts_text}
 use Rattle.orc_row_text.specs.Texts.{Prints, PrintsStruct, no_name, shape_in, json_in, members_at, ArePlacesInOrder}
 use Rattle.orc_row_text.specs.declared.layout.Layout.{Layout, Leaf, List as ListOf, Map as MapLayout, Struct}
 use Rattle.orc_row_text.specs.declared.layout.Layout.TheFolds.{the_lemmas}
 use Rattle.orc_row_text.specs.declared.layout.Member.{Member}
+use Rattle.orc_row_text.specs.declared.layout.FieldColumns.{FieldColumns}
 use Rattle.orc_row_text.specs.declared.layout.PairLayout.{PairLayout}
 use Rattle.orc_row_text.proofs.Prints.{Entry, prints_leaf, prints_list, prints_map, members_at-insert_entry, members_next}
 
@@ -34,8 +37,8 @@ text_by-Map b = search (rules, the_lemmas)
 pub pair_texts-is : (p : PairLayout) → pair_texts p ≡ (record { key = text_by p.key; value = text_by p.value })
 pair_texts-is p = search (rules, the_lemmas)
 
-pub text_by-Struct : (ms : Vec Member Global) → text_by (Struct ms) ≡ struct_text (member_parts ms.items)
-text_by-Struct ms = search (rules, the_lemmas)
+pub text_by-Struct : (ms : Vec Member Global) (xs : Vec FieldColumns Global) → text_by (Struct ms xs) ≡ struct_text (member_parts ms.items)
+text_by-Struct ms xs = search (rules, the_lemmas)
 
 pub part-is : (m : Member) → part m ≡ (record { key = m.key.items; place = m.place; text = text_by m.layout })
 part-is m = search (rules, the_lemmas)
@@ -51,8 +54,8 @@ laid_list t e o b is u = rw (is, shape-List e o, text_by-List b) (prints_list (t
 pub laid_map : (t : Tree) (k v : Box Tree Global) (o : Vec ℕ Global) (b : Box PairLayout Global) → t ≡ TreeMap k v o → Prints (text_by b.value.key) (shape k.value) → Prints (text_by b.value.value) (shape v.value) → Prints (text_by (MapLayout b)) (shape t)
 laid_map t k v o b is u w = rw (is, shape-Map k v o, text_by-Map b, pair_texts-is b.value) (prints_map (record { key = text_by b.value.key; value = text_by b.value.value }) (shape k.value) (shape v.value) o.items u w)
 
-pub laid_struct : (t : Tree) (fs : Vec Field Global) (o : Vec ℕ Global) (ms : Vec Member Global) → t ≡ TreeStruct fs o → PrintsStruct (struct_text (member_parts ms.items)) (map name_and_type fs.items) → Prints (text_by (Struct ms)) (shape t)
-laid_struct t fs o ms is u = rw (is, shape-Struct fs o, text_by-Struct ms) (u o.items)
+pub laid_struct : (t : Tree) (fs : Vec Field Global) (o : Vec ℕ Global) (ms : Vec Member Global) (xs : Vec FieldColumns Global) → t ≡ TreeStruct fs o → PrintsStruct (struct_text (member_parts ms.items)) (map name_and_type fs.items) → Prints (text_by (Struct ms xs)) (shape t)
+laid_struct t fs o ms xs is u = rw (is, shape-Struct fs o, text_by-Struct ms xs) (u o.items)
 
 -- ---- the text of a list's row, of a map's, and of a struct's
 
@@ -64,12 +67,24 @@ pub printed_map : (l : Layout) (b : Box PairLayout Global) (r : Option Value) (v
     → text_by l (view r) ≡ 91 ∷ pairs_text (pair_texts b.value) false (map paired ps.items)
 printed_map l b r v ps il is at = rw (il, is, at, text_by-Map b, view-Map ps) (ap (λ (qs : List (Cell × Cell)). 91 ∷ pairs_text (pair_texts b.value) false qs) (list_of-paired ps.items))
 
-pub printed_struct : (l : Layout) (ms : Vec Member Global) (r : Option Value) (v : Value) (rows : Vec (Option Value) Global) → l ≡ Struct ms → r ≡ Some v → v ≡ Parts rows
+pub printed_struct : (l : Layout) (ms : Vec Member Global) (xs : Vec FieldColumns Global) (r : Option Value) (v : Value) (rows : Vec (Option Value) Global) → l ≡ Struct ms xs → r ≡ Some v → v ≡ Parts rows
     → text_by l (view r) ≡ 123 ∷ parts_text (member_parts ms.items) (views rows.items)
-printed_struct l ms r v rows il is at = rw (il, is, at, text_by-Struct ms, view-Struct rows) (ap (λ (cs : List Cell). 123 ∷ parts_text (member_parts ms.items) cs) (list_of-views rows.items))
+printed_struct l ms xs r v rows il is at = rw (il, is, at, text_by-Struct ms xs, view-Struct rows) (ap (λ (cs : List Cell). 123 ∷ parts_text (member_parts ms.items) cs) (list_of-views rows.items))
 
 pub printed_member : (m : Member) (cs : List Cell) (ps : List Part) → parts_text (part m ∷ ps) cs ≡ m.key.items ++ (text_by m.layout (get_or cs m.place null) ++ parts_text ps cs)
 printed_member m cs ps = rw (part-is m) refl
+
+-- ---- the text of a value that contains no other, or of one of which nothing is printed
+
+pub leaf_text-childless : (c : Cell) → leaf_text (childless c) ≡ leaf_text c
+leaf_text-childless null = refl
+leaf_text-childless (leaf a) = refl
+leaf_text-childless (list cs) = refl
+leaf_text-childless (struct cs) = refl
+leaf_text-childless (pairs ps) = refl
+
+pub printed_leaf : (l : Layout) (own c : Cell) → l ≡ Leaf → own ≡ childless c → leaf_text own ≡ text_by l c
+printed_leaf l own c il is = rw (il, is, text_by-Leaf) (leaf_text-childless c)
 
 -- ---- one more
 
@@ -129,3 +144,14 @@ places_last fs items i es is le h =
 
 pub shape_placed : (fs : List Field) (i : ℕ) (f : Field) → i < length fs → f ≡ get_or fs i f → shape f.tree ≡ shape_in (map name_and_type fs) i
 shape_placed fs i f lt is = sym (ap (λ (p : List ℕ × Shape). p.1) (get_or-map name_and_type fs i f no_name lt ∙ ap name_and_type (sym is) ∙ name_and_type-is f))
+
+-- a field has no more columns than all fields have
+
+widths_behind : (fs : List Field) (i : ℕ) → widths (fields (drop i fs)) ≤ widths (fields fs)
+widths_behind [] zero = omega arith
+widths_behind [] (suc i) = omega arith
+widths_behind (f ∷ fs) zero = omega arith
+widths_behind (f ∷ fs) (suc i) = let l = widths_behind fs i in omega (arith, l)
+
+pub width_within : (fs : List Field) (i : ℕ) (f : Field) → i < length fs → f ≡ get_or fs i f → width (shape f.tree) ≤ widths (fields fs)
+width_within fs i f lt is = omega (arith, widths_behind fs i, widths_from fs i f lt is)

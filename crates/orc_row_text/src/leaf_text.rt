@@ -6,14 +6,14 @@ ghost use Rattle.serde_json.specs.Written.{compact_text};
 ghost use Rattle.std.specs.Fmt.{signed_decimal};
 ghost use Rattle.orc_types.specs.Days.{has_text as spec_has_text};
 ghost use Rattle.orc_types.specs.JsonLeaves.{date_json};
-ghost use Rattle.orc_types.specs.JsonPrinting.{scalar_json};
-ghost use Rattle.orc_types.specs.Views.{cell_of_value};
+ghost use Rattle.orc_types.specs.Own.{own_cell};
 ghost use Rattle.orc_row_text.specs.Growth.{Grows};
+ghost use Rattle.orc_row_text.specs.Layouts.{leaf_text};
 
 use crate::quoted::push_quoted;
 use jiff_core::civil;
 use jiff_fmt::temporal::DateTimePrinter;
-use orc_types::Value;
+use orc_types::Own;
 use std::alloc::{AllocError, Global};
 
 /// The first day that has a text: 0001-01-01.
@@ -64,23 +64,18 @@ fn push_hex(alloc: Global, octets: &[u8], out: &mut Vec<u8>) -> Result<(), Alloc
     push_quoted(alloc, digits.as_str(), out)
 }
 
-/// Appends a value that contains no other; null stands for one that does.
-pub(crate) fn push_leaf(
-    alloc: Global,
-    value: &Value<'_>,
-    out: &mut Vec<u8>,
-) -> Result<(), AllocError>
-    ensures found { OnOk result (out.new.items
-        ≡ out.old.items ++ compact_text (scalar_json (cell_of_value value.now))) }
+/// Appends a value that contains no other, and null for one that does.
+pub fn push_own(alloc: Global, own: Own<'_>, out: &mut Vec<u8>) -> Result<(), AllocError>
+    ensures found { OnOk result (out.new.items ≡ out.old.items ++ leaf_text (own_cell own.entry)) }
     ensures front { Grows out.old.items out.new.items }
 {
-    match value {
-        Value::Bool(true) => out.extend_from_slice(b"true"),
-        Value::Bool(false) => out.extend_from_slice(b"false"),
-        Value::Int(number) => push_number(*number, out),
-        Value::Date(day) => push_date(alloc, *day, out),
-        Value::Text(text) => push_quoted(alloc, text.as_str(), out),
-        Value::Bytes(octets) => push_hex(alloc, octets.as_slice(), out),
-        Value::List(_) | Value::Struct(_) | Value::Map(_) => out.extend_from_slice(b"null"),
+    match own {
+        Own::Bool(true) => out.extend_from_slice(b"true"),
+        Own::Bool(false) => out.extend_from_slice(b"false"),
+        Own::Int(number) => push_number(number, out),
+        Own::Date(day) => push_date(alloc, day, out),
+        Own::Text(text) => push_quoted(alloc, text, out),
+        Own::Bytes(octets) => push_hex(alloc, octets, out),
+        Own::Null | Own::List(_) | Own::Map(_) | Own::Struct => out.extend_from_slice(b"null"),
     }
 }

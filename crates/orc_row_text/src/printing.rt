@@ -7,13 +7,13 @@ ghost use Rattle.orc_row_text.specs.Growth.{Grows};
 ghost use Rattle.orc_row_text.specs.Layouts.{text_by, member_parts, elements_text, pair_text, pair_texts, pairs_text, parts_text};
 
 use crate::layout::{Layout, Member, PairLayout};
-use crate::leaf_text::push_leaf;
-use orc_types::{MapPair, Row, Value};
+use crate::leaf_text::push_own;
+use orc_types::{MapPair, Row, Value, own_of};
 use std::alloc::{AllocError, Global};
 
 /// Appends the text of a row.
 #[cycle(printing)]
-pub(crate) fn push_text(
+pub fn push_text(
     alloc: Global,
     layout: &Layout,
     row: &Row<'_>,
@@ -26,7 +26,7 @@ pub(crate) fn push_text(
         return out.extend_from_slice(b"null");
     };
     match layout {
-        Layout::Leaf => push_leaf(alloc, value, out),
+        Layout::Leaf => push_own(alloc, own_of(row), out),
         Layout::List(element) => match value {
             Value::List(rows) => push_elements(alloc, element, rows, out),
             _ => out.extend_from_slice(b"null"),
@@ -35,7 +35,7 @@ pub(crate) fn push_text(
             Value::Map(pairs) => push_pairs(alloc, layouts, pairs, out),
             _ => out.extend_from_slice(b"null"),
         },
-        Layout::Struct(members) => match value {
+        Layout::Struct(members, _) => match value {
             Value::Struct(rows) => push_members(alloc, members, rows, out),
             _ => out.extend_from_slice(b"null"),
         },
@@ -43,7 +43,7 @@ pub(crate) fn push_text(
 }
 
 /// Appends a comma, where something stands before.
-fn push_comma_if(later: bool, out: &mut Vec<u8>) -> Result<(), AllocError>
+pub fn push_comma_if(later: bool, out: &mut Vec<u8>) -> Result<(), AllocError>
     ensures found { OnOk result (out.new.items ≡ out.old.items ++ comma_if later) }
     ensures front { Grows out.old.items out.new.items }
 {

@@ -1,5 +1,5 @@
 //! Printing the rows of a schema.
-ghost use Rattle.std.specs.Prelude.{◌≡◌, ◌≢◌, ◌++◌, true, false, IfOk, OnOk, IfErr, OnErr};
+ghost use Rattle.std.specs.Prelude.{◌≡◌, ◌≢◌, ◌++◌, true, false, IfOk, OnOk, IfErr, OnErr, MatchOption};
 ghost use Rattle.serde_json.specs.Written.{compact_text};
 ghost use Rattle.orc_types.specs.FieldNames.{is_distinct};
 ghost use Rattle.orc_types.specs.Fits.{fits};
@@ -7,6 +7,8 @@ ghost use Rattle.orc_types.specs.JsonPrinting.{json_of};
 ghost use Rattle.orc_types.specs.Views.{view};
 ghost use Rattle.orc_types.specs.declared.json_fault.JsonFault.TheVariants as fault;
 ghost use Rattle.orc_row_text.specs.Growth.{Grows};
+ghost use Rattle.orc_row_text.specs.Layouts.{text_by};
+ghost use Rattle.orc_row_text.specs.Texts.{Prints};
 
 use crate::layout::{Layout, layout_of};
 use crate::printing::push_text;
@@ -64,6 +66,17 @@ impl RowPrinter {
             distinct,
             schema: Snapshot::of(schema),
         })
+    }
+
+    /// How the rows are printed; none where some struct of the schema names a field twice, as such rows have no JSON.
+    pub fn layout(&self) -> Option<&Layout>
+        ensures { MatchOption result (is_distinct self.now ≡ false)
+            (λ layout. (is_distinct self.now ≡ true) × Prints (text_by layout.now) self.now) }
+    {
+        if !self.distinct {
+            return None;
+        }
+        Some(&self.layout)
     }
 
     /// Appends the JSON of a row, without blanks: what `serde_json` prints of `row_to_json`'s value. What it

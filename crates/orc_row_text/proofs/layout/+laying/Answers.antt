@@ -4,7 +4,7 @@ use Rattle.serde_json.specs.Written.{comma_if}
 use Rattle.orc_types.specs.Views.{name_and_type}
 use Rattle.orc_row_text.specs.Layouts.{text_by, member_parts}
 use Rattle.orc_row_text.proofs.Prints.{laying_first, laying_next, laying_place, laying_last}
-use Rattle.orc_row_text.proofs.Layouts.{laid_list, laid_map, laid_struct, member_parts_more, shape_placed}
+use Rattle.orc_row_text.proofs.Layouts.{laid_list, laid_map, laid_struct, member_parts_more, shape_placed, width_within}
 use Rattle.orc_row_text.proofs.layout.+laying.Goals as goal
 
 pub layout_of-returns-in_ok-new-in-List : goal.layout_of-returns-in_ok-new-in-List
@@ -18,9 +18,9 @@ layout_of-returns-in_ok-new-in-Map t c =
     (rw (c.in_ok-new-in-Map.ensures.ok, ← c.deref-in-Map.ensures) c.in_ok-key-in-Map.ensures)
     (rw (c.in_ok-new-in-Map.ensures.ok, ← c.deref-in-Map-2.ensures) c.in_ok-value-in-Map.ensures)
 
-pub layout_of-returns-in_ok-members_of-in-Struct : goal.layout_of-returns-in_ok-members_of-in-Struct
-layout_of-returns-in_ok-members_of-in-Struct t c =
-    laid_struct c.args.tree.now c.in-Struct.fields c.in-Struct.field-1 c.in_ok-members_of-in-Struct.field-0 c.in-Struct.is c.in_ok-members_of-in-Struct.ensures
+pub layout_of-returns-in_ok-columns-in-Struct : goal.layout_of-returns-in_ok-columns-in-Struct
+layout_of-returns-in_ok-columns-in-Struct t c =
+    laid_struct c.args.tree.now c.in-Struct.fields c.in-Struct.field-1 c.in_ok-members-in-Struct.members c.in_ok-columns-in-Struct.columns c.in-Struct.is c.in_ok-members-in-Struct.ensures
 
 pub members_of-loop-name-init : goal.members_of-loop-name-init
 members_of-loop-name-init t c =
@@ -32,6 +32,14 @@ members_of-index-field-requires t c =
     let l = c.loop-name in
     let place = laying_place (length c.args.fields.now.items) (map name_and_type c.args.fields.now.items) (member_parts l.members.items) l.later (c.in-Some.name.now, c.in-Some.place.now) l.name-iterator c.next.new.self c.in-Some.ensures.steps l.invariant in
     omega (arith, place, c.args.fields.now.ok.0)
+
+pub members_of-layout_of-requires : goal.members_of-layout_of-requires
+members_of-layout_of-requires t c =
+    let l = c.loop-name in
+    let fs = c.args.fields.now.items in
+    let place = laying_place (length fs) (map name_and_type fs) (member_parts l.members.items) l.later (c.in-Some.name.now, c.in-Some.place.now) l.name-iterator c.next.new.self c.in-Some.ensures.steps l.invariant in
+    let within = width_within fs c.in-Some.place.now c.index-field.result.now place c.index-field.ensures in
+    (omega (arith, within), omega (arith, within, c.requires))
 
 pub members_of-loop-name-preserved : goal.members_of-loop-name-preserved
 members_of-loop-name-preserved t c =

@@ -1,9 +1,10 @@
 use Rattle.std.proofs.Common.{ℕ, List, ◌++◌, false, map, sym, ap, ◌∙◌}
 use Rattle.std.proofs.lemmas.Result.{on_ok_weaker}
 use Rattle.orc_row_text.specs.Layouts.{text_by, member_parts, pair_texts, elements_text, pairs_text, parts_text}
-use Rattle.orc_types.specs.Views.{views, paired}
+use Rattle.orc_types.specs.Own.{own_cell}
+use Rattle.orc_types.specs.Views.{view, views, paired}
 use Rattle.orc_row_text.proofs.Growth.{grows_on}
-use Rattle.orc_row_text.proofs.Layouts.{printed_list, printed_map, printed_struct, elements_next, pairs_next, members_next_text}
+use Rattle.orc_row_text.proofs.Layouts.{printed_leaf, printed_list, printed_map, printed_struct, elements_next, pairs_next, members_next_text}
 use Rattle.orc_row_text.proofs.printing.+printing.Goals as goal
 
 pub push_text-returns-in-List-value-clause-found : goal.push_text-returns-in-List-value-clause-found
@@ -15,7 +16,7 @@ push_text-returns-in-List-value-clause-found t c =
 pub push_text-returns-in-Struct-value-clause-found : goal.push_text-returns-in-Struct-value-clause-found
 push_text-returns-in-Struct-value-clause-found t c =
     on_ok_weaker c.push_members.result (λ e.
-    e ∙ ap (λ (t : List ℕ). c.args.out.now.items ++ t) (sym (printed_struct c.args.layout.now c.in-Struct.members c.args.row.now c.in-Some.value c.in-Struct-value.rows c.in-Struct.is c.in-Some.is c.in-Struct-value.is))) c.push_members.ensures.found
+    e ∙ ap (λ (t : List ℕ). c.args.out.now.items ++ t) (sym (printed_struct c.args.layout.now c.in-Struct.members c.in-Struct.field-1 c.args.row.now c.in-Some.value c.in-Struct-value.rows c.in-Struct.is c.in-Some.is c.in-Struct-value.is))) c.push_members.ensures.found
 
 pub push_elements-loop-row-preserved : goal.push_elements-loop-row-preserved
 push_elements-loop-row-preserved t c = record {
@@ -45,3 +46,8 @@ push_pairs-loop-pair-preserved t c = record {
   grown = grows_on c.push.new.self.items c.loop-pair.out.items c.push_pair.new.out.items c.loop-pair.invariant.grown
       (grows_on c.loop-pair.out.items c.push_comma_if.new.out.items c.push_pair.new.out.items c.push_comma_if.ensures.front c.push_pair.ensures.front);
 }
+
+pub push_text-returns-in-Leaf-clause-found : goal.push_text-returns-in-Leaf-clause-found
+push_text-returns-in-Leaf-clause-found t c =
+    on_ok_weaker c.push_own.result (λ e.
+    e ∙ ap (λ (x : List ℕ). c.args.out.now.items ++ x) (printed_leaf c.args.layout.now (own_cell c.own_of.result) (view c.args.row.now) c.in-Leaf.is c.own_of.ensures)) c.push_own.ensures.found
