@@ -59,7 +59,8 @@ pub fn next_cell<'a>(
 
 /// The next value of a column. Its marks stay as they are.
 #[cycle(reader)]
-fn next_value<'a>(
+#[inline(always)]
+pub fn next_value<'a>(
     alloc: Global,
     tree: &Tree,
     readers: &mut [ColumnReader<'a>],

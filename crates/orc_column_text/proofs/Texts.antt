@@ -1,0 +1,141 @@
+-- Texts of cells, one after the other, and by layouts.
+use Rattle.std.proofs.Common.{rules, ◌≡◌, ℕ, zero, suc, ◌+◌, ◌<◌, ◌≤◌, ◌-◌, List, [], ◌∷◌, ◌++◌, Bool, true, false, length, map, take, drop, get_or, Vec, Box, Global, refl, sym, ap, ◌∙◌, subst, arith, append_assoc, append-nil, length-drop}
+use Rattle.std.proofs.lemmas.List.{get_or-drop}
+use Rattle.std.proofs.Math.Seq.{take-length, drop-cons}
+use Rattle.serde_json.specs.Written.{comma_if}
+use Rattle.orc_types.specs.Cells.{Cell, null, list, struct, pairs, cells_of, pairs_of, list_of_cells}
+use Rattle.orc_types.proofs.Views.{list_of_cells-cells_of, list_of_pairs-pairs_of}
+use Rattle.orc_row_text.specs.Layouts.{Part, PairTexts, text_by, part, member_parts, layout_step, null_text, leaf_text, list_text, struct_text, elements_text, parts_text, pair_text, pair_texts, pairs_text}
+use Rattle.orc_row_text.specs.declared.layout.Layout.{Layout, Leaf, List as ListOf, Map as MapLayout, Struct}
+use Rattle.orc_row_text.specs.declared.layout.Layout.TheFolds.{the_lemmas}
+use Rattle.orc_row_text.specs.declared.layout.Layout.TheOpen.{Layout-F}
+use Rattle.orc_row_text.specs.declared.layout.Member.{Member}
+use Rattle.orc_row_text.specs.declared.layout.FieldColumns.{FieldColumns}
+use Rattle.orc_row_text.specs.declared.layout.PairLayout.{PairLayout}
+use Rattle.orc_row_text.proofs.Layouts.{text_by-Leaf, text_by-List, text_by-Map, text_by-Struct, part-is}
+use Rattle.std.specs.Bool.{OnTrue}
+use Rattle.orc_column_text.specs.Texts.{texts, members_text, AreInPlace}
+
+-- ---- null
+
+null_step : (x : Layout-F (Cell → List ℕ) Part PairTexts) → layout_step x null ≡ null_text
+null_step Layout-F.Leaf = refl
+null_step (Layout-F.List f) = refl
+null_step (Layout-F.Map t) = refl
+null_step (Layout-F.Struct ps xs) = refl
+
+pub null_text_by : (l : Layout) → text_by l null ≡ null_text
+null_text_by l = search (rules, the_lemmas, null_step)
+
+-- ---- one more
+
+-- whether something stands before what comes next
+abbrev pub follows : {X : Type 0} → Bool → List X → Bool
+follows later [] = later
+follows later (x ∷ xs) = true
+
+follows_on : {X : Type 0} (xs : List X) → follows true xs ≡ true
+follows_on [] = refl
+follows_on (x ∷ xs) = refl
+
+pub follows-snoc : {X : Type 0} (later : Bool) (xs : List X) (x : X) → follows later (xs ++ x ∷ []) ≡ true
+follows-snoc later [] x = refl
+follows-snoc later (y ∷ xs) x = refl
+
+pub texts-snoc : {X : Type 0} (f : X → List ℕ) (later : Bool) (xs : List X) (x : X) → texts f later (xs ++ x ∷ []) ≡ texts f later xs ++ (comma_if (follows later xs) ++ f x)
+texts-snoc f later [] x = ap (λ (t : List ℕ). comma_if later ++ t) (append-nil (f x))
+texts-snoc f later (y ∷ xs) x =
+    let rest = texts-snoc f true xs x ∙ ap (λ (b : Bool). texts f true xs ++ (comma_if b ++ f x)) (follows_on xs) in
+    ap (λ (t : List ℕ). comma_if later ++ (f y ++ t)) rest
+    ∙ ap (λ (t : List ℕ). comma_if later ++ t) (sym (append_assoc (f y) (texts f true xs) (comma_if true ++ f x)))
+    ∙ sym (append_assoc (comma_if later) (f y ++ texts f true xs) (comma_if true ++ f x))
+
+-- ---- the text of a list
+
+pub elements-texts : (f : Cell → List ℕ) (later : Bool) (cs : List Cell) → elements_text f later cs ≡ texts f later cs ++ 93 ∷ []
+elements-texts f later [] = refl
+elements-texts f later (c ∷ cs) =
+    ap (λ (t : List ℕ). comma_if later ++ (f c ++ t)) (elements-texts f true cs)
+    ∙ ap (λ (t : List ℕ). comma_if later ++ t) (sym (append_assoc (f c) (texts f true cs) (93 ∷ [])))
+    ∙ sym (append_assoc (comma_if later) (f c ++ texts f true cs) (93 ∷ []))
+
+pub list_printed : (l : Layout) (b : Box Layout Global) (cs : List Cell) → l ≡ ListOf b → text_by l (list (cells_of cs)) ≡ 91 ∷ (texts (text_by b.value) false cs ++ 93 ∷ [])
+list_printed l b cs is =
+    rw (is, text_by-List b)
+    (ap (λ (ds : List Cell). 91 ∷ elements_text (text_by b.value) false ds) (list_of_cells-cells_of cs) ∙ ap (λ (t : List ℕ). 91 ∷ t) (elements-texts (text_by b.value) false cs))
+
+-- ---- the text of a map
+
+pub pairs-texts : (t : PairTexts) (later : Bool) (ps : List (Cell × Cell)) → pairs_text t later ps ≡ texts (pair_text t) later ps ++ 93 ∷ []
+pairs-texts t later [] = refl
+pairs-texts t later (p ∷ ps) =
+    ap (λ (x : List ℕ). comma_if later ++ (pair_text t p ++ x)) (pairs-texts t true ps)
+    ∙ ap (λ (x : List ℕ). comma_if later ++ x) (sym (append_assoc (pair_text t p) (texts (pair_text t) true ps) (93 ∷ [])))
+    ∙ sym (append_assoc (comma_if later) (pair_text t p ++ texts (pair_text t) true ps) (93 ∷ []))
+
+pub map_printed : (l : Layout) (b : Box PairLayout Global) (ps : List (Cell × Cell)) → l ≡ MapLayout b → text_by l (pairs (pairs_of ps)) ≡ 91 ∷ (texts (pair_text (pair_texts b.value)) false ps ++ 93 ∷ [])
+map_printed l b ps is =
+    rw (is, text_by-Map b)
+    (ap (λ (qs : List (Cell × Cell)). 91 ∷ pairs_text (pair_texts b.value) false qs) (list_of_pairs-pairs_of ps) ∙ ap (λ (t : List ℕ). 91 ∷ t) (pairs-texts (pair_texts b.value) false ps))
+
+-- ---- the text of a struct whose fields stand in the order of their names
+
+placed : (all : List Cell) (k : ℕ) (cs : List Cell) → drop k all ≡ cs → get_or all k null ≡ get_or cs 0 null
+placed all k cs e =
+    let n : k + 0 ≡ k = omega arith in
+    ap (λ i. get_or all i null) (sym n) ∙ sym (get_or-drop k all 0 null) ∙ ap (λ (t : List Cell). get_or t 0 null) e
+
+behind : (all : List Cell) (k : ℕ) (cs : List Cell) → drop k all ≡ cs → drop (suc k) all ≡ drop 1 cs
+behind all k cs e = drop_one all k ∙ ap (drop 1) e
+  where
+    drop_one : (all : List Cell) (k : ℕ) → drop (suc k) all ≡ drop 1 (drop k all)
+    drop_one [] zero = refl
+    drop_one [] (suc k) = refl
+    drop_one (c ∷ all) zero = refl
+    drop_one (c ∷ all) (suc k) = drop_one all k
+
+pub in_place_text : (ps : List Part) (k : ℕ) (all cs : List Cell) → drop k all ≡ cs → AreInPlace k ps → parts_text ps all ≡ members_text ps cs
+in_place_text [] k all cs e h = refl
+in_place_text (p ∷ ps) k all [] e h =
+    let own : get_or all p.place null ≡ null = ap (λ i. get_or all i null) h.0 ∙ placed all k [] e in
+    ap (λ (c : Cell). p.key ++ (p.text c ++ parts_text ps all)) own
+    ∙ ap (λ (t : List ℕ). p.key ++ (p.text null ++ t)) (in_place_text ps (suc k) all [] (behind all k [] e) h.1)
+in_place_text (p ∷ ps) k all (c ∷ cs) e h =
+    let own : get_or all p.place null ≡ c = ap (λ i. get_or all i null) h.0 ∙ placed all k (c ∷ cs) e in
+    ap (λ (c : Cell). p.key ++ (p.text c ++ parts_text ps all)) own
+    ∙ ap (λ (t : List ℕ). p.key ++ (p.text c ++ t)) (in_place_text ps (suc k) all cs (behind all k (c ∷ cs) e) h.1)
+
+pub struct_printed : (l : Layout) (ms : Vec Member Global) (xs : Vec FieldColumns Global) (cs : List Cell) → l ≡ Struct ms xs → AreInPlace 0 (member_parts ms.items) → text_by l (struct (cells_of cs)) ≡ 123 ∷ members_text (member_parts ms.items) cs
+struct_printed l ms xs cs is h =
+    rw (is, text_by-Struct ms xs)
+    (ap (λ (ds : List Cell). 123 ∷ parts_text (member_parts ms.items) ds) (list_of_cells-cells_of cs) ∙ ap (λ (t : List ℕ). 123 ∷ t) (in_place_text (member_parts ms.items) 0 cs cs refl h))
+
+-- the first member and those behind it
+pub first_member : (ms : List Member) (m : Member) → 1 ≤ length ms → m ≡ get_or ms 0 m
+    → member_parts ms ≡ (record { key = m.key.items; place = m.place; text = text_by m.layout }) ∷ member_parts (take (length ms - 1) (drop 1 ms))
+first_member [] m h is = absurd (omega (arith, h))
+first_member (x ∷ ms) m h is =
+    let k : length (x ∷ ms) - 1 ≡ length ms = omega arith in
+    let rest : take (length (x ∷ ms) - 1) ms ≡ ms = ap (λ n. take n ms) k ∙ take-length ms in
+    let own : part x ≡ record { key = m.key.items; place = m.place; text = text_by m.layout } = ap part (sym is) ∙ part-is m in
+    ap (λ (p : Part). p ∷ member_parts ms) own ∙ ap (λ (ns : List Member). (record { key = m.key.items; place = m.place; text = text_by m.layout }) ∷ member_parts ns) (sym rest)
+
+pub no_member : (ms : List Member) → length ms < 1 → member_parts ms ≡ []
+no_member [] h = refl
+no_member (m ∷ ms) h = absurd (omega (arith, h))
+
+-- the first is in place, and those behind it are if a test says so
+pub in_place_more : (r : Bool) (ms : List Member) (m : Member) (place next : ℕ) → 1 ≤ length ms → m ≡ get_or ms 0 m → m.place ≡ place → next ≡ place + 1
+    → OnTrue r (AreInPlace next (member_parts (take (length ms - 1) (drop 1 ms)))) → OnTrue r (AreInPlace place (member_parts ms))
+in_place_more false ms m place next h is e n others = tt
+in_place_more true ms m place next h is e n others =
+    let k : next ≡ suc place = omega (arith, n) in
+    let ps = member_parts (take (length ms - 1) (drop 1 ms)) in
+    rw (first_member ms m h is) (e, subst (λ (i : ℕ). AreInPlace i ps) k others)
+
+pub others_counted : {X : Type 0} (xs : List X) → 1 ≤ length xs → length (take (length xs - 1) (drop 1 xs)) + 1 ≡ length xs
+others_counted [] h = absurd (omega (arith, h))
+others_counted (x ∷ xs) h =
+    let k : length (x ∷ xs) - 1 ≡ length xs = omega arith in
+    let rest : take (length (x ∷ xs) - 1) xs ≡ xs = ap (λ n. take n xs) k ∙ take-length xs in
+    omega (arith, ap length rest)

@@ -1,0 +1,357 @@
+use Rattle.std.proofs.Common.{rules, ◌≡◌, ℕ, suc, ◌+◌, false, subst, [], ◌∷◌, map, length, take, drop, ◌-◌, ◌++◌, append-nil, string_bytes, get_or, sym, ap, ◌∙◌, arith}
+use Rattle.orc_types.specs.Cells.{null}
+use Rattle.orc_types.specs.Shapes.{width}
+use Rattle.orc_types.specs.Views.{shape}
+use Rattle.orc_types.specs.Views.{fields as fields_view}
+use Rattle.orc_types.proofs.Views.{shape-List, shape-Map, shape-Struct}
+use Rattle.orc_columns.specs.Columns.{CellsLeft, PairsLeft}
+use Rattle.orc_columns.proofs.Arms.{some_width, fields_put, fields_behind, cell_null, cell_lacks, own_list_lacks, own_map_lacks, own_struct_lacks, list_taken, list_lacking, map_taken, map_lacking, cells_lacking, first_counted, no_fields, first_field, fields_none, fields_lack_first, fields_lack_others, fields_counted}
+use Rattle.orc_columns.specs.declared.column.ColumnReader.{ColumnReader}
+use Rattle.orc_columns.specs.ReaderFaults.{CellsMeet, PairsMeet}
+use Rattle.orc_columns.proofs.FaultLemmas.{cell_before, null_before, cell_now, cell_mark, scalar_before, own_scalar, list_before, lists_own, own_lists, struct_before, own_struct_meets, fields_before, lists_size, lists_elements, map_before, maps_own, own_maps, maps_size, maps_pairs, pair_before, fields_first_fault, fields_others_fault}
+use Rattle.orc_row_text.specs.Layouts.{text_by, member_parts, pair_text, pair_texts}
+use Rattle.orc_column_text.specs.Texts.{texts, members_text}
+use Rattle.orc_column_text.proofs.Texts.{first_member, no_member, null_text_by}
+use Rattle.orc_column_text.proofs.Taken.{bracketed, passed_next, passed_all, value_taken, list_taken_text, map_taken_text, pair_taken, struct_taken_text, fields_taken}
+use Rattle.orc_column_text.proofs.cells.+cells.Goals as goal
+
+-- ---- so many cells
+
+pub push_cells-loop-taken-preserved : goal.push_cells-loop-taken-preserved
+push_cells-loop-taken-preserved t c = record {
+  passed = passed_next (CellsLeft (shape c.args.tree.now) c.args.readers.now) (CellsLeft (shape c.args.tree.now) c.loop-taken.readers) (CellsLeft (shape c.args.tree.now) c.push_cell.new.readers) (text_by c.args.layout.now)
+      c.loop-taken.later c.loop-taken.taken c.args.out.now.items c.loop-taken.out.items c.push_comma_if.new.out.items c.push_cell.new.out.items c.in_ok-push_comma_if.ensures.found c.in-Ok.ensures.found c.loop-taken.invariant.passed;
+  counted = search rules;
+  before = λ all n f h.
+      let e : c.loop-taken.taken + suc n ≡ c.loop-taken.taken + 1 + n = omega arith in
+      subst (λ k. CellsMeet (shape c.args.tree.now) c.args.readers.now all k f) e (c.loop-taken.invariant.before all (suc n) f (c.in-Ok.ensures.before all n f h));
+}
+
+pub push_cells-returns-in-Err-clause-none : goal.push_cells-returns-in-Err-clause-none
+push_cells-returns-in-Err-clause-none t c =
+    λ memory. cells_lacking (CellsLeft (shape c.args.tree.now) c.args.readers.now) (CellsLeft (shape c.args.tree.now) c.loop-taken.readers) c.loop-taken.invariant.passed.all c.loop-taken.taken c.args.count
+    c.loop-taken.invariant.passed.counted c.loop-taken-test.true c.loop-taken.invariant.passed.taken (c.in-Err.ensures.none memory)
+
+pub push_cells-returns-clause-found : goal.push_cells-returns-clause-found
+push_cells-returns-clause-found t c =
+    let e : c.loop-taken.taken ≡ c.args.count = let e = c.loop-taken.auto.taken-end in omega (arith, e, c.loop-taken-test.false) in
+    passed_all (CellsLeft (shape c.args.tree.now) c.args.readers.now) (CellsLeft (shape c.args.tree.now) c.loop-taken.readers) (text_by c.args.layout.now) c.loop-taken.later c.loop-taken.taken c.args.count
+    c.args.out.now.items c.loop-taken.out.items e c.loop-taken.invariant.passed
+
+pub push_cells-returns-in-Err-clause-fault : goal.push_cells-returns-in-Err-clause-fault
+push_cells-returns-in-Err-clause-fault t c = λ memory n.
+    let more : ℕ = c.args.count + n - c.loop-taken.taken - 1 in
+    let e : c.loop-taken.taken + suc more ≡ c.args.count + n = omega (arith, c.loop-taken-test.true) in
+    subst (λ k. CellsMeet (shape c.args.tree.now) c.args.readers.now false k c.in-Err.fault) e (c.loop-taken.invariant.before false (suc more) c.in-Err.fault (c.in-Err.ensures.fault memory more))
+
+pub push_cells-returns-clause-before : goal.push_cells-returns-clause-before
+push_cells-returns-clause-before t c = λ all n f h.
+    let e : c.loop-taken.taken + n ≡ c.args.count + n = omega (arith, c.loop-taken.auto.taken-end, c.loop-taken-test.false) in
+    subst (λ k. CellsMeet (shape c.args.tree.now) c.args.readers.now all k f) e (c.loop-taken.invariant.before all n f h)
+
+-- ---- a cell
+
+pub push_cell-returns-in-Ok-clause-found : goal.push_cell-returns-in-Ok-clause-found
+push_cell-returns-in-Ok-clause-found t c =
+    let w = some_width (shape c.args.tree.now) in
+    let f = c.in-Ok-true.ensures.found in
+    value_taken (shape c.args.tree.now) (text_by c.args.layout.now) c.args.readers.now c.push_value.new.readers c.next_present.new.reader c.index-readers-0.result c.args.out.now.items c.push_value.new.out.items
+    (omega (arith, c.requires, w)) c.push_value.auto.readers c.in-Ok-true.ensures.source (rw c.in-Ok-true.field-0-test at f) c.in-Ok.ensures.found c.in-Ok.ensures.marks
+
+pub push_cell-returns-in-Err-push_value-clause-none : goal.push_cell-returns-in-Err-push_value-clause-none
+push_cell-returns-in-Err-push_value-clause-none t c = λ memory.
+    let w = some_width (shape c.args.tree.now) in
+    let f = c.in-Ok-true.ensures.found in
+    cell_lacks (shape c.args.tree.now) c.args.readers.now c.next_present.new.reader c.index-readers-0.result (omega (arith, c.requires, w))
+    c.in-Ok-true.ensures.source (rw c.in-Ok-true.field-0-test at f) (c.in-Err-push_value.ensures.none memory)
+
+pub push_cell-returns-in_ok-extend_from_slice-in-Ok-false-clause-found : goal.push_cell-returns-in_ok-extend_from_slice-in-Ok-false-clause-found
+push_cell-returns-in_ok-extend_from_slice-in-Ok-false-clause-found t c =
+    let w = some_width (shape c.args.tree.now) in
+    let f = c.in-Ok-false.ensures.found in
+    record {
+      one = null;
+      taken = cell_null (shape c.args.tree.now) c.args.readers.now c.next_present.new.reader c.index-readers-0.result (omega (arith, c.requires, w))
+          c.in-Ok-false.ensures.source (rw c.in-Ok-false.field-0-test at f);
+      put = c.in_ok-extend_from_slice-in-Ok-false.ensures.items ∙ ap (λ t. c.args.out.now.items ++ t) (sym (null_text_by c.args.layout.now));
+    }
+
+pub push_cell-returns-in-Err-push_value-clause-fault : goal.push_cell-returns-in-Err-push_value-clause-fault
+push_cell-returns-in-Err-push_value-clause-fault t c = λ memory n.
+    let w = some_width (shape c.args.tree.now) in
+    let f = c.in-Ok-true.ensures.first in
+    cell_now (shape c.args.tree.now) c.args.readers.now c.next_present.new.reader c.index-readers-0.result n c.in-Err-push_value.fault (omega (arith, c.requires, w)) c.in-Ok-true.ensures.source (rw c.in-Ok-true.field-0-test at f) (c.in-Err-push_value.ensures.fault memory 0)
+
+pub push_cell-returns-in-Err-clause-fault : goal.push_cell-returns-in-Err-clause-fault
+push_cell-returns-in-Err-clause-fault t c = λ memory n.
+    let w = some_width (shape c.args.tree.now) in
+    cell_mark (shape c.args.tree.now) c.args.readers.now c.index-readers-0.result false (suc n) c.in-Err.fault (omega (arith, c.requires, w)) (c.in-Err.ensures.fault memory n)
+
+pub push_cell-returns-in-Ok-clause-before : goal.push_cell-returns-in-Ok-clause-before
+push_cell-returns-in-Ok-clause-before t c = λ all n f h.
+    let w = some_width (shape c.args.tree.now) in
+    let first = c.in-Ok-true.ensures.first in
+    cell_before (shape c.args.tree.now) c.args.readers.now c.push_value.new.readers c.next_present.new.reader c.index-readers-0.result all n f (omega (arith, c.requires, w)) c.push_value.auto.readers
+    c.in-Ok-true.ensures.source (rw c.in-Ok-true.field-0-test at first) c.in-Ok-true.ensures.before c.in-Ok.ensures.column c.in-Ok.ensures.marks (λ v. c.in-Ok.ensures.before all v f) h
+
+pub push_cell-returns-in_ok-extend_from_slice-in-Ok-false-clause-before : goal.push_cell-returns-in_ok-extend_from_slice-in-Ok-false-clause-before
+push_cell-returns-in_ok-extend_from_slice-in-Ok-false-clause-before t c = λ all n f h.
+    let w = some_width (shape c.args.tree.now) in
+    let first = c.in-Ok-false.ensures.first in
+    null_before (shape c.args.tree.now) c.args.readers.now c.next_present.new.reader c.index-readers-0.result all n f (omega (arith, c.requires, w)) c.in-Ok-false.ensures.source (rw c.in-Ok-false.field-0-test at first) c.in-Ok-false.ensures.before h
+
+-- ---- a list
+
+pub push_list-returns-in_ok-push-in-Ok-push_cells-clause-found : goal.push_list-returns-in_ok-push-in-Ok-push_cells-clause-found
+push_list-returns-in_ok-push-in-Ok-push_cells-clause-found t c =
+    let f = c.in-Ok-push_cells.ensures.found in
+    record {
+      one = f.all;
+      taken = list_taken (shape c.args.element.now) c.args.readers.now c.push_cells.new.readers (record { present = (get_or c.args.readers.now 0 c.index-readers-0.result).present; source = c.next_size.new.source }) c.index-readers-0.result c.in-Ok.size f.all (omega (arith, c.requires))
+          c.in-Ok.ensures.found c.in-Ok.ensures.room.0 c.in-Ok.ensures.room.1 f.counted f.taken;
+      put = bracketed c.args.out.now.items c.push.new.self.items c.push_cells.new.out.items c.push-in-Ok-push_cells.new.self.items (texts (text_by c.args.layout.now) false f.all) c.in_ok-push-in-Ok.ensures.items f.put c.in_ok-push-in-Ok-push_cells.ensures.items;
+    }
+
+pub push_list-returns-in-Err-push_cells-clause-none : goal.push_list-returns-in-Err-push_cells-clause-none
+push_list-returns-in-Err-push_cells-clause-none t c = λ memory.
+    list_lacking (shape c.args.element.now) c.args.readers.now (record { present = (get_or c.args.readers.now 0 c.index-readers-0.result).present; source = c.next_size.new.source }) c.index-readers-0.result c.in-Ok.size
+    c.in-Ok.ensures.found (c.in-Err-push_cells.ensures.none memory)
+
+pub push_list-returns-in-Err-push_cells-clause-fault : goal.push_list-returns-in-Err-push_cells-clause-fault
+push_list-returns-in-Err-push_cells-clause-fault t c = λ memory n.
+    let own : ColumnReader = record { present = (get_or c.args.readers.now 0 c.index-readers-0.result).present; source = c.next_size.new.source } in
+    lists_elements (shape c.args.element.now) c.args.readers.now c.index-readers-0.result own n c.in-Ok.size c.in-Err-push_cells.fault (omega (arith, c.requires)) c.in-Ok.ensures.first (c.in-Err-push_cells.ensures.fault memory 0)
+
+pub push_list-returns-in-Err-clause-fault : goal.push_list-returns-in-Err-clause-fault
+push_list-returns-in-Err-clause-fault t c = λ memory n.
+    lists_size (shape c.args.element.now) c.args.readers.now c.index-readers-0.result false (suc n) c.in-Err.fault (omega (arith, c.requires)) (c.in-Err.ensures.fault memory n)
+
+pub push_list-returns-in_ok-push-in-Ok-push_cells-clause-before : goal.push_list-returns-in_ok-push-in-Ok-push_cells-clause-before
+push_list-returns-in_ok-push-in-Ok-push_cells-clause-before t c = λ all n f h.
+    let own : ColumnReader = record { present = (get_or c.args.readers.now 0 c.index-readers-0.result).present; source = c.next_size.new.source } in
+    list_before (shape c.args.element.now) c.args.readers.now c.push_cells.new.readers c.index-readers-0.result own all n c.in-Ok.size f (omega (arith, c.requires)) c.in-Ok.ensures.first (c.in-Ok.ensures.before all n f)
+    (λ m. c.in-Ok-push_cells.ensures.before all m f) h
+
+-- ---- a value
+
+pub push_value-returns-in-Ok-push_list-clause-found : goal.push_value-returns-in-Ok-push_list-clause-found
+push_value-returns-in-Ok-push_list-clause-found t c =
+    let w = some_width (shape c.args.tree.now) in
+    let f = c.in-Ok-push_list.ensures.found in
+    list_taken_text (shape c.args.tree.now) (shape c.in-List.element.value) c.in-List.field-1.items c.args.layout.now c.in-List-layout.inner c.args.readers.now c.push_list.new.readers c.args.out.now.items c.push_list.new.out.items
+    (ap shape c.in-List.is ∙ shape-List c.in-List.element c.in-List.field-1) c.in-List-layout.is (omega (arith, c.requires, w)) c.push_list.auto.readers (rw (c.deref.ensures, c.deref-in-List-layout.ensures) at f)
+
+pub push_value-returns-in-Err-push_list-clause-none : goal.push_value-returns-in-Err-push_list-clause-none
+push_value-returns-in-Err-push_list-clause-none t c = λ memory.
+    let f = c.in-Err-push_list.ensures.none memory in
+    own_list_lacks (shape c.args.tree.now) (shape c.in-List.element.value) c.in-List.field-1.items c.args.readers.now
+    (ap shape c.in-List.is ∙ shape-List c.in-List.element c.in-List.field-1) (rw c.deref.ensures at f)
+
+pub push_value-returns-in-Err-push_list-clause-fault : goal.push_value-returns-in-Err-push_list-clause-fault
+push_value-returns-in-Err-push_list-clause-fault t c = λ memory n.
+    let f = c.in-Err-push_list.ensures.fault memory n in
+    lists_own (shape c.args.tree.now) (shape c.in-List.element.value) c.in-List.field-1.items c.args.readers.now false (suc n) c.in-Err-push_list.fault (ap shape c.in-List.is ∙ shape-List c.in-List.element c.in-List.field-1) (rw c.deref.ensures at f)
+
+pub push_value-returns-in-Ok-push_list-clause-before : goal.push_value-returns-in-Ok-push_list-clause-before
+push_value-returns-in-Ok-push_list-clause-before t c = λ all n f h.
+    let b = c.in-Ok-push_list.ensures.before all n f in
+    let k = rw c.deref.ensures at b in
+    lists_own (shape c.args.tree.now) (shape c.in-List.element.value) c.in-List.field-1.items c.args.readers.now all (suc n) f (ap shape c.in-List.is ∙ shape-List c.in-List.element c.in-List.field-1)
+    (k (own_lists (shape c.args.tree.now) (shape c.in-List.element.value) c.in-List.field-1.items c.push_list.new.readers all n f (ap shape c.in-List.is ∙ shape-List c.in-List.element c.in-List.field-1) h))
+
+-- ---- fields
+
+pub push_fields-returns-in_ok-push-in-empty-clause-found : goal.push_fields-returns-in_ok-push-in-empty-clause-found
+push_fields-returns-in_ok-push-in-empty-clause-found t c = record {
+  one = [];
+  taken = fields_none (fields_view c.args.fields.now) c.args.readers.now (no_fields c.args.fields.now c.in-empty.len_below);
+  put = c.in_ok-push-in-empty.ensures.items ∙ ap (λ ps. c.args.out.now.items ++ members_text ps []) (sym (no_member c.args.members.now (omega (arith, c.in-empty.len_below, c.requires.as_many))));
+}
+
+pub push_fields-returns-in-Ok-push_fields-clause-found : goal.push_fields-returns-in-Ok-push_fields-clause-found
+push_fields-returns-in-Ok-push_fields-clause-found t c =
+    let e = first_field c.args.fields.now c.first-item.result c.in-len1-up.len_at_least c.first-item.is in
+    let we = c.own_width-own.ensures in
+    let n : length c.push_cell.new.readers ≡ c.own_width-own.result = fields_counted (fields_view c.args.fields.now) (string_bytes c.first-item.result.name) (shape c.first-item.result.tree) (fields_view (take (length c.args.fields.now - 1) (drop 1 c.args.fields.now))) c.args.readers.now c.push_cell.new.readers c.own_width-own.result e we c.requires.counted c.push_cell.auto.readers in
+    fields_taken (fields_view c.args.fields.now) (string_bytes c.first-item.result.name) (shape c.first-item.result.tree) (fields_view (take (length c.args.fields.now - 1) (drop 1 c.args.fields.now)))
+    (record { key = c.member-item.result.key.items; place = c.member-item.result.place; text = text_by c.member-item.result.layout }) (member_parts (take (length c.args.members.now - 1) (drop 1 c.args.members.now))) (member_parts c.args.members.now)
+    c.args.readers.now _ (take c.own_width-own.result c.args.readers.now) c.push_cell.new.readers _ c.push_fields.new.readers c.args.out.now.items c.extend_from_slice.new.self.items c.push_cell.new.out.items c.push_fields.new.out.items
+    e (ap (λ k. take k c.args.readers.now) we) (fields_behind c.own_width-own.result c.args.readers.now c.push_cell.new.readers n ∙ ap (λ k. drop k c.args.readers.now) we)
+    (fields_put c.own_width-own.result c.args.readers.now c.push_cell.new.readers c.push_fields.new.readers n) (n ∙ we)
+    (first_member c.args.members.now c.member-item.result c.in-len1-up-members.len_at_least c.member-item.is) (c.in_ok-extend_from_slice-in-len1-up-members.ensures.items ∙ ap (λ t. c.args.out.now.items ++ t) c.deref.ensures.value) c.in-Ok.ensures.found c.in-Ok-push_fields.ensures.found
+
+pub push_fields-returns-in-Err-clause-none : goal.push_fields-returns-in-Err-clause-none
+push_fields-returns-in-Err-clause-none t c = λ memory.
+    fields_lack_first (fields_view c.args.fields.now) (string_bytes c.first-item.result.name) (shape c.first-item.result.tree) (fields_view (take (length c.args.fields.now - 1) (drop 1 c.args.fields.now))) c.args.readers.now (take c.own_width-own.result c.args.readers.now)
+    (first_field c.args.fields.now c.first-item.result c.in-len1-up.len_at_least c.first-item.is) (ap (λ k. take k c.args.readers.now) c.own_width-own.ensures) (c.in-Err.ensures.none memory)
+
+pub push_fields-returns-in-Err-push_fields-clause-none : goal.push_fields-returns-in-Err-push_fields-clause-none
+push_fields-returns-in-Err-push_fields-clause-none t c = λ memory.
+    let e = first_field c.args.fields.now c.first-item.result c.in-len1-up.len_at_least c.first-item.is in
+    let we = c.own_width-own.ensures in
+    let n : length c.push_cell.new.readers ≡ c.own_width-own.result = fields_counted (fields_view c.args.fields.now) (string_bytes c.first-item.result.name) (shape c.first-item.result.tree) (fields_view (take (length c.args.fields.now - 1) (drop 1 c.args.fields.now))) c.args.readers.now c.push_cell.new.readers c.own_width-own.result e we c.requires.counted c.push_cell.auto.readers in
+    fields_lack_others (fields_view c.args.fields.now) (string_bytes c.first-item.result.name) (shape c.first-item.result.tree) (fields_view (take (length c.args.fields.now - 1) (drop 1 c.args.fields.now))) c.args.readers.now _
+    e (fields_behind c.own_width-own.result c.args.readers.now c.push_cell.new.readers n ∙ ap (λ k. drop k c.args.readers.now) we) (c.in-Err-push_fields.ensures.none memory)
+
+pub push_fields-returns-in-Err-clause-fault : goal.push_fields-returns-in-Err-clause-fault
+push_fields-returns-in-Err-clause-fault t c = λ memory n.
+    fields_first_fault (fields_view c.args.fields.now) (string_bytes c.first-item.result.name) (shape c.first-item.result.tree) (fields_view (take (length c.args.fields.now - 1) (drop 1 c.args.fields.now))) c.args.readers.now (take c.own_width-own.result c.args.readers.now) false (suc n) c.in-Err.fault
+    (first_field c.args.fields.now c.first-item.result c.in-len1-up.len_at_least c.first-item.is) (ap (λ k. take k c.args.readers.now) c.own_width-own.ensures) (c.in-Err.ensures.fault memory n)
+
+pub push_fields-returns-in-Err-push_fields-clause-fault : goal.push_fields-returns-in-Err-push_fields-clause-fault
+push_fields-returns-in-Err-push_fields-clause-fault t c = λ memory n.
+    let e = first_field c.args.fields.now c.first-item.result c.in-len1-up.len_at_least c.first-item.is in
+    let we = c.own_width-own.ensures in
+    let l : length c.push_cell.new.readers ≡ c.own_width-own.result = fields_counted (fields_view c.args.fields.now) (string_bytes c.first-item.result.name) (shape c.first-item.result.tree) (fields_view (take (length c.args.fields.now - 1) (drop 1 c.args.fields.now))) c.args.readers.now c.push_cell.new.readers c.own_width-own.result e we c.requires.counted c.push_cell.auto.readers in
+    fields_others_fault (fields_view c.args.fields.now) (string_bytes c.first-item.result.name) (shape c.first-item.result.tree) (fields_view (take (length c.args.fields.now - 1) (drop 1 c.args.fields.now))) c.args.readers.now _ false (suc n) c.in-Err-push_fields.fault
+    e (fields_behind c.own_width-own.result c.args.readers.now c.push_cell.new.readers l ∙ ap (λ k. drop k c.args.readers.now) we) (c.in-Err-push_fields.ensures.fault memory n)
+
+pub push_fields-returns-in-Ok-push_fields-clause-before : goal.push_fields-returns-in-Ok-push_fields-clause-before
+push_fields-returns-in-Ok-push_fields-clause-before t c = λ all n f h.
+    let e = first_field c.args.fields.now c.first-item.result c.in-len1-up.len_at_least c.first-item.is in
+    let we = c.own_width-own.ensures in
+    let l : length c.push_cell.new.readers ≡ c.own_width-own.result = fields_counted (fields_view c.args.fields.now) (string_bytes c.first-item.result.name) (shape c.first-item.result.tree) (fields_view (take (length c.args.fields.now - 1) (drop 1 c.args.fields.now))) c.args.readers.now c.push_cell.new.readers c.own_width-own.result e we c.requires.counted c.push_cell.auto.readers in
+    fields_before (fields_view c.args.fields.now) (string_bytes c.first-item.result.name) (shape c.first-item.result.tree) (fields_view (take (length c.args.fields.now - 1) (drop 1 c.args.fields.now))) c.args.readers.now _ (take c.own_width-own.result c.args.readers.now) c.push_cell.new.readers _ c.push_fields.new.readers all n f
+    e (ap (λ k. take k c.args.readers.now) we) (fields_behind c.own_width-own.result c.args.readers.now c.push_cell.new.readers l ∙ ap (λ k. drop k c.args.readers.now) we)
+    (fields_put c.own_width-own.result c.args.readers.now c.push_cell.new.readers c.push_fields.new.readers l) (l ∙ we) (c.in-Ok.ensures.before all n f) (c.in-Ok-push_fields.ensures.before all n f) h
+
+-- ---- a struct
+
+pub push_value-returns-in-Ok-push_fields-clause-found : goal.push_value-returns-in-Ok-push_fields-clause-found
+push_value-returns-in-Ok-push_fields-clause-found t c =
+    let w = some_width (shape c.args.tree.now) in
+    let f = c.in-Ok-push_fields.ensures.found in
+    let places = c.if-are_in_place.ensures in
+    struct_taken_text (shape c.args.tree.now) (fields_view c.in-Struct.fields.items) c.in-Struct.field-1.items c.args.layout.now c.in-Struct-layout.members c.in-Struct-layout.field-1 c.args.readers.now c.push_fields.new.readers c.args.out.now.items c.push.new.self.items c.push_fields.new.out.items
+    (ap shape c.in-Struct.is ∙ shape-Struct c.in-Struct.fields c.in-Struct.field-1) c.in-Struct-layout.is places.1 (omega (arith, c.requires, w)) c.in_ok-push-in-Struct-layout.ensures.items (rw (c.deref-then-are_in_place.ensures.value, c.deref-then-are_in_place-2.ensures.value) at f)
+
+pub push_value-returns-in-Err-push_fields-clause-none : goal.push_value-returns-in-Err-push_fields-clause-none
+push_value-returns-in-Err-push_fields-clause-none t c = λ memory.
+    let f = c.in-Err-push_fields.ensures.none memory in
+    own_struct_lacks (shape c.args.tree.now) (fields_view c.in-Struct.fields.items) c.in-Struct.field-1.items c.args.readers.now
+    (ap shape c.in-Struct.is ∙ shape-Struct c.in-Struct.fields c.in-Struct.field-1) (rw c.deref-then-are_in_place.ensures.value at f)
+
+pub push_value-returns-in-Err-push_fields-clause-fault : goal.push_value-returns-in-Err-push_fields-clause-fault
+push_value-returns-in-Err-push_fields-clause-fault t c = λ memory n.
+    let w = some_width (shape c.args.tree.now) in
+    let f = c.in-Err-push_fields.ensures.fault memory n in
+    own_struct_meets (shape c.args.tree.now) (fields_view c.in-Struct.fields.items) c.in-Struct.field-1.items c.args.readers.now false (suc n) c.in-Err-push_fields.fault (ap shape c.in-Struct.is ∙ shape-Struct c.in-Struct.fields c.in-Struct.field-1) (omega (arith, c.requires, w)) (rw c.deref-then-are_in_place.ensures.value at f)
+
+pub push_value-returns-in-Ok-push_fields-clause-before : goal.push_value-returns-in-Ok-push_fields-clause-before
+push_value-returns-in-Ok-push_fields-clause-before t c = λ all n f h.
+    let w = some_width (shape c.args.tree.now) in
+    let b = c.in-Ok-push_fields.ensures.before all n f in
+    struct_before (shape c.args.tree.now) (fields_view c.in-Struct.fields.items) c.in-Struct.field-1.items c.args.readers.now c.push_fields.new.readers all n f (ap shape c.in-Struct.is ∙ shape-Struct c.in-Struct.fields c.in-Struct.field-1) (omega (arith, c.requires, w)) (rw c.deref-then-are_in_place.ensures.value at b) h
+
+-- ---- a map
+
+pub push_pairs-loop-taken-preserved : goal.push_pairs-loop-taken-preserved
+push_pairs-loop-taken-preserved t c =
+    let k = shape c.args.key.now in
+    let v = shape c.args.value.now in
+    record {
+      passed = passed_next (PairsLeft k v c.args.readers.now) (PairsLeft k v c.loop-taken.readers) (PairsLeft k v c.push_pair.new.readers) (pair_text (pair_texts c.args.layouts.now))
+          c.loop-taken.later c.loop-taken.taken c.args.out.now.items c.loop-taken.out.items c.push_comma_if.new.out.items c.push_pair.new.out.items c.in_ok-push_comma_if.ensures.found c.in-Ok.ensures.found c.loop-taken.invariant.passed;
+      counted = search rules;
+      before = λ all n f h.
+          let e : c.loop-taken.taken + suc n ≡ c.loop-taken.taken + 1 + n = omega arith in
+          subst (λ m. PairsMeet k v c.args.readers.now all m f) e (c.loop-taken.invariant.before all (suc n) f (c.in-Ok.ensures.before all n f h));
+    }
+
+pub push_pairs-returns-in-Err-clause-none : goal.push_pairs-returns-in-Err-clause-none
+push_pairs-returns-in-Err-clause-none t c =
+    λ memory. cells_lacking (PairsLeft (shape c.args.key.now) (shape c.args.value.now) c.args.readers.now) (PairsLeft (shape c.args.key.now) (shape c.args.value.now) c.loop-taken.readers) c.loop-taken.invariant.passed.all c.loop-taken.taken c.args.count
+    c.loop-taken.invariant.passed.counted c.loop-taken-test.true c.loop-taken.invariant.passed.taken (c.in-Err.ensures.none memory)
+
+pub push_pairs-returns-clause-found : goal.push_pairs-returns-clause-found
+push_pairs-returns-clause-found t c =
+    let e : c.loop-taken.taken ≡ c.args.count = let e = c.loop-taken.auto.taken-end in omega (arith, e, c.loop-taken-test.false) in
+    passed_all (PairsLeft (shape c.args.key.now) (shape c.args.value.now) c.args.readers.now) (PairsLeft (shape c.args.key.now) (shape c.args.value.now) c.loop-taken.readers) (pair_text (pair_texts c.args.layouts.now)) c.loop-taken.later c.loop-taken.taken c.args.count
+    c.args.out.now.items c.loop-taken.out.items e c.loop-taken.invariant.passed
+
+pub push_pairs-returns-in-Err-clause-fault : goal.push_pairs-returns-in-Err-clause-fault
+push_pairs-returns-in-Err-clause-fault t c = λ memory n.
+    let more : ℕ = c.args.count + n - c.loop-taken.taken - 1 in
+    let e : c.loop-taken.taken + suc more ≡ c.args.count + n = omega (arith, c.loop-taken-test.true) in
+    subst (λ m. PairsMeet (shape c.args.key.now) (shape c.args.value.now) c.args.readers.now false m c.in-Err.fault) e (c.loop-taken.invariant.before false (suc more) c.in-Err.fault (c.in-Err.ensures.fault memory more))
+
+pub push_pairs-returns-clause-before : goal.push_pairs-returns-clause-before
+push_pairs-returns-clause-before t c = λ all n f h.
+    let e : c.loop-taken.taken + n ≡ c.args.count + n = omega (arith, c.loop-taken.auto.taken-end, c.loop-taken-test.false) in
+    subst (λ m. PairsMeet (shape c.args.key.now) (shape c.args.value.now) c.args.readers.now all m f) e (c.loop-taken.invariant.before all n f h)
+
+pub push_map-returns-in_ok-push-in-Ok-push_pairs-clause-found : goal.push_map-returns-in_ok-push-in-Ok-push_pairs-clause-found
+push_map-returns-in_ok-push-in-Ok-push_pairs-clause-found t c =
+    let f = c.in-Ok-push_pairs.ensures.found in
+    record {
+      one = f.all;
+      taken = map_taken (shape c.args.key.now) (shape c.args.value.now) c.args.readers.now c.push_pairs.new.readers (record { present = (get_or c.args.readers.now 0 c.index-readers-0.result).present; source = c.next_size.new.source }) c.index-readers-0.result c.in-Ok.size f.all (omega (arith, c.requires))
+          c.in-Ok.ensures.found c.in-Ok.ensures.room.0 c.in-Ok.ensures.room.1 f.counted f.taken;
+      put = bracketed c.args.out.now.items c.push.new.self.items c.push_pairs.new.out.items c.push-in-Ok-push_pairs.new.self.items (texts (pair_text (pair_texts c.args.layouts.now)) false f.all) c.in_ok-push-in-Ok.ensures.items f.put c.in_ok-push-in-Ok-push_pairs.ensures.items;
+    }
+
+pub push_map-returns-in-Err-push_pairs-clause-none : goal.push_map-returns-in-Err-push_pairs-clause-none
+push_map-returns-in-Err-push_pairs-clause-none t c = λ memory.
+    map_lacking (shape c.args.key.now) (shape c.args.value.now) c.args.readers.now (record { present = (get_or c.args.readers.now 0 c.index-readers-0.result).present; source = c.next_size.new.source }) c.index-readers-0.result c.in-Ok.size
+    c.in-Ok.ensures.found (c.in-Err-push_pairs.ensures.none memory)
+
+pub push_map-returns-in-Err-push_pairs-clause-fault : goal.push_map-returns-in-Err-push_pairs-clause-fault
+push_map-returns-in-Err-push_pairs-clause-fault t c = λ memory n.
+    let own : ColumnReader = record { present = (get_or c.args.readers.now 0 c.index-readers-0.result).present; source = c.next_size.new.source } in
+    maps_pairs (shape c.args.key.now) (shape c.args.value.now) c.args.readers.now c.index-readers-0.result own n c.in-Ok.size c.in-Err-push_pairs.fault (omega (arith, c.requires)) c.in-Ok.ensures.first (c.in-Err-push_pairs.ensures.fault memory 0)
+
+pub push_map-returns-in-Err-clause-fault : goal.push_map-returns-in-Err-clause-fault
+push_map-returns-in-Err-clause-fault t c = λ memory n.
+    maps_size (shape c.args.key.now) (shape c.args.value.now) c.args.readers.now c.index-readers-0.result false (suc n) c.in-Err.fault (omega (arith, c.requires)) (c.in-Err.ensures.fault memory n)
+
+pub push_map-returns-in_ok-push-in-Ok-push_pairs-clause-before : goal.push_map-returns-in_ok-push-in-Ok-push_pairs-clause-before
+push_map-returns-in_ok-push-in-Ok-push_pairs-clause-before t c = λ all n f h.
+    let own : ColumnReader = record { present = (get_or c.args.readers.now 0 c.index-readers-0.result).present; source = c.next_size.new.source } in
+    map_before (shape c.args.key.now) (shape c.args.value.now) c.args.readers.now c.push_pairs.new.readers c.index-readers-0.result own all n c.in-Ok.size f (omega (arith, c.requires)) c.in-Ok.ensures.first (c.in-Ok.ensures.before all n f)
+    (λ m. c.in-Ok-push_pairs.ensures.before all m f) h
+
+pub push_pair-returns-in_ok-extend_from_slice-in-Ok-push_cell-clause-found : goal.push_pair-returns-in_ok-extend_from_slice-in-Ok-push_cell-clause-found
+push_pair-returns-in_ok-extend_from_slice-in-Ok-push_cell-clause-found t c =
+    let k = shape c.args.key.now in
+    let v = shape c.args.value.now in
+    let w = c.own_width-own.ensures in
+    let n : length c.push_cell.new.readers ≡ c.own_width-own.result = first_counted c.own_width-own.result (width v) c.args.readers.now c.push_cell.new.readers (omega (arith, c.requires, w)) c.push_cell.auto.readers in
+    pair_taken k v c.args.layouts.now c.args.readers.now _ (take c.own_width-own.result c.args.readers.now) c.push_cell.new.readers _ c.push_cell-in-Ok.new.readers
+    c.args.out.now.items c.push.new.self.items c.push_cell.new.out.items c.extend_from_slice.new.self.items c.push_cell-in-Ok.new.out.items c.extend_from_slice-in-Ok-push_cell.new.self.items
+    (ap (λ m. take m c.args.readers.now) w) (fields_behind c.own_width-own.result c.args.readers.now c.push_cell.new.readers n ∙ ap (λ m. drop m c.args.readers.now) w)
+    (fields_put c.own_width-own.result c.args.readers.now c.push_cell.new.readers c.push_cell-in-Ok.new.readers n) (n ∙ w)
+    c.in_ok-push.ensures.items c.in-Ok.ensures.found c.in_ok-extend_from_slice-in-Ok.ensures.items c.in-Ok-push_cell.ensures.found c.in_ok-extend_from_slice-in-Ok-push_cell.ensures.items
+
+pub push_pair-returns-in_ok-extend_from_slice-in-Ok-push_cell-clause-before : goal.push_pair-returns-in_ok-extend_from_slice-in-Ok-push_cell-clause-before
+push_pair-returns-in_ok-extend_from_slice-in-Ok-push_cell-clause-before t c = λ all n f h.
+    let w = c.own_width-own.ensures in
+    let l : length c.push_cell.new.readers ≡ c.own_width-own.result = first_counted c.own_width-own.result (width (shape c.args.value.now)) c.args.readers.now c.push_cell.new.readers (omega (arith, c.requires, w)) c.push_cell.auto.readers in
+    pair_before (shape c.args.key.now) (shape c.args.value.now) c.args.readers.now _ (take c.own_width-own.result c.args.readers.now) c.push_cell.new.readers _ c.push_cell-in-Ok.new.readers all n f
+    (ap (λ m. take m c.args.readers.now) w) (fields_behind c.own_width-own.result c.args.readers.now c.push_cell.new.readers l ∙ ap (λ m. drop m c.args.readers.now) w)
+    (fields_put c.own_width-own.result c.args.readers.now c.push_cell.new.readers c.push_cell-in-Ok.new.readers l) (l ∙ w) (c.in-Ok.ensures.before all n f) (c.in-Ok-push_cell.ensures.before all n f) h
+
+pub push_value-returns-in-Ok-push_map-clause-found : goal.push_value-returns-in-Ok-push_map-clause-found
+push_value-returns-in-Ok-push_map-clause-found t c =
+    let w = some_width (shape c.args.tree.now) in
+    let f = c.in-Ok-push_map.ensures.found in
+    map_taken_text (shape c.args.tree.now) (shape c.in-Map.key.value) (shape c.in-Map.value.value) c.in-Map.field-2.items c.args.layout.now c.in-Map-layout.layouts c.args.readers.now c.push_map.new.readers c.args.out.now.items c.push_map.new.out.items
+    (ap shape c.in-Map.is ∙ shape-Map c.in-Map.key c.in-Map.value c.in-Map.field-2) c.in-Map-layout.is (omega (arith, c.requires, w)) c.push_map.auto.readers (rw (c.deref-in-Map-layout.ensures, c.deref-in-Map-layout-2.ensures, c.deref-in-Map-layout-3.ensures) at f)
+
+pub push_value-returns-in-Err-push_map-clause-none : goal.push_value-returns-in-Err-push_map-clause-none
+push_value-returns-in-Err-push_map-clause-none t c = λ memory.
+    let f = c.in-Err-push_map.ensures.none memory in
+    own_map_lacks (shape c.args.tree.now) (shape c.in-Map.key.value) (shape c.in-Map.value.value) c.in-Map.field-2.items c.args.readers.now
+    (ap shape c.in-Map.is ∙ shape-Map c.in-Map.key c.in-Map.value c.in-Map.field-2) (rw (c.deref-in-Map-layout.ensures, c.deref-in-Map-layout-2.ensures) at f)
+
+pub push_value-returns-in-Err-push_map-clause-fault : goal.push_value-returns-in-Err-push_map-clause-fault
+push_value-returns-in-Err-push_map-clause-fault t c = λ memory n.
+    let f = c.in-Err-push_map.ensures.fault memory n in
+    maps_own (shape c.args.tree.now) (shape c.in-Map.key.value) (shape c.in-Map.value.value) c.in-Map.field-2.items c.args.readers.now false (suc n) c.in-Err-push_map.fault (ap shape c.in-Map.is ∙ shape-Map c.in-Map.key c.in-Map.value c.in-Map.field-2) (rw (c.deref-in-Map-layout.ensures, c.deref-in-Map-layout-2.ensures) at f)
+
+pub push_value-returns-in-Ok-push_map-clause-before : goal.push_value-returns-in-Ok-push_map-clause-before
+push_value-returns-in-Ok-push_map-clause-before t c = λ all n f h.
+    let is = ap shape c.in-Map.is ∙ shape-Map c.in-Map.key c.in-Map.value c.in-Map.field-2 in
+    let b = c.in-Ok-push_map.ensures.before all n f in
+    let r = rw (c.deref-in-Map-layout.ensures, c.deref-in-Map-layout-2.ensures) at b in
+    maps_own (shape c.args.tree.now) (shape c.in-Map.key.value) (shape c.in-Map.value.value) c.in-Map.field-2.items c.args.readers.now all (suc n) f is
+    (r (own_maps (shape c.args.tree.now) (shape c.in-Map.key.value) (shape c.in-Map.value.value) c.in-Map.field-2.items c.push_map.new.readers all n f is h))

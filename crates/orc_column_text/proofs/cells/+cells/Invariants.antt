@@ -1,0 +1,48 @@
+use Rattle.std.proofs.Common.{◌≡◌, ℕ, Bool, ◌+◌, ◌*◌, ◌-◌, length}
+use Rattle.orc_types.specs.Shapes.{width, widths}
+use Rattle.orc_types.specs.Views.{shape, fields as fields_view}
+use Rattle.orc_columns.specs.Columns.{CellsLeft, PairsLeft}
+use Rattle.orc_columns.specs.declared.fault.StripeFault.{StripeFault}
+use Rattle.orc_columns.specs.ReaderFaults.{CellsMeet, PairsMeet}
+use Rattle.orc_row_text.specs.Layouts.{text_by, pair_text, pair_texts}
+use Rattle.orc_column_text.proofs.Taken.{PrintedSoFar}
+use Rattle.orc_column_text.proofs.cells.+cells.Given as goal
+
+abbrev pub decreases-push_cell : goal.decreases-push_cell
+decreases-push_cell l = 4 * width (shape l.tree.now)
+
+abbrev pub decreases-push_value : goal.decreases-push_value
+decreases-push_value l = 4 * width (shape l.tree.now) - 1
+
+abbrev pub decreases-push_list : goal.decreases-push_list
+decreases-push_list l = 4 * width (shape l.element.now) + 2
+
+abbrev pub decreases-push_cells : goal.decreases-push_cells
+decreases-push_cells l = 4 * width (shape l.tree.now) + 1
+
+abbrev pub decreases-push_fields : goal.decreases-push_fields
+decreases-push_fields l = 4 * widths (fields_view l.fields.now) + 2
+
+-- those that were taken are in front of what was there, and their text is behind it
+abbrev pub invariant-push_cells-loop-taken : goal.invariant-push_cells-loop-taken
+invariant-push_cells-loop-taken l = record {
+  passed : PrintedSoFar (CellsLeft (shape l.tree) l.initial.readers) (CellsLeft (shape l.tree) l.readers) (text_by l.layout) l.later l.taken l.initial.out.items l.out.items;
+  counted : length l.readers ≡ width (shape l.tree);
+  before : (all : Bool) (n : ℕ) (f : StripeFault) → CellsMeet (shape l.tree) l.readers all n f → CellsMeet (shape l.tree) l.initial.readers all (l.taken + n) f;
+}
+
+abbrev pub decreases-push_map : goal.decreases-push_map
+decreases-push_map l = 4 * (width (shape l.key.now) + width (shape l.value.now)) + 2
+
+abbrev pub decreases-push_pairs : goal.decreases-push_pairs
+decreases-push_pairs l = 4 * (width (shape l.key.now) + width (shape l.value.now)) + 1
+
+abbrev pub decreases-push_pair : goal.decreases-push_pair
+decreases-push_pair l = 4 * (width (shape l.key.now) + width (shape l.value.now))
+
+abbrev pub invariant-push_pairs-loop-taken : goal.invariant-push_pairs-loop-taken
+invariant-push_pairs-loop-taken l = record {
+  passed : PrintedSoFar (PairsLeft (shape l.key) (shape l.value) l.initial.readers) (PairsLeft (shape l.key) (shape l.value) l.readers) (pair_text (pair_texts l.layouts)) l.later l.taken l.initial.out.items l.out.items;
+  counted : length l.readers ≡ width (shape l.key) + width (shape l.value);
+  before : (all : Bool) (n : ℕ) (f : StripeFault) → PairsMeet (shape l.key) (shape l.value) l.readers all n f → PairsMeet (shape l.key) (shape l.value) l.initial.readers all (l.taken + n) f;
+}

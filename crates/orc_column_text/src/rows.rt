@@ -1,0 +1,59 @@
+//! The rows that are still to come, one after the other: the text of the next one.
+ghost use Rattle.std.specs.Prelude.{◌≡◌, ◌≢◌, ◌+◌, List, Bool, length, IfOk, IfErr, OnOk, MatchResult, MatchBool};
+ghost use Rattle.orc_types.specs.Cells.{Cell};
+ghost use Rattle.orc_types.specs.Shapes.{width};
+ghost use Rattle.orc_types.specs.Views.{shape};
+ghost use Rattle.orc_columns.specs.ReaderFaults.{CellsMeet};
+ghost use Rattle.orc_columns.specs.declared.fault.StripeFault.{StripeFault as Fault};
+ghost use Rattle.orc_columns.specs.declared.fault.StripeFault.TheVariants.{OutOfMemory};
+ghost use Rattle.orc_row_text.specs.Layouts.{text_by};
+ghost use Rattle.orc_column_text.specs.Taken.{RowsLeft, GaveText, GivesText};
+
+use crate::cells::push_cell;
+use orc_columns::column::ColumnReader;
+use orc_columns::ending::cells_end;
+use orc_columns::fault::StripeFault;
+use orc_row_text::layout::Layout;
+use orc_types::Tree;
+use std::alloc::Global;
+
+/// Appends the text of the next of so many rows that are left, by a layout, and says whether there was one. At the end,
+/// once nothing is found left over in any stream, nothing is appended.
+///
+/// Refusals: what is wrong with the streams (ORC specification, "Column Encodings"), or `OutOfMemory`. What is appended
+/// before a refusal is left open.
+pub fn push_next(
+    alloc: Global,
+    tree: &Tree,
+    layout: &Layout,
+    readers: &mut [ColumnReader<'_>],
+    left: &mut u64,
+    out: &mut Vec<u8>,
+) -> Result<bool, StripeFault>
+    requires { length readers.old ≡ width (shape tree.now) }
+    ensures found { IfOk result (GaveText (RowsLeft (shape tree.now) readers.old left.old)
+        (RowsLeft (shape tree.now) readers.new left.new) (text_by layout.now) out.old.items out.new.items) }
+    ensures only { (rows : List Cell) → RowsLeft (shape tree.now) readers.old left.old rows
+        → MatchResult result (GivesText rows (RowsLeft (shape tree.now) readers.new left.new) (text_by layout.now)
+        out.old.items out.new.items) (λ fault. fault ≡ OutOfMemory) }
+    ensures fewer { IfOk result (λ some. MatchBool some (left.old ≡ left.new + 1) (left.new ≡ left.old)) }
+    ensures before { OnOk result ((all : Bool) (f : Fault)
+        → CellsMeet (shape tree.now) readers.new all left.new f
+        → CellsMeet (shape tree.now) readers.old all left.old f) }
+    ensures fault { IfErr result (λ cause. cause ≢ OutOfMemory
+        → (all : Bool) × CellsMeet (shape tree.now) readers.old all left.old cause) }
+{
+    if *left == 0 {
+        return match cells_end(tree, readers) {
+            Ok(()) => Ok(false),
+            Err(fault) => Err(fault),
+        };
+    }
+    match push_cell(alloc, tree, layout, readers, out) {
+        Ok(()) => {
+            *left -= 1;
+            Ok(true)
+        }
+        Err(fault) => Err(fault),
+    }
+}
