@@ -43,7 +43,7 @@ fronts_same (x ∷ a) b (y ∷ c) d l e =
     let r = fronts_same a b c d (omega (arith, l)) others in
     ((λ i. first i ∷ r.0 i), r.1)
 
-pushed_get : {X : Type 0} (xs : List X) (y : X) (i : ℕ) (r : X) → slice_get (xs ++ y ∷ []) i ≡ Some r → (slice_get xs i ≡ Some r) ⊎ ((i ≡ length xs) × (y ≡ r))
+pub pushed_get : {X : Type 0} (xs : List X) (y : X) (i : ℕ) (r : X) → slice_get (xs ++ y ∷ []) i ≡ Some r → (slice_get xs i ≡ Some r) ⊎ ((i ≡ length xs) × (y ≡ r))
 pushed_get [] y zero r e = let h : y ≡ r = cc in inr (refl, h)
 pushed_get [] y (suc i) r e = cc
 pushed_get (x ∷ xs) y zero r e = inl e
@@ -100,7 +100,7 @@ no_groups_read m s source count bounds values_count value_bounds whole passed fi
     }
 
 -- how many values come before a group, by its bound
-values_at : (count : ℕ) (bounds : List ℕ) (values_count : ℕ) (value_bounds : List ℕ) (cells : List Cell) (group : ℕ) → length value_bounds ≡ length bounds → group < length bounds
+pub values_at : (count : ℕ) (bounds : List ℕ) (values_count : ℕ) (value_bounds : List ℕ) (cells : List Cell) (group : ℕ) → length value_bounds ≡ length bounds → group < length bounds
     → map (values_before cells) bounds ≡ value_bounds → length (values (take (bound_at count bounds group) cells)) ≡ bound_at values_count value_bounds group
 values_at count bounds values_count value_bounds cells group as_many lt is =
     sym (get_or-map (values_before cells) bounds group count)

@@ -18,3 +18,4 @@ pub mod PassedLemmas
 pub mod KeptLemmas
 pub mod GroupLemmas
 pub mod GroupMarkLemmas
+pub mod StructLemmas

@@ -9,16 +9,50 @@ ghost use Rattle.orc_index.specs.Bounds.{AreBounds, bound_at};
 ghost use Rattle.orc_column_walk.specs.ColumnFound.{IsColumnFound};
 ghost use Rattle.orc_column_walk.specs.OwnColumns.{IsOwnColumn};
 ghost use Rattle.orc_column_walk.specs.OwnFaults.{IsRefused};
+ghost use Rattle.orc_column_walk.specs.OwnLeft.{OwnValuesLeft};
+ghost use Rattle.orc_column_walk.specs.Passed.{HasValues, AreValueBounds};
+ghost use Rattle.orc_columns.specs.ReaderFaults.{ValuesMeet};
 
 use crate::found::ColumnFound;
 use crate::group_values::find_values;
-use crate::marks::count_values_by_group;
+use crate::marks::{ValueBounds, count_values_by_group};
+use crate::struct_groups::find_structs;
+use orc_columns::column::ValueSource;
 use orc_columns::fault::StripeFault;
 use orc_columns::located::Located;
 use orc_columns::starting::reader_of;
 use orc_types::Tree;
 use orc_wire::StripeFooter;
 use std::alloc::Global;
+
+/// Reads all values of a column, by its marks, and counts them group by group. Structs have none to read.
+fn find_column(
+    alloc: Global,
+    tree: &Tree,
+    source: &mut ValueSource<'_>,
+    count: usize,
+    bounds: &[usize],
+    marked: ValueBounds,
+) -> Result<ColumnFound, StripeFault>
+    requires few { count < cell_limit }
+    requires bounds { AreBounds count bounds.now }
+    requires first { bound_at count bounds.now 0 ≡ 0 }
+    requires values { AreValueBounds count bounds.now marked.values marked.before.items }
+    ensures found { IfOk result (λ found. (read : List Cell)
+        × (length read ≡ marked.values)
+        × OwnValuesLeft (shape tree.now) source.old read
+        × ((cells : List Cell) → HasValues count bounds.now marked.before.items read cells
+        → IsColumnFound (shape tree.now) cells bounds.now found)) }
+    ensures none { IfErr result (λ fault. fault ≢ OutOfMemory
+        → (read : List Cell) → OwnValuesLeft (shape tree.now) source.old read → length read ≡ marked.values → ⊥) }
+    ensures fault { IfErr result (λ cause. cause ≢ OutOfMemory
+        → (all : Bool) × ValuesMeet (shape tree.now) source.old all marked.values cause) }
+{
+    if let Tree::Struct(_, _) = tree {
+        return Ok(find_structs(alloc, count, bounds, marked)?);
+    }
+    find_values(alloc, tree, source, count, bounds, marked.values, &marked.before)
+}
 
 /// Reads a column of so many cells from its own streams, to their ends, and counts them: the column's statistic, that
 /// of each group, and what comes before it. A bound says how many of the cells come before a group (ORC specification,
@@ -52,8 +86,7 @@ pub fn read_groups(
         Ok(mut reader) => {
             match count_values_by_group(alloc, column, &mut reader.present, count, bounds) {
                 Ok(marked) => {
-                    let source = &mut reader.source;
-                    match find_values(alloc, tree, source, count, bounds, marked.values, &marked.before) {
+                    match find_column(alloc, tree, &mut reader.source, count, bounds, marked) {
                         Ok(found) => Ok(found),
                         Err(fault) => Err(fault),
                     }

@@ -12,6 +12,7 @@ mod own_values;
 mod passed;
 mod scalars;
 mod sizes;
+mod struct_groups;
 mod values;
 mod walk;
 
