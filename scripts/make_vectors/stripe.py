@@ -117,8 +117,9 @@ class Stripe:
                 continue
             entries = []
             for group in range(len(groups)):
-                places = self.places(at, each, streams, encodings[at], before[group][at])
-                places = self.positions.get((at, group), places)
+                places = self.positions.get((at, group))
+                if places is None:
+                    places = self.places(at, each, streams, encodings[at], before[group][at])
                 stat = self.entry_stats.get((at, group), of_cells(each.kind, inside[group][at]))
                 text = b"" if stat is None else fields.block(2, message(each.kind, stat))
                 entries.append(fields.block(1, self.entry_text(places, text)))

@@ -1,8 +1,9 @@
 """All vectors, and the files that they are."""
-from . import of_columns, of_integers, of_integers_2
+from . import of_columns, of_indexes, of_integers, of_integers_2, of_merges, of_statistics, of_stripes, of_tails
 from .rules import RULES
+from .written import Written
 
-TABLES = [of_integers, of_integers_2, of_columns]
+TABLES = [of_integers, of_integers_2, of_columns, of_stripes, of_indexes, of_statistics, of_tails, of_merges]
 
 
 def vectors():
@@ -16,10 +17,20 @@ def vectors():
     return found
 
 
+def written(vectors):
+    """What is written of the rows of vectors, of equal ones once."""
+    found = {}
+    for vector in vectors:
+        if vector.written and not vector.fault and vector.file.root.can_be_said():
+            each = Written(vector)
+            found.setdefault(each.key, each)
+    return list(found.values())
+
+
 def files():
     """What stands in vectors/: names, and bytes."""
-    found = {}
-    for vector in vectors():
+    found, all_of_them = {}, vectors()
+    for vector in all_of_them + written(all_of_them):
         for end, content in vector.parts().items():
             found[vector.name + end] = content.encode() if isinstance(content, str) else content
     return found

@@ -1,0 +1,187 @@
+"""Vectors of merges: inputs, and the one file that they become, or why they become none."""
+from . import fields
+from .file import File
+from .merged import Merged
+from .of_tails import with_attributes
+
+from .runs import integers
+from .statistics import Stat
+from .stripe import DATA, Stripe
+from .vector import Vector, places_of
+
+ONE = "struct<n:bigint>"
+TOP, MOST = (1 << 63) - 1, 1 << 62
+
+
+def rows(*values):
+    """Rows of one number."""
+    return [{"n": value} for value in values]
+
+
+class Merge:
+    """Inputs by their names, and what they become: a vector, or a fault."""
+
+    def __init__(self, name, rules, shows, inputs, result=None, fault=None):
+        self.name, self.rules, self.shows, self.inputs = f"merges/{name}", rules.split(), shows, inputs
+        self.result, self.fault, self.written = result, fault, False
+
+    def parts(self):
+        """The files of the merge, by what follows its name."""
+        inputs = {".merge": "".join(f"{name}.orc\n" for name in self.inputs)}
+        return {**inputs, **(self.result.parts() if self.result else {".fault": self.fault + "\n"})}
+
+
+class Inputs:
+    """The files that are merged, by their names: vectors of their own."""
+
+    def __init__(self):
+        self.vectors = {}
+
+    def add(self, name, shows, file, findings=(), **more):
+        """A file that is merged with others."""
+        name = f"merges/in/{name}"
+        places = places_of(file) if file.stride and not more.get("fault") else ()
+        self.vectors[name] = Vector(name, "merge-inputs", shows, file, findings, places, written=False, **more)
+        return name
+
+    def file(self, name):
+        return self.vectors[name].file
+
+
+def inputs():
+    """All files that are merged."""
+    found = Inputs()
+    told = fields.number(1, 2) + fields.number(10, 0) + fields.block(2, fields.signed(2, 5) + fields.signed(1, 3) + fields.signed(3, 8))
+    more = {"writer": 4, "writer_version": 9, "user": [("a", b"1"), ("b", b"\x00")]}
+    many = Stat(1, False, true=MOST)
+    missing = ["StripeStatistic 0 0", "StripeStatistic 0 1"]
+    found.add("a", "two stripes and a gap", File(ONE, [rows(1, 2), Stripe(rows(3), gap=b"gap")]))
+    found.add("b", "one stripe with a null", File(ONE, [rows(40, None)]))
+    found.add("c", "one row", File(ONE, [rows(-5)]))
+    found.add("none", "no rows", File(ONE, []))
+    found.add("greatest", "the greatest number", File(ONE, [rows(TOP)]))
+    found.add("one", "the number 1", File(ONE, [rows(1)]))
+    found.add("less", "the number -1", File(ONE, [rows(-1)]))
+    found.add("lost", "a stripe whose sum doesn't fit", File(ONE, [rows(TOP, 1)]))
+    found.add("spelled", "a statistic with its fields in another order", File(ONE, [Stripe(rows(3, 5), stats={1: Stat(2, False, min=3, max=5, sum=8).spelled(told)})]))
+    found.add("no-nulls-told", "a stripe that doesn't say whether there are nulls", File(ONE, [Stripe(rows(6), stats={1: Stat(1, None, min=6, max=6, sum=6)})]), ["StripeStatistic 0 1", "FileStatistic 1"])
+    found.add("wrong", "a file whose own statistics are wrong, those of its stripe not", File(ONE, [rows(9)], stats={1: Stat(7, True)}), "FileStatistic 1")
+    found.add("more", "a writer, kept fields and user metadata", File(ONE, [rows(1)], kept=fields.number(12, 5), **more))
+    found.add("more-pairs", "the same with an equal pair and another one", File(ONE, [rows(2)], kept=fields.number(12, 5), **{**more, "user": [("b", b"\x00"), ("c", b"")]}))
+    found.add("pair-twice", "one equal pair twice", File(ONE, [rows(2)], kept=fields.number(12, 5), **{**more, "user": [("d", b"4"), ("d", b"4")]}))
+    found.add("other-pair", "another value for a name", File(ONE, [rows(2)], kept=fields.number(12, 5), **{**more, "user": [("b", b"\x01")]}))
+    found.add("pairs-that-differ", "one name with two values", File(ONE, [rows(2)], user=[("b", b"0"), ("b", b"1")]))
+    found.add("other-kept", "other fields above 10", File(ONE, [rows(2)], kept=fields.number(12, 6), **more))
+    found.add("attributes", "a type with attributes", File(with_attributes(), [rows(1)]))
+    found.add("int", "a column of INT", File("struct<n:int>", [rows(1)]))
+    found.add("other-name", "another name", File("struct<m:bigint>", [[{"m": 1}]]))
+    found.add("other-version", "another version", File(ONE, [rows(1)], (0, 11)))
+    found.add("writer-0", "the writer of number 0", File(ONE, [rows(1)], writer=0))
+    found.add("other-writer-version", "another version of the writer", File(ONE, [rows(1)], writer_version=7))
+    found.add("no-writer-version", "no version of the writer", File(ONE, [rows(1)], writer_version=None))
+    found.add("indexed", "a row index", File(ONE, [rows(1, 2, 3)], stride=2))
+    found.add("indexed-too", "a row index of the same stride", File(ONE, [rows(4), rows(5, 6)], stride=2))
+    found.add("stride-3", "a row index of another stride", File(ONE, [rows(1)], stride=3))
+    found.add("no-statistics", "no statistics of stripes", File(ONE, [rows(1)], tells_stripes=False), missing)
+    found.add("few-statistics", "statistics of the first of two columns", File(ONE, [rows(1)], metadata=lambda text: fields.block(1, fields.block(1, fields.number(1, 1) + fields.number(10, 0)))), "StripeStatistic 0 1")
+    found.add("many-values", "a stripe that tells of 2^62 values", File(ONE, [Stripe(rows(1), stats={1: Stat(MOST, False)})]), ["StripeStatistic 0 1", "FileStatistic 1"])
+    two = File(ONE, [Stripe(rows(1), stats={1: Stat(MOST, False)}), rows(2)], stats={1: Stat(2, False, min=1, max=2, sum=3)})
+    found.add("too-many-values", "stripes that tell of 2^62 + 1 values together", two, "StripeStatistic 0 1")
+    found.add("many-true", "a stripe that tells of 2^62 that are true", File("struct<t:boolean>", [Stripe([{"t": True}], stats={1: many})]), ["StripeStatistic 0 1", "FileStatistic 1"])
+    found.add("lists", "lists, and how many elements they have", File("struct<a:array<int>>", [[{"a": [1, 2]}, {"a": None}]]))
+    found.add("lists-untold", "lists, and nothing of their elements", File("struct<a:array<int>>", [Stripe([{"a": [3]}], stats={1: Stat(1, False)})]))
+    found.add("damaged", "a stripe that doesn't decode", File(ONE, [Stripe(rows(1, 2, 3), {(1, DATA): b"\x4a"})]), fault="file 12 Stripe(0): stripe 3 Run(1, DATA): run 1 Short at 0")
+    found.add("no-rows-in-a-stripe", "a stripe of no rows", File(ONE, [rows(7), []]))
+    found.add("tens", "ten rows, in runs of version 1", File(ONE, [Stripe(rows(*range(10)), {(1, DATA): integers(range(10), 1)}, encodings={1: 0})]))
+    return found
+
+
+def joined(found, name, rules, shows, names, findings=(), base="merges/in/", **more):
+    """A merge that is made."""
+    paths = [base + each if "/" not in each else each for each in names]
+    file = Merged([found.file(path) for path in paths])
+    places = places_of(file) if file.stride else ()
+    vector = Vector(f"merges/{name}", rules, shows, file, findings, places, written=False, **more)
+    found.vectors[f"merges/{name}"] = vector
+    return Merge(name, rules, shows, paths, vector)
+
+
+def made(found):
+    """Merges that are made."""
+    short = "file 12 Stripe(1): stripe 3 Run(1, DATA): run 1 Short at 0"
+    no_nulls = ["StripeStatistic 2 1", "FileStatistic 1"]
+    return [
+        joined(found, "one-file", "merge-stripes merge-tail", "a merge of one file: the gap between its stripes is gone", ["a"]),
+        joined(found, "a-and-b", "merge-stripes", "stripes are copied in order, byte for byte", ["a", "b"]),
+        joined(found, "b-and-c", "merge-stripes", "the second and the third file", ["b", "c"]),
+        joined(found, "all", "merge-stripes merge-grouping", "three files at once", ["a", "b", "c"]),
+        joined(found, "first-two-before", "merge-grouping", "the same file, where the first two were merged before", ["merges/a-and-b", "merges/in/c"]),
+        joined(found, "last-two-before", "merge-grouping", "the same file, where the last two were merged before", ["merges/in/a", "merges/b-and-c"]),
+        joined(found, "twice", "merge-stripes", "a file with itself", ["b", "b"]),
+        joined(found, "none-before", "merge-stripes", "a file without rows, and one with", ["none", "c"]),
+        joined(found, "none-behind", "merge-stripes", "a file with rows, and one without", ["c", "none"]),
+        joined(found, "none-of-both", "merge-stripes", "two files without rows", ["none", "none"]),
+        joined(found, "no-rows-in-a-stripe", "merge-stripes", "stripes of no rows are copied", ["no-rows-in-a-stripe", "c"]),
+        joined(found, "both-versions", "merge-stripes encodings", "stripes of both versions of runs", ["tens", "c"]),
+        *(
+            joined(found, "sum-" + "-".join(order), "merge-statistics merge-orders", "each order has the same statistics: the sum of all fits", order)
+            for order in (
+                ("greatest", "one", "less"),
+                ("greatest", "less", "one"),
+                ("one", "greatest", "less"),
+                ("one", "less", "greatest"),
+                ("less", "greatest", "one"),
+                ("less", "one", "greatest"),
+            )
+        ),
+        joined(found, "sum-that-does-not-fit", "merge-statistics", "the sums fit, their total doesn't", ["greatest", "one"]),
+        joined(found, "sum-that-is-lost", "merge-statistics", "a stripe's sum is lost, and so is that of all", ["lost", "less"]),
+        joined(found, "statistics-of-stripes", "merge-statistics", "the inputs' own file statistics have no part", ["wrong", "c"]),
+        joined(found, "statistics-spelled-anew", "merge-tail", "statistics are written in the order of their fields", ["spelled", "c"]),
+        joined(found, "nulls-not-told", "merge-statistics nulls-unknown", "where a part doesn't say of nulls, the whole doesn't", ["a", "no-nulls-told"], no_nulls),
+        joined(found, "nulls-told-by-another", "merge-statistics nulls-unknown", "a part with nulls: the whole has nulls, although another part doesn't say", ["b", "no-nulls-told"], ["StripeStatistic 1 1"]),
+        joined(found, "children-not-told", "merge-statistics children-unknown", "where a part doesn't tell of children, the whole doesn't", ["lists", "lists-untold"]),
+        joined(found, "true-past-2^62", "merge-statistics statistics-limits", "counts of true that are above 2^62 together aren't told", ["many-true", "many-true"], ["StripeStatistic 0 1", "StripeStatistic 1 1", "FileStatistic 1"]),
+        joined(found, "pairs", "merge-user", "the pairs of both, each name once", ["more", "more-pairs"]),
+        joined(found, "pair-twice", "merge-user", "an equal pair that one file has twice is written once", ["pair-twice", "more"]),
+        joined(found, "attributes", "merge-tail types", "a type's other fields stay as they stood", ["attributes", "attributes"]),
+        joined(found, "indexes", "merge-stripes positions", "row indexes are copied with their stripes", ["indexed", "indexed-too"]),
+        joined(found, "damaged", "merge-stripes", "stripes aren't read: a bad one is copied, and refused when it is read", ["c", "damaged"], fault=short, good_stripes=1),
+    ]
+
+
+def refused():
+    """Merges that are refused: nothing is written."""
+    def apart(name, rules, shows, names, fault):
+        paths = [f"merges/in/{each}" if "/" not in each else each for each in names]
+        return Merge(name, rules, shows, paths, fault=f"merge {fault}")
+
+    schema_rule = "merge-schema"
+    return [
+        apart("refused-no-input", "merge-inputs", "no input", [], "1 NoInput"),
+        apart("refused-no-file", "merge-inputs", "the third input is no file", ["c", "c", "tails/other-front"], "2 File(2): file 1 NotOrc"),
+        apart("refused-compressed", "merge-inputs", "the second input is compressed", ["c", "tails/compressed-1"], "2 File(1): file 3 Compressed(1)"),
+        apart("refused-kind", schema_rule, "INT and LONG", ["c", "int"], "3 SchemaDiffers(1)"),
+        apart("refused-name", schema_rule, "columns of two names", ["c", "c", "other-name"], "3 SchemaDiffers(2)"),
+        apart("refused-attributes", schema_rule, "a type with attributes, and one without", ["int", "attributes"], "3 SchemaDiffers(1)"),
+        apart("refused-version", "merge-version", "versions 0.12 and 0.11", ["c", "other-version"], "4 VersionDiffers(1)"),
+        apart("refused-writer", "merge-version", "no writer, and the writer of number 0", ["c", "writer-0"], "4 VersionDiffers(1)"),
+        apart("refused-writer-version", "merge-version", "two versions of the writer", ["c", "other-writer-version"], "4 VersionDiffers(1)"),
+        apart("refused-no-writer-version", "merge-version", "a version of the writer, and none", ["c", "no-writer-version"], "4 VersionDiffers(1)"),
+        apart("refused-stride", "merge-stride", "strides of 2 and of 3", ["indexed", "stride-3"], "5 StrideDiffers(1)"),
+        apart("refused-stride-and-none", "merge-stride", "no stride, and one of 2", ["c", "indexed"], "5 StrideDiffers(1)"),
+        apart("refused-kept", "merge-kept", "fields above 10 that differ", ["more", "other-kept"], "6 OtherFooterFields(1)"),
+        apart("refused-pairs", "merge-user", "one name with two values in two files", ["more", "other-pair"], "7 UserMetadataConflict(1)"),
+        apart("refused-pairs-of-one-file", "merge-user", "one name with two values in one file", ["pairs-that-differ"], "7 UserMetadataConflict(0)"),
+        apart("refused-no-statistics", "merge-statistics", "an input without statistics of its stripe", ["no-statistics"], "8 NoStripeStatistics(0)"),
+        apart("refused-few-statistics", "merge-statistics", "an input without statistics of a column", ["c", "few-statistics"], "8 NoStripeStatistics(1)"),
+        apart("refused-values", "merge-limits", "more than 2^62 values together", ["many-values", "c"], "9 Limit(1)"),
+        apart("refused-values-of-one-file", "merge-limits", "an input whose own stripes tell of more than 2^62 values", ["too-many-values", "c"], "9 Limit(0)"),
+    ]
+
+
+def vectors():
+    """The vectors of these folders: the inputs, and the merges."""
+    found = inputs()
+    alone = list(found.vectors.values())
+    return alone + made(found) + refused()
