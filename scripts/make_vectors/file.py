@@ -6,7 +6,8 @@ from .stripe import Stripe
 
 
 class File:
-    """What a file says, and what a writer chose to say it. A hook gets the parts of a message by name, in their order, and changes them."""
+    """What a file says, and what a writer chose to say it. A hook gets the parts of a message by name, in their
+    order, and changes them."""
 
     def __init__(self, root, stripes, version=(0, 12), **more):
         self.root = schema(root) if isinstance(root, str) else root
@@ -34,13 +35,21 @@ class File:
         content, self.infos = b"ORC", []
         for each, laid in zip(self.stripes, self.laid):
             content += each.gap
-            info = {"offset": len(content), "index": laid.index, "data": laid.data, "footer": laid.footer, "rows": laid.rows}
+            info = {
+                "offset": len(content),
+                "index": laid.index,
+                "data": laid.data,
+                "footer": laid.footer,
+                "rows": laid.rows,
+            }
             self.infos.append({**info, **each.told})
             content += laid.content
         self.content = content + self.filler
         self.columns = self.root.columns()
         self.stripe_stats = [laid.stats for laid in self.laid]
-        self.file_stats = [self.stats.get(at, self.joined(at)) for at in range(len(self.columns))] if self.tells_file else []
+        self.file_stats = (
+            [self.stats.get(at, self.joined(at)) for at in range(len(self.columns))] if self.tells_file else []
+        )
         self.number_of_rows = sum(info["rows"] for info in self.infos)
         self.content += self.tail(len(self.content))
 
@@ -70,7 +79,11 @@ class File:
 
     def metadata_text(self):
         """The statistics of the stripes."""
-        return b"".join(fields.block(1, self.stats_text(1, stats)) for stats in self.stripe_stats) if self.tells_stripes else b""
+        return (
+            b"".join(fields.block(1, self.stats_text(1, stats)) for stats in self.stripe_stats)
+            if self.tells_stripes
+            else b""
+        )
 
     def stats_text(self, field, stats):
         """Statistics of columns, a field each."""
@@ -83,7 +96,9 @@ class File:
             "content": fields.number(2, metadata_at),
             "stripes": b"".join(fields.block(3, info_text(info)) for info in self.infos),
             "types": types_text(self.root),
-            "user": b"".join(fields.block(5, fields.block(1, name) + fields.block(2, value)) for name, value in self.user),
+            "user": b"".join(
+                fields.block(5, fields.block(1, name) + fields.block(2, value)) for name, value in self.user
+            ),
             "rows": fields.number(6, self.number_of_rows),
             "statistics": self.stats_text(7, self.file_stats),
             "stride": fields.number(8, self.stride),
@@ -94,7 +109,9 @@ class File:
 
 def info_text(info):
     """The message that tells of a stripe."""
-    return b"".join(fields.number(at + 1, info[name]) for at, name in enumerate(("offset", "index", "data", "footer", "rows")))
+    return b"".join(
+        fields.number(at + 1, info[name]) for at, name in enumerate(("offset", "index", "data", "footer", "rows"))
+    )
 
 
 def types_text(root):

@@ -1,7 +1,20 @@
 """Vectors of bytes and booleans, texts, and nulls."""
 from . import fields
 from .file import File
-from .runs import SIGNED, UNSIGNED, bits, byte_literals, byte_repeat, data_of, delta, direct, pack, short_repeat, v1_literals, v1_run
+from .runs import (
+    SIGNED,
+    UNSIGNED,
+    bits,
+    byte_literals,
+    byte_repeat,
+    data_of,
+    delta,
+    direct,
+    pack,
+    short_repeat,
+    v1_literals,
+    v1_run,
+)
 from .stripe import DATA, DICTIONARY_DATA, LENGTH, PRESENT, Stripe
 from .vector import Vector
 
@@ -36,7 +49,12 @@ def of_bytes():
             "control `fd`: three bytes by themselves; from 128 on a byte stands for itself less 256",
             column("b", "tinyint", [-128, 127, -1], data=byte_literals(signed([-128, 127, -1]))),
         ),
-        good("bytes/run-of-3", "byte-runs", "control 0: three times a byte", column("b", "tinyint", [5] * 3, data=byte_repeat(5, 3))),
+        good(
+            "bytes/run-of-3",
+            "byte-runs",
+            "control 0: three times a byte",
+            column("b", "tinyint", [5] * 3, data=byte_repeat(5, 3)),
+        ),
         good(
             "bytes/run-of-130",
             "byte-runs",
@@ -113,8 +131,15 @@ def of_booleans():
     yes, no = True, False
     nine = [yes, yes, yes, no, yes, yes, yes, yes, yes]
     return [
-        good("booleans/one", "boolean-runs", "one boolean is the highest digit of a byte", column("t", "boolean", [yes])),
-        good("booleans/eight", "boolean-runs", "eight booleans are a byte", column("t", "boolean", [yes, no, no, yes, yes, no, yes, no])),
+        good(
+            "booleans/one", "boolean-runs", "one boolean is the highest digit of a byte", column("t", "boolean", [yes])
+        ),
+        good(
+            "booleans/eight",
+            "boolean-runs",
+            "eight booleans are a byte",
+            column("t", "boolean", [yes, no, no, yes, yes, no, yes, no]),
+        ),
         good("booleans/nine", "boolean-runs", "nine booleans are two bytes: `fe ef 80`", column("t", "boolean", nine)),
         good(
             "booleans/spare-digits",
@@ -190,16 +215,26 @@ def of_booleans():
 
 def of_strings():
     """Vectors of texts and bytes, as they are and by dictionary."""
-    words = ["", "a", "ä", "日本", "a\"\\\n\t\x00\x7f", "a"]
+    words = ["", "a", "ä", "日本", 'a"\\\n\t\x00\x7f', "a"]
     return [
-        good("strings/direct", "strings-direct", "texts one after the other, and their lengths in bytes", column("s", "string", words)),
+        good(
+            "strings/direct",
+            "strings-direct",
+            "texts one after the other, and their lengths in bytes",
+            column("s", "string", words),
+        ),
         good(
             "strings/direct-1",
             "strings-direct encodings",
             "the same with DIRECT: lengths are runs of version 1",
             column("s", "string", words, (0, 11)),
         ),
-        good("strings/empty", "strings-direct", "empty texts alone: DATA has no bytes and is left out", column("s", "string", ["", ""])),
+        good(
+            "strings/empty",
+            "strings-direct",
+            "empty texts alone: DATA has no bytes and is left out",
+            column("s", "string", ["", ""]),
+        ),
         good(
             "strings/empty-listed",
             "strings-direct missing-streams",
@@ -210,9 +245,19 @@ def of_strings():
             "strings/lengths-by-runs",
             "strings-direct v2-choice",
             "lengths as a short repeat and a delta",
-            column("s", "string", ["no", "to", "it", "a", "bcd"], length=short_repeat(2, 3, UNSIGNED) + delta([1, 3], UNSIGNED)),
+            column(
+                "s",
+                "string",
+                ["no", "to", "it", "a", "bcd"],
+                length=short_repeat(2, 3, UNSIGNED) + delta([1, 3], UNSIGNED),
+            ),
         ),
-        good("strings/binary", "strings-direct", "bytes of any value", column("v", "binary", [b"\x00\xff", b"", bytes(range(120, 136))])),
+        good(
+            "strings/binary",
+            "strings-direct rows-json",
+            "bytes of any value",
+            column("v", "binary", [b"\x00\xff", b"", bytes(range(120, 136))]),
+        ),
         good(
             "strings/dictionary",
             "strings-dictionary",
@@ -288,7 +333,13 @@ def bad_strings():
     """Texts that are refused."""
     one = {"dictionaries": {1: ["a"]}}
     return [
-        refused("strings/no-text", "strings-utf8", "a text that is no UTF-8", column("s", "string", ["ab"], data=b"a\xff"), "4 NotUtf8(1, DATA)"),
+        refused(
+            "strings/no-text",
+            "strings-utf8",
+            "a text that is no UTF-8",
+            column("s", "string", ["ab"], data=b"a\xff"),
+            "4 NotUtf8(1, DATA)",
+        ),
         refused(
             "strings/text-cut",
             "strings-utf8",
@@ -342,7 +393,14 @@ def bad_strings():
             "strings/binary-too-short",
             "strings-lengths",
             "lengths of 2^64 bytes together",
-            column("v", "binary", [b"a", b""], (0, 11), length=data_of(v1_literals([(1 << 63) - 1] * 2, UNSIGNED)), data=b"a"),
+            column(
+                "v",
+                "binary",
+                [b"a", b""],
+                (0, 11),
+                length=data_of(v1_literals([(1 << 63) - 1] * 2, UNSIGNED)),
+                data=b"a",
+            ),
             "6 LengthSum(1, DATA)",
         ),
         refused(
@@ -388,11 +446,16 @@ def of_numbers():
         ),
         good(
             "numbers/days",
-            "column-ranges dates",
-            "days from 1970-01-01 on and before: leap days, the first and the last day that has a text here, and one before and behind",
+            "column-ranges dates rows-json",
+            "days from 1970-01-01 on and before: leap days, the first and the last that has a text here, and the next",
             column("d", "date", [0, -1, 11016, 19782, -719162, 2932896, -719163, 2932897, -25567, -141428]),
         ),
-        good("numbers/days-extremes", "column-ranges dates", "the least and the greatest day", column("d", "date", [-(1 << 31), (1 << 31) - 1])),
+        good(
+            "numbers/days-extremes",
+            "column-ranges dates",
+            "the least and the greatest day",
+            column("d", "date", [-(1 << 31), (1 << 31) - 1]),
+        ),
         *(
             refused(
                 f"numbers/{kind}-{name}",
@@ -438,8 +501,18 @@ def of_nulls():
             "the spare digits of PRESENT may be anything",
             column("n", "int", nine, present=byte_literals(bits([cell is not None for cell in nine], 255))),
         ),
-        good("nulls/all", "nulls missing-streams", "all cells are null, and there is no DATA", column("n", "int", [None] * 4)),
-        good("nulls/all-listed", "nulls missing-streams", "the same with a DATA of no bytes", column("n", "int", [None] * 4, data=[])),
+        good(
+            "nulls/all",
+            "nulls missing-streams",
+            "all cells are null, and there is no DATA",
+            column("n", "int", [None] * 4),
+        ),
+        good(
+            "nulls/all-listed",
+            "nulls missing-streams",
+            "the same with a DATA of no bytes",
+            column("n", "int", [None] * 4, data=[]),
+        ),
         good(
             "nulls/by-runs",
             "nulls byte-runs",
@@ -451,11 +524,24 @@ def of_nulls():
             "nulls",
             "a null in a column of each kind",
             File(
-                "struct<t:boolean,b:tinyint,s:smallint,i:int,l:bigint,d:date,c:string,v:binary,a:array<int>,m:map<int,int>,r:struct<x:int>>",
+                "struct<t:boolean,b:tinyint,s:smallint,i:int,l:bigint,d:date,c:string,v:binary,"
+                "a:array<int>,m:map<int,int>,r:struct<x:int>>",
                 [
                     [
                         {},
-                        {"t": True, "b": 1, "s": 2, "i": 3, "l": 4, "d": 5, "c": "6", "v": b"7", "a": [8], "m": [[9, 10]], "r": {"x": 11}},
+                        {
+                            "t": True,
+                            "b": 1,
+                            "s": 2,
+                            "i": 3,
+                            "l": 4,
+                            "d": 5,
+                            "c": "6",
+                            "v": b"7",
+                            "a": [8],
+                            "m": [[9, 10]],
+                            "r": {"x": 11},
+                        },
                         {},
                     ]
                 ],
@@ -513,23 +599,41 @@ def of_nested():
     for _ in range(30):
         inner = [inner]
     return [
-        good("nested/lists", "lists cells", "lists of lists, with nulls, in version 2", column("a", "array<array<int>>", lists)),
-        good("nested/lists-1", "lists cells", "the same in version 1", column("a", "array<array<int>>", lists, (0, 11))),
-        good("nested/empty-lists", "lists missing-streams", "no list has an element: the column below has no stream", column("a", "array<int>", [[], []])),
+        good(
+            "nested/lists",
+            "lists cells",
+            "lists of lists, with nulls, in version 2",
+            column("a", "array<array<int>>", lists),
+        ),
+        good(
+            "nested/lists-1", "lists cells", "the same in version 1", column("a", "array<array<int>>", lists, (0, 11))
+        ),
+        good(
+            "nested/empty-lists",
+            "lists missing-streams",
+            "no list has an element: the column below has no stream",
+            column("a", "array<int>", [[], []]),
+        ),
         good(
             "nested/list-lengths-by-runs",
             "lists v2-choice",
             "the lengths of lists as a short repeat",
             column("a", "array<string>", [["x", None], ["y", "z"], [None, None]], length=short_repeat(2, 3, UNSIGNED)),
         ),
-        good("nested/maps", "maps cells", "pairs in their order; a key may stand twice, and may be null", column("m", "map<string,int>", maps)),
+        good(
+            "nested/maps",
+            "maps cells rows-json",
+            "pairs in their order; a key may stand twice, and may be null",
+            column("m", "map<string,int>", maps),
+        ),
         good("nested/maps-1", "maps cells", "the same in version 1", column("m", "map<string,int>", maps, (0, 11))),
         good(
             "nested/maps-of-maps",
             "maps cells",
             "maps as keys and as values, lists and structs in maps",
             File(
-                "struct<a:map<map<int,int>,map<int,int>>,b:map<string,array<int>>,s:struct<m:map<struct<k:int>,struct<v:date>>>>",
+                "struct<a:map<map<int,int>,map<int,int>>,b:map<string,array<int>>,"
+                "s:struct<m:map<struct<k:int>,struct<v:date>>>>",
                 [
                     [
                         {
@@ -540,7 +644,13 @@ def of_nested():
                         {},
                         {"a": [], "b": [], "s": {"m": None}},
                     ],
-                    [{"a": [[[], [[7, None], [None, 8]]]], "b": [["", [4]], [None, None]], "s": {"m": [[{"k": None}, {}]]}}],
+                    [
+                        {
+                            "a": [[[], [[7, None], [None, 8]]]],
+                            "b": [["", [4]], [None, None]],
+                            "s": {"m": [[{"k": None}, {}]]},
+                        }
+                    ],
                 ],
             ),
         ),
@@ -550,16 +660,31 @@ def of_nested():
             "structs in structs, which have no stream but PRESENT",
             File(
                 "struct<a:struct<b:struct<c:int,d:string>,e:boolean>,f:int>",
-                [[{"a": {"b": {"c": 1, "d": "x"}, "e": True}, "f": 2}, {"a": {"b": None, "e": None}, "f": None}, {"a": None, "f": 3}]],
+                [
+                    [
+                        {"a": {"b": {"c": 1, "d": "x"}, "e": True}, "f": 2},
+                        {"a": {"b": None, "e": None}, "f": None},
+                        {"a": None, "f": 3},
+                    ]
+                ],
             ),
         ),
         good(
             "nested/lists-of-structs",
             "lists structs cells",
             "a struct that is null in a list, and one that isn't and whose fields are",
-            column("a", "array<struct<x:int,y:array<string>>>", [[{"x": 1, "y": ["p"]}, None, {"x": None, "y": None}], None, [{"x": 2, "y": []}]]),
+            column(
+                "a",
+                "array<struct<x:int,y:array<string>>>",
+                [[{"x": 1, "y": ["p"]}, None, {"x": None, "y": None}], None, [{"x": 2, "y": []}]],
+            ),
         ),
-        good("nested/empty-structs", "structs", "a struct without fields, as a row and in it", File("struct<s:struct<>,t:struct<>>", [[{"s": {}, "t": None}] * 3])),
+        good(
+            "nested/empty-structs",
+            "structs",
+            "a struct without fields, as a row and in it",
+            File("struct<s:struct<>,t:struct<>>", [[{"s": {}, "t": None}] * 3]),
+        ),
         good("nested/no-columns", "structs", "rows of no fields", File("struct<>", [[{}, {}]])),
         good("nested/32-levels", "lists type-limits", "32 levels, the most", column("a", deep, [inner, None])),
         refused(

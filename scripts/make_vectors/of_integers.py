@@ -52,7 +52,12 @@ def vectors():
         good("step-127", "v1-run", "the step is a byte: 127 is the greatest", longs(v1_run(0, 127, 4))),
         good("step-minus-128", "v1-run", "the step has a sign: `80` is -128, the least", longs(v1_run(5, -128, 4))),
         good("literal-of-1", "v1-literals", "control `ff` is one literal", longs(v1_literals([42]))),
-        good("literals-of-128", "v1-literals", "control `80` is 128 literals", longs(v1_literals([i * i for i in range(128)]))),
+        good(
+            "literals-of-128",
+            "v1-literals",
+            "control `80` is 128 literals",
+            longs(v1_literals([i * i for i in range(128)])),
+        ),
         good(
             "signs",
             "v1-literals zigzag",
@@ -82,7 +87,12 @@ def vectors():
             "v1-run v1-literals v1-choice",
             "runs and literals in turn",
             longs(
-                v1_run(1, 1, 5) + v1_literals([100]) + v1_run(6, -2, 3) + v1_literals([9, -9]) + v1_literals([10]) + v1_run(0, 0, 9)
+                v1_run(1, 1, 5)
+                + v1_literals([100])
+                + v1_run(6, -2, 3)
+                + v1_literals([9, -9])
+                + v1_literals([10])
+                + v1_run(0, 0, 9)
             ),
         ),
         good(
@@ -113,7 +123,13 @@ def vectors():
                 V1,
             ),
         ),
-        refused("run-cut", "run-short", "a run whose first value isn't there", bad(bytes.fromhex("0000"), 3), at_data("1 Short at 0")),
+        refused(
+            "run-cut",
+            "run-short",
+            "a run whose first value isn't there",
+            bad(bytes.fromhex("0000"), 3),
+            at_data("1 Short at 0"),
+        ),
         refused(
             "literals-cut",
             "run-short",
@@ -169,6 +185,13 @@ def vectors():
             "a run of lengths that goes below 0",
             File("struct<s:string>", [Stripe([{"s": ""}] * 3, {(1, LENGTH): bytes.fromhex("00ff01")})], V1),
             "file 12 Stripe(0): stripe 3 Run(1, LENGTH): run 3 ValueRange at 0",
+        ),
+        refused(
+            "run-too-long",
+            "run-count",
+            "three rows, and a run of four values",
+            bad(data_of(v1_run(7, 0, 4)), 3),
+            at_data("9 TooMany at 0"),
         ),
         refused(
             "too-few",

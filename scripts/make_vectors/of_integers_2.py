@@ -69,7 +69,9 @@ def short_repeats():
             "short-repeat-sizes",
             "v2-short-repeat",
             "a value of 1 to 8 bytes, its high byte first",
-            side_by_side({f"b{size}": short_repeat(as_signed((1 << 8 * size) - 2), 4, size=size) for size in range(1, 9)}),
+            side_by_side(
+                {f"b{size}": short_repeat(as_signed((1 << 8 * size) - 2), 4, size=size) for size in range(1, 9)}
+            ),
         ),
         good(
             "short-repeat-wide",
@@ -96,8 +98,15 @@ def directs():
     """Vectors of direct runs."""
     return [
         good("direct-of-1", "v2-direct", "a run of one value", longs(direct([-3]))),
-        good("direct-of-512", "v2-direct", "the longest run: 512 values", longs(direct([i % 7 - 3 for i in range(512)]))),
-        good("direct-of-258", "v2-direct", "the number of values has a ninth bit, in the first byte", longs(direct([1, -1, 0] * 86))),
+        good(
+            "direct-of-512", "v2-direct", "the longest run: 512 values", longs(direct([i % 7 - 3 for i in range(512)]))
+        ),
+        good(
+            "direct-of-258",
+            "v2-direct",
+            "the number of values has a ninth bit, in the first byte",
+            longs(direct([1, -1, 0] * 86)),
+        ),
         good(
             "direct-widths-1-to-8",
             "v2-direct widths",
@@ -105,14 +114,18 @@ def directs():
             of_widths(1, 8, of_width),
         ),
         good("direct-widths-9-to-16", "v2-direct widths", "each width of 9 to 16 digits", of_widths(9, 16, of_width)),
-        good("direct-widths-17-to-24", "v2-direct widths", "each width of 17 to 24 digits", of_widths(17, 24, of_width)),
+        good(
+            "direct-widths-17-to-24", "v2-direct widths", "each width of 17 to 24 digits", of_widths(17, 24, of_width)
+        ),
         good(
             "direct-widths-26-to-64",
             "v2-direct widths",
             "the widths that the names 24 to 31 stand for: 26 28 30 32 40 48 56 64",
             of_widths(26, 64, of_width),
         ),
-        good("direct-wide", "v2-direct v2-choice", "a greater width than is needed", longs(direct([1, 2, 3], width=64))),
+        good(
+            "direct-wide", "v2-direct v2-choice", "a greater width than is needed", longs(direct([1, 2, 3], width=64))
+        ),
         good(
             "direct-spare-digits",
             "v2-direct spare-digits",
@@ -123,9 +136,17 @@ def directs():
             "direct-unsigned",
             "v2-direct unsigned",
             "unsigned values are no zigzag numbers",
-            File("struct<v:binary>", [Stripe([{"v": b"q" * n} for n in (5, 0, 9)], {(1, LENGTH): direct([5, 0, 9], UNSIGNED)})]),
+            File(
+                "struct<v:binary>",
+                [Stripe([{"v": b"q" * n} for n in (5, 0, 9)], {(1, LENGTH): direct([5, 0, 9], UNSIGNED)})],
+            ),
         ),
-        good("direct-extremes", "v2-direct", "the least and the greatest number", longs(direct([BOTTOM, TOP, BOTTOM, TOP]))),
+        good(
+            "direct-extremes",
+            "v2-direct",
+            "the least and the greatest number",
+            longs(direct([BOTTOM, TOP, BOTTOM, TOP])),
+        ),
         refused(
             "direct-cut",
             "run-short v2-direct",
@@ -140,13 +161,35 @@ def directs():
 def deltas():
     """Vectors of deltas."""
     return [
-        good("delta-of-1", "v2-delta", "one value: its first difference stands there, and means nothing", longs(delta([-9], first=7))),
+        good(
+            "delta-of-1",
+            "v2-delta",
+            "one value: its first difference stands there, and means nothing",
+            longs(delta([-9], first=7)),
+        ),
         good("delta-of-2", "v2-delta", "two values: no sizes", longs(delta([10, 7]))),
-        good("delta-of-512", "v2-delta", "the longest run: 512 values", longs(delta([3 * i - 700 for i in range(512)]))),
-        good("delta-steady", "v2-delta", "width 0: each value is the one before it plus the first difference", longs(delta([5, 3, 1, -1]))),
+        good(
+            "delta-of-512", "v2-delta", "the longest run: 512 values", longs(delta([3 * i - 700 for i in range(512)]))
+        ),
+        good(
+            "delta-steady",
+            "v2-delta",
+            "width 0: each value is the one before it plus the first difference",
+            longs(delta([5, 3, 1, -1])),
+        ),
         good("delta-of-0", "v2-delta", "a first difference of 0 and width 0: equal values", longs(delta([6] * 12))),
-        good("delta-upward", "v2-delta", "sizes are added where the first difference is above 0", longs(delta([2, 3, 5, 7, 11, 13, 17]))),
-        good("delta-downward", "v2-delta", "sizes are subtracted where it is below 0", longs(delta([100, 98, 95, 95, 80]))),
+        good(
+            "delta-upward",
+            "v2-delta",
+            "sizes are added where the first difference is above 0",
+            longs(delta([2, 3, 5, 7, 11, 13, 17])),
+        ),
+        good(
+            "delta-downward",
+            "v2-delta",
+            "sizes are subtracted where it is below 0",
+            longs(delta([100, 98, 95, 95, 80])),
+        ),
         good(
             "delta-upward-from-0",
             "v2-delta",
@@ -154,9 +197,24 @@ def deltas():
             longs(delta([4, 4, 5, 9])),
         ),
         good("delta-with-size-0", "v2-delta", "a size of 0 repeats a value", longs(delta([1, 3, 3, 4, 4]))),
-        good("delta-widths-2-to-8", "v2-delta widths", "sizes of each width of 2 to 8 digits", of_widths(2, 8, sizes_of_width)),
-        good("delta-widths-9-to-16", "v2-delta widths", "sizes of each width of 9 to 16 digits", of_widths(9, 16, sizes_of_width)),
-        good("delta-widths-17-to-24", "v2-delta widths", "sizes of each width of 17 to 24 digits", of_widths(17, 24, sizes_of_width)),
+        good(
+            "delta-widths-2-to-8",
+            "v2-delta widths",
+            "sizes of each width of 2 to 8 digits",
+            of_widths(2, 8, sizes_of_width),
+        ),
+        good(
+            "delta-widths-9-to-16",
+            "v2-delta widths",
+            "sizes of each width of 9 to 16 digits",
+            of_widths(9, 16, sizes_of_width),
+        ),
+        good(
+            "delta-widths-17-to-24",
+            "v2-delta widths",
+            "sizes of each width of 17 to 24 digits",
+            of_widths(17, 24, sizes_of_width),
+        ),
         good("delta-widths-26-to-64", "v2-delta widths", "sizes of 26 to 64 digits", of_widths(26, 64, sizes_of_width)),
         good(
             "delta-widest-size",
@@ -223,7 +281,8 @@ def deltas():
     ]
 
 
-# the run of the specification: 2030 2000 2020 1000000 2040 2050 and so on by tens to 2190, with the least number as its base
+# the run of the specification: 2030 2000 2020 1000000 2040 2050 and so on by tens to 2190, with the least number as
+# its base
 TENS = [30, 0, 20, 998000 % 256, *range(40, 200, 10)]
 
 
@@ -266,7 +325,12 @@ def patches():
             "as many entries as there may be",
             longs(patched(1, [i % 2 for i in range(64)], 1, [(0, 1), *[(2, 1)] * 30], 2, 1)),
         ),
-        good("patched-no-entries", "v2-patched v2-patched-own", "a run of no entries", longs(patched(40, [0, 3, 1], 2, [], 1, 1))),
+        good(
+            "patched-no-entries",
+            "v2-patched v2-patched-own",
+            "a run of no entries",
+            longs(patched(40, [0, 3, 1], 2, [], 1, 1)),
+        ),
         good(
             "patched-entries-rounded",
             "v2-patched v2-patched-own",
@@ -285,7 +349,9 @@ def patches():
             "bases of 1 to 8 bytes, below 0 and above",
             side_by_side(
                 {
-                    f"{name}{size}": patched(sign * ((1 << 8 * size - 1) - 1 - 2 * (sign > 0) * (size == 8)), [0, 1], 1, [(1, 0)], 1, 1)
+                    f"{name}{size}": patched(
+                        sign * ((1 << 8 * size - 1) - 1 - 2 * (sign > 0) * (size == 8)), [0, 1], 1, [(1, 0)], 1, 1
+                    )
                     for name, sign in (("minus", -1), ("plus", 1))
                     for size in range(1, 9)
                 }
@@ -307,19 +373,25 @@ def patches():
             "patched-widths",
             "v2-patched widths",
             "numbers of 1 to 48 digits, each patched above them",
-            side_by_side({f"w{width}": patched(0, [(1 << width) - 1, 0, 1], width, [(2, 5)], 2, 3) for width in WIDTHS[:29]}),
+            side_by_side(
+                {f"w{width}": patched(0, [(1 << width) - 1, 0, 1], width, [(2, 5)], 2, 3) for width in WIDTHS[:29]}
+            ),
         ),
         good(
             "patched-patch-widths",
             "v2-patched widths",
             "patches of each width of 1 to 56 digits",
-            side_by_side({f"p{width}": patched(-9, [0, 1], 1, [(1, (1 << width) - 1)], 1, width) for width in WIDTHS[:31]}),
+            side_by_side(
+                {f"p{width}": patched(-9, [0, 1], 1, [(1, (1 << width) - 1)], 1, width) for width in WIDTHS[:31]}
+            ),
         ),
         good(
             "patched-gap-widths",
             "v2-patched",
             "gaps of 1 to 8 digits",
-            side_by_side({f"g{wide}": patched(1, [0] * 256, 1, [((1 << wide) - 1, 1)], wide, 2) for wide in range(1, 9)}),
+            side_by_side(
+                {f"g{wide}": patched(1, [0] * 256, 1, [((1 << wide) - 1, 1)], wide, 2) for wide in range(1, 9)}
+            ),
         ),
         good(
             "patched-entries-of-64",
@@ -349,9 +421,23 @@ def bad_patches():
         ("cut", "run-short v2-patched", "a run without its last byte", "8e03370183e800010203600000", 4, "1 Short"),
         ("order", "v2-patch-faults", "a gap of 0 after the first entry", "8e0307020000000000808040", 4, "5 PatchOrder"),
         ("place", "v2-patch-faults", "an entry behind the last value", "8e03074100000000008020", 4, "6 PatchPlace"),
-        ("wide", "v2-patch-faults v2-patched-own", "a gap and a patch of 65 digits together", "80001f01", 1, "7 PatchRange"),
+        (
+            "wide",
+            "v2-patch-faults v2-patched-own",
+            "a gap and a patch of 65 digits together",
+            "80001f01",
+            1,
+            "7 PatchRange",
+        ),
         ("much", "v2-patch-faults", "a number past 2^64 - 1", "be00000100000000000000000140", 1, "7 PatchRange"),
-        ("past-the-greatest", "run-range v2-patched", "a number past 2^63 - 1", "8000e0007fffffffffffffff80", 1, "3 ValueRange"),
+        (
+            "past-the-greatest",
+            "run-range v2-patched",
+            "a number past 2^63 - 1",
+            "8000e0007fffffffffffffff80",
+            1,
+            "3 ValueRange",
+        ),
     ]
     return [
         refused(f"patched-{name}", rules, shows, bad(bytes.fromhex(content), count), at_data(f"{text} at 0"))

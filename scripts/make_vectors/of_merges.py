@@ -2,6 +2,7 @@
 from . import fields
 from .file import File
 from .merged import Merged
+from .of_indexes import UNTOLD, lists, nested
 from .of_tails import with_attributes
 
 from .runs import integers
@@ -51,7 +52,11 @@ class Inputs:
 def inputs():
     """All files that are merged."""
     found = Inputs()
-    told = fields.number(1, 2) + fields.number(10, 0) + fields.block(2, fields.signed(2, 5) + fields.signed(1, 3) + fields.signed(3, 8))
+    told = (
+        fields.number(1, 2)
+        + fields.number(10, 0)
+        + fields.block(2, fields.signed(2, 5) + fields.signed(1, 3) + fields.signed(3, 8))
+    )
     more = {"writer": 4, "writer_version": 9, "user": [("a", b"1"), ("b", b"\x00")]}
     many = Stat(1, False, true=MOST)
     missing = ["StripeStatistic 0 0", "StripeStatistic 0 1"]
@@ -63,13 +68,41 @@ def inputs():
     found.add("one", "the number 1", File(ONE, [rows(1)]))
     found.add("less", "the number -1", File(ONE, [rows(-1)]))
     found.add("lost", "a stripe whose sum doesn't fit", File(ONE, [rows(TOP, 1)]))
-    found.add("spelled", "a statistic with its fields in another order", File(ONE, [Stripe(rows(3, 5), stats={1: Stat(2, False, min=3, max=5, sum=8).spelled(told)})]))
-    found.add("no-nulls-told", "a stripe that doesn't say whether there are nulls", File(ONE, [Stripe(rows(6), stats={1: Stat(1, None, min=6, max=6, sum=6)})]), ["StripeStatistic 0 1", "FileStatistic 1"])
-    found.add("wrong", "a file whose own statistics are wrong, those of its stripe not", File(ONE, [rows(9)], stats={1: Stat(7, True)}), "FileStatistic 1")
-    found.add("more", "a writer, kept fields and user metadata", File(ONE, [rows(1)], kept=fields.number(12, 5), **more))
-    found.add("more-pairs", "the same with an equal pair and another one", File(ONE, [rows(2)], kept=fields.number(12, 5), **{**more, "user": [("b", b"\x00"), ("c", b"")]}))
-    found.add("pair-twice", "one equal pair twice", File(ONE, [rows(2)], kept=fields.number(12, 5), **{**more, "user": [("d", b"4"), ("d", b"4")]}))
-    found.add("other-pair", "another value for a name", File(ONE, [rows(2)], kept=fields.number(12, 5), **{**more, "user": [("b", b"\x01")]}))
+    found.add(
+        "spelled",
+        "a statistic with its fields in another order",
+        File(ONE, [Stripe(rows(3, 5), stats={1: Stat(2, False, min=3, max=5, sum=8).spelled(told)})]),
+    )
+    found.add(
+        "no-nulls-told",
+        "a stripe that doesn't say whether there are nulls",
+        File(ONE, [Stripe(rows(6), stats={1: Stat(1, None, min=6, max=6, sum=6)})]),
+        ["StripeStatistic 0 1", "FileStatistic 1"],
+    )
+    found.add(
+        "wrong",
+        "a file whose own statistics are wrong, those of its stripe not",
+        File(ONE, [rows(9)], stats={1: Stat(7, True)}),
+        "FileStatistic 1",
+    )
+    found.add(
+        "more", "a writer, kept fields and user metadata", File(ONE, [rows(1)], kept=fields.number(12, 5), **more)
+    )
+    found.add(
+        "more-pairs",
+        "the same with an equal pair and another one",
+        File(ONE, [rows(2)], kept=fields.number(12, 5), **{**more, "user": [("b", b"\x00"), ("c", b"")]}),
+    )
+    found.add(
+        "pair-twice",
+        "one equal pair twice",
+        File(ONE, [rows(2)], kept=fields.number(12, 5), **{**more, "user": [("d", b"4"), ("d", b"4")]}),
+    )
+    found.add(
+        "other-pair",
+        "another value for a name",
+        File(ONE, [rows(2)], kept=fields.number(12, 5), **{**more, "user": [("b", b"\x01")]}),
+    )
     found.add("pairs-that-differ", "one name with two values", File(ONE, [rows(2)], user=[("b", b"0"), ("b", b"1")]))
     found.add("other-kept", "other fields above 10", File(ONE, [rows(2)], kept=fields.number(12, 6), **more))
     found.add("attributes", "a type with attributes", File(with_attributes(), [rows(1)]))
@@ -83,16 +116,64 @@ def inputs():
     found.add("indexed-too", "a row index of the same stride", File(ONE, [rows(4), rows(5, 6)], stride=2))
     found.add("stride-3", "a row index of another stride", File(ONE, [rows(1)], stride=3))
     found.add("no-statistics", "no statistics of stripes", File(ONE, [rows(1)], tells_stripes=False), missing)
-    found.add("few-statistics", "statistics of the first of two columns", File(ONE, [rows(1)], metadata=lambda text: fields.block(1, fields.block(1, fields.number(1, 1) + fields.number(10, 0)))), "StripeStatistic 0 1")
-    found.add("many-values", "a stripe that tells of 2^62 values", File(ONE, [Stripe(rows(1), stats={1: Stat(MOST, False)})]), ["StripeStatistic 0 1", "FileStatistic 1"])
-    two = File(ONE, [Stripe(rows(1), stats={1: Stat(MOST, False)}), rows(2)], stats={1: Stat(2, False, min=1, max=2, sum=3)})
+    found.add(
+        "few-statistics",
+        "statistics of the first of two columns",
+        File(
+            ONE,
+            [rows(1)],
+            metadata=lambda text: fields.block(1, fields.block(1, fields.number(1, 1) + fields.number(10, 0))),
+        ),
+        "StripeStatistic 0 1",
+    )
+    found.add(
+        "many-values",
+        "a stripe that tells of 2^62 values",
+        File(ONE, [Stripe(rows(1), stats={1: Stat(MOST, False)})]),
+        ["StripeStatistic 0 1", "FileStatistic 1"],
+    )
+    two = File(
+        ONE, [Stripe(rows(1), stats={1: Stat(MOST, False)}), rows(2)], stats={1: Stat(2, False, min=1, max=2, sum=3)}
+    )
     found.add("too-many-values", "stripes that tell of 2^62 + 1 values together", two, "StripeStatistic 0 1")
-    found.add("many-true", "a stripe that tells of 2^62 that are true", File("struct<t:boolean>", [Stripe([{"t": True}], stats={1: many})]), ["StripeStatistic 0 1", "FileStatistic 1"])
-    found.add("lists", "lists, and how many elements they have", File("struct<a:array<int>>", [[{"a": [1, 2]}, {"a": None}]]))
-    found.add("lists-untold", "lists, and nothing of their elements", File("struct<a:array<int>>", [Stripe([{"a": [3]}], stats={1: Stat(1, False)})]))
-    found.add("damaged", "a stripe that doesn't decode", File(ONE, [Stripe(rows(1, 2, 3), {(1, DATA): b"\x4a"})]), fault="file 12 Stripe(0): stripe 3 Run(1, DATA): run 1 Short at 0")
+    found.add(
+        "many-true",
+        "a stripe that tells of 2^62 that are true",
+        File("struct<t:boolean>", [Stripe([{"t": True}], stats={1: many})]),
+        ["StripeStatistic 0 1", "FileStatistic 1"],
+    )
+    found.add(
+        "lists", "lists, and how many elements they have", File("struct<a:array<int>>", [[{"a": [1, 2]}, {"a": None}]])
+    )
+    found.add(
+        "lists-untold",
+        "lists, and nothing of their elements",
+        File("struct<a:array<int>>", [Stripe([{"a": [3]}], stats={1: Stat(1, False)})]),
+    )
+    found.add(
+        "damaged",
+        "a stripe that doesn't decode",
+        File(ONE, [Stripe(rows(1, 2, 3), {(1, DATA): b"\x4a"})]),
+        fault="file 12 Stripe(0): stripe 3 Run(1, DATA): run 1 Short at 0",
+    )
+    found.add("lists-of-lists", "lists of lists, and row indexes", lists())
+    found.add("lists-of-lists-untold", "the same, where nothing is told of elements", lists(**UNTOLD))
+    maps = [{"m": [["a", 1], ["b", None]]}, {"m": None}, {"m": []}]
+    found.add("maps", "maps, and how many pairs they have", File("struct<m:map<string,int>>", [maps], (0, 11)))
+    found.add("nested-maps-1", "maps of maps, in version 1", nested((0, 11)))
+    found.add("nested-maps-2", "maps of maps, in version 2", nested((0, 12)))
+    nines = Stripe(
+        rows(7, 7, 7, 9, 9, 9), {(1, DATA): bytes.fromhex("01000e000012")}, positions={(1, 0): [0, 0], (1, 1): [3, 0]}
+    )
+    short = "file 12 Stripe(0): stripe 3 Run(1, DATA): run 9 TooMany at 3"
+    found.add("damaged-before-a-group", "a group behind a bad run", File(ONE, [nines], (0, 11), stride=3), fault=short)
+    found.add("nines", "the same, and the run is right", File(ONE, [rows(7, 7, 7, 9, 9, 9)], (0, 11), stride=3))
     found.add("no-rows-in-a-stripe", "a stripe of no rows", File(ONE, [rows(7), []]))
-    found.add("tens", "ten rows, in runs of version 1", File(ONE, [Stripe(rows(*range(10)), {(1, DATA): integers(range(10), 1)}, encodings={1: 0})]))
+    found.add(
+        "tens",
+        "ten rows, in runs of version 1",
+        File(ONE, [Stripe(rows(*range(10)), {(1, DATA): integers(range(10), 1)}, encodings={1: 0})]),
+    )
     return found
 
 
@@ -100,7 +181,7 @@ def joined(found, name, rules, shows, names, findings=(), base="merges/in/", **m
     """A merge that is made."""
     paths = [base + each if "/" not in each else each for each in names]
     file = Merged([found.file(path) for path in paths])
-    places = places_of(file) if file.stride else ()
+    places = more.pop("places", places_of(file) if file.stride else ())
     vector = Vector(f"merges/{name}", rules, shows, file, findings, places, written=False, **more)
     found.vectors[f"merges/{name}"] = vector
     return Merge(name, rules, shows, paths, vector)
@@ -111,20 +192,75 @@ def made(found):
     short = "file 12 Stripe(1): stripe 3 Run(1, DATA): run 1 Short at 0"
     no_nulls = ["StripeStatistic 2 1", "FileStatistic 1"]
     return [
-        joined(found, "one-file", "merge-stripes merge-tail", "a merge of one file: the gap between its stripes is gone", ["a"]),
+        joined(
+            found,
+            "one-file",
+            "merge-stripes merge-tail",
+            "a merge of one file: the gap between its stripes is gone",
+            ["a"],
+        ),
         joined(found, "a-and-b", "merge-stripes", "stripes are copied in order, byte for byte", ["a", "b"]),
         joined(found, "b-and-c", "merge-stripes", "the second and the third file", ["b", "c"]),
         joined(found, "all", "merge-stripes merge-grouping", "three files at once", ["a", "b", "c"]),
-        joined(found, "first-two-before", "merge-grouping", "the same file, where the first two were merged before", ["merges/a-and-b", "merges/in/c"]),
-        joined(found, "last-two-before", "merge-grouping", "the same file, where the last two were merged before", ["merges/in/a", "merges/b-and-c"]),
+        joined(
+            found,
+            "first-two-before",
+            "merge-grouping",
+            "the same file, where the first two were merged before",
+            ["merges/a-and-b", "merges/in/c"],
+        ),
+        joined(
+            found,
+            "last-two-before",
+            "merge-grouping",
+            "the same file, where the last two were merged before",
+            ["merges/in/a", "merges/b-and-c"],
+        ),
         joined(found, "twice", "merge-stripes", "a file with itself", ["b", "b"]),
         joined(found, "none-before", "merge-stripes", "a file without rows, and one with", ["none", "c"]),
         joined(found, "none-behind", "merge-stripes", "a file with rows, and one without", ["c", "none"]),
         joined(found, "none-of-both", "merge-stripes", "two files without rows", ["none", "none"]),
-        joined(found, "no-rows-in-a-stripe", "merge-stripes", "stripes of no rows are copied", ["no-rows-in-a-stripe", "c"]),
+        joined(
+            found,
+            "elements-not-told",
+            "merge-statistics children-unknown",
+            "a file that tells of elements, and one that doesn't, each with row indexes",
+            ["lists-of-lists", "lists-of-lists-untold"],
+        ),
+        joined(found, "lists-twice", "merge-stripes merge-statistics", "lists of lists twice", ["lists-of-lists"] * 2),
+        joined(found, "maps-twice", "merge-stripes merge-statistics", "the pairs of both are counted", ["maps"] * 2),
+        *(
+            joined(
+                found,
+                f"nested-maps-{at}",
+                "merge-stripes positions",
+                "maps of maps and their indexes",
+                [f"nested-maps-{at}"] * 2,
+            )
+            for at in (1, 2)
+        ),
+        joined(
+            found,
+            "damaged-before-a-group",
+            "merge-stripes positions",
+            "the second stripe is bad, and the rows of its second group are right",
+            ["nines", "damaged-before-a-group"],
+            places=[(1, 1)],
+            fault="file 12 Stripe(1): stripe 3 Run(1, DATA): run 9 TooMany at 3",
+            good_stripes=1,
+        ),
+        joined(
+            found, "no-rows-in-a-stripe", "merge-stripes", "stripes of no rows are copied", ["no-rows-in-a-stripe", "c"]
+        ),
         joined(found, "both-versions", "merge-stripes encodings", "stripes of both versions of runs", ["tens", "c"]),
         *(
-            joined(found, "sum-" + "-".join(order), "merge-statistics merge-orders", "each order has the same statistics: the sum of all fits", order)
+            joined(
+                found,
+                "sum-" + "-".join(order),
+                "merge-statistics merge-orders",
+                "each order has the same statistics: the sum of all fits",
+                order,
+            )
             for order in (
                 ("greatest", "one", "less"),
                 ("greatest", "less", "one"),
@@ -134,24 +270,98 @@ def made(found):
                 ("less", "one", "greatest"),
             )
         ),
-        joined(found, "sum-that-does-not-fit", "merge-statistics", "the sums fit, their total doesn't", ["greatest", "one"]),
-        joined(found, "sum-that-is-lost", "merge-statistics", "a stripe's sum is lost, and so is that of all", ["lost", "less"]),
-        joined(found, "statistics-of-stripes", "merge-statistics", "the inputs' own file statistics have no part", ["wrong", "c"]),
-        joined(found, "statistics-spelled-anew", "merge-tail", "statistics are written in the order of their fields", ["spelled", "c"]),
-        joined(found, "nulls-not-told", "merge-statistics nulls-unknown", "where a part doesn't say of nulls, the whole doesn't", ["a", "no-nulls-told"], no_nulls),
-        joined(found, "nulls-told-by-another", "merge-statistics nulls-unknown", "a part with nulls: the whole has nulls, although another part doesn't say", ["b", "no-nulls-told"], ["StripeStatistic 1 1"]),
-        joined(found, "children-not-told", "merge-statistics children-unknown", "where a part doesn't tell of children, the whole doesn't", ["lists", "lists-untold"]),
-        joined(found, "true-past-2^62", "merge-statistics statistics-limits", "counts of true that are above 2^62 together aren't told", ["many-true", "many-true"], ["StripeStatistic 0 1", "StripeStatistic 1 1", "FileStatistic 1"]),
+        joined(
+            found, "sum-that-does-not-fit", "merge-statistics", "the sums fit, their total doesn't", ["greatest", "one"]
+        ),
+        joined(
+            found,
+            "sum-that-is-lost",
+            "merge-statistics",
+            "a stripe's sum is lost, and so is that of all",
+            ["lost", "less"],
+        ),
+        joined(
+            found,
+            "statistics-of-stripes",
+            "merge-statistics",
+            "the inputs' own file statistics have no part",
+            ["wrong", "c"],
+        ),
+        joined(
+            found,
+            "statistics-spelled-anew",
+            "merge-tail",
+            "statistics are written in the order of their fields",
+            ["spelled", "c"],
+        ),
+        joined(
+            found,
+            "nulls-not-told",
+            "merge-statistics nulls-unknown",
+            "where a part doesn't say of nulls, the whole doesn't",
+            ["a", "no-nulls-told"],
+            no_nulls,
+        ),
+        joined(
+            found,
+            "nulls-told-by-another",
+            "merge-statistics nulls-unknown",
+            "a part with nulls: the whole has nulls, although another part doesn't say",
+            ["b", "no-nulls-told"],
+            ["StripeStatistic 1 1"],
+        ),
+        joined(
+            found,
+            "children-not-told",
+            "merge-statistics children-unknown",
+            "where a part doesn't tell of children, the whole doesn't",
+            ["lists", "lists-untold"],
+        ),
+        joined(
+            found,
+            "true-past-2^62",
+            "merge-statistics statistics-limits",
+            "counts of true that are above 2^62 together aren't told",
+            ["many-true", "many-true"],
+            ["StripeStatistic 0 1", "StripeStatistic 1 1", "FileStatistic 1"],
+        ),
         joined(found, "pairs", "merge-user", "the pairs of both, each name once", ["more", "more-pairs"]),
-        joined(found, "pair-twice", "merge-user", "an equal pair that one file has twice is written once", ["pair-twice", "more"]),
-        joined(found, "attributes", "merge-tail types", "a type's other fields stay as they stood", ["attributes", "attributes"]),
-        joined(found, "indexes", "merge-stripes positions", "row indexes are copied with their stripes", ["indexed", "indexed-too"]),
-        joined(found, "damaged", "merge-stripes", "stripes aren't read: a bad one is copied, and refused when it is read", ["c", "damaged"], fault=short, good_stripes=1),
+        joined(
+            found,
+            "pair-twice",
+            "merge-user",
+            "an equal pair that one file has twice is written once",
+            ["pair-twice", "more"],
+        ),
+        joined(
+            found,
+            "attributes",
+            "merge-tail types",
+            "a type's other fields stay as they stood",
+            ["attributes", "attributes"],
+        ),
+        joined(
+            found,
+            "indexes",
+            "merge-stripes positions",
+            "row indexes are copied with their stripes",
+            ["indexed", "indexed-too"],
+        ),
+        joined(
+            found,
+            "damaged",
+            "merge-stripes",
+            "stripes aren't read: a bad one is copied, and refused when it is read",
+            ["c", "damaged"],
+            fault=short,
+            good_stripes=1,
+        ),
     ]
 
 
 def refused():
     """Merges that are refused: nothing is written."""
+
     def apart(name, rules, shows, names, fault):
         paths = [f"merges/in/{each}" if "/" not in each else each for each in names]
         return Merge(name, rules, shows, paths, fault=f"merge {fault}")
@@ -159,24 +369,100 @@ def refused():
     schema_rule = "merge-schema"
     return [
         apart("refused-no-input", "merge-inputs", "no input", [], "1 NoInput"),
-        apart("refused-no-file", "merge-inputs", "the third input is no file", ["c", "c", "tails/other-front"], "2 File(2): file 1 NotOrc"),
-        apart("refused-compressed", "merge-inputs", "the second input is compressed", ["c", "tails/compressed-1"], "2 File(1): file 3 Compressed(1)"),
+        apart(
+            "refused-no-file",
+            "merge-inputs",
+            "the third input is no file",
+            ["c", "c", "tails/other-front"],
+            "2 File(2): file 1 NotOrc",
+        ),
+        apart(
+            "refused-compressed",
+            "merge-inputs",
+            "the second input is compressed",
+            ["c", "tails/compressed-1"],
+            "2 File(1): file 3 Compressed(1)",
+        ),
         apart("refused-kind", schema_rule, "INT and LONG", ["c", "int"], "3 SchemaDiffers(1)"),
         apart("refused-name", schema_rule, "columns of two names", ["c", "c", "other-name"], "3 SchemaDiffers(2)"),
-        apart("refused-attributes", schema_rule, "a type with attributes, and one without", ["int", "attributes"], "3 SchemaDiffers(1)"),
-        apart("refused-version", "merge-version", "versions 0.12 and 0.11", ["c", "other-version"], "4 VersionDiffers(1)"),
-        apart("refused-writer", "merge-version", "no writer, and the writer of number 0", ["c", "writer-0"], "4 VersionDiffers(1)"),
-        apart("refused-writer-version", "merge-version", "two versions of the writer", ["c", "other-writer-version"], "4 VersionDiffers(1)"),
-        apart("refused-no-writer-version", "merge-version", "a version of the writer, and none", ["c", "no-writer-version"], "4 VersionDiffers(1)"),
+        apart(
+            "refused-attributes",
+            schema_rule,
+            "a type with attributes, and one without",
+            ["int", "attributes"],
+            "3 SchemaDiffers(1)",
+        ),
+        apart(
+            "refused-version", "merge-version", "versions 0.12 and 0.11", ["c", "other-version"], "4 VersionDiffers(1)"
+        ),
+        apart(
+            "refused-writer",
+            "merge-version",
+            "no writer, and the writer of number 0",
+            ["c", "writer-0"],
+            "4 VersionDiffers(1)",
+        ),
+        apart(
+            "refused-writer-version",
+            "merge-version",
+            "two versions of the writer",
+            ["c", "other-writer-version"],
+            "4 VersionDiffers(1)",
+        ),
+        apart(
+            "refused-no-writer-version",
+            "merge-version",
+            "a version of the writer, and none",
+            ["c", "no-writer-version"],
+            "4 VersionDiffers(1)",
+        ),
         apart("refused-stride", "merge-stride", "strides of 2 and of 3", ["indexed", "stride-3"], "5 StrideDiffers(1)"),
-        apart("refused-stride-and-none", "merge-stride", "no stride, and one of 2", ["c", "indexed"], "5 StrideDiffers(1)"),
-        apart("refused-kept", "merge-kept", "fields above 10 that differ", ["more", "other-kept"], "6 OtherFooterFields(1)"),
-        apart("refused-pairs", "merge-user", "one name with two values in two files", ["more", "other-pair"], "7 UserMetadataConflict(1)"),
-        apart("refused-pairs-of-one-file", "merge-user", "one name with two values in one file", ["pairs-that-differ"], "7 UserMetadataConflict(0)"),
-        apart("refused-no-statistics", "merge-statistics", "an input without statistics of its stripe", ["no-statistics"], "8 NoStripeStatistics(0)"),
-        apart("refused-few-statistics", "merge-statistics", "an input without statistics of a column", ["c", "few-statistics"], "8 NoStripeStatistics(1)"),
+        apart(
+            "refused-stride-and-none", "merge-stride", "no stride, and one of 2", ["c", "indexed"], "5 StrideDiffers(1)"
+        ),
+        apart(
+            "refused-kept",
+            "merge-kept",
+            "fields above 10 that differ",
+            ["more", "other-kept"],
+            "6 OtherFooterFields(1)",
+        ),
+        apart(
+            "refused-pairs",
+            "merge-user",
+            "one name with two values in two files",
+            ["more", "other-pair"],
+            "7 UserMetadataConflict(1)",
+        ),
+        apart(
+            "refused-pairs-of-one-file",
+            "merge-user",
+            "one name with two values in one file",
+            ["pairs-that-differ"],
+            "7 UserMetadataConflict(0)",
+        ),
+        apart(
+            "refused-no-statistics",
+            "merge-statistics",
+            "an input without statistics of its stripe",
+            ["no-statistics"],
+            "8 NoStripeStatistics(0)",
+        ),
+        apart(
+            "refused-few-statistics",
+            "merge-statistics",
+            "an input without statistics of a column",
+            ["c", "few-statistics"],
+            "8 NoStripeStatistics(1)",
+        ),
         apart("refused-values", "merge-limits", "more than 2^62 values together", ["many-values", "c"], "9 Limit(1)"),
-        apart("refused-values-of-one-file", "merge-limits", "an input whose own stripes tell of more than 2^62 values", ["too-many-values", "c"], "9 Limit(0)"),
+        apart(
+            "refused-values-of-one-file",
+            "merge-limits",
+            "an input whose own stripes tell of more than 2^62 values",
+            ["too-many-values", "c"],
+            "9 Limit(0)",
+        ),
     ]
 
 

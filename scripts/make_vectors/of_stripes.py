@@ -61,7 +61,12 @@ def good_stripes():
             "a stripe of no rows between others: it has a footer alone",
             File(ONE, [rows(1, 2), [], rows(3)]),
         ),
-        good("several", "stripe-parts", "stripes of different numbers of rows", File(TWO, [pairs(1), pairs(2, 3, 4), pairs(5, 6)])),
+        good(
+            "several",
+            "stripe-parts",
+            "stripes of different numbers of rows",
+            File(TWO, [pairs(1), pairs(2, 3, 4), pairs(5, 6)]),
+        ),
         good(
             "gaps",
             "stripe-gaps",
@@ -83,7 +88,13 @@ def good_stripes():
                 [
                     Stripe(
                         pairs(1, 2),
-                        {(0, DATA): b"xx", (1, LENGTH): b"yyy", (1, DICTIONARY_DATA): b"z", (2, SECONDARY): b"", (2, 9): b"w"},
+                        {
+                            (0, DATA): b"xx",
+                            (1, LENGTH): b"yyy",
+                            (1, DICTIONARY_DATA): b"z",
+                            (2, SECONDARY): b"",
+                            (2, 9): b"w",
+                        },
                         arrange=lambda entries: [Entry(1, DICTIONARY_COUNT, b"v"), *entries],
                     )
                 ],
@@ -99,14 +110,31 @@ def good_stripes():
             "bloom-filters",
             "stripe-directory",
             "Bloom filters stand among the indexes, and are stepped over",
-            one(arrange=lambda entries: [Entry(1, BLOOM_FILTER, bytes(9)), Entry(1, BLOOM_FILTER_UTF8, b"\x0a\x00"), *entries]),
+            one(
+                arrange=lambda entries: [
+                    Entry(1, BLOOM_FILTER, bytes(9)),
+                    Entry(1, BLOOM_FILTER_UTF8, b"\x0a\x00"),
+                    *entries,
+                ]
+            ),
         ),
-        good("bytes-behind-the-streams", "stripe-directory", "bytes of the data that no stream has", one(filler=b"to spare")),
+        good(
+            "bytes-behind-the-streams",
+            "stripe-directory",
+            "bytes of the data that no stream has",
+            one(filler=b"to spare"),
+        ),
         good(
             "unknown-fields",
             "stripe-footer messages-unknown",
             "the time zone of the writer and unknown fields of the stripe's footer are passed over",
-            one(footer=lambda text: fields.number(99, 5) + text + fields.block(3, "UTC") + fields.eight(7, 1) + fields.four(8, 1)),
+            one(
+                footer=lambda text: fields.number(99, 5)
+                + text
+                + fields.block(3, "UTC")
+                + fields.eight(7, 1)
+                + fields.four(8, 1)
+            ),
         ),
         good(
             "encodings-before-streams",
@@ -144,7 +172,12 @@ def good_stripes():
             "a dictionary of version 1 beside numbers of version 2",
             File(TWO, [Stripe(pairs(5, 5), **old)]),
         ),
-        good("version-of-the-file-means-nothing", "tail-version", "runs of version 2 in a file of version 0.11", File(ONE, [rows(1, 2)], (0, 11), runs=2)),
+        good(
+            "version-of-the-file-means-nothing",
+            "tail-version",
+            "runs of version 2 in a file of version 0.11",
+            File(ONE, [rows(1, 2)], (0, 11), runs=2),
+        ),
     ]
 
 
@@ -167,7 +200,9 @@ def bad_directories():
             one(arrange=with_more((1, SECONDARY, b"", (1 << 63)), (1, 9, b"", 1 << 63))),
             directory,
         ),
-        refused("kind-twice", "bad-directory", "two DATA of one column", one(arrange=with_more((1, DATA, b""))), directory),
+        refused(
+            "kind-twice", "bad-directory", "two DATA of one column", one(arrange=with_more((1, DATA, b""))), directory
+        ),
         refused(
             "unknown-kind-twice",
             "bad-directory",
@@ -175,9 +210,26 @@ def bad_directories():
             one(arrange=with_more((1, 99, b""), (1, 99, b""))),
             directory,
         ),
-        refused("data-of-no-column", "bad-directory", "DATA of a column that isn't there", one(arrange=with_more((2, DATA, b""))), directory),
         refused(
-            "present-of-no-column", "bad-directory", "PRESENT of a column that isn't there", one(arrange=with_more((2, PRESENT, b""))), directory
+            "data-of-no-column",
+            "bad-directory",
+            "DATA of a column that isn't there",
+            one(arrange=with_more((2, DATA, b""))),
+            directory,
+        ),
+        *(
+            refused(
+                f"{name}-of-no-column",
+                "bad-directory",
+                f"{kind} of a column that isn't there",
+                one(arrange=with_more((2, at, b""))),
+                directory,
+            )
+            for name, kind, at in (
+                ("present", "PRESENT", PRESENT),
+                ("length", "LENGTH", LENGTH),
+                ("entries", "DICTIONARY_DATA", DICTIONARY_DATA),
+            )
         ),
         refused(
             "index-of-no-column",
@@ -186,10 +238,35 @@ def bad_directories():
             one(arrange=lambda entries: [Entry(2, ROW_INDEX, b""), *entries]),
             directory,
         ),
-        refused("encoding-missing", "encodings", "two columns, and one encoding", one(footer=lambda own: own[:-4]), "2 BadEncoding(1)"),
-        refused("encoding-too-many", "encodings", "two columns, and three encodings", one(footer=lambda own: own + text), "2 BadEncoding(2)"),
+        refused(
+            "encoding-missing",
+            "encodings",
+            "two columns, and one encoding",
+            one(footer=lambda own: own[:-4]),
+            "2 BadEncoding(1)",
+        ),
+        refused(
+            "encoding-too-many",
+            "encodings",
+            "two columns, and three encodings",
+            one(footer=lambda own: own + text),
+            "2 BadEncoding(2)",
+        ),
         refused("encoding-unknown", "encodings", "an encoding of kind 4", one(encodings={1: 4}), "2 BadEncoding(1)"),
-        refused("dictionary-of-numbers", "encodings", "a column of INT by dictionary", one(encodings={1: 3}), "2 BadEncoding(1)"),
+        refused(
+            "dictionary-of-numbers",
+            "encodings",
+            "a column of INT by dictionary",
+            one(encodings={1: 3}),
+            "2 BadEncoding(1)",
+        ),
+        refused(
+            "dictionary-of-booleans",
+            "encodings",
+            "a BOOLEAN by dictionary",
+            File("struct<t:boolean>", [Stripe([{"t": True}], encodings={1: 1})]),
+            "2 BadEncoding(1)",
+        ),
         refused("dictionary-of-rows", "encodings", "a STRUCT by dictionary", one(encodings={0: 1}), "2 BadEncoding(0)"),
     ]
 
@@ -197,7 +274,13 @@ def bad_directories():
 def bad_footers():
     """Stripes whose footers are no messages."""
     return [
-        refused("footer-cut", "stripe-footer messages", "the footer ends within a field", one(footer=lambda own: own[:-1]), "9 Wire: wire 1 Short at 12"),
+        refused(
+            "footer-cut",
+            "stripe-footer messages",
+            "the footer ends within a field",
+            one(footer=lambda own: own[:-1]),
+            "9 Wire: wire 1 Short at 12",
+        ),
         refused(
             "footer-of-a-group",
             "stripe-footer messages",
@@ -271,9 +354,27 @@ def values_of(many):
     abc = {DATA: b"abc", LENGTH: data_of(v1_run(1, 0, 3, UNSIGNED))}
     indexes = {DATA: bytes.fromhex("ff00"), LENGTH: data_of(v1_literals([3], UNSIGNED)), DICTIONARY_DATA: b"abc"}
     return [
-        ("booleans", few, "rows of a boolean", told_rows("boolean", many, {DATA: bytes.fromhex("ff80")}), "3 Run(1, DATA): run 8 TooFew at 2"),
-        ("bytes", few, "rows of a byte", told_rows("tinyint", many, {DATA: bytes.fromhex("fd010203")}), "3 Run(1, DATA): run 8 TooFew at 4"),
-        ("numbers", few, "rows of a number in version 1", told_rows("bigint", many, {DATA: seven}), "3 Run(1, DATA): run 8 TooFew at 3"),
+        (
+            "booleans",
+            few,
+            "rows of a boolean",
+            told_rows("boolean", many, {DATA: bytes.fromhex("ff80")}),
+            "3 Run(1, DATA): run 8 TooFew at 2",
+        ),
+        (
+            "bytes",
+            few,
+            "rows of a byte",
+            told_rows("tinyint", many, {DATA: bytes.fromhex("fd010203")}),
+            "3 Run(1, DATA): run 8 TooFew at 4",
+        ),
+        (
+            "numbers",
+            few,
+            "rows of a number in version 1",
+            told_rows("bigint", many, {DATA: seven}),
+            "3 Run(1, DATA): run 8 TooFew at 3",
+        ),
         (
             "numbers-2",
             few,
@@ -281,9 +382,21 @@ def values_of(many):
             told_rows("bigint", many, {DATA: bytes.fromhex("0a2710")}, (0, 12)),
             "3 Run(1, DATA): run 8 TooFew at 3",
         ),
-        ("nulls", few, "rows of nulls", told_rows("bigint", many, {PRESENT: bytes.fromhex("7f00")}), "3 Run(1, PRESENT): run 8 TooFew at 2"),
+        (
+            "nulls",
+            few,
+            "rows of nulls",
+            told_rows("bigint", many, {PRESENT: bytes.fromhex("7f00")}),
+            "3 Run(1, PRESENT): run 8 TooFew at 2",
+        ),
         ("texts", few, "rows of a text", told_rows("string", many, abc), "3 Run(1, LENGTH): run 8 TooFew at 3"),
-        ("indexes", few, "rows of a dictionary's entry", told_rows("string", many, indexes), "3 Run(1, DATA): run 8 TooFew at 2"),
+        (
+            "indexes",
+            few,
+            "rows of a dictionary's entry",
+            told_rows("string", many, indexes),
+            "3 Run(1, DATA): run 8 TooFew at 2",
+        ),
     ]
 
 
@@ -298,7 +411,13 @@ def entries_of(many):
     sized = Stripe(row, three, dictionaries={1: ["abc"]}, footer=lambda own: own[:-6] + size)
     entry = Stripe(row, {**streams, (1, LENGTH): long}, dictionaries={1: ["abc"]})
     return [
-        ("entries", "run-count tells-of-much", "a dictionary's entries", File(root, [sized], **quiet), "3 Run(1, LENGTH): run 8 TooFew at 3"),
+        (
+            "entries",
+            "run-count tells-of-much",
+            "a dictionary's entries",
+            File(root, [sized], **quiet),
+            "3 Run(1, LENGTH): run 8 TooFew at 3",
+        ),
         (
             "bytes-of-an-entry",
             "strings-lengths tells-of-much",
@@ -341,7 +460,13 @@ def items_of(many):
             listed("array<tinyint>", {(2, DATA): bytes.fromhex("fd010203")}),
             "3 Run(2, DATA): run 8 TooFew at 4",
         ),
-        ("numbers-of-a-list", few, "a list's numbers", listed("array<bigint>", {(2, DATA): seven}), "3 Run(2, DATA): run 8 TooFew at 3"),
+        (
+            "numbers-of-a-list",
+            few,
+            "a list's numbers",
+            listed("array<bigint>", {(2, DATA): seven}),
+            "3 Run(2, DATA): run 8 TooFew at 3",
+        ),
         (
             "texts-of-a-list",
             few,

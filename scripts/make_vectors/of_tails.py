@@ -1,4 +1,5 @@
-"""Vectors of tails: the tests that a file passes before a stripe is read, their order and limits; messages and types."""
+"""Vectors of tails: the tests that a file passes before a stripe is read, their order and limits; messages and
+types."""
 from . import fields
 from .file import File, info_text
 from .fields import apart, block, eight, four, key, number, packed, varint
@@ -43,18 +44,61 @@ def postscripts():
             "block-size",
             "tail-postscript messages-unknown",
             "the size of blocks of a compression that there isn't, and unknown fields, are passed over",
-            one(postscript=lambda parts: parts.update(compression=parts["compression"] + number(3, 262144), magic=number(77, 1) + END)),
+            one(
+                postscript=lambda parts: parts.update(
+                    compression=parts["compression"] + number(3, 262144), magic=number(77, 1) + END
+                )
+            ),
         ),
-        good("no-compression-field", "messages-missing tail-compression", "a missing compression is 0, which is none", one(postscript=with_parts(compression=b""))),
-        good("no-metadata-field", "messages-missing", "a missing length of the metadata is 0", File(ONE, [], postscript=with_parts(metadata=b""))),
+        good(
+            "no-compression-field",
+            "messages-missing tail-compression",
+            "a missing compression is 0, which is none",
+            one(postscript=with_parts(compression=b"")),
+        ),
+        good(
+            "no-metadata-field",
+            "messages-missing",
+            "a missing length of the metadata is 0",
+            File(ONE, [], postscript=with_parts(metadata=b"")),
+        ),
         good("no-version", "tail-version", "a postscript without a version", one(version=())),
         good("version-of-16-numbers", "tail-version", "a version of sixteen numbers, the most", one(version=range(16))),
         good("version-2.0", "tail-version", "a version that there isn't yet", one(version=(2, 0))),
-        good("version-not-packed", "tail-version messages-lists", "the version's numbers, a field each", one(postscript=with_parts(version=apart(4, [0, 12])))),
-        good("no-writer-version", "tail-postscript", "nothing is said of the writer's version", one(writer_version=None)),
+        good(
+            "version-not-packed",
+            "tail-version messages-lists",
+            "the version's numbers, a field each",
+            one(postscript=with_parts(version=apart(4, [0, 12]))),
+        ),
+        good(
+            "no-writer-version", "tail-postscript", "nothing is said of the writer's version", one(writer_version=None)
+        ),
         good("fields-in-any-order", "messages", "the postscript's fields in another order", one(postscript=turned)),
-        good("numbers-twice", "messages-last", "of a length that stands twice the last counts", one(postscript=lambda parts: parts.update(footer=number(1, 9) + parts["footer"]))),
-        good("long-varints", "varint", "lengths in more bytes than they need", one(postscript=lambda parts: parts.update(metadata=long_number(parts["metadata"])))),
+        good(
+            "numbers-twice",
+            "messages-last",
+            "of a length that stands twice the last counts",
+            one(postscript=lambda parts: parts.update(footer=number(1, 9) + parts["footer"])),
+        ),
+        good(
+            "magic-twice",
+            "messages-last tail-magic",
+            "of a text that stands twice the last counts",
+            one(postscript=with_parts(magic=block(8000, "OLD") + END)),
+        ),
+        good(
+            "field-of-the-greatest-number",
+            "messages messages-unknown",
+            "an unknown field of number 2^29 - 1",
+            one(postscript=with_parts(magic=number((1 << 29) - 1, 5) + END)),
+        ),
+        good(
+            "long-varints",
+            "varint",
+            "lengths in more bytes than they need",
+            one(postscript=lambda parts: parts.update(metadata=long_number(parts["metadata"]))),
+        ),
         good(
             "postscript-of-255-bytes",
             "tail-postscript",
@@ -62,22 +106,99 @@ def postscripts():
             one(postscript=lambda parts: parts.update(magic=block(99, bytes(229)) + END)),
         ),
         refused("empty", "tail-magic", "a file of no bytes", b"", "file 1 NotOrc"),
+        refused("two-bytes", "tail-magic", "a file of `OR` alone", b"OR", "file 1 NotOrc"),
         refused("three-bytes", "tail-magic", "a file of `ORC` alone", b"ORC", "file 1 NotOrc"),
-        refused("other-front", "tail-magic", "a file that doesn't begin with `ORC`", b"orc" + one().content[3:], "file 1 NotOrc"),
-        refused("other-magic", "tail-magic", "a postscript with another magic", one(postscript=with_parts(magic=block(8000, "OLD"))), "file 1 NotOrc"),
-        refused("postscript-too-long", "tail-lengths", "the last byte tells of more bytes than there are", one(last=255), lengths),
-        refused("postscript-of-the-whole-file", "tail-lengths", "of as many bytes as would leave no room for `ORC`", one_byte_too_many(), lengths),
-        refused("postscript-cut", "tail-postscript messages", "the last byte tells of one byte, which is a key of wire type 3", one(last=1), bad),
-        refused("no-postscript", "tail-postscript messages-missing", "a postscript of no bytes tells of no footer, which has no types", one(last=0), "file 8 BadTypes: type 5 RootNotStruct"),
+        refused(
+            "other-front",
+            "tail-magic",
+            "a file that doesn't begin with `ORC`",
+            b"orc" + one().content[3:],
+            "file 1 NotOrc",
+        ),
+        refused(
+            "other-magic",
+            "tail-magic",
+            "a postscript with another magic",
+            one(postscript=with_parts(magic=block(8000, "OLD"))),
+            "file 1 NotOrc",
+        ),
+        refused(
+            "postscript-too-long",
+            "tail-lengths",
+            "the last byte tells of more bytes than there are",
+            one(last=255),
+            lengths,
+        ),
+        refused(
+            "postscript-of-the-whole-file",
+            "tail-lengths",
+            "of as many bytes as would leave no room for `ORC`",
+            one_byte_too_many(),
+            lengths,
+        ),
+        refused(
+            "postscript-cut",
+            "tail-postscript messages",
+            "the last byte tells of one byte, which is a key of wire type 3",
+            one(last=1),
+            bad,
+        ),
+        refused(
+            "no-postscript",
+            "tail-postscript messages-missing",
+            "a postscript of no bytes tells of no footer, which has no types",
+            one(last=0),
+            "file 8 BadTypes: type 5 RootNotStruct",
+        ),
         refused("version-of-17-numbers", "tail-version", "a version of seventeen numbers", one(version=range(17)), bad),
-        refused("version-of-33-digits", "messages-range", "a number of the version is 2^32", one(version=[0, 1 << 32]), bad),
-        refused("magic-cut", "tail-postscript messages", "the magic is longer than the postscript", one(postscript=with_parts(magic=END[:-1])), bad),
+        refused(
+            "version-of-33-digits", "messages-range", "a number of the version is 2^32", one(version=[0, 1 << 32]), bad
+        ),
+        refused(
+            "field-past-the-greatest-number",
+            "messages tail-postscript",
+            "an unknown field of number 2^29",
+            one(postscript=with_parts(magic=number(1 << 29, 5) + END)),
+            bad,
+        ),
+        refused(
+            "field-of-wire-type-6",
+            "messages tail-postscript",
+            "an unknown field of wire type 6",
+            one(postscript=with_parts(magic=key(99, 6) + END)),
+            bad,
+        ),
+        refused(
+            "magic-cut",
+            "tail-postscript messages",
+            "the magic is longer than the postscript",
+            one(postscript=with_parts(magic=END[:-1])),
+            bad,
+        ),
         *(
-            refused(f"compressed-{kind}", "tail-compression", f"compression of kind {kind}", one(postscript=with_parts(compression=number(2, kind))), f"file 3 Compressed({kind})")
+            refused(
+                f"compressed-{kind}",
+                "tail-compression",
+                f"compression of kind {kind}",
+                one(postscript=with_parts(compression=number(2, kind))),
+                f"file 3 Compressed({kind})",
+            )
             for kind in (1, 2, 3, 4, 5, 77)
         ),
-        refused("footer-too-long", "tail-lengths", "a footer longer than the file", one(postscript=with_parts(footer=number(1, 9999))), lengths),
-        refused("metadata-too-long", "tail-lengths", "a metadata longer than the file", one(postscript=with_parts(metadata=number(5, 9999))), lengths),
+        refused(
+            "footer-too-long",
+            "tail-lengths",
+            "a footer longer than the file",
+            one(postscript=with_parts(footer=number(1, 9999))),
+            lengths,
+        ),
+        refused(
+            "metadata-too-long",
+            "tail-lengths",
+            "a metadata longer than the file",
+            one(postscript=with_parts(metadata=number(5, 9999))),
+            lengths,
+        ),
         refused(
             "lengths-past-64-digits",
             "tail-lengths",
@@ -109,34 +230,135 @@ def footers():
     """Footers that are read, and ones that aren't."""
     bad, stat = "file 6 BadFooter", number(1, 2) + number(10, 0)
     return [
-        good("lengths-that-nobody-reads", "tail-footer", "the lengths of header and content aren't tested", one(footer=with_parts(header=number(1, 77), content=b""))),
+        good(
+            "lengths-that-nobody-reads",
+            "tail-footer",
+            "the lengths of header and content aren't tested",
+            one(footer=with_parts(header=number(1, 77), content=b"")),
+        ),
         good("writer", "tail-footer", "a writer of number 1", one(writer=1)),
-        good("kept-fields", "tail-footer", "fields above 10 of every wire type are passed over", one(kept=number(11, 5) + eight(12, 6) + block(13, "x") + four(14, 7))),
+        good(
+            "kept-fields",
+            "tail-footer",
+            "fields above 10 of every wire type are passed over",
+            one(kept=number(11, 5) + eight(12, 6) + block(13, "x") + four(14, 7)),
+        ),
         good(
             "known-numbers-of-other-types",
-            "tail-footer messages-unknown",
+            "tail-footer messages-types",
             "a known number with another wire type is an unknown field",
-            one(footer=lambda parts: parts.update(rows=block(6, "no") + parts["rows"] + four(8, 9), header=block(1, b""))),
+            one(
+                footer=lambda parts: parts.update(
+                    rows=block(6, "no") + parts["rows"] + four(8, 9), header=block(1, b"")
+                )
+            ),
         ),
-        good("user-metadata", "tail-footer", "pairs of a name and bytes, which may be empty; a name that is no UTF-8", one(user=[("key", b"\x00\xff"), ("", b""), ("ä\"", b"v"), (b"\xff", b"w")])),
+        good(
+            "user-metadata",
+            "tail-footer shown",
+            "pairs of a name and bytes, which may be empty; a name that is no UTF-8",
+            one(user=[("key", b"\x00\xff"), ("", b""), ('ä"', b"v"), (b"\xff", b"w")]),
+        ),
+        good(
+            "user-metadata-without-rows",
+            "tail-footer shown",
+            "a pair in a file of no rows",
+            File(ONE, [], user=[("k", b"\x00")]),
+        ),
+        good(
+            "user-metadata-without-texts",
+            "messages-missing tail-footer",
+            "a pair that has no name, and one that has no value: both are empty",
+            File(
+                ONE,
+                [rows(1)],
+                user=[("", b"v"), ("k", b"")],
+                footer=with_parts(user=block(5, block(2, "v")) + block(5, block(1, "k"))),
+            ),
+        ),
         good(
             "fields-in-turn",
             "messages messages-lists",
             "the fields of lists between others: each list in its own order",
             File(ONE, [rows(1), rows(2)], footer=interleaved),
         ),
-        good("kept-fields-of-types", "types messages-unknown", "a type's fields above 3, such as attributes", File(with_attributes(), [rows(1)])),
+        good(
+            "kept-fields-of-types",
+            "types messages-unknown",
+            "a type's fields above 3, such as attributes",
+            File(with_attributes(), [rows(1)]),
+        ),
         good("no-stride-field", "messages-missing", "a missing stride is 0", one(footer=with_parts(stride=b""))),
-        good("no-rows-field", "messages-missing", "a missing number of rows is 0", File(ONE, [], footer=with_parts(rows=b""))),
-        refused("encrypted", "tail-encryption", "a footer with field 10, whatever is in it", one(kept=block(10, b"")), "file 4 Encrypted"),
-        refused("encrypted-by-a-number", "tail-encryption", "field 10 of another wire type", one(kept=number(10, 0)), "file 4 Encrypted"),
-        refused("footer-cut", "tail-footer messages", "a footer that ends within a field", one(footer=with_parts(writer=key(9, 0))), bad),
-        refused("footer-of-a-group", "tail-footer messages", "a field of wire type 3", one(kept=key(11, 3) + key(11, 4)), bad),
+        good(
+            "no-rows-field",
+            "messages-missing",
+            "a missing number of rows is 0",
+            File(ONE, [], footer=with_parts(rows=b"")),
+        ),
+        refused(
+            "encrypted",
+            "tail-encryption",
+            "a footer with field 10, whatever is in it",
+            one(kept=block(10, b"")),
+            "file 4 Encrypted",
+        ),
+        refused(
+            "encrypted-by-a-number",
+            "tail-encryption",
+            "field 10 of another wire type",
+            one(kept=number(10, 0)),
+            "file 4 Encrypted",
+        ),
+        refused(
+            "footer-cut",
+            "tail-footer messages",
+            "a footer that ends within a field",
+            one(footer=with_parts(writer=key(9, 0))),
+            bad,
+        ),
+        refused(
+            "footer-of-a-group",
+            "tail-footer messages",
+            "a field of wire type 3",
+            one(kept=key(11, 3) + key(11, 4)),
+            bad,
+        ),
         refused("footer-field-0", "tail-footer messages", "a field of number 0", one(kept=b"\x00\x00"), bad),
-        refused("stride-of-33-digits", "messages-range", "a stride of 2^32", one(footer=with_parts(stride=number(8, 1 << 32))), bad),
-        refused("more-statistics-than-types", "tail-footer", "two types, and three statistics", one(footer=lambda parts: parts.update(statistics=block(7, stat) * 3)), bad),
-        refused("metadata-cut", "tail-metadata messages", "a metadata that ends within a field", one(metadata=lambda text: text[:-1]), "file 7 BadMetadata"),
-        refused("more-metadata-than-stripes", "tail-metadata", "one stripe, and statistics of two", one(metadata=lambda text: text * 2), "file 7 BadMetadata"),
+        refused(
+            "stride-of-33-digits",
+            "messages-range",
+            "a stride of 2^32",
+            one(footer=with_parts(stride=number(8, 1 << 32))),
+            bad,
+        ),
+        refused(
+            "stride-of-33-digits-and-another",
+            "messages-range messages-last",
+            "a stride of 2^32 that a later one follows",
+            one(footer=with_parts(stride=number(8, 1 << 32) + number(8, 0))),
+            bad,
+        ),
+        refused(
+            "more-statistics-than-types",
+            "tail-footer",
+            "two types, and three statistics",
+            one(footer=lambda parts: parts.update(statistics=block(7, stat) * 3)),
+            bad,
+        ),
+        refused(
+            "metadata-cut",
+            "tail-metadata messages",
+            "a metadata that ends within a field",
+            one(metadata=lambda text: text[:-1]),
+            "file 7 BadMetadata",
+        ),
+        refused(
+            "more-metadata-than-stripes",
+            "tail-metadata",
+            "one stripe, and statistics of two",
+            one(metadata=lambda text: text * 2),
+            "file 7 BadMetadata",
+        ),
         refused(
             "more-columns-than-types",
             "tail-metadata",
@@ -148,7 +370,8 @@ def footers():
 
 
 def with_attributes():
-    """A schema with fields in its types that nobody reads: maximum lengths, attributes of pairs of texts, one that is unknown."""
+    """A schema with fields in its types that nobody reads: maximum lengths, attributes of pairs of texts, one that is
+    unknown."""
     root = schema(ONE)
     root.children[0].more = number(4, 9) + block(7, block(1, "k") + block(2, "v"))
     root.more = eight(99, 1)
@@ -173,6 +396,7 @@ def split(text):
 
 def stripes_told():
     """What the footer tells of stripes."""
+
     def two(**told):
         return File(ONE, [rows(1), Stripe(rows(2), told=told)])
 
@@ -182,20 +406,80 @@ def stripes_told():
     length = len(only().laid[0].content)
     most = (1 << 31) - 1
     return [
-        refused("stripe-before-3", "tail-stripes", "a stripe that begins within `ORC`", only(offset=2), "file 9 BadStripe(0)"),
-        refused("stripes-that-overlap", "tail-stripes", "the second stripe begins before the first one's end", two(offset=2 + length), "file 9 BadStripe(1)"),
-        refused("stripes-in-another-order", "tail-stripes", "the second stripe lies in front of the first", in_another_order(), "file 9 BadStripe(1)"),
-        refused("stripe-past-the-stripes", "tail-stripes", "a stripe that ends within the metadata", only(footer=only().laid[0].footer + 1), "file 9 BadStripe(0)"),
-        refused("stripe-past-64-digits", "tail-stripes", "lengths of a stripe that are 2^64 together", only(index=1 << 63, data=1 << 63), "file 9 BadStripe(0)"),
-        refused("too-many-rows-told", "tail-counts", "two rows, and a footer that tells of three", one(footer=with_parts(rows=number(6, 3))), "file 10 RowCount"),
-        refused("rows-and-no-stripe", "tail-counts", "a row, and no stripe", File(ONE, [], footer=with_parts(rows=number(6, 1))), "file 10 RowCount"),
-        refused("rows-past-64-digits", "tail-limits tail-counts", "a stripe of 2^64 - 1 rows", only(rows=(1 << 64) - 1), "file 11 Limit"),
-        refused("rows-of-a-stripe", "tail-limits", "a stripe of 2^31 rows", File(ONE, [Stripe([], told={"rows": 1 << 31})]), "file 11 Limit"),
+        refused(
+            "stripe-before-3",
+            "tail-stripes",
+            "a stripe that begins within `ORC`",
+            only(offset=2),
+            "file 9 BadStripe(0)",
+        ),
+        refused(
+            "stripes-that-overlap",
+            "tail-stripes",
+            "the second stripe begins before the first one's end",
+            two(offset=2 + length),
+            "file 9 BadStripe(1)",
+        ),
+        refused(
+            "stripes-in-another-order",
+            "tail-stripes",
+            "the second stripe lies in front of the first",
+            in_another_order(),
+            "file 9 BadStripe(1)",
+        ),
+        refused(
+            "stripe-past-the-stripes",
+            "tail-stripes",
+            "a stripe that ends within the metadata",
+            only(footer=only().laid[0].footer + 1),
+            "file 9 BadStripe(0)",
+        ),
+        refused(
+            "stripe-past-64-digits",
+            "tail-stripes",
+            "lengths of a stripe that are 2^64 together",
+            only(index=1 << 63, data=1 << 63),
+            "file 9 BadStripe(0)",
+        ),
+        refused(
+            "too-many-rows-told",
+            "tail-counts",
+            "two rows, and a footer that tells of three",
+            one(footer=with_parts(rows=number(6, 3))),
+            "file 10 RowCount",
+        ),
+        refused(
+            "rows-and-no-stripe",
+            "tail-counts",
+            "a row, and no stripe",
+            File(ONE, [], footer=with_parts(rows=number(6, 1))),
+            "file 10 RowCount",
+        ),
+        refused(
+            "rows-past-64-digits",
+            "tail-limits tail-counts",
+            "a stripe of 2^64 - 1 rows",
+            only(rows=(1 << 64) - 1),
+            "file 11 Limit",
+        ),
+        refused(
+            "rows-of-a-stripe",
+            "tail-limits",
+            "a stripe of 2^31 rows",
+            File(ONE, [Stripe([], told={"rows": 1 << 31})]),
+            "file 11 Limit",
+        ),
         refused(
             "rows-of-a-file",
             "tail-limits",
             "513 stripes of 2^31 - 1 rows: more than 2^40 together",
-            File("struct<>", [], footer=lambda parts: parts.update(stripes=block(3, told_stripe(most)) * 513, rows=number(6, 513 * most))),
+            File(
+                "struct<>",
+                [],
+                footer=lambda parts: parts.update(
+                    stripes=block(3, told_stripe(most)) * 513, rows=number(6, 513 * most)
+                ),
+            ),
             "file 11 Limit",
         ),
     ]
@@ -208,12 +492,18 @@ def told_stripe(count):
 
 def in_another_order():
     """A file whose footer names its stripes the other way round."""
-    return File(ONE, [rows(1), rows(2)], footer=lambda parts: parts.update(stripes=b"".join(reversed(split(parts["stripes"])))))
+    return File(
+        ONE, [rows(1), rows(2)], footer=lambda parts: parts.update(stripes=b"".join(reversed(split(parts["stripes"]))))
+    )
 
 
 def types_file(*types):
     """A file of no rows with these types, each the bytes of its message."""
-    return File("struct<>", [], footer=lambda parts: parts.update(types=b"".join(block(4, each) for each in types), statistics=b""))
+    return File(
+        "struct<>",
+        [],
+        footer=lambda parts: parts.update(types=b"".join(block(4, each) for each in types), statistics=b""),
+    )
 
 
 def kind(of, *subtypes, names=()):
@@ -223,15 +513,48 @@ def kind(of, *subtypes, names=()):
 
 def types():
     """Types that are no schema that is read."""
+
     def bad(name, shows, fault, *messages, rules="types"):
         return refused(name, rules, shows, types_file(*messages), f"file 8 BadTypes: type {fault}")
 
     root, number_type = kind(12, 1, names=["n"]), kind(4)
     listed = [kind(10, at + 1) for at in range(1, 32)]
-    unread = {5: "FLOAT", 6: "DOUBLE", 9: "TIMESTAMP", 13: "UNION", 14: "DECIMAL", 16: "VARCHAR", 17: "CHAR", 18: "a timestamp with its zone", 99: "a kind that there isn't"}
+    unread = {
+        5: "FLOAT",
+        6: "DOUBLE",
+        9: "TIMESTAMP",
+        13: "UNION",
+        14: "DECIMAL",
+        16: "VARCHAR",
+        17: "CHAR",
+        18: "a timestamp with its zone",
+        99: "a kind that there isn't",
+    }
     return [
-        good("names", "types", "names of fields in any letters, with blanks, and without a letter", File(named("ä b", "日", ""), [[{"ä b": 1, "日": 2, "": 3}]])),
-        good("types-not-packed", "types messages-lists", "subtypes a field each", File(ONE, [rows(1)], footer=lambda parts: parts.update(types=block(4, number(1, 12) + apart(2, [1]) + block(3, "n")) + block(4, kind(3))))),
+        good(
+            "names",
+            "types rows-json",
+            "names in any letters, with blanks, and without a letter; keys are printed in the order of their bytes",
+            File(named("日", "ä b", ""), [[{"ä b": 1, "日": 2, "": 3}]]),
+        ),
+        good(
+            "names-with-line-ends",
+            "shown types",
+            "a name with a line end makes more lines of what is shown",
+            File(named("a\nb", 'c"'), [[{"a\nb": 1, 'c"': 2}]]),
+        ),
+        good(
+            "types-not-packed",
+            "types messages-lists",
+            "subtypes a field each",
+            File(
+                ONE,
+                [rows(1)],
+                footer=lambda parts: parts.update(
+                    types=block(4, number(1, 12) + apart(2, [1]) + block(3, "n")) + block(4, kind(3))
+                ),
+            ),
+        ),
         Vector(
             "tails/name-twice",
             "types",
@@ -240,28 +563,90 @@ def types():
             fault="json 5 DuplicateField",
             rows_alone=True,
         ),
-        Vector("tails/name-twice-without-rows", "types", "the same without rows", File(named("n", "n"), []), written=False),
-        *(bad(f"kind-{at}", f"a column of {name}", f"1 UnsupportedKind({at})", root, kind(at)) for at, name in unread.items()),
+        Vector(
+            "tails/name-twice-without-rows", "types", "the same without rows", File(named("n", "n"), []), written=False
+        ),
+        *(
+            bad(f"kind-{at}", f"a column of {name}", f"1 UnsupportedKind({at})", root, kind(at))
+            for at, name in unread.items()
+        ),
         bad("no-types", "no type at all", "5 RootNotStruct"),
         bad("root-of-numbers", "a root that is no struct", "5 RootNotStruct", number_type),
         bad("root-of-lists", "a root that is a list", "5 RootNotStruct", kind(10, 1), number_type),
         bad("type-in-itself", "the root is its own field", "2 BadTree", kind(12, 0, names=["n"])),
         bad("type-that-is-missing", "a field of a type that isn't there", "2 BadTree", root),
         bad("type-that-is-left-over", "a type that no other one has", "2 BadTree", root, number_type, number_type),
-        bad("types-not-in-order", "the second field's type stands before the first one's", "2 BadTree", kind(12, 2, 1, names=["a", "b"]), number_type, number_type),
+        bad(
+            "types-not-in-order",
+            "the second field's type stands before the first one's",
+            "2 BadTree",
+            kind(12, 2, 1, names=["a", "b"]),
+            number_type,
+            number_type,
+        ),
         bad("list-of-none", "a list without a subtype", "2 BadTree", root, kind(10)),
         bad("list-of-two", "a list of two subtypes", "2 BadTree", root, kind(10, 2, 3), number_type, number_type),
-        bad("list-with-a-name", "a list whose subtype has a name", "2 BadTree", root, kind(10, 2, names=["x"]), number_type),
+        bad(
+            "list-with-a-name",
+            "a list whose subtype has a name",
+            "2 BadTree",
+            root,
+            kind(10, 2, names=["x"]),
+            number_type,
+        ),
         bad("map-of-one", "a map of one subtype", "2 BadTree", root, kind(11, 2), number_type),
-        bad("map-of-three", "a map of three subtypes", "2 BadTree", root, kind(11, 2, 3, 4), number_type, number_type, number_type),
-        bad("map-with-names", "a map whose subtypes have names", "2 BadTree", root, kind(11, 2, 3, names=["k", "v"]), number_type, number_type),
-        bad("map-value-first", "a map whose value's type stands before its key's", "2 BadTree", root, kind(11, 3, 2), number_type, number_type),
+        bad(
+            "map-of-three",
+            "a map of three subtypes",
+            "2 BadTree",
+            root,
+            kind(11, 2, 3, 4),
+            number_type,
+            number_type,
+            number_type,
+        ),
+        bad(
+            "map-with-names",
+            "a map whose subtypes have names",
+            "2 BadTree",
+            root,
+            kind(11, 2, 3, names=["k", "v"]),
+            number_type,
+            number_type,
+        ),
+        bad(
+            "map-value-first",
+            "a map whose value's type stands before its key's",
+            "2 BadTree",
+            root,
+            kind(11, 3, 2),
+            number_type,
+            number_type,
+        ),
         bad("number-of-numbers", "a number with a subtype", "2 BadTree", root, kind(4, 2), number_type),
         bad("name-missing", "a struct of one field and no name", "2 BadTree", kind(12, 1), number_type),
-        bad("name-too-many", "a struct of one field and two names", "2 BadTree", kind(12, 1, names=["a", "b"]), number_type),
-        bad("name-that-is-no-text", "a name that is no UTF-8", "6 BadText at 0", kind(12, 1, names=[b"\xff"]), number_type),
+        bad(
+            "name-too-many",
+            "a struct of one field and two names",
+            "2 BadTree",
+            kind(12, 1, names=["a", "b"]),
+            number_type,
+        ),
+        bad(
+            "name-that-is-no-text",
+            "a name that is no UTF-8",
+            "6 BadText at 0",
+            kind(12, 1, names=[b"\xff"]),
+            number_type,
+        ),
         bad("33-levels", "33 levels", "3 TooDeep", root, *listed, kind(4), rules="types type-limits"),
-        refused("type-without-kind", "messages-required", "a type that doesn't say its kind", types_file(root, packed(2, [1])), "file 6 BadFooter"),
+        refused(
+            "type-without-kind",
+            "messages-required",
+            "a type that doesn't say its kind",
+            types_file(root, packed(2, [1])),
+            "file 6 BadFooter",
+        ),
     ]
 
 
@@ -271,24 +656,81 @@ def named(*names):
 
 
 def orders():
-    """Files that have two faults: the one that is answered is the first of the tests' order. Who reads otherwise refuses them too."""
+    """Files that have two faults: the one that is answered is the first of the tests' order. Who reads otherwise
+    refuses them too."""
+
     def two(name, shows, file, fault):
         return Vector(f"tails-order/{name}", "tail-order", f"two faults: {shows}", file, fault=fault, tail=False)
 
     zipped = number(2, 1)
     cut = with_parts(writer=key(9, 0))
     return [
-        two("front-before-lengths", "no `ORC` in front, and a last byte that tells of too much", b"???" + one(last=255).content[3:], "file 1 NotOrc"),
-        two("version-before-magic", "a version of seventeen numbers, and another magic", one(version=range(17), postscript=with_parts(magic=block(8000, "OLD"))), "file 2 BadPostscript"),
-        two("magic-before-compression", "another magic, and compression", one(postscript=with_parts(magic=block(8000, "OLD"), compression=zipped)), "file 1 NotOrc"),
-        two("compression-before-lengths", "compression, and a footer longer than the file", one(postscript=with_parts(compression=zipped, footer=number(1, 9999))), "file 3 Compressed(1)"),
-        two("compression-before-footer", "compression, and a footer that is cut", one(postscript=with_parts(compression=zipped), footer=cut), "file 3 Compressed(1)"),
-        two("footer-before-encryption", "a footer that is cut behind its field 10", one(kept=block(10, b"") + key(11, 0)), "file 6 BadFooter"),
-        two("encryption-before-types", "field 10, and no types", one(kept=block(10, b""), footer=with_parts(types=b"")), "file 4 Encrypted"),
-        two("types-before-metadata", "no types, and a metadata that is cut", one(footer=with_parts(types=b"", statistics=b""), metadata=lambda text: text[:-1]), "file 8 BadTypes: type 5 RootNotStruct"),
-        two("metadata-before-stripes", "a metadata that is cut, and a stripe that begins within `ORC`", File(ONE, [Stripe(rows(1), told={"offset": 2})], metadata=lambda text: text[:-1]), "file 7 BadMetadata"),
-        two("place-before-rows", "a stripe that begins within `ORC` and has 2^31 rows", File(ONE, [Stripe(rows(1), told={"offset": 2, "rows": 1 << 31})]), "file 9 BadStripe(0)"),
-        two("stripes-before-row-count", "a stripe that begins within `ORC`, and another number of rows", File(ONE, [Stripe(rows(1), told={"offset": 2})], footer=with_parts(rows=number(6, 7))), "file 9 BadStripe(0)"),
+        two(
+            "front-before-lengths",
+            "no `ORC` in front, and a last byte that tells of too much",
+            b"???" + one(last=255).content[3:],
+            "file 1 NotOrc",
+        ),
+        two(
+            "version-before-magic",
+            "a version of seventeen numbers, and another magic",
+            one(version=range(17), postscript=with_parts(magic=block(8000, "OLD"))),
+            "file 2 BadPostscript",
+        ),
+        two(
+            "magic-before-compression",
+            "another magic, and compression",
+            one(postscript=with_parts(magic=block(8000, "OLD"), compression=zipped)),
+            "file 1 NotOrc",
+        ),
+        two(
+            "compression-before-lengths",
+            "compression, and a footer longer than the file",
+            one(postscript=with_parts(compression=zipped, footer=number(1, 9999))),
+            "file 3 Compressed(1)",
+        ),
+        two(
+            "compression-before-footer",
+            "compression, and a footer that is cut",
+            one(postscript=with_parts(compression=zipped), footer=cut),
+            "file 3 Compressed(1)",
+        ),
+        two(
+            "footer-before-encryption",
+            "a footer that is cut behind its field 10",
+            one(kept=block(10, b"") + key(11, 0)),
+            "file 6 BadFooter",
+        ),
+        two(
+            "encryption-before-types",
+            "field 10, and no types",
+            one(kept=block(10, b""), footer=with_parts(types=b"")),
+            "file 4 Encrypted",
+        ),
+        two(
+            "types-before-metadata",
+            "no types, and a metadata that is cut",
+            one(footer=with_parts(types=b"", statistics=b""), metadata=lambda text: text[:-1]),
+            "file 8 BadTypes: type 5 RootNotStruct",
+        ),
+        two(
+            "metadata-before-stripes",
+            "a metadata that is cut, and a stripe that begins within `ORC`",
+            File(ONE, [Stripe(rows(1), told={"offset": 2})], metadata=lambda text: text[:-1]),
+            "file 7 BadMetadata",
+        ),
+        two(
+            "place-before-rows",
+            "a stripe that begins within `ORC` and has 2^31 rows",
+            File(ONE, [Stripe(rows(1), told={"offset": 2, "rows": 1 << 31})]),
+            "file 9 BadStripe(0)",
+        ),
+        two(
+            "stripes-before-row-count",
+            "a stripe that begins within `ORC`, and another number of rows",
+            File(ONE, [Stripe(rows(1), told={"offset": 2})], footer=with_parts(rows=number(6, 7))),
+            "file 9 BadStripe(0)",
+        ),
     ]
 
 

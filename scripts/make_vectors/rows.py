@@ -1,6 +1,7 @@
 """Schemas, rows, the cells of a column, and rows as JSON.
 
-A row is None, a bool, an int, a str, bytes, a list, a list of pairs for a map, or a dict for a struct; a date is its day's number."""
+A row is None, a bool, an int, a str, bytes, a list, a list of pairs for a map, or a dict for a struct; a date is its
+day's number."""
 import datetime
 import json
 import re
@@ -24,7 +25,8 @@ NUMBERS = (BYTE, SHORT, INT, LONG)
 
 
 class Type:
-    """A type of a schema: its kind, the names of its fields, its children, and fields of its message that nobody reads."""
+    """A type of a schema: its kind, the names of its fields, its children, and fields of its message that nobody
+    reads."""
 
     def __init__(self, kind, names=(), children=(), more=b""):
         self.kind, self.names, self.children, self.more = kind, list(names), list(children), more

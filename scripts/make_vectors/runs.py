@@ -64,8 +64,8 @@ def direct(values, spell=zigzag, width=None, spare=0):
 
 
 def delta(values, spell=zigzag, width=None, length=None, first=None, spare=0):
-    """Up to 512 values by their differences: of width 0 where these are equal and no width is given. A single value has no
-    difference: the one that stands there is given."""
+    """Up to 512 values by their differences: of width 0 where these are equal and no width is given. A single value
+    has no difference: the one that stands there is given."""
     values = list(values)
     steps = [after - before for before, after in zip(values, values[1:])] or [first or 0]
     if width is None:
@@ -84,7 +84,8 @@ def base_bytes(base, size=None):
 
 
 def patched(base, numbers, width, entries, gap_width, patch_width, size=None, base_text=None):
-    """The base, numbers of one width above it, and entries of a gap and a patch. The values are what the rule makes of these."""
+    """The base, numbers of one width above it, and entries of a gap and a patch. The values are what the rule makes
+    of these."""
     text = base_text or base_bytes(base, size)
     places, place = {}, 0
     for gap, patch in entries:
@@ -147,8 +148,9 @@ def values_of(runs):
 
 
 def place(runs, count, back=0):
-    """The position in front of the value of this number: the run that it stands in, or one so many runs before, and the values that are
-    passed; behind the last value the stream's length, or, with runs back, the start of the last run but so many."""
+    """The position in front of the value of this number: the run that it stands in, or one so many runs before, and
+    the values that are passed; behind the last value the stream's length, or, with runs back, the start of the last
+    run but so many."""
     starts, offset, before = [], 0, 0
     for content, values in runs:
         starts.append((offset, before))

@@ -88,8 +88,8 @@ def record(kind, parts):
 
 
 def message(kind, stat):
-    """The message of a statistic: the number of values always, the record where a part is known, nulls where known; or the bytes
-    that it is to be written as."""
+    """The message of a statistic: the number of values always, the record where a part is known, nulls where known;
+    or the bytes that it is to be written as."""
     if stat.text is not None:
         return stat.text
     text = fields.number(1, stat.count)

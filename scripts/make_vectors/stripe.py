@@ -3,7 +3,9 @@ from . import fields, runs
 from .rows import BINARY, BOOLEAN, BYTE, DATE, LIST, MAP, NUMBERS, STRING, STRUCT, cells
 from .statistics import message, of_cells
 
-PRESENT, DATA, LENGTH, DICTIONARY_DATA, DICTIONARY_COUNT, SECONDARY, ROW_INDEX, BLOOM_FILTER, BLOOM_FILTER_UTF8 = range(9)
+PRESENT, DATA, LENGTH, DICTIONARY_DATA, DICTIONARY_COUNT, SECONDARY, ROW_INDEX, BLOOM_FILTER, BLOOM_FILTER_UTF8 = range(
+    9
+)
 DIRECT, DICTIONARY, DIRECT_V2, DICTIONARY_V2 = range(4)
 
 
@@ -19,14 +21,19 @@ class Entry:
 
 
 class Stripe:
-    """Rows, and what a writer chose for them. Streams and index streams are named by their column and kind: runs, bytes as they are, or
-    None for one that is left out. What isn't said is made by the plainest choice."""
+    """Rows, and what a writer chose for them. Streams and index streams are named by their column and kind: runs,
+    bytes as they are, or None for one that is left out. What isn't said is made by the plainest choice."""
 
     def __init__(self, rows, streams=None, encodings=None, dictionaries=None, **more):
         self.rows = list(rows)
         self.streams, self.encodings, self.dictionaries = streams or {}, encodings or {}, dictionaries or {}
-        # how many runs in front of its own a column's positions begin, and positions and statistics of (column, group) that differ
-        self.back, self.positions, self.entry_stats = more.pop("back", 0), more.pop("positions", {}), more.pop("entry_stats", {})
+        # how many runs in front of its own a column's positions begin, and positions and statistics of (column,
+        # group) that differ
+        self.back, self.positions, self.entry_stats = (
+            more.pop("back", 0),
+            more.pop("positions", {}),
+            more.pop("entry_stats", {}),
+        )
         # how an entry is written, if not by its fields one after the other
         self.entry_text = more.pop("entry_text", lambda places, stat: fields.packed(1, places) + stat)
         # statistics of columns that differ from those of the rows
@@ -152,7 +159,14 @@ class Laid:
     """A stripe as it lies in a file."""
 
     def __init__(self, content, index, data, footer, rows, stats):
-        self.content, self.index, self.data, self.footer, self.rows, self.stats = content, index, data, footer, rows, stats
+        self.content, self.index, self.data, self.footer, self.rows, self.stats = (
+            content,
+            index,
+            data,
+            footer,
+            rows,
+            stats,
+        )
 
 
 def bytes_of(stream):
@@ -188,7 +202,12 @@ def check_meaning(each, kind, values, given):
     found = runs.values_of(given)
     if is_boolean(each, kind):
         digits = "".join(format(byte, "08b") for byte in found)
-        assert kind == PRESENT and all(values) and not digits or [digit == "1" for digit in digits][: len(values)] == values
+        assert (
+            kind == PRESENT
+            and all(values)
+            and not digits
+            or [digit == "1" for digit in digits][: len(values)] == values
+        )
         assert not digits or 0 <= len(digits) - len(values) < 8
     elif each.kind == BYTE and kind == DATA:
         assert found == [value % 256 for value in values]

@@ -1,9 +1,30 @@
 """All vectors, and the files that they are."""
-from . import of_columns, of_indexes, of_integers, of_integers_2, of_merges, of_statistics, of_stripes, of_tails
+from . import (
+    of_columns,
+    of_indexes,
+    of_integers,
+    of_integers_2,
+    of_merges,
+    of_statistics,
+    of_stripes,
+    of_tails,
+    of_writing,
+)
+from .page import page
 from .rules import RULES
 from .written import Written
 
-TABLES = [of_integers, of_integers_2, of_columns, of_stripes, of_indexes, of_statistics, of_tails, of_merges]
+TABLES = [
+    of_integers,
+    of_integers_2,
+    of_columns,
+    of_stripes,
+    of_indexes,
+    of_statistics,
+    of_tails,
+    of_merges,
+    of_writing,
+]
 
 
 def vectors():
@@ -29,8 +50,10 @@ def written(vectors):
 
 def files():
     """What stands in vectors/: names, and bytes."""
-    found, all_of_them = {}, vectors()
-    for vector in all_of_them + written(all_of_them):
+    all_of_them = vectors()
+    again = written(all_of_them)
+    found = {"README.md": page(all_of_them, again).encode()}
+    for vector in all_of_them + again:
         for end, content in vector.parts().items():
             found[vector.name + end] = content.encode() if isinstance(content, str) else content
     return found

@@ -5,8 +5,8 @@ from .statistics import RECORDS
 
 
 class Vector:
-    """A file that is read, or refused. Its name is its folder and its own; `rules` are rules of the format by their names in
-    rules.py, `shows` is a sentence. `findings` are what the file says of its rows and is not so."""
+    """A file that is read, or refused. Its name is its folder and its own; `rules` are rules of the format by their
+    names in rules.py, `shows` is a sentence. `findings` are what the file says of its rows and is not so."""
 
     def __init__(self, name, rules, shows, file, findings=(), places=(), **more):
         self.name, self.rules, self.shows, self.file = name, rules.split(), shows, file
@@ -14,7 +14,11 @@ class Vector:
         # the groups from which rows are read: pairs of a stripe and a group, with the fault of those that are refused
         self.places = {place: None for place in places} if not isinstance(places, dict) else places
         # the fault of a file that is refused; whether its tail is read; how many stripes stand before the bad one
-        self.fault, self.tail, self.good_stripes = more.pop("fault", None), more.pop("tail", True), more.pop("good_stripes", 0)
+        self.fault, self.tail, self.good_stripes = (
+            more.pop("fault", None),
+            more.pop("tail", True),
+            more.pop("good_stripes", 0),
+        )
         # whether rows alone are refused, and what the writer's rules make of the same rows is shown
         self.rows_alone, self.written = more.pop("rows_alone", False), more.pop("written", True)
         assert not more, more

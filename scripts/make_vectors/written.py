@@ -1,4 +1,5 @@
-"""What the writer's rules of docs/FORMAT.md make of rows: its choice of runs and dictionaries, its layout and its positions."""
+"""What the writer's rules of docs/FORMAT.md make of rows: its choice of runs and dictionaries, its layout and its
+positions."""
 from . import runs
 from .file import File
 from .rows import BINARY, BOOLEAN, BYTE, LIST, MAP, STRING, cells
@@ -25,7 +26,8 @@ def steady(values, at, most, step_fits):
 
 
 def by_runs(values, step_fits, run, literals):
-    """From the left the longest run of 3 to 130 values with one step; where none begins, up to 128 literals until one does."""
+    """From the left the longest run of 3 to 130 values with one step; where none begins, up to 128 literals until one
+    does."""
     found, at = [], 0
     while at < len(values):
         length = steady(values, at, 130, step_fits)
@@ -45,13 +47,18 @@ def version_1(values, spell):
     """Integers in version 1."""
     fits = range(-128, 128)
     return by_runs(
-        values, lambda step: step in fits, lambda *run: runs.v1_run(*run, spell), lambda part: runs.v1_literals(part, spell)
+        values,
+        lambda step: step in fits,
+        lambda *run: runs.v1_run(*run, spell),
+        lambda part: runs.v1_literals(part, spell),
     )
 
 
 def bytes_by_runs(values):
     """A stream of bytes."""
-    return by_runs(values, lambda step: step == 0, lambda byte, _, count: runs.byte_repeat(byte, count), runs.byte_literals)
+    return by_runs(
+        values, lambda step: step == 0, lambda byte, _, count: runs.byte_repeat(byte, count), runs.byte_literals
+    )
 
 
 def equal_from(values, at):

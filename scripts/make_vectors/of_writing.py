@@ -1,0 +1,237 @@
+"""Vectors whose rows meet the writer's rules where they turn: what is written of them stands in written/. The files
+themselves are as plain as may be."""
+from .file import File
+from .stripe import Stripe
+from .vector import Vector
+
+V1, V2 = (0, 11), (0, 12)
+TOP, BOTTOM = (1 << 63) - 1, -(1 << 63)
+
+
+def numbers(name, rules, shows, values, version=V2, stripe_rows=None, stride=0):
+    """A file of numbers, in stripes of so many rows."""
+    return rows(
+        name, rules, shows, "struct<n:bigint>", [{"n": value} for value in values], version, stripe_rows, stride
+    )
+
+
+def texts(name, rules, shows, values, version=V2, stride=0):
+    """A file of texts."""
+    return rows(name, rules, shows, "struct<s:string>", [{"s": value} for value in values], version, None, stride)
+
+
+def rows(name, rules, shows, root, of, version=V2, stripe_rows=None, stride=0):
+    """A file of rows, in stripes of so many."""
+    stripe_rows = stripe_rows or len(of)
+    parts = [Stripe(of[at : at + stripe_rows]) for at in range(0, len(of), stripe_rows)]
+    file = File(root, parts, version, stride=stride)
+    return Vector(f"writing/{name}", rules, shows, file)
+
+
+def version_1():
+    """Runs of version 1."""
+
+    def one(name, shows, values):
+        return numbers(f"1-{name}", "written-v1", shows, values, V1)
+
+    return [
+        one("literals-then-a-run", "literals up to where a run of three begins", [1, 2, 4, 4, 4]),
+        one("run-of-a-step", "the longest run from the left: 1 2 3, then 3 3 alone is none", [1, 2, 3, 3, 3]),
+        one("131-equal", "a run of 130 and a literal", [7] * 131),
+        one("132-equal", "a run of 130 and two literals", [7] * 132),
+        one("133-equal", "a run of 130 and a run of three", [7] * 133),
+        one("129-literals", "128 literals and one more", [i * i * i for i in range(129)]),
+        one("step-of-127", "steps of 127 make a run, steps of 128 don't", [0, 127, 254, 382, 510]),
+        one("step-of-minus-128", "steps of -128 make a run, steps of -129 don't", [0, -128, -256, -385, -514]),
+        one("around-the-range", "a step around the end of the range is none", [TOP - 1, TOP, BOTTOM, BOTTOM + 1]),
+    ]
+
+
+def version_2():
+    """Runs of version 2."""
+
+    def one(name, shows, values):
+        return numbers(f"2-{name}", "written-v2", shows, values)
+
+    tens = [2030, 2000, 2020, 1000000, *range(2040, 2200, 10)]
+    high = [0] * 40
+    far = [i % 2 for i in range(512)]
+    far[0], far[400] = 600, 700
+    most = [(i * 37 % 50) + (1 << 20 if i % 4 == 0 else 0) for i in range(124)]
+    return [
+        one("2-equal", "two equal values are no short repeat", [7, 7]),
+        one("3-equal", "three equal values are a short repeat", [7] * 3),
+        one("10-equal", "ten are one too", [7] * 10),
+        one("11-equal", "eleven are a delta of width 0", [7] * 11),
+        one("512-equal", "so are 512", [7] * 512),
+        one("513-equal", "512 and a direct run of one", [7] * 513),
+        one("equal-of-8-bytes", "a short repeat in the least bytes: eight", [BOTTOM] * 4),
+        one("chunk-to-equal-values", "a chunk reaches to the next three equal values", [1, 5, 2, 9, 9, 9, 4]),
+        one("chunk-of-512", "a chunk has 512 values at most", [i * i % 97 for i in range(520)]),
+        one("two-values", "a delta of two values is longer than a direct run", [5, 7]),
+        one("delta-before-direct", "a delta as long as the direct run comes first", [50, 49, 47]),
+        one("steady", "equal differences: a delta of width 0", [10, 20, 30, 40]),
+        one("against-the-direction", "a difference against the first one's direction: no delta", [100, 101, 99, 102]),
+        one("flat-then-up", "a first difference of 0 is upward", [9, 9, 10, 12, 20, 21, 22, 30]),
+        one("flat-then-down", "and so a later one below 0 is against it", [9, 9, 8, 6, 2, 1, 0, -8]),
+        one("down-then-flat", "a later difference of 0 is against no direction", [900, 800, 800, 700, 610, 500, 400]),
+        one("sizes-of-2", "sizes take 2 digits at least", [1000, 1001, 1003, 1003, 1004, 1005]),
+        one("differences-past-64-digits", "a difference that doesn't fit: no delta", [BOTTOM, TOP, BOTTOM, TOP]),
+        one("sizes-of-64", "a size of 63 digits takes 64", [BOTTOM, BOTTOM + 1, 0]),
+        one("patched", "a patch where it makes the run shorter", tens),
+        one("patched-below-0", "a base below 0", [value - 5000 for value in tens]),
+        one("patched-after-256", "a gap above 255 by entries that only move on", far),
+        one("patched-31-entries", "as many entries as there may be", most),
+        one(
+            "patched-too-many-entries",
+            "32 entries: a greater width, with fewer entries or none",
+            most + [1 << 20, 3, 5, 8],
+        ),
+        one("patched-a-quarter", "entries for at most a quarter of the values, rounded up", [1, 1 << 40, 0, 1, 0]),
+        one("patched-base-of-56-digits", "a base of 56 digits is too great", [(1 << 56) + value for value in tens]),
+        one(
+            "patched-base-of-55-digits",
+            "a base of a magnitude below 2^56",
+            [(1 << 56) - 2200 + value % 190 for value in tens] + [1 << 57],
+        ),
+        one(
+            "patched-spread",
+            "no patched run where a value is 2^63 or more above the least",
+            [-5, TOP, 3, 4, 5, 1, 0, 2, 6, 7, 9, 8],
+        ),
+        one(
+            "patched-wide",
+            "a patch of 56 digits: with numbers of fewer digits it would have too many",
+            [*high[:200], 1, 0, 1, 2, 1 << 62, 1, 2, 0, 5, 0, 1, 0, 1],
+        ),
+        one("patched-two", "two patches, each counted from the one before", [*range(-1, 1), 500, -1, 0, 0, 70000, -3]),
+        rows(
+            "2-widths",
+            "written-v2",
+            "widths of 1, 2, 4 digits and of whole bytes, a column each",
+            *by_width((1, 2, 4, 8, 16, 24, 32, 40, 48, 56, 64)),
+        ),
+        rows(
+            "2-widths-between",
+            "written-v2",
+            "widths between are those of the next whole bytes",
+            *by_width((3, 5, 7, 9, 17, 25, 33, 41, 49, 57, 63)),
+        ),
+    ]
+
+
+def by_width(widths):
+    """A schema of a column for each width, and two rows of numbers that need it."""
+    root = f"struct<{','.join(f'w{width}:bigint' for width in widths)}>"
+    return root, [
+        {f"w{width}": -(1 << width - 1) for width in widths},
+        {f"w{width}": (1 << width - 1) - 1 for width in widths},
+    ]
+
+
+def others():
+    """Bytes, booleans, dictionaries, stripes and row indexes."""
+    yes, no = True, False
+    return [
+        rows(
+            "bytes",
+            "written-bytes",
+            "three equal bytes are a run, two are none",
+            "struct<b:tinyint>",
+            [{"b": b} for b in (1, 1, 2, 2, 2, 3, 4, 4)],
+        ),
+        rows("bytes-131", "written-bytes", "a run of 130 and a literal", "struct<b:tinyint>", [{"b": 0}] * 131),
+        rows(
+            "bytes-129",
+            "written-bytes",
+            "128 literals and one more",
+            "struct<b:tinyint>",
+            [{"b": i % 100} for i in range(129)],
+        ),
+        rows(
+            "booleans",
+            "written-bytes",
+            "booleans are bytes first, the spare digits 0",
+            "struct<t:boolean>",
+            [{"t": flag} for flag in [yes] * 30 + [no, yes, no]],
+        ),
+        texts(
+            "dictionary-of-half",
+            "written-dictionary",
+            "half as many distinct texts as texts: a dictionary",
+            ["b", "a", "b", "a"],
+        ),
+        texts("dictionary-of-more", "written-dictionary", "one distinct text more: none", ["b", "a", "b", "a", "c"]),
+        texts(
+            "dictionary-order",
+            "written-dictionary",
+            "entries in the order of their bytes",
+            ["z", "ä", "Z", "", "日"] * 2,
+            V1,
+        ),
+        texts("dictionary-of-empty", "written-dictionary", "a dictionary whose only entry has no bytes", ["", ""], V1),
+        texts("dictionary-of-nulls", "written-dictionary", "no text: no dictionary", [None, None]),
+        texts(
+            "dictionary-with-index",
+            "written-dictionary written-index",
+            "positions of the indexes alone",
+            ["x", "y", None, "x", "y", "x"],
+            V2,
+            2,
+        ),
+        numbers("stripes", "written-layout", "stripes of three rows, and the last of two", range(8), V2, 3),
+        numbers(
+            "stripe-rows-and-stride",
+            "written-layout written-index",
+            "stripes of five rows with groups of two",
+            [3, 3, 3, 1, 4, 1, 5, 9],
+            V1,
+            5,
+            2,
+        ),
+        numbers(
+            "three-sevens-with-index", "written-layout written-index", "a stripe with a row index", [7] * 3, V1, 3, 2
+        ),
+        rows(
+            "maps",
+            "written-layout",
+            "maps of texts and numbers",
+            "struct<m:map<string,int>>",
+            [{"m": [["a", 1], ["b", None]]}, {"m": None}, {"m": []}],
+            V1,
+        ),
+        rows(
+            "places",
+            "written-index",
+            "the places that name the least: within a run, at a run's start, at the end",
+            "struct<n:int,t:boolean,b:tinyint,s:string,a:array<int>>",
+            [
+                {
+                    "n": None if row % 3 else row,
+                    "t": row < 17,
+                    "b": row // 5,
+                    "s": "x" * (row % 4),
+                    "a": [row] * (row % 3),
+                }
+                for row in range(20)
+            ],
+            V2,
+            None,
+            4,
+        ),
+        rows(
+            "end-of-streams",
+            "written-index",
+            "where a stream is used up the place is its length",
+            "struct<n:int,t:boolean>",
+            [{"n": 1, "t": yes}] * 8 + [{}] * 4,
+            V1,
+            None,
+            4,
+        ),
+    ]
+
+
+def vectors():
+    """The vectors of this folder."""
+    return version_1() + version_2() + others()
