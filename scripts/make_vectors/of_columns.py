@@ -329,6 +329,11 @@ def of_strings():
     ]
 
 
+def long_lengths(*more):
+    """Two lengths of 2^63 - 1, and more."""
+    return data_of(v1_literals([(1 << 63) - 1] * 2 + list(more), UNSIGNED))
+
+
 def bad_strings():
     """Texts that are refused."""
     one = {"dictionaries": {1: ["a"]}}
@@ -390,18 +395,27 @@ def bad_strings():
             "6 LengthSum(1, DICTIONARY_DATA)",
         ),
         refused(
-            "strings/binary-too-short",
+            "strings/texts-of-2^64-bytes",
             "strings-lengths",
-            "lengths of 2^64 bytes together",
-            column(
-                "v",
-                "binary",
-                [b"a", b""],
-                (0, 11),
-                length=data_of(v1_literals([(1 << 63) - 1] * 2, UNSIGNED)),
-                data=b"a",
-            ),
+            "two texts of 2^63 - 1 bytes each, of which one byte is there",
+            column("s", "string", ["a", ""], (0, 11), length=long_lengths(), data=b"a"),
             "6 LengthSum(1, DATA)",
+        ),
+        refused(
+            "strings/lengths-that-wrap",
+            "strings-lengths",
+            "lengths of 2^64 + 1 bytes together, and one byte: their sum in 64 digits would be right",
+            column("v", "binary", [b"a", b"", b""], (0, 11), length=long_lengths(3), data=b"a"),
+            "6 LengthSum(1, DATA)",
+        ),
+        refused(
+            "strings/lengths-of-entries-that-wrap",
+            "strings-lengths strings-dictionary",
+            "the same with the entries of a dictionary",
+            column(
+                "s", "string", ["a"], (0, 11), dictionaries={1: ["a", "b", "c"]}, length=long_lengths(3), entries=b"a"
+            ),
+            "6 LengthSum(1, DICTIONARY_DATA)",
         ),
         refused(
             "strings/lengths-too-few",

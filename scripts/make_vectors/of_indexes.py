@@ -15,7 +15,7 @@ EACH = (
 
 def each(a, b, e, f, g, h, i, k, m):
     """A row with a value of each kind."""
-    return {"a": a, "b": b, "c": b, "d": b, "e": e, "f": f, "g": g, "h": h, "i": i, "j": {"k": k}, "m": m}
+    return {"a": a, "b": b, "c": b * 256, "d": b << 24, "e": e, "f": f, "g": g, "h": h, "i": i, "j": {"k": k}, "m": m}
 
 
 EACH_ROWS = [

@@ -5,7 +5,7 @@ from .merged import Merged
 from .of_indexes import UNTOLD, lists, nested
 from .of_tails import with_attributes
 
-from .runs import integers
+from .runs import integers, v1_run
 from .statistics import Stat
 from .stripe import DATA, Stripe
 from .vector import Vector, places_of
@@ -159,6 +159,8 @@ def inputs():
     found.add("lists-of-lists", "lists of lists, and row indexes", lists())
     found.add("lists-of-lists-untold", "the same, where nothing is told of elements", lists(**UNTOLD))
     maps = [{"m": [["a", 1], ["b", None]]}, {"m": None}, {"m": []}]
+    sevens = Stripe(rows(7, 7, 7), {(1, DATA): v1_run(7, 0, 3)})
+    found.add("sevens-with-index", "three sevens, and row indexes", File(ONE, [sevens], (0, 11), stride=2))
     found.add("maps", "maps, and how many pairs they have", File("struct<m:map<string,int>>", [maps], (0, 11)))
     found.add("nested-maps-1", "maps of maps, in version 1", nested((0, 11)))
     found.add("nested-maps-2", "maps of maps, in version 2", nested((0, 12)))
@@ -228,6 +230,13 @@ def made(found):
             ["lists-of-lists", "lists-of-lists-untold"],
         ),
         joined(found, "lists-twice", "merge-stripes merge-statistics", "lists of lists twice", ["lists-of-lists"] * 2),
+        joined(
+            found,
+            "sevens-with-index-twice",
+            "merge-stripes positions",
+            "a stripe and its indexes twice",
+            ["sevens-with-index"] * 2,
+        ),
         joined(found, "maps-twice", "merge-stripes merge-statistics", "the pairs of both are counted", ["maps"] * 2),
         *(
             joined(

@@ -362,7 +362,7 @@ def wrong():
         Vector(
             "statistics/finding-before-a-bad-stripe",
             "findings-order run-count",
-            "a statistic of the first stripe is wrong, and the second stripe is bad: the file is refused, and nothing is told",
+            "the first stripe has a wrong statistic, and the second is bad: the file is refused, and nothing is told",
             File("struct<n:int>", [Stripe(rows(1), stats={1: Stat(1, False)}), Stripe(rows(2), {(1, DATA): b"\x4a"})]),
             fault="file 12 Stripe(1): stripe 3 Run(1, DATA): run 1 Short at 0",
             good_stripes=1,

@@ -639,6 +639,13 @@ def types():
             kind(12, 1, names=[b"\xff"]),
             number_type,
         ),
+        good("map-types", "types", "a map's two types", File("struct<m:map<string,int>>", [])),
+        good(
+            "32-levels",
+            "type-limits",
+            "32 levels, in a file of no rows",
+            File(f"struct<n:{'array<' * 30}bigint{'>' * 30}>", []),
+        ),
         bad("33-levels", "33 levels", "3 TooDeep", root, *listed, kind(4), rules="types type-limits"),
         refused(
             "type-without-kind",
