@@ -1,5 +1,4 @@
 """Vectors of bytes and booleans, texts, and nulls."""
-from . import fields
 from .file import File
 from .runs import (
     SIGNED,
@@ -10,10 +9,8 @@ from .runs import (
     data_of,
     delta,
     direct,
-    pack,
     short_repeat,
     v1_literals,
-    v1_run,
 )
 from .stripe import DATA, DICTIONARY_DATA, LENGTH, PRESENT, Stripe
 from .vector import Vector

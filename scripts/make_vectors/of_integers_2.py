@@ -1,7 +1,7 @@
 """Vectors of integer runs of version 2: short repeats, direct runs, deltas and patched bases."""
 from . import fields
 from .file import File
-from .of_integers import BOTTOM, TOP, at_data, numbers
+from .of_integers import BOTTOM, TOP, at_data
 from .of_integers import bad as bad_of_one
 from .of_integers import longs as longs_of_one
 from .runs import UNSIGNED, WIDTHS, data_of, delta, direct, header, patched, short_repeat
@@ -425,7 +425,7 @@ def bad_patches():
             "wide",
             "v2-patch-faults v2-patched-own",
             "a gap and a patch of 65 digits together",
-            "80001f01",
+            "80001f010000" + "40" * 9,
             1,
             "7 PatchRange",
         ),

@@ -1,7 +1,7 @@
 """Vectors of stripes: their parts, directories, encodings and footers, and stripes that tell of more than they have."""
 from . import fields
 from .file import File
-from .runs import UNSIGNED, data_of, direct, integers, v1_literals, v1_run
+from .runs import UNSIGNED, data_of, integers, v1_literals, v1_run
 from .stripe import (
     BLOOM_FILTER,
     BLOOM_FILTER_UTF8,

@@ -1,6 +1,5 @@
-"""Vectors of tails: the tests that a file passes before a stripe is read, their order and limits; messages and
+"""Vectors of tails: the tests that a file passes before a stripe is read, and their limits; messages and
 types."""
-from . import fields
 from .file import File, info_text
 from .fields import apart, block, eight, four, key, number, packed, varint
 from .rows import STRUCT, Type, schema
@@ -662,85 +661,6 @@ def named(*names):
     return Type(STRUCT, names, [Type(3) for _ in names])
 
 
-def orders():
-    """Files that have two faults: the one that is answered is the first of the tests' order. Who reads otherwise
-    refuses them too."""
-
-    def two(name, shows, file, fault):
-        return Vector(f"tails-order/{name}", "tail-order", f"two faults: {shows}", file, fault=fault, tail=False)
-
-    zipped = number(2, 1)
-    cut = with_parts(writer=key(9, 0))
-    return [
-        two(
-            "front-before-lengths",
-            "no `ORC` in front, and a last byte that tells of too much",
-            b"???" + one(last=255).content[3:],
-            "file 1 NotOrc",
-        ),
-        two(
-            "version-before-magic",
-            "a version of seventeen numbers, and another magic",
-            one(version=range(17), postscript=with_parts(magic=block(8000, "OLD"))),
-            "file 2 BadPostscript",
-        ),
-        two(
-            "magic-before-compression",
-            "another magic, and compression",
-            one(postscript=with_parts(magic=block(8000, "OLD"), compression=zipped)),
-            "file 1 NotOrc",
-        ),
-        two(
-            "compression-before-lengths",
-            "compression, and a footer longer than the file",
-            one(postscript=with_parts(compression=zipped, footer=number(1, 9999))),
-            "file 3 Compressed(1)",
-        ),
-        two(
-            "compression-before-footer",
-            "compression, and a footer that is cut",
-            one(postscript=with_parts(compression=zipped), footer=cut),
-            "file 3 Compressed(1)",
-        ),
-        two(
-            "footer-before-encryption",
-            "a footer that is cut behind its field 10",
-            one(kept=block(10, b"") + key(11, 0)),
-            "file 6 BadFooter",
-        ),
-        two(
-            "encryption-before-types",
-            "field 10, and no types",
-            one(kept=block(10, b""), footer=with_parts(types=b"")),
-            "file 4 Encrypted",
-        ),
-        two(
-            "types-before-metadata",
-            "no types, and a metadata that is cut",
-            one(footer=with_parts(types=b"", statistics=b""), metadata=lambda text: text[:-1]),
-            "file 8 BadTypes: type 5 RootNotStruct",
-        ),
-        two(
-            "metadata-before-stripes",
-            "a metadata that is cut, and a stripe that begins within `ORC`",
-            File(ONE, [Stripe(rows(1), told={"offset": 2})], metadata=lambda text: text[:-1]),
-            "file 7 BadMetadata",
-        ),
-        two(
-            "place-before-rows",
-            "a stripe that begins within `ORC` and has 2^31 rows",
-            File(ONE, [Stripe(rows(1), told={"offset": 2, "rows": 1 << 31})]),
-            "file 9 BadStripe(0)",
-        ),
-        two(
-            "stripes-before-row-count",
-            "a stripe that begins within `ORC`, and another number of rows",
-            File(ONE, [Stripe(rows(1), told={"offset": 2})], footer=with_parts(rows=number(6, 7))),
-            "file 9 BadStripe(0)",
-        ),
-    ]
-
-
 def vectors():
     """The vectors of these folders."""
-    return postscripts() + footers() + stripes_told() + types() + orders()
+    return postscripts() + footers() + stripes_told() + types()

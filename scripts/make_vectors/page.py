@@ -6,7 +6,7 @@ PROTOC = (
     "2026-11-27, libprotoc 3.21.12: {same} messages decoded, no unknown field, encoded again to the\n"
     "same bytes; {otherwise} that are meant to be otherwise are so."
 )
-SAME, OTHERWISE = 3755, 68
+SAME, OTHERWISE = 4845, 74
 # which rules of the format no file here shows, and why
 NOT_SHOWN = """Not shown, since a file would be larger than a few KB: more than 4,096 types, more than 65,536 stripes,
 more than 2^40 bytes of stripes. Not shown, since they are no matter of files: the text of a schema as
@@ -31,7 +31,7 @@ whether this folder is what it makes, `scripts/try-vectors` runs `orcm` over all
 | `NAME.fault` | the file has to be refused, and why, in the words of `orcm` |
 | `NAME.merge` | in `merges/`: inputs, a line each; `NAME.orc` is what they become, byte for byte |
 
-Each file with a `NAME.fault` has one fault, but for those of `tails-order/`, which have two. Where a
+Each file with a `NAME.fault` has one fault, but for those of `order/`, which have two. Where a
 `NAME.json` stands beside it, that has the rows of the stripes before the bad one. Where a `NAME.merge`
 has no `NAME.orc`, its `NAME.fault` says why the inputs become none.
 

@@ -176,6 +176,16 @@ RULES = {
         "BadStripe: stripes lie between `ORC` and the metadata, one behind the other",
     ),
     "tail-limits": ("The tail of a file", OWN, "Limit: 2^31 - 1 rows of a stripe, 2^40 of a file"),
+    "run-order": (
+        "Integer runs, version 2",
+        OWN,
+        "the first run from the left that is refused, and in it what is met first",
+    ),
+    "messages-order": (
+        "Messages and their fields",
+        OWN,
+        "the first fault from the left; Missing comes last within its message",
+    ),
     "tail-order": ("The tail of a file", OWN, "the first test that a file doesn't pass names the refusal"),
     "merge-inputs": ("Merged files", OWN, "inputs are files, and there is one at least"),
     "merge-stripes": (

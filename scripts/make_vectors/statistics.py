@@ -88,19 +88,13 @@ def record(kind, parts):
 
 
 def message(kind, stat):
-    """The message of a statistic: the number of values always, the record where a part is known, nulls where known;
-    or the bytes that it is to be written as."""
+    """The message of a statistic: the number of values always, the record where a part is known, nulls where known; or
+    the bytes that it is to be written as."""
     if stat.text is not None:
         return stat.text
-    text = fields.number(1, stat.count)
+    parts = {1: fields.number(1, stat.count)}
     if stat.parts:
-        text += fields.block(RECORDS[kind][0], record(kind, stat.parts))
-    return text if stat.nulls is None else sorted_in(text, fields.number(10, int(stat.nulls)), kind, stat)
-
-
-def sorted_in(text, nulls, kind, stat):
-    """The fields with that of nulls among them: in front of a record of a later number."""
-    if stat.parts and RECORDS[kind][0] > 10:
-        front = fields.number(1, stat.count)
-        return front + nulls + text[len(front) :]
-    return text + nulls
+        parts[RECORDS[kind][0]] = fields.block(RECORDS[kind][0], record(kind, stat.parts))
+    if stat.nulls is not None:
+        parts[10] = fields.number(10, int(stat.nulls))
+    return b"".join(parts[number] for number in sorted(parts))

@@ -7,6 +7,8 @@ PRESENT, DATA, LENGTH, DICTIONARY_DATA, DICTIONARY_COUNT, SECONDARY, ROW_INDEX, 
     9
 )
 DIRECT, DICTIONARY, DIRECT_V2, DICTIONARY_V2 = range(4)
+# kinds whose DATA has runs of bytes or of integers, be they indexes of a dictionary
+WITH_RUNS = (BYTE, DATE, STRING, *NUMBERS)
 
 
 class Entry:
@@ -108,7 +110,7 @@ class Stripe:
             streams[DATA], streams[LENGTH] = b"".join(texts), [len(text) for text in texts]
         elif each.kind in (LIST, MAP):
             streams[LENGTH] = [len(value) for value in values]
-        elif not each.children and each.kind in (BOOLEAN, BYTE, DATE, *NUMBERS):
+        elif each.kind in (BOOLEAN, BYTE, DATE, *NUMBERS):
             streams[DATA] = values
         return streams
 
@@ -145,14 +147,11 @@ class Stripe:
             found.append(sum(len(value.encode() if each.kind == STRING else value) for value in values))
         elif each.kind == BOOLEAN:
             found += runs.place_of_bit(streams.get((at, DATA), []), len(values), back)
-        elif not each.children and each.names == [] and each.kind not in (LIST, MAP) and each.kind in ALL_DATA:
+        elif each.kind in WITH_RUNS:
             found += runs.place(streams.get((at, DATA), []), len(values), back)
         if each.kind in (STRING, BINARY, LIST, MAP) and not coded:
             found += runs.place(streams.get((at, LENGTH), []), len(values), back)
         return found
-
-
-ALL_DATA = (BYTE, DATE, STRING, *NUMBERS)
 
 
 class Laid:
@@ -181,7 +180,7 @@ def is_boolean(each, kind):
 
 def spelling(each, kind):
     """How the integers of a stream stand."""
-    return runs.SIGNED if kind == DATA and each.kind not in (STRING,) else runs.UNSIGNED
+    return runs.SIGNED if kind == DATA and each.kind != STRING else runs.UNSIGNED
 
 
 def plain_stream(each, kind, values, version):

@@ -5,6 +5,7 @@ from . import (
     of_integers,
     of_integers_2,
     of_merges,
+    of_order,
     of_statistics,
     of_stripes,
     of_tails,
@@ -22,6 +23,7 @@ TABLES = [
     of_indexes,
     of_statistics,
     of_tails,
+    of_order,
     of_merges,
     of_writing,
 ]

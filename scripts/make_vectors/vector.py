@@ -1,6 +1,6 @@
 """A vector: a file, which sentence of the format it shows, and what a reader has to answer."""
 from .fields import plain
-from .rows import BINARY, DATE, STRING, compact, day_text, lines
+from .rows import DATE, STRING, compact, day_text, lines
 from .statistics import RECORDS
 
 

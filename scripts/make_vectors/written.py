@@ -2,7 +2,7 @@
 positions."""
 from . import runs
 from .file import File
-from .rows import BINARY, BOOLEAN, BYTE, LIST, MAP, STRING, cells
+from .rows import BINARY, BOOLEAN, BYTE, LIST, MAP, STRING, STRUCT, cells
 from .stripe import DATA, DICTIONARY_DATA, LENGTH, PRESENT, Stripe
 
 # the widths of direct runs, of sizes and of the numbers of a patched run
@@ -159,7 +159,7 @@ def streams_of(at, each, own, version):
     elif each.kind in (STRING, BINARY):
         texts = [value.encode() if each.kind == STRING else value for value in values]
         found[at, DATA], found[at, LENGTH] = b"".join(texts), integers([len(text) for text in texts], runs.UNSIGNED)
-    elif not each.children and each.kind != 12:
+    elif each.kind != STRUCT:
         found[at, DATA] = integers(values, runs.SIGNED)
     return found, None
 
@@ -196,7 +196,7 @@ class Written:
 
     def __init__(self, vector):
         file, self.name = vector.file, f"written/{vector.name}"
-        rows, version = file.rows(), getattr(file, "runs", 2)
+        rows, version = file.rows(), file.runs
         stripe_rows = max([len(file.stripes[0].rows) if file.stripes else 1, 1])
         words = f"--schema {file.root.text()} --rle {version} --stride {file.stride} --stripe-rows {stripe_rows}"
         self.words, self.key = words, (words, vector.parts()[".json"])
