@@ -1,28 +1,45 @@
 """Files: stripes one after the other, and the tail that tells of them."""
+from dataclasses import dataclass, field
+
 from . import fields
 from .rows import schema
 from .statistics import joined, message
-from .stripe import Stripe
+from .stripe import Stripe, as_it_is
 
 
+@dataclass
 class File:
-    """What a file says, and what a writer chose to say it. A hook gets the parts of a message by name, in their
-    order, and changes them."""
+    """What a file says, and what a writer chose to say it."""
 
-    def __init__(self, root, stripes, version=(0, 12), **more):
-        self.root = schema(root) if isinstance(root, str) else root
-        self.stripes = [each if isinstance(each, Stripe) else Stripe(each) for each in stripes]
-        self.version, self.stride = list(version), more.pop("stride", 0)
-        # the version of the integers' runs, where it isn't that of the file
-        self.runs = more.pop("runs", 1 if self.version == [0, 11] else 2)
-        self.writer, self.writer_version = more.pop("writer", None), more.pop("writer_version", 6)
-        self.user, self.kept = more.pop("user", []), more.pop("kept", b"")
-        # the statistics of columns that differ from those of the stripes, joined; whether any are told
-        self.stats, self.tells_stripes = more.pop("stats", {}), more.pop("tells_stripes", True)
-        self.tells_file, self.filler = more.pop("tells_file", True), more.pop("filler", b"")
-        self.footer, self.postscript = more.pop("footer", None), more.pop("postscript", None)
-        self.metadata, self.last = more.pop("metadata", lambda text: text), more.pop("last", None)
-        assert not more, more
+    root: object
+    stripes: list
+    version: object = (0, 12)
+    stride: int = 0
+    # the version of the integers' runs, where it isn't that of the file
+    runs: int = 0
+    writer: object = None
+    writer_version: object = 6
+    # pairs of user metadata, and the footer's fields above 10
+    user: list = field(default_factory=list)
+    kept: bytes = b""
+    # the file's statistics of columns that differ from those of the stripes, joined; whose statistics are told
+    stats: dict = field(default_factory=dict)
+    tells_stripes: bool = True
+    tells_file: bool = True
+    # bytes behind the stripes that belong to none
+    filler: bytes = b""
+    # changes the metadata's text, and the parts of the footer and the postscript, by their names in their order
+    metadata: object = as_it_is
+    footer: object = as_it_is
+    postscript: object = as_it_is
+    # what the last byte tells, where it isn't the postscript's length
+    last: object = None
+
+    def __post_init__(self):
+        self.root = schema(self.root) if isinstance(self.root, str) else self.root
+        self.stripes = [each if isinstance(each, Stripe) else Stripe(each) for each in self.stripes]
+        self.version = list(self.version)
+        self.runs = self.runs or (1 if self.version == [0, 11] else 2)
         self.write()
 
     def rows(self, stripes=None):
@@ -61,8 +78,7 @@ class File:
         """What follows the stripes."""
         metadata = self.metadata(self.metadata_text())
         footer = self.footer_parts(metadata_at)
-        if self.footer:
-            self.footer(footer)
+        self.footer(footer)
         footer = b"".join(footer.values())
         postscript = {
             "footer": fields.number(1, len(footer)),
@@ -72,8 +88,7 @@ class File:
             "writer": b"" if self.writer_version is None else fields.number(6, self.writer_version),
             "magic": fields.block(8000, "ORC"),
         }
-        if self.postscript:
-            self.postscript(postscript)
+        self.postscript(postscript)
         postscript = b"".join(postscript.values())
         return metadata + footer + postscript + bytes([len(postscript) if self.last is None else self.last])
 

@@ -1,5 +1,6 @@
 """What merging makes of files, by the rules of docs/FORMAT.md."""
 from .file import File
+from .stripe import as_it_is
 from .vector import as_bytes
 
 
@@ -10,8 +11,8 @@ class Merged(File):
         first = files[0]
         self.root, self.columns, self.version, self.stride = first.root, first.columns, first.version, first.stride
         self.writer, self.writer_version, self.kept = first.writer, first.writer_version, first.kept
-        self.tells_stripes, self.footer, self.postscript = True, None, None
-        self.metadata, self.last = lambda text: text, None
+        self.tells_stripes, self.last = True, None
+        self.metadata = self.footer = self.postscript = as_it_is
         self.stripes = [each for file in files for each in file.stripes]
         self.laid = [each for file in files for each in file.laid]
         self.stripe_stats = [[stat.but() for stat in stats] for file in files for stats in file.stripe_stats]

@@ -6,7 +6,7 @@ PROTOC = (
     "2026-11-27, libprotoc 3.21.12: {same} messages decoded, no unknown field, encoded again to the\n"
     "same bytes; {otherwise} that are meant to be otherwise are so."
 )
-SAME, OTHERWISE = 4845, 74
+SAME, OTHERWISE = 4890, 77
 # which rules of the format no file here shows, and why
 NOT_SHOWN = """Not shown, since a file would be larger than a few KB: more than 4,096 types, more than 65,536 stripes,
 more than 2^40 bytes of stripes. Not shown, since they are no matter of files: the text of a schema as

@@ -1,4 +1,6 @@
 """Stripes: the streams of rows, their directory and encodings, and row indexes."""
+from dataclasses import dataclass, field
+
 from . import fields, runs
 from .rows import BINARY, BOOLEAN, BYTE, DATE, LIST, MAP, NUMBERS, STRING, STRUCT, cells
 from .statistics import message, of_cells
@@ -19,33 +21,58 @@ class Entry:
         self.length = len(content) if length is None else length
 
     def message(self):
+        """The entry's text in the directory."""
         return fields.number(1, self.kind) + fields.number(2, self.column) + fields.number(3, self.length)
 
 
-class Stripe:
-    """Rows, and what a writer chose for them. Streams and index streams are named by their column and kind: runs,
-    bytes as they are, or None for one that is left out. What isn't said is made by the plainest choice."""
+def in_order(places, stat):
+    """An entry of a row index by its fields, one after the other."""
+    return fields.packed(1, places) + stat
 
-    def __init__(self, rows, streams=None, encodings=None, dictionaries=None, **more):
-        self.rows = list(rows)
-        self.streams, self.encodings, self.dictionaries = streams or {}, encodings or {}, dictionaries or {}
-        # how many runs in front of its own a column's positions begin, and positions and statistics of (column,
-        # group) that differ
-        self.back, self.positions, self.entry_stats = (
-            more.pop("back", 0),
-            more.pop("positions", {}),
-            more.pop("entry_stats", {}),
-        )
-        # how an entry is written, if not by its fields one after the other
-        self.entry_text = more.pop("entry_text", lambda places, stat: fields.packed(1, places) + stat)
-        # statistics of columns that differ from those of the rows
-        self.stats = more.pop("stats", {})
-        # the directory's entries and the footer's text, arranged anew; bytes behind the streams
-        self.arrange, self.footer = more.pop("arrange", lambda entries: entries), more.pop("footer", lambda text: text)
-        self.filler = more.pop("filler", b"")
-        # bytes before the stripe that belong to none; what the file's footer tells of it that isn't so
-        self.gap, self.told = more.pop("gap", b""), more.pop("told", {})
-        assert not more, more
+
+def as_it_is(part):
+    """What isn't changed."""
+    return part
+
+
+@dataclass
+class Laid:
+    """A stripe as it lies in a file: its bytes, the lengths of its parts, and what is told of it."""
+
+    content: bytes
+    index: int
+    data: int
+    footer: int
+    rows: int
+    stats: list
+
+
+@dataclass
+class Stripe:
+    """Rows, and what a writer chose for them. What isn't said is made by the plainest choice."""
+
+    rows: list
+    # by column and kind: runs, bytes as they are, or None for a stream that is left out
+    streams: dict = field(default_factory=dict)
+    encodings: dict = field(default_factory=dict)
+    # the entries of columns that have a dictionary
+    dictionaries: dict = field(default_factory=dict)
+    # how many runs in front of its own each position begins, be it of each column or by column
+    back: object = 0
+    # by column and group: positions, and statistics, that differ from those of the rows
+    positions: dict = field(default_factory=dict)
+    entry_stats: dict = field(default_factory=dict)
+    entry_text: object = in_order
+    # statistics of columns that differ from those of the rows
+    stats: dict = field(default_factory=dict)
+    # changes the directory's entries, and the footer's text
+    arrange: object = as_it_is
+    footer: object = as_it_is
+    # bytes behind the streams, and before the stripe, that belong to none
+    filler: bytes = b""
+    gap: bytes = b""
+    # what the file's footer tells of the stripe that isn't so
+    told: dict = field(default_factory=dict)
 
     def lay(self, root, version, stride):
         """The stripe's bytes, with the lengths of their three parts and the statistics that are told."""
@@ -116,27 +143,30 @@ class Stripe:
 
     def indexes(self, root, columns, streams, encodings, stride):
         """The row index of each column that has one."""
-        groups, found = range(0, len(self.rows), stride), {}
+        groups = range(0, len(self.rows), stride)
         before = [cells(root, self.rows[:row]) for row in groups]
         inside = [cells(root, self.rows[row : row + stride]) for row in groups]
-        for at, each in enumerate(columns):
-            if (at, ROW_INDEX) in self.streams:
-                if self.streams[at, ROW_INDEX] is not None:
-                    found[at] = self.streams[at, ROW_INDEX]
-                continue
-            entries = []
-            for group in range(len(groups)):
-                places = self.positions.get((at, group))
-                if places is None:
-                    places = self.places(at, each, streams, encodings[at], before[group][at])
-                stat = self.entry_stats.get((at, group), of_cells(each.kind, inside[group][at]))
-                text = b"" if stat is None else fields.block(2, message(each.kind, stat))
-                entries.append(fields.block(1, self.entry_text(places, text)))
-            found[at] = b"".join(entries)
-        return found
 
-    def places(self, at, each, streams, encoding, before):
-        """A column's positions behind these cells."""
+        def index_of(at, each):
+            places = [
+                self.places(at, each, streams, encodings[at], group, found[at]) for group, found in enumerate(before)
+            ]
+            return b"".join(self.entry(at, each, group, places[group], found[at]) for group, found in enumerate(inside))
+
+        given = {at: self.streams[at, ROW_INDEX] for at in range(len(columns)) if (at, ROW_INDEX) in self.streams}
+        found = {at: given[at] if at in given else index_of(at, each) for at, each in enumerate(columns)}
+        return {at: text for at, text in found.items() if text is not None}
+
+    def entry(self, at, each, group, places, inside):
+        """An entry of a row index."""
+        stat = self.entry_stats.get((at, group), of_cells(each.kind, inside))
+        text = b"" if stat is None else fields.block(2, message(each.kind, stat))
+        return fields.block(1, self.entry_text(places, text))
+
+    def places(self, at, each, streams, encoding, group, before):
+        """A column's positions in front of a group, behind these cells."""
+        if (at, group) in self.positions:
+            return self.positions[at, group]
         values = [cell for cell in before if cell is not None]
         back = self.back.get(at, 0) if isinstance(self.back, dict) else self.back
         found = []
@@ -152,20 +182,6 @@ class Stripe:
         if each.kind in (STRING, BINARY, LIST, MAP) and not coded:
             found += runs.place(streams.get((at, LENGTH), []), len(values), back)
         return found
-
-
-class Laid:
-    """A stripe as it lies in a file."""
-
-    def __init__(self, content, index, data, footer, rows, stats):
-        self.content, self.index, self.data, self.footer, self.rows, self.stats = (
-            content,
-            index,
-            data,
-            footer,
-            rows,
-            stats,
-        )
 
 
 def bytes_of(stream):
@@ -201,13 +217,9 @@ def check_meaning(each, kind, values, given):
     found = runs.values_of(given)
     if is_boolean(each, kind):
         digits = "".join(format(byte, "08b") for byte in found)
-        assert (
-            kind == PRESENT
-            and all(values)
-            and not digits
-            or [digit == "1" for digit in digits][: len(values)] == values
-        )
-        assert not digits or 0 <= len(digits) - len(values) < 8
+        if digits or not all(values):
+            assert [digit == "1" for digit in digits][: len(values)] == values
+            assert 0 <= len(digits) - len(values) < 8
     elif each.kind == BYTE and kind == DATA:
         assert found == [value % 256 for value in values]
     else:

@@ -1,51 +1,60 @@
 """A vector: a file, which sentence of the format it shows, and what a reader has to answer."""
+from dataclasses import dataclass
+
 from .fields import plain
 from .rows import DATE, STRING, compact, day_text, lines
 from .statistics import RECORDS
 
 
+@dataclass
 class Vector:
-    """A file that is read, or refused. Its name is its folder and its own; `rules` are rules of the format by their
-    names in rules.py, `shows` is a sentence. `findings` are what the file says of its rows and is not so."""
+    """A file that is read or refused, and what a reader has to answer."""
 
-    def __init__(self, name, rules, shows, file, findings=(), places=(), **more):
-        self.name, self.rules, self.shows, self.file = name, rules.split(), shows, file
-        self.findings = [findings] if isinstance(findings, str) else list(findings)
-        # the groups from which rows are read: pairs of a stripe and a group, with the fault of those that are refused
-        self.places = {place: None for place in places} if not isinstance(places, dict) else places
-        # the fault of a file that is refused; whether its tail is read; how many stripes stand before the bad one
-        self.fault, self.tail, self.good_stripes = (
-            more.pop("fault", None),
-            more.pop("tail", True),
-            more.pop("good_stripes", 0),
-        )
-        # whether rows alone are refused, and what the writer's rules make of the same rows is shown
-        self.rows_alone, self.written = more.pop("rows_alone", False), more.pop("written", True)
-        assert not more, more
+    # its folder and its own name; the rules of the format that it shows, by their names in rules.py; a sentence
+    name: str
+    rules: object
+    shows: str
+    # a file as it is meant, or bytes of which nothing but their fault is meant
+    file: object
+    # what the file says of its rows and is not so
+    findings: object = ()
+    # the groups from which rows are read, pairs of a stripe and a group; by a dict the fault of each, or None
+    places: object = ()
+    # why the file is refused; whether its tail is read; how many stripes stand before the bad one; whether it has rows
+    # and these alone can't be printed
+    fault: object = None
+    tail: bool = True
+    good_stripes: int = 0
+    rows_alone: bool = False
+    # whether it is shown what the writer's rules make of the same rows
+    written: bool = True
+
+    def __post_init__(self):
+        self.rules = self.rules.split()
+        self.findings = [self.findings] if isinstance(self.findings, str) else list(self.findings)
+        self.places = self.places if isinstance(self.places, dict) else dict.fromkeys(self.places)
 
     def parts(self):
         """The files of the vector, by what follows its name."""
-        file = self.file
-        if isinstance(file, bytes):
-            return {".orc": file, ".fault": self.fault + "\n"}
-        found = {".orc": file.content}
+        if isinstance(self.file, bytes):
+            return {".orc": self.file, ".fault": self.fault + "\n"}
+        found = {".orc": self.file.content}
         if self.fault:
             found[".fault"] = self.fault + "\n"
-            if self.good_stripes:
-                found[".json"] = lines(file.root, file.rows(self.good_stripes))
-            if self.tail:
-                found[".show"] = shown(file)
-            if self.rows_alone:
-                found[".check"] = "".join(f"{finding}\n" for finding in self.findings)
-        else:
-            found[".json"] = lines(file.root, file.rows())
-            found[".show"] = shown(file)
+        if self.good_stripes or not self.fault:
+            found[".json"] = lines(self.file.root, self.file.rows(self.good_stripes or None))
+        if self.tail or not self.fault:
+            found[".show"] = shown(self.file)
+        if self.rows_alone or not self.fault:
             found[".check"] = "".join(f"{finding}\n" for finding in self.findings)
+        return {**found, **self.parts_from_groups()}
+
+    def parts_from_groups(self):
+        """The files of rows from a group on."""
+        found = {}
         for (stripe, group), fault in self.places.items():
-            if fault:
-                found[f".from-{stripe}-{group}.fault"] = fault + "\n"
-            else:
-                found[f".from-{stripe}-{group}.json"] = self.rows_from(stripe, group)
+            name = f".from-{stripe}-{group}"
+            found |= {name + ".fault": fault + "\n"} if fault else {name + ".json": self.rows_from(stripe, group)}
         return found
 
     def rows_from(self, stripe, group):
