@@ -4,6 +4,7 @@ from .file import File
 from .of_integers import BOTTOM, TOP, at_data
 from .of_integers import bad as bad_of_one
 from .of_integers import longs as longs_of_one
+from .published import PRIMES, TENS
 from .runs import UNSIGNED, WIDTHS, data_of, delta, direct, header, patched, short_repeat
 from .stripe import DATA, LENGTH, Stripe
 from .vector import Vector
@@ -281,9 +282,8 @@ def deltas():
     ]
 
 
-# the run of the specification: 2030 2000 2020 1000000 2040 2050 and so on by tens to 2190, with the least number as
-# its base
-TENS = [30, 0, 20, 998000 % 256, *range(40, 200, 10)]
+# the specification's example of a patched run: what its numbers of 8 digits are above the base
+TENS_ABOVE = [(value - 2000) % 256 for value in TENS]
 
 
 def patches():
@@ -293,7 +293,7 @@ def patches():
             "patched-of-the-specification",
             "v2-patched",
             "the specification's example: a patch of 12 digits at place 3, 8 digits up",
-            longs(patched(2000, TENS, 8, [(3, 998000 >> 8)], 2, 12)),
+            longs(patched(2000, TENS_ABOVE, 8, [(3, 998000 >> 8)], 2, 12)),
         ),
         good(
             "patched-at-the-first-place",
@@ -455,8 +455,8 @@ def mixed():
             longs(
                 short_repeat(10000, 5)
                 + direct([23713, 43806, 57005, 48879], width=24)
-                + patched(2000, TENS, 8, [(3, 3898)], 2, 12)
-                + delta([2, 3, 5, 7, 11, 13, 17, 19, 23, 29], width=4)
+                + patched(2000, TENS_ABOVE, 8, [(3, 3898)], 2, 12)
+                + delta(PRIMES, width=4)
                 + short_repeat(-1, 3)
             ),
         ),

@@ -1,6 +1,7 @@
 """Vectors whose rows meet the writer's rules where they turn: what is written of them stands in written/. The files
 themselves are as plain as may be."""
 from .file import File
+from .published import TENS
 from .stripe import Stripe
 from .vector import Vector
 
@@ -53,7 +54,6 @@ def version_2():
     def one(name, shows, values):
         return numbers(f"2-{name}", "written-v2", shows, values)
 
-    tens = [2030, 2000, 2020, 1000000, *range(2040, 2200, 10)]
     high = [0] * 40
     far = [i % 2 for i in range(512)]
     far[0], far[400] = 600, 700
@@ -78,8 +78,8 @@ def version_2():
         one("sizes-of-2", "sizes take 2 digits at least", [1000, 1001, 1003, 1003, 1004, 1005]),
         one("differences-past-64-digits", "a difference that doesn't fit: no delta", [BOTTOM, TOP, BOTTOM, TOP]),
         one("sizes-of-64", "a size of 63 digits takes 64", [BOTTOM, BOTTOM + 1, 0]),
-        one("patched", "a patch where it makes the run shorter", tens),
-        one("patched-below-0", "a base below 0", [value - 5000 for value in tens]),
+        one("patched", "a patch where it makes the run shorter", TENS),
+        one("patched-below-0", "a base below 0", [value - 5000 for value in TENS]),
         one("patched-after-256", "a gap above 255 by entries that only move on", far),
         one("patched-31-entries", "as many entries as there may be", most),
         one(
@@ -88,11 +88,11 @@ def version_2():
             most + [1 << 20, 3, 5, 8],
         ),
         one("patched-a-quarter", "entries for at most a quarter of the values, rounded up", [1, 1 << 40, 0, 1, 0]),
-        one("patched-base-of-56-digits", "a base of 56 digits is too great", [(1 << 56) + value for value in tens]),
+        one("patched-base-of-56-digits", "a base of 56 digits is too great", [(1 << 56) + value for value in TENS]),
         one(
             "patched-base-of-55-digits",
             "a base of a magnitude below 2^56",
-            [(1 << 56) - 2200 + value % 190 for value in tens] + [1 << 57],
+            [(1 << 56) - 2200 + value % 190 for value in TENS] + [1 << 57],
         ),
         one(
             "patched-spread",

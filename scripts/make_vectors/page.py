@@ -15,11 +15,12 @@ it is read, lines of JSON as they are read, and a cap on what is read at once.""
 HEAD = """# Vectors
 
 Small ORC files, version 1 of the format and without compression, and beside each what a reader has to
-answer. {files} files are read or refused, and {merges} lists of files are merged; the rows of {written}
+answer. {files} files are read or refused, {merges} lists of files are merged, and the rows of {written} files
 are written again. `scripts/make-vectors` makes them all, by a writer of its own: from the published
 specification and from the sentences of [docs/FORMAT.md](../docs/FORMAT.md), and not from the code of
-`orcm`. What stands beside a file is what that writer meant. `scripts/make-vectors --compare` says
-whether this folder is what it makes, `scripts/try-vectors` runs `orcm` over all of it.
+`orcm`. What stands beside a file is what that writer meant; of the specification's own examples it
+makes the bytes that stand there. `scripts/make-vectors --compare` says whether this folder is what it
+makes, `scripts/try-vectors` runs `orcm` over all of it.
 
 | Beside `NAME.orc` | What it is |
 |---|---|
@@ -39,6 +40,9 @@ has no `NAME.orc`, its `NAME.fault` says why the inputs become none.
 with it; another reader needs `NAME.orc`, `NAME.json`, that there is a `NAME.fault`, and `from`.
 In `written/` stands what this project's writer has to make of the rows of the vector of the same name,
 byte for byte, by the words in `NAME.write`: other readers need not look at it.
+
+`merges/in/` has the files that are merged. Of `tails/name-twice` the rows alone can't be printed, since
+a struct names a field twice: who doesn't print objects of JSON may read it.
 
 In JSON a text is a string, bytes are a string of lower-case hexadecimal digits, a day is a string
 `YYYY-MM-DD` in the years 0001 to 9999 and else the number of days since 1970-01-01, a map is an array

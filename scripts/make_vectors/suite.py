@@ -10,6 +10,7 @@ from . import (
     of_stripes,
     of_tails,
     of_writing,
+    published,
 )
 from .page import page
 from .rules import RULES
@@ -52,6 +53,7 @@ def written(vectors):
 
 def files():
     """What stands in vectors/: names, and bytes."""
+    published.test()
     all_of_them = vectors()
     again = written(all_of_them)
     found = {"README.md": page(all_of_them, again).encode()}
