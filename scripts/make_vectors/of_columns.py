@@ -128,9 +128,7 @@ def of_booleans():
     yes, no = True, False
     nine = [yes, yes, yes, no, yes, yes, yes, yes, yes]
     return [
-        good(
-            "booleans/one", "boolean-runs", "one boolean is the highest digit of a byte", column("t", "boolean", [yes])
-        ),
+        good("booleans/one", "boolean-runs", "one boolean is the highest bit of a byte", column("t", "boolean", [yes])),
         good(
             "booleans/eight",
             "boolean-runs",
@@ -139,9 +137,9 @@ def of_booleans():
         ),
         good("booleans/nine", "boolean-runs", "nine booleans are two bytes: `fe ef 80`", column("t", "boolean", nine)),
         good(
-            "booleans/spare-digits",
-            "boolean-runs spare-digits",
-            "the digits left over may be anything: `fe ef ff`",
+            "booleans/spare-bits",
+            "boolean-runs spare-bits",
+            "the bits left over may be anything: `fe ef ff`",
             column("t", "boolean", nine, data=byte_literals(bits(nine, 255))),
         ),
         good(
@@ -152,7 +150,7 @@ def of_booleans():
         ),
         good(
             "booleans/part-of-a-run",
-            "boolean-runs byte-runs spare-digits",
+            "boolean-runs byte-runs spare-bits",
             "17 booleans in a run of three bytes",
             column("t", "boolean", [yes] * 17, data=byte_repeat(255, 3)),
         ),
@@ -392,7 +390,7 @@ def bad_strings():
             "6 LengthSum(1, DICTIONARY_DATA)",
         ),
         refused(
-            "strings/texts-of-2^64-bytes",
+            "strings/texts-too-long",
             "strings-lengths",
             "two texts of 2^63 - 1 bytes each, of which one byte is there",
             column("s", "string", ["a", ""], (0, 11), length=long_lengths(), data=b"a"),
@@ -401,7 +399,7 @@ def bad_strings():
         refused(
             "strings/lengths-that-wrap",
             "strings-lengths",
-            "lengths of 2^64 + 1 bytes together, and one byte: their sum in 64 digits would be right",
+            "lengths of 2^64 + 1 bytes together, and one byte: their sum in 64 bits would be right",
             column("v", "binary", [b"a", b"", b""], (0, 11), length=long_lengths(3), data=b"a"),
             "6 LengthSum(1, DATA)",
         ),
@@ -507,9 +505,9 @@ def of_nulls():
         ),
         good("nulls/some", "nulls", "DATA has the values that aren't null alone", column("n", "int", nine)),
         good(
-            "nulls/spare-digits",
-            "nulls spare-digits",
-            "the spare digits of PRESENT may be anything",
+            "nulls/spare-bits",
+            "nulls spare-bits",
+            "the spare bits of PRESENT may be anything",
             column("n", "int", nine, present=byte_literals(bits([cell is not None for cell in nine], 255))),
         ),
         good(
@@ -713,7 +711,7 @@ def of_nested():
             "6 LengthSum(2, DATA)",
         ),
         refused(
-            "nested/list-of-2^31",
+            "nested/list-too-long",
             "lists cell-limits",
             "a list of 2^31 elements",
             column("a", "array<int>", [[]], length=data_of(direct([1 << 31], UNSIGNED))),

@@ -67,7 +67,7 @@ def vectors():
         good(
             "extremes",
             "v1-literals varint",
-            "the least and the greatest number of 64 digits are varints of ten bytes",
+            "the least and the greatest number of 64 bits are varints of ten bytes",
             longs(v1_literals([TOP, BOTTOM, TOP - 1, BOTTOM + 1])),
         ),
         good(
@@ -152,7 +152,7 @@ def vectors():
             at_data("2 BadVarint at 0"),
         ),
         refused(
-            "varint-past-64-digits",
+            "varint-past-64-bits",
             "run-varint varint",
             "a varint's tenth byte is above 1",
             bad(bytes.fromhex("ff" + "ff" * 9 + "02"), 1),

@@ -51,7 +51,7 @@ def of_width(width):
 
 
 def sizes_of_width(width):
-    """Numbers whose later differences have this many digits: upwards, from below 0 on."""
+    """Numbers whose later differences have this many bits: upwards, from below 0 on."""
     size = (1 << min(width, 62)) - 1
     return delta([-size // 2, -size // 2 + 1, -size // 2 + 1 + size, -size // 2 + 1 + size], width=width)
 
@@ -111,13 +111,11 @@ def directs():
         good(
             "direct-widths-1-to-8",
             "v2-direct widths",
-            "each width of 1 to 8 digits, a column each",
+            "each width of 1 to 8 bits, a column each",
             of_widths(1, 8, of_width),
         ),
-        good("direct-widths-9-to-16", "v2-direct widths", "each width of 9 to 16 digits", of_widths(9, 16, of_width)),
-        good(
-            "direct-widths-17-to-24", "v2-direct widths", "each width of 17 to 24 digits", of_widths(17, 24, of_width)
-        ),
+        good("direct-widths-9-to-16", "v2-direct widths", "each width of 9 to 16 bits", of_widths(9, 16, of_width)),
+        good("direct-widths-17-to-24", "v2-direct widths", "each width of 17 to 24 bits", of_widths(17, 24, of_width)),
         good(
             "direct-widths-26-to-64",
             "v2-direct widths",
@@ -128,9 +126,9 @@ def directs():
             "direct-wide", "v2-direct v2-choice", "a greater width than is needed", longs(direct([1, 2, 3], width=64))
         ),
         good(
-            "direct-spare-digits",
-            "v2-direct spare-digits",
-            "the digits left over in the last byte may be anything",
+            "direct-spare-bits",
+            "v2-direct spare-bits",
+            "the bits left over in the last byte may be anything",
             longs(direct([1, 2, 3], width=3, spare=255)),
         ),
         good(
@@ -151,7 +149,7 @@ def directs():
         refused(
             "direct-cut",
             "run-short v2-direct",
-            "a run of 24 digits together, of which 16 are there",
+            "a run of 24 bits together, of which 16 are there",
             bad(data_of(direct([100, 101, 102], width=8))[:-1], 3),
             at_data("1 Short at 0"),
         ),
@@ -201,22 +199,22 @@ def deltas():
         good(
             "delta-widths-2-to-8",
             "v2-delta widths",
-            "sizes of each width of 2 to 8 digits",
+            "sizes of each width of 2 to 8 bits",
             of_widths(2, 8, sizes_of_width),
         ),
         good(
             "delta-widths-9-to-16",
             "v2-delta widths",
-            "sizes of each width of 9 to 16 digits",
+            "sizes of each width of 9 to 16 bits",
             of_widths(9, 16, sizes_of_width),
         ),
         good(
             "delta-widths-17-to-24",
             "v2-delta widths",
-            "sizes of each width of 17 to 24 digits",
+            "sizes of each width of 17 to 24 bits",
             of_widths(17, 24, sizes_of_width),
         ),
-        good("delta-widths-26-to-64", "v2-delta widths", "sizes of 26 to 64 digits", of_widths(26, 64, sizes_of_width)),
+        good("delta-widths-26-to-64", "v2-delta widths", "sizes of 26 to 64 bits", of_widths(26, 64, sizes_of_width)),
         good(
             "delta-widest-size",
             "v2-delta",
@@ -230,9 +228,9 @@ def deltas():
             longs(delta([1, 2, 3, 4], width=16, length=4)),
         ),
         good(
-            "delta-spare-digits",
-            "v2-delta spare-digits",
-            "the digits left over in the last byte of sizes may be anything",
+            "delta-spare-bits",
+            "v2-delta spare-bits",
+            "the bits left over in the last byte of sizes may be anything",
             longs(delta([1, 2, 4, 7], width=3, spare=255)),
         ),
         good(
@@ -275,14 +273,14 @@ def deltas():
         refused(
             "delta-first-difference-too-long",
             "run-varint v2-delta",
-            "a first difference of more than 64 digits",
+            "a first difference of more than 64 bits",
             bad(header(3, 0, 2) + b"\x02" + b"\xff" * 9 + b"\x02", 2),
             at_data("2 BadVarint at 0"),
         ),
     ]
 
 
-# the specification's example of a patched run: what its numbers of 8 digits are above the base
+# the specification's example of a patched run: what its numbers of 8 bits are above the base
 TENS_ABOVE = [(value - 2000) % 256 for value in TENS]
 
 
@@ -292,7 +290,7 @@ def patches():
         good(
             "patched-of-the-specification",
             "v2-patched",
-            "the specification's example: a patch of 12 digits at place 3, 8 digits up",
+            "the specification's example: a patch of 12 bits at place 3, 8 bits up",
             longs(patched(2000, TENS_ABOVE, 8, [(3, 998000 >> 8)], 2, 12)),
         ),
         good(
@@ -334,7 +332,7 @@ def patches():
         good(
             "patched-entries-rounded",
             "v2-patched v2-patched-own",
-            "a gap of 1 digit and a patch of 24 are 25 digits, which are packed with 26",
+            "a gap of 1 bit and a patch of 24 are 25 bits, which are packed with 26",
             longs(patched(-1000, [0, 1, 2, 3], 4, [(1, 134217744 >> 4)], 1, 24)),
         ),
         good(
@@ -372,7 +370,7 @@ def patches():
         good(
             "patched-widths",
             "v2-patched widths",
-            "numbers of 1 to 48 digits, each patched above them",
+            "numbers of 1 to 48 bits, each patched above them",
             side_by_side(
                 {f"w{width}": patched(0, [(1 << width) - 1, 0, 1], width, [(2, 5)], 2, 3) for width in WIDTHS[:29]}
             ),
@@ -380,7 +378,7 @@ def patches():
         good(
             "patched-patch-widths",
             "v2-patched widths",
-            "patches of each width of 1 to 56 digits",
+            "patches of each width of 1 to 56 bits",
             side_by_side(
                 {f"p{width}": patched(-9, [0, 1], 1, [(1, (1 << width) - 1)], 1, width) for width in WIDTHS[:31]}
             ),
@@ -388,7 +386,7 @@ def patches():
         good(
             "patched-gap-widths",
             "v2-patched",
-            "gaps of 1 to 8 digits",
+            "gaps of 1 to 8 bits",
             side_by_side(
                 {f"g{wide}": patched(1, [0] * 256, 1, [((1 << wide) - 1, 1)], wide, 2) for wide in range(1, 9)}
             ),
@@ -396,7 +394,7 @@ def patches():
         good(
             "patched-entries-of-64",
             "v2-patched v2-patched-own",
-            "a gap and a patch of 64 digits together, the most",
+            "a gap and a patch of 64 bits together, the most",
             longs(patched(0, [1, 0], 1, [(1, 3)], 8, 56)),
         ),
         good(
@@ -424,7 +422,7 @@ def bad_patches():
         (
             "wide",
             "v2-patch-faults v2-patched-own",
-            "a gap and a patch of 65 digits together",
+            "a gap and a patch of 65 bits together",
             "80001f010000" + "40" * 9,
             1,
             "7 PatchRange",

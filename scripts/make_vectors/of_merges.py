@@ -328,7 +328,7 @@ def made(found):
         ),
         joined(
             found,
-            "true-past-2^62",
+            "true-not-told",
             "merge-statistics statistics-limits",
             "counts of true that are above 2^62 together aren't told",
             ["many-true", "many-true"],

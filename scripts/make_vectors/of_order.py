@@ -100,7 +100,7 @@ def of_runs():
         Vector(
             "order/first-run",
             "run-order",
-            "two faults: a varint past 64 digits in the second run, and a third run that is cut",
+            "two faults: a varint past 64 bits in the second run, and a third run that is cut",
             bad(late + b"\xfd", 9, (0, 11)),
             fault=at_data("2 BadVarint at 3"),
         ),
@@ -121,7 +121,7 @@ def of_runs():
         ),
         two(
             "widths-before-the-base",
-            "a gap and a patch of 65 digits together, and the run is cut",
+            "a gap and a patch of 65 bits together, and the run is cut",
             bytes.fromhex("80001f01"),
             1,
             "7 PatchRange",

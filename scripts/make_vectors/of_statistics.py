@@ -92,7 +92,7 @@ def told():
         good(
             "sum-that-does-not-fit",
             "statistics-sums",
-            "a sum past 64 digits isn't told",
+            "a sum past 64 bits isn't told",
             File("struct<n:bigint>", [rows(TOP, 1)]),
         ),
         good(
@@ -374,7 +374,7 @@ def wrong():
         both("wrong-sum", "a sum that is one too great", ints.but(sum=25)),
         both(
             "sum-that-wrapped",
-            "a sum that doesn't fit, told without its highest digit",
+            "a sum that doesn't fit, told without its highest bit",
             Stat(2, False, min=1, max=TOP, sum=BOTTOM),
             (TOP, 1),
         ),
@@ -420,7 +420,7 @@ def wrong():
             rules="statistics-sums findings-statistics",
         ),
         found(
-            "count-of-2^62",
+            "most-values",
             "the greatest number of values that is read",
             File("struct<n:bigint>", [Stripe(rows(1), stats={1: Stat(1 << 62, False)})]),
             "StripeStatistic 0 1",
@@ -453,14 +453,14 @@ def refused():
     ready = File("struct<n:bigint>", [rows(1)], stats={1: Stat(1, False).spelled(fields.number(1, 1) + twice * 2)})
     return [
         in_file(
-            "count-above-2^62",
+            "too-many-values",
             "statistics-limits",
             "a number of values of 2^62 + 1",
             fields.number(1, over),
             "file 11 Limit",
         ),
         Vector(
-            "statistics/true-above-2^62",
+            "statistics/too-many-true",
             "statistics-limits",
             "a count of true of 2^62 + 1",
             File(

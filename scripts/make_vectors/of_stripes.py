@@ -194,7 +194,7 @@ def bad_directories():
             directory,
         ),
         refused(
-            "streams-past-64-digits",
+            "streams-past-64-bits",
             "bad-directory",
             "lengths of streams that are 2^64 together",
             one(arrange=with_more((1, SECONDARY, b"", (1 << 63)), (1, 9, b"", 1 << 63))),
@@ -291,7 +291,7 @@ def bad_footers():
         refused(
             "footer-varint",
             "stripe-footer messages varint",
-            "a varint that goes on past 64 digits",
+            "a varint that goes on past 64 bits",
             one(footer=lambda own: fields.key(9, 0) + b"\xff" * 9 + b"\x02" + own),
             "9 Wire: wire 2 BadVarint at 0",
         ),
@@ -310,7 +310,7 @@ def bad_footers():
             "9 Wire: wire 6 Missing at 0",
         ),
         refused(
-            "column-of-33-digits",
+            "column-of-33-bits",
             "stripe-footer messages-range",
             "a stream's column is 2^32",
             one(footer=lambda own: fields.block(1, fields.number(1, 9) + fields.number(2, 1 << 32)) + own),
@@ -335,7 +335,7 @@ def told(name, rules, shows, file, fault):
 def much():
     """A few bytes of data that tell of so many values: nothing is to be set aside for a number that is read."""
     found = []
-    for name, many in (("2^26", 1 << 26), ("2^31-1", (1 << 31) - 1)):
+    for name, many in (("67108864", 1 << 26), ("2147483647", (1 << 31) - 1)):
         found += [told(f"{kind}-{name}", *rest) for kind, *rest in values_of(many) + entries_of(many) + items_of(many)]
     return found
 

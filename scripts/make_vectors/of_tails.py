@@ -151,7 +151,7 @@ def postscripts():
         ),
         refused("version-of-17-numbers", "tail-version", "a version of seventeen numbers", one(version=range(17)), bad),
         refused(
-            "version-of-33-digits", "messages-range", "a number of the version is 2^32", one(version=[0, 1 << 32]), bad
+            "version-of-33-bits", "messages-range", "a number of the version is 2^32", one(version=[0, 1 << 32]), bad
         ),
         refused(
             "field-past-the-greatest-number",
@@ -199,7 +199,7 @@ def postscripts():
             lengths,
         ),
         refused(
-            "lengths-past-64-digits",
+            "lengths-past-64-bits",
             "tail-lengths",
             "lengths that are 2^64 together",
             one(postscript=with_parts(footer=number(1, 1 << 63), metadata=number(5, 1 << 63))),
@@ -324,14 +324,14 @@ def footers():
         ),
         refused("footer-field-0", "tail-footer messages", "a field of number 0", one(kept=b"\x00\x00"), bad),
         refused(
-            "stride-of-33-digits",
+            "stride-of-33-bits",
             "messages-range",
             "a stride of 2^32",
             one(footer=with_parts(stride=number(8, 1 << 32))),
             bad,
         ),
         refused(
-            "stride-of-33-digits-and-another",
+            "stride-of-33-bits-and-another",
             "messages-range messages-last",
             "a stride of 2^32 that a later one follows",
             one(footer=with_parts(stride=number(8, 1 << 32) + number(8, 0))),
@@ -434,7 +434,7 @@ def stripes_told():
             "file 9 BadStripe(0)",
         ),
         refused(
-            "stripe-past-64-digits",
+            "stripe-past-64-bits",
             "tail-stripes",
             "lengths of a stripe that are 2^64 together",
             only(index=1 << 63, data=1 << 63),
@@ -455,7 +455,7 @@ def stripes_told():
             "file 10 RowCount",
         ),
         refused(
-            "rows-past-64-digits",
+            "rows-past-64-bits",
             "tail-limits tail-counts",
             "a stripe of 2^64 - 1 rows",
             only(rows=(1 << 64) - 1),

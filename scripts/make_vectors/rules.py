@@ -11,7 +11,7 @@ RULES = {
     "varint": (
         "Varints",
         f"{PROTO}: Base 128 Varints",
-        "1 to 10 bytes, the least digits first; more bytes than needed are read",
+        "1 to 10 bytes, the least bits first; more bytes than needed are read",
     ),
     "v1-run": ("Integer runs, version 1", V1_SPEC, "control 0 to 127: 3 to 130 values with one step"),
     "v1-literals": ("Integer runs, version 1", V1_SPEC, "control 128 to 255: 1 to 128 literals"),
@@ -28,7 +28,7 @@ RULES = {
     "boolean-runs": (
         "Boolean runs",
         "Run Length Encoding: Boolean Run Length Encoding",
-        "the least bytes that hold them, the first the highest digit",
+        "the least bytes that hold them, the first the highest bit",
     ),
     "strings-direct": (
         "Columns",
@@ -132,7 +132,7 @@ RULES = {
     "statistics-sums": (
         "Statistics of columns",
         "File Tail: Column Statistics",
-        "a sum stands where each stripe's and the total fit 64 digits",
+        "a sum stands where each stripe's and the total fit 64 bits",
     ),
     "statistics-limits": ("Statistics of columns", OWN, "at most 2^62 values, and 2^62 that are true"),
     "nulls-unknown": ("Statistics of columns", OWN, "a missing hasNull is not known"),
@@ -217,7 +217,7 @@ RULES = {
         "TooFew, TooMany: a stream has just the values of its column's cells",
     ),
     "widths": ("Packed numbers", "Run Length Encoding: the table of encoded widths", "the 32 widths and their names"),
-    "spare-digits": ("Packed numbers", OWN, "digits left over in the last byte may be anything"),
+    "spare-bits": ("Packed numbers", OWN, "bits left over in the last byte may be anything"),
     "v2-short-repeat": (
         "Integer runs, version 2",
         V2_SPEC + ": Short Repeat",
@@ -238,7 +238,7 @@ RULES = {
     "v2-patched-own": (
         "Integer runs, version 2",
         OWN,
-        "the width of entries, 64 digits at most, minus zero, no entries",
+        "the width of entries, 64 bits at most, minus zero, no entries",
     ),
     "v2-patch-faults": ("Integer runs, version 2", OWN, "PatchOrder, PatchPlace, PatchRange"),
     "v2-choice": ("Integer runs, version 2", V2_SPEC, "any choice of runs, forms and widths is read"),
