@@ -134,9 +134,9 @@ own_at s x n rows c r lt =
     let t = shape_at s c in
     own_of t (x c) (cells s c rows) (cells_fit s c rows lt r.fit)
     (room_at t (cells s c rows) (λ d within.
-        let few = (r.column (c + d) (omega (arith, at_within s c lt, within))).few in
-        let e = ap length (cells-add s c d rows lt within) in
-        omega (arith, few, e)))
+    let few = (r.column (c + d) (omega (arith, at_within s c lt, within))).few in
+    let e = ap length (cells-add s c d rows lt within) in
+    omega (arith, few, e)))
     (r.column c lt)
 
 pub found_of_rows : (s : Shape) (x : ℕ → Streams) (n : ℕ) (rows : List Cell) (c : ℕ) (own : List Cell) (bounds : List ℕ) (f : ColumnFound)

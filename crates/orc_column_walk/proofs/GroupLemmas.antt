@@ -174,7 +174,7 @@ pub group_read : {P : Type 0} (m : Measure P) (s : Shape) (before between after 
 group_read m s before between after count bounds values_count value_bounds group cells part whole next tally passed now groups more below further found part_values r lt are of cells_is part_is long leave fault step counted cells_are values_are are_stat few stat_is before_is pushed pushed_below joined =
     let up : bound_at count bounds group ≤ bound_at count bounds (group + 1) = let n : suc group ≡ group + 1 = omega arith in subst (λ (k : ℕ). bound_at count bounds group ≤ bound_at count bounds k) n (are group) in
     let value_up : bound_at values_count value_bounds group ≤ bound_at values_count value_bounds (group + 1) =
-        let n : suc group ≡ group + 1 = omega arith in subst (λ (k : ℕ). bound_at values_count value_bounds group ≤ bound_at values_count value_bounds k) n (of.ascending group) in
+    let n : suc group ≡ group + 1 = omega arith in subst (λ (k : ℕ). bound_at values_count value_bounds group ≤ bound_at values_count value_bounds k) n (of.ascending group) in
     let sum : bound_at values_count value_bounds group + part ≡ bound_at values_count value_bounds (group + 1) = omega (arith, part_is, value_up) in
     record {
       cells = r.cells ++ part_values;

@@ -134,7 +134,7 @@ pub value_bounds_are : (count : ℕ) (bounds : List ℕ) (values : ℕ) (value_b
 value_bounds_are count bounds values value_bounds marks are first long counted is =
     let all : take count marks ≡ marks = take_all count marks (omega (arith, long)) in
     let at : (g : ℕ) → bound_at values value_bounds g ≡ trues_before marks (bound_at count bounds g) = λ g.
-        ap (λ (bs : List ℕ). bound_at values bs g) is ∙ ap (λ (n : ℕ). get_or (map (trues_before marks) bounds) g n) (counted ∙ ap trues (sym all)) ∙ get_or-map (trues_before marks) bounds g count in
+    ap (λ (bs : List ℕ). bound_at values bs g) is ∙ ap (λ (n : ℕ). get_or (map (trues_before marks) bounds) g n) (counted ∙ ap trues (sym all)) ∙ get_or-map (trues_before marks) bounds g count in
     record {
       as_many = ap length is ∙ length-map bounds (trues_before marks);
       ascending = λ g. omega (arith, at g, at (suc g), (trues_rise marks (bound_at count bounds g) (bound_at count bounds (suc g)) (are g)).0);

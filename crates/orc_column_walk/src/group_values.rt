@@ -152,7 +152,8 @@ fn count_groups<'a, T: Tally<'a>>(
     let mut bounds_below = Vec::new(alloc);
     for group in 0..bounds.len() {
         let cells = bound_of(bounds, group + 1, count) - bound_of(bounds, group, count);
-        let part = bound_of(value_bounds, group + 1, values) - bound_of(value_bounds, group, values);
+        let part = bound_of(value_bounds, group + 1, values)
+            - bound_of(value_bounds, group, values);
         let before = passed;
         let mut tally = T::unit();
         match read_part(tree, source, cells, part, before, &mut tally) {
@@ -216,13 +217,29 @@ fn count_by_kind(
             count_groups::<Counted<Dates>>(alloc, tree, source, count, bounds, values, value_bounds)
         }
         StatKind::Texts => {
-            count_groups::<Counted<Texts<'_>>>(alloc, tree, source, count, bounds, values, value_bounds)
+            count_groups::<Counted<Texts<'_>>>(
+                alloc,
+                tree,
+                source,
+                count,
+                bounds,
+                values,
+                value_bounds,
+            )
         }
         StatKind::Bins => {
             count_groups::<Counted<Bins>>(alloc, tree, source, count, bounds, values, value_bounds)
         }
         StatKind::Children => {
-            count_groups::<Counted<Children>>(alloc, tree, source, count, bounds, values, value_bounds)
+            count_groups::<Counted<Children>>(
+                alloc,
+                tree,
+                source,
+                count,
+                bounds,
+                values,
+                value_bounds,
+            )
         }
     }
 }

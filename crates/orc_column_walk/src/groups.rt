@@ -51,7 +51,15 @@ fn find_column(
     if let Tree::Struct(_, _) = tree {
         return Ok(find_structs(alloc, count, bounds, marked)?);
     }
-    find_values(alloc, tree, source, count, bounds, marked.values, &marked.before)
+    find_values(
+        alloc,
+        tree,
+        source,
+        count,
+        bounds,
+        marked.values,
+        &marked.before,
+    )
 }
 
 /// Reads a column of so many cells from its own streams, to their ends, and counts them: the column's statistic, that

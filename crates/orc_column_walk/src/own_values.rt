@@ -17,7 +17,10 @@ use orc_columns::numbers::{numbers_end, numbers_left};
 use orc_types::{Own, Tree};
 
 /// The column's next value, without children.
-pub(crate) fn next_own<'a>(tree: &Tree, source: &mut ValueSource<'a>) -> Result<Own<'a>, StripeFault>
+pub(crate) fn next_own<'a>(
+    tree: &Tree,
+    source: &mut ValueSource<'a>,
+) -> Result<Own<'a>, StripeFault>
     ensures found { IfOk result (λ own. Leaves (OwnValuesLeft (shape tree.now) source.old)
         (OwnValuesLeft (shape tree.now) source.new) (own_cell own ∷ [])) }
     ensures kind { IfOk result (λ own. is_of (kind_of (shape tree.now)) (own_cell own) ≡ true) }

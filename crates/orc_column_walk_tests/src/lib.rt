@@ -2,4 +2,6 @@
 #![tactic(auto)]
 
 #[cfg(test)]
+mod groups;
+#[cfg(test)]
 mod verdicts;

@@ -48,7 +48,5 @@ many_views (r ∷ rs) = ap suc (many_views rs)
 pub childless_list : (v : Vec (Option Value) Global) → childless (view (Some (ListOf v))) ≡ list_of_size (length v.items)
 childless_list v = ap childless (view-List v) ∙ ap list_of_size (many_views v.items)
 
-
-
 pub childless_map : (v : Vec MapPair Global) → childless (view (Some (MapOf v))) ≡ map_of_size (length v.items)
 childless_map v = ap childless (view-Map v) ∙ ap map_of_size (ap length (list_of_pairs-pairs_of (map paired v.items)) ∙ length-map v.items paired)

@@ -26,11 +26,19 @@ read_part-requires g c κs =
     let up = bound_up c.args.count c.args.bounds.now c.loop-group.group c.requires.bounds in
     let value_up = bound_up c.args.values c.args.value_bounds.now c.loop-group.group c.requires.values.ascending in (
       (refl, tt),
-      (c.requires.kind,
-      (omega (arith, c.bound_of.ensures, c.bound_of-in-loop-group.ensures, c.bound_of-in-loop-group-2.ensures, c.bound_of-in-loop-group-3.ensures, fewer.0, up, value_up),
-      (omega (arith, ap (λ k. k.count) c.unit-tally.ensures, c.bound_of-in-loop-group-2.ensures, c.bound_of-in-loop-group-3.ensures, fewer.0, fewer.1, up, value_up, end, c.requires.few),
-      (omega (arith, i.cells_are, c.bound_of.ensures, c.bound_of-in-loop-group.ensures, end, up, c.requires.few),
-      omega (arith, i.values_are, c.bound_of-in-loop-group-2.ensures, c.bound_of-in-loop-group-3.ensures, fewer.1, value_up, end, c.requires.few))))),
+      (
+        c.requires.kind,
+        (
+          omega (arith, c.bound_of.ensures, c.bound_of-in-loop-group.ensures, c.bound_of-in-loop-group-2.ensures, c.bound_of-in-loop-group-3.ensures, fewer.0, up, value_up),
+          (
+            omega (arith, ap (λ k. k.count) c.unit-tally.ensures, c.bound_of-in-loop-group-2.ensures, c.bound_of-in-loop-group-3.ensures, fewer.0, fewer.1, up, value_up, end, c.requires.few),
+            (
+              omega (arith, i.cells_are, c.bound_of.ensures, c.bound_of-in-loop-group.ensures, end, up, c.requires.few),
+              omega (arith, i.values_are, c.bound_of-in-loop-group-2.ensures, c.bound_of-in-loop-group-3.ensures, fewer.1, value_up, end, c.requires.few),
+            ),
+          ),
+        ),
+      ),
     )
 
 pub returns-in-Err-clause-none : goal.returns-in-Err-clause-none

@@ -14,9 +14,9 @@ add_own-requires g c κs = (
   (
     refl,
     (let f = c.in-Ok.ensures.found in
-    let whole = ap (λ k. k.count) f.4 in
-    let counted = cells_kept_count g.T.Tally.measure f.0 in
-    omega (arith, whole, counted, f.1, ap length f.3, c.requires.most)),
+        let whole = ap (λ k. k.count) f.4 in
+        let counted = cells_kept_count g.T.Tally.measure f.0 in
+        omega (arith, whole, counted, f.1, ap length f.3, c.requires.most)),
   ),
 )
 

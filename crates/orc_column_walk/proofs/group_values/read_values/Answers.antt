@@ -18,9 +18,9 @@ add_own-requires g c κs = (
   (
     subst (λ k. is_of k (own_cell c.in-Ok.own) ≡ true) (sym c.requires.kind) c.in-Ok.ensures.kind,
     (let i = c.loop.invariant in
-    let whole = ap (λ k. k.count) i.kept in
-    let counted = cells_kept_count g.T.Tally.measure i.cells in
-    omega (arith, whole, counted, i.read.counted, ap length i.all, ap bit c.in-Ok.ensures.value, c.requires.most, c.loop-test.true)),
+        let whole = ap (λ k. k.count) i.kept in
+        let counted = cells_kept_count g.T.Tally.measure i.cells in
+        omega (arith, whole, counted, i.read.counted, ap length i.all, ap bit c.in-Ok.ensures.value, c.requires.most, c.loop-test.true)),
   ),
 )
 

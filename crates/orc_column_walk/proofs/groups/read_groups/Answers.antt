@@ -15,12 +15,15 @@ returns-in-Ok-find_column-clause-found c =
     let x = columns_of c.args.footer.now c.args.located.now.bytes.now c.args.column in
     let m = c.in-Ok-count_values_by_group.ensures.found in
     let v = c.in-Ok-find_column.ensures.found in
-    let r = own_found (shape c.args.tree.now) x c.in-Ok.reader c.args.count c.in-Ok-count_values_by_group.marked.values m.0 v.0 c.in-Ok.ensures.found c.requires.few m.1 m.2 m.3 v.1 v.2 in
-    (r.0, r.1, v.3 r.0 (record {
-      counted = r.1.counted;
-      values_are = r.4;
-      before = values_by_marks r.0 m.0 c.args.bounds.now r.3 ∙ sym m.4;
-    }))
+    let r = own_found (shape c.args.tree.now) x c.in-Ok.reader c.args.count c.in-Ok-count_values_by_group.marked.values m.0 v.0 c.in-Ok.ensures.found c.requires.few m.1 m.2 m.3 v.1 v.2 in (
+      r.0,
+      r.1,
+      v.3 r.0 (record {
+        counted = r.1.counted;
+        values_are = r.4;
+        before = values_by_marks r.0 m.0 c.args.bounds.now r.3 ∙ sym m.4;
+      }),
+    )
 
 pub returns-in-Ok-find_column-clause-few : goal.returns-in-Ok-find_column-clause-few
 returns-in-Ok-find_column-clause-few c =
