@@ -7,3 +7,4 @@ mod IndexFaults
 mod GroupTurned
 mod GroupStarts
 mod FaultsBehind
+mod CursorTexts

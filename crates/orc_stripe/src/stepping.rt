@@ -1,15 +1,19 @@
-//! The rows that a cursor has still to give: the next one, or all of them.
+//! The rows that a cursor has still to give: the next one, its text, or all of them.
 ghost use Rattle.std.specs.Prelude.{◌≡◌, ◌≢◌, List, Ok, Err, IfOk, IfErr, OnOk, OnErr, MatchResult};
 ghost use Rattle.orc_types.specs.Cells.{Cell};
 ghost use Rattle.orc_types.specs.Views.{views};
+ghost use Rattle.orc_row_text.specs.Layouts.{text_by};
+ghost use Rattle.orc_column_text.specs.Taken.{GaveText, GivesText};
 ghost use Rattle.orc_columns.specs.declared.fault.StripeFault.{StripeFault as Fault};
 ghost use Rattle.orc_columns.specs.declared.fault.StripeFault.TheVariants.{OutOfMemory, Failed};
-ghost use Rattle.orc_stripe.specs.Cursors.{HasRefused, IsGoing, StandsFor, Gives, Gave, CountsDown, MeetsFault};
+ghost use Rattle.orc_stripe.specs.Cursors.{HasRefused, IsGoing, StandsFor, Gives, Gave, CountsDown, CountsDownWhere, MeetsFault};
 
 use crate::cursor::RowCursor;
+use orc_column_text::push_next;
 use orc_columns::ending::cells_end;
 use orc_columns::fault::StripeFault;
 use orc_columns::reader::{next_cell, next_cells};
+use orc_row_text::layout::Layout;
 use orc_types::Row;
 
 impl<'a> RowCursor<'a> {
@@ -63,6 +67,42 @@ impl<'a> RowCursor<'a> {
                 Ok(Some(row))
             }
             Err(fault) => Err(fault),
+        }
+    }
+
+    /// Appends the text of the next row, by a layout, without the row being made, and says whether there was one. At the
+    /// end, once nothing is found left over in any stream, nothing is appended.
+    ///
+    /// Refusals: those of `next`. What is appended before one of them is left open.
+    pub fn push_next(&mut self, layout: &Layout, out: &mut Vec<u8>) -> Result<bool, StripeFault>
+        ensures found { IfOk result (GaveText (StandsFor self.old) (StandsFor self.new) (text_by layout.now)
+            out.old.items out.new.items) }
+        ensures only { (rows : List Cell) → StandsFor self.old rows
+            → MatchResult result (GivesText rows (StandsFor self.new) (text_by layout.now) out.old.items out.new.items)
+            (λ fault. fault ≡ OutOfMemory) }
+        ensures fewer { IfOk result (CountsDownWhere self.old self.new) }
+        ensures before { OnOk result ((f : Fault) → MeetsFault self.new f → MeetsFault self.old f) }
+        ensures fault { IfErr result (λ fault. fault ≢ OutOfMemory → fault ≢ Failed → MeetsFault self.old fault) }
+        ensures failed { HasRefused self.old → result ≡ Err Failed }
+        ensures first { IfErr result (λ fault. fault ≡ Failed → HasRefused self.old) }
+        ensures after { OnErr result (HasRefused self.new) }
+    {
+        if self.failed {
+            return Err(StripeFault::Failed);
+        }
+        match push_next(
+            self.alloc,
+            self.tree,
+            layout,
+            &mut self.readers,
+            &mut self.left,
+            out,
+        ) {
+            Ok(some) => Ok(some),
+            Err(fault) => {
+                self.failed = true;
+                Err(fault)
+            }
         }
     }
 
