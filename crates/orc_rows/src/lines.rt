@@ -54,16 +54,17 @@ pub(crate) fn lines_of(
     Ok(lines)
 }
 
-/// The lines of the rows that a cursor has still to give, each row's made before the next one is read; none where
-/// anything refuses them.
+/// The lines of the rows that a cursor has still to give, each made straight from the readers of its columns; none where
+/// anything refuses them, or where a struct of the schema names a field twice.
 fn lines_behind(alloc: Global, printer: &RowPrinter, cursor: &mut RowCursor<'_>) -> Option<Vec<u8>>
     ensures { IfSome result (λ lines. AreLinesBehind printer.now cursor.old lines.items) }
 {
+    let layout = printer.layout()?;
     let mut lines = Vec::new(alloc);
     for _ in 0..u64::MAX {
-        match cursor.next() {
-            Ok(Some(row)) => push_line(alloc, printer, &row, &mut lines).ok()?,
-            Ok(None) => return Some(lines),
+        match cursor.push_next(layout, &mut lines) {
+            Ok(true) => lines.extend_from_slice(b"\n").ok()?,
+            Ok(false) => return Some(lines),
             Err(_) => return None,
         }
     }
