@@ -19,10 +19,11 @@ mod maps;
 mod run_faults;
 mod shapes;
 mod skipped;
+mod texts;
 
 use orc_rle::RunFault;
 use orc_stripe::{StreamKind, StripeFault};
-use orc_test_lines::{lines_at_once, lines_one_by_one, schema_of};
+use orc_test_lines::{lines_at_once, lines_one_by_one, lines_straight, schema_of};
 use orc_wire::StripeInfo;
 use std::alloc::Global;
 use std::process::Abort;
@@ -429,17 +430,18 @@ fn check_case(
     }
 }
 
-/// The stripe has its lines, or is refused so, all at once and one by one.
-fn check_both(rt: &impl Abort, alloc: Global, case: &Case) -> Result<(), StripeFault> {
+/// The stripe has its lines, or is refused so, all at once, one by one, and with no row made.
+fn check_each(rt: &impl Abort, alloc: Global, case: &Case) -> Result<(), StripeFault> {
     let schema = schema_of(alloc, case.0)?;
     let (info, bytes) = stripe_of(alloc, case.1, case.2, case.3)?;
     check_case(rt, case, lines_at_once(alloc, &schema, info, &bytes))?;
-    check_case(rt, case, lines_one_by_one(alloc, &schema, info, &bytes))
+    check_case(rt, case, lines_one_by_one(alloc, &schema, info, &bytes))?;
+    check_case(rt, case, lines_straight(alloc, &schema, info, &bytes))
 }
 
 fn check_cases(rt: &impl Abort, alloc: Global, cases: &[Case]) -> Result<(), StripeFault> {
     for case in cases {
-        check_both(rt, alloc, case)?;
+        check_each(rt, alloc, case)?;
     }
     Ok(())
 }

@@ -1,5 +1,6 @@
 //! The calls that stripes are read by. None has a contract here: what the called ones promise is long, and would be a
 //! part of the proof of each test that makes them, of which the proof says nothing but that it is safe.
+use orc_row_text::layout::Layout;
 use orc_stripe::{RowCursor, StripeFault, StripeView};
 use orc_types::{Row, Schema};
 use orc_wire::StripeInfo;
@@ -48,6 +49,15 @@ pub fn cursor_of<'a>(
 /// The next row of a cursor; at the end `None`.
 pub fn next_row<'a>(cursor: &mut RowCursor<'a>) -> Result<Option<Row<'a>>, StripeFault> {
     cursor.next()
+}
+
+/// Appends the text of a cursor's next row; at the end `false`.
+pub fn next_text(
+    cursor: &mut RowCursor<'_>,
+    layout: &Layout,
+    out: &mut Vec<u8>,
+) -> Result<bool, StripeFault> {
+    cursor.push_next(layout, out)
 }
 
 /// All rows that a cursor has still to give.

@@ -5,5 +5,5 @@
 mod calls;
 mod lines;
 
-pub use calls::{cursor_of, next_row, rest_of, rows_of, schema_of};
-pub use lines::{line_of, lines_at_once, lines_one_by_one, with_memory};
+pub use calls::{cursor_of, next_row, next_text, rest_of, rows_of, schema_of};
+pub use lines::{line_of, lines_at_once, lines_one_by_one, lines_straight, with_memory};

@@ -1,5 +1,7 @@
-//! The lines that a stripe's rows print as, all at once or one by one.
-use crate::calls::{cursor_of, next_row, rows_of};
+//! The lines that a stripe's rows print as, all at once, one by one, or with no row made.
+use crate::calls::{cursor_of, next_row, next_text, rows_of};
+use orc_row_text::RowPrinter;
+use orc_row_text::layout::Layout;
 use orc_stripe::{RowCursor, StripeFault};
 use orc_types::{Row, Schema, fits, row_to_json};
 use orc_wire::StripeInfo;
@@ -122,4 +124,72 @@ fn refused(cursor: &mut RowCursor<'_>, fault: StripeFault) -> StripeFault {
 /// Whether the cursor says that it was refused before.
 fn has_failed(cursor: &mut RowCursor<'_>) -> bool {
     matches!(next_row(cursor), Err(StripeFault::Failed))
+}
+
+/// The same lines straight from the columns' readers, with no row made. At the end the cursor is asked once more; where
+/// it refuses, twice more.
+pub fn lines_straight(
+    alloc: Global,
+    schema: &Schema,
+    info: StripeInfo,
+    bytes: &[u8],
+) -> Result<Vec<String>, StripeFault> {
+    let printer = RowPrinter::new(alloc, schema)?;
+    let Some(layout) = printer.layout() else {
+        return Err(WRONG);
+    };
+    let mut cursor = cursor_of(alloc, schema, info, bytes)?;
+    let mut lines = Vec::new(alloc);
+    put_each_text(alloc, layout, &mut cursor, info.number_of_rows, &mut lines)?;
+    Ok(lines)
+}
+
+/// Appends the text of each of so many rows, behind which there are no others.
+fn put_each_text(
+    alloc: Global,
+    layout: &Layout,
+    cursor: &mut RowCursor<'_>,
+    count: u64,
+    lines: &mut Vec<String>,
+) -> Result<(), StripeFault> {
+    for _ in 0..count {
+        put_next_text(alloc, layout, cursor, lines)?;
+    }
+    see_text_end(alloc, layout, cursor)?;
+    see_text_end(alloc, layout, cursor)
+}
+
+/// Appends the text of the next row.
+fn put_next_text(
+    alloc: Global,
+    layout: &Layout,
+    cursor: &mut RowCursor<'_>,
+    lines: &mut Vec<String>,
+) -> Result<(), StripeFault> {
+    let mut text = Vec::new(alloc);
+    match next_text(cursor, layout, &mut text) {
+        Ok(true) => match std::str::from_utf8(&text) {
+            Ok(line) => {
+                lines.push(String::from_str(alloc, line)?)?;
+                Ok(())
+            }
+            Err(_) => Err(WRONG),
+        },
+        Ok(false) => Err(WRONG),
+        Err(fault) => Err(refused(cursor, fault)),
+    }
+}
+
+/// The cursor says that there are no more rows, and appends nothing.
+fn see_text_end(
+    alloc: Global,
+    layout: &Layout,
+    cursor: &mut RowCursor<'_>,
+) -> Result<(), StripeFault> {
+    let mut text = Vec::new(alloc);
+    match next_text(cursor, layout, &mut text) {
+        Ok(false) if text.is_empty() => Ok(()),
+        Ok(_) => Err(WRONG),
+        Err(fault) => Err(refused(cursor, fault)),
+    }
 }
