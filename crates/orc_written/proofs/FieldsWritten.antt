@@ -9,7 +9,8 @@ use Rattle.orc_types.specs.Fits.{RowsFit}
 use Rattle.orc_types.specs.Views.{shape, fields}
 use Rattle.orc_types.proofs.Together.{heads_fit, tails_fit}
 use Rattle.orc_index.specs.Bounds.{AreBounds}
-use Rattle.orc_written.specs.Groups.{firsts_of, AreGroupsFrom, AreFieldGroupsFrom}
+use Rattle.orc_written.specs.Firsts.{firsts_of}
+use Rattle.orc_written.specs.Groups.{AreGroupsFrom, AreFieldGroupsFrom}
 use Rattle.orc_written.specs.WrittenStripe.{AreFew}
 use Rattle.orc_written.specs.Subtrees.{AreColumnsFrom, AreFieldsFrom, FieldsFit, FieldsAreFew, HasWritten}
 use Rattle.orc_written.specs.declared.columns.Columns.{Columns}

@@ -12,7 +12,8 @@ use Rattle.orc_types.proofs.Together.{values-append, flat_map-append, keys-appen
 use Rattle.orc_columns.proofs.Arms.{some_width}
 use Rattle.orc_index.specs.Bounds.{AreBounds, elements_before, pairs_before, values_before}
 use Rattle.orc_index.proofs.Groups.{bound_within, keys_long, map_values_long, key_bounds_are}
-use Rattle.orc_written.specs.Groups.{group_count, starts, firsts_of, cells_before, bounds_of, AreGroupsFrom, ArePairGroupsFrom, AreFieldGroupsFrom}
+use Rattle.orc_written.specs.Firsts.{firsts_of}
+use Rattle.orc_written.specs.Groups.{group_count, starts, cells_before, bounds_of, AreGroupsFrom, ArePairGroupsFrom, AreFieldGroupsFrom}
 use Rattle.orc_written.specs.Subtrees.{FieldsFit}
 use Rattle.orc_written.proofs.SubtreeLemmas.{root_cells}
 

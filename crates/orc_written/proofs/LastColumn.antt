@@ -13,7 +13,8 @@ use Rattle.orc_index.specs.RowIndex.{IsWrittenIndex}
 use Rattle.orc_columns.specs.Directory.{is_of, have_room, slice}
 use Rattle.orc_columns.specs.Stripe.{IsColumn}
 use Rattle.orc_written.specs.Adding.{AddsColumn}
-use Rattle.orc_written.specs.Groups.{firsts_of, bounds_of}
+use Rattle.orc_written.specs.Firsts.{firsts_of}
+use Rattle.orc_written.specs.Groups.{bounds_of}
 use Rattle.orc_written.specs.Indexes.{streams_written, HaveIndexes, AddsIndexIf}
 use Rattle.orc_written.specs.Subtrees.{HasWritten}
 use Rattle.orc_written.specs.WrittenColumn.{Written}

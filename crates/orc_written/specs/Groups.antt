@@ -1,6 +1,6 @@
 -- The groups of rows that row indexes tell of, and the cells that each column has of them (ORC specification,
 -- "Row Group Index").
-use Rattle.std.specs.Prelude.{◌≡◌, ℕ, zero, suc, ◌+◌, ◌*◌, ◌/◌, ◌%◌, ◌<◌, min, List, [], length, map, take}
+use Rattle.std.specs.Prelude.{◌≡◌, ℕ, ◌+◌, ◌*◌, ◌/◌, ◌%◌, ◌<◌, min, List, length, map, take}
 use Rattle.std.specs.List.{range_with_len, flat_map}
 use Rattle.orc_types.specs.Cells.{Cell, keys_in, values_in, values}
 use Rattle.orc_types.specs.Columns.{cells, cells_within}
@@ -13,11 +13,6 @@ group_count stride rows = rows / stride + min 1 (rows % stride)
 -- how many rows come before each group
 abbrev pub starts : ℕ → ℕ → List ℕ
 starts stride rows = map (λ group. group * stride) (range_with_len 0 (group_count stride rows))
-
--- the same of a stripe's indexes: without a stride it has none, and no groups
-abbrev pub firsts_of : ℕ → ℕ → List ℕ
-firsts_of zero rows = []
-firsts_of (suc k) rows = starts (suc k) rows
 
 -- how many cells of a column come from the first rows
 abbrev pub cells_before : Shape → ℕ → List Cell → ℕ → ℕ

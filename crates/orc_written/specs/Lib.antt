@@ -5,6 +5,7 @@ pub mod CellValues
 pub mod WrittenStreams
 pub mod WrittenColumn
 pub mod Groups
+pub mod Firsts
 pub mod Indexes
 pub mod WrittenStripe
 pub mod Adding

@@ -9,7 +9,7 @@ use Rattle.orc_types.specs.Columns.{cells, cells_within}
 use Rattle.orc_types.specs.Fits.{each_fits, RowsFit}
 use Rattle.orc_columns.specs.Stripe.{cell_limit}
 use Rattle.orc_written.specs.declared.columns.Columns.{Columns}
-use Rattle.orc_written.specs.Groups.{firsts_of}
+use Rattle.orc_written.specs.Firsts.{firsts_of}
 use Rattle.orc_written.specs.Indexes.{HaveIndexes}
 use Rattle.orc_written.specs.WrittenStripe.{AreFew, indexed_columns, HasColumns, HaveStats}
 

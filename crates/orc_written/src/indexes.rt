@@ -9,7 +9,8 @@ ghost use Rattle.orc_columns.specs.Starting.{AreStreams};
 ghost use Rattle.orc_columns.specs.Stripe.{Streams, IsColumn};
 ghost use Rattle.orc_index.specs.Bounds.{AreBounds};
 ghost use Rattle.orc_index.specs.RowIndex.{IsWrittenIndex};
-ghost use Rattle.orc_written.specs.Groups.{starts, firsts_of};
+ghost use Rattle.orc_written.specs.Firsts.{firsts_of};
+ghost use Rattle.orc_written.specs.Groups.{starts};
 ghost use Rattle.orc_written.specs.Indexes.{AddsIndex};
 
 use crate::body::Body;

@@ -12,7 +12,8 @@ use Rattle.orc_types.proofs.Together.{elements_fit, structs_fit}
 use Rattle.orc_types.proofs.Views.{shape-Scalar, shape-List, shape-Map, shape-Struct}
 use Rattle.orc_index.specs.Bounds.{AreBounds, elements_before, pairs_before, values_before}
 use Rattle.orc_index.proofs.Groups.{element_bounds_are, keys_long, map_values_long, field_bounds_are}
-use Rattle.orc_written.specs.Groups.{firsts_of, AreGroupsFrom, ArePairGroupsFrom, AreFieldGroupsFrom}
+use Rattle.orc_written.specs.Firsts.{firsts_of}
+use Rattle.orc_written.specs.Groups.{AreGroupsFrom, ArePairGroupsFrom, AreFieldGroupsFrom}
 use Rattle.orc_written.specs.WrittenStripe.{AreFew}
 use Rattle.orc_written.specs.Subtrees.{AreColumnsFrom, HasWritten}
 use Rattle.orc_written.proofs.SubtreeLemmas.{heads_at, type_from, cells_from, element_from, pairs_from, fields_from, pairs_fit, few_here, few_elements, few_pairs, few_fields}

@@ -4,7 +4,8 @@ use Rattle.orc_types.specs.Cells.{Cell}
 use Rattle.orc_types.specs.Views.{shape, views}
 use Rattle.orc_types.specs.Lent.{lent_cells}
 use Rattle.orc_index.specs.Bounds.{AreBounds}
-use Rattle.orc_written.specs.Groups.{firsts_of, AreGroupsFrom}
+use Rattle.orc_written.specs.Firsts.{firsts_of}
+use Rattle.orc_written.specs.Groups.{AreGroupsFrom}
 use Rattle.orc_written.specs.Subtrees.{AreColumnsFrom, HasWritten}
 use Rattle.orc_written.proofs.CellValuesLemmas.{views_long}
 use Rattle.orc_written.proofs.GroupLemmas.{groups_at_root, firsts_are_bounds}
