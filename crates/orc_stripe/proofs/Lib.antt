@@ -2,6 +2,7 @@ pub mod Opened
 pub mod RowsLemmas
 pub mod OneStripe
 mod IndexBytes
+mod IndexTextLemmas
 mod GroupCells
 mod IndexFaults
 mod GroupTurned

@@ -3,3 +3,4 @@ pub mod Opened
 pub mod Cursors
 pub mod RowIndexes
 pub mod GroupCursors
+pub mod IndexTexts

@@ -12,4 +12,4 @@ pub use groups::{ColumnGroups, column_groups};
 pub use laws::{column_laws, group_laws, stripe_laws};
 pub use orc_columns::fault::{Spot, StreamKind, StripeFault};
 pub use orc_written::{Options, StripeOut, are_few, write_stripe, writing_laws};
-pub use view::StripeView;
+pub use view::{IndexText, StripeView, read_index};

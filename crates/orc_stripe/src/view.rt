@@ -11,7 +11,11 @@ ghost use Rattle.orc_columns.specs.declared.fault.StripeFault.{StripeFault as Fa
 ghost use Rattle.orc_columns.specs.declared.fault.StripeFault.TheVariants.{OutOfMemory};
 
 mod group_cursor;
+mod index_texts;
+mod parts;
 mod row_index;
+
+pub use index_texts::{IndexText, read_index};
 
 use crate::cursor::RowCursor;
 use orc_columns::directory::{check_directory, first_wrong};
