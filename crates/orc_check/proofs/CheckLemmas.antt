@@ -3,11 +3,16 @@ use Rattle.std.proofs.Common.{◌≡◌, ◌≢◌, ◌∙◌, ℕ, zero, suc, �
 use Rattle.std.specs.List.{AllByRecursion}
 use Rattle.std.specs.Option.{IfSome}
 use Rattle.std.specs.Prelude.{IfOk, IfErr, MatchResult, Result, Ok, Err}
+use Rattle.orc_wire.specs.declared.stripe_footer.StripeFooter.{StripeFooter}
 use Rattle.orc_wire.specs.declared.stripe_info.StripeInfo.{StripeInfo}
 use Rattle.orc_types.specs.Cells.{Cell}
 use Rattle.orc_types.specs.Shapes.{Shape, width}
 use Rattle.orc_stats.specs.declared.stat.Stat.{Stat}
-use Rattle.orc_columns.specs.Stripe.{IsStripe}
+use Rattle.orc_columns.specs.Faults.{RowsFault}
+use Rattle.orc_columns.specs.Stripe.{HasFooter, IsStripe, columns_of}
+use Rattle.orc_stripe.specs.Opened.{Opened}
+use Rattle.orc_stripe.specs.Opening as opening
+use Rattle.orc_stripe.proofs.OneStripe.{by_footer}
 use Rattle.orc_file.specs.Stripes.{stripe_at, most_stripes}
 use Rattle.orc_file.specs.FileRows.{stripe_bytes, joined, AreOfStripes, HasRows, FileIs, IsNoStripe, StripeRefused, FirstRefused, cut_rows}
 use Rattle.orc_file.specs.Tails.{IsTail, OpenFault, ReadFault, tail_tests}
@@ -153,6 +158,23 @@ pub stripe_read : (told : Option (List ℕ)) (s : Shape) (info : StripeInfo) (n 
 stripe_read told s info n bytes fault read (inl memory) = inl memory
 stripe_read None s info n bytes fault read (inr h) = inr (inr tt)
 stripe_read (Some all) s info n bytes fault read (inr h) = inr (inr (h.0, h.1, h.2, subst (λ (b : List ℕ). IsNoStripe s info b h.0) read h.3))
+
+-- bytes that have no view have no rows
+pub no_view : (s : Shape) (info : StripeInfo) (n : ℕ) (bytes : List ℕ) (fault : FileFault) → ((footer : StripeFooter) → HasFooter s info bytes footer → fault ≡ OutOfMemory)
+    → (fault ≡ OutOfMemory) ⊎ ((why : StripeFault) × (fault ≡ Stripe n why) × (why ≢ stripe.OutOfMemory) × opening.OpenFault s info bytes why) → NoRows s info n bytes fault
+no_view s info n bytes fault only (inl memory) = inl memory
+no_view s info n bytes fault only (inr h) =
+    inr (h.0, h.1, h.2, record { none = λ rows is. let wrong : Stripe n h.0 ≡ OutOfMemory = sym h.1 ∙ only is.footer is.has_footer in cc; reason = inl h.3 })
+
+-- nor have those whose columns spell none
+pub no_columns : (view : Opened) (s : Shape) (info : StripeInfo) (bytes : List ℕ) (n : ℕ) (cause : StripeFault) (fault : FileFault) → HasFooter s info bytes view.footer → view.schema ≡ s → view.info ≡ info → view.bytes ≡ bytes
+    → (cause ≢ stripe.OutOfMemory → RowsFault view.schema (columns_of view.footer view.bytes) view.info.number_of_rows cause) → (fault ≡ OutOfMemory) ⊎ ((fault ≡ Stripe n cause) × (cause ≢ stripe.OutOfMemory)) → NoRows s info n bytes fault
+no_columns view s info bytes n cause fault has es ei eb refused (inl memory) = inl memory
+no_columns view s info bytes n cause fault has es ei eb refused (inr h) =
+    let by_schema = subst (λ (t : Shape). RowsFault t (columns_of view.footer view.bytes) view.info.number_of_rows cause) es (refused h.1) in
+    let by_info = subst (λ (i : StripeInfo). RowsFault s (columns_of view.footer view.bytes) i.number_of_rows cause) ei by_schema in
+    let why = subst (λ (b : List ℕ). RowsFault s (columns_of view.footer b) info.number_of_rows cause) eb by_info in
+    inr (cause, h.0, h.1, record { none = λ rows is. why.none rows (by_footer s info bytes view.footer rows has is); reason = inr (view.footer, has, why) })
 
 pub stripe_refused : (told : Option (List ℕ)) (tail : Tail) (n : ℕ) (texts : List (List ℕ)) (parts : List (List Cell)) (found : List Finding) (own : List (List Stat)) (fault : FileFault) → n < length tail.stripes
     → AreChecked tail n texts parts found own → AreTold told tail n texts

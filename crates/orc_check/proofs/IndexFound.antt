@@ -1,26 +1,139 @@
--- What is found of the groups of a column, which has an index with an entry for each.
-use Rattle.std.proofs.Common.{◌≡◌, ℕ, ◌<◌, Bool, List, length, inr, subst}
+-- What is found of the row index of a column.
+use Rattle.std.proofs.Common.{◌≡◌, ◌∙◌, ℕ, zero, suc, ◌<◌, Bool, true, false, if◌then◌else◌, Some, None, List, [], ◌∷◌, ◌++◌, length, map, get_or, slice_get, refl, sym, ap, inl, inr, subst, arith}
+use Rattle.std.proofs.lemmas.List.{length-map}
+use Rattle.orc_wire.specs.Messages.{row_index}
+use Rattle.orc_wire.specs.SpellsLaws.{one_spelled}
 use Rattle.orc_wire.specs.declared.row_index.RowIndexEntry.{RowIndexEntry}
 use Rattle.orc_wire.specs.declared.row_index.RowIndexMsg.{RowIndexMsg}
+use Rattle.orc_wire.specs.declared.stripe_footer.StripeFooter.{StripeFooter}
 use Rattle.orc_types.specs.Cells.{Cell}
-use Rattle.orc_types.specs.Shapes.{Shape}
-use Rattle.orc_columns.specs.Stripe.{Streams}
+use Rattle.orc_types.specs.Columns.{cells}
+use Rattle.orc_types.specs.Fits.{RowsFit}
+use Rattle.orc_types.proofs.Together.{cells_fit}
+use Rattle.orc_types.specs.Shapes.{Shape, width, shape_at}
+use Rattle.orc_columns.specs.Directory.{has_stream, slice}
+use Rattle.orc_columns.specs.Starting.{AreStreams}
+use Rattle.orc_columns.specs.Stripe.{Streams, IsColumn, columns_of, cell_limit}
+use Rattle.orc_columns.specs.declared.starting.ColumnStreams.{ColumnStreams}
+use Rattle.orc_index.specs.Bounds.{AreBounds, before_group}
+use Rattle.orc_index.specs.Walking.{AreCounted}
+use Rattle.orc_index.specs.declared.counts.Counts.{Counts}
+use Rattle.orc_column_walk.specs.declared.found.GroupFound.{GroupFound}
 use Rattle.orc_positions.specs.Decided.{AreDecided}
+use Rattle.orc_written.specs.Groups.{starts, bounds_of}
+use Rattle.orc_stripe.specs.IndexTexts.{text_of, listed, IsText, IsMessage}
+use Rattle.orc_stripe.specs.declared.view.index_texts.IndexText.{IndexText}
 use Rattle.orc_stripe.specs.Opened.{Opened}
 use Rattle.orc_stripe.specs.RowIndexes.{HasIndex, IsWhole}
 use Rattle.orc_check.specs.declared.finding.Finding.{Finding}
+use Rattle.orc_check.specs.declared.finding.Finding.TheVariants.{IndexEntries}
+use Rattle.orc_check.specs.declared.open_stripe.OpenStripe.{OpenStripe}
 use Rattle.orc_check.specs.Findings.{Adds, OfEach, OfGroup, OfGroups, OfIndex}
+use Rattle.orc_check.specs.Walking.{IsLaidOut, AreGroups, AreGroupsFound}
+use Rattle.orc_check.proofs.GroupBounds.{get_or_any, bounds_long}
 
 pub groups_found : (view : Opened) (n : ℕ) (rows : List Cell) (c : ℕ) (message : RowIndexMsg) (a b : List Finding) → 0 < view.stride → HasIndex view.footer view.bytes c message → IsWhole view (length rows) message
     → Adds (OfGroups view n rows c message.entries) a b → Adds (OfIndex view n rows c) a b
 groups_found view n rows c message a b some has whole h = (h.0, inr (some, inr (message, has, whole, h.1)), h.2)
 
 -- the same groups by other names
-pub groups_here : (s t : Shape) (x : Streams) (cs ds : List Cell) (bs fs : List ℕ) (ms ns : List RowIndexEntry) (given right : List Bool) (n c : ℕ) (a b : List Finding) → s ≡ t → cs ≡ ds → bs ≡ fs → ms ≡ ns → given ≡ right
-    → ((y : Streams) → AreDecided s y cs bs ms given → Adds (OfEach (OfGroup s y cs bs n c ms) (length ms)) a b) → AreDecided t x ds fs ns right → Adds (OfEach (OfGroup t x ds fs n c ns) (length ns)) a b
-groups_here s t x cs ds bs fs ms ns given right n c a b es ec eb em eg h =
-    let by_right = subst (λ (r : List Bool). (y : Streams) → AreDecided s y cs bs ms r → Adds (OfEach (OfGroup s y cs bs n c ms) (length ms)) a b) eg h in
-    let by_entries = subst (λ (m : List RowIndexEntry). (y : Streams) → AreDecided s y cs bs m right → Adds (OfEach (OfGroup s y cs bs n c m) (length m)) a b) em by_right in
-    let by_bounds = subst (λ (k : List ℕ). (y : Streams) → AreDecided s y cs k ns right → Adds (OfEach (OfGroup s y cs k n c ns) (length ns)) a b) eb by_entries in
-    let by_cells = subst (λ (k : List Cell). (y : Streams) → AreDecided s y k fs ns right → Adds (OfEach (OfGroup s y k fs n c ns) (length ns)) a b) ec by_bounds in
-    subst (λ (k : Shape). (y : Streams) → AreDecided k y ds fs ns right → Adds (OfEach (OfGroup k y ds fs n c ns) (length ns)) a b) es by_cells x
+pub groups_here : (view : Opened) (n : ℕ) (rows : List Cell) (c : ℕ) (t : Shape) (es fs : List RowIndexEntry) (a b : List Finding) → shape_at view.schema c ≡ t → es ≡ fs
+    → Adds (OfEach (OfGroup t (columns_of view.footer view.bytes c) (cells view.schema c rows) (bounds_of view.schema c rows (starts view.stride (length rows))) n c es) (length es)) a b → Adds (OfGroups view n rows c fs) a b
+groups_here view n rows c t es fs a b type same h =
+    let x = columns_of view.footer view.bytes c in
+    let cs = cells view.schema c rows in
+    let bs = bounds_of view.schema c rows (starts view.stride (length rows)) in
+    subst (λ (u : Shape). Adds (OfEach (OfGroup u x cs bs n c fs) (length fs)) a b) (sym type) (subst (λ (xs : List RowIndexEntry). Adds (OfEach (OfGroup t x cs bs n c xs) (length xs)) a b) same h)
+
+-- ---- the message of an index
+
+module _ (footer : StripeFooter) (bytes : List ℕ) (c : ℕ) (message : RowIndexMsg) where
+  listed_has : IsText (listed c footer.streams bytes) message → HasIndex footer bytes c message
+  listed_has h = by (has_stream c 6 footer.streams) refl h
+    where
+      by : (b : Bool) → has_stream c 6 footer.streams ≡ b → IsText (if b then Some (slice c 6 footer.streams bytes) else None) message → HasIndex footer bytes c message
+      by true e h = (e, h)
+      by false e h = absurd h
+
+  has_listed : HasIndex footer bytes c message → IsText (listed c footer.streams bytes) message
+  has_listed h = subst (λ (b : Bool). IsText (if b then Some (slice c 6 footer.streams bytes) else None) message) (sym h.0) h.1
+
+-- the bytes of a column's index are those that the directory lists
+text_is : (stripe : OpenStripe) (c : ℕ) (text : IndexText) → IsLaidOut stripe → c < width stripe.view.now.schema → text ≡ get_or stripe.texts.items c text
+    → text_of text ≡ listed c stripe.view.now.footer.streams stripe.view.now.bytes
+text_is stripe c text out lt is =
+    ap text_of (is ∙ get_or_any stripe.texts.items c text (record { bytes = None }) (omega (arith, lt, out.indexes.counted))) ∙ out.indexes.are c lt
+
+pub has_index : (stripe : OpenStripe) (c : ℕ) (text : IndexText) (message : RowIndexMsg) → IsLaidOut stripe → c < width stripe.view.now.schema → text ≡ get_or stripe.texts.items c text → IsMessage text message
+    → HasIndex stripe.view.now.footer stripe.view.now.bytes c message
+has_index stripe c text message out lt is h = let v = stripe.view.now in listed_has v.footer v.bytes c message (subst (λ t. IsText t message) (text_is stripe c text out lt is) h)
+
+pub is_message : (stripe : OpenStripe) (c : ℕ) (text : IndexText) (message : RowIndexMsg) → IsLaidOut stripe → c < width stripe.view.now.schema → text ≡ get_or stripe.texts.items c text
+    → HasIndex stripe.view.now.footer stripe.view.now.bytes c message → IsMessage text message
+is_message stripe c text message out lt is h = let v = stripe.view.now in subst (λ t. IsText t message) (sym (text_is stripe c text out lt is)) (has_listed v.footer v.bytes c message h)
+
+pub one_index : (footer : StripeFooter) (bytes : List ℕ) (c : ℕ) (a b : RowIndexMsg) → HasIndex footer bytes c a → HasIndex footer bytes c b → a ≡ b
+one_index footer bytes c a b p q = one_spelled row_index 0 0 (slice c 6 footer.streams bytes) a b p.1 q.1
+
+-- ---- what is counted before each group
+
+mapped_get : (groups : List GroupFound) (g : ℕ) (k : Counts) → slice_get (map (λ (group : GroupFound). group.before) groups) g ≡ Some k → (group : GroupFound) × (slice_get groups g ≡ Some group) × (group.before ≡ k)
+mapped_get [] g k h = cc
+mapped_get (x ∷ xs) zero k h = (x, refl, cc)
+mapped_get (x ∷ xs) (suc g) k h = mapped_get xs g k h
+
+pub counted_before : (s : Shape) (column : List Cell) (bounds : List ℕ) (groups : List GroupFound) (counts : List Counts) → AreGroups s column bounds groups → counts ≡ map (λ (group : GroupFound). group.before) groups
+    → (g : ℕ) (k : Counts) → slice_get counts g ≡ Some k → AreCounted k (before_group column bounds g)
+counted_before s column bounds groups counts are is g k h =
+    let found = mapped_get groups g k (ap (λ ks. slice_get ks g) (sym is) ∙ h) in subst (λ (n : Counts). AreCounted n (before_group column bounds g)) found.2 (are g found.0 found.1).before
+
+-- ---- what is found
+
+-- no message
+pub none_there : (stripe : OpenStripe) (rows : List Cell) (c : ℕ) (text : IndexText) (a b : List Finding) → IsLaidOut stripe → c < width stripe.view.now.schema → text ≡ get_or stripe.texts.items c text
+    → ((message : RowIndexMsg) → IsMessage text message → ⊥) → b ≡ a ++ IndexEntries stripe.number c ∷ [] → 0 < stripe.view.now.stride → Adds (OfIndex stripe.view.now stripe.number rows c) a b
+none_there stripe rows c text a b out lt at none e some = (
+  IndexEntries stripe.number c ∷ [],
+  inr (some, inl ((λ message has whole. none message (is_message stripe c text message out lt at has)), refl)),
+  e,
+)
+
+-- more entries than groups, or fewer
+pub other_number : (stripe : OpenStripe) (rows : List Cell) (c : ℕ) (t : Shape) (groups : List GroupFound) (text : IndexText) (message : RowIndexMsg) (es : List RowIndexEntry) (a b : List Finding) → IsLaidOut stripe → c < width stripe.view.now.schema
+    → text ≡ get_or stripe.texts.items c text → IsMessage text message → es ≡ message.entries → (length es ≡ length groups → ⊥) → b ≡ a ++ IndexEntries stripe.number c ∷ [] → 0 < stripe.view.now.stride
+    → AreGroupsFound stripe.view.now rows c t groups → Adds (OfIndex stripe.view.now stripe.number rows c) a b
+other_number stripe rows c t groups text message es a b out lt at is same other e some h =
+    let v = stripe.view.now in
+    let own = has_index stripe c text message out lt at is in (
+      IndexEntries stripe.number c ∷ [],
+      inr (
+        some,
+        inl (
+          (λ m has whole.
+              let one : message ≡ m = one_index v.footer v.bytes c message m own has in
+              other (ap length same ∙ ap (λ (k : RowIndexMsg). length k.entries) one ∙ whole ∙ sym (bounds_long v.schema c v.stride rows) ∙ sym h.counted)),
+          refl,
+        ),
+      ),
+      e,
+    )
+
+-- an entry for each group
+pub index_found : (stripe : OpenStripe) (rows : List Cell) (c : ℕ) (t : Shape) (groups : List GroupFound) (text : IndexText) (message : RowIndexMsg) (es : List RowIndexEntry) (right : List Bool) (counts : List Counts) (streams : ColumnStreams) (a b : List Finding)
+    → IsLaidOut stripe → c < width stripe.view.now.schema → text ≡ get_or stripe.texts.items c text → IsMessage text message → es ≡ message.entries → length es ≡ length groups → counts ≡ map (λ (group : GroupFound). group.before) groups
+    → AreStreams (columns_of stripe.view.now.footer stripe.view.now.bytes c) streams
+    → ((y : Streams) (cs : List Cell) (bs : List ℕ) → AreStreams y streams → IsColumn t y cs → AreBounds (length cs) bs → length counts ≡ length es → ((g : ℕ) (k : Counts) → slice_get counts g ≡ Some k → AreCounted k (before_group cs bs g))
+    → AreDecided t y cs bs es right)
+    → ((y : Streams) (cs : List Cell) (bs : List ℕ) → RowsFit t cs → length cs < cell_limit → AreGroups t cs bs groups → AreDecided t y cs bs es right → Adds (OfEach (OfGroup t y cs bs stripe.number c es) (length es)) a b)
+    → 0 < stripe.view.now.stride → AreGroupsFound stripe.view.now rows c t groups → Adds (OfIndex stripe.view.now stripe.number rows c) a b
+index_found stripe rows c t groups text message es right counts streams a b out lt at is same many counted streams_are placed each some h =
+    let v = stripe.view.now in
+    let x = columns_of v.footer v.bytes c in
+    let cs = cells v.schema c rows in
+    let bs = bounds_of v.schema c rows (starts v.stride (length rows)) in
+    let column : IsColumn t x cs = subst (λ (u : Shape). IsColumn u x cs) h.type (h.spelled.column c lt) in
+    let fit : RowsFit t cs = subst (λ (u : Shape). RowsFit u cs) h.type (cells_fit v.schema c rows lt h.spelled.fit) in
+    let long : length counts ≡ length es = ap length counted ∙ length-map groups (λ (group : GroupFound). group.before) ∙ sym many in
+    let decided = placed x cs bs streams_are column h.ascending long (counted_before t cs bs groups counts h.are counted) in
+    let whole : IsWhole v (length rows) message = ap length (sym same) ∙ many ∙ h.counted ∙ bounds_long v.schema c v.stride rows in
+    groups_found v stripe.number rows c message a b some (has_index stripe c text message out lt at is) whole (groups_here v stripe.number rows c t es message.entries a b h.type same (each x cs bs fit column.few h.are decided))

@@ -1,6 +1,7 @@
 mod ReportLemmas
 mod Checked
 mod ToldLemmas
+mod WalkLemmas
 mod CheckLemmas
 mod WholeLemmas
 mod CellLemmas

@@ -4,3 +4,4 @@ pub mod Findings
 pub mod RightIndexes
 pub mod Checking
 pub mod Meanings
+pub mod Walking

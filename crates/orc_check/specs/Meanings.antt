@@ -13,7 +13,7 @@ use Rattle.orc_index.specs.Places.{AreReadPlaces}
 use Rattle.orc_written.specs.Groups.{starts, bounds_of}
 use Rattle.orc_stripe.specs.RowIndexes.{HasIndex, IsWhole}
 use Rattle.orc_file.specs.Stripes.{stripe_at}
-use Rattle.orc_file.specs.FileRows.{stripe_bytes, opened_stripe, cut_rows}
+use Rattle.orc_file.specs.FileRows.{stripe_bytes, opened_stripe}
 use Rattle.orc_file.specs.declared.tail.Tail.{Tail}
 use Rattle.orc_check.specs.declared.finding.Finding.{Finding}
 use Rattle.orc_check.specs.declared.finding.Finding.TheVariants.{StripeStatistic, IndexEntries, IndexStatistic, IndexPosition, FileStatistic}

@@ -1,96 +1,290 @@
-//! The columns of a stripe.
-ghost use Rattle.std.specs.Prelude.{◌≡◌, ◌<◌, OnOk, IfOk};
+//! The columns of a stripe, one after the other, each from its own streams. No row is made.
+ghost use Rattle.std.specs.Prelude.{◌≡◌, ◌≢◌, ◌<◌, ◌≤◌, ◌+◌, ◌++◌, ◌∷◌, [], Bool, List, slice_get, OnOk, IfOk, IfErr};
+ghost use Rattle.orc_stats.specs.Known.{known_as, told_body};
+ghost use Rattle.orc_types.specs.Cells.{Cell};
+ghost use Rattle.orc_types.specs.Shapes.{width, widths};
+ghost use Rattle.orc_types.specs.Views.{shape, fields as fields_view};
+ghost use Rattle.orc_columns.specs.Faults.{RowsFault};
+ghost use Rattle.orc_columns.specs.Stripe.{IsStripe, columns_of};
+ghost use Rattle.orc_columns.specs.declared.fault.StripeFault.TheVariants.{OutOfMemory};
 ghost use Rattle.orc_index.specs.Bounds.{AreBounds};
-ghost use Rattle.orc_written.specs.Groups.{starts};
-ghost use Rattle.orc_types.specs.Shapes.{width};
-ghost use Rattle.orc_types.specs.Views.{views};
-ghost use Rattle.orc_columns.specs.Stripe.{IsStripe};
-ghost use Rattle.orc_written.specs.WrittenStripe as written;
+ghost use Rattle.orc_column_walk.specs.OwnColumns.{IsOwnColumn, OwnDown, OwnWithin};
+ghost use Rattle.orc_column_walk.specs.OwnFaults.{IsRefused, RefusedDown, RefusedWithin};
+ghost use Rattle.orc_check.specs.declared.finding.Finding.{Finding as Reported};
 ghost use Rattle.orc_check.specs.Checking.{HaveKnown};
 ghost use Rattle.orc_check.specs.Findings.{Adds, OfEach, OfColumn};
+ghost use Rattle.orc_check.specs.Walking as walking;
+ghost use Rattle.orc_check.specs.Walking.{IsLaidOut, AreGrouped, ComesNext, FieldsComeNext, AreBelow, IsFoundInRows, AreColumnsChecked};
 
 use crate::agreeing::{keep_told, tells};
-use crate::entries::cells_stat;
 use crate::finding::Finding;
+use crate::open_stripe::OpenStripe;
 use crate::reports::report;
 use crate::row_index::check_index;
-use orc_file::Tail;
+use orc_column_walk::{ColumnFound, read_groups};
+use orc_columns::column::MOST_CELLS;
+use orc_columns::fault::StripeFault;
 use orc_stats::Stat;
-use orc_stripe::{StripeView, column_groups};
-use orc_types::{Row, tree_at};
+use orc_stripe::StripeView;
+use orc_types::{Field, Tree};
 use orc_wire::Items;
 use orc_written::group_starts;
 use std::alloc::{AllocError, Global};
 
-/// How many rows come before each group; without a stride there are no groups.
+/// How many rows come before each group; without a stride all rows are one.
 fn firsts_of(alloc: Global, stride: u32, rows: usize) -> Result<Vec<usize>, AllocError>
-    ensures bounds { IfOk result (λ firsts. AreBounds rows firsts.items) }
-    ensures groups { IfOk result (λ firsts. 0 < stride → firsts.items ≡ starts stride rows) }
+    ensures { IfOk result (λ firsts. firsts.items ≡ walking.firsts stride rows) }
 {
     if stride == 0 {
-        Ok(Vec::new(alloc))
-    } else {
-        group_starts(alloc, stride as usize, rows)
+        return Vec::from_elem(alloc, 0, 1);
     }
+    group_starts(alloc, stride as usize, rows)
 }
 
-/// Puts what is found of a column behind what was found before, and answers the statistic of its cells.
+/// How many cells a column has, and how many of them come before each group.
+#[derive(Drop)]
+struct CellGroups {
+    count: usize,
+    bounds: Vec<usize>,
+}
+
+/// Puts what is found of a column behind what was found before.
 fn check_column(
     alloc: Global,
-    tail: &Tail,
-    told: &[Stat],
-    number: usize,
+    stripe: &OpenStripe<'_, '_>,
+    tree: &Tree,
     column: usize,
-    view: &StripeView<'_>,
-    rows: &[Row<'_>],
+    read: &ColumnFound,
     found: &mut Vec<Finding>,
-) -> Result<Stat, AllocError>
-    requires there { column < width view.now.schema }
-    requires same { (view.now.schema ≡ tail.now.schema) × (view.now.stride ≡ tail.now.stride) }
-    requires stripe { IsStripe view.now.schema view.now.info view.now.bytes (views rows.now) }
-    ensures found { OnOk result
-        (Adds (OfColumn view.now told.now number (views rows.now) column) found.old.items found.new.items) }
-    ensures stat { IfOk result (λ stat. stat ≡ written.column_stat view.now.schema (views rows.now) column) }
+) -> Result<(), AllocError>
+    requires laid_out { IsLaidOut stripe.now }
+    requires there { column < width stripe.now.view.now.schema }
+    ensures { OnOk result ((rows : List Cell) → IsFoundInRows stripe.now.view.now rows column (shape tree.now) read.now
+        → Adds (OfColumn stripe.now.view.now stripe.now.told.now stripe.now.number rows column)
+        found.old.items found.new.items) }
 {
-    let firsts = firsts_of(alloc, tail.stride, rows.len())?;
-    let groups = column_groups(alloc, &tail.schema, column, rows, &firsts)?;
-    let tree = tree_at(tail.schema.tree(), column);
-    let right = cells_stat(alloc, tree, &groups.cells)?;
     report(
-        tells(told, column, &right),
-        Finding::StripeStatistic(number, column),
+        tells(stripe.told, column, &read.stat),
+        Finding::StripeStatistic(stripe.number, column),
         found,
     )?;
-    if tail.stride > 0 {
-        check_index(alloc, number, column, tree, view, rows, &groups, found)?;
+    if stripe.view.stride() > 0 {
+        check_index(alloc, stripe, tree, column, &read.groups, found)?;
     }
-    Ok(right)
+    Ok(())
 }
 
-/// Puts what is found of the columns behind what was found before, and answers the statistics of their cells, of
-/// children no more than is told.
+/// Puts a column's statistic behind those of the others, of children no more than is told of it.
+fn put_stat(
+    read: ColumnFound,
+    told: &[Stat],
+    column: usize,
+    stats: &mut Vec<Stat>,
+) -> Result<CellGroups, AllocError>
+    ensures stat { OnOk result (stats.new.items ≡ stats.old.items
+        ++ known_as (told_body (slice_get told.now column)) read.stat ∷ []) }
+    ensures below { IfOk result
+        (λ below. (below.count ≡ read.below) × (below.bounds.items ≡ read.bounds_below.items)) }
+{
+    let mut stat = read.stat;
+    keep_told(&mut stat, told, column);
+    stats.push(stat)?;
+    Ok(CellGroups {
+        count: read.below,
+        bounds: read.bounds_below,
+    })
+}
+
+/// Reads a column of so many cells, and puts what is found of it, and its statistic, behind what was found before. It
+/// answers how many cells each column right below has.
+fn add_column(
+    alloc: Global,
+    stripe: &OpenStripe<'_, '_>,
+    tree: &Tree,
+    column: usize,
+    cells: &CellGroups,
+    found: &mut Vec<Finding>,
+    stats: &mut Vec<Stat>,
+) -> Result<CellGroups, StripeFault>
+    requires laid_out { IsLaidOut stripe.now }
+    requires there { column < width stripe.now.view.now.schema }
+    requires grouped { AreGrouped cells.now }
+    ensures found { IfOk result (λ below. (own : List Cell)
+        × IsOwnColumn (shape tree.now) (columns_of stripe.now.view.now.footer stripe.now.view.now.bytes column)
+        cells.now.count own
+        × AreBelow (shape tree.now) own cells.now below) }
+    ensures grouped { IfOk result AreGrouped }
+    ensures rows { IfOk result (λ below. (rows here : List Cell)
+        → ComesNext stripe.now.view.now rows column (shape tree.now) here cells.now
+        → AreBelow (shape tree.now) here cells.now below) }
+    ensures checked { OnOk result ((rows here : List Cell) (before : List Reported)
+        → ComesNext stripe.now.view.now rows column (shape tree.now) here cells.now
+        → AreColumnsChecked stripe.now.view.now stripe.now.told.now stripe.now.number rows column before
+        found.old.items stats.old.items
+        → AreColumnsChecked stripe.now.view.now stripe.now.told.now stripe.now.number rows (column + 1) before
+        found.new.items stats.new.items) }
+    ensures fault { IfErr result (λ cause. cause ≢ OutOfMemory
+        → (all : Bool)
+        × IsRefused (shape tree.now) (columns_of stripe.now.view.now.footer stripe.now.view.now.bytes column)
+        column all cells.now.count cause) }
+{
+    let read = match read_groups(
+        alloc,
+        tree,
+        column,
+        stripe.view.footer(),
+        &stripe.located,
+        cells.count,
+        &cells.bounds,
+    ) {
+        Ok(read) => read,
+        Err(fault) => return Err(fault),
+    };
+    check_column(alloc, stripe, tree, column, &read, found)?;
+    let below = put_stat(read, stripe.told, column, stats)?;
+    Ok(below)
+}
+
+/// Checks a column of so many cells, and then those below it, each with as many cells as the one above has children.
+/// It answers the number of the column that comes next.
+#[cycle(walking)]
+fn check_tree(
+    alloc: Global,
+    stripe: &OpenStripe<'_, '_>,
+    tree: &Tree,
+    column: usize,
+    cells: &CellGroups,
+    found: &mut Vec<Finding>,
+    stats: &mut Vec<Stat>,
+) -> Result<usize, StripeFault>
+    requires laid_out { IsLaidOut stripe.now }
+    requires there { column + width (shape tree.now) ≤ width stripe.now.view.now.schema }
+    requires grouped { AreGrouped cells.now }
+    ensures found { OnOk result (OwnDown (shape tree.now)
+        (columns_of stripe.now.view.now.footer stripe.now.view.now.bytes) column cells.now.count) }
+    ensures next { IfOk result (λ next. next ≡ column + width (shape tree.now)) }
+    ensures checked { OnOk result ((rows here : List Cell) (before : List Reported)
+        → ComesNext stripe.now.view.now rows column (shape tree.now) here cells.now
+        → AreColumnsChecked stripe.now.view.now stripe.now.told.now stripe.now.number rows column before
+        found.old.items stats.old.items
+        → AreColumnsChecked stripe.now.view.now stripe.now.told.now stripe.now.number rows
+        (column + width (shape tree.now)) before found.new.items stats.new.items) }
+    ensures fault { IfErr result (λ cause. cause ≢ OutOfMemory
+        → (all : Bool)
+        × RefusedDown (shape tree.now) (columns_of stripe.now.view.now.footer stripe.now.view.now.bytes) column
+        all cells.now.count cause) }
+{
+    match add_column(alloc, stripe, tree, column, cells, found, stats) {
+        Ok(below) => match tree {
+            Tree::Scalar(_, _) => Ok(column + 1),
+            Tree::List(element, _) => {
+                match check_tree(alloc, stripe, element, column + 1, &below, found, stats) {
+                    Ok(next) => Ok(next),
+                    Err(fault) => Err(fault),
+                }
+            }
+            Tree::Map(key, value, _) => {
+                match check_tree(alloc, stripe, key, column + 1, &below, found, stats) {
+                    Ok(second) => {
+                        match check_tree(alloc, stripe, value, second, &below, found, stats) {
+                            Ok(next) => Ok(next),
+                            Err(fault) => Err(fault),
+                        }
+                    }
+                    Err(fault) => Err(fault),
+                }
+            }
+            Tree::Struct(fields, _) => {
+                match check_fields(alloc, stripe, fields, column + 1, &below, found, stats) {
+                    Ok(next) => Ok(next),
+                    Err(fault) => Err(fault),
+                }
+            }
+        },
+        Err(fault) => Err(fault),
+    }
+}
+
+/// Checks the columns of the fields of so many structs, one field after the other, and answers the number of the
+/// column that comes next.
+#[cycle(walking)]
+fn check_fields(
+    alloc: Global,
+    stripe: &OpenStripe<'_, '_>,
+    fields: &[Field],
+    column: usize,
+    cells: &CellGroups,
+    found: &mut Vec<Finding>,
+    stats: &mut Vec<Stat>,
+) -> Result<usize, StripeFault>
+    requires laid_out { IsLaidOut stripe.now }
+    requires there { column + widths (fields_view fields.now) ≤ width stripe.now.view.now.schema }
+    requires grouped { AreGrouped cells.now }
+    ensures found { OnOk result (OwnWithin (fields_view fields.now)
+        (columns_of stripe.now.view.now.footer stripe.now.view.now.bytes) column cells.now.count) }
+    ensures next { IfOk result (λ next. next ≡ column + widths (fields_view fields.now)) }
+    ensures checked { OnOk result ((rows : List Cell) (structs : List (List Cell)) (before : List Reported)
+        → FieldsComeNext stripe.now.view.now rows column (fields_view fields.now) structs cells.now
+        → AreColumnsChecked stripe.now.view.now stripe.now.told.now stripe.now.number rows column before
+        found.old.items stats.old.items
+        → AreColumnsChecked stripe.now.view.now stripe.now.told.now stripe.now.number rows
+        (column + widths (fields_view fields.now)) before found.new.items stats.new.items) }
+    ensures fault { IfErr result (λ cause. cause ≢ OutOfMemory
+        → (all : Bool)
+        × RefusedWithin (fields_view fields.now) (columns_of stripe.now.view.now.footer stripe.now.view.now.bytes)
+        column all cells.now.count cause) }
+{
+    let mut next = column;
+    for field in fields {
+        match check_tree(alloc, stripe, &field.tree, next, cells, found, stats) {
+            Ok(after) => next = after,
+            Err(fault) => return Err(fault),
+        }
+    }
+    Ok(next)
+}
+
+/// Reads a stripe's columns, puts what is found of them behind what was found before, and answers the statistics of
+/// their cells, of children no more than is told.
+///
+/// Refusals: those of a stripe's rows, which come column by column here: the fault of the first column that doesn't
+/// spell as many cells as the column above has children. `TooMany(0)` where the rows are more than 2,147,483,647;
+/// `OutOfMemory`.
 pub(crate) fn check_columns(
     alloc: Global,
-    tail: &Tail,
-    told: &[Stat],
     number: usize,
+    told: &[Stat],
     view: &StripeView<'_>,
-    rows: &[Row<'_>],
     found: &mut Vec<Finding>,
-) -> Result<Items<Stat>, AllocError>
-    requires same { (view.now.schema ≡ tail.now.schema) × (view.now.stride ≡ tail.now.stride) }
-    requires stripe { IsStripe view.now.schema view.now.info view.now.bytes (views rows.now) }
-    ensures found { OnOk result (Adds
-        (OfEach (OfColumn view.now told.now number (views rows.now)) (width view.now.schema))
-        found.old.items found.new.items) }
-    ensures stats { IfOk result
-        (λ stats. HaveKnown view.now.schema told.now (views rows.now) (width view.now.schema) stats) }
+) -> Result<Items<Stat>, StripeFault>
+    ensures found { IfOk result (λ stats. (rows : List Cell)
+        × IsStripe view.now.schema view.now.info view.now.bytes rows
+        × Adds (OfEach (OfColumn view.now told.now number rows) (width view.now.schema))
+        found.old.items found.new.items
+        × HaveKnown view.now.schema told.now rows (width view.now.schema) stats) }
+    ensures fault { IfErr result (λ cause. cause ≢ OutOfMemory
+        → RowsFault view.now.schema (columns_of view.now.footer view.now.bytes) view.now.info.number_of_rows cause) }
 {
-    let mut stats = Vec::new(alloc);
-    for column in 0..tail.schema.width() {
-        let mut stat = check_column(alloc, tail, told, number, column, view, rows, found)?;
-        keep_told(&mut stat, told, column);
-        stats.push(stat)?;
+    let rows = view.number_of_rows();
+    if rows > MOST_CELLS {
+        return Err(StripeFault::TooMany(0));
     }
-    Ok(Items::from_vec(stats))
+    let count = rows as usize;
+    let bounds = firsts_of(alloc, view.stride(), count)?;
+    let cells = CellGroups { count, bounds };
+    let located = view.locate(alloc)?;
+    let texts = view.index_texts(alloc)?;
+    let stripe = OpenStripe {
+        number,
+        told,
+        view,
+        located,
+        texts,
+    };
+    let columns = view.footer().columns.as_slice().len();
+    let mut stats = Vec::with_capacity(alloc, columns)?;
+    match check_tree(alloc, &stripe, view.tree(), 0, &cells, found, &mut stats) {
+        Ok(_) => Ok(Items::from_vec(stats)),
+        Err(fault) => Err(fault),
+    }
 }

@@ -8,6 +8,7 @@ mod entries;
 mod file_columns;
 mod finding;
 mod laws;
+mod open_stripe;
 mod reports;
 mod row_index;
 mod stripes;

@@ -11,7 +11,7 @@ ghost use Rattle.orc_check.specs.Checking.{IsChecked};
 use crate::columns::check_columns;
 use crate::finding::Finding;
 use orc_devices::Source;
-use orc_file::{FileFault, Tail, load_stripe, stripe_rows, view_stripe};
+use orc_file::{FileFault, Tail, load_stripe, stripe_fault, view_stripe};
 use orc_stats::Stat;
 use orc_wire::Items;
 use std::alloc::Global;
@@ -54,8 +54,9 @@ pub(crate) fn check_stripe<S: Source>(
     ensures memory { IsErrOf result OutOfMemory → S.failures source.new ≡ S.failures source.old }
 {
     load_stripe(source, tail, number, bytes)?;
-    let rows = stripe_rows(alloc, tail, number, bytes)?;
     let view = view_stripe(alloc, tail, number, bytes)?;
-    let told = told_of(tail, number);
-    Ok(check_columns(alloc, tail, told, number, &view, &rows, found)?)
+    match check_columns(alloc, number, told_of(tail, number), &view, found) {
+        Ok(stats) => Ok(stats),
+        Err(cause) => Err(stripe_fault(number, cause)),
+    }
 }

@@ -1,12 +1,12 @@
 use Rattle.std.specs.Prelude.{MatchBool}
-use Rattle.std.proofs.Common.{◌≡◌, ◌∙◌, ℕ, ◌<◌, false, None, List, [], length, get_or, refl, subst, arith}
+use Rattle.std.proofs.Common.{◌≡◌, ◌∙◌, ℕ, ◌<◌, false, Some, None, slice_get, [], length, refl, sym, ap, subst, arith}
 use Rattle.std.proofs.lemmas.Option.{slice_get_read, slice_get-get_or}
 use Rattle.orc_wire.specs.declared.row_index.RowIndexEntry.{RowIndexEntry}
-use Rattle.orc_types.specs.Cells.{Cell}
-use Rattle.orc_types.specs.Lent.{lent_cells}
 use Rattle.orc_types.specs.Views.{shape}
+use Rattle.orc_column_walk.specs.declared.found.GroupFound.{GroupFound}
 use Rattle.orc_index.specs.Bounds.{before_group, group_of}
 use Rattle.orc_index.specs.Places.{AreReadPlaces}
+use Rattle.orc_index.proofs.Groups.{group_fits, group_few}
 use Rattle.orc_check.specs.declared.finding.Finding.TheVariants.{IndexStatistic, IndexPosition}
 use Rattle.orc_check.specs.Findings.{Adds, Unless, OfEach, OfGroup, TellsGroup, entry_at}
 use Rattle.orc_check.proofs.GroupBounds.{get_or_any}
@@ -14,10 +14,8 @@ use Rattle.orc_check.proofs.ReportLemmas.{adds_next, adds_both, adds_report}
 use Rattle.orc_check.proofs.row_index.check_groups.Goals as goal
 
 pub loop-group-preserved : goal.loop-group-preserved
-loop-group-preserved c = λ x decided.
+loop-group-preserved c = λ x cells bounds fit few are decided.
     let s = shape c.args.tree.now in
-    let cells = lent_cells c.args.cells.now in
-    let bounds = c.args.bounds.now in
     let es = c.args.entries.now in
     let g = c.loop-group.group in
     let n = c.args.number in
@@ -26,22 +24,25 @@ loop-group-preserved c = λ x decided.
     let here : g < length es = omega (arith, c.loop-group-test.true) in
     let read = c.index-entries-group.result in
     let entry : read ≡ entry_at es g = c.index-entries-group.is ∙ get_or_any es g read none here in
+    let group = are g c.index-groups-group.result (slice_get_read c.args.groups.now (length c.args.groups.now) g c.index-groups-group.result refl (omega (arith, here, c.requires)) c.index-groups-group.is) in
     let tells = c.in_ok-tells.tells in
+    let told_read : MatchBool tells (TellsGroup s (group_of cells bounds g) read) (TellsGroup s (group_of cells bounds g) read → ⊥) =
+    c.in_ok-tells.ensures (group_of cells bounds g) (group_fits s cells bounds g fit) (omega (arith, few, group_few cells bounds g)) (ap (λ (x : GroupFound). x.stat) (sym c.index-groups-group.is) ∙ group.stat_is) in
     let told : MatchBool tells (TellsGroup s (group_of cells bounds g) (entry_at es g)) (TellsGroup s (group_of cells bounds g) (entry_at es g) → ⊥) =
-    subst (λ (e : RowIndexEntry). MatchBool tells (TellsGroup s (group_of cells bounds g) e) (TellsGroup s (group_of cells bounds g) e → ⊥)) entry
-    (subst (λ (cs : List Cell). MatchBool tells (TellsGroup s cs read) (TellsGroup s cs read → ⊥)) c.group_cells.ensures c.in_ok-tells.ensures) in
+    subst (λ (e : RowIndexEntry). MatchBool tells (TellsGroup s (group_of cells bounds g) e) (TellsGroup s (group_of cells bounds g) e → ⊥)) entry told_read in
     let first = adds_report (TellsGroup s (group_of cells bounds g) (entry_at es g)) tells (IndexStatistic n col g) c.loop-group.found.items c.report.new.found.items told c.in_ok-report.ensures in
-    let right = get_or c.args.right.now g false in
-    let decides = decided.each g read right (slice_get_read es (length es) g read refl here c.index-entries-group.is) (slice_get-get_or c.args.right.now g false (omega (arith, here, c.requires.right))) in
+    let right = c.is_right.result in
+    let there : slice_get c.args.right.now g ≡ Some right = slice_get-get_or c.args.right.now g false (omega (arith, here, decided.counted)) ∙ ap Some (sym c.is_right.ensures) in
+    let decides = decided.each g read right (slice_get_read es (length es) g read refl here c.index-entries-group.is) there in
     let placed : MatchBool right (AreReadPlaces s x (before_group cells bounds g) (entry_at es g).positions) (AreReadPlaces s x (before_group cells bounds g) (entry_at es g).positions → ⊥) =
     subst (λ (e : RowIndexEntry). MatchBool right (AreReadPlaces s x (before_group cells bounds g) e.positions) (AreReadPlaces s x (before_group cells bounds g) e.positions → ⊥)) entry decides in
     let second = adds_report (AreReadPlaces s x (before_group cells bounds g) (entry_at es g).positions) right (IndexPosition n col g) c.report.new.found.items c.report-in-loop-group.new.found.items placed c.in_ok-report-2.ensures in
-    adds_next (OfGroup s x cells bounds n col es) g c.args.found.now.items c.loop-group.found.items c.report-in-loop-group.new.found.items (c.loop-group.invariant x decided)
+    adds_next (OfGroup s x cells bounds n col es) g c.args.found.now.items c.loop-group.found.items c.report-in-loop-group.new.found.items (c.loop-group.invariant x cells bounds fit few are decided)
     (adds_both (Unless (TellsGroup s (group_of cells bounds g) (entry_at es g)) (IndexStatistic n col g))
     (Unless (AreReadPlaces s x (before_group cells bounds g) (entry_at es g).positions) (IndexPosition n col g)) c.loop-group.found.items c.report.new.found.items c.report-in-loop-group.new.found.items first second)
 
 pub returns : goal.returns
-returns c = λ x decided.
+returns c = λ x cells bounds fit few are decided.
     let end : c.loop-group.group ≡ length c.args.entries.now = omega (arith, c.loop-group-test.false, c.loop-group.auto.group-end) in
-    subst (λ (k : ℕ). Adds (OfEach (OfGroup (shape c.args.tree.now) x (lent_cells c.args.cells.now) c.args.bounds.now c.args.number c.args.column c.args.entries.now) k) c.args.found.now.items c.loop-group.found.items) end
-    (c.loop-group.invariant x decided)
+    subst (λ (k : ℕ). Adds (OfEach (OfGroup (shape c.args.tree.now) x cells bounds c.args.number c.args.column c.args.entries.now) k) c.args.found.now.items c.loop-group.found.items) end
+    (c.loop-group.invariant x cells bounds fit few are decided)

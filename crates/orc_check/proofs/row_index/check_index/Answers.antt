@@ -1,65 +1,54 @@
-use Rattle.std.proofs.Common.{◌∙◌, ℕ, List, [], ◌∷◌, length, refl, sym, ap, inl, inr, subst, arith}
-use Rattle.orc_wire.specs.declared.row_index.RowIndexEntry.{RowIndexEntry}
+use Rattle.std.specs.Option.{IfSome}
+use Rattle.std.proofs.Common.{rules, Bool, Option, Ok, ◌∙◌, ℕ, List, sym, ap, subst, arith}
 use Rattle.orc_wire.specs.declared.row_index.RowIndexMsg.{RowIndexMsg}
-use Rattle.orc_types.specs.Cells.{Cell}
-use Rattle.orc_types.specs.Fits.{RowsFit}
-use Rattle.orc_types.specs.Lent.{lent_cells}
-use Rattle.orc_types.specs.Shapes.{Shape, shape_at}
-use Rattle.orc_types.specs.Views.{shape, views}
-use Rattle.orc_types.specs.Columns.{cells}
-use Rattle.orc_types.proofs.Together.{cells_fit}
+use Rattle.orc_wire.specs.declared.stripe_footer.StripeFooter.{StripeFooter}
+use Rattle.orc_positions.specs.Decided.{AreDecided}
+use Rattle.orc_stripe.specs.IndexTexts.{IsMessage}
+use Rattle.orc_types.specs.Views.{shape}
+use Rattle.orc_columns.specs.Starting.{AreStreams}
 use Rattle.orc_columns.specs.Stripe.{columns_of}
-use Rattle.orc_written.specs.Groups.{starts, bounds_of}
-use Rattle.orc_check.specs.declared.finding.Finding.TheVariants.{IndexEntries}
-use Rattle.orc_check.proofs.GroupBounds.{bounds_long, on_ok_so}
-use Rattle.orc_check.proofs.IndexFound.{groups_found, groups_here}
+use Rattle.orc_check.proofs.GroupBounds.{on_ok_so}
+use Rattle.orc_check.proofs.IndexFound.{none_there, other_number, index_found}
+use Rattle.orc_check.proofs.WalkLemmas.{columns_there, located_there}
 use Rattle.orc_check.proofs.row_index.check_index.Goals as goal
 
-pub returns-in-Err : goal.returns-in-Err
-returns-in-Err c =
+pub streams_of-streams-requires-clause-there : goal.streams_of-streams-requires-clause-there
+streams_of-streams-requires-clause-there c = columns_there c.args.stripe.now c.footer.result.now c.args.column c.requires.laid_out c.footer.ensures.same c.requires.there
+
+pub streams_of-streams-requires-clause-located : goal.streams_of-streams-requires-clause-located
+streams_of-streams-requires-clause-located c = located_there c.args.stripe.now c.footer.result.now c.requires.laid_out c.footer.ensures.same
+
+-- no message, or one that doesn't read
+pub returns-in_default : goal.returns-in_default
+returns-in_default c =
+    let s = c.args.stripe.now in
     on_ok_so c.report.result
-    (λ e. (IndexEntries c.args.number c.args.column ∷ [], inr (c.requires.stride, inl ((λ message has whole. c.if-is_memory.ensures (c.in-Err.ensures.only message c.requires.stride has)), refl)), e))
+    (λ e rows some h. none_there s rows c.args.column c.index.result.now c.args.found.now.items c.report.new.found.items c.requires.laid_out c.requires.there (search rules)
+    (λ message is. c.read_index.ensures.none (c.in_ok-message.was ∙ ap Ok c.in_default.is) message is) e some)
     c.report.ensures
 
-pub returns-then-entries-len : goal.returns-then-entries-len
-returns-then-entries-len c =
-    let view = c.args.view.now in
-    let rows = views c.args.rows.now in
-    on_ok_so c.report-then-entries-len.result
-    (λ e. (
-      IndexEntries c.args.number c.args.column ∷ [],
-      inr (
-        c.requires.stride,
-        inl (
-          (λ message has whole.
-              let same = c.in-Ok.ensures.only message c.requires.stride has in
-              c.if-entries-len.true
-              (omega (arith, whole, ap (λ (m : RowIndexMsg). length m.entries) same, ap (λ (es : List RowIndexEntry). length es) c.as_slice-entries.ensures, c.len.ensures, ap (λ (bs : List ℕ). length bs) c.requires.bounds, bounds_long view.schema c.args.column view.stride rows))),
-          refl,
-        ),
-      ),
-      e,
-    ))
-    c.report-then-entries-len.ensures
-
-pub check_groups-requires-clause-fit : goal.check_groups-requires-clause-fit
-check_groups-requires-clause-fit c =
-    let view = c.args.view.now in
-    let rows = views c.args.rows.now in
-    let own = ap lent_cells c.deref.ensures.value ∙ c.requires.cells in
-    subst (λ (s : Shape). RowsFit s (lent_cells c.deref.result.now)) (sym c.requires.tree)
-    (subst (λ (cs : List Cell). RowsFit (shape_at view.schema c.args.column) cs) (sym own) (cells_fit view.schema c.args.column rows c.requires.there c.requires.stripe.spelled.fit))
+pub returns-then-entries-groups : goal.returns-then-entries-groups
+returns-then-entries-groups c =
+    let s = c.args.stripe.now in
+    let is : IsMessage c.index.result.now c.in-Some.message = subst (λ (o : Option RowIndexMsg). IfSome o (IsMessage c.index.result.now)) c.in-Some.is c.in_ok-message.ensures.found in
+    on_ok_so c.report-then-entries-groups.result
+    (λ e rows some h. other_number s rows c.args.column (shape c.args.tree.now) c.args.groups.now c.index.result.now c.in-Some.message c.as_slice-entries.result.now c.args.found.now.items c.report-then-entries-groups.new.found.items c.requires.laid_out c.requires.there
+    (search rules) is c.as_slice-entries.ensures (λ same. c.if-entries-groups.true same) e some h)
+    c.report-then-entries-groups.ensures
 
 pub returns : goal.returns
 returns c =
-    let view = c.args.view.now in
-    let rows = views c.args.rows.now in
+    let s = c.args.stripe.now in
+    let v = s.view.now in
     let column = c.args.column in
-    let message = c.in-Ok.message in
-    let right = c.in-Ok-positions_right_of.ensures.right message c.requires.stripe c.requires.stride c.in-Ok.ensures.found.1 in
+    let t = shape c.args.tree.now in
+    let es = c.as_slice-entries.result.now in
+    let is : IsMessage c.index.result.now c.in-Some.message = subst (λ (o : Option RowIndexMsg). IfSome o (IsMessage c.index.result.now)) c.in-Some.is c.in_ok-message.ensures.found in
+    let own = c.streams_of-streams.result in
+    let streams : AreStreams (columns_of v.footer v.bytes column) own = subst (λ (b : List ℕ). AreStreams (columns_of v.footer b column) own) c.requires.laid_out.same
+    (subst (λ (f : StripeFooter). AreStreams (columns_of f s.located.bytes.now column) own) c.footer.ensures.same c.streams_of-streams.ensures) in
     on_ok_so c.check_groups.result
-    (λ h. groups_found view c.args.number rows column message c.args.found.now.items c.check_groups.new.found.items c.requires.stride c.in-Ok.ensures.found.1 right.0
-    (groups_here (shape c.args.tree.now) (shape_at view.schema column) (columns_of view.footer view.bytes column) (lent_cells c.deref.result.now) (cells view.schema column rows) c.deref-2.result.now
-    (bounds_of view.schema column rows (starts view.stride (length rows))) c.as_slice-entries.result.now message.entries c.deref-3.result.now c.in-Ok-positions_right_of.right.items c.args.number column c.args.found.now.items
-    c.check_groups.new.found.items c.requires.tree (ap lent_cells c.deref.ensures.value ∙ c.requires.cells) (c.deref-2.ensures.value ∙ c.requires.bounds) c.as_slice-entries.ensures c.deref-3.ensures.value h right.1))
+    (λ each rows some h. index_found s rows column t c.args.groups.now c.index.result.now c.in-Some.message es c.deref-2.result.now c.deref.result.now own c.args.found.now.items c.check_groups.new.found.items c.requires.laid_out c.requires.there
+    (search rules) is c.as_slice-entries.ensures (omega (arith, c.if-entries-groups.false)) (c.deref.ensures.value ∙ c.in_ok-counts.ensures) streams
+    (λ y cs bs st of_column rises long before. subst (λ (rs : List Bool). AreDecided t y cs bs es rs) (sym c.deref-2.ensures.value) (c.in-Ok.ensures.right y cs bs st of_column rises long before)) each some h)
     c.check_groups.ensures

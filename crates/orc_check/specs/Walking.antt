@@ -1,0 +1,101 @@
+-- A stripe's columns that are checked one after the other, each from its own streams, without rows (own; ORC
+-- specification, "Types": columns are numbered in pre-order).
+use Rattle.std.specs.Prelude.{◌≡◌, ℕ, zero, suc, ◌<◌, Some, List, [], ◌∷◌, length, slice_get}
+use Rattle.orc_types.specs.Cells.{Cell, values}
+use Rattle.orc_types.specs.Columns.{cells}
+use Rattle.orc_types.specs.Shapes.{Shape, Fields, width, shape_at}
+use Rattle.orc_stats.specs.Kinds.{kind_of}
+use Rattle.orc_stats.specs.Statistics.{stat}
+use Rattle.orc_stats.specs.declared.stat.Stat.{Stat}
+use Rattle.orc_columns.specs.Located.{AreLocated}
+use Rattle.orc_columns.specs.Stripe.{SpellRows, columns_of, cell_limit}
+use Rattle.orc_index.specs.Bounds.{AreBounds, bound_at}
+use Rattle.orc_column_walk.specs.ColumnFound.{IsGroupFound, bounds_below}
+use Rattle.orc_column_walk.specs.OwnLeft.{children}
+use Rattle.orc_column_walk.specs.declared.found.GroupFound.{GroupFound}
+use Rattle.orc_column_walk.specs.declared.found.ColumnFound.{ColumnFound}
+use Rattle.orc_written.specs.Groups.{starts, bounds_of, AreGroupsFrom, AreFieldGroupsFrom}
+use Rattle.orc_written.specs.Subtrees.{AreColumnsFrom, AreFieldsFrom, FieldsFit}
+use Rattle.orc_stripe.specs.IndexTexts.{AreIndexTexts}
+use Rattle.orc_stripe.specs.Opened.{Opened}
+use Rattle.orc_check.specs.declared.finding.Finding.{Finding}
+use Rattle.orc_check.specs.declared.columns.CellGroups.{CellGroups}
+use Rattle.orc_check.specs.declared.open_stripe.OpenStripe.{OpenStripe}
+use Rattle.orc_check.specs.Checking.{HaveKnown}
+use Rattle.orc_check.specs.Findings.{Adds, OfEach, OfColumn}
+
+-- its columns have encodings, their streams are found, and the bytes of their row indexes
+pub record IsLaidOut (stripe : OpenStripe) : Type 0 where
+  pub columns : length stripe.view.now.footer.columns ≡ width stripe.view.now.schema
+  pub same : stripe.located.bytes.now ≡ stripe.view.now.bytes
+  pub located : AreLocated (length stripe.view.now.footer.columns) stripe.view.now.footer.streams
+      stripe.located.bytes.now stripe.located.slices.items
+  pub indexes : AreIndexTexts (width stripe.view.now.schema) stripe.view.now.footer.streams
+      stripe.view.now.bytes stripe.texts.items
+
+-- how many rows come before each group; without a stride all rows are one
+abbrev pub firsts : ℕ → ℕ → List ℕ
+firsts zero rows = 0 ∷ []
+firsts (suc n) rows = starts (suc n) rows
+
+-- A column's cells are no more than a stripe may have of it; the first group begins with the first of them, and no group
+-- before the one in front of it.
+pub record AreGrouped (groups : CellGroups) : Type 0 where
+  pub few : groups.count < cell_limit
+  pub ascending : AreBounds groups.count groups.bounds.items
+  pub first : bound_at groups.count groups.bounds.items 0 ≡ 0
+
+-- the stripe's columns spell these rows
+abbrev pub SpellsRows : Opened → List Cell → Type 0
+SpellsRows view rows = SpellRows view.schema (columns_of view.footer view.bytes) view.info.number_of_rows rows
+
+-- The columns from number c on are those of a type, over so many cells of the rows, of which so many come before each
+-- group.
+pub record ComesNext (view : Opened) (rows : List Cell) (c : ℕ) (t : Shape) (here : List Cell)
+    (groups : CellGroups) : Type 0 where
+  pub spelled : SpellsRows view rows
+  pub counted : length here ≡ groups.count
+  pub columns : AreColumnsFrom view.schema rows c t here
+  pub bounded : AreGroupsFrom view.schema rows (firsts view.stride (length rows)) c t here groups.bounds.items
+
+-- the same of the fields of so many structs
+pub record FieldsComeNext (view : Opened) (rows : List Cell) (c : ℕ) (fs : Fields) (structs : List (List Cell))
+    (groups : CellGroups) : Type 0 where
+  pub spelled : SpellsRows view rows
+  pub counted : length structs ≡ groups.count
+  pub fit : FieldsFit fs structs
+  pub columns : AreFieldsFrom view.schema rows c fs structs
+  pub bounded : AreFieldGroupsFrom view.schema rows (firsts view.stride (length rows)) c fs structs groups.bounds.items
+
+-- so many children have a column's cells, and so many of these come before each group
+abbrev pub AreBelow : Shape → List Cell → CellGroups → CellGroups → Type 0
+AreBelow s column groups below =
+    (below.count ≡ children s (values column)) × (below.bounds.items ≡ bounds_below s column groups.bounds.items)
+
+-- of each group what its cells are, and those before it
+abbrev pub AreGroups : Shape → List Cell → List ℕ → List GroupFound → Type 0
+AreGroups s cells bounds groups =
+    (g : ℕ) (group : GroupFound) → slice_get groups g ≡ Some group → IsGroupFound s cells bounds g group
+
+-- what is found of the groups of column c, whose type is t
+pub record AreGroupsFound (view : Opened) (rows : List Cell) (c : ℕ) (t : Shape) (groups : List GroupFound) : Type 0 where
+  pub spelled : SpellsRows view rows
+  pub type : shape_at view.schema c ≡ t
+  pub counted : length groups ≡ length (bounds_of view.schema c rows (starts view.stride (length rows)))
+  pub ascending : AreBounds (length (cells view.schema c rows))
+      (bounds_of view.schema c rows (starts view.stride (length rows)))
+  pub are : AreGroups t (cells view.schema c rows)
+      (bounds_of view.schema c rows (starts view.stride (length rows))) groups
+
+-- what is found of the column: its statistic, and its groups where there are any
+pub record IsFoundInRows (view : Opened) (rows : List Cell) (c : ℕ) (t : Shape) (found : ColumnFound) : Type 0 where
+  pub type : shape_at view.schema c ≡ t
+  pub stat_is : found.stat ≡ stat (kind_of t) (cells view.schema c rows)
+  pub groups : 0 < view.stride → AreGroupsFound view rows c t found.groups.items
+
+-- What is found of the first n columns stands behind what was found before, and these are the statistics of their
+-- cells, as far as they are told.
+pub record AreColumnsChecked (view : Opened) (told : List Stat) (number : ℕ) (rows : List Cell) (n : ℕ)
+    (before after : List Finding) (stats : List Stat) : Type 0 where
+  pub found : Adds (OfEach (OfColumn view told number rows) n) before after
+  pub known : HaveKnown view.schema told rows n stats
