@@ -79,9 +79,15 @@ firsts_grouped (suc n) groups few is = record {
   first = ap (λ (bs : List ℕ). bound_at groups.count bs 0) is ∙ first_start (suc n) groups.count (omega arith);
 }
 
+-- where there is no column below, nothing comes before a group
+none_at : (bounds : List ℕ) (g : ℕ) → bound_at 0 (map (λ b. 0) bounds) g ≡ 0
+none_at [] g = refl
+none_at (b ∷ bounds) zero = refl
+none_at (b ∷ bounds) (suc g) = none_at bounds g
+
 -- bounds stay bounds one level down
 bounds_go_down : (s : Shape) (column : List Cell) (bounds : List ℕ) → AreBounds (length column) bounds → AreBounds (children s (values column)) (bounds_below s column bounds)
-bounds_go_down (scalar k o) column bounds h = λ g. omega arith
+bounds_go_down (scalar k o) column bounds h = λ g. omega (arith, none_at bounds g, none_at bounds (suc g))
 bounds_go_down (list_of s o) column bounds h = element_bounds_are column bounds h
 bounds_go_down (map_of k v o) column bounds h = pair_bounds_are column bounds h
 bounds_go_down (struct_of fs o) column bounds h = field_bounds_are column bounds h
@@ -91,7 +97,7 @@ first_by f m n [] z none e = none e
 first_by f m n (b ∷ bs) z none e = ap f e ∙ z
 
 first_goes_down : (s : Shape) (column : List Cell) (bounds : List ℕ) → bound_at (length column) bounds 0 ≡ 0 → bound_at (children s (values column)) (bounds_below s column bounds) 0 ≡ 0
-first_goes_down (scalar k o) column bounds h = refl
+first_goes_down (scalar k o) column bounds h = none_at bounds 0
 first_goes_down (list_of s o) [] bounds h = first_by (elements_before []) 0 0 bounds refl (λ e. e) h
 first_goes_down (list_of s o) (c ∷ cs) bounds h = first_by (elements_before (c ∷ cs)) (length (c ∷ cs)) (length (flat_map parts (values (c ∷ cs)))) bounds refl (λ e. absurd (omega (arith, e))) h
 first_goes_down (map_of k v o) [] bounds h = first_by (pairs_before []) 0 0 bounds refl (λ e. e) h

@@ -50,5 +50,5 @@ returns c =
     on_ok_so c.check_groups.result
     (λ each rows some h. index_found s rows column t c.args.groups.now c.index.result.now c.in-Some.message es c.deref-2.result.now c.deref.result.now own c.args.found.now.items c.check_groups.new.found.items c.requires.laid_out c.requires.there
     (search rules) is c.as_slice-entries.ensures (omega (arith, c.if-entries-groups.false)) (c.deref.ensures.value ∙ c.in_ok-counts.ensures) streams
-    (λ y cs bs st of_column rises long before. subst (λ (rs : List Bool). AreDecided t y cs bs es rs) (sym c.deref-2.ensures.value) (c.in-Ok.ensures.right y cs bs st of_column rises long before)) each some h)
+    (λ y cs bs st of_column rises long before. subst (λ (rs : List Bool). AreDecided t y cs bs es rs) (sym c.deref-2.ensures.value) (c.in-Ok.ensures.right y cs bs st of_column rises (record { counted = long; each = before }))) each some h)
     c.check_groups.ensures
