@@ -44,7 +44,7 @@ passed_next before between after f later count old out mid new m p h =
       counted = omega (arith, length-append h.all own, h.counted);
       taken = one_after_other before between after h.all own h.taken p.taken;
       put = p.put ∙ ap (λ (t : List ℕ). t ++ f p.one) comma ∙ append_assoc out (comma_if (follows false h.all)) (f p.one)
-      ∙ ap (λ (t : List ℕ). t ++ text) h.put ∙ append_assoc old (texts f false h.all) text ∙ ap (λ (t : List ℕ). old ++ t) (sym (texts-snoc f false h.all p.one));
+          ∙ ap (λ (t : List ℕ). t ++ text) h.put ∙ append_assoc old (texts f false h.all) text ∙ ap (λ (t : List ℕ). old ++ t) (sym (texts-snoc f false h.all p.one));
       later_is = sym (follows-snoc false h.all p.one);
     }
 
@@ -95,7 +95,7 @@ struct_taken_text s fs o l ms xs before ys old mid new is layout places some m p
   some = refl;
   taken = own_struct s fs o before ys p.one (struct (cells_of p.one)) is refl some p.taken;
   put = p.put ∙ ap (λ (t : List ℕ). t ++ members_text (member_parts ms.items) p.one) m ∙ append_assoc old (123 ∷ []) (members_text (member_parts ms.items) p.one)
-  ∙ ap (λ (t : List ℕ). old ++ t) (sym (struct_printed l ms xs p.one layout places));
+      ∙ ap (λ (t : List ℕ). old ++ t) (sym (struct_printed l ms xs p.one layout places));
 }
 
 -- ---- maps
@@ -140,7 +140,7 @@ fields_taken all name s fs p ps parts before after own own' rest rest' old key m
   one = first.one ∷ others.one;
   taken = fields_next all name s fs before after own own' rest rest' first.one others.one e eo er ea n first.taken others.taken;
   put = others.put ∙ ap (λ (t : List ℕ). t ++ members_text ps others.one) (first.put ∙ ap (λ (t : List ℕ). t ++ p.text first.one) k ∙ append_assoc old p.key (p.text first.one))
-  ∙ append_assoc old (p.key ++ p.text first.one) (members_text ps others.one)
-  ∙ ap (λ (t : List ℕ). old ++ t) (append_assoc p.key (p.text first.one) (members_text ps others.one))
-  ∙ ap (λ (t : List Part). old ++ members_text t (first.one ∷ others.one)) (sym is);
+      ∙ append_assoc old (p.key ++ p.text first.one) (members_text ps others.one)
+      ∙ ap (λ (t : List ℕ). old ++ t) (append_assoc p.key (p.text first.one) (members_text ps others.one))
+      ∙ ap (λ (t : List Part). old ++ members_text t (first.one ∷ others.one)) (sym is);
 }

@@ -15,9 +15,8 @@ mod index_texts;
 mod parts;
 mod row_index;
 
-pub use index_texts::{IndexText, read_index};
-
 use crate::cursor::RowCursor;
+pub use index_texts::{IndexText, read_index};
 use orc_columns::directory::{check_directory, first_wrong};
 use orc_columns::fault::{StripeFault, wire_fault};
 use orc_columns::located::locate;
