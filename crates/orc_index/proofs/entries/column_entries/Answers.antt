@@ -7,7 +7,7 @@ use Rattle.orc_stats.specs.Messages.{message_of}
 use Rattle.orc_stats.specs.Statistics.{stat}
 use Rattle.orc_types.specs.Lent.{lent_cells}
 use Rattle.orc_types.specs.Views.{shape}
-use Rattle.orc_index.specs.Bounds.{bound_at, group_of}
+use Rattle.orc_index.specs.Bounds.{group_of}
 use Rattle.orc_index.specs.Places.{PlacesIn, is_place}
 use Rattle.orc_index.specs.RowIndex.{AreEntries}
 use Rattle.orc_index.specs.Walking.{runs, lent_bytes}

@@ -4,7 +4,7 @@ use Rattle.orc_stats.specs.Kinds.{is_of}
 use Rattle.orc_stats.specs.Tallies.{cells_kept, stat_of_kept}
 use Rattle.orc_index.specs.Bounds.{bound_at, group_of}
 use Rattle.orc_index.proofs.Groups.{lent_long, bound_within, bound_read, group_between, group_few}
-use Rattle.orc_index.proofs.GroupFolds.{part_so, part_short, tallied_none, tallied_more, tallied_all, group_room}
+use Rattle.orc_index.proofs.GroupFolds.{part_so, part_short, tallied_none, tallied_more, group_room}
 use Rattle.orc_index.proofs.group_stats.tallied_groups.Goals as goal
 
 pub cells_between-requires-clause-there : goal.cells_between-requires-clause-there

@@ -1,5 +1,4 @@
-use Rattle.std.proofs.Common.{◌≡◌, ℕ, List, length, drop, ◌∙◌, subst, arith, rules}
-use Rattle.orc_wire.specs.declared.stripe_footer.StreamMsg.{StreamMsg}
+use Rattle.std.proofs.Common.{◌≡◌, ℕ, length, drop, ◌∙◌, subst, arith, rules}
 use Rattle.orc_types.specs.Views.{shape}
 use Rattle.orc_types.specs.Lent.{lent_cells}
 use Rattle.orc_index.specs.RowIndex.{IsWrittenIndex}
