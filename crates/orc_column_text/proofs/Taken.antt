@@ -1,24 +1,24 @@
 -- What is taken from the readers of columns, with its text.
-use Rattle.std.proofs.Common.{◌≡◌, ℕ, suc, ◌+◌, ◌<◌, ◌≤◌, ◌-◌, List, [], ◌∷◌, ◌++◌, Bool, true, false, length, map, take, drop, get_or, slice_set, Vec, Box, Global, refl, sym, ap, ◌∙◌, subst, arith, append_assoc, append-nil, length-append}
+use Rattle.std.proofs.Common.{◌≡◌, ℕ, ◌+◌, ◌≤◌, ◌-◌, List, [], ◌∷◌, ◌++◌, Bool, true, false, length, take, drop, get_or, slice_set, Vec, Box, Global, refl, sym, ap, ◌∙◌, arith, append_assoc, append-nil, length-append}
 use borrow.Rule.Slice.PartMut.{put_mid}
 use Rattle.serde_json.specs.Written.{comma_if}
-use Rattle.orc_types.specs.Cells.{Cell, null, list, struct, pairs, cells_of, pairs_of, is_value}
-use Rattle.orc_types.specs.Shapes.{Shape, scalar, list_of, map_of, struct_of, Fields, field, width}
+use Rattle.orc_types.specs.Cells.{Cell, list, struct, pairs, cells_of, pairs_of}
+use Rattle.orc_types.specs.Shapes.{Shape, scalar, list_of, map_of, struct_of, Fields, width}
 use Rattle.orc_types.specs.declared.kind.Scalar.{Scalar}
-use Rattle.orc_columns.specs.Fronts.{Leaves, Lacks}
+use Rattle.orc_columns.specs.Fronts.{Leaves}
 use Rattle.orc_columns.specs.Columns.{CellsLeft, OwnLeft, ScalarLeft, ListsOf, MapsOf, PairsLeft, FieldsLeft, MarksLeft, marks_of}
 use Rattle.orc_columns.specs.declared.column.ColumnReader.{ColumnReader}
 use Rattle.orc_columns.specs.declared.column.ValueSource.{ValueSource}
-use Rattle.orc_columns.proofs.Arms.{cell_value, cell_null, own_list, own_map, own_struct, pair_next, fields_next, fields_none}
+use Rattle.orc_columns.proofs.Arms.{cell_value, own_list, own_map, own_struct, pair_next}
 use Rattle.orc_columns.proofs.Fronts.{one_after_other}
-use Rattle.orc_row_text.specs.Layouts.{Part, text_by, member_parts, leaf_text, pair_text, pair_texts}
+use Rattle.orc_row_text.specs.Layouts.{text_by, member_parts, parts_text, leaf_text, pair_text, pair_texts}
 use Rattle.orc_row_text.specs.declared.layout.Layout.{Layout, Leaf, List as ListOf, Map as MapLayout, Struct}
 use Rattle.orc_row_text.specs.declared.layout.Member.{Member}
 use Rattle.orc_row_text.specs.declared.layout.FieldColumns.{FieldColumns}
 use Rattle.orc_row_text.specs.declared.layout.PairLayout.{PairLayout}
 use Rattle.orc_row_text.proofs.Layouts.{text_by-Leaf, pair_texts-is}
 use Rattle.orc_column_text.specs.Taken.{Printed, PrintedValue, PrintedAll}
-use Rattle.orc_column_text.specs.Texts.{texts, members_text, AreInPlace}
+use Rattle.orc_column_text.specs.Texts.{texts}
 use Rattle.orc_column_text.proofs.Texts.{follows, follows-snoc, texts-snoc, list_printed, map_printed, struct_printed}
 
 -- ---- cells, one after the other
@@ -87,15 +87,15 @@ list_taken_text s e o l b before after old new is layout some same p = record {
   put = p.put ∙ ap (λ (t : List ℕ). old ++ t) (sym (list_printed l b p.one layout));
 }
 
-pub struct_taken_text : (s : Shape) (fs : Fields) (o : List ℕ) (l : Layout) (ms : Vec Member Global) (xs : Vec FieldColumns Global) (before ys : List ColumnReader) (old mid new : List ℕ) → s ≡ struct_of fs o → l ≡ Struct ms xs → AreInPlace 0 (member_parts ms.items) → 1 ≤ length before
-    → mid ≡ old ++ 123 ∷ [] → Printed (FieldsLeft fs (take (length before - 1) (drop 1 before))) (FieldsLeft fs ys) (members_text (member_parts ms.items)) mid new
+pub struct_taken_text : (s : Shape) (fs : Fields) (o : List ℕ) (l : Layout) (ms : Vec Member Global) (xs : Vec FieldColumns Global) (before ys : List ColumnReader) (old mid new : List ℕ) → s ≡ struct_of fs o → l ≡ Struct ms xs → 1 ≤ length before
+    → mid ≡ old ++ 123 ∷ [] → Printed (FieldsLeft fs (take (length before - 1) (drop 1 before))) (FieldsLeft fs ys) (parts_text (member_parts ms.items)) mid new
     → PrintedValue (OwnLeft s before) (OwnLeft s (put_mid 1 (length before - 1) before ys)) (text_by l) old new
-struct_taken_text s fs o l ms xs before ys old mid new is layout places some m p = record {
+struct_taken_text s fs o l ms xs before ys old mid new is layout some m p = record {
   one = struct (cells_of p.one);
   some = refl;
   taken = own_struct s fs o before ys p.one (struct (cells_of p.one)) is refl some p.taken;
-  put = p.put ∙ ap (λ (t : List ℕ). t ++ members_text (member_parts ms.items) p.one) m ∙ append_assoc old (123 ∷ []) (members_text (member_parts ms.items) p.one)
-      ∙ ap (λ (t : List ℕ). old ++ t) (sym (struct_printed l ms xs p.one layout places));
+  put = p.put ∙ ap (λ (t : List ℕ). t ++ parts_text (member_parts ms.items) p.one) m ∙ append_assoc old (123 ∷ []) (parts_text (member_parts ms.items) p.one)
+      ∙ ap (λ (t : List ℕ). old ++ t) (sym (struct_printed l ms xs p.one layout));
 }
 
 -- ---- maps
@@ -128,19 +128,4 @@ pair_taken k v p before after own own' rest rest' old begun first comma second n
   one = (key.one, value.one);
   taken = pair_next k v before after own own' rest rest' (key.one, value.one) eo er ea n key.taken value.taken;
   put = rw (pair_texts-is p) (paired_text old begun first comma second new (text_by p.key key.one) (text_by p.value value.one) b key.put c value.put e);
-}
-
--- ---- fields
-
-pub fields_taken : (all : Fields) (name : List ℕ) (s : Shape) (fs : Fields) (p : Part) (ps parts : List Part) (before after own own' rest rest' : List ColumnReader) (old key mid new : List ℕ)
-    → all ≡ field name s fs → own ≡ take (width s) before → rest ≡ drop (width s) before → after ≡ own' ++ rest' → length own' ≡ width s → parts ≡ p ∷ ps → key ≡ old ++ p.key
-    → Printed (CellsLeft s own) (CellsLeft s own') p.text key mid → Printed (FieldsLeft fs rest) (FieldsLeft fs rest') (members_text ps) mid new
-    → Printed (FieldsLeft all before) (FieldsLeft all after) (members_text parts) old new
-fields_taken all name s fs p ps parts before after own own' rest rest' old key mid new e eo er ea n is k first others = record {
-  one = first.one ∷ others.one;
-  taken = fields_next all name s fs before after own own' rest rest' first.one others.one e eo er ea n first.taken others.taken;
-  put = others.put ∙ ap (λ (t : List ℕ). t ++ members_text ps others.one) (first.put ∙ ap (λ (t : List ℕ). t ++ p.text first.one) k ∙ append_assoc old p.key (p.text first.one))
-      ∙ append_assoc old (p.key ++ p.text first.one) (members_text ps others.one)
-      ∙ ap (λ (t : List ℕ). old ++ t) (append_assoc p.key (p.text first.one) (members_text ps others.one))
-      ∙ ap (λ (t : List Part). old ++ members_text t (first.one ∷ others.one)) (sym is);
 }

@@ -1,20 +1,18 @@
 -- Texts of cells, one after the other, and by layouts.
-use Rattle.std.proofs.Common.{rules, ◌≡◌, ℕ, zero, suc, ◌+◌, ◌<◌, ◌≤◌, ◌-◌, List, [], ◌∷◌, ◌++◌, Bool, true, false, length, map, take, drop, get_or, Vec, Box, Global, refl, sym, ap, ◌∙◌, subst, arith, append_assoc, append-nil, length-drop}
-use Rattle.std.proofs.lemmas.List.{get_or-drop}
-use Rattle.std.proofs.Math.Seq.{take-length, drop-cons}
+use Rattle.std.proofs.Common.{rules, ◌≡◌, ℕ, ◌+◌, ◌≤◌, ◌-◌, List, [], ◌∷◌, ◌++◌, Bool, true, false, length, take, drop, get_or, Vec, Box, Global, refl, sym, ap, ◌∙◌, arith, append_assoc, append-nil}
+use Rattle.std.proofs.Math.Seq.{take-length}
 use Rattle.serde_json.specs.Written.{comma_if}
-use Rattle.orc_types.specs.Cells.{Cell, null, list, struct, pairs, cells_of, pairs_of, list_of_cells}
+use Rattle.orc_types.specs.Cells.{Cell, null, list, struct, pairs, cells_of, pairs_of}
 use Rattle.orc_types.proofs.Views.{list_of_cells-cells_of, list_of_pairs-pairs_of}
-use Rattle.orc_row_text.specs.Layouts.{Part, PairTexts, text_by, part, member_parts, layout_step, null_text, leaf_text, list_text, struct_text, elements_text, parts_text, pair_text, pair_texts, pairs_text}
-use Rattle.orc_row_text.specs.declared.layout.Layout.{Layout, Leaf, List as ListOf, Map as MapLayout, Struct}
+use Rattle.orc_row_text.specs.Layouts.{Part, PairTexts, text_by, part, member_parts, layout_step, null_text, elements_text, parts_text, pair_text, pair_texts, pairs_text}
+use Rattle.orc_row_text.specs.declared.layout.Layout.{Layout, List as ListOf, Map as MapLayout, Struct}
 use Rattle.orc_row_text.specs.declared.layout.Layout.TheFolds.{the_lemmas}
 use Rattle.orc_row_text.specs.declared.layout.Layout.TheOpen.{Layout-F}
 use Rattle.orc_row_text.specs.declared.layout.Member.{Member}
 use Rattle.orc_row_text.specs.declared.layout.FieldColumns.{FieldColumns}
 use Rattle.orc_row_text.specs.declared.layout.PairLayout.{PairLayout}
-use Rattle.orc_row_text.proofs.Layouts.{text_by-Leaf, text_by-List, text_by-Map, text_by-Struct, part-is}
-use Rattle.std.specs.Bool.{OnTrue}
-use Rattle.orc_column_text.specs.Texts.{texts, members_text, AreInPlace}
+use Rattle.orc_row_text.proofs.Layouts.{text_by-List, text_by-Map, text_by-Struct, part-is}
+use Rattle.orc_column_text.specs.Texts.{texts}
 
 -- ---- null
 
@@ -78,37 +76,11 @@ map_printed l b ps is =
     rw (is, text_by-Map b)
     (ap (λ (qs : List (Cell × Cell)). 91 ∷ pairs_text (pair_texts b.value) false qs) (list_of_pairs-pairs_of ps) ∙ ap (λ (t : List ℕ). 91 ∷ t) (pairs-texts (pair_texts b.value) false ps))
 
--- ---- the text of a struct whose fields stand in the order of their names
+-- ---- the text of a struct
 
-placed : (all : List Cell) (k : ℕ) (cs : List Cell) → drop k all ≡ cs → get_or all k null ≡ get_or cs 0 null
-placed all k cs e =
-    let n : k + 0 ≡ k = omega arith in
-    ap (λ i. get_or all i null) (sym n) ∙ sym (get_or-drop k all 0 null) ∙ ap (λ (t : List Cell). get_or t 0 null) e
-
-behind : (all : List Cell) (k : ℕ) (cs : List Cell) → drop k all ≡ cs → drop (suc k) all ≡ drop 1 cs
-behind all k cs e = drop_one all k ∙ ap (drop 1) e
-  where
-    drop_one : (all : List Cell) (k : ℕ) → drop (suc k) all ≡ drop 1 (drop k all)
-    drop_one [] zero = refl
-    drop_one [] (suc k) = refl
-    drop_one (c ∷ all) zero = refl
-    drop_one (c ∷ all) (suc k) = drop_one all k
-
-pub in_place_text : (ps : List Part) (k : ℕ) (all cs : List Cell) → drop k all ≡ cs → AreInPlace k ps → parts_text ps all ≡ members_text ps cs
-in_place_text [] k all cs e h = refl
-in_place_text (p ∷ ps) k all [] e h =
-    let own : get_or all p.place null ≡ null = ap (λ i. get_or all i null) h.0 ∙ placed all k [] e in
-    ap (λ (c : Cell). p.key ++ (p.text c ++ parts_text ps all)) own
-    ∙ ap (λ (t : List ℕ). p.key ++ (p.text null ++ t)) (in_place_text ps (suc k) all [] (behind all k [] e) h.1)
-in_place_text (p ∷ ps) k all (c ∷ cs) e h =
-    let own : get_or all p.place null ≡ c = ap (λ i. get_or all i null) h.0 ∙ placed all k (c ∷ cs) e in
-    ap (λ (c : Cell). p.key ++ (p.text c ++ parts_text ps all)) own
-    ∙ ap (λ (t : List ℕ). p.key ++ (p.text c ++ t)) (in_place_text ps (suc k) all cs (behind all k (c ∷ cs) e) h.1)
-
-pub struct_printed : (l : Layout) (ms : Vec Member Global) (xs : Vec FieldColumns Global) (cs : List Cell) → l ≡ Struct ms xs → AreInPlace 0 (member_parts ms.items) → text_by l (struct (cells_of cs)) ≡ 123 ∷ members_text (member_parts ms.items) cs
-struct_printed l ms xs cs is h =
-    rw (is, text_by-Struct ms xs)
-    (ap (λ (ds : List Cell). 123 ∷ parts_text (member_parts ms.items) ds) (list_of_cells-cells_of cs) ∙ ap (λ (t : List ℕ). 123 ∷ t) (in_place_text (member_parts ms.items) 0 cs cs refl h))
+pub struct_printed : (l : Layout) (ms : Vec Member Global) (xs : Vec FieldColumns Global) (cs : List Cell) → l ≡ Struct ms xs → text_by l (struct (cells_of cs)) ≡ 123 ∷ parts_text (member_parts ms.items) cs
+struct_printed l ms xs cs is =
+    rw (is, text_by-Struct ms xs) (ap (λ (ds : List Cell). 123 ∷ parts_text (member_parts ms.items) ds) (list_of_cells-cells_of cs))
 
 -- the first member and those behind it
 pub first_member : (ms : List Member) (m : Member) → 1 ≤ length ms → m ≡ get_or ms 0 m
@@ -119,19 +91,6 @@ first_member (x ∷ ms) m h is =
     let rest : take (length (x ∷ ms) - 1) ms ≡ ms = ap (λ n. take n ms) k ∙ take-length ms in
     let own : part x ≡ record { key = m.key.items; place = m.place; text = text_by m.layout } = ap part (sym is) ∙ part-is m in
     ap (λ (p : Part). p ∷ member_parts ms) own ∙ ap (λ (ns : List Member). (record { key = m.key.items; place = m.place; text = text_by m.layout }) ∷ member_parts ns) (sym rest)
-
-pub no_member : (ms : List Member) → length ms < 1 → member_parts ms ≡ []
-no_member [] h = refl
-no_member (m ∷ ms) h = absurd (omega (arith, h))
-
--- the first is in place, and those behind it are if a test says so
-pub in_place_more : (r : Bool) (ms : List Member) (m : Member) (place next : ℕ) → 1 ≤ length ms → m ≡ get_or ms 0 m → m.place ≡ place → next ≡ place + 1
-    → OnTrue r (AreInPlace next (member_parts (take (length ms - 1) (drop 1 ms)))) → OnTrue r (AreInPlace place (member_parts ms))
-in_place_more false ms m place next h is e n others = tt
-in_place_more true ms m place next h is e n others =
-    let k : next ≡ suc place = omega (arith, n) in
-    let ps = member_parts (take (length ms - 1) (drop 1 ms)) in
-    rw (first_member ms m h is) (e, subst (λ (i : ℕ). AreInPlace i ps) k others)
 
 pub others_counted : {X : Type 0} (xs : List X) → 1 ≤ length xs → length (take (length xs - 1) (drop 1 xs)) + 1 ≡ length xs
 others_counted [] h = absurd (omega (arith, h))

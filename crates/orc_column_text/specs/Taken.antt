@@ -1,4 +1,5 @@
--- What is taken from the front of what columns have still to give (ORC specification, "Column Encodings"), and its text.
+-- What is taken from the front of what columns have still to give (ORC specification, "Column Encodings"), with its
+-- text.
 use Rattle.std.specs.Prelude.{◌≡◌, ℕ, List, [], ◌∷◌, ◌++◌, Bool, true, false, length}
 use Rattle.orc_types.specs.Cells.{Cell, is_value}
 use Rattle.orc_types.specs.Shapes.{Shape}

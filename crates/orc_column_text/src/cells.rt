@@ -1,5 +1,5 @@
 //! The text of a column's cells, one after the other, as the readers of its streams have them.
-ghost use Rattle.std.specs.Prelude.{◌≡◌, ◌≢◌, ◌+◌, ◌<◌, ◌^◌, ◌++◌, ◌∷◌, [], ℕ, suc, Bool, false, IfOk, IfErr, OnOk, length};
+ghost use Rattle.std.specs.Prelude.{◌≡◌, ◌≢◌, ◌+◌, ◌<◌, ◌≤◌, ◌^◌, ◌++◌, ◌∷◌, [], ℕ, suc, Bool, false, IfOk, IfErr, OnOk, length};
 ghost use Rattle.orc_types.specs.Cells.{Cell};
 ghost use Rattle.orc_types.specs.Shapes.{width, widths};
 ghost use Rattle.orc_types.specs.Views.{shape, fields as fields_view};
@@ -8,33 +8,22 @@ ghost use Rattle.orc_columns.specs.Columns.{CellsLeft, OwnLeft, ScalarLeft, List
 ghost use Rattle.orc_columns.specs.ReaderFaults.{CellsMeet, OwnMeet, ScalarMeets, ListsOfMeet, MapsOfMeet, PairsMeet, FieldsMeet};
 ghost use Rattle.orc_columns.specs.declared.fault.StripeFault.{StripeFault as Fault};
 ghost use Rattle.orc_columns.specs.declared.fault.StripeFault.TheVariants.{OutOfMemory};
-ghost use Rattle.orc_row_text.specs.Layouts.{text_by, leaf_text, pair_text, pair_texts, member_parts};
+ghost use Rattle.orc_row_text.specs.Layouts.{text_by, leaf_text, pair_text, pair_texts, part, member_parts, parts_text};
+ghost use Rattle.orc_column_text.specs.Regions.{field_at, columns_before, readers_at, AreColumnsOf, AreMembersOf, PrintedMember};
 ghost use Rattle.orc_column_text.specs.Taken.{Printed, PrintedValue, PrintedAll};
-ghost use Rattle.orc_column_text.specs.Texts.{texts, members_text};
+ghost use Rattle.orc_column_text.specs.Texts.{texts};
 
-use crate::field_order::are_in_place;
+use crate::laid_out::{are_laid_out, own_width};
 use orc_columns::column::{ColumnReader, ValueSource, next_present, next_size};
 use orc_columns::fault::StripeFault;
 use orc_columns::reader::next_value;
-use orc_row_text::layout::{Layout, Member, PairLayout};
+use orc_row_text::layout::{FieldColumns, Layout, Member, PairLayout};
 use orc_row_text::leaf_text::push_own;
 use orc_row_text::printing::{push_comma_if, push_text};
-use orc_types::{Field, Scalar, Tree, width_of};
+use orc_types::{Field, Scalar, Tree};
 use std::alloc::Global;
 
-/// The number of columns of a type, which is one without a call where the type contains no other.
-fn own_width(tree: &Tree) -> usize
-    requires { width (shape tree.now) < 2 ^ 64 }
-    ensures { result ≡ width (shape tree.now) }
-{
-    match tree {
-        Tree::Scalar(_, _) => 1,
-        _ => width_of(tree),
-    }
-}
-
-/// Appends the text of a column's next cell, by a layout. Only a struct whose fields don't stand in the order of their
-/// names is held meanwhile. What is appended before a refusal is left open.
+/// Appends the text of a column's next cell, by a layout. What is appended before a refusal is left open.
 #[cycle(cells)]
 pub fn push_cell(
     alloc: Global,
@@ -44,8 +33,8 @@ pub fn push_cell(
     out: &mut Vec<u8>,
 ) -> Result<(), StripeFault>
     requires { length readers.old ≡ width (shape tree.now) }
-    ensures found { OnOk result (Printed (CellsLeft (shape tree.now) readers.old) (CellsLeft (shape tree.now) readers.new)
-        (text_by layout.now) out.old.items out.new.items) }
+    ensures found { OnOk result (Printed (CellsLeft (shape tree.now) readers.old)
+        (CellsLeft (shape tree.now) readers.new) (text_by layout.now) out.old.items out.new.items) }
     ensures none { IfErr result (λ fault. fault ≢ OutOfMemory → Lacks (CellsLeft (shape tree.now) readers.old) 1) }
     ensures before { OnOk result ((all : Bool) (n : ℕ) (f : Fault) → CellsMeet (shape tree.now) readers.new all n f
         → CellsMeet (shape tree.now) readers.old all (suc n) f) }
@@ -75,8 +64,8 @@ fn push_value(
     out: &mut Vec<u8>,
 ) -> Result<(), StripeFault>
     requires { length readers.old ≡ width (shape tree.now) }
-    ensures found { OnOk result (PrintedValue (OwnLeft (shape tree.now) readers.old) (OwnLeft (shape tree.now) readers.new)
-        (text_by layout.now) out.old.items out.new.items) }
+    ensures found { OnOk result (PrintedValue (OwnLeft (shape tree.now) readers.old)
+        (OwnLeft (shape tree.now) readers.new) (text_by layout.now) out.old.items out.new.items) }
     ensures column { OnOk result (column_of readers.new ≡ column_of readers.old) }
     ensures marks { OnOk result (marks_of readers.new ≡ marks_of readers.old) }
     ensures none { IfErr result (λ fault. fault ≢ OutOfMemory → Lacks (OwnLeft (shape tree.now) readers.old) 1) }
@@ -108,10 +97,10 @@ fn push_value(
             _ => push_held(alloc, tree, layout, readers, out),
         },
         Tree::Struct(fields, _) => match layout {
-            Layout::Struct(members, _) => {
-                if are_in_place(members, fields.len()) {
+            Layout::Struct(members, columns) => {
+                if are_laid_out(fields, members, columns) {
                     out.push(b'{')?;
-                    match push_fields(alloc, fields, members, &mut readers[1..], out) {
+                    match push_members(alloc, fields, members, columns, &mut readers[1..], out) {
                         Ok(()) => Ok(()),
                         Err(fault) => Err(fault),
                     }
@@ -124,8 +113,7 @@ fn push_value(
     }
 }
 
-/// Appends the text of a column's next value, which is made first: the fields of a struct may stand in another order
-/// than their names, and a layout may be one of another type.
+/// Appends the text of a column's next value, which is made first: for a layout that is one of another type.
 fn push_held(
     alloc: Global,
     tree: &Tree,
@@ -134,8 +122,8 @@ fn push_held(
     out: &mut Vec<u8>,
 ) -> Result<(), StripeFault>
     requires { length readers.old ≡ width (shape tree.now) }
-    ensures found { OnOk result (PrintedValue (OwnLeft (shape tree.now) readers.old) (OwnLeft (shape tree.now) readers.new)
-        (text_by layout.now) out.old.items out.new.items) }
+    ensures found { OnOk result (PrintedValue (OwnLeft (shape tree.now) readers.old)
+        (OwnLeft (shape tree.now) readers.new) (text_by layout.now) out.old.items out.new.items) }
     ensures column { OnOk result (column_of readers.new ≡ column_of readers.old) }
     ensures marks { OnOk result (marks_of readers.new ≡ marks_of readers.old) }
     ensures none { IfErr result (λ fault. fault ≢ OutOfMemory → Lacks (OwnLeft (shape tree.now) readers.old) 1) }
@@ -188,7 +176,8 @@ fn push_list(
     out: &mut Vec<u8>,
 ) -> Result<(), StripeFault>
     requires { length readers.old ≡ 1 + width (shape element.now) }
-    ensures found { OnOk result (Printed (ListsOf (shape element.now) readers.old) (ListsOf (shape element.now) readers.new)
+    ensures found { OnOk result (Printed (ListsOf (shape element.now) readers.old)
+        (ListsOf (shape element.now) readers.new)
         (λ cells. 91 ∷ (texts (text_by layout.now) false cells ++ 93 ∷ [])) out.old.items out.new.items) }
     ensures column { OnOk result (column_of readers.new ≡ column_of readers.old) }
     ensures marks { OnOk result (marks_of readers.new ≡ marks_of readers.old) }
@@ -224,8 +213,8 @@ fn push_cells(
     out: &mut Vec<u8>,
 ) -> Result<(), StripeFault>
     requires { length readers.old ≡ width (shape tree.now) }
-    ensures found { OnOk result (PrintedAll (CellsLeft (shape tree.now) readers.old) (CellsLeft (shape tree.now) readers.new)
-        (texts (text_by layout.now) false) count out.old.items out.new.items) }
+    ensures found { OnOk result (PrintedAll (CellsLeft (shape tree.now) readers.old)
+        (CellsLeft (shape tree.now) readers.new) (texts (text_by layout.now) false) count out.old.items out.new.items) }
     ensures none { IfErr result (λ fault. fault ≢ OutOfMemory → Lacks (CellsLeft (shape tree.now) readers.old) count) }
     ensures before { OnOk result ((all : Bool) (n : ℕ) (f : Fault) → CellsMeet (shape tree.now) readers.new all n f
         → CellsMeet (shape tree.now) readers.old all (count + n) f) }
@@ -256,7 +245,8 @@ fn push_map(
     requires { length readers.old ≡ 1 + (width (shape key.now) + width (shape value.now)) }
     ensures found { OnOk result (Printed (MapsOf (shape key.now) (shape value.now) readers.old)
         (MapsOf (shape key.now) (shape value.now) readers.new)
-        (λ pairs. 91 ∷ (texts (pair_text (pair_texts layouts.now)) false pairs ++ 93 ∷ [])) out.old.items out.new.items) }
+        (λ pairs. 91 ∷ (texts (pair_text (pair_texts layouts.now)) false pairs ++ 93 ∷ []))
+        out.old.items out.new.items) }
     ensures column { OnOk result (column_of readers.new ≡ column_of readers.old) }
     ensures marks { OnOk result (marks_of readers.new ≡ marks_of readers.old) }
     ensures none { IfErr result (λ fault. fault ≢ OutOfMemory
@@ -295,8 +285,8 @@ fn push_pairs(
 ) -> Result<(), StripeFault>
     requires { length readers.old ≡ width (shape key.now) + width (shape value.now) }
     ensures found { OnOk result (PrintedAll (PairsLeft (shape key.now) (shape value.now) readers.old)
-        (PairsLeft (shape key.now) (shape value.now) readers.new) (texts (pair_text (pair_texts layouts.now)) false) count
-        out.old.items out.new.items) }
+        (PairsLeft (shape key.now) (shape value.now) readers.new)
+        (texts (pair_text (pair_texts layouts.now)) false) count out.old.items out.new.items) }
     ensures none { IfErr result (λ fault. fault ≢ OutOfMemory
         → Lacks (PairsLeft (shape key.now) (shape value.now) readers.old) count) }
     ensures before { OnOk result ((all : Bool) (n : ℕ) (f : Fault)
@@ -355,46 +345,77 @@ fn push_pair(
     }
 }
 
-/// Appends the members of the next struct, in the order of the fields, and the closing brace.
+/// Appends the members of the next struct, in the order of their names, and the closing brace. Columns don't depend on
+/// one another, so each field is read where its member comes.
 #[cycle(cells)]
-fn push_fields(
+fn push_members(
     alloc: Global,
-    fields: &[Field],
+    fields: &Vec<Field>,
     members: &[Member],
+    columns: &Vec<FieldColumns>,
     readers: &mut [ColumnReader<'_>],
     out: &mut Vec<u8>,
 ) -> Result<(), StripeFault>
-    requires counted { length readers.old ≡ widths (fields_view fields.now) }
-    requires as_many { length members.now ≡ length fields.now }
-    ensures found { OnOk result (Printed (FieldsLeft (fields_view fields.now) readers.old)
-        (FieldsLeft (fields_view fields.now) readers.new) (members_text (member_parts members.now))
+    requires counted { length readers.old ≡ widths (fields_view fields.now.items) }
+    requires as_many { length members.now ≡ length fields.now.items }
+    requires columns { AreColumnsOf (fields_view fields.now.items) 0 columns.now.items }
+    requires members { AreMembersOf columns.now.items 0 (member_parts members.now) }
+    ensures found { OnOk result (Printed (FieldsLeft (fields_view fields.now.items) readers.old)
+        (FieldsLeft (fields_view fields.now.items) readers.new) (parts_text (member_parts members.now))
         out.old.items out.new.items) }
     ensures none { IfErr result (λ fault. fault ≢ OutOfMemory
-        → Lacks (FieldsLeft (fields_view fields.now) readers.old) 1) }
+        → Lacks (FieldsLeft (fields_view fields.now.items) readers.old) 1) }
     ensures before { OnOk result ((all : Bool) (n : ℕ) (f : Fault)
-        → FieldsMeet (fields_view fields.now) readers.new all n f
-        → FieldsMeet (fields_view fields.now) readers.old all (suc n) f) }
+        → FieldsMeet (fields_view fields.now.items) readers.new all n f
+        → FieldsMeet (fields_view fields.now.items) readers.old all (suc n) f) }
     ensures fault { IfErr result (λ cause. cause ≢ OutOfMemory
-        → (n : ℕ) → FieldsMeet (fields_view fields.now) readers.old false (suc n) cause) }
+        → (n : ℕ) → FieldsMeet (fields_view fields.now.items) readers.old false (suc n) cause) }
 {
-    match fields {
-        [] => {
-            out.push(b'}')?;
-            Ok(())
+    for member in members {
+        let own = columns[member.place];
+        match push_member(alloc, fields, member, own, readers, out) {
+            Ok(()) => {}
+            Err(fault) => return Err(fault),
         }
-        [first, others @ ..] => match members {
-            [] => unreachable!(),
-            [member, later @ ..] => {
-                let own = own_width(&first.tree);
-                out.extend_from_slice(&member.key)?;
-                match push_cell(alloc, &first.tree, &member.layout, &mut readers[..own], out) {
-                    Ok(()) => match push_fields(alloc, others, later, &mut readers[own..], out) {
-                        Ok(()) => Ok(()),
-                        Err(fault) => Err(fault),
-                    },
-                    Err(fault) => Err(fault),
-                }
-            }
-        },
+    }
+    out.push(b'}')?;
+    Ok(())
+}
+
+/// Appends a member of the next struct: its key, and the cell of the field at its place, whose columns these are.
+#[cycle(cells)]
+fn push_member(
+    alloc: Global,
+    fields: &Vec<Field>,
+    member: &Member,
+    own: FieldColumns,
+    readers: &mut [ColumnReader<'_>],
+    out: &mut Vec<u8>,
+) -> Result<(), StripeFault>
+    requires counted { length readers.old ≡ widths (fields_view fields.now.items) }
+    requires there { member.now.place < length fields.now.items }
+    requires within { own.first + own.count ≤ length readers.old }
+    requires first { own.first ≡ columns_before (fields_view fields.now.items) member.now.place }
+    requires count { own.count ≡ width (field_at (fields_view fields.now.items) member.now.place) }
+    ensures found { OnOk result (PrintedMember (fields_view fields.now.items) (part member.now) readers.old readers.new
+        out.old.items out.new.items) }
+    ensures none { IfErr result (λ fault. fault ≢ OutOfMemory
+        → Lacks (CellsLeft (field_at (fields_view fields.now.items) member.now.place)
+        (readers_at (fields_view fields.now.items) member.now.place readers.old)) 1) }
+    ensures fault { IfErr result (λ cause. cause ≢ OutOfMemory
+        → (n : ℕ) → CellsMeet (field_at (fields_view fields.now.items) member.now.place)
+        (readers_at (fields_view fields.now.items) member.now.place readers.old) false (suc n) cause) }
+{
+    let tree = &fields[member.place].tree;
+    out.extend_from_slice(&member.key)?;
+    match push_cell(
+        alloc,
+        tree,
+        &member.layout,
+        &mut readers[own.first..own.first + own.count],
+        out,
+    ) {
+        Ok(()) => Ok(()),
+        Err(fault) => Err(fault),
     }
 }

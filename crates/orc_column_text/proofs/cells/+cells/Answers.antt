@@ -1,18 +1,24 @@
-use Rattle.std.proofs.Common.{rules, ◌≡◌, ℕ, suc, ◌+◌, false, subst, [], ◌∷◌, map, length, take, drop, ◌-◌, ◌++◌, append-nil, string_bytes, get_or, sym, ap, ◌∙◌, arith}
+use Rattle.std.proofs.Common.{rules, ◌≡◌, ℕ, suc, ◌+◌, ◌<◌, false, subst, length, take, drop, ◌-◌, ◌++◌, get_or, sym, ap, ◌∙◌, arith}
 use Rattle.orc_types.specs.Cells.{null}
 use Rattle.orc_types.specs.Shapes.{width}
 use Rattle.orc_types.specs.Views.{shape}
 use Rattle.orc_types.specs.Views.{fields as fields_view}
 use Rattle.orc_types.proofs.Views.{shape-List, shape-Map, shape-Struct}
 use Rattle.orc_columns.specs.Columns.{CellsLeft, PairsLeft}
-use Rattle.orc_columns.proofs.Arms.{some_width, fields_put, fields_behind, cell_null, cell_lacks, own_list_lacks, own_map_lacks, own_struct_lacks, list_taken, list_lacking, map_taken, map_lacking, cells_lacking, first_counted, no_fields, first_field, fields_none, fields_lack_first, fields_lack_others, fields_counted}
+use Rattle.orc_columns.proofs.Arms.{some_width, fields_put, fields_behind, cell_null, cell_lacks, own_list_lacks, own_map_lacks, own_struct_lacks, list_taken, list_lacking, map_taken, map_lacking, cells_lacking, first_counted}
 use Rattle.orc_columns.specs.declared.column.ColumnReader.{ColumnReader}
 use Rattle.orc_columns.specs.ReaderFaults.{CellsMeet, PairsMeet}
-use Rattle.orc_columns.proofs.FaultLemmas.{cell_before, null_before, cell_now, cell_mark, scalar_before, own_scalar, list_before, lists_own, own_lists, struct_before, own_struct_meets, fields_before, lists_size, lists_elements, map_before, maps_own, own_maps, maps_size, maps_pairs, pair_before, fields_first_fault, fields_others_fault}
-use Rattle.orc_row_text.specs.Layouts.{text_by, member_parts, pair_text, pair_texts}
-use Rattle.orc_column_text.specs.Texts.{texts, members_text}
-use Rattle.orc_column_text.proofs.Texts.{first_member, no_member, null_text_by}
-use Rattle.orc_column_text.proofs.Taken.{bracketed, passed_next, passed_all, value_taken, list_taken_text, map_taken_text, pair_taken, struct_taken_text, fields_taken}
+use Rattle.orc_columns.proofs.FaultLemmas.{cell_before, null_before, cell_now, cell_mark, list_before, lists_own, own_lists, struct_before, own_struct_meets, lists_size, lists_elements, map_before, maps_own, own_maps, maps_size, maps_pairs, pair_before}
+use Rattle.orc_row_text.specs.Layouts.{text_by, part, member_parts, pair_text, pair_texts}
+use Rattle.orc_column_text.proofs.AnyOrder.{columns_told, reading_first, reading_last, reading_last_meet}
+use Rattle.orc_column_text.proofs.Members.{many-fields, field_at-is, own_within, own_less, region_length, place_told, others_told, members_next, members_lack, members_meet, member_printed, member_lacks, member_meets}
+use Rattle.std.proofs.lemmas.List.{length-map, drop_all}
+use borrow.Rule.Slice.PartMut.{put_mid}
+use Rattle.orc_row_text.specs.declared.layout.FieldColumns.{FieldColumns}
+use Rattle.orc_column_text.specs.Regions.{field_at, columns_before}
+use Rattle.orc_column_text.specs.Texts.{texts}
+use Rattle.orc_column_text.proofs.Texts.{null_text_by}
+use Rattle.orc_column_text.proofs.Taken.{bracketed, passed_next, passed_all, value_taken, list_taken_text, map_taken_text, pair_taken, struct_taken_text}
 use Rattle.orc_column_text.proofs.cells.+cells.Goals as goal
 
 -- ---- so many cells
@@ -159,89 +165,138 @@ push_value-returns-in-Ok-push_list-clause-before t c = λ all n f h.
     lists_own (shape c.args.tree.now) (shape c.in-List.element.value) c.in-List.field-1.items c.args.readers.now all (suc n) f (ap shape c.in-List.is ∙ shape-List c.in-List.element c.in-List.field-1)
     (k (own_lists (shape c.args.tree.now) (shape c.in-List.element.value) c.in-List.field-1.items c.push_list.new.readers all n f (ap shape c.in-List.is ∙ shape-List c.in-List.element c.in-List.field-1) h))
 
--- ---- fields
+-- ---- members
 
-pub push_fields-returns-in_ok-push-in-empty-clause-found : goal.push_fields-returns-in_ok-push-in-empty-clause-found
-push_fields-returns-in_ok-push-in-empty-clause-found t c = record {
-  one = [];
-  taken = fields_none (fields_view c.args.fields.now) c.args.readers.now (no_fields c.args.fields.now c.in-empty.len_below);
-  put = c.in_ok-push-in-empty.ensures.items ∙ ap (λ ps. c.args.out.now.items ++ members_text ps []) (sym (no_member c.args.members.now (omega (arith, c.in-empty.len_below, c.requires.as_many))));
-}
+pub push_members-loop-member-init : goal.push_members-loop-member-init
+push_members-loop-member-init t c =
+    let fs = c.args.fields.now.items in
+    let ms = c.args.members.now in
+    record {
+      reading = reading_first (fields_view fs) c.args.readers.now (member_parts ms) c.args.out.now.items c.requires.counted (length-map ms part ∙ c.requires.as_many ∙ sym (many-fields fs));
+      own = c.requires.members;
+    }
 
-pub push_fields-returns-in-Ok-push_fields-clause-found : goal.push_fields-returns-in-Ok-push_fields-clause-found
-push_fields-returns-in-Ok-push_fields-clause-found t c =
-    let e = first_field c.args.fields.now c.first-item.result c.in-len1-up.len_at_least c.first-item.is in
-    let we = c.own_width-own.ensures in
-    let n : length c.push_cell.new.readers ≡ c.own_width-own.result = fields_counted (fields_view c.args.fields.now) (string_bytes c.first-item.result.name) (shape c.first-item.result.tree) (fields_view (take (length c.args.fields.now - 1) (drop 1 c.args.fields.now))) c.args.readers.now c.push_cell.new.readers c.own_width-own.result e we c.requires.counted c.push_cell.auto.readers in
-    fields_taken (fields_view c.args.fields.now) (string_bytes c.first-item.result.name) (shape c.first-item.result.tree) (fields_view (take (length c.args.fields.now - 1) (drop 1 c.args.fields.now)))
-    (record { key = c.member-item.result.key.items; place = c.member-item.result.place; text = text_by c.member-item.result.layout }) (member_parts (take (length c.args.members.now - 1) (drop 1 c.args.members.now))) (member_parts c.args.members.now)
-    c.args.readers.now _ (take c.own_width-own.result c.args.readers.now) c.push_cell.new.readers _ c.push_fields.new.readers c.args.out.now.items c.extend_from_slice.new.self.items c.push_cell.new.out.items c.push_fields.new.out.items
-    e (ap (λ k. take k c.args.readers.now) we) (fields_behind c.own_width-own.result c.args.readers.now c.push_cell.new.readers n ∙ ap (λ k. drop k c.args.readers.now) we)
-    (fields_put c.own_width-own.result c.args.readers.now c.push_cell.new.readers c.push_fields.new.readers n) (n ∙ we)
-    (first_member c.args.members.now c.member-item.result c.in-len1-up-members.len_at_least c.member-item.is) (c.in_ok-extend_from_slice-in-len1-up-members.ensures.items ∙ ap (λ t. c.args.out.now.items ++ t) c.deref.ensures.value) c.in-Ok.ensures.found c.in-Ok-push_fields.ensures.found
+pub push_members-index-own-requires : goal.push_members-index-own-requires
+push_members-index-own-requires t c =
+    let there = place_told c.args.columns.now.items c.args.members.now c.loop-member.member-index c.member-item.result c.loop-member-test.true c.member-item.is c.loop-member.invariant.own in
+    omega (arith, there, c.args.columns.now.ok.0)
 
-pub push_fields-returns-in-Err-clause-none : goal.push_fields-returns-in-Err-clause-none
-push_fields-returns-in-Err-clause-none t c = λ memory.
-    fields_lack_first (fields_view c.args.fields.now) (string_bytes c.first-item.result.name) (shape c.first-item.result.tree) (fields_view (take (length c.args.fields.now - 1) (drop 1 c.args.fields.now))) c.args.readers.now (take c.own_width-own.result c.args.readers.now)
-    (first_field c.args.fields.now c.first-item.result c.in-len1-up.len_at_least c.first-item.is) (ap (λ k. take k c.args.readers.now) c.own_width-own.ensures) (c.in-Err.ensures.none memory)
+pub push_members-push_member-requires : goal.push_members-push_member-requires
+push_members-push_member-requires t c =
+    let fs = c.args.fields.now.items in
+    let xs = c.args.columns.now.items in
+    let own = c.index-own.result.now in
+    let place = c.member-item.result.place in
+    let listed = place_told xs c.args.members.now c.loop-member.member-index c.member-item.result c.loop-member-test.true c.member-item.is c.loop-member.invariant.own in
+    let told = columns_told (fields_view fs) 0 xs place own c.requires.columns listed in
+    let first : own.first ≡ columns_before (fields_view fs) place = omega (arith, ap (λ (x : FieldColumns). x.first) c.index-own.ensures, told.0) in
+    let count : own.count ≡ width (field_at (fields_view fs) place) = ap (λ (x : FieldColumns). x.count) c.index-own.ensures ∙ told.1 in
+    let there : place < length fs = omega (arith, told.2, many-fields fs) in
+    let counted = c.loop-member.invariant.reading.counted in
+    let within = own_within fs place own.first own.count (length c.loop-member.readers) there first count counted in
+    (omega arith, (counted, (there, (within, (first, count)))))
 
-pub push_fields-returns-in-Err-push_fields-clause-none : goal.push_fields-returns-in-Err-push_fields-clause-none
-push_fields-returns-in-Err-push_fields-clause-none t c = λ memory.
-    let e = first_field c.args.fields.now c.first-item.result c.in-len1-up.len_at_least c.first-item.is in
-    let we = c.own_width-own.ensures in
-    let n : length c.push_cell.new.readers ≡ c.own_width-own.result = fields_counted (fields_view c.args.fields.now) (string_bytes c.first-item.result.name) (shape c.first-item.result.tree) (fields_view (take (length c.args.fields.now - 1) (drop 1 c.args.fields.now))) c.args.readers.now c.push_cell.new.readers c.own_width-own.result e we c.requires.counted c.push_cell.auto.readers in
-    fields_lack_others (fields_view c.args.fields.now) (string_bytes c.first-item.result.name) (shape c.first-item.result.tree) (fields_view (take (length c.args.fields.now - 1) (drop 1 c.args.fields.now))) c.args.readers.now _
-    e (fields_behind c.own_width-own.result c.args.readers.now c.push_cell.new.readers n ∙ ap (λ k. drop k c.args.readers.now) we) (c.in-Err-push_fields.ensures.none memory)
+pub push_members-loop-member-preserved : goal.push_members-loop-member-preserved
+push_members-loop-member-preserved t c =
+    let fs = fields_view c.args.fields.now.items in
+    let ms = c.args.members.now in
+    let xs = c.args.columns.now.items in
+    record {
+      reading = members_next fs c.args.readers.now c.loop-member.readers c.push_member.new.readers ms c.loop-member.member-index c.member-item.result xs c.args.out.now.items c.loop-member.out.items c.push_member.new.out.items
+          c.loop-member-test.true c.member-item.is c.requires.columns c.loop-member.invariant.own c.push_member.auto.readers c.in-Ok.ensures.found c.loop-member.invariant.reading;
+      own = others_told xs ms c.loop-member.member-index c.member-item.result c.loop-member-test.true c.member-item.is c.loop-member.invariant.own;
+    }
 
-pub push_fields-returns-in-Err-clause-fault : goal.push_fields-returns-in-Err-clause-fault
-push_fields-returns-in-Err-clause-fault t c = λ memory n.
-    fields_first_fault (fields_view c.args.fields.now) (string_bytes c.first-item.result.name) (shape c.first-item.result.tree) (fields_view (take (length c.args.fields.now - 1) (drop 1 c.args.fields.now))) c.args.readers.now (take c.own_width-own.result c.args.readers.now) false (suc n) c.in-Err.fault
-    (first_field c.args.fields.now c.first-item.result c.in-len1-up.len_at_least c.first-item.is) (ap (λ k. take k c.args.readers.now) c.own_width-own.ensures) (c.in-Err.ensures.fault memory n)
+pub push_members-returns-in-Err-clause-none : goal.push_members-returns-in-Err-clause-none
+push_members-returns-in-Err-clause-none t c = λ memory.
+    members_lack (fields_view c.args.fields.now.items) c.args.readers.now c.loop-member.readers c.args.members.now c.loop-member.member-index c.member-item.result c.args.columns.now.items c.args.out.now.items c.loop-member.out.items
+    c.loop-member-test.true c.member-item.is c.requires.columns c.loop-member.invariant.own c.loop-member.invariant.reading (c.in-Err.ensures.none memory)
 
-pub push_fields-returns-in-Err-push_fields-clause-fault : goal.push_fields-returns-in-Err-push_fields-clause-fault
-push_fields-returns-in-Err-push_fields-clause-fault t c = λ memory n.
-    let e = first_field c.args.fields.now c.first-item.result c.in-len1-up.len_at_least c.first-item.is in
-    let we = c.own_width-own.ensures in
-    let l : length c.push_cell.new.readers ≡ c.own_width-own.result = fields_counted (fields_view c.args.fields.now) (string_bytes c.first-item.result.name) (shape c.first-item.result.tree) (fields_view (take (length c.args.fields.now - 1) (drop 1 c.args.fields.now))) c.args.readers.now c.push_cell.new.readers c.own_width-own.result e we c.requires.counted c.push_cell.auto.readers in
-    fields_others_fault (fields_view c.args.fields.now) (string_bytes c.first-item.result.name) (shape c.first-item.result.tree) (fields_view (take (length c.args.fields.now - 1) (drop 1 c.args.fields.now))) c.args.readers.now _ false (suc n) c.in-Err-push_fields.fault
-    e (fields_behind c.own_width-own.result c.args.readers.now c.push_cell.new.readers l ∙ ap (λ k. drop k c.args.readers.now) we) (c.in-Err-push_fields.ensures.fault memory n)
+pub push_members-returns-in-Err-clause-fault : goal.push_members-returns-in-Err-clause-fault
+push_members-returns-in-Err-clause-fault t c = λ memory n.
+    members_meet (fields_view c.args.fields.now.items) c.args.readers.now c.loop-member.readers c.args.members.now c.loop-member.member-index c.member-item.result c.args.columns.now.items c.args.out.now.items c.loop-member.out.items false (suc n) c.in-Err.fault
+    c.loop-member-test.true c.member-item.is c.requires.columns c.loop-member.invariant.own c.loop-member.invariant.reading (c.in-Err.ensures.fault memory n)
 
-pub push_fields-returns-in-Ok-push_fields-clause-before : goal.push_fields-returns-in-Ok-push_fields-clause-before
-push_fields-returns-in-Ok-push_fields-clause-before t c = λ all n f h.
-    let e = first_field c.args.fields.now c.first-item.result c.in-len1-up.len_at_least c.first-item.is in
-    let we = c.own_width-own.ensures in
-    let l : length c.push_cell.new.readers ≡ c.own_width-own.result = fields_counted (fields_view c.args.fields.now) (string_bytes c.first-item.result.name) (shape c.first-item.result.tree) (fields_view (take (length c.args.fields.now - 1) (drop 1 c.args.fields.now))) c.args.readers.now c.push_cell.new.readers c.own_width-own.result e we c.requires.counted c.push_cell.auto.readers in
-    fields_before (fields_view c.args.fields.now) (string_bytes c.first-item.result.name) (shape c.first-item.result.tree) (fields_view (take (length c.args.fields.now - 1) (drop 1 c.args.fields.now))) c.args.readers.now _ (take c.own_width-own.result c.args.readers.now) c.push_cell.new.readers _ c.push_fields.new.readers all n f
-    e (ap (λ k. take k c.args.readers.now) we) (fields_behind c.own_width-own.result c.args.readers.now c.push_cell.new.readers l ∙ ap (λ k. drop k c.args.readers.now) we)
-    (fields_put c.own_width-own.result c.args.readers.now c.push_cell.new.readers c.push_fields.new.readers l) (l ∙ we) (c.in-Ok.ensures.before all n f) (c.in-Ok-push_fields.ensures.before all n f) h
+pub push_members-returns-clause-found : goal.push_members-returns-clause-found
+push_members-returns-clause-found t c =
+    let ms = c.args.members.now in
+    reading_last (fields_view c.args.fields.now.items) c.args.readers.now c.loop-member.readers (member_parts ms) (member_parts (drop c.loop-member.member-index ms)) c.args.out.now.items c.loop-member.out.items c.push.new.self.items
+    (ap member_parts (drop_all c.loop-member.member-index ms (omega (arith, c.loop-member-test.false)))) c.in_ok-push.ensures.items c.loop-member.invariant.reading
+
+pub push_members-returns-clause-before : goal.push_members-returns-clause-before
+push_members-returns-clause-before t c = λ all n f h.
+    let ms = c.args.members.now in
+    reading_last_meet (fields_view c.args.fields.now.items) c.args.readers.now c.loop-member.readers (member_parts ms) (member_parts (drop c.loop-member.member-index ms)) c.args.out.now.items c.loop-member.out.items all n f
+    (ap member_parts (drop_all c.loop-member.member-index ms (omega (arith, c.loop-member-test.false)))) c.loop-member.invariant.reading h
+
+-- ---- a member
+
+pub push_member-returns-in-Ok-clause-found : goal.push_member-returns-in-Ok-clause-found
+push_member-returns-in-Ok-clause-found t c =
+    let m = c.args.member.now in
+    let rs = c.args.readers.now in
+    let first = c.args.own.first in
+    let count = c.args.own.count in
+    let k : first + count - first ≡ count = omega arith in
+    let region = take (first + count - first) (drop first rs) in
+    let n : length c.push_cell.new.readers ≡ count = omega (arith, c.push_cell.auto.readers, region_length rs first count c.requires.within) in
+    member_printed c.args.fields.now.items c.index.result.now m rs region c.push_cell.new.readers (put_mid first (first + count - first) rs c.push_cell.new.readers) first count c.args.out.now.items c.extend_from_slice.new.self.items c.push_cell.new.out.items
+    c.requires.there c.index.ensures c.requires.first c.requires.count (ap (λ (i : ℕ). take i (drop first rs)) k) n (ap (λ (i : ℕ). put_mid first i rs c.push_cell.new.readers) k)
+    (c.in_ok-extend_from_slice.ensures.items ∙ ap (λ t. c.args.out.now.items ++ t) c.deref.ensures.value) c.in-Ok.ensures.found c.in-Ok.ensures.before
+
+pub push_member-push_cell-requires : goal.push_member-push_cell-requires
+push_member-push_cell-requires t c =
+    let fs = c.args.fields.now.items in
+    let place = c.args.member.now.place in
+    let less = own_less fs c.index.result.now place c.requires.there c.index.ensures in (
+      omega (arith, less),
+      region_length c.args.readers.now c.args.own.first c.args.own.count c.requires.within ∙ c.requires.count ∙ ap width (field_at-is fs place c.index.result.now c.requires.there c.index.ensures),
+    )
+
+pub push_member-returns-in-Err-clause-none : goal.push_member-returns-in-Err-clause-none
+push_member-returns-in-Err-clause-none t c = λ memory.
+    let rs = c.args.readers.now in
+    let first = c.args.own.first in
+    let count = c.args.own.count in
+    let k : first + count - first ≡ count = omega arith in
+    member_lacks c.args.fields.now.items c.index.result.now c.args.member.now.place rs (take (first + count - first) (drop first rs)) first count c.requires.there c.index.ensures c.requires.first c.requires.count
+    (ap (λ (i : ℕ). take i (drop first rs)) k) (c.in-Err.ensures.none memory)
+
+pub push_member-returns-in-Err-clause-fault : goal.push_member-returns-in-Err-clause-fault
+push_member-returns-in-Err-clause-fault t c = λ memory n.
+    let rs = c.args.readers.now in
+    let first = c.args.own.first in
+    let count = c.args.own.count in
+    let k : first + count - first ≡ count = omega arith in
+    member_meets c.args.fields.now.items c.index.result.now c.args.member.now.place rs (take (first + count - first) (drop first rs)) first count false (suc n) c.in-Err.fault c.requires.there c.index.ensures c.requires.first c.requires.count
+    (ap (λ (i : ℕ). take i (drop first rs)) k) (c.in-Err.ensures.fault memory n)
 
 -- ---- a struct
 
-pub push_value-returns-in-Ok-push_fields-clause-found : goal.push_value-returns-in-Ok-push_fields-clause-found
-push_value-returns-in-Ok-push_fields-clause-found t c =
+pub push_value-returns-in-Ok-push_members-clause-found : goal.push_value-returns-in-Ok-push_members-clause-found
+push_value-returns-in-Ok-push_members-clause-found t c =
     let w = some_width (shape c.args.tree.now) in
-    let f = c.in-Ok-push_fields.ensures.found in
-    let places = c.if-are_in_place.ensures in
-    struct_taken_text (shape c.args.tree.now) (fields_view c.in-Struct.fields.items) c.in-Struct.field-1.items c.args.layout.now c.in-Struct-layout.members c.in-Struct-layout.field-1 c.args.readers.now c.push_fields.new.readers c.args.out.now.items c.push.new.self.items c.push_fields.new.out.items
-    (ap shape c.in-Struct.is ∙ shape-Struct c.in-Struct.fields c.in-Struct.field-1) c.in-Struct-layout.is places.1 (omega (arith, c.requires, w)) c.in_ok-push-in-Struct-layout.ensures.items (rw (c.deref-then-are_in_place.ensures.value, c.deref-then-are_in_place-2.ensures.value) at f)
+    let f = c.in-Ok-push_members.ensures.found in
+    struct_taken_text (shape c.args.tree.now) (fields_view c.in-Struct.fields.items) c.in-Struct.field-1.items c.args.layout.now c.in-Struct-layout.members c.in-Struct-layout.columns c.args.readers.now c.push_members.new.readers c.args.out.now.items c.push.new.self.items c.push_members.new.out.items
+    (ap shape c.in-Struct.is ∙ shape-Struct c.in-Struct.fields c.in-Struct.field-1) c.in-Struct-layout.is (omega (arith, c.requires, w)) c.in_ok-push-in-Struct-layout.ensures.items (rw c.deref-then-are_laid_out.ensures.value at f)
 
-pub push_value-returns-in-Err-push_fields-clause-none : goal.push_value-returns-in-Err-push_fields-clause-none
-push_value-returns-in-Err-push_fields-clause-none t c = λ memory.
-    let f = c.in-Err-push_fields.ensures.none memory in
+pub push_value-returns-in-Err-push_members-clause-none : goal.push_value-returns-in-Err-push_members-clause-none
+push_value-returns-in-Err-push_members-clause-none t c = λ memory.
+    let f = c.in-Err-push_members.ensures.none memory in
     own_struct_lacks (shape c.args.tree.now) (fields_view c.in-Struct.fields.items) c.in-Struct.field-1.items c.args.readers.now
-    (ap shape c.in-Struct.is ∙ shape-Struct c.in-Struct.fields c.in-Struct.field-1) (rw c.deref-then-are_in_place.ensures.value at f)
+    (ap shape c.in-Struct.is ∙ shape-Struct c.in-Struct.fields c.in-Struct.field-1) f
 
-pub push_value-returns-in-Err-push_fields-clause-fault : goal.push_value-returns-in-Err-push_fields-clause-fault
-push_value-returns-in-Err-push_fields-clause-fault t c = λ memory n.
+pub push_value-returns-in-Err-push_members-clause-fault : goal.push_value-returns-in-Err-push_members-clause-fault
+push_value-returns-in-Err-push_members-clause-fault t c = λ memory n.
     let w = some_width (shape c.args.tree.now) in
-    let f = c.in-Err-push_fields.ensures.fault memory n in
-    own_struct_meets (shape c.args.tree.now) (fields_view c.in-Struct.fields.items) c.in-Struct.field-1.items c.args.readers.now false (suc n) c.in-Err-push_fields.fault (ap shape c.in-Struct.is ∙ shape-Struct c.in-Struct.fields c.in-Struct.field-1) (omega (arith, c.requires, w)) (rw c.deref-then-are_in_place.ensures.value at f)
+    let f = c.in-Err-push_members.ensures.fault memory n in
+    own_struct_meets (shape c.args.tree.now) (fields_view c.in-Struct.fields.items) c.in-Struct.field-1.items c.args.readers.now false (suc n) c.in-Err-push_members.fault (ap shape c.in-Struct.is ∙ shape-Struct c.in-Struct.fields c.in-Struct.field-1) (omega (arith, c.requires, w)) f
 
-pub push_value-returns-in-Ok-push_fields-clause-before : goal.push_value-returns-in-Ok-push_fields-clause-before
-push_value-returns-in-Ok-push_fields-clause-before t c = λ all n f h.
+pub push_value-returns-in-Ok-push_members-clause-before : goal.push_value-returns-in-Ok-push_members-clause-before
+push_value-returns-in-Ok-push_members-clause-before t c = λ all n f h.
     let w = some_width (shape c.args.tree.now) in
-    let b = c.in-Ok-push_fields.ensures.before all n f in
-    struct_before (shape c.args.tree.now) (fields_view c.in-Struct.fields.items) c.in-Struct.field-1.items c.args.readers.now c.push_fields.new.readers all n f (ap shape c.in-Struct.is ∙ shape-Struct c.in-Struct.fields c.in-Struct.field-1) (omega (arith, c.requires, w)) (rw c.deref-then-are_in_place.ensures.value at b) h
+    let b = c.in-Ok-push_members.ensures.before all n f in
+    struct_before (shape c.args.tree.now) (fields_view c.in-Struct.fields.items) c.in-Struct.field-1.items c.args.readers.now c.push_members.new.readers all n f (ap shape c.in-Struct.is ∙ shape-Struct c.in-Struct.fields c.in-Struct.field-1) (omega (arith, c.requires, w)) b h
 
 -- ---- a map
 

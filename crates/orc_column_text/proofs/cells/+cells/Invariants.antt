@@ -1,10 +1,12 @@
-use Rattle.std.proofs.Common.{◌≡◌, ℕ, Bool, ◌+◌, ◌*◌, ◌-◌, length}
+use Rattle.std.proofs.Common.{◌≡◌, ℕ, Bool, ◌+◌, ◌*◌, ◌-◌, drop, length}
 use Rattle.orc_types.specs.Shapes.{width, widths}
 use Rattle.orc_types.specs.Views.{shape, fields as fields_view}
 use Rattle.orc_columns.specs.Columns.{CellsLeft, PairsLeft}
 use Rattle.orc_columns.specs.declared.fault.StripeFault.{StripeFault}
 use Rattle.orc_columns.specs.ReaderFaults.{CellsMeet, PairsMeet}
-use Rattle.orc_row_text.specs.Layouts.{text_by, pair_text, pair_texts}
+use Rattle.orc_row_text.specs.Layouts.{text_by, member_parts, pair_text, pair_texts}
+use Rattle.orc_column_text.specs.Regions.{AreMembersOf}
+use Rattle.orc_column_text.proofs.AnyOrder.{Reading}
 use Rattle.orc_column_text.proofs.Taken.{PrintedSoFar}
 use Rattle.orc_column_text.proofs.cells.+cells.Given as goal
 
@@ -20,8 +22,18 @@ decreases-push_list l = 4 * width (shape l.element.now) + 2
 abbrev pub decreases-push_cells : goal.decreases-push_cells
 decreases-push_cells l = 4 * width (shape l.tree.now) + 1
 
-abbrev pub decreases-push_fields : goal.decreases-push_fields
-decreases-push_fields l = 4 * widths (fields_view l.fields.now) + 2
+abbrev pub decreases-push_members : goal.decreases-push_members
+decreases-push_members l = 4 * widths (fields_view l.fields.now.items) + 2
+
+abbrev pub decreases-push_member : goal.decreases-push_member
+decreases-push_member l = 4 * widths (fields_view l.fields.now.items) + 1
+
+-- some members are printed, and those that are left make the text whole
+abbrev pub invariant-push_members-loop-member : goal.invariant-push_members-loop-member
+invariant-push_members-loop-member l = record {
+  reading : Reading (fields_view l.fields.items) l.initial.readers l.readers (member_parts l.members) (member_parts (drop l.member-index l.members)) l.initial.out.items l.out.items;
+  own : AreMembersOf l.columns.items l.member-index (member_parts (drop l.member-index l.members));
+}
 
 -- those that were taken are in front of what was there, and their text is behind it
 abbrev pub invariant-push_cells-loop-taken : goal.invariant-push_cells-loop-taken
