@@ -188,8 +188,13 @@ fn see_text_end(
 ) -> Result<(), StripeFault> {
     let mut text = Vec::new(alloc);
     match next_text(cursor, layout, &mut text) {
-        Ok(false) if text.is_empty() => Ok(()),
-        Ok(_) => Err(WRONG),
+        Ok(false) => is_empty(&text),
+        Ok(true) => Err(WRONG),
         Err(fault) => Err(refused(cursor, fault)),
     }
+}
+
+/// Nothing was appended.
+fn is_empty(text: &Vec<u8>) -> Result<(), StripeFault> {
+    if text.is_empty() { Ok(()) } else { Err(WRONG) }
 }
