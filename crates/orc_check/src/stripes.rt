@@ -1,17 +1,19 @@
 //! A stripe of a file.
-ghost use Rattle.std.specs.Prelude.{◌≡◌, ◌<◌, ◌≤◌, ◌⊎◌, length, OnOk, IfOk, IfErr, IfSome, IsErrOf};
+ghost use Rattle.std.specs.Prelude.{◌≡◌, ◌≢◌, ◌<◌, ◌≤◌, ◌⊎◌, length, OnOk, IfOk, IfErr, IfSome, IsErrOf};
 ghost use Rattle.orc_file.specs.Stripes.{AllBefore, most_bytes, stripe_at, stripes_length};
 ghost use Rattle.orc_file.specs.FileRows as rows;
 ghost use Rattle.orc_file.specs.FileRows.{StripeRefused};
 ghost use Rattle.orc_file.specs.Tails.{ReadFault};
-ghost use Rattle.orc_file.specs.declared.fault.FileFault.TheVariants.{SourceFailed, OutOfMemory};
+ghost use Rattle.orc_columns.specs.declared.fault.StripeFault.TheVariants as stripe;
+ghost use Rattle.orc_file.specs.declared.fault.FileFault.TheVariants.{Stripe, SourceFailed, OutOfMemory};
 ghost use Rattle.orc_check.specs.Findings.{stripe_told};
 ghost use Rattle.orc_check.specs.Checking.{IsChecked};
 
 use crate::columns::check_columns;
 use crate::finding::Finding;
+use orc_columns::fault::StripeFault;
 use orc_devices::Source;
-use orc_file::{FileFault, Tail, load_stripe, stripe_fault, view_stripe};
+use orc_file::{FileFault, Tail, load_stripe, view_stripe};
 use orc_stats::Stat;
 use orc_wire::Items;
 use std::alloc::Global;
@@ -23,6 +25,17 @@ fn told_of(tail: &Tail, number: usize) -> &[Stat]
     match tail.stripe_stats.as_slice().get(number) {
         Some(told) => told.as_slice(),
         None => &[],
+    }
+}
+
+/// The fault of the stripe with this number.
+fn stripe_fault(number: usize, cause: StripeFault) -> FileFault
+    ensures memory { cause ≡ stripe.OutOfMemory → result ≡ OutOfMemory }
+    ensures either { (result ≡ OutOfMemory) ⊎ ((result ≡ Stripe number cause) × (cause ≢ stripe.OutOfMemory)) }
+{
+    match cause {
+        StripeFault::OutOfMemory => FileFault::OutOfMemory,
+        cause => FileFault::Stripe(number, cause),
     }
 }
 

@@ -16,7 +16,7 @@ pub use orc_devices::{
     Failures, FileSource, RangeFault, Sink, SinkFault, SliceSource, Source, SourceFault, StdSink,
     VecSink, read_range, write_all,
 };
-pub use rows::{load_stripe, stripe_fault, stripe_rows, view_stripe};
+pub use rows::{load_stripe, stripe_rows, view_stripe};
 pub use tail::{
     MOST_BYTES, MOST_ROWS, MOST_STRIPE_ROWS, MOST_STRIPES, Tail, read_tail, stripe_length,
 };

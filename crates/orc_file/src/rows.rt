@@ -2,4 +2,4 @@
 mod loading;
 mod row_reading;
 
-pub use loading::{load_stripe, stripe_fault, stripe_rows, view_stripe};
+pub use loading::{load_stripe, stripe_rows, view_stripe};

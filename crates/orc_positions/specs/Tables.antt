@@ -1,5 +1,5 @@
 -- The runs of a stream, in which positions are looked up (ORC specification, "Row Group Index").
-use Rattle.std.specs.Prelude.{◌≡◌, ℕ, ◌<◌, ◌^◌, List, [], length}
+use Rattle.std.specs.Prelude.{◌≡◌, ℕ, ℤ, ◌<◌, ◌^◌, List, [], length}
 use Rattle.orc_rle.specs.ByteRun.{IsByteRun, NoByteRun}
 use Rattle.orc_rle.specs.Stream.{IsStream, StopsWithin}
 use Rattle.orc_rle.specs.declared.fault.RunFault.{RunFault}

@@ -38,11 +38,6 @@ abbrev pub CountsDown : RowCursor → RowCursor → Option (Option Value) → Ty
 CountsDown before after None = after.left ≡ before.left
 CountsDown before after (Some row) = before.left ≡ after.left + 1
 
--- the same of an answer that says whether there was a row
-abbrev pub CountsDownWhere : RowCursor → RowCursor → Bool → Type 0
-CountsDownWhere before after false = after.left ≡ before.left
-CountsDownWhere before after true = before.left ≡ after.left + 1
-
 -- a fault of what is left of the columns' streams, which are to give as many rows as the cursor has left
 abbrev pub MeetsFault : RowCursor → StripeFault → Type 0
 MeetsFault c f = (all : Bool) × CellsMeet (shape c.tree.now) c.readers.items all c.left f

@@ -1,6 +1,7 @@
 pub mod Opening
 pub mod Opened
 pub mod Cursors
+pub mod TextCursors
 pub mod RowIndexes
 pub mod GroupCursors
 pub mod IndexTexts

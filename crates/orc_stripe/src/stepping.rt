@@ -6,7 +6,8 @@ ghost use Rattle.orc_row_text.specs.Layouts.{text_by};
 ghost use Rattle.orc_column_text.specs.Taken.{GaveText, GivesText};
 ghost use Rattle.orc_columns.specs.declared.fault.StripeFault.{StripeFault as Fault};
 ghost use Rattle.orc_columns.specs.declared.fault.StripeFault.TheVariants.{OutOfMemory, Failed};
-ghost use Rattle.orc_stripe.specs.Cursors.{HasRefused, IsGoing, StandsFor, Gives, Gave, CountsDown, CountsDownWhere, MeetsFault};
+ghost use Rattle.orc_stripe.specs.TextCursors.{CountsDownWhere};
+ghost use Rattle.orc_stripe.specs.Cursors.{HasRefused, IsGoing, StandsFor, Gives, Gave, CountsDown, MeetsFault};
 
 use crate::cursor::RowCursor;
 use orc_column_text::push_next;

@@ -7,7 +7,8 @@ use Rattle.orc_index.specs.RowIndex.{IsWrittenIndex}
 use Rattle.orc_written.specs.declared.body.Body.{Body}
 use Rattle.orc_written.specs.Firsts.{firsts_of}
 use Rattle.orc_written.specs.Groups.{starts, bounds_of}
-use Rattle.orc_written.specs.Indexes.{streams_written, index_line, index_lines, index_bytes, HaveIndexes, AddsIndex, AddsIndexIf}
+use Rattle.orc_written.specs.IndexSteps.{AddsIndexIf}
+use Rattle.orc_written.specs.Indexes.{streams_written, index_line, index_lines, index_bytes, HaveIndexes, AddsIndex}
 use Rattle.orc_written.specs.WrittenColumn.{Written}
 use Rattle.orc_written.specs.WrittenStripe.{indexed_columns}
 use Rattle.orc_written.proofs.WrittenReads.{column_at, there}

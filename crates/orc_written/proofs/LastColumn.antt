@@ -15,7 +15,8 @@ use Rattle.orc_columns.specs.Stripe.{IsColumn}
 use Rattle.orc_written.specs.Adding.{AddsColumn}
 use Rattle.orc_written.specs.Firsts.{firsts_of}
 use Rattle.orc_written.specs.Groups.{bounds_of}
-use Rattle.orc_written.specs.Indexes.{streams_written, HaveIndexes, AddsIndexIf}
+use Rattle.orc_written.specs.IndexSteps.{AddsIndexIf}
+use Rattle.orc_written.specs.Indexes.{streams_written, HaveIndexes}
 use Rattle.orc_written.specs.Subtrees.{HasWritten}
 use Rattle.orc_written.specs.WrittenColumn.{Written}
 use Rattle.orc_written.specs.WrittenStripe.{column_bytes, column_lines, indexed_columns, column_stat, HaveStats}

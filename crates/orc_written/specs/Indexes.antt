@@ -1,12 +1,15 @@
 -- The row indexes of a stripe's columns as they are written: one a column, in front of the streams of data (ORC
 -- specification, "Stripes", "Row Group Index").
-use Rattle.std.specs.Prelude.{◌≡◌, ℕ, zero, suc, Some, List, [], ◌∷◌, ◌++◌, length, slice_get}
+use Rattle.std.specs.Prelude.{◌≡◌, ℕ, zero, suc, ◌+◌, ◌<◌, Some, List, [], ◌∷◌, ◌++◌, length, slice_get}
 use Rattle.std.specs.List.{flat_map}
 use Rattle.orc_wire.specs.declared.stripe_footer.StreamMsg.{StreamMsg}
-use Rattle.orc_types.specs.Cells.{Cell}
-use Rattle.orc_types.specs.Columns.{cells}
-use Rattle.orc_types.specs.Shapes.{Shape, shape_at}
-use Rattle.orc_columns.specs.Stripe.{Streams}
+use Rattle.orc_wire.specs.declared.stripe_footer.StripeFooter.{StripeFooter}
+use Rattle.orc_types.specs.Cells.{Cell, keys_in, values_in, values}
+use Rattle.orc_types.specs.Columns.{cells, cells_within}
+use Rattle.orc_types.specs.Shapes.{Shape, Fields, width, widths, shape_at, shape_within}
+use Rattle.orc_columns.specs.Starting.{AreStreams}
+use Rattle.orc_columns.specs.Stripe.{Streams, IsColumn, columns_of}
+use Rattle.orc_columns.specs.declared.starting.ColumnStreams.{ColumnStreams}
 use Rattle.orc_index.specs.RowIndex.{IsWrittenIndex}
 use Rattle.orc_written.specs.declared.body.Body.{Body}
 use Rattle.orc_written.specs.Groups.{bounds_of}
@@ -57,7 +60,34 @@ pub record AddsIndex (is_text : List ℕ → Type 0) (old new : Body) : Type 0 w
   pub bytes : new.bytes.items ≡ old.bytes.items ++ text
   pub directory : new.directory.items ≡ old.directory.items ++ index_line (length old.directory.items) text ∷ []
 
--- one more index, where there is a stride
-abbrev pub AddsIndexIf : ℕ → (List ℕ → Type 0) → Body → Body → Type 0
-AddsIndexIf zero is_text old new = new ≡ old
-AddsIndexIf (suc k) is_text old new = AddsIndex is_text old new
+-- the streams of all columns, as they are found
+pub record AreAllStreams (footer : StripeFooter) (bytes : List ℕ) (streams : List ColumnStreams) : Type 0 where
+  pub counted : length streams ≡ length footer.columns
+  pub each : (c : ℕ) (r : ColumnStreams) → slice_get streams c ≡ Some r → AreStreams (columns_of footer bytes c) r
+
+-- they are those that were written
+pub record AreAsWritten (columns : List Written) (streams : List ColumnStreams) : Type 0 where
+  pub counted : length columns ≡ length streams
+  pub each : (c : ℕ) (w : Written) (r : ColumnStreams)
+      → slice_get columns c ≡ Some w → slice_get streams c ≡ Some r
+      → AreStreams (streams_written w) r
+
+-- the streams of column c are there, and spell these cells
+abbrev pub SpellColumn : List ColumnStreams → ℕ → Shape → List Cell → Type 0
+SpellColumn streams c t column =
+    (r : ColumnStreams) × (slice_get streams c ≡ Some r) × (x : Streams) × AreStreams x r × IsColumn t x column
+
+-- those of the columns from number c on spell the cells of t's
+abbrev pub SpellFrom : List ColumnStreams → ℕ → Shape → List Cell → Type 0
+SpellFrom streams c t column = (d : ℕ) → d < width t → SpellColumn streams (c + d) (shape_at t d) (cells t d column)
+
+-- the same of the keys of maps, and behind them of their values
+abbrev pub SpellPairsFrom : List ColumnStreams → ℕ → Shape → Shape → List Cell → Type 0
+SpellPairsFrom streams c k v maps =
+    SpellFrom streams c k (flat_map keys_in (values maps))
+    × SpellFrom streams (c + width k) v (flat_map values_in (values maps))
+
+-- the same of the fields of structs
+abbrev pub SpellFieldsFrom : List ColumnStreams → ℕ → Fields → List (List Cell) → Type 0
+SpellFieldsFrom streams c fs structs =
+    (d : ℕ) → d < widths fs → SpellColumn streams (c + d) (shape_within fs d) (cells_within fs d structs)

@@ -7,6 +7,7 @@ pub mod WrittenColumn
 pub mod Groups
 pub mod Firsts
 pub mod Indexes
+pub mod IndexSteps
 pub mod WrittenStripe
 pub mod Adding
 pub mod Subtrees

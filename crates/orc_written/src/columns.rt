@@ -16,7 +16,7 @@ ghost use Rattle.orc_index.specs.Bounds.{AreBounds};
 ghost use Rattle.orc_index.specs.RowIndex.{IsWrittenIndex};
 ghost use Rattle.orc_written.specs.Firsts.{firsts_of};
 ghost use Rattle.orc_written.specs.Groups.{bounds_of, AreGroupsFrom, ArePairGroupsFrom, AreFieldGroupsFrom};
-ghost use Rattle.orc_written.specs.Indexes.{AddsIndexIf};
+ghost use Rattle.orc_written.specs.IndexSteps.{AddsIndexIf};
 ghost use Rattle.orc_written.specs.WrittenStripe.{AreFew};
 ghost use Rattle.orc_written.specs.Subtrees.{AreColumnsFrom, ArePairsFrom, AreFieldsFrom, PairsFit, FieldsFit, PairsAreFew, FieldsAreFew, HasWritten};
 

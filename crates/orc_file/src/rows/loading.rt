@@ -20,8 +20,8 @@ use orc_stripe::{StripeFault, StripeView};
 use orc_types::Row;
 use std::alloc::Global;
 
-/// The fault of a file for that of its stripe with this number: `OutOfMemory` stays itself, any other names the stripe.
-pub fn stripe_fault(number: usize, cause: StripeFault) -> FileFault
+/// The fault of the stripe with this number.
+fn stripe_fault(number: usize, cause: StripeFault) -> FileFault
     ensures memory { cause ≡ stripe.OutOfMemory → result ≡ OutOfMemory }
     ensures either { (result ≡ OutOfMemory) ⊎ ((result ≡ Stripe number cause) × (cause ≢ stripe.OutOfMemory)) }
 {

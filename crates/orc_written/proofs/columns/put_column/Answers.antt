@@ -2,7 +2,8 @@ use Rattle.std.proofs.Common.{◌≡◌, ℕ, length, drop, ◌∙◌, subst, ar
 use Rattle.orc_types.specs.Views.{shape}
 use Rattle.orc_types.specs.Lent.{lent_cells}
 use Rattle.orc_index.specs.RowIndex.{IsWrittenIndex}
-use Rattle.orc_written.specs.Indexes.{AddsIndexIf, streams_written}
+use Rattle.orc_written.specs.IndexSteps.{AddsIndexIf}
+use Rattle.orc_written.specs.Indexes.{streams_written}
 use Rattle.orc_written.specs.WrittenStripe.{column_bytes, column_lines}
 use Rattle.orc_written.proofs.LastColumn.{bytes_behind, lines_behind, room_alone, column_spelled, one_more_column}
 use Rattle.orc_written.proofs.SubtreeLemmas.{written_count}
