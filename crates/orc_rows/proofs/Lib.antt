@@ -2,3 +2,4 @@ pub mod RowsLemmas
 mod CursorLemmas
 mod StartLemmas
 mod GroupLemmas
+mod PieceLemmas

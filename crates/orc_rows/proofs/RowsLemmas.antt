@@ -21,9 +21,10 @@ use Rattle.orc_file.specs.declared.fault.FileFault.TheVariants.{Stripe}
 use Rattle.orc_types.specs.declared.json_fault.JsonFault.TheVariants as json
 use Rattle.orc_file.specs.FileRows.{stripe_bytes, joined, HasRows, IsNoStripe, FileIs, AreOfStripes as RowsOfStripes}
 use Rattle.orc_file.specs.declared.tail.Tail.{Tail}
-use Rattle.orc_output.specs.Output.{IsOutsideFile, IsWantOfMemory}
+use Rattle.orc_output.specs.Output.{write_failed, IsOutsideFile, IsWantOfMemory}
 use Rattle.orc_output.proofs.OutputLemmas.{appends_more}
-use Rattle.orc_rows.specs.Rows.{row_line, row_lines, HaveJson, AreOfStripe, AreOfStripes, HasNoJson, StripeStops, EndsAt, EndsIn}
+use Rattle.orc_rows.specs.Rows.{row_line, row_lines, HaveJson, AreOfStripe, AreOfStripes, HasNoJson, IsFrontOut, StripeStops, EndsAt, EndsIn}
+use Rattle.orc_rows.specs.Pieces.{IsPrinted, EndsWithin}
 use Rattle.orc_rows.specs.Printed.{IsAsked, IsNotAsked, AreLines, ArePrinted, Ends, Stops, RefusesFile}
 use Rattle.orc_rows.specs.declared.start.Start.{Start}
 use Rattle.orc_output.specs.declared.fault.CliFault.{CliFault}
@@ -113,12 +114,32 @@ printed_all (Some all) s infos first n old new e p =
 
 -- ---- where printing ends
 
+-- a part of a stripe's lines is out, where the output failed, or a front of whole lines, where memory was refused
+abbrev pub EndsAmong : Shape → StripeInfo → List ℕ → List ℕ → Option (List ℕ) → Option (List ℕ) → CliFault → Type 0
+EndsAmong s info bytes before old new fault =
+    ((fault ≡ write_failed) × ((own : List ℕ) × AreOfStripe s info bytes own × ((count : ℕ) × (count < length own) × Appends old new (before ++ take count own))))
+    ⊎ (IsWantOfMemory fault × IsFrontOut s info bytes before old new)
+
+ends_own : (s : Shape) (info : StripeInfo) (bytes lines : List ℕ) (old mid new : Option (List ℕ)) (fault : CliFault) → Appends old mid lines → EndsAmong s info bytes [] mid new fault
+    → EndsAmong s info bytes lines old new fault
+ends_own s info bytes lines old mid new fault p (inl h) = inl (h.0, (h.1.0, h.1.1, (h.1.2.0, h.1.2.1, appends_more old mid new lines (take h.1.2.0 h.1.0) p h.1.2.2)))
+ends_own s info bytes lines old mid new fault p (inr h) = inr (
+  h.0,
+  record {
+    front = h.1.front;
+    rest = h.1.rest;
+    stripe = h.1.stripe;
+    distinct = h.1.distinct;
+    out = appends_more old mid new lines (row_lines s h.1.front) p h.1.out;
+  },
+)
+
 ends_behind : (s : Shape) (bytes : List ℕ) (n : ℕ) (info : StripeInfo) (lines : List ℕ) (old mid new : Option (List ℕ)) (fault : CliFault) → Appends old mid lines
     → EndsAt s bytes n info [] mid new fault → EndsAt s bytes n info lines old new fault
 ends_behind s bytes n info lines old mid new fault p (inl h) =
     inl (h.0, subst (λ (t : List ℕ). Appends old new t) (append-nil lines) (appends_more old mid new lines [] p h.1))
 ends_behind s bytes n info lines old mid new fault p (inr h) =
-    inr (h.0, (h.1.0, h.1.1, (h.1.2.0, h.1.2.1, appends_more old mid new lines (take h.1.2.0 h.1.0) p h.1.2.2)))
+    inr (ends_own s info (stripe_bytes info bytes) lines old mid new fault p h)
 
 pub ends_in : (told : Option (List ℕ)) (tail : Tail) (first n : ℕ) (old mid new : Option (List ℕ)) (fault : CliFault) → first ≤ n → n < length tail.stripes → Printed told tail.schema tail.stripes first n old mid
     → IfSome told (λ all. EndsAt tail.schema all n (stripe_at tail.stripes n) [] mid new fault) → IfSome told (λ all. EndsIn all tail first old new fault)
@@ -132,18 +153,21 @@ ends_in (Some all) tail first n old mid new fault le lt p h = record {
   ends = ends_behind tail.schema all n (stripe_at tail.stripes n) p.0 old mid new fault p.2 h;
 }
 
--- printing ends at a stripe whose bytes are at hand and have no lines, with nothing of it out
-pub lines_refused : (told : Option (List ℕ)) (s : Shape) (n : ℕ) (info : StripeInfo) (bytes : List ℕ) (known : Option (List ℕ)) (fault : CliFault)
-    → IfSome told (λ all. bytes ≡ stripe_bytes info all)
-    → IsWantOfMemory fault ⊎ (((why : StripeFault) × (fault ≡ File (Stripe n why)) × (why ≢ stripe.OutOfMemory) × IsNoStripe s info bytes why)
-    ⊎ ((fault ≡ Json json.DuplicateField) × HasNoJson s info bytes))
-    → IfSome told (λ all. EndsAt s all n info [] known known fault)
-lines_refused None s n info bytes known fault is h = tt
-lines_refused (Some all) s n info bytes known fault is (inl memory) = inl (inr (inr memory), appends_none known)
-lines_refused (Some all) s n info bytes known fault is (inr (inl h)) =
-    inl (inl (inl (Stripe n h.0, h.1, (h.0, refl, h.2, subst (λ (b : List ℕ). IsNoStripe s info b h.0) is h.3))), appends_none known)
-lines_refused (Some all) s n info bytes known fault is (inr (inr h)) =
-    inl (inl (inr (h.0, subst (λ (b : List ℕ). HasNoJson s info b) is h.1)), appends_none known)
+-- printing ends at a stripe whose bytes are at hand
+pub ends_loaded : (told : Option (List ℕ)) (s : Shape) (n : ℕ) (info : StripeInfo) (bytes : List ℕ) (old new : Option (List ℕ)) (fault : CliFault)
+    → IfSome told (λ all. bytes ≡ stripe_bytes info all) → EndsWithin s info bytes n old new fault → IfSome told (λ all. EndsAt s all n info [] old new fault)
+ends_loaded None s n info bytes old new fault is h = tt
+ends_loaded (Some all) s n info bytes old new fault is (inl (inl memory, out)) = inl (inr (inr memory), out)
+ends_loaded (Some all) s n info bytes old new fault is (inl (inr (inl h), out)) =
+    inl (inl (inl (Stripe n h.0, h.1, (h.0, refl, h.2, subst (λ (b : List ℕ). IsNoStripe s info b h.0) is h.3))), out)
+ends_loaded (Some all) s n info bytes old new fault is (inl (inr (inr h), out)) =
+    inl (inl (inr (h.0, subst (λ (b : List ℕ). HasNoJson s info b) is h.1)), out)
+ends_loaded (Some all) s n info bytes old new fault is (inr h) = inr (subst (λ (b : List ℕ). EndsAmong s info b [] old new fault) is h)
+
+pub printed_loaded : (told : Option (List ℕ)) (s : Shape) (info : StripeInfo) (bytes : List ℕ) (old new : Option (List ℕ)) → IfSome told (λ all. bytes ≡ stripe_bytes info all) → IsPrinted s info bytes old new
+    → IfSome told (λ all. (own : List ℕ) × AreOfStripe s info (stripe_bytes info all) own × Appends old new own)
+printed_loaded None s info bytes old new is h = tt
+printed_loaded (Some all) s info bytes old new is h = (h.0, subst (λ (b : List ℕ). AreOfStripe s info b h.0) is h.1, h.2)
 
 -- ---- a file
 
@@ -222,7 +246,8 @@ ends_outside bytes tail first rows old new fault p have h (inl q) = elim q.0 [
   | inl stops ↦ absurd (stops_nowhere tail.schema bytes tail.stripes h.n rows fault h.some p have stops)
   | inr source ↦ inr source
 ]
-ends_outside bytes tail first rows old new fault p have h (inr q) = inl q.0
+ends_outside bytes tail first rows old new fault p have h (inr (inl q)) = inl q.0
+ends_outside bytes tail first rows old new fault p have h (inr (inr q)) = inr (inr q.0)
 
 refuses_outside : (bytes : List ℕ) (tail : Tail) (rows : List Cell) (old new : Option (List ℕ)) (fault : CliFault) → FileIs bytes tail rows → HaveJson tail.schema rows → RefusesFile bytes None old new fault
     → IsOutsideFile fault

@@ -14,6 +14,7 @@ ghost use Rattle.orc_output.specs.Output.{IsWantOfMemory};
 ghost use Rattle.orc_output.specs.declared.fault.CliFault.TheVariants.{File};
 ghost use Rattle.orc_rows.specs.FromGroup.{AreFromGroup, AreLinesFrom, StopsAtGroup, EndsAtGroup};
 
+use crate::faults::fault_of;
 use crate::lines::lines_of;
 use crate::start::Start;
 use orc_file::{FileFault, OrcFile, Source, Tail, view_stripe};
@@ -34,17 +35,6 @@ fn all_fit(schema: &Schema, rows: &[Row<'_>]) -> bool
         }
     }
     true
-}
-
-/// The fault of the stripe with this number.
-fn fault_of(number: usize, why: StripeFault) -> FileFault
-    ensures { ((why ≡ stripe.OutOfMemory) × (result ≡ OutOfMemory))
-        ⊎ ((why ≢ stripe.OutOfMemory) × (result ≡ Stripe number why)) }
-{
-    match why {
-        StripeFault::OutOfMemory => FileFault::OutOfMemory,
-        why => FileFault::Stripe(number, why),
-    }
 }
 
 /// The rows of the stripe with this number from a group on, over its bytes.

@@ -1,8 +1,11 @@
 //! A file's rows as lines of JSON.
 #![tactic(auto)]
 
+mod faults;
 mod from_group;
+mod judging;
 mod lines;
+mod pieces;
 mod printing;
 mod rows;
 mod start;

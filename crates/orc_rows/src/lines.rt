@@ -1,18 +1,15 @@
-//! The lines of rows: of rows that are there, or of each one as it is read.
-ghost use Rattle.std.specs.Prelude.{◌≡◌, ◌≢◌, ◌<◌, ◌++◌, ◌⊎◌, [], length, IfOk, OnOk, IfErr, IfSome, true, false};
+//! The lines of rows that are there.
+ghost use Rattle.std.specs.Prelude.{◌≡◌, ◌≢◌, ◌++◌, ◌⊎◌, [], IfOk, OnOk, IfErr, true, false};
 ghost use Rattle.orc_types.specs.FieldNames.{is_distinct};
 ghost use Rattle.orc_types.specs.Fits.{RowsFit, fits};
 ghost use Rattle.orc_types.specs.Views.{view, views};
 ghost use Rattle.orc_types.specs.declared.json_fault.JsonFault.TheVariants as json;
-ghost use Rattle.orc_file.specs.Stripes.{stripe_at};
 ghost use Rattle.orc_output.specs.Output.{IsWantOfMemory};
 ghost use Rattle.orc_output.specs.declared.fault.CliFault.TheVariants.{Json};
-ghost use Rattle.orc_rows.specs.Rows.{row_line, row_lines, HaveJson, AreLinesBehind, AreOfStripe};
+ghost use Rattle.orc_rows.specs.Rows.{row_line, row_lines, HaveJson};
 
-use orc_file::{Tail, view_stripe};
 use orc_output::CliFault;
 use orc_row_text::RowPrinter;
-use orc_stripe::RowCursor;
 use orc_types::Row;
 use std::alloc::Global;
 
@@ -52,40 +49,4 @@ pub(crate) fn lines_of(
         push_line(alloc, printer, row, &mut lines)?;
     }
     Ok(lines)
-}
-
-/// The lines of the rows that a cursor has still to give, each made straight from the readers of its columns; none where
-/// anything refuses them, or where a struct of the schema names a field twice.
-fn lines_behind(alloc: Global, printer: &RowPrinter, cursor: &mut RowCursor<'_>) -> Option<Vec<u8>>
-    ensures { IfSome result (λ lines. AreLinesBehind printer.now cursor.old lines.items) }
-{
-    let layout = printer.layout()?;
-    let mut lines = Vec::new(alloc);
-    for _ in 0..u64::MAX {
-        match cursor.push_next(layout, &mut lines) {
-            Ok(true) => lines.extend_from_slice(b"\n").ok()?,
-            Ok(false) => return Some(lines),
-            Err(_) => return None,
-        }
-    }
-    None
-}
-
-/// The lines of the stripe with this number, over its bytes, without its rows being held; none where anything refuses
-/// them.
-pub(crate) fn lines_row_by_row(
-    alloc: Global,
-    printer: &RowPrinter,
-    tail: &Tail,
-    number: usize,
-    bytes: &[u8],
-) -> Option<Vec<u8>>
-    requires there { number < length tail.now.stripes }
-    requires of_schema { printer.now ≡ tail.now.schema }
-    ensures { IfSome result (λ lines.
-        AreOfStripe tail.now.schema (stripe_at tail.now.stripes number) bytes.now lines.items) }
-{
-    let view = view_stripe(alloc, tail, number, bytes).ok()?;
-    let mut cursor = view.cursor(alloc).ok()?;
-    lines_behind(alloc, printer, &mut cursor)
 }

@@ -154,15 +154,17 @@ fn print_file<S: Source, W: Write>(
 /// Prints a line for each row of a file, in order: the row's JSON without blanks. A text such as `2:0` names a stripe
 /// and a group of it, from which on rows are printed: those of that stripe from the group's first row on, and those of
 /// all stripes behind it. What stands in the stripes before has no part in the answer. A stripe's lines are written
-/// once all of them are there, so after a refusal in a stripe the lines of those before it stand, and no others. The
-/// bytes of one stripe and its lines are held at a time. The source is handed back.
+/// once it is known to have rows: 8 MiB of them, and the line that passes these, are held until its end is seen; where
+/// it has more, all its columns are read first, and then its lines are written as they are made. So after a refusal in a
+/// stripe the lines of those before it stand, and no others. The bytes of one stripe and so many of its lines are held
+/// at a time; of the stripe where reading begins at a group, all of them. The source is handed back.
 ///
 /// Refusals, in this order: `Json` with `Syntax` where the text names no place, before the source is read; `File`
 /// where the bytes are no file; `File` with `BadStripe` where the stripe isn't there; then, stripe by stripe, `File`
 /// with `Stripe` where the stripe has no rows, or no such group, or isn't read from its positions on, and `Json` with
 /// `DuplicateField` where it has rows and a struct of the schema names a field twice. Beside these `File` with
 /// `WriteFailed` and a part of a stripe's lines written, `SourceFailed` where the source failed, or `OutOfMemory`,
-/// which a layer below may answer too.
+/// which a layer below may answer too, and before which some whole lines of a good stripe may be out.
 pub fn rows_to<S: Source, W: Write>(
     alloc: Global,
     source: S,
