@@ -29,7 +29,9 @@ use Rattle.orc_check.specs.declared.finding.Finding.{Finding}
 use Rattle.orc_check.specs.declared.finding.Finding.TheVariants.{IndexEntries}
 use Rattle.orc_check.specs.declared.open_stripe.OpenStripe.{OpenStripe}
 use Rattle.orc_check.specs.Findings.{Adds, OfEach, OfGroup, OfGroups, OfIndex}
+use Rattle.orc_check.specs.Needed.{MayBeWhole}
 use Rattle.orc_check.specs.Walking.{IsLaidOut, AreGroups, AreGroupsFound}
+use Rattle.orc_check.proofs.EntryBytes.{whole_has_room}
 use Rattle.orc_check.proofs.GroupBounds.{get_or_any, bounds_long}
 
 pub groups_found : (view : Opened) (n : ℕ) (rows : List Cell) (c : ℕ) (message : RowIndexMsg) (a b : List Finding) → 0 < view.stride → HasIndex view.footer view.bytes c message → IsWhole view (length rows) message
@@ -88,6 +90,15 @@ counted_before s column bounds groups counts are is g k h =
     let found = mapped_get groups g k (ap (λ ks. slice_get ks g) (sym is) ∙ h) in subst (λ (n : Counts). AreCounted n (before_group column bounds g)) found.2 (are g found.0 found.1).before
 
 -- ---- what is found
+
+-- too few bytes for an entry of each group
+pub too_short : (stripe : OpenStripe) (rows : List Cell) (c : ℕ) (a b : List Finding) → (MayBeWhole stripe.view.now c → ⊥) → b ≡ a ++ IndexEntries stripe.number c ∷ [] → 0 < stripe.view.now.stride → length rows ≡ stripe.view.now.info.number_of_rows
+    → Adds (OfIndex stripe.view.now stripe.number rows c) a b
+too_short stripe rows c a b short e some all = (
+  IndexEntries stripe.number c ∷ [],
+  inr (some, inl ((λ message has whole. short (whole_has_room stripe.view.now c (length rows) message some all has whole)), refl)),
+  e,
+)
 
 -- no message
 pub none_there : (stripe : OpenStripe) (rows : List Cell) (c : ℕ) (text : IndexText) (a b : List Finding) → IsLaidOut stripe → c < width stripe.view.now.schema → text ≡ get_or stripe.texts.items c text

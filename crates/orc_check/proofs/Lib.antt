@@ -6,6 +6,8 @@ mod CheckLemmas
 mod WholeLemmas
 mod CellLemmas
 mod GroupBounds
+mod NeededLemmas
+mod EntryBytes
 mod IndexFound
 mod OneList
 mod EachFinding

@@ -21,6 +21,7 @@ use Rattle.orc_columns.specs.Located.{AreLocated}
 use Rattle.orc_columns.specs.Stripe.{Streams, HasFooter, IsStripe, SpellRows, columns_of, cell_limit}
 use Rattle.orc_columns.specs.declared.fault.StripeFault.{StripeFault}
 use Rattle.orc_columns.specs.declared.fault.StripeFault.TheVariants.{TooMany}
+use Rattle.orc_columns.proofs.Arms.{some_width}
 use Rattle.orc_index.specs.Bounds.{AreBounds, bound_at, elements_before, pairs_before, values_before}
 use Rattle.orc_index.proofs.Groups.{element_bounds_are, field_bounds_are, keys_long, map_values_long}
 use Rattle.orc_column_walk.specs.ColumnFound.{IsColumnFound, bounds_below}
@@ -30,11 +31,11 @@ use Rattle.orc_column_walk.specs.OwnLeft.{children}
 use Rattle.orc_column_walk.specs.declared.found.ColumnFound.{ColumnFound}
 use Rattle.orc_column_walk.proofs.OwnRows.{down_rows}
 use Rattle.orc_column_walk.proofs.RefusedLemmas.{refused_rows}
-use Rattle.orc_column_walk.proofs.TreeLemmas.{OwnRead, FieldsRead, too_many_rows}
+use Rattle.orc_column_walk.proofs.TreeLemmas.{FieldsRead, too_many_rows}
 use Rattle.orc_column_walk.proofs.FoundLemmas.{found_of_rows}
 use Rattle.orc_written.specs.Groups.{group_count, starts, bounds_of, AreGroupsFrom, AreFieldGroupsFrom}
 use Rattle.orc_written.specs.Subtrees.{AreColumnsFrom, AreFieldsFrom}
-use Rattle.orc_written.proofs.GroupLemmas.{bounds_here, groups_at_root, groups_element, groups_pairs, groups_fields, groups_first, groups_others, heads_long, pair_bounds_are, starts_are_bounds}
+use Rattle.orc_written.proofs.GroupLemmas.{bounds_here, groups_at_root, groups_element, groups_pairs, groups_fields, groups_first, groups_others, heads_long, pair_bounds_are}
 use Rattle.orc_written.proofs.SubtreeLemmas.{type_from, cells_from, all_columns_from, element_from, pairs_from, fields_from, first_from, others_from, fields_at, none_after, nothing_dropped, dropped_more}
 use Rattle.orc_stripe.specs.Opened.{Opened}
 use Rattle.orc_check.specs.declared.columns.CellGroups.{CellGroups}
@@ -42,21 +43,19 @@ use Rattle.orc_check.specs.declared.finding.Finding.{Finding}
 use Rattle.orc_check.specs.declared.open_stripe.OpenStripe.{OpenStripe}
 use Rattle.orc_check.specs.Checking.{HaveKnown}
 use Rattle.orc_check.specs.Findings.{Adds, OfEach, OfColumn}
-use Rattle.orc_check.specs.Walking.{IsLaidOut, firsts, SpellsRows, AreGrouped, ComesNext, FieldsComeNext, AreBelow, AreGroups, IsFoundInRows, AreColumnsChecked}
+use Rattle.orc_check.specs.Needed.{NeedGroups}
+use Rattle.orc_check.specs.Walking.{IsLaidOut, SpellsRows, AreGrouped, ComesNext, FieldsComeNext, AreBelow, AreGroups, AreGroupsFound, IsFoundInRows, AreColumnsChecked}
+use Rattle.orc_check.proofs.NeededLemmas.{need_within, need_here}
 use Rattle.orc_check.proofs.ReportLemmas.{adds_none, adds_next}
 use Rattle.orc_check.proofs.ToldLemmas.{more_known}
 
 -- ---- the rows with which groups begin
 
-pub firsts_are : (stride rows : ℕ) → 0 < stride → firsts stride rows ≡ starts stride rows
-firsts_are zero rows lt = absurd (omega (arith, lt))
-firsts_are (suc n) rows lt = refl
-
-one_group : (rows : ℕ) → AreBounds rows (0 ∷ [])
+pub one_group : (rows : ℕ) → AreBounds rows (0 ∷ [])
 one_group rows zero = omega arith
 one_group rows (suc g) = omega arith
 
-first_start : (stride rows : ℕ) → 0 < stride → bound_at rows (starts stride rows) 0 ≡ 0
+pub first_start : (stride rows : ℕ) → 0 < stride → bound_at rows (starts stride rows) 0 ≡ 0
 first_start stride rows some = by (group_count stride rows) refl
   where
     by : (n : ℕ) → group_count stride rows ≡ n → bound_at rows (starts stride rows) 0 ≡ 0
@@ -66,18 +65,6 @@ first_start stride rows some = by (group_count stride rows) refl
         let z : rows ≡ 0 = omega (arith, none) in
         ap (λ (n : ℕ). get_or (map (λ (g : ℕ). g * stride) (range_with_len 0 n)) 0 rows) e ∙ z
     by (suc n) e = let z : 0 * stride ≡ 0 = omega arith in ap (λ (m : ℕ). get_or (map (λ (g : ℕ). g * stride) (range_with_len 0 m)) 0 rows) e ∙ z
-
-pub firsts_grouped : (stride : ℕ) (groups : CellGroups) → groups.count < cell_limit → groups.bounds.items ≡ firsts stride groups.count → AreGrouped groups
-firsts_grouped zero groups few is = record {
-  few = few;
-  ascending = subst (λ (bs : List ℕ). AreBounds groups.count bs) (sym is) (one_group groups.count);
-  first = ap (λ (bs : List ℕ). bound_at groups.count bs 0) is;
-}
-firsts_grouped (suc n) groups few is = record {
-  few = few;
-  ascending = subst (λ (bs : List ℕ). AreBounds groups.count bs) (sym is) (starts_are_bounds (suc n) groups.count (omega arith));
-  first = ap (λ (bs : List ℕ). bound_at groups.count bs 0) is ∙ first_start (suc n) groups.count (omega arith);
-}
 
 -- where there is no column below, nothing comes before a group
 none_at : (bounds : List ℕ) (g : ℕ) → bound_at 0 (map (λ b. 0) bounds) g ≡ 0
@@ -105,15 +92,15 @@ first_goes_down (map_of k v o) (c ∷ cs) bounds h = first_by (pairs_before (c �
 first_goes_down (struct_of fs o) [] bounds h = first_by (values_before []) 0 0 bounds refl (λ e. e) h
 first_goes_down (struct_of fs o) (c ∷ cs) bounds h = first_by (values_before (c ∷ cs)) (length (c ∷ cs)) (length (values (c ∷ cs))) bounds refl (λ e. absurd (omega (arith, e))) h
 
-pub below_grouped : (s : Shape) (own : List Cell) (groups below : CellGroups) → AreGrouped groups → length own ≡ groups.count → AreBelow s own groups below → below.count < cell_limit → AreGrouped below
-below_grouped s own groups below h many is few =
-    let bs = groups.bounds.items in
-    let rising : AreBounds (length own) bs = subst (λ (n : ℕ). AreBounds n bs) (sym many) h.ascending in
-    let begins : bound_at (length own) bs 0 ≡ 0 = ap (λ (n : ℕ). bound_at n bs 0) many ∙ h.first in
+pub below_grouped : (s : Shape) (own : List Cell) (n : ℕ) (bs : List ℕ) (below : CellGroups) → AreBounds n bs → bound_at n bs 0 ≡ 0 → length own ≡ n → below.count ≡ children s (values own) → below.bounds.items ≡ bounds_below s own bs
+    → below.count < cell_limit → AreGrouped below
+below_grouped s own n bs below ascending first many counted bounded few =
+    let rising : AreBounds (length own) bs = subst (λ (m : ℕ). AreBounds m bs) (sym many) ascending in
+    let begins : bound_at (length own) bs 0 ≡ 0 = ap (λ (m : ℕ). bound_at m bs 0) many ∙ first in
     record {
       few = few;
-      ascending = subst (λ (xs : List ℕ). AreBounds below.count xs) (sym is.1) (subst (λ (n : ℕ). AreBounds n (bounds_below s own bs)) (sym is.0) (bounds_go_down s own bs rising));
-      first = ap (λ (xs : List ℕ). bound_at below.count xs 0) is.1 ∙ ap (λ (n : ℕ). bound_at n (bounds_below s own bs) 0) is.0 ∙ first_goes_down s own bs begins;
+      ascending = subst (λ (xs : List ℕ). AreBounds below.count xs) (sym bounded) (subst (λ (m : ℕ). AreBounds m (bounds_below s own bs)) (sym counted) (bounds_go_down s own bs rising));
+      first = ap (λ (xs : List ℕ). bound_at below.count xs 0) bounded ∙ ap (λ (m : ℕ). bound_at m (bounds_below s own bs) 0) counted ∙ first_goes_down s own bs begins;
     }
 
 -- ---- a column by itself, and in the rows
@@ -126,32 +113,38 @@ module _ (view : Opened) (rows : List Cell) (c : ℕ) (t : Shape) (here : List C
   cells_are = cells_from view.schema rows c t here next.columns
 
   -- what is found of the column's own cells is found of those in the rows
-  pub found_here : (own : List Cell) (f : ColumnFound) → c < width view.schema → IsOwnColumn t (columns_of view.footer view.bytes c) groups.count own → IsColumnFound t own groups.bounds.items f → IsColumnFound t here groups.bounds.items f
-  found_here own f lt is h =
+  pub found_here : (own : List Cell) (bounds : List ℕ) (f : ColumnFound) → c < width view.schema → IsOwnColumn t (columns_of view.footer view.bytes c) groups.count own → IsColumnFound t own bounds f → IsColumnFound t here bounds f
+  found_here own bounds f lt is h =
       let x = columns_of view.footer view.bytes in
       let long : groups.count ≡ length (cells view.schema c rows) = sym next.counted ∙ ap length (sym cells_are) in
       let of_own = subst (λ (n : ℕ). IsOwnColumn (shape_at view.schema c) (x c) n own) long (subst (λ (u : Shape). IsOwnColumn u (x c) groups.count own) (sym type_is) is) in
-      let of_found = subst (λ (u : Shape). IsColumnFound u own groups.bounds.items f) (sym type_is) h in
-      let r = found_of_rows view.schema x view.info.number_of_rows rows c own groups.bounds.items f next.spelled lt of_own of_found in
-      subst (λ (u : Shape). IsColumnFound u here groups.bounds.items f) type_is (subst (λ (cs : List Cell). IsColumnFound (shape_at view.schema c) cs groups.bounds.items f) cells_are r)
+      let of_found = subst (λ (u : Shape). IsColumnFound u own bounds f) (sym type_is) h in
+      let r = found_of_rows view.schema x view.info.number_of_rows rows c own bounds f next.spelled lt of_own of_found in
+      subst (λ (u : Shape). IsColumnFound u here bounds f) type_is (subst (λ (cs : List Cell). IsColumnFound (shape_at view.schema c) cs bounds f) cells_are r)
 
-  pub found_in_rows : (f : ColumnFound) → AreGrouped groups → IsColumnFound t here groups.bounds.items f → IsFoundInRows view rows c t f
-  found_in_rows f grouped h =
+  -- the column's groups, where they are needed
+  groups_here : (f : ColumnFound) → AreGrouped groups → NeedGroups view c (c + width t) → IsColumnFound t here groups.bounds.items f → AreGroupsFound view rows c t f.groups.items
+  groups_here f grouped need h =
+      let all = starts view.stride (length rows) in
       let rising : AreBounds (length here) groups.bounds.items = subst (λ (n : ℕ). AreBounds n groups.bounds.items) (sym next.counted) grouped.ascending in
+      let bounded : bounds_of view.schema c rows all ≡ groups.bounds.items = bounds_here view.schema rows all c t here groups.bounds.items (next.bounded need) rising in
       record {
+        spelled = next.spelled;
         type = type_is;
-        stat_is = h.stat_is ∙ ap (stat (kind_of t)) (sym cells_are);
-        groups = λ some.
-            let all = starts view.stride (length rows) in
-            let bounded : bounds_of view.schema c rows all ≡ groups.bounds.items = ap (bounds_of view.schema c rows) (sym (firsts_are view.stride (length rows) some)) ∙ bounds_here view.schema rows (firsts view.stride (length rows)) c t here groups.bounds.items next.bounded rising in
-            record {
-              spelled = next.spelled;
-              type = type_is;
-              counted = h.counted ∙ ap length (sym bounded);
-              ascending = subst (λ (bs : List ℕ). AreBounds (length (cells view.schema c rows)) bs) (sym bounded) (subst (λ (cs : List Cell). AreBounds (length cs) groups.bounds.items) (sym cells_are) rising);
-              are = subst (λ (bs : List ℕ). AreGroups t (cells view.schema c rows) bs f.groups.items) (sym bounded) (subst (λ (cs : List Cell). AreGroups t cs groups.bounds.items f.groups.items) (sym cells_are) h.groups_are);
-            };
+        counted = h.counted ∙ ap length (sym bounded);
+        ascending = subst (λ (bs : List ℕ). AreBounds (length (cells view.schema c rows)) bs) (sym bounded) (subst (λ (cs : List Cell). AreBounds (length cs) groups.bounds.items) (sym cells_are) rising);
+        are = subst (λ (bs : List ℕ). AreGroups t (cells view.schema c rows) bs f.groups.items) (sym bounded) (subst (λ (cs : List Cell). AreGroups t cs groups.bounds.items f.groups.items) (sym cells_are) h.groups_are);
       }
+
+  pub found_in_rows : (bounds : List ℕ) (f : ColumnFound) → AreGrouped groups → (NeedGroups view c (c + width t) → bounds ≡ groups.bounds.items) → IsColumnFound t here bounds f → IsFoundInRows view rows c t f
+  found_in_rows bounds f grouped same h = record {
+    counted = next.spelled.counted;
+    type = type_is;
+    stat_is = h.stat_is ∙ ap (stat (kind_of t)) (sym cells_are);
+    groups = λ may.
+        let need : NeedGroups view c (c + width t) = need_here view c (c + width t) (omega (arith, some_width t)) may in
+        groups_here f grouped need (subst (λ (bs : List ℕ). IsColumnFound t here bs f) (same need) h);
+  }
 
   here_fit : c < width view.schema → RowsFit t here
   here_fit lt = subst (λ (u : Shape). RowsFit u here) type_is (subst (λ (cs : List Cell). RowsFit (shape_at view.schema c) cs) cells_are (cells_fit view.schema c rows lt next.spelled.fit))
@@ -159,65 +152,73 @@ module _ (view : Opened) (rows : List Cell) (c : ℕ) (t : Shape) (here : List C
 -- ---- the columns right below
 
 pub element_next : (view : Opened) (rows : List Cell) (c d : ℕ) (s t : Shape) (o : List ℕ) (here : List Cell) (groups below : CellGroups) → s ≡ list_of t o → d ≡ c + 1 → ComesNext view rows c s here groups
-    → AreBelow s here groups below → ComesNext view rows d t (flat_map parts (values here)) below
+    → AreBelow view c s here groups below → ComesNext view rows d t (flat_map parts (values here)) below
 element_next view rows c d s t o here groups below is there h is_below =
     let at_list = subst (λ (u : Shape). ComesNext view rows c u here groups) is h in
-    let b = subst (λ (u : Shape). AreBelow u here groups below) is is_below in
-    let first = firsts view.stride (length rows) in
+    let b = subst (λ (u : Shape). AreBelow view c u here groups below) is is_below in
+    let first = starts view.stride (length rows) in
     let elements = flat_map parts (values here) in
     record {
       spelled = h.spelled;
       counted = sym b.0;
       columns = subst (λ (k : ℕ). AreColumnsFrom view.schema rows k t elements) (sym there) (element_from view.schema rows c t o here at_list.columns);
-      bounded = subst (λ (bs : List ℕ). AreGroupsFrom view.schema rows first d t elements bs) (sym b.1)
-          (subst (λ (k : ℕ). AreGroupsFrom view.schema rows first k t elements (map (elements_before here) groups.bounds.items)) (sym there) (groups_element view.schema rows first c t o here groups.bounds.items at_list.bounded));
+      bounded = λ need.
+          let above : NeedGroups view c (c + width (list_of t o)) = need_within view c d (d + width t) (c + width (list_of t o)) (omega (arith, there)) (omega (arith, there)) need in
+          subst (λ (bs : List ℕ). AreGroupsFrom view.schema rows first d t elements bs) (sym (b.1 above))
+          (subst (λ (k : ℕ). AreGroupsFrom view.schema rows first k t elements (map (elements_before here) groups.bounds.items)) (sym there) (groups_element view.schema rows first c t o here groups.bounds.items (at_list.bounded above)));
     }
 
 pub keys_next : (view : Opened) (rows : List Cell) (c d : ℕ) (s k v : Shape) (o : List ℕ) (here : List Cell) (groups below : CellGroups) → s ≡ map_of k v o → d ≡ c + 1 → ComesNext view rows c s here groups
-    → AreBelow s here groups below → ComesNext view rows d k (flat_map keys_in (values here)) below
+    → AreBelow view c s here groups below → ComesNext view rows d k (flat_map keys_in (values here)) below
 keys_next view rows c d s k v o here groups below is there h is_below =
     let at_map = subst (λ (u : Shape). ComesNext view rows c u here groups) is h in
-    let b = subst (λ (u : Shape). AreBelow u here groups below) is is_below in
-    let first = firsts view.stride (length rows) in
+    let b = subst (λ (u : Shape). AreBelow view c u here groups below) is is_below in
+    let first = starts view.stride (length rows) in
     let keys = flat_map keys_in (values here) in
     record {
       spelled = h.spelled;
       counted = keys_long (values here) ∙ sym b.0;
       columns = subst (λ (j : ℕ). AreColumnsFrom view.schema rows j k keys) (sym there) (pairs_from view.schema rows c k v o here at_map.columns).0;
-      bounded = subst (λ (bs : List ℕ). AreGroupsFrom view.schema rows first d k keys bs) (sym b.1)
-          (subst (λ (j : ℕ). AreGroupsFrom view.schema rows first j k keys (map (pairs_before here) groups.bounds.items)) (sym there) (groups_pairs view.schema rows first c k v o here groups.bounds.items at_map.bounded).0);
+      bounded = λ need.
+          let above : NeedGroups view c (c + width (map_of k v o)) = need_within view c d (d + width k) (c + width (map_of k v o)) (omega (arith, there)) (omega (arith, there)) need in
+          subst (λ (bs : List ℕ). AreGroupsFrom view.schema rows first d k keys bs) (sym (b.1 above))
+          (subst (λ (j : ℕ). AreGroupsFrom view.schema rows first j k keys (map (pairs_before here) groups.bounds.items)) (sym there) (groups_pairs view.schema rows first c k v o here groups.bounds.items (at_map.bounded above)).0);
     }
 
 pub seconds_next : (view : Opened) (rows : List Cell) (c d second : ℕ) (s k v : Shape) (o : List ℕ) (here : List Cell) (groups below : CellGroups) → s ≡ map_of k v o → d ≡ c + 1 → second ≡ d + width k
-    → ComesNext view rows c s here groups → AreBelow s here groups below → ComesNext view rows second v (flat_map values_in (values here)) below
+    → ComesNext view rows c s here groups → AreBelow view c s here groups below → ComesNext view rows second v (flat_map values_in (values here)) below
 seconds_next view rows c d second s k v o here groups below is there behind h is_below =
     let at_map = subst (λ (u : Shape). ComesNext view rows c u here groups) is h in
-    let b = subst (λ (u : Shape). AreBelow u here groups below) is is_below in
-    let first = firsts view.stride (length rows) in
+    let b = subst (λ (u : Shape). AreBelow view c u here groups below) is is_below in
+    let first = starts view.stride (length rows) in
     let seconds = flat_map values_in (values here) in
     let e : c + 1 + width k ≡ second = omega (arith, there, behind) in
     record {
       spelled = h.spelled;
       counted = map_values_long (values here) ∙ sym b.0;
       columns = subst (λ (j : ℕ). AreColumnsFrom view.schema rows j v seconds) e (pairs_from view.schema rows c k v o here at_map.columns).1;
-      bounded = subst (λ (bs : List ℕ). AreGroupsFrom view.schema rows first second v seconds bs) (sym b.1)
-          (subst (λ (j : ℕ). AreGroupsFrom view.schema rows first j v seconds (map (pairs_before here) groups.bounds.items)) e (groups_pairs view.schema rows first c k v o here groups.bounds.items at_map.bounded).1);
+      bounded = λ need.
+          let above : NeedGroups view c (c + width (map_of k v o)) = need_within view c second (second + width v) (c + width (map_of k v o)) (omega (arith, there, behind)) (omega (arith, there, behind)) need in
+          subst (λ (bs : List ℕ). AreGroupsFrom view.schema rows first second v seconds bs) (sym (b.1 above))
+          (subst (λ (j : ℕ). AreGroupsFrom view.schema rows first j v seconds (map (pairs_before here) groups.bounds.items)) e (groups_pairs view.schema rows first c k v o here groups.bounds.items (at_map.bounded above)).1);
     }
 
 pub fields_next : (view : Opened) (rows : List Cell) (c d : ℕ) (s : Shape) (fs : Fields) (o : List ℕ) (here : List Cell) (groups below : CellGroups) → s ≡ struct_of fs o → d ≡ c + 1 → c < width view.schema
-    → ComesNext view rows c s here groups → AreBelow s here groups below → FieldsComeNext view rows d fs (map parts (values here)) below
+    → ComesNext view rows c s here groups → AreBelow view c s here groups below → FieldsComeNext view rows d fs (map parts (values here)) below
 fields_next view rows c d s fs o here groups below is there lt h is_below =
     let at_struct = subst (λ (u : Shape). ComesNext view rows c u here groups) is h in
-    let b = subst (λ (u : Shape). AreBelow u here groups below) is is_below in
-    let first = firsts view.stride (length rows) in
+    let b = subst (λ (u : Shape). AreBelow view c u here groups below) is is_below in
+    let first = starts view.stride (length rows) in
     let structs = map parts (values here) in
     record {
       spelled = h.spelled;
       counted = length-map (values here) parts ∙ sym b.0;
       fit = structs_fit fs o here (here_fit view rows c (struct_of fs o) here groups at_struct lt);
       columns = subst (λ (k : ℕ). AreFieldsFrom view.schema rows k fs structs) (sym there) (fields_from view.schema rows c fs o here at_struct.columns);
-      bounded = subst (λ (bs : List ℕ). AreFieldGroupsFrom view.schema rows first d fs structs bs) (sym b.1)
-          (subst (λ (k : ℕ). AreFieldGroupsFrom view.schema rows first k fs structs (map (values_before here) groups.bounds.items)) (sym there) (groups_fields view.schema rows first c fs o here groups.bounds.items at_struct.bounded));
+      bounded = λ need.
+          let above : NeedGroups view c (c + width (struct_of fs o)) = need_within view c d (d + widths fs) (c + width (struct_of fs o)) (omega (arith, there)) (omega (arith, there)) need in
+          subst (λ (bs : List ℕ). AreFieldGroupsFrom view.schema rows first d fs structs bs) (sym (b.1 above))
+          (subst (λ (k : ℕ). AreFieldGroupsFrom view.schema rows first k fs structs (map (values_before here) groups.bounds.items)) (sym there) (groups_fields view.schema rows first c fs o here groups.bounds.items (at_struct.bounded above)));
     }
 
 -- ---- what is checked
@@ -248,7 +249,7 @@ ChecksFields view told number c end fs groups found stats after more =
 
 -- a column's children are these, wherever it comes next
 abbrev pub Leads : Opened → ℕ → Shape → CellGroups → CellGroups → Type 0
-Leads view c t groups below = (rows here : List Cell) → ComesNext view rows c t here groups → AreBelow t here groups below
+Leads view c t groups below = (rows here : List Cell) → ComesNext view rows c t here groups → AreBelow view c t here groups below
 
 module _ (view : Opened) (told : List Stat) (number : ℕ) (c d : ℕ) (s : Shape) (groups below : CellGroups) (found mid after : List Finding) (stats some more : List Stat) (there : d ≡ c + 1) (leads : Leads view c s groups below)
     (own : Checks view told number c (c + 1) s groups found stats mid some) where
@@ -298,7 +299,9 @@ first_next view rows c name t fs structs groups h = record {
   spelled = h.spelled;
   counted = heads_long name t fs structs h.fit ∙ h.counted;
   columns = first_from view.schema rows c name t fs structs h.columns;
-  bounded = groups_first view.schema rows (firsts view.stride (length rows)) c name t fs structs groups.bounds.items h.fit h.bounded;
+  bounded = λ need.
+      groups_first view.schema rows (starts view.stride (length rows)) c name t fs structs groups.bounds.items h.fit
+      (h.bounded (need_within view c c (c + width t) (c + widths (field name t fs)) (omega arith) (omega arith) need));
 }
 
 others_next : (view : Opened) (rows : List Cell) (c : ℕ) (name : List ℕ) (t : Shape) (fs : Fields) (structs : List (List Cell)) (groups : CellGroups) → FieldsComeNext view rows c (field name t fs) structs groups
@@ -308,7 +311,9 @@ others_next view rows c name t fs structs groups h = record {
   counted = length-map structs (drop 1) ∙ h.counted;
   fit = tails_fit name t fs structs h.fit;
   columns = others_from view.schema rows c name t fs structs h.columns;
-  bounded = groups_others view.schema rows (firsts view.stride (length rows)) c name t fs structs groups.bounds.items h.bounded;
+  bounded = λ need.
+      groups_others view.schema rows (starts view.stride (length rows)) c name t fs structs groups.bounds.items
+      (h.bounded (need_within view c (c + width t) (c + width t + widths fs) (c + widths (field name t fs)) (omega arith) (omega arith) need));
 }
 
 -- so many fields are checked, and the others come next
@@ -350,10 +355,6 @@ fields_checked view told number fs columns first next groups place found stats m
     let e : next ≡ first + widths (fields_view fs) = omega (arith, w, own.left) in
     subst (λ (j : ℕ). ChecksFields view told number first j (fields_view fs) groups found stats mid some) e h.checked
 
--- a column's own cells, and how many children they have
-pub own_read : (s : Shape) (columns : ℕ → Streams) (c : ℕ) (groups below : CellGroups) → (own : List Cell) × IsOwnColumn s (columns c) groups.count own × AreBelow s own groups below → OwnRead s columns c groups.count below.count
-own_read s columns c groups below h = (h.0, h.1, h.2.0)
-
 -- ---- a column that is read
 
 pub columns_there : (stripe : OpenStripe) (footer : StripeFooter) (c : ℕ) → IsLaidOut stripe → footer ≡ stripe.view.now.footer → c < width stripe.view.now.schema → c < length footer.columns
@@ -363,13 +364,13 @@ pub located_there : (stripe : OpenStripe) (footer : StripeFooter) → IsLaidOut 
 located_there stripe footer out same = subst (λ (f : StripeFooter). AreLocated (length f.columns) f.streams stripe.located.bytes.now stripe.located.slices.items) (sym same) out.located
 
 -- its own cells, as the stripe's bytes and footer have them
-pub read_there : (stripe : OpenStripe) (footer : StripeFooter) (c : ℕ) (t : Shape) (groups : CellGroups) (bounds : List ℕ) (f : ColumnFound) → IsLaidOut stripe → footer ≡ stripe.view.now.footer → bounds ≡ groups.bounds.items
-    → (own : List Cell) × IsOwnColumn t (columns_of footer stripe.located.bytes.now c) groups.count own × IsColumnFound t own bounds f
-    → (own : List Cell) × IsOwnColumn t (columns_of stripe.view.now.footer stripe.view.now.bytes c) groups.count own × IsColumnFound t own groups.bounds.items f
-read_there stripe footer c t groups bounds f out same are h = (
+pub read_there : (stripe : OpenStripe) (footer : StripeFooter) (c : ℕ) (t : Shape) (count : ℕ) (bounds : List ℕ) (f : ColumnFound) → IsLaidOut stripe → footer ≡ stripe.view.now.footer
+    → (own : List Cell) × IsOwnColumn t (columns_of footer stripe.located.bytes.now c) count own × IsColumnFound t own bounds f
+    → (own : List Cell) × IsOwnColumn t (columns_of stripe.view.now.footer stripe.view.now.bytes c) count own × IsColumnFound t own bounds f
+read_there stripe footer c t count bounds f out same h = (
   h.0,
-  subst (λ (b : List ℕ). IsOwnColumn t (columns_of stripe.view.now.footer b c) groups.count h.0) out.same (subst (λ (g : StripeFooter). IsOwnColumn t (columns_of g stripe.located.bytes.now c) groups.count h.0) same h.1),
-  subst (λ (bs : List ℕ). IsColumnFound t h.0 bs f) are h.2,
+  subst (λ (b : List ℕ). IsOwnColumn t (columns_of stripe.view.now.footer b c) count h.0) out.same (subst (λ (g : StripeFooter). IsOwnColumn t (columns_of g stripe.located.bytes.now c) count h.0) same h.1),
+  h.2,
 )
 
 pub refused_there : (stripe : OpenStripe) (footer : StripeFooter) (c : ℕ) (t : Shape) (count : ℕ) (f : StripeFault) → IsLaidOut stripe → footer ≡ stripe.view.now.footer
@@ -379,30 +380,38 @@ refused_there stripe footer c t count f out same h = (
   subst (λ (b : List ℕ). IsRefused t (columns_of stripe.view.now.footer b c) c h.0 count f) out.same (subst (λ (g : StripeFooter). IsRefused t (columns_of g stripe.located.bytes.now c) c h.0 count f) same h.1),
 )
 
-pub below_of : (t : Shape) (column : List Cell) (groups below : CellGroups) (f : ColumnFound) → IsColumnFound t column groups.bounds.items f → below.count ≡ f.below → below.bounds.items ≡ f.bounds_below.items → AreBelow t column groups below
-below_of t column groups below f h many bounds = (many ∙ h.below_is, bounds ∙ h.bounds_are)
+pub below_of : (view : Opened) (c : ℕ) (t : Shape) (column : List Cell) (groups below : CellGroups) (bounds : List ℕ) (f : ColumnFound) → (NeedGroups view c (c + width t) → bounds ≡ groups.bounds.items) → IsColumnFound t column bounds f
+    → below.count ≡ f.below → below.bounds.items ≡ f.bounds_below.items → AreBelow view c t column groups below
+below_of view c t column groups below bounds f same h many are = (many ∙ h.below_is, λ need. are ∙ h.bounds_are ∙ ap (bounds_below t column) (same need))
 
-pub column_more : (view : Opened) (told : List Stat) (number : ℕ) (rows : List Cell) (c : ℕ) (t : Shape) (here : List Cell) (groups : CellGroups) (own : List Cell) (f : ColumnFound) (before old mid : List Finding) (stats more : List Stat) → AreGrouped groups → c < width view.schema
-    → IsOwnColumn t (columns_of view.footer view.bytes c) groups.count own → IsColumnFound t own groups.bounds.items f → ((rs : List Cell) → IsFoundInRows view rs c t f → Adds (OfColumn view told number rs c) old mid)
-    → more ≡ stats ++ known_as (told_body (slice_get told c)) f.stat ∷ [] → ComesNext view rows c t here groups → AreColumnsChecked view told number rows c before old stats → AreColumnsChecked view told number rows (c + 1) before mid more
-column_more view told number rows c t here groups own f before old mid stats more grouped lt is found adds put next h =
-    let in_rows : IsFoundInRows view rows c t f = found_in_rows view rows c t here groups next f grouped (found_here view rows c t here groups next own f lt is found) in
+pub column_more : (view : Opened) (told : List Stat) (number : ℕ) (rows : List Cell) (c : ℕ) (t : Shape) (here : List Cell) (groups : CellGroups) (own : List Cell) (bounds : List ℕ) (f : ColumnFound) (before old mid : List Finding) (stats more : List Stat) → AreGrouped groups
+    → c < width view.schema → (NeedGroups view c (c + width t) → bounds ≡ groups.bounds.items) → IsOwnColumn t (columns_of view.footer view.bytes c) groups.count own → IsColumnFound t own bounds f
+    → ((rs : List Cell) → IsFoundInRows view rs c t f → Adds (OfColumn view told number rs c) old mid) → more ≡ stats ++ known_as (told_body (slice_get told c)) f.stat ∷ [] → ComesNext view rows c t here groups
+    → AreColumnsChecked view told number rows c before old stats → AreColumnsChecked view told number rows (c + 1) before mid more
+column_more view told number rows c t here groups own bounds f before old mid stats more grouped lt same is found adds put next h =
+    let in_rows : IsFoundInRows view rows c t f = found_in_rows view rows c t here groups next bounds f grouped same (found_here view rows c t here groups next own bounds f lt is found) in
     let right = in_rows.stat_is ∙ ap (λ (u : Shape). stat (kind_of u) (cells view.schema c rows)) (sym in_rows.type) in
     subst (λ (xs : List Stat). AreColumnsChecked view told number rows (c + 1) before mid xs) (sym put) (column_checked view told number rows c before old mid stats f.stat h (adds rows in_rows) right)
 
 -- ---- all columns
 
-pub all_come_next : (view : Opened) (rows : List Cell) (t : Shape) (groups : CellGroups) → SpellsRows view rows → t ≡ view.schema → groups.count ≡ view.info.number_of_rows → groups.bounds.items ≡ firsts view.stride groups.count
-    → ComesNext view rows 0 t rows groups
+-- the root's groups are those of the rows, where some column's are needed
+abbrev pub AreOfRows : Opened → CellGroups → Type 0
+AreOfRows view groups = NeedGroups view 0 (width view.schema) → groups.bounds.items ≡ starts view.stride groups.count
+
+pub all_come_next : (view : Opened) (rows : List Cell) (t : Shape) (groups : CellGroups) → SpellsRows view rows → t ≡ view.schema → groups.count ≡ view.info.number_of_rows → AreOfRows view groups → ComesNext view rows 0 t rows groups
 all_come_next view rows t groups spelled is many are =
     let long : length rows ≡ groups.count = spelled.counted ∙ sym many in
-    let same : firsts view.stride (length rows) ≡ groups.bounds.items = ap (firsts view.stride) long ∙ sym are in
+    let all = starts view.stride (length rows) in
     record {
       spelled = spelled;
       counted = long;
       columns = subst (λ (u : Shape). AreColumnsFrom view.schema rows 0 u rows) (sym is) (all_columns_from view.schema rows);
-      bounded = subst (λ (bs : List ℕ). AreGroupsFrom view.schema rows (firsts view.stride (length rows)) 0 t rows bs) same
-          (subst (λ (u : Shape). AreGroupsFrom view.schema rows (firsts view.stride (length rows)) 0 u rows (firsts view.stride (length rows))) (sym is) (groups_at_root view.schema rows (firsts view.stride (length rows))));
+      bounded = λ need.
+          let w : width t ≡ width view.schema = ap width is in
+          let whole : NeedGroups view 0 (width view.schema) = need_within view 0 0 (0 + width t) (width view.schema) (omega arith) (omega (arith, w)) need in
+          let same : all ≡ groups.bounds.items = ap (starts view.stride) long ∙ sym (are whole) in
+          subst (λ (bs : List ℕ). AreGroupsFrom view.schema rows all 0 t rows bs) same (subst (λ (u : Shape). AreGroupsFrom view.schema rows all 0 u rows all) (sym is) (groups_at_root view.schema rows all));
     }
 
 pub all_many : (view : Opened) (n : ℕ) → n ≡ view.info.number_of_rows → 2 ^ 31 - 1 < n → RowsFault view.schema (columns_of view.footer view.bytes) view.info.number_of_rows (TooMany 0)
@@ -410,7 +419,7 @@ all_many view n many lt = subst (λ (m : ℕ). RowsFault view.schema (columns_of
 
 -- what is found of all columns, wherever they begin
 pub all_found : (view : Opened) (told : List Stat) (number : ℕ) (t : Shape) (groups : CellGroups) (before after : List Finding) (none stats : List Stat) → HasFooter view.schema view.info view.bytes view.footer → t ≡ view.schema
-    → groups.count ≡ view.info.number_of_rows → groups.bounds.items ≡ firsts view.stride groups.count → none ≡ [] → OwnDown t (columns_of view.footer view.bytes) 0 groups.count
+    → groups.count ≡ view.info.number_of_rows → AreOfRows view groups → none ≡ [] → OwnDown t (columns_of view.footer view.bytes) 0 groups.count
     → Checks view told number 0 (0 + width t) t groups before none after stats
     → (rows : List Cell) × IsStripe view.schema view.info view.bytes rows × Adds (OfEach (OfColumn view told number rows) (width view.schema)) before after × HaveKnown view.schema told rows (width view.schema) stats
 all_found view told number t groups before after none stats has is many are empty down checks =

@@ -4,4 +4,5 @@ pub mod Findings
 pub mod RightIndexes
 pub mod Checking
 pub mod Meanings
+pub mod Needed
 pub mod Walking

@@ -1,9 +1,9 @@
 -- A stripe's columns that are checked one after the other, each from its own streams, without rows (own; ORC
 -- specification, "Types": columns are numbered in pre-order).
-use Rattle.std.specs.Prelude.{◌≡◌, ℕ, zero, suc, ◌<◌, Some, List, [], ◌∷◌, length, slice_get}
+use Rattle.std.specs.Prelude.{◌≡◌, ℕ, ◌+◌, ◌<◌, Some, List, length, slice_get}
 use Rattle.orc_types.specs.Cells.{Cell, values}
 use Rattle.orc_types.specs.Columns.{cells}
-use Rattle.orc_types.specs.Shapes.{Shape, Fields, width, shape_at}
+use Rattle.orc_types.specs.Shapes.{Shape, Fields, width, widths, shape_at}
 use Rattle.orc_stats.specs.Kinds.{kind_of}
 use Rattle.orc_stats.specs.Statistics.{stat}
 use Rattle.orc_stats.specs.declared.stat.Stat.{Stat}
@@ -23,6 +23,7 @@ use Rattle.orc_check.specs.declared.columns.CellGroups.{CellGroups}
 use Rattle.orc_check.specs.declared.open_stripe.OpenStripe.{OpenStripe}
 use Rattle.orc_check.specs.Checking.{HaveKnown}
 use Rattle.orc_check.specs.Findings.{Adds, OfEach, OfColumn}
+use Rattle.orc_check.specs.Needed.{MayBeWhole, NeedGroups}
 
 -- its columns have encodings, their streams are found, and the bytes of their row indexes
 pub record IsLaidOut (stripe : OpenStripe) : Type 0 where
@@ -32,11 +33,6 @@ pub record IsLaidOut (stripe : OpenStripe) : Type 0 where
       stripe.located.bytes.now stripe.located.slices.items
   pub indexes : AreIndexTexts (width stripe.view.now.schema) stripe.view.now.footer.streams
       stripe.view.now.bytes stripe.texts.items
-
--- how many rows come before each group; without a stride all rows are one
-abbrev pub firsts : ℕ → ℕ → List ℕ
-firsts zero rows = 0 ∷ []
-firsts (suc n) rows = starts (suc n) rows
 
 -- A column's cells are no more than a stripe may have of it; the first group begins with the first of them, and no group
 -- before the one in front of it.
@@ -49,14 +45,15 @@ pub record AreGrouped (groups : CellGroups) : Type 0 where
 abbrev pub SpellsRows : Opened → List Cell → Type 0
 SpellsRows view rows = SpellRows view.schema (columns_of view.footer view.bytes) view.info.number_of_rows rows
 
--- The columns from number c on are those of a type, over so many cells of the rows, of which so many come before each
--- group.
+-- The columns from number c on are those of a type, over so many cells of the rows; where the groups of one of them are
+-- needed, so many cells come before each group.
 pub record ComesNext (view : Opened) (rows : List Cell) (c : ℕ) (t : Shape) (here : List Cell)
     (groups : CellGroups) : Type 0 where
   pub spelled : SpellsRows view rows
   pub counted : length here ≡ groups.count
   pub columns : AreColumnsFrom view.schema rows c t here
-  pub bounded : AreGroupsFrom view.schema rows (firsts view.stride (length rows)) c t here groups.bounds.items
+  pub bounded : NeedGroups view c (c + width t)
+      → AreGroupsFrom view.schema rows (starts view.stride (length rows)) c t here groups.bounds.items
 
 -- the same of the fields of so many structs
 pub record FieldsComeNext (view : Opened) (rows : List Cell) (c : ℕ) (fs : Fields) (structs : List (List Cell))
@@ -65,12 +62,15 @@ pub record FieldsComeNext (view : Opened) (rows : List Cell) (c : ℕ) (fs : Fie
   pub counted : length structs ≡ groups.count
   pub fit : FieldsFit fs structs
   pub columns : AreFieldsFrom view.schema rows c fs structs
-  pub bounded : AreFieldGroupsFrom view.schema rows (firsts view.stride (length rows)) c fs structs groups.bounds.items
+  pub bounded : NeedGroups view c (c + widths fs)
+      → AreFieldGroupsFrom view.schema rows (starts view.stride (length rows)) c fs structs groups.bounds.items
 
--- so many children have a column's cells, and so many of these come before each group
-abbrev pub AreBelow : Shape → List Cell → CellGroups → CellGroups → Type 0
-AreBelow s column groups below =
-    (below.count ≡ children s (values column)) × (below.bounds.items ≡ bounds_below s column groups.bounds.items)
+-- So many children have the cells of column c, whose type is t; where its groups or those of a column below are needed, so
+-- many of these come before each group.
+abbrev pub AreBelow : Opened → ℕ → Shape → List Cell → CellGroups → CellGroups → Type 0
+AreBelow view c t column groups below =
+    (below.count ≡ children t (values column))
+    × (NeedGroups view c (c + width t) → below.bounds.items ≡ bounds_below t column groups.bounds.items)
 
 -- of each group what its cells are, and those before it
 abbrev pub AreGroups : Shape → List Cell → List ℕ → List GroupFound → Type 0
@@ -87,11 +87,12 @@ pub record AreGroupsFound (view : Opened) (rows : List Cell) (c : ℕ) (t : Shap
   pub are : AreGroups t (cells view.schema c rows)
       (bounds_of view.schema c rows (starts view.stride (length rows))) groups
 
--- what is found of the column: its statistic, and its groups where there are any
+-- what is found of the column: its statistic, and its groups where they are needed
 pub record IsFoundInRows (view : Opened) (rows : List Cell) (c : ℕ) (t : Shape) (found : ColumnFound) : Type 0 where
+  pub counted : length rows ≡ view.info.number_of_rows
   pub type : shape_at view.schema c ≡ t
   pub stat_is : found.stat ≡ stat (kind_of t) (cells view.schema c rows)
-  pub groups : 0 < view.stride → AreGroupsFound view rows c t found.groups.items
+  pub groups : MayBeWhole view c → AreGroupsFound view rows c t found.groups.items
 
 -- What is found of the first n columns stands behind what was found before, and these are the statistics of their
 -- cells, as far as they are told.

@@ -1,23 +1,26 @@
 //! The columns of a stripe, one after the other, each from its own streams. No row is made.
 ghost use Rattle.std.specs.Prelude.{◌≡◌, ◌≢◌, ◌<◌, ◌≤◌, ◌+◌, ◌++◌, ◌∷◌, [], Bool, List, slice_get, OnOk, IfOk, IfErr};
 ghost use Rattle.orc_stats.specs.Known.{known_as, told_body};
-ghost use Rattle.orc_types.specs.Cells.{Cell};
+ghost use Rattle.orc_types.specs.Cells.{Cell, values};
 ghost use Rattle.orc_types.specs.Shapes.{width, widths};
 ghost use Rattle.orc_types.specs.Views.{shape, fields as fields_view};
 ghost use Rattle.orc_columns.specs.Faults.{RowsFault};
 ghost use Rattle.orc_columns.specs.Stripe.{IsStripe, columns_of};
 ghost use Rattle.orc_columns.specs.declared.fault.StripeFault.TheVariants.{OutOfMemory};
-ghost use Rattle.orc_index.specs.Bounds.{AreBounds};
+ghost use Rattle.orc_index.specs.Bounds.{AreBounds, bound_at};
 ghost use Rattle.orc_column_walk.specs.OwnColumns.{IsOwnColumn, OwnDown, OwnWithin};
 ghost use Rattle.orc_column_walk.specs.OwnFaults.{IsRefused, RefusedDown, RefusedWithin};
+ghost use Rattle.orc_column_walk.specs.OwnLeft.{children};
+ghost use Rattle.orc_written.specs.Groups.{starts};
 ghost use Rattle.orc_check.specs.declared.finding.Finding.{Finding as Reported};
 ghost use Rattle.orc_check.specs.Checking.{HaveKnown};
 ghost use Rattle.orc_check.specs.Findings.{Adds, OfEach, OfColumn};
-ghost use Rattle.orc_check.specs.Walking as walking;
+ghost use Rattle.orc_check.specs.Needed.{NeedGroups};
 ghost use Rattle.orc_check.specs.Walking.{IsLaidOut, AreGrouped, ComesNext, FieldsComeNext, AreBelow, IsFoundInRows, AreColumnsChecked};
 
 use crate::agreeing::{keep_told, tells};
 use crate::finding::Finding;
+use crate::needed::need_groups;
 use crate::open_stripe::OpenStripe;
 use crate::reports::report;
 use crate::row_index::check_index;
@@ -26,26 +29,56 @@ use orc_columns::column::MOST_CELLS;
 use orc_columns::fault::StripeFault;
 use orc_stats::Stat;
 use orc_stripe::StripeView;
-use orc_types::{Field, Tree};
+use orc_types::{Field, Tree, width_of};
 use orc_wire::Items;
 use orc_written::group_starts;
 use std::alloc::{AllocError, Global};
-
-/// How many rows come before each group; without a stride all rows are one.
-fn firsts_of(alloc: Global, stride: u32, rows: usize) -> Result<Vec<usize>, AllocError>
-    ensures { IfOk result (λ firsts. firsts.items ≡ walking.firsts stride rows) }
-{
-    if stride == 0 {
-        return Vec::from_elem(alloc, 0, 1);
-    }
-    group_starts(alloc, stride as usize, rows)
-}
 
 /// How many cells a column has, and how many of them come before each group.
 #[derive(Drop)]
 struct CellGroups {
     count: usize,
     bounds: Vec<usize>,
+}
+
+/// How many of so many rows come before each group; where the groups of no column are needed, all rows are one.
+fn firsts_of(
+    alloc: Global,
+    stripe: &OpenStripe<'_, '_>,
+    rows: usize,
+) -> Result<Vec<usize>, AllocError>
+    requires laid_out { IsLaidOut stripe.now }
+    ensures bounds { IfOk result (λ firsts. AreBounds rows firsts.items) }
+    ensures first { IfOk result (λ firsts. bound_at rows firsts.items 0 ≡ 0) }
+    ensures needed { IfOk result (λ firsts. NeedGroups stripe.now.view.now 0 (width stripe.now.view.now.schema)
+        → firsts.items ≡ starts stripe.now.view.now.stride rows) }
+{
+    if need_groups(stripe, 0, stripe.texts.len()) {
+        return group_starts(alloc, stripe.view.stride() as usize, rows);
+    }
+    Vec::from_elem(alloc, 0, 1)
+}
+
+/// How many of a column's cells come before each group; where neither its groups are needed nor those of a column below
+/// it, all its cells are one.
+fn group_bounds<'c>(
+    stripe: &OpenStripe<'_, '_>,
+    tree: &Tree,
+    column: usize,
+    cells: &'c CellGroups,
+) -> &'c [usize]
+    requires laid_out { IsLaidOut stripe.now }
+    requires there { column + width (shape tree.now) ≤ width stripe.now.view.now.schema }
+    requires grouped { AreGrouped cells.now }
+    ensures bounds { AreBounds cells.now.count result.now }
+    ensures first { bound_at cells.now.count result.now 0 ≡ 0 }
+    ensures needed { NeedGroups stripe.now.view.now column (column + width (shape tree.now))
+        → result.now ≡ cells.now.bounds.items }
+{
+    if need_groups(stripe, column, column + width_of(tree)) {
+        return cells.bounds.as_slice();
+    }
+    &[0]
 }
 
 /// Puts what is found of a column behind what was found before.
@@ -107,16 +140,16 @@ fn add_column(
     stats: &mut Vec<Stat>,
 ) -> Result<CellGroups, StripeFault>
     requires laid_out { IsLaidOut stripe.now }
-    requires there { column < width stripe.now.view.now.schema }
+    requires there { column + width (shape tree.now) ≤ width stripe.now.view.now.schema }
     requires grouped { AreGrouped cells.now }
     ensures found { IfOk result (λ below. (own : List Cell)
         × IsOwnColumn (shape tree.now) (columns_of stripe.now.view.now.footer stripe.now.view.now.bytes column)
         cells.now.count own
-        × AreBelow (shape tree.now) own cells.now below) }
+        × (below.count ≡ children (shape tree.now) (values own))) }
     ensures grouped { IfOk result AreGrouped }
     ensures rows { IfOk result (λ below. (rows here : List Cell)
         → ComesNext stripe.now.view.now rows column (shape tree.now) here cells.now
-        → AreBelow (shape tree.now) here cells.now below) }
+        → AreBelow stripe.now.view.now column (shape tree.now) here cells.now below) }
     ensures checked { OnOk result ((rows here : List Cell) (before : List Reported)
         → ComesNext stripe.now.view.now rows column (shape tree.now) here cells.now
         → AreColumnsChecked stripe.now.view.now stripe.now.told.now stripe.now.number rows column before
@@ -135,7 +168,7 @@ fn add_column(
         stripe.view.footer(),
         &stripe.located,
         cells.count,
-        &cells.bounds,
+        group_bounds(stripe, tree, column, cells),
     ) {
         Ok(read) => read,
         Err(fault) => return Err(fault),
@@ -269,9 +302,6 @@ pub(crate) fn check_columns(
     if rows > MOST_CELLS {
         return Err(StripeFault::TooMany(0));
     }
-    let count = rows as usize;
-    let bounds = firsts_of(alloc, view.stride(), count)?;
-    let cells = CellGroups { count, bounds };
     let located = view.locate(alloc)?;
     let texts = view.index_texts(alloc)?;
     let stripe = OpenStripe {
@@ -281,6 +311,9 @@ pub(crate) fn check_columns(
         located,
         texts,
     };
+    let count = rows as usize;
+    let bounds = firsts_of(alloc, &stripe, count)?;
+    let cells = CellGroups { count, bounds };
     let columns = view.footer().columns.as_slice().len();
     let mut stats = Vec::with_capacity(alloc, columns)?;
     match check_tree(alloc, &stripe, view.tree(), 0, &cells, found, &mut stats) {

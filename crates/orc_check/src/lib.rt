@@ -8,6 +8,7 @@ mod entries;
 mod file_columns;
 mod finding;
 mod laws;
+mod needed;
 mod open_stripe;
 mod reports;
 mod row_index;

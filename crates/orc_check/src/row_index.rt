@@ -8,10 +8,12 @@ ghost use Rattle.orc_columns.specs.Stripe.{Streams, cell_limit};
 ghost use Rattle.orc_column_walk.specs.declared.found.GroupFound.{GroupFound as Group};
 ghost use Rattle.orc_positions.specs.Decided.{AreDecided};
 ghost use Rattle.orc_check.specs.Findings.{Adds, OfEach, OfGroup, OfIndex};
+ghost use Rattle.orc_check.specs.Needed.{MayBeWhole};
 ghost use Rattle.orc_check.specs.Walking.{IsLaidOut, AreGroups, AreGroupsFound};
 
 use crate::entries::entry_tells;
 use crate::finding::Finding;
+use crate::needed::may_be_whole;
 use crate::open_stripe::OpenStripe;
 use crate::reports::report;
 use orc_column_walk::GroupFound;
@@ -75,7 +77,8 @@ fn check_groups(
     Ok(())
 }
 
-/// Puts what is found of a column's row index behind what was found before.
+/// Puts what is found of a column's row index behind what was found before. Its groups are those of the rows where the
+/// index may have an entry for each; else they aren't looked at.
 pub(crate) fn check_index(
     alloc: Global,
     stripe: &OpenStripe<'_, '_>,
@@ -87,10 +90,15 @@ pub(crate) fn check_index(
     requires laid_out { IsLaidOut stripe.now }
     requires there { column < width stripe.now.view.now.schema }
     ensures { OnOk result ((rows : List Cell) → 0 < stripe.now.view.now.stride
-        → AreGroupsFound stripe.now.view.now rows column (shape tree.now) groups.now
+        → length rows ≡ stripe.now.view.now.info.number_of_rows
+        → (MayBeWhole stripe.now.view.now column
+        → AreGroupsFound stripe.now.view.now rows column (shape tree.now) groups.now)
         → Adds (OfIndex stripe.now.view.now stripe.now.number rows column) found.old.items found.new.items) }
 {
     let finding = Finding::IndexEntries(stripe.number, column);
+    if !may_be_whole(stripe, column) {
+        return report(false, finding, found);
+    }
     let Some(message) = read_index(alloc, &stripe.texts[column])? else {
         return report(false, finding, found);
     };

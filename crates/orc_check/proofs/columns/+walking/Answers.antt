@@ -7,7 +7,7 @@ use Rattle.orc_types.proofs.Views.{shape-Scalar, shape-List, shape-Map, shape-St
 use Rattle.orc_columns.specs.Stripe.{columns_of}
 use Rattle.orc_columns.proofs.Arms.{some_width}
 use Rattle.orc_column_walk.proofs.TreeLemmas.{scalar_down, list_down, map_down, struct_down, list_refused, keys_refused, seconds_refused, none_read, field_read, field_refused}
-use Rattle.orc_check.proofs.WalkLemmas.{own_read, scalar_checked, list_checked, map_checked, struct_checked, no_field_checked, field_checked, fields_checked}
+use Rattle.orc_check.proofs.WalkLemmas.{scalar_checked, list_checked, map_checked, struct_checked, no_field_checked, field_checked, fields_checked}
 use Rattle.orc_check.proofs.columns.+walking.Goals as goal
 
 -- ---- fields
@@ -55,7 +55,7 @@ pub check_tree-returns-in-Scalar-clause-found : goal.check_tree-returns-in-Scala
 check_tree-returns-in-Scalar-clause-found t c =
     let v = c.args.stripe.now.view.now in
     scalar_down (shape c.args.tree.now) c.in-Scalar.field-0 c.in-Scalar.field-1.items (columns_of v.footer v.bytes) c.args.column c.args.cells.now.count c.in-Ok.below.count
-    (ap shape c.in-Scalar.is ∙ shape-Scalar c.in-Scalar.field-0 c.in-Scalar.field-1) (own_read (shape c.args.tree.now) (columns_of v.footer v.bytes) c.args.column c.args.cells.now c.in-Ok.below c.in-Ok.ensures.found)
+    (ap shape c.in-Scalar.is ∙ shape-Scalar c.in-Scalar.field-0 c.in-Scalar.field-1) c.in-Ok.ensures.found
 
 pub check_tree-returns-in-Scalar-clause-checked : goal.check_tree-returns-in-Scalar-clause-checked
 check_tree-returns-in-Scalar-clause-checked t c =
@@ -71,7 +71,7 @@ check_tree-returns-in-Ok-check_tree-clause-found t c =
     let f = c.in-Ok-check_tree.ensures.found in
     let down = rw c.deref.ensures at f in
     list_down (shape c.args.tree.now) (shape c.in-List.element.value) c.in-List.field-1.items (columns_of v.footer v.bytes) c.args.column (c.args.column + 1) c.args.cells.now.count c.in-Ok.below.count
-    (ap shape c.in-List.is ∙ shape-List c.in-List.element c.in-List.field-1) refl (own_read (shape c.args.tree.now) (columns_of v.footer v.bytes) c.args.column c.args.cells.now c.in-Ok.below c.in-Ok.ensures.found) down
+    (ap shape c.in-List.is ∙ shape-List c.in-List.element c.in-List.field-1) refl c.in-Ok.ensures.found down
 
 pub check_tree-returns-in-Ok-check_tree-clause-checked : goal.check_tree-returns-in-Ok-check_tree-clause-checked
 check_tree-returns-in-Ok-check_tree-clause-checked t c =
@@ -87,7 +87,7 @@ check_tree-returns-in-List-clause-fault t c = λ memory.
     let f = c.in-Err-check_tree.ensures.fault memory in
     let down = rw c.deref.ensures at f in
     list_refused (shape c.args.tree.now) (shape c.in-List.element.value) c.in-List.field-1.items (columns_of v.footer v.bytes) c.args.column (c.args.column + 1) c.args.cells.now.count c.in-Ok.below.count c.in-Err-check_tree.fault
-    (ap shape c.in-List.is ∙ shape-List c.in-List.element c.in-List.field-1) refl (own_read (shape c.args.tree.now) (columns_of v.footer v.bytes) c.args.column c.args.cells.now c.in-Ok.below c.in-Ok.ensures.found) down
+    (ap shape c.in-List.is ∙ shape-List c.in-List.element c.in-List.field-1) refl c.in-Ok.ensures.found down
 
 -- ---- maps
 
@@ -101,7 +101,7 @@ check_tree-returns-in-Ok-check_tree-3-clause-found t c =
     let f = c.in-Ok-check_tree-3.ensures.found in
     let seconds = rw c.deref-in-Ok-check_tree-2.ensures at f in
     map_down (shape c.args.tree.now) (shape c.in-Map.key.value) (shape c.in-Map.value.value) c.in-Map.field-2.items (columns_of v.footer v.bytes) c.args.column (c.args.column + 1) c.in-Ok-check_tree-2.second c.args.cells.now.count c.in-Ok.below.count
-    (ap shape c.in-Map.is ∙ shape-Map c.in-Map.key c.in-Map.value c.in-Map.field-2) refl next (own_read (shape c.args.tree.now) (columns_of v.footer v.bytes) c.args.column c.args.cells.now c.in-Ok.below c.in-Ok.ensures.found) keys seconds
+    (ap shape c.in-Map.is ∙ shape-Map c.in-Map.key c.in-Map.value c.in-Map.field-2) refl next c.in-Ok.ensures.found keys seconds
 
 pub check_tree-returns-in-Ok-check_tree-3-clause-checked : goal.check_tree-returns-in-Ok-check_tree-3-clause-checked
 check_tree-returns-in-Ok-check_tree-3-clause-checked t c =
@@ -124,7 +124,7 @@ check_tree-returns-in-Ok-check_tree-2-clause-fault t c = λ memory.
     let f = c.in-Err-check_tree-3.ensures.fault memory in
     let down = rw c.deref-in-Ok-check_tree-2.ensures at f in
     seconds_refused (shape c.args.tree.now) (shape c.in-Map.key.value) (shape c.in-Map.value.value) c.in-Map.field-2.items (columns_of v.footer v.bytes) c.args.column (c.args.column + 1) c.in-Ok-check_tree-2.second c.args.cells.now.count c.in-Ok.below.count c.in-Err-check_tree-3.fault
-    (ap shape c.in-Map.is ∙ shape-Map c.in-Map.key c.in-Map.value c.in-Map.field-2) refl next (own_read (shape c.args.tree.now) (columns_of v.footer v.bytes) c.args.column c.args.cells.now c.in-Ok.below c.in-Ok.ensures.found) down
+    (ap shape c.in-Map.is ∙ shape-Map c.in-Map.key c.in-Map.value c.in-Map.field-2) refl next c.in-Ok.ensures.found down
 
 pub check_tree-returns-in-Map-clause-fault : goal.check_tree-returns-in-Map-clause-fault
 check_tree-returns-in-Map-clause-fault t c = λ memory.
@@ -132,7 +132,7 @@ check_tree-returns-in-Map-clause-fault t c = λ memory.
     let f = c.in-Err-check_tree-2.ensures.fault memory in
     let down = rw c.deref-in-Map.ensures at f in
     keys_refused (shape c.args.tree.now) (shape c.in-Map.key.value) (shape c.in-Map.value.value) c.in-Map.field-2.items (columns_of v.footer v.bytes) c.args.column (c.args.column + 1) c.args.cells.now.count c.in-Ok.below.count c.in-Err-check_tree-2.fault
-    (ap shape c.in-Map.is ∙ shape-Map c.in-Map.key c.in-Map.value c.in-Map.field-2) refl (own_read (shape c.args.tree.now) (columns_of v.footer v.bytes) c.args.column c.args.cells.now c.in-Ok.below c.in-Ok.ensures.found) down
+    (ap shape c.in-Map.is ∙ shape-Map c.in-Map.key c.in-Map.value c.in-Map.field-2) refl c.in-Ok.ensures.found down
 
 -- ---- structs
 
@@ -142,7 +142,7 @@ check_tree-returns-in-Ok-check_fields-clause-found t c =
     let f = c.in-Ok-check_fields.ensures.found in
     let down = rw c.deref-in-Struct.ensures.value at f in
     struct_down (shape c.args.tree.now) (fields_view c.in-Struct.fields.items) c.in-Struct.field-1.items (columns_of v.footer v.bytes) c.args.column (c.args.column + 1) c.args.cells.now.count c.in-Ok.below.count
-    (ap shape c.in-Struct.is ∙ shape-Struct c.in-Struct.fields c.in-Struct.field-1) refl (own_read (shape c.args.tree.now) (columns_of v.footer v.bytes) c.args.column c.args.cells.now c.in-Ok.below c.in-Ok.ensures.found) down
+    (ap shape c.in-Struct.is ∙ shape-Struct c.in-Struct.fields c.in-Struct.field-1) refl c.in-Ok.ensures.found down
 
 pub check_tree-returns-in-Ok-check_fields-clause-checked : goal.check_tree-returns-in-Ok-check_fields-clause-checked
 check_tree-returns-in-Ok-check_fields-clause-checked t c =

@@ -1,13 +1,18 @@
-use Rattle.std.proofs.Common.{arith}
+use Rattle.std.proofs.Common.{◌<◌, ◌∙◌, arith}
+use Rattle.orc_types.specs.Shapes.{width}
 use Rattle.orc_types.specs.Views.{shape}
+use Rattle.orc_columns.proofs.Arms.{some_width}
 use Rattle.orc_check.proofs.WalkLemmas.{columns_there, located_there, read_there, refused_there, below_of, below_grouped, found_here, column_more}
 use Rattle.orc_check.proofs.columns.add_column.Goals as goal
 
 pub read_groups-requires-clause-there : goal.read_groups-requires-clause-there
-read_groups-requires-clause-there c = columns_there c.args.stripe.now c.footer.result.now c.args.column c.requires.laid_out c.footer.ensures.same c.requires.there
+read_groups-requires-clause-there c = columns_there c.args.stripe.now c.footer.result.now c.args.column c.requires.laid_out c.footer.ensures.same (omega (arith, some_width (shape c.args.tree.now), c.requires.there))
 
 pub read_groups-requires-clause-located : goal.read_groups-requires-clause-located
 read_groups-requires-clause-located c = located_there c.args.stripe.now c.footer.result.now c.requires.laid_out c.footer.ensures.same
+
+pub check_column-requires-clause-there : goal.check_column-requires-clause-there
+check_column-requires-clause-there c = omega (arith, some_width (shape c.args.tree.now), c.requires.there)
 
 pub returns-in-Err-clause-fault : goal.returns-in-Err-clause-fault
 returns-in-Err-clause-fault c = λ memory.
@@ -15,29 +20,32 @@ returns-in-Err-clause-fault c = λ memory.
 
 pub returns-clause-found : goal.returns-clause-found
 returns-clause-found c =
-    let t = shape c.args.tree.now in
-    let h = read_there c.args.stripe.now c.footer.result.now c.args.column t c.args.cells.now c.deref.result.now c.in-Ok.read c.requires.laid_out c.footer.ensures.same c.deref.ensures.value c.in-Ok.ensures.found in
-    (h.0, h.1, below_of t h.0 c.args.cells.now c.in_ok-below.below c.in-Ok.read h.2 c.in_ok-below.ensures.below.0 c.in_ok-below.ensures.below.1)
+    let h = read_there c.args.stripe.now c.footer.result.now c.args.column (shape c.args.tree.now) c.args.cells.now.count c.group_bounds.result.now c.in-Ok.read c.requires.laid_out c.footer.ensures.same c.in-Ok.ensures.found in
+    (h.0, h.1, c.in_ok-below.ensures.below.0 ∙ h.2.below_is)
 
 pub returns-clause-grouped : goal.returns-clause-grouped
 returns-clause-grouped c =
     let t = shape c.args.tree.now in
-    let h = read_there c.args.stripe.now c.footer.result.now c.args.column t c.args.cells.now c.deref.result.now c.in-Ok.read c.requires.laid_out c.footer.ensures.same c.deref.ensures.value c.in-Ok.ensures.found in
+    let b = c.group_bounds.result.now in
+    let h = read_there c.args.stripe.now c.footer.result.now c.args.column t c.args.cells.now.count b c.in-Ok.read c.requires.laid_out c.footer.ensures.same c.in-Ok.ensures.found in
     let few = c.in-Ok.ensures.few in
-    below_grouped t h.0 c.args.cells.now c.in_ok-below.below c.requires.grouped h.1.counted
-    (below_of t h.0 c.args.cells.now c.in_ok-below.below c.in-Ok.read h.2 c.in_ok-below.ensures.below.0 c.in_ok-below.ensures.below.1) (omega (arith, few, c.in_ok-below.ensures.below.0))
+    below_grouped t h.0 c.args.cells.now.count b c.in_ok-below.below c.group_bounds.ensures.bounds c.group_bounds.ensures.first h.1.counted (c.in_ok-below.ensures.below.0 ∙ h.2.below_is) (c.in_ok-below.ensures.below.1 ∙ h.2.bounds_are) (omega (arith, few, c.in_ok-below.ensures.below.0))
 
 pub returns-clause-rows : goal.returns-clause-rows
 returns-clause-rows c = λ rows here next.
     let t = shape c.args.tree.now in
     let v = c.args.stripe.now.view.now in
-    let h = read_there c.args.stripe.now c.footer.result.now c.args.column t c.args.cells.now c.deref.result.now c.in-Ok.read c.requires.laid_out c.footer.ensures.same c.deref.ensures.value c.in-Ok.ensures.found in
-    below_of t here c.args.cells.now c.in_ok-below.below c.in-Ok.read (found_here v rows c.args.column t here c.args.cells.now next h.0 c.in-Ok.read c.requires.there h.1 h.2) c.in_ok-below.ensures.below.0 c.in_ok-below.ensures.below.1
+    let b = c.group_bounds.result.now in
+    let h = read_there c.args.stripe.now c.footer.result.now c.args.column t c.args.cells.now.count b c.in-Ok.read c.requires.laid_out c.footer.ensures.same c.in-Ok.ensures.found in
+    let there : c.args.column < width v.schema = omega (arith, some_width t, c.requires.there) in
+    below_of v c.args.column t here c.args.cells.now c.in_ok-below.below b c.in-Ok.read c.group_bounds.ensures.needed (found_here v rows c.args.column t here c.args.cells.now next h.0 b c.in-Ok.read there h.1 h.2) c.in_ok-below.ensures.below.0 c.in_ok-below.ensures.below.1
 
 pub returns-clause-checked : goal.returns-clause-checked
 returns-clause-checked c = λ rows here before next so_far.
     let t = shape c.args.tree.now in
     let s = c.args.stripe.now in
-    let h = read_there s c.footer.result.now c.args.column t c.args.cells.now c.deref.result.now c.in-Ok.read c.requires.laid_out c.footer.ensures.same c.deref.ensures.value c.in-Ok.ensures.found in
-    column_more s.view.now s.told.now s.number rows c.args.column t here c.args.cells.now h.0 c.in-Ok.read before c.args.found.now.items c.check_column.new.found.items c.args.stats.now.items c.put_stat.new.stats.items c.requires.grouped c.requires.there h.1 h.2
+    let b = c.group_bounds.result.now in
+    let h = read_there s c.footer.result.now c.args.column t c.args.cells.now.count b c.in-Ok.read c.requires.laid_out c.footer.ensures.same c.in-Ok.ensures.found in
+    let there : c.args.column < width s.view.now.schema = omega (arith, some_width t, c.requires.there) in
+    column_more s.view.now s.told.now s.number rows c.args.column t here c.args.cells.now h.0 b c.in-Ok.read before c.args.found.now.items c.check_column.new.found.items c.args.stats.now.items c.put_stat.new.stats.items c.requires.grouped there c.group_bounds.ensures.needed h.1 h.2
     c.in_ok-check_column.ensures c.in_ok-below.ensures.stat next so_far

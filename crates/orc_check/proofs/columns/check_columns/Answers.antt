@@ -1,11 +1,10 @@
-use Rattle.std.proofs.Common.{◌∙◌, ℕ, List, sym, ap, subst, arith, length}
+use Rattle.std.proofs.Common.{ℕ, List, sym, ap, subst, arith, length}
 use Rattle.orc_types.specs.Shapes.{width}
 use Rattle.orc_types.specs.Views.{shape}
 use Rattle.orc_stats.specs.declared.stat.Stat.{Stat}
 use Rattle.orc_check.specs.Checking.{HaveKnown}
-use Rattle.orc_check.specs.Walking.{firsts}
 use Rattle.orc_columns.specs.Located.{AreLocated}
-use Rattle.orc_check.proofs.WalkLemmas.{firsts_grouped, all_found, all_refused, all_many}
+use Rattle.orc_check.proofs.WalkLemmas.{all_found, all_refused, all_many}
 use Rattle.orc_check.proofs.columns.check_columns.Goals as goal
 
 pub check_tree-requires-clause-laid_out : goal.check_tree-requires-clause-laid_out
@@ -24,8 +23,7 @@ check_tree-requires-clause-there c = let e = ap width c.tree.ensures in omega (a
 
 pub check_tree-requires-clause-grouped : goal.check_tree-requires-clause-grouped
 check_tree-requires-clause-grouped c =
-    let n = c.number_of_rows-rows.result in
-    firsts_grouped c.args.view.now.stride (record { count = n; bounds = c.in_ok-bounds.bounds }) (omega (arith, c.if-rows-gt-MOST_CELLS.false)) (c.in_ok-bounds.ensures ∙ ap (λ (stride : ℕ). firsts stride n) c.stride.ensures)
+    record { few = omega (arith, c.if-rows-gt-MOST_CELLS.false); ascending = c.in_ok-bounds.ensures.bounds; first = c.in_ok-bounds.ensures.first }
 
 pub returns-in-Ok-clause-found : goal.returns-in-Ok-clause-found
 returns-in-Ok-clause-found c =
@@ -33,7 +31,7 @@ returns-in-Ok-clause-found c =
     let told = c.args.told.now in
     let n = c.number_of_rows-rows.result in
     let r = all_found v told c.args.number (shape c.tree.result.now) (record { count = n; bounds = c.in_ok-bounds.bounds }) c.args.found.now.items c.check_tree.new.found.items c.in_ok-stats.stats.items c.check_tree.new.stats.items c.footer.ensures.there c.tree.ensures
-    c.number_of_rows-rows.ensures (c.in_ok-bounds.ensures ∙ ap (λ (stride : ℕ). firsts stride n) c.stride.ensures) c.in_ok-stats.ensures.items c.in-Ok.ensures.found c.in-Ok.ensures.checked in
+    c.number_of_rows-rows.ensures c.in_ok-bounds.ensures.needed c.in_ok-stats.ensures.items c.in-Ok.ensures.found c.in-Ok.ensures.checked in
     (r.0, r.1, r.2, subst (λ (xs : List Stat). HaveKnown v.schema told r.0 (width v.schema) xs) (sym c.from_vec.ensures) r.3)
 
 pub returns-clause-fault : goal.returns-clause-fault

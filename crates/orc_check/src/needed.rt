@@ -1,0 +1,44 @@
+//! Which columns' groups are needed. They are where the row index may have an entry for each group; where it can't, its
+//! number of entries is wrong, whatever the groups are. So the groups cost no more than the bytes of the indexes.
+ghost use Rattle.std.specs.Prelude.{◌<◌, ◌≤◌, MatchBool};
+ghost use Rattle.orc_types.specs.Shapes.{width};
+ghost use Rattle.orc_check.specs.Needed.{MayBeWhole, NeedGroups};
+ghost use Rattle.orc_check.specs.Walking.{IsLaidOut};
+
+use crate::open_stripe::OpenStripe;
+
+/// Whether a column's row index may have an entry for each group of the stripe's rows: an entry takes a byte or more.
+pub(crate) fn may_be_whole(stripe: &OpenStripe<'_, '_>, column: usize) -> bool
+    requires laid_out { IsLaidOut stripe.now }
+    requires there { column < width stripe.now.view.now.schema }
+    ensures { MatchBool result
+        (MayBeWhole stripe.now.view.now column)
+        (MayBeWhole stripe.now.view.now column → ⊥) }
+{
+    let stride = stripe.view.stride();
+    if stride == 0 {
+        return false;
+    }
+    let groups = stripe.view.number_of_rows().div_ceil(u64::from(stride));
+    let text = &stripe.texts[column];
+    let Some(bytes) = text.bytes else {
+        return false;
+    };
+    groups <= bytes.len() as u64
+}
+
+/// Whether the groups of some column are needed, of those from the first one on and before the end.
+pub(crate) fn need_groups(stripe: &OpenStripe<'_, '_>, first: usize, end: usize) -> bool
+    requires laid_out { IsLaidOut stripe.now }
+    requires there { end ≤ width stripe.now.view.now.schema }
+    ensures { MatchBool result
+        (NeedGroups stripe.now.view.now first end)
+        (NeedGroups stripe.now.view.now first end → ⊥) }
+{
+    for column in first..end {
+        if may_be_whole(stripe, column) {
+            return true;
+        }
+    }
+    false
+}
