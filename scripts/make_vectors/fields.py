@@ -1,6 +1,8 @@
 """Fields of Protocol Buffers as bytes: what a message is made of."""
+from functools import lru_cache
 
 
+@lru_cache
 def varint(number, length=None):
     """The varint of a number below 2^64: the shortest, or one of so many bytes, which may be more than it needs."""
     groups = [number & 127]
@@ -21,11 +23,13 @@ def plain(number):
     return number
 
 
+@lru_cache
 def key(field, wire):
     """The key of a field: its number and its wire type."""
     return varint(field * 8 + wire)
 
 
+@lru_cache
 def number(field, value):
     """A field of a number."""
     return key(field, 0) + varint(value)

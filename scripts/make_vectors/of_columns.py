@@ -717,6 +717,23 @@ def of_nested():
             column("a", "array<int>", [[]], length=data_of(direct([1 << 31], UNSIGNED))),
             "10 TooMany(1)",
         ),
+        refused(
+            "nested/map-too-long",
+            "maps cell-limits",
+            "a map of 2^31 pairs",
+            column("m", "map<int,int>", [[]], length=data_of(direct([1 << 31], UNSIGNED))),
+            "10 TooMany(1)",
+        ),
+        refused(
+            "nested/lists-too-long-together",
+            "lists cell-limits",
+            "two lists of 2^31 elements together, of a type that has no streams",
+            File(
+                "struct<a:array<array<struct<>>>>",
+                [Stripe([{"a": [[{}], []]}], {(2, LENGTH): data_of(direct([1, (1 << 31) - 1], UNSIGNED))})],
+            ),
+            "10 TooMany(2)",
+        ),
     ]
 
 

@@ -412,6 +412,7 @@ def no_index(name, shows, findings, fault, streams=None, **more):
 def bad_entries():
     """Indexes that are missing, don't read, or have another number of entries than there are groups."""
     entry = fields.block(1, fields.packed(1, [0, 0]) + fields.block(2, fields.number(1, 3)))
+    of_the_root = fields.block(1, fields.block(2, fields.number(1, 1) + fields.number(10, 0)))
     repeated = fields.block(1, fields.packed(1, [0, 0]) + fields.block(2, b"") + fields.block(2, b""))
     return [
         no_index(
@@ -462,6 +463,38 @@ def bad_entries():
             "IndexEntries 0 1",
             "9 Wire: wire 5 RepeatedMessage at 8",
             {(1, ROW_INDEX): repeated},
+        ),
+        found(
+            "missing-in-the-second-stripe",
+            "findings-entries",
+            "the second of three stripes has no index of a column",
+            File("struct<n:bigint>", [rows([1, 2, 3]), Stripe(rows([4]), {(1, ROW_INDEX): None}), rows([5])], stride=2),
+            "IndexEntries 1 1",
+            {(0, 0): None, (0, 1): None, (1, 0): "file 12 Stripe(1): stripe 7 NoIndex(1)", (2, 0): None},
+        ),
+        found(
+            "entry-too-many-in-the-third-stripe",
+            "findings-entries",
+            "the third stripe has one group, and of the root two entries",
+            File(
+                "struct<n:bigint>",
+                [rows([1, 2, 3]), rows([4]), Stripe(rows([5]), {(0, ROW_INDEX): of_the_root * 2})],
+                stride=2,
+            ),
+            "IndexEntries 2 0",
+            {(1, 0): None, (2, 0): "file 12 Stripe(2): stripe 8 BadPosition(0)"},
+        ),
+        found(
+            "entry-missing-and-no-message-in-the-second-stripe",
+            "findings-entries",
+            "the second stripe has an entry too few of the root, and of its column no message",
+            File(
+                "struct<n:bigint>",
+                [rows([1]), Stripe(rows([2, 3, 4]), {(0, ROW_INDEX): of_the_root, (1, ROW_INDEX): of_the_root[:-1]})],
+                stride=2,
+            ),
+            ["IndexEntries 1 0", "IndexEntries 1 1"],
+            [(0, 0)],
         ),
         found(
             "missing-in-a-stripe-of-no-rows",
@@ -588,6 +621,32 @@ def bad_statistics():
         finding("statistic-sum-missing", "a sum that isn't told", ints.but(sum=None)),
         finding("statistic-nulls-unknown", "nothing is said of nulls", ints.but(nulls=None)),
         finding("statistic-count-too-large", "a number of values above 2^62", ints.but(count=(1 << 62) + 1)),
+        found(
+            "statistic-true-too-large",
+            "findings-statistics statistics-limits",
+            "a count of true above 2^62",
+            File(
+                "struct<t:boolean>",
+                [Stripe([{"t": True}] * 4, entry_stats={(1, 1): Stat(2, False, true=(1 << 62) + 1)})],
+                V1,
+                stride=2,
+            ),
+            "IndexStatistic 0 1 1",
+            [(0, 0), (0, 1)],
+        ),
+        found(
+            "statistic-count-too-large-in-the-second-stripe",
+            "findings-statistics statistics-limits",
+            "the second stripe's group tells of more than 2^62 values of the root",
+            File(
+                "struct<n:bigint>",
+                [rows([1]), Stripe(rows([2, 3, 4]), entry_stats={(0, 1): Stat((1 << 62) + 1, False)})],
+                V1,
+                stride=2,
+            ),
+            "IndexStatistic 1 0 1",
+            [(1, 0), (1, 1)],
+        ),
         found(
             "statistic-of-children-unknown",
             "children-unknown",

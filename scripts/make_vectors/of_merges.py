@@ -12,6 +12,9 @@ from .vector import Vector, places_of
 
 ONE = "struct<n:bigint>"
 TOP, MOST = (1 << 63) - 1, 1 << 62
+# the most rows of a stripe
+MOST_ROWS = (1 << 31) - 1
+NO_ENCODING = "file 12 Stripe(0): stripe 2 BadEncoding(0)"
 
 
 def rows(*values):
@@ -19,11 +22,24 @@ def rows(*values):
     return [{"n": value} for value in values]
 
 
+def told_rows(*counts, **choices):
+    """A file whose tail tells of stripes of so many rows, which have no bytes."""
+    return File(
+        "struct<>",
+        [
+            Stripe([], footer=lambda text: b"", told={"rows": count}, stats={0: Stat(count, False)})
+            for count in counts
+        ],
+        **choices,
+    )
+
+
 class Merge:
     """Inputs by their names, and what they become: a vector, or a fault."""
 
     def __init__(self, name, rules, shows, inputs, result=None, fault=None):
-        self.name, self.rules, self.shows, self.inputs = f"merges/{name}", rules.split(), shows, inputs
+        self.name = name if "/" in name else f"merges/{name}"
+        self.rules, self.shows, self.inputs = rules.split(), shows, inputs
         self.result, self.fault, self.written = result, fault, False
 
     def parts(self):
@@ -104,12 +120,40 @@ def inputs():
         File(ONE, [rows(2)], kept=fields.number(12, 5), **{**more, "user": [("b", b"\x01")]}),
     )
     found.add("pairs-that-differ", "one name with two values", File(ONE, [rows(2)], user=[("b", b"0"), ("b", b"1")]))
+    found.add("pair", "a name with a value", File(ONE, [rows(2)], user=[("b", b"0")]))
+    found.add("pair-that-differs", "the same name with another value", File(ONE, [rows(2)], user=[("b", b"1")]))
+    found.add(
+        "kept-alone",
+        "a field above 10, and else what others have",
+        File(ONE, [rows(2)], kept=fields.number(12, 5)),
+    )
     found.add("other-kept", "other fields above 10", File(ONE, [rows(2)], kept=fields.number(12, 6), **more))
     found.add("attributes", "a type with attributes", File(with_attributes(), [rows(1)]))
     found.add("int", "a column of INT", File("struct<n:int>", [rows(1)]))
+    found.add("int-and-version", "a column of INT, and another version", File("struct<n:int>", [rows(1)], (0, 11)))
+    found.add("version-and-stride", "another version, and a row index", File(ONE, [rows(1)], (0, 11), stride=2))
+    found.add(
+        "stride-and-kept",
+        "a row index, and a field above 10",
+        File(ONE, [rows(1)], stride=2, kept=fields.number(12, 5)),
+    )
+    found.add(
+        "kept-and-pair",
+        "a field above 10, and another value for a name",
+        File(ONE, [rows(1)], kept=fields.number(12, 5), user=[("b", b"1")]),
+    )
+    found.add(
+        "pair-and-no-statistics",
+        "another value for a name, and no statistics of stripes",
+        File(ONE, [rows(1)], user=[("b", b"1")], tells_stripes=False),
+        missing,
+    )
     found.add("other-name", "another name", File("struct<m:bigint>", [[{"m": 1}]]))
     found.add("other-version", "another version", File(ONE, [rows(1)], (0, 11)))
+    found.add("version-of-three", "a version of three numbers", File(ONE, [rows(1)], (0, 12, 0)))
+    found.add("no-version", "no version", File(ONE, [rows(1)], ()))
     found.add("writer-0", "the writer of number 0", File(ONE, [rows(1)], writer=0))
+    found.add("writer-1", "the writer of number 1", File(ONE, [rows(1)], writer=1))
     found.add("other-writer-version", "another version of the writer", File(ONE, [rows(1)], writer_version=7))
     found.add("no-writer-version", "no version of the writer", File(ONE, [rows(1)], writer_version=None))
     found.add("indexed", "a row index", File(ONE, [rows(1, 2, 3)], stride=2))
@@ -125,6 +169,33 @@ def inputs():
             metadata=lambda text: fields.block(1, fields.block(1, fields.number(1, 1) + fields.number(10, 0))),
         ),
         "StripeStatistic 0 1",
+    )
+    half = File(ONE, [rows(1), rows(2)], metadata=lambda text: text[: len(text) // 2])
+    found.add(
+        "statistics-of-one-of-two",
+        "two stripes, and statistics of the first",
+        half,
+        ["StripeStatistic 1 0", "StripeStatistic 1 1"],
+    )
+    root_alone = fields.block(1, fields.block(1, fields.number(1, 1) + fields.number(10, 0)))
+    found.add(
+        "few-statistics-of-the-second",
+        "two stripes, and of the second the statistics of the first of two columns",
+        File(ONE, [rows(1), rows(2)], metadata=lambda text: text[: len(text) // 2] + root_alone),
+        "StripeStatistic 1 1",
+    )
+    found.add(
+        "most-rows",
+        "16 stripes of no bytes that tell of 2^31 - 1 rows each",
+        told_rows(*[MOST_ROWS] * 16),
+        fault=NO_ENCODING,
+    )
+    found.add("513-rows", "a stripe of no bytes that tells of 513 rows", told_rows(513), fault=NO_ENCODING)
+    found.add(
+        "513-rows-and-no-statistics",
+        "the same, and no statistics of stripes",
+        told_rows(513, tells_stripes=False),
+        fault=NO_ENCODING,
     )
     found.add(
         "many-values",
@@ -392,6 +463,27 @@ def refused():
             ["c", "tails/compressed-1"],
             "2 File(1): file 3 Compressed(1)",
         ),
+        *(
+            apart(f"refused-{name}", "merge-inputs", f"the second input {what}", ["c", f"tails/{name}", "c"], found)
+            for name, what, found in (
+                ("postscript-cut", "has no postscript", "2 File(1): file 2 BadPostscript"),
+                ("encrypted", "is encrypted", "2 File(1): file 4 Encrypted"),
+                ("footer-too-long", "has a footer longer than it is", "2 File(1): file 5 BadLengths"),
+                ("footer-cut", "has a footer that is cut", "2 File(1): file 6 BadFooter"),
+                ("metadata-cut", "has a metadata that is cut", "2 File(1): file 7 BadMetadata"),
+                ("type-in-itself", "has types that are no tree", "2 File(1): file 8 BadTypes: type 2 BadTree"),
+                ("stripes-that-overlap", "has stripes that overlap", "2 File(1): file 9 BadStripe(1)"),
+                ("too-many-rows-told", "tells of more rows than it has", "2 File(1): file 10 RowCount"),
+                ("rows-of-a-stripe", "tells of a stripe of 2^31 rows", "2 File(1): file 11 Limit"),
+            )
+        ),
+        apart(
+            "refused-true",
+            "merge-inputs merge-limits",
+            "the second input tells of more than 2^62 that are true, so it is no file",
+            ["many-true", "statistics/too-many-true"],
+            "2 File(1): file 11 Limit",
+        ),
         apart("refused-kind", schema_rule, "INT and LONG", ["c", "int"], "3 SchemaDiffers(1)"),
         apart("refused-name", schema_rule, "columns of two names", ["c", "c", "other-name"], "3 SchemaDiffers(2)"),
         apart(
@@ -403,6 +495,27 @@ def refused():
         ),
         apart(
             "refused-version", "merge-version", "versions 0.12 and 0.11", ["c", "other-version"], "4 VersionDiffers(1)"
+        ),
+        apart(
+            "refused-longer-version",
+            "merge-version",
+            "versions 0.12 and 0.12.0",
+            ["c", "c", "version-of-three"],
+            "4 VersionDiffers(2)",
+        ),
+        apart(
+            "refused-no-version",
+            "merge-version",
+            "version 0.12, and none",
+            ["c", "c", "c", "no-version"],
+            "4 VersionDiffers(3)",
+        ),
+        apart(
+            "refused-other-writer",
+            "merge-version",
+            "the writers of numbers 0 and 1",
+            ["writer-0", "writer-0", "writer-1"],
+            "4 VersionDiffers(2)",
         ),
         apart(
             "refused-writer",
@@ -437,6 +550,20 @@ def refused():
             "6 OtherFooterFields(1)",
         ),
         apart(
+            "refused-none-and-kept",
+            "merge-kept",
+            "no field above 10, and one",
+            ["c", "c", "kept-alone"],
+            "6 OtherFooterFields(2)",
+        ),
+        apart(
+            "refused-kept-and-none",
+            "merge-kept",
+            "a field above 10, and none",
+            ["kept-alone", "kept-alone", "kept-alone", "c"],
+            "6 OtherFooterFields(3)",
+        ),
+        apart(
             "refused-pairs",
             "merge-user",
             "one name with two values in two files",
@@ -449,6 +576,20 @@ def refused():
             "one name with two values in one file",
             ["pairs-that-differ"],
             "7 UserMetadataConflict(0)",
+        ),
+        apart(
+            "refused-pairs-of-the-second-file",
+            "merge-user",
+            "one name with two values in the second file, and no pair in the first",
+            ["c", "pairs-that-differ"],
+            "7 UserMetadataConflict(1)",
+        ),
+        apart(
+            "refused-pairs-apart",
+            "merge-user",
+            "one name with two values in the first file and in the third",
+            ["pair", "c", "pair-that-differs"],
+            "7 UserMetadataConflict(2)",
         ),
         apart(
             "refused-no-statistics",
@@ -464,6 +605,27 @@ def refused():
             ["c", "few-statistics"],
             "8 NoStripeStatistics(1)",
         ),
+        apart(
+            "refused-no-statistics-of-the-second-file",
+            "merge-statistics",
+            "the second of three inputs without statistics of its stripe",
+            ["c", "no-statistics", "c"],
+            "8 NoStripeStatistics(1)",
+        ),
+        apart(
+            "refused-fewer-statistics-than-stripes",
+            "merge-statistics",
+            "the third input has two stripes, and statistics of the first",
+            ["c", "c", "statistics-of-one-of-two"],
+            "8 NoStripeStatistics(2)",
+        ),
+        apart(
+            "refused-few-statistics-of-a-stripe",
+            "merge-statistics",
+            "the third input's second stripe has no statistics of a column",
+            ["c", "c", "few-statistics-of-the-second"],
+            "8 NoStripeStatistics(2)",
+        ),
         apart("refused-values", "merge-limits", "more than 2^62 values together", ["many-values", "c"], "9 Limit(1)"),
         apart(
             "refused-values-of-one-file",
@@ -472,6 +634,86 @@ def refused():
             ["too-many-values", "c"],
             "9 Limit(0)",
         ),
+        apart(
+            "refused-values-of-the-only-file",
+            "merge-limits",
+            "an input whose own stripes tell of more than 2^62 values, by itself",
+            ["too-many-values"],
+            "9 Limit(0)",
+        ),
+        apart(
+            "refused-values-of-the-last-file",
+            "merge-limits",
+            "the first three inputs have 2^62 values and no more, and the fourth has one",
+            ["many-values", "none", "none", "one"],
+            "9 Limit(3)",
+        ),
+        apart(
+            "refused-rows",
+            "merge-limits",
+            "2^40 - 512 rows of 32 inputs, and 513 rows of another one",
+            ["most-rows"] * 32 + ["513-rows"],
+            "9 Limit(32)",
+        ),
+    ]
+
+
+def in_order():
+    """Merges with two faults: input by input, and for each input the first test that it doesn't pass."""
+
+    def two(name, shows, names, fault):
+        paths = [each if "/" in each else f"merges/in/{each}" for each in names]
+        return Merge(f"order/{name}", "merge-order", f"two faults: {shows}", paths, fault=f"merge {fault}")
+
+    return [
+        two(
+            "schema-before-version",
+            "another schema, and another version",
+            ["c", "int-and-version"],
+            "3 SchemaDiffers(1)",
+        ),
+        two(
+            "version-before-stride",
+            "another version, and another stride",
+            ["c", "version-and-stride"],
+            "4 VersionDiffers(1)",
+        ),
+        two(
+            "stride-before-kept",
+            "another stride, and a field above 10",
+            ["c", "stride-and-kept"],
+            "5 StrideDiffers(1)",
+        ),
+        two(
+            "kept-before-pairs",
+            "a field above 10, and another value for a name",
+            ["pair", "kept-and-pair"],
+            "6 OtherFooterFields(1)",
+        ),
+        two(
+            "pairs-before-statistics",
+            "another value for a name, and no statistics of a stripe",
+            ["pair", "pair-and-no-statistics"],
+            "7 UserMetadataConflict(1)",
+        ),
+        two(
+            "statistics-before-limits",
+            "no statistics of a stripe, and more than 2^40 rows",
+            ["most-rows"] * 32 + ["513-rows-and-no-statistics"],
+            "8 NoStripeStatistics(32)",
+        ),
+        two(
+            "statistics-before-the-next-input",
+            "the second input has no statistics of its stripe, and the third is no file",
+            ["c", "no-statistics", "tails/other-front"],
+            "8 NoStripeStatistics(1)",
+        ),
+        two(
+            "limits-before-the-next-input",
+            "the second input has a value too many, and the third has another schema",
+            ["many-values", "c", "int"],
+            "9 Limit(1)",
+        ),
     ]
 
 
@@ -479,4 +721,4 @@ def vectors():
     """The vectors of these folders: the inputs, and the merges."""
     found = inputs()
     alone = list(found.vectors.values())
-    return alone + made(found) + refused()
+    return alone + made(found) + refused() + in_order()

@@ -4,6 +4,7 @@ from .file import File
 from .of_integers import TOP, at_data, bad
 from .of_tails import ONE, one, rows, with_parts
 from .runs import data_of, header, patched, v1_run
+from .statistics import Stat
 from .stripe import LENGTH, Stripe
 from .vector import Vector
 
@@ -70,6 +71,30 @@ def of_tails():
             "a metadata that is cut, and a stripe that begins within `ORC`",
             File(ONE, [Stripe(rows(1), told={"offset": 2})], metadata=lambda text: text[:-1]),
             "file 7 BadMetadata",
+        ),
+        two(
+            "metadata-before-counts",
+            "a metadata that is cut, and a file's statistic of 2^62 + 1 values",
+            File(ONE, [rows(1)], stats={1: Stat((1 << 62) + 1, False)}, metadata=lambda text: text[:-1]),
+            "file 7 BadMetadata",
+        ),
+        two(
+            "counts-before-stripes",
+            "a statistic of 2^62 + 1 values, and a stripe that begins within `ORC`",
+            File(ONE, [Stripe(rows(1), told={"offset": 2}, stats={1: Stat((1 << 62) + 1, False)})]),
+            "file 11 Limit",
+        ),
+        two(
+            "rows-before-the-next-place",
+            "a first stripe of 2^31 rows, and a second one that begins within it",
+            File(ONE, [Stripe(rows(1), told={"rows": 1 << 31}), Stripe(rows(2), told={"offset": 4})]),
+            "file 11 Limit",
+        ),
+        two(
+            "rows-before-row-count",
+            "a stripe of 2^31 rows, and another number of rows",
+            File(ONE, [Stripe(rows(1), told={"rows": 1 << 31})], footer=with_parts(rows=number(6, 7))),
+            "file 11 Limit",
         ),
         two(
             "place-before-rows",

@@ -84,6 +84,12 @@ def told():
         ),
         good("days", "statistics", "the first and the last day", File("struct<n:date>", [rows(3, -40000, 2932897)])),
         good(
+            "days-of-32-bits",
+            "statistics messages-range",
+            "the least and the greatest day that there can be",
+            File("struct<n:date>", [rows(-(1 << 31), (1 << 31) - 1)]),
+        ),
+        good(
             "children",
             "statistics",
             "the least and the greatest number of elements, and all together",
@@ -471,6 +477,34 @@ def refused():
             fault="file 11 Limit",
             tail=False,
         ),
+        Vector(
+            "statistics/too-many-values-of-the-second-stripe",
+            "statistics-limits",
+            "the second stripe tells of 2^62 + 1 values of the root",
+            File(
+                "struct<n:bigint>",
+                [rows(1), Stripe(rows(2), stats={0: Stat(over, False)})],
+                stats={0: Stat(2, False)},
+            ),
+            fault="file 11 Limit",
+            tail=False,
+        ),
+        Vector(
+            "statistics/too-many-values-of-the-file",
+            "statistics-limits",
+            "the stripe tells of one value, and the file of 2^62 + 1",
+            File("struct<n:bigint>", [rows(1)], stats={1: Stat(over, False)}),
+            fault="file 11 Limit",
+            tail=False,
+        ),
+        Vector(
+            "statistics/too-many-true-of-the-file",
+            "statistics-limits",
+            "the stripe tells of one that is true, and the file of 2^62 + 1",
+            File("struct<n:boolean>", [rows(True)], stats={1: Stat(1, False, true=over)}),
+            fault="file 11 Limit",
+            tail=False,
+        ),
         in_file(
             "record-twice",
             "messages-repeated",
@@ -485,6 +519,14 @@ def refused():
             ready,
             fault="file 6 BadFooter",
             tail=False,
+        ),
+        in_file(
+            "day-of-33-bits",
+            "messages-range",
+            "a first day whose zigzag number is 2^32",
+            fields.number(1, 1) + fields.block(7, fields.number(1, 1 << 32)) + fields.number(10, 0),
+            "file 7 BadMetadata",
+            "date",
         ),
         in_file(
             "record-cut",

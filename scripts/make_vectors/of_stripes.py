@@ -19,6 +19,8 @@ from .vector import Vector
 
 ONE = "struct<n:int>"
 TWO = "struct<n:int,s:string>"
+# the greatest number of 32 bits
+GREATEST = (1 << 32) - 1
 
 
 def rows(*values):
@@ -105,6 +107,15 @@ def good_stripes():
             "stripe-directory",
             "a stream of a kind that nobody knows, of a column that isn't there",
             one(arrange=with_more((77, 100, b"who"), (5, SECONDARY, b"?"))),
+        ),
+        good(
+            "numbers-of-32-bits",
+            "stripe-directory messages-range",
+            "the greatest number of 32 bits as a stream's kind, as its column, as a direct column's number of entries",
+            one(
+                arrange=with_more((GREATEST, GREATEST, b"?"), (77, GREATEST, b"who"), (1, GREATEST, b"")),
+                footer=lambda own: own[:-4] + fields.block(2, fields.number(1, 2) + fields.number(2, GREATEST)),
+            ),
         ),
         good(
             "bloom-filters",
@@ -260,6 +271,22 @@ def bad_directories():
             one(encodings={1: 3}),
             "2 BadEncoding(1)",
         ),
+        *(
+            refused(
+                f"dictionary-of-{name}",
+                "encodings",
+                f"a column of {name} by dictionary, in version {2 if encoding == 3 else 1}",
+                File(f"struct<n:{kind}>", [Stripe([{"n": None}], encodings={1: encoding})]),
+                "2 BadEncoding(1)",
+            )
+            for name, kind, encoding in (
+                ("bytes", "tinyint", 1),
+                ("dates", "date", 3),
+                ("lists", "array<int>", 1),
+                ("maps", "map<int,int>", 3),
+                ("structs", "struct<x:int>", 1),
+            )
+        ),
         refused(
             "dictionary-of-booleans",
             "encodings",
@@ -315,6 +342,34 @@ def bad_footers():
             "a stream's column is 2^32",
             one(footer=lambda own: fields.block(1, fields.number(1, 9) + fields.number(2, 1 << 32)) + own),
             "9 Wire: wire 4 ValueRange at 4",
+        ),
+        refused(
+            "stream-of-33-bits",
+            "stripe-footer messages-range",
+            "a stream's kind is 2^32",
+            one(footer=lambda own: fields.block(1, fields.number(1, GREATEST + 1)) + own),
+            "9 Wire: wire 4 ValueRange at 2",
+        ),
+        refused(
+            "encoding-of-33-bits",
+            "stripe-footer messages-range",
+            "an encoding's kind is 2^32",
+            one(footer=lambda own: own[:-4] + fields.block(2, fields.number(1, GREATEST + 1))),
+            "9 Wire: wire 4 ValueRange at 14",
+        ),
+        refused(
+            "entries-of-33-bits",
+            "stripe-footer messages-range",
+            "a direct column tells of 2^32 entries",
+            one(footer=lambda own: own[:-4] + fields.block(2, fields.number(1, 2) + fields.number(2, GREATEST + 1))),
+            "9 Wire: wire 4 ValueRange at 16",
+        ),
+        refused(
+            "encoding-of-32-bits",
+            "encodings messages-range",
+            "an encoding of the greatest number of 32 bits, which there isn't",
+            one(encodings={1: GREATEST}),
+            "2 BadEncoding(1)",
         ),
         refused(
             "second-of-three",

@@ -8,6 +8,8 @@ from .vector import Vector
 
 ONE = "struct<n:int>"
 END = block(8000, "ORC")
+# the greatest number of 32 bits, and an unknown field whose varint goes on past 64 bits
+GREATEST, TOO_LONG = (1 << 32) - 1, key(99, 0) + b"\xff" * 9 + b"\x02"
 
 
 def rows(*values):
@@ -154,6 +156,27 @@ def postscripts():
             "version-of-33-bits", "messages-range", "a number of the version is 2^32", one(version=[0, 1 << 32]), bad
         ),
         refused(
+            "compression-of-33-bits",
+            "messages-range tail-compression",
+            "compression of kind 2^32",
+            one(postscript=with_parts(compression=number(2, GREATEST + 1))),
+            bad,
+        ),
+        refused(
+            "writer-version-of-33-bits",
+            "messages-range",
+            "the writer's version is 2^32",
+            one(writer_version=GREATEST + 1),
+            bad,
+        ),
+        refused(
+            "postscript-varint",
+            "tail-postscript messages varint",
+            "an unknown field's varint goes on past 64 bits",
+            one(postscript=with_parts(magic=TOO_LONG + END)),
+            bad,
+        ),
+        refused(
             "field-past-the-greatest-number",
             "messages tail-postscript",
             "an unknown field of number 2^29",
@@ -182,7 +205,7 @@ def postscripts():
                 one(postscript=with_parts(compression=number(2, kind))),
                 f"file 3 Compressed({kind})",
             )
-            for kind in (1, 2, 3, 4, 5, 77)
+            for kind in (1, 2, 3, 4, 5, 77, GREATEST)
         ),
         refused(
             "footer-too-long",
@@ -236,6 +259,12 @@ def footers():
             one(footer=with_parts(header=number(1, 77), content=b"")),
         ),
         good("writer", "tail-footer", "a writer of number 1", one(writer=1)),
+        good(
+            "writer-of-32-bits",
+            "tail-footer messages-range",
+            "a writer and its version of the greatest number of 32 bits",
+            one(writer=GREATEST, writer_version=GREATEST),
+        ),
         good(
             "kept-fields",
             "tail-footer",
@@ -324,6 +353,14 @@ def footers():
         ),
         refused("footer-field-0", "tail-footer messages", "a field of number 0", one(kept=b"\x00\x00"), bad),
         refused(
+            "footer-varint",
+            "tail-footer messages varint",
+            "an unknown field's varint goes on past 64 bits",
+            one(kept=TOO_LONG),
+            bad,
+        ),
+        refused("writer-of-33-bits", "messages-range", "a writer of number 2^32", one(writer=GREATEST + 1), bad),
+        refused(
             "stride-of-33-bits",
             "messages-range",
             "a stride of 2^32",
@@ -349,6 +386,13 @@ def footers():
             "tail-metadata messages",
             "a metadata that ends within a field",
             one(metadata=lambda text: text[:-1]),
+            "file 7 BadMetadata",
+        ),
+        refused(
+            "metadata-varint",
+            "tail-metadata messages varint",
+            "an unknown field's varint goes on past 64 bits",
+            one(metadata=lambda text: text + TOO_LONG),
             "file 7 BadMetadata",
         ),
         refused(
@@ -528,6 +572,7 @@ def types():
         17: "CHAR",
         18: "a timestamp with its zone",
         99: "a kind that there isn't",
+        GREATEST: "the greatest number of 32 bits",
     }
     return [
         good(
@@ -646,6 +691,27 @@ def types():
             File(f"struct<n:{'array<' * 30}bigint{'>' * 30}>", []),
         ),
         bad("33-levels", "33 levels", "3 TooDeep", root, *listed, kind(4), rules="types type-limits"),
+        refused(
+            "kind-of-33-bits",
+            "messages-range types",
+            "a column of kind 2^32",
+            types_file(root, kind(GREATEST + 1)),
+            "file 6 BadFooter",
+        ),
+        refused(
+            "subtype-of-33-bits",
+            "messages-range types",
+            "the root's field is of type 2^32",
+            types_file(kind(12, GREATEST + 1, names=["n"]), number_type),
+            "file 6 BadFooter",
+        ),
+        bad(
+            "subtype-of-32-bits",
+            "the root's field is of the type of the greatest number of 32 bits, which there isn't",
+            "2 BadTree",
+            kind(12, GREATEST, names=["n"]),
+            number_type,
+        ),
         refused(
             "type-without-kind",
             "messages-required",

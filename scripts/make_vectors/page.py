@@ -6,11 +6,14 @@ PROTOC = (
     "2026-11-27, libprotoc 3.21.12: {same} messages decoded, no unknown field, encoded again to the\n"
     "same bytes; {otherwise} that are meant to be otherwise are so."
 )
-SAME, OTHERWISE = 4890, 77
-# which rules of the format no file here shows, and why
-NOT_SHOWN = """Not shown, since a file would be larger than a few KB: more than 4,096 types, more than 65,536 stripes,
-more than 2^40 bytes of stripes. Not shown, since they are no matter of files: the text of a schema as
-it is read, lines of JSON as they are read, and a cap on what is read at once."""
+SAME, OTHERWISE = 5133, 100
+# what no file here shows, and why
+NOT_SHOWN = """Not kept here, since a file would be larger than a few KB: 4,096 types and more, 65,536 stripes and more,
+2^40 rows, 2^40 bytes of stripes and more, a gap of 2^41 bytes between stripes. `scripts/make-vectors --large
+FOLDER` makes these: in `FOLDER/tried` stands what is tried as the files here are, in `FOLDER/shown` files
+whose stripes have so many bytes that none can be held, each with its `NAME.show` alone. What has so many
+bytes is a hole in its file, and takes a few KB of a disk. Not shown, since they are no matter of files: the
+text of a schema as it is read, lines of JSON as they are read, and a cap on what is read at once."""
 
 HEAD = """# Vectors
 
@@ -30,7 +33,7 @@ makes, `scripts/try-vectors` runs `orcm` over all of it.
 | `NAME.from-S-G.json` | the rows from group G of stripe S on, by the row indexes |
 | `NAME.from-S-G.fault` | why these can't be read |
 | `NAME.fault` | the file has to be refused, and why, in the words of `orcm` |
-| `NAME.merge` | in `merges/`: inputs, a line each; `NAME.orc` is what they become, byte for byte |
+| `NAME.merge` | in `merges/` and `order/`: inputs, a line each; `NAME.orc` is what they become, byte for byte |
 
 Each file with a `NAME.fault` has one fault, but for those of `order/`, which have two. Where a
 `NAME.json` stands beside it, that has the rows of the stripes before the bad one. Where a `NAME.merge`

@@ -202,6 +202,7 @@ RULES = {
     "merge-version": ("Merged files", OWN, "VersionDiffers: one version, one writer, one version of the writer"),
     "merge-stride": ("Merged files", OWN, "StrideDiffers: one stride"),
     "merge-kept": ("Merged files", OWN, "OtherFooterFields: the same fields above 10"),
+    "merge-order": ("Merged files", OWN, "input by input, and for each the first test that it doesn't pass"),
     "merge-limits": ("Merged files", OWN, "Limit: what is merged is within the limits of a file"),
     "written-v1": ("Integer runs, version 1", OWN, "the writer's choice of runs of version 1"),
     "written-v2": ("Integer runs, version 2", OWN, "the writer's choice of runs of version 2"),
