@@ -7,8 +7,8 @@ pub(crate) static STATUSES: &str =
 
 /// What stands behind that of `rows`.
 pub(crate) static ROWS_HELP: &str =
-    "A stripe's lines are printed once all of them are there. With --from 2:0 it begins at the first group of the third stripe, and
-reads none of the stripes before; the file has to have a row index.";
+    "A stripe's lines are printed once all of the stripe is known to be readable. With --from 2:0 it begins at the first group of
+the third stripe, and reads none of the stripes before; the file has to have a row index.";
 
 /// What stands behind that of `check`.
 pub(crate) static CHECK_HELP: &str =
@@ -27,13 +27,14 @@ array<KIND>, map<KIND,KIND> and struct<NAME:KIND,..>, as in
   struct<city:string,sold:array<struct<item:string,price:bigint>>>
 The JSON of a map is an array of its pairs, each an array of a key and its value.
 Version 2 of the run lengths (Hive 0.12) is the smaller one, and readers of today know it; 1 is what older ones read.
-A stripe's rows are held in memory while it is written and while it is read: 100000 is a good start.
+A stripe's rows are held in memory until it is written: 100000 is a good start.
 A row index lets readers begin in the middle of a stripe and pass over groups by their statistics: 10000 is what most
 writers take, and each entry costs some twenty bytes for each column.
 OUT must not be there yet.";
 
 /// What stands behind that of `merge`.
 pub(crate) static MERGE_HELP: &str =
-    "The files have to be of one schema, version, writer and stride. Nothing is written before all of them have passed.
-A refusal names a file by its number, counted from 0. OUT must not be there yet; after a refusal it holds what was
-written, which no reader takes for a file: orcm merge day.tmp hours/*.orc && mv day.tmp day.orc";
+    "The files have to be of one schema, version, writer and stride, with the same other fields in their footers, statistics of
+each stripe, and no two values of one name of the user metadata. Nothing is written before all of them have passed.
+A refusal names a file by its number, counted from 0, but for one that can't be opened. OUT must not be there yet; after a
+refusal it may hold a part, which isn't a whole ORC file: orcm merge day.tmp hours/*.orc && mv day.tmp day.orc";
