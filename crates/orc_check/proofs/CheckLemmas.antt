@@ -8,8 +8,8 @@ use Rattle.orc_wire.specs.declared.stripe_info.StripeInfo.{StripeInfo}
 use Rattle.orc_types.specs.Cells.{Cell}
 use Rattle.orc_types.specs.Shapes.{Shape, width}
 use Rattle.orc_stats.specs.declared.stat.Stat.{Stat}
-use Rattle.orc_columns.specs.Faults.{RowsFault}
-use Rattle.orc_columns.specs.Stripe.{HasFooter, IsStripe, columns_of}
+use Rattle.orc_column_reader.specs.Faults.{RowsFault}
+use Rattle.orc_column_reader.specs.Stripe.{HasFooter, IsStripe, columns_of}
 use Rattle.orc_stripe.specs.Opened.{Opened}
 use Rattle.orc_stripe.specs.Opening as opening
 use Rattle.orc_stripe.proofs.OneStripe.{by_footer}
@@ -19,8 +19,8 @@ use Rattle.orc_file.specs.Tails.{IsTail, OpenFault, ReadFault, tail_tests}
 use Rattle.orc_file.specs.declared.tail.Tail.{Tail}
 use Rattle.orc_file.specs.declared.fault.FileFault.{FileFault}
 use Rattle.orc_file.specs.declared.fault.FileFault.TheVariants.{Stripe, SourceFailed, OutOfMemory}
-use Rattle.orc_columns.specs.declared.fault.StripeFault.{StripeFault}
-use Rattle.orc_columns.specs.declared.fault.StripeFault.TheVariants as stripe
+use Rattle.orc_column_reader.specs.declared.fault.StripeFault.{StripeFault}
+use Rattle.orc_column_reader.specs.declared.fault.StripeFault.TheVariants as stripe
 use Rattle.orc_file.proofs.RowLemmas.{one_file, no_file, parts_cut}
 use Rattle.orc_check.specs.declared.finding.Finding.{Finding}
 use Rattle.orc_check.specs.Findings.{OfEach, OfStripe, OfStripes, OfFile, Findings, Adds, stripe_told, rows_at}

@@ -3,7 +3,7 @@ use Rattle.std.proofs.Common.{◌≡◌, ◌<◌, ℕ, List, [], length, get_or}
 use Rattle.std.specs.List.{AllByRecursion}
 use Rattle.orc_types.specs.Cells.{Cell}
 use Rattle.orc_stats.specs.declared.stat.Stat.{Stat}
-use Rattle.orc_columns.specs.Stripe.{IsStripe}
+use Rattle.orc_column_reader.specs.Stripe.{IsStripe}
 use Rattle.orc_file.specs.Stripes.{stripe_at}
 use Rattle.orc_file.specs.declared.tail.Tail.{Tail}
 use Rattle.orc_check.specs.declared.finding.Finding.{Finding}

@@ -8,10 +8,10 @@ use Rattle.orc_types.specs.Cells.{Cell}
 use Rattle.orc_types.specs.Columns.{cells}
 use Rattle.orc_types.specs.Shapes.{width, shape_at}
 use Rattle.orc_stats.specs.declared.stat.Stat.{Stat}
-use Rattle.orc_columns.specs.Stripe.{HasFooter, columns_of}
-use Rattle.orc_index.specs.Bounds.{before_group, group_of}
-use Rattle.orc_index.specs.Places.{AreReadPlaces}
-use Rattle.orc_written.specs.Groups.{starts, bounds_of}
+use Rattle.orc_column_reader.specs.Stripe.{HasFooter, columns_of}
+use Rattle.orc_row_index.specs.Bounds.{before_group, group_of}
+use Rattle.orc_row_index.specs.Places.{AreReadPlaces}
+use Rattle.orc_stripe_writer.specs.Groups.{starts, bounds_of}
 use Rattle.orc_stripe.specs.Opened.{Opened}
 use Rattle.orc_stripe.specs.RowIndexes.{HasIndex, IsWhole}
 use Rattle.orc_stripe.proofs.OneStripe.{one_footer}

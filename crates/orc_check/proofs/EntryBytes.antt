@@ -8,10 +8,10 @@ use Rattle.orc_wire.specs.Messages.{row_index, row_index_entry}
 use Rattle.orc_wire.specs.Spells.{Spells}
 use Rattle.orc_wire.specs.SpellsLaws.{text_some}
 use Rattle.orc_wire.specs.declared.row_index.RowIndexMsg.{RowIndexMsg}
-use Rattle.orc_columns.specs.Directory.{slice}
+use Rattle.orc_column_reader.specs.Directory.{slice}
 use Rattle.orc_stripe.specs.Opened.{Opened}
 use Rattle.orc_stripe.specs.RowIndexes.{HasIndex, IsWhole}
-use Rattle.orc_written.specs.Groups.{group_count}
+use Rattle.orc_stripe_writer.specs.Groups.{group_count}
 use Rattle.orc_check.specs.Needed.{HasRoom, MayBeWhole}
 
 one_at_most : {V : Type 0} (p : Option V) → length (option_to_list p) ≤ 1

@@ -4,7 +4,7 @@ use Rattle.std.proofs.Common.{◌≡◌, ◌∙◌, ℕ, zero, suc, ◌*◌, ◌
 use Rattle.std.proofs.lemmas.List.{length-map}
 use Rattle.orc_types.specs.Cells.{Cell}
 use Rattle.orc_types.specs.Shapes.{Shape}
-use Rattle.orc_written.specs.Groups.{group_count, starts, bounds_of, cells_before}
+use Rattle.orc_stripe_writer.specs.Groups.{group_count, starts, bounds_of, cells_before}
 use Rattle.std.proofs.lemmas.List.FromFn.{length-map-range_with_len}
 
 -- ---- answers

@@ -9,9 +9,9 @@ use Rattle.orc_wire.specs.declared.stripe_footer.StripeFooter.{StripeFooter}
 use Rattle.orc_types.specs.Cells.{Cell}
 use Rattle.orc_types.specs.Columns.{cells}
 use Rattle.orc_types.specs.Shapes.{width, shape_at}
-use Rattle.orc_columns.specs.Stripe.{SpellRows, columns_of}
-use Rattle.orc_positions.specs.Decided.{Decides, AreDecided}
-use Rattle.orc_written.specs.Groups.{group_count, starts, bounds_of}
+use Rattle.orc_column_reader.specs.Stripe.{SpellRows, columns_of}
+use Rattle.orc_row_index_check.specs.Decided.{Decides, AreDecided}
+use Rattle.orc_stripe_writer.specs.Groups.{group_count, starts, bounds_of}
 use Rattle.orc_stripe.specs.Opened.{Opened}
 use Rattle.orc_stripe.specs.RowIndexes.{HasIndex, IsWhole, ArePositionsDecided}
 use Rattle.orc_stripe.specs.GroupCursors.{HasGroup, HasRightEntry, StartsGroup}

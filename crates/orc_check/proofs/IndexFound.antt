@@ -11,16 +11,16 @@ use Rattle.orc_types.specs.Columns.{cells}
 use Rattle.orc_types.specs.Fits.{RowsFit}
 use Rattle.orc_types.proofs.Together.{cells_fit}
 use Rattle.orc_types.specs.Shapes.{Shape, width, shape_at}
-use Rattle.orc_columns.specs.Directory.{has_stream, slice}
-use Rattle.orc_columns.specs.Starting.{AreStreams}
-use Rattle.orc_columns.specs.Stripe.{Streams, IsColumn, columns_of, cell_limit}
-use Rattle.orc_columns.specs.declared.starting.ColumnStreams.{ColumnStreams}
-use Rattle.orc_index.specs.Bounds.{AreBounds, before_group}
-use Rattle.orc_index.specs.Walking.{AreCounted}
-use Rattle.orc_index.specs.declared.counts.Counts.{Counts}
+use Rattle.orc_column_reader.specs.Directory.{has_stream, slice}
+use Rattle.orc_column_reader.specs.Starting.{AreStreams}
+use Rattle.orc_column_reader.specs.Stripe.{Streams, IsColumn, columns_of, cell_limit}
+use Rattle.orc_column_reader.specs.declared.starting.ColumnStreams.{ColumnStreams}
+use Rattle.orc_row_index.specs.Bounds.{AreBounds, before_group}
+use Rattle.orc_row_index.specs.Walking.{AreCounted}
+use Rattle.orc_row_index.specs.declared.counts.Counts.{Counts}
 use Rattle.orc_column_walk.specs.declared.found.GroupFound.{GroupFound}
-use Rattle.orc_positions.specs.Decided.{AreDecided}
-use Rattle.orc_written.specs.Groups.{starts, bounds_of}
+use Rattle.orc_row_index_check.specs.Decided.{AreDecided}
+use Rattle.orc_stripe_writer.specs.Groups.{starts, bounds_of}
 use Rattle.orc_stripe.specs.IndexTexts.{text_of, listed, IsText, IsMessage}
 use Rattle.orc_stripe.specs.declared.view.index_texts.IndexText.{IndexText}
 use Rattle.orc_stripe.specs.Opened.{Opened}

@@ -14,12 +14,12 @@ use Rattle.orc_stats.specs.Known.{Agrees}
 use Rattle.orc_stats.specs.Messages.{stat_read}
 use Rattle.orc_stats.specs.Statistics.{stat}
 use Rattle.orc_stats.proofs.Agreed.{same_agrees}
-use Rattle.orc_columns.specs.Stripe.{Streams, HasFooter, IsStripe, columns_of}
-use Rattle.orc_index.specs.Bounds.{before_group, group_of}
-use Rattle.orc_index.specs.Places.{AreReadPlaces}
-use Rattle.orc_index.specs.RowIndex.{SaysStat}
-use Rattle.orc_written.specs.Groups.{starts, bounds_of}
-use Rattle.orc_written.specs.WrittenStripe.{HasRightIndex, column_stat}
+use Rattle.orc_column_reader.specs.Stripe.{Streams, HasFooter, IsStripe, columns_of}
+use Rattle.orc_row_index.specs.Bounds.{before_group, group_of}
+use Rattle.orc_row_index.specs.Places.{AreReadPlaces}
+use Rattle.orc_row_index.specs.RowIndex.{SaysStat}
+use Rattle.orc_stripe_writer.specs.Groups.{starts, bounds_of}
+use Rattle.orc_stripe_writer.specs.WrittenStripe.{HasRightIndex, column_stat}
 use Rattle.orc_stripe.specs.Opened.{Opened}
 use Rattle.orc_file.specs.Stripes.{stripe_at}
 use Rattle.orc_file.specs.FileRows.{stripe_bytes, opened_stripe, cut_rows, AreOfStripes, FileIs}

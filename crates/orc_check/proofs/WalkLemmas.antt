@@ -16,14 +16,14 @@ use Rattle.orc_stats.specs.Kinds.{kind_of}
 use Rattle.orc_stats.specs.Known.{known_as, told_body}
 use Rattle.orc_stats.specs.Statistics.{stat}
 use Rattle.orc_stats.specs.declared.stat.Stat.{Stat}
-use Rattle.orc_columns.specs.Faults.{RowsFault}
-use Rattle.orc_columns.specs.Located.{AreLocated}
-use Rattle.orc_columns.specs.Stripe.{Streams, HasFooter, IsStripe, SpellRows, columns_of, cell_limit}
-use Rattle.orc_columns.specs.declared.fault.StripeFault.{StripeFault}
-use Rattle.orc_columns.specs.declared.fault.StripeFault.TheVariants.{TooMany}
-use Rattle.orc_columns.proofs.Arms.{some_width}
-use Rattle.orc_index.specs.Bounds.{AreBounds, bound_at, elements_before, pairs_before, values_before}
-use Rattle.orc_index.proofs.Groups.{element_bounds_are, field_bounds_are, keys_long, map_values_long}
+use Rattle.orc_column_reader.specs.Faults.{RowsFault}
+use Rattle.orc_column_reader.specs.Located.{AreLocated}
+use Rattle.orc_column_reader.specs.Stripe.{Streams, HasFooter, IsStripe, SpellRows, columns_of, cell_limit}
+use Rattle.orc_column_reader.specs.declared.fault.StripeFault.{StripeFault}
+use Rattle.orc_column_reader.specs.declared.fault.StripeFault.TheVariants.{TooMany}
+use Rattle.orc_column_reader.proofs.Arms.{some_width}
+use Rattle.orc_row_index.specs.Bounds.{AreBounds, bound_at, elements_before, pairs_before, values_before}
+use Rattle.orc_row_index.proofs.Groups.{element_bounds_are, field_bounds_are, keys_long, map_values_long}
 use Rattle.orc_column_walk.specs.ColumnFound.{IsColumnFound, bounds_below}
 use Rattle.orc_column_walk.specs.OwnColumns.{IsOwnColumn, OwnDown}
 use Rattle.orc_column_walk.specs.OwnFaults.{IsRefused, RefusedDown}
@@ -33,10 +33,10 @@ use Rattle.orc_column_walk.proofs.OwnRows.{down_rows}
 use Rattle.orc_column_walk.proofs.RefusedLemmas.{refused_rows}
 use Rattle.orc_column_walk.proofs.TreeLemmas.{FieldsRead, too_many_rows}
 use Rattle.orc_column_walk.proofs.FoundLemmas.{found_of_rows}
-use Rattle.orc_written.specs.Groups.{group_count, starts, bounds_of, AreGroupsFrom, AreFieldGroupsFrom}
-use Rattle.orc_written.specs.Subtrees.{AreColumnsFrom, AreFieldsFrom}
-use Rattle.orc_written.proofs.GroupLemmas.{bounds_here, groups_at_root, groups_element, groups_pairs, groups_fields, groups_first, groups_others, heads_long, pair_bounds_are}
-use Rattle.orc_written.proofs.SubtreeLemmas.{type_from, cells_from, all_columns_from, element_from, pairs_from, fields_from, first_from, others_from, fields_at, none_after, nothing_dropped, dropped_more}
+use Rattle.orc_stripe_writer.specs.Groups.{group_count, starts, bounds_of, AreGroupsFrom, AreFieldGroupsFrom}
+use Rattle.orc_stripe_writer.specs.Subtrees.{AreColumnsFrom, AreFieldsFrom}
+use Rattle.orc_stripe_writer.proofs.GroupLemmas.{bounds_here, groups_at_root, groups_element, groups_pairs, groups_fields, groups_first, groups_others, heads_long, pair_bounds_are}
+use Rattle.orc_stripe_writer.proofs.SubtreeLemmas.{type_from, cells_from, all_columns_from, element_from, pairs_from, fields_from, first_from, others_from, fields_at, none_after, nothing_dropped, dropped_more}
 use Rattle.orc_stripe.specs.Opened.{Opened}
 use Rattle.orc_check.specs.declared.columns.CellGroups.{CellGroups}
 use Rattle.orc_check.specs.declared.finding.Finding.{Finding}

@@ -10,12 +10,12 @@ use Rattle.orc_wire.specs.declared.stripe_info.StripeInfo.{StripeInfo}
 use Rattle.orc_types.specs.Cells.{Cell}
 use Rattle.orc_types.specs.Fits.{RowsFit}
 use Rattle.orc_types.specs.Shapes.{Shape}
-use Rattle.orc_columns.specs.Stripe.{HasFooter, IsStripe}
-use Rattle.orc_written.specs.declared.options.Options.{Options}
-use Rattle.orc_written.specs.Indexes.{index_bytes}
-use Rattle.orc_written.specs.WrittenStripe.{AreFew}
-use Rattle.orc_written.proofs.StripeLaws.{indexes_right}
-use Rattle.orc_written.proofs.WrittenDirectory.{drop_front}
+use Rattle.orc_column_reader.specs.Stripe.{HasFooter, IsStripe}
+use Rattle.orc_stripe_writer.specs.declared.options.Options.{Options}
+use Rattle.orc_stripe_writer.specs.Indexes.{index_bytes}
+use Rattle.orc_stripe_writer.specs.WrittenStripe.{AreFew}
+use Rattle.orc_stripe_writer.proofs.StripeLaws.{indexes_right}
+use Rattle.orc_stripe_writer.proofs.WrittenDirectory.{drop_front}
 use Rattle.orc_file.specs.Layout.{magic}
 use Rattle.orc_file.specs.Stripes.{stripe_at, stripe_length}
 use Rattle.orc_file.specs.Images.{tail_text}

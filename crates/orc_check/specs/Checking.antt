@@ -12,8 +12,8 @@ use Rattle.orc_file.specs.declared.fault.FileFault.{FileFault}
 use Rattle.orc_types.specs.Cells.{Cell}
 use Rattle.orc_stats.specs.declared.stat.Stat.{Stat}
 use Rattle.orc_stats.specs.Known.{known_as, told_body}
-use Rattle.orc_columns.specs.Stripe.{IsStripe, cell_limit}
-use Rattle.orc_written.specs.WrittenStripe.{column_stat}
+use Rattle.orc_column_reader.specs.Stripe.{IsStripe, cell_limit}
+use Rattle.orc_stripe_writer.specs.WrittenStripe.{column_stat}
 use Rattle.orc_file.specs.declared.tail.Tail.{Tail}
 use Rattle.orc_check.specs.declared.finding.Finding.{Finding}
 use Rattle.orc_check.specs.Findings.{OfStripe, Adds, stripe_told}

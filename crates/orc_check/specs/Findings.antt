@@ -13,11 +13,11 @@ use Rattle.orc_stats.specs.Kinds.{kind_of}
 use Rattle.orc_stats.specs.Messages.{stat_read}
 use Rattle.orc_stats.specs.Statistics.{stat}
 use Rattle.orc_stats.specs.declared.stat.Stat.{Stat}
-use Rattle.orc_columns.specs.Stripe.{Streams, HasFooter, columns_of}
-use Rattle.orc_index.specs.Bounds.{before_group, group_of}
-use Rattle.orc_index.specs.Places.{AreReadPlaces}
-use Rattle.orc_written.specs.Groups.{starts, bounds_of}
-use Rattle.orc_written.specs.WrittenStripe.{column_stat}
+use Rattle.orc_column_reader.specs.Stripe.{Streams, HasFooter, columns_of}
+use Rattle.orc_row_index.specs.Bounds.{before_group, group_of}
+use Rattle.orc_row_index.specs.Places.{AreReadPlaces}
+use Rattle.orc_stripe_writer.specs.Groups.{starts, bounds_of}
+use Rattle.orc_stripe_writer.specs.WrittenStripe.{column_stat}
 use Rattle.orc_stripe.specs.Opened.{Opened}
 use Rattle.orc_stripe.specs.RowIndexes.{HasIndex, IsWhole}
 use Rattle.orc_file.specs.Stripes.{stripe_at}

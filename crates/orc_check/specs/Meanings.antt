@@ -7,10 +7,10 @@ use Rattle.orc_wire.specs.declared.stripe_footer.StripeFooter.{StripeFooter}
 use Rattle.orc_types.specs.Cells.{Cell}
 use Rattle.orc_types.specs.Columns.{cells}
 use Rattle.orc_types.specs.Shapes.{width, shape_at}
-use Rattle.orc_columns.specs.Stripe.{HasFooter, columns_of}
-use Rattle.orc_index.specs.Bounds.{before_group, group_of}
-use Rattle.orc_index.specs.Places.{AreReadPlaces}
-use Rattle.orc_written.specs.Groups.{starts, bounds_of}
+use Rattle.orc_column_reader.specs.Stripe.{HasFooter, columns_of}
+use Rattle.orc_row_index.specs.Bounds.{before_group, group_of}
+use Rattle.orc_row_index.specs.Places.{AreReadPlaces}
+use Rattle.orc_stripe_writer.specs.Groups.{starts, bounds_of}
 use Rattle.orc_stripe.specs.RowIndexes.{HasIndex, IsWhole}
 use Rattle.orc_file.specs.Stripes.{stripe_at}
 use Rattle.orc_file.specs.FileRows.{stripe_bytes, opened_stripe}

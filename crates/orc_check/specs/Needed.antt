@@ -1,7 +1,7 @@
 -- Which columns' groups are needed: those whose row index may have an entry for each group (own; ORC specification, "Row
 -- Group Index").
 use Rattle.std.specs.Prelude.{ℕ, ◌<◌, ◌≤◌, Option, Some, None, List, length}
-use Rattle.orc_written.specs.Groups.{group_count}
+use Rattle.orc_stripe_writer.specs.Groups.{group_count}
 use Rattle.orc_stripe.specs.IndexTexts.{listed}
 use Rattle.orc_stripe.specs.Opened.{Opened}
 

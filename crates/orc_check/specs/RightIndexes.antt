@@ -9,11 +9,11 @@ use Rattle.orc_wire.specs.declared.stripe_info.StripeInfo.{StripeInfo}
 use Rattle.orc_types.specs.Cells.{Cell}
 use Rattle.orc_types.specs.Columns.{cells}
 use Rattle.orc_types.specs.Shapes.{Shape, width, shape_at}
-use Rattle.orc_columns.specs.Directory.{has_stream, slice}
-use Rattle.orc_columns.specs.Stripe.{Streams, HasFooter, columns_of}
-use Rattle.orc_index.specs.Bounds.{before_group, group_of}
-use Rattle.orc_index.specs.Places.{AreReadPlaces}
-use Rattle.orc_written.specs.Groups.{starts, bounds_of}
+use Rattle.orc_column_reader.specs.Directory.{has_stream, slice}
+use Rattle.orc_column_reader.specs.Stripe.{Streams, HasFooter, columns_of}
+use Rattle.orc_row_index.specs.Bounds.{before_group, group_of}
+use Rattle.orc_row_index.specs.Places.{AreReadPlaces}
+use Rattle.orc_stripe_writer.specs.Groups.{starts, bounds_of}
 use Rattle.orc_stripe.specs.GroupCursors.{HasGroup, StartsGroup}
 use Rattle.orc_file.specs.Stripes.{stripe_at}
 use Rattle.orc_file.specs.FileRows.{stripe_bytes, opened_stripe, cut_rows}

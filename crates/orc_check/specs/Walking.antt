@@ -7,15 +7,15 @@ use Rattle.orc_types.specs.Shapes.{Shape, Fields, width, widths, shape_at}
 use Rattle.orc_stats.specs.Kinds.{kind_of}
 use Rattle.orc_stats.specs.Statistics.{stat}
 use Rattle.orc_stats.specs.declared.stat.Stat.{Stat}
-use Rattle.orc_columns.specs.Located.{AreLocated}
-use Rattle.orc_columns.specs.Stripe.{SpellRows, columns_of, cell_limit}
-use Rattle.orc_index.specs.Bounds.{AreBounds, bound_at}
+use Rattle.orc_column_reader.specs.Located.{AreLocated}
+use Rattle.orc_column_reader.specs.Stripe.{SpellRows, columns_of, cell_limit}
+use Rattle.orc_row_index.specs.Bounds.{AreBounds, bound_at}
 use Rattle.orc_column_walk.specs.ColumnFound.{IsGroupFound, bounds_below}
 use Rattle.orc_column_walk.specs.OwnLeft.{children}
 use Rattle.orc_column_walk.specs.declared.found.GroupFound.{GroupFound}
 use Rattle.orc_column_walk.specs.declared.found.ColumnFound.{ColumnFound}
-use Rattle.orc_written.specs.Groups.{starts, bounds_of, AreGroupsFrom, AreFieldGroupsFrom}
-use Rattle.orc_written.specs.Subtrees.{AreColumnsFrom, AreFieldsFrom, FieldsFit}
+use Rattle.orc_stripe_writer.specs.Groups.{starts, bounds_of, AreGroupsFrom, AreFieldGroupsFrom}
+use Rattle.orc_stripe_writer.specs.Subtrees.{AreColumnsFrom, AreFieldsFrom, FieldsFit}
 use Rattle.orc_stripe.specs.IndexTexts.{AreIndexTexts}
 use Rattle.orc_stripe.specs.Opened.{Opened}
 use Rattle.orc_check.specs.declared.finding.Finding.{Finding}

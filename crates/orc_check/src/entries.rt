@@ -6,7 +6,7 @@ ghost use Rattle.orc_types.specs.Views.{shape};
 ghost use Rattle.orc_stats.specs.Messages.{in_limits, stat_read};
 ghost use Rattle.orc_stats.specs.Kinds.{kind_of};
 ghost use Rattle.orc_stats.specs.Statistics.{stat};
-ghost use Rattle.orc_columns.specs.Stripe.{cell_limit};
+ghost use Rattle.orc_column_reader.specs.Stripe.{cell_limit};
 ghost use Rattle.orc_check.specs.Agreeing.{Tells};
 ghost use Rattle.orc_check.specs.Findings.{TellsGroup};
 

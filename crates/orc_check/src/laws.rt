@@ -2,7 +2,7 @@
 ghost use Rattle.std.specs.Prelude.{◌≡◌, ◌↔◌, ℕ, List, [], Contains};
 ghost use Rattle.orc_types.specs.Cells.{Cell};
 ghost use Rattle.orc_types.specs.Shapes.{Shape};
-ghost use Rattle.orc_written.specs.declared.options.Options.{Options};
+ghost use Rattle.orc_stripe_writer.specs.declared.options.Options.{Options};
 ghost use Rattle.orc_file.specs.FileRows.{FileIs, cut_rows};
 ghost use Rattle.orc_file.specs.Honest.{Honest};
 ghost use Rattle.orc_file.specs.Writing.{IsWrittenFile};

@@ -4,16 +4,16 @@ ghost use Rattle.orc_file.specs.Stripes.{AllBefore, most_bytes, stripe_at, strip
 ghost use Rattle.orc_file.specs.FileRows as rows;
 ghost use Rattle.orc_file.specs.FileRows.{StripeRefused};
 ghost use Rattle.orc_file.specs.Tails.{ReadFault};
-ghost use Rattle.orc_columns.specs.declared.fault.StripeFault.TheVariants as stripe;
+ghost use Rattle.orc_column_reader.specs.declared.fault.StripeFault.TheVariants as stripe;
 ghost use Rattle.orc_file.specs.declared.fault.FileFault.TheVariants.{Stripe, SourceFailed, OutOfMemory};
 ghost use Rattle.orc_check.specs.Findings.{stripe_told};
 ghost use Rattle.orc_check.specs.Checking.{IsChecked};
 
 use crate::columns::check_columns;
 use crate::finding::Finding;
-use orc_columns::fault::StripeFault;
-use orc_devices::Source;
+use orc_column_reader::fault::StripeFault;
 use orc_file::{FileFault, Tail, load_stripe, view_stripe};
+use orc_io::Source;
 use orc_stats::Stat;
 use orc_wire::Items;
 use std::alloc::Global;

@@ -5,19 +5,21 @@ ghost use Rattle.std.specs.Prelude.{◌≡◌, ◌<◌, ◌^◌, [], IfOk, IfErr
 ghost use Rattle.std.specs.Io.KnownBytes.{Keeps};
 ghost use Rattle.std.specs.Io.Buffered.{writer_inner, writer_buffer, writer_capacity, writer_contents};
 ghost use Rattle.orc_file.specs.declared.fault.FileFault.TheVariants.{WriteFailed, OutOfMemory};
-ghost use Rattle.orc_output.specs.declared.fault.CliFault.TheVariants.{File as FileFaulted};
+ghost use Rattle.orc_cli_output.specs.declared.fault.CliFault.TheVariants.{File as FileFaulted};
 ghost use Rattle.orc_cli.specs.declared.Outcome.TheVariants.{Done, Found};
 
+use orc_cli_args::{
+    Asked, Refusal, Request, new_file, read_words, request_of, source_of, words_of,
+};
+pub use orc_cli_check::check_to;
+pub use orc_cli_ints::ints_to;
+pub use orc_cli_output::CliFault;
+pub use orc_cli_rows::rows_to;
+pub use orc_cli_show::show_to;
+pub use orc_cli_write::{write_from, write_lines};
 use orc_file::{FileFault, Sink, StdSink};
-pub use orc_findings::check_to;
-pub use orc_ints::ints_to;
-pub use orc_lines::{write_from, write_lines};
 use orc_merge::MergeFault;
 pub use orc_merge::merge as merge_to;
-pub use orc_output::CliFault;
-use orc_request::{Asked, Refusal, Request, new_file, read_words, request_of, source_of, words_of};
-pub use orc_rows::rows_to;
-pub use orc_show::show_to;
 use orc_stripe::Options;
 use std::alloc::Global;
 use std::fs::File;
@@ -80,7 +82,7 @@ impl From<Refusal> for Ending {
 impl From<CliFault> for Ending {
     ghost use Rattle.std.specs.Prelude.{◌≡◌};
     ghost use Rattle.orc_cli.specs.declared.Ending.TheVariants.{Refused};
-    ghost use Rattle.orc_request.specs.declared.command_line.Refusal.TheVariants.{Fault};
+    ghost use Rattle.orc_cli_args.specs.declared.command_line.Refusal.TheVariants.{Fault};
 
     ghost from_gives = { λ fault ending. ending ≡ Refused (Fault fault) };
 

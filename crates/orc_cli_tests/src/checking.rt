@@ -4,9 +4,9 @@ use crate::assertions::{check_bytes, check_same, demand};
 use crate::commands::{check_text, wants_memory};
 use crate::files::{NO_ROWS, SIX_SEVENS, THREE_SEVENS};
 use crate::trickle::{AtItsEnd, Trickle};
+use orc_cli_check::check_to;
+use orc_cli_output::CliFault;
 use orc_file::{FileFault, SliceSource};
-use orc_findings::check_to;
-use orc_output::CliFault;
 use std::alloc::{AllocError, Global};
 use std::process::Abort;
 

@@ -3,8 +3,8 @@
 use crate::assertions::check_same;
 use clap::error::ErrorKind;
 use clap::{ArgMatches, Error};
-use orc_output::number_of;
-use orc_request::{Request, SIGNS, VERSIONS, matches_of, request_of};
+use orc_cli_args::{Request, SIGNS, VERSIONS, matches_of, request_of};
+use orc_cli_output::number_of;
 use orc_rle::{Rle, Sign};
 use std::alloc::Global;
 use std::convert::AsStr;

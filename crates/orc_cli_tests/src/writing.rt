@@ -3,9 +3,9 @@
 use crate::assertions::{check_bytes, check_same, demand};
 use crate::commands::wants_memory;
 use crate::files::{NO_ROWS, SIX_SEVENS, THREE_SEVENS};
+use orc_cli_output::CliFault;
+use orc_cli_write::{write_from, write_lines};
 use orc_file::{FileFault, VecSink};
-use orc_lines::{write_from, write_lines};
-use orc_output::CliFault;
 use orc_rle::Rle;
 use orc_stripe::Options;
 use orc_types::{JsonFault, TypeFault};

@@ -8,15 +8,15 @@ use Rattle.std.proofs.Math.Seq.{take-append_seam, drop-append_seam}
 use borrow.Rule.Slice.PartMut.{put_mid}
 use Rattle.orc_types.specs.Cells.{Cell, null}
 use Rattle.orc_types.specs.Shapes.{Shape, Fields, no_field, field, width, widths}
-use Rattle.orc_columns.specs.Columns.{CellsLeft, FieldsLeft}
-use Rattle.orc_columns.specs.Fronts.{Leaves, Lacks}
-use Rattle.orc_columns.specs.ReaderFaults.{CellsMeet, FieldsMeet}
-use Rattle.orc_columns.specs.declared.column.ColumnReader.{ColumnReader}
-use Rattle.orc_columns.specs.declared.fault.StripeFault.{StripeFault}
-use Rattle.orc_columns.proofs.Arms.{fields_none, fields_lack_first, fields_lack_others}
-use Rattle.orc_columns.proofs.Fronts.{fielded_leaves}
-use Rattle.orc_row_text.specs.Layouts.{Part, parts_text}
-use Rattle.orc_row_text.specs.declared.layout.FieldColumns.{FieldColumns}
+use Rattle.orc_column_reader.specs.Columns.{CellsLeft, FieldsLeft}
+use Rattle.orc_column_reader.specs.Fronts.{Leaves, Lacks}
+use Rattle.orc_column_reader.specs.ReaderFaults.{CellsMeet, FieldsMeet}
+use Rattle.orc_column_reader.specs.declared.column.ColumnReader.{ColumnReader}
+use Rattle.orc_column_reader.specs.declared.fault.StripeFault.{StripeFault}
+use Rattle.orc_column_reader.proofs.Arms.{fields_none, fields_lack_first, fields_lack_others}
+use Rattle.orc_column_reader.proofs.Fronts.{fielded_leaves}
+use Rattle.orc_json.specs.Layouts.{Part, parts_text}
+use Rattle.orc_json.specs.declared.layout.FieldColumns.{FieldColumns}
 use Rattle.orc_column_text.specs.Taken.{Printed}
 use Rattle.orc_column_text.specs.Regions.{field_at, columns_before, readers_at, AreColumnsOf, member_of, AreMembersOf, GaveCell, PrintedMember}
 

@@ -7,15 +7,15 @@ use Rattle.orc_types.specs.Shapes.{Fields, width, widths}
 use Rattle.orc_types.specs.Views.{shape, fields}
 use Rattle.orc_types.specs.declared.tree.Field.{Field}
 use Rattle.orc_types.proofs.Views.{name_and_type-is}
-use Rattle.orc_columns.specs.Columns.{CellsLeft, FieldsLeft}
-use Rattle.orc_columns.specs.Fronts.{Lacks}
-use Rattle.orc_columns.specs.ReaderFaults.{CellsMeet, FieldsMeet}
-use Rattle.orc_columns.specs.declared.column.ColumnReader.{ColumnReader}
-use Rattle.orc_columns.specs.declared.fault.StripeFault.{StripeFault}
-use Rattle.orc_row_text.specs.Layouts.{Part, part, member_parts, text_by}
-use Rattle.orc_row_text.specs.declared.layout.FieldColumns.{FieldColumns}
-use Rattle.orc_row_text.specs.declared.layout.Member.{Member}
-use Rattle.orc_row_text.proofs.Layouts.{part-is}
+use Rattle.orc_column_reader.specs.Columns.{CellsLeft, FieldsLeft}
+use Rattle.orc_column_reader.specs.Fronts.{Lacks}
+use Rattle.orc_column_reader.specs.ReaderFaults.{CellsMeet, FieldsMeet}
+use Rattle.orc_column_reader.specs.declared.column.ColumnReader.{ColumnReader}
+use Rattle.orc_column_reader.specs.declared.fault.StripeFault.{StripeFault}
+use Rattle.orc_json.specs.Layouts.{Part, part, member_parts, text_by}
+use Rattle.orc_json.specs.declared.layout.FieldColumns.{FieldColumns}
+use Rattle.orc_json.specs.declared.layout.Member.{Member}
+use Rattle.orc_json.proofs.Layouts.{part-is}
 use Rattle.orc_column_text.specs.Taken.{Printed}
 use Rattle.orc_column_text.specs.Regions.{field_at, columns_before, readers_at, AreColumnsOf, member_of, AreMembersOf, GaveCell, PrintedMember}
 use Rattle.orc_column_text.proofs.AnyOrder.{many, region_within, columns_many, Reading, reading_next, reading_lacks, reading_meets}

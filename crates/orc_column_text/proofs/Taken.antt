@@ -5,18 +5,18 @@ use Rattle.serde_json.specs.Written.{comma_if}
 use Rattle.orc_types.specs.Cells.{Cell, list, struct, pairs, cells_of, pairs_of}
 use Rattle.orc_types.specs.Shapes.{Shape, scalar, list_of, map_of, struct_of, Fields, width}
 use Rattle.orc_types.specs.declared.kind.Scalar.{Scalar}
-use Rattle.orc_columns.specs.Fronts.{Leaves}
-use Rattle.orc_columns.specs.Columns.{CellsLeft, OwnLeft, ScalarLeft, ListsOf, MapsOf, PairsLeft, FieldsLeft, MarksLeft, marks_of}
-use Rattle.orc_columns.specs.declared.column.ColumnReader.{ColumnReader}
-use Rattle.orc_columns.specs.declared.column.ValueSource.{ValueSource}
-use Rattle.orc_columns.proofs.Arms.{cell_value, own_list, own_map, own_struct, pair_next}
-use Rattle.orc_columns.proofs.Fronts.{one_after_other}
-use Rattle.orc_row_text.specs.Layouts.{text_by, member_parts, parts_text, leaf_text, pair_text, pair_texts}
-use Rattle.orc_row_text.specs.declared.layout.Layout.{Layout, Leaf, List as ListOf, Map as MapLayout, Struct}
-use Rattle.orc_row_text.specs.declared.layout.Member.{Member}
-use Rattle.orc_row_text.specs.declared.layout.FieldColumns.{FieldColumns}
-use Rattle.orc_row_text.specs.declared.layout.PairLayout.{PairLayout}
-use Rattle.orc_row_text.proofs.Layouts.{text_by-Leaf, pair_texts-is}
+use Rattle.orc_column_reader.specs.Fronts.{Leaves}
+use Rattle.orc_column_reader.specs.Columns.{CellsLeft, OwnLeft, ScalarLeft, ListsOf, MapsOf, PairsLeft, FieldsLeft, MarksLeft, marks_of}
+use Rattle.orc_column_reader.specs.declared.column.ColumnReader.{ColumnReader}
+use Rattle.orc_column_reader.specs.declared.column.ValueSource.{ValueSource}
+use Rattle.orc_column_reader.proofs.Arms.{cell_value, own_list, own_map, own_struct, pair_next}
+use Rattle.orc_column_reader.proofs.Fronts.{one_after_other}
+use Rattle.orc_json.specs.Layouts.{text_by, member_parts, parts_text, leaf_text, pair_text, pair_texts}
+use Rattle.orc_json.specs.declared.layout.Layout.{Layout, Leaf, List as ListOf, Map as MapLayout, Struct}
+use Rattle.orc_json.specs.declared.layout.Member.{Member}
+use Rattle.orc_json.specs.declared.layout.FieldColumns.{FieldColumns}
+use Rattle.orc_json.specs.declared.layout.PairLayout.{PairLayout}
+use Rattle.orc_json.proofs.Layouts.{text_by-Leaf, pair_texts-is}
 use Rattle.orc_column_text.specs.Taken.{Printed, PrintedValue, PrintedAll}
 use Rattle.orc_column_text.specs.Texts.{texts}
 use Rattle.orc_column_text.proofs.Texts.{follows, follows-snoc, texts-snoc, list_printed, map_printed, struct_printed}

@@ -4,14 +4,14 @@ use Rattle.std.proofs.Math.Seq.{take-length}
 use Rattle.serde_json.specs.Written.{comma_if}
 use Rattle.orc_types.specs.Cells.{Cell, null, list, struct, pairs, cells_of, pairs_of}
 use Rattle.orc_types.proofs.Views.{list_of_cells-cells_of, list_of_pairs-pairs_of}
-use Rattle.orc_row_text.specs.Layouts.{Part, PairTexts, text_by, part, member_parts, layout_step, null_text, elements_text, parts_text, pair_text, pair_texts, pairs_text}
-use Rattle.orc_row_text.specs.declared.layout.Layout.{Layout, List as ListOf, Map as MapLayout, Struct}
-use Rattle.orc_row_text.specs.declared.layout.Layout.TheFolds.{the_lemmas}
-use Rattle.orc_row_text.specs.declared.layout.Layout.TheOpen.{Layout-F}
-use Rattle.orc_row_text.specs.declared.layout.Member.{Member}
-use Rattle.orc_row_text.specs.declared.layout.FieldColumns.{FieldColumns}
-use Rattle.orc_row_text.specs.declared.layout.PairLayout.{PairLayout}
-use Rattle.orc_row_text.proofs.Layouts.{text_by-List, text_by-Map, text_by-Struct, part-is}
+use Rattle.orc_json.specs.Layouts.{Part, PairTexts, text_by, part, member_parts, layout_step, null_text, elements_text, parts_text, pair_text, pair_texts, pairs_text}
+use Rattle.orc_json.specs.declared.layout.Layout.{Layout, List as ListOf, Map as MapLayout, Struct}
+use Rattle.orc_json.specs.declared.layout.Layout.TheFolds.{the_lemmas}
+use Rattle.orc_json.specs.declared.layout.Layout.TheOpen.{Layout-F}
+use Rattle.orc_json.specs.declared.layout.Member.{Member}
+use Rattle.orc_json.specs.declared.layout.FieldColumns.{FieldColumns}
+use Rattle.orc_json.specs.declared.layout.PairLayout.{PairLayout}
+use Rattle.orc_json.proofs.Layouts.{text_by-List, text_by-Map, text_by-Struct, part-is}
 use Rattle.orc_column_text.specs.Texts.{texts}
 
 -- ---- null

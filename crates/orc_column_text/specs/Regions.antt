@@ -4,13 +4,13 @@ use Rattle.std.specs.Prelude.{◌≡◌, ℕ, zero, suc, ◌+◌, Bool, Some, Li
 use Rattle.orc_types.specs.Cells.{Cell}
 use Rattle.orc_types.specs.Shapes.{Shape, scalar, Fields, no_field, field, width}
 use Rattle.orc_types.specs.declared.kind.Scalar.TheVariants as kind
-use Rattle.orc_columns.specs.Columns.{CellsLeft}
-use Rattle.orc_columns.specs.Fronts.{Leaves}
-use Rattle.orc_columns.specs.ReaderFaults.{CellsMeet}
-use Rattle.orc_columns.specs.declared.column.ColumnReader.{ColumnReader}
-use Rattle.orc_columns.specs.declared.fault.StripeFault.{StripeFault}
-use Rattle.orc_row_text.specs.Layouts.{Part}
-use Rattle.orc_row_text.specs.declared.layout.FieldColumns.{FieldColumns}
+use Rattle.orc_column_reader.specs.Columns.{CellsLeft}
+use Rattle.orc_column_reader.specs.Fronts.{Leaves}
+use Rattle.orc_column_reader.specs.ReaderFaults.{CellsMeet}
+use Rattle.orc_column_reader.specs.declared.column.ColumnReader.{ColumnReader}
+use Rattle.orc_column_reader.specs.declared.fault.StripeFault.{StripeFault}
+use Rattle.orc_json.specs.Layouts.{Part}
+use Rattle.orc_json.specs.declared.layout.FieldColumns.{FieldColumns}
 use borrow.Rule.Slice.PartMut.{put_mid}
 
 -- the type of the field at a place

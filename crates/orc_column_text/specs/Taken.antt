@@ -3,9 +3,9 @@
 use Rattle.std.specs.Prelude.{◌≡◌, ℕ, List, [], ◌∷◌, ◌++◌, Bool, true, false, length}
 use Rattle.orc_types.specs.Cells.{Cell, is_value}
 use Rattle.orc_types.specs.Shapes.{Shape}
-use Rattle.orc_columns.specs.Columns.{CellsLeft}
-use Rattle.orc_columns.specs.Fronts.{Leaves}
-use Rattle.orc_columns.specs.declared.column.ColumnReader.{ColumnReader}
+use Rattle.orc_column_reader.specs.Columns.{CellsLeft}
+use Rattle.orc_column_reader.specs.Fronts.{Leaves}
+use Rattle.orc_column_reader.specs.declared.column.ColumnReader.{ColumnReader}
 
 -- one is taken, and its text is put behind what was there
 pub record Printed {X : Type 0} (before after : List X → Type 0) (text : X → List ℕ) (old new : List ℕ) : Type 0 where

@@ -3,23 +3,23 @@ ghost use Rattle.std.specs.Prelude.{◌≡◌, ◌≢◌, ◌+◌, ◌<◌, ◌�
 ghost use Rattle.orc_types.specs.Cells.{Cell};
 ghost use Rattle.orc_types.specs.Shapes.{width, widths};
 ghost use Rattle.orc_types.specs.Views.{shape, fields as fields_view};
-ghost use Rattle.orc_columns.specs.Fronts.{Leaves, Lacks};
-ghost use Rattle.orc_columns.specs.Columns.{CellsLeft, OwnLeft, ScalarLeft, ListsOf, MapsOf, PairsLeft, FieldsLeft, column_of, marks_of};
-ghost use Rattle.orc_columns.specs.ReaderFaults.{CellsMeet, OwnMeet, ScalarMeets, ListsOfMeet, MapsOfMeet, PairsMeet, FieldsMeet};
-ghost use Rattle.orc_columns.specs.declared.fault.StripeFault.{StripeFault as Fault};
-ghost use Rattle.orc_columns.specs.declared.fault.StripeFault.TheVariants.{OutOfMemory};
-ghost use Rattle.orc_row_text.specs.Layouts.{text_by, leaf_text, pair_text, pair_texts, part, member_parts, parts_text};
+ghost use Rattle.orc_column_reader.specs.Fronts.{Leaves, Lacks};
+ghost use Rattle.orc_column_reader.specs.Columns.{CellsLeft, OwnLeft, ScalarLeft, ListsOf, MapsOf, PairsLeft, FieldsLeft, column_of, marks_of};
+ghost use Rattle.orc_column_reader.specs.ReaderFaults.{CellsMeet, OwnMeet, ScalarMeets, ListsOfMeet, MapsOfMeet, PairsMeet, FieldsMeet};
+ghost use Rattle.orc_column_reader.specs.declared.fault.StripeFault.{StripeFault as Fault};
+ghost use Rattle.orc_column_reader.specs.declared.fault.StripeFault.TheVariants.{OutOfMemory};
+ghost use Rattle.orc_json.specs.Layouts.{text_by, leaf_text, pair_text, pair_texts, part, member_parts, parts_text};
 ghost use Rattle.orc_column_text.specs.Regions.{field_at, columns_before, readers_at, AreColumnsOf, AreMembersOf, PrintedMember};
 ghost use Rattle.orc_column_text.specs.Taken.{Printed, PrintedValue, PrintedAll};
 ghost use Rattle.orc_column_text.specs.Texts.{texts};
 
 use crate::laid_out::{are_laid_out, own_width};
-use orc_columns::column::{ColumnReader, ValueSource, next_present, next_size};
-use orc_columns::fault::StripeFault;
-use orc_columns::reader::next_value;
-use orc_row_text::layout::{FieldColumns, Layout, Member, PairLayout};
-use orc_row_text::leaf_text::push_own;
-use orc_row_text::printing::{push_comma_if, push_text};
+use orc_column_reader::column::{ColumnReader, ValueSource, next_present, next_size};
+use orc_column_reader::fault::StripeFault;
+use orc_column_reader::reader::next_value;
+use orc_json::layout::{FieldColumns, Layout, Member, PairLayout};
+use orc_json::leaf_text::push_own;
+use orc_json::printing::{push_comma_if, push_text};
 use orc_types::{Field, Scalar, Tree};
 use std::alloc::Global;
 

@@ -3,17 +3,17 @@ ghost use Rattle.std.specs.Prelude.{◌≡◌, ◌≢◌, ◌+◌, List, Bool, l
 ghost use Rattle.orc_types.specs.Cells.{Cell};
 ghost use Rattle.orc_types.specs.Shapes.{width};
 ghost use Rattle.orc_types.specs.Views.{shape};
-ghost use Rattle.orc_columns.specs.ReaderFaults.{CellsMeet};
-ghost use Rattle.orc_columns.specs.declared.fault.StripeFault.{StripeFault as Fault};
-ghost use Rattle.orc_columns.specs.declared.fault.StripeFault.TheVariants.{OutOfMemory};
-ghost use Rattle.orc_row_text.specs.Layouts.{text_by};
+ghost use Rattle.orc_column_reader.specs.ReaderFaults.{CellsMeet};
+ghost use Rattle.orc_column_reader.specs.declared.fault.StripeFault.{StripeFault as Fault};
+ghost use Rattle.orc_column_reader.specs.declared.fault.StripeFault.TheVariants.{OutOfMemory};
+ghost use Rattle.orc_json.specs.Layouts.{text_by};
 ghost use Rattle.orc_column_text.specs.Taken.{RowsLeft, GaveText, GivesText};
 
 use crate::cells::push_cell;
-use orc_columns::column::ColumnReader;
-use orc_columns::ending::cells_end;
-use orc_columns::fault::StripeFault;
-use orc_row_text::layout::Layout;
+use orc_column_reader::column::ColumnReader;
+use orc_column_reader::ending::cells_end;
+use orc_column_reader::fault::StripeFault;
+use orc_json::layout::Layout;
 use orc_types::Tree;
 use std::alloc::Global;
 

@@ -8,10 +8,10 @@ use Rattle.orc_types.specs.Fits.{RowsFit}
 use Rattle.orc_types.specs.Shapes.{Shape, scalar, list_of, map_of, struct_of, Fields}
 use Rattle.orc_types.specs.declared.kind.Scalar.{Scalar}
 use Rattle.orc_types.proofs.Childless.{marks_childless, values_childless, list_size, map_size}
-use Rattle.orc_columns.specs.Numbers.{AreNumbers}
-use Rattle.orc_columns.specs.Spellings.{size}
-use Rattle.orc_columns.specs.Stripe.{Streams, version, Marks, SpellsScalar, SpellsValues, IsColumn, most_cells}
-use Rattle.orc_columns.proofs.FirstLemmas.{sum_more}
+use Rattle.orc_column_reader.specs.Numbers.{AreNumbers}
+use Rattle.orc_column_reader.specs.Spellings.{size}
+use Rattle.orc_column_reader.specs.Stripe.{Streams, version, Marks, SpellsScalar, SpellsValues, IsColumn, most_cells}
+use Rattle.orc_column_reader.proofs.FirstLemmas.{sum_more}
 use Rattle.orc_types.specs.Childless.{list_of_size, map_of_size, childless_struct, childless}
 use Rattle.orc_column_walk.specs.OwnColumns.{SpellsOwnValues, IsOwnColumn, elements_together, pairs_together}
 

@@ -11,11 +11,11 @@ use Rattle.orc_types.specs.Fits.{fits, RowsFit}
 use Rattle.orc_types.specs.Shapes.{Shape, scalar, list_of, map_of, struct_of, width, shape_at}
 use Rattle.orc_types.proofs.Deeper.{at_within, width_pos, cells-add, cells-zero}
 use Rattle.orc_types.proofs.Together.{cells_fit}
-use Rattle.orc_columns.specs.Stripe.{Streams, SpellRows, cell_limit}
-use Rattle.orc_index.specs.Bounds.{bound_at, before_group, group_of, elements_before, pairs_before, values_before}
-use Rattle.orc_index.specs.Places.{octets_in, octets}
-use Rattle.orc_index.specs.Walking.{AreCounted, most}
-use Rattle.orc_index.specs.declared.counts.Counts.{Counts}
+use Rattle.orc_column_reader.specs.Stripe.{Streams, SpellRows, cell_limit}
+use Rattle.orc_row_index.specs.Bounds.{bound_at, before_group, group_of, elements_before, pairs_before, values_before}
+use Rattle.orc_row_index.specs.Places.{octets_in, octets}
+use Rattle.orc_row_index.specs.Walking.{AreCounted, most}
+use Rattle.orc_row_index.specs.declared.counts.Counts.{Counts}
 use Rattle.orc_stats.specs.Kinds.{kind_of}
 use Rattle.orc_stats.specs.Statistics.{stat}
 use Rattle.orc_column_walk.specs.ColumnFound.{bounds_below, IsGroupFound, IsColumnFound}

@@ -8,14 +8,14 @@ use Rattle.std.specs.List.{flat_map}
 use Rattle.orc_types.specs.Cells.{Cell, parts, pairs_in, values}
 use Rattle.orc_types.specs.Shapes.{Shape, scalar, list_of, map_of, struct_of}
 use Rattle.orc_types.proofs.Together.{values-append}
-use Rattle.orc_columns.specs.Fronts.{Leaves, Lacks}
-use Rattle.orc_columns.specs.ReaderFaults.{ValuesMeet}
-use Rattle.orc_columns.specs.declared.column.ValueSource.{ValueSource}
-use Rattle.orc_columns.specs.declared.fault.StripeFault.{StripeFault}
-use Rattle.orc_columns.proofs.Fronts.{one_after_other, lacks_after, lacks_more}
-use Rattle.orc_index.specs.Bounds.{AreBounds, bound_at, before_group, group_of, values_before}
-use Rattle.orc_index.specs.Walking.{AreCounted, most}
-use Rattle.orc_index.proofs.Groups.{bound_within, bound_up, cells_between, group_between, found_more}
+use Rattle.orc_column_reader.specs.Fronts.{Leaves, Lacks}
+use Rattle.orc_column_reader.specs.ReaderFaults.{ValuesMeet}
+use Rattle.orc_column_reader.specs.declared.column.ValueSource.{ValueSource}
+use Rattle.orc_column_reader.specs.declared.fault.StripeFault.{StripeFault}
+use Rattle.orc_column_reader.proofs.Fronts.{one_after_other, lacks_after, lacks_more}
+use Rattle.orc_row_index.specs.Bounds.{AreBounds, bound_at, before_group, group_of, values_before}
+use Rattle.orc_row_index.specs.Walking.{AreCounted, most}
+use Rattle.orc_row_index.proofs.Groups.{bound_within, bound_up, cells_between, group_between, found_more}
 use Rattle.orc_stats.specs.Kinds.{kind_of}
 use Rattle.orc_stats.specs.Statistics.{stat}
 use Rattle.orc_stats.specs.Tallies.{Measure, Kept, together, cells_kept, none_kept, stat_of_kept}

@@ -6,14 +6,14 @@ use Rattle.std.proofs.Math.ListN.{get_or-map}
 use Rattle.std.proofs.lemmas.Grind.{get_or_default_zero}
 use Rattle.std.proofs.lemmas.List.{take-map, length-map, length-take, take_all, drop_all, length-replicate}
 use Rattle.orc_types.specs.Cells.{Cell, is_value}
-use Rattle.orc_columns.specs.Columns.{MarksLeft}
-use Rattle.orc_columns.specs.Fronts.{Leaves, Lacks}
-use Rattle.orc_columns.specs.Needs.{trues}
-use Rattle.orc_columns.specs.declared.bits.Bits.{Bits}
-use Rattle.orc_columns.specs.declared.fault.StripeFault.{StripeFault}
-use Rattle.orc_columns.proofs.Fronts.{length-values, one_after_other, lacks_after, lacks_more}
-use Rattle.orc_index.specs.Bounds.{AreBounds, bound_at, values_before}
-use Rattle.orc_index.proofs.Groups.{bound_within, bound_up, found_more}
+use Rattle.orc_column_reader.specs.Columns.{MarksLeft}
+use Rattle.orc_column_reader.specs.Fronts.{Leaves, Lacks}
+use Rattle.orc_column_reader.specs.Needs.{trues}
+use Rattle.orc_column_reader.specs.declared.bits.Bits.{Bits}
+use Rattle.orc_column_reader.specs.declared.fault.StripeFault.{StripeFault}
+use Rattle.orc_column_reader.proofs.Fronts.{length-values, one_after_other, lacks_after, lacks_more}
+use Rattle.orc_row_index.specs.Bounds.{AreBounds, bound_at, values_before}
+use Rattle.orc_row_index.proofs.Groups.{bound_within, bound_up, found_more}
 use Rattle.orc_column_walk.specs.Passed.{AreValueBounds, trues_before}
 use Rattle.orc_column_walk.proofs.GroupLemmas.{fronts_same, bound_past}
 use Rattle.orc_column_walk.proofs.MarkLemmas.{PresentMet, trues_append, trues_all}

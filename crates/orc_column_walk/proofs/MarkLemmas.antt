@@ -3,15 +3,15 @@ use Rattle.std.proofs.Common.{◌≡◌, ◌≤◌, ℕ, zero, suc, ◌+◌, Boo
 use Rattle.std.specs.Option.{is_some}
 use Rattle.std.proofs.lemmas.List.{length-replicate}
 use Rattle.orc_rle.specs.declared.fault.RunFault.{RunFault}
-use Rattle.orc_columns.specs.Columns.{MarksLeft}
-use Rattle.orc_columns.specs.Faults.{RunsFail}
-use Rattle.orc_columns.specs.Fronts.{Leaves}
-use Rattle.orc_columns.specs.Needs.{trues}
-use Rattle.orc_columns.specs.RunFaults.{Always}
-use Rattle.orc_columns.specs.RunsMet.{MarksMeet}
-use Rattle.orc_columns.specs.declared.bits.Bits.{Bits}
-use Rattle.orc_columns.specs.declared.fault.StreamKind.TheVariants.{Present}
-use Rattle.orc_columns.proofs.NeedLemmas.{runs_more}
+use Rattle.orc_column_reader.specs.Columns.{MarksLeft}
+use Rattle.orc_column_reader.specs.Faults.{RunsFail}
+use Rattle.orc_column_reader.specs.Fronts.{Leaves}
+use Rattle.orc_column_reader.specs.Needs.{trues}
+use Rattle.orc_column_reader.specs.RunFaults.{Always}
+use Rattle.orc_column_reader.specs.RunsMet.{MarksMeet}
+use Rattle.orc_column_reader.specs.declared.bits.Bits.{Bits}
+use Rattle.orc_column_reader.specs.declared.fault.StreamKind.TheVariants.{Present}
+use Rattle.orc_column_reader.proofs.NeedLemmas.{runs_more}
 use Rattle.orc_column_walk.proofs.ReadLemmas.{Meets, AreRead, none_read, one_read}
 
 abbrev pub PresentMet : ℕ → Option Bits → Meets

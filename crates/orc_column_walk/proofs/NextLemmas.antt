@@ -4,14 +4,14 @@ use Rattle.std.proofs.lemmas.List.{length-map}
 use Rattle.orc_types.specs.Cells.{Cell}
 use Rattle.orc_types.specs.Childless.{list_of_size, map_of_size, childless_struct}
 use Rattle.orc_types.specs.Shapes.{Shape, list_of, map_of, struct_of, no_field, Fields}
-use Rattle.orc_columns.specs.Columns.{ListsLeft}
-use Rattle.orc_columns.specs.Fronts.{Leaves, Lacks}
-use Rattle.orc_columns.specs.Numbers.{NumbersLeft}
-use Rattle.orc_columns.specs.ReaderFaults.{ListsMeet, ValuesMeet}
-use Rattle.orc_columns.specs.declared.column.ColumnReader.{ColumnReader}
-use Rattle.orc_columns.specs.declared.column.ValueSource.{ValueSource}
-use Rattle.orc_columns.specs.declared.fault.StripeFault.{StripeFault}
-use Rattle.orc_columns.proofs.FirstLemmas.{sum_more}
+use Rattle.orc_column_reader.specs.Columns.{ListsLeft}
+use Rattle.orc_column_reader.specs.Fronts.{Leaves, Lacks}
+use Rattle.orc_column_reader.specs.Numbers.{NumbersLeft}
+use Rattle.orc_column_reader.specs.ReaderFaults.{ListsMeet, ValuesMeet}
+use Rattle.orc_column_reader.specs.declared.column.ColumnReader.{ColumnReader}
+use Rattle.orc_column_reader.specs.declared.column.ValueSource.{ValueSource}
+use Rattle.orc_column_reader.specs.declared.fault.StripeFault.{StripeFault}
+use Rattle.orc_column_reader.proofs.FirstLemmas.{sum_more}
 use Rattle.orc_column_walk.specs.OwnLeft.{SizesLeft, SizedLeft, OwnValuesLeft, children}
 use Rattle.orc_column_walk.proofs.RowsOf.{elements_sum, pairs_sum}
 use Rattle.orc_column_walk.proofs.SizeLemmas.{sizes_leave, sizes_lack}

@@ -8,8 +8,8 @@ use Rattle.orc_types.specs.Fits.{RowsFit}
 use Rattle.orc_types.specs.Shapes.{Shape, scalar, list_of, map_of, struct_of, Fields, no_field, field, width, widths, shape_at, shape_within}
 use Rattle.orc_types.proofs.Together.{StructsFit, elements_fit, keys_fit, values_fit, structs_fit, heads_fit, tails_fit, heads-length}
 use Rattle.std.proofs.lemmas.List.{length-map}
-use Rattle.orc_columns.specs.Stripe.{Streams, IsColumn, SpellRows, most_cells}
-use Rattle.orc_columns.proofs.ByNumber.{to_number, first_cells, wide}
+use Rattle.orc_column_reader.specs.Stripe.{Streams, IsColumn, SpellRows, most_cells}
+use Rattle.orc_column_reader.proofs.ByNumber.{to_number, first_cells, wide}
 use Rattle.orc_types.specs.Childless.{childless}
 use Rattle.orc_column_walk.specs.OwnColumns.{AreOwnColumns, AreOwnFields, elements_together, pairs_together, OwnDown}
 use Rattle.orc_column_walk.proofs.ChildlessLemmas.{own_of, elements_childless, pairs_childless, structs_childless, keys_long, map_values_long}

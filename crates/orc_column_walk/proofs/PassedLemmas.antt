@@ -6,16 +6,16 @@ use Rattle.std.proofs.lemmas.List.Concat.{flat_map-append}
 use Rattle.orc_types.specs.Cells.{Cell, null, leaf, list, struct, pairs, is_value, parts, pairs_in, values}
 use Rattle.orc_types.specs.Shapes.{Shape, scalar, list_of, map_of, struct_of}
 use Rattle.orc_types.proofs.Together.{values-append}
-use Rattle.orc_index.specs.Places.{octets_in, octets}
-use Rattle.orc_index.specs.Walking.{most}
-use Rattle.orc_index.proofs.ColumnPlaces.{counted_more, octets_of_values}
+use Rattle.orc_row_index.specs.Places.{octets_in, octets}
+use Rattle.orc_row_index.specs.Walking.{most}
+use Rattle.orc_row_index.proofs.ColumnPlaces.{counted_more, octets_of_values}
 use Rattle.orc_column_walk.specs.OwnLeft.{children}
 use Rattle.orc_column_walk.specs.Passed.{IsPassed}
 use Rattle.orc_column_walk.specs.declared.passed.Passed.{Passed}
-use Rattle.orc_columns.specs.Fronts.{Leaves}
-use Rattle.orc_columns.specs.ReaderFaults.{ValuesMeet}
-use Rattle.orc_columns.specs.declared.column.ValueSource.{ValueSource}
-use Rattle.orc_columns.specs.declared.fault.StripeFault.{StripeFault}
+use Rattle.orc_column_reader.specs.Fronts.{Leaves}
+use Rattle.orc_column_reader.specs.ReaderFaults.{ValuesMeet}
+use Rattle.orc_column_reader.specs.declared.column.ValueSource.{ValueSource}
+use Rattle.orc_column_reader.specs.declared.fault.StripeFault.{StripeFault}
 use Rattle.orc_stats.specs.Tallies.{Measure, Kept, together, cell_kept, cells_kept}
 use Rattle.orc_stats.specs.TallyLaws.{together_assoc, none_together, cells_kept-append}
 use Rattle.orc_column_walk.specs.OwnLeft.{OwnValuesLeft}

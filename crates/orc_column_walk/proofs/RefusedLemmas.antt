@@ -7,15 +7,15 @@ use Rattle.orc_rle.specs.Stream.{IsStream}
 use Rattle.orc_rle.specs.declared.sign.Sign.TheVariants.{Unsigned}
 use Rattle.orc_types.specs.Cells.{Cell, is_value, parts, pairs_in, values}
 use Rattle.orc_types.specs.Shapes.{Shape, scalar, list_of, map_of, struct_of, Fields, no_field, field, width}
-use Rattle.orc_columns.specs.Faults.{FaultBelow, FaultWithin, FaultDown, RowsFault, lengths_of}
-use Rattle.orc_columns.specs.Needs.{MarksBegin, ValuesNeeded, ElementsNeeded}
-use Rattle.orc_columns.specs.Numbers.{is_run}
-use Rattle.orc_columns.specs.RunFaults.{Needed, IntegersFirst}
-use Rattle.orc_columns.specs.Runs.{Begins}
-use Rattle.orc_columns.specs.Stripe.{Streams, version, Marks}
-use Rattle.orc_columns.specs.declared.fault.StripeFault.{StripeFault}
-use Rattle.orc_columns.proofs.BitsLemmas.{held_bits, no_digit}
-use Rattle.orc_columns.proofs.Fronts.{length-values}
+use Rattle.orc_column_reader.specs.Faults.{FaultBelow, FaultWithin, FaultDown, RowsFault, lengths_of}
+use Rattle.orc_column_reader.specs.Needs.{MarksBegin, ValuesNeeded, ElementsNeeded}
+use Rattle.orc_column_reader.specs.Numbers.{is_run}
+use Rattle.orc_column_reader.specs.RunFaults.{Needed, IntegersFirst}
+use Rattle.orc_column_reader.specs.Runs.{Begins}
+use Rattle.orc_column_reader.specs.Stripe.{Streams, version, Marks}
+use Rattle.orc_column_reader.specs.declared.fault.StripeFault.{StripeFault}
+use Rattle.orc_column_reader.proofs.BitsLemmas.{held_bits, no_digit}
+use Rattle.orc_column_reader.proofs.Fronts.{length-values}
 use Rattle.orc_bits.specs.Packed.{digits}
 use Rattle.orc_types.specs.Columns.{cells}
 use Rattle.orc_types.specs.Childless.{childless, list_of_size, map_of_size}

@@ -6,11 +6,11 @@ use Rattle.std.proofs.lemmas.List.{length-map, length-replicate, length-take, ni
 use Rattle.orc_rle.specs.declared.sign.Sign.TheVariants.{Unsigned}
 use Rattle.orc_types.specs.Cells.{Cell, list, struct, pairs, cells_of, pairs_of, is_value, parts, pairs_in, values}
 use Rattle.orc_types.specs.Shapes.{Shape, scalar, list_of, map_of, struct_of, Fields, no_field, field, width}
-use Rattle.orc_columns.specs.Numbers.{AreNumbers}
-use Rattle.orc_columns.specs.Spellings.{Nullable, AllStand, size, joined, zip_cons}
-use Rattle.orc_columns.specs.Stripe.{Streams, version, Marks, SpellsTree, SpellsFields, SpellsCells}
-use Rattle.orc_columns.proofs.FirstLemmas.{sum_more}
-use Rattle.orc_columns.proofs.Fronts.{length-values, length-zip}
+use Rattle.orc_column_reader.specs.Numbers.{AreNumbers}
+use Rattle.orc_column_reader.specs.Spellings.{Nullable, AllStand, size, joined, zip_cons}
+use Rattle.orc_column_reader.specs.Stripe.{Streams, version, Marks, SpellsTree, SpellsFields, SpellsCells}
+use Rattle.orc_column_reader.proofs.FirstLemmas.{sum_more}
+use Rattle.orc_column_reader.proofs.Fronts.{length-values, length-zip}
 use Rattle.orc_types.specs.Childless.{list_of_size, map_of_size}
 use Rattle.orc_column_walk.specs.OwnColumns.{IsOwnColumn, AreOwnColumns, AreOwnFields, elements_together, pairs_together, OwnBelow, OwnWithin, OwnDown}
 use Rattle.orc_types.proofs.Childless.{list_size, map_size}

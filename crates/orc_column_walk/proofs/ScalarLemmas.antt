@@ -2,9 +2,9 @@
 use Rattle.std.proofs.Common.{ℕ, List}
 use Rattle.orc_types.specs.Cells.{Cell}
 use Rattle.orc_types.specs.declared.kind.Scalar.{Scalar}
-use Rattle.orc_columns.specs.Columns.{ScalarLeft}
-use Rattle.orc_columns.specs.ReaderFaults.{ScalarMeets}
-use Rattle.orc_columns.specs.declared.column.ValueSource.{ValueSource}
+use Rattle.orc_column_reader.specs.Columns.{ScalarLeft}
+use Rattle.orc_column_reader.specs.ReaderFaults.{ScalarMeets}
+use Rattle.orc_column_reader.specs.declared.column.ValueSource.{ValueSource}
 use Rattle.orc_column_walk.proofs.ReadLemmas.{Meets, AreRead}
 
 abbrev pub ScalarMet : Scalar → ValueSource → Meets

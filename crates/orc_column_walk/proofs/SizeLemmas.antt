@@ -4,15 +4,15 @@ use Rattle.std.specs.List.{AllByRecursion}
 use Rattle.std.proofs.lemmas.List.{length-map, length-replicate}
 use Rattle.orc_types.specs.Cells.{Cell, struct, cells_of, is_value, values}
 use Rattle.orc_types.specs.Shapes.{struct_of, no_field}
-use Rattle.orc_columns.specs.Columns.{CellsLeft, ListsLeft, IsRecord}
-use Rattle.orc_columns.specs.Fronts.{Leaves, Lacks}
-use Rattle.orc_columns.specs.Numbers.{NumbersLeft}
-use Rattle.orc_columns.specs.ReaderFaults.{ListsMeet}
-use Rattle.orc_columns.specs.Spellings.{AllStand, size, joined}
-use Rattle.orc_columns.specs.declared.column.ColumnReader.{ColumnReader}
-use Rattle.orc_columns.specs.declared.column.ValueSource.{ValueSource}
-use Rattle.orc_columns.specs.declared.fault.StripeFault.{StripeFault}
-use Rattle.orc_columns.proofs.FirstLemmas.{sum_more}
+use Rattle.orc_column_reader.specs.Columns.{CellsLeft, ListsLeft, IsRecord}
+use Rattle.orc_column_reader.specs.Fronts.{Leaves, Lacks}
+use Rattle.orc_column_reader.specs.Numbers.{NumbersLeft}
+use Rattle.orc_column_reader.specs.ReaderFaults.{ListsMeet}
+use Rattle.orc_column_reader.specs.Spellings.{AllStand, size, joined}
+use Rattle.orc_column_reader.specs.declared.column.ColumnReader.{ColumnReader}
+use Rattle.orc_column_reader.specs.declared.column.ValueSource.{ValueSource}
+use Rattle.orc_column_reader.specs.declared.fault.StripeFault.{StripeFault}
+use Rattle.orc_column_reader.proofs.FirstLemmas.{sum_more}
 use Rattle.orc_column_walk.specs.OwnLeft.{SizesLeft}
 use Rattle.orc_column_walk.proofs.ReadLemmas.{AreRead, none_read, one_read}
 

@@ -7,22 +7,22 @@ use Rattle.orc_types.specs.Cells.{Cell, is_value, parts, pairs_in, values}
 use Rattle.orc_types.specs.Shapes.{Shape, scalar, list_of, map_of, struct_of}
 use Rattle.orc_types.specs.declared.kind.Scalar.{Scalar}
 use Rattle.orc_types.specs.declared.kind.Scalar.TheVariants as kind
-use Rattle.orc_columns.specs.Columns.{MarksLeft, IsWord, IsText}
-use Rattle.orc_columns.specs.Faults.{RunsFail, WordsOfFail}
-use Rattle.orc_columns.specs.Needs.{trues}
-use Rattle.orc_columns.specs.ReaderFaults.{ValuesMeet}
-use Rattle.orc_columns.specs.RunFaults.{Always}
-use Rattle.orc_columns.specs.RunsMet.{MarksMeet}
-use Rattle.orc_columns.specs.Spellings.{AllStand}
-use Rattle.orc_columns.specs.Starting.{NumbersStart, SourceStart, OwnStart, LacksEntries, HasNoDictionary}
-use Rattle.orc_columns.specs.Stripe.{Streams, version, has_dictionary, Marks, SpellsScalar, SpellsTexts, most_cells, cell_limit}
-use Rattle.orc_columns.specs.declared.column.ColumnReader.{ColumnReader}
-use Rattle.orc_columns.specs.declared.column.ValueSource.{ValueSource}
-use Rattle.orc_columns.specs.declared.fault.StreamKind.TheVariants.{Present}
-use Rattle.orc_columns.specs.declared.fault.StripeFault.{StripeFault}
-use Rattle.orc_columns.proofs.Fronts.{length-values}
-use Rattle.orc_columns.proofs.StartFaults.{marks_start, values_start}
-use Rattle.orc_columns.proofs.StartLemmas.{Alike, marks_alike, numbers_alike, scalar_alike}
+use Rattle.orc_column_reader.specs.Columns.{MarksLeft, IsWord, IsText}
+use Rattle.orc_column_reader.specs.Faults.{RunsFail, WordsOfFail}
+use Rattle.orc_column_reader.specs.Needs.{trues}
+use Rattle.orc_column_reader.specs.ReaderFaults.{ValuesMeet}
+use Rattle.orc_column_reader.specs.RunFaults.{Always}
+use Rattle.orc_column_reader.specs.RunsMet.{MarksMeet}
+use Rattle.orc_column_reader.specs.Spellings.{AllStand}
+use Rattle.orc_column_reader.specs.Starting.{NumbersStart, SourceStart, OwnStart, LacksEntries, HasNoDictionary}
+use Rattle.orc_column_reader.specs.Stripe.{Streams, version, has_dictionary, Marks, SpellsScalar, SpellsTexts, most_cells, cell_limit}
+use Rattle.orc_column_reader.specs.declared.column.ColumnReader.{ColumnReader}
+use Rattle.orc_column_reader.specs.declared.column.ValueSource.{ValueSource}
+use Rattle.orc_column_reader.specs.declared.fault.StreamKind.TheVariants.{Present}
+use Rattle.orc_column_reader.specs.declared.fault.StripeFault.{StripeFault}
+use Rattle.orc_column_reader.proofs.Fronts.{length-values}
+use Rattle.orc_column_reader.proofs.StartFaults.{marks_start, values_start}
+use Rattle.orc_column_reader.proofs.StartLemmas.{Alike, marks_alike, numbers_alike, scalar_alike}
 use Rattle.orc_types.specs.Childless.{list_of_size, map_of_size, childless_struct}
 use Rattle.orc_column_walk.specs.OwnColumns.{SpellsSizes, SpellsOwnValues, IsOwnColumn}
 use Rattle.orc_column_walk.specs.OwnFaults.{IsRefused}

@@ -8,19 +8,19 @@ use Rattle.orc_types.specs.Cells.{Cell, null, leaf, list, struct, pairs, is_valu
 use Rattle.orc_types.specs.Childless.{childless_struct}
 use Rattle.orc_types.specs.Shapes.{Shape, Fields, struct_of}
 use Rattle.orc_types.proofs.Together.{values-append}
-use Rattle.orc_index.specs.Bounds.{AreBounds, bound_at, before_group, group_of, values_before}
-use Rattle.orc_index.specs.Places.{octets_in, octets}
-use Rattle.orc_index.specs.Walking.{AreCounted, most}
-use Rattle.orc_index.specs.declared.counts.Counts.{Counts}
-use Rattle.orc_index.proofs.ColumnPlaces.{octets_of_values}
-use Rattle.orc_index.proofs.Groups.{bound_within, bound_up, cells_between, group_between}
+use Rattle.orc_row_index.specs.Bounds.{AreBounds, bound_at, before_group, group_of, values_before}
+use Rattle.orc_row_index.specs.Places.{octets_in, octets}
+use Rattle.orc_row_index.specs.Walking.{AreCounted, most}
+use Rattle.orc_row_index.specs.declared.counts.Counts.{Counts}
+use Rattle.orc_row_index.proofs.ColumnPlaces.{octets_of_values}
+use Rattle.orc_row_index.proofs.Groups.{bound_within, bound_up, cells_between, group_between}
 use Rattle.orc_stats.specs.declared.kind.StatKind.TheVariants as kind
 use Rattle.orc_stats.specs.declared.stat.Stat.{Stat}
 use Rattle.orc_stats.specs.declared.stat.Body.TheVariants as body
 use Rattle.orc_stats.specs.Kinds.{kind_of}
 use Rattle.orc_stats.specs.Statistics.{stat, has_null}
 use Rattle.orc_column_walk.specs.ColumnFound.{IsGroupFound, IsColumnFound}
-use Rattle.orc_columns.specs.declared.column.ValueSource.{ValueSource}
+use Rattle.orc_column_reader.specs.declared.column.ValueSource.{ValueSource}
 use Rattle.orc_column_walk.specs.OwnLeft.{OwnValuesLeft}
 use Rattle.orc_column_walk.specs.Passed.{HasValues, AreValueBounds, AreGroupsFound}
 use Rattle.orc_column_walk.specs.declared.found.ColumnFound.{ColumnFound}

@@ -6,11 +6,11 @@ use Rattle.orc_types.specs.Views.{shape, fields as fields_view}
 use Rattle.orc_types.specs.declared.tree.Field.{Field}
 use Rattle.orc_types.specs.declared.kind.Scalar.{Scalar}
 use Rattle.orc_types.proofs.Listed.{fields_from}
-use Rattle.orc_columns.specs.Faults.{RowsFault}
-use Rattle.orc_columns.specs.Stripe.{Streams}
-use Rattle.orc_columns.specs.declared.fault.StripeFault.{StripeFault}
-use Rattle.orc_columns.specs.declared.fault.StripeFault.TheVariants.{TooMany}
-use Rattle.orc_columns.proofs.ByNumber.{first_cells, wide}
+use Rattle.orc_column_reader.specs.Faults.{RowsFault}
+use Rattle.orc_column_reader.specs.Stripe.{Streams}
+use Rattle.orc_column_reader.specs.declared.fault.StripeFault.{StripeFault}
+use Rattle.orc_column_reader.specs.declared.fault.StripeFault.TheVariants.{TooMany}
+use Rattle.orc_column_reader.proofs.ByNumber.{first_cells, wide}
 use Rattle.orc_column_walk.specs.OwnColumns.{IsOwnColumn, OwnDown, OwnWithin}
 use Rattle.orc_column_walk.specs.OwnFaults.{IsRefused, RefusedDown, RefusedWithin}
 use Rattle.orc_column_walk.specs.OwnLeft.{children}

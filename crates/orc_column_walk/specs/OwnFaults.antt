@@ -3,10 +3,10 @@
 use Rattle.std.specs.Prelude.{ℕ, suc, ◌+◌, Bool, List, length, ◌⊎◌}
 use Rattle.orc_types.specs.Cells.{Cell, values}
 use Rattle.orc_types.specs.Shapes.{Shape, scalar, list_of, map_of, struct_of, Fields, no_field, field, width}
-use Rattle.orc_columns.specs.Faults.{MarksFail, WordsOfFail, ValuesFail}
-use Rattle.orc_columns.specs.Needs.{MarksBegin, ValuesNeeded}
-use Rattle.orc_columns.specs.Stripe.{Streams}
-use Rattle.orc_columns.specs.declared.fault.StripeFault.{StripeFault}
+use Rattle.orc_column_reader.specs.Faults.{MarksFail, WordsOfFail, ValuesFail}
+use Rattle.orc_column_reader.specs.Needs.{MarksBegin, ValuesNeeded}
+use Rattle.orc_column_reader.specs.Stripe.{Streams}
+use Rattle.orc_column_reader.specs.declared.fault.StripeFault.{StripeFault}
 use Rattle.orc_column_walk.specs.OwnColumns.{IsOwnColumn, elements_together, pairs_together}
 
 -- a fault of a column's own streams: of PRESENT, of the dictionary, or of those beside

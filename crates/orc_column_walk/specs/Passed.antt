@@ -4,11 +4,11 @@ use Rattle.orc_types.specs.Cells.{Cell, values}
 use Rattle.orc_types.specs.Shapes.{Shape}
 use Rattle.orc_types.specs.declared.own.Own.{Own}
 use Rattle.orc_types.specs.declared.own.Own.TheVariants as own
-use Rattle.orc_columns.specs.Needs.{trues}
+use Rattle.orc_column_reader.specs.Needs.{trues}
 use Rattle.orc_stats.specs.Kinds.{kind_of}
 use Rattle.orc_stats.specs.Statistics.{stat}
-use Rattle.orc_index.specs.Bounds.{AreBounds, bound_at, values_before}
-use Rattle.orc_index.specs.Walking.{AreCounted, most}
+use Rattle.orc_row_index.specs.Bounds.{AreBounds, bound_at, values_before}
+use Rattle.orc_row_index.specs.Walking.{AreCounted, most}
 use Rattle.orc_column_walk.specs.ColumnFound.{IsGroupFound}
 use Rattle.orc_column_walk.specs.OwnLeft.{children}
 use Rattle.orc_column_walk.specs.declared.found.ColumnFound.{ColumnFound}

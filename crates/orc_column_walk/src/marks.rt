@@ -1,21 +1,21 @@
 //! PRESENT of a column by itself: how many of its cells are not null.
 ghost use Rattle.std.specs.Prelude.{◌≡◌, ◌≢◌, ◌+◌, ◌∷◌, [], ℕ, Bool, false, List, length, map, IfOk, IfErr, OnOk, OnErr};
-ghost use Rattle.orc_columns.specs.Columns.{MarksLeft};
-ghost use Rattle.orc_columns.specs.Faults.{RunsFail};
-ghost use Rattle.orc_columns.specs.Fronts.{Leaves, Lacks};
-ghost use Rattle.orc_columns.specs.Needs.{trues};
-ghost use Rattle.orc_columns.specs.RunFaults.{Always};
-ghost use Rattle.orc_columns.specs.RunsMet.{MarksMeet};
-ghost use Rattle.orc_columns.specs.declared.fault.StripeFault.{StripeFault as Fault};
-ghost use Rattle.orc_columns.specs.declared.fault.StripeFault.TheVariants.{OutOfMemory};
-ghost use Rattle.orc_columns.specs.declared.fault.StreamKind.TheVariants.{Present};
-ghost use Rattle.orc_index.specs.Bounds.{AreBounds, bound_at};
+ghost use Rattle.orc_column_reader.specs.Columns.{MarksLeft};
+ghost use Rattle.orc_column_reader.specs.Faults.{RunsFail};
+ghost use Rattle.orc_column_reader.specs.Fronts.{Leaves, Lacks};
+ghost use Rattle.orc_column_reader.specs.Needs.{trues};
+ghost use Rattle.orc_column_reader.specs.RunFaults.{Always};
+ghost use Rattle.orc_column_reader.specs.RunsMet.{MarksMeet};
+ghost use Rattle.orc_column_reader.specs.declared.fault.StripeFault.{StripeFault as Fault};
+ghost use Rattle.orc_column_reader.specs.declared.fault.StripeFault.TheVariants.{OutOfMemory};
+ghost use Rattle.orc_column_reader.specs.declared.fault.StreamKind.TheVariants.{Present};
+ghost use Rattle.orc_row_index.specs.Bounds.{AreBounds, bound_at};
 ghost use Rattle.orc_column_walk.specs.Passed.{trues_before};
 
 use crate::bounds::bound_of;
-use orc_columns::bits::Bits;
-use orc_columns::fault::{StreamKind, StripeFault, run_fault};
-use orc_columns::marks::{marks_end, marks_left, next_mark};
+use orc_column_reader::bits::Bits;
+use orc_column_reader::fault::{StreamKind, StripeFault, run_fault};
+use orc_column_reader::marks::{marks_end, marks_left, next_mark};
 use std::alloc::{AllocError, Global};
 
 /// How many values a cell with this mark is.

@@ -4,16 +4,16 @@ ghost use Rattle.orc_types.specs.Cells.{is_value};
 ghost use Rattle.orc_types.specs.Own.{own_cell};
 ghost use Rattle.orc_types.specs.Views.{shape};
 ghost use Rattle.orc_stats.specs.Kinds.{is_of, kind_of};
-ghost use Rattle.orc_columns.specs.Fronts.{Leaves, Lacks};
-ghost use Rattle.orc_columns.specs.ReaderFaults.{ListsMeet, ValuesMeet};
-ghost use Rattle.orc_columns.specs.declared.fault.StripeFault.{StripeFault as Fault};
-ghost use Rattle.orc_columns.specs.declared.fault.StripeFault.TheVariants.{OutOfMemory};
+ghost use Rattle.orc_column_reader.specs.Fronts.{Leaves, Lacks};
+ghost use Rattle.orc_column_reader.specs.ReaderFaults.{ListsMeet, ValuesMeet};
+ghost use Rattle.orc_column_reader.specs.declared.fault.StripeFault.{StripeFault as Fault};
+ghost use Rattle.orc_column_reader.specs.declared.fault.StripeFault.TheVariants.{OutOfMemory};
 ghost use Rattle.orc_column_walk.specs.OwnLeft.{OwnValuesLeft, SizesLeft, children};
 ghost use Rattle.orc_column_walk.specs.Passed.{own_children};
 
-use orc_columns::column::{ValueSource, next_size, scalar_end, scalar_left};
-use orc_columns::fault::{StreamKind, StripeFault, run_fault};
-use orc_columns::numbers::{numbers_end, numbers_left};
+use orc_column_reader::column::{ValueSource, next_size, scalar_end, scalar_left};
+use orc_column_reader::fault::{StreamKind, StripeFault, run_fault};
+use orc_column_reader::numbers::{numbers_end, numbers_left};
 use orc_types::{Own, Tree};
 
 /// The column's next value, without children.

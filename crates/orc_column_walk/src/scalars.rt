@@ -1,14 +1,14 @@
 //! The values of a column of a kind that contains no other, read to the end of their streams.
 ghost use Rattle.std.specs.Prelude.{◌≡◌, ◌≢◌, ◌+◌, ℕ, Bool, false, List, length, IfOk, IfErr, OnOk, OnErr};
 ghost use Rattle.orc_types.specs.Cells.{Cell};
-ghost use Rattle.orc_columns.specs.Columns.{ScalarLeft};
-ghost use Rattle.orc_columns.specs.Fronts.{Leaves, Lacks};
-ghost use Rattle.orc_columns.specs.ReaderFaults.{ScalarMeets};
-ghost use Rattle.orc_columns.specs.declared.fault.StripeFault.{StripeFault as Fault};
-ghost use Rattle.orc_columns.specs.declared.fault.StripeFault.TheVariants.{OutOfMemory};
+ghost use Rattle.orc_column_reader.specs.Columns.{ScalarLeft};
+ghost use Rattle.orc_column_reader.specs.Fronts.{Leaves, Lacks};
+ghost use Rattle.orc_column_reader.specs.ReaderFaults.{ScalarMeets};
+ghost use Rattle.orc_column_reader.specs.declared.fault.StripeFault.{StripeFault as Fault};
+ghost use Rattle.orc_column_reader.specs.declared.fault.StripeFault.TheVariants.{OutOfMemory};
 
-use orc_columns::column::{ValueSource, scalar_end, scalar_left};
-use orc_columns::fault::StripeFault;
+use orc_column_reader::column::{ValueSource, scalar_end, scalar_left};
+use orc_column_reader::fault::StripeFault;
 use orc_types::Scalar;
 
 /// Reads the next values, so many, and holds none.

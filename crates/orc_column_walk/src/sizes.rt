@@ -1,14 +1,14 @@
 //! The sizes of a column of lists, or of maps, read to the end of LENGTH.
 ghost use Rattle.std.specs.Prelude.{◌≡◌, ◌≢◌, ◌+◌, ◌≤◌, ℕ, Bool, false, List, length, sum, IfOk, IfErr, OnOk, OnErr};
-ghost use Rattle.orc_columns.specs.Fronts.{Leaves, Lacks};
-ghost use Rattle.orc_columns.specs.ReaderFaults.{ListsMeet};
-ghost use Rattle.orc_columns.specs.declared.fault.StripeFault.{StripeFault as Fault};
-ghost use Rattle.orc_columns.specs.declared.fault.StripeFault.TheVariants.{OutOfMemory};
+ghost use Rattle.orc_column_reader.specs.Fronts.{Leaves, Lacks};
+ghost use Rattle.orc_column_reader.specs.ReaderFaults.{ListsMeet};
+ghost use Rattle.orc_column_reader.specs.declared.fault.StripeFault.{StripeFault as Fault};
+ghost use Rattle.orc_column_reader.specs.declared.fault.StripeFault.TheVariants.{OutOfMemory};
 ghost use Rattle.orc_column_walk.specs.OwnLeft.{SizesLeft};
 
-use orc_columns::column::{ValueSource, next_size};
-use orc_columns::fault::{StreamKind, StripeFault, run_fault};
-use orc_columns::numbers::{numbers_end, numbers_left};
+use orc_column_reader::column::{ValueSource, next_size};
+use orc_column_reader::fault::{StreamKind, StripeFault, run_fault};
+use orc_column_reader::numbers::{numbers_end, numbers_left};
 
 /// Reads the next sizes, so many, and answers how many elements the lists have together, or pairs the maps.
 fn add_sizes(source: &mut ValueSource<'_>, count: usize) -> Result<usize, StripeFault>

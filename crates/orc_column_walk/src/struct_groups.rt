@@ -3,8 +3,8 @@ ghost use Rattle.std.specs.Prelude.{◌≡◌, ◌<◌, ℕ, Some, nat_lt, List,
 ghost use Rattle.orc_types.specs.Cells.{Cell};
 ghost use Rattle.orc_types.specs.Childless.{childless_struct};
 ghost use Rattle.orc_types.specs.Shapes.{Fields, struct_of};
-ghost use Rattle.orc_columns.specs.Stripe.{cell_limit};
-ghost use Rattle.orc_index.specs.Bounds.{AreBounds};
+ghost use Rattle.orc_column_reader.specs.Stripe.{cell_limit};
+ghost use Rattle.orc_row_index.specs.Bounds.{AreBounds};
 ghost use Rattle.orc_stats.specs.declared.stat.Body.TheVariants.{Plain};
 ghost use Rattle.orc_column_walk.specs.ColumnFound.{IsColumnFound};
 ghost use Rattle.orc_column_walk.specs.Passed.{HasValues, AreValueBounds};
@@ -12,7 +12,7 @@ ghost use Rattle.orc_column_walk.specs.Passed.{HasValues, AreValueBounds};
 use crate::bounds::bound_of;
 use crate::found::{ColumnFound, GroupFound};
 use crate::marks::ValueBounds;
-use orc_index::Counts;
+use orc_row_index::Counts;
 use orc_stats::{Body, Stat};
 use std::alloc::{AllocError, Global};
 

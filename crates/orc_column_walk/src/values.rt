@@ -2,14 +2,14 @@
 ghost use Rattle.std.specs.Prelude.{◌≡◌, ◌≢◌, Bool, List, length, IfOk, IfErr};
 ghost use Rattle.orc_types.specs.Cells.{Cell};
 ghost use Rattle.orc_types.specs.Views.{shape};
-ghost use Rattle.orc_columns.specs.ReaderFaults.{ValuesMeet};
-ghost use Rattle.orc_columns.specs.declared.fault.StripeFault.TheVariants.{OutOfMemory};
+ghost use Rattle.orc_column_reader.specs.ReaderFaults.{ValuesMeet};
+ghost use Rattle.orc_column_reader.specs.declared.fault.StripeFault.TheVariants.{OutOfMemory};
 ghost use Rattle.orc_column_walk.specs.OwnLeft.{OwnValuesLeft, children};
 
 use crate::scalars::read_scalars;
 use crate::sizes::sum_sizes;
-use orc_columns::column::ValueSource;
-use orc_columns::fault::StripeFault;
+use orc_column_reader::column::ValueSource;
+use orc_column_reader::fault::StripeFault;
 use orc_types::Tree;
 
 /// Reads all values of a column, which are to be so many, and answers how many children they have: elements of lists,

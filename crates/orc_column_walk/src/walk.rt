@@ -3,20 +3,20 @@ ghost use Rattle.std.specs.Prelude.{◌≡◌, ◌≢◌, ◌+◌, ◌<◌, ◌�
 ghost use Rattle.orc_types.specs.Cells.{Cell, values};
 ghost use Rattle.orc_types.specs.Shapes.{width, widths};
 ghost use Rattle.orc_types.specs.Views.{shape, fields as fields_view};
-ghost use Rattle.orc_columns.specs.Faults.{RowsFault};
-ghost use Rattle.orc_columns.specs.Located.{AreLocated};
-ghost use Rattle.orc_columns.specs.Stripe.{SpellRows, columns_of, cell_limit};
-ghost use Rattle.orc_columns.specs.declared.fault.StripeFault.TheVariants.{OutOfMemory};
+ghost use Rattle.orc_column_reader.specs.Faults.{RowsFault};
+ghost use Rattle.orc_column_reader.specs.Located.{AreLocated};
+ghost use Rattle.orc_column_reader.specs.Stripe.{SpellRows, columns_of, cell_limit};
+ghost use Rattle.orc_column_reader.specs.declared.fault.StripeFault.TheVariants.{OutOfMemory};
 ghost use Rattle.orc_column_walk.specs.OwnColumns.{IsOwnColumn, OwnDown, OwnWithin};
 ghost use Rattle.orc_column_walk.specs.OwnFaults.{IsRefused, RefusedDown, RefusedWithin};
 ghost use Rattle.orc_column_walk.specs.OwnLeft.{children};
 
 use crate::marks::count_values;
 use crate::values::read_values;
-use orc_columns::column::MOST_CELLS;
-use orc_columns::fault::StripeFault;
-use orc_columns::located::Located;
-use orc_columns::starting::reader_of;
+use orc_column_reader::column::MOST_CELLS;
+use orc_column_reader::fault::StripeFault;
+use orc_column_reader::located::Located;
+use orc_column_reader::starting::reader_of;
 use orc_types::{Field, Tree};
 use orc_wire::StripeFooter;
 use std::alloc::Global;

@@ -1,13 +1,13 @@
 //! What is found of a column and of its groups: columns whose statistics and counts were reckoned by hand.
 ghost use Rattle.std.specs.Prelude.{◌≡◌};
 ghost use Rattle.std.specs.Bool.{OnTrue};
-ghost use Rattle.orc_index.specs.Bounds.{AreBounds, bound_at};
+ghost use Rattle.orc_row_index.specs.Bounds.{AreBounds, bound_at};
 
+use orc_column_reader::column::MOST_CELLS;
+use orc_column_reader::directory::check_directory;
+use orc_column_reader::fault::StripeFault;
+use orc_column_reader::located::locate;
 use orc_column_walk::{ColumnFound, GroupFound, read_groups};
-use orc_columns::column::MOST_CELLS;
-use orc_columns::directory::check_directory;
-use orc_columns::fault::StripeFault;
-use orc_columns::located::locate;
 use orc_stats::{Body, Stat};
 use orc_types::{Schema, tree_at};
 use orc_wire::{Message, StripeFooter};

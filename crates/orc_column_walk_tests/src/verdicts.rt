@@ -18,10 +18,10 @@ mod numbers;
 mod texts;
 mod wide;
 
+use orc_column_reader::directory::check_directory;
+use orc_column_reader::fault::StripeFault;
+use orc_column_reader::located::{Located, locate};
 use orc_column_walk::walk_columns;
-use orc_columns::directory::check_directory;
-use orc_columns::fault::StripeFault;
-use orc_columns::located::{Located, locate};
 use orc_types::{Schema, Tree};
 use orc_wire::{Message, StripeFooter};
 use std::alloc::Global;

@@ -10,7 +10,7 @@ use Rattle.orc_types.proofs.Deeper.{width_pos, cells-add, elements-length, keys-
 use Rattle.orc_stats.specs.declared.kind.StatKind.{StatKind}
 use Rattle.orc_stats.specs.declared.kind.StatKind.TheVariants as kind
 use Rattle.orc_stats.specs.Kinds.{kind_of, kind_of_scalar}
-use Rattle.orc_written.specs.WrittenStripe.{AreFew}
+use Rattle.orc_stripe_writer.specs.WrittenStripe.{AreFew}
 use Rattle.orc_file.specs.Statistics.{kind_at}
 use Rattle.std.proofs.lemmas.Bool.Decides.{leb_tells}
 

@@ -18,10 +18,10 @@ use Rattle.orc_stats.specs.Kinds.{kind_of}
 use Rattle.orc_stats.specs.Statistics.{text_cmp, text_of, values_body}
 use Rattle.std.specs.Ordering.{flip_args}
 use Rattle.orc_stats.specs.Whole.{without_sum}
-use Rattle.orc_columns.specs.Spellings.{AllStand, joined}
-use Rattle.orc_columns.specs.Columns.{IsText, IsWord}
-use Rattle.orc_columns.specs.Directory.{slice, is_of}
-use Rattle.orc_columns.specs.Stripe.{Streams, SpellsTexts, IsColumn, IsStripe, has_dictionary, columns_of}
+use Rattle.orc_column_reader.specs.Spellings.{AllStand, joined}
+use Rattle.orc_column_reader.specs.Columns.{IsText, IsWord}
+use Rattle.orc_column_reader.specs.Directory.{slice, is_of}
+use Rattle.orc_column_reader.specs.Stripe.{Streams, SpellsTexts, IsColumn, IsStripe, has_dictionary, columns_of}
 use Rattle.orc_file.proofs.TextLengths.{HasShortTexts}
 use Rattle.orc_file.proofs.WrittenBits.{least_is}
 

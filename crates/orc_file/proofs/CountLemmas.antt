@@ -6,7 +6,7 @@ use Rattle.orc_types.specs.Shapes.{Shape, scalar, list_of, map_of, struct_of, Fi
 use Rattle.orc_types.specs.Cells.{Cell}
 use Rattle.orc_types.specs.Columns.{cells, cells_within}
 use Rattle.orc_types.proofs.Together.{cells-append}
-use Rattle.orc_written.specs.WrittenStripe.{AreFew}
+use Rattle.orc_stripe_writer.specs.WrittenStripe.{AreFew}
 use Rattle.orc_file.specs.Counts.{with_row, are_few}
 
 pub few_at : (ns : List ℕ) (i d : ℕ) → i < length ns → are_few ns ≡ true → get_or ns i d < 2 ^ 31

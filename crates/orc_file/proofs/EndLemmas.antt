@@ -3,7 +3,7 @@ use Rattle.std.specs.Prelude.{◌≡◌, ℕ, ◌+◌, ◌-◌, ◌≤◌, zero,
 use Rattle.std.proofs.Common.{sym, ◌∙◌, ap, subst, inr, arith}
 use Rattle.std.specs.Option.{IfSome}
 use Rattle.orc_wire.specs.declared.post_script.PostScript.{PostScript}
-use Rattle.orc_devices.specs.Devices.{bytes_at}
+use Rattle.orc_io.specs.Devices.{bytes_at}
 use Rattle.orc_file.specs.Layout.{magic, script_length, script_place, script_bytes}
 use Rattle.orc_file.specs.Tails.{script_tests, end_tests}
 use Rattle.orc_file.specs.declared.fault.FileFault.{FileFault}

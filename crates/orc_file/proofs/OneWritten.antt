@@ -3,13 +3,13 @@ use Rattle.std.proofs.Common.{◌≡◌, ℕ, suc, ◌+◌, ◌<◌, List, [], �
 use Rattle.std.specs.Prelude.{slice_get}
 use Rattle.std.proofs.lemmas.List.{append-nil}
 use Rattle.std.proofs.Math.Seq.{take-append_seam, drop-append_seam}
-use Rattle.orc_written.specs.declared.options.Options.{Options}
+use Rattle.orc_stripe_writer.specs.declared.options.Options.{Options}
 use Rattle.orc_wire.specs.declared.stripe_info.StripeInfo.{StripeInfo}
 use Rattle.orc_types.specs.Shapes.{Shape, width}
 use Rattle.orc_types.specs.Cells.{Cell}
 use Rattle.orc_stats.specs.declared.stat.Stat.{Stat}
-use Rattle.orc_written.specs.WrittenStripe.{IsWrittenStripe, HaveStats, column_stat}
-use Rattle.orc_written.proofs.StripeLaws.{one_stripe}
+use Rattle.orc_stripe_writer.specs.WrittenStripe.{IsWrittenStripe, HaveStats, column_stat}
+use Rattle.orc_stripe_writer.proofs.StripeLaws.{one_stripe}
 use Rattle.orc_file.specs.Layout.{magic}
 use Rattle.orc_file.specs.Images.{tail_text}
 use Rattle.orc_file.specs.Writing.{Closed, IsClosed, AreClosed, bytes_of, rows_of, infos_of, stats_of, AreFilled, written_tail, IsWrittenFile}

@@ -7,7 +7,7 @@ use Rattle.std.proofs.lemmas.List.Concat.{flat_map-cons}
 use Rattle.orc_wire.specs.declared.stripe_info.StripeInfo.{StripeInfo}
 use Rattle.orc_types.specs.Cells.{Cell}
 use Rattle.orc_types.specs.Shapes.{Shape}
-use Rattle.orc_columns.specs.Stripe.{IsStripe}
+use Rattle.orc_column_reader.specs.Stripe.{IsStripe}
 use Rattle.orc_file.specs.Stripes.{stripe_at, stripe_length}
 use Rattle.orc_file.specs.Tails.{IsTail, ReadFault}
 use Rattle.orc_file.specs.FileRows.{stripe_bytes, HasRows, HasMore, FileIs}

@@ -3,7 +3,7 @@ use Rattle.std.specs.Prelude.{◌≡◌, ℕ, ◌+◌, ◌-◌, ◌≤◌, List,
 use Rattle.std.proofs.Common.{sym, ◌∙◌, ap, arith, append_assoc, length-append}
 use Rattle.std.proofs.Math.Seq.{drop-append_seam, take-append_seam}
 use Rattle.orc_wire.specs.declared.post_script.PostScript.{PostScript}
-use Rattle.orc_devices.specs.Devices.{bytes_at}
+use Rattle.orc_io.specs.Devices.{bytes_at}
 use Rattle.orc_file.specs.Layout.{magic, script_length, script_place, script_bytes, footer_place, footer_bytes, metadata_place, metadata_bytes}
 use Rattle.orc_file.specs.Images.{ended}
 

@@ -1,7 +1,7 @@
 -- A file that is written has fewer than 2^64 bytes, where the text of its schema's types has fewer than 2^62.
 use Rattle.std.proofs.Common.{ℕ, ◌+◌, ◌*◌, ◌<◌, ◌≤◌, ◌^◌, List, [], ◌∷◌, ◌++◌, length, map, take, Option, Some, sym, ap, subst, arith, length-append}
 use Rattle.std.specs.List.{AllByRecursion, flat_map, list_all}
-use Rattle.orc_written.specs.declared.options.Options.{Options}
+use Rattle.orc_stripe_writer.specs.declared.options.Options.{Options}
 use Rattle.orc_rle.specs.declared.sign.Rle.{Rle}
 use Rattle.orc_rle.specs.declared.sign.Rle.TheVariants.{One, Two}
 use Rattle.orc_wire.specs.Fields.{varint, sized}
@@ -16,7 +16,7 @@ use Rattle.orc_stats.specs.Statistics.{stat, values_body}
 use Rattle.orc_stats.specs.Messages.{message_of}
 use Rattle.orc_stats.specs.Whole.{keeps_sum}
 use Rattle.orc_stats.specs.Joining as joining
-use Rattle.orc_written.specs.WrittenStripe.{column_stat}
+use Rattle.orc_stripe_writer.specs.WrittenStripe.{column_stat}
 use Rattle.orc_file.specs.Layout.{magic}
 use Rattle.orc_file.specs.Stripes.{stripes_length, most_stripes}
 use Rattle.orc_file.specs.Statistics.{kind_at, stripe_message}

@@ -1,7 +1,7 @@
 -- What a writer has done so far, field by field.
 use Rattle.std.proofs.Common.{ℕ, List, Option}
 use Rattle.orc_wire.specs.declared.stripe_info.StripeInfo.{StripeInfo}
-use Rattle.orc_written.specs.declared.options.Options.{Options}
+use Rattle.orc_stripe_writer.specs.declared.options.Options.{Options}
 use Rattle.orc_types.specs.Cells.{Cell}
 use Rattle.orc_types.specs.Shapes.{Shape}
 use Rattle.orc_stats.specs.declared.stat.Stat.{Stat}

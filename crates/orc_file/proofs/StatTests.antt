@@ -18,7 +18,7 @@ use Rattle.orc_stats.specs.Statistics.{stat}
 use Rattle.orc_stats.specs.Messages.{unknown, in_limits}
 use Rattle.orc_stats.proofs.Normal.{stat-normal}
 use Rattle.orc_stats.proofs.Fitting.{cell_kind}
-use Rattle.orc_written.specs.WrittenStripe.{AreFew, HaveStats, column_stat}
+use Rattle.orc_stripe_writer.specs.WrittenStripe.{AreFew, HaveStats, column_stat}
 use Rattle.orc_file.specs.Statistics.{kind_at}
 use Rattle.orc_file.specs.Writing.{column_stats}
 use Rattle.orc_file.proofs.WriterLemmas.{both}

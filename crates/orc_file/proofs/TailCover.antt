@@ -19,7 +19,7 @@ use Rattle.orc_types.specs.Schemas.{HasTypes}
 use Rattle.orc_types.proofs.Decisions.{Decided, both, same_number, at_most, same_numbers}
 use Rattle.orc_types.proofs.Cover.{SchemaCovered, schema_cover}
 use Rattle.orc_stats.specs.Messages.{in_limits}
-use Rattle.orc_devices.specs.Devices.{bytes_at}
+use Rattle.orc_io.specs.Devices.{bytes_at}
 use Rattle.orc_file.specs.Layout.{magic, script_length, script_place, script_bytes, footer_bytes, metadata_bytes, metadata_place}
 use Rattle.orc_file.specs.Tests.{schema_of}
 use Rattle.orc_file.specs.Stripes.{stripe_tests, stripe_end, stripes_rows, stripes_length, most_stripes, most_stripe_rows, most_rows, most_bytes}

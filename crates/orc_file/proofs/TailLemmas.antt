@@ -7,7 +7,7 @@ use Rattle.orc_wire.specs.declared.footer.Footer.{Footer}
 use Rattle.orc_wire.specs.declared.column_stats.Metadata.{Metadata}
 use Rattle.orc_types.specs.Shapes.{Shape, width}
 use Rattle.orc_stats.specs.declared.stat.Stat.{Stat}
-use Rattle.orc_devices.specs.Devices.{bytes_at}
+use Rattle.orc_io.specs.Devices.{bytes_at}
 use Rattle.orc_file.specs.Layout.{script_place, footer_bytes, metadata_bytes}
 use Rattle.orc_file.specs.Tails.{end_tests, footer_tests, metadata_tests, limit_tests, tail_of, IsTail, OpenFault}
 use Rattle.orc_file.specs.Statistics.{have_few}

@@ -5,7 +5,7 @@ use Rattle.std.specs.List.{AllByRecursion, flat_map}
 use Rattle.std.proofs.Math.Seq.{take-append_seam}
 use Rattle.std.proofs.lemmas.Bool.{lt-ltb, ltb-true, and_parts, eqb-true, eq-eqb}
 use Rattle.std.proofs.lemmas.List.{map-append, take_all, take-append-drop, length-take-le}
-use Rattle.orc_written.specs.declared.options.Options.{Options}
+use Rattle.orc_stripe_writer.specs.declared.options.Options.{Options}
 use Rattle.orc_wire.specs.declared.stripe_info.StripeInfo.{StripeInfo}
 use Rattle.orc_types.specs.Shapes.{Shape, scalar, list_of, map_of, struct_of, width}
 use Rattle.orc_types.specs.Schemas.{IsSchema}
@@ -15,9 +15,9 @@ use Rattle.orc_types.specs.Fits.{fits, all_fit, RowsFit}
 use Rattle.orc_types.specs.Views.{views}
 use Rattle.orc_types.specs.declared.value.Value.{Value}
 use Rattle.orc_stats.specs.declared.stat.Stat.{Stat}
-use Rattle.orc_columns.specs.Stripe.{IsStripe}
-use Rattle.orc_written.specs.WrittenStripe.{AreFew}
-use Rattle.orc_devices.specs.Devices.{appended}
+use Rattle.orc_column_reader.specs.Stripe.{IsStripe}
+use Rattle.orc_stripe_writer.specs.WrittenStripe.{AreFew}
+use Rattle.orc_io.specs.Devices.{appended}
 use Rattle.orc_file.specs.Layout.{magic}
 use Rattle.orc_file.specs.Stripes.{stripe_length, stripe_end, stripes_length, stripes_rows, IsLaid, most_stripes, most_stripe_rows, most_rows, most_bytes}
 use Rattle.orc_file.specs.Images.{tail_text}

@@ -3,7 +3,7 @@ use Rattle.std.proofs.Common.{◌≡◌, ℕ, zero, suc, ◌+◌, ◌*◌, ◌<�
 use Rattle.std.specs.Prelude.{◌==◌, slice_get}
 use Rattle.std.specs.List.{AllByRecursion, flat_map, list_all}
 use Rattle.std.proofs.lemmas.Bool.{lt-ltb, eq-eqb}
-use Rattle.orc_written.specs.declared.options.Options.{Options}
+use Rattle.orc_stripe_writer.specs.declared.options.Options.{Options}
 use Rattle.orc_wire.specs.Canonical.{all_both}
 use Rattle.orc_wire.specs.CanonicalMessages.{column_stats_text, stripe_info_text}
 use Rattle.orc_types.specs.Shapes.{Shape, width, shape_at}
@@ -24,8 +24,8 @@ use Rattle.orc_stats.proofs.Agreed.{same_agrees}
 use Rattle.orc_stats.specs.Known.{known_whole}
 use Rattle.orc_stats.specs.declared.kind.StatKind.TheVariants as kind
 use Rattle.std.proofs.lemmas.List.Sums.{sum_by-append}
-use Rattle.orc_columns.specs.Stripe.{IsStripe}
-use Rattle.orc_written.specs.WrittenStripe.{AreFew, column_stat}
+use Rattle.orc_column_reader.specs.Stripe.{IsStripe}
+use Rattle.orc_stripe_writer.specs.WrittenStripe.{AreFew, column_stat}
 use Rattle.orc_file.specs.Layout.{magic}
 use Rattle.orc_file.specs.Stripes.{stripe_length, stripe_end, stripes_length, most_stripes}
 use Rattle.orc_file.specs.Statistics.{kind_at}

@@ -6,7 +6,7 @@ use Rattle.orc_wire.specs.declared.stripe_info.StripeInfo.{StripeInfo}
 use Rattle.orc_wire.specs.declared.post_script.PostScript.{PostScript}
 use Rattle.orc_types.specs.Cells.{Cell}
 use Rattle.orc_types.specs.Shapes.{Shape}
-use Rattle.orc_columns.specs.Stripe.{IsStripe}
+use Rattle.orc_column_reader.specs.Stripe.{IsStripe}
 use Rattle.orc_file.specs.Layout.{script_length}
 use Rattle.orc_file.specs.Stripes.{stripe_length}
 use Rattle.orc_file.specs.Tests.{Test, check, ◌then◌}

@@ -3,7 +3,7 @@ use Rattle.std.specs.Prelude.{◌≡◌, ◌≢◌, ℕ, ◌+◌, ◌<◌, ◌�
 use Rattle.orc_types.specs.Shapes.{Shape, Fields, width, widths}
 use Rattle.orc_types.specs.Cells.{Cell}
 use Rattle.orc_types.specs.Columns.{cells, cells_within}
-use Rattle.orc_columns.specs.Stripe.{cell_limit}
+use Rattle.orc_column_reader.specs.Stripe.{cell_limit}
 
 -- one number is more than another by so many, where neither is above the limit
 abbrev pub IsMoreBy : ℕ → ℕ → ℕ → Type 0

@@ -6,13 +6,13 @@ use Rattle.orc_wire.specs.declared.stripe_info.StripeInfo.{StripeInfo}
 use Rattle.orc_wire.specs.declared.stripe_footer.StripeFooter.{StripeFooter}
 use Rattle.orc_types.specs.Cells.{Cell}
 use Rattle.orc_types.specs.Shapes.{Shape}
-use Rattle.orc_columns.specs.Stripe.{HasFooter, IsStripe, columns_of}
+use Rattle.orc_column_reader.specs.Stripe.{HasFooter, IsStripe, columns_of}
 use Rattle.orc_stripe.specs.Opened.{Opened}
 use Rattle.orc_stripe.specs.Opening.{OpenFault}
-use Rattle.orc_columns.specs.Faults.{RowsFault}
-use Rattle.orc_columns.specs.declared.fault.StripeFault.{StripeFault}
-use Rattle.orc_columns.specs.declared.fault.StripeFault.TheVariants as stripe
-use Rattle.orc_devices.specs.Devices.{bytes_at}
+use Rattle.orc_column_reader.specs.Faults.{RowsFault}
+use Rattle.orc_column_reader.specs.declared.fault.StripeFault.{StripeFault}
+use Rattle.orc_column_reader.specs.declared.fault.StripeFault.TheVariants as stripe
+use Rattle.orc_io.specs.Devices.{bytes_at}
 use Rattle.orc_file.specs.Stripes.{stripe_length, stripe_at}
 use Rattle.orc_file.specs.Tails.{IsTail}
 use Rattle.orc_file.specs.declared.tail.Tail.{Tail}

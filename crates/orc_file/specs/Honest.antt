@@ -9,7 +9,7 @@ use Rattle.orc_stats.specs.declared.stat.Stat.{Stat}
 use Rattle.orc_stats.specs.Statistics.{stat}
 use Rattle.orc_stats.specs.Whole.{keeps_sum, without_sum, whole}
 use Rattle.orc_stats.specs.Known.{Agrees, known_whole}
-use Rattle.orc_written.specs.WrittenStripe.{column_stat}
+use Rattle.orc_stripe_writer.specs.WrittenStripe.{column_stat}
 use Rattle.orc_file.specs.Statistics.{kind_at}
 use Rattle.orc_file.specs.FileRows.{cut_rows}
 use Rattle.orc_file.specs.declared.tail.Tail.{Tail}

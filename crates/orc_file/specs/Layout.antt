@@ -1,7 +1,7 @@
 -- Where the parts of a file stand (ORC specification, "File Tail"): `ORC`, the stripes, the metadata, the
 -- footer, the postscript, and a last byte with the postscript's length. They are found from the end.
 use Rattle.std.specs.Prelude.{ℕ, ◌-◌, List, [], ◌∷◌, length, slice_index}
-use Rattle.orc_devices.specs.Devices.{bytes_at}
+use Rattle.orc_io.specs.Devices.{bytes_at}
 use Rattle.orc_wire.specs.declared.post_script.PostScript.{PostScript}
 
 -- `ORC`

@@ -3,7 +3,7 @@
 use Rattle.std.specs.Prelude.{◌≡◌, ℕ, ◌+◌, ◌^◌, ◌≤◌, List, [], ◌∷◌, get_or}
 use Rattle.std.specs.List.{AllByRecursion}
 use Rattle.orc_wire.specs.declared.stripe_info.StripeInfo.{StripeInfo}
-use Rattle.orc_columns.specs.Stripe.{most_cells}
+use Rattle.orc_column_reader.specs.Stripe.{most_cells}
 use Rattle.orc_file.specs.Tests.{Test, check, gives}
 use Rattle.orc_file.specs.declared.fault.FileFault.TheVariants.{BadStripe, Limit}
 

@@ -12,7 +12,7 @@ use Rattle.orc_types.specs.Shapes.{Shape, width}
 use Rattle.orc_types.specs.declared.fault.TypeFault.TheVariants as types
 use Rattle.orc_stats.specs.declared.stat.Stat.{Stat}
 use Rattle.orc_stats.specs.Messages.{in_limits}
-use Rattle.orc_devices.specs.Devices.{bytes_at}
+use Rattle.orc_io.specs.Devices.{bytes_at}
 use Rattle.orc_file.specs.Layout.{magic, script_length, script_place, script_bytes, footer_bytes, metadata_bytes, metadata_place}
 use Rattle.orc_file.specs.Tests.{Test, gives, check, ◌then◌, reads, schema_of}
 use Rattle.orc_file.specs.Stripes.{stripe_tests, stripes_rows, stripes_length, most_stripes, most_rows, most_bytes}

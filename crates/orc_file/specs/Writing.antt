@@ -10,10 +10,10 @@ use Rattle.orc_types.specs.Schemas.{IsSchema}
 use Rattle.orc_types.specs.Cells.{Cell}
 use Rattle.orc_stats.specs.declared.stat.Stat.{Stat}
 use Rattle.orc_stats.specs.Joining.{joined}
-use Rattle.orc_columns.specs.Stripe.{IsStripe}
-use Rattle.orc_written.specs.WrittenStripe.{IsWrittenStripe, HaveStats}
-use Rattle.orc_written.specs.declared.options.Options.{Options}
-use Rattle.orc_devices.specs.Devices.{appended}
+use Rattle.orc_column_reader.specs.Stripe.{IsStripe}
+use Rattle.orc_stripe_writer.specs.WrittenStripe.{IsWrittenStripe, HaveStats}
+use Rattle.orc_stripe_writer.specs.declared.options.Options.{Options}
+use Rattle.orc_io.specs.Devices.{appended}
 use Rattle.orc_file.specs.Layout.{magic}
 use Rattle.orc_file.specs.Stripes.{stripes_length, stripes_rows, most_stripes, most_rows, most_bytes}
 use Rattle.orc_file.specs.Statistics.{kind_at}

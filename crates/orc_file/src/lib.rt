@@ -12,7 +12,7 @@ mod writer;
 pub use fault::FileFault;
 pub use file::OrcFile;
 pub use laws::{cap_laws, image_laws, row_laws, tail_laws, whole_laws, written_laws};
-pub use orc_devices::{
+pub use orc_io::{
     Failures, FileSource, RangeFault, Sink, SinkFault, SliceSource, Source, SourceFault, StdSink,
     VecSink, read_range, write_all,
 };

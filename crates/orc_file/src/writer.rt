@@ -15,7 +15,7 @@ mod tail_writing;
 mod writing;
 
 pub use file_stats::file_statistics;
-use orc_devices::Sink;
+use orc_io::Sink;
 use orc_stats::Stat;
 use orc_stripe::Options;
 use orc_types::{Row, Schema};

@@ -1,10 +1,10 @@
 //! Devices: what is read of sources and written to sinks, and what is refused where they fail.
 
 use crate::assertions::{check_list, check_same, demand};
-use orc_devices::{
+use orc_io::{
     FileSource, RangeFault, Sink, SliceSource, Source, StdSink, VecSink, read_range, write_all,
 };
-use orc_test_devices::{FailSink, FailSource, Full, Narrow};
+use orc_test_io::{FailSink, FailSource, Full, Narrow};
 use std::alloc::{AllocError, Global};
 use std::path::PathBuf;
 use std::process::Abort;
@@ -224,7 +224,7 @@ fn writers_fill_up(rt: HostRuntime) -> Result<(), AllocError> {
 /// The path of a file of this process alone.
 fn path_of(rt: &HostRuntime, name: &str) -> io::Result<PathBuf> {
     let mut path = env::temp_dir(rt)?;
-    let name = format!(in rt.alloc(); "orc_devices-{}-{name}", process::id(rt.process()))?;
+    let name = format!(in rt.alloc(); "orc_io-{}-{name}", process::id(rt.process()))?;
     path.push(name.as_str())?;
     Ok(path)
 }

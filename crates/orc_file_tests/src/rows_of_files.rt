@@ -5,7 +5,7 @@ use crate::calls::{open, opened, rows};
 use orc_file::{FileFault, OrcFile, SliceSource, Source};
 use orc_rle::RunFault;
 use orc_stripe::{StreamKind, StripeFault};
-use orc_test_devices::{EMPTY, FailSource, SEVENS, TWICE, UPWARDS};
+use orc_test_io::{EMPTY, FailSource, SEVENS, TWICE, UPWARDS};
 use orc_types::{Row, Value};
 use orc_wire::WireFault;
 use std::alloc::{AllocError, Global};

@@ -4,7 +4,7 @@ use crate::assertions::check_same;
 use crate::tails::{numbers, tail_of};
 use orc_file::{FileFault, file_statistics};
 use orc_stats::StatFault;
-use orc_test_devices::{EMPTY, SEVENS, TWICE, UPWARDS};
+use orc_test_io::{EMPTY, SEVENS, TWICE, UPWARDS};
 use std::alloc::Global;
 use std::process::Abort;
 

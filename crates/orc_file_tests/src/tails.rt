@@ -12,7 +12,7 @@ use crate::assertions::{check_list, check_same, demand};
 use orc_file::{FileFault, OrcFile, SliceSource, Source, Tail};
 use orc_stats::{Body, Stat};
 use orc_stripe::{StreamKind, StripeFault};
-use orc_test_devices::{EMPTY, SEVENS};
+use orc_test_io::{EMPTY, SEVENS};
 use orc_types::TypeFault;
 use orc_wire::{Items, StripeInfo};
 use std::alloc::Global;

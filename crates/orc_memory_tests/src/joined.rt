@@ -4,7 +4,7 @@ use crate::sevens::output;
 use orc_check::{Finding, check};
 use orc_file::{FileFault, SliceSource};
 use orc_merge::{MergeFault, merge};
-use orc_test_devices::{FailSink, SEVENS, TWICE, UPWARDS};
+use orc_test_io::{FailSink, SEVENS, TWICE, UPWARDS};
 use std::alloc::Global;
 use std::process::Abort;
 

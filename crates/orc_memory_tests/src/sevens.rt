@@ -1,5 +1,5 @@
 //! What several tests hand to their calls.
-use orc_test_devices::{FailSink, Full};
+use orc_test_io::{FailSink, Full};
 use orc_types::{Row, Schema, TypeFault, Value};
 use std::alloc::{AllocError, Global};
 

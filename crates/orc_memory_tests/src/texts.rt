@@ -1,12 +1,12 @@
 //! Texts: integer streams by their digits, and rows as JSON.
 use crate::assertions::{demand, same, same_bytes};
 use crate::sevens::{output, schema_of};
+use orc_cli_ints::ints_to;
+use orc_cli_output::CliFault;
 use orc_file::FileFault;
-use orc_ints::ints_to;
-use orc_output::CliFault;
 use orc_rle::{Rle, RunFault, Sign};
 use orc_stripe::StripeFault;
-use orc_test_devices::Narrow;
+use orc_test_io::Narrow;
 use orc_test_lines::line_of;
 use orc_types::{JsonFault, Row, Schema, fits, row_from_json, row_to_json};
 use serde_json::Value as Json;

@@ -4,7 +4,7 @@ use crate::sevens::{output, schema_of};
 use orc_file::{FileFault, Writer};
 use orc_rle::Rle;
 use orc_stripe::Options;
-use orc_test_devices::{FailSink, SEVENS};
+use orc_test_io::{FailSink, SEVENS};
 use orc_types::{Row, Schema, Value};
 use std::alloc::{AllocError, Global};
 use std::process::Abort;

@@ -1,7 +1,7 @@
 -- From a grouping that gave a file to the merge at once.
 use Rattle.std.proofs.Common.{◌≡◌, ℕ, ◌<◌, List, [], ◌∷◌, ◌++◌, length, Option, refl, sym, ap, ◌∙◌, subst}
 use Rattle.std.specs.List.{AllByRecursion}
-use Rattle.orc_devices.specs.Devices.{appended}
+use Rattle.orc_io.specs.Devices.{appended}
 use Rattle.orc_file.specs.Tails.{IsTail, tail_tests}
 use Rattle.orc_file.specs.Images.{IsWithinLimits}
 use Rattle.orc_file.specs.declared.tail.Tail.{Tail}

@@ -5,8 +5,8 @@ use Rattle.std.proofs.Math.Seq.{take-add}
 use Rattle.std.proofs.lemmas.List.{take_more, drop_more, take-append-drop, take-append-le, take_min, take_at, drop_at, take_all, take-take, map-set, get_or-map, get_or-set_same, length-map, append-nil}
 use Rattle.std.proofs.lemmas.List.Concat.{flat_map-append}
 use Rattle.orc_merge.specs.declared.copying.Piece.{Piece}
-use Rattle.orc_devices.specs.Devices.{appended, bytes_at}
-use Rattle.orc_devices.proofs.Appended.{appended-appended}
+use Rattle.orc_io.specs.Devices.{appended, bytes_at}
+use Rattle.orc_io.proofs.Appended.{appended-appended}
 use Rattle.orc_merge.specs.Copies.{Copied, CopiedSome, WroteSome, piece_at, piece_bytes, pieces_bytes}
 
 -- ---- fronts

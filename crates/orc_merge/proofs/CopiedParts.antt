@@ -3,8 +3,8 @@ use Rattle.std.proofs.Common.{◌≡◌, ℕ, ◌+◌, ◌≤◌, List, ◌++◌
 use Rattle.std.specs.Prelude.{IfSome}
 use Rattle.std.proofs.Math.Seq.{take-add}
 use Rattle.std.proofs.lemmas.List.{drop-drop, take-take}
-use Rattle.orc_devices.specs.Devices.{appended, bytes_at}
-use Rattle.orc_devices.proofs.Appended.{appended-appended}
+use Rattle.orc_io.specs.Devices.{appended, bytes_at}
+use Rattle.orc_io.proofs.Appended.{appended-appended}
 use Rattle.orc_merge.specs.Copies.{Copied, CopiedSome}
 
 pub bytes_at-add : (at n m : ℕ) (bytes : List ℕ) → bytes_at at n bytes ++ bytes_at (at + n) m bytes ≡ bytes_at at (n + m) bytes

@@ -6,7 +6,7 @@ use Rattle.std.proofs.lemmas.List.{get_or_at, length_push}
 use Rattle.std.proofs.lemmas.List.Concat.{flat_map-append}
 use Rattle.std.proofs.lemmas.List.Elements.{All-from_recursion}
 use Rattle.orc_wire.specs.declared.stripe_info.StripeInfo.{StripeInfo}
-use Rattle.orc_devices.specs.Devices.{bytes_at}
+use Rattle.orc_io.specs.Devices.{bytes_at}
 use Rattle.orc_file.specs.Stripes.{stripe_length, AllBefore}
 use Rattle.orc_file.specs.FileRows.{stripe_bytes}
 use Rattle.orc_file.specs.declared.tail.Tail.{Tail}

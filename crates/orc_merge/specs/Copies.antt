@@ -2,7 +2,7 @@
 use Rattle.std.specs.Prelude.{◌≡◌, ◌≢◌, ℕ, ◌+◌, ◌≤◌, List, [], take, Option, slice_get, slice_index_or}
 use Rattle.std.specs.List.{flat_map}
 use Rattle.std.specs.Option.{IfSome}
-use Rattle.orc_devices.specs.Devices.{appended, bytes_at}
+use Rattle.orc_io.specs.Devices.{appended, bytes_at}
 use Rattle.orc_merge.specs.declared.copying.Piece.{Piece}
 
 -- so many bytes of what a source tells, from a place on, went to a sink behind what it had told

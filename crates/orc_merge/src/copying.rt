@@ -1,7 +1,7 @@
 //! Bytes go out: pieces of the inputs through one array, and what stands before and behind them.
 ghost use Rattle.std.specs.Prelude.{◌≡◌, ◌+◌, ◌<◌, ◌≤◌, ◌++◌, ℕ, List, Some, length, map, slice_index, IfErr, OnOk, IsErrOf, All};
 ghost use Rattle.std.specs.Bool.{OnTrue, OnFalse};
-ghost use Rattle.orc_devices.specs.Devices.{appended};
+ghost use Rattle.orc_io.specs.Devices.{appended};
 ghost use Rattle.orc_file.specs.Layout.{magic};
 ghost use Rattle.orc_merge.specs.Copies.{Copied, CopiedSome, WroteSome, IsLastOfInput};
 ghost use Rattle.orc_merge.specs.Copies.{piece_at, piece_bytes, pieces_bytes};

@@ -9,7 +9,7 @@ ghost use Rattle.orc_stats.specs.declared.stat.Stat.{Stat};
 ghost use Rattle.orc_stats.specs.Statistics.{stat};
 ghost use Rattle.orc_stats.specs.Joining.{joined};
 ghost use Rattle.orc_stats.specs.Whole.{has_sum, keeps_sum, whole};
-ghost use Rattle.orc_devices.specs.Devices.{appended};
+ghost use Rattle.orc_io.specs.Devices.{appended};
 ghost use Rattle.orc_file.specs.FileRows.{FileIs};
 ghost use Rattle.orc_file.specs.FileRows as rows;
 ghost use Rattle.orc_file.specs.Honest.{Honest, HasWholeStats};

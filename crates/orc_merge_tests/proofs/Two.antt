@@ -1,7 +1,7 @@
 -- A merge of two merged files is the merge of all their inputs, by the laws of groupings.
 use Rattle.std.proofs.Common.{◌≡◌, ℕ, ◌<◌, List, [], ◌∷◌, ◌++◌, length, Option, Some, Result, Ok, Err, refl, sym, ap, ◌∙◌, subst}
 use Rattle.std.specs.Prelude.{IfOk}
-use Rattle.orc_devices.specs.Devices.{appended}
+use Rattle.orc_io.specs.Devices.{appended}
 use Rattle.orc_file.specs.Tails.{tail_tests}
 use Rattle.orc_file.specs.declared.tail.Tail.{Tail}
 use Rattle.orc_merge.specs.Merging.{Merged, AreOpened, IsMerge}

@@ -1,5 +1,5 @@
-mod TableLemmas
-mod ColumnLemmas
-mod FewValues
-mod Entries
-mod CountedLemmas
+pub mod PositionLemmas
+pub mod BitPositionLemmas
+pub mod PlaceLemmas
+pub mod WalkLemmas
+pub mod MarkLemmas

@@ -1,4 +1,4 @@
-pub mod Tables
-pub mod ColumnTables
-pub mod Decided
-pub mod CountedBefore
+pub mod Position
+pub mod BitPosition
+pub mod RunPlaces
+pub mod Marks

@@ -1,9 +1,12 @@
-//! Positions looked up: which entries of a column's row index say where their groups begin.
+//! Positions in streams of runs: what they name, a writer's, going on from one, and looking one up.
 #![tactic(auto)]
 
-mod column_table;
-mod counted_groups;
-mod decided;
-mod stream_table;
+mod laws;
+mod mark;
+mod places;
 
-pub use decided::{positions_right, positions_right_behind};
+pub use laws::{
+    bit_seek_laws, bit_seek_place, byte_seek_laws, byte_seek_place, seek_laws, seek_place,
+};
+pub use mark::{Mark, byte_mark_at, mark_at};
+pub use places::{RunPlaces, byte_place_laws, byte_places, place_laws, run_places};

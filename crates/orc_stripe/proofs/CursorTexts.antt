@@ -2,8 +2,8 @@
 use Rattle.std.proofs.Common.{◌≡◌, ℕ, List, [], ◌∷◌, Bool, true, false, refl, sym, ◌∙◌, subst}
 use Rattle.orc_types.specs.Cells.{Cell}
 use Rattle.orc_types.specs.Views.{shape}
-use Rattle.orc_columns.specs.Columns.{CellsLeft}
-use Rattle.orc_columns.specs.declared.column.ColumnReader.{ColumnReader}
+use Rattle.orc_column_reader.specs.Columns.{CellsLeft}
+use Rattle.orc_column_reader.specs.declared.column.ColumnReader.{ColumnReader}
 use Rattle.orc_column_text.specs.Taken.{RowsLeft, GaveText, GivesText}
 use Rattle.orc_stripe.specs.Cursors.{IsGoing, StandsFor}
 use Rattle.orc_stripe.specs.declared.cursor.RowCursor.{RowCursor}

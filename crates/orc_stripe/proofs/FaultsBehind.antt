@@ -2,10 +2,10 @@
 use Rattle.std.proofs.Common.{◌≡◌, ℕ, ◌+◌, ◌-◌, ◌*◌, List, length, subst, arith}
 use Rattle.std.proofs.lemmas.Option.{slice_get_within}
 use Rattle.orc_types.specs.Cells.{Cell}
-use Rattle.orc_columns.specs.Faults.{FaultDown, HasFault}
-use Rattle.orc_columns.specs.Stripe.{columns_of}
-use Rattle.orc_columns.specs.declared.fault.StripeFault.{StripeFault}
-use Rattle.orc_entering.proofs.ColumnsBehind.{readers_behind}
+use Rattle.orc_column_reader.specs.Faults.{FaultDown, HasFault}
+use Rattle.orc_column_reader.specs.Stripe.{columns_of}
+use Rattle.orc_column_reader.specs.declared.fault.StripeFault.{StripeFault}
+use Rattle.orc_group_reader.proofs.ColumnsBehind.{readers_behind}
 use Rattle.orc_stripe.specs.Opened.{Opened}
 use Rattle.orc_stripe.specs.GroupCursors.{LeadsBehind, MeetsFrom}
 

@@ -6,9 +6,9 @@ use Rattle.orc_types.specs.Cells.{Cell}
 use Rattle.orc_types.specs.Columns.{cells}
 use Rattle.orc_types.specs.Shapes.{Shape}
 use Rattle.orc_types.proofs.Together.{cells-append}
-use Rattle.orc_index.specs.Bounds.{AreBounds}
-use Rattle.orc_index.proofs.Groups.{bounds_map}
-use Rattle.orc_written.specs.Groups.{cells_before, bounds_of}
+use Rattle.orc_row_index.specs.Bounds.{AreBounds}
+use Rattle.orc_row_index.proofs.Groups.{bounds_map}
+use Rattle.orc_stripe_writer.specs.Groups.{cells_before, bounds_of}
 
 pub no_cells : (s : Shape) (c : ℕ) → cells s c [] ≡ []
 no_cells s c = nil_from_length (cells s c []) (let e = ap length (cells-append s c [] []) in omega (arith, e, length-append (cells s c []) (cells s c [])))

@@ -8,13 +8,13 @@ use Rattle.orc_types.specs.Columns.{cells}
 use Rattle.orc_types.specs.Shapes.{Shape, width, shape_at}
 use Rattle.orc_types.proofs.Together.{cells-append}
 use Rattle.orc_wire.specs.declared.row_index.RowIndexMsg.{RowIndexMsg}
-use Rattle.orc_columns.specs.Stripe.{Streams, SpellRows, columns_of}
-use Rattle.orc_index.specs.Bounds.{before_group}
-use Rattle.orc_index.specs.Places.{AreReadPlaces}
-use Rattle.orc_index.specs.RunStreams.{RunStream, no_stream, bit_runs, byte_runs, number_runs}
-use Rattle.orc_written.specs.Groups.{group_count, starts, cells_before, bounds_of}
-use Rattle.orc_entering.specs.Columns.{OctetsAgree, AgreeFromPlaces}
-use Rattle.orc_entering.specs.Streams.{RunsAgree}
+use Rattle.orc_column_reader.specs.Stripe.{Streams, SpellRows, columns_of}
+use Rattle.orc_row_index.specs.Bounds.{before_group}
+use Rattle.orc_row_index.specs.Places.{AreReadPlaces}
+use Rattle.orc_row_index.specs.RunStreams.{RunStream, no_stream, bit_runs, byte_runs, number_runs}
+use Rattle.orc_stripe_writer.specs.Groups.{group_count, starts, cells_before, bounds_of}
+use Rattle.orc_group_reader.specs.Columns.{OctetsAgree, AgreeFromPlaces}
+use Rattle.orc_group_reader.specs.Streams.{RunsAgree}
 use Rattle.orc_stripe.specs.Opened.{Opened}
 use Rattle.orc_stripe.specs.RowIndexes.{HasIndex, IsWhole, ArePositionsDecided}
 use Rattle.orc_stripe.specs.GroupCursors.{HasGroup, HasRightEntry, StartsGroup}

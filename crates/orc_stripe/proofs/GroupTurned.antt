@@ -8,15 +8,15 @@ use Rattle.orc_types.specs.Cells.{Cell}
 use Rattle.orc_types.specs.Columns.{cells}
 use Rattle.orc_types.specs.Shapes.{Shape, width, shape_at}
 use Rattle.orc_wire.specs.declared.row_index.RowIndexEntry.{RowIndexEntry}
-use Rattle.orc_columns.specs.Stripe.{Streams, SpellRows, columns_of}
-use Rattle.orc_entering.specs.Columns.{AgreeFromPlaces}
-use Rattle.orc_columns.specs.declared.column.ColumnReader.{ColumnReader}
-use Rattle.orc_columns.specs.declared.fault.StripeFault.{StripeFault}
-use Rattle.orc_entering.specs.ReadersAt.{ReadersAt}
-use Rattle.orc_entering.specs.Refusals.{ColumnRefused}
-use Rattle.orc_entering.specs.Rows.{RowsTurn, EntriesRefused}
-use Rattle.orc_written.specs.Groups.{group_count}
-use Rattle.orc_written.proofs.IndexLemmas.{pushed_get}
+use Rattle.orc_column_reader.specs.Stripe.{Streams, SpellRows, columns_of}
+use Rattle.orc_group_reader.specs.Columns.{AgreeFromPlaces}
+use Rattle.orc_column_reader.specs.declared.column.ColumnReader.{ColumnReader}
+use Rattle.orc_column_reader.specs.declared.fault.StripeFault.{StripeFault}
+use Rattle.orc_group_reader.specs.ReadersAt.{ReadersAt}
+use Rattle.orc_group_reader.specs.Refusals.{ColumnRefused}
+use Rattle.orc_group_reader.specs.Rows.{RowsTurn, EntriesRefused}
+use Rattle.orc_stripe_writer.specs.Groups.{group_count}
+use Rattle.orc_stripe_writer.proofs.IndexLemmas.{pushed_get}
 use Rattle.orc_stripe.specs.Opened.{Opened}
 use Rattle.orc_stripe.specs.GroupCursors.{IsGroupEntry, StartsGroup, HasEntries, GroupRefused, EntersGroup}
 

@@ -1,7 +1,7 @@
 -- Looking for a column's index in the directory.
 use Rattle.std.proofs.Common.{◌≡◌, ℕ, ◌-◌, Bool, true, false, ◌&&◌, ◌||◌, nat_le, if◌then◌else◌, List, [], ◌∷◌, length, take, drop, refl, sym, ap, ◌∙◌, subst, length-drop}
 use Rattle.orc_wire.specs.declared.stripe_footer.StreamMsg.{StreamMsg}
-use Rattle.orc_columns.specs.Directory.{is_of, has_stream, have_room, slice}
+use Rattle.orc_column_reader.specs.Directory.{is_of, has_stream, have_room, slice}
 
 -- what is sought stands among the streams that are left
 pub record Looking (column : ℕ) (streams left : List StreamMsg) (bytes rest : List ℕ) : Type 0 where

@@ -9,12 +9,12 @@ use Rattle.orc_wire.specs.declared.fault.WireFault.TheVariants as wire
 use Rattle.orc_wire.specs.declared.row_index.RowIndexEntry.{RowIndexEntry}
 use Rattle.orc_types.specs.Cells.{Cell}
 use Rattle.orc_types.specs.Shapes.{Shape}
-use Rattle.orc_columns.specs.Directory.{has_stream}
-use Rattle.orc_columns.specs.Stripe.{Streams, IsStripe}
-use Rattle.orc_columns.specs.declared.fault.StripeFault.{StripeFault}
-use Rattle.orc_columns.specs.declared.fault.StripeFault.TheVariants as fault
-use Rattle.orc_positions.specs.Decided.{AreDecided}
-use Rattle.orc_written.specs.Groups.{group_count, starts}
+use Rattle.orc_column_reader.specs.Directory.{has_stream}
+use Rattle.orc_column_reader.specs.Stripe.{Streams, IsStripe}
+use Rattle.orc_column_reader.specs.declared.fault.StripeFault.{StripeFault}
+use Rattle.orc_column_reader.specs.declared.fault.StripeFault.TheVariants as fault
+use Rattle.orc_row_index_check.specs.Decided.{AreDecided}
+use Rattle.orc_stripe_writer.specs.Groups.{group_count, starts}
 use Rattle.orc_stripe.specs.Opened.{Opened}
 use Rattle.orc_stripe.specs.RowIndexes.{index_text, IndexFault, HasOtherEntries, PositionsFault}
 

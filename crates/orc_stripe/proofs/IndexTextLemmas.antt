@@ -3,7 +3,7 @@ use Rattle.std.proofs.Common.{◌≡◌, ℕ, zero, suc, ◌-◌, ◌<◌, Bool,
 use Rattle.std.proofs.lemmas.Bool.{and_parts}
 use Rattle.std.proofs.lemmas.List.{length-replicate}
 use Rattle.orc_wire.specs.declared.stripe_footer.StreamMsg.{StreamMsg}
-use Rattle.orc_columns.specs.Directory.{is_of, has_stream, have_room, slice}
+use Rattle.orc_column_reader.specs.Directory.{is_of, has_stream, have_room, slice}
 use Rattle.orc_stripe.specs.IndexTexts.{index_at, or_else, listed, AreIndexTexts}
 use Rattle.orc_stripe.specs.declared.view.index_texts.IndexText.{IndexText}
 

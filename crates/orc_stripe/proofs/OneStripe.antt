@@ -7,9 +7,9 @@ use Rattle.orc_wire.specs.declared.stripe_footer.StripeFooter.{StripeFooter}
 use Rattle.orc_wire.specs.Messages.{stripe_footer}
 use Rattle.orc_wire.specs.SpellsLaws.{one_spelled}
 use Rattle.orc_stripe.specs.Opening.{footer_bytes}
-use Rattle.orc_columns.specs.Stripe.{HasFooter, IsStripe, SpellRows, columns_of}
-use Rattle.orc_columns.proofs.ByNumber.{from_number}
-use Rattle.orc_columns.proofs.OneRows.{one_cells}
+use Rattle.orc_column_reader.specs.Stripe.{HasFooter, IsStripe, SpellRows, columns_of}
+use Rattle.orc_column_reader.proofs.ByNumber.{from_number}
+use Rattle.orc_column_reader.proofs.OneRows.{one_cells}
 
 pub one_footer : (s : Shape) (info : StripeInfo) (bytes : List ℕ) (a b : StripeFooter) → HasFooter s info bytes a → HasFooter s info bytes b → a ≡ b
 one_footer s info bytes a b p q = one_spelled stripe_footer 0 0 (footer_bytes info bytes) a b p.read q.read

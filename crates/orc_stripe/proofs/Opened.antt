@@ -7,7 +7,7 @@ use Rattle.orc_types.proofs.Trees.{length-types}
 use Rattle.orc_wire.specs.declared.encoding.Encoding.{Encoding}
 use Rattle.orc_wire.specs.declared.stripe_footer.StreamMsg.{StreamMsg}
 use Rattle.orc_wire.specs.declared.type_msg.TypeMsg.{TypeMsg}
-use Rattle.orc_columns.specs.Directory.{have_room, names_once, have_columns, is_directory, first_wrong, takes_encoding}
+use Rattle.orc_column_reader.specs.Directory.{have_room, names_once, have_columns, is_directory, first_wrong, takes_encoding}
 use Rattle.orc_types.specs.Shapes.{Shape}
 use Rattle.orc_wire.specs.declared.stripe_info.StripeInfo.{StripeInfo}
 use Rattle.orc_wire.specs.declared.fault.WireFault.{WireFault}
@@ -16,9 +16,9 @@ use Rattle.orc_wire.specs.Messages.{stripe_footer}
 use Rattle.orc_wire.specs.Spells.{Faults}
 use Rattle.orc_wire.specs.declared.stripe_footer.StripeFooter.{StripeFooter}
 use Rattle.orc_stripe.specs.Opening.{OpenFault, footer_bytes}
-use Rattle.orc_columns.specs.Stripe.{HasFooter}
-use Rattle.orc_columns.specs.declared.fault.StripeFault.{StripeFault}
-use Rattle.orc_columns.specs.declared.fault.StripeFault.TheVariants as fault
+use Rattle.orc_column_reader.specs.Stripe.{HasFooter}
+use Rattle.orc_column_reader.specs.declared.fault.StripeFault.{StripeFault}
+use Rattle.orc_column_reader.specs.declared.fault.StripeFault.TheVariants as fault
 
 pub fault_of : (s : Shape) (info : StripeInfo) (bytes : List ℕ) (cause : WireFault) (f : StripeFault) → (f ≡ fault.OutOfMemory) ⊎ ((f ≡ fault.Wire cause) × (cause ≢ wire.OutOfMemory))
     → (cause ≡ wire.OutOfMemory) ⊎ Faults stripe_footer 0 0 (footer_bytes info bytes) cause → OpenFault s info bytes f

@@ -6,18 +6,18 @@ use Rattle.orc_types.specs.Fits.{RowsFit}
 use Rattle.orc_types.specs.Shapes.{width, shape_at}
 use Rattle.orc_wire.specs.declared.row_index.RowIndexEntry.{RowIndexEntry}
 use Rattle.orc_wire.specs.declared.row_index.RowIndexMsg.{RowIndexMsg}
-use Rattle.orc_columns.specs.Stripe.{Streams, SpellRows, columns_of, cell_limit}
-use Rattle.orc_columns.specs.Columns.{CellsLeft}
-use Rattle.orc_columns.specs.ReaderFaults.{CellsMeet}
-use Rattle.orc_columns.specs.declared.column.ColumnReader.{ColumnReader}
-use Rattle.orc_columns.specs.declared.fault.Spot.TheVariants as spot
-use Rattle.orc_columns.specs.declared.fault.StripeFault.{StripeFault}
-use Rattle.orc_columns.specs.declared.fault.StripeFault.TheVariants as fault
-use Rattle.orc_index.specs.Places.{AreReadPlaces}
-use Rattle.orc_entering.specs.Behind.{IsBehind}
-use Rattle.orc_entering.specs.Columns.{AgreeFromPlaces}
-use Rattle.orc_entering.specs.ReadersAt.{ReadersAt}
-use Rattle.orc_entering.specs.Refusals.{ColumnRefused}
+use Rattle.orc_column_reader.specs.Stripe.{Streams, SpellRows, columns_of, cell_limit}
+use Rattle.orc_column_reader.specs.Columns.{CellsLeft}
+use Rattle.orc_column_reader.specs.ReaderFaults.{CellsMeet}
+use Rattle.orc_column_reader.specs.declared.column.ColumnReader.{ColumnReader}
+use Rattle.orc_column_reader.specs.declared.fault.Spot.TheVariants as spot
+use Rattle.orc_column_reader.specs.declared.fault.StripeFault.{StripeFault}
+use Rattle.orc_column_reader.specs.declared.fault.StripeFault.TheVariants as fault
+use Rattle.orc_row_index.specs.Places.{AreReadPlaces}
+use Rattle.orc_group_reader.specs.Behind.{IsBehind}
+use Rattle.orc_group_reader.specs.Columns.{AgreeFromPlaces}
+use Rattle.orc_group_reader.specs.ReadersAt.{ReadersAt}
+use Rattle.orc_group_reader.specs.Refusals.{ColumnRefused}
 use Rattle.orc_stripe.specs.Opened.{Opened}
 use Rattle.orc_stripe.specs.RowIndexes.{HasIndex, IndexFault, IsWhole, HasOtherEntries}
 

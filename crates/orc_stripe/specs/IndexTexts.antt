@@ -6,7 +6,7 @@ use Rattle.orc_wire.specs.Messages.{row_index}
 use Rattle.orc_wire.specs.Spells.{Spells}
 use Rattle.orc_wire.specs.declared.row_index.RowIndexMsg.{RowIndexMsg}
 use Rattle.orc_wire.specs.declared.stripe_footer.StreamMsg.{StreamMsg}
-use Rattle.orc_columns.specs.Directory.{has_stream, slice}
+use Rattle.orc_column_reader.specs.Directory.{has_stream, slice}
 use Rattle.orc_stripe.specs.declared.view.index_texts.IndexText.{IndexText}
 
 -- the bytes that are kept, if any

@@ -7,14 +7,14 @@ use Rattle.orc_wire.specs.Spells.{Spells, Faults}
 use Rattle.orc_types.specs.Cells.{Cell}
 use Rattle.orc_types.specs.Columns.{cells}
 use Rattle.orc_types.specs.Shapes.{shape_at}
-use Rattle.orc_columns.specs.Directory.{has_stream, slice}
-use Rattle.orc_columns.specs.Stripe.{IsStripe, columns_of}
-use Rattle.orc_columns.specs.declared.fault.Spot.TheVariants as spot
-use Rattle.orc_columns.specs.declared.fault.StripeFault.{StripeFault}
-use Rattle.orc_columns.specs.declared.fault.StripeFault.TheVariants as fault
-use Rattle.orc_positions.specs.ColumnTables.{ColumnFails}
-use Rattle.orc_positions.specs.Decided.{AreDecided}
-use Rattle.orc_written.specs.Groups.{group_count, starts, bounds_of}
+use Rattle.orc_column_reader.specs.Directory.{has_stream, slice}
+use Rattle.orc_column_reader.specs.Stripe.{IsStripe, columns_of}
+use Rattle.orc_column_reader.specs.declared.fault.Spot.TheVariants as spot
+use Rattle.orc_column_reader.specs.declared.fault.StripeFault.{StripeFault}
+use Rattle.orc_column_reader.specs.declared.fault.StripeFault.TheVariants as fault
+use Rattle.orc_row_index_check.specs.ColumnTables.{ColumnFails}
+use Rattle.orc_row_index_check.specs.Decided.{AreDecided}
+use Rattle.orc_stripe_writer.specs.Groups.{group_count, starts, bounds_of}
 use Rattle.orc_stripe.specs.Opened.{Opened}
 
 -- the bytes of column c's ROW_INDEX

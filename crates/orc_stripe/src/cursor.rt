@@ -3,7 +3,7 @@ ghost use Rattle.std.specs.Prelude.{◌≡◌, length};
 ghost use Rattle.orc_types.specs.Shapes.{width};
 ghost use Rattle.orc_types.specs.Views.{shape};
 
-use orc_columns::column::ColumnReader;
+use orc_column_reader::column::ColumnReader;
 use orc_types::Tree;
 use std::alloc::Global;
 

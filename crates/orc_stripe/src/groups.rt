@@ -5,8 +5,8 @@ ghost use Rattle.orc_types.specs.Columns as spec;
 ghost use Rattle.orc_types.specs.Lent.{lent_cells};
 ghost use Rattle.orc_types.specs.Shapes.{width};
 ghost use Rattle.orc_types.specs.Views.{views};
-ghost use Rattle.orc_index.specs.Bounds.{AreBounds};
-ghost use Rattle.orc_written.specs.Groups.{bounds_of};
+ghost use Rattle.orc_row_index.specs.Bounds.{AreBounds};
+ghost use Rattle.orc_stripe_writer.specs.Groups.{bounds_of};
 
 use orc_types::{Lent, Row, Schema, cells};
 use std::alloc::{AllocError, Global};

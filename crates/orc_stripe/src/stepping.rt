@@ -2,19 +2,19 @@
 ghost use Rattle.std.specs.Prelude.{◌≡◌, ◌≢◌, List, Ok, Err, IfOk, IfErr, OnOk, OnErr, MatchResult};
 ghost use Rattle.orc_types.specs.Cells.{Cell};
 ghost use Rattle.orc_types.specs.Views.{views};
-ghost use Rattle.orc_row_text.specs.Layouts.{text_by};
+ghost use Rattle.orc_json.specs.Layouts.{text_by};
 ghost use Rattle.orc_column_text.specs.Taken.{GaveText, GivesText};
-ghost use Rattle.orc_columns.specs.declared.fault.StripeFault.{StripeFault as Fault};
-ghost use Rattle.orc_columns.specs.declared.fault.StripeFault.TheVariants.{OutOfMemory, Failed};
+ghost use Rattle.orc_column_reader.specs.declared.fault.StripeFault.{StripeFault as Fault};
+ghost use Rattle.orc_column_reader.specs.declared.fault.StripeFault.TheVariants.{OutOfMemory, Failed};
 ghost use Rattle.orc_stripe.specs.TextCursors.{CountsDownWhere};
 ghost use Rattle.orc_stripe.specs.Cursors.{HasRefused, IsGoing, StandsFor, Gives, Gave, CountsDown, MeetsFault};
 
 use crate::cursor::RowCursor;
+use orc_column_reader::ending::cells_end;
+use orc_column_reader::fault::StripeFault;
+use orc_column_reader::reader::{next_cell, next_cells};
 use orc_column_text::push_next;
-use orc_columns::ending::cells_end;
-use orc_columns::fault::StripeFault;
-use orc_columns::reader::{next_cell, next_cells};
-use orc_row_text::layout::Layout;
+use orc_json::layout::Layout;
 use orc_types::Row;
 
 impl<'a> RowCursor<'a> {

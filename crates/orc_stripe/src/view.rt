@@ -3,12 +3,12 @@ ghost use Rattle.std.specs.Prelude.{◌≡◌, ◌≢◌, ◌+◌, ℕ, List, tr
 ghost use Rattle.orc_types.specs.Cells.{Cell};
 ghost use Rattle.orc_wire.specs.declared.stripe_footer.StripeFooter.{StripeFooter};
 ghost use Rattle.orc_types.specs.Views.{views};
-ghost use Rattle.orc_columns.specs.Stripe.{HasFooter, IsStripe, columns_of};
+ghost use Rattle.orc_column_reader.specs.Stripe.{HasFooter, IsStripe, columns_of};
 ghost use Rattle.orc_stripe.specs.Opening.{OpenFault};
 ghost use Rattle.orc_stripe.specs.Cursors.{IsGoing, StandsFor, MeetsFault};
-ghost use Rattle.orc_columns.specs.Faults.{HasFault, RowsFault};
-ghost use Rattle.orc_columns.specs.declared.fault.StripeFault.{StripeFault as Fault};
-ghost use Rattle.orc_columns.specs.declared.fault.StripeFault.TheVariants.{OutOfMemory};
+ghost use Rattle.orc_column_reader.specs.Faults.{HasFault, RowsFault};
+ghost use Rattle.orc_column_reader.specs.declared.fault.StripeFault.{StripeFault as Fault};
+ghost use Rattle.orc_column_reader.specs.declared.fault.StripeFault.TheVariants.{OutOfMemory};
 
 mod group_cursor;
 mod index_texts;
@@ -17,10 +17,10 @@ mod row_index;
 
 use crate::cursor::RowCursor;
 pub use index_texts::{IndexText, read_index};
-use orc_columns::directory::{check_directory, first_wrong};
-use orc_columns::fault::{StripeFault, wire_fault};
-use orc_columns::located::locate;
-use orc_columns::starting::put_tree;
+use orc_column_reader::directory::{check_directory, first_wrong};
+use orc_column_reader::fault::{StripeFault, wire_fault};
+use orc_column_reader::located::locate;
+use orc_column_reader::starting::put_tree;
 use orc_types::{Row, Schema};
 use orc_wire::{Message, StripeFooter, StripeInfo};
 use std::alloc::Global;
@@ -40,7 +40,7 @@ impl<'a> Model for StripeView<'a> {
     ghost use Rattle.std.specs.Coded.{codes};
     ghost use Rattle.orc_types.specs.Coding.{coded_shape};
     ghost use Rattle.orc_stripe.specs.Opened.{Opened};
-    ghost use Rattle.orc_columns.specs.Stripe.{HasFooter};
+    ghost use Rattle.orc_column_reader.specs.Stripe.{HasFooter};
 
     ghost Value = { Opened };
 

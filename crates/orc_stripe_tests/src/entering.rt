@@ -1,8 +1,8 @@
 //! What comes from a position on, and that what stands before its offset has no part in it.
-use orc_columns::bits::Bits;
-use orc_columns::bytes::RunLengthBytes;
-use orc_columns::numbers::Numbers;
-use orc_entering::{bits_at, bytes_at, numbers_at};
+use orc_column_reader::bits::Bits;
+use orc_column_reader::bytes::RunLengthBytes;
+use orc_column_reader::numbers::Numbers;
+use orc_group_reader::{bits_at, bytes_at, numbers_at};
 use orc_rle::{BitPos, Pos, Rle, RunFault, Sign};
 use std::process::Abort;
 

@@ -1,6 +1,6 @@
 //! The calls that stripes are read by. None has a contract here: what the called ones promise is long, and would be a
 //! part of the proof of each test that makes them, of which the proof says nothing but that it is safe.
-use orc_row_text::layout::Layout;
+use orc_json::layout::Layout;
 use orc_stripe::{RowCursor, StripeFault, StripeView};
 use orc_types::{Row, Schema};
 use orc_wire::StripeInfo;

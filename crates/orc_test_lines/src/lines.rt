@@ -1,7 +1,7 @@
 //! The lines that a stripe's rows print as, all at once, one by one, or with no row made.
 use crate::calls::{cursor_of, next_row, next_text, rows_of};
-use orc_row_text::RowPrinter;
-use orc_row_text::layout::Layout;
+use orc_json::RowPrinter;
+use orc_json::layout::Layout;
 use orc_stripe::{RowCursor, StripeFault};
 use orc_types::{Row, Schema, fits, row_to_json};
 use orc_wire::StripeInfo;

@@ -1,6 +1,6 @@
 //! Stripes of which few bytes tell many cells: they take the time of their bytes.
 use super::{Case, check_cases, passes};
-use orc_columns::fault::{StreamKind, StripeFault};
+use orc_column_reader::fault::{StreamKind, StripeFault};
 use orc_rle::RunFault;
 use std::alloc::Global;
 use std::process::Abort;

@@ -1,6 +1,6 @@
 //! Columns of lists, whose elements are a column of their own.
 use super::{Case, check_cases, passes};
-use orc_columns::fault::{StreamKind, StripeFault};
+use orc_column_reader::fault::{StreamKind, StripeFault};
 use orc_rle::RunFault;
 use std::alloc::Global;
 use std::process::Abort;

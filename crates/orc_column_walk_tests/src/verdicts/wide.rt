@@ -2,7 +2,7 @@
 //! after the other.
 
 use super::{demand, footer_of, passes, schema_of, verdict};
-use orc_columns::fault::{StreamKind, StripeFault};
+use orc_column_reader::fault::{StreamKind, StripeFault};
 use orc_rle::RunFault;
 use std::alloc::Global;
 use std::process::Abort;

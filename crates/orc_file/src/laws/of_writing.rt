@@ -3,8 +3,8 @@ ghost use Rattle.std.specs.Prelude.{◌≡◌, ◌<◌, ◌^◌, ℕ, List, leng
 ghost use Rattle.orc_types.specs.Cells.{Cell};
 ghost use Rattle.orc_types.specs.Shapes.{Shape};
 ghost use Rattle.orc_types.specs.Schemas.{IsSchema};
-ghost use Rattle.orc_written.specs.declared.options.Options.{Options};
-ghost use Rattle.orc_devices.specs.Devices.{appended};
+ghost use Rattle.orc_stripe_writer.specs.declared.options.Options.{Options};
+ghost use Rattle.orc_io.specs.Devices.{appended};
 ghost use Rattle.orc_file.specs.Tails.{IsTail};
 ghost use Rattle.orc_file.specs.Images.{types_text};
 ghost use Rattle.orc_file.specs.FileRows.{FileIs};

@@ -2,10 +2,10 @@
 ghost use Rattle.std.specs.Prelude.{◌≡◌, ◌≢◌, ◌<◌, ◌≤◌, ◌^◌, ◌⊎◌, length, false, Err, OnOk, IfOk, IfErr, IfSome, IsErrOf, MatchResult};
 ghost use Rattle.orc_wire.specs.declared.stripe_footer.StripeFooter.{StripeFooter};
 ghost use Rattle.std.specs.Bool.{OnTrue, OnFalse};
-ghost use Rattle.orc_columns.specs.Stripe.{HasFooter, IsStripe};
+ghost use Rattle.orc_column_reader.specs.Stripe.{HasFooter, IsStripe};
 ghost use Rattle.orc_stripe.specs.Opening.{OpenFault};
-ghost use Rattle.orc_columns.specs.declared.fault.StripeFault.{StripeFault};
-ghost use Rattle.orc_columns.specs.declared.fault.StripeFault.TheVariants as stripe;
+ghost use Rattle.orc_column_reader.specs.declared.fault.StripeFault.{StripeFault};
+ghost use Rattle.orc_column_reader.specs.declared.fault.StripeFault.TheVariants as stripe;
 ghost use Rattle.orc_types.specs.Views.{views};
 ghost use Rattle.orc_file.specs.Stripes.{AllBefore, most_bytes, stripe_length, stripe_at, stripes_length};
 ghost use Rattle.orc_file.specs.FileRows.{stripe_bytes, IsNoStripe};
@@ -15,7 +15,7 @@ ghost use Rattle.orc_file.specs.declared.fault.FileFault.TheVariants.{Stripe, So
 use crate::fault::FileFault;
 use crate::file::OrcFile;
 use crate::tail::{Tail, stripe_length};
-use orc_devices::Source;
+use orc_io::Source;
 use orc_stripe::{StripeFault, StripeView};
 use orc_types::Row;
 use std::alloc::Global;

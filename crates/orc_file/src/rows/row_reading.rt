@@ -2,9 +2,9 @@
 ghost use Rattle.std.specs.Prelude.{◌≡◌, ◌≢◌, ◌<◌, ◌≤◌, ◌++◌, ◌⊎◌, List, length, OnOk, IfOk, IfErr, IfSome, IsErrOf, MatchResult};
 ghost use Rattle.orc_types.specs.Cells.{Cell};
 ghost use Rattle.orc_types.specs.Views.{views};
-ghost use Rattle.orc_columns.specs.Stripe.{IsStripe};
-ghost use Rattle.orc_columns.specs.declared.fault.StripeFault.{StripeFault};
-ghost use Rattle.orc_columns.specs.declared.fault.StripeFault.TheVariants as stripe;
+ghost use Rattle.orc_column_reader.specs.Stripe.{IsStripe};
+ghost use Rattle.orc_column_reader.specs.declared.fault.StripeFault.{StripeFault};
+ghost use Rattle.orc_column_reader.specs.declared.fault.StripeFault.TheVariants as stripe;
 ghost use Rattle.orc_file.specs.Stripes.{stripe_at, stripe_length};
 ghost use Rattle.orc_file.specs.Tails.{IsTail, ReadFault};
 ghost use Rattle.orc_file.specs.FileRows.{stripe_bytes, IsNoStripe, HasMore, FileIs};
@@ -14,7 +14,7 @@ ghost use Rattle.orc_file.specs.declared.fault.FileFault.TheVariants.{Stripe, So
 use crate::fault::FileFault;
 use crate::file::OrcFile;
 use crate::rows::loading::stripe_rows;
-use orc_devices::Source;
+use orc_io::Source;
 use orc_types::{Row, owned};
 use std::alloc::{AllocError, Global};
 

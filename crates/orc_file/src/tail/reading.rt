@@ -1,7 +1,7 @@
 //! Reading a file's tail: at most five ranges, in this order, and none that is empty: the first 3 bytes, the last
 //! byte, the postscript, the footer, the metadata. A test that fails ends the reading.
 ghost use Rattle.std.specs.Prelude.{◌≡◌, ◌+◌, ◌<◌, ◌≤◌, ◌⊎◌, length, OnOk, IfOk, IfErr, IfSome, IsErrOf};
-ghost use Rattle.orc_devices.specs.Devices.{bytes_at};
+ghost use Rattle.orc_io.specs.Devices.{bytes_at};
 ghost use Rattle.std.specs.Bool.{OnTrue, OnFalse};
 ghost use Rattle.orc_file.specs.Layout.{magic, script_length, script_place};
 ghost use Rattle.orc_file.specs.Stripes.{AllBefore};
@@ -16,7 +16,7 @@ use crate::tail::footer::footer_in;
 use crate::tail::limits::limits_of;
 use crate::tail::metadata::metadata_in;
 use crate::tail::postscript::script_in;
-use orc_devices::{RangeFault, Source, read_range};
+use orc_io::{RangeFault, Source, read_range};
 use orc_wire::PostScript;
 use std::alloc::Global;
 

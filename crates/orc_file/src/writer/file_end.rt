@@ -1,7 +1,7 @@
 //! The end of a file that is written.
 ghost use Rattle.std.specs.Prelude.{◌≡◌, ◌<◌, ◌≤◌, ◌^◌, ◌⊎◌, ℕ, true, take, length, IfOk, IfErr, OnOk, OnErr, IsErrOf};
 ghost use Rattle.orc_types.specs.Schemas.{IsSchema};
-ghost use Rattle.orc_devices.specs.Devices.{appended};
+ghost use Rattle.orc_io.specs.Devices.{appended};
 ghost use Rattle.orc_file.specs.Stripes.{stripes_rows};
 ghost use Rattle.orc_file.specs.Images.{tail_text};
 ghost use Rattle.orc_file.specs.Counts.{are_laid_with_few_rows, are_all_stats};
@@ -11,12 +11,12 @@ ghost use Rattle.orc_file.specs.declared.fault.FileFault.TheVariants.{WriteFaile
 use crate::fault::FileFault;
 use crate::tail::Tail;
 use crate::writer::file_stats::file_statistics;
-use orc_devices::{Sink, write_all};
+use orc_io::{Sink, write_all};
 use orc_rle::Rle;
 use orc_stats::Stat;
+use orc_stripe_writer::Options;
 use orc_types::Schema;
 use orc_wire::{Items, StripeInfo};
-use orc_written::Options;
 use std::alloc::{AllocError, Global};
 
 fn version(alloc: Global, rle: Rle) -> Result<Vec<u32>, AllocError>

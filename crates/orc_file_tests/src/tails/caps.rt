@@ -4,7 +4,7 @@ use super::first_faults::{Change, FAILING, change};
 use crate::assertions::{check_list, check_same, passes};
 use crate::calls::{load, open_capped, rows};
 use orc_file::{FileFault, OrcFile, Source};
-use orc_test_devices::{EMPTY, NAMED, SEVENS, SeenSource, TWICE, UPWARDS};
+use orc_test_io::{EMPTY, NAMED, SEVENS, SeenSource, TWICE, UPWARDS};
 use orc_types::TypeFault;
 use std::alloc::Global;
 use std::process::Abort;

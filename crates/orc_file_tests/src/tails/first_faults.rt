@@ -4,7 +4,7 @@ use super::reads::read_seen;
 use super::refusal;
 use crate::assertions::{check_same, demand};
 use orc_file::FileFault;
-use orc_test_devices::SEVENS;
+use orc_test_io::SEVENS;
 use orc_types::TypeFault;
 use std::alloc::Global;
 use std::process::Abort;

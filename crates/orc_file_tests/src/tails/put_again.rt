@@ -3,7 +3,7 @@
 use super::{refusal, tail_of};
 use crate::assertions::{check_list, check_same, demand};
 use orc_file::FileFault;
-use orc_test_devices::{EMPTY, NAMED, SEVENS, TWICE};
+use orc_test_io::{EMPTY, NAMED, SEVENS, TWICE};
 use orc_wire::{StripeInfo, UserMetadataItem};
 use std::alloc::Global;
 use std::process::Abort;

@@ -5,7 +5,7 @@ use crate::calls::checked;
 use orc_check::Finding;
 use orc_file::{FileFault, SliceSource, Source};
 use orc_rle::Rle;
-use orc_test_devices::{EMPTY, SEVENS};
+use orc_test_io::{EMPTY, SEVENS};
 use std::alloc::Global;
 use std::process::Abort;
 

@@ -5,7 +5,7 @@ use crate::assertions::{check_same, demand, passes};
 use crate::calls::{joined, opened, refusal_of};
 use orc_file::{FileFault, SliceSource, Tail};
 use orc_stats::{Body, Stat};
-use orc_test_devices::LISTS_BEFORE;
+use orc_test_io::LISTS_BEFORE;
 use std::alloc::Global;
 use std::process::Abort;
 

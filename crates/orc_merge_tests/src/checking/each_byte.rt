@@ -3,7 +3,7 @@ use super::written::arrays;
 use crate::assertions::passes;
 use crate::calls::{count_rows, joined, refusal_of};
 use orc_file::{FileFault, SliceSource};
-use orc_test_devices::SEVENS;
+use orc_test_io::SEVENS;
 use std::alloc::Global;
 use std::process::Abort;
 

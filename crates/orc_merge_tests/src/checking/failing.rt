@@ -3,7 +3,7 @@ use super::changed::check_source;
 use crate::assertions::{check_same, demand, passes};
 use crate::calls::refusal_of;
 use orc_file::FileFault;
-use orc_test_devices::{EMPTY, FailSource, SEVENS, UPWARDS};
+use orc_test_io::{EMPTY, FailSource, SEVENS, UPWARDS};
 use std::alloc::Global;
 use std::process::Abort;
 

@@ -5,7 +5,7 @@ use crate::calls::refusal_of;
 use orc_file::{FileFault, SliceSource};
 use orc_rle::RunFault;
 use orc_stripe::{StreamKind, StripeFault};
-use orc_test_devices::SEVENS;
+use orc_test_io::SEVENS;
 use std::alloc::Global;
 use std::process::Abort;
 

@@ -3,7 +3,7 @@ use super::{check_merged, merge_all};
 use crate::assertions::check_same;
 use orc_file::FileFault;
 use orc_merge::MergeFault;
-use orc_test_devices::{EMPTY, NAMED, SEVENS, TWICE};
+use orc_test_io::{EMPTY, NAMED, SEVENS, TWICE};
 use std::alloc::Global;
 
 #[test]

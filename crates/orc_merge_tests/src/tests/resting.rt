@@ -6,7 +6,7 @@ use crate::assertions::{check_same, demand};
 use crate::calls::merged;
 use orc_file::{Failures, SliceSource, Source, SourceFault};
 use orc_merge::MergeFault;
-use orc_test_devices::{EMPTY, FailSink, Full, SEVENS, TWICE};
+use orc_test_io::{EMPTY, FailSink, Full, SEVENS, TWICE};
 use std::alloc::Global;
 use std::cell::Cell;
 use std::process::Abort;

@@ -4,7 +4,7 @@ use crate::assertions::{check_bytes, check_same};
 use crate::in_two_steps;
 use orc_file::VecSink;
 use orc_merge::MergeFault;
-use orc_test_devices::{EMPTY, SEVENS, TWICE};
+use orc_test_io::{EMPTY, SEVENS, TWICE};
 use std::alloc::Global;
 use std::process::Abort;
 

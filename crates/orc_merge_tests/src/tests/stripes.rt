@@ -6,7 +6,7 @@ use crate::assertions::{check_bytes, check_same, demand};
 use crate::calls::{count_rows, merged};
 use orc_file::{FileFault, SliceSource, VecSink};
 use orc_merge::MergeFault;
-use orc_test_devices::{FailSink, FailSource, Full, SEVENS, TWICE};
+use orc_test_io::{FailSink, FailSource, Full, SEVENS, TWICE};
 use std::alloc::Global;
 use std::process::Abort;
 

@@ -1,8 +1,8 @@
 //! A writer's positions: which they are, what comes from them, and that the places of the runs have them.
 use super::{demand, passes, values_of};
 use Sign::{Signed, Unsigned};
+use orc_positions::*;
 use orc_rle::*;
-use orc_seek::*;
 use std::alloc::Global;
 use std::process::Abort;
 

@@ -3,17 +3,17 @@ ghost use Rattle.std.specs.Prelude.{◌≡◌, ◌≢◌, ◌*◌, ◌<◌, ℕ,
 ghost use Rattle.orc_types.specs.Cells.{Cell};
 ghost use Rattle.orc_types.specs.Shapes.{width};
 ghost use Rattle.orc_wire.specs.declared.row_index.RowIndexEntry.{RowIndexEntry as IndexEntry};
-ghost use Rattle.orc_columns.specs.Stripe.{Streams};
-ghost use Rattle.orc_columns.specs.declared.fault.StripeFault.{StripeFault as Fault};
-ghost use Rattle.orc_columns.specs.declared.fault.StripeFault.TheVariants.{OutOfMemory};
+ghost use Rattle.orc_column_reader.specs.Stripe.{Streams};
+ghost use Rattle.orc_column_reader.specs.declared.fault.StripeFault.{StripeFault as Fault};
+ghost use Rattle.orc_column_reader.specs.declared.fault.StripeFault.TheVariants.{OutOfMemory};
 ghost use Rattle.orc_stripe.specs.Cursors.{IsGoing, StandsFor, MeetsFault};
 ghost use Rattle.orc_stripe.specs.GroupCursors.{HasGroup, HasEntries, IsGroupEntry, EntryFault, EntriesFault, GroupFault, StartsGroup, IsEntered, SpellsFrom, MeetsFrom};
 
 use crate::cursor::RowCursor;
 use crate::view::StripeView;
-use orc_columns::fault::{Spot, StripeFault};
-use orc_columns::located::locate;
-use orc_entering::readers_at;
+use orc_column_reader::fault::{Spot, StripeFault};
+use orc_column_reader::located::locate;
+use orc_group_reader::readers_at;
 use orc_wire::RowIndexEntry;
 use std::alloc::Global;
 

@@ -3,7 +3,7 @@ ghost use Rattle.std.specs.Prelude.{◌≡◌, ◌≢◌, ◌<◌, ℕ, None, Li
 ghost use Rattle.std.specs.Bool.{MatchBool};
 ghost use Rattle.orc_wire.specs.declared.fault.WireFault.TheVariants.{OutOfMemory};
 ghost use Rattle.orc_wire.specs.declared.row_index.RowIndexMsg.{RowIndexMsg as IndexMessage};
-ghost use Rattle.orc_columns.specs.Directory.{have_room, is_of};
+ghost use Rattle.orc_column_reader.specs.Directory.{have_room, is_of};
 ghost use Rattle.orc_stripe.specs.IndexTexts.{index_at, or_else, IsMessage, AreIndexTexts};
 
 use orc_wire::{Message, RowIndexMsg, StreamMsg, WireFault};

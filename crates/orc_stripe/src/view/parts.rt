@@ -2,15 +2,15 @@
 ghost use Rattle.std.specs.Prelude.{◌≡◌, length, IfOk, IfErr};
 ghost use Rattle.orc_types.specs.Shapes.{width};
 ghost use Rattle.orc_types.specs.Views.{shape};
-ghost use Rattle.orc_columns.specs.Located.{AreLocated};
-ghost use Rattle.orc_columns.specs.Stripe.{HasFooter};
-ghost use Rattle.orc_columns.specs.declared.fault.StripeFault.TheVariants.{OutOfMemory};
+ghost use Rattle.orc_column_reader.specs.Located.{AreLocated};
+ghost use Rattle.orc_column_reader.specs.Stripe.{HasFooter};
+ghost use Rattle.orc_column_reader.specs.declared.fault.StripeFault.TheVariants.{OutOfMemory};
 ghost use Rattle.orc_stripe.specs.IndexTexts.{AreIndexTexts};
 
 use crate::view::StripeView;
 use crate::view::index_texts::{IndexText, index_texts};
-use orc_columns::fault::StripeFault;
-use orc_columns::located::{Located, locate};
+use orc_column_reader::fault::StripeFault;
+use orc_column_reader::located::{Located, locate};
 use orc_types::Tree;
 use orc_wire::StripeFooter;
 use std::alloc::{AllocError, Global};

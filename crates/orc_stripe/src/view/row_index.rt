@@ -4,21 +4,21 @@ ghost use Rattle.orc_types.specs.Cells.{Cell};
 ghost use Rattle.orc_types.specs.Shapes.{width};
 ghost use Rattle.orc_types.specs.Views.{views};
 ghost use Rattle.orc_wire.specs.declared.row_index.RowIndexMsg.{RowIndexMsg as IndexMessage};
-ghost use Rattle.orc_columns.specs.Directory.{has_stream, have_room, is_of, slice};
-ghost use Rattle.orc_columns.specs.Faults.{RowsFault};
-ghost use Rattle.orc_columns.specs.Stripe.{IsStripe, columns_of};
-ghost use Rattle.orc_columns.specs.declared.fault.StripeFault.TheVariants.{OutOfMemory};
+ghost use Rattle.orc_column_reader.specs.Directory.{has_stream, have_room, is_of, slice};
+ghost use Rattle.orc_column_reader.specs.Faults.{RowsFault};
+ghost use Rattle.orc_column_reader.specs.Stripe.{IsStripe, columns_of};
+ghost use Rattle.orc_column_reader.specs.declared.fault.StripeFault.TheVariants.{OutOfMemory};
 ghost use Rattle.orc_stripe.specs.RowIndexes.{HasIndex, IndexFault, IsWhole, ArePositionsDecided, HasOtherEntries, PositionsFault};
 
 use crate::groups::column_groups;
 use crate::view::StripeView;
-use orc_columns::fault::{Spot, StripeFault, wire_fault};
-use orc_columns::located::locate;
-use orc_columns::starting::streams_of;
-use orc_positions::positions_right;
+use orc_column_reader::fault::{Spot, StripeFault, wire_fault};
+use orc_column_reader::located::locate;
+use orc_column_reader::starting::streams_of;
+use orc_row_index_check::positions_right;
+use orc_stripe_writer::group_starts;
 use orc_types::{Row, tree_at};
 use orc_wire::{Message, RowIndexMsg, StreamMsg};
-use orc_written::group_starts;
 use std::alloc::Global;
 
 /// Whether the stream is the row index of the column.

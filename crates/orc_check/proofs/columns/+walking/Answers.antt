@@ -4,8 +4,8 @@ use Rattle.orc_types.specs.Views.{shape, fields as fields_view}
 use Rattle.orc_types.proofs.ByColumn.{width_within}
 use Rattle.orc_types.proofs.Listed.{widths_from}
 use Rattle.orc_types.proofs.Views.{shape-Scalar, shape-List, shape-Map, shape-Struct}
-use Rattle.orc_columns.specs.Stripe.{columns_of}
-use Rattle.orc_columns.proofs.Arms.{some_width}
+use Rattle.orc_column_reader.specs.Stripe.{columns_of}
+use Rattle.orc_column_reader.proofs.Arms.{some_width}
 use Rattle.orc_column_walk.proofs.TreeLemmas.{scalar_down, list_down, map_down, struct_down, list_refused, keys_refused, seconds_refused, none_read, field_read, field_refused}
 use Rattle.orc_check.proofs.WalkLemmas.{scalar_checked, list_checked, map_checked, struct_checked, no_field_checked, field_checked, fields_checked}
 use Rattle.orc_check.proofs.columns.+walking.Goals as goal

@@ -1,7 +1,7 @@
 use Rattle.std.proofs.Common.{◌+◌, ◌*◌}
 use Rattle.orc_types.specs.Shapes.{width, widths}
 use Rattle.orc_types.specs.Views.{shape, fields as fields_view}
-use Rattle.orc_columns.specs.Stripe.{columns_of}
+use Rattle.orc_column_reader.specs.Stripe.{columns_of}
 use Rattle.orc_column_walk.proofs.TreeLemmas.{FieldsRead}
 use Rattle.orc_check.proofs.WalkLemmas.{FieldsChecked}
 use Rattle.orc_check.proofs.columns.+walking.Given as goal

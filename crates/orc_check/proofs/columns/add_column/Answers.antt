@@ -1,7 +1,7 @@
 use Rattle.std.proofs.Common.{◌<◌, ◌∙◌, arith}
 use Rattle.orc_types.specs.Shapes.{width}
 use Rattle.orc_types.specs.Views.{shape}
-use Rattle.orc_columns.proofs.Arms.{some_width}
+use Rattle.orc_column_reader.proofs.Arms.{some_width}
 use Rattle.orc_check.proofs.WalkLemmas.{columns_there, located_there, read_there, refused_there, below_of, below_grouped, found_here, column_more}
 use Rattle.orc_check.proofs.columns.add_column.Goals as goal
 

@@ -7,7 +7,7 @@ use Rattle.orc_stats.specs.Kinds.{kind_of}
 use Rattle.orc_stats.specs.Statistics.{stat}
 use Rattle.orc_stats.specs.declared.stat.Stat.{Stat}
 use Rattle.orc_column_walk.specs.declared.found.GroupFound.{GroupFound}
-use Rattle.orc_written.specs.WrittenStripe.{column_stat}
+use Rattle.orc_stripe_writer.specs.WrittenStripe.{column_stat}
 use Rattle.orc_check.specs.declared.finding.Finding.TheVariants.{StripeStatistic}
 use Rattle.orc_check.specs.Agreeing.{Tells}
 use Rattle.orc_check.specs.Findings.{Unless, TellsStripe, OfIndex}

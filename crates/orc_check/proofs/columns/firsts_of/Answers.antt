@@ -1,6 +1,6 @@
 use Rattle.std.proofs.Common.{◌<◌, List, ℕ, sym, ap, subst, ◌∙◌, arith}
-use Rattle.orc_index.specs.Bounds.{AreBounds, bound_at}
-use Rattle.orc_written.proofs.GroupLemmas.{starts_are_bounds}
+use Rattle.orc_row_index.specs.Bounds.{AreBounds, bound_at}
+use Rattle.orc_stripe_writer.proofs.GroupLemmas.{starts_are_bounds}
 use Rattle.orc_check.proofs.GroupBounds.{ok_so}
 use Rattle.orc_check.proofs.WalkLemmas.{first_start}
 use Rattle.orc_check.proofs.columns.firsts_of.Goals as goal

@@ -4,9 +4,9 @@ use Rattle.std.proofs.lemmas.Option.{slice_get_read, slice_get-get_or}
 use Rattle.orc_wire.specs.declared.row_index.RowIndexEntry.{RowIndexEntry}
 use Rattle.orc_types.specs.Views.{shape}
 use Rattle.orc_column_walk.specs.declared.found.GroupFound.{GroupFound}
-use Rattle.orc_index.specs.Bounds.{before_group, group_of}
-use Rattle.orc_index.specs.Places.{AreReadPlaces}
-use Rattle.orc_index.proofs.Groups.{group_fits, group_few}
+use Rattle.orc_row_index.specs.Bounds.{before_group, group_of}
+use Rattle.orc_row_index.specs.Places.{AreReadPlaces}
+use Rattle.orc_row_index.proofs.Groups.{group_fits, group_few}
 use Rattle.orc_check.specs.declared.finding.Finding.TheVariants.{IndexStatistic, IndexPosition}
 use Rattle.orc_check.specs.Findings.{Adds, Unless, OfEach, OfGroup, TellsGroup, entry_at}
 use Rattle.orc_check.proofs.GroupBounds.{get_or_any}

@@ -2,11 +2,11 @@ use Rattle.std.specs.Option.{IfSome}
 use Rattle.std.proofs.Common.{rules, Bool, Option, Ok, ◌∙◌, ℕ, List, sym, ap, subst, arith}
 use Rattle.orc_wire.specs.declared.row_index.RowIndexMsg.{RowIndexMsg}
 use Rattle.orc_wire.specs.declared.stripe_footer.StripeFooter.{StripeFooter}
-use Rattle.orc_positions.specs.Decided.{AreDecided}
+use Rattle.orc_row_index_check.specs.Decided.{AreDecided}
 use Rattle.orc_stripe.specs.IndexTexts.{IsMessage}
 use Rattle.orc_types.specs.Views.{shape}
-use Rattle.orc_columns.specs.Starting.{AreStreams}
-use Rattle.orc_columns.specs.Stripe.{columns_of}
+use Rattle.orc_column_reader.specs.Starting.{AreStreams}
+use Rattle.orc_column_reader.specs.Stripe.{columns_of}
 use Rattle.orc_check.proofs.GroupBounds.{on_ok_so}
 use Rattle.orc_check.proofs.IndexFound.{too_short, none_there, other_number, index_found}
 use Rattle.orc_check.proofs.WalkLemmas.{columns_there, located_there}

@@ -4,17 +4,17 @@ use Rattle.orc_types.specs.Shapes.{width}
 use Rattle.orc_types.specs.Views.{shape}
 use Rattle.orc_types.specs.Views.{fields as fields_view}
 use Rattle.orc_types.proofs.Views.{shape-List, shape-Map, shape-Struct}
-use Rattle.orc_columns.specs.Columns.{CellsLeft, PairsLeft}
-use Rattle.orc_columns.proofs.Arms.{some_width, fields_put, fields_behind, cell_null, cell_lacks, own_list_lacks, own_map_lacks, own_struct_lacks, list_taken, list_lacking, map_taken, map_lacking, cells_lacking, first_counted}
-use Rattle.orc_columns.specs.declared.column.ColumnReader.{ColumnReader}
-use Rattle.orc_columns.specs.ReaderFaults.{CellsMeet, PairsMeet}
-use Rattle.orc_columns.proofs.FaultLemmas.{cell_before, null_before, cell_now, cell_mark, list_before, lists_own, own_lists, struct_before, own_struct_meets, lists_size, lists_elements, map_before, maps_own, own_maps, maps_size, maps_pairs, pair_before}
-use Rattle.orc_row_text.specs.Layouts.{text_by, part, member_parts, pair_text, pair_texts}
+use Rattle.orc_column_reader.specs.Columns.{CellsLeft, PairsLeft}
+use Rattle.orc_column_reader.proofs.Arms.{some_width, fields_put, fields_behind, cell_null, cell_lacks, own_list_lacks, own_map_lacks, own_struct_lacks, list_taken, list_lacking, map_taken, map_lacking, cells_lacking, first_counted}
+use Rattle.orc_column_reader.specs.declared.column.ColumnReader.{ColumnReader}
+use Rattle.orc_column_reader.specs.ReaderFaults.{CellsMeet, PairsMeet}
+use Rattle.orc_column_reader.proofs.FaultLemmas.{cell_before, null_before, cell_now, cell_mark, list_before, lists_own, own_lists, struct_before, own_struct_meets, lists_size, lists_elements, map_before, maps_own, own_maps, maps_size, maps_pairs, pair_before}
+use Rattle.orc_json.specs.Layouts.{text_by, part, member_parts, pair_text, pair_texts}
 use Rattle.orc_column_text.proofs.AnyOrder.{columns_told, reading_first, reading_last, reading_last_meet}
 use Rattle.orc_column_text.proofs.Members.{many-fields, field_at-is, own_within, own_less, region_length, place_told, others_told, members_next, members_lack, members_meet, member_printed, member_lacks, member_meets}
 use Rattle.std.proofs.lemmas.List.{length-map, drop_all}
 use borrow.Rule.Slice.PartMut.{put_mid}
-use Rattle.orc_row_text.specs.declared.layout.FieldColumns.{FieldColumns}
+use Rattle.orc_json.specs.declared.layout.FieldColumns.{FieldColumns}
 use Rattle.orc_column_text.specs.Regions.{field_at, columns_before}
 use Rattle.orc_column_text.specs.Texts.{texts}
 use Rattle.orc_column_text.proofs.Texts.{null_text_by}

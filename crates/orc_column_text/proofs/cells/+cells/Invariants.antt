@@ -1,10 +1,10 @@
 use Rattle.std.proofs.Common.{◌≡◌, ℕ, Bool, ◌+◌, ◌*◌, ◌-◌, drop, length}
 use Rattle.orc_types.specs.Shapes.{width, widths}
 use Rattle.orc_types.specs.Views.{shape, fields as fields_view}
-use Rattle.orc_columns.specs.Columns.{CellsLeft, PairsLeft}
-use Rattle.orc_columns.specs.declared.fault.StripeFault.{StripeFault}
-use Rattle.orc_columns.specs.ReaderFaults.{CellsMeet, PairsMeet}
-use Rattle.orc_row_text.specs.Layouts.{text_by, member_parts, pair_text, pair_texts}
+use Rattle.orc_column_reader.specs.Columns.{CellsLeft, PairsLeft}
+use Rattle.orc_column_reader.specs.declared.fault.StripeFault.{StripeFault}
+use Rattle.orc_column_reader.specs.ReaderFaults.{CellsMeet, PairsMeet}
+use Rattle.orc_json.specs.Layouts.{text_by, member_parts, pair_text, pair_texts}
 use Rattle.orc_column_text.specs.Regions.{AreMembersOf}
 use Rattle.orc_column_text.proofs.AnyOrder.{Reading}
 use Rattle.orc_column_text.proofs.Taken.{PrintedSoFar}

@@ -1,6 +1,6 @@
 use Rattle.std.proofs.Common.{◌≡◌, suc, ◌-◌, false, subst, arith}
 use Rattle.orc_types.specs.Views.{shape}
-use Rattle.orc_columns.specs.ReaderFaults.{CellsMeet}
+use Rattle.orc_column_reader.specs.ReaderFaults.{CellsMeet}
 use Rattle.orc_column_text.proofs.rows.push_next.Goals as goal
 
 pub returns-in-Err-push_cell-clause-fault : goal.returns-in-Err-push_cell-clause-fault

@@ -1,7 +1,7 @@
 use Rattle.std.proofs.Common.{◌≡◌, ◌+◌, ℕ, true, false, subst, arith}
-use Rattle.orc_columns.specs.Columns.{MarksLeft}
-use Rattle.orc_columns.specs.RunsMet.{MarksMeet}
-use Rattle.orc_columns.proofs.NeedLemmas.{always_end}
+use Rattle.orc_column_reader.specs.Columns.{MarksLeft}
+use Rattle.orc_column_reader.specs.RunsMet.{MarksMeet}
+use Rattle.orc_column_reader.proofs.NeedLemmas.{always_end}
 use Rattle.orc_column_walk.proofs.ReadLemmas.{lack_read, over_fault}
 use Rattle.orc_column_walk.proofs.MarkLemmas.{PresentMet, all_marked}
 use Rattle.orc_column_walk.proofs.marks.count_values.Goals as goal

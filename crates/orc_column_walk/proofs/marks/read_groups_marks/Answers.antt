@@ -1,7 +1,7 @@
 use Rattle.std.proofs.Common.{◌+◌, refl, arith}
-use Rattle.orc_columns.specs.Columns.{MarksLeft}
-use Rattle.orc_index.specs.Bounds.{bound_at}
-use Rattle.orc_index.proofs.Groups.{bound_up, bound_within}
+use Rattle.orc_column_reader.specs.Columns.{MarksLeft}
+use Rattle.orc_row_index.specs.Bounds.{bound_at}
+use Rattle.orc_row_index.proofs.Groups.{bound_up, bound_within}
 use Rattle.orc_column_walk.proofs.GroupLemmas.{bound_past}
 use Rattle.orc_column_walk.proofs.MarkLemmas.{PresentMet}
 use Rattle.orc_column_walk.proofs.ReadLemmas.{read_on}

@@ -1,8 +1,8 @@
 use Rattle.std.proofs.Common.{◌+◌, refl, arith}
-use Rattle.orc_columns.specs.Columns.{MarksLeft}
-use Rattle.orc_columns.specs.RunsMet.{MarksMeet}
-use Rattle.orc_columns.specs.declared.fault.StreamKind.TheVariants.{Present}
-use Rattle.orc_columns.proofs.NeedLemmas.{runs_now}
+use Rattle.orc_column_reader.specs.Columns.{MarksLeft}
+use Rattle.orc_column_reader.specs.RunsMet.{MarksMeet}
+use Rattle.orc_column_reader.specs.declared.fault.StreamKind.TheVariants.{Present}
+use Rattle.orc_column_reader.proofs.NeedLemmas.{runs_now}
 use Rattle.orc_column_walk.proofs.ReadLemmas.{read_lacks, read_fault, read_on}
 use Rattle.orc_column_walk.proofs.MarkLemmas.{PresentMet, no_marks_read, mark_read}
 use Rattle.orc_column_walk.proofs.marks.read_marks.Goals as goal

@@ -1,6 +1,6 @@
 use Rattle.std.proofs.Common.{inl}
-use Rattle.orc_columns.specs.RunsMet.{NumbersMeet}
-use Rattle.orc_columns.proofs.NeedLemmas.{always_end}
+use Rattle.orc_column_reader.specs.RunsMet.{NumbersMeet}
+use Rattle.orc_column_reader.proofs.NeedLemmas.{always_end}
 use Rattle.orc_column_walk.proofs.own_values.sizes_left.Goals as goal
 
 pub returns : goal.returns

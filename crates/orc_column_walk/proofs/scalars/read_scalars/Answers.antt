@@ -1,5 +1,5 @@
 use Rattle.std.proofs.Common.{true, false}
-use Rattle.orc_columns.specs.Columns.{ScalarLeft}
+use Rattle.orc_column_reader.specs.Columns.{ScalarLeft}
 use Rattle.orc_column_walk.proofs.ReadLemmas.{lack_read, over_fault}
 use Rattle.orc_column_walk.proofs.ScalarLemmas.{ScalarMet}
 use Rattle.orc_column_walk.proofs.scalars.read_scalars.Goals as goal

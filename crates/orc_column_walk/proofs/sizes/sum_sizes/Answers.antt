@@ -1,7 +1,7 @@
 use Rattle.std.proofs.Common.{true, false, inl}
-use Rattle.orc_columns.specs.ReaderFaults.{ListsMeet}
-use Rattle.orc_columns.specs.RunsMet.{NumbersMeet}
-use Rattle.orc_columns.proofs.NeedLemmas.{always_end}
+use Rattle.orc_column_reader.specs.ReaderFaults.{ListsMeet}
+use Rattle.orc_column_reader.specs.RunsMet.{NumbersMeet}
+use Rattle.orc_column_reader.proofs.NeedLemmas.{always_end}
 use Rattle.orc_column_walk.specs.OwnLeft.{SizesLeft}
 use Rattle.orc_column_walk.proofs.ReadLemmas.{all_read, over_read, lack_read, over_fault}
 use Rattle.orc_column_walk.proofs.SizeLemmas.{no_sizes}

@@ -1,5 +1,5 @@
 use Rattle.orc_types.specs.Views.{shape}
-use Rattle.orc_columns.specs.Stripe.{columns_of}
+use Rattle.orc_column_reader.specs.Stripe.{columns_of}
 use Rattle.orc_column_walk.proofs.OwnRows.{down_rows}
 use Rattle.orc_column_walk.proofs.RefusedLemmas.{refused_rows}
 use Rattle.orc_column_walk.proofs.walk.walk_columns.Goals as goal

@@ -1,5 +1,5 @@
 use Rattle.std.proofs.Common.{◌≡◌, ◌≤◌, List, ℕ, length, map, take, Some}
-use Rattle.orc_devices.specs.Devices.{appended}
+use Rattle.orc_io.specs.Devices.{appended}
 use Rattle.orc_merge.specs.Copies.{pieces_bytes}
 use Rattle.orc_merge.proofs.copying.copy_pieces.Given as goal
 

@@ -1,5 +1,5 @@
 use Rattle.std.proofs.Common.{◌<◌, ◌++◌, length, ap, ◌∙◌, arith}
-use Rattle.orc_devices.specs.Devices.{appended}
+use Rattle.orc_io.specs.Devices.{appended}
 use Rattle.orc_file.specs.Layout.{magic}
 use Rattle.orc_file.specs.Images.{tail_text}
 use Rattle.orc_merge.specs.Copies.{pieces_bytes}

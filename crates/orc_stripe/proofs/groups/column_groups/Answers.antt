@@ -4,9 +4,9 @@ use Rattle.orc_types.specs.Cells.{Cell}
 use Rattle.orc_types.specs.Columns.{cells}
 use Rattle.orc_types.specs.Lent.{lent_cells}
 use Rattle.orc_types.specs.Views.{view, views}
-use Rattle.orc_index.proofs.Groups.{bound_read, bound_within, bound_ahead, bound_rises, found_more, lent_long}
-use Rattle.orc_index.specs.Bounds.{AreBounds}
-use Rattle.orc_written.specs.Groups.{cells_before, bounds_of}
+use Rattle.orc_row_index.proofs.Groups.{bound_read, bound_within, bound_ahead, bound_rises, found_more, lent_long}
+use Rattle.orc_row_index.specs.Bounds.{AreBounds}
+use Rattle.orc_stripe_writer.specs.Groups.{cells_before, bounds_of}
 use Rattle.orc_stripe.proofs.GroupCells.{no_cells, cells_between, cells_to_end, column_bounds}
 use Rattle.orc_stripe.proofs.groups.column_groups.Goals as goal
 

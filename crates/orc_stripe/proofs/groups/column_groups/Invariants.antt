@@ -2,8 +2,8 @@ use Rattle.std.proofs.Common.{◌≡◌, ◌++◌, ◌≤◌, length, map, drop,
 use Rattle.orc_types.specs.Columns.{cells}
 use Rattle.orc_types.specs.Lent.{lent_cells}
 use Rattle.orc_types.specs.Views.{views}
-use Rattle.orc_index.specs.Bounds.{bound_at}
-use Rattle.orc_written.specs.Groups.{cells_before}
+use Rattle.orc_row_index.specs.Bounds.{bound_at}
+use Rattle.orc_stripe_writer.specs.Groups.{cells_before}
 use Rattle.orc_stripe.proofs.groups.column_groups.Given as goal
 
 abbrev pub invariant-loop-first : goal.invariant-loop-first

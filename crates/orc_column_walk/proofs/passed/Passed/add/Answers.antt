@@ -1,7 +1,7 @@
 use Rattle.std.proofs.Common.{◌≡◌, ◌∷◌, [], ap, ◌∙◌, sym, ◌+◌, min, arith}
 use Rattle.orc_types.specs.Cells.{values}
 use Rattle.orc_types.specs.Own.{own_cell}
-use Rattle.orc_index.specs.Walking.{most}
+use Rattle.orc_row_index.specs.Walking.{most}
 use Rattle.orc_column_walk.specs.OwnLeft.{children}
 use Rattle.orc_column_walk.proofs.KeptLemmas.{few_values}
 use Rattle.orc_column_walk.proofs.PassedLemmas.{passed_more, value_alone, octets_alone}

@@ -1,6 +1,6 @@
 use Rattle.std.proofs.Common.{◌≡◌, ◌≤◌, ◌++◌, ◌∷◌, [], length, ap, ◌∙◌, arith}
 use Rattle.std.proofs.lemmas.List.{length-map}
-use Rattle.orc_written.specs.declared.options.Options.{Options}
+use Rattle.orc_stripe_writer.specs.declared.options.Options.{Options}
 use Rattle.orc_types.specs.Views.{view, views}
 use Rattle.orc_file.proofs.Spread.{HasKept}
 use Rattle.orc_file.proofs.PushLemmas.{failed_only, one_more, pushed_full}

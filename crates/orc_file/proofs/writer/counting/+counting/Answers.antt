@@ -3,7 +3,7 @@ use Rattle.orc_types.specs.Views.{view, views, shape, fields as fields_view}
 use Rattle.orc_types.specs.Shapes.{width}
 use Rattle.orc_types.specs.Cells.{Cell}
 use Rattle.orc_types.proofs.Views.{shape-List, shape-Map, shape-Struct, paired-is}
-use Rattle.orc_columns.proofs.Arms.{first_field}
+use Rattle.orc_column_reader.proofs.Arms.{first_field}
 use Rattle.orc_file.specs.Counting.{AddsCells, AddsFields}
 use Rattle.orc_file.proofs.CountSteps.{adds_none, adds_no_parts, list_counted, map_counted, struct_counted, field_counted, part_counted, parts_counted, pair_counted, pairs_counted, no_row, first_row}
 use Rattle.orc_file.proofs.writer.counting.+counting.Goals as goal

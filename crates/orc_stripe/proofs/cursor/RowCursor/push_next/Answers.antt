@@ -1,9 +1,9 @@
 use Rattle.std.proofs.Common.{length, ◌≡◌, refl, sym, ◌∙◌, subst, arith}
 use Rattle.std.proofs.lemmas.List.{with_items_is}
 use Rattle.orc_types.specs.Views.{shape}
-use Rattle.orc_row_text.specs.Layouts.{text_by}
-use Rattle.orc_columns.specs.ReaderFaults.{CellsMeet}
-use Rattle.orc_columns.proofs.NeverFailed.{never_failed}
+use Rattle.orc_json.specs.Layouts.{text_by}
+use Rattle.orc_column_reader.specs.ReaderFaults.{CellsMeet}
+use Rattle.orc_column_reader.proofs.NeverFailed.{never_failed}
 use Rattle.orc_stripe.proofs.CursorTexts.{gave_text, gives_text}
 use Rattle.orc_stripe.proofs.cursor.RowCursor.push_next.Goals as goal
 

@@ -1,17 +1,17 @@
 use Rattle.std.proofs.Common.{◌≡◌, false, refl, inl, inr, length, ap, sym, subst, arith}
 use Rattle.orc_types.specs.Shapes.{width}
 use Rattle.orc_types.specs.Views.{shape}
-use Rattle.orc_columns.specs.Starting.{Puts}
-use Rattle.orc_columns.specs.Faults.{FaultDown}
-use Rattle.orc_columns.specs.Located.{AreLocated}
-use Rattle.orc_columns.specs.Stripe.{columns_of, columns_from, SpellRows, SpellsCells}
-use Rattle.orc_columns.proofs.FaultLemmas.{fault_from_start, readers_down}
-use Rattle.orc_columns.proofs.StartLemmas.{tree_alike}
-use Rattle.orc_columns.proofs.Started.{all_put, all_origins, none_put}
-use Rattle.orc_columns.proofs.ByNumber.{from_number, to_number}
+use Rattle.orc_column_reader.specs.Starting.{Puts}
+use Rattle.orc_column_reader.specs.Faults.{FaultDown}
+use Rattle.orc_column_reader.specs.Located.{AreLocated}
+use Rattle.orc_column_reader.specs.Stripe.{columns_of, columns_from, SpellRows, SpellsCells}
+use Rattle.orc_column_reader.proofs.FaultLemmas.{fault_from_start, readers_down}
+use Rattle.orc_column_reader.proofs.StartLemmas.{tree_alike}
+use Rattle.orc_column_reader.proofs.Started.{all_put, all_origins, none_put}
+use Rattle.orc_column_reader.proofs.ByNumber.{from_number, to_number}
 use Rattle.orc_stripe.proofs.OneStripe.{by_footer}
 use Rattle.orc_stripe.proofs.Opened.{footer_room, footer_once, footer_columns}
-use Rattle.orc_entering.proofs.OnlyMemory.{only_memory}
+use Rattle.orc_group_reader.proofs.OnlyMemory.{only_memory}
 use Rattle.orc_stripe.proofs.RowsLemmas.{rows_too_many}
 use Rattle.orc_stripe.proofs.view.StripeView.cursor.Goals as goal
 

@@ -2,10 +2,10 @@ use Rattle.std.proofs.Common.{◌≡◌, ◌∙◌, ℕ, ◌*◌, ◌-◌, List,
 use Rattle.orc_types.specs.Shapes.{Shape, width}
 use Rattle.orc_types.specs.Views.{shape}
 use Rattle.orc_wire.specs.declared.row_index.RowIndexEntry.{RowIndexEntry}
-use Rattle.orc_columns.specs.Columns.{CellsLeft}
-use Rattle.orc_columns.specs.ReaderFaults.{CellsMeet}
-use Rattle.orc_columns.specs.Stripe.{columns_of}
-use Rattle.orc_entering.specs.Rows.{RowsTurn}
+use Rattle.orc_column_reader.specs.Columns.{CellsLeft}
+use Rattle.orc_column_reader.specs.ReaderFaults.{CellsMeet}
+use Rattle.orc_column_reader.specs.Stripe.{columns_of}
+use Rattle.orc_group_reader.specs.Rows.{RowsTurn}
 use Rattle.orc_stripe.specs.GroupCursors.{HasGroup, GroupRefused, EntersGroup}
 use Rattle.orc_stripe.specs.Opened.{Opened}
 use Rattle.orc_stripe.proofs.GroupTurned.{group_turns, all_there, group_refused, enters_group}

@@ -2,7 +2,7 @@ use Rattle.std.proofs.Common.{◌≡◌, ◌∙◌, ◌<◌, Some, List, length,
 use Rattle.std.proofs.lemmas.Option.{same_Some, slice_get_read}
 use Rattle.orc_wire.specs.declared.row_index.RowIndexEntry.{RowIndexEntry}
 use Rattle.orc_wire.specs.declared.row_index.RowIndexMsg.{RowIndexMsg}
-use Rattle.orc_written.specs.Groups.{group_count}
+use Rattle.orc_stripe_writer.specs.Groups.{group_count}
 use Rattle.orc_stripe.proofs.GroupTurned.{group_there}
 use Rattle.orc_stripe.proofs.view.StripeView.group_entry.Goals as goal
 

@@ -2,7 +2,7 @@ use Rattle.std.proofs.Common.{◌≡◌, ◌∙◌, ◌<◌, List, ℕ, length, 
 use Rattle.orc_wire.specs.Messages.{row_index}
 use Rattle.orc_wire.specs.Spells.{Spells}
 use Rattle.orc_wire.specs.declared.stripe_footer.StreamMsg.{StreamMsg}
-use Rattle.orc_columns.specs.Directory.{have_room, slice, has_stream}
+use Rattle.orc_column_reader.specs.Directory.{have_room, slice, has_stream}
 use Rattle.orc_stripe.specs.RowIndexes.{index_text}
 use Rattle.orc_stripe.proofs.IndexFaults.{index_fault}
 use Rattle.orc_stripe.proofs.Opened.{footer_room}

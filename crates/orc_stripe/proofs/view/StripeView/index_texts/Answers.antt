@@ -1,5 +1,5 @@
 use Rattle.std.proofs.Common.{length, ◌∙◌, ap}
-use Rattle.orc_columns.specs.Directory.{have_room}
+use Rattle.orc_column_reader.specs.Directory.{have_room}
 use Rattle.orc_stripe.proofs.Opened.{footer_room}
 use Rattle.orc_stripe.proofs.view.StripeView.index_texts.Goals as goal
 

@@ -4,7 +4,7 @@ use Rattle.orc_types.specs.Types.{types}
 use Rattle.orc_wire.specs.declared.stripe_footer.StripeFooter.{StripeFooter}
 use Rattle.orc_wire.specs.Messages.{stripe_footer}
 use Rattle.orc_wire.specs.Spells.{Spells}
-use Rattle.orc_columns.specs.Directory.{is_directory, first_wrong}
+use Rattle.orc_column_reader.specs.Directory.{is_directory, first_wrong}
 use Rattle.orc_stripe.proofs.Opened.{refused_for_memory, fault_of}
 use Rattle.orc_stripe.proofs.view.StripeView.open.Goals as goal
 

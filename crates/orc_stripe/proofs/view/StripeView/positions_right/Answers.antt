@@ -3,8 +3,8 @@ use Rattle.std.proofs.Common.{◌≡◌, ◌∙◌, ◌⊎◌, List, length, inl
 use Rattle.std.proofs.lemmas.Result.{IfOk-weaker}
 use Rattle.orc_types.specs.Cells.{Cell}
 use Rattle.orc_types.specs.Views.{views}
-use Rattle.orc_columns.specs.Stripe.{IsStripe}
-use Rattle.orc_columns.specs.declared.fault.StripeFault.TheVariants.{OutOfMemory}
+use Rattle.orc_column_reader.specs.Stripe.{IsStripe}
+use Rattle.orc_column_reader.specs.declared.fault.StripeFault.TheVariants.{OutOfMemory}
 use Rattle.orc_stripe.specs.RowIndexes.{IsWhole, ArePositionsDecided, HasOtherEntries}
 use Rattle.orc_stripe.proofs.IndexFaults.{err_by, own_rows}
 use Rattle.orc_stripe.proofs.view.StripeView.positions_right.Goals as goal

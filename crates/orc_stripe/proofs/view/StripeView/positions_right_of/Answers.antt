@@ -6,12 +6,12 @@ use Rattle.orc_types.specs.Columns.{cells}
 use Rattle.orc_types.specs.Lent.{lent_cells}
 use Rattle.orc_types.specs.Shapes.{Shape, shape_at}
 use Rattle.orc_types.specs.Views.{shape, view, views}
-use Rattle.orc_columns.specs.Starting.{AreStreams}
-use Rattle.orc_columns.specs.Stripe.{IsColumn, IsStripe, columns_of}
-use Rattle.orc_index.specs.Bounds.{AreBounds}
-use Rattle.orc_positions.specs.ColumnTables.{ColumnFails}
-use Rattle.orc_written.specs.Groups.{group_count, starts, bounds_of}
-use Rattle.orc_written.proofs.GroupLemmas.{starts_are_bounds}
+use Rattle.orc_column_reader.specs.Starting.{AreStreams}
+use Rattle.orc_column_reader.specs.Stripe.{IsColumn, IsStripe, columns_of}
+use Rattle.orc_row_index.specs.Bounds.{AreBounds}
+use Rattle.orc_row_index_check.specs.ColumnTables.{ColumnFails}
+use Rattle.orc_stripe_writer.specs.Groups.{group_count, starts, bounds_of}
+use Rattle.orc_stripe_writer.proofs.GroupLemmas.{starts_are_bounds}
 use Rattle.orc_stripe.proofs.GroupCells.{column_bounds}
 use Rattle.orc_stripe.proofs.IndexFaults.{starts_long, result_by, err_unless, ok_always, decided_same}
 use Rattle.orc_stripe.proofs.OneStripe.{by_footer}

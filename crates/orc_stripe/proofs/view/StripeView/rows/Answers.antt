@@ -1,5 +1,5 @@
 use Rattle.std.proofs.Common.{◌≢◌, inr, ◌∙◌, sym}
-use Rattle.orc_columns.specs.declared.fault.StripeFault.TheVariants.{Failed}
+use Rattle.orc_column_reader.specs.declared.fault.StripeFault.TheVariants.{Failed}
 use Rattle.orc_stripe.proofs.view.StripeView.rows.Goals as goal
 
 pub returns-in-Err-rest-clause-fault : goal.returns-in-Err-rest-clause-fault

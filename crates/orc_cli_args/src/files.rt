@@ -1,0 +1,43 @@
+//! The files that a command names.
+ghost use Rattle.std.specs.Prelude.{◌≡◌, IfOk, IfErr, true};
+ghost use Rattle.std.specs.Fs.{new_options, with_write, with_create_new};
+ghost use Rattle.orc_file.specs.declared.fault.FileFault.TheVariants.{SourceFailed, WriteFailed};
+ghost use Rattle.orc_cli_output.specs.declared.fault.CliFault.TheVariants.{File as FileFaulted};
+
+use orc_cli_output::CliFault;
+use orc_file::{FileFault, FileSource};
+use std::fs::{File, OpenOptions};
+use std::rt::Files;
+
+/// The file of that path, found now.
+pub fn source_of<'a, R: Files<File = File>>(
+    rt: &'a R,
+    path: &'a str,
+) -> Result<FileSource<'a, R>, CliFault>
+    ensures path { IfOk result (λ source. source.path.now ≡ path.now) }
+    ensures fault { IfErr result (λ fault. fault ≡ FileFaulted SourceFailed) }
+{
+    match FileSource::open(rt, path) {
+        Ok(source) => Ok(source),
+        Err(_) => Err(CliFault::File(FileFault::SourceFailed)),
+    }
+}
+
+/// How a file that a command makes is opened: it must not be there yet.
+fn as_new_file() -> OpenOptions
+    ensures { result ≡ with_create_new (with_write new_options true) true }
+{
+    let mut options = OpenOptions::new();
+    options.write(true).create_new(true);
+    options
+}
+
+/// A new file of that path.
+pub fn new_file<R: Files<File = File>>(rt: &R, path: &str) -> Result<File, CliFault>
+    ensures { IfErr result (λ fault. fault ≡ FileFaulted WriteFailed) }
+{
+    match as_new_file().open(rt, path) {
+        Ok(file) => Ok(file),
+        Err(_) => Err(CliFault::File(FileFault::WriteFailed)),
+    }
+}

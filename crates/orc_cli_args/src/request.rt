@@ -1,0 +1,176 @@
+//! What a command line can ask for, and what the words of its options stand for.
+ghost use Rattle.std.specs.Prelude.{◌≡◌, ◌<◌, ◌^◌, ℕ, List, Some, IsSome, IfSome, IfNone, option_map, codes};
+ghost use Rattle.clap.specs.Matches.{found_of, first_value, subcommand_name_of};
+ghost use Rattle.clap.specs.Walk.{rows_of as found_rows};
+ghost use Rattle.clap.specs.Simple.{subcommand_rows_of};
+ghost use Rattle.clap.specs.declared.parser.matches.Found.{Found};
+ghost use Rattle.orc_rle.specs.declared.sign.Rle.{Rle};
+ghost use Rattle.orc_rle.specs.declared.sign.Sign.{Sign};
+ghost use Rattle.orc_stripe_writer.specs.declared.options.Options.{Options};
+ghost use Rattle.orc_cli_args.specs.Requests.{Asks, version_word, sign_word, command_word, HasInts, HasWrite, IsNotUnderstood};
+
+use clap::ArgMatches;
+use orc_cli_output::number_of;
+use orc_rle::{Rle, Sign};
+use orc_stripe::Options;
+
+/// What a command line asks for. Its words are `'a`'s, and lists of them stand in what the parser found.
+#[derive(Clone, Copy, Debug, PartialEq, Eq)]
+pub enum Request<'m, 'a> {
+    /// The numbers of an integer stream, whose bytes are given in hexadecimal digits.
+    Ints {
+        rle: Rle,
+        sign: Sign,
+        hex: &'a str,
+    },
+    /// The rows of a file, from the place on that a text names, if there is one.
+    Rows {
+        file: &'a str,
+        from: Option<&'a str>,
+    },
+    /// What a file says of itself.
+    Show {
+        file: &'a str,
+    },
+    /// What a file says of itself and is not so.
+    Check {
+        file: &'a str,
+    },
+    /// A file of the rows that lines spell.
+    Write {
+        schema: &'a str,
+        options: Options,
+        input: &'a str,
+        output: &'a str,
+    },
+    /// A file that the inputs are joined into, in this order.
+    Merge {
+        output: &'a str,
+        inputs: &'m [&'a str],
+    },
+}
+
+/// The words that `--rle` takes.
+pub static VERSIONS: [&str; 2] = ["1", "2"];
+
+/// The words that `--sign` takes.
+pub static SIGNS: [&str; 2] = ["s", "u"];
+
+/// The version of the integer run lengths that a word of `--rle` stands for.
+fn version_of(word: &str) -> Option<Rle>
+    ensures found { IfSome result (λ rle. word.now ≡ version_word rle) }
+    ensures only { (rle : Rle) → word.now ≡ version_word rle → result ≡ Some rle }
+{
+    match word {
+        "1" => Some(Rle::One),
+        "2" => Some(Rle::Two),
+        _ => None,
+    }
+}
+
+/// Whether a word of `--sign` stands for signed or unsigned numbers.
+fn sign_of(word: &str) -> Option<Sign>
+    ensures found { IfSome result (λ sign. word.now ≡ sign_word sign) }
+    ensures only { (sign : Sign) → word.now ≡ sign_word sign → result ≡ Some sign }
+{
+    match word {
+        "s" => Some(Sign::Signed),
+        "u" => Some(Sign::Unsigned),
+        _ => None,
+    }
+}
+
+/// What the options of `ints` ask for.
+fn ints_of<'m, 'a>(found: &'m ArgMatches<'a>) -> Option<Request<'m, 'a>>
+    ensures name { IfSome result (λ request. command_word request ≡ codes "ints") }
+    ensures found { IfSome result (Asks (found_of found.now)) }
+    ensures only { (rle : Rle) (sign : Sign) (hex : List ℕ)
+        → HasInts (found_of found.now) rle sign hex → IsSome result }
+{
+    Some(Request::Ints {
+        rle: version_of(found.get_str("rle")?)?,
+        sign: sign_of(found.get_str("sign")?)?,
+        hex: found.get_str("hex")?,
+    })
+}
+
+/// What the words of `rows` ask for.
+fn rows_of<'m, 'a>(found: &'m ArgMatches<'a>) -> Option<Request<'m, 'a>>
+    ensures name { IfSome result (λ request. command_word request ≡ codes "rows") }
+    ensures found { IfSome result (Asks (found_of found.now)) }
+    ensures only { (file : List ℕ) → first_value (found_of found.now) (codes "file") ≡ Some file → IsSome result }
+{
+    Some(Request::Rows {
+        file: found.get_str("file")?,
+        from: found.get_str("from"),
+    })
+}
+
+/// What the words of `show` ask for.
+fn show_of<'m, 'a>(found: &'m ArgMatches<'a>) -> Option<Request<'m, 'a>>
+    ensures name { IfSome result (λ request. command_word request ≡ codes "show") }
+    ensures found { IfSome result (Asks (found_of found.now)) }
+    ensures only { (file : List ℕ) → first_value (found_of found.now) (codes "file") ≡ Some file → IsSome result }
+{
+    let file = found.get_str("file")?;
+    Some(Request::Show { file })
+}
+
+/// What the words of `check` ask for.
+fn check_of<'m, 'a>(found: &'m ArgMatches<'a>) -> Option<Request<'m, 'a>>
+    ensures name { IfSome result (λ request. command_word request ≡ codes "check") }
+    ensures found { IfSome result (Asks (found_of found.now)) }
+    ensures only { (file : List ℕ) → first_value (found_of found.now) (codes "file") ≡ Some file → IsSome result }
+{
+    let file = found.get_str("file")?;
+    Some(Request::Check { file })
+}
+
+/// What the words of `write` ask for. Nothing where a number isn't written in decimal digits alone, or isn't one that
+/// files are written with.
+fn write_of<'m, 'a>(found: &'m ArgMatches<'a>) -> Option<Request<'m, 'a>>
+    ensures name { IfSome result (λ request. command_word request ≡ codes "write") }
+    ensures found { IfSome result (Asks (found_of found.now)) }
+    ensures only { (schema : List ℕ) (options : Options) (input output : List ℕ)
+        → HasWrite (found_of found.now) schema options input output → IsSome result }
+{
+    let rle = version_of(found.get_str("rle")?)?;
+    let stride = number_of(found.get_str("stride")?)?;
+    let stripe_rows = number_of(found.get_str("stripe-rows")?)?;
+    Some(Request::Write {
+        schema: found.get_str("schema")?,
+        options: Options::new(rle, stride, stripe_rows)?,
+        input: found.get_str("in")?,
+        output: found.get_str("out")?,
+    })
+}
+
+/// What the words of `merge` ask for. There may be no input.
+fn merge_of<'m, 'a>(found: &'m ArgMatches<'a>) -> Option<Request<'m, 'a>>
+    ensures name { IfSome result (λ request. command_word request ≡ codes "merge") }
+    ensures found { IfSome result (Asks (found_of found.now)) }
+    ensures only { (output : List ℕ) → first_value (found_of found.now) (codes "out") ≡ Some output → IsSome result }
+{
+    let output = found.get_str("out")?;
+    let inputs = found.get_strs("in").unwrap_or_default();
+    Some(Request::Merge { output, inputs })
+}
+
+/// What the words ask for, if anything.
+pub fn request_of<'m, 'a>(matches: &'m ArgMatches<'a>) -> Option<Request<'m, 'a>>
+    ensures name { IfSome result (λ request. subcommand_name_of matches.now ≡ Some (command_word request)) }
+    ensures found { IfSome result (λ request. (found : Found)
+        × (option_map (λ p. p.1) (subcommand_rows_of matches.now) ≡ Some (found_rows found)) × Asks found request) }
+    ensures none { IfNone result (IsNotUnderstood matches.now) }
+{
+    let (name, found) = matches.subcommand()?;
+    match name {
+        "ints" => ints_of(found),
+        "rows" => rows_of(found),
+        "show" => show_of(found),
+        "check" => check_of(found),
+        "write" => write_of(found),
+        "merge" => merge_of(found),
+        _ => None,
+    }
+}

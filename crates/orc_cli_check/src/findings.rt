@@ -1,0 +1,75 @@
+//! `orcm check`: what a file says of itself and is not so.
+ghost use Rattle.std.specs.Prelude.{◌≡◌, ◌≢◌, ◌<◌, ◌⊎◌, List, length, IfOk, OnOk, IfErr, IfSome, string_bytes};
+ghost use Rattle.std.specs.Io.KnownBytes.{Appends, Keeps};
+ghost use Rattle.orc_types.specs.Cells.{Cell};
+ghost use Rattle.orc_file.specs.FileRows.{FileIs};
+ghost use Rattle.orc_file.specs.declared.fault.FileFault.TheVariants.{SourceFailed, OutOfMemory};
+ghost use Rattle.orc_file.specs.declared.tail.Tail.{Tail};
+ghost use Rattle.orc_cli_output.specs.Output.{AppendsPart, IsWantOfMemory, write_failed};
+ghost use Rattle.orc_cli_output.specs.declared.fault.CliFault.TheVariants.{File};
+ghost use Rattle.orc_cli_check.specs.Lines.{finding_lines, IsFoundOf, IsSourceOrMemory, IsNotChecked};
+
+use orc_check::{Finding, check};
+use orc_cli_output::{CliFault, write_out};
+use orc_file::Source;
+use std::alloc::{AllocError, Global};
+use std::io::Write;
+
+/// A line a finding.
+fn lines_of(alloc: Global, found: &[Finding]) -> Result<String, AllocError>
+    ensures { IfOk result (λ lines. string_bytes lines ≡ finding_lines found.now) }
+{
+    let mut lines = String::new(alloc);
+    for finding in found {
+        write!(lines, "{finding}\n")?;
+    }
+    Ok(lines)
+}
+
+/// Prints a line a finding, once all of them are there.
+fn print_findings<W: Write>(alloc: Global, found: &[Finding], out: &mut W) -> Result<(), CliFault>
+    ensures written { OnOk result (Appends (W.contents out.old) (W.contents out.new) (finding_lines found.now)) }
+    ensures refused { IfErr result (λ fault.
+        ((fault ≡ write_failed) × AppendsPart (W.contents out.old) (W.contents out.new) (finding_lines found.now))
+        ⊎ ((fault ≡ File OutOfMemory) × Keeps (W.contents out.old) (W.contents out.new))) }
+{
+    let lines = lines_of(alloc, found)?;
+    write_out(out, lines.as_bytes())
+}
+
+/// Prints what is found of a file, a finding a line: its name and its numbers, with a blank between them. Nothing is
+/// written before all of the file is checked. How many findings there are is answered, and the source is handed back.
+///
+/// Refusals: `File` with the fault of `check`, of the bytes, the source or memory, and nothing is written; or with
+/// `WriteFailed`, and a part of the lines is written.
+pub fn check_to<S: Source, W: Write>(
+    alloc: Global,
+    source: S,
+    out: &mut W,
+) -> Result<(usize, S), (CliFault, S)>
+    ensures written { IfOk result (λ done. IfSome (S.told source) (λ bytes. IsFoundOf bytes
+        (λ found. (done.0 ≡ length found) × Appends (W.contents out.old) (W.contents out.new) (finding_lines found)))) }
+    ensures only { IfSome (S.told source) (λ bytes. (tail : Tail) (rows : List Cell) → FileIs bytes tail rows
+        → IfErr result (λ e. (e.0 ≡ write_failed) ⊎ IsSourceOrMemory e.0)) }
+    ensures same { IfOk result (λ done. S.told done.1 ≡ S.told source) }
+    ensures kept { IfOk result (λ done. S.failures done.1 ≡ S.failures source) }
+
+    ensures refused { IfErr result (λ e. IfSome (S.told source)
+        (λ bytes. e.0 ≢ write_failed → IsNotChecked bytes e.0)) }
+    ensures nothing { IfErr result (λ e. e.0 ≢ write_failed → Keeps (W.contents out.old) (W.contents out.new)) }
+    ensures part { IfErr result (λ e. e.0 ≡ write_failed → IfSome (S.told source) (λ bytes. IsFoundOf bytes
+        (λ found. AppendsPart (W.contents out.old) (W.contents out.new) (finding_lines found)))) }
+    ensures failed { IfErr result (λ e. e.0 ≡ File SourceFailed → S.failures source < S.failures e.1) }
+    ensures unfailed { IfErr result (λ e. (e.0 ≡ File SourceFailed) ⊎ (S.failures e.1 ≡ S.failures source)) }
+    ensures memory { IfErr result (λ e. IsWantOfMemory e.0 → S.failures e.1 ≡ S.failures source) }
+    ensures back { IfErr result (λ e. S.told e.1 ≡ S.told source) }
+{
+    let mut source = source;
+    match check(alloc, &mut source) {
+        Ok(found) => match print_findings(alloc, &found, out) {
+            Ok(()) => Ok((found.len(), source)),
+            Err(fault) => Err((fault, source)),
+        },
+        Err(fault) => Err((CliFault::File(fault), source)),
+    }
+}

@@ -1,0 +1,28 @@
+use Rattle.std.proofs.Common.{◌≡◌, List, ℕ, ℤ, ap, subst, ◌∙◌, Result, Ok, Err, IfErr, inr}
+use Rattle.orc_rle.specs.declared.sign.Rle.{Rle}
+use Rattle.orc_rle.specs.declared.sign.Sign.{Sign}
+use Rattle.orc_cli_ints.specs.Ints.{number_line, SpellsInts, RefusesInts}
+use Rattle.orc_cli_output.specs.Output.{AppendsPart, write_failed}
+use Rattle.orc_cli_output.specs.declared.fault.CliFault.{CliFault}
+use Rattle.orc_cli_output.proofs.OutputLemmas.{outside_from}
+use Rattle.orc_cli_ints.proofs.ints.ints_to.Goals as goal
+
+output_refused : (r : Result (Unit {0}) CliFault) (rle : Rle) (sign : Sign) (text : List ℕ) (values : List ℤ) → SpellsInts rle sign text values → IfErr r (λ fault. fault ≡ write_failed)
+    → IfErr r (RefusesInts rle sign text)
+output_refused (Ok _) rle sign text values is failed = tt
+output_refused (Err fault) rle sign text values is failed = inr (failed, (values, is))
+
+pub returns-clause-refused : goal.returns-clause-refused
+returns-clause-refused g c =
+    output_refused c.write_out.result c.args.rle c.args.sign c.args.text.now c.in_ok-values.values.items c.in_ok-values.ensures.found c.write_out.ensures.refused
+
+pub returns-in_err-values-clause-only : goal.returns-in_err-values-clause-only
+returns-in_err-values-clause-only g c = λ values spells.
+    outside_from c.from_residual.result c.in_err-values.field-0.0 (c.in_err-values.ensures.only values spells) c.from_residual.ensures.1
+
+pub returns-clause-part : goal.returns-clause-part
+returns-clause-part g c = λ values spells failed.
+    let same = ap number_line (c.deref.ensures.value ∙ c.in_ok-values.ensures.same values spells) in
+    let whole : c.as_bytes.result.now ≡ number_line values = c.as_bytes.ensures.value ∙ (c.in_ok-line.ensures ∙ same) in
+    let part = rw failed at c.write_out.ensures.part in
+    subst (λ (t : List ℕ). AppendsPart (g.W.Write.contents c.args.out.now) (g.W.Write.contents c.write_out.new.out) t) whole part

@@ -1,0 +1,100 @@
+//! `orcm ints`: the numbers of an integer stream.
+ghost use Rattle.std.specs.Prelude.{◌≡◌, ◌≢◌, ℤ, List, [], ◌∷◌, ◌++◌, ◌⊎◌, IfOk, OnOk, IfErr, IsErrAnd, MatchResult, string_bytes};
+ghost use Rattle.std.specs.Io.KnownBytes.{Appends, Keeps};
+ghost use Rattle.orc_cli_ints.specs.Ints.{numbers, number_line, IsIntegerStream, StopsIntegers, SpellsInts, StopsInts, IsNoHex, RefusesDigits, RefusesInts};
+ghost use Rattle.orc_cli_output.specs.Output.{AppendsPart, IsOutside, IsWantOfMemory, write_failed};
+ghost use Rattle.orc_cli_output.specs.declared.fault.CliFault.TheVariants.{Run, Json};
+ghost use Rattle.orc_types.specs.declared.json_fault.JsonFault.TheVariants as json;
+ghost use Rattle.orc_rle.specs.declared.fault.RunFault.{RunFault};
+ghost use Rattle.orc_rle.specs.declared.fault.RunFault.TheVariants.{OutOfMemory as RunOutOfMemory};
+ghost use Rattle.orc_rle.specs.Stream.{Refuses};
+
+use hex::FromHexError;
+use orc_cli_output::{CliFault, write_out};
+use orc_file::FileFault;
+use orc_rle::{Rle, RunCodec, RunFault, Sign, V1, V2};
+use orc_types::JsonFault;
+use std::alloc::{AllocError, Global};
+use std::io::Write;
+
+/// The numbers on one line, one space between.
+fn line_of(alloc: Global, values: &[i64]) -> Result<String, AllocError>
+    ensures { IfOk result (λ line. string_bytes line ≡ number_line values.now) }
+{
+    let mut line = String::new(alloc);
+    for (i, value) in values.iter().enumerate() {
+        if i > 0 {
+            line.push_str(" ")?;
+        }
+        write!(line, "{value}")?;
+    }
+    line.push_str("\n")?;
+    Ok(line)
+}
+
+/// The values of the runs of that version.
+fn decode_all(alloc: Global, rle: Rle, sign: Sign, bytes: &[u8]) -> Result<Vec<i64>, RunFault>
+    ensures found { IfOk result (λ decoded. IsIntegerStream rle sign bytes.now decoded.items) }
+    ensures only { (values : List ℤ) → IsIntegerStream rle sign bytes.now values
+        → MatchResult result (λ decoded. decoded.items ≡ values) (λ fault. fault ≡ RunOutOfMemory) }
+    ensures fault { IfErr result (λ fault. (fault ≡ RunOutOfMemory) ⊎ StopsIntegers rle sign bytes.now fault) }
+    ensures refused { (fault : RunFault) → StopsIntegers rle sign bytes.now fault → Refuses result fault }
+{
+    match rle {
+        Rle::One => V1::decode_all(alloc, bytes, sign),
+        Rle::Two => V2::decode_all(alloc, bytes, sign),
+    }
+}
+
+/// The values of the runs whose bytes the hexadecimal digits spell, in either case.
+fn values_of(alloc: Global, rle: Rle, sign: Sign, text: &str) -> Result<Vec<i64>, CliFault>
+    ensures found { IfOk result (λ found. SpellsInts rle sign text.now found.items) }
+    ensures only { (values : List ℤ) → SpellsInts rle sign text.now values → IfErr result IsWantOfMemory }
+    ensures same { (values : List ℤ) → SpellsInts rle sign text.now values
+        → IfOk result (λ found. found.items ≡ values) }
+    ensures refused { IfErr result (RefusesDigits rle sign text.now) }
+    ensures no_hex { IsNoHex text.now → IsErrAnd result (λ e. (e ≡ Json json.BadHex) ⊎ IsWantOfMemory e) }
+    ensures stops { (fault : RunFault) → StopsInts rle sign text.now fault
+        → IsErrAnd result (λ e. (e ≡ Run fault) ⊎ IsWantOfMemory e) }
+{
+    let bytes = match hex::decode(alloc, text) {
+        Ok(bytes) => bytes,
+        Err(FromHexError::OutOfMemory) => return Err(CliFault::File(FileFault::OutOfMemory)),
+        Err(_) => return Err(CliFault::Json(JsonFault::BadHex)),
+    };
+    match decode_all(alloc, rle, sign, &bytes) {
+        Ok(values) => Ok(values),
+        Err(fault) => Err(CliFault::Run(fault)),
+    }
+}
+
+/// Writes the numbers that the digits' runs spell, on one line. Nothing is written before all are
+/// decoded.
+///
+/// Refusals: `BadHex` where `text` isn't hexadecimal, `Run` where its bytes are no stream of runs,
+/// `WriteFailed` with a part of the line written; for want of memory `OutOfMemory`, or `Run` with
+/// that of the decoder.
+pub fn ints_to<W: Write>(
+    alloc: Global,
+    rle: Rle,
+    sign: Sign,
+    text: &str,
+    out: &mut W,
+) -> Result<(), CliFault>
+    ensures written { OnOk result ((values : List ℤ) × SpellsInts rle sign text.now values
+        × Appends (W.contents out.old) (W.contents out.new) (number_line values)) }
+    ensures only { (values : List ℤ) → SpellsInts rle sign text.now values → IfErr result IsOutside }
+
+    ensures refused { IfErr result (RefusesInts rle sign text.now) }
+    ensures no_hex { IsNoHex text.now → IsErrAnd result (λ e. (e ≡ Json json.BadHex) ⊎ IsWantOfMemory e) }
+    ensures stops { (fault : RunFault) → StopsInts rle sign text.now fault
+        → IsErrAnd result (λ e. (e ≡ Run fault) ⊎ IsWantOfMemory e) }
+    ensures part { (values : List ℤ) → SpellsInts rle sign text.now values → result ≡ Err write_failed
+        → AppendsPart (W.contents out.old) (W.contents out.new) (number_line values) }
+    ensures nothing { IfErr result (λ fault. fault ≢ write_failed
+        → Keeps (W.contents out.old) (W.contents out.new)) }
+{
+    let values = values_of(alloc, rle, sign, text)?;
+    let line = line_of(alloc, &values)?;
+    write_out(out, line.as_bytes())
+}

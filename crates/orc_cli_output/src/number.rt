@@ -1,0 +1,14 @@
+//! Numbers in the words of a command.
+ghost use Rattle.std.specs.Prelude.{ℕ, IfSome, IsSome};
+ghost use Rattle.orc_cli_output.specs.Numbers.{IsNumber};
+
+/// The number that decimal digits alone write, where 32 bits hold it. There may be zeros in front, and no sign.
+pub fn number_of(digits: &str) -> Option<u32>
+    ensures found { IfSome result (IsNumber digits.now) }
+    ensures only { (n : ℕ) → IsNumber digits.now n → IsSome result }
+{
+    match digits.as_bytes().first() {
+        Some(b'+') => None,
+        _ => digits.parse::<u32>().ok(),
+    }
+}

@@ -1,0 +1,86 @@
+-- What `rows` prints of a file: a row a line, as compact JSON.
+use Rattle.std.specs.Prelude.{◌≡◌, ◌≢◌, ℕ, ◌<◌, ◌≤◌, ◌-◌, List, [], ◌∷◌, ◌++◌, length, take, drop, true, false, ◌⊎◌, Option}
+use Rattle.std.specs.List.{flat_map}
+use Rattle.std.specs.Io.KnownBytes.{Appends}
+use Rattle.serde_json.specs.Written.{compact_text}
+use Rattle.orc_wire.specs.declared.stripe_info.StripeInfo.{StripeInfo}
+use Rattle.orc_types.specs.Cells.{Cell}
+use Rattle.orc_types.specs.Shapes.{Shape}
+use Rattle.orc_types.specs.FieldNames.{is_distinct}
+use Rattle.orc_types.specs.JsonPrinting.{json_of}
+use Rattle.orc_types.specs.declared.json_fault.JsonFault.TheVariants as json
+use Rattle.orc_column_reader.specs.Stripe.{IsStripe}
+use Rattle.orc_file.specs.Stripes.{stripe_at}
+use Rattle.orc_file.specs.FileRows.{stripe_bytes, HasRows, StripeRefused}
+use Rattle.orc_file.specs.declared.tail.Tail.{Tail}
+use Rattle.orc_file.specs.declared.fault.FileFault.{FileFault}
+use Rattle.orc_cli_output.specs.Output.{write_failed, IsOfSource, IsWantOfMemory}
+use Rattle.orc_cli_output.specs.declared.fault.CliFault.{CliFault}
+use Rattle.orc_cli_output.specs.declared.fault.CliFault.TheVariants.{Json, File}
+
+-- a row's JSON, without blanks, and a line end
+abbrev pub row_line : Shape → Cell → List ℕ
+row_line s row = compact_text (json_of s row) ++ 10 ∷ []
+
+-- the rows in order
+abbrev pub row_lines : Shape → List Cell → List ℕ
+row_lines s rows = flat_map (row_line s) rows
+
+-- Rows have JSON where no struct of their schema names a field twice; where there are none, nothing is asked.
+abbrev pub HaveJson : Shape → List Cell → Type 0
+HaveJson s rows = (rows ≡ []) ⊎ (is_distinct s ≡ true)
+
+-- the lines are those of a stripe with these bytes
+pub record AreOfStripe (s : Shape) (info : StripeInfo) (bytes lines : List ℕ) : Type 0 where
+  pub rows : List Cell
+  pub stripe : IsStripe s info bytes rows
+  pub have_json : HaveJson s rows
+  pub lines_are : lines ≡ row_lines s rows
+
+-- the lines are those of the stripes
+pub record AreOfStripes (s : Shape) (bytes : List ℕ) (infos : List StripeInfo) (lines : List ℕ) : Type 0 where
+  pub rows : List Cell
+  pub has_rows : HasRows s bytes infos rows
+  pub have_json : HaveJson s rows
+  pub lines_are : lines ≡ row_lines s rows
+
+-- a stripe has rows, and these have no JSON
+pub record HasNoJson (s : Shape) (info : StripeInfo) (bytes : List ℕ) : Type 0 where
+  pub rows : List Cell
+  pub stripe : IsStripe s info bytes rows
+  pub some : rows ≢ []
+  pub twice : is_distinct s ≡ false
+
+-- Why the stripe with this number has no lines: it has no rows, or these have no JSON.
+abbrev pub StripeStops : Shape → List ℕ → ℕ → StripeInfo → CliFault → Type 0
+StripeStops s bytes n info fault =
+    ((why : FileFault) × (fault ≡ File why) × StripeRefused s bytes n info why)
+    ⊎ ((fault ≡ Json json.DuplicateField) × HasNoJson s info (stripe_bytes info bytes))
+
+-- the lines of the first rows of a stripe with these bytes are out, behind these
+pub record IsFrontOut (s : Shape) (info : StripeInfo) (bytes before : List ℕ) (old new : Option (List ℕ)) : Type 0 where
+  pub front : List Cell
+  pub rest : List Cell
+  pub stripe : IsStripe s info bytes (front ++ rest)
+  pub distinct : is_distinct s ≡ true
+  pub out : Appends old new (before ++ row_lines s front)
+
+-- Why the lines of the stripe with this number aren't out, behind these that are; and of them a part is out where the
+-- output failed, and perhaps a front of whole lines where memory was refused.
+abbrev pub EndsAt : Shape → List ℕ → ℕ → StripeInfo → List ℕ → Option (List ℕ) → Option (List ℕ) → CliFault → Type 0
+EndsAt s bytes n info before old new fault =
+    ((StripeStops s bytes n info fault ⊎ IsOfSource fault) × Appends old new before)
+    ⊎ (((fault ≡ write_failed) × ((own : List ℕ) × AreOfStripe s info (stripe_bytes info bytes) own
+    × ((count : ℕ) × (count < length own) × Appends old new (before ++ take count own))))
+    ⊎ (IsWantOfMemory fault × IsFrontOut s info (stripe_bytes info bytes) before old new))
+
+-- Why printing ends in a file with this tail, which began with the stripe of this number: the lines of some stripes
+-- from there on are out, all of them, and of the next one there is a reason why its lines aren't.
+pub record EndsIn (bytes : List ℕ) (tail : Tail) (first : ℕ)
+    (old new : Option (List ℕ)) (fault : CliFault) : Type 0 where
+  pub n : ℕ
+  pub begun : first ≤ n
+  pub some : n < length tail.stripes
+  pub lines : List ℕ
+  pub before : AreOfStripes tail.schema bytes (take (n - first) (drop first tail.stripes)) lines
+  pub ends : EndsAt tail.schema bytes n (stripe_at tail.stripes n) lines old new fault

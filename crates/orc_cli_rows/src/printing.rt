@@ -1,0 +1,196 @@
+//! `orcm rows`: a file's rows as JSON, all of them or those from a group on.
+ghost use Rattle.std.specs.Prelude.{◌≡◌, ◌<◌, ℕ, List, Option, MatchResult, None, IfOk, OnOk, IfErr, IfSome, Err};
+ghost use Rattle.std.specs.Io.KnownBytes.{Appends, Keeps};
+ghost use Rattle.orc_types.specs.Cells.{Cell};
+ghost use Rattle.orc_file.specs.Caps.{no_cap};
+ghost use Rattle.orc_file.specs.FileRows.{FileIs};
+ghost use Rattle.orc_file.specs.declared.fault.FileFault.TheVariants.{SourceFailed};
+ghost use Rattle.orc_file.specs.declared.tail.Tail.{Tail};
+ghost use Rattle.orc_cli_output.specs.Output.{IsOutsideFile, IsWantOfMemory};
+ghost use Rattle.orc_cli_output.specs.declared.fault.CliFault.TheVariants.{File};
+ghost use Rattle.orc_cli_rows.specs.Rows.{HaveJson};
+ghost use Rattle.orc_cli_rows.specs.FromGroup.{AreFrom, EndsFrom};
+ghost use Rattle.orc_cli_rows.specs.Printed.{IsAsked, IsNotAsked, AreLines, ArePrinted, Ends, Stops, RefusesFile, Refuses};
+
+use crate::from_group::print_group;
+use crate::rows::print_rows;
+use crate::start::{Start, start_of};
+use orc_cli_output::CliFault;
+use orc_file::{FileFault, OrcFile, Source};
+use orc_json::RowPrinter;
+use orc_types::JsonFault;
+use std::alloc::Global;
+use std::io::Write;
+
+/// Where reading starts, if a text says so.
+///
+/// Refusal: `Json` with `Syntax` where the text isn't two numbers with a colon between them, of decimal digits alone,
+/// each at most 4,294,967,295.
+fn asked_of(from: Option<&str>) -> Result<Option<Start>, CliFault>
+    ensures { MatchResult result (IsAsked from.entry) (IsNotAsked from.entry) }
+{
+    match from {
+        None => Ok(None),
+        Some(text) => match start_of(text) {
+            Some(start) => Ok(Some(start)),
+            None => Err(CliFault::Json(JsonFault::Syntax)),
+        },
+    }
+}
+
+/// Prints the lines of a file's rows from a group of a stripe on.
+fn print_from<S: Source, W: Write>(
+    alloc: Global,
+    file: &mut OrcFile<S>,
+    printer: &RowPrinter,
+    start: Start,
+    out: &mut W,
+) -> Result<(), CliFault>
+    requires of_schema { printer.now ≡ file.old.tail.schema }
+    requires uncapped { file.old.cap ≡ no_cap }
+    ensures told { S.told file.new.source ≡ S.told file.old.source }
+    ensures written { OnOk result (IfSome (S.told file.old.source) (λ all. (lines : List ℕ)
+        × AreFrom all file.old.tail start.stripe start.group lines
+        × Appends (W.contents out.old) (W.contents out.new) lines)) }
+    ensures kept { OnOk result (S.failures file.new.source ≡ S.failures file.old.source) }
+
+    ensures refused { IfErr result (λ fault. IfSome (S.told file.old.source) (λ all.
+        EndsFrom all file.old.tail start.stripe start.group (W.contents out.old) (W.contents out.new) fault)) }
+    ensures failed { result ≡ Err (File SourceFailed) → S.failures file.old.source < S.failures file.new.source }
+    ensures memory { IfErr result (λ fault. IsWantOfMemory fault
+        → S.failures file.new.source ≡ S.failures file.old.source) }
+{
+    let number = start.stripe as usize;
+    if number >= file.tail().stripes.as_slice().len() {
+        return Err(CliFault::File(FileFault::BadStripe(number)));
+    }
+    print_group(alloc, file, printer, start, out)?;
+    print_rows(alloc, file, printer, number + 1, out)
+}
+
+/// Prints the lines of a file's rows from a place on, or all of them.
+fn print_lines<S: Source, W: Write>(
+    alloc: Global,
+    file: &mut OrcFile<S>,
+    printer: &RowPrinter,
+    start: Option<Start>,
+    out: &mut W,
+) -> Result<(), CliFault>
+    requires of_schema { printer.now ≡ file.old.tail.schema }
+    requires uncapped { file.old.cap ≡ no_cap }
+    ensures told { S.told file.new.source ≡ S.told file.old.source }
+    ensures written { OnOk result (IfSome (S.told file.old.source) (λ all. (lines : List ℕ)
+        × AreLines all file.old.tail start lines
+        × Appends (W.contents out.old) (W.contents out.new) lines)) }
+    ensures kept { OnOk result (S.failures file.new.source ≡ S.failures file.old.source) }
+
+    ensures refused { IfErr result (λ fault. IfSome (S.told file.old.source) (λ all.
+        Ends all file.old.tail start (W.contents out.old) (W.contents out.new) fault)) }
+    ensures failed { result ≡ Err (File SourceFailed) → S.failures file.old.source < S.failures file.new.source }
+    ensures memory { IfErr result (λ fault. IsWantOfMemory fault
+        → S.failures file.new.source ≡ S.failures file.old.source) }
+{
+    match start {
+        None => print_rows(alloc, file, printer, 0, out),
+        Some(start) => print_from(alloc, file, printer, start, out),
+    }
+}
+
+/// The same with a printer of the file's rows, which is made first: nothing is out where there is no memory for it.
+fn print_opened<S: Source, W: Write>(
+    alloc: Global,
+    file: &mut OrcFile<S>,
+    start: Option<Start>,
+    out: &mut W,
+) -> Result<(), CliFault>
+    requires { file.old.cap ≡ no_cap }
+    ensures told { S.told file.new.source ≡ S.told file.old.source }
+    ensures written { OnOk result (IfSome (S.told file.old.source) (λ all. (lines : List ℕ)
+        × AreLines all file.old.tail start lines
+        × Appends (W.contents out.old) (W.contents out.new) lines)) }
+    ensures kept { OnOk result (S.failures file.new.source ≡ S.failures file.old.source) }
+
+    ensures refused { IfErr result (λ fault. IfSome (S.told file.old.source) (λ all.
+        Stops all file.old.tail start (W.contents out.old) (W.contents out.new) fault)) }
+    ensures failed { result ≡ Err (File SourceFailed) → S.failures file.old.source < S.failures file.new.source }
+    ensures memory { IfErr result (λ fault. IsWantOfMemory fault
+        → S.failures file.new.source ≡ S.failures file.old.source) }
+{
+    let printer = RowPrinter::new(alloc, file.schema())?;
+    print_lines(alloc, file, &printer, start, out)
+}
+
+/// What is printed of a file from a place on, or all of it.
+fn print_file<S: Source, W: Write>(
+    alloc: Global,
+    source: S,
+    start: Option<Start>,
+    out: &mut W,
+) -> Result<S, (CliFault, S)>
+    ensures written { OnOk result (IfSome (S.told source)
+        (λ bytes. ArePrinted bytes start (W.contents out.old) (W.contents out.new))) }
+    ensures same { IfOk result (λ back. S.told back ≡ S.told source) }
+    ensures kept { IfOk result (λ back. S.failures back ≡ S.failures source) }
+
+    ensures refused { IfErr result (λ e. IfSome (S.told source)
+        (λ bytes. RefusesFile bytes start (W.contents out.old) (W.contents out.new) e.0)) }
+    ensures failed { IfErr result (λ e. e.0 ≡ File SourceFailed → S.failures source < S.failures e.1) }
+    ensures memory { IfErr result (λ e. IsWantOfMemory e.0 → S.failures e.1 ≡ S.failures source) }
+    ensures back { IfErr result (λ e. S.told e.1 ≡ S.told source) }
+{
+    match OrcFile::open(alloc, source) {
+        Ok(mut file) => {
+            let printed = print_opened(alloc, &mut file, start, out);
+            let (_, source) = file.into_parts();
+            match printed {
+                Ok(()) => Ok(source),
+                Err(fault) => Err((fault, source)),
+            }
+        }
+        Err((fault, source)) => Err((CliFault::File(fault), source)),
+    }
+}
+
+/// Prints a line for each row of a file, in order: the row's JSON without blanks. A text such as `2:0` names a stripe
+/// and a group of it, from which on rows are printed: those of that stripe from the group's first row on, and those of
+/// all stripes behind it. What stands in the stripes before has no part in the answer. A stripe's lines are written
+/// once it is known to have rows: 8 MiB of them, and the line that passes these, are held until its end is seen; where
+/// it has more, all its columns are read first, and then its lines are written as they are made. So after a refusal in a
+/// stripe the lines of those before it stand, and no others. The bytes of one stripe and so many of its lines are held
+/// at a time; of the stripe where reading begins at a group, all of them. The source is handed back.
+///
+/// Refusals, in this order: `Json` with `Syntax` where the text names no place, before the source is read; `File`
+/// where the bytes are no file; `File` with `BadStripe` where the stripe isn't there; then, stripe by stripe, `File`
+/// with `Stripe` where the stripe has no rows, or no such group, or isn't read from its positions on, and `Json` with
+/// `DuplicateField` where it has rows and a struct of the schema names a field twice. Beside these `File` with
+/// `WriteFailed` and a part of a stripe's lines written, `SourceFailed` where the source failed, or `OutOfMemory`,
+/// which a layer below may answer too, and before which some whole lines of a good stripe may be out.
+pub fn rows_to<S: Source, W: Write>(
+    alloc: Global,
+    source: S,
+    from: Option<&str>,
+    out: &mut W,
+) -> Result<S, (CliFault, S)>
+    ensures written { OnOk result (IfSome (S.told source) (λ bytes. (start : Option Start) × IsAsked from.entry start
+        × ArePrinted bytes start (W.contents out.old) (W.contents out.new))) }
+    ensures only { from.entry ≡ None → IfSome (S.told source) (λ bytes. (tail : Tail) (rows : List Cell)
+        → FileIs bytes tail rows → HaveJson tail.schema rows
+        → IfErr result (λ e. IsOutsideFile e.0)) }
+    ensures same { IfOk result (λ back. S.told back ≡ S.told source) }
+    ensures kept { IfOk result (λ back. S.failures back ≡ S.failures source) }
+
+    ensures refused { IfErr result (λ e. IfSome (S.told source)
+        (λ bytes. Refuses bytes from.entry (W.contents out.old) (W.contents out.new) e.0)) }
+    ensures unread { ((start : Option Start) → IsAsked from.entry start → ⊥)
+        → MatchResult result (λ _. ⊥) (λ e. IsNotAsked from.entry e.0
+        × (S.failures e.1 ≡ S.failures source)
+        × Keeps (W.contents out.old) (W.contents out.new)) }
+    ensures failed { IfErr result (λ e. e.0 ≡ File SourceFailed → S.failures source < S.failures e.1) }
+    ensures memory { IfErr result (λ e. IsWantOfMemory e.0 → S.failures e.1 ≡ S.failures source) }
+    ensures back { IfErr result (λ e. S.told e.1 ≡ S.told source) }
+{
+    match asked_of(from) {
+        Ok(start) => print_file(alloc, source, start, out),
+        Err(fault) => Err((fault, source)),
+    }
+}

@@ -1,0 +1,166 @@
+-- What std's reader gives up to the end of a line, as a line; and rows pushed of lines that were read.
+use Rattle.std.specs.Prelude.{◌≡◌, ℕ, ◌<◌, zero, suc, slice_index, Bool, true, false, if◌then◌else◌, List, [], ◌∷◌, ◌++◌, length, Option, Some, None, ◌⊎◌, ◌==◌}
+use Rattle.std.proofs.Common.{refl, sym, ap, ◌∙◌, subst, inl, inr, arith}
+use Rattle.std.specs.Option.{IfSome}
+use Rattle.std.specs.Io.KnownBytes.{IsAtEnd}
+use Rattle.std.specs.Io.BufRead.{take_through, drop_through}
+use Rattle.std.proofs.lemmas.Bool.{eqb-true, eqb-false}
+use Rattle.orc_types.specs.Shapes.{Shape}
+use Rattle.orc_types.specs.Cells.{Cell}
+use Rattle.orc_cli_write.specs.Lines.{IsLine, LineSpellsRows, AreRowsOf}
+use Rattle.orc_types.specs.declared.json_fault.JsonFault.{JsonFault}
+use Rattle.orc_file.specs.declared.fault.FileFault.TheVariants as file
+use Rattle.orc_cli_write.specs.Writes.{IsOfWriter, EndsAtLine, EndsInLines}
+use Rattle.orc_types.specs.SchemaText.{HasText}
+use Rattle.orc_cli_write.specs.Reads.{HasRead, BeginWith, EndsReading}
+use Rattle.orc_cli_write.proofs.LinesLemmas.{Leads, leads_none, leads_both, leads_read, ends_read, all_read, begun_read}
+use Rattle.orc_cli_write.proofs.WriteLaws.{only_outside}
+use Rattle.orc_cli_output.specs.Output.{IsOutside, IsWantOfMemory, IsOfSource}
+use Rattle.orc_cli_output.specs.declared.fault.CliFault.{CliFault}
+use Rattle.orc_cli_output.specs.declared.fault.CliFault.TheVariants.{Json, File}
+
+abbrev IsThrough : List ℕ → List ℕ → List ℕ → Type 0
+IsThrough xs front rest =
+    ((line : List ℕ) × IsLine line × (front ≡ line ++ 10 ∷ []) × (xs ≡ line ++ 10 ∷ rest)) ⊎ (IsLine xs × (front ≡ xs) × (rest ≡ []))
+
+one_more : (x : ℕ) (xs : List ℕ) (end : Bool) → (x == 10) ≡ end → IsThrough xs (take_through 10 xs) (drop_through 10 xs)
+    → IsThrough (x ∷ xs) (if end then x ∷ [] else x ∷ take_through 10 xs) (if end then xs else drop_through 10 xs)
+one_more x xs true e p = inl ([], tt, ap (λ (n : ℕ). n ∷ []) (eqb-true x 10 e), ap (λ (n : ℕ). n ∷ xs) (eqb-true x 10 e))
+one_more x xs false e (inl p) = inl (x ∷ p.0, (eqb-false x 10 e, p.1), ap (λ (l : List ℕ). x ∷ l) p.2, ap (λ (l : List ℕ). x ∷ l) p.3)
+one_more x xs false e (inr p) = inr ((eqb-false x 10 e, p.0), ap (λ (l : List ℕ). x ∷ l) p.1, p.2)
+
+through : (xs : List ℕ) → IsThrough xs (take_through 10 xs) (drop_through 10 xs)
+through [] = inr (tt, refl, refl)
+through (x ∷ xs) = one_more x xs (x == 10) refl (through xs)
+
+not_empty : (line : List ℕ) → 0 < length line → line ≡ [] → ⊥
+not_empty [] some e = omega (arith, some)
+not_empty (b ∷ bs) some e = cc
+
+line_of : (xs front rest read cut : List ℕ) (left : Option (List ℕ)) → IsThrough xs front rest → read ≡ front → 0 < length read → left ≡ Some rest
+    → ((text : List ℕ) → read ≡ text ++ 10 ∷ [] → cut ≡ text) → (IsLine read → cut ≡ read) → HasRead true xs cut left
+line_of xs front rest read cut left (inl p) r some l ended plain =
+    let same : p.0 ≡ cut = sym (ended p.0 (r ∙ p.2)) in
+    (rest, l, subst (λ (t : List ℕ). IsLine t) same p.1, inl (subst (λ (t : List ℕ). xs ≡ t ++ 10 ∷ rest) same p.3))
+line_of xs front rest read cut left (inr p) r some l ended plain =
+    let whole : read ≡ xs = r ∙ p.1 in
+    let same : cut ≡ read = plain (subst (λ (t : List ℕ). IsLine t) (sym whole) p.0) in
+    (rest, l, subst (λ (t : List ℕ). IsLine t) (sym (same ∙ whole)) p.0, inr (sym (same ∙ whole), (λ e. not_empty read some (sym same ∙ e)), p.2))
+
+pub has_read : (told left : Option (List ℕ)) (before read cut : List ℕ) → before ≡ [] → 0 < length read → IfSome told (λ xs. read ≡ before ++ take_through 10 xs)
+    → IfSome told (λ xs. left ≡ Some (drop_through 10 xs)) → ((text : List ℕ) → read ≡ text ++ 10 ∷ [] → cut ≡ text) → (IsLine read → cut ≡ read)
+    → IfSome told (λ xs. HasRead true xs cut left)
+has_read None left before read cut none some r l ended plain = tt
+has_read (Some xs) left before read cut none some r l ended plain =
+    line_of xs _ _ read cut left (through xs) (r ∙ ap (λ (t : List ℕ). t ++ take_through 10 xs) none) some l ended plain
+
+pub has_none : (told left : Option (List ℕ)) (line : List ℕ) → IsAtEnd told → IfSome told (λ xs. HasRead false xs line left)
+has_none None left line e = tt
+has_none (Some xs) left line e = e
+
+-- ---- where the input tells its bytes: what is left of them, and what the rows pushed lead to
+
+-- the bytes before lead to those that are left, with these rows
+abbrev pub HasLed : Shape → Option (List ℕ) → Option (List ℕ) → List Cell → Type 0
+HasLed s told left own = IfSome told (λ bytes. (rest : List ℕ) × (left ≡ Some rest) × Leads s bytes rest own)
+
+pub led_none : (s : Shape) (told : Option (List ℕ)) → HasLed s told told []
+led_none s None = tt
+led_none s (Some bytes) = (bytes, refl, leads_none s bytes)
+
+-- what was read of the rest, where it was told first
+abbrev pub ReadOf : Bool → Option (List ℕ) → List ℕ → Option (List ℕ) → Type 0
+ReadOf found left line new = IfSome left (λ bytes. HasRead found bytes line new)
+
+read_of : (found : Bool) (left new : Option (List ℕ)) (line rest : List ℕ) → left ≡ Some rest → ReadOf found left line new → HasRead found rest line new
+read_of found left new line rest e h = subst (λ (o : Option (List ℕ)). ReadOf found o line new) e h
+
+pub led_line : (s : Shape) (told left new : Option (List ℕ)) (line : List ℕ) (own more : List Cell) → HasLed s told left own → ReadOf true left line new → LineSpellsRows s line more → HasLed s told new (own ++ more)
+led_line s None left new line own more p r spells = tt
+led_line s (Some bytes) left new line own more p r spells =
+    let h = read_of true left new line p.0 p.1 r in
+    (h.0, h.1, leads_both s bytes p.0 h.0 own more p.2 (leads_read s p.0 line h.0 more h.2 h.3 spells))
+
+pub led_all : (s : Shape) (told left new : Option (List ℕ)) (line : List ℕ) (own : List Cell) → HasLed s told left own → ReadOf false left line new → IfSome told (λ bytes. AreRowsOf s bytes own)
+led_all s None left new line own p r = tt
+led_all s (Some bytes) left new line own p r =
+    let none : p.0 ≡ [] = read_of false left new line p.0 p.1 r in
+    all_read s bytes own (subst (λ (t : List ℕ). Leads s bytes t own) none p.2)
+
+pub led_ends : (A : List ℕ → Type 0) (s : Shape) (told left new : Option (List ℕ)) (line : List ℕ) (own more : List Cell) (fault : CliFault) → HasLed s told left own → ReadOf true left line new
+    → (line ≡ [] → ⊥) → EndsAtLine s line fault more → IfSome told (λ bytes. EndsInLines s bytes fault (own ++ more) ⊎ A bytes)
+led_ends A s None left new line own more fault p r some ends = tt
+led_ends A s (Some bytes) left new line own more fault p r some ends =
+    let h = read_of true left new line p.0 p.1 r in
+    inl (ends_read s bytes p.0 line h.0 own more fault p.2 h.2 some h.3 ends)
+
+pub led_begun : (A : List ℕ → Type 0) (s : Shape) (told left : Option (List ℕ)) (own : List Cell) (B : Type 0) → HasLed s told left own → B → IfSome told (λ bytes. A bytes ⊎ (B × BeginWith s bytes own))
+led_begun A s None left own B p b = tt
+led_begun A s (Some bytes) left own B p b = inr (b, begun_read s bytes p.0 own p.2)
+
+-- ---- the end of a line
+
+pub no_end : (line : List ℕ) (i : ℕ) → IsLine line → i < length line → slice_index line i ≡ 10 → ⊥
+no_end [] i is lt e = omega (arith, lt)
+no_end (b ∷ bs) zero is lt e = is.0 e
+no_end (b ∷ bs) (suc i) is lt e = no_end bs i is.1 (omega (arith, lt)) e
+
+pub last_is : (text : List ℕ) → slice_index (text ++ 10 ∷ []) (length text) ≡ 10
+last_is [] = refl
+last_is (b ∷ bs) = last_is bs
+
+-- ---- which refusals there are not
+
+pub source_no_limit : {A : Type 0} (fault : CliFault) → IsOfSource fault → fault ≡ File file.Limit → A
+source_no_limit fault (inl e) q = absurd (cc)
+source_no_limit fault (inr (inl e)) q = absurd (cc)
+source_no_limit fault (inr (inr (inl e))) q = absurd (cc)
+source_no_limit fault (inr (inr (inr (inl e)))) q = absurd (cc)
+source_no_limit fault (inr (inr (inr (inr e)))) q = absurd (cc)
+
+pub source_no_json : {A : Type 0} (fault : CliFault) (why : JsonFault) → fault ≡ Json why → fault ≡ File file.SourceFailed → A
+source_no_json fault why e q = absurd (cc)
+
+want_no_source : {A : Type 0} (fault : CliFault) → IsWantOfMemory fault → fault ≡ File file.SourceFailed → A
+want_no_source fault (inl e) q = absurd (cc)
+want_no_source fault (inr (inl e)) q = absurd (cc)
+want_no_source fault (inr (inr (inl e))) q = absurd (cc)
+want_no_source fault (inr (inr (inr e))) q = absurd (cc)
+
+pub writer_no_source : {A : Type 0} (fault : CliFault) → IsOfWriter fault → fault ≡ File file.SourceFailed → A
+writer_no_source fault (inl e) q = absurd (cc)
+writer_no_source fault (inr (inl e)) q = absurd (cc)
+writer_no_source fault (inr (inr e)) q = want_no_source fault e q
+
+pub line_no_source : {A : Type 0} (s : Shape) (line : List ℕ) (fault : CliFault) (own : List Cell) → EndsAtLine s line fault own → fault ≡ File file.SourceFailed → A
+line_no_source s line fault own (inl bad) q = source_no_json fault bad.1.0 bad.1.1 q
+line_no_source s line fault own (inr (inl memory)) q = want_no_source fault memory.1 q
+line_no_source s line fault own (inr (inr writer)) q = writer_no_source fault writer.1 q
+
+-- ---- why no file is written, where the input tells its bytes
+
+of_source : (fault : CliFault) → IsOfSource fault → IsOfWriter fault ⊎ (fault ≡ File file.SourceFailed)
+of_source fault (inl e) = inr e
+of_source fault (inr want) = inl (inr (inr want))
+
+pub only_read : (told : Option (List ℕ)) (text : List ℕ) (t : Shape) (fault : CliFault) (own : List Cell) → HasText t text
+    → IfSome told (λ bytes. EndsInLines t bytes fault own ⊎ (IsOfSource fault × BeginWith t bytes own))
+    → IfSome told (λ bytes. (s : Shape) (rows : List Cell) → HasText s text → AreRowsOf s bytes rows → IsOfWriter fault ⊎ (fault ≡ File file.SourceFailed))
+only_read None text t fault own k e = tt
+only_read (Some bytes) text t fault own k (inl e) = λ s rows h r. inl (only_outside text bytes s t fault own rows h k r e)
+only_read (Some bytes) text t fault own k (inr e) = λ s rows h r. of_source fault e.0
+
+pub ends_reading : (told : Option (List ℕ)) (s : Shape) (fault : CliFault) (own : List Cell) → IfSome told (λ bytes. EndsInLines s bytes fault own ⊎ (IsOfSource fault × BeginWith s bytes own))
+    → IfSome told (λ bytes. EndsReading s bytes fault own)
+ends_reading None s fault own e = tt
+ends_reading (Some bytes) s fault own (inl e) = inl (inl e)
+ends_reading (Some bytes) s fault own (inr e) = inr e
+
+pub ends_behind_all : (told : Option (List ℕ)) (s : Shape) (fault : CliFault) (own : List Cell) → IfSome told (λ bytes. AreRowsOf s bytes own) → IsOfWriter fault
+    → IfSome told (λ bytes. EndsReading s bytes fault own)
+ends_behind_all None s fault own h w = tt
+ends_behind_all (Some bytes) s fault own h w = inl (inr (inr (h, w)))
+
+pub ends_before_all : (told : Option (List ℕ)) (s : Shape) (fault : CliFault) → IsOutside fault → IfSome told (λ bytes. EndsReading s bytes fault [])
+ends_before_all None s fault out = tt
+ends_before_all (Some bytes) s fault out = inl (inr (inl (refl, out)))

@@ -1,0 +1,127 @@
+-- Rows of lines, one line at a time.
+use Rattle.std.proofs.Common.{◌≡◌, ℕ, Bool, true, false, List, [], ◌∷◌, ◌++◌, length, refl, sym, ap, ◌∙◌, subst, append_assoc, append-nil, arith, ◌⊎◌, inl, inr, Option}
+use Rattle.std.specs.Prelude.{◌==◌, ◌≢◌}
+use Rattle.std.specs.List.{flat_map}
+use Rattle.orc_stripe_writer.specs.declared.options.Options.{Options}
+use Rattle.orc_wire.specs.declared.stripe_info.StripeInfo.{StripeInfo}
+use Rattle.orc_types.specs.Shapes.{Shape}
+use Rattle.orc_types.specs.Cells.{Cell}
+use Rattle.orc_types.specs.declared.json_fault.JsonFault.{JsonFault}
+use Rattle.orc_types.specs.declared.json_fault.JsonFault.TheVariants as json
+use Rattle.orc_stats.specs.declared.stat.Stat.{Stat}
+use Rattle.orc_file.proofs.Spread.{HasPushed}
+use Rattle.orc_file.specs.declared.fault.FileFault.{FileFault}
+use Rattle.orc_file.specs.declared.fault.FileFault.TheVariants as file
+use Rattle.orc_cli_output.specs.declared.fault.CliFault.TheVariants.{Json, File}
+use Rattle.orc_cli_output.specs.Output.{IsOutside}
+use Rattle.orc_cli_write.specs.Writes.{LineFault, IsOfWriter, EndsAtLine, StandsOpen}
+use Rattle.orc_cli_write.specs.Lines.{IsLine, AreLines, LineSpells, LinesSpell, LineSpellsRows, AreRowsOf}
+
+pub spell_more : (s : Shape) (line : List ℕ) (own more : List Cell) (lines : List (List ℕ)) → LinesSpell s (line ∷ []) own → LinesSpell s lines more → LinesSpell s (line ∷ lines) (own ++ more)
+spell_more s [] own more lines p q = subst (λ (t : List Cell). LinesSpell s lines (t ++ more)) (sym p) q
+spell_more s (b ∷ bs) [] more lines p q = absurd p
+spell_more s (b ∷ bs) (row ∷ rest) more lines p q = (p.0, subst (λ (t : List Cell). LinesSpell s lines (t ++ more)) (sym p.1) q)
+
+pub lines_more : (line rest : List ℕ) (ended : List (List ℕ)) (last : List ℕ) → IsLine line → AreLines rest ended last → AreLines (line ++ 10 ∷ rest) (line ∷ ended) last
+lines_more line rest ended last is p =
+    let others = flat_map (λ (l : List ℕ). l ++ 10 ∷ []) ended in
+    record {
+      plain = (is, p.plain);
+      plain_last = p.plain_last;
+      joined = ap (λ (t : List ℕ). line ++ 10 ∷ t) p.joined ∙ sym (append_assoc (line ++ 10 ∷ []) others last ∙ append_assoc line (10 ∷ []) (others ++ last));
+    }
+
+-- a line with its end, and the rows of what follows
+pub rows_more : (s : Shape) (line rest : List ℕ) (own more : List Cell) → IsLine line → LineSpellsRows s line own → AreRowsOf s rest more → AreRowsOf s (line ++ 10 ∷ rest) (own ++ more)
+rows_more s line rest own more is spells p = record {
+  ended = line ∷ p.ended;
+  last = p.last;
+  lines = lines_more line rest p.ended p.last is p.lines;
+  spell = spell_more s line own more (p.ended ++ p.last ∷ []) spells p.spell;
+}
+
+no_rows : (s : Shape) (ended : List (List ℕ)) (last : List ℕ) (more : List Cell) → [] ≡ flat_map (λ (l : List ℕ). l ++ 10 ∷ []) ended ++ last → LinesSpell s (ended ++ last ∷ []) more → more ≡ []
+no_rows s [] [] more e p = p
+no_rows s [] (b ∷ bs) more e p = absurd (cc)
+no_rows s ([] ∷ ls) last more e p = absurd (cc)
+no_rows s ((x ∷ xs) ∷ ls) last more e p = absurd (cc)
+
+-- a last line without an end
+pub rows_last : (s : Shape) (line : List ℕ) (own more : List Cell) → IsLine line → LineSpellsRows s line own → AreRowsOf s [] more → AreRowsOf s line (own ++ more)
+rows_last s line own more is spells p =
+    let none = no_rows s p.ended p.last more p.lines.joined p.spell in
+    record {
+      ended = [];
+      last = line;
+      lines = record { plain = tt; plain_last = is; joined = refl };
+      spell = subst (λ (t : List Cell). LinesSpell s (line ∷ []) t) (sym (ap (λ (t : List Cell). own ++ t) none ∙ append-nil own)) spells;
+    }
+
+pub rows_none : (s : Shape) → AreRowsOf s [] []
+rows_none s = record { ended = []; last = []; lines = record { plain = tt; plain_last = tt; joined = refl }; spell = refl }
+
+-- ---- one line
+
+pub none_spelled : (s : Shape) (line : List ℕ) → length line ≡ 0 → LineSpellsRows s line []
+none_spelled s [] e = refl
+none_spelled s (b ∷ bs) e = absurd (omega (arith, e))
+
+pub some_spelled : (s : Shape) (line : List ℕ) (row : Cell) → (length line == 0) ≡ false → LineSpells s line row → LineSpellsRows s line (row ∷ [])
+some_spelled s [] row e h = absurd (cc)
+some_spelled s (b ∷ bs) row e h = (h, refl)
+
+pub some_line : (line : List ℕ) → (length line == 0) ≡ false → line ≡ [] → ⊥
+some_line [] e q = cc
+some_line (b ∷ bs) e q = cc
+
+pub either : (b : Bool) → (b ≡ true) ⊎ (b ≡ false)
+either true = inl refl
+either false = inr refl
+
+-- ---- where a line isn't pushed
+
+is_memory : (why : JsonFault) → (why ≡ json.OutOfMemory) ⊎ (why ≢ json.OutOfMemory)
+is_memory json.OutOfMemory = inl refl
+is_memory json.Syntax = inr (λ q. cc)
+is_memory json.WrongShape = inr (λ q. cc)
+is_memory json.Range = inr (λ q. cc)
+is_memory json.UnknownField = inr (λ q. cc)
+is_memory json.DuplicateField = inr (λ q. cc)
+is_memory json.BadDate = inr (λ q. cc)
+is_memory json.BadHex = inr (λ q. cc)
+
+pub ends_unread : (s : Shape) (line : List ℕ) (why : JsonFault) → (why ≢ json.OutOfMemory → LineFault s line why) → EndsAtLine s line (Json why) []
+ends_unread s line why h = elim (is_memory why) [
+  | inl m ↦ inr (inl (refl, inr (inr (inl (ap Json m)))))
+  | inr m ↦ inl (refl, (why, refl, h m))
+]
+
+pub of_writer : (why : FileFault) → (why ≡ file.Failed → ⊥) → (why ≡ file.RowShape → ⊥)
+    → (why ≡ file.Failed) ⊎ ((why ≡ file.RowShape) ⊎ ((why ≡ file.Limit) ⊎ ((why ≡ file.WriteFailed) ⊎ (why ≡ file.OutOfMemory)))) → IsOfWriter (File why)
+of_writer why a b (inl e) = absurd (a e)
+of_writer why a b (inr (inl e)) = absurd (b e)
+of_writer why a b (inr (inr (inl e))) = inl (ap File e)
+of_writer why a b (inr (inr (inr (inl e)))) = inr (inl (ap File e))
+of_writer why a b (inr (inr (inr (inr e)))) = inr (inr (inl (ap File e)))
+
+pub of_finish : (why : FileFault) → (why ≡ file.Failed → ⊥) → (why ≡ file.Failed) ⊎ ((why ≡ file.Limit) ⊎ ((why ≡ file.WriteFailed) ⊎ (why ≡ file.OutOfMemory))) → IsOfWriter (File why)
+of_finish why a (inl e) = absurd (a e)
+of_finish why a (inr (inl e)) = inl (ap File e)
+of_finish why a (inr (inr (inl e))) = inr (inl (ap File e))
+of_finish why a (inr (inr (inr e))) = inr (inr (inl (ap File e)))
+
+pub of_begin : (why : FileFault) → (why ≡ file.WriteFailed) ⊎ (why ≡ file.OutOfMemory) → IsOutside (File why)
+of_begin why (inl e) = inl (ap File e)
+of_begin why (inr e) = inr (inl (ap File e))
+
+pub not_limit : {A : Type 0} (why : FileFault) → (why ≡ file.WriteFailed) ⊎ (why ≡ file.OutOfMemory) → File why ≡ File file.Limit → A
+not_limit why (inl e) q = absurd (cc)
+not_limit why (inr e) q = absurd (cc)
+
+-- ---- what is out after the refusal of a line
+
+pub stands_open : (options : Options) (s : Shape) (first told : Option (List ℕ)) (written : ℕ) (infos : List StripeInfo) (stats : List (List Stat)) (kept rows : List Cell)
+    → HasPushed options s first told written infos stats kept rows → StandsOpen options s first told rows
+stands_open options s first told written infos stats kept rows h =
+    let p = h.0 in
+    record { closed = p.closed; kept = kept; are = p.are; full = p.full; told_is = p.told_is; rows_are = p.rows_are; few = h.1 }

@@ -1,0 +1,88 @@
+use Rattle.std.proofs.Common.{◌≡◌, ◌<◌, [], length, ◌∙◌, arith, inr, subst}
+use Rattle.std.specs.Prelude.{◌⊎◌, IfSome}
+use Rattle.std.proofs.lemmas.List.{length-map}
+use Rattle.orc_types.specs.Shapes.{Shape}
+use Rattle.orc_types.specs.Views.{view, views}
+use Rattle.orc_file.specs.declared.fault.FileFault.TheVariants as file
+use Rattle.orc_cli_write.specs.Lines.{AreRowsOf}
+use Rattle.orc_cli_write.specs.Writes.{IsOfWriter, EndsInLines, LimitStands}
+use Rattle.orc_cli_write.specs.Reads.{BeginWith}
+use Rattle.orc_cli_output.specs.Output.{IsOfSource}
+use Rattle.orc_cli_output.specs.declared.fault.CliFault.TheVariants.{File}
+use Rattle.orc_cli_write.proofs.LimitLemmas.{rest_passes}
+use Rattle.orc_cli_write.proofs.WriteLemmas.{of_begin, of_finish, not_limit}
+use Rattle.orc_cli_write.proofs.ReadLemmas.{only_read, ends_reading, ends_behind_all, ends_before_all, writer_no_source}
+use Rattle.orc_cli_write.proofs.from_reader.write_lines.Goals as goal
+
+pub returns-in-Err-push_read-clause-only : goal.returns-in-Err-push_read-clause-only
+returns-in-Err-push_read-clause-only g c =
+    let told = g.I.Read.remaining c.args.input.now in
+    let fault = c.in-Err-push_read.fault in
+    let made = c.in-Ok-new.ensures.made in
+    let e = c.in-Err-push_read.ensures.refused made.2 in
+    let ends = subst (λ (x : Shape). IfSome told (λ bytes. EndsInLines x bytes fault e.0 ⊎ (IsOfSource fault × BeginWith x bytes e.0))) made.0 e.1 in
+    only_read told c.args.schema.now c.in-Ok.schema fault e.0 c.in-Ok.ensures.found ends
+
+pub returns-in-Err-push_read-clause-refused : goal.returns-in-Err-push_read-clause-refused
+returns-in-Err-push_read-clause-refused g c =
+    let told = g.I.Read.remaining c.args.input.now in
+    let fault = c.in-Err-push_read.fault in
+    let made = c.in-Ok-new.ensures.made in
+    let e = c.in-Err-push_read.ensures.refused made.2 in
+    let ends = subst (λ (x : Shape). IfSome told (λ bytes. EndsInLines x bytes fault e.0 ⊎ (IsOfSource fault × BeginWith x bytes e.0))) made.0 e.1 in
+    let begun = c.in-Ok-new.ensures.pushed in
+    let stands = e.2 (g.W.Sink.told c.args.out) [] begun in
+    let said = rw (made.0, made.1) at stands in
+    rw c.into_out.ensures (inr (c.in-Ok.schema, e.0, c.in-Ok.ensures.found, ends_reading told c.in-Ok.schema fault e.0 ends, said.0, said.1, said.2, said.3))
+
+pub returns-in-Err-finish-clause-refused : goal.returns-in-Err-finish-clause-refused
+returns-in-Err-finish-clause-refused g c =
+    let told = g.I.Read.remaining c.args.input.now in
+    let s = c.in-Ok.schema in
+    let n = c.push_read.new.writer in
+    let made = c.in-Ok-new.ensures.made in
+    let same = c.push_read.ensures.same in
+    let schema : n.schema ≡ s = same.0 ∙ made.0 in
+    let options : n.options ≡ c.args.options = same.1 ∙ made.1 in
+    let p = c.in_default.ensures.pushed in
+    let ready = c.in_default.ensures.ready made.2 in
+    let begun = c.in-Ok-new.ensures.pushed in
+    let pushed = p.2 (g.W.Sink.told c.args.out) [] begun in
+    let e = c.in-Err-finish.ensures in
+    let cut = e.cut (g.W.Sink.told c.args.out) p.0 pushed ready in
+    let rows = subst (λ (x : Shape). IfSome told (λ bytes. AreRowsOf x bytes p.0)) made.0 p.1 in
+    let limit : LimitStands c.args.options s (File c.in-Err-finish.fault) p.0 = λ q.
+    let why : c.in-Err-finish.fault ≡ file.Limit = cc in
+    let some : 0 < length (views n.rows.items) =
+    let k = e.begun why in
+    let l = length-map n.rows.items view in omega (arith, k, l) in
+    let passes = rest_passes n.options n.schema (g.W.Sink.told c.args.out) (g.W.Sink.told n.out)
+    n.written n.infos.items n.stats.items (views n.rows.items) p.0 pushed some (e.long why) in
+    rw (schema, options) at passes in
+    let writer : IsOfWriter (File c.in-Err-finish.fault) = of_finish c.in-Err-finish.fault (λ q. let t = e.failed q in cc) e.refused in
+    inr (
+      s,
+      p.0,
+      c.in-Ok.ensures.found,
+      ends_behind_all told s (File c.in-Err-finish.fault) p.0 rows writer,
+      limit,
+      rw (schema, options) at cut,
+      (λ why q. cc),
+      λ q. writer_no_source (File c.in-Err-finish.fault) writer q,
+    )
+
+pub returns-in-Err-new-clause-refused : goal.returns-in-Err-new-clause-refused
+returns-in-Err-new-clause-refused g c =
+    let told = g.I.Read.remaining c.args.input.now in
+    let why = c.in-Err-new.fault in
+    let e = c.in-Err-new.ensures in
+    inr (
+      c.in-Ok.schema,
+      [],
+      c.in-Ok.ensures.found,
+      ends_before_all told c.in-Ok.schema (File why) (of_begin why e.refused),
+      (λ q. not_limit why e.refused q),
+      e.cut,
+      (λ j q. cc),
+      λ q. writer_no_source (File why) (inr (of_begin why e.refused)) q,
+    )

@@ -1,0 +1,81 @@
+use Rattle.std.proofs.Common.{◌≡◌, ◌<◌, [], length, false, subst, refl, ◌∙◌, inl, inr, arith}
+use Rattle.std.proofs.lemmas.List.{length-map}
+use Rattle.orc_types.specs.Shapes.{Shape}
+use Rattle.orc_types.specs.Views.{view, views}
+use Rattle.orc_file.specs.declared.fault.FileFault.TheVariants as file
+use Rattle.orc_cli_write.specs.Lines.{AreRowsOf}
+use Rattle.orc_cli_write.specs.Writes.{EndsInLines, LimitStands}
+use Rattle.orc_cli_output.specs.declared.fault.CliFault.TheVariants.{File}
+use Rattle.orc_cli_output.proofs.OutputLemmas.{file_want}
+use Rattle.orc_cli_write.proofs.LimitLemmas.{rest_passes}
+use Rattle.orc_cli_write.proofs.WriteLemmas.{of_begin, of_finish, not_limit}
+use Rattle.orc_cli_write.proofs.WriteLaws.{only_outside}
+use Rattle.orc_cli_write.proofs.write.write_from.Goals as goal
+
+pub returns-in-Err-push_lines-clause-only : goal.returns-in-Err-push_lines-clause-only
+returns-in-Err-push_lines-clause-only g c = λ s rows text h.
+    let input = c.args.input.now in
+    let made = c.in-Ok-new.ensures.made in
+    let e = c.in-Err-push_lines.ensures.refused made.2 in
+    let ends = subst (λ (x : Shape). EndsInLines x input c.in-Err-push_lines.fault e.0) made.0 e.1 in
+    only_outside c.args.schema.now input s c.in-Ok.schema c.in-Err-push_lines.fault e.0 rows text c.in-Ok.ensures.found h ends
+
+pub returns-in-Err-push_lines-clause-refused : goal.returns-in-Err-push_lines-clause-refused
+returns-in-Err-push_lines-clause-refused g c =
+    let made = c.in-Ok-new.ensures.made in
+    let e = c.in-Err-push_lines.ensures.refused made.2 in
+    let ends = subst (λ (x : Shape). EndsInLines x c.args.input.now c.in-Err-push_lines.fault e.0) made.0 e.1 in
+    let begun = c.in-Ok-new.ensures.pushed in
+    let stands = e.2 (g.W.Sink.told c.args.out) [] begun in
+    let said = rw (made.0, made.1) at stands in
+    rw c.into_out.ensures (inr (c.in-Ok.schema, e.0, c.in-Ok.ensures.found, inl ends, said.0, said.1, said.2))
+
+pub returns-in-Err-finish-clause-refused : goal.returns-in-Err-finish-clause-refused
+returns-in-Err-finish-clause-refused g c =
+    let s = c.in-Ok.schema in
+    let n = c.push_lines.new.writer in
+    let made = c.in-Ok-new.ensures.made in
+    let same = c.push_lines.ensures.same in
+    let schema : n.schema ≡ s = same.0 ∙ made.0 in
+    let options : n.options ≡ c.args.options = same.1 ∙ made.1 in
+    let p = c.in_default.ensures.pushed in
+    let ready : n.failed ≡ false = c.in_default.ensures.ready made.2 in
+    let begun = c.in-Ok-new.ensures.pushed in
+    let pushed = p.2 (g.W.Sink.told c.args.out) [] begun in
+    let e = c.in-Err-finish.ensures in
+    let cut = e.cut (g.W.Sink.told c.args.out) p.0 pushed ready in
+    let rows = subst (λ (x : Shape). AreRowsOf x c.args.input.now p.0) made.0 p.1 in
+    let limit : LimitStands c.args.options s (File c.in-Err-finish.fault) p.0 = λ q.
+    let why : c.in-Err-finish.fault ≡ file.Limit = cc in
+    let some : 0 < length (views n.rows.items) =
+    let k = e.begun why in
+    let l = length-map n.rows.items view in omega (arith, k, l) in
+    let passes = rest_passes n.options n.schema (g.W.Sink.told c.args.out) (g.W.Sink.told n.out)
+    n.written n.infos.items n.stats.items (views n.rows.items) p.0 pushed some (e.long why) in
+    rw (schema, options) at passes in
+    inr (
+      s,
+      p.0,
+      c.in-Ok.ensures.found,
+      inr (inr (rows, of_finish c.in-Err-finish.fault (λ q. let t = e.failed q in cc) e.refused)),
+      limit,
+      rw (schema, options) at cut,
+      λ why q. cc,
+    )
+
+pub returns-in-Err-new-clause-refused : goal.returns-in-Err-new-clause-refused
+returns-in-Err-new-clause-refused g c =
+    let why = c.in-Err-new.fault in
+    let e = c.in-Err-new.ensures in
+    inr (c.in-Ok.schema, [], c.in-Ok.ensures.found, inr (inl (refl, of_begin why e.refused)), (λ q. not_limit why e.refused q), e.cut, λ j q. cc)
+
+pub returns-in-Err-push_lines-clause-memory : goal.returns-in-Err-push_lines-clause-memory
+returns-in-Err-push_lines-clause-memory g c = λ want.
+    rw c.into_out.ensures (c.in-Err-push_lines.ensures.memory want ∙ c.in-Ok-new.ensures.no_failure)
+
+pub returns-in-Err-finish-clause-memory : goal.returns-in-Err-finish-clause-memory
+returns-in-Err-finish-clause-memory g c = λ want.
+    c.in-Err-finish.ensures.memory (file_want c.in-Err-finish.fault want) ∙ c.in_default.ensures.no_failure ∙ c.in-Ok-new.ensures.no_failure
+
+pub returns-in-Err-new-clause-memory : goal.returns-in-Err-new-clause-memory
+returns-in-Err-new-clause-memory g c = λ want. c.in-Err-new.ensures.memory (file_want c.in-Err-new.fault want)

@@ -1,0 +1,54 @@
+-- Lines that are read one after another, from bytes that nobody holds whole: what comes off their front, and why not
+-- all of their rows are written.
+use Rattle.std.specs.Prelude.{◌≡◌, ◌≢◌, ℕ, List, [], ◌∷◌, ◌++◌, ◌⊎◌, Option, Some, Bool, true, false}
+use Rattle.std.specs.Option.{IfSome}
+use Rattle.orc_stripe_writer.specs.declared.options.Options.{Options}
+use Rattle.orc_types.specs.Shapes.{Shape}
+use Rattle.orc_types.specs.Cells.{Cell}
+use Rattle.orc_types.specs.SchemaText.{HasText}
+use Rattle.orc_types.specs.TextFaults.{TextFault}
+use Rattle.orc_types.specs.declared.fault.TypeFault.{TypeFault}
+use Rattle.orc_file.specs.Writing.{IsCutOff}
+use Rattle.orc_cli_write.specs.Lines.{IsLine, AreLines, LinesSpell}
+use Rattle.orc_cli_write.specs.Writes.{EndsUnder, LimitStands, OpenAtLine, StandsOpen}
+use Rattle.orc_cli_output.specs.Output.{IsOfSource}
+use Rattle.orc_cli_output.specs.declared.fault.CliFault.{CliFault}
+use Rattle.orc_cli_output.specs.declared.fault.CliFault.TheVariants.{Types, File}
+use Rattle.orc_file.specs.declared.fault.FileFault.TheVariants as file
+
+-- a line with its end comes off the front, or the last one, which has none
+abbrev pub TakesLine : List ℕ → List ℕ → List ℕ → Type 0
+TakesLine bytes line rest = (bytes ≡ line ++ 10 ∷ rest) ⊎ ((bytes ≡ line) × (line ≢ []) × (rest ≡ []))
+
+-- what reading a line says of the bytes that were still to come, and leaves of them: the line, or that there are none
+abbrev pub HasRead : Bool → List ℕ → List ℕ → Option (List ℕ) → Type 0
+HasRead true bytes line left = (rest : List ℕ) × (left ≡ Some rest) × IsLine line × TakesLine bytes line rest
+HasRead false bytes line left = bytes ≡ []
+
+-- the rows are those of the first lines, however many
+pub record BeginWith (s : Shape) (bytes : List ℕ) (rows : List Cell) : Type 0 where
+  pub ended : List (List ℕ)
+  pub last : List ℕ
+  pub lines : AreLines bytes ended last
+  pub before : List (List ℕ)
+  pub after : List (List ℕ)
+  pub lines_are : ended ++ last ∷ [] ≡ before ++ after
+  pub spell : LinesSpell s before rows
+
+-- Why no file of this schema is written of lines that are read: as of lines that are held, or reading failed, or memory
+-- for a line, behind some lines.
+abbrev pub EndsReading : Shape → List ℕ → CliFault → List Cell → Type 0
+EndsReading s bytes fault rows = EndsUnder s bytes fault rows ⊎ (IsOfSource fault × BeginWith s bytes rows)
+
+-- after a refusal of the source no more is out than the full stripes of the rows that the writer was given
+abbrev pub OpenAtSource : Options → Shape → Option (List ℕ) → Option (List ℕ) → CliFault → List Cell → Type 0
+OpenAtSource options s first told fault rows = fault ≡ File file.SourceFailed → StandsOpen options s first told rows
+
+-- Why lines that are read are refused, and what is out then. The bytes are those that were still to come, where the
+-- input tells them.
+abbrev pub RefusesLines : Options → List ℕ → Option (List ℕ) → Option (List ℕ) → Option (List ℕ) → CliFault → Type 0
+RefusesLines options text left old new fault =
+    ((why : TypeFault) × (fault ≡ Types why) × TextFault text why × (new ≡ old))
+    ⊎ ((s : Shape) × (rows : List Cell) × HasText s text × IfSome left (λ bytes. EndsReading s bytes fault rows)
+    × LimitStands options s fault rows × IsCutOff options s old new rows × OpenAtLine options s old new fault rows
+    × OpenAtSource options s old new fault rows)

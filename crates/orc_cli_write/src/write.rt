@@ -1,0 +1,148 @@
+//! `orcm write`: a file of the rows that lines of JSON spell.
+ghost use Rattle.std.specs.Prelude.{◌≡◌, ◌≢◌, ◌<◌, ◌≤◌, ◌++◌, ℕ, List, [], length, take, drop, get_or, Option, IfOk, IfErr, OnOk, false};
+ghost use Rattle.orc_types.specs.Cells.{Cell};
+ghost use Rattle.orc_types.specs.Shapes.{Shape};
+ghost use Rattle.orc_types.specs.SchemaText.{HasText};
+ghost use Rattle.orc_file.specs.Progress.{progress};
+ghost use Rattle.orc_file.specs.Writing.{HasPushed, IsWhole, IsCutOff};
+ghost use Rattle.orc_cli_write.specs.Lines.{IsLine, LineSpellsRows, AreRowsOf};
+ghost use Rattle.orc_cli_output.specs.Output.{IsWantOfMemory, write_failed};
+ghost use Rattle.orc_cli_write.specs.Writes.{IsOfWriter, EndsAtLine, EndsInLines, LimitStands, OpenAtLine, RefusesWrite};
+
+use orc_cli_output::CliFault;
+use orc_file::{Sink, Tail, Writer};
+use orc_json_reader::RowReader;
+use orc_stripe::Options;
+use orc_types::Schema;
+use std::alloc::Global;
+
+/// How many bytes stand before the first end of a line.
+fn line_length(bytes: &[u8]) -> usize
+    ensures bound { result ≤ length bytes.now }
+    ensures line { IsLine (take result bytes.now) }
+    ensures end { result < length bytes.now → get_or bytes.now result 0 ≡ 10 }
+{
+    let mut at = 0;
+    while at < bytes.len() && bytes[at] != b'\n' {
+        at += 1;
+    }
+    at
+}
+
+/// Pushes the row of a line, where it isn't empty.
+pub(crate) fn push_line<W: Sink>(
+    alloc: Global,
+    reader: &mut RowReader,
+    line: &[u8],
+    writer: &mut Writer<W>,
+) -> Result<(), CliFault>
+    ensures pushed { OnOk result ((own : List Cell) × LineSpellsRows writer.old.schema line.now own
+        × ((first : Option (List ℕ)) (rows : List Cell)
+        → HasPushed (progress W.told writer.old) first rows
+        → HasPushed (progress W.told writer.new) first (rows ++ own))) }
+    ensures same { (writer.new.schema ≡ writer.old.schema) × (writer.new.options ≡ writer.old.options) }
+    ensures ready { OnOk result (writer.old.failed ≡ false → writer.new.failed ≡ false) }
+    ensures no_failure { OnOk result (W.failures writer.new.out ≡ W.failures writer.old.out) }
+
+    ensures refused { writer.old.failed ≡ false → IfErr result (λ fault. (own : List Cell) × (line.now ≢ [])
+        × EndsAtLine writer.old.schema line.now fault own
+        × ((first : Option (List ℕ)) (rows : List Cell)
+        → HasPushed (progress W.told writer.old) first rows
+        → LimitStands writer.old.options writer.old.schema fault (rows ++ own)
+        × IsCutOff writer.old.options writer.old.schema first (W.told writer.new.out) (rows ++ own)
+        × OpenAtLine writer.old.options writer.old.schema first (W.told writer.new.out) fault (rows ++ own))) }
+    ensures write_failed { IfErr result (λ fault. fault ≡ write_failed
+        → W.failures writer.old.out < W.failures writer.new.out) }
+    ensures memory { IfErr result (λ fault. IsWantOfMemory fault
+        → W.failures writer.new.out ≡ W.failures writer.old.out) }
+{
+    if line.is_empty() {
+        return Ok(());
+    }
+    let schema = writer.schema();
+    // for its contract alone: the types are those of a schema
+    let _types = schema.types();
+    let row = reader.read_row(alloc, schema, line)?;
+    writer.push_owned(row)?;
+    Ok(())
+}
+
+/// Pushes the rows of lines.
+fn push_lines<W: Sink>(alloc: Global, input: &[u8], writer: &mut Writer<W>) -> Result<(), CliFault>
+    ensures pushed { OnOk result ((own : List Cell) × AreRowsOf writer.old.schema input.now own
+        × ((first : Option (List ℕ)) (rows : List Cell)
+        → HasPushed (progress W.told writer.old) first rows
+        → HasPushed (progress W.told writer.new) first (rows ++ own))) }
+    ensures same { (writer.new.schema ≡ writer.old.schema) × (writer.new.options ≡ writer.old.options) }
+    ensures ready { OnOk result (writer.old.failed ≡ false → writer.new.failed ≡ false) }
+    ensures no_failure { OnOk result (W.failures writer.new.out ≡ W.failures writer.old.out) }
+
+    ensures refused { writer.old.failed ≡ false → IfErr result (λ fault. (own : List Cell)
+        × EndsInLines writer.old.schema input.now fault own
+        × ((first : Option (List ℕ)) (rows : List Cell)
+        → HasPushed (progress W.told writer.old) first rows
+        → LimitStands writer.old.options writer.old.schema fault (rows ++ own)
+        × IsCutOff writer.old.options writer.old.schema first (W.told writer.new.out) (rows ++ own)
+        × OpenAtLine writer.old.options writer.old.schema first (W.told writer.new.out) fault (rows ++ own))) }
+    ensures write_failed { IfErr result (λ fault. fault ≡ write_failed
+        → W.failures writer.old.out < W.failures writer.new.out) }
+    ensures memory { IfErr result (λ fault. IsWantOfMemory fault
+        → W.failures writer.new.out ≡ W.failures writer.old.out) }
+{
+    let mut reader = RowReader::new(alloc);
+    let mut at = 0;
+    while at < input.len() {
+        let (_, rest) = input.split_at(at);
+        let len = line_length(rest);
+        let (line, _) = rest.split_at(len);
+        push_line(alloc, &mut reader, line, writer)?;
+        at += len;
+        if at < input.len() {
+            at += 1;
+        }
+    }
+    Ok(())
+}
+
+/// Writes a file of the rows that lines of JSON spell, a row a line. The bytes 0a end lines, the last line
+/// may have no end, and empty lines are skipped. The schema is read first. The output comes back with the
+/// file's tail, or with a refusal.
+///
+/// Refusals: `Types` where the schema's text tells none, with nothing written; `Json` where a line spells no
+/// row, `Syntax` where it isn't UTF-8 or no JSON, after which `ORC` and the full stripes of the rows before
+/// are written, and neither a last stripe nor a tail; `File` with `WriteFailed`, `Limit` or `OutOfMemory`, as
+/// the writer refuses. For want of memory `OutOfMemory` of any layer.
+pub fn write_from<W: Sink>(
+    alloc: Global,
+    schema: &str,
+    options: Options,
+    input: &[u8],
+    out: W,
+) -> Result<(Tail, W), (CliFault, W)>
+    ensures written { IfOk result (λ done. (s : Shape) × (rows : List Cell)
+        × HasText s schema.now × AreRowsOf s input.now rows
+        × IsWhole options s done.0 (W.told out) (W.told done.1) rows) }
+    ensures only { (s : Shape) (rows : List Cell) → HasText s schema.now → AreRowsOf s input.now rows
+        → IfErr result (λ e. IsOfWriter e.0) }
+    ensures no_failure { IfOk result (λ done. W.failures done.1 ≡ W.failures out) }
+
+    ensures refused { IfErr result (λ e. RefusesWrite options schema.now input.now (W.told out) (W.told e.1) e.0) }
+    ensures failed { IfErr result (λ e. e.0 ≡ write_failed → W.failures out < W.failures e.1) }
+    ensures memory { IfErr result (λ e. IsWantOfMemory e.0 → W.failures e.1 ≡ W.failures out) }
+{
+    let schema = match Schema::parse(alloc, schema) {
+        Ok(schema) => schema,
+        Err(fault) => return Err((CliFault::Types(fault), out)),
+    };
+    let mut writer = match Writer::new(alloc, schema, options, out) {
+        Ok(writer) => writer,
+        Err((fault, out)) => return Err((CliFault::File(fault), out)),
+    };
+    if let Err(fault) = push_lines(alloc, input, &mut writer) {
+        return Err((fault, writer.into_out()));
+    }
+    match writer.finish() {
+        Ok(done) => Ok(done),
+        Err((fault, out)) => Err((CliFault::File(fault), out)),
+    }
+}

@@ -1,0 +1,53 @@
+use Rattle.std.proofs.Common.{suc, false, inl, rules, ◌≡◌, ◌∙◌, ap, w32, w64, to_z, of_z}
+use Rattle.std.proofs.lemmas.Int.{to_z-of_z}
+use Rattle.orc_types.specs.Cells.{leaf, date}
+use Rattle.orc_column_reader.specs.Numbers.{NumbersLeft}
+use Rattle.orc_column_reader.specs.Columns.{IsDate}
+use Rattle.orc_column_reader.proofs.Fronts.{standing_lacks}
+use Rattle.orc_column_reader.proofs.ReaderLemmas.{one_stands, nothing_stands, one_date}
+use Rattle.orc_column_reader.proofs.Sizes.{day_fits, fits_day}
+use Rattle.orc_column_reader.proofs.OwnKinds.{date_kind}
+use Rattle.orc_types.specs.Fits.{signed_fits}
+use Rattle.orc_column_reader.proofs.MetLemmas.{ints_before, ints_now}
+use Rattle.orc_column_reader.proofs.whole_numbers.next_date.Goals as goal
+
+pub returns-in-Ok-try_from-clause-found : goal.returns-in-Ok-try_from-clause-found
+returns-in-Ok-try_from-clause-found c =
+    let z : to_z w64 (of_z w64 c.in-Ok.number) ≡ c.in-Ok.number = to_z-of_z w64 c.in-Ok.number (search rules) in
+    let e = c.in-Ok-try_from.ensures in
+    let f = rw z at e in
+    let d : to_z w32 (of_z w32 c.in-Ok-try_from.day) ≡ c.in-Ok.number = ap (λ n. to_z w32 (of_z w32 n)) f.1 ∙ to_z-of_z w32 c.in-Ok.number f.0 in
+    one_stands IsDate one_date (NumbersLeft c.args.numbers.now) (NumbersLeft c.next_number.new.numbers) c.in-Ok.number _
+    (fits_day c.in-Ok.number f.0, ap (λ n. leaf (date n)) d) c.in-Ok.ensures.found
+
+pub returns-in-Err-try_from-clause-none : goal.returns-in-Err-try_from-clause-none
+returns-in-Err-try_from-clause-none c =
+    let z : to_z w64 (of_z w64 c.in-Ok.number) ≡ c.in-Ok.number = to_z-of_z w64 c.in-Ok.number (search rules) in
+    let e = c.in-Err-try_from.ensures in
+    let f = rw z at e in
+    nothing_stands IsDate (NumbersLeft c.args.numbers.now) (NumbersLeft c.next_number.new.numbers) c.in-Ok.number c.in-Ok.ensures.found (λ y h. f (day_fits c.in-Ok.number h.0))
+
+pub returns-in-Err-clause-none : goal.returns-in-Err-clause-none
+returns-in-Err-clause-none c = standing_lacks IsDate (NumbersLeft c.args.numbers.now) 1 c.in-Err.ensures.none
+
+pub returns-in-Err-try_from-clause-fault : goal.returns-in-Err-try_from-clause-fault
+returns-in-Err-try_from-clause-fault c = λ memory m.
+    let z : to_z w64 (of_z w64 c.in-Ok.number) ≡ c.in-Ok.number = to_z-of_z w64 c.in-Ok.number (search rules) in
+    let e = c.in-Err-try_from.ensures in
+    let f = rw z at e in
+    ints_now (signed_fits 31) c.args.numbers.now c.next_number.new.numbers false (suc m) c.args.column c.in-Ok.number c.in-Ok.ensures.first (λ h. f (day_fits c.in-Ok.number h))
+
+pub returns-in-Ok-try_from-clause-before : goal.returns-in-Ok-try_from-clause-before
+returns-in-Ok-try_from-clause-before c = λ all m f.
+    ints_before (signed_fits 31) c.args.numbers.now c.next_number.new.numbers all m c.args.column c.in-Ok.number f c.in-Ok.ensures.before c.in-Ok.ensures.first
+
+pub returns-in-Err-clause-fault : goal.returns-in-Err-clause-fault
+returns-in-Err-clause-fault c = λ memory m. inl (c.in-Err.ensures.fault memory m)
+
+pub returns-in-Ok-try_from-clause-kind : goal.returns-in-Ok-try_from-clause-kind
+returns-in-Ok-try_from-clause-kind c =
+    let z : to_z w64 (of_z w64 c.in-Ok.number) ≡ c.in-Ok.number = to_z-of_z w64 c.in-Ok.number (search rules) in
+    let e = c.in-Ok-try_from.ensures in
+    let f = rw z at e in
+    let d : to_z w32 (of_z w32 c.in-Ok-try_from.day) ≡ c.in-Ok.number = ap (λ n. to_z w32 (of_z w32 n)) f.1 ∙ to_z-of_z w32 c.in-Ok.number f.0 in
+    date_kind c.in-Ok.number _ (fits_day c.in-Ok.number f.0, ap (λ n. leaf (date n)) d)

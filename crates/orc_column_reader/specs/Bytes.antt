@@ -1,0 +1,18 @@
+-- Streams of bytes in runs (ORC specification, "Byte Run Length Encoding").
+use Rattle.std.specs.Prelude.{ℕ, List, drop}
+use Rattle.orc_rle.specs.ByteRun.{IsByteRun}
+use Rattle.orc_rle.specs.Stream.{IsStream}
+use Rattle.orc_column_reader.specs.declared.bytes.RunLengthBytes.{RunLengthBytes}
+use Rattle.orc_column_reader.specs.Runs.{RunsLeft, RunsFirst}
+
+-- the bytes that a stream's bytes spell
+abbrev pub AreBytes : List ℕ → List ℕ → Type 0
+AreBytes bytes values = IsStream IsByteRun bytes values
+
+-- those that a reader has still to give
+abbrev pub BytesLeft : RunLengthBytes → List ℕ → Type 0
+BytesLeft r all = RunsLeft IsByteRun (drop r.used r.run.values) (drop r.at r.bytes.now) all
+
+-- those that it gives first, whatever becomes of the others
+abbrev pub BytesFirst : RunLengthBytes → List ℕ → Type 0
+BytesFirst r all = RunsFirst IsByteRun (drop r.used r.run.values) (drop r.at r.bytes.now) all

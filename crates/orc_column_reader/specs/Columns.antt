@@ -1,0 +1,151 @@
+-- What is left of a column, by its kind (ORC specification, "Column Encodings").
+use Rattle.std.specs.Prelude.{◌≡◌, ℕ, ◌-◌, ◌<◌, nat_lt, if◌then◌else◌, ℤ, pos, negsuc, Bool, true, Option, Some, None, List, [], ◌∷◌, length, replicate, map, take, drop, slice_get}
+use Rattle.std.specs.Str.{is_utf8}
+use Rattle.std.specs.List.{AllByRecursion}
+use Rattle.orc_types.specs.Cells.{Cell, bool, int, date, text, bytes, leaf, list, struct, pairs, cells_of, pairs_of}
+use Rattle.orc_types.specs.Shapes.{Shape, scalar, list_of, map_of, struct_of, Fields, no_field, field, width}
+use Rattle.orc_types.specs.Fits.{int_fits, signed_fits, are_bytes}
+use Rattle.orc_types.specs.declared.kind.Scalar.{Scalar}
+use Rattle.orc_types.specs.declared.kind.Scalar.TheVariants as kind
+use Rattle.orc_column_reader.specs.declared.bits.Bits.{Bits}
+use Rattle.orc_column_reader.specs.declared.column.Entry.{Entry}
+use Rattle.orc_column_reader.specs.declared.column.ValueSource.{ValueSource}
+use Rattle.orc_column_reader.specs.declared.column.ColumnReader.{ColumnReader}
+use Rattle.std.specs.declared.vec.Vec.{Vec}
+use Rattle.std.specs.declared.alloc.Global.{Global}
+use Rattle.orc_column_reader.specs.Spellings.{Nullable, Standing, Grouped, Within, Paired, Fielded}
+use Rattle.orc_column_reader.specs.Numbers.{NumbersLeft}
+use Rattle.orc_column_reader.specs.Bits.{BitsLeft, BitsFirst}
+use Rattle.orc_column_reader.specs.Bytes.{BytesLeft}
+use Rattle.orc_column_reader.specs.Octets.{OctetsLeft}
+
+-- without PRESENT nothing is null
+abbrev pub MarksLeft : Option Bits → List Bool → Type 0
+MarksLeft None all = all ≡ replicate (length all) true
+MarksLeft (Some bits) all = BitsLeft bits all
+
+-- marks that come first, whatever becomes of the others
+abbrev pub MarksFirst : Option Bits → List Bool → Type 0
+MarksFirst None marks = marks ≡ replicate (length marks) true
+MarksFirst (Some bits) marks = BitsFirst bits marks
+
+abbrev pub IsBool : Bool → Cell → Type 0
+IsBool b c = c ≡ leaf (bool b)
+
+-- the number of 8 bits that a byte stands for; the highest digit has its sign
+abbrev pub signed_byte : ℕ → ℤ
+signed_byte b = if nat_lt b 128 then pos b else negsuc (255 - b)
+
+abbrev pub IsByte : ℕ → Cell → Type 0
+IsByte b c = (b < 256) × (c ≡ leaf (int (signed_byte b)))
+
+-- a number of the kind's range
+abbrev pub IsInt : Scalar → ℤ → Cell → Type 0
+IsInt k n c = (int_fits k n ≡ true) × (c ≡ leaf (int n))
+
+abbrev pub IsDate : ℤ → Cell → Type 0
+IsDate n c = (signed_fits 31 n ≡ true) × (c ≡ leaf (date n))
+
+abbrev pub IsText : List ℕ → Cell → Type 0
+IsText bs c = (is_utf8 bs ≡ true) × (c ≡ leaf (text bs))
+
+abbrev pub IsBinary : List ℕ → Cell → Type 0
+IsBinary bs c = (are_bytes bs ≡ true) × (c ≡ leaf (bytes bs))
+
+-- the index of an entry
+abbrev pub IsWord : List (List ℕ) → ℤ → Cell → Type 0
+IsWord entries (pos i) c = (entry : List ℕ) × (slice_get entries i ≡ Some entry) × IsText entry c
+IsWord entries (negsuc i) c = ⊥
+
+abbrev pub IsList : List Cell → Cell → Type 0
+IsList cs c = c ≡ list (cells_of cs)
+
+abbrev pub IsMap : List (Cell × Cell) → Cell → Type 0
+IsMap ps c = c ≡ pairs (pairs_of ps)
+
+abbrev pub IsRecord : List Cell → Cell → Type 0
+IsRecord cs c = c ≡ struct (cells_of cs)
+
+-- bytes of the sizes that LENGTH has
+abbrev pub GroupsLeft : ValueSource → List (List ℕ) → Type 0
+GroupsLeft source groups = Grouped (NumbersLeft source.numbers) (OctetsLeft source.octets) groups
+
+abbrev pub entry_bytes : Entry → List ℕ
+entry_bytes e = e.bytes.now
+
+abbrev pub TextsLeft : Option (Vec Entry Global) → ValueSource → List Cell → Type 0
+TextsLeft None source vs = Standing IsText (GroupsLeft source) vs
+TextsLeft (Some entries) source vs = Standing (IsWord (map entry_bytes entries.items)) (NumbersLeft source.numbers) vs
+
+-- the values of a column of a kind that contains no other
+abbrev pub ScalarLeft : Scalar → ValueSource → List Cell → Type 0
+ScalarLeft kind.Boolean source vs = Standing IsBool (BitsLeft source.bits) vs
+ScalarLeft kind.Byte source vs = Standing IsByte (BytesLeft source.bytes) vs
+ScalarLeft kind.Short source vs = Standing (IsInt kind.Short) (NumbersLeft source.numbers) vs
+ScalarLeft kind.Int source vs = Standing (IsInt kind.Int) (NumbersLeft source.numbers) vs
+ScalarLeft kind.Long source vs = Standing (IsInt kind.Long) (NumbersLeft source.numbers) vs
+ScalarLeft kind.Date source vs = Standing IsDate (NumbersLeft source.numbers) vs
+ScalarLeft kind.Binary source vs = Standing IsBinary (GroupsLeft source) vs
+ScalarLeft kind.String source vs = TextsLeft source.entries source vs
+
+-- the cells of a column, whose values are spelled so
+abbrev pub ColumnLeft : (ValueSource → List ColumnReader → List Cell → Type 0) → List ColumnReader → List Cell → Type 0
+ColumnLeft found [] cells = ⊥
+ColumnLeft found (own ∷ below) cells = Nullable (MarksLeft own.present) (found own.source below) cells
+
+abbrev mutual
+  -- the values of a column: lists of the child's cells, maps of the cells of the keys and of the values, structs of the
+  -- fields' cells
+  pub ValuesLeft : Shape → ValueSource → List ColumnReader → List Cell → Type 0
+  ValuesLeft (scalar k o) source below vs = ScalarLeft k source vs
+  ValuesLeft (list_of s o) source below vs =
+      Standing IsList (Grouped (NumbersLeft source.numbers) (Within source.room (ColumnLeft (ValuesLeft s) below))) vs
+  ValuesLeft (map_of k v o) source below vs =
+      Standing IsMap
+      (Grouped (NumbersLeft source.numbers)
+      (Within source.room
+      (Paired (ColumnLeft (ValuesLeft k) (take (width k) below))
+      (ColumnLeft (ValuesLeft v) (drop (width k) below))))) vs
+  ValuesLeft (struct_of fs o) source below vs = Standing IsRecord (FieldsLeft fs below) vs
+
+  pub FieldsLeft : Fields → List ColumnReader → List (List Cell) → Type 0
+  FieldsLeft no_field readers structs = AllByRecursion (λ cells. cells ≡ []) structs
+  FieldsLeft (field name s fs) readers structs =
+      Fielded (ColumnLeft (ValuesLeft s) (take (width s) readers)) (FieldsLeft fs (drop (width s) readers)) structs
+
+-- the cells that a column and the columns below it still spell
+abbrev pub CellsLeft : Shape → List ColumnReader → List Cell → Type 0
+CellsLeft s readers cells = ColumnLeft (ValuesLeft s) readers cells
+
+abbrev pub ListsLeft : Shape → ValueSource → List ColumnReader → List (List Cell) → Type 0
+ListsLeft s source below lists = Grouped (NumbersLeft source.numbers) (Within source.room (CellsLeft s below)) lists
+
+-- of a column's readers, its own first: the column's number, the marks, the values, the lists
+abbrev pub column_of : List ColumnReader → ℕ
+column_of [] = 0
+column_of (own ∷ below) = own.source.column
+
+abbrev pub marks_of : List ColumnReader → Option Bits
+marks_of [] = None
+marks_of (own ∷ below) = own.present
+
+abbrev pub OwnLeft : Shape → List ColumnReader → List Cell → Type 0
+OwnLeft s [] vs = ⊥
+OwnLeft s (own ∷ below) vs = ValuesLeft s own.source below vs
+
+abbrev pub ListsOf : Shape → List ColumnReader → List (List Cell) → Type 0
+ListsOf s [] lists = ⊥
+ListsOf s (own ∷ below) lists = ListsLeft s own.source below lists
+
+-- of a column of maps: the pairs that the columns of its keys and of its values spell, and its maps
+abbrev pub PairsLeft : Shape → Shape → List ColumnReader → List (Cell × Cell) → Type 0
+PairsLeft k v below ps =
+    Paired (CellsLeft k (take (width k) below)) (CellsLeft v (drop (width k) below)) ps
+
+abbrev pub MapsLeft : Shape → Shape → ValueSource → List ColumnReader → List (List (Cell × Cell)) → Type 0
+MapsLeft k v source below maps =
+    Grouped (NumbersLeft source.numbers) (Within source.room (PairsLeft k v below)) maps
+
+abbrev pub MapsOf : Shape → Shape → List ColumnReader → List (List (Cell × Cell)) → Type 0
+MapsOf k v [] maps = ⊥
+MapsOf k v (own ∷ below) maps = MapsLeft k v own.source below maps

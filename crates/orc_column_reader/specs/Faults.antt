@@ -1,0 +1,171 @@
+-- Which fault of a column can be answered, by its kind and encoding, and what it says of the column's streams (ORC
+-- specification, "Column Encodings"). Of what the column needs so many are known: all, or those that come first.
+use Rattle.std.specs.Prelude.{◌≡◌, ◌≢◌, ℕ, suc, ◌+◌, ◌≤◌, ℤ, Bool, true, false, List, [], ◌∷◌, ◌⊎◌}
+use Rattle.orc_types.specs.Cells.{Cell}
+use Rattle.orc_types.specs.Fits.{int_fits, signed_fits}
+use Rattle.orc_types.specs.Shapes.{Shape, scalar, list_of, map_of, struct_of, Fields, no_field, field, width}
+use Rattle.orc_types.specs.declared.kind.Scalar.{Scalar}
+use Rattle.orc_types.specs.declared.kind.Scalar.TheVariants as kind
+use Rattle.orc_rle.specs.declared.fault.RunFault.{RunFault}
+use Rattle.orc_rle.specs.declared.fault.RunFault.TheVariants as run
+use Rattle.orc_rle.specs.declared.sign.Sign.TheVariants.{Signed, Unsigned}
+use Rattle.orc_column_reader.specs.declared.fault.StreamKind.{StreamKind}
+use Rattle.orc_column_reader.specs.declared.fault.StreamKind.TheVariants as stream
+use Rattle.orc_column_reader.specs.declared.fault.StripeFault.{StripeFault}
+use Rattle.orc_column_reader.specs.declared.fault.StripeFault.TheVariants as fault
+use Rattle.orc_column_reader.specs.Needs.{MarksBegin, ValuesNeeded, ElementsNeeded}
+use Rattle.orc_column_reader.specs.RunFaults.{Integers, IntegersFirst, IntegersFail, ByteRunsFail, BoolsFail}
+use Rattle.orc_column_reader.specs.ValueFaults.{NotAll, is_index, names_text, CutsNoText, PassTogether, HasOtherLength}
+use Rattle.orc_column_reader.specs.Stripe.{Streams, version, has_dictionary, IsDictionary, SpellRows, cell_limit, most_cells}
+
+-- the column's stream of this kind has no runs as the column needs them; what stands of the fault of its runs
+abbrev pub RunsFail : StreamKind → ℕ → (RunFault → Type 0) → StripeFault → Type 0
+RunsFail kind column stands f =
+    (cause : RunFault) × (f ≡ fault.Run column kind cause) × (cause ≢ run.OutOfMemory) × stands cause
+
+-- where there is no PRESENT, nothing is null
+abbrev pub MarksFail : List ℕ → Bool → ℕ → ℕ → StripeFault → Type 0
+MarksFail [] all n column f = ⊥
+MarksFail (b ∷ bs) all n column f = RunsFail stream.Present column (BoolsFail all n (b ∷ bs)) f
+
+abbrev pub NumbersFail : StreamKind → Integers → Bool → ℕ → ℕ → StripeFault → Type 0
+NumbersFail kind from all n column f = RunsFail kind column (IntegersFail from all n) f
+
+-- whole numbers and dates are integers with a sign in DATA
+abbrev pub data_of : Streams → Integers
+data_of x = record { version = version x; sign = Signed; bytes = x.stream 1 }
+
+-- indexes are integers without a sign in DATA
+abbrev pub indexes_of : Streams → Integers
+indexes_of x = record { version = version x; sign = Unsigned; bytes = x.stream 1 }
+
+-- lengths are integers without a sign in LENGTH
+abbrev pub lengths_of : Streams → Integers
+lengths_of x = record { version = version x; sign = Unsigned; bytes = x.stream 2 }
+
+-- numbers, and one of them outside of the column's type
+abbrev pub IntsFail : (ℤ → Bool) → (RunFault → Type 0) → (List ℤ → Type 0) → ℕ → StripeFault → Type 0
+IntsFail fits runs first column f =
+    RunsFail stream.Data column runs f ⊎ ((f ≡ fault.OutOfRange column) × NotAll fits first)
+
+-- groups of bytes: their lengths, or a stream that has other bytes than these are together
+abbrev pub GroupsFail : StreamKind → Integers → Bool → ℕ → List ℕ → ℕ → StripeFault → Type 0
+GroupsFail kind lengths all n bytes column f =
+    NumbersFail stream.Length lengths all n column f
+    ⊎ ((f ≡ fault.LengthSum column kind) × HasOtherLength lengths bytes)
+
+-- an entry that an index names isn't UTF-8
+abbrev pub NamesNoText : Streams → Type 0
+NamesNoText x =
+    (entries : List (List ℕ)) × IsDictionary x entries × NotAll (names_text entries) (IntegersFirst (indexes_of x))
+
+-- indexes, and one of them that has no entry, or one that is no text
+abbrev pub WordsFail : Streams → Bool → ℕ → ℕ → StripeFault → Type 0
+WordsFail x all n column f =
+    NumbersFail stream.Data (indexes_of x) all n column f
+    ⊎ (((f ≡ fault.BadIndex column) × NotAll (is_index x.encoding.dictionary_size) (IntegersFirst (indexes_of x)))
+    ⊎ ((f ≡ fault.NotUtf8 column stream.DictionaryData) × NamesNoText x))
+
+-- of a column with a dictionary, and of one without
+abbrev pub TextsFail : Bool → Streams → Bool → ℕ → ℕ → StripeFault → Type 0
+TextsFail true x all n column f = WordsFail x all n column f
+TextsFail false x all n column f =
+    GroupsFail stream.Data (lengths_of x) all n (x.stream 1) column f
+    ⊎ ((f ≡ fault.NotUtf8 column stream.Data) × CutsNoText (IntegersFirst (lengths_of x)) (x.stream 1))
+
+-- whole numbers, in DATA
+abbrev pub SignedFail : (ℤ → Bool) → Streams → Bool → ℕ → ℕ → StripeFault → Type 0
+SignedFail fits x all n column f = IntsFail fits (IntegersFail (data_of x) all n) (IntegersFirst (data_of x)) column f
+
+-- n values; every number of 64 bits is a LONG
+abbrev pub ScalarFails : Scalar → Streams → Bool → ℕ → ℕ → StripeFault → Type 0
+ScalarFails kind.Boolean x all n column f = RunsFail stream.Data column (BoolsFail all n (x.stream 1)) f
+ScalarFails kind.Byte x all n column f = RunsFail stream.Data column (ByteRunsFail all n (x.stream 1)) f
+ScalarFails kind.Short x all n column f = SignedFail (int_fits kind.Short) x all n column f
+ScalarFails kind.Int x all n column f = SignedFail (int_fits kind.Int) x all n column f
+ScalarFails kind.Long x all n column f = NumbersFail stream.Data (data_of x) all n column f
+ScalarFails kind.Date x all n column f = SignedFail (signed_fits 31) x all n column f
+ScalarFails kind.Binary x all n column f = GroupsFail stream.Data (lengths_of x) all n (x.stream 1) column f
+ScalarFails kind.String x all n column f = TextsFail (has_dictionary x) x all n column f
+
+-- lengths of n lists, or of maps, which have more elements or pairs together than a column may have cells
+abbrev pub ListsFail : Streams → Bool → ℕ → ℕ → StripeFault → Type 0
+ListsFail x all n column f =
+    NumbersFail stream.Length (lengths_of x) all n column f
+    ⊎ ((f ≡ fault.TooMany column) × PassTogether (IntegersFirst (lengths_of x)) most_cells)
+
+-- the streams beside PRESENT and the dictionary's, of n values; structs have none
+abbrev pub ValuesFail : Shape → Streams → Bool → ℕ → ℕ → StripeFault → Type 0
+ValuesFail (scalar k o) x all n column f = ScalarFails k x all n column f
+ValuesFail (list_of s o) x all n column f = ListsFail x all n column f
+ValuesFail (map_of k v o) x all n column f = ListsFail x all n column f
+ValuesFail (struct_of fs o) x all n column f = ⊥
+
+-- the dictionary of a column that has one, by its size
+abbrev pub EntriesFail : Bool → Streams → ℕ → StripeFault → Type 0
+EntriesFail true x column f =
+    GroupsFail stream.DictionaryData (lengths_of x) true x.encoding.dictionary_size (x.stream 3) column f
+EntriesFail false x column f = ⊥
+
+abbrev pub ScalarEntriesFail : Scalar → Streams → ℕ → StripeFault → Type 0
+ScalarEntriesFail kind.Boolean x column f = ⊥
+ScalarEntriesFail kind.Byte x column f = ⊥
+ScalarEntriesFail kind.Short x column f = ⊥
+ScalarEntriesFail kind.Int x column f = ⊥
+ScalarEntriesFail kind.Long x column f = ⊥
+ScalarEntriesFail kind.Date x column f = ⊥
+ScalarEntriesFail kind.Binary x column f = ⊥
+ScalarEntriesFail kind.String x column f = EntriesFail (has_dictionary x) x column f
+
+abbrev pub WordsOfFail : Shape → Streams → ℕ → StripeFault → Type 0
+WordsOfFail (scalar k o) x column f = ScalarEntriesFail k x column f
+WordsOfFail (list_of s o) x column f = ⊥
+WordsOfFail (map_of k v o) x column f = ⊥
+WordsOfFail (struct_of fs o) x column f = ⊥
+
+-- a column of so many cells: its PRESENT, its dictionary, the streams of its values, or what is below it
+abbrev pub FaultFrom : (ℕ → Bool → ℕ → StripeFault → Type 0)
+    → Shape → (ℕ → Streams) → ℕ → Bool → ℕ → StripeFault → Type 0
+FaultFrom below s columns c all cells f =
+    MarksFail ((columns c).stream 0) all cells c f
+    ⊎ (WordsOfFail s (columns c) c f
+    ⊎ ((n : ℕ)
+    × ValuesNeeded all cells (MarksBegin ((columns c).stream 0)) n
+    × (ValuesFail s (columns c) all n c f ⊎ below c all n f)))
+
+abbrev mutual
+  -- the columns below one of n values: of its lists' elements, of its maps' keys and values, or of its structs' fields
+  pub FaultBelow : Shape → (ℕ → Streams) → ℕ → Bool → ℕ → StripeFault → Type 0
+  FaultBelow (scalar k o) columns c all n f = ⊥
+  FaultBelow (list_of s o) columns c all n f =
+      (e : ℕ)
+      × ElementsNeeded all n (IntegersFirst (lengths_of (columns c))) e
+      × FaultFrom (FaultBelow s columns) s columns (suc c) all e f
+  FaultBelow (map_of k v o) columns c all n f =
+      (e : ℕ)
+      × ElementsNeeded all n (IntegersFirst (lengths_of (columns c))) e
+      × (FaultFrom (FaultBelow k columns) k columns (suc c) all e f
+      ⊎ FaultFrom (FaultBelow v columns) v columns (suc c + width k) all e f)
+  FaultBelow (struct_of fs o) columns c all n f = FaultWithin fs columns (suc c) all n f
+
+  pub FaultWithin : Fields → (ℕ → Streams) → ℕ → Bool → ℕ → StripeFault → Type 0
+  FaultWithin no_field columns c all n f = ⊥
+  FaultWithin (field name s fs) columns c all n f =
+      FaultFrom (FaultBelow s columns) s columns c all n f ⊎ FaultWithin fs columns (c + width s) all n f
+
+-- a column of so many cells, or one below it
+abbrev pub FaultDown : Shape → (ℕ → Streams) → ℕ → Bool → ℕ → StripeFault → Type 0
+FaultDown s columns c all cells f = FaultFrom (FaultBelow s columns) s columns c all cells f
+
+-- A fault of one of the schema's columns: the streams above it say how many cells it has, or how many at least.
+abbrev pub HasFault : Shape → (ℕ → Streams) → ℕ → StripeFault → Type 0
+HasFault schema columns count f = (all : Bool) × FaultDown schema columns 0 all count f
+
+-- more rows than a column may have cells
+abbrev pub TooManyRows : ℕ → StripeFault → Type 0
+TooManyRows count f = (f ≡ fault.TooMany 0) × (cell_limit ≤ count)
+
+-- Why there are no rows: more of them than a column may have cells, or a fault of a column. No rows are spelled then.
+pub record RowsFault (schema : Shape) (columns : ℕ → Streams) (count : ℕ) (f : StripeFault) : Type 0 where
+  pub none : (rows : List Cell) → SpellRows schema columns count rows → ⊥
+  pub reason : TooManyRows count f ⊎ HasFault schema columns count f

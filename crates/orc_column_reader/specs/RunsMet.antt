@@ -1,0 +1,73 @@
+-- Which fault a reader of runs meets that is to give n values more (ORC specification, "Run Length Encoding").
+use Rattle.std.specs.Prelude.{◌≡◌, ℕ, ◌+◌, ◌-◌, ◌<◌, ◌≤◌, List, [], ◌++◌, length, drop, Option, Some, None, ◌⊎◌}
+use Rattle.orc_bits.specs.Packed.{packed_len}
+use Rattle.orc_rle.specs.ByteRun.{IsByteRun, NoByteRun}
+use Rattle.orc_rle.specs.Stream.{IsStream, at_place}
+use Rattle.orc_rle.specs.declared.fault.RunFault.{RunFault}
+use Rattle.orc_rle.specs.declared.fault.RunFault.TheVariants as run
+use Rattle.orc_column_reader.specs.declared.bits.Bits.{Bits}
+use Rattle.orc_column_reader.specs.declared.bytes.RunLengthBytes.{RunLengthBytes}
+use Rattle.orc_column_reader.specs.declared.numbers.Numbers.{Numbers}
+use Rattle.orc_column_reader.specs.Numbers.{is_run}
+use Rattle.orc_column_reader.specs.RunFaults.{no_run}
+
+-- nothing comes, and there are fewer than n
+abbrev pub EndsThere : List ℕ → ℕ → ℕ → ℕ → RunFault → Type 0
+EndsThere rest count n total f = (rest ≡ []) × (count < n) × (f ≡ run.TooFew total)
+
+-- bytes come that have no run in front
+abbrev pub BreaksThere : (List ℕ → RunFault → Type 0) → List ℕ → ℕ → RunFault → Type 0
+BreaksThere fails rest place f = (cause : RunFault) × (rest ≡ [] → ⊥) × fails rest cause × (f ≡ at_place cause place)
+
+-- a run comes that passes n
+abbrev pub PassesThere : {A : Type 0} → (List ℕ → List A → Type 0) → List ℕ → ℕ → ℕ → ℕ → RunFault → Type 0
+PassesThere {A = A} is_run rest count n place f =
+    (text : List ℕ) × (more : List ℕ) × (past : List A)
+    × is_run text past
+    × (rest ≡ text ++ more)
+    × (n < count + length past)
+    × (f ≡ run.TooMany place)
+
+abbrev pub StopsThere : {A : Type 0} → (List ℕ → List A → Type 0) → (List ℕ → RunFault → Type 0)
+    → List ℕ → ℕ → ℕ → ℕ → ℕ → RunFault → Type 0
+StopsThere is_run fails rest count n place total f =
+    EndsThere rest count n total f ⊎ (BreaksThere fails rest place f ⊎ PassesThere is_run rest count n place f)
+
+-- in the bytes from the place on, behind values that are pending and some runs
+pub record StopsLater {A : Type 0} (is_run : List ℕ → List A → Type 0) (fails : List ℕ → RunFault → Type 0)
+    (pending : List A) (bytes : List ℕ) (at total n : ℕ) (f : RunFault) : Type 0 where
+  pub front : List ℕ
+  pub rest : List ℕ
+  pub values : List A
+  pub parts : bytes ≡ front ++ rest
+  pub stream : IsStream is_run front values
+  pub few : length pending + length values ≤ n
+  pub reason : StopsThere is_run fails rest (length pending + length values) n (at + length front) total f
+
+-- in the run that was read last, which begins at the start
+abbrev pub PassesNow : {A : Type 0} → List A → ℕ → ℕ → RunFault → Type 0
+PassesNow pending start n f = (n < length pending) × (f ≡ run.TooMany start)
+
+abbrev pub RunsMeet : {A : Type 0} → (List ℕ → List A → Type 0) → (List ℕ → RunFault → Type 0)
+    → List A → List ℕ → ℕ → ℕ → ℕ → ℕ → RunFault → Type 0
+RunsMeet is_run fails pending bytes start at total n f =
+    StopsLater is_run fails pending bytes at total n f ⊎ PassesNow pending start n f
+
+abbrev pub NumbersMeet : Numbers → ℕ → RunFault → Type 0
+NumbersMeet r n f =
+    RunsMeet (is_run r.version r.sign) (no_run r.version r.sign) (drop r.used r.run.values)
+    (drop r.at r.bytes.now) r.start r.at (length r.bytes.now) n f
+
+abbrev pub BytesMeet : RunLengthBytes → ℕ → RunFault → Type 0
+BytesMeet r n f =
+    RunsMeet IsByteRun NoByteRun (drop r.used r.run.values) (drop r.at r.bytes.now)
+    r.start r.at (length r.bytes.now) n f
+
+-- booleans beyond those of the byte that is held; a byte whose digits are all held is of the last run
+abbrev pub BitsMeet : Bits → ℕ → RunFault → Type 0
+BitsMeet r n f = BytesMeet r.bytes (packed_len 1 (n - r.left)) f ⊎ ((8 ≤ r.left) × (f ≡ run.TooMany r.bytes.start))
+
+-- without PRESENT nothing is missing
+abbrev pub MarksMeet : Option Bits → ℕ → RunFault → Type 0
+MarksMeet None n f = ⊥
+MarksMeet (Some bits) n f = BitsMeet bits n f

@@ -1,0 +1,175 @@
+-- A reader at the start of its streams.
+use Rattle.std.specs.Prelude.{◌≡◌, ℕ, suc, ◌+◌, Bool, true, false, Option, Some, None, List, [], ◌∷◌, ◌++◌, length, map, take, drop}
+use Rattle.std.specs.declared.vec.Vec.{Vec}
+use Rattle.std.specs.declared.alloc.Global.{Global}
+use Rattle.orc_types.specs.Shapes.{Shape, scalar, list_of, map_of, struct_of, Fields, no_field, field, width, widths}
+use Rattle.orc_types.specs.declared.kind.Scalar.{Scalar}
+use Rattle.orc_types.specs.declared.kind.Scalar.TheVariants as kind
+use Rattle.orc_rle.specs.declared.sign.Sign.{Sign}
+use Rattle.orc_rle.specs.declared.sign.Sign.TheVariants.{Signed, Unsigned}
+use Rattle.orc_rle.specs.declared.sign.Rle.{Rle}
+use Rattle.orc_column_reader.specs.declared.bits.Bits.{Bits}
+use Rattle.orc_column_reader.specs.declared.bytes.RunLengthBytes.{RunLengthBytes}
+use Rattle.orc_column_reader.specs.declared.numbers.Numbers.{Numbers}
+use Rattle.orc_column_reader.specs.declared.column.Entry.{Entry}
+use Rattle.orc_column_reader.specs.declared.column.ValueSource.{ValueSource}
+use Rattle.orc_column_reader.specs.declared.column.ColumnReader.{ColumnReader}
+use Rattle.orc_column_reader.specs.declared.starting.ColumnStreams.{ColumnStreams}
+use Rattle.orc_wire.specs.declared.stripe_footer.StripeFooter.{StripeFooter}
+use Rattle.orc_column_reader.specs.Columns.{entry_bytes}
+use Rattle.orc_column_reader.specs.Stripe.{Streams, version, has_dictionary, IsDictionary, most_cells, columns_of, columns_from}
+
+pub record NumbersStart (v : Rle) (sign : Sign) (bytes : List ℕ) (r : Numbers) : Type 0 where
+  pub version_is : r.version ≡ v
+  pub sign_is : r.sign ≡ sign
+  pub bytes_are : r.bytes.now ≡ bytes
+  pub at_start : r.at ≡ 0
+  pub no_run : r.run.values ≡ []
+  pub unused : r.used ≡ 0
+
+pub record BytesStart (bytes : List ℕ) (r : RunLengthBytes) : Type 0 where
+  pub bytes_are : r.bytes.now ≡ bytes
+  pub at_start : r.at ≡ 0
+  pub no_run : r.run.values ≡ []
+  pub unused : r.used ≡ 0
+
+pub record BitsStart (bytes : List ℕ) (r : Bits) : Type 0 where
+  pub runs : BytesStart bytes r.bytes
+  pub none_left : r.left ≡ 0
+
+abbrev pub MarksStart : List ℕ → Option Bits → Type 0
+MarksStart [] None = Unit {0}
+MarksStart [] (Some bits) = ⊥
+MarksStart (b ∷ bs) None = ⊥
+MarksStart (b ∷ bs) (Some bits) = BitsStart (b ∷ bs) bits
+
+abbrev pub GroupsStart : Streams → ValueSource → Type 0
+GroupsStart x r = NumbersStart (version x) Unsigned (x.stream 2) r.numbers × (r.octets.rest.now ≡ x.stream 1)
+
+abbrev pub TextsStart : Bool → Streams → Option (Vec Entry Global) → ValueSource → Type 0
+TextsStart true x (Some entries) r =
+    IsDictionary x (map entry_bytes entries.items) × NumbersStart (version x) Unsigned (x.stream 1) r.numbers
+TextsStart true x None r = ⊥
+TextsStart false x (Some entries) r = ⊥
+TextsStart false x None r = GroupsStart x r
+
+abbrev pub ScalarStart : Scalar → Streams → ValueSource → Type 0
+ScalarStart kind.Boolean x r = BitsStart (x.stream 1) r.bits
+ScalarStart kind.Byte x r = BytesStart (x.stream 1) r.bytes
+ScalarStart kind.Short x r = NumbersStart (version x) Signed (x.stream 1) r.numbers
+ScalarStart kind.Int x r = NumbersStart (version x) Signed (x.stream 1) r.numbers
+ScalarStart kind.Long x r = NumbersStart (version x) Signed (x.stream 1) r.numbers
+ScalarStart kind.Date x r = NumbersStart (version x) Signed (x.stream 1) r.numbers
+ScalarStart kind.Binary x r = GroupsStart x r
+ScalarStart kind.String x r = TextsStart (has_dictionary x) x r.entries r
+
+-- of a column's own reader, what is beside the marks
+abbrev pub SourceStart : Shape → Streams → ValueSource → Type 0
+SourceStart (scalar k o) x r = ScalarStart k x r
+SourceStart (list_of s o) x r = NumbersStart (version x) Unsigned (x.stream 2) r.numbers × (r.room ≡ most_cells)
+SourceStart (map_of k v o) x r = NumbersStart (version x) Unsigned (x.stream 2) r.numbers × (r.room ≡ most_cells)
+SourceStart (struct_of fs o) x r = Unit {0}
+
+-- a column's own reader
+abbrev pub OwnStart : Shape → Streams → ColumnReader → Type 0
+OwnStart s x r = MarksStart (x.stream 0) r.present × SourceStart s x r.source
+
+abbrev mutual
+  -- the readers of a column and of those below it
+  pub TreeStart : Shape → (ℕ → Streams) → List ColumnReader → Type 0
+  TreeStart s columns [] = ⊥
+  TreeStart (scalar k o) columns (r ∷ rs) = OwnStart (scalar k o) (columns 0) r
+  TreeStart (list_of s o) columns (r ∷ rs) =
+      OwnStart (list_of s o) (columns 0) r × TreeStart s (λ c. columns (suc c)) rs
+  TreeStart (map_of k v o) columns (r ∷ rs) =
+      OwnStart (map_of k v o) (columns 0) r
+      × TreeStart k (λ c. columns (suc c)) (take (width k) rs)
+      × TreeStart v (λ c. columns (suc (width k + c))) (drop (width k) rs)
+  TreeStart (struct_of fs o) columns (r ∷ rs) =
+      OwnStart (struct_of fs o) (columns 0) r × FieldsStart fs (λ c. columns (suc c)) rs
+
+  pub FieldsStart : Fields → (ℕ → Streams) → List ColumnReader → Type 0
+  FieldsStart no_field columns rs = Unit {0}
+  FieldsStart (field name s fs) columns rs =
+      TreeStart s columns (take (width s) rs) × FieldsStart fs (λ c. columns (width s + c)) (drop (width s) rs)
+
+abbrev pub LacksEntries : Bool → Streams → Type 0
+LacksEntries true x = (entries : List (List ℕ)) → IsDictionary x entries → ⊥
+LacksEntries false x = ⊥
+
+abbrev pub ScalarLacks : Scalar → Streams → Type 0
+ScalarLacks kind.Boolean x = ⊥
+ScalarLacks kind.Byte x = ⊥
+ScalarLacks kind.Short x = ⊥
+ScalarLacks kind.Int x = ⊥
+ScalarLacks kind.Long x = ⊥
+ScalarLacks kind.Date x = ⊥
+ScalarLacks kind.Binary x = ⊥
+ScalarLacks kind.String x = LacksEntries (has_dictionary x) x
+
+-- the column has a dictionary, by its encoding, and its streams spell none
+abbrev pub HasNoDictionary : Shape → Streams → Type 0
+HasNoDictionary (scalar k o) x = ScalarLacks k x
+HasNoDictionary (list_of s o) x = ⊥
+HasNoDictionary (map_of k v o) x = ⊥
+HasNoDictionary (struct_of fs o) x = ⊥
+
+-- what a column's cells are read from
+pub record AreStreams (x : Streams) (r : ColumnStreams) : Type 0 where
+  pub version_is : r.version ≡ version x
+  pub dictionary_is : r.has_dictionary ≡ has_dictionary x
+  pub size_is : r.dictionary_size ≡ x.encoding.dictionary_size
+  pub present_is : r.present.now ≡ x.stream 0
+  pub data_is : r.data.now ≡ x.stream 1
+  pub lengths_are : r.lengths.now ≡ x.stream 2
+  pub words_are : r.words.now ≡ x.stream 3
+
+-- a source from the start of DATA, whatever is read from it
+pub record DataStart (x : Streams) (r : ValueSource) : Type 0 where
+  pub numbers : NumbersStart (version x) Signed (x.stream 1) r.numbers
+  pub bytes : BytesStart (x.stream 1) r.bytes
+  pub bits : BitsStart (x.stream 1) r.bits
+
+-- a column's own reader, which has the column's number
+abbrev pub IsOf : Shape → (ℕ → Streams) → ℕ → ColumnReader → Type 0
+IsOf s columns n own = OwnStart s (columns n) own × (own.source.column ≡ n)
+
+abbrev pub AreFrom : (ℕ → List ColumnReader → Type 0) → Shape → (ℕ → Streams) → ℕ → List ColumnReader → Type 0
+AreFrom found s columns n [] = ⊥
+AreFrom found s columns n (own ∷ below) = IsOf s columns n own × found n below
+
+abbrev mutual
+  pub AreBelow : Shape → (ℕ → Streams) → ℕ → List ColumnReader → Type 0
+  AreBelow (scalar k o) columns n below = Unit {0}
+  AreBelow (list_of s o) columns n below = AreFrom (AreBelow s columns) s columns (suc n) below
+  AreBelow (map_of k v o) columns n below =
+      AreFrom (AreBelow k columns) k columns (suc n) (take (width k) below)
+      × AreFrom (AreBelow v columns) v columns (suc n + width k) (drop (width k) below)
+  AreBelow (struct_of fs o) columns n below = AreFields fs columns (suc n) below
+
+  pub AreFields : Fields → (ℕ → Streams) → ℕ → List ColumnReader → Type 0
+  AreFields no_field columns n readers = Unit {0}
+  AreFields (field name s fs) columns n readers =
+      AreFrom (AreBelow s columns) s columns n (take (width s) readers)
+      × AreFields fs columns (n + width s) (drop (width s) readers)
+
+-- the readers of a column and of those below it, by the columns' numbers
+abbrev pub AreOf : Shape → (ℕ → Streams) → ℕ → List ColumnReader → Type 0
+AreOf s columns n readers = AreFrom (AreBelow s columns) s columns n readers
+
+-- the readers of a column and of those below it stand behind the old ones;
+-- the column's number is the number of the old ones
+pub record Puts (footer : StripeFooter) (bytes : List ℕ) (s : Shape) (old new : List ColumnReader) : Type 0 where
+  pub more : List ColumnReader
+  pub parts : new ≡ old ++ more
+  pub counted : length more ≡ width s
+  pub start : TreeStart s (columns_from footer bytes (length old)) more
+  pub origins : AreOf s (columns_of footer bytes) (length old) more
+
+pub record PutsFields (footer : StripeFooter) (bytes : List ℕ) (fs : Fields)
+    (old new : List ColumnReader) : Type 0 where
+  pub more : List ColumnReader
+  pub parts : new ≡ old ++ more
+  pub counted : length more ≡ widths fs
+  pub start : FieldsStart fs (columns_from footer bytes (length old)) more
+  pub origins : AreFields fs (columns_of footer bytes) (length old) more

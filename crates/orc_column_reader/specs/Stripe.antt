@@ -1,0 +1,167 @@
+-- Bytes that are a stripe of rows (ORC specification, "Stripes", "Column Encodings").
+use Rattle.std.specs.Prelude.{◌≡◌, ℕ, zero, suc, ◌+◌, ◌-◌, ◌<◌, ◌^◌, ◌||◌, ◌==◌, nat_lt, if◌then◌else◌, Bool, true, false, None, List, [], ◌∷◌, length, replicate, map, drop}
+use Rattle.std.specs.List.{AllByRecursion}
+use Rattle.orc_types.specs.Cells.{Cell, is_value, parts, pairs_in, values}
+use Rattle.orc_types.specs.Shapes.{Shape, scalar, list_of, map_of, struct_of, Fields, no_field, field, width, shape_at}
+use Rattle.orc_types.specs.Types.{types}
+use Rattle.orc_types.specs.Fits.{RowsFit}
+use Rattle.orc_types.specs.Columns.{cells}
+use Rattle.orc_types.specs.declared.kind.Scalar.{Scalar}
+use Rattle.orc_types.specs.declared.kind.Scalar.TheVariants as kind
+use Rattle.orc_rle.specs.declared.sign.Sign.TheVariants.{Signed, Unsigned}
+use Rattle.orc_wire.specs.declared.encoding.Encoding.{Encoding}
+use Rattle.orc_wire.specs.declared.stripe_info.StripeInfo.{StripeInfo}
+use Rattle.orc_wire.specs.declared.stripe_footer.StripeFooter.{StripeFooter}
+use Rattle.orc_wire.specs.Messages.{stripe_footer}
+use Rattle.orc_wire.specs.Spells.{Spells}
+use Rattle.orc_rle.specs.declared.sign.Rle.{Rle}
+use Rattle.orc_rle.specs.declared.sign.Rle.TheVariants.{One, Two}
+use Rattle.orc_column_reader.specs.Spellings.{Nullable, Standing, size, Grouped, Within, Paired, Fielded}
+use Rattle.orc_column_reader.specs.Numbers.{AreNumbers}
+use Rattle.orc_column_reader.specs.Bytes.{AreBytes}
+use Rattle.orc_rle.specs.BitStream.{IsBitStream}
+use Rattle.orc_column_reader.specs.Columns.{IsBool, IsByte, IsInt, IsDate, IsText, IsBinary, IsWord, IsList, IsMap, IsRecord}
+use Rattle.orc_column_reader.specs.Directory.{slice, is_directory, first_wrong}
+
+-- what a column's cells are read from: its encoding, and the bytes of its stream of each kind
+pub record Streams : Type 0 where
+  pub encoding : Encoding
+  pub stream : ℕ → List ℕ
+
+-- the version-2 kinds of encoding have integers of version 2
+abbrev pub version_at : ℕ → Rle
+version_at encoding = if nat_lt encoding 2 then One else Two
+
+abbrev pub version : Streams → Rle
+version s = version_at s.encoding.kind
+
+-- DICTIONARY and DICTIONARY_V2
+abbrev pub uses_dictionary : ℕ → Bool
+uses_dictionary encoding = (encoding == 1) || (encoding == 3)
+
+abbrev pub has_dictionary : Streams → Bool
+has_dictionary s = uses_dictionary s.encoding.kind
+
+-- PRESENT; where it is empty, nothing is null
+abbrev pub Marks : List ℕ → List Bool → Type 0
+Marks [] marks = marks ≡ replicate (length marks) true
+Marks (b ∷ bs) marks = IsBitStream (b ∷ bs) marks
+
+abbrev pub Is : List ℕ → List ℕ → Type 0
+Is bytes all = all ≡ bytes
+
+-- LENGTH has a length for each entry, and DICTIONARY_DATA their bytes
+pub record IsDictionary (s : Streams) (entries : List (List ℕ)) : Type 0 where
+  pub counted : length entries ≡ s.encoding.dictionary_size
+  pub spelled : Grouped (AreNumbers (version s) Unsigned (s.stream 2)) (Is (s.stream 3)) entries
+
+abbrev pub SpellsTexts : Streams → Bool → List Cell → Type 0
+SpellsTexts s true vs =
+    (entries : List (List ℕ))
+    × IsDictionary s entries
+    × Standing (IsWord entries) (AreNumbers (version s) Unsigned (s.stream 1)) vs
+SpellsTexts s false vs = Standing IsText (Grouped (AreNumbers (version s) Unsigned (s.stream 2)) (Is (s.stream 1))) vs
+
+abbrev pub SpellsInts : Scalar → Streams → List Cell → Type 0
+SpellsInts k s vs = Standing (IsInt k) (AreNumbers (version s) Signed (s.stream 1)) vs
+
+-- DATA and the streams beside it spell the values of a column of this kind
+abbrev pub SpellsScalar : Scalar → Streams → List Cell → Type 0
+SpellsScalar kind.Boolean s vs = Standing IsBool (IsBitStream (s.stream 1)) vs
+SpellsScalar kind.Byte s vs = Standing IsByte (AreBytes (s.stream 1)) vs
+SpellsScalar kind.Short s vs = SpellsInts kind.Short s vs
+SpellsScalar kind.Int s vs = SpellsInts kind.Int s vs
+SpellsScalar kind.Long s vs = SpellsInts kind.Long s vs
+SpellsScalar kind.Date s vs = Standing IsDate (AreNumbers (version s) Signed (s.stream 1)) vs
+SpellsScalar kind.Binary s vs =
+    Standing IsBinary (Grouped (AreNumbers (version s) Unsigned (s.stream 2)) (Is (s.stream 1))) vs
+SpellsScalar kind.String s vs = SpellsTexts s (has_dictionary s) vs
+
+-- the streams beside PRESENT spell the values of a column: of lists their lengths, of maps how many pairs they have,
+-- of structs nothing
+abbrev pub SpellsValues : Shape → Streams → List Cell → Type 0
+SpellsValues (scalar k o) s vs = SpellsScalar k s vs
+SpellsValues (list_of e o) s vs = AreNumbers (version s) Unsigned (s.stream 2) (map (λ v. size (parts v)) vs)
+SpellsValues (map_of k v o) s vs = AreNumbers (version s) Unsigned (s.stream 2) (map (λ m. size (pairs_in m)) vs)
+SpellsValues (struct_of fs o) s vs = Unit {0}
+
+-- a column of a stripe has fewer cells than this
+abbrev pub cell_limit : ℕ
+cell_limit = 2 ^ 31
+
+-- the most that it may have
+abbrev pub most_cells : ℕ
+most_cells = cell_limit - 1
+
+-- the streams of a column spell its cells
+pub record IsColumn (shape : Shape) (s : Streams) (column : List Cell) : Type 0 where
+  pub few : length column < cell_limit
+  pub marks : Marks (s.stream 0) (map is_value column)
+  pub spelled : SpellsValues shape s (values column)
+
+-- The columns' streams spell so many rows of the schema.
+pub record SpellRows (schema : Shape) (columns : ℕ → Streams) (count : ℕ) (rows : List Cell) : Type 0 where
+  pub counted : length rows ≡ count
+  pub fit : RowsFit schema rows
+  pub column : (c : ℕ) → c < width schema → IsColumn (shape_at schema c) (columns c) (cells schema c rows)
+
+-- ---- the same by going down the schema, as a reader does
+
+abbrev pub SpellsColumn : ((ℕ → Streams) → List Cell → Type 0) → (ℕ → Streams) → List Cell → Type 0
+SpellsColumn found columns cells = Nullable (Marks ((columns 0).stream 0)) (found columns) cells
+
+abbrev mutual
+  -- a column's values, with all below it: lists of the child's cells, maps of the cells of the keys and of
+  -- the values, structs of the fields' cells
+  pub SpellsTree : Shape → (ℕ → Streams) → List Cell → Type 0
+  SpellsTree (scalar k o) columns vs = SpellsScalar k (columns 0) vs
+  SpellsTree (list_of s o) columns vs =
+      Standing IsList
+      (Grouped (AreNumbers (version (columns 0)) Unsigned ((columns 0).stream 2))
+      (Within most_cells (SpellsColumn (SpellsTree s) (λ c. columns (suc c))))) vs
+  SpellsTree (map_of k v o) columns vs =
+      Standing IsMap
+      (Grouped (AreNumbers (version (columns 0)) Unsigned ((columns 0).stream 2))
+      (Within most_cells
+      (Paired (SpellsColumn (SpellsTree k) (λ c. columns (suc c)))
+      (SpellsColumn (SpellsTree v) (λ c. columns (suc (width k + c))))))) vs
+  SpellsTree (struct_of fs o) columns vs = Standing IsRecord (SpellsFields fs (λ c. columns (suc c))) vs
+
+  pub SpellsFields : Fields → (ℕ → Streams) → List (List Cell) → Type 0
+  SpellsFields no_field columns structs = AllByRecursion (λ cells. cells ≡ []) structs
+  SpellsFields (field name s fs) columns structs =
+      Fielded (SpellsColumn (SpellsTree s) columns) (SpellsFields fs (λ c. columns (width s + c))) structs
+
+-- a column's cells, with all below it
+abbrev pub SpellsCells : Shape → (ℕ → Streams) → List Cell → Type 0
+SpellsCells s columns cells = SpellsColumn (SpellsTree s) columns cells
+
+abbrev pub no_encoding : Encoding
+no_encoding = record { kind = 0; dictionary_size = 0 }
+
+abbrev pub encoding_at : List Encoding → ℕ → Encoding
+encoding_at [] c = no_encoding
+encoding_at (e ∷ es) zero = e
+encoding_at (e ∷ es) (suc c) = encoding_at es c
+
+-- each column's encoding, and its streams by the directory
+abbrev pub columns_of : StripeFooter → List ℕ → ℕ → Streams
+columns_of footer bytes c =
+    record { encoding = encoding_at footer.columns c; stream = λ kind. slice c kind footer.streams bytes }
+
+-- the columns from one on
+abbrev pub columns_from : StripeFooter → List ℕ → ℕ → ℕ → Streams
+columns_from footer bytes first c = columns_of footer bytes (first + c)
+
+-- The bytes are a stripe with this footer: its directory and its encodings are those that a reader accepts.
+pub record HasFooter (schema : Shape) (info : StripeInfo) (bytes : List ℕ) (footer : StripeFooter) : Type 0 where
+  pub whole : length bytes ≡ info.index_length + info.data_length + info.footer_length
+  pub read : Spells stripe_footer 0 0 (drop (info.index_length + info.data_length) bytes) footer
+  pub directory : is_directory (width schema) (info.index_length + info.data_length) footer.streams ≡ true
+  pub encodings : first_wrong 0 (types schema 0) footer.columns ≡ None
+
+-- The bytes are a stripe of these rows.
+pub record IsStripe (schema : Shape) (info : StripeInfo) (bytes : List ℕ) (rows : List Cell) : Type 0 where
+  pub footer : StripeFooter
+  pub has_footer : HasFooter schema info bytes footer
+  pub spelled : SpellRows schema (columns_of footer bytes) info.number_of_rows rows

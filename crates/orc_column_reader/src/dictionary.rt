@@ -1,0 +1,112 @@
+//! Texts by a dictionary: its entries, and their indexes in DATA.
+
+ghost use Rattle.std.specs.Prelude.{◌≡◌, ◌≢◌, ◌∷◌, ◌⊎◌, [], ℕ, suc, Bool, true, false, List, length, map, IfOk, IfErr, OnOk, OnErr};
+ghost use Rattle.orc_types.specs.Cells.{Cell};
+ghost use Rattle.orc_types.specs.Own.{own_cell, IsValueOf};
+ghost use Rattle.orc_types.specs.declared.kind.Scalar.TheVariants as kinds;
+ghost use Rattle.orc_column_reader.specs.Fronts.{Leaves, Lacks};
+ghost use Rattle.orc_column_reader.specs.Numbers.{AreNumbers, NumbersLeft};
+ghost use Rattle.orc_column_reader.specs.Spellings.{Standing, Grouped};
+ghost use Rattle.orc_column_reader.specs.Columns.{IsWord, entry_bytes};
+ghost use Rattle.orc_column_reader.specs.ValueFaults.{is_index, names_text};
+ghost use Rattle.orc_column_reader.specs.Faults.{GroupsFail};
+ghost use Rattle.orc_column_reader.specs.ReaderFaults.{WordsMeet};
+ghost use Rattle.orc_column_reader.specs.Stripe.{Is};
+ghost use Rattle.orc_column_reader.specs.declared.fault.StripeFault.TheVariants as fault;
+ghost use Rattle.orc_column_reader.specs.declared.fault.StreamKind.TheVariants as stream;
+ghost use Rattle.orc_rle.specs.declared.sign.Sign.TheVariants.{Unsigned};
+ghost use Rattle.orc_column_reader.specs.declared.fault.StripeFault.{StripeFault as Fault};
+
+use crate::column::Entry;
+use crate::fault::{StreamKind, StripeFault};
+use crate::groups::{groups_end, groups_left, next_group};
+use crate::numbers::{Numbers, numbers_of};
+use crate::octets::Octets;
+use crate::whole_numbers::next_number;
+use orc_rle::{Rle, Sign};
+use orc_types::Own;
+use std::alloc::Global;
+
+/// The entries of a dictionary.
+pub fn entries_of<'a>(
+    alloc: Global,
+    column: usize,
+    version: Rle,
+    lengths: &'a [u8],
+    bytes: &'a [u8],
+    size: u32,
+) -> Result<Vec<Entry<'a>>, StripeFault>
+    ensures found { IfOk result (λ entries. (length entries.items ≡ size)
+        × Grouped (AreNumbers version Unsigned lengths.now) (Is bytes.now) (map entry_bytes entries.items)) }
+    ensures none { IfErr result (λ cause. cause ≢ fault.OutOfMemory → (entries : List (List ℕ)) → length entries ≡ size
+        → Grouped (AreNumbers version Unsigned lengths.now) (Is bytes.now) entries → ⊥) }
+    ensures fault { IfErr result (λ cause. cause ≢ fault.OutOfMemory
+        → GroupsFail stream.DictionaryData (record { version = version; sign = Unsigned; bytes = lengths.now })
+        true size bytes.now column cause) }
+{
+    let mut numbers = numbers_of(version, Sign::Unsigned, lengths);
+    let mut octets = Octets { rest: bytes };
+    let mut entries = Vec::new(alloc);
+    for taken in 0..size {
+        match next_group(
+            column,
+            StreamKind::DictionaryData,
+            &mut numbers,
+            &mut octets,
+        ) {
+            Ok(bytes) => entries.push(Entry { bytes })?,
+            Err(fault) => return Err(fault),
+        }
+    }
+    if !groups_end(&numbers, &octets) {
+        return Err(groups_left(column, StreamKind::DictionaryData, &numbers, &octets));
+    }
+    Ok(entries)
+}
+
+/// The text at an index of a dictionary.
+fn word<'a>(column: usize, entries: &[Entry<'a>], number: i64) -> Result<Own<'a>, StripeFault>
+    ensures found { IfOk result (λ v. IsWord (map entry_bytes entries.now) number (own_cell v)) }
+    ensures kind { IfOk result (λ v. IsValueOf kinds.String (own_cell v)) }
+    ensures none { OnErr result ((c : Cell) → IsWord (map entry_bytes entries.now) number c → ⊥) }
+    ensures fault { IfErr result (λ cause.
+        ((cause ≡ fault.BadIndex column) × (is_index (length entries.now) number ≡ false))
+        ⊎ ((cause ≡ fault.NotUtf8 column stream.DictionaryData)
+        × (names_text (map entry_bytes entries.now) number ≡ false))) }
+{
+    let Ok(index) = usize::try_from(number) else {
+        return Err(StripeFault::BadIndex(column));
+    };
+    let Some(entry) = entries.get(index) else {
+        return Err(StripeFault::BadIndex(column));
+    };
+    match std::str::from_utf8(entry.bytes) {
+        Ok(text) => Ok(Own::Text(text)),
+        Err(_) => Err(StripeFault::NotUtf8(column, StreamKind::DictionaryData)),
+    }
+}
+
+/// The next text of a column with a dictionary.
+pub(crate) fn next_word<'a>(
+    column: usize,
+    entries: &[Entry<'a>],
+    numbers: &mut Numbers<'a>,
+) -> Result<Own<'a>, StripeFault>
+    ensures found { IfOk result (λ v. Leaves (Standing (IsWord (map entry_bytes entries.now)) (NumbersLeft numbers.old))
+        (Standing (IsWord (map entry_bytes entries.now)) (NumbersLeft numbers.new)) (own_cell v ∷ [])) }
+    ensures kind { IfOk result (λ v. IsValueOf kinds.String (own_cell v)) }
+    ensures none { OnErr result (Lacks (Standing (IsWord (map entry_bytes entries.now)) (NumbersLeft numbers.old)) 1) }
+    ensures before { OnOk result ((all : Bool) (n : ℕ) (f : Fault)
+        → WordsMeet (map entry_bytes entries.now) numbers.new all n column f
+        → WordsMeet (map entry_bytes entries.now) numbers.old all (suc n) column f) }
+    ensures fault { IfErr result (λ cause. cause ≢ fault.OutOfMemory
+        → (n : ℕ) → WordsMeet (map entry_bytes entries.now) numbers.old false (suc n) column cause) }
+{
+    match next_number(column, StreamKind::Data, numbers) {
+        Ok(number) => match word(column, entries, number) {
+            Ok(value) => Ok(value),
+            Err(fault) => Err(fault),
+        },
+        Err(fault) => Err(fault),
+    }
+}

@@ -1,0 +1,140 @@
+//! Texts and bytes one after the other, their sizes in LENGTH.
+
+ghost use Rattle.std.specs.Prelude.{◌≡◌, ◌≢◌, ◌++◌, ◌∷◌, [], ℕ, suc, Bool, true, false, length, pos, IfOk, IfErr, OnOk, OnErr, MatchBool};
+ghost use Rattle.orc_types.specs.Own.{own_cell, IsValueOf};
+ghost use Rattle.orc_types.specs.declared.kind.Scalar.TheVariants as kinds;
+ghost use Rattle.orc_column_reader.specs.Fronts.{Leaves, Precedes, Lacks};
+ghost use Rattle.orc_column_reader.specs.Numbers.{NumbersLeft, NumbersFirst};
+ghost use Rattle.orc_column_reader.specs.Octets.{OctetsLeft};
+ghost use Rattle.orc_column_reader.specs.Spellings.{Standing, Grouped};
+ghost use Rattle.orc_column_reader.specs.Columns.{IsText, IsBinary};
+ghost use Rattle.orc_column_reader.specs.ReaderFaults.{GroupsMeet, TextMeets};
+ghost use Rattle.orc_column_reader.specs.declared.fault.StripeFault.TheVariants as fault;
+ghost use Rattle.orc_column_reader.specs.declared.fault.StreamKind.TheVariants as stream;
+ghost use Rattle.orc_column_reader.specs.declared.fault.StripeFault.{StripeFault as Fault};
+
+use crate::fault::{StreamKind, StripeFault, run_fault};
+use crate::numbers::{Numbers, numbers_end, numbers_left};
+use crate::octets::{Octets, octets_end};
+use crate::whole_numbers::next_number;
+use orc_types::Own;
+
+/// The next group of bytes, its size from LENGTH.
+pub fn next_group<'a>(
+    column: usize,
+    kind: StreamKind,
+    numbers: &mut Numbers<'a>,
+    octets: &mut Octets<'a>,
+) -> Result<&'a [u8], StripeFault>
+    ensures found { IfOk result (λ bytes. Leaves (Grouped (NumbersLeft numbers.old) (OctetsLeft octets.old))
+        (Grouped (NumbersLeft numbers.new) (OctetsLeft octets.new)) (bytes.now ∷ [])) }
+    ensures none { OnErr result (Lacks (Grouped (NumbersLeft numbers.old) (OctetsLeft octets.old)) 1) }
+    ensures first { IfOk result
+        (λ bytes. Precedes (NumbersFirst numbers.old) (NumbersFirst numbers.new) (pos (length bytes.now) ∷ [])) }
+    ensures bytes { IfOk result (λ bytes. octets.old.rest.now ≡ bytes.now ++ octets.new.rest.now) }
+    ensures before { OnOk result ((all : Bool) (n : ℕ) (f : Fault)
+        → GroupsMeet kind numbers.new octets.new all n column f
+        → GroupsMeet kind numbers.old octets.old all (suc n) column f) }
+    ensures fault { IfErr result (λ cause. cause ≢ fault.OutOfMemory
+        → (n : ℕ) → GroupsMeet kind numbers.old octets.old false (suc n) column cause) }
+{
+    match next_number(column, StreamKind::Length, numbers) {
+        Ok(number) => {
+            let Ok(size) = u64::try_from(number) else {
+                return Err(StripeFault::LengthSum(column, kind));
+            };
+            match octets.take(size) {
+                Some(bytes) => Ok(bytes),
+                None => Err(StripeFault::LengthSum(column, kind)),
+            }
+        }
+        Err(fault) => Err(fault),
+    }
+}
+
+/// Whether no group of bytes is left.
+pub fn groups_end(numbers: &Numbers<'_>, octets: &Octets<'_>) -> bool
+    ensures { MatchBool result (Grouped (NumbersLeft numbers.now) (OctetsLeft octets.now) [])
+        (Grouped (NumbersLeft numbers.now) (OctetsLeft octets.now) [] → ⊥) }
+{
+    if !numbers_end(numbers) {
+        return false;
+    }
+    if !octets_end(octets) {
+        return false;
+    }
+    true
+}
+
+/// The fault of groups of bytes that are left over: of their lengths, or of the bytes.
+pub fn groups_left(
+    column: usize,
+    kind: StreamKind,
+    numbers: &Numbers<'_>,
+    octets: &Octets<'_>,
+) -> StripeFault
+    requires more { Grouped (NumbersLeft numbers.now) (OctetsLeft octets.now) [] → ⊥ }
+    ensures { GroupsMeet kind numbers.now octets.now true 0 column result }
+{
+    if numbers_end(numbers) {
+        return StripeFault::LengthSum(column, kind);
+    }
+    run_fault(column, StreamKind::Length, numbers_left(numbers))
+}
+
+/// The next text, its bytes one after the other in DATA.
+pub(crate) fn next_text<'a>(
+    column: usize,
+    numbers: &mut Numbers<'a>,
+    octets: &mut Octets<'a>,
+) -> Result<Own<'a>, StripeFault>
+    ensures found { IfOk result
+        (λ v. Leaves (Standing IsText (Grouped (NumbersLeft numbers.old) (OctetsLeft octets.old)))
+        (Standing IsText (Grouped (NumbersLeft numbers.new) (OctetsLeft octets.new))) (own_cell v ∷ [])) }
+    ensures kind { IfOk result (λ v. IsValueOf kinds.String (own_cell v)) }
+    ensures none { OnErr result
+        (Lacks (Standing IsText (Grouped (NumbersLeft numbers.old) (OctetsLeft octets.old))) 1) }
+    ensures before { OnOk result ((all : Bool) (n : ℕ) (f : Fault) → TextMeets numbers.new octets.new all n column f
+        → TextMeets numbers.old octets.old all (suc n) column f) }
+    ensures fault { IfErr result (λ cause. cause ≢ fault.OutOfMemory
+        → (n : ℕ) → TextMeets numbers.old octets.old false (suc n) column cause) }
+{
+    match next_group(column, StreamKind::Data, numbers, octets) {
+        Ok(bytes) => match std::str::from_utf8(bytes) {
+            Ok(text) => Ok(Own::Text(text)),
+            Err(_) => Err(StripeFault::NotUtf8(column, StreamKind::Data)),
+        },
+        Err(fault) => Err(fault),
+    }
+}
+
+/// Bytes as a value.
+fn value_of<'a>(bytes: &'a [u8]) -> Own<'a>
+    ensures { IsBinary bytes.now (own_cell result) }
+{
+    Own::Bytes(bytes)
+}
+
+/// The next bytes.
+pub(crate) fn next_binary<'a>(
+    column: usize,
+    numbers: &mut Numbers<'a>,
+    octets: &mut Octets<'a>,
+) -> Result<Own<'a>, StripeFault>
+    ensures found { IfOk result
+        (λ v. Leaves (Standing IsBinary (Grouped (NumbersLeft numbers.old) (OctetsLeft octets.old)))
+        (Standing IsBinary (Grouped (NumbersLeft numbers.new) (OctetsLeft octets.new))) (own_cell v ∷ [])) }
+    ensures kind { IfOk result (λ v. IsValueOf kinds.Binary (own_cell v)) }
+    ensures none { OnErr result
+        (Lacks (Standing IsBinary (Grouped (NumbersLeft numbers.old) (OctetsLeft octets.old))) 1) }
+    ensures before { OnOk result ((all : Bool) (n : ℕ) (f : Fault)
+        → GroupsMeet stream.Data numbers.new octets.new all n column f
+        → GroupsMeet stream.Data numbers.old octets.old all (suc n) column f) }
+    ensures fault { IfErr result (λ cause. cause ≢ fault.OutOfMemory
+        → (n : ℕ) → GroupsMeet stream.Data numbers.old octets.old false (suc n) column cause) }
+{
+    match next_group(column, StreamKind::Data, numbers, octets) {
+        Ok(bytes) => Ok(value_of(bytes)),
+        Err(fault) => Err(fault),
+    }
+}

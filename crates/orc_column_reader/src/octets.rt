@@ -1,0 +1,35 @@
+//! Bytes as they are, in no runs.
+
+ghost use Rattle.std.specs.Prelude.{◌≡◌, ◌<◌, [], length, IfSome, IfNone, MatchBool};
+ghost use Rattle.orc_column_reader.specs.Fronts.{Leaves, Lacks};
+ghost use Rattle.orc_column_reader.specs.Octets.{OctetsLeft};
+
+/// What is left of a stream of bytes that aren't run.
+#[derive(Drop)]
+pub struct Octets<'a> {
+    pub rest: &'a [u8],
+}
+
+impl<'a> Octets<'a> {
+    /// The next bytes, so many.
+    pub fn take(&mut self, count: u64) -> Option<&'a [u8]>
+        ensures found { IfSome result (λ bytes. (length bytes.now ≡ count)
+            × Leaves (OctetsLeft self.old) (OctetsLeft self.new) bytes.now) }
+        ensures none { IfNone result (Lacks (OctetsLeft self.old) count) }
+        ensures short { IfNone result (length self.old.rest.now < count) }
+    {
+        if (self.rest.len() as u64) < count {
+            return None;
+        }
+        let (front, rest) = self.rest.split_at(count as usize);
+        self.rest = rest;
+        Some(front)
+    }
+}
+
+/// Whether no byte is left.
+pub fn octets_end(octets: &Octets<'_>) -> bool
+    ensures { MatchBool result (OctetsLeft octets.now []) (OctetsLeft octets.now [] → ⊥) }
+{
+    octets.rest.len() == 0
+}

@@ -1,0 +1,342 @@
+//! Readers of columns at the start of their streams, by a column's kind and encoding, and down the schema's tree.
+
+ghost use Rattle.std.specs.Prelude.{◌≡◌, ◌≢◌, ◌<◌, ◌≤◌, ◌+◌, ℕ, true, false, None, List, length, IfOk, IfErr, OnOk};
+ghost use Rattle.orc_types.specs.Cells.{Cell};
+ghost use Rattle.orc_types.specs.Shapes.{width, widths};
+ghost use Rattle.orc_types.specs.Views.{shape, fields as fields_view};
+ghost use Rattle.orc_column_reader.specs.Faults.{GroupsFail, EntriesFail, ScalarEntriesFail, WordsOfFail, FaultDown, FaultWithin, lengths_of};
+ghost use Rattle.orc_column_reader.specs.Located.{AreLocated};
+ghost use Rattle.orc_column_reader.specs.Starting.{DataStart, GroupsStart, TextsStart, ScalarStart, SourceStart, OwnStart, LacksEntries, ScalarLacks, HasNoDictionary, AreStreams, Puts, PutsFields};
+ghost use Rattle.orc_column_reader.specs.Stripe.{Streams, IsDictionary, encoding_at, columns_of, columns_from, SpellsCells, SpellsFields, most_cells};
+ghost use Rattle.orc_column_reader.specs.Stripe as spec;
+ghost use Rattle.orc_column_reader.specs.declared.fault.StripeFault.TheVariants.{OutOfMemory};
+ghost use Rattle.orc_column_reader.specs.declared.fault.StreamKind.TheVariants.{DictionaryData};
+
+use crate::bits::bits_of;
+use crate::bytes::bytes_of;
+use crate::column::{ColumnReader, MOST_CELLS, ValueSource};
+use crate::dictionary::entries_of;
+use crate::fault::StripeFault;
+use crate::located::Located;
+use crate::marks::marks_of;
+use crate::numbers::numbers_of;
+use crate::octets::Octets;
+use crate::version::version_of;
+use orc_rle::{Rle, Sign};
+use orc_types::{Field, Scalar, Tree};
+use orc_wire::{Encoding, StripeFooter};
+use std::alloc::Global;
+
+/// What a column's cells are read from, by its encoding and the directory.
+#[derive(Clone, Copy)]
+pub struct ColumnStreams<'a> {
+    pub version: Rle,
+    pub has_dictionary: bool,
+    pub dictionary_size: u32,
+    pub present: &'a [u8],
+    pub data: &'a [u8],
+    pub lengths: &'a [u8],
+    pub words: &'a [u8],
+}
+
+/// The encoding of a column.
+fn encoding_of(column: usize, footer: &StripeFooter) -> Encoding
+    requires there { column < length footer.now.columns }
+    ensures { result ≡ encoding_at footer.now.columns column }
+{
+    footer.columns.as_slice()[column]
+}
+
+/// Whether the encoding is one by a dictionary.
+fn uses_dictionary(encoding: u32) -> bool
+    ensures { result ≡ spec.uses_dictionary encoding }
+{
+    encoding == 1 || encoding == 3
+}
+
+/// The streams of a column.
+pub fn streams_of<'a>(
+    column: usize,
+    footer: &StripeFooter,
+    located: &Located<'a>,
+) -> ColumnStreams<'a>
+    requires there { column < length footer.now.columns }
+    requires located { AreLocated (length footer.now.columns) footer.now.streams
+        located.now.bytes.now located.now.slices.items }
+    ensures { AreStreams (columns_of footer.now located.now.bytes.now column) result }
+{
+    let encoding = encoding_of(column, footer);
+    ColumnStreams {
+        version: version_of(encoding.kind),
+        has_dictionary: uses_dictionary(encoding.kind),
+        dictionary_size: encoding.dictionary_size,
+        present: located.stream(column, 0),
+        data: located.stream(column, 1),
+        lengths: located.stream(column, 2),
+        words: located.stream(column, 3),
+    }
+}
+
+/// The source of a column whose values are in DATA.
+fn data_source<'a>(column: usize, streams: &ColumnStreams<'a>) -> ValueSource<'a>
+    ensures start { (x : Streams) → AreStreams x streams.now → DataStart x result }
+    ensures column { result.column ≡ column }
+{
+    ValueSource {
+        column,
+        numbers: numbers_of(streams.version, Sign::Signed, streams.data),
+        bytes: bytes_of(streams.data),
+        bits: bits_of(streams.data),
+        octets: Octets { rest: streams.data },
+        entries: None,
+        room: MOST_CELLS,
+    }
+}
+
+/// The source of a column whose values have sizes in LENGTH.
+fn group_source<'a>(column: usize, streams: &ColumnStreams<'a>) -> ValueSource<'a>
+    ensures groups { (x : Streams) → AreStreams x streams.now → GroupsStart x result }
+    ensures no_entries { result.entries ≡ None }
+    ensures room { result.room ≡ most_cells }
+    ensures column { result.column ≡ column }
+{
+    ValueSource {
+        column,
+        numbers: numbers_of(streams.version, Sign::Unsigned, streams.lengths),
+        bytes: bytes_of(streams.data),
+        bits: bits_of(streams.data),
+        octets: Octets { rest: streams.data },
+        entries: None,
+        room: MOST_CELLS,
+    }
+}
+
+/// The source of a column with a dictionary.
+fn word_source<'a>(
+    alloc: Global,
+    column: usize,
+    streams: &ColumnStreams<'a>,
+) -> Result<ValueSource<'a>, StripeFault>
+    ensures found { IfOk result (λ source. (x : Streams)
+        → AreStreams x streams.now
+        → TextsStart true x source.entries source) }
+    ensures none { IfErr result (λ fault. fault ≢ OutOfMemory
+        → (x : Streams) → AreStreams x streams.now
+        → (entries : List (List ℕ))
+        → IsDictionary x entries → ⊥) }
+    ensures column { IfOk result (λ source. source.column ≡ column) }
+    ensures fault { IfErr result (λ cause. cause ≢ OutOfMemory → (x : Streams) → AreStreams x streams.now
+        → GroupsFail DictionaryData (lengths_of x) true x.encoding.dictionary_size (x.stream 3) column cause) }
+{
+    match entries_of(
+        alloc,
+        column,
+        streams.version,
+        streams.lengths,
+        streams.words,
+        streams.dictionary_size,
+    ) {
+        Ok(entries) => Ok(ValueSource {
+            column,
+            numbers: numbers_of(streams.version, Sign::Unsigned, streams.data),
+            bytes: bytes_of(streams.data),
+            bits: bits_of(streams.data),
+            octets: Octets { rest: streams.data },
+            entries: Some(entries),
+            room: MOST_CELLS,
+        }),
+        Err(fault) => Err(fault),
+    }
+}
+
+/// The source of a column of texts.
+fn text_source<'a>(
+    alloc: Global,
+    column: usize,
+    streams: &ColumnStreams<'a>,
+) -> Result<ValueSource<'a>, StripeFault>
+    ensures found { IfOk result (λ source. (x : Streams)
+        → AreStreams x streams.now
+        → TextsStart streams.now.has_dictionary x source.entries source) }
+    ensures none { IfErr result (λ fault. fault ≢ OutOfMemory
+        → (x : Streams) → AreStreams x streams.now
+        → LacksEntries streams.now.has_dictionary x) }
+    ensures column { IfOk result (λ source. source.column ≡ column) }
+    ensures fault { IfErr result (λ cause. cause ≢ OutOfMemory → (x : Streams) → AreStreams x streams.now
+        → EntriesFail streams.now.has_dictionary x column cause) }
+{
+    if streams.has_dictionary {
+        match word_source(alloc, column, streams) {
+            Ok(source) => Ok(source),
+            Err(fault) => Err(fault),
+        }
+    } else {
+        Ok(group_source(column, streams))
+    }
+}
+
+/// The source of a column of a kind that contains no other.
+fn scalar_source<'a>(
+    alloc: Global,
+    kind: Scalar,
+    column: usize,
+    streams: &ColumnStreams<'a>,
+) -> Result<ValueSource<'a>, StripeFault>
+    ensures found { IfOk result (λ source. (x : Streams) → AreStreams x streams.now → ScalarStart kind x source) }
+    ensures none { IfErr result (λ fault. fault ≢ OutOfMemory
+        → (x : Streams) → AreStreams x streams.now
+        → ScalarLacks kind x) }
+    ensures column { IfOk result (λ source. source.column ≡ column) }
+    ensures fault { IfErr result (λ cause. cause ≢ OutOfMemory
+        → (x : Streams) → AreStreams x streams.now
+        → ScalarEntriesFail kind x column cause) }
+{
+    match kind {
+        Scalar::String => match text_source(alloc, column, streams) {
+            Ok(source) => Ok(source),
+            Err(fault) => Err(fault),
+        },
+        Scalar::Binary => Ok(group_source(column, streams)),
+        Scalar::Boolean => Ok(data_source(column, streams)),
+        Scalar::Byte => Ok(data_source(column, streams)),
+        Scalar::Short => Ok(data_source(column, streams)),
+        Scalar::Int => Ok(data_source(column, streams)),
+        Scalar::Long => Ok(data_source(column, streams)),
+        Scalar::Date => Ok(data_source(column, streams)),
+    }
+}
+
+/// The source of a column by itself.
+fn source_of<'a>(
+    alloc: Global,
+    tree: &Tree,
+    column: usize,
+    streams: &ColumnStreams<'a>,
+) -> Result<ValueSource<'a>, StripeFault>
+    ensures found { IfOk result (λ source. (x : Streams)
+        → AreStreams x streams.now
+        → SourceStart (shape tree.now) x source) }
+    ensures none { IfErr result (λ fault. fault ≢ OutOfMemory
+        → (x : Streams) → AreStreams x streams.now
+        → HasNoDictionary (shape tree.now) x) }
+    ensures column { IfOk result (λ source. source.column ≡ column) }
+    ensures fault { IfErr result (λ cause. cause ≢ OutOfMemory
+        → (x : Streams) → AreStreams x streams.now
+        → WordsOfFail (shape tree.now) x column cause) }
+{
+    match tree {
+        Tree::Scalar(kind, _) => match scalar_source(alloc, *kind, column, streams) {
+            Ok(source) => Ok(source),
+            Err(fault) => Err(fault),
+        },
+        Tree::List(_, _) | Tree::Map(_, _, _) => Ok(group_source(column, streams)),
+        Tree::Struct(_, _) => Ok(data_source(column, streams)),
+    }
+}
+
+/// The reader of a column by itself, from the start of its streams. The entries of a dictionary are read.
+pub fn reader_of<'a>(
+    alloc: Global,
+    tree: &Tree,
+    column: usize,
+    footer: &StripeFooter,
+    located: &Located<'a>,
+) -> Result<ColumnReader<'a>, StripeFault>
+    requires there { column < length footer.now.columns }
+    requires located { AreLocated (length footer.now.columns) footer.now.streams
+        located.now.bytes.now located.now.slices.items }
+    ensures found { IfOk result (OwnStart (shape tree.now) (columns_of footer.now located.now.bytes.now column)) }
+    ensures none { IfErr result (λ fault. fault ≢ OutOfMemory
+        → HasNoDictionary (shape tree.now) (columns_of footer.now located.now.bytes.now column)) }
+    ensures column { IfOk result (λ own. own.source.column ≡ column) }
+    ensures fault { IfErr result (λ cause. cause ≢ OutOfMemory
+        → WordsOfFail (shape tree.now) (columns_of footer.now located.now.bytes.now column) column cause) }
+{
+    let streams = streams_of(column, footer, located);
+    match source_of(alloc, tree, column, &streams) {
+        Ok(source) => Ok(ColumnReader {
+            present: marks_of(streams.present),
+            source,
+        }),
+        Err(fault) => Err(fault),
+    }
+}
+
+/// The readers of a column and of those below it, at the end of those of the columns before.
+#[cycle(starting)]
+pub fn put_tree<'a>(
+    alloc: Global,
+    tree: &Tree,
+    footer: &StripeFooter,
+    located: &Located<'a>,
+    readers: &mut Vec<ColumnReader<'a>>,
+) -> Result<(), StripeFault>
+    requires there { length readers.old.items + width (shape tree.now) ≤ length footer.now.columns }
+    requires located { AreLocated (length footer.now.columns) footer.now.streams
+        located.now.bytes.now located.now.slices.items }
+    ensures found { OnOk result (Puts footer.now located.now.bytes.now
+        (shape tree.now) readers.old.items readers.new.items) }
+    ensures none { IfErr result (λ fault. fault ≢ OutOfMemory → (cells : List Cell)
+        → SpellsCells (shape tree.now) (columns_from footer.now located.now.bytes.now (length readers.old.items)) cells
+        → ⊥) }
+    ensures fault { IfErr result (λ cause. cause ≢ OutOfMemory
+        → (count : ℕ) → FaultDown (shape tree.now) (columns_of footer.now located.now.bytes.now)
+        (length readers.old.items) false count cause) }
+{
+    match reader_of(alloc, tree, readers.len(), footer, located) {
+        Ok(own) => readers.push(own)?,
+        Err(fault) => return Err(fault),
+    }
+    match tree {
+        Tree::Scalar(_, _) => Ok(()),
+        Tree::List(element, _) => match put_tree(alloc, element, footer, located, readers) {
+            Ok(()) => Ok(()),
+            Err(fault) => Err(fault),
+        },
+        Tree::Map(key, value, _) => match put_tree(alloc, key, footer, located, readers) {
+            Ok(()) => match put_tree(alloc, value, footer, located, readers) {
+                Ok(()) => Ok(()),
+                Err(fault) => Err(fault),
+            },
+            Err(fault) => Err(fault),
+        },
+        Tree::Struct(fields, _) => match put_fields(alloc, fields, footer, located, readers) {
+            Ok(()) => Ok(()),
+            Err(fault) => Err(fault),
+        },
+    }
+}
+
+/// The readers of the fields' columns, at the end of those of the columns before.
+#[cycle(starting)]
+fn put_fields<'a>(
+    alloc: Global,
+    fields: &[Field],
+    footer: &StripeFooter,
+    located: &Located<'a>,
+    readers: &mut Vec<ColumnReader<'a>>,
+) -> Result<(), StripeFault>
+    requires there { length readers.old.items + widths (fields_view fields.now) ≤ length footer.now.columns }
+    requires located { AreLocated (length footer.now.columns) footer.now.streams
+        located.now.bytes.now located.now.slices.items }
+    ensures found { OnOk result (PutsFields footer.now located.now.bytes.now
+        (fields_view fields.now) readers.old.items readers.new.items) }
+    ensures none { IfErr result (λ fault. fault ≢ OutOfMemory → (structs : List (List Cell))
+        → SpellsFields (fields_view fields.now)
+        (columns_from footer.now located.now.bytes.now (length readers.old.items)) structs
+        → ⊥) }
+    ensures fault { IfErr result (λ cause. cause ≢ OutOfMemory
+        → (count : ℕ) → FaultWithin (fields_view fields.now) (columns_of footer.now located.now.bytes.now)
+        (length readers.old.items) false count cause) }
+{
+    match fields {
+        [] => Ok(()),
+        [first, others @ ..] => match put_tree(alloc, &first.tree, footer, located, readers) {
+            Ok(()) => match put_fields(alloc, others, footer, located, readers) {
+                Ok(()) => Ok(()),
+                Err(fault) => Err(fault),
+            },
+            Err(fault) => Err(fault),
+        },
+    }
+}

@@ -1,0 +1,148 @@
+//! Whole numbers and dates: integers in DATA, or bytes in DATA where the numbers have 8 bits.
+
+ghost use Rattle.std.specs.Prelude.{◌≡◌, ◌≢◌, ◌∷◌, [], ℕ, suc, Bool, false, IfOk, IfErr, OnOk, OnErr};
+ghost use Rattle.orc_types.specs.Own.{own_cell, IsValueOf};
+ghost use Rattle.orc_types.specs.Fits.{int_fits as fits, signed_fits};
+ghost use Rattle.orc_column_reader.specs.Fronts.{Leaves, Precedes, Lacks};
+ghost use Rattle.orc_column_reader.specs.Numbers.{NumbersLeft, NumbersFirst};
+ghost use Rattle.orc_column_reader.specs.Bytes.{BytesLeft};
+ghost use Rattle.orc_column_reader.specs.Spellings.{Standing};
+ghost use Rattle.orc_column_reader.specs.Columns.{IsByte, signed_byte, IsInt, IsDate};
+ghost use Rattle.orc_column_reader.specs.RunsMet.{NumbersMeet, BytesMeet};
+ghost use Rattle.orc_column_reader.specs.Faults.{RunsFail};
+ghost use Rattle.orc_column_reader.specs.RunFaults.{Always};
+ghost use Rattle.orc_column_reader.specs.ReaderFaults.{IntsMeet};
+ghost use Rattle.orc_column_reader.specs.declared.fault.StripeFault.TheVariants as fault;
+ghost use Rattle.orc_column_reader.specs.declared.fault.StreamKind.TheVariants as stream;
+ghost use Rattle.orc_types.specs.declared.kind.Scalar.TheVariants as kinds;
+ghost use Rattle.orc_rle.specs.declared.fault.RunFault.{RunFault as RunsFault};
+ghost use Rattle.orc_column_reader.specs.declared.fault.StripeFault.{StripeFault as Fault};
+
+use crate::bytes::RunLengthBytes;
+use crate::fault::{StreamKind, StripeFault, run_fault};
+use crate::numbers::Numbers;
+use orc_types::{Own, Scalar, int_fits};
+
+/// The next number of the stream.
+pub fn next_number(
+    column: usize,
+    kind: StreamKind,
+    numbers: &mut Numbers<'_>,
+) -> Result<i64, StripeFault>
+    ensures found { IfOk result (λ n. Leaves (NumbersLeft numbers.old) (NumbersLeft numbers.new) (n ∷ [])) }
+    ensures first { IfOk result (λ n. Precedes (NumbersFirst numbers.old) (NumbersFirst numbers.new) (n ∷ [])) }
+    ensures none { OnErr result (Lacks (NumbersLeft numbers.old) 1) }
+    ensures before { OnOk result ((n : ℕ) (f : RunsFault)
+        → NumbersMeet numbers.new n f
+        → NumbersMeet numbers.old (suc n) f) }
+    ensures fault { IfErr result (λ cause. cause ≢ fault.OutOfMemory
+        → (n : ℕ) → RunsFail kind column (Always false (suc n) (NumbersMeet numbers.old)) cause) }
+{
+    match numbers.next() {
+        Ok(number) => Ok(number),
+        Err(fault) => Err(run_fault(column, kind, fault)),
+    }
+}
+
+/// The next value of a column of numbers.
+pub(crate) fn next_int<'a>(
+    column: usize,
+    kind: Scalar,
+    numbers: &mut Numbers<'a>,
+) -> Result<Own<'a>, StripeFault>
+    ensures found { IfOk result (λ v. Leaves (Standing (IsInt kind) (NumbersLeft numbers.old))
+        (Standing (IsInt kind) (NumbersLeft numbers.new)) (own_cell v ∷ [])) }
+    ensures kind { IfOk result (λ v. IsValueOf kind (own_cell v)) }
+    ensures none { OnErr result (Lacks (Standing (IsInt kind) (NumbersLeft numbers.old)) 1) }
+    ensures before { OnOk result ((all : Bool) (n : ℕ) (f : Fault) → IntsMeet (fits kind) numbers.new all n column f
+        → IntsMeet (fits kind) numbers.old all (suc n) column f) }
+    ensures fault { IfErr result (λ cause. cause ≢ fault.OutOfMemory
+        → (n : ℕ) → IntsMeet (fits kind) numbers.old false (suc n) column cause) }
+{
+    match next_number(column, StreamKind::Data, numbers) {
+        Ok(number) => {
+            if !int_fits(kind, number) {
+                return Err(StripeFault::OutOfRange(column));
+            }
+            Ok(Own::Int(number))
+        }
+        Err(fault) => Err(fault),
+    }
+}
+
+/// The next value of a column of numbers of 64 bits. Each is in range.
+pub(crate) fn next_long<'a>(
+    column: usize,
+    numbers: &mut Numbers<'a>,
+) -> Result<Own<'a>, StripeFault>
+    ensures found { IfOk result (λ v. Leaves (Standing (IsInt kinds.Long) (NumbersLeft numbers.old))
+        (Standing (IsInt kinds.Long) (NumbersLeft numbers.new)) (own_cell v ∷ [])) }
+    ensures kind { IfOk result (λ v. IsValueOf kinds.Long (own_cell v)) }
+    ensures none { OnErr result (Lacks (Standing (IsInt kinds.Long) (NumbersLeft numbers.old)) 1) }
+    ensures before { OnOk result ((all : Bool) (n : ℕ) (f : Fault)
+        → RunsFail stream.Data column (Always all n (NumbersMeet numbers.new)) f
+        → RunsFail stream.Data column (Always all (suc n) (NumbersMeet numbers.old)) f) }
+    ensures fault { IfErr result (λ cause. cause ≢ fault.OutOfMemory
+        → (n : ℕ) → RunsFail stream.Data column (Always false (suc n) (NumbersMeet numbers.old)) cause) }
+{
+    match next_number(column, StreamKind::Data, numbers) {
+        Ok(number) => Ok(Own::Int(number)),
+        Err(fault) => Err(fault),
+    }
+}
+
+/// The next value of a column of dates.
+pub(crate) fn next_date<'a>(
+    column: usize,
+    numbers: &mut Numbers<'a>,
+) -> Result<Own<'a>, StripeFault>
+    ensures found { IfOk result (λ v. Leaves (Standing IsDate (NumbersLeft numbers.old))
+        (Standing IsDate (NumbersLeft numbers.new)) (own_cell v ∷ [])) }
+    ensures kind { IfOk result (λ v. IsValueOf kinds.Date (own_cell v)) }
+    ensures none { OnErr result (Lacks (Standing IsDate (NumbersLeft numbers.old)) 1) }
+    ensures before { OnOk result ((all : Bool) (n : ℕ) (f : Fault)
+        → IntsMeet (signed_fits 31) numbers.new all n column f
+        → IntsMeet (signed_fits 31) numbers.old all (suc n) column f) }
+    ensures fault { IfErr result (λ cause. cause ≢ fault.OutOfMemory
+        → (n : ℕ) → IntsMeet (signed_fits 31) numbers.old false (suc n) column cause) }
+{
+    match next_number(column, StreamKind::Data, numbers) {
+        Ok(number) => match i32::try_from(number) {
+            Ok(day) => Ok(Own::Date(day)),
+            Err(_) => Err(StripeFault::OutOfRange(column)),
+        },
+        Err(fault) => Err(fault),
+    }
+}
+
+/// The number that a byte stands for.
+fn number_of(byte: u8) -> i64
+    ensures { result ≡ signed_byte byte }
+{
+    if byte < 128 {
+        i64::from(byte)
+    } else {
+        i64::from(byte) - 256
+    }
+}
+
+/// The next value of a column of numbers of 8 bits.
+pub(crate) fn next_byte<'a>(
+    column: usize,
+    bytes: &mut RunLengthBytes<'a>,
+) -> Result<Own<'a>, StripeFault>
+    ensures found { IfOk result (λ v. Leaves (Standing IsByte (BytesLeft bytes.old))
+        (Standing IsByte (BytesLeft bytes.new)) (own_cell v ∷ [])) }
+    ensures kind { IfOk result (λ v. IsValueOf kinds.Byte (own_cell v)) }
+    ensures none { OnErr result (Lacks (Standing IsByte (BytesLeft bytes.old)) 1) }
+    ensures before { OnOk result ((all : Bool) (n : ℕ) (f : Fault)
+        → RunsFail stream.Data column (Always all n (BytesMeet bytes.new)) f
+        → RunsFail stream.Data column (Always all (suc n) (BytesMeet bytes.old)) f) }
+    ensures fault { IfErr result (λ cause. cause ≢ fault.OutOfMemory
+        → (n : ℕ) → RunsFail stream.Data column (Always false (suc n) (BytesMeet bytes.old)) cause) }
+{
+    match bytes.next() {
+        Ok(byte) => Ok(Own::Int(number_of(byte))),
+        Err(fault) => Err(run_fault(column, StreamKind::Data, fault)),
+    }
+}

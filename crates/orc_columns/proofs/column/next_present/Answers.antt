@@ -1,7 +1,0 @@
-use Rattle.orc_columns.specs.declared.fault.StreamKind.TheVariants as stream
-use Rattle.orc_columns.specs.RunsMet.{MarksMeet}
-use Rattle.orc_columns.proofs.NeedLemmas.{runs_now}
-use Rattle.orc_columns.proofs.column.next_present.Goals as goal
-
-pub returns-in-Err-clause-fault : goal.returns-in-Err-clause-fault
-returns-in-Err-clause-fault c = λ memory n. runs_now stream.Present c.args.reader.now.source.column n (MarksMeet c.args.reader.now.present) c.in-Err.fault (c.in-Err.ensures.fault memory)

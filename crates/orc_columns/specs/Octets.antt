@@ -1,6 +1,0 @@
--- Streams of bytes that aren't run.
-use Rattle.std.specs.Prelude.{◌≡◌, ℕ, List}
-use Rattle.orc_columns.specs.declared.octets.Octets.{Octets}
-
-abbrev pub OctetsLeft : Octets → List ℕ → Type 0
-OctetsLeft r all = all ≡ r.rest.now

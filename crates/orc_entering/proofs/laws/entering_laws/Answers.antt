@@ -1,5 +1,0 @@
-use Rattle.orc_entering.proofs.ColumnsBehind.{readers_behind}
-use Rattle.orc_entering.proofs.laws.entering_laws.Goals as goal
-
-pub returns : goal.returns
-returns c = λ s x before entries readers all n f fit behind at met. readers_behind s x before entries readers all n f fit behind at met

@@ -1,0 +1,75 @@
+-- Positions in streams that may be broken behind them (ORC specification, "Row Group Index", "Column Encodings").
+use Rattle.std.specs.Prelude.{◌≡◌, ℕ, ◌+◌, ◌*◌, ◌≤◌, Bool, true, false, List, ◌++◌, length, map}
+use Rattle.orc_rle.specs.ByteRun.{IsByteRun}
+use Rattle.orc_rle.specs.Stream.{IsStream}
+use Rattle.orc_types.specs.Cells.{Cell, is_value, parts, pairs_in, values}
+use Rattle.orc_types.specs.Shapes.{Shape, scalar, list_of, map_of, struct_of}
+use Rattle.orc_types.specs.declared.kind.Scalar.{Scalar}
+use Rattle.orc_types.specs.declared.kind.Scalar.TheVariants as kind
+use Rattle.orc_column_reader.specs.Faults.{lengths_of}
+use Rattle.orc_column_reader.specs.Needs.{MarksBegin}
+use Rattle.orc_column_reader.specs.RunFaults.{IntegersFirst}
+use Rattle.orc_column_reader.specs.Spellings.{size, joined}
+use Rattle.orc_column_reader.specs.Stripe.{Streams, has_dictionary}
+use Rattle.orc_row_index.specs.Places.{RunRelation, BitRelation, ArePlacesBy, octets}
+
+-- The position leads to value n, whatever comes then: its offset is that of a run's start, or the stream's length, and
+-- the values before it and those that are passed from there make n.
+pub record LeadsTo {A : Type 0} (is_run : List ℕ → List A → Type 0) (bytes : List ℕ) (offset skip n : ℕ) : Type 0 where
+  pub front : List ℕ
+  pub rest : List ℕ
+  pub before : List A
+  pub parts : bytes ≡ front ++ rest
+  pub stream : IsStream is_run front before
+  pub offset_is : offset ≡ length front
+  pub number_is : n ≡ length before + skip
+
+-- the same of booleans: eight for each byte that is passed, and 0 to 8 more
+pub record LeadsToBit (bytes : List ℕ) (offset skip bits n : ℕ) : Type 0 where
+  pub whole : ℕ
+  pub byte : LeadsTo IsByteRun bytes offset skip whole
+  pub few : bits ≤ 8
+  pub number_is : n ≡ 8 * whole + bits
+
+abbrev pub leads : RunRelation
+leads A is_run stream offset skip n = LeadsTo is_run stream offset skip n
+
+abbrev pub leads_bits : BitRelation
+leads_bits stream total offset skip bits n = LeadsToBit stream offset skip bits n
+
+-- as many groups of bytes come first in LENGTH and DATA as there are values, and so many bytes in these
+abbrev pub GroupsBegin : Streams → List Cell → ℕ → Type 0
+GroupsBegin x vs count =
+    (groups : List (List ℕ)) × (rest : List ℕ)
+    × (length groups ≡ length vs)
+    × (length (joined groups) ≡ count)
+    × IntegersFirst (lengths_of x) (map size groups)
+    × (x.stream 1 ≡ joined groups ++ rest)
+
+abbrev pub TextsBegin : Bool → Streams → List Cell → ℕ → Type 0
+TextsBegin true x vs count = Unit {0}
+TextsBegin false x vs count = GroupsBegin x vs count
+
+abbrev pub ScalarsBegin : Scalar → Streams → List Cell → ℕ → Type 0
+ScalarsBegin kind.Boolean x vs count = Unit {0}
+ScalarsBegin kind.Byte x vs count = Unit {0}
+ScalarsBegin kind.Short x vs count = Unit {0}
+ScalarsBegin kind.Int x vs count = Unit {0}
+ScalarsBegin kind.Long x vs count = Unit {0}
+ScalarsBegin kind.Date x vs count = Unit {0}
+ScalarsBegin kind.Binary x vs count = GroupsBegin x vs count
+ScalarsBegin kind.String x vs count = TextsBegin (has_dictionary x) x vs count
+
+-- of values, the sizes that their column's streams have for them come first there: of byte strings and texts, which are
+-- so many bytes together, of lists and of maps
+abbrev pub SizesBegin : Shape → Streams → List Cell → ℕ → Type 0
+SizesBegin (scalar k o) x vs count = ScalarsBegin k x vs count
+SizesBegin (list_of s o) x vs count = IntegersFirst (lengths_of x) (map (λ v. size (parts v)) vs)
+SizesBegin (map_of k v o) x vs count = IntegersFirst (lengths_of x) (map (λ m. size (pairs_in m)) vs)
+SizesBegin (struct_of fs o) x vs count = Unit {0}
+
+-- The positions are those of a column behind these cells, whatever its streams have behind them.
+pub record IsBehind (s : Shape) (x : Streams) (before : List Cell) (positions : List ℕ) : Type 0 where
+  pub places : ArePlacesBy leads leads_bits s x before positions
+  pub marks : MarksBegin (x.stream 0) (map is_value before)
+  pub sizes : SizesBegin s x (values before) (octets before)

@@ -1,0 +1,120 @@
+-- Columns that are entered at their positions (ORC specification, "Row Group Index", "Column Encodings").
+use Rattle.std.specs.Prelude.{◌≡◌, ℕ, ◌≤◌, Bool, true, false, Option, Some, None, List, [], ◌∷◌, ◌++◌, length, map, drop, get_or}
+use Rattle.orc_types.specs.Cells.{Cell, is_value, parts, pairs_in, values}
+use Rattle.orc_types.specs.Shapes.{Shape, scalar, list_of, map_of, struct_of}
+use Rattle.std.specs.declared.vec.Vec.{Vec}
+use Rattle.std.specs.declared.alloc.Global.{Global}
+use Rattle.orc_types.specs.declared.kind.Scalar.{Scalar}
+use Rattle.orc_types.specs.declared.kind.Scalar.TheVariants as kind
+use Rattle.orc_column_reader.specs.Columns.{MarksLeft, ScalarLeft, entry_bytes}
+use Rattle.orc_column_reader.specs.Numbers.{NumbersLeft}
+use Rattle.orc_column_reader.specs.Spellings.{size}
+use Rattle.orc_column_reader.specs.Stripe.{Streams, IsColumn, IsDictionary, SpellsValues, has_dictionary, most_cells}
+use Rattle.orc_column_reader.specs.declared.bits.Bits.{Bits}
+use Rattle.orc_column_reader.specs.declared.column.ColumnReader.{ColumnReader}
+use Rattle.orc_column_reader.specs.declared.column.Entry.{Entry}
+use Rattle.orc_column_reader.specs.declared.column.ValueSource.{ValueSource}
+use Rattle.orc_positions.specs.BitPosition.{BeginsBits}
+use Rattle.orc_row_index.specs.Places.{AreReadPlaces, StreamPlace, begins, octets}
+use Rattle.orc_row_index.specs.Walking.{HasOctets}
+use Rattle.orc_row_index.specs.RunStreams.{bit_runs, present_runs, own_runs, own_octets}
+use Rattle.orc_group_reader.specs.Entering.{AgreeFrom}
+use Rattle.orc_group_reader.specs.Streams.{RunsAgree, Enters}
+use Rattle.orc_group_reader.specs.declared.entered.Entered.{Entered}
+use Rattle.orc_group_reader.specs.declared.entered.Entered.TheVariants as entered
+
+-- marks from their positions on; without bytes there are none
+abbrev pub EntersMarks : List ℕ → List ℕ → Option Bits → Type 0
+EntersMarks [] positions None = positions ≡ []
+EntersMarks [] positions (Some bits) = ⊥
+EntersMarks (b ∷ bs) positions None = ⊥
+EntersMarks (b ∷ bs) positions (Some bits) = Enters (bit_runs (b ∷ bs)) positions (entered.Bits bits)
+
+-- bytes as they are, from their position on, which lies within them, and the positions behind it
+abbrev pub CutsOctets : Option (List ℕ) → List ℕ → List ℕ → List ℕ → Type 0
+CutsOctets None positions rest last = last ≡ positions
+CutsOctets (Some bytes) positions rest last =
+    (offset : ℕ) × (positions ≡ offset ∷ last) × (rest ≡ drop offset bytes) × (offset ≤ length bytes)
+
+-- a source has the stream that was entered, and the bytes
+abbrev pub IsSource : Entered → List ℕ → ValueSource → Type 0
+IsSource entered.Nothing rest source = source.octets.rest.now ≡ rest
+IsSource (entered.Bits bits) rest source = (source.bits ≡ bits) × (source.octets.rest.now ≡ rest)
+IsSource (entered.Bytes bytes) rest source = (source.bytes ≡ bytes) × (source.octets.rest.now ≡ rest)
+IsSource (entered.Numbers numbers) rest source = (source.numbers ≡ numbers) × (source.octets.rest.now ≡ rest)
+
+-- bytes as they are without so many in front, where a column has such
+abbrev pub IsCut : Option (List ℕ) → ℕ → List ℕ → Type 0
+IsCut None n rest = Unit {0}
+IsCut (Some content) n rest = rest ≡ drop n content
+
+-- the entries of a dictionary
+abbrev pub HasEntries : Bool → Streams → Option (Vec Entry Global) → Type 0
+HasEntries true x (Some entries) = IsDictionary x (map entry_bytes entries.items)
+HasEntries true x None = ⊥
+HasEntries false x (Some entries) = ⊥
+HasEntries false x None = Unit {0}
+
+abbrev pub ScalarEntries : Scalar → Streams → Option (Vec Entry Global) → Type 0
+ScalarEntries kind.Boolean x entries = Unit {0}
+ScalarEntries kind.Byte x entries = Unit {0}
+ScalarEntries kind.Short x entries = Unit {0}
+ScalarEntries kind.Int x entries = Unit {0}
+ScalarEntries kind.Long x entries = Unit {0}
+ScalarEntries kind.Date x entries = Unit {0}
+ScalarEntries kind.Binary x entries = Unit {0}
+ScalarEntries kind.String x entries = HasEntries (has_dictionary x) x entries
+
+-- those of a column's, where it has one
+abbrev pub EntriesOf : Shape → Streams → Option (Vec Entry Global) → Type 0
+EntriesOf (scalar k o) x entries = ScalarEntries k x entries
+EntriesOf (list_of s o) x entries = Unit {0}
+EntriesOf (map_of k v o) x entries = Unit {0}
+EntriesOf (struct_of fs o) x entries = Unit {0}
+
+-- bytes as they are, the same from so many on
+abbrev pub OctetsAgree : ℕ → Option (List ℕ) → Option (List ℕ) → Type 0
+OctetsAgree offset None None = Unit {0}
+OctetsAgree offset None (Some b) = ⊥
+OctetsAgree offset (Some a) None = ⊥
+OctetsAgree offset (Some a) (Some b) = AgreeFrom offset a b
+
+-- These positions are right in streams x behind some cells, and streams y are the same from the positions'
+-- offsets on, and have the same encoding and dictionary.
+pub record AgreeFromPlaces (s : Shape) (x y : Streams) (before : List Cell) (positions : List ℕ) : Type 0 where
+  pub places : AreReadPlaces s x before positions
+  pub encoded : y.encoding ≡ x.encoding
+  pub present_same : RunsAgree (get_or places.first 0 0) (present_runs (y.stream 0)) (present_runs (x.stream 0))
+  pub content_same : OctetsAgree (octets before) (own_octets s y) (own_octets s x)
+  pub own_same : RunsAgree (get_or places.last 0 0) (own_runs s y) (own_runs s x)
+  pub dictionary_same : has_dictionary x ≡ true → (y.stream 2 ≡ x.stream 2) × (y.stream 3 ≡ x.stream 3)
+
+-- Streams y are entered at these positions, behind some cells of those that x spells.
+pub record Turns (s : Shape) (x y : Streams) (before after : List Cell) (positions : List ℕ) : Type 0 where
+  pub spelled : IsColumn s x (before ++ after)
+  pub agree : AgreeFromPlaces s x y before positions
+
+-- the same of its streams beside PRESENT
+pub record OwnTurns (s : Shape) (x y : Streams) (before after : List Cell) (last : List ℕ) : Type 0 where
+  pub spelled : SpellsValues s x (values before ++ values after)
+  pub place : StreamPlace begins BeginsBits (own_runs s x) (length (values before)) last
+  pub encoded : y.encoding ≡ x.encoding
+  pub there : HasOctets (own_octets s x) (octets before)
+  pub content_same : OctetsAgree (octets before) (own_octets s y) (own_octets s x)
+  pub own_same : RunsAgree (get_or last 0 0) (own_runs s y) (own_runs s x)
+  pub dictionary_same : has_dictionary x ≡ true → (y.stream 2 ≡ x.stream 2) × (y.stream 3 ≡ x.stream 3)
+
+-- what is left of the values of a column's own streams: of lists their lengths, of maps how many pairs they have,
+-- of structs nothing
+abbrev pub OwnValuesLeft : Shape → ValueSource → List Cell → Type 0
+OwnValuesLeft (scalar k o) source vs = ScalarLeft k source vs
+OwnValuesLeft (list_of s o) source vs =
+    NumbersLeft source.numbers (map (λ v. size (parts v)) vs) × (source.room ≡ most_cells)
+OwnValuesLeft (map_of k v o) source vs =
+    NumbersLeft source.numbers (map (λ m. size (pairs_in m)) vs) × (source.room ≡ most_cells)
+OwnValuesLeft (struct_of fs o) source vs = Unit {0}
+
+-- what a column's own reader has still to give
+pub record ColumnIsLeft (s : Shape) (reader : ColumnReader) (column : List Cell) : Type 0 where
+  pub marks : MarksLeft reader.present (map is_value column)
+  pub spelled : OwnValuesLeft s reader.source (values column)

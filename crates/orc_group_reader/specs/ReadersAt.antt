@@ -1,0 +1,108 @@
+-- Readers that stand at their positions (ORC specification, "Row Group Index", "Column Encodings").
+use Rattle.std.specs.Prelude.{◌≡◌, ℕ, zero, suc, ◌-◌, Option, Some, None, List, [], ◌∷◌, length, take, drop, slice_get}
+use Rattle.orc_rle.specs.ByteRun.{IsByteRun}
+use Rattle.orc_rle.specs.Seeking.{Seeks, SeeksBits}
+use Rattle.orc_rle.specs.declared.sign.Rle.{Rle}
+use Rattle.orc_rle.specs.declared.sign.Sign.{Sign}
+use Rattle.orc_types.specs.Shapes.{Shape, width, shape_at}
+use Rattle.orc_wire.specs.declared.row_index.RowIndexEntry.{RowIndexEntry}
+use Rattle.orc_column_reader.specs.Numbers.{is_run}
+use Rattle.orc_column_reader.specs.Stripe.{Streams, most_cells}
+use Rattle.orc_column_reader.specs.declared.bits.Bits.{Bits}
+use Rattle.orc_column_reader.specs.declared.bytes.RunLengthBytes.{RunLengthBytes}
+use Rattle.orc_column_reader.specs.declared.column.ColumnReader.{ColumnReader}
+use Rattle.orc_column_reader.specs.declared.column.ValueSource.{ValueSource}
+use Rattle.orc_column_reader.specs.declared.numbers.Numbers.{Numbers}
+use Rattle.orc_row_index.specs.RunStreams.{RunStream, no_stream, bit_runs, byte_runs, number_runs, own_runs, own_octets}
+use Rattle.orc_group_reader.specs.Columns.{CutsOctets, IsSource, EntriesOf}
+use Rattle.orc_group_reader.specs.Refusals.{present_size, positions_size}
+use Rattle.orc_group_reader.specs.RunsPassed.{IsLastRun}
+use Rattle.orc_group_reader.specs.declared.entered.Entered.{Entered}
+use Rattle.orc_group_reader.specs.declared.entered.Entered.TheVariants as entered
+
+-- Integers from a position on: the reader has the stream's bytes, the runs from the offset on are passed as far as the
+-- position says, and it knows where the last of them begins.
+pub record NumbersAt (v : Rle) (s : Sign) (bytes : List ℕ) (offset skip : ℕ) (r : Numbers) : Type 0 where
+  pub version_is : r.version ≡ v
+  pub sign_is : r.sign ≡ s
+  pub bytes_are : r.bytes.now ≡ bytes
+  pub seeks : Seeks (is_run v s) bytes offset skip skip r.at (drop r.used r.run.values)
+  pub last : IsLastRun (is_run v s) bytes offset r.start r.at
+
+-- the same of bytes
+pub record BytesAt (bytes : List ℕ) (offset skip : ℕ) (r : RunLengthBytes) : Type 0 where
+  pub bytes_are : r.bytes.now ≡ bytes
+  pub seeks : Seeks IsByteRun bytes offset skip skip r.at (drop r.used r.run.values)
+  pub last : IsLastRun IsByteRun bytes offset r.start r.at
+
+-- where digits are passed, the first byte of those that are left is held, without these digits
+abbrev pub HoldsFirst : List ℕ → ℕ → Bits → Type 0
+HoldsFirst left zero r = (r.left ≡ 0) × (drop r.bytes.used r.bytes.run.values ≡ left)
+HoldsFirst [] (suc bits) r = ⊥
+HoldsFirst (byte ∷ more) (suc bits) r =
+    (r.held ≡ byte) × (r.left ≡ 8 - suc bits) × (drop r.bytes.used r.bytes.run.values ≡ more)
+
+-- the same of booleans
+pub record BitsAt (bytes : List ℕ) (offset skip bits : ℕ) (r : Bits) : Type 0 where
+  pub bytes_are : r.bytes.bytes.now ≡ bytes
+  pub left : List ℕ
+  pub seeks : SeeksBits bytes offset skip bits r.bytes.at left
+  pub holds : HoldsFirst left bits r
+  pub last : IsLastRun IsByteRun bytes offset r.bytes.start r.bytes.at
+
+-- a stream of runs from its positions on, which are as many numbers as a position of it has
+abbrev pub StreamAt : RunStream → List ℕ → Entered → Type 0
+StreamAt no_stream positions entered.Nothing = positions ≡ []
+StreamAt no_stream positions (entered.Bits r) = ⊥
+StreamAt no_stream positions (entered.Bytes r) = ⊥
+StreamAt no_stream positions (entered.Numbers r) = ⊥
+StreamAt (bit_runs b) positions entered.Nothing = ⊥
+StreamAt (bit_runs b) positions (entered.Bits r) =
+    (offset : ℕ) × (skip : ℕ) × (bits : ℕ) × (positions ≡ offset ∷ skip ∷ bits ∷ []) × BitsAt b offset skip bits r
+StreamAt (bit_runs b) positions (entered.Bytes r) = ⊥
+StreamAt (bit_runs b) positions (entered.Numbers r) = ⊥
+StreamAt (byte_runs b) positions entered.Nothing = ⊥
+StreamAt (byte_runs b) positions (entered.Bits r) = ⊥
+StreamAt (byte_runs b) positions (entered.Bytes r) =
+    (offset : ℕ) × (skip : ℕ) × (positions ≡ offset ∷ skip ∷ []) × BytesAt b offset skip r
+StreamAt (byte_runs b) positions (entered.Numbers r) = ⊥
+StreamAt (number_runs v s b) positions entered.Nothing = ⊥
+StreamAt (number_runs v s b) positions (entered.Bits r) = ⊥
+StreamAt (number_runs v s b) positions (entered.Bytes r) = ⊥
+StreamAt (number_runs v s b) positions (entered.Numbers r) =
+    (offset : ℕ) × (skip : ℕ) × (positions ≡ offset ∷ skip ∷ []) × NumbersAt v s b offset skip r
+
+-- PRESENT from its positions on; without bytes there are none
+abbrev pub MarksAt : List ℕ → List ℕ → Option Bits → Type 0
+MarksAt [] positions None = positions ≡ []
+MarksAt [] positions (Some bits) = ⊥
+MarksAt (b ∷ bs) positions None = ⊥
+MarksAt (b ∷ bs) positions (Some bits) = StreamAt (bit_runs (b ∷ bs)) positions (entered.Bits bits)
+
+-- what a column's values are read from, from the positions of its streams beside PRESENT on; its dictionary whole
+pub record SourceAt (s : Shape) (x : Streams) (c : ℕ) (positions : List ℕ) (source : ValueSource) : Type 0 where
+  pub own : Entered
+  pub rest : List ℕ
+  pub last : List ℕ
+  pub cut : CutsOctets (own_octets s x) positions rest last
+  pub entered : StreamAt (own_runs s x) last own
+  pub source_is : IsSource own rest source
+  pub entries : EntriesOf s x source.entries
+  pub room : source.room ≡ most_cells
+  pub column : source.column ≡ c
+
+-- a column's own reader, from its positions on, which are as many as its streams have
+pub record ColumnAt (s : Shape) (x : Streams) (c : ℕ) (positions : List ℕ) (reader : ColumnReader) : Type 0 where
+  pub counted : length positions ≡ positions_size s x
+  pub marks : MarksAt (x.stream 0) (take (present_size x) positions) reader.present
+  pub source : SourceAt s x c (drop (present_size x) positions) reader.source
+
+-- the readers of all columns, each from the positions of its entry on; each column has one
+pub record ReadersAt (s : Shape) (y : ℕ → Streams) (entries : List RowIndexEntry)
+    (readers : List ColumnReader) : Type 0 where
+  pub listed : length entries ≡ width s
+  pub counted : length readers ≡ width s
+  pub column : (c : ℕ) (entry : RowIndexEntry) (reader : ColumnReader)
+      → slice_get entries c ≡ Some entry
+      → slice_get readers c ≡ Some reader
+      → ColumnAt (shape_at s c) (y c) c entry.positions reader

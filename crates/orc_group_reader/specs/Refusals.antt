@@ -1,0 +1,74 @@
+-- Why a column isn't entered at its positions (ORC specification, "Row Group Index", "Column Encodings").
+use Rattle.std.specs.Prelude.{◌≡◌, ◌≢◌, ℕ, ◌+◌, ◌<◌, Option, Some, None, List, [], ◌∷◌, length, take, drop, ◌⊎◌}
+use Rattle.orc_rle.specs.ByteRun.{IsByteRun, NoByteRun}
+use Rattle.orc_rle.specs.Seeking.{SeekFails, BitSeekFails}
+use Rattle.orc_rle.specs.declared.fault.RunFault.{RunFault}
+use Rattle.orc_rle.specs.declared.fault.RunFault.TheVariants as run
+use Rattle.orc_types.specs.Shapes.{Shape}
+use Rattle.orc_column_reader.specs.Faults.{WordsOfFail}
+use Rattle.orc_column_reader.specs.Numbers.{is_run}
+use Rattle.orc_column_reader.specs.RunFaults.{no_run}
+use Rattle.orc_column_reader.specs.Stripe.{Streams, has_dictionary}
+use Rattle.orc_column_reader.specs.declared.fault.Spot.TheVariants as spot
+use Rattle.orc_column_reader.specs.declared.fault.StreamKind.{StreamKind}
+use Rattle.orc_column_reader.specs.declared.fault.StreamKind.TheVariants as stream
+use Rattle.orc_column_reader.specs.declared.fault.StripeFault.{StripeFault}
+use Rattle.orc_column_reader.specs.declared.fault.StripeFault.TheVariants as fault
+use Rattle.orc_row_index.specs.Places.{octets_size, position_size}
+use Rattle.orc_row_index.specs.RunStreams.{RunStream, no_stream, bit_runs, byte_runs, number_runs, present_runs, own_runs, own_octets, kind_of_own}
+
+-- the numbers are no position of the stream, or bytes that are no run are met on the way; where there are not
+-- as many numbers as a position has, nothing is said
+abbrev pub StreamFails : RunStream → List ℕ → RunFault → Type 0
+StreamFails no_stream positions cause = positions ≡ [] → ⊥
+StreamFails (bit_runs b) positions cause =
+    (offset skip bits : ℕ) → positions ≡ offset ∷ skip ∷ bits ∷ [] → BitSeekFails b offset skip bits cause
+StreamFails (byte_runs b) positions cause =
+    (offset skip : ℕ) → positions ≡ offset ∷ skip ∷ [] → SeekFails IsByteRun NoByteRun b offset skip cause
+StreamFails (number_runs v s b) positions cause =
+    (offset skip : ℕ) → positions ≡ offset ∷ skip ∷ [] → SeekFails (is_run v s) (no_run v s) b offset skip cause
+
+-- bytes as they are end before the position
+abbrev pub EndsBefore : Option (List ℕ) → List ℕ → Type 0
+EndsBefore None positions = ⊥
+EndsBefore (Some bytes) positions = (offset : ℕ) (last : List ℕ) → positions ≡ offset ∷ last → length bytes < offset
+
+-- what a stream's fault is for its column: that it has no such position, or that of the run
+abbrev pub IsEnteringFault : ℕ → StreamKind → RunFault → StripeFault → Type 0
+IsEnteringFault c k (run.BadPosition place) f = f ≡ fault.BadPosition (spot.Stream c k)
+IsEnteringFault c k run.OutOfMemory f = f ≡ fault.OutOfMemory
+IsEnteringFault c k (run.Short place) f = f ≡ fault.Run c k (run.Short place)
+IsEnteringFault c k (run.BadVarint place) f = f ≡ fault.Run c k (run.BadVarint place)
+IsEnteringFault c k (run.ValueRange place) f = f ≡ fault.Run c k (run.ValueRange place)
+IsEnteringFault c k (run.BadDelta place) f = f ≡ fault.Run c k (run.BadDelta place)
+IsEnteringFault c k (run.PatchOrder place) f = f ≡ fault.Run c k (run.PatchOrder place)
+IsEnteringFault c k (run.PatchPlace place) f = f ≡ fault.Run c k (run.PatchPlace place)
+IsEnteringFault c k (run.PatchRange place) f = f ≡ fault.Run c k (run.PatchRange place)
+IsEnteringFault c k (run.TooFew place) f = f ≡ fault.Run c k (run.TooFew place)
+IsEnteringFault c k (run.TooMany place) f = f ≡ fault.Run c k (run.TooMany place)
+
+-- a stream of a column isn't entered
+abbrev pub FailsAt : ℕ → StreamKind → RunStream → List ℕ → StripeFault → Type 0
+FailsAt c k stream positions f = (cause : RunFault) × StreamFails stream positions cause × IsEnteringFault c k cause f
+
+-- one of the streams beside PRESENT isn't, or the dictionary isn't read
+abbrev pub OwnRefused : Shape → Streams → ℕ → List ℕ → StripeFault → Type 0
+OwnRefused s x c positions f =
+    ((f ≡ fault.BadPosition (spot.Stream c stream.Data)) × EndsBefore (own_octets s x) positions)
+    ⊎ (FailsAt c (kind_of_own s (has_dictionary x)) (own_runs s x) (drop (octets_size (own_octets s x)) positions) f
+    ⊎ WordsOfFail s x c f)
+
+abbrev pub present_size : Streams → ℕ
+present_size x = position_size (present_runs (x.stream 0))
+
+-- how many positions a column has
+abbrev pub positions_size : Shape → Streams → ℕ
+positions_size s x = present_size x + (octets_size (own_octets s x) + position_size (own_runs s x))
+
+-- there are not as many as the column has, or as many, and one of its streams isn't entered
+abbrev pub ColumnRefused : Shape → Streams → ℕ → List ℕ → StripeFault → Type 0
+ColumnRefused s x c positions f =
+    ((f ≡ fault.BadPosition (spot.Column c)) × (length positions ≢ positions_size s x))
+    ⊎ ((length positions ≡ positions_size s x)
+    × (FailsAt c stream.Present (present_runs (x.stream 0)) (take (present_size x) positions) f
+    ⊎ OwnRefused s x c (drop (present_size x) positions) f))

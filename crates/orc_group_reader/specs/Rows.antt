@@ -1,0 +1,27 @@
+-- Rows that are read on from the positions of each column (ORC specification, "Row Group Index").
+use Rattle.std.specs.Prelude.{◌≡◌, ℕ, ◌<◌, Some, List, ◌++◌, length, slice_get}
+use Rattle.orc_types.specs.Cells.{Cell}
+use Rattle.orc_types.specs.Columns.{cells}
+use Rattle.orc_types.specs.Shapes.{Shape, width, shape_at}
+use Rattle.orc_wire.specs.declared.row_index.RowIndexEntry.{RowIndexEntry}
+use Rattle.orc_column_reader.specs.Stripe.{Streams, SpellRows}
+use Rattle.orc_column_reader.specs.declared.fault.StripeFault.{StripeFault}
+use Rattle.orc_group_reader.specs.Columns.{AgreeFromPlaces}
+use Rattle.orc_group_reader.specs.Refusals.{ColumnRefused}
+
+-- Columns x spell the rows before and after. The positions, an entry for each column, are right in them behind
+-- the rows before, and columns y are the same from these positions on.
+pub record RowsTurn (s : Shape) (x y : ℕ → Streams) (before after : List Cell)
+    (entries : List RowIndexEntry) : Type 0 where
+  pub spelled : SpellRows s x (length (before ++ after)) (before ++ after)
+  pub agree : (c : ℕ) (entry : RowIndexEntry)
+      → slice_get entries c ≡ Some entry
+      → AgreeFromPlaces (shape_at s c) (x c) (y c) (cells s c before) entry.positions
+
+-- one of the columns isn't entered at the positions of its entry
+abbrev pub EntriesRefused : Shape → (ℕ → Streams) → List RowIndexEntry → StripeFault → Type 0
+EntriesRefused s y entries f =
+    (c : ℕ) × (entry : RowIndexEntry)
+    × (slice_get entries c ≡ Some entry)
+    × (c < width s)
+    × ColumnRefused (shape_at s c) (y c) c entry.positions f

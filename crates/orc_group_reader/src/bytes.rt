@@ -1,0 +1,37 @@
+//! Bytes in runs from a position on.
+ghost use Rattle.std.specs.Prelude.{IfOk, IfErr, MatchResult};
+ghost use Rattle.orc_rle.specs.ByteRun.{IsByteRun, NoByteRun};
+ghost use Rattle.orc_rle.specs.Seeking.{Seeks, SeekFails};
+ghost use Rattle.orc_column_reader.specs.Bytes.{BytesLeft};
+ghost use Rattle.orc_group_reader.specs.Entering.{EntersRuns};
+ghost use Rattle.orc_group_reader.specs.ReadersAt.{BytesAt};
+
+use crate::run_starts::last_byte_start;
+use orc_column_reader::bytes::RunLengthBytes;
+use orc_rle::{ByteRuns, Pos, RunFault, RunU8};
+
+/// A stream of bytes in runs from a position on: the runs from its offset to the value are decoded, and nothing before
+/// them.
+///
+/// Refusals: those of `ByteRuns::seek`. Bytes that are a right stream from the offset on, in which the position
+/// names a value, are never refused.
+pub fn bytes_at(bytes: &[u8], pos: Pos) -> Result<RunLengthBytes<'_>, RunFault>
+    ensures enters { MatchResult result (λ found. EntersRuns IsByteRun bytes.now pos.offset pos.skip (BytesLeft found))
+        (λ _. EntersRuns IsByteRun bytes.now pos.offset pos.skip (λ _. ⊥)) }
+    ensures found { IfOk result
+        (λ found. Seeks IsByteRun bytes.now pos.offset pos.skip pos.skip found.at found.run.values) }
+    ensures at { IfOk result (BytesAt bytes.now pos.offset pos.skip) }
+    ensures fault { IfErr result (SeekFails IsByteRun NoByteRun bytes.now pos.offset pos.skip) }
+{
+    let mut run = RunU8::new();
+    match ByteRuns::seek(bytes, pos, &mut run) {
+        Ok(at) => Ok(RunLengthBytes {
+            bytes,
+            at,
+            start: last_byte_start(bytes, pos.offset, at),
+            run,
+            used: 0,
+        }),
+        Err(fault) => Err(fault),
+    }
+}

@@ -1,0 +1,68 @@
+//! The entries of a column's dictionary.
+ghost use Rattle.std.specs.Prelude.{◌≡◌, ◌≢◌, IfOk, IfErr};
+ghost use Rattle.orc_types.specs.Views.{shape};
+ghost use Rattle.orc_column_reader.specs.Faults.{EntriesFail, WordsOfFail};
+ghost use Rattle.orc_column_reader.specs.Starting.{AreStreams, HasNoDictionary, LacksEntries};
+ghost use Rattle.orc_column_reader.specs.Stripe.{Streams};
+ghost use Rattle.orc_column_reader.specs.declared.fault.StripeFault.TheVariants.{OutOfMemory};
+ghost use Rattle.orc_group_reader.specs.Columns.{HasEntries, EntriesOf};
+
+use orc_column_reader::column::Entry;
+use orc_column_reader::dictionary::entries_of;
+use orc_column_reader::fault::StripeFault;
+use orc_column_reader::starting::ColumnStreams;
+use orc_types::{Scalar, Tree};
+use std::alloc::Global;
+
+/// Those of a column of texts, where it has a dictionary.
+fn words_of<'a>(
+    alloc: Global,
+    column: usize,
+    streams: &ColumnStreams<'a>,
+) -> Result<Option<Vec<Entry<'a>>>, StripeFault>
+    ensures found { IfOk result (λ entries. (x : Streams) → AreStreams x streams.now
+        → HasEntries streams.now.has_dictionary x entries) }
+    ensures none { IfErr result (λ fault. fault ≢ OutOfMemory
+        → (x : Streams) → AreStreams x streams.now
+        → LacksEntries streams.now.has_dictionary x) }
+    ensures fault { IfErr result (λ cause. cause ≢ OutOfMemory
+        → (x : Streams) → AreStreams x streams.now
+        → EntriesFail streams.now.has_dictionary x column cause) }
+{
+    if !streams.has_dictionary {
+        return Ok(None);
+    }
+    match entries_of(
+        alloc,
+        column,
+        streams.version,
+        streams.lengths,
+        streams.words,
+        streams.dictionary_size,
+    ) {
+        Ok(entries) => Ok(Some(entries)),
+        Err(fault) => Err(fault),
+    }
+}
+
+/// Those of a column, where it has a dictionary, which has no positions and is read whole.
+pub(crate) fn column_entries<'a>(
+    alloc: Global,
+    tree: &Tree,
+    column: usize,
+    streams: &ColumnStreams<'a>,
+) -> Result<Option<Vec<Entry<'a>>>, StripeFault>
+    ensures found { IfOk result (λ entries. (x : Streams) → AreStreams x streams.now
+        → EntriesOf (shape tree.now) x entries) }
+    ensures none { IfErr result (λ fault. fault ≢ OutOfMemory
+        → (x : Streams) → AreStreams x streams.now
+        → HasNoDictionary (shape tree.now) x) }
+    ensures fault { IfErr result (λ cause. cause ≢ OutOfMemory
+        → (x : Streams) → AreStreams x streams.now
+        → WordsOfFail (shape tree.now) x column cause) }
+{
+    match tree {
+        Tree::Scalar(Scalar::String, _) => words_of(alloc, column, streams),
+        _ => Ok(None),
+    }
+}

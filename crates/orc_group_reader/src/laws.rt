@@ -1,0 +1,25 @@
+//! Laws of readers that stand at positions. The function does nothing: its contract is what it is for.
+ghost use Rattle.std.specs.Prelude.{◌≡◌, ◌+◌, ℕ, Bool, Some, List, length, slice_get};
+ghost use Rattle.orc_types.specs.Cells.{Cell};
+ghost use Rattle.orc_types.specs.Columns.{cells};
+ghost use Rattle.orc_types.specs.Fits.{RowsFit};
+ghost use Rattle.orc_types.specs.Shapes.{Shape, shape_at};
+ghost use Rattle.orc_wire.specs.declared.row_index.RowIndexEntry.{RowIndexEntry as IndexEntry};
+ghost use Rattle.orc_column_reader.specs.Faults.{FaultDown};
+ghost use Rattle.orc_column_reader.specs.ReaderFaults.{CellsMeet};
+ghost use Rattle.orc_column_reader.specs.Stripe.{Streams};
+ghost use Rattle.orc_column_reader.specs.declared.column.ColumnReader.{ColumnReader as Reader};
+ghost use Rattle.orc_column_reader.specs.declared.fault.StripeFault.{StripeFault as Fault};
+ghost use Rattle.orc_group_reader.specs.Behind.{IsBehind};
+ghost use Rattle.orc_group_reader.specs.ReadersAt.{ReadersAt};
+
+/// What readers at positions meet, which are those behind some rows, is a fault of the whole columns.
+pub fn entering_laws()
+    ensures { (s : Shape) (x : ℕ → Streams) (before : List Cell) (entries : List IndexEntry) (readers : List Reader)
+        (all : Bool) (n : ℕ) (f : Fault)
+        → RowsFit s before
+        → ((c : ℕ) (entry : IndexEntry) → slice_get entries c ≡ Some entry
+        → IsBehind (shape_at s c) (x c) (cells s c before) entry.positions)
+        → ReadersAt s x entries readers → CellsMeet s readers all n f
+        → FaultDown s x 0 all (length before + n) f }
+{}

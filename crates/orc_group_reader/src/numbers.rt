@@ -1,0 +1,59 @@
+//! Integers from a position on.
+ghost use Rattle.std.specs.Prelude.{◌≡◌, ℕ, ℤ, List, Ok, IfOk, IfErr, MatchResult};
+ghost use Rattle.orc_rle.specs.Seeking.{Seeks, SeekFails};
+ghost use Rattle.orc_column_reader.specs.Numbers.{is_run, NumbersLeft};
+ghost use Rattle.orc_column_reader.specs.RunFaults.{no_run};
+ghost use Rattle.orc_group_reader.specs.Entering.{EntersRuns};
+ghost use Rattle.orc_group_reader.specs.ReadersAt.{NumbersAt};
+
+use crate::run_starts::last_start;
+use orc_column_reader::numbers::Numbers;
+use orc_rle::{Pos, Rle, Run, RunCodec, RunFault, Sign, V1, V2};
+
+/// Goes to a position, whatever the version.
+fn seek(version: Rle, bytes: &[u8], sign: Sign, pos: Pos, run: &mut Run) -> Result<usize, RunFault>
+    ensures found { IfOk result
+        (λ at. Seeks (is_run version sign) bytes.now pos.offset pos.skip pos.skip at run.new.values) }
+    ensures only { (at : ℕ) (left : List ℤ) → Seeks (is_run version sign) bytes.now pos.offset pos.skip pos.skip at left
+        → (result ≡ Ok at) × (run.new.values ≡ left) }
+    ensures fault { IfErr result (SeekFails (is_run version sign) (no_run version sign) bytes.now pos.offset pos.skip) }
+{
+    match version {
+        Rle::One => V1::seek(bytes, sign, pos, run),
+        Rle::Two => V2::seek(bytes, sign, pos, run),
+    }
+}
+
+/// A stream of integers from a position on: the runs from its offset to the value are decoded, and nothing before them.
+/// A fault that is met later names the run that has it, and not the position.
+///
+/// Refusals: those of `seek`. Bytes that are a right stream from the offset on, in which the position names a
+/// value, are never refused.
+pub fn numbers_at<'a>(
+    version: Rle,
+    sign: Sign,
+    bytes: &'a [u8],
+    pos: Pos,
+) -> Result<Numbers<'a>, RunFault>
+    ensures enters { MatchResult result
+        (λ numbers. EntersRuns (is_run version sign) bytes.now pos.offset pos.skip (NumbersLeft numbers))
+        (λ _. EntersRuns (is_run version sign) bytes.now pos.offset pos.skip (λ _. ⊥)) }
+    ensures found { IfOk result
+        (λ numbers. Seeks (is_run version sign) bytes.now pos.offset pos.skip pos.skip numbers.at numbers.run.values) }
+    ensures at { IfOk result (NumbersAt version sign bytes.now pos.offset pos.skip) }
+    ensures fault { IfErr result (SeekFails (is_run version sign) (no_run version sign) bytes.now pos.offset pos.skip) }
+{
+    let mut run = Run::new();
+    match seek(version, bytes, sign, pos, &mut run) {
+        Ok(at) => Ok(Numbers {
+            version,
+            sign,
+            bytes,
+            at,
+            start: last_start(version, sign, bytes, pos.offset, at),
+            run,
+            used: 0,
+        }),
+        Err(fault) => Err(fault),
+    }
+}

@@ -1,0 +1,65 @@
+//! What a column's values are read from, from its positions on.
+ghost use Rattle.std.specs.Prelude.{◌≡◌, ◌≢◌, ◌++◌, ℕ, List, IfOk, IfErr, MatchResult};
+ghost use Rattle.orc_types.specs.Cells.{Cell, values};
+ghost use Rattle.orc_types.specs.Views.{shape};
+ghost use Rattle.orc_column_reader.specs.Starting.{AreStreams};
+ghost use Rattle.orc_column_reader.specs.Stripe.{Streams};
+ghost use Rattle.orc_column_reader.specs.declared.fault.StripeFault.TheVariants.{OutOfMemory};
+ghost use Rattle.orc_row_index.specs.Places.{octets, octets_place};
+ghost use Rattle.orc_row_index.specs.RunStreams.{own_octets};
+ghost use Rattle.orc_group_reader.specs.Columns.{OwnTurns, OwnValuesLeft};
+ghost use Rattle.orc_group_reader.specs.ReadersAt.{SourceAt};
+ghost use Rattle.orc_group_reader.specs.Refusals.{OwnRefused};
+
+use crate::entered::enter;
+use crate::entries::column_entries;
+use crate::faults::entering_fault;
+use crate::octets::octets_from;
+use crate::value_source::source_from;
+use orc_column_reader::column::ValueSource;
+use orc_column_reader::fault::{Spot, StreamKind, StripeFault};
+use orc_column_reader::starting::ColumnStreams;
+use orc_row_index::{own_kind, placed_streams};
+use orc_types::Tree;
+use std::alloc::Global;
+
+/// The source of a column's values, from the positions of its streams beside PRESENT on.
+///
+/// Refusals: `BadPosition` of the stream that a position lies outside of; `Run` where no run is decoded there;
+/// those of a dictionary; `OutOfMemory`, and nothing else where the positions are right.
+pub(crate) fn own_from<'a>(
+    alloc: Global,
+    tree: &Tree,
+    column: usize,
+    streams: &ColumnStreams<'a>,
+    positions: &[u64],
+) -> Result<ValueSource<'a>, StripeFault>
+    ensures left { (x y : Streams) (before after : List Cell) (last : List ℕ)
+        → AreStreams y streams.now
+        → OwnTurns (shape tree.now) x y before after last
+        → positions.now ≡ octets_place (own_octets (shape tree.now) x) (octets before) ++ last
+        → MatchResult result
+        (λ source. OwnValuesLeft (shape tree.now) source (values after))
+        (λ fault. fault ≡ OutOfMemory) }
+    ensures at { IfOk result (λ source. (x : Streams) → AreStreams x streams.now
+        → SourceAt (shape tree.now) x column positions.now source) }
+    ensures fault { IfErr result (λ cause. cause ≢ OutOfMemory
+        → (x : Streams) → AreStreams x streams.now
+        → OwnRefused (shape tree.now) x column positions.now cause) }
+{
+    let placed = placed_streams(tree, streams);
+    let Some(cut) = octets_from(placed.content, positions) else {
+        return Err(StripeFault::BadPosition(Spot::Stream(column, StreamKind::Data)));
+    };
+    let own = match enter(&placed.own, cut.positions) {
+        Ok(own) => own,
+        Err(fault) => {
+            let kind = own_kind(tree, streams.has_dictionary);
+            return Err(entering_fault(column, kind, fault));
+        }
+    };
+    match column_entries(alloc, tree, column, streams) {
+        Ok(entries) => Ok(source_from(column, own, cut.rest, entries)),
+        Err(fault) => Err(fault),
+    }
+}

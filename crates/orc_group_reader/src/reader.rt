@@ -1,0 +1,77 @@
+//! A column's reader, from its positions on.
+ghost use Rattle.std.specs.Prelude.{◌≡◌, ◌≢◌, ◌++◌, ◌+◌, List, length, IfOk, IfErr, MatchResult};
+ghost use Rattle.orc_types.specs.Cells.{Cell};
+ghost use Rattle.orc_types.specs.Views.{shape};
+ghost use Rattle.orc_column_reader.specs.Starting.{AreStreams};
+ghost use Rattle.orc_column_reader.specs.Stripe.{Streams};
+ghost use Rattle.orc_column_reader.specs.declared.fault.StripeFault.TheVariants.{OutOfMemory};
+ghost use Rattle.orc_row_index.specs.Places as spec;
+ghost use Rattle.orc_row_index.specs.Walking.{runs, lent_bytes};
+ghost use Rattle.orc_group_reader.specs.Columns.{ColumnIsLeft, Turns};
+ghost use Rattle.orc_group_reader.specs.ReadersAt.{ColumnAt};
+ghost use Rattle.orc_group_reader.specs.Refusals.{ColumnRefused};
+
+use crate::faults::entering_fault;
+use crate::marks::marks_from;
+use crate::own::own_from;
+use orc_column_reader::column::ColumnReader;
+use orc_column_reader::fault::{Spot, StreamKind, StripeFault};
+use orc_column_reader::starting::ColumnStreams;
+use orc_row_index::{PlacedStreams, placed_streams};
+use orc_types::Tree;
+use std::alloc::Global;
+
+/// How many numbers the positions of bytes as they are have, where a column has such.
+fn octets_size(content: Option<&[u8]>) -> usize
+    ensures { result ≡ spec.octets_size (lent_bytes content.entry) }
+{
+    match content {
+        Some(_) => 1,
+        None => 0,
+    }
+}
+
+/// How many numbers the positions of a column have.
+fn positions_size(placed: &PlacedStreams<'_>) -> usize
+    ensures { result ≡ spec.position_size (runs placed.now.present)
+        + (spec.octets_size (lent_bytes placed.now.content) + spec.position_size (runs placed.now.own)) }
+{
+    placed.present.position_size() + (octets_size(placed.content) + placed.own.position_size())
+}
+
+/// The reader of a column by itself, from its positions on.
+///
+/// Refusals: `BadPosition`, of the column where the positions are not as many as its streams have, and of the
+/// stream that one lies outside of; `Run` where no run is decoded there; those of a dictionary; `OutOfMemory`,
+/// and nothing else where the positions are right.
+pub(crate) fn reader_at<'a>(
+    alloc: Global,
+    tree: &Tree,
+    column: usize,
+    streams: &ColumnStreams<'a>,
+    positions: &[u64],
+) -> Result<ColumnReader<'a>, StripeFault>
+    ensures left { (x y : Streams) (before after : List Cell)
+        → AreStreams y streams.now
+        → Turns (shape tree.now) x y before after positions.now
+        → MatchResult result (λ reader. ColumnIsLeft (shape tree.now) reader after) (λ fault. fault ≡ OutOfMemory) }
+    ensures at { IfOk result (λ reader. (x : Streams) → AreStreams x streams.now
+        → ColumnAt (shape tree.now) x column positions.now reader) }
+    ensures fault { IfErr result (λ cause. cause ≢ OutOfMemory
+        → (x : Streams) → AreStreams x streams.now
+        → ColumnRefused (shape tree.now) x column positions.now cause) }
+{
+    let placed = placed_streams(tree, streams);
+    if positions.len() != positions_size(&placed) {
+        return Err(StripeFault::BadPosition(Spot::Column(column)));
+    }
+    let (first, last) = positions.split_at(placed.present.position_size());
+    let present = match marks_from(streams.present, first) {
+        Ok(present) => present,
+        Err(fault) => return Err(entering_fault(column, StreamKind::Present, fault)),
+    };
+    match own_from(alloc, tree, column, streams, last) {
+        Ok(source) => Ok(ColumnReader { present, source }),
+        Err(fault) => Err(fault),
+    }
+}

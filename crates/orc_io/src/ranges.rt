@@ -1,0 +1,34 @@
+//! Ranges of a source.
+ghost use Rattle.std.specs.Prelude.{◌≡◌, ◌+◌, ◌≤◌, IfOk, IfSome, IsErrOf};
+ghost use Rattle.orc_io.specs.Devices.{bytes_at};
+ghost use Rattle.orc_io.specs.Ranges.{range_failures};
+ghost use Rattle.orc_io.specs.declared.range_fault.RangeFault.TheVariants.{OutOfMemory};
+
+use crate::range_fault::RangeFault;
+use crate::source::Source;
+use std::alloc::Global;
+
+/// The `len` bytes from `at` on, read in one call; for no bytes the source isn't asked. That the range lies within
+/// the source is a condition, so no memory is taken for a length that wasn't compared with the source's.
+///
+/// Refusals: `SourceFailed` where the source failed; `OutOfMemory`, and then the source wasn't asked.
+pub fn read_range<S: Source>(
+    alloc: Global,
+    source: &mut S,
+    at: u64,
+    len: u64,
+) -> Result<Vec<u8>, RangeFault>
+    requires { at + len ≤ S.size source.old }
+    ensures bytes { IfOk result (λ read. IfSome (S.told source.old) (λ bytes. read.items ≡ bytes_at at len bytes)) }
+    ensures size { S.size source.new ≡ S.size source.old }
+    ensures told { S.told source.new ≡ S.told source.old }
+    ensures failures { S.failures source.new ≡ range_failures result (S.failures source.old) }
+    ensures unasked { len ≡ 0 → source.new ≡ source.old }
+    ensures memory { IsErrOf result OutOfMemory → source.new ≡ source.old }
+{
+    let mut read = vec![in alloc; 0u8; len as usize]?;
+    if len > 0 {
+        source.read_at(at, &mut read)?;
+    }
+    Ok(read)
+}

@@ -1,0 +1,34 @@
+//! Where bytes are written to.
+ghost use Rattle.std.specs.Prelude.{◌≡◌, ◌≤◌, ℕ, List, Option, length, take, IfOk};
+ghost use Rattle.orc_io.specs.Devices.{appended, taken_of, write_failures};
+
+/// A write failed, and took nothing.
+#[derive(Clone, Copy, Debug, PartialEq, Eq)]
+pub struct SinkFault;
+
+/// An output of bytes. One that tells its bytes is bound by what it tells. The clauses tie the count of failures
+/// to the answers. That a refusal has a failure outside behind it no clause can say, so each `impl` has to be read
+/// for it.
+pub trait Sink {
+    /// The bytes that it has got, where the sink tells them.
+    ghost told: { Self → Option (List ℕ) };
+
+    /// How often a write has failed, or has taken nothing of some bytes.
+    ghost failures: { Self → ℕ };
+
+    /// Takes bytes from the front of the slice, and answers how many.
+    fn write(&mut self, bytes: &[u8]) -> Result<usize, SinkFault>
+        ensures bound { IfOk result (λ n. n ≤ length bytes.now) }
+        ensures told { told self.new ≡ appended (told self.old) (take (taken_of result) bytes.now) }
+        ensures failures { failures self.new ≡ write_failures result (length bytes.now) (failures self.old) };
+}
+
+impl<W: Sink> Sink for &mut W {
+    ghost told = { λ sink. W.told sink.now };
+
+    ghost failures = { λ sink. W.failures sink.now };
+
+    fn write(&mut self, bytes: &[u8]) -> Result<usize, SinkFault> {
+        (**self).write(bytes)
+    }
+}

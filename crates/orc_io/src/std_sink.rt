@@ -1,0 +1,54 @@
+//! A writer of the standard library as a sink.
+ghost use Rattle.std.specs.Prelude.{◌≡◌, ◌≤◌, length, None, IfOk};
+ghost use Rattle.std.specs.Io.KnownBytes.{WriteAppends};
+ghost use Rattle.orc_io.specs.Devices.{write_failures};
+
+use crate::failures::Failures;
+use crate::sink::{Sink, SinkFault};
+use std::io::Write;
+
+/// A writer. It tells nothing of its bytes as a sink, takes what the writer takes, and fails only where the
+/// writer fails or takes nothing. Nothing is tried again, and nothing is flushed.
+#[derive(Drop)]
+pub struct StdSink<W: Write> {
+    out: W,
+    failures: Failures,
+}
+
+impl<W: Write> StdSink<W> {
+    /// A sink over this writer.
+    pub fn new(out: W) -> StdSink<W>
+        ensures out { result.out ≡ out }
+        ensures fresh { result.failures ≡ 0 }
+    {
+        StdSink {
+            out,
+            failures: Failures::new(),
+        }
+    }
+}
+
+impl<W: Write> Sink for StdSink<W> {
+    ghost told = { λ _. None };
+
+    ghost failures = { λ sink. sink.failures };
+
+    fn write(&mut self, bytes: &[u8]) -> Result<usize, SinkFault>
+        ensures bound { IfOk result (λ n. n ≤ length bytes.now) }
+        ensures out { WriteAppends (W.contents self.old.out) (W.contents self.new.out) result bytes.now }
+        ensures failures { self.new.failures ≡ write_failures result (length bytes.now) self.old.failures }
+    {
+        match self.out.write(bytes) {
+            Ok(n) => {
+                if n == 0 && !bytes.is_empty() {
+                    self.failures.note();
+                }
+                Ok(n)
+            }
+            Err(_) => {
+                self.failures.note();
+                Err(SinkFault)
+            }
+        }
+    }
+}

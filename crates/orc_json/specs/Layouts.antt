@@ -1,0 +1,92 @@
+-- The text that a layout prints of a cell.
+use Rattle.std.specs.Prelude.{ℕ, List, [], ◌∷◌, ◌++◌, Bool, true, false, map, get_or}
+use Rattle.serde_json.specs.Written.{compact_text, comma_if}
+use Rattle.orc_types.specs.Cells.{Cell, null, leaf, list, struct, pairs, list_of_cells, list_of_pairs}
+use Rattle.orc_types.specs.JsonPrinting.{scalar_json}
+use Rattle.orc_json.specs.declared.layout.Layout.{Layout, fold-Layout}
+use Rattle.orc_json.specs.declared.layout.Member.{Member, fold-Member}
+use Rattle.orc_json.specs.declared.layout.PairLayout.{PairLayout, fold-PairLayout}
+use Rattle.orc_json.specs.declared.layout.Layout.TheOpen.{Layout-F, Member-F, PairLayout-F}
+
+-- a member: the text before it, its field's place, and the text of each cell
+pub record Part : Type 0 where
+  pub key : List ℕ
+  pub place : ℕ
+  pub text : Cell → List ℕ
+
+-- the text of each key of a map, and of each value
+pub record PairTexts : Type 0 where
+  pub key : Cell → List ℕ
+  pub value : Cell → List ℕ
+
+abbrev pub null_text : List ℕ
+null_text = 110 ∷ 117 ∷ 108 ∷ 108 ∷ []
+
+-- with the closing bracket
+abbrev pub elements_text : (Cell → List ℕ) → Bool → List Cell → List ℕ
+elements_text f later [] = 93 ∷ []
+elements_text f later (c ∷ cs) = comma_if later ++ (f c ++ elements_text f true cs)
+
+-- a key and its value, in brackets
+abbrev pub pair_text : PairTexts → Cell × Cell → List ℕ
+pair_text t p = 91 ∷ (t.key p.0 ++ 44 ∷ (t.value p.1 ++ 93 ∷ []))
+
+-- with the closing bracket
+abbrev pub pairs_text : PairTexts → Bool → List (Cell × Cell) → List ℕ
+pairs_text t later [] = 93 ∷ []
+pairs_text t later (p ∷ ps) = comma_if later ++ (pair_text t p ++ pairs_text t true ps)
+
+-- each member with the cell at its place, and the closing brace
+abbrev pub parts_text : List Part → List Cell → List ℕ
+parts_text [] cs = 125 ∷ []
+parts_text (p ∷ ps) cs = p.key ++ (p.text (get_or cs p.place null) ++ parts_text ps cs)
+
+abbrev pub list_text : (Cell → List ℕ) → Cell → List ℕ
+list_text f null = null_text
+list_text f (leaf a) = null_text
+list_text f (list cs) = 91 ∷ elements_text f false (list_of_cells cs)
+list_text f (struct cs) = null_text
+list_text f (pairs ps) = null_text
+
+abbrev pub map_text : PairTexts → Cell → List ℕ
+map_text t null = null_text
+map_text t (leaf a) = null_text
+map_text t (list cs) = null_text
+map_text t (struct cs) = null_text
+map_text t (pairs ps) = 91 ∷ pairs_text t false (list_of_pairs ps)
+
+abbrev pub struct_text : List Part → Cell → List ℕ
+struct_text ps null = null_text
+struct_text ps (leaf a) = null_text
+struct_text ps (list cs) = null_text
+struct_text ps (struct cs) = 123 ∷ parts_text ps (list_of_cells cs)
+struct_text ps (pairs qs) = null_text
+
+abbrev pub leaf_text : Cell → List ℕ
+leaf_text c = compact_text (scalar_json c)
+
+abbrev pub layout_step : Layout-F (Cell → List ℕ) Part PairTexts → Cell → List ℕ
+layout_step Layout-F.Leaf = leaf_text
+layout_step (Layout-F.List f) = list_text f.value
+layout_step (Layout-F.Map t) = map_text t.value
+layout_step (Layout-F.Struct ps xs) = struct_text ps.items
+
+abbrev pub member_step : Member-F (Cell → List ℕ) Part PairTexts → Part
+member_step m = record { key = m.key.items; place = m.place; text = m.layout }
+
+abbrev pub pair_step : PairLayout-F (Cell → List ℕ) Part PairTexts → PairTexts
+pair_step p = record { key = p.key; value = p.value }
+
+-- what is printed of a cell
+abbrev pub text_by : Layout → Cell → List ℕ
+text_by = fold-Layout (Cell → List ℕ) Part PairTexts layout_step member_step pair_step
+
+abbrev pub part : Member → Part
+part = fold-Member (Cell → List ℕ) Part PairTexts layout_step member_step pair_step
+
+abbrev pub member_parts : List Member → List Part
+member_parts ms = map part ms
+
+-- what is printed of the keys and the values of a map
+abbrev pub pair_texts : PairLayout → PairTexts
+pair_texts = fold-PairLayout (Cell → List ℕ) Part PairTexts layout_step member_step pair_step

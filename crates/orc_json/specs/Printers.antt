@@ -1,0 +1,15 @@
+-- The fields of a `RowPrinter`.
+use Rattle.std.specs.Prelude.{◌≡◌}
+use Rattle.orc_types.specs.Shapes.{Shape}
+use Rattle.orc_types.specs.FieldNames.{is_distinct}
+use Rattle.orc_json.specs.Layouts.{text_by}
+use Rattle.orc_json.specs.Texts.{Prints}
+use Rattle.orc_json.specs.declared.row_printer.RowPrinter.TheInside.{Inside}
+
+abbrev pub shape_of : Inside → Shape
+shape_of p = p.schema.value
+
+-- the layout prints the schema's rows
+pub record PrintsRows (p : Inside) : Type 0 where
+  pub text : Prints (text_by p.layout) (shape_of p)
+  pub distinct : p.distinct ≡ is_distinct (shape_of p)

@@ -1,6 +1,0 @@
-use Rattle.orc_types.specs.Views.{shape}
-use Rattle.orc_positions.proofs.Entries.{Deciding}
-use Rattle.orc_positions.proofs.decided.positions_right_behind.Given as goal
-
-abbrev pub invariant-loop-group : goal.invariant-loop-group
-invariant-loop-group l = Deciding (shape l.fn.tree) l.fn.streams l.fn.counts l.fn.entries l.group l.right.items

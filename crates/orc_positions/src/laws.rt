@@ -1,0 +1,176 @@
+//! Laws of positions, and what a writer's positions cost.
+ghost use Rattle.std.specs.Prelude.{◌≡◌, ◌≢◌, ℕ, min, ℤ, Bool, List, [], ◌+◌, ◌/◌, ◌≤◌, length, drop, Ok, Err, IfOk, IfErr, OnErr};
+ghost use Rattle.orc_rle.specs.declared.fault.RunFault.{RunFault};
+ghost use Rattle.orc_rle.specs.declared.fault.RunFault.TheVariants.{OutOfMemory};
+ghost use Rattle.orc_rle.specs.declared.sign.Sign.{Sign};
+ghost use Rattle.orc_rle.specs.BitStream.{IsBitStream};
+ghost use Rattle.orc_rle.specs.ByteRun.{IsByteRun, NoByteRun};
+ghost use Rattle.orc_rle.specs.Seeking.{bytes_needed, Seeks, SeekFails, SeeksBits, BitSeekFails};
+ghost use Rattle.orc_rle.specs.Stream.{IsStream};
+ghost use Rattle.orc_positions.specs.Position.{Begins, GoesOn, RunsLeft, IsPlace, HasValues};
+ghost use Rattle.orc_positions.specs.BitPosition.{BeginsBits, BitsGoOn, BitsLeft, IsBitPlace, HasBits};
+ghost use Rattle.orc_positions.specs.Marks.{start_of_stream, IsMark};
+
+use orc_rle::{BitPos, BitRuns, ByteRuns, Pos, Run, RunCodec, RunFault, RunU8, Sign};
+
+/// Laws of positions in streams of integers. A position that names value n is found, and what is left of the
+/// run decoded last and the runs after it are the values from n on. It names one value; only the
+/// bytes from its offset on have a part in what is answered. A value has one place of the writer's.
+pub fn seek_laws<C: RunCodec>()
+    ensures sought { (sign : Sign) (bytes : List ℕ) (offset skip n : ℕ) (all : List ℤ)
+        → Begins (C.is_run sign) bytes offset skip n
+        → IsStream (C.is_run sign) bytes all
+        → GoesOn (C.is_run sign) bytes offset skip skip (drop n all) }
+    ensures goes_on { (sign : Sign) (bytes : List ℕ) (offset skip n at : ℕ) (left all : List ℤ)
+        → Begins (C.is_run sign) bytes offset skip n
+        → IsStream (C.is_run sign) bytes all
+        → Seeks (C.is_run sign) bytes offset skip skip at left
+        → RunsLeft (C.is_run sign) left (drop at bytes) (drop n all) }
+    ensures one_number { (sign : Sign) (bytes : List ℕ) (offset skip n m : ℕ)
+        → Begins (C.is_run sign) bytes offset skip n → Begins (C.is_run sign) bytes offset skip m → n ≡ m }
+    ensures alone { (sign : Sign) (a b : List ℕ) (offset skip at : ℕ) (left : List ℤ)
+        → drop offset a ≡ drop offset b
+        → offset ≤ length b
+        → Seeks (C.is_run sign) a offset skip skip at left
+        → Seeks (C.is_run sign) b offset skip skip at left }
+    ensures goes_on_alone { (sign : Sign) (a b : List ℕ) (offset skip : ℕ) (all : List ℤ)
+        → drop offset a ≡ drop offset b
+        → offset ≤ length b
+        → GoesOn (C.is_run sign) a offset skip skip all
+        → GoesOn (C.is_run sign) b offset skip skip all }
+    ensures fails_alone { (sign : Sign) (a b : List ℕ) (offset skip : ℕ) (fault : RunFault)
+        → drop offset a ≡ drop offset b
+        → offset ≤ length a
+        → offset ≤ length b
+        → SeekFails (C.is_run sign) (C.fails sign) a offset skip fault
+        → SeekFails (C.is_run sign) (C.fails sign) b offset skip fault }
+    ensures one_place { (sign : Sign) (bytes : List ℕ) (o p s t n : ℕ)
+        → IsPlace (C.is_run sign) bytes o s n → IsPlace (C.is_run sign) bytes p t n → (o ≡ p) × (s ≡ t) }
+    ensures start { (sign : Sign) (bytes : List ℕ) (all : List ℤ)
+        → IsStream (C.is_run sign) bytes all → IsMark (C.is_run sign) bytes start_of_stream }
+{}
+
+/// The same of streams of bytes.
+pub fn byte_seek_laws()
+    ensures sought { (bytes : List ℕ) (offset skip n : ℕ) (all : List ℕ) → Begins IsByteRun bytes offset skip n
+        → IsStream IsByteRun bytes all → GoesOn IsByteRun bytes offset skip skip (drop n all) }
+    ensures goes_on { (bytes : List ℕ) (offset skip n at : ℕ) (left all : List ℕ)
+        → Begins IsByteRun bytes offset skip n
+        → IsStream IsByteRun bytes all
+        → Seeks IsByteRun bytes offset skip skip at left
+        → RunsLeft IsByteRun left (drop at bytes) (drop n all) }
+    ensures one_number { (bytes : List ℕ) (offset skip n m : ℕ)
+        → Begins IsByteRun bytes offset skip n → Begins IsByteRun bytes offset skip m → n ≡ m }
+    ensures alone { (a b : List ℕ) (offset skip need at : ℕ) (left : List ℕ)
+        → drop offset a ≡ drop offset b
+        → offset ≤ length b
+        → Seeks IsByteRun a offset skip need at left
+        → Seeks IsByteRun b offset skip need at left }
+    ensures goes_on_alone { (a b : List ℕ) (offset skip : ℕ) (all : List ℕ)
+        → drop offset a ≡ drop offset b
+        → offset ≤ length b
+        → GoesOn IsByteRun a offset skip skip all
+        → GoesOn IsByteRun b offset skip skip all }
+    ensures fails_alone { (a b : List ℕ) (offset need : ℕ) (fault : RunFault)
+        → drop offset a ≡ drop offset b
+        → offset ≤ length a
+        → offset ≤ length b
+        → SeekFails IsByteRun NoByteRun a offset need fault
+        → SeekFails IsByteRun NoByteRun b offset need fault }
+    ensures one_place { (bytes : List ℕ) (o p s t n : ℕ)
+        → IsPlace IsByteRun bytes o s n → IsPlace IsByteRun bytes p t n → (o ≡ p) × (s ≡ t) }
+    ensures start { (bytes all : List ℕ) → IsStream IsByteRun bytes all → IsMark IsByteRun bytes start_of_stream }
+{}
+
+/// The same of streams of booleans, of which bytes have so many: the boolean named is that of the byte and
+/// of the digits that are passed.
+pub fn bit_seek_laws()
+    ensures sought { (bytes : List ℕ) (offset skip bits n : ℕ) (all : List Bool)
+        → BeginsBits bytes (length all) offset skip bits n
+        → IsBitStream bytes all
+        → BitsGoOn bytes offset skip bits (drop n all) }
+    ensures goes_on { (bytes : List ℕ) (offset skip bits n at : ℕ) (left : List ℕ) (all : List Bool)
+        → BeginsBits bytes (length all) offset skip bits n
+        → IsBitStream bytes all
+        → SeeksBits bytes offset skip bits at left
+        → BitsLeft left (drop at bytes) bits (drop n all) }
+    ensures one_number { (bytes : List ℕ) (total offset skip bits n m : ℕ) → BeginsBits bytes total offset skip bits n
+        → BeginsBits bytes total offset skip bits m → n ≡ m }
+    ensures alone { (a b : List ℕ) (offset skip bits at : ℕ) (left : List ℕ)
+        → drop offset a ≡ drop offset b
+        → offset ≤ length b
+        → SeeksBits a offset skip bits at left
+        → SeeksBits b offset skip bits at left }
+    ensures goes_on_alone { (a b : List ℕ) (offset skip bits : ℕ) (all : List Bool)
+        → drop offset a ≡ drop offset b
+        → offset ≤ length b
+        → BitsGoOn a offset skip bits all
+        → BitsGoOn b offset skip bits all }
+    ensures fails_alone { (a b : List ℕ) (offset skip bits : ℕ) (fault : RunFault)
+        → drop offset a ≡ drop offset b
+        → offset ≤ length a
+        → offset ≤ length b
+        → BitSeekFails a offset skip bits fault
+        → BitSeekFails b offset skip bits fault }
+    ensures place { (bytes : List ℕ) (total offset skip bits n : ℕ)
+        → IsBitPlace bytes total offset skip bits n → BeginsBits bytes total offset skip bits n }
+    ensures one_place { (bytes : List ℕ) (total o p s t k l n : ℕ)
+        → IsBitPlace bytes total o s k n → IsBitPlace bytes total p t l n → (o ≡ p) × (s ≡ t) × (k ≡ l) }
+    ensures there { (bytes : List ℕ) (total n : ℕ)
+        → HasBits bytes total → n ≤ total → HasValues IsByteRun bytes (n / 8) }
+{}
+
+/// What `C::seek` answers from a position of the writer's: one run is decoded, and none where no value is passed.
+pub fn seek_place<C: RunCodec>(
+    bytes: &[u8],
+    sign: Sign,
+    pos: Pos,
+    run: &mut Run,
+) -> Result<usize, RunFault>
+    requires { (n : ℕ) × IsPlace (C.is_run sign) bytes.now pos.offset pos.skip n }
+    ensures found { IfOk result (λ at. Seeks (C.is_run sign) bytes.now pos.offset pos.skip pos.skip at run.new.values) }
+    ensures only { (at : ℕ) (left : List ℤ)
+        → Seeks (C.is_run sign) bytes.now pos.offset pos.skip pos.skip at left
+        → (result ≡ Ok at) × (run.new.values ≡ left) }
+    ensures fault { IfErr result (SeekFails (C.is_run sign) (C.fails sign) bytes.now pos.offset pos.skip) }
+    ensures refused { (fault : RunFault)
+        → SeekFails (C.is_run sign) (C.fails sign) bytes.now pos.offset pos.skip fault → result ≡ Err fault }
+    ensures no_memory { IfErr result (λ fault. fault ≢ OutOfMemory) }
+    ensures empty { OnErr result (run.new.values ≡ []) }
+    ensures count { run.new.count ≡ run.old.count + min 1 pos.skip }
+{
+    C::seek(bytes, sign, pos, run)
+}
+
+/// The same in a stream of bytes.
+pub fn byte_seek_place(bytes: &[u8], pos: Pos, run: &mut RunU8) -> Result<usize, RunFault>
+    requires { (n : ℕ) × IsPlace IsByteRun bytes.now pos.offset pos.skip n }
+    ensures found { IfOk result (λ at. Seeks IsByteRun bytes.now pos.offset pos.skip pos.skip at run.new.values) }
+    ensures only { (at : ℕ) (left : List ℕ)
+        → Seeks IsByteRun bytes.now pos.offset pos.skip pos.skip at left → (result ≡ Ok at) × (run.new.values ≡ left) }
+    ensures fault { IfErr result (SeekFails IsByteRun NoByteRun bytes.now pos.offset pos.skip) }
+    ensures refused { (fault : RunFault)
+        → SeekFails IsByteRun NoByteRun bytes.now pos.offset pos.skip fault → result ≡ Err fault }
+    ensures no_memory { IfErr result (λ fault. fault ≢ OutOfMemory) }
+    ensures empty { OnErr result (run.new.values ≡ []) }
+    ensures count { run.new.count ≡ run.old.count + min 1 pos.skip }
+{
+    ByteRuns::seek(bytes, pos, run)
+}
+
+/// The same in a stream of booleans.
+pub fn bit_seek_place(bytes: &[u8], pos: BitPos, run: &mut RunU8) -> Result<usize, RunFault>
+    requires { (total : ℕ) × (n : ℕ)
+        × HasBits bytes.now total × IsBitPlace bytes.now total pos.offset pos.skip pos.bits n }
+    ensures found { IfOk result (λ at. SeeksBits bytes.now pos.offset pos.skip pos.bits at run.new.values) }
+    ensures only { (at : ℕ) (left : List ℕ)
+        → SeeksBits bytes.now pos.offset pos.skip pos.bits at left → (result ≡ Ok at) × (run.new.values ≡ left) }
+    ensures fault { IfErr result (BitSeekFails bytes.now pos.offset pos.skip pos.bits) }
+    ensures refused { (fault : RunFault)
+        → BitSeekFails bytes.now pos.offset pos.skip pos.bits fault → result ≡ Err fault }
+    ensures no_memory { IfErr result (λ fault. fault ≢ OutOfMemory) }
+    ensures empty { OnErr result (run.new.values ≡ []) }
+    ensures count { run.new.count ≡ run.old.count + min 1 (bytes_needed pos.skip pos.bits) }
+{
+    BitRuns::seek(bytes, pos, run)
+}

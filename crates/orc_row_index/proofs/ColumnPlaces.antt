@@ -1,0 +1,142 @@
+-- The places of a column: there in streams that spell its cells, one list behind some cells, and right for a reader.
+use Rattle.std.proofs.Common.{◌≡◌, ℕ, suc, ◌+◌, ◌≤◌, min, Bool, true, false, List, [], ◌∷◌, ◌++◌, length, map, refl, sym, ap, ◌∙◌, arith, length-append, zero-add}
+use Rattle.std.proofs.lemmas.List.{length-map}
+use Rattle.std.proofs.lemmas.List.Sums.{sum_by-append, sum_by-cons}
+use Rattle.orc_positions.proofs.BitPositionLemmas.{has_bytes}
+use Rattle.orc_types.specs.Cells.{Cell, null, leaf, list, struct, pairs, is_value, parts, pairs_in, values}
+use Rattle.orc_types.specs.Shapes.{Shape, scalar, list_of, map_of, struct_of}
+use Rattle.orc_types.specs.declared.kind.Scalar.{Scalar}
+use Rattle.orc_types.specs.declared.kind.Scalar.TheVariants as kind
+use Rattle.orc_types.proofs.Together.{values-append}
+use Rattle.orc_column_reader.specs.Columns.{IsBool, IsByte, IsInt, IsDate, IsText, IsBinary}
+use Rattle.orc_column_reader.specs.Spellings.{AllStand, joined, size}
+use Rattle.orc_column_reader.specs.Stripe.{Streams, has_dictionary, Marks, SpellsTexts, SpellsScalar, SpellsValues, IsColumn}
+use Rattle.orc_row_index.specs.RunStreams.{present_runs, text_runs, scalar_runs, own_runs, text_octets, scalar_octets, own_octets}
+use Rattle.orc_row_index.specs.Places.{octets_in, octets, octets_place, AreReadPlaces, AreWrittenPlaces}
+use Rattle.orc_row_index.specs.Walking.{most, HasPlace, HasOctets, AreCounted, HavePlaces}
+use Rattle.orc_row_index.specs.declared.counts.Counts.{Counts}
+use Rattle.orc_row_index.proofs.StreamPlaces.{place_read, one_stream_place}
+
+-- ---- counts
+
+pub values_more : (a b : List Cell) → length (values (a ++ b)) ≡ length (values a) + length (values b)
+values_more a b = ap length (values-append a b) ∙ length-append (values a) (values b)
+
+pub octets_more : (a b : List Cell) → octets (a ++ b) ≡ octets a + octets b
+octets_more a b = sum_by-append octets_in a b
+
+-- the counts of more cells
+pub counted_more : (k m : Counts) (front cs : List Cell) → AreCounted k front → m.cells ≡ k.cells + length cs → m.values ≡ k.values + length (values cs)
+    → m.octets ≡ min most (k.octets + octets cs) → AreCounted m (front ++ cs)
+counted_more k m front cs h c v o = record {
+  cells_are = omega (arith, h.cells_are, c, length-append front cs);
+  values_are = omega (arith, h.values_are, v, values_more front cs);
+  octets_are = omega (arith, h.octets_are, o, octets_more front cs);
+}
+
+-- ---- a column's streams have the values that its cells have
+
+pub octets_of_values : (cs : List Cell) → octets (values cs) ≡ octets cs
+octets_of_values [] = refl
+octets_of_values (null ∷ cs) = octets_of_values cs ∙ sym (sum_by-cons octets_in null cs ∙ zero-add (octets cs))
+octets_of_values (leaf a ∷ cs) = sum_by-cons octets_in (leaf a) (values cs) ∙ ap (λ (n : ℕ). octets_in (leaf a) + n) (octets_of_values cs) ∙ sym (sum_by-cons octets_in (leaf a) cs)
+octets_of_values (list xs ∷ cs) = sum_by-cons octets_in (list xs) (values cs) ∙ ap (λ (n : ℕ). octets_in (list xs) + n) (octets_of_values cs) ∙ sym (sum_by-cons octets_in (list xs) cs)
+octets_of_values (struct xs ∷ cs) = sum_by-cons octets_in (struct xs) (values cs) ∙ ap (λ (n : ℕ). octets_in (struct xs) + n) (octets_of_values cs) ∙ sym (sum_by-cons octets_in (struct xs) cs)
+octets_of_values (pairs ps ∷ cs) = sum_by-cons octets_in (pairs ps) (values cs) ∙ ap (λ (n : ℕ). octets_in (pairs ps) + n) (octets_of_values cs) ∙ sym (sum_by-cons octets_in (pairs ps) cs)
+
+pub stand_long : {X : Type 0} (stands : X → Cell → Type 0) (xs : List X) (cs : List Cell) → AllStand stands xs cs → length xs ≡ length cs
+stand_long stands [] [] h = refl
+stand_long stands [] (c ∷ cs) h = absurd h
+stand_long stands (x ∷ xs) [] h = absurd h
+stand_long stands (x ∷ xs) (c ∷ cs) h = ap suc (stand_long stands xs cs h.1)
+
+-- the bytes that stand for cells are as many as the cells have
+stand_octets : (stands : List ℕ → Cell → Type 0) → ((t : List ℕ) (c : Cell) → stands t c → octets_in c ≡ length t) → (ts : List (List ℕ)) (cs : List Cell) → AllStand stands ts cs → length (joined ts) ≡ octets cs
+stand_octets stands long [] [] h = refl
+stand_octets stands long [] (c ∷ cs) h = absurd h
+stand_octets stands long (t ∷ ts) [] h = absurd h
+stand_octets stands long (t ∷ ts) (c ∷ cs) h =
+    let first = long t c h.0 in
+    let rest = stand_octets stands long ts cs h.1 in
+    omega (arith, length-append t (joined ts), first, rest, sum_by-cons octets_in c cs)
+
+text_long : (t : List ℕ) (c : Cell) → IsText t c → octets_in c ≡ length t
+text_long t c h = ap octets_in h.1
+
+binary_long : (t : List ℕ) (c : Cell) → IsBinary t c → octets_in c ≡ length t
+binary_long t c h = ap octets_in h.1
+
+present_there : (b : List ℕ) (marks : List Bool) (n : ℕ) → Marks b marks → n ≤ length marks → HasPlace (present_runs b) n
+present_there [] marks n h le = tt
+present_there (x ∷ b) marks n h le = has_bytes (x ∷ b) (length marks) n (marks, h, refl) le
+
+texts_there : (d : Bool) (x : Streams) (vs : List Cell) (n : ℕ) → SpellsTexts x d vs → n ≤ length vs → HasPlace (text_runs d x) n
+texts_there true x vs n h le = let s = h.2 in (s.0, s.2, omega (arith, le, stand_long _ s.0 vs s.1))
+texts_there false x vs n h le = (map size h.0, h.2.0, omega (arith, le, stand_long IsText h.0 vs h.1, length-map h.0 (size {X = ℕ})))
+
+scalar_there : (k : Scalar) (x : Streams) (vs : List Cell) (n : ℕ) → SpellsScalar k x vs → n ≤ length vs → HasPlace (scalar_runs k x) n
+scalar_there kind.Boolean x vs n h le = has_bytes (x.stream 1) (length h.0) n (h.0, h.2, refl) (omega (arith, le, stand_long IsBool h.0 vs h.1))
+scalar_there kind.Byte x vs n h le = (h.0, h.2, omega (arith, le, stand_long IsByte h.0 vs h.1))
+scalar_there kind.Short x vs n h le = (h.0, h.2, omega (arith, le, stand_long (IsInt kind.Short) h.0 vs h.1))
+scalar_there kind.Int x vs n h le = (h.0, h.2, omega (arith, le, stand_long (IsInt kind.Int) h.0 vs h.1))
+scalar_there kind.Long x vs n h le = (h.0, h.2, omega (arith, le, stand_long (IsInt kind.Long) h.0 vs h.1))
+scalar_there kind.Date x vs n h le = (h.0, h.2, omega (arith, le, stand_long IsDate h.0 vs h.1))
+scalar_there kind.String x vs n h le = texts_there (has_dictionary x) x vs n h le
+scalar_there kind.Binary x vs n h le = (map size h.0, h.2.0, omega (arith, le, stand_long IsBinary h.0 vs h.1, length-map h.0 (size {X = ℕ})))
+
+own_there : (s : Shape) (x : Streams) (vs : List Cell) (n : ℕ) → SpellsValues s x vs → n ≤ length vs → HasPlace (own_runs s x) n
+own_there (scalar k o) x vs n h le = scalar_there k x vs n h le
+own_there (list_of s o) x vs n h le = (map (λ v. size (parts v)) vs, h, omega (arith, le, length-map vs (λ (v : Cell). size (parts v))))
+own_there (map_of k v o) x vs n h le = (map (λ m. size (pairs_in m)) vs, h, omega (arith, le, length-map vs (λ (m : Cell). size (pairs_in m))))
+own_there (struct_of fs o) x vs n h le = tt
+
+text_content : (d : Bool) (x : Streams) (vs : List Cell) (n : ℕ) → SpellsTexts x d vs → n ≤ octets vs → HasOctets (text_octets d x) n
+text_content true x vs n h le = tt
+text_content false x vs n h le = omega (arith, ap length h.2.1, stand_octets IsText text_long h.0 vs h.1, le)
+
+scalar_content : (k : Scalar) (x : Streams) (vs : List Cell) (n : ℕ) → SpellsScalar k x vs → n ≤ octets vs → HasOctets (scalar_octets k x) n
+scalar_content kind.Boolean x vs n h le = tt
+scalar_content kind.Byte x vs n h le = tt
+scalar_content kind.Short x vs n h le = tt
+scalar_content kind.Int x vs n h le = tt
+scalar_content kind.Long x vs n h le = tt
+scalar_content kind.Date x vs n h le = tt
+scalar_content kind.String x vs n h le = text_content (has_dictionary x) x vs n h le
+scalar_content kind.Binary x vs n h le = omega (arith, ap length h.2.1, stand_octets IsBinary binary_long h.0 vs h.1, le)
+
+own_content : (s : Shape) (x : Streams) (vs : List Cell) (n : ℕ) → SpellsValues s x vs → n ≤ octets vs → HasOctets (own_octets s x) n
+own_content (scalar k o) x vs n h le = scalar_content k x vs n h le
+own_content (list_of s o) x vs n h le = tt
+own_content (map_of k v o) x vs n h le = tt
+own_content (struct_of fs o) x vs n h le = tt
+
+-- streams that spell a column's cells have the places behind each front of them
+pub column_there : (s : Shape) (x : Streams) (column before after : List Cell) → column ≡ before ++ after → IsColumn s x column → HavePlaces (present_runs (x.stream 0)) (own_octets s x) (own_runs s x) before
+column_there s x column before after e h =
+    let cells : length column ≡ length before + length after = ap length e ∙ length-append before after in
+    let vs : length (values column) ≡ length (values before) + length (values after) = ap (λ cs. length (values cs)) e ∙ values_more before after in
+    let os : octets (values column) ≡ octets before + octets after = octets_of_values column ∙ ap octets e ∙ octets_more before after in
+    record {
+      in_present = present_there (x.stream 0) (map is_value column) (length before) h.marks (omega (arith, cells, length-map column is_value));
+      in_content = own_content s x (values column) (octets before) h.spelled (omega (arith, os));
+      in_own = own_there s x (values column) (length (values before)) h.spelled (omega (arith, vs));
+    }
+
+-- ---- laws of places
+
+-- a writer's places are right for a reader
+pub places_read : (s : Shape) (x : Streams) (before : List Cell) (ps : List ℕ) → AreWrittenPlaces s x before ps → AreReadPlaces s x before ps
+places_read s x before ps h = record {
+  first = h.first;
+  last = h.last;
+  parts = h.parts;
+  present_place = place_read (present_runs (x.stream 0)) (length before) h.first h.present_place;
+  own_place = place_read (own_runs s x) (length (values before)) h.last h.own_place;
+}
+
+-- and there is one list of them
+pub one_places : (s : Shape) (x : Streams) (before : List Cell) (ps qs : List ℕ) → AreWrittenPlaces s x before ps → AreWrittenPlaces s x before qs → ps ≡ qs
+one_places s x before ps qs h k =
+    let first = one_stream_place (present_runs (x.stream 0)) (length before) h.first k.first h.present_place k.present_place in
+    let last = one_stream_place (own_runs s x) (length (values before)) h.last k.last h.own_place k.own_place in
+    h.parts ∙ (λ i. first i ++ (octets_place (own_octets s x) (octets before) ++ last i)) ∙ sym k.parts

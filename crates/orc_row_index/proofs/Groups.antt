@@ -1,0 +1,321 @@
+-- Groups of a column's cells, one after the other.
+use Rattle.std.proofs.Common.{◌≡◌, ℕ, zero, suc, ◌+◌, ◌-◌, ◌<◌, ◌≤◌, min, true, Option, Some, List, [], ◌∷◌, ◌++◌, length, map, take, drop, get_or, slice_get, refl, sym, ap, ◌∙◌, subst, arith, inl, inr, ◌⊎◌, append_assoc, length-append, length-drop}
+use Rattle.std.specs.List.{flat_map, drop-map, AllByRecursion}
+use Rattle.std.proofs.Math.ListN.{get_or-map}
+use Rattle.std.proofs.Math.Seq.{take-add}
+use Rattle.std.proofs.lemmas.Grind.{get_or_default_zero}
+use Rattle.std.proofs.lemmas.List.{length-map, take_all, take-append-drop, drop-take, take-map}
+use Rattle.orc_positions.specs.BitPosition.{IsBitPlace}
+use Rattle.orc_positions.specs.Marks.{start_of_stream}
+use Rattle.orc_positions.specs.declared.mark.Mark.{Mark}
+use Rattle.orc_wire.specs.declared.row_index.RowIndexEntry.{RowIndexEntry}
+use Rattle.orc_types.specs.Cells.{Cell, null, leaf, list, struct, pairs, parts, pairs_in, keys_in, values_in, values}
+use Rattle.orc_types.specs.Fits.{fits, RowsFit}
+use Rattle.orc_types.specs.Lent.{lent_cells}
+use Rattle.orc_types.specs.Shapes.{Shape}
+use Rattle.orc_types.specs.Views.{view}
+use Rattle.orc_types.specs.declared.lent.Lent.{Lent}
+use Rattle.orc_types.proofs.Together.{values-append, flat_map-append}
+use Rattle.orc_stats.specs.Kinds.{kind_of}
+use Rattle.orc_stats.specs.Messages.{message_of}
+use Rattle.orc_stats.specs.Statistics.{stat}
+use Rattle.orc_column_reader.specs.Starting.{AreStreams}
+use Rattle.orc_column_reader.specs.Stripe.{Streams, IsColumn}
+use Rattle.orc_column_reader.specs.declared.starting.ColumnStreams.{ColumnStreams}
+use Rattle.orc_row_index.specs.Bounds.{bound_at, AreBounds, before_group, group_of, elements_before, pairs_before, values_before}
+use Rattle.orc_row_index.specs.Places.{octets, PlacesIn, is_place, AreWrittenPlaces}
+use Rattle.orc_row_index.specs.RowIndex.{IsWrittenEntry, AreEntries}
+use Rattle.orc_row_index.specs.RunStreams.{RunStream, present_runs, own_octets}
+use Rattle.orc_row_index.specs.Walking.{runs, lent_bytes, most, ArePlaced, BeginsBefore, AreCounted, HavePlaces, WalkedBefore}
+use Rattle.orc_row_index.specs.declared.counts.Counts.{Counts}
+use Rattle.orc_row_index.specs.declared.placed.PlacedStreams.{PlacedStreams}
+use Rattle.orc_row_index.specs.declared.walk.Walk.{Walk}
+use Rattle.orc_row_index.proofs.ColumnPlaces.{counted_more, column_there, values_more}
+use Rattle.orc_row_index.proofs.StreamPlaces.{starts_before, later_before}
+
+-- ---- bounds
+
+-- no group begins past the end
+pub bound_within : (count : ℕ) (bounds : List ℕ) (group : ℕ) → AreBounds count bounds → bound_at count bounds group ≤ count
+bound_within count [] group h = omega arith
+bound_within count (b ∷ bs) zero h = omega (arith, h 0, bound_within count bs 0 (λ g. h (suc g)))
+bound_within count (b ∷ bs) (suc group) h = bound_within count bs group (λ g. h (suc g))
+
+-- a longer front is a shorter one and the cells between
+pub cells_between : (cells : List Cell) (at start : ℕ) → at ≤ start → take start cells ≡ take at cells ++ take (start - at) (drop at cells)
+cells_between cells at start le =
+    let sum : start ≡ at + (start - at) = omega (arith, le) in
+    ap (λ (n : ℕ). take n cells) sum ∙ take-add at (start - at) cells
+
+-- cells that are lent of a part are that part of those that are lent
+pub lent_between : (rs : List Lent) (at n : ℕ) → lent_cells (take n (drop at rs)) ≡ take n (drop at (lent_cells rs))
+lent_between rs at n = sym (take-map (λ (r : Lent). view r.0.now) n (drop at rs)) ∙ ap (take n) (sym (drop-map (λ (r : Lent). view r.0.now) at rs))
+
+-- the cells from a group's bound to where it ends are the group's
+pub group_between : (cells : List Cell) (bounds : List ℕ) (group start end : ℕ) → AreBounds (length cells) bounds → start ≡ bound_at (length cells) bounds group → end ≡ bound_at (length cells) bounds (group + 1)
+    → take (end - start) (drop start cells) ≡ group_of cells bounds group
+group_between cells bounds group start end h s e =
+    let next : group + 1 ≡ suc group = omega arith in
+    let last : end ≡ bound_at (length cells) bounds (suc group) = e ∙ ap (λ (n : ℕ). bound_at (length cells) bounds n) next in
+    let le : start ≤ end = omega (arith, h group, s, last) in
+    let sum : end ≡ start + (end - start) = omega (arith, le) in
+    sym (drop-take start (end - start) cells) ∙ ap (λ (n : ℕ). drop start (take n cells)) (sym sum) ∙ (λ i. drop (s i) (take (last i) cells))
+
+-- the bound that a loop reads
+pub bound_read : (count : ℕ) (bounds : List ℕ) (group : ℕ) → group < length bounds → get_or bounds group 0 ≡ bound_at count bounds group
+bound_read count bounds group lt = sym (get_or_default_zero bounds group count lt)
+
+-- what has come no further than a group has come no further than its bound
+pub bound_ahead : (count : ℕ) (bounds : List ℕ) (group at : ℕ) → group < length bounds → at ≤ bound_at count bounds group → at ≤ get_or bounds group 0
+bound_ahead count bounds group at lt le = omega (arith, le, bound_read count bounds group lt)
+
+-- the next one is not below it
+pub bound_up : (count : ℕ) (bounds : List ℕ) (group : ℕ) → AreBounds count bounds → bound_at count bounds group ≤ bound_at count bounds (group + 1)
+bound_up count bounds group h =
+    let next : suc group ≡ group + 1 = omega arith in
+    subst (λ (n : ℕ). bound_at count bounds group ≤ bound_at count bounds n) next (h group)
+
+pub bound_rises : (count : ℕ) (bounds : List ℕ) (group : ℕ) → AreBounds count bounds → group < length bounds → get_or bounds group 0 ≤ bound_at count bounds (group + 1)
+bound_rises count bounds group h lt = omega (arith, bound_up count bounds group h, bound_read count bounds group lt)
+
+pub lent_long : (rs : List Lent) → length (lent_cells rs) ≡ length rs
+lent_long rs = length-map rs (λ (r : Lent). view r.0.now)
+
+-- a bound is a place among the cells
+pub bound_there : (rs : List Lent) (bounds : List ℕ) (group : ℕ) → AreBounds (length (lent_cells rs)) bounds → group < length bounds → get_or bounds group 0 ≤ length rs
+bound_there rs bounds group h lt = omega (arith, bound_read (length (lent_cells rs)) bounds group lt, bound_within (length (lent_cells rs)) bounds group h, lent_long rs)
+
+map_next : (f : ℕ → ℕ) (bounds : List ℕ) (i : ℕ) → i < length bounds → map f (drop i bounds) ≡ f (get_or bounds i 0) ∷ map f (drop (suc i) bounds)
+map_next f [] i lt = absurd (omega (arith, lt))
+map_next f (b ∷ bs) zero lt = refl
+map_next f (b ∷ bs) (suc i) lt = map_next f bs i (omega (arith, lt))
+
+-- one more bound is found
+pub found_more : (f : ℕ → ℕ) (bounds : List ℕ) (i n : ℕ) (found new : List ℕ) → i < length bounds → n ≡ f (get_or bounds i 0) → new ≡ found ++ n ∷ [] → found ++ map f (drop i bounds) ≡ map f bounds
+    → new ++ map f (drop (i + 1) bounds) ≡ map f bounds
+found_more f bounds i n found new lt is pushed h =
+    let next : i + 1 ≡ suc i = omega arith in
+    let rest = map f (drop (suc i) bounds) in
+    ap (λ (k : ℕ). new ++ map f (drop k bounds)) next ∙ ap (λ (t : List ℕ). t ++ rest) pushed ∙ append_assoc found (n ∷ []) rest ∙ ap (λ (k : ℕ). found ++ k ∷ rest) is
+    ∙ ap (λ (t : List ℕ). found ++ t) (sym (map_next f bounds i lt)) ∙ h
+
+-- what counts more where there is more takes bounds to bounds
+pub bounds_map : (f : ℕ → ℕ) → ((a b : ℕ) → a ≤ b → f a ≤ f b) → (count : ℕ) (bounds : List ℕ) → AreBounds count bounds → AreBounds (f count) (map f bounds)
+bounds_map f rises count bounds h = λ group.
+    let e = get_or-map f bounds group count in
+    let d = get_or-map f bounds (suc group) count in
+    omega (arith, e, d, rises (bound_at count bounds group) (bound_at count bounds (suc group)) (h group))
+
+-- what cells contain, by any rule: of more cells it is more
+contents_more : {X : Type 0} (inside : Cell → List X) (a b : List Cell) → length (flat_map inside (values (a ++ b))) ≡ length (flat_map inside (values a)) + length (flat_map inside (values b))
+contents_more inside a b =
+    ap (λ vs. length (flat_map inside vs)) (values-append a b) ∙ ap length (flat_map-append inside (values a) (values b)) ∙ length-append (flat_map inside (values a)) (flat_map inside (values b))
+
+-- so much do the first cells contain
+abbrev contents_before : {X : Type 0} → (Cell → List X) → List Cell → ℕ → ℕ
+contents_before inside cells bound = length (flat_map inside (values (take bound cells)))
+
+contents_between : {X : Type 0} (inside : Cell → List X) (cells : List Cell) (at start : ℕ) → at ≤ start
+    → contents_before inside cells start ≡ contents_before inside cells at + length (flat_map inside (values (take (start - at) (drop at cells))))
+contents_between inside cells at start le =
+    ap (λ cs. length (flat_map inside (values cs))) (cells_between cells at start le) ∙ contents_more inside (take at cells) (take (start - at) (drop at cells))
+
+contents_rise : {X : Type 0} (inside : Cell → List X) (cells : List Cell) (a b : ℕ) → a ≤ b → contents_before inside cells a ≤ contents_before inside cells b
+contents_rise inside cells a b le = omega (arith, contents_between inside cells a b le)
+
+pub elements_between : (cells : List Cell) (at start : ℕ) → at ≤ start
+    → elements_before cells start ≡ elements_before cells at + length (flat_map parts (values (take (start - at) (drop at cells))))
+elements_between = contents_between parts
+
+pub pairs_between : (cells : List Cell) (at start : ℕ) → at ≤ start
+    → pairs_before cells start ≡ pairs_before cells at + length (flat_map pairs_in (values (take (start - at) (drop at cells))))
+pairs_between = contents_between pairs_in
+
+pub values_between : (cells : List Cell) (at start : ℕ) → at ≤ start → values_before cells start ≡ values_before cells at + length (values (take (start - at) (drop at cells)))
+values_between cells at start le = ap (λ cs. length (values cs)) (cells_between cells at start le) ∙ values_more (take at cells) (take (start - at) (drop at cells))
+
+values_rise : (cells : List Cell) (a b : ℕ) → a ≤ b → values_before cells a ≤ values_before cells b
+values_rise cells a b le = omega (arith, values_between cells a b le)
+
+whole_front : (cells : List Cell) → take (length cells) cells ≡ cells
+whole_front cells = take_all (length cells) cells (omega arith)
+
+contents_within : {X : Type 0} (inside : Cell → List X) (cells : List Cell) (a : ℕ) → a ≤ length cells → contents_before inside cells a ≤ length (flat_map inside (values cells))
+contents_within inside cells a le = omega (arith, contents_rise inside cells a (length cells) le, ap (λ cs. length (flat_map inside (values cs))) (whole_front cells))
+
+pub elements_within : (cells : List Cell) (a : ℕ) → a ≤ length cells → elements_before cells a ≤ length (flat_map parts (values cells))
+elements_within = contents_within parts
+
+pub pairs_within : (cells : List Cell) (a : ℕ) → a ≤ length cells → pairs_before cells a ≤ length (flat_map pairs_in (values cells))
+pairs_within = contents_within pairs_in
+
+content_bounds_are : {X : Type 0} (inside : Cell → List X) (cells : List Cell) (bounds : List ℕ) → AreBounds (length cells) bounds
+    → AreBounds (length (flat_map inside (values cells))) (map (contents_before inside cells) bounds)
+content_bounds_are inside cells bounds h =
+    subst (λ (n : ℕ). AreBounds n (map (contents_before inside cells) bounds)) (ap (λ cs. length (flat_map inside (values cs))) (whole_front cells))
+    (bounds_map (contents_before inside cells) (contents_rise inside cells) (length cells) bounds h)
+
+pub element_bounds_are : (cells : List Cell) (bounds : List ℕ) → AreBounds (length cells) bounds → AreBounds (length (flat_map parts (values cells))) (map (elements_before cells) bounds)
+element_bounds_are = content_bounds_are parts
+
+-- the keys of maps are as many as their pairs, and the values
+pub keys_long : (ms : List Cell) → length (flat_map keys_in ms) ≡ length (flat_map pairs_in ms)
+keys_long [] = refl
+keys_long (m ∷ ms) = omega (arith, length-append (keys_in m) (flat_map keys_in ms), length-append (pairs_in m) (flat_map pairs_in ms), length-map (pairs_in m) (λ (p : Cell × Cell). p.0), keys_long ms)
+
+pub map_values_long : (ms : List Cell) → length (flat_map values_in ms) ≡ length (flat_map pairs_in ms)
+map_values_long [] = refl
+map_values_long (m ∷ ms) = omega (arith, length-append (values_in m) (flat_map values_in ms), length-append (pairs_in m) (flat_map pairs_in ms), length-map (pairs_in m) (λ (p : Cell × Cell). p.1), map_values_long ms)
+
+pub key_bounds_are : (cells : List Cell) (bounds : List ℕ) → AreBounds (length cells) bounds → AreBounds (length (flat_map keys_in (values cells))) (map (pairs_before cells) bounds)
+key_bounds_are cells bounds h = subst (λ (n : ℕ). AreBounds n (map (pairs_before cells) bounds)) (sym (keys_long (values cells))) (content_bounds_are pairs_in cells bounds h)
+
+pub value_bounds_are : (cells : List Cell) (bounds : List ℕ) → AreBounds (length cells) bounds → AreBounds (length (flat_map values_in (values cells))) (map (pairs_before cells) bounds)
+value_bounds_are cells bounds h = subst (λ (n : ℕ). AreBounds n (map (pairs_before cells) bounds)) (sym (map_values_long (values cells))) (content_bounds_are pairs_in cells bounds h)
+
+pub field_bounds_are : (cells : List Cell) (bounds : List ℕ) → AreBounds (length cells) bounds → AreBounds (length (values cells)) (map (values_before cells) bounds)
+field_bounds_are cells bounds h =
+    subst (λ (n : ℕ). AreBounds n (map (values_before cells) bounds)) (ap (λ cs. length (values cs)) (whole_front cells))
+    (bounds_map (values_before cells) (values_rise cells) (length cells) bounds h)
+
+-- ---- entries
+
+pub pushed_get : {X : Type 0} (xs : List X) (y : X) (c : ℕ) (r : X) → slice_get (xs ++ y ∷ []) c ≡ Some r → (slice_get xs c ≡ Some r) ⊎ ((c ≡ length xs) × (y ≡ r))
+pushed_get [] y zero r e = inr (refl, cc)
+pushed_get [] y (suc c) r e = absurd cc
+pushed_get (x ∷ xs) y zero r e = inl e
+pushed_get (x ∷ xs) y (suc c) r e = elim (pushed_get xs y c r e) [
+  | inl h ↦ inl h
+  | inr h ↦ inr (omega (arith, h.0), h.1)
+]
+
+entries_more : (s : Shape) (x : Streams) (cells : List Cell) (bounds : List ℕ) (n : ℕ) (entries : List RowIndexEntry) (entry : RowIndexEntry) → AreEntries s x cells bounds n entries
+    → IsWrittenEntry s x (before_group cells bounds n) (group_of cells bounds n) entry → AreEntries s x cells bounds (n + 1) (entries ++ entry ∷ [])
+entries_more s x cells bounds n entries entry h last = record {
+  counted = length-append entries (entry ∷ []) ∙ ap (λ (k : ℕ). k + 1) h.counted;
+  each = λ g e at. elim (pushed_get entries entry g e at) [
+    | inl old ↦ h.each g e old
+    | inr new ↦
+        let here : n ≡ g = sym h.counted ∙ sym new.0 in
+        subst (λ (k : ℕ). IsWrittenEntry s x (before_group cells bounds k) (group_of cells bounds k) e) here
+        (subst (λ (y : RowIndexEntry). IsWrittenEntry s x (before_group cells bounds n) (group_of cells bounds n) y) new.1 last)
+  ];
+}
+
+-- The first groups have their entries; counts and walk are those of the cells before the last one's bound.
+pub record Stands (s : Shape) (streams : ColumnStreams) (cells : List Cell) (bounds : List ℕ) (placed : PlacedStreams) (group at : ℕ) (entries : List RowIndexEntry) (counts : Counts) (walk : Walk) : Type 0 where
+  pub begun : at ≤ bound_at (length cells) bounds group
+  pub are : (x : Streams) → AreStreams x streams → AreEntries s x cells bounds group entries
+  pub counted : AreCounted counts (take at cells)
+  pub walked : WalkedBefore (runs placed.present) (runs placed.own) walk (take at cells)
+
+-- the column's streams spell the cells
+abbrev pub Spelled : Shape → ColumnStreams → List Cell → Type 0
+Spelled s streams cells = (x : Streams) × AreStreams x streams × IsColumn s x cells
+
+-- these are the ones of them that have positions
+abbrev pub Placed : Shape → ColumnStreams → PlacedStreams → Type 0
+Placed s streams placed = (x : Streams) → AreStreams x streams → ArePlaced s x placed
+
+-- the streams that have positions have the places behind each front of the cells
+pub front_there : (s : Shape) (streams : ColumnStreams) (cells : List Cell) (placed : PlacedStreams) (start : ℕ) → Spelled s streams cells → Placed s streams placed
+    → HavePlaces (runs placed.present) (lent_bytes placed.content) (runs placed.own) (take start cells)
+front_there s streams cells placed start h p =
+    let x = h.0 in
+    let are = p x h.1 in
+    let there = column_there s x cells (take start cells) (drop start cells) (sym (take-append-drop start cells)) h.2 in
+    subst (λ (y : RunStream). HavePlaces y (lent_bytes placed.content) (runs placed.own) (take start cells)) (sym are.present_is)
+    (subst (λ (y : Option (List ℕ)). HavePlaces (present_runs (x.stream 0)) y (runs placed.own) (take start cells)) (sym are.content_is)
+    (subst (λ (y : RunStream). HavePlaces (present_runs (x.stream 0)) (own_octets s x) y (take start cells)) (sym are.own_is) there))
+
+written_in : (s : Shape) (x : Streams) (placed : PlacedStreams) (before : List Cell) (ps : List ℕ) → ArePlaced s x placed
+    → PlacesIn is_place IsBitPlace (runs placed.present) (lent_bytes placed.content) (runs placed.own) before ps → AreWrittenPlaces s x before ps
+written_in s x placed before ps are h =
+    subst (λ (y : RunStream). PlacesIn is_place IsBitPlace (present_runs (x.stream 0)) (own_octets s x) y before ps) are.own_is
+    (subst (λ (y : Option (List ℕ)). PlacesIn is_place IsBitPlace (present_runs (x.stream 0)) y (runs placed.own) before ps) are.content_is
+    (subst (λ (y : RunStream). PlacesIn is_place IsBitPlace y (lent_bytes placed.content) (runs placed.own) before ps) are.present_is h))
+
+at_start : (c : RunStream) (mark : Mark) (n : ℕ) → mark ≡ start_of_stream → BeginsBefore c start_of_stream n → BeginsBefore c mark n
+at_start c mark n e h = subst (λ (m : Mark). BeginsBefore c m n) (sym e) h
+
+pub stands_none : (s : Shape) (streams : ColumnStreams) (cells : List Cell) (bounds : List ℕ) (placed : PlacedStreams) (k : Counts) (w : Walk) → Spelled s streams cells → Placed s streams placed
+    → (k.cells ≡ 0) × (k.values ≡ 0) × (k.octets ≡ 0) → w.present ≡ start_of_stream → w.own ≡ start_of_stream
+    → Stands s streams cells bounds placed 0 0 [] k w
+stands_none s streams cells bounds placed k w h p zeros wp wo =
+    let there = front_there s streams cells placed 0 h p in
+    record {
+      begun = omega arith;
+      are = λ x h. record { counted = refl; each = λ g e at. absurd cc };
+      counted = record { cells_are = zeros.0; values_are = zeros.1; octets_are = omega (arith, zeros.2) };
+      walked = record {
+        in_present = at_start (runs placed.present) w.present 0 wp (starts_before (runs placed.present) 0 0 there.in_present);
+        in_own = at_start (runs placed.own) w.own 0 wo (starts_before (runs placed.own) 0 0 there.in_own);
+      };
+    }
+
+-- counts of the cells before a group
+pub counted_to : (cells : List Cell) (at start : ℕ) (k m : Counts) (group : List Cell) → at ≤ start → group ≡ take (start - at) (drop at cells) → AreCounted k (take at cells)
+    → m.cells ≡ k.cells + length group → m.values ≡ k.values + length (values group) → m.octets ≡ min most (k.octets + octets group) → AreCounted m (take start cells)
+counted_to cells at start k m group le are h c v o =
+    subst (λ (cs : List Cell). AreCounted m cs) (ap (λ (g : List Cell). take at cells ++ g) are ∙ sym (cells_between cells at start le)) (counted_more k m (take at cells) group h c v o)
+
+-- what is walked to no further than a front is walked to no further than a longer one
+pub walked_to : (present own : RunStream) (walk : Walk) (cells : List Cell) (at start : ℕ) → at ≤ start → WalkedBefore present own walk (take at cells) → WalkedBefore present own walk (take start cells)
+walked_to present own walk cells at start le h =
+    let e = cells_between cells at start le in
+    let more = take (start - at) (drop at cells) in
+    record {
+      in_present = later_before present walk.present (length (take at cells)) (length (take start cells)) (omega (arith, ap length e, length-append (take at cells) more)) h.in_present;
+      in_own = later_before own walk.own (length (values (take at cells))) (length (values (take start cells))) (omega (arith, ap (λ cs. length (values cs)) e, values_more (take at cells) more)) h.in_own;
+    }
+
+pub stands_more : (s : Shape) (streams : ColumnStreams) (cells : List Cell) (bounds : List ℕ) (placed : PlacedStreams) (group at start : ℕ) (entries : List RowIndexEntry) (k m : Counts) (w v : Walk)
+    (found : List Cell) (entry : RowIndexEntry) → AreBounds (length cells) bounds → Placed s streams placed → Stands s streams cells bounds placed group at entries k w → start ≡ bound_at (length cells) bounds group
+    → found ≡ group_of cells bounds group → AreCounted m (take start cells) → WalkedBefore (runs placed.present) (runs placed.own) v (take start cells)
+    → PlacesIn is_place IsBitPlace (runs placed.present) (lent_bytes placed.content) (runs placed.own) (take start cells) entry.positions
+    → entry.statistics ≡ Some (message_of (stat (kind_of s) found)) → Stands s streams cells bounds placed (group + 1) start (entries ++ entry ∷ []) m v
+stands_more s streams cells bounds placed group at start entries k m w v found entry b p h st fe counted walked pos says =
+    record {
+      begun = omega (arith, bound_up (length cells) bounds group b, st);
+      are = λ x is. entries_more s x cells bounds group entries entry (h.are x is) (record {
+        places = subst (λ (n : ℕ). AreWrittenPlaces s x (take n cells) entry.positions) st (written_in s x placed (take start cells) entry.positions (p x is) pos);
+        statistics = says ∙ ap (λ (cs : List Cell). Some (message_of (stat (kind_of s) cs))) fe;
+      });
+      counted = counted;
+      walked = walked;
+    }
+
+-- ---- the cells of a group
+
+all_take : (P : Cell → Type 0) (n : ℕ) (xs : List Cell) → AllByRecursion P xs → AllByRecursion P (take n xs)
+all_take P zero xs h = tt
+all_take P (suc n) [] h = tt
+all_take P (suc n) (x ∷ xs) h = (h.0, all_take P n xs h.1)
+
+all_drop : (P : Cell → Type 0) (n : ℕ) (xs : List Cell) → AllByRecursion P xs → AllByRecursion P (drop n xs)
+all_drop P zero xs h = h
+all_drop P (suc n) [] h = tt
+all_drop P (suc n) (x ∷ xs) h = all_drop P n xs h.1
+
+pub group_fits : (s : Shape) (cells : List Cell) (bounds : List ℕ) (group : ℕ) → RowsFit s cells → RowsFit s (group_of cells bounds group)
+group_fits s cells bounds group h =
+    all_drop (λ r. fits r s ≡ true) (bound_at (length cells) bounds group) (take (bound_at (length cells) bounds (suc group)) cells)
+    (all_take (λ r. fits r s ≡ true) (bound_at (length cells) bounds (suc group)) cells h)
+
+drop_short : (n : ℕ) (xs : List Cell) → length (drop n xs) ≤ length xs
+drop_short n xs = omega (arith, length-drop n xs)
+
+pub take_short : (n : ℕ) (xs : List Cell) → length (take n xs) ≤ length xs
+take_short n xs = omega (arith, ap length (take-append-drop n xs), length-append (take n xs) (drop n xs))
+
+pub group_few : (cells : List Cell) (bounds : List ℕ) (group : ℕ) → length (group_of cells bounds group) ≤ length cells
+group_few cells bounds group =
+    omega (arith, drop_short (bound_at (length cells) bounds group) (take (bound_at (length cells) bounds (suc group)) cells), take_short (bound_at (length cells) bounds (suc group)) cells)
+
+pub values_few : (cs : List Cell) → length (values cs) ≤ length cs
+values_few [] = omega arith
+values_few (null ∷ cs) = omega (arith, values_few cs)
+values_few (leaf a ∷ cs) = omega (arith, values_few cs)
+values_few (list xs ∷ cs) = omega (arith, values_few cs)
+values_few (struct xs ∷ cs) = omega (arith, values_few cs)
+values_few (pairs ps ∷ cs) = omega (arith, values_few cs)

@@ -1,0 +1,88 @@
+-- The streams in which a column's values have positions (ORC specification, "Column Encodings", "Row Group Index").
+use Rattle.std.specs.Prelude.{ℕ, Bool, true, false, Option, Some, None, List, [], ◌∷◌}
+use Rattle.orc_rle.specs.declared.sign.Sign.{Sign}
+use Rattle.orc_rle.specs.declared.sign.Sign.TheVariants.{Signed, Unsigned}
+use Rattle.orc_types.specs.Shapes.{Shape, scalar, list_of, map_of, struct_of}
+use Rattle.orc_types.specs.declared.kind.Scalar.{Scalar}
+use Rattle.orc_types.specs.declared.kind.Scalar.TheVariants as kind
+use Rattle.orc_rle.specs.declared.sign.Rle.{Rle}
+use Rattle.orc_column_reader.specs.Stripe.{Streams, version, has_dictionary}
+use Rattle.orc_column_reader.specs.declared.fault.StreamKind.{StreamKind}
+use Rattle.orc_column_reader.specs.declared.fault.StreamKind.TheVariants as stream
+
+-- a stream of runs, by what they are of; a column may lack it
+pub data RunStream : Type 0 where
+  no_stream : RunStream
+  bit_runs : List ℕ → RunStream
+  byte_runs : List ℕ → RunStream
+  number_runs : Rle → Sign → List ℕ → RunStream
+
+-- PRESENT has positions where it has bytes
+abbrev pub present_runs : List ℕ → RunStream
+present_runs [] = no_stream
+present_runs (b ∷ bs) = bit_runs (b ∷ bs)
+
+-- of texts: DATA has their places in the dictionary, or LENGTH their lengths;
+-- a dictionary's own streams have no positions
+abbrev pub text_runs : Bool → Streams → RunStream
+text_runs true x = number_runs (version x) Unsigned (x.stream 1)
+text_runs false x = number_runs (version x) Unsigned (x.stream 2)
+
+abbrev pub scalar_runs : Scalar → Streams → RunStream
+scalar_runs kind.Boolean x = bit_runs (x.stream 1)
+scalar_runs kind.Byte x = byte_runs (x.stream 1)
+scalar_runs kind.Short x = number_runs (version x) Signed (x.stream 1)
+scalar_runs kind.Int x = number_runs (version x) Signed (x.stream 1)
+scalar_runs kind.Long x = number_runs (version x) Signed (x.stream 1)
+scalar_runs kind.Date x = number_runs (version x) Signed (x.stream 1)
+scalar_runs kind.Binary x = number_runs (version x) Unsigned (x.stream 2)
+scalar_runs kind.String x = text_runs (has_dictionary x) x
+
+-- the stream of runs that a column has beside PRESENT: DATA or LENGTH, and a struct none
+abbrev pub own_runs : Shape → Streams → RunStream
+own_runs (scalar k o) x = scalar_runs k x
+own_runs (list_of s o) x = number_runs (version x) Unsigned (x.stream 2)
+own_runs (map_of k v o) x = number_runs (version x) Unsigned (x.stream 2)
+own_runs (struct_of fs o) x = no_stream
+
+abbrev pub kind_of_texts : Bool → StreamKind
+kind_of_texts true = stream.Data
+kind_of_texts false = stream.Length
+
+abbrev pub kind_of_scalar : Scalar → Bool → StreamKind
+kind_of_scalar kind.Boolean d = stream.Data
+kind_of_scalar kind.Byte d = stream.Data
+kind_of_scalar kind.Short d = stream.Data
+kind_of_scalar kind.Int d = stream.Data
+kind_of_scalar kind.Long d = stream.Data
+kind_of_scalar kind.Date d = stream.Data
+kind_of_scalar kind.Binary d = stream.Length
+kind_of_scalar kind.String d = kind_of_texts d
+
+-- which stream has the runs beside PRESENT
+abbrev pub kind_of_own : Shape → Bool → StreamKind
+kind_of_own (scalar k o) d = kind_of_scalar k d
+kind_of_own (list_of s o) d = stream.Length
+kind_of_own (map_of k v o) d = stream.Length
+kind_of_own (struct_of fs o) d = stream.Data
+
+abbrev pub text_octets : Bool → Streams → Option (List ℕ)
+text_octets true x = None
+text_octets false x = Some (x.stream 1)
+
+abbrev pub scalar_octets : Scalar → Streams → Option (List ℕ)
+scalar_octets kind.Boolean x = None
+scalar_octets kind.Byte x = None
+scalar_octets kind.Short x = None
+scalar_octets kind.Int x = None
+scalar_octets kind.Long x = None
+scalar_octets kind.Date x = None
+scalar_octets kind.Binary x = Some (x.stream 1)
+scalar_octets kind.String x = text_octets (has_dictionary x) x
+
+-- DATA, where it has the bytes of the values as they are, one value after the other
+abbrev pub own_octets : Shape → Streams → Option (List ℕ)
+own_octets (scalar k o) x = scalar_octets k x
+own_octets (list_of s o) x = None
+own_octets (map_of k v o) x = None
+own_octets (struct_of fs o) x = None

@@ -1,0 +1,74 @@
+-- A walk over the streams of a column, from group to group.
+use Rattle.std.specs.Prelude.{◌≡◌, ℕ, ◌-◌, ◌/◌, ◌^◌, ◌≤◌, min, Option, Some, None, option_map, List, length}
+use Rattle.std.specs.Borrow.{Bor}
+use Rattle.orc_rle.specs.ByteRun.{IsByteRun}
+use Rattle.orc_positions.specs.Position.{HasValues}
+use Rattle.orc_positions.specs.Marks.{IsMark}
+use Rattle.orc_positions.specs.declared.mark.Mark.{Mark}
+use Rattle.orc_types.specs.Cells.{Cell, values}
+use Rattle.orc_types.specs.Shapes.{Shape}
+use Rattle.orc_column_reader.specs.Numbers.{is_run}
+use Rattle.orc_column_reader.specs.Stripe.{Streams}
+use Rattle.orc_row_index.specs.RunStreams.{RunStream, no_stream, bit_runs, byte_runs, number_runs, present_runs, own_runs, own_octets}
+use Rattle.orc_row_index.specs.Places.{octets}
+use Rattle.orc_row_index.specs.declared.run_bytes.RunBytes.{RunBytes}
+use Rattle.orc_row_index.specs.declared.run_bytes.RunBytes.TheVariants as run_bytes
+use Rattle.orc_row_index.specs.declared.counts.Counts.{Counts}
+use Rattle.orc_row_index.specs.declared.walk.Walk.{Walk}
+use Rattle.orc_row_index.specs.declared.placed.PlacedStreams.{PlacedStreams}
+
+abbrev pub runs : RunBytes → RunStream
+runs run_bytes.Nothing = no_stream
+runs (run_bytes.Bits b) = bit_runs b.now
+runs (run_bytes.Bytes b) = byte_runs b.now
+runs (run_bytes.Numbers version sign b) = number_runs version sign b.now
+
+abbrev pub lent_bytes : Option (Bor (List ℕ)) → Option (List ℕ)
+lent_bytes lent = option_map (λ b. b.now) lent
+
+-- these are the column's streams that have positions
+pub record ArePlaced (s : Shape) (x : Streams) (placed : PlacedStreams) : Type 0 where
+  pub present_is : runs placed.present ≡ present_runs (x.stream 0)
+  pub content_is : lent_bytes placed.content ≡ own_octets s x
+  pub own_is : runs placed.own ≡ own_runs s x
+
+-- the stream has n values or more
+abbrev pub HasPlace : RunStream → ℕ → Type 0
+HasPlace no_stream n = Unit {0}
+HasPlace (bit_runs stream) n = HasValues IsByteRun stream (n / 8)
+HasPlace (byte_runs stream) n = HasValues IsByteRun stream n
+HasPlace (number_runs version sign stream) n = HasValues (is_run version sign) stream n
+
+-- a mark in the stream that isn't behind value n
+abbrev pub BeginsBefore : RunStream → Mark → ℕ → Type 0
+BeginsBefore no_stream mark n = Unit {0}
+BeginsBefore (bit_runs stream) mark n = IsMark IsByteRun stream mark × (mark.before ≤ n / 8)
+BeginsBefore (byte_runs stream) mark n = IsMark IsByteRun stream mark × (mark.before ≤ n)
+BeginsBefore (number_runs version sign stream) mark n = IsMark (is_run version sign) stream mark × (mark.before ≤ n)
+
+-- bytes as they are are n or more
+abbrev pub HasOctets : Option (List ℕ) → ℕ → Type 0
+HasOctets None n = Unit {0}
+HasOctets (Some stream) n = n ≤ length stream
+
+-- the most that is counted
+abbrev pub most : ℕ
+most = 2 ^ 64 - 1
+
+-- The cells are so many. Bytes are counted up to the most: where they are one stream, they are no more.
+pub record AreCounted (counts : Counts) (cells : List Cell) : Type 0 where
+  pub cells_are : counts.cells ≡ length cells
+  pub values_are : counts.values ≡ length (values cells)
+  pub octets_are : counts.octets ≡ min most (octets cells)
+
+-- the streams have the values of these cells
+pub record HavePlaces (present : RunStream) (content : Option (List ℕ)) (own : RunStream)
+    (before : List Cell) : Type 0 where
+  pub in_present : HasPlace present (length before)
+  pub in_content : HasOctets content (octets before)
+  pub in_own : HasPlace own (length (values before))
+
+-- the walk has come no further than these cells
+pub record WalkedBefore (present own : RunStream) (walk : Walk) (before : List Cell) : Type 0 where
+  pub in_present : BeginsBefore present walk.present (length before)
+  pub in_own : BeginsBefore own walk.own (length (values before))

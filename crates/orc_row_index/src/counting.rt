@@ -1,0 +1,60 @@
+//! The counts of a column's cells, group after group.
+ghost use Rattle.std.specs.Prelude.{◌≡◌, ◌+◌, ◌^◌, ◌<◌, ◌∷◌, [], min, length};
+ghost use Rattle.orc_types.specs.Cells.{values};
+ghost use Rattle.orc_types.specs.Lent.{lent_cells};
+ghost use Rattle.orc_types.specs.Own.{own_cell};
+ghost use Rattle.orc_row_index.specs.Places.{octets, octets_in};
+ghost use Rattle.orc_row_index.specs.Walking.{most};
+
+use crate::counts::Counts;
+use orc_types::{Lent, Own, own_of};
+
+/// How many bytes a text has, or a byte string; 0 of other cells.
+fn octets_of(own: Own<'_>) -> usize
+    ensures { result ≡ octets_in (own_cell own.entry) }
+{
+    match own {
+        Own::Text(text) => text.as_bytes().len(),
+        Own::Bytes(bytes) => bytes.len(),
+        _ => 0,
+    }
+}
+
+/// Whether the cell is a value, as a number.
+fn value_of(own: Own<'_>) -> usize
+    ensures { result ≡ length (values (own_cell own.entry ∷ [])) }
+{
+    if own.is_null() { 0 } else { 1 }
+}
+
+impl Counts {
+    /// The counts with one cell more, as its own column says it.
+    pub fn add_own(self, own: Own<'_>) -> Counts
+        requires cells { self.cells + 1 < 2 ^ 64 }
+        requires values { self.values + 1 < 2 ^ 64 }
+        ensures cells { result.cells ≡ self.cells + 1 }
+        ensures values { result.values ≡ self.values + length (values (own_cell own.entry ∷ [])) }
+        ensures octets { result.octets ≡ min most (self.octets + octets_in (own_cell own.entry)) }
+    {
+        Counts {
+            cells: self.cells + 1,
+            values: self.values + value_of(own),
+            octets: self.octets.saturating_add(octets_of(own)),
+        }
+    }
+}
+
+/// The counts of some cells and of these behind them, by the counts of the first.
+pub fn counts_after(before: Counts, cells: &[Lent<'_, '_>]) -> Counts
+    requires cells { before.cells + length cells.now < 2 ^ 64 }
+    requires values { before.values + length cells.now < 2 ^ 64 }
+    ensures cells { result.cells ≡ before.cells + length (lent_cells cells.now) }
+    ensures values { result.values ≡ before.values + length (values (lent_cells cells.now)) }
+    ensures octets { result.octets ≡ min most (before.octets + octets (lent_cells cells.now)) }
+{
+    let mut counts = before;
+    for cell in cells {
+        counts = counts.add_own(own_of(cell.0));
+    }
+    counts
+}

@@ -1,0 +1,41 @@
+//! Laws of row indexes as they are written. The function does nothing: its contract is what it is for.
+ghost use Rattle.std.specs.Prelude.{◌≡◌, ◌<◌, ℕ, List, map, length};
+ghost use Rattle.std.specs.List.{flat_map};
+ghost use Rattle.orc_types.specs.Cells.{Cell, parts, keys_in, values_in, values};
+ghost use Rattle.orc_types.specs.Fits.{RowsFit};
+ghost use Rattle.orc_types.specs.Shapes.{Shape};
+ghost use Rattle.orc_column_reader.specs.Stripe.{Streams, cell_limit};
+ghost use Rattle.orc_row_index.specs.Bounds.{AreBounds, elements_before, pairs_before, values_before};
+ghost use Rattle.orc_row_index.specs.Places.{AreReadPlaces, AreWrittenPlaces};
+ghost use Rattle.orc_row_index.specs.RowIndex.{IsWrittenIndex, IsRightIndex};
+
+/// Laws of row indexes as they are written. It does nothing: its contract is what it is for. Of cells, their
+/// streams and bounds there is at most one index, and behind some cells one list of places; a writer's places
+/// are right for every reader; of cells that fit and are few, an index reads back, with the places and the
+/// statistic of each group. Bounds that are taken down a level are bounds there.
+pub fn index_laws()
+    ensures one_text { (s : Shape) (x : Streams) (cells : List Cell) (bounds a b : List ℕ)
+        → IsWrittenIndex s x cells bounds a
+        → IsWrittenIndex s x cells bounds b
+        → a ≡ b }
+    ensures one_places { (s : Shape) (x : Streams) (before : List Cell) (a b : List ℕ)
+        → AreWrittenPlaces s x before a
+        → AreWrittenPlaces s x before b
+        → a ≡ b }
+    ensures places { (s : Shape) (x : Streams) (before : List Cell) (positions : List ℕ)
+        → AreWrittenPlaces s x before positions
+        → AreReadPlaces s x before positions }
+    ensures right { (s : Shape) (x : Streams) (cells : List Cell) (bounds text : List ℕ)
+        → RowsFit s cells
+        → length cells < cell_limit
+        → IsWrittenIndex s x cells bounds text
+        → IsRightIndex s x cells bounds text }
+    ensures elements { (cells : List Cell) (bounds : List ℕ) → AreBounds (length cells) bounds
+        → AreBounds (length (flat_map parts (values cells))) (map (elements_before cells) bounds) }
+    ensures keys { (cells : List Cell) (bounds : List ℕ) → AreBounds (length cells) bounds
+        → AreBounds (length (flat_map keys_in (values cells))) (map (pairs_before cells) bounds) }
+    ensures map_values { (cells : List Cell) (bounds : List ℕ) → AreBounds (length cells) bounds
+        → AreBounds (length (flat_map values_in (values cells))) (map (pairs_before cells) bounds) }
+    ensures fields { (cells : List Cell) (bounds : List ℕ) → AreBounds (length cells) bounds
+        → AreBounds (length (values cells)) (map (values_before cells) bounds) }
+{}

@@ -1,0 +1,107 @@
+//! One stream of a column, and the positions of its values.
+ghost use Rattle.std.specs.Prelude.{◌≡◌, ◌-◌, ◌≤◌, ◌++◌, [], ◌∷◌, IfOk, OnOk};
+ghost use Rattle.orc_positions.specs.Position.{IsPlace, HasValues};
+ghost use Rattle.orc_positions.specs.Marks.{IsMark};
+ghost use Rattle.orc_positions.specs.BitPosition.{IsBitPlace};
+ghost use Rattle.orc_column_reader.specs.Numbers.{is_run};
+ghost use Rattle.orc_row_index.specs.Places.{StreamPlace, is_place, Adds, position_size};
+ghost use Rattle.orc_row_index.specs.Walking.{runs, HasPlace, BeginsBefore};
+
+use orc_positions::{Mark, byte_mark_at, mark_at};
+use orc_rle::{BitPos, Pos, Rle, Sign, V1, V2};
+use std::alloc::AllocError;
+
+/// The bytes of a stream of runs, by what they are of.
+#[derive(Clone, Copy)]
+pub enum RunBytes<'a> {
+    /// There is no such stream.
+    Nothing,
+    /// Booleans, eight to a byte.
+    Bits(&'a [u8]),
+    /// Bytes.
+    Bytes(&'a [u8]),
+    /// Integers of a version, with or without a sign.
+    Numbers(Rle, Sign, &'a [u8]),
+}
+
+impl RunBytes<'_> {
+    /// How many numbers a position has (ORC specification, "Row Group Index").
+    pub fn position_size(&self) -> usize
+        ensures { result ≡ position_size (runs self.now) }
+    {
+        match self {
+            RunBytes::Nothing => 0,
+            RunBytes::Bits(_) => 3,
+            RunBytes::Bytes(_) => 2,
+            RunBytes::Numbers(_, _, _) => 2,
+        }
+    }
+}
+
+/// The mark of number `n`, whatever the version.
+fn number_mark(version: Rle, sign: Sign, bytes: &[u8], from: Mark, n: usize) -> Mark
+    requires there { HasValues (is_run version sign) bytes.now n }
+    requires from { IsMark (is_run version sign) bytes.now from }
+    requires ahead { from.before ≤ n }
+    ensures place { IsPlace (is_run version sign) bytes.now result.offset (n - result.before) n }
+    ensures mark { IsMark (is_run version sign) bytes.now result }
+    ensures ahead { result.before ≤ n }
+{
+    match version {
+        Rle::One => mark_at::<V1>(bytes, sign, from, n),
+        Rle::Two => mark_at::<V2>(bytes, sign, from, n),
+    }
+}
+
+/// Adds the two numbers of a position.
+fn put_pos(place: Pos, out: &mut Vec<u64>) -> Result<(), AllocError>
+    ensures { OnOk result (out.new.items ≡ out.old.items ++ place.offset ∷ place.skip ∷ []) }
+{
+    out.push(place.offset as u64)?;
+    out.push(place.skip as u64)?;
+    Ok(())
+}
+
+/// Adds the three numbers of a boolean's position.
+fn put_bit_pos(place: BitPos, out: &mut Vec<u64>) -> Result<(), AllocError>
+    ensures { OnOk result (out.new.items ≡ out.old.items ++ place.offset ∷ place.skip ∷ place.bits ∷ []) }
+{
+    out.push(place.offset as u64)?;
+    out.push(place.skip as u64)?;
+    out.push(place.bits as u64)?;
+    Ok(())
+}
+
+/// Adds the position of value `n` of a stream, and answers the mark of its run. The search begins at a mark
+/// that is not behind the value.
+pub(crate) fn put_place(
+    stream: &RunBytes<'_>,
+    from: Mark,
+    n: usize,
+    out: &mut Vec<u64>,
+) -> Result<Mark, AllocError>
+    requires there { HasPlace (runs stream.now) n }
+    requires from { BeginsBefore (runs stream.now) from n }
+    ensures place { OnOk result
+        (Adds (StreamPlace is_place IsBitPlace (runs stream.now) n) out.old.items out.new.items) }
+    ensures from { IfOk result (λ mark. BeginsBefore (runs stream.now) mark n) }
+{
+    match *stream {
+        RunBytes::Nothing => Ok(from),
+        RunBytes::Bits(bytes) => {
+            let mark = byte_mark_at(bytes, from, n / 8);
+            put_bit_pos(mark.bit_place(n), out)?;
+            Ok(mark)
+        }
+        RunBytes::Bytes(bytes) => {
+            let mark = byte_mark_at(bytes, from, n);
+            put_pos(mark.place(n), out)?;
+            Ok(mark)
+        }
+        RunBytes::Numbers(version, sign, bytes) => {
+            let mark = number_mark(version, sign, bytes, from, n);
+            put_pos(mark.place(n), out)?;
+            Ok(mark)
+        }
+    }
+}

@@ -1,0 +1,25 @@
+//! Where the walk through a column's streams has come.
+ghost use Rattle.std.specs.Prelude.{◌≡◌};
+ghost use Rattle.orc_positions.specs.Marks.{start_of_stream};
+
+use orc_positions::Mark;
+
+/// How far a column's streams are walked: PRESENT, and the one beside it.
+#[derive(Clone, Copy)]
+pub(crate) struct Walk {
+    pub(crate) present: Mark,
+    pub(crate) own: Mark,
+}
+
+impl Walk {
+    /// At the start of both.
+    pub(crate) fn start() -> Walk
+        ensures present { result.present ≡ start_of_stream }
+        ensures own { result.own ≡ start_of_stream }
+    {
+        Walk {
+            present: Mark::start(),
+            own: Mark::start(),
+        }
+    }
+}

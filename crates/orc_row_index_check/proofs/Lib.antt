@@ -1,0 +1,5 @@
+mod TableLemmas
+mod ColumnLemmas
+mod FewValues
+mod Entries
+mod CountedLemmas

@@ -1,0 +1,13 @@
+-- What is counted of a column's cells before each group (ORC specification, "Row Group Index").
+use Rattle.std.specs.Prelude.{◌≡◌, ℕ, Some, List, length, slice_get}
+use Rattle.orc_types.specs.Cells.{Cell}
+use Rattle.orc_row_index.specs.Bounds.{before_group}
+use Rattle.orc_row_index.specs.Walking.{AreCounted}
+use Rattle.orc_row_index.specs.declared.counts.Counts.{Counts}
+
+-- of each of the first groups the counts of the cells before it
+pub record AreCountedBefore (counts : List Counts) (cells : List Cell) (bounds : List ℕ) (groups : ℕ) : Type 0 where
+  pub counted : length counts ≡ groups
+  pub each : (g : ℕ) (before : Counts)
+      → slice_get counts g ≡ Some before
+      → AreCounted before (before_group cells bounds g)

@@ -1,0 +1,4 @@
+pub mod Tables
+pub mod ColumnTables
+pub mod Decided
+pub mod CountedBefore

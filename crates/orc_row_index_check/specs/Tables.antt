@@ -1,0 +1,52 @@
+-- The runs of a stream, in which positions are looked up (ORC specification, "Row Group Index").
+use Rattle.std.specs.Prelude.{◌≡◌, ℕ, ℤ, ◌<◌, ◌^◌, List, [], length}
+use Rattle.orc_rle.specs.ByteRun.{IsByteRun, NoByteRun}
+use Rattle.orc_rle.specs.Stream.{IsStream, StopsWithin}
+use Rattle.orc_rle.specs.declared.fault.RunFault.{RunFault}
+use Rattle.orc_positions.specs.RunPlaces.{ArePlaces, Names, NamesBit}
+use Rattle.orc_column_reader.specs.Numbers.{is_run}
+use Rattle.orc_column_reader.specs.RunFaults.{no_run}
+use Rattle.orc_row_index.specs.Places.{RunPlace, BitPlace}
+use Rattle.orc_row_index.specs.RunStreams.{RunStream, no_stream, bit_runs, byte_runs, number_runs}
+use Rattle.orc_row_index.specs.Walking.{most}
+use Rattle.orc_row_index_check.specs.declared.stream_table.StreamTable.{StreamTable}
+use Rattle.orc_row_index_check.specs.declared.stream_table.StreamTable.TheVariants as table
+
+-- the places of the stream's runs and of its end
+abbrev pub IsTable : RunStream → StreamTable → Type 0
+IsTable no_stream table.Nothing = Unit {0}
+IsTable no_stream (table.Bits places) = ⊥
+IsTable no_stream (table.Runs places) = ⊥
+IsTable (bit_runs stream) table.Nothing = ⊥
+IsTable (bit_runs stream) (table.Bits places) = ArePlaces IsByteRun stream places
+IsTable (bit_runs stream) (table.Runs places) = ⊥
+IsTable (byte_runs stream) table.Nothing = ⊥
+IsTable (byte_runs stream) (table.Bits places) = ⊥
+IsTable (byte_runs stream) (table.Runs places) = ArePlaces IsByteRun stream places
+IsTable (number_runs version sign stream) table.Nothing = ⊥
+IsTable (number_runs version sign stream) (table.Bits places) = ⊥
+IsTable (number_runs version sign stream) (table.Runs places) = ArePlaces (is_run version sign) stream places
+
+-- the bytes are a stream of no more values than are counted
+abbrev pub HasFew : {A : Type 0} → (List ℕ → List A → Type 0) → List ℕ → Type 0
+HasFew {A = A} is_run stream = (values : List A) × IsStream is_run stream values × (length values < 2 ^ 64)
+
+abbrev pub IsFew : RunStream → Type 0
+IsFew no_stream = Unit {0}
+IsFew (bit_runs stream) = HasFew IsByteRun stream
+IsFew (byte_runs stream) = HasFew IsByteRun stream
+IsFew (number_runs version sign stream) = HasFew (is_run version sign) stream
+
+-- why they are none
+abbrev pub RunsFail : RunStream → RunFault → Type 0
+RunsFail no_stream fault = ⊥
+RunsFail (bit_runs stream) fault = StopsWithin IsByteRun NoByteRun most stream fault
+RunsFail (byte_runs stream) fault = StopsWithin IsByteRun NoByteRun most stream fault
+RunsFail (number_runs version sign stream) fault =
+    StopsWithin (is_run version sign) (no_run version sign) most stream fault
+
+-- the position of value n, as it is looked up
+abbrev pub TablePlace : StreamTable → ℕ → List ℕ → Type 0
+TablePlace table.Nothing n positions = positions ≡ []
+TablePlace (table.Bits places) n positions = BitPlace (NamesBit places) n positions
+TablePlace (table.Runs places) n positions = RunPlace (Names places) n positions

@@ -1,0 +1,121 @@
+//! The runs of a column's streams, in which its positions are looked up.
+ghost use Rattle.std.specs.Prelude.{◌≡◌, ◌≢◌, ◌≤◌, ◌⊎◌, ℕ, Option, List, min, length, IfOk, IfErr, MatchBool};
+ghost use Rattle.orc_positions.specs.BitPosition.{BeginsBits};
+ghost use Rattle.orc_types.specs.Cells.{Cell};
+ghost use Rattle.orc_types.specs.Views.{shape};
+ghost use Rattle.orc_column_reader.specs.declared.fault.StripeFault.TheVariants.{OutOfMemory};
+ghost use Rattle.orc_column_reader.specs.declared.fault.StreamKind.TheVariants.{Present};
+ghost use Rattle.orc_row_index.specs.Places.{PlacesIn, OwnPlaces, begins};
+ghost use Rattle.orc_row_index.specs.RunStreams.{RunStream};
+ghost use Rattle.orc_row_index.specs.Walking.{runs, lent_bytes, most, AreCounted, HavePlaces};
+ghost use Rattle.orc_row_index_check.specs.Tables.{IsTable, IsFew};
+ghost use Rattle.orc_row_index_check.specs.ColumnTables.{AreTables, FailsIn};
+
+use crate::stream_table::{StreamTable, table_of};
+use orc_column_reader::fault::{StreamKind, StripeFault, run_fault};
+use orc_row_index::{Counts, PlacedStreams, RunBytes};
+use std::alloc::Global;
+
+/// The runs of a column's streams that have positions, and DATA where it has the bytes of texts or byte strings as
+/// they are.
+#[derive(Drop)]
+pub(crate) struct ColumnTable<'a> {
+    pub(crate) present: StreamTable,
+    pub(crate) content: Option<&'a [u8]>,
+    pub(crate) own: StreamTable,
+}
+
+/// The table of one of the column's streams, and where it has none, a fault that names the column and the stream.
+fn stream_table(
+    alloc: Global,
+    column: usize,
+    kind: StreamKind,
+    stream: &RunBytes<'_>,
+) -> Result<StreamTable, StripeFault>
+    ensures found { IfOk result (IsTable (runs stream.now)) }
+    ensures only { IsFew (runs stream.now) → IfErr result (λ fault. fault ≡ OutOfMemory) }
+    ensures fault { IfErr result (λ fault. fault ≢ OutOfMemory → FailsIn column kind (runs stream.now) fault) }
+{
+    match table_of(alloc, stream) {
+        Ok(table) => Ok(table),
+        Err(cause) => Err(run_fault(column, kind, cause)),
+    }
+}
+
+/// The tables of a column's streams, by one walk over each.
+///
+/// Refusals: `Run` where one of them is no stream of runs, or has more than 2^64 - 1 values; `OutOfMemory`.
+pub(crate) fn tables_of<'a>(
+    alloc: Global,
+    column: usize,
+    kind: StreamKind,
+    placed: &PlacedStreams<'a>,
+) -> Result<ColumnTable<'a>, StripeFault>
+    ensures found { IfOk result
+        (AreTables (runs placed.now.present) (lent_bytes placed.now.content) (runs placed.now.own)) }
+    ensures only { IsFew (runs placed.now.present)
+        → IsFew (runs placed.now.own)
+        → IfErr result (λ fault. fault ≡ OutOfMemory) }
+    ensures fault { IfErr result (λ fault. fault ≢ OutOfMemory
+        → FailsIn column Present (runs placed.now.present) fault ⊎ FailsIn column kind (runs placed.now.own) fault) }
+{
+    let present = stream_table(alloc, column, StreamKind::Present, &placed.present)?;
+    let own = stream_table(alloc, column, kind, &placed.own)?;
+    Ok(ColumnTable {
+        present,
+        content: placed.content,
+        own,
+    })
+}
+
+/// How many bytes come before: they are counted up to the most, and there are no more than the stream has.
+fn octets_before(bytes: &[u8], counted: usize) -> usize
+    ensures { (n : ℕ) → counted ≡ min most n → n ≤ length bytes.now → result ≡ n }
+{
+    let whole = bytes.len();
+    if counted < whole { counted } else { whole }
+}
+
+impl<'a> ColumnTable<'a> {
+    /// Whether these are the positions behind those of PRESENT, where so much comes before.
+    fn own_right(&self, positions: &[u64], counts: Counts) -> bool
+        ensures { (present : RunStream) (content : Option (List ℕ)) (own : RunStream) (before : List Cell)
+            → AreTables present content own self.now
+            → AreCounted counts before → HavePlaces present content own before
+            → MatchBool result
+            (OwnPlaces content own before positions.now)
+            (OwnPlaces content own before positions.now → ⊥) }
+    {
+        let Some(bytes) = self.content else {
+            return self.own.right(positions, counts.values as u64);
+        };
+        match positions {
+            [offset, last @ ..] => {
+                if *offset != octets_before(bytes, counts.octets) as u64 {
+                    return false;
+                }
+                self.own.right(last, counts.values as u64)
+            }
+            _ => false,
+        }
+    }
+
+    /// Whether these are the positions of the column, where so much comes before.
+    pub(crate) fn right(&self, positions: &[u64], counts: Counts) -> bool
+        ensures { (present : RunStream) (content : Option (List ℕ)) (own : RunStream) (before : List Cell)
+            → AreTables present content own self.now
+            → AreCounted counts before → HavePlaces present content own before
+            → MatchBool result (PlacesIn begins BeginsBits present content own before positions.now)
+            (PlacesIn begins BeginsBits present content own before positions.now → ⊥) }
+    {
+        let size = self.present.size();
+        if positions.len() < size {
+            return false;
+        }
+        let (first, rest) = positions.split_at(size);
+        if !self.present.right(first, counts.cells as u64) {
+            return false;
+        }
+        self.own_right(rest, counts)
+    }
+}

@@ -1,0 +1,100 @@
+//! Whether the entries of a column's row index say where their groups begin.
+ghost use Rattle.std.specs.Prelude.{◌≡◌, ◌≢◌, ℕ, List, length, IfErr, MatchResult};
+ghost use Rattle.orc_types.specs.Cells.{Cell};
+ghost use Rattle.orc_types.specs.Lent.{lent_cells};
+ghost use Rattle.orc_types.specs.Views.{shape};
+ghost use Rattle.orc_column_reader.specs.Starting.{AreStreams};
+ghost use Rattle.orc_column_reader.specs.Stripe.{Streams, IsColumn};
+ghost use Rattle.orc_column_reader.specs.declared.fault.StripeFault.TheVariants.{OutOfMemory};
+ghost use Rattle.orc_row_index.specs.Bounds.{AreBounds};
+ghost use Rattle.orc_row_index_check.specs.ColumnTables.{ColumnFails};
+ghost use Rattle.orc_row_index_check.specs.CountedBefore.{AreCountedBefore};
+ghost use Rattle.orc_row_index_check.specs.Decided.{AreDecided};
+
+use crate::column_table::tables_of;
+use crate::counted_groups::counts_of_groups;
+use orc_column_reader::fault::StripeFault;
+use orc_column_reader::starting::ColumnStreams;
+use orc_row_index::{Counts, own_kind, placed_streams};
+use orc_types::{Lent, Tree};
+use orc_wire::RowIndexEntry;
+use std::alloc::Global;
+
+/// For each entry of a column's row index whether its positions are right, where the counts say what comes before
+/// its group: whether from there a reader goes on with the cells that come behind those (ORC specification, "Row
+/// Group Index"). Any right position counts, and not a writer's alone. Whoever has counted needs no cells for it;
+/// entries without counts have no answer.
+///
+/// Each stream is gone over once, and a position takes a search by halves, whatever it names.
+///
+/// Refusals: `Run` where a stream of the column that has positions is no stream of runs, with its first run
+/// from the left that is none, or has more than 2^64 - 1 values; `OutOfMemory`, and nothing else where the
+/// streams spell cells of which these are the counts.
+pub fn positions_right_behind(
+    alloc: Global,
+    tree: &Tree,
+    column: usize,
+    streams: &ColumnStreams<'_>,
+    counts: &[Counts],
+    entries: &[RowIndexEntry],
+) -> Result<Vec<bool>, StripeFault>
+    ensures right { (x : Streams) (cells : List Cell) (bounds : List ℕ) → AreStreams x streams.now
+        → IsColumn (shape tree.now) x cells
+        → AreBounds (length cells) bounds
+        → AreCountedBefore counts.now cells bounds (length entries.now)
+        → MatchResult result
+        (λ right. AreDecided (shape tree.now) x cells bounds entries.now right.items)
+        (λ fault. fault ≡ OutOfMemory) }
+    ensures fault { IfErr result (λ fault. fault ≢ OutOfMemory
+        → (x : Streams) → AreStreams x streams.now
+        → ColumnFails (shape tree.now) x column fault) }
+{
+    let placed = placed_streams(tree, streams);
+    let kind = own_kind(tree, streams.has_dictionary);
+    let tables = match tables_of(alloc, column, kind, &placed) {
+        Ok(tables) => tables,
+        Err(fault) => return Err(fault),
+    };
+    let mut right = Vec::with_capacity(alloc, entries.len())?;
+    for (group, entry) in entries.iter().enumerate() {
+        let Some(before) = counts.get(group) else {
+            return Ok(right);
+        };
+        right.push(tables.right(entry.positions.as_slice(), *before))?;
+    }
+    Ok(right)
+}
+
+/// For each entry of a column's row index whether its positions are right: whether from there a reader goes on
+/// with the cells that come behind those before the entry's group (ORC specification, "Row Group Index"). Any
+/// right position counts, and not a writer's alone. A bound says how many of the column's cells come before a
+/// group; entries without one are taken for those of groups at the end.
+///
+/// Each stream is gone over once, and a position takes a search by halves, whatever it names.
+///
+/// The bounds ascend up to the number of cells: a condition.
+///
+/// Refusals: `Run` where a stream of the column that has positions is no stream of runs, with its first run
+/// from the left that is none, or has more than 2^64 - 1 values; `OutOfMemory`, and nothing else where the
+/// streams spell the cells.
+pub fn positions_right(
+    alloc: Global,
+    tree: &Tree,
+    column: usize,
+    streams: &ColumnStreams<'_>,
+    cells: &[Lent<'_, '_>],
+    bounds: &[usize],
+    entries: &[RowIndexEntry],
+) -> Result<Vec<bool>, StripeFault>
+    requires { AreBounds (length (lent_cells cells.now)) bounds.now }
+    ensures right { (x : Streams) → AreStreams x streams.now → IsColumn (shape tree.now) x (lent_cells cells.now)
+        → MatchResult result
+        (λ right. AreDecided (shape tree.now) x (lent_cells cells.now) bounds.now entries.now right.items)
+        (λ fault. fault ≡ OutOfMemory) }
+    ensures fault { IfErr result (λ fault. fault ≢ OutOfMemory
+        → (x : Streams) → AreStreams x streams.now
+        → ColumnFails (shape tree.now) x column fault) }
+{
+    let counts = counts_of_groups(alloc, cells, bounds, entries.len())?;
+    positions_right_behind(alloc, tree, column, streams, &counts, entries)
+}

@@ -1,0 +1,117 @@
+//! The runs of one stream, in which positions are looked up.
+ghost use Rattle.std.specs.Prelude.{◌≡◌, ◌<◌, ◌^◌, ◌⊎◌, ℕ, ℤ, List, length, IfOk, IfErr, MatchBool};
+ghost use Rattle.orc_rle.specs.Stream.{IsStream, StopsWithin};
+ghost use Rattle.orc_rle.specs.declared.fault.RunFault.TheVariants.{OutOfMemory};
+ghost use Rattle.orc_positions.specs.RunPlaces.{ArePlaces, Names, NamesBit};
+ghost use Rattle.orc_column_reader.specs.Numbers.{is_run};
+ghost use Rattle.orc_column_reader.specs.RunFaults.{no_run};
+ghost use Rattle.orc_row_index.specs.Places.{RunPlace, BitPlace};
+ghost use Rattle.orc_row_index.specs.RunStreams.{RunStream};
+ghost use Rattle.orc_row_index.specs.Walking.{runs, most};
+ghost use Rattle.orc_row_index.specs.Places.{position_size};
+ghost use Rattle.orc_row_index_check.specs.Tables.{IsTable, IsFew, RunsFail, TablePlace};
+
+use orc_positions::{RunPlaces, byte_places, run_places};
+use orc_rle::{Rle, RunFault, Sign, V1, V2};
+use orc_row_index::RunBytes;
+use std::alloc::Global;
+
+/// Where the runs of a stream begin, by what they are of.
+#[derive(Drop)]
+pub(crate) enum StreamTable {
+    /// There is no such stream.
+    Nothing,
+    /// Booleans, eight to a byte.
+    Bits(RunPlaces),
+    /// Bytes or integers.
+    Runs(RunPlaces),
+}
+
+/// The places of a stream of integers, whatever the version.
+fn number_places(
+    alloc: Global,
+    version: Rle,
+    sign: Sign,
+    bytes: &[u8],
+) -> Result<RunPlaces, RunFault>
+    ensures found { IfOk result (ArePlaces (is_run version sign) bytes.now) }
+    ensures only { (values : List ℤ) → IsStream (is_run version sign) bytes.now values → length values < 2 ^ 64
+        → IfErr result (λ fault. fault ≡ OutOfMemory) }
+    ensures fault { IfErr result (λ fault. (fault ≡ OutOfMemory)
+        ⊎ StopsWithin (is_run version sign) (no_run version sign) most bytes.now fault) }
+{
+    match version {
+        Rle::One => run_places::<V1>(alloc, bytes, sign),
+        Rle::Two => run_places::<V2>(alloc, bytes, sign),
+    }
+}
+
+/// The table of a stream, by one walk over it.
+///
+/// Refusals: the fault of the first run from the left that is none, or `TooMany` where it goes past 2^64 - 1
+/// values; and `OutOfMemory`.
+pub(crate) fn table_of(alloc: Global, stream: &RunBytes<'_>) -> Result<StreamTable, RunFault>
+    ensures found { IfOk result (IsTable (runs stream.now)) }
+    ensures only { IsFew (runs stream.now) → IfErr result (λ fault. fault ≡ OutOfMemory) }
+    ensures fault { IfErr result (λ fault. (fault ≡ OutOfMemory) ⊎ RunsFail (runs stream.now) fault) }
+{
+    match *stream {
+        RunBytes::Nothing => Ok(StreamTable::Nothing),
+        RunBytes::Bits(bytes) => Ok(StreamTable::Bits(byte_places(alloc, bytes)?)),
+        RunBytes::Bytes(bytes) => Ok(StreamTable::Runs(byte_places(alloc, bytes)?)),
+        RunBytes::Numbers(version, sign, bytes) => {
+            Ok(StreamTable::Runs(number_places(alloc, version, sign, bytes)?))
+        }
+    }
+}
+
+/// Whether these are an offset and how many values are passed from there, and name value `n`.
+fn run_right(places: &RunPlaces, positions: &[u64], n: u64) -> bool
+    ensures { MatchBool result
+        (RunPlace (Names places.now) n positions.now)
+        (RunPlace (Names places.now) n positions.now → ⊥) }
+{
+    match positions {
+        [offset, skip] => places.begins(*offset, *skip, n),
+        _ => false,
+    }
+}
+
+/// The same of boolean `n`: an offset, how many bytes are passed, and how many booleans of the next one.
+fn bits_right(places: &RunPlaces, positions: &[u64], n: u64) -> bool
+    ensures { MatchBool result
+        (BitPlace (NamesBit places.now) n positions.now)
+        (BitPlace (NamesBit places.now) n positions.now → ⊥) }
+{
+    match positions {
+        [offset, skip, bits] => places.begins_bit(*offset, *skip, *bits, n),
+        _ => false,
+    }
+}
+
+impl StreamTable {
+    /// How many numbers a position of the stream has.
+    pub(crate) fn size(&self) -> usize
+        ensures { (stream : RunStream) → IsTable stream self.now → result ≡ position_size stream }
+    {
+        match self {
+            StreamTable::Nothing => 0,
+            StreamTable::Bits(_) => 3,
+            StreamTable::Runs(_) => 2,
+        }
+    }
+
+    /// Whether the position names value `n`.
+    pub(crate) fn right(&self, positions: &[u64], n: u64) -> bool
+        ensures { MatchBool result (TablePlace self.now n positions.now) (TablePlace self.now n positions.now → ⊥) }
+    {
+        match self {
+            StreamTable::Nothing => match positions {
+                [] => true,
+                _ => false,
+            },
+            StreamTable::Bits(places) => bits_right(places, positions, n),
+            StreamTable::Runs(places) => run_right(places, positions, n),
+        }
+    }
+}

@@ -1,5 +1,0 @@
-pub mod PositionLemmas
-pub mod BitPositionLemmas
-pub mod PlaceLemmas
-pub mod WalkLemmas
-pub mod MarkLemmas

@@ -1,4 +1,0 @@
-pub mod Position
-pub mod BitPosition
-pub mod RunPlaces
-pub mod Marks

@@ -1,8 +1,0 @@
-use Rattle.std.proofs.Common.{◌≡◌, ◌++◌, drop}
-use Rattle.std.specs.Prelude.{string_bytes}
-use Rattle.orc_show.specs.Show.{numbered, column_line}
-use Rattle.orc_show.proofs.show.put_columns.Given as goal
-
--- with the lines of those that are left it is all lines
-abbrev pub invariant-loop-number : goal.invariant-loop-number
-invariant-loop-number l = string_bytes l.lines ++ numbered column_line l.number (drop l.number l.stats) ≡ string_bytes l.initial.lines ++ numbered column_line 0 l.stats

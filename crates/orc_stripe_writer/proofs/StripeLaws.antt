@@ -1,0 +1,161 @@
+-- Laws of written stripes: there is one of rows, and its indexes are right for a reader.
+use Rattle.std.proofs.Common.{◌≡◌, ℕ, zero, suc, ◌+◌, ◌<◌, Bool, true, false, Option, Some, List, [], ◌∷◌, ◌++◌, map, length, slice_get, refl, sym, ap, ◌∙◌, subst, arith}
+use Rattle.std.specs.List.{flat_map}
+use Rattle.orc_rle.specs.declared.sign.Rle.{Rle}
+use Rattle.orc_rle.specs.declared.sign.Sign.TheVariants.{Signed, Unsigned}
+use Rattle.orc_wire.specs.declared.encoding.Encoding.{Encoding}
+use Rattle.orc_wire.specs.declared.stripe_info.StripeInfo.{StripeInfo}
+use Rattle.orc_wire.specs.declared.stripe_footer.StripeFooter.{StripeFooter}
+use Rattle.orc_wire.specs.declared.stripe_footer.StreamMsg.{StreamMsg}
+use Rattle.orc_wire.specs.CanonicalMessages.{stripe_footer_text}
+use Rattle.orc_types.specs.Cells.{Cell}
+use Rattle.orc_types.specs.Columns.{cells}
+use Rattle.orc_types.specs.Fits.{RowsFit}
+use Rattle.orc_types.specs.Shapes.{Shape, scalar, list_of, map_of, struct_of, width, shape_at}
+use Rattle.orc_types.specs.declared.kind.Scalar.TheVariants as kind
+use Rattle.orc_types.proofs.Together.{cells_fit}
+use Rattle.orc_column_reader.specs.Directory.{has_stream, slice}
+use Rattle.orc_column_reader.specs.Stripe.{Streams, version_at, uses_dictionary, columns_of}
+use Rattle.orc_row_index.specs.Bounds.{before_group}
+use Rattle.orc_row_index.specs.Places.{PlacesIn, begins, AreReadPlaces}
+use Rattle.orc_row_index.specs.RowIndex.{IsRightIndex}
+use Rattle.orc_row_index.specs.RunStreams.{RunStream, bit_runs, byte_runs, number_runs, present_runs, text_runs, own_runs, text_octets, own_octets}
+use Rattle.orc_row_index.proofs.WrittenIndex.{one_index, index_right}
+use Rattle.orc_positions.specs.BitPosition.{BeginsBits}
+use Rattle.orc_stripe_writer.specs.Groups.{starts, bounds_of}
+use Rattle.orc_stripe_writer.specs.Indexes.{streams_written, index_lines, index_bytes}
+use Rattle.orc_stripe_writer.specs.WrittenColumn.{Written}
+use Rattle.orc_stripe_writer.specs.WrittenStripe.{AreFew, column_bytes, lines_from, indexed_columns, IsWrittenStripe, HasRightIndex}
+use Rattle.orc_stripe_writer.proofs.IndexLemmas.{get_within}
+use Rattle.orc_stripe_writer.proofs.OneWritten.{one_columns}
+use Rattle.orc_stripe_writer.proofs.StripeReads.{index_met, indexed_few, columns_found, column_encoded}
+use Rattle.orc_stripe_writer.proofs.WrittenDirectory.{from_zero, same_stream, other_column, after, AreFound}
+use Rattle.orc_stripe_writer.proofs.WrittenReads.{column_at, there}
+
+-- ---- one text
+
+same_lists : {X : Type 0} (a b : List X) → length a ≡ length b → ((c : ℕ) (x y : X) → slice_get a c ≡ Some x → slice_get b c ≡ Some y → x ≡ y) → a ≡ b
+same_lists [] [] l h = refl
+same_lists [] (y ∷ b) l h = absurd (omega (arith, l))
+same_lists (x ∷ a) [] l h = absurd (omega (arith, l))
+same_lists (x ∷ a) (y ∷ b) l h =
+    let first = h 0 x y refl refl in
+    let later = same_lists a b (omega (arith, l)) (λ c u v p q. h (suc c) u v p q) in
+    λ i. first i ∷ later i
+
+pub one_stripe : (rle : Rle) (stride : ℕ) (s : Shape) (rows : List Cell) (i j : StripeInfo) (a b : List ℕ) → IsWrittenStripe rle stride s rows i a → IsWrittenStripe rle stride s rows j b → (i ≡ j) × (a ≡ b)
+one_stripe rle stride s rows i j a b p q =
+    let x = p.columns in
+    let y = q.columns in
+    let columns : x.columns ≡ y.columns = one_columns rle s rows 0 x.columns y.columns (x.counted ∙ sym y.counted) x.are y.are in
+    let few = indexed_few stride (width s) in
+    let indexes : p.indexes ≡ q.indexes = same_lists p.indexes q.indexes (p.are.counted ∙ sym q.are.counted) (λ c t u at too.
+    let below : c < length x.columns = (let k = get_within p.indexes c t at in let m = p.are.counted in let n = x.counted in omega (arith, k, m, n, few)) in
+    let w = column_at x.columns c in
+    let here : slice_get x.columns c ≡ Some w = there x.columns c below in
+    let other : slice_get y.columns c ≡ Some w = ap (λ (ws : List Written). slice_get ws c) (sym columns) ∙ here in
+    one_index (shape_at s c) (streams_written w) (cells s c rows) (bounds_of s c rows (starts stride (length rows))) t u (p.are.each c w t here at) (q.are.each c w u other too)) in
+    let streams : p.streams ≡ q.streams = x.joined ∙ ap (flat_map column_bytes) columns ∙ sym y.joined in
+    let lines : p.lines ≡ q.lines = x.listed ∙ ap (lines_from 0) columns ∙ sym y.listed in
+    let directory : p.footer.streams ≡ q.footer.streams = p.listed ∙ (λ k. index_lines 0 (indexes k) ++ lines k) ∙ sym q.listed in
+    let encodings : p.footer.columns ≡ q.footer.columns = x.encoded ∙ ap (map (λ (w : Written). w.encoding)) columns ∙ sym y.encoded in
+    let footer : p.footer ≡ q.footer = λ k. record { streams = directory k; columns = encodings k } in
+    let text = ap (λ (f : StripeFooter). stripe_footer_text.text f) footer in (
+      p.info_is ∙ (λ k. record { offset = 0; index_length = length (index_bytes (indexes k)); data_length = length (streams k); footer_length = length (text k); number_of_rows = length rows }) ∙ sym q.info_is,
+      p.parts ∙ (λ k. index_bytes (indexes k) ++ (streams k ++ text k)) ∙ sym q.parts,
+    )
+
+-- ---- right for a reader
+
+texts_same : (p q : Bool) (x y : Streams) → p ≡ q → x.encoding ≡ y.encoding → x.stream 1 ≡ y.stream 1 → x.stream 2 ≡ y.stream 2 → text_runs p x ≡ text_runs q y
+texts_same true true x y t e a b = λ i. number_runs (version_at (e i).kind) Unsigned (a i)
+texts_same true false x y t e a b = cc
+texts_same false true x y t e a b = cc
+texts_same false false x y t e a b = λ i. number_runs (version_at (e i).kind) Unsigned (b i)
+
+contents_same : (p q : Bool) (x y : Streams) → p ≡ q → x.stream 1 ≡ y.stream 1 → text_octets p x ≡ text_octets q y
+contents_same true true x y t a = refl
+contents_same true false x y t a = cc
+contents_same false true x y t a = cc
+contents_same false false x y t a = ap Some a
+
+-- positions are those of the same streams
+own_same : (s : Shape) (x y : Streams) → x.encoding ≡ y.encoding → x.stream 1 ≡ y.stream 1 → x.stream 2 ≡ y.stream 2 → own_runs s x ≡ own_runs s y
+own_same (list_of s o) x y e a b = λ i. number_runs (version_at (e i).kind) Unsigned (b i)
+own_same (map_of k v o) x y e a b = λ i. number_runs (version_at (e i).kind) Unsigned (b i)
+own_same (struct_of fs o) x y e a b = refl
+own_same (scalar kind.Boolean o) x y e a b = ap bit_runs a
+own_same (scalar kind.Byte o) x y e a b = ap byte_runs a
+own_same (scalar kind.Short o) x y e a b = λ i. number_runs (version_at (e i).kind) Signed (a i)
+own_same (scalar kind.Int o) x y e a b = λ i. number_runs (version_at (e i).kind) Signed (a i)
+own_same (scalar kind.Long o) x y e a b = λ i. number_runs (version_at (e i).kind) Signed (a i)
+own_same (scalar kind.Date o) x y e a b = λ i. number_runs (version_at (e i).kind) Signed (a i)
+own_same (scalar kind.Binary o) x y e a b = λ i. number_runs (version_at (e i).kind) Unsigned (b i)
+own_same (scalar kind.String o) x y e a b = texts_same (uses_dictionary x.encoding.kind) (uses_dictionary y.encoding.kind) x y (ap (λ (k : Encoding). uses_dictionary k.kind) e) e a b
+
+octets_same : (s : Shape) (x y : Streams) → x.encoding ≡ y.encoding → x.stream 1 ≡ y.stream 1 → own_octets s x ≡ own_octets s y
+octets_same (list_of s o) x y e a = refl
+octets_same (map_of k v o) x y e a = refl
+octets_same (struct_of fs o) x y e a = refl
+octets_same (scalar kind.Boolean o) x y e a = refl
+octets_same (scalar kind.Byte o) x y e a = refl
+octets_same (scalar kind.Short o) x y e a = refl
+octets_same (scalar kind.Int o) x y e a = refl
+octets_same (scalar kind.Long o) x y e a = refl
+octets_same (scalar kind.Date o) x y e a = refl
+octets_same (scalar kind.Binary o) x y e a = ap Some a
+octets_same (scalar kind.String o) x y e a = contents_same (uses_dictionary x.encoding.kind) (uses_dictionary y.encoding.kind) x y (ap (λ (k : Encoding). uses_dictionary k.kind) e) a
+
+places_same : (s : Shape) (x y : Streams) (before : List Cell) (positions : List ℕ) → x.encoding ≡ y.encoding → x.stream 0 ≡ y.stream 0 → x.stream 1 ≡ y.stream 1 → x.stream 2 ≡ y.stream 2
+    → AreReadPlaces s x before positions → AreReadPlaces s y before positions
+places_same s x y before positions e p a b h =
+    subst (λ (m : RunStream). PlacesIn begins BeginsBits m (own_octets s y) (own_runs s y) before positions) (ap present_runs p)
+    (subst (λ (o : Option (List ℕ)). PlacesIn begins BeginsBits (present_runs (x.stream 0)) o (own_runs s y) before positions) (octets_same s x y e a)
+    (subst (λ (r : RunStream). PlacesIn begins BeginsBits (present_runs (x.stream 0)) (own_octets s x) r before positions) (own_same s x y e a b) h))
+
+right_in : (s : Shape) (y : Streams) (w : Written) (cs : List Cell) (bounds text : List ℕ) → y.encoding ≡ w.encoding → AreFound y.stream w → IsRightIndex s (streams_written w) cs bounds text
+    → IsRightIndex s y cs bounds text
+right_in s y w cs bounds text e f h = record {
+  message = h.message;
+  spelled = h.spelled;
+  counted = h.counted;
+  places = λ g d at. places_same s (streams_written w) y (before_group cs bounds g) d.positions (sym e) (sym f.marks) (sym f.content) (sym f.lengths) (h.places g d at);
+  statistics = h.statistics;
+}
+
+listed_there : (b : ℕ) (ts : List (List ℕ)) (ls : List StreamMsg) (i c : ℕ) → i < length ts → b + i ≡ c → has_stream c 6 (index_lines b ts ++ ls) ≡ true
+listed_there b [] ls i c lt e = absurd (omega (arith, lt))
+listed_there b (t ∷ ts) ls zero c lt e =
+    let here : b ≡ c = omega (arith, e) in
+    let on = ap (λ (n : ℕ). has_stream n 6 (index_lines b (t ∷ ts) ++ ls)) (sym here) in
+    on ∙ rw (same_stream b 6) refl
+listed_there b (t ∷ ts) ls (suc i) c lt e = rw (other_column b c 6 6 (after b c (omega (arith, e)))) (listed_there (suc b) ts ls i c (omega (arith, lt)) (omega (arith, e)))
+
+pub got : {X : Type 0} (xs : List X) (c : ℕ) → c < length xs → (x : X) × (slice_get xs c ≡ Some x)
+got [] c lt = absurd (omega (arith, lt))
+got (x ∷ xs) zero lt = (x, refl)
+got (x ∷ xs) (suc c) lt = got xs c (omega (arith, lt))
+
+pub all_indexed : (stride n : ℕ) → 0 < stride → indexed_columns stride n ≡ n
+all_indexed zero n h = absurd (omega (arith, h))
+all_indexed (suc k) n h = refl
+
+pub indexes_right : (rle : Rle) (stride : ℕ) (s : Shape) (rows : List Cell) (info : StripeInfo) (bytes : List ℕ) (h : IsWrittenStripe rle stride s rows info bytes) → 0 < stride → RowsFit s rows → AreFew s rows
+    → (c : ℕ) → c < width s → HasRightIndex stride s rows h.footer bytes c
+indexes_right rle stride s rows info bytes h some fit few c lt =
+    let text = stripe_footer_text.text h.footer in
+    let ws = h.columns.columns in
+    let w = column_at ws c in
+    let below : c < length ws = (let k = h.columns.counted in omega (arith, lt, k)) in
+    let many : c < length h.indexes = (let k = h.are.counted in let m = all_indexed stride (width s) some in omega (arith, lt, k, m)) in
+    let t = got h.indexes c many in
+    let at : slice c 6 h.footer.streams bytes ≡ t.0 = (λ i. slice c 6 (h.listed i) (h.parts i)) ∙ index_met 0 h.indexes h.lines (h.streams ++ text) c c t.0 t.1 (from_zero c) in
+    let cs = cells s c rows in
+    let bounds = bounds_of s c rows (starts stride (length rows)) in
+    let right = right_in (shape_at s c) (columns_of h.footer bytes c) w cs bounds t.0
+    (column_encoded rle s rows h.streams h.lines h.footer bytes c h.columns lt)
+    (columns_found rle s rows h.streams text h.lines h.footer h.indexes bytes c h.columns h.listed h.parts lt)
+    (index_right (shape_at s c) (streams_written w) cs bounds t.0 (cells_fit s c rows lt fit) (few c lt) (h.are.each c w t.0 (there ws c below) t.1)) in (
+      ap (λ ms. has_stream c 6 ms) h.listed ∙ listed_there 0 h.indexes h.lines c c many (from_zero c),
+      subst (λ (bs : List ℕ). IsRightIndex (shape_at s c) (columns_of h.footer bytes c) cs bounds bs) (sym at) right,
+    )

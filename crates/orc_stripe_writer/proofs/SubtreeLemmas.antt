@@ -1,0 +1,233 @@
+-- The columns of a type's parts are columns of the whole, and what is so of all is so of these.
+use Rattle.std.proofs.Common.{◌≡◌, ℕ, zero, suc, ◌+◌, ◌-◌, ◌<◌, ◌≤◌, ◌^◌, List, [], ◌∷◌, ◌++◌, length, get_or, take, drop, map, true, false, nat_lt, refl, sym, ap, ◌∙◌, subst, arith, inl, inr, drop-cons, string_bytes, lt-ltb, le-ltb}
+use Rattle.std.specs.List.{flat_map}
+use Rattle.std.proofs.lemmas.Bool.Decides.{leb_tells}
+use Rattle.std.proofs.lemmas.List.{length-map}
+use Rattle.orc_rle.specs.declared.sign.Rle.{Rle}
+use Rattle.orc_wire.specs.declared.encoding.Encoding.{Encoding}
+use Rattle.orc_wire.specs.declared.stripe_footer.StreamMsg.{StreamMsg}
+use Rattle.orc_types.specs.declared.tree.Field.{Field}
+use Rattle.orc_types.specs.Shapes.{Shape, scalar, list_of, map_of, struct_of, Fields, no_field, field, width, shape_at}
+use Rattle.orc_types.specs.Cells.{Cell, parts, keys_in, values_in, values}
+use Rattle.orc_types.specs.Columns.{cells}
+use Rattle.orc_types.specs.Fits.{RowsFit}
+use Rattle.orc_types.specs.Views.{shape, fields}
+use Rattle.orc_types.proofs.Together.{keys_fit, values_fit}
+use Rattle.orc_types.proofs.Views.{name_and_type-is}
+use Rattle.orc_column_reader.proofs.Arms.{some_width}
+use Rattle.orc_stripe_writer.specs.WrittenColumn.{Written}
+use Rattle.orc_stripe_writer.specs.WrittenStripe.{AreFew, HasColumns}
+use Rattle.orc_stripe_writer.specs.Subtrees.{AreColumnsFrom, ArePairsFrom, AreFieldsFrom, PairsFit, PairsAreFew, FieldsAreFew}
+
+-- ---- the fields at a place
+
+pub nothing_dropped : {X : Type 0} (xss : List (List X)) → map (drop 0) xss ≡ xss
+nothing_dropped [] = refl
+nothing_dropped (xs ∷ xss) = ap (λ yss. xs ∷ yss) (nothing_dropped xss)
+
+one_more : {X : Type 0} (n : ℕ) (xs : List X) → drop 1 (drop n xs) ≡ drop (suc n) xs
+one_more zero xs = refl
+one_more (suc n) [] = refl
+one_more (suc n) (x ∷ xs) = one_more n xs
+
+pub dropped_more : {X : Type 0} (n : ℕ) (xss : List (List X)) → map (drop 1) (map (drop n) xss) ≡ map (drop (n + 1)) xss
+dropped_more n [] = refl
+dropped_more n (xs ∷ xss) = let e : suc n ≡ n + 1 = omega arith in (λ i. (one_more n xs ∙ ap (λ k. drop k xs) e) i ∷ dropped_more n xss i)
+
+pub heads_at : {X : Type 0} (n : ℕ) (xss : List (List X)) → flat_map (λ xs. take 1 (drop n xs)) xss ≡ flat_map (take 1) (map (drop n) xss)
+heads_at n [] = refl
+heads_at n (xs ∷ xss) = ap (λ ys. take 1 (drop n xs) ++ ys) (heads_at n xss)
+
+-- the fields from a place on: the first of them, and the others
+pub fields_at : (fs : List Field) (n : ℕ) (f : Field) → n < length fs → f ≡ get_or fs n f → fields (drop n fs) ≡ field (string_bytes f.name) (shape f.tree) (fields (drop (n + 1) fs))
+fields_at fs n f less is = rw (drop-cons fs n f, ← is, name_and_type-is f) (let e : suc n ≡ n + 1 = omega arith in ap (λ k. field (string_bytes f.name) (shape f.tree) (fields (drop k fs))) e)
+
+-- ---- which columns
+
+pub root_type : (s : Shape) → shape_at s 0 ≡ s
+root_type (scalar k o) = refl
+root_type (list_of s o) = refl
+root_type (map_of k v o) = refl
+root_type (struct_of fs o) = refl
+
+pub root_cells : (s : Shape) (column : List Cell) → cells s 0 column ≡ column
+root_cells (scalar k o) column = refl
+root_cells (list_of s o) column = refl
+root_cells (map_of k v o) column = refl
+root_cells (struct_of fs o) column = refl
+
+pub all_columns_from : (s : Shape) (rows : List Cell) → AreColumnsFrom s rows 0 s rows
+all_columns_from s rows d less = let e : 0 + d ≡ d = omega arith in (ap (shape_at s) e, ap (λ c. cells s c rows) e)
+
+pub type_from : (s : Shape) (rows : List Cell) (c : ℕ) (t : Shape) (column : List Cell) → AreColumnsFrom s rows c t column → shape_at s c ≡ t
+type_from s rows c t column h = let e : c ≡ c + 0 = omega arith in ap (shape_at s) e ∙ (h 0 (some_width t)).0 ∙ root_type t
+
+pub cells_from : (s : Shape) (rows : List Cell) (c : ℕ) (t : Shape) (column : List Cell) → AreColumnsFrom s rows c t column → cells s c rows ≡ column
+cells_from s rows c t column h = let e : c ≡ c + 0 = omega arith in ap (λ k. cells s k rows) e ∙ (h 0 (some_width t)).1 ∙ root_cells t column
+
+pub element_from : (s : Shape) (rows : List Cell) (c : ℕ) (t : Shape) (o : List ℕ) (column : List Cell) → AreColumnsFrom s rows c (list_of t o) column
+    → AreColumnsFrom s rows (c + 1) t (flat_map parts (values column))
+element_from s rows c t o column h d less =
+    let e : c + 1 + d ≡ c + suc d = omega arith in
+    let f = h (suc d) (omega (arith, less)) in
+    (ap (shape_at s) e ∙ f.0, ap (λ k. cells s k rows) e ∙ f.1)
+
+keys_from : (s : Shape) (rows : List Cell) (c : ℕ) (k v : Shape) (o : List ℕ) (column : List Cell) → AreColumnsFrom s rows c (map_of k v o) column
+    → AreColumnsFrom s rows (c + 1) k (flat_map keys_in (values column))
+keys_from s rows c k v o column h d less =
+    let u : nat_lt d (width k) ≡ true = lt-ltb _ _ less in
+    let e : c + 1 + d ≡ c + suc d = omega arith in
+    let f = h (suc d) (omega (arith, less)) in
+    let g = rw u at f in
+    (ap (shape_at s) e ∙ g.0, ap (λ j. cells s j rows) e ∙ g.1)
+
+map_values_from : (s : Shape) (rows : List Cell) (c : ℕ) (k v : Shape) (o : List ℕ) (column : List Cell) → AreColumnsFrom s rows c (map_of k v o) column
+    → AreColumnsFrom s rows (c + 1 + width k) v (flat_map values_in (values column))
+map_values_from s rows c k v o column h d less =
+    let u : nat_lt (width k + d) (width k) ≡ false = le-ltb _ _ (omega arith) in
+    let back : width k + d - width k ≡ d = omega arith in
+    let e : c + 1 + width k + d ≡ c + suc (width k + d) = omega arith in
+    let f = h (suc (width k + d)) (omega (arith, less)) in
+    let g = rw (u, back) at f in
+    (ap (shape_at s) e ∙ g.0, ap (λ j. cells s j rows) e ∙ g.1)
+
+pub pairs_from : (s : Shape) (rows : List Cell) (c : ℕ) (k v : Shape) (o : List ℕ) (column : List Cell) → AreColumnsFrom s rows c (map_of k v o) column → ArePairsFrom s rows (c + 1) k v column
+pairs_from s rows c k v o column h = (keys_from s rows c k v o column h, map_values_from s rows c k v o column h)
+
+pub fields_from : (s : Shape) (rows : List Cell) (c : ℕ) (fs : Fields) (o : List ℕ) (column : List Cell) → AreColumnsFrom s rows c (struct_of fs o) column
+    → AreFieldsFrom s rows (c + 1) fs (map parts (values column))
+fields_from s rows c fs o column h d less =
+    let e : c + 1 + d ≡ c + suc d = omega arith in
+    let f = h (suc d) (omega (arith, less)) in
+    (ap (shape_at s) e ∙ f.0, ap (λ k. cells s k rows) e ∙ f.1)
+
+pub first_from : (s : Shape) (rows : List Cell) (c : ℕ) (name : List ℕ) (t : Shape) (fs : Fields) (structs : List (List Cell)) → AreFieldsFrom s rows c (field name t fs) structs
+    → AreColumnsFrom s rows c t (flat_map (take 1) structs)
+first_from s rows c name t fs structs h d less =
+    let u : nat_lt d (width t) ≡ true = lt-ltb _ _ less in
+    let f = h d (omega (arith, less)) in
+    rw u at f
+
+pub others_from : (s : Shape) (rows : List Cell) (c : ℕ) (name : List ℕ) (t : Shape) (fs : Fields) (structs : List (List Cell)) → AreFieldsFrom s rows c (field name t fs) structs
+    → AreFieldsFrom s rows (c + width t) fs (map (drop 1) structs)
+others_from s rows c name t fs structs h d less =
+    let u : nat_lt (width t + d) (width t) ≡ false = le-ltb _ _ (omega arith) in
+    let back : width t + d - width t ≡ d = omega arith in
+    let e : c + width t + d ≡ c + (width t + d) = omega arith in
+    let f = h (width t + d) (omega (arith, less)) in
+    let g = rw (u, back) at f in
+    (ap (shape_at s) e ∙ g.0, ap (λ k. cells s k rows) e ∙ g.1)
+
+pub pairs_fit : (k v : Shape) (o : List ℕ) (column : List Cell) → RowsFit (map_of k v o) column → PairsFit k v column
+pairs_fit k v o column h = (keys_fit k v o column h, values_fit k v o column h)
+
+-- ---- how many cells
+
+pub few_here : (s : Shape) (column : List Cell) → AreFew s column → length column < 2 ^ 31
+few_here s column h = subst (λ (cs : List Cell). length cs < 2 ^ 31) (root_cells s column) (h 0 (some_width s))
+
+pub few_elements : (s : Shape) (o : List ℕ) (column : List Cell) → AreFew (list_of s o) column → AreFew s (flat_map parts (values column))
+few_elements s o column h c less = h (suc c) (omega (arith, less))
+
+pub few_pairs : (k v : Shape) (o : List ℕ) (column : List Cell) → AreFew (map_of k v o) column → PairsAreFew k v column
+few_pairs k v o column h = (
+  λ c less. (let u : nat_lt c (width k) ≡ true = lt-ltb _ _ less in let f = h (suc c) (omega (arith, less)) in rw u at f),
+  λ c less. (
+      let u : nat_lt (width k + c) (width k) ≡ false = le-ltb _ _ (omega arith) in
+      let back : width k + c - width k ≡ c = omega arith in
+      let f = h (suc (width k + c)) (omega (arith, less)) in
+      rw (u, back) at f),
+)
+
+pub few_fields : (fs : Fields) (o : List ℕ) (column : List Cell) → AreFew (struct_of fs o) column → FieldsAreFew fs (map parts (values column))
+few_fields fs o column h c less = h (suc c) (omega (arith, less))
+
+pub few_first : (name : List ℕ) (s : Shape) (fs : Fields) (structs : List (List Cell)) → FieldsAreFew (field name s fs) structs → AreFew s (flat_map (take 1) structs)
+few_first name s fs structs h c less =
+    let u : nat_lt c (width s) ≡ true = lt-ltb _ _ less in
+    let f = h c (omega (arith, less)) in
+    rw u at f
+
+pub few_others : (name : List ℕ) (s : Shape) (fs : Fields) (structs : List (List Cell)) → FieldsAreFew (field name s fs) structs → FieldsAreFew fs (map (drop 1) structs)
+few_others name s fs structs h c less =
+    let u : nat_lt (width s + c) (width s) ≡ false = le-ltb _ _ (omega arith) in
+    let back : width s + c - width s ≡ c = omega arith in
+    let f = h (width s + c) (omega (arith, less)) in
+    rw (u, back) at f
+
+pub few_scalar : (s : Shape) (column : List Cell) → width s ≡ 1 → length column < 2 ^ 31 → AreFew s column
+few_scalar s column one few c less =
+    let first : 0 ≡ c = omega (arith, one, less) in
+    subst (λ (n : ℕ). length (cells s n column) < 2 ^ 31) first (subst (λ (cs : List Cell). length cs < 2 ^ 31) (sym (root_cells s column)) few)
+
+pub few_list : (s : Shape) (o : List ℕ) (column : List Cell) → length column < 2 ^ 31 → AreFew s (flat_map parts (values column)) → AreFew (list_of s o) column
+few_list s o column few h zero less = few
+few_list s o column few h (suc c) less = h c (omega (arith, less))
+
+pub few_map : (k v : Shape) (o : List ℕ) (column : List Cell) → length column < 2 ^ 31 → PairsAreFew k v column → AreFew (map_of k v o) column
+few_map k v o column few h zero less = few
+few_map k v o column few h (suc c) less =
+    elim (leb_tells (suc c) (width k)) [
+      | inl p ↦ rw p.0 (h.0 c p.1)
+      | inr p ↦ rw p.0 (h.1 (c - width k) (omega (arith, p.1, less)))
+    ]
+
+pub few_struct : (fs : Fields) (o : List ℕ) (column : List Cell) → length column < 2 ^ 31 → FieldsAreFew fs (map parts (values column)) → AreFew (struct_of fs o) column
+few_struct fs o column few h zero less = few
+few_struct fs o column few h (suc c) less = h c (omega (arith, less))
+
+pub few_field : (name : List ℕ) (s : Shape) (fs : Fields) (structs : List (List Cell)) → AreFew s (flat_map (take 1) structs) → FieldsAreFew fs (map (drop 1) structs)
+    → FieldsAreFew (field name s fs) structs
+few_field name s fs structs first others c less =
+    elim (leb_tells (suc c) (width s)) [
+      | inl p ↦ rw p.0 (first c p.1)
+      | inr p ↦ rw p.0 (others (c - width s) (omega (arith, p.1, less)))
+    ]
+
+-- ---- how many are written
+
+pub written_count : (rle : Rle) (s : Shape) (rows : List Cell) (n : ℕ) (streams : List ℕ) (directory : List StreamMsg) (encodings : List Encoding) → HasColumns rle s rows n streams directory encodings
+    → length encodings ≡ n
+written_count rle s rows n streams directory encodings h = ap length h.encoded ∙ length-map h.columns (λ (w : Written). w.encoding) ∙ h.counted
+
+pub none_after : (fs : List Field) (n : ℕ) → length fs ≤ n → fields (drop n fs) ≡ no_field
+none_after [] zero h = refl
+none_after [] (suc n) h = refl
+none_after (f ∷ fs) zero h = absurd (omega arith)
+none_after (f ∷ fs) (suc n) h = none_after fs n (omega (arith, h))
+
+-- ---- whether the fields' columns are few
+
+-- where the fields before a place are few, all are exactly where those from there on are
+pub record FewFrom (fs : List Field) (structs : List (List Cell)) (place : ℕ) : Type 0 where
+  pub forth : FieldsAreFew (fields (drop place fs)) (map (drop place) structs) → FieldsAreFew (fields fs) structs
+  pub back : FieldsAreFew (fields fs) structs → FieldsAreFew (fields (drop place fs)) (map (drop place) structs)
+
+pub few_begin : (fs : List Field) (structs : List (List Cell)) → FewFrom fs structs 0
+few_begin fs structs =
+    let e : map (drop 0) structs ≡ structs = nothing_dropped structs in
+    record { forth = λ h. subst (λ (xss : List (List Cell)). FieldsAreFew (fields fs) xss) e h; back = λ h. subst (λ (xss : List (List Cell)). FieldsAreFew (fields fs) xss) (sym e) h }
+
+pub few_step : (fs : List Field) (structs : List (List Cell)) (n : ℕ) (f : Field) (column : List Cell) → n < length fs → f ≡ get_or fs n f → column ≡ flat_map (take 1) (map (drop n) structs)
+    → AreFew (shape f.tree) column → FewFrom fs structs n → FewFrom fs structs (n + 1)
+few_step fs structs n f column less is are few h =
+    let name = string_bytes f.name in
+    let t = shape f.tree in
+    let others = fields (drop (n + 1) fs) in
+    let e : fields (drop n fs) ≡ field name t others = fields_at fs n f less is in
+    let more : map (drop 1) (map (drop n) structs) ≡ map (drop (n + 1)) structs = dropped_more n structs in
+    record {
+      forth = λ g. h.forth (subst (λ (x : Fields). FieldsAreFew x (map (drop n) structs)) (sym e)
+          (few_field name t others (map (drop n) structs) (subst (λ (cs : List Cell). AreFew t cs) are few) (subst (λ (xss : List (List Cell)). FieldsAreFew others xss) (sym more) g)));
+      back = λ g. subst (λ (xss : List (List Cell)). FieldsAreFew others xss) more (few_others name t others (map (drop n) structs) (subst (λ (x : Fields). FieldsAreFew x (map (drop n) structs)) e (h.back g)));
+    }
+
+pub few_end : (fs : List Field) (structs : List (List Cell)) (n : ℕ) → length fs ≤ n → FewFrom fs structs n → FieldsAreFew (fields fs) structs
+few_end fs structs n all h = h.forth (subst (λ (x : Fields). FieldsAreFew x (map (drop n) structs)) (sym (none_after fs n all)) (λ d less. absurd (omega (arith, less))))
+
+-- the first field that isn't few
+pub few_first_not : (fs : List Field) (structs : List (List Cell)) (n : ℕ) (f : Field) (column : List Cell) → n < length fs → f ≡ get_or fs n f → column ≡ flat_map (take 1) (map (drop n) structs)
+    → (AreFew (shape f.tree) column → ⊥) → FewFrom fs structs n → FieldsAreFew (fields fs) structs → ⊥
+few_first_not fs structs n f column less is are not h all =
+    not (subst (λ (cs : List Cell). AreFew (shape f.tree) cs) (sym are)
+    (few_first (string_bytes f.name) (shape f.tree) (fields (drop (n + 1) fs)) (map (drop n) structs) (subst (λ (x : Fields). FieldsAreFew x (map (drop n) structs)) (fields_at fs n f less is) (h.back all))))

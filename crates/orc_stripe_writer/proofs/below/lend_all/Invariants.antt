@@ -1,0 +1,7 @@
+use Rattle.std.proofs.Common.{◌≡◌, take, ◌++◌}
+use Rattle.orc_types.specs.Lent.{lent_cells}
+use Rattle.orc_types.specs.Views.{views}
+use Rattle.orc_stripe_writer.proofs.below.lend_all.Given as goal
+
+abbrev pub invariant-loop-row : goal.invariant-loop-row
+invariant-loop-row l = lent_cells l.found.items ≡ lent_cells l.initial.found.items ++ views (take l.row-index l.rows)

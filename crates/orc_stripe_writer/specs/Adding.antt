@@ -1,0 +1,40 @@
+-- What one more stream, or one more column, adds to the streams of a stripe.
+use Rattle.std.specs.Prelude.{ℕ, ◌≡◌, List, ◌++◌}
+use Rattle.orc_wire.specs.declared.encoding.Encoding.{Encoding}
+use Rattle.orc_rle.specs.declared.sign.Rle.{Rle}
+use Rattle.orc_types.specs.Shapes.{Shape}
+use Rattle.orc_types.specs.Cells.{Cell}
+use Rattle.orc_stripe_writer.specs.declared.body.Body.{Body}
+use Rattle.orc_stripe_writer.specs.WrittenColumn.{Written, IsWrittenColumn}
+use Rattle.orc_stripe_writer.specs.WrittenStripe.{line, column_bytes, column_lines}
+
+-- such bytes are behind the old ones
+abbrev pub AppendsText : (List ℕ → Type 0) → List ℕ → List ℕ → Type 0
+AppendsText is_text old new = (text : List ℕ) × is_text text × (new ≡ old ++ text)
+
+-- one more stream
+pub record AddsStream (is_text : List ℕ → Type 0) (c k : ℕ) (old new : Body) : Type 0 where
+  pub text : List ℕ
+  pub is : is_text text
+  pub bytes : new.bytes.items ≡ old.bytes.items ++ text
+  pub directory : new.directory.items ≡ old.directory.items ++ line c k text
+
+-- the streams of a column's values, whatever its marks are
+pub record AddsValues (is_written : Written → Type 0) (c : ℕ) (old new : Body) (encoding : Encoding) : Type 0 where
+  pub content : List ℕ
+  pub lengths : List ℕ
+  pub words : List ℕ
+  pub is : (marks : List ℕ)
+      → is_written (record { encoding = encoding; marks = marks; content = content; lengths = lengths; words = words })
+  pub bytes : new.bytes.items ≡ old.bytes.items ++ (content ++ (lengths ++ words))
+  pub directory : new.directory.items
+      ≡ old.directory.items ++ (line c 1 content ++ (line c 2 lengths ++ line c 3 words))
+
+-- the streams of one more column
+pub record AddsColumn (rle : Rle) (s : Shape) (column : List Cell) (c : ℕ) (old new : Body)
+    (encoding : Encoding) : Type 0 where
+  pub written : Written
+  pub is : IsWrittenColumn rle s column written
+  pub encoded : encoding ≡ written.encoding
+  pub bytes : new.bytes.items ≡ old.bytes.items ++ column_bytes written
+  pub directory : new.directory.items ≡ old.directory.items ++ column_lines c written

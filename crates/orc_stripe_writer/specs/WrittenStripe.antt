@@ -1,0 +1,103 @@
+-- What the writer makes of rows: the indexes column by column, the streams column by column, then the footer
+-- (ORC specification, "Stripes"). The specification leaves the order of the streams to the writer.
+use Rattle.std.specs.Prelude.{◌≡◌, ℕ, zero, suc, ◌<◌, true, Some, List, [], ◌∷◌, ◌++◌, map, length, slice_get}
+use Rattle.std.specs.List.{flat_map}
+use Rattle.orc_rle.specs.declared.sign.Rle.{Rle}
+use Rattle.orc_wire.specs.declared.stripe_footer.StreamMsg.{StreamMsg}
+use Rattle.orc_wire.specs.declared.stripe_footer.StripeFooter.{StripeFooter}
+use Rattle.orc_wire.specs.declared.encoding.Encoding.{Encoding}
+use Rattle.orc_wire.specs.declared.stripe_info.StripeInfo.{StripeInfo}
+use Rattle.orc_wire.specs.Messages.{stripe_footer}
+use Rattle.orc_wire.specs.CanonicalMessages.{stripe_footer_text}
+use Rattle.orc_wire.specs.Spells.{Spells}
+use Rattle.orc_types.specs.Shapes.{Shape, width, shape_at}
+use Rattle.orc_types.specs.Cells.{Cell}
+use Rattle.orc_types.specs.Columns.{cells}
+use Rattle.orc_stats.specs.declared.stat.Stat.{Stat}
+use Rattle.orc_stats.specs.Kinds.{kind_of}
+use Rattle.orc_stats.specs.Statistics.{stat}
+use Rattle.orc_column_reader.specs.Directory.{has_stream, slice}
+use Rattle.orc_column_reader.specs.Stripe.{columns_of, cell_limit}
+use Rattle.orc_row_index.specs.RowIndex.{IsRightIndex}
+use Rattle.orc_stripe_writer.specs.Groups.{starts, bounds_of}
+use Rattle.orc_stripe_writer.specs.Indexes.{index_lines, index_bytes, HasIndexes}
+use Rattle.orc_stripe_writer.specs.WrittenColumn.{Written, IsWrittenColumn}
+
+-- no column has more cells than a stripe may have
+abbrev pub AreFew : Shape → List Cell → Type 0
+AreFew s rows = (c : ℕ) → c < width s → length (cells s c rows) < cell_limit
+
+-- a stream's line in the directory, where it has bytes
+abbrev pub line : ℕ → ℕ → List ℕ → List StreamMsg
+line c k [] = []
+line c k (b ∷ bs) = record { kind = k; column = c; length = length (b ∷ bs) } ∷ []
+
+-- the streams of a column: PRESENT, DATA, LENGTH, DICTIONARY_DATA
+abbrev pub column_bytes : Written → List ℕ
+column_bytes w = w.marks ++ (w.content ++ (w.lengths ++ w.words))
+
+abbrev pub column_lines : ℕ → Written → List StreamMsg
+column_lines c w = line c 0 w.marks ++ (line c 1 w.content ++ (line c 2 w.lengths ++ line c 3 w.words))
+
+-- of the columns from number c on
+abbrev pub lines_from : ℕ → List Written → List StreamMsg
+lines_from c [] = []
+lines_from c (w ∷ ws) = column_lines c w ++ lines_from (suc c) ws
+
+abbrev pub AreWrittenColumns : Rle → Shape → List Cell → ℕ → List Written → Type 0
+AreWrittenColumns rle s rows c [] = Unit {0}
+AreWrittenColumns rle s rows c (w ∷ ws) =
+    IsWrittenColumn rle (shape_at s c) (cells s c rows) w × AreWrittenColumns rle s rows (suc c) ws
+
+-- the streams of the first n columns of the rows, their directory and their encodings
+pub record HasColumns (rle : Rle) (s : Shape) (rows : List Cell) (n : ℕ) (streams : List ℕ)
+    (directory : List StreamMsg) (encodings : List Encoding) : Type 0 where
+  pub columns : List Written
+  pub counted : length columns ≡ n
+  pub are : AreWrittenColumns rle s rows 0 columns
+  pub joined : streams ≡ flat_map column_bytes columns
+  pub listed : directory ≡ lines_from 0 columns
+  pub encoded : encodings ≡ map (λ (w : Written). w.encoding) columns
+
+-- without a stride no column has an index
+abbrev pub indexed_columns : ℕ → ℕ → ℕ
+indexed_columns zero columns = 0
+indexed_columns (suc k) columns = columns
+
+-- The bytes are the indexes of all columns, where there is a stride, then the streams of all columns of the
+-- rows, and the canonical text of their footer. The stripe stands for itself, at offset 0.
+pub record IsWrittenStripe (rle : Rle) (stride : ℕ) (s : Shape) (rows : List Cell) (info : StripeInfo)
+    (bytes : List ℕ) : Type 0 where
+  pub indexes : List (List ℕ)
+  pub streams : List ℕ
+  pub lines : List StreamMsg
+  pub footer : StripeFooter
+  pub columns : HasColumns rle s rows (width s) streams lines footer.columns
+  pub are : HasIndexes s rows (starts stride (length rows)) columns.columns (indexed_columns stride (width s)) indexes
+  pub listed : footer.streams ≡ index_lines 0 indexes ++ lines
+  pub parts : bytes ≡ index_bytes indexes ++ (streams ++ stripe_footer_text.text footer)
+  pub spelled : Spells stripe_footer 0 0 (stripe_footer_text.text footer) footer
+  pub info_is : info
+      ≡ record {
+        offset = 0;
+        index_length = length (index_bytes indexes);
+        data_length = length streams;
+        footer_length = length (stripe_footer_text.text footer);
+        number_of_rows = length rows;
+      }
+
+-- the directory lists an index of column c, and it is right for a reader of the stripe
+abbrev pub HasRightIndex : ℕ → Shape → List Cell → StripeFooter → List ℕ → ℕ → Type 0
+HasRightIndex stride s rows footer bytes c =
+    (has_stream c 6 footer.streams ≡ true)
+    × IsRightIndex (shape_at s c) (columns_of footer bytes c) (cells s c rows)
+    (bounds_of s c rows (starts stride (length rows))) (slice c 6 footer.streams bytes)
+
+-- the statistic of a column's cells
+abbrev pub column_stat : Shape → List Cell → ℕ → Stat
+column_stat s rows c = stat (kind_of (shape_at s c)) (cells s c rows)
+
+-- the statistics of the first n columns, in order
+pub record HaveStats (s : Shape) (rows : List Cell) (n : ℕ) (stats : List Stat) : Type 0 where
+  pub counted : length stats ≡ n
+  pub each : (c : ℕ) → c < n → slice_get stats c ≡ Some (column_stat s rows c)

@@ -1,0 +1,64 @@
+//! A column's streams, as they were just written.
+ghost use Rattle.std.specs.Prelude.{◌≡◌, length, true};
+ghost use Rattle.orc_column_reader.specs.Directory.{is_of, have_room, slice};
+ghost use Rattle.orc_column_reader.specs.Starting.{AreStreams};
+ghost use Rattle.orc_column_reader.specs.Stripe as spec;
+ghost use Rattle.orc_stripe_writer.specs.Indexes.{streams_written};
+ghost use Rattle.orc_stripe_writer.specs.WrittenColumn.{Written};
+ghost use Rattle.orc_stripe_writer.specs.WrittenStripe.{column_bytes, column_lines};
+
+use orc_column_reader::starting::ColumnStreams;
+use orc_column_reader::version::version_of;
+use orc_wire::{Encoding, StreamMsg};
+
+/// Whether the line is that of a column's stream of a kind.
+fn names(line: &StreamMsg, column: u32, kind: u32) -> bool
+    ensures { result ≡ is_of column kind line.now }
+{
+    line.column == column && line.kind == kind
+}
+
+/// The bytes of a column's stream of a kind, none where it isn't listed.
+fn stream_bytes<'a>(lines: &[StreamMsg], bytes: &'a [u8], column: u32, kind: u32) -> &'a [u8]
+    requires { have_room (length bytes.now) lines.now ≡ true }
+    ensures { result.now ≡ slice column kind lines.now bytes.now }
+{
+    let mut left = bytes;
+    for line in lines {
+        let (own, rest) = left.split_at(line.length as usize);
+        if names(line, column, kind) {
+            return own;
+        }
+        left = rest;
+    }
+    bytes.split_at(0).0
+}
+
+/// Whether the encoding is one by a dictionary.
+fn uses_dictionary(encoding: u32) -> bool
+    ensures { result ≡ spec.uses_dictionary encoding }
+{
+    encoding == 1 || encoding == 3
+}
+
+/// The streams of a column, from its bytes and the lines that list them.
+pub(crate) fn column_streams<'a>(
+    column: u32,
+    encoding: Encoding,
+    lines: &[StreamMsg],
+    bytes: &'a [u8],
+) -> ColumnStreams<'a>
+    requires { have_room (length bytes.now) lines.now ≡ true }
+    ensures { (w : Written) → encoding ≡ w.encoding → bytes.now ≡ column_bytes w → lines.now ≡ column_lines column w
+        → AreStreams (streams_written w) result }
+{
+    ColumnStreams {
+        version: version_of(encoding.kind),
+        has_dictionary: uses_dictionary(encoding.kind),
+        dictionary_size: encoding.dictionary_size,
+        present: stream_bytes(lines, bytes, column, 0),
+        data: stream_bytes(lines, bytes, column, 1),
+        lengths: stream_bytes(lines, bytes, column, 2),
+        words: stream_bytes(lines, bytes, column, 3),
+    }
+}

@@ -1,0 +1,217 @@
+//! The columns of rows as they are written: each before those below it, its streams, its encoding, its statistic and
+//! its index.
+ghost use Rattle.std.specs.Prelude.{◌≡◌, ◌+◌, ◌<◌, ℕ, List, map, length, IfOk, OnOk};
+ghost use Rattle.std.specs.List.{flat_map};
+ghost use Rattle.orc_types.specs.Shapes.{Shape, width, widths, shape_at};
+ghost use Rattle.orc_types.specs.Cells.{Cell, parts, pairs_in, values};
+ghost use Rattle.orc_types.specs.Columns as spec;
+ghost use Rattle.orc_types.specs.Fits.{RowsFit};
+ghost use Rattle.orc_types.specs.Views.{shape, fields as fields_view};
+ghost use Rattle.orc_types.specs.Lent.{lent_cells};
+ghost use Rattle.orc_stats.specs.Kinds.{kind_of};
+ghost use Rattle.orc_stats.specs.Statistics.{stat};
+ghost use Rattle.orc_column_reader.specs.Starting.{AreStreams};
+ghost use Rattle.orc_column_reader.specs.Stripe.{Streams, IsColumn, cell_limit};
+ghost use Rattle.orc_row_index.specs.Bounds.{AreBounds};
+ghost use Rattle.orc_row_index.specs.RowIndex.{IsWrittenIndex};
+ghost use Rattle.orc_stripe_writer.specs.Firsts.{firsts_of};
+ghost use Rattle.orc_stripe_writer.specs.Groups.{bounds_of, AreGroupsFrom, ArePairGroupsFrom, AreFieldGroupsFrom};
+ghost use Rattle.orc_stripe_writer.specs.IndexSteps.{AddsIndexIf};
+ghost use Rattle.orc_stripe_writer.specs.WrittenStripe.{AreFew};
+ghost use Rattle.orc_stripe_writer.specs.Subtrees.{AreColumnsFrom, ArePairsFrom, AreFieldsFrom, PairsFit, FieldsFit, PairsAreFew, FieldsAreFew, HasWritten};
+
+use crate::below::{elements_of, fields_of, keys_of, map_values_of};
+use crate::body::Body;
+use crate::column_streams::column_streams;
+use crate::indexes::put_column_index;
+use crate::options::Options;
+use crate::put_column::put_cells;
+use orc_column_reader::starting::ColumnStreams;
+use orc_row_index::{element_bounds, field_bounds, pair_bounds};
+use orc_stats::{Stat, StatKind, of_cells};
+use orc_types::{Field, Lent, Tree};
+use orc_wire::Encoding;
+use std::alloc::{AllocError, Global};
+
+/// What is written so far of a stripe's columns: their streams, and apart from these their indexes.
+#[derive(Drop)]
+pub(crate) struct Columns {
+    pub(crate) body: Body,
+    pub(crate) indexes: Body,
+    pub(crate) encodings: Vec<Encoding>,
+    pub(crate) stats: Vec<Stat>,
+}
+
+/// The statistic of a column's cells.
+fn cells_stat(alloc: Global, tree: &Tree, cells: &[Lent<'_, '_>]) -> Result<Stat, AllocError>
+    requires fit { RowsFit (shape tree.now) (lent_cells cells.now) }
+    requires few { length (lent_cells cells.now) < cell_limit }
+    ensures { IfOk result (λ found. found ≡ stat (kind_of (shape tree.now)) (lent_cells cells.now)) }
+{
+    match of_cells(alloc, StatKind::of_type(tree), cells) {
+        Ok(found) => Ok(found),
+        Err(_) => Err(AllocError),
+    }
+}
+
+/// The statistic of a column's cells, and where there is a stride the column's index is added.
+fn put_told(
+    alloc: Global,
+    stride: u32,
+    tree: &Tree,
+    streams: &ColumnStreams<'_>,
+    cells: &[Lent<'_, '_>],
+    bounds: &[usize],
+    indexes: &mut Body,
+) -> Result<Stat, AllocError>
+    requires fit { RowsFit (shape tree.now) (lent_cells cells.now) }
+    requires spelled { (x : Streams) × AreStreams x streams.now × IsColumn (shape tree.now) x (lent_cells cells.now) }
+    requires bounds { AreBounds (length (lent_cells cells.now)) bounds.now }
+    ensures index { OnOk result ((x : Streams) → AreStreams x streams.now
+        → AddsIndexIf stride (IsWrittenIndex (shape tree.now) x (lent_cells cells.now) bounds.now)
+        indexes.old indexes.new) }
+    ensures stat { IfOk result (λ found. found ≡ stat (kind_of (shape tree.now)) (lent_cells cells.now)) }
+{
+    if stride == 0 {
+        return cells_stat(alloc, tree, cells);
+    }
+    put_column_index(alloc, tree, streams, cells, bounds, indexes)
+}
+
+/// Adds the next column. A bound says how many of its cells come before a group.
+fn put_column(
+    alloc: Global,
+    options: &Options,
+    tree: &Tree,
+    cells: &[Lent<'_, '_>],
+    bounds: &[usize],
+    out: &mut Columns,
+) -> Result<(), AllocError>
+    requires fit { RowsFit (shape tree.now) (lent_cells cells.now) }
+    requires few { length (lent_cells cells.now) < cell_limit }
+    requires bounds { AreBounds (length (lent_cells cells.now)) bounds.now }
+    ensures { OnOk result ((s : Shape) (rows : List Cell) (c : ℕ)
+        → HasWritten options.now.rle options.now.stride s rows c out.old
+        → shape_at s c ≡ shape tree.now
+        → spec.cells s c rows ≡ lent_cells cells.now
+        → bounds_of s c rows (firsts_of options.now.stride (length rows)) ≡ bounds.now
+        → HasWritten options.now.rle options.now.stride s rows (c + 1) out.new) }
+{
+    let Ok(column) = u32::try_from(out.encodings.len()) else {
+        return Err(AllocError);
+    };
+    let start = out.body.bytes.len();
+    let listed = out.body.directory.len();
+    let encoding = put_cells(alloc, options.rle(), tree, column, cells, &mut out.body)?;
+    let (_, lines) = out.body.directory.split_at(listed);
+    let (_, bytes) = out.body.bytes.split_at(start);
+    let streams = column_streams(column, encoding, lines, bytes);
+    let found = put_told(
+        alloc,
+        options.stride(),
+        tree,
+        &streams,
+        cells,
+        bounds,
+        &mut out.indexes,
+    )?;
+    out.encodings.push(encoding)?;
+    out.stats.push(found)?;
+    Ok(())
+}
+
+/// Adds a column, and all that are below it. A bound says how many of the cells come before a group.
+#[cycle(columns)]
+pub(crate) fn put_columns(
+    alloc: Global,
+    options: &Options,
+    tree: &Tree,
+    cells: &[Lent<'_, '_>],
+    bounds: &[usize],
+    out: &mut Columns,
+) -> Result<(), AllocError>
+    requires fit { RowsFit (shape tree.now) (lent_cells cells.now) }
+    requires few { AreFew (shape tree.now) (lent_cells cells.now) }
+    requires bounds { AreBounds (length (lent_cells cells.now)) bounds.now }
+    ensures { OnOk result ((s : Shape) (rows : List Cell) (c : ℕ)
+        → AreColumnsFrom s rows c (shape tree.now) (lent_cells cells.now)
+        → AreGroupsFrom s rows (firsts_of options.now.stride (length rows)) c
+        (shape tree.now) (lent_cells cells.now) bounds.now
+        → HasWritten options.now.rle options.now.stride s rows c out.old
+        → HasWritten options.now.rle options.now.stride s rows (c + width (shape tree.now)) out.new) }
+{
+    put_column(alloc, options, tree, cells, bounds, out)?;
+    match tree {
+        Tree::Scalar(_, _) => Ok(()),
+        Tree::List(element, _) => {
+            let elements = elements_of(alloc, cells)?;
+            let below = element_bounds(alloc, cells, bounds)?;
+            put_columns(alloc, options, element, &elements, &below, out)
+        }
+        Tree::Map(key, value, _) => {
+            let below = pair_bounds(alloc, cells, bounds)?;
+            put_pairs(alloc, options, key, value, cells, &below, out)
+        }
+        Tree::Struct(fields, _) => {
+            let below = field_bounds(alloc, cells, bounds)?;
+            put_fields(alloc, options, fields, cells, &below, out)
+        }
+    }
+}
+
+/// Adds the columns of the maps' keys and of their values, and all that are below them. A bound says how many pairs
+/// come before a group.
+#[cycle(columns)]
+fn put_pairs(
+    alloc: Global,
+    options: &Options,
+    key: &Tree,
+    value: &Tree,
+    maps: &[Lent<'_, '_>],
+    bounds: &[usize],
+    out: &mut Columns,
+) -> Result<(), AllocError>
+    requires fit { PairsFit (shape key.now) (shape value.now) (lent_cells maps.now) }
+    requires few { PairsAreFew (shape key.now) (shape value.now) (lent_cells maps.now) }
+    requires bounds { AreBounds (length (flat_map pairs_in (values (lent_cells maps.now)))) bounds.now }
+    ensures { OnOk result ((s : Shape) (rows : List Cell) (c : ℕ)
+        → ArePairsFrom s rows c (shape key.now) (shape value.now) (lent_cells maps.now)
+        → ArePairGroupsFrom s rows (firsts_of options.now.stride (length rows)) c
+        (shape key.now) (shape value.now) (lent_cells maps.now) bounds.now
+        → HasWritten options.now.rle options.now.stride s rows c out.old
+        → HasWritten options.now.rle options.now.stride s rows
+        (c + (width (shape key.now) + width (shape value.now))) out.new) }
+{
+    let keys = keys_of(alloc, maps)?;
+    put_columns(alloc, options, key, &keys, bounds, out)?;
+    let map_values = map_values_of(alloc, maps)?;
+    put_columns(alloc, options, value, &map_values, bounds, out)
+}
+
+/// Adds the columns of the structs' fields, and all that are below them. A bound says how many of the structs that
+/// are not null come before a group.
+#[cycle(columns)]
+fn put_fields(
+    alloc: Global,
+    options: &Options,
+    fields: &[Field],
+    structs: &[Lent<'_, '_>],
+    bounds: &[usize],
+    out: &mut Columns,
+) -> Result<(), AllocError>
+    requires fit { FieldsFit (fields_view fields.now) (map parts (values (lent_cells structs.now))) }
+    requires few { FieldsAreFew (fields_view fields.now) (map parts (values (lent_cells structs.now))) }
+    requires bounds { AreBounds (length (values (lent_cells structs.now))) bounds.now }
+    ensures { OnOk result ((s : Shape) (rows : List Cell) (c : ℕ)
+        → AreFieldsFrom s rows c (fields_view fields.now) (map parts (values (lent_cells structs.now)))
+        → AreFieldGroupsFrom s rows (firsts_of options.now.stride (length rows)) c (fields_view fields.now)
+        (map parts (values (lent_cells structs.now))) bounds.now
+        → HasWritten options.now.rle options.now.stride s rows c out.old
+        → HasWritten options.now.rle options.now.stride s rows (c + widths (fields_view fields.now)) out.new) }
+{
+    for (place, field) in fields.iter().enumerate() {
+        let cells = fields_of(alloc, structs, place)?;
+        put_columns(alloc, options, &field.tree, &cells, bounds, out)?;
+    }
+    Ok(())
+}

@@ -1,0 +1,80 @@
+//! The groups of rows that indexes tell of, and a column's index among those of a stripe.
+ghost use Rattle.std.specs.Prelude.{◌≡◌, ◌<◌, length, IfOk, OnOk};
+ghost use Rattle.orc_types.specs.Fits.{RowsFit};
+ghost use Rattle.orc_types.specs.Views.{shape};
+ghost use Rattle.orc_types.specs.Lent.{lent_cells};
+ghost use Rattle.orc_stats.specs.Kinds.{kind_of};
+ghost use Rattle.orc_stats.specs.Statistics.{stat};
+ghost use Rattle.orc_column_reader.specs.Starting.{AreStreams};
+ghost use Rattle.orc_column_reader.specs.Stripe.{Streams, IsColumn};
+ghost use Rattle.orc_row_index.specs.Bounds.{AreBounds};
+ghost use Rattle.orc_row_index.specs.RowIndex.{IsWrittenIndex};
+ghost use Rattle.orc_stripe_writer.specs.Firsts.{firsts_of};
+ghost use Rattle.orc_stripe_writer.specs.Groups.{starts};
+ghost use Rattle.orc_stripe_writer.specs.Indexes.{AddsIndex};
+
+use crate::body::Body;
+use orc_column_reader::starting::ColumnStreams;
+use orc_row_index::put_index;
+use orc_stats::Stat;
+use orc_types::{Lent, Tree};
+use orc_wire::StreamMsg;
+use std::alloc::{AllocError, Global};
+
+/// How many rows come before each group: a group begins each `stride` rows (ORC specification, "Row Group Index").
+///
+/// Refusal: want of memory.
+pub fn group_starts(alloc: Global, stride: usize, rows: usize) -> Result<Vec<usize>, AllocError>
+    requires { 0 < stride }
+    ensures { IfOk result (λ found. found.items ≡ starts stride rows) }
+{
+    let mut found = Vec::new(alloc);
+    for group in 0..rows.div_ceil(stride) {
+        found.push(group * stride)?;
+    }
+    Ok(found)
+}
+
+/// How many rows come before each group that the stripe's indexes tell of; without a stride there is none.
+pub(crate) fn first_rows(
+    alloc: Global,
+    stride: usize,
+    rows: usize,
+) -> Result<Vec<usize>, AllocError>
+    ensures { IfOk result (λ found. found.items ≡ firsts_of stride rows) }
+{
+    if stride == 0 {
+        return Ok(Vec::new(alloc));
+    }
+    group_starts(alloc, stride, rows)
+}
+
+/// Adds the index of the next column, and its line in the directory. Answers the statistic of the column's cells.
+pub(crate) fn put_column_index(
+    alloc: Global,
+    tree: &Tree,
+    streams: &ColumnStreams<'_>,
+    cells: &[Lent<'_, '_>],
+    bounds: &[usize],
+    out: &mut Body,
+) -> Result<Stat, AllocError>
+    requires fit { RowsFit (shape tree.now) (lent_cells cells.now) }
+    requires spelled { (x : Streams) × AreStreams x streams.now × IsColumn (shape tree.now) x (lent_cells cells.now) }
+    requires bounds { AreBounds (length (lent_cells cells.now)) bounds.now }
+    ensures index { OnOk result ((x : Streams) → AreStreams x streams.now
+        → AddsIndex (IsWrittenIndex (shape tree.now) x (lent_cells cells.now) bounds.now) out.old out.new) }
+    ensures stat { IfOk result (λ found. found ≡ stat (kind_of (shape tree.now)) (lent_cells cells.now)) }
+{
+    let Ok(column) = u32::try_from(out.directory.len()) else {
+        return Err(AllocError);
+    };
+    let start = out.bytes.len();
+    let found = put_index(alloc, tree, streams, cells, bounds, &mut out.bytes)?;
+    let length = out.bytes.len() - start;
+    out.directory.push(StreamMsg {
+        kind: 6,
+        column,
+        length: length as u64,
+    })?;
+    Ok(found)
+}

@@ -1,0 +1,283 @@
+//! One column, as it is written.
+ghost use Rattle.std.specs.Prelude.{◌≡◌, map, IfOk, OnOk, ℕ, List};
+ghost use Rattle.orc_rle.specs.declared.sign.Sign.TheVariants.{Unsigned};
+ghost use Rattle.orc_rle.specs.Values.{AllInRange};
+ghost use Rattle.orc_types.specs.Cells.{is_value, values};
+ghost use Rattle.orc_types.specs.Shapes.{scalar};
+ghost use Rattle.orc_types.specs.Views.{shape};
+ghost use Rattle.orc_types.specs.Fits.{RowsFit};
+ghost use Rattle.orc_types.specs.Lent.{lent_cells};
+ghost use Rattle.orc_stripe_writer.specs.CellValues.{bools_in, number_bytes_in, ints_in, sizes_in};
+ghost use Rattle.orc_stripe_writer.specs.WordList.{byte_strings, AreNamed};
+ghost use Rattle.orc_stripe_writer.specs.WrittenStreams.{AreWrittenMarks};
+ghost use Rattle.orc_stripe_writer.specs.WrittenColumn as spec;
+ghost use Rattle.orc_stripe_writer.specs.WrittenColumn.{HasBits, HasBytes, HasNumbers, HasGroups, HasWords, HasTexts, HasSizes, WritesValues};
+ghost use Rattle.orc_stripe_writer.specs.Adding.{AddsStream, AddsValues, AddsColumn};
+
+use crate::body::Body;
+use crate::cell_values::{
+    ByteString, are_all_values, bools_of, byte_string_lengths, byte_strings_of, ints_of, marks_in,
+    number_bytes_of, sizes_of,
+};
+use crate::word_list::{WordList, entries_of, word_list_of};
+use orc_rle::{Rle, Sign};
+use orc_types::{Lent, Scalar, Tree};
+use orc_wire::Encoding;
+use std::alloc::{AllocError, Global};
+
+// The kinds of the streams that a column is written with.
+const PRESENT: u32 = 0;
+
+const DATA: u32 = 1;
+
+const LENGTH: u32 = 2;
+
+const DICTIONARY_DATA: u32 = 3;
+
+/// DIRECT or DIRECT_V2.
+fn direct(rle: Rle) -> Encoding
+    ensures { result ≡ spec.direct rle }
+{
+    match rle {
+        Rle::One => Encoding {
+            kind: 0,
+            dictionary_size: 0,
+        },
+        Rle::Two => Encoding {
+            kind: 2,
+            dictionary_size: 0,
+        },
+    }
+}
+
+/// DICTIONARY or DICTIONARY_V2.
+fn dictionary(rle: Rle, entries: u32) -> Encoding
+    ensures { result ≡ spec.dictionary rle entries }
+{
+    match rle {
+        Rle::One => Encoding {
+            kind: 1,
+            dictionary_size: entries,
+        },
+        Rle::Two => Encoding {
+            kind: 3,
+            dictionary_size: entries,
+        },
+    }
+}
+
+/// DIRECT, in either version.
+fn plain() -> Encoding
+    ensures { result ≡ spec.plain }
+{
+    Encoding {
+        kind: 0,
+        dictionary_size: 0,
+    }
+}
+
+/// Adds PRESENT, where a cell is null.
+fn put_marks(
+    alloc: Global,
+    column: u32,
+    cells: &[Lent<'_, '_>],
+    body: &mut Body,
+) -> Result<(), AllocError>
+    ensures { OnOk result
+        (AddsStream (AreWrittenMarks (map is_value (lent_cells cells.now))) column 0 body.old body.new) }
+{
+    if are_all_values(cells) {
+        return Ok(());
+    }
+    let marks = marks_in(alloc, cells)?;
+    body.put_bits(column, PRESENT, &marks)
+}
+
+/// Adds the DATA of booleans.
+fn put_bools(
+    alloc: Global,
+    column: u32,
+    cells: &[Lent<'_, '_>],
+    body: &mut Body,
+) -> Result<Encoding, AllocError>
+    ensures { IfOk result (AddsValues (λ w. HasBits w (bools_in (lent_cells cells.now))) column body.old body.new) }
+{
+    let bools = bools_of(alloc, cells)?;
+    body.put_bits(column, DATA, &bools)?;
+    Ok(plain())
+}
+
+/// Adds the DATA of numbers of 8 bits.
+fn put_bytes(
+    alloc: Global,
+    column: u32,
+    cells: &[Lent<'_, '_>],
+    body: &mut Body,
+) -> Result<Encoding, AllocError>
+    ensures { IfOk result
+        (AddsValues (λ w. HasBytes w (number_bytes_in (lent_cells cells.now))) column body.old body.new) }
+{
+    let bytes = number_bytes_of(alloc, cells)?;
+    body.put_bytes(column, DATA, &bytes)?;
+    Ok(plain())
+}
+
+/// Adds the DATA of other numbers, or of dates.
+fn put_numbers(
+    alloc: Global,
+    rle: Rle,
+    column: u32,
+    cells: &[Lent<'_, '_>],
+    body: &mut Body,
+) -> Result<Encoding, AllocError>
+    ensures { IfOk result
+        (AddsValues (λ w. HasNumbers rle w (ints_in (lent_cells cells.now))) column body.old body.new) }
+{
+    let numbers = ints_of(alloc, cells)?;
+    body.put_ints(rle, column, DATA, Sign::Signed, &numbers)?;
+    Ok(direct(rle))
+}
+
+/// Adds the strings, and their lengths.
+fn put_groups(
+    alloc: Global,
+    rle: Rle,
+    column: u32,
+    strings: &[ByteString<'_>],
+    body: &mut Body,
+) -> Result<Encoding, AllocError>
+    ensures { IfOk result (AddsValues (λ w. HasGroups rle w (byte_strings strings.now)) column body.old body.new) }
+{
+    let lengths = byte_string_lengths(alloc, strings)?;
+    body.put_byte_strings(column, DATA, strings)?;
+    body.put_ints(rle, column, LENGTH, Sign::Unsigned, &lengths)?;
+    Ok(direct(rle))
+}
+
+/// Adds the places of texts in their dictionary, and the dictionary.
+fn put_words(
+    alloc: Global,
+    rle: Rle,
+    column: u32,
+    found: &WordList<'_>,
+    body: &mut Body,
+) -> Result<Encoding, AllocError>
+    requires { AllInRange Unsigned found.now.places.items }
+    ensures { IfOk result (λ encoding. (texts : List (List ℕ))
+        → AreNamed (byte_strings found.now.entries.items) found.now.places.items texts
+        → AddsValues (λ w. HasWords rle w (byte_strings found.now.entries.items) texts)
+        column body.old body.new encoding) }
+{
+    let Ok(entries) = u32::try_from(found.entries.len()) else {
+        return Err(AllocError);
+    };
+    let lengths = byte_string_lengths(alloc, &found.entries)?;
+    body.put_ints(rle, column, DATA, Sign::Unsigned, &found.places)?;
+    body.put_ints(rle, column, LENGTH, Sign::Unsigned, &lengths)?;
+    body.put_byte_strings(column, DICTIONARY_DATA, &found.entries)?;
+    Ok(dictionary(rle, entries))
+}
+
+/// Adds texts, by a dictionary where it is worth it.
+fn put_texts(
+    alloc: Global,
+    rle: Rle,
+    column: u32,
+    strings: &[ByteString<'_>],
+    body: &mut Body,
+) -> Result<Encoding, AllocError>
+    ensures { IfOk result (AddsValues (λ w. HasTexts rle w (byte_strings strings.now)) column body.old body.new) }
+{
+    match entries_of(alloc, strings)? {
+        Some(entries) => {
+            let found = word_list_of(alloc, entries, strings)?;
+            put_words(alloc, rle, column, &found, body)
+        }
+        None => put_groups(alloc, rle, column, strings, body),
+    }
+}
+
+/// Adds the lengths of lists, or how many pairs maps have.
+fn put_sizes(
+    alloc: Global,
+    rle: Rle,
+    column: u32,
+    cells: &[Lent<'_, '_>],
+    body: &mut Body,
+) -> Result<Encoding, AllocError>
+    ensures { IfOk result
+        (AddsValues (λ w. HasSizes rle w (sizes_in (lent_cells cells.now))) column body.old body.new) }
+{
+    let sizes = sizes_of(alloc, cells)?;
+    body.put_ints(rle, column, LENGTH, Sign::Unsigned, &sizes)?;
+    Ok(direct(rle))
+}
+
+/// Adds the streams of values of a kind that contains no other.
+fn put_scalars(
+    alloc: Global,
+    rle: Rle,
+    kind: Scalar,
+    column: u32,
+    cells: &[Lent<'_, '_>],
+    body: &mut Body,
+) -> Result<Encoding, AllocError>
+    ensures { (o : List ℕ) → RowsFit (scalar kind o) (lent_cells cells.now)
+        → IfOk result (AddsValues (λ w. WritesValues rle w (scalar kind o) (values (lent_cells cells.now)))
+        column body.old body.new) }
+{
+    match kind {
+        Scalar::Boolean => put_bools(alloc, column, cells, body),
+        Scalar::Byte => put_bytes(alloc, column, cells, body),
+        Scalar::Short => put_numbers(alloc, rle, column, cells, body),
+        Scalar::Int => put_numbers(alloc, rle, column, cells, body),
+        Scalar::Long => put_numbers(alloc, rle, column, cells, body),
+        Scalar::Date => put_numbers(alloc, rle, column, cells, body),
+        Scalar::String => {
+            let strings = byte_strings_of(alloc, cells)?;
+            put_texts(alloc, rle, column, &strings, body)
+        }
+        Scalar::Binary => {
+            let strings = byte_strings_of(alloc, cells)?;
+            put_groups(alloc, rle, column, &strings, body)
+        }
+    }
+}
+
+/// Adds the streams of a column's values.
+fn put_values(
+    alloc: Global,
+    rle: Rle,
+    tree: &Tree,
+    column: u32,
+    cells: &[Lent<'_, '_>],
+    body: &mut Body,
+) -> Result<Encoding, AllocError>
+    requires { RowsFit (shape tree.now) (lent_cells cells.now) }
+    ensures { IfOk result (AddsValues (λ w. WritesValues rle w (shape tree.now) (values (lent_cells cells.now)))
+        column body.old body.new) }
+{
+    match tree {
+        Tree::Scalar(kind, _) => put_scalars(alloc, rle, *kind, column, cells, body),
+        Tree::List(_, _) => put_sizes(alloc, rle, column, cells, body),
+        Tree::Map(_, _, _) => put_sizes(alloc, rle, column, cells, body),
+        Tree::Struct(_, _) => Ok(plain()),
+    }
+}
+
+/// Adds the streams of a column: PRESENT where a cell is null, then those of its values. Answers the
+/// column's encoding.
+pub(crate) fn put_cells(
+    alloc: Global,
+    rle: Rle,
+    tree: &Tree,
+    column: u32,
+    cells: &[Lent<'_, '_>],
+    body: &mut Body,
+) -> Result<Encoding, AllocError>
+    requires { RowsFit (shape tree.now) (lent_cells cells.now) }
+    ensures { IfOk result (AddsColumn rle (shape tree.now) (lent_cells cells.now) column body.old body.new) }
+{
+    put_marks(alloc, column, cells, body)?;
+    put_values(alloc, rle, tree, column, cells, body)
+}

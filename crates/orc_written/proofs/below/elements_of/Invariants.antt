@@ -1,8 +1,0 @@
-use Rattle.std.proofs.Common.{◌≡◌, take}
-use Rattle.std.specs.List.{flat_map}
-use Rattle.orc_types.specs.Cells.{parts}
-use Rattle.orc_types.specs.Lent.{lent_cells}
-use Rattle.orc_written.proofs.below.elements_of.Given as goal
-
-abbrev pub invariant-loop-list : goal.invariant-loop-list
-invariant-loop-list l = lent_cells l.found.items ≡ flat_map parts (lent_cells (take l.list-index l.lists))

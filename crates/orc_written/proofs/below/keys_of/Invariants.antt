@@ -1,8 +1,0 @@
-use Rattle.std.proofs.Common.{◌≡◌, take}
-use Rattle.std.specs.List.{flat_map}
-use Rattle.orc_types.specs.Cells.{keys_in}
-use Rattle.orc_types.specs.Lent.{lent_cells}
-use Rattle.orc_written.proofs.below.keys_of.Given as goal
-
-abbrev pub invariant-loop-row : goal.invariant-loop-row
-invariant-loop-row l = lent_cells l.found.items ≡ flat_map keys_in (lent_cells (take l.row-index l.maps))

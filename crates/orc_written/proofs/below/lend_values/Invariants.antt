@@ -1,7 +1,0 @@
-use Rattle.std.proofs.Common.{◌≡◌, take, map, ◌++◌}
-use Rattle.orc_types.specs.Lent.{lent_cells}
-use Rattle.orc_types.specs.Views.{paired}
-use Rattle.orc_written.proofs.below.lend_values.Given as goal
-
-abbrev pub invariant-loop-pair : goal.invariant-loop-pair
-invariant-loop-pair l = lent_cells l.found.items ≡ lent_cells l.initial.found.items ++ map (λ p. p.1) (map paired (take l.pair-index l.pairs))

@@ -1,9 +1,0 @@
-use Rattle.std.proofs.Common.{◌≡◌, take, map}
-use Rattle.orc_rle.specs.declared.sign.Sign.TheVariants.{Unsigned}
-use Rattle.orc_rle.specs.Values.{AllInRange}
-use Rattle.orc_columns.specs.Spellings.{size}
-use Rattle.orc_written.specs.WordList.{byte_strings}
-use Rattle.orc_written.proofs.cell_values.byte_string_lengths.Given as goal
-
-abbrev pub invariant-loop-string : goal.invariant-loop-string
-invariant-loop-string l = record { lengths : l.found.items ≡ map size (byte_strings (take l.string-index l.strings)); in_range : AllInRange Unsigned l.found.items }

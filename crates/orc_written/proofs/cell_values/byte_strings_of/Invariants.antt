@@ -1,8 +1,0 @@
-use Rattle.std.proofs.Common.{◌≡◌, take}
-use Rattle.orc_types.specs.Lent.{lent_cells}
-use Rattle.orc_written.specs.CellValues.{all_bytes_in}
-use Rattle.orc_written.specs.WordList.{byte_strings}
-use Rattle.orc_written.proofs.cell_values.byte_strings_of.Given as goal
-
-abbrev pub invariant-loop-cell : goal.invariant-loop-cell
-invariant-loop-cell l = byte_strings l.strings.items ≡ all_bytes_in (lent_cells (take l.cell-index l.cells))

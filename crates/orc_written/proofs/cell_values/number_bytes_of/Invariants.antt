@@ -1,7 +1,0 @@
-use Rattle.std.proofs.Common.{◌≡◌, take}
-use Rattle.orc_types.specs.Lent.{lent_cells}
-use Rattle.orc_written.specs.CellValues.{number_bytes_in}
-use Rattle.orc_written.proofs.cell_values.number_bytes_of.Given as goal
-
-abbrev pub invariant-loop-cell : goal.invariant-loop-cell
-invariant-loop-cell l = l.bytes.items ≡ number_bytes_in (lent_cells (take l.cell-index l.cells))

@@ -1,8 +1,0 @@
-use Rattle.std.proofs.Common.{take}
-use Rattle.orc_rle.specs.declared.sign.Sign.TheVariants.{Unsigned}
-use Rattle.orc_rle.specs.Values.{AllInRange}
-use Rattle.orc_written.specs.WordList.{byte_strings, lent_bytes, AreNamed}
-use Rattle.orc_written.proofs.word_list.places_of.Given as goal
-
-abbrev pub invariant-loop-string : goal.invariant-loop-string
-invariant-loop-string l = record { named : AreNamed (lent_bytes l.entries.items) l.places.items (byte_strings (take l.string-index l.strings)); in_range : AllInRange Unsigned l.places.items }
