@@ -11,15 +11,10 @@ ghost use Rattle.orc_cli.specs.declared.Outcome.TheVariants.{Done, Found};
 use orc_cli_args::{
     Asked, Refusal, Request, new_file, read_words, request_of, source_of, words_of,
 };
-pub use orc_cli_check::check_to;
-pub use orc_cli_ints::ints_to;
-pub use orc_cli_output::CliFault;
-pub use orc_cli_rows::rows_to;
-pub use orc_cli_show::show_to;
-pub use orc_cli_write::{write_from, write_lines};
+use orc_cli_commands::{
+    CliFault, MergeFault, check_to, ints_to, merge_to, rows_to, show_to, write_lines,
+};
 use orc_file::{FileFault, Sink, StdSink};
-use orc_merge::MergeFault;
-pub use orc_merge::merge as merge_to;
 use orc_stripe::Options;
 use std::alloc::Global;
 use std::fs::File;

@@ -5,10 +5,7 @@ use crate::files::{
     ALL_KINDS, NO_ROWS, NO_ROWS_OF_TWINS, SEVEN, SIX_SEVENS, THREE_SEVENS, TWINS, USER_PAIR,
 };
 use crate::trickle::{AtItsEnd, Trickle};
-use orc_cli_ints::ints_to;
-use orc_cli_output::CliFault;
-use orc_cli_rows::rows_to;
-use orc_cli_show::show_to;
+use orc_cli_commands::{CliFault, ints_to, rows_to, show_to};
 use orc_file::{FileFault, SliceSource};
 use orc_rle::{Rle, RunFault, Sign};
 use orc_stripe::{StreamKind, StripeFault};

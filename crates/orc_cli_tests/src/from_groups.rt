@@ -5,7 +5,7 @@ use crate::commands::{check_text, rows, wants_memory};
 use crate::files::THREE_SEVENS;
 use crate::trickle::{AtItsEnd, Trickle};
 use crate::writing::written_whole;
-use orc_cli_output::CliFault;
+use orc_cli_commands::CliFault;
 use orc_file::FileFault;
 use orc_rle::Rle;
 use orc_stripe::Options;

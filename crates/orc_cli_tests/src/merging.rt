@@ -2,8 +2,8 @@
 
 use crate::assertions::{check_bytes, check_same};
 use crate::files::{NO_ROWS, SIX_SEVENS, THREE_SEVENS, TWINS};
+use orc_cli_commands::{MergeFault, merge_to};
 use orc_file::{FileFault, SliceSource, VecSink};
-use orc_merge::{MergeFault, merge};
 use std::alloc::Global;
 use std::process::Abort;
 
@@ -11,7 +11,7 @@ use std::process::Abort;
 fn merge_two_once(alloc: Global, first: &[u8], second: &[u8]) -> (Option<MergeFault>, Vec<u8>) {
     let mut inputs = [SliceSource::new(first), SliceSource::new(second)];
     let mut out = VecSink::new(alloc);
-    let answer = merge(alloc, &mut inputs, &mut out);
+    let answer = merge_to(alloc, &mut inputs, &mut out);
     (answer.err(), out.into_vec())
 }
 

@@ -3,8 +3,7 @@
 use crate::assertions::{check_bytes, check_same, demand};
 use crate::commands::wants_memory;
 use crate::files::{NO_ROWS, SIX_SEVENS, THREE_SEVENS};
-use orc_cli_output::CliFault;
-use orc_cli_write::{write_from, write_lines};
+use orc_cli_commands::{CliFault, write_from, write_lines};
 use orc_file::{FileFault, VecSink};
 use orc_rle::Rle;
 use orc_stripe::Options;
