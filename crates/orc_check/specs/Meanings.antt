@@ -27,6 +27,7 @@ text_of bytes tail n = stripe_bytes (stripe_at tail.stripes n) bytes
 abbrev pub cells_of : Tail → List (List Cell) → ℕ → ℕ → List Cell
 cells_of tail parts n c = cells tail.schema c (rows_at parts n)
 
+-- where the row groups of a stripe begin among the cells of a column
 abbrev pub groups_of : Tail → List (List Cell) → ℕ → ℕ → List ℕ
 groups_of tail parts n c = bounds_of tail.schema c (rows_at parts n) (starts tail.stride (length (rows_at parts n)))
 

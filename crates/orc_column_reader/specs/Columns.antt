@@ -29,6 +29,7 @@ abbrev pub MarksFirst : Option Bits → List Bool → Type 0
 MarksFirst None marks = marks ≡ replicate (length marks) true
 MarksFirst (Some bits) marks = BitsFirst bits marks
 
+-- the cell of a column of booleans
 abbrev pub IsBool : Bool → Cell → Type 0
 IsBool b c = c ≡ leaf (bool b)
 
@@ -36,6 +37,7 @@ IsBool b c = c ≡ leaf (bool b)
 abbrev pub signed_byte : ℕ → ℤ
 signed_byte b = if nat_lt b 128 then pos b else negsuc (255 - b)
 
+-- the cell of a column of TINYINT: a byte, in two's complement
 abbrev pub IsByte : ℕ → Cell → Type 0
 IsByte b c = (b < 256) × (c ≡ leaf (int (signed_byte b)))
 
@@ -43,12 +45,15 @@ IsByte b c = (b < 256) × (c ≡ leaf (int (signed_byte b)))
 abbrev pub IsInt : Scalar → ℤ → Cell → Type 0
 IsInt k n c = (int_fits k n ≡ true) × (c ≡ leaf (int n))
 
+-- the cell of a column of dates: days since 1970-01-01, in 32 bits
 abbrev pub IsDate : ℤ → Cell → Type 0
 IsDate n c = (signed_fits 31 n ≡ true) × (c ≡ leaf (date n))
 
+-- the cell of a column of strings, which are UTF-8
 abbrev pub IsText : List ℕ → Cell → Type 0
 IsText bs c = (is_utf8 bs ≡ true) × (c ≡ leaf (text bs))
 
+-- the cell of a column of byte strings
 abbrev pub IsBinary : List ℕ → Cell → Type 0
 IsBinary bs c = (are_bytes bs ≡ true) × (c ≡ leaf (bytes bs))
 
@@ -57,12 +62,15 @@ abbrev pub IsWord : List (List ℕ) → ℤ → Cell → Type 0
 IsWord entries (pos i) c = (entry : List ℕ) × (slice_get entries i ≡ Some entry) × IsText entry c
 IsWord entries (negsuc i) c = ⊥
 
+-- the cell of a column of lists: its elements in order
 abbrev pub IsList : List Cell → Cell → Type 0
 IsList cs c = c ≡ list (cells_of cs)
 
+-- the cell of a column of maps: its pairs in order
 abbrev pub IsMap : List (Cell × Cell) → Cell → Type 0
 IsMap ps c = c ≡ pairs (pairs_of ps)
 
+-- the cell of a column of structs: a cell for each field
 abbrev pub IsRecord : List Cell → Cell → Type 0
 IsRecord cs c = c ≡ struct (cells_of cs)
 
@@ -70,9 +78,11 @@ IsRecord cs c = c ≡ struct (cells_of cs)
 abbrev pub GroupsLeft : ValueSource → List (List ℕ) → Type 0
 GroupsLeft source groups = Grouped (NumbersLeft source.numbers) (OctetsLeft source.octets) groups
 
+-- a dictionary's entry as its bytes
 abbrev pub entry_bytes : Entry → List ℕ
 entry_bytes e = e.bytes.now
 
+-- the texts that a reader has still to give: of its own bytes, or named in its dictionary
 abbrev pub TextsLeft : Option (Vec Entry Global) → ValueSource → List Cell → Type 0
 TextsLeft None source vs = Standing IsText (GroupsLeft source) vs
 TextsLeft (Some entries) source vs = Standing (IsWord (map entry_bytes entries.items)) (NumbersLeft source.numbers) vs
@@ -117,6 +127,7 @@ abbrev mutual
 abbrev pub CellsLeft : Shape → List ColumnReader → List Cell → Type 0
 CellsLeft s readers cells = ColumnLeft (ValuesLeft s) readers cells
 
+-- the lists that a reader has still to give: as many elements each as LENGTH says, off the reader of elements
 abbrev pub ListsLeft : Shape → ValueSource → List ColumnReader → List (List Cell) → Type 0
 ListsLeft s source below lists = Grouped (NumbersLeft source.numbers) (Within source.room (CellsLeft s below)) lists
 
@@ -125,14 +136,17 @@ abbrev pub column_of : List ColumnReader → ℕ
 column_of [] = 0
 column_of (own ∷ below) = own.source.column
 
+-- what a column's own reader has of PRESENT
 abbrev pub marks_of : List ColumnReader → Option Bits
 marks_of [] = None
 marks_of (own ∷ below) = own.present
 
+-- the values that a column's readers, its own and those below it, have still to give
 abbrev pub OwnLeft : Shape → List ColumnReader → List Cell → Type 0
 OwnLeft s [] vs = ⊥
 OwnLeft s (own ∷ below) vs = ValuesLeft s own.source below vs
 
+-- the lists that a list column's readers have still to give
 abbrev pub ListsOf : Shape → List ColumnReader → List (List Cell) → Type 0
 ListsOf s [] lists = ⊥
 ListsOf s (own ∷ below) lists = ListsLeft s own.source below lists
@@ -142,10 +156,12 @@ abbrev pub PairsLeft : Shape → Shape → List ColumnReader → List (Cell × C
 PairsLeft k v below ps =
     Paired (CellsLeft k (take (width k) below)) (CellsLeft v (drop (width k) below)) ps
 
+-- the maps that a reader has still to give: as many pairs each as LENGTH says, off the readers of keys and values
 abbrev pub MapsLeft : Shape → Shape → ValueSource → List ColumnReader → List (List (Cell × Cell)) → Type 0
 MapsLeft k v source below maps =
     Grouped (NumbersLeft source.numbers) (Within source.room (PairsLeft k v below)) maps
 
+-- the maps that a map column's readers have still to give
 abbrev pub MapsOf : Shape → Shape → List ColumnReader → List (List (Cell × Cell)) → Type 0
 MapsOf k v [] maps = ⊥
 MapsOf k v (own ∷ below) maps = MapsLeft k v own.source below maps

@@ -28,6 +28,7 @@ abbrev pub MarksFail : List ℕ → Bool → ℕ → ℕ → StripeFault → Typ
 MarksFail [] all n column f = ⊥
 MarksFail (b ∷ bs) all n column f = RunsFail stream.Present column (BoolsFail all n (b ∷ bs)) f
 
+-- what a stream of integers of this kind is refused with, for n numbers or all
 abbrev pub NumbersFail : StreamKind → Integers → Bool → ℕ → ℕ → StripeFault → Type 0
 NumbersFail kind from all n column f = RunsFail kind column (IntegersFail from all n) f
 
@@ -107,6 +108,7 @@ EntriesFail true x column f =
     GroupsFail stream.DictionaryData (lengths_of x) true x.encoding.dictionary_size (x.stream 3) column f
 EntriesFail false x column f = ⊥
 
+-- what a column's dictionary is refused with: strings alone have one
 abbrev pub ScalarEntriesFail : Scalar → Streams → ℕ → StripeFault → Type 0
 ScalarEntriesFail kind.Boolean x column f = ⊥
 ScalarEntriesFail kind.Byte x column f = ⊥
@@ -117,6 +119,7 @@ ScalarEntriesFail kind.Date x column f = ⊥
 ScalarEntriesFail kind.Binary x column f = ⊥
 ScalarEntriesFail kind.String x column f = EntriesFail (has_dictionary x) x column f
 
+-- the same for a column of any shape
 abbrev pub WordsOfFail : Shape → Streams → ℕ → StripeFault → Type 0
 WordsOfFail (scalar k o) x column f = ScalarEntriesFail k x column f
 WordsOfFail (list_of s o) x column f = ⊥

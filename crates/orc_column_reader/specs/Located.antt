@@ -4,6 +4,7 @@ use Rattle.orc_wire.specs.declared.stripe_footer.StreamMsg.{StreamMsg}
 use Rattle.orc_column_reader.specs.declared.located.Slice.{Slice}
 use Rattle.orc_column_reader.specs.Directory.{slice, is_of}
 
+-- a stream's bytes, as they were located
 abbrev pub slice_bytes : Slice → List ℕ
 slice_bytes s = s.bytes.now
 

@@ -29,10 +29,13 @@ abbrev pub Pass : (List ℤ → Type 0) → ℕ → Type 0
 Pass first most =
     (numbers : List ℤ) × first numbers × ((lengths : List ℕ) → numbers ≡ map pos lengths → most < sum lengths)
 
+-- what a reader of integers meets: a bad run, or a number that the kind doesn't hold
 abbrev pub IntsMeet : (ℤ → Bool) → Numbers → Bool → ℕ → ℕ → StripeFault → Type 0
 IntsMeet fits numbers all n column f =
     IntsFail fits (Always all n (NumbersMeet numbers)) (NumbersFirst numbers) column f
 
+-- what a reader of byte strings meets: a bad run of lengths, or lengths that pass the bytes that are left, or that
+-- don't use them up
 abbrev pub GroupsMeet : StreamKind → Numbers → Octets → Bool → ℕ → ℕ → StripeFault → Type 0
 GroupsMeet kind numbers octets all n column f =
     RunsFail stream.Length column (Always all n (NumbersMeet numbers)) f
@@ -40,21 +43,25 @@ GroupsMeet kind numbers octets all n column f =
     × (Pass (NumbersFirst numbers) (length octets.rest.now)
     ⊎ StayBelow (NumbersLeft numbers) (length octets.rest.now)))
 
+-- what a reader of strings meets: what one of byte strings does, or bytes that are no UTF-8
 abbrev pub TextMeets : Numbers → Octets → Bool → ℕ → ℕ → StripeFault → Type 0
 TextMeets numbers octets all n column f =
     GroupsMeet stream.Data numbers octets all n column f
     ⊎ ((f ≡ fault.NotUtf8 column stream.Data) × CutsNoText (NumbersFirst numbers) octets.rest.now)
 
+-- what a reader of dictionary indexes meets: a bad run, an index of no entry, or an entry that is no UTF-8
 abbrev pub WordsMeet : List (List ℕ) → Numbers → Bool → ℕ → ℕ → StripeFault → Type 0
 WordsMeet entries numbers all n column f =
     RunsFail stream.Data column (Always all n (NumbersMeet numbers)) f
     ⊎ (((f ≡ fault.BadIndex column) × NotAll (is_index (length entries)) (NumbersFirst numbers))
     ⊎ ((f ≡ fault.NotUtf8 column stream.DictionaryData) × NotAll (names_text entries) (NumbersFirst numbers)))
 
+-- what a reader of strings meets, with its own bytes or with a dictionary
 abbrev pub TextsMeet : Option (Vec Entry Global) → ValueSource → Bool → ℕ → StripeFault → Type 0
 TextsMeet None r all n f = TextMeets r.numbers r.octets all n r.column f
 TextsMeet (Some entries) r all n f = WordsMeet (map entry_bytes entries.items) r.numbers all n r.column f
 
+-- what a reader of single values meets, by its kind
 abbrev pub ScalarMeets : Scalar → ValueSource → Bool → ℕ → StripeFault → Type 0
 ScalarMeets kind.Boolean r all n f = RunsFail stream.Data r.column (Always all n (BitsMeet r.bits)) f
 ScalarMeets kind.Byte r all n f = RunsFail stream.Data r.column (Always all n (BytesMeet r.bytes)) f
@@ -71,6 +78,7 @@ ListsMeet r all n f =
     RunsFail stream.Length r.column (Always all n (NumbersMeet r.numbers)) f
     ⊎ ((f ≡ fault.TooMany r.column) × Pass (NumbersFirst r.numbers) r.room)
 
+-- what a column's own streams but PRESENT are refused with, by its shape
 abbrev pub ValuesMeet : Shape → ValueSource → Bool → ℕ → StripeFault → Type 0
 ValuesMeet (scalar k o) r all n f = ScalarMeets k r all n f
 ValuesMeet (list_of s o) r all n f = ListsMeet r all n f
@@ -81,6 +89,7 @@ ValuesMeet (struct_of fs o) r all n f = ⊥
 abbrev pub PresentMeets : ColumnReader → Bool → ℕ → StripeFault → Type 0
 PresentMeets own all n f = RunsFail stream.Present own.source.column (Always all n (MarksMeet own.present)) f
 
+-- what a column's readers meet: PRESENT's fault, one of its own other streams, or one of the columns below
 abbrev pub ReadersMeet : (ValueSource → List ColumnReader → Bool → ℕ → StripeFault → Type 0)
     → Shape → List ColumnReader → Bool → ℕ → StripeFault → Type 0
 ReadersMeet found s [] all n f = ⊥
@@ -125,5 +134,6 @@ ListsOfMeet element readers all n f = OwnMeet (list_of element []) readers all n
 abbrev pub PairsMeet : Shape → Shape → List ColumnReader → Bool → ℕ → StripeFault → Type 0
 PairsMeet k v below all n f = CellsMeet k (take (width k) below) all n f ⊎ CellsMeet v (drop (width k) below) all n f
 
+-- what a map column's readers meet of its own
 abbrev pub MapsOfMeet : Shape → Shape → List ColumnReader → Bool → ℕ → StripeFault → Type 0
 MapsOfMeet k v readers all n f = OwnMeet (map_of k v []) readers all n f

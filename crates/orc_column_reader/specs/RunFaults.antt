@@ -43,13 +43,16 @@ pub record Integers : Type 0 where
 abbrev pub AreIntegers : Integers → List ℤ → Type 0
 AreIntegers from all = AreNumbers from.version from.sign from.bytes all
 
+-- integers that the stream's first runs spell
 abbrev pub IntegersFirst : Integers → List ℤ → Type 0
 IntegersFirst from all = Begins (is_run from.version from.sign) from.bytes all
 
+-- why bytes aren't a stream of so many integers
 abbrev pub IntegersFail : Integers → Bool → ℕ → RunFault → Type 0
 IntegersFail from all known fault =
     StreamFails (is_run from.version from.sign) (no_run from.version from.sign) all known from.bytes fault
 
+-- why bytes aren't a stream of so many bytes in runs
 abbrev pub ByteRunsFail : Bool → ℕ → List ℕ → RunFault → Type 0
 ByteRunsFail all known bytes fault = StreamFails IsByteRun NoByteRun all known bytes fault
 

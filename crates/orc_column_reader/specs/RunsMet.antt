@@ -28,6 +28,7 @@ PassesThere {A = A} is_run rest count n place f =
     × (n < count + length past)
     × (f ≡ run.TooMany place)
 
+-- reading stops here: the bytes end, no run begins, or the run passes the values that are wanted
 abbrev pub StopsThere : {A : Type 0} → (List ℕ → List A → Type 0) → (List ℕ → RunFault → Type 0)
     → List ℕ → ℕ → ℕ → ℕ → ℕ → RunFault → Type 0
 StopsThere is_run fails rest count n place total f =
@@ -48,16 +49,19 @@ pub record StopsLater {A : Type 0} (is_run : List ℕ → List A → Type 0) (fa
 abbrev pub PassesNow : {A : Type 0} → List A → ℕ → ℕ → RunFault → Type 0
 PassesNow pending start n f = (n < length pending) × (f ≡ run.TooMany start)
 
+-- what a reader of runs meets: behind its pending values, or in them
 abbrev pub RunsMeet : {A : Type 0} → (List ℕ → List A → Type 0) → (List ℕ → RunFault → Type 0)
     → List A → List ℕ → ℕ → ℕ → ℕ → ℕ → RunFault → Type 0
 RunsMeet is_run fails pending bytes start at total n f =
     StopsLater is_run fails pending bytes at total n f ⊎ PassesNow pending start n f
 
+-- what a reader of integers meets, from where it stands
 abbrev pub NumbersMeet : Numbers → ℕ → RunFault → Type 0
 NumbersMeet r n f =
     RunsMeet (is_run r.version r.sign) (no_run r.version r.sign) (drop r.used r.run.values)
     (drop r.at r.bytes.now) r.start r.at (length r.bytes.now) n f
 
+-- what a reader of bytes in runs meets, from where it stands
 abbrev pub BytesMeet : RunLengthBytes → ℕ → RunFault → Type 0
 BytesMeet r n f =
     RunsMeet IsByteRun NoByteRun (drop r.used r.run.values) (drop r.at r.bytes.now)

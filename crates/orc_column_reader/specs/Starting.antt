@@ -19,6 +19,7 @@ use Rattle.orc_wire.specs.declared.stripe_footer.StripeFooter.{StripeFooter}
 use Rattle.orc_column_reader.specs.Columns.{entry_bytes}
 use Rattle.orc_column_reader.specs.Stripe.{Streams, version, has_dictionary, IsDictionary, most_cells, columns_of, columns_from}
 
+-- a reader of integers at the start of its bytes
 pub record NumbersStart (v : Rle) (sign : Sign) (bytes : List ℕ) (r : Numbers) : Type 0 where
   pub version_is : r.version ≡ v
   pub sign_is : r.sign ≡ sign
@@ -27,25 +28,30 @@ pub record NumbersStart (v : Rle) (sign : Sign) (bytes : List ℕ) (r : Numbers)
   pub no_run : r.run.values ≡ []
   pub unused : r.used ≡ 0
 
+-- a reader of bytes in runs at the start of its bytes
 pub record BytesStart (bytes : List ℕ) (r : RunLengthBytes) : Type 0 where
   pub bytes_are : r.bytes.now ≡ bytes
   pub at_start : r.at ≡ 0
   pub no_run : r.run.values ≡ []
   pub unused : r.used ≡ 0
 
+-- a reader of booleans at the start of its bytes
 pub record BitsStart (bytes : List ℕ) (r : Bits) : Type 0 where
   pub runs : BytesStart bytes r.bytes
   pub none_left : r.left ≡ 0
 
+-- a reader of PRESENT at its start; there is none where the stream is empty
 abbrev pub MarksStart : List ℕ → Option Bits → Type 0
 MarksStart [] None = Unit {0}
 MarksStart [] (Some bits) = ⊥
 MarksStart (b ∷ bs) None = ⊥
 MarksStart (b ∷ bs) (Some bits) = BitsStart (b ∷ bs) bits
 
+-- a reader of byte strings at its start: LENGTH and DATA
 abbrev pub GroupsStart : Streams → ValueSource → Type 0
 GroupsStart x r = NumbersStart (version x) Unsigned (x.stream 2) r.numbers × (r.octets.rest.now ≡ x.stream 1)
 
+-- a reader of strings at its start: with its dictionary read, or with bytes of its own
 abbrev pub TextsStart : Bool → Streams → Option (Vec Entry Global) → ValueSource → Type 0
 TextsStart true x (Some entries) r =
     IsDictionary x (map entry_bytes entries.items) × NumbersStart (version x) Unsigned (x.stream 1) r.numbers
@@ -53,6 +59,7 @@ TextsStart true x None r = ⊥
 TextsStart false x (Some entries) r = ⊥
 TextsStart false x None r = GroupsStart x r
 
+-- a reader of single values at its start, by its kind
 abbrev pub ScalarStart : Scalar → Streams → ValueSource → Type 0
 ScalarStart kind.Boolean x r = BitsStart (x.stream 1) r.bits
 ScalarStart kind.Byte x r = BytesStart (x.stream 1) r.bytes
@@ -93,10 +100,12 @@ abbrev mutual
   FieldsStart (field name s fs) columns rs =
       TreeStart s columns (take (width s) rs) × FieldsStart fs (λ c. columns (width s + c)) (drop (width s) rs)
 
+-- no dictionary is spelled where the encoding has one
 abbrev pub LacksEntries : Bool → Streams → Type 0
 LacksEntries true x = (entries : List (List ℕ)) → IsDictionary x entries → ⊥
 LacksEntries false x = ⊥
 
+-- the same, by the column's kind: strings alone have a dictionary
 abbrev pub ScalarLacks : Scalar → Streams → Type 0
 ScalarLacks kind.Boolean x = ⊥
 ScalarLacks kind.Byte x = ⊥
@@ -134,6 +143,7 @@ pub record DataStart (x : Streams) (r : ValueSource) : Type 0 where
 abbrev pub IsOf : Shape → (ℕ → Streams) → ℕ → ColumnReader → Type 0
 IsOf s columns n own = OwnStart s (columns n) own × (own.source.column ≡ n)
 
+-- readers from a column on: its own, and those below it
 abbrev pub AreFrom : (ℕ → List ColumnReader → Type 0) → Shape → (ℕ → Streams) → ℕ → List ColumnReader → Type 0
 AreFrom found s columns n [] = ⊥
 AreFrom found s columns n (own ∷ below) = IsOf s columns n own × found n below
@@ -166,6 +176,7 @@ pub record Puts (footer : StripeFooter) (bytes : List ℕ) (s : Shape) (old new 
   pub start : TreeStart s (columns_from footer bytes (length old)) more
   pub origins : AreOf s (columns_of footer bytes) (length old) more
 
+-- the readers of a struct's fields were put behind those that were there
 pub record PutsFields (footer : StripeFooter) (bytes : List ℕ) (fs : Fields)
     (old new : List ColumnReader) : Type 0 where
   pub more : List ColumnReader

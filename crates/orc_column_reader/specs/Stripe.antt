@@ -32,6 +32,7 @@ pub record Streams : Type 0 where
 abbrev pub version_at : ℕ → Rle
 version_at encoding = if nat_lt encoding 2 then One else Two
 
+-- the version of integers in a column's streams
 abbrev pub version : Streams → Rle
 version s = version_at s.encoding.kind
 
@@ -39,6 +40,7 @@ version s = version_at s.encoding.kind
 abbrev pub uses_dictionary : ℕ → Bool
 uses_dictionary encoding = (encoding == 1) || (encoding == 3)
 
+-- whether a column's strings are named in a dictionary
 abbrev pub has_dictionary : Streams → Bool
 has_dictionary s = uses_dictionary s.encoding.kind
 
@@ -47,6 +49,7 @@ abbrev pub Marks : List ℕ → List Bool → Type 0
 Marks [] marks = marks ≡ replicate (length marks) true
 Marks (b ∷ bs) marks = IsBitStream (b ∷ bs) marks
 
+-- these bytes and no others
 abbrev pub Is : List ℕ → List ℕ → Type 0
 Is bytes all = all ≡ bytes
 
@@ -55,6 +58,7 @@ pub record IsDictionary (s : Streams) (entries : List (List ℕ)) : Type 0 where
   pub counted : length entries ≡ s.encoding.dictionary_size
   pub spelled : Grouped (AreNumbers (version s) Unsigned (s.stream 2)) (Is (s.stream 3)) entries
 
+-- strings named in a dictionary by DATA, or spelled by DATA with their lengths in LENGTH
 abbrev pub SpellsTexts : Streams → Bool → List Cell → Type 0
 SpellsTexts s true vs =
     (entries : List (List ℕ))
@@ -62,6 +66,7 @@ SpellsTexts s true vs =
     × Standing (IsWord entries) (AreNumbers (version s) Unsigned (s.stream 1)) vs
 SpellsTexts s false vs = Standing IsText (Grouped (AreNumbers (version s) Unsigned (s.stream 2)) (Is (s.stream 1))) vs
 
+-- integers in DATA that the kind holds
 abbrev pub SpellsInts : Scalar → Streams → List Cell → Type 0
 SpellsInts k s vs = Standing (IsInt k) (AreNumbers (version s) Signed (s.stream 1)) vs
 
@@ -107,6 +112,7 @@ pub record SpellRows (schema : Shape) (columns : ℕ → Streams) (count : ℕ) 
 
 -- ---- the same by going down the schema, as a reader does
 
+-- a column's cells: nulls where PRESENT says, and values as its other streams spell them
 abbrev pub SpellsColumn : ((ℕ → Streams) → List Cell → Type 0) → (ℕ → Streams) → List Cell → Type 0
 SpellsColumn found columns cells = Nullable (Marks ((columns 0).stream 0)) (found columns) cells
 
@@ -136,9 +142,11 @@ abbrev mutual
 abbrev pub SpellsCells : Shape → (ℕ → Streams) → List Cell → Type 0
 SpellsCells s columns cells = SpellsColumn (SpellsTree s) columns cells
 
+-- the encoding of a column for which the footer has none
 abbrev pub no_encoding : Encoding
 no_encoding = record { kind = 0; dictionary_size = 0 }
 
+-- the encoding of a column
 abbrev pub encoding_at : List Encoding → ℕ → Encoding
 encoding_at [] c = no_encoding
 encoding_at (e ∷ es) zero = e

@@ -15,6 +15,7 @@ abbrev pub is_index : ℕ → ℤ → Bool
 is_index entries (pos i) = nat_lt i entries
 is_index entries (negsuc i) = false
 
+-- whether an entry that is there is UTF-8
 abbrev pub is_text : Option (List ℕ) → Bool
 is_text None = true
 is_text (Some bytes) = is_utf8 bytes

@@ -35,6 +35,7 @@ pub record IsOwnColumn (s : Shape) (x : Streams) (count : ℕ) (own : List Cell)
 abbrev pub elements_together : List Cell → ℕ
 elements_together cells = length (flat_map parts (values cells))
 
+-- the number of pairs of all maps among cells
 abbrev pub pairs_together : List Cell → ℕ
 pairs_together cells = length (flat_map pairs_in (values cells))
 
@@ -61,6 +62,7 @@ abbrev mutual
 
 -- ---- the same by the columns' numbers, where the cells have no name
 
+-- a column's own streams spell so many cells, and those below are of these cells
 abbrev pub OwnFrom : (ℕ → List Cell → Type 0) → Shape → (ℕ → Streams) → ℕ → ℕ → Type 0
 OwnFrom below s columns c n = (own : List Cell) × IsOwnColumn s (columns c) n own × below c own
 

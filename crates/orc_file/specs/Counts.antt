@@ -64,5 +64,6 @@ are_column_stats s c (x ∷ xs) = is_column_stat (kind_at s c) x && are_column_s
 abbrev pub are_stripe_stats : Shape → List Stat → Bool
 are_stripe_stats s xs = (length xs == width s) && are_column_stats s 0 xs
 
+-- whether each stripe has a statistic for each column, of its kind
 abbrev pub are_all_stats : Shape → List (List Stat) → Bool
 are_all_stats s xss = list_all (are_stripe_stats s) xss

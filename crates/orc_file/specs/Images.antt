@@ -20,9 +20,11 @@ use Rattle.orc_file.specs.Statistics.{AreStats, stripe_message}
 use Rattle.orc_file.specs.Tails.{most_versions}
 use Rattle.orc_file.specs.declared.tail.Tail.{Tail}
 
+-- a tail's stripe statistics as the metadata message
 abbrev pub metadata_of : Tail → Metadata
 metadata_of tail = record { stripe_stats = map stripe_message tail.stripe_stats }
 
+-- a tail as the footer message
 abbrev pub footer_of : Tail → Footer
 footer_of tail = record {
   header_length = length magic;
@@ -41,6 +43,7 @@ footer_of tail = record {
 abbrev pub types_text : Shape → List ℕ
 types_text s = list_text (λ t. sized (type_text.text t)) 4 (types s 0)
 
+-- a tail as the postscript message
 abbrev pub script_of : Tail → PostScript
 script_of tail = record {
   footer_length = length (footer_text.text (footer_of tail));
@@ -61,6 +64,7 @@ tail_text tail = ended (metadata_text.text (metadata_of tail))
     (footer_text.text (footer_of tail))
     (post_script_text.text (script_of tail))
 
+-- a file's bytes: the magic, its stripes, its tail
 abbrev pub image : List ℕ → Tail → List ℕ
 image stripes tail = magic ++ (stripes ++ tail_text tail)
 

@@ -7,6 +7,7 @@ use Rattle.orc_column_reader.specs.Stripe.{most_cells}
 use Rattle.orc_file.specs.Tests.{Test, check, gives}
 use Rattle.orc_file.specs.declared.fault.FileFault.TheVariants.{BadStripe, Limit}
 
+-- how many bytes a stripe has: its index, its data, its footer
 abbrev pub stripe_length : StripeInfo → ℕ
 stripe_length s = s.index_length + s.data_length + s.footer_length
 
@@ -25,18 +26,23 @@ abbrev pub stripes_rows : List StripeInfo → ℕ
 stripes_rows [] = 0
 stripes_rows (s ∷ ss) = s.number_of_rows + stripes_rows ss
 
+-- where a stripe ends
 abbrev pub stripe_end : StripeInfo → ℕ
 stripe_end s = s.offset + stripe_length s
 
+-- how many stripes a file has at most
 abbrev pub most_stripes : ℕ
 most_stripes = 65536
 
+-- how many rows a stripe has at most
 abbrev pub most_stripe_rows : ℕ
 most_stripe_rows = most_cells
 
+-- how many rows a file has at most
 abbrev pub most_rows : ℕ
 most_rows = 2 ^ 40
 
+-- how many bytes a file's stripes have at most
 abbrev pub most_bytes : ℕ
 most_bytes = 2 ^ 40
 

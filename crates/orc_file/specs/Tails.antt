@@ -78,6 +78,7 @@ limit_tests before f s m =
     (check (stripes_length f.stripes ≤ most_bytes) Limit
     (gives (stats_read s 0 f.statistics, stripe_stats_read s m.stripe_stats)))))))
 
+-- what a file's messages say of it together
 abbrev pub tail_of : PostScript → Footer → Shape → List Stat × List (List Stat) → Tail
 tail_of script f s stats = record {
   version = script.version;
@@ -93,6 +94,7 @@ tail_of script f s stats = record {
   other = f.kept;
 }
 
+-- the tests of a file's tail, in the order in which they are made
 abbrev pub tail_tests : List ℕ → Test Tail
 tail_tests bytes =
     end_tests bytes then λ script.

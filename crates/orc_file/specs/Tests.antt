@@ -27,6 +27,7 @@ IsOfTypes fault = (why : TypeFault) × (fault ≡ BadTypes why)
 abbrev pub AreAlike : FileFault → FileFault → Type 0
 AreAlike e f = (e ≡ f) ⊎ (IsOfTypes e × IsOfTypes f)
 
+-- what a test finds, and the fault where it fails: it finds one thing at most, and nothing where it fails
 pub record Test (A : Type 0) : Type 1 where
   pub finds : A → Type 0
   pub fails : FileFault → Type 0
@@ -79,6 +80,7 @@ one_then {A} test rest e f (inr p) (inr q) =
 
 -- what the test finds is needed by the rest
 infixr 5 ◌then◌
+-- one test and then another, which may look at what the first one found
 abbrev pub ◌then◌ : {A B : Type 0} → Test A → (A → Test B) → Test B
 ◌then◌ {A} {B} test rest = record {
   finds = λ b. (a : A) × test.finds a × (rest a).finds b;

@@ -42,15 +42,19 @@ abbrev pub AreClosed : Options → Shape → ℕ → List Closed → Type 0
 AreClosed options s place [] = Unit {0}
 AreClosed options s place (c ∷ cs) = IsClosed options s place c × AreClosed options s (place + length c.bytes) cs
 
+-- the bytes of written stripes, behind one another
 abbrev pub bytes_of : List Closed → List ℕ
 bytes_of cs = flat_map (λ (c : Closed). c.bytes) cs
 
+-- the rows of written stripes, behind one another
 abbrev pub rows_of : List Closed → List Cell
 rows_of cs = flat_map (λ (c : Closed). c.rows) cs
 
+-- the footer's lines for written stripes
 abbrev pub infos_of : List Closed → List StripeInfo
 infos_of cs = map (λ (c : Closed). c.info) cs
 
+-- the statistics of written stripes
 abbrev pub stats_of : List Closed → List (List Stat)
 stats_of cs = map (λ (c : Closed). c.stats) cs
 

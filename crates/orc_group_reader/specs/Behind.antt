@@ -31,9 +31,11 @@ pub record LeadsToBit (bytes : List ℕ) (offset skip bits n : ℕ) : Type 0 whe
   pub few : bits ≤ 8
   pub number_is : n ≡ 8 * whole + bits
 
+-- a place leads to the n-th value of a stream of runs
 abbrev pub leads : RunRelation
 leads A is_run stream offset skip n = LeadsTo is_run stream offset skip n
 
+-- a place leads to the n-th boolean
 abbrev pub leads_bits : BitRelation
 leads_bits stream total offset skip bits n = LeadsToBit stream offset skip bits n
 
@@ -46,10 +48,12 @@ GroupsBegin x vs count =
     × IntegersFirst (lengths_of x) (map size groups)
     × (x.stream 1 ≡ joined groups ++ rest)
 
+-- strings in a dictionary have no bytes of their own to begin in
 abbrev pub TextsBegin : Bool → Streams → List Cell → ℕ → Type 0
 TextsBegin true x vs count = Unit {0}
 TextsBegin false x vs count = GroupsBegin x vs count
 
+-- where the bytes behind so many values begin, for the kinds that have such
 abbrev pub ScalarsBegin : Scalar → Streams → List Cell → ℕ → Type 0
 ScalarsBegin kind.Boolean x vs count = Unit {0}
 ScalarsBegin kind.Byte x vs count = Unit {0}

@@ -55,6 +55,7 @@ HasEntries true x None = ⊥
 HasEntries false x (Some entries) = ⊥
 HasEntries false x None = Unit {0}
 
+-- a reader has a dictionary's entries just where the column is of strings in one
 abbrev pub ScalarEntries : Scalar → Streams → Option (Vec Entry Global) → Type 0
 ScalarEntries kind.Boolean x entries = Unit {0}
 ScalarEntries kind.Byte x entries = Unit {0}

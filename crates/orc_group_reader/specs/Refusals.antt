@@ -58,6 +58,7 @@ OwnRefused s x c positions f =
     ⊎ (FailsAt c (kind_of_own s (has_dictionary x)) (own_runs s x) (drop (octets_size (own_octets s x)) positions) f
     ⊎ WordsOfFail s x c f)
 
+-- how many positions PRESENT has
 abbrev pub present_size : Streams → ℕ
 present_size x = position_size (present_runs (x.stream 0))
 

@@ -19,6 +19,7 @@ pub record PairTexts : Type 0 where
   pub key : Cell → List ℕ
   pub value : Cell → List ℕ
 
+-- the letters of null
 abbrev pub null_text : List ℕ
 null_text = 110 ∷ 117 ∷ 108 ∷ 108 ∷ []
 
@@ -41,6 +42,7 @@ abbrev pub parts_text : List Part → List Cell → List ℕ
 parts_text [] cs = 125 ∷ []
 parts_text (p ∷ ps) cs = p.key ++ (p.text (get_or cs p.place null) ++ parts_text ps cs)
 
+-- a list as an array of its elements' texts
 abbrev pub list_text : (Cell → List ℕ) → Cell → List ℕ
 list_text f null = null_text
 list_text f (leaf a) = null_text
@@ -48,6 +50,7 @@ list_text f (list cs) = 91 ∷ elements_text f false (list_of_cells cs)
 list_text f (struct cs) = null_text
 list_text f (pairs ps) = null_text
 
+-- a map as an array of its pairs' texts
 abbrev pub map_text : PairTexts → Cell → List ℕ
 map_text t null = null_text
 map_text t (leaf a) = null_text
@@ -55,6 +58,7 @@ map_text t (list cs) = null_text
 map_text t (struct cs) = null_text
 map_text t (pairs ps) = 91 ∷ pairs_text t false (list_of_pairs ps)
 
+-- a struct as an object of its members' texts
 abbrev pub struct_text : List Part → Cell → List ℕ
 struct_text ps null = null_text
 struct_text ps (leaf a) = null_text
@@ -62,18 +66,22 @@ struct_text ps (list cs) = null_text
 struct_text ps (struct cs) = 123 ∷ parts_text ps (list_of_cells cs)
 struct_text ps (pairs qs) = null_text
 
+-- a single value's text
 abbrev pub leaf_text : Cell → List ℕ
 leaf_text c = compact_text (scalar_json c)
 
+-- a layout's node as what it prints, once those below it are
 abbrev pub layout_step : Layout-F (Cell → List ℕ) Part PairTexts → Cell → List ℕ
 layout_step Layout-F.Leaf = leaf_text
 layout_step (Layout-F.List f) = list_text f.value
 layout_step (Layout-F.Map t) = map_text t.value
 layout_step (Layout-F.Struct ps xs) = struct_text ps.items
 
+-- a member of a struct as its key's text, its place and what it prints
 abbrev pub member_step : Member-F (Cell → List ℕ) Part PairTexts → Part
 member_step m = record { key = m.key.items; place = m.place; text = m.layout }
 
+-- what a map's layout prints of a key and of a value
 abbrev pub pair_step : PairLayout-F (Cell → List ℕ) Part PairTexts → PairTexts
 pair_step p = record { key = p.key; value = p.value }
 
@@ -81,9 +89,11 @@ pair_step p = record { key = p.key; value = p.value }
 abbrev pub text_by : Layout → Cell → List ℕ
 text_by = fold-Layout (Cell → List ℕ) Part PairTexts layout_step member_step pair_step
 
+-- a member of a struct as what it prints
 abbrev pub part : Member → Part
 part = fold-Member (Cell → List ℕ) Part PairTexts layout_step member_step pair_step
 
+-- the members of a struct as what they print
 abbrev pub member_parts : List Member → List Part
 member_parts ms = map part ms
 

@@ -6,6 +6,7 @@ use Rattle.orc_json.specs.Layouts.{text_by}
 use Rattle.orc_json.specs.Texts.{Prints}
 use Rattle.orc_json.specs.declared.row_printer.RowPrinter.TheInside.{Inside}
 
+-- the shape whose rows a printer prints
 abbrev pub shape_of : Inside → Shape
 shape_of p = p.schema.value
 

@@ -23,9 +23,11 @@ PrintsStruct text fs = (o : List ℕ) → Prints text (struct_of (fields_of fs) 
 abbrev pub no_name : List ℕ × Shape
 no_name = ([], scalar kind.Boolean [])
 
+-- the shape of a field, by its place
 abbrev pub shape_in : List (List ℕ × Shape) → ℕ → Shape
 shape_in fs i = (get_or fs i no_name).1
 
+-- the cell of a field, by its place
 abbrev pub cell_in : List Cell → ℕ → Cell
 cell_in cs i = get_or cs i null
 
@@ -43,5 +45,6 @@ abbrev pub ArePlacesInOrder : List (List ℕ × Shape) → List (String Global �
 ArePlacesInOrder fs es = (cs : List Cell) → length cs ≡ length fs
     → members_at (json_in fs cs) es ≡ members_json (fields_of fs) (cells_of cs) no_members
 
+-- each place is one of so many
 abbrev pub AreWithin : ℕ → List (String Global × ℕ) → Type 0
 AreWithin n es = AllByRecursion (λ e. e.1 < n) es

@@ -3,6 +3,7 @@ use Rattle.std.specs.Prelude.{◌≡◌}
 use Rattle.orc_file.specs.declared.tail.Tail.{Tail}
 use Rattle.orc_merge.specs.declared.gathered.Lists.{Lists}
 
+-- lists that grow to those of a merged tail
 pub record AreListsOf (tail : Tail) (lists : Lists) : Type 0 where
   pub stripes : lists.stripes.items ≡ tail.stripes
   pub stripe_stats : lists.stripe_stats.items ≡ tail.stripe_stats

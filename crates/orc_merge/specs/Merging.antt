@@ -47,12 +47,15 @@ abbrev pub placed : ℕ → List StripeInfo → List StripeInfo
 placed at [] = []
 placed at (s ∷ rest) = record s { offset = at } ∷ placed (at + stripe_length s) rest
 
+-- the stripes of all inputs, in order
 abbrev pub all_stripes : List Tail → List StripeInfo
 all_stripes = flat_map (λ (t : Tail). t.stripes)
 
+-- the stripe statistics of all inputs, in order
 abbrev pub all_stats : List Tail → List (List Stat)
 all_stats = flat_map (λ (t : Tail). t.stripe_stats)
 
+-- the user metadata of all inputs, in order
 abbrev pub all_pairs : List Tail → List UserMetadataItem
 all_pairs = flat_map (λ (t : Tail). t.user)
 
@@ -67,6 +70,7 @@ merged first inputs = record first {
   rows = sum_by (λ (t : Tail). t.rows) inputs;
 }
 
+-- an input of the first one's version, writer and writer's version
 pub record SameVersion (first tail : Tail) : Type 0 where
   pub version : tail.version ≡ first.version
   pub writer : tail.writer ≡ first.writer

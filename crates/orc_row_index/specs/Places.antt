@@ -66,6 +66,7 @@ abbrev pub octets_place : Option (List ℕ) → ℕ → List ℕ
 octets_place None n = []
 octets_place (Some stream) n = n ∷ []
 
+-- how many positions a stream of bytes has that isn't in runs: its offset, where there is one
 abbrev pub octets_size : Option (List ℕ) → ℕ
 octets_size None = 0
 octets_size (Some stream) = 1
@@ -85,9 +86,11 @@ abbrev pub ArePlacesBy : RunRelation → BitRelation → Shape → Streams → L
 ArePlacesBy run bit s x before positions =
     PlacesIn run bit (present_runs (x.stream 0)) (own_octets s x) (own_runs s x) before positions
 
+-- a place names the n-th value of a stream of runs
 abbrev pub begins : RunRelation
 begins A is_run stream offset skip n = Begins is_run stream offset skip n
 
+-- a place is the writer's for the n-th value of a stream of runs
 abbrev pub is_place : RunRelation
 is_place A is_run stream offset skip n = IsPlace is_run stream offset skip n
 

@@ -28,6 +28,7 @@ abbrev pub text_runs : Bool → Streams → RunStream
 text_runs true x = number_runs (version x) Unsigned (x.stream 1)
 text_runs false x = number_runs (version x) Unsigned (x.stream 2)
 
+-- the stream of runs of a column of single values
 abbrev pub scalar_runs : Scalar → Streams → RunStream
 scalar_runs kind.Boolean x = bit_runs (x.stream 1)
 scalar_runs kind.Byte x = byte_runs (x.stream 1)
@@ -45,10 +46,12 @@ own_runs (list_of s o) x = number_runs (version x) Unsigned (x.stream 2)
 own_runs (map_of k v o) x = number_runs (version x) Unsigned (x.stream 2)
 own_runs (struct_of fs o) x = no_stream
 
+-- which stream of a column of strings has runs: DATA with a dictionary, else LENGTH
 abbrev pub kind_of_texts : Bool → StreamKind
 kind_of_texts true = stream.Data
 kind_of_texts false = stream.Length
 
+-- which stream of a column of single values has runs
 abbrev pub kind_of_scalar : Scalar → Bool → StreamKind
 kind_of_scalar kind.Boolean d = stream.Data
 kind_of_scalar kind.Byte d = stream.Data
@@ -66,10 +69,12 @@ kind_of_own (list_of s o) d = stream.Length
 kind_of_own (map_of k v o) d = stream.Length
 kind_of_own (struct_of fs o) d = stream.Data
 
+-- the bytes of strings that aren't in a dictionary
 abbrev pub text_octets : Bool → Streams → Option (List ℕ)
 text_octets true x = None
 text_octets false x = Some (x.stream 1)
 
+-- a column's stream of bytes that isn't in runs, if it has one
 abbrev pub scalar_octets : Scalar → Streams → Option (List ℕ)
 scalar_octets kind.Boolean x = None
 scalar_octets kind.Byte x = None

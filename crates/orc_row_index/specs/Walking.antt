@@ -17,12 +17,14 @@ use Rattle.orc_row_index.specs.declared.counts.Counts.{Counts}
 use Rattle.orc_row_index.specs.declared.walk.Walk.{Walk}
 use Rattle.orc_row_index.specs.declared.placed.PlacedStreams.{PlacedStreams}
 
+-- bytes in runs as the stream that they are
 abbrev pub runs : RunBytes → RunStream
 runs run_bytes.Nothing = no_stream
 runs (run_bytes.Bits b) = bit_runs b.now
 runs (run_bytes.Bytes b) = byte_runs b.now
 runs (run_bytes.Numbers version sign b) = number_runs version sign b.now
 
+-- bytes that are lent, if there are any
 abbrev pub lent_bytes : Option (Bor (List ℕ)) → Option (List ℕ)
 lent_bytes lent = option_map (λ b. b.now) lent
 

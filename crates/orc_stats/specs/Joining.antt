@@ -26,6 +26,7 @@ or_known None (Some true) = Some true
 or_known None (Some false) = None
 or_known None None = None
 
+-- whether any of the parts has a null: not known where one that could tell doesn't
 abbrev pub nulls_joined : List (Option Bool) → Option Bool
 nulls_joined [] = Some false
 nulls_joined (n ∷ ns) = or_known n (nulls_joined ns)
@@ -34,6 +35,7 @@ nulls_joined (n ∷ ns) = or_known n (nulls_joined ns)
 abbrev pub in_limit : ℕ → Option ℕ
 in_limit n = if nat_le n (2 ^ 62) then Some n else None
 
+-- the sum of counts, where it is within the limit
 abbrev pub trues_total : List ℕ → Option ℕ
 trues_total ns = option_and_then in_limit (reduce ◌+◌ ns)
 
@@ -42,48 +44,59 @@ abbrev pub least_int : Body → Option ℤ
 least_int (body.Ints l g s) = l
 least_int _ = None
 
+-- the greatest integer that a statistic tells
 abbrev pub greatest_int : Body → Option ℤ
 greatest_int (body.Ints l g s) = g
 greatest_int _ = None
 
+-- the least date that a statistic tells
 abbrev pub least_date : Body → Option ℤ
 least_date (body.Dates l g) = l
 least_date _ = None
 
+-- the greatest date that a statistic tells
 abbrev pub greatest_date : Body → Option ℤ
 greatest_date (body.Dates l g) = g
 greatest_date _ = None
 
+-- the least string that a statistic tells
 abbrev pub least_text : Body → Option (List ℕ)
 least_text (body.Texts l g s) = l
 least_text _ = None
 
+-- the greatest string that a statistic tells
 abbrev pub greatest_text : Body → Option (List ℕ)
 greatest_text (body.Texts l g s) = g
 greatest_text _ = None
 
+-- how many are true, where a statistic tells it
 abbrev pub trues_of : Body → Option ℕ
 trues_of (body.Bools t) = t
 trues_of _ = None
 
+-- the sum of integers, or of lengths, where a statistic tells it
 abbrev pub sum_of : Body → Option ℤ
 sum_of (body.Ints l g s) = s
 sum_of (body.Texts l g s) = s
 sum_of (body.Bins s) = s
 sum_of _ = None
 
+-- the fewest children of a cell, where a statistic tells it
 abbrev pub least_children : Body → Option ℕ
 least_children (body.Children l g t) = l
 least_children _ = None
 
+-- the most children of a cell, where a statistic tells it
 abbrev pub greatest_children : Body → Option ℕ
 greatest_children (body.Children l g t) = g
 greatest_children _ = None
 
+-- all children together, where a statistic tells them
 abbrev pub total_children : Body → Option ℕ
 total_children (body.Children l g t) = t
 total_children _ = None
 
+-- what parts of one kind tell together
 abbrev pub bodies_joined : StatKind → List Body → Body
 bodies_joined kind.Plain bs = body.Plain
 bodies_joined kind.Ints bs =
@@ -106,6 +119,7 @@ bodies_joined kind.Children bs =
     (of_known (greatest nat_cmp) (map greatest_children bs))
     (of_known children_total (map total_children bs))
 
+-- whether a statistic counts a value
 abbrev pub has_values : Stat → Bool
 has_values s = nat_lt 0 s.count
 

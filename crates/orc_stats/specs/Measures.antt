@@ -15,31 +15,40 @@ use Rattle.orc_stats.specs.Tallies.{Joins, Measure}
 abbrev pub seen_joins : {A : Type 0} (op : A → A → A) → IsOrderly op → Joins (Seen A)
 seen_joins op o = record { none = Nothing; join = both op; unit = λ p. refl; orderly = both_orderly op o }
 
+-- the least integer, joined
 abbrev pub least_ints : Joins (Seen ℤ)
 least_ints = seen_joins (lower int_cmp) lower_ints
 
+-- the greatest integer, joined
 abbrev pub greatest_ints : Joins (Seen ℤ)
 greatest_ints = seen_joins (lower (flip_args int_cmp)) higher_ints
 
+-- the least string, joined
 abbrev pub least_texts : Joins (Seen (List ℕ))
 least_texts = seen_joins (lower text_cmp) lower_texts
 
+-- the greatest string, joined
 abbrev pub greatest_texts : Joins (Seen (List ℕ))
 greatest_texts = seen_joins (lower (flip_args text_cmp)) higher_texts
 
+-- the least count, joined
 abbrev pub least_nats : Joins (Seen ℕ)
 least_nats = seen_joins (lower nat_cmp) lower_nats
 
+-- the greatest count, joined
 abbrev pub greatest_nats : Joins (Seen ℕ)
 greatest_nats = seen_joins (lower (flip_args nat_cmp)) higher_nats
 
+-- sums of integers, joined
 abbrev pub int_totals : Joins (Seen ℤ)
 int_totals = seen_joins ◌+ℤ◌ int_sums
 
+-- sums of counts, joined
 abbrev pub nat_totals : Joins (Seen ℕ)
 nat_totals = seen_joins ◌+◌ nat_sums
 
 infixr 5 ◌and◌
+-- two measures kept side by side
 abbrev pub ◌and◌ : {P Q : Type 0} → Joins P → Joins Q → Joins (P × Q)
 a and b = record {
   none = (a.none, b.none);

@@ -31,18 +31,22 @@ abbrev pub ints_body : Option IntegerStatistics → Body
 ints_body None = body.Ints None None None
 ints_body (Some r) = body.Ints r.minimum r.maximum r.sum
 
+-- what a message tells of dates
 abbrev pub dates_body : Option DateStatistics → Body
 dates_body None = body.Dates None None
 dates_body (Some r) = body.Dates r.minimum r.maximum
 
+-- what a message tells of strings
 abbrev pub texts_body : Option StringStatistics → Body
 texts_body None = body.Texts None None None
 texts_body (Some r) = body.Texts r.minimum r.maximum r.sum
 
+-- what a message tells of byte strings
 abbrev pub bins_body : Option BinaryStatistics → Body
 bins_body None = body.Bins None
 bins_body (Some r) = body.Bins r.sum
 
+-- what a message tells of the sizes of lists and maps
 abbrev pub children_body : Option CollectionStatistics → Body
 children_body None = body.Children None None None
 children_body (Some r) = body.Children r.min_children r.max_children r.total_children
@@ -52,6 +56,7 @@ abbrev pub first_of : List ℕ → Option ℕ
 first_of [] = None
 first_of (n ∷ ns) = Some n
 
+-- what a message tells of booleans
 abbrev pub bools_body : Option BucketStatistics → Body
 bools_body None = body.Bools None
 bools_body (Some r) = body.Bools (first_of r.count)
@@ -74,6 +79,7 @@ stat_read k m = record {
   body = if m.number_of_values == 0 then unknown k else body_read k m;
 }
 
+-- a count of true within the limit, or none
 abbrev pub few_trues : Option ℕ → Bool
 few_trues None = true
 few_trues (Some n) = nat_le n (2 ^ 62)
@@ -87,23 +93,28 @@ abbrev pub ints_record : Option ℤ → Option ℤ → Option ℤ → Option Int
 ints_record l g s =
     if is_some l || is_some g || is_some s then Some (record { minimum = l; maximum = g; sum = s }) else None
 
+-- the message of dates; none where nothing is told
 abbrev pub dates_record : Option ℤ → Option ℤ → Option DateStatistics
 dates_record l g = if is_some l || is_some g then Some (record { minimum = l; maximum = g }) else None
 
+-- the message of strings; none where nothing is told
 abbrev pub texts_record : Option (List ℕ) → Option (List ℕ) → Option ℤ → Option StringStatistics
 texts_record l g s =
     if is_some l || is_some g || is_some s then Some (record { minimum = l; maximum = g; sum = s }) else None
 
+-- the message of byte strings; none where nothing is told
 abbrev pub bins_record : Option ℤ → Option BinaryStatistics
 bins_record None = None
 bins_record (Some s) = Some (record { sum = Some s })
 
+-- the message of the sizes of lists and maps; none where nothing is told
 abbrev pub children_record : Option ℕ → Option ℕ → Option ℕ → Option CollectionStatistics
 children_record l g t =
     if is_some l || is_some g || is_some t
     then Some (record { min_children = l; max_children = g; total_children = t })
     else None
 
+-- the message of booleans; none where nothing is told
 abbrev pub bools_record : Option ℕ → Option BucketStatistics
 bools_record None = None
 bools_record (Some n) = Some (record { count = n ∷ [] })
@@ -113,26 +124,32 @@ abbrev pub int_record : Body → Option IntegerStatistics
 int_record (body.Ints l g s) = ints_record l g s
 int_record _ = None
 
+-- a statistic's message of dates, if it is one of dates
 abbrev pub date_record : Body → Option DateStatistics
 date_record (body.Dates l g) = dates_record l g
 date_record _ = None
 
+-- a statistic's message of strings, if it is one of strings
 abbrev pub text_record : Body → Option StringStatistics
 text_record (body.Texts l g s) = texts_record l g s
 text_record _ = None
 
+-- a statistic's message of booleans, if it is one of booleans
 abbrev pub bucket_record : Body → Option BucketStatistics
 bucket_record (body.Bools t) = bools_record t
 bucket_record _ = None
 
+-- a statistic's message of byte strings, if it is one of byte strings
 abbrev pub bin_record : Body → Option BinaryStatistics
 bin_record (body.Bins s) = bins_record s
 bin_record _ = None
 
+-- a statistic's message of sizes, if it is one of lists or maps
 abbrev pub collection_record : Body → Option CollectionStatistics
 collection_record (body.Children l g t) = children_record l g t
 collection_record _ = None
 
+-- a statistic as its message (ORC specification, "Column Statistics")
 abbrev pub message_of : Stat → ColumnStats
 message_of s = record {
   number_of_values = s.count;

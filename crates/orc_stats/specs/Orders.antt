@@ -14,6 +14,7 @@ use Rattle.orc_stats.specs.Seen.{both}
 use Rattle.orc_stats.specs.Statistics.{lower, text_cmp}
 use Rattle.orc_stats.specs.Joining.{or_known}
 
+-- neither order nor grouping changes what comes out
 pub record IsOrderly {A : Type 0} (op : A → A → A) : Type 0 where
   pub comm : (x y : A) → op x y ≡ op y x
   pub assoc : (x y z : A) → op (op x y) z ≡ op x (op y z)

@@ -14,10 +14,12 @@ both op (Known x) Nothing = Known x
 both op (Known x) Unknown = Unknown
 both op (Known x) (Known y) = Known (op x y)
 
+-- what a statistic tells, or that it doesn't
 abbrev pub seen_of : {A : Type 0} → Option A → Seen A
 seen_of None = Unknown
 seen_of (Some x) = Known x
 
+-- what is known, if it is
 abbrev pub known_of : {A : Type 0} → Seen A → Option A
 known_of Nothing = None
 known_of Unknown = None

@@ -31,6 +31,7 @@ lower cmp x y = if is_gt (cmp x y) then y else x
 abbrev pub least : {A : Type 0} → (A → A → Ordering) → List A → Option A
 least cmp xs = reduce (lower cmp) xs
 
+-- the greatest of a list, if it has any
 abbrev pub greatest : {A : Type 0} → (A → A → Ordering) → List A → Option A
 greatest cmp xs = least (flip_args cmp) xs
 
@@ -58,9 +59,11 @@ in_u64 n = if nat_lt n (2 ^ 64) then Some n else None
 abbrev pub children_total : List ℕ → Option ℕ
 children_total ns = option_and_then in_u64 (reduce ◌+◌ ns)
 
+-- the lengths of texts
 abbrev pub lengths : List (List ℕ) → List ℤ
 lengths ts = map (λ t. pos (length t)) ts
 
+-- one for true
 abbrev pub bit : Bool → ℕ
 bit true = 1
 bit false = 0
@@ -77,6 +80,7 @@ int_of (list cs) = None
 int_of (struct cs) = None
 int_of (pairs ps) = None
 
+-- the date that a cell is, if it is one
 abbrev pub date_of : Cell → Option ℤ
 date_of null = None
 date_of (leaf (bool b)) = None
@@ -88,6 +92,7 @@ date_of (list cs) = None
 date_of (struct cs) = None
 date_of (pairs ps) = None
 
+-- the boolean that a cell is, if it is one
 abbrev pub bool_of : Cell → Option Bool
 bool_of null = None
 bool_of (leaf (bool b)) = Some b
@@ -99,6 +104,7 @@ bool_of (list cs) = None
 bool_of (struct cs) = None
 bool_of (pairs ps) = None
 
+-- the string that a cell is, if it is one
 abbrev pub text_of : Cell → Option (List ℕ)
 text_of null = None
 text_of (leaf (bool b)) = None
@@ -110,6 +116,7 @@ text_of (list cs) = None
 text_of (struct cs) = None
 text_of (pairs ps) = None
 
+-- the byte string that a cell is, if it is one
 abbrev pub bytes_of : Cell → Option (List ℕ)
 bytes_of null = None
 bytes_of (leaf (bool b)) = None
@@ -129,6 +136,7 @@ children_of (list cs) = Some (length (list_of_cells cs))
 children_of (struct cs) = None
 children_of (pairs ps) = Some (length (list_of_pairs ps))
 
+-- what a statistic of this kind tells of cells
 abbrev pub values_body : StatKind → List Cell → Body
 values_body kind.Plain cells = body.Plain
 values_body kind.Ints cells =

@@ -14,6 +14,7 @@ pub record Joins (P : Type 0) : Type 0 where
   pub unit : (p : P) → join none p ≡ p
   pub orderly : IsOrderly join
 
+-- what several parts keep together
 abbrev pub all : {P : Type 0} → Joins P → List P → P
 all j [] = j.none
 all j (p ∷ ps) = j.join p (all j ps)
@@ -33,9 +34,11 @@ pub record Kept (P : Type 0) : Type 0 where
   pub nulls : Option Bool
   pub parts : P
 
+-- what is kept of no cells
 abbrev pub none_kept : {P : Type 0} → Measure P → Kept P
 none_kept m = record { count = 0; nulls = Some false; parts = m.joins.none }
 
+-- what is kept of two parts
 abbrev pub together : {P : Type 0} → Measure P → Kept P → Kept P → Kept P
 together m a b =
     record { count = a.count + b.count; nulls = or_known a.nulls b.nulls; parts = m.joins.join a.parts b.parts }
@@ -49,15 +52,19 @@ abbrev pub stat_kept : {P : Type 0} → Measure P → Stat → Kept P
 stat_kept m s =
     record { count = s.count; nulls = s.nulls; parts = if has_values s then m.of_body s.body else m.joins.none }
 
+-- what is kept of several parts
 abbrev pub all_kept : {P : Type 0} → Measure P → List (Kept P) → Kept P
 all_kept m [] = none_kept m
 all_kept m (k ∷ ks) = together m k (all_kept m ks)
 
+-- what is kept of cells
 abbrev pub cells_kept : {P : Type 0} → Measure P → List Cell → Kept P
 cells_kept m cells = all_kept m (map (cell_kept m) cells)
 
+-- what is kept of parts that have statistics
 abbrev pub stats_kept : {P : Type 0} → Measure P → List Stat → Kept P
 stats_kept m ss = all_kept m (map (stat_kept m) ss)
 
+-- the statistic of what is kept
 abbrev pub stat_of_kept : {P : Type 0} → Measure P → Kept P → Stat
 stat_of_kept m k = record { count = k.count; nulls = k.nulls; body = m.body k.parts }

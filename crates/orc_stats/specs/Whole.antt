@@ -21,6 +21,7 @@ has_sum (body.Texts l g s) = is_some s
 has_sum (body.Bins s) = is_some s
 has_sum (body.Children l g t) = true
 
+-- what a statistic tells besides its sum
 abbrev pub without_sum : Body → Body
 without_sum body.Plain = body.Plain
 without_sum (body.Ints l g s) = body.Ints l g None

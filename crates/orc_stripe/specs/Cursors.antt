@@ -12,6 +12,7 @@ use Rattle.orc_stripe.specs.declared.cursor.RowCursor.{RowCursor}
 abbrev pub HasRefused : RowCursor → Type 0
 HasRefused c = c.failed ≡ true
 
+-- a cursor that hasn't been refused
 abbrev pub IsGoing : RowCursor → Type 0
 IsGoing c = c.failed ≡ false
 

@@ -31,6 +31,7 @@ abbrev pub IsText : Option (List ℕ) → RowIndexMsg → Type 0
 IsText None message = ⊥
 IsText (Some bytes) message = Spells row_index 0 0 bytes message
 
+-- the text of a row index is this message
 abbrev pub IsMessage : IndexText → RowIndexMsg → Type 0
 IsMessage text message = IsText (text_of text) message
 

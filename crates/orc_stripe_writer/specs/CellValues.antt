@@ -42,17 +42,22 @@ size_in (list cs) = Some (length (list_of_cells cs))
 size_in (struct cs) = Some (length (list_of_cells cs))
 size_in (pairs ps) = Some (length (list_of_pairs ps))
 
+-- the booleans among cells, in order
 abbrev pub bools_in : List Cell → List Bool
 bools_in cs = flat_map (λ c. option_to_list (bool_of c)) cs
 
+-- the integers among cells, dates as days, in order
 abbrev pub ints_in : List Cell → List ℤ
 ints_in cs = flat_map (λ c. option_to_list (int_in c)) cs
 
+-- the integers of TINYINT among cells as bytes, in order
 abbrev pub number_bytes_in : List Cell → List ℕ
 number_bytes_in cs = flat_map (λ c. option_to_list (option_map byte_of (int_in c))) cs
 
+-- the bytes of strings and byte strings among cells, in order
 abbrev pub all_bytes_in : List Cell → List (List ℕ)
 all_bytes_in cs = flat_map (λ c. option_to_list (bytes_in c)) cs
 
+-- the sizes of lists and maps among cells, in order
 abbrev pub sizes_in : List Cell → List ℤ
 sizes_in cs = flat_map (λ c. option_to_list (option_map pos (size_in c))) cs

@@ -23,6 +23,7 @@ written_stream w (suc (suc zero)) = w.lengths
 written_stream w (suc (suc (suc zero))) = w.words
 written_stream w (suc (suc (suc (suc k)))) = []
 
+-- a written column's streams as a reader finds them
 abbrev pub streams_written : Written → Streams
 streams_written w = record { encoding = w.encoding; stream = written_stream w }
 
@@ -35,6 +36,7 @@ abbrev pub index_lines : ℕ → List (List ℕ) → List StreamMsg
 index_lines c [] = []
 index_lines c (t ∷ ts) = index_line c t ∷ index_lines (suc c) ts
 
+-- the row indexes of all columns behind one another
 abbrev pub index_bytes : List (List ℕ) → List ℕ
 index_bytes indexes = flat_map (λ t. t) indexes
 

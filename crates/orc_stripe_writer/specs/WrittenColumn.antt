@@ -71,6 +71,7 @@ pub record HasWords (rle : Rle) (w : Written) (entries texts : List (List ℕ)) 
   pub words_are : w.words ≡ joined entries
   pub encoded : w.encoding ≡ dictionary rle (length entries)
 
+-- strings in a dictionary, or with bytes of their own
 abbrev pub HasTextsIf : Bool → Rle → Written → List (List ℕ) → List (List ℕ) → Type 0
 HasTextsIf true rle w entries texts = HasWords rle w entries texts
 HasTextsIf false rle w entries texts = HasGroups rle w texts
@@ -90,6 +91,7 @@ pub record HasSizes (rle : Rle) (w : Written) (sizes : List ℤ) : Type 0 where
 abbrev pub HasNothing : Written → Type 0
 HasNothing w = w ≡ record { encoding = plain; marks = w.marks; content = []; lengths = []; words = [] }
 
+-- the streams of a column of single values
 abbrev pub WritesScalar : Rle → Written → Scalar → List Cell → Type 0
 WritesScalar rle w kind.Boolean vs = Standing IsBool (HasBits w) vs
 WritesScalar rle w kind.Byte vs = Standing IsByte (HasBytes w) vs

@@ -24,5 +24,6 @@ abbrev pub AreMarksIf : Bool → List Bool → List ℕ → Type 0
 AreMarksIf true marks bytes = bytes ≡ []
 AreMarksIf false marks bytes = IsBitText marks bytes
 
+-- PRESENT is left out where nothing is null
 abbrev pub AreWrittenMarks : List Bool → List ℕ → Type 0
 AreWrittenMarks marks bytes = AreMarksIf (list_all (λ m. m) marks) marks bytes

@@ -36,6 +36,7 @@ line c k (b ∷ bs) = record { kind = k; column = c; length = length (b ∷ bs) 
 abbrev pub column_bytes : Written → List ℕ
 column_bytes w = w.marks ++ (w.content ++ (w.lengths ++ w.words))
 
+-- the lines of the directory for a column's streams, by their kinds
 abbrev pub column_lines : ℕ → Written → List StreamMsg
 column_lines c w = line c 0 w.marks ++ (line c 1 w.content ++ (line c 2 w.lengths ++ line c 3 w.words))
 
@@ -44,6 +45,7 @@ abbrev pub lines_from : ℕ → List Written → List StreamMsg
 lines_from c [] = []
 lines_from c (w ∷ ws) = column_lines c w ++ lines_from (suc c) ws
 
+-- each column from this one on is written of its cells
 abbrev pub AreWrittenColumns : Rle → Shape → List Cell → ℕ → List Written → Type 0
 AreWrittenColumns rle s rows c [] = Unit {0}
 AreWrittenColumns rle s rows c (w ∷ ws) =

@@ -28,22 +28,27 @@ mutual
     no_pair : Pairs
     pair : Cell → Cell → Pairs → Pairs
 
+-- a list of cells as the cells of a list or a struct
 abbrev pub cells_of : List Cell → Cells
 cells_of [] = end
 cells_of (c ∷ cs) = more c (cells_of cs)
 
+-- the cells of a list or a struct as a list
 abbrev pub list_of_cells : Cells → List Cell
 list_of_cells end = []
 list_of_cells (more c cs) = c ∷ list_of_cells cs
 
+-- a list of pairs as the pairs of a map
 abbrev pub pairs_of : List (Cell × Cell) → Pairs
 pairs_of [] = no_pair
 pairs_of (p ∷ ps) = pair p.0 p.1 (pairs_of ps)
 
+-- the pairs of a map as a list
 abbrev pub list_of_pairs : Pairs → List (Cell × Cell)
 list_of_pairs no_pair = []
 list_of_pairs (pair k v ps) = (k, v) ∷ list_of_pairs ps
 
+-- whether a cell isn't null
 abbrev pub is_value : Cell → Bool
 is_value null = false
 is_value (leaf a) = true
@@ -71,6 +76,7 @@ pairs_in (pairs ps) = list_of_pairs ps
 abbrev pub keys_in : Cell → List Cell
 keys_in c = map (λ p. p.0) (pairs_in c)
 
+-- the values of a map's pairs, in order
 abbrev pub values_in : Cell → List Cell
 values_in c = map (λ p. p.1) (pairs_in c)
 

@@ -15,6 +15,7 @@ map_of_size n = pairs (pairs_of (replicate n (null, null)))
 abbrev pub childless_struct : Cell
 childless_struct = struct end
 
+-- a cell without what lies below it: of a list or a map its size is left
 abbrev pub childless : Cell → Cell
 childless null = null
 childless (leaf a) = leaf a

@@ -27,18 +27,22 @@ abbrev mutual
 abbrev pub scalar_or_first : ℕ → Scalar
 scalar_or_first n = unwrap_or (scalar_of n) kind.Boolean
 
+-- the shape on top of a stack
 abbrev pub top : List Shape → Shape
 top [] = scalar kind.Boolean []
 top (s ∷ ss) = s
 
+-- the shapes below the one on top
 abbrev pub below : List Shape → List Shape
 below [] = []
 below (s ∷ ss) = ss
 
+-- the fields on top of a stack
 abbrev pub top_fields : List Fields → Fields
 top_fields [] = no_field
 top_fields (f ∷ fs) = f
 
+-- the fields below those on top
 abbrev pub below_fields : List Fields → List Fields
 below_fields [] = []
 below_fields (f ∷ fs) = fs
@@ -81,6 +85,7 @@ mutual
       run-posts gs (post s (inr (inr (inr (inr (inl name)))) ∷ rest)) ss fs
       ∙ run-post s (inr (inr (inr (inr (inl name)))) ∷ rest) ss (gs ∷ fs)
 
+-- shapes are as good as numbers: each has a code of its own
 abbrev pub coded_shape : Coded Shape
 coded_shape =
     code_by (List Token) (coded_list (coded⊎ (coded× coded_ℕ (coded_list coded_ℕ))

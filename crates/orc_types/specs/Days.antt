@@ -31,6 +31,7 @@ has_text (negsuc n) = nat_lt n 719162
 abbrev pub date_parts_text : DateParts → List ℕ
 date_parts_text d = year_text d.year ++ 45 ∷ [] ++ pad2 d.month ++ 45 ∷ [] ++ pad2 d.day
 
+-- a day as its text, from its number since 1970-01-01
 abbrev pub day_text : ℤ → List ℕ
 day_text n = date_parts_text (date_after (from_first n))
 

@@ -3,10 +3,12 @@ use Rattle.std.specs.Prelude.{ℕ, List, [], ◌∷◌, Bool, true, false, not, 
 use Rattle.serde_json.specs.Data.{Members, no_members, member}
 use Rattle.orc_types.specs.Shapes.{Shape, scalar, list_of, map_of, struct_of, Fields, no_field, field, names_of}
 
+-- whether a name is one of these
 abbrev pub is_among : List (List ℕ) → List ℕ → Bool
 is_among [] n = false
 is_among (m ∷ ms) n = bytes_eq m n || is_among ms n
 
+-- whether no two names are the same
 abbrev pub all_differ : List (List ℕ) → Bool
 all_differ [] = true
 all_differ (n ∷ ns) = not (is_among ns n) && all_differ ns

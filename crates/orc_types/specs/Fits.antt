@@ -24,6 +24,7 @@ int_fits kind.String z = false
 int_fits kind.Binary z = false
 int_fits kind.Date z = false
 
+-- whether each number is a byte
 abbrev pub are_bytes : List ℕ → Bool
 are_bytes [] = true
 are_bytes (b ∷ bs) = nat_lt b 256 && are_bytes bs
@@ -78,6 +79,7 @@ abbrev mutual
 abbrev pub RowsFit : Shape → List Cell → Type 0
 RowsFit s rows = AllByRecursion (λ c. fits c s ≡ true) rows
 
+-- whether a cell is null or a value of this kind
 abbrev pub scalar_fits : Scalar → Cell → Bool
 scalar_fits k null = true
 scalar_fits k (leaf a) = atom_fits k a

@@ -21,6 +21,7 @@ IsNoObject d = (d ≢ nothing) × ((ms : Members) → d ≢ object ms)
 abbrev pub HasUnknownKey : List (List ℕ) → Data → Type 0
 HasUnknownKey names d = (ms : Members) × (d ≡ object ms) × (all_known names ms ≡ false)
 
+-- of some element of an array
 abbrev pub InElement : (Data → Type 0) → Data → Type 0
 InElement Is d = (i : ℕ) × (e : Data) × (at i d ≡ Some e) × Is e
 

@@ -43,6 +43,7 @@ ScalarSpells k d (pairs ps) = ⊥
 
 -- ---- why a value is refused; null never is
 
+-- whether a value of this kind is spelled by a number
 abbrev pub takes_numbers : Scalar → Bool
 takes_numbers kind.Boolean = false
 takes_numbers kind.Byte = true
@@ -53,6 +54,7 @@ takes_numbers kind.String = false
 takes_numbers kind.Binary = false
 takes_numbers kind.Date = true
 
+-- whether a value of this kind is spelled by a string
 abbrev pub takes_strings : Scalar → Bool
 takes_strings k = is_kind kind.String k || is_kind kind.Binary k || is_kind kind.Date k
 
@@ -96,6 +98,7 @@ LeafFault k d fault.OutOfMemory = Unit {0}
 abbrev pub date_json : ℤ → Data
 date_json n = if has_text n then string (day_text n) else number (of_integer n)
 
+-- a single value as JSON
 abbrev pub atom_json : Atom → Data
 atom_json (bool b) = boolean b
 atom_json (int z) = number (of_integer z)

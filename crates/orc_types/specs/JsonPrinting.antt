@@ -7,6 +7,7 @@ use Rattle.orc_types.specs.Shapes.{Shape, scalar, list_of, map_of, struct_of, Fi
 use Rattle.orc_types.specs.Cells.{Cell, null, leaf, list, struct, pairs, Cells, end, more, Pairs, no_pair, pair}
 use Rattle.orc_types.specs.JsonLeaves.{atom_json}
 
+-- the elements of an array, a cell each
 abbrev pub each_json : (Cell → Data) → Cells → Items
 each_json f end = no_items
 each_json f (more c cs) = item (f c) (each_json f cs)
@@ -19,6 +20,7 @@ scalar_json (list cs) = nothing
 scalar_json (struct cs) = nothing
 scalar_json (pairs ps) = nothing
 
+-- a list as an array of its elements
 abbrev pub list_json : (Cell → Data) → Cell → Data
 list_json f null = nothing
 list_json f (leaf a) = nothing
@@ -30,10 +32,12 @@ list_json f (pairs ps) = nothing
 abbrev pub pair_json : Data → Data → Data
 pair_json k v = array (item k (item v no_items))
 
+-- the elements of an array, a pair each
 abbrev pub pairs_json : (Cell → Data) → (Cell → Data) → Pairs → Items
 pairs_json f g no_pair = no_items
 pairs_json f g (pair k v ps) = item (pair_json (f k) (g v)) (pairs_json f g ps)
 
+-- a map as an array of its pairs
 abbrev pub map_json : (Cell → Data) → (Cell → Data) → Cell → Data
 map_json f g null = nothing
 map_json f g (leaf a) = nothing
@@ -41,6 +45,7 @@ map_json f g (list cs) = nothing
 map_json f g (struct cs) = nothing
 map_json f g (pairs ps) = array (pairs_json f g ps)
 
+-- a struct as an object of its fields
 abbrev pub struct_json : (Cells → Members) → Cell → Data
 struct_json f null = nothing
 struct_json f (leaf a) = nothing
@@ -67,6 +72,7 @@ abbrev pub IsBelow : List ℕ → Members → Type 0
 IsBelow k no_members = Unit {0}
 IsBelow k (member l d ms) = is_lt (slice_cmp nat_cmp k l) ≡ true
 
+-- an object's keys in ascending order
 abbrev pub AreInOrder : Members → Type 0
 AreInOrder no_members = Unit {0}
 AreInOrder (member k d ms) = IsBelow k ms × AreInOrder ms

@@ -23,6 +23,7 @@ abbrev pub MemberSpells : (Data → Cell → Type 0) → Option Data → Cell �
 MemberSpells Is None c = c ≡ null
 MemberSpells Is (Some d) c = Is d c
 
+-- an array spells a list, element by element
 abbrev pub ArraySpells : (Data → Cell → Type 0) → Data → Cell → Type 0
 ArraySpells Is d c = (ds : Items) × (cs : Cells) × (d ≡ array ds) × (c ≡ list cs) × EachSpells Is ds cs
 
@@ -31,12 +32,14 @@ abbrev pub PairSpells : (Data → Cell → Type 0) → (Data → Cell → Type 0
 PairSpells IsKey IsValue d k v =
     (x : Data) × (y : Data) × (d ≡ array (item x (item y no_items))) × IsKey x k × IsValue y v
 
+-- elements of an array spell pairs, one by one
 abbrev pub PairsSpell : (Data → Cell → Type 0) → (Data → Cell → Type 0) → Items → Pairs → Type 0
 PairsSpell IsKey IsValue no_items no_pair = Unit {0}
 PairsSpell IsKey IsValue no_items (pair k v ps) = ⊥
 PairsSpell IsKey IsValue (item d ds) no_pair = ⊥
 PairsSpell IsKey IsValue (item d ds) (pair k v ps) = PairSpells IsKey IsValue d k v × PairsSpell IsKey IsValue ds ps
 
+-- an array of pairs spells a map
 abbrev pub MapSpells : (Data → Cell → Type 0) → (Data → Cell → Type 0) → Data → Cell → Type 0
 MapSpells IsKey IsValue d c =
     (ds : Items) × (ps : Pairs) × (d ≡ array ds) × (c ≡ pairs ps) × PairsSpell IsKey IsValue ds ps

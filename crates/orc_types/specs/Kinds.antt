@@ -18,12 +18,15 @@ number kind.Date = 15
 abbrev pub is_kind : Scalar → Scalar → Bool
 is_kind j k = number j == number k
 
+-- the number of LIST among the kinds of types
 abbrev pub list_number : ℕ
 list_number = 10
 
+-- the number of MAP among the kinds of types
 abbrev pub map_number : ℕ
 map_number = 11
 
+-- the number of STRUCT among the kinds of types
 abbrev pub struct_number : ℕ
 struct_number = 12
 

@@ -3,6 +3,7 @@ use Rattle.std.specs.Prelude.{ℕ, List, [], ◌∷◌, ◌+◌, Option, None, S
 use Rattle.serde_json.specs.Data.{Data}
 use Rattle.serde_json.specs.Find.{get}
 
+-- one where there is something
 abbrev pub one_if_some : Option Data → ℕ
 one_if_some None = 0
 one_if_some (Some d) = 1

@@ -7,6 +7,7 @@ use Rattle.orc_types.specs.Childless.{list_of_size, map_of_size, childless_struc
 use Rattle.orc_types.specs.declared.own.Own.{Own}
 use Rattle.orc_types.specs.declared.own.Own.TheVariants as own
 
+-- the cell that a column says of its own: of a list or a map its size, of a struct that it is there
 abbrev pub own_cell : Own → Cell
 own_cell own.Null = null
 own_cell (own.Bool b) = leaf (bool b)

@@ -8,6 +8,7 @@ use Rattle.orc_types.specs.declared.kind.Scalar.TheVariants as kind
 use Rattle.orc_types.specs.Shapes.{Shape, scalar, list_of, map_of, struct_of, Fields, no_field, field}
 use Rattle.orc_types.specs.Schemas.{IsSchema}
 
+-- the name of a kind in a schema's text
 abbrev pub kind_name : Scalar → List ℕ
 kind_name kind.Boolean = codes "boolean"
 kind_name kind.Byte = codes "tinyint"
@@ -23,6 +24,7 @@ abbrev pub comma : Bool → List ℕ
 comma true = []
 comma false = codes ","
 
+-- what stands between a field's name and its type
 abbrev pub colon : List ℕ
 colon = codes ":"
 
@@ -42,6 +44,7 @@ abbrev mutual
 unfoldable pub is_word : ℕ → Bool
 is_word b = is_ascii_alphanumeric b || b == 95
 
+-- each byte may stand in a name
 abbrev pub AreWords : List ℕ → Type 0
 AreWords bytes = AllByRecursion (λ b. is_word b ≡ true) bytes
 

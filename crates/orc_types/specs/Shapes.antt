@@ -54,12 +54,14 @@ abbrev mutual
   HaveTextNames no_field = Unit {0}
   HaveTextNames (field name s fs) = (is_utf8 name ≡ true) × HasTextNames s × HaveTextNames fs
 
+-- a shape that is a struct
 abbrev pub IsStruct : Shape → Type 0
 IsStruct (scalar k o) = ⊥
 IsStruct (list_of s o) = ⊥
 IsStruct (map_of k v o) = ⊥
 IsStruct (struct_of fs o) = Unit {0}
 
+-- the names of fields, in order
 abbrev pub names_of : Fields → List (List ℕ)
 names_of no_field = []
 names_of (field name s fs) = name ∷ names_of fs

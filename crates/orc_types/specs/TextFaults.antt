@@ -5,6 +5,7 @@ use Rattle.orc_types.specs.SchemaText.{text, fields_text, comma, colon, IsName, 
 use Rattle.orc_types.specs.declared.fault.TypeFault.{TypeFault}
 use Rattle.orc_types.specs.declared.fault.TypeFault.TheVariants as fault
 
+-- whether there are no fields
 abbrev pub is_empty : Fields → Bool
 is_empty no_field = true
 is_empty (field name s fs) = false

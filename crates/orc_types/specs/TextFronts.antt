@@ -30,6 +30,7 @@ pub record IsFieldsFront (bytes : List ℕ) (levels : ℕ) (fs : Fields) (rest :
 abbrev pub NoFront : List ℕ → Type 0
 NoFront bytes = (s : Shape) (rest : List ℕ) → IsPlain s → bytes ≡ text s ++ rest → ⊥
 
+-- no field's text stands in front of these bytes
 abbrev pub NoFieldFront : List ℕ → Bool → Type 0
 NoFieldFront bytes first =
     (name : List ℕ) (s : Shape) (rest : List ℕ)
@@ -38,6 +39,7 @@ NoFieldFront bytes first =
     → bytes ≡ comma first ++ (name ++ (colon ++ (text s ++ rest)))
     → ⊥
 
+-- no list of fields, to its closing bracket, stands in front of these bytes
 abbrev pub NoFieldsFront : List ℕ → Bool → Type 0
 NoFieldsFront bytes first =
     (fs : Fields) (rest : List ℕ) → ArePlain fs → bytes ≡ fields_text first fs ++ (codes ">" ++ rest) → ⊥

@@ -11,19 +11,23 @@ use Rattle.orc_types.specs.declared.value.Value.{Value, fold-Value}
 use Rattle.orc_types.specs.declared.value.MapPair.{MapPair, fold-MapPair}
 use Rattle.orc_types.specs.declared.value.Value.TheOpen.{Value-F, MapPair-F}
 
+-- a list of names and shapes as a struct's fields
 abbrev pub fields_of : List (List ℕ × Shape) → Fields
 fields_of [] = no_field
 fields_of (f ∷ fs) = field f.0 f.1 (fields_of fs)
 
+-- a tree's node as a shape, once those below it are
 abbrev pub shape_step : Tree-F Shape (List ℕ × Shape) → Shape
 shape_step (Tree-F.Scalar k o) = scalar k o.items
 shape_step (Tree-F.List s o) = list_of s.value o.items
 shape_step (Tree-F.Map k v o) = map_of k.value v.value o.items
 shape_step (Tree-F.Struct fs o) = struct_of (fields_of fs.items) o.items
 
+-- a field as its name and its shape
 abbrev pub field_step : Field-F Shape (List ℕ × Shape) → List ℕ × Shape
 field_step f = (string_bytes f.name, f.tree)
 
+-- the shape of a schema's tree
 abbrev pub shape : Tree → Shape
 shape = fold-Tree Shape (List ℕ × Shape) shape_step field_step
 
@@ -31,13 +35,16 @@ shape = fold-Tree Shape (List ℕ × Shape) shape_step field_step
 abbrev pub name_and_type : Field → List ℕ × Shape
 name_and_type = fold-Field Shape (List ℕ × Shape) shape_step field_step
 
+-- the fields of a struct's tree
 abbrev pub fields : List Field → Fields
 fields fs = fields_of (map name_and_type fs)
 
+-- a cell, and null where there is none
 abbrev pub or_null : Option Cell → Cell
 or_null None = null
 or_null (Some c) = c
 
+-- a value as a cell, once those in it are
 abbrev pub cell_step : Value-F Cell (Cell × Cell) → Cell
 cell_step (Value-F.Bool b) = leaf (bool b)
 cell_step (Value-F.Int n) = leaf (int n)
@@ -48,9 +55,11 @@ cell_step (Value-F.List v) = list (cells_of (map or_null v.items))
 cell_step (Value-F.Struct v) = struct (cells_of (map or_null v.items))
 cell_step (Value-F.Map v) = pairs (pairs_of v.items)
 
+-- a map's pair as two cells
 abbrev pub pair_step : MapPair-F Cell (Cell × Cell) → Cell × Cell
 pair_step p = (or_null p.key, or_null p.value)
 
+-- a value as a cell
 abbrev pub cell_of_value : Value → Cell
 cell_of_value = fold-Value Cell (Cell × Cell) cell_step pair_step
 
@@ -63,6 +72,7 @@ abbrev pub view : Option Value → Cell
 view None = null
 view (Some v) = cell_of_value v
 
+-- rows as cells
 abbrev pub views : List (Option Value) → List Cell
 views rs = map view rs
 
