@@ -15,6 +15,7 @@ use Rattle.orc_stats.specs.declared.stat.Body.{Body}
 use Rattle.orc_stats.specs.declared.stat.Body.TheVariants.{Plain, Ints, Bools, Dates, Texts, Bins, Children}
 use Rattle.orc_file.specs.declared.tail.Tail.{Tail}
 
+-- a number, or the word none
 abbrev pub number_or_none : Option ℕ → List ℕ
 number_or_none None = codes "none"
 number_or_none (Some n) = decimal n
@@ -28,6 +29,7 @@ version_text (n ∷ ns) = join_with_byte 46 (map decimal (n ∷ ns))
 abbrev pub name_text : List ℕ → List ℕ
 name_text bytes = if is_utf8 bytes then compact_text (string bytes) else codes "hex:" ++ encode_lower bytes
 
+-- whether there are nulls, as a word
 abbrev pub nulls_word : Option Bool → List ℕ
 nulls_word None = codes "unknown"
 nulls_word (Some true) = codes "yes"
@@ -38,6 +40,7 @@ abbrev pub known : {A : Type 0} → List ℕ → (A → List ℕ) → Option A �
 known name of None = []
 known name of (Some x) = 32 ∷ (name ++ 32 ∷ of x)
 
+-- what a statistic tells by its kind
 abbrev pub body_text : Body → List ℕ
 body_text Plain = []
 body_text (Ints least greatest sum) =
@@ -57,6 +60,7 @@ body_text (Children least greatest total) =
 abbrev pub pair_line : UserMetadataItem → List ℕ
 pair_line pair = codes "meta " ++ (name_text pair.name ++ 32 ∷ (encode_lower pair.value ++ 10 ∷ []))
 
+-- a stripe's line: where it is and how long its parts are
 abbrev pub stripe_line : ℕ → StripeInfo → List ℕ
 stripe_line n s =
     codes "stripe " ++ (decimal n
@@ -66,6 +70,7 @@ stripe_line n s =
     ++ (codes " footer " ++ (decimal s.footer_length
     ++ (codes " rows " ++ (decimal s.number_of_rows ++ 10 ∷ [])))))))))))
 
+-- a column's line: how many values, whether nulls, what its statistic tells
 abbrev pub column_line : ℕ → Stat → List ℕ
 column_line n s =
     codes "column " ++ (decimal n

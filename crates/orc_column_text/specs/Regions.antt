@@ -41,6 +41,7 @@ AreColumnsOf (field name s fs) before (x ∷ xs) =
 abbrev pub member_of : FieldColumns → ℕ
 member_of x = x.member
 
+-- each member's place is that of the field which names it
 abbrev pub AreMembersOf : List FieldColumns → ℕ → List Part → Type 0
 AreMembersOf xs index [] = Unit {0}
 AreMembersOf xs index (p ∷ ps) = (slice_get (map member_of xs) p.place ≡ Some index) × AreMembersOf xs (suc index) ps

@@ -31,6 +31,7 @@ IsTable (number_runs version sign stream) (table.Runs places) = ArePlaces (is_ru
 abbrev pub HasFew : {A : Type 0} → (List ℕ → List A → Type 0) → List ℕ → Type 0
 HasFew {A = A} is_run stream = (values : List A) × IsStream is_run stream values × (length values < 2 ^ 64)
 
+-- a stream of runs with few values
 abbrev pub IsFew : RunStream → Type 0
 IsFew no_stream = Unit {0}
 IsFew (bit_runs stream) = HasFew IsByteRun stream

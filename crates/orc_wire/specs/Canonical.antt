@@ -14,6 +14,7 @@ use Rattle.orc_wire.specs.Spells.{number_in, has_number, Spells}
 
 -- ---- how a member is written
 
+-- a number that isn't in this range
 abbrev pub IsOutside : ℕ → ℕ → ℕ → Type 0
 IsOutside low high n = (n < low) ⊎ (high ≤ n)
 

@@ -11,12 +11,15 @@ payload_text (eight b) = b
 payload_text (four b) = b
 payload_text (sized b) = varint_text (length b) ++ b
 
+-- a field's text: its key, then what it carries
 abbrev pub field_text : ℕ → Payload → List ℕ
 field_text n payload = varint_text (n * 8 + wire payload) ++ payload_text payload
 
+-- a field with a number
 abbrev pub number_text : ℕ → ℕ → List ℕ
 number_text n v = field_text n (varint v)
 
+-- a field with bytes, behind their length
 abbrev pub sized_text : ℕ → List ℕ → List ℕ
 sized_text n bytes = field_text n (sized bytes)
 

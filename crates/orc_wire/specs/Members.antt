@@ -79,6 +79,7 @@ pair_steps a b item v are = elim (a.cover item v.0 are) [
 ]
 
 infixr 5 ◌and◌
+-- one member of a message, and others
 abbrev pub ◌and◌ : {V W : Type 0} → Member V → Member W → Member (V × W)
 ◌and◌ {V} {W} a b = record {
   says = λ fields v. a.says fields v.0 × b.says fields v.1;

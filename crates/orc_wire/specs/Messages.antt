@@ -22,6 +22,7 @@ use Rattle.orc_wire.specs.declared.footer.Footer.{Footer}
 use Rattle.orc_wire.specs.Members.{Member, Shape, shaped, ◌and◌}
 use Rattle.orc_wire.specs.Kinds.{number, small, signed, small_signed, flag, text, packed, message, kept_from, last, known, all, each, only}
 
+-- an encoding as its two numbers
 abbrev pub encoding_shape : Shape (ℕ × ℕ) Encoding
 encoding_shape = record {
   into = λ m. (m.kind, m.dictionary_size);
@@ -30,9 +31,11 @@ encoding_shape = record {
   here = λ p. refl;
 }
 
+-- ColumnEncoding: kind 1, dictionarySize 2
 abbrev pub encoding : Member Encoding
 encoding = shaped encoding_shape (last 0 (small 1) and last 0 (small 2))
 
+-- a stream's line in the directory as its three numbers
 abbrev pub stream_shape : Shape (ℕ × (ℕ × ℕ)) StreamMsg
 stream_shape = record {
   into = λ m. (m.kind, (m.column, m.length));
@@ -41,9 +44,11 @@ stream_shape = record {
   here = λ p. refl;
 }
 
+-- Stream: kind 1, column 2, length 3
 abbrev pub stream : Member StreamMsg
 stream = shaped stream_shape (last 0 (small 1) and last 0 (small 2) and last 0 (number 3))
 
+-- a stripe's footer as its two lists
 abbrev pub stripe_footer_shape : Shape (List StreamMsg × List Encoding) StripeFooter
 stripe_footer_shape = record {
   into = λ m. (m.streams, m.columns);
@@ -52,9 +57,11 @@ stripe_footer_shape = record {
   here = λ p. refl;
 }
 
+-- StripeFooter: streams 1, columns 2
 abbrev pub stripe_footer : Member StripeFooter
 stripe_footer = shaped stripe_footer_shape (each (message stream 1 1) and each (message encoding 1 2))
 
+-- a postscript as its parts
 abbrev pub post_script_shape : Shape (ℕ × (ℕ × (List ℕ × (ℕ × (Option ℕ × List ℕ))))) PostScript
 post_script_shape = record {
   into = λ m. (m.footer_length, (m.compression, (m.version, (m.metadata_length, (m.writer_version, m.magic)))));
@@ -70,6 +77,7 @@ post_script_shape = record {
   here = λ p. refl;
 }
 
+-- PostScript: footerLength 1, compression 2, version 4, metadataLength 5, writerVersion 6, magic 8000
 abbrev pub post_script : Member PostScript
 post_script = shaped post_script_shape
     (last 0 (number 1)
@@ -79,6 +87,7 @@ post_script = shaped post_script_shape
     and known (small 6)
     and last [] (text 8000))
 
+-- a type as its parts
 abbrev pub type_shape : Shape (ℕ × (List ℕ × (List (List ℕ) × List ℕ))) TypeMsg
 type_shape = record {
   into = λ m. (m.kind, (m.subtypes, (m.field_names, m.kept)));
@@ -87,9 +96,11 @@ type_shape = record {
   here = λ p. refl;
 }
 
+-- Type: kind 1, subtypes 2, fieldNames 3; other fields are kept as they are
 abbrev pub type_msg : Member TypeMsg
 type_msg = shaped type_shape (last 0 (small 1) and all (packed (2 ^ 32) 2) and each (text 3) and all (kept_from 4))
 
+-- a stripe's line in the footer as its five numbers
 abbrev pub stripe_info_shape : Shape (ℕ × (ℕ × (ℕ × (ℕ × ℕ)))) StripeInfo
 stripe_info_shape = record {
   into = λ m. (m.offset, (m.index_length, (m.data_length, (m.footer_length, m.number_of_rows))));
@@ -98,6 +109,7 @@ stripe_info_shape = record {
   here = λ p. refl;
 }
 
+-- StripeInformation: offset 1, indexLength 2, dataLength 3, footerLength 4, numberOfRows 5
 abbrev pub stripe_info : Member StripeInfo
 stripe_info = shaped stripe_info_shape
     (last 0 (number 1)
@@ -106,6 +118,7 @@ stripe_info = shaped stripe_info_shape
     and last 0 (number 4)
     and last 0 (number 5))
 
+-- the statistics of integers as three numbers that may be known
 abbrev pub integer_stats_shape : Shape (Option ℤ × (Option ℤ × Option ℤ)) IntegerStatistics
 integer_stats_shape = record {
   into = λ m. (m.minimum, (m.maximum, m.sum));
@@ -114,9 +127,11 @@ integer_stats_shape = record {
   here = λ p. refl;
 }
 
+-- IntegerStatistics: minimum 1, maximum 2, sum 3
 abbrev pub integer_stats : Member IntegerStatistics
 integer_stats = shaped integer_stats_shape (known (signed 1) and known (signed 2) and known (signed 3))
 
+-- the statistics of strings as two texts and a number that may be known
 abbrev pub string_stats_shape : Shape (Option (List ℕ) × (Option (List ℕ) × Option ℤ)) StringStatistics
 string_stats_shape = record {
   into = λ m. (m.minimum, (m.maximum, m.sum));
@@ -125,9 +140,11 @@ string_stats_shape = record {
   here = λ p. refl;
 }
 
+-- StringStatistics: minimum 1, maximum 2, sum 3
 abbrev pub string_stats : Member StringStatistics
 string_stats = shaped string_stats_shape (known (text 1) and known (text 2) and known (signed 3))
 
+-- the statistics of booleans as a list of counts
 abbrev pub bucket_stats_shape : Shape (List ℕ) BucketStatistics
 bucket_stats_shape = record {
   into = λ m. m.count;
@@ -136,9 +153,11 @@ bucket_stats_shape = record {
   here = λ p. refl;
 }
 
+-- BucketStatistics: count 1
 abbrev pub bucket_stats : Member BucketStatistics
 bucket_stats = shaped bucket_stats_shape (all (packed (2 ^ 64) 1))
 
+-- the statistics of dates as two days that may be known
 abbrev pub date_stats_shape : Shape (Option ℤ × Option ℤ) DateStatistics
 date_stats_shape = record {
   into = λ m. (m.minimum, m.maximum);
@@ -147,9 +166,11 @@ date_stats_shape = record {
   here = λ p. refl;
 }
 
+-- DateStatistics: minimum 1, maximum 2
 abbrev pub date_stats : Member DateStatistics
 date_stats = shaped date_stats_shape (known (small_signed 1) and known (small_signed 2))
 
+-- the statistics of byte strings as a number that may be known
 abbrev pub binary_stats_shape : Shape (Option ℤ) BinaryStatistics
 binary_stats_shape = record {
   into = λ m. m.sum;
@@ -158,9 +179,11 @@ binary_stats_shape = record {
   here = λ p. refl;
 }
 
+-- BinaryStatistics: sum 1
 abbrev pub binary_stats : Member BinaryStatistics
 binary_stats = shaped binary_stats_shape (known (signed 1))
 
+-- the statistics of lists and maps as three numbers that may be known
 abbrev pub collection_stats_shape : Shape (Option ℕ × (Option ℕ × Option ℕ)) CollectionStatistics
 collection_stats_shape = record {
   into = λ m. (m.min_children, (m.max_children, m.total_children));
@@ -169,9 +192,11 @@ collection_stats_shape = record {
   here = λ p. refl;
 }
 
+-- CollectionStatistics: minChildren 1, maxChildren 2, totalChildren 3
 abbrev pub collection_stats : Member CollectionStatistics
 collection_stats = shaped collection_stats_shape (known (number 1) and known (number 2) and known (number 3))
 
+-- a column's statistics as their parts
 abbrev pub column_stats_shape : Shape (ℕ × (Option IntegerStatistics × (Option StringStatistics ×
     (Option BucketStatistics × (Option DateStatistics × (Option BinaryStatistics × (Option Bool × Option CollectionStatistics))))))) ColumnStats
 column_stats_shape = record {
@@ -191,6 +216,7 @@ column_stats_shape = record {
   here = λ p. refl;
 }
 
+-- ColumnStatistics, with one of the statistics above by the column's kind
 abbrev pub column_stats : Member ColumnStats
 column_stats = shaped column_stats_shape
     (last 0 (number 1)
@@ -202,6 +228,7 @@ column_stats = shaped column_stats_shape
     and known (flag 10)
     and only collection_stats 0 12)
 
+-- a stripe's statistics as those of its columns
 abbrev pub stripe_stats_shape : Shape (List ColumnStats) StripeStatistics
 stripe_stats_shape = record {
   into = λ m. m.col_stats;
@@ -210,9 +237,11 @@ stripe_stats_shape = record {
   here = λ p. refl;
 }
 
+-- StripeStatistics: colStats 1
 abbrev pub stripe_stats : Member StripeStatistics
 stripe_stats = shaped stripe_stats_shape (each (message column_stats 0 1))
 
+-- the metadata as the statistics of stripes
 abbrev pub metadata_shape : Shape (List StripeStatistics) Metadata
 metadata_shape = record {
   into = λ m. m.stripe_stats;
@@ -221,9 +250,11 @@ metadata_shape = record {
   here = λ p. refl;
 }
 
+-- Metadata: stripeStats 1
 abbrev pub metadata : Member Metadata
 metadata = shaped metadata_shape (each (message stripe_stats 0 1))
 
+-- an entry of a row index as its positions and its statistics
 abbrev pub row_index_entry_shape : Shape (List ℕ × Option ColumnStats) RowIndexEntry
 row_index_entry_shape = record {
   into = λ m. (m.positions, m.statistics);
@@ -232,9 +263,11 @@ row_index_entry_shape = record {
   here = λ p. refl;
 }
 
+-- RowIndexEntry: positions 1, statistics 2
 abbrev pub row_index_entry : Member RowIndexEntry
 row_index_entry = shaped row_index_entry_shape (all (packed (2 ^ 64) 1) and only column_stats 0 2)
 
+-- a row index as its entries
 abbrev pub row_index_shape : Shape (List RowIndexEntry) RowIndexMsg
 row_index_shape = record {
   into = λ m. m.entries;
@@ -243,9 +276,11 @@ row_index_shape = record {
   here = λ p. refl;
 }
 
+-- RowIndex: entry 1
 abbrev pub row_index : Member RowIndexMsg
 row_index = shaped row_index_shape (each (message row_index_entry 0 1))
 
+-- a pair of user metadata as its name and its value
 abbrev pub user_metadata_shape : Shape (List ℕ × List ℕ) UserMetadataItem
 user_metadata_shape = record {
   into = λ m. (m.name, m.value);
@@ -254,9 +289,11 @@ user_metadata_shape = record {
   here = λ p. refl;
 }
 
+-- UserMetadataItem: name 1, value 2
 abbrev pub user_metadata : Member UserMetadataItem
 user_metadata = shaped user_metadata_shape (last [] (text 1) and last [] (text 2))
 
+-- a footer as its parts
 abbrev pub footer_shape : Shape (ℕ × (ℕ × (List StripeInfo × (List TypeMsg × (List UserMetadataItem ×
     (ℕ × (List ColumnStats × (ℕ × (Option ℕ × List ℕ))))))))) Footer
 footer_shape = record {
@@ -278,6 +315,8 @@ footer_shape = record {
   here = λ p. refl;
 }
 
+-- Footer: headerLength 1, contentLength 2, stripes 3, types 4, metadata 5, numberOfRows 6, statistics 7,
+-- rowIndexStride 8, writer 9; other fields are kept as they are
 abbrev pub footer : Member Footer
 footer = shaped footer_shape
     (last 0 (number 1)

@@ -25,6 +25,7 @@ AreVarints limit (n ∷ ns) bytes =
     × (bytes ≡ front ++ rest)
     × AreVarints limit ns rest
 
+-- in front stands a varint of a number beyond the limit
 pub record IsLargeVarint (limit : ℕ) (bytes : List ℕ) : Type 0 where
   pub front : List ℕ
   pub rest : List ℕ
@@ -39,6 +40,7 @@ FailsNext limit bytes place fault =
     ((bytes ≡ [] → ⊥) × (why : BitFault) × NoVarint bytes why × (fault ≡ fault_at place why))
     ⊎ (IsLargeVarint limit bytes × (fault ≡ ValueRange place))
 
+-- behind some varints something fails
 pub record FailsWithin (limit : ℕ) (bytes : List ℕ) (place : ℕ) (fault : WireFault) : Type 0 where
   pub values : List ℕ
   pub front : List ℕ
@@ -60,6 +62,7 @@ PackedPart limit (eight b) ns = ns ≡ []
 PackedPart limit (four b) ns = ns ≡ []
 PackedPart limit (sized b) ns = AreVarints limit ns b
 
+-- why what a field carries is no number or list of numbers below the limit
 abbrev pub PackedFails : ℕ → Payload → ℕ → WireFault → Type 0
 PackedFails limit (varint v) place fault = (limit ≤ v) × (fault ≡ ValueRange place)
 PackedFails limit (eight b) place fault = ⊥
