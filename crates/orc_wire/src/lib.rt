@@ -17,6 +17,7 @@ mod laws;
 mod lists;
 mod members;
 mod message;
+mod payload;
 mod post_script;
 mod row_index;
 mod stats_records;

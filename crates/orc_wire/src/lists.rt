@@ -8,7 +8,7 @@ ghost use Rattle.orc_wire.specs.Kinds.{text, packed, kept_from, last, known, all
 use crate::fault::{WireFault, fault_of};
 use crate::field::{Field, Value};
 use crate::items::{Bytes, Items};
-use orc_bits::read_varint;
+use crate::payload::front_varint;
 use std::alloc::Global;
 
 /// The last text, or none of its bytes.
@@ -59,7 +59,7 @@ fn take_varints(slot: &mut Items<u32>, bytes: &[u8], place: usize) -> Result<(),
     let mut at = 0;
     while at < bytes.len() {
         let (_, rest) = bytes.split_at(at);
-        let (value, len) = match read_varint(rest) {
+        let (value, len) = match front_varint(rest) {
             Ok(found) => found,
             Err(fault) => return Err(fault_of(fault, place)),
         };
@@ -121,7 +121,7 @@ fn take_wide_varints(slot: &mut Items<u64>, bytes: &[u8], place: usize) -> Resul
     let mut at = 0;
     while at < bytes.len() {
         let (_, rest) = bytes.split_at(at);
-        let (value, len) = match read_varint(rest) {
+        let (value, len) = match front_varint(rest) {
             Ok(found) => found,
             Err(fault) => return Err(fault_of(fault, place)),
         };
