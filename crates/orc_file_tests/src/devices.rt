@@ -6,9 +6,12 @@ use orc_io::{
 };
 use orc_test_io::{FailSink, FailSource, Full, Narrow};
 use std::alloc::{AllocError, Global};
+use std::fs::File;
+use std::io::Write;
 use std::path::PathBuf;
 use std::process::Abort;
 use std::test::Fail;
+use std::time::{Duration, SystemTime};
 use std::{env, fs, io, process};
 
 /// Some bytes, no two of them alike.
@@ -259,14 +262,38 @@ fn is_read<S: Source>(alloc: Global, source: &mut S) -> bool {
 /// `BYTES` and one more.
 const LONGER: [u8; 12] = [0x4f, 0x52, 0x43, 0, 1, 2, 0x80, 0xfe, 0xff, 7, 3, 0];
 
-/// How many bytes a file of eleven has then, and whether it is read.
-const LENGTHS: [(usize, bool); 5] = [(11, true), (12, true), (10, false), (3, false), (11, true)];
+/// How many bytes a file has then, in which second after 1970 it was changed last, and whether it is read where it was
+/// found with eleven, changed last in the fifth.
+const CHANGES: [(usize, u64, bool); 8] = [
+    (11, 5, true),
+    (12, 5, false),
+    (10, 5, false),
+    (11, 6, false),
+    (11, 4, false),
+    (3, 5, false),
+    (12, 7, false),
+    (11, 5, true),
+];
 
-/// Whether a source that had eleven bytes is read from the front where its file has so many now.
-fn check_len<S: Source>(rt: &impl Abort, alloc: Global, source: &mut S, len: u64, wanted: bool) {
+/// Writes so many bytes to the file of that path, as if it were changed last in that second.
+fn put_file(rt: &HostRuntime, path: &PathBuf, len: usize, second: u64) -> io::Result<()> {
+    let mut file = File::create(rt, path.as_path())?;
+    file.write_all(&LONGER[..len.min(12)])?;
+    let time = SystemTime::UNIX_EPOCH.checked_add(Duration::from_secs(second));
+    file.set_modified(time.unwrap_or(SystemTime::UNIX_EPOCH))
+}
+
+/// Whether a source that had eleven bytes is read from the front where its file was changed so.
+fn check_change<S: Source>(
+    rt: &impl Abort,
+    alloc: Global,
+    source: &mut S,
+    change: [u64; 2],
+    wanted: bool,
+) {
     let is_read = is_read(alloc, source);
-    check_same(rt, &is_read, &wanted, "of so many bytes", &[len]);
-    check_same(rt, &source.len(), &11, "of so many bytes", &[len]);
+    check_same(rt, &is_read, &wanted, "bytes, second", &change);
+    check_same(rt, &source.len(), &11, "bytes, second", &change);
 }
 
 /// What the last read kept open is still there, and after a rest the path is asked again.
@@ -277,19 +304,36 @@ fn check_removed<S: Source>(rt: &impl Abort, alloc: Global, source: &mut S) {
 }
 
 #[test]
-fn files_that_change_are_read_or_refused(rt: HostRuntime) -> Result<(), Fail> {
+fn files_that_change_are_refused(rt: HostRuntime) -> Result<(), Fail> {
     let path = made_path(&rt, "changed")?;
-    fs::write(&rt, path.as_path(), &BYTES)?;
+    put_file(&rt, &path, 11, 5)?;
     let mut source = FileSource::open(&rt, path.as_str())
         .ok()
         .ok_or("not opened")?;
-    for (len, wanted) in LENGTHS {
-        fs::write(&rt, path.as_path(), &LONGER[..len.min(12)])?;
-        check_len(&rt, rt.alloc(), &mut source, len as u64, wanted);
+    for (len, second, wanted) in CHANGES {
+        put_file(&rt, &path, len, second)?;
+        check_change(&rt, rt.alloc(), &mut source, [len as u64, second], wanted);
     }
     fs::remove_file(&rt, path.as_path())?;
     check_removed(&rt, rt.alloc(), &mut source);
     let opened = FileSource::open(&rt, path.as_str()).is_ok();
     demand(&rt, !opened, "no file", &[]);
+    Ok(())
+}
+
+#[test]
+fn files_put_in_place_of_others_are_refused(rt: HostRuntime) -> Result<(), Fail> {
+    let path = made_path(&rt, "replaced")?;
+    put_file(&rt, &path, 11, 5)?;
+    let mut source = FileSource::open(&rt, path.as_str())
+        .ok()
+        .ok_or("not opened")?;
+    for (len, second, wanted) in CHANGES {
+        source.rest();
+        fs::remove_file(&rt, path.as_path())?;
+        put_file(&rt, &path, len, second)?;
+        check_change(&rt, rt.alloc(), &mut source, [len as u64, second], wanted);
+    }
+    fs::remove_file(&rt, path.as_path())?;
     Ok(())
 }

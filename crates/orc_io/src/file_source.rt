@@ -1,29 +1,30 @@
 //! A file of the system as a source.
-ghost use Rattle.std.specs.Prelude.{◌≡◌, None, IfOk};
+ghost use Rattle.std.specs.Prelude.{◌≡◌, ◌↔◌, None, IfOk, IsTrue};
 
 use crate::failures::Failures;
 use crate::source::{Source, SourceFault};
-use std::fs::File;
+use std::fs::{File, Metadata};
 use std::io;
 use std::os::unix::fs::FileExt;
 use std::rt::Files;
+use std::time::SystemTime;
 
-/// A file of the system, up to the length that it had when it was found. It tells nothing of its bytes. The file
-/// stays open from a read to the next rest alone, so that there may be more sources than a process may have open
-/// files.
+/// A file of the system, as long as it has the length and the time of its last change that it had when it was found:
+/// once it has others, each read fails. It tells nothing of its bytes. The file stays open from a read to the next
+/// rest alone, so that there may be more sources than a process may have open files.
 #[derive(Drop)]
 pub struct FileSource<'a, R: Files<File = File>> {
     files: &'a R,
     path: &'a str,
     len: u64,
+    modified: Option<SystemTime>,
     kept: Option<File>,
     failures: Failures,
 }
 
-/// The length that the file of that path has now.
-fn length_of<R: Files<File = File>>(files: &R, path: &str) -> io::Result<u64> {
-    let metadata = File::open(files, path)?.metadata()?;
-    Ok(metadata.len())
+/// What the system says now of the file of that path.
+fn metadata_of<R: Files<File = File>>(files: &R, path: &str) -> io::Result<Metadata> {
+    File::open(files, path)?.metadata()
 }
 
 impl<'a, R: Files<File = File>> FileSource<'a, R> {
@@ -34,11 +35,12 @@ impl<'a, R: Files<File = File>> FileSource<'a, R> {
         ensures path { IfOk result (λ source. source.path.now ≡ path.now) }
         ensures fresh { IfOk result (λ source. source.failures ≡ 0) }
     {
-        match length_of(files, path) {
-            Ok(len) => Ok(FileSource {
+        match metadata_of(files, path) {
+            Ok(metadata) => Ok(FileSource {
                 files,
                 path,
-                len,
+                len: metadata.len(),
+                modified: metadata.modified().ok(),
                 kept: None,
                 failures: Failures::new(),
             }),
@@ -49,6 +51,7 @@ impl<'a, R: Files<File = File>> FileSource<'a, R> {
     /// The file that an earlier read kept, or the file of the path, opened again.
     fn take_file(&mut self) -> io::Result<File>
         ensures len { self.new.len ≡ self.old.len }
+        ensures modified { self.new.modified ≡ self.old.modified }
         ensures failures { self.new.failures ≡ self.old.failures }
     {
         match self.kept.take() {
@@ -57,15 +60,24 @@ impl<'a, R: Files<File = File>> FileSource<'a, R> {
         }
     }
 
-    /// Fills the slice, and keeps the file for the next read. A file that is shorter by now is an error, also where
+    /// Whether a file of that length, changed last at that time, is the one that was found, as far as these tell.
+    fn is_unchanged(&self, len: u64, modified: Option<SystemTime>) -> bool
+        ensures same { IsTrue result ↔ ((len ≡ self.now.len) × (modified ≡ self.now.modified)) }
+    {
+        len == self.len && modified == self.modified
+    }
+
+    /// Fills the slice, and keeps the file for the next read. A file that has changed by now is an error, also where
     /// the range still lies within it.
     fn read_and_keep(&mut self, at: u64, into: &mut [u8]) -> io::Result<()>
         ensures len { self.new.len ≡ self.old.len }
+        ensures modified { self.new.modified ≡ self.old.modified }
         ensures failures { self.new.failures ≡ self.old.failures }
     {
         let file = self.take_file()?;
-        if file.metadata()?.len() < self.len {
-            return Err(io::Error::from(io::ErrorKind::UnexpectedEof));
+        let metadata = file.metadata()?;
+        if !self.is_unchanged(metadata.len(), metadata.modified().ok()) {
+            return Err(io::Error::from(io::ErrorKind::InvalidData));
         }
         file.read_exact_at(into, at)?;
         self.kept = Some(file);
@@ -96,6 +108,7 @@ impl<R: Files<File = File>> Source for FileSource<'_, R> {
 
     fn rest(&mut self)
         ensures len { self.new.len ≡ self.old.len }
+        ensures modified { self.new.modified ≡ self.old.modified }
         ensures failures { self.new.failures ≡ self.old.failures }
     {
         self.kept = None;

@@ -1,5 +1,5 @@
 //! A vector as a sink.
-ghost use Rattle.std.specs.Prelude.{◌≡◌, ◌+◌, ◌<◌, length, [], ◌++◌, Some, IfOk, OnErr, vec_len, vec_capacity, is_ok, if◌then◌else◌};
+ghost use Rattle.std.specs.Prelude.{◌≡◌, ◌+◌, ◌<◌, ◌≤◌, length, [], ◌++◌, Some, IfOk, IsOk, OnErr, vec_len, vec_capacity, is_ok, if◌then◌else◌};
 ghost use Rattle.orc_io.specs.Devices.{failures_after};
 
 use crate::failures::Failures;
@@ -7,7 +7,7 @@ use crate::sink::{Sink, SinkFault};
 use std::alloc::Global;
 
 /// Bytes that are gathered in memory. It tells them, takes every slice whole, and fails only where its vector
-/// wasn't given the room that it lacked.
+/// lacked the room and wasn't given it. Where the room is there, no write fails, and none gives room back.
 #[derive(Drop)]
 pub struct VecSink {
     bytes: Vec<u8>,
@@ -45,6 +45,8 @@ impl Sink for VecSink {
             ≡ (if is_ok result then self.old.bytes.items ++ bytes.now else self.old.bytes.items) }
         ensures failures { self.new.failures ≡ failures_after result self.old.failures }
         ensures full { OnErr result (vec_capacity self.old.bytes < vec_len self.old.bytes + length bytes.now) }
+        ensures succeeds { vec_len self.old.bytes + length bytes.now ≤ vec_capacity self.old.bytes → IsOk result }
+        ensures capacity { vec_capacity self.old.bytes ≤ vec_capacity self.new.bytes }
     {
         match self.bytes.extend_from_slice(bytes) {
             Ok(()) => Ok(bytes.len()),
