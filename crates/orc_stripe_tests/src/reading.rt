@@ -16,6 +16,7 @@ mod cursors;
 mod encodings;
 mod hostile;
 mod maps;
+mod page;
 mod run_faults;
 mod shapes;
 mod skipped;

@@ -27,6 +27,7 @@ fn demand<C: fmt::Debug, E: Drop>(rt: &impl Abort, held: Result<bool, E>, case: 
 
 mod json_leaves;
 mod json_rows;
+mod page;
 mod parts;
 mod refused;
 mod rows;
