@@ -93,6 +93,14 @@ pub struct_prints : (t : Tree) (fs : Vec Field Global) (o : Vec ℕ Global) (r :
 struct_prints t fs o r v rows m it is at h = view-Object m ∙ ap object h ∙ rw (it, is, at, shape-Struct fs o, view-Struct rows) refl
 
 -- one more array of two
+pub rows_more : (f : Cell → Data) (rs : List (Option Value)) (i : ℕ) (r : Option Value) (js : List Json) (j : Json) → i < length rs → r ≡ get_or rs i r → json_view j ≡ f (view r)
+    → map json_view js ≡ map f (views (take i rs)) → map json_view (js ++ j ∷ []) ≡ map f (views (take (suc i) rs))
+rows_more f rs i r js j h is one so_far =
+    let ends : take (suc i) rs ≡ take i rs ++ r ∷ [] = take-suc rs i r h ∙ ap (λ x. take i rs ++ x ∷ []) (sym is) in
+    let all : map f (views (take (suc i) rs)) ≡ map f (views (take i rs)) ++ f (view r) ∷ [] =
+    ap (λ xs. map f (views xs)) ends ∙ ap (map f) (map-append view (take i rs) (r ∷ [])) ∙ map-append f (views (take i rs)) (view r ∷ []) in
+    map-append json_view js (j ∷ []) ∙ ap (λ x. map json_view js ++ x ∷ []) one ∙ ap (λ xs. xs ++ f (view r) ∷ []) so_far ∙ sym all
+
 pub pairs_more : (f : Cell × Cell → Data) (ps : List MapPair) (i : ℕ) (p : MapPair) (js : List Json) (j : Json) → i < length ps → p ≡ get_or ps i p → json_view j ≡ f (view p.key, view p.value)
     → map json_view js ≡ map f (map paired (take i ps)) → map json_view (js ++ j ∷ []) ≡ map f (map paired (take (suc i) ps))
 pairs_more f ps i p js j h is one so_far =

@@ -1,6 +1,8 @@
 pub mod Views
 pub mod Childless
 pub mod ByColumn
+pub mod Lending
+pub mod Copied
 pub mod Trees
 pub mod Exclusion
 pub mod Decisions

@@ -502,11 +502,16 @@ struct_fault ts n d y fault.OutOfMemory p at is bad = tt
 
 -- ---- a schema's list
 
+-- the kind of the first type
+first_kind : (ts : List TypeMsg) (x y : TypeMsg) (rest : List TypeMsg) → ts ≡ x ∷ rest → slice_get ts 0 ≡ Some y → x.kind ≡ y.kind
+first_kind [] x y rest e g = cc
+first_kind (z ∷ ts) x y rest e g = let one = same_head z x ts rest e in let two : z ≡ y = cc in sym one.kind ∙ ap (λ (t : TypeMsg). t.kind) two
+
 struct_root : (s : Shape) (ts : List TypeMsg) (y : TypeMsg) (rest : List TypeMsg) → ts ≡ types s 0 ++ rest → slice_get ts 0 ≡ Some y → y.kind ≡ 12 → IsStruct s
 struct_root (struct_of fs o) ts y rest e g k = tt
-struct_root (list_of t o) ts y rest e g k = cc
-struct_root (map_of t u o) ts y rest e g k = cc
-struct_root (scalar j o) ts y rest e g k = (let same : number j ≡ 12 = cc in absurd (not_struct j same))
+struct_root (list_of t o) ts y rest e g k = let n : ◌≡◌ {A = ℕ} 10 12 = first_kind ts _ y _ e g ∙ k in absurd (omega (arith, n))
+struct_root (map_of t u o) ts y rest e g k = let n : ◌≡◌ {A = ℕ} 11 12 = first_kind ts _ y _ e g ∙ k in absurd (omega (arith, n))
+struct_root (scalar j o) ts y rest e g k = absurd (not_struct j (first_kind ts _ y _ e g ∙ k))
 
 whole_list : (ts : List TypeMsg) (e : ℕ) (s : Shape) → Found ts 0 32 s e → e ≡ length ts → ts ≡ types s 0
 whole_list ts e s found l = found.stands ∙ ap (λ r. types s 0 ++ r) (drop_all e ts (omega arith)) ∙ append-nil (types s 0)

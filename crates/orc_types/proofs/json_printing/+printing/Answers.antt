@@ -7,7 +7,7 @@ use Rattle.orc_types.specs.Views.{view, views, paired, shape, fields as fields_v
 use Rattle.orc_types.specs.JsonPrinting as spec
 use Rattle.orc_types.proofs.Views.{shape-List, shape-Struct}
 use Rattle.orc_types.proofs.ByColumn.{width_within}
-use Rattle.orc_types.proofs.JsonPrints.{pair_fits, map_prints, pairs_more, members_more, list_prints, struct_prints, list_fits, struct_fits, element_fits, member_fits, as_many}
+use Rattle.orc_types.proofs.JsonPrints.{pair_fits, map_prints, rows_more, pairs_more, members_more, list_prints, struct_prints, list_fits, struct_fits, element_fits, member_fits, as_many}
 use Rattle.orc_types.proofs.json_printing.+printing.Goals as goal
 
 pub array_of-json_of-requires : goal.array_of-json_of-requires
@@ -77,3 +77,8 @@ pairs_to-loop-pair-preserved t c =
     let one : json_view c.in_ok-two.field-0 ≡ f (view c.pair-item.result.key, view c.pair-item.result.value) =
     c.in_ok-two.ensures ∙ ap (λ x. spec.pair_json x (json_view c.in_ok-second.second)) c.in_ok-first.ensures ∙ ap (λ x. spec.pair_json (spec.json_of s (view c.pair-item.result.key)) x) c.in_ok-second.ensures in
     rw (c.in_ok-push.ensures.items, add-one) (pairs_more f c.deref-pair-items.result.now c.loop-pair.pair-index c.pair-item.result c.loop-pair.array.items c.in_ok-two.field-0 c.loop-pair-test.true c.pair-item.is one c.loop-pair.invariant)
+
+pub array_of-loop-row-preserved : goal.array_of-loop-row-preserved
+array_of-loop-row-preserved t c =
+    rw (c.in_ok-push.ensures.items, add-one)
+    (rows_more (spec.json_of (shape c.args.tree.now)) c.deref-row-items.result.now c.loop-row.row-index c.row-item.result c.loop-row.array.items c.in_ok-json_of.field-0 c.loop-row-test.true c.row-item.is c.in_ok-json_of.ensures c.loop-row.invariant)
