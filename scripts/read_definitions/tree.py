@@ -47,19 +47,25 @@ class Tree:
     def find(self, module, name):
         """Returns what a name of a module stands for: an item, a type of Rust, or nothing where it is the kit's or a proof's."""
         crate, _, rest = module.partition(".")
-        if crate not in self.crates or rest.startswith("proofs"):
-            if crate not in self.crates:
-                self.kit.add(f"{module}.{name}")
+        if crate not in self.crates:
+            self.kit.add(f"{module}.{name}")
+            return None
+        if rest.startswith("proofs"):
             return None
         if rest.startswith("specs.declared"):
             # (the last part of a module that begins with `The` stands for its variants, or for its parts)
-            words = [it for it in rest.split(".")[2:] if not it.startswith("The")]
-            return self.rust_type(crate, words[-1])
+            found = self.rust_type(crate, [it for it in rest.split(".")[2:] if not it.startswith("The")][-1])
+        else:
+            file = self.module(crate, rest)
+            found = file and (file.items.get(name) or file.constructors.get(name))
+        if not found:
+            self.unknown.add(f"{module}.{name}")
+        return found
+
+    def module(self, crate, rest):
+        """Returns a crate's file of definitions by the name of its module, and nothing where there is none."""
         path = f"crates/{crate}/{rest.replace('.', '/')}.antt"
-        if not os.path.isfile(f"{ROOT}/{path}"):
-            return None
-        file = self.definitions(path)
-        return file.items.get(name) or file.constructors.get(name)
+        return self.definitions(path) if os.path.isfile(f"{ROOT}/{path}") else None
 
     def look(self, names, file, word):
         """Returns what a word stands for, by the names that a file brings and those that stand in it: items, one or two."""
@@ -95,8 +101,8 @@ class Tree:
             crate, _, rest = module.partition(".")
             if crate not in self.crates:
                 return word in KIT_PATTERNS
-            path = f"crates/{crate}/{rest.replace('.', '/')}.antt"
-            return os.path.isfile(f"{ROOT}/{path}") and name in self.definitions(path).constructors
+            below = self.module(crate, rest)
+            return below is not None and name in below.constructors
 
         return test
 
@@ -135,15 +141,10 @@ class Tree:
         self.declared[(source.crate, name)] = item
         text = source.text
         model = re.search(rf"^impl\b[^{{]*\bModel for {name}\b[^{{]*\{{", text, re.M)
-        if model:
-            block = text[model.start() : block_end(text, model.end() - 1)]
-            value = re.search(r"ghost Value = \{", block)
-            start = model.start() + value.start()
-            end = block_end(text, start + len(value[0]) - 1)
-        else:
-            start = found.start()
-            stop = re.compile(r"[{;]").search(text, found.end())
-            end = block_end(text, stop.start()) if stop[0] == "{" else stop.end()
+        value = model and re.compile(r"ghost Value = \{").search(text, model.end())
+        start = value.start() if value else found.start()
+        stop = re.compile(r"[{;]").search(text, start)
+        end = block_end(text, stop.start()) if stop[0] == "{" else stop.end()
         part = without_bodies(text[start:end])
         first = text.count("\n", 0, start) + 1
         for at, line in enumerate(part.split("\n"), first):
