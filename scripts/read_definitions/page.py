@@ -1,4 +1,5 @@
 """docs/DEFINITIONS.md, compared with the sources."""
+import os
 import re
 import textwrap
 
@@ -20,6 +21,8 @@ def with_comment(lines, at):
 
 def quoted(tree, path, names):
     """Returns these items' text, as it stands in a file of definitions, and the items; else nothing and why."""
+    if not os.path.isfile(f"{ROOT}/crates/{path}"):
+        return None, f"there is no {path}"
     file = tree.definitions(f"crates/{path}")
     unknown = [it for it in names if it not in file.items]
     if unknown:
@@ -43,38 +46,45 @@ class Page:
         self.tree = tree
         self.text = text_of(PAGE)
         self.quoted = set()
+        # what differs: what the sources say in its place, and what only who writes the page can mend
+        self.old = []
         self.wrong = []
         self.compared = 0
 
     def compare(self, what, stands, should):
         self.compared += 1
         if stands != should:
-            self.wrong.append(what)
+            self.old.append(what)
         return should
 
+    def hold(self, what, holds):
+        self.compared += 1
+        if not holds:
+            self.wrong.append(what)
+        return holds
+
     def quote(self, found):
-        path, names = found[1], found[2].split()
-        text, items = quoted(self.tree, path, names)
-        if text is None:
-            return self.compare(f"{items}: the quote of {found[2]}", found[0], None) or found[0]
+        text, items = quoted(self.tree, found[1], found[2].split())
+        if not self.hold(f"the quote of {found[2]}: {items}", text is not None):
+            return found[0]
         self.quoted.update(items)
-        return f"```antt {path}: {found[2]}\n{self.compare(f'the quote of {found[2]}', found[3], text)}```"
+        return f"```antt {found[1]}: {found[2]}\n{self.compare(f'the quote of {found[2]}', found[3], text)}```"
 
     def quotes(self):
         return QUOTE.sub(self.quote, self.text)
 
     def sections(self, text):
-        """Puts behind each section's quotes what they rest on, and compares which promises rest on the first of them."""
+        """Puts behind each section's quotes what they rest on, and compares which promises rest on one of them."""
         return "".join(self.section(it) for it in re.split(r"(?=^### )", text, flags=re.M))
 
     def section(self, part):
-        quotes = [(f"crates/{it[1]}", it[2].split()) for it in QUOTE.finditer(part)]
-        items = [self.tree.definitions(path).items.get(name) for path, names in quotes for name in names]
-        if not items or None in items:
+        quotes = [quoted(self.tree, it[1], it[2].split()) for it in QUOTE.finditer(part)]
+        items = [it for text, found in quotes if text is not None for it in found]
+        if not items:
             return part
         for word in re.findall(r"`([^`]+)`", paragraph("Promises:", part)):
             below, why = rests_on(self.tree, [word])
-            self.compare(why or f"{word} rests on {items[0].name} or its like", not below.isdisjoint(items), True)
+            self.hold(why or f"{word} rests on {items[0].name} or its like", not below.isdisjoint(items))
         stands = paragraph("Rests on:", part)
         return part.replace(stands, self.compare(f"what {items[0].name} and its like rest on", stands, self.rests(set(items))))
 
@@ -92,9 +102,11 @@ class Page:
             if not words:
                 return found[0]
             items, why = rests_on(self.tree, words)
+            if not self.hold(why, not why):
+                return found[0]
             everything.update(items)
             should = f"{found[1]} {len(items):,} | {lines_of(items):,} | {len(by_file(items))} |"
-            return self.compare(why or f"the counts of {found[2]}", found[0], should)
+            return self.compare(f"the counts of {found[2]}", found[0], should)
 
         return ROW.sub(row, text), everything
 
@@ -131,10 +143,13 @@ def compare_page(write):
     if write:
         with open(f"{ROOT}/{PAGE}", "w", encoding="utf-8") as file:
             file.write(text)
-    page.compare(f"words that stand for nothing: {sorted(page.tree.unknown)}", page.tree.unknown, set())
+    page.hold(f"words that stand for nothing: {sorted(page.tree.unknown)}", not page.tree.unknown)
     for it in too_long(text):
-        page.compare(f"a line is too long: {it}", True, False)
-    for it in page.wrong:
+        page.hold(f"a line is too long: {it}", False)
+    for it in page.old:
         print(f"{'written anew' if write else 'differs'}: {it}")
-    print(f"{page.compared - len(page.wrong)} passed, {len(page.wrong)} failed")
-    return 0 if write or not page.wrong else 1
+    for it in page.wrong:
+        print(f"differs: {it}")
+    failed = len(page.wrong) + (0 if write else len(page.old))
+    print(f"{page.compared - failed} passed, {failed} failed")
+    return 1 if failed else 0
