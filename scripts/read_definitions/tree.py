@@ -210,11 +210,12 @@ class Tree:
         bound = set(re.findall(r"\w+", whole)) | set(re.findall(r"\bghost (\w+)", source.text)) | {"result"}
         for it in names:
             found.update(self.ghost_names(source, function.clauses[it], bound - set(source.names)))
-        text = "\n".join(function.clauses[it] for it in names)
-        return found | self.words_in(text, self.closure(found))
+        below = self.closure(found)
+        text = "\n".join([*(function.clauses[it] for it in names), *(ghost_text(it) for it in below if not it.is_trait)])
+        return found | self.words_in(text, below)
 
     def words_in(self, text, items):
-        """Returns what each `impl` outside of tests says of the ghost words that a text of clauses names of traits among these items."""
+        """Returns what each `impl` outside of tests says of the ghost words of traits among these items that a ghost text names."""
         named, found = set(re.findall(r"\w+", text)), set()
         for trait in [it for it in items if it.is_trait]:
             words = named & set(re.findall(r"\bghost (\w+)\s*:", "\n".join(trait.lines.values())))
@@ -250,6 +251,12 @@ class Tree:
                 found.add(it)
                 waiting += self.cited(it)
         return found
+
+
+def ghost_text(item):
+    """Returns what stands in the ghost fields of a type of Rust."""
+    text = "\n".join(item.lines.values())
+    return "\n".join(text[it.end() : block_end(text, it.end() - 1)] for it in re.finditer(r"\bghost \w+\s*[:=]\s*\{", text))
 
 
 def operators(names, file):
