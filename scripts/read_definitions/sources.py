@@ -94,6 +94,12 @@ def functions(source):
             yield found
 
 
+def impls_of(trait, text):
+    """Yields each `impl` of a trait in a text: what it is of, and where it begins and ends."""
+    for it in re.finditer(rf"^impl\b[^{{;]*\b{trait}(?:<[^{{;]*>)? for ([^{{;]*?)\s*\{{", text, re.M):
+        yield re.sub(r"<.*>", "", it[1]), it.start(), block_end(text, it.end() - 1)
+
+
 def owner_name(head):
     """Returns what a trait is called, or what an `impl` is of."""
     trait = re.search(r"\btrait (\w+)", head)

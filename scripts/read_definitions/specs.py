@@ -20,6 +20,8 @@ class Item:
         self.header = []
         self.within = None
         self.kind = "signature"
+        # whether it is a trait of Rust
+        self.is_trait = False
         self.cites = None
 
     def __lt__(self, other):

@@ -2,7 +2,7 @@
 import os
 import re
 
-from .sources import Source, block_end, contract, functions, rust_files
+from .sources import Source, block_end, contract, functions, impls_of, rust_files
 from .specs import Definitions, Item
 from .texts import ROOT, TOKEN, crates
 from .words import Names, free_names
@@ -23,6 +23,7 @@ class Tree:
         self.sources = {}
         self.contracts = {}
         self.declared = {}
+        self.said = {}
         self.kit = set()
         self.laws = set()
         # words that stand for nothing that was found
@@ -138,6 +139,7 @@ class Tree:
     def declare(self, source, name, found):
         """Makes an item of the type that begins at a place of a source: its lines, and what it cites as contracts see it."""
         item = Item(source.path, name, False)
+        item.is_trait = found[1] == "trait"
         self.declared[(source.crate, name)] = item
         text = source.text
         model = re.search(rf"^impl\b[^{{]*\bModel for {name}\b[^{{]*\{{", text, re.M)
@@ -208,7 +210,35 @@ class Tree:
         bound = set(re.findall(r"\w+", whole)) | set(re.findall(r"\bghost (\w+)", source.text)) | {"result"}
         for it in names:
             found.update(self.ghost_names(source, function.clauses[it], bound - set(source.names)))
+        below = self.closure(found)
+        text = "\n".join([*(function.clauses[it] for it in names), *(ghost_text(it) for it in below if not it.is_trait)])
+        return found | self.words_in(text, below)
+
+    def words_in(self, text, items):
+        """Returns what each `impl` outside of tests says of the ghost words of traits among these items that a ghost text names."""
+        named, found = set(re.findall(r"\w+", text)), set()
+        for trait in [it for it in items if it.is_trait]:
+            words = named & set(re.findall(r"\bghost (\w+)\s*:", "\n".join(trait.lines.values())))
+            for crate in [it for it in self.crates if words and not re.search("_tests$|^orc_test_", it)]:
+                for path in rust_files(crate):
+                    for owner, start, end in impls_of(trait.name, self.source(path).text):
+                        found.update(self.say(path, owner, start, end, words))
         return found
+
+    def say(self, path, owner, start, end, words):
+        """Yields what the `impl` that stands there says of these words, each as an item."""
+        source = self.source(path)
+        for it in re.finditer(r"\bghost (\w+)\s*=\s*\{", source.text[start:end]):
+            if it[1] not in words:
+                continue
+            key = (path, start, it[1])
+            if key not in self.said:
+                at, stop = start + it.start(), block_end(source.text, start + it.end() - 1)
+                item = self.said[key] = Item(path, f"{owner}.{it[1]}", False)
+                item.lines = dict(enumerate(source.text[at:stop].split("\n"), source.text.count("\n", 0, at) + 1))
+                head = set(re.findall(r"\w+", source.text[start : source.text.index("{", start)])) - set(source.names)
+                item.cites = self.ghost_names(source, source.text[start + it.end() : stop - 1], head) - {item}
+            yield self.said[key]
 
     def closure(self, items):
         """Returns these items and all that they rest on. Laws are kept apart and not followed."""
@@ -221,6 +251,12 @@ class Tree:
                 found.add(it)
                 waiting += self.cited(it)
         return found
+
+
+def ghost_text(item):
+    """Returns what stands in the ghost fields of a type of Rust."""
+    text = "\n".join(item.lines.values())
+    return "\n".join(text[it.end() : block_end(text, it.end() - 1)] for it in re.finditer(r"\bghost \w+\s*[:=]\s*\{", text))
 
 
 def operators(names, file):
