@@ -15,7 +15,7 @@ use Rattle.orc_stripe.specs.Opening as opening
 use Rattle.orc_stripe.proofs.OneStripe.{by_footer}
 use Rattle.orc_file.specs.Stripes.{stripe_at, most_stripes}
 use Rattle.orc_file.specs.FileRows.{stripe_bytes, joined, AreOfStripes, HasRows, FileIs, IsNoStripe, StripeRefused, FirstRefused, cut_rows}
-use Rattle.orc_file.specs.Tails.{IsTail, OpenFault, ReadFault, tail_tests}
+use Rattle.orc_file.specs.Tails.{IsTail, OpenFault, ReadFault, IsOfTail, tail_tests}
 use Rattle.orc_file.specs.declared.tail.Tail.{Tail}
 use Rattle.orc_file.specs.declared.fault.FileFault.{FileFault}
 use Rattle.orc_file.specs.declared.fault.FileFault.TheVariants.{Stripe, SourceFailed, OutOfMemory}
@@ -24,7 +24,7 @@ use Rattle.orc_column_reader.specs.declared.fault.StripeFault.TheVariants as str
 use Rattle.orc_file.proofs.RowLemmas.{one_file, no_file, parts_cut}
 use Rattle.orc_check.specs.declared.finding.Finding.{Finding}
 use Rattle.orc_check.specs.Findings.{OfEach, OfStripe, OfStripes, OfFile, Findings, Adds, stripe_told, rows_at}
-use Rattle.orc_check.specs.Checking.{HaveKnown, AreKnown, IsChecked, AreOfSchema, AreOwn, CheckFault}
+use Rattle.orc_check.specs.Checking.{HaveKnown, AreKnown, IsChecked, AreOfSchema, AreOwn, CheckFault, IsOfStripe, IsOfStripes, IsOfCheck}
 use Rattle.orc_check.proofs.Checked.{AreChecked, text_at}
 
 get_front : {X : Type 0} (xs : List X) (x d : X) (k : ℕ) → k < length xs → get_or (xs ++ x ∷ []) k d ≡ get_or xs k d
@@ -275,3 +275,31 @@ pub either : {A : Type 0} (items : A → List Finding) (told : Option (List ℕ)
     → MatchResult r (λ found. Findings bytes tail rows (items found)) (λ e. (e ≡ OutOfMemory) ⊎ (e ≡ SourceFailed)))
 either items told (Ok x) h k = for_all_ok items told x (found_only told (items x) h)
 either items told (Err e) h k = for_all_err items told e (fault_only told e k)
+
+-- ---- names of faults
+
+pub stripe_named : (s : Shape) (info : StripeInfo) (n : ℕ) (bytes : List ℕ) (fault : FileFault) → NoRows s info n bytes fault
+    → (fault ≡ OutOfMemory) ⊎ ((fault ≡ SourceFailed) ⊎ IsOfStripe n fault)
+stripe_named s info n bytes fault (inl memory) = inl memory
+stripe_named s info n bytes fault (inr h) = inr (inr (h.0, h.1, h.2, (s, info, bytes, h.3)))
+
+pub stripes_named : (many n : ℕ) (fault : FileFault) → n < many → (fault ≡ OutOfMemory) ⊎ ((fault ≡ SourceFailed) ⊎ IsOfStripe n fault)
+    → (fault ≡ OutOfMemory) ⊎ ((fault ≡ SourceFailed) ⊎ IsOfStripes many fault)
+stripes_named many n fault lt (inl memory) = inl memory
+stripes_named many n fault lt (inr (inl source)) = inr (inl source)
+stripes_named many n fault lt (inr (inr h)) = inr (inr (n, lt, h))
+
+check_named : (many : ℕ) (fault : FileFault) → many ≤ most_stripes → (fault ≡ OutOfMemory) ⊎ ((fault ≡ SourceFailed) ⊎ IsOfStripes many fault)
+    → (fault ≡ SourceFailed) ⊎ IsOfCheck fault
+check_named many fault few (inl memory) = inr (inl (subst (λ (e : FileFault). IsOfTail e) (sym memory) tt))
+check_named many fault few (inr (inl source)) = inl source
+check_named many fault few (inr (inr h)) = let lt = h.1 in inr (inr (h.0, omega (arith, lt, few), h.2))
+
+pub all_named : {A : Type 0} (many : ℕ) (r : Result A FileFault) → many ≤ most_stripes → IfErr r (λ e. (e ≡ OutOfMemory) ⊎ ((e ≡ SourceFailed) ⊎ IsOfStripes many e))
+    → IfErr r (λ e. (e ≡ SourceFailed) ⊎ IsOfCheck e)
+all_named many (Ok x) few h = tt
+all_named many (Err e) few h = check_named many e few h
+
+pub tail_named : {P : Type 0} (fault : FileFault) → (fault ≡ SourceFailed) ⊎ (IsOfTail fault × P) → (fault ≡ SourceFailed) ⊎ IsOfCheck fault
+tail_named fault (inl source) = inl source
+tail_named fault (inr h) = inr (inl h.0)

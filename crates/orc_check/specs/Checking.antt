@@ -1,18 +1,22 @@
 -- What is done of a file that is checked.
-use Rattle.std.specs.Prelude.{◌≡◌, ◌<◌, ◌≤◌, ◌⊎◌, ℕ, Some, List, [], ◌∷◌, length, slice_get}
+use Rattle.std.specs.Prelude.{◌≡◌, ◌≢◌, ◌<◌, ◌≤◌, ◌⊎◌, ℕ, Some, List, [], ◌∷◌, length, slice_get}
 use Rattle.std.specs.List.{AllByRecursion}
 use Rattle.orc_types.specs.Shapes.{Shape, width}
 use Rattle.orc_types.specs.Columns.{cells}
 use Rattle.orc_types.specs.Fits.{RowsFit}
-use Rattle.orc_file.specs.FileRows.{FirstRefused}
+use Rattle.orc_file.specs.FileRows.{IsNoStripe, FirstRefused}
 use Rattle.orc_file.specs.Honest.{AreWhole}
 use Rattle.orc_file.specs.Stripes.{most_stripes, stripe_at}
-use Rattle.orc_file.specs.Tails.{IsTail, OpenFault}
+use Rattle.orc_file.specs.Tails.{IsTail, OpenFault, IsOfTail}
 use Rattle.orc_file.specs.declared.fault.FileFault.{FileFault}
+use Rattle.orc_file.specs.declared.fault.FileFault.TheVariants.{Stripe}
+use Rattle.orc_wire.specs.declared.stripe_info.StripeInfo.{StripeInfo}
 use Rattle.orc_types.specs.Cells.{Cell}
 use Rattle.orc_stats.specs.declared.stat.Stat.{Stat}
 use Rattle.orc_stats.specs.Known.{known_as, told_body}
 use Rattle.orc_column_reader.specs.Stripe.{IsStripe, cell_limit}
+use Rattle.orc_column_reader.specs.declared.fault.StripeFault.{StripeFault}
+use Rattle.orc_column_reader.specs.declared.fault.StripeFault.TheVariants as stripe
 use Rattle.orc_stripe_writer.specs.WrittenStripe.{column_stat}
 use Rattle.orc_file.specs.declared.tail.Tail.{Tail}
 use Rattle.orc_check.specs.declared.finding.Finding.{Finding}
@@ -45,6 +49,23 @@ pub record IsChecked (tail : Tail) (n : ℕ) (bytes : List ℕ) (before after : 
 abbrev pub CheckFault : List ℕ → FileFault → Type 0
 CheckFault bytes fault =
     OpenFault bytes fault ⊎ ((tail : Tail) × IsTail bytes tail × FirstRefused tail.schema bytes 0 tail.stripes fault)
+
+-- There are bytes that are no stripe of any rows for this reason.
+abbrev pub IsReason : StripeFault → Type 0
+IsReason why = (s : Shape) × (info : StripeInfo) × (bytes : List ℕ) × IsNoStripe s info bytes why
+
+-- The stripe with this number has no rows, for such a reason.
+abbrev pub IsOfStripe : ℕ → FileFault → Type 0
+IsOfStripe n fault = (why : StripeFault) × (fault ≡ Stripe n why) × (why ≢ stripe.OutOfMemory) × IsReason why
+
+-- one of so many has none
+abbrev pub IsOfStripes : ℕ → FileFault → Type 0
+IsOfStripes many fault = (n : ℕ) × (n < many) × IsOfStripe n fault
+
+-- Beside a source that fails, a fault that a check may be refused for at all, whatever the source tells: one of a tail,
+-- want of memory among them, or of a stripe.
+abbrev pub IsOfCheck : FileFault → Type 0
+IsOfCheck fault = IsOfTail fault ⊎ IsOfStripes most_stripes fault
 
 -- rows of a stripe: they fit, and no column has more cells than a stripe may have
 pub record AreOfSchema (s : Shape) (rows : List Cell) : Type 0 where

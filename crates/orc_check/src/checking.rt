@@ -8,7 +8,7 @@ ghost use Rattle.orc_file.specs.Tails.{IsTail, ReadFault};
 ghost use Rattle.orc_file.specs.declared.tail.Tail.{Tail};
 ghost use Rattle.orc_file.specs.declared.fault.FileFault.TheVariants.{SourceFailed, OutOfMemory};
 ghost use Rattle.orc_check.specs.Findings.{Findings};
-ghost use Rattle.orc_check.specs.Checking.{CheckFault, HaveOwn, IsWholeOf};
+ghost use Rattle.orc_check.specs.Checking.{CheckFault, HaveOwn, IsWholeOf, IsOfStripes, IsOfCheck};
 
 use crate::file_columns::check_file;
 use crate::finding::Finding;
@@ -47,6 +47,8 @@ fn check_tail<S: Source>(
 
     ensures fault { IfErr result (λ fault. ReadFault (S.told source.old) fault
         (λ bytes. FirstRefused tail.now.schema bytes 0 tail.now.stripes fault)) }
+    ensures named { IfErr result (λ fault. (fault ≡ OutOfMemory)
+        ⊎ ((fault ≡ SourceFailed) ⊎ IsOfStripes (length tail.now.stripes) fault)) }
     ensures kept { OnOk result (S.failures source.new ≡ S.failures source.old) }
     ensures failed { IsErrOf result SourceFailed → S.failures source.old < S.failures source.new }
     ensures unfailed { IfErr result (λ fault. (fault ≡ SourceFailed)
@@ -83,6 +85,7 @@ pub fn check<S: Source>(alloc: Global, source: &mut S) -> Result<Vec<Finding>, F
     ensures size { S.size source.new ≡ S.size source.old }
     ensures told { S.told source.new ≡ S.told source.old }
     ensures fault { IfErr result (λ fault. ReadFault (S.told source.old) fault (λ bytes. CheckFault bytes fault)) }
+    ensures named { IfErr result (λ fault. (fault ≡ SourceFailed) ⊎ IsOfCheck fault) }
     ensures kept { OnOk result (S.failures source.new ≡ S.failures source.old) }
     ensures failed { IsErrOf result SourceFailed → S.failures source.old < S.failures source.new }
     ensures unfailed { IfErr result (λ fault. (fault ≡ SourceFailed)

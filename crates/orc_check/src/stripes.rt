@@ -7,7 +7,7 @@ ghost use Rattle.orc_file.specs.Tails.{ReadFault};
 ghost use Rattle.orc_column_reader.specs.declared.fault.StripeFault.TheVariants as stripe;
 ghost use Rattle.orc_file.specs.declared.fault.FileFault.TheVariants.{Stripe, SourceFailed, OutOfMemory};
 ghost use Rattle.orc_check.specs.Findings.{stripe_told};
-ghost use Rattle.orc_check.specs.Checking.{IsChecked};
+ghost use Rattle.orc_check.specs.Checking.{IsChecked, IsOfStripe};
 
 use crate::columns::check_columns;
 use crate::finding::Finding;
@@ -60,6 +60,8 @@ pub(crate) fn check_stripe<S: Source>(
     ensures size { S.size source.new ≡ S.size source.old }
     ensures fault { IfErr result (λ fault. ReadFault (S.told source.old) fault
         (λ all. StripeRefused tail.now.schema all number (stripe_at tail.now.stripes number) fault)) }
+    ensures named { IfErr result (λ fault. (fault ≡ OutOfMemory)
+        ⊎ ((fault ≡ SourceFailed) ⊎ IsOfStripe number fault)) }
     ensures kept { OnOk result (S.failures source.new ≡ S.failures source.old) }
     ensures failed { IsErrOf result SourceFailed → S.failures source.old < S.failures source.new }
     ensures unfailed { IfErr result (λ fault. (fault ≡ SourceFailed)

@@ -73,11 +73,11 @@ tested {Done} {Holds} {Rest} fails (inl holds) rest = by (rest holds) where
   by (inl done) = inl done
   by (inr bad) = inr (bad.0, inr (holds, bad.1))
 
-alike_next : (tails : List Tail) (t : Tail) → AreGathered tails → IsLike (first_of tails t) t → AllByRecursion (IsLike (first_of tails t)) (tails ++ t ∷ [])
+pub alike_next : (tails : List Tail) (t : Tail) → AreGathered tails → IsLike (first_of tails t) t → AllByRecursion (IsLike (first_of tails t)) (tails ++ t ∷ [])
 alike_next [] t g l = (l, tt)
 alike_next (x ∷ xs) t g l = all-append (IsLike x) (x ∷ xs) (t ∷ []) g.alike (l, tt)
 
-first_within : (tails : List Tail) (t : Tail) → AllByRecursion IsWithinLimits (tails ++ t ∷ []) → IsWithinLimits (first_of tails t)
+pub first_within : (tails : List Tail) (t : Tail) → AllByRecursion IsWithinLimits (tails ++ t ∷ []) → IsWithinLimits (first_of tails t)
 first_within [] t a = a.0
 first_within (x ∷ xs) t a = a.0
 

@@ -13,12 +13,13 @@ use Rattle.orc_stats.specs.declared.kind.StatKind.{StatKind}
 use Rattle.orc_stats.specs.declared.kind.StatKind.TheVariants as kind
 use Rattle.orc_stats.specs.declared.stat.Stat.{Stat}
 use Rattle.orc_stats.specs.declared.stat.Body.{Body}
+use Rattle.orc_stats.specs.declared.stat.Body.TheVariants as body
 use Rattle.orc_stats.specs.Kinds.{is_of}
 use Rattle.orc_stats.specs.Statistics.{stat}
 use Rattle.orc_stats.specs.Joining.{joined}
 use Rattle.orc_stats.specs.Whole.{has_sum, without_sum, keeps_sum, whole}
 use Rattle.orc_stats.proofs.KnownParts.{joined-agreed}
-use Rattle.orc_stats.specs.Known.{AllAgree, known_whole}
+use Rattle.orc_stats.specs.Known.{AllAgree, known_in, told_of, known_whole}
 use Rattle.orc_file.specs.Stripes.{most_stripes}
 use Rattle.orc_file.specs.Statistics.{kind_at}
 use Rattle.orc_file.specs.FileRows.{HasRows, FileIs, cut_rows}
@@ -202,3 +203,40 @@ sum_stands kind.Dates parts = rw (no_sums kind.Dates (λ cs. or_true _) parts) r
 sum_stands kind.Texts parts = sum_if (list_all (λ p. keeps_sum (stat kind.Texts p)) parts) (stat kind.Texts (flat_map (λ p. p) parts)).body refl
 sum_stands kind.Bins parts = sum_if (list_all (λ p. keeps_sum (stat kind.Bins p)) parts) (stat kind.Bins (flat_map (λ p. p) parts)).body refl
 sum_stands kind.Children parts = rw (no_sums kind.Children (λ cs. or_true _) parts) refl
+
+-- ---- where less of children is told
+
+has_sum-known : (bs : List Body) (b : Body) → has_sum (known_in bs b) ≡ has_sum b
+has_sum-known bs body.Plain = refl
+has_sum-known bs (body.Ints l g s) = refl
+has_sum-known bs (body.Bools t) = refl
+has_sum-known bs (body.Dates l g) = refl
+has_sum-known bs (body.Texts l g s) = refl
+has_sum-known bs (body.Bins s) = refl
+has_sum-known bs (body.Children l g t) = refl
+
+pub sum_known : (k : StatKind) (told : List (Option Stat)) (parts : List (List Cell)) → has_sum (known_whole k told parts).body ≡ has_sum (whole k parts).body
+sum_known k told parts = has_sum-known (told_of k told parts) (whole k parts).body
+
+-- a body of another kind tells nothing of children, with its sum or without
+kept_if : (bs : List Body) (b : Bool) (x : Body) → known_in bs x ≡ x → known_in bs (without_sum x) ≡ without_sum x
+    → known_in bs (if b then x else without_sum x) ≡ (if b then x else without_sum x)
+kept_if bs true x e f = e
+kept_if bs false x e f = f
+
+kept_whole : (k : StatKind) (told : List (Option Stat)) (parts : List (List Cell))
+    → known_in (told_of k told parts) (stat k (flat_map (λ p. p) parts)).body ≡ (stat k (flat_map (λ p. p) parts)).body
+    → known_in (told_of k told parts) (without_sum (stat k (flat_map (λ p. p) parts)).body) ≡ without_sum (stat k (flat_map (λ p. p) parts)).body
+    → known_whole k told parts ≡ whole k parts
+kept_whole k told parts e f =
+    ap (λ (x : Body). record (whole k parts) { body = x })
+    (kept_if (told_of k told parts) (list_all (λ p. keeps_sum (stat k p)) parts) (stat k (flat_map (λ p. p) parts)).body e f)
+
+pub known_else : (k : StatKind) (told : List (Option Stat)) (parts : List (List Cell)) → (k ≡ kind.Children → ⊥) → known_whole k told parts ≡ whole k parts
+known_else kind.Plain told parts other = kept_whole kind.Plain told parts refl refl
+known_else kind.Ints told parts other = kept_whole kind.Ints told parts refl refl
+known_else kind.Bools told parts other = kept_whole kind.Bools told parts refl refl
+known_else kind.Dates told parts other = kept_whole kind.Dates told parts refl refl
+known_else kind.Texts told parts other = kept_whole kind.Texts told parts refl refl
+known_else kind.Bins told parts other = kept_whole kind.Bins told parts refl refl
+known_else kind.Children told parts other = absurd (other refl)

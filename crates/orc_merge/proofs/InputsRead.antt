@@ -1,17 +1,18 @@
 -- One more input is read: it has its tail, or is refused behind those before it.
-use Rattle.std.proofs.Common.{◌≡◌, ℕ, ◌+◌, ◌<◌, ◌⊎◌, inl, inr, List, [], ◌∷◌, ◌++◌, length, get_or, set, map, take, drop, Option, Some, refl, sym, ap, ◌∙◌, subst, arith}
+use Rattle.std.proofs.Common.{◌≡◌, ℕ, zero, suc, ◌+◌, ◌<◌, ◌⊎◌, inl, inr, List, [], ◌∷◌, ◌++◌, length, get_or, set, map, take, drop, Option, Some, refl, sym, ap, ◌∙◌, subst, arith}
 use Rattle.std.specs.Prelude.{slice_index, slice_index_or}
 use Rattle.std.specs.Option.{IfSome}
 use Rattle.std.proofs.lemmas.List.{take_more, drop_more, take-append-drop, get_or-map, length-map, length_push}
 use Rattle.orc_file.specs.Stripes.{AllBefore}
-use Rattle.orc_file.specs.Tails.{IsTail, OpenFault}
+use Rattle.orc_file.specs.Tails.{IsTail, OpenFault, IsOfTail}
 use Rattle.orc_file.specs.Images.{IsWithinLimits}
 use Rattle.orc_file.specs.declared.tail.Tail.{Tail}
 use Rattle.orc_file.specs.declared.fault.FileFault.{FileFault}
+use Rattle.orc_file.specs.declared.fault.FileFault.TheVariants as file_fault
 use Rattle.orc_merge.specs.declared.fault.MergeFault.{MergeFault}
 use Rattle.orc_merge.specs.declared.fault.MergeFault.TheVariants as fault
 use Rattle.orc_merge.specs.Merging.{AreOpened}
-use Rattle.orc_merge.specs.Faults.{NextFault, AreGathered, InputFault, IsRefused, IsDeviceFault, IsOfBytes}
+use Rattle.orc_merge.specs.Faults.{NextFault, AreGathered, InputFault, IsRefused, IsDeviceFault, IsOfBytes, IsOfMerge}
 use Rattle.orc_merge.specs.Outcomes.{IsAnswer}
 use Rattle.orc_merge.specs.Inputs.{AreWithin, AreTailsOf, IsCounted}
 use Rattle.orc_merge.proofs.Bits.{all-append}
@@ -78,7 +79,7 @@ refused_at files n ts e lt o g fails =
 -- why no tail is found
 abbrev pub NoTail : ℕ → Option (List ℕ) → MergeFault → Type 0
 NoTail n told e =
-    (e ≡ fault.OutOfMemory) ⊎ ((e ≡ fault.SourceFailed n) ⊎ ((why : FileFault) × (e ≡ fault.File n why) × IfSome told (λ bytes. OpenFault bytes why) × IsOfBytes why))
+    (e ≡ fault.OutOfMemory) ⊎ ((e ≡ fault.SourceFailed n) ⊎ ((why : FileFault) × (e ≡ fault.File n why) × IfSome told (λ bytes. OpenFault bytes why) × IsOfBytes why × IsOfTail why))
 
 pub open_refused : {A : Type 0} (told : A → Option (List ℕ)) (sizes : List ℕ) (inputs : List A) (n : ℕ) (d : A) (ts : List Tail) (e : MergeFault)
     → n < length inputs → AreTailsOf (map told inputs) sizes n ts → AreGathered ts
@@ -124,3 +125,38 @@ no_memory e is told files same = inl (subst IsDeviceFault (sym is) tt)
 
 pub no_memory_counted : (old new : List ℕ) (e : MergeFault) → e ≡ fault.OutOfMemory → IsCounted old new e
 no_memory_counted old new e is = subst (IsCounted old new) (sym is) tt
+
+-- ---- names of faults
+
+pub open_named : (inputs n : ℕ) (told : Option (List ℕ)) (e : MergeFault) → n < inputs → NoTail n told e → IsOfMerge inputs e
+open_named inputs n told e lt (inl is) = let some : 0 < inputs = omega (arith, lt) in subst (IsOfMerge inputs) (sym is) some
+open_named inputs n told e lt (inr (inl is)) = subst (IsOfMerge inputs) (sym is) lt
+open_named inputs n told e lt (inr (inr h)) = subst (IsOfMerge inputs) (sym h.1) (lt, h.4, h.3)
+
+pub no_memory_named : (inputs n : ℕ) (e : MergeFault) → n < inputs → e ≡ fault.OutOfMemory → IsOfMerge inputs e
+no_memory_named inputs n e lt is = let some : 0 < inputs = omega (arith, lt) in subst (IsOfMerge inputs) (sym is) some
+
+-- of a tail that isn't found
+pub tail_unfound : (n : ℕ) (told : Option (List ℕ)) (why : FileFault) → (why ≡ file_fault.SourceFailed → ⊥) → (why ≡ file_fault.OutOfMemory → ⊥)
+    → (why ≡ file_fault.OutOfMemory) ⊎ ((why ≡ file_fault.SourceFailed) ⊎ IfSome told (λ bytes. OpenFault bytes why)) → (why ≡ file_fault.SourceFailed) ⊎ IsOfTail why
+    → NoTail n told (fault.File n why)
+tail_unfound n told why source memory (inl is) named = absurd (memory is)
+tail_unfound n told why source memory (inr (inl is)) named = absurd (source is)
+tail_unfound n told why source memory (inr (inr fails)) (inl is) = absurd (source is)
+tail_unfound n told why source memory (inr (inr fails)) (inr of_tail) =
+    inr (inr (why, refl, fails, record { no_memory = memory; no_source = source }, of_tail))
+
+-- an input whose number of failures rose is there
+pub rose_within : {A : Type 0} (told : A → Option (List ℕ)) (failures : A → ℕ) (xs ys : List A) (i : ℕ) → map told ys ≡ map told xs
+    → slice_index (map failures xs) i < slice_index (map failures ys) i → i < length xs
+rose_within told failures [] [] i same rose = absurd (omega (arith, rose))
+rose_within told failures [] (y ∷ ys) i same rose = cc
+rose_within told failures (x ∷ xs) [] i same rose = cc
+rose_within told failures (x ∷ xs) (y ∷ ys) zero same rose = omega arith
+rose_within told failures (x ∷ xs) (y ∷ ys) (suc i) same rose =
+    let rest : map told ys ≡ map told xs = cc in
+    let there : i < length xs = rose_within told failures xs ys i rest rose in
+    omega (arith, there)
+
+pub as_long : {A : Type 0} (told : A → Option (List ℕ)) (xs ys : List A) → map told ys ≡ map told xs → length ys ≡ length xs
+as_long told xs ys same = sym (length-map ys told) ∙ ap length same ∙ length-map xs told

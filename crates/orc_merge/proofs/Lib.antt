@@ -20,6 +20,7 @@ mod Examples
 pub mod CopiedParts
 pub mod BytesOut
 pub mod ValueCounts
+pub mod FoundPairs
 pub mod Pairs
 pub mod PiecesOf
 pub mod InputsRead
@@ -27,3 +28,4 @@ pub mod NextTests
 pub mod Finished
 pub mod Together
 pub mod NextInput
+pub mod PastLimit

@@ -16,11 +16,11 @@ use Rattle.orc_merge.specs.declared.gathered.Lists.{Lists}
 use Rattle.orc_merge.specs.Merging.{placed, all_stripes, all_stats, all_pairs, merged, HasStatistics, IsLike, CanMerge, Agree}
 use Rattle.orc_merge.specs.Gathering.{pieces_in, pieces_of, IsOfKind, HasPairs}
 use Rattle.orc_merge.specs.Counts.{column_count}
-use Rattle.orc_merge.specs.Limits.{AreFewTogether}
+use Rattle.orc_merge.specs.Limits.{AreFew, AreFewTogether}
 use Rattle.orc_merge.specs.SoFar.{HasGathered, IsNext}
 use Rattle.orc_merge.proofs.Placing.{bytes-append, length-placed}
 use Rattle.orc_merge.proofs.Bits.{all-append}
-use Rattle.orc_merge.proofs.Together.{AreFew, few_of_limits, limits_of_few}
+use Rattle.orc_merge.proofs.Together.{few_of_limits, limits_of_few}
 
 -- ---- the lists of one input more
 
@@ -74,8 +74,8 @@ like_push first ts t like k has =
 
 -- the pairs gathered are those of the inputs
 pub pairs_so_far : (first tail : Tail) (tails : List Tail) (number : ℕ) (lists : Lists) (g : Gathered) → IsNext first tails tail number lists g
-    → HasPairs (all_pairs tails) g.user.items
-pairs_so_far first tail tails number lists g n = record { agree = n.merges.agree; kept_are = n.gathered.user }
+    → HasPairs (all_pairs tails) g.user
+pairs_so_far first tail tails number lists g n = record { agree = n.merges.agree; kept_are = n.gathered.user; places = n.gathered.user_places }
 
 pub next_pairs : (first tail : Tail) (tails : List Tail) (number : ℕ) (lists : Lists) (g : Gathered) → IsNext first tails tail number lists g
     → all_pairs (tails ++ tail ∷ []) ≡ all_pairs tails ++ lists.user.items

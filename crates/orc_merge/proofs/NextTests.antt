@@ -1,5 +1,5 @@
 -- The tests of the next input: those of its kind, and those that ask of all inputs together.
-use Rattle.std.proofs.Common.{◌≡◌, ℕ, zero, suc, ◌+◌, ◌≤◌, inl, inr, true, List, [], ◌∷◌, ◌++◌, length, take, drop, refl, sym, subst, arith}
+use Rattle.std.proofs.Common.{◌≡◌, ℕ, zero, suc, ◌+◌, ◌<◌, ◌≤◌, inl, inr, true, List, [], ◌∷◌, ◌++◌, length, take, drop, refl, sym, subst, arith}
 use Rattle.std.specs.Prelude.{All}
 use Rattle.std.specs.List.{AllByRecursion}
 use Rattle.std.proofs.lemmas.List.Elements.{All-from_recursion}
@@ -16,7 +16,7 @@ use Rattle.orc_merge.specs.declared.gathered.Gathered.{Gathered}
 use Rattle.orc_merge.specs.declared.fault.MergeFault.{MergeFault}
 use Rattle.orc_merge.specs.declared.fault.MergeFault.TheVariants as fault
 use Rattle.orc_merge.specs.Merging.{SameVersion, CanMerge, all_stats}
-use Rattle.orc_merge.specs.Faults.{Tested, NextFault}
+use Rattle.orc_merge.specs.Faults.{Tested, NextFault, IsOfMerge}
 use Rattle.orc_merge.specs.Gathering.{bare, IsOfKind, KindFault, JoinFault}
 use Rattle.orc_merge.specs.SoFar.{HasGathered}
 use Rattle.orc_merge.specs.Inputs.{IsCounted}
@@ -81,6 +81,22 @@ pub join_counted : (old new : List ℕ) (first t : Tail) (ts : List Tail) (n : �
 join_counted old new first t ts n e j =
     test_counted old new (fault.UserMetadataConflict n) e tt (test_counted old new (fault.NoStripeStatistics n) e tt
     (test_counted old new (fault.Limit n) e tt (λ h. absurd h))) j
+
+-- ---- names of faults
+
+test_named : {H R : Type 0} (inputs : ℕ) (fails e : MergeFault) → IsOfMerge inputs fails → (R → IsOfMerge inputs e) → Tested H fails e R → IsOfMerge inputs e
+test_named inputs fails e is rest (inl p) = subst (IsOfMerge inputs) (sym p.1) is
+test_named inputs fails e is rest (inr p) = rest p.1
+
+pub kind_named : (inputs : ℕ) (first t : Tail) (n : ℕ) (e : MergeFault) → 0 < n → n < inputs → KindFault n first t e → IsOfMerge inputs e
+kind_named inputs first t n e later lt k =
+    test_named inputs (fault.SchemaDiffers n) e (later, lt) (test_named inputs (fault.VersionDiffers n) e (later, lt)
+    (test_named inputs (fault.StrideDiffers n) e (later, lt) (test_named inputs (fault.OtherFooterFields n) e (later, lt) (λ h. absurd h)))) k
+
+pub join_named : (inputs : ℕ) (first t : Tail) (ts : List Tail) (n : ℕ) (e : MergeFault) → n < inputs → JoinFault n first t ts e → IsOfMerge inputs e
+join_named inputs first t ts n e lt j =
+    test_named inputs (fault.UserMetadataConflict n) e lt (test_named inputs (fault.NoStripeStatistics n) e lt
+    (test_named inputs (fault.Limit n) e lt (λ h. absurd h))) j
 
 -- ---- nothing speaks against no inputs
 

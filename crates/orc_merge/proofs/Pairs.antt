@@ -6,7 +6,9 @@ use Rattle.std.specs.Cmp.Lexicographic.{same_text, other_text}
 use Rattle.std.proofs.lemmas.List.Elements.{filter-append, Contains-append_left, Contains-append_right, Contains-append_cases}
 use Rattle.orc_wire.specs.declared.footer.UserMetadataItem.{UserMetadataItem}
 use Rattle.orc_merge.specs.Merging.{same_name, without, distinct, Agree}
+use Rattle.orc_merge.specs.PairPlaces.{ArePlaces}
 use Rattle.orc_merge.specs.Gathering.{HasPairs}
+use Rattle.orc_merge.specs.declared.user_pairs.UserPairs.{UserPairs}
 use Rattle.orc_merge.proofs.Names.{distinct-without, in_cons, in_head, in_tail, in_distinct, into_distinct}
 
 differ_by : (p q : UserMetadataItem) → (p.name ≡ q.name → ⊥) → (b : Bool) → same_name p q ≡ b → b ≡ false
@@ -58,31 +60,34 @@ agree_push xs p a w = λ q r c d n. elim (Contains-append_cases xs (p ∷ []) q 
   ]
 ]
 
--- no pair that is kept has the name
-pub pairs_new : (before kept : List UserMetadataItem) (p : UserMetadataItem) → HasPairs before kept → All (λ (q : UserMetadataItem). q.name ≢ p.name) kept
-    → HasPairs (before ++ p ∷ []) (kept ++ p ∷ [])
-pairs_new before kept p h all =
+-- no pair that is kept has the name, and this one is put behind them
+pub pairs_new : (before : List UserMetadataItem) (old new : UserPairs) (p : UserMetadataItem) → HasPairs before old → All (λ (q : UserMetadataItem). q.name ≢ p.name) old.pairs.items
+    → new.pairs.items ≡ old.pairs.items ++ p ∷ [] → ArePlaces new.pairs.items new.places → HasPairs (before ++ p ∷ []) new
+pairs_new before old new p h all more places =
+    let kept : List UserMetadataItem = old.pairs.items in
     let none : (r : UserMetadataItem) → Contains before r → r.name ≡ p.name → ⊥ = λ r c n.
     let k : Contains kept r = subst (λ (xs : List UserMetadataItem). Contains xs r) (sym h.kept_are) (into_distinct before r h.agree c) in
     all k.0 r k.1 (ap (λ (x : UserMetadataItem). x.name) k.2 ∙ n) in
     record {
       agree = agree_push before p h.agree (λ r c n. absurd (none r c n));
-      kept_are = ap (λ (xs : List UserMetadataItem). xs ++ p ∷ []) h.kept_are ∙ sym (distinct-push_new before p none);
+      kept_are = more ∙ ap (λ (xs : List UserMetadataItem). xs ++ p ∷ []) h.kept_are ∙ sym (distinct-push_new before p none);
+      places = places;
     }
 
 -- one does, with the same value
-pub pairs_same : (before kept : List UserMetadataItem) (p q : UserMetadataItem) → HasPairs before kept → Contains kept q → q.name ≡ p.name → q.value ≡ p.value
+pub pairs_same : (before : List UserMetadataItem) (kept : UserPairs) (p q : UserMetadataItem) → HasPairs before kept → Contains kept.pairs.items q → q.name ≡ p.name → q.value ≡ p.value
     → HasPairs (before ++ p ∷ []) kept
 pairs_same before kept p q h c n v =
     let there : Contains before q = in_distinct before q (subst (λ (xs : List UserMetadataItem). Contains xs q) h.kept_are c) in
     record {
       agree = agree_push before p h.agree (λ r d m. h.agree r q d there (m ∙ sym n) ∙ v);
       kept_are = h.kept_are ∙ sym (distinct-push_old before p q there n);
+      places = h.places;
     }
 
 -- one does, with another value
-pub pairs_conflict : (before kept more : List UserMetadataItem) (p q : UserMetadataItem) → HasPairs before kept → Contains kept q → q.name ≡ p.name → (q.value ≡ p.value → ⊥)
+pub pairs_conflict : (before more : List UserMetadataItem) (kept : UserPairs) (p q : UserMetadataItem) → HasPairs before kept → Contains kept.pairs.items q → q.name ≡ p.name → (q.value ≡ p.value → ⊥)
     → Agree (before ++ p ∷ more) → ⊥
-pairs_conflict before kept more p q h c n ne a =
+pairs_conflict before more kept p q h c n ne a =
     let there : Contains before q = in_distinct before q (subst (λ (xs : List UserMetadataItem). Contains xs q) h.kept_are c) in
     ne (a q p (Contains-append_left before (p ∷ more) q there) (Contains-append_right before (p ∷ more) p (in_head p more)) n)

@@ -1,6 +1,5 @@
 -- There is room for the inputs together where their stripes end in time and their rows and values are few.
 use Rattle.std.proofs.Common.{◌≡◌, ℕ, zero, suc, ◌+◌, ◌<◌, ◌≤◌, ◌⊎◌, inl, inr, List, [], ◌∷◌, length, take, drop, refl, subst, arith}
-use Rattle.std.specs.Prelude.{sum_by}
 use Rattle.std.specs.List.{AllByRecursion}
 use Rattle.std.proofs.lemmas.List.Sums.{sum_by-append}
 use Rattle.orc_types.specs.Shapes.{Shape, width}
@@ -13,7 +12,7 @@ use Rattle.orc_file.specs.declared.tail.Tail.{Tail}
 use Rattle.orc_file.specs.Writing.{column_stats, of_columns, file_stats}
 use Rattle.orc_merge.specs.Merging.{all_stripes, all_stats, merged, IsLike}
 use Rattle.orc_merge.specs.Counts.{column_count}
-use Rattle.orc_merge.specs.Limits.{AreFewTogether}
+use Rattle.orc_merge.specs.Limits.{AreFew}
 use Rattle.orc_merge.proofs.ValueCounts.{count_at, count_above}
 use Rattle.orc_merge.proofs.Limits.{HasRoom, Counted, limits_of, room_of, statistics_of_merged}
 
@@ -54,9 +53,6 @@ few_values s stats wide all c = elim (below_or_not c (width s)) [
   | inl lt ↦ let e : 0 + c ≡ c = omega arith in subst (λ (d : ℕ). column_count d stats ≤ 4611686018427387904) e (count_of s stats 0 (width s) c all lt)
   | inr le ↦ let none = no_count (width s) c stats le wide in omega (arith, none)
 ]
-
-abbrev pub AreFew : List Tail → Type 0
-AreFew ts = AreFewTogether (length (all_stripes ts)) (3 + stripes_length (all_stripes ts)) (sum_by (λ (t : Tail). t.rows) ts) (all_stats ts)
 
 room_of_few : (first : Tail) (ts : List Tail) → AreFew ts → HasRoom first ts
 room_of_few first ts few =

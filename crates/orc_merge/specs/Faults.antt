@@ -1,7 +1,7 @@
 -- Why files are not merged: input by input, for each the first test that fails (own).
-use Rattle.std.specs.Prelude.{◌≡◌, ◌≢◌, ◌⊎◌, ℕ, List, [], ◌∷◌, ◌++◌, length}
+use Rattle.std.specs.Prelude.{◌≡◌, ◌≢◌, ◌⊎◌, ℕ, ◌<◌, List, [], ◌∷◌, ◌++◌, length}
 use Rattle.orc_file.specs.Tests.{AreAlike}
-use Rattle.orc_file.specs.Tails.{IsTail, OpenFault}
+use Rattle.orc_file.specs.Tails.{IsTail, OpenFault, IsOfTail}
 use Rattle.orc_file.specs.Images.{IsWithinLimits}
 use Rattle.orc_file.specs.declared.tail.Tail.{Tail}
 use Rattle.orc_file.specs.declared.fault.FileFault.{FileFault}
@@ -81,3 +81,22 @@ IsDeviceFault OutOfMemory = Unit {0}
 pub record IsOfBytes (why : FileFault) : Type 0 where
   pub no_memory : why ≢ file_fault.OutOfMemory
   pub no_source : why ≢ file_fault.SourceFailed
+
+-- one of so many inputs, and not the first
+abbrev pub IsLater : ℕ → ℕ → Type 0
+IsLater inputs i = (0 < i) × (i < inputs)
+
+-- A fault that a merge of so many inputs may be refused for at all, whatever their sources and the output tell.
+abbrev pub IsOfMerge : ℕ → MergeFault → Type 0
+IsOfMerge inputs NoInput = inputs ≡ 0
+IsOfMerge inputs (File i why) = (i < inputs) × IsOfTail why × IsOfBytes why
+IsOfMerge inputs (SchemaDiffers i) = IsLater inputs i
+IsOfMerge inputs (VersionDiffers i) = IsLater inputs i
+IsOfMerge inputs (StrideDiffers i) = IsLater inputs i
+IsOfMerge inputs (OtherFooterFields i) = IsLater inputs i
+IsOfMerge inputs (UserMetadataConflict i) = i < inputs
+IsOfMerge inputs (NoStripeStatistics i) = i < inputs
+IsOfMerge inputs (Limit i) = i < inputs
+IsOfMerge inputs (SourceFailed i) = i < inputs
+IsOfMerge inputs WriteFailed = 0 < inputs
+IsOfMerge inputs OutOfMemory = 0 < inputs

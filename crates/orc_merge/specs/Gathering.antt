@@ -6,11 +6,13 @@ use Rattle.orc_file.specs.Stripes.{stripe_length}
 use Rattle.orc_file.specs.Images.{IsWithinLimits}
 use Rattle.orc_file.specs.declared.tail.Tail.{Tail}
 use Rattle.orc_merge.specs.declared.copying.Piece.{Piece}
+use Rattle.orc_merge.specs.declared.user_pairs.UserPairs.{UserPairs}
 use Rattle.orc_merge.specs.declared.fault.MergeFault.{MergeFault}
 use Rattle.orc_merge.specs.declared.fault.MergeFault.TheVariants.{SchemaDiffers, VersionDiffers, StrideDiffers, OtherFooterFields}
 use Rattle.orc_merge.specs.declared.fault.MergeFault.TheVariants.{UserMetadataConflict, NoStripeStatistics, Limit}
 use Rattle.orc_merge.specs.Merging.{Agree, distinct, all_pairs, merged, SameVersion, HasStatistics}
 use Rattle.orc_merge.specs.Faults.{Tested}
+use Rattle.orc_merge.specs.PairPlaces.{ArePlaces}
 
 -- where the stripes of the input with that number stand in it
 abbrev pub pieces_in : ℕ → List StripeInfo → List Piece
@@ -21,10 +23,11 @@ abbrev pub pieces_of : ℕ → List Tail → List Piece
 pieces_of i [] = []
 pieces_of i (t ∷ ts) = pieces_in i t.stripes ++ pieces_of (i + 1) ts
 
--- each pair whose name is new, of pairs that agree
-pub record HasPairs (all kept : List UserMetadataItem) : Type 0 where
+-- each pair whose name is new, of pairs that agree; each is found by its name
+pub record HasPairs (all : List UserMetadataItem) (kept : UserPairs) : Type 0 where
   pub agree : Agree all
-  pub kept_are : kept ≡ distinct all
+  pub kept_are : kept.pairs.items ≡ distinct all
+  pub places : ArePlaces kept.pairs.items kept.places
 
 -- of one schema, version and stride, with the same other footer fields
 pub record IsOfKind (first tail : Tail) : Type 0 where

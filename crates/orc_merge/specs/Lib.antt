@@ -3,6 +3,7 @@ pub mod Faults
 pub mod Grouping
 pub mod Copies
 pub mod Counts
+pub mod PairPlaces
 pub mod Gathering
 pub mod Outcomes
 pub mod Limits

@@ -10,6 +10,7 @@ use Rattle.orc_merge.specs.Merging.{distinct, placed, all_stripes, all_stats, al
 use Rattle.orc_merge.specs.Gathering.{bare, pieces_of, IsOfKind}
 use Rattle.orc_merge.specs.JoinedLists.{AreListsOf}
 use Rattle.orc_merge.specs.Counts.{AreCounts}
+use Rattle.orc_merge.specs.PairPlaces.{ArePlaces}
 
 -- what the inputs with these tails have together
 pub record HasGathered (first : Tail) (tails : List Tail) (g : Gathered) : Type 0 where
@@ -17,7 +18,8 @@ pub record HasGathered (first : Tail) (tails : List Tail) (g : Gathered) : Type 
   pub stripes : g.stripes.items ≡ placed 3 (all_stripes tails)
   pub end : g.end ≡ 3 + stripes_length (all_stripes tails)
   pub stripe_stats : g.stripe_stats.items ≡ all_stats tails
-  pub user : g.user.items ≡ distinct (all_pairs tails)
+  pub user : g.user.pairs.items ≡ distinct (all_pairs tails)
+  pub user_places : ArePlaces g.user.pairs.items g.user.places
   pub rows : g.rows ≡ sum_by (λ (t : Tail). t.rows) tails
   pub pieces : g.pieces.items ≡ pieces_of 0 tails
   pub counts : AreCounts g.counts.items (all_stats tails)

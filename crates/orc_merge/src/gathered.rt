@@ -20,7 +20,7 @@ ghost use Rattle.orc_merge.specs.SoFar.{HasGathered, IsNext};
 use crate::copying::Piece;
 use crate::fault::MergeFault;
 use crate::stripe_places::{add_pieces, place_stripes};
-use crate::user_pairs::add_pairs;
+use crate::user_pairs::UserPairs;
 use crate::value_counts::{add_counts, are_few};
 use orc_file::{MOST_BYTES, MOST_ROWS, MOST_STRIPES, Tail, file_statistics};
 use orc_stats::Stat;
@@ -98,7 +98,7 @@ pub(crate) struct Gathered {
     pieces: Vec<Piece>,
     stripes: Vec<StripeInfo>,
     stripe_stats: Vec<Items<Stat>>,
-    user: Vec<UserMetadataItem>,
+    user: UserPairs,
     rows: u64,
     /// The place behind the stripes.
     end: u64,
@@ -116,7 +116,7 @@ impl Gathered {
             pieces: Vec::new(alloc),
             stripes: Vec::new(alloc),
             stripe_stats: Vec::new(alloc),
-            user: Vec::new(alloc),
+            user: UserPairs::new(alloc),
             rows: 0,
             end: 3,
             counts: Vec::new(alloc),
@@ -171,7 +171,7 @@ impl Gathered {
     /// Adds the input with this number. What stands after a refusal is no use.
     ///
     /// Refusals, in this order: `UserMetadataConflict`, `NoStripeStatistics`, `Limit`; and `OutOfMemory`.
-    pub fn add(&mut self, number: usize, lists: Lists) -> Result<(), MergeFault>
+    pub fn add(&mut self, alloc: Global, number: usize, lists: Lists) -> Result<(), MergeFault>
         requires end { self.old.end ≤ 3 + most_bytes }
         requires rows { self.old.rows ≤ most_rows }
         requires more_bytes { stripes_length lists.stripes.items ≤ most_bytes }
@@ -192,7 +192,7 @@ impl Gathered {
             user,
             rows,
         } = lists;
-        add_pairs(&mut self.user, number, user)?;
+        self.user.add_pairs(alloc, number, user)?;
         if !has_statistics(stripes.len(), self.first.schema.width(), &stripe_stats) {
             return Err(MergeFault::NoStripeStatistics(number));
         }
@@ -237,7 +237,7 @@ impl Gathered {
             stripes: Items::from_vec(stripes),
             stripe_stats: Items::from_vec(stripe_stats),
             file_stats: Items::from_vec(file_stats),
-            user: Items::from_vec(user),
+            user: Items::from_vec(user.into_pairs()),
             stride: first.stride,
             rows,
             other: first.other,

@@ -2,12 +2,12 @@
 ghost use Rattle.std.specs.Prelude.{◌≡◌, ◌+◌, ◌<◌, ◌≤◌, ◌⊎◌, ◌++◌, ℕ, List, Some, length, map, slice_index, All, IfOk, IfErr, OnOk, IfSome, IsErrOf};
 ghost use Rattle.orc_file.specs.Layout.{magic};
 ghost use Rattle.orc_file.specs.Stripes.{IsLaid, AllBefore};
-ghost use Rattle.orc_file.specs.Tails.{IsTail, OpenFault};
+ghost use Rattle.orc_file.specs.Tails.{IsTail, OpenFault, IsOfTail};
 ghost use Rattle.orc_file.specs.Images.{IsWithinLimits, tail_text};
 ghost use Rattle.orc_file.specs.declared.fault.FileFault.{FileFault};
 ghost use Rattle.orc_merge.specs.declared.fault.MergeFault.TheVariants as fault;
 ghost use Rattle.orc_merge.specs.Merging.{IsMerge};
-ghost use Rattle.orc_merge.specs.Faults.{IsOfBytes};
+ghost use Rattle.orc_merge.specs.Faults.{IsOfBytes, IsOfMerge};
 ghost use Rattle.orc_merge.specs.Copies.{pieces_bytes};
 ghost use Rattle.orc_merge.specs.Outcomes.{IsAnswer};
 ghost use Rattle.orc_merge.specs.Inputs.{IsGatheredOf, IsCounted};
@@ -32,7 +32,7 @@ fn tail_of<S: Source>(alloc: Global, number: usize, input: &mut S) -> Result<Tai
         ⊎ ((why : FileFault)
         × (e ≡ fault.File number why)
         × IfSome (S.told input.old) (λ bytes. OpenFault bytes why)
-        × IsOfBytes why))) }
+        × IsOfBytes why × IsOfTail why))) }
     ensures kept { OnOk result (S.failures input.new ≡ S.failures input.old) }
     ensures failed { IsErrOf result (fault.SourceFailed number) → S.failures input.old < S.failures input.new }
     ensures memory { IsErrOf result fault.OutOfMemory → S.failures input.new ≡ S.failures input.old }
@@ -57,13 +57,14 @@ fn gather_first<S: Source>(alloc: Global, inputs: &mut [S]) -> Result<Gathered, 
     ensures refused { IfErr result (λ e. (files : List (List ℕ))
         → map S.told inputs.old ≡ map Some files → IsAnswer files e) }
     ensures counted { IfErr result (λ e. IsCounted (map S.failures inputs.old) (map S.failures inputs.new) e) }
+    ensures named { IfErr result (λ e. IsOfMerge (length inputs.old) e) }
     ensures kept { OnOk result (map S.failures inputs.new ≡ map S.failures inputs.old) }
     ensures memory { IsErrOf result MergeFault.OutOfMemory → map S.failures inputs.new ≡ map S.failures inputs.old }
 {
     let mut tail = tail_of(alloc, 0, &mut inputs[0])?;
     let lists = take_lists(alloc, &mut tail);
     let mut gathered = Gathered::new(alloc, tail);
-    gathered.add(0, lists)?;
+    gathered.add(alloc, 0, lists)?;
     Ok(gathered)
 }
 
@@ -84,13 +85,14 @@ fn gather_next<S: Source>(
     ensures refused { IfErr result (λ e. (files : List (List ℕ))
         → map S.told inputs.old ≡ map Some files → IsAnswer files e) }
     ensures counted { IfErr result (λ e. IsCounted (map S.failures inputs.old) (map S.failures inputs.new) e) }
+    ensures named { IfErr result (λ e. IsOfMerge (length inputs.old) e) }
     ensures kept { OnOk result (map S.failures inputs.new ≡ map S.failures inputs.old) }
     ensures memory { IsErrOf result MergeFault.OutOfMemory → map S.failures inputs.new ≡ map S.failures inputs.old }
 {
     let mut tail = tail_of(alloc, number, &mut inputs[number])?;
     compare(&gathered.first, number, &tail)?;
     let lists = take_lists(alloc, &mut tail);
-    gathered.add(number, lists)?;
+    gathered.add(alloc, number, lists)?;
     Ok(())
 }
 
@@ -120,6 +122,8 @@ pub(crate) fn gather<S: Source>(
         → slice_index (map S.failures inputs.old) i < slice_index (map S.failures inputs.new) i }
     ensures file { (i : ℕ) (why : FileFault) → IsErrOf result (MergeFault.File i why) → IsOfBytes why }
     ensures never { IsErrOf result MergeFault.WriteFailed → ⊥ }
+    ensures named { IfErr result (λ e. IsOfMerge (length inputs.old) e) }
+    ensures some { OnOk result (0 < length inputs.old) }
 {
     if inputs.is_empty() {
         return Err(MergeFault::NoInput);

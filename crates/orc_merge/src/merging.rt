@@ -1,7 +1,7 @@
 //! The merger.
-ghost use Rattle.std.specs.Prelude.{◌≡◌, ◌<◌, ℕ, List, Some, map, slice_index, IfOk, IfErr, OnOk, IsErrOf};
+ghost use Rattle.std.specs.Prelude.{◌≡◌, ◌<◌, ℕ, List, Some, length, map, slice_index, IfOk, IfErr, OnOk, IsErrOf};
 ghost use Rattle.orc_file.specs.declared.fault.FileFault.{FileFault};
-ghost use Rattle.orc_merge.specs.Faults.{IsDeviceFault, IsOfBytes};
+ghost use Rattle.orc_merge.specs.Faults.{IsDeviceFault, IsOfBytes, IsOfMerge};
 ghost use Rattle.orc_merge.specs.Outcomes.{IsAnswer, WroteMerge, WrotePart};
 
 use crate::copying::{CopyFault, write_merged};
@@ -43,6 +43,7 @@ pub fn merge<S: Source, W: Sink>(
     ensures source_failed { (i : ℕ) → IsErrOf result (MergeFault.SourceFailed i)
         → slice_index (map S.failures inputs.old) i < slice_index (map S.failures inputs.new) i }
     ensures file { (i : ℕ) (why : FileFault) → IsErrOf result (MergeFault.File i why) → IsOfBytes why }
+    ensures named { IfErr result (λ e. IsOfMerge (length inputs.old) e) }
     ensures write_failed { IsErrOf result MergeFault.WriteFailed → W.failures out.old < W.failures out.new }
 {
     let (tail, pieces) = match gather(alloc, inputs) {

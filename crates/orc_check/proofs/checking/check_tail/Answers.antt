@@ -5,7 +5,7 @@ use Rattle.orc_check.specs.declared.finding.Finding.{Finding}
 use Rattle.orc_file.specs.Honest.{AreWhole}
 use Rattle.orc_check.specs.Checking.{AreOwn}
 use Rattle.orc_check.proofs.Checked.{AreChecked}
-use Rattle.orc_check.proofs.CheckLemmas.{none_checked, none_told, more_checked, more_told, stripe_refused, file_found, are_own}
+use Rattle.orc_check.proofs.CheckLemmas.{none_checked, none_told, more_checked, more_told, stripe_refused, stripes_named, file_found, are_own}
 use Rattle.orc_check.proofs.checking.check_tail.Goals as goal
 
 pub loop-number-init : goal.loop-number-init
@@ -71,3 +71,11 @@ returns-clause-found g c =
     let whole : AreWhole tail.schema told_of d.1 c.in_ok-whole.whole.items = c.in_ok-whole.ensures.1 told_of d.1 (subst (λ (xs : List (List Stat)). AreOwn tail.schema told_of d.1 xs) (sym c.deref.ensures.value) own) in
     file_found told tail n d.0 d.1 c.loop-number.found.items c.check_file.new.found.items c.loop-number.own.items end d.2 d.3
     (c.in_ok-check_file.ensures d.1 (subst (λ (xs : List Stat). AreWhole tail.schema told_of d.1 xs) (sym c.deref-2.ensures.value) whole))
+
+pub returns-in_err-stats-clause-named : goal.returns-in_err-stats-clause-named
+returns-in_err-stats-clause-named g c =
+    let p = err_from_is_err_and c.from_residual.result c.from_residual.ensures.1 in
+    let tail = c.args.tail.now in
+    let n = c.loop-number.number in
+    let lt : n < length tail.stripes = omega (arith, c.loop-number-test.true, ap (λ (xs : List _). length xs) c.as_slice-number-end.ensures) in
+    rw (p.1, p.2) (stripes_named (length tail.stripes) n c.in_err-stats.field-0.0 lt c.in_err-stats.ensures.named)

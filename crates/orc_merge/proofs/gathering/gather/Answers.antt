@@ -1,7 +1,8 @@
-use Rattle.std.proofs.Common.{◌≡◌, ◌∷◌, length, map, sym, ap, ◌∙◌, arith}
+use Rattle.std.proofs.Common.{◌≡◌, ℕ, ◌∷◌, length, map, sym, ap, ◌∙◌, subst, arith}
 use Rattle.std.proofs.lemmas.List.{length-map}
 use Rattle.std.proofs.lemmas.Result.{err_from_is_err_and}
-use Rattle.orc_merge.proofs.InputsRead.{no_memory}
+use Rattle.orc_merge.proofs.InputsRead.{no_memory, as_long}
+use Rattle.orc_merge.specs.Faults.{IsOfMerge}
 use Rattle.orc_merge.proofs.Finished.{ok_gives, err_gives, gathered_kinds, merged_file, merged_limits, merged_laid, gathered_inputs, gathered_within}
 use Rattle.orc_merge.proofs.gathering.gather.Goals as goal
 
@@ -53,3 +54,8 @@ returns-clause-within g c =
 pub returns-clause-refused : goal.returns-clause-refused
 returns-clause-refused g c =
     err_gives c.finish.result _ _ c.finish.ensures.fault (λ e is. no_memory e is (map g.S.Source.told c.args.inputs.now))
+
+pub returns-in_err-gather_next-clause-named : goal.returns-in_err-gather_next-clause-named
+returns-in_err-gather_next-clause-named g c =
+    let p = err_from_is_err_and c.from_residual-in_err-gather_next.result c.from_residual-in_err-gather_next.ensures.1 in
+    rw (p.1, p.2) (subst (λ (n : ℕ). IsOfMerge n c.in_err-gather_next.field-0.0) (as_long g.S.Source.told c.args.inputs.now c.loop-number.inputs c.loop-number.invariant.told) c.in_err-gather_next.ensures.named)

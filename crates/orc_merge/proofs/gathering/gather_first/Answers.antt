@@ -2,8 +2,8 @@ use Rattle.std.proofs.Common.{inl, inr, [], ◌∷◌, map, refl}
 use Rattle.std.proofs.lemmas.Result.{err_from_is_err_and}
 use Rattle.orc_file.specs.declared.tail.Tail.{Tail}
 use Rattle.orc_merge.specs.SoFar.{IsNext}
-use Rattle.orc_merge.proofs.InputsRead.{no_tails, one_more, open_refused, next_refused, no_memory, no_memory_counted}
-use Rattle.orc_merge.proofs.NextTests.{own_kind, none_merge, end_few, rows_few, first_refused, join_counted}
+use Rattle.orc_merge.proofs.InputsRead.{no_tails, one_more, open_refused, next_refused, no_memory, no_memory_counted, open_named, no_memory_named}
+use Rattle.orc_merge.proofs.NextTests.{own_kind, none_merge, end_few, rows_few, first_refused, join_counted, join_named}
 use Rattle.orc_merge.proofs.gathering.gather_first.Goals as goal
 
 pub returns-in_err-tail-clause-refused : goal.returns-in_err-tail-clause-refused
@@ -80,3 +80,27 @@ returns-clause-found g c =
       merges = c.in_ok-add.ensures.merges t t [] next;
       gathered = c.in_ok-add.ensures.gathered t t [] next;
     }
+
+pub returns-in_err-tail-clause-named : goal.returns-in_err-tail-clause-named
+returns-in_err-tail-clause-named g c =
+    let p = err_from_is_err_and c.from_residual.result c.from_residual.ensures.1 in
+    rw (p.1, p.2) (open_named _ 0 _ _ c.requires c.in_err-tail.ensures.fault)
+
+pub returns-in_err-add-clause-named : goal.returns-in_err-add-clause-named
+returns-in_err-add-clause-named g c =
+    let t : Tail = c.in_ok-tail.tail in
+    let next : IsNext t [] t 0 c.take_lists-lists.result c.new-gathered.result = record {
+      number_is = refl;
+      gathered = c.new-gathered.ensures t c.take_lists-lists.ensures.left;
+      merges = none_merge t c.in_ok-tail.ensures.limits;
+      first_within = c.in_ok-tail.ensures.limits;
+      tails_within = tt;
+      tail_within = c.in_ok-tail.ensures.limits;
+      kind = own_kind t;
+      lists_are = c.take_lists-lists.ensures.lists;
+    } in
+    let p = err_from_is_err_and c.from_residual-in_err-add.result c.from_residual-in_err-add.ensures.1 in
+    rw (p.1, p.2) (elim c.in_err-add.ensures.fault [
+      | inl is ↦ no_memory_named _ 0 _ c.requires is
+      | inr fails ↦ join_named _ t t (t ∷ []) 0 _ c.requires (fails t t [] next)
+    ])

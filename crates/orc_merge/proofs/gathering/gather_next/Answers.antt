@@ -1,11 +1,11 @@
-use Rattle.std.proofs.Common.{◌≡◌, inl, inr, refl, Err, [], ◌∷◌, ◌++◌, map, sym, ap}
+use Rattle.std.proofs.Common.{◌≡◌, ◌<◌, inl, inr, refl, Err, [], ◌∷◌, ◌++◌, map, sym, ap, arith}
 use Rattle.std.proofs.Math.Seq.{map-set_same}
 use Rattle.std.proofs.lemmas.Result.{err_from_is_err_and, IfErr-at_err}
 use Rattle.orc_file.specs.declared.tail.Tail.{Tail}
 use Rattle.orc_merge.specs.declared.fault.MergeFault.{MergeFault}
 use Rattle.orc_merge.specs.SoFar.{IsNext}
-use Rattle.orc_merge.proofs.InputsRead.{one_more, open_refused, open_counted, next_refused, no_memory, no_memory_counted}
-use Rattle.orc_merge.proofs.NextTests.{kind_of, end_few, kind_refused, join_refused, join_counted}
+use Rattle.orc_merge.proofs.InputsRead.{one_more, open_refused, open_counted, next_refused, no_memory, no_memory_counted, open_named, no_memory_named}
+use Rattle.orc_merge.proofs.NextTests.{kind_of, end_few, kind_refused, join_refused, join_counted, kind_named, join_named}
 use Rattle.orc_merge.proofs.gathering.gather_next.Goals as goal
 
 pub returns-in_err-tail-clause-told : goal.returns-in_err-tail-clause-told
@@ -137,3 +137,35 @@ returns-in_err-tail-clause-memory g c =
 pub returns-in_err-add-clause-memory : goal.returns-in_err-add-clause-memory
 returns-in_err-add-clause-memory g c = λ e.
     map-set_same g.S.Source.failures c.args.inputs.now c.args.number c.tail_of.new.input c.index-inputs-number.result c.in_ok-tail.ensures.kept
+
+pub returns-in_err-tail-clause-named : goal.returns-in_err-tail-clause-named
+returns-in_err-tail-clause-named g c =
+    let p = err_from_is_err_and c.from_residual.result c.from_residual.ensures.1 in
+    rw (p.1, p.2) (open_named _ c.args.number _ _ c.requires.number c.in_err-tail.ensures.fault)
+
+pub returns-in_err-compare-clause-named : goal.returns-in_err-compare-clause-named
+returns-in_err-compare-clause-named g c =
+    let many = c.requires.before.tails_are.many in
+    let later : 0 < c.args.number = omega (arith, many) in
+    let p = err_from_is_err_and c.from_residual-in_err-compare.result c.from_residual-in_err-compare.ensures.1 in
+    rw (p.1, p.2) (kind_named _ c.args.gathered.now.first c.in_ok-tail.tail c.args.number _ later c.requires.number c.in_err-compare.ensures.fault)
+
+pub returns-in_err-add-clause-named : goal.returns-in_err-add-clause-named
+returns-in_err-add-clause-named g c =
+    let s = c.requires.before in
+    let t : Tail = c.in_ok-tail.tail in
+    let next : IsNext s.first (s.first ∷ s.rest) t c.args.number c.take_lists-lists.result c.args.gathered.now = record {
+      number_is = sym s.tails_are.many;
+      gathered = s.gathered;
+      merges = s.merges;
+      first_within = s.tails_are.limits.0;
+      tails_within = s.tails_are.limits;
+      tail_within = c.in_ok-tail.ensures.limits;
+      kind = kind_of s.first c.args.gathered.now.first t s.gathered.first_is c.in_ok-compare.ensures.alike;
+      lists_are = c.take_lists-lists.ensures.lists;
+    } in
+    let p = err_from_is_err_and c.from_residual-in_err-add.result c.from_residual-in_err-add.ensures.1 in
+    rw (p.1, p.2) (elim c.in_err-add.ensures.fault [
+      | inl is ↦ no_memory_named _ c.args.number _ c.requires.number is
+      | inr fails ↦ join_named _ s.first t (s.first ∷ (s.rest ++ t ∷ [])) c.args.number _ c.requires.number (fails s.first t (s.first ∷ s.rest) next)
+    ])

@@ -1,6 +1,6 @@
 use Rattle.orc_stats.proofs.Shuffled.{joined-shuffled}
 use Rattle.orc_merge.proofs.Ordered.{any_order, order_same}
-use Rattle.orc_merge.proofs.Honest.{honest_merge, sum_stands}
+use Rattle.orc_merge.proofs.Honest.{honest_merge, sum_stands, sum_known, known_else}
 use Rattle.orc_merge.proofs.laws.orders.Goals as goal
 
 pub returns-clause-joined : goal.returns-clause-joined
@@ -20,3 +20,9 @@ returns-clause-whole c = λ inputs tail out parts m h. (honest_merge inputs tail
 
 pub returns-clause-sum : goal.returns-clause-sum
 returns-clause-sum c = sum_stands
+
+pub returns-clause-known : goal.returns-clause-known
+returns-clause-known c = sum_known
+
+pub returns-clause-known_else : goal.returns-clause-known_else
+returns-clause-known_else c = known_else

@@ -1,6 +1,7 @@
 use Rattle.orc_merge.proofs.Refusing.{no_fault}
 use Rattle.orc_merge.proofs.OneFault.{one_merge, one_fault}
 use Rattle.orc_merge.proofs.Cover.{merge_or_fault}
+use Rattle.orc_merge.proofs.PastLimit.{past_limit}
 use Rattle.orc_merge.proofs.laws.outcomes.Goals as goal
 
 pub returns-clause-one : goal.returns-clause-one
@@ -14,3 +15,6 @@ returns-clause-none c = no_fault
 
 pub returns-clause-single : goal.returns-clause-single
 returns-clause-single c = one_fault
+
+pub returns-clause-limit : goal.returns-clause-limit
+returns-clause-limit c = past_limit

@@ -3,6 +3,7 @@ use Rattle.orc_io.specs.Devices.{appended}
 use Rattle.orc_file.specs.Layout.{magic}
 use Rattle.orc_file.specs.Images.{tail_text}
 use Rattle.orc_merge.specs.Copies.{pieces_bytes}
+use Rattle.orc_merge.proofs.InputsRead.{rose_within, as_long}
 use Rattle.orc_merge.proofs.MergedLength.{short_of_text}
 use Rattle.orc_merge.proofs.merging.merge.Goals as goal
 
@@ -19,3 +20,10 @@ returns-in-Ok-write_merged-clause-merged g c = λ files same.
           ∙ ap (λ p. appended (g.W.Sink.told c.args.out.now) (magic ++ (pieces_bytes files p ++ c.deref-2.result.now))) c.deref.ensures.value
           ∙ ap (λ t. appended (g.W.Sink.told c.args.out.now) (magic ++ (pieces_bytes files c.in-Ok.found.1.items ++ t))) (c.deref-2.ensures.value ∙ text);
     }
+
+pub returns-in-Err-default-SourceFailed-clause-named : goal.returns-in-Err-default-SourceFailed-clause-named
+returns-in-Err-default-SourceFailed-clause-named g c =
+    let rose = c.in-Err-default-SourceFailed.ensures.source_failed c.in-Err-default-SourceFailed.field-0-1-is in
+    let there : c.in-Err-default-SourceFailed.number < length c.gather.new.inputs =
+    rose_within g.S.Source.told g.S.Source.failures c.gather.new.inputs c.write_merged.new.inputs c.in-Err-default-SourceFailed.number c.write_merged.ensures.told rose in
+    omega (arith, there, as_long g.S.Source.told c.args.inputs.now c.gather.new.inputs c.gather.ensures.told)

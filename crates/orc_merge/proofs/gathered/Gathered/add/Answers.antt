@@ -4,6 +4,8 @@ use Rattle.orc_file.specs.Stripes.{stripes_length}
 use Rattle.orc_merge.specs.Merging.{Agree, HasStatistics, all_pairs, all_stats, placed, distinct}
 use Rattle.orc_merge.specs.Gathering.{pieces_in}
 use Rattle.orc_merge.specs.Counts.{AreCounts}
+use Rattle.orc_merge.specs.PairPlaces.{ArePlaces}
+use Rattle.orc_merge.specs.declared.user_pairs.UserPairs.{UserPairs}
 use Rattle.orc_merge.proofs.NextInput.{pairs_so_far, next_pairs, next_stats, statistics_of, statistics_to, next_few, next_merges, placed_push, pieces_push, rows_push, end_push}
 use Rattle.orc_merge.proofs.gathered.Gathered.add.Goals as goal
 
@@ -61,7 +63,8 @@ returns-clause-gathered c = λ first tail tails n.
       stripes = stripes ∙ (λ i. n.gathered.stripes i ++ placed (n.gathered.end i) (n.lists_are.stripes i)) ∙ sym (placed_push tails tail);
       end = end ∙ (λ i. n.gathered.end i + stripes_length (n.lists_are.stripes i)) ∙ end_push tails tail;
       stripe_stats = kept ∙ sym (next_stats first tail tails c.args.number c.args.lists c.args.self.now n);
-      user = ap (λ v. v.items) c.in_ok-add_stripes.ensures.others.1 ∙ pairs.kept_are ∙ ap distinct (sym (next_pairs first tail tails c.args.number c.args.lists c.args.self.now n));
+      user = ap (λ v. v.pairs.items) c.in_ok-add_stripes.ensures.others.1 ∙ pairs.kept_are ∙ ap distinct (sym (next_pairs first tail tails c.args.number c.args.lists c.args.self.now n));
+      user_places = subst (λ (kept : UserPairs). ArePlaces kept.pairs.items kept.places) (sym c.in_ok-add_stripes.ensures.others.1) pairs.places;
       rows = rows ∙ (λ i. n.gathered.rows i + n.lists_are.rows i) ∙ sym (rows_push tails tail);
       pieces = pieces ∙ (λ i. n.gathered.pieces i ++ pieces_in (n.number_is i) (n.lists_are.stripes i)) ∙ sym (pieces_push tails tail);
       counts = subst (AreCounts c.add_stripes.new.self.counts.items) (sym (next_stats first tail tails c.args.number c.args.lists c.args.self.now n)) (counts (all_stats tails) n.gathered.counts);

@@ -1,7 +1,7 @@
 use Rattle.std.proofs.Common.{◌≡◌, List, ◌∷◌, ◌++◌, sym, ap, ◌∙◌, subst, append_assoc, inl, inr}
 use Rattle.orc_wire.specs.declared.footer.UserMetadataItem.{UserMetadataItem}
 use Rattle.orc_merge.specs.Merging.{Agree}
-use Rattle.orc_merge.proofs.user_pairs.add_pairs.Goals as goal
+use Rattle.orc_merge.proofs.user_pairs.UserPairs.add_pairs.Goals as goal
 
 pub returns-in-Err-clause-fault : goal.returns-in-Err-clause-fault
 returns-in-Err-clause-fault c = elim c.in-Err.ensures.fault [
