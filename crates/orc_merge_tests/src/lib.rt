@@ -1,11 +1,6 @@
-//! Tests of `orc_merge` and of `orc_check` by their public calls: files merged, refused, and merged again in groups,
-//! and what is found in files that were changed. They stand apart from both, so that neither is proved again with
-//! them. And a caller whose contract rests on the laws of `orc_merge`.
+//! Tests of `orc_merge` and of `orc_check` by their public calls: files merged and refused, and what is found in files
+//! that were changed. They stand apart from both, so that neither is proved again with them.
 #![tactic(auto)]
-
-mod steps;
-
-pub use steps::in_two_steps;
 
 #[cfg(test)]
 mod assertions;

@@ -5,7 +5,6 @@ mod outcomes;
 mod pages;
 mod resting;
 mod statistics;
-mod steps;
 mod stripes;
 
 use crate::assertions::check_bytes;
@@ -33,10 +32,7 @@ fn merge_once(alloc: Global, files: &[&[u8]]) -> Result<Vec<u8>, MergeFault> {
 }
 
 /// A source for each file.
-pub(crate) fn sources<'a>(
-    alloc: Global,
-    files: &[&'a [u8]],
-) -> Result<Vec<SliceSource<'a>>, MergeFault> {
+fn sources<'a>(alloc: Global, files: &[&'a [u8]]) -> Result<Vec<SliceSource<'a>>, MergeFault> {
     let mut sources = Vec::new(alloc);
     for file in files {
         sources.push(SliceSource::new(file))?;

@@ -1,0 +1,53 @@
+-- Rows that are pushed, and what is read of what was written of them.
+use Rattle.std.proofs.Common.{◌≡◌, ◌∙◌, ℕ, ◌+◌, ◌<◌, List, [], ◌∷◌, ◌++◌, length, map, get_or, drop, Option, Some, refl, sym, ap, subst, append_assoc}
+use Rattle.std.proofs.lemmas.List.{drop_more}
+use Rattle.orc_types.specs.Cells.{Cell}
+use Rattle.orc_types.specs.Shapes.{Shape}
+use Rattle.orc_stripe_writer.specs.declared.options.Options.{Options}
+use Rattle.orc_file.specs.FileRows.{FileIs}
+use Rattle.orc_file.specs.Writing.{IsWhole}
+use Rattle.orc_file.specs.declared.tail.Tail.{Tail}
+use Rattle.orc_check.specs.Findings.{Findings}
+use Rattle.orc_check.specs.declared.finding.Finding.{Finding}
+use Rattle.orc_theorems.specs.Inputs.{AreFound}
+use Rattle.orc_theorems.proofs.Told.{bytes_are}
+
+-- one row more, of those that are left
+pub pushed_more : {X : Type 0} (view : X → Cell) (rows : List X) (i : ℕ) (row : X) (done : List Cell) → i < length rows → row ≡ get_or rows i row
+    → done ++ map view (drop i rows) ≡ map view rows → (done ++ view row ∷ []) ++ map view (drop (i + 1) rows) ≡ map view rows
+pushed_more {X} view rows i row done lt is all =
+    let next : drop i rows ≡ row ∷ drop (i + 1) rows = drop_more rows i row lt ∙ ap (λ (r : X). r ∷ drop (i + 1) rows) (sym is) in
+    append_assoc done (view row ∷ []) (map view (drop (i + 1) rows)) ∙ ap (λ (rs : List X). done ++ map view rs) (sym next) ∙ all
+
+-- what the theorem says of reading and of checking
+abbrev pub ReadLaw : Type 0
+ReadLaw = (options : Options) (schema : Shape) (tail : Tail) (first told : Option (List ℕ)) (rows : List Cell) (opened : Tail) (found : List Cell)
+    → (wrote : IsWhole options schema tail first told rows) → FileIs wrote.bytes opened found → (opened ≡ tail) × (found ≡ rows)
+
+abbrev pub CheckedLaw : Type 0
+CheckedLaw = (options : Options) (schema : Shape) (tail : Tail) (first told : Option (List ℕ)) (rows : List Cell) (found : List Finding)
+    → (wrote : IsWhole options schema tail first told rows) → Findings wrote.bytes tail rows found → found ≡ []
+
+-- where these are the bytes of what was written, their rows are those that were written
+pub read_back : ReadLaw → (options : Options) (schema : Shape) (tail : Tail) (bytes there : List ℕ) (rows : List Cell) (opened : Tail) (found : List Cell)
+    → IsWhole options schema tail (Some []) (Some bytes) rows → there ≡ bytes → FileIs there opened found → (opened ≡ tail) × (found ≡ rows)
+read_back read options schema tail bytes there rows opened found wrote same is =
+    let mine : wrote.bytes ≡ bytes = bytes_are (Some []) (Some bytes) bytes wrote.bytes refl refl wrote.told_is in
+    read options schema tail (Some []) (Some bytes) rows opened found wrote (subst (λ (b : List ℕ). FileIs b opened found) (same ∙ sym mine) is)
+
+-- they are a file with the tail that was answered
+pub file_back : ReadLaw → (options : Options) (schema : Shape) (tail : Tail) (bytes there : List ℕ) (rows : List Cell) (opened : Tail) (found : List Cell)
+    → IsWhole options schema tail (Some []) (Some bytes) rows → there ≡ bytes → FileIs there opened found → FileIs bytes tail found
+file_back read options schema tail bytes there rows opened found wrote same is =
+    let back = read_back read options schema tail bytes there rows opened found wrote same is in
+    subst (λ (t : Tail). FileIs bytes t found) back.0 (subst (λ (b : List ℕ). FileIs b opened found) same is)
+
+-- and nothing is found of them
+pub nothing_back : ReadLaw → CheckedLaw → (options : Options) (schema : Shape) (tail : Tail) (bytes there : List ℕ) (rows : List Cell) (found : List Finding)
+    → IsWhole options schema tail (Some []) (Some bytes) rows → there ≡ bytes → AreFound there found → found ≡ []
+nothing_back read checked options schema tail bytes there rows found wrote same h =
+    let mine : wrote.bytes ≡ bytes = bytes_are (Some []) (Some bytes) bytes wrote.bytes refl refl wrote.told_is in
+    let back = read_back read options schema tail bytes there rows h.0 h.1 wrote same h.2 in
+    let findings : Findings wrote.bytes tail rows found = subst (λ (rs : List Cell). Findings wrote.bytes tail rs found) back.1
+    (subst (λ (t : Tail). Findings wrote.bytes t h.1 found) back.0 (subst (λ (b : List ℕ). Findings b h.0 h.1 found) (same ∙ sym mine) h.3)) in
+    checked options schema tail (Some []) (Some bytes) rows found wrote findings

@@ -1,0 +1,14 @@
+use Rattle.std.proofs.Common.{[], ◌∷◌}
+use Rattle.orc_theorems.proofs.Told.{ok_more, two_told}
+use Rattle.orc_theorems.proofs.StepLemmas.{two_wrote}
+use Rattle.orc_theorems.proofs.merging_calls.in_two_steps.Goals as goal
+
+pub returns : goal.returns
+returns g c = record {
+  merged = ok_more c.merge-3.result _ _ c.merge-3.ensures.merged (λ tail w xs ys left right.
+      two_wrote c.merge_theorem.ensures.answered xs ys c.in_ok-merge.field-0 c.in_ok-merge-2.field-0 tail c.into_vec-first.result.items c.into_vec-second.result.items _ _ _ _ _ _
+      c.new-first.ensures.told c.into_vec-first.ensures.told (c.in_ok-merge.ensures.merged xs left)
+      c.new-second.ensures.told c.into_vec-second.ensures.told (c.in_ok-merge-2.ensures.merged ys right)
+      (w (c.into_vec-first.result.items ∷ c.into_vec-second.result.items ∷ [])
+      (two_told _ _ _ _ _ _ c.new.ensures.told c.deref.ensures.value c.new-2.ensures.told c.deref-2.ensures.value)));
+}

@@ -1,0 +1,22 @@
+use Rattle.orc_theorems.proofs.Told.{ok_more, err_more}
+use Rattle.orc_theorems.proofs.StepLemmas.{steps_wrote, first_refuses, last_refuses}
+use Rattle.orc_theorems.proofs.merging_calls.join_in_steps.Goals as goal
+
+pub returns-in-Ok-clause-wrote : goal.returns-in-Ok-clause-wrote
+returns-in-Ok-clause-wrote c = ok_more c.join_two-in-Ok.result _ _ c.join_two-in-Ok.ensures.wrote (λ done w.
+    (steps_wrote c.merge_theorem.ensures.answered c.args.first.now c.args.second.now c.args.third.now c.in-Ok.front.bytes.items c.deref.result.now done.bytes.items
+    c.in-Ok.front.tail done.tail c.in-Ok.ensures.wrote c.deref.ensures.value w).0)
+
+pub returns-in-Ok-clause-merged : goal.returns-in-Ok-clause-merged
+returns-in-Ok-clause-merged c = ok_more c.join_two-in-Ok.result _ _ c.join_two-in-Ok.ensures.wrote (λ done w.
+    (steps_wrote c.merge_theorem.ensures.answered c.args.first.now c.args.second.now c.args.third.now c.in-Ok.front.bytes.items c.deref.result.now done.bytes.items
+    c.in-Ok.front.tail done.tail c.in-Ok.ensures.wrote c.deref.ensures.value w).1)
+
+pub returns-in-Ok-clause-refused : goal.returns-in-Ok-clause-refused
+returns-in-Ok-clause-refused c = err_more c.join_two-in-Ok.result _ _ c.join_two-in-Ok.ensures.refused (λ e answer.
+    last_refuses c.merge_theorem.ensures.refused c.args.first.now c.args.second.now c.args.third.now c.in-Ok.front.bytes.items c.deref.result.now c.in-Ok.front.tail e
+    c.in-Ok.ensures.wrote c.deref.ensures.value answer)
+
+pub returns-in-Err-clause-refused : goal.returns-in-Err-clause-refused
+returns-in-Err-clause-refused c =
+    first_refuses c.merge_theorem.ensures.refused c.args.first.now c.args.second.now c.args.third.now c.in-Err.fault c.in-Err.ensures.refused

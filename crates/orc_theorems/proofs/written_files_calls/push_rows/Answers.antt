@@ -1,0 +1,28 @@
+use Rattle.std.proofs.Common.{◌≡◌, ◌∙◌, [], ◌∷◌, ◌++◌, map, sym, append_assoc, append-nil, drop}
+use Rattle.std.proofs.lemmas.List.{at_drop_all}
+use Rattle.orc_types.specs.Views.{view, views}
+use Rattle.orc_theorems.proofs.ReadLemmas.{pushed_more}
+use Rattle.orc_theorems.proofs.written_files_calls.push_rows.Goals as goal
+
+pub loop-row-preserved : goal.loop-row-preserved
+loop-row-preserved g c =
+    let inv = c.loop-row.invariant in
+    let row = c.row-item.result in
+    record {
+      schema = c.push.ensures.same.0 ∙ inv.schema;
+      options = c.push.ensures.same.1 ∙ inv.options;
+      pushed = (
+        inv.pushed.0 ++ view c.row-item.result ∷ [],
+        pushed_more view c.args.rows.now c.loop-row.row-index c.row-item.result inv.pushed.0 c.loop-row-test.true c.row-item.is inv.pushed.1,
+        λ first before h.
+            rw (← append_assoc before inv.pushed.0 (view row ∷ [])) (c.in_ok-push.ensures.pushed first (before ++ inv.pushed.0) (inv.pushed.2 first before h)),
+      );
+    }
+
+pub returns-clause-pushed : goal.returns-clause-pushed
+returns-clause-pushed g c = λ first before h.
+    let inv = c.loop-row.invariant in
+    let none : inv.pushed.0 ++ views (drop c.loop-row.row-index c.args.rows.now) ≡ inv.pushed.0 ++ []
+    = at_drop_all (λ rows. inv.pushed.0 ++ map view rows) c.args.rows.now c.loop-row.row-index c.loop-row-test.false in
+    let all : inv.pushed.0 ≡ views c.args.rows.now = sym (append-nil inv.pushed.0) ∙ sym none ∙ inv.pushed.1 in
+    rw (← all) (inv.pushed.2 first before h)

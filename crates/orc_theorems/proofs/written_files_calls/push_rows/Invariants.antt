@@ -1,0 +1,16 @@
+use Rattle.std.proofs.Common.{◌≡◌, ◌++◌, ℕ, List, Option, drop}
+use Rattle.orc_types.specs.Cells.{Cell}
+use Rattle.orc_types.specs.Views.{views}
+use Rattle.orc_file.specs.Progress.{progress}
+use Rattle.orc_file.specs.Writing.{HasPushed}
+use Rattle.orc_theorems.proofs.written_files_calls.push_rows.Given as goal
+
+-- some rows are pushed, and with those that are left they are all
+abbrev pub invariant-loop-row : goal.invariant-loop-row
+invariant-loop-row g l = record {
+  schema : l.writer.schema ≡ l.initial.writer.schema;
+  options : l.writer.options ≡ l.initial.writer.options;
+  pushed : (done : List Cell) × (done ++ views (drop l.row-index l.rows) ≡ views l.rows)
+      × ((first : Option (List ℕ)) (before : List Cell) → HasPushed (progress g.W.Sink.told l.initial.writer) first before
+      → HasPushed (progress g.W.Sink.told l.writer) first (before ++ done));
+}

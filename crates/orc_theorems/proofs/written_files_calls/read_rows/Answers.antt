@@ -1,0 +1,12 @@
+use Rattle.std.proofs.Common.{◌∙◌, ℕ, List}
+use Rattle.orc_types.specs.Views.{views}
+use Rattle.orc_file.specs.FileRows.{FileIs}
+use Rattle.orc_file.specs.Tails.{IsTail}
+use Rattle.orc_theorems.proofs.Told.{at_told, ok_more}
+use Rattle.orc_theorems.proofs.written_files_calls.read_rows.Goals as goal
+
+pub returns-in-Ok : goal.returns-in-Ok
+returns-in-Ok c =
+    let opened = at_told _ c.args.bytes.now (λ (b : List ℕ). IsTail b c.in-Ok.file.tail) c.new.ensures.told c.in-Ok.ensures.found in
+    ok_more c.rows.result _ _ c.rows.ensures.found (λ rows read.
+    (c.in-Ok.file.tail, at_told _ c.args.bytes.now (λ (b : List ℕ). IsTail b c.in-Ok.file.tail → FileIs b c.in-Ok.file.tail (views rows.items)) (c.in-Ok.ensures.same ∙ c.new.ensures.told) read opened))

@@ -1,0 +1,19 @@
+-- Groupings of two files and of three (own).
+use Rattle.std.specs.Prelude.{ℕ, List}
+use Rattle.orc_merge.specs.Grouping.{Group, input, merge, one, and}
+
+-- two files
+abbrev pub pair : List ℕ → List ℕ → Group
+pair a b = merge (and (input a) (one (input b)))
+
+-- three files at once
+abbrev pub at_once : List ℕ → List ℕ → List ℕ → Group
+at_once a b c = merge (and (input a) (and (input b) (one (input c))))
+
+-- the first two of three, and then what that gave with the third
+abbrev pub first_two : List ℕ → List ℕ → List ℕ → Group
+first_two a b c = merge (and (pair a b) (one (input c)))
+
+-- the last two of three, and then the first with what that gave
+abbrev pub last_two : List ℕ → List ℕ → List ℕ → Group
+last_two a b c = merge (and (input a) (one (pair b c)))

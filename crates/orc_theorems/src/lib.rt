@@ -1,0 +1,26 @@
+//! The theorems: of each a function that does nothing, whose contract is the statement, whole, premises first and
+//! each by a name. And callers over each, which make the calls that it speaks of: what they promise is what it says
+//! of these.
+#![tactic(auto)]
+
+mod fault;
+mod groups_of_rows;
+mod groups_of_rows_calls;
+mod memory;
+mod merged_findings;
+mod merged_findings_calls;
+mod merging;
+mod merging_calls;
+mod written_files;
+mod written_files_calls;
+
+pub use fault::CallFault;
+pub use groups_of_rows::reading_from_the_middle;
+pub use groups_of_rows_calls::print_from;
+pub use memory::FileInMemory;
+pub use merged_findings::findings_of_merges;
+pub use merged_findings_calls::{CheckedJoin, join_checked};
+pub use merging::merge_theorem;
+pub use merging_calls::{in_two_steps, join_in_groupings, join_in_orders, join_in_steps};
+pub use written_files::written_files_read_back;
+pub use written_files_calls::{ReadBack, write_and_read};

@@ -1,0 +1,40 @@
+//! What is found of merged files. `findings_of_merges` does nothing: its contract is the statement.
+//!
+//! `Findings bytes tail rows found` says that `check` finds this list in a file with this tail and these rows: each
+//! of its statistics, of stripes, of groups of rows and of the whole file, that isn't that of the rows, and each row
+//! index that doesn't say where the groups begin. `AreWithoutFinding files parts` says that each file has these rows,
+//! and that nothing is found of it.
+ghost use Rattle.std.specs.Prelude.{◌<◌, ◌^◌, ℕ, List, [], length};
+ghost use Rattle.orc_types.specs.Cells.{Cell};
+ghost use Rattle.orc_file.specs.FileRows.{FileIs, joined};
+ghost use Rattle.orc_file.specs.declared.tail.Tail.{Tail};
+ghost use Rattle.orc_check.specs.Findings.{Findings};
+ghost use Rattle.orc_merge.specs.Merging.{IsMerge};
+ghost use Rattle.orc_merge.specs.Grouping.{Groups, merge, all_leaves, Wrote};
+ghost use Rattle.orc_theorems.specs.Inputs.{AreWithoutFinding};
+
+use orc_check::finding_laws;
+use orc_merge::{grouping, orders};
+
+/// A file that is merged of files of which nothing is found has their rows in order, and nothing is found of it. So
+/// this holds of what is merged in groups, however deep: and reading from a group of rows, which is right in the
+/// inputs, is right in what is merged of them.
+pub fn findings_of_merges()
+    // Of one merge.
+    ensures merged { (files : List (List ℕ)) (tail : Tail) (out : List ℕ) (parts : List (List Cell))
+        → (it_is_their_merge : IsMerge files tail out)
+        → (it_has_fewer_than_2_64_bytes : length out < 2 ^ 64)
+        → (nothing_is_found_of_the_files : AreWithoutFinding files parts)
+        → FileIs out tail (joined parts) × Findings out tail (joined parts) [] }
+    // Of every grouping, where each of its merges answered Ok.
+    ensures grouped { (groups : Groups) (out : List ℕ) (parts : List (List Cell))
+        → (each_merge_wrote : Wrote (merge groups) out)
+        → (nothing_is_found_of_the_files : AreWithoutFinding (all_leaves groups) parts)
+        → (tail : Tail) × FileIs out tail (joined parts) × Findings out tail (joined parts) [] }
+{
+    // each for its contract alone: nothing is found of a file exactly where its rows have the statistics and indexes
+    // that it tells, and a merged file has its inputs' rows, in order, and the statistics of all of them
+    finding_laws();
+    grouping();
+    orders();
+}

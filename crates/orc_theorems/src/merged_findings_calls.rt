@@ -1,0 +1,56 @@
+//! A caller over the theorem of findings: it checks two files, joins them, and checks what that gave.
+ghost use Rattle.std.specs.Prelude.{◌≡◌, ◌∷◌, [], Some, IfOk};
+ghost use Rattle.orc_merge.specs.Outcomes.{WroteMerge};
+ghost use Rattle.orc_theorems.specs.Inputs.{AreFound};
+
+use crate::fault::CallFault;
+use crate::memory::{FileInMemory, join_two};
+use crate::merged_findings::findings_of_merges;
+use orc_check::{Finding, check, finding_laws};
+use orc_file::{FileFault, SliceSource};
+use std::alloc::Global;
+
+/// What is found of two files, the file that they are joined into, and what is found of that.
+#[derive(Drop)]
+pub struct CheckedJoin {
+    pub first: Vec<Finding>,
+    pub second: Vec<Finding>,
+    pub joined: FileInMemory,
+    pub found: Vec<Finding>,
+}
+
+/// What is found of a file in memory.
+pub(crate) fn found_in(alloc: Global, bytes: &[u8]) -> Result<Vec<Finding>, FileFault>
+    ensures { IfOk result (λ found. AreFound bytes.now found.items) }
+{
+    let mut source = SliceSource::new(bytes);
+    check(alloc, &mut source)
+}
+
+/// Checks two files, joins them, and checks what that gave. Where nothing is found of either, nothing is found of
+/// that, by the clause `merged`.
+///
+/// Refusals: those of `check` and of `merge`, of one of its four calls.
+pub fn join_checked(alloc: Global, first: &[u8], second: &[u8]) -> Result<CheckedJoin, CallFault>
+    ensures before { IfOk result (λ done. AreFound first.now done.first.items
+        × AreFound second.now done.second.items) }
+    ensures merged { IfOk result (λ done.
+        WroteMerge (first.now ∷ second.now ∷ []) done.joined.tail (Some []) (Some done.joined.bytes.items)) }
+    ensures after { IfOk result (λ done. AreFound done.joined.bytes.items done.found.items) }
+    ensures nothing { IfOk result (λ done. done.first.items ≡ [] → done.second.items ≡ [] → done.found.items ≡ []) }
+{
+    // each for its contract alone: nothing is found of what is merged of files of which nothing is found, and a file
+    // has one list of findings
+    findings_of_merges();
+    finding_laws();
+    let found_first = found_in(alloc, first)?;
+    let found_second = found_in(alloc, second)?;
+    let joined = join_two(alloc, first, second)?;
+    let found = found_in(alloc, &joined.bytes)?;
+    Ok(CheckedJoin {
+        first: found_first,
+        second: found_second,
+        joined,
+        found,
+    })
+}

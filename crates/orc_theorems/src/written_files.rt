@@ -1,0 +1,72 @@
+//! What is written is read back. `written_files_read_back` does nothing: its contract is the statement.
+//!
+//! `IsWhole options schema tail first told rows` is what `Writer::finish` promises where it answers Ok: `tail` is
+//! what it answered, `rows` those that were pushed, `first` what the output had told before the writer was made, and
+//! `told` what it tells then. Its `bytes` are what was written. `OrcFile::open` finds a tail of which it says
+//! `IsTail`, `OrcFile::rows` rows of which it says `FileIs`, `check` a list of which it says `Findings`.
+ghost use Rattle.std.specs.Prelude.{◌≡◌, ◌<◌, ◌^◌, ℕ, List, [], length, Option};
+ghost use Rattle.orc_types.specs.Cells.{Cell};
+ghost use Rattle.orc_types.specs.Shapes.{Shape};
+ghost use Rattle.orc_stripe_writer.specs.declared.options.Options.{Options};
+ghost use Rattle.orc_io.specs.Devices.{appended};
+ghost use Rattle.orc_file.specs.Tails.{IsTail};
+ghost use Rattle.orc_file.specs.Images.{types_text};
+ghost use Rattle.orc_file.specs.FileRows.{FileIs};
+ghost use Rattle.orc_file.specs.Honest.{Honest, HasWholeStats};
+ghost use Rattle.orc_file.specs.Writing.{IsWhole, IsCutOff, IsFrontOfFile};
+ghost use Rattle.orc_file.specs.declared.tail.Tail.{Tail};
+ghost use Rattle.orc_check.specs.Findings.{Findings};
+ghost use Rattle.orc_check.specs.declared.finding.Finding.{Finding};
+
+use orc_check::finding_laws;
+use orc_file::{row_laws, tail_laws, written_laws};
+
+/// A file that is written of rows opens with the tail that `finish` answered, is read as those rows, and nothing is
+/// found of it: its statistics, those of its stripes and of the whole file, and its row indexes are those of the
+/// rows.
+pub fn written_files_read_back()
+    // What was written, behind what the output had told, is a file of the rows, with the tail that is answered.
+    ensures written { (options : Options) (schema : Shape) (tail : Tail) (first told : Option (List ℕ)) (rows : List Cell)
+        → (finish_wrote : IsWhole options schema tail first told rows)
+        → (told ≡ appended first finish_wrote.bytes) × FileIs finish_wrote.bytes tail rows }
+    // Opening it finds that tail and no other.
+    ensures opened { (options : Options) (schema : Shape) (tail : Tail) (first told : Option (List ℕ)) (rows : List Cell)
+        (opened : Tail)
+        → (finish_wrote : IsWhole options schema tail first told rows)
+        → (open_found : IsTail finish_wrote.bytes opened)
+        → opened ≡ tail }
+    // Reading it finds those rows and no others.
+    ensures read { (options : Options) (schema : Shape) (tail : Tail) (first told : Option (List ℕ)) (rows : List Cell)
+        (opened : Tail) (found : List Cell)
+        → (finish_wrote : IsWhole options schema tail first told rows)
+        → (rows_found : FileIs finish_wrote.bytes opened found)
+        → (opened ≡ tail) × (found ≡ rows) }
+    // Its statistics are those of the rows, of each stripe and of the whole file.
+    ensures statistics { (options : Options) (schema : Shape) (tail : Tail) (first told : Option (List ℕ))
+        (rows : List Cell)
+        → (finish_wrote : IsWhole options schema tail first told rows)
+        → Honest tail rows × HasWholeStats tail rows }
+    // Checking it finds nothing.
+    ensures checked { (options : Options) (schema : Shape) (tail : Tail) (first told : Option (List ℕ)) (rows : List Cell)
+        (found : List Finding)
+        → (finish_wrote : IsWhole options schema tail first told rows)
+        → (check_found : Findings finish_wrote.bytes tail rows found)
+        → found ≡ [] }
+    // Of the same rows, by the same options and schema, one file is written.
+    ensures one { (options : Options) (schema : Shape) (tail other : Tail) (first told start end : Option (List ℕ))
+        (rows : List Cell)
+        → (finish_wrote : IsWhole options schema tail first told rows)
+        → (another_finish_wrote : IsWhole options schema other start end rows)
+        → (other ≡ tail) × (another_finish_wrote.bytes ≡ finish_wrote.bytes) }
+    // Where a call of the writer failed, what was written is the front of a file of some of the first rows.
+    ensures front { (options : Options) (schema : Shape) (first told : Option (List ℕ)) (rows : List Cell)
+        → (a_call_failed : IsCutOff options schema first told rows)
+        → (types_have_fewer_than_2_62_bytes : length (types_text schema) < 2 ^ 62)
+        → IsFrontOfFile schema first told rows }
+{
+    // each for its contract alone
+    written_laws();
+    tail_laws();
+    row_laws();
+    finding_laws();
+}

@@ -1,0 +1,103 @@
+//! A caller over the theorem of written files: it writes rows to memory, reads them back, and checks what it wrote.
+ghost use Rattle.std.specs.Prelude.{◌≡◌, ◌++◌, [], ℕ, List, Option, Some, IfOk, OnOk};
+ghost use Rattle.orc_types.specs.Cells.{Cell};
+ghost use Rattle.orc_types.specs.Views.{views};
+ghost use Rattle.orc_file.specs.FileRows.{FileIs};
+ghost use Rattle.orc_file.specs.Progress.{progress};
+ghost use Rattle.orc_file.specs.Writing.{HasPushed, IsWhole};
+ghost use Rattle.orc_file.specs.declared.tail.Tail.{Tail};
+ghost use Rattle.orc_theorems.specs.Inputs.{AreFound};
+
+use crate::memory::FileInMemory;
+use crate::merged_findings_calls::found_in;
+use crate::written_files::written_files_read_back;
+use orc_check::Finding;
+use orc_file::{FileFault, OrcFile, Sink, SliceSource, VecSink, Writer};
+use orc_stripe::Options;
+use orc_types::{Row, Schema};
+use std::alloc::Global;
+
+/// A file that was written of rows, the rows that it is read as, and what is found of it.
+#[derive(Drop)]
+pub struct ReadBack {
+    pub file: FileInMemory,
+    pub rows: Vec<Row<'static>>,
+    pub found: Vec<Finding>,
+}
+
+/// Pushes rows to a writer.
+fn push_rows<W: Sink>(writer: &mut Writer<W>, rows: &[Row<'_>]) -> Result<(), FileFault>
+    ensures pushed { (first : Option (List ℕ)) (before : List Cell)
+        → HasPushed (progress W.told writer.old) first before
+        → OnOk result (HasPushed (progress W.told writer.new) first (before ++ views rows.now)) }
+    ensures same { (writer.new.schema ≡ writer.old.schema) × (writer.new.options ≡ writer.old.options) }
+{
+    for row in rows {
+        writer.push(row)?;
+    }
+    Ok(())
+}
+
+/// Writes a file of rows to memory.
+fn write_rows(
+    alloc: Global,
+    schema: Schema,
+    options: Options,
+    rows: &[Row<'_>],
+) -> Result<FileInMemory, FileFault>
+    ensures { IfOk result (λ file.
+        IsWhole options schema file.tail (Some []) (Some file.bytes.items) (views rows.now)) }
+{
+    let out = VecSink::new(alloc);
+    let mut writer = match Writer::new(alloc, schema, options, out) {
+        Ok(writer) => writer,
+        Err((fault, _)) => return Err(fault),
+    };
+    push_rows(&mut writer, rows)?;
+    match writer.finish() {
+        Ok((tail, out)) => Ok(FileInMemory {
+            tail,
+            bytes: out.into_vec(),
+        }),
+        Err((fault, _)) => Err(fault),
+    }
+}
+
+/// The rows of a file in memory.
+fn read_rows(alloc: Global, bytes: &[u8]) -> Result<Vec<Row<'static>>, FileFault>
+    ensures { IfOk result (λ rows. (tail : Tail) × FileIs bytes.now tail (views rows.items)) }
+{
+    match OrcFile::open(alloc, SliceSource::new(bytes)) {
+        Ok(mut file) => file.rows(alloc),
+        Err((fault, _)) => Err(fault),
+    }
+}
+
+/// Writes a file of rows to memory, opens it and reads it, and checks it. What is read are the rows that were
+/// written, by the clause `read`, and nothing is found, by the clause `checked`.
+///
+/// Refusals: those of `Writer`, of opening and reading, and of `check`.
+pub fn write_and_read(
+    alloc: Global,
+    schema: Schema,
+    options: Options,
+    rows: &[Row<'_>],
+) -> Result<ReadBack, FileFault>
+    ensures written { IfOk result (λ done.
+        IsWhole options schema done.file.tail (Some []) (Some done.file.bytes.items) (views rows.now)) }
+    ensures read { IfOk result (λ done. FileIs done.file.bytes.items done.file.tail (views done.rows.items)) }
+    ensures same { IfOk result (λ done. views done.rows.items ≡ views rows.now) }
+    ensures checked { IfOk result (λ done. AreFound done.file.bytes.items done.found.items) }
+    ensures nothing { IfOk result (λ done. done.found.items ≡ []) }
+{
+    // for its contract alone: what is written is read back
+    written_files_read_back();
+    let file = write_rows(alloc, schema, options, rows)?;
+    let read = read_rows(alloc, &file.bytes)?;
+    let found = found_in(alloc, &file.bytes)?;
+    Ok(ReadBack {
+        file,
+        rows: read,
+        found,
+    })
+}

@@ -1,0 +1,98 @@
+//! The callers, without their contracts, of which each test would prove more.
+use orc_cli_output::CliFault;
+use orc_file::{FileFault, Sink, Source};
+use orc_merge::MergeFault;
+use orc_stripe::Options;
+use orc_theorems::{
+    CallFault, in_two_steps, join_checked, join_in_groupings, join_in_orders, join_in_steps,
+    print_from, write_and_read,
+};
+use orc_types::{Row, Schema};
+use std::alloc::Global;
+
+/// Merges in two steps, and forgets the tail.
+pub(crate) fn two_steps<S: Source, W: Sink>(
+    alloc: Global,
+    left: &mut [S],
+    right: &mut [S],
+    out: &mut W,
+) -> Result<(), MergeFault> {
+    match in_two_steps(alloc, left, right, out) {
+        Ok(_) => Ok(()),
+        Err(fault) => Err(fault),
+    }
+}
+
+/// The bytes of three files that are joined in steps.
+pub(crate) fn steps(
+    alloc: Global,
+    first: &[u8],
+    second: &[u8],
+    third: &[u8],
+) -> Result<Vec<u8>, MergeFault> {
+    match join_in_steps(alloc, first, second, third) {
+        Ok(done) => Ok(done.bytes),
+        Err(fault) => Err(fault),
+    }
+}
+
+/// The bytes of three files that are joined, and whether each grouping gave them.
+pub(crate) fn groupings(
+    alloc: Global,
+    first: &[u8],
+    second: &[u8],
+    third: &[u8],
+) -> Result<(Vec<u8>, bool), MergeFault> {
+    match join_in_groupings(alloc, first, second, third) {
+        Ok((done, same)) => Ok((done.bytes, same)),
+        Err(fault) => Err(fault),
+    }
+}
+
+/// The bytes of two files that are joined in both orders.
+pub(crate) fn orders(
+    alloc: Global,
+    first: &[u8],
+    second: &[u8],
+) -> Result<(Vec<u8>, Vec<u8>), MergeFault> {
+    match join_in_orders(alloc, first, second) {
+        Ok((one, other)) => Ok((one.bytes, other.bytes)),
+        Err(fault) => Err(fault),
+    }
+}
+
+/// How much is found of two files, and of what they are joined into.
+pub(crate) fn findings(
+    alloc: Global,
+    first: &[u8],
+    second: &[u8],
+) -> Result<[usize; 3], CallFault> {
+    match join_checked(alloc, first, second) {
+        Ok(done) => Ok([done.first.len(), done.second.len(), done.found.len()]),
+        Err(fault) => Err(fault),
+    }
+}
+
+/// The bytes of a file that was written, and how many rows were read of it.
+pub(crate) fn written(
+    alloc: Global,
+    schema: Schema,
+    options: Options,
+    rows: &[Row<'_>],
+) -> Result<(Vec<u8>, usize), FileFault> {
+    match write_and_read(alloc, schema, options, rows) {
+        Ok(done) => {
+            let rows = done.rows.len();
+            let file = done.file;
+            Ok((file.bytes, rows))
+        }
+        Err(fault) => Err(fault),
+    }
+}
+
+/// What is printed of a file from a group on; nothing, where it isn't.
+pub(crate) fn printed(alloc: Global, bytes: &[u8], from: &str) -> Result<Vec<u8>, CliFault> {
+    let mut out = Vec::new(alloc);
+    print_from(alloc, bytes, from, &mut out)?;
+    Ok(out)
+}

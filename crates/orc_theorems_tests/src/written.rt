@@ -1,0 +1,47 @@
+//! Files that are written, read back, and read from their middle.
+use crate::assertions::{check_bytes, check_same};
+use crate::calls::{printed, written};
+use orc_cli_output::CliFault;
+use orc_file::FileFault;
+use orc_rle::Rle;
+use orc_stripe::Options;
+use orc_test_io::SEVENS;
+use orc_types::{Row, Schema, Value};
+use std::alloc::{AllocError, Global};
+
+fn seven(alloc: Global) -> Result<Row<'static>, AllocError> {
+    let mut fields: Vec<Row<'static>> = Vec::new(alloc);
+    fields.push(Some(Value::Int(7)))?;
+    Ok(Some(Value::Struct(fields)))
+}
+
+/// The file of three sevens with this stride, and how many rows are read of it.
+fn sevens(alloc: Global, stride: u32) -> Result<(Vec<u8>, usize), FileFault> {
+    let Some(options) = Options::new(Rle::One, stride, 3) else {
+        return Err(FileFault::Limit);
+    };
+    let Ok(schema) = Schema::parse(alloc, "struct<n:bigint>") else {
+        return Err(FileFault::OutOfMemory);
+    };
+    let mut rows = Vec::new(alloc);
+    for _ in 0..3 {
+        rows.push(seven(alloc)?)?;
+    }
+    written(alloc, schema, options, &rows)
+}
+
+#[test]
+fn three_sevens(rt: HostRuntime) -> Result<(), FileFault> {
+    let (bytes, rows) = sevens(rt.alloc(), 0)?;
+    check_bytes(&rt, "written", &bytes, &SEVENS);
+    check_same(&rt, "rows", &rows, &3);
+    Ok(())
+}
+
+#[test]
+fn from_the_middle(rt: HostRuntime) -> Result<(), CliFault> {
+    let (bytes, _) = sevens(rt.alloc(), 2)?;
+    let lines = printed(rt.alloc(), &bytes, "0:1")?;
+    check_bytes(&rt, "lines", &lines, b"{\"n\":7}\n");
+    Ok(())
+}
