@@ -1,14 +1,17 @@
 -- What is found of a file that two files are joined into.
-use Rattle.std.proofs.Common.{◌≡◌, ℕ, ◌<◌, List, [], ◌∷◌, length, Some, subst}
+use Rattle.std.proofs.Common.{◌≡◌, ℕ, ◌<◌, List, [], ◌∷◌, length, Option, Some, Result, Ok, Err, subst}
+use Rattle.std.specs.Prelude.{IfSome, IfErr, MatchResult}
 use Rattle.orc_types.specs.Cells.{Cell}
 use Rattle.orc_file.specs.FileRows.{FileIs, joined}
 use Rattle.orc_file.specs.declared.tail.Tail.{Tail}
+use Rattle.orc_file.specs.declared.fault.FileFault.{FileFault}
 use Rattle.orc_file.proofs.RowLemmas.{one_file}
 use Rattle.orc_check.specs.Findings.{Findings}
 use Rattle.orc_check.specs.declared.finding.Finding.{Finding}
 use Rattle.orc_merge.specs.Merging.{IsMerge}
 use Rattle.orc_merge.specs.Outcomes.{WroteMerge}
 use Rattle.orc_theorems.specs.Inputs.{AreWithoutFinding, AreFound}
+use Rattle.orc_theorems.proofs.Told.{at_told}
 use Rattle.orc_theorems.proofs.StepLemmas.{merge_of}
 
 -- what the theorem says of one merge
@@ -35,3 +38,16 @@ nothing_found merged one a b out tail f g found in_a in_b w in_out f_none g_none
     let none : Findings out in_out.0 in_out.1 [] = subst (λ (rows : List Cell). Findings out in_out.0 rows []) same.1
     (subst (λ (t : Tail). Findings out t (joined (x.1 ∷ y.1 ∷ [])) []) same.0 is.1) in
     one out in_out.0 in_out.1 found [] in_out.3 none
+
+-- ---- checking one file
+
+only_err : {T E : Type 0} (r : Result T E) (P : T → Type 0) (Q : E → Type 0) → MatchResult r P Q → IfErr r Q
+only_err (Ok x) P Q h = tt
+only_err (Err e) P Q h = h
+
+-- a file that is told is refused only so
+pub told_only : {T : Type 0} (P : List ℕ → Tail → List Cell → T → Type 0) (Q : FileFault → Type 0) (told : Option (List ℕ)) (bytes : List ℕ) (r : Result T FileFault) → told ≡ Some bytes
+    → IfSome told (λ b. (tail : Tail) (rows : List Cell) → FileIs b tail rows → MatchResult r (P b tail rows) Q)
+    → (tail : Tail) (rows : List Cell) → FileIs bytes tail rows → IfErr r Q
+told_only P Q told bytes r e h tail rows is =
+    only_err r (P bytes tail rows) Q (at_told told bytes (λ (b : List ℕ). (t : Tail) (rs : List Cell) → FileIs b t rs → MatchResult r (P b t rs) Q) e h tail rows is)

@@ -5,3 +5,5 @@ mod StepLemmas
 mod FoundLemmas
 mod ReadLemmas
 mod PrintLemmas
+mod BeforeLemmas
+mod FilesBefore

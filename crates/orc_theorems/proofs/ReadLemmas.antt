@@ -1,11 +1,11 @@
 -- Rows that are pushed, and what is read of what was written of them.
-use Rattle.std.proofs.Common.{◌≡◌, ◌∙◌, ℕ, ◌+◌, ◌<◌, List, [], ◌∷◌, ◌++◌, length, map, get_or, drop, Option, Some, refl, sym, ap, subst, append_assoc}
+use Rattle.std.proofs.Common.{◌≡◌, ◌∙◌, ℕ, zero, suc, ◌+◌, ◌<◌, List, [], ◌∷◌, ◌++◌, length, map, get_or, take, drop, Option, Some, refl, sym, ap, subst, append_assoc}
 use Rattle.std.proofs.lemmas.List.{drop_more}
 use Rattle.orc_types.specs.Cells.{Cell}
 use Rattle.orc_types.specs.Shapes.{Shape}
 use Rattle.orc_stripe_writer.specs.declared.options.Options.{Options}
 use Rattle.orc_file.specs.FileRows.{FileIs}
-use Rattle.orc_file.specs.Writing.{IsWhole}
+use Rattle.orc_file.specs.Writing.{IsWhole, IsSomeFile, IsCutOff}
 use Rattle.orc_file.specs.declared.tail.Tail.{Tail}
 use Rattle.orc_check.specs.Findings.{Findings}
 use Rattle.orc_check.specs.declared.finding.Finding.{Finding}
@@ -18,6 +18,41 @@ pub pushed_more : {X : Type 0} (view : X → Cell) (rows : List X) (i : ℕ) (ro
 pushed_more {X} view rows i row done lt is all =
     let next : drop i rows ≡ row ∷ drop (i + 1) rows = drop_more rows i row lt ∙ ap (λ (r : X). r ∷ drop (i + 1) rows) (sym is) in
     append_assoc done (view row ∷ []) (map view (drop (i + 1) rows)) ∙ ap (λ (rs : List X). done ++ map view rs) (sym next) ∙ all
+
+-- some of the first rows are among those of more rows
+front_of : (count : ℕ) (rows more : List Cell) → (n : ℕ) × (take n (rows ++ more) ≡ take count rows)
+front_of zero rows more = (0, refl)
+front_of (suc count) [] more = (0, refl)
+front_of (suc count) (row ∷ rows) more = let rest = front_of count rows more in (suc rest.0, ap (λ (l : List Cell). row ∷ l) rest.1)
+
+-- so what was cut off before all rows were pushed was cut off of these
+pub cut_longer : (options : Options) (schema : Shape) (first told : Option (List ℕ)) (rows more : List Cell) → IsCutOff options schema first told rows → IsCutOff options schema first told (rows ++ more)
+cut_longer options schema first told rows more cut =
+    let n = front_of cut.count rows more in
+    record {
+      mine = cut.mine;
+      rest = cut.rest;
+      count = n.0;
+      told_is = cut.told_is;
+      schema = cut.schema;
+      file = subst (λ (l : List Cell). IsSomeFile options schema (cut.mine ++ cut.rest) l) (sym n.1) cut.file;
+    }
+
+pub same_cut : (options o : Options) (schema s : Shape) (first told : Option (List ℕ)) (rows : List Cell) → o ≡ options → s ≡ schema → IsCutOff o s first told rows
+    → IsCutOff options schema first told rows
+same_cut options o schema s first told rows of_options of_schema cut =
+    subst (λ (x : Options). IsCutOff x schema first told rows) of_options (subst (λ (x : Shape). IsCutOff o x first told rows) of_schema cut)
+
+pub cut_of_all : {X : Type 0} (view : X → Cell) (options o : Options) (schema s : Shape) (first told : Option (List ℕ)) (before done : List Cell) (rows : List X) (i : ℕ) (row : X)
+    → o ≡ options → s ≡ schema → i < length rows → row ≡ get_or rows i row → done ++ map view (drop i rows) ≡ map view rows
+    → IsCutOff o s first told ((before ++ done) ++ view row ∷ []) → IsCutOff options schema first told (before ++ map view rows)
+cut_of_all {X} view options o schema s first told before done rows i row of_options of_schema lt is all cut =
+    let more : List Cell = map view (drop (i + 1) rows) in
+    let pushed : List Cell = (before ++ done) ++ view row ∷ [] in
+    let whole : pushed ++ more ≡ before ++ map view rows = ap (λ (l : List Cell). l ++ more) (append_assoc before done (view row ∷ []))
+    ∙ append_assoc before (done ++ view row ∷ []) more ∙ ap (λ (l : List Cell). before ++ l) (pushed_more view rows i row done lt is all) in
+    subst (λ (l : List Cell). IsCutOff options schema first told l) whole
+    (same_cut options o schema s first told (pushed ++ more) of_options of_schema (cut_longer o s first told pushed more cut))
 
 -- what the theorem says of reading and of checking
 abbrev pub ReadLaw : Type 0

@@ -1,16 +1,18 @@
 -- What calls of `merge` gave as steps of groupings.
 use Rattle.std.proofs.Common.{◌≡◌, ◌∙◌, ◌↔◌, ℕ, ◌<◌, List, [], ◌∷◌, ◌++◌, length, Option, Some, inl, inr, refl, sym, ap, subst}
+use Rattle.std.specs.Prelude.{IsPermutation}
+use Rattle.std.proofs.lemmas.List.Sorted.{IsPermutation-append_comm}
 use Rattle.orc_file.specs.declared.tail.Tail.{Tail}
 use Rattle.orc_merge.specs.declared.fault.MergeFault.{MergeFault}
 use Rattle.orc_merge.specs.declared.fault.MergeFault.TheVariants.{NoInput, File, SchemaDiffers, VersionDiffers, StrideDiffers, OtherFooterFields}
 use Rattle.orc_merge.specs.declared.fault.MergeFault.TheVariants.{UserMetadataConflict, NoStripeStatistics, Limit, SourceFailed, WriteFailed, OutOfMemory}
 use Rattle.orc_merge.specs.Merging.{Merged, AreOpened, IsMerge}
-use Rattle.orc_merge.specs.Faults.{IsRefused}
+use Rattle.orc_merge.specs.Faults.{IsRefused, IsDeviceFault}
 use Rattle.orc_merge.specs.Outcomes.{WroteMerge, IsAnswer}
 use Rattle.orc_merge.specs.Grouping.{Groups, input, merge, one, and, all_leaves, Gives, AllGive, AllShort, Wrote, AllWrote, ComesOfJoining, AreFellows, IsFlatRefused, IsStepRefused}
 use Rattle.orc_merge.proofs.OneFault.{one_merge}
 use Rattle.orc_merge.proofs.Refusing.{no_fault}
-use Rattle.orc_theorems.specs.Groupings.{pair, at_once, first_two, last_two}
+use Rattle.orc_theorems.specs.Groupings.{pair, at_once, first_two, last_two, Gave, IsStepAnswer}
 use Rattle.orc_theorems.proofs.Told.{bytes_are}
 
 -- what the theorem says of the last merge of a grouping
@@ -191,8 +193,78 @@ pub first_two_same : AlikeLaw → (a b c left out : List ℕ) (t : Tail) → Wro
 first_two_same alike a b c left out t v w =
     alike (and (input a) (and (input b) (one (input c)))) (and (pair a b) (one (input c))) out left (wrote_at_once a b c t out w) v refl
 
+pub last_two_wrote : (a b c back there right : List ℕ) (t u : Tail) → WroteMerge (b ∷ c ∷ []) t (Some []) (Some back) → there ≡ back → WroteMerge (a ∷ there ∷ []) u (Some []) (Some right)
+    → Wrote (last_two a b c) right
+last_two_wrote a b c back there right t u x same y = wrote_last_two a b c back right t u x (subst (λ (l : List ℕ). WroteMerge (a ∷ l ∷ []) u (Some []) (Some right)) same y)
+
 pub last_two_same : AlikeLaw → (a b c back there right out : List ℕ) (t u v : Tail) → WroteMerge (b ∷ c ∷ []) t (Some []) (Some back) → there ≡ back
     → WroteMerge (a ∷ there ∷ []) u (Some []) (Some right) → WroteMerge (a ∷ b ∷ c ∷ []) v (Some []) (Some out) → right ≡ out
 last_two_same alike a b c back there right out t u v x same y w =
-    let z = subst (λ (l : List ℕ). WroteMerge (a ∷ l ∷ []) u (Some []) (Some right)) same y in
-    alike (and (input a) (and (input b) (one (input c)))) (and (input a) (one (pair b c))) out right (wrote_at_once a b c v out w) (wrote_last_two a b c back right t u x z) refl
+    alike (and (input a) (and (input b) (one (input c)))) (and (input a) (one (pair b c))) out right (wrote_at_once a b c v out w) (last_two_wrote a b c back there right t u x same y) refl
+
+-- what the theorem says of every grouping
+abbrev pub GivenLaw : Type 0
+GivenLaw = (groups : Groups) (out : List ℕ) → AllShort groups → Gives (merge groups) out ↔ ((tail : Tail) × IsMerge (all_leaves groups) tail out)
+
+-- it gives the bytes that joining its files at once gives, and no others
+pub given_is : GivenLaw → (groups : Groups) (files : List (List ℕ)) (tail : Tail) (out other : List ℕ) → AllShort groups → all_leaves groups ≡ files → IsMerge files tail out
+    → Gives (merge groups) other ↔ (other ≡ out)
+given_is law groups files tail out other short leaves m = (
+  λ gives.
+      let flat = (law groups other short).0 gives in
+      (one_merge files tail flat.0 out other m (subst (λ (l : List (List ℕ)). IsMerge l flat.0 other) leaves flat.1)).1,
+  λ same. (law groups other short).1 (tail, subst (λ (l : List (List ℕ)). IsMerge l tail other) (sym leaves) (subst (λ (x : List ℕ). IsMerge files tail x) (sym same) m)),
+)
+
+-- ---- orders
+
+-- what the theorem says of them
+abbrev pub OrdersLaw : Type 0
+OrdersLaw = (files others : List (List ℕ)) (tail : Tail) (out : List ℕ) → IsMerge files tail out → IsPermutation files others
+    → (its_tail : Tail) × (other : List ℕ) × IsMerge others its_tail other
+
+-- files that can be merged are refused for a device alone
+pub of_device : (files : List (List ℕ)) (tail : Tail) (out : List ℕ) (e : MergeFault) → IsMerge files tail out → IsAnswer files e → IsDeviceFault e
+of_device files tail out e m (inl d) = d
+of_device files tail out e m (inr r) = absurd (no_fault files tail out e m r)
+
+-- and so they are in the other order
+pub turned_of_device : OrdersLaw → (a b out : List ℕ) (tail : Tail) (e : MergeFault) → IsMerge (a ∷ b ∷ []) tail out → IsAnswer (b ∷ a ∷ []) e → IsDeviceFault e
+turned_of_device law a b out tail e m answer =
+    let there = law (a ∷ b ∷ []) (b ∷ a ∷ []) tail out m (IsPermutation-append_comm (a ∷ []) (b ∷ [])) in
+    of_device (b ∷ a ∷ []) there.0 there.1 e there.2 answer
+
+-- ---- refusals of steps
+
+gave_pair : (a b out : List ℕ) (t : Tail) → WroteMerge (a ∷ b ∷ []) t (Some []) (Some out) → Gives (pair a b) out
+gave_pair a b out t w = (a ∷ b ∷ [], t, (a, b ∷ [], refl, (b, refl, refl), refl), (merge_of (a ∷ b ∷ []) t out w).0)
+
+pub first_step : (a b c : List ℕ) (e : MergeFault) → IsAnswer (a ∷ b ∷ []) e → IsStepAnswer (first_two a b c) e
+first_step a b c e (inl d) = inl d
+first_step a b c e (inr r) = inr (inl (inl (inr (a ∷ b ∷ [], (a, b ∷ [], refl, (b, refl, refl), refl), r))))
+
+pub first_last_step : (a b c front there : List ℕ) (t : Tail) (e : MergeFault) → WroteMerge (a ∷ b ∷ []) t (Some []) (Some front) → there ≡ front → IsAnswer (there ∷ c ∷ []) e
+    → IsStepAnswer (first_two a b c) e
+first_last_step a b c front there t e w same (inl d) = inl d
+first_last_step a b c front there t e w same (inr r) =
+    let refused = subst (λ (x : List ℕ). IsRefused (x ∷ c ∷ []) e) same r in
+    inr (inr (front ∷ c ∷ [], (front, c ∷ [], gave_pair a b front t w, (c, refl, refl), refl), refused))
+
+pub last_step : (a b c : List ℕ) (e : MergeFault) → IsAnswer (b ∷ c ∷ []) e → IsStepAnswer (last_two a b c) e
+last_step a b c e (inl d) = inl d
+last_step a b c e (inr r) = inr (inl (inr (inr (b ∷ c ∷ [], (b, c ∷ [], refl, (c, refl, refl), refl), r))))
+
+pub last_last_step : (a b c back there : List ℕ) (t : Tail) (e : MergeFault) → WroteMerge (b ∷ c ∷ []) t (Some []) (Some back) → there ≡ back → IsAnswer (a ∷ there ∷ []) e
+    → IsStepAnswer (last_two a b c) e
+last_last_step a b c back there t e w same (inl d) = inl d
+last_last_step a b c back there t e w same (inr r) =
+    let refused = subst (λ (x : List ℕ). IsRefused (a ∷ x ∷ []) e) same r in
+    inr (inr (a ∷ back ∷ [], (a, back ∷ [], refl, (back, gave_pair b c back t w, refl), refl), refused))
+
+pub only_step : (a b c : List ℕ) (e : MergeFault) → IsAnswer (a ∷ b ∷ c ∷ []) e → IsStepAnswer (at_once a b c) e
+only_step a b c e (inl d) = inl d
+only_step a b c e (inr r) = inr (inr (a ∷ b ∷ c ∷ [], (a, b ∷ c ∷ [], refl, (b, c ∷ [], refl, (c, refl, refl), refl), refl), r))
+
+-- what a merge into a vector gave
+pub gave_vector : (files : List (List ℕ)) (tail : Tail) (old new : Option (List ℕ)) (out : List ℕ) → old ≡ Some [] → new ≡ Some out → WroteMerge files tail old new → Gave files out
+gave_vector files tail old new out empty is w = (tail, (merge_of files tail out (into_vector files tail old new out empty is w)).0)

@@ -1,6 +1,10 @@
 -- Groupings of two files and of three (own).
-use Rattle.std.specs.Prelude.{ℕ, List}
-use Rattle.orc_merge.specs.Grouping.{Group, input, merge, one, and}
+use Rattle.std.specs.Prelude.{◌⊎◌, ℕ, List}
+use Rattle.orc_file.specs.declared.tail.Tail.{Tail}
+use Rattle.orc_merge.specs.declared.fault.MergeFault.{MergeFault}
+use Rattle.orc_merge.specs.Merging.{IsMerge}
+use Rattle.orc_merge.specs.Faults.{IsDeviceFault}
+use Rattle.orc_merge.specs.Grouping.{Group, input, merge, one, and, StepRefused}
 
 -- two files
 abbrev pub pair : List ℕ → List ℕ → Group
@@ -17,3 +21,11 @@ first_two a b c = merge (and (pair a b) (one (input c)))
 -- the last two of three, and then the first with what that gave
 abbrev pub last_two : List ℕ → List ℕ → List ℕ → Group
 last_two a b c = merge (and (input a) (one (pair b c)))
+
+-- joining in a grouping is refused for a device, or one of its steps is
+abbrev pub IsStepAnswer : Group → MergeFault → Type 0
+IsStepAnswer group fault = IsDeviceFault fault ⊎ StepRefused group fault
+
+-- files have this merged file
+abbrev pub Gave : List (List ℕ) → List ℕ → Type 0
+Gave files out = (tail : Tail) × IsMerge files tail out

@@ -1,2 +1,3 @@
 pub mod Groupings
 pub mod Inputs
+pub mod BeforeGroups

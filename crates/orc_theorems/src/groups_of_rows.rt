@@ -2,8 +2,14 @@
 //!
 //! `AreFrom bytes tail stripe group lines` says which lines `rows_to` prints of a file from a group of a stripe on,
 //! and `EndsFrom .. fault` why it is refused; `Findings bytes tail rows []` says that `check` finds nothing.
+//! `StartsGroup view x rows group` is what `cursor_at` asks of a stripe to give `rows` from the group's first one on,
+//! and to be refused for memory alone. `DiffersOnlyBefore view group bytes` says that bytes are the stripe's but for
+//! some before the offsets that the group's entries record.
 ghost use Rattle.std.specs.Prelude.{◌≡◌, ℕ, List, [], Option, drop};
 ghost use Rattle.orc_types.specs.Cells.{Cell};
+ghost use Rattle.orc_column_reader.specs.Stripe.{Streams, HasFooter};
+ghost use Rattle.orc_stripe.specs.Opened.{Opened};
+ghost use Rattle.orc_stripe.specs.GroupCursors.{StartsGroup};
 ghost use Rattle.orc_file.specs.FileRows.{FileIs, joined};
 ghost use Rattle.orc_file.specs.declared.tail.Tail.{Tail};
 ghost use Rattle.orc_check.specs.Findings.{Findings};
@@ -15,13 +21,15 @@ ghost use Rattle.orc_cli_rows.specs.Rows.{row_lines, HaveJson};
 ghost use Rattle.orc_cli_rows.specs.FromGroup.{AreFrom, EndsFrom};
 ghost use Rattle.orc_cli_check.specs.Places.{IsPlace, rows_before};
 ghost use Rattle.orc_theorems.specs.Inputs.{AreWithoutFinding};
+ghost use Rattle.orc_theorems.specs.BeforeGroups.{with_bytes, DiffersOnlyBefore, FileDiffersOnlyBefore};
 
 use crate::merged_findings::findings_of_merges;
 use orc_check::start_laws;
 use orc_cli_check::place_laws;
 
 /// Where nothing is found of a file, reading may start at each group of its rows, and gives just the rows from there
-/// on. So it may in each file that is merged of such files, in whatever groups.
+/// on. So it may in each file that is merged of such files, in whatever groups. What stands in the streams before the
+/// group's offsets has no part in it: a stripe that differs from one of such a file there alone gives the same rows.
 pub fn reading_from_the_middle()
     // Each stripe starts at each of its groups, as a cursor asks for that enters it there.
     ensures starts { (bytes : List ℕ) (tail : Tail) (rows : List Cell)
@@ -52,6 +60,36 @@ pub fn reading_from_the_middle()
         × StartsAtGroups out tail (joined parts)
         × ((stripe group : ℕ) (lines : List ℕ) → AreFrom out tail stripe group lines
         → lines ≡ row_lines tail.schema (drop (rows_before tail stripe group) (joined parts))) }
+
+    // A stripe that differs only before a group's offsets from one that starts there starts there, too, with the same
+    // rows.
+    ensures alone { (view : Opened) (x : ℕ → Streams) (rows : List Cell) (group : ℕ) (bytes : List ℕ)
+        → (the_stripe_starts_at_the_group : StartsGroup view x rows group)
+        → (these_bytes_differ_only_before_it : DiffersOnlyBefore view group bytes)
+        → StartsGroup (with_bytes view bytes) x rows group }
+    // It has the same footer.
+    ensures footer { (view : Opened) (group : ℕ) (bytes : List ℕ)
+        → (the_stripe_has_its_footer : HasFooter view.schema view.info view.bytes view.footer)
+        → (these_bytes_differ_only_before_the_group : DiffersOnlyBefore view group bytes)
+        → HasFooter view.schema view.info bytes view.footer }
+    // So what is printed from the group on of a file that differs so from one of which nothing is found is that file's
+    // rows.
+    ensures lines_alone { (bytes other : List ℕ) (tail : Tail) (rows : List Cell) (stripe group : ℕ) (lines : List ℕ)
+        → (it_is_a_file_of_the_rows : FileIs bytes tail rows)
+        → (nothing_is_found_of_it : Findings bytes tail rows [])
+        → (another_differs_only_before_the_group : FileDiffersOnlyBefore bytes tail stripe group other)
+        → (these_are_printed_of_the_other : AreFrom other tail stripe group lines)
+        → lines ≡ row_lines tail.schema (drop (rows_before tail stripe group) rows) }
+    // And printing them is refused for nothing that is the other file's.
+    ensures only_alone { (bytes other : List ℕ) (tail : Tail) (rows : List Cell) (stripe group : ℕ)
+        (old new : Option (List ℕ)) (fault : CliFault)
+        → (it_is_a_file_of_the_rows : FileIs bytes tail rows)
+        → (nothing_is_found_of_it : Findings bytes tail rows [])
+        → (another_differs_only_before_the_group : FileDiffersOnlyBefore bytes tail stripe group other)
+        → (the_group_is_there : IsPlace tail stripe group)
+        → (the_rows_have_json : HaveJson tail.schema rows)
+        → (the_other_is_refused : EndsFrom other tail stripe group old new fault)
+        → IsOutsideFile fault }
 {
     // each for its contract alone
     start_laws();

@@ -1,15 +1,18 @@
-//! A caller over the theorem of reading from the middle: it checks a file, and where nothing is found prints its rows
-//! from a group on.
-ghost use Rattle.std.specs.Prelude.{◌≡◌, ◌≢◌, ℕ, List, [], drop, IsTrue, false, IfOk};
+//! Callers over the theorem of reading from the middle: they check a file, and where nothing is found print its rows
+//! from a group on, or those of another file, which may differ from it before the group.
+ghost use Rattle.std.specs.Prelude.{◌≡◌, ◌≢◌, ℕ, List, [], drop, IsTrue, false, IfOk, IfErr};
 ghost use Rattle.std.specs.Io.KnownBytes.{Appends};
 ghost use Rattle.orc_types.specs.Cells.{Cell};
 ghost use Rattle.orc_file.specs.FileRows.{FileIs};
 ghost use Rattle.orc_file.specs.declared.tail.Tail.{Tail};
+ghost use Rattle.orc_file.specs.Tails.{IsTail};
 ghost use Rattle.orc_check.specs.declared.finding.Finding.{Finding};
-ghost use Rattle.orc_cli_rows.specs.Rows.{row_lines};
-ghost use Rattle.orc_cli_rows.specs.FromGroup.{IsStart};
-ghost use Rattle.orc_cli_check.specs.Places.{rows_before};
+ghost use Rattle.orc_cli_output.specs.Output.{IsOutsideFile};
+ghost use Rattle.orc_cli_rows.specs.Rows.{row_lines, HaveJson};
+ghost use Rattle.orc_cli_rows.specs.FromGroup.{IsStart, AreFrom};
+ghost use Rattle.orc_cli_check.specs.Places.{IsPlace, rows_before};
 ghost use Rattle.orc_theorems.specs.Inputs.{AreFound};
+ghost use Rattle.orc_theorems.specs.BeforeGroups.{FileDiffersOnlyBefore};
 
 use crate::groups_of_rows::reading_from_the_middle;
 use crate::merged_findings_calls::found_in;
@@ -21,7 +24,8 @@ use std::io::Write;
 
 /// Checks a file, and where nothing is found of it prints the lines of its rows from a group of a stripe on, which a
 /// text names, as `2:0` does; whether it printed is answered. The lines are those of the file's rows from the group's
-/// first one on, by the clause `lines`.
+/// first one on, by the clause `lines`; and where the group is there and the rows have JSON, it is refused for nothing
+/// that is the file's, by the clause `only`.
 ///
 /// Refusals: those of `check` and of `rows_to`.
 pub fn print_from<W: Write>(
@@ -37,6 +41,11 @@ pub fn print_from<W: Write>(
         (row_lines tail.schema (drop (rows_before tail stripe group) rows))) }
     ensures found { IfOk result (λ printed. printed ≡ false
         → (found : List Finding) × AreFound bytes.now found × (found ≢ [])) }
+    ensures only { IfErr result (λ e. (tail : Tail) (rows : List Cell) (stripe group : ℕ)
+        → FileIs bytes.now tail rows → HaveJson tail.schema rows
+        → IsStart from.now stripe group
+        → ((n g : ℕ) → IsStart from.now n g → IsPlace tail n g)
+        → IsOutsideFile e) }
 {
     // for its contract alone: where nothing is found, what is printed from a group on are the rows from there on
     reading_from_the_middle();
@@ -45,6 +54,42 @@ pub fn print_from<W: Write>(
         return Ok(false);
     }
     match rows_to(alloc, SliceSource::new(bytes), Some(from), out) {
+        Ok(_) => Ok(true),
+        Err((fault, _)) => Err(fault),
+    }
+}
+
+/// Checks a file, and where nothing is found of it prints the lines of another one from a group of a stripe on;
+/// whether it printed is answered. Where the other has the same tail and differs from the first, in that stripe and
+/// those behind it, only before the group's offsets, the lines are those of the first one's rows, by the clause
+/// `lines_alone`.
+///
+/// Refusals: those of `check` and of `rows_to`.
+pub fn print_other_from<W: Write>(
+    alloc: Global,
+    checked: &[u8],
+    other: &[u8],
+    from: &str,
+    out: &mut W,
+) -> Result<bool, CliFault>
+    ensures lines { IfOk result (λ printed. IsTrue printed
+        → (tail : Tail) × (lines : List ℕ) × (stripe : ℕ) × (group : ℕ)
+        × IsTail other.now tail × IsStart from.now stripe group
+        × AreFrom other.now tail stripe group lines
+        × Appends (W.contents out.old) (W.contents out.new) lines
+        × ((rows : List Cell) → FileIs checked.now tail rows
+        → FileDiffersOnlyBefore checked.now tail stripe group other.now
+        → lines ≡ row_lines tail.schema (drop (rows_before tail stripe group) rows))) }
+    ensures found { IfOk result (λ printed. printed ≡ false
+        → (found : List Finding) × AreFound checked.now found × (found ≢ [])) }
+{
+    // for its contract alone: what stands before a group's offsets has no part in what is printed from it on
+    reading_from_the_middle();
+    let found = found_in(alloc, checked)?;
+    if !found.is_empty() {
+        return Ok(false);
+    }
+    match rows_to(alloc, SliceSource::new(other), Some(from), out) {
         Ok(_) => Ok(true),
         Err((fault, _)) => Err(fault),
     }

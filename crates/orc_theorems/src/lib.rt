@@ -16,11 +16,11 @@ mod written_files_calls;
 
 pub use fault::CallFault;
 pub use groups_of_rows::reading_from_the_middle;
-pub use groups_of_rows_calls::print_from;
+pub use groups_of_rows_calls::{print_from, print_other_from};
 pub use memory::FileInMemory;
 pub use merged_findings::findings_of_merges;
 pub use merged_findings_calls::{CheckedJoin, join_checked};
 pub use merging::merge_theorem;
 pub use merging_calls::{in_two_steps, join_in_groupings, join_in_orders, join_in_steps};
 pub use written_files::written_files_read_back;
-pub use written_files_calls::{ReadBack, write_and_read};
+pub use written_files_calls::{ReadBack, write_and_read, write_to};

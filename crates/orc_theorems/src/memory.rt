@@ -43,6 +43,7 @@ pub(crate) fn join_three(
 ) -> Result<FileInMemory, MergeFault>
     ensures wrote { IfOk result (λ joined.
         WroteMerge (first.now ∷ second.now ∷ third.now ∷ []) joined.tail (Some []) (Some joined.bytes.items)) }
+    ensures refused { IfErr result (λ e. IsAnswer (first.now ∷ second.now ∷ third.now ∷ []) e) }
 {
     let mut inputs = [
         SliceSource::new(first),

@@ -1,5 +1,9 @@
 //! A caller over the theorem of findings: it checks two files, joins them, and checks what that gave.
-ghost use Rattle.std.specs.Prelude.{◌≡◌, ◌∷◌, [], Some, IfOk};
+ghost use Rattle.std.specs.Prelude.{◌≡◌, ◌⊎◌, ◌∷◌, [], List, Some, IfOk, IfErr};
+ghost use Rattle.orc_types.specs.Cells.{Cell};
+ghost use Rattle.orc_file.specs.FileRows.{FileIs};
+ghost use Rattle.orc_file.specs.declared.tail.Tail.{Tail};
+ghost use Rattle.orc_file.specs.declared.fault.FileFault.TheVariants as fault;
 ghost use Rattle.orc_merge.specs.Outcomes.{WroteMerge};
 ghost use Rattle.orc_theorems.specs.Inputs.{AreFound};
 
@@ -21,7 +25,9 @@ pub struct CheckedJoin {
 
 /// What is found of a file in memory.
 pub(crate) fn found_in(alloc: Global, bytes: &[u8]) -> Result<Vec<Finding>, FileFault>
-    ensures { IfOk result (λ found. AreFound bytes.now found.items) }
+    ensures found { IfOk result (λ found. AreFound bytes.now found.items) }
+    ensures only { (tail : Tail) (rows : List Cell) → FileIs bytes.now tail rows
+        → IfErr result (λ e. (e ≡ fault.OutOfMemory) ⊎ (e ≡ fault.SourceFailed)) }
 {
     let mut source = SliceSource::new(bytes);
     check(alloc, &mut source)

@@ -1,16 +1,23 @@
 //! Callers over the merge theorem. Each makes merges that the theorem speaks of, and its contract is what the theorem
 //! says of them.
-ghost use Rattle.std.specs.Prelude.{◌≡◌, ◌++◌, ◌∷◌, [], ℕ, List, Some, map, IsTrue, IfOk, IfErr};
+ghost use Rattle.std.specs.Prelude.{◌≡◌, ◌↔◌, ◌<◌, ◌⊎◌, ◌&&◌, ◌++◌, ◌∷◌, [], ℕ, List, Some, map, slice_get, IsTrue, IfOk, IfErr};
 ghost use Rattle.orc_types.specs.Cells.{Cell};
-ghost use Rattle.orc_file.specs.FileRows.{FileIs};
+ghost use Rattle.orc_types.specs.Shapes.{width};
+ghost use Rattle.orc_stats.specs.declared.stat.Stat.{Stat};
+ghost use Rattle.orc_stats.specs.Whole.{has_sum};
+ghost use Rattle.orc_stripe_writer.specs.WrittenStripe.{column_stat};
+ghost use Rattle.orc_file.specs.FileRows.{FileIs, cut_rows};
 ghost use Rattle.orc_file.specs.FileRows as rows;
-ghost use Rattle.orc_file.specs.Honest.{Honest, HasWholeStats};
+ghost use Rattle.orc_file.specs.Honest.{Honest, HasWholeStats, each_fits};
 ghost use Rattle.orc_file.specs.Tails.{IsTail};
+ghost use Rattle.orc_file.specs.declared.tail.Tail.{Tail};
 ghost use Rattle.orc_merge.specs.declared.fault.MergeFault.{MergeFault};
-ghost use Rattle.orc_merge.specs.Faults.{IsRefused};
-ghost use Rattle.orc_merge.specs.Outcomes.{WroteMerge};
-ghost use Rattle.orc_merge.specs.Grouping.{HaveRows, AreHonestFiles, AreFellows, ComesOfJoining, Wrote};
-ghost use Rattle.orc_theorems.specs.Groupings.{first_two};
+ghost use Rattle.orc_merge.specs.Faults.{IsRefused, IsDeviceFault};
+ghost use Rattle.orc_merge.specs.Merging.{IsMerge};
+ghost use Rattle.orc_merge.specs.Outcomes.{WroteMerge, IsAnswer};
+ghost use Rattle.orc_merge.specs.Grouping as grouping;
+ghost use Rattle.orc_merge.specs.Grouping.{Groups, all_leaves, Gives, AllShort, HaveRows, AreHonestFiles, AreFellows, ComesOfJoining, Wrote};
+ghost use Rattle.orc_theorems.specs.Groupings.{at_once, first_two, last_two, Gave, IsStepAnswer};
 
 use crate::memory::{FileInMemory, is_same, join_three, join_two};
 use crate::merging::merge_theorem;
@@ -32,6 +39,11 @@ pub fn in_two_steps<S: Source, W: Sink>(
         → map S.told left.old ≡ map Some xs
         → map S.told right.old ≡ map Some ys
         → WroteMerge (xs ++ ys) tail (W.told out.old) (W.told out.new)) }
+    ensures refused { IfErr result (λ e. (xs ys : List (List ℕ))
+        → map S.told left.old ≡ map Some xs
+        → map S.told right.old ≡ map Some ys
+        → IsAnswer xs e ⊎ (IsAnswer ys e
+        ⊎ ((first : List ℕ) × (second : List ℕ) × Gave xs first × Gave ys second × IsAnswer (first ∷ second ∷ []) e))) }
 {
     // for its contract alone: the last merge of a grouping is the merge of all its files
     merge_theorem();
@@ -62,6 +74,7 @@ pub fn join_in_steps(
     ensures refused { IfErr result (λ e. ComesOfJoining e
         → AreFellows (first.now ∷ second.now ∷ third.now ∷ [])
         → (fault : MergeFault) × ComesOfJoining fault × IsRefused (first.now ∷ second.now ∷ third.now ∷ []) fault) }
+    ensures step { IfErr result (IsStepAnswer (first_two first.now second.now third.now)) }
 {
     // for its contract alone: a grouping is refused just where the merge of all its files is
     merge_theorem();
@@ -73,7 +86,8 @@ pub fn join_in_steps(
 
 /// Joins three files at once and in both groupings: the first two and then the third, and the last two and then the
 /// first. Answers what joining them at once gave, and whether each grouping gave the same bytes: that they did is the
-/// clause `alike`, and what is said of the file are the clauses `opens`, `rows` and `statistics`.
+/// clause `alike`, that every grouping does `given`, and what is said of the file are the clauses `opens`, `rows`,
+/// `statistics` and `sums`.
 ///
 /// Refusals: those of `merge`, of one of its five calls.
 pub fn join_in_groupings(
@@ -85,6 +99,11 @@ pub fn join_in_groupings(
     ensures merged { IfOk result (λ done.
         WroteMerge (first.now ∷ second.now ∷ third.now ∷ []) done.0.tail (Some []) (Some done.0.bytes.items)) }
     ensures same { IfOk result (λ done. IsTrue done.1) }
+    ensures grouped { IfOk result (λ done. Wrote (first_two first.now second.now third.now) done.0.bytes.items
+        × Wrote (last_two first.now second.now third.now) done.0.bytes.items) }
+    ensures given { IfOk result (λ done. (groups : Groups) (out : List ℕ) → AllShort groups
+        → all_leaves groups ≡ first.now ∷ second.now ∷ third.now ∷ []
+        → Gives (grouping.merge groups) out ↔ (out ≡ done.0.bytes.items)) }
     ensures opens { IfOk result (λ done. IsTail done.0.bytes.items done.0.tail) }
     ensures rows { IfOk result (λ done. (parts : List (List Cell))
         → HaveRows (first.now ∷ second.now ∷ third.now ∷ []) parts
@@ -92,6 +111,16 @@ pub fn join_in_groupings(
     ensures statistics { IfOk result (λ done. (parts : List (List Cell))
         → AreHonestFiles (first.now ∷ second.now ∷ third.now ∷ []) parts
         → Honest done.0.tail (rows.joined parts) × HasWholeStats done.0.tail (rows.joined parts)) }
+    ensures sums { IfOk result (λ done. (parts : List (List Cell)) (column : ℕ)
+        → AreHonestFiles (first.now ∷ second.now ∷ third.now ∷ []) parts
+        → column < width done.0.tail.schema
+        → (told : Stat) × (slice_get done.0.tail.file_stats column ≡ Some told)
+        × (has_sum told.body
+        ≡ (each_fits done.0.tail.schema (cut_rows done.0.tail.stripes (rows.joined parts)) column
+        && has_sum (column_stat done.0.tail.schema (rows.joined parts) column).body))) }
+    ensures refused { IfErr result (λ e. IsStepAnswer (first_two first.now second.now third.now) e
+        ⊎ (IsStepAnswer (last_two first.now second.now third.now) e
+        ⊎ IsStepAnswer (at_once first.now second.now third.now) e)) }
 {
     // for its contract alone: in whatever groups files are joined, the same bytes are written
     merge_theorem();
@@ -104,7 +133,8 @@ pub fn join_in_groupings(
 }
 
 /// Joins two files in both orders. The two files that this gives have the same statistics of the whole file, by the
-/// clause `order`.
+/// clause `order`; and where the first can be joined with the second, neither call is refused for anything of theirs, by
+/// the clause `orders`.
 ///
 /// Refusals: those of `merge`, of one of its two calls.
 pub fn join_in_orders(
@@ -117,6 +147,10 @@ pub fn join_in_orders(
     ensures other { IfOk result (λ done.
         WroteMerge (second.now ∷ first.now ∷ []) done.1.tail (Some []) (Some done.1.bytes.items)) }
     ensures same { IfOk result (λ done. done.0.tail.file_stats ≡ done.1.tail.file_stats) }
+    ensures refused { IfErr result (λ e. IsAnswer (first.now ∷ second.now ∷ []) e
+        ⊎ IsAnswer (second.now ∷ first.now ∷ []) e) }
+    ensures only { IfErr result (λ e. (tail : Tail) (out : List ℕ)
+        → IsMerge (first.now ∷ second.now ∷ []) tail out → IsDeviceFault e) }
 {
     // for its contract alone: in whatever order files are joined, the file's statistics are the same
     merge_theorem();

@@ -1,18 +1,21 @@
-//! A caller over the theorem of written files: it writes rows to memory, reads them back, and checks what it wrote.
-ghost use Rattle.std.specs.Prelude.{◌≡◌, ◌++◌, [], ℕ, List, Option, Some, IfOk, OnOk};
+//! Callers over the theorem of written files. One writes rows to an output, which may fail; the other writes them to
+//! memory, reads them back, and checks what it wrote.
+ghost use Rattle.std.specs.Prelude.{◌≡◌, ◌<◌, ◌^◌, ◌++◌, [], ℕ, List, length, Option, Some, false, IfOk, IfErr, OnOk, IsErrOf};
 ghost use Rattle.orc_types.specs.Cells.{Cell};
 ghost use Rattle.orc_types.specs.Views.{views};
 ghost use Rattle.orc_file.specs.FileRows.{FileIs};
+ghost use Rattle.orc_file.specs.Images.{types_text};
 ghost use Rattle.orc_file.specs.Progress.{progress};
-ghost use Rattle.orc_file.specs.Writing.{HasPushed, IsWhole};
+ghost use Rattle.orc_file.specs.Writing.{HasPushed, IsWhole, IsCutOff, IsFrontOfFile};
 ghost use Rattle.orc_file.specs.declared.tail.Tail.{Tail};
+ghost use Rattle.orc_file.specs.declared.fault.FileFault.TheVariants as fault;
 ghost use Rattle.orc_theorems.specs.Inputs.{AreFound};
 
 use crate::memory::FileInMemory;
 use crate::merged_findings_calls::found_in;
 use crate::written_files::written_files_read_back;
 use orc_check::Finding;
-use orc_file::{FileFault, OrcFile, Sink, SliceSource, VecSink, Writer};
+use orc_file::{FileFault, OrcFile, Sink, SliceSource, Tail, VecSink, Writer};
 use orc_stripe::Options;
 use orc_types::{Row, Schema};
 use std::alloc::Global;
@@ -30,12 +33,47 @@ fn push_rows<W: Sink>(writer: &mut Writer<W>, rows: &[Row<'_>]) -> Result<(), Fi
     ensures pushed { (first : Option (List ℕ)) (before : List Cell)
         → HasPushed (progress W.told writer.old) first before
         → OnOk result (HasPushed (progress W.told writer.new) first (before ++ views rows.now)) }
+    ensures going { writer.old.failed ≡ false → OnOk result (writer.new.failed ≡ false) }
+    ensures cut { (first : Option (List ℕ)) (before : List Cell)
+        → HasPushed (progress W.told writer.old) first before
+        → writer.old.failed ≡ false
+        → IsErrOf result fault.WriteFailed
+        → IsCutOff writer.old.options writer.old.schema first (W.told writer.new.out) (before ++ views rows.now) }
     ensures same { (writer.new.schema ≡ writer.old.schema) × (writer.new.options ≡ writer.old.options) }
 {
     for row in rows {
         writer.push(row)?;
     }
     Ok(())
+}
+
+/// Writes a file of rows to an output, and answers its tail. Where the output fails, what it has got is the front of a
+/// file of some of the first rows, by the clause `front`.
+///
+/// Refusals: those of `Writer`, with the output.
+pub fn write_to<W: Sink>(
+    alloc: Global,
+    schema: Schema,
+    options: Options,
+    rows: &[Row<'_>],
+    out: W,
+) -> Result<(Tail, W), (FileFault, W)>
+    ensures written { IfOk result (λ done.
+        IsWhole options schema done.0 (W.told out) (W.told done.1) (views rows.now)) }
+    ensures front { IfErr result (λ e. e.0 ≡ fault.WriteFailed
+        → length (types_text schema) < 2 ^ 62
+        → IsFrontOfFile schema (W.told out) (W.told e.1) (views rows.now)) }
+{
+    // for its contract alone: where a call of a writer fails, the front of a file is out
+    written_files_read_back();
+    let mut writer = match Writer::new(alloc, schema, options, out) {
+        Ok(writer) => writer,
+        Err(refused) => return Err(refused),
+    };
+    match push_rows(&mut writer, rows) {
+        Ok(()) => writer.finish(),
+        Err(fault) => Err((fault, writer.into_out())),
+    }
 }
 
 /// Writes a file of rows to memory.
@@ -48,13 +86,7 @@ fn write_rows(
     ensures { IfOk result (λ file.
         IsWhole options schema file.tail (Some []) (Some file.bytes.items) (views rows.now)) }
 {
-    let out = VecSink::new(alloc);
-    let mut writer = match Writer::new(alloc, schema, options, out) {
-        Ok(writer) => writer,
-        Err((fault, _)) => return Err(fault),
-    };
-    push_rows(&mut writer, rows)?;
-    match writer.finish() {
+    match write_to(alloc, schema, options, rows, VecSink::new(alloc)) {
         Ok((tail, out)) => Ok(FileInMemory {
             tail,
             bytes: out.into_vec(),

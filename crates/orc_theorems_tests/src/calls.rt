@@ -5,7 +5,7 @@ use orc_merge::MergeFault;
 use orc_stripe::Options;
 use orc_theorems::{
     CallFault, in_two_steps, join_checked, join_in_groupings, join_in_orders, join_in_steps,
-    print_from, write_and_read,
+    print_from, print_other_from, write_and_read,
 };
 use orc_types::{Row, Schema};
 use std::alloc::Global;
@@ -94,5 +94,17 @@ pub(crate) fn written(
 pub(crate) fn printed(alloc: Global, bytes: &[u8], from: &str) -> Result<Vec<u8>, CliFault> {
     let mut out = Vec::new(alloc);
     print_from(alloc, bytes, from, &mut out)?;
+    Ok(out)
+}
+
+/// What is printed of another file from a group on; nothing, where it isn't.
+pub(crate) fn printed_of(
+    alloc: Global,
+    checked: &[u8],
+    other: &[u8],
+    from: &str,
+) -> Result<Vec<u8>, CliFault> {
+    let mut out = Vec::new(alloc);
+    print_other_from(alloc, checked, other, from, &mut out)?;
     Ok(out)
 }

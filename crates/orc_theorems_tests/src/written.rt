@@ -1,6 +1,6 @@
 //! Files that are written, read back, and read from their middle.
 use crate::assertions::{check_bytes, check_same};
-use crate::calls::{printed, written};
+use crate::calls::{printed, printed_of, written};
 use orc_cli_output::CliFault;
 use orc_file::FileFault;
 use orc_rle::Rle;
@@ -9,30 +9,47 @@ use orc_test_io::SEVENS;
 use orc_types::{Row, Schema, Value};
 use std::alloc::{AllocError, Global};
 
-fn seven(alloc: Global) -> Result<Row<'static>, AllocError> {
+fn row(alloc: Global, number: i64) -> Result<Row<'static>, AllocError> {
     let mut fields: Vec<Row<'static>> = Vec::new(alloc);
-    fields.push(Some(Value::Int(7)))?;
+    fields.push(Some(Value::Int(number)))?;
     Ok(Some(Value::Struct(fields)))
 }
 
-/// The file of three sevens with this stride, and how many rows are read of it.
-fn sevens(alloc: Global, stride: u32) -> Result<(Vec<u8>, usize), FileFault> {
-    let Some(options) = Options::new(Rle::One, stride, 3) else {
+/// The file of these numbers in one stripe with this stride, and how many rows are read of it.
+fn file_of(alloc: Global, numbers: &[i64], stride: u32) -> Result<(Vec<u8>, usize), FileFault> {
+    let Some(options) = Options::new(Rle::One, stride, 8) else {
         return Err(FileFault::Limit);
     };
     let Ok(schema) = Schema::parse(alloc, "struct<n:bigint>") else {
         return Err(FileFault::OutOfMemory);
     };
     let mut rows = Vec::new(alloc);
-    for _ in 0..3 {
-        rows.push(seven(alloc)?)?;
+    for number in numbers {
+        rows.push(row(alloc, *number)?)?;
     }
     written(alloc, schema, options, &rows)
 }
 
+/// The same file with eights for three sevens in DATA, before other numbers there.
+fn with_eights(alloc: Global, bytes: &[u8]) -> Result<Vec<u8>, AllocError> {
+    let mut copy = Vec::new(alloc);
+    let mut last = [0; 3];
+    for byte in bytes {
+        // the run's head and its base, which the next run's head follows
+        let is_base = last == [0, 0, 14] && *byte == 254;
+        if is_base {
+            copy.pop();
+            copy.push(16)?;
+        }
+        copy.push(*byte)?;
+        last = [last[1], last[2], *byte];
+    }
+    Ok(copy)
+}
+
 #[test]
 fn three_sevens(rt: HostRuntime) -> Result<(), FileFault> {
-    let (bytes, rows) = sevens(rt.alloc(), 0)?;
+    let (bytes, rows) = file_of(rt.alloc(), &[7, 7, 7], 0)?;
     check_bytes(&rt, "written", &bytes, &SEVENS);
     check_same(&rt, "rows", &rows, &3);
     Ok(())
@@ -40,8 +57,20 @@ fn three_sevens(rt: HostRuntime) -> Result<(), FileFault> {
 
 #[test]
 fn from_the_middle(rt: HostRuntime) -> Result<(), CliFault> {
-    let (bytes, _) = sevens(rt.alloc(), 2)?;
+    let (bytes, _) = file_of(rt.alloc(), &[7, 7, 7], 2)?;
     let lines = printed(rt.alloc(), &bytes, "0:1")?;
     check_bytes(&rt, "lines", &lines, b"{\"n\":7}\n");
+    Ok(())
+}
+
+#[test]
+fn from_the_middle_of_a_damaged_file(rt: HostRuntime) -> Result<(), CliFault> {
+    let (bytes, _) = file_of(rt.alloc(), &[7, 7, 7, 1, 9], 3)?;
+    let damaged = with_eights(rt.alloc(), &bytes)?;
+    let lines = printed_of(rt.alloc(), &bytes, &damaged, "0:0")?;
+    let wanted = b"{\"n\":8}\n{\"n\":8}\n{\"n\":8}\n{\"n\":1}\n{\"n\":9}\n";
+    check_bytes(&rt, "all lines", &lines, wanted);
+    let lines = printed_of(rt.alloc(), &bytes, &damaged, "0:1")?;
+    check_bytes(&rt, "lines behind", &lines, b"{\"n\":1}\n{\"n\":9}\n");
     Ok(())
 }

@@ -1,5 +1,5 @@
 use Rattle.orc_theorems.proofs.Told.{ok_more, err_more}
-use Rattle.orc_theorems.proofs.StepLemmas.{steps_wrote, first_refuses, last_refuses}
+use Rattle.orc_theorems.proofs.StepLemmas.{steps_wrote, first_refuses, last_refuses, first_step, first_last_step}
 use Rattle.orc_theorems.proofs.merging_calls.join_in_steps.Goals as goal
 
 pub returns-in-Ok-clause-wrote : goal.returns-in-Ok-clause-wrote
@@ -20,3 +20,11 @@ returns-in-Ok-clause-refused c = err_more c.join_two-in-Ok.result _ _ c.join_two
 pub returns-in-Err-clause-refused : goal.returns-in-Err-clause-refused
 returns-in-Err-clause-refused c =
     first_refuses c.merge_theorem.ensures.refused c.args.first.now c.args.second.now c.args.third.now c.in-Err.fault c.in-Err.ensures.refused
+
+pub returns-in-Ok-clause-step : goal.returns-in-Ok-clause-step
+returns-in-Ok-clause-step c = err_more c.join_two-in-Ok.result _ _ c.join_two-in-Ok.ensures.refused (λ e answer.
+    first_last_step c.args.first.now c.args.second.now c.args.third.now c.in-Ok.front.bytes.items c.deref.result.now c.in-Ok.front.tail e
+    c.in-Ok.ensures.wrote c.deref.ensures.value answer)
+
+pub returns-in-Err-clause-step : goal.returns-in-Err-clause-step
+returns-in-Err-clause-step c = first_step c.args.first.now c.args.second.now c.args.third.now c.in-Err.fault c.in-Err.ensures.refused

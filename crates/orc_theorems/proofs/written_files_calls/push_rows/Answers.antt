@@ -1,7 +1,8 @@
 use Rattle.std.proofs.Common.{◌≡◌, ◌∙◌, [], ◌∷◌, ◌++◌, map, sym, append_assoc, append-nil, drop}
 use Rattle.std.proofs.lemmas.List.{at_drop_all}
+use Rattle.std.proofs.lemmas.Result.{err_from_is_err_and}
 use Rattle.orc_types.specs.Views.{view, views}
-use Rattle.orc_theorems.proofs.ReadLemmas.{pushed_more}
+use Rattle.orc_theorems.proofs.ReadLemmas.{pushed_more, cut_of_all}
 use Rattle.orc_theorems.proofs.written_files_calls.push_rows.Goals as goal
 
 pub loop-row-preserved : goal.loop-row-preserved
@@ -11,6 +12,7 @@ loop-row-preserved g c =
     record {
       schema = c.push.ensures.same.0 ∙ inv.schema;
       options = c.push.ensures.same.1 ∙ inv.options;
+      going = λ was. c.in_ok-push.ensures.ok;
       pushed = (
         inv.pushed.0 ++ view c.row-item.result ∷ [],
         pushed_more view c.args.rows.now c.loop-row.row-index c.row-item.result inv.pushed.0 c.loop-row-test.true c.row-item.is inv.pushed.1,
@@ -26,3 +28,12 @@ returns-clause-pushed g c = λ first before h.
     = at_drop_all (λ rows. inv.pushed.0 ++ map view rows) c.args.rows.now c.loop-row.row-index c.loop-row-test.false in
     let all : inv.pushed.0 ≡ views c.args.rows.now = sym (append-nil inv.pushed.0) ∙ sym none ∙ inv.pushed.1 in
     rw (← all) (inv.pushed.2 first before h)
+
+pub returns-in_err-push-clause-cut : goal.returns-in_err-push-clause-cut
+returns-in_err-push-clause-cut g c = λ first before pushed was wrote.
+    let inv = c.loop-row.invariant in
+    let p = err_from_is_err_and c.from_residual.result c.from_residual.ensures.1 in
+    let why = rw (p.1, p.2) at wrote in
+    cut_of_all view c.args.writer.now.options c.loop-row.writer.options c.args.writer.now.schema c.loop-row.writer.schema first (g.W.Sink.told c.push.new.self.out) before inv.pushed.0
+    c.args.rows.now c.loop-row.row-index c.row-item.result inv.options inv.schema c.loop-row-test.true c.row-item.is inv.pushed.1
+    (c.in_err-push.ensures.cut first (before ++ inv.pushed.0) (inv.pushed.2 first before pushed) (inv.going was) (c.in_err-push.ensures.write_fails why))

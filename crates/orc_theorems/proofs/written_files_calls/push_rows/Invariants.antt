@@ -1,4 +1,4 @@
-use Rattle.std.proofs.Common.{◌≡◌, ◌++◌, ℕ, List, Option, drop}
+use Rattle.std.proofs.Common.{◌≡◌, ◌++◌, ℕ, false, List, Option, drop}
 use Rattle.orc_types.specs.Cells.{Cell}
 use Rattle.orc_types.specs.Views.{views}
 use Rattle.orc_file.specs.Progress.{progress}
@@ -10,6 +10,7 @@ abbrev pub invariant-loop-row : goal.invariant-loop-row
 invariant-loop-row g l = record {
   schema : l.writer.schema ≡ l.initial.writer.schema;
   options : l.writer.options ≡ l.initial.writer.options;
+  going : l.initial.writer.failed ≡ false → l.writer.failed ≡ false;
   pushed : (done : List Cell) × (done ++ views (drop l.row-index l.rows) ≡ views l.rows)
       × ((first : Option (List ℕ)) (before : List Cell) → HasPushed (progress g.W.Sink.told l.initial.writer) first before
       → HasPushed (progress g.W.Sink.told l.writer) first (before ++ done));

@@ -17,4 +17,4 @@ returns-clause-same c =
 pub returns-clause-nothing : goal.returns-clause-nothing
 returns-clause-nothing c =
     nothing_back c.written_files_read_back.ensures.read c.written_files_read_back.ensures.checked c.args.options c.args.schema c.in_ok-file.file.tail
-    c.in_ok-file.file.bytes.items c.deref-2.result.now (views c.args.rows.now) c.in_ok-found.found.items c.in_ok-file.ensures c.deref-2.ensures.value c.in_ok-found.ensures
+    c.in_ok-file.file.bytes.items c.deref-2.result.now (views c.args.rows.now) c.in_ok-found.found.items c.in_ok-file.ensures c.deref-2.ensures.value c.in_ok-found.ensures.found

@@ -1,0 +1,51 @@
+-- Stripes and files that differ only before the offsets that a group's entries record
+-- (ORC specification, "Row Group Index").
+use Rattle.std.specs.Prelude.{◌≡◌, ℕ, ◌+◌, ◌<◌, ◌==◌, ◌&&◌, not, if◌then◌else◌, List, map, drop, get_or}
+use Rattle.orc_wire.specs.declared.row_index.RowIndexEntry.{RowIndexEntry}
+use Rattle.orc_wire.specs.declared.stripe_footer.StripeFooter.{StripeFooter}
+use Rattle.orc_wire.specs.declared.stripe_info.StripeInfo.{StripeInfo}
+use Rattle.orc_types.specs.Shapes.{Shape, width, shape_at}
+use Rattle.orc_column_reader.specs.Directory.{slice}
+use Rattle.orc_column_reader.specs.Stripe.{Streams, HasFooter, has_dictionary, columns_of}
+use Rattle.orc_row_index.specs.Places.{octets_size}
+use Rattle.orc_row_index.specs.RunStreams.{own_octets}
+use Rattle.orc_group_reader.specs.Entering.{AgreeFrom}
+use Rattle.orc_group_reader.specs.Refusals.{present_size}
+use Rattle.orc_stripe.specs.Opened.{Opened}
+use Rattle.orc_stripe.specs.GroupCursors.{IsGroupEntry}
+use Rattle.orc_file.specs.Stripes.{stripe_at}
+use Rattle.orc_file.specs.FileRows.{stripe_bytes, opened_stripe}
+use Rattle.orc_file.specs.declared.tail.Tail.{Tail}
+
+-- The offset that a column's positions record for its stream of a kind. Those of PRESENT come first, then those of
+-- DATA, and then those of LENGTH. A dictionary's streams have none, nor has a row index: they count from their start.
+abbrev pub offset_of : Shape → Streams → List ℕ → ℕ → ℕ
+offset_of s x positions kind =
+    if kind == 0 then get_or positions 0 0
+    else (if kind == 1 then get_or positions (present_size x) 0
+    else (if (kind == 2) && not (has_dictionary x)
+    then get_or positions (present_size x + octets_size (own_octets s x)) 0
+    else 0))
+
+-- the stripe with other bytes, and the same record and footer
+abbrev pub with_bytes : Opened → List ℕ → Opened
+with_bytes view bytes = record view { bytes = bytes }
+
+-- The bytes are a stripe's but for some in streams that have positions, before the offsets that the group's entries
+-- record: they are as many, with the same footer, and each stream of a column is as long, and the same from its offset
+-- on.
+pub record DiffersOnlyBefore (view : Opened) (group : ℕ) (bytes : List ℕ) : Type 0 where
+  pub footer : AgreeFrom (view.info.index_length + view.info.data_length) bytes view.bytes
+  pub stream : (c kind : ℕ) (entry : RowIndexEntry) → c < width view.schema
+      → IsGroupEntry view c group entry
+      → AgreeFrom (offset_of (shape_at view.schema c) (columns_of view.footer view.bytes c) entry.positions kind)
+      (slice c kind view.footer.streams bytes) (slice c kind view.footer.streams view.bytes)
+
+-- Another file differs so in one stripe, and in none behind it. The stripes before it have no part in this.
+pub record FileDiffersOnlyBefore (bytes : List ℕ) (tail : Tail) (n group : ℕ) (other : List ℕ) : Type 0 where
+  pub here : (footer : StripeFooter)
+      → HasFooter tail.schema (stripe_at tail.stripes n) (stripe_bytes (stripe_at tail.stripes n) bytes) footer
+      → DiffersOnlyBefore (opened_stripe tail n (stripe_bytes (stripe_at tail.stripes n) bytes) footer) group
+      (stripe_bytes (stripe_at tail.stripes n) other)
+  pub behind : map (λ (info : StripeInfo). stripe_bytes info other) (drop (n + 1) tail.stripes)
+      ≡ map (λ (info : StripeInfo). stripe_bytes info bytes) (drop (n + 1) tail.stripes)
