@@ -1,7 +1,11 @@
 mod Told
 mod SumLemmas
+mod MergedStripes
 mod MergedIndexes
 mod StepLemmas
 mod FoundLemmas
 mod ReadLemmas
 mod PrintLemmas
+mod IndexesAsWritten
+mod OneRunLemmas
+mod SoughtLemmas

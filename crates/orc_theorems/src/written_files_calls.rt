@@ -39,7 +39,7 @@ fn push_rows<W: Sink>(writer: &mut Writer<W>, rows: &[Row<'_>]) -> Result<(), Fi
 }
 
 /// Writes a file of rows to memory.
-fn write_rows(
+pub(crate) fn write_rows(
     alloc: Global,
     schema: Schema,
     options: Options,

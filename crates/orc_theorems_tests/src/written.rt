@@ -1,11 +1,12 @@
-//! Files that are written, read back, and read from their middle.
+//! Files that are written, read back, read from their middle, and sought there.
 use crate::assertions::{check_bytes, check_same};
-use crate::calls::{printed, written};
+use crate::calls::{printed, sought, sought_in_join, written};
 use orc_cli_output::CliFault;
 use orc_file::FileFault;
 use orc_rle::Rle;
 use orc_stripe::Options;
 use orc_test_io::SEVENS;
+use orc_theorems::CallFault;
 use orc_types::{Row, Schema, Value};
 use std::alloc::{AllocError, Global};
 
@@ -15,8 +16,15 @@ fn seven(alloc: Global) -> Result<Row<'static>, AllocError> {
     Ok(Some(Value::Struct(fields)))
 }
 
-/// The file of three sevens with this stride, and how many rows are read of it.
-fn sevens(alloc: Global, stride: u32) -> Result<(Vec<u8>, usize), FileFault> {
+/// What a file of sevens is written by.
+#[derive(Drop)]
+struct Given {
+    schema: Schema,
+    options: Options,
+    rows: Vec<Row<'static>>,
+}
+
+fn given(alloc: Global, stride: u32) -> Result<Given, FileFault> {
     let Some(options) = Options::new(Rle::One, stride, 3) else {
         return Err(FileFault::Limit);
     };
@@ -27,7 +35,31 @@ fn sevens(alloc: Global, stride: u32) -> Result<(Vec<u8>, usize), FileFault> {
     for _ in 0..3 {
         rows.push(seven(alloc)?)?;
     }
+    Ok(Given {
+        schema,
+        options,
+        rows,
+    })
+}
+
+/// The file of three sevens with this stride, and how many rows are read of it.
+fn sevens(alloc: Global, stride: u32) -> Result<(Vec<u8>, usize), FileFault> {
+    let Given {
+        schema,
+        options,
+        rows,
+    } = given(alloc, stride)?;
     written(alloc, schema, options, &rows)
+}
+
+/// How many sevens are left of the run that a group's position leads to, in the file of three with a stride of 2.
+fn sought_sevens(alloc: Global, group: usize) -> Result<usize, FileFault> {
+    let Given {
+        schema,
+        options,
+        rows,
+    } = given(alloc, 2)?;
+    sought(alloc, schema, options, &rows, group)
 }
 
 #[test]
@@ -43,5 +75,20 @@ fn from_the_middle(rt: HostRuntime) -> Result<(), CliFault> {
     let (bytes, _) = sevens(rt.alloc(), 2)?;
     let lines = printed(rt.alloc(), &bytes, "0:1")?;
     check_bytes(&rt, "lines", &lines, b"{\"n\":7}\n");
+    Ok(())
+}
+
+#[test]
+fn sought_in_the_middle(rt: HostRuntime) -> Result<(), FileFault> {
+    let left = sought_sevens(rt.alloc(), 1)?;
+    check_same(&rt, "left", &left, &1);
+    Ok(())
+}
+
+#[test]
+fn sought_in_a_join(rt: HostRuntime) -> Result<(), CallFault> {
+    let (bytes, _) = sevens(rt.alloc(), 2)?;
+    let left = sought_in_join(rt.alloc(), &bytes, &bytes, 1)?;
+    check_same(&rt, "left", &left, &1);
     Ok(())
 }
