@@ -142,11 +142,5 @@ pub fn join_and_seek(
     // for its contract alone: from a writer's positions one run is read at most, in a merged file too
     writers_positions();
     let joined = join_two(alloc, first, second)?;
-    Ok(seek_in_file(
-        alloc,
-        &joined.bytes,
-        stripe,
-        column,
-        group,
-    )?)
+    Ok(seek_in_file(alloc, &joined.bytes, stripe, column, group)?)
 }
