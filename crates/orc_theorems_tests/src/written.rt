@@ -18,13 +18,13 @@ fn seven(alloc: Global) -> Result<Row<'static>, AllocError> {
 
 /// What a file of sevens is written by.
 #[derive(Drop)]
-struct Given {
+struct Parts {
     schema: Schema,
     options: Options,
     rows: Vec<Row<'static>>,
 }
 
-fn given(alloc: Global, stride: u32) -> Result<Given, FileFault> {
+fn parts_of_sevens(alloc: Global, stride: u32) -> Result<Parts, FileFault> {
     let Some(options) = Options::new(Rle::One, stride, 3) else {
         return Err(FileFault::Limit);
     };
@@ -35,7 +35,7 @@ fn given(alloc: Global, stride: u32) -> Result<Given, FileFault> {
     for _ in 0..3 {
         rows.push(seven(alloc)?)?;
     }
-    Ok(Given {
+    Ok(Parts {
         schema,
         options,
         rows,
@@ -44,21 +44,21 @@ fn given(alloc: Global, stride: u32) -> Result<Given, FileFault> {
 
 /// The file of three sevens with this stride, and how many rows are read of it.
 fn sevens(alloc: Global, stride: u32) -> Result<(Vec<u8>, usize), FileFault> {
-    let Given {
+    let Parts {
         schema,
         options,
         rows,
-    } = given(alloc, stride)?;
+    } = parts_of_sevens(alloc, stride)?;
     written(alloc, schema, options, &rows)
 }
 
 /// How many sevens are left of the run that a group's position leads to, in the file of three with a stride of 2.
 fn sought_sevens(alloc: Global, group: usize) -> Result<usize, FileFault> {
-    let Given {
+    let Parts {
         schema,
         options,
         rows,
-    } = given(alloc, 2)?;
+    } = parts_of_sevens(alloc, 2)?;
     sought(alloc, schema, options, &rows, group)
 }
 
