@@ -1,5 +1,6 @@
 mod Told
 mod SumLemmas
+mod MergedStripes
 mod MergedIndexes
 mod StepLemmas
 mod FoundLemmas
@@ -7,3 +8,6 @@ mod ReadLemmas
 mod PrintLemmas
 mod BeforeLemmas
 mod FilesBefore
+mod IndexesAsWritten
+mod OneRunLemmas
+mod SoughtLemmas

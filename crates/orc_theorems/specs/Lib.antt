@@ -1,3 +1,6 @@
 pub mod Groupings
 pub mod Inputs
 pub mod BeforeGroups
+pub mod WrittenIndexes
+pub mod OneRunPlaces
+pub mod RunsRead

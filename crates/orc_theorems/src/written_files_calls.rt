@@ -77,7 +77,7 @@ pub fn write_to<W: Sink>(
 }
 
 /// Writes a file of rows to memory.
-fn write_rows(
+pub(crate) fn write_rows(
     alloc: Global,
     schema: Schema,
     options: Options,

@@ -4,8 +4,8 @@ use orc_file::{FileFault, Sink, Source};
 use orc_merge::MergeFault;
 use orc_stripe::Options;
 use orc_theorems::{
-    CallFault, in_two_steps, join_checked, join_in_groupings, join_in_orders, join_in_steps,
-    print_from, print_other_from, write_and_read,
+    CallFault, ColumnSought, Sought, in_two_steps, join_and_seek, join_checked, join_in_groupings,
+    join_in_orders, join_in_steps, print_from, print_other_from, write_and_read, write_and_seek,
 };
 use orc_types::{Row, Schema};
 use std::alloc::Global;
@@ -107,4 +107,39 @@ pub(crate) fn printed_of(
     let mut out = Vec::new(alloc);
     print_other_from(alloc, checked, other, from, &mut out)?;
     Ok(out)
+}
+
+/// How many integers are left of the run that a position led to.
+fn integers_left(found: &ColumnSought) -> usize {
+    match &found.own {
+        Sought::Numbers(run) => run.values().len(),
+        _ => 0,
+    }
+}
+
+/// The same of a group of column 1 of the first stripe, in a file that was written.
+pub(crate) fn sought(
+    alloc: Global,
+    schema: Schema,
+    options: Options,
+    rows: &[Row<'_>],
+    group: usize,
+) -> Result<usize, FileFault> {
+    match write_and_seek(alloc, schema, options, rows, 0, 1, group) {
+        Ok(found) => Ok(integers_left(&found)),
+        Err(fault) => Err(fault),
+    }
+}
+
+/// The same of the second stripe of what two files are joined into.
+pub(crate) fn sought_in_join(
+    alloc: Global,
+    first: &[u8],
+    second: &[u8],
+    group: usize,
+) -> Result<usize, CallFault> {
+    match join_and_seek(alloc, first, second, 1, 1, group) {
+        Ok(found) => Ok(integers_left(&found)),
+        Err(fault) => Err(fault),
+    }
 }

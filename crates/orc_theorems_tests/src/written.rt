@@ -1,11 +1,12 @@
-//! Files that are written, read back, and read from their middle.
+//! Files that are written, read back, read from their middle, and sought there.
 use crate::assertions::{check_bytes, check_same};
-use crate::calls::{printed, printed_of, written};
+use crate::calls::{printed, printed_of, sought, sought_in_join, written};
 use orc_cli_output::CliFault;
 use orc_file::FileFault;
 use orc_rle::Rle;
 use orc_stripe::Options;
 use orc_test_io::SEVENS;
+use orc_theorems::CallFault;
 use orc_types::{Row, Schema, Value};
 use std::alloc::{AllocError, Global};
 
@@ -15,8 +16,16 @@ fn row(alloc: Global, number: i64) -> Result<Row<'static>, AllocError> {
     Ok(Some(Value::Struct(fields)))
 }
 
-/// The file of these numbers in one stripe with this stride, and how many rows are read of it.
-fn file_of(alloc: Global, numbers: &[i64], stride: u32) -> Result<(Vec<u8>, usize), FileFault> {
+/// What a file is written by.
+#[derive(Drop)]
+struct Parts {
+    schema: Schema,
+    options: Options,
+    rows: Vec<Row<'static>>,
+}
+
+/// What a file of these numbers is written by, in one stripe with this stride.
+fn parts_of(alloc: Global, numbers: &[i64], stride: u32) -> Result<Parts, FileFault> {
     let Some(options) = Options::new(Rle::One, stride, 8) else {
         return Err(FileFault::Limit);
     };
@@ -27,7 +36,31 @@ fn file_of(alloc: Global, numbers: &[i64], stride: u32) -> Result<(Vec<u8>, usiz
     for number in numbers {
         rows.push(row(alloc, *number)?)?;
     }
+    Ok(Parts {
+        schema,
+        options,
+        rows,
+    })
+}
+
+/// The file of these numbers in one stripe with this stride, and how many rows are read of it.
+fn file_of(alloc: Global, numbers: &[i64], stride: u32) -> Result<(Vec<u8>, usize), FileFault> {
+    let Parts {
+        schema,
+        options,
+        rows,
+    } = parts_of(alloc, numbers, stride)?;
     written(alloc, schema, options, &rows)
+}
+
+/// How many numbers are left of the run that a group's position leads to, in the file of these with a stride of 2.
+fn sought_among(alloc: Global, numbers: &[i64], group: usize) -> Result<usize, FileFault> {
+    let Parts {
+        schema,
+        options,
+        rows,
+    } = parts_of(alloc, numbers, 2)?;
+    sought(alloc, schema, options, &rows, group)
 }
 
 /// The same file with eights for three sevens in DATA, before other numbers there.
@@ -72,5 +105,20 @@ fn from_the_middle_of_a_damaged_file(rt: HostRuntime) -> Result<(), CliFault> {
     check_bytes(&rt, "all lines", &lines, wanted);
     let lines = printed_of(rt.alloc(), &bytes, &damaged, "0:1")?;
     check_bytes(&rt, "lines behind", &lines, b"{\"n\":1}\n{\"n\":9}\n");
+    Ok(())
+}
+
+#[test]
+fn sought_in_the_middle(rt: HostRuntime) -> Result<(), FileFault> {
+    let left = sought_among(rt.alloc(), &[7, 7, 7], 1)?;
+    check_same(&rt, "left", &left, &1);
+    Ok(())
+}
+
+#[test]
+fn sought_in_a_join(rt: HostRuntime) -> Result<(), CallFault> {
+    let (bytes, _) = file_of(rt.alloc(), &[7, 7, 7], 2)?;
+    let left = sought_in_join(rt.alloc(), &bytes, &bytes, 1)?;
+    check_same(&rt, "left", &left, &1);
     Ok(())
 }

@@ -1,0 +1,113 @@
+-- What callers of `seek` count, at positions from which one run is read at most.
+use Rattle.std.proofs.Common.{◌≡◌, ◌∙◌, ℕ, ◌<◌, ◌≤◌, Option, Some, List, [], ◌∷◌, ◌++◌, length, take, drop, slice_get, get_or, refl, sym, ap, subst, arith}
+use Rattle.std.proofs.lemmas.Option.{slice_get_read}
+use Rattle.orc_rle.specs.ByteRun.{IsByteRun}
+use Rattle.orc_rle.specs.Seeking.{bytes_needed}
+use Rattle.orc_positions.specs.BitPosition.{BeginsBits}
+use Rattle.orc_positions.proofs.BitPositionLemmas.{bit_place_begins}
+use Rattle.orc_wire.specs.declared.row_index.RowIndexEntry.{RowIndexEntry}
+use Rattle.orc_wire.specs.declared.row_index.RowIndexMsg.{RowIndexMsg}
+use Rattle.orc_types.specs.Cells.{Cell, values}
+use Rattle.orc_types.specs.Columns.{cells}
+use Rattle.orc_types.specs.Shapes.{Shape, width, shape_at}
+use Rattle.orc_column_reader.specs.Stripe.{Streams, HasFooter, columns_of}
+use Rattle.orc_row_index.specs.Bounds.{before_group}
+use Rattle.orc_row_index.specs.Places.{RunPlace, BitPlace, StreamPlace, PlacesIn, position_size, octets, octets_place, begins}
+use Rattle.orc_row_index.specs.RunStreams.{RunStream, no_stream, bit_runs, byte_runs, number_runs, present_runs, own_runs, own_octets}
+use Rattle.orc_row_index.specs.Walking.{runs, lent_bytes, ArePlaced}
+use Rattle.orc_row_index.specs.declared.placed.PlacedStreams.{PlacedStreams}
+use Rattle.orc_row_index.proofs.PositionParts.{front_is, back_is}
+use Rattle.orc_stripe_writer.specs.Groups.{starts, bounds_of}
+use Rattle.orc_stripe.specs.Opened.{Opened}
+use Rattle.orc_stripe.specs.RowIndexes.{HasIndex}
+use Rattle.orc_file.specs.Stripes.{stripe_at}
+use Rattle.orc_file.specs.FileRows.{stripe_bytes, opened_stripe, cut_rows}
+use Rattle.orc_file.specs.declared.tail.Tail.{Tail}
+use Rattle.orc_check.specs.Findings.{rows_at}
+use Rattle.orc_theorems.specs.OneRunPlaces.{SeekCounts, IsOneRunPlace, IsOneRunBitPlace, one_run, one_bit_run, AreOneRunPlaces, ColumnReadsOneRun, ReadsOneRun}
+
+-- ---- one stream
+
+pub run_sought : {A : Type 0} (R : List ℕ → List A → Type 0) (bytes ps : List ℕ) (o s n old new : ℕ) → ps ≡ o ∷ s ∷ [] → RunPlace (IsOneRunPlace R bytes) n ps → old ≡ 0 → SeekCounts R bytes o s old new → new ≤ 1
+run_sought R bytes ps o s n old new e h none k =
+    let two : o ∷ s ∷ [] ≡ h.0 ∷ h.1 ∷ [] = sym e ∙ h.2 in
+    let offset : o ≡ h.0 = cc in
+    let skip : s ≡ h.1 = cc in
+    let there : SeekCounts R bytes h.0 h.1 old new = subst (λ (x : ℕ). SeekCounts R bytes x h.1 old new) offset (subst (λ (x : ℕ). SeekCounts R bytes o x old new) skip k) in
+    omega (arith, h.3.one_run old new there, none)
+
+pub bit_sought : (bytes ps : List ℕ) (o s b n old new : ℕ) → ps ≡ o ∷ s ∷ b ∷ [] → BitPlace (IsOneRunBitPlace bytes) n ps → old ≡ 0 → SeekCounts IsByteRun bytes o (bytes_needed s b) old new → new ≤ 1
+bit_sought bytes ps o s b n old new e h none k =
+    let three : o ∷ s ∷ b ∷ [] ≡ h.0 ∷ h.1 ∷ h.2 ∷ [] = sym e ∙ h.3 in
+    let offset : o ≡ h.0 = cc in
+    let skip : s ≡ h.1 = cc in
+    let bits : b ≡ h.2 = cc in
+    let need : bytes_needed s b ≡ bytes_needed h.1 h.2 = λ i. bytes_needed (skip i) (bits i) in
+    let there : SeekCounts IsByteRun bytes h.0 (bytes_needed h.1 h.2) old new =
+    subst (λ (x : ℕ). SeekCounts IsByteRun bytes x (bytes_needed h.1 h.2) old new) offset (subst (λ (x : ℕ). SeekCounts IsByteRun bytes o x old new) need k) in
+    omega (arith, h.4.one_run old new there, none)
+
+-- ---- the streams of a column
+
+stream_begins : (c : RunStream) (n : ℕ) (ps : List ℕ) → StreamPlace one_run one_bit_run c n ps → StreamPlace begins BeginsBits c n ps
+stream_begins no_stream n ps h = h
+stream_begins (bit_runs b) n ps h = (h.0, h.1, h.2, h.3, bit_place_begins b n h.0 h.1 h.2 n (record { place = h.4.place.place; bits_are = h.4.place.bits_are; there = omega arith }))
+stream_begins (byte_runs b) n ps h = (h.0, h.1, h.2, h.3.place.begins)
+stream_begins (number_runs v sign b) n ps h = (h.0, h.1, h.2, h.3.place.begins)
+
+pub column_sought : (s : Shape) (x : Streams) (before : List Cell) (placed : PlacedStreams) (ps : List ℕ) (size : ℕ) (first last : List ℕ) → ArePlaced s x placed → AreOneRunPlaces s x before ps
+    → size ≡ position_size (runs placed.present) → first ≡ take size ps → last ≡ drop size ps
+    → StreamPlace one_run one_bit_run (runs placed.present) (length before) first
+    × ((behind : List ℕ) → ((n : ℕ) (rest : List ℕ) → last ≡ octets_place (lent_bytes placed.content) n ++ rest → behind ≡ rest)
+    → StreamPlace one_run one_bit_run (runs placed.own) (length (values before)) behind)
+column_sought s x before placed ps size first last are h e f l =
+    let present : RunStream = present_runs (x.stream 0) in
+    let content : Option (List ℕ) = own_octets s x in
+    let own : RunStream = own_runs s x in
+    let b : PlacesIn begins BeginsBits present content own before ps = record {
+      first = h.first;
+      last = h.last;
+      parts = h.parts;
+      present_place = stream_begins present (length before) h.first h.present_place;
+      own_place = stream_begins own (length (values before)) h.last h.own_place;
+    } in
+    let long : size ≡ position_size present = e ∙ ap position_size are.present_is in
+    let front : h.first ≡ take size ps = front_is present content own before ps size long b in
+    let back : drop size ps ≡ octets_place content (octets before) ++ h.last = back_is present content own before ps size long b in
+    let in_front : StreamPlace one_run one_bit_run present (length before) first = subst (λ (t : List ℕ). StreamPlace one_run one_bit_run present (length before) t) (front ∙ sym f) h.present_place in (
+      subst (λ (r : RunStream). StreamPlace one_run one_bit_run r (length before) first) (sym are.present_is) in_front,
+      λ behind law.
+          let cut : last ≡ octets_place (lent_bytes placed.content) (octets before) ++ h.last = l ∙ back ∙ ap (λ (o : Option (List ℕ)). octets_place o (octets before) ++ h.last) (sym are.content_is) in
+          let is : behind ≡ h.last = law (octets before) h.last cut in
+          subst (λ (r : RunStream). StreamPlace one_run one_bit_run r (length (values before)) behind) (sym are.own_is)
+          (subst (λ (t : List ℕ). StreamPlace one_run one_bit_run own (length (values before)) t) (sym is) h.own_place),
+    )
+
+-- ---- a group of a column
+
+-- the positions of its entry, as they are read
+pub entry_reads : (view : Opened) (rows : List Cell) (c g : ℕ) (message : RowIndexMsg) (entries : List RowIndexEntry) (entry : RowIndexEntry) (positions : List ℕ) → ColumnReadsOneRun view rows c
+    → HasIndex view.footer view.bytes c message → entries ≡ message.entries → g < length entries → entry ≡ get_or entries g entry → positions ≡ entry.positions
+    → AreOneRunPlaces (shape_at view.schema c) (columns_of view.footer view.bytes c) (before_group (cells view.schema c rows) (bounds_of view.schema c rows (starts view.stride (length rows))) g) positions
+entry_reads view rows c g message entries entry positions reads has same lt is at =
+    let there : slice_get message.entries g ≡ Some entry = ap (λ (es : List RowIndexEntry). slice_get es g) (sym same) ∙ slice_get_read entries (length entries) g entry refl lt is in
+    subst (λ (ps : List ℕ). AreOneRunPlaces (shape_at view.schema c) (columns_of view.footer view.bytes c) (before_group (cells view.schema c rows) (bounds_of view.schema c rows (starts view.stride (length rows))) g) ps)
+    (sym at) (reads message has g entry there)
+
+-- ---- a stripe of a file, as it is opened
+
+pub view_reads : (bytes own : List ℕ) (tail opened : Tail) (rows : List Cell) (n : ℕ) (view : Opened) → ReadsOneRun bytes tail rows → opened ≡ tail → n < length opened.stripes
+    → own ≡ stripe_bytes (stripe_at opened.stripes n) bytes → HasFooter opened.schema (stripe_at opened.stripes n) own view.footer
+    → (view.schema ≡ opened.schema) × (view.info ≡ stripe_at opened.stripes n) × (view.stride ≡ opened.stride) × (view.bytes ≡ own)
+    → (c : ℕ) → 0 < view.stride → c < width view.schema → ColumnReadsOneRun view (rows_at (cut_rows tail.stripes rows) n) c
+view_reads bytes own tail opened rows n view reads e lt is found same c some below =
+    let schema : view.schema ≡ tail.schema = same.0 ∙ ap (λ (t : Tail). t.schema) e in
+    let info : view.info ≡ stripe_at tail.stripes n = same.1 ∙ ap (λ (t : Tail). stripe_at t.stripes n) e in
+    let stride : view.stride ≡ tail.stride = same.2 ∙ ap (λ (t : Tail). t.stride) e in
+    let text : view.bytes ≡ stripe_bytes (stripe_at tail.stripes n) bytes = same.3 ∙ is ∙ ap (λ (t : Tail). stripe_bytes (stripe_at t.stripes n) bytes) e in
+    let whole : view ≡ opened_stripe tail n (stripe_bytes (stripe_at tail.stripes n) bytes) view.footer = λ i. record { schema = schema i; info = info i; stride = stride i; bytes = text i; footer = view.footer } in
+    let opens : HasFooter tail.schema (stripe_at tail.stripes n) (stripe_bytes (stripe_at tail.stripes n) bytes) view.footer =
+    subst (λ (t : Tail). HasFooter t.schema (stripe_at t.stripes n) (stripe_bytes (stripe_at t.stripes n) bytes) view.footer) e
+    (subst (λ (b : List ℕ). HasFooter opened.schema (stripe_at opened.stripes n) b view.footer) is found) in
+    subst (λ (v : Opened). ColumnReadsOneRun v (rows_at (cut_rows tail.stripes rows) n) c) (sym whole)
+    (reads (omega (arith, some, stride)) n (subst (λ (t : Tail). n < length t.stripes) e lt) view.footer opens c (subst (λ (s : Shape). c < width s) schema below))

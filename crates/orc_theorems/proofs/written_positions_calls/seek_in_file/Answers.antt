@@ -1,0 +1,25 @@
+use Rattle.std.proofs.Common.{◌≡◌, ◌∙◌, ℕ, List, sym, ap, arith}
+use Rattle.orc_file.specs.Stripes.{stripe_at}
+use Rattle.orc_file.specs.FileRows.{stripe_bytes, cut_rows}
+use Rattle.orc_file.specs.Tails.{IsTail}
+use Rattle.orc_file.specs.declared.tail.Tail.{Tail}
+use Rattle.orc_check.specs.Findings.{rows_at}
+use Rattle.orc_theorems.proofs.Told.{at_told}
+use Rattle.orc_theorems.proofs.SoughtLemmas.{view_reads}
+use Rattle.orc_theorems.proofs.written_positions_calls.seek_in_file.Goals as goal
+
+pub returns-in-Ok-seek_group : goal.returns-in-Ok-seek_group
+returns-in-Ok-seek_group c = λ tail rows is reads.
+    let file = c.in-Ok.file in
+    let n = c.args.stripe in
+    let bytes = c.args.bytes.now in
+    let found : IsTail bytes file.tail = at_told _ bytes (λ (b : List ℕ). IsTail b file.tail) c.new.ensures.told c.in-Ok.ensures.found in
+    let same : file.tail ≡ tail = c.tail_laws.ensures.one bytes file.tail tail found is.tail_is in
+    let own : c.load.new.into.items ≡ stripe_bytes (stripe_at file.tail.stripes n) bytes =
+    at_told _ bytes (λ (b : List ℕ). c.load.new.into.items ≡ stripe_bytes (stripe_at file.tail.stripes n) b) (c.in-Ok.ensures.same ∙ c.new.ensures.told) c.in_ok-load.ensures.bytes in
+    let opened = c.load.new.self.tail in
+    let lasts : opened ≡ file.tail = c.in_ok-load.ensures.tail in
+    let view = c.in_ok-view.view in
+    let place = c.deref.ensures.value ∙ own ∙ ap (λ (t : Tail). stripe_bytes (stripe_at t.stripes n) bytes) (sym lasts) in
+    c.in-Ok-seek_group.ensures (rows_at (cut_rows tail.stripes rows) n)
+    (λ some below. view_reads bytes c.deref.result.now tail opened rows n view reads (lasts ∙ same) (let k = c.if-stripe-len.false in omega (arith, k)) place c.in_ok-view.ensures.found c.in_ok-view.ensures.same c.args.column some below)

@@ -1,0 +1,64 @@
+-- Files whose row indexes are as a writer writes them (ORC specification, "Row Group Index").
+use Rattle.std.specs.Prelude.{◌≡◌, ℕ, ◌<◌, true, Option, List, [], ◌∷◌, length}
+use Rattle.orc_wire.specs.declared.stripe_footer.StripeFooter.{StripeFooter}
+use Rattle.orc_wire.specs.declared.stripe_info.StripeInfo.{StripeInfo}
+use Rattle.orc_types.specs.Cells.{Cell}
+use Rattle.orc_types.specs.Columns.{cells}
+use Rattle.orc_types.specs.Shapes.{Shape, width, shape_at}
+use Rattle.orc_column_reader.specs.Directory.{has_stream, slice}
+use Rattle.orc_column_reader.specs.Stripe.{HasFooter, columns_of}
+use Rattle.orc_row_index.specs.RowIndex.{IsWrittenIndex}
+use Rattle.orc_stripe_writer.specs.Groups.{starts, bounds_of}
+use Rattle.orc_stripe_writer.specs.declared.options.Options.{Options}
+use Rattle.orc_file.specs.Stripes.{stripe_at}
+use Rattle.orc_file.specs.FileRows.{stripe_bytes, FileIs, cut_rows}
+use Rattle.orc_file.specs.Writing.{IsWhole}
+use Rattle.orc_file.specs.declared.tail.Tail.{Tail}
+use Rattle.orc_check.specs.Findings.{rows_at}
+
+-- the directory lists an index of column c: the one that is written of the column's streams and cells
+abbrev pub HasWrittenIndex : ℕ → Shape → List Cell → StripeFooter → List ℕ → ℕ → Type 0
+HasWrittenIndex stride s rows footer bytes c =
+    (has_stream c 6 footer.streams ≡ true)
+    × IsWrittenIndex (shape_at s c) (columns_of footer bytes c) (cells s c rows)
+    (bounds_of s c rows (starts stride (length rows))) (slice c 6 footer.streams bytes)
+
+-- a stripe of these rows has such an index of each column
+pub record IsIndexedAsWritten (s : Shape) (stride : ℕ) (info : StripeInfo) (bytes : List ℕ)
+    (rows : List Cell) : Type 0 where
+  pub footer : StripeFooter
+  pub has_footer : HasFooter s info bytes footer
+  pub written : (c : ℕ) → c < width s → HasWrittenIndex stride s rows footer bytes c
+
+-- where the stride is above 0, each stripe of a file of these rows is indexed so
+abbrev pub HasWrittenIndexes : List ℕ → Tail → List Cell → Type 0
+HasWrittenIndexes bytes tail rows =
+    0 < tail.stride → (n : ℕ) → n < length tail.stripes
+    → IsIndexedAsWritten tail.schema tail.stride (stripe_at tail.stripes n)
+    (stripe_bytes (stripe_at tail.stripes n) bytes)
+    (rows_at (cut_rows tail.stripes rows) n)
+
+-- each input is a file of these rows whose stripes are
+abbrev pub AreIndexedAsWritten : List (List ℕ) → List (List Cell) → Type 0
+AreIndexedAsWritten [] [] = Unit {0}
+AreIndexedAsWritten [] (rows ∷ parts) = ⊥
+AreIndexedAsWritten (b ∷ bs) [] = ⊥
+AreIndexedAsWritten (b ∷ bs) (rows ∷ parts) =
+    ((tail : Tail) × FileIs b tail rows × HasWrittenIndexes b tail rows) × AreIndexedAsWritten bs parts
+
+-- `finish` of a writer wrote these bytes of these rows
+pub record WasWritten (bytes : List ℕ) (rows : List Cell) : Type 0 where
+  pub options : Options
+  pub schema : Shape
+  pub tail : Tail
+  pub first : Option (List ℕ)
+  pub told : Option (List ℕ)
+  pub finish_wrote : IsWhole options schema tail first told rows
+  pub bytes_are : bytes ≡ finish_wrote.bytes
+
+-- each input was written so
+abbrev pub WereWritten : List (List ℕ) → List (List Cell) → Type 0
+WereWritten [] [] = Unit {0}
+WereWritten [] (rows ∷ parts) = ⊥
+WereWritten (b ∷ bs) [] = ⊥
+WereWritten (b ∷ bs) (rows ∷ parts) = WasWritten b rows × WereWritten bs parts

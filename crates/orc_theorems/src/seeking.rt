@@ -1,0 +1,172 @@
+//! A column's streams, sought at the positions of an entry of its row index.
+ghost use Rattle.std.specs.Prelude.{◌≡◌, ◌≤◌, ◌∷◌, ◌++◌, ℕ, List, [], IfOk, IfSome};
+ghost use Rattle.orc_types.specs.Cells.{Cell};
+ghost use Rattle.orc_types.specs.Shapes.{Shape};
+ghost use Rattle.orc_column_reader.specs.Numbers.{is_run};
+ghost use Rattle.orc_column_reader.specs.Stripe.{Streams};
+ghost use Rattle.orc_row_index.specs.Places.{StreamPlace, octets_place};
+ghost use Rattle.orc_row_index.specs.RunStreams.{bit_runs, byte_runs, number_runs};
+ghost use Rattle.orc_row_index.specs.Walking.{runs, lent_bytes, ArePlaced};
+ghost use Rattle.orc_theorems.specs.OneRunPlaces.{SeekCounts, one_run, one_bit_run, AreOneRunPlaces};
+ghost use Rattle.orc_theorems.specs.RunsRead.{runs_read, ReadOneEach};
+
+use orc_rle::{BitPos, BitRuns, ByteRuns, Pos, Rle, Run, RunCodec, RunFault, RunU8, Sign, V1, V2};
+use orc_row_index::{PlacedStreams, RunBytes};
+
+/// What a position of a stream leads to: what is left of the run that was read last, if any was.
+#[derive(Drop)]
+pub enum Sought {
+    /// There is no such stream.
+    Nothing,
+    /// A run of bytes, each of which has eight booleans in a stream of these.
+    Bytes(RunU8),
+    /// A run of integers.
+    Numbers(Run),
+}
+
+/// What the positions of a column lead to: in PRESENT, and in the stream of runs beside it.
+#[derive(Drop)]
+pub struct ColumnSought {
+    pub present: Sought,
+    pub own: Sought,
+}
+
+/// A position of bytes or integers, where the numbers are one.
+fn pos_of(positions: &[u64]) -> Option<Pos>
+    ensures { IfSome result (λ pos. positions.now ≡ pos.offset ∷ pos.skip ∷ []) }
+{
+    match positions {
+        [offset, skip] => Some(Pos {
+            offset: *offset as usize,
+            skip: *skip as usize,
+        }),
+        _ => None,
+    }
+}
+
+/// A position of booleans, where the numbers are one.
+fn bit_pos_of(positions: &[u64]) -> Option<BitPos>
+    ensures { IfSome result (λ pos. positions.now ≡ pos.offset ∷ pos.skip ∷ pos.bits ∷ []) }
+{
+    match positions {
+        [offset, skip, bits] => Some(BitPos {
+            offset: *offset as usize,
+            skip: *skip as usize,
+            bits: *bits as usize,
+        }),
+        _ => None,
+    }
+}
+
+/// Goes to a position of integers, whatever the version.
+fn seek_version(
+    version: Rle,
+    sign: Sign,
+    bytes: &[u8],
+    pos: Pos,
+    run: &mut Run,
+) -> Result<usize, RunFault>
+    ensures { SeekCounts (is_run version sign) bytes.now pos.offset pos.skip run.old.count run.new.count }
+{
+    match version {
+        Rle::One => V1::seek(bytes, sign, pos, run),
+        Rle::Two => V2::seek(bytes, sign, pos, run),
+    }
+}
+
+/// Goes to a position of a stream of integers.
+fn seek_numbers(
+    version: Rle,
+    sign: Sign,
+    bytes: &[u8],
+    positions: &[u64],
+) -> Result<Sought, RunFault>
+    ensures { (n : ℕ) → StreamPlace one_run one_bit_run (number_runs version sign bytes.now) n positions.now
+        → IfOk result (λ sought. runs_read sought ≤ 1) }
+{
+    let Some(pos) = pos_of(positions) else {
+        return Err(RunFault::BadPosition(0));
+    };
+    let mut run = Run::new();
+    match seek_version(version, sign, bytes, pos, &mut run) {
+        Ok(_) => Ok(Sought::Numbers(run)),
+        Err(fault) => Err(fault),
+    }
+}
+
+/// Goes to a position of a stream of bytes.
+fn seek_bytes(bytes: &[u8], positions: &[u64]) -> Result<Sought, RunFault>
+    ensures { (n : ℕ) → StreamPlace one_run one_bit_run (byte_runs bytes.now) n positions.now
+        → IfOk result (λ sought. runs_read sought ≤ 1) }
+{
+    let Some(pos) = pos_of(positions) else {
+        return Err(RunFault::BadPosition(0));
+    };
+    let mut run = RunU8::new();
+    match ByteRuns::seek(bytes, pos, &mut run) {
+        Ok(_) => Ok(Sought::Bytes(run)),
+        Err(fault) => Err(fault),
+    }
+}
+
+/// Goes to a position of a stream of booleans.
+fn seek_bits(bytes: &[u8], positions: &[u64]) -> Result<Sought, RunFault>
+    ensures { (n : ℕ) → StreamPlace one_run one_bit_run (bit_runs bytes.now) n positions.now
+        → IfOk result (λ sought. runs_read sought ≤ 1) }
+{
+    let Some(pos) = bit_pos_of(positions) else {
+        return Err(RunFault::BadPosition(0));
+    };
+    let mut run = RunU8::new();
+    match BitRuns::seek(bytes, pos, &mut run) {
+        Ok(_) => Ok(Sought::Bytes(run)),
+        Err(fault) => Err(fault),
+    }
+}
+
+/// Goes to a position of a stream, whatever its runs are of.
+fn seek_stream(stream: &RunBytes<'_>, positions: &[u64]) -> Result<Sought, RunFault>
+    ensures { (n : ℕ) → StreamPlace one_run one_bit_run (runs stream.now) n positions.now
+        → IfOk result (λ sought. runs_read sought ≤ 1) }
+{
+    match *stream {
+        RunBytes::Nothing => Ok(Sought::Nothing),
+        RunBytes::Bits(bytes) => seek_bits(bytes, positions),
+        RunBytes::Bytes(bytes) => seek_bytes(bytes, positions),
+        RunBytes::Numbers(version, sign, bytes) => seek_numbers(version, sign, bytes, positions),
+    }
+}
+
+/// The positions behind that of bytes as they are, where a column has such.
+fn behind_octets<'p>(content: Option<&[u8]>, positions: &'p [u64]) -> &'p [u64]
+    ensures { (n : ℕ) (last : List ℕ) → positions.now ≡ octets_place (lent_bytes content.entry) n ++ last
+        → result.now ≡ last }
+{
+    match content {
+        Some(_) => match positions {
+            [_, last @ ..] => last,
+            [] => positions,
+        },
+        None => positions,
+    }
+}
+
+/// Goes to the positions of an entry, in each of a column's streams of runs.
+///
+/// Refusals: those of `seek`, and `BadPosition` where the numbers are no positions of these streams.
+pub(crate) fn seek_places(
+    placed: &PlacedStreams<'_>,
+    positions: &[u64],
+) -> Result<ColumnSought, RunFault>
+    ensures { (s : Shape) (x : Streams) (before : List Cell) → ArePlaced s x placed.now
+        → AreOneRunPlaces s x before positions.now → IfOk result ReadOneEach }
+{
+    let size = placed.present.position_size();
+    if positions.len() < size {
+        return Err(RunFault::BadPosition(0));
+    }
+    let (first, last) = positions.split_at(size);
+    let present = seek_stream(&placed.present, first)?;
+    let own = seek_stream(&placed.own, behind_octets(placed.content, last))?;
+    Ok(ColumnSought { present, own })
+}

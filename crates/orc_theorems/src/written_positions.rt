@@ -1,0 +1,63 @@
+//! What reading from a writer's positions costs. `writers_positions` does nothing: its contract is the statement.
+//!
+//! `HasWrittenIndexes bytes tail rows` says that each row index of each stripe of a file is the one that a writer
+//! writes of the column's streams and cells; `WasWritten bytes rows` that `Writer::finish` wrote the bytes, of these
+//! rows. `ReadsOneRun bytes tail rows` says what `seek` does at each position in each of a file's row indexes, as a
+//! reader finds them: the position is that of the run in which the first value of the group stands, and the count of
+//! runs that were decoded rises by one at most. `SeekCounts` is what `RunCodec::seek`, `ByteRuns::seek` and
+//! `BitRuns::seek` promise of that count.
+ghost use Rattle.std.specs.Prelude.{◌<◌, ◌^◌, ℕ, List, Option, length};
+ghost use Rattle.orc_types.specs.Cells.{Cell};
+ghost use Rattle.orc_types.specs.Shapes.{Shape};
+ghost use Rattle.orc_stripe_writer.specs.declared.options.Options.{Options};
+ghost use Rattle.orc_file.specs.FileRows.{FileIs, joined};
+ghost use Rattle.orc_file.specs.Writing.{IsWhole};
+ghost use Rattle.orc_file.specs.declared.tail.Tail.{Tail};
+ghost use Rattle.orc_merge.specs.Merging.{IsMerge};
+ghost use Rattle.orc_merge.specs.Grouping.{Groups, merge, all_leaves, Wrote};
+ghost use Rattle.orc_theorems.specs.WrittenIndexes.{HasWrittenIndexes, AreIndexedAsWritten, WereWritten};
+ghost use Rattle.orc_theorems.specs.OneRunPlaces.{ReadsOneRun};
+
+use orc_file::written_laws;
+use orc_merge::grouping;
+
+/// From a position in a row index of a file that was written, `seek` reads one run at most, whatever the stream is of.
+/// So it does in a file that is merged of such files, in whatever groups. It is said of a writer's indexes: those of
+/// others may be right, and name a run far in front of the value.
+pub fn writers_positions()
+    // The row indexes of a file that was written are those that a writer writes.
+    ensures written { (options : Options) (schema : Shape) (tail : Tail) (first told : Option (List ℕ)) (rows : List Cell)
+        → (finish_wrote : IsWhole options schema tail first told rows)
+        → FileIs finish_wrote.bytes tail rows × HasWrittenIndexes finish_wrote.bytes tail rows }
+    // So are those of a file that is merged of such files.
+    ensures merged { (files : List (List ℕ)) (tail : Tail) (out : List ℕ) (parts : List (List Cell))
+        → (it_is_their_merge : IsMerge files tail out)
+        → (it_has_fewer_than_2_64_bytes : length out < 2 ^ 64)
+        → (each_file_has_a_writers_indexes : AreIndexedAsWritten files parts)
+        → FileIs out tail (joined parts) × HasWrittenIndexes out tail (joined parts) }
+    // And in whatever groups, where each merge answered Ok.
+    ensures grouped { (groups : Groups) (out : List ℕ) (parts : List (List Cell))
+        → (each_merge_wrote : Wrote (merge groups) out)
+        → (each_file_has_a_writers_indexes : AreIndexedAsWritten (all_leaves groups) parts)
+        → (tail : Tail) × FileIs out tail (joined parts) × HasWrittenIndexes out tail (joined parts) }
+
+    // From each position in such indexes one run is read at most.
+    ensures one_run { (bytes : List ℕ) (tail : Tail) (rows : List Cell)
+        → (it_is_a_file_of_the_rows : FileIs bytes tail rows)
+        → (it_has_a_writers_indexes : HasWrittenIndexes bytes tail rows)
+        → ReadsOneRun bytes tail rows }
+    // So it is in a file that was written,
+    ensures in_files { (options : Options) (schema : Shape) (tail : Tail) (first told : Option (List ℕ))
+        (rows : List Cell)
+        → (finish_wrote : IsWhole options schema tail first told rows)
+        → ReadsOneRun finish_wrote.bytes tail rows }
+    // and in a file that is merged of such, in whatever groups.
+    ensures in_merges { (groups : Groups) (out : List ℕ) (parts : List (List Cell))
+        → (each_merge_wrote : Wrote (merge groups) out)
+        → (each_file_was_written : WereWritten (all_leaves groups) parts)
+        → (tail : Tail) × FileIs out tail (joined parts) × ReadsOneRun out tail (joined parts) }
+{
+    // each for its contract alone
+    written_laws();
+    grouping();
+}

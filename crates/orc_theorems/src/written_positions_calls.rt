@@ -1,0 +1,146 @@
+//! Callers over the theorem of positions: they go to where a group of rows begins in the streams of a column, in a
+//! file that was written of rows, and in one that two such files were joined into.
+ghost use Rattle.std.specs.Prelude.{◌≡◌, ◌<◌, ℕ, List, IfOk};
+ghost use Rattle.orc_types.specs.Cells.{Cell};
+ghost use Rattle.orc_types.specs.Shapes.{width, shape_at};
+ghost use Rattle.orc_column_reader.specs.Stripe.{columns_of};
+ghost use Rattle.orc_row_index.specs.Walking.{ArePlaced};
+ghost use Rattle.orc_file.specs.FileRows.{FileIs};
+ghost use Rattle.orc_file.specs.declared.tail.Tail.{Tail};
+ghost use Rattle.orc_theorems.specs.OneRunPlaces.{ColumnReadsOneRun, ReadsOneRun};
+ghost use Rattle.orc_theorems.specs.RunsRead.{ReadOneEach};
+ghost use Rattle.orc_theorems.specs.WrittenIndexes.{WasWritten};
+
+use crate::fault::CallFault;
+use crate::memory::join_two;
+use crate::seeking::{ColumnSought, seek_places};
+use crate::written_files_calls::write_rows;
+use crate::written_positions::writers_positions;
+use orc_column_reader::starting::streams_of;
+use orc_file::{FileFault, OrcFile, SliceSource, tail_laws};
+use orc_row_index::{PlacedStreams, placed_streams};
+use orc_stripe::{Options, Spot, StripeFault, StripeView};
+use orc_types::{Row, Schema, tree_at};
+use std::alloc::Global;
+
+/// The streams of a column of a stripe that have positions.
+fn streams_placed<'a>(
+    alloc: Global,
+    view: &StripeView<'a>,
+    column: usize,
+) -> Result<PlacedStreams<'a>, StripeFault>
+    ensures there { IfOk result (λ _. column < width view.now.schema) }
+    ensures placed { IfOk result (ArePlaced (shape_at view.now.schema column)
+        (columns_of view.now.footer view.now.bytes column)) }
+{
+    let located = view.locate(alloc)?;
+    let footer = view.footer();
+    if column >= footer.columns.as_slice().len() {
+        return Err(StripeFault::BadPosition(Spot::Column(column)));
+    }
+    let streams = streams_of(column, footer, &located);
+    Ok(placed_streams(tree_at(view.tree(), column), &streams))
+}
+
+/// Goes to a group of a column of a stripe.
+fn seek_group(
+    alloc: Global,
+    view: &StripeView<'_>,
+    column: usize,
+    group: usize,
+) -> Result<ColumnSought, StripeFault>
+    ensures { (rows : List Cell)
+        → (0 < view.now.stride → column < width view.now.schema → ColumnReadsOneRun view.now rows column)
+        → IfOk result ReadOneEach }
+{
+    let index = match view.index(alloc, column) {
+        Ok(index) => index,
+        Err(fault) => return Err(fault),
+    };
+    let placed = streams_placed(alloc, view, column)?;
+    let entries = index.entries.as_slice();
+    if group >= entries.len() {
+        return Err(StripeFault::BadPosition(Spot::Column(column)));
+    }
+    match seek_places(&placed, entries[group].positions.as_slice()) {
+        Ok(sought) => Ok(sought),
+        Err(_) => Err(StripeFault::BadPosition(Spot::Column(column))),
+    }
+}
+
+/// Goes to where a group of rows begins in the streams of a column, in a stripe of a file in memory.
+fn seek_in_file(
+    alloc: Global,
+    bytes: &[u8],
+    stripe: usize,
+    column: usize,
+    group: usize,
+) -> Result<ColumnSought, FileFault>
+    ensures { (tail : Tail) (rows : List Cell)
+        → FileIs bytes.now tail rows
+        → ReadsOneRun bytes.now tail rows
+        → IfOk result ReadOneEach }
+{
+    // for its contract alone: bytes have one tail
+    tail_laws();
+    let mut file = match OrcFile::open(alloc, SliceSource::new(bytes)) {
+        Ok(file) => file,
+        Err((fault, _)) => return Err(fault),
+    };
+    if stripe >= file.tail().stripes.as_slice().len() {
+        return Err(FileFault::BadStripe(stripe));
+    }
+    let mut own = Vec::new(alloc);
+    file.load(stripe, &mut own)?;
+    let view = file.view(alloc, stripe, &own)?;
+    match seek_group(alloc, &view, column, group) {
+        Ok(sought) => Ok(sought),
+        Err(cause) => Err(FileFault::Stripe(stripe, cause)),
+    }
+}
+
+/// Writes a file of rows to memory, opens it, and goes to where a group of rows begins in the streams of a column of a
+/// stripe. To reach it one run is read at most in each stream, by the clause `in_files`.
+///
+/// Refusals: those of `Writer` and of opening; `BadStripe`, and of the stripe `BadPosition`, where there is no such
+/// stripe, column or group, and `NoIndex` where the stride is 0.
+pub fn write_and_seek(
+    alloc: Global,
+    schema: Schema,
+    options: Options,
+    rows: &[Row<'_>],
+    stripe: usize,
+    column: usize,
+    group: usize,
+) -> Result<ColumnSought, FileFault>
+    ensures one_run { IfOk result ReadOneEach }
+{
+    // for its contract alone: from a writer's positions one run is read at most
+    writers_positions();
+    let file = write_rows(alloc, schema, options, rows)?;
+    seek_in_file(alloc, &file.bytes, stripe, column, group)
+}
+
+/// Joins two files, opens what that gave, and goes to where a group of rows begins in the streams of a column of a
+/// stripe. Where both files were written, one run is read at most in each stream, by the clause `in_merges`.
+///
+/// Refusals: those of `merge` and of opening; `BadStripe`, and of the stripe `BadPosition`, where there is no such
+/// stripe, column or group, and `NoIndex` where the stride is 0.
+pub fn join_and_seek(
+    alloc: Global,
+    first: &[u8],
+    second: &[u8],
+    stripe: usize,
+    column: usize,
+    group: usize,
+) -> Result<ColumnSought, CallFault>
+    ensures one_run { (rows others : List Cell)
+        → WasWritten first.now rows
+        → WasWritten second.now others
+        → IfOk result ReadOneEach }
+{
+    // for its contract alone: from a writer's positions one run is read at most, in a merged file too
+    writers_positions();
+    let joined = join_two(alloc, first, second)?;
+    Ok(seek_in_file(alloc, &joined.bytes, stripe, column, group)?)
+}
