@@ -23,7 +23,7 @@ use Rattle.orc_file.specs.FileRows.{stripe_bytes, joined, HasRows, IsNoStripe, F
 use Rattle.orc_file.specs.declared.tail.Tail.{Tail}
 use Rattle.orc_cli_output.specs.Output.{write_failed, IsOutsideFile, IsWantOfMemory}
 use Rattle.orc_cli_output.proofs.OutputLemmas.{appends_more}
-use Rattle.orc_cli_rows.specs.Rows.{row_line, row_lines, HaveJson, AreOfStripe, AreOfStripes, HasNoJson, IsFrontOut, StripeStops, EndsAt, EndsIn}
+use Rattle.orc_cli_rows.specs.Rows.{row_line, row_lines, HaveJson, AreOfStripe, AreOfStripes, HasNoJson, IsFrontOut, StripeStops, EndsAt, EndsIn, IsOfRows, IsWantOfRows}
 use Rattle.orc_cli_rows.specs.Pieces.{IsPrinted, EndsWithin}
 use Rattle.orc_cli_rows.specs.Printed.{IsAsked, IsNotAsked, AreLines, ArePrinted, Ends, Stops, RefusesFile}
 use Rattle.orc_cli_rows.specs.declared.start.Start.{Start}
@@ -286,3 +286,17 @@ pub not_asked : (told : Option (List ℕ)) (from : Option (Bor (List ℕ))) (fau
 not_asked told from fault none h =
     let nothing : IsAsked None None = tt in
     absurd (h.1 None (subst (λ (f : Option (Bor (List ℕ))). IsAsked f None) (sym none) nothing))
+
+-- ---- whose want of memory it is
+
+pub rows_want : (fault : CliFault) → IsOfRows fault → IsWantOfMemory fault → IsWantOfRows fault
+rows_want fault h (inl e) = inr e
+rows_want fault h (inr (inl e)) = absurd (subst (λ (f : CliFault). IsOfRows f) e h)
+rows_want fault h (inr (inr (inl e))) = inl e
+rows_want fault h (inr (inr (inr e))) = absurd (subst (λ (f : CliFault). IsOfRows f) e h)
+
+pub no_place_layer : (from : Option (Bor (List ℕ))) (fault : CliFault) → IsNotAsked from fault → IsOfRows fault
+no_place_layer from fault h = subst (λ (f : CliFault). IsOfRows f) (sym h.0) tt
+
+pub output_layer : (fault : CliFault) → fault ≡ write_failed → IsOfRows fault
+output_layer fault failed = subst (λ (f : CliFault). IsOfRows f) (sym failed) tt

@@ -26,18 +26,21 @@ use Rattle.orc_cli_output.specs.declared.fault.CliFault.TheVariants.{Run, Types,
 abbrev pub LineSpellsNone : Shape → List ℕ → JsonFault → Type 0
 LineSpellsNone s line why = RowTextFault s line why
 
--- The layers whose want of memory `write` answers: that of types for the schema's text, that of JSON for a line, and that
--- of files, which is the writer's and the program's own.
-abbrev pub IsWantOfWrite : CliFault → Type 0
-IsWantOfWrite fault =
-    (fault ≡ Types types.OutOfMemory) ⊎ ((fault ≡ Json json.OutOfMemory) ⊎ (fault ≡ File file.OutOfMemory))
-
 -- the layers that refuse a line: that of JSON, and that of files, which then names no source
 abbrev pub IsOfLine : CliFault → Type 0
 IsOfLine (Run why) = ⊥
 IsOfLine (Types why) = ⊥
 IsOfLine (Json why) = Unit {0}
 IsOfLine (File why) = why ≢ file.SourceFailed
+
+-- want of memory for lines: in the layer of JSON, or in that of files, which is the writer's and the program's own
+abbrev pub IsWantOfLines : CliFault → Type 0
+IsWantOfLines fault = (fault ≡ Json json.OutOfMemory) ⊎ (fault ≡ File file.OutOfMemory)
+
+-- The layers whose want of memory `write` answers: that of types for the schema's text, and then nothing is out; or those
+-- of lines.
+abbrev pub IsWantOfWrite : Option (List ℕ) → Option (List ℕ) → CliFault → Type 0
+IsWantOfWrite old new fault = ((fault ≡ Types types.OutOfMemory) × (new ≡ old)) ⊎ IsWantOfLines fault
 
 -- the refusals of a writer whose rows fit its schema
 abbrev pub IsOfWriter : CliFault → Type 0

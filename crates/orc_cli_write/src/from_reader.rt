@@ -1,5 +1,5 @@
 //! A file of the rows of lines that are read one after another: one line is held at a time.
-ghost use Rattle.std.specs.Prelude.{◌≡◌, ◌<◌, ◌+◌, ◌⊎◌, ℕ, List, Option, IfOk, IfErr, IfSome, OnOk, false};
+ghost use Rattle.std.specs.Prelude.{◌≡◌, ◌<◌, ◌+◌, ◌⊎◌, List, IfOk, IfErr, IfSome, OnOk, false};
 ghost use Rattle.orc_types.specs.Cells.{Cell};
 ghost use Rattle.orc_types.specs.Shapes.{Shape};
 ghost use Rattle.orc_types.specs.SchemaText.{HasText};
@@ -7,7 +7,7 @@ ghost use Rattle.orc_file.specs.Progress.{progress};
 ghost use Rattle.orc_file.specs.Writing.{IsWhole};
 ghost use Rattle.orc_file.specs.declared.fault.FileFault.TheVariants as file;
 ghost use Rattle.orc_cli_write.specs.Lines.{AreRowsOf};
-ghost use Rattle.orc_cli_write.specs.Writes.{IsOfWriter, IsWantOfWrite, EndsInLines, PushesAlso};
+ghost use Rattle.orc_cli_write.specs.Writes.{IsOfWriter, IsWantOfLines, IsWantOfWrite, EndsInLines, PushesAlso};
 ghost use Rattle.orc_cli_write.specs.Reads.{BeginWith, LeavesReading, RefusesLines};
 ghost use Rattle.orc_cli_output.specs.Output.{IsWantOfMemory, IsOfSource, write_failed};
 ghost use Rattle.orc_cli_output.specs.declared.fault.CliFault.TheVariants.{File};
@@ -48,7 +48,7 @@ fn push_read<L: LineReader, W: Sink>(
         → W.failures writer.old.out < W.failures writer.new.out) }
     ensures memory { IfErr result (λ fault. IsWantOfMemory fault
         → W.failures writer.new.out ≡ W.failures writer.old.out) }
-    ensures layer { IfErr result (λ fault. IsWantOfMemory fault → IsWantOfWrite fault) }
+    ensures layer { IfErr result (λ fault. IsWantOfMemory fault → IsWantOfLines fault) }
 {
     // for its contract alone: the types are those of a schema
     let _types = writer.schema().types();
@@ -93,7 +93,7 @@ pub fn write_lines<L: LineReader, W: Sink>(
         ⊎ (L.failures lines.new ≡ L.failures lines.old)) }
     ensures failed { IfErr result (λ e. e.0 ≡ write_failed → W.failures out < W.failures e.1) }
     ensures memory { IfErr result (λ e. IsWantOfMemory e.0 → W.failures e.1 ≡ W.failures out) }
-    ensures layer { IfErr result (λ e. IsWantOfMemory e.0 → IsWantOfWrite e.0) }
+    ensures layer { IfErr result (λ e. IsWantOfMemory e.0 → IsWantOfWrite (W.told out) (W.told e.1) e.0) }
 {
     let schema = match Schema::parse(alloc, schema) {
         Ok(schema) => schema,
