@@ -1,0 +1,50 @@
+-- The program's command line is one of which the parser's walk gives the matches, and no argument has a rule on another.
+use Rattle.std.proofs.Common.{◌≡◌, ◌∙◌, ◌⊎◌, inl, inr, List, Result, Ok, Err, refl, sym, subst, true, false, ap, IfOk, IfErr, MatchResult}
+use Rattle.std.proofs.lemmas.Result.{IfErr-weaker, IfOk-weaker}
+use Rattle.clap.specs.Walk.{Text}
+use Rattle.clap.specs.Simple.{App, HasMatchesOf, is_simple}
+use Rattle.clap.specs.Faults.{fault_of, is_simple_and_free}
+use Rattle.clap.specs.Kinds.{FailsBy}
+use Rattle.clap.specs.Values.{kind_of}
+use Rattle.clap.specs.declared.error.Error.{Error}
+use Rattle.clap.specs.declared.error.kind.ErrorKind.TheVariants.{OutOfMemory}
+use Rattle.clap.specs.declared.parser.matches.ArgMatches.{ArgMatches}
+use Rattle.clap.proofs.OnLiterals.{clap_on_literals}
+use Rattle.orc_cli_args.specs.Commands.{Choices, orcm, IsFound, HasFault}
+
+is_simple-orcm : (choices : Choices) → is_simple (orcm choices) ≡ true
+unfolding clap_on_literals
+is_simple-orcm choices = refl
+
+is_free-orcm : (choices : Choices) → is_simple_and_free (orcm choices) ≡ true
+unfolding clap_on_literals
+is_free-orcm choices = refl
+
+-- What a parse of the program's command line answers, in the words of its table.
+module _ (app : App) (choices : Choices) (is : app ≡ orcm choices) (words : List Text) (result : Result ArgMatches Error) where
+  of_kinds : (is_simple_and_free app ≡ true → FailsBy (fault_of app words) result) → FailsBy (fault_of (orcm choices) words) result
+  of_kinds h = let P : App → Type 0 = λ a. is_simple_and_free a ≡ true → FailsBy (fault_of a words) result in subst P is h (is_free-orcm choices)
+
+  of_matches : IfOk result (HasMatchesOf app words) → IfOk result (HasMatchesOf (orcm choices) words)
+  of_matches h = let P : App → Type 0 = λ a. IfOk result (HasMatchesOf a words) in subst P is h
+
+found_of_kinds : (choices : Choices) (words : List Text) (result : Result ArgMatches Error) → FailsBy (fault_of (orcm choices) words) result
+    → IfOk result (HasMatchesOf (orcm choices) words) → IfOk result (IsFound words)
+found_of_kinds choices words (Ok m) none h =
+    let matches = h (is_simple-orcm choices) in record { choices = choices; faultless = none; own = matches.0; behind = matches.1 }
+found_of_kinds choices words (Err e) kinds h = tt
+
+refused_by_kinds : (choices : Choices) (words : List Text) (result : Result ArgMatches Error) → FailsBy (fault_of (orcm choices) words) result
+    → IfErr result (λ e. (kind_of e ≡ OutOfMemory) ⊎ HasFault words (kind_of e))
+refused_by_kinds choices words (Ok m) none = tt
+refused_by_kinds choices words (Err e) (inl memory) = inl memory
+refused_by_kinds choices words (Err e) (inr among) = inr (choices, among)
+
+pub parse_found : (app : App) (choices : Choices) → app ≡ orcm choices → (words : List Text) (result : Result ArgMatches Error)
+    → (is_simple_and_free app ≡ true → FailsBy (fault_of app words) result) → IfOk result (HasMatchesOf app words) → IfOk result (IsFound words)
+parse_found app choices is words result kinds matches =
+    found_of_kinds choices words result (of_kinds app choices is words result kinds) (of_matches app choices is words result matches)
+
+pub parse_refused : (app : App) (choices : Choices) → app ≡ orcm choices → (words : List Text) (result : Result ArgMatches Error)
+    → (is_simple_and_free app ≡ true → FailsBy (fault_of app words) result) → IfErr result (λ e. (kind_of e ≡ OutOfMemory) ⊎ HasFault words (kind_of e))
+parse_refused app choices is words result kinds = refused_by_kinds choices words result (of_kinds app choices is words result kinds)
