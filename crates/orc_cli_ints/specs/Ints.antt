@@ -55,8 +55,8 @@ RefusesDigits rle sign text (Types fault) = ⊥
 RefusesDigits rle sign text (Json fault) = (fault ≡ json.BadHex) × IsNoHex text
 RefusesDigits rle sign text (File fault) = fault ≡ file.OutOfMemory
 
--- The layers whose want of memory `ints` answers: that of runs for the numbers, and that of files, which is the program's
--- own, for the digits' bytes and the line.
+-- The layers whose want of memory `ints` answers: that of runs, for the numbers, and that of files, which is the
+-- program's own, for the digits' bytes and for the line.
 abbrev pub IsWantOfInts : CliFault → Type 0
 IsWantOfInts fault = (fault ≡ Run RunOutOfMemory) ⊎ (fault ≡ File file.OutOfMemory)
 

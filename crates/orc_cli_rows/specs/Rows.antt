@@ -93,7 +93,7 @@ IsOfRows (Types why) = ⊥
 IsOfRows (Json why) = Unit {0}
 IsOfRows (File why) = Unit {0}
 
--- The layers whose want of memory `rows` answers: that of JSON, for a row's text, and that of files, which is the program's
--- own too.
+-- The layers whose want of memory `rows` answers: that of JSON, for a row's text, and that of files, which is the
+-- program's own too.
 abbrev pub IsWantOfRows : CliFault → Type 0
 IsWantOfRows fault = (fault ≡ Json json.OutOfMemory) ⊎ (fault ≡ File file.OutOfMemory)

@@ -105,7 +105,7 @@ show_lines tail =
     ++ (numbered stripe_line 0 tail.stripes
     ++ numbered column_line 0 tail.file_stats))
 
--- The layers whose want of memory `show` answers: that of types for the schema's text, and that of files, which is the
+-- The layers whose want of memory `show` answers: that of types, for the schema's text, and that of files, which is the
 -- program's own too.
 abbrev pub IsWantOfShow : CliFault → Type 0
 IsWantOfShow fault = (fault ≡ Types types.OutOfMemory) ⊎ (fault ≡ File file.OutOfMemory)

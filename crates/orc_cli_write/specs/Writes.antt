@@ -37,8 +37,8 @@ IsOfLine (File why) = why ≢ file.SourceFailed
 abbrev pub IsWantOfLines : CliFault → Type 0
 IsWantOfLines fault = (fault ≡ Json json.OutOfMemory) ⊎ (fault ≡ File file.OutOfMemory)
 
--- The layers whose want of memory `write` answers: that of types for the schema's text, and then nothing is out; or those
--- of lines.
+-- The layers whose want of memory `write` answers: that of types for the schema's text, and then nothing is out; or
+-- those of lines.
 abbrev pub IsWantOfWrite : Option (List ℕ) → Option (List ℕ) → CliFault → Type 0
 IsWantOfWrite old new fault = ((fault ≡ Types types.OutOfMemory) × (new ≡ old)) ⊎ IsWantOfLines fault
 
