@@ -10,10 +10,9 @@ use Rattle.orc_file.specs.declared.tail.Tail.{Tail}
 use Rattle.orc_file.specs.declared.fault.FileFault.{FileFault}
 use Rattle.orc_file.specs.declared.fault.FileFault.TheVariants.{WriteFailed, SourceFailed, OutOfMemory}
 use Rattle.orc_cli_output.proofs.OpenFaults.{never_output}
-use Rattle.orc_cli_output.specs.Output.{IsWantOfMemory, write_failed}
-use Rattle.orc_cli_output.specs.declared.fault.CliFault.{CliFault}
+use Rattle.orc_cli_output.specs.Output.{write_failed}
 use Rattle.orc_cli_output.specs.declared.fault.CliFault.TheVariants.{File}
-use Rattle.orc_cli_check.specs.Lines.{IsSourceOrMemory, IsWantOfCheck}
+use Rattle.orc_cli_check.specs.Lines.{IsSourceOrMemory}
 use Rattle.orc_check.specs.Checking.{CheckFault}
 
 -- ---- what a refusal isn't
@@ -45,15 +44,3 @@ outside_found (Some bytes) why h = λ tail rows is. elim (h tail rows is) [
   | inl memory ↦ inr (inr (ap File memory))
   | inr source ↦ inr (inl (ap File source))
 ]
-
--- ---- whose want of memory it is
-
-output_want : (fault : CliFault) → fault ≡ write_failed → IsWantOfMemory fault → IsWantOfCheck fault
-output_want fault failed (inl e) = e
-output_want fault failed (inr (inl e)) = absurd (cc)
-output_want fault failed (inr (inr (inl e))) = absurd (cc)
-output_want fault failed (inr (inr (inr e))) = absurd (cc)
-
-pub printing_want : (fault : CliFault) (P Q : Type 0) → ((fault ≡ write_failed) × P) ⊎ ((fault ≡ File OutOfMemory) × Q) → IsWantOfMemory fault → IsWantOfCheck fault
-printing_want fault P Q (inl h) want = output_want fault h.0 want
-printing_want fault P Q (inr h) want = h.0
