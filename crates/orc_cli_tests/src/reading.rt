@@ -222,7 +222,8 @@ static OF_THE_SECOND: [SeenRead; 3] = [(3, 121, 279), (124, 63, 400), (187, 92, 
 #[test]
 fn reads_of_merges(rt: HostRuntime) {
     let sent = Cell::new(0);
-    let (fault, [first, second]) = join_twice(rt.alloc(), &sent);
+    let (fault, inputs) = join_twice(rt.alloc(), &sent);
+    let [first, second] = &inputs;
     check_same(&rt, "fault of a merge", &fault, &None);
     demand(&rt, are_reads(first.seen(), 8, &OF_THE_FIRST), "first", 8);
     demand(

@@ -9,7 +9,7 @@ use crate::three_stripes::{
     Command, FOUND, FROM_SECOND_STRIPE, ROWS, SHOWN, THREE_STRIPES, carry_out,
 };
 use orc_cli_commands::{CliFault, MergeFault, StdLines, ints_to, write_lines};
-use orc_file::{FileFault, StdSink};
+use orc_file::{FileFault, Sink, StdSink};
 use orc_rle::{Rle, Sign};
 use orc_stripe::Options;
 use std::alloc::Global;
@@ -36,15 +36,20 @@ fn print_numbers(alloc: Global, out: &mut CountedOut<'_>) -> Option<CliFault> {
 /// The lines of six sevens.
 const SIX_LINES: &str = "{\"n\":7}\n{\"n\":7}\n{\"n\":7}\n{\"n\":7}\n{\"n\":7}\n{\"n\":7}\n";
 
-fn write_sevens(alloc: Global, out: &mut CountedOut<'_>) -> Option<CliFault> {
-    let Some(options) = Options::new(Rle::One, 0, 3) else {
-        return Some(CliFault::File(FileFault::Limit));
-    };
+/// `write_lines`, without its contract.
+fn write_to<W: Sink + Drop>(alloc: Global, options: Options, out: W) -> Option<CliFault> {
     let mut lines = StdLines::new(SIX_LINES.as_bytes());
-    let sink = StdSink::new(out);
-    match write_lines(alloc, "struct<n:bigint>", options, &mut lines, sink) {
+    match write_lines(alloc, "struct<n:bigint>", options, &mut lines, out) {
         Ok(_) => None,
         Err((fault, _)) => Some(fault),
+    }
+}
+
+/// Writes the file in stripes of three rows, to an output as the program has it.
+fn write_sevens(alloc: Global, out: &mut CountedOut<'_>) -> Option<CliFault> {
+    match Options::new(Rle::One, 0, 3) {
+        Some(options) => write_to(alloc, options, StdSink::new(&mut *out)),
+        None => Some(CliFault::File(FileFault::Limit)),
     }
 }
 
