@@ -1,5 +1,5 @@
 -- Rows as lines, stripe by stripe: what the first stripes have printed, and why the next one stops it.
-use Rattle.std.proofs.Common.{◌≡◌, ◌≢◌, ◌⊎◌, ℕ, zero, suc, ◌+◌, ◌-◌, ◌<◌, ◌≤◌, List, [], ◌∷◌, ◌++◌, length, take, drop, refl, sym, ap, ◌∙◌, subst, arith, append-nil, length-drop, Option, Some, None, inl, inr}
+use Rattle.std.proofs.Common.{◌≡◌, ◌⊎◌, ℕ, zero, suc, ◌+◌, ◌-◌, ◌<◌, ◌≤◌, List, [], ◌∷◌, ◌++◌, length, take, drop, refl, sym, ap, ◌∙◌, subst, arith, append-nil, length-drop, Option, Some, None, inl, inr}
 use Rattle.std.specs.Borrow.{Bor}
 use Rattle.std.specs.Option.{IfSome}
 use Rattle.std.specs.Prelude.{IfErr, Result, Ok, Err}
@@ -11,14 +11,11 @@ use Rattle.orc_wire.specs.declared.stripe_info.StripeInfo.{StripeInfo}
 use Rattle.orc_types.specs.Cells.{Cell}
 use Rattle.orc_types.specs.Shapes.{Shape}
 use Rattle.orc_column_reader.specs.Stripe.{IsStripe}
-use Rattle.orc_column_reader.specs.declared.fault.StripeFault.{StripeFault}
-use Rattle.orc_column_reader.specs.declared.fault.StripeFault.TheVariants as stripe
 use Rattle.orc_stripe.proofs.OneStripe.{one_stripe}
 use Rattle.orc_file.specs.Stripes.{stripe_at}
 use Rattle.orc_file.specs.Tails.{IsTail, OpenFault, ReadFault, tail_tests}
 use Rattle.orc_file.specs.declared.fault.FileFault.{FileFault}
 use Rattle.orc_file.specs.declared.fault.FileFault.TheVariants.{Stripe}
-use Rattle.orc_types.specs.declared.json_fault.JsonFault.TheVariants as json
 use Rattle.orc_file.specs.FileRows.{stripe_bytes, joined, HasRows, IsNoStripe, FileIs, AreOfStripes as RowsOfStripes}
 use Rattle.orc_file.specs.declared.tail.Tail.{Tail}
 use Rattle.orc_cli_output.specs.Output.{write_failed, IsOutsideFile, IsWantOfMemory}
@@ -28,7 +25,7 @@ use Rattle.orc_cli_rows.specs.Pieces.{IsPrinted, EndsWithin}
 use Rattle.orc_cli_rows.specs.Printed.{IsAsked, IsNotAsked, AreLines, ArePrinted, Ends, Stops, RefusesFile}
 use Rattle.orc_cli_rows.specs.declared.start.Start.{Start}
 use Rattle.orc_cli_output.specs.declared.fault.CliFault.{CliFault}
-use Rattle.orc_cli_output.specs.declared.fault.CliFault.TheVariants.{File, Json}
+use Rattle.orc_cli_output.specs.declared.fault.CliFault.TheVariants.{File}
 
 -- ---- stripes, one more at a time
 
@@ -297,6 +294,3 @@ rows_want fault h (inr (inr (inr e))) = absurd (subst (λ (f : CliFault). IsOfRo
 
 pub no_place_layer : (from : Option (Bor (List ℕ))) (fault : CliFault) → IsNotAsked from fault → IsOfRows fault
 no_place_layer from fault h = subst (λ (f : CliFault). IsOfRows f) (sym h.0) tt
-
-pub output_layer : (fault : CliFault) → fault ≡ write_failed → IsOfRows fault
-output_layer fault failed = subst (λ (f : CliFault). IsOfRows f) (sym failed) tt
