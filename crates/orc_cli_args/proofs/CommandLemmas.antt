@@ -7,10 +7,12 @@ use Rattle.clap.specs.Faults.{fault_of, is_simple_and_free}
 use Rattle.clap.specs.Kinds.{FailsBy}
 use Rattle.clap.specs.Values.{kind_of}
 use Rattle.clap.specs.declared.error.Error.{Error}
-use Rattle.clap.specs.declared.error.kind.ErrorKind.TheVariants.{OutOfMemory}
+use Rattle.clap.specs.declared.error.kind.ErrorKind.{ErrorKind}
+use Rattle.clap.specs.declared.error.kind.ErrorKind.TheVariants.{DisplayHelp, DisplayVersion, OutOfMemory}
 use Rattle.clap.specs.declared.parser.matches.ArgMatches.{ArgMatches}
 use Rattle.clap.proofs.OnLiterals.{clap_on_literals}
-use Rattle.orc_cli_args.specs.Commands.{Choices, orcm, IsFound, HasFault}
+use Rattle.orc_cli_args.specs.Commands.{Choices, orcm, IsFound, HasFault, AsksText, IsNotAskedIn}
+use Rattle.orc_cli_args.specs.declared.command_line.Refusal.TheVariants.{NotUnderstood}
 
 is_simple-orcm : (choices : Choices) → is_simple (orcm choices) ≡ true
 unfolding clap_on_literals
@@ -48,3 +50,17 @@ parse_found app choices is words result kinds matches =
 pub parse_refused : (app : App) (choices : Choices) → app ≡ orcm choices → (words : List Text) (result : Result ArgMatches Error)
     → (is_simple_and_free app ≡ true → FailsBy (fault_of app words) result) → IfErr result (λ e. (kind_of e ≡ OutOfMemory) ⊎ HasFault words (kind_of e))
 parse_refused app choices is words result kinds = refused_by_kinds choices words result (of_kinds app choices is words result kinds)
+
+-- ---- what a fault's kind means for who reads words
+
+pub asks_text : (words : List Text) (kind : ErrorKind) → (kind ≡ OutOfMemory) ⊎ HasFault words kind
+    → (kind ≡ DisplayHelp) ⊎ (kind ≡ DisplayVersion) → AsksText words
+asks_text words kind (inl memory) (inl help) = let e : OutOfMemory ≡ DisplayHelp = sym memory ∙ help in cc
+asks_text words kind (inl memory) (inr version) = let e : OutOfMemory ≡ DisplayVersion = sym memory ∙ version in cc
+asks_text words kind (inr fault) (inl help) = inl (subst (HasFault words) help fault)
+asks_text words kind (inr fault) (inr version) = inr (subst (HasFault words) version fault)
+
+pub not_understood : (words : List Text) (kind : ErrorKind) → (kind ≡ OutOfMemory) ⊎ HasFault words kind → (kind ≡ OutOfMemory → ⊥)
+    → (kind ≡ DisplayHelp → ⊥) → (kind ≡ DisplayVersion → ⊥) → IsNotAskedIn words NotUnderstood
+not_understood words kind (inl memory) some no_help no_version = absurd (some memory)
+not_understood words kind (inr fault) some no_help no_version = (kind, fault, no_help, no_version)

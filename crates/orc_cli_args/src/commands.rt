@@ -1,8 +1,10 @@
 //! The parser's table: the commands of the program and their arguments, with what its help says of each.
-ghost use Rattle.std.specs.Prelude.{◌≡◌, IfOk, false, codes};
+ghost use Rattle.std.specs.Prelude.{◌≡◌, IfOk, IfErr, false, codes};
+ghost use Rattle.clap.specs.Values.{kind_of};
 ghost use Rattle.clap.specs.Walk.{rule_of};
 ghost use Rattle.clap.specs.Simple.{app_of, shape_of};
 ghost use Rattle.clap.specs.declared.builder.command.Command.TheViews.{out-Command};
+ghost use Rattle.clap.specs.declared.error.kind.ErrorKind.TheVariants as kind;
 ghost use Rattle.orc_cli_args.specs.Commands as spec;
 ghost use Rattle.orc_cli_args.specs.Commands.{Choices, Words, needed, optional, named, one_of, between, all_of};
 ghost use Rattle.orc_cli_args.specs.Commands.{HasVersions, HasSigns};
@@ -22,7 +24,8 @@ const MOST_STRIDE: u64 = 4_294_967_295;
 
 /// The program, one of whose commands has to be named.
 pub(crate) fn orcm<'a>(alloc: Global) -> Result<Command<'a>, Error>
-    ensures { IfOk result (λ command. (choices : Choices) × (app_of command ≡ spec.orcm choices)) }
+    ensures table { IfOk result (λ command. (choices : Choices) × (app_of command ≡ spec.orcm choices)) }
+    ensures memory { IfErr result (λ error. kind_of error ≡ kind.OutOfMemory) }
 {
     Ok(
         Command::new(alloc, "orcm")
@@ -63,7 +66,7 @@ fn word_option<'a>(
     name: &'static str,
     value_name: &'static str,
     help: &'static str,
-    words: &'static [&'static str],
+    words: &'a [&'a str],
 ) -> Arg<'a>
     ensures rule { rule_of result ≡ one_of words.entry (named (needed name.entry.now)) }
     ensures local { result.global ≡ false }
@@ -91,7 +94,8 @@ fn number_option<'a>(
 
 /// The version of the integer run lengths.
 fn version_option<'a>(alloc: Global) -> Arg<'a>
-    ensures rule { (words : Words) × HasVersions words × (rule_of result ≡ one_of words (named (needed (codes "rle")))) }
+    ensures rule { (words : Words) × HasVersions words
+        × (rule_of result ≡ one_of words (named (needed (codes "rle")))) }
     ensures local { result.global ≡ false }
 {
     word_option(
@@ -105,7 +109,8 @@ fn version_option<'a>(alloc: Global) -> Arg<'a>
 
 /// Whether integers are signed.
 fn sign_option<'a>(alloc: Global) -> Arg<'a>
-    ensures rule { (words : Words) × HasSigns words × (rule_of result ≡ one_of words (named (needed (codes "sign")))) }
+    ensures rule { (words : Words) × HasSigns words
+        × (rule_of result ≡ one_of words (named (needed (codes "sign")))) }
     ensures local { result.global ≡ false }
 {
     word_option(
@@ -121,6 +126,7 @@ fn ints_command<'a>(alloc: Global) -> Result<Command<'a>, Error>
     ensures shape { IfOk result (λ command. (versions signs : Words) × HasVersions versions × HasSigns signs
         × (shape_of command ≡ spec.ints_line versions signs)) }
     ensures local { IfOk result (λ command. (out-Command command).has_globals ≡ false) }
+    ensures memory { IfErr result (λ error. kind_of error ≡ kind.OutOfMemory) }
 {
     let hex = needed_argument(
         alloc,
@@ -148,6 +154,7 @@ fn file_word<'a>(alloc: Global) -> Arg<'a>
 fn rows_command<'a>(alloc: Global) -> Result<Command<'a>, Error>
     ensures shape { IfOk result (λ command. shape_of command ≡ spec.rows_line) }
     ensures local { IfOk result (λ command. (out-Command command).has_globals ≡ false) }
+    ensures memory { IfErr result (λ error. kind_of error ≡ kind.OutOfMemory) }
 {
     let from = Arg::new(alloc, "from")
         .long("from")
@@ -166,6 +173,7 @@ fn rows_command<'a>(alloc: Global) -> Result<Command<'a>, Error>
 fn show_command<'a>(alloc: Global) -> Result<Command<'a>, Error>
     ensures shape { IfOk result (λ command. shape_of command ≡ spec.show_line) }
     ensures local { IfOk result (λ command. (out-Command command).has_globals ≡ false) }
+    ensures memory { IfErr result (λ error. kind_of error ≡ kind.OutOfMemory) }
 {
     Ok(
         Command::new(alloc, "show")
@@ -177,6 +185,7 @@ fn show_command<'a>(alloc: Global) -> Result<Command<'a>, Error>
 fn check_command<'a>(alloc: Global) -> Result<Command<'a>, Error>
     ensures shape { IfOk result (λ command. shape_of command ≡ spec.check_line) }
     ensures local { IfOk result (λ command. (out-Command command).has_globals ≡ false) }
+    ensures memory { IfErr result (λ error. kind_of error ≡ kind.OutOfMemory) }
 {
     Ok(
         Command::new(alloc, "check")
@@ -184,6 +193,14 @@ fn check_command<'a>(alloc: Global) -> Result<Command<'a>, Error>
             .after_help(CHECK_HELP)
             .arg(file_word(alloc))?,
     )
+}
+
+/// The schema of the rows.
+fn schema_option<'a>(alloc: Global) -> Arg<'a>
+    ensures rule { rule_of result ≡ named (needed (codes "schema")) }
+    ensures local { result.global ≡ false }
+{
+    needed_argument(alloc, "schema", "TEXT", "The schema, as struct<n:bigint>").long("schema")
 }
 
 /// After how many rows the row index has an entry.
@@ -218,15 +235,13 @@ fn write_command<'a>(alloc: Global) -> Result<Command<'a>, Error>
     ensures shape { IfOk result (λ command. (versions : Words) × HasVersions versions
         × (shape_of command ≡ spec.write_line versions)) }
     ensures local { IfOk result (λ command. (out-Command command).has_globals ≡ false) }
+    ensures memory { IfErr result (λ error. kind_of error ≡ kind.OutOfMemory) }
 {
-    let schema = needed_argument(alloc, "schema", "TEXT", "The schema, as struct<n:bigint>").long(
-        "schema",
-    );
     Ok(
         Command::new(alloc, "write")
             .about("Writes a file of rows, which are given a row a line as JSON")
             .after_help(WRITE_HELP)
-            .arg(schema)?
+            .arg(schema_option(alloc))?
             .arg(version_option(alloc))?
             .arg(stride_option(alloc))?
             .arg(stripe_rows_option(alloc))?
@@ -250,6 +265,7 @@ fn inputs_word<'a>(alloc: Global) -> Arg<'a>
 fn merge_command<'a>(alloc: Global) -> Result<Command<'a>, Error>
     ensures shape { IfOk result (λ command. shape_of command ≡ spec.merge_line) }
     ensures local { IfOk result (λ command. (out-Command command).has_globals ≡ false) }
+    ensures memory { IfErr result (λ error. kind_of error ≡ kind.OutOfMemory) }
 {
     Ok(
         Command::new(alloc, "merge")

@@ -23,7 +23,6 @@ use Rattle.orc_cli_output.specs.declared.fault.CliFault.TheVariants.{File, Run, 
 use Rattle.orc_cli_ints.specs.Ints.{number_line, SpellsInts, StopsInts, IsNoHex, RefusesInts}
 use Rattle.orc_cli_rows.specs.Rows.{HaveJson}
 use Rattle.orc_cli_rows.specs.Printed.{IsAsked, IsNotAsked, ArePrinted, Refuses}
-use Rattle.orc_cli_rows.specs.declared.start.Start.{Start}
 use Rattle.orc_cli_show.specs.Show.{show_lines}
 use Rattle.orc_cli_check.specs.Lines.{finding_lines, IsFoundOf, IsSourceOrMemory, IsNotChecked}
 use Rattle.orc_cli_write.specs.Lines.{AreRowsOf}
@@ -59,11 +58,11 @@ pub record AnswersInts (rle : Rle) (sign : Sign) (text : List ℕ) (old new : Op
 -- `rows` of a file that was found, from the place on that a text names; `failed` is that the source has
 pub record AnswersRows (told : Option (List ℕ)) (from : Option (Bor (List ℕ))) (failed : Type 0) (old new : Option (List ℕ)) (result : Result Outcome CliFault) : Type 0 where
   pub done : IsDone result
-  pub written : OnOk result (IfSome told (λ bytes. (start : Option Start) × IsAsked from start × ArePrinted bytes start old new))
+  pub written : OnOk result (IfSome told (λ bytes. (start : _) × IsAsked from start × ArePrinted bytes start old new))
   pub only : from ≡ None → IfSome told (λ bytes. (tail : Tail) (rows : List Cell) → FileIs bytes tail rows
       → HaveJson tail.schema rows → IfErr result IsOutsideFile)
   pub refused : IfErr result (λ e. IfSome told (λ bytes. Refuses bytes from old new e))
-  pub unread : ((start : Option Start) → IsAsked from start → ⊥)
+  pub unread : ((start : _) → IsAsked from start → ⊥)
       → MatchResult result (λ _. ⊥) (λ e. IsNotAsked from e × Keeps old new)
   pub source : IfErr result (λ e. e ≡ File file.SourceFailed → failed)
 

@@ -1,5 +1,5 @@
 -- What files in memory tell of a path; and what it is that a path is found, or made.
-use Rattle.std.specs.Prelude.{◌≡◌, ◌<◌, ◌⊎◌, ℕ, List, Option, Some, None, IsSome, map, option_map, find, slice_index, if◌then◌else◌}
+use Rattle.std.specs.Prelude.{◌≡◌, ◌<◌, ◌⊎◌, ℕ, List, [], Option, Some, None, IsSome, map, option_map, find, slice_index, if◌then◌else◌}
 use Rattle.std.specs.Borrow.{Bor}
 use Rattle.std.specs.Str.{bytes_eq}
 use Rattle.std.specs.declared.vec.Vec.{Vec}

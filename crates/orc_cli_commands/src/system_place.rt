@@ -16,7 +16,7 @@ use std::io::{self, BufRead, BufReader};
 use std::rt::Files;
 
 /// The files of the system. It tells nothing of them.
-#[derive(Clone, Copy)]
+#[derive(Drop)]
 pub struct SystemPlace<'a, R: Files<File = File>> {
     files: &'a R,
 }
