@@ -234,15 +234,22 @@ fn reads_of_merges(rt: HostRuntime) {
     );
 }
 
+/// Why a source isn't opened under a cap.
+fn fault_under(alloc: Global, cap: u64, source: &mut SeenSource<'_>) -> Option<FileFault> {
+    match OrcFile::open_capped(alloc, source, cap) {
+        Ok(_) => None,
+        Err((fault, _)) => Some(fault),
+    }
+}
+
 fn open_capped_once(
     alloc: Global,
     cap: u64,
     sent: &Cell<usize>,
 ) -> (Option<FileFault>, SeenSource<'_>) {
-    match OrcFile::open_capped(alloc, SeenSource::new(&THREE_STRIPES, 0, sent), cap) {
-        Ok(file) => (None, file.into_parts().1),
-        Err((fault, source)) => (Some(fault), source),
-    }
+    let mut source = SeenSource::new(&THREE_STRIPES, 0, sent);
+    let fault = fault_under(alloc, cap, &mut source);
+    (fault, source)
 }
 
 /// Opens the file under a cap, once there is memory for it.
