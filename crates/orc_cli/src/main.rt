@@ -18,7 +18,8 @@ fn main(rt: HostRuntime) -> ExitCode {
     }
 }
 
-/// Says on the standard error, on one line, why something isn't done. Of words that aren't understood it is said by now.
+/// Says on the standard error, on one line, why something isn't done. Of words that aren't understood that is said by
+/// now.
 fn tell<R: Eprint>(rt: &R, ending: Ending) {
     match ending {
         Ending::Refused(Refusal::NotUnderstood) => {}

@@ -53,14 +53,26 @@ parse_refused app choices is words result kinds = refused_by_kinds choices words
 
 -- ---- what a fault's kind means for who reads words
 
-pub asks_text : (words : List Text) (kind : ErrorKind) → (kind ≡ OutOfMemory) ⊎ HasFault words kind
+asks_text : (words : List Text) (kind : ErrorKind) → (kind ≡ OutOfMemory) ⊎ HasFault words kind
     → (kind ≡ DisplayHelp) ⊎ (kind ≡ DisplayVersion) → AsksText words
 asks_text words kind (inl memory) (inl help) = let e : OutOfMemory ≡ DisplayHelp = sym memory ∙ help in cc
 asks_text words kind (inl memory) (inr version) = let e : OutOfMemory ≡ DisplayVersion = sym memory ∙ version in cc
 asks_text words kind (inr fault) (inl help) = inl (subst (HasFault words) help fault)
 asks_text words kind (inr fault) (inr version) = inr (subst (HasFault words) version fault)
 
-pub not_understood : (words : List Text) (kind : ErrorKind) → (kind ≡ OutOfMemory) ⊎ HasFault words kind → (kind ≡ OutOfMemory → ⊥)
+not_understood : (words : List Text) (kind : ErrorKind) → (kind ≡ OutOfMemory) ⊎ HasFault words kind → (kind ≡ OutOfMemory → ⊥)
     → (kind ≡ DisplayHelp → ⊥) → (kind ≡ DisplayVersion → ⊥) → IsNotAskedIn words NotUnderstood
 not_understood words kind (inl memory) some no_help no_version = absurd (some memory)
 not_understood words kind (inr fault) some no_help no_version = (kind, fault, no_help, no_version)
+
+-- the fault's kind, as who reads it has it
+module _ (words : List Text) (kind of : ErrorKind) (is : kind ≡ of) (fault : (of ≡ OutOfMemory) ⊎ HasFault words of) where
+  read_kind : (kind ≡ OutOfMemory) ⊎ HasFault words kind
+  read_kind = let P : ErrorKind → Type 0 = λ k. (k ≡ OutOfMemory) ⊎ HasFault words k in subst P (sym is) fault
+
+  pub asks_text_of : (kind ≡ DisplayHelp) ⊎ (kind ≡ DisplayVersion) → AsksText words
+  asks_text_of asked = asks_text words kind read_kind asked
+
+  pub not_understood_of : (kind ≡ OutOfMemory → ⊥) → (kind ≡ DisplayHelp → ⊥) → (kind ≡ DisplayVersion → ⊥)
+      → IsNotAskedIn words NotUnderstood
+  not_understood_of some no_help no_version = not_understood words kind read_kind some no_help no_version

@@ -36,12 +36,14 @@ EndsMerge Holds (Err (NotMerged fault)) = Holds (Err fault)
 abbrev pub IsRefusedAs : Result Outcome Ending → CliFault → Type 0
 IsRefusedAs result fault = result ≡ Err (Refused (Fault fault))
 
--- All inputs are found, and this holds; or one isn't, or there is no memory for all of them, and that does. Where each is
--- told they are found but for memory, and where the place lacks one they aren't.
-abbrev pub FindsAll : (List ℕ → Type 0) → (List ℕ → Option (List ℕ)) → List (List ℕ) → Type 0 → (CliFault → Type 0) → Type 0
+-- All inputs are found, and this holds; or one isn't, or there is no memory for all of them, and that does. Where each
+-- is told they are found but for memory, and where the place lacks one they aren't.
+abbrev pub FindsAll : (List ℕ → Type 0) → (List ℕ → Option (List ℕ)) → List (List ℕ) → Type 0
+    → (CliFault → Type 0) → Type 0
 FindsAll lacks told paths Found NotFound =
     ((Any lacks paths → ⊥) × Found)
-    ⊎ (((All (λ path. IsSome (told path)) paths → ⊥) × NotFound (File file.SourceFailed)) ⊎ NotFound (File file.OutOfMemory))
+    ⊎ (((All (λ path. IsSome (told path)) paths → ⊥) × NotFound (File file.SourceFailed))
+    ⊎ NotFound (File file.OutOfMemory))
 
 -- the path is that of a file which the request makes
 abbrev pub IsMadeBy : Request → List ℕ → Type 0
@@ -55,35 +57,41 @@ IsMadeBy (Merge output _) path = path ≡ output.now
 -- Of a place: what it has told of paths, and which it has lacked.
 module _ (told : List ℕ → Option (List ℕ)) (lacks : List ℕ → Type 0) where
   -- a file is found, and the command is done, or it isn't, and nothing is printed
-  abbrev pub AnswersFile : Option (List ℕ) → Option (List ℕ) → Result Outcome Ending → List ℕ → (Result Outcome CliFault → Type 0) → Type 0
+  abbrev pub AnswersFile : Option (List ℕ) → Option (List ℕ) → Result Outcome Ending → List ℕ
+      → (Result Outcome CliFault → Type 0) → Type 0
   AnswersFile old new result path Holds = Finds (lacks path) (told path) (Ends Holds result)
       (IsRefusedAs result (File file.SourceFailed) × Keeps old new)
 
   -- And after the request: what it tells of files that were made, and that it is as it was. The counts are those of the
   -- failures of its files.
-  module _ {L O : Type 0} (made : List ℕ → Option (List ℕ)) (unmade : Type 0) (input_failures : L → ℕ) (output_failures : O → ℕ) (result : Result Outcome Ending) where
+  module _ {L O : Type 0} (made : List ℕ → Option (List ℕ)) (unmade : Type 0) (input_failures : L → ℕ)
+      (output_failures : O → ℕ) (result : Result Outcome Ending) where
     -- a file is made, and this holds of what it told first, or it isn't closed; or none is made
     abbrev pub AnswersMaking : List ℕ → Type 0 → (Option (List ℕ) → Type 0) → Type 0
-    AnswersMaking path NotClosed Holds = Makes (lacks path) (told path) (λ first. Holds first ⊎ ((lacks path → ⊥) × NotClosed))
+    AnswersMaking path NotClosed Holds = Makes (lacks path) (told path)
+        (λ first. Holds first ⊎ ((lacks path → ⊥) × NotClosed))
         (unmade × (IsRefusedAs result write_failed ⊎ IsRefusedAs result (File file.OutOfMemory)))
 
     -- a file is written of the lines of another one
     abbrev pub AnswersWriting : List ℕ → Options → List ℕ → List ℕ → Type 0
     AnswersWriting schema options from to = Finds (lacks from) (told from)
         (AnswersMaking to (IsRefusedAs result write_failed)
-        (λ first. Ends (AnswersWrite schema options (told from) (HasFailed input_failures) (HasFailed output_failures) first (made to)) result))
+        (λ first. Ends (AnswersWrite schema options (told from) (HasFailed input_failures) (HasFailed output_failures)
+        first (made to)) result))
         (unmade × (IsRefusedAs result (File file.SourceFailed) ⊎ IsRefusedAs result (File file.OutOfMemory)))
 
     -- files are joined into one
     abbrev pub AnswersJoining : List ℕ → List (List ℕ) → Type 0
     AnswersJoining to paths = FindsAll lacks told paths
         (AnswersMaking to (result ≡ Err (NotMerged MergeWriteFailed))
-        (λ first. EndsMerge (AnswersMerge (map told paths) (HasFailedAt input_failures) (HasFailed output_failures) first (made to)) result))
+        (λ first. EndsMerge (AnswersMerge (map told paths) (HasFailedAt input_failures) (HasFailed output_failures)
+        first (made to)) result))
         (λ fault. unmade × IsRefusedAs result fault)
 
 -- What makes no file leaves the place as it is, and what makes one prints nothing.
-abbrev pub Answers : {I L O : Type 0} → (List ℕ → Option (List ℕ)) → (List ℕ → Type 0) → (List ℕ → Option (List ℕ)) → Type 0
-    → (I → ℕ) → (L → ℕ) → (O → ℕ) → Option (List ℕ) → Option (List ℕ) → Result Outcome Ending → Request → Type 0
+abbrev pub Answers : {I L O : Type 0} → (List ℕ → Option (List ℕ)) → (List ℕ → Type 0)
+    → (List ℕ → Option (List ℕ)) → Type 0 → (I → ℕ) → (L → ℕ) → (O → ℕ)
+    → Option (List ℕ) → Option (List ℕ) → Result Outcome Ending → Request → Type 0
 Answers told lacks made unmade input lines output old new result (Ints rle sign hex) =
     unmade × Ends (AnswersInts rle sign hex.now old new) result
 Answers told lacks made unmade input lines output old new result (Rows path from) =

@@ -44,21 +44,25 @@ abbrev pub IsOfNumber : ℕ → Outcome → Type 0
 IsOfNumber n outcome = (n ≡ 0 → outcome ≡ Done) × (0 < n → outcome ≡ Found)
 
 -- `ints` of these digits
-pub record AnswersInts (rle : Rle) (sign : Sign) (text : List ℕ) (old new : Option (List ℕ)) (result : Result Outcome CliFault) : Type 0 where
+pub record AnswersInts (rle : Rle) (sign : Sign) (text : List ℕ) (old new : Option (List ℕ))
+    (result : Result Outcome CliFault) : Type 0 where
   pub done : IsDone result
   pub written : OnOk result ((values : List ℤ) × SpellsInts rle sign text values × Appends old new (number_line values))
   pub only : (values : List ℤ) → SpellsInts rle sign text values → IfErr result IsOutside
   pub refused : IfErr result (RefusesInts rle sign text)
   pub no_hex : IsNoHex text → IsErrAnd result (λ e. (e ≡ Json json.BadHex) ⊎ IsWantOfMemory e)
-  pub stops : (fault : RunFault) → StopsInts rle sign text fault → IsErrAnd result (λ e. (e ≡ Run fault) ⊎ IsWantOfMemory e)
+  pub stops : (fault : RunFault) → StopsInts rle sign text fault
+      → IsErrAnd result (λ e. (e ≡ Run fault) ⊎ IsWantOfMemory e)
   pub part : (values : List ℤ) → SpellsInts rle sign text values → result ≡ Err write_failed
       → AppendsPart old new (number_line values)
   pub nothing : IfErr result (λ e. e ≢ write_failed → Keeps old new)
 
 -- `rows` of a file that was found, from the place on that a text names; `failed` is that the source has
-pub record AnswersRows (told : Option (List ℕ)) (from : Option (Bor (List ℕ))) (failed : Type 0) (old new : Option (List ℕ)) (result : Result Outcome CliFault) : Type 0 where
+pub record AnswersRows (told : Option (List ℕ)) (from : Option (Bor (List ℕ))) (failed : Type 0)
+    (old new : Option (List ℕ)) (result : Result Outcome CliFault) : Type 0 where
   pub done : IsDone result
-  pub written : OnOk result (IfSome told (λ bytes. (start : _) × IsAsked from start × ArePrinted bytes start old new))
+  pub written : OnOk result (IfSome told (λ bytes. (start : _) × IsAsked from start
+      × ArePrinted bytes start old new))
   pub only : from ≡ None → IfSome told (λ bytes. (tail : Tail) (rows : List Cell) → FileIs bytes tail rows
       → HaveJson tail.schema rows → IfErr result IsOutsideFile)
   pub refused : IfErr result (λ e. IfSome told (λ bytes. Refuses bytes from old new e))
@@ -67,9 +71,11 @@ pub record AnswersRows (told : Option (List ℕ)) (from : Option (Bor (List ℕ)
   pub source : IfErr result (λ e. e ≡ File file.SourceFailed → failed)
 
 -- `show` of a file that was found
-pub record AnswersShow (told : Option (List ℕ)) (failed : Type 0) (old new : Option (List ℕ)) (result : Result Outcome CliFault) : Type 0 where
+pub record AnswersShow (told : Option (List ℕ)) (failed : Type 0) (old new : Option (List ℕ))
+    (result : Result Outcome CliFault) : Type 0 where
   pub done : IsDone result
-  pub written : OnOk result (IfSome told (λ bytes. (tail : Tail) × IsTail bytes tail × Appends old new (show_lines tail)))
+  pub written : OnOk result (IfSome told (λ bytes. (tail : Tail) × IsTail bytes tail
+      × Appends old new (show_lines tail)))
   pub only : IfSome told (λ bytes. (tail : Tail) → IsTail bytes tail → IfErr result IsOutsideFile)
   pub refused : IfErr result (λ e. IfSome told (λ bytes. e ≢ write_failed → IsNotOpened bytes e))
   pub nothing : IfErr result (λ e. e ≢ write_failed → Keeps old new)
@@ -78,7 +84,8 @@ pub record AnswersShow (told : Option (List ℕ)) (failed : Type 0) (old new : O
   pub source : IfErr result (λ e. e ≡ File file.SourceFailed → failed)
 
 -- `check` of a file that was found: that something is found is an outcome of its own
-pub record AnswersCheck (told : Option (List ℕ)) (failed : Type 0) (old new : Option (List ℕ)) (result : Result Outcome CliFault) : Type 0 where
+pub record AnswersCheck (told : Option (List ℕ)) (failed : Type 0) (old new : Option (List ℕ))
+    (result : Result Outcome CliFault) : Type 0 where
   pub written : IfOk result (λ outcome. IfSome told (λ bytes. IsFoundOf bytes
       (λ found. IsOfNumber (length found) outcome × Appends old new (finding_lines found))))
   pub only : IfSome told (λ bytes. (tail : Tail) (rows : List Cell) → FileIs bytes tail rows
@@ -90,7 +97,9 @@ pub record AnswersCheck (told : Option (List ℕ)) (failed : Type 0) (old new : 
   pub source : IfErr result (λ e. e ≡ File file.SourceFailed → failed)
 
 -- `write` of lines that were found, to a file that was made: it told `first`, and tells `made` in the end
-pub record AnswersWrite (schema : List ℕ) (options : Options) (lines : Option (List ℕ)) (lines_failed output_failed : Type 0) (first made : Option (List ℕ)) (result : Result Outcome CliFault) : Type 0 where
+pub record AnswersWrite (schema : List ℕ) (options : Options) (lines : Option (List ℕ))
+    (lines_failed output_failed : Type 0) (first made : Option (List ℕ))
+    (result : Result Outcome CliFault) : Type 0 where
   pub done : IsDone result
   pub written : OnOk result ((s : Shape) × (rows : List Cell) × (tail : Tail) × HasText s schema
       × IfSome lines (λ bytes. AreRowsOf s bytes rows) × IsWhole options s tail first made rows)
@@ -101,7 +110,8 @@ pub record AnswersWrite (schema : List ℕ) (options : Options) (lines : Option 
   pub output : IfErr result (λ e. e ≡ write_failed → output_failed)
 
 -- `merge` of inputs that were found, in their order, to a file that was made
-pub record AnswersMerge (inputs : List (Option (List ℕ))) (input_failed : ℕ → Type 0) (output_failed : Type 0) (first made : Option (List ℕ)) (result : Result Outcome MergeFault) : Type 0 where
+pub record AnswersMerge (inputs : List (Option (List ℕ))) (input_failed : ℕ → Type 0) (output_failed : Type 0)
+    (first made : Option (List ℕ)) (result : Result Outcome MergeFault) : Type 0 where
   pub done : IsDone result
   pub merged : OnOk result ((files : List (List ℕ)) → inputs ≡ map Some files
       → (tail : Tail) × WroteMerge files tail first made)

@@ -22,8 +22,8 @@ abbrev pub HasFailedAt : {D : Type 0} → (D → ℕ) → ℕ → Type 0
 HasFailedAt {D} failures i =
     (before : List D) × (after : List D) × (slice_index (map failures before) i < slice_index (map failures after) i)
 
--- A file is found, and this holds; or it isn't, and that does. One whose bytes are told is found, and one that the place
--- lacks isn't.
+-- A file is found, and this holds; or it isn't, and that does. One whose bytes are told is found, and one that the
+-- place lacks isn't.
 abbrev pub Finds : (lacks : Type 0) → Option (List ℕ) → Type 0 → Type 0 → Type 0
 Finds lacks told Found NotFound = ((lacks → ⊥) × Found) ⊎ ((IsSome told → ⊥) × NotFound)
 

@@ -16,8 +16,8 @@ use std::io::Write;
 ///
 /// All files that are read are found before one is made, and an output isn't made where one is there already.
 ///
-/// Refusals: those of the request's command; `File` with `SourceFailed` where a file isn't found, and with `WriteFailed`
-/// where one isn't made, or doesn't take all of its bytes, which is the merger's `WriteFailed` for a merge.
+/// Refusals: those of the request's command; `File` with `SourceFailed` where a file isn't found, and with
+/// `WriteFailed` where one isn't made, or doesn't take all of its bytes, which is the merger's `WriteFailed` for a merge.
 pub fn answer_to<'a, P: Place<'a>, W: Write>(
     alloc: Global,
     place: &mut P,
@@ -25,7 +25,8 @@ pub fn answer_to<'a, P: Place<'a>, W: Write>(
     out: &mut W,
 ) -> Result<Outcome, Ending>
     ensures answered { Answers (P.told place.old) (P.lacks place.old) (P.made place.new) (place.new ≡ place.old)
-        P.Input.failures P.Lines.failures P.Output.failures (W.contents out.old) (W.contents out.new) result request.entry }
+        P.Input.failures P.Lines.failures P.Output.failures (W.contents out.old) (W.contents out.new)
+        result request.entry }
     ensures stays { P.told place.new ≡ P.told place.old }
     ensures others { (path : List ℕ) → (IsMadeBy request.entry path → ⊥)
         → P.made place.new path ≡ P.made place.old path }

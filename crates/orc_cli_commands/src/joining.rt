@@ -46,10 +46,8 @@ fn join<I: Source, O: Sink>(
     ensures { AnswersMerge (map I.told sources.old) (HasFailedAt I.failures) (HasFailed O.failures)
         (O.told out.old) (O.told out.new) result }
 {
-    match merge(alloc, sources, out) {
-        Ok(_) => Ok(Outcome::Done),
-        Err(fault) => Err(fault),
-    }
+    merge(alloc, sources, out)?;
+    Ok(Outcome::Done)
 }
 
 /// Joins files into a new one, which is made once all of them are found.
@@ -67,8 +65,8 @@ pub(crate) fn join_files<'a, P: Place<'a>>(
     let mut sources = open_all(alloc, place, inputs)?;
     let mut out = place.make(alloc, output)?;
     let joined = join(alloc, &mut sources, &mut out);
-    if place.close(output, out).is_err() {
-        return Err(Ending::from(MergeFault::WriteFailed));
+    match place.close(output, out) {
+        Ok(()) => Ok(joined?),
+        Err(_) => Err(Ending::from(MergeFault::WriteFailed)),
     }
-    Ok(joined?)
 }

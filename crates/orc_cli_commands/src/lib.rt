@@ -1,6 +1,6 @@
-//! The commands of `orcm` as a library's calls, since a program's crate can't be called: integer streams, a file's outline, its
-//! rows, what its statistics and indexes say that isn't so, lines to a file, and files to one. And the answer to a request,
-//! over any place where files lie.
+//! The commands of `orcm` as a library's calls, since a program's crate can't be called: integer streams, a file's
+//! outline, its rows, what its statistics and indexes say that isn't so, lines to a file, and files to one. And the
+//! answer to a request, over any place where files lie.
 #![tactic(auto)]
 
 mod answering;

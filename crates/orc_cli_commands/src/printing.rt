@@ -85,8 +85,9 @@ pub(crate) fn print_rows_at<'a, P: Place<'a>, W: Write>(
     from: Option<&str>,
     out: &mut W,
 ) -> Result<Outcome, Ending>
-    ensures { AnswersFile (P.told place.now) (P.lacks place.now) (W.contents out.old) (W.contents out.new) result path.now
-        (AnswersRows (P.told place.now path.now) from.entry (HasFailed P.Input.failures) (W.contents out.old) (W.contents out.new)) }
+    ensures { AnswersFile (P.told place.now) (P.lacks place.now) (W.contents out.old) (W.contents out.new)
+        result path.now (AnswersRows (P.told place.now path.now) from.entry (HasFailed P.Input.failures)
+        (W.contents out.old) (W.contents out.new)) }
 {
     let source = place.open(path)?;
     Ok(print_rows(alloc, source, from, out)?)
@@ -99,8 +100,9 @@ pub(crate) fn print_outline_at<'a, P: Place<'a>, W: Write>(
     path: &'a str,
     out: &mut W,
 ) -> Result<Outcome, Ending>
-    ensures { AnswersFile (P.told place.now) (P.lacks place.now) (W.contents out.old) (W.contents out.new) result path.now
-        (AnswersShow (P.told place.now path.now) (HasFailed P.Input.failures) (W.contents out.old) (W.contents out.new)) }
+    ensures { AnswersFile (P.told place.now) (P.lacks place.now) (W.contents out.old) (W.contents out.new)
+        result path.now (AnswersShow (P.told place.now path.now) (HasFailed P.Input.failures)
+        (W.contents out.old) (W.contents out.new)) }
 {
     let source = place.open(path)?;
     Ok(print_outline(alloc, source, out)?)
@@ -113,8 +115,9 @@ pub(crate) fn print_findings_at<'a, P: Place<'a>, W: Write>(
     path: &'a str,
     out: &mut W,
 ) -> Result<Outcome, Ending>
-    ensures { AnswersFile (P.told place.now) (P.lacks place.now) (W.contents out.old) (W.contents out.new) result path.now
-        (AnswersCheck (P.told place.now path.now) (HasFailed P.Input.failures) (W.contents out.old) (W.contents out.new)) }
+    ensures { AnswersFile (P.told place.now) (P.lacks place.now) (W.contents out.old) (W.contents out.new)
+        result path.now (AnswersCheck (P.told place.now path.now) (HasFailed P.Input.failures)
+        (W.contents out.old) (W.contents out.new)) }
 {
     let source = place.open(path)?;
     Ok(print_findings(alloc, source, out)?)

@@ -10,5 +10,5 @@ returns-in_err-print_rows g c =
     let old = g.W.Write.contents c.args.out.now in
     let new = g.W.Write.contents c.print_rows.new.out in
     let P : Option (List ℕ) → Type 0 = λ t. AnswersRows t c.args.from (HasFailed g.P.Input.Source.failures) old new (Err c.in_err-print_rows.field-0.0) in
-    let found = λ lacks. let e : false ≡ true = c.in_ok-source.ensures.lacking lacks in cc in
+    let found : g.P.Place.lacks c.args.place.now c.args.path.now → ⊥ = λ lacks. let e = c.in_ok-source.ensures.lacking lacks in cc in
     rw (p.1, p.2) (inl (found, subst P c.in_ok-source.ensures.told c.in_err-print_rows.ensures))
