@@ -31,6 +31,10 @@ IsFoundOf bytes Holds =
 abbrev pub IsSourceOrMemory : CliFault → Type 0
 IsSourceOrMemory fault = (fault ≡ File SourceFailed) ⊎ (fault ≡ File OutOfMemory)
 
+-- the layer whose want of memory `check` answers: that of files, which is the program's own too
+abbrev pub IsWantOfCheck : CliFault → Type 0
+IsWantOfCheck fault = fault ≡ File OutOfMemory
+
 -- why a file isn't checked: by its bytes, or for its source or memory
 abbrev pub IsNotChecked : List ℕ → CliFault → Type 0
 IsNotChecked bytes fault = ((why : FileFault) × (fault ≡ File why) × CheckFault bytes why) ⊎ IsSourceOrMemory fault

@@ -7,7 +7,7 @@ ghost use Rattle.orc_file.specs.declared.fault.FileFault.TheVariants.{SourceFail
 ghost use Rattle.orc_file.specs.declared.tail.Tail.{Tail};
 ghost use Rattle.orc_cli_output.specs.Output.{AppendsPart, IsWantOfMemory, write_failed};
 ghost use Rattle.orc_cli_output.specs.declared.fault.CliFault.TheVariants.{File};
-ghost use Rattle.orc_cli_check.specs.Lines.{finding_lines, IsFoundOf, IsSourceOrMemory, IsNotChecked};
+ghost use Rattle.orc_cli_check.specs.Lines.{finding_lines, IsFoundOf, IsSourceOrMemory, IsWantOfCheck, IsNotChecked};
 
 use orc_check::{Finding, check};
 use orc_cli_output::{CliFault, write_out};
@@ -62,6 +62,7 @@ pub fn check_to<S: Source, W: Write>(
     ensures failed { IfErr result (λ e. e.0 ≡ File SourceFailed → S.failures source < S.failures e.1) }
     ensures unfailed { IfErr result (λ e. (e.0 ≡ File SourceFailed) ⊎ (S.failures e.1 ≡ S.failures source)) }
     ensures memory { IfErr result (λ e. IsWantOfMemory e.0 → S.failures e.1 ≡ S.failures source) }
+    ensures layer { IfErr result (λ e. IsWantOfMemory e.0 → IsWantOfCheck e.0) }
     ensures back { IfErr result (λ e. S.told e.1 ≡ S.told source) }
 {
     let mut source = source;

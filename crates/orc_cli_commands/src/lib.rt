@@ -1,11 +1,32 @@
-//! The commands of `orcm` as a library's calls, since a program's crate can't be called: integer streams, a file's outline, its
-//! rows, what its statistics and indexes say that isn't so, lines to a file, and files to one.
+//! The commands of `orcm` as a library's calls, since a program's crate can't be called: integer streams, a file's
+//! outline, its rows, what its statistics and indexes say that isn't so, lines to a file, and files to one. And the
+//! answer to a request, over any place where files lie.
 #![tactic(auto)]
 
+mod answering;
+mod buffer;
+mod ending;
+mod joining;
+mod memory_place;
+mod new_file;
+mod outcome;
+mod place;
+mod printing;
+mod system_place;
+mod writing;
+
+pub use answering::answer_to;
+pub use buffer::{flush_buffer, with_buffer};
+pub use ending::Ending;
+pub use memory_place::MemoryPlace;
+pub use new_file::NewFile;
 pub use orc_cli_check::check_to;
 pub use orc_cli_ints::ints_to;
 pub use orc_cli_output::CliFault;
 pub use orc_cli_rows::rows_to;
 pub use orc_cli_show::show_to;
-pub use orc_cli_write::{write_from, write_lines};
+pub use orc_cli_write::{LineFault, LineReader, StdLines, write_from, write_lines};
 pub use orc_merge::{MergeFault, merge as merge_to};
+pub use outcome::Outcome;
+pub use place::Place;
+pub use system_place::SystemPlace;

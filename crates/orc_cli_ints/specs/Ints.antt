@@ -55,6 +55,11 @@ RefusesDigits rle sign text (Types fault) = ⊥
 RefusesDigits rle sign text (Json fault) = (fault ≡ json.BadHex) × IsNoHex text
 RefusesDigits rle sign text (File fault) = fault ≡ file.OutOfMemory
 
+-- The layers whose want of memory `ints` answers: that of runs, for the numbers, and that of files, which is the
+-- program's own, for the digits' bytes and for the line.
+abbrev pub IsWantOfInts : CliFault → Type 0
+IsWantOfInts fault = (fault ≡ Run RunOutOfMemory) ⊎ (fault ≡ File file.OutOfMemory)
+
 -- why `ints` refuses: for its digits, or, where they spell numbers, for its output
 abbrev pub RefusesInts : Rle → Sign → List ℕ → CliFault → Type 0
 RefusesInts rle sign text fault =

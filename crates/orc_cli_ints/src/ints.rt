@@ -1,7 +1,7 @@
 //! `orcm ints`: the numbers of an integer stream.
 ghost use Rattle.std.specs.Prelude.{◌≡◌, ◌≢◌, ℤ, List, [], ◌∷◌, ◌++◌, ◌⊎◌, IfOk, OnOk, IfErr, IsErrAnd, MatchResult, string_bytes};
 ghost use Rattle.std.specs.Io.KnownBytes.{Appends, Keeps};
-ghost use Rattle.orc_cli_ints.specs.Ints.{numbers, number_line, IsIntegerStream, StopsIntegers, SpellsInts, StopsInts, IsNoHex, RefusesDigits, RefusesInts};
+ghost use Rattle.orc_cli_ints.specs.Ints.{numbers, number_line, IsIntegerStream, StopsIntegers, SpellsInts, StopsInts, IsNoHex, IsWantOfInts, RefusesDigits, RefusesInts};
 ghost use Rattle.orc_cli_output.specs.Output.{AppendsPart, IsOutside, IsWantOfMemory, write_failed};
 ghost use Rattle.orc_cli_output.specs.declared.fault.CliFault.TheVariants.{Run, Json};
 ghost use Rattle.orc_types.specs.declared.json_fault.JsonFault.TheVariants as json;
@@ -93,6 +93,7 @@ pub fn ints_to<W: Write>(
         → AppendsPart (W.contents out.old) (W.contents out.new) (number_line values) }
     ensures nothing { IfErr result (λ fault. fault ≢ write_failed
         → Keeps (W.contents out.old) (W.contents out.new)) }
+    ensures layer { IfErr result (λ fault. IsWantOfMemory fault → IsWantOfInts fault) }
 {
     let values = values_of(alloc, rle, sign, text)?;
     let line = line_of(alloc, &values)?;

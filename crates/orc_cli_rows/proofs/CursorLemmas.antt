@@ -1,16 +1,12 @@
 -- Lines that are made as a cursor gives its rows.
-use Rattle.std.proofs.Common.{◌≡◌, ℕ, ◌+◌, ◌<◌, ◌≤◌, List, [], ◌∷◌, ◌++◌, ◌⊎◌, inl, inr, Bool, true, false, Option, Some, None, Result, Ok, Err, refl, sym, ap, ◌∙◌, subst, arith, append_assoc, append-nil}
-use Rattle.std.specs.Prelude.{is_ok, if◌then◌else◌, MatchResult}
+use Rattle.std.proofs.Common.{◌≡◌, ℕ, ◌+◌, ◌<◌, ◌≤◌, List, [], ◌∷◌, ◌++◌, ◌⊎◌, inl, inr, Bool, true, false, refl, sym, ap, ◌∙◌, subst, arith, append_assoc, append-nil}
 use Rattle.std.proofs.lemmas.List.Concat.{flat_map-append}
 use Rattle.orc_types.specs.Cells.{Cell}
 use Rattle.orc_types.specs.Shapes.{Shape}
 use Rattle.orc_types.specs.Fits.{RowsFit}
 use Rattle.orc_json.specs.Texts.{Prints}
 use Rattle.orc_column_text.specs.Taken.{GaveText, GivesText}
-use Rattle.orc_column_reader.specs.declared.fault.StripeFault.{StripeFault}
-use Rattle.orc_column_reader.specs.declared.fault.StripeFault.TheVariants as stripe
 use Rattle.orc_stripe.specs.Cursors.{StandsFor}
-use Rattle.orc_stripe.specs.TextCursors.{CountsDownWhere}
 use Rattle.orc_stripe.specs.declared.cursor.RowCursor.{RowCursor}
 use Rattle.orc_cli_rows.specs.Rows.{row_line, row_lines}
 use Rattle.orc_cli_rows.specs.Pieces.{text_line, text_lines, AreAllLines, GivesLines}

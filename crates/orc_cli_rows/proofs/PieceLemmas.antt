@@ -1,6 +1,5 @@
 -- A stripe's lines in pieces: what is out, and why no more of them.
-use Rattle.std.proofs.Common.{◌≡◌, ◌≢◌, ℕ, zero, suc, ◌+◌, ◌<◌, ◌≤◌, List, [], ◌∷◌, ◌++◌, length, take, ◌⊎◌, inl, inr, Bool, true, false, Option, Some, None, Result, Ok, Err, refl, sym, ap, ◌∙◌, subst, arith, append_assoc, append-nil, length-append}
-use Rattle.std.specs.Option.{IfSome}
+use Rattle.std.proofs.Common.{◌≡◌, ◌≢◌, ℕ, zero, suc, ◌+◌, ◌<◌, List, [], ◌∷◌, ◌++◌, length, take, ◌⊎◌, inl, inr, Bool, true, false, Option, Result, Ok, Err, refl, sym, ap, ◌∙◌, subst, arith, append_assoc, append-nil, length-append}
 use Rattle.std.specs.Prelude.{IfErr, OnOk, OnErr, MatchResult}
 use Rattle.std.specs.Io.KnownBytes.{Appends}
 use Rattle.std.proofs.lemmas.List.Concat.{flat_map-append}
@@ -8,7 +7,6 @@ use Rattle.orc_wire.specs.declared.stripe_info.StripeInfo.{StripeInfo}
 use Rattle.orc_types.specs.Cells.{Cell}
 use Rattle.orc_types.specs.Shapes.{Shape}
 use Rattle.orc_types.specs.FieldNames.{is_distinct}
-use Rattle.orc_types.specs.Fits.{RowsFit}
 use Rattle.orc_json.specs.Texts.{Prints}
 use Rattle.orc_wire.specs.declared.stripe_footer.StripeFooter.{StripeFooter}
 use Rattle.orc_column_reader.specs.Faults.{RowsFault}
@@ -28,7 +26,7 @@ use Rattle.orc_cli_output.specs.declared.fault.CliFault.TheVariants.{File, Json}
 use Rattle.orc_cli_output.specs.Output.{write_failed, AppendsPart, IsWantOfMemory}
 use Rattle.orc_cli_output.specs.declared.fault.CliFault.{CliFault}
 use Rattle.orc_cli_output.proofs.OutputLemmas.{appends_more}
-use Rattle.orc_cli_rows.specs.Rows.{row_line, row_lines, HaveJson, AreOfStripe, IsFrontOut}
+use Rattle.orc_cli_rows.specs.Rows.{row_lines, HaveJson, AreOfStripe}
 use Rattle.orc_cli_rows.specs.Pieces.{text_line, text_lines, GivesLines, StopsWithin, IsPrinted, HasNoLines, EndsWithin}
 use Rattle.orc_cli_rows.proofs.CursorLemmas.{lines_of_rows, fit_both}
 use Rattle.orc_cli_rows.proofs.RowsLemmas.{appends_none}

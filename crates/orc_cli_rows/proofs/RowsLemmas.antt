@@ -1,5 +1,5 @@
 -- Rows as lines, stripe by stripe: what the first stripes have printed, and why the next one stops it.
-use Rattle.std.proofs.Common.{◌≡◌, ◌≢◌, ◌⊎◌, ℕ, zero, suc, ◌+◌, ◌-◌, ◌<◌, ◌≤◌, List, [], ◌∷◌, ◌++◌, length, take, drop, refl, sym, ap, ◌∙◌, subst, arith, append-nil, length-drop, Option, Some, None, inl, inr}
+use Rattle.std.proofs.Common.{◌≡◌, ◌⊎◌, ℕ, zero, suc, ◌+◌, ◌-◌, ◌<◌, ◌≤◌, List, [], ◌∷◌, ◌++◌, length, take, drop, refl, sym, ap, ◌∙◌, subst, arith, append-nil, length-drop, Option, Some, None, inl, inr}
 use Rattle.std.specs.Borrow.{Bor}
 use Rattle.std.specs.Option.{IfSome}
 use Rattle.std.specs.Prelude.{IfErr, Result, Ok, Err}
@@ -11,24 +11,21 @@ use Rattle.orc_wire.specs.declared.stripe_info.StripeInfo.{StripeInfo}
 use Rattle.orc_types.specs.Cells.{Cell}
 use Rattle.orc_types.specs.Shapes.{Shape}
 use Rattle.orc_column_reader.specs.Stripe.{IsStripe}
-use Rattle.orc_column_reader.specs.declared.fault.StripeFault.{StripeFault}
-use Rattle.orc_column_reader.specs.declared.fault.StripeFault.TheVariants as stripe
 use Rattle.orc_stripe.proofs.OneStripe.{one_stripe}
 use Rattle.orc_file.specs.Stripes.{stripe_at}
 use Rattle.orc_file.specs.Tails.{IsTail, OpenFault, ReadFault, tail_tests}
 use Rattle.orc_file.specs.declared.fault.FileFault.{FileFault}
 use Rattle.orc_file.specs.declared.fault.FileFault.TheVariants.{Stripe}
-use Rattle.orc_types.specs.declared.json_fault.JsonFault.TheVariants as json
 use Rattle.orc_file.specs.FileRows.{stripe_bytes, joined, HasRows, IsNoStripe, FileIs, AreOfStripes as RowsOfStripes}
 use Rattle.orc_file.specs.declared.tail.Tail.{Tail}
 use Rattle.orc_cli_output.specs.Output.{write_failed, IsOutsideFile, IsWantOfMemory}
 use Rattle.orc_cli_output.proofs.OutputLemmas.{appends_more}
-use Rattle.orc_cli_rows.specs.Rows.{row_line, row_lines, HaveJson, AreOfStripe, AreOfStripes, HasNoJson, IsFrontOut, StripeStops, EndsAt, EndsIn}
+use Rattle.orc_cli_rows.specs.Rows.{row_line, row_lines, HaveJson, AreOfStripe, AreOfStripes, HasNoJson, IsFrontOut, StripeStops, EndsAt, EndsIn, IsOfRows, IsWantOfRows}
 use Rattle.orc_cli_rows.specs.Pieces.{IsPrinted, EndsWithin}
 use Rattle.orc_cli_rows.specs.Printed.{IsAsked, IsNotAsked, AreLines, ArePrinted, Ends, Stops, RefusesFile}
 use Rattle.orc_cli_rows.specs.declared.start.Start.{Start}
 use Rattle.orc_cli_output.specs.declared.fault.CliFault.{CliFault}
-use Rattle.orc_cli_output.specs.declared.fault.CliFault.TheVariants.{File, Json}
+use Rattle.orc_cli_output.specs.declared.fault.CliFault.TheVariants.{File}
 
 -- ---- stripes, one more at a time
 
@@ -286,3 +283,14 @@ pub not_asked : (told : Option (List ℕ)) (from : Option (Bor (List ℕ))) (fau
 not_asked told from fault none h =
     let nothing : IsAsked None None = tt in
     absurd (h.1 None (subst (λ (f : Option (Bor (List ℕ))). IsAsked f None) (sym none) nothing))
+
+-- ---- whose want of memory it is
+
+pub rows_want : (fault : CliFault) → IsOfRows fault → IsWantOfMemory fault → IsWantOfRows fault
+rows_want fault h (inl e) = inr e
+rows_want fault h (inr (inl e)) = absurd (subst (λ (f : CliFault). IsOfRows f) e h)
+rows_want fault h (inr (inr (inl e))) = inl e
+rows_want fault h (inr (inr (inr e))) = absurd (subst (λ (f : CliFault). IsOfRows f) e h)
+
+pub no_place_layer : (from : Option (Bor (List ℕ))) (fault : CliFault) → IsNotAsked from fault → IsOfRows fault
+no_place_layer from fault h = subst (λ (f : CliFault). IsOfRows f) (sym h.0) tt

@@ -14,9 +14,10 @@ use Rattle.orc_file.specs.Stripes.{stripe_at}
 use Rattle.orc_file.specs.FileRows.{stripe_bytes, HasRows, StripeRefused}
 use Rattle.orc_file.specs.declared.tail.Tail.{Tail}
 use Rattle.orc_file.specs.declared.fault.FileFault.{FileFault}
+use Rattle.orc_file.specs.declared.fault.FileFault.TheVariants as file
 use Rattle.orc_cli_output.specs.Output.{write_failed, IsOfSource, IsWantOfMemory}
 use Rattle.orc_cli_output.specs.declared.fault.CliFault.{CliFault}
-use Rattle.orc_cli_output.specs.declared.fault.CliFault.TheVariants.{Json, File}
+use Rattle.orc_cli_output.specs.declared.fault.CliFault.TheVariants.{Run, Types, Json, File}
 
 -- a row's JSON, without blanks, and a line end
 abbrev pub row_line : Shape → Cell → List ℕ
@@ -84,3 +85,15 @@ pub record EndsIn (bytes : List ℕ) (tail : Tail) (first : ℕ)
   pub lines : List ℕ
   pub before : AreOfStripes tail.schema bytes (take (n - first) (drop first tail.stripes)) lines
   pub ends : EndsAt tail.schema bytes n (stripe_at tail.stripes n) lines old new fault
+
+-- the layers that refuse rows: that of JSON, and that of files
+abbrev pub IsOfRows : CliFault → Type 0
+IsOfRows (Run why) = ⊥
+IsOfRows (Types why) = ⊥
+IsOfRows (Json why) = Unit {0}
+IsOfRows (File why) = Unit {0}
+
+-- The layers whose want of memory `rows` answers: that of JSON, for a row's text, and that of files, which is the
+-- program's own too.
+abbrev pub IsWantOfRows : CliFault → Type 0
+IsWantOfRows fault = (fault ≡ Json json.OutOfMemory) ⊎ (fault ≡ File file.OutOfMemory)

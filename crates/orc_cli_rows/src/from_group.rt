@@ -12,6 +12,7 @@ ghost use Rattle.orc_file.specs.Stripes.{stripe_at};
 ghost use Rattle.orc_file.specs.declared.fault.FileFault.TheVariants.{Stripe, SourceFailed, OutOfMemory};
 ghost use Rattle.orc_cli_output.specs.Output.{IsWantOfMemory};
 ghost use Rattle.orc_cli_output.specs.declared.fault.CliFault.TheVariants.{File};
+ghost use Rattle.orc_cli_rows.specs.Rows.{IsOfRows};
 ghost use Rattle.orc_cli_rows.specs.FromGroup.{AreFromGroup, AreLinesFrom, StopsAtGroup, EndsAtGroup};
 
 use crate::faults::fault_of;
@@ -91,6 +92,7 @@ pub(crate) fn print_group<S: Source, W: Write>(
     ensures failed { result ≡ Err (File SourceFailed) → S.failures file.old.source < S.failures file.new.source }
     ensures memory { IfErr result (λ fault. IsWantOfMemory fault
         → S.failures file.new.source ≡ S.failures file.old.source) }
+    ensures layer { IfErr result IsOfRows }
 {
     let number = start.stripe as usize;
     let mut bytes = Vec::new(alloc);

@@ -5,6 +5,7 @@ ghost use Rattle.orc_types.specs.FieldNames.{is_distinct};
 ghost use Rattle.orc_column_reader.specs.Stripe.{IsStripe};
 ghost use Rattle.orc_column_reader.specs.declared.fault.StripeFault.TheVariants.{OutOfMemory};
 ghost use Rattle.orc_file.specs.FileRows.{IsNoStripe};
+ghost use Rattle.orc_cli_rows.specs.Rows.{IsOfRows};
 ghost use Rattle.orc_cli_rows.specs.Pieces.{HasNoLines};
 
 use crate::faults::fault_of;
@@ -36,6 +37,7 @@ fn walk(alloc: Global, view: &StripeView<'_>) -> Result<(), StripeFault>
 pub(crate) fn judge(alloc: Global, number: usize, view: &StripeView<'_>) -> Result<(), CliFault>
     ensures found { OnOk result ((rows : List Cell) × IsStripe view.now.schema view.now.info view.now.bytes rows) }
     ensures refused { IfErr result (HasNoLines view.now.schema view.now.info view.now.bytes number) }
+    ensures layer { IfErr result IsOfRows }
 {
     match walk(alloc, view) {
         Ok(()) => Ok(()),
@@ -55,6 +57,7 @@ pub(crate) fn refuse_names(
     requires twice { is_distinct view.now.schema ≡ false }
     ensures none { OnOk result (IsStripe view.now.schema view.now.info view.now.bytes []) }
     ensures refused { IfErr result (HasNoLines view.now.schema view.now.info view.now.bytes number) }
+    ensures layer { IfErr result IsOfRows }
 {
     judge(alloc, number, view)?;
     if view.number_of_rows() > 0 {

@@ -6,7 +6,7 @@ ghost use Rattle.orc_types.specs.Views.{view, views};
 ghost use Rattle.orc_types.specs.declared.json_fault.JsonFault.TheVariants as json;
 ghost use Rattle.orc_cli_output.specs.Output.{IsWantOfMemory};
 ghost use Rattle.orc_cli_output.specs.declared.fault.CliFault.TheVariants.{Json};
-ghost use Rattle.orc_cli_rows.specs.Rows.{row_line, row_lines, HaveJson};
+ghost use Rattle.orc_cli_rows.specs.Rows.{row_line, row_lines, HaveJson, IsOfRows};
 
 use orc_cli_output::CliFault;
 use orc_json::RowPrinter;
@@ -25,6 +25,7 @@ fn push_line(
     ensures distinct { OnOk result (is_distinct printer.now ≡ true) }
     ensures fault { IfErr result (λ fault. ((fault ≡ Json json.DuplicateField) × (is_distinct printer.now ≡ false))
         ⊎ IsWantOfMemory fault) }
+    ensures layer { IfErr result IsOfRows }
 {
     printer.push_row(alloc, row, lines)?;
     lines.extend_from_slice(b"\n")?;
@@ -43,6 +44,7 @@ pub(crate) fn lines_of(
     ensures fault { IfErr result (λ fault.
         ((fault ≡ Json json.DuplicateField) × (views rows.now ≢ []) × (is_distinct printer.now ≡ false))
         ⊎ IsWantOfMemory fault) }
+    ensures layer { IfErr result IsOfRows }
 {
     let mut lines = Vec::new(alloc);
     for row in rows {

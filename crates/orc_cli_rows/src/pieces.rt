@@ -5,6 +5,7 @@ ghost use Rattle.orc_types.specs.Cells.{Cell};
 ghost use Rattle.orc_column_reader.specs.declared.fault.StripeFault.TheVariants.{OutOfMemory};
 ghost use Rattle.orc_json.specs.Layouts.{text_by};
 ghost use Rattle.orc_stripe.specs.Cursors.{StandsFor};
+ghost use Rattle.orc_cli_rows.specs.Rows.{IsOfRows};
 ghost use Rattle.orc_cli_rows.specs.Pieces.{text_lines, AreAllLines, GivesLines, StopsWithin};
 
 use orc_cli_output::{CliFault, write_out};
@@ -58,6 +59,7 @@ pub(crate) fn print_pieces<W: Write>(
         → OnOk result (Appends (W.contents out.old) (W.contents out.new) (text_lines (text_by layout.now) all)) }
     ensures refused { (all : List Cell) → StandsFor cursor.old all
         → IfErr result (StopsWithin (text_by layout.now) all (W.contents out.old) (W.contents out.new)) }
+    ensures layer { IfErr result IsOfRows }
 {
     let mut ended = false;
     while !ended {

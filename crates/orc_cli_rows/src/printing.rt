@@ -8,7 +8,7 @@ ghost use Rattle.orc_file.specs.declared.fault.FileFault.TheVariants.{SourceFail
 ghost use Rattle.orc_file.specs.declared.tail.Tail.{Tail};
 ghost use Rattle.orc_cli_output.specs.Output.{IsOutsideFile, IsWantOfMemory};
 ghost use Rattle.orc_cli_output.specs.declared.fault.CliFault.TheVariants.{File};
-ghost use Rattle.orc_cli_rows.specs.Rows.{HaveJson};
+ghost use Rattle.orc_cli_rows.specs.Rows.{HaveJson, IsOfRows, IsWantOfRows};
 ghost use Rattle.orc_cli_rows.specs.FromGroup.{AreFrom, EndsFrom};
 ghost use Rattle.orc_cli_rows.specs.Printed.{IsAsked, IsNotAsked, AreLines, ArePrinted, Ends, Stops, RefusesFile, Refuses};
 
@@ -59,6 +59,7 @@ fn print_from<S: Source, W: Write>(
     ensures failed { result ≡ Err (File SourceFailed) → S.failures file.old.source < S.failures file.new.source }
     ensures memory { IfErr result (λ fault. IsWantOfMemory fault
         → S.failures file.new.source ≡ S.failures file.old.source) }
+    ensures layer { IfErr result IsOfRows }
 {
     let number = start.stripe as usize;
     if number >= file.tail().stripes.as_slice().len() {
@@ -89,6 +90,7 @@ fn print_lines<S: Source, W: Write>(
     ensures failed { result ≡ Err (File SourceFailed) → S.failures file.old.source < S.failures file.new.source }
     ensures memory { IfErr result (λ fault. IsWantOfMemory fault
         → S.failures file.new.source ≡ S.failures file.old.source) }
+    ensures layer { IfErr result IsOfRows }
 {
     match start {
         None => print_rows(alloc, file, printer, 0, out),
@@ -115,6 +117,7 @@ fn print_opened<S: Source, W: Write>(
     ensures failed { result ≡ Err (File SourceFailed) → S.failures file.old.source < S.failures file.new.source }
     ensures memory { IfErr result (λ fault. IsWantOfMemory fault
         → S.failures file.new.source ≡ S.failures file.old.source) }
+    ensures layer { IfErr result IsOfRows }
 {
     let printer = RowPrinter::new(alloc, file.schema())?;
     print_lines(alloc, file, &printer, start, out)
@@ -137,6 +140,7 @@ fn print_file<S: Source, W: Write>(
     ensures failed { IfErr result (λ e. e.0 ≡ File SourceFailed → S.failures source < S.failures e.1) }
     ensures memory { IfErr result (λ e. IsWantOfMemory e.0 → S.failures e.1 ≡ S.failures source) }
     ensures back { IfErr result (λ e. S.told e.1 ≡ S.told source) }
+    ensures layer { IfErr result (λ e. IsOfRows e.0) }
 {
     match OrcFile::open(alloc, source) {
         Ok(mut file) => {
@@ -164,7 +168,7 @@ fn print_file<S: Source, W: Write>(
 /// with `Stripe` where the stripe has no rows, or no such group, or isn't read from its positions on, and `Json` with
 /// `DuplicateField` where it has rows and a struct of the schema names a field twice. Beside these `File` with
 /// `WriteFailed` and a part of a stripe's lines written, `SourceFailed` where the source failed, or `OutOfMemory`,
-/// which a layer below may answer too, and before which some whole lines of a good stripe may be out.
+/// which may be `Json`'s too, for a row's text, and before which some whole lines of a good stripe may be out.
 pub fn rows_to<S: Source, W: Write>(
     alloc: Global,
     source: S,
@@ -188,6 +192,7 @@ pub fn rows_to<S: Source, W: Write>(
     ensures failed { IfErr result (λ e. e.0 ≡ File SourceFailed → S.failures source < S.failures e.1) }
     ensures memory { IfErr result (λ e. IsWantOfMemory e.0 → S.failures e.1 ≡ S.failures source) }
     ensures back { IfErr result (λ e. S.told e.1 ≡ S.told source) }
+    ensures layer { IfErr result (λ e. IsWantOfMemory e.0 → IsWantOfRows e.0) }
 {
     match asked_of(from) {
         Ok(start) => print_file(alloc, source, start, out),

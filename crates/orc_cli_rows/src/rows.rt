@@ -11,7 +11,7 @@ ghost use Rattle.orc_file.specs.FileRows.{stripe_bytes};
 ghost use Rattle.orc_file.specs.Stripes.{stripe_at};
 ghost use Rattle.orc_file.specs.declared.fault.FileFault.TheVariants.{SourceFailed};
 ghost use Rattle.orc_cli_output.specs.Output.{IsWantOfMemory};
-ghost use Rattle.orc_cli_rows.specs.Rows.{AreOfStripe, AreOfStripes, EndsAt, EndsIn};
+ghost use Rattle.orc_cli_rows.specs.Rows.{AreOfStripe, AreOfStripes, EndsAt, EndsIn, IsOfRows};
 ghost use Rattle.orc_cli_rows.specs.Pieces.{GivesLines, IsPrinted, EndsWithin};
 ghost use Rattle.orc_cli_output.specs.declared.fault.CliFault.TheVariants.{File};
 
@@ -48,6 +48,7 @@ fn print_long<W: Write>(
         (IsPrinted view.now.schema view.now.info view.now.bytes (W.contents out.old) (W.contents out.new)) }
     ensures refused { IfErr result (EndsWithin view.now.schema view.now.info view.now.bytes number
         (W.contents out.old) (W.contents out.new)) }
+    ensures layer { IfErr result IsOfRows }
 {
     judge(alloc, number, view)?;
     write_out(out, lines)?;
@@ -69,6 +70,7 @@ fn print_as_read<W: Write>(
         (λ _. IsPrinted view.now.schema view.now.info view.now.bytes (W.contents out.old) (W.contents out.new))
         (EndsWithin view.now.schema view.now.info view.now.bytes number (W.contents out.old) (W.contents out.new))) }
     ensures none { result ≡ None → W.contents out.new ≡ W.contents out.old }
+    ensures layer { IfSome result (λ printed. IfErr printed IsOfRows) }
 {
     let Ok(mut cursor) = view.cursor(alloc) else {
         return None;
@@ -97,6 +99,7 @@ fn print_loaded<W: Write>(
         (W.contents out.old) (W.contents out.new)) }
     ensures refused { IfErr result (EndsWithin tail.now.schema (stripe_at tail.now.stripes number) bytes.now number
         (W.contents out.old) (W.contents out.new)) }
+    ensures layer { IfErr result IsOfRows }
 {
     let view = view_stripe(alloc, tail, number, bytes)?;
     let Some(layout) = printer.layout() else {
@@ -137,6 +140,7 @@ fn print_stripe<S: Source, W: Write>(
     ensures failed { result ≡ Err (File SourceFailed) → S.failures file.old.source < S.failures file.new.source }
     ensures memory { IfErr result (λ fault. IsWantOfMemory fault
         → S.failures file.new.source ≡ S.failures file.old.source) }
+    ensures layer { IfErr result IsOfRows }
 {
     file.load(number, bytes)?;
     print_loaded(alloc, file.tail(), printer, number, bytes, out)
@@ -164,6 +168,7 @@ pub(crate) fn print_rows<S: Source, W: Write>(
     ensures failed { result ≡ Err (File SourceFailed) → S.failures file.old.source < S.failures file.new.source }
     ensures memory { IfErr result (λ fault. IsWantOfMemory fault
         → S.failures file.new.source ≡ S.failures file.old.source) }
+    ensures layer { IfErr result IsOfRows }
 {
     let mut bytes = Vec::new(alloc);
     for number in first..file.tail().stripes.as_slice().len() {

@@ -1,6 +1,7 @@
 -- What a file's description is made of, and why a file isn't shown.
-use Rattle.std.proofs.Common.{◌≡◌, List, ℕ, String, Global, string_bytes, rules, Option, Some, None, ◌⊎◌, inl, inr, ap, subst}
+use Rattle.std.proofs.Common.{◌≡◌, List, ℕ, String, Global, string_bytes, rules, Option, Some, None, ◌⊎◌, inl, inr, refl, ap, subst}
 use Rattle.std.specs.Option.{IfSome}
+use Rattle.std.specs.Io.KnownBytes.{Keeps}
 use Rattle.serde_json.specs.Data.{string}
 use Rattle.serde_json.specs.View.{view}
 use Rattle.serde_json.specs.declared.value.Value.{String as JsonString, the_lemmas}
@@ -9,8 +10,10 @@ use Rattle.orc_file.specs.declared.tail.Tail.{Tail}
 use Rattle.orc_file.specs.declared.fault.FileFault.{FileFault}
 use Rattle.orc_file.specs.declared.fault.FileFault.TheVariants.{WriteFailed, SourceFailed, OutOfMemory}
 use Rattle.orc_cli_output.proofs.OpenFaults.{never_output}
-use Rattle.orc_cli_output.specs.Output.{IsOutsideFile, write_failed}
+use Rattle.orc_cli_output.specs.Output.{IsOutsideFile, IsWantOfMemory, write_failed}
+use Rattle.orc_cli_output.specs.declared.fault.CliFault.{CliFault}
 use Rattle.orc_cli_output.specs.declared.fault.CliFault.TheVariants.{File}
+use Rattle.orc_cli_show.specs.Show.{IsWantOfShow}
 
 pub view-String : (s : String Global) → view (JsonString s) ≡ string (string_bytes s)
 view-String s = search (rules, the_lemmas)
@@ -38,3 +41,19 @@ no_output None why P h failed = tt
 no_output (Some bytes) why P (inl memory) failed = cc
 no_output (Some bytes) why P (inr (inl source)) failed = cc
 no_output (Some bytes) why P (inr (inr bad)) failed = absurd (never_output bytes (subst (OpenFault bytes) (same_file why WriteFailed failed) bad))
+
+-- ---- whose want of memory it is
+
+pub show_memory : (fault : CliFault) → IsWantOfShow fault → IsWantOfMemory fault
+show_memory fault (inl e) = inr (inr (inr e))
+show_memory fault (inr e) = inl e
+
+pub output_want : (fault : CliFault) → fault ≡ write_failed → IsWantOfMemory fault → IsWantOfShow fault
+output_want fault failed (inl e) = inr e
+output_want fault failed (inr (inl e)) = absurd (cc)
+output_want fault failed (inr (inr (inl e))) = absurd (cc)
+output_want fault failed (inr (inr (inr e))) = inl e
+
+pub keeps_itself : (known : Option (List ℕ)) → Keeps known known
+keeps_itself None = tt
+keeps_itself (Some bytes) = refl

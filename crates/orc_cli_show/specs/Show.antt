@@ -1,5 +1,5 @@
 -- What `show` prints of a file: what its tail says, a fact a line.
-use Rattle.std.specs.Prelude.{ℕ, ◌+◌, List, [], ◌∷◌, ◌++◌, map, Bool, true, false, if◌then◌else◌, Option, Some, None, codes, decimal}
+use Rattle.std.specs.Prelude.{◌≡◌, ◌⊎◌, ℕ, ◌+◌, List, [], ◌∷◌, ◌++◌, map, Bool, true, false, if◌then◌else◌, Option, Some, None, codes, decimal}
 use Rattle.std.specs.List.{flat_map, join_with_byte}
 use Rattle.std.specs.Fmt.{signed_decimal}
 use Rattle.std.specs.Str.{is_utf8}
@@ -14,6 +14,10 @@ use Rattle.orc_stats.specs.declared.stat.Stat.{Stat}
 use Rattle.orc_stats.specs.declared.stat.Body.{Body}
 use Rattle.orc_stats.specs.declared.stat.Body.TheVariants.{Plain, Ints, Bools, Dates, Texts, Bins, Children}
 use Rattle.orc_file.specs.declared.tail.Tail.{Tail}
+use Rattle.orc_types.specs.declared.fault.TypeFault.TheVariants as types
+use Rattle.orc_file.specs.declared.fault.FileFault.TheVariants as file
+use Rattle.orc_cli_output.specs.declared.fault.CliFault.{CliFault}
+use Rattle.orc_cli_output.specs.declared.fault.CliFault.TheVariants.{Types, File}
 
 -- a number, or the word none
 abbrev pub number_or_none : Option ℕ → List ℕ
@@ -100,3 +104,8 @@ show_lines tail =
     ++ (flat_map pair_line tail.user
     ++ (numbered stripe_line 0 tail.stripes
     ++ numbered column_line 0 tail.file_stats))
+
+-- The layers whose want of memory `show` answers: that of types, for the schema's text, and that of files, which is the
+-- program's own too.
+abbrev pub IsWantOfShow : CliFault → Type 0
+IsWantOfShow fault = (fault ≡ Types types.OutOfMemory) ⊎ (fault ≡ File file.OutOfMemory)

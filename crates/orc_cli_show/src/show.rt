@@ -220,7 +220,7 @@ fn put_pair(alloc: Global, lines: &mut String, pair: &UserMetadataItem) -> Resul
 /// Puts the lines of the file as a whole.
 fn put_head(alloc: Global, lines: &mut String, tail: &Tail) -> Result<(), CliFault>
     ensures found { OnOk result (string_bytes lines.new ≡ string_bytes lines.old ++ spec.head_lines tail.now) }
-    ensures fault { IfErr result IsWantOfMemory }
+    ensures fault { IfErr result spec.IsWantOfShow }
 {
     let schema = tail.schema.text(alloc)?;
     let version = version_of(alloc, tail.version.as_slice())?;
@@ -273,7 +273,7 @@ fn put_columns(alloc: Global, lines: &mut String, stats: &[Stat]) -> Result<(), 
 /// What a tail says, a fact a line.
 fn lines_of(alloc: Global, tail: &Tail) -> Result<String, CliFault>
     ensures found { IfOk result (λ lines. string_bytes lines ≡ spec.show_lines tail.now) }
-    ensures fault { IfErr result IsWantOfMemory }
+    ensures fault { IfErr result spec.IsWantOfShow }
 {
     let mut lines = String::new(alloc);
     put_head(alloc, &mut lines, tail)?;
@@ -288,7 +288,7 @@ fn lines_of(alloc: Global, tail: &Tail) -> Result<String, CliFault>
 /// column's statistic that it has. Nothing is written before all of it is there. The source is handed back.
 ///
 /// Refusals: `File` where the bytes are no file, with `WriteFailed` and a part of the lines written,
-/// `SourceFailed` where the source failed, or `OutOfMemory`, which a layer below may answer too.
+/// `SourceFailed` where the source failed, or `OutOfMemory`, which may be `Types`' too, for the schema's text.
 pub fn show_to<S: Source, W: Write>(
     alloc: Global,
     source: S,
@@ -308,6 +308,7 @@ pub fn show_to<S: Source, W: Write>(
         × AppendsPart (W.contents out.old) (W.contents out.new) (spec.show_lines tail))) }
     ensures failed { IfErr result (λ e. e.0 ≡ File SourceFailed → S.failures source < S.failures e.1) }
     ensures memory { IfErr result (λ e. IsWantOfMemory e.0 → S.failures e.1 ≡ S.failures source) }
+    ensures layer { IfErr result (λ e. IsWantOfMemory e.0 → spec.IsWantOfShow e.0) }
     ensures back { IfErr result (λ e. S.told e.1 ≡ S.told source) }
 {
     match OrcFile::open(alloc, source) {
@@ -329,6 +330,7 @@ fn show_tail<W: Write>(alloc: Global, tail: &Tail, out: &mut W) -> Result<(), Cl
     ensures refused { IfErr result (λ fault.
         ((fault ≡ write_failed) × AppendsPart (W.contents out.old) (W.contents out.new) (spec.show_lines tail.now))
         ⊎ (IsWantOfMemory fault × Keeps (W.contents out.old) (W.contents out.new))) }
+    ensures layer { IfErr result (λ fault. IsWantOfMemory fault → spec.IsWantOfShow fault) }
 {
     let lines = lines_of(alloc, tail)?;
     write_out(out, lines.as_bytes())

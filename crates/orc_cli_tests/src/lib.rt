@@ -10,11 +10,21 @@ mod command_lines;
 #[cfg(test)]
 mod commands;
 #[cfg(test)]
+mod devices;
+#[cfg(test)]
 mod files;
 #[cfg(test)]
 mod from_groups;
 #[cfg(test)]
 mod merging;
+#[cfg(test)]
+mod reading;
+#[cfg(test)]
+mod refused_writes;
+#[cfg(test)]
+mod requests;
+#[cfg(test)]
+mod three_stripes;
 #[cfg(test)]
 mod trickle;
 #[cfg(test)]

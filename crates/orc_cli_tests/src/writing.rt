@@ -3,7 +3,7 @@
 use crate::assertions::{check_bytes, check_same, demand};
 use crate::commands::wants_memory;
 use crate::files::{NO_ROWS, SIX_SEVENS, THREE_SEVENS};
-use orc_cli_commands::{CliFault, write_from, write_lines};
+use orc_cli_commands::{CliFault, StdLines, write_from, write_lines};
 use orc_file::{FileFault, VecSink};
 use orc_rle::Rle;
 use orc_stripe::Options;
@@ -35,12 +35,13 @@ fn written_read<R: Read + Drop>(
     input: R,
     at_once: usize,
 ) -> (Option<CliFault>, Vec<u8>) {
-    let Ok(mut lines) = BufReader::with_capacity(alloc, at_once, input) else {
+    let Ok(reader) = BufReader::with_capacity(alloc, at_once, input) else {
         return (
             Some(CliFault::File(FileFault::OutOfMemory)),
             Vec::new(alloc),
         );
     };
+    let mut lines = StdLines::new(reader);
     match write_lines(alloc, schema, options, &mut lines, VecSink::new(alloc)) {
         Ok((_, out)) => (None, out.into_vec()),
         Err((fault, out)) => (Some(fault), out.into_vec()),
@@ -219,15 +220,17 @@ fn lines_that_are_refused(rt: HostRuntime) {
     }
 }
 
-/// Bytes, and behind them a failure.
+/// Bytes, and behind them one failure. A second try would find the end.
 #[derive(Drop)]
 struct Broken<'a> {
     left: &'a [u8],
+    failed: bool,
 }
 
 impl Read for Broken<'_> {
     fn read(&mut self, into: &mut [u8]) -> io::Result<usize> {
-        if self.left.is_empty() {
+        if self.left.is_empty() && !self.failed {
+            self.failed = true;
             return Err(io::Error::from(io::ErrorKind::Other));
         }
         let count = self.left.len().min(into.len());
@@ -251,7 +254,11 @@ fn written_broken_once(
     options: Options,
     left: &[u8],
 ) -> (Option<CliFault>, Vec<u8>) {
-    written_read(alloc, NUMBERS, options, Broken { left }, 9)
+    let input = Broken {
+        left,
+        failed: false,
+    };
+    written_read(alloc, NUMBERS, options, input, 9)
 }
 
 /// The same once there is memory.

@@ -1,5 +1,5 @@
 -- What std's reader gives up to the end of a line, as a line; and rows pushed of lines that were read.
-use Rattle.std.specs.Prelude.{◌≡◌, ℕ, ◌<◌, zero, suc, slice_index, Bool, true, false, if◌then◌else◌, List, [], ◌∷◌, ◌++◌, length, Option, Some, None, ◌⊎◌, ◌==◌}
+use Rattle.std.specs.Prelude.{◌≡◌, ℕ, ◌+◌, ◌<◌, zero, suc, slice_index, Bool, true, false, if◌then◌else◌, List, [], ◌∷◌, ◌++◌, length, Option, Some, None, Err, ◌⊎◌, ◌==◌}
 use Rattle.std.proofs.Common.{refl, sym, ap, ◌∙◌, subst, inl, inr, arith}
 use Rattle.std.specs.Option.{IfSome}
 use Rattle.std.specs.Io.KnownBytes.{IsAtEnd}
@@ -8,16 +8,17 @@ use Rattle.std.proofs.lemmas.Bool.{eqb-true, eqb-false}
 use Rattle.orc_types.specs.Shapes.{Shape}
 use Rattle.orc_types.specs.Cells.{Cell}
 use Rattle.orc_cli_write.specs.Lines.{IsLine, LineSpellsRows, AreRowsOf}
-use Rattle.orc_types.specs.declared.json_fault.JsonFault.{JsonFault}
 use Rattle.orc_file.specs.declared.fault.FileFault.TheVariants as file
-use Rattle.orc_cli_write.specs.Writes.{IsOfWriter, EndsAtLine, EndsInLines}
+use Rattle.orc_cli_write.specs.Writes.{IsOfWriter, IsWantOfLines, EndsAtLine, EndsInLines}
 use Rattle.orc_types.specs.SchemaText.{HasText}
-use Rattle.orc_cli_write.specs.Reads.{HasRead, BeginWith, EndsReading}
+use Rattle.orc_cli_write.specs.Reads.{HasRead, line_failures, refusal_of, BeginWith, EndsReading}
+use Rattle.orc_cli_write.specs.declared.line_fault.LineFault.{LineFault}
+use Rattle.orc_cli_write.specs.declared.line_fault.LineFault.TheVariants.{Failed, OutOfMemory}
 use Rattle.orc_cli_write.proofs.LinesLemmas.{Leads, leads_none, leads_both, leads_read, ends_read, all_read, begun_read}
 use Rattle.orc_cli_write.proofs.WriteLaws.{only_outside}
 use Rattle.orc_cli_output.specs.Output.{IsOutside, IsWantOfMemory, IsOfSource}
 use Rattle.orc_cli_output.specs.declared.fault.CliFault.{CliFault}
-use Rattle.orc_cli_output.specs.declared.fault.CliFault.TheVariants.{Json, File}
+use Rattle.orc_cli_output.specs.declared.fault.CliFault.TheVariants.{File}
 
 abbrev IsThrough : List ℕ → List ℕ → List ℕ → Type 0
 IsThrough xs front rest =
@@ -118,9 +119,6 @@ source_no_limit fault (inr (inr (inl e))) q = absurd (cc)
 source_no_limit fault (inr (inr (inr (inl e)))) q = absurd (cc)
 source_no_limit fault (inr (inr (inr (inr e)))) q = absurd (cc)
 
-pub source_no_json : {A : Type 0} (fault : CliFault) (why : JsonFault) → fault ≡ Json why → fault ≡ File file.SourceFailed → A
-source_no_json fault why e q = absurd (cc)
-
 want_no_source : {A : Type 0} (fault : CliFault) → IsWantOfMemory fault → fault ≡ File file.SourceFailed → A
 want_no_source fault (inl e) q = absurd (cc)
 want_no_source fault (inr (inl e)) q = absurd (cc)
@@ -132,10 +130,24 @@ writer_no_source fault (inl e) q = absurd (cc)
 writer_no_source fault (inr (inl e)) q = absurd (cc)
 writer_no_source fault (inr (inr e)) q = want_no_source fault e q
 
-pub line_no_source : {A : Type 0} (s : Shape) (line : List ℕ) (fault : CliFault) (own : List Cell) → EndsAtLine s line fault own → fault ≡ File file.SourceFailed → A
-line_no_source s line fault own (inl bad) q = source_no_json fault bad.1.0 bad.1.1 q
-line_no_source s line fault own (inr (inl memory)) q = want_no_source fault memory.1 q
-line_no_source s line fault own (inr (inr writer)) q = writer_no_source fault writer.1 q
+-- ---- a line that isn't there
+
+pub line_of_source : (why : LineFault) → IsOfSource (refusal_of why)
+line_of_source Failed = inl refl
+line_of_source OutOfMemory = inr (inl refl)
+
+pub next_want : (why : LineFault) → IsWantOfMemory (refusal_of why) → IsWantOfLines (refusal_of why)
+next_want Failed want = want_no_source (File file.SourceFailed) want refl
+next_want OutOfMemory want = inr refl
+
+-- and how it counts, behind lines that were there
+pub next_failed : (why : LineFault) (first before after : ℕ) → before ≡ first → after ≡ line_failures {T = Bool} (Err why) before → refusal_of why ≡ File file.SourceFailed → after ≡ first + 1
+next_failed Failed first before after e h q = h ∙ ap (λ (n : ℕ). n + 1) e
+next_failed OutOfMemory first before after e h q = absurd (cc)
+
+pub next_kept : (why : LineFault) (first before after : ℕ) → before ≡ first → after ≡ line_failures {T = Bool} (Err why) before → (refusal_of why ≡ File file.SourceFailed) ⊎ (after ≡ first)
+next_kept Failed first before after e h = inl refl
+next_kept OutOfMemory first before after e h = inr (h ∙ e)
 
 -- ---- why no file is written, where the input tells its bytes
 

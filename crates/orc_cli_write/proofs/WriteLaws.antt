@@ -12,7 +12,7 @@ use Rattle.orc_types.proofs.JsonLaws.{only_memory}
 use Rattle.orc_types.proofs.OneText.{one_whole}
 use Rattle.orc_json_reader.specs.RowTexts.{ValueFault}
 use Rattle.orc_cli_write.specs.Lines.{IsLine, LineSpells, LinesSpell, AreRowsOf}
-use Rattle.orc_cli_write.specs.Writes.{LineFault, IsOfWriter, EndsAtLine, EndsInLines}
+use Rattle.orc_cli_write.specs.Writes.{LineSpellsNone, IsOfWriter, EndsAtLine, EndsInLines}
 use Rattle.orc_cli_output.specs.declared.fault.CliFault.{CliFault}
 use Rattle.orc_cli_output.specs.declared.fault.CliFault.TheVariants.{Json}
 
@@ -78,7 +78,7 @@ value_again s line why row value h read (inr fault) =
     inr (inr (inr (inr (inl (ap Json e)))))
 
 -- it is refused for want of memory only
-read_again : (s : Shape) (line : List ℕ) (why : JsonFault) (row : Cell) → LineSpells s line row → LineFault s line why → IsOfWriter (Json why)
+read_again : (s : Shape) (line : List ℕ) (why : JsonFault) (row : Cell) → LineSpells s line row → LineSpellsNone s line why → IsOfWriter (Json why)
 read_again s line why row h (inl bad) = let none = bad.1 h.utf8 in let some = h.read in absurd (cc)
 read_again s line why row h (inr bad) = value_again s line why row bad.0 h bad.2 bad.3
 

@@ -6,15 +6,18 @@ use Rattle.orc_stripe_writer.specs.declared.options.Options.{Options}
 use Rattle.orc_wire.specs.declared.stripe_info.StripeInfo.{StripeInfo}
 use Rattle.orc_types.specs.Shapes.{Shape}
 use Rattle.orc_types.specs.Cells.{Cell}
+use Rattle.orc_types.specs.declared.fault.TypeFault.{TypeFault}
+use Rattle.orc_types.specs.declared.fault.TypeFault.TheVariants as types
 use Rattle.orc_types.specs.declared.json_fault.JsonFault.{JsonFault}
 use Rattle.orc_types.specs.declared.json_fault.JsonFault.TheVariants as json
 use Rattle.orc_stats.specs.declared.stat.Stat.{Stat}
 use Rattle.orc_file.proofs.Spread.{HasPushed}
 use Rattle.orc_file.specs.declared.fault.FileFault.{FileFault}
 use Rattle.orc_file.specs.declared.fault.FileFault.TheVariants as file
-use Rattle.orc_cli_output.specs.declared.fault.CliFault.TheVariants.{Json, File}
-use Rattle.orc_cli_output.specs.Output.{IsOutside}
-use Rattle.orc_cli_write.specs.Writes.{LineFault, IsOfWriter, EndsAtLine, StandsOpen}
+use Rattle.orc_cli_output.specs.declared.fault.CliFault.{CliFault}
+use Rattle.orc_cli_output.specs.declared.fault.CliFault.TheVariants.{Types, Json, File}
+use Rattle.orc_cli_output.specs.Output.{IsWantOfMemory, IsOutside}
+use Rattle.orc_cli_write.specs.Writes.{LineSpellsNone, IsOfLine, IsWantOfLines, IsOfWriter, EndsAtLine, StandsOpen}
 use Rattle.orc_cli_write.specs.Lines.{IsLine, AreLines, LineSpells, LinesSpell, LineSpellsRows, AreRowsOf}
 
 pub spell_more : (s : Shape) (line : List ℕ) (own more : List Cell) (lines : List (List ℕ)) → LinesSpell s (line ∷ []) own → LinesSpell s lines more → LinesSpell s (line ∷ lines) (own ++ more)
@@ -90,7 +93,7 @@ is_memory json.DuplicateField = inr (λ q. cc)
 is_memory json.BadDate = inr (λ q. cc)
 is_memory json.BadHex = inr (λ q. cc)
 
-pub ends_unread : (s : Shape) (line : List ℕ) (why : JsonFault) → (why ≢ json.OutOfMemory → LineFault s line why) → EndsAtLine s line (Json why) []
+pub ends_unread : (s : Shape) (line : List ℕ) (why : JsonFault) → (why ≢ json.OutOfMemory → LineSpellsNone s line why) → EndsAtLine s line (Json why) []
 ends_unread s line why h = elim (is_memory why) [
   | inl m ↦ inr (inl (refl, inr (inr (inl (ap Json m)))))
   | inr m ↦ inl (refl, (why, refl, h m))
@@ -114,9 +117,40 @@ pub of_begin : (why : FileFault) → (why ≡ file.WriteFailed) ⊎ (why ≡ fil
 of_begin why (inl e) = inl (ap File e)
 of_begin why (inr e) = inr (inl (ap File e))
 
+pub pushed_no_source : (why : FileFault) → (why ≡ file.Failed) ⊎ ((why ≡ file.RowShape) ⊎ ((why ≡ file.Limit) ⊎ ((why ≡ file.WriteFailed) ⊎ (why ≡ file.OutOfMemory)))) → why ≢ file.SourceFailed
+pushed_no_source why (inl e) q = cc
+pushed_no_source why (inr (inl e)) q = cc
+pushed_no_source why (inr (inr (inl e))) q = cc
+pushed_no_source why (inr (inr (inr (inl e)))) q = cc
+pushed_no_source why (inr (inr (inr (inr e)))) q = cc
+
+pub finish_no_source : {A : Type 0} (why : FileFault) → (why ≡ file.Failed) ⊎ ((why ≡ file.Limit) ⊎ ((why ≡ file.WriteFailed) ⊎ (why ≡ file.OutOfMemory))) → File why ≡ File file.SourceFailed → A
+finish_no_source why (inl e) q = absurd (cc)
+finish_no_source why (inr (inl e)) q = absurd (cc)
+finish_no_source why (inr (inr (inl e))) q = absurd (cc)
+finish_no_source why (inr (inr (inr e))) q = absurd (cc)
+
 pub not_limit : {A : Type 0} (why : FileFault) → (why ≡ file.WriteFailed) ⊎ (why ≡ file.OutOfMemory) → File why ≡ File file.Limit → A
 not_limit why (inl e) q = absurd (cc)
 not_limit why (inr e) q = absurd (cc)
+
+-- ---- whose want of memory it is
+
+pub types_want : (why : TypeFault) → IsWantOfMemory (Types why) → Types why ≡ Types types.OutOfMemory
+types_want why (inl e) = absurd (cc)
+types_want why (inr (inl e)) = absurd (cc)
+types_want why (inr (inr (inl e))) = absurd (cc)
+types_want why (inr (inr (inr e))) = e
+
+pub line_want : (fault : CliFault) → IsOfLine fault → IsWantOfMemory fault → IsWantOfLines fault
+line_want fault h (inl e) = inr e
+line_want fault h (inr (inl e)) = absurd (subst (λ (f : CliFault). IsOfLine f) e h)
+line_want fault h (inr (inr (inl e))) = inl e
+line_want fault h (inr (inr (inr e))) = absurd (subst (λ (f : CliFault). IsOfLine f) e h)
+
+-- and no source refuses a line
+pub line_no_source : {A : Type 0} (fault : CliFault) → IsOfLine fault → fault ≡ File file.SourceFailed → A
+line_no_source fault h q = let other = subst (λ (f : CliFault). IsOfLine f) q h in absurd (other refl)
 
 -- ---- what is out after the refusal of a line
 

@@ -7,22 +7,40 @@ use Rattle.orc_types.specs.Columns.{cells}
 use Rattle.orc_types.specs.SchemaText.{HasText}
 use Rattle.orc_types.specs.TextFaults.{TextFault}
 use Rattle.orc_types.specs.declared.fault.TypeFault.{TypeFault}
+use Rattle.orc_types.specs.declared.fault.TypeFault.TheVariants as types
 use Rattle.orc_types.specs.declared.json_fault.JsonFault.{JsonFault}
+use Rattle.orc_types.specs.declared.json_fault.JsonFault.TheVariants as json
 use Rattle.orc_json_reader.specs.RowTexts.{RowTextFault}
 use Rattle.orc_column_reader.specs.Stripe.{cell_limit}
 use Rattle.orc_io.specs.Devices.{appended}
 use Rattle.orc_file.specs.Layout.{magic}
 use Rattle.orc_file.specs.Stripes.{most_stripes, most_rows}
-use Rattle.orc_file.specs.Writing.{Closed, AreClosed, AreFull, bytes_of, rows_of, infos_of, PassesBytes, IsCutOff}
+use Rattle.orc_file.specs.Writing.{Closed, AreClosed, AreFull, bytes_of, rows_of, infos_of, PassesBytes, Progress, HasPushed, IsCutOff}
 use Rattle.orc_file.specs.declared.fault.FileFault.TheVariants as file
 use Rattle.orc_cli_write.specs.Lines.{AreLines, LinesSpell, LineSpellsRows, AreRowsOf}
 use Rattle.orc_cli_output.specs.Output.{IsWantOfMemory, IsOutside}
 use Rattle.orc_cli_output.specs.declared.fault.CliFault.{CliFault}
-use Rattle.orc_cli_output.specs.declared.fault.CliFault.TheVariants.{Types, Json, File}
+use Rattle.orc_cli_output.specs.declared.fault.CliFault.TheVariants.{Run, Types, Json, File}
 
 -- why a line spells no row: it is no text of JSON, or it is one, of a value that spells none
-abbrev pub LineFault : Shape → List ℕ → JsonFault → Type 0
-LineFault s line why = RowTextFault s line why
+abbrev pub LineSpellsNone : Shape → List ℕ → JsonFault → Type 0
+LineSpellsNone s line why = RowTextFault s line why
+
+-- the layers that refuse a line: that of JSON, and that of files, which then names no source
+abbrev pub IsOfLine : CliFault → Type 0
+IsOfLine (Run why) = ⊥
+IsOfLine (Types why) = ⊥
+IsOfLine (Json why) = Unit {0}
+IsOfLine (File why) = why ≢ file.SourceFailed
+
+-- want of memory for lines: in the layer of JSON, or in that of files, which is the writer's and the program's own
+abbrev pub IsWantOfLines : CliFault → Type 0
+IsWantOfLines fault = (fault ≡ Json json.OutOfMemory) ⊎ (fault ≡ File file.OutOfMemory)
+
+-- The layers whose want of memory `write` answers: that of types for the schema's text, and then nothing is out; or
+-- those of lines.
+abbrev pub IsWantOfWrite : Option (List ℕ) → Option (List ℕ) → CliFault → Type 0
+IsWantOfWrite old new fault = ((fault ≡ Types types.OutOfMemory) × (new ≡ old)) ⊎ IsWantOfLines fault
 
 -- the refusals of a writer whose rows fit its schema
 abbrev pub IsOfWriter : CliFault → Type 0
@@ -32,7 +50,7 @@ IsOfWriter fault = (fault ≡ File file.Limit) ⊎ IsOutside fault
 -- spells none, or there was no memory to read it.
 abbrev pub EndsAtLine : Shape → List ℕ → CliFault → List Cell → Type 0
 EndsAtLine s line fault own =
-    ((own ≡ []) × ((why : JsonFault) × (fault ≡ Json why) × LineFault s line why))
+    ((own ≡ []) × ((why : JsonFault) × (fault ≡ Json why) × LineSpellsNone s line why))
     ⊎ (((own ≡ []) × IsWantOfMemory fault)
     ⊎ (LineSpellsRows s line own × IsOfWriter fault))
 
@@ -101,6 +119,19 @@ pub record StandsOpen (options : Options) (s : Shape) (first told : Option (List
 -- after the refusal of a line the file stands open, with the rows that the writer was given
 abbrev pub OpenAtLine : Options → Shape → Option (List ℕ) → Option (List ℕ) → CliFault → List Cell → Type 0
 OpenAtLine options s first told fault rows = (why : JsonFault) → fault ≡ Json why → StandsOpen options s first told rows
+
+-- a writer was given these rows too, behind whatever it was given before
+abbrev pub PushesAlso : Progress → Progress → List Cell → Type 0
+PushesAlso old new own =
+    (first : Option (List ℕ)) (rows : List Cell) → HasPushed old first rows → HasPushed new first (rows ++ own)
+
+-- What stands after the refusal of a line, where the writer was given these rows behind whatever it was given before:
+-- the front of a file of some of them all. They pass a limit where that is the refusal.
+abbrev pub LeavesAtLine : Options → Shape → Progress → Option (List ℕ) → CliFault → List Cell → Type 0
+LeavesAtLine options s old told fault own =
+    (first : Option (List ℕ)) (rows : List Cell) → HasPushed old first rows
+    → LimitStands options s fault (rows ++ own) × IsCutOff options s first told (rows ++ own)
+    × OpenAtLine options s first told fault (rows ++ own)
 
 -- Why `write` refuses a schema's text and lines, and what is out then: nothing where the text tells no schema, and
 -- else the front of a file of some of the rows that the writer was given. After the refusal of a line no more is out

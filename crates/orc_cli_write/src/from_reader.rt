@@ -1,18 +1,18 @@
 //! A file of the rows of lines that are read one after another: one line is held at a time.
-ghost use Rattle.std.specs.Prelude.{◌≡◌, ◌<◌, ◌⊎◌, ◌++◌, ℕ, List, Option, IfOk, IfErr, IfSome, OnOk, false};
+ghost use Rattle.std.specs.Prelude.{◌≡◌, ◌<◌, ◌+◌, ◌⊎◌, List, IfOk, IfErr, IfSome, OnOk, false};
 ghost use Rattle.orc_types.specs.Cells.{Cell};
 ghost use Rattle.orc_types.specs.Shapes.{Shape};
 ghost use Rattle.orc_types.specs.SchemaText.{HasText};
 ghost use Rattle.orc_file.specs.Progress.{progress};
-ghost use Rattle.orc_file.specs.Writing.{HasPushed, IsWhole, IsCutOff};
+ghost use Rattle.orc_file.specs.Writing.{IsWhole};
 ghost use Rattle.orc_file.specs.declared.fault.FileFault.TheVariants as file;
 ghost use Rattle.orc_cli_write.specs.Lines.{AreRowsOf};
-ghost use Rattle.orc_cli_write.specs.Writes.{IsOfWriter, EndsInLines, LimitStands, OpenAtLine};
-ghost use Rattle.orc_cli_write.specs.Reads.{BeginWith, OpenAtSource, RefusesLines};
+ghost use Rattle.orc_cli_write.specs.Writes.{IsOfWriter, IsWantOfLines, IsWantOfWrite, EndsInLines, PushesAlso};
+ghost use Rattle.orc_cli_write.specs.Reads.{BeginWith, LeavesReading, RefusesLines};
 ghost use Rattle.orc_cli_output.specs.Output.{IsWantOfMemory, IsOfSource, write_failed};
 ghost use Rattle.orc_cli_output.specs.declared.fault.CliFault.TheVariants.{File};
 
-use crate::line_reading::next_line;
+use crate::line_reader::LineReader;
 use crate::write::push_line;
 use orc_cli_output::CliFault;
 use orc_file::{FileFault, Sink, Tail, Writer};
@@ -20,41 +20,42 @@ use orc_json_reader::RowReader;
 use orc_stripe::Options;
 use orc_types::Schema;
 use std::alloc::Global;
-use std::io::BufRead;
 
 /// Pushes the rows of the lines that are still to come.
-fn push_read<I: BufRead, W: Sink>(
+fn push_read<L: LineReader, W: Sink>(
     alloc: Global,
-    input: &mut I,
+    lines: &mut L,
     writer: &mut Writer<W>,
 ) -> Result<(), CliFault>
     ensures pushed { OnOk result ((own : List Cell)
-        × IfSome (I.remaining input.old) (λ bytes. AreRowsOf writer.old.schema bytes own)
-        × ((first : Option (List ℕ)) (rows : List Cell) → HasPushed (progress W.told writer.old) first rows
-        → HasPushed (progress W.told writer.new) first (rows ++ own))) }
+        × IfSome (L.remaining lines.old) (λ bytes. AreRowsOf writer.old.schema bytes own)
+        × PushesAlso (progress W.told writer.old) (progress W.told writer.new) own) }
     ensures same { (writer.new.schema ≡ writer.old.schema) × (writer.new.options ≡ writer.old.options) }
     ensures ready { OnOk result (writer.old.failed ≡ false → writer.new.failed ≡ false) }
+    ensures kept { OnOk result (L.failures lines.new ≡ L.failures lines.old) }
     ensures no_failure { OnOk result (W.failures writer.new.out ≡ W.failures writer.old.out) }
 
     ensures refused { writer.old.failed ≡ false → IfErr result (λ fault. (own : List Cell)
-        × IfSome (I.remaining input.old) (λ bytes. EndsInLines writer.old.schema bytes fault own
+        × IfSome (L.remaining lines.old) (λ bytes. EndsInLines writer.old.schema bytes fault own
         ⊎ (IsOfSource fault × BeginWith writer.old.schema bytes own))
-        × ((first : Option (List ℕ)) (rows : List Cell) → HasPushed (progress W.told writer.old) first rows
-        → LimitStands writer.old.options writer.old.schema fault (rows ++ own)
-        × IsCutOff writer.old.options writer.old.schema first (W.told writer.new.out) (rows ++ own)
-        × OpenAtLine writer.old.options writer.old.schema first (W.told writer.new.out) fault (rows ++ own)
-        × OpenAtSource writer.old.options writer.old.schema first (W.told writer.new.out) fault (rows ++ own))) }
+        × LeavesReading writer.old.options writer.old.schema (progress W.told writer.old) (W.told writer.new.out)
+        fault own) }
+    ensures source { IfErr result (λ fault. fault ≡ File file.SourceFailed
+        → L.failures lines.new ≡ L.failures lines.old + 1) }
+    ensures unfailed { IfErr result (λ fault. (fault ≡ File file.SourceFailed)
+        ⊎ (L.failures lines.new ≡ L.failures lines.old)) }
     ensures write_failed { IfErr result (λ fault. fault ≡ write_failed
         → W.failures writer.old.out < W.failures writer.new.out) }
     ensures memory { IfErr result (λ fault. IsWantOfMemory fault
         → W.failures writer.new.out ≡ W.failures writer.old.out) }
+    ensures layer { IfErr result (λ fault. IsWantOfMemory fault → IsWantOfLines fault) }
 {
     // for its contract alone: the types are those of a schema
     let _types = writer.schema().types();
     let mut reader = RowReader::new(alloc);
     let mut line = Vec::new(alloc);
     for _ in 0..u64::MAX {
-        if !next_line(input, &mut line)? {
+        if !lines.next_line(&mut line)? {
             return Ok(());
         }
         push_line(alloc, &mut reader, &line, writer)?;
@@ -67,26 +68,32 @@ fn push_read<I: BufRead, W: Sink>(
 /// no more than one line of the input is held, beside what the reader itself holds, and room as long as the longest line
 /// for strings with escapes.
 ///
-/// Refusals: those of `write_from`, and `File` with `SourceFailed` where the input failed, after which `ORC` and the
-/// full stripes of the rows before are written, and neither a last stripe nor a tail.
-pub fn write_lines<I: BufRead, W: Sink>(
+/// Refusals: those of `write_from`, and `File` with `SourceFailed` where the input failed, after which it isn't asked
+/// again, and `ORC` and the full stripes of the rows before are written, and neither a last stripe nor a tail.
+pub fn write_lines<L: LineReader, W: Sink>(
     alloc: Global,
     schema: &str,
     options: Options,
-    input: &mut I,
+    lines: &mut L,
     out: W,
 ) -> Result<(Tail, W), (CliFault, W)>
     ensures written { IfOk result (λ done. (s : Shape) × (rows : List Cell) × HasText s schema.now
-        × IfSome (I.remaining input.old) (λ bytes. AreRowsOf s bytes rows)
+        × IfSome (L.remaining lines.old) (λ bytes. AreRowsOf s bytes rows)
         × IsWhole options s done.0 (W.told out) (W.told done.1) rows) }
-    ensures only { IfSome (I.remaining input.old) (λ bytes. (s : Shape) (rows : List Cell) → HasText s schema.now
+    ensures only { IfSome (L.remaining lines.old) (λ bytes. (s : Shape) (rows : List Cell) → HasText s schema.now
         → AreRowsOf s bytes rows → IfErr result (λ e. IsOfWriter e.0 ⊎ (e.0 ≡ File file.SourceFailed))) }
+    ensures kept { OnOk result (L.failures lines.new ≡ L.failures lines.old) }
     ensures no_failure { IfOk result (λ done. W.failures done.1 ≡ W.failures out) }
 
     ensures refused { IfErr result (λ e.
-        RefusesLines options schema.now (I.remaining input.old) (W.told out) (W.told e.1) e.0) }
+        RefusesLines options schema.now (L.remaining lines.old) (W.told out) (W.told e.1) e.0) }
+    ensures source { IfErr result (λ e. e.0 ≡ File file.SourceFailed
+        → L.failures lines.new ≡ L.failures lines.old + 1) }
+    ensures unfailed { IfErr result (λ e. (e.0 ≡ File file.SourceFailed)
+        ⊎ (L.failures lines.new ≡ L.failures lines.old)) }
     ensures failed { IfErr result (λ e. e.0 ≡ write_failed → W.failures out < W.failures e.1) }
     ensures memory { IfErr result (λ e. IsWantOfMemory e.0 → W.failures e.1 ≡ W.failures out) }
+    ensures layer { IfErr result (λ e. IsWantOfMemory e.0 → IsWantOfWrite (W.told out) (W.told e.1) e.0) }
 {
     let schema = match Schema::parse(alloc, schema) {
         Ok(schema) => schema,
@@ -96,7 +103,7 @@ pub fn write_lines<I: BufRead, W: Sink>(
         Ok(writer) => writer,
         Err((fault, out)) => return Err((CliFault::File(fault), out)),
     };
-    if let Err(fault) = push_read(alloc, input, &mut writer) {
+    if let Err(fault) = push_read(alloc, lines, &mut writer) {
         return Err((fault, writer.into_out()));
     }
     match writer.finish() {

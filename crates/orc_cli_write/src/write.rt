@@ -1,13 +1,13 @@
 //! `orcm write`: a file of the rows that lines of JSON spell.
-ghost use Rattle.std.specs.Prelude.{◌≡◌, ◌≢◌, ◌<◌, ◌≤◌, ◌++◌, ℕ, List, [], length, take, drop, get_or, Option, IfOk, IfErr, OnOk, false};
+ghost use Rattle.std.specs.Prelude.{◌≡◌, ◌≢◌, ◌<◌, ◌≤◌, List, [], length, take, get_or, IfOk, IfErr, OnOk, false};
 ghost use Rattle.orc_types.specs.Cells.{Cell};
 ghost use Rattle.orc_types.specs.Shapes.{Shape};
 ghost use Rattle.orc_types.specs.SchemaText.{HasText};
 ghost use Rattle.orc_file.specs.Progress.{progress};
-ghost use Rattle.orc_file.specs.Writing.{HasPushed, IsWhole, IsCutOff};
+ghost use Rattle.orc_file.specs.Writing.{IsWhole};
 ghost use Rattle.orc_cli_write.specs.Lines.{IsLine, LineSpellsRows, AreRowsOf};
 ghost use Rattle.orc_cli_output.specs.Output.{IsWantOfMemory, write_failed};
-ghost use Rattle.orc_cli_write.specs.Writes.{IsOfWriter, EndsAtLine, EndsInLines, LimitStands, OpenAtLine, RefusesWrite};
+ghost use Rattle.orc_cli_write.specs.Writes.{IsOfLine, IsOfWriter, IsWantOfWrite, EndsAtLine, EndsInLines, PushesAlso, LeavesAtLine, RefusesWrite};
 
 use orc_cli_output::CliFault;
 use orc_file::{Sink, Tail, Writer};
@@ -37,24 +37,20 @@ pub(crate) fn push_line<W: Sink>(
     writer: &mut Writer<W>,
 ) -> Result<(), CliFault>
     ensures pushed { OnOk result ((own : List Cell) × LineSpellsRows writer.old.schema line.now own
-        × ((first : Option (List ℕ)) (rows : List Cell)
-        → HasPushed (progress W.told writer.old) first rows
-        → HasPushed (progress W.told writer.new) first (rows ++ own))) }
+        × PushesAlso (progress W.told writer.old) (progress W.told writer.new) own) }
     ensures same { (writer.new.schema ≡ writer.old.schema) × (writer.new.options ≡ writer.old.options) }
     ensures ready { OnOk result (writer.old.failed ≡ false → writer.new.failed ≡ false) }
     ensures no_failure { OnOk result (W.failures writer.new.out ≡ W.failures writer.old.out) }
 
     ensures refused { writer.old.failed ≡ false → IfErr result (λ fault. (own : List Cell) × (line.now ≢ [])
         × EndsAtLine writer.old.schema line.now fault own
-        × ((first : Option (List ℕ)) (rows : List Cell)
-        → HasPushed (progress W.told writer.old) first rows
-        → LimitStands writer.old.options writer.old.schema fault (rows ++ own)
-        × IsCutOff writer.old.options writer.old.schema first (W.told writer.new.out) (rows ++ own)
-        × OpenAtLine writer.old.options writer.old.schema first (W.told writer.new.out) fault (rows ++ own))) }
+        × LeavesAtLine writer.old.options writer.old.schema (progress W.told writer.old) (W.told writer.new.out)
+        fault own) }
     ensures write_failed { IfErr result (λ fault. fault ≡ write_failed
         → W.failures writer.old.out < W.failures writer.new.out) }
     ensures memory { IfErr result (λ fault. IsWantOfMemory fault
         → W.failures writer.new.out ≡ W.failures writer.old.out) }
+    ensures layer { IfErr result IsOfLine }
 {
     if line.is_empty() {
         return Ok(());
@@ -70,24 +66,20 @@ pub(crate) fn push_line<W: Sink>(
 /// Pushes the rows of lines.
 fn push_lines<W: Sink>(alloc: Global, input: &[u8], writer: &mut Writer<W>) -> Result<(), CliFault>
     ensures pushed { OnOk result ((own : List Cell) × AreRowsOf writer.old.schema input.now own
-        × ((first : Option (List ℕ)) (rows : List Cell)
-        → HasPushed (progress W.told writer.old) first rows
-        → HasPushed (progress W.told writer.new) first (rows ++ own))) }
+        × PushesAlso (progress W.told writer.old) (progress W.told writer.new) own) }
     ensures same { (writer.new.schema ≡ writer.old.schema) × (writer.new.options ≡ writer.old.options) }
     ensures ready { OnOk result (writer.old.failed ≡ false → writer.new.failed ≡ false) }
     ensures no_failure { OnOk result (W.failures writer.new.out ≡ W.failures writer.old.out) }
 
     ensures refused { writer.old.failed ≡ false → IfErr result (λ fault. (own : List Cell)
         × EndsInLines writer.old.schema input.now fault own
-        × ((first : Option (List ℕ)) (rows : List Cell)
-        → HasPushed (progress W.told writer.old) first rows
-        → LimitStands writer.old.options writer.old.schema fault (rows ++ own)
-        × IsCutOff writer.old.options writer.old.schema first (W.told writer.new.out) (rows ++ own)
-        × OpenAtLine writer.old.options writer.old.schema first (W.told writer.new.out) fault (rows ++ own))) }
+        × LeavesAtLine writer.old.options writer.old.schema (progress W.told writer.old) (W.told writer.new.out)
+        fault own) }
     ensures write_failed { IfErr result (λ fault. fault ≡ write_failed
         → W.failures writer.old.out < W.failures writer.new.out) }
     ensures memory { IfErr result (λ fault. IsWantOfMemory fault
         → W.failures writer.new.out ≡ W.failures writer.old.out) }
+    ensures layer { IfErr result IsOfLine }
 {
     let mut reader = RowReader::new(alloc);
     let mut at = 0;
@@ -111,7 +103,8 @@ fn push_lines<W: Sink>(alloc: Global, input: &[u8], writer: &mut Writer<W>) -> R
 /// Refusals: `Types` where the schema's text tells none, with nothing written; `Json` where a line spells no
 /// row, `Syntax` where it isn't UTF-8 or no JSON, after which `ORC` and the full stripes of the rows before
 /// are written, and neither a last stripe nor a tail; `File` with `WriteFailed`, `Limit` or `OutOfMemory`, as
-/// the writer refuses. For want of memory `OutOfMemory` of any layer.
+/// the writer refuses. For want of memory `OutOfMemory` of the schema's layer, with nothing written, of the line's, or
+/// of the writer's.
 pub fn write_from<W: Sink>(
     alloc: Global,
     schema: &str,
@@ -129,6 +122,7 @@ pub fn write_from<W: Sink>(
     ensures refused { IfErr result (λ e. RefusesWrite options schema.now input.now (W.told out) (W.told e.1) e.0) }
     ensures failed { IfErr result (λ e. e.0 ≡ write_failed → W.failures out < W.failures e.1) }
     ensures memory { IfErr result (λ e. IsWantOfMemory e.0 → W.failures e.1 ≡ W.failures out) }
+    ensures layer { IfErr result (λ e. IsWantOfMemory e.0 → IsWantOfWrite (W.told out) (W.told e.1) e.0) }
 {
     let schema = match Schema::parse(alloc, schema) {
         Ok(schema) => schema,

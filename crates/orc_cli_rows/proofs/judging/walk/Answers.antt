@@ -1,4 +1,3 @@
-use Rattle.std.proofs.Common.{ap, subst, ℕ, List}
 use Rattle.std.proofs.lemmas.Result.{IfErr-weaker}
 use Rattle.orc_cli_rows.proofs.PieceLemmas.{no_stripe}
 use Rattle.orc_cli_rows.proofs.judging.walk.Goals as goal

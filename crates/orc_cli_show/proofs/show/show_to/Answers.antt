@@ -1,9 +1,10 @@
-use Rattle.std.proofs.Common.{List, ℕ}
+use Rattle.std.proofs.Common.{List, ℕ, ap, inr}
 use Rattle.orc_file.specs.declared.tail.Tail.{Tail}
 use Rattle.std.specs.Io.KnownBytes.{Appends}
 use Rattle.orc_file.specs.Tails.{IsTail}
 use Rattle.orc_cli_output.specs.Output.{AppendsPart}
 use Rattle.orc_cli_output.proofs.OutputLemmas.{file_want, part_of}
+use Rattle.orc_cli_output.specs.declared.fault.CliFault.TheVariants.{File}
 use Rattle.orc_cli_show.specs.Show.{show_lines}
 use Rattle.orc_cli_show.proofs.ShowLemmas.{of_tail, outside_open, no_output}
 use Rattle.orc_cli_show.proofs.show.show_to.Goals as goal
@@ -36,3 +37,6 @@ returns-in-Err-clause-part g c = λ failed.
 
 pub returns-in-Err-clause-memory : goal.returns-in-Err-clause-memory
 returns-in-Err-clause-memory g c = λ want. c.in-Err.ensures.memory (file_want c.in-Err.fault want)
+
+pub returns-in-Err-clause-layer : goal.returns-in-Err-clause-layer
+returns-in-Err-clause-layer g c = λ want. inr (ap File (file_want c.in-Err.fault want))

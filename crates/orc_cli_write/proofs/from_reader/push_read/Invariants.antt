@@ -1,7 +1,7 @@
-use Rattle.std.proofs.Common.{◌≡◌, ◌++◌, ℕ, List, Option, false}
+use Rattle.std.proofs.Common.{◌≡◌, List, false}
 use Rattle.orc_types.specs.Cells.{Cell}
 use Rattle.orc_file.specs.Progress.{progress}
-use Rattle.orc_file.specs.Writing.{HasPushed}
+use Rattle.orc_cli_write.specs.Writes.{PushesAlso}
 use Rattle.orc_cli_write.proofs.ReadLemmas.{HasLed}
 use Rattle.orc_cli_write.proofs.from_reader.push_read.Given as goal
 
@@ -11,10 +11,9 @@ invariant-loop g l = record {
   schema : l.writer.schema ≡ l.initial.writer.schema;
   options : l.writer.options ≡ l.initial.writer.options;
   ready : l.initial.writer.failed ≡ false → l.writer.failed ≡ false;
+  read : g.L.LineReader.failures l.lines ≡ g.L.LineReader.failures l.initial.lines;
   kept : g.W.Sink.failures l.writer.out ≡ g.W.Sink.failures l.initial.writer.out;
   pushed : (own : List Cell)
-      × HasLed l.initial.writer.schema (g.I.Read.remaining l.initial.input) (g.I.Read.remaining l.input) own
-      × ((first : Option (List ℕ)) (rows : List Cell)
-      → HasPushed (progress g.W.Sink.told l.initial.writer) first rows
-      → HasPushed (progress g.W.Sink.told l.writer) first (rows ++ own));
+      × HasLed l.initial.writer.schema (g.L.LineReader.remaining l.initial.lines) (g.L.LineReader.remaining l.lines) own
+      × PushesAlso (progress g.W.Sink.told l.initial.writer) (progress g.W.Sink.told l.writer) own;
 }

@@ -1,4 +1,4 @@
-use Rattle.std.proofs.Common.{◌≡◌, ◌<◌, [], length, ◌∙◌, arith, inr, subst}
+use Rattle.std.proofs.Common.{◌≡◌, ◌<◌, [], length, refl, ap, ◌∙◌, arith, inl, inr, subst}
 use Rattle.std.specs.Prelude.{◌⊎◌, IfSome}
 use Rattle.std.proofs.lemmas.List.{length-map}
 use Rattle.orc_types.specs.Shapes.{Shape}
@@ -9,14 +9,15 @@ use Rattle.orc_cli_write.specs.Writes.{IsOfWriter, EndsInLines, LimitStands}
 use Rattle.orc_cli_write.specs.Reads.{BeginWith}
 use Rattle.orc_cli_output.specs.Output.{IsOfSource}
 use Rattle.orc_cli_output.specs.declared.fault.CliFault.TheVariants.{File}
+use Rattle.orc_cli_output.proofs.OutputLemmas.{file_want}
 use Rattle.orc_cli_write.proofs.LimitLemmas.{rest_passes}
-use Rattle.orc_cli_write.proofs.WriteLemmas.{of_begin, of_finish, not_limit}
+use Rattle.orc_cli_write.proofs.WriteLemmas.{of_begin, of_finish, not_limit, finish_no_source, types_want}
 use Rattle.orc_cli_write.proofs.ReadLemmas.{only_read, ends_reading, ends_behind_all, ends_before_all, writer_no_source}
 use Rattle.orc_cli_write.proofs.from_reader.write_lines.Goals as goal
 
 pub returns-in-Err-push_read-clause-only : goal.returns-in-Err-push_read-clause-only
 returns-in-Err-push_read-clause-only g c =
-    let told = g.I.Read.remaining c.args.input.now in
+    let told = g.L.LineReader.remaining c.args.lines.now in
     let fault = c.in-Err-push_read.fault in
     let made = c.in-Ok-new.ensures.made in
     let e = c.in-Err-push_read.ensures.refused made.2 in
@@ -25,7 +26,7 @@ returns-in-Err-push_read-clause-only g c =
 
 pub returns-in-Err-push_read-clause-refused : goal.returns-in-Err-push_read-clause-refused
 returns-in-Err-push_read-clause-refused g c =
-    let told = g.I.Read.remaining c.args.input.now in
+    let told = g.L.LineReader.remaining c.args.lines.now in
     let fault = c.in-Err-push_read.fault in
     let made = c.in-Ok-new.ensures.made in
     let e = c.in-Err-push_read.ensures.refused made.2 in
@@ -37,7 +38,7 @@ returns-in-Err-push_read-clause-refused g c =
 
 pub returns-in-Err-finish-clause-refused : goal.returns-in-Err-finish-clause-refused
 returns-in-Err-finish-clause-refused g c =
-    let told = g.I.Read.remaining c.args.input.now in
+    let told = g.L.LineReader.remaining c.args.lines.now in
     let s = c.in-Ok.schema in
     let n = c.push_read.new.writer in
     let made = c.in-Ok-new.ensures.made in
@@ -73,7 +74,7 @@ returns-in-Err-finish-clause-refused g c =
 
 pub returns-in-Err-new-clause-refused : goal.returns-in-Err-new-clause-refused
 returns-in-Err-new-clause-refused g c =
-    let told = g.I.Read.remaining c.args.input.now in
+    let told = g.L.LineReader.remaining c.args.lines.now in
     let why = c.in-Err-new.fault in
     let e = c.in-Err-new.ensures in
     inr (
@@ -86,3 +87,23 @@ returns-in-Err-new-clause-refused g c =
       (λ j q. cc),
       λ q. writer_no_source (File why) (inr (of_begin why e.refused)) q,
     )
+
+pub returns-in-Err-new-clause-source : goal.returns-in-Err-new-clause-source
+returns-in-Err-new-clause-source g c =
+    let why = c.in-Err-new.fault in
+    λ q. writer_no_source (File why) (inr (of_begin why c.in-Err-new.ensures.refused)) q
+
+pub returns-in-Err-finish-clause-source : goal.returns-in-Err-finish-clause-source
+returns-in-Err-finish-clause-source g c = λ q. finish_no_source c.in-Err-finish.fault c.in-Err-finish.ensures.refused q
+
+pub returns-in-Err-clause-layer : goal.returns-in-Err-clause-layer
+returns-in-Err-clause-layer g c = λ want. inl (types_want c.in-Err.fault want, refl)
+
+pub returns-in-Err-new-clause-layer : goal.returns-in-Err-new-clause-layer
+returns-in-Err-new-clause-layer g c = λ want. inr (inr (ap File (file_want c.in-Err-new.fault want)))
+
+pub returns-in-Err-push_read-clause-layer : goal.returns-in-Err-push_read-clause-layer
+returns-in-Err-push_read-clause-layer g c = λ want. inr (c.in-Err-push_read.ensures.layer want)
+
+pub returns-in-Err-finish-clause-layer : goal.returns-in-Err-finish-clause-layer
+returns-in-Err-finish-clause-layer g c = λ want. inr (inr (ap File (file_want c.in-Err-finish.fault want)))

@@ -10,7 +10,7 @@ use Rattle.orc_file.specs.Writing.{PassesBytes}
 use Rattle.orc_file.specs.declared.fault.FileFault.TheVariants as file
 use Rattle.orc_cli_output.proofs.OutputLemmas.{file_want}
 use Rattle.orc_cli_write.proofs.LimitLemmas.{row_passes}
-use Rattle.orc_cli_write.proofs.WriteLemmas.{none_spelled, some_spelled, some_line, either, ends_unread, of_writer, stands_open}
+use Rattle.orc_cli_write.proofs.WriteLemmas.{none_spelled, some_spelled, some_line, either, ends_unread, of_writer, pushed_no_source, stands_open}
 use Rattle.orc_cli_write.proofs.write.push_line.Goals as goal
 
 pub returns-then-is_empty-clause-pushed : goal.returns-then-is_empty-clause-pushed
@@ -73,3 +73,13 @@ pub returns-in_err-push_owned-clause-memory : goal.returns-in_err-push_owned-cla
 returns-in_err-push_owned-clause-memory g c =
     let p = err_from_is_err_and c.from_residual-in_err-push_owned.result c.from_residual-in_err-push_owned.ensures.1 in
     rw (p.1, p.2) (λ want. c.in_err-push_owned.ensures.memory (ap Err (file_want c.in_err-push_owned.field-0.0 want)))
+
+pub returns-in_err-row-clause-layer : goal.returns-in_err-row-clause-layer
+returns-in_err-row-clause-layer g c =
+    let p = err_from_is_err_and c.from_residual.result c.from_residual.ensures.1 in
+    rw (p.1, p.2) tt
+
+pub returns-in_err-push_owned-clause-layer : goal.returns-in_err-push_owned-clause-layer
+returns-in_err-push_owned-clause-layer g c =
+    let p = err_from_is_err_and c.from_residual-in_err-push_owned.result c.from_residual-in_err-push_owned.ensures.1 in
+    rw (p.1, p.2) (λ q. pushed_no_source c.in_err-push_owned.field-0.0 c.in_err-push_owned.ensures.refused q)

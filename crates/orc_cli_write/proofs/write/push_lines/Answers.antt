@@ -101,3 +101,8 @@ pub returns-in_err-push_line-clause-memory : goal.returns-in_err-push_line-claus
 returns-in_err-push_line-clause-memory g c =
     let p = err_from_is_err_and c.from_residual.result c.from_residual.ensures.1 in
     rw (p.1, p.2) (λ want. c.in_err-push_line.ensures.memory want ∙ c.loop-at.invariant.kept)
+
+pub returns-in_err-push_line-clause-layer : goal.returns-in_err-push_line-clause-layer
+returns-in_err-push_line-clause-layer g c =
+    let p = err_from_is_err_and c.from_residual.result c.from_residual.ensures.1 in
+    rw (p.1, p.2) c.in_err-push_line.ensures.layer

@@ -1,7 +1,7 @@
-use Rattle.std.proofs.Common.{◌≡◌, ◌≤◌, ◌-◌, ◌++◌, List, ℕ, Option, length, drop, false}
+use Rattle.std.proofs.Common.{◌≡◌, ◌≤◌, ◌-◌, List, length, drop, false}
 use Rattle.orc_types.specs.Cells.{Cell}
 use Rattle.orc_file.specs.Progress.{progress}
-use Rattle.orc_file.specs.Writing.{HasPushed}
+use Rattle.orc_cli_write.specs.Writes.{PushesAlso}
 use Rattle.orc_cli_write.proofs.LinesLemmas.{Leads}
 use Rattle.orc_cli_write.proofs.write.push_lines.Given as goal
 
@@ -15,9 +15,7 @@ invariant-loop-at g l = record {
   kept : g.W.Sink.failures l.writer.out ≡ g.W.Sink.failures l.initial.writer.out;
   pushed : (own : List Cell)
       × Leads l.initial.writer.schema l.input (drop l.at l.input) own
-      × ((first : Option (List ℕ)) (rows : List Cell)
-      → HasPushed (progress g.W.Sink.told l.initial.writer) first rows
-      → HasPushed (progress g.W.Sink.told l.writer) first (rows ++ own));
+      × PushesAlso (progress g.W.Sink.told l.initial.writer) (progress g.W.Sink.told l.writer) own;
 }
 
 abbrev pub decreases-loop-at : goal.decreases-loop-at

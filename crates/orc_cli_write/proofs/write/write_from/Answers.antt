@@ -1,4 +1,4 @@
-use Rattle.std.proofs.Common.{◌≡◌, ◌<◌, [], length, false, subst, refl, ◌∙◌, inl, inr, arith}
+use Rattle.std.proofs.Common.{◌≡◌, ◌<◌, [], length, false, subst, refl, ap, ◌∙◌, inl, inr, arith}
 use Rattle.std.proofs.lemmas.List.{length-map}
 use Rattle.orc_types.specs.Shapes.{Shape}
 use Rattle.orc_types.specs.Views.{view, views}
@@ -8,7 +8,7 @@ use Rattle.orc_cli_write.specs.Writes.{EndsInLines, LimitStands}
 use Rattle.orc_cli_output.specs.declared.fault.CliFault.TheVariants.{File}
 use Rattle.orc_cli_output.proofs.OutputLemmas.{file_want}
 use Rattle.orc_cli_write.proofs.LimitLemmas.{rest_passes}
-use Rattle.orc_cli_write.proofs.WriteLemmas.{of_begin, of_finish, not_limit}
+use Rattle.orc_cli_write.proofs.WriteLemmas.{of_begin, of_finish, not_limit, types_want, line_want}
 use Rattle.orc_cli_write.proofs.WriteLaws.{only_outside}
 use Rattle.orc_cli_write.proofs.write.write_from.Goals as goal
 
@@ -79,3 +79,15 @@ returns-in-Err-finish-clause-memory g c = λ want.
 
 pub returns-in-Err-new-clause-memory : goal.returns-in-Err-new-clause-memory
 returns-in-Err-new-clause-memory g c = λ want. c.in-Err-new.ensures.memory (file_want c.in-Err-new.fault want)
+
+pub returns-in-Err-clause-layer : goal.returns-in-Err-clause-layer
+returns-in-Err-clause-layer g c = λ want. inl (types_want c.in-Err.fault want, refl)
+
+pub returns-in-Err-new-clause-layer : goal.returns-in-Err-new-clause-layer
+returns-in-Err-new-clause-layer g c = λ want. inr (inr (ap File (file_want c.in-Err-new.fault want)))
+
+pub returns-in-Err-push_lines-clause-layer : goal.returns-in-Err-push_lines-clause-layer
+returns-in-Err-push_lines-clause-layer g c = λ want. inr (line_want c.in-Err-push_lines.fault c.in-Err-push_lines.ensures.layer want)
+
+pub returns-in-Err-finish-clause-layer : goal.returns-in-Err-finish-clause-layer
+returns-in-Err-finish-clause-layer g c = λ want. inr (inr (ap File (file_want c.in-Err-finish.fault want)))

@@ -1,0 +1,277 @@
+//! The parser's table: the commands of the program and their arguments, with what its help says of each.
+ghost use Rattle.std.specs.Prelude.{◌≡◌, IfOk, IfErr, false, codes};
+ghost use Rattle.clap.specs.Values.{kind_of};
+ghost use Rattle.clap.specs.Walk.{rule_of};
+ghost use Rattle.clap.specs.Simple.{app_of, shape_of};
+ghost use Rattle.clap.specs.declared.builder.command.Command.TheViews.{out-Command};
+ghost use Rattle.clap.specs.declared.error.kind.ErrorKind.TheVariants as kind;
+ghost use Rattle.orc_cli_args.specs.Commands as spec;
+ghost use Rattle.orc_cli_args.specs.Commands.{Choices, Words, needed, optional, named, one_of, between, all_of};
+ghost use Rattle.orc_cli_args.specs.Commands.{HasVersions, HasSigns};
+
+use crate::help::{CHECK_HELP, MERGE_HELP, ROWS_HELP, STATUSES, WRITE_HELP};
+use crate::request::{SIGNS, VERSIONS};
+use clap::builder::ValueParser;
+use clap::{Arg, ArgAction, Command, Error};
+use orc_file::MOST_STRIPE_ROWS;
+use std::alloc::Global;
+
+/// The program's own version.
+const VERSION: &str = "0.1.0";
+
+/// After how many rows a group of the row index may begin at most.
+const MOST_STRIDE: u64 = 4_294_967_295;
+
+/// The program, one of whose commands has to be named.
+pub(crate) fn orcm<'a>(alloc: Global) -> Result<Command<'a>, Error>
+    ensures table { IfOk result (λ command. (choices : Choices) × (app_of command ≡ spec.orcm choices)) }
+    ensures memory { IfErr result (λ error. kind_of error ≡ kind.OutOfMemory) }
+{
+    Ok(
+        Command::new(alloc, "orcm")
+            .bin_name("orcm")?
+            .version(VERSION)
+            .about("Reads, writes, checks and joins Apache ORC files without compression")
+            .after_help(STATUSES)
+            .subcommand_required(true)
+            .subcommand(ints_command(alloc)?)?
+            .subcommand(rows_command(alloc)?)?
+            .subcommand(show_command(alloc)?)?
+            .subcommand(check_command(alloc)?)?
+            .subcommand(write_command(alloc)?)?
+            .subcommand(merge_command(alloc)?)?,
+    )
+}
+
+/// An argument that has to be there.
+fn needed_argument<'a>(
+    alloc: Global,
+    name: &'static str,
+    value_name: &'static str,
+    help: &'static str,
+) -> Arg<'a>
+    ensures rule { rule_of result ≡ needed name.entry.now }
+    ensures local { result.global ≡ false }
+{
+    Arg::new(alloc, name)
+        .required(true)
+        .action(ArgAction::Set)
+        .value_name(value_name)
+        .help(help)
+}
+
+/// An option that takes one of these words, and has to be there.
+fn word_option<'a>(
+    alloc: Global,
+    name: &'static str,
+    value_name: &'static str,
+    help: &'static str,
+    words: &'a [&'a str],
+) -> Arg<'a>
+    ensures rule { rule_of result ≡ one_of words.entry (named (needed name.entry.now)) }
+    ensures local { result.global ≡ false }
+{
+    needed_argument(alloc, name, value_name, help)
+        .long(name)
+        .value_parser(words)
+}
+
+/// An option that takes a number, and has to be there.
+fn number_option<'a>(
+    alloc: Global,
+    name: &'static str,
+    help: &'static str,
+    least: u64,
+    most: u64,
+) -> Arg<'a>
+    ensures rule { rule_of result ≡ between least most (named (needed name.entry.now)) }
+    ensures local { result.global ≡ false }
+{
+    needed_argument(alloc, name, "N", help)
+        .long(name)
+        .value_parser(ValueParser::unsigned(least, most))
+}
+
+/// The version of the integer run lengths.
+fn version_option<'a>(alloc: Global) -> Arg<'a>
+    ensures rule { (words : Words) × HasVersions words
+        × (rule_of result ≡ one_of words (named (needed (codes "rle")))) }
+    ensures local { result.global ≡ false }
+{
+    word_option(
+        alloc,
+        "rle",
+        "VERSION",
+        "The version of the integer run lengths",
+        VERSIONS.as_slice(),
+    )
+}
+
+/// Whether integers are signed.
+fn sign_option<'a>(alloc: Global) -> Arg<'a>
+    ensures rule { (words : Words) × HasSigns words
+        × (rule_of result ≡ one_of words (named (needed (codes "sign")))) }
+    ensures local { result.global ≡ false }
+{
+    word_option(
+        alloc,
+        "sign",
+        "SIGN",
+        "Whether the numbers are signed (s) or unsigned (u)",
+        SIGNS.as_slice(),
+    )
+}
+
+fn ints_command<'a>(alloc: Global) -> Result<Command<'a>, Error>
+    ensures shape { IfOk result (λ command. (versions signs : Words) × HasVersions versions × HasSigns signs
+        × (shape_of command ≡ spec.ints_line versions signs)) }
+    ensures local { IfOk result (λ command. (out-Command command).has_globals ≡ false) }
+    ensures memory { IfErr result (λ error. kind_of error ≡ kind.OutOfMemory) }
+{
+    let hex = needed_argument(
+        alloc,
+        "hex",
+        "HEX",
+        "The bytes of the stream as hexadecimal digits, in either case",
+    );
+    Ok(
+        Command::new(alloc, "ints")
+            .about("Prints the numbers of an integer stream")
+            .arg(version_option(alloc))?
+            .arg(sign_option(alloc))?
+            .arg(hex)?,
+    )
+}
+
+/// The ORC file that a command reads.
+fn file_word<'a>(alloc: Global) -> Arg<'a>
+    ensures rule { rule_of result ≡ needed (codes "file") }
+    ensures local { result.global ≡ false }
+{
+    needed_argument(alloc, "file", "FILE", "The ORC file")
+}
+
+fn rows_command<'a>(alloc: Global) -> Result<Command<'a>, Error>
+    ensures shape { IfOk result (λ command. shape_of command ≡ spec.rows_line) }
+    ensures local { IfOk result (λ command. (out-Command command).has_globals ≡ false) }
+    ensures memory { IfErr result (λ error. kind_of error ≡ kind.OutOfMemory) }
+{
+    let from = Arg::new(alloc, "from")
+        .long("from")
+        .action(ArgAction::Set)
+        .value_name("STRIPE:GROUP")
+        .help("Where to start: a stripe and a group of its row index, both counted from 0");
+    Ok(
+        Command::new(alloc, "rows")
+            .about("Prints the rows of a file, a row a line as compact JSON")
+            .after_help(ROWS_HELP)
+            .arg(from)?
+            .arg(file_word(alloc))?,
+    )
+}
+
+fn show_command<'a>(alloc: Global) -> Result<Command<'a>, Error>
+    ensures shape { IfOk result (λ command. shape_of command ≡ spec.show_line) }
+    ensures local { IfOk result (λ command. (out-Command command).has_globals ≡ false) }
+    ensures memory { IfErr result (λ error. kind_of error ≡ kind.OutOfMemory) }
+{
+    Ok(
+        Command::new(alloc, "show")
+            .about("Prints what a file says of itself: schema, stripes and statistics")
+            .arg(file_word(alloc))?,
+    )
+}
+
+fn check_command<'a>(alloc: Global) -> Result<Command<'a>, Error>
+    ensures shape { IfOk result (λ command. shape_of command ≡ spec.check_line) }
+    ensures local { IfOk result (λ command. (out-Command command).has_globals ≡ false) }
+    ensures memory { IfErr result (λ error. kind_of error ≡ kind.OutOfMemory) }
+{
+    Ok(
+        Command::new(alloc, "check")
+            .about("Prints what a file says of itself and is not so: statistics and row indexes")
+            .after_help(CHECK_HELP)
+            .arg(file_word(alloc))?,
+    )
+}
+
+/// The schema of the rows.
+fn schema_option<'a>(alloc: Global) -> Arg<'a>
+    ensures rule { rule_of result ≡ named (needed (codes "schema")) }
+    ensures local { result.global ≡ false }
+{
+    needed_argument(alloc, "schema", "TEXT", "The schema, as struct<n:bigint>").long("schema")
+}
+
+/// After how many rows the row index has an entry.
+fn stride_option<'a>(alloc: Global) -> Arg<'a>
+    ensures rule { rule_of result ≡ between 0 4294967295 (named (needed (codes "stride"))) }
+    ensures local { result.global ≡ false }
+{
+    number_option(
+        alloc,
+        "stride",
+        "After how many rows the row index has an entry; 0 for no index",
+        0,
+        MOST_STRIDE,
+    )
+}
+
+/// After how many rows a stripe ends.
+fn stripe_rows_option<'a>(alloc: Global) -> Arg<'a>
+    ensures rule { rule_of result ≡ between 1 2147483647 (named (needed (codes "stripe-rows"))) }
+    ensures local { result.global ≡ false }
+{
+    number_option(
+        alloc,
+        "stripe-rows",
+        "After how many rows a stripe ends, 1 to 2147483647",
+        1,
+        MOST_STRIPE_ROWS,
+    )
+}
+
+fn write_command<'a>(alloc: Global) -> Result<Command<'a>, Error>
+    ensures shape { IfOk result (λ command. (versions : Words) × HasVersions versions
+        × (shape_of command ≡ spec.write_line versions)) }
+    ensures local { IfOk result (λ command. (out-Command command).has_globals ≡ false) }
+    ensures memory { IfErr result (λ error. kind_of error ≡ kind.OutOfMemory) }
+{
+    Ok(
+        Command::new(alloc, "write")
+            .about("Writes a file of rows, which are given a row a line as JSON")
+            .after_help(WRITE_HELP)
+            .arg(schema_option(alloc))?
+            .arg(version_option(alloc))?
+            .arg(stride_option(alloc))?
+            .arg(stripe_rows_option(alloc))?
+            .arg(needed_argument(alloc, "in", "IN", "The file of the lines"))?
+            .arg(needed_argument(alloc, "out", "OUT", "The file that is made"))?,
+    )
+}
+
+/// The files that are joined.
+fn inputs_word<'a>(alloc: Global) -> Arg<'a>
+    ensures rule { rule_of result ≡ all_of (codes "in") }
+    ensures local { result.global ≡ false }
+{
+    Arg::new(alloc, "in")
+        .action(ArgAction::Append)
+        .num_args(0..)
+        .value_name("IN")
+        .help("The files that are joined, in this order")
+}
+
+fn merge_command<'a>(alloc: Global) -> Result<Command<'a>, Error>
+    ensures shape { IfOk result (λ command. shape_of command ≡ spec.merge_line) }
+    ensures local { IfOk result (λ command. (out-Command command).has_globals ≡ false) }
+    ensures memory { IfErr result (λ error. kind_of error ≡ kind.OutOfMemory) }
+{
+    Ok(
+        Command::new(alloc, "merge")
+            .about("Joins files into a new one, stripe by stripe, with statistics of all rows")
+            .after_help(MERGE_HELP)
+            .arg(needed_argument(alloc, "out", "OUT", "The file that is made"))?
+            .arg(inputs_word(alloc))?,
+    )
+}

@@ -1,0 +1,106 @@
+-- What a request is answered with, a command at a time: files are found or made first, and then the command is done.
+use Rattle.std.specs.Prelude.{◌≡◌, ◌⊎◌, ℕ, List, [], ◌∷◌, map, Option, Some, None, IsSome, Result, Ok, Err}
+use Rattle.std.specs.List.{All, Any}
+use Rattle.std.specs.Borrow.{Bor}
+use Rattle.std.specs.Io.KnownBytes.{Keeps}
+use Rattle.orc_stripe_writer.specs.declared.options.Options.{Options}
+use Rattle.orc_file.specs.declared.fault.FileFault.TheVariants as file
+use Rattle.orc_cli_output.specs.Output.{write_failed}
+use Rattle.orc_cli_output.specs.declared.fault.CliFault.{CliFault}
+use Rattle.orc_cli_output.specs.declared.fault.CliFault.TheVariants.{File}
+use Rattle.orc_cli_args.specs.declared.command_line.Refusal.TheVariants.{Fault, NotUnderstood}
+use Rattle.orc_cli_args.specs.declared.request.Request.{Request}
+use Rattle.orc_cli_args.specs.declared.request.Request.TheVariants.{Ints, Rows, Show, Check, Write, Merge}
+use Rattle.orc_merge.specs.declared.fault.MergeFault.{MergeFault}
+use Rattle.orc_merge.specs.declared.fault.MergeFault.TheVariants.{WriteFailed as MergeWriteFailed}
+use Rattle.orc_cli_commands.specs.declared.ending.Ending.{Ending}
+use Rattle.orc_cli_commands.specs.declared.ending.Ending.TheVariants.{Refused, NotMerged}
+use Rattle.orc_cli_commands.specs.declared.outcome.Outcome.{Outcome}
+use Rattle.orc_cli_commands.specs.Places.{Finds, Makes, HasFailed, HasFailedAt}
+use Rattle.orc_cli_commands.specs.Commands.{AnswersInts, AnswersRows, AnswersShow, AnswersCheck, AnswersWrite, AnswersMerge}
+
+-- it ends as the command does
+abbrev pub Ends : (Result Outcome CliFault → Type 0) → Result Outcome Ending → Type 0
+Ends Holds (Ok outcome) = Holds (Ok outcome)
+Ends Holds (Err (Refused (Fault fault))) = Holds (Err fault)
+Ends Holds (Err (Refused NotUnderstood)) = ⊥
+Ends Holds (Err (NotMerged fault)) = ⊥
+
+-- it ends as the merge does
+abbrev pub EndsMerge : (Result Outcome MergeFault → Type 0) → Result Outcome Ending → Type 0
+EndsMerge Holds (Ok outcome) = Holds (Ok outcome)
+EndsMerge Holds (Err (Refused refusal)) = ⊥
+EndsMerge Holds (Err (NotMerged fault)) = Holds (Err fault)
+
+-- it is refused with this fault of a layer
+abbrev pub IsRefusedAs : Result Outcome Ending → CliFault → Type 0
+IsRefusedAs result fault = result ≡ Err (Refused (Fault fault))
+
+-- All inputs are found, and this holds; or one isn't, or there is no memory for all of them, and that does. Where each
+-- is told they are found but for memory, and where the place lacks one they aren't.
+abbrev pub FindsAll : (List ℕ → Type 0) → (List ℕ → Option (List ℕ)) → List (List ℕ) → Type 0
+    → (CliFault → Type 0) → Type 0
+FindsAll lacks told paths Found NotFound =
+    ((Any lacks paths → ⊥) × Found)
+    ⊎ (((All (λ path. IsSome (told path)) paths → ⊥) × NotFound (File file.SourceFailed))
+    ⊎ NotFound (File file.OutOfMemory))
+
+-- the path is that of a file which the request makes
+abbrev pub IsMadeBy : Request → List ℕ → Type 0
+IsMadeBy (Ints _ _ _) path = ⊥
+IsMadeBy (Rows _ _) path = ⊥
+IsMadeBy (Show _) path = ⊥
+IsMadeBy (Check _) path = ⊥
+IsMadeBy (Write _ _ _ output) path = path ≡ output.now
+IsMadeBy (Merge output _) path = path ≡ output.now
+
+-- Of a place: what it has told of paths, and which it has lacked.
+module _ (told : List ℕ → Option (List ℕ)) (lacks : List ℕ → Type 0) where
+  -- a file is found, and the command is done, or it isn't, and nothing is printed
+  abbrev pub AnswersFile : Option (List ℕ) → Option (List ℕ) → Result Outcome Ending → List ℕ
+      → (Result Outcome CliFault → Type 0) → Type 0
+  AnswersFile old new result path Holds = Finds (lacks path) (told path) (Ends Holds result)
+      (IsRefusedAs result (File file.SourceFailed) × Keeps old new)
+
+  -- And after the request: what it tells of files that were made, and that it is as it was. The counts are those of the
+  -- failures of its files.
+  module _ {L O : Type 0} (made : List ℕ → Option (List ℕ)) (unmade : Type 0) (input_failures : L → ℕ)
+      (output_failures : O → ℕ) (result : Result Outcome Ending) where
+    -- a file is made, and this holds of what it told first, or it isn't closed; or none is made
+    abbrev pub AnswersMaking : List ℕ → Type 0 → (Option (List ℕ) → Type 0) → Type 0
+    AnswersMaking path NotClosed Holds = Makes (lacks path) (told path)
+        (λ first. Holds first ⊎ ((lacks path → ⊥) × NotClosed))
+        (unmade × (IsRefusedAs result write_failed ⊎ IsRefusedAs result (File file.OutOfMemory)))
+
+    -- a file is written of the lines of another one
+    abbrev pub AnswersWriting : List ℕ → Options → List ℕ → List ℕ → Type 0
+    AnswersWriting schema options from to = Finds (lacks from) (told from)
+        (AnswersMaking to (IsRefusedAs result write_failed)
+        (λ first. Ends (AnswersWrite schema options (told from) (HasFailed input_failures) (HasFailed output_failures)
+        first (made to)) result))
+        (unmade × (IsRefusedAs result (File file.SourceFailed) ⊎ IsRefusedAs result (File file.OutOfMemory)))
+
+    -- files are joined into one
+    abbrev pub AnswersJoining : List ℕ → List (List ℕ) → Type 0
+    AnswersJoining to paths = FindsAll lacks told paths
+        (AnswersMaking to (result ≡ Err (NotMerged MergeWriteFailed))
+        (λ first. EndsMerge (AnswersMerge (map told paths) (HasFailedAt input_failures) (HasFailed output_failures)
+        first (made to)) result))
+        (λ fault. unmade × IsRefusedAs result fault)
+
+-- What makes no file leaves the place as it is, and what makes one prints nothing.
+abbrev pub Answers : {I L O : Type 0} → (List ℕ → Option (List ℕ)) → (List ℕ → Type 0)
+    → (List ℕ → Option (List ℕ)) → Type 0 → (I → ℕ) → (L → ℕ) → (O → ℕ)
+    → Option (List ℕ) → Option (List ℕ) → Result Outcome Ending → Request → Type 0
+Answers told lacks made unmade input lines output old new result (Ints rle sign hex) =
+    unmade × Ends (AnswersInts rle sign hex.now old new) result
+Answers told lacks made unmade input lines output old new result (Rows path from) =
+    unmade × AnswersFile told lacks old new result path.now (AnswersRows (told path.now) from (HasFailed input) old new)
+Answers told lacks made unmade input lines output old new result (Show path) =
+    unmade × AnswersFile told lacks old new result path.now (AnswersShow (told path.now) (HasFailed input) old new)
+Answers told lacks made unmade input lines output old new result (Check path) =
+    unmade × AnswersFile told lacks old new result path.now (AnswersCheck (told path.now) (HasFailed input) old new)
+Answers told lacks made unmade input lines output old new result (Write schema options from to) =
+    Keeps old new × AnswersWriting told lacks made unmade lines output result schema.now options from.now to.now
+Answers told lacks made unmade input lines output old new result (Merge to paths) =
+    Keeps old new × AnswersJoining told lacks made unmade input output result to.now (map (λ path. path.now) paths.now)

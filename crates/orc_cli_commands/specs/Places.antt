@@ -1,0 +1,35 @@
+-- What files in memory tell of a path; and what it is that a path is found, or made.
+use Rattle.std.specs.Prelude.{◌≡◌, ◌<◌, ◌⊎◌, ℕ, List, [], Option, Some, None, IsSome, map, option_map, find, slice_index, if◌then◌else◌}
+use Rattle.std.specs.Borrow.{Bor}
+use Rattle.std.specs.Str.{bytes_eq}
+use Rattle.std.specs.declared.vec.Vec.{Vec}
+
+-- the bytes of the first file with this path
+abbrev pub held_at : List (Bor (List ℕ) × Bor (List ℕ)) → List ℕ → Option (List ℕ)
+held_at files path = option_map (λ file. file.1.now) (find (λ file. bytes_eq file.0.now path) files)
+
+-- the bytes of the file that was made, if it has this path
+abbrev pub made_at : {Z : Type 0} → Option (Bor (List ℕ) × Vec ℕ Z) → List ℕ → Option (List ℕ)
+made_at None path = None
+made_at (Some file) path = if bytes_eq file.0.now path then Some file.1.items else None
+
+-- a device has failed: its count is higher at a later moment
+abbrev pub HasFailed : {D : Type 0} → (D → ℕ) → Type 0
+HasFailed {D} failures = (before : D) × (after : D) × (failures before < failures after)
+
+-- the one with this number among some has
+abbrev pub HasFailedAt : {D : Type 0} → (D → ℕ) → ℕ → Type 0
+HasFailedAt {D} failures i =
+    (before : List D) × (after : List D) × (slice_index (map failures before) i < slice_index (map failures after) i)
+
+-- A file is found, and this holds; or it isn't, and that does. One whose bytes are told is found, and one that the
+-- place lacks isn't.
+abbrev pub Finds : (lacks : Type 0) → Option (List ℕ) → Type 0 → Type 0 → Type 0
+Finds lacks told Found NotFound = ((lacks → ⊥) × Found) ⊎ ((IsSome told → ⊥) × NotFound)
+
+-- A file is made, whose bytes are told like this first, and this holds; or it isn't, and that does. One that the place
+-- lacks is made, without bytes, and one that is there isn't.
+abbrev pub Makes : (lacks : Type 0) → Option (List ℕ) → (Option (List ℕ) → Type 0) → Type 0 → Type 0
+Makes lacks told Made NotMade =
+    ((IsSome told → ⊥) × ((first : Option (List ℕ)) × (lacks → first ≡ Some []) × Made first))
+    ⊎ ((lacks → ⊥) × NotMade)

@@ -1,0 +1,66 @@
+//! Why what the command line asks for isn't done.
+ghost use Rattle.std.specs.Prelude.{◌≡◌};
+ghost use Rattle.orc_cli_args.specs.declared.command_line.Refusal.TheVariants.{Fault, NotUnderstood};
+ghost use Rattle.orc_cli_commands.specs.declared.ending.Ending.TheVariants.{Refused, NotMerged};
+ghost use Rattle.orc_cli_output.specs.declared.fault.CliFault.{CliFault};
+ghost use Rattle.orc_merge.specs.declared.fault.MergeFault.{MergeFault};
+
+use orc_cli_args::Refusal;
+use orc_cli_output::CliFault;
+use orc_merge::MergeFault;
+
+/// Why what the command line asks for isn't done: by a layer's fault, by its own words, or by the merger's fault.
+#[derive(Clone, Copy, Debug, PartialEq, Eq)]
+pub enum Ending {
+    Refused(Refusal),
+    NotMerged(MergeFault),
+}
+
+impl Ending {
+    /// The program's exit status.
+    pub fn status(self) -> u8
+        ensures words { self ≡ Refused NotUnderstood → result ≡ 2 }
+        ensures fault { (fault : CliFault) → self ≡ Refused (Fault fault) → result ≡ 1 }
+        ensures merge { (fault : MergeFault) → self ≡ NotMerged fault → result ≡ 1 }
+    {
+        match self {
+            Ending::Refused(Refusal::NotUnderstood) => 2,
+            Ending::Refused(Refusal::Fault(_)) => 1,
+            Ending::NotMerged(_) => 1,
+        }
+    }
+}
+
+impl From<Refusal> for Ending {
+    ghost use Rattle.std.specs.Prelude.{◌≡◌};
+    ghost use Rattle.orc_cli_commands.specs.declared.ending.Ending.TheVariants.{Refused};
+
+    ghost from_gives = { λ refusal ending. ending ≡ Refused refusal };
+
+    fn from(refusal: Refusal) -> Ending {
+        Ending::Refused(refusal)
+    }
+}
+
+impl From<CliFault> for Ending {
+    ghost use Rattle.std.specs.Prelude.{◌≡◌};
+    ghost use Rattle.orc_cli_args.specs.declared.command_line.Refusal.TheVariants.{Fault};
+    ghost use Rattle.orc_cli_commands.specs.declared.ending.Ending.TheVariants.{Refused};
+
+    ghost from_gives = { λ fault ending. ending ≡ Refused (Fault fault) };
+
+    fn from(fault: CliFault) -> Ending {
+        Ending::Refused(Refusal::Fault(fault))
+    }
+}
+
+impl From<MergeFault> for Ending {
+    ghost use Rattle.std.specs.Prelude.{◌≡◌};
+    ghost use Rattle.orc_cli_commands.specs.declared.ending.Ending.TheVariants.{NotMerged};
+
+    ghost from_gives = { λ fault ending. ending ≡ NotMerged fault };
+
+    fn from(fault: MergeFault) -> Ending {
+        Ending::NotMerged(fault)
+    }
+}

@@ -1,0 +1,96 @@
+//! The files of the system as a place.
+ghost use Rattle.std.specs.Prelude.{◌≡◌, ◌⊎◌, None, IfOk, IfErr};
+ghost use Rattle.orc_file.specs.declared.fault.FileFault.TheVariants as file;
+ghost use Rattle.orc_cli_output.specs.declared.fault.CliFault.TheVariants.{File as FileFaulted};
+
+use crate::buffer::{BUFFER, with_buffer};
+use crate::new_file::NewFile;
+use crate::place::Place;
+use orc_cli_args::{new_file, source_of};
+use orc_cli_output::CliFault;
+use orc_cli_write::StdLines;
+use orc_file::{FileFault, FileSource};
+use std::alloc::Global;
+use std::fs::File;
+use std::io::{self, BufRead, BufReader};
+use std::rt::Files;
+
+/// The files of the system. It tells nothing of them.
+#[derive(Drop)]
+pub struct SystemPlace<'a, R: Files<File = File>> {
+    files: &'a R,
+}
+
+impl<'a, R: Files<File = File>> SystemPlace<'a, R> {
+    /// The files that this runtime opens.
+    pub fn new(files: &'a R) -> SystemPlace<'a, R> {
+        SystemPlace { files }
+    }
+}
+
+/// A file's bytes, from its front. That some of them are read, or that there are none, is seen before anything is made
+/// of them.
+fn reader_of<R: Files<File = File>>(
+    files: &R,
+    alloc: Global,
+    path: &str,
+) -> Result<BufReader<File>, CliFault>
+    ensures { IfErr result (λ fault.
+        (fault ≡ FileFaulted file.SourceFailed) ⊎ (fault ≡ FileFaulted file.OutOfMemory)) }
+{
+    let file = match File::open(files, path) {
+        Ok(file) => file,
+        Err(error) if error.kind() == io::ErrorKind::OutOfMemory => {
+            return Err(CliFault::File(FileFault::OutOfMemory));
+        }
+        Err(_) => return Err(CliFault::File(FileFault::SourceFailed)),
+    };
+    let mut reader = match BufReader::with_capacity(alloc, BUFFER, file) {
+        Ok(reader) => reader,
+        Err(_) => return Err(CliFault::File(FileFault::OutOfMemory)),
+    };
+    if reader.fill_buf().is_err() {
+        return Err(CliFault::File(FileFault::SourceFailed));
+    }
+    Ok(reader)
+}
+
+impl<'a, R: Files<File = File>> Place<'a> for SystemPlace<'a, R> {
+    type Input = FileSource<'a, R>;
+
+    type Lines = StdLines<BufReader<File>>;
+
+    type Output = NewFile;
+
+    ghost told = { λ _ _. None };
+
+    ghost lacks = { λ _ _. ⊥ };
+
+    ghost made = { λ _ _. None };
+
+    fn open(&self, path: &'a str) -> Result<FileSource<'a, R>, CliFault> {
+        source_of(self.files, path)
+    }
+
+    fn lines(&self, alloc: Global, path: &'a str) -> Result<StdLines<BufReader<File>>, CliFault> {
+        match reader_of(self.files, alloc, path) {
+            Ok(reader) => Ok(StdLines::new(reader)),
+            Err(fault) => Err(fault),
+        }
+    }
+
+    fn make(&mut self, alloc: Global, path: &'a str) -> Result<NewFile, CliFault> {
+        let file = match new_file(self.files, path) {
+            Ok(file) => file,
+            Err(fault) => return Err(fault),
+        };
+        match with_buffer(alloc, file) {
+            Ok(buffered) => Ok(NewFile::new(buffered)),
+            Err(fault) => Err(fault),
+        }
+    }
+
+    fn close(&mut self, _path: &'a str, output: NewFile) -> Result<(), CliFault> {
+        output.flush()
+    }
+}
