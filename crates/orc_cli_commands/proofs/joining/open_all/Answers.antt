@@ -35,9 +35,12 @@ returns-in_err-source-clause-fault g c =
     let names : List (List ℕ) = map text c.args.paths.now in
     let test : i < length c.args.paths.now = c.loop-path-test.true in
     let less : i < length names = rw (length-map c.args.paths.now text) test in
-    rw (p.1, p.2) (inr (c.in_err-source.ensures.fault, λ all.
-    let some = subst (λ (t : List ℕ). IsSome (g.P.Place.told c.args.place.now t)) (get_or-map text c.args.paths.now i _ [] test) (all i [] less) in
-    let e = c.in_err-source.ensures.only some in cc))
+    rw (p.1, p.2) (inr (
+      c.in_err-source.ensures.fault,
+      λ all.
+          let some = subst (λ (t : List ℕ). IsSome (g.P.Place.told c.args.place.now t)) (get_or-map text c.args.paths.now i _ [] test) (all i [] less) in
+          let e = c.in_err-source.ensures.only some in cc,
+    ))
 
 pub returns-clause-told : goal.returns-clause-told
 returns-clause-told g c =
