@@ -58,12 +58,7 @@ fn answer<'a, R: Files<File = File> + AllocGlobal + Print>(
     request: Request<'_, 'a>,
 ) -> Result<Outcome, Ending> {
     let mut out = with_buffer(rt.alloc(), io::writer(rt))?;
-    let answered = answer_to(
-        rt.alloc(),
-        &mut SystemPlace::new(rt),
-        request,
-        &mut out,
-    );
+    let answered = answer_to(rt.alloc(), &mut SystemPlace::new(rt), request, &mut out);
     flush_buffer(out)?;
     answered
 }

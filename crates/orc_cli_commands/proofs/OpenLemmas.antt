@@ -1,15 +1,8 @@
 -- Inputs that are opened one after another: what is told of them, and that none is lacked.
-use Rattle.std.proofs.Common.{◌≡◌, ◌∙◌, ◌<◌, ◌++◌, ◌∷◌, [], ℕ, suc, List, Option, length, map, take, get_or, sym, ap, ap₂, subst, arith}
-use Rattle.std.specs.Borrow.{Bor}
+use Rattle.std.proofs.Common.{◌≡◌, ◌∙◌, ◌<◌, ◌++◌, ◌∷◌, [], ℕ, suc, List, Option, length, map, take, get_or, sym, ap, ap₂, subst, inl, inr, ◌⊎◌}
 use Rattle.std.specs.List.{Any}
-use Rattle.std.proofs.lemmas.List.{get_or-map, map-append}
+use Rattle.std.proofs.lemmas.List.{map-append}
 use Rattle.std.proofs.Math.Seq.{take-suc}
-
--- the text of the path with this number
-pub text_at : (paths : List (Bor (List ℕ))) (i : ℕ) (path : Bor (List ℕ)) (d : List ℕ) → i < length paths → get_or paths i path ≡ path
-    → get_or (map (λ (p : Bor (List ℕ)). p.now) paths) i d ≡ path.now
-text_at paths i path d less is =
-    get_or-map (λ (p : Bor (List ℕ)). p.now) paths i path d less ∙ ap (λ (p : Bor (List ℕ)). p.now) is
 
 -- one source more tells what is told of one path more
 pub told_step : {S : Type 0} (told : S → Option (List ℕ)) (tells : List ℕ → Option (List ℕ)) (sources : List S) (names : List (List ℕ)) (i : ℕ) (source : S) (d : List ℕ)
@@ -24,3 +17,10 @@ told_step told tells sources names i source d less before is =
 pub not_any : (P : List ℕ → Type 0) (names : List (List ℕ)) → ((k : ℕ) (d : List ℕ) → k < length names → P (get_or names k d) → ⊥)
     → Any P names → ⊥
 not_any P names none any = none any.0 any.1 any.2 (subst P (sym any.3) any.4)
+
+-- where none before is lacked, and this one isn't, none up to it is
+pub none_up_to : (P : List ℕ → Type 0) (names : List (List ℕ)) (i k : ℕ) (d : List ℕ) → (k ≡ i) ⊎ (k < i)
+    → ((k : ℕ) (d : List ℕ) → k < i → P (get_or names k d) → ⊥) → ((d : List ℕ) → P (get_or names i d) → ⊥)
+    → P (get_or names k d) → ⊥
+none_up_to P names i k d (inl same) before here lacks = here d (subst (λ (n : ℕ). P (get_or names n d)) same lacks)
+none_up_to P names i k d (inr less) before here lacks = before k d less lacks

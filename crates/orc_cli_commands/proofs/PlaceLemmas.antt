@@ -1,5 +1,5 @@
 -- An output that got nothing, and what a command answers, over what is the same.
-use Rattle.std.proofs.Common.{◌≡◌, ℕ, List, Option, Some, None, Result, refl, subst}
+use Rattle.std.proofs.Common.{◌≡◌, ℕ, List, Option, Some, None, Result, Ok, Err, ap, refl, subst}
 use Rattle.std.specs.Io.KnownBytes.{Keeps}
 use Rattle.orc_stripe_writer.specs.declared.options.Options.{Options}
 use Rattle.orc_cli_output.specs.declared.fault.CliFault.{CliFault}
@@ -26,3 +26,12 @@ merge_of F O first told inputs made wrote answer result is_inputs is_made is_res
     let one = subst (λ (x : List (Option (List ℕ))). AnswersMerge x F O first wrote answer) is_inputs said in
     let two = subst (λ (x : Option (List ℕ)). AnswersMerge told F O first x answer) is_made one in
     subst (λ (x : Result Outcome MergeFault). AnswersMerge told F O first made x) is_result two
+
+-- the fault of a result, or another one
+abbrev fault_or : {T E : Type 0} → E → Result T E → E
+fault_or other (Ok x) = other
+fault_or other (Err e) = e
+
+-- two refusals with one fault, whatever would be answered else
+pub same_fault : {T U E : Type 0} (one other : E) → ◌≡◌ {A = Result T E} (Err one) (Err other) → ◌≡◌ {A = Result U E} (Err one) (Err other)
+same_fault one other is = ap Err (ap (fault_or one) is)

@@ -30,8 +30,9 @@ fn open_all<'a, P: Place<'a>>(
     let mut sources = Vec::new(alloc);
     for path in paths {
         let source = place.open(path)?;
-        if sources.push(source).is_err() {
-            return Err(CliFault::File(FileFault::OutOfMemory));
+        match sources.push(source) {
+            Ok(()) => {}
+            Err(_) => return Err(CliFault::File(FileFault::OutOfMemory)),
         }
     }
     Ok(sources)
@@ -66,7 +67,10 @@ pub(crate) fn join_files<'a, P: Place<'a>>(
     let mut out = place.make(alloc, output)?;
     let joined = join(alloc, &mut sources, &mut out);
     match place.close(output, out) {
-        Ok(()) => Ok(joined?),
-        Err(_) => Err(Ending::from(MergeFault::WriteFailed)),
+        Ok(()) => match joined {
+            Ok(outcome) => Ok(outcome),
+            Err(fault) => Err(Ending::NotMerged(fault)),
+        },
+        Err(_) => Err(Ending::NotMerged(MergeFault::WriteFailed)),
     }
 }

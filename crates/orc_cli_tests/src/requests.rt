@@ -292,9 +292,7 @@ static WRITTEN: [(&str, &str, &str, Result<Outcome, Ending>, Option<&[u8]>); 6] 
         "bigint",
         "lines",
         "made",
-        Err(Ending::Refused(Refusal::Fault(CliFault::Types(
-            TypeFault::RootNotStruct,
-        )))),
+        Err(Ending::Refused(Refusal::Fault(CliFault::Types(TypeFault::RootNotStruct)))),
         Some(b""),
     ),
     (NUMBERS, "absent", "made", Err(NOT_FOUND), None),
@@ -327,13 +325,6 @@ fn check_written(
 #[test]
 fn what_is_written(rt: HostRuntime) {
     for (schema, input, output, wanted, made) in &WRITTEN {
-        check_written(
-            &rt,
-            rt.alloc(),
-            *schema,
-            (*input, *output),
-            *wanted,
-            *made,
-        );
+        check_written(&rt, rt.alloc(), *schema, (*input, *output), *wanted, *made);
     }
 }

@@ -18,5 +18,5 @@ returns g c =
     let words : List Text = map (λ (word : String Global). string_bytes word) c.args.words.now in record {
       asked = tt;
       refused = not_understood_of words c.kind.result _ c.kind.ensures c.in-Err.ensures.refused c.in_default.not-OutOfMemory
-      c.in_default.not-DisplayHelp c.in_default.not-DisplayVersion;
+          c.in_default.not-DisplayHelp c.in_default.not-DisplayVersion;
     }
