@@ -13,7 +13,8 @@ abbrev pub made_at : {Z : Type 0} → Option (Bor (List ℕ) × Vec ℕ Z) → L
 made_at None path = None
 made_at (Some file) path = if bytes_eq file.0.now path then Some file.1.items else None
 
--- a device has failed: its count is higher at a later moment
+-- Devices of this kind can fail: of two moments of one, or of two of them, the counts differ. One that never fails, as a
+-- source in memory, counts none at any moment.
 abbrev pub HasFailed : {D : Type 0} → (D → ℕ) → Type 0
 HasFailed {D} failures = (before : D) × (after : D) × (failures before < failures after)
 
