@@ -1,4 +1,4 @@
-use Rattle.std.proofs.Common.{◌≡◌, ◌∙◌, ℕ, List, sym, ap, arith}
+use Rattle.std.proofs.Common.{◌≡◌, ◌∙◌, ℕ, ◌<◌, List, length, sym, ap, arith}
 use Rattle.orc_file.specs.Stripes.{stripe_at}
 use Rattle.orc_file.specs.FileRows.{stripe_bytes, cut_rows}
 use Rattle.orc_file.specs.Tails.{IsTail}
@@ -19,7 +19,8 @@ returns-in-Ok-seek_group c = λ tail rows is reads.
     at_told _ bytes (λ (b : List ℕ). c.load.new.into.items ≡ stripe_bytes (stripe_at file.tail.stripes n) b) (c.in-Ok.ensures.same ∙ c.new.ensures.told) c.in_ok-load.ensures.bytes in
     let opened = c.load.new.self.tail in
     let lasts : opened ≡ file.tail = c.in_ok-load.ensures.tail in
+    let there : n < length opened.stripes = omega (arith, c.if-stripe-as_slice.false, ap length c.as_slice.ensures, ap (λ (t : Tail). length t.stripes) c.tail.ensures, ap (λ (t : Tail). length t.stripes) lasts) in
     let view = c.in_ok-view.view in
     let place = c.deref.ensures.value ∙ own ∙ ap (λ (t : Tail). stripe_bytes (stripe_at t.stripes n) bytes) (sym lasts) in
     c.in-Ok-seek_group.ensures (rows_at (cut_rows tail.stripes rows) n)
-    (λ some below. view_reads bytes c.deref.result.now tail opened rows n view reads (lasts ∙ same) (let k = c.if-stripe-len.false in omega (arith, k)) place c.in_ok-view.ensures.found c.in_ok-view.ensures.same c.args.column some below)
+    (λ some below. view_reads bytes c.deref.result.now tail opened rows n view reads (lasts ∙ same) there place c.in_ok-view.ensures.found c.in_ok-view.ensures.same c.args.column some below)

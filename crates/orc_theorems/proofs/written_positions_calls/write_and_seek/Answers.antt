@@ -13,4 +13,6 @@ returns c =
     let same : wrote.bytes ≡ c.deref.result.now = bytes_are (Some []) (Some file.bytes.items) file.bytes.items wrote.bytes refl refl wrote.told_is ∙ sym c.deref.ensures.value in
     let is = (c.writers_positions.ensures.written c.args.options c.args.schema file.tail (Some []) (Some file.bytes.items) rows wrote).0 in
     let reads = c.writers_positions.ensures.in_files c.args.options c.args.schema file.tail (Some []) (Some file.bytes.items) rows wrote in
-    c.seek_in_file.ensures file.tail rows (subst (λ (b : List ℕ). FileIs b file.tail rows) same is) (subst (λ (b : List ℕ). ReadsOneRun b file.tail rows) same reads)
+    record {
+      one_run = c.seek_in_file.ensures file.tail rows (subst (λ (b : List ℕ). FileIs b file.tail rows) same is) (subst (λ (b : List ℕ). ReadsOneRun b file.tail rows) same reads);
+    }
