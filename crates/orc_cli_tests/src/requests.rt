@@ -102,88 +102,74 @@ fn check_answer(
     check_made(rt, &place, made);
 }
 
-/// Requests that make no file, the answer, and what is printed.
-static PRINTED: [(Request<'static, 'static>, Result<Outcome, Ending>, &str); 13] = [
-    (
-        Request::Ints {
+/// A request that makes no file: no table can hold the options of one that does.
+#[derive(Clone, Copy)]
+enum Printing {
+    Ints(&'static str),
+    Rows(&'static str, Option<&'static str>),
+    Show(&'static str),
+    Check(&'static str),
+}
+
+/// The request, with unsigned integers of version 1.
+fn request_of(printing: Printing) -> Request<'static, 'static> {
+    match printing {
+        Printing::Ints(hex) => Request::Ints {
             rle: Rle::One,
             sign: Sign::Unsigned,
-            hex: "01ff64",
+            hex,
         },
+        Printing::Rows(file, from) => Request::Rows { file, from },
+        Printing::Show(file) => Request::Show { file },
+        Printing::Check(file) => Request::Check { file },
+    }
+}
+
+const NO_ORC: Ending = Ending::Refused(Refusal::Fault(CliFault::File(FileFault::NotOrc)));
+
+const NO_HEX: Ending = Ending::Refused(Refusal::Fault(CliFault::Json(JsonFault::BadHex)));
+
+const NO_PLACE: Ending = Ending::Refused(Refusal::Fault(CliFault::Json(JsonFault::Syntax)));
+
+/// Requests that make no file, the answer, and what is printed.
+static PRINTED: [(Printing, Result<Outcome, Ending>, &str); 13] = [
+    (
+        Printing::Ints("01ff64"),
         Ok(Outcome::Done),
         "100 99 98 97\n",
     ),
+    (Printing::Ints("0"), Err(NO_HEX), ""),
     (
-        Request::Ints {
-            rle: Rle::One,
-            sign: Sign::Unsigned,
-            hex: "0",
-        },
-        Err(Ending::Refused(Refusal::Fault(CliFault::Json(JsonFault::BadHex)))),
-        "",
-    ),
-    (
-        Request::Rows {
-            file: "sevens",
-            from: None,
-        },
+        Printing::Rows("sevens", None),
         Ok(Outcome::Done),
         "{\"n\":7}\n{\"n\":7}\n{\"n\":7}\n",
     ),
+    (Printing::Rows("sevens", Some("x")), Err(NO_PLACE), ""),
+    (Printing::Rows("absent", None), Err(NOT_FOUND), ""),
+    (Printing::Rows("absent", Some("x")), Err(NOT_FOUND), ""),
     (
-        Request::Rows {
-            file: "sevens",
-            from: Some("x"),
-        },
-        Err(Ending::Refused(Refusal::Fault(CliFault::Json(JsonFault::Syntax)))),
-        "",
-    ),
-    (
-        Request::Rows {
-            file: "absent",
-            from: None,
-        },
-        Err(NOT_FOUND),
-        "",
-    ),
-    (
-        Request::Rows {
-            file: "absent",
-            from: Some("x"),
-        },
-        Err(NOT_FOUND),
-        "",
-    ),
-    (
-        Request::Show { file: "none" },
+        Printing::Show("none"),
         Ok(Outcome::Done),
         "schema struct<n:bigint>\nversion 0.11\nwriter 99 6\nrows 0\nstride 0\n\
         column 0 count 0 nulls no\ncolumn 1 count 0 nulls no\n",
     ),
+    (Printing::Show("front"), Err(NO_ORC), ""),
+    (Printing::Show("absent"), Err(NOT_FOUND), ""),
+    (Printing::Check("sevens"), Ok(Outcome::Done), ""),
     (
-        Request::Show { file: "front" },
-        Err(Ending::Refused(Refusal::Fault(CliFault::File(FileFault::NotOrc)))),
-        "",
-    ),
-    (Request::Show { file: "absent" }, Err(NOT_FOUND), ""),
-    (Request::Check { file: "sevens" }, Ok(Outcome::Done), ""),
-    (
-        Request::Check { file: "wrong" },
+        Printing::Check("wrong"),
         Ok(Outcome::Found),
         "StripeStatistic 0 1\n",
     ),
-    (
-        Request::Check { file: "front" },
-        Err(Ending::Refused(Refusal::Fault(CliFault::File(FileFault::NotOrc)))),
-        "",
-    ),
-    (Request::Check { file: "absent" }, Err(NOT_FOUND), ""),
+    (Printing::Check("front"), Err(NO_ORC), ""),
+    (Printing::Check("absent"), Err(NOT_FOUND), ""),
 ];
 
 #[test]
 fn what_is_printed(rt: HostRuntime) {
-    for (request, wanted, printed) in &PRINTED {
-        check_answer(&rt, rt.alloc(), *request, *wanted, printed.as_bytes(), None);
+    for (printing, wanted, printed) in &PRINTED {
+        let request = request_of(*printing);
+        check_answer(&rt, rt.alloc(), request, *wanted, printed.as_bytes(), None);
     }
 }
 
