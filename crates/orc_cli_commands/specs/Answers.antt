@@ -16,7 +16,7 @@ use Rattle.orc_merge.specs.declared.fault.MergeFault.TheVariants.{WriteFailed as
 use Rattle.orc_cli_commands.specs.declared.ending.Ending.{Ending}
 use Rattle.orc_cli_commands.specs.declared.ending.Ending.TheVariants.{Refused, NotMerged}
 use Rattle.orc_cli_commands.specs.declared.outcome.Outcome.{Outcome}
-use Rattle.orc_cli_commands.specs.Places.{Finds, Makes, HasFailed, HasFailedAt}
+use Rattle.orc_cli_commands.specs.Places.{Finds, Makes, CanFail, CanFailAt}
 use Rattle.orc_cli_commands.specs.Commands.{AnswersInts, AnswersRows, AnswersShow, AnswersCheck, AnswersWrite, AnswersMerge}
 
 -- it ends as the command does
@@ -76,7 +76,7 @@ module _ (told : List ℕ → Option (List ℕ)) (lacks : List ℕ → Type 0) w
     abbrev pub AnswersWriting : List ℕ → Options → List ℕ → List ℕ → Type 0
     AnswersWriting schema options from to = Finds (lacks from) (told from)
         (AnswersMaking to (IsRefusedAs result write_failed)
-        (λ first. Ends (AnswersWrite schema options (told from) (HasFailed input_failures) (HasFailed output_failures)
+        (λ first. Ends (AnswersWrite schema options (told from) (CanFail input_failures) (CanFail output_failures)
         first (made to)) result))
         (unmade × (IsRefusedAs result (File file.SourceFailed) ⊎ IsRefusedAs result (File file.OutOfMemory)))
 
@@ -84,7 +84,7 @@ module _ (told : List ℕ → Option (List ℕ)) (lacks : List ℕ → Type 0) w
     abbrev pub AnswersJoining : List ℕ → List (List ℕ) → Type 0
     AnswersJoining to paths = FindsAll lacks told paths
         (AnswersMaking to (result ≡ Err (NotMerged MergeWriteFailed))
-        (λ first. EndsMerge (AnswersMerge (map told paths) (HasFailedAt input_failures) (HasFailed output_failures)
+        (λ first. EndsMerge (AnswersMerge (map told paths) (CanFailAt input_failures) (CanFail output_failures)
         first (made to)) result))
         (λ fault. unmade × IsRefusedAs result fault)
 
@@ -95,11 +95,11 @@ abbrev pub Answers : {I L O : Type 0} → (List ℕ → Option (List ℕ)) → (
 Answers told lacks made unmade input lines output old new result (Ints rle sign hex) =
     unmade × Ends (AnswersInts rle sign hex.now old new) result
 Answers told lacks made unmade input lines output old new result (Rows path from) =
-    unmade × AnswersFile told lacks old new result path.now (AnswersRows (told path.now) from (HasFailed input) old new)
+    unmade × AnswersFile told lacks old new result path.now (AnswersRows (told path.now) from (CanFail input) old new)
 Answers told lacks made unmade input lines output old new result (Show path) =
-    unmade × AnswersFile told lacks old new result path.now (AnswersShow (told path.now) (HasFailed input) old new)
+    unmade × AnswersFile told lacks old new result path.now (AnswersShow (told path.now) (CanFail input) old new)
 Answers told lacks made unmade input lines output old new result (Check path) =
-    unmade × AnswersFile told lacks old new result path.now (AnswersCheck (told path.now) (HasFailed input) old new)
+    unmade × AnswersFile told lacks old new result path.now (AnswersCheck (told path.now) (CanFail input) old new)
 Answers told lacks made unmade input lines output old new result (Write schema options from to) =
     Keeps old new × AnswersWriting told lacks made unmade lines output result schema.now options from.now to.now
 Answers told lacks made unmade input lines output old new result (Merge to paths) =

@@ -57,7 +57,7 @@ pub record AnswersInts (rle : Rle) (sign : Sign) (text : List ℕ) (old new : Op
       → AppendsPart old new (number_line values)
   pub nothing : IfErr result (λ e. e ≢ write_failed → Keeps old new)
 
--- `rows` of a file that was found, from the place on that a text names; `failed` is that the source has
+-- `rows` of a file that was found, from the place on that a text names; `failed` is that sources of its kind can fail
 pub record AnswersRows (told : Option (List ℕ)) (from : Option (Bor (List ℕ))) (failed : Type 0)
     (old new : Option (List ℕ)) (result : Result Outcome CliFault) : Type 0 where
   pub done : IsDone result

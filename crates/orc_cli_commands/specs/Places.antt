@@ -15,12 +15,12 @@ made_at (Some file) path = if bytes_eq file.0.now path then Some file.1.items el
 
 -- Devices of this kind can fail: of two moments of one, or of two of them, the counts differ. One that never fails, as a
 -- source in memory, counts none at any moment.
-abbrev pub HasFailed : {D : Type 0} → (D → ℕ) → Type 0
-HasFailed {D} failures = (before : D) × (after : D) × (failures before < failures after)
+abbrev pub CanFail : {D : Type 0} → (D → ℕ) → Type 0
+CanFail {D} failures = (before : D) × (after : D) × (failures before < failures after)
 
 -- the one with this number among some has
-abbrev pub HasFailedAt : {D : Type 0} → (D → ℕ) → ℕ → Type 0
-HasFailedAt {D} failures i =
+abbrev pub CanFailAt : {D : Type 0} → (D → ℕ) → ℕ → Type 0
+CanFailAt {D} failures i =
     (before : List D) × (after : List D) × (slice_index (map failures before) i < slice_index (map failures after) i)
 
 -- A file is found, and this holds; or it isn't, and that does. One whose bytes are told is found, and one that the

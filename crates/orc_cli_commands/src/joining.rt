@@ -3,7 +3,7 @@ ghost use Rattle.std.specs.Prelude.{◌≡◌, ◌≢◌, List, ℕ, map, Some, 
 ghost use Rattle.std.specs.List.{All, Any};
 ghost use Rattle.orc_file.specs.declared.fault.FileFault.TheVariants as file;
 ghost use Rattle.orc_cli_output.specs.declared.fault.CliFault.TheVariants.{File};
-ghost use Rattle.orc_cli_commands.specs.Places.{HasFailed, HasFailedAt};
+ghost use Rattle.orc_cli_commands.specs.Places.{CanFail, CanFailAt};
 ghost use Rattle.orc_cli_commands.specs.Commands.{AnswersMerge};
 ghost use Rattle.orc_cli_commands.specs.Answers.{AnswersJoining};
 
@@ -44,7 +44,7 @@ fn join<I: Source, O: Sink>(
     sources: &mut [I],
     out: &mut O,
 ) -> Result<Outcome, MergeFault>
-    ensures { AnswersMerge (map I.told sources.old) (HasFailedAt I.failures) (HasFailed O.failures)
+    ensures { AnswersMerge (map I.told sources.old) (CanFailAt I.failures) (CanFail O.failures)
         (O.told out.old) (O.told out.new) result }
 {
     merge(alloc, sources, out)?;

@@ -1,6 +1,6 @@
 //! The commands that print: what is asked of a stream of integers, or of one file.
 ghost use Rattle.std.specs.Prelude.{◌≡◌, List, ℕ};
-ghost use Rattle.orc_cli_commands.specs.Places.{HasFailed};
+ghost use Rattle.orc_cli_commands.specs.Places.{CanFail};
 ghost use Rattle.orc_cli_commands.specs.Commands.{AnswersInts, AnswersRows, AnswersShow, AnswersCheck};
 ghost use Rattle.orc_cli_commands.specs.Answers.{Ends, AnswersFile};
 
@@ -40,7 +40,7 @@ fn print_rows<S: Source + Drop, W: Write>(
     from: Option<&str>,
     out: &mut W,
 ) -> Result<Outcome, CliFault>
-    ensures { AnswersRows (S.told source) from.entry (HasFailed S.failures)
+    ensures { AnswersRows (S.told source) from.entry (CanFail S.failures)
         (W.contents out.old) (W.contents out.new) result }
 {
     match rows_to(alloc, source, from, out) {
@@ -55,7 +55,7 @@ fn print_outline<S: Source + Drop, W: Write>(
     source: S,
     out: &mut W,
 ) -> Result<Outcome, CliFault>
-    ensures { AnswersShow (S.told source) (HasFailed S.failures) (W.contents out.old) (W.contents out.new) result }
+    ensures { AnswersShow (S.told source) (CanFail S.failures) (W.contents out.old) (W.contents out.new) result }
 {
     match show_to(alloc, source, out) {
         Ok(_) => Ok(Outcome::Done),
@@ -69,7 +69,7 @@ fn print_findings<S: Source + Drop, W: Write>(
     source: S,
     out: &mut W,
 ) -> Result<Outcome, CliFault>
-    ensures { AnswersCheck (S.told source) (HasFailed S.failures) (W.contents out.old) (W.contents out.new) result }
+    ensures { AnswersCheck (S.told source) (CanFail S.failures) (W.contents out.old) (W.contents out.new) result }
 {
     match check_to(alloc, source, out) {
         Ok((findings, _)) => Ok(Outcome::of_findings(findings)),
@@ -86,7 +86,7 @@ pub(crate) fn print_rows_at<'a, P: Place<'a>, W: Write>(
     out: &mut W,
 ) -> Result<Outcome, Ending>
     ensures { AnswersFile (P.told place.now) (P.lacks place.now) (W.contents out.old) (W.contents out.new)
-        result path.now (AnswersRows (P.told place.now path.now) from.entry (HasFailed P.Input.failures)
+        result path.now (AnswersRows (P.told place.now path.now) from.entry (CanFail P.Input.failures)
         (W.contents out.old) (W.contents out.new)) }
 {
     let source = place.open(path)?;
@@ -101,7 +101,7 @@ pub(crate) fn print_outline_at<'a, P: Place<'a>, W: Write>(
     out: &mut W,
 ) -> Result<Outcome, Ending>
     ensures { AnswersFile (P.told place.now) (P.lacks place.now) (W.contents out.old) (W.contents out.new)
-        result path.now (AnswersShow (P.told place.now path.now) (HasFailed P.Input.failures)
+        result path.now (AnswersShow (P.told place.now path.now) (CanFail P.Input.failures)
         (W.contents out.old) (W.contents out.new)) }
 {
     let source = place.open(path)?;
@@ -116,7 +116,7 @@ pub(crate) fn print_findings_at<'a, P: Place<'a>, W: Write>(
     out: &mut W,
 ) -> Result<Outcome, Ending>
     ensures { AnswersFile (P.told place.now) (P.lacks place.now) (W.contents out.old) (W.contents out.new)
-        result path.now (AnswersCheck (P.told place.now path.now) (HasFailed P.Input.failures)
+        result path.now (AnswersCheck (P.told place.now path.now) (CanFail P.Input.failures)
         (W.contents out.old) (W.contents out.new)) }
 {
     let source = place.open(path)?;

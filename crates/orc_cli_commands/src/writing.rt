@@ -1,6 +1,6 @@
 //! The command that writes a file of lines.
 ghost use Rattle.std.specs.Prelude.{◌≡◌, ◌≢◌, List, ℕ};
-ghost use Rattle.orc_cli_commands.specs.Places.{HasFailed};
+ghost use Rattle.orc_cli_commands.specs.Places.{CanFail};
 ghost use Rattle.orc_cli_commands.specs.Commands.{AnswersWrite};
 ghost use Rattle.orc_cli_commands.specs.Answers.{AnswersWriting};
 
@@ -21,7 +21,7 @@ fn write_rows<L: LineReader, O: Sink>(
     lines: &mut L,
     out: O,
 ) -> (Result<Outcome, CliFault>, O)
-    ensures { AnswersWrite schema.now options (L.remaining lines.old) (HasFailed L.failures) (HasFailed O.failures)
+    ensures { AnswersWrite schema.now options (L.remaining lines.old) (CanFail L.failures) (CanFail O.failures)
         (O.told out) (O.told result.1) result.0 }
 {
     match write_lines(alloc, schema, options, lines, out) {

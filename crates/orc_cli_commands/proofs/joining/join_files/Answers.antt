@@ -1,6 +1,6 @@
 use Rattle.std.proofs.Common.{◌≡◌, ◌∙◌, ℕ, List, [], Bor, Some, Ok, Err, IsSome, map, ap, inl, inr, refl, sym}
 use Rattle.std.specs.List.{Any}
-use Rattle.orc_cli_commands.specs.Places.{HasFailed, HasFailedAt}
+use Rattle.orc_cli_commands.specs.Places.{CanFail, CanFailAt}
 use Rattle.orc_cli_commands.proofs.PlaceLemmas.{merge_of}
 use Rattle.orc_cli_commands.proofs.joining.join_files.Goals as goal
 
@@ -12,7 +12,7 @@ returns-in-Ok-joined-clause-answered g c =
     let there : IsSome (g.P.Place.told c.args.place.now c.args.output.now) → ⊥ = λ some. let e = c.in_ok-out.ensures.there some in cc in
     let starts : g.P.Place.lacks c.args.place.now c.args.output.now → output ≡ Some [] = λ lacks. (c.in_ok-out.ensures.made lacks).0 in
     let inputs = ap (map g.P.Input.Source.told) c.deref_mut.ensures.value ∙ c.in_ok-sources.ensures.told in
-    let said = merge_of (HasFailedAt g.P.Input.Source.failures) (HasFailed g.P.Output.Sink.failures) output _ _ _ _ _ (Ok c.in-Ok-joined.outcome)
+    let said = merge_of (CanFailAt g.P.Input.Source.failures) (CanFail g.P.Output.Sink.failures) output _ _ _ _ _ (Ok c.in-Ok-joined.outcome)
     inputs (sym c.in-Ok.ensures.made) refl c.in-Ok-joined.ensures in
     inl (found, inl (there, (output, starts, inl said)))
 
@@ -24,7 +24,7 @@ returns-in-Ok-clause-answered g c =
     let there : IsSome (g.P.Place.told c.args.place.now c.args.output.now) → ⊥ = λ some. let e = c.in_ok-out.ensures.there some in cc in
     let starts : g.P.Place.lacks c.args.place.now c.args.output.now → output ≡ Some [] = λ lacks. (c.in_ok-out.ensures.made lacks).0 in
     let inputs = ap (map g.P.Input.Source.told) c.deref_mut.ensures.value ∙ c.in_ok-sources.ensures.told in
-    let said = merge_of (HasFailedAt g.P.Input.Source.failures) (HasFailed g.P.Output.Sink.failures) output _ _ _ _ _ (Err c.in-Err-joined.fault)
+    let said = merge_of (CanFailAt g.P.Input.Source.failures) (CanFail g.P.Output.Sink.failures) output _ _ _ _ _ (Err c.in-Err-joined.fault)
     inputs (sym c.in-Ok.ensures.made) refl c.in-Err-joined.ensures in
     inl (found, inl (there, (output, starts, inl said)))
 
