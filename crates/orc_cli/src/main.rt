@@ -53,9 +53,9 @@ fn run<R: Env + Files<File = File> + AllocGlobal + Print + Eprint>(
 
 /// Answers one request over the files of the system, on the standard output. What was printed before a refusal goes out
 /// before it is told; where it doesn't, that is the refusal.
-fn answer<'a, R: Files<File = File> + AllocGlobal + Print>(
-    rt: &'a R,
-    request: Request<'_, 'a>,
+fn answer<R: Files<File = File> + AllocGlobal + Print>(
+    rt: &R,
+    request: Request<'_, '_>,
 ) -> Result<Outcome, Ending> {
     let mut out = with_buffer(rt.alloc(), io::writer(rt))?;
     let answered = answer_to(rt.alloc(), &mut SystemPlace::new(rt), request, &mut out);
