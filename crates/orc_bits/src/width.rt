@@ -12,6 +12,7 @@ pub struct Width {
 
 /// The width of a header's five bits, which are below 32; `None` for every other number.
 pub fn width_of(code: u8) -> Option<Width>
+    // Each number below 32 names a width, and no other number does.
     ensures { MatchOption result (32 ≤ code) (λ width. width.code ≡ code) }
 {
     if code < 32 {
@@ -23,6 +24,7 @@ pub fn width_of(code: u8) -> Option<Width>
 
 /// The number below 32 by which a header names a width: the one that `width_of` takes.
 pub fn code_of(width: Width) -> u8
+    // What is answered is the number that names the width, which is below 32.
     ensures is { result ≡ width.code }
     ensures below { result < 32 }
 {
@@ -33,6 +35,8 @@ pub fn code_of(width: Width) -> u8
 /// 0 digits it is that of one digit.
 pub fn fixed_at_least(digits: u32) -> Width
     requires { digits ≤ 64 }
+    // Where at most 64 digits are asked for, the least width with room for them is answered, and
+    // that of 1 digit for none.
     ensures { IsLeastWidth digits result.code }
 {
     let code = match digits {
@@ -47,6 +51,7 @@ pub fn fixed_at_least(digits: u32) -> Width
 impl Width {
     /// The number of digits, from 1 to 64.
     pub fn digits(self) -> u32
+        // A width has the digits that the format's table gives it, from 1 to 64.
         ensures is { result ≡ width_at self.code }
         ensures some { 1 ≤ result }
         ensures most { result ≤ 64 }
@@ -63,6 +68,8 @@ impl Width {
 /// Laws of widths: no two codes have one width, so there is one least width with room for so many
 /// digits.
 pub fn width_laws()
+    // No two numbers below 32 name one width.
     ensures one_code { (a b : ℕ) → a < 32 → b < 32 → width_at a ≡ width_at b → a ≡ b }
+    // There is one least width with room for so many digits.
     ensures one_least { (digits a b : ℕ) → IsLeastWidth digits a → IsLeastWidth digits b → a ≡ b }
 {}

@@ -75,17 +75,27 @@ fn check_tail<S: Source>(
 /// why; `SourceFailed`, and no other, where the source failed; `OutOfMemory`. But for the last two the bytes
 /// are no file of any rows.
 pub fn check<S: Source>(alloc: Global, source: &mut S) -> Result<Vec<Finding>, FileFault>
+    // Where the source tells its bytes, they are a file of rows, and the findings that are answered
+    // are all the file's, in order, and no others.
     ensures found { IfOk result (λ found. IfSome (S.told source.old)
         (λ bytes. (tail : Tail) × (rows : List Cell) × FileIs bytes tail rows
         × Findings bytes tail rows found.items)) }
+    // Where the source tells its bytes and they are a file of rows, its findings are answered,
+    // unless memory is refused or the source fails.
     ensures only { IfSome (S.told source.old) (λ bytes. (tail : Tail) (rows : List Cell) → FileIs bytes tail rows
         → MatchResult result
         (λ answered. Findings bytes tail rows answered.items)
         (λ fault. (fault ≡ OutOfMemory) ⊎ (fault ≡ SourceFailed))) }
+    // The source tells afterwards what it told, and is as long.
     ensures size { S.size source.new ≡ S.size source.old }
     ensures told { S.told source.new ≡ S.told source.old }
+    // Where the source tells its bytes, a refusal is SourceFailed, want of memory, or stands: that
+    // of opening, or of the first stripe that has no rows, with its number and why.
     ensures fault { IfErr result (λ fault. ReadFault (S.told source.old) fault (λ bytes. CheckFault bytes fault)) }
+    // Whatever is told, a refusal is SourceFailed, one that a tail may have, want of memory, or
+    // Stripe with a number below 65,536 and a reason for which bytes are no stripe.
     ensures named { IfErr result (λ fault. (fault ≡ SourceFailed) ⊎ IsOfCheck fault) }
+    // The source's count of failures rose where the refusal is SourceFailed, and nowhere else.
     ensures kept { OnOk result (S.failures source.new ≡ S.failures source.old) }
     ensures failed { IsErrOf result SourceFailed → S.failures source.old < S.failures source.new }
     ensures unfailed { IfErr result (λ fault. (fault ≡ SourceFailed)

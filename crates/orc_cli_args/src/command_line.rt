@@ -47,6 +47,7 @@ impl From<CliFault> for Refusal {
 
 /// The words that the program was started with, its own name first.
 pub fn words_of<R: Env + AllocGlobal + Eprint>(rt: &R) -> Result<Vec<String>, Refusal>
+    // A refusal is NotUnderstood or want of memory, and no other.
     ensures { IfErr result (λ refusal. (refusal ≡ NotUnderstood) ⊎ (refusal ≡ Fault (File file.OutOfMemory))) }
 {
     let words = match env::args(rt) {
@@ -71,7 +72,11 @@ pub fn read_words<'a, R: AllocGlobal + Print + Eprint>(
     rt: &R,
     words: &'a [String],
 ) -> Result<Asked<'a>, Refusal>
+    // Words that are answered ask for a request, as the parser found it, or for a text, which is
+    // help or the version.
     ensures asked { IfOk result (IsAskedIn (map (λ word. string_bytes word) words.entry.now)) }
+    // Words that are refused as NotUnderstood have a fault that is no text; else there was no
+    // memory, or they ask for a text and the refusal is WriteFailed.
     ensures refused { IfErr result (IsNotAskedIn (map (λ word. string_bytes word) words.entry.now)) }
 {
     let error = match matches_of(rt.alloc(), words) {
@@ -91,9 +96,17 @@ pub fn read_words<'a, R: AllocGlobal + Print + Eprint>(
     }
 }
 
-/// What the parser finds in the words, or a fault that they have. Want of memory is one of the parser's faults.
+/// What the parser finds in the words, or a fault that they have. Want of memory is one of the
+/// parser's faults.
+///
+/// The parser's table has the six commands, of each its arguments, and which of them are needed;
+/// the words that `--rle` and `--sign` take; the ranges of the numbers of `--stride` and
+/// `--stripe-rows`; and of `merge` any number of inputs.
 pub fn matches_of<'a, S: AsStr>(alloc: Global, words: &'a [S]) -> Result<ArgMatches<'a>, Error>
+    // What is found is what the parser's table gives: the program's and the command's arguments,
+    // with their values in order, and the words have no fault by it.
     ensures found { IfOk result (IsFound (map S.text words.entry.now)) }
+    // A refusal is want of memory, or of a kind of fault that the words have by that table.
     ensures refused { IfErr result (λ error. (kind_of error ≡ kind.OutOfMemory)
         ⊎ HasFault (map S.text words.entry.now) (kind_of error)) }
 {

@@ -14,7 +14,9 @@ pub fn source_of<'a, R: Files<File = File>>(
     rt: &'a R,
     path: &'a str,
 ) -> Result<FileSource<'a, R>, CliFault>
+    // The source is of the path that was given.
     ensures path { IfOk result (λ source. source.path.now ≡ path.now) }
+    // The one refusal is SourceFailed.
     ensures fault { IfErr result (λ fault. fault ≡ FileFaulted SourceFailed) }
 {
     match FileSource::open(rt, path) {
@@ -32,8 +34,10 @@ fn as_new_file() -> OpenOptions
     options
 }
 
-/// A new file of that path.
+/// A new file of that path. It is opened as a new one, so that a file which is there isn't opened,
+/// and stays as it is.
 pub fn new_file<R: Files<File = File>>(rt: &R, path: &str) -> Result<File, CliFault>
+    // The one refusal is WriteFailed.
     ensures { IfErr result (λ fault. fault ≡ FileFaulted WriteFailed) }
 {
     match as_new_file().open(rt, path) {

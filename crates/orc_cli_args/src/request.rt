@@ -156,11 +156,17 @@ fn merge_of<'m, 'a>(found: &'m ArgMatches<'a>) -> Option<Request<'m, 'a>>
     Some(Request::Merge { output, inputs })
 }
 
-/// What the words ask for, if anything.
+/// What the words ask for, if anything. A command line with all that its command needs is
+/// understood. The numbers of `write` are decimal digits alone, with zeros in front or not and
+/// without a sign, and have to be ones that files are written with.
 pub fn request_of<'m, 'a>(matches: &'m ArgMatches<'a>) -> Option<Request<'m, 'a>>
+    // A request is one of the command that the words name.
     ensures name { IfSome result (λ request. subcommand_name_of matches.now ≡ Some (command_word request)) }
+    // Each value of a request is what the words of its own option or argument stand for.
     ensures found { IfSome result (λ request. (found : Found)
         × (option_map (λ p. p.1) (subcommand_rows_of matches.now) ≡ Some (found_rows found)) × Asks found request) }
+    // None is answered only where no command of the program is named, its words lack what it needs,
+    // or one stands for no version, sign or number that it takes.
     ensures none { IfNone result (IsNotUnderstood matches.now) }
 {
     let (name, found) = matches.subcommand()?;

@@ -47,22 +47,36 @@ pub fn check_to<S: Source, W: Write>(
     source: S,
     out: &mut W,
 ) -> Result<(usize, S), (CliFault, S)>
+    // Where the source and the output tell their bytes and it succeeds, the source's are a file of
+    // rows, a line for each of its findings is out, in order, and their number is answered.
     ensures written { IfOk result (λ done. IfSome (S.told source) (λ bytes. IsFoundOf bytes
         (λ found. (done.0 ≡ length found) × Appends (W.contents out.old) (W.contents out.new) (finding_lines found)))) }
+    // Where the source tells its bytes, and they are a file of rows, a refusal is for the output,
+    // the source or memory alone, named as a fault of the layer of files.
     ensures only { IfSome (S.told source) (λ bytes. (tail : Tail) (rows : List Cell) → FileIs bytes tail rows
         → IfErr result (λ e. (e.0 ≡ write_failed) ⊎ IsSourceOrMemory e.0)) }
+    // After success the source that is handed back tells what it told, and its count of failures
+    // didn't rise.
     ensures same { IfOk result (λ done. S.told done.1 ≡ S.told source) }
     ensures kept { IfOk result (λ done. S.failures done.1 ≡ S.failures source) }
 
+    // Where the source tells its bytes, a refusal but WriteFailed stands: they are no file, a
+    // stripe has no rows, or the source or memory refused.
     ensures refused { IfErr result (λ e. IfSome (S.told source)
         (λ bytes. e.0 ≢ write_failed → IsNotChecked bytes e.0)) }
+    // After a refusal but WriteFailed what the output tells is as it was.
     ensures nothing { IfErr result (λ e. e.0 ≢ write_failed → Keeps (W.contents out.old) (W.contents out.new)) }
+    // After WriteFailed, where the source and the output tell their bytes, a part of the lines is
+    // out, and not all of them.
     ensures part { IfErr result (λ e. e.0 ≡ write_failed → IfSome (S.told source) (λ bytes. IsFoundOf bytes
         (λ found. AppendsPart (W.contents out.old) (W.contents out.new) (finding_lines found)))) }
+    // After a refusal the source's count of failures rose just where it is SourceFailed.
     ensures failed { IfErr result (λ e. e.0 ≡ File SourceFailed → S.failures source < S.failures e.1) }
     ensures unfailed { IfErr result (λ e. (e.0 ≡ File SourceFailed) ⊎ (S.failures e.1 ≡ S.failures source)) }
     ensures memory { IfErr result (λ e. IsWantOfMemory e.0 → S.failures e.1 ≡ S.failures source) }
+    // Want of memory is that of the layer of files.
     ensures layer { IfErr result (λ e. IsWantOfMemory e.0 → IsWantOfCheck e.0) }
+    // After a refusal, too, the source that is handed back tells what it told.
     ensures back { IfErr result (λ e. S.told e.1 ≡ S.told source) }
 {
     let mut source = source;

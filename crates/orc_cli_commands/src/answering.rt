@@ -14,7 +14,39 @@ use std::io::Write;
 
 /// Answers one request over a place, and prints to this output.
 ///
-/// All files that are read are found before one is made, and an output isn't made where one is there already.
+/// All files that are read are found before one is made, and an output isn't made where one is
+/// there already. As far as the place tells of its files, and the output of its bytes:
+///
+/// - `ints`, `rows`, `show` and `check` print, and are refused for, what the call of that command
+///   says over its digits, or over the bytes of the file of that path.
+///
+/// - A file that the place tells is found, of a merge but for want of memory. One that it lacks
+///   isn't: the refusal is `SourceFailed` then, of `write` and `merge` this or want of memory, and
+///   nothing is printed. `SourceFailed` of a file that was found comes only where sources of that
+///   place can fail, and of `write` where its lines can; those in memory can't.
+///
+/// - `write` writes what `write_lines` says of the lines of the file of that path, with the
+///   request's schema and options. What was written is at the output's path then, also after a
+///   refusal, if the place lacked a file there.
+///
+/// - `merge` joins all inputs of the request, in their order, as `merge` of `orc_merge` says. What
+///   was written is at the output's path then, also after a refusal, if the place lacked a file
+///   there.
+///
+/// - What is read is found first: where the place lacks a file that `write` or `merge` reads, the
+///   output isn't made, and the place is as it was.
+///
+/// - An output that is there isn't made anew, and the place is as it was. To make it is refused as
+///   `WriteFailed`; so is the command, or for memory, where what it reads is found.
+///
+/// - A command that makes no file leaves the place as it is, and one that makes one prints nothing.
+///   No other file is made, and what the place tells of files that lay there stays.
+///
+/// - `WriteFailed` of `write` and `merge` comes only where outputs of that place can fail, if the
+///   place lacked a file at the output's path.
+///
+/// The devices of a request are made and let go while it is answered, so of them it is said only
+/// that such devices can fail at all.
 ///
 /// Refusals: those of the request's command; `File` with `SourceFailed` where a file isn't found, and with
 /// `WriteFailed` where one isn't made, or doesn't take all of its bytes, which is the merger's `WriteFailed` for a merge.
@@ -24,10 +56,15 @@ pub fn answer_to<'a, P: Place<'a>, W: Write>(
     request: Request<'_, 'a>,
     out: &mut W,
 ) -> Result<Outcome, Ending>
+    // A request is answered as its command's call says, as far as the place tells of the files;
+    // those that it reads are found before one is made, and one that is there isn't made anew.
     ensures answered { Answers (P.told place.old) (P.lacks place.old) (P.made place.new) (place.new ≡ place.old)
         P.Input.failures P.Lines.failures P.Output.failures (W.contents out.old) (W.contents out.new)
         result request.entry }
+    // What the place tells of files that lay there first stays.
     ensures stays { P.told place.new ≡ P.told place.old }
+    // Of every path but the one at which the request makes a file, the place tells the same made
+    // file as before.
     ensures others { (path : List ℕ) → (IsMadeBy request.entry path → ⊥)
         → P.made place.new path ≡ P.made place.old path }
 {

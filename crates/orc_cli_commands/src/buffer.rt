@@ -15,9 +15,11 @@ pub(crate) const BUFFER: usize = 262_144;
 
 /// The output behind a buffer. Want of memory for it is that of the layer of files.
 pub fn with_buffer<W: Write + Drop>(alloc: Global, out: W) -> Result<BufWriter<W>, CliFault>
+    // The buffer stands before the output as it is, is empty, and has room for 2^18 bytes.
     ensures output { IfOk result (λ buffered. writer_inner buffered ≡ out) }
     ensures empty { IfOk result (λ buffered. writer_buffer buffered ≡ []) }
     ensures capacity { IfOk result (λ buffered. writer_capacity buffered ≡ 2 ^ 18) }
+    // The one refusal is want of memory, as that of the layer of files.
     ensures refused { IfErr result (λ fault. fault ≡ FileFaulted OutOfMemory) }
 {
     match BufWriter::with_capacity(alloc, BUFFER, out) {
@@ -29,7 +31,10 @@ pub fn with_buffer<W: Write + Drop>(alloc: Global, out: W) -> Result<BufWriter<W
 /// Writes what the buffer still has, and hands the output back. It is refused, as `WriteFailed`, where the output
 /// doesn't take all of it, and what is left isn't tried again.
 pub fn flush_buffer<W: Write + Drop>(buffered: BufWriter<W>) -> Result<W, CliFault>
+    // Where it succeeds, and the output tells its bytes, the output has got all that the buffer was
+    // given.
     ensures all { IfOk result (λ out. Keeps (writer_contents W.contents buffered) (W.contents out)) }
+    // The one refusal is WriteFailed.
     ensures refused { IfErr result (λ fault. fault ≡ FileFaulted WriteFailed) }
 {
     match buffered.into_inner() {

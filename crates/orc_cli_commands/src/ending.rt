@@ -19,6 +19,8 @@ pub enum Ending {
 impl Ending {
     /// The program's exit status.
     pub fn status(self) -> u8
+        // The status is 2 where the words aren't understood, and 1 after a refusal of a layer or of
+        // the merger.
         ensures words { self ≡ Refused NotUnderstood → result ≡ 2 }
         ensures fault { (fault : CliFault) → self ≡ Refused (Fault fault) → result ≡ 1 }
         ensures merge { (fault : MergeFault) → self ≡ NotMerged fault → result ≡ 1 }

@@ -26,6 +26,8 @@ impl Outcome {
 
     /// The program's exit status.
     pub fn status(self) -> u8
+        // The status is 0 where all is done and nothing was found, and 3 where a checked file has
+        // findings.
         ensures done { self ≡ Done → result ≡ 0 }
         ensures found { self ≡ Found → result ≡ 3 }
     {

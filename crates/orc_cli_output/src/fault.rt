@@ -7,9 +7,10 @@ use std::alloc::AllocError;
 use thiserror::Error;
 
 /// The fault of the layer that refused. Its text is the layer, the fault's number and name in that
-/// layer, and its place where it has one; an inner layer's fault follows. Where the program itself can't
-/// open a file, write its output or get memory, that is a fault of the layer of files. Merging refuses
-/// with the merger's own fault.
+/// layer, and its place where it has one; an inner layer's fault follows. What is made of a layer's
+/// fault is that layer's, and what is made of a refusal of the allocator is want of memory of the
+/// layer of files. Where the program itself can't open a file, write its output or get memory, that
+/// is a fault of the layer of files. Merging refuses with the merger's own fault.
 #[derive(Clone, Copy, Debug, PartialEq, Eq, Error)]
 pub enum CliFault {
     /// The bytes are no stream of runs.

@@ -155,43 +155,74 @@ fn print_file<S: Source, W: Write>(
     }
 }
 
-/// Prints a line for each row of a file, in order: the row's JSON without blanks. A text such as `2:0` names a stripe
-/// and a group of it, from which on rows are printed: those of that stripe from the group's first row on, and those of
-/// all stripes behind it. What stands in the stripes before has no part in the answer. A stripe's lines are written
-/// once it is known to have rows: 8 MiB of them, and the line that passes these, are held until its end is seen; where
-/// it has more, all its columns are read first, and then its lines are written as they are made. So after a refusal in a
-/// stripe the lines of those before it stand, and no others. The bytes of one stripe and so many of its lines are held
-/// at a time; of the stripe where reading begins at a group, all of them. The source is handed back.
+/// Prints a line for each row of a file, in order: the row's JSON without blanks. A text such as
+/// `2:0`, two numbers of decimal digits alone with a colon between, each below 2^32, names a stripe
+/// and a group of it, from which on rows are printed: those of that stripe from the group's first
+/// row on, and those of all stripes behind it. What stands in the stripes before has no part in the
+/// answer. A stripe's lines are written once it is known to have rows: 8 MiB of them, and the line
+/// that passes these, are held until its end is seen; where it has more, all its columns are read
+/// first, and then its lines are written as they are made. So after a refusal in a stripe the lines
+/// of those before it stand, and no others. The bytes of one stripe and so many of its lines are
+/// held at a time; of the stripe where reading begins at a group, all of them. The source is handed
+/// back.
 ///
-/// Refusals, in this order: `Json` with `Syntax` where the text names no place, before the source is read; `File`
-/// where the bytes are no file; `File` with `BadStripe` where the stripe isn't there; then, stripe by stripe, `File`
-/// with `Stripe` where the stripe has no rows, or no such group, or isn't read from its positions on, and `Json` with
-/// `DuplicateField` where it has rows and a struct of the schema names a field twice. Beside these `File` with
-/// `WriteFailed` and a part of a stripe's lines written, `SourceFailed` where the source failed, or `OutOfMemory`,
-/// which may be `Json`'s too, for a row's text, and before which some whole lines of a good stripe may be out.
+/// Where the stripe doesn't start at the group, since positions of its entries are wrong, the lines
+/// are those of the rows of the schema that stand behind these positions, and a fault that is met
+/// there is one of the streams from them on, or `BadPosition` of the stripe where they aren't rows
+/// of the schema.
+///
+/// Refusals, in this order: `Json` with `Syntax` where the text names no place, before the source
+/// is read; `File` where the bytes are no file; `File` with `BadStripe` where the stripe isn't
+/// there; then, stripe by stripe, `File` with `Stripe` where the stripe has no rows, or no such
+/// group, or isn't read from its positions on, and `Json` with `DuplicateField` where it has rows
+/// and a struct of the schema names a field twice. Beside these `File` with `WriteFailed` and a
+/// part of a stripe's lines written, `SourceFailed` where the source failed, or `OutOfMemory`,
+/// which may be `Json`'s too, for a row's text, and before which some whole lines of a good stripe
+/// may be out.
+///
+/// After a refusal from a group on nothing is out where the file isn't opened, the stripe isn't
+/// there or isn't read from the group on, its rows there have no JSON, or the source or memory
+/// failed there; a part of its lines from the group on where the output failed; or all of these,
+/// and behind them what is out where a later stripe is refused.
 pub fn rows_to<S: Source, W: Write>(
     alloc: Global,
     source: S,
     from: Option<&str>,
     out: &mut W,
 ) -> Result<S, (CliFault, S)>
+    // Where the source and the output tell their bytes and it succeeds, the lines of the file's
+    // rows are out, in order, and nothing else. Where a group is asked for, they are those of the
+    // rows behind its positions, which are the stripe's from there on where the positions are
+    // right, and of the stripes behind.
     ensures written { OnOk result (IfSome (S.told source) (λ bytes. (start : Option Start) × IsAsked from.entry start
         × ArePrinted bytes start (W.contents out.old) (W.contents out.new))) }
+    // Where the source tells its bytes, these are a file of rows that have JSON, and no group is
+    // asked for, a refusal is for the output, the source or memory alone.
     ensures only { from.entry ≡ None → IfSome (S.told source) (λ bytes. (tail : Tail) (rows : List Cell)
         → FileIs bytes tail rows → HaveJson tail.schema rows
         → IfErr result (λ e. IsOutsideFile e.0)) }
+    // After success the source that is handed back tells what it told, and its count of failures
+    // didn't rise.
     ensures same { IfOk result (λ back. S.told back ≡ S.told source) }
     ensures kept { IfOk result (λ back. S.failures back ≡ S.failures source) }
 
+    // Where the source and the output tell their bytes, a refusal stands; out are the lines of the
+    // stripes before the one that is refused, and of its own a part only for the output or memory.
     ensures refused { IfErr result (λ e. IfSome (S.told source)
         (λ bytes. Refuses bytes from.entry (W.contents out.old) (W.contents out.new) e.0)) }
+    // A text that names no stripe and group is refused as Syntax, whatever the source holds, whose
+    // count of failures stays, and what the output tells is as it was.
     ensures unread { ((start : Option Start) → IsAsked from.entry start → ⊥)
         → MatchResult result (λ _. ⊥) (λ e. IsNotAsked from.entry e.0
         × (S.failures e.1 ≡ S.failures source)
         × Keeps (W.contents out.old) (W.contents out.new)) }
+    // Where the refusal is SourceFailed, the source's count of failures rose.
     ensures failed { IfErr result (λ e. e.0 ≡ File SourceFailed → S.failures source < S.failures e.1) }
+    // Where memory ran out, that count didn't rise.
     ensures memory { IfErr result (λ e. IsWantOfMemory e.0 → S.failures e.1 ≡ S.failures source) }
+    // After a refusal, too, the source that is handed back tells what it told.
     ensures back { IfErr result (λ e. S.told e.1 ≡ S.told source) }
+    // Want of memory is that of the layer of JSON, for a row's text, or of that of files.
     ensures layer { IfErr result (λ e. IsWantOfMemory e.0 → IsWantOfRows e.0) }
 {
     match asked_of(from) {

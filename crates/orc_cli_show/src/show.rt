@@ -294,21 +294,36 @@ pub fn show_to<S: Source, W: Write>(
     source: S,
     out: &mut W,
 ) -> Result<S, (CliFault, S)>
+    // Where the source and the output tell their bytes and it succeeds, the source's are a file,
+    // and the lines of what its tail says are out, in order, and nothing else.
     ensures written { OnOk result (IfSome (S.told source) (λ bytes. (tail : Tail) × IsTail bytes tail
         × Appends (W.contents out.old) (W.contents out.new) (spec.show_lines tail))) }
+    // Where the source tells its bytes, and they are a file, a refusal is for the output, the
+    // source or memory alone.
     ensures only { IfSome (S.told source) (λ bytes. (tail : Tail) → IsTail bytes tail
         → IfErr result (λ e. IsOutsideFile e.0)) }
+    // After success the source that is handed back tells what it told, and its count of failures
+    // didn't rise.
     ensures same { IfOk result (λ back. S.told back ≡ S.told source) }
     ensures kept { IfOk result (λ back. S.failures back ≡ S.failures source) }
 
+    // Where the source tells its bytes, a refusal but WriteFailed stands: the bytes have the fault
+    // of the first test that fails, or the source or memory refused.
     ensures refused { IfErr result (λ e. IfSome (S.told source) (λ bytes. e.0 ≢ write_failed → IsNotOpened bytes e.0)) }
+    // After a refusal but WriteFailed what the output tells is as it was.
     ensures nothing { IfErr result (λ e. e.0 ≢ write_failed → Keeps (W.contents out.old) (W.contents out.new)) }
+    // After WriteFailed, where the source and the output tell their bytes, a part of the lines is
+    // out, and not all of them.
     ensures part { IfErr result (λ e. e.0 ≡ write_failed → IfSome (S.told source)
         (λ bytes. (tail : Tail) × IsTail bytes tail
         × AppendsPart (W.contents out.old) (W.contents out.new) (spec.show_lines tail))) }
+    // Where the refusal is SourceFailed, the source's count of failures rose.
     ensures failed { IfErr result (λ e. e.0 ≡ File SourceFailed → S.failures source < S.failures e.1) }
+    // Where memory ran out, that count didn't rise.
     ensures memory { IfErr result (λ e. IsWantOfMemory e.0 → S.failures e.1 ≡ S.failures source) }
+    // Want of memory is that of the layer of types, for the schema's text, or of that of files.
     ensures layer { IfErr result (λ e. IsWantOfMemory e.0 → spec.IsWantOfShow e.0) }
+    // After a refusal, too, the source that is handed back tells what it told.
     ensures back { IfErr result (λ e. S.told e.1 ≡ S.told source) }
 {
     match OrcFile::open(alloc, source) {

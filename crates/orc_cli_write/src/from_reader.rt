@@ -64,9 +64,11 @@ fn push_read<L: LineReader, W: Sink>(
     Err(CliFault::File(FileFault::OutOfMemory))
 }
 
-/// Writes a file of the rows that lines of JSON spell, as `write_from` does, of lines that are read one after another:
-/// no more than one line of the input is held, beside what the reader itself holds, and room as long as the longest line
-/// for strings with escapes.
+/// Writes a file of the rows that lines of JSON spell, as `write_from` does, of lines that are read
+/// one after another: no more than one line of the input is held, beside what the reader itself
+/// holds, and room as long as the longest line for strings with escapes. Also of an input that
+/// tells nothing of its bytes what is written is the whole file of some rows, or after a refusal
+/// the front of one.
 ///
 /// Refusals: those of `write_from`, and `File` with `SourceFailed` where the input failed, after which it isn't asked
 /// again, and `ORC` and the full stripes of the rows before are written, and neither a last stripe nor a tail.
@@ -77,22 +79,36 @@ pub fn write_lines<L: LineReader, W: Sink>(
     lines: &mut L,
     out: W,
 ) -> Result<(Tail, W), (CliFault, W)>
+    // Where it succeeds, the text tells a schema, and an output that tells its bytes has got the
+    // whole file of rows: where the input tells its bytes, those that its lines spell, in order.
     ensures written { IfOk result (λ done. (s : Shape) × (rows : List Cell) × HasText s schema.now
         × IfSome (L.remaining lines.old) (λ bytes. AreRowsOf s bytes rows)
         × IsWhole options s done.0 (W.told out) (W.told done.1) rows) }
+    // Where the input tells its bytes, the text tells a schema and every line that isn't empty
+    // spells a row, a refusal is for a limit, the output, the input or memory alone.
     ensures only { IfSome (L.remaining lines.old) (λ bytes. (s : Shape) (rows : List Cell) → HasText s schema.now
         → AreRowsOf s bytes rows → IfErr result (λ e. IsOfWriter e.0 ⊎ (e.0 ≡ File file.SourceFailed))) }
+    // Where it succeeds, neither the input's count of failures rose nor the output's.
     ensures kept { OnOk result (L.failures lines.new ≡ L.failures lines.old) }
     ensures no_failure { IfOk result (λ done. W.failures done.1 ≡ W.failures out) }
 
+    // Where the input tells its bytes, a refusal stands as one of `write_from`, or the next line
+    // isn't read; what is out is as there, and after SourceFailed `ORC` and the full stripes alone.
     ensures refused { IfErr result (λ e.
         RefusesLines options schema.now (L.remaining lines.old) (W.told out) (W.told e.1) e.0) }
+    // Where the refusal is SourceFailed, the input's count of failures rose by exactly one: it
+    // failed, and wasn't asked again.
     ensures source { IfErr result (λ e. e.0 ≡ File file.SourceFailed
         → L.failures lines.new ≡ L.failures lines.old + 1) }
+    // After every other refusal the input's count didn't rise.
     ensures unfailed { IfErr result (λ e. (e.0 ≡ File file.SourceFailed)
         ⊎ (L.failures lines.new ≡ L.failures lines.old)) }
+    // Where the refusal is WriteFailed, the output's count of failures rose.
     ensures failed { IfErr result (λ e. e.0 ≡ write_failed → W.failures out < W.failures e.1) }
+    // Where memory ran out, the output's count didn't rise.
     ensures memory { IfErr result (λ e. IsWantOfMemory e.0 → W.failures e.1 ≡ W.failures out) }
+    // Want of memory is that of the layer of types, and then nothing is out, of that of JSON, or of
+    // that of files.
     ensures layer { IfErr result (λ e. IsWantOfMemory e.0 → IsWantOfWrite (W.told out) (W.told e.1) e.0) }
 {
     let schema = match Schema::parse(alloc, schema) {

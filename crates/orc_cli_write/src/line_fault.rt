@@ -3,7 +3,8 @@
 use orc_cli_output::CliFault;
 use orc_file::FileFault;
 
-/// Why the next line isn't there.
+/// Why the next line isn't there. A command tells it as a fault of the layer of files:
+/// `SourceFailed` where reading failed, and want of memory else.
 #[derive(Clone, Copy, Debug, PartialEq, Eq)]
 pub enum LineFault {
     /// Reading failed.

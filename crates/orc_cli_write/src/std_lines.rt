@@ -18,6 +18,7 @@ pub struct StdLines<I: BufRead> {
 impl<I: BufRead> StdLines<I> {
     /// The lines that are still to come from this reader.
     pub fn new(input: I) -> StdLines<I>
+        // The lines begin with their reader as it is, and no failure is counted yet.
         ensures input { result.input ≡ input }
         ensures fresh { result.failures ≡ 0 }
     {

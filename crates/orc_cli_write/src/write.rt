@@ -100,11 +100,13 @@ fn push_lines<W: Sink>(alloc: Global, input: &[u8], writer: &mut Writer<W>) -> R
 /// may have no end, and empty lines are skipped. The schema is read first. The output comes back with the
 /// file's tail, or with a refusal.
 ///
-/// Refusals: `Types` where the schema's text tells none, with nothing written; `Json` where a line spells no
-/// row, `Syntax` where it isn't UTF-8 or no JSON, after which `ORC` and the full stripes of the rows before
-/// are written, and neither a last stripe nor a tail; `File` with `WriteFailed`, `Limit` or `OutOfMemory`, as
-/// the writer refuses. For want of memory `OutOfMemory` of the schema's layer, with nothing written, of the line's, or
-/// of the writer's.
+/// Refusals: `Types` where the schema's text tells none, with nothing written; `Json` where a line
+/// spells no row, `Syntax` where it isn't UTF-8 or no JSON, after which `ORC` and the full stripes
+/// of the rows before are written, and neither a last stripe nor a tail; `File` with `WriteFailed`,
+/// `Limit` or `OutOfMemory`, as the writer refuses: `Limit` only where a file of the rows that it
+/// was given passes a limit, of stripes, of rows, of a column's cells in a stripe, or of the
+/// stripes' bytes, and what is out is the front of a file of some of these rows. For want of memory
+/// `OutOfMemory` of the schema's layer, with nothing written, of the line's, or of the writer's.
 pub fn write_from<W: Sink>(
     alloc: Global,
     schema: &str,
@@ -112,16 +114,27 @@ pub fn write_from<W: Sink>(
     input: &[u8],
     out: W,
 ) -> Result<(Tail, W), (CliFault, W)>
+    // Where it succeeds, the text tells a schema, and an output that tells its bytes has got the
+    // whole file of the rows that the lines spell, in order, whose tail is handed back.
     ensures written { IfOk result (λ done. (s : Shape) × (rows : List Cell)
         × HasText s schema.now × AreRowsOf s input.now rows
         × IsWhole options s done.0 (W.told out) (W.told done.1) rows) }
+    // Where the text tells a schema and every line that isn't empty spells a row of it, a refusal
+    // is for a limit, the output or memory alone.
     ensures only { (s : Shape) (rows : List Cell) → HasText s schema.now → AreRowsOf s input.now rows
         → IfErr result (λ e. IsOfWriter e.0) }
+    // Where it succeeds, the output's count of failures didn't rise.
     ensures no_failure { IfOk result (λ done. W.failures done.1 ≡ W.failures out) }
 
+    // A refusal stands: Types of the text, with nothing out; Json of a line, with `ORC` and the
+    // full stripes before it out; or the writer's or memory's, with a front of a file out.
     ensures refused { IfErr result (λ e. RefusesWrite options schema.now input.now (W.told out) (W.told e.1) e.0) }
+    // Where the refusal is WriteFailed, the output's count of failures rose.
     ensures failed { IfErr result (λ e. e.0 ≡ write_failed → W.failures out < W.failures e.1) }
+    // Where memory ran out, that count didn't rise.
     ensures memory { IfErr result (λ e. IsWantOfMemory e.0 → W.failures e.1 ≡ W.failures out) }
+    // Want of memory is that of the layer of types, and then nothing is out, of that of JSON, or of
+    // that of files.
     ensures layer { IfErr result (λ e. IsWantOfMemory e.0 → IsWantOfWrite (W.told out) (W.told e.1) e.0) }
 {
     let schema = match Schema::parse(alloc, schema) {

@@ -42,8 +42,12 @@ fn digit_at(byte: u8, lower: u32) -> bool
 impl<'a> Bits<'a> {
     /// The next boolean.
     pub fn next(&mut self) -> Result<bool, RunFault>
+        // What is answered is the first of the booleans that are left, and the others are left
+        // then, also where the stream breaks behind them.
         ensures found { IfOk result (λ b. Leaves (BitsLeft self.old) (BitsLeft self.new) (b ∷ [])) }
         ensures first { IfOk result (λ b. Precedes (BitsFirst self.old) (BitsFirst self.new) (b ∷ [])) }
+        // A refusal stands: the stream spells no boolean more, and the fault is one that the reader
+        // meets, now or after the booleans before, however many more are wanted.
         ensures none { OnErr result (Lacks (BitsLeft self.old) 1) }
         ensures before { OnOk result ((n : ℕ) (f : Fault) → BitsMeet self.new n f → BitsMeet self.old (suc n) f) }
         ensures fault { IfErr result (λ fault. (n : ℕ) → BitsMeet self.old (suc n) fault) }

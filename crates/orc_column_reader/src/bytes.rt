@@ -64,8 +64,12 @@ impl<'a> RunLengthBytes<'a> {
 
     /// The next byte.
     pub fn next(&mut self) -> Result<u8, RunFault>
+        // What is answered is the first of the bytes that are left, and the others are left then,
+        // also where the stream breaks behind them.
         ensures found { IfOk result (λ byte. Leaves (BytesLeft self.old) (BytesLeft self.new) (byte ∷ [])) }
         ensures first { IfOk result (λ byte. Precedes (BytesFirst self.old) (BytesFirst self.new) (byte ∷ [])) }
+        // A refusal stands: the stream spells no byte more, and the fault is one that the reader
+        // meets, now or after the bytes before, however many more are wanted.
         ensures none { OnErr result (Lacks (BytesLeft self.old) 1) }
         ensures before { OnOk result ((n : ℕ) (f : Fault) → BytesMeet self.new n f → BytesMeet self.old (suc n) f) }
         ensures fault { IfErr result (λ fault. (n : ℕ) → BytesMeet self.old (suc n) fault) }

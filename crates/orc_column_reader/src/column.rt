@@ -66,11 +66,17 @@ pub struct ColumnReader<'a> {
 
 /// Whether the column's next cell is not null.
 pub fn next_present(reader: &mut ColumnReader<'_>) -> Result<bool, StripeFault>
+    // What is answered says whether the column's next cell is not null, and the marks behind are
+    // left.
     ensures found { IfOk result
         (λ mark. Leaves (MarksLeft reader.old.present) (MarksLeft reader.new.present) (mark ∷ [])) }
+    // With an answer the column's other streams stay as they are.
     ensures source { OnOk result (reader.new.source ≡ reader.old.source) }
+    // The mark is the first one also where PRESENT breaks behind it.
     ensures first { IfOk result
         (λ mark. Precedes (MarksFirst reader.old.present) (MarksFirst reader.new.present) (mark ∷ [])) }
+    // A refusal stands: PRESENT spells no mark more, and the fault, if not want of memory, is one
+    // of its runs that the reader meets, now or after the marks before.
     ensures none { OnErr result (Lacks (MarksLeft reader.old.present) 1) }
     ensures before { OnOk result ((n : ℕ) (f : RunsFault)
         → MarksMeet reader.new.present n f
@@ -105,11 +111,18 @@ fn next_bool<'a>(column: usize, bits: &mut Bits<'a>) -> Result<Own<'a>, StripeFa
 impl<'a> ValueSource<'a> {
     /// The next value of a column of a kind that contains no other. It takes no memory.
     pub fn next_scalar(&mut self, kind: Scalar) -> Result<Own<'a>, StripeFault>
+        // What is answered is the first of the column's values that are left, and the others are
+        // left then.
         ensures found { IfOk result
             (λ v. Leaves (ScalarLeft kind self.old) (ScalarLeft kind self.new) (own_cell v ∷ [])) }
+        // It is a value of the column's kind.
         ensures kind { IfOk result (λ v. IsValueOf kind (own_cell v)) }
+        // Where it is refused, the streams spell no value more.
         ensures none { OnErr result (Lacks (ScalarLeft kind self.old) 1) }
+        // The column's number stays as it is.
         ensures column { self.new.column ≡ self.old.column }
+        // The fault of a refusal, if not want of memory, is one that the reader meets, now or after
+        // the values before.
         ensures before { OnOk result ((all : Bool) (n : ℕ) (f : Fault)
             → ScalarMeets kind self.new all n f
             → ScalarMeets kind self.old all (suc n) f) }
@@ -134,14 +147,21 @@ impl<'a> ValueSource<'a> {
 
 /// The size of the next list or map, for which there is room.
 pub fn next_size(source: &mut ValueSource<'_>) -> Result<u64, StripeFault>
+    // What is answered is LENGTH's next number, and the others are left then, also where LENGTH
+    // breaks behind them.
     ensures found { IfOk result
         (λ size. Leaves (NumbersLeft source.old.numbers) (NumbersLeft source.new.numbers) (pos size ∷ [])) }
     ensures first { IfOk result
         (λ size. Precedes (NumbersFirst source.old.numbers) (NumbersFirst source.new.numbers) (pos size ∷ [])) }
+    // There was room for so many elements or pairs, and there is room for so many fewer then.
     ensures room { IfOk result (λ size. (size ≤ source.old.room) × (source.new.room ≡ source.old.room - size)) }
+    // Where it is refused, there is no list more, whatever the columns below have, and no map.
     ensures none { OnErr result ((s : Shape) (below : List Reader) → Lacks (ListsLeft s source.old below) 1) }
     ensures no_map { OnErr result ((k v : Shape) (below : List Reader) → Lacks (MapsLeft k v source.old below) 1) }
+    // The column's number stays as it is.
     ensures column { source.new.column ≡ source.old.column }
+    // The fault of a refusal, if not want of memory, is one that the reader meets, now or after the
+    // sizes before: of LENGTH's runs, or TooMany for sizes without room.
     ensures before { OnOk result ((all : Bool) (n : ℕ) (f : Fault)
         → ListsMeet source.new all n f
         → ListsMeet source.old all (suc n) f) }
@@ -165,6 +185,7 @@ pub fn next_size(source: &mut ValueSource<'_>) -> Result<u64, StripeFault>
 
 /// Whether no value is left of a column of a kind that contains no other.
 pub fn scalar_end(source: &ValueSource<'_>, kind: Scalar) -> bool
+    // True is answered exactly where nothing is left of the column's values.
     ensures { MatchBool result (ScalarLeft kind source.now []) (ScalarLeft kind source.now [] → ⊥) }
 {
     match kind {
@@ -197,6 +218,8 @@ fn data_left(source: &ValueSource<'_>) -> StripeFault
 /// The fault of values that are left over, of a column of a kind that contains no other.
 pub fn scalar_left(source: &ValueSource<'_>, kind: Scalar) -> StripeFault
     requires more { ScalarLeft kind source.now [] → ⊥ }
+    // Where something is left of the values, the fault is one that a reader meets that is to give
+    // no value more.
     ensures { ScalarMeets kind source.now true 0 result }
 {
     match kind {

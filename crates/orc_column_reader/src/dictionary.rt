@@ -36,8 +36,12 @@ pub fn entries_of<'a>(
     bytes: &'a [u8],
     size: u32,
 ) -> Result<Vec<Entry<'a>>, StripeFault>
+    // What is answered are the dictionary's entries, as many as its size, whose lengths and bytes
+    // the two streams spell, and nothing more.
     ensures found { IfOk result (λ entries. (length entries.items ≡ size)
         × Grouped (AreNumbers version Unsigned lengths.now) (Is bytes.now) (map entry_bytes entries.items)) }
+    // A refusal other than want of memory stands: the streams spell no so many entries, and the
+    // fault is one of LENGTH's runs, or LengthSum where the lengths make more or fewer bytes.
     ensures none { IfErr result (λ cause. cause ≢ fault.OutOfMemory → (entries : List (List ℕ)) → length entries ≡ size
         → Grouped (AreNumbers version Unsigned lengths.now) (Is bytes.now) entries → ⊥) }
     ensures fault { IfErr result (λ cause. cause ≢ fault.OutOfMemory

@@ -63,7 +63,11 @@ pub fn check_directory(
     room: u64,
     streams: &[StreamMsg],
 ) -> Result<(), StripeFault>
+    // Streams that are accepted are a directory: they fit into the bytes, none is named twice, and
+    // each that belongs to a column is of one that there is.
     ensures accepted { OnOk result (spec.is_directory width room streams.now ≡ true) }
+    // They are refused with BadDirectory only where they are none, and else for want of memory
+    // alone.
     ensures refused { IfErr result (λ fault. (fault ≡ OutOfMemory)
         ⊎ ((fault ≡ BadDirectory) × (spec.is_directory width room streams.now ≡ false))) }
 {
@@ -89,6 +93,8 @@ fn takes_encoding(kind: u32, encoding: u32) -> bool
 
 /// The first column that has no encoding, or one that its type can't have.
 pub fn first_wrong(types: &[TypeMsg], encodings: &[Encoding]) -> Option<usize>
+    // What is answered is the first column without an encoding, or with one that its type can't
+    // have, or the place of the first encoding without a column; none where all are right.
     ensures { result ≡ spec.first_wrong 0 types.now encodings.now }
 {
     for (i, t) in types.iter().enumerate() {

@@ -16,8 +16,11 @@ use orc_types::{Field, Tree, width_of};
 #[cycle(ending)]
 pub fn cells_end(tree: &Tree, readers: &[ColumnReader<'_>]) -> Result<(), StripeFault>
     requires { length readers.now ≡ width (shape tree.now) }
+    // The readers, one for each column of the type, are accepted exactly where nothing is left
+    // over.
     ensures all { OnOk result (CellsLeft (shape tree.now) readers.now []) }
     ensures more { OnErr result (CellsLeft (shape tree.now) readers.now [] → ⊥) }
+    // A refusal is a fault that the readers meet that are to give no cell more.
     ensures fault { IfErr result (CellsMeet (shape tree.now) readers.now true 0) }
 {
     let own = &readers[0];

@@ -85,8 +85,11 @@ pub enum StripeFault {
 
 /// The fault of a stream's runs.
 pub fn run_fault(column: usize, kind: StreamKind, cause: RunFault) -> StripeFault
+    // Where the cause isn't want of memory, it is told with the column and the stream.
     ensures same { cause ≢ run.OutOfMemory → result ≡ fault.Run column kind cause }
+    // Want of memory is told as such.
     ensures memory { cause ≡ run.OutOfMemory → result ≡ fault.OutOfMemory }
+    // Any other answer is the fault of the stream's runs, of a cause that isn't want of memory.
     ensures fails { result ≢ fault.OutOfMemory → (result ≡ fault.Run column kind cause) × (cause ≢ run.OutOfMemory) }
 {
     match cause {
@@ -97,7 +100,9 @@ pub fn run_fault(column: usize, kind: StreamKind, cause: RunFault) -> StripeFaul
 
 /// The fault of a stripe's footer.
 pub fn wire_fault(cause: WireFault) -> StripeFault
+    // Want of memory is told as such.
     ensures memory { cause ≡ wire.OutOfMemory → result ≡ fault.OutOfMemory }
+    // Any other answer is the footer's own fault.
     ensures either { (result ≡ fault.OutOfMemory) ⊎ ((result ≡ fault.Wire cause) × (cause ≢ wire.OutOfMemory)) }
 {
     match cause {

@@ -26,12 +26,19 @@ pub fn next_group<'a>(
     numbers: &mut Numbers<'a>,
     octets: &mut Octets<'a>,
 ) -> Result<&'a [u8], StripeFault>
+    // What is answered is the first of the groups of bytes that are left, and the others are left
+    // then.
     ensures found { IfOk result (λ bytes. Leaves (Grouped (NumbersLeft numbers.old) (OctetsLeft octets.old))
         (Grouped (NumbersLeft numbers.new) (OctetsLeft octets.new)) (bytes.now ∷ [])) }
+    // Where it is refused, the streams spell no group more.
     ensures none { OnErr result (Lacks (Grouped (NumbersLeft numbers.old) (OctetsLeft octets.old)) 1) }
+    // The length of the group is LENGTH's next number, and its bytes are the next ones, also where
+    // LENGTH breaks behind it.
     ensures first { IfOk result
         (λ bytes. Precedes (NumbersFirst numbers.old) (NumbersFirst numbers.new) (pos (length bytes.now) ∷ [])) }
     ensures bytes { IfOk result (λ bytes. octets.old.rest.now ≡ bytes.now ++ octets.new.rest.now) }
+    // The fault of a refusal, if not want of memory, is one that the reader meets, now or after the
+    // groups before: of LENGTH's runs, or LengthSum.
     ensures before { OnOk result ((all : Bool) (n : ℕ) (f : Fault)
         → GroupsMeet kind numbers.new octets.new all n column f
         → GroupsMeet kind numbers.old octets.old all (suc n) column f) }
@@ -54,6 +61,7 @@ pub fn next_group<'a>(
 
 /// Whether no group of bytes is left.
 pub fn groups_end(numbers: &Numbers<'_>, octets: &Octets<'_>) -> bool
+    // True is answered exactly where neither lengths nor bytes are left.
     ensures { MatchBool result (Grouped (NumbersLeft numbers.now) (OctetsLeft octets.now) [])
         (Grouped (NumbersLeft numbers.now) (OctetsLeft octets.now) [] → ⊥) }
 {
@@ -74,6 +82,8 @@ pub fn groups_left(
     octets: &Octets<'_>,
 ) -> StripeFault
     requires more { Grouped (NumbersLeft numbers.now) (OctetsLeft octets.now) [] → ⊥ }
+    // Where something is left over, the fault is one that a reader meets that is to give no group
+    // more.
     ensures { GroupsMeet kind numbers.now octets.now true 0 column result }
 {
     if numbers_end(numbers) {

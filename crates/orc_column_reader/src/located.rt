@@ -30,6 +30,8 @@ impl<'a> Located<'a> {
     /// The bytes of the column's stream of one of the four kinds.
     pub fn stream(&self, column: usize, kind: usize) -> &'a [u8]
         requires there { 4 * column + kind < length self.now.slices.items }
+        // Where the column was looked for, and the kind is one of the four, the stream's bytes are
+        // answered as they were found.
         ensures { result.now ≡ stream_at self.now.slices.items column kind }
     {
         self.slices[KINDS * column + kind].bytes
@@ -56,9 +58,13 @@ pub fn locate<'a>(
 ) -> Result<Located<'a>, StripeFault>
     requires room { spec.have_room (length bytes.now) footer.now.streams ≡ true }
     requires once { spec.names_once footer.now.streams ≡ true }
+    // Where the directory's streams fit into the bytes and none is named twice, each column has its
+    // four streams as the directory gives them, empty where it gives none.
     ensures found { IfOk result
         (λ located. AreLocated (length footer.now.columns) footer.now.streams bytes.now located.slices.items) }
+    // The stripe's bytes are kept beside them.
     ensures same { IfOk result (λ located. located.bytes.now ≡ bytes.now) }
+    // Want of memory is the only refusal.
     ensures refused { IfErr result (λ fault. fault ≡ OutOfMemory) }
 {
     let columns = footer.columns.as_slice().len();

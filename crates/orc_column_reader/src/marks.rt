@@ -27,8 +27,12 @@ pub(crate) fn marks_of(bytes: &[u8]) -> Option<Bits<'_>>
 
 /// Whether the next cell is not null.
 pub fn next_mark(column: usize, present: &mut Option<Bits<'_>>) -> Result<bool, StripeFault>
+    // What is answered is the first of the marks that are left, and the others are left then, also
+    // where PRESENT breaks behind them.
     ensures found { IfOk result (λ mark. Leaves (MarksLeft present.old) (MarksLeft present.new) (mark ∷ [])) }
     ensures first { IfOk result (λ mark. Precedes (MarksFirst present.old) (MarksFirst present.new) (mark ∷ [])) }
+    // A refusal stands: PRESENT spells no mark more, and the fault, if not want of memory, is one
+    // of its runs that the reader meets, now or after the marks before.
     ensures none { OnErr result (Lacks (MarksLeft present.old) 1) }
     ensures before { OnOk result ((n : ℕ) (f : RunsFault)
         → MarksMeet present.new n f
@@ -47,6 +51,7 @@ pub fn next_mark(column: usize, present: &mut Option<Bits<'_>>) -> Result<bool, 
 
 /// Whether no mark is left.
 pub fn marks_end(present: &Option<Bits<'_>>) -> bool
+    // True is answered exactly where no mark is left, as it is without PRESENT.
     ensures { MatchBool result (MarksLeft present.now []) (MarksLeft present.now [] → ⊥) }
 {
     match present {
@@ -58,6 +63,8 @@ pub fn marks_end(present: &Option<Bits<'_>>) -> bool
 /// The fault of marks that are left over.
 pub fn marks_left(present: &Option<Bits<'_>>) -> RunFault
     requires more { MarksLeft present.now [] → ⊥ }
+    // Where marks are left over, the fault is one that a reader meets that is to give none more,
+    // and not want of memory.
     ensures met { MarksMeet present.now 0 result }
     ensures no_memory { result ≢ run.OutOfMemory }
 {

@@ -27,6 +27,7 @@ pub struct Numbers<'a> {
 
 /// A stream of integers, from its start.
 pub fn numbers_of(version: Rle, sign: Sign, bytes: &[u8]) -> Numbers<'_>
+    // The reader stands at the start of the stream's bytes, with their version and sign.
     ensures { NumbersStart version sign bytes.now result }
 {
     Numbers {
@@ -70,11 +71,16 @@ impl<'a> Numbers<'a> {
 
     /// The next number.
     pub fn next(&mut self) -> Result<i64, RunFault>
+        // What is answered is the first of the numbers that are left, and the others are left then,
+        // also where the stream breaks behind them.
         ensures found { IfOk result (λ n. Leaves (NumbersLeft self.old) (NumbersLeft self.new) (n ∷ [])) }
         ensures first { IfOk result (λ n. Precedes (NumbersFirst self.old) (NumbersFirst self.new) (n ∷ [])) }
+        // A refusal stands: the stream spells no number more, and the fault is one that the reader
+        // meets, now or after the numbers before, however many more are wanted.
         ensures none { OnErr result (Lacks (NumbersLeft self.old) 1) }
         ensures before { OnOk result ((n : ℕ) (f : Fault) → NumbersMeet self.new n f → NumbersMeet self.old (suc n) f) }
         ensures fault { IfErr result (λ fault. (n : ℕ) → NumbersMeet self.old (suc n) fault) }
+        // No refusal is want of memory.
         ensures no_memory { IfErr result (λ fault. fault ≢ OutOfMemory) }
     {
         match self.fill() {
@@ -90,6 +96,7 @@ impl<'a> Numbers<'a> {
 
 /// Whether no number is left.
 pub fn numbers_end(numbers: &Numbers<'_>) -> bool
+    // True is answered exactly where no number is left.
     ensures { MatchBool result (NumbersLeft numbers.now []) (NumbersLeft numbers.now [] → ⊥) }
 {
     if numbers.used < numbers.run.values().len() {
@@ -105,6 +112,8 @@ pub fn numbers_end(numbers: &Numbers<'_>) -> bool
 /// of the bytes after it, which may be no run.
 pub fn numbers_left(numbers: &Numbers<'_>) -> RunFault
     requires more { NumbersLeft numbers.now [] → ⊥ }
+    // Where numbers are left over, the fault is one that a reader meets that is to give none more,
+    // and not want of memory.
     ensures met { NumbersMeet numbers.now 0 result }
     ensures no_memory { result ≢ OutOfMemory }
 {

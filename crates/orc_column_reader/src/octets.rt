@@ -13,8 +13,11 @@ pub struct Octets<'a> {
 impl<'a> Octets<'a> {
     /// The next bytes, so many.
     pub fn take(&mut self, count: u64) -> Option<&'a [u8]>
+        // What is answered are the first of the bytes that are left, so many, and the others are
+        // left then.
         ensures found { IfSome result (λ bytes. (length bytes.now ≡ count)
             × Leaves (OctetsLeft self.old) (OctetsLeft self.new) bytes.now) }
+        // There is none only where fewer bytes are left.
         ensures none { IfNone result (Lacks (OctetsLeft self.old) count) }
         ensures short { IfNone result (length self.old.rest.now < count) }
     {
@@ -29,6 +32,7 @@ impl<'a> Octets<'a> {
 
 /// Whether no byte is left.
 pub fn octets_end(octets: &Octets<'_>) -> bool
+    // True is answered exactly where no byte is left.
     ensures { MatchBool result (OctetsLeft octets.now []) (OctetsLeft octets.now [] → ⊥) }
 {
     octets.rest.len() == 0

@@ -39,8 +39,12 @@ pub fn next_cell<'a>(
     readers: &mut [ColumnReader<'a>],
 ) -> Result<Row<'a>, StripeFault>
     requires { length readers.old ≡ width (shape tree.now) }
+    // Where each column of the type has a reader, the answer is the first of the cells that these
+    // have left, with all that it contains, and the others are left then.
     ensures found { IfOk result (λ row. Leaves (CellsLeft (shape tree.now) readers.old)
         (CellsLeft (shape tree.now) readers.new) (view row ∷ [])) }
+    // A refusal other than want of memory stands: the readers have no cell more, and the fault is
+    // one that they meet, now or after the cells before.
     ensures none { IfErr result (λ fault. fault ≢ OutOfMemory → Lacks (CellsLeft (shape tree.now) readers.old) 1) }
     ensures before { OnOk result ((all : Bool) (n : ℕ) (f : Fault) → CellsMeet (shape tree.now) readers.new all n f
         → CellsMeet (shape tree.now) readers.old all (suc n) f) }
@@ -66,10 +70,15 @@ pub fn next_value<'a>(
     readers: &mut [ColumnReader<'a>],
 ) -> Result<Value<'a>, StripeFault>
     requires { length readers.old ≡ width (shape tree.now) }
+    // Where each column of the type has a reader, the answer is the first of the values that these
+    // have left, with all that it contains, and the others are left then.
     ensures found { IfOk result (λ value. Leaves (OwnLeft (shape tree.now) readers.old)
         (OwnLeft (shape tree.now) readers.new) (cell_of_value value ∷ [])) }
+    // With an answer the column's number and its marks stay as they are.
     ensures column { OnOk result (column_of readers.new ≡ column_of readers.old) }
     ensures marks { IfOk result (λ _. marks_of readers.new ≡ marks_of readers.old) }
+    // A refusal other than want of memory stands: the readers have no value more, and the fault is
+    // one that they meet, now or after the values before.
     ensures none { IfErr result (λ fault. fault ≢ OutOfMemory → Lacks (OwnLeft (shape tree.now) readers.old) 1) }
     ensures before { OnOk result ((all : Bool) (n : ℕ) (f : Fault) → OwnMeet (shape tree.now) readers.new all n f
         → OwnMeet (shape tree.now) readers.old all (suc n) f) }
@@ -228,9 +237,13 @@ pub fn next_cells<'a>(
     count: u64,
 ) -> Result<Vec<Row<'a>>, StripeFault>
     requires { length readers.old ≡ width (shape tree.now) }
+    // Where each column of the type has a reader, the answer is so many of the cells that these
+    // have left, the first ones, in order, and the others are left then.
     ensures found { IfOk result (λ rows. Leaves (CellsLeft (shape tree.now) readers.old)
         (CellsLeft (shape tree.now) readers.new) (views rows.items)) }
     ensures counted { IfOk result (λ rows. length (views rows.items) ≡ count) }
+    // A refusal other than want of memory stands: the readers don't have so many cells left, and
+    // the fault is one that they meet, now or after the cells before.
     ensures none { IfErr result (λ fault. fault ≢ OutOfMemory → Lacks (CellsLeft (shape tree.now) readers.old) count) }
     ensures before { OnOk result ((all : Bool) (n : ℕ) (f : Fault) → CellsMeet (shape tree.now) readers.new all n f
         → CellsMeet (shape tree.now) readers.old all (count + n) f) }

@@ -63,6 +63,8 @@ pub fn streams_of<'a>(
     requires there { column < length footer.now.columns }
     requires located { AreLocated (length footer.now.columns) footer.now.streams
         located.now.bytes.now located.now.slices.items }
+    // Where the directory's streams are located, what is answered are the column's, with the
+    // version of runs and the dictionary's size that its encoding says.
     ensures { AreStreams (columns_of footer.now located.now.bytes.now column) result }
 {
     let encoding = encoding_of(column, footer);
@@ -245,10 +247,16 @@ pub fn reader_of<'a>(
     requires there { column < length footer.now.columns }
     requires located { AreLocated (length footer.now.columns) footer.now.streams
         located.now.bytes.now located.now.slices.items }
+    // Where the directory's streams are located, the reader stands at the start of the column's,
+    // and has the entries of its dictionary, if there is one.
     ensures found { IfOk result (OwnStart (shape tree.now) (columns_of footer.now located.now.bytes.now column)) }
+    // Where it is refused other than for want of memory, the column's encoding has a dictionary,
+    // and its streams spell none.
     ensures none { IfErr result (λ fault. fault ≢ OutOfMemory
         → HasNoDictionary (shape tree.now) (columns_of footer.now located.now.bytes.now column)) }
+    // The reader has the column's number.
     ensures column { IfOk result (λ own. own.source.column ≡ column) }
+    // A refusal but for want of memory is a fault of the dictionary's lengths or of its bytes.
     ensures fault { IfErr result (λ cause. cause ≢ OutOfMemory
         → WordsOfFail (shape tree.now) (columns_of footer.now located.now.bytes.now column) column cause) }
 {
@@ -274,8 +282,12 @@ pub fn put_tree<'a>(
     requires there { length readers.old.items + width (shape tree.now) ≤ length footer.now.columns }
     requires located { AreLocated (length footer.now.columns) footer.now.streams
         located.now.bytes.now located.now.slices.items }
+    // Where the directory's streams are located, readers of the column and of those below it come
+    // behind those before, each at the start of its streams, with its column's number.
     ensures found { OnOk result (Puts footer.now located.now.bytes.now
         (shape tree.now) readers.old.items readers.new.items) }
+    // A refusal other than want of memory stands: the streams spell no cells of the type, and the
+    // fault is one of these columns, however many cells are wanted.
     ensures none { IfErr result (λ fault. fault ≢ OutOfMemory → (cells : List Cell)
         → SpellsCells (shape tree.now) (columns_from footer.now located.now.bytes.now (length readers.old.items)) cells
         → ⊥) }

@@ -29,8 +29,12 @@ pub fn next_number(
     kind: StreamKind,
     numbers: &mut Numbers<'_>,
 ) -> Result<i64, StripeFault>
+    // What is answered is the first of the stream's numbers that are left, and the others are left
+    // then, also where the stream breaks behind them.
     ensures found { IfOk result (λ n. Leaves (NumbersLeft numbers.old) (NumbersLeft numbers.new) (n ∷ [])) }
     ensures first { IfOk result (λ n. Precedes (NumbersFirst numbers.old) (NumbersFirst numbers.new) (n ∷ [])) }
+    // A refusal stands: the stream spells no number more, and the fault, if not want of memory, is
+    // one of its runs that the reader meets, now or after the numbers before.
     ensures none { OnErr result (Lacks (NumbersLeft numbers.old) 1) }
     ensures before { OnOk result ((n : ℕ) (f : RunsFault)
         → NumbersMeet numbers.new n f

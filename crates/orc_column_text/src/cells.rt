@@ -33,8 +33,12 @@ pub fn push_cell(
     out: &mut Vec<u8>,
 ) -> Result<(), StripeFault>
     requires { length readers.old ≡ width (shape tree.now) }
+    // Where each column of the type has a reader, the layout's text of the next cell is appended,
+    // and the cells behind it are left.
     ensures found { OnOk result (Printed (CellsLeft (shape tree.now) readers.old)
         (CellsLeft (shape tree.now) readers.new) (text_by layout.now) out.old.items out.new.items) }
+    // A refusal other than want of memory stands: the readers lack a cell, and the fault is one
+    // that they meet, now or after the cells before.
     ensures none { IfErr result (λ fault. fault ≢ OutOfMemory → Lacks (CellsLeft (shape tree.now) readers.old) 1) }
     ensures before { OnOk result ((all : Bool) (n : ℕ) (f : Fault) → CellsMeet (shape tree.now) readers.new all n f
         → CellsMeet (shape tree.now) readers.old all (suc n) f) }

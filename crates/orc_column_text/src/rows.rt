@@ -31,12 +31,19 @@ pub fn push_next(
     out: &mut Vec<u8>,
 ) -> Result<bool, StripeFault>
     requires { length readers.old ≡ width (shape tree.now) }
+    // Where each column has a reader, the text of the next of so many rows is appended, the others
+    // being left; or nothing is, where none is left, nor anything else in the streams.
     ensures found { IfOk result (GaveText (RowsLeft (shape tree.now) readers.old left.old)
         (RowsLeft (shape tree.now) readers.new left.new) (text_by layout.now) out.old.items out.new.items) }
+    // Where the readers have just as many rows left, the first one's text is appended, or nothing
+    // where there is none, or memory is refused.
     ensures only { (rows : List Cell) → RowsLeft (shape tree.now) readers.old left.old rows
         → MatchResult result (GivesText rows (RowsLeft (shape tree.now) readers.new left.new) (text_by layout.now)
         out.old.items out.new.items) (λ fault. fault ≡ OutOfMemory) }
+    // Where a row is appended, one fewer is left; where none is, their number stays.
     ensures fewer { IfOk result (λ some. MatchBool some (left.old ≡ left.new + 1) (left.new ≡ left.old)) }
+    // A refusal other than want of memory is one that the readers meet, which were to give as many
+    // rows as were left, now or after the rows before.
     ensures before { OnOk result ((all : Bool) (f : Fault)
         → CellsMeet (shape tree.now) readers.new all left.new f
         → CellsMeet (shape tree.now) readers.old all left.old f) }

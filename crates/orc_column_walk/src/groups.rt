@@ -62,9 +62,10 @@ fn find_column(
     )
 }
 
-/// Reads a column of so many cells from its own streams, to their ends, and counts them: the column's statistic, that
-/// of each group, and what comes before it. A bound says how many of the cells come before a group (ORC specification,
-/// "Column Statistics" and "Row Group Index").
+/// Reads a column of so many cells from its own streams, to their ends, and counts them: the
+/// column's statistic, that of each group, and what comes before it; and how many cells the columns
+/// right below have, and how many of these come before each group. A bound says how many of the
+/// cells come before a group (ORC specification, "Column Statistics" and "Row Group Index").
 ///
 /// Refusals: those of a stripe's rows that are this column's own; `OutOfMemory`.
 pub fn read_groups(
@@ -82,10 +83,15 @@ pub fn read_groups(
     requires few { count < cell_limit }
     requires bounds { AreBounds count bounds.now }
     requires first { bound_at count bounds.now 0 ≡ 0 }
+    // Where bounds ascend from 0 to the number of cells at most, the column's own cells are read,
+    // so many, to the end of its streams, and all that is told, group by group, is theirs.
     ensures found { IfOk result (λ found. (own : List Cell)
         × IsOwnColumn (shape tree.now) (columns_of footer.now located.now.bytes.now column) count own
         × IsColumnFound (shape tree.now) own bounds.now found) }
+    // A column right below has fewer than 2^31 cells.
     ensures few { IfOk result (λ found. found.below < cell_limit) }
+    // A column that is refused, but for want of memory, has no so many cells, and its fault is one
+    // of its own streams.
     ensures fault { IfErr result (λ cause. cause ≢ OutOfMemory
         → (all : Bool)
         × IsRefused (shape tree.now) (columns_of footer.now located.now.bytes.now column) column all count cause) }

@@ -141,7 +141,7 @@ fn walk_fields(
 /// Reads a stripe's columns, one after the other, and tests that they spell so many rows of the type. No row is made. A
 /// struct's column without PRESENT is counted at once, so that the time is that of the bytes and of the columns.
 ///
-/// Refusals: those of a stripe's rows, which come column by column here: the fault of the first column that doesn't
+/// Refusals: those of a stripe's rows, which come column by column here: the fault of a column that doesn't
 /// spell as many cells as the column above has children. `TooMany(0)` where the rows are more than 2,147,483,647;
 /// `OutOfMemory`.
 pub fn walk_columns(
@@ -154,8 +154,12 @@ pub fn walk_columns(
     requires there { width (shape tree.now) ≤ length footer.now.columns }
     requires located { AreLocated (length footer.now.columns) footer.now.streams
         located.now.bytes.now located.now.slices.items }
+    // Where columns have encodings, and streams as the directory gives them, the verdict is good
+    // only where there are rows, so many, whose cells these spell, and nothing more.
     ensures found { OnOk result ((cells : List Cell)
         × SpellRows (shape tree.now) (columns_of footer.now located.now.bytes.now) rows cells) }
+    // A refusal other than want of memory stands: there are no so many rows, and it is TooMany(0)
+    // for 2^31 rows or more, or a fault of a column, of so many cells as those above give it.
     ensures fault { IfErr result (λ cause. cause ≢ OutOfMemory
         → RowsFault (shape tree.now) (columns_of footer.now located.now.bytes.now) rows cause) }
 {

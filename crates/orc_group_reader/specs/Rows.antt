@@ -10,7 +10,8 @@ use Rattle.orc_group_reader.specs.Columns.{AgreeFromPlaces}
 use Rattle.orc_group_reader.specs.Refusals.{ColumnRefused}
 
 -- Columns x spell the rows before and after. The positions, an entry for each column, are right in them behind
--- the rows before, and columns y are the same from these positions on.
+-- the rows before. Columns y have the same encodings and dictionaries, and the same bytes from the
+-- positions' offsets on.
 pub record RowsTurn (s : Shape) (x y : ℕ → Streams) (before after : List Cell)
     (entries : List RowIndexEntry) : Type 0 where
   pub spelled : SpellRows s x (length (before ++ after)) (before ++ after)

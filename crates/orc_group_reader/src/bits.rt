@@ -38,11 +38,19 @@ fn held_byte(run: &RunU8, passed: usize) -> Option<u8>
 /// Refusals: those of `BitRuns::seek`. Bytes that are a right stream from the offset on, in which the position
 /// names a boolean, are never refused.
 pub fn bits_at(bytes: &[u8], pos: BitPos) -> Result<Bits<'_>, RunFault>
+    // Where a stream of this length has the same bytes from the offset on, and the position is
+    // right in it, its booleans from there on come, whatever stands before the offset.
     ensures enters { MatchResult result (λ found. EntersBits bytes.now pos.offset pos.skip pos.bits (BitsLeft found))
         (λ _. EntersBits bytes.now pos.offset pos.skip pos.bits (λ _. ⊥)) }
+    // The reader stands behind the runs of bytes that the position passes, with what is left of the
+    // last one.
     ensures found { IfOk result
         (λ found. SeeksBits bytes.now pos.offset pos.skip pos.bits found.bytes.at found.bytes.run.values) }
+    // It has the stream's bytes, holds what is left of a byte of which digits are passed, and knows
+    // where the last run that it decoded begins.
     ensures at { IfOk result (BitsAt bytes.now pos.offset pos.skip pos.bits) }
+    // A refusal is BadPosition at the offset, where this is past the end, too few bytes follow or
+    // more than eight digits are passed, or the fault of bytes that are no run, at their place.
     ensures fault { IfErr result (BitSeekFails bytes.now pos.offset pos.skip pos.bits) }
 {
     let mut run = RunU8::new();

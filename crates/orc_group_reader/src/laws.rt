@@ -15,6 +15,8 @@ ghost use Rattle.orc_group_reader.specs.ReadersAt.{ReadersAt};
 
 /// What readers at positions meet, which are those behind some rows, is a fault of the whole columns.
 pub fn entering_laws()
+    // Where rows fit and readers stand at positions behind them, each fault that these meet is one
+    // of the whole columns, whatever the streams have behind the rows.
     ensures { (s : Shape) (x : ℕ → Streams) (before : List Cell) (entries : List IndexEntry) (readers : List Reader)
         (all : Bool) (n : ℕ) (f : Fault)
         → RowsFit s before

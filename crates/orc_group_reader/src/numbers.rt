@@ -35,12 +35,20 @@ pub fn numbers_at<'a>(
     bytes: &'a [u8],
     pos: Pos,
 ) -> Result<Numbers<'a>, RunFault>
+    // Where a stream of this length has the same bytes from the offset on, and the position is
+    // right in it, its values from there on come, whatever stands before the offset.
     ensures enters { MatchResult result
         (λ numbers. EntersRuns (is_run version sign) bytes.now pos.offset pos.skip (NumbersLeft numbers))
         (λ _. EntersRuns (is_run version sign) bytes.now pos.offset pos.skip (λ _. ⊥)) }
+    // The reader stands behind the runs that the position passes, with what is left of the last
+    // one.
     ensures found { IfOk result
         (λ numbers. Seeks (is_run version sign) bytes.now pos.offset pos.skip pos.skip numbers.at numbers.run.values) }
+    // It has the stream's bytes, version and sign, and knows where the last run that it decoded
+    // begins.
     ensures at { IfOk result (NumbersAt version sign bytes.now pos.offset pos.skip) }
+    // A refusal is BadPosition at the offset, where this is past the end or too few values follow,
+    // or the fault of bytes that are no run, met on the way, at their place.
     ensures fault { IfErr result (SeekFails (is_run version sign) (no_run version sign) bytes.now pos.offset pos.skip) }
 {
     let mut run = Run::new();

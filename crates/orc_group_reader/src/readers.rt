@@ -36,14 +36,21 @@ pub fn readers_at<'a>(
     requires located { AreLocated (length footer.now.columns) footer.now.streams
         located.now.bytes.now located.now.slices.items }
     requires entries { length entries.now ≡ width (shape tree.now) }
+    // What is answered is a reader for each column.
     ensures counted { IfOk result (λ readers. length readers.items ≡ width (shape tree.now)) }
+    // Where positions are right in columns of rows that have the same encodings and dictionaries,
+    // and the same bytes from there on, the readers give the rows behind, or memory is refused.
     ensures left { (x : ℕ → Streams) (before after : List Cell)
         → RowsTurn (shape tree.now) x (columns_of footer.now located.now.bytes.now) before after entries.now
         → MatchResult result
         (λ readers. CellsLeft (shape tree.now) readers.items after)
         (λ fault. fault ≡ OutOfMemory) }
+    // Readers are there only where each entry has as many positions as its column's streams, and
+    // each lies in its stream; each reader stands at those of its entry.
     ensures at { IfOk result (λ readers.
         ReadersAt (shape tree.now) (columns_of footer.now located.now.bytes.now) entries.now readers.items) }
+    // Any other refusal is of a column at its own entry: BadPosition for the number of positions or
+    // one outside of its stream, the fault of a run that is met there, or one of a dictionary.
     ensures fault { IfErr result (λ cause. cause ≢ OutOfMemory
         → EntriesRefused (shape tree.now) (columns_of footer.now located.now.bytes.now) entries.now cause) }
 {

@@ -25,6 +25,7 @@ impl Model for Failures {
 impl Failures {
     /// No failure yet.
     pub fn new() -> Failures
+        // A count of failures begins at none.
         ensures { result ≡ 0 }
     {
         Failures { before: None }
@@ -32,6 +33,7 @@ impl Failures {
 
     /// One failure more.
     pub fn note(&mut self)
+        // Each failure that is noted is one more.
         ensures { self.new ≡ self.old + 1 }
     {
         let before = Snapshot::of(self);

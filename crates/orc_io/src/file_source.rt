@@ -9,9 +9,12 @@ use std::os::unix::fs::FileExt;
 use std::rt::Files;
 use std::time::SystemTime;
 
-/// A file of the system, as long as it has the length and the time of its last change that it had when it was found:
-/// once it has others, each read fails. It tells nothing of its bytes. The file stays open from a read to the next
-/// rest alone, so that there may be more sources than a process may have open files.
+/// A file of the system, as long as it has the length and the time of its last change that it had
+/// when it was found: once it has others, each read fails. A file is taken for the one that was
+/// found just where it has that one's length and time of last change, as far as the system tells
+/// it, and neither a read nor a rest changes what was found. It tells nothing of its bytes. The
+/// file stays open from a read to the next rest alone, so that there may be more sources than a
+/// process may have open files.
 #[derive(Drop)]
 pub struct FileSource<'a, R: Files<File = File>> {
     files: &'a R,
@@ -32,6 +35,7 @@ impl<'a, R: Files<File = File>> FileSource<'a, R> {
     ///
     /// Refusal: `SourceFault` where it can't be opened now.
     pub fn open(files: &'a R, path: &'a str) -> Result<FileSource<'a, R>, SourceFault>
+        // The source is of the path that was asked for, and has not failed yet.
         ensures path { IfOk result (λ source. source.path.now ≡ path.now) }
         ensures fresh { IfOk result (λ source. source.failures ≡ 0) }
     {
@@ -107,8 +111,11 @@ impl<R: Files<File = File>> Source for FileSource<'_, R> {
     }
 
     fn rest(&mut self)
+        // A rest changes neither the length nor the time of last change that the file was found
+        // with.
         ensures len { self.new.len ≡ self.old.len }
         ensures modified { self.new.modified ≡ self.old.modified }
+        // A rest is no failure.
         ensures failures { self.new.failures ≡ self.old.failures }
     {
         self.kept = None;

@@ -14,6 +14,7 @@ pub struct SliceSource<'a> {
 impl<'a> SliceSource<'a> {
     /// A source of these bytes.
     pub fn new(bytes: &'a [u8]) -> SliceSource<'a>
+        // The source tells the bytes that it was made of.
         ensures told { ⟦<SliceSource<'a> as Source>⟧.told result ≡ Some bytes.now }
     {
         SliceSource { bytes }
@@ -35,8 +36,10 @@ impl Source for SliceSource<'_> {
 
     fn read_at(&mut self, at: u64, into: &mut [u8]) -> Result<(), SourceFault>
         requires { at + length into.old ≤ length self.old.bytes.now }
+        // No read of a slice fails, or changes the source.
         ensures never { result ≡ Ok tt }
         ensures same { self.new ≡ self.old }
+        // A read fills the slice with the bytes of the range.
         ensures bytes { OnOk result (into.new ≡ bytes_at at (length into.old) self.old.bytes.now) }
     {
         let start = at as usize;
@@ -45,6 +48,7 @@ impl Source for SliceSource<'_> {
     }
 
     fn rest(&mut self)
+        // A rest changes nothing of the source.
         ensures same { self.new ≡ self.old }
     {}
 

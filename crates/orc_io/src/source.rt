@@ -21,21 +21,28 @@ pub trait Source {
 
     /// The number of bytes.
     fn len(&self) -> u64
+        // The length is how many bytes the source has.
         ensures { result ≡ size self.now };
 
     /// Fills the slice with the bytes from `at` on. Every refusal counts as a failure, and nothing else does.
     fn read_at(&mut self, at: u64, into: &mut [u8]) -> Result<(), SourceFault>
         requires { at + length into.old ≤ size self.old }
+        // Where the source tells its bytes, a read that succeeds fills the slice with those of the
+        // range.
         ensures bytes { OnOk result (IfSome (told self.old) (λ bytes. into.new ≡ bytes_at at (length into.old) bytes)) }
+        // A read changes neither the length nor what is told.
         ensures size { size self.new ≡ size self.old }
         ensures told { told self.new ≡ told self.old }
+        // A read that is refused counts as one failure, and no other read does.
         ensures failures { failures self.new ≡ failures_after result (failures self.old) };
 
     /// Says that no read comes for now, so that what was kept for the next one can be given back. The next read is
     /// answered as any other.
     fn rest(&mut self)
+        // A rest changes neither the length nor what is told.
         ensures size { size self.new ≡ size self.old }
         ensures told { told self.new ≡ told self.old }
+        // A rest is no failure.
         ensures failures { failures self.new ≡ failures self.old };
 
     /// What is told is all of them.

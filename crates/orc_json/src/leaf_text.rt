@@ -66,7 +66,10 @@ fn push_hex(alloc: Global, octets: &[u8], out: &mut Vec<u8>) -> Result<(), Alloc
 
 /// Appends a value that contains no other, and null for one that does.
 pub fn push_own(alloc: Global, own: Own<'_>, out: &mut Vec<u8>) -> Result<(), AllocError>
+    // Unless memory is refused, a value that contains no other is appended as its JSON text, and
+    // null for one that contains others.
     ensures found { OnOk result (out.new.items ≡ out.old.items ++ leaf_text (own_cell own.entry)) }
+    // What the output held stays in front, after a refusal too.
     ensures front { Grows out.old.items out.new.items }
 {
     match own {

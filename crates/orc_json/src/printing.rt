@@ -19,7 +19,9 @@ pub fn push_text(
     row: &Row<'_>,
     out: &mut Vec<u8>,
 ) -> Result<(), AllocError>
+    // Unless memory is refused, the layout's text of the row is appended.
     ensures found { OnOk result (out.new.items ≡ out.old.items ++ text_by layout.now (view row.now)) }
+    // What the output held stays in front, after a refusal too.
     ensures front { Grows out.old.items out.new.items }
 {
     let Some(value) = row else {
@@ -44,7 +46,9 @@ pub fn push_text(
 
 /// Appends a comma, where something stands before.
 pub fn push_comma_if(later: bool, out: &mut Vec<u8>) -> Result<(), AllocError>
+    // Unless memory is refused, a comma is appended where something stands before, else nothing.
     ensures found { OnOk result (out.new.items ≡ out.old.items ++ comma_if later) }
+    // What the output held stays in front, after a refusal too.
     ensures front { Grows out.old.items out.new.items }
 {
     if later {

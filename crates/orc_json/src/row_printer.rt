@@ -57,6 +57,7 @@ impl RowPrinter {
     /// What prints the rows of the schema. Only want of memory refuses it: a struct that names a field twice
     /// is refused with the first row, as a file of such a schema that has no rows prints nothing.
     pub fn new(alloc: Global, schema: &Schema) -> Result<RowPrinter, AllocError>
+        // Unless memory is refused, the printer is of the schema that it was made for.
         ensures { IfOk result (λ printer. printer ≡ schema.now) }
     {
         let distinct = has_distinct_names(alloc, schema)?;
@@ -70,6 +71,8 @@ impl RowPrinter {
 
     /// How the rows are printed; none where some struct of the schema names a field twice, as such rows have no JSON.
     pub fn layout(&self) -> Option<&Layout>
+        // A layout is there exactly where no struct of the schema names a field twice, and its text
+        // of a row that fits is the row's JSON.
         ensures { MatchOption result (is_distinct self.now ≡ false)
             (λ layout. (is_distinct self.now ≡ true) × Prints (text_by layout.now) self.now) }
     {
@@ -83,16 +86,28 @@ impl RowPrinter {
     /// appends of a row that isn't one of the schema is left open, so that no row has to be looked at first; what
     /// `out` held before stays in front whatever the row.
     ///
+    /// The members of an object stand in the order of their names' bytes, each with its own field's
+    /// value; null stands where nothing is; a date is its text in the years that have one and its
+    /// number else; bytes are hexadecimal digits in lower case; a text, a field's name too, is
+    /// escaped as JSON asks.
+    ///
     /// Refusals, each of which leaves `out` as it was: `DuplicateField` where some struct of the schema
     /// names a field twice; `OutOfMemory`.
     pub fn push_row(&self, alloc: Global, row: &Row<'_>, out: &mut Vec<u8>) -> Result<(), JsonFault>
+        // Where the row fits and isn't refused, its JSON is appended without blanks, byte by byte
+        // what `serde_json` prints of the value that `row_to_json` gives.
         ensures found { fits (view row.now) self.now ≡ true
             → OnOk result (out.new.items ≡ out.old.items ++ compact_text (json_of self.now (view row.now))) }
+        // Without a refusal the output begins with what it held, whatever the row.
         ensures front { OnOk result (Grows out.old.items out.new.items) }
+        // Where a struct of the schema names a field twice, every row is refused.
         ensures distinct { OnOk result (is_distinct self.now ≡ true) }
 
+        // A refusal is DuplicateField, where a struct of the schema names a field twice, or want of
+        // memory.
         ensures fault { IfErr result (λ e. e ≢ fault.OutOfMemory
             → (e ≡ fault.DuplicateField) × (is_distinct self.now ≡ false)) }
+        // After a refusal the output is as it was.
         ensures unchanged { OnErr result (out.new.items ≡ out.old.items) }
     {
         if !self.distinct {

@@ -81,11 +81,16 @@ impl RowReader {
         schema: &Schema,
         text: &[u8],
     ) -> Result<Row<'static>, JsonFault>
+        // What is answered is the row that the text spells.
         ensures found { IfOk result (λ row. TextSpells schema.now text.now (view row)) }
+        // A text that spells a row is answered with it, or memory is refused.
         ensures only { (row : Cell) → TextSpells schema.now text.now row
             → MatchResult result (λ found. view found ≡ row) (λ e. e ≡ fault.OutOfMemory) }
+        // What is answered fits the schema.
         ensures fits { IfOk result (λ row. fits (view row) schema.now ≡ true) }
 
+        // Unless for memory, a refusal is Syntax of what isn't UTF-8 or JSON, DuplicateField of a
+        // schema that names a field twice, or a fault that stands in the text's value.
         ensures fault { IfErr result (λ why. why ≢ fault.OutOfMemory → RowTextFault schema.now text.now why) }
     {
         match self.read_straight(alloc, schema, text) {

@@ -24,26 +24,43 @@ pub fn merge<S: Source, W: Sink>(
     inputs: &mut [S],
     out: &mut W,
 ) -> Result<Tail, MergeFault>
+    // Where the sources and the output tell their bytes and merging succeeds, the inputs' merged
+    // file went out, with fewer than 2^64 bytes, and its tail is answered.
     ensures merged { IfOk result (λ tail. (files : List (List ℕ)) → map S.told inputs.old ≡ map Some files
         → WroteMerge files tail (W.told out.old) (W.told out.new)) }
 
+    // Where the sources tell their bytes, a refusal is the first fault of the inputs, or it is
+    // SourceFailed, WriteFailed or want of memory.
     ensures refused { IfErr result (λ e. (files : List (List ℕ))
         → map S.told inputs.old ≡ map Some files → IsAnswer files e) }
+    // Where the refusal is neither SourceFailed nor WriteFailed nor want of memory, what the output
+    // tells is as it was.
     ensures nothing { IfErr result (λ e. (IsDeviceFault e → ⊥) → W.told out.new ≡ W.told out.old) }
+    // Where the sources and the output tell their bytes and merging is refused, nothing was
+    // written, or a front of the merged file.
     ensures some { IfErr result (λ e. (files : List (List ℕ))
         → map S.told inputs.old ≡ map Some files
         → WrotePart files (W.told out.old) (W.told out.new)) }
+    // Where memory ran out, what the output tells is as it was, and no count of failures rose.
     ensures memory { IsErrOf result MergeFault.OutOfMemory
         → (W.told out.new ≡ W.told out.old) × (W.failures out.new ≡ W.failures out.old)
         × (map S.failures inputs.new ≡ map S.failures inputs.old) }
 
+    // The sources tell what they told.
     ensures told { map S.told inputs.new ≡ map S.told inputs.old }
+    // Where merging succeeds, no count of failures rose: no input's and not the output's.
     ensures kept { OnOk result ((map S.failures inputs.new ≡ map S.failures inputs.old)
         × (W.failures out.new ≡ W.failures out.old)) }
+    // SourceFailed comes only where the count of failures of the input that it names rose.
     ensures source_failed { (i : ℕ) → IsErrOf result (MergeFault.SourceFailed i)
         → slice_index (map S.failures inputs.old) i < slice_index (map S.failures inputs.new) i }
+    // The fault of an input is one of its bytes: it is never want of memory nor that its source
+    // failed.
     ensures file { (i : ℕ) (why : FileFault) → IsErrOf result (MergeFault.File i why) → IsOfBytes why }
+    // Whatever is told, a refusal is NoInput just where there is no input; a number is an input's,
+    // and of a difference not the first's; a file's fault is one that a tail may have.
     ensures named { IfErr result (λ e. IsOfMerge (length inputs.old) e) }
+    // WriteFailed comes only where the output's count of failures rose.
     ensures write_failed { IsErrOf result MergeFault.WriteFailed → W.failures out.old < W.failures out.new }
 {
     let (tail, pieces) = match gather(alloc, inputs) {

@@ -23,6 +23,7 @@ pub struct Mark {
 impl Mark {
     /// The start of a stream.
     pub fn start() -> Mark
+        // The mark is at offset 0, with no value before it and no run known.
         ensures { result ≡ start_of_stream }
     {
         Mark {
@@ -72,6 +73,8 @@ impl Mark {
     /// The position of value `n`, from the mark of its run.
     pub fn place(self, n: usize) -> Pos
         requires { self.before ≤ n }
+        // Where `n` values at most come before the mark, the position is at the mark's offset and
+        // passes the values from there up to `n`.
         ensures { (result.offset ≡ self.offset) × (result.skip ≡ n - self.before) }
     {
         Pos {
@@ -83,6 +86,8 @@ impl Mark {
     /// The position of boolean `n`, from the mark of the run in which byte `n / 8` stands.
     pub fn bit_place(self, n: usize) -> BitPos
         requires { self.before ≤ n / 8 }
+        // Where the byte of boolean `n` isn't before the mark, the position is at the mark's offset
+        // and passes the bytes up to that one, and the booleans before `n` in it.
         ensures { (result.offset ≡ self.offset) × (result.skip ≡ n / 8 - self.before) × (result.bits ≡ n % 8) }
     {
         BitPos {
@@ -102,9 +107,15 @@ pub fn mark_at<C: RunCodec>(bytes: &[u8], sign: Sign, from: Mark, n: usize) -> M
     requires there { HasValues (C.is_run sign) bytes.now n }
     requires from { IsMark (C.is_run sign) bytes.now from }
     requires ahead { from.before ≤ n }
+    // Where the bytes are a stream of `n` values or more, and the walk begins at a mark that isn't
+    // behind value `n`, the mark makes the writer's position of it.
     ensures place { IsPlace (C.is_run sign) bytes.now result.offset (n - result.before) n }
+    // It is a mark of the stream, from which a next walk may begin: how long its run is it says
+    // rightly, or not at all.
     ensures mark { IsMark (C.is_run sign) bytes.now result }
+    // No more than `n` values come before it.
     ensures ahead { result.before ≤ n }
+    // Unless it is at the stream's end, value `n` is one of those that it says its run has.
     ensures held { (result.offset ≡ length bytes.now) ⊎ (n - result.before < result.count) }
 {
     let mut mark = from;
@@ -124,9 +135,15 @@ pub fn byte_mark_at(bytes: &[u8], from: Mark, n: usize) -> Mark
     requires there { HasValues IsByteRun bytes.now n }
     requires from { IsMark IsByteRun bytes.now from }
     requires ahead { from.before ≤ n }
+    // Where the bytes are a stream of `n` bytes or more, and the walk begins at a mark that isn't
+    // behind byte `n`, the mark makes the writer's position of it.
     ensures place { IsPlace IsByteRun bytes.now result.offset (n - result.before) n }
+    // It is a mark of the stream, from which a next walk may begin: how long its run is it says
+    // rightly, or not at all.
     ensures mark { IsMark IsByteRun bytes.now result }
+    // No more than `n` bytes come before it.
     ensures ahead { result.before ≤ n }
+    // Unless it is at the stream's end, byte `n` is one of those that it says its run has.
     ensures held { (result.offset ≡ length bytes.now) ⊎ (n - result.before < result.count) }
 {
     let mut mark = from;

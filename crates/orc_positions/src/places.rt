@@ -41,12 +41,18 @@ pub fn run_places<C: RunCodec>(
     bytes: &[u8],
     sign: Sign,
 ) -> Result<RunPlaces, RunFault>
+    // What is answered is the stream's places: where each run begins and where the last one ends,
+    // and how many values stand before each.
     ensures found { IfOk result (ArePlaces (C.is_run sign) bytes.now) }
+    // Bytes that are a stream of fewer than 2^64 values have places, unless memory is refused.
     ensures only { (values : List ℤ) → IsStream (C.is_run sign) bytes.now values → length values < 2 ^ 64
         → IfErr result (λ fault. fault ≡ OutOfMemory) }
 
+    // Of other bytes a refusal is want of memory, or that of the first run from the left that is
+    // none, or that goes past 2^64 - 1 values, at its place.
     ensures fault { IfErr result (λ fault. (fault ≡ OutOfMemory)
         ⊎ StopsWithin (C.is_run sign) (C.fails sign) (2 ^ 64 - 1) bytes.now fault) }
+    // Where such a refusal applies, it is answered, or memory is refused.
     ensures refused { (fault : RunFault) → StopsWithin (C.is_run sign) (C.fails sign) (2 ^ 64 - 1) bytes.now fault
         → fault ≢ TooFew (length bytes.now) → Refuses result fault }
 {
@@ -77,12 +83,18 @@ pub fn run_places<C: RunCodec>(
 
 /// The same of a stream of bytes, and so of the bytes of booleans.
 pub fn byte_places(alloc: Global, bytes: &[u8]) -> Result<RunPlaces, RunFault>
+    // What is answered is the stream's places: where each run begins and where the last one ends,
+    // and how many bytes the runs before each spell.
     ensures found { IfOk result (ArePlaces IsByteRun bytes.now) }
+    // Bytes that are the runs of fewer than 2^64 bytes have places, unless memory is refused.
     ensures only { (values : List ℕ) → IsStream IsByteRun bytes.now values → length values < 2 ^ 64
         → IfErr result (λ fault. fault ≡ OutOfMemory) }
 
+    // Of other bytes a refusal is want of memory, or that of the first run from the left that is
+    // none, or that goes past 2^64 - 1 bytes, at its place.
     ensures fault { IfErr result (λ fault. (fault ≡ OutOfMemory)
         ⊎ StopsWithin IsByteRun NoByteRun (2 ^ 64 - 1) bytes.now fault) }
+    // Where such a refusal applies, it is answered, or memory is refused.
     ensures refused { (fault : RunFault) → StopsWithin IsByteRun NoByteRun (2 ^ 64 - 1) bytes.now fault
         → fault ≢ TooFew (length bytes.now) → Refuses result fault }
 {
@@ -133,6 +145,8 @@ impl RunPlaces {
     /// Whether the position names value `n`: the offset is one of the places, and the values before it and those
     /// that are passed from there make `n`. It takes a search by halves, and not a walk.
     pub fn begins(&self, offset: u64, skip: u64, n: u64) -> bool
+        // It is true exactly where the offset is one of the places, and the values before it and
+        // those that are passed from there make `n`.
         ensures { MatchBool result (Names self.now offset skip n) (Names self.now offset skip n → ⊥) }
     {
         match self.offsets.binary_search(&offset) {
@@ -149,6 +163,8 @@ impl RunPlaces {
 
     /// The same of boolean `n` in the places of the runs of its bytes: so many bytes and booleans are passed.
     pub fn begins_bit(&self, offset: u64, skip: u64, bits: u64, n: u64) -> bool
+        // It is true exactly where the offset is one of the places, eight bits at most are passed,
+        // and these, with eight for each byte before the offset or passed, make `n`.
         ensures { MatchBool result (NamesBit self.now offset skip bits n) (NamesBit self.now offset skip bits n → ⊥) }
     {
         match whole_bytes(bits, n) {
@@ -161,11 +177,14 @@ impl RunPlaces {
 /// Laws of places: a position that is looked up in those of a stream names the value that it is looked up for, if
 /// there are that many, and each position that names a value is found so.
 pub fn place_laws<C: RunCodec>()
+    // Where a stream has n values or more, a position that is found among its places for value n
+    // names it.
     ensures named { (sign : Sign) (bytes : List ℕ) (places : Places) (offset skip n : ℕ)
         → ArePlaces (C.is_run sign) bytes places
         → HasValues (C.is_run sign) bytes n
         → Names places offset skip n
         → Begins (C.is_run sign) bytes offset skip n }
+    // A position that names a value is found for it among its stream's places.
     ensures begins { (sign : Sign) (bytes : List ℕ) (places : Places) (offset skip n : ℕ)
         → ArePlaces (C.is_run sign) bytes places
         → Begins (C.is_run sign) bytes offset skip n
@@ -174,16 +193,22 @@ pub fn place_laws<C: RunCodec>()
 
 /// The same of streams of bytes and of booleans.
 pub fn byte_place_laws()
+    // Where a stream has n bytes or more, a position that is found among its places for byte n
+    // names it.
     ensures named { (bytes : List ℕ) (places : Places) (offset skip n : ℕ) → ArePlaces IsByteRun bytes places
         → HasValues IsByteRun bytes n → Names places offset skip n → Begins IsByteRun bytes offset skip n }
+    // A position that names a byte is found for it among its stream's places.
     ensures begins { (bytes : List ℕ) (places : Places) (offset skip n : ℕ) → ArePlaces IsByteRun bytes places
         → Begins IsByteRun bytes offset skip n → Names places offset skip n }
+    // Where a stream has n booleans or more, a position that is found among its places for boolean
+    // n names it.
     ensures named_bit { (bytes : List ℕ) (places : Places) (total offset skip bits n : ℕ)
         → ArePlaces IsByteRun bytes places
         → HasBits bytes total
         → n ≤ total
         → NamesBit places offset skip bits n
         → BeginsBits bytes total offset skip bits n }
+    // A position that names a boolean is found for it among the places of its bytes.
     ensures begins_bit { (bytes : List ℕ) (places : Places) (total offset skip bits n : ℕ)
         → ArePlaces IsByteRun bytes places
         → BeginsBits bytes total offset skip bits n

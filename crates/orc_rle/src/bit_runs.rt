@@ -25,12 +25,19 @@ impl BitRuns {
     /// Refusals: those of `ByteRuns::decode` for the least number of bytes that holds `n` booleans. So
     /// `TooMany` comes where a run goes past that number of bytes, and `TooFew` where they end before it.
     pub fn decode(alloc: Global, bytes: &[u8], n: usize) -> Result<Vec<bool>, RunFault>
+        // What is decoded is `n` booleans whose digits begin those of the bytes that the runs have,
+        // in the least number of bytes that holds them.
         ensures found { IfOk result (λ values. IsBitStream bytes.now values.items × (length values.items ≡ n)) }
+        // Bytes that are a stream of `n` booleans, whatever the spare digits, are decoded to these,
+        // unless memory is refused.
         ensures only { (values : List Bool) → IsBitStream bytes.now values → length values ≡ n
             → MatchResult result (λ decoded. decoded.items ≡ values) (λ fault. fault ≡ OutOfMemory) }
 
+        // A refusal is want of memory, or that of runs of as many bytes as hold `n` booleans, at
+        // its place.
         ensures fault { IfErr result (λ fault. (fault ≡ OutOfMemory)
             ⊎ StopsWithin IsByteRun NoByteRun (packed_len 1 n) bytes.now fault) }
+        // Where such a refusal applies, it is answered, or memory is refused.
         ensures refused { (fault : RunFault)
             → StopsWithin IsByteRun NoByteRun (packed_len 1 n) bytes.now fault → Refuses result fault }
     {
@@ -54,21 +61,35 @@ impl BitRuns {
     /// 0; by one at most where the first run has all these bytes; without a refusal by the number of runs
     /// from the offset to the answer. It takes no memory.
     pub fn seek(bytes: &[u8], pos: BitPos, run: &mut RunU8) -> Result<usize, RunFault>
+        // The answer is the offset behind the runs that are decoded from the position on until it
+        // is passed; what is left of the last is in `run`, first the byte of which bits are passed.
         ensures found { IfOk result (λ at. SeeksBits bytes.now pos.offset pos.skip pos.bits at run.new.values) }
+        // Where the runs from the offset on have so many, and eight bits at most are passed, it
+        // isn't refused.
         ensures only { (at : ℕ) (left : List ℕ) → SeeksBits bytes.now pos.offset pos.skip pos.bits at left
             → (result ≡ Ok at) × (run.new.values ≡ left) }
 
+        // A refusal is BadPosition at the offset, if that is past the end, too few bytes follow or
+        // bits are above 8, or the fault of bytes on the way that are no run, at their place.
         ensures fault { IfErr result (BitSeekFails bytes.now pos.offset pos.skip pos.bits) }
+        // Where such a refusal applies, it is answered.
         ensures refused { (fault : RunFault)
             → BitSeekFails bytes.now pos.offset pos.skip pos.bits fault → result ≡ Err fault }
+        // After a refusal the run is empty.
         ensures empty { OnErr result (run.new.values ≡ []) }
 
+        // The run's count rises by no more than the bytes that are passed, and one more for bits.
         ensures count { run.new.count ≤ run.old.count + bytes_needed pos.skip pos.bits }
+        // Where the run at the offset has all that is passed, the count rises by one at most.
         ensures one_run { (front rest v : List ℕ) → IsByteRun front v → drop pos.offset bytes.now ≡ front ++ rest
             → bytes_needed pos.skip pos.bits ≤ length v → run.new.count ≤ run.old.count + 1 }
+        // Where the position isn't refused, the count rises by the number of runs from its offset
+        // to the answer.
         ensures counted { IfOk result
             (λ at. CountsRuns IsByteRun bytes.now pos.offset at run.old.count run.new.count) }
+        // Refused or not, the count never falls.
         ensures grows { run.old.count ≤ run.new.count }
+        // Where more than eight bits are to be passed, no run is decoded: the count stays.
         ensures uncounted { 8 < pos.bits → run.new.count ≡ run.old.count }
     {
         if pos.bits > 8 {
@@ -99,8 +120,10 @@ impl BitRuns {
     ///
     /// A refusal, which is `OutOfMemory`, leaves `out` as it was.
     pub fn put_runs(values: &[bool], out: &mut Vec<u8>) -> Result<(), RunFault>
+        // The writer's text of the booleans, spare digits 0, is appended, unless memory is refused.
         ensures written { OnOk result (AppendsBytes IsBitText values.now out.old.items out.new.items) }
 
+        // The only refusal is want of memory, and it leaves `out` as it was.
         ensures refused { IfErr result (λ fault. fault ≡ OutOfMemory) }
         ensures unchanged { OnErr result (out.new.items ≡ out.old.items) }
     {
@@ -158,7 +181,9 @@ fn put_digit(out: &mut Vec<u8>, held: u8, count: u32, value: bool) -> Result<(u8
 /// Writes the booleans and decodes what was written: it is the same booleans. `OutOfMemory` is the only
 /// refusal.
 pub fn bit_round_trip(alloc: Global, values: &[bool]) -> Result<Vec<bool>, RunFault>
+    // What is answered is the booleans, written and decoded again.
     ensures same { IfOk result (λ decoded. decoded.items ≡ values.now) }
+    // The only refusal is want of memory.
     ensures refused { IfErr result (λ fault. fault ≡ OutOfMemory) }
 {
     let mut bytes = Vec::new(alloc);
@@ -170,13 +195,18 @@ pub fn bit_round_trip(alloc: Global, values: &[bool]) -> Result<Vec<bool>, RunFa
 /// `decode` has a reason to refuse, the bytes are no stream of `n` booleans, and by `byte_stream_laws` it
 /// has no other reason; booleans have one text, and it is a stream of them.
 pub fn bit_stream_laws()
+    // Bytes are a stream of one list of so many booleans at most.
     ensures one_list { (bytes : List ℕ) (v w : List Bool)
         → length v ≡ length w → IsBitStream bytes v → IsBitStream bytes w → v ≡ w }
+    // Where `decode` has a reason to refuse bytes as `n` booleans, they are no stream of `n`.
     ensures none_within { (n : ℕ) (bytes : List ℕ) (v : List Bool) (fault : RunFault)
         → StopsWithin IsByteRun NoByteRun (packed_len 1 n) bytes fault
         → IsBitStream bytes v → length v ≡ n → ⊥ }
+    // A stream that has no bytes has no booleans.
     ensures no_bytes { (v : List Bool) → IsBitStream [] v → v ≡ [] }
 
+    // The writer has one text of booleans at most.
     ensures one_text { (values : List Bool) (a b : List ℕ) → IsBitText values a → IsBitText values b → a ≡ b }
+    // The writer's text of booleans is a stream of them.
     ensures again { (values : List Bool) (bytes : List ℕ) → IsBitText values bytes → IsBitStream bytes values }
 {}

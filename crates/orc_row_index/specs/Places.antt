@@ -94,7 +94,8 @@ begins A is_run stream offset skip n = Begins is_run stream offset skip n
 abbrev pub is_place : RunRelation
 is_place A is_run stream offset skip n = IsPlace is_run stream offset skip n
 
--- those from which a reader goes on with the cells that come then
+-- those from which a reader goes on with the cells that come then: in the order of the column's
+-- streams, of each what `Begins` or `BeginsBits` says
 abbrev pub AreReadPlaces : Shape → Streams → List Cell → List ℕ → Type 0
 AreReadPlaces s x before positions = ArePlacesBy begins BeginsBits s x before positions
 

@@ -12,6 +12,8 @@ pub fn cells_between<'c, 'r, 'a>(
 ) -> &'c [Lent<'r, 'a>]
     requires ordered { start ≤ end }
     requires there { end ≤ length cells.now }
+    // Where the start is no later than the end and both lie within the cells, those between are
+    // answered, in order.
     ensures { lent_cells result.now ≡ take (end - start) (drop start (lent_cells cells.now)) }
 {
     &cells[start..end]

@@ -68,6 +68,8 @@ pub fn element_bounds(
 ) -> Result<Vec<usize>, AllocError>
     requires bounds { AreBounds (length (lent_cells cells.now)) bounds.now }
     requires few { length (flat_map parts (values (lent_cells cells.now))) < 2 ^ 64 }
+    // Where bounds are those of the cells, and their lists have fewer than 2^64 elements, each
+    // becomes how many elements the lists before its group have, unless memory is refused.
     ensures { IfOk result (λ found. found.items ≡ map (elements_before (lent_cells cells.now)) bounds.now) }
 {
     let mut found = Vec::new(alloc);
@@ -92,6 +94,8 @@ pub fn pair_bounds(
 ) -> Result<Vec<usize>, AllocError>
     requires bounds { AreBounds (length (lent_cells cells.now)) bounds.now }
     requires few { length (flat_map pairs_in (values (lent_cells cells.now))) < 2 ^ 64 }
+    // Where bounds are those of the cells, and their maps have fewer than 2^64 pairs, each becomes
+    // how many pairs the maps before its group have, unless memory is refused.
     ensures { IfOk result (λ found. found.items ≡ map (pairs_before (lent_cells cells.now)) bounds.now) }
 {
     let mut found = Vec::new(alloc);
@@ -115,6 +119,8 @@ pub fn field_bounds(
     bounds: &[usize],
 ) -> Result<Vec<usize>, AllocError>
     requires { AreBounds (length (lent_cells cells.now)) bounds.now }
+    // Where bounds are those of the cells, each becomes how many cells before its group are not
+    // null, unless memory is refused.
     ensures { IfOk result (λ found. found.items ≡ map (values_before (lent_cells cells.now)) bounds.now) }
 {
     let mut found = Vec::new(alloc);

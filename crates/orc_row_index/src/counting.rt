@@ -32,8 +32,11 @@ impl Counts {
     pub fn add_own(self, own: Own<'_>) -> Counts
         requires cells { self.cells + 1 < 2 ^ 64 }
         requires values { self.values + 1 < 2 ^ 64 }
+        // Where the counts stay below 2^64, one cell more is counted, and one value more where it
+        // is not null.
         ensures cells { result.cells ≡ self.cells + 1 }
         ensures values { result.values ≡ self.values + length (values (own_cell own.entry ∷ [])) }
+        // The bytes of a text or a byte string are added to those before, up to 2^64 - 1.
         ensures octets { result.octets ≡ min most (self.octets + octets_in (own_cell own.entry)) }
     {
         Counts {
@@ -48,8 +51,11 @@ impl Counts {
 pub fn counts_after(before: Counts, cells: &[Lent<'_, '_>]) -> Counts
     requires cells { before.cells + length cells.now < 2 ^ 64 }
     requires values { before.values + length cells.now < 2 ^ 64 }
+    // Where the counts stay below 2^64, the cells are counted behind those before: all of them, and
+    // those that are not null.
     ensures cells { result.cells ≡ before.cells + length (lent_cells cells.now) }
     ensures values { result.values ≡ before.values + length (values (lent_cells cells.now)) }
+    // The bytes of the texts and byte strings among them are added, up to 2^64 - 1.
     ensures octets { result.octets ≡ min most (before.octets + octets (lent_cells cells.now)) }
 {
     let mut counts = before;

@@ -16,6 +16,7 @@ pub struct Counts {
 impl Counts {
     /// Those of no cells.
     pub fn none() -> Counts
+        // Of no cells all three counts are 0.
         ensures { (result.cells ≡ 0) × (result.values ≡ 0) × (result.octets ≡ 0) }
     {
         Counts {

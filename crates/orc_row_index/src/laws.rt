@@ -14,28 +14,41 @@ ghost use Rattle.orc_row_index.specs.RowIndex.{IsWrittenIndex, IsRightIndex};
 /// are right for every reader; of cells that fit and are few, an index reads back, with the places and the
 /// statistic of each group. Bounds that are taken down a level are bounds there.
 pub fn index_laws()
+    // Of a column's cells, their streams and bounds there is one row index at most, byte by byte.
     ensures one_text { (s : Shape) (x : Streams) (cells : List Cell) (bounds a b : List ℕ)
         → IsWrittenIndex s x cells bounds a
         → IsWrittenIndex s x cells bounds b
         → a ≡ b }
+    // Behind some cells a column's streams have one list of a writer's positions at most.
     ensures one_places { (s : Shape) (x : Streams) (before : List Cell) (a b : List ℕ)
         → AreWrittenPlaces s x before a
         → AreWrittenPlaces s x before b
         → a ≡ b }
+    // A writer's positions are right for every reader, which goes on from them with the cells that
+    // come then.
     ensures places { (s : Shape) (x : Streams) (before : List Cell) (positions : List ℕ)
         → AreWrittenPlaces s x before positions
         → AreReadPlaces s x before positions }
+    // Where cells fit and are fewer than 2^31, their index reads back: an entry for each group,
+    // with right positions and the statistic of the group's cells.
     ensures right { (s : Shape) (x : Streams) (cells : List Cell) (bounds text : List ℕ)
         → RowsFit s cells
         → length cells < cell_limit
         → IsWrittenIndex s x cells bounds text
         → IsRightIndex s x cells bounds text }
+    // Where bounds of lists are taken down to the elements before each group, they are bounds of
+    // the elements.
     ensures elements { (cells : List Cell) (bounds : List ℕ) → AreBounds (length cells) bounds
         → AreBounds (length (flat_map parts (values cells))) (map (elements_before cells) bounds) }
+    // Where bounds of maps are taken down to the pairs before each group, they are bounds of the
+    // keys.
     ensures keys { (cells : List Cell) (bounds : List ℕ) → AreBounds (length cells) bounds
         → AreBounds (length (flat_map keys_in (values cells))) (map (pairs_before cells) bounds) }
+    // The same bounds of pairs are bounds of the maps' values.
     ensures map_values { (cells : List Cell) (bounds : List ℕ) → AreBounds (length cells) bounds
         → AreBounds (length (flat_map values_in (values cells))) (map (pairs_before cells) bounds) }
+    // Where bounds of structs are taken down to the structs before each group that are not null,
+    // they are bounds of each field's cells.
     ensures fields { (cells : List Cell) (bounds : List ℕ) → AreBounds (length cells) bounds
         → AreBounds (length (values cells)) (map (values_before cells) bounds) }
 {}

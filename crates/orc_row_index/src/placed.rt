@@ -89,6 +89,8 @@ fn text_content<'a>(streams: &ColumnStreams<'a>) -> Option<&'a [u8]>
 
 /// The streams of a column that have positions.
 pub fn placed_streams<'a>(tree: &Tree, streams: &ColumnStreams<'a>) -> PlacedStreams<'a>
+    // The streams of a column that have positions are told by its kind and encoding: PRESENT where
+    // it has bytes, DATA where it has the values' own bytes, and the runs of DATA or LENGTH.
     ensures { (x : Streams) → AreStreams x streams.now → ArePlaced (shape tree.now) x result }
 {
     let present = present_of(streams.present);
@@ -113,6 +115,8 @@ pub fn placed_streams<'a>(tree: &Tree, streams: &ColumnStreams<'a>) -> PlacedStr
 
 /// Which stream has the runs beside PRESENT.
 pub fn own_kind(tree: &Tree, has_dictionary: bool) -> StreamKind
+    // The stream that has a column's runs beside PRESENT is told, DATA or LENGTH: by its kind, and
+    // for texts by whether there is a dictionary; DATA for a struct, which has none.
     ensures { result ≡ kind_of_own (shape tree.now) has_dictionary }
 {
     match tree {

@@ -38,9 +38,13 @@ pub fn put_index(
     requires fit { RowsFit (shape tree.now) (lent_cells cells.now) }
     requires spelled { (x : Streams) × AreStreams x streams.now × IsColumn (shape tree.now) x (lent_cells cells.now) }
     requires bounds { AreBounds (length (lent_cells cells.now)) bounds.now }
+    // Where streams spell the cells, which fit, and bounds are theirs, the one text of the index is
+    // added: for each group the writer's places behind the cells before it, and its statistic.
     ensures index { OnOk result ((x : Streams) → AreStreams x streams.now
         → Adds (IsWrittenIndex (shape tree.now) x (lent_cells cells.now) bounds.now) out.old.items out.new.items) }
+    // What is answered is the statistic of all the cells.
     ensures stat { IfOk result (λ found. found ≡ stat (kind_of (shape tree.now)) (lent_cells cells.now)) }
+    // Where memory is refused, nothing is added.
     ensures unchanged { OnErr result (out.new.items ≡ out.old.items) }
 {
     let found = column_entries(alloc, tree, streams, cells, bounds)?;

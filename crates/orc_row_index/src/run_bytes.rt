@@ -27,6 +27,8 @@ pub enum RunBytes<'a> {
 impl RunBytes<'_> {
     /// How many numbers a position has (ORC specification, "Row Group Index").
     pub fn position_size(&self) -> usize
+        // A position has three numbers in a stream of booleans, two in one of bytes or integers,
+        // and none where there is no stream.
         ensures { result ≡ position_size (runs self.now) }
     {
         match self {

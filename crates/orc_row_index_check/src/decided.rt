@@ -27,9 +27,10 @@ use std::alloc::Global;
 ///
 /// Each stream is gone over once, and a position takes a search by halves, whatever it names.
 ///
-/// Refusals: `Run` where a stream of the column that has positions is no stream of runs, with its first run
-/// from the left that is none, or has more than 2^64 - 1 values; `OutOfMemory`, and nothing else where the
-/// streams spell cells of which these are the counts.
+/// Refusals: `OutOfMemory`, and nothing else where the streams spell cells of which these are the
+/// counts; `Run` else, of the column and one of its streams that have positions, with a fault of
+/// its runs: that of the first from the left that is none, `TooMany` of one that goes past 2^64 - 1
+/// values, or `TooFew` at the length of the bytes, where they have fewer.
 pub fn positions_right_behind(
     alloc: Global,
     tree: &Tree,
@@ -38,6 +39,8 @@ pub fn positions_right_behind(
     counts: &[Counts],
     entries: &[RowIndexEntry],
 ) -> Result<Vec<bool>, StripeFault>
+    // Where the streams spell cells and the counts are those before each entry's group, each truth
+    // value says exactly whether the entry's positions are right, or memory is refused.
     ensures right { (x : Streams) (cells : List Cell) (bounds : List ℕ) → AreStreams x streams.now
         → IsColumn (shape tree.now) x cells
         → AreBounds (length cells) bounds
@@ -45,6 +48,8 @@ pub fn positions_right_behind(
         → MatchResult result
         (λ right. AreDecided (shape tree.now) x cells bounds entries.now right.items)
         (λ fault. fault ≡ OutOfMemory) }
+    // Any other refusal names the column and the stream, with a fault of its runs: of the first
+    // that is none, TooMany past 2^64 - 1 values, or TooFew at the end of fewer.
     ensures fault { IfErr result (λ fault. fault ≢ OutOfMemory
         → (x : Streams) → AreStreams x streams.now
         → ColumnFails (shape tree.now) x column fault) }
@@ -74,9 +79,10 @@ pub fn positions_right_behind(
 ///
 /// The bounds ascend up to the number of cells: a condition.
 ///
-/// Refusals: `Run` where a stream of the column that has positions is no stream of runs, with its first run
-/// from the left that is none, or has more than 2^64 - 1 values; `OutOfMemory`, and nothing else where the
-/// streams spell the cells.
+/// Refusals: `OutOfMemory`, and nothing else where the streams spell the cells; `Run` else, of the
+/// column and one of its streams that have positions, with a fault of its runs: that of the first
+/// from the left that is none, `TooMany` of one that goes past 2^64 - 1 values, or `TooFew` at the
+/// length of the bytes, where they have fewer.
 pub fn positions_right(
     alloc: Global,
     tree: &Tree,
@@ -87,10 +93,14 @@ pub fn positions_right(
     entries: &[RowIndexEntry],
 ) -> Result<Vec<bool>, StripeFault>
     requires { AreBounds (length (lent_cells cells.now)) bounds.now }
+    // Where the streams spell the cells, and the bounds are theirs, each truth value says exactly
+    // whether its entry's positions are right, whoever wrote them, or memory is refused.
     ensures right { (x : Streams) → AreStreams x streams.now → IsColumn (shape tree.now) x (lent_cells cells.now)
         → MatchResult result
         (λ right. AreDecided (shape tree.now) x (lent_cells cells.now) bounds.now entries.now right.items)
         (λ fault. fault ≡ OutOfMemory) }
+    // Any other refusal names the column and the stream, with a fault of its runs: of the first
+    // that is none, TooMany past 2^64 - 1 values, or TooFew at the end of fewer.
     ensures fault { IfErr result (λ fault. fault ≢ OutOfMemory
         → (x : Streams) → AreStreams x streams.now
         → ColumnFails (shape tree.now) x column fault) }

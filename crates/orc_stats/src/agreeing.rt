@@ -122,6 +122,8 @@ impl Stat {
     /// Whether this says what the right statistic says, but for parts of children that this doesn't
     /// know. It has one direction.
     pub fn agrees(&self, right: &Stat) -> bool
+        // It is true exactly where this says what the right one says, but for parts of children
+        // that this doesn't know.
         ensures yes { OnTrue result (Agrees self.now right.now) }
         ensures no { OnFalse result (Agrees self.now right.now → ⊥) }
     {
@@ -130,6 +132,7 @@ impl Stat {
 
     /// Forgets the parts of children that a body doesn't know.
     pub fn keep_known(&mut self, told: &Body)
+        // The parts of children that the body doesn't know are forgotten; all else stays.
         ensures { self.new ≡ known_as told.now self.old }
     {
         if let Body::Children {

@@ -17,13 +17,18 @@ use crate::tally::Tally;
 use orc_types::Lent;
 use std::alloc::Global;
 
-/// The statistic of a column's cells (ORC specification, "Column Statistics").
+/// The statistic of a column's cells (ORC specification, "Column Statistics"). Of lists or maps it
+/// has the least and the greatest number of elements, or of pairs, of those that aren't null, and
+/// the exact total where it is below 2^64.
 ///
 /// Refusal: `OutOfMemory`, which comes for texts alone.
 pub fn of_cells(alloc: Global, kind: StatKind, cells: &[Lent<'_, '_>]) -> Result<Stat, StatFault>
     requires kind { All (λ c. is_of kind c ≡ true) (lent_cells cells.now) }
     requires most { length cells.now ≤ 2 ^ 62 }
+    // Of cells of the kind, 2^62 at most, it counts those not null, tells whether one is null, and
+    // has the kind's least, greatest, count of true, and exact total where 64 bits hold it.
     ensures found { IfOk result (λ s. s ≡ stat kind (lent_cells cells.now)) }
+    // The only refusal is want of memory, for STRING alone.
     ensures fault { IfErr result (λ fault. (fault ≡ OutOfMemory) × (kind ≡ text_kind)) }
 {
     match kind {
@@ -43,7 +48,11 @@ pub fn of_cells(alloc: Global, kind: StatKind, cells: &[Lent<'_, '_>]) -> Result
 /// comes for texts alone.
 pub fn join_all(alloc: Global, kind: StatKind, stats: &[Stat]) -> Result<Stat, StatFault>
     requires { All (λ s. body_is_of kind s.body ≡ true) stats.now }
+    // Where the bodies are of the kind, counts add up, null is there where one has it, unknown
+    // where one may, and a part is joined where all with values know it and what comes of it fits.
     ensures found { IfOk result (λ s. s ≡ joined kind stats.now) }
+    // CountTooLarge comes exactly where the counts add up past 2^62, and want of memory for STRING
+    // alone.
     ensures most { OnOk result (sum_by (λ s. s.count) stats.now ≤ 2 ^ 62) }
     ensures fault { IfErr result (JoinFault (kind ≡ text_kind) stats.now) }
 {

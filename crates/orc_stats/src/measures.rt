@@ -63,31 +63,41 @@ pub trait Measures<'r>: Sizes + Sized + Drop {
 
     /// Of no values.
     fn none() -> Self
+        // It is what is kept of no values.
         ensures none { parts result ≡ measure.joins.none }
+        // Its total is 0.
         ensures size { Self.size result ≡ 0 };
 
     /// Of one cell; null adds nothing.
     fn of_own(own: Own<'r>) -> Self
         requires { is_of kind (own_cell own) ≡ true }
+        // Where the cell is of the kind, it is what is kept of that cell.
         ensures value { parts result ≡ measure.of_cell (own_cell own.entry) }
+        // Its total is 2^64 at most, without the sign.
         ensures size { Self.size result ≤ 2 ^ 64 };
 
     /// Of the values that a statistic is of.
     fn of_body(body: &'r Body) -> Self
         requires { body_is_of kind body.now ≡ true }
+        // Where the body is of the kind, it is what is kept of the values that the body is of.
         ensures body { parts result ≡ measure.of_body body.now }
+        // Its total is 2^64 at most, without the sign.
         ensures size { Self.size result ≤ 2 ^ 64 };
 
     /// Of the values of both.
     fn join(&self, other: &Self) -> Self
         requires { Self.size self.now + Self.size other.now < 2 ^ 127 }
+        // Where both totals together are below 2^127, it is the join of what both keep.
         ensures joined { parts result ≡ measure.joins.join (parts self.now) (parts other.now) }
+        // Its total is no more than both together, without the signs.
         ensures size { Self.size result ≤ Self.size self.now + Self.size other.now };
 
     /// The body of their statistic.
     ///
     /// Refusal: `OutOfMemory`, where a text has to be copied.
     fn body(&self, alloc: Global) -> Result<Body, StatFault>
+        // The body is that of what is kept.
         ensures found { IfOk result (λ body. body ≡ measure.body (parts self.now)) }
+        // The only refusal is want of memory, where the kind's body takes some.
         ensures fault { IfErr result (λ fault. (fault ≡ OutOfMemory) × TakesMemory) };
 }

@@ -26,7 +26,11 @@ impl Stat {
     /// Refusals: `CountTooLarge` exactly where the values, or among truth values the true ones, are
     /// more than 2^62, and `OutOfMemory`, which comes for texts alone.
     pub fn read(alloc: Global, kind: StatKind, message: &ColumnStats) -> Result<Stat, StatFault>
+        // What is read is the message's count and null, and what the record of the column's kind
+        // says; where it counts no values, nothing is known of them.
         ensures found { IfOk result (λ s. s ≡ stat_read kind message.now) }
+        // CountTooLarge comes exactly where the values, or for BOOLEAN with a value the true ones,
+        // are more than 2^62, and want of memory for STRING alone.
         ensures limits { IfOk result (λ s. in_limits s ≡ true) }
         ensures fault { IfErr result (MessageFault kind message.now) }
     {
@@ -53,7 +57,10 @@ impl Stat {
     ///
     /// Refusal: `OutOfMemory`, only where a text is known, or how many values are true.
     pub fn put(&self, alloc: Global) -> Result<ColumnStats, StatFault>
+        // What is put has the count, the null and the record of the statistic's kind, where a part
+        // is known, and no other record.
         ensures put { IfOk result (λ m. m ≡ message_of self.now) }
+        // The only refusal is want of memory, where a text or a count of true is known.
         ensures fault { IfErr result (λ fault. (fault ≡ OutOfMemory) × (takes_memory self.now.body ≡ true)) }
     {
         let mut message = ColumnStats {

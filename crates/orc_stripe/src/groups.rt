@@ -59,10 +59,13 @@ pub fn column_groups<'r, 'a>(
 ) -> Result<ColumnGroups<'r, 'a>, AllocError>
     requires column { column < width schema.now }
     requires firsts { AreBounds (length (views rows.now)) firsts.now }
+    // The cells that are answered are those of the column in the rows.
     ensures cells { IfOk result
         (λ groups. lent_cells groups.cells.items ≡ spec.cells schema.now column (views rows.now)) }
+    // The bounds that are answered are how many of the cells come before each group.
     ensures bounds { IfOk result
         (λ groups. groups.bounds.items ≡ bounds_of schema.now column (views rows.now) firsts.now) }
+    // The bounds ascend, up to the number of cells at most.
     ensures ascending { IfOk result (λ groups. AreBounds (length (lent_cells groups.cells.items)) groups.bounds.items) }
 {
     let mut found = Vec::new(alloc);

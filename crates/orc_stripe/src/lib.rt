@@ -1,4 +1,5 @@
-//! Stripes: columns and streams to rows, and back.
+//! Stripes: columns and streams to rows, and back. Users call this crate, which hands on the calls
+//! of `orc_stripe_writer`; the definitions are those of `orc_column_reader` and of that crate.
 #![tactic(auto)]
 
 mod cursor;

@@ -18,16 +18,24 @@ use orc_json::layout::Layout;
 use orc_types::Row;
 
 impl<'a> RowCursor<'a> {
-    /// The next row; at the end `None`, once nothing is found left over in any stream.
+    /// The next row; at the end `None`, once nothing is found left over in any stream. Each row is
+    /// one fewer to come, so that a cursor over a bad stripe ends, too.
     ///
     /// Refusals: those of `StripeView::rows`, and `Failed` after each of them.
     pub fn next(&mut self) -> Result<Option<Row<'a>>, StripeFault>
+        // The first of the rows that the cursor stands for is answered, and the others are left; or
+        // None where there are none, unless memory is refused.
         ensures found { IfOk result (Gave self.old self.new) }
         ensures only { (rows : List Cell) → StandsFor self.old rows
             → MatchResult result (Gives rows self.new) (λ fault. fault ≡ OutOfMemory) }
+        // A row that is answered is one fewer to come.
         ensures fewer { IfOk result (CountsDown self.old self.new) }
+        // A fault that is met in the streams after an answer was met before it.
         ensures before { OnOk result ((f : Fault) → MeetsFault self.new f → MeetsFault self.old f) }
+        // A refusal but want of memory and Failed is a fault of what is left of the streams, which
+        // are to give as many rows as are still to come.
         ensures fault { IfErr result (λ fault. fault ≢ OutOfMemory → fault ≢ Failed → MeetsFault self.old fault) }
+        // From a refusal on the cursor answers Failed, and not before.
         ensures failed { HasRefused self.old → result ≡ Err Failed }
         ensures first { IfErr result (λ fault. fault ≡ Failed → HasRefused self.old) }
         ensures after { OnErr result (HasRefused self.new) }
@@ -76,14 +84,21 @@ impl<'a> RowCursor<'a> {
     ///
     /// Refusals: those of `next`. What is appended before one of them is left open.
     pub fn push_next(&mut self, layout: &Layout, out: &mut Vec<u8>) -> Result<bool, StripeFault>
+        // The text of the first of the rows, by the layout, is appended, and true answered; or
+        // nothing, and false, where there are none, unless memory is refused.
         ensures found { IfOk result (GaveText (StandsFor self.old) (StandsFor self.new) (text_by layout.now)
             out.old.items out.new.items) }
         ensures only { (rows : List Cell) → StandsFor self.old rows
             → MatchResult result (GivesText rows (StandsFor self.new) (text_by layout.now) out.old.items out.new.items)
             (λ fault. fault ≡ OutOfMemory) }
+        // A row whose text is appended is one fewer to come.
         ensures fewer { IfOk result (CountsDownWhere self.old self.new) }
+        // A fault that is met in the streams after an answer was met before it.
         ensures before { OnOk result ((f : Fault) → MeetsFault self.new f → MeetsFault self.old f) }
+        // A refusal but want of memory and Failed is a fault of what is left of the streams, which
+        // are to give as many rows as are still to come.
         ensures fault { IfErr result (λ fault. fault ≢ OutOfMemory → fault ≢ Failed → MeetsFault self.old fault) }
+        // From a refusal on the cursor answers Failed, and not before.
         ensures failed { HasRefused self.old → result ≡ Err Failed }
         ensures first { IfErr result (λ fault. fault ≡ Failed → HasRefused self.old) }
         ensures after { OnErr result (HasRefused self.new) }
@@ -111,10 +126,14 @@ impl<'a> RowCursor<'a> {
     ///
     /// Refusals: those of `StripeView::rows`, and `Failed` after one of them.
     pub fn rest(mut self) -> Result<Vec<Row<'a>>, StripeFault>
+        // All rows that are still to come are answered at once, unless memory is refused.
         ensures found { IfOk result (λ rows. StandsFor self.entry (views rows.items)) }
         ensures only { (rows : List Cell) → StandsFor self.entry rows
             → MatchResult result (λ answered. views answered.items ≡ rows) (λ fault. fault ≡ OutOfMemory) }
+        // A refusal but want of memory and Failed is a fault of what is left of the streams, which
+        // are to give as many rows as are still to come.
         ensures fault { IfErr result (λ fault. fault ≢ OutOfMemory → fault ≢ Failed → MeetsFault self.entry fault) }
+        // Failed is answered of a cursor that was refused, and of no other.
         ensures failed { HasRefused self.entry → result ≡ Err Failed }
         ensures first { IfErr result (λ fault. fault ≡ Failed → HasRefused self.entry) }
     {

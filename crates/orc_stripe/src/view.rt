@@ -27,6 +27,16 @@ use std::alloc::Global;
 use std::marker::Model;
 
 /// A stripe whose directory and encodings are accepted.
+///
+/// `HasFooter` says that bytes are a stripe with a footer, whose directory and encodings are
+/// accepted, `SpellRows` that columns spell so many rows, and `IsStripe` both together. The
+/// columns' streams are those that the footer's directory gives, `columns_of`.
+///
+/// `HasFault` is a fault of one of the schema's columns: one that a column of its kind and encoding
+/// can have, and true of its streams. What is wrong with values that are spelled is a line each in
+/// `specs/ValueFaults`, with runs in `specs/RunFaults` of `orc_column_reader`. It goes down the
+/// schema, since the marks and lengths of the columns above a column say how many values it needs
+/// of its streams (`specs/Needs`): all of these, or those that come first.
 #[derive(Drop)]
 pub struct StripeView<'a> {
     schema: &'a Schema,
@@ -66,13 +76,20 @@ impl<'a> StripeView<'a> {
         stride: u32,
         bytes: &'a [u8],
     ) -> Result<StripeView<'a>, StripeFault>
+        // What is opened is a stripe with the footer that the view keeps: the bytes are as many as
+        // the three lengths, and its directory and encodings are accepted.
         ensures found { IfOk result (λ view. HasFooter schema.now info bytes.now view.footer) }
+        // The view keeps the schema, the record, the stride and the bytes.
         ensures same { IfOk result (λ view. (view.schema ≡ schema.now)
             × (view.info ≡ info)
             × (view.stride ≡ stride)
             × (view.bytes ≡ bytes.now)) }
+        // Where the bytes have a footer that is accepted, they are opened with it, unless memory is
+        // refused.
         ensures only { (footer : StripeFooter) → HasFooter schema.now info bytes.now footer
             → MatchResult result (λ view. view.footer ≡ footer) (λ fault. fault ≡ OutOfMemory) }
+        // A refusal stands: BadDirectory, BadEncoding with the first column that is wrong, or Wire
+        // with the footer's own fault; no other is answered but want of memory.
         ensures fault { IfErr result (OpenFault schema.now info bytes.now) }
     {
         let Some(room) = info.index_length.checked_add(info.data_length) else {
@@ -112,17 +129,37 @@ impl<'a> StripeView<'a> {
     /// The rows of the stripe. Their texts and bytes are slices of the stripe. No memory is set aside by
     /// a number that was read.
     ///
-    /// Refusals, each with the number of the column, and the kind of the stream where one is concerned:
-    /// `Run` where a stream has no such runs, or too few or too many of them, with the fault that `decode`
-    /// has for as many values as the column needs; `NotUtf8` of a text; `BadIndex` of an index that isn't
-    /// below its dictionary's size; `LengthSum` where a stream of bytes has another length than its LENGTHs
-    /// say; `OutOfRange` of a number outside of its column's type; `TooMany` where a column has more than
-    /// 2,147,483,647 cells, with the number of the LIST above it, or of the root where the rows are more;
-    /// and `OutOfMemory`. Which of several is answered is open.
+    /// Refusals, each with the number of the column, and the kind of the stream where one is
+    /// concerned: `Run` where a stream has no such runs, or too few or too many of them, with the
+    /// fault that `decode` has for as many values as the column needs; `NotUtf8` of a text;
+    /// `BadIndex` of an index that isn't below its dictionary's size; `LengthSum` where a stream of
+    /// bytes has another length than its LENGTHs say; `OutOfRange` of a number outside of its
+    /// column's type; `TooMany` where a column has more than 2,147,483,647 cells, with the number
+    /// of the LIST or MAP above it, or of the root where the rows are more; and `OutOfMemory`.
+    /// Which of several is answered is open.
+    ///
+    /// What `Run` says: the stream's bytes begin with whole runs of the column's version and sign,
+    /// of at most as many values as it needs. At the fault's place, behind these, come bytes that
+    /// have no run in front, and the fault is theirs; or a run that passes the number, and it is
+    /// `TooMany`; or nothing, though values are missing, and it is `TooFew` at the length of the
+    /// bytes. Where the streams above say that number by their first marks and lengths alone, it is
+    /// so for each number from theirs on.
+    ///
+    /// The others are true of the numbers that come first in the stream, in whole runs.
+    /// `OutOfRange`: one of DATA's isn't in the column's type; never of a LONG. `BadIndex`: one of
+    /// DATA's isn't below the dictionary's size. `NotUtf8`: what the LENGTHs cut off the front of
+    /// DATA isn't all UTF-8, or an entry that one of DATA's indexes names isn't. `LengthSum`: the
+    /// LENGTHs that come first are more than the bytes, or all of them are less. `TooMany`: those
+    /// that come first are more than 2,147,483,647.
     pub fn rows(&self, alloc: Global) -> Result<Vec<Row<'a>>, StripeFault>
+        // The rows that are answered are the stripe's: as many as its record says, they fit the
+        // schema, and each column's streams spell its cells in them, and nothing more.
         ensures found { IfOk result (λ rows. IsStripe self.now.schema self.now.info self.now.bytes (views rows.items)) }
+        // Where the bytes are a stripe of rows, these are answered, unless memory is refused.
         ensures only { (rows : List Cell) → IsStripe self.now.schema self.now.info self.now.bytes rows
             → MatchResult result (λ answered. views answered.items ≡ rows) (λ fault. fault ≡ OutOfMemory) }
+        // A refusal but want of memory stands: there are no rows, and it is TooMany(0) for 2^31
+        // rows or more, or a fault that a column of the schema has in its streams.
         ensures fault { IfErr result (λ cause. cause ≢ OutOfMemory
             → RowsFault self.now.schema (columns_of self.now.footer self.now.bytes)
             self.now.info.number_of_rows cause) }
@@ -142,13 +179,19 @@ impl<'a> StripeView<'a> {
     ///
     /// Refusals: those of `rows`; where the rows are more than 2,147,483,647, `TooMany(0)`.
     pub fn cursor(&self, alloc: Global) -> Result<RowCursor<'a>, StripeFault>
+        // The rows that a cursor stands for are the stripe's.
         ensures found { IfOk result (λ cursor. (rows : List Cell) → StandsFor cursor rows
             → IsStripe self.now.schema self.now.info self.now.bytes rows) }
+        // Where the bytes are a stripe of rows, the cursor stands for these, unless memory is
+        // refused.
         ensures only { (rows : List Cell) → IsStripe self.now.schema self.now.info self.now.bytes rows
             → MatchResult result (λ cursor. StandsFor cursor rows) (λ fault. fault ≡ OutOfMemory) }
+        // A cursor wasn't refused yet.
         ensures going { IfOk result IsGoing }
+        // What a cursor meets in its streams later is a fault of the stripe's columns.
         ensures meets { IfOk result (λ cursor. (f : Fault) → MeetsFault cursor f
             → HasFault self.now.schema (columns_of self.now.footer self.now.bytes) self.now.info.number_of_rows f) }
+        // A refusal but want of memory stands as one of `rows` does.
         ensures fault { IfErr result (λ cause. cause ≢ OutOfMemory
             → RowsFault self.now.schema (columns_of self.now.footer self.now.bytes)
             self.now.info.number_of_rows cause) }

@@ -26,6 +26,8 @@ use std::alloc::{AllocError, Global};
 /// Refusal: want of memory.
 pub fn group_starts(alloc: Global, stride: usize, rows: usize) -> Result<Vec<usize>, AllocError>
     requires { 0 < stride }
+    // Where the stride is above 0, the answer is how many rows come before each group: each
+    // multiple of the stride below the number of rows, in order, unless memory is refused.
     ensures { IfOk result (λ found. found.items ≡ starts stride rows) }
 {
     let mut found = Vec::new(alloc);

@@ -79,8 +79,10 @@ fn fields_are_few(
 ///
 /// Refusal: `OutOfMemory`.
 pub fn are_few(alloc: Global, schema: &Schema, rows: &[Row<'_>]) -> Result<bool, StripeFault>
+    // What is answered is exactly whether no column has more than 2,147,483,647 cells of the rows.
     ensures yes { IfOk result (λ few. OnTrue few (AreFew schema.now (views rows.now))) }
     ensures no { IfOk result (λ few. OnFalse few (AreFew schema.now (views rows.now) → ⊥)) }
+    // Want of memory is the only refusal.
     ensures refused { IfErr result (λ fault. fault ≡ OutOfMemory) }
 {
     let cells = lent_rows(alloc, rows)?;

@@ -22,9 +22,12 @@ impl Options {
     ///
     /// `None` where `stripe_rows` is 0 or more than that.
     pub fn new(rle: Rle, stride: u32, stripe_rows: u32) -> Option<Options>
+        // Options that are made have the version of runs, the stride and the rows of a stripe that
+        // were asked for.
         ensures some { IfSome result (λ options. (options.rle ≡ rle)
             × (options.stride ≡ stride)
             × (options.stripe_rows ≡ stripe_rows)) }
+        // They are refused only where a stripe would have no rows, or more than 2,147,483,647.
         ensures none { IfNone result ((stripe_rows ≡ 0) ⊎ (cell_limit ≤ stripe_rows)) }
     {
         if stripe_rows == 0 || stripe_rows >= 0x8000_0000 {
@@ -39,6 +42,7 @@ impl Options {
 
     /// The version of integer run lengths.
     pub fn rle(self) -> Rle
+        // The answer is the version of integer runs that the options have.
         ensures { result ≡ self.rle }
     {
         self.rle
@@ -46,6 +50,7 @@ impl Options {
 
     /// After how many rows a group of the row index begins; 0 where there is none.
     pub fn stride(self) -> u32
+        // The answer is after how many rows a group begins by the options.
         ensures { result ≡ self.stride }
     {
         self.stride
@@ -53,7 +58,9 @@ impl Options {
 
     /// After how many rows a stripe is closed.
     pub fn stripe_rows(self) -> u32
+        // The answer is after how many rows a stripe is closed by the options.
         ensures rows { result ≡ self.stripe_rows }
+        // A stripe's rows are 1 to 2,147,483,647 then.
         ensures some { 0 < result }
         ensures most { result < cell_limit }
     {

@@ -119,11 +119,17 @@ pub fn write_stripe(
 ) -> Result<StripeOut, StripeFault>
     requires fit { RowsFit schema.now (views rows.now) }
     requires few { AreFew schema.now (views rows.now) }
+    // Where the rows fit and are few enough for one stripe, what is written is a stripe of them, so
+    // that it is opened, and its rows are read as them.
     ensures stripe { IfOk result (λ out. IsStripe schema.now out.info out.bytes.items (views rows.now)) }
+    // It is laid out by the writer's rules, at offset 0: the order of indexes, streams and columns,
+    // what is left out, encodings, dictionaries, runs, and with a stride the row indexes.
     ensures written { IfOk result
         (λ out. IsWrittenStripe options.now.rle options.now.stride schema.now
         (views rows.now) out.info out.bytes.items) }
+    // There is a statistic for each column, that of its cells.
     ensures stats { IfOk result (λ out. HaveStats schema.now (views rows.now) (width schema.now) out.stats.items) }
+    // Want of memory is the only refusal.
     ensures refused { IfErr result (λ fault. fault ≡ OutOfMemory) }
 {
     let columns = all_columns(alloc, options, schema, rows)?;

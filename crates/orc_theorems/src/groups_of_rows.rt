@@ -31,18 +31,21 @@ use orc_cli_check::place_laws;
 /// on. So it may in each file that is merged of such files, in whatever groups. What stands in the streams before the
 /// group's offsets has no part in it: a stripe that differs from one of such a file there alone gives the same rows.
 pub fn reading_from_the_middle()
-    // Each stripe starts at each of its groups, as a cursor asks for that enters it there.
+    // Where nothing is found of a file of rows, each stripe starts at each of its groups, as a
+    // cursor asks for that enters it there.
     ensures starts { (bytes : List ℕ) (tail : Tail) (rows : List Cell)
         → (it_is_a_file_of_the_rows : FileIs bytes tail rows)
         → (nothing_is_found_of_it : Findings bytes tail rows [])
         → StartsAtGroups bytes tail rows }
-    // What is printed from a group of a stripe on is the file's rows from the group's first one on.
+    // What is printed of such a file from a group of a stripe on is its rows from the group's first
+    // one on.
     ensures lines { (bytes : List ℕ) (tail : Tail) (rows : List Cell) (stripe group : ℕ) (lines : List ℕ)
         → (it_is_a_file_of_the_rows : FileIs bytes tail rows)
         → (nothing_is_found_of_it : Findings bytes tail rows [])
         → (these_are_printed : AreFrom bytes tail stripe group lines)
         → lines ≡ row_lines tail.schema (drop (rows_before tail stripe group) rows) }
-    // Where the group is there and the rows have JSON, printing them is refused for nothing that is the file's.
+    // Where the group is there and the rows have JSON, printing them is refused for nothing that is
+    // the file's.
     ensures only { (bytes : List ℕ) (tail : Tail) (rows : List Cell) (stripe group : ℕ) (old new : Option (List ℕ))
         (fault : CliFault)
         → (it_is_a_file_of_the_rows : FileIs bytes tail rows)
@@ -51,8 +54,8 @@ pub fn reading_from_the_middle()
         → (the_rows_have_json : HaveJson tail.schema rows)
         → (it_is_refused : EndsFrom bytes tail stripe group old new fault)
         → IsOutsideFile fault }
-    // Each file that is merged of such files, in whatever groups, has all their rows, in order, and is such a file
-    // again.
+    // What was merged of such files, in whatever groups, where each merge answered Ok, has all
+    // their rows, in order, and is such a file again.
     ensures merged { (groups : Groups) (out : List ℕ) (parts : List (List Cell))
         → (each_merge_wrote : Wrote (merge groups) out)
         → (nothing_is_found_of_the_files : AreWithoutFinding (all_leaves groups) parts)
@@ -61,8 +64,8 @@ pub fn reading_from_the_middle()
         × ((stripe group : ℕ) (lines : List ℕ) → AreFrom out tail stripe group lines
         → lines ≡ row_lines tail.schema (drop (rows_before tail stripe group) (joined parts))) }
 
-    // A stripe that differs only before a group's offsets from one that starts there starts there, too, with the same
-    // rows.
+    // A stripe that differs only before a group's offsets from one that starts at the group starts
+    // there, too, with the same rows.
     ensures alone { (view : Opened) (x : ℕ → Streams) (rows : List Cell) (group : ℕ) (bytes : List ℕ)
         → (the_stripe_starts_at_the_group : StartsGroup view x rows group)
         → (these_bytes_differ_only_before_it : DiffersOnlyBefore view group bytes)
@@ -72,15 +75,16 @@ pub fn reading_from_the_middle()
         → (the_stripe_has_its_footer : HasFooter view.schema view.info view.bytes view.footer)
         → (these_bytes_differ_only_before_the_group : DiffersOnlyBefore view group bytes)
         → HasFooter view.schema view.info bytes view.footer }
-    // So what is printed from the group on of a file that differs so from one of which nothing is found is that file's
-    // rows.
+    // So what is printed from the group on of a file that differs so, in that stripe and none
+    // behind it, from one of which nothing is found is the rows of that one from there on.
     ensures lines_alone { (bytes other : List ℕ) (tail : Tail) (rows : List Cell) (stripe group : ℕ) (lines : List ℕ)
         → (it_is_a_file_of_the_rows : FileIs bytes tail rows)
         → (nothing_is_found_of_it : Findings bytes tail rows [])
         → (another_differs_only_before_the_group : FileDiffersOnlyBefore bytes tail stripe group other)
         → (these_are_printed_of_the_other : AreFrom other tail stripe group lines)
         → lines ≡ row_lines tail.schema (drop (rows_before tail stripe group) rows) }
-    // And printing them is refused for nothing that is the other file's.
+    // Where the group is there and the rows have JSON, printing them is refused for nothing that is
+    // that other file's.
     ensures only_alone { (bytes other : List ℕ) (tail : Tail) (rows : List Cell) (stripe group : ℕ)
         (old new : Option (List ℕ)) (fault : CliFault)
         → (it_is_a_file_of_the_rows : FileIs bytes tail rows)

@@ -34,13 +34,18 @@ pub fn print_from<W: Write>(
     from: &str,
     out: &mut W,
 ) -> Result<bool, CliFault>
+    // Where true is answered, the bytes are a file of rows, and an output that tells its bytes has
+    // got the lines of those from the named group's first one on, and nothing else.
     ensures lines { IfOk result (λ printed. IsTrue printed
         → (tail : Tail) × (rows : List Cell) × (stripe : ℕ) × (group : ℕ)
         × FileIs bytes.now tail rows × IsStart from.now stripe group
         × Appends (W.contents out.old) (W.contents out.new)
         (row_lines tail.schema (drop (rows_before tail stripe group) rows))) }
+    // False is answered only where something is found of the file.
     ensures found { IfOk result (λ printed. printed ≡ false
         → (found : List Finding) × AreFound bytes.now found × (found ≢ [])) }
+    // Where the bytes are a file of rows that have JSON, and the named group is there, a refusal is
+    // for the output, the source or memory alone.
     ensures only { IfErr result (λ e. (tail : Tail) (rows : List Cell) (stripe group : ℕ)
         → FileIs bytes.now tail rows → HaveJson tail.schema rows
         → IsStart from.now stripe group
@@ -72,6 +77,8 @@ pub fn print_other_from<W: Write>(
     from: &str,
     out: &mut W,
 ) -> Result<bool, CliFault>
+    // Where true is answered, the other's lines from the group on are out; they are the first
+    // one's, if it has that tail and the other differs from that stripe on only before the offsets.
     ensures lines { IfOk result (λ printed. IsTrue printed
         → (tail : Tail) × (lines : List ℕ) × (stripe : ℕ) × (group : ℕ)
         × IsTail other.now tail × IsStart from.now stripe group
@@ -80,6 +87,7 @@ pub fn print_other_from<W: Write>(
         × ((rows : List Cell) → FileIs checked.now tail rows
         → FileDiffersOnlyBefore checked.now tail stripe group other.now
         → lines ≡ row_lines tail.schema (drop (rows_before tail stripe group) rows))) }
+    // False is answered only where something is found of the first file.
     ensures found { IfOk result (λ printed. printed ≡ false
         → (found : List Finding) × AreFound checked.now found × (found ≢ [])) }
 {

@@ -54,24 +54,25 @@ pub fn merge_theorem()
         → (each_merge_below_wrote : AllWrote groups files)
         → (last_merge_wrote : WroteMerge files tail old new)
         → WroteMerge (all_leaves groups) tail old new }
-    // Whether written or not, a grouping gives the merged file of all its files, and no other.
+    // Whether written or not, a grouping gives the merged file of all its files, and no other, if
+    // what its steps below the root give has fewer than 2^64 bytes.
     ensures given { (groups : Groups) (out : List ℕ)
         → (steps_below_give_fewer_than_2_64_bytes : AllShort groups)
         → Gives (merge groups) out ↔ ((tail : Tail) × IsMerge (all_leaves groups) tail out) }
 
-    // A merged file opens with its tail.
+    // A merged file with fewer than 2^64 bytes opens with its tail.
     ensures opens { (files : List (List ℕ)) (tail : Tail) (out : List ℕ)
         → (it_is_their_merge : IsMerge files tail out)
         → (it_has_fewer_than_2_64_bytes : length out < 2 ^ 64)
         → IsTail out tail }
-    // Its rows are the files' rows, in order.
+    // Where each file has rows, the rows of such a merged file are the files' rows, in order.
     ensures rows { (files : List (List ℕ)) (tail : Tail) (out : List ℕ) (parts : List (List Cell))
         → (it_is_their_merge : IsMerge files tail out)
         → (it_has_fewer_than_2_64_bytes : length out < 2 ^ 64)
         → (each_file_has_rows : HaveRows files parts)
         → FileIs out tail (joined parts) }
 
-    // Its statistics of the whole file are the same for every order of the files.
+    // A merged file's statistics of the whole file are the same for every order of the files.
     ensures order { (files others : List (List ℕ)) (tail its_tail : Tail) (out other : List ℕ)
         → (it_is_their_merge : IsMerge files tail out)
         → (other_is_the_others_merge : IsMerge others its_tail other)
@@ -82,12 +83,14 @@ pub fn merge_theorem()
         → (it_is_their_merge : IsMerge files tail out)
         → (others_are_the_files_in_some_order : IsPermutation files others)
         → (its_tail : Tail) × (other : List ℕ) × IsMerge others its_tail other }
-    // They are those of all rows, where those of the files' stripes are those of their rows, and so are its stripes'.
+    // Where the statistics of the files' stripes are those of their rows, or know less of children,
+    // so are those of the merged file's stripes, and those of the whole file are those of all rows.
     ensures statistics { (files : List (List ℕ)) (tail : Tail) (out : List ℕ) (parts : List (List Cell))
         → (it_is_their_merge : IsMerge files tail out)
         → (each_file_has_rows_and_their_statistics : AreHonestFiles files parts)
         → Honest tail (joined parts) × HasWholeStats tail (joined parts) }
-    // Then a column's sum stands exactly where that of each stripe with values and that of all rows fit 64 bits.
+    // Where they are so, and it has fewer than 2^64 bytes, a column's sum stands exactly where that
+    // of each stripe with values and that of all rows fit 64 bits.
     ensures sums { (files : List (List ℕ)) (tail : Tail) (out : List ℕ) (parts : List (List Cell)) (column : ℕ)
         → (it_is_their_merge : IsMerge files tail out)
         → (it_has_fewer_than_2_64_bytes : length out < 2 ^ 64)
@@ -98,7 +101,8 @@ pub fn merge_theorem()
         ≡ (each_fits tail.schema (cut_rows tail.stripes (joined parts)) column
         && has_sum (column_stat tail.schema (joined parts) column).body)) }
 
-    // For user metadata or a limit the merge at once is refused exactly where some step of a grouping is.
+    // Where the files open and agree, and what steps below the root give has fewer than 2^64 bytes,
+    // merging at once is refused for user metadata or a limit exactly where some step is.
     ensures refused { (groups : Groups)
         → (steps_below_give_fewer_than_2_64_bytes : AllShort groups)
         → (files_open_and_agree : AreFellows (all_leaves groups))

@@ -35,10 +35,13 @@ pub fn in_two_steps<S: Source, W: Sink>(
     right: &mut [S],
     out: &mut W,
 ) -> Result<Tail, MergeFault>
+    // Where the sources and the output tell their bytes, the merged file of all files of both lists
+    // went out, and its tail is answered.
     ensures merged { IfOk result (λ tail. (xs ys : List (List ℕ))
         → map S.told left.old ≡ map Some xs
         → map S.told right.old ≡ map Some ys
         → WroteMerge (xs ++ ys) tail (W.told out.old) (W.told out.new)) }
+    // Where the sources tell their bytes, a refusal is what one of the three merges is refused for.
     ensures refused { IfErr result (λ e. (xs ys : List (List ℕ))
         → map S.told left.old ≡ map Some xs
         → map S.told right.old ≡ map Some ys
@@ -68,12 +71,18 @@ pub fn join_in_steps(
     second: &[u8],
     third: &[u8],
 ) -> Result<FileInMemory, MergeFault>
+    // What is answered was written by joining the first two files, and then what this gave with the
+    // third.
     ensures wrote { IfOk result (λ done. Wrote (first_two first.now second.now third.now) done.bytes.items) }
+    // What is answered is what joining the three at once writes, with its tail.
     ensures merged { IfOk result (λ done.
         WroteMerge (first.now ∷ second.now ∷ third.now ∷ []) done.tail (Some []) (Some done.bytes.items)) }
+    // Where the files open, and are of one kind, user metadata or a limit is the refusal only where
+    // one of them refuses joining the three at once.
     ensures refused { IfErr result (λ e. ComesOfJoining e
         → AreFellows (first.now ∷ second.now ∷ third.now ∷ [])
         → (fault : MergeFault) × ComesOfJoining fault × IsRefused (first.now ∷ second.now ∷ third.now ∷ []) fault) }
+    // A refusal is for a device, memory or what one of the steps is refused for.
     ensures step { IfErr result (IsStepAnswer (first_two first.now second.now third.now)) }
 {
     // for its contract alone: a grouping is refused just where the merge of all its files is
@@ -96,21 +105,32 @@ pub fn join_in_groupings(
     second: &[u8],
     third: &[u8],
 ) -> Result<(FileInMemory, bool), MergeFault>
+    // The file that is answered is the merged file of the three, with its tail.
     ensures merged { IfOk result (λ done.
         WroteMerge (first.now ∷ second.now ∷ third.now ∷ []) done.0.tail (Some []) (Some done.0.bytes.items)) }
+    // Each grouping gave the same bytes as joining them at once: true is answered.
     ensures same { IfOk result (λ done. IsTrue done.1) }
+    // Both groupings wrote the bytes that are answered.
     ensures grouped { IfOk result (λ done. Wrote (first_two first.now second.now third.now) done.0.bytes.items
         × Wrote (last_two first.now second.now third.now) done.0.bytes.items) }
+    // Whatever other grouping of them there is, where what its steps below the root give has fewer
+    // than 2^64 bytes, gives these bytes, and no others.
     ensures given { IfOk result (λ done. (groups : Groups) (out : List ℕ) → AllShort groups
         → all_leaves groups ≡ first.now ∷ second.now ∷ third.now ∷ []
         → Gives (grouping.merge groups) out ↔ (out ≡ done.0.bytes.items)) }
+    // The file opens with the tail that is answered.
     ensures opens { IfOk result (λ done. IsTail done.0.bytes.items done.0.tail) }
+    // Where the three files have rows, its rows are theirs, in order.
     ensures rows { IfOk result (λ done. (parts : List (List Cell))
         → HaveRows (first.now ∷ second.now ∷ third.now ∷ []) parts
         → FileIs done.0.bytes.items done.0.tail (rows.joined parts)) }
+    // Where the statistics of the files' stripes are those of their rows, or know less of children,
+    // so are its stripes', and those of the whole file are those of all rows.
     ensures statistics { IfOk result (λ done. (parts : List (List Cell))
         → AreHonestFiles (first.now ∷ second.now ∷ third.now ∷ []) parts
         → Honest done.0.tail (rows.joined parts) × HasWholeStats done.0.tail (rows.joined parts)) }
+    // Then a column's sum stands exactly where that of each stripe with values and that of all rows
+    // fit 64 bits.
     ensures sums { IfOk result (λ done. (parts : List (List Cell)) (column : ℕ)
         → AreHonestFiles (first.now ∷ second.now ∷ third.now ∷ []) parts
         → column < width done.0.tail.schema
@@ -118,6 +138,7 @@ pub fn join_in_groupings(
         × (has_sum told.body
         ≡ (each_fits done.0.tail.schema (cut_rows done.0.tail.stripes (rows.joined parts)) column
         && has_sum (column_stat done.0.tail.schema (rows.joined parts) column).body))) }
+    // A refusal is for a device, memory or what a step of one of the three ways is refused for.
     ensures refused { IfErr result (λ e. IsStepAnswer (first_two first.now second.now third.now) e
         ⊎ (IsStepAnswer (last_two first.now second.now third.now) e
         ⊎ IsStepAnswer (at_once first.now second.now third.now) e)) }
@@ -142,13 +163,18 @@ pub fn join_in_orders(
     first: &[u8],
     second: &[u8],
 ) -> Result<(FileInMemory, FileInMemory), MergeFault>
+    // The two files that are answered are the merged files of the two in the one order and in the
+    // other, with their tails.
     ensures one { IfOk result (λ done.
         WroteMerge (first.now ∷ second.now ∷ []) done.0.tail (Some []) (Some done.0.bytes.items)) }
     ensures other { IfOk result (λ done.
         WroteMerge (second.now ∷ first.now ∷ []) done.1.tail (Some []) (Some done.1.bytes.items)) }
+    // Both have the same statistics of the whole file.
     ensures same { IfOk result (λ done. done.0.tail.file_stats ≡ done.1.tail.file_stats) }
+    // A refusal is what one of the two merges is refused for.
     ensures refused { IfErr result (λ e. IsAnswer (first.now ∷ second.now ∷ []) e
         ⊎ IsAnswer (second.now ∷ first.now ∷ []) e) }
+    // Where the first can be joined with the second, a refusal is only a device's or memory's.
     ensures only { IfErr result (λ e. (tail : Tail) (out : List ℕ)
         → IsMerge (first.now ∷ second.now ∷ []) tail out → IsDeviceFault e) }
 {

@@ -25,7 +25,8 @@ use orc_file::{row_laws, tail_laws, written_laws};
 /// found of it: its statistics, those of its stripes and of the whole file, and its row indexes are those of the
 /// rows.
 pub fn written_files_read_back()
-    // What was written, behind what the output had told, is a file of the rows, with the tail that is answered.
+    // What `finish` wrote, behind what the output had told, is a file of the rows that were pushed,
+    // with the tail that is answered.
     ensures written { (options : Options) (schema : Shape) (tail : Tail) (first told : Option (List ℕ)) (rows : List Cell)
         → (finish_wrote : IsWhole options schema tail first told rows)
         → (told ≡ appended first finish_wrote.bytes) × FileIs finish_wrote.bytes tail rows }
@@ -58,7 +59,8 @@ pub fn written_files_read_back()
         → (finish_wrote : IsWhole options schema tail first told rows)
         → (another_finish_wrote : IsWhole options schema other start end rows)
         → (other ≡ tail) × (another_finish_wrote.bytes ≡ finish_wrote.bytes) }
-    // Where a call of the writer failed, what was written is the front of a file of some of the first rows.
+    // Where a call of the writer failed, what was written is the front of a file of some of the
+    // first rows, if the text of the schema's types in the footer has fewer than 2^62 bytes.
     ensures front { (options : Options) (schema : Shape) (first told : Option (List ℕ)) (rows : List Cell)
         → (a_call_failed : IsCutOff options schema first told rows)
         → (types_have_fewer_than_2_62_bytes : length (types_text schema) < 2 ^ 62)

@@ -58,8 +58,12 @@ pub fn write_to<W: Sink>(
     rows: &[Row<'_>],
     out: W,
 ) -> Result<(Tail, W), (FileFault, W)>
+    // Where it succeeds, and the output tells its bytes, the whole file of the rows went out, and
+    // its tail is answered.
     ensures written { IfOk result (λ done.
         IsWhole options schema done.0 (W.told out) (W.told done.1) (views rows.now)) }
+    // Where the output failed, and the text of the schema's types in the footer has fewer than 2^62
+    // bytes, the front of a file of some of the first rows is out.
     ensures front { IfErr result (λ e. e.0 ≡ fault.WriteFailed
         → length (types_text schema) < 2 ^ 62
         → IsFrontOfFile schema (W.told out) (W.told e.1) (views rows.now)) }
@@ -115,11 +119,15 @@ pub fn write_and_read(
     options: Options,
     rows: &[Row<'_>],
 ) -> Result<ReadBack, FileFault>
+    // The file that is answered is the whole file of the rows, with its tail.
     ensures written { IfOk result (λ done.
         IsWhole options schema done.file.tail (Some []) (Some done.file.bytes.items) (views rows.now)) }
+    // The rows that are answered are those of the file, and those that were written.
     ensures read { IfOk result (λ done. FileIs done.file.bytes.items done.file.tail (views done.rows.items)) }
     ensures same { IfOk result (λ done. views done.rows.items ≡ views rows.now) }
+    // The findings that are answered are those of the file.
     ensures checked { IfOk result (λ done. AreFound done.file.bytes.items done.found.items) }
+    // Nothing is found of it.
     ensures nothing { IfOk result (λ done. done.found.items ≡ []) }
 {
     // for its contract alone: what is written is read back

@@ -17,6 +17,7 @@ use std::alloc::{AllocError, Global};
 
 /// The elements of a list or the fields of a struct, in order, and none of another cell.
 pub fn parts_of<'r, 'a>(row: &'r Row<'a>) -> &'r [Row<'a>]
+    // A list's elements or a struct's fields are answered, in order, and nothing of another row.
     ensures { views result.now ≡ parts (view row.now) }
 {
     match row {
@@ -88,6 +89,7 @@ fn members<'r, 'a>(
 
 /// The pairs of a map, in order, and none of another cell.
 pub fn pairs_of<'r, 'a>(row: &'r Row<'a>) -> &'r [MapPair<'a>]
+    // A map's pairs are answered, in order, and nothing of another row.
     ensures { map paired result.now ≡ pairs_in (view row.now) }
 {
     match row {
@@ -216,7 +218,9 @@ pub fn cells<'r, 'a>(
     rows: &'r [Row<'a>],
 ) -> Result<Vec<&'r Row<'a>>, TypeFault>
     requires { column < width schema.now }
+    // Where the schema has the column, exactly the column's cells are answered, in order.
     ensures found { IfOk result (λ found. lent_views found.items ≡ spec.cells schema.now column (views rows.now)) }
+    // The one refusal is want of memory.
     ensures fault { IfErr result (λ fault. fault ≡ OutOfMemory) }
 {
     let mut found = Vec::new(alloc);

@@ -40,6 +40,8 @@ pub(crate) fn day_text(alloc: Global, day: i32) -> Result<String, AllocError>
 ///
 /// Refusal: memory that ran out.
 pub fn date_text(alloc: Global, day: i32) -> Result<String, AllocError>
+    // Unless memory is refused, a day of the years 0001 to 9999 is written as its text, and any
+    // other as its number.
     ensures { IfOk result (λ text. string_bytes text ≡ spec.date_text day) }
 {
     if has_text(day) {

@@ -12,6 +12,8 @@ use crate::value::{MapPair, Row, Value};
 /// Whether the number lies in the range of a column of this kind: 8, 16, 32 or 64 bits, the sign
 /// among them, and never for a kind that has no whole numbers.
 pub fn int_fits(kind: Scalar, number: i64) -> bool
+    // The answer says exactly whether the number is in the kind's range; a kind without whole
+    // numbers has none.
     ensures { result ≡ spec.int_fits kind number }
 {
     match kind {
@@ -58,6 +60,8 @@ fn scalar_fits(kind: Scalar, value: &Value<'_>) -> bool
 /// Whether the row is one of the schema: it has the schema's shape, any part may be null, and
 /// numbers are in their kind's range. Each text is UTF-8, as every `str` is.
 pub fn fits(schema: &Schema, row: &Row<'_>) -> bool
+    // The answer says exactly whether the row has the schema's shape and its numbers their kinds'
+    // range; a text that fits is UTF-8.
     ensures { result ≡ spec.fits (view row.now) schema.now }
 {
     match row {

@@ -86,7 +86,9 @@ fn from_number(kind: Scalar, number: &Number) -> Result<Row<'static>, JsonFault>
 ///
 /// Refusals: `WrongShape`, `BadDate`, `BadHex`, each where it stands; `OutOfMemory`.
 pub fn leaf_from_text(alloc: Global, kind: Scalar, text: &str) -> Result<Row<'static>, JsonFault>
+    // What is read is a value of the kind that the string of JSON spells.
     ensures found { IfOk result (λ row. spec.ScalarSpells kind (json_string text.now) (view row)) }
+    // A refusal is true of the string under this kind, or is want of memory.
     ensures fault { IfErr result (λ fault. spec.LeafFault kind (json_string text.now) fault) }
 {
     match kind {

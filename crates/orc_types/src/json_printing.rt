@@ -27,9 +27,12 @@ use std::alloc::{AllocError, Global};
 /// Refusals: `DuplicateField` where some struct of the schema names a field twice; `OutOfMemory`.
 pub fn row_to_json(alloc: Global, schema: &Schema, row: &Row<'_>) -> Result<Json, JsonFault>
     requires { fits (view row.now) schema.now ≡ true }
+    // Where the row fits, what is printed is its JSON, and spells the row, so it reads back.
     ensures found { IfOk result (λ json. json_view json ≡ spec.json_of schema.now (view row.now)) }
     ensures again { IfOk result (λ json. Spells schema.now (json_view json) (view row.now)) }
+    // With a field named twice, anywhere in the schema, nothing is printed.
     ensures distinct { IfOk result (λ json. spec_distinct schema.now ≡ true) }
+    // Where the row fits, printing is refused only for a field named twice, or for memory.
     ensures fault { IfErr result (λ e. e ≢ fault.OutOfMemory
         → (e ≡ fault.DuplicateField) × (spec_distinct schema.now ≡ false)) }
 {

@@ -28,6 +28,8 @@ impl Scalar {
     /// The kind that has this number in a list of types, if one of these has it (ORC
     /// specification, "Types").
     pub fn from_number(number: u32) -> Option<Scalar>
+        // Of the kinds that contain no other, the one with this number in a list of types is
+        // answered, or none.
         ensures { result ≡ scalar_of number }
     {
         match number {
@@ -45,6 +47,7 @@ impl Scalar {
 
     /// The number of this kind in a list of types (ORC specification, "Types").
     pub fn number(self) -> u32
+        // A kind's number is the one that it has in a list of types.
         ensures { result ≡ number_of self }
     {
         match self {

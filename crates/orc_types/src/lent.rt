@@ -16,7 +16,9 @@ pub struct Lent<'r, 'a>(pub &'r Row<'a>);
 ///
 /// Refusal: `OutOfMemory`.
 pub fn lend<'r, 'a>(alloc: Global, cells: Vec<&'r Row<'a>>) -> Result<Vec<Lent<'r, 'a>>, TypeFault>
+    // Unless memory is refused, the slice shows the same cells, in order.
     ensures found { IfOk result (λ lent. lent_cells lent.items ≡ lent_views cells.entry.items) }
+    // The one refusal is want of memory.
     ensures fault { IfErr result (λ fault. fault ≡ OutOfMemory) }
 {
     let mut lent = Vec::new(alloc);

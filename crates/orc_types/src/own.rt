@@ -25,6 +25,7 @@ pub enum Own<'r> {
 impl Own<'_> {
     /// Whether it is null.
     pub fn is_null(self) -> bool
+        // The answer says whether the cell is null.
         ensures { result ≡ not (is_value (own_cell self.entry)) }
     {
         matches!(self, Own::Null)
@@ -33,6 +34,8 @@ impl Own<'_> {
 
 /// What a row's own column says of it.
 pub fn own_of<'r>(row: &'r Row<'_>) -> Own<'r>
+    // A row is told without its children: of a list or a map the size, of a struct that it is
+    // there.
     ensures { own_cell result ≡ childless (view row.now) }
 {
     match row {

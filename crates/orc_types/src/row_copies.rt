@@ -9,6 +9,7 @@ use std::borrow::{CowSlice, CowStr};
 /// The same row, with texts and bytes of its own, so that it outlives what it was borrowed from. Only
 /// want of memory refuses it.
 pub fn owned(alloc: Global, row: &Row<'_>) -> Result<Row<'static>, AllocError>
+    // Unless memory is refused, the copy is the same row.
     ensures { IfOk result (λ copy. view copy ≡ view row.now) }
 {
     match row {

@@ -55,11 +55,16 @@ impl Schema {
     /// UTF-8, and `OutOfMemory`. Which of several is answered is open.
     pub fn from_types(alloc: Global, types: &[TypeMsg]) -> Result<Schema, TypeFault>
         requires { AllKept types.now }
+        // Where kept bytes are fields above 3, what is answered is the tree whose types these are,
+        // within the limits.
         ensures found { IfOk result (λ found. HasTypes found types.now) }
+        // Types of such a tree are answered as it, or memory is refused.
         ensures only { (s : Shape)
             → HasTypes s types.now
             → MatchResult result (λ found. found ≡ s) (λ fault. fault ≡ OutOfMemory) }
 
+        // A refusal is true of the types, or is want of memory; TooDeep names a way down of 32
+        // steps, each from a LIST, a MAP or a STRUCT to a type that is there.
         ensures fault { IfErr result (TypesFault types.now) }
     {
         let tree = tree_of(alloc, types)?;
@@ -88,6 +93,7 @@ impl Schema {
 
     /// The types, in pre-order.
     pub fn types(&self) -> &[TypeMsg]
+        // The schema's types are lent, in pre-order, and it is within the limits.
         ensures same { result.now ≡ spec_types self.now 0 }
         ensures schema { IsSchema self.now }
     {
@@ -96,6 +102,7 @@ impl Schema {
 
     /// The number of columns: each type is one, the root column 0.
     pub fn width(&self) -> usize
+        // The answer is the number of the schema's columns, of which there are at most 4,096.
         ensures same { result ≡ width self.now }
         ensures most { result ≤ 4096 }
     {
@@ -104,6 +111,7 @@ impl Schema {
 
     /// The tree of types, for what goes down it.
     pub fn tree(&self) -> &Tree
+        // The schema's tree is lent, and it is within the limits.
         ensures same { shape result.now ≡ self.now }
         ensures schema { IsSchema self.now }
     {
@@ -112,6 +120,7 @@ impl Schema {
 
     /// Whether no struct names a field twice.
     pub fn has_distinct_names(&self) -> bool
+        // The answer says whether no struct, anywhere in the schema, names a field twice.
         ensures { result ≡ distinct_names self.now }
     {
         self.distinct

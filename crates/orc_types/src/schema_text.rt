@@ -19,11 +19,14 @@ use std::alloc::{AllocError, Global};
 impl Schema {
     /// The schema's text: `boolean`, `tinyint`, `smallint`, `int`, `bigint`, `string`, `binary`,
     /// `date`, `array<T>`, `map<K,V>` and `struct<name:T,..>`, with no spaces. It has the kinds and the
-    /// names, and nothing of what types keep (ORC specification, "Types").
+    /// names, and nothing of what types keep (ORC specification, "Types"). Where the names are of
+    /// ASCII letters, digits and underscores, `parse` reads it as these kinds and names.
     ///
     /// Refusal: `OutOfMemory`.
     pub fn text(&self, alloc: Global) -> Result<String, TypeFault>
+        // Unless memory is refused, the text says the schema's kinds and names.
         ensures found { IfOk result (λ text. string_bytes text ≡ spec.text self.now) }
+        // The one refusal is want of memory.
         ensures fault { IfErr result (λ fault. fault ≡ OutOfMemory) }
     {
         let mut text = String::new(alloc);
@@ -38,11 +41,15 @@ impl Schema {
     /// `RootNotStruct` of another type's text, `TooMany` above 4,096 types, and `OutOfMemory`. Which
     /// of several is answered is open.
     pub fn parse(alloc: Global, text: &str) -> Result<Schema, TypeFault>
+        // What a text is read as is a schema within the limits whose text it is, with plain names
+        // and nothing kept.
         ensures found { IfOk result (λ found. HasText found text.now) }
+        // The text of such a schema is read as it, or memory is refused.
         ensures only { (s : Shape)
             → HasText s text.now
             → MatchResult result (λ found. found ≡ s) (λ fault. fault ≡ OutOfMemory) }
 
+        // A refusal is true of the text, or is want of memory.
         ensures fault { IfErr result (TextFault text.now) }
     {
         let tree = whole_tree(alloc, text.as_bytes())?;

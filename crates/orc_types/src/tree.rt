@@ -29,6 +29,7 @@ pub struct Field {
 #[cycle(widths)]
 pub fn width_of(tree: &Tree) -> usize
     requires { width (shape tree.now) < 2 ^ 64 }
+    // Where a type has fewer than 2^64 columns, they are counted, itself the first.
     ensures { result ≡ width (shape tree.now) }
 {
     match tree {
@@ -56,6 +57,8 @@ fn widths_of(fields: &[Field]) -> usize
 pub fn tree_at(tree: &Tree, column: usize) -> &Tree
     requires few { width (shape tree.now) < 2 ^ 64 }
     requires there { column < width (shape tree.now) }
+    // Where a type has fewer than 2^64 columns, and this one among them, the type is lent that has
+    // this number in pre-order.
     ensures { shape result.now ≡ shape_at (shape tree.now) column }
 {
     if column == 0 {

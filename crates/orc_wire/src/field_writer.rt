@@ -20,6 +20,7 @@ pub struct FieldWriter<'a> {
 impl<'a> FieldWriter<'a> {
     /// A writer that appends to `out`.
     pub fn new(out: &'a mut Vec<u8>) -> FieldWriter<'a>
+        // A writer of fields begins with its vector as it is.
         ensures bytes { result.out.now.items ≡ out.old.items }
         ensures same_vector { result.out.ghost_name ≡ out.entry.ghost_name }
     {
@@ -32,14 +33,23 @@ impl<'a> FieldWriter<'a> {
     /// has, 0 or above 2^29-1, at the place where its key would stand, which is the vector's length;
     /// `OutOfMemory`.
     pub fn put(&mut self, number: u32, value: Value<'_>) -> Result<(), WireFault>
+        // Unless it is refused, the field is appended: its key and what it carries, with the
+        // shortest varints.
         ensures text { OnOk result (self.new.out.now.items ≡ self.old.out.now.items
             ++ field_text number (payload_of value.entry)) }
+        // What is appended is a field of this number and value, wherever it stands, so it is read
+        // back.
         ensures again { OnOk result ((place : ℕ) → IsField place (item_at number (payload_of value.entry) place)) }
 
+        // A number that no field has, 0 or above 2^29 - 1, is refused as BadWireType at the
+        // vector's length.
         ensures bad { IsOutside 1 (2 ^ 29) number → result ≡ Err (BadWireType (length self.old.out.now.items)) }
+        // No other refusal comes but want of memory.
         ensures refused { IfErr result (λ fault. (fault ≡ OutOfMemory)
             ⊎ (IsOutside 1 (2 ^ 29) number × (fault ≡ BadWireType (length self.old.out.now.items)))) }
+        // After a refusal the vector is as it was.
         ensures unchanged { OnErr result (self.new.out.now.items ≡ self.old.out.now.items) }
+        // The writer goes on with the same vector.
         ensures same_vector { self.new.out.ghost_name ≡ self.old.out.ghost_name }
     {
         let start = self.out.len();

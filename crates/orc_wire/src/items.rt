@@ -26,6 +26,7 @@ pub type Bytes = Items<u8>;
 impl<T: Drop> Items<T> {
     /// The items of a vector. It takes no memory.
     pub fn from_vec(items: Vec<T>) -> Items<T>
+        // The items are those of the vector, in order.
         ensures { result ≡ items.items }
     {
         Items { items }
@@ -33,13 +34,15 @@ impl<T: Drop> Items<T> {
 
     /// A vector of the items. It takes no memory.
     pub fn into_vec(self) -> Vec<T>
+        // The vector holds the items, in order.
         ensures { result.items ≡ self }
     {
         self.items
     }
 
-    /// The items, lent.
+    /// The items, lent. It takes no memory.
     pub fn as_slice(&self) -> &[T]
+        // The slice holds the items, in order.
         ensures { result.now ≡ self.now }
     {
         &self.items

@@ -39,14 +39,19 @@ use crate::message::Message;
 /// No field begins another, so bytes have one list of fields at most; and whatever bytes stand, a
 /// field is in front of them or one fault says why not.
 pub fn field_laws()
+    // No field begins another one, so at most one is in front of any bytes.
     ensures one_field { (place : ℕ) (a b : Item) (x y : List ℕ)
         → IsField place a → IsField place b → a.text ++ x ≡ b.text ++ y → a ≡ b }
+    // Bytes are those of one list of fields at most.
     ensures one_list { (base : ℕ) (a b : List Item) (bytes : List ℕ)
         → IsFields base a bytes → IsFields base b bytes → a ≡ b }
+    // Where a fault says why no field is in front, none is.
     ensures none { (place : ℕ) (item : Item) (rest : List ℕ) (fault : WireFault)
         → NoField place (item.text ++ rest) fault → IsField place item → ⊥ }
+    // Where such a fault applies, no other one does.
     ensures one_fault { (place : ℕ) (bytes : List ℕ) (e f : WireFault)
         → NoField place bytes e → NoField place bytes f → e ≡ f }
+    // Whatever bytes stand, numbers below 256, a field is in front of them or a fault says why not.
     ensures cover { (place : ℕ) (bytes : List ℕ)
         → AllBytes bytes → HasField place bytes ⊎ ((fault : WireFault) × NoField place bytes fault) }
 {}
@@ -55,32 +60,47 @@ pub fn field_laws()
 /// text of that field number, a list's parts or texts in their order, kept fields as they stood. Where
 /// 32 bits are wanted, each number of that field number has them.
 pub fn table_laws()
+    // A number with a default is the last one of its field, or the default where there is none.
     ensures number_last { (n default : ℕ) (fields : List Item) (v : ℕ)
         → (last default (number n)).says fields v ↔ (v ≡ unwrap_or (newest (number_in n) fields) default) }
+    // A number of 32 bits with a default is the same, and each number of its field has 32 bits.
     ensures small_last { (n default : ℕ) (fields : List Item) (v : ℕ)
         → (last default (small n)).says fields v
         ↔ ((v ≡ unwrap_or (newest (number_in n) fields) default) × AreSmall n fields) }
+    // A text with a default is the last one of its field, or the default where there is none.
     ensures text_last { (n : ℕ) (default : List ℕ) (fields : List Item) (v : List ℕ)
         → (last default (text n)).says fields v ↔ (v ≡ unwrap_or (newest (bytes_in n) fields) default) }
 
+    // A number of 32 bits that may be missing is the last one of its field, and each of them has 32
+    // bits.
     ensures small_known { (n : ℕ) (fields : List Item) (v : Option ℕ)
         → (known (small n)).says fields v ↔ ((v ≡ newest (number_in n) fields) × AreSmall n fields) }
+    // A number that may be missing is the last one of its field, and is missing where there is
+    // none.
     ensures number_known { (n : ℕ) (fields : List Item) (v : Option ℕ)
         → (known (number n)).says fields v ↔ (v ≡ newest (number_in n) fields) }
+    // A signed number is the one whose zigzag number is the last of its field, and is missing where
+    // there is none.
     ensures signed_known { (n : ℕ) (fields : List Item) (v : Option ℤ)
         → (known (signed n)).says fields v ↔ (option_map zig v ≡ newest (number_in n) fields) }
+    // A signed number of 32 bits is the same, and each number of its field has 32 bits.
     ensures small_signed_known { (n : ℕ) (fields : List Item) (v : Option ℤ)
         → (known (small_signed n)).says fields v
         ↔ ((option_map zig v ≡ newest (number_in n) fields) × AreSmall n fields) }
+    // A flag says whether the last number of its field isn't 0, and is missing where there is none.
     ensures flag_known { (n : ℕ) (fields : List Item) (v : Option Bool)
         → (known (flag n)).says fields v ↔ (v ≡ option_map (λ k. not (k == 0)) (newest (number_in n) fields)) }
+    // A text that may be missing is the last one of its field, and is missing where there is none.
     ensures text_known { (n : ℕ) (fields : List Item) (v : Option (List ℕ))
         → (known (text n)).says fields v ↔ (v ≡ newest (bytes_in n) fields) }
 
+    // A list of numbers is what each of its fields gives, packed or plain, joined in order.
     ensures packed_list { (limit n : ℕ) (fields : List Item) (v : List ℕ)
         → (all (packed limit n)).says fields v ↔ JoinsParts (packed limit n).gives fields v }
+    // A list of texts is all texts of its field, in order.
     ensures texts { (n : ℕ) (fields : List Item) (v : List (List ℕ))
         → (each (text n)).says fields v ↔ (v ≡ in_order (bytes_in n) fields) }
+    // What is kept is all fields from a number on, as they stood, in order.
     ensures kept { (n : ℕ) (fields : List Item) (v : List ℕ)
         → (all (kept_from n)).says fields v ↔ (v ≡ kept_texts n fields) }
 {}
@@ -90,25 +110,35 @@ pub fn table_laws()
 /// their fields; a message that may stand once stands in one field at most. What is read has numbers
 /// of its fields' bits, and where its canonical text holds all of it, that text is it again.
 pub fn message_laws<M: Message>()
+    // Bytes spell one message at most.
     ensures one { (base : ℕ) (bytes : List ℕ) (a b : M)
         → Spells M.members M.REQUIRED base bytes a → Spells M.members M.REQUIRED base bytes b → a ≡ b }
+    // Where a fault applies, the bytes spell no message.
     ensures none { (base : ℕ) (bytes : List ℕ) (a : M) (fault : WireFault)
         → Faults M.members M.REQUIRED base bytes fault → Spells M.members M.REQUIRED base bytes a → ⊥ }
+    // Where a fault applies, no other fault does.
     ensures one_fault { (base : ℕ) (bytes : List ℕ) (e f : WireFault)
         → Faults M.members M.REQUIRED base bytes e → Faults M.members M.REQUIRED base bytes f → e ≡ f }
+    // Whatever bytes stand, numbers below 256, they spell a message or a fault applies.
     ensures cover { (base : ℕ) (bytes : List ℕ)
         → AllBytes bytes
         → ((a : M) × Spells M.members M.REQUIRED base bytes a)
         ⊎ ((fault : WireFault) × Faults M.members M.REQUIRED base bytes fault) }
 
+    // A list of messages is all those that its fields hold, in order.
     ensures each { (n : ℕ) (fields : List Item) (v : List M)
         → (each (message M.members M.REQUIRED n)).says fields v
         ↔ JoinsSome (message M.members M.REQUIRED n).gives fields v }
+    // A message that may stand once is that of the one field which holds it, and is missing where
+    // no field does.
     ensures only { (n : ℕ) (fields : List Item) (v : Option M)
         → (only M.members M.REQUIRED n).says fields v ↔ OnlyMessage M.members M.REQUIRED n fields v }
 
+    // What was read has numbers of its fields' bits.
     ensures bounded { (base : ℕ) (bytes : List ℕ) (a : M)
         → Spells M.members M.REQUIRED base bytes a → M.canonical.bounded a }
+    // Where the canonical text of what was read holds all of it and has fewer than 2^64 bytes, that
+    // text is it again, wherever it stands.
     ensures again { (base place : ℕ) (bytes : List ℕ) (a : M)
         → Spells M.members M.REQUIRED base bytes a
         → M.canonical.whole a
@@ -122,30 +152,45 @@ pub fn message_laws<M: Message>()
 /// its parts is known. What is read keeps such fields; and whether all of them have a higher number is
 /// decided.
 pub fn whole_laws()
+    // A stream's canonical text holds all of it.
     ensures stream { (m : StreamMsg) → stream_text.whole m }
+    // An encoding's text holds all of it where its kind is a dictionary's or its dictionary size is
+    // 0.
     ensures encoding { (m : Encoding) → (is_dictionary m.kind ≡ false → m.dictionary_size ≡ 0) → encoding_text.whole m }
+    // A stripe footer's text holds all of it where that of each of its encodings does.
     ensures directory { (m : StripeFooter) → AllByRecursion encoding_text.whole m.columns → stripe_footer_text.whole m }
+    // A postscript's text holds all of it.
     ensures script { (m : PostScript) → post_script_text.whole m }
+    // A type's text holds all of it where what it keeps is fields above 3.
     ensures type_of_kept { (m : TypeMsg) → AreKept 4 m.kept → type_text.whole m }
+    // A type that was read keeps only fields above 3.
     ensures type_read { (base : ℕ) (bytes : List ℕ) (m : TypeMsg) → Spells type_msg 1 base bytes m → AreKept 4 m.kept }
 
+    // The text of a stripe's information, and that of an item of user metadata, holds all of it.
     ensures stripe { (m : StripeInfo) → stripe_info_text.whole m }
     ensures pair { (m : UserMetadataItem) → user_metadata_text.whole m }
+    // A footer's text holds all of it where those of its statistics do, where its types keep only
+    // fields above 3, and it only fields above 9.
     ensures footer_of_kept { (m : Footer)
         → AllByRecursion (λ t. AreKept 4 t.kept) m.types
         → AllByRecursion column_stats_text.whole m.statistics
         → AreKept 10 m.kept
         → footer_text.whole m }
+    // A footer that was read keeps only fields above 9, and its types keep only fields above 3.
     ensures footer_read { (base : ℕ) (bytes : List ℕ) (m : Footer)
         → Spells footer 0 base bytes m → AreKept 10 m.kept × AllByRecursion (λ t. AreKept 4 t.kept) m.types }
+    // Of bytes that are kept fields it is decided whether all have numbers from another one on.
     ensures kept_or_not { (m n : ℕ) (bytes : List ℕ) → AreKept m bytes → AreKept n bytes ⊎ (AreKept n bytes → ⊥) }
 
+    // The text of a record of statistics holds all of it, of each of the six kinds.
     ensures integers { (m : IntegerStatistics) → integer_stats_text.whole m }
     ensures strings { (m : StringStatistics) → string_stats_text.whole m }
     ensures buckets { (m : BucketStatistics) → bucket_stats_text.whole m }
     ensures dates { (m : DateStatistics) → date_stats_text.whole m }
     ensures binaries { (m : BinaryStatistics) → binary_stats_text.whole m }
     ensures collections { (m : CollectionStatistics) → collection_stats_text.whole m }
+    // The text of a column's statistics holds all of them where none of their records has an empty
+    // text.
     ensures column { (m : ColumnStats)
         → IfSome m.int_statistics (λ s. integer_stats_text.text s ≡ [] → ⊥)
         → IfSome m.string_statistics (λ s. string_stats_text.text s ≡ [] → ⊥)
@@ -154,60 +199,94 @@ pub fn whole_laws()
         → IfSome m.binary_statistics (λ s. binary_stats_text.text s ≡ [] → ⊥)
         → IfSome m.collection_statistics (λ s. collection_stats_text.text s ≡ [] → ⊥)
         → column_stats_text.whole m }
+    // A record of integers has a text where its minimum, its maximum or its sum is known.
     ensures integer_shown { (m : IntegerStatistics)
         → IsSome m.minimum ⊎ (IsSome m.maximum ⊎ IsSome m.sum) → integer_stats_text.text m ≡ [] → ⊥ }
+    // A record of strings has a text where its minimum, its maximum or its sum is known.
     ensures string_shown { (m : StringStatistics)
         → IsSome m.minimum ⊎ (IsSome m.maximum ⊎ IsSome m.sum) → string_stats_text.text m ≡ [] → ⊥ }
+    // A record of buckets has a text where it has a count, and all are below 2^64.
     ensures bucket_shown { (m : BucketStatistics)
         → AreBelow (2 ^ 64) m.count → (m.count ≡ [] → ⊥) → bucket_stats_text.text m ≡ [] → ⊥ }
+    // A record of dates has a text where its minimum or its maximum is known.
     ensures date_shown { (m : DateStatistics) → IsSome m.minimum ⊎ IsSome m.maximum → date_stats_text.text m ≡ [] → ⊥ }
+    // A record of byte strings has a text where its sum is known.
     ensures binary_shown { (m : BinaryStatistics) → IsSome m.sum → binary_stats_text.text m ≡ [] → ⊥ }
+    // A record of collections has a text where its least, most or total number of children is
+    // known.
     ensures collection_shown { (m : CollectionStatistics)
         → IsSome m.min_children ⊎ (IsSome m.max_children ⊎ IsSome m.total_children)
         → collection_stats_text.text m ≡ [] → ⊥ }
+    // The text of a stripe's statistics holds all of them where that of each column's does.
     ensures stripes { (m : StripeStatistics)
         → AllByRecursion column_stats_text.whole m.col_stats → stripe_stats_text.whole m }
+    // The text of the stripes' statistics holds all of them where that of each stripe's does.
     ensures metadata { (m : Metadata) → AllByRecursion stripe_stats_text.whole m.stripe_stats → metadata_text.whole m }
+    // The text of an entry holds all of it where that of its statistics does, if it has any.
     ensures entry { (m : RowIndexEntry) → IfSome m.statistics column_stats_text.whole → row_index_entry_text.whole m }
+    // A row index's text holds all of it where that of each entry does.
     ensures index { (m : RowIndexMsg) → AllByRecursion row_index_entry_text.whole m.entries → row_index_text.whole m }
+    // A column's statistics never have an empty text.
     ensures column_shown { (m : ColumnStats) → column_stats_text.text m ≡ [] → ⊥ }
 {}
 
 /// The canonical texts, written out.
 pub fn canonical_laws()
+    // A stream's text is its kind, its column and its length, in fields 1 to 3.
     ensures stream { (m : StreamMsg)
         → stream_text.text m ≡ number_text 1 m.kind ++ (number_text 2 m.column ++ number_text 3 m.length) }
+    // An encoding's text is its kind in field 1, and for dictionary kinds alone the dictionary's
+    // size in field 2.
     ensures dictionary { (m : Encoding)
         → is_dictionary m.kind ≡ true → encoding_text.text m ≡ number_text 1 m.kind ++ number_text 2 m.dictionary_size }
     ensures direct { (m : Encoding) → is_dictionary m.kind ≡ false → encoding_text.text m ≡ number_text 1 m.kind }
+    // A stripe footer's text is its streams, a field 1 each, and then its columns' encodings, a
+    // field 2 each.
     ensures footer { (m : StripeFooter)
         → stripe_footer_text.text m ≡ list_text (λ s. sized (stream_text.text s)) 1 m.streams
         ++ list_text (λ e. sized (encoding_text.text e)) 2 m.columns }
+    // A postscript's text is footer length, compression, version packed, metadata length, writer
+    // version where it is known, and magic, in fields 1, 2, 4, 5, 6 and 8000.
     ensures script { (m : PostScript)
         → post_script_text.text m ≡ number_text 1 m.footer_length
         ++ (number_text 2 m.compression
         ++ (packed_text 4 m.version
         ++ (number_text 5 m.metadata_length
         ++ (known_text (λ v. varint v) 6 m.writer_version ++ sized_text 8000 m.magic)))) }
+    // The text of a stripe's information is its offset, the lengths of its index, data and footer,
+    // and its number of rows, in fields 1 to 5.
     ensures stripe { (m : StripeInfo)
         → stripe_info_text.text m ≡ number_text 1 m.offset
         ++ (number_text 2 m.index_length
         ++ (number_text 3 m.data_length ++ (number_text 4 m.footer_length ++ number_text 5 m.number_of_rows))) }
+    // The text of an item of user metadata is its name and its value, in fields 1 and 2.
     ensures pair { (m : UserMetadataItem) → user_metadata_text.text m ≡ sized_text 1 m.name ++ sized_text 2 m.value }
+    // The text of a record of integers is the minimum, the maximum and the sum, each where it is
+    // known, in fields 1 to 3.
     ensures integers { (m : IntegerStatistics)
         → integer_stats_text.text m ≡ known_text (λ v. varint (zig v)) 1 m.minimum
         ++ (known_text (λ v. varint (zig v)) 2 m.maximum ++ known_text (λ v. varint (zig v)) 3 m.sum) }
+    // That of a record of strings is the same three, in the same fields, with the minimum and the
+    // maximum as texts.
     ensures strings { (m : StringStatistics)
         → string_stats_text.text m ≡ known_text (λ v. sized v) 1 m.minimum
         ++ (known_text (λ v. sized v) 2 m.maximum ++ known_text (λ v. varint (zig v)) 3 m.sum) }
+    // That of a record of buckets is its counts, packed in field 1.
     ensures buckets { (m : BucketStatistics) → bucket_stats_text.text m ≡ packed_text 1 m.count }
+    // That of a record of dates is the minimum and the maximum, each where it is known, in fields 1
+    // and 2.
     ensures dates { (m : DateStatistics)
         → date_stats_text.text m ≡ known_text (λ v. varint (zig v)) 1 m.minimum
         ++ known_text (λ v. varint (zig v)) 2 m.maximum }
+    // That of a record of byte strings is the sum in field 1, where it is known.
     ensures binaries { (m : BinaryStatistics) → binary_stats_text.text m ≡ known_text (λ v. varint (zig v)) 1 m.sum }
+    // That of a record of collections is the least, the most and the total number of children, each
+    // where it is known, in fields 1 to 3.
     ensures collections { (m : CollectionStatistics)
         → collection_stats_text.text m ≡ known_text (λ v. varint v) 1 m.min_children
         ++ (known_text (λ v. varint v) 2 m.max_children ++ known_text (λ v. varint v) 3 m.total_children) }
+    // The text of a column's statistics is the number of values in field 1, the records with a text
+    // in fields 2, 4, 5, 7, 8 and 12, and in field 10, where it is known, whether a null is there.
     ensures column { (m : ColumnStats)
         → column_stats_text.text m ≡ number_text 1 m.number_of_values
         ++ (shown_text integer_stats_text.text 2 m.int_statistics
@@ -217,14 +296,21 @@ pub fn canonical_laws()
         ++ (shown_text binary_stats_text.text 8 m.binary_statistics
         ++ (known_text (λ v. varint (flag_number v)) 10 m.has_null
         ++ shown_text collection_stats_text.text 12 m.collection_statistics)))))) }
+    // That of a stripe's statistics is those of its columns, a field 1 each.
     ensures stripes { (m : StripeStatistics)
         → stripe_stats_text.text m ≡ list_text (λ c. sized (column_stats_text.text c)) 1 m.col_stats }
+    // That of a file's metadata is the statistics of its stripes, a field 1 each.
     ensures metadata { (m : Metadata)
         → metadata_text.text m ≡ list_text (λ s. sized (stripe_stats_text.text s)) 1 m.stripe_stats }
+    // That of an entry is its positions, packed in field 1, and its statistics in field 2, where
+    // they have a text.
     ensures entry { (m : RowIndexEntry)
         → row_index_entry_text.text m ≡ packed_text 1 m.positions ++ shown_text column_stats_text.text 2 m.statistics }
+    // That of a row index is its entries, a field 1 each.
     ensures index { (m : RowIndexMsg)
         → row_index_text.text m ≡ list_text (λ e. sized (row_index_entry_text.text e)) 1 m.entries }
+    // A footer's text is header and content length, stripes, types, user metadata, number of rows,
+    // statistics, stride and, where known, writer, in fields 1 to 9, and then what it keeps.
     ensures file { (m : Footer)
         → footer_text.text m ≡ number_text 1 m.header_length
         ++ (number_text 2 m.content_length
@@ -234,6 +320,8 @@ pub fn canonical_laws()
         ++ (number_text 6 m.number_of_rows
         ++ (list_text (λ c. sized (column_stats_text.text c)) 7 m.statistics
         ++ (number_text 8 m.row_index_stride ++ (known_text (λ v. varint v) 9 m.writer ++ m.kept)))))))) }
+    // A type's text is its kind, its subtypes packed and its field names, in fields 1 to 3, and
+    // what it keeps behind them.
     ensures type_of { (m : TypeMsg)
         → type_text.text m ≡ number_text 1 m.kind
         ++ (packed_text 2 m.subtypes ++ (list_text (λ t. sized t) 3 m.field_names ++ m.kept)) }

@@ -30,18 +30,26 @@ pub trait Message: Sized + Drop {
 
     /// The message of no fields.
     fn empty(alloc: Global) -> Self
+        // What is answered is the message of no fields, with each member as it is where no field
+        // tells it.
         ensures { result ≡ members.start };
 
     /// Takes one more field.
     fn take(&mut self, alloc: Global, field: &Field) -> Result<(), WireFault>
+        // One more field changes the message as its members say, unless it is refused.
         ensures ok { OnOk result (members.steps (item_of field.now) self.old self.new) }
+        // A refusal is one that a member has of this field, or want of memory.
         ensures fault { IfErr result (λ e. (e ≡ OutOfMemory) ⊎ members.refuses (item_of field.now) self.old e) };
 
     /// Appends the canonical text. After a refusal a part of it may stand there.
     fn put_members(&self, out: &mut Vec<u8>) -> Result<(), WireFault>
+        // Unless memory is refused, the message's one canonical text is appended.
         ensures text { OnOk result (out.new.items ≡ out.old.items ++ canonical.text self.now) }
+        // Where it is appended, the message's numbers have the bits of their fields.
         ensures bounded { OnOk result (canonical.bounded self.now) }
+        // The one refusal is want of memory.
         ensures refused { IfErr result (λ fault. fault ≡ OutOfMemory) }
+        // What the Vec held stays in front, after a refusal too.
         ensures front { KeepsFront out.old.items out.new.items };
 
     // the required number is always written
@@ -49,13 +57,19 @@ pub trait Message: Sized + Drop {
 
     /// The message of the fields, whose places count on from where they stand.
     final fn read_fields(alloc: Global, fields: Fields<'_>) -> Result<Self, WireFault>
+        // What is read is the message that the fields spell, with places counted from where they
+        // stand.
         ensures found { IfOk result (λ message.
             Spells members REQUIRED fields.entry.place fields.entry.rest.now message) }
+        // Fields that spell a message are read as it, or memory is refused.
         ensures only { (content : Self)
             → Spells members REQUIRED fields.entry.place fields.entry.rest.now content
             → MatchResult result (λ message. message ≡ content) (λ e. e ≡ OutOfMemory) }
+        // A refusal is the first fault from the left, at the place of the innermost key, with
+        // Missing last, or it is want of memory.
         ensures fault { IfErr result (λ e. (e ≡ OutOfMemory)
             ⊎ Faults members REQUIRED fields.entry.place fields.entry.rest.now e) }
+        // Where such a fault applies, it is answered, or memory is refused.
         ensures refused { (fault : WireFault)
             → Faults members REQUIRED fields.entry.place fields.entry.rest.now fault
             → MatchResult result (λ _. ⊥) (λ e. (e ≡ OutOfMemory) ⊎ (e ≡ fault)) }
@@ -80,11 +94,16 @@ pub trait Message: Sized + Drop {
     /// fault, with the place of its key (of the innermost key, in a message within); `Missing` comes
     /// last within its message. `OutOfMemory` may come instead.
     final fn read(alloc: Global, bytes: &[u8]) -> Result<Self, WireFault>
+        // What is read is the message that the bytes spell.
         ensures found { IfOk result (λ message. Spells members REQUIRED 0 bytes.now message) }
+        // Bytes that spell a message are read as it, or memory is refused.
         ensures only { (content : Self)
             → Spells members REQUIRED 0 bytes.now content
             → MatchResult result (λ message. message ≡ content) (λ e. e ≡ OutOfMemory) }
+        // A refusal is the first fault from the left, at the place of the innermost key, with
+        // Missing last, or it is want of memory.
         ensures fault { IfErr result (λ e. (e ≡ OutOfMemory) ⊎ Faults members REQUIRED 0 bytes.now e) }
+        // Where such a fault applies, it is answered, or memory is refused.
         ensures refused { (fault : WireFault)
             → Faults members REQUIRED 0 bytes.now fault
             → MatchResult result (λ _. ⊥) (λ e. (e ≡ OutOfMemory) ⊎ (e ≡ fault)) }
@@ -95,10 +114,13 @@ pub trait Message: Sized + Drop {
     /// Appends the canonical text of the message. A refusal, which is `OutOfMemory`, leaves `out` as
     /// it was.
     final fn put(&self, out: &mut Vec<u8>) -> Result<(), WireFault>
+        // Unless memory is refused, the message's one canonical text is appended.
         ensures text { OnOk result (out.new.items ≡ out.old.items ++ canonical.text self.now) }
+        // Where that text holds all of the message, it reads back as the message.
         ensures again { OnOk result (canonical.whole self.now
             → Spells members REQUIRED 0 (canonical.text self.now) self.now) }
 
+        // A refusal is want of memory, and leaves the Vec as it was.
         ensures refused { IfErr result (λ fault. fault ≡ OutOfMemory) }
         ensures unchanged { OnErr result (out.new.items ≡ out.old.items) }
     {

@@ -13,10 +13,14 @@ ghost use Rattle.orc_file.specs.declared.fault.FileFault.TheVariants.{Limit};
 /// are those without a cap. Where no stripe is longer than the cap, the first that is refused is the first one that has
 /// no rows, for the same reason.
 pub fn cap_laws()
+    // A tail that bytes have with a cap is one that they have without.
     ensures tail { (cap : ℕ) (bytes : List ℕ) (tail : Tail) → IsCappedTail cap bytes tail → IsTail bytes tail }
+    // A fault that bytes have with a cap is one that they have without, or it is Limit.
     ensures refusal { (cap : ℕ) (bytes : List ℕ) (fault : FileFault) → CappedFault cap bytes fault
         → OpenFault bytes fault ⊎ (fault ≡ Limit) }
 
+    // With the greatest cap bytes that are fewer than 2^64 have the tail and the faults that they
+    // have without.
     ensures greatest { (bytes : List ℕ) (tail : Tail) → length bytes ≤ no_cap → IsTail bytes tail
         → IsCappedTail no_cap bytes tail }
     ensures no_refusal { (bytes : List ℕ) (fault : FileFault) → length bytes ≤ no_cap → CappedFault no_cap bytes fault
@@ -24,6 +28,8 @@ pub fn cap_laws()
     ensures all_refusals { (bytes : List ℕ) (fault : FileFault) → length bytes ≤ no_cap → OpenFault bytes fault
         → CappedFault no_cap bytes fault }
 
+    // Where no stripe is longer than the cap, the first that is refused is the first one without
+    // rows, for the same reason.
     ensures refused { (cap : ℕ) (s : Shape) (bytes : List ℕ) (infos : List StripeInfo) (fault : FileFault)
         → AllWithin cap infos → FirstCapped cap s bytes 0 infos fault → FirstRefused s bytes 0 infos fault }
     ensures first { (cap : ℕ) (s : Shape) (bytes : List ℕ) (infos : List StripeInfo) (fault : FileFault)

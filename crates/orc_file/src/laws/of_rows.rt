@@ -14,12 +14,16 @@ ghost use Rattle.orc_file.specs.declared.fault.FileFault.{FileFault};
 /// Bytes are a file of one tail and one list of rows at most, and of none where a stripe is refused. The
 /// rows of each stripe are the file's, cut by the stripes' numbers of rows.
 pub fn row_laws()
+    // Bytes are a file of one tail and one list of rows at most.
     ensures one { (bytes : List ℕ) (t u : Tail) (a b : List Cell) → FileIs bytes t a → FileIs bytes u b → (t ≡ u)
         × (a ≡ b) }
+    // Where a stripe that a tail names has no rows, the bytes are no file with this tail.
     ensures none { (bytes : List ℕ) (tail : Tail) (rows : List Cell) (fault : FileFault)
         → FirstRefused tail.schema bytes 0 tail.stripes fault → FileIs bytes tail rows → ⊥ }
+    // Each stripe's rows are the file's, cut by the stripes' numbers of rows.
     ensures cut { (bytes : List ℕ) (tail : Tail) (rows : List Cell) → FileIs bytes tail rows
         → AreOfStripes tail.schema bytes tail.stripes (cut_rows tail.stripes rows) }
+    // Where stripes have rows, these are the same once they are cut so and joined again.
     ensures whole { (infos : List StripeInfo) (bytes : List ℕ) (s : Shape) (rows : List Cell)
         → HasRows s bytes infos rows
         → joined (cut_rows infos rows) ≡ rows }
@@ -28,8 +32,11 @@ pub fn row_laws()
 /// A column's statistic of the whole file is that of its cells in all rows, where each stripe's sum stands;
 /// else it is that statistic with a sum that isn't known.
 pub fn whole_laws()
+    // Where each stripe's sum stands, a column's statistic of the whole file is that of its cells
+    // in all rows.
     ensures all { (s : Shape) (parts : List (List Cell)) (column : ℕ) → each_fits s parts column ≡ true
         → whole_of s parts column ≡ stat (kind_at s column) (cells s column (joined parts)) }
+    // Where some stripe's sum doesn't stand, it is that statistic with a sum that isn't known.
     ensures less { (s : Shape) (parts : List (List Cell)) (column : ℕ) → each_fits s parts column ≡ false
         → whole_of s parts column ≡ less_sum (stat (kind_at s column) (cells s column (joined parts))) }
 {}

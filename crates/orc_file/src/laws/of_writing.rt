@@ -19,23 +19,34 @@ ghost use Rattle.orc_file.specs.declared.tail.Tail.{Tail};
 /// tail's statistics are those of the rows, of each stripe and of the whole file. Of rows one file is written:
 /// the version of the run lengths, the stride, the rows of a stripe and the schema determine its bytes.
 pub fn written_laws()
+    // Where the output tells its bytes, what a writer finished there is laid out as a written file,
+    // and is a file of the tail that was answered and of the rows that were pushed.
     ensures read { (options : Options) (s : Shape) (tail : Tail) (first told : Option (List ℕ)) (rows : List Cell)
         → IsWhole options s tail first told rows → (bytes : List ℕ) × (told ≡ appended first bytes)
         × IsWrittenFile options s tail bytes rows
         × FileIs bytes tail rows }
+    // Where the schema is one, any bytes that are laid out so, fewer than 2^64, are a file with
+    // that tail and of those rows.
     ensures tail { (options : Options) (s : Shape) (tail : Tail) (bytes : List ℕ) (rows : List Cell)
         → IsSchema s → IsWrittenFile options s tail bytes rows → length bytes < 2 ^ 64 → IsTail bytes tail }
     ensures rows { (options : Options) (s : Shape) (tail : Tail) (bytes : List ℕ) (rows : List Cell)
         → IsSchema s → IsWrittenFile options s tail bytes rows → length bytes < 2 ^ 64 → FileIs bytes tail rows }
+    // Where the schema is one and the text of its types in the footer has fewer than 2^62 bytes, a
+    // file that is laid out so has fewer than 2^64.
     ensures short { (options : Options) (s : Shape) (tail : Tail) (bytes : List ℕ) (rows : List Cell)
         → IsSchema s → length (types_text s) < 2 ^ 62 → IsWrittenFile options s tail bytes rows
         → length bytes < 2 ^ 64 }
+    // Where that text is as short and the output tells its bytes, what was written before a call
+    // failed is the front of a file of the schema and of some of the first rows pushed.
     ensures front { (options : Options) (s : Shape) (first told : Option (List ℕ)) (rows : List Cell)
         → IsCutOff options s first told rows → length (types_text s) < 2 ^ 62 → IsFrontOfFile s first told rows }
+    // The statistics of such a file are those of the rows, of each stripe and of the whole file;
+    // the file's lack a sum where some stripe's doesn't stand.
     ensures honest { (options : Options) (s : Shape) (tail : Tail) (bytes : List ℕ) (rows : List Cell)
         → IsWrittenFile options s tail bytes rows → Honest tail rows }
     ensures whole { (options : Options) (s : Shape) (tail : Tail) (bytes : List ℕ) (rows : List Cell)
         → IsWrittenFile options s tail bytes rows → HasWholeStats tail rows }
+    // The options, the schema and the rows determine the tail and the bytes of a written file.
     ensures one { (options : Options) (s : Shape) (t u : Tail) (a b : List ℕ) (rows : List Cell)
         → IsWrittenFile options s t a rows → IsWrittenFile options s u b rows → (t ≡ u) × (a ≡ b) }
 {}

@@ -44,12 +44,18 @@ pub fn load_stripe<S: Source>(
     requires there { number < length tail.now.stripes }
     requires within { AllBefore (S.size source.old) tail.now.stripes }
     requires most { stripes_length tail.now.stripes ≤ most_bytes }
+    // Where the source tells its bytes and the call succeeds, the vector has the bytes of the
+    // stripe.
     ensures bytes { OnOk result (IfSome (S.told source.old)
         (λ bytes. into.new.items ≡ stripe_bytes (stripe_at tail.now.stripes number) bytes)) }
+    // After each answer the source tells what it told, and has the length that it had.
     ensures told { S.told source.new ≡ S.told source.old }
     ensures size { S.size source.new ≡ S.size source.old }
 
+    // A refusal is want of memory or SourceFailed.
     ensures fault { IfErr result (λ fault. (fault ≡ OutOfMemory) ⊎ (fault ≡ SourceFailed)) }
+    // The source's count of failures rises with SourceFailed, and stands where the call succeeds or
+    // memory is refused.
     ensures kept { OnOk result (S.failures source.new ≡ S.failures source.old) }
     ensures failed { IsErrOf result SourceFailed → S.failures source.old < S.failures source.new }
     ensures memory { IsErrOf result OutOfMemory → S.failures source.new ≡ S.failures source.old }
@@ -74,14 +80,18 @@ pub fn view_stripe<'a>(
     bytes: &'a [u8],
 ) -> Result<StripeView<'a>, FileFault>
     requires { number < length tail.now.stripes }
+    // The view's footer is the one that the stripe's bytes have by the tail's schema.
     ensures found { IfOk result
         (λ view. HasFooter tail.now.schema (stripe_at tail.now.stripes number) bytes.now view.footer) }
+    // The view is that of this stripe over these bytes, with the tail's schema and stride.
     ensures same { IfOk result (λ view. (view.schema ≡ tail.now.schema)
         × (view.info ≡ stripe_at tail.now.stripes number)
         × (view.stride ≡ tail.now.stride) × (view.bytes ≡ bytes.now)) }
+    // Where the bytes have a footer, the view is answered with it, or memory is refused.
     ensures only { (footer : StripeFooter)
         → HasFooter tail.now.schema (stripe_at tail.now.stripes number) bytes.now footer
         → MatchResult result (λ view. view.footer ≡ footer) (λ fault. fault ≡ OutOfMemory) }
+    // A refusal is want of memory, or it names the stripe and why its footer isn't accepted.
     ensures fault { IfErr result (λ fault. (fault ≡ OutOfMemory)
         ⊎ ((why : StripeFault) × (fault ≡ Stripe number why) × (why ≢ stripe.OutOfMemory)
         × OpenFault tail.now.schema (stripe_at tail.now.stripes number) bytes.now why)) }
@@ -103,8 +113,10 @@ pub fn stripe_rows<'a>(
     bytes: &'a [u8],
 ) -> Result<Vec<Row<'a>>, FileFault>
     requires { number < length tail.now.stripes }
+    // The rows that are answered are those that the stripe has by these bytes.
     ensures found { IfOk result
         (λ rows. IsStripe tail.now.schema (stripe_at tail.now.stripes number) bytes.now (views rows.items)) }
+    // A refusal is want of memory, or it names the stripe and why it has no rows.
     ensures fault { IfErr result (λ fault. (fault ≡ OutOfMemory)
         ⊎ ((why : StripeFault) × (fault ≡ Stripe number why) × (why ≢ stripe.OutOfMemory)
         × IsNoStripe tail.now.schema (stripe_at tail.now.stripes number) bytes.now why)) }
@@ -136,20 +148,32 @@ impl<S: Source> OrcFile<S> {
     /// the vector touched; `SourceFailed` where the source failed; `OutOfMemory`.
     pub fn load(&mut self, number: usize, into: &mut Vec<u8>) -> Result<(), FileFault>
         requires { number < length self.old.tail.stripes }
+        // Where the source tells its bytes and the call succeeds, the vector has the bytes of the
+        // stripe.
         ensures bytes { OnOk result (IfSome (S.told self.old.source)
             (λ bytes. into.new.items ≡ stripe_bytes (stripe_at self.old.tail.stripes number) bytes)) }
+        // After each answer the file has the tail and the cap that it had, and its source tells
+        // what it told and has the length that it had.
         ensures tail { self.new.tail ≡ self.old.tail }
         ensures cap { self.new.cap ≡ self.old.cap }
         ensures told { S.told self.new.source ≡ S.told self.old.source }
         ensures size { S.size self.new.source ≡ S.size self.old.source }
 
+        // Where the stripe is longer than the cap, the answer is Limit, with file and vector as
+        // they were.
         ensures limit { self.old.cap < stripe_length (stripe_at self.old.tail.stripes number)
             → (result ≡ Err Limit) × ((self.new ≡ self.old) × (into.new ≡ into.old)) }
+        // Where the call succeeds, the stripe is no longer than the cap.
         ensures within { OnOk result (stripe_length (stripe_at self.old.tail.stripes number) ≤ self.old.cap) }
+        // A refusal is want of memory or SourceFailed, or it is Limit and the stripe is longer than
+        // the cap.
         ensures fault { IfErr result (λ fault. (fault ≡ OutOfMemory) ⊎ ((fault ≡ SourceFailed)
             ⊎ ((fault ≡ Limit) × (self.old.cap < stripe_length (stripe_at self.old.tail.stripes number))))) }
+        // With the greatest cap a refusal is want of memory or SourceFailed alone.
         ensures uncapped { self.old.cap ≡ no_cap → IfErr result
             (λ fault. (fault ≡ OutOfMemory) ⊎ (fault ≡ SourceFailed)) }
+        // The source's count of failures rises with SourceFailed, and stands where the call
+        // succeeds or memory is refused.
         ensures kept { OnOk result (S.failures self.new.source ≡ S.failures self.old.source) }
         ensures failed { IsErrOf result SourceFailed → S.failures self.old.source < S.failures self.new.source }
         ensures memory { IsErrOf result OutOfMemory → S.failures self.new.source ≡ S.failures self.old.source }
@@ -170,14 +194,19 @@ impl<S: Source> OrcFile<S> {
         bytes: &'a [u8],
     ) -> Result<StripeView<'a>, FileFault>
         requires { number < length self.now.tail.stripes }
+        // The view's footer is the one that the stripe's bytes have by the file's schema.
         ensures found { IfOk result
             (λ view. HasFooter self.now.tail.schema (stripe_at self.now.tail.stripes number) bytes.now view.footer) }
+        // The view is that of this stripe over these bytes, with the schema and the stride of the
+        // file.
         ensures same { IfOk result (λ view. (view.schema ≡ self.now.tail.schema)
             × (view.info ≡ stripe_at self.now.tail.stripes number)
             × (view.stride ≡ self.now.tail.stride) × (view.bytes ≡ bytes.now)) }
+        // Where the bytes have a footer, the view is answered with it, or memory is refused.
         ensures only { (footer : StripeFooter)
             → HasFooter self.now.tail.schema (stripe_at self.now.tail.stripes number) bytes.now footer
             → MatchResult result (λ view. view.footer ≡ footer) (λ fault. fault ≡ OutOfMemory) }
+        // A refusal is want of memory, or it names the stripe and why its footer isn't accepted.
         ensures fault { IfErr result (λ fault. (fault ≡ OutOfMemory)
             ⊎ ((why : StripeFault) × (fault ≡ Stripe number why) × (why ≢ stripe.OutOfMemory)
             × OpenFault self.now.tail.schema (stripe_at self.now.tail.stripes number) bytes.now why)) }

@@ -43,9 +43,11 @@ impl<S: Source> OrcFile<S> {
         bytes: &'a [u8],
     ) -> Result<Vec<Row<'a>>, FileFault>
         requires { number < length self.now.tail.stripes }
+        // The rows that are answered are those that the stripe has by these bytes.
         ensures found { IfOk result
             (λ rows. IsStripe self.now.tail.schema (stripe_at self.now.tail.stripes number) bytes.now
             (views rows.items)) }
+        // A refusal is want of memory, or it names the stripe and why it has no rows.
         ensures fault { IfErr result (λ fault. (fault ≡ OutOfMemory)
             ⊎ ((why : StripeFault) × (fault ≡ Stripe number why) × (why ≢ stripe.OutOfMemory)
             × IsNoStripe self.now.tail.schema (stripe_at self.now.tail.stripes number) bytes.now why)) }
@@ -92,21 +94,34 @@ impl<S: Source> OrcFile<S> {
     /// its number where it has no rows, and why; `SourceFailed` where the source failed; `OutOfMemory`. Where it is
     /// `Stripe` the bytes are no file of any rows.
     pub fn rows(&mut self, alloc: Global) -> Result<Vec<Row<'static>>, FileFault>
+        // Where the source tells its bytes and the file's tail is theirs, the rows that are
+        // answered are the file's.
         ensures found { IfOk result (λ rows. IfSome (S.told self.old.source) (λ bytes. IsTail bytes self.old.tail
             → FileIs bytes self.old.tail (views rows.items))) }
+        // Where rows are answered, no stripe is longer than the file's cap.
         ensures within { OnOk result (AllWithin self.old.cap self.old.tail.stripes) }
+        // Where the source tells bytes that are a file with rows, and no stripe is longer than the
+        // cap, these rows are answered, unless memory is refused or the source fails.
         ensures only { AllWithin self.old.cap self.old.tail.stripes
             → IfSome (S.told self.old.source) (λ bytes. (rows : List Cell) → FileIs bytes self.old.tail rows
             → MatchResult result (λ answered. views answered.items ≡ rows)
             (λ fault. (fault ≡ OutOfMemory) ⊎ (fault ≡ SourceFailed))) }
+        // After each answer the file has the tail and the cap that it had, and its source tells
+        // what it told and has the length that it had.
         ensures tail { self.new.tail ≡ self.old.tail }
         ensures cap { self.new.cap ≡ self.old.cap }
         ensures told { S.told self.new.source ≡ S.told self.old.source }
         ensures size { S.size self.new.source ≡ S.size self.old.source }
 
+        // Where the source tells its bytes, a refusal is of the first stripe that is longer than
+        // the cap, by Limit, or has no rows, and why, or it is want of memory or SourceFailed.
         ensures fault { IfErr result (λ fault. ReadFault (S.told self.old.source) fault
             (λ bytes. FirstCapped self.old.cap self.old.tail.schema bytes 0 self.old.tail.stripes fault)) }
+        // Limit comes only where a stripe is longer than the cap, also where the source tells
+        // nothing.
         ensures limit { IsErrOf result Limit → AllWithin self.old.cap self.old.tail.stripes → ⊥ }
+        // The source's count of failures rises with SourceFailed, and stands where rows are
+        // answered or memory is refused.
         ensures kept { OnOk result (S.failures self.new.source ≡ S.failures self.old.source) }
         ensures failed { IsErrOf result SourceFailed → S.failures self.old.source < S.failures self.new.source }
         ensures memory { IsErrOf result OutOfMemory → S.failures self.new.source ≡ S.failures self.old.source }

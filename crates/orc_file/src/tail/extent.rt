@@ -7,6 +7,7 @@ use orc_wire::StripeInfo;
 /// How many bytes a stripe has.
 pub fn stripe_length(stripe: StripeInfo) -> u64
     requires { stripe_length stripe < 2 ^ 64 }
+    // The answer is how many bytes the stripe's index, data and footer have together.
     ensures { result ≡ stripe_length stripe }
 {
     stripe.index_length + stripe.data_length + stripe.footer_length

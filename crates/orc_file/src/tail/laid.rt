@@ -25,6 +25,8 @@ fn lie_behind_magic(stripes: &[StripeInfo]) -> bool
 impl Tail {
     /// Whether the stripes lie one after the other behind `ORC`, without gaps, as `put` wants them.
     pub fn is_laid(&self) -> bool
+        // The answer is yes exactly where the stripes lie from byte 3 on, one after the other
+        // without gaps.
         ensures yes { OnTrue result (IsLaid 3 self.now.stripes) }
         ensures no { OnFalse result (IsLaid 3 self.now.stripes → ⊥) }
     {

@@ -185,15 +185,25 @@ pub(crate) fn read_capped_tail<S: Source>(
 
 /// The tail of a file whose source is lent. Its tests and its refusals are those of `OrcFile::open`.
 pub fn read_tail<S: Source>(alloc: Global, source: &mut S) -> Result<Tail, FileFault>
+    // After each answer the source has the length that it had, and tells what it told.
     ensures size { S.size source.new ≡ S.size source.old }
     ensures told { S.told source.new ≡ S.told source.old }
+    // Where the source tells its bytes, the tail that is answered is the one that they have.
     ensures found { IfOk result (λ tail. IfSome (S.told source.old) (λ bytes. IsTail bytes tail)) }
+    // The tail is within the limits and its stripes end within the source, also where this tells
+    // nothing.
     ensures limits { IfOk result (λ tail. IsWithinLimits tail) }
     ensures within { IfOk result (λ tail. AllBefore (S.size source.old) tail.stripes) }
 
+    // Where the source tells its bytes, a refusal names the first test that they fail, or it is
+    // want of memory or SourceFailed.
     ensures fault { IfErr result (λ fault. ReadFault (S.told source.old) fault (λ bytes. OpenFault bytes fault)) }
+    // Over any source a refusal is SourceFailed, or it is one that a tail may have and no read
+    // failed.
     ensures unfailed { IfErr result (λ fault. (fault ≡ SourceFailed)
         ⊎ (IsOfTail fault × (S.failures source.new ≡ S.failures source.old))) }
+    // The source's count of failures rises with SourceFailed, and stands where a tail is answered
+    // or memory is refused.
     ensures kept { OnOk result (S.failures source.new ≡ S.failures source.old) }
     ensures failed { IsErrOf result SourceFailed → S.failures source.old < S.failures source.new }
     ensures memory { IsErrOf result OutOfMemory → S.failures source.new ≡ S.failures source.old }

@@ -93,9 +93,12 @@ pub fn file_statistics(
 ) -> Result<Vec<Stat>, StatFault>
     requires kinds { (c : ℕ) → c < width schema.now
         → All (λ (s : Stat). body_is_of (kind_at schema.now c) s.body ≡ true) (column_stats c stats.now) }
+    // The statistic that is answered of each column is the joined one of those of its stripes.
     ensures found { IfOk result (λ found. found.items ≡ file_stats schema.now stats.now) }
+    // Where statistics are answered, each column has at most 2^62 values.
     ensures few { OnOk result ((c : ℕ) → c < width schema.now
         → sum_by (λ (s : Stat). s.count) (column_stats c stats.now) ≤ 2 ^ 62) }
+    // A refusal is want of memory, or CountTooLarge where a column has more than 2^62 values.
     ensures fault { IfErr result (λ e. (e ≡ fault.OutOfMemory)
         ⊎ ((e ≡ fault.CountTooLarge) × (c : ℕ) × (c < width schema.now)
         × (2 ^ 62 < sum_by (λ (s : Stat). s.count) (column_stats c stats.now)))) }

@@ -219,9 +219,12 @@ impl Tail {
     pub fn put(&self, out: &mut Vec<u8>) -> Result<(), FileFault>
         requires limits { IsWithinLimits self.now }
         requires laid { IsLaid 3 self.now.stripes }
+        // Where the call succeeds, the tail's canonical text is appended.
         ensures text { OnOk result (out.new.items ≡ out.old.items ++ tail_text self.now) }
+        // Each number of a tail that was put fits its field.
         ensures bits { OnOk result (HasBits self.now) }
 
+        // A refusal is want of memory, and leaves the bytes as they were.
         ensures refused { IfErr result (λ fault. fault ≡ OutOfMemory) }
         ensures unchanged { OnErr result (out.new.items ≡ out.old.items) }
     {

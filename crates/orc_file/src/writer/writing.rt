@@ -40,12 +40,21 @@ impl<W: Sink> Writer<W> {
         options: Options,
         out: W,
     ) -> Result<Writer<W>, (FileFault, W)>
+        // Where the output tells its bytes, a writer that is made has written `ORC`, and no row was
+        // pushed to it.
         ensures pushed { IfOk result (λ w. HasPushed (progress W.told w) (W.told out) []) }
+        // It has the schema and the options that were given, and has not failed.
         ensures made { IfOk result (λ w. (w.schema ≡ schema) × (w.options ≡ options) × (w.failed ≡ false)) }
+        // Where the output tells its bytes, it has got as many as the writer counts.
         ensures taken { IfOk result (λ w. HasTaken (W.told out) (W.told w.out) w.written) }
 
+        // A refusal is WriteFailed or want of memory.
         ensures refused { IfErr result (λ e. (e.0 ≡ fault.WriteFailed) ⊎ (e.0 ≡ fault.OutOfMemory)) }
+        // Where the output tells its bytes, what was written before a refusal is the front of a
+        // file without rows.
         ensures cut { IfErr result (λ e. IsCutOff options schema (W.told out) (W.told e.1) []) }
+        // The output's count of failures rises with WriteFailed, and stands where a writer is made
+        // or memory is refused.
         ensures write_failed { IfErr result (λ e. e.0 ≡ fault.WriteFailed → W.failures out < W.failures e.1) }
         ensures memory { IfErr result (λ e. e.0 ≡ fault.OutOfMemory → W.failures e.1 ≡ W.failures out) }
         ensures no_failure { IfOk result (λ w. W.failures w.out ≡ W.failures out) }
@@ -281,42 +290,65 @@ impl<W: Sink> Writer<W> {
     /// many bytes, after which the writer has failed: what was written then is the front of a file of some
     /// of the rows pushed, this one among them.
     pub fn push_owned(&mut self, row: Row<'static>) -> Result<(), FileFault>
+        // Where the output tells its bytes, a push that succeeds adds its row behind those pushed;
+        // a stripe goes out with its last row, and not before.
         ensures pushed { (first : Option (List ℕ)) (rows : List Cell)
             → HasPushed (progress W.told self.old) first rows
             → OnOk result (HasPushed (progress W.told self.new) first (rows ++ view row.entry ∷ [])) }
+        // Where the output tells its bytes, it has got as many as the writer counts, after each
+        // answer.
         ensures taken { (first : Option (List ℕ)) → HasTaken first (W.told self.old.out) self.old.written
             → HasTaken first (W.told self.new.out) self.new.written }
+        // The writer keeps its schema and its options.
         ensures same { (self.new.schema ≡ self.old.schema) × (self.new.options ≡ self.old.options) }
 
+        // Failed is answered exactly where an earlier call failed.
         ensures failed { IsErrOf result fault.Failed ↔ (self.old.failed ≡ true) }
+        // Where the writer has not failed, RowShape is answered exactly where the row doesn't fit.
         ensures shape { self.old.failed ≡ false → (IsErrOf result fault.RowShape
             ↔ (fitting.fits (view row.entry) self.old.schema ≡ false)) }
+        // Where it has not failed and the row fits, passing a limit of stripes, rows or a column's
+        // cells is refused as Limit, and it has not failed then.
         ensures limit { self.old.failed ≡ false → fitting.fits (view row.entry) self.old.schema ≡ true
             → (PassesLimit self.old.schema self.old.infos.items self.old.total self.old.counts.items (view row.entry)
             → IsErrOf result fault.Limit × (self.new.failed ≡ false)) }
+        // A Limit after which it has not failed comes only where one of these limits would be
+        // passed.
         ensures only_limit { IsErrOf result fault.Limit → self.new.failed ≡ false
             → PassesLimit self.old.schema self.old.infos.items self.old.total self.old.counts.items (view row.entry) }
+        // A Limit after which it has failed comes only where the stripe that ends with this row
+        // would pass the limit of the stripes' bytes.
         ensures long { IsErrOf result fault.Limit → self.new.failed ≡ true
             → PassesBytes self.old.options self.old.schema self.old.infos.items (views self.old.rows.items
             ++ view row.entry ∷ []) }
+        // A refusal is Failed, RowShape, Limit, WriteFailed or want of memory.
         ensures refused { IfErr result (λ e. (e ≡ fault.Failed)
             ⊎ ((e ≡ fault.RowShape) ⊎ ((e ≡ fault.Limit) ⊎ ((e ≡ fault.WriteFailed) ⊎ (e ≡ fault.OutOfMemory))))) }
+        // After RowShape the writer has not failed.
         ensures shape_stays { IsErrOf result fault.RowShape → self.new.failed ≡ false }
+        // Where a push is refused and the writer hasn't failed by it, its output, stripes, rows and
+        // counts are as they were.
         ensures unchanged { OnErr result (self.new.failed ≡ self.old.failed → (self.new.out ≡ self.old.out)
             × (self.new.written ≡ self.old.written) × (self.new.infos ≡ self.old.infos)
             × (self.new.stats ≡ self.old.stats)
             × (self.new.rows ≡ self.old.rows) × (self.new.counts ≡ self.old.counts) × (self.new.total ≡ self.old.total)
             × (self.new.failed ≡ self.old.failed)) }
+        // After WriteFailed and want of memory it has failed; once failed it stays so, and after a
+        // success it has not failed.
         ensures write_fails { IsErrOf result fault.WriteFailed → self.new.failed ≡ true }
         ensures memory_fails { IsErrOf result fault.OutOfMemory → self.new.failed ≡ true }
         ensures stays_failed { self.old.failed ≡ true → self.new.failed ≡ true }
         ensures ok { OnOk result (self.new.failed ≡ false) }
 
+        // Where the output tells its bytes and the writer fails by this push, what was written is
+        // the front of a file of the first rows pushed, for some number of them, this row counted.
         ensures cut { (first : Option (List ℕ)) (rows : List Cell)
             → HasPushed (progress W.told self.old) first rows
             → self.old.failed ≡ false → self.new.failed ≡ true
             → IsCutOff self.old.options self.old.schema first (W.told self.new.out)
             (rows ++ view row.entry ∷ []) }
+        // The output's count of failures rises with WriteFailed, and stands where the push succeeds
+        // or memory is refused.
         ensures write_failed { IsErrOf result fault.WriteFailed → W.failures self.old.out < W.failures self.new.out }
         ensures memory { IsErrOf result fault.OutOfMemory → W.failures self.new.out ≡ W.failures self.old.out }
         ensures no_failure { OnOk result (W.failures self.new.out ≡ W.failures self.old.out) }
@@ -337,42 +369,65 @@ impl<W: Sink> Writer<W> {
     /// many bytes, after which the writer has failed: what was written then is the front of a file of some
     /// of the rows pushed, this one among them.
     pub fn push(&mut self, row: &Row<'_>) -> Result<(), FileFault>
+        // Where the output tells its bytes, a push that succeeds adds its row behind those pushed;
+        // a stripe goes out with its last row, and not before.
         ensures pushed { (first : Option (List ℕ)) (rows : List Cell)
             → HasPushed (progress W.told self.old) first rows
             → OnOk result (HasPushed (progress W.told self.new) first (rows ++ view row.now ∷ [])) }
+        // Where the output tells its bytes, it has got as many as the writer counts, after each
+        // answer.
         ensures taken { (first : Option (List ℕ)) → HasTaken first (W.told self.old.out) self.old.written
             → HasTaken first (W.told self.new.out) self.new.written }
+        // The writer keeps its schema and its options.
         ensures same { (self.new.schema ≡ self.old.schema) × (self.new.options ≡ self.old.options) }
 
+        // Failed is answered exactly where an earlier call failed.
         ensures failed { IsErrOf result fault.Failed ↔ (self.old.failed ≡ true) }
+        // Where the writer has not failed, RowShape is answered exactly where the row doesn't fit.
         ensures shape { self.old.failed ≡ false → (IsErrOf result fault.RowShape
             ↔ (fitting.fits (view row.now) self.old.schema ≡ false)) }
+        // Where it has not failed and the row fits, passing a limit of stripes, rows or a column's
+        // cells is refused as Limit, and it has not failed then.
         ensures limit { self.old.failed ≡ false → fitting.fits (view row.now) self.old.schema ≡ true
             → (PassesLimit self.old.schema self.old.infos.items self.old.total self.old.counts.items (view row.now)
             → IsErrOf result fault.Limit × (self.new.failed ≡ false)) }
+        // A Limit after which it has not failed comes only where one of these limits would be
+        // passed.
         ensures only_limit { IsErrOf result fault.Limit → self.new.failed ≡ false
             → PassesLimit self.old.schema self.old.infos.items self.old.total self.old.counts.items (view row.now) }
+        // A Limit after which it has failed comes only where the stripe that ends with this row
+        // would pass the limit of the stripes' bytes.
         ensures long { IsErrOf result fault.Limit → self.new.failed ≡ true
             → PassesBytes self.old.options self.old.schema self.old.infos.items (views self.old.rows.items
             ++ view row.now ∷ []) }
+        // A refusal is Failed, RowShape, Limit, WriteFailed or want of memory.
         ensures refused { IfErr result (λ e. (e ≡ fault.Failed)
             ⊎ ((e ≡ fault.RowShape) ⊎ ((e ≡ fault.Limit) ⊎ ((e ≡ fault.WriteFailed) ⊎ (e ≡ fault.OutOfMemory))))) }
+        // After RowShape the writer has not failed.
         ensures shape_stays { IsErrOf result fault.RowShape → self.new.failed ≡ false }
+        // Where a push is refused and the writer hasn't failed by it, its output, stripes, rows and
+        // counts are as they were.
         ensures unchanged { OnErr result (self.new.failed ≡ self.old.failed → (self.new.out ≡ self.old.out)
             × (self.new.written ≡ self.old.written) × (self.new.infos ≡ self.old.infos)
             × (self.new.stats ≡ self.old.stats)
             × (self.new.rows ≡ self.old.rows) × (self.new.counts ≡ self.old.counts) × (self.new.total ≡ self.old.total)
             × (self.new.failed ≡ self.old.failed)) }
+        // After WriteFailed and want of memory it has failed; once failed it stays so, and after a
+        // success it has not failed.
         ensures write_fails { IsErrOf result fault.WriteFailed → self.new.failed ≡ true }
         ensures memory_fails { IsErrOf result fault.OutOfMemory → self.new.failed ≡ true }
         ensures stays_failed { self.old.failed ≡ true → self.new.failed ≡ true }
         ensures ok { OnOk result (self.new.failed ≡ false) }
 
+        // Where the output tells its bytes and the writer fails by this push, what was written is
+        // the front of a file of the first rows pushed, for some number of them, this row counted.
         ensures cut { (first : Option (List ℕ)) (rows : List Cell)
             → HasPushed (progress W.told self.old) first rows
             → self.old.failed ≡ false → self.new.failed ≡ true
             → IsCutOff self.old.options self.old.schema first (W.told self.new.out)
             (rows ++ view row.now ∷ []) }
+        // The output's count of failures rises with WriteFailed, and stands where the push succeeds
+        // or memory is refused.
         ensures write_failed { IsErrOf result fault.WriteFailed → W.failures self.old.out < W.failures self.new.out }
         ensures memory { IsErrOf result fault.OutOfMemory → W.failures self.new.out ≡ W.failures self.old.out }
         ensures no_failure { OnOk result (W.failures self.new.out ≡ W.failures self.old.out) }
@@ -387,6 +442,7 @@ impl<W: Sink> Writer<W> {
 
     /// The schema of its rows.
     pub fn schema(&self) -> &Schema
+        // What is lent is the writer's schema.
         ensures { result.now ≡ self.now.schema }
     {
         &self.schema
@@ -394,6 +450,7 @@ impl<W: Sink> Writer<W> {
 
     /// The output as it stands. The rows that are kept aren't written, nor is a tail.
     pub fn into_out(self) -> W
+        // The output is the writer's, as it stands.
         ensures { result ≡ self.out }
     {
         self.out
@@ -431,22 +488,33 @@ impl<W: Sink> Writer<W> {
     /// Refusals: `Failed`, where an earlier call failed; `WriteFailed`, `OutOfMemory`, and `Limit` where the
     /// file's stripes would have too many bytes.
     pub fn finish(self) -> Result<(Tail, W), (FileFault, W)>
+        // Where the output tells its bytes and the call succeeds, it has got the file that is
+        // written of the rows pushed, with the tail that is answered.
         ensures whole { (first : Option (List ℕ)) (rows : List Cell)
             → HasPushed (progress W.told self) first rows
             → IfOk result (λ done. IsWhole self.options self.schema done.0 first (W.told done.1) rows) }
 
+        // Failed is answered exactly where an earlier call failed, and the output comes back as it
+        // was.
         ensures failed { IfErr result (λ e. e.0 ≡ fault.Failed → self.failed ≡ true) }
         ensures stands { self.failed ≡ true → MatchResult result (λ _. ⊥)
             (λ e. (e.0 ≡ fault.Failed) × (e.1 ≡ self.out)) }
+        // Limit comes only where a row is kept and the stripe of those kept would pass the limit of
+        // the stripes' bytes.
         ensures long { IfErr result (λ e. e.0 ≡ fault.Limit
             → PassesBytes self.options self.schema self.infos.items (views self.rows.items)) }
         ensures begun { IfErr result (λ e. e.0 ≡ fault.Limit → 0 < length self.rows.items) }
+        // A refusal is Failed, Limit, WriteFailed or want of memory.
         ensures refused { IfErr result (λ e. (e.0 ≡ fault.Failed)
             ⊎ ((e.0 ≡ fault.Limit) ⊎ ((e.0 ≡ fault.WriteFailed) ⊎ (e.0 ≡ fault.OutOfMemory)))) }
+        // Where the output tells its bytes and no earlier call failed, what was written before a
+        // refusal is the front of a file of the first rows pushed, for some number of them.
         ensures cut { (first : Option (List ℕ)) (rows : List Cell)
             → HasPushed (progress W.told self) first rows
             → self.failed ≡ false
             → IfErr result (λ e. IsCutOff self.options self.schema first (W.told e.1) rows) }
+        // The output's count of failures rises with WriteFailed, and stands where the call succeeds
+        // or memory is refused.
         ensures write_failed { IfErr result (λ e. e.0 ≡ fault.WriteFailed → W.failures self.out < W.failures e.1) }
         ensures memory { IfErr result (λ e. e.0 ≡ fault.OutOfMemory → W.failures e.1 ≡ W.failures self.out) }
         ensures no_failure { IfOk result (λ done. W.failures done.1 ≡ W.failures self.out) }

@@ -66,27 +66,53 @@ impl<'a> StripeView<'a> {
         Ok(entries)
     }
 
-    /// A cursor at the first row of a group, the rows from `group * stride` on (ORC specification, "Row Group Index").
-    /// Each column is entered at the positions that its index has for the group. What stands before a position's offset
-    /// in its stream has no part in the rows, and other groups' entries have none. Dictionaries are read whole.
+    /// A cursor at the first row of a group, the rows from `group * stride` on (ORC specification,
+    /// "Row Group Index"). Each column is entered at the positions that its index has for the
+    /// group. What stands before a position's offset in its stream has no part in the rows, and
+    /// other groups' entries have none. Dictionaries are read whole.
     ///
-    /// Refusals: `NoIndex`, of the stripe where the stride is 0, and of the first column that has none; `TooMany(0)`
-    /// where the rows are more than 2,147,483,647; `BadPosition` of the stripe where it has no such group, of a column
-    /// where its index hasn't as many entries as there are groups, or its entry not as many positions as the column's
-    /// streams, and of a stream that a position lies outside of; `Run` where no run is decoded there; `Wire`; those of
-    /// a dictionary; `OutOfMemory`. All indexes are read before a stream is. What the cursor refuses later is a fault of
-    /// the columns' streams as they stand from the positions on, with its place in the stream.
+    /// Where the group's positions are right in columns that spell rows, as many as the stripe has,
+    /// the cursor gives these from the group's first one on, and then none, and want of memory is
+    /// the only refusal. The columns may be the stripe's own, or those of any other with the same
+    /// encodings and dictionaries, streams as long, and the same bytes from the positions' offsets
+    /// on. They may be of every kind, nested, with a dictionary, in the middle of a run.
+    ///
+    /// Refusals: `NoIndex`, of the stripe where the stride is 0, and of a column that has none;
+    /// `TooMany(0)` where the rows are more than 2,147,483,647; `BadPosition` of the stripe where
+    /// it has no such group, of a column where its index hasn't as many entries as there are
+    /// groups, or its entry not as many positions as the column's streams, and of a stream that a
+    /// position lies outside of; `Run` where no run is decoded there; `Wire`; those of a
+    /// dictionary; `OutOfMemory`. All indexes are read before a stream is. What the cursor refuses
+    /// later is a fault of the columns' streams as they stand from the positions on, with its place
+    /// in the stream.
+    ///
+    /// But for want of memory, `NoIndex` of the stripe comes just where the stride is 0. A fault of
+    /// a column's index or of its number of entries comes only where the stripe has the group; one
+    /// at the positions of a column's own entry only where each column has its entry of the group,
+    /// too.
     pub fn cursor_at(&self, alloc: Global, group: u64) -> Result<RowCursor<'a>, StripeFault>
+        // Where the group's positions are right, whatever stands before them, the cursor stands for
+        // the rows from `group * stride` on, and want of memory is the only refusal.
         ensures starts { (x : ℕ → Streams) (rows : List Cell) → StartsGroup self.now x rows group
             → MatchResult result
             (λ cursor. StandsFor cursor (drop (group * self.now.stride) rows))
             (λ fault. fault ≡ OutOfMemory) }
+        // The cursor wasn't refused yet.
         ensures going { IfOk result IsGoing }
+        // A cursor is there only where the stripe has the group, and each column an index with as
+        // many entries as groups.
         ensures there { IfOk result (λ _. HasGroup self.now group × HasEntries self.now group) }
+        // It is there only where each column's entry has as many positions as the column's streams,
+        // each of which lies in its stream.
         ensures entered { IfOk result (λ _. IsEntered self.now group) }
+        // The rows that it stands for are what stands behind these positions, as many as the stripe
+        // has from the group on.
         ensures found { IfOk result (λ cursor. (rows : List Cell) → StandsFor cursor rows
             → SpellsFrom self.now group rows) }
+        // What it refuses later is a fault of the streams from these positions on.
         ensures meets { IfOk result (λ cursor. (f : Fault) → MeetsFault cursor f → MeetsFrom self.now group f) }
+        // A refusal but want of memory stands: the stripe hasn't the group, a column hasn't its
+        // entry, or each has one and a column isn't entered at its positions.
         ensures fault { IfErr result (λ cause. cause ≢ OutOfMemory → GroupFault self.now group cause) }
     {
         let count = self.info.number_of_rows;

@@ -64,7 +64,9 @@ fn is_memory(fault: WireFault) -> bool
 ///
 /// Refusal: want of memory.
 pub fn read_index(alloc: Global, text: &IndexText<'_>) -> Result<Option<RowIndexMsg>, AllocError>
+    // What is answered is the message that the bytes of the row index are.
     ensures found { IfOk result (λ found. IfSome found (IsMessage text.now)) }
+    // None is answered only where there are no bytes, or they are no such message.
     ensures none { result ≡ Ok None → (message : IndexMessage) → IsMessage text.now message → ⊥ }
 {
     let Some(bytes) = text.bytes else {

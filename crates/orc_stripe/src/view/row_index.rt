@@ -52,11 +52,17 @@ impl<'a> StripeView<'a> {
     /// Refusals: `NoIndex`, of the stripe where the stride is 0, even if there is such a stream, and of the column
     /// where the directory lists none; `Wire`; `OutOfMemory`.
     pub fn index(&self, alloc: Global, column: usize) -> Result<RowIndexMsg, StripeFault>
+        // The message that is answered is the one that the column's ROW_INDEX stream is, and the
+        // stride is above 0.
         ensures found { IfOk result (λ message. (0 < self.now.stride)
             × HasIndex self.now.footer self.now.bytes column message) }
+        // Where the stride is above 0 and the column's ROW_INDEX stream is a message, this is
+        // answered, unless memory is refused.
         ensures only { (message : IndexMessage) → 0 < self.now.stride
             → HasIndex self.now.footer self.now.bytes column message
             → MatchResult result (λ found. found ≡ message) (λ fault. fault ≡ OutOfMemory) }
+        // A refusal is NoIndex where the stride is 0 or the directory lists no such stream, and
+        // else the fault of its bytes, or want of memory.
         ensures fault { IfErr result (IndexFault self.now column) }
     {
         if self.stride == 0 {
@@ -87,9 +93,13 @@ impl<'a> StripeView<'a> {
         rows: &[Row<'_>],
     ) -> Result<Vec<bool>, StripeFault>
         requires { column < width self.now.schema }
+        // Where truth values are answered, the column has an index with an entry for each group of
+        // the rows, and the stride is above 0.
         ensures index { IfOk result (λ _. (message : IndexMessage)
             × HasIndex self.now.footer self.now.bytes column message
             × IsWhole self.now (length (views rows.now)) message × (0 < self.now.stride)) }
+        // Where the rows are the stripe's and an index reads, each value says whether its entry's
+        // positions are right for the group; memory or the number of entries alone is refused.
         ensures right { (message : IndexMessage)
             → IsStripe self.now.schema self.now.info self.now.bytes (views rows.now)
             → 0 < self.now.stride
@@ -98,6 +108,8 @@ impl<'a> StripeView<'a> {
             (λ right. IsWhole self.now (length (views rows.now)) message
             × ArePositionsDecided self.now column (views rows.now) message right.items)
             (λ fault. (fault ≡ OutOfMemory) ⊎ HasOtherEntries self.now column (length (views rows.now)) fault) }
+        // A refusal but want of memory is one of the index or of its number of entries, or, where
+        // the rows aren't the stripe's, of a stream's runs.
         ensures fault { IfErr result (λ fault. fault ≢ OutOfMemory
             → PositionsFault self.now column (views rows.now) fault) }
     {
@@ -132,10 +144,14 @@ impl<'a> StripeView<'a> {
     /// Refusals: those of `rows`, and then those of `positions_right_of` but `Run`.
     pub fn positions_right(&self, alloc: Global, column: usize) -> Result<Vec<bool>, StripeFault>
         requires { column < width self.now.schema }
+        // Where truth values are answered, the stripe has rows, the column has an index with an
+        // entry for each group of them, and the stride is above 0.
         ensures index { IfOk result (λ _. (rows : List Cell) × (message : IndexMessage)
             × IsStripe self.now.schema self.now.info self.now.bytes rows
             × HasIndex self.now.footer self.now.bytes column message
             × IsWhole self.now (length rows) message × (0 < self.now.stride)) }
+        // Over the stripe's rows, where an index reads, each truth value says whether its entry's
+        // positions are right for the group; memory or the number of entries alone is refused.
         ensures right { (rows : List Cell) (message : IndexMessage)
             → IsStripe self.now.schema self.now.info self.now.bytes rows
             → 0 < self.now.stride
@@ -144,6 +160,8 @@ impl<'a> StripeView<'a> {
             (λ right. IsWhole self.now (length rows) message
             × ArePositionsDecided self.now column rows message right.items)
             (λ fault. (fault ≡ OutOfMemory) ⊎ HasOtherEntries self.now column (length rows) fault) }
+        // A refusal but want of memory is one of the stripe's rows; or there are rows, and it is
+        // one of the index or of its number of entries.
         ensures fault { IfErr result (λ cause. cause ≢ OutOfMemory
             → RowsFault self.now.schema (columns_of self.now.footer self.now.bytes) self.now.info.number_of_rows cause
             ⊎ ((rows : List Cell) × IsStripe self.now.schema self.now.info self.now.bytes rows
