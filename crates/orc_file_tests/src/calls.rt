@@ -27,6 +27,18 @@ pub(crate) fn opened<S: Source + Drop>(alloc: Global, source: S) -> Result<OrcFi
     }
 }
 
+/// A file under a cap, or the fault alone.
+pub(crate) fn opened_capped<S: Source + Drop>(
+    alloc: Global,
+    source: S,
+    cap: u64,
+) -> Result<OrcFile<S>, FileFault> {
+    match open_capped(alloc, source, cap) {
+        Ok(file) => Ok(file),
+        Err((fault, _)) => Err(fault),
+    }
+}
+
 /// A file's rows.
 pub(crate) fn rows<S: Source>(
     alloc: Global,

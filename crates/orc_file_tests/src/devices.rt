@@ -7,18 +7,16 @@ use orc_io::{
 use orc_test_io::{FailSink, FailSource, Full, Narrow};
 use std::alloc::{AllocError, Global};
 use std::fs::File;
-use std::io::Write;
 use std::path::PathBuf;
 use std::process::Abort;
-use std::test::Fail;
 use std::time::{Duration, SystemTime};
 use std::{env, fs, io, process};
 
 /// Some bytes, no two of them alike.
-const BYTES: [u8; 11] = [0x4f, 0x52, 0x43, 0, 1, 2, 0x80, 0xfe, 0xff, 7, 3];
+static BYTES: [u8; 11] = [0x4f, 0x52, 0x43, 0, 1, 2, 0x80, 0xfe, 0xff, 7, 3];
 
 /// A place, a length, and the bytes there.
-const RANGES: [(u64, u64, &[u8]); 8] = [
+static RANGES: [(u64, u64, &[u8]); 8] = [
     (0, 3, &[0x4f, 0x52, 0x43]),
     (10, 1, &[3]),
     (0, 1, &[0x4f]),
@@ -26,7 +24,7 @@ const RANGES: [(u64, u64, &[u8]); 8] = [
     (6, 5, &[0x80, 0xfe, 0xff, 7, 3]),
     (11, 0, &[]),
     (0, 0, &[]),
-    (0, 11, &BYTES),
+    (0, 11, &[0x4f, 0x52, 0x43, 0, 1, 2, 0x80, 0xfe, 0xff, 7, 3]),
 ];
 
 /// `read_range`, where the range lies within the source.
@@ -224,11 +222,15 @@ fn writers_fill_up(rt: HostRuntime) -> Result<(), AllocError> {
     Ok(())
 }
 
-/// The path of a file of this process alone.
+/// The name of a file of this process alone.
+fn name_of(rt: &HostRuntime, name: &str) -> Result<String, AllocError> {
+    format!(in rt.alloc(); "orc_io-{}-{name}", process::id(rt.process()))
+}
+
+/// The path of such a file.
 fn path_of(rt: &HostRuntime, name: &str) -> io::Result<PathBuf> {
     let mut path = env::temp_dir(rt)?;
-    let name = format!(in rt.alloc(); "orc_io-{}-{name}", process::id(rt.process()))?;
-    path.push(name.as_str())?;
+    path.push(name_of(rt, name)?.as_str())?;
     Ok(path)
 }
 
@@ -240,18 +242,34 @@ fn made_path(rt: &HostRuntime, name: &str) -> io::Result<PathBuf> {
     }
 }
 
-#[test]
-fn files_are_read(rt: HostRuntime) -> Result<(), Fail> {
-    let path = made_path(&rt, "read")?;
-    fs::write(&rt, path.as_path(), &BYTES)?;
-    let mut source = FileSource::open(&rt, path.as_str())
-        .ok()
-        .ok_or("not opened")?;
-    reads_ranges(&rt, rt.alloc(), &mut source);
+/// A source of the file of that path.
+fn source_of<'a>(files: &'a HostRuntime, path: &'a str) -> io::Result<FileSource<'a, HostRuntime>> {
+    match FileSource::open(files, path) {
+        Ok(source) => Ok(source),
+        Err(_) => Err(io::Error::from(io::ErrorKind::NotFound)),
+    }
+}
+
+/// Every range of the table is read from the file, before the source rests and then.
+fn read_file(rt: &impl Abort, files: &HostRuntime, path: &str) -> io::Result<()> {
+    let mut source = source_of(files, path)?;
+    reads_ranges(rt, files.alloc(), &mut source);
     source.rest();
-    reads_ranges(&rt, rt.alloc(), &mut &mut source);
-    fs::remove_file(&rt, path.as_path())?;
+    reads_ranges(rt, files.alloc(), &mut &mut source);
     Ok(())
+}
+
+/// The same of a file that is written before and removed then.
+fn write_and_read(rt: &impl Abort, files: &HostRuntime, path: &PathBuf) -> io::Result<()> {
+    fs::write(files, path.as_path(), &BYTES)?;
+    read_file(rt, files, path.as_str())?;
+    fs::remove_file(files, path.as_path())
+}
+
+#[test]
+fn files_are_read(rt: HostRuntime) -> io::Result<()> {
+    let path = made_path(&rt, "read")?;
+    write_and_read(&rt, &rt, &path)
 }
 
 /// Whether three bytes are read from the front.
@@ -260,11 +278,11 @@ fn is_read<S: Source>(alloc: Global, source: &mut S) -> bool {
 }
 
 /// `BYTES` and one more.
-const LONGER: [u8; 12] = [0x4f, 0x52, 0x43, 0, 1, 2, 0x80, 0xfe, 0xff, 7, 3, 0];
+static LONGER: [u8; 12] = [0x4f, 0x52, 0x43, 0, 1, 2, 0x80, 0xfe, 0xff, 7, 3, 0];
 
 /// How many bytes a file has then, in which second after 1970 it was changed last, and whether it is read where it was
 /// found with eleven, changed last in the fifth.
-const CHANGES: [(usize, u64, bool); 8] = [
+static CHANGES: [(usize, u64, bool); 8] = [
     (11, 5, true),
     (12, 5, false),
     (10, 5, false),
@@ -275,12 +293,17 @@ const CHANGES: [(usize, u64, bool); 8] = [
     (11, 5, true),
 ];
 
+/// The time so many seconds after 1970 began.
+fn time_of(second: u64) -> SystemTime {
+    let time = SystemTime::UNIX_EPOCH.checked_add(Duration::from_secs(second));
+    time.unwrap_or(SystemTime::UNIX_EPOCH)
+}
+
 /// Writes so many bytes to the file of that path, as if it were changed last in that second.
 fn put_file(rt: &HostRuntime, path: &PathBuf, len: usize, second: u64) -> io::Result<()> {
-    let mut file = File::create(rt, path.as_path())?;
-    file.write_all(&LONGER[..len.min(12)])?;
-    let time = SystemTime::UNIX_EPOCH.checked_add(Duration::from_secs(second));
-    file.set_modified(time.unwrap_or(SystemTime::UNIX_EPOCH))
+    fs::write(rt, path.as_path(), &LONGER[..len.min(12)])?;
+    let file = File::open(rt, path.as_path())?;
+    file.set_modified(time_of(second))
 }
 
 /// Whether a source that had eleven bytes is read from the front where its file was changed so.
@@ -303,37 +326,69 @@ fn check_removed<S: Source>(rt: &impl Abort, alloc: Global, source: &mut S) {
     demand(rt, !is_read(alloc, source), "of no file", &[]);
 }
 
-#[test]
-fn files_that_change_are_refused(rt: HostRuntime) -> Result<(), Fail> {
-    let path = made_path(&rt, "changed")?;
-    put_file(&rt, &path, 11, 5)?;
-    let mut source = FileSource::open(&rt, path.as_str())
-        .ok()
-        .ok_or("not opened")?;
+/// The source is read as the table says where its file is changed.
+fn check_changes<S: Source>(
+    rt: &impl Abort,
+    files: &HostRuntime,
+    path: &PathBuf,
+    source: &mut S,
+) -> io::Result<()> {
     for (len, second, wanted) in CHANGES {
-        put_file(&rt, &path, len, second)?;
-        check_change(&rt, rt.alloc(), &mut source, [len as u64, second], wanted);
+        put_file(files, path, len, second)?;
+        check_change(rt, files.alloc(), source, [len as u64, second], wanted);
     }
-    fs::remove_file(&rt, path.as_path())?;
-    check_removed(&rt, rt.alloc(), &mut source);
-    let opened = FileSource::open(&rt, path.as_str()).is_ok();
-    demand(&rt, !opened, "no file", &[]);
     Ok(())
 }
 
+/// A file is changed under its source, and removed.
+fn change_file(rt: &impl Abort, files: &HostRuntime, path: &PathBuf) -> io::Result<()> {
+    put_file(files, path, 11, 5)?;
+    let mut source = source_of(files, path.as_str())?;
+    check_changes(rt, files, path, &mut source)?;
+    fs::remove_file(files, path.as_path())?;
+    check_removed(rt, files.alloc(), &mut source);
+    Ok(())
+}
+
+/// There is no source of the file of that path.
+fn check_gone(rt: &impl Abort, files: &HostRuntime, path: &str) {
+    demand(rt, source_of(files, path).is_err(), "no file", &[]);
+}
+
 #[test]
-fn files_put_in_place_of_others_are_refused(rt: HostRuntime) -> Result<(), Fail> {
-    let path = made_path(&rt, "replaced")?;
-    put_file(&rt, &path, 11, 5)?;
-    let mut source = FileSource::open(&rt, path.as_str())
-        .ok()
-        .ok_or("not opened")?;
+fn files_that_change_are_refused(rt: HostRuntime) -> io::Result<()> {
+    let path = made_path(&rt, "changed")?;
+    change_file(&rt, &rt, &path)?;
+    check_gone(&rt, &rt, path.as_str());
+    Ok(())
+}
+
+/// The source is read as the table says where another file is put in place of its own.
+fn check_replaced<S: Source>(
+    rt: &impl Abort,
+    files: &HostRuntime,
+    path: &PathBuf,
+    source: &mut S,
+) -> io::Result<()> {
     for (len, second, wanted) in CHANGES {
         source.rest();
-        fs::remove_file(&rt, path.as_path())?;
-        put_file(&rt, &path, len, second)?;
-        check_change(&rt, rt.alloc(), &mut source, [len as u64, second], wanted);
+        fs::remove_file(files, path.as_path())?;
+        put_file(files, path, len, second)?;
+        check_change(rt, files.alloc(), source, [len as u64, second], wanted);
     }
-    fs::remove_file(&rt, path.as_path())?;
     Ok(())
+}
+
+/// Other files are put in place of a source's file, and the last one is removed.
+fn replace_file(rt: &impl Abort, files: &HostRuntime, path: &PathBuf) -> io::Result<()> {
+    put_file(files, path, 11, 5)?;
+    let mut source = source_of(files, path.as_str())?;
+    check_replaced(rt, files, path, &mut source)?;
+    fs::remove_file(files, path.as_path())
+}
+
+#[test]
+fn files_put_in_place_of_others_are_refused(rt: HostRuntime) -> io::Result<()> {
+    let path = made_path(&rt, "replaced")?;
+    replace_file(&rt, &rt, &path)
 }

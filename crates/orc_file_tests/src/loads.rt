@@ -21,6 +21,18 @@ static RANGES: [(u64, u64); 8] = [
     (41, 19),
 ];
 
+/// Whether the rows of a stripe's bytes have these numbers.
+fn is_read(
+    alloc: Global,
+    file: &OrcFile<SeenSource<'static>>,
+    number: usize,
+    bytes: &[u8],
+    wanted: &[i64],
+) -> Result<bool, FileFault> {
+    let rows = stripe_rows(alloc, file, number, bytes)?;
+    Ok(have_numbers(&rows, wanted))
+}
+
 /// Whether the rows of a stripe's view have these numbers.
 fn has_numbers(
     alloc: Global,
@@ -33,6 +45,18 @@ fn has_numbers(
         Err(StripeFault::OutOfMemory) => Err(FileFault::OutOfMemory),
         Err(why) => Err(FileFault::Stripe(number, why)),
     }
+}
+
+/// Whether the rows of the view of a stripe's bytes have these numbers.
+fn is_viewed(
+    alloc: Global,
+    file: &OrcFile<SeenSource<'static>>,
+    number: usize,
+    bytes: &[u8],
+    wanted: &[i64],
+) -> Result<bool, FileFault> {
+    let view = view(alloc, file, number, bytes)?;
+    has_numbers(alloc, number, &view, wanted)
 }
 
 /// A stripe is loaded into the vector, in place of what was there, and its bytes and their view have three rows of a
@@ -55,9 +79,9 @@ fn check_stripe(
         &[number as u64],
     );
     let wanted = [wanted; 3];
-    let is_read = have_numbers(&stripe_rows(alloc, file, number, bytes)?, &wanted);
+    let is_read = is_read(alloc, file, number, bytes, &wanted)?;
     demand(rt, is_read, "rows of stripe", &[number as u64]);
-    let is_viewed = has_numbers(alloc, number, &view(alloc, file, number, bytes)?, &wanted)?;
+    let is_viewed = is_viewed(alloc, file, number, bytes, &wanted)?;
     demand(
         rt,
         is_viewed,
@@ -67,6 +91,9 @@ fn check_stripe(
     Ok(())
 }
 
+/// The number in the rows of each stripe.
+static OF_STRIPES: [i64; 3] = [7, 8, 9];
+
 /// The stripes are loaded into one vector.
 fn check_stripes(
     rt: &impl Abort,
@@ -74,20 +101,40 @@ fn check_stripes(
     file: &mut OrcFile<SeenSource<'static>>,
     bytes: &mut Vec<u8>,
 ) -> Result<(), FileFault> {
-    for (number, wanted) in [7i64, 8, 9].iter().enumerate() {
+    bytes.extend_from_slice(b"before")?;
+    for (number, wanted) in OF_STRIPES.iter().enumerate() {
         check_stripe(rt, alloc, file, number, *wanted, bytes)?;
     }
+    Ok(())
+}
+
+/// The same into a vector of its own.
+fn check_file(
+    rt: &impl Abort,
+    alloc: Global,
+    file: &mut OrcFile<SeenSource<'static>>,
+) -> Result<(), FileFault> {
+    check_same(rt, &file.schema().width(), &2, "columns", &[]);
+    let mut bytes = Vec::new(alloc);
+    check_stripes(rt, alloc, file, &mut bytes)
+}
+
+/// Unless it was refused, a file was read in these ranges.
+fn check_ranges(
+    rt: &impl Abort,
+    answer: Result<(), FileFault>,
+    source: &SeenSource<'static>,
+) -> Result<(), FileFault> {
+    answer?;
+    check_list(rt, source.ranges(), &RANGES, "ranges", &[]);
     Ok(())
 }
 
 /// The stripes are loaded, each in one range behind those of the tail.
 fn check_loads(rt: &impl Abort, alloc: Global) -> Result<(), FileFault> {
     let mut file = opened(alloc, SeenSource::new(&UPWARDS))?;
-    check_same(rt, &file.schema().width(), &2, "columns", &[]);
-    let mut bytes = b"before".to_vec(alloc)?;
-    check_stripes(rt, alloc, &mut file, &mut bytes)?;
-    check_list(rt, file.into_parts().1.ranges(), &RANGES, "ranges", &[]);
-    Ok(())
+    let answer = check_file(rt, alloc, &mut file);
+    check_ranges(rt, answer, &file.into_parts().1)
 }
 
 #[test]
@@ -99,12 +146,21 @@ fn stripes_are_loaded(rt: HostRuntime) {
     passes(&rt, answer);
 }
 
+/// A file's rows are read.
+fn check_upwards(
+    rt: &impl Abort,
+    alloc: Global,
+    file: &mut OrcFile<SeenSource<'static>>,
+) -> Result<(), FileFault> {
+    demand(rt, has_upwards(alloc, file)?, "rows", &[]);
+    Ok(())
+}
+
 /// All rows are read in the same ranges.
 fn check_rows(rt: &impl Abort, alloc: Global) -> Result<(), FileFault> {
     let mut file = opened(alloc, SeenSource::new(&UPWARDS))?;
-    demand(rt, has_upwards(alloc, &mut file)?, "rows", &[]);
-    check_list(rt, file.into_parts().1.ranges(), &RANGES, "ranges", &[]);
-    Ok(())
+    let answer = check_upwards(rt, alloc, &mut file);
+    check_ranges(rt, answer, &file.into_parts().1)
 }
 
 #[test]
@@ -116,13 +172,31 @@ fn rows_are_read_in_as_many_ranges(rt: HostRuntime) {
     passes(&rt, answer);
 }
 
+/// Why bytes are no stripe 2, by its rows.
+fn rows_fault(
+    alloc: Global,
+    file: &OrcFile<SeenSource<'static>>,
+    bytes: &[u8],
+) -> Option<FileFault> {
+    stripe_rows(alloc, file, 2, bytes).err()
+}
+
+/// The same by its view.
+fn view_fault(
+    alloc: Global,
+    file: &OrcFile<SeenSource<'static>>,
+    bytes: &[u8],
+) -> Option<FileFault> {
+    view(alloc, file, 2, bytes).err()
+}
+
 /// Why so many bytes are no stripe 2, by its rows and by its view.
 fn refused(alloc: Global, len: usize) -> Result<(Option<FileFault>, Option<FileFault>), FileFault> {
     let file = opened(alloc, SeenSource::new(&UPWARDS))?;
     let bytes = &UPWARDS[41..41 + len.min(20)];
     Ok((
-        stripe_rows(alloc, &file, 2, bytes).err(),
-        view(alloc, &file, 2, bytes).err(),
+        rows_fault(alloc, &file, bytes),
+        view_fault(alloc, &file, bytes),
     ))
 }
 

@@ -71,11 +71,20 @@ pub(crate) fn have_numbers(rows: &[Row<'_>], wanted: &[i64]) -> bool {
     true
 }
 
+/// Whether a file's rows have these numbers.
+fn has_numbers<S: Source>(
+    alloc: Global,
+    file: &mut OrcFile<S>,
+    wanted: &[i64],
+) -> Result<bool, FileFault> {
+    let rows = rows_of(alloc, file)?;
+    Ok(have_numbers(&rows, wanted))
+}
+
 /// Whether the rows of these bytes have these numbers.
 fn is_read(alloc: Global, bytes: &[u8], wanted: &[i64]) -> Result<bool, FileFault> {
     let mut file = open_file(alloc, SliceSource::new(bytes))?;
-    let rows = rows_of(alloc, &mut file)?;
-    Ok(have_numbers(&rows, wanted))
+    has_numbers(alloc, &mut file, wanted)
 }
 
 #[test]
@@ -143,20 +152,35 @@ fn changed(alloc: Global, bytes: &[u8], place: usize, byte: u8) -> Result<Vec<u8
     Ok(changed)
 }
 
+/// Why a file's rows aren't read, once there is memory.
+fn fault_of<S: Source>(alloc: Global, file: &mut OrcFile<S>) -> Option<FileFault> {
+    rows_of(alloc, file).err()
+}
+
 /// Why the rows of these bytes aren't read, and why they aren't where they are asked for again.
 fn refused_twice(
     alloc: Global,
     bytes: &[u8],
 ) -> Result<(Option<FileFault>, Option<FileFault>), FileFault> {
     let mut file = open_file(alloc, SliceSource::new(bytes))?;
-    let first = rows_of(alloc, &mut file).err();
-    Ok((first, rows_of(alloc, &mut file).err()))
+    Ok((fault_of(alloc, &mut file), fault_of(alloc, &mut file)))
+}
+
+/// The same of the bytes with another byte at a place.
+fn changed_refused_twice(
+    alloc: Global,
+    bytes: &[u8],
+    place: usize,
+    byte: u8,
+) -> Result<(Option<FileFault>, Option<FileFault>), FileFault> {
+    let changed = changed(alloc, bytes, place, byte)?;
+    refused_twice(alloc, &changed)
 }
 
 #[test]
 fn the_first_bad_stripe_is_named(rt: HostRuntime) -> Result<(), FileFault> {
     for (bytes, place, byte, stripe, why) in CHANGES {
-        let faults = refused_twice(rt.alloc(), &changed(rt.alloc(), bytes, place, byte)?)?;
+        let faults = changed_refused_twice(rt.alloc(), bytes, place, byte)?;
         let wanted = Some(FileFault::Stripe(stripe, why));
         check_same(
             &rt,
@@ -181,15 +205,28 @@ pub(crate) fn has_upwards<S: Source>(
 /// Which read fails: the stripes are read behind the five ranges of the tail.
 static FAILING: [u64; 3] = [6, 7, 8];
 
-/// Why the rows aren't read where that read fails, and whether they are read when they are asked for again.
+/// Why a file's rows aren't read for another reason than want of memory.
+fn failure_of<S: Source>(alloc: Global, file: &mut OrcFile<S>) -> Result<FileFault, FileFault> {
+    match rows(alloc, file).err() {
+        Some(FileFault::OutOfMemory) => Err(FileFault::OutOfMemory),
+        Some(fault) => Ok(fault),
+        None => Ok(FileFault::Failed),
+    }
+}
+
+/// Why a file's rows aren't read, and whether they are read when they are asked for again.
+fn ask_twice<S: Source>(
+    alloc: Global,
+    file: &mut OrcFile<S>,
+) -> Result<(FileFault, bool), FileFault> {
+    let fault = failure_of(alloc, file)?;
+    Ok((fault, has_upwards(alloc, file)?))
+}
+
+/// The same of a file of which that read fails.
 fn read_twice(alloc: Global, read: u64) -> Result<(FileFault, bool), FileFault> {
     let mut file = opened(alloc, FailSource::new(&UPWARDS, read))?;
-    let fault = match rows(alloc, &mut file).err() {
-        Some(FileFault::OutOfMemory) => return Err(FileFault::OutOfMemory),
-        Some(fault) => fault,
-        None => FileFault::Failed,
-    };
-    Ok((fault, has_upwards(alloc, &mut file)?))
+    ask_twice(alloc, &mut file)
 }
 
 /// What wants memory on the way is read anew, so that the same read fails.

@@ -1,9 +1,9 @@
 //! The statistics of a file's columns, joined of its stripes'.
 
 use crate::assertions::check_same;
-use crate::tails::{numbers, tail_of};
+use crate::tails::{limited_tail, numbers};
 use orc_file::{FileFault, file_statistics};
-use orc_stats::StatFault;
+use orc_stats::{Stat, StatFault};
 use orc_test_io::{EMPTY, SEVENS, TWICE, UPWARDS};
 use std::alloc::Global;
 use std::process::Abort;
@@ -16,14 +16,19 @@ const FILES: [(&[u8], Option<(u64, i64, i64, i64)>); 4] = [
     (&UPWARDS, Some((9, 7, 7, 63))),
 ];
 
+/// The numbers of the second of two columns.
+fn numbers_of_two(stats: &[Stat]) -> Result<Option<(u64, i64, i64, i64)>, FileFault> {
+    match stats {
+        [_, column] => Ok(numbers(column)),
+        _ => Err(FileFault::BadFooter),
+    }
+}
+
 /// The numbers of the second column, joined of those that the file says of its stripes.
 fn joined_numbers(alloc: Global, bytes: &[u8]) -> Result<Option<(u64, i64, i64, i64)>, FileFault> {
-    let tail = tail_of(alloc, bytes)?;
+    let tail = limited_tail(alloc, bytes)?;
     match file_statistics(alloc, &tail.schema, tail.stripe_stats.as_slice()) {
-        Ok(stats) => match stats.as_slice() {
-            [_, column] => Ok(numbers(column)),
-            _ => Err(FileFault::BadFooter),
-        },
+        Ok(stats) => numbers_of_two(stats.as_slice()),
         Err(StatFault::OutOfMemory) => Err(FileFault::OutOfMemory),
         Err(StatFault::CountTooLarge) => Err(FileFault::Limit),
     }

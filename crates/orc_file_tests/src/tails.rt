@@ -9,7 +9,8 @@ mod put_again;
 mod reads;
 
 use crate::assertions::{check_list, check_same, demand};
-use orc_file::{FileFault, OrcFile, SliceSource, Source, Tail};
+use crate::calls::open;
+use orc_file::{FileFault, OrcFile, SliceSource, Tail};
 use orc_stats::{Body, Stat};
 use orc_stripe::{StreamKind, StripeFault};
 use orc_test_io::{EMPTY, SEVENS};
@@ -18,27 +19,28 @@ use orc_wire::{Items, StripeInfo};
 use std::alloc::Global;
 use std::process::Abort;
 
-/// The tail of a file, or the fault and the file's source. Of what `open` promises its callers need the limits alone.
-fn tail_or_source<S: Source + Drop>(alloc: Global, source: S) -> Result<Tail, (FileFault, S)>
+/// The tail of bytes. Of what `open` promises its callers need the limits alone.
+pub(crate) fn limited_tail(alloc: Global, bytes: &[u8]) -> Result<Tail, FileFault>
     ensures limits { IfOk result (λ tail. IsWithinLimits tail) }
 {
-    match OrcFile::open(alloc, source) {
+    match OrcFile::open(alloc, SliceSource::new(bytes)) {
         Ok(file) => Ok(file.into_parts().0),
-        Err(refused) => Err(refused),
+        Err((fault, _)) => Err(fault),
     }
 }
 
-/// The tail of bytes once there is memory for it: what wanted some is asked again.
-pub(crate) fn tail_of(alloc: Global, bytes: &[u8]) -> Result<Tail, FileFault>
-    ensures limits { IfOk result (λ tail. IsWithinLimits tail) }
-{
-    match tail_or_source(alloc, SliceSource::new(bytes)) {
-        Ok(tail) => Ok(tail),
-        Err((FileFault::OutOfMemory, source)) => match tail_or_source(alloc, source) {
-            Ok(tail) => Ok(tail),
-            Err((fault, _)) => Err(fault),
-        },
+fn tail_once(alloc: Global, bytes: &[u8]) -> Result<Tail, FileFault> {
+    match open(alloc, SliceSource::new(bytes)) {
+        Ok(file) => Ok(file.into_parts().0),
         Err((fault, _)) => Err(fault),
+    }
+}
+
+/// The tail of bytes once there is memory for it: what wanted some is asked again. Its callers need no promise of it.
+pub(crate) fn tail_of(alloc: Global, bytes: &[u8]) -> Result<Tail, FileFault> {
+    match tail_once(alloc, bytes) {
+        Err(FileFault::OutOfMemory) => tail_once(alloc, bytes),
+        answer => answer,
     }
 }
 

@@ -5,11 +5,34 @@ use crate::positions::{index_text, stripe_of, stripe_with};
 use crate::writing::{schema_of, written};
 use orc_rle::{Rle, RunFault};
 use orc_stripe::{RowCursor, Spot, StreamKind, StripeFault, StripeOut, StripeView};
-use orc_test_lines::line_of;
+use orc_test_lines::{line_of, next_row};
 use orc_types::{Row, Schema};
 use orc_wire::{StripeFooter, StripeInfo};
 use std::alloc::Global;
 use std::process::Abort;
+
+// The next calls have no contract here: what the called ones promise is long, and would be a part of the proof of each
+// function that makes them.
+
+/// The view of a stripe's bytes.
+pub(crate) fn view_of<'a>(
+    alloc: Global,
+    schema: &'a Schema,
+    info: StripeInfo,
+    stride: u32,
+    bytes: &'a [u8],
+) -> Result<StripeView<'a>, StripeFault> {
+    StripeView::open(alloc, schema, info, stride, bytes)
+}
+
+/// A cursor at the first row of a group.
+pub(crate) fn cursor_from<'a>(
+    alloc: Global,
+    view: &StripeView<'a>,
+    group: u64,
+) -> Result<RowCursor<'a>, StripeFault> {
+    view.cursor_at(alloc, group)
+}
 
 /// Whether the row prints as this line.
 fn is_line(alloc: Global, schema: &Schema, row: &Row<'_>, text: &str) -> Result<bool, StripeFault> {
@@ -18,13 +41,13 @@ fn is_line(alloc: Global, schema: &Schema, row: &Row<'_>, text: &str) -> Result<
 }
 
 /// Whether there is a next row, and it prints as this line.
-pub(crate) fn is_next(
+fn is_next(
     alloc: Global,
     schema: &Schema,
     cursor: &mut RowCursor<'_>,
     text: &str,
 ) -> Result<bool, StripeFault> {
-    match cursor.next()? {
+    match next_row(cursor)? {
         Some(row) => is_line(alloc, schema, &row, text),
         None => Ok(false),
     }
@@ -32,7 +55,21 @@ pub(crate) fn is_next(
 
 /// Whether there is no row more.
 fn is_end(cursor: &mut RowCursor<'_>) -> Result<bool, StripeFault> {
-    Ok(cursor.next()?.is_none())
+    Ok(next_row(cursor)?.is_none())
+}
+
+/// The next rows print as these lines.
+pub(crate) fn check_next(
+    rt: &impl Abort,
+    alloc: Global,
+    schema: &Schema,
+    cursor: &mut RowCursor<'_>,
+    wanted: &str,
+) -> Result<(), StripeFault> {
+    for text in wanted.lines() {
+        demand(rt, is_next(alloc, schema, cursor, text)?, text);
+    }
+    Ok(())
 }
 
 /// The rows still to come print as these lines, and then there are none.
@@ -41,11 +78,9 @@ fn check_rest(
     alloc: Global,
     schema: &Schema,
     cursor: &mut RowCursor<'_>,
-    wanted: &[&str],
+    wanted: &str,
 ) -> Result<(), StripeFault> {
-    for text in wanted {
-        demand(rt, is_next(alloc, schema, cursor, text)?, text);
-    }
+    check_next(rt, alloc, schema, cursor, wanted)?;
     demand(rt, is_end(cursor)?, "a row more");
     Ok(())
 }
@@ -57,9 +92,9 @@ fn check_from(
     schema: &Schema,
     view: &StripeView<'_>,
     group: u64,
-    wanted: &[&str],
+    wanted: &str,
 ) -> Result<(), StripeFault> {
-    let mut cursor = view.cursor_at(alloc, group)?;
+    let mut cursor = cursor_from(alloc, view, group)?;
     check_rest(rt, alloc, schema, &mut cursor, wanted)
 }
 
@@ -70,22 +105,26 @@ fn check_group(
     schema: &Schema,
     view: &StripeView<'_>,
     group: u64,
-    rest: Option<&[&str]>,
+    rest: &str,
 ) -> Result<(), StripeFault> {
-    match rest {
-        None | Some([]) => {
-            let found = view.cursor_at(alloc, group).err();
-            let wanted = Some(StripeFault::BadPosition(Spot::Stripe));
-            same_fault(rt, found, wanted);
-            Ok(())
-        }
-        Some(rest) => check_from(rt, alloc, schema, view, group, rest),
+    if !rest.is_empty() {
+        return check_from(rt, alloc, schema, view, group, rest);
     }
+    let wanted = Some(StripeFault::BadPosition(Spot::Stripe));
+    same_fault(rt, cursor_from(alloc, view, group).err(), wanted);
+    Ok(())
 }
 
-/// The lines of the rows from a group on, if there are so many rows.
-fn lines_from<'a, 'b>(lines: &'a [&'b str], stride: u32, group: u64) -> Option<&'a [&'b str]> {
-    lines.get((group as usize).saturating_mul(stride as usize)..)
+/// The lines of the rows from a group on, or none where there are fewer rows.
+fn lines_from(lines: &str, stride: u32, group: u64) -> &str {
+    let mut rest = lines;
+    for _ in 0..group.saturating_mul(stride as u64) {
+        match rest.split_once('\n') {
+            Some((_, behind)) => rest = behind,
+            None => return "",
+        }
+    }
+    rest
 }
 
 /// From each group on, the view's rows print as the lines from its first row on; and it has no group more.
@@ -95,9 +134,9 @@ fn check_each(
     schema: &Schema,
     view: &StripeView<'_>,
     stride: u32,
-    lines: &[&str],
+    lines: &str,
 ) -> Result<(), StripeFault> {
-    for group in 0..(lines.len() as u64).saturating_add(1) {
+    for group in 0..=(lines.lines().count() as u64) {
         let rest = lines_from(lines, stride, group);
         check_group(rt, alloc, schema, view, group, rest)?;
     }
@@ -111,19 +150,20 @@ pub(crate) fn check_groups(
     schema: &Schema,
     out: &StripeOut,
     stride: u32,
-    lines: &[&str],
+    lines: &str,
 ) -> Result<(), StripeFault> {
-    let view = StripeView::open(alloc, schema, out.info, stride, &out.bytes)?;
+    let view = view_of(alloc, schema, out.info, stride, &out.bytes)?;
     check_each(rt, alloc, schema, &view, stride, lines)
 }
 
-/// The text of a schema, the version of run lengths, the stride, the lines of rows; a group, and streams of column 1 by
-/// their kinds, each with how many bytes come before the offset that the group has in it.
+/// The text of a schema, the version of run lengths, the stride, the lines of rows, with line breaks between them; a
+/// group, and streams of column 1 by their kinds, each with how many bytes come before the offset that the group has in
+/// it.
 type Changed = (
     &'static str,
     Rle,
     u32,
-    &'static [&'static str],
+    &'static str,
     u64,
     &'static [(u32, usize)],
 );
@@ -134,14 +174,12 @@ static CHANGED: [Changed; 5] = [
         "struct<n:bigint>",
         Rle::One,
         3,
-        &[
-            r#"{"n":7}"#,
-            r#"{"n":7}"#,
-            r#"{"n":7}"#,
-            r#"{"n":9}"#,
-            r#"{"n":9}"#,
-            r#"{"n":9}"#,
-        ],
+        r#"{"n":7}
+{"n":7}
+{"n":7}
+{"n":9}
+{"n":9}
+{"n":9}"#,
         1,
         &[(1, 3)],
     ),
@@ -150,18 +188,16 @@ static CHANGED: [Changed; 5] = [
         "struct<n:tinyint>",
         Rle::One,
         3,
-        &[
-            r#"{"n":1}"#,
-            r#"{"n":1}"#,
-            r#"{"n":1}"#,
-            r#"{"n":1}"#,
-            r#"{"n":5}"#,
-            r#"{"n":6}"#,
-            r#"{"n":7}"#,
-            r#"{"n":-1}"#,
-            r#"{"n":-1}"#,
-            r#"{"n":-1}"#,
-        ],
+        r#"{"n":1}
+{"n":1}
+{"n":1}
+{"n":1}
+{"n":5}
+{"n":6}
+{"n":7}
+{"n":-1}
+{"n":-1}
+{"n":-1}"#,
         2,
         &[(1, 2)],
     ),
@@ -170,13 +206,11 @@ static CHANGED: [Changed; 5] = [
         "struct<s:string>",
         Rle::One,
         2,
-        &[
-            r#"{"s":"ab"}"#,
-            r#"{"s":"c"}"#,
-            r#"{"s":null}"#,
-            r#"{"s":""}"#,
-            r#"{"s":"def"}"#,
-        ],
+        r#"{"s":"ab"}
+{"s":"c"}
+{"s":null}
+{"s":""}
+{"s":"def"}"#,
         2,
         &[(1, 3), (2, 3)],
     ),
@@ -185,7 +219,9 @@ static CHANGED: [Changed; 5] = [
         "struct<b:binary>",
         Rle::Two,
         1,
-        &[r#"{"b":"00ff"}"#, r#"{"b":""}"#, r#"{"b":"0102"}"#],
+        r#"{"b":"00ff"}
+{"b":""}
+{"b":"0102"}"#,
         1,
         &[(1, 2)],
     ),
@@ -194,7 +230,10 @@ static CHANGED: [Changed; 5] = [
         "struct<n:int>",
         Rle::One,
         2,
-        &[r#"{"n":1}"#, r#"{"n":2}"#, r#"{"n":null}"#, r#"{"n":null}"#],
+        r#"{"n":1}
+{"n":2}
+{"n":null}
+{"n":null}"#,
         1,
         &[(1, 3)],
     ),
@@ -229,9 +268,9 @@ fn check_bytes(
     info: StripeInfo,
     bytes: &[u8],
     (stride, group): (u32, u64),
-    wanted: &[&str],
+    wanted: &str,
 ) -> Result<(), StripeFault> {
-    let view = StripeView::open(alloc, schema, info, stride, bytes)?;
+    let view = view_of(alloc, schema, info, stride, bytes)?;
     check_from(rt, alloc, schema, &view, group, wanted)
 }
 
@@ -246,9 +285,7 @@ fn check_byte(
     value: u8,
 ) -> Result<(), StripeFault> {
     let (_, _, stride, lines, group, _) = case;
-    let Some(wanted) = lines_from(lines, *stride, *group) else {
-        return Err(StripeFault::BadDirectory);
-    };
+    let wanted = lines_from(lines, *stride, *group);
     let bytes = with_byte(alloc, &out.bytes, place, value)?;
     check_bytes(
         rt,
@@ -330,8 +367,8 @@ fn group_refusal(
     stride: u32,
     group: u64,
 ) -> Result<Option<StripeFault>, StripeFault> {
-    let view = StripeView::open(alloc, schema, info, stride, bytes)?;
-    refusal(view.cursor_at(alloc, group).err())
+    let view = view_of(alloc, schema, info, stride, bytes)?;
+    refusal(cursor_from(alloc, &view, group).err())
 }
 
 /// The refusal of a group of this stripe, whose columns have such entries: the root's, and those of column 1.
@@ -489,7 +526,7 @@ pub(crate) fn rows_refusal(
     info: StripeInfo,
     bytes: &[u8],
 ) -> Result<Option<StripeFault>, StripeFault> {
-    let view = StripeView::open(alloc, schema, info, 3, bytes)?;
+    let view = view_of(alloc, schema, info, 3, bytes)?;
     refusal(view.rows(alloc).err())
 }
 
@@ -497,13 +534,15 @@ pub(crate) fn rows_refusal(
 static BROKEN: [u8; 6] = [0x01, 0x00, 0x0e, 0x00, 0x00, 0x12];
 
 /// The rows of the second group.
-static NINES: [&'static str; 3] = [r#"{"n":9}"#, r#"{"n":9}"#, r#"{"n":9}"#];
+static NINES: &str = r#"{"n":9}
+{"n":9}
+{"n":9}"#;
 
 /// A run of too many values before the offset has no part in the rows of the group, and in all rows one.
 fn check_broken_front(rt: &impl Abort, alloc: Global) -> Result<(), StripeFault> {
     let (info, bytes) = stripe_of_both(alloc, &[&[], &[]], &[&[0, 0], &[3, 0]], &BROKEN, 6)?;
     let schema = schema_of(alloc, "struct<n:bigint>")?;
-    check_bytes(rt, alloc, &schema, info, &bytes, (3, 1), &NINES)?;
+    check_bytes(rt, alloc, &schema, info, &bytes, (3, 1), NINES)?;
     let found = rows_refusal(alloc, &schema, info, &bytes)?;
     let wanted = Some(StripeFault::Run(1, StreamKind::Data, RunFault::TooMany(3)));
     same_fault(rt, found, wanted);

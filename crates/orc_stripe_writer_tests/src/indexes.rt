@@ -10,13 +10,13 @@ use orc_wire::{Message, RowIndexMsg, StripeFooter};
 use std::alloc::Global;
 use std::process::Abort;
 
-/// The text of a schema, the version of run lengths, the stride, the lines of rows; how many bytes the indexes and the
-/// streams of their stripe have, and all its bytes.
+/// The text of a schema, the version of run lengths, the stride, the lines of rows, with line breaks between them; how
+/// many bytes the indexes and the streams of their stripe have, and all its bytes.
 type Whole = (
     &'static str,
     Rle,
     u32,
-    &'static [&'static str],
+    &'static str,
     u64,
     u64,
     &'static [u8],
@@ -27,7 +27,9 @@ static WHOLE: [Whole; 3] = [
         "struct<n:bigint>",
         Rle::One,
         2,
-        &[r#"{"n":7}"#, r#"{"n":7}"#, r#"{"n":7}"#],
+        r#"{"n":7}
+{"n":7}
+{"n":7}"#,
         56,
         3,
         &[
@@ -44,7 +46,7 @@ static WHOLE: [Whole; 3] = [
         "struct<n:bigint>",
         Rle::One,
         2,
-        &[],
+        "",
         0,
         0,
         &[
@@ -56,13 +58,11 @@ static WHOLE: [Whole; 3] = [
         "struct<l:array<array<int>>>",
         Rle::One,
         2,
-        &[
-            r#"{"l":[[1,2],[]]}"#,
-            r#"{"l":null}"#,
-            r#"{"l":[]}"#,
-            r#"{"l":[null,[3]]}"#,
-            r#"{"l":[[4,5,6]]}"#,
-        ],
+        r#"{"l":[[1,2],[]]}
+{"l":null}
+{"l":[]}
+{"l":[null,[3]]}
+{"l":[[4,5,6]]}"#,
         222,
         17,
         &[
@@ -94,312 +94,277 @@ static WHOLE: [Whole; 3] = [
     ),
 ];
 
-/// The text of a schema, the version of run lengths, the stride, the lines of rows; a column, and its positions
-/// in each group.
-type Case = (
-    &'static str,
-    Rle,
-    u32,
-    &'static [&'static str],
-    usize,
-    &'static [&'static [u64]],
-);
+/// The text of a schema, the version of run lengths, the stride, the lines of rows, with line breaks between them; a
+/// column, and its positions in each group, with `|` between them.
+type Case = (&'static str, Rle, u32, &'static str, usize, &'static str);
 
 static CASES: [Case; 18] = [
     (
         "struct<b:boolean>",
         Rle::One,
         5,
-        &[
-            r#"{"b":true}"#,
-            r#"{"b":false}"#,
-            r#"{"b":false}"#,
-            r#"{"b":true}"#,
-            r#"{"b":false}"#,
-            r#"{"b":false}"#,
-            r#"{"b":true}"#,
-            r#"{"b":false}"#,
-            r#"{"b":false}"#,
-            r#"{"b":true}"#,
-            r#"{"b":false}"#,
-            r#"{"b":false}"#,
-            r#"{"b":true}"#,
-            r#"{"b":false}"#,
-            r#"{"b":false}"#,
-            r#"{"b":true}"#,
-            r#"{"b":false}"#,
-            r#"{"b":false}"#,
-            r#"{"b":true}"#,
-            r#"{"b":false}"#,
-        ],
+        r#"{"b":true}
+{"b":false}
+{"b":false}
+{"b":true}
+{"b":false}
+{"b":false}
+{"b":true}
+{"b":false}
+{"b":false}
+{"b":true}
+{"b":false}
+{"b":false}
+{"b":true}
+{"b":false}
+{"b":false}
+{"b":true}
+{"b":false}
+{"b":false}
+{"b":true}
+{"b":false}"#,
         1,
-        &[&[0, 0, 0], &[0, 0, 5], &[0, 1, 2], &[0, 1, 7]],
+        "0 0 0 | 0 0 5 | 0 1 2 | 0 1 7",
     ),
     (
         "struct<b:boolean>",
         Rle::One,
         7,
-        &[
-            r#"{"b":true}"#,
-            r#"{"b":null}"#,
-            r#"{"b":false}"#,
-            r#"{"b":true}"#,
-            r#"{"b":false}"#,
-            r#"{"b":null}"#,
-            r#"{"b":true}"#,
-            r#"{"b":false}"#,
-            r#"{"b":false}"#,
-            r#"{"b":null}"#,
-            r#"{"b":false}"#,
-            r#"{"b":false}"#,
-            r#"{"b":true}"#,
-            r#"{"b":null}"#,
-            r#"{"b":false}"#,
-            r#"{"b":true}"#,
-            r#"{"b":false}"#,
-            r#"{"b":null}"#,
-            r#"{"b":true}"#,
-            r#"{"b":false}"#,
-        ],
+        r#"{"b":true}
+{"b":null}
+{"b":false}
+{"b":true}
+{"b":false}
+{"b":null}
+{"b":true}
+{"b":false}
+{"b":false}
+{"b":null}
+{"b":false}
+{"b":false}
+{"b":true}
+{"b":null}
+{"b":false}
+{"b":true}
+{"b":false}
+{"b":null}
+{"b":true}
+{"b":false}"#,
         1,
-        &[
-            &[0, 0, 0, 0, 0, 0],
-            &[0, 0, 7, 0, 0, 5],
-            &[0, 1, 6, 0, 1, 2],
-        ],
+        "0 0 0 0 0 0 | 0 0 7 0 0 5 | 0 1 6 0 1 2",
     ),
     (
         "struct<n:tinyint>",
         Rle::One,
         3,
-        &[
-            r#"{"n":1}"#,
-            r#"{"n":1}"#,
-            r#"{"n":1}"#,
-            r#"{"n":1}"#,
-            r#"{"n":5}"#,
-            r#"{"n":6}"#,
-            r#"{"n":7}"#,
-            r#"{"n":-1}"#,
-            r#"{"n":-1}"#,
-            r#"{"n":-1}"#,
-        ],
+        r#"{"n":1}
+{"n":1}
+{"n":1}
+{"n":1}
+{"n":5}
+{"n":6}
+{"n":7}
+{"n":-1}
+{"n":-1}
+{"n":-1}"#,
         1,
-        &[&[0, 0], &[0, 3], &[2, 2], &[6, 2]],
+        "0 0 | 0 3 | 2 2 | 6 2",
     ),
     (
         "struct<s:string>",
         Rle::One,
         2,
-        &[
-            r#"{"s":"ab"}"#,
-            r#"{"s":"c"}"#,
-            r#"{"s":null}"#,
-            r#"{"s":""}"#,
-            r#"{"s":"def"}"#,
-        ],
+        r#"{"s":"ab"}
+{"s":"c"}
+{"s":null}
+{"s":""}
+{"s":"def"}"#,
         1,
-        &[
-            &[0, 0, 0, 0, 0, 0],
-            &[0, 0, 2, 3, 0, 2],
-            &[0, 0, 4, 3, 3, 0],
-        ],
+        "0 0 0 0 0 0 | 0 0 2 3 0 2 | 0 0 4 3 3 0",
     ),
     (
         "struct<s:string>",
         Rle::One,
         2,
-        &[
-            r#"{"s":"a"}"#,
-            r#"{"s":"b"}"#,
-            r#"{"s":"a"}"#,
-            r#"{"s":"b"}"#,
-            r#"{"s":"a"}"#,
-            r#"{"s":"a"}"#,
-        ],
+        r#"{"s":"a"}
+{"s":"b"}
+{"s":"a"}
+{"s":"b"}
+{"s":"a"}
+{"s":"a"}"#,
         1,
-        &[&[0, 0], &[0, 2], &[0, 4]],
+        "0 0 | 0 2 | 0 4",
     ),
     (
         "struct<b:binary>",
         Rle::Two,
         1,
-        &[r#"{"b":"00ff"}"#, r#"{"b":""}"#, r#"{"b":"0102"}"#],
+        r#"{"b":"00ff"}
+{"b":""}
+{"b":"0102"}"#,
         1,
-        &[&[0, 0, 0], &[2, 0, 1], &[2, 0, 2]],
+        "0 0 0 | 2 0 1 | 2 0 2",
     ),
     (
         "struct<n:int>",
         Rle::One,
         2,
-        &[r#"{"n":1}"#, r#"{"n":2}"#, r#"{"n":null}"#, r#"{"n":null}"#],
+        r#"{"n":1}
+{"n":2}
+{"n":null}
+{"n":null}"#,
         1,
-        &[&[0, 0, 0, 0, 0], &[0, 0, 2, 3, 0]],
+        "0 0 0 0 0 | 0 0 2 3 0",
     ),
     (
         "struct<n:int>",
         Rle::One,
         2,
-        &[r#"{"n":null}"#, r#"{"n":null}"#, r#"{"n":null}"#],
+        r#"{"n":null}
+{"n":null}
+{"n":null}"#,
         1,
-        &[&[0, 0, 0, 0, 0], &[0, 0, 2, 0, 0]],
+        "0 0 0 0 0 | 0 0 2 0 0",
     ),
     (
         "struct<s:struct<n:int>>",
         Rle::Two,
         1,
-        &[r#"{"s":{"n":1}}"#, r#"{"s":null}"#, r#"{"s":{"n":null}}"#],
+        r#"{"s":{"n":1}}
+{"s":null}
+{"s":{"n":null}}"#,
         1,
-        &[&[0, 0, 0], &[0, 0, 1], &[0, 0, 2]],
+        "0 0 0 | 0 0 1 | 0 0 2",
     ),
     (
         "struct<s:struct<n:int>>",
         Rle::Two,
         1,
-        &[r#"{"s":{"n":1}}"#, r#"{"s":null}"#, r#"{"s":{"n":null}}"#],
+        r#"{"s":{"n":1}}
+{"s":null}
+{"s":{"n":null}}"#,
         2,
-        &[&[0, 0, 0, 0, 0], &[0, 0, 1, 3, 0], &[0, 0, 1, 3, 0]],
+        "0 0 0 0 0 | 0 0 1 3 0 | 0 0 1 3 0",
     ),
     (
         "struct<b:array<boolean>>",
         Rle::One,
         1,
-        &[r#"{"b":[true,false,true,true,true]}"#, r#"{"b":[]}"#],
+        r#"{"b":[true,false,true,true,true]}
+{"b":[]}"#,
         1,
-        &[&[0, 0], &[0, 1]],
+        "0 0 | 0 1",
     ),
     (
         "struct<b:array<boolean>>",
         Rle::One,
         1,
-        &[r#"{"b":[true,false,true,true,true]}"#, r#"{"b":[]}"#],
+        r#"{"b":[true,false,true,true,true]}
+{"b":[]}"#,
         2,
-        &[&[0, 0, 0], &[0, 0, 5]],
+        "0 0 0 | 0 0 5",
     ),
     (
         "struct<n:bigint>",
         Rle::One,
         1,
-        &[
-            r#"{"n":7}"#,
-            r#"{"n":7}"#,
-            r#"{"n":7}"#,
-            r#"{"n":7}"#,
-            r#"{"n":7}"#,
-            r#"{"n":7}"#,
-            r#"{"n":7}"#,
-            r#"{"n":7}"#,
-            r#"{"n":7}"#,
-            r#"{"n":7}"#,
-        ],
+        r#"{"n":7}
+{"n":7}
+{"n":7}
+{"n":7}
+{"n":7}
+{"n":7}
+{"n":7}
+{"n":7}
+{"n":7}
+{"n":7}"#,
         1,
-        &[
-            &[0, 0],
-            &[0, 1],
-            &[0, 2],
-            &[0, 3],
-            &[0, 4],
-            &[0, 5],
-            &[0, 6],
-            &[0, 7],
-            &[0, 8],
-            &[0, 9],
-        ],
+        "0 0 | 0 1 | 0 2 | 0 3 | 0 4 | 0 5 | 0 6 | 0 7 | 0 8 | 0 9",
     ),
     (
         "struct<n:bigint>",
         Rle::One,
         2,
-        &[
-            r#"{"n":7}"#,
-            r#"{"n":7}"#,
-            r#"{"n":7}"#,
-            r#"{"n":7}"#,
-            r#"{"n":7}"#,
-            r#"{"n":7}"#,
-            r#"{"n":7}"#,
-            r#"{"n":7}"#,
-            r#"{"n":7}"#,
-            r#"{"n":7}"#,
-        ],
+        r#"{"n":7}
+{"n":7}
+{"n":7}
+{"n":7}
+{"n":7}
+{"n":7}
+{"n":7}
+{"n":7}
+{"n":7}
+{"n":7}"#,
         1,
-        &[&[0, 0], &[0, 2], &[0, 4], &[0, 6], &[0, 8]],
+        "0 0 | 0 2 | 0 4 | 0 6 | 0 8",
     ),
     (
         "struct<n:bigint>",
         Rle::One,
         9,
-        &[
-            r#"{"n":7}"#,
-            r#"{"n":7}"#,
-            r#"{"n":7}"#,
-            r#"{"n":7}"#,
-            r#"{"n":7}"#,
-            r#"{"n":7}"#,
-            r#"{"n":7}"#,
-            r#"{"n":7}"#,
-            r#"{"n":7}"#,
-            r#"{"n":7}"#,
-        ],
+        r#"{"n":7}
+{"n":7}
+{"n":7}
+{"n":7}
+{"n":7}
+{"n":7}
+{"n":7}
+{"n":7}
+{"n":7}
+{"n":7}"#,
         1,
-        &[&[0, 0], &[0, 9]],
+        "0 0 | 0 9",
     ),
     (
         "struct<n:bigint>",
         Rle::One,
         10,
-        &[
-            r#"{"n":7}"#,
-            r#"{"n":7}"#,
-            r#"{"n":7}"#,
-            r#"{"n":7}"#,
-            r#"{"n":7}"#,
-            r#"{"n":7}"#,
-            r#"{"n":7}"#,
-            r#"{"n":7}"#,
-            r#"{"n":7}"#,
-            r#"{"n":7}"#,
-        ],
+        r#"{"n":7}
+{"n":7}
+{"n":7}
+{"n":7}
+{"n":7}
+{"n":7}
+{"n":7}
+{"n":7}
+{"n":7}
+{"n":7}"#,
         1,
-        &[&[0, 0]],
+        "0 0",
     ),
     (
         "struct<n:bigint>",
         Rle::One,
         11,
-        &[
-            r#"{"n":7}"#,
-            r#"{"n":7}"#,
-            r#"{"n":7}"#,
-            r#"{"n":7}"#,
-            r#"{"n":7}"#,
-            r#"{"n":7}"#,
-            r#"{"n":7}"#,
-            r#"{"n":7}"#,
-            r#"{"n":7}"#,
-            r#"{"n":7}"#,
-        ],
+        r#"{"n":7}
+{"n":7}
+{"n":7}
+{"n":7}
+{"n":7}
+{"n":7}
+{"n":7}
+{"n":7}
+{"n":7}
+{"n":7}"#,
         1,
-        &[&[0, 0]],
+        "0 0",
     ),
     (
         "struct<n:bigint>",
         Rle::One,
         4294967295,
-        &[
-            r#"{"n":7}"#,
-            r#"{"n":7}"#,
-            r#"{"n":7}"#,
-            r#"{"n":7}"#,
-            r#"{"n":7}"#,
-            r#"{"n":7}"#,
-            r#"{"n":7}"#,
-            r#"{"n":7}"#,
-            r#"{"n":7}"#,
-            r#"{"n":7}"#,
-        ],
+        r#"{"n":7}
+{"n":7}
+{"n":7}
+{"n":7}
+{"n":7}
+{"n":7}
+{"n":7}
+{"n":7}
+{"n":7}
+{"n":7}"#,
         1,
-        &[&[0, 0]],
+        "0 0",
     ),
 ];
 
@@ -421,7 +386,7 @@ fn check_rows(
     schema: &Schema,
     out: &StripeOut,
     stride: u32,
-    lines: &[&str],
+    lines: &str,
 ) -> Result<(), StripeFault> {
     check_groups(rt, alloc, schema, out, stride, lines)?;
     check_lines(rt, alloc, schema, out, lines)
@@ -439,20 +404,23 @@ fn whole_stripes(rt: HostRuntime) {
     passes(&rt, with_memory!(check_all(&rt, rt.alloc())));
 }
 
+/// How long the index of a column is, if that is the directory's line of the column's number.
+fn length_of(footer: &StripeFooter, column: usize) -> Option<usize> {
+    let line = footer.streams.as_slice().get(column)?;
+    if line.kind != 6 || line.column as usize != column {
+        return None;
+    }
+    Some(line.length as usize)
+}
+
 /// Where the index of a column begins and how long it is, if the directory begins with an index of each column
 /// up to it.
 fn place_of(footer: &StripeFooter, column: usize) -> Option<(usize, usize)> {
     let mut start = 0usize;
-    for (number, line) in footer.streams.as_slice().iter().enumerate() {
-        if line.kind != 6 || line.column as usize != number {
-            return None;
-        }
-        if number == column {
-            return Some((start, line.length as usize));
-        }
-        start = start.saturating_add(line.length as usize);
+    for before in 0..column {
+        start = start.saturating_add(length_of(footer, before)?);
     }
-    None
+    Some((start, length_of(footer, column)?))
 }
 
 /// The bytes from a place on, and so many of these.
@@ -500,23 +468,35 @@ fn check_right(
 ) -> Result<(), StripeFault> {
     let (text, _, stride, _, column, groups) = case;
     let right = right_of(alloc, schema, out.info, *stride, &out.bytes, *column)?;
-    demand(rt, right.len() == groups.len(), text);
+    demand(rt, right.len() == groups.split('|').count(), text);
     demand(rt, all_right(&right), text);
     Ok(())
 }
 
-/// Whether the entries have these positions, one for each group.
-fn has_positions(index: &RowIndexMsg, groups: &[&[u64]]) -> bool {
-    let entries = index.entries.as_slice();
-    if entries.len() != groups.len() {
-        return false;
-    }
-    for (entry, positions) in entries.iter().zip(groups) {
-        if entry.positions.as_slice() != *positions {
-            return false;
+/// Whether the numbers are those of the text.
+fn are_numbers(numbers: &[u64], wanted: &str) -> bool {
+    let mut rest = numbers;
+    for text in wanted.split_whitespace() {
+        match rest {
+            [number, behind @ ..] if text.parse::<u64>() == Ok(*number) => rest = behind,
+            _ => return false,
         }
     }
-    true
+    rest.is_empty()
+}
+
+/// Whether the entries have these positions, one for each group.
+fn has_positions(index: &RowIndexMsg, groups: &str) -> bool {
+    let mut rest = index.entries.as_slice();
+    for positions in groups.split('|') {
+        match rest {
+            [entry, behind @ ..] if are_numbers(entry.positions.as_slice(), positions) => {
+                rest = behind;
+            }
+            _ => return false,
+        }
+    }
+    rest.is_empty()
 }
 
 /// The column's index has these positions.

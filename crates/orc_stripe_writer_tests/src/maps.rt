@@ -14,11 +14,9 @@ static CASES: [Case; 4] = [
     (
         "struct<m:map<string,int>>",
         Rle::One,
-        &[
-            r#"{"m":[["a",1],["b",null]]}"#,
-            r#"{"m":null}"#,
-            r#"{"m":[]}"#,
-        ],
+        r#"{"m":[["a",1],["b",null]]}
+{"m":null}
+{"m":[]}"#,
         &[
             0xff, 0xa0, 0xfe, 0x02, 0x00, 0x61, 0x62, 0xfe, 0x01, 0x01, 0xff, 0x80, 0xff, 0x02,
         ],
@@ -34,7 +32,7 @@ static CASES: [Case; 4] = [
     (
         "struct<m:map<int,map<int,int>>>",
         Rle::One,
-        &[r#"{"m":[[1,[[2,3]]],[4,null]]}"#],
+        r#"{"m":[[1,[[2,3]]],[4,null]]}"#,
         &[
             0xff, 0x02, 0xfe, 0x02, 0x08, 0xff, 0x80, 0xff, 0x01, 0xff, 0x04, 0xff, 0x06,
         ],
@@ -51,7 +49,7 @@ static CASES: [Case; 4] = [
     (
         "struct<m:map<string,array<int>>>",
         Rle::One,
-        &[r#"{"m":[[null,[1]],["a",[]],["a",null]]}"#],
+        r#"{"m":[[null,[1]],["a",[]],["a",null]]}"#,
         &[
             0xff, 0x03, 0xff, 0x60, 0xfe, 0x00, 0x00, 0xff, 0x01, 0x61, 0xff, 0xc0, 0xfe, 0x01,
             0x00, 0xff, 0x02,
@@ -70,11 +68,9 @@ static CASES: [Case; 4] = [
     (
         "struct<s:struct<m:map<int,struct<n:int>>>>",
         Rle::One,
-        &[
-            r#"{"s":null}"#,
-            r#"{"s":{"m":[[1,{"n":2}],[1,null]]}}"#,
-            r#"{"s":{"m":null}}"#,
-        ],
+        r#"{"s":null}
+{"s":{"m":[[1,{"n":2}],[1,null]]}}
+{"s":{"m":null}}"#,
         &[
             0xff, 0x60, 0xff, 0x80, 0xff, 0x02, 0xfe, 0x02, 0x02, 0xff, 0x80, 0xff, 0x04,
         ],

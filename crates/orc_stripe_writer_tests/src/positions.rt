@@ -1,5 +1,6 @@
 //! Row indexes of stripes, as they are read: which positions are right, whoever wrote them.
 use crate::assertions::{demand, passes, refusal, same_fault};
+use crate::from_groups::view_of;
 use crate::writing::schema_of;
 use orc_stripe::{Spot, StripeFault, StripeView};
 use orc_types::Schema;
@@ -306,7 +307,7 @@ fn index_refusal(
     bytes: &[u8],
     column: usize,
 ) -> Result<Option<StripeFault>, StripeFault> {
-    let view = StripeView::open(alloc, schema, info, stride, bytes)?;
+    let view = view_of(alloc, schema, info, stride, bytes)?;
     Ok(view.index(alloc, column).err())
 }
 

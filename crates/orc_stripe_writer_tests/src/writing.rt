@@ -15,12 +15,13 @@ use serde_json::Value as Json;
 use std::alloc::Global;
 use std::process::Abort;
 
-/// The text of a schema, the version of run lengths, the lines of rows; and the streams and the footer
-/// of their stripe.
+/// The text of a schema, the version of run lengths, the lines of rows, with line breaks between them; and
+/// the streams and the footer of their stripe. The lines are one text, since the proof of a function that reads a table
+/// goes through each reference in it.
 pub(crate) type Case = (
     &'static str,
     Rle,
-    &'static [&'static str],
+    &'static str,
     &'static [u8],
     &'static [u8],
 );
@@ -29,7 +30,9 @@ static CASES: [Case; 18] = [
     (
         "struct<n:bigint>",
         Rle::One,
-        &[r#"{"n":7}"#, r#"{"n":7}"#, r#"{"n":7}"#],
+        r#"{"n":7}
+{"n":7}
+{"n":7}"#,
         &[0x00, 0x00, 0x0e],
         &[
             0x0a, 0x06, 0x08, 0x01, 0x10, 0x01, 0x18, 0x03, 0x12, 0x02, 0x08, 0x00, 0x12, 0x02,
@@ -39,7 +42,8 @@ static CASES: [Case; 18] = [
     (
         "struct<s:string>",
         Rle::One,
-        &[r#"{"s":"a"}"#, r#"{"s":"a"}"#],
+        r#"{"s":"a"}
+{"s":"a"}"#,
         &[0xfe, 0x00, 0x00, 0xff, 0x01, 0x61],
         &[
             0x0a, 0x06, 0x08, 0x01, 0x10, 0x01, 0x18, 0x03, 0x0a, 0x06, 0x08, 0x02, 0x10, 0x01,
@@ -50,7 +54,8 @@ static CASES: [Case; 18] = [
     (
         "struct<s:string>",
         Rle::Two,
-        &[r#"{"s":"a"}"#, r#"{"s":"a"}"#],
+        r#"{"s":"a"}
+{"s":"a"}"#,
         &[0x40, 0x01, 0x00, 0x40, 0x00, 0x80, 0x61],
         &[
             0x0a, 0x06, 0x08, 0x01, 0x10, 0x01, 0x18, 0x03, 0x0a, 0x06, 0x08, 0x02, 0x10, 0x01,
@@ -61,17 +66,15 @@ static CASES: [Case; 18] = [
     (
         "struct<n:int>",
         Rle::Two,
-        &[
-            r#"{"n":5}"#,
-            r#"{"n":5}"#,
-            r#"{"n":5}"#,
-            r#"{"n":null}"#,
-            r#"{"n":5}"#,
-            r#"{"n":5}"#,
-            r#"{"n":5}"#,
-            r#"{"n":5}"#,
-            r#"{"n":5}"#,
-        ],
+        r#"{"n":5}
+{"n":5}
+{"n":5}
+{"n":null}
+{"n":5}
+{"n":5}
+{"n":5}
+{"n":5}
+{"n":5}"#,
         &[0xfe, 0xef, 0x80, 0x05, 0x0a],
         &[
             0x0a, 0x06, 0x08, 0x00, 0x10, 0x01, 0x18, 0x03, 0x0a, 0x06, 0x08, 0x01, 0x10, 0x01,
@@ -81,7 +84,9 @@ static CASES: [Case; 18] = [
     (
         "struct<s:struct<n:int>>",
         Rle::Two,
-        &[r#"{"s":{"n":1}}"#, r#"{"s":null}"#, r#"{"s":{"n":null}}"#],
+        r#"{"s":{"n":1}}
+{"s":null}
+{"s":{"n":null}}"#,
         &[0xff, 0xa0, 0xff, 0x80, 0x42, 0x00, 0x80],
         &[
             0x0a, 0x06, 0x08, 0x00, 0x10, 0x01, 0x18, 0x02, 0x0a, 0x06, 0x08, 0x00, 0x10, 0x02,
@@ -92,13 +97,11 @@ static CASES: [Case; 18] = [
     (
         "struct<a:array<array<int>>>",
         Rle::One,
-        &[
-            r#"{"a":[[1,2],[]]}"#,
-            r#"{"a":null}"#,
-            r#"{"a":[]}"#,
-            r#"{"a":[null,[3]]}"#,
-            r#"{"a":[[4,5,6]]}"#,
-        ],
+        r#"{"a":[[1,2],[]]}
+{"a":null}
+{"a":[]}
+{"a":[null,[3]]}
+{"a":[[4,5,6]]}"#,
         &[
             0xff, 0xb8, 0xfc, 0x02, 0x00, 0x02, 0x01, 0xff, 0xd8, 0xfc, 0x02, 0x00, 0x01, 0x03,
             0x03, 0x01, 0x02,
@@ -113,14 +116,16 @@ static CASES: [Case; 18] = [
     (
         "struct<n:bigint>",
         Rle::One,
-        &[],
+        "",
         &[],
         &[0x12, 0x02, 0x08, 0x00, 0x12, 0x02, 0x08, 0x00],
     ),
     (
         "struct<n:bigint>",
         Rle::Two,
-        &[r#"{"n":null}"#, r#"{"n":null}"#, r#"{"n":null}"#],
+        r#"{"n":null}
+{"n":null}
+{"n":null}"#,
         &[0xff, 0x00],
         &[
             0x0a, 0x06, 0x08, 0x00, 0x10, 0x01, 0x18, 0x02, 0x12, 0x02, 0x08, 0x00, 0x12, 0x02,
@@ -131,18 +136,16 @@ static CASES: [Case; 18] = [
     (
         "struct<s:string>",
         Rle::One,
-        &[
-            r#"{"s":"xy"}"#,
-            r#"{"s":"xy"}"#,
-            r#"{"s":"xy"}"#,
-            r#"{"s":"xy"}"#,
-            r#"{"s":"xy"}"#,
-            r#"{"s":"xy"}"#,
-            r#"{"s":"xy"}"#,
-            r#"{"s":"xy"}"#,
-            r#"{"s":"xy"}"#,
-            r#"{"s":"xy"}"#,
-        ],
+        r#"{"s":"xy"}
+{"s":"xy"}
+{"s":"xy"}
+{"s":"xy"}
+{"s":"xy"}
+{"s":"xy"}
+{"s":"xy"}
+{"s":"xy"}
+{"s":"xy"}
+{"s":"xy"}"#,
         &[0x07, 0x00, 0x00, 0xff, 0x02, 0x78, 0x79],
         &[
             0x0a, 0x06, 0x08, 0x01, 0x10, 0x01, 0x18, 0x03, 0x0a, 0x06, 0x08, 0x02, 0x10, 0x01,
@@ -153,7 +156,9 @@ static CASES: [Case; 18] = [
     (
         "struct<n:smallint>",
         Rle::One,
-        &[r#"{"n":-1}"#, r#"{"n":-1}"#, r#"{"n":-1}"#],
+        r#"{"n":-1}
+{"n":-1}
+{"n":-1}"#,
         &[0x00, 0x00, 0x01],
         &[
             0x0a, 0x06, 0x08, 0x01, 0x10, 0x01, 0x18, 0x03, 0x12, 0x02, 0x08, 0x00, 0x12, 0x02,
@@ -164,18 +169,16 @@ static CASES: [Case; 18] = [
     (
         "struct<s:string>",
         Rle::One,
-        &[
-            r#"{"s":"a"}"#,
-            r#"{"s":"b"}"#,
-            r#"{"s":"c"}"#,
-            r#"{"s":"d"}"#,
-            r#"{"s":"e"}"#,
-            r#"{"s":"e"}"#,
-            r#"{"s":"d"}"#,
-            r#"{"s":"c"}"#,
-            r#"{"s":"b"}"#,
-            r#"{"s":"a"}"#,
-        ],
+        r#"{"s":"a"}
+{"s":"b"}
+{"s":"c"}
+{"s":"d"}
+{"s":"e"}
+{"s":"e"}
+{"s":"d"}
+{"s":"c"}
+{"s":"b"}
+{"s":"a"}"#,
         &[
             0x02, 0x01, 0x00, 0x02, 0xff, 0x04, 0x02, 0x00, 0x01, 0x61, 0x62, 0x63, 0x64, 0x65,
         ],
@@ -189,18 +192,16 @@ static CASES: [Case; 18] = [
     (
         "struct<s:string>",
         Rle::Two,
-        &[
-            r#"{"s":"f"}"#,
-            r#"{"s":"b"}"#,
-            r#"{"s":"c"}"#,
-            r#"{"s":"d"}"#,
-            r#"{"s":"e"}"#,
-            r#"{"s":"a"}"#,
-            r#"{"s":"d"}"#,
-            r#"{"s":"c"}"#,
-            r#"{"s":"b"}"#,
-            r#"{"s":"a"}"#,
-        ],
+        r#"{"s":"f"}
+{"s":"b"}
+{"s":"c"}
+{"s":"d"}
+{"s":"e"}
+{"s":"a"}
+{"s":"d"}
+{"s":"c"}
+{"s":"b"}
+{"s":"a"}"#,
         &[
             0x66, 0x62, 0x63, 0x64, 0x65, 0x61, 0x64, 0x63, 0x62, 0x61, 0x07, 0x01,
         ],
@@ -213,18 +214,16 @@ static CASES: [Case; 18] = [
     (
         "struct<s:string>",
         Rle::One,
-        &[
-            r#"{"s":"j"}"#,
-            r#"{"s":"i"}"#,
-            r#"{"s":"h"}"#,
-            r#"{"s":"g"}"#,
-            r#"{"s":"f"}"#,
-            r#"{"s":"e"}"#,
-            r#"{"s":"d"}"#,
-            r#"{"s":"c"}"#,
-            r#"{"s":"b"}"#,
-            r#"{"s":"a"}"#,
-        ],
+        r#"{"s":"j"}
+{"s":"i"}
+{"s":"h"}
+{"s":"g"}
+{"s":"f"}
+{"s":"e"}
+{"s":"d"}
+{"s":"c"}
+{"s":"b"}
+{"s":"a"}"#,
         &[
             0x6a, 0x69, 0x68, 0x67, 0x66, 0x65, 0x64, 0x63, 0x62, 0x61, 0x07, 0x00, 0x01,
         ],
@@ -237,7 +236,7 @@ static CASES: [Case; 18] = [
     (
         "struct<s:string>",
         Rle::One,
-        &[r#"{"s":""}"#],
+        r#"{"s":""}"#,
         &[0xff, 0x00],
         &[
             0x0a, 0x06, 0x08, 0x02, 0x10, 0x01, 0x18, 0x02, 0x12, 0x02, 0x08, 0x00, 0x12, 0x02,
@@ -247,7 +246,8 @@ static CASES: [Case; 18] = [
     (
         "struct<b:binary>",
         Rle::One,
-        &[r#"{"b":""}"#, r#"{"b":"00ff"}"#],
+        r#"{"b":""}
+{"b":"00ff"}"#,
         &[0x00, 0xff, 0xfe, 0x00, 0x02],
         &[
             0x0a, 0x06, 0x08, 0x01, 0x10, 0x01, 0x18, 0x02, 0x0a, 0x06, 0x08, 0x02, 0x10, 0x01,
@@ -257,7 +257,9 @@ static CASES: [Case; 18] = [
     (
         "struct<b:boolean>",
         Rle::Two,
-        &[r#"{"b":true}"#, r#"{"b":false}"#, r#"{"b":true}"#],
+        r#"{"b":true}
+{"b":false}
+{"b":true}"#,
         &[0xff, 0xa0],
         &[
             0x0a, 0x06, 0x08, 0x01, 0x10, 0x01, 0x18, 0x02, 0x12, 0x02, 0x08, 0x00, 0x12, 0x02,
@@ -267,7 +269,8 @@ static CASES: [Case; 18] = [
     (
         "struct<n:tinyint>",
         Rle::Two,
-        &[r#"{"n":-128}"#, r#"{"n":127}"#],
+        r#"{"n":-128}
+{"n":127}"#,
         &[0xfe, 0x80, 0x7f],
         &[
             0x0a, 0x06, 0x08, 0x01, 0x10, 0x01, 0x18, 0x03, 0x12, 0x02, 0x08, 0x00, 0x12, 0x02,
@@ -277,7 +280,7 @@ static CASES: [Case; 18] = [
     (
         "struct<d:date>",
         Rle::Two,
-        &[r#"{"d":"1970-01-02"}"#],
+        r#"{"d":"1970-01-02"}"#,
         &[0x42, 0x00, 0x80],
         &[
             0x0a, 0x06, 0x08, 0x01, 0x10, 0x01, 0x18, 0x03, 0x12, 0x02, 0x08, 0x00, 0x12, 0x02,
@@ -307,11 +310,11 @@ fn row_of(alloc: Global, schema: &Schema, line: &str) -> Result<Row<'static>, St
 }
 
 /// The rows that the lines spell.
-fn rows_of(alloc: Global, schema: &Schema, lines: &[&str]) -> Result<Vec<Row<'static>>, StripeFault>
+fn rows_of(alloc: Global, schema: &Schema, lines: &str) -> Result<Vec<Row<'static>>, StripeFault>
     ensures { IfOk result (λ rows. RowsFit schema.now (views rows.items)) }
 {
     let mut rows = Vec::new(alloc);
-    for line in lines {
+    for line in lines.lines() {
         rows.push(row_of(alloc, schema, line)?)?;
     }
     Ok(rows)
@@ -342,23 +345,22 @@ pub(crate) fn written(
     schema: &Schema,
     rle: Rle,
     stride: u32,
-    lines: &[&str],
+    lines: &str,
 ) -> Result<StripeOut, StripeFault> {
     let rows = rows_of(alloc, schema, lines)?;
     stripe_of_rows(alloc, schema, rle, stride, &rows)
 }
 
 /// Whether the lines are these.
-fn are_lines(lines: &[String], wanted: &[&str]) -> bool {
-    if lines.len() != wanted.len() {
-        return false;
-    }
-    for (line, text) in lines.iter().zip(wanted) {
-        if line.as_str() != *text {
-            return false;
+fn are_lines(lines: &[String], wanted: &str) -> bool {
+    let mut count = 0usize;
+    for text in wanted.lines() {
+        match lines.get(count) {
+            Some(line) if line.as_str() == text => count = count.saturating_add(1),
+            _ => return false,
         }
     }
-    true
+    count == lines.len()
 }
 
 /// The rows of the stripe print as these lines, all at once and one by one.
@@ -367,7 +369,7 @@ pub(crate) fn check_lines(
     alloc: Global,
     schema: &Schema,
     out: &StripeOut,
-    lines: &[&str],
+    lines: &str,
 ) -> Result<(), StripeFault> {
     let found = lines_at_once(alloc, schema, out.info, &out.bytes)?;
     demand(rt, are_lines(&found, lines), "rows all at once");
@@ -380,7 +382,7 @@ fn check_one_by_one(
     alloc: Global,
     schema: &Schema,
     out: &StripeOut,
-    lines: &[&str],
+    lines: &str,
 ) -> Result<(), StripeFault> {
     let found = lines_one_by_one(alloc, schema, out.info, &out.bytes)?;
     demand(rt, are_lines(&found, lines), "rows one by one");
@@ -412,7 +414,8 @@ fn check_parts(
     let (text, rle, lines, data, footer) = case;
     let out = written(alloc, schema, *rle, 0, lines)?;
     demand(rt, are_parts(&out.bytes, data, footer), text);
-    let lengths = has_lengths(out.info, data.len(), footer.len(), lines.len());
+    let rows = lines.lines().count();
+    let lengths = has_lengths(out.info, data.len(), footer.len(), rows);
     demand(rt, lengths, text);
     check_lines(rt, alloc, schema, &out, lines)
 }
@@ -498,11 +501,14 @@ fn check_sevens(rt: &impl Abort, stats: &[Stat]) {
 }
 
 /// Three sevens and a null.
-static SEVENS: [&'static str; 4] = [r#"{"n":7}"#, r#"{"n":7}"#, r#"{"n":null}"#, r#"{"n":7}"#];
+static SEVENS: &str = r#"{"n":7}
+{"n":7}
+{"n":null}
+{"n":7}"#;
 
 fn check_stats(rt: &impl Abort, alloc: Global) -> Result<(), StripeFault> {
     let schema = schema_of(alloc, "struct<n:bigint>")?;
-    let out = written(alloc, &schema, Rle::One, 0, &SEVENS)?;
+    let out = written(alloc, &schema, Rle::One, 0, SEVENS)?;
     check_sevens(rt, &out.stats);
     Ok(())
 }

@@ -35,26 +35,20 @@ mod texts;
 
 use rows::MAPS;
 
-// Long tables are statics: of a constant, the proof of each function that reads it goes through every row.
+// Long tables are texts, a case a line: the proof of each function that reads a table goes through each reference in
+// it, but not through a text. Short ones are statics, since of a constant it goes through every row.
 
-/// A type of a table: its kind's number, its subtypes, its fields' names.
-type Listed = (u32, &'static [u32], &'static [&'static [u8]]);
-
-/// A struct of one list of lists of numbers: `struct<a:array<array<int>>>`.
-const LISTS: [Listed; 4] = [
-    (12, &[1], &[b"a"]),
-    (10, &[2], &[]),
-    (10, &[3], &[]),
-    (3, &[], &[]),
-];
+/// A struct of one list of lists of numbers: `struct<a:array<array<int>>>`. Each word lists a type: its kind's number,
+/// its subtypes, and its fields' names.
+const LISTS: &str = "12:1:a 10:2 10:3 3";
 
 /// The same with another name.
-static OTHER_NAME: [Listed; 4] = [
-    (12, &[1], &[b"b"]),
-    (10, &[2], &[]),
-    (10, &[3], &[]),
-    (3, &[], &[]),
-];
+const OTHER_NAME: &str = "12:1:b 10:2 10:3 3";
+
+/// What stands before a mark in a text, and what stands behind it: all and nothing where there is none.
+fn cut<'a>(text: &'a str, mark: &str) -> (&'a str, &'a str) {
+    text.split_once(mark).unwrap_or((text, ""))
+}
 
 /// The same bytes, in memory of their own.
 fn copy_bytes(alloc: Global, bytes: &[u8]) -> Result<Vec<u8>, AllocError>
@@ -70,78 +64,105 @@ fn field_five(alloc: Global) -> Result<Bytes, AllocError>
     Ok(Items::from_vec(copy_bytes(alloc, &[0x28, 0x01])?))
 }
 
-fn names_of(alloc: Global, names: &[&'static [u8]]) -> Result<Vec<Bytes>, AllocError> {
-    let mut found = Vec::new(alloc);
-    for name in names {
-        found.push(Items::from_vec(name.to_vec(alloc)?))?;
+/// The numbers between commas.
+fn numbers_in(alloc: Global, text: &str) -> Result<Vec<u32>, AllocError> {
+    let mut numbers = Vec::new(alloc);
+    for word in text.split(',') {
+        if let Ok(number) = word.parse::<u32>() {
+            numbers.push(number)?;
+        }
     }
-    Ok(found)
+    Ok(numbers)
 }
 
-fn type_msg(alloc: Global, listed: &Listed) -> Result<TypeMsg, AllocError>
+/// A name, each byte of which is the number of a character.
+fn name_of(alloc: Global, text: &str) -> Result<Bytes, AllocError> {
+    let mut name = Vec::new(alloc);
+    for character in text.chars() {
+        name.push(u8::try_from(character).unwrap_or(b'?'))?;
+    }
+    Ok(Items::from_vec(name))
+}
+
+/// The names between commas.
+fn names_in(alloc: Global, text: &str) -> Result<Vec<Bytes>, AllocError> {
+    let mut names = Vec::new(alloc);
+    for word in text.split(',') {
+        if !word.is_empty() {
+            names.push(name_of(alloc, word)?)?;
+        }
+    }
+    Ok(names)
+}
+
+/// The number that a word is, and one that stands in no table where it is none.
+fn number_in(word: &str) -> u32 {
+    word.parse::<u32>().unwrap_or(u32::MAX)
+}
+
+/// The type that a word lists.
+fn type_msg(alloc: Global, word: &str) -> Result<TypeMsg, AllocError>
     ensures { IfOk result (λ t. t.kept ≡ []) }
 {
+    let (kind, rest) = cut(word, ":");
+    let (subtypes, names) = cut(rest, ":");
     Ok(TypeMsg {
-        kind: listed.0,
-        subtypes: Items::from_vec(listed.1.to_vec(alloc)?),
-        field_names: Items::from_vec(names_of(alloc, listed.2)?),
+        kind: number_in(kind),
+        subtypes: Items::from_vec(numbers_in(alloc, subtypes)?),
+        field_names: Items::from_vec(names_in(alloc, names)?),
         kept: Items::from_vec(Vec::new(alloc)),
     })
 }
 
-fn types_of(alloc: Global, table: &[Listed]) -> Result<Vec<TypeMsg>, AllocError>
+/// The types that a text lists.
+fn types_of(alloc: Global, text: &str) -> Result<Vec<TypeMsg>, AllocError>
     ensures { IfOk result (λ types. AllKept types.items) }
 {
     let mut types = Vec::new(alloc);
-    for listed in table {
+    for listed in text.split_whitespace() {
         types.push(type_msg(alloc, listed)?)?;
     }
     Ok(types)
 }
 
-/// A type that keeps another field.
-fn type_that_keeps(alloc: Global, listed: &Listed) -> Result<TypeMsg, AllocError>
+/// The type that a word lists, which keeps another field.
+fn type_that_keeps(alloc: Global, word: &str) -> Result<TypeMsg, AllocError>
     ensures { IfOk result (λ t. AreKept 4 t.kept) }
 {
-    let subtypes = listed.1.to_vec(alloc)?;
-    let field_names = names_of(alloc, listed.2)?;
-    Ok(TypeMsg {
-        kind: listed.0,
-        subtypes: Items::from_vec(subtypes),
-        field_names: Items::from_vec(field_names),
-        kept: field_five(alloc)?,
-    })
+    let mut listed = type_msg(alloc, word)?;
+    listed.kept = field_five(alloc)?;
+    Ok(listed)
 }
 
 /// The types, each of which keeps another field.
-fn types_that_keep(alloc: Global, table: &[Listed]) -> Result<Vec<TypeMsg>, AllocError>
+fn types_that_keep(alloc: Global, text: &str) -> Result<Vec<TypeMsg>, AllocError>
     ensures { IfOk result (λ types. AllKept types.items) }
 {
     let mut types = Vec::new(alloc);
-    for listed in table {
+    for listed in text.split_whitespace() {
         types.push(type_that_keeps(alloc, listed)?)?;
     }
     Ok(types)
 }
 
-fn schema_of(alloc: Global, table: &[Listed]) -> Result<Schema, TypeFault> {
+fn schema_of(alloc: Global, table: &str) -> Result<Schema, TypeFault> {
     let types = types_of(alloc, table)?;
     Schema::from_types(alloc, &types)
 }
 
 /// The schema of types that keep another field.
-fn schema_that_keeps(alloc: Global, table: &[Listed]) -> Result<Schema, TypeFault> {
+fn schema_that_keeps(alloc: Global, table: &str) -> Result<Schema, TypeFault> {
     let types = types_that_keep(alloc, table)?;
     Schema::from_types(alloc, &types)
 }
 
 /// Whether the schemas of two lists of types are equal.
-fn are_equal(alloc: Global, a: &[Listed], b: &[Listed]) -> Result<bool, TypeFault> {
+fn are_equal(alloc: Global, a: &str, b: &str) -> Result<bool, TypeFault> {
     Ok(schema_of(alloc, a)? == schema_of(alloc, b)?)
 }
 
 /// Whether a schema differs from that of the same types which keep another field.
-fn differs_by_kept(alloc: Global, table: &[Listed]) -> Result<bool, TypeFault> {
+fn differs_by_kept(alloc: Global, table: &str) -> Result<bool, TypeFault> {
     Ok(schema_of(alloc, table)? != schema_that_keeps(alloc, table)?)
 }
 
@@ -156,9 +177,10 @@ fn keep_field_five(types: &[TypeMsg]) -> bool {
 }
 
 /// Whether the types of such a schema are given back with what they keep.
-fn gives_kept_back(alloc: Global, table: &[Listed]) -> Result<bool, TypeFault> {
-    let schema = schema_that_keeps(alloc, table)?;
-    Ok(schema.types().len() == table.len() && keep_field_five(schema.types()))
+fn gives_kept_back(alloc: Global, table: &str) -> Result<bool, TypeFault> {
+    let types = types_that_keep(alloc, table)?;
+    let schema = Schema::from_types(alloc, &types)?;
+    Ok(schema.types().len() == types.len() && keep_field_five(schema.types()))
 }
 
 /// Whether the types are those of `LISTS` in number and in the root's names.
@@ -173,7 +195,7 @@ fn are_of_lists(types: &[TypeMsg]) -> bool {
 }
 
 fn gives_lists_back(alloc: Global) -> Result<bool, TypeFault> {
-    let schema = schema_of(alloc, &LISTS)?;
+    let schema = schema_of(alloc, LISTS)?;
     Ok(are_of_lists(schema.types()))
 }
 
@@ -182,12 +204,12 @@ fn gives_lists_back(alloc: Global) -> Result<bool, TypeFault> {
 fn schemas_hold(alloc: Global) -> Result<bool, TypeFault> {
     Ok(
         gives_lists_back(alloc)?
-            && are_equal(alloc, &LISTS, &LISTS)?
-            && !are_equal(alloc, &LISTS, &OTHER_NAME)?
-            && gives_kept_back(alloc, &LISTS)?
-            && differs_by_kept(alloc, &LISTS)?
-            && gives_kept_back(alloc, &MAPS)?
-            && differs_by_kept(alloc, &MAPS)?,
+            && are_equal(alloc, LISTS, LISTS)?
+            && !are_equal(alloc, LISTS, OTHER_NAME)?
+            && gives_kept_back(alloc, LISTS)?
+            && differs_by_kept(alloc, LISTS)?
+            && gives_kept_back(alloc, MAPS)?
+            && differs_by_kept(alloc, MAPS)?,
     )
 }
 

@@ -2,7 +2,7 @@
 
 use super::first_faults::{Change, FAILING, change};
 use crate::assertions::{check_list, check_same, passes};
-use crate::calls::{load, open_capped, rows};
+use crate::calls::{load, open_capped, opened_capped, rows};
 use orc_file::{FileFault, OrcFile, Source};
 use orc_test_io::{EMPTY, NAMED, SEVENS, SeenSource, TWICE, UPWARDS};
 use orc_types::TypeFault;
@@ -138,16 +138,17 @@ fn where_the_cap_is_tested(rt: HostRuntime) {
     check_all_metadata(&rt, rt.alloc());
 }
 
-/// The file of two stripes with 120 bytes more in the second, which has 139 then; the first has 19, and the tail 131.
-fn lengthened(alloc: Global) -> Result<Vec<u8>, FileFault> {
-    let mut bytes = TWICE[..25].to_vec(alloc)?;
+/// Puts the file of two stripes with 120 bytes more in the second, which has 139 then; the first has 19, and the tail
+/// 131.
+fn put_lengthened(bytes: &mut Vec<u8>) -> Result<(), FileFault> {
+    bytes.extend_from_slice(&TWICE[..25])?;
     bytes.extend_from_slice(&[0u8; 120])?;
     bytes.extend_from_slice(&TWICE[25..])?;
     match bytes.get_mut(228) {
         Some(length) => *length = 123,
         None => return Err(FileFault::BadLengths),
     }
-    Ok(bytes)
+    Ok(())
 }
 
 /// The second stripe is refused, and the vector stays as the first one filled it.
@@ -176,18 +177,36 @@ fn check_ranges(rt: &impl Abort, ranges: &[(u64, u64)], cap: u64) {
     }
 }
 
-/// The second stripe is refused each time, without a read of it.
-fn check_refused(rt: &impl Abort, alloc: Global, bytes: &[u8], cap: u64) -> Result<(), FileFault> {
-    let mut file = match open_capped(alloc, SeenSource::new(bytes), cap) {
-        Ok(file) => file,
-        Err((fault, _)) => return Err(fault),
-    };
+/// The first stripe is loaded, and the second is refused each time.
+fn check_loads(
+    rt: &impl Abort,
+    alloc: Global,
+    file: &mut OrcFile<SeenSource<'_>>,
+    loaded: &mut Vec<u8>,
+    cap: u64,
+) -> Result<(), FileFault> {
+    load(file, 0, loaded)?;
+    check_second(rt, alloc, file, loaded, cap)?;
+    check_second(rt, alloc, file, loaded, cap)
+}
+
+/// The same with a vector of its own.
+fn check_file(
+    rt: &impl Abort,
+    alloc: Global,
+    file: &mut OrcFile<SeenSource<'_>>,
+    cap: u64,
+) -> Result<(), FileFault> {
     let mut loaded = Vec::new(alloc);
-    load(&mut file, 0, &mut loaded)?;
-    check_second(rt, alloc, &mut file, &mut loaded, cap)?;
-    check_second(rt, alloc, &mut file, &mut loaded, cap)?;
+    check_loads(rt, alloc, file, &mut loaded, cap)
+}
+
+/// The second stripe is refused without a read of it.
+fn check_refused(rt: &impl Abort, alloc: Global, bytes: &[u8], cap: u64) -> Result<(), FileFault> {
+    let mut file = opened_capped(alloc, SeenSource::new(bytes), cap)?;
+    let answer = check_file(rt, alloc, &mut file, cap);
     check_ranges(rt, file.into_parts().1.ranges(), cap);
-    Ok(())
+    answer
 }
 
 fn check_lengthened(rt: &impl Abort, alloc: Global, bytes: &[u8]) -> Result<(), FileFault> {
@@ -211,7 +230,9 @@ fn check_lengthened(rt: &impl Abort, alloc: Global, bytes: &[u8]) -> Result<(), 
 }
 
 fn check_stripes(rt: &impl Abort, alloc: Global) -> Result<(), FileFault> {
-    check_lengthened(rt, alloc, &lengthened(alloc)?)
+    let mut bytes = Vec::new(alloc);
+    put_lengthened(&mut bytes)?;
+    check_lengthened(rt, alloc, &bytes)
 }
 
 #[test]

@@ -70,48 +70,70 @@ fn put_stripes(alloc: Global, stripes: &[Stripes], footer: &mut Vec<u8>) -> Resu
     Ok(())
 }
 
-/// The footer of these stripes: the header's and the contents' lengths, the stripes, the types, the rows.
-fn footer_of(alloc: Global, stripes: &[Stripes], rows: u64) -> Result<Vec<u8>, FileFault> {
-    let mut footer = [0x08u8, 0x03, 0x10, 0x03].to_vec(alloc)?;
-    put_stripes(alloc, stripes, &mut footer)?;
-    footer.extend_from_slice(&TYPES)?;
-    footer.push(0x30)?;
-    put(rows, &mut footer)?;
-    Ok(footer)
+/// Puts the footer of these stripes: the header's and the contents' lengths, the stripes, the types, the rows.
+fn put_footer(
+    alloc: Global,
+    stripes: &[Stripes],
+    rows: u64,
+    file: &mut Vec<u8>,
+) -> Result<(), FileFault> {
+    file.extend_from_slice(&[0x08, 0x03, 0x10, 0x03])?;
+    put_stripes(alloc, stripes, file)?;
+    file.extend_from_slice(&TYPES)?;
+    file.push(0x30)?;
+    put(rows, file)
 }
 
-/// The postscript of a file whose footer has so many bytes, without metadata.
-fn postscript_of(alloc: Global, footer_length: usize) -> Result<Vec<u8>, FileFault> {
-    let mut postscript = [0x08u8].to_vec(alloc)?;
-    put(footer_length as u64, &mut postscript)?;
-    postscript.extend_from_slice(&ENDING)?;
-    postscript.extend_from_slice(b"RC")?;
-    Ok(postscript)
+/// Puts the postscript of a file whose footer has so many bytes, without metadata.
+fn put_postscript(footer_length: usize, file: &mut Vec<u8>) -> Result<(), FileFault> {
+    file.push(0x08)?;
+    put(footer_length as u64, file)?;
+    file.extend_from_slice(&ENDING)?;
+    file.extend_from_slice(b"RC")?;
+    Ok(())
 }
 
-/// A file of this footer and this postscript.
-fn joined(alloc: Global, footer: &[u8], postscript: &[u8]) -> Result<Vec<u8>, FileFault> {
-    let mut file = b"ORC".to_vec(alloc)?;
-    file.extend_from_slice(footer)?;
-    file.extend_from_slice(postscript)?;
-    file.push(postscript.len().to_le_bytes()[0])?;
+/// Puts a file of these stripes, without metadata.
+fn put_file(
+    alloc: Global,
+    stripes: &[Stripes],
+    rows: u64,
+    file: &mut Vec<u8>,
+) -> Result<(), FileFault> {
+    file.extend_from_slice(b"ORC")?;
+    let start = file.len();
+    put_footer(alloc, stripes, rows, file)?;
+    let end = file.len();
+    put_postscript(end.saturating_sub(start), file)?;
+    let length = file.len().saturating_sub(end);
+    file.push(length.to_le_bytes()[0])?;
+    Ok(())
+}
+
+fn file_once(alloc: Global, stripes: &[Stripes], rows: u64) -> Result<Vec<u8>, FileFault> {
+    let mut file = Vec::new(alloc);
+    put_file(alloc, stripes, rows, &mut file)?;
     Ok(file)
 }
 
-/// A file of these stripes, without metadata.
+/// A file of these stripes once there is memory for its bytes.
 fn file_of(alloc: Global, stripes: &[Stripes], rows: u64) -> Result<Vec<u8>, FileFault> {
-    let footer = footer_of(alloc, stripes, rows)?;
-    let postscript = postscript_of(alloc, footer.len())?;
-    joined(alloc, &footer, &postscript)
+    match file_once(alloc, stripes, rows) {
+        Err(_) => file_once(alloc, stripes, rows),
+        file => file,
+    }
 }
 
-/// How many stripes a file is opened with, once there is memory for its bytes.
+/// How many stripes the file of these bytes has.
+fn count_stripes(alloc: Global, bytes: &[u8]) -> Result<usize, FileFault> {
+    let tail = tail_of(alloc, bytes)?;
+    Ok(tail.stripes.as_slice().len())
+}
+
+/// How many stripes a file is opened with.
 fn stripes_opened(alloc: Global, stripes: &[Stripes], rows: u64) -> Result<usize, FileFault> {
-    let file = match file_of(alloc, stripes, rows) {
-        Err(_) => file_of(alloc, stripes, rows)?,
-        Ok(file) => file,
-    };
-    Ok(tail_of(alloc, &file)?.stripes.as_slice().len())
+    let file = file_of(alloc, stripes, rows)?;
+    count_stripes(alloc, &file)
 }
 
 #[test]

@@ -1,6 +1,6 @@
 //! Files opened, and their tails put again.
 
-use super::{refusal, tail_of};
+use super::{limited_tail, refusal, tail_of};
 use crate::assertions::{check_list, check_same, demand};
 use orc_file::FileFault;
 use orc_test_io::{EMPTY, NAMED, SEVENS, TWICE};
@@ -8,14 +8,19 @@ use orc_wire::{StripeInfo, UserMetadataItem};
 use std::alloc::Global;
 use std::process::Abort;
 
-/// The first bytes of a file, and the text of its tail behind them.
-fn put_once(alloc: Global, bytes: &[u8], front: usize) -> Result<Vec<u8>, FileFault> {
-    let tail = tail_of(alloc, bytes)?;
+/// Puts the text of a file's tail.
+fn put_tail(alloc: Global, bytes: &[u8], out: &mut Vec<u8>) -> Result<(), FileFault> {
+    let tail = limited_tail(alloc, bytes)?;
     if !tail.is_laid() {
         return Err(FileFault::BadStripe(0));
     }
+    tail.put(out)
+}
+
+/// The first bytes of a file, and the text of its tail behind them.
+fn put_once(alloc: Global, bytes: &[u8], front: usize) -> Result<Vec<u8>, FileFault> {
     let mut out = bytes[..front.min(bytes.len())].to_vec(alloc)?;
-    tail.put(&mut out)?;
+    put_tail(alloc, bytes, &mut out)?;
     Ok(out)
 }
 

@@ -31,23 +31,20 @@ fn first_off(values: &[i64], count: i64) -> Option<(usize, i64)> {
 
 /// So many values are wanted, and none that is off.
 fn check_off(rt: &impl Abort, len: usize, wanted: usize, off: Option<(usize, i64)>) {
-    assert_eq!(rt; len, wanted);
-    assert_eq!(rt; off, None);
+    assert_eq!(rt; (len, off), (wanted, None));
 }
 
-/// Version 1: forty runs of 0 to 129.
-fn check_version_one(rt: &impl Abort, alloc: Global) -> Result<(), RunFault> {
-    let bytes = repeated(alloc, &[0x7f, 0x01, 0x00], 40)?;
-    let values = counted::<V1>(alloc, &bytes, Sign::Unsigned, 5_200)?;
-    check_off(rt, values.len(), 5_200, first_off(&values, 130));
-    Ok(())
-}
-
-/// Version 2: ten delta runs of 0 to 511.
-fn check_version_two(rt: &impl Abort, alloc: Global) -> Result<(), RunFault> {
-    let bytes = repeated(alloc, &[0xc1, 0xff, 0x00, 0x02], 10)?;
-    let values = counted::<V2>(alloc, &bytes, Sign::Unsigned, 5_120)?;
-    check_off(rt, values.len(), 5_120, first_off(&values, 512));
+/// A run so many times, which is so many values: from 0 on, and again from 0 on behind so many.
+fn check_runs<C: RunCodec>(
+    rt: &impl Abort,
+    alloc: Global,
+    run: &[u8],
+    times: usize,
+    (wanted, count): (usize, i64),
+) -> Result<(), RunFault> {
+    let bytes = repeated(alloc, run, times)?;
+    let values = counted::<C>(alloc, &bytes, Sign::Unsigned, wanted)?;
+    check_off(rt, values.len(), wanted, first_off(&values, count));
     Ok(())
 }
 
@@ -93,14 +90,26 @@ fn check_booleans(rt: &impl Abort, alloc: Global) -> Result<(), RunFault> {
     Ok(())
 }
 
+/// Forty runs of 0 to 129.
 #[test]
 fn thousands_of_version_one(rt: HostRuntime) {
-    passes(&rt, with_memory!(check_version_one(&rt, rt.alloc())));
+    let alloc = rt.alloc();
+    let run = [0x7f, 0x01, 0x00];
+    passes(
+        &rt,
+        with_memory!(check_runs::<V1>(&rt, alloc, &run, 40, (5_200, 130))),
+    );
 }
 
+/// Ten delta runs of 0 to 511.
 #[test]
 fn thousands_of_version_two(rt: HostRuntime) {
-    passes(&rt, with_memory!(check_version_two(&rt, rt.alloc())));
+    let alloc = rt.alloc();
+    let run = [0xc1, 0xff, 0x00, 0x02];
+    passes(
+        &rt,
+        with_memory!(check_runs::<V2>(&rt, alloc, &run, 10, (5_120, 512))),
+    );
 }
 
 #[test]

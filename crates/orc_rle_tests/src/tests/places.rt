@@ -1,4 +1,11 @@
 //! A writer's positions: which they are, what comes from them, and that the places of the runs have them.
+ghost use Rattle.std.specs.Prelude.{ℕ, ℤ, List};
+ghost use Rattle.orc_rle.specs.declared.sign.Sign.{Sign};
+ghost use Rattle.orc_rle.specs.ByteRun.{IsByteRun};
+ghost use Rattle.orc_rle.specs.Stream.{IsStream};
+ghost use Rattle.orc_positions.specs.Marks.{start_of_stream, IsMark};
+ghost use Rattle.orc_positions.specs.Position.{HasValues};
+
 use super::{demand, passes, values_of};
 use Sign::{Signed, Unsigned};
 use orc_positions::*;
@@ -146,6 +153,26 @@ fn values_from<C: RunCodec>(
     joined(alloc, run.values(), &rest)
 }
 
+/// That the first value of a stream begins at its start: one of the laws alone, since a proof goes through all that the
+/// calls before it promise.
+fn start_law<C: RunCodec>()
+    ensures { (sign : Sign) (bytes : List ℕ) (all : List ℤ)
+        → IsStream (C.is_run sign) bytes all → IsMark (C.is_run sign) bytes start_of_stream }
+{
+    seek_laws::<C>();
+}
+
+/// The writer's position of a value, which is sought.
+fn sought_place<C: RunCodec>(bytes: &[u8], sign: Sign, n: usize) -> Result<Pos, RunFault>
+    requires there { HasValues (C.is_run sign) bytes.now n }
+    requires start { IsMark (C.is_run sign) bytes.now start_of_stream }
+{
+    let pos = mark_at::<C>(bytes, sign, Mark::start(), n).place(n);
+    let mut run = Run::new();
+    seek_place::<C>(bytes, sign, pos, &mut run)?;
+    Ok(pos)
+}
+
 /// The writer's position of a value, where there are that many.
 fn place_of<C: RunCodec>(
     alloc: Global,
@@ -153,16 +180,12 @@ fn place_of<C: RunCodec>(
     sign: Sign,
     n: usize,
 ) -> Result<Pos, RunFault> {
-    // for its contract alone: the first value of a stream begins at its start
-    seek_laws::<C>();
+    start_law::<C>();
     let values = C::decode_all(alloc, bytes, sign)?;
     if n > values.len() {
         return Err(RunFault::TooFew(n));
     }
-    let pos = mark_at::<C>(bytes, sign, Mark::start(), n).place(n);
-    let mut run = Run::new();
-    seek_place::<C>(bytes, sign, pos, &mut run)?;
-    Ok(pos)
+    sought_place::<C>(bytes, sign, n)
 }
 
 /// Whether the position is one of the places, with no contract, of which each caller would prove more.
@@ -230,6 +253,21 @@ fn check_places<C: RunCodec>(
 }
 
 /// From each number on, the values come from the writer's position of it.
+fn check_each<C: RunCodec>(
+    rt: &impl Abort,
+    alloc: Global,
+    values: &[i64],
+    sign: Sign,
+    text: &[u8],
+    table: &RunPlaces,
+) -> Result<(), RunFault> {
+    for n in 0..=values.len() {
+        let holds = goes_on::<C>(alloc, values, sign, text, n, table)?;
+        demand(rt, holds, "what comes from the position", n, values);
+    }
+    Ok(())
+}
+
 fn check_numbers<C: RunCodec>(
     rt: &impl Abort,
     alloc: Global,
@@ -238,11 +276,7 @@ fn check_numbers<C: RunCodec>(
     text: &[u8],
 ) -> Result<(), RunFault> {
     let table = run_places::<C>(alloc, text, sign)?;
-    for n in 0..=values.len() {
-        let holds = goes_on::<C>(alloc, values, sign, text, n, &table)?;
-        demand(rt, holds, "what comes from the position", n, values);
-    }
-    Ok(())
+    check_each::<C>(rt, alloc, values, sign, text, &table)
 }
 
 fn check_rows<C: RunCodec>(rt: &impl Abort, alloc: Global, rows: &[Row]) -> Result<(), RunFault> {
@@ -284,18 +318,33 @@ fn bytes_at(alloc: Global, text: &[u8], pos: Pos, count: usize) -> Result<Vec<u8
     bytes_from(alloc, text, count, at, &run)
 }
 
-/// The writer's position of a byte, where there are that many.
-fn byte_place_of(alloc: Global, bytes: &[u8], total: usize, n: usize) -> Result<Pos, RunFault> {
-    // for its contract alone: the first byte of a stream begins at its start
+/// That the first byte of a stream begins at its start.
+fn byte_start_law()
+    ensures { (bytes : List ℕ) (all : List ℕ)
+        → IsStream IsByteRun bytes all → IsMark IsByteRun bytes start_of_stream }
+{
     byte_seek_laws();
-    let values = ByteRuns::decode(alloc, bytes, total)?;
-    if n > values.len() {
-        return Err(RunFault::TooFew(n));
-    }
+}
+
+/// The writer's position of a byte, which is sought.
+fn sought_byte(bytes: &[u8], n: usize) -> Result<Pos, RunFault>
+    requires there { HasValues IsByteRun bytes.now n }
+    requires start { IsMark IsByteRun bytes.now start_of_stream }
+{
     let pos = byte_mark_at(bytes, Mark::start(), n).place(n);
     let mut run = RunU8::new();
     byte_seek_place(bytes, pos, &mut run)?;
     Ok(pos)
+}
+
+/// The writer's position of a byte, where there are that many.
+fn byte_place_of(alloc: Global, bytes: &[u8], total: usize, n: usize) -> Result<Pos, RunFault> {
+    byte_start_law();
+    let values = ByteRuns::decode(alloc, bytes, total)?;
+    if n > values.len() {
+        return Err(RunFault::TooFew(n));
+    }
+    sought_byte(bytes, n)
 }
 
 /// Whether the writer's position of a byte has this offset and skip.
@@ -339,6 +388,20 @@ fn check_byte_places(
 }
 
 /// From each number on, the bytes come from the writer's position of it.
+fn check_each_byte(
+    rt: &impl Abort,
+    alloc: Global,
+    values: &[u8],
+    text: &[u8],
+    table: &RunPlaces,
+) -> Result<(), RunFault> {
+    for n in 0..=values.len() {
+        let holds = bytes_go_on(alloc, values, text, n, table)?;
+        demand(rt, holds, "what comes from the position", n, values);
+    }
+    Ok(())
+}
+
 fn check_byte_numbers(
     rt: &impl Abort,
     alloc: Global,
@@ -346,11 +409,7 @@ fn check_byte_numbers(
     text: &[u8],
 ) -> Result<(), RunFault> {
     let table = byte_places(alloc, text)?;
-    for n in 0..=values.len() {
-        let holds = bytes_go_on(alloc, values, text, n, &table)?;
-        demand(rt, holds, "what comes from the position", n, values);
-    }
-    Ok(())
+    check_each_byte(rt, alloc, values, text, &table)
 }
 
 fn check_bytes(rt: &impl Abort, alloc: Global) -> Result<(), RunFault> {
@@ -368,8 +427,7 @@ fn places_of_bytes(rt: HostRuntime) {
 
 /// The writer's position of a boolean, where there are that many.
 fn bit_place_of(alloc: Global, bytes: &[u8], total: usize, n: usize) -> Result<BitPos, RunFault> {
-    // for its contract alone: the first byte of a stream begins at its start
-    byte_seek_laws();
+    byte_start_law();
     // for its contract alone: a position of a boolean names that boolean, and those behind it go on from there
     bit_seek_laws();
     let values = BitRuns::decode(alloc, bytes, total)?;
@@ -457,6 +515,20 @@ fn check_bit_places(
 }
 
 /// From each number on, the booleans come from the writer's position of it.
+fn check_each_bit(
+    rt: &impl Abort,
+    alloc: Global,
+    values: &[bool],
+    text: &[u8],
+    table: &RunPlaces,
+) -> Result<(), RunFault> {
+    for n in 0..=values.len() {
+        let holds = bits_go_on(alloc, values, text, n, table)?;
+        demand(rt, holds, "what comes from the position", n, values);
+    }
+    Ok(())
+}
+
 fn check_bit_numbers(
     rt: &impl Abort,
     alloc: Global,
@@ -464,11 +536,7 @@ fn check_bit_numbers(
     text: &[u8],
 ) -> Result<(), RunFault> {
     let table = byte_places(alloc, text)?;
-    for n in 0..=values.len() {
-        let holds = bits_go_on(alloc, values, text, n, &table)?;
-        demand(rt, holds, "what comes from the position", n, values);
-    }
-    Ok(())
+    check_each_bit(rt, alloc, values, text, &table)
 }
 
 fn check_bits(rt: &impl Abort, alloc: Global) -> Result<(), RunFault> {

@@ -23,88 +23,98 @@ static OTHER_DAYS: [(i32, &'static str); 3] = [
     (i32::MIN, "-2147483648"),
 ];
 
-/// Values of JSON under types, and what they are printed as again.
-static SPELLED: [(&'static str, &'static str, &'static str); 29] = [
-    ("boolean", "true", "true"),
-    ("boolean", "false", "false"),
-    ("tinyint", "-128", "-128"),
-    ("tinyint", "127", "127"),
-    ("smallint", "-32768", "-32768"),
-    ("smallint", "32767", "32767"),
-    ("int", "-2147483648", "-2147483648"),
-    ("int", "2147483647", "2147483647"),
-    ("bigint", "-9223372036854775808", "-9223372036854775808"),
-    ("bigint", "9223372036854775807", "9223372036854775807"),
-    ("bigint", "0", "0"),
-    ("string", "\"\"", "\"\""),
-    ("string", "\"2024-02-29\"", "\"2024-02-29\""),
-    ("string", "\"\\u0061\"", "\"a\""),
-    ("binary", "\"\"", "\"\""),
-    ("binary", "\"0F\"", "\"0f\""),
-    ("binary", "\"00ffAb\"", "\"00ffab\""),
-    ("date", "\"2024-02-29\"", "\"2024-02-29\""),
-    ("date", "19782", "\"2024-02-29\""),
-    ("date", "0", "\"1970-01-01\""),
-    ("date", "-719162", "\"0001-01-01\""),
-    ("date", "-719163", "-719163"),
-    ("date", "2932896", "\"9999-12-31\""),
-    ("date", "2932897", "2932897"),
-    ("date", "-2147483648", "-2147483648"),
-    ("date", "2147483647", "2147483647"),
-    ("int", "null", "null"),
-    ("date", "null", "null"),
-    ("binary", "null", "null"),
-];
+/// Types, values of JSON under them, and what these are printed as again.
+static SPELLED: &str = r#"boolean true -> true
+boolean false -> false
+tinyint -128 -> -128
+tinyint 127 -> 127
+smallint -32768 -> -32768
+smallint 32767 -> 32767
+int -2147483648 -> -2147483648
+int 2147483647 -> 2147483647
+bigint -9223372036854775808 -> -9223372036854775808
+bigint 9223372036854775807 -> 9223372036854775807
+bigint 0 -> 0
+string "" -> ""
+string "2024-02-29" -> "2024-02-29"
+string "\u0061" -> "a"
+binary "" -> ""
+binary "0F" -> "0f"
+binary "00ffAb" -> "00ffab"
+date "2024-02-29" -> "2024-02-29"
+date 19782 -> "2024-02-29"
+date 0 -> "1970-01-01"
+date -719162 -> "0001-01-01"
+date -719163 -> -719163
+date 2932896 -> "9999-12-31"
+date 2932897 -> 2932897
+date -2147483648 -> -2147483648
+date 2147483647 -> 2147483647
+int null -> null
+date null -> null
+binary null -> null"#;
 
-/// Values of JSON that spell nothing under their type, and why.
-static UNSPELLED: [(&'static str, &'static str, JsonFault); 47] = [
-    ("boolean", "0", JsonFault::WrongShape),
-    ("boolean", "\"true\"", JsonFault::WrongShape),
-    ("tinyint", "true", JsonFault::WrongShape),
-    ("smallint", "\"1\"", JsonFault::WrongShape),
-    ("int", "[]", JsonFault::WrongShape),
-    ("int", "{}", JsonFault::WrongShape),
-    ("int", "-0", JsonFault::WrongShape),
-    ("int", "1.0", JsonFault::WrongShape),
-    ("int", "1e1", JsonFault::WrongShape),
-    ("string", "1", JsonFault::WrongShape),
-    ("string", "[\"a\"]", JsonFault::WrongShape),
-    ("binary", "0", JsonFault::WrongShape),
-    ("binary", "false", JsonFault::WrongShape),
-    ("date", "true", JsonFault::WrongShape),
-    ("date", "0.5", JsonFault::WrongShape),
-    ("date", "{\"date\":0}", JsonFault::WrongShape),
-    ("tinyint", "-129", JsonFault::Range),
-    ("tinyint", "128", JsonFault::Range),
-    ("tinyint", "18446744073709551615", JsonFault::Range),
-    ("smallint", "-32769", JsonFault::Range),
-    ("smallint", "32768", JsonFault::Range),
-    ("int", "-2147483649", JsonFault::Range),
-    ("int", "2147483648", JsonFault::Range),
-    ("bigint", "9223372036854775808", JsonFault::Range),
-    ("bigint", "18446744073709551615", JsonFault::Range),
-    ("bigint", "18446744073709551616", JsonFault::WrongShape),
-    ("bigint", "-9223372036854775809", JsonFault::WrongShape),
-    ("date", "-2147483649", JsonFault::Range),
-    ("date", "2147483648", JsonFault::Range),
-    ("date", "9223372036854775808", JsonFault::Range),
-    ("date", "\"2023-02-29\"", JsonFault::BadDate),
-    ("date", "\"1900-02-29\"", JsonFault::BadDate),
-    ("date", "\"2023-04-31\"", JsonFault::BadDate),
-    ("date", "\"20230228\"", JsonFault::BadDate),
-    ("date", "\"2023-02-28T00:00:00\"", JsonFault::BadDate),
-    ("date", "\"+002023-02-28\"", JsonFault::BadDate),
-    ("date", "\"-000001-01-01\"", JsonFault::BadDate),
-    ("date", "\"0000-01-01\"", JsonFault::BadDate),
-    ("date", "\"10000-01-01\"", JsonFault::BadDate),
-    ("date", "\"2023-2-28\"", JsonFault::BadDate),
-    ("date", "\" 2023-02-28\"", JsonFault::BadDate),
-    ("date", "\"19782\"", JsonFault::BadDate),
-    ("date", "\"\"", JsonFault::BadDate),
-    ("binary", "\"0\"", JsonFault::BadHex),
-    ("binary", "\"0g\"", JsonFault::BadHex),
-    ("binary", "\"0x00\"", JsonFault::BadHex),
-    ("binary", "\"0 \"", JsonFault::BadHex),
+/// Types, and values of JSON that spell nothing under them, by what they are refused for.
+static UNSPELLED: [(JsonFault, &'static str); 4] = [
+    (
+        JsonFault::WrongShape,
+        r#"boolean 0
+boolean "true"
+tinyint true
+smallint "1"
+int []
+int {}
+int -0
+int 1.0
+int 1e1
+string 1
+string ["a"]
+binary 0
+binary false
+date true
+date 0.5
+date {"date":0}
+bigint 18446744073709551616
+bigint -9223372036854775809"#,
+    ),
+    (
+        JsonFault::Range,
+        r#"tinyint -129
+tinyint 128
+tinyint 18446744073709551615
+smallint -32769
+smallint 32768
+int -2147483649
+int 2147483648
+bigint 9223372036854775808
+bigint 18446744073709551615
+date -2147483649
+date 2147483648
+date 9223372036854775808"#,
+    ),
+    (
+        JsonFault::BadDate,
+        r#"date "2023-02-29"
+date "1900-02-29"
+date "2023-04-31"
+date "20230228"
+date "2023-02-28T00:00:00"
+date "+002023-02-28"
+date "-000001-01-01"
+date "0000-01-01"
+date "10000-01-01"
+date "2023-2-28"
+date " 2023-02-28"
+date "19782"
+date """#,
+    ),
+    (
+        JsonFault::BadHex,
+        r#"binary "0"
+binary "0g"
+binary "0x00"
+binary "0 ""#,
+    ),
 ];
 
 /// Whether JSON shows the day by this text, and the text as it stands.
@@ -156,27 +166,34 @@ fn is_printed_again(alloc: Global, kind: &str, json: &str, again: &str) -> Resul
     leaf_comes_to(alloc, kind, json, Ok(wanted.as_str()))
 }
 
+/// Whether the line of the table holds.
+fn is_spelled(alloc: Global, line: &str) -> Result<bool, JsonFault> {
+    let (leaf, again) = cut(line, " -> ");
+    let (kind, json) = cut(leaf, " ");
+    is_printed_again(alloc, kind, json, again)
+}
+
 #[test]
 fn leaves(rt: HostRuntime) {
     let alloc = rt.alloc();
-    for &(kind, json, again) in &SPELLED {
-        demand(
-            &rt,
-            with_memory!(is_printed_again(alloc, kind, json, again)),
-            &(json, kind),
-        );
+    for line in SPELLED.lines() {
+        demand(&rt, with_memory!(is_spelled(alloc, line)), &line);
     }
+}
+
+/// Whether the value of the line is refused for this.
+fn is_unspelled(alloc: Global, line: &str, fault: JsonFault) -> Result<bool, JsonFault> {
+    let (kind, json) = cut(line, " ");
+    leaf_comes_to(alloc, kind, json, Err(fault))
 }
 
 #[test]
 fn no_leaves(rt: HostRuntime) {
     let alloc = rt.alloc();
-    for &(kind, json, fault) in &UNSPELLED {
-        demand(
-            &rt,
-            with_memory!(leaf_comes_to(alloc, kind, json, Err(fault))),
-            &(json, kind),
-        );
+    for &(fault, lines) in &UNSPELLED {
+        for line in lines.lines() {
+            demand(&rt, with_memory!(is_unspelled(alloc, line, fault)), &line);
+        }
     }
 }
 

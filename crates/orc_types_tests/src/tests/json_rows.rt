@@ -5,219 +5,84 @@ ghost use Rattle.orc_types.specs.Views.{view};
 
 use super::rows::{KINDS, KINDS_ROW, rows_of};
 use super::*;
-use JsonFault::{DuplicateField, Range, UnknownField, WrongShape};
+use JsonFault::DuplicateField;
 use serde_json::Value as Json;
 
-/// The texts of a schema and of JSON, and what it comes to: the text that its row prints as, or why
-/// it spells none.
-type Case = (&'static str, &'static str, Result<&'static str, JsonFault>);
+/// Schemas, JSON that spells rows, and the texts that these print as.
+static ROWS: &str = r#"struct<b:tinyint> {} -> {"b":null}
+struct<v:binary> {"v":"0F"} -> {"v":"0f"}
+struct<d:date> {"d":2932896} -> {"d":"9999-12-31"}
+struct<t:string> {"t":"\"\\\/\b\f\n\r\t\u0041\ud83d\ude00\u0001"} -> {"t":"\"\\/\b\f\n\r\tA😀\u0001"}
+struct<b:tinyint> null -> null
+struct<> {} -> {}
+struct<b:int,a:int> {"b":1,"a":2} -> {"a":2,"b":1}
+struct<b:int,_:int,B:int,aa:int,a:int,1:int> {"1":1,"B":2,"_":3,"a":4,"aa":5,"b":6} -> {"1":1,"B":2,"_":3,"a":4,"aa":5,"b":6}
+struct<a:int> {"a":1,"a":2} -> {"a":2}
+struct<a:array<int>> {"a":[1,null,3]} -> {"a":[1,null,3]}
+struct<a:array<int>> {"a":[]} -> {"a":[]}
+struct<a:array<struct<n:int>>> {"a":[{"n":1},{},null,{"n":null}]} -> {"a":[{"n":1},{"n":null},null,{"n":null}]}
+struct<a:struct<a:int>> {"a":{"a":1}} -> {"a":{"a":1}}"#;
 
-static LEAF_ROWS: [Case; 10] = [
-    ("struct<b:tinyint>", r#"{"b":128}"#, Err(Range)),
-    ("struct<b:tinyint>", r#"{"b":"1"}"#, Err(WrongShape)),
-    ("struct<b:tinyint>", r#"{"x":1}"#, Err(UnknownField)),
-    ("struct<b:tinyint>", "{}", Ok(r#"{"b":null}"#)),
-    (
-        "struct<n:bigint>",
-        r#"{"n":9223372036854775808}"#,
-        Err(Range),
-    ),
-    (
-        "struct<n:bigint>",
-        r#"{"n":18446744073709551616}"#,
-        Err(WrongShape),
-    ),
-    ("struct<v:binary>", r#"{"v":"0F"}"#, Ok(r#"{"v":"0f"}"#)),
-    ("struct<v:binary>", r#"{"v":"0"}"#, Err(JsonFault::BadHex)),
-    (
-        "struct<d:date>",
-        r#"{"d":2932896}"#,
-        Ok(r#"{"d":"9999-12-31"}"#),
-    ),
-    (
-        "struct<t:string>",
-        r#"{"t":"\"\\\/\b\f\n\r\t\u0041\ud83d\ude00\u0001"}"#,
-        Ok("{\"t\":\"\\\"\\\\/\\b\\f\\n\\r\\tA\u{1f600}\\u0001\"}"),
-    ),
-];
+static ROWS_OF_MAPS: &str =
+    r#"struct<m:map<string,int>> {"m":[["a",1],["b",null]]} -> {"m":[["a",1],["b",null]]}
+struct<m:map<string,int>> {"m":null} -> {"m":null}
+struct<m:map<string,int>> {"m":[]} -> {"m":[]}
+struct<m:map<string,int>> {"m":[["b",1],["a",2],["b",3],["b",3]]} -> {"m":[["b",1],["a",2],["b",3],["b",3]]}
+struct<m:map<string,int>> {"m":[[null,1],[null,null]]} -> {"m":[[null,1],[null,null]]}
+struct<m:map<map<int,date>,map<int,int>>> {"m":[[[[1,3],[1,"1970-01-02"]],[[4,5]]],[null,[]],[[],null]]} -> {"m":[[[[1,"1970-01-04"],[1,"1970-01-02"]],[[4,5]]],[null,[]],[[],null]]}
+struct<m:map<array<int>,array<map<int,int>>>> {"m":[[[1,2],[[[3,4]],null,[]]]]} -> {"m":[[[1,2],[[[3,4]],null,[]]]]}
+struct<m:map<struct<k:int>,struct<b:int,a:int>>> {"m":[[{"k":1},{"b":2,"a":3}],[{},null]]} -> {"m":[[{"k":1},{"a":3,"b":2}],[{"k":null},null]]}
+struct<m:map<struct<a:int>,struct<a:int>>> {"m":[[{"a":1},{"a":2}]]} -> {"m":[[{"a":1},{"a":2}]]}"#;
 
-static NESTED_ROWS: [Case; 18] = [
-    ("struct<b:tinyint>", r#"{"b":1,"x":2}"#, Err(UnknownField)),
-    ("struct<b:tinyint>", "null", Ok("null")),
-    ("struct<b:tinyint>", "[1]", Err(WrongShape)),
-    ("struct<>", "{}", Ok("{}")),
+/// Schemas, and JSON that spells no rows, by what it is refused for.
+static NO_ROWS: [(JsonFault, &'static str); 6] = [
     (
-        "struct<b:int,a:int>",
-        r#"{"b":1,"a":2}"#,
-        Ok(r#"{"a":2,"b":1}"#),
+        JsonFault::Range,
+        r#"struct<b:tinyint> {"b":128}
+struct<n:bigint> {"n":9223372036854775808}
+struct<m:map<string,int>> {"m":[["a",1],["b",2147483648]]}"#,
     ),
     (
-        "struct<b:int,_:int,B:int,aa:int,a:int,1:int>",
-        r#"{"1":1,"B":2,"_":3,"a":4,"aa":5,"b":6}"#,
-        Ok(r#"{"1":1,"B":2,"_":3,"a":4,"aa":5,"b":6}"#),
-    ),
-    ("struct<a:int>", r#"{"a":1,"a":2}"#, Ok(r#"{"a":2}"#)),
-    (
-        "struct<a:array<int>>",
-        r#"{"a":[1,null,3]}"#,
-        Ok(r#"{"a":[1,null,3]}"#),
-    ),
-    ("struct<a:array<int>>", r#"{"a":[]}"#, Ok(r#"{"a":[]}"#)),
-    ("struct<a:array<int>>", r#"{"a":{}}"#, Err(WrongShape)),
-    ("struct<a:array<int>>", r#"{"a":[1,[2]]}"#, Err(WrongShape)),
-    (
-        "struct<a:array<struct<n:int>>>",
-        r#"{"a":[{"n":1},{},null,{"n":null}]}"#,
-        Ok(r#"{"a":[{"n":1},{"n":null},null,{"n":null}]}"#),
+        JsonFault::WrongShape,
+        r#"struct<b:tinyint> {"b":"1"}
+struct<n:bigint> {"n":18446744073709551616}
+struct<b:tinyint> [1]
+struct<a:array<int>> {"a":{}}
+struct<a:array<int>> {"a":[1,[2]]}
+struct<m:map<string,int>> {"m":[["a"]]}
+struct<m:map<string,int>> {"m":[["a",1,2]]}
+struct<m:map<string,int>> {"m":{"a":1}}
+struct<m:map<string,int>> {"m":["a",1]}
+struct<m:map<string,int>> {"m":[[]]}
+struct<m:map<string,int>> {"m":[null]}
+struct<m:map<string,int>> {"m":[{"a":1}]}
+struct<m:map<string,int>> {"m":[[1,"a"]]}
+struct<m:map<int,map<int,int>>> {"m":[[1,[[2]]]]}"#,
     ),
     (
-        "struct<a:array<struct<n:int>>>",
-        r#"{"a":[{"m":1}]}"#,
-        Err(UnknownField),
+        JsonFault::UnknownField,
+        r#"struct<b:tinyint> {"x":1}
+struct<b:tinyint> {"b":1,"x":2}
+struct<a:array<struct<n:int>>> {"a":[{"m":1}]}
+struct<m:map<struct<k:int>,int>> {"m":[[{"l":1},2]]}"#,
     ),
     (
-        "struct<s:struct<d:date>>",
-        r#"{"s":{"d":"x"}}"#,
-        Err(JsonFault::BadDate),
+        JsonFault::BadHex,
+        r#"struct<v:binary> {"v":"0"}
+struct<s:struct<v:binary>> {"s":{"v":"0g"}}
+struct<m:map<int,struct<v:binary>>> {"m":[[1,{"v":"0g"}]]}"#,
     ),
     (
-        "struct<s:struct<v:binary>>",
-        r#"{"s":{"v":"0g"}}"#,
-        Err(JsonFault::BadHex),
-    ),
-    ("struct<a:int,a:int>", r#"{"a":1}"#, Err(DuplicateField)),
-    (
-        "struct<a:array<struct<b:int,c:int,b:date>>>",
-        "null",
-        Err(DuplicateField),
+        JsonFault::BadDate,
+        r#"struct<s:struct<d:date>> {"s":{"d":"x"}}
+struct<m:map<date,int>> {"m":[["x",1]]}"#,
     ),
     (
-        "struct<a:struct<a:int>>",
-        r#"{"a":{"a":1}}"#,
-        Ok(r#"{"a":{"a":1}}"#),
-    ),
-];
-
-static MAP_ROWS: [Case; 24] = [
-    (
-        "struct<m:map<string,int>>",
-        r#"{"m":[["a",1],["b",null]]}"#,
-        Ok(r#"{"m":[["a",1],["b",null]]}"#),
-    ),
-    (
-        "struct<m:map<string,int>>",
-        r#"{"m":null}"#,
-        Ok(r#"{"m":null}"#),
-    ),
-    (
-        "struct<m:map<string,int>>",
-        r#"{"m":[]}"#,
-        Ok(r#"{"m":[]}"#),
-    ),
-    (
-        "struct<m:map<string,int>>",
-        r#"{"m":[["b",1],["a",2],["b",3],["b",3]]}"#,
-        Ok(r#"{"m":[["b",1],["a",2],["b",3],["b",3]]}"#),
-    ),
-    (
-        "struct<m:map<string,int>>",
-        r#"{"m":[[null,1],[null,null]]}"#,
-        Ok(r#"{"m":[[null,1],[null,null]]}"#),
-    ),
-    (
-        "struct<m:map<string,int>>",
-        r#"{"m":[["a"]]}"#,
-        Err(WrongShape),
-    ),
-    (
-        "struct<m:map<string,int>>",
-        r#"{"m":[["a",1,2]]}"#,
-        Err(WrongShape),
-    ),
-    (
-        "struct<m:map<string,int>>",
-        r#"{"m":{"a":1}}"#,
-        Err(WrongShape),
-    ),
-    (
-        "struct<m:map<string,int>>",
-        r#"{"m":["a",1]}"#,
-        Err(WrongShape),
-    ),
-    (
-        "struct<m:map<string,int>>",
-        r#"{"m":[[]]}"#,
-        Err(WrongShape),
-    ),
-    (
-        "struct<m:map<string,int>>",
-        r#"{"m":[null]}"#,
-        Err(WrongShape),
-    ),
-    (
-        "struct<m:map<string,int>>",
-        r#"{"m":[{"a":1}]}"#,
-        Err(WrongShape),
-    ),
-    (
-        "struct<m:map<string,int>>",
-        r#"{"m":[[1,"a"]]}"#,
-        Err(WrongShape),
-    ),
-    (
-        "struct<m:map<string,int>>",
-        r#"{"m":[["a",1],["b",2147483648]]}"#,
-        Err(Range),
-    ),
-    (
-        "struct<m:map<map<int,date>,map<int,int>>>",
-        r#"{"m":[[[[1,3],[1,"1970-01-02"]],[[4,5]]],[null,[]],[[],null]]}"#,
-        Ok(r#"{"m":[[[[1,"1970-01-04"],[1,"1970-01-02"]],[[4,5]]],[null,[]],[[],null]]}"#),
-    ),
-    (
-        "struct<m:map<array<int>,array<map<int,int>>>>",
-        r#"{"m":[[[1,2],[[[3,4]],null,[]]]]}"#,
-        Ok(r#"{"m":[[[1,2],[[[3,4]],null,[]]]]}"#),
-    ),
-    (
-        "struct<m:map<struct<k:int>,struct<b:int,a:int>>>",
-        r#"{"m":[[{"k":1},{"b":2,"a":3}],[{},null]]}"#,
-        Ok(r#"{"m":[[{"k":1},{"a":3,"b":2}],[{"k":null},null]]}"#),
-    ),
-    (
-        "struct<m:map<struct<k:int>,int>>",
-        r#"{"m":[[{"l":1},2]]}"#,
-        Err(UnknownField),
-    ),
-    (
-        "struct<m:map<int,struct<v:binary>>>",
-        r#"{"m":[[1,{"v":"0g"}]]}"#,
-        Err(JsonFault::BadHex),
-    ),
-    (
-        "struct<m:map<date,int>>",
-        r#"{"m":[["x",1]]}"#,
-        Err(JsonFault::BadDate),
-    ),
-    (
-        "struct<m:map<int,map<int,int>>>",
-        r#"{"m":[[1,[[2]]]]}"#,
-        Err(WrongShape),
-    ),
-    (
-        "struct<m:map<int,struct<a:int,a:int>>>",
-        "null",
-        Err(DuplicateField),
-    ),
-    (
-        "struct<m:map<struct<a:int,a:int>,int>>",
-        "null",
-        Err(DuplicateField),
-    ),
-    (
-        "struct<m:map<struct<a:int>,struct<a:int>>>",
-        r#"{"m":[[{"a":1},{"a":2}]]}"#,
-        Ok(r#"{"m":[[{"a":1},{"a":2}]]}"#),
+        JsonFault::DuplicateField,
+        r#"struct<a:int,a:int> {"a":1}
+struct<a:array<struct<b:int,c:int,b:date>>> null
+struct<m:map<int,struct<a:int,a:int>>> null
+struct<m:map<struct<a:int,a:int>,int>> null"#,
     ),
 ];
 
@@ -265,23 +130,30 @@ pub(crate) fn comes_to(
     }
 }
 
-/// Each comes to what is wanted.
-fn check_cases(rt: &impl Abort, alloc: Global, cases: &[Case]) {
-    for &(schema, json, wanted) in cases {
-        demand(
-            rt,
-            with_memory!(comes_to(alloc, schema, json, wanted)),
-            &(json, schema),
-        );
-    }
+/// Whether the JSON of the line is a row that is printed so.
+fn is_printed(alloc: Global, line: &str) -> Result<bool, JsonFault> {
+    let (row, text) = cut(line, " -> ");
+    let (schema, json) = cut(row, " ");
+    comes_to(alloc, schema, json, Ok(text))
+}
+
+/// Whether the JSON of the line is refused for this.
+fn is_no_row(alloc: Global, line: &str, fault: JsonFault) -> Result<bool, JsonFault> {
+    let (schema, json) = cut(line, " ");
+    comes_to(alloc, schema, json, Err(fault))
 }
 
 #[test]
 fn json_rows(rt: HostRuntime) {
     let alloc = rt.alloc();
-    check_cases(&rt, alloc, &LEAF_ROWS);
-    check_cases(&rt, alloc, &NESTED_ROWS);
-    check_cases(&rt, alloc, &MAP_ROWS);
+    for line in ROWS.lines().chain(ROWS_OF_MAPS.lines()) {
+        demand(&rt, with_memory!(is_printed(alloc, line)), &line);
+    }
+    for &(fault, lines) in &NO_ROWS {
+        for line in lines.lines() {
+            demand(&rt, with_memory!(is_no_row(alloc, line, fault)), &line);
+        }
+    }
 }
 
 /// Whether the row fits, and is printed as the text.
@@ -299,10 +171,10 @@ fn is_printed_as(
 
 /// A row of borrowed values is printed.
 fn prints_each_kind(alloc: Global) -> Result<bool, JsonFault> {
-    let Ok(schema) = schema_of(alloc, &KINDS) else {
+    let Ok(schema) = schema_of(alloc, KINDS) else {
         return Err(JsonFault::OutOfMemory);
     };
-    let rows = rows_of(alloc, &KINDS_ROW)?;
+    let rows = rows_of(alloc, KINDS_ROW)?;
     match rows.as_slice() {
         [row] => is_printed_as(alloc, &schema, row, KINDS_JSON),
         _ => Ok(false),

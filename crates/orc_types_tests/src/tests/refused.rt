@@ -4,125 +4,45 @@ ghost use Rattle.orc_types.specs.Schemas.{AllKept};
 
 use super::*;
 
-/// Types that are no schema's, and why.
-static REFUSED: [(&'static [Listed], TypeFault); 29] = [
-    (&[], TypeFault::RootNotStruct),
-    (&[(1, &[], &[])], TypeFault::RootNotStruct),
-    (&[(10, &[1], &[]), (3, &[], &[])], TypeFault::RootNotStruct),
+/// Types that are no schema's, a list of them a line, by what they are refused for. The first line lists none.
+static REFUSED: [(TypeFault, &'static str); 6] = [
     (
-        &[(12, &[1], &[b"f"]), (5, &[], &[])],
-        TypeFault::UnsupportedKind(5),
+        TypeFault::RootNotStruct,
+        "\n\
+         1\n\
+         10:1 3",
     ),
+    (TypeFault::UnsupportedKind(5), "12:1:f 5"),
+    (TypeFault::UnsupportedKind(13), "12:1:u 13:2,3 3 3"),
+    (TypeFault::UnsupportedKind(18), "12:1:x 18"),
     (
-        &[
-            (12, &[1], &[b"u"]),
-            (13, &[2, 3], &[]),
-            (3, &[], &[]),
-            (3, &[], &[]),
-        ],
-        TypeFault::UnsupportedKind(13),
-    ),
-    (
-        &[(12, &[1], &[b"x"]), (18, &[], &[])],
-        TypeFault::UnsupportedKind(18),
-    ),
-    (&[(12, &[1], &[b"a"]), (10, &[], &[])], TypeFault::BadTree),
-    (
-        &[
-            (12, &[1], &[b"a"]),
-            (10, &[2, 3], &[]),
-            (3, &[], &[]),
-            (3, &[], &[]),
-        ],
         TypeFault::BadTree,
+        "12:1:a 10\n\
+         12:1:a 10:2,3 3 3\n\
+         12:1:a 10:2:e 3\n\
+         12:1:a 10:0 3\n\
+         12:1:m 11:2 3\n\
+         12:1:m 11:2,3,4 3 3 3\n\
+         12:1:m 11:2,3:k,v 3 3\n\
+         12:1:m 11\n\
+         12:1:m 11:3,2 3 3\n\
+         12:1:m 11:2,3 10:3 3 3\n\
+         12:1:m 11:2,3 3\n\
+         12:0:a 3\n\
+         12:2:a 3\n\
+         12:1:a\n\
+         12:1,1:a,b 3\n\
+         12:2,1:a,b 3 3\n\
+         12:1 3\n\
+         12:1:a,b 3\n\
+         12 3\n\
+         12:1:a 3:2 3\n\
+         12:1:a 7::a",
     ),
     (
-        &[(12, &[1], &[b"a"]), (10, &[2], &[b"e"]), (3, &[], &[])],
-        TypeFault::BadTree,
-    ),
-    (
-        &[(12, &[1], &[b"a"]), (10, &[0], &[]), (3, &[], &[])],
-        TypeFault::BadTree,
-    ),
-    (
-        &[(12, &[1], &[b"m"]), (11, &[2], &[]), (3, &[], &[])],
-        TypeFault::BadTree,
-    ),
-    (
-        &[
-            (12, &[1], &[b"m"]),
-            (11, &[2, 3, 4], &[]),
-            (3, &[], &[]),
-            (3, &[], &[]),
-            (3, &[], &[]),
-        ],
-        TypeFault::BadTree,
-    ),
-    (
-        &[
-            (12, &[1], &[b"m"]),
-            (11, &[2, 3], &[b"k", b"v"]),
-            (3, &[], &[]),
-            (3, &[], &[]),
-        ],
-        TypeFault::BadTree,
-    ),
-    (&[(12, &[1], &[b"m"]), (11, &[], &[])], TypeFault::BadTree),
-    (
-        &[
-            (12, &[1], &[b"m"]),
-            (11, &[3, 2], &[]),
-            (3, &[], &[]),
-            (3, &[], &[]),
-        ],
-        TypeFault::BadTree,
-    ),
-    (
-        &[
-            (12, &[1], &[b"m"]),
-            (11, &[2, 3], &[]),
-            (10, &[3], &[]),
-            (3, &[], &[]),
-            (3, &[], &[]),
-        ],
-        TypeFault::BadTree,
-    ),
-    (
-        &[(12, &[1], &[b"m"]), (11, &[2, 3], &[]), (3, &[], &[])],
-        TypeFault::BadTree,
-    ),
-    (&[(12, &[0], &[b"a"]), (3, &[], &[])], TypeFault::BadTree),
-    (&[(12, &[2], &[b"a"]), (3, &[], &[])], TypeFault::BadTree),
-    (&[(12, &[1], &[b"a"])], TypeFault::BadTree),
-    (
-        &[(12, &[1, 1], &[b"a", b"b"]), (3, &[], &[])],
-        TypeFault::BadTree,
-    ),
-    (
-        &[(12, &[2, 1], &[b"a", b"b"]), (3, &[], &[]), (3, &[], &[])],
-        TypeFault::BadTree,
-    ),
-    (&[(12, &[1], &[]), (3, &[], &[])], TypeFault::BadTree),
-    (
-        &[(12, &[1], &[b"a", b"b"]), (3, &[], &[])],
-        TypeFault::BadTree,
-    ),
-    (&[(12, &[], &[]), (3, &[], &[])], TypeFault::BadTree),
-    (
-        &[(12, &[1], &[b"a"]), (3, &[2], &[]), (3, &[], &[])],
-        TypeFault::BadTree,
-    ),
-    (
-        &[(12, &[1], &[b"a"]), (7, &[], &[b"a"])],
-        TypeFault::BadTree,
-    ),
-    (
-        &[(12, &[1], &[b"\xff"]), (3, &[], &[])],
         TypeFault::BadText(0),
-    ),
-    (
-        &[(12, &[1], &[b"\xc0\x80"]), (3, &[], &[])],
-        TypeFault::BadText(0),
+        "12:1:\u{ff} 3\n\
+         12:1:\u{c0}\u{80} 3",
     ),
 ];
 
@@ -144,7 +64,7 @@ fn open_lists(alloc: Global, lists: u32) -> Result<Vec<TypeMsg>, AllocError>
     ensures { IfOk result (λ types. AllKept types.items) }
 {
     let mut types = Vec::new(alloc);
-    types.push(type_msg(alloc, &(12, &[1], &[b"a"]))?)?;
+    types.push(type_msg(alloc, "12:1:a")?)?;
     for i in 0..lists {
         types.push(type_over(alloc, 10, &[i % 4096 + 2])?)?;
     }
@@ -156,7 +76,7 @@ fn nested_lists(alloc: Global, lists: u32) -> Result<Vec<TypeMsg>, AllocError>
     ensures { IfOk result (λ types. AllKept types.items) }
 {
     let mut types = open_lists(alloc, lists)?;
-    types.push(type_msg(alloc, &(0, &[], &[]))?)?;
+    types.push(type_msg(alloc, "0")?)?;
     Ok(types)
 }
 
@@ -177,11 +97,11 @@ fn nested_maps(alloc: Global, maps: u32) -> Result<Vec<TypeMsg>, AllocError>
     ensures { IfOk result (λ types. AllKept types.items) }
 {
     let mut types = Vec::new(alloc);
-    types.push(type_msg(alloc, &(12, &[1], &[b"m"]))?)?;
+    types.push(type_msg(alloc, "12:1:m")?)?;
     for place in 0..maps.saturating_mul(2) {
         types.push(nested_map(alloc, place)?)?;
     }
-    types.push(type_msg(alloc, &(0, &[], &[]))?)?;
+    types.push(type_msg(alloc, "0")?)?;
     Ok(types)
 }
 
@@ -210,7 +130,7 @@ fn wide(alloc: Global, fields: u32) -> Result<Vec<TypeMsg>, AllocError>
     let mut types = Vec::new(alloc);
     types.push(wide_root(alloc, fields)?)?;
     for _ in 0..fields {
-        types.push(type_msg(alloc, &(15, &[], &[]))?)?;
+        types.push(type_msg(alloc, "15")?)?;
     }
     Ok(types)
 }
@@ -234,16 +154,18 @@ fn is_answer(
     }
 }
 
-fn is_refused(alloc: Global, table: &[Listed], fault: TypeFault) -> Result<bool, TypeFault> {
-    let types = types_of(alloc, table)?;
+fn is_refused(alloc: Global, text: &str, fault: TypeFault) -> Result<bool, TypeFault> {
+    let types = types_of(alloc, text)?;
     is_answer(count_of(alloc, &types), Err(fault))
 }
 
 #[test]
 fn refusals(rt: HostRuntime) {
     let alloc = rt.alloc();
-    for &(types, fault) in &REFUSED {
-        demand(&rt, with_memory!(is_refused(alloc, types, fault)), &fault);
+    for &(fault, lists) in &REFUSED {
+        for types in lists.lines() {
+            demand(&rt, with_memory!(is_refused(alloc, types, fault)), &types);
+        }
     }
 }
 

@@ -23,457 +23,219 @@ pub(crate) enum Token {
 use Token::{Bytes as Blob, Date, Int, List, Map, Null, Struct, Text, Truth};
 
 /// A struct of a field of every kind, in the order of their numbers but for DATE.
-pub(crate) const KINDS: [Listed; 11] = [
-    (
-        12,
-        &[1, 2, 3, 4, 5, 6, 7, 8, 10],
-        &[b"b", b"y", b"s", b"i", b"l", b"t", b"v", b"a", b"d"],
-    ),
-    (0, &[], &[]),
-    (1, &[], &[]),
-    (2, &[], &[]),
-    (3, &[], &[]),
-    (4, &[], &[]),
-    (7, &[], &[]),
-    (8, &[], &[]),
-    (10, &[9], &[]),
-    (3, &[], &[]),
-    (15, &[], &[]),
-];
+pub(crate) const KINDS: &str = "12:1,2,3,4,5,6,7,8,10:b,y,s,i,l,t,v,a,d 0 1 2 3 4 7 8 10:9 3 15";
 
 pub(crate) const KINDS_TEXT: &str =
     "struct<b:boolean,y:tinyint,s:smallint,i:int,l:bigint,t:string,v:binary,a:array<int>,d:date>";
 
 /// A struct of a struct of one number: `struct<s:struct<n:int>>`.
-const STRUCTS: [Listed; 3] = [(12, &[1], &[b"s"]), (12, &[2], &[b"n"]), (3, &[], &[])];
+const STRUCTS: &str = "12:1:s 12:2:n 3";
 
 /// A struct of a list of lists: a list of two, null, the empty list, a list with a null, a list of
 /// one; and a row that is null.
-const LIST_ROWS: [Token; 22] = [
-    Int(1),
-    Int(2),
-    List(2),
-    List(0),
-    List(2),
-    Struct(1),
-    Null,
-    Struct(1),
-    List(0),
-    Struct(1),
-    Null,
-    Int(3),
-    List(1),
-    List(2),
-    Struct(1),
-    Int(4),
-    Int(5),
-    Int(6),
-    List(3),
-    List(1),
-    Struct(1),
-    Null,
-];
+const LIST_ROWS: &str =
+    "1 2 list:2 list:0 list:2 struct:1 null struct:1 list:0 struct:1 null 3 list:1 list:2 struct:1 \
+     4 5 6 list:3 list:1 struct:1 null";
 
 /// A struct in a struct, a null struct, and a struct of null.
-const STRUCT_ROWS: [Token; 8] = [
-    Int(1),
-    Struct(1),
-    Struct(1),
-    Null,
-    Struct(1),
-    Null,
-    Struct(1),
-    Struct(1),
-];
+const STRUCT_ROWS: &str = "1 struct:1 struct:1 null struct:1 null struct:1 struct:1";
 
 /// A struct of a list of structs of one number: `struct<a:array<struct<n:int>>>`.
-const STRUCTS_IN_LISTS: [Listed; 4] = [
-    (12, &[1], &[b"a"]),
-    (10, &[2], &[]),
-    (12, &[3], &[b"n"]),
-    (3, &[], &[]),
-];
+const STRUCTS_IN_LISTS: &str = "12:1:a 10:2 12:3:n 3";
 
 /// A list of a struct of 1, a struct of null, and null; a list that is null; a row that is null; a
 /// list of nothing.
-const STRUCTS_IN_LISTS_ROWS: [Token; 12] = [
-    Int(1),
-    Struct(1),
-    Null,
-    Struct(1),
-    Null,
-    List(3),
-    Struct(1),
-    Null,
-    Struct(1),
-    Null,
-    List(0),
-    Struct(1),
-];
+const STRUCTS_IN_LISTS_ROWS: &str =
+    "1 struct:1 null struct:1 null list:3 struct:1 null struct:1 null list:0 struct:1";
 
 /// A struct of a map of numbers to lists of numbers: `struct<m:map<int,array<int>>>`.
-pub(crate) const MAPS: [Listed; 5] = [
-    (12, &[1], &[b"m"]),
-    (11, &[2, 3], &[]),
-    (3, &[], &[]),
-    (10, &[4], &[]),
-    (3, &[], &[]),
-];
+pub(crate) const MAPS: &str = "12:1:m 11:2,3 3 10:4 3";
 
 /// A map of 1 to a list, of null to null, and of 1 again to the empty list; a map that is null; an
 /// empty map; a row that is null; a map of 2 to a list of one.
-const MAP_ROWS: [Token; 20] = [
-    Int(1),
-    Int(10),
-    Null,
-    List(2),
-    Null,
-    Null,
-    Int(1),
-    List(0),
-    Map(3),
-    Struct(1),
-    Null,
-    Struct(1),
-    Map(0),
-    Struct(1),
-    Null,
-    Int(2),
-    Int(20),
-    List(1),
-    Map(1),
-    Struct(1),
-];
+const MAP_ROWS: &str =
+    "1 10 null list:2 null null 1 list:0 map:3 struct:1 null struct:1 map:0 struct:1 null 2 20 list:1 map:1 struct:1";
 
 /// A struct of a map whose keys are maps and whose values are structs of maps:
 /// `struct<m:map<map<int,int>,struct<n:map<int,int>>>>`.
-const MAPS_IN_MAPS: [Listed; 9] = [
-    (12, &[1], &[b"m"]),
-    (11, &[2, 5], &[]),
-    (11, &[3, 4], &[]),
-    (3, &[], &[]),
-    (3, &[], &[]),
-    (12, &[6], &[b"n"]),
-    (11, &[7, 8], &[]),
-    (3, &[], &[]),
-    (3, &[], &[]),
-];
+const MAPS_IN_MAPS: &str = "12:1:m 11:2,5 11:3,4 3 3 12:6:n 11:7,8 3 3";
 
 /// A map of a map to a struct of a map of two, of null to a struct of null, and of the empty map to
 /// null.
-const MAPS_IN_MAPS_ROWS: [Token; 16] = [
-    Int(1),
-    Int(2),
-    Map(1),
-    Int(3),
-    Int(4),
-    Int(5),
-    Int(6),
-    Map(2),
-    Struct(1),
-    Null,
-    Null,
-    Struct(1),
-    Map(0),
-    Null,
-    Map(3),
-    Struct(1),
-];
+const MAPS_IN_MAPS_ROWS: &str =
+    "1 2 map:1 3 4 5 6 map:2 struct:1 null null struct:1 map:0 null map:3 struct:1";
 
 /// A value of each kind.
-pub(crate) const KINDS_ROW: [Token; 12] = [
-    Truth,
-    Int(1),
-    Int(2),
-    Int(3),
-    Int(4),
-    Text,
-    Blob,
-    Int(8),
-    Int(9),
-    List(2),
-    Date(3),
-    Struct(9),
+pub(crate) const KINDS_ROW: &str = "true 1 2 3 4 text bytes 8 9 list:2 day:3 struct:9";
+
+/// A schema's types, rows, and in each line a column and its cells.
+static CELLS: [(&'static str, &'static str, &'static str); 9] = [
+    (
+        STRUCTS,
+        STRUCT_ROWS,
+        "0: 1 struct:1 struct:1 null struct:1 null struct:1 struct:1\n\
+         1: 1 struct:1 null null struct:1\n\
+         2: 1 null",
+    ),
+    (LISTS, "null list:1 list:1 struct:1", "3: null"),
+    (
+        STRUCTS_IN_LISTS,
+        STRUCTS_IN_LISTS_ROWS,
+        "0: 1 struct:1 null struct:1 null list:3 struct:1 null struct:1 null list:0 struct:1\n\
+         1: 1 struct:1 null struct:1 null list:3 null list:0\n\
+         2: 1 struct:1 null struct:1 null\n\
+         3: 1 null",
+    ),
+    (
+        KINDS,
+        KINDS_ROW,
+        "0: true 1 2 3 4 text bytes 8 9 list:2 day:3 struct:9\n\
+         1: true\n\
+         2: 1\n\
+         3: 2\n\
+         4: 3\n\
+         6: text\n\
+         7: bytes\n\
+         8: 8 9 list:2\n\
+         10: day:3",
+    ),
+    (
+        LISTS,
+        LIST_ROWS,
+        "0: 1 2 list:2 list:0 list:2 struct:1 null struct:1 list:0 struct:1 null 3 list:1 list:2 \
+         struct:1 4 5 6 list:3 list:1 struct:1 null\n\
+         1: 1 2 list:2 list:0 list:2 null list:0 null 3 list:1 list:2 4 5 6 list:3 list:1\n\
+         2: 1 2 list:2 list:0 null 3 list:1 4 5 6 list:3\n\
+         3: 1 2 3 4 5 6",
+    ),
+    (
+        KINDS,
+        "null true 1 2 3 4 text bytes 8 9 list:2 day:3 struct:9",
+        "9: 8 9",
+    ),
+    (
+        KINDS,
+        "null null null null 5 text bytes list:0 null struct:9",
+        "5: 5",
+    ),
+    (
+        MAPS,
+        MAP_ROWS,
+        "0: 1 10 null list:2 null null 1 list:0 map:3 struct:1 null struct:1 map:0 struct:1 null 2 20 \
+         list:1 map:1 struct:1\n\
+         1: 1 10 null list:2 null null 1 list:0 map:3 null map:0 2 20 list:1 map:1\n\
+         2: 1 null 1 2\n\
+         3: 10 null list:2 null list:0 20 list:1\n\
+         4: 10 null 20",
+    ),
+    (
+        MAPS_IN_MAPS,
+        MAPS_IN_MAPS_ROWS,
+        "2: 1 2 map:1 null map:0\n\
+         4: 2\n\
+         6: 3 4 5 6 map:2 null\n\
+         7: 3 5",
+    ),
 ];
 
-/// A schema's types, rows, a column, and its cells.
-type CellCase = (&'static [Listed], &'static [Token], usize, &'static [Token]);
+/// Values, and the fields of `KINDS` that they fit.
+static FITTING: &str = "null 0,1,2,3,4,5,6,7,8\n\
+                        true 0\n\
+                        -128 1,2,3,4\n\
+                        -129 2,3,4\n\
+                        127 1,2,3,4\n\
+                        128 2,3,4\n\
+                        -32768 2,3,4\n\
+                        -32769 3,4\n\
+                        32767 2,3,4\n\
+                        32768 3,4\n\
+                        -2147483648 3,4\n\
+                        -2147483649 4\n\
+                        2147483647 3,4\n\
+                        2147483648 4\n\
+                        -9223372036854775808 4\n\
+                        text 5\n\
+                        bytes 6\n\
+                        list:0 7\n\
+                        map:0\n\
+                        day:-2147483648 8";
 
-static CELLS: [CellCase; 32] = [
-    (&STRUCTS, &STRUCT_ROWS, 0, &STRUCT_ROWS),
-    (&LISTS, &[Null, List(1), List(1), Struct(1)], 3, &[Null]),
+/// A schema's types, rows that fit it, and rows that don't: within a list of lists, within an inner struct, of another
+/// shape, null, and within maps.
+static SHAPES: [(&'static str, &'static str, &'static str); 4] = [
     (
-        &STRUCTS_IN_LISTS,
-        &STRUCTS_IN_LISTS_ROWS,
-        0,
-        &STRUCTS_IN_LISTS_ROWS,
+        LISTS,
+        "2147483647 list:1 list:1 struct:1\n\
+         null list:1 null list:2 struct:1",
+        "2147483648 list:1 list:1 struct:1\n\
+         0 -2147483649 list:2 list:1 struct:1\n\
+         1 list:1 struct:1\n\
+         map:0 struct:1",
     ),
     (
-        &STRUCTS_IN_LISTS,
-        &STRUCTS_IN_LISTS_ROWS,
-        1,
-        &[
-            Int(1),
-            Struct(1),
-            Null,
-            Struct(1),
-            Null,
-            List(3),
-            Null,
-            List(0),
-        ],
+        STRUCTS,
+        "-2147483648 struct:1 struct:1",
+        "2147483648 struct:1 struct:1\n\
+         null null struct:2 struct:1\n\
+         map:0 struct:1",
     ),
     (
-        &STRUCTS_IN_LISTS,
-        &STRUCTS_IN_LISTS_ROWS,
-        2,
-        &[Int(1), Struct(1), Null, Struct(1), Null],
+        KINDS,
+        "null",
+        "null struct:1\n\
+         list:0\n\
+         true",
     ),
     (
-        &STRUCTS_IN_LISTS,
-        &STRUCTS_IN_LISTS_ROWS,
-        3,
-        &[Int(1), Null],
+        MAPS,
+        "1 list:0 map:1 struct:1\n\
+         null null null null map:2 struct:1",
+        "2147483648 list:0 map:1 struct:1\n\
+         1 null 1 1 map:2 struct:1\n\
+         1 2147483648 list:1 map:1 struct:1\n\
+         1 list:1 struct:1\n\
+         1 list:0 struct:2 list:1 struct:1",
     ),
-    (&KINDS, &KINDS_ROW, 0, &KINDS_ROW),
-    (&KINDS, &KINDS_ROW, 1, &[Truth]),
-    (&KINDS, &KINDS_ROW, 2, &[Int(1)]),
-    (&KINDS, &KINDS_ROW, 3, &[Int(2)]),
-    (&KINDS, &KINDS_ROW, 4, &[Int(3)]),
-    (&KINDS, &KINDS_ROW, 6, &[Text]),
-    (&KINDS, &KINDS_ROW, 7, &[Blob]),
-    (&KINDS, &KINDS_ROW, 8, &[Int(8), Int(9), List(2)]),
-    (&LISTS, &LIST_ROWS, 0, &LIST_ROWS),
-    (
-        &LISTS,
-        &LIST_ROWS,
-        1,
-        &[
-            Int(1),
-            Int(2),
-            List(2),
-            List(0),
-            List(2),
-            Null,
-            List(0),
-            Null,
-            Int(3),
-            List(1),
-            List(2),
-            Int(4),
-            Int(5),
-            Int(6),
-            List(3),
-            List(1),
-        ],
-    ),
-    (
-        &LISTS,
-        &LIST_ROWS,
-        2,
-        &[
-            Int(1),
-            Int(2),
-            List(2),
-            List(0),
-            Null,
-            Int(3),
-            List(1),
-            Int(4),
-            Int(5),
-            Int(6),
-            List(3),
-        ],
-    ),
-    (
-        &LISTS,
-        &LIST_ROWS,
-        3,
-        &[Int(1), Int(2), Int(3), Int(4), Int(5), Int(6)],
-    ),
-    (
-        &STRUCTS,
-        &STRUCT_ROWS,
-        1,
-        &[Int(1), Struct(1), Null, Null, Struct(1)],
-    ),
-    (&STRUCTS, &STRUCT_ROWS, 2, &[Int(1), Null]),
-    (
-        &KINDS,
-        &[
-            Null,
-            Truth,
-            Int(1),
-            Int(2),
-            Int(3),
-            Int(4),
-            Text,
-            Blob,
-            Int(8),
-            Int(9),
-            List(2),
-            Date(3),
-            Struct(9),
-        ],
-        9,
-        &[Int(8), Int(9)],
-    ),
-    (
-        &KINDS,
-        &[
-            Truth,
-            Int(1),
-            Int(2),
-            Int(3),
-            Int(4),
-            Text,
-            Blob,
-            Int(8),
-            Int(9),
-            List(2),
-            Date(3),
-            Struct(9),
-        ],
-        10,
-        &[Date(3)],
-    ),
-    (
-        &KINDS,
-        &[
-            Null,
-            Null,
-            Null,
-            Null,
-            Int(5),
-            Text,
-            Blob,
-            List(0),
-            Null,
-            Struct(9),
-        ],
-        5,
-        &[Int(5)],
-    ),
-    (&MAPS, &MAP_ROWS, 0, &MAP_ROWS),
-    (
-        &MAPS,
-        &MAP_ROWS,
-        1,
-        &[
-            Int(1),
-            Int(10),
-            Null,
-            List(2),
-            Null,
-            Null,
-            Int(1),
-            List(0),
-            Map(3),
-            Null,
-            Map(0),
-            Int(2),
-            Int(20),
-            List(1),
-            Map(1),
-        ],
-    ),
-    (&MAPS, &MAP_ROWS, 2, &[Int(1), Null, Int(1), Int(2)]),
-    (
-        &MAPS,
-        &MAP_ROWS,
-        3,
-        &[Int(10), Null, List(2), Null, List(0), Int(20), List(1)],
-    ),
-    (&MAPS, &MAP_ROWS, 4, &[Int(10), Null, Int(20)]),
-    (
-        &MAPS_IN_MAPS,
-        &MAPS_IN_MAPS_ROWS,
-        2,
-        &[Int(1), Int(2), Map(1), Null, Map(0)],
-    ),
-    (&MAPS_IN_MAPS, &MAPS_IN_MAPS_ROWS, 4, &[Int(2)]),
-    (
-        &MAPS_IN_MAPS,
-        &MAPS_IN_MAPS_ROWS,
-        6,
-        &[Int(3), Int(4), Int(5), Int(6), Map(2), Null],
-    ),
-    (&MAPS_IN_MAPS, &MAPS_IN_MAPS_ROWS, 7, &[Int(3), Int(5)]),
 ];
 
-/// Values and the fields of KINDS that they fit.
-static FITTING: [(Token, &'static [usize]); 20] = [
-    (Null, &[0, 1, 2, 3, 4, 5, 6, 7, 8]),
-    (Truth, &[0]),
-    (Int(-128), &[1, 2, 3, 4]),
-    (Int(-129), &[2, 3, 4]),
-    (Int(127), &[1, 2, 3, 4]),
-    (Int(128), &[2, 3, 4]),
-    (Int(-32768), &[2, 3, 4]),
-    (Int(-32769), &[3, 4]),
-    (Int(32767), &[2, 3, 4]),
-    (Int(32768), &[3, 4]),
-    (Int(-2147483648), &[3, 4]),
-    (Int(-2147483649), &[4]),
-    (Int(2147483647), &[3, 4]),
-    (Int(2147483648), &[4]),
-    (Int(i64::MIN), &[4]),
-    (Text, &[5]),
-    (Blob, &[6]),
-    (List(0), &[7]),
-    (Map(0), &[]),
-    (Date(i32::MIN), &[8]),
-];
+/// The token that a word stands for: a word that is no number stands for a text.
+fn token_of(word: &str) -> Token {
+    let (name, count) = cut(word, ":");
+    let count = count.parse::<usize>().unwrap_or(usize::MAX);
+    match name {
+        "null" => Null,
+        "true" => Truth,
+        "bytes" => Blob,
+        "list" => List(count),
+        "struct" => Struct(count),
+        "map" => Map(count),
+        "day" => Date(day_of(word)),
+        _ => number_of(word),
+    }
+}
 
-/// A schema's types, a row, and whether it fits: within a list of lists, within an inner struct, of
-/// another shape, null, and within maps.
-static SHAPES: [(&'static [Listed], &'static [Token], bool); 21] = [
-    (
-        &LISTS,
-        &[Int(2147483647), List(1), List(1), Struct(1)],
-        true,
-    ),
-    (
-        &LISTS,
-        &[Int(2147483648), List(1), List(1), Struct(1)],
-        false,
-    ),
-    (
-        &LISTS,
-        &[Int(0), Int(-2147483649), List(2), List(1), Struct(1)],
-        false,
-    ),
-    (&LISTS, &[Null, List(1), Null, List(2), Struct(1)], true),
-    (&LISTS, &[Int(1), List(1), Struct(1)], false),
-    (&STRUCTS, &[Int(-2147483648), Struct(1), Struct(1)], true),
-    (&STRUCTS, &[Int(2147483648), Struct(1), Struct(1)], false),
-    (&STRUCTS, &[Null, Null, Struct(2), Struct(1)], false),
-    (&KINDS, &[Null, Struct(1)], false),
-    (&KINDS, &[List(0)], false),
-    (&KINDS, &[Truth], false),
-    (&KINDS, &[Null], true),
-    (&MAPS, &[Int(1), List(0), Map(1), Struct(1)], true),
-    (&MAPS, &[Null, Null, Null, Null, Map(2), Struct(1)], true),
-    (&MAPS, &[Int(2147483648), List(0), Map(1), Struct(1)], false),
-    (
-        &MAPS,
-        &[Int(1), Null, Int(1), Int(1), Map(2), Struct(1)],
-        false,
-    ),
-    (
-        &MAPS,
-        &[Int(1), Int(2147483648), List(1), Map(1), Struct(1)],
-        false,
-    ),
-    (&MAPS, &[Int(1), List(1), Struct(1)], false),
-    (
-        &MAPS,
-        &[Int(1), List(0), Struct(2), List(1), Struct(1)],
-        false,
-    ),
-    (&LISTS, &[Map(0), Struct(1)], false),
-    (&STRUCTS, &[Map(0), Struct(1)], false),
-];
+/// The day that a word has behind its mark.
+fn day_of(word: &str) -> i32 {
+    let (_, day) = cut(word, ":");
+    day.parse::<i32>().unwrap_or(i32::MAX)
+}
+
+/// The token of a number, or of a text.
+fn number_of(word: &str) -> Token {
+    match word.parse::<i64>() {
+        Ok(number) => Int(number),
+        Err(_) => Text,
+    }
+}
+
+/// The tokens of a text, a word each.
+pub(crate) fn tokens_of(alloc: Global, text: &str) -> Result<Vec<Token>, AllocError> {
+    let mut tokens = Vec::new(alloc);
+    for word in text.split_whitespace() {
+        tokens.push(token_of(word))?;
+    }
+    Ok(tokens)
+}
 
 /// The value of a token that stands for no list, no struct and no map.
 fn value_of(token: Token) -> Row<'static> {
@@ -540,13 +302,19 @@ fn take_row(
 }
 
 /// The rows that stand in postfix.
-pub(crate) fn rows_of(alloc: Global, tokens: &[Token]) -> Result<Vec<Row<'static>>, AllocError> {
+pub(crate) fn rows_made(alloc: Global, tokens: &[Token]) -> Result<Vec<Row<'static>>, AllocError> {
     let mut rows = Vec::new(alloc);
     for &token in tokens {
         let row = take_row(alloc, &mut rows, token)?;
         rows.push(row)?;
     }
     Ok(rows)
+}
+
+/// The rows whose tokens a text has.
+pub(crate) fn rows_of(alloc: Global, text: &str) -> Result<Vec<Row<'static>>, AllocError> {
+    let tokens = tokens_of(alloc, text)?;
+    rows_made(alloc, &tokens)
 }
 
 /// Whether the one row of the tokens fits the schema exactly where it is to.
@@ -556,7 +324,7 @@ fn row_fits(
     tokens: &[Token],
     fitting: bool,
 ) -> Result<bool, AllocError> {
-    let rows = rows_of(alloc, tokens)?;
+    let rows = rows_made(alloc, tokens)?;
     match rows.as_slice() {
         [row] => Ok(fits(schema, row) == fitting),
         _ => Ok(false),
@@ -580,44 +348,48 @@ fn field_fits(
 }
 
 /// Whether the value fits these fields of `KINDS`, and no other.
-fn fields_fit(alloc: Global, token: Token, fields: &[usize]) -> Result<bool, TypeFault> {
-    let schema = schema_of(alloc, &KINDS)?;
-    for at in 0..9usize {
-        if !field_fits(alloc, &schema, token, at, fields.contains(&at))? {
+fn fields_fit(alloc: Global, token: Token, fields: &[u32]) -> Result<bool, TypeFault> {
+    let schema = schema_of(alloc, KINDS)?;
+    for at in 0..9u32 {
+        if !field_fits(alloc, &schema, token, at as usize, fields.contains(&at))? {
             return Ok(false);
         }
     }
     Ok(true)
 }
 
+/// Whether the value of the line fits its fields, and no other.
+fn line_fits(alloc: Global, line: &str) -> Result<bool, TypeFault> {
+    let (value, fields) = cut(line, " ");
+    let fields = numbers_in(alloc, fields)?;
+    fields_fit(alloc, token_of(value), &fields)
+}
+
 #[test]
 fn ranges(rt: HostRuntime) {
     let alloc = rt.alloc();
-    for (i, &(token, fields)) in FITTING.iter().enumerate() {
-        demand(&rt, with_memory!(fields_fit(alloc, token, fields)), &i);
+    for line in FITTING.lines() {
+        demand(&rt, with_memory!(line_fits(alloc, line)), &line);
     }
 }
 
 /// Whether a row fits the schema of the types exactly where it is to.
-fn is_shaped(
-    alloc: Global,
-    types: &[Listed],
-    tokens: &[Token],
-    fitting: bool,
-) -> Result<bool, TypeFault> {
+fn is_shaped(alloc: Global, types: &str, row: &str, fitting: bool) -> Result<bool, TypeFault> {
     let schema = schema_of(alloc, types)?;
-    Ok(row_fits(alloc, &schema, tokens, fitting)?)
+    let tokens = tokens_of(alloc, row)?;
+    Ok(row_fits(alloc, &schema, &tokens, fitting)?)
 }
 
 #[test]
 fn shapes(rt: HostRuntime) {
     let alloc = rt.alloc();
-    for (i, &(types, tokens, fitting)) in SHAPES.iter().enumerate() {
-        demand(
-            &rt,
-            with_memory!(is_shaped(alloc, types, tokens, fitting)),
-            &i,
-        );
+    for &(types, fitting, others) in &SHAPES {
+        for row in fitting.lines() {
+            demand(&rt, with_memory!(is_shaped(alloc, types, row, true)), &row);
+        }
+        for row in others.lines() {
+            demand(&rt, with_memory!(is_shaped(alloc, types, row, false)), &row);
+        }
     }
 }
 
@@ -661,40 +433,55 @@ fn has_cells(
     Ok(are_rows(&found, wanted))
 }
 
-/// Whether the column has the wanted cells.
-fn cells_come_to(
+/// Whether a column of the rows has these cells.
+fn column_has(
     alloc: Global,
-    (types, rows, column, wanted): &CellCase,
+    schema: &Schema,
+    column: usize,
+    rows: &[Row<'static>],
+    wanted: &str,
 ) -> Result<bool, TypeFault> {
-    let schema = schema_of(alloc, types)?;
-    let rows = rows_of(alloc, rows)?;
     let wanted = rows_of(alloc, wanted)?;
-    if schema.width() <= *column {
+    if schema.width() <= column {
         return Ok(false);
     }
-    has_cells(alloc, &schema, *column, &rows, &wanted)
+    has_cells(alloc, schema, column, rows, &wanted)
+}
+
+/// Whether the column of the line has its cells.
+fn cells_come_to(alloc: Global, types: &str, rows: &str, line: &str) -> Result<bool, TypeFault> {
+    let (column, wanted) = cut(line, ": ");
+    let schema = schema_of(alloc, types)?;
+    let rows = rows_of(alloc, rows)?;
+    column_has(alloc, &schema, number_in(column) as usize, &rows, wanted)
 }
 
 /// A null list or struct has no cell below it, an empty list none, and a null in them one.
 #[test]
 fn cells_of_columns(rt: HostRuntime) {
     let alloc = rt.alloc();
-    for (i, case) in CELLS.iter().enumerate() {
-        demand(&rt, with_memory!(cells_come_to(alloc, case)), &i);
+    for &(types, rows, cells) in &CELLS {
+        for line in cells.lines() {
+            demand(
+                &rt,
+                with_memory!(cells_come_to(alloc, types, rows, line)),
+                &line,
+            );
+        }
     }
 }
 
 /// Columns, and the kinds of their types.
-static COLUMNS: [(&'static [Listed], usize, Option<Scalar>); 9] = [
-    (&KINDS, 0, None),
-    (&KINDS, 1, Some(Scalar::Boolean)),
-    (&KINDS, 8, None),
-    (&KINDS, 9, Some(Scalar::Int)),
-    (&KINDS, 10, Some(Scalar::Date)),
-    (&MAPS, 1, None),
-    (&MAPS, 2, Some(Scalar::Int)),
-    (&MAPS, 3, None),
-    (&MAPS, 4, Some(Scalar::Int)),
+static COLUMNS: [(&'static str, usize, Option<Scalar>); 9] = [
+    (KINDS, 0, None),
+    (KINDS, 1, Some(Scalar::Boolean)),
+    (KINDS, 8, None),
+    (KINDS, 9, Some(Scalar::Int)),
+    (KINDS, 10, Some(Scalar::Date)),
+    (MAPS, 1, None),
+    (MAPS, 2, Some(Scalar::Int)),
+    (MAPS, 3, None),
+    (MAPS, 4, Some(Scalar::Int)),
 ];
 
 /// The kind of a column's type, where that contains no other.
@@ -710,7 +497,7 @@ fn kind_at(schema: &Schema, column: usize) -> Option<Scalar>
 /// Whether the column has a type of this kind.
 fn has_kind(
     alloc: Global,
-    types: &[Listed],
+    types: &str,
     column: usize,
     kind: Option<Scalar>,
 ) -> Result<bool, TypeFault> {
@@ -731,9 +518,9 @@ fn is_copied(alloc: Global, row: &Row<'static>) -> Result<bool, AllocError> {
     Ok(owned(alloc, row)? == *row)
 }
 
-/// Whether a copy of each row of the tokens is the same.
-fn are_copied(alloc: Global, tokens: &[Token]) -> Result<bool, AllocError> {
-    let rows = rows_of(alloc, tokens)?;
+/// Whether a copy of each row of the text is the same.
+fn are_copied(alloc: Global, text: &str) -> Result<bool, AllocError> {
+    let rows = rows_of(alloc, text)?;
     for row in &rows {
         if !is_copied(alloc, row)? {
             return Ok(false);
@@ -744,10 +531,10 @@ fn are_copied(alloc: Global, tokens: &[Token]) -> Result<bool, AllocError> {
 
 fn copies_hold(alloc: Global) -> Result<bool, AllocError> {
     Ok(
-        are_copied(alloc, &STRUCTS_IN_LISTS_ROWS)?
-            && are_copied(alloc, &KINDS_ROW)?
-            && are_copied(alloc, &MAP_ROWS)?
-            && are_copied(alloc, &MAPS_IN_MAPS_ROWS)?,
+        are_copied(alloc, STRUCTS_IN_LISTS_ROWS)?
+            && are_copied(alloc, KINDS_ROW)?
+            && are_copied(alloc, MAP_ROWS)?
+            && are_copied(alloc, MAPS_IN_MAPS_ROWS)?,
     )
 }
 

@@ -3,69 +3,26 @@ use super::rows::{KINDS, KINDS_TEXT};
 use super::*;
 
 /// Texts of schemas, and the types of each.
-static TEXTS: [(&'static str, &'static [Listed]); 6] = [
-    ("struct<>", &[(12, &[], &[])]),
-    ("struct<n:bigint>", &[(12, &[1], &[b"n"]), (4, &[], &[])]),
+static TEXTS: [(&'static str, &'static str); 6] = [
+    ("struct<>", "12"),
+    ("struct<n:bigint>", "12:1:n 4"),
     (
         "struct<b:boolean,y:tinyint,s:smallint,i:int,l:bigint,t:string,v:binary,d:date>",
-        &[
-            (
-                12,
-                &[1, 2, 3, 4, 5, 6, 7, 8],
-                &[b"b", b"y", b"s", b"i", b"l", b"t", b"v", b"d"],
-            ),
-            (0, &[], &[]),
-            (1, &[], &[]),
-            (2, &[], &[]),
-            (3, &[], &[]),
-            (4, &[], &[]),
-            (7, &[], &[]),
-            (8, &[], &[]),
-            (15, &[], &[]),
-        ],
+        "12:1,2,3,4,5,6,7,8:b,y,s,i,l,t,v,d 0 1 2 3 4 7 8 15",
     ),
     (
         "struct<a:array<array<int>>,_B9:struct<c:date,d:array<struct<e:binary>>>>",
-        &[
-            (12, &[1, 4], &[b"a", b"_B9"]),
-            (10, &[2], &[]),
-            (10, &[3], &[]),
-            (3, &[], &[]),
-            (12, &[5, 6], &[b"c", b"d"]),
-            (15, &[], &[]),
-            (10, &[7], &[]),
-            (12, &[8], &[b"e"]),
-            (8, &[], &[]),
-        ],
+        "12:1,4:a,_B9 10:2 10:3 3 12:5,6:c,d 15 10:7 12:8:e 8",
     ),
-    (
-        "struct<m:map<string,int>>",
-        &[
-            (12, &[1], &[b"m"]),
-            (11, &[2, 3], &[]),
-            (7, &[], &[]),
-            (3, &[], &[]),
-        ],
-    ),
+    ("struct<m:map<string,int>>", "12:1:m 11:2,3 7 3"),
     (
         "struct<m:map<map<int,array<string>>,struct<n:map<date,binary>>>>",
-        &[
-            (12, &[1], &[b"m"]),
-            (11, &[2, 6], &[]),
-            (11, &[3, 4], &[]),
-            (3, &[], &[]),
-            (10, &[5], &[]),
-            (7, &[], &[]),
-            (12, &[7], &[b"n"]),
-            (11, &[8, 9], &[]),
-            (15, &[], &[]),
-            (8, &[], &[]),
-        ],
+        "12:1:m 11:2,6 11:3,4 3 10:5 7 12:7:n 11:8,9 15 8",
     ),
 ];
 
 /// A struct of a field whose name no text has.
-static DASHED: [Listed; 2] = [(12, &[1], &[b"a-b"]), (3, &[], &[])];
+const DASHED: &str = "12:1:a-b 3";
 
 /// Texts that are no schema's, and why.
 static NO_TEXTS: [(&'static str, TypeFault); 33] = [
@@ -138,7 +95,7 @@ fn wide(alloc: Global, fields: u32) -> Result<String, AllocError> {
 }
 
 /// Whether the text is read as the schema of the types.
-fn is_read_as(alloc: Global, text: &str, types: &[Listed]) -> Result<bool, TypeFault> {
+fn is_read_as(alloc: Global, text: &str, types: &str) -> Result<bool, TypeFault> {
     Ok(Schema::parse(alloc, text)? == schema_of(alloc, types)?)
 }
 
@@ -154,7 +111,7 @@ fn is_given_back(alloc: Global, text: &str) -> Result<bool, TypeFault> {
 }
 
 /// Whether the text is of its types, and is given back.
-fn is_text_of(alloc: Global, text: &str, types: &[Listed]) -> Result<bool, TypeFault> {
+fn is_text_of(alloc: Global, text: &str, types: &str) -> Result<bool, TypeFault> {
     Ok(is_read_as(alloc, text, types)? && is_given_back(alloc, text)?)
 }
 
@@ -167,13 +124,13 @@ fn texts(rt: HostRuntime) {
 }
 
 /// Whether the schema of the types has the text.
-fn types_show_as(alloc: Global, types: &[Listed], text: &str) -> Result<bool, TypeFault> {
+fn types_show_as(alloc: Global, types: &str, text: &str) -> Result<bool, TypeFault> {
     let schema = schema_of(alloc, types)?;
     is_shown_as(alloc, &schema, text)
 }
 
 /// Whether that of types which keep another field has it.
-fn kept_show_as(alloc: Global, types: &[Listed], text: &str) -> Result<bool, TypeFault> {
+fn kept_show_as(alloc: Global, types: &str, text: &str) -> Result<bool, TypeFault> {
     let schema = schema_that_keeps(alloc, types)?;
     is_shown_as(alloc, &schema, text)
 }
@@ -181,10 +138,10 @@ fn kept_show_as(alloc: Global, types: &[Listed], text: &str) -> Result<bool, Typ
 fn texts_hold(alloc: Global) -> Result<bool, TypeFault> {
     let lists = "struct<a:array<array<int>>>";
     Ok(
-        types_show_as(alloc, &LISTS, lists)?
-            && kept_show_as(alloc, &LISTS, lists)?
-            && types_show_as(alloc, &KINDS, KINDS_TEXT)?
-            && types_show_as(alloc, &DASHED, "struct<a-b:int>")?,
+        types_show_as(alloc, LISTS, lists)?
+            && kept_show_as(alloc, LISTS, lists)?
+            && types_show_as(alloc, KINDS, KINDS_TEXT)?
+            && types_show_as(alloc, DASHED, "struct<a-b:int>")?,
     )
 }
 

@@ -1,4 +1,4 @@
 use Rattle.orc_rle_tests.proofs.tests.places.place_of.Goals as goal
 
-pub mark_at-requires-clause-from : goal.mark_at-requires-clause-from
-mark_at-requires-clause-from g c = rw c.start.ensures (c.seek_laws.ensures.start c.args.sign c.args.bytes.now c.in_ok-values.values.items c.in_ok-values.ensures.found)
+pub sought_place-requires-clause-start : goal.sought_place-requires-clause-start
+sought_place-requires-clause-start g c = c.start_law.ensures c.args.sign c.args.bytes.now c.in_ok-values.values.items c.in_ok-values.ensures.found
