@@ -33,12 +33,13 @@ def block_end(text, at):
 
 
 class Source:
-    """A file of Rust: its text without comments, and where its names come from."""
+    """A file of Rust: its text with its comments, and without them at the same places, and where its names come from."""
 
     def __init__(self, path):
         self.path = path
         self.crate = path.split("/")[1]
-        self.text = rust_code(text_of(path))
+        self.whole = text_of(path)
+        self.text = rust_code(self.whole)
         self.names = {}
         for it in re.findall(r"ghost use [^;]*;", self.text):
             self.names.update(imports(it))
@@ -54,44 +55,61 @@ def rust_use(text):
     return {other or name: (crate, name) for name, other in names}
 
 
+class Clause:
+    """A clause of a contract: its word, its name, its text, and where in its file it begins and ends."""
+
+    def __init__(self, text, found):
+        self.word = found[1]
+        # (a clause may have no name, and then it is called by its word)
+        self.name = found[2] or found[1]
+        self.start = found.start(1)
+        self.end = block_end(text, found.end() - 1)
+        self.text = text[found.end() : self.end - 1]
+
+
 class Function:
-    """A function with its contract: where it stands, its signature, and its clauses by name."""
+    """A function with its contract: where it stands, its signature, and its clauses, one by one and by name."""
 
     def __init__(self, source, owner, name, at):
         self.source = source
         self.owner = owner
         self.name = name
-        self.signature, self.clauses, _ = contract(source.text, at)
+        self.at = at
+        self.signature, self.stated, _ = contract(source.text, at)
+        self.clauses = {}
+        for it in self.stated:
+            self.clauses[it.name] = self.clauses.get(it.name, "") + "\n" + it.text
 
 
 def contract(text, at):
-    """Returns of the function that begins at a place of a text: its signature, its clauses by name, and where its body begins."""
+    """Returns of the function that begins at a place of a text: its signature, its clauses, and where its body begins."""
     stop = re.compile(r"\b(?:ensures|requires)\b|[{;]").search(text, block_end(text, text.index("(", at)))
     if not stop:
-        return text[at:], {}, len(text)
-    clauses, place = {}, stop.start()
+        return text[at:], [], len(text)
+    clauses, place = [], stop.start()
     word = re.compile(r"\s*(ensures|requires)\s*(\w*)\s*\{")
     found = word.match(text, place)
     while found:
-        place = block_end(text, found.end() - 1)
-        # (a clause may have no name, and then it is called by its word)
-        name = found[2] or found[1]
-        clauses[name] = clauses.get(name, "") + "\n" + text[found.end() : place - 1]
+        clauses.append(Clause(text, found))
+        place = clauses[-1].end
         found = word.match(text, place)
     return text[at : stop.start()], clauses, place
 
 
 def functions(source):
-    """Yields the functions of a file that have clauses, each with the type or trait that it stands in and the head of that."""
+    """Yields the functions of a file that have clauses."""
+    return (it for it in all_functions(source) if it.clauses)
+
+
+def all_functions(source):
+    """Yields the functions of a file, each with the type or trait that it stands in and the head of that."""
     owners = []
     for it in re.finditer(r"^(?:pub(?:\(crate\))? )?(?:impl|trait)\b[^{;]*\{", source.text, re.M):
         head = it[0].rstrip("{").strip()
         owners.append((it.start(), block_end(source.text, it.end() - 1), owner_name(head), head))
     for it in re.finditer(r"\bfn (\w+)\b", source.text):
         owner = [own[2:] for own in owners if own[0] <= it.start() < own[1]]
-        found = Function(source, owner[-1] if owner else ("", ""), it[1], it.start())
-        if found.clauses:
-            yield found
+        yield Function(source, owner[-1] if owner else ("", ""), it[1], it.start())
 
 
 def impls_of(trait, text):

@@ -1,0 +1,94 @@
+"""Wrong bodies: which function each changes, and which of its clauses refused it."""
+import os
+import re
+
+from read_definitions.texts import ROOT, text_of
+
+# the goals that are clauses of the function itself (in a ring of functions a goal begins with its function's name)
+RETURNS = re.compile(r"^(?:\w+-)?returns\b")
+
+
+class Edit:
+    """A wrong body: its name, the function that it changes, the clause that refused it, and of which `impl` it is."""
+
+    def __init__(self, crate, file, goal):
+        function, _, name = file.removesuffix(".edit").partition(".")
+        self.crate = crate
+        self.file = file
+        self.function = function
+        self.name = name
+        # (what `must-fail/` has is tried by each run, and no record says which goal refused it)
+        self.is_of_each_run = goal is None
+        self.path, _, self.goal = (goal or "").partition(": ")
+        self.clause = None
+        self.of = ""
+
+    def printed(self):
+        of = " of a reference" if self.of == "RefMut" else f" of `{self.of}`" if self.of else ""
+        return f"`{self.name}`{of}"
+
+    def folder(self):
+        return f"crates/{self.crate}/{'must-fail' if self.is_of_each_run else 'wrong-bodies'}"
+
+
+def edits_of(crate):
+    """Returns a crate's wrong bodies: those that its record says to be refused, and those that each run tries."""
+    record = f"crates/{crate}/wrong-bodies/tried"
+    lines = text_of(record).splitlines()[3:] if os.path.isfile(f"{ROOT}/{record}") else []
+    found = [Edit(crate, *it.split(" ", 2)[1:]) for it in lines if it.count(" ") > 1]
+    found = [it for it in found if os.path.isfile(f"{ROOT}/{it.folder()}/{it.file}")]
+    folder = f"{ROOT}/crates/{crate}/must-fail"
+    names = sorted(os.listdir(folder)) if os.path.isdir(folder) else []
+    return found + [Edit(crate, it, None) for it in names if it.endswith(".edit")]
+
+
+def place_edits(calls, edits):
+    """Returns for each call the wrong bodies that it refuses, and those whose function isn't found."""
+    placed, lost = {}, []
+    for it in edits:
+        changed = changed_by(it, calls)
+        if changed:
+            placed.setdefault(promising(it, changed, calls), []).append(it)
+        else:
+            lost.append(it)
+    return placed, lost
+
+
+def changed_by(edit, calls):
+    """Returns the function that an edit changes, and nothing where none is found."""
+    modules, name = edit.path.split("::")[1:-1], edit.path.rpartition("::")[2]
+    named = [it for it in calls if it.name == name]
+    # (a method is called by its type's module, wherever the `impl` stands)
+    found = [it for it in named if it.parts and "".join(it.parts) == (modules or [""])[-1]]
+    found = found or [it for it in named if not it.parts and list(it.module) == modules]
+    return found[0] if found else at_place(edit, calls)
+
+
+def at_place(edit, calls):
+    """Returns the function in whose text stands what an edit takes away."""
+    text = text_of(f"{edit.folder()}/{edit.file}")
+    path = f"crates/{edit.crate}/" + re.search(r"^file: (.*)$", text, re.M)[1].strip()
+    old = re.search(r"^old: (.*)$", text, re.M)[1]
+    at = text_of(path).find(old) if os.path.isfile(f"{ROOT}/{path}") else -1
+    found = [it for it in calls if it.function.source.path == path and it.function.at < at]
+    return max(found, key=lambda it: it.function.at) if found else None
+
+
+def promising(edit, changed, calls):
+    """Returns the function whose clause refused an edit: the one that it changes, or the trait's of which this is an `impl`."""
+    named = re.search(r"-clause-(\w+)$", edit.goal) if RETURNS.search(edit.goal) else None
+    edit.clause = named[1] if named else None
+    for it in [changed, *of_trait(changed, calls)]:
+        own = it.ensured()
+        # (where there is one clause the goal doesn't name it)
+        if not named and len(own) == 1 and RETURNS.search(edit.goal):
+            edit.clause = own[0]
+        if edit.clause in own or (own and not edit.clause):
+            edit.of = "" if it is changed else changed.parts[0]
+            return it
+    return changed
+
+
+def of_trait(changed, calls):
+    """Returns the function of the trait of which a function is an `impl`'s, in a list, where the crate has that trait."""
+    return [it for it in calls if len(changed.parts) > 1 and it.parts == changed.parts[1:2] and it.name == changed.name]
