@@ -103,8 +103,8 @@ pub fn orders()
     ensures honest { (inputs : List (List ℕ)) (tail : Tail) (out : List ℕ) (parts : List (List Cell))
         → IsMerge inputs tail out
         → AreHonestFiles inputs parts → Honest tail (rows.joined parts) }
-    // Then its file statistics are those of all rows, less the parts of children that a stripe with
-    // a value doesn't tell.
+    // Then its file statistics are those of all rows, less a sum where the total of some stripe
+    // doesn't fit 64 bits, and less the parts of children that a stripe with a value doesn't tell.
     ensures whole { (inputs : List (List ℕ)) (tail : Tail) (out : List ℕ) (parts : List (List Cell))
         → IsMerge inputs tail out → AreHonestFiles inputs parts
         → HasWholeStats tail (rows.joined parts) }

@@ -84,7 +84,8 @@ pub fn merge_theorem()
         → (others_are_the_files_in_some_order : IsPermutation files others)
         → (its_tail : Tail) × (other : List ℕ) × IsMerge others its_tail other }
     // Where the statistics of the files' stripes are those of their rows, or know less of children,
-    // so are those of the merged file's stripes, and those of the whole file are those of all rows.
+    // so are those of the merged file's stripes, and those of the whole file are those of all rows,
+    // as far as the stripes tell: without a sum where some stripe's total doesn't fit 64 bits.
     ensures statistics { (files : List (List ℕ)) (tail : Tail) (out : List ℕ) (parts : List (List Cell))
         → (it_is_their_merge : IsMerge files tail out)
         → (each_file_has_rows_and_their_statistics : AreHonestFiles files parts)

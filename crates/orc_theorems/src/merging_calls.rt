@@ -125,7 +125,8 @@ pub fn join_in_groupings(
         → HaveRows (first.now ∷ second.now ∷ third.now ∷ []) parts
         → FileIs done.0.bytes.items done.0.tail (rows.joined parts)) }
     // Where the statistics of the files' stripes are those of their rows, or know less of children,
-    // so are its stripes', and those of the whole file are those of all rows.
+    // so are its stripes', and those of the whole file are those of all rows, as far as the stripes
+    // tell: without a sum where some stripe's total doesn't fit 64 bits.
     ensures statistics { IfOk result (λ done. (parts : List (List Cell))
         → AreHonestFiles (first.now ∷ second.now ∷ third.now ∷ []) parts
         → Honest done.0.tail (rows.joined parts) × HasWholeStats done.0.tail (rows.joined parts)) }

@@ -42,7 +42,8 @@ pub fn written_files_read_back()
         → (finish_wrote : IsWhole options schema tail first told rows)
         → (rows_found : FileIs finish_wrote.bytes opened found)
         → (opened ≡ tail) × (found ≡ rows) }
-    // Its statistics are those of the rows, of each stripe and of the whole file.
+    // Its statistics are those of the rows, of each stripe and of the whole file; the file's lack a
+    // sum where the total of some stripe doesn't fit 64 bits.
     ensures statistics { (options : Options) (schema : Shape) (tail : Tail) (first told : Option (List ℕ))
         (rows : List Cell)
         → (finish_wrote : IsWhole options schema tail first told rows)
