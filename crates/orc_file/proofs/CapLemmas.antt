@@ -106,6 +106,10 @@ pub all_within : (ss : List StripeInfo) → stripes_length ss ≤ most_bytes →
 all_within [] few = tt
 all_within (s ∷ ss) few = (omega (arith, few), all_within ss (omega (arith, few)))
 
+-- without a cap none is above it
+pub none_above : (cap : ℕ) (ss : List StripeInfo) → cap ≡ no_cap → stripes_length ss ≤ most_bytes → AllWithin cap ss
+none_above cap ss none few = subst (λ (n : ℕ). AllWithin n ss) (sym none) (all_within ss few)
+
 pub refused_within : (cap : ℕ) (s : Shape) (bytes : List ℕ) (n : ℕ) (infos : List StripeInfo) (fault : FileFault) → AllWithin cap infos
     → FirstCapped cap s bytes n infos fault → FirstRefused s bytes n infos fault
 refused_within cap s bytes n [] fault all h = h

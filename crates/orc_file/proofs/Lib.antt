@@ -26,6 +26,7 @@ pub mod ChildrenRoom
 pub mod WrittenBits
 pub mod WrittenLaws
 pub mod OneWritten
+pub mod LimitLemmas
 pub mod TextLengths
 pub mod ColumnTexts
 pub mod ShortFile

@@ -52,7 +52,7 @@ first_some n c [] h = h.0
 first_some n c (d ∷ ds) h = let e = h.0 in let l = filled_some n d ds h.1 in omega (arith, e, l)
 
 -- rows cut at one place
-cut_at : (a b x y : List Cell) → length a ≡ length b → a ++ x ≡ b ++ y → (a ≡ b) × (x ≡ y)
+pub cut_at : (a b x y : List Cell) → length a ≡ length b → a ++ x ≡ b ++ y → (a ≡ b) × (x ≡ y)
 cut_at a b x y l e = (
   sym (take-append_seam a x) ∙ ap (take (length a)) e ∙ ap (λ (k : ℕ). take k (b ++ y)) l ∙ take-append_seam b y,
   sym (drop-append_seam a x) ∙ ap (drop (length a)) e ∙ ap (λ (k : ℕ). drop k (b ++ y)) l ∙ drop-append_seam b y,

@@ -6,6 +6,8 @@ pub mod Tails
 pub mod Images
 pub mod FileRows
 pub mod Caps
+pub mod RowFaults
+pub mod RowLimits
 pub mod Honest
 pub mod Counts
 pub mod Counting

@@ -1,5 +1,5 @@
 //! A stripe's bytes, read in one call, the view of them, and their rows.
-ghost use Rattle.std.specs.Prelude.{◌≡◌, ◌≢◌, ◌<◌, ◌≤◌, ◌^◌, ◌⊎◌, length, false, Err, OnOk, IfOk, IfErr, IfSome, IsErrOf, MatchResult};
+ghost use Rattle.std.specs.Prelude.{◌≡◌, ◌≢◌, ◌<◌, ◌≤◌, ◌^◌, ◌⊎◌, length, false, Err, OnOk, IfOk, IfErr, IfSome, IsErrOf, MatchResult, vec_capacity};
 ghost use Rattle.orc_wire.specs.declared.stripe_footer.StripeFooter.{StripeFooter};
 ghost use Rattle.std.specs.Bool.{OnTrue, OnFalse};
 ghost use Rattle.orc_column_reader.specs.Stripe.{HasFooter, IsStripe};
@@ -48,6 +48,8 @@ pub fn load_stripe<S: Source>(
     // stripe.
     ensures bytes { OnOk result (IfSome (S.told source.old)
         (λ bytes. into.new.items ≡ stripe_bytes (stripe_at tail.now.stripes number) bytes)) }
+    // Over any source the vector has then as many bytes as the stripe.
+    ensures length { OnOk result (length into.new.items ≡ stripe_length (stripe_at tail.now.stripes number)) }
     // After each answer the source tells what it told, and has the length that it had.
     ensures told { S.told source.new ≡ S.told source.old }
     ensures size { S.size source.new ≡ S.size source.old }
@@ -59,6 +61,9 @@ pub fn load_stripe<S: Source>(
     ensures kept { OnOk result (S.failures source.new ≡ S.failures source.old) }
     ensures failed { IsErrOf result SourceFailed → S.failures source.old < S.failures source.new }
     ensures memory { IsErrOf result OutOfMemory → S.failures source.new ≡ S.failures source.old }
+    // Memory is refused only where the vector's capacity was below the stripe's length.
+    ensures room { IsErrOf result OutOfMemory
+        → vec_capacity into.old < stripe_length (stripe_at tail.now.stripes number) }
 {
     let stripe = tail.stripes.as_slice()[number];
     let len = stripe_length(stripe);
@@ -152,6 +157,9 @@ impl<S: Source> OrcFile<S> {
         // stripe.
         ensures bytes { OnOk result (IfSome (S.told self.old.source)
             (λ bytes. into.new.items ≡ stripe_bytes (stripe_at self.old.tail.stripes number) bytes)) }
+        // Over any source the vector has then as many bytes as the stripe.
+        ensures length { OnOk result
+            (length into.new.items ≡ stripe_length (stripe_at self.old.tail.stripes number)) }
         // After each answer the file has the tail and the cap that it had, and its source tells
         // what it told and has the length that it had.
         ensures tail { self.new.tail ≡ self.old.tail }
@@ -177,6 +185,9 @@ impl<S: Source> OrcFile<S> {
         ensures kept { OnOk result (S.failures self.new.source ≡ S.failures self.old.source) }
         ensures failed { IsErrOf result SourceFailed → S.failures self.old.source < S.failures self.new.source }
         ensures memory { IsErrOf result OutOfMemory → S.failures self.new.source ≡ S.failures self.old.source }
+        // Memory is refused only where the vector's capacity was below the stripe's length.
+        ensures room { IsErrOf result OutOfMemory
+            → vec_capacity into.old < stripe_length (stripe_at self.old.tail.stripes number) }
     {
         if self.is_above_cap(number) {
             return Err(FileFault::Limit);

@@ -8,7 +8,8 @@ ghost use Rattle.orc_column_reader.specs.declared.fault.StripeFault.TheVariants 
 ghost use Rattle.orc_file.specs.Stripes.{stripe_at, stripe_length};
 ghost use Rattle.orc_file.specs.Tails.{IsTail, ReadFault};
 ghost use Rattle.orc_file.specs.FileRows.{stripe_bytes, IsNoStripe, HasMore, FileIs};
-ghost use Rattle.orc_file.specs.Caps.{AllWithin, CappedRefused, FirstCapped};
+ghost use Rattle.orc_file.specs.Caps.{no_cap, AllWithin, CappedRefused, FirstCapped};
+ghost use Rattle.orc_file.specs.RowFaults.{IsOfRows};
 ghost use Rattle.orc_file.specs.declared.fault.FileFault.TheVariants.{Stripe, SourceFailed, OutOfMemory, Limit};
 
 use crate::fault::FileFault;
@@ -77,6 +78,9 @@ impl<S: Source> OrcFile<S> {
             (λ all. CappedRefused self.old.cap self.old.tail.schema all number
             (stripe_at self.old.tail.stripes number) fault)) }
         ensures limit { IsErrOf result Limit → self.old.cap < stripe_length (stripe_at self.old.tail.stripes number) }
+        ensures unfailed { IfErr result (λ fault. (fault ≡ SourceFailed)
+            ⊎ (IsOfRows self.old.cap self.old.tail fault
+            × (S.failures self.new.source ≡ S.failures self.old.source))) }
         ensures kept { OnOk result (S.failures self.new.source ≡ S.failures self.old.source) }
         ensures failed { IsErrOf result SourceFailed → S.failures self.old.source < S.failures self.new.source }
         ensures memory { IsErrOf result OutOfMemory → S.failures self.new.source ≡ S.failures self.old.source }
@@ -120,6 +124,13 @@ impl<S: Source> OrcFile<S> {
         // Limit comes only where a stripe is longer than the cap, also where the source tells
         // nothing.
         ensures limit { IsErrOf result Limit → AllWithin self.old.cap self.old.tail.stripes → ⊥ }
+        // Over any source a refusal is SourceFailed, or no read failed and it is want of memory,
+        // Limit for a stripe above the cap, or a stripe's, for some bytes of its length.
+        ensures unfailed { IfErr result (λ fault. (fault ≡ SourceFailed)
+            ⊎ (IsOfRows self.old.cap self.old.tail fault
+            × (S.failures self.new.source ≡ S.failures self.old.source))) }
+        // With the greatest cap, as `open` gives it, no stripe is longer than the cap.
+        ensures uncapped { self.old.cap ≡ no_cap → AllWithin self.old.cap self.old.tail.stripes }
         // The source's count of failures rises with SourceFailed, and stands where rows are
         // answered or memory is refused.
         ensures kept { OnOk result (S.failures self.new.source ≡ S.failures self.old.source) }

@@ -98,6 +98,7 @@ pub(crate) fn end_file<W: Sink>(
     ensures write_failed { IsErrOf result WriteFailed → W.failures out.old < W.failures out.new }
     ensures memory { IsErrOf result OutOfMemory → W.failures out.new ≡ W.failures out.old }
     ensures no_failure { OnOk result (W.failures out.new ≡ W.failures out.old) }
+    ensures unfailed { IfErr result (λ e. (e ≡ WriteFailed) ⊎ (W.failures out.new ≡ W.failures out.old)) }
 {
     // for its contract alone: the types are those of a schema
     let _types = schema.types();

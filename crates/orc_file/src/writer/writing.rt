@@ -14,6 +14,7 @@ ghost use Rattle.orc_io.specs.Devices.{appended};
 ghost use Rattle.orc_file.specs.Stripes.{stripe_length, stripes_length, stripes_rows, most_stripes, most_rows, most_bytes};
 ghost use Rattle.orc_file.specs.Counts.{are_laid_with_few_rows, are_few, are_all_stats, with_row, PassesLimit};
 ghost use Rattle.orc_file.specs.Writing.{HasTaken, HasKept, HasPushed, HasFilled, IsCutOff, IsWhole, PassesBytes};
+ghost use Rattle.orc_file.specs.RowLimits.{PassesByRows};
 ghost use Rattle.orc_file.specs.Progress.{progress};
 ghost use Rattle.orc_file.specs.declared.fault.FileFault.TheVariants as fault;
 
@@ -156,6 +157,8 @@ impl<W: Sink> Writer<W> {
         ensures write_failed { IsErrOf result fault.WriteFailed → W.failures self.old.out < W.failures self.new.out }
         ensures memory { IsErrOf result fault.OutOfMemory → W.failures self.new.out ≡ W.failures self.old.out }
         ensures no_failure { OnOk result (W.failures self.new.out ≡ W.failures self.old.out) }
+        ensures unfailed { IfErr result
+            (λ e. (e ≡ fault.WriteFailed) ⊎ (W.failures self.new.out ≡ W.failures self.old.out)) }
     {
         self.failed = true;
         match write_all(&mut self.out, &stripe.bytes) {
@@ -206,6 +209,8 @@ impl<W: Sink> Writer<W> {
         ensures write_failed { IsErrOf result fault.WriteFailed → W.failures self.old.out < W.failures self.new.out }
         ensures memory { IsErrOf result fault.OutOfMemory → W.failures self.new.out ≡ W.failures self.old.out }
         ensures no_failure { OnOk result (W.failures self.new.out ≡ W.failures self.old.out) }
+        ensures unfailed { IfErr result
+            (λ e. (e ≡ fault.WriteFailed) ⊎ (W.failures self.new.out ≡ W.failures self.old.out)) }
     {
         match self.stripe_of() {
             Ok(stripe) => self.send(stripe),
@@ -316,11 +321,20 @@ impl<W: Sink> Writer<W> {
         // passed.
         ensures only_limit { IsErrOf result fault.Limit → self.new.failed ≡ false
             → PassesLimit self.old.schema self.old.infos.items self.old.total self.old.counts.items (view row.entry) }
+        // By its counts the writer would pass one of these limits exactly where it would by the rows
+        // that were pushed.
+        ensures counted { (first : Option (List ℕ)) (rows : List Cell)
+            → HasPushed (progress W.told self.old) first rows
+            → (PassesLimit self.old.schema self.old.infos.items self.old.total self.old.counts.items (view row.entry)
+            ↔ PassesByRows self.old.options self.old.schema rows (view row.entry)) }
         // A Limit after which it has failed comes only where the stripe that ends with this row
         // would pass the limit of the stripes' bytes.
         ensures long { IsErrOf result fault.Limit → self.new.failed ≡ true
             → PassesBytes self.old.options self.old.schema self.old.infos.items (views self.old.rows.items
             ++ view row.entry ∷ []) }
+        // A Limit after which it has failed comes only with a row that fills its stripe.
+        ensures full { IsErrOf result fault.Limit → self.new.failed ≡ true
+            → self.old.options.stripe_rows ≤ length self.old.rows.items + 1 }
         // A refusal is Failed, RowShape, Limit, WriteFailed or want of memory.
         ensures refused { IfErr result (λ e. (e ≡ fault.Failed)
             ⊎ ((e ≡ fault.RowShape) ⊎ ((e ≡ fault.Limit) ⊎ ((e ≡ fault.WriteFailed) ⊎ (e ≡ fault.OutOfMemory))))) }
@@ -352,6 +366,9 @@ impl<W: Sink> Writer<W> {
         ensures write_failed { IsErrOf result fault.WriteFailed → W.failures self.old.out < W.failures self.new.out }
         ensures memory { IsErrOf result fault.OutOfMemory → W.failures self.new.out ≡ W.failures self.old.out }
         ensures no_failure { OnOk result (W.failures self.new.out ≡ W.failures self.old.out) }
+        // With every other refusal than WriteFailed the output's count of failures stands.
+        ensures unfailed { IfErr result
+            (λ e. (e ≡ fault.WriteFailed) ⊎ (W.failures self.new.out ≡ W.failures self.old.out)) }
     {
         self.admit(&row)?;
         self.keep(row)?;
@@ -395,11 +412,20 @@ impl<W: Sink> Writer<W> {
         // passed.
         ensures only_limit { IsErrOf result fault.Limit → self.new.failed ≡ false
             → PassesLimit self.old.schema self.old.infos.items self.old.total self.old.counts.items (view row.now) }
+        // By its counts the writer would pass one of these limits exactly where it would by the rows
+        // that were pushed.
+        ensures counted { (first : Option (List ℕ)) (rows : List Cell)
+            → HasPushed (progress W.told self.old) first rows
+            → (PassesLimit self.old.schema self.old.infos.items self.old.total self.old.counts.items (view row.now)
+            ↔ PassesByRows self.old.options self.old.schema rows (view row.now)) }
         // A Limit after which it has failed comes only where the stripe that ends with this row
         // would pass the limit of the stripes' bytes.
         ensures long { IsErrOf result fault.Limit → self.new.failed ≡ true
             → PassesBytes self.old.options self.old.schema self.old.infos.items (views self.old.rows.items
             ++ view row.now ∷ []) }
+        // A Limit after which it has failed comes only with a row that fills its stripe.
+        ensures full { IsErrOf result fault.Limit → self.new.failed ≡ true
+            → self.old.options.stripe_rows ≤ length self.old.rows.items + 1 }
         // A refusal is Failed, RowShape, Limit, WriteFailed or want of memory.
         ensures refused { IfErr result (λ e. (e ≡ fault.Failed)
             ⊎ ((e ≡ fault.RowShape) ⊎ ((e ≡ fault.Limit) ⊎ ((e ≡ fault.WriteFailed) ⊎ (e ≡ fault.OutOfMemory))))) }
@@ -431,6 +457,9 @@ impl<W: Sink> Writer<W> {
         ensures write_failed { IsErrOf result fault.WriteFailed → W.failures self.old.out < W.failures self.new.out }
         ensures memory { IsErrOf result fault.OutOfMemory → W.failures self.new.out ≡ W.failures self.old.out }
         ensures no_failure { OnOk result (W.failures self.new.out ≡ W.failures self.old.out) }
+        // With every other refusal than WriteFailed the output's count of failures stands.
+        ensures unfailed { IfErr result
+            (λ e. (e ≡ fault.WriteFailed) ⊎ (W.failures self.new.out ≡ W.failures self.old.out)) }
     {
         self.admit(row)?;
         let Ok(copy) = owned(self.alloc, row) else {
@@ -475,6 +504,8 @@ impl<W: Sink> Writer<W> {
         ensures write_failed { IsErrOf result fault.WriteFailed → W.failures self.old.out < W.failures self.new.out }
         ensures memory { IsErrOf result fault.OutOfMemory → W.failures self.new.out ≡ W.failures self.old.out }
         ensures no_failure { OnOk result (W.failures self.new.out ≡ W.failures self.old.out) }
+        ensures unfailed { IfErr result
+            (λ e. (e ≡ fault.WriteFailed) ⊎ (W.failures self.new.out ≡ W.failures self.old.out)) }
     {
         if self.rows.is_empty() {
             return Ok(());
@@ -518,6 +549,9 @@ impl<W: Sink> Writer<W> {
         ensures write_failed { IfErr result (λ e. e.0 ≡ fault.WriteFailed → W.failures self.out < W.failures e.1) }
         ensures memory { IfErr result (λ e. e.0 ≡ fault.OutOfMemory → W.failures e.1 ≡ W.failures self.out) }
         ensures no_failure { IfOk result (λ done. W.failures done.1 ≡ W.failures self.out) }
+        // With every other refusal than WriteFailed the output's count of failures stands.
+        ensures unfailed { IfErr result
+            (λ e. (e.0 ≡ fault.WriteFailed) ⊎ (W.failures e.1 ≡ W.failures self.out)) }
     {
         let mut writer = self;
         if writer.failed {

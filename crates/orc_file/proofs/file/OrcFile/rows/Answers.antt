@@ -1,8 +1,8 @@
-use Rattle.std.proofs.Common.{◌≡◌, ◌∙◌, sym, ap, Err, arith}
+use Rattle.std.proofs.Common.{◌≡◌, ◌∙◌, sym, ap, Err, arith, inl, inr}
 use Rattle.std.proofs.lemmas.Result.{err_from_is_err_and}
 use Rattle.orc_types.specs.Views.{views}
 use Rattle.orc_file.proofs.RowFronts.{front_next, front_found, front_only, front_fault, fault_only, within_next, within_all}
-use Rattle.orc_file.proofs.CapLemmas.{within_at}
+use Rattle.orc_file.proofs.CapLemmas.{within_at, none_above}
 use Rattle.orc_file.specs.declared.fault.FileFault.TheVariants.{Limit}
 use Rattle.orc_file.proofs.file.OrcFile.rows.Goals as goal
 
@@ -79,3 +79,16 @@ returns-in_err-read_stripe-clause-limit g c = λ is all.
     let lt = c.loop-number-test.true in
     let above = rw (inv.tail, inv.cap) at (c.in_err-read_stripe.ensures.limit (ap Err (sym p.2 ∙ why))) in
     omega (arith, above, within_at c.args.self.now.cap c.args.self.now.tail.stripes c.loop-number.number (rw end at lt) all)
+
+pub returns-clause-uncapped : goal.returns-clause-uncapped
+returns-clause-uncapped g c = λ none. none_above c.args.self.now.cap c.args.self.now.tail.stripes none c.args.self.now.bytes
+
+pub returns-in_err-read_stripe-clause-uncapped : goal.returns-in_err-read_stripe-clause-uncapped
+returns-in_err-read_stripe-clause-uncapped g c = λ none. none_above c.args.self.now.cap c.args.self.now.tail.stripes none c.args.self.now.bytes
+
+pub returns-in_err-read_stripe-clause-unfailed : goal.returns-in_err-read_stripe-clause-unfailed
+returns-in_err-read_stripe-clause-unfailed g c =
+    let p = err_from_is_err_and c.from_residual.result c.from_residual.ensures.1 in
+    let inv = c.loop-number.invariant in
+    let e = rw (inv.tail, inv.cap) at c.in_err-read_stripe.ensures.unfailed in
+    rw (p.1, p.2) (elim e [ inl source ↦ inl source | inr h ↦ inr (h.0, h.1 ∙ inv.kept) ])

@@ -3,6 +3,7 @@ use Rattle.std.proofs.lemmas.List.{length-map}
 use Rattle.orc_stripe_writer.specs.declared.options.Options.{Options}
 use Rattle.orc_types.specs.Views.{view, views}
 use Rattle.orc_file.proofs.Spread.{HasKept}
+use Rattle.orc_file.proofs.LimitLemmas.{same_limits}
 use Rattle.orc_file.proofs.PushLemmas.{failed_only, one_more, pushed_full}
 use Rattle.orc_file.proofs.WriterLemmas.{cut_row, kept_row, within_of}
 use Rattle.orc_file.proofs.writer.Writer.push_owned.Goals as goal
@@ -75,3 +76,39 @@ returns-then-len-stripe_rows-clause-cut g c = λ first rows h ready failed.
     let room : length k.rows.items ≤ k.options.stripe_rows = omega (arith, few, l, more, size) in
     let cut = c.close.ensures.cut first all room kept in
     failed_only c.close.result c.close.new.self.failed (rw (c.keep.ensures.same.0, c.keep.ensures.same.1, c.admit.ensures.same.0, c.admit.ensures.same.1) at cut) c.close.ensures.ok failed
+
+pub returns-then-len-stripe_rows-clause-full : goal.returns-then-len-stripe_rows-clause-full
+returns-then-len-stripe_rows-clause-full g c = λ limit failed.
+    let w = c.args.self.now in
+    let k = c.keep.new.self in
+    let kept_is : views k.rows.items ≡ views w.rows.items ++ view c.args.row ∷ [] = c.in_ok-keep.ensures.kept ∙ ap (λ v. views v.items ++ view c.args.row ∷ []) c.admit.ensures.stays.4 in
+    let more = one_more w.rows.items k.rows.items (view c.args.row) kept_is in
+    let size = ap (λ (o : Options). o.stripe_rows) (c.keep.ensures.same.1 ∙ c.admit.ensures.same.1) in
+    omega (arith, more, size, c.len.ensures, c.stripe_rows.ensures, k.rows.ok.0)
+
+pub returns-then-len-stripe_rows-clause-unfailed : goal.returns-then-len-stripe_rows-clause-unfailed
+returns-then-len-stripe_rows-clause-unfailed g c = rw (c.keep.ensures.stands.0, c.admit.ensures.stays.0) at c.close.ensures.unfailed
+
+pub returns-in_err-admit-clause-counted : goal.returns-in_err-admit-clause-counted
+returns-in_err-admit-clause-counted g c = λ first rows h.
+    let w = c.args.self.now in
+    let l = length-map w.rows.items view in
+    same_limits w.options w.schema first _ w.written w.infos.items w.stats.items (views w.rows.items) rows w.total w.counts.items (view c.args.row) h (omega (arith, l, w.total_is)) w.wide w.counted
+
+pub returns-in_err-keep-clause-counted : goal.returns-in_err-keep-clause-counted
+returns-in_err-keep-clause-counted g c = λ first rows h.
+    let w = c.args.self.now in
+    let l = length-map w.rows.items view in
+    same_limits w.options w.schema first _ w.written w.infos.items w.stats.items (views w.rows.items) rows w.total w.counts.items (view c.args.row) h (omega (arith, l, w.total_is)) w.wide w.counted
+
+pub returns-then-len-stripe_rows-clause-counted : goal.returns-then-len-stripe_rows-clause-counted
+returns-then-len-stripe_rows-clause-counted g c = λ first rows h.
+    let w = c.args.self.now in
+    let l = length-map w.rows.items view in
+    same_limits w.options w.schema first _ w.written w.infos.items w.stats.items (views w.rows.items) rows w.total w.counts.items (view c.args.row) h (omega (arith, l, w.total_is)) w.wide w.counted
+
+pub returns-clause-counted : goal.returns-clause-counted
+returns-clause-counted g c = λ first rows h.
+    let w = c.args.self.now in
+    let l = length-map w.rows.items view in
+    same_limits w.options w.schema first _ w.written w.infos.items w.stats.items (views w.rows.items) rows w.total w.counts.items (view c.args.row) h (omega (arith, l, w.total_is)) w.wide w.counted
