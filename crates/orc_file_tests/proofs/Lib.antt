@@ -1,1 +1,2 @@
 pub mod ColumnKinds
+pub mod ToldBytes

@@ -1,5 +1,6 @@
-//! Tests of `orc_file` by its public calls that read, and of the devices below it: sources and sinks, tails, statistics,
-//! stripes loaded, and the rows of files. They stand apart from both, so that neither is proved again with them.
+//! Tests of `orc_file` by its public calls, and of the devices below it: sources and sinks, tails, statistics, stripes
+//! loaded, the rows of files, and files that are written. They stand apart from both, so that neither is proved again
+//! with them.
 #![tactic(auto)]
 
 #[cfg(test)]
@@ -11,8 +12,12 @@ mod devices;
 #[cfg(test)]
 mod loads;
 #[cfg(test)]
+mod read_back;
+#[cfg(test)]
 mod rows_of_files;
 #[cfg(test)]
 mod statistics;
 #[cfg(test)]
 mod tails;
+#[cfg(test)]
+mod writing;

@@ -1,8 +1,6 @@
-//! Tests of `orc_json` by its public calls: rows of every kind as JSON text. They stand apart from it, so that
-//! it is not proved again with them.
+//! Tests of `orc_json` and of `orc_json_reader` by their public calls: rows of every kind as JSON text, and rows that
+//! texts of JSON spell. They stand apart from both, so that neither is proved again with them.
 #![tactic(auto)]
 
-#[cfg(test)]
-mod maps;
 #[cfg(test)]
 mod tests;
