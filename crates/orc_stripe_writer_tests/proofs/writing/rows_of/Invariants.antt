@@ -1,6 +1,0 @@
-use Rattle.orc_types.specs.Fits.{RowsFit}
-use Rattle.orc_types.specs.Views.{views}
-use Rattle.orc_stripe_writer_tests.proofs.writing.rows_of.Given as goal
-
-abbrev pub invariant-loop-line : goal.invariant-loop-line
-invariant-loop-line l = RowsFit l.schema (views l.rows.items)
