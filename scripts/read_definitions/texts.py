@@ -15,7 +15,7 @@ def text_of(path):
 
 def crates():
     """Returns the names of the repository's crates."""
-    return re.findall(r"^(\w+):", text_of("crates.txt"), re.M)
+    return re.findall(r"^(\w+)[^:#\n]*:", text_of("crates.txt"), re.M)
 
 
 def imports(line):
