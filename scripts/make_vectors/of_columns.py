@@ -11,6 +11,7 @@ from .runs import (
     direct,
     short_repeat,
     v1_literals,
+    v1_run,
 )
 from .stripe import DATA, DICTIONARY_DATA, LENGTH, PRESENT, Stripe
 from .vector import Vector
@@ -85,6 +86,17 @@ def of_bytes():
                 [Stripe([{"a": n, "b": -n} for n in range(4)], encodings={1: 0, 2: 2})],
             ),
         ),
+        good(
+            "bytes/many-runs",
+            "byte-runs",
+            "a run of 130 and two bytes by themselves, twenty times: `7f 2a fe 01 02`",
+            column(
+                "b",
+                "tinyint",
+                ([42] * 130 + [1, 2]) * 20,
+                data=(byte_repeat(42, 130) + byte_literals([1, 2])) * 20,
+            ),
+        ),
         refused(
             "bytes/run-cut",
             "byte-runs run-short",
@@ -105,6 +117,34 @@ def of_bytes():
             "behind all values a byte that is no run",
             column("b", "tinyint", [0] * 100, data=bytes.fromhex("610000")),
             "3 Run(1, DATA): run 1 Short at 2",
+        ),
+        refused(
+            "bytes/literals-left-over",
+            "byte-runs run-count",
+            "behind all values the control of 128 bytes, and none of them",
+            column("b", "tinyint", [9] * 3, data=bytes.fromhex("000980")),
+            "3 Run(1, DATA): run 1 Short at 2",
+        ),
+        refused(
+            "bytes/run-past-the-rows",
+            "byte-runs run-count",
+            "three rows, and a run of three behind a byte by itself",
+            column("b", "tinyint", [7, 9, 9], data=bytes.fromhex("ff070009")),
+            "3 Run(1, DATA): run 9 TooMany at 2",
+        ),
+        refused(
+            "bytes/one-run-left-over",
+            "byte-runs run-count",
+            "behind all values a whole run",
+            column("b", "tinyint", [5] * 3, data=data_of(byte_repeat(5, 3) * 2)),
+            "3 Run(1, DATA): run 9 TooMany at 2",
+        ),
+        refused(
+            "bytes/run-too-long",
+            "byte-runs run-count",
+            "three rows, a run of four bytes, and another one behind it",
+            column("b", "tinyint", [14] * 3, data=data_of(byte_repeat(14, 4) + byte_repeat(14, 3))),
+            "3 Run(1, DATA): run 9 TooMany at 0",
         ),
         refused(
             "bytes/too-many",
@@ -177,6 +217,31 @@ def of_booleans():
             "no boolean that isn't null, and a DATA of no bytes",
             column("t", "boolean", [None, None], data=[]),
         ),
+        good(
+            "booleans/thousands",
+            "boolean-runs byte-runs",
+            "130 bytes of eight times true, as many of eight times false, three times: `7f ff 7f 00`",
+            column(
+                "t",
+                "boolean",
+                ([yes] * 1040 + [no] * 1040) * 3,
+                data=(byte_repeat(255, 130) + byte_repeat(0, 130)) * 3,
+            ),
+        ),
+        refused(
+            "booleans/sixteen-of-24",
+            "boolean-runs run-count",
+            "sixteen booleans, and a run of three bytes",
+            column("t", "boolean", [yes] * 16, data=bytes.fromhex("00ff")),
+            "3 Run(1, DATA): run 9 TooMany at 0",
+        ),
+        refused(
+            "booleans/nine-in-a-byte",
+            "boolean-runs run-count",
+            "nine booleans, and one byte by itself",
+            column("t", "boolean", [yes] * 9, data=bytes.fromhex("ff80")),
+            "3 Run(1, DATA): run 8 TooFew at 2",
+        ),
         refused(
             "booleans/one-byte-more",
             "boolean-runs run-count",
@@ -204,6 +269,20 @@ def of_booleans():
             "a run without its byte",
             column("t", "boolean", [yes] * 24, data=b"\x00"),
             "3 Run(1, DATA): run 1 Short at 0",
+        ),
+        refused(
+            "booleans/one-run-left-over",
+            "boolean-runs run-count",
+            "three booleans in a byte, and a whole run behind it",
+            column("t", "boolean", [yes, no, yes], data=bytes.fromhex("ffa0ffa0")),
+            "3 Run(1, DATA): run 9 TooMany at 2",
+        ),
+        refused(
+            "booleans/left-over",
+            "boolean-runs run-count run-short",
+            "three booleans in a byte, and behind it a byte that is no run",
+            column("t", "boolean", [yes, no, yes], data=bytes.fromhex("ffa080")),
+            "3 Run(1, DATA): run 1 Short at 2",
         ),
     ]
 
@@ -369,6 +448,13 @@ def bad_strings():
             "5 BadIndex(1)",
         ),
         refused(
+            "strings/index-past-the-entries-1",
+            "strings-dictionary",
+            "the same in version 1",
+            column("s", "string", ["a", "a"], (0, 11), **one, data=data_of(v1_literals([0, 1], UNSIGNED))),
+            "5 BadIndex(1)",
+        ),
+        refused(
             "strings/data-too-long",
             "strings-lengths",
             "a byte more than the lengths say",
@@ -383,10 +469,24 @@ def bad_strings():
             "6 LengthSum(1, DATA)",
         ),
         refused(
+            "strings/binary-too-long",
+            "strings-lengths",
+            "a byte more than the lengths of bytes that are no texts say",
+            column("v", "binary", [b""], (0, 11), data=b"a"),
+            "6 LengthSum(1, DATA)",
+        ),
+        refused(
             "strings/entries-too-long",
             "strings-lengths strings-dictionary",
             "a byte more than the lengths of the entries say",
             column("s", "string", ["a", "a"], **one, entries=b"ab"),
+            "6 LengthSum(1, DICTIONARY_DATA)",
+        ),
+        refused(
+            "strings/entries-too-short",
+            "strings-lengths strings-dictionary",
+            "a byte fewer than the lengths of the entries say",
+            column("s", "string", ["a", "a"], **one, entries=b""),
             "6 LengthSum(1, DICTIONARY_DATA)",
         ),
         refused(
@@ -418,6 +518,13 @@ def bad_strings():
             "two texts, and one length",
             column("s", "string", ["ab", ""], length=data_of(direct([2], UNSIGNED))),
             "3 Run(1, LENGTH): run 8 TooFew at 3",
+        ),
+        refused(
+            "strings/lengths-left-over",
+            "run-count run-short strings-direct",
+            "three empty texts, and behind their lengths a byte that is no run",
+            column("s", "string", [""] * 3, (0, 11), length=bytes.fromhex("000000ff")),
+            "3 Run(1, LENGTH): run 1 Short at 3",
         ),
         refused(
             "strings/lengths-of-entries-too-many",
@@ -590,10 +697,38 @@ def of_nulls():
             "3 Run(1, DATA): run 9 TooMany at 0",
         ),
         refused(
+            "nulls/present-cut",
+            "nulls run-short",
+            "a PRESENT of one byte, which is no run",
+            column("n", "int", [None], present=b"\x05"),
+            "3 Run(1, PRESENT): run 1 Short at 0",
+        ),
+        refused(
+            "nulls/present-left-over",
+            "nulls run-count run-short",
+            "three nulls, and behind them a byte that is no run",
+            column("n", "int", [None] * 3, present=bytes.fromhex("ff0005")),
+            "3 Run(1, PRESENT): run 1 Short at 2",
+        ),
+        refused(
+            "nulls/present-of-no-rows",
+            "nulls run-count",
+            "no row, and a PRESENT of one byte",
+            column("t", "boolean", [], present=bytes.fromhex("ff00")),
+            "3 Run(1, PRESENT): run 9 TooMany at 0",
+        ),
+        refused(
             "nulls/present-of-no-cells",
             "nulls run-count",
             "a column without cells, and a PRESENT of one byte",
             File("struct<a:array<int>>", [Stripe([{"a": []}], {(2, PRESENT): bytes.fromhex("ff80")})]),
+            "3 Run(2, PRESENT): run 9 TooMany at 0",
+        ),
+        refused(
+            "nulls/present-below-null-structs",
+            "nulls cells run-count",
+            "all structs are null, and the column below them has a PRESENT of one byte",
+            File("struct<s:struct<n:int>>", [Stripe([{"s": None}] * 3, {(2, PRESENT): bytes.fromhex("ff80")})]),
             "3 Run(2, PRESENT): run 9 TooMany at 0",
         ),
     ]
@@ -607,6 +742,13 @@ def of_nested():
     inner = 5
     for _ in range(30):
         inner = [inner]
+    deepest = 7
+    for _ in range(31):
+        deepest = {"a": deepest}
+
+    def names(streams):
+        return File("struct<b:int,a:string>", [Stripe([{"b": 1, "a": "x"}, {"b": 2, "a": "y"}], streams)], (0, 11))
+
     return [
         good(
             "nested/lists",
@@ -696,6 +838,66 @@ def of_nested():
         ),
         good("nested/no-columns", "structs", "rows of no fields", File("struct<>", [[{}, {}]])),
         good("nested/32-levels", "lists type-limits", "32 levels, the most", column("a", deep, [inner, None])),
+        good(
+            "nested/32-levels-of-structs",
+            "structs type-limits",
+            "32 levels of structs and a number",
+            File("struct<a:" * 31 + "int" + ">" * 31, [[deepest] * 3], (0, 11)),
+        ),
+        good(
+            "nested/names-in-any-order",
+            "structs cells rows-json",
+            "columns in another order than their names, in structs, lists and keys",
+            File(
+                "struct<v:array<struct<y:int,x:array<int>>>,m:map<struct<b:int,a:int>,int>,"
+                "c:int,b:struct<z:int,y:struct<x:int>>,a:array<int>>",
+                [
+                    [
+                        {
+                            "v": [{"y": 1, "x": [2, 3]}, None, {"y": 4, "x": []}],
+                            "m": [[{"b": 1, "a": 2}, 3], [None, 4]],
+                            "c": 1,
+                            "b": {"z": 2, "y": {"x": 3}},
+                            "a": [4, 5],
+                        },
+                        {"c": 6, "b": {"z": None, "y": None}},
+                    ]
+                ],
+                (0, 11),
+            ),
+        ),
+        refused(
+            "nested/names-and-a-number-missing",
+            "run-count rows-json",
+            "a number fewer than rows in the column that comes last by its name",
+            names({(1, DATA): data_of(v1_literals([1]))}),
+            "3 Run(1, DATA): run 8 TooFew at 2",
+        ),
+        refused(
+            "nested/names-and-a-number-left-over",
+            "run-count rows-json",
+            "a number more than rows in the column that comes last by its name",
+            names({(1, DATA): data_of(v1_literals([1, 2, 3]))}),
+            "3 Run(1, DATA): run 9 TooMany at 0",
+        ),
+        refused(
+            "nested/names-and-no-text",
+            "strings-utf8 rows-json",
+            "a text that is no UTF-8 in the column that comes first by its name",
+            names({(2, DATA): b"x\xff"}),
+            "4 NotUtf8(2, DATA)",
+        ),
+        refused(
+            "nested/second-column-left-over",
+            "run-count run-short",
+            "two columns, and behind all values of the second a byte that is no run",
+            File(
+                "struct<m:bigint,n:bigint>",
+                [Stripe([{"m": 7, "n": 7}] * 3, {(2, DATA): bytes.fromhex("00000eff")})],
+                (0, 11),
+            ),
+            "3 Run(2, DATA): run 1 Short at 3",
+        ),
         refused(
             "nested/more-elements-than-lengths",
             "lists run-count",
@@ -709,6 +911,35 @@ def of_nested():
             "the second key's bytes aren't there",
             File("struct<m:map<string,int>>", [Stripe([{"m": [["a", 1], ["b", 2]]}], {(2, DATA): b"a"})]),
             "6 LengthSum(2, DATA)",
+        ),
+        refused(
+            "nested/fewer-keys-than-pairs",
+            "maps run-count",
+            "two pairs, and one key",
+            File(
+                "struct<m:map<int,int>>",
+                [Stripe([{"m": [[1, 1], [2, 2]]}], {(2, DATA): bytes.fromhex("ff02")})],
+                (0, 11),
+            ),
+            "3 Run(2, DATA): run 8 TooFew at 2",
+        ),
+        refused(
+            "nested/more-values-than-pairs",
+            "maps run-count",
+            "two pairs, and three values",
+            File(
+                "struct<m:map<int,int>>",
+                [Stripe([{"m": [[1, 1], [2, 2]]}], {(3, DATA): data_of(v1_literals([1, 2, 3]))})],
+                (0, 11),
+            ),
+            "3 Run(3, DATA): run 9 TooMany at 0",
+        ),
+        refused(
+            "nested/more-maps-than-lengths",
+            "maps run-count",
+            "two maps, and one length",
+            File("struct<m:map<int,int>>", [Stripe([{"m": []}] * 2, {(1, LENGTH): bytes.fromhex("ff00")})], (0, 11)),
+            "3 Run(1, LENGTH): run 8 TooFew at 2",
         ),
         refused(
             "nested/list-too-long",
@@ -737,6 +968,125 @@ def of_nested():
     ]
 
 
+def bad_nested():
+    """Structs, lists and maps of which one stream has another number of values than the others say."""
+    lists = [{"a": cell} for cell in ([[1, 2], []], None, [], [None, [3]], [[4, 5, 6]])]
+
+    def of_lists(name, shows, at, kind, runs, fault):
+        file = File("struct<a:array<array<int>>>", [Stripe(lists, {(at, kind): data_of(runs)})], (0, 11))
+        return refused(f"nested/{name}", "lists cells run-count", f"lists of lists: {shows}", file, f"3 Run{fault}")
+
+    def of_maps(name, shows, maps, at, kind, runs, fault, version=(0, 11)):
+        stripe = Stripe([{"m": each} for each in maps], {(at, kind): data_of(runs)})
+        file = File("struct<m:map<int,int>>", [stripe], version)
+        return refused(f"nested/{name}", "maps cells run-count", shows, file, f"3 Run{fault}")
+
+    two = [[[1, 1], [2, 2]]]
+    return [
+        refused(
+            "nested/second-field-without-its-stream",
+            "structs missing-streams run-count",
+            "three numbers of the first field, and none of the second",
+            File("struct<a:bigint,b:bigint>", [Stripe([{"a": 7, "b": 7}] * 3, {(2, DATA): None})], (0, 11)),
+            "3 Run(2, DATA): run 8 TooFew at 0",
+        ),
+        of_lists(
+            "lists-present-left-over",
+            "a PRESENT of a byte more",
+            1,
+            PRESENT,
+            byte_literals([0xB8, 0]),
+            "(1, PRESENT): run 9 TooMany at 0",
+        ),
+        of_lists(
+            "length-of-a-null",
+            "a length for the one that is null",
+            1,
+            LENGTH,
+            v1_literals([2, 0, 0, 2, 1], UNSIGNED),
+            "(1, LENGTH): run 9 TooMany at 0",
+        ),
+        of_lists(
+            "list-without-its-length",
+            "none is null, and one has no length",
+            1,
+            PRESENT,
+            byte_literals([0xF8]),
+            "(1, LENGTH): run 8 TooFew at 5",
+        ),
+        of_lists(
+            "more-elements-than-present",
+            "more elements than the column below has a PRESENT for",
+            1,
+            LENGTH,
+            v1_literals([2, 0, 2, 9], UNSIGNED),
+            "(2, PRESENT): run 8 TooFew at 2",
+        ),
+        of_lists(
+            "inner-list-too-many",
+            "an inner one more than the outer ones have",
+            2,
+            LENGTH,
+            v1_literals([2, 0, 1, 3, 1], UNSIGNED),
+            "(2, LENGTH): run 9 TooMany at 0",
+        ),
+        of_lists(
+            "number-too-many",
+            "a number more than the inner ones have",
+            3,
+            DATA,
+            v1_run(1, 1, 7),
+            "(3, DATA): run 9 TooMany at 0",
+        ),
+        of_lists(
+            "number-too-few",
+            "a number fewer than the inner ones have",
+            3,
+            DATA,
+            v1_run(1, 1, 5),
+            "(3, DATA): run 8 TooFew at 3",
+        ),
+        refused(
+            "nested/fewer-elements-than-lengths",
+            "lists run-count",
+            "three lists of two elements each, and a column below of five",
+            File("struct<a:array<int>>", [Stripe([{"a": [7, 7]}] * 3, {(2, DATA): data_of(short_repeat(7, 5))})]),
+            "3 Run(2, DATA): run 8 TooFew at 2",
+        ),
+        of_maps(
+            "map-without-its-length",
+            "two maps, and one length",
+            [[], []],
+            1,
+            LENGTH,
+            v1_literals([0], UNSIGNED),
+            "(1, LENGTH): run 8 TooFew at 2",
+        ),
+        of_maps(
+            "key-too-few", "two pairs, and one key", two, 2, DATA, v1_literals([1]), "(2, DATA): run 8 TooFew at 2"
+        ),
+        of_maps(
+            "value-too-many",
+            "two pairs, and three values",
+            two,
+            3,
+            DATA,
+            v1_literals([1, 2, 3]),
+            "(3, DATA): run 9 TooMany at 0",
+        ),
+        of_maps(
+            "value-too-many-2",
+            "three maps of a pair, and four values, in version 2",
+            [[[1, 2]]] * 3,
+            3,
+            DATA,
+            short_repeat(2, 4),
+            "(3, DATA): run 9 TooMany at 0",
+            (0, 12),
+        ),
+    ]
+
+
 def vectors():
     """The vectors of these folders."""
-    return of_bytes() + of_booleans() + of_strings() + of_numbers() + of_nulls() + of_nested()
+    return of_bytes() + of_booleans() + of_strings() + of_numbers() + of_nulls() + of_nested() + bad_nested()

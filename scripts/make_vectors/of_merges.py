@@ -4,13 +4,13 @@ from .file import File
 from .merged import Merged
 from .of_indexes import UNTOLD, lists, nested
 from .of_tails import with_attributes
-
+from .rows import schema
 from .runs import integers, v1_run
 from .statistics import Stat
 from .stripe import DATA, Stripe
 from .vector import Vector, places_of
 
-ONE = "struct<n:bigint>"
+ONE, LISTS = "struct<n:bigint>", "struct<a:array<int>>"
 TOP, MOST = (1 << 63) - 1, 1 << 62
 # the most rows of a stripe
 MOST_ROWS = (1 << 31) - 1
@@ -65,6 +65,52 @@ class Inputs:
         return self.vectors[name].file
 
 
+def spelled():
+    """A stripe without rows that tells of values all the same: statistics with records of other kinds, and with parts
+    that mean nothing or are missing."""
+    ints = fields.block(2, fields.signed(1, 7) + fields.signed(2, 7) + fields.signed(3, 42))
+    children = fields.block(12, fields.number(1, 0) + fields.number(2, 2) + fields.number(3, 5))
+    text = fields.block(4, fields.block(1, "b") + fields.signed(3, 1))
+    day = fields.block(7, fields.signed(1, -1) + fields.signed(2, -1))
+    many = fields.block(5, fields.packed(1, [MOST + 1]))
+    kinds = "struct<a:bigint,b:date,c:bigint,d:boolean,e:date,f:string,g:binary,h:bigint,i:struct<x:int>"
+    told = {
+        1: (Stat(6, False, min=7, max=7, sum=42), ints),
+        2: (Stat(6, False), ints),
+        3: (Stat(0, None), fields.block(2, fields.signed(1, 7))),
+        4: (Stat(3, True, true=2), fields.block(5, fields.packed(1, [2, 1]))),
+        5: (Stat(1, None, min=-1, max=-1), day),
+        6: (Stat(1, None, min=b"b", sum=1), text),
+        7: (Stat(1, None, sum=5), fields.block(8, fields.signed(1, 5))),
+        8: (Stat(1, None), many),
+        9: (Stat(4, True), children),
+        11: (Stat(4, True, min=0, max=2, sum=5), children),
+        13: (Stat(4, True), b""),
+        15: (Stat(4, True), fields.block(12, b"")),
+        17: (Stat(0, None), fields.block(12, fields.number(3, 5))),
+    }
+
+    def spell(stat, record):
+        nulls = b"" if stat.nulls is None else fields.number(10, stat.nulls)
+        parts = sorted([fields.number(1, stat.count), record, nulls], key=lambda part: part[:1])
+        return stat.but().spelled(b"".join(parts))
+
+    file = File(
+        f"{kinds},j:array<int>,k:array<int>,l:array<int>,m:array<int>>",
+        [Stripe([], stats={at: spell(*each) for at, each in told.items()})],
+        stats={at: spell(*each) for at, each in told.items()},
+    )
+    return file, [f"{kind} {at}" for kind in ("StripeStatistic 0", "FileStatistic") for at in told]
+
+
+def attributed(count):
+    """A schema with a list and a map, of which so many types below the root have attributes."""
+    root = schema("struct<a:array<int>,m:map<int,int>>")
+    for each in root.columns()[1 : count + 1]:
+        each.more = fields.block(7, fields.block(1, "k") + fields.block(2, "v"))
+    return root
+
+
 def inputs():
     """All files that are merged."""
     found = Inputs()
@@ -89,6 +135,11 @@ def inputs():
         "a statistic with its fields in another order",
         File(ONE, [Stripe(rows(3, 5), stats={1: Stat(2, False, min=3, max=5, sum=8).spelled(told)})]),
     )
+    found.add("spelled-of-each-kind", "statistics of each kind as no writer spells them", *spelled())
+    found.add("quarter", "the number 2^62", File(ONE, [rows(1 << 62)]))
+    found.add("quarter-less-one", "the number 2^62 - 1", File(ONE, [rows((1 << 62) - 1)]))
+    found.add("minus-quarter", "the number -2^62", File(ONE, [rows(-(1 << 62))]))
+    found.add("minus-quarter-less-one", "the number -2^62 - 1", File(ONE, [rows(-(1 << 62) - 1)]))
     found.add(
         "no-nulls-told",
         "a stripe that doesn't say whether there are nulls",
@@ -129,6 +180,9 @@ def inputs():
     )
     found.add("other-kept", "other fields above 10", File(ONE, [rows(2)], kept=fields.number(12, 6), **more))
     found.add("attributes", "a type with attributes", File(with_attributes(), [rows(1)]))
+    below = [{"a": [1, 2], "m": [(3, 4)]}]
+    found.add("attributes-below", "attributes of a list, of a map and of what is in them", File(attributed(5), [below]))
+    found.add("attributes-of-a-list", "attributes of a list alone", File(attributed(1), [below]))
     found.add("int", "a column of INT", File("struct<n:int>", [rows(1)]))
     found.add("int-and-version", "a column of INT, and another version", File("struct<n:int>", [rows(1)], (0, 11)))
     found.add("version-and-stride", "another version, and a row index", File(ONE, [rows(1)], (0, 11), stride=2))
@@ -203,6 +257,12 @@ def inputs():
         File(ONE, [Stripe(rows(1), stats={1: Stat(MOST, False)})]),
         ["StripeStatistic 0 1", "FileStatistic 1"],
     )
+    found.add(
+        "many-values-less-one",
+        "a stripe that tells of 2^62 - 1 values",
+        File(ONE, [Stripe(rows(1), stats={1: Stat(MOST - 1, False)})]),
+        ["StripeStatistic 0 1", "FileStatistic 1"],
+    )
     two = File(
         ONE, [Stripe(rows(1), stats={1: Stat(MOST, False)}), rows(2)], stats={1: Stat(2, False, min=1, max=2, sum=3)}
     )
@@ -214,6 +274,19 @@ def inputs():
         ["StripeStatistic 0 1", "FileStatistic 1"],
     )
     found.add(
+        "many-booleans-less-one",
+        "a stripe that tells of 2^62 - 1 booleans, of which one is true",
+        File("struct<t:boolean>", [Stripe([{"t": True}], stats={1: Stat(MOST - 1, False, true=1)})]),
+        ["StripeStatistic 0 1", "FileStatistic 1"],
+    )
+    found.add(
+        "many-booleans",
+        "a stripe that tells of 2^62 booleans, of which one is true",
+        File("struct<t:boolean>", [Stripe([{"t": True}], stats={1: Stat(MOST, False, true=1)})]),
+        ["StripeStatistic 0 1", "FileStatistic 1"],
+    )
+    found.add("false", "a boolean that is false", File("struct<t:boolean>", [[{"t": False}]]))
+    found.add(
         "lists", "lists, and how many elements they have", File("struct<a:array<int>>", [[{"a": [1, 2]}, {"a": None}]])
     )
     found.add(
@@ -221,6 +294,21 @@ def inputs():
         "lists, and nothing of their elements",
         File("struct<a:array<int>>", [Stripe([{"a": [3]}], stats={1: Stat(1, False)})]),
     )
+    found.add(
+        "lists-told-in-part",
+        "lists, and the least and the greatest number of their elements",
+        File(LISTS, [Stripe([{"a": []}, {"a": [1, 2]}], stats={1: Stat(2, False, min=0, max=2)})]),
+    )
+    found.add("lists-told", "lists of one and of three elements", File(LISTS, [[{"a": [1]}, {"a": [1, 2, 3]}]]))
+    found.add("no-lists", "a list that is null", File(LISTS, [[{"a": None}]]))
+    for name, shows, count in (("half-of-all", "2^63", 1 << 63), ("other-half-of-all", "2^63 - 1", (1 << 63) - 1)):
+        stat = Stat(1, False, min=count, max=count, sum=count)
+        found.add(
+            name,
+            f"a stripe that tells of a list of {shows} elements",
+            File(LISTS, [Stripe([{"a": [1]}], stats={1: stat})]),
+            ["StripeStatistic 0 1", "FileStatistic 1"],
+        )
     found.add(
         "damaged",
         "a stripe that doesn't decode",
@@ -264,6 +352,8 @@ def made(found):
     """Merges that are made."""
     short = "file 12 Stripe(1): stripe 3 Run(1, DATA): run 1 Short at 0"
     no_nulls = ["StripeStatistic 2 1", "FileStatistic 1"]
+    wrong, last = ["StripeStatistic 0 1", "StripeStatistic 1 1"], "FileStatistic 1"
+    each = found.vectors["merges/in/spelled-of-each-kind"].findings
     return [
         joined(
             found,
@@ -299,6 +389,13 @@ def made(found):
             "merge-statistics children-unknown",
             "a file that tells of elements, and one that doesn't, each with row indexes",
             ["lists-of-lists", "lists-of-lists-untold"],
+        ),
+        joined(
+            found,
+            "elements-not-told-first",
+            "merge-statistics children-unknown",
+            "the same in the other order",
+            ["lists-of-lists-untold", "lists-of-lists"],
         ),
         joined(found, "lists-twice", "merge-stripes merge-statistics", "lists of lists twice", ["lists-of-lists"] * 2),
         joined(
@@ -392,6 +489,93 @@ def made(found):
         ),
         joined(
             found,
+            "nulls-not-told-first",
+            "merge-statistics nulls-unknown",
+            "the same, where the first part doesn't say",
+            ["no-nulls-told", "a"],
+            ["StripeStatistic 0 1", last],
+        ),
+        joined(
+            found,
+            "nulls-told-by-the-second",
+            "merge-statistics nulls-unknown",
+            "the first part doesn't say of nulls, and the second has one",
+            ["no-nulls-told", "b"],
+            ["StripeStatistic 0 1"],
+        ),
+        joined(
+            found,
+            "nulls-told-by-none",
+            "merge-statistics nulls-unknown",
+            "no part says of nulls",
+            ["no-nulls-told"] * 2,
+            [*wrong, last],
+        ),
+        *(
+            joined(found, name, "merge-statistics", shows, names)
+            for name, shows, names in (
+                ("sum-of-the-greatest", "a total of 2^63 - 1 fits", ["quarter", "quarter-less-one"]),
+                ("sum-past-the-greatest", "a total of 2^63 doesn't", ["quarter", "quarter"]),
+                ("sum-of-the-least", "a total of -2^63 fits", ["minus-quarter", "minus-quarter"]),
+                ("sum-past-the-least", "a total of -2^63 - 1 doesn't", ["minus-quarter", "minus-quarter-less-one"]),
+            )
+        ),
+        joined(
+            found,
+            "most-values",
+            "merge-statistics statistics-limits",
+            "2^62 values together, the most",
+            ["many-values-less-one", "one"],
+            ["StripeStatistic 0 1", last],
+        ),
+        joined(
+            found,
+            "most-booleans",
+            "merge-statistics statistics-limits",
+            "2^62 booleans together, of which one is true",
+            ["many-booleans-less-one", "false"],
+            ["StripeStatistic 0 1", last],
+        ),
+        joined(
+            found,
+            "most-children",
+            "merge-statistics",
+            "a total of 2^64 - 1 children fits, and a part without lists takes no part",
+            ["half-of-all", "other-half-of-all", "no-lists"],
+            [*wrong, last],
+        ),
+        joined(
+            found,
+            "children-that-do-not-fit",
+            "merge-statistics",
+            "a total of 2^64 children doesn't fit",
+            ["half-of-all", "half-of-all"],
+            [*wrong, last],
+        ),
+        joined(
+            found,
+            "children-told-in-part",
+            "merge-statistics children-unknown",
+            "the first part doesn't tell how many children there are together, so the whole doesn't",
+            ["lists-told-in-part", "lists-told"],
+        ),
+        joined(
+            found,
+            "children-told-in-part-behind",
+            "merge-statistics children-unknown",
+            "the same of the second part",
+            ["lists-told", "lists-told-in-part"],
+        ),
+        joined(
+            found,
+            "each-kind-spelled-anew",
+            "merge-tail merge-statistics",
+            "of each kind the parts that are known are written, and nothing else",
+            ["spelled-of-each-kind"],
+            each,
+        ),
+        joined(
+            found,
             "children-not-told",
             "merge-statistics children-unknown",
             "where a part doesn't tell of children, the whole doesn't",
@@ -419,6 +603,13 @@ def made(found):
             "merge-tail types",
             "a type's other fields stay as they stood",
             ["attributes", "attributes"],
+        ),
+        joined(
+            found,
+            "attributes-below",
+            "merge-tail types",
+            "also those of lists and maps, and of what is in them",
+            ["attributes-below", "attributes-below"],
         ),
         joined(
             found,
@@ -491,6 +682,13 @@ def refused():
             schema_rule,
             "a type with attributes, and one without",
             ["int", "attributes"],
+            "3 SchemaDiffers(1)",
+        ),
+        apart(
+            "refused-attributes-below",
+            schema_rule,
+            "a map with attributes, and one without",
+            ["attributes-below", "attributes-of-a-list"],
             "3 SchemaDiffers(1)",
         ),
         apart(
@@ -627,6 +825,13 @@ def refused():
             "8 NoStripeStatistics(2)",
         ),
         apart("refused-values", "merge-limits", "more than 2^62 values together", ["many-values", "c"], "9 Limit(1)"),
+        apart(
+            "refused-booleans",
+            "merge-limits",
+            "more than 2^62 booleans together, of which one is true",
+            ["many-booleans", "false"],
+            "9 Limit(1)",
+        ),
         apart(
             "refused-values-of-one-file",
             "merge-limits",

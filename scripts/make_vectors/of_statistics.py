@@ -73,6 +73,13 @@ def told():
             File("struct<a:array<int>>", [lists([], None)]),
         ),
         good(
+            "no-cells-of-each-kind",
+            "statistics",
+            "the same of a column of each kind, below a list that has no element",
+            File(f"struct<l:array<{EACH}>>", [[{"l": []}]]),
+        ),
+        good("no-stripes", "statistics", "a file of no stripes tells the same of each kind", File(EACH, [])),
+        good(
             "texts-by-bytes",
             "statistics",
             "texts are ordered by their bytes as numbers without a sign",
@@ -229,6 +236,7 @@ def unknown():
     none = {0: Stat(2, False), 1: Stat(1, True)}
     cells = lists([1, 2], None)
     tells = Stat(1, True, min=2, max=2, sum=2)
+    no_stripe = [f"StripeStatistic 0 {column}" for column in range(3)]
     return [
         good(
             "children-unknown",
@@ -259,6 +267,28 @@ def unknown():
             "the file tells how many children there are, and a stripe doesn't",
             File("struct<a:array<int>>", [Stripe(cells, stats={1: Stat(1, True)})], stats={1: tells}),
             "FileStatistic 1",
+            rules="children-unknown findings-statistics",
+        ),
+        found(
+            "children-that-a-stripe-tells-in-part",
+            "the file tells how many children there are, and a stripe the greatest number alone",
+            File("struct<a:array<int>>", [Stripe(cells, stats={1: Stat(1, True, max=2)})], stats={1: tells}),
+            "FileStatistic 1",
+            rules="children-unknown findings-statistics",
+        ),
+        found(
+            "children-that-no-stripe-tells",
+            "the file tells how many children there are, and of stripes there are no statistics",
+            File("struct<a:array<int>>", [cells], tells_stripes=False),
+            *no_stripe,
+            "FileStatistic 1",
+            rules="children-unknown findings-statistics",
+        ),
+        found(
+            "children-that-nobody-tells",
+            "the same, and the file doesn't tell either",
+            File("struct<a:array<int>>", [cells], tells_stripes=False, stats={1: Stat(1, True)}),
+            *no_stripe,
             rules="children-unknown findings-statistics",
         ),
         found(

@@ -438,6 +438,13 @@ def values_of(many):
             "3 Run(1, DATA): run 8 TooFew at 3",
         ),
         (
+            "no-numbers",
+            few,
+            "rows of a number, and no stream",
+            told_rows("bigint", many, {}),
+            "3 Run(1, DATA): run 8 TooFew at 0",
+        ),
+        (
             "nulls",
             few,
             "rows of nulls",
@@ -521,6 +528,13 @@ def items_of(many):
             "a list's numbers",
             listed("array<bigint>", {(2, DATA): seven}),
             "3 Run(2, DATA): run 8 TooFew at 3",
+        ),
+        (
+            "no-numbers-of-a-list",
+            few,
+            "a list's numbers, and no stream of these",
+            listed("array<bigint>", {}),
+            "3 Run(2, DATA): run 8 TooFew at 0",
         ),
         (
             "texts-of-a-list",

@@ -3,10 +3,10 @@ from .rules import OWN, RULES
 
 # what scripts/compare-with-protoc said last
 PROTOC = (
-    "2026-11-27, libprotoc 3.21.12: {same} messages decoded, no unknown field, encoded again to the\n"
+    "2026-11-28, libprotoc 3.21.12: {same} messages decoded, no unknown field, encoded again to the\n"
     "same bytes; {otherwise} that are meant to be otherwise are so."
 )
-SAME, OTHERWISE = 5133, 100
+SAME, OTHERWISE = 6254, 100
 # what no file here shows, and why
 NOT_SHOWN = """Not kept here, since a file would be larger than a few KB: 4,096 types and more, 65,536 stripes and more,
 2^40 rows, 2^40 bytes of stripes and more, a gap of 2^41 bytes between stripes. `scripts/make-vectors --large
@@ -44,8 +44,8 @@ with it; another reader needs `NAME.orc`, `NAME.json`, that there is a `NAME.fau
 In `written/` stands what this project's writer has to make of the rows of the vector of the same name,
 byte for byte, by the words in `NAME.write`: other readers need not look at it.
 
-`merges/in/` has the files that are merged. Of `tails/name-twice` the rows alone can't be printed, since
-a struct names a field twice: who doesn't print objects of JSON may read it.
+`merges/in/` has the files that are merged. Of `tails/name-twice` and of each `tails/name-twice-in-*` the rows
+alone can't be printed, since a struct names a field twice: who doesn't print objects of JSON may read them.
 
 In JSON a text is a string, bytes are a string of lower-case hexadecimal digits, a day is a string
 `YYYY-MM-DD` in the years 0001 to 9999 and else the number of days since 1970-01-01, a map is an array

@@ -1,7 +1,6 @@
 //! Devices that keep what is asked of them, and of which one call alone fails.
 ghost use Rattle.std.specs.Prelude.{None, length};
 
-use crate::trickle::{AtItsEnd, Trickle};
 use orc_file::{Failures, SliceSource, Source, SourceFault};
 use std::cell::Cell;
 use std::io;
@@ -12,6 +11,12 @@ pub(crate) type SeenRead = (u64, u64, usize);
 
 /// How many reads a source keeps.
 const KEPT: usize = 16;
+
+/// How many bytes an output takes in one call.
+const A_CALL: usize = 7;
+
+/// How many bytes an output keeps.
+const ROOM: usize = 1024;
 
 /// A file's bytes, of which it tells none. It keeps its first sixteen reads, and the k-th one alone fails.
 #[derive(Drop)]
@@ -82,10 +87,12 @@ pub(crate) enum Refused {
     TakesNothing,
 }
 
-/// An output that takes seven bytes a call at most, and of which the k-th call alone is refused.
+/// An output that takes seven bytes a call at most, and of which the k-th call alone is refused. It keeps its first
+/// bytes.
 #[derive(Drop)]
 pub(crate) struct CountedOut<'a> {
-    taken: Trickle,
+    bytes: [u8; ROOM],
+    len: usize,
     kth: usize,
     refused: Refused,
     calls: usize,
@@ -97,7 +104,8 @@ impl<'a> CountedOut<'a> {
     pub(crate) fn new(kth: usize, refused: Refused, sent: &'a Cell<usize>) -> CountedOut<'a> {
         sent.set(0);
         CountedOut {
-            taken: Trickle::new(7, 1024, AtItsEnd::Fails),
+            bytes: [0; ROOM],
+            len: 0,
             kth,
             refused,
             calls: 0,
@@ -107,7 +115,7 @@ impl<'a> CountedOut<'a> {
 
     /// The bytes that were taken.
     pub(crate) fn written(&self) -> &[u8] {
-        self.taken.written()
+        &self.bytes[..self.len.min(ROOM)]
     }
 
     /// How many calls there were, with the one that was refused.
@@ -126,9 +134,15 @@ impl Write for CountedOut<'_> {
                 Refused::TakesNothing => Ok(0),
             };
         }
-        let taken = self.taken.write(bytes);
-        self.sent.set(self.taken.written().len());
-        taken
+        let count = bytes.len().min(A_CALL);
+        for byte in &bytes[..count] {
+            if let Some(at) = self.bytes.get_mut(self.len) {
+                *at = *byte;
+            }
+            self.len = self.len.saturating_add(1);
+        }
+        self.sent.set(self.len);
+        Ok(count)
     }
 
     fn flush(&mut self) -> io::Result<()> {

@@ -1,22 +1,14 @@
-//! Tests of the commands by their public calls, and of what lists of words ask for.
+//! Tests of the commands by what no command line can bring about: devices of which one call fails, which reads a command
+//! makes, lines whose reading fails, and files in memory. What the program prints, writes and refuses,
+//! `scripts/try-program` and `scripts/try-vectors` try with the program itself.
 #![tactic(auto)]
 
 #[cfg(test)]
 mod assertions;
 #[cfg(test)]
-mod checking;
-#[cfg(test)]
-mod command_lines;
-#[cfg(test)]
-mod commands;
-#[cfg(test)]
 mod devices;
 #[cfg(test)]
 mod files;
-#[cfg(test)]
-mod from_groups;
-#[cfg(test)]
-mod merging;
 #[cfg(test)]
 mod reading;
 #[cfg(test)]
@@ -25,7 +17,5 @@ mod refused_writes;
 mod requests;
 #[cfg(test)]
 mod three_stripes;
-#[cfg(test)]
-mod trickle;
 #[cfg(test)]
 mod writing;

@@ -1,13 +1,12 @@
 //! What is read of files, and when; and what comes of a read that fails.
 
 use crate::assertions::{check_bytes, check_same, demand};
-use crate::commands::wants_memory;
 use crate::devices::{CountedOut, Refused, SeenRead, SeenSource};
 use crate::three_stripes::{
     Command, FOUND, FROM_LAST_GROUP, FROM_SECOND_STRIPE, ROWS, SHOWN, THREE_STRIPES, carry_out,
 };
 use orc_cli_commands::{CliFault, MergeFault, merge_to};
-use orc_file::{FileFault, OrcFile, StdSink};
+use orc_file::{FileFault, StdSink};
 use std::alloc::Global;
 use std::cell::Cell;
 use std::process::Abort;
@@ -42,30 +41,10 @@ fn answer_of<'a>(
     (fault, source, out)
 }
 
-/// What comes of it where the k-th read fails, once there is memory for it.
+/// What comes of it where the k-th read fails.
 fn answer_failing(alloc: Global, command: Command, kth: usize, sent: &Cell<usize>) -> Answer<'_> {
     let source = SeenSource::new(&THREE_STRIPES, kth, sent);
-    match answer_of(alloc, command, source, sent) {
-        (Some(fault), _, _) if wants_memory(fault) => {
-            let source = SeenSource::new(&THREE_STRIPES, kth, sent);
-            answer_of(alloc, command, source, sent)
-        }
-        answer => answer,
-    }
-}
-
-/// What comes of it for a source that was read before, once there is memory for it.
-fn answer_again<'a>(
-    alloc: Global,
-    command: Command,
-    source: SeenSource<'a>,
-    sent: &'a Cell<usize>,
-) -> Answer<'a> {
-    let (fault, source, out) = answer_of(alloc, command, source, sent);
-    match fault {
-        Some(why) if wants_memory(why) => answer_of(alloc, command, source, sent),
-        _ => (fault, source, out),
-    }
+    answer_of(alloc, command, source, sent)
 }
 
 /// The command reads the tail and these ranges of stripes, and prints all.
@@ -101,7 +80,7 @@ fn check_again(
     sent: &Cell<usize>,
     all: &[u8],
 ) {
-    let (fault, _, out) = answer_again(alloc, command, source, sent);
+    let (fault, _, out) = answer_of(alloc, command, source, sent);
     check_same(rt, "fault of a source that came back", &fault, &None);
     check_bytes(rt, "all of a source that came back", out.written(), all);
 }
@@ -142,42 +121,33 @@ fn check_reads(rt: &impl Abort, alloc: Global, command: Command, stripes: &[Seen
     }
 }
 
-/// A stripe is read once the lines of those before it are out.
-#[test]
-fn reads_of_rows(rt: HostRuntime) {
-    let stripes = [(3, 121, 0), (124, 63, 40), (187, 92, 48)];
-    check_reads(
-        &rt,
-        rt.alloc(),
+/// Commands, the ranges of stripes that they read, and what they print. A stripe's rows are read once those before it
+/// are out, and from a group on no stripe before that one; `show` reads no stripe, and `check` each once.
+static READS: [(Command, &[SeenRead], &str); 5] = [
+    (
         Command::Rows(None),
-        &stripes,
-        ROWS.as_bytes(),
-    );
-}
+        &[(3, 121, 0), (124, 63, 40), (187, 92, 48)],
+        ROWS,
+    ),
+    (
+        Command::Rows(Some("1:0")),
+        &[(124, 63, 0), (187, 92, 8)],
+        FROM_SECOND_STRIPE,
+    ),
+    (Command::Rows(Some("2:1")), &[(187, 92, 0)], FROM_LAST_GROUP),
+    (Command::Show, &[], SHOWN),
+    (
+        Command::Check,
+        &[(3, 121, 0), (124, 63, 0), (187, 92, 0)],
+        FOUND,
+    ),
+];
 
-/// The stripes before aren't read.
 #[test]
-fn reads_of_rows_from_a_group_on(rt: HostRuntime) {
-    let second = Command::Rows(Some("1:0"));
-    let stripes = [(124, 63, 0), (187, 92, 8)];
-    check_reads(
-        &rt,
-        rt.alloc(),
-        second,
-        &stripes,
-        FROM_SECOND_STRIPE.as_bytes(),
-    );
-    let third = Command::Rows(Some("2:1"));
-    let stripes = [(187, 92, 0)];
-    check_reads(&rt, rt.alloc(), third, &stripes, FROM_LAST_GROUP.as_bytes());
-}
-
-/// Of the stripes `show` reads none, and `check` each once.
-#[test]
-fn reads_of_outlines_and_findings(rt: HostRuntime) {
-    check_reads(&rt, rt.alloc(), Command::Show, &[], SHOWN.as_bytes());
-    let stripes = [(3, 121, 0), (124, 63, 0), (187, 92, 0)];
-    check_reads(&rt, rt.alloc(), Command::Check, &stripes, FOUND.as_bytes());
+fn reads_of_commands(rt: HostRuntime) {
+    for (command, stripes, all) in &READS {
+        check_reads(&rt, rt.alloc(), *command, stripes, all.as_bytes());
+    }
 }
 
 /// Why two files aren't joined, and the sources.
@@ -199,17 +169,10 @@ pub(crate) fn join<'a>(
     (answer.err(), inputs)
 }
 
-fn join_twice_once(alloc: Global, sent: &Cell<usize>) -> Joined<'_> {
+/// The file joined with itself.
+fn join_twice(alloc: Global, sent: &Cell<usize>) -> Joined<'_> {
     let mut out = CountedOut::new(0, Refused::Full, sent);
     join(alloc, &THREE_STRIPES, &THREE_STRIPES, sent, &mut out)
-}
-
-/// The file joined with itself, once there is memory for it.
-fn join_twice(alloc: Global, sent: &Cell<usize>) -> Joined<'_> {
-    match join_twice_once(alloc, sent) {
-        (Some(MergeFault::OutOfMemory), _) => join_twice_once(alloc, sent),
-        answer => answer,
-    }
 }
 
 /// Where the stripes of the first file are read, and of the second: each behind all that stands before it in the joined
@@ -232,47 +195,4 @@ fn reads_of_merges(rt: HostRuntime) {
         "second",
         8,
     );
-}
-
-/// Why a source isn't opened under a cap.
-fn fault_under(alloc: Global, cap: u64, source: &mut SeenSource<'_>) -> Option<FileFault> {
-    match OrcFile::open_capped(alloc, source, cap) {
-        Ok(_) => None,
-        Err((fault, _)) => Some(fault),
-    }
-}
-
-fn open_capped_once(
-    alloc: Global,
-    cap: u64,
-    sent: &Cell<usize>,
-) -> (Option<FileFault>, SeenSource<'_>) {
-    let mut source = SeenSource::new(&THREE_STRIPES, 0, sent);
-    let fault = fault_under(alloc, cap, &mut source);
-    (fault, source)
-}
-
-/// Opens the file under a cap, once there is memory for it.
-fn open_capped(alloc: Global, cap: u64, sent: &Cell<usize>) -> (Option<FileFault>, SeenSource<'_>) {
-    match open_capped_once(alloc, cap, sent) {
-        (Some(FileFault::OutOfMemory), _) => open_capped_once(alloc, cap, sent),
-        answer => answer,
-    }
-}
-
-/// Under a cap the file is opened, or isn't for this reason, and so many of the tail's ranges are read.
-fn check_cap(rt: &impl Abort, alloc: Global, cap: u64, wanted: Option<FileFault>, count: usize) {
-    let sent = Cell::new(0);
-    let (fault, source) = open_capped(alloc, cap, &sent);
-    check_same(rt, "fault under a cap", &fault, &wanted);
-    demand(rt, are_reads(source.seen(), count, &[]), "reads", count);
-}
-
-/// Metadata, footer and postscript have 165 bytes. Under a cap below that both ends and the postscript alone are read.
-#[test]
-fn reads_under_a_cap(rt: HostRuntime) {
-    for cap in [0, 164] {
-        check_cap(&rt, rt.alloc(), cap, Some(FileFault::Limit), 3);
-    }
-    check_cap(&rt, rt.alloc(), 165, None, 5);
 }

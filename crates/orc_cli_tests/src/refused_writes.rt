@@ -1,7 +1,6 @@
 //! Outputs of which one call is refused. It isn't made again, and none is made behind it.
 
 use crate::assertions::{check_bytes, check_same, demand};
-use crate::commands::wants_memory;
 use crate::devices::{CountedOut, Refused, SeenSource};
 use crate::files::{SIX_SEVENS, THREE_SEVENS};
 use crate::reading::join;
@@ -65,7 +64,7 @@ fn join_sevens(alloc: Global, sent: &Cell<usize>, out: &mut CountedOut<'_>) -> O
 }
 
 /// What comes of the work where a call is refused: the fault, and the output.
-fn answer_once(
+fn answer(
     alloc: Global,
     work: Work,
     kth: usize,
@@ -84,20 +83,6 @@ fn answer_once(
         Work::Joined => join_sevens(alloc, sent, &mut out),
     };
     (fault, out)
-}
-
-/// The same, once there is memory for it.
-fn answer(
-    alloc: Global,
-    work: Work,
-    kth: usize,
-    refused: Refused,
-    sent: &Cell<usize>,
-) -> (Option<CliFault>, CountedOut<'_>) {
-    match answer_once(alloc, work, kth, refused, sent) {
-        (Some(fault), _) if wants_memory(fault) => answer_once(alloc, work, kth, refused, sent),
-        answer => answer,
-    }
 }
 
 /// All went out in fewer calls.
@@ -154,21 +139,23 @@ fn check_work(rt: &impl Abort, alloc: Global, work: Work, all: &[u8]) {
     }
 }
 
-#[test]
-fn refused_calls_of_what_is_printed(rt: HostRuntime) {
-    check_work(&rt, rt.alloc(), Work::Numbers, b"2 3 6 7 11\n");
-    let rows = Work::Printed(Command::Rows(None));
-    check_work(&rt, rt.alloc(), rows, ROWS.as_bytes());
-    let from_second = Work::Printed(Command::Rows(Some("1:0")));
-    check_work(&rt, rt.alloc(), from_second, FROM_SECOND_STRIPE.as_bytes());
-    let outline = Work::Printed(Command::Show);
-    check_work(&rt, rt.alloc(), outline, SHOWN.as_bytes());
-    let findings = Work::Printed(Command::Check);
-    check_work(&rt, rt.alloc(), findings, FOUND.as_bytes());
-}
+/// What is printed, whole.
+static PRINTED: [(Work, &str); 5] = [
+    (Work::Numbers, "2 3 6 7 11\n"),
+    (Work::Printed(Command::Rows(None)), ROWS),
+    (
+        Work::Printed(Command::Rows(Some("1:0"))),
+        FROM_SECOND_STRIPE,
+    ),
+    (Work::Printed(Command::Show), SHOWN),
+    (Work::Printed(Command::Check), FOUND),
+];
 
 #[test]
-fn refused_calls_of_files(rt: HostRuntime) {
+fn refused_calls(rt: HostRuntime) {
+    for (work, all) in &PRINTED {
+        check_work(&rt, rt.alloc(), *work, all.as_bytes());
+    }
     check_work(&rt, rt.alloc(), Work::Written, &SIX_SEVENS);
     check_work(&rt, rt.alloc(), Work::Joined, &SIX_SEVENS);
 }

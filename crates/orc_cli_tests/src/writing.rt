@@ -1,13 +1,12 @@
-//! Files written of lines.
+//! Files written of lines that are there, and of lines whose reading fails.
 
-use crate::assertions::{check_bytes, check_same, demand};
-use crate::commands::wants_memory;
-use crate::files::{NO_ROWS, SIX_SEVENS, THREE_SEVENS};
+use crate::assertions::{check_same, demand};
+use crate::files::SIX_SEVENS;
 use orc_cli_commands::{CliFault, StdLines, write_from, write_lines};
 use orc_file::{FileFault, VecSink};
 use orc_rle::Rle;
 use orc_stripe::Options;
-use orc_types::{JsonFault, TypeFault};
+use orc_types::JsonFault;
 use std::alloc::Global;
 use std::io::{self, BufReader, Read};
 use std::process::Abort;
@@ -15,7 +14,7 @@ use std::process::Abort;
 const NUMBERS: &str = "struct<n:bigint>";
 
 /// What is written of lines that are there, with or without a fault.
-pub(crate) fn written_whole(
+fn written_whole(
     alloc: Global,
     schema: &str,
     options: Options,
@@ -48,178 +47,6 @@ fn written_read<R: Read + Drop>(
     }
 }
 
-/// What is written of lines: of those that are there, or of those that are read, so many bytes at once.
-fn written_now(
-    alloc: Global,
-    schema: &str,
-    stripe_rows: u32,
-    input: &[u8],
-    at_once: Option<usize>,
-) -> (Option<CliFault>, Vec<u8>) {
-    let Some(options) = Options::new(Rle::One, 0, stripe_rows) else {
-        return (Some(CliFault::File(FileFault::Limit)), Vec::new(alloc));
-    };
-    match at_once {
-        None => written_whole(alloc, schema, options, input),
-        Some(at_once) => written_read(alloc, schema, options, input, at_once),
-    }
-}
-
-/// The same once there is memory.
-fn written(
-    alloc: Global,
-    schema: &str,
-    stripe_rows: u32,
-    input: &[u8],
-    at_once: Option<usize>,
-) -> (Option<CliFault>, Vec<u8>) {
-    match written_now(alloc, schema, stripe_rows, input, at_once) {
-        (Some(fault), _)
-            if wants_memory(fault)
-                || matches!(
-                    fault,
-                    CliFault::File(FileFault::WriteFailed) | CliFault::Types(TypeFault::OutOfMemory)
-                ) => { written_now(alloc, schema, stripe_rows, input, at_once) }
-        answer => answer,
-    }
-}
-
-/// Lines that are there, and lines that are read a byte, a part of a line, or all at once.
-static AT_ONCE: [Option<usize>; 4] = [None, Some(1), Some(9), Some(4096)];
-
-/// Lines, the rows of a stripe, and the file that is written of them.
-static FILES: [(&[u8], u32, &[u8]); 8] = [
-    (b"", 3, &NO_ROWS),
-    (b"\n\n", 3, &NO_ROWS),
-    (b"{\"n\":7}\n{\"n\":7}\n{\"n\":7}\n", 3, &THREE_SEVENS),
-    (b"{\"n\":7}\n{\"n\":7}\n{\"n\":7}", 3, &THREE_SEVENS),
-    (
-        b"\n{\"n\":7}\n\n\n{\"n\":7}\n{\"n\":7}\n\n",
-        4,
-        &THREE_SEVENS,
-    ),
-    (b"{\"n\":7}\r\n {\"n\" : 7 }\n{\"n\":7}\r", 3, &THREE_SEVENS),
-    (
-        b"{\"n\":1,\"n\":7}\n{\"n\":7}\n{\"n\":7}",
-        1000,
-        &THREE_SEVENS,
-    ),
-    (
-        b"{\"n\":7}\n{\"n\":7}\n{\"n\":7}\n{\"n\":7}\n{\"n\":7}\n{\"n\":7}",
-        3,
-        &SIX_SEVENS,
-    ),
-];
-
-/// The file is written of these lines.
-fn check_written(
-    rt: &impl Abort,
-    alloc: Global,
-    stripe_rows: u32,
-    input: &[u8],
-    at_once: Option<usize>,
-    file: &[u8],
-) {
-    let (fault, bytes) = written(alloc, NUMBERS, stripe_rows, input, at_once);
-    check_same(rt, "fault", &fault, &None);
-    check_bytes(rt, "file", &bytes, file);
-}
-
-#[test]
-fn files_of_lines(rt: HostRuntime) {
-    for (input, stripe_rows, file) in &FILES {
-        for at_once in AT_ONCE {
-            check_written(&rt, rt.alloc(), *stripe_rows, input, at_once, file);
-        }
-    }
-}
-
-/// Schemas and lines in stripes of three rows that are refused, and how many bytes of a file of six sevens
-/// stand then.
-static REFUSED: [(&str, &[u8], CliFault, usize); 12] = [
-    (NUMBERS, b"\r\n", CliFault::Json(JsonFault::Syntax), 3),
-    (NUMBERS, b" ", CliFault::Json(JsonFault::Syntax), 3),
-    (NUMBERS, b"{\"n\":7", CliFault::Json(JsonFault::Syntax), 3),
-    (
-        NUMBERS,
-        b"{\"n\":7}\n{\"n\":\xff}",
-        CliFault::Json(JsonFault::Syntax),
-        3,
-    ),
-    (
-        NUMBERS,
-        b"{\n\"n\":7}",
-        CliFault::Json(JsonFault::Syntax),
-        3,
-    ),
-    (
-        NUMBERS,
-        b"{\"m\":7}",
-        CliFault::Json(JsonFault::UnknownField),
-        3,
-    ),
-    (NUMBERS, b"[7]", CliFault::Json(JsonFault::WrongShape), 3),
-    (
-        NUMBERS,
-        b"{\"n\":1.0}",
-        CliFault::Json(JsonFault::WrongShape),
-        3,
-    ),
-    (
-        NUMBERS,
-        b"{\"n\":7}\n{\"n\":7}\n{\"n\":7}\n{\"n\":7}\n{\"n\":true}\n",
-        CliFault::Json(JsonFault::WrongShape),
-        22,
-    ),
-    (
-        "struct<n:int>",
-        b"{\"n\":2147483648}",
-        CliFault::Json(JsonFault::Range),
-        3,
-    ),
-    (
-        "struct<n:bigint,n:bigint>",
-        b"{\"n\":7}",
-        CliFault::Json(JsonFault::DuplicateField),
-        3,
-    ),
-    ("bigint", b"{", CliFault::Types(TypeFault::RootNotStruct), 0),
-];
-
-/// So many bytes of a file of six sevens stand.
-fn check_stands(rt: &impl Abort, bytes: &[u8], stands: usize) {
-    demand(rt, bytes.len() == stands, "bytes", bytes.len());
-    demand(
-        rt,
-        SIX_SEVENS.starts_with(bytes),
-        "front, bytes",
-        bytes.len(),
-    );
-}
-
-/// These lines are refused.
-fn check_refused(
-    rt: &impl Abort,
-    alloc: Global,
-    schema: &str,
-    input: &[u8],
-    at_once: Option<usize>,
-    wanted: (CliFault, usize),
-) {
-    let (fault, bytes) = written(alloc, schema, 3, input, at_once);
-    check_same(rt, schema, &fault, &Some(wanted.0));
-    check_stands(rt, &bytes, wanted.1);
-}
-
-#[test]
-fn lines_that_are_refused(rt: HostRuntime) {
-    for (schema, input, wanted, stands) in &REFUSED {
-        for at_once in AT_ONCE {
-            check_refused(&rt, rt.alloc(), schema, input, at_once, (*wanted, *stands));
-        }
-    }
-}
-
 /// Bytes, and behind them one failure. A second try would find the end.
 #[derive(Drop)]
 struct Broken<'a> {
@@ -240,54 +67,104 @@ impl Read for Broken<'_> {
     }
 }
 
-/// Lines behind which reading fails, in stripes of three rows, and how many bytes of a file of six sevens stand then.
-static BROKEN: [(&[u8], usize); 4] = [
-    (b"", 3),
-    (b"{\"n\":7}\n{\"n\":7}", 3),
-    (b"{\"n\":7}\n{\"n\":7}\n{\"n\":7}\n", 22),
-    (b"{\"n\":7}\n{\"n\":7}\n{\"n\":7}\n{\"n\":7}\n{\"n", 22),
-];
-
-/// What is written of lines behind which reading fails.
-fn written_broken_once(
-    alloc: Global,
-    options: Options,
-    left: &[u8],
-) -> (Option<CliFault>, Vec<u8>) {
-    let input = Broken {
-        left,
-        failed: false,
-    };
-    written_read(alloc, NUMBERS, options, input, 9)
+/// How lines are given.
+#[derive(Clone, Copy)]
+enum Given {
+    /// They are there.
+    There,
+    /// They are read, nine bytes at once, and reading fails behind them.
+    Broken,
 }
 
-/// The same once there is memory.
-fn written_broken(alloc: Global, options: Options, left: &[u8]) -> (Option<CliFault>, Vec<u8>) {
-    match written_broken_once(alloc, options, left) {
-        (Some(fault), _) if wants_memory(fault) => written_broken_once(alloc, options, left),
-        answer => answer,
+/// What is written of lines.
+fn written(
+    alloc: Global,
+    options: Options,
+    given: Given,
+    lines: &[u8],
+) -> (Option<CliFault>, Vec<u8>) {
+    match given {
+        Given::There => written_whole(alloc, NUMBERS, options, lines),
+        Given::Broken => {
+            let input = Broken {
+                left: lines,
+                failed: false,
+            };
+            written_read(alloc, NUMBERS, options, input, 9)
+        }
     }
 }
 
-fn check_broken(rt: &impl Abort, alloc: Global, options: Options, left: &[u8], stands: usize) {
-    let (fault, bytes) = written_broken(alloc, options, left);
-    check_same(
+const FAILED: Option<CliFault> = Some(CliFault::File(FileFault::SourceFailed));
+
+/// Lines in stripes of three rows, the fault, and how many bytes of a file of six sevens stand then.
+static WRITTEN: [(Given, &[u8], Option<CliFault>, usize); 7] = [
+    (
+        Given::There,
+        b"{\"n\":7}\n{\"n\":7}\n\n{\"n\":7}\n{\"n\":7}\n{\"n\":7}\n{\"n\":7}",
+        None,
+        173,
+    ),
+    (
+        Given::There,
+        b"{\"n\":7}\n{\"n\":7}\n{\"n\":7}\n{\"n\":7}\n{\"n\":true}\n",
+        Some(CliFault::Json(JsonFault::WrongShape)),
+        22,
+    ),
+    (Given::Broken, b"", FAILED, 3),
+    (Given::Broken, b"{\"n\":7}\n{\"n\":7}", FAILED, 3),
+    (
+        Given::Broken,
+        b"{\"n\":7}\n{\"n\":7}\n{\"n\":7}\n",
+        FAILED,
+        22,
+    ),
+    (
+        Given::Broken,
+        b"{\"n\":7}\n{\"n\":7}\n{\"n\":7}\n{\"n\":7}\n{\"n",
+        FAILED,
+        22,
+    ),
+    (
+        Given::Broken,
+        b"{\"n\":7}\n{\"n\":true}\n{\"n\":7}\n",
+        Some(CliFault::Json(JsonFault::WrongShape)),
+        3,
+    ),
+];
+
+/// So many bytes of a file of six sevens stand.
+fn check_stands(rt: &impl Abort, bytes: &[u8], stands: usize) {
+    demand(rt, bytes.len() == stands, "bytes", bytes.len());
+    demand(
         rt,
-        "fault",
-        &fault,
-        &Some(CliFault::File(FileFault::SourceFailed)),
+        SIX_SEVENS.starts_with(bytes),
+        "front, bytes",
+        bytes.len(),
     );
-    check_stands(rt, &bytes, stands);
+}
+
+/// This fault is answered of the lines, and so many bytes stand.
+fn check_written(
+    rt: &impl Abort,
+    alloc: Global,
+    options: Options,
+    lines: (Given, &[u8]),
+    wanted: (Option<CliFault>, usize),
+) {
+    let (fault, bytes) = written(alloc, options, lines.0, lines.1);
+    check_same(rt, "fault", &fault, &wanted.0);
+    check_stands(rt, &bytes, wanted.1);
 }
 
 #[test]
-fn lines_whose_reading_fails(rt: HostRuntime) {
+fn files_of_lines(rt: HostRuntime) {
     let options = Options::new(Rle::One, 0, 3);
-    assert!(rt; options.is_some());
+    demand(&rt, options.is_some(), "options", 3);
     let Some(options) = options else {
         return;
     };
-    for (left, stands) in BROKEN {
-        check_broken(&rt, rt.alloc(), options, left, stands);
+    for (given, lines, fault, stands) in &WRITTEN {
+        check_written(&rt, rt.alloc(), options, (*given, lines), (*fault, *stands));
     }
 }

@@ -1,2 +1,1 @@
-pub mod ColumnKinds
 pub mod ToldBytes

@@ -1,8 +1,8 @@
 //! Calls of `orc_file` that promise nothing, so that what its contracts say is no part of each caller's proof.
 
-use orc_file::{FileFault, OrcFile, Source};
-use orc_stripe::{StripeFault, StripeView};
-use orc_types::Row;
+use orc_file::{FileFault, OrcFile, Sink, Source, Tail, Writer};
+use orc_stripe::{Options, StripeFault, StripeView};
+use orc_types::{Row, Schema};
 use std::alloc::Global;
 
 /// A file, or the fault and its source.
@@ -91,4 +91,24 @@ pub(crate) fn viewed_rows<'a>(
     view: &StripeView<'a>,
 ) -> Result<Vec<Row<'a>>, StripeFault> {
     view.rows(alloc)
+}
+
+/// A writer, or the fault and its output.
+pub(crate) fn new_writer<W: Sink>(
+    alloc: Global,
+    schema: Schema,
+    options: Options,
+    out: W,
+) -> Result<Writer<W>, (FileFault, W)> {
+    Writer::new(alloc, schema, options, out)
+}
+
+/// Pushes a copy of a row.
+pub(crate) fn push<W: Sink>(writer: &mut Writer<W>, row: &Row<'_>) -> Result<(), FileFault> {
+    writer.push(row)
+}
+
+/// Writes the file's end.
+pub(crate) fn finish<W: Sink>(writer: Writer<W>) -> Result<(Tail, W), (FileFault, W)> {
+    writer.finish()
 }

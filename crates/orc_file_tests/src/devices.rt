@@ -81,26 +81,6 @@ fn slices_are_read(rt: HostRuntime) {
     reads_ranges(&rt, rt.alloc(), &mut &mut source);
 }
 
-/// Of three reads the k-th alone fails.
-fn check_reads(rt: &impl Abort, alloc: Global, source: &mut FailSource<'_>, kth: u64) {
-    for read in 1..4u64 {
-        let fault = range(alloc, source, read, 2).err();
-        let wanted = if read == kth {
-            Some(RangeFault::SourceFailed)
-        } else {
-            None
-        };
-        check_same(rt, &fault, &wanted, "read, failure", &[read, kth]);
-    }
-}
-
-#[test]
-fn one_read_fails(rt: HostRuntime) {
-    for kth in 1..4u64 {
-        check_reads(&rt, rt.alloc(), &mut FailSource::new(&BYTES, kth), kth);
-    }
-}
-
 /// `write_all`, of whose contract its callers need nothing.
 fn sent<W: Sink>(sink: &mut W, bytes: &[u8]) -> Result<(), usize> {
     write_all(sink, bytes)
@@ -172,31 +152,6 @@ fn check_taken(
     );
 }
 
-fn check_sink(
-    rt: &impl Abort,
-    alloc: Global,
-    a_call: usize,
-    room: usize,
-    full: Full,
-) -> Result<(), AllocError> {
-    let mut sink = full_sink(alloc, a_call, room, full)?;
-    let answer = sent(&mut sink, &BYTES);
-    check_taken(rt, answer, sink.bytes(), a_call, room);
-    Ok(())
-}
-
-#[test]
-fn sinks_fill_up(rt: HostRuntime) -> Result<(), AllocError> {
-    for a_call in A_CALL {
-        for room in 0..13usize {
-            for full in [Full::Fails, Full::TakesNothing] {
-                check_sink(&rt, rt.alloc(), a_call, room, full)?;
-            }
-        }
-    }
-    Ok(())
-}
-
 fn check_writer(
     rt: &impl Abort,
     alloc: Global,
@@ -222,22 +177,18 @@ fn writers_fill_up(rt: HostRuntime) -> Result<(), AllocError> {
     Ok(())
 }
 
-/// The name of a file of this process alone.
-fn name_of(rt: &HostRuntime, name: &str) -> Result<String, AllocError> {
-    format!(in rt.alloc(); "orc_io-{}-{name}", process::id(rt.process()))
-}
-
-/// The path of such a file.
-fn path_of(rt: &HostRuntime, name: &str) -> io::Result<PathBuf> {
+/// The path of a file of this process alone.
+fn path_of(rt: &HostRuntime) -> io::Result<PathBuf> {
     let mut path = env::temp_dir(rt)?;
-    path.push(name_of(rt, name)?.as_str())?;
+    let name = format!(in rt.alloc(); "orc_io-{}", process::id(rt.process()))?;
+    path.push(name.as_str())?;
     Ok(path)
 }
 
 /// The same once there is memory for it.
-fn made_path(rt: &HostRuntime, name: &str) -> io::Result<PathBuf> {
-    match path_of(rt, name) {
-        Err(_) => path_of(rt, name),
+fn made_path(rt: &HostRuntime) -> io::Result<PathBuf> {
+    match path_of(rt) {
+        Err(_) => path_of(rt),
         path => path,
     }
 }
@@ -248,28 +199,6 @@ fn source_of<'a>(files: &'a HostRuntime, path: &'a str) -> io::Result<FileSource
         Ok(source) => Ok(source),
         Err(_) => Err(io::Error::from(io::ErrorKind::NotFound)),
     }
-}
-
-/// Every range of the table is read from the file, before the source rests and then.
-fn read_file(rt: &impl Abort, files: &HostRuntime, path: &str) -> io::Result<()> {
-    let mut source = source_of(files, path)?;
-    reads_ranges(rt, files.alloc(), &mut source);
-    source.rest();
-    reads_ranges(rt, files.alloc(), &mut &mut source);
-    Ok(())
-}
-
-/// The same of a file that is written before and removed then.
-fn write_and_read(rt: &impl Abort, files: &HostRuntime, path: &PathBuf) -> io::Result<()> {
-    fs::write(files, path.as_path(), &BYTES)?;
-    read_file(rt, files, path.as_str())?;
-    fs::remove_file(files, path.as_path())
-}
-
-#[test]
-fn files_are_read(rt: HostRuntime) -> io::Result<()> {
-    let path = made_path(&rt, "read")?;
-    write_and_read(&rt, &rt, &path)
 }
 
 /// Whether three bytes are read from the front.
@@ -326,69 +255,48 @@ fn check_removed<S: Source>(rt: &impl Abort, alloc: Global, source: &mut S) {
     demand(rt, !is_read(alloc, source), "of no file", &[]);
 }
 
-/// The source is read as the table says where its file is changed.
+/// The source is read as the table says where its file is changed, or another one is put in its place.
 fn check_changes<S: Source>(
     rt: &impl Abort,
     files: &HostRuntime,
     path: &PathBuf,
     source: &mut S,
+    is_replaced: bool,
 ) -> io::Result<()> {
     for (len, second, wanted) in CHANGES {
+        if is_replaced {
+            source.rest();
+            fs::remove_file(files, path.as_path())?;
+        }
         put_file(files, path, len, second)?;
         check_change(rt, files.alloc(), source, [len as u64, second], wanted);
     }
     Ok(())
 }
 
-/// A file is changed under its source, and removed.
-fn change_file(rt: &impl Abort, files: &HostRuntime, path: &PathBuf) -> io::Result<()> {
+/// A file is read, before its source rests and then, changed under it or replaced, and removed.
+fn change_file(
+    rt: &impl Abort,
+    files: &HostRuntime,
+    path: &PathBuf,
+    is_replaced: bool,
+) -> io::Result<()> {
     put_file(files, path, 11, 5)?;
     let mut source = source_of(files, path.as_str())?;
-    check_changes(rt, files, path, &mut source)?;
+    reads_ranges(rt, files.alloc(), &mut source);
+    source.rest();
+    reads_ranges(rt, files.alloc(), &mut &mut source);
+    check_changes(rt, files, path, &mut source, is_replaced)?;
     fs::remove_file(files, path.as_path())?;
     check_removed(rt, files.alloc(), &mut source);
     Ok(())
 }
 
-/// There is no source of the file of that path.
-fn check_gone(rt: &impl Abort, files: &HostRuntime, path: &str) {
-    demand(rt, source_of(files, path).is_err(), "no file", &[]);
-}
-
 #[test]
 fn files_that_change_are_refused(rt: HostRuntime) -> io::Result<()> {
-    let path = made_path(&rt, "changed")?;
-    change_file(&rt, &rt, &path)?;
-    check_gone(&rt, &rt, path.as_str());
-    Ok(())
-}
-
-/// The source is read as the table says where another file is put in place of its own.
-fn check_replaced<S: Source>(
-    rt: &impl Abort,
-    files: &HostRuntime,
-    path: &PathBuf,
-    source: &mut S,
-) -> io::Result<()> {
-    for (len, second, wanted) in CHANGES {
-        source.rest();
-        fs::remove_file(files, path.as_path())?;
-        put_file(files, path, len, second)?;
-        check_change(rt, files.alloc(), source, [len as u64, second], wanted);
+    let path = made_path(&rt)?;
+    for is_replaced in [false, true] {
+        change_file(&rt, &rt, &path, is_replaced)?;
     }
     Ok(())
-}
-
-/// Other files are put in place of a source's file, and the last one is removed.
-fn replace_file(rt: &impl Abort, files: &HostRuntime, path: &PathBuf) -> io::Result<()> {
-    put_file(files, path, 11, 5)?;
-    let mut source = source_of(files, path.as_str())?;
-    check_replaced(rt, files, path, &mut source)?;
-    fs::remove_file(files, path.as_path())
-}
-
-#[test]
-fn files_put_in_place_of_others_are_refused(rt: HostRuntime) -> io::Result<()> {
-    let path = made_path(&rt, "replaced")?;
-    replace_file(&rt, &rt, &path)
 }

@@ -1,6 +1,7 @@
-//! Tests of `orc_file` by its public calls, and of the devices below it: sources and sinks, tails, statistics, stripes
-//! loaded, the rows of files, and files that are written. They stand apart from both, so that neither is proved again
-//! with them.
+//! Tests of `orc_file` by its public calls, and of the devices below it, where no command line brings them about: sources
+//! and sinks that fail, caps, stripes loaded, what stands after a refusal. What files have to be read as, refused for and
+//! written as, vectors/ and scripts/cases say. They stand apart from both crates, so that neither is proved again with
+//! them.
 #![tactic(auto)]
 
 #[cfg(test)]
@@ -15,8 +16,6 @@ mod loads;
 mod read_back;
 #[cfg(test)]
 mod rows_of_files;
-#[cfg(test)]
-mod statistics;
 #[cfg(test)]
 mod tails;
 #[cfg(test)]

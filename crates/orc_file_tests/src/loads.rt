@@ -2,7 +2,7 @@
 
 use crate::assertions::{check_list, check_same, demand, passes};
 use crate::calls::{load, opened, stripe_rows, view, viewed_rows};
-use crate::rows_of_files::{has_upwards, have_numbers};
+use crate::rows_of_files::have_numbers;
 use orc_file::{FileFault, OrcFile};
 use orc_stripe::{StripeFault, StripeView};
 use orc_test_io::{SeenSource, UPWARDS};
@@ -141,32 +141,6 @@ fn check_loads(rt: &impl Abort, alloc: Global) -> Result<(), FileFault> {
 fn stripes_are_loaded(rt: HostRuntime) {
     let answer = match check_loads(&rt, rt.alloc()) {
         Err(FileFault::OutOfMemory) => check_loads(&rt, rt.alloc()),
-        answer => answer,
-    };
-    passes(&rt, answer);
-}
-
-/// A file's rows are read.
-fn check_upwards(
-    rt: &impl Abort,
-    alloc: Global,
-    file: &mut OrcFile<SeenSource<'static>>,
-) -> Result<(), FileFault> {
-    demand(rt, has_upwards(alloc, file)?, "rows", &[]);
-    Ok(())
-}
-
-/// All rows are read in the same ranges.
-fn check_rows(rt: &impl Abort, alloc: Global) -> Result<(), FileFault> {
-    let mut file = opened(alloc, SeenSource::new(&UPWARDS))?;
-    let answer = check_upwards(rt, alloc, &mut file);
-    check_ranges(rt, answer, &file.into_parts().1)
-}
-
-#[test]
-fn rows_are_read_in_as_many_ranges(rt: HostRuntime) {
-    let answer = match check_rows(&rt, rt.alloc()) {
-        Err(FileFault::OutOfMemory) => check_rows(&rt, rt.alloc()),
         answer => answer,
     };
     passes(&rt, answer);

@@ -1,5 +1,5 @@
-//! Tests of `orc_json` and of `orc_json_reader` by their public calls: rows of every kind as JSON text, and rows that
-//! texts of JSON spell. They stand apart from both, so that neither is proved again with them.
+//! Tests of `orc_json` and of `orc_json_reader` by their public calls. They stand apart from both, so that neither is proved
+//! again with them.
 #![tactic(auto)]
 
 #[cfg(test)]

@@ -1,6 +1,5 @@
-//! Assertions. Each that shows its values takes seconds to prove where it stands, so these few have those of all tests.
+//! Assertions. Each that shows its values takes seconds to prove where it stands, so these two have those of all tests.
 //! Of each a word and a number say which one it is.
-use orc_file::FileFault;
 use std::fmt;
 use std::process::Abort;
 
@@ -15,17 +14,7 @@ pub(crate) fn check_same<T: PartialEq + fmt::Debug>(
     assert_eq!(rt; *found, *wanted, "{what} {number}");
 }
 
-/// The bytes are those that are wanted.
-pub(crate) fn check_bytes(rt: &impl Abort, what: &str, number: u64, found: &[u8], wanted: &[u8]) {
-    assert_eq!(rt; found, wanted, "{what} {number}");
-}
-
 /// It holds.
 pub(crate) fn demand(rt: &impl Abort, holds: bool, what: &str, number: u64) {
     assert!(rt; holds, "{what} {number}");
-}
-
-/// The check passes.
-pub(crate) fn passes(rt: &impl Abort, answer: Result<(), FileFault>) {
-    assert_eq!(rt; answer, Ok(()));
 }

@@ -1,8 +1,3 @@
-//! What is found in files that were changed, by `orc_check`.
-mod changed;
-mod children;
+//! What is found by `orc_check`: of sources that fail, and of files with another byte.
 mod each_byte;
 mod failing;
-mod parts;
-mod tails;
-mod written;

@@ -1,6 +1,6 @@
-//! Tests of `orc_stripe` and of the crates below it by their public calls: stripes read all at once and row by row, readers
-//! that enter at positions, stripes that are written and read again, their row indexes, and reading on from a group. They
-//! stand apart from all these, so that none is proved again with them.
+//! Tests of `orc_stripe` and of the crates below it by their public calls, of what no file shows that the program reads or
+//! writes: those stand in vectors/ and scripts/cases/. They stand apart from all these crates, so that none is proved again
+//! with them.
 #![tactic(auto)]
 
 /// What a check answers, which is asked again where memory was refused once. A closure would be proved anew in each
@@ -20,15 +20,7 @@ mod assertions;
 #[cfg(test)]
 mod entering;
 #[cfg(test)]
-mod from_groups;
-#[cfg(test)]
 mod indexes;
-#[cfg(test)]
-mod late_faults;
-#[cfg(test)]
-mod maps;
-#[cfg(test)]
-mod positions;
 #[cfg(test)]
 mod reading;
 #[cfg(test)]

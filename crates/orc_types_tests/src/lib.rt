@@ -1,5 +1,4 @@
-//! Tests of `orc_types` by its public calls: schemas and their texts, rows, and rows as JSON. They stand apart
-//! from it, so that it is not proved again with them.
+//! Tests of `orc_types` by its public calls. They stand apart from it, so that it is not proved again with them.
 #![tactic(auto)]
 
 #[cfg(test)]

@@ -1,39 +1,28 @@
 //! Files of which one byte is another one: reading, checking and merging each come to an end, and agree.
-use super::written::arrays;
-use crate::assertions::passes;
+use crate::assertions::demand;
 use crate::calls::{count_rows, joined, refusal_of};
+use crate::tests::LISTS;
 use orc_file::{FileFault, SliceSource};
 use orc_test_io::SEVENS;
 use std::alloc::Global;
 use std::process::Abort;
 
-/// How many rows a file has; none where it is refused.
-fn rows_in(alloc: Global, bytes: &[u8]) -> Result<Option<usize>, FileFault> {
-    match count_rows(alloc, bytes) {
-        Ok(rows) => Ok(Some(rows)),
+/// What is answered; none where it is refused.
+fn unless_refused<T: Drop>(answer: Result<T, FileFault>) -> Result<Option<T>, FileFault> {
+    match answer {
+        Ok(found) => Ok(Some(found)),
         Err(FileFault::OutOfMemory) => Err(FileFault::OutOfMemory),
         Err(_) => Ok(None),
     }
 }
 
-/// Whether something can be found of a file: none is, where it is refused.
-fn is_checked(alloc: Global, bytes: &[u8]) -> Result<bool, FileFault> {
-    let refusal = refusal_of(alloc, &mut SliceSource::new(bytes))?;
-    Ok(refusal.is_none())
-}
-
-/// A file merged with itself; none where that is refused.
-fn doubled(alloc: Global, bytes: &[u8]) -> Result<Option<Vec<u8>>, FileFault> {
-    match joined(alloc, bytes, bytes) {
-        Ok(file) => Ok(Some(file)),
-        Err(FileFault::OutOfMemory) => Err(FileFault::OutOfMemory),
-        Err(_) => Ok(None),
-    }
-}
-
-/// Whether a file has so many rows twice; where it is refused, they are none.
+/// Whether a file that is joined with itself, unless that is refused, has so many rows twice; where it is refused, they
+/// are none.
 fn has_twice(alloc: Global, bytes: &[u8], rows: Option<usize>) -> Result<bool, FileFault> {
-    match (rows, rows_in(alloc, bytes)?) {
+    let Some(twice) = unless_refused(joined(alloc, bytes, bytes))? else {
+        return Ok(true);
+    };
+    match (rows, unless_refused(count_rows(alloc, &twice))?) {
         (Some(once), Some(both)) => Ok(once.checked_mul(2) == Some(both)),
         (None, None) => Ok(true),
         _ => Ok(false),
@@ -42,42 +31,27 @@ fn has_twice(alloc: Global, bytes: &[u8], rows: Option<usize>) -> Result<bool, F
 
 /// Whether a file is checked exactly where it is read, and merged with itself has its rows twice.
 fn agree(alloc: Global, bytes: &[u8]) -> Result<bool, FileFault> {
-    let rows = rows_in(alloc, bytes)?;
-    if is_checked(alloc, bytes)? != rows.is_some() {
+    let rows = unless_refused(count_rows(alloc, bytes))?;
+    let refusal = refusal_of(alloc, &mut SliceSource::new(bytes))?;
+    if refusal.is_none() != rows.is_some() {
         return Ok(false);
     }
-    match doubled(alloc, bytes)? {
-        Some(twice) => has_twice(alloc, &twice, rows),
-        None => Ok(true),
-    }
+    has_twice(alloc, bytes, rows)
 }
 
-/// Puts a byte at a place.
-fn put(bytes: &mut [u8], place: usize, value: u8) {
+/// Puts the next value at a place, behind 255 the first one.
+fn put_next(bytes: &mut [u8], place: usize) {
     if let Some(byte) = bytes.get_mut(place) {
-        *byte = value;
+        *byte = byte.wrapping_add(1);
     }
 }
 
-/// All agree on a file with this value at this place.
-fn check_agree(rt: &impl Abort, alloc: Global, bytes: &[u8], place: usize, value: u8) {
-    let answer = match agree(alloc, bytes) {
-        Err(FileFault::OutOfMemory) => agree(alloc, bytes),
-        done => done,
-    };
-    assert!(rt; answer == Ok(true), "{value} at {place} of {}", bytes.len());
-}
-
-/// Puts each value in turn at a place, and the byte that was there at last.
+/// All agree on a file whose byte at a place has each value in turn, that which was there at last.
 fn change_byte(rt: &impl Abort, alloc: Global, bytes: &mut [u8], place: usize) {
-    let Some(was) = bytes.get(place).copied() else {
-        return;
-    };
-    for value in 0..=255_u8 {
-        put(bytes, place, value);
-        check_agree(rt, alloc, bytes, place, value);
+    for _ in 0..256u32 {
+        put_next(bytes, place);
+        demand(rt, agree(alloc, bytes) == Ok(true), "place", place as u64);
     }
-    put(bytes, place, was);
 }
 
 fn change_each_byte(rt: &impl Abort, alloc: Global, bytes: &mut [u8]) {
@@ -92,21 +66,8 @@ fn a_byte_of_the_sevens_is_another(rt: HostRuntime) {
     change_each_byte(&rt, rt.alloc(), &mut bytes);
 }
 
-/// The five rows of arrays, once there is memory to write them.
-fn written(alloc: Global) -> Result<Vec<u8>, FileFault> {
-    match arrays(alloc) {
-        Err(FileFault::OutOfMemory | FileFault::WriteFailed) => arrays(alloc),
-        done => done,
-    }
-}
-
-fn change_arrays(rt: &impl Abort, alloc: Global) -> Result<(), FileFault> {
-    let mut bytes = written(alloc)?;
-    change_each_byte(rt, alloc, &mut bytes);
-    Ok(())
-}
-
 #[test]
-fn a_byte_of_the_arrays_is_another(rt: HostRuntime) {
-    passes(&rt, change_arrays(&rt, rt.alloc()));
+fn a_byte_of_the_lists_is_another(rt: HostRuntime) {
+    let mut bytes = LISTS;
+    change_each_byte(&rt, rt.alloc(), &mut bytes);
 }

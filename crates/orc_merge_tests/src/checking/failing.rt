@@ -1,30 +1,29 @@
 //! Sources of which one read fails.
-use super::changed::check_source;
-use crate::assertions::{check_same, demand, passes};
-use crate::calls::refusal_of;
+use crate::assertions::{check_same, demand};
+use crate::calls::{checked, refusal_of};
+use orc_check::Finding;
 use orc_file::FileFault;
 use orc_test_io::{EMPTY, FailSource, SEVENS, UPWARDS};
 use std::alloc::Global;
 use std::process::Abort;
 
 /// Each stripe of `UPWARDS` says that it has sevens.
-static OF_UPWARDS: [&str; 3] = [
-    "StripeStatistic 1 1",
-    "StripeStatistic 2 1",
-    "FileStatistic 1",
+static OF_UPWARDS: [Finding; 3] = [
+    Finding::StripeStatistic(1, 1),
+    Finding::StripeStatistic(2, 1),
+    Finding::FileStatistic(1),
 ];
 
-/// Without a failure of its reads, or with one that comes too late, the findings are right.
-fn check_unfailed(
+/// What is found of a source's file are these findings, in their order, by so many reads in all.
+fn check_source(
     rt: &impl Abort,
     alloc: Global,
-    bytes: &[u8],
-    kth: u64,
+    source: &mut FailSource<'_>,
+    wanted: &[Finding],
     reads: u64,
-    wanted: &[&str],
 ) -> Result<(), FileFault> {
-    let mut source = FailSource::new(bytes, kth);
-    check_source(rt, alloc, &mut source, wanted)?;
+    let found = checked(alloc, source)?;
+    demand(rt, found.as_slice() == wanted, "findings", reads);
     demand(rt, source.reads() == reads, "reads", source.reads());
     Ok(())
 }
@@ -35,44 +34,37 @@ fn check_failed(
     alloc: Global,
     bytes: &[u8],
     kth: u64,
-    wanted: &[&str],
+    wanted: &[Finding],
+    reads: u64,
 ) -> Result<(), FileFault> {
     let mut source = FailSource::new(bytes, kth);
     let refusal = refusal_of(alloc, &mut source)?;
     check_same(rt, "read", kth, &refusal, &Some(FileFault::SourceFailed));
     demand(rt, source.reads() == kth, "reads", source.reads());
-    check_source(rt, alloc, &mut source, wanted)
+    check_source(rt, alloc, &mut source, wanted, reads.saturating_add(kth))
 }
 
-/// The reads fail in turn.
-fn check_failing(
+/// No read fails, one that doesn't come, and each in turn.
+fn check_each_read(
     rt: &impl Abort,
     alloc: Global,
     bytes: &[u8],
     reads: u64,
-    wanted: &[&str],
+    wanted: &[Finding],
 ) -> Result<(), FileFault> {
-    check_unfailed(rt, alloc, bytes, 0, reads, wanted)?;
-    check_unfailed(rt, alloc, bytes, reads.saturating_add(1), reads, wanted)?;
+    let late = reads.saturating_add(1);
+    check_source(rt, alloc, &mut FailSource::new(bytes, 0), wanted, reads)?;
+    check_source(rt, alloc, &mut FailSource::new(bytes, late), wanted, reads)?;
     for kth in 1..=reads {
-        check_failed(rt, alloc, bytes, kth, wanted)?;
+        check_failed(rt, alloc, bytes, kth, wanted, reads)?;
     }
     Ok(())
 }
 
-/// The same, once there is memory for it.
-fn check_each_read(rt: &impl Abort, alloc: Global, bytes: &[u8], reads: u64, wanted: &[&str]) {
-    let answer = match check_failing(rt, alloc, bytes, reads, wanted) {
-        Err(FileFault::OutOfMemory) => check_failing(rt, alloc, bytes, reads, wanted),
-        done => done,
-    };
-    passes(rt, answer);
-}
-
 /// Files, how often each is read when it is checked, and the findings.
 #[test]
-fn each_read_fails(rt: HostRuntime) {
-    check_each_read(&rt, rt.alloc(), &EMPTY, 4, &[]);
-    check_each_read(&rt, rt.alloc(), &SEVENS, 6, &[]);
-    check_each_read(&rt, rt.alloc(), &UPWARDS, 8, &OF_UPWARDS);
+fn each_read_fails(rt: HostRuntime) -> Result<(), FileFault> {
+    check_each_read(&rt, rt.alloc(), &EMPTY, 4, &[])?;
+    check_each_read(&rt, rt.alloc(), &SEVENS, 6, &[])?;
+    check_each_read(&rt, rt.alloc(), &UPWARDS, 8, &OF_UPWARDS)
 }

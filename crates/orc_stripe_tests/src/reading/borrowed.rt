@@ -1,5 +1,6 @@
 //! Texts and bytes of rows are slices of the stripe, entries of a dictionary included.
-use super::{ONE_BYTE, ONE_WORD, demand, passes, stripe_of};
+use super::{ONE_BYTE, ONE_WORD, stripe_of};
+use crate::assertions::{demand, passes};
 use orc_stripe::StripeFault;
 use orc_test_lines::{rows_of, schema_of};
 use orc_types::{Row, Value};
@@ -56,7 +57,7 @@ fn check_stripe(
     let (info, bytes) = stripe_of(alloc, data, footer, count)?;
     let rows = rows_of(alloc, &schema, info, &bytes)?;
     let holds = rows.len() as u64 == count && are_borrowed(&rows);
-    demand(rt, holds, text, data);
+    demand(rt, holds, text);
     Ok(())
 }
 

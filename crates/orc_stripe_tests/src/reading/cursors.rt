@@ -1,145 +1,68 @@
-//! Rows by a cursor: as many as a stripe may have, those before bytes that are no run, and what is left.
-use super::shapes::{MOST_COLUMNS, footer_of, wide_schema};
-use super::{FOUR_BYTES, THREE_BYTES, check_refused, demand, passes, stripe_of};
+//! Rows by a cursor: those before bytes that are no run, what it answers from then on, and what is left behind a row.
+use super::{FOUR_BYTES, THREE_BYTES, stripe_of};
+use crate::assertions::{demand, passes, refusal, same_fault};
 use orc_rle::RunFault;
 use orc_stripe::{RowCursor, StreamKind, StripeFault};
-use orc_test_lines::{cursor_of, line_of, next_row, rest_of, schema_of};
+use orc_test_lines::{
+    cursor_of, line_of, lines_one_by_one, lines_straight, next_row, rest_of, schema_of,
+};
 use orc_types::{Row, Schema};
-use orc_wire::StripeInfo;
 use std::alloc::Global;
 use std::process::Abort;
 
-/// PRESENT of the root with 4,129,778 bytes, both columns DIRECT.
-static MANY_MARKS: [u8; 19] = [
-    0x0a, 0x09, 0x08, 0x00, 0x10, 0x00, 0x18, 0xf2, 0x87, 0xfc, 0x01, 0x12, 0x02, 0x08, 0x00, 0x12,
-    0x02, 0x08, 0x00,
-];
-
-/// 64 runs of 130 bytes, each of which marks eight nulls.
-static NULL_RUNS: [u8; 128] = [
-    0x7f, 0x00, 0x7f, 0x00, 0x7f, 0x00, 0x7f, 0x00, 0x7f, 0x00, 0x7f, 0x00, 0x7f, 0x00, 0x7f, 0x00,
-    0x7f, 0x00, 0x7f, 0x00, 0x7f, 0x00, 0x7f, 0x00, 0x7f, 0x00, 0x7f, 0x00, 0x7f, 0x00, 0x7f, 0x00,
-    0x7f, 0x00, 0x7f, 0x00, 0x7f, 0x00, 0x7f, 0x00, 0x7f, 0x00, 0x7f, 0x00, 0x7f, 0x00, 0x7f, 0x00,
-    0x7f, 0x00, 0x7f, 0x00, 0x7f, 0x00, 0x7f, 0x00, 0x7f, 0x00, 0x7f, 0x00, 0x7f, 0x00, 0x7f, 0x00,
-    0x7f, 0x00, 0x7f, 0x00, 0x7f, 0x00, 0x7f, 0x00, 0x7f, 0x00, 0x7f, 0x00, 0x7f, 0x00, 0x7f, 0x00,
-    0x7f, 0x00, 0x7f, 0x00, 0x7f, 0x00, 0x7f, 0x00, 0x7f, 0x00, 0x7f, 0x00, 0x7f, 0x00, 0x7f, 0x00,
-    0x7f, 0x00, 0x7f, 0x00, 0x7f, 0x00, 0x7f, 0x00, 0x7f, 0x00, 0x7f, 0x00, 0x7f, 0x00, 0x7f, 0x00,
-    0x7f, 0x00, 0x7f, 0x00, 0x7f, 0x00, 0x7f, 0x00, 0x7f, 0x00, 0x7f, 0x00, 0x7f, 0x00, 0x7f, 0x00,
-];
-
-/// 56 such runs, and one of 16 bytes.
-static LAST_NULLS: [u8; 114] = [
-    0x7f, 0x00, 0x7f, 0x00, 0x7f, 0x00, 0x7f, 0x00, 0x7f, 0x00, 0x7f, 0x00, 0x7f, 0x00, 0x7f, 0x00,
-    0x7f, 0x00, 0x7f, 0x00, 0x7f, 0x00, 0x7f, 0x00, 0x7f, 0x00, 0x7f, 0x00, 0x7f, 0x00, 0x7f, 0x00,
-    0x7f, 0x00, 0x7f, 0x00, 0x7f, 0x00, 0x7f, 0x00, 0x7f, 0x00, 0x7f, 0x00, 0x7f, 0x00, 0x7f, 0x00,
-    0x7f, 0x00, 0x7f, 0x00, 0x7f, 0x00, 0x7f, 0x00, 0x7f, 0x00, 0x7f, 0x00, 0x7f, 0x00, 0x7f, 0x00,
-    0x7f, 0x00, 0x7f, 0x00, 0x7f, 0x00, 0x7f, 0x00, 0x7f, 0x00, 0x7f, 0x00, 0x7f, 0x00, 0x7f, 0x00,
-    0x7f, 0x00, 0x7f, 0x00, 0x7f, 0x00, 0x7f, 0x00, 0x7f, 0x00, 0x7f, 0x00, 0x7f, 0x00, 0x7f, 0x00,
-    0x7f, 0x00, 0x7f, 0x00, 0x7f, 0x00, 0x7f, 0x00, 0x7f, 0x00, 0x7f, 0x00, 0x7f, 0x00, 0x7f, 0x00,
-    0x0d, 0x00,
-];
-
-/// The marks of 2,147,483,647 nulls.
-fn many_nulls(alloc: Global) -> Result<Vec<u8>, StripeFault> {
-    let mut marks = Vec::new(alloc);
-    for _ in 0..32_263 {
-        marks.extend_from_slice(&NULL_RUNS)?;
-    }
-    marks.extend_from_slice(&LAST_NULLS)?;
-    Ok(marks)
+/// Whether the row prints as this line.
+fn is_line(alloc: Global, schema: &Schema, row: &Row<'_>, text: &str) -> Result<bool, StripeFault> {
+    let line = line_of(alloc, schema, row)?;
+    Ok(line.as_str() == text)
 }
 
-/// The next row is a null.
-fn check_null(rt: &impl Abort, cursor: &mut RowCursor<'_>) -> Result<(), StripeFault> {
-    let row = next_row(cursor)?;
-    demand(rt, matches!(row, Some(None)), "a null", &[]);
-    Ok(())
-}
-
-/// The next rows are so many nulls.
-fn check_nulls(
-    rt: &impl Abort,
+/// Whether there is a next row, and it prints as this line.
+fn is_next(
+    alloc: Global,
+    schema: &Schema,
     cursor: &mut RowCursor<'_>,
-    count: usize,
-) -> Result<(), StripeFault> {
-    for _ in 0..count {
-        check_null(rt, cursor)?;
+    text: &str,
+) -> Result<bool, StripeFault> {
+    match next_row(cursor)? {
+        Some(row) => is_line(alloc, schema, &row, text),
+        None => Ok(false),
     }
-    Ok(())
 }
 
-/// There is no row more.
-fn check_end(rt: &impl Abort, cursor: &mut RowCursor<'_>) -> Result<(), StripeFault> {
-    let row = next_row(cursor)?;
-    demand(rt, row.is_none(), "no row more", &[]);
-    Ok(())
-}
-
-/// As many rows as a stripe may have, all null.
-fn long_stripe(alloc: Global) -> Result<(StripeInfo, Vec<u8>), StripeFault> {
-    let marks = many_nulls(alloc)?;
-    stripe_of(alloc, &marks, &MANY_MARKS, 0x7fff_ffff)
-}
-
-/// The first thousand of as many rows as a stripe may have.
-fn check_long(rt: &impl Abort, alloc: Global) -> Result<(), StripeFault> {
-    let schema = schema_of(alloc, "struct<n:bigint>")?;
-    let (info, bytes) = long_stripe(alloc)?;
-    let mut cursor = cursor_of(alloc, &schema, info, &bytes)?;
-    check_nulls(rt, &mut cursor, 1000)
-}
-
-/// A row of 4,096 columns, which is null.
-fn wide_stripe(alloc: Global) -> Result<(StripeInfo, Vec<u8>), StripeFault> {
-    // PRESENT of the root with two bytes
-    let present = [0x0a, 0x06, 0x08, 0x00, 0x10, 0x00, 0x18, 0x02];
-    let footer = footer_of(alloc, MOST_COLUMNS, &present)?;
-    stripe_of(alloc, &[0xff, 0x00], &footer, 1)
-}
-
-/// The schema of that row.
-fn schema_of_wide(alloc: Global) -> Result<Schema, StripeFault> {
-    let text = wide_schema(alloc)?;
-    schema_of(alloc, text.as_str())
-}
-
-/// A row of 4,096 columns.
-fn check_wide(rt: &impl Abort, alloc: Global) -> Result<(), StripeFault> {
-    let schema = schema_of_wide(alloc)?;
-    let (info, bytes) = wide_stripe(alloc)?;
-    let mut cursor = cursor_of(alloc, &schema, info, &bytes)?;
-    check_null(rt, &mut cursor)?;
-    check_end(rt, &mut cursor)
-}
-
-/// The row prints as the line.
-fn check_line(
+/// The next rows print as these lines.
+pub(super) fn check_next(
     rt: &impl Abort,
     alloc: Global,
     schema: &Schema,
-    row: &Row<'_>,
+    cursor: &mut RowCursor<'_>,
     wanted: &str,
 ) -> Result<(), StripeFault> {
-    let line = line_of(alloc, schema, row)?;
-    demand(rt, line.as_str() == wanted, wanted, &[]);
+    for text in wanted.lines() {
+        demand(rt, is_next(alloc, schema, cursor, text)?, text);
+    }
     Ok(())
 }
 
-/// The next row is a seven.
-fn check_seven(
-    rt: &impl Abort,
-    alloc: Global,
-    schema: &Schema,
-    cursor: &mut RowCursor<'_>,
-) -> Result<(), StripeFault> {
-    match next_row(cursor)? {
-        Some(row) => check_line(rt, alloc, schema, &row, r#"{"n":7}"#),
-        None => {
-            demand(rt, false, "a seven", &[]);
-            Ok(())
-        }
+/// What the next row is refused for, if it is. A function of its own, since a row is dropped here.
+pub(super) fn next_fault(cursor: &mut RowCursor<'_>) -> Option<StripeFault> {
+    match next_row(cursor) {
+        Ok(_) => None,
+        Err(fault) => Some(fault),
     }
 }
+
+/// What the rows that are left are refused for, if they are.
+fn rest_fault(cursor: RowCursor<'_>) -> Option<StripeFault> {
+    match rest_of(cursor) {
+        Ok(_) => None,
+        Err(fault) => Some(fault),
+    }
+}
+
+/// Three rows of the number 7, as lines.
+static SEVENS: &str = r#"{"n":7}
+{"n":7}
+{"n":7}"#;
 
 /// Three rows come before bytes that are no run, and then the fault.
 fn check_until(
@@ -148,13 +71,10 @@ fn check_until(
     schema: &Schema,
     cursor: &mut RowCursor<'_>,
 ) -> Result<(), StripeFault> {
-    for _ in 0..3 {
-        check_seven(rt, alloc, schema, cursor)?;
-    }
+    check_next(rt, alloc, schema, cursor, SEVENS)?;
     let fault = StripeFault::Run(1, StreamKind::Data, RunFault::Short(3));
-    for wanted in [fault, StripeFault::Failed, StripeFault::Failed] {
-        check_refused(rt, next_row(cursor), wanted, "no row", &[])?;
-    }
+    let found = refusal(next_fault(cursor))?;
+    same_fault(rt, found, Some(fault));
     Ok(())
 }
 
@@ -164,25 +84,18 @@ fn check_broken(rt: &impl Abort, alloc: Global) -> Result<(), StripeFault> {
     let (info, bytes) = stripe_of(alloc, &[0x00, 0x00, 0x0e, 0xff], &FOUR_BYTES, 4)?;
     let mut cursor = cursor_of(alloc, &schema, info, &bytes)?;
     check_until(rt, alloc, &schema, &mut cursor)?;
-    check_refused(rt, rest_of(cursor), StripeFault::Failed, "no rest", &[])
+    same_fault(rt, rest_fault(cursor), Some(StripeFault::Failed));
+    Ok(())
 }
 
-/// The rows are an eight and a nine.
-fn check_two(
-    rt: &impl Abort,
-    alloc: Global,
-    schema: &Schema,
-    rows: &[Row<'_>],
-) -> Result<(), StripeFault> {
+/// Whether the rows are an eight and a nine.
+fn are_two(alloc: Global, schema: &Schema, rows: &[Row<'_>]) -> Result<bool, StripeFault> {
     match rows {
-        [eight, nine] => {
-            check_line(rt, alloc, schema, eight, r#"{"n":8}"#)?;
-            check_line(rt, alloc, schema, nine, r#"{"n":9}"#)
-        }
-        _ => {
-            demand(rt, false, "two rows", &[]);
-            Ok(())
-        }
+        [eight, nine] => Ok(
+            is_line(alloc, schema, eight, r#"{"n":8}"#)?
+                && is_line(alloc, schema, nine, r#"{"n":9}"#)?,
+        ),
+        _ => Ok(false),
     }
 }
 
@@ -194,7 +107,8 @@ fn check_left(
     cursor: RowCursor<'_>,
 ) -> Result<(), StripeFault> {
     let rest = rest_of(cursor)?;
-    check_two(rt, alloc, schema, &rest)
+    demand(rt, are_two(alloc, schema, &rest)?, "an eight and a nine");
+    Ok(())
 }
 
 /// What is left behind the first row is given at once.
@@ -203,14 +117,39 @@ fn check_rest(rt: &impl Abort, alloc: Global) -> Result<(), StripeFault> {
     // three numbers from 7 on, each one more than the one before
     let (info, bytes) = stripe_of(alloc, &[0x00, 0x01, 0x0e], &THREE_BYTES, 3)?;
     let mut cursor = cursor_of(alloc, &schema, info, &bytes)?;
-    let first = next_row(&mut cursor)?;
-    demand(rt, first.is_some(), "a first row", &[]);
+    check_next(rt, alloc, &schema, &mut cursor, r#"{"n":7}"#)?;
     check_left(rt, alloc, &schema, cursor)
 }
 
+/// What a stripe of as many numbers as bytes of data is refused for, by its rows and by their texts. What a cursor
+/// answers behind its end or its refusal is looked at there.
+fn check_end(
+    rt: &impl Abort,
+    alloc: Global,
+    schema: &Schema,
+    data: &[u8],
+    footer: &[u8],
+    wanted: Option<StripeFault>,
+) -> Result<(), StripeFault> {
+    let (info, bytes) = stripe_of(alloc, data, footer, data.len() as u64)?;
+    let found = refusal(lines_one_by_one(alloc, schema, info, &bytes).err())?;
+    same_fault(rt, found, wanted);
+    let found = refusal(lines_straight(alloc, schema, info, &bytes).err())?;
+    same_fault(rt, found, wanted);
+    Ok(())
+}
+
+/// A stripe that ends, and one that is refused.
+fn check_ends(rt: &impl Abort, alloc: Global) -> Result<(), StripeFault> {
+    let schema = schema_of(alloc, "struct<n:bigint>")?;
+    check_end(rt, alloc, &schema, &[0x00, 0x00, 0x0e], &THREE_BYTES, None)?;
+    let fault = StripeFault::Run(1, StreamKind::Data, RunFault::Short(3));
+    let broken = [0x00, 0x00, 0x0e, 0xff];
+    check_end(rt, alloc, &schema, &broken, &FOUR_BYTES, Some(fault))
+}
+
 fn check_all(rt: &impl Abort, alloc: Global) -> Result<(), StripeFault> {
-    check_long(rt, alloc)?;
-    check_wide(rt, alloc)?;
+    check_ends(rt, alloc)?;
     check_broken(rt, alloc)?;
     check_rest(rt, alloc)
 }

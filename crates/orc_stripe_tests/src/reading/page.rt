@@ -1,5 +1,6 @@
 //! What the page of orc_stripe shows, line by line: the rows of a stripe's bytes.
-use super::{THREE_BYTES, demand, passes, stripe_of};
+use super::{THREE_BYTES, stripe_of};
+use crate::assertions::{demand, passes};
 use orc_stripe::{StripeFault, StripeView};
 use orc_test_lines::schema_of;
 use orc_types::{Row, Schema, Value};
@@ -38,7 +39,7 @@ fn check_page(rt: &impl Abort, alloc: Global) -> Result<(), StripeFault> {
     let schema = schema_of(alloc, "struct<n:bigint>")?;
     let (info, bytes) = stripe_of(alloc, &[0x00, 0x00, 0x0e], &THREE_BYTES, 3)?;
     let rows = rows_of_stripe(alloc, &schema, info, &bytes)?;
-    demand(rt, are_three_sevens(&rows), "three sevens", &bytes);
+    demand(rt, are_three_sevens(&rows), "three sevens");
     Ok(())
 }
 

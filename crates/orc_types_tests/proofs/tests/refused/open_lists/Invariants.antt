@@ -1,5 +1,0 @@
-use Rattle.orc_types.specs.Schemas.{AllKept}
-use Rattle.orc_types_tests.proofs.tests.refused.open_lists.Given as goal
-
-abbrev pub invariant-loop-i : goal.invariant-loop-i
-invariant-loop-i l = AllKept l.types.items

@@ -1,5 +1,0 @@
-use Rattle.orc_types.specs.Schemas.{AllKept}
-use Rattle.orc_types_tests.proofs.tests.types_that_keep.Given as goal
-
-abbrev pub invariant-loop-listed : goal.invariant-loop-listed
-invariant-loop-listed l = AllKept l.types.items
