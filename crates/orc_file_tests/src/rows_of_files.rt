@@ -5,7 +5,7 @@ use crate::calls::{opened, rows};
 use orc_file::{FileFault, OrcFile, SliceSource, Source};
 use orc_rle::RunFault;
 use orc_stripe::{StreamKind, StripeFault};
-use orc_test_io::{FailSource, UPWARDS};
+use orc_test_io::{FailSource, SEVENS, TWICE, UPWARDS};
 use orc_types::{Row, Value};
 use std::alloc::Global;
 
@@ -45,6 +45,31 @@ pub(crate) fn have_numbers(rows: &[Row<'_>], wanted: &[i64]) -> bool {
 fn has_upwards<S: Source>(alloc: Global, file: &mut OrcFile<S>) -> Result<bool, FileFault> {
     let rows = rows(alloc, file)?;
     Ok(have_numbers(&rows, &[7, 7, 7, 8, 8, 8, 9, 9, 9]))
+}
+
+/// Files, and the numbers of their rows.
+const FILES: [(&[u8], &[i64]); 3] = [
+    (&SEVENS, &[7, 7, 7]),
+    (&TWICE, &[7, 7, 7, 7, 7, 7]),
+    (&UPWARDS, &[7, 7, 7, 8, 8, 8, 9, 9, 9]),
+];
+
+/// Whether the bytes are a file of these rows.
+fn has_rows(alloc: Global, bytes: &[u8], wanted: &[i64]) -> Result<bool, FileFault> {
+    let mut file = opened(alloc, SliceSource::new(bytes))?;
+    let rows = rows(alloc, &mut file)?;
+    Ok(have_numbers(&rows, wanted))
+}
+
+#[test]
+fn rows_are_read(rt: HostRuntime) {
+    for (i, (bytes, wanted)) in FILES.iter().enumerate() {
+        let answer = match has_rows(rt.alloc(), bytes, wanted) {
+            Err(FileFault::OutOfMemory) => has_rows(rt.alloc(), bytes, wanted),
+            answer => answer,
+        };
+        check_same(&rt, &answer, &Ok(true), "file", &[i as u64]);
+    }
 }
 
 /// Why a file's rows aren't read for another reason than want of memory.

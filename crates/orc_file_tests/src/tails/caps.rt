@@ -130,18 +130,29 @@ fn check_second(
     Ok(())
 }
 
+/// Behind the tail's five ranges nothing was read but the first stripe.
+fn check_ranges(rt: &impl Abort, ranges: &[(u64, u64)]) {
+    for range in ranges.iter().skip(5) {
+        check_same(rt, range, &(3, 19), "read", &[]);
+    }
+}
+
 /// The same with a file and a vector of its own.
-fn check_loads(rt: &impl Abort, alloc: Global) -> Result<(), FileFault> {
-    let mut file = opened_capped(alloc, SeenSource::new(&LENGTHENED), 138)?;
+fn check_loads(rt: &impl Abort, alloc: Global, cap: u64) -> Result<(), FileFault> {
+    let mut file = opened_capped(alloc, SeenSource::new(&LENGTHENED), cap)?;
     let mut loaded = Vec::new(alloc);
-    check_second(rt, &mut file, &mut loaded)
+    let answer = check_second(rt, &mut file, &mut loaded);
+    check_ranges(rt, file.into_parts().1.ranges());
+    answer
 }
 
 #[test]
 fn a_stripe_above_the_cap_is_not_loaded(rt: HostRuntime) {
-    let answer = match check_loads(&rt, rt.alloc()) {
-        Err(FileFault::OutOfMemory) => check_loads(&rt, rt.alloc()),
-        answer => answer,
-    };
-    passes(&rt, answer);
+    for cap in [131, 138] {
+        let answer = match check_loads(&rt, rt.alloc(), cap) {
+            Err(FileFault::OutOfMemory) => check_loads(&rt, rt.alloc(), cap),
+            answer => answer,
+        };
+        passes(&rt, answer);
+    }
 }

@@ -1,8 +1,8 @@
 //! What is asked of a source, and what its failures make.
 
-use crate::assertions::{check_list, check_same};
+use crate::assertions::{check_list, check_same, passes};
 use crate::calls::open;
-use orc_file::{FileFault, Source};
+use orc_file::{FileFault, Source, read_tail};
 use orc_test_io::{EMPTY, FailSource, SEVENS, SeenSource};
 use std::alloc::Global;
 use std::process::Abort;
@@ -46,6 +46,29 @@ fn check_ranges(rt: &impl Abort, alloc: Global, bytes: &[u8], wanted: &[(u64, u6
 fn ranges_are_read(rt: HostRuntime) {
     check_ranges(&rt, rt.alloc(), &SEVENS, &FIVE);
     check_ranges(&rt, rt.alloc(), &EMPTY, &FOUR);
+}
+
+/// How many rows the tail of a source that is lent says.
+fn rows_said(alloc: Global, source: &mut SeenSource<'_>) -> Result<u64, FileFault> {
+    let tail = read_tail(alloc, source)?;
+    Ok(tail.rows)
+}
+
+fn check_lent(rt: &impl Abort, alloc: Global) -> Result<(), FileFault> {
+    let mut source = SeenSource::new(&SEVENS);
+    let rows = rows_said(alloc, &mut source)?;
+    check_same(rt, &rows, &3, "rows", &[]);
+    check_list(rt, source.ranges(), &FIVE, "ranges", &[]);
+    Ok(())
+}
+
+#[test]
+fn a_source_is_lent(rt: HostRuntime) {
+    let answer = match check_lent(&rt, rt.alloc()) {
+        Err(FileFault::OutOfMemory) => check_lent(&rt, rt.alloc()),
+        answer => answer,
+    };
+    passes(&rt, answer);
 }
 
 /// Why a source isn't opened, and why it isn't where it is handed back.
