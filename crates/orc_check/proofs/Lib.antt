@@ -4,7 +4,6 @@ mod ToldLemmas
 mod WalkLemmas
 mod CheckLemmas
 mod WholeLemmas
-mod CellLemmas
 mod GroupBounds
 mod NeededLemmas
 mod EntryBytes

@@ -48,7 +48,6 @@ fn is_right(right: &[bool], group: usize) -> bool
 
 /// Puts what is found of each group behind what was found before.
 fn check_groups(
-    alloc: Global,
     number: usize,
     column: usize,
     tree: &Tree,
@@ -66,7 +65,7 @@ fn check_groups(
         found.old.items found.new.items) }
 {
     for group in 0..entries.len() {
-        let tells = entry_tells(alloc, tree, &entries[group], &groups[group].stat)?;
+        let tells = entry_tells(tree, &entries[group], &groups[group].stat);
         report(tells, Finding::IndexStatistic(number, column, group), found)?;
         report(
             is_right(right, group),
@@ -111,14 +110,5 @@ pub(crate) fn check_index(
     let Ok(right) = positions_right_behind(alloc, tree, column, &streams, &counts, entries) else {
         return Err(AllocError);
     };
-    check_groups(
-        alloc,
-        stripe.number,
-        column,
-        tree,
-        groups,
-        entries,
-        &right,
-        found,
-    )
+    check_groups(stripe.number, column, tree, groups, entries, &right, found)
 }

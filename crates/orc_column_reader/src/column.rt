@@ -110,6 +110,7 @@ fn next_bool<'a>(column: usize, bits: &mut Bits<'a>) -> Result<Own<'a>, StripeFa
 
 impl<'a> ValueSource<'a> {
     /// The next value of a column of a kind that contains no other. It takes no memory.
+    #[inline(always)]
     pub fn next_scalar(&mut self, kind: Scalar) -> Result<Own<'a>, StripeFault>
         // What is answered is the first of the column's values that are left, and the others are
         // left then.
@@ -146,6 +147,7 @@ impl<'a> ValueSource<'a> {
 }
 
 /// The size of the next list or map, for which there is room.
+#[inline(always)]
 pub fn next_size(source: &mut ValueSource<'_>) -> Result<u64, StripeFault>
     // What is answered is LENGTH's next number, and the others are left then, also where LENGTH
     // breaks behind them.

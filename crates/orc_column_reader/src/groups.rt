@@ -20,6 +20,7 @@ use crate::whole_numbers::next_number;
 use orc_types::Own;
 
 /// The next group of bytes, its size from LENGTH.
+#[inline(always)]
 pub fn next_group<'a>(
     column: usize,
     kind: StreamKind,
@@ -93,6 +94,7 @@ pub fn groups_left(
 }
 
 /// The next text, its bytes one after the other in DATA.
+#[inline(always)]
 pub(crate) fn next_text<'a>(
     column: usize,
     numbers: &mut Numbers<'a>,

@@ -43,6 +43,7 @@ pub fn numbers_of(version: Rle, sign: Sign, bytes: &[u8]) -> Numbers<'_>
 
 impl<'a> Numbers<'a> {
     /// Reads runs until a value is there.
+    #[inline(never)]
     fn fill(&mut self) -> Result<(), RunFault>
         ensures found { OnOk result (Leaves (NumbersLeft self.old) (NumbersLeft self.new) []) }
         ensures first { OnOk result (Precedes (NumbersFirst self.old) (NumbersFirst self.new) []) }
@@ -69,7 +70,25 @@ impl<'a> Numbers<'a> {
         Ok(())
     }
 
+    /// Sees to it that a value is there. Nearly always one is, of the run that was read last, which needs no call.
+    #[inline(always)]
+    fn ready(&mut self) -> Result<(), RunFault>
+        ensures found { OnOk result (Leaves (NumbersLeft self.old) (NumbersLeft self.new) []) }
+        ensures first { OnOk result (Precedes (NumbersFirst self.old) (NumbersFirst self.new) []) }
+        ensures some { OnOk result (self.new.used < length self.new.run.values) }
+        ensures none { OnErr result (Lacks (NumbersLeft self.old) 1) }
+        ensures before { OnOk result ((n : ℕ) (f : Fault) → NumbersMeet self.new n f → NumbersMeet self.old n f) }
+        ensures fault { IfErr result (λ fault. (n : ℕ) → NumbersMeet self.old (suc n) fault) }
+        ensures no_memory { IfErr result (λ fault. fault ≢ OutOfMemory) }
+    {
+        if self.used < self.run.values().len() {
+            return Ok(());
+        }
+        self.fill()
+    }
+
     /// The next number.
+    #[inline(always)]
     pub fn next(&mut self) -> Result<i64, RunFault>
         // What is answered is the first of the numbers that are left, and the others are left then,
         // also where the stream breaks behind them.
@@ -83,7 +102,7 @@ impl<'a> Numbers<'a> {
         // No refusal is want of memory.
         ensures no_memory { IfErr result (λ fault. fault ≢ OutOfMemory) }
     {
-        match self.fill() {
+        match self.ready() {
             Ok(()) => {
                 let number = self.run.values()[self.used];
                 self.used += 1;

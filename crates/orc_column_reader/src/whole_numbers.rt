@@ -24,6 +24,7 @@ use crate::numbers::Numbers;
 use orc_types::{Own, Scalar, int_fits};
 
 /// The next number of the stream.
+#[inline(always)]
 pub fn next_number(
     column: usize,
     kind: StreamKind,
@@ -49,6 +50,7 @@ pub fn next_number(
 }
 
 /// The next value of a column of numbers.
+#[inline(always)]
 pub(crate) fn next_int<'a>(
     column: usize,
     kind: Scalar,
@@ -75,6 +77,7 @@ pub(crate) fn next_int<'a>(
 }
 
 /// The next value of a column of numbers of 64 bits. Each is in range.
+#[inline(always)]
 pub(crate) fn next_long<'a>(
     column: usize,
     numbers: &mut Numbers<'a>,

@@ -1,9 +1,13 @@
 -- The next value of a column by itself, by its kind.
-use Rattle.std.proofs.Common.{◌≡◌, ◌≤◌, ◌-◌, ℕ, suc, pos, Bool, true, false, MatchBool, List, [], ◌∷◌, map, length, replicate, refl, sym, ap, ◌∙◌, subst, arith}
+use Rattle.std.proofs.Common.{Vec, Global, ◌≡◌, ◌≤◌, ◌-◌, ℕ, suc, pos, Bool, true, false, MatchBool, List, [], ◌∷◌, map, length, replicate, refl, sym, ap, ◌∙◌, subst, arith}
 use Rattle.std.proofs.lemmas.List.{length-map}
 use Rattle.orc_types.specs.Cells.{Cell}
 use Rattle.orc_types.specs.Childless.{list_of_size, map_of_size, childless_struct}
-use Rattle.orc_types.specs.Shapes.{Shape, list_of, map_of, struct_of, no_field, Fields}
+use Rattle.orc_types.specs.Shapes.{Shape, scalar, list_of, map_of, struct_of, no_field, Fields}
+use Rattle.orc_types.specs.Views.{shape}
+use Rattle.orc_types.proofs.Views.{shape-Scalar}
+use Rattle.orc_types.specs.declared.kind.Scalar.{Scalar as Kind}
+use Rattle.orc_types.specs.declared.tree.Tree.{Tree, Scalar as TreeScalar}
 use Rattle.orc_column_reader.specs.Columns.{ListsLeft}
 use Rattle.orc_column_reader.specs.Fronts.{Leaves, Lacks}
 use Rattle.orc_column_reader.specs.Numbers.{NumbersLeft}
@@ -15,6 +19,10 @@ use Rattle.orc_column_reader.proofs.FirstLemmas.{sum_more}
 use Rattle.orc_column_walk.specs.OwnLeft.{SizesLeft, SizedLeft, OwnValuesLeft, children}
 use Rattle.orc_column_walk.proofs.RowsOf.{elements_sum, pairs_sum}
 use Rattle.orc_column_walk.proofs.SizeLemmas.{sizes_leave, sizes_lack}
+
+-- a type of that kind
+pub is_scalar : (tree : Tree) (k : Kind) (o : Vec ℕ Global) (which : Kind) → tree ≡ TreeScalar k o → k ≡ which → shape tree ≡ scalar which o.items
+is_scalar tree k o which is kind = ap shape is ∙ shape-Scalar k o ∙ ap (λ j. scalar j o.items) kind
 
 sized_leave : (sized : ℕ → Cell) (a b : ValueSource) (n : ℕ) → Leaves (SizesLeft a) (SizesLeft b) (n ∷ []) → Leaves (SizedLeft sized a) (SizedLeft sized b) (sized n ∷ [])
 sized_leave sized a b n p = record {

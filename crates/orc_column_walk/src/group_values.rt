@@ -16,7 +16,8 @@ ghost use Rattle.orc_column_walk.specs.Passed.{IsPassed, HasValues, AreValueBoun
 
 use crate::bounds::bound_of;
 use crate::found::{ColumnFound, GroupFound};
-use crate::own_values::{next_own, values_end, values_left};
+use crate::next_value::{AnyValues, ListValues, NextValue, NumberValues, TextValues};
+use crate::own_values::{values_end, values_left};
 use crate::passed::Passed;
 use orc_column_reader::column::ValueSource;
 use orc_column_reader::fault::StripeFault;
@@ -24,8 +25,17 @@ use orc_stats::{Bins, Bools, Children, Counted, Dates, Ints, Plain, Stat, StatKi
 use orc_types::{Own, Tree};
 use std::alloc::{AllocError, Global};
 
-/// Reads the next values, so many, and counts each.
-fn read_values<'a, T: Tally<'a>>(
+/// The groups of a column's cells: a bound says how many of the cells come before a group, and another how many of the values.
+#[derive(Clone, Copy)]
+pub(crate) struct GroupBounds<'b> {
+    pub(crate) count: usize,
+    pub(crate) bounds: &'b [usize],
+    pub(crate) values: usize,
+    pub(crate) value_bounds: &'b [usize],
+}
+
+/// Reads the next values, so many, and counts each. `V` is a way to the next one.
+fn read_values<'a, T: Tally<'a>, V: NextValue>(
     tree: &Tree,
     source: &mut ValueSource<'a>,
     count: usize,
@@ -54,7 +64,7 @@ fn read_values<'a, T: Tally<'a>>(
 {
     let mut passed = before;
     for _ in 0..count {
-        match next_own(tree, source) {
+        match V::next(tree, source) {
             Ok(own) => {
                 tally.add_own(own);
                 passed = passed.add(own);
@@ -66,7 +76,7 @@ fn read_values<'a, T: Tally<'a>>(
 }
 
 /// Reads the next cells, so many, of which so many are values, and counts each.
-fn read_part<'a, T: Tally<'a>>(
+fn read_part<'a, T: Tally<'a>, V: NextValue>(
     tree: &Tree,
     source: &mut ValueSource<'a>,
     cells: usize,
@@ -96,7 +106,7 @@ fn read_part<'a, T: Tally<'a>>(
     ensures fault { IfErr result (λ cause. cause ≢ OutOfMemory
         → (n : ℕ) → ValuesMeet (shape tree.now) source.old false (count + n) cause) }
 {
-    match read_values(tree, source, count, before, tally) {
+    match read_values::<T, V>(tree, source, count, before, tally) {
         Ok(passed) => {
             if count < cells {
                 tally.add_own(Own::Null);
@@ -118,50 +128,48 @@ fn closed<'a, T: Tally<'a>>(alloc: Global, tally: &T) -> Result<Stat, AllocError
 }
 
 /// Reads the values of all groups, and counts them group by group; each value is counted once, and the groups' tallies
-/// are joined. A bound says how many of the cells come before a group, and another how many of the values.
-fn count_groups<'a, T: Tally<'a>>(
+/// are joined.
+fn count_groups<'a, T: Tally<'a>, V: NextValue>(
     alloc: Global,
     tree: &Tree,
     source: &mut ValueSource<'a>,
-    count: usize,
-    bounds: &[usize],
-    values: usize,
-    value_bounds: &[usize],
+    groups: GroupBounds<'_>,
 ) -> Result<ColumnFound, StripeFault>
     requires kind { T.kind ≡ kind_of (shape tree.now) }
-    requires few { count < cell_limit }
-    requires bounds { AreBounds count bounds.now }
-    requires first { bound_at count bounds.now 0 ≡ 0 }
-    requires values { AreValueBounds count bounds.now values value_bounds.now }
+    requires few { groups.count < cell_limit }
+    requires bounds { AreBounds groups.count groups.bounds.now }
+    requires first { bound_at groups.count groups.bounds.now 0 ≡ 0 }
+    requires values { AreValueBounds groups.count groups.bounds.now groups.values groups.value_bounds.now }
     ensures found { IfOk result (λ found. (read : List Cell)
-        × (length read ≡ values)
+        × (length read ≡ groups.entry.values)
         × Leaves (OwnValuesLeft (shape tree.now) source.old) (OwnValuesLeft (shape tree.now) source.new) read
-        × ((cells : List Cell) → HasValues count bounds.now value_bounds.now read cells
-        → IsCounted (shape tree.now) cells bounds.now found)) }
+        × ((cells : List Cell) → HasValues groups.entry.count groups.entry.bounds.now groups.entry.value_bounds.now read cells
+        → IsCounted (shape tree.now) cells groups.entry.bounds.now found)) }
     ensures none { IfErr result (λ fault. fault ≢ OutOfMemory
-        → Lacks (OwnValuesLeft (shape tree.now) source.old) values) }
+        → Lacks (OwnValuesLeft (shape tree.now) source.old) groups.entry.values) }
     ensures before { OnOk result ((all : Bool) (n : ℕ) (f : Fault)
         → ValuesMeet (shape tree.now) source.new all n f
-        → ValuesMeet (shape tree.now) source.old all (values + n) f) }
+        → ValuesMeet (shape tree.now) source.old all (groups.entry.values + n) f) }
     ensures fault { IfErr result (λ cause. cause ≢ OutOfMemory
-        → ValuesMeet (shape tree.now) source.old false values cause) }
+        → ValuesMeet (shape tree.now) source.old false groups.entry.values cause) }
 {
     let mut whole = T::unit();
     let mut passed = Passed::nothing();
-    let mut groups = Vec::new(alloc);
+    let mut found = Vec::new(alloc);
     let mut bounds_below = Vec::new(alloc);
-    for group in 0..bounds.len() {
-        let cells = bound_of(bounds, group + 1, count) - bound_of(bounds, group, count);
-        let part = bound_of(value_bounds, group + 1, values)
-            - bound_of(value_bounds, group, values);
+    for group in 0..groups.bounds.len() {
+        let cells = bound_of(groups.bounds, group + 1, groups.count)
+            - bound_of(groups.bounds, group, groups.count);
+        let part = bound_of(groups.value_bounds, group + 1, groups.values)
+            - bound_of(groups.value_bounds, group, groups.values);
         let before = passed;
         let mut tally = T::unit();
-        match read_part(tree, source, cells, part, before, &mut tally) {
+        match read_part::<T, V>(tree, source, cells, part, before, &mut tally) {
             Ok(after) => passed = after,
             Err(fault) => return Err(fault),
         }
         let stat = closed(alloc, &tally)?;
-        groups.push(GroupFound {
+        found.push(GroupFound {
             stat,
             before: before.counts,
         })?;
@@ -170,7 +178,7 @@ fn count_groups<'a, T: Tally<'a>>(
     }
     Ok(ColumnFound {
         stat: closed(alloc, &whole)?,
-        groups,
+        groups: found,
         below: passed.children,
         bounds_below,
     })
@@ -181,66 +189,37 @@ fn count_by_kind(
     alloc: Global,
     tree: &Tree,
     source: &mut ValueSource<'_>,
-    count: usize,
-    bounds: &[usize],
-    values: usize,
-    value_bounds: &[usize],
+    groups: GroupBounds<'_>,
 ) -> Result<ColumnFound, StripeFault>
-    requires few { count < cell_limit }
-    requires bounds { AreBounds count bounds.now }
-    requires first { bound_at count bounds.now 0 ≡ 0 }
-    requires values { AreValueBounds count bounds.now values value_bounds.now }
+    requires few { groups.count < cell_limit }
+    requires bounds { AreBounds groups.count groups.bounds.now }
+    requires first { bound_at groups.count groups.bounds.now 0 ≡ 0 }
+    requires values { AreValueBounds groups.count groups.bounds.now groups.values groups.value_bounds.now }
     ensures found { IfOk result (λ found. (read : List Cell)
-        × (length read ≡ values)
+        × (length read ≡ groups.entry.values)
         × Leaves (OwnValuesLeft (shape tree.now) source.old) (OwnValuesLeft (shape tree.now) source.new) read
-        × ((cells : List Cell) → HasValues count bounds.now value_bounds.now read cells
-        → IsCounted (shape tree.now) cells bounds.now found)) }
+        × ((cells : List Cell) → HasValues groups.entry.count groups.entry.bounds.now groups.entry.value_bounds.now read cells
+        → IsCounted (shape tree.now) cells groups.entry.bounds.now found)) }
     ensures none { IfErr result (λ fault. fault ≢ OutOfMemory
-        → Lacks (OwnValuesLeft (shape tree.now) source.old) values) }
+        → Lacks (OwnValuesLeft (shape tree.now) source.old) groups.entry.values) }
     ensures before { OnOk result ((all : Bool) (n : ℕ) (f : Fault)
         → ValuesMeet (shape tree.now) source.new all n f
-        → ValuesMeet (shape tree.now) source.old all (values + n) f) }
+        → ValuesMeet (shape tree.now) source.old all (groups.entry.values + n) f) }
     ensures fault { IfErr result (λ cause. cause ≢ OutOfMemory
-        → ValuesMeet (shape tree.now) source.old false values cause) }
+        → ValuesMeet (shape tree.now) source.old false groups.entry.values cause) }
 {
     match StatKind::of_type(tree) {
-        StatKind::Plain => {
-            count_groups::<Counted<Plain>>(alloc, tree, source, count, bounds, values, value_bounds)
-        }
-        StatKind::Ints => {
-            count_groups::<Counted<Ints>>(alloc, tree, source, count, bounds, values, value_bounds)
-        }
-        StatKind::Bools => {
-            count_groups::<Counted<Bools>>(alloc, tree, source, count, bounds, values, value_bounds)
-        }
-        StatKind::Dates => {
-            count_groups::<Counted<Dates>>(alloc, tree, source, count, bounds, values, value_bounds)
-        }
-        StatKind::Texts => {
-            count_groups::<Counted<Texts<'_>>>(
-                alloc,
-                tree,
-                source,
-                count,
-                bounds,
-                values,
-                value_bounds,
-            )
-        }
-        StatKind::Bins => {
-            count_groups::<Counted<Bins>>(alloc, tree, source, count, bounds, values, value_bounds)
-        }
-        StatKind::Children => {
-            count_groups::<Counted<Children>>(
-                alloc,
-                tree,
-                source,
-                count,
-                bounds,
-                values,
-                value_bounds,
-            )
-        }
+        StatKind::Plain => count_groups::<Counted<Plain>, AnyValues>(alloc, tree, source, groups),
+        StatKind::Ints => count_groups::<Counted<Ints>, NumberValues>(alloc, tree, source, groups),
+        StatKind::Bools => count_groups::<Counted<Bools>, AnyValues>(alloc, tree, source, groups),
+        StatKind::Dates => count_groups::<Counted<Dates>, AnyValues>(alloc, tree, source, groups),
+        StatKind::Texts => count_groups::<Counted<Texts<'_>>, TextValues>(
+            alloc, tree, source, groups,
+        ),
+        StatKind::Bins => count_groups::<Counted<Bins>, AnyValues>(alloc, tree, source, groups),
+        StatKind::Children => count_groups::<Counted<Children>, ListValues>(
+            alloc, tree, source, groups,
+        ),
     }
 }
 
@@ -249,28 +228,25 @@ pub(crate) fn find_values(
     alloc: Global,
     tree: &Tree,
     source: &mut ValueSource<'_>,
-    count: usize,
-    bounds: &[usize],
-    values: usize,
-    value_bounds: &[usize],
+    groups: GroupBounds<'_>,
 ) -> Result<ColumnFound, StripeFault>
-    requires few { count < cell_limit }
-    requires bounds { AreBounds count bounds.now }
-    requires first { bound_at count bounds.now 0 ≡ 0 }
-    requires values { AreValueBounds count bounds.now values value_bounds.now }
+    requires few { groups.count < cell_limit }
+    requires bounds { AreBounds groups.count groups.bounds.now }
+    requires first { bound_at groups.count groups.bounds.now 0 ≡ 0 }
+    requires values { AreValueBounds groups.count groups.bounds.now groups.values groups.value_bounds.now }
     ensures found { IfOk result (λ found. (read : List Cell)
-        × (length read ≡ values)
+        × (length read ≡ groups.entry.values)
         × OwnValuesLeft (shape tree.now) source.old read
-        × ((cells : List Cell) → HasValues count bounds.now value_bounds.now read cells
-        → IsColumnFound (shape tree.now) cells bounds.now found)) }
+        × ((cells : List Cell) → HasValues groups.entry.count groups.entry.bounds.now groups.entry.value_bounds.now read cells
+        → IsColumnFound (shape tree.now) cells groups.entry.bounds.now found)) }
     ensures none { IfErr result (λ fault. fault ≢ OutOfMemory
-        → (read : List Cell) → OwnValuesLeft (shape tree.now) source.old read → length read ≡ values → ⊥) }
+        → (read : List Cell) → OwnValuesLeft (shape tree.now) source.old read → length read ≡ groups.entry.values → ⊥) }
     ensures fault { IfErr result (λ cause. cause ≢ OutOfMemory
-        → (all : Bool) × ValuesMeet (shape tree.now) source.old all values cause) }
+        → (all : Bool) × ValuesMeet (shape tree.now) source.old all groups.entry.values cause) }
 {
     // for the proof, which knows that the room is a number of 64 bits where it is read
     let _room = source.room;
-    match count_by_kind(alloc, tree, source, count, bounds, values, value_bounds) {
+    match count_by_kind(alloc, tree, source, groups) {
         Ok(found) => {
             if !values_end(tree, source) {
                 return Err(values_left(tree, source));

@@ -14,7 +14,7 @@ ghost use Rattle.orc_column_walk.specs.Passed.{HasValues, AreValueBounds};
 ghost use Rattle.orc_column_reader.specs.ReaderFaults.{ValuesMeet};
 
 use crate::found::ColumnFound;
-use crate::group_values::find_values;
+use crate::group_values::{GroupBounds, find_values};
 use crate::marks::{ValueBounds, count_values_by_group};
 use crate::struct_groups::find_structs;
 use orc_column_reader::column::ValueSource;
@@ -51,15 +51,13 @@ fn find_column(
     if let Tree::Struct(_, _) = tree {
         return Ok(find_structs(alloc, count, bounds, marked)?);
     }
-    find_values(
-        alloc,
-        tree,
-        source,
+    let groups = GroupBounds {
         count,
         bounds,
-        marked.values,
-        &marked.before,
-    )
+        values: marked.values,
+        value_bounds: &marked.before,
+    };
+    find_values(alloc, tree, source, groups)
 }
 
 /// Reads a column of so many cells from its own streams, to their ends, and counts them: the

@@ -8,6 +8,7 @@ mod group_values;
 mod groups;
 mod laws;
 mod marks;
+mod next_value;
 mod own_values;
 mod passed;
 mod scalars;

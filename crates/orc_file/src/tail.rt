@@ -15,6 +15,7 @@ use orc_types::Schema;
 use orc_wire::{Bytes, Items, StripeInfo, UserMetadataItem};
 pub(crate) use reading::read_capped_tail;
 pub use reading::read_tail;
+pub(crate) use statistics::kind_of_type;
 
 /// What a file says of itself behind its stripes (ORC specification, "File Tail").
 #[derive(Debug, Drop)]

@@ -3,9 +3,13 @@ ghost use Rattle.std.specs.Prelude.{◌≡◌, ◌∷◌, []};
 ghost use Rattle.std.specs.Bool.{OnTrue, OnFalse};
 ghost use Rattle.orc_stats.specs.Joining.{least_children, greatest_children, total_children};
 ghost use Rattle.orc_stats.specs.Known.{where_known, known_in, known_as, Agrees};
+ghost use Rattle.orc_stats.specs.Messages.{texts_body, body_read, stat_read};
 
+use crate::kind::StatKind;
+use crate::message::unknown;
+use crate::records::{bins_body, bools_body, children_body, dates_body, ints_body};
 use crate::stat::{Body, Stat};
-use orc_wire::Bytes;
+use orc_wire::{Bytes, ColumnStats, StringStatistics};
 
 /// Whether two texts are one, or neither is known.
 fn same_text(told: &Option<Bytes>, right: &Option<Bytes>) -> bool
@@ -90,6 +94,70 @@ fn is_body(told: &Body, right: &Body) -> bool
         }
         _ => false,
     }
+}
+
+/// Whether what a record tells of texts is right. It copies none.
+fn are_texts(told: &Option<StringStatistics>, right: &Body) -> bool
+    ensures yes { OnTrue result (texts_body told.now ≡ known_in (texts_body told.now ∷ []) right.now) }
+    ensures no { OnFalse result (texts_body told.now ≡ known_in (texts_body told.now ∷ []) right.now → ⊥) }
+{
+    match (told, right) {
+        (
+            Some(told),
+            Body::Texts {
+                least,
+                greatest,
+                sum,
+            },
+        ) => {
+            same_text(&told.minimum, least)
+                && same_text(&told.maximum, greatest)
+                && told.sum == *sum
+        }
+        (
+            None,
+            Body::Texts {
+                least: None,
+                greatest: None,
+                sum: None,
+            },
+        ) => true,
+        _ => false,
+    }
+}
+
+/// Whether what a message tells of the values of a column of a kind is right.
+fn values_tell(kind: StatKind, message: &ColumnStats, right: &Body) -> bool
+    ensures yes { OnTrue result (body_read kind message.now ≡ known_in (body_read kind message.now ∷ []) right.now) }
+    ensures no { OnFalse result
+        (body_read kind message.now ≡ known_in (body_read kind message.now ∷ []) right.now → ⊥) }
+{
+    match kind {
+        StatKind::Plain => is_body(&Body::Plain, right),
+        StatKind::Ints => is_body(&ints_body(&message.int_statistics), right),
+        StatKind::Bools => is_body(&bools_body(&message.bucket_statistics), right),
+        StatKind::Dates => is_body(&dates_body(&message.date_statistics), right),
+        StatKind::Texts => are_texts(&message.string_statistics, right),
+        StatKind::Bins => is_body(&bins_body(&message.binary_statistics), right),
+        StatKind::Children => is_body(&children_body(&message.collection_statistics), right),
+    }
+}
+
+/// Whether a message says of a column of a kind what the right statistic says, but for parts of children
+/// that it doesn't know: as the statistic that `Stat::read` makes of it would. It takes no memory.
+pub fn tells(kind: StatKind, message: &ColumnStats, right: &Stat) -> bool
+    // It is true exactly where the statistic that the message is says what the right one says, but
+    // for parts of children that it doesn't know.
+    ensures yes { OnTrue result (Agrees (stat_read kind message.now) right.now) }
+    ensures no { OnFalse result (Agrees (stat_read kind message.now) right.now → ⊥) }
+{
+    if message.number_of_values != right.count || message.has_null != right.nulls {
+        return false;
+    }
+    if message.number_of_values == 0 {
+        return is_body(&unknown(kind), &right.body);
+    }
+    values_tell(kind, message, &right.body)
 }
 
 /// A part of children, where another is known.

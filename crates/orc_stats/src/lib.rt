@@ -17,6 +17,7 @@ mod tally;
 mod text_parts;
 mod totals;
 
+pub use agreeing::tells;
 pub use counted::Counted;
 pub use fault::StatFault;
 pub use join::{join_all, of_cells};

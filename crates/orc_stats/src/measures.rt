@@ -68,13 +68,15 @@ pub trait Measures<'r>: Sizes + Sized + Drop {
         // Its total is 0.
         ensures size { Self.size result ≡ 0 };
 
-    /// Of one cell; null adds nothing.
-    fn of_own(own: Own<'r>) -> Self
-        requires { is_of kind (own_cell own) ≡ true }
-        // Where the cell is of the kind, it is what is kept of that cell.
-        ensures value { parts result ≡ measure.of_cell (own_cell own.entry) }
-        // Its total is 2^64 at most, without the sign.
-        ensures size { Self.size result ≤ 2 ^ 64 };
+    /// Counts one cell more; null adds nothing.
+    fn add_own(&mut self, own: Own<'r>)
+        requires kind { is_of kind (own_cell own) ≡ true }
+        requires room { Self.size self.old + 2 ^ 64 < 2 ^ 127 }
+        // Where the cell is of the kind, and the total and 2^64 are below 2^127 together, it becomes
+        // the join of what was kept with what is kept of that cell.
+        ensures joined { parts self.new ≡ measure.joins.join (parts self.old) (measure.of_cell (own_cell own.entry)) }
+        // Its total grows by 2^64 at most, without the sign.
+        ensures size { Self.size self.new ≤ Self.size self.old + 2 ^ 64 };
 
     /// Of the values that a statistic is of.
     fn of_body(body: &'r Body) -> Self

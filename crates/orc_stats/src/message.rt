@@ -101,7 +101,7 @@ impl Stat {
 }
 
 /// Nothing is known of the values.
-fn unknown(kind: StatKind) -> Body
+pub(crate) fn unknown(kind: StatKind) -> Body
     ensures { result ≡ spec.unknown kind }
 {
     match kind {

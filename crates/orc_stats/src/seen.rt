@@ -3,6 +3,7 @@ ghost use Rattle.std.specs.Prelude.{◌≡◌};
 ghost use Rattle.std.specs.Ordering.{flip_args};
 ghost use Rattle.orc_stats.specs.Seen.{both, seen_of, known_of};
 ghost use Rattle.orc_stats.specs.Statistics.{lower};
+ghost use Rattle.orc_stats.specs.declared.seen.Seen.TheVariants.{Known};
 
 /// What was seen of a part of statistics.
 #[derive(Clone, Copy, Debug)]
@@ -52,6 +53,38 @@ impl<T: Copy> Seen<T> {
 }
 
 impl<T: Ord + Copy> Seen<T> {
+    /// Becomes the least of what was seen and a value more.
+    #[inline(always)]
+    pub(crate) fn keep_least(&mut self, value: T)
+        ensures { self.new ≡ both (lower T.cmp) self.old (Known value) }
+    {
+        match self {
+            Seen::Known(least) => {
+                if (*least).cmp(&value).is_gt() {
+                    *least = value;
+                }
+            }
+            Seen::Nothing => *self = Seen::Known(value),
+            Seen::Unknown => {}
+        }
+    }
+
+    /// Becomes the greatest of what was seen and a value more.
+    #[inline(always)]
+    pub(crate) fn keep_greatest(&mut self, value: T)
+        ensures { self.new ≡ both (lower (flip_args T.cmp)) self.old (Known value) }
+    {
+        match self {
+            Seen::Known(greatest) => {
+                if value.cmp(greatest).is_gt() {
+                    *greatest = value;
+                }
+            }
+            Seen::Nothing => *self = Seen::Known(value),
+            Seen::Unknown => {}
+        }
+    }
+
     /// The least of both.
     pub(crate) fn least(self, other: Seen<T>) -> Seen<T>
         ensures { result ≡ both (lower T.cmp) self other }

@@ -1,5 +1,5 @@
 //! Sums and numbers of values while they are counted. A sum may pass 64 bits on the way.
-ghost use Rattle.std.specs.Prelude.{◌≡◌, ◌+◌, ◌+ℤ◌, ◌^◌, ◌<◌, ◌≤◌, pos, length};
+ghost use Rattle.std.specs.Prelude.{◌≡◌, ◌+◌, ◌+ℤ◌, ◌^◌, ◌<◌, ◌≤◌, unsigned_abs};
 ghost use Rattle.std.specs.Option.{option_and_then};
 ghost use Rattle.orc_stats.specs.Seen.{both, seen_of, known_of};
 ghost use Rattle.orc_stats.specs.Statistics.{in_64 as fit, in_u64 as room};
@@ -19,6 +19,20 @@ pub(crate) fn plus(one: Seen<i128>, other: Seen<i128>) -> Seen<i128>
         (Seen::Nothing, part) | (part, Seen::Nothing) => part,
         (Seen::Known(x), Seen::Known(y)) => Seen::Known(x + y),
         _ => Seen::Unknown,
+    }
+}
+
+/// Adds a number to a total.
+#[inline(always)]
+pub(crate) fn add_to(total: &mut Seen<i128>, number: i128)
+    requires { size total.old + unsigned_abs number < 2 ^ 127 }
+    ensures total { total.new ≡ both ◌+ℤ◌ total.old (Known number) }
+    ensures size { size total.new ≤ size total.old + unsigned_abs number }
+{
+    match total {
+        Seen::Known(sum) => *sum += number,
+        Seen::Nothing => *total = Seen::Known(number),
+        Seen::Unknown => {}
     }
 }
 
@@ -43,14 +57,6 @@ pub(crate) fn in_64(total: Seen<i128>) -> Option<i64>
     }
 }
 
-/// The length of a text, as a total.
-pub(crate) fn length_of(bytes: &[u8]) -> Seen<i128>
-    ensures total { result ≡ Known (pos (length bytes.now)) }
-    ensures size { size result ≤ 2 ^ 64 }
-{
-    Seen::Known(bytes.len() as i128)
-}
-
 /// The number of both.
 pub(crate) fn more(one: Seen<u128>, other: Seen<u128>) -> Seen<u128>
     requires { count_size one + count_size other < 2 ^ 127 }
@@ -61,6 +67,20 @@ pub(crate) fn more(one: Seen<u128>, other: Seen<u128>) -> Seen<u128>
         (Seen::Nothing, part) | (part, Seen::Nothing) => part,
         (Seen::Known(x), Seen::Known(y)) => Seen::Known(x + y),
         _ => Seen::Unknown,
+    }
+}
+
+/// Adds to a number.
+#[inline(always)]
+pub(crate) fn count_to(total: &mut Seen<u128>, number: u64)
+    requires { count_size total.old + number < 2 ^ 127 }
+    ensures total { total.new ≡ both ◌+◌ total.old (Known number) }
+    ensures size { count_size total.new ≤ count_size total.old + number }
+{
+    match total {
+        Seen::Known(sum) => *sum += u128::from(number),
+        Seen::Nothing => *total = Seen::Known(u128::from(number)),
+        Seen::Unknown => {}
     }
 }
 

@@ -19,6 +19,9 @@ use crate::items::Bytes;
 use crate::message::Message;
 use orc_bits::{put_varint, zigzag};
 
+/// The room for the text of a message within another, which few of them outgrow.
+const ROOM: usize = 64;
+
 fn put_one(n: u64, out: &mut Vec<u8>) -> Result<(), WireFault>
     ensures text { OnOk result (out.new.items ≡ out.old.items ++ varint_text n) }
     ensures fits { n < 2 ^ 64 }
@@ -213,7 +216,7 @@ pub(crate) fn put_packed_u32(n: u32, numbers: &[u32], out: &mut Vec<u8>) -> Resu
     ensures refused { IfErr result (λ fault. fault ≡ OutOfMemory) }
     ensures front { KeepsFront out.old.items out.new.items }
 {
-    let mut text = Vec::new(*out.allocator());
+    let mut text = Vec::with_capacity(*out.allocator(), numbers.len())?;
     for number in numbers {
         put_one(u64::from(*number), &mut text)?;
     }
@@ -227,7 +230,7 @@ pub(crate) fn put_packed_u64(n: u32, numbers: &[u64], out: &mut Vec<u8>) -> Resu
     ensures refused { IfErr result (λ fault. fault ≡ OutOfMemory) }
     ensures front { KeepsFront out.old.items out.new.items }
 {
-    let mut text = Vec::new(*out.allocator());
+    let mut text = Vec::with_capacity(*out.allocator(), numbers.len())?;
     for number in numbers {
         put_one(*number, &mut text)?;
     }
@@ -248,7 +251,7 @@ pub(crate) fn put_shown<M: Message>(
     match message {
         None => Ok(()),
         Some(message) => {
-            let mut text = Vec::new(*out.allocator());
+            let mut text = Vec::with_capacity(*out.allocator(), ROOM)?;
             message.put_members(&mut text)?;
             put_some(n, &text, out)
         }
@@ -267,8 +270,10 @@ pub(crate) fn put_each<M: Message>(
     ensures refused { IfErr result (λ fault. fault ≡ OutOfMemory) }
     ensures front { KeepsFront out.old.items out.new.items }
 {
+    // one room for the texts of all of them
+    let mut text = Vec::new(*out.allocator());
     for message in messages {
-        let mut text = Vec::new(*out.allocator());
+        text.clear();
         message.put_members(&mut text)?;
         put_field(n, Value::Bytes(&text), out)?;
     }

@@ -19,7 +19,7 @@ const LIST: u32 = 10;
 const MAP: u32 = 11;
 
 /// What is counted of a column of this type.
-fn kind_of_type(type_of: &TypeMsg) -> StatKind
+pub(crate) fn kind_of_type(type_of: &TypeMsg) -> StatKind
     ensures { result ≡ kind_of_number type_of.now.kind }
 {
     match Scalar::from_number(type_of.kind) {

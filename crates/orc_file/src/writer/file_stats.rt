@@ -7,8 +7,9 @@ ghost use Rattle.orc_stats.specs.Kinds.{body_is_of};
 ghost use Rattle.orc_file.specs.Statistics.{kind_at};
 ghost use Rattle.orc_file.specs.Writing.{file_stats, column_stats};
 
-use orc_stats::{Body, Stat, StatFault, StatKind, join_all};
-use orc_types::{Schema, tree_at};
+use crate::tail::kind_of_type;
+use orc_stats::{Body, Stat, StatFault, join_all};
+use orc_types::Schema;
 use orc_wire::{Bytes, Items};
 use std::alloc::{AllocError, Global};
 
@@ -103,9 +104,10 @@ pub fn file_statistics(
         ⊎ ((e ≡ fault.CountTooLarge) × (c : ℕ) × (c < width schema.now)
         × (2 ^ 62 < sum_by (λ (s : Stat). s.count) (column_stats c stats.now)))) }
 {
+    let types = schema.types();
     let mut found = Vec::new(alloc);
-    for column in 0..schema.width() {
-        let kind = StatKind::of_type(tree_at(schema.tree(), column));
+    for (column, type_of) in types.iter().enumerate() {
+        let kind = kind_of_type(type_of);
         let stripes = of_column(alloc, stats, column)?;
         let stat = join_all(alloc, kind, &stripes)?;
         found.push(stat)?;

@@ -3,7 +3,7 @@ use crate::fault::StatFault;
 use crate::measures::{Measures, Sizes};
 use crate::seen::Seen;
 use crate::stat::Body;
-use crate::totals::{in_64, length_of, plus, total_of};
+use crate::totals::{add_to, in_64, plus, total_of};
 use orc_types::Own;
 use std::alloc::Global;
 
@@ -41,12 +41,9 @@ impl<'r> Measures<'r> for Bins {
         Bins { sum: Seen::Nothing }
     }
 
-    fn of_own(own: Own<'r>) -> Bins {
-        let Own::Bytes(bytes) = own else {
-            return Bins::none();
-        };
-        Bins {
-            sum: length_of(bytes),
+    fn add_own(&mut self, own: Own<'r>) {
+        if let Own::Bytes(bytes) = own {
+            add_to(&mut self.sum, bytes.len() as i128);
         }
     }
 

@@ -3,7 +3,7 @@ use crate::fault::StatFault;
 use crate::measures::{Measures, Sizes};
 use crate::seen::Seen;
 use crate::stat::Body;
-use crate::totals::{in_limit, more, number_of};
+use crate::totals::{count_to, in_limit, more, number_of};
 use orc_types::Own;
 use std::alloc::Global;
 
@@ -43,12 +43,9 @@ impl<'r> Measures<'r> for Bools {
         }
     }
 
-    fn of_own(own: Own<'r>) -> Bools {
-        let Own::Bool(truth) = own else {
-            return Bools::none();
-        };
-        Bools {
-            trues: Seen::Known(u128::from(truth)),
+    fn add_own(&mut self, own: Own<'r>) {
+        if let Own::Bool(truth) = own {
+            count_to(&mut self.trues, u64::from(truth));
         }
     }
 

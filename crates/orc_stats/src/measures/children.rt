@@ -3,7 +3,7 @@ use crate::fault::StatFault;
 use crate::measures::{Measures, Sizes};
 use crate::seen::Seen;
 use crate::stat::Body;
-use crate::totals::{in_u64, more, number_of};
+use crate::totals::{count_to, in_u64, more, number_of};
 use orc_types::Own;
 use std::alloc::Global;
 
@@ -48,14 +48,11 @@ impl<'r> Measures<'r> for Children {
         }
     }
 
-    fn of_own(own: Own<'r>) -> Children {
-        let (Own::List(count) | Own::Map(count)) = own else {
-            return Children::none();
-        };
-        Children {
-            least: Seen::Known(count),
-            greatest: Seen::Known(count),
-            total: Seen::Known(u128::from(count)),
+    fn add_own(&mut self, own: Own<'r>) {
+        if let Own::List(count) | Own::Map(count) = own {
+            self.least.keep_least(count);
+            self.greatest.keep_greatest(count);
+            count_to(&mut self.total, count);
         }
     }
 

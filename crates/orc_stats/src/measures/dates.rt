@@ -42,13 +42,10 @@ impl<'r> Measures<'r> for Dates {
         }
     }
 
-    fn of_own(own: Own<'r>) -> Dates {
-        let Own::Date(day) = own else {
-            return Dates::none();
-        };
-        Dates {
-            least: Seen::Known(day),
-            greatest: Seen::Known(day),
+    fn add_own(&mut self, own: Own<'r>) {
+        if let Own::Date(day) = own {
+            self.least.keep_least(day);
+            self.greatest.keep_greatest(day);
         }
     }
 

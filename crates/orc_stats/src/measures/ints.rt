@@ -3,7 +3,7 @@ use crate::fault::StatFault;
 use crate::measures::{Measures, Sizes};
 use crate::seen::Seen;
 use crate::stat::Body;
-use crate::totals::{in_64, plus, total_of};
+use crate::totals::{add_to, in_64, plus, total_of};
 use orc_types::Own;
 use std::alloc::Global;
 
@@ -47,14 +47,12 @@ impl<'r> Measures<'r> for Ints {
         }
     }
 
-    fn of_own(own: Own<'r>) -> Ints {
-        let Own::Int(number) = own else {
-            return Ints::none();
-        };
-        Ints {
-            least: Seen::Known(number),
-            greatest: Seen::Known(number),
-            sum: Seen::Known(i128::from(number)),
+    #[inline(always)]
+    fn add_own(&mut self, own: Own<'r>) {
+        if let Own::Int(number) = own {
+            self.least.keep_least(number);
+            self.greatest.keep_greatest(number);
+            add_to(&mut self.sum, i128::from(number));
         }
     }
 

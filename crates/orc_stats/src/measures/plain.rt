@@ -33,9 +33,7 @@ impl<'r> Measures<'r> for Plain {
         Plain
     }
 
-    fn of_own(_own: Own<'r>) -> Plain {
-        Plain
-    }
+    fn add_own(&mut self, _own: Own<'r>) {}
 
     fn of_body(_body: &'r Body) -> Plain {
         Plain

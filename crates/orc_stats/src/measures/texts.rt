@@ -4,7 +4,7 @@ use crate::measures::{Measures, Sizes};
 use crate::seen::Seen;
 use crate::stat::Body;
 use crate::text_parts::{lent_part, owned_part};
-use crate::totals::{in_64, length_of, plus, total_of};
+use crate::totals::{add_to, in_64, plus, total_of};
 use orc_types::Own;
 use std::alloc::Global;
 
@@ -49,15 +49,13 @@ impl<'r> Measures<'r> for Texts<'r> {
         }
     }
 
-    fn of_own(own: Own<'r>) -> Texts<'r> {
-        let Own::Text(text) = own else {
-            return Texts::none();
-        };
-        let bytes = text.as_bytes();
-        Texts {
-            least: Seen::Known(bytes),
-            greatest: Seen::Known(bytes),
-            sum: length_of(bytes),
+    #[inline(always)]
+    fn add_own(&mut self, own: Own<'r>) {
+        if let Own::Text(text) = own {
+            let bytes = text.as_bytes();
+            self.least.keep_least(bytes);
+            self.greatest.keep_greatest(bytes);
+            add_to(&mut self.sum, bytes.len() as i128);
         }
     }
 

@@ -6,7 +6,6 @@ use Rattle.orc_types.specs.Views.{shape}
 use Rattle.orc_column_walk.specs.declared.found.GroupFound.{GroupFound}
 use Rattle.orc_row_index.specs.Bounds.{before_group, group_of}
 use Rattle.orc_row_index.specs.Places.{AreReadPlaces}
-use Rattle.orc_row_index.proofs.Groups.{group_fits, group_few}
 use Rattle.orc_check.specs.declared.finding.Finding.TheVariants.{IndexStatistic, IndexPosition}
 use Rattle.orc_check.specs.Findings.{Adds, Unless, OfEach, OfGroup, TellsGroup, entry_at}
 use Rattle.orc_check.proofs.GroupBounds.{get_or_any}
@@ -25,9 +24,9 @@ loop-group-preserved c = λ x cells bounds fit few are decided.
     let read = c.index-entries-group.result in
     let entry : read ≡ entry_at es g = c.index-entries-group.is ∙ get_or_any es g read none here in
     let group = are g c.index-groups-group.result (slice_get_read c.args.groups.now (length c.args.groups.now) g c.index-groups-group.result refl (omega (arith, here, c.requires)) c.index-groups-group.is) in
-    let tells = c.in_ok-tells.tells in
+    let tells = c.entry_tells-tells.result in
     let told_read : MatchBool tells (TellsGroup s (group_of cells bounds g) read) (TellsGroup s (group_of cells bounds g) read → ⊥) =
-    c.in_ok-tells.ensures (group_of cells bounds g) (group_fits s cells bounds g fit) (omega (arith, few, group_few cells bounds g)) (ap (λ (x : GroupFound). x.stat) (sym c.index-groups-group.is) ∙ group.stat_is) in
+    c.entry_tells-tells.ensures (group_of cells bounds g) (ap (λ (x : GroupFound). x.stat) (sym c.index-groups-group.is) ∙ group.stat_is) in
     let told : MatchBool tells (TellsGroup s (group_of cells bounds g) (entry_at es g)) (TellsGroup s (group_of cells bounds g) (entry_at es g) → ⊥) =
     subst (λ (e : RowIndexEntry). MatchBool tells (TellsGroup s (group_of cells bounds g) e) (TellsGroup s (group_of cells bounds g) e → ⊥)) entry told_read in
     let first = adds_report (TellsGroup s (group_of cells bounds g) (entry_at es g)) tells (IndexStatistic n col g) c.loop-group.found.items c.report.new.found.items told c.in_ok-report.ensures in

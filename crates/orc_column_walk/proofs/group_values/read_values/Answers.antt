@@ -33,6 +33,6 @@ returns-in-Err-clause-fault g c = λ memory n.
 pub loop-preserved : goal.loop-preserved
 loop-preserved g c =
     let s = shape c.args.tree.now in
-    value_counted g.T.Tally.measure s c.args.source.now c.loop.source c.next_own.new.source c.loop.counter (g.T.Tally.kept c.args.tally.now) (g.T.Tally.kept c.loop.tally) (g.T.Tally.kept c.add_own.new.self) c.args.before c.loop.passed c.add-passed.result (own_cell c.in-Ok.own)
+    value_counted g.T.Tally.measure s c.args.source.now c.loop.source c.next.new.source c.loop.counter (g.T.Tally.kept c.args.tally.now) (g.T.Tally.kept c.loop.tally) (g.T.Tally.kept c.add_own.new.self) c.args.before c.loop.passed c.add-passed.result (own_cell c.in-Ok.own)
     c.loop.invariant c.in-Ok.ensures.found c.in-Ok.ensures.value c.in-Ok.ensures.before c.add_own.ensures
     (λ front h. c.add-passed.ensures.passed s front c.in-Ok.ensures.value c.in-Ok.ensures.children h) c.add-passed.ensures.cells c.add-passed.ensures.values

@@ -9,7 +9,7 @@ loop-message-preserved g c =
     let m = g.M.Message in
     let message = c.message-item.result in
     let body : c.deref.result.now ≡ m.canonical.text message =
-    c.deref.ensures.value ∙ (c.in_ok-put_members.ensures.text ∙ ap (λ (t : List ℕ). t ++ m.canonical.text message) c.new-text.ensures.items) in
+    c.deref.ensures.value ∙ (c.in_ok-put_members.ensures.text ∙ ap (λ (t : List ℕ). t ++ m.canonical.text message) c.clear.ensures.items) in
     let ok : c.put_field.new.out.items ≡ c.loop-message.out.items ++ sized_text c.args.n (m.canonical.text message) =
     c.in_ok-put_field.ensures.text ∙ ap (λ (t : List ℕ). c.loop-message.out.items ++ sized_text c.args.n t) body in
     record {

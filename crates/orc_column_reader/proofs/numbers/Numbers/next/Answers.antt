@@ -10,7 +10,7 @@ use Rattle.orc_column_reader.proofs.numbers.Numbers.next.Goals as goal
 
 pub returns-in-Ok-clause-found : goal.returns-in-Ok-clause-found
 returns-in-Ok-clause-found c =
-    let r = c.fill.new.self in
+    let r = c.ready.new.self in
     let n : ℤ = get_or c.values.result.now r.used (pos 0) in
     let z : to_z w64 (of_z w64 n) ≡ n = to_z-of_z w64 n (search rules) in
     let there : r.used < length r.run.values = c.in-Ok.ensures.some in
@@ -20,7 +20,7 @@ returns-in-Ok-clause-found c =
 
 pub returns-in-Ok-clause-first : goal.returns-in-Ok-clause-first
 returns-in-Ok-clause-first c =
-    let r = c.fill.new.self in
+    let r = c.ready.new.self in
     let n : ℤ = get_or c.values.result.now r.used (pos 0) in
     let z : to_z w64 (of_z w64 n) ≡ n = to_z-of_z w64 n (search rules) in
     let there : r.used < length r.run.values = c.in-Ok.ensures.some in
@@ -30,7 +30,7 @@ returns-in-Ok-clause-first c =
 
 pub returns-in-Ok-clause-before : goal.returns-in-Ok-clause-before
 returns-in-Ok-clause-before c = λ m f h.
-    let r = c.fill.new.self in
+    let r = c.ready.new.self in
     let n : ℤ = get_or c.values.result.now r.used (pos 0) in
     let there : r.used < length r.run.values = c.in-Ok.ensures.some in
     let same : get_or r.run.values r.used (pos 0) ≡ n = ap (λ xs. get_or xs r.used (pos 0)) (sym c.values.ensures.values) in

@@ -1,23 +1,25 @@
-use Rattle.std.proofs.Common.{◌≡◌, ℕ, zero, suc, ◌+◌, ◌^◌, ◌<◌, ◌≤◌, ◌⊎◌, inl, inr, refl, ◌++◌, ◌∷◌, [], List, ap, sym, ◌∙◌, subst, arith, append_assoc, append-nil}
+use Rattle.std.proofs.Common.{◌≡◌, ℕ, zero, suc, ◌+◌, ◌^◌, ◌<◌, ◌≤◌, ◌⊎◌, inl, inr, refl, ◌++◌, ◌∷◌, [], List, length, ap, sym, ◌∙◌, subst, arith, append_assoc, append-nil}
 use Rattle.std.specs.Prelude.{sum_by}
 use Rattle.std.proofs.lemmas.Result.{err_from_is_err_and}
-use Rattle.orc_types.specs.Shapes.{Shape, shape_at}
+use Rattle.orc_types.specs.Shapes.{width}
+use Rattle.orc_types.proofs.Trees.{length-types}
 use Rattle.orc_stats.specs.declared.stat.Stat.{Stat}
-use Rattle.orc_stats.specs.Kinds.{kind_of}
 use Rattle.orc_stats.specs.Joining.{joined}
 use Rattle.orc_stats.specs.Faults.{JoinFault}
 use Rattle.orc_stats.specs.declared.fault.StatFault.{StatFault}
 use Rattle.orc_stats.specs.declared.fault.StatFault.TheVariants as fault
 use Rattle.orc_file.specs.Statistics.{kind_at}
 use Rattle.orc_file.specs.Writing.{of_columns, column_stats}
+use Rattle.orc_file.proofs.Columns.{column_kind}
 use Rattle.orc_file.proofs.writer.file_stats.file_statistics.Goals as goal
 
 pub join_all-requires : goal.join_all-requires
 join_all-requires c =
-    let n = c.loop-column.column in
-    let k : c.of_type-kind.result ≡ kind_at c.args.schema.now n = c.of_type-kind.ensures ∙ ap kind_of (c.tree_at.ensures ∙ ap (λ (s : Shape). shape_at s n) c.tree.ensures.same) in
+    let s = c.args.schema.now in let n = c.loop-column.column in
+    let there : n < width s = omega (arith, ap length c.types-types.ensures.same, length-types s 0, c.loop-column-test.true) in
+    let k : c.kind_of_type-kind.result ≡ kind_at s n = column_kind s c.types-types.result.now n c.index-types-column.result c.kind_of_type-kind.result c.types-types.ensures.same there c.kind_of_type-kind.ensures c.index-types-column.is in
     let are : c.deref.result.now ≡ column_stats n c.args.stats.now = c.deref.ensures.value ∙ c.in_ok-stripes.ensures in
-    rw (k, are) (c.requires.kinds n (omega (arith, c.loop-column-test.true, c.width-column-end.ensures.same)))
+    rw (k, are) (c.requires.kinds n there)
 
 fault_of : (M : Type 0) (ss : List Stat) (e : StatFault) → JoinFault M ss e
     → (e ≡ fault.OutOfMemory) ⊎ ((e ≡ fault.CountTooLarge) × (2 ^ 62 < sum_by (λ (s : Stat). s.count) ss))
@@ -26,12 +28,13 @@ fault_of M ss fault.OutOfMemory j = inl refl
 
 pub returns-in_err-stat-clause-fault : goal.returns-in_err-stat-clause-fault
 returns-in_err-stat-clause-fault c =
-    let n = c.loop-column.column in
+    let s = c.args.schema.now in let n = c.loop-column.column in
+    let there : n < width s = omega (arith, ap length c.types-types.ensures.same, length-types s 0, c.loop-column-test.true) in
     let are : c.deref.result.now ≡ column_stats n c.args.stats.now = c.deref.ensures.value ∙ c.in_ok-stripes.ensures in
     let p = err_from_is_err_and c.from_residual-in_err-stat.result c.from_residual-in_err-stat.ensures.1 in
     rw (p.1, p.2) (elim (fault_of _ c.deref.result.now c.in_err-stat.field-0.0 c.in_err-stat.ensures.fault) [
       | inl memory ↦ inl memory
-      | inr large ↦ inr (large.0, n, omega (arith, c.loop-column-test.true, c.width-column-end.ensures.same), subst (λ (xs : List Stat). 4611686018427387904 < sum_by (λ (s : Stat). s.count) xs) are large.1)
+      | inr large ↦ inr (large.0, n, there, subst (λ (xs : List Stat). 4611686018427387904 < sum_by (λ (s : Stat). s.count) xs) are large.1)
     ])
 
 few_more : (f : ℕ → ℕ) (n : ℕ) → ((c : ℕ) → c < n → f c ≤ 4611686018427387904) → f n ≤ 4611686018427387904 → (c : ℕ) → c < n + 1 → f c ≤ 4611686018427387904
@@ -48,9 +51,10 @@ few_more f n few here c lt = elim (equal_or_below c n lt) [
 
 pub loop-column-preserved : goal.loop-column-preserved
 loop-column-preserved c =
-    let n = c.loop-column.column in
-    let f : ℕ → Stat = λ m. joined (kind_at c.args.schema.now m) (column_stats m c.args.stats.now) in
-    let k : c.of_type-kind.result ≡ kind_at c.args.schema.now n = c.of_type-kind.ensures ∙ ap kind_of (c.tree_at.ensures ∙ ap (λ (s : Shape). shape_at s n) c.tree.ensures.same) in
+    let s = c.args.schema.now in let n = c.loop-column.column in
+    let f : ℕ → Stat = λ m. joined (kind_at s m) (column_stats m c.args.stats.now) in
+    let there : n < width s = omega (arith, ap length c.types-types.ensures.same, length-types s 0, c.loop-column-test.true) in
+    let k : c.kind_of_type-kind.result ≡ kind_at s n = column_kind s c.types-types.result.now n c.index-types-column.result c.kind_of_type-kind.result c.types-types.ensures.same there c.kind_of_type-kind.ensures c.index-types-column.is in
     let are : c.deref.result.now ≡ column_stats n c.args.stats.now = c.deref.ensures.value ∙ c.in_ok-stripes.ensures in
     let one : c.in_ok-stat.stat ≡ f n = c.in_ok-stat.ensures.found ∙ (λ i. joined (k i) (are i)) in
     let next : n + 1 ≡ suc n = omega arith in
@@ -66,4 +70,7 @@ loop-column-preserved c =
     }
 
 pub returns-clause-found : goal.returns-clause-found
-returns-clause-found c = sym (append-nil c.loop-column.found.items) ∙ c.loop-column.invariant.found 0 (omega (arith, c.loop-column-test.false, c.width-column-end.ensures.same))
+returns-clause-found c = sym (append-nil c.loop-column.found.items) ∙ c.loop-column.invariant.found 0 (omega (arith, ap length c.types-types.ensures.same, length-types c.args.schema.now 0, c.loop-column-test.false))
+
+pub returns-clause-few : goal.returns-clause-few
+returns-clause-few c = λ n lt. c.loop-column.invariant.few n (omega (arith, ap length c.types-types.ensures.same, length-types c.args.schema.now 0, c.loop-column-test.false, lt))
