@@ -61,7 +61,7 @@ module _ (footer : StripeFooter) (bytes : List ℕ) (c : ℕ) (message : RowInde
   has_listed h = subst (λ (b : Bool). IsText (if b then Some (slice c 6 footer.streams bytes) else None) message) (sym h.0) h.1
 
 -- the bytes of a column's index are those that the directory lists
-text_is : (stripe : OpenStripe) (c : ℕ) (text : IndexText) → IsLaidOut stripe → c < width stripe.view.now.schema → text ≡ get_or stripe.texts.items c text
+pub text_is : (stripe : OpenStripe) (c : ℕ) (text : IndexText) → IsLaidOut stripe → c < width stripe.view.now.schema → text ≡ get_or stripe.texts.items c text
     → text_of text ≡ listed c stripe.view.now.footer.streams stripe.view.now.bytes
 text_is stripe c text out lt is =
     ap text_of (is ∙ get_or_any stripe.texts.items c text (record { bytes = None }) (omega (arith, lt, out.indexes.counted))) ∙ out.indexes.are c lt
@@ -76,6 +76,12 @@ is_message stripe c text message out lt is h = let v = stripe.view.now in subst 
 
 pub one_index : (footer : StripeFooter) (bytes : List ℕ) (c : ℕ) (a b : RowIndexMsg) → HasIndex footer bytes c a → HasIndex footer bytes c b → a ≡ b
 one_index footer bytes c a b p q = one_spelled row_index 0 0 (slice c 6 footer.streams bytes) a b p.1 q.1
+
+-- the column's streams, as the stripe's bytes and footer have them
+pub streams_here : (stripe : OpenStripe) (footer : StripeFooter) (c : ℕ) (own : ColumnStreams) → IsLaidOut stripe → footer ≡ stripe.view.now.footer → AreStreams (columns_of footer stripe.located.bytes.now c) own
+    → AreStreams (columns_of stripe.view.now.footer stripe.view.now.bytes c) own
+streams_here stripe footer c own out same h =
+    subst (λ (b : List ℕ). AreStreams (columns_of stripe.view.now.footer b c) own) out.same (subst (λ (f : StripeFooter). AreStreams (columns_of f stripe.located.bytes.now c) own) same h)
 
 -- ---- what is counted before each group
 

@@ -13,3 +13,6 @@ mod EachFinding
 pub mod NoFinding
 pub mod WrittenIndexes
 mod GroupsFound
+mod OwnCells
+mod WrittenFound
+mod Matching

@@ -148,7 +148,7 @@ module _ (view : Opened) (n : ℕ) (rows : List Cell) (c : ℕ) (some : 0 < view
         },
       )
 
-  right_index : HasAgreeingIndex view.stride view.schema rows view.footer view.bytes c → OfIndex view n rows c []
+  pub right_index : HasAgreeingIndex view.stride view.schema rows view.footer view.bytes c → OfIndex view n rows c []
   right_index h =
       let r = h.1 in
       let es : List RowIndexEntry = r.message.entries in

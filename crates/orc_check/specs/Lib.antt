@@ -6,3 +6,4 @@ pub mod Checking
 pub mod Meanings
 pub mod Needed
 pub mod Walking
+pub mod OwnGroups

@@ -16,6 +16,7 @@ ghost use Rattle.orc_check.specs.declared.finding.Finding.{Finding as Reported};
 ghost use Rattle.orc_check.specs.Checking.{HaveKnown};
 ghost use Rattle.orc_check.specs.Findings.{Adds, OfEach, OfColumn};
 ghost use Rattle.orc_check.specs.Needed.{NeedGroups};
+ghost use Rattle.orc_check.specs.OwnGroups.{HaveCells};
 ghost use Rattle.orc_check.specs.Walking.{IsLaidOut, AreGrouped, ComesNext, FieldsComeNext, AreBelow, IsFoundInRows, AreColumnsChecked};
 
 use crate::agreeing::{keep_told, tells};
@@ -92,6 +93,8 @@ fn check_column(
 ) -> Result<(), AllocError>
     requires laid_out { IsLaidOut stripe.now }
     requires there { column < width stripe.now.view.now.schema }
+    requires own { HaveCells (shape tree.now) (columns_of stripe.now.view.now.footer stripe.now.view.now.bytes column)
+        read.now.groups.items }
     ensures { OnOk result ((rows : List Cell) → IsFoundInRows stripe.now.view.now rows column (shape tree.now) read.now
         → Adds (OfColumn stripe.now.view.now stripe.now.told.now stripe.now.number rows column)
         found.old.items found.new.items) }

@@ -13,6 +13,7 @@ mod open_stripe;
 mod reports;
 mod row_index;
 mod stripes;
+mod written_index;
 
 pub use checking::check;
 pub use finding::Finding;

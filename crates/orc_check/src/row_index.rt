@@ -4,11 +4,12 @@ ghost use Rattle.orc_types.specs.Cells.{Cell};
 ghost use Rattle.orc_types.specs.Fits.{RowsFit};
 ghost use Rattle.orc_types.specs.Shapes.{width};
 ghost use Rattle.orc_types.specs.Views.{shape};
-ghost use Rattle.orc_column_reader.specs.Stripe.{Streams, cell_limit};
+ghost use Rattle.orc_column_reader.specs.Stripe.{Streams, cell_limit, columns_of};
 ghost use Rattle.orc_column_walk.specs.declared.found.GroupFound.{GroupFound as Group};
 ghost use Rattle.orc_row_index_check.specs.Decided.{AreDecided};
 ghost use Rattle.orc_check.specs.Findings.{Adds, OfEach, OfGroup, OfIndex};
 ghost use Rattle.orc_check.specs.Needed.{MayBeWhole};
+ghost use Rattle.orc_check.specs.OwnGroups.{HaveCells};
 ghost use Rattle.orc_check.specs.Walking.{IsLaidOut, AreGroups, AreGroupsFound};
 
 use crate::entries::entry_tells;
@@ -16,6 +17,7 @@ use crate::finding::Finding;
 use crate::needed::may_be_whole;
 use crate::open_stripe::OpenStripe;
 use crate::reports::report;
+use crate::written_index::is_written;
 use orc_column_reader::starting::streams_of;
 use orc_column_walk::GroupFound;
 use orc_row_index::Counts;
@@ -88,6 +90,8 @@ pub(crate) fn check_index(
 ) -> Result<(), AllocError>
     requires laid_out { IsLaidOut stripe.now }
     requires there { column < width stripe.now.view.now.schema }
+    requires own { HaveCells (shape tree.now) (columns_of stripe.now.view.now.footer stripe.now.view.now.bytes column)
+        groups.now }
     ensures { OnOk result ((rows : List Cell) → 0 < stripe.now.view.now.stride
         → length rows ≡ stripe.now.view.now.info.number_of_rows
         → (MayBeWhole stripe.now.view.now column
@@ -98,7 +102,12 @@ pub(crate) fn check_index(
     if !may_be_whole(stripe, column) {
         return report(false, finding, found);
     }
-    let Some(message) = read_index(alloc, &stripe.texts[column])? else {
+    let text = &stripe.texts[column];
+    let streams = streams_of(column, stripe.view.footer(), &stripe.located);
+    if is_written(alloc, tree, &streams, groups, text.bytes)? {
+        return Ok(());
+    }
+    let Some(message) = read_index(alloc, text)? else {
         return report(false, finding, found);
     };
     let entries = message.entries.as_slice();
@@ -106,7 +115,6 @@ pub(crate) fn check_index(
         return report(false, finding, found);
     }
     let counts = counts_before(alloc, groups)?;
-    let streams = streams_of(column, stripe.view.footer(), &stripe.located);
     let Ok(right) = positions_right_behind(alloc, tree, column, &streams, &counts, entries) else {
         return Err(AllocError);
     };

@@ -19,11 +19,13 @@ use Rattle.orc_types.proofs.Together.{values-append, flat_map-append}
 use Rattle.orc_stats.specs.Kinds.{kind_of}
 use Rattle.orc_stats.specs.Messages.{message_of}
 use Rattle.orc_stats.specs.Statistics.{stat}
+use Rattle.orc_stats.specs.declared.stat.Stat.{Stat}
 use Rattle.orc_column_reader.specs.Starting.{AreStreams}
 use Rattle.orc_column_reader.specs.Stripe.{Streams, IsColumn}
 use Rattle.orc_column_reader.specs.declared.starting.ColumnStreams.{ColumnStreams}
 use Rattle.orc_row_index.specs.Bounds.{bound_at, AreBounds, before_group, group_of, elements_before, pairs_before, values_before}
-use Rattle.orc_row_index.specs.Places.{octets, PlacesIn, is_place, AreWrittenPlaces}
+use Rattle.orc_row_index.specs.EntryText.{IsEntryText}
+use Rattle.orc_row_index.specs.Places.{octets, PlacesIn, is_place, AreWrittenPlaces, Adds}
 use Rattle.orc_row_index.specs.RowIndex.{IsWrittenEntry, AreEntries}
 use Rattle.orc_row_index.specs.RunStreams.{RunStream, present_runs, own_octets}
 use Rattle.orc_row_index.specs.Walking.{runs, lent_bytes, most, ArePlaced, BeginsBefore, AreCounted, HavePlaces, WalkedBefore}
@@ -31,6 +33,7 @@ use Rattle.orc_row_index.specs.declared.counts.Counts.{Counts}
 use Rattle.orc_row_index.specs.declared.placed.PlacedStreams.{PlacedStreams}
 use Rattle.orc_row_index.specs.declared.walk.Walk.{Walk}
 use Rattle.orc_row_index.proofs.ColumnPlaces.{counted_more, column_there, values_more}
+use Rattle.orc_row_index.proofs.EntryTexts.{AreAdded, none_added, one_added}
 use Rattle.orc_row_index.proofs.StreamPlaces.{starts_before, later_before}
 
 -- ---- bounds
@@ -189,7 +192,7 @@ pushed_get (x ∷ xs) y (suc c) r e = elim (pushed_get xs y c r e) [
   | inr h ↦ inr (omega (arith, h.0), h.1)
 ]
 
-entries_more : (s : Shape) (x : Streams) (cells : List Cell) (bounds : List ℕ) (n : ℕ) (entries : List RowIndexEntry) (entry : RowIndexEntry) → AreEntries s x cells bounds n entries
+pub entries_more : (s : Shape) (x : Streams) (cells : List Cell) (bounds : List ℕ) (n : ℕ) (entries : List RowIndexEntry) (entry : RowIndexEntry) → AreEntries s x cells bounds n entries
     → IsWrittenEntry s x (before_group cells bounds n) (group_of cells bounds n) entry → AreEntries s x cells bounds (n + 1) (entries ++ entry ∷ [])
 entries_more s x cells bounds n entries entry h last = record {
   counted = length-append entries (entry ∷ []) ∙ ap (λ (k : ℕ). k + 1) h.counted;
@@ -202,10 +205,13 @@ entries_more s x cells bounds n entries entry h last = record {
   ];
 }
 
--- The first groups have their entries; counts and walk are those of the cells before the last one's bound.
-pub record Stands (s : Shape) (streams : ColumnStreams) (cells : List Cell) (bounds : List ℕ) (placed : PlacedStreams) (group at : ℕ) (entries : List RowIndexEntry) (counts : Counts) (walk : Walk) : Type 0 where
+-- The first groups have their entries behind what was there; counts and walk are those of the cells before the last
+-- one's bound.
+pub record Stands (s : Shape) (streams : ColumnStreams) (cells : List Cell) (bounds : List ℕ) (placed : PlacedStreams) (group at : ℕ) (old new : List ℕ) (counts : Counts) (walk : Walk) : Type 0 where
   pub begun : at ≤ bound_at (length cells) bounds group
+  pub entries : List RowIndexEntry
   pub are : (x : Streams) → AreStreams x streams → AreEntries s x cells bounds group entries
+  pub added : AreAdded entries old new
   pub counted : AreCounted counts (take at cells)
   pub walked : WalkedBefore (runs placed.present) (runs placed.own) walk (take at cells)
 
@@ -228,7 +234,7 @@ front_there s streams cells placed start h p =
     (subst (λ (y : Option (List ℕ)). HavePlaces (present_runs (x.stream 0)) y (runs placed.own) (take start cells)) (sym are.content_is)
     (subst (λ (y : RunStream). HavePlaces (present_runs (x.stream 0)) (own_octets s x) y (take start cells)) (sym are.own_is) there))
 
-written_in : (s : Shape) (x : Streams) (placed : PlacedStreams) (before : List Cell) (ps : List ℕ) → ArePlaced s x placed
+pub written_in : (s : Shape) (x : Streams) (placed : PlacedStreams) (before : List Cell) (ps : List ℕ) → ArePlaced s x placed
     → PlacesIn is_place IsBitPlace (runs placed.present) (lent_bytes placed.content) (runs placed.own) before ps → AreWrittenPlaces s x before ps
 written_in s x placed before ps are h =
     subst (λ (y : RunStream). PlacesIn is_place IsBitPlace (present_runs (x.stream 0)) (own_octets s x) y before ps) are.own_is
@@ -238,20 +244,27 @@ written_in s x placed before ps are h =
 at_start : (c : RunStream) (mark : Mark) (n : ℕ) → mark ≡ start_of_stream → BeginsBefore c start_of_stream n → BeginsBefore c mark n
 at_start c mark n e h = subst (λ (m : Mark). BeginsBefore c m n) (sym e) h
 
-pub stands_none : (s : Shape) (streams : ColumnStreams) (cells : List Cell) (bounds : List ℕ) (placed : PlacedStreams) (k : Counts) (w : Walk) → Spelled s streams cells → Placed s streams placed
-    → (k.cells ≡ 0) × (k.values ≡ 0) × (k.octets ≡ 0) → w.present ≡ start_of_stream → w.own ≡ start_of_stream
-    → Stands s streams cells bounds placed 0 0 [] k w
-stands_none s streams cells bounds placed k w h p zeros wp wo =
+-- a walk from the start of both streams has come no further than no cells
+pub walk_begins : (s : Shape) (streams : ColumnStreams) (cells : List Cell) (placed : PlacedStreams) (w : Walk) → Spelled s streams cells → Placed s streams placed → w.present ≡ start_of_stream → w.own ≡ start_of_stream
+    → WalkedBefore (runs placed.present) (runs placed.own) w (take 0 cells)
+walk_begins s streams cells placed w h p wp wo =
     let there = front_there s streams cells placed 0 h p in
     record {
-      begun = omega arith;
-      are = λ x h. record { counted = refl; each = λ g e at. absurd cc };
-      counted = record { cells_are = zeros.0; values_are = zeros.1; octets_are = omega (arith, zeros.2) };
-      walked = record {
-        in_present = at_start (runs placed.present) w.present 0 wp (starts_before (runs placed.present) 0 0 there.in_present);
-        in_own = at_start (runs placed.own) w.own 0 wo (starts_before (runs placed.own) 0 0 there.in_own);
-      };
+      in_present = at_start (runs placed.present) w.present 0 wp (starts_before (runs placed.present) 0 0 there.in_present);
+      in_own = at_start (runs placed.own) w.own 0 wo (starts_before (runs placed.own) 0 0 there.in_own);
     }
+
+pub stands_none : (s : Shape) (streams : ColumnStreams) (cells : List Cell) (bounds : List ℕ) (placed : PlacedStreams) (old : List ℕ) (k : Counts) (w : Walk) → Spelled s streams cells → Placed s streams placed
+    → (k.cells ≡ 0) × (k.values ≡ 0) × (k.octets ≡ 0) → w.present ≡ start_of_stream → w.own ≡ start_of_stream
+    → Stands s streams cells bounds placed 0 0 old old k w
+stands_none s streams cells bounds placed old k w h p zeros wp wo = record {
+  begun = omega arith;
+  entries = [];
+  are = λ x h. record { counted = refl; each = λ g e at. absurd cc };
+  added = none_added old;
+  counted = record { cells_are = zeros.0; values_are = zeros.1; octets_are = omega (arith, zeros.2) };
+  walked = walk_begins s streams cells placed w h p wp wo;
+}
 
 -- counts of the cells before a group
 pub counted_to : (cells : List Cell) (at start : ℕ) (k m : Counts) (group : List Cell) → at ≤ start → group ≡ take (start - at) (drop at cells) → AreCounted k (take at cells)
@@ -269,18 +282,22 @@ walked_to present own walk cells at start le h =
       in_own = later_before own walk.own (length (values (take at cells))) (length (values (take start cells))) (omega (arith, ap (λ cs. length (values cs)) e, values_more (take at cells) more)) h.in_own;
     }
 
-pub stands_more : (s : Shape) (streams : ColumnStreams) (cells : List Cell) (bounds : List ℕ) (placed : PlacedStreams) (group at start : ℕ) (entries : List RowIndexEntry) (k m : Counts) (w v : Walk)
-    (found : List Cell) (entry : RowIndexEntry) → AreBounds (length cells) bounds → Placed s streams placed → Stands s streams cells bounds placed group at entries k w → start ≡ bound_at (length cells) bounds group
-    → found ≡ group_of cells bounds group → AreCounted m (take start cells) → WalkedBefore (runs placed.present) (runs placed.own) v (take start cells)
-    → PlacesIn is_place IsBitPlace (runs placed.present) (lent_bytes placed.content) (runs placed.own) (take start cells) entry.positions
-    → entry.statistics ≡ Some (message_of (stat (kind_of s) found)) → Stands s streams cells bounds placed (group + 1) start (entries ++ entry ∷ []) m v
-stands_more s streams cells bounds placed group at start entries k m w v found entry b p h st fe counted walked pos says =
+pub stands_more : (s : Shape) (streams : ColumnStreams) (cells : List Cell) (bounds : List ℕ) (placed : PlacedStreams) (group at start : ℕ) (old mid new : List ℕ) (k m : Counts) (w v : Walk) (told : Stat)
+    → AreBounds (length cells) bounds → Placed s streams placed → Stands s streams cells bounds placed group at old mid k w → start ≡ bound_at (length cells) bounds group
+    → AreCounted m (take start cells) → WalkedBefore (runs placed.present) (runs placed.own) v (take start cells)
+    → told ≡ stat (kind_of s) (group_of cells bounds group)
+    → Adds (IsEntryText (runs placed.present) (lent_bytes placed.content) (runs placed.own) (take start cells) told) mid new
+    → Stands s streams cells bounds placed (group + 1) start old new m v
+stands_more s streams cells bounds placed group at start old mid new k m w v told b p h st counted walked says put =
+    let text = put.1 in
     record {
       begun = omega (arith, bound_up (length cells) bounds group b, st);
-      are = λ x is. entries_more s x cells bounds group entries entry (h.are x is) (record {
-        places = subst (λ (n : ℕ). AreWrittenPlaces s x (take n cells) entry.positions) st (written_in s x placed (take start cells) entry.positions (p x is) pos);
-        statistics = says ∙ ap (λ (cs : List Cell). Some (message_of (stat (kind_of s) cs))) fe;
+      entries = h.entries ++ text.entry ∷ [];
+      are = λ x is. entries_more s x cells bounds group h.entries text.entry (h.are x is) (record {
+        places = subst (λ (n : ℕ). AreWrittenPlaces s x (take n cells) text.entry.positions) st (written_in s x placed (take start cells) text.entry.positions (p x is) text.places);
+        statistics = text.statistics ∙ ap (λ (t : Stat). Some (message_of t)) says;
       });
+      added = one_added h.entries text.entry old mid new put.0 h.added text.bounded text.text_is put.2;
       counted = counted;
       walked = walked;
     }

@@ -1,5 +1,6 @@
 pub mod StreamPlaces
 pub mod ColumnPlaces
+pub mod EntryTexts
 pub mod Groups
 pub mod StatWhole
 pub mod WrittenIndex

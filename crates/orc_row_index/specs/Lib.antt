@@ -4,3 +4,4 @@ pub mod Bounds
 pub mod RowIndex
 pub mod Walking
 pub mod GroupStats
+pub mod EntryText

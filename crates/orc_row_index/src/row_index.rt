@@ -11,11 +11,10 @@ ghost use Rattle.orc_row_index.specs.Bounds.{AreBounds};
 ghost use Rattle.orc_row_index.specs.Places.{Adds};
 ghost use Rattle.orc_row_index.specs.RowIndex.{IsWrittenIndex};
 
-use crate::entries::column_entries;
+use crate::entries::put_entries;
 use orc_column_reader::starting::ColumnStreams;
 use orc_stats::Stat;
 use orc_types::{Lent, Tree};
-use orc_wire::{Items, Message, RowIndexMsg};
 use std::alloc::{AllocError, Global};
 
 /// Adds the bytes of a column's ROW_INDEX (ORC specification, "Row Group Index"). A bound says how many of the
@@ -47,12 +46,12 @@ pub fn put_index(
     // Where memory is refused, nothing is added.
     ensures unchanged { OnErr result (out.new.items ≡ out.old.items) }
 {
-    let found = column_entries(alloc, tree, streams, cells, bounds)?;
-    let message = RowIndexMsg {
-        entries: Items::from_vec(found.entries),
-    };
-    match message.put(out) {
-        Ok(()) => Ok(found.stat),
-        Err(_) => Err(AllocError),
+    let start = out.len();
+    match put_entries(alloc, tree, streams, cells, bounds, out) {
+        Ok(stat) => Ok(stat),
+        Err(refused) => {
+            out.truncate(start);
+            Err(refused)
+        }
     }
 }

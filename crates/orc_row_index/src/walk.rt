@@ -6,14 +6,17 @@ use orc_positions::Mark;
 
 /// How far a column's streams are walked: PRESENT, and the one beside it.
 #[derive(Clone, Copy)]
-pub(crate) struct Walk {
-    pub(crate) present: Mark,
-    pub(crate) own: Mark,
+pub struct Walk {
+    /// In PRESENT.
+    pub present: Mark,
+    /// In the stream of runs beside it.
+    pub own: Mark,
 }
 
 impl Walk {
     /// At the start of both.
-    pub(crate) fn start() -> Walk
+    pub fn start() -> Walk
+        // A walk begins at the start of both streams.
         ensures present { result.present ≡ start_of_stream }
         ensures own { result.own ≡ start_of_stream }
     {

@@ -3,6 +3,7 @@ pub mod ReadLemmas
 pub mod InnerLemmas
 pub mod ListLemmas
 pub mod PutLemmas
+pub mod SizedLemmas
 pub mod TableLaws
 pub mod KeptLaws
 pub mod WholeLaws

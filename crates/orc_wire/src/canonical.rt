@@ -2,7 +2,7 @@
 //!
 //! After a refusal, which is `OutOfMemory`, each function has left what was there in front; a part
 //! of its own text may follow.
-ghost use Rattle.std.specs.Prelude.{◌≡◌, ◌++◌, ◌<◌, ◌^◌, IfErr, IfSome, OnOk};
+ghost use Rattle.std.specs.Prelude.{◌≡◌, ◌++◌, ◌+◌, ◌*◌, ◌<◌, ◌≤◌, ◌^◌, ℕ, [], ◌∷◌, length, take, drop, IfOk, IfErr, IfSome, OnOk};
 ghost use Rattle.std.specs.List.{AllByRecursion};
 ghost use Rattle.orc_bits.specs.Varint.{varint_text};
 ghost use Rattle.orc_bits.specs.Zigzag.{zig};
@@ -19,8 +19,11 @@ use crate::items::Bytes;
 use crate::message::Message;
 use orc_bits::{put_varint, zigzag};
 
-/// The room for the text of a message within another, which few of them outgrow.
-const ROOM: usize = 64;
+/// The wire type of bytes behind their length.
+const LEN: u64 = 2;
+
+/// A length below this one is a varint of one byte.
+const TWO_BYTES: usize = 128;
 
 fn put_one(n: u64, out: &mut Vec<u8>) -> Result<(), WireFault>
     ensures text { OnOk result (out.new.items ≡ out.old.items ++ varint_text n) }
@@ -196,16 +199,55 @@ pub(crate) fn put_kept(kept: &Bytes, out: &mut Vec<u8>) -> Result<(), WireFault>
     put_raw(kept.as_slice(), out)
 }
 
-/// Appends bytes behind their length, or nothing where there are none.
-fn put_some(n: u32, bytes: &[u8], out: &mut Vec<u8>) -> Result<(), WireFault>
-    ensures text { OnOk result (out.new.items ≡ out.old.items ++ some_text n bytes.now) }
+/// Begins a field of bytes that are yet to be written: appends its key, and one byte in which the
+/// length of most of them will fit. Answers the place of that byte.
+fn begin_sized(n: u32, out: &mut Vec<u8>) -> Result<usize, WireFault>
+    ensures text { OnOk result (out.new.items ≡ (out.old.items ++ varint_text (n * 8 + 2)) ++ (0 ∷ [])) }
+    ensures place { IfOk result (λ place. place ≡ length (out.old.items ++ varint_text (n * 8 + 2))) }
     ensures refused { IfErr result (λ fault. fault ≡ OutOfMemory) }
     ensures front { KeepsFront out.old.items out.new.items }
 {
-    if bytes.is_empty() {
+    put_one(u64::from(n) * 8 + LEN, out)?;
+    let place = out.len();
+    out.push(0)?;
+    Ok(place)
+}
+
+/// Ends a field of bytes: what stands behind the byte at `place` gets its length there, for which
+/// it is moved only where the length takes more than that byte.
+fn end_sized(place: usize, out: &mut Vec<u8>) -> Result<(), WireFault>
+    requires { place < length out.old.items }
+    ensures text { OnOk result (out.new.items
+        ≡ take place out.old.items ++ payload_text (sized (drop (place + 1) out.old.items))) }
+    ensures refused { IfErr result (λ fault. fault ≡ OutOfMemory) }
+    ensures front { KeepsFront (take place out.old.items) out.new.items }
+{
+    let len = out.len() - place - 1;
+    if len < TWO_BYTES {
+        out[place] = len as u8;
+        return Ok(());
+    }
+    let content = Vec::from_slice(*out.allocator(), &out[place + 1..])?;
+    out.truncate(place);
+    put_one(len as u64, out)?;
+    put_raw(&content, out)
+}
+
+/// Ends a field of bytes that began at `start`, or takes it back where nothing stands behind the
+/// byte at `place`.
+fn end_some(start: usize, place: usize, out: &mut Vec<u8>) -> Result<(), WireFault>
+    requires within { place < length out.old.items }
+    requires ordered { start ≤ place }
+    ensures text { (n : ℕ) → take place out.old.items ≡ take start out.old.items ++ varint_text (n * 8 + 2)
+        → OnOk result (out.new.items ≡ take start out.old.items ++ some_text n (drop (place + 1) out.old.items)) }
+    ensures refused { IfErr result (λ fault. fault ≡ OutOfMemory) }
+    ensures front { KeepsFront (take start out.old.items) out.new.items }
+{
+    if out.len() == place + 1 {
+        out.truncate(start);
         Ok(())
     } else {
-        put_field(n, Value::Bytes(bytes), out)
+        end_sized(place, out)
     }
 }
 
@@ -216,11 +258,12 @@ pub(crate) fn put_packed_u32(n: u32, numbers: &[u32], out: &mut Vec<u8>) -> Resu
     ensures refused { IfErr result (λ fault. fault ≡ OutOfMemory) }
     ensures front { KeepsFront out.old.items out.new.items }
 {
-    let mut text = Vec::with_capacity(*out.allocator(), numbers.len())?;
+    let start = out.len();
+    let place = begin_sized(n, out)?;
     for number in numbers {
-        put_one(u64::from(*number), &mut text)?;
+        put_one(u64::from(*number), out)?;
     }
-    put_some(n, &text, out)
+    end_some(start, place, out)
 }
 
 /// Appends a packed list of 64-bit numbers, or nothing for an empty one.
@@ -230,11 +273,12 @@ pub(crate) fn put_packed_u64(n: u32, numbers: &[u64], out: &mut Vec<u8>) -> Resu
     ensures refused { IfErr result (λ fault. fault ≡ OutOfMemory) }
     ensures front { KeepsFront out.old.items out.new.items }
 {
-    let mut text = Vec::with_capacity(*out.allocator(), numbers.len())?;
+    let start = out.len();
+    let place = begin_sized(n, out)?;
     for number in numbers {
-        put_one(*number, &mut text)?;
+        put_one(*number, out)?;
     }
-    put_some(n, &text, out)
+    end_some(start, place, out)
 }
 
 /// Appends a message, or nothing where there is none or its text is empty.
@@ -251,9 +295,10 @@ pub(crate) fn put_shown<M: Message>(
     match message {
         None => Ok(()),
         Some(message) => {
-            let mut text = Vec::with_capacity(*out.allocator(), ROOM)?;
-            message.put_members(&mut text)?;
-            put_some(n, &text, out)
+            let start = out.len();
+            let place = begin_sized(n, out)?;
+            message.put_members(out)?;
+            end_some(start, place, out)
         }
     }
 }
@@ -270,12 +315,10 @@ pub(crate) fn put_each<M: Message>(
     ensures refused { IfErr result (λ fault. fault ≡ OutOfMemory) }
     ensures front { KeepsFront out.old.items out.new.items }
 {
-    // one room for the texts of all of them
-    let mut text = Vec::new(*out.allocator());
     for message in messages {
-        text.clear();
-        message.put_members(&mut text)?;
-        put_field(n, Value::Bytes(&text), out)?;
+        let place = begin_sized(n, out)?;
+        message.put_members(out)?;
+        end_sized(place, out)?;
     }
     Ok(())
 }

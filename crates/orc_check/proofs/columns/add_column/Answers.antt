@@ -1,7 +1,9 @@
 use Rattle.std.proofs.Common.{◌<◌, ◌∙◌, arith}
 use Rattle.orc_types.specs.Shapes.{width}
 use Rattle.orc_types.specs.Views.{shape}
+use Rattle.orc_column_reader.specs.Stripe.{columns_of}
 use Rattle.orc_column_reader.proofs.Arms.{some_width}
+use Rattle.orc_check.proofs.OwnCells.{own_groups}
 use Rattle.orc_check.proofs.WalkLemmas.{columns_there, located_there, read_there, refused_there, below_of, below_grouped, found_here, column_more}
 use Rattle.orc_check.proofs.columns.add_column.Goals as goal
 
@@ -13,6 +15,14 @@ read_groups-requires-clause-located c = located_there c.args.stripe.now c.footer
 
 pub check_column-requires-clause-there : goal.check_column-requires-clause-there
 check_column-requires-clause-there c = omega (arith, some_width (shape c.args.tree.now), c.requires.there)
+
+pub check_column-requires-clause-own : goal.check_column-requires-clause-own
+check_column-requires-clause-own c =
+    let t = shape c.args.tree.now in
+    let v = c.args.stripe.now.view.now in
+    let b = c.group_bounds.result.now in
+    own_groups t (columns_of v.footer v.bytes c.args.column) c.args.cells.now.count b c.in-Ok.read c.group_bounds.ensures.bounds
+    (read_there c.args.stripe.now c.footer.result.now c.args.column t c.args.cells.now.count b c.in-Ok.read c.requires.laid_out c.footer.ensures.same c.in-Ok.ensures.found)
 
 pub returns-in-Err-clause-fault : goal.returns-in-Err-clause-fault
 returns-in-Err-clause-fault c = λ memory.

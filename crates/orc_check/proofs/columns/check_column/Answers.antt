@@ -6,14 +6,21 @@ use Rattle.orc_types.specs.Views.{shape}
 use Rattle.orc_stats.specs.Kinds.{kind_of}
 use Rattle.orc_stats.specs.Statistics.{stat}
 use Rattle.orc_stats.specs.declared.stat.Stat.{Stat}
+use Rattle.orc_column_reader.specs.Stripe.{columns_of}
 use Rattle.orc_column_walk.specs.declared.found.GroupFound.{GroupFound}
 use Rattle.orc_stripe_writer.specs.WrittenStripe.{column_stat}
 use Rattle.orc_check.specs.declared.finding.Finding.TheVariants.{StripeStatistic}
 use Rattle.orc_check.specs.Agreeing.{Tells}
 use Rattle.orc_check.specs.Findings.{Unless, TellsStripe, OfIndex}
+use Rattle.orc_check.specs.OwnGroups.{HaveCells}
 use Rattle.orc_check.specs.Walking.{AreGroupsFound}
 use Rattle.orc_check.proofs.ReportLemmas.{adds_both, adds_report}
 use Rattle.orc_check.proofs.columns.check_column.Goals as goal
+
+pub check_index-requires-clause-own : goal.check_index-requires-clause-own
+check_index-requires-clause-own c =
+    let v = c.args.stripe.now.view.now in
+    subst (λ (gs : List GroupFound). HaveCells (shape c.args.tree.now) (columns_of v.footer v.bytes c.args.column) gs) (sym c.deref.ensures.value) c.requires.own
 
 pub returns-in_ok-check_index : goal.returns-in_ok-check_index
 returns-in_ok-check_index c = λ rows h.

@@ -1,0 +1,21 @@
+-- Groups of cells that one column's own streams spell, whatever the columns below it are (own; ORC specification,
+-- "Row Group Index").
+use Rattle.std.specs.Prelude.{◌≡◌, ℕ, List, length}
+use Rattle.orc_types.specs.Cells.{Cell}
+use Rattle.orc_types.specs.Shapes.{Shape}
+use Rattle.orc_column_reader.specs.Stripe.{Streams, IsColumn}
+use Rattle.orc_row_index.specs.Bounds.{AreBounds}
+use Rattle.orc_column_walk.specs.declared.found.GroupFound.{GroupFound}
+use Rattle.orc_check.specs.Walking.{AreGroups}
+
+-- what is found of each group of these cells, which the streams spell
+pub record AreGroupsOf (s : Shape) (x : Streams) (cells : List Cell) (bounds : List ℕ)
+    (groups : List GroupFound) : Type 0 where
+  pub column : IsColumn s x cells
+  pub ascending : AreBounds (length cells) bounds
+  pub counted : length groups ≡ length bounds
+  pub are : AreGroups s cells bounds groups
+
+-- the same of some cells
+abbrev pub HaveCells : Shape → Streams → List GroupFound → Type 0
+HaveCells s x groups = (cells : List Cell) × (bounds : List ℕ) × AreGroupsOf s x cells bounds groups

@@ -1,0 +1,75 @@
+//! The entry of a group in a row index, as it is written.
+ghost use Rattle.std.specs.Prelude.{◌≡◌, List, IfOk, OnOk};
+ghost use Rattle.orc_wire.specs.CanonicalText.{KeepsFront};
+ghost use Rattle.orc_types.specs.Cells.{Cell};
+ghost use Rattle.orc_stats.specs.Messages as spec;
+ghost use Rattle.orc_row_index.specs.EntryText.{IsEntryText};
+ghost use Rattle.orc_row_index.specs.Places.{Adds};
+ghost use Rattle.orc_row_index.specs.Walking.{runs, lent_bytes, AreCounted, HavePlaces, WalkedBefore};
+
+use crate::counts::Counts;
+use crate::placed::{PlacedStreams, put_places};
+use crate::walk::Walk;
+use orc_stats::Stat;
+use orc_wire::{ColumnStats, Items, Message, RowIndexEntry, RowIndexMsg};
+use std::alloc::{AllocError, Global};
+
+/// How many numbers the positions of a group are at most: three of PRESENT, and three of booleans.
+const MOST_POSITIONS: usize = 6;
+
+/// The message of a statistic.
+fn message_of(alloc: Global, stat: &Stat) -> Result<ColumnStats, AllocError>
+    ensures { IfOk result (λ message. message ≡ spec.message_of stat.now) }
+{
+    match stat.put(alloc) {
+        Ok(message) => Ok(message),
+        Err(_) => Err(AllocError),
+    }
+}
+
+/// Adds the bytes of a group's entry to those of a column's row index (ORC specification, "Row Group Index"): the
+/// positions behind the cells that are counted, and the group's statistic. Answers how far the streams are walked then.
+///
+/// The streams have values for these cells, and the walk has come no further: conditions.
+///
+/// Refusal: want of memory, behind which a part of the bytes may stand.
+pub fn put_entry(
+    alloc: Global,
+    placed: &PlacedStreams<'_>,
+    from: Walk,
+    counts: Counts,
+    stat: &Stat,
+    out: &mut Vec<u8>,
+) -> Result<Walk, AllocError>
+    requires { (before : List Cell)
+        × AreCounted counts before
+        × HavePlaces (runs placed.now.present) (lent_bytes placed.now.content) (runs placed.now.own) before
+        × WalkedBefore (runs placed.now.present) (runs placed.now.own) from before }
+    // Where so much is counted of cells whose values the streams have, the one text of the entry is
+    // added: the writer's places behind them, and the statistic.
+    ensures entry { (before : List Cell) → AreCounted counts before
+        → HavePlaces (runs placed.now.present) (lent_bytes placed.now.content) (runs placed.now.own) before
+        → OnOk result (Adds (IsEntryText (runs placed.now.present) (lent_bytes placed.now.content)
+        (runs placed.now.own) before stat.now) out.old.items out.new.items) }
+    // The walk has come no further than these cells.
+    ensures walked { IfOk result (λ walk. (before : List Cell)
+        → AreCounted counts before
+        → WalkedBefore (runs placed.now.present) (runs placed.now.own) walk before) }
+    // What the Vec held stays in front, after a refusal too.
+    ensures front { KeepsFront out.old.items out.new.items }
+{
+    let mut positions = Vec::with_capacity(alloc, MOST_POSITIONS)?;
+    let walk = put_places(placed, from, counts, &mut positions)?;
+    let mut entries = Vec::with_capacity(alloc, 1)?;
+    entries.push(RowIndexEntry {
+        positions: Items::from_vec(positions),
+        statistics: Some(message_of(alloc, stat)?),
+    })?;
+    let index = RowIndexMsg {
+        entries: Items::from_vec(entries),
+    };
+    match index.put_members(out) {
+        Ok(()) => Ok(walk),
+        Err(_) => Err(AllocError),
+    }
+}
