@@ -2,4 +2,5 @@ pub mod WriteLemmas
 pub mod LinesLemmas
 pub mod WriteLaws
 pub mod LimitLemmas
+pub mod PieceLemmas
 pub mod ReadLemmas

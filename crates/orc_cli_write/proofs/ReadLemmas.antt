@@ -1,13 +1,10 @@
--- What std's reader gives up to the end of a line, as a line; and rows pushed of lines that were read.
-use Rattle.std.specs.Prelude.{◌≡◌, ℕ, ◌+◌, ◌<◌, zero, suc, slice_index, Bool, true, false, if◌then◌else◌, List, [], ◌∷◌, ◌++◌, length, Option, Some, None, Err, ◌⊎◌, ◌==◌}
-use Rattle.std.proofs.Common.{refl, sym, ap, ◌∙◌, subst, inl, inr, arith}
+-- Rows pushed of lines that were read.
+use Rattle.std.specs.Prelude.{◌≡◌, ℕ, ◌+◌, Bool, true, false, List, [], ◌++◌, Option, Some, None, Err, ◌⊎◌}
+use Rattle.std.proofs.Common.{refl, ap, ◌∙◌, subst, inl, inr}
 use Rattle.std.specs.Option.{IfSome}
-use Rattle.std.specs.Io.KnownBytes.{IsAtEnd}
-use Rattle.std.specs.Io.BufRead.{take_through, drop_through}
-use Rattle.std.proofs.lemmas.Bool.{eqb-true, eqb-false}
 use Rattle.orc_types.specs.Shapes.{Shape}
 use Rattle.orc_types.specs.Cells.{Cell}
-use Rattle.orc_cli_write.specs.Lines.{IsLine, LineSpellsRows, AreRowsOf}
+use Rattle.orc_cli_write.specs.Lines.{LineSpellsRows, AreRowsOf}
 use Rattle.orc_file.specs.declared.fault.FileFault.TheVariants as file
 use Rattle.orc_cli_write.specs.Writes.{IsOfWriter, IsWantOfLines, EndsAtLine, EndsInLines}
 use Rattle.orc_types.specs.SchemaText.{HasText}
@@ -19,45 +16,6 @@ use Rattle.orc_cli_write.proofs.WriteLaws.{only_outside}
 use Rattle.orc_cli_output.specs.Output.{IsOutside, IsWantOfMemory, IsOfSource}
 use Rattle.orc_cli_output.specs.declared.fault.CliFault.{CliFault}
 use Rattle.orc_cli_output.specs.declared.fault.CliFault.TheVariants.{File}
-
-abbrev IsThrough : List ℕ → List ℕ → List ℕ → Type 0
-IsThrough xs front rest =
-    ((line : List ℕ) × IsLine line × (front ≡ line ++ 10 ∷ []) × (xs ≡ line ++ 10 ∷ rest)) ⊎ (IsLine xs × (front ≡ xs) × (rest ≡ []))
-
-one_more : (x : ℕ) (xs : List ℕ) (end : Bool) → (x == 10) ≡ end → IsThrough xs (take_through 10 xs) (drop_through 10 xs)
-    → IsThrough (x ∷ xs) (if end then x ∷ [] else x ∷ take_through 10 xs) (if end then xs else drop_through 10 xs)
-one_more x xs true e p = inl ([], tt, ap (λ (n : ℕ). n ∷ []) (eqb-true x 10 e), ap (λ (n : ℕ). n ∷ xs) (eqb-true x 10 e))
-one_more x xs false e (inl p) = inl (x ∷ p.0, (eqb-false x 10 e, p.1), ap (λ (l : List ℕ). x ∷ l) p.2, ap (λ (l : List ℕ). x ∷ l) p.3)
-one_more x xs false e (inr p) = inr ((eqb-false x 10 e, p.0), ap (λ (l : List ℕ). x ∷ l) p.1, p.2)
-
-through : (xs : List ℕ) → IsThrough xs (take_through 10 xs) (drop_through 10 xs)
-through [] = inr (tt, refl, refl)
-through (x ∷ xs) = one_more x xs (x == 10) refl (through xs)
-
-not_empty : (line : List ℕ) → 0 < length line → line ≡ [] → ⊥
-not_empty [] some e = omega (arith, some)
-not_empty (b ∷ bs) some e = cc
-
-line_of : (xs front rest read cut : List ℕ) (left : Option (List ℕ)) → IsThrough xs front rest → read ≡ front → 0 < length read → left ≡ Some rest
-    → ((text : List ℕ) → read ≡ text ++ 10 ∷ [] → cut ≡ text) → (IsLine read → cut ≡ read) → HasRead true xs cut left
-line_of xs front rest read cut left (inl p) r some l ended plain =
-    let same : p.0 ≡ cut = sym (ended p.0 (r ∙ p.2)) in
-    (rest, l, subst (λ (t : List ℕ). IsLine t) same p.1, inl (subst (λ (t : List ℕ). xs ≡ t ++ 10 ∷ rest) same p.3))
-line_of xs front rest read cut left (inr p) r some l ended plain =
-    let whole : read ≡ xs = r ∙ p.1 in
-    let same : cut ≡ read = plain (subst (λ (t : List ℕ). IsLine t) (sym whole) p.0) in
-    (rest, l, subst (λ (t : List ℕ). IsLine t) (sym (same ∙ whole)) p.0, inr (sym (same ∙ whole), (λ e. not_empty read some (sym same ∙ e)), p.2))
-
-pub has_read : (told left : Option (List ℕ)) (before read cut : List ℕ) → before ≡ [] → 0 < length read → IfSome told (λ xs. read ≡ before ++ take_through 10 xs)
-    → IfSome told (λ xs. left ≡ Some (drop_through 10 xs)) → ((text : List ℕ) → read ≡ text ++ 10 ∷ [] → cut ≡ text) → (IsLine read → cut ≡ read)
-    → IfSome told (λ xs. HasRead true xs cut left)
-has_read None left before read cut none some r l ended plain = tt
-has_read (Some xs) left before read cut none some r l ended plain =
-    line_of xs _ _ read cut left (through xs) (r ∙ ap (λ (t : List ℕ). t ++ take_through 10 xs) none) some l ended plain
-
-pub has_none : (told left : Option (List ℕ)) (line : List ℕ) → IsAtEnd told → IfSome told (λ xs. HasRead false xs line left)
-has_none None left line e = tt
-has_none (Some xs) left line e = e
 
 -- ---- where the input tells its bytes: what is left of them, and what the rows pushed lead to
 
@@ -98,17 +56,6 @@ led_ends A s (Some bytes) left new line own more fault p r some ends =
 pub led_begun : (A : List ℕ → Type 0) (s : Shape) (told left : Option (List ℕ)) (own : List Cell) (B : Type 0) → HasLed s told left own → B → IfSome told (λ bytes. A bytes ⊎ (B × BeginWith s bytes own))
 led_begun A s None left own B p b = tt
 led_begun A s (Some bytes) left own B p b = inr (b, begun_read s bytes p.0 own p.2)
-
--- ---- the end of a line
-
-pub no_end : (line : List ℕ) (i : ℕ) → IsLine line → i < length line → slice_index line i ≡ 10 → ⊥
-no_end [] i is lt e = omega (arith, lt)
-no_end (b ∷ bs) zero is lt e = is.0 e
-no_end (b ∷ bs) (suc i) is lt e = no_end bs i is.1 (omega (arith, lt)) e
-
-pub last_is : (text : List ℕ) → slice_index (text ++ 10 ∷ []) (length text) ≡ 10
-last_is [] = refl
-last_is (b ∷ bs) = last_is bs
 
 -- ---- which refusals there are not
 

@@ -12,12 +12,13 @@ use Rattle.orc_types.specs.declared.json_fault.JsonFault.{JsonFault}
 use Rattle.orc_types.specs.declared.json_fault.JsonFault.TheVariants as json
 use Rattle.orc_stats.specs.declared.stat.Stat.{Stat}
 use Rattle.orc_file.proofs.Spread.{HasPushed}
+use Rattle.orc_file.specs.Writing.{Progress}
 use Rattle.orc_file.specs.declared.fault.FileFault.{FileFault}
 use Rattle.orc_file.specs.declared.fault.FileFault.TheVariants as file
 use Rattle.orc_cli_output.specs.declared.fault.CliFault.{CliFault}
 use Rattle.orc_cli_output.specs.declared.fault.CliFault.TheVariants.{Types, Json, File}
 use Rattle.orc_cli_output.specs.Output.{IsWantOfMemory, IsOutside}
-use Rattle.orc_cli_write.specs.Writes.{LineSpellsNone, IsOfLine, IsWantOfLines, IsOfWriter, EndsAtLine, StandsOpen}
+use Rattle.orc_cli_write.specs.Writes.{LineSpellsNone, IsOfLine, IsWantOfLines, IsOfWriter, EndsAtLine, StandsOpen, LeavesAtLine}
 use Rattle.orc_cli_write.specs.Lines.{IsLine, AreLines, LineSpells, LinesSpell, LineSpellsRows, AreRowsOf}
 
 pub spell_more : (s : Shape) (line : List ℕ) (own more : List Cell) (lines : List (List ℕ)) → LinesSpell s (line ∷ []) own → LinesSpell s lines more → LinesSpell s (line ∷ lines) (own ++ more)
@@ -159,3 +160,9 @@ pub stands_open : (options : Options) (s : Shape) (first told : Option (List ℕ
 stands_open options s first told written infos stats kept rows h =
     let p = h.0 in
     record { closed = p.closed; kept = kept; are = p.are; full = p.full; told_is = p.told_is; rows_are = p.rows_are; few = h.1 }
+
+-- what stands behind a writer that has done the same
+pub leaves_same : (options other : Options) (s like : Shape) (old mid : Progress) (told : Option (List ℕ)) (fault : CliFault) (own : List Cell) → other ≡ options → like ≡ s → mid ≡ old
+    → LeavesAtLine other like mid told fault own → LeavesAtLine options s old told fault own
+leaves_same options other s like old mid told fault own e f p h =
+    subst (λ (o : Options). LeavesAtLine o s old told fault own) e (subst (λ (t : Shape). LeavesAtLine other t old told fault own) f (subst (λ (q : Progress). LeavesAtLine other like q told fault own) p h))

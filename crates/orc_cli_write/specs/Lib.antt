@@ -1,3 +1,4 @@
 pub mod Lines
 pub mod Writes
 pub mod Reads
+pub mod Pieces

@@ -2,6 +2,7 @@
 #![tactic(auto)]
 
 mod from_reader;
+mod line_end;
 mod line_fault;
 mod line_reader;
 mod std_lines;

@@ -1,7 +1,9 @@
 //! A reader of the standard library as lines.
-ghost use Rattle.std.specs.Prelude.{◌≡◌, ◌++◌, ◌∷◌, [], ℕ, List};
-ghost use Rattle.orc_cli_write.specs.Lines.{IsLine};
+ghost use Rattle.std.specs.Prelude.{◌≡◌, ◌++◌, List, ℕ, IfOk, IfSome};
+ghost use Rattle.orc_cli_write.specs.Pieces.{TakesPiece};
+ghost use Rattle.orc_cli_write.specs.Reads.{HasRead};
 
+use crate::line_end::line_length;
 use crate::line_fault::LineFault;
 use crate::line_reader::LineReader;
 use orc_io::Failures;
@@ -35,29 +37,65 @@ impl<I: BufRead> LineReader for StdLines<I> {
     ghost failures = { λ lines. lines.failures };
 
     fn next_line(&mut self, line: &mut Vec<u8>) -> Result<bool, LineFault> {
-        line.clear();
-        match self.input.read_until(b'\n', line) {
-            Ok(0) => Ok(false),
-            Ok(_) => {
-                cut_end(line);
-                Ok(true)
-            }
-            Err(error) if error.kind() == ErrorKind::OutOfMemory => Err(LineFault::OutOfMemory),
-            Err(_) => {
-                self.failures.note();
-                Err(LineFault::Failed)
-            }
+        let answer = read_line(&mut self.input, line);
+        if let Err(LineFault::Failed) = answer {
+            self.failures.note();
         }
+        answer
     }
 }
 
-/// Takes the end off a line, where it has one.
-fn cut_end(line: &mut Vec<u8>)
-    ensures ended { (text : List ℕ) → line.old.items ≡ text ++ 10 ∷ [] → line.new.items ≡ text }
-    ensures plain { IsLine line.old.items → line.new.items ≡ line.old.items }
+/// Puts the next line, without its end, into the vector in place of what it holds, and answers whether there was one.
+fn read_line<I: BufRead>(input: &mut I, line: &mut Vec<u8>) -> Result<bool, LineFault>
+    ensures found { IfOk result (λ found. IfSome (I.remaining input.old)
+        (λ bytes. HasRead found bytes line.new.items (I.remaining input.new))) }
 {
-    let len = line.len();
-    if len > 0 && line[len - 1] == b'\n' {
-        line.truncate(len - 1);
+    line.clear();
+    for _ in 0..u64::MAX {
+        match take_piece(input, line)? {
+            Piece::Ended => return Ok(true),
+            Piece::Open => {}
+            Piece::Nothing => return Ok(!line.is_empty()),
+        }
+    }
+    // nobody waits for so many pieces
+    Err(LineFault::OutOfMemory)
+}
+
+/// What was taken of a line.
+enum Piece {
+    /// What stands before its end, and the end.
+    Ended,
+    /// Bytes that its end may stand behind, or none where the read was interrupted.
+    Open,
+    /// Nothing: no byte is left.
+    Nothing,
+}
+
+/// Takes what the reader holds of a line, and puts it without the line's end behind the vector's bytes.
+fn take_piece<I: BufRead>(input: &mut I, line: &mut Vec<u8>) -> Result<Piece, LineFault>
+    ensures taken { IfOk result (λ taken. (piece : List ℕ) × (line.new.items ≡ line.old.items ++ piece)
+        × IfSome (I.remaining input.old) (λ bytes. TakesPiece taken bytes piece (I.remaining input.new))) }
+{
+    let held = match input.fill_buf() {
+        Ok(held) => held,
+        Err(error) if error.kind() == ErrorKind::Interrupted => return Ok(Piece::Open),
+        Err(error) if error.kind() == ErrorKind::OutOfMemory => return Err(LineFault::OutOfMemory),
+        Err(_) => return Err(LineFault::Failed),
+    };
+    if held.is_empty() {
+        return Ok(Piece::Nothing);
+    }
+    let len = line_length(held);
+    let ended = len < held.len();
+    if line.extend_from_slice(&held[..len]).is_err() {
+        return Err(LineFault::OutOfMemory);
+    }
+    if ended {
+        input.consume(len + 1);
+        Ok(Piece::Ended)
+    } else {
+        input.consume(len);
+        Ok(Piece::Open)
     }
 }

@@ -1,14 +1,15 @@
 //! `orcm write`: a file of the rows that lines of JSON spell.
-ghost use Rattle.std.specs.Prelude.{◌≡◌, ◌≢◌, ◌<◌, ◌≤◌, List, [], length, take, get_or, IfOk, IfErr, OnOk, false};
+ghost use Rattle.std.specs.Prelude.{◌≡◌, ◌≢◌, ◌<◌, List, [], IfOk, IfErr, OnOk, false};
 ghost use Rattle.orc_types.specs.Cells.{Cell};
 ghost use Rattle.orc_types.specs.Shapes.{Shape};
 ghost use Rattle.orc_types.specs.SchemaText.{HasText};
 ghost use Rattle.orc_file.specs.Progress.{progress};
 ghost use Rattle.orc_file.specs.Writing.{IsWhole};
-ghost use Rattle.orc_cli_write.specs.Lines.{IsLine, LineSpellsRows, AreRowsOf};
+ghost use Rattle.orc_cli_write.specs.Lines.{LineSpellsRows, AreRowsOf};
 ghost use Rattle.orc_cli_output.specs.Output.{IsWantOfMemory, write_failed};
 ghost use Rattle.orc_cli_write.specs.Writes.{IsOfLine, IsOfWriter, IsWantOfWrite, EndsAtLine, EndsInLines, PushesAlso, LeavesAtLine, RefusesWrite};
 
+use crate::line_end::line_length;
 use orc_cli_output::CliFault;
 use orc_file::{Sink, Tail, Writer};
 use orc_json_reader::RowReader;
@@ -16,20 +17,7 @@ use orc_stripe::Options;
 use orc_types::Schema;
 use std::alloc::Global;
 
-/// How many bytes stand before the first end of a line.
-fn line_length(bytes: &[u8]) -> usize
-    ensures bound { result ≤ length bytes.now }
-    ensures line { IsLine (take result bytes.now) }
-    ensures end { result < length bytes.now → get_or bytes.now result 0 ≡ 10 }
-{
-    let mut at = 0;
-    while at < bytes.len() && bytes[at] != b'\n' {
-        at += 1;
-    }
-    at
-}
-
-/// Pushes the row of a line, where it isn't empty.
+/// Pushes the row of a line, where it isn't empty, in the room of a row that the writer no longer needs.
 pub(crate) fn push_line<W: Sink>(
     alloc: Global,
     reader: &mut RowReader,
@@ -55,10 +43,11 @@ pub(crate) fn push_line<W: Sink>(
     if line.is_empty() {
         return Ok(());
     }
+    let spare = writer.spare_row();
     let schema = writer.schema();
     // for its contract alone: the types are those of a schema
     let _types = schema.types();
-    let row = reader.read_row(alloc, schema, line)?;
+    let row = reader.read_row_over(alloc, schema, line, spare)?;
     writer.push_owned(row)?;
     Ok(())
 }

@@ -4,7 +4,7 @@ use Rattle.std.proofs.lemmas.List.{map-append}
 use Rattle.orc_rle.specs.declared.sign.Sign.TheVariants.{Unsigned}
 use Rattle.orc_rle.specs.declared.sign.Rle.{Rle}
 use Rattle.orc_column_reader.specs.declared.numbers.Numbers.{Numbers}
-use Rattle.orc_column_reader.specs.declared.column.Entry.{Entry}
+use Rattle.orc_column_reader.specs.declared.entry.Entry.{Entry}
 use Rattle.orc_column_reader.specs.Fronts.{Leaves, Lacks}
 use Rattle.orc_column_reader.specs.Spellings.{size, Grouped}
 use Rattle.orc_column_reader.specs.Numbers.{AreNumbers, NumbersLeft}
@@ -19,9 +19,10 @@ begun v lengths bytes r s =
     let a = numbers_alike v Unsigned lengths r s in
     record { found = λ rest h. (a.to (map size rest) h.0, h.1); only = λ all h le. (all, refl, (a.from (map size all) h.0, h.1)) }
 
-pub entries_more : (before between after : List (List ℕ) → Type 0) (es es' : List Entry) (e : Entry) → es' ≡ es ++ e ∷ [] → Leaves before between (map entry_bytes es) → Leaves between after (entry_bytes e ∷ []) → Leaves before after (map entry_bytes es')
-entries_more before between after es es' e is p q =
-    subst (λ t. Leaves before after t) (sym (ap (λ t. map entry_bytes t) is ∙ map-append entry_bytes es (e ∷ []))) (one_after_other before between after (map entry_bytes es) (entry_bytes e ∷ []) p q)
+pub entries_more : (before between after : List (List ℕ) → Type 0) (es es' : List Entry) (e : Entry) (bytes : List ℕ) → entry_bytes e ≡ bytes → es' ≡ es ++ e ∷ [] → Leaves before between (map entry_bytes es) → Leaves between after (bytes ∷ []) → Leaves before after (map entry_bytes es')
+entries_more before between after es es' e bytes of is p q =
+    let one = subst (λ b. Leaves between after (b ∷ [])) (sym of) q in
+    subst (λ t. Leaves before after t) (sym (ap (λ t. map entry_bytes t) is ∙ map-append entry_bytes es (e ∷ []))) (one_after_other before between after (map entry_bytes es) (entry_bytes e ∷ []) p one)
 
 pub entries_found : (before after : List (List ℕ) → Type 0) (es : List (List ℕ)) → Leaves before after es → after [] → before es
 entries_found before after es p h = subst before (append-nil es) (p.found [] h)

@@ -21,3 +21,4 @@ pub mod DirectoryLemmas
 pub mod LocatedLemmas
 pub mod ByNumber
 pub mod OwnKinds
+pub mod TextLemmas

@@ -9,7 +9,7 @@ use Rattle.orc_types.specs.declared.kind.Scalar.TheVariants as kind
 use Rattle.orc_rle.specs.declared.fault.RunFault.{RunFault}
 use Rattle.orc_column_reader.specs.declared.column.ColumnReader.{ColumnReader}
 use Rattle.orc_column_reader.specs.declared.column.ValueSource.{ValueSource}
-use Rattle.orc_column_reader.specs.declared.column.Entry.{Entry}
+use Rattle.orc_column_reader.specs.declared.entry.Entry.{Entry}
 use Rattle.orc_column_reader.specs.declared.numbers.Numbers.{Numbers}
 use Rattle.orc_column_reader.specs.declared.octets.Octets.{Octets}
 use Rattle.orc_column_reader.specs.declared.fault.StreamKind.{StreamKind}

@@ -4,7 +4,7 @@ use Rattle.std.specs.Int.{FitsUnsignedBits}
 use Rattle.orc_types.specs.Cells.{Cell, leaf, bool, int, date, text}
 use Rattle.std.specs.Str.{is_utf8}
 use Rattle.orc_types.specs.Fits.{signed_fits}
-use Rattle.orc_column_reader.specs.declared.column.Entry.{Entry}
+use Rattle.orc_column_reader.specs.declared.entry.Entry.{Entry}
 use Rattle.orc_column_reader.specs.Columns.{IsText, IsWord, entry_bytes}
 use Rattle.orc_column_reader.specs.ValueFaults.{is_text, names_text}
 use Rattle.orc_types.specs.Views.{cell_of_value}

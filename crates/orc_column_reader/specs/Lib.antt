@@ -5,6 +5,7 @@ pub mod Numbers
 pub mod Bytes
 pub mod Bits
 pub mod Octets
+pub mod Texts
 pub mod Columns
 pub mod Directory
 pub mod Stripe

@@ -11,7 +11,7 @@ use Rattle.orc_rle.specs.declared.sign.Rle.{Rle}
 use Rattle.orc_column_reader.specs.declared.bits.Bits.{Bits}
 use Rattle.orc_column_reader.specs.declared.bytes.RunLengthBytes.{RunLengthBytes}
 use Rattle.orc_column_reader.specs.declared.numbers.Numbers.{Numbers}
-use Rattle.orc_column_reader.specs.declared.column.Entry.{Entry}
+use Rattle.orc_column_reader.specs.declared.entry.Entry.{Entry}
 use Rattle.orc_column_reader.specs.declared.column.ValueSource.{ValueSource}
 use Rattle.orc_column_reader.specs.declared.column.ColumnReader.{ColumnReader}
 use Rattle.orc_column_reader.specs.declared.starting.ColumnStreams.{ColumnStreams}

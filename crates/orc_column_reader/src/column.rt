@@ -22,6 +22,7 @@ ghost use Rattle.orc_column_reader.specs.declared.fault.StripeFault.{StripeFault
 use crate::bits::{Bits, bits_end, bits_left};
 use crate::bytes::{RunLengthBytes, bytes_end, bytes_left};
 use crate::dictionary::next_word;
+pub use crate::entry::Entry;
 use crate::fault::{StreamKind, StripeFault, run_fault};
 use crate::groups::{groups_end, groups_left, next_binary, next_text};
 use crate::marks::next_mark;
@@ -32,12 +33,6 @@ use orc_types::{Own, Scalar};
 
 /// The most cells that a column of a stripe may have.
 pub const MOST_CELLS: u64 = 0x7fff_ffff;
-
-/// An entry of a dictionary.
-#[derive(Clone, Copy)]
-pub struct Entry<'a> {
-    pub bytes: &'a [u8],
-}
 
 /// What is left of the streams of a column beside PRESENT. Each kind of column uses some of them.
 #[derive(Drop)]

@@ -17,7 +17,7 @@ ghost use Rattle.orc_column_reader.specs.declared.fault.StreamKind.TheVariants a
 ghost use Rattle.orc_rle.specs.declared.sign.Sign.TheVariants.{Unsigned};
 ghost use Rattle.orc_column_reader.specs.declared.fault.StripeFault.{StripeFault as Fault};
 
-use crate::column::Entry;
+use crate::entry::Entry;
 use crate::fault::{StreamKind, StripeFault};
 use crate::groups::{groups_end, groups_left, next_group};
 use crate::numbers::{Numbers, numbers_of};
@@ -58,7 +58,7 @@ pub fn entries_of<'a>(
             &mut numbers,
             &mut octets,
         ) {
-            Ok(bytes) => entries.push(Entry { bytes })?,
+            Ok(bytes) => entries.push(Entry::of(bytes))?,
             Err(fault) => return Err(fault),
         }
     }
@@ -84,9 +84,9 @@ fn word<'a>(column: usize, entries: &[Entry<'a>], number: i64) -> Result<Own<'a>
     let Some(entry) = entries.get(index) else {
         return Err(StripeFault::BadIndex(column));
     };
-    match std::str::from_utf8(entry.bytes) {
-        Ok(text) => Ok(Own::Text(text)),
-        Err(_) => Err(StripeFault::NotUtf8(column, StreamKind::DictionaryData)),
+    match entry.text {
+        Some(text) => Ok(Own::Text(text)),
+        None => Err(StripeFault::NotUtf8(column, StreamKind::DictionaryData)),
     }
 }
 

@@ -8,6 +8,7 @@ pub mod column;
 pub mod dictionary;
 pub mod directory;
 pub mod ending;
+mod entry;
 pub mod fault;
 pub mod groups;
 pub mod located;

@@ -1,19 +1,21 @@
 -- One walk of a row, cell by cell, counts the cells of each column.
-use Rattle.std.proofs.Common.{◌≡◌, ℕ, zero, suc, ◌+◌, ◌-◌, ◌<◌, ◌≤◌, ◌^◌, inl, inr, Bool, true, false, ltb, List, [], ◌∷◌, ◌++◌, length, get_or, map, flat_map, take, drop, Option, refl, sym, ap, ◌∙◌, arith, add-one, length-append, append-nil}
+use Rattle.std.proofs.Common.{◌≡◌, ℕ, zero, suc, ◌+◌, ◌-◌, ◌<◌, ◌≤◌, ◌^◌, inl, inr, Bool, true, false, ltb, List, [], ◌∷◌, ◌++◌, length, get_or, map, flat_map, take, drop, Option, string_bytes, refl, sym, ap, ◌∙◌, subst, arith, add-one, length-append, append-nil, drop-cons}
 use Rattle.std.specs.Prelude.{min}
 use Rattle.std.specs.Bool.{OnTrue, OnFalse}
 use Rattle.std.proofs.Math.Seq.{take-suc}
 use Rattle.std.proofs.lemmas.Bool.{lt-ltb, le-ltb, ltb-true, and_parts}
 use Rattle.std.proofs.lemmas.Bool.Decides.{leb_tells}
-use Rattle.std.proofs.lemmas.List.{map-append, take_all}
+use Rattle.std.proofs.lemmas.List.{map-append, take_all, drop_all}
 use Rattle.orc_types.specs.declared.kind.Scalar.{Scalar}
 use Rattle.orc_types.specs.Shapes.{Shape, scalar, list_of, map_of, struct_of, Fields, no_field, field, width, widths}
 use Rattle.orc_types.specs.Cells.{Cell, null, leaf, list, struct, pairs, parts, keys_in, values_in, values}
 use Rattle.orc_types.specs.Columns.{cells, cells_within}
-use Rattle.orc_types.specs.Views.{view, views, paired}
+use Rattle.orc_types.specs.Views.{view, views, paired, shape, fields as fields_view}
+use Rattle.orc_types.specs.declared.tree.Field.{Field}
 use Rattle.orc_types.specs.declared.value.Value.{Value}
 use Rattle.orc_types.specs.declared.value.MapPair.{MapPair}
 use Rattle.orc_types.proofs.ByColumn.{parts_values, keys_values, values_values}
+use Rattle.orc_types.proofs.Listed.{fields_from, widths_from}
 use Rattle.orc_types.proofs.Together.{cells-append}
 use Rattle.orc_file.specs.Counts.{with_row, are_few}
 use Rattle.orc_file.specs.Counting.{IsMoreBy, AddsOne, AddsCells, AddsFields}
@@ -144,13 +146,6 @@ module _ (fs : Fields) (o : List ℕ) (place : ℕ) (cell : Cell) (old mid new :
 pub adds_no_field : (place : ℕ) (parts : List Cell) (counts : List ℕ) → AddsFields no_field place parts counts counts
 adds_no_field place parts counts = record { same = refl; added = λ c l. absurd (omega arith); others = λ k h. refl }
 
-pub adds_no_parts : (fs : Fields) (place : ℕ) (counts : List ℕ) → AddsFields fs place [] counts counts
-adds_no_parts fs place counts = record {
-  same = refl;
-  added = λ c l. none_more (length (cells_within fs c ([] ∷ []))) (get_or counts (place + c) 0) (ap length (no_parts fs c));
-  others = λ k h. refl;
-}
-
 module _ (name : List ℕ) (s : Shape) (fs : Fields) (place : ℕ) (part : Cell) (rest : List Cell) (old mid new : List ℕ)
     (p : AddsCells s place (part ∷ []) old mid) (q : AddsFields fs (place + width s) rest mid new) where
   field_added : (c : ℕ) → c < width s + widths fs → IsMoreBy (length (cells_within (field name s fs) c ((part ∷ rest) ∷ []))) (get_or old (place + c) 0) (get_or new (place + c) 0)
@@ -170,6 +165,26 @@ module _ (name : List ℕ) (s : Shape) (fs : Fields) (place : ℕ) (part : Cell)
     others = λ k h. q.others k (elim h [ inl a ↦ inl (omega arith) | inr b ↦ inr (omega arith) ]) ∙ p.others k (elim h [ inl a ↦ inl (omega arith) | inr b ↦ inr (omega arith) ]);
   }
 
+module _ (name : List ℕ) (s : Shape) (fs : Fields) (place : ℕ) (old new : List ℕ) (q : AddsFields fs (place + width s) [] old new) where
+  lacking_added : (c : ℕ) → c < width s + widths fs → IsMoreBy (length (cells_within (field name s fs) c ([] ∷ []))) (get_or old (place + c) 0) (get_or new (place + c) 0)
+  lacking_added c l =
+      elim (leb_tells (suc c) (width s)) [
+        | inl t ↦
+            let n = q.others (place + c) (inl (omega (arith, t.1))) in
+            rw (t.0, n) (none_more (length (cells s c [])) (get_or old (place + c) 0) (ap length (no_rows s c)))
+        | inr t ↦
+            let e : place + c ≡ (place + width s) + (c - width s) = omega (arith, t.1) in
+            rw (t.0, e) (q.added (c - width s) (omega (arith, t.1)))
+      ]
+
+  -- a struct without this field and those behind it
+  pub adds_lacking : AddsFields (field name s fs) place [] old new
+  adds_lacking = record {
+    same = q.same;
+    added = lacking_added;
+    others = λ k h. q.others k (elim h [ inl a ↦ inl (omega arith) | inr b ↦ inr (omega arith) ]);
+  }
+
 -- ---- the walk's steps, as the code takes them
 
 pub list_counted : (x s : Shape) (o : List ℕ) (place : ℕ) (cell : Cell) (old mid new : List ℕ) → x ≡ list_of s o → AddsOne place old mid → AddsCells s (place + 1) (parts cell) mid new → AddsCells x place (cell ∷ []) old new
@@ -181,10 +196,6 @@ map_counted x k v o place cell old one mid new e p q r = rw e (adds_map k v o pl
 
 pub struct_counted : (x : Shape) (fs : Fields) (o : List ℕ) (place : ℕ) (cell : Cell) (old mid new : List ℕ) → x ≡ struct_of fs o → AddsOne place old mid → AddsFields fs (place + 1) (parts cell) mid new → AddsCells x place (cell ∷ []) old new
 struct_counted x fs o place cell old mid new e p q = rw e (adds_struct fs o place cell old mid new p q)
-
-pub field_counted : (all : Fields) (name : List ℕ) (s : Shape) (fs : Fields) (place w : ℕ) (row : List Cell) (part : Cell) (rest : List Cell) (old mid new : List ℕ) → all ≡ field name s fs → row ≡ part ∷ rest → w ≡ width s
-    → AddsCells s place (part ∷ []) old mid → AddsFields fs (place + w) rest mid new → AddsFields all place row old new
-field_counted all name s fs place w row part rest old mid new e f g p q = rw (e, f) (adds_field name s fs place part rest old mid new p (rw g at q))
 
 -- a part more
 pub part_counted : (s : Shape) (place : ℕ) (rows : List (Option Value)) (i : ℕ) (r : Option Value) (old mid new : List ℕ) → i < length rows → r ≡ get_or rows i r
@@ -211,15 +222,64 @@ pairs_counted f s place ps i old new l p = rw (take_all i ps l) at p
 pub parts_counted : (s : Shape) (place : ℕ) (rows : List (Option Value)) (i : ℕ) (old new : List ℕ) → length rows ≤ i → AddsCells s place (views (take i rows)) old new → AddsCells s place (views rows) old new
 parts_counted s place rows i old new l p = rw (take_all i rows l) at p
 
-pub no_row : (rows : List (Option Value)) → length rows < 1 → views rows ≡ []
-no_row [] h = refl
-no_row (r ∷ rs) h = absurd (omega (arith, h))
+-- ---- fields, one after the other, as the code goes through them
 
-pub first_row : (rows : List (Option Value)) (r : Option Value) → 1 ≤ length rows → r ≡ get_or rows 0 r → views rows ≡ view r ∷ views (take (length rows - 1) (drop 1 rows))
-first_row [] r h is = absurd (omega (arith, h))
-first_row (x ∷ xs) r h is =
-    let e : take (length (x ∷ xs) - 1) xs ≡ xs = take_all (length (x ∷ xs) - 1) xs (omega arith) in
-    ap (λ y. view y ∷ views xs) (sym is) ∙ ap (λ ys. view r ∷ views ys) (sym e)
+-- So many fields are counted: with what the others have more, all have more.
+pub record FieldsCounted (fields : List Field) (rows : List (Option Value)) (first next place : ℕ) (old mid : List ℕ) : Type 0 where
+  pub same : length mid ≡ length old
+  pub left : next + widths (fields_view (drop place fields)) ≡ first + widths (fields_view fields)
+  pub all : (new : List ℕ) → AddsFields (fields_view (drop place fields)) next (views (drop place rows)) mid new → AddsFields (fields_view fields) first (views rows) old new
+
+pub none_counted : (fields : List Field) (rows : List (Option Value)) (first : ℕ) (old : List ℕ) → FieldsCounted fields rows first first 0 old old
+none_counted fields rows first old = record { same = refl; left = refl; all = λ new h. h }
+
+module _ (fields : List Field) (rows : List (Option Value)) (first next place : ℕ) (old mid : List ℕ) (h : FieldsCounted fields rows first next place old mid) where
+  module _ (here : Field) (after : ℕ) (lt : place < length fields) (is : here ≡ get_or fields place here) (there : after ≡ next + width (shape here.tree)) where
+    left_after : after + widths (fields_view (drop (suc place) fields)) ≡ first + widths (fields_view fields)
+    left_after = let l = h.left in omega (arith, l, there, widths_from fields place here lt is)
+
+    abbrev AddsHere : List Cell → List ℕ → List ℕ → Type 0
+    AddsHere parts a b = AddsFields (field (string_bytes here.name) (shape here.tree) (fields_view (drop (suc place) fields))) next parts a b
+
+    -- a struct has this field
+    pub field_counted : (part : Option Value) (new : List ℕ) → place < length rows → part ≡ get_or rows place part → AddsCells (shape here.tree) next (view part ∷ []) mid new → FieldsCounted fields rows first after (suc place) old new
+    field_counted part new l at p =
+        let e = fields_from fields place here lt is in
+        let d : views (drop place rows) ≡ view part ∷ views (drop (suc place) rows) = ap views (drop-cons rows place part l) ∙ ap (λ x. view x ∷ views (drop (suc place) rows)) (sym at) in
+        record {
+          same = p.same ∙ h.same;
+          left = left_after;
+          all = λ last q.
+              let rest = subst (λ n. AddsFields (fields_view (drop (suc place) fields)) n (views (drop (suc place) rows)) new last) there q in
+              let both : AddsHere (view part ∷ views (drop (suc place) rows)) mid last = adds_field (string_bytes here.name) (shape here.tree) (fields_view (drop (suc place) fields)) next (view part) (views (drop (suc place) rows)) mid new last p rest in
+              h.all last (subst (λ fs. AddsFields fs next (views (drop place rows)) mid last) (sym e) (subst (λ cs. AddsHere cs mid last) (sym d) both));
+        }
+
+    -- it lacks it
+    pub field_lacking : length rows ≤ place → FieldsCounted fields rows first after (suc place) old mid
+    field_lacking l =
+        let e = fields_from fields place here lt is in
+        let none : views (drop place rows) ≡ [] = ap views (drop_all place rows l) in
+        let later : views (drop (suc place) rows) ≡ [] = ap views (drop_all (suc place) rows (omega (arith, l))) in
+        record {
+          same = h.same;
+          left = left_after;
+          all = λ last q.
+              let rest = subst (λ n. AddsFields (fields_view (drop (suc place) fields)) n [] mid last) there (subst (λ cs. AddsFields (fields_view (drop (suc place) fields)) after cs mid last) later q) in
+              let both : AddsHere [] mid last = adds_lacking (string_bytes here.name) (shape here.tree) (fields_view (drop (suc place) fields)) next mid last rest in
+              h.all last (subst (λ fs. AddsFields fs next (views (drop place rows)) mid last) (sym e) (subst (λ cs. AddsHere cs mid last) (sym none) both));
+        }
+
+  -- all of them are
+  module _ (end : length fields ≤ place) where
+    none_left : fields_view (drop place fields) ≡ no_field
+    none_left = ap fields_view (drop_all place fields end)
+
+    pub fields_counted : AddsFields (fields_view fields) first (views rows) old mid
+    fields_counted = h.all mid (subst (λ fs. AddsFields fs next (views (drop place rows)) mid mid) (sym none_left) (adds_no_field next (views (drop place rows)) mid))
+
+    pub fields_passed : next ≡ first + widths (fields_view fields)
+    fields_passed = let l = h.left in omega (arith, l, ap widths none_left)
 
 -- ---- a row's counts, where they are below the limit, and where they aren't
 

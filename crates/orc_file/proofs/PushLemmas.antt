@@ -16,6 +16,11 @@ pub failed_only : {T E P : Type 0} (r : Result T E) (failed : Bool) → OnErr r 
 failed_only (Ok x) failed p q f = cc
 failed_only (Err x) failed p q f = p
 
+-- what stands anyway stands after a refusal
+pub refused_so : {T E P : Type 0} (r : Result T E) → P → OnErr r P
+refused_so (Ok x) p = tt
+refused_so (Err x) p = p
+
 pub one_more : (before after : List (Option Value)) (row : Cell) → views after ≡ views before ++ row ∷ [] → length after ≡ length before + 1
 one_more before after row e =
     omega (arith, length-map before view, length-map after view, ap length e, length-append (views before) (row ∷ []))

@@ -44,6 +44,8 @@ pub struct Writer<W: Sink> {
     pub(crate) counts: Vec<u64>,
     /// Room for the counts with a row more.
     pub(crate) sums: Vec<u64>,
+    /// Rows of the stripe before, for their room alone: no more than the open stripe is still to have.
+    pub(crate) spare: Vec<Row<'static>>,
     pub(crate) failed: bool,
     ghost laid: { are_laid_with_few_rows 3 infos.items ≡ true },
     ghost stripes: { length infos.items ≤ most_stripes },

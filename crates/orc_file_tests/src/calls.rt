@@ -108,6 +108,11 @@ pub(crate) fn push<W: Sink>(writer: &mut Writer<W>, row: &Row<'_>) -> Result<(),
     writer.push(row)
 }
 
+/// A row of a written stripe, for its room.
+pub(crate) fn spare_row<W: Sink>(writer: &mut Writer<W>) -> Row<'static> {
+    writer.spare_row()
+}
+
 /// Writes the file's end.
 pub(crate) fn finish<W: Sink>(writer: Writer<W>) -> Result<(Tail, W), (FileFault, W)> {
     writer.finish()

@@ -1,7 +1,7 @@
 //! The `Writer`: outputs that fail on the way, rows that don't fit, and the faults that it alone answers.
 
 use crate::assertions::{check_list, check_same};
-use crate::calls::{finish, new_writer, push};
+use crate::calls::{finish, new_writer, push, spare_row};
 use orc_file::{FileFault, Sink, Tail, VecSink, Writer};
 use orc_rle::Rle;
 use orc_stripe::Options;
@@ -199,6 +199,83 @@ fn a_row_of_another_shape(rt: HostRuntime) -> Result<(), FileFault> {
         answer => answer?,
     };
     check_list(&rt, &bytes, &SEVENS, "rows of another shape", &[]);
+    Ok(())
+}
+
+/// How many spare rows are taken before each of eight rows, and how many of them aren't null: a stripe of three is
+/// written with the third row and the sixth, and a row that is pushed takes the place of one that nobody took.
+static SPARES: [(usize, usize); 8] = [
+    (1, 0),
+    (0, 0),
+    (1, 0),
+    (1, 1),
+    (0, 0),
+    (2, 1),
+    (4, 3),
+    (1, 0),
+];
+
+/// Takes so many spare rows: whether so many of them aren't null, those that come first.
+fn are_taken(writer: &mut Writer<VecSink>, count: usize, wanted: usize) -> bool {
+    for i in 0..count {
+        if spare_row(writer).is_some() != (i < wanted) {
+            return false;
+        }
+    }
+    true
+}
+
+/// Eight rows, with spare rows taken before each.
+fn push_over(writer: &mut Writer<VecSink>, seven: &Row<'_>) -> Result<(), FileFault> {
+    for (count, wanted) in SPARES {
+        let before = writer.written();
+        if !are_taken(writer, count, wanted) || writer.written() != before {
+            return Err(FileFault::RowCount);
+        }
+        push(writer, seven)?;
+    }
+    Ok(())
+}
+
+/// Eight rows, with no spare row taken.
+fn push_eight(writer: &mut Writer<VecSink>, seven: &Row<'_>) -> Result<(), FileFault> {
+    for _ in 0..8 {
+        push(writer, seven)?;
+    }
+    Ok(())
+}
+
+/// The file of eight rows, whether spare rows are taken or not.
+fn of_eight(alloc: Global, over: bool) -> Result<Vec<u8>, FileFault> {
+    let seven = row(alloc, 7)?;
+    let mut writer = match begun(alloc, VecSink::new(alloc)) {
+        Ok(writer) => writer,
+        Err((fault, _)) => return Err(fault),
+    };
+    if over {
+        push_over(&mut writer, &seven)?;
+    } else {
+        push_eight(&mut writer, &seven)?;
+    }
+    match finish(writer) {
+        Ok((_, out)) => Ok(out.into_vec()),
+        Err((fault, _)) => Err(fault),
+    }
+}
+
+/// That file, with memory for it.
+fn of_eight_again(alloc: Global, over: bool) -> Result<Vec<u8>, FileFault> {
+    match of_eight(alloc, over) {
+        Err(FileFault::OutOfMemory | FileFault::WriteFailed) => of_eight(alloc, over),
+        answer => answer,
+    }
+}
+
+#[test]
+fn rows_of_written_stripes_are_spare(rt: HostRuntime) -> Result<(), FileFault> {
+    let plain = of_eight_again(rt.alloc(), false)?;
+    let over = of_eight_again(rt.alloc(), true)?;
+    check_list(&rt, &over, &plain, "spare rows", &[]);
     Ok(())
 }
 

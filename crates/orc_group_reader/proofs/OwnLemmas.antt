@@ -9,7 +9,7 @@ use Rattle.orc_types.specs.declared.kind.Scalar.TheVariants as kind
 use Rattle.orc_column_reader.specs.Columns.{entry_bytes}
 use Rattle.orc_column_reader.specs.Starting.{HasNoDictionary, LacksEntries}
 use Rattle.orc_column_reader.specs.Stripe.{Streams, version, version_at, uses_dictionary, has_dictionary, IsDictionary, SpellsTexts, SpellsValues}
-use Rattle.orc_column_reader.specs.declared.column.Entry.{Entry}
+use Rattle.orc_column_reader.specs.declared.entry.Entry.{Entry}
 use Rattle.orc_wire.specs.declared.encoding.Encoding.{Encoding}
 use Rattle.orc_row_index.specs.Places.{StreamPlace, begins, octets, octets_place}
 use Rattle.orc_row_index.specs.RunStreams.{RunStream, own_runs, own_octets}

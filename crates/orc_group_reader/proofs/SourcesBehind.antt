@@ -28,7 +28,7 @@ use Rattle.orc_column_reader.specs.Spellings.{size, joined}
 use Rattle.orc_column_reader.specs.Stripe.{Streams, version, has_dictionary, IsDictionary, most_cells}
 use Rattle.orc_column_reader.specs.ValueFaults.{NotAll, is_index, names_text, PassTogether}
 use Rattle.orc_column_reader.specs.declared.bits.Bits.{Bits}
-use Rattle.orc_column_reader.specs.declared.column.Entry.{Entry}
+use Rattle.orc_column_reader.specs.declared.entry.Entry.{Entry}
 use Rattle.orc_column_reader.specs.declared.column.ValueSource.{ValueSource}
 use Rattle.orc_column_reader.specs.declared.fault.StreamKind.{StreamKind}
 use Rattle.orc_column_reader.specs.declared.fault.StreamKind.TheVariants as stream

@@ -18,7 +18,7 @@ use Rattle.orc_column_reader.specs.Columns.{IsBool, IsByte, IsInt, IsDate, IsTex
 use Rattle.orc_column_reader.specs.Numbers.{NumbersLeft, AreNumbers}
 use Rattle.orc_column_reader.specs.Spellings.{AllStand, Standing, Grouped, joined, size}
 use Rattle.orc_column_reader.specs.Stripe.{Streams, version, has_dictionary, Is, SpellsTexts, SpellsScalar, SpellsValues, most_cells}
-use Rattle.orc_column_reader.specs.declared.column.Entry.{Entry}
+use Rattle.orc_column_reader.specs.declared.entry.Entry.{Entry}
 use Rattle.orc_column_reader.specs.declared.column.ValueSource.{ValueSource}
 use Rattle.orc_column_reader.specs.declared.bits.Bits.{Bits}
 use Rattle.orc_column_reader.specs.declared.bytes.RunLengthBytes.{RunLengthBytes}

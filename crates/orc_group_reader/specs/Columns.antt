@@ -12,7 +12,7 @@ use Rattle.orc_column_reader.specs.Spellings.{size}
 use Rattle.orc_column_reader.specs.Stripe.{Streams, IsColumn, IsDictionary, SpellsValues, has_dictionary, most_cells}
 use Rattle.orc_column_reader.specs.declared.bits.Bits.{Bits}
 use Rattle.orc_column_reader.specs.declared.column.ColumnReader.{ColumnReader}
-use Rattle.orc_column_reader.specs.declared.column.Entry.{Entry}
+use Rattle.orc_column_reader.specs.declared.entry.Entry.{Entry}
 use Rattle.orc_column_reader.specs.declared.column.ValueSource.{ValueSource}
 use Rattle.orc_positions.specs.BitPosition.{BeginsBits}
 use Rattle.orc_row_index.specs.Places.{AreReadPlaces, StreamPlace, begins, octets}

@@ -18,6 +18,8 @@ use Rattle.orc_types.specs.declared.tree.Field.{Field}
 use Rattle.orc_types.specs.declared.value.Value.{Value}
 use Rattle.orc_types.proofs.Views.{name_and_type-is}
 use Rattle.orc_json_reader.specs.Fronts.{ValueFront, MembersFront, AreFields}
+use Rattle.orc_json_reader.specs.Frontier.{read_up_to}
+use Rattle.orc_json_reader.proofs.FrontierLemmas.{read_up_to-length, read_up_to-none}
 use Rattle.orc_json_reader.proofs.MemberLemmas.{MembersGo, members_first, members_next, members_last}
 
 -- ---- names
@@ -113,13 +115,15 @@ nulls_spell : (fs : List Field) → FieldsSpell (fields fs) (object no_members) 
 nulls_spell [] = tt
 nulls_spell (f ∷ fs) = (refl, nulls_spell fs)
 
-length-nulls : (fs : List Field) → length (replicate {A = Option Value} (length fs) None) ≡ length fs
-length-nulls [] = refl
-length-nulls (f ∷ fs) = ap suc (length-nulls fs)
-
-pub fields_first : (fs : List Field) (depth : ℕ) (start : List Token) (rows : List (Option Value)) → rows ≡ replicate (length fs) None → FieldsGo fs depth start start rows
+pub fields_first : (fs : List Field) (depth : ℕ) (start : List Token) (rows : List (Option Value)) → length rows ≡ length fs → FieldsGo fs depth start start (read_up_to 0 rows)
 fields_first fs depth start rows e =
-    rw e (record { found = no_members; go = members_first depth start; as_many = length-nulls fs; are = (refl, nulls_spell fs) })
+    let none : read_up_to 0 rows ≡ replicate (length fs) None = read_up_to-none rows ∙ ap (λ (n : ℕ). replicate n None) e in
+    record {
+      found = no_members;
+      go = members_first depth start;
+      as_many = read_up_to-length 0 rows ∙ e;
+      are = (refl, subst (λ (xs : List (Option Value)). FieldsSpell (fields fs) (object no_members) (cells_of (views xs))) (sym none) (nulls_spell fs));
+    }
 
 pub fields_next : (fs : List Field) (depth : ℕ) (start now s r : List Token) (rows : List (Option Value)) (k : List ℕ) (i : ℕ) (f : Field) (row : Option Value) → i < length fs → f ≡ get_or fs i f → string_bytes f.name ≡ k
     → all_differ (names_of (fields fs)) ≡ true → read_key now ≡ Some (Some k, s) → ValueFront (λ d. Spells (shape f.tree) d (view row)) depth s r → length s < length now → length r < length s

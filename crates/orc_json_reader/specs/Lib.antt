@@ -1,2 +1,3 @@
 pub mod RowTexts
 pub mod Fronts
+pub mod Frontier

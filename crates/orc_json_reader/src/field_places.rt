@@ -1,6 +1,8 @@
 //! The fields of a struct, and which of them a key of an object names (RFC 8259, "Objects").
-ghost use Rattle.std.specs.Prelude.{◌≡◌, ◌<◌, length, get_or, replicate, None, IfOk, IfSome, string_bytes};
+ghost use Rattle.std.specs.Prelude.{◌≡◌, ◌<◌, ◌≤◌, length, get_or, replicate, None, Option, IfOk, IfSome, string_bytes, slice_set};
 ghost use Rattle.orc_types.specs.declared.tree.Field.{Field as SpecField};
+ghost use Rattle.orc_types.specs.declared.value.Value.{Value as SpecValue};
+ghost use Rattle.orc_json_reader.specs.Frontier.{read_up_to};
 
 use orc_types::{Field, Row};
 use std::alloc::{AllocError, Global};
@@ -18,6 +20,42 @@ pub(crate) fn nulls(alloc: Global, count: usize) -> Result<Vec<Row<'static>>, Al
         rows.push(None)?;
     }
     Ok(rows)
+}
+
+/// Makes the rows from one place up to another null.
+fn set_null(rows: &mut Vec<Row<'static>>, from: usize, to: usize)
+    requires order { from ≤ to }
+    requires within { to ≤ length rows.old.items }
+    ensures rows { read_up_to to rows.new.items ≡ read_up_to from rows.old.items }
+    ensures len { length rows.new.items ≡ length rows.old.items }
+{
+    for place in from..to {
+        rows[place] = None;
+    }
+}
+
+/// Makes the rows null that a key at a place passes over. Answers up to where rows are read, or null, once its value is.
+pub(crate) fn pass_to(rows: &mut Vec<Row<'static>>, next: usize, place: usize) -> usize
+    requires { place < length rows.old.items }
+    ensures within { next ≤ length rows.old.items → result ≤ length rows.new.items }
+    ensures len { length rows.new.items ≡ length rows.old.items }
+    ensures rows { (row : Option SpecValue)
+        → read_up_to result (slice_set rows.new.items place row) ≡ slice_set (read_up_to next rows.old.items) place row }
+{
+    if place < next {
+        return next;
+    }
+    set_null(rows, next, place);
+    place + 1
+}
+
+/// Makes the rows null that no key has come to.
+pub(crate) fn end_at(rows: &mut Vec<Row<'static>>, next: usize)
+    requires { next ≤ length rows.old.items }
+    ensures { rows.new.items ≡ read_up_to next rows.old.items }
+{
+    let count = rows.len();
+    set_null(rows, next, count);
 }
 
 /// The place of the field of that name, where it is one of so many from a place on.

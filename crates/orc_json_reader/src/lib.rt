@@ -4,6 +4,7 @@
 mod field_places;
 mod integers;
 mod leaf_reading;
+mod old_room;
 mod reading;
 mod row_reader;
 mod unread;

@@ -1,6 +1,9 @@
 //! Rows, read from the tokens of a text down the tree of types (RFC 8259, "Values", "Objects", "Arrays"; types by the ORC
 //! specification, "Types"). What isn't followed is declined, and no refusal is told here.
-ghost use Rattle.std.specs.Prelude.{◌≡◌, ◌<◌, length, map, true, IfOk, OnOk};
+//!
+//! Each row is read over one that is no longer needed, in the room of its texts and lists where that is of use. No clause speaks
+//! of the old row, so nothing of it is in the new one. After a refusal the cell holds what was read so far and what is old.
+ghost use Rattle.std.specs.Prelude.{◌≡◌, ◌<◌, length, map, true, OnOk};
 ghost use Rattle.orc_types.specs.Cells.{cells_of, pairs_of};
 ghost use Rattle.orc_types.specs.FieldNames.{is_distinct, are_distinct, all_differ};
 ghost use Rattle.orc_types.specs.JsonRows.{OrNull, Spells, EachSpells, ArraySpells, PairSpells, PairsSpell, MapSpells, FieldsSpell, ObjectSpells};
@@ -8,144 +11,177 @@ ghost use Rattle.orc_types.specs.Shapes.{names_of};
 ghost use Rattle.orc_types.specs.Views.{view, views, paired, shape, fields as fields_view};
 ghost use Rattle.orc_json_reader.specs.Fronts.{ValueFront, ItemsFront, MembersFront, AreFields};
 
-use crate::field_places::{nulls, place_of};
-use crate::leaf_reading::scalar_from;
+use crate::field_places::{end_at, pass_to, place_of};
+use crate::leaf_reading::read_scalar;
+use crate::old_room::{
+    cut_pairs, cut_rows, make_list, make_map, make_pair_room, make_row_room, make_struct,
+};
 use crate::unread::Unread;
 use json::{Reader, Token};
 use orc_types::{Field, MapPair, Row, Tree, Value};
 use std::alloc::Global;
 
-/// The row that the next value spells. Arrays and objects may nest `depth` deep in it, the value itself among them.
+/// Reads the row that the next value spells. Arrays and objects may nest `depth` deep in it, the value itself among them.
 #[cycle(reading)]
-pub(crate) fn row_of(
+pub(crate) fn read_value(
     alloc: Global,
     tree: &Tree,
     depth: usize,
     reader: &mut Reader<'_>,
-) -> Result<Row<'static>, Unread>
+    cell: &mut Row<'static>,
+) -> Result<(), Unread>
     requires { is_distinct (shape tree.now) ≡ true }
-    ensures found { IfOk result
-        (λ row. ValueFront (λ d. Spells (shape tree.now) d (view row)) depth reader.old reader.new) }
+    ensures found { OnOk result
+        (ValueFront (λ d. Spells (shape tree.now) d (view cell.new)) depth reader.old reader.new) }
     ensures shorter { OnOk result (length reader.new < length reader.old) }
 {
     match tree {
-        Tree::Scalar(kind, _) => scalar_from(alloc, *kind, reader),
-        Tree::List(element, _) => list_from(alloc, element, depth, reader),
-        Tree::Map(key, value, _) => map_from(alloc, key, value, depth, reader),
-        Tree::Struct(fields, _) => struct_from(alloc, fields, depth, reader),
+        Tree::Scalar(kind, _) => read_scalar(alloc, *kind, reader, cell),
+        Tree::List(element, _) => read_list(alloc, element, depth, reader, cell),
+        Tree::Map(key, value, _) => read_map(alloc, key, value, depth, reader, cell),
+        Tree::Struct(fields, _) => read_struct(alloc, fields, depth, reader, cell),
     }
 }
 
-/// The row of a LIST that the next value spells: null, or an array.
+/// Reads the row of a LIST that the next value spells: null, or an array.
 #[cycle(reading)]
 #[inline(never)]
-fn list_from(
+fn read_list(
     alloc: Global,
     element: &Tree,
     depth: usize,
     reader: &mut Reader<'_>,
-) -> Result<Row<'static>, Unread>
+    cell: &mut Row<'static>,
+) -> Result<(), Unread>
     requires { is_distinct (shape element.now) ≡ true }
-    ensures found { IfOk result (λ row. ValueFront
-        (λ d. OrNull d (view row) (ArraySpells (Spells (shape element.now)) d (view row))) depth reader.old reader.new) }
+    ensures found { OnOk result (ValueFront
+        (λ d. OrNull d (view cell.new) (ArraySpells (Spells (shape element.now)) d (view cell.new))) depth reader.old reader.new) }
     ensures shorter { OnOk result (length reader.new < length reader.old) }
 {
     match reader.next() {
-        Some(Token::Null) => Ok(None),
+        Some(Token::Null) => {
+            *cell = None;
+            Ok(())
+        }
         Some(Token::BeginArray) if depth > 0 => {
-            Ok(Some(Value::List(elements_of(alloc, element, depth - 1, reader)?)))
+            make_list(alloc, cell);
+            match cell {
+                Some(Value::List(rows)) => read_elements(alloc, element, depth - 1, reader, rows),
+                _ => Err(Unread::Declined),
+            }
         }
         _ => Err(Unread::Declined),
     }
 }
 
-/// The row of a MAP that the next value spells: null, or an array of arrays of two.
+/// Reads the row of a MAP that the next value spells: null, or an array of arrays of two.
 #[cycle(reading)]
 #[inline(never)]
-fn map_from(
+fn read_map(
     alloc: Global,
     key: &Tree,
     value: &Tree,
     depth: usize,
     reader: &mut Reader<'_>,
-) -> Result<Row<'static>, Unread>
+    cell: &mut Row<'static>,
+) -> Result<(), Unread>
     requires keys { is_distinct (shape key.now) ≡ true }
     requires values { is_distinct (shape value.now) ≡ true }
-    ensures found { IfOk result (λ row. ValueFront
-        (λ d. OrNull d (view row) (MapSpells (Spells (shape key.now)) (Spells (shape value.now)) d (view row)))
+    ensures found { OnOk result (ValueFront
+        (λ d. OrNull d (view cell.new) (MapSpells (Spells (shape key.now)) (Spells (shape value.now)) d (view cell.new)))
         depth reader.old reader.new) }
     ensures shorter { OnOk result (length reader.new < length reader.old) }
 {
     match reader.next() {
-        Some(Token::Null) => Ok(None),
+        Some(Token::Null) => {
+            *cell = None;
+            Ok(())
+        }
         Some(Token::BeginArray) if depth > 0 => {
-            Ok(Some(Value::Map(pairs_from(alloc, key, value, depth - 1, reader)?)))
+            make_map(alloc, cell);
+            match cell {
+                Some(Value::Map(pairs)) => read_pairs(alloc, key, value, depth - 1, reader, pairs),
+                _ => Err(Unread::Declined),
+            }
         }
         _ => Err(Unread::Declined),
     }
 }
 
-/// The row of a STRUCT that the next value spells: null, or an object.
+/// Reads the row of a STRUCT that the next value spells: null, or an object.
 #[cycle(reading)]
 #[inline(never)]
-fn struct_from(
+fn read_struct(
     alloc: Global,
     fields: &Vec<Field>,
     depth: usize,
     reader: &mut Reader<'_>,
-) -> Result<Row<'static>, Unread>
+    cell: &mut Row<'static>,
+) -> Result<(), Unread>
     requires names { all_differ (names_of (fields_view fields.now.items)) ≡ true }
     requires distinct { are_distinct (fields_view fields.now.items) ≡ true }
-    ensures found { IfOk result (λ row. ValueFront (λ d. OrNull d (view row)
+    ensures found { OnOk result (ValueFront (λ d. OrNull d (view cell.new)
         (ObjectSpells (names_of (fields_view fields.now.items))
-        (λ cs. FieldsSpell (fields_view fields.now.items) d cs) d (view row))) depth reader.old reader.new) }
+        (λ cs. FieldsSpell (fields_view fields.now.items) d cs) d (view cell.new))) depth reader.old reader.new) }
     ensures shorter { OnOk result (length reader.new < length reader.old) }
 {
     match reader.next() {
-        Some(Token::Null) => Ok(None),
+        Some(Token::Null) => {
+            *cell = None;
+            Ok(())
+        }
         Some(Token::BeginObject) if depth > 0 => {
-            Ok(Some(Value::Struct(fields_of(alloc, fields, depth - 1, reader)?)))
+            make_struct(alloc, cell, fields.len())?;
+            match cell {
+                Some(Value::Struct(rows)) if rows.len() == fields.len() => {
+                    read_fields(alloc, fields, depth - 1, reader, rows)
+                }
+                _ => Err(Unread::Declined),
+            }
         }
         _ => Err(Unread::Declined),
     }
 }
 
-/// The rows that an array's elements spell, up to its closing bracket.
+/// Reads the rows that an array's elements spell, up to its closing bracket.
 #[cycle(reading)]
-fn elements_of(
+fn read_elements(
     alloc: Global,
     tree: &Tree,
     depth: usize,
     reader: &mut Reader<'_>,
-) -> Result<Vec<Row<'static>>, Unread>
+    rows: &mut Vec<Row<'static>>,
+) -> Result<(), Unread>
     requires { is_distinct (shape tree.now) ≡ true }
-    ensures found { IfOk result (λ rows. ItemsFront
-        (λ ds. EachSpells (Spells (shape tree.now)) ds (cells_of (views rows.items))) depth reader.old reader.new) }
+    ensures found { OnOk result (ItemsFront
+        (λ ds. EachSpells (Spells (shape tree.now)) ds (cells_of (views rows.new.items))) depth reader.old reader.new) }
     ensures shorter { OnOk result (length reader.new < length reader.old) }
 {
-    let mut rows = Vec::new(alloc);
+    let room = rows.capacity();
+    let mut count = 0;
     'elements: while !reader.take_end_array() {
-        let row = row_of(alloc, tree, depth, reader)?;
-        rows.push(row)?;
+        make_row_room(rows, count)?;
+        read_value(alloc, tree, depth, reader, &mut rows[count])?;
+        count += 1;
     }
-    // rows are kept until their stripe is written, and most lists are shorter than the room that the first element takes
-    rows.shrink_to_fit();
-    Ok(rows)
+    cut_rows(rows, count, room);
+    Ok(())
 }
 
-/// The key and the value that the next value spells, an array of two.
+/// Reads the key and the value that the next value spells, an array of two.
 #[cycle(reading)]
-fn pair_from(
+fn read_pair(
     alloc: Global,
     key: &Tree,
     value: &Tree,
     depth: usize,
     reader: &mut Reader<'_>,
-) -> Result<MapPair<'static>, Unread>
+    pair: &mut MapPair<'static>,
+) -> Result<(), Unread>
     requires keys { is_distinct (shape key.now) ≡ true }
     requires values { is_distinct (shape value.now) ≡ true }
-    ensures found { IfOk result (λ pair. ValueFront
-        (λ d. PairSpells (Spells (shape key.now)) (Spells (shape value.now)) d (view pair.key) (view pair.value))
+    ensures found { OnOk result (ValueFront
+        (λ d. PairSpells (Spells (shape key.now)) (Spells (shape value.now)) d (view pair.new.key) (view pair.new.value))
         depth reader.old reader.new) }
     ensures shorter { OnOk result (length reader.new < length reader.old) }
 {
@@ -155,64 +191,68 @@ fn pair_from(
     if depth == 0 {
         return Err(Unread::Declined);
     }
-    let key = row_of(alloc, key, depth - 1, reader)?;
-    let value = row_of(alloc, value, depth - 1, reader)?;
+    read_value(alloc, key, depth - 1, reader, &mut pair.key)?;
+    read_value(alloc, value, depth - 1, reader, &mut pair.value)?;
     if !reader.take_end_array() {
         return Err(Unread::Declined);
     }
-    Ok(MapPair { key, value })
+    Ok(())
 }
 
-/// The pairs that an array's elements spell, up to its closing bracket.
+/// Reads the pairs that an array's elements spell, up to its closing bracket.
 #[cycle(reading)]
-fn pairs_from(
+fn read_pairs(
     alloc: Global,
     key: &Tree,
     value: &Tree,
     depth: usize,
     reader: &mut Reader<'_>,
-) -> Result<Vec<MapPair<'static>>, Unread>
+    pairs: &mut Vec<MapPair<'static>>,
+) -> Result<(), Unread>
     requires keys { is_distinct (shape key.now) ≡ true }
     requires values { is_distinct (shape value.now) ≡ true }
-    ensures found { IfOk result (λ pairs. ItemsFront
-        (λ ds. PairsSpell (Spells (shape key.now)) (Spells (shape value.now)) ds (pairs_of (map paired pairs.items)))
+    ensures found { OnOk result (ItemsFront
+        (λ ds. PairsSpell (Spells (shape key.now)) (Spells (shape value.now)) ds (pairs_of (map paired pairs.new.items)))
         depth reader.old reader.new) }
     ensures shorter { OnOk result (length reader.new < length reader.old) }
 {
-    let mut pairs = Vec::new(alloc);
+    let room = pairs.capacity();
+    let mut count = 0;
     'pairs: while !reader.take_end_array() {
-        let pair = pair_from(alloc, key, value, depth, reader)?;
-        pairs.push(pair)?;
+        make_pair_room(pairs, count)?;
+        read_pair(alloc, key, value, depth, reader, &mut pairs[count])?;
+        count += 1;
     }
-    pairs.shrink_to_fit();
-    Ok(pairs)
+    cut_pairs(pairs, count, room);
+    Ok(())
 }
 
-/// The rows of a struct's fields that an object's members spell, up to its closing brace. Of a key that comes twice the last
-/// value stands, and a field whose key is missing is null.
+/// Reads the rows of a struct's fields that an object's members spell, up to its closing brace. Of a key that comes twice the
+/// last value stands, and a field whose key is missing is null.
 #[cycle(reading)]
-fn fields_of(
+fn read_fields(
     alloc: Global,
     fields: &Vec<Field>,
     depth: usize,
     reader: &mut Reader<'_>,
-) -> Result<Vec<Row<'static>>, Unread>
+    rows: &mut Vec<Row<'static>>,
+) -> Result<(), Unread>
     requires names { all_differ (names_of (fields_view fields.now.items)) ≡ true }
     requires distinct { are_distinct (fields_view fields.now.items) ≡ true }
-    ensures found { IfOk result (λ rows. MembersFront
-        (λ ms. AreFields (fields_view fields.now.items) ms (cells_of (views rows.items))) depth reader.old reader.new) }
+    requires as_many { length rows.old.items ≡ length fields.now.items }
+    ensures found { OnOk result (MembersFront
+        (λ ms. AreFields (fields_view fields.now.items) ms (cells_of (views rows.new.items))) depth reader.old reader.new) }
     ensures shorter { OnOk result (length reader.new < length reader.old) }
 {
-    let mut rows = nulls(alloc, fields.len())?;
+    // rows before this place are read, or null where no key has named them yet; from it on they are the old ones
     let mut next = 0;
     'members: while let Some(name) = reader.next_key()? {
         let Some(place) = place_of(fields, name, next) else {
             return Err(Unread::Declined);
         };
-        let field = &fields[place];
-        let row = row_of(alloc, &field.tree, depth, reader)?;
-        rows[place] = row;
-        next = place + 1;
+        next = pass_to(rows, next, place);
+        read_value(alloc, &fields[place].tree, depth, reader, &mut rows[place])?;
     }
-    Ok(rows)
+    end_at(rows, next);
+    Ok(())
 }

@@ -1,5 +1,5 @@
 //! Rows from texts of JSON.
-ghost use Rattle.std.specs.Prelude.{◌≡◌, ◌≢◌, true, IfOk, IfErr, MatchResult};
+ghost use Rattle.std.specs.Prelude.{◌≡◌, ◌≢◌, true, IfOk, IfErr, OnOk, MatchResult};
 ghost use Rattle.orc_types.specs.Cells.{Cell};
 ghost use Rattle.orc_types.specs.FieldNames.{is_distinct};
 ghost use Rattle.orc_types.specs.Fits.{fits};
@@ -7,7 +7,7 @@ ghost use Rattle.orc_types.specs.Views.{view};
 ghost use Rattle.orc_types.specs.declared.json_fault.JsonFault.TheVariants as fault;
 ghost use Rattle.orc_json_reader.specs.RowTexts.{TextSpells, RowTextFault};
 
-use crate::reading::row_of;
+use crate::reading::read_value;
 use crate::unread::Unread;
 use json::{Reader, Scratch};
 use orc_types::{JsonFault, Row, Schema, row_from_json};
@@ -46,14 +46,15 @@ impl RowReader {
         }
     }
 
-    /// The row that a text spells, where it can be read straight.
+    /// Reads the row that a text spells, where it can be read straight.
     fn read_straight(
         &mut self,
         alloc: Global,
         schema: &Schema,
         text: &[u8],
-    ) -> Result<Row<'static>, Unread>
-        ensures { IfOk result (λ row. TextSpells schema.now text.now (view row)) }
+        row: &mut Row<'static>,
+    ) -> Result<(), Unread>
+        ensures { OnOk result (TextSpells schema.now text.now (view row.new)) }
     {
         if !schema.has_distinct_names() {
             return Err(Unread::Declined);
@@ -62,11 +63,11 @@ impl RowReader {
             return Err(Unread::Declined);
         };
         let mut reader = Reader::new(text, &mut self.scratch)?;
-        let row = row_of(alloc, schema.tree(), MAX_DEPTH, &mut reader)?;
+        read_value(alloc, schema.tree(), MAX_DEPTH, &mut reader, row)?;
         if reader.next().is_some() {
             return Err(Unread::Declined);
         }
-        Ok(row)
+        Ok(())
     }
 
     /// The row that a text of JSON spells under a schema: the one that `row_from_json` answers of the value that `serde_json`
@@ -93,8 +94,36 @@ impl RowReader {
         // schema that names a field twice, or a fault that stands in the text's value.
         ensures fault { IfErr result (λ why. why ≢ fault.OutOfMemory → RowTextFault schema.now text.now why) }
     {
-        match self.read_straight(alloc, schema, text) {
-            Ok(row) => Ok(row),
+        self.read_row_over(alloc, schema, text, None)
+    }
+
+    /// As `read_row`, in the room of a row that is no longer needed, so that a caller who drops rows as others are read takes
+    /// little memory anew. The spare row is any row at all, under whatever schema it was read, and nothing of it is in the
+    /// answer. Where its structs, texts, lists and maps stand at places of such in the new row, their room is used: a struct's
+    /// where it has as many fields, the others' where it is small or at most twice what is needed. So no row keeps room that is
+    /// far larger than its values, however often it is read over. After a refusal the spare row is gone.
+    pub fn read_row_over(
+        &mut self,
+        alloc: Global,
+        schema: &Schema,
+        text: &[u8],
+        spare: Row<'static>,
+    ) -> Result<Row<'static>, JsonFault>
+        // What is answered is the row that the text spells, whatever the spare row was.
+        ensures found { IfOk result (λ row. TextSpells schema.now text.now (view row)) }
+        // A text that spells a row is answered with it, or memory is refused.
+        ensures only { (row : Cell) → TextSpells schema.now text.now row
+            → MatchResult result (λ found. view found ≡ row) (λ e. e ≡ fault.OutOfMemory) }
+        // What is answered fits the schema.
+        ensures fits { IfOk result (λ row. fits (view row) schema.now ≡ true) }
+
+        // Unless for memory, a refusal is Syntax of what isn't UTF-8 or JSON, DuplicateField of a
+        // schema that names a field twice, or a fault that stands in the text's value.
+        ensures fault { IfErr result (λ why. why ≢ fault.OutOfMemory → RowTextFault schema.now text.now why) }
+    {
+        let mut row = spare;
+        match self.read_straight(alloc, schema, text, &mut row) {
+            Ok(()) => Ok(row),
             Err(Unread::OutOfMemory) => Err(JsonFault::OutOfMemory),
             Err(Unread::Declined) => row_by_value(alloc, schema, text),
         }

@@ -9,12 +9,14 @@ use Rattle.orc_positions.specs.BitPosition.{IsBitPlace}
 use Rattle.orc_positions.specs.Marks.{start_of_stream}
 use Rattle.orc_positions.specs.declared.mark.Mark.{Mark}
 use Rattle.orc_wire.specs.declared.row_index.RowIndexEntry.{RowIndexEntry}
+use Rattle.orc_types.specs.Childless.{childless}
 use Rattle.orc_types.specs.Cells.{Cell, null, leaf, list, struct, pairs, parts, pairs_in, keys_in, values_in, values}
 use Rattle.orc_types.specs.Fits.{fits, RowsFit}
 use Rattle.orc_types.specs.Lent.{lent_cells}
 use Rattle.orc_types.specs.Shapes.{Shape}
 use Rattle.orc_types.specs.Views.{view}
 use Rattle.orc_types.specs.declared.lent.Lent.{Lent}
+use Rattle.orc_types.specs.declared.own.Own.{Own}
 use Rattle.orc_types.proofs.Together.{values-append, flat_map-append}
 use Rattle.orc_stats.specs.Kinds.{kind_of}
 use Rattle.orc_stats.specs.Messages.{message_of}
@@ -25,6 +27,7 @@ use Rattle.orc_column_reader.specs.Stripe.{Streams, IsColumn}
 use Rattle.orc_column_reader.specs.declared.starting.ColumnStreams.{ColumnStreams}
 use Rattle.orc_row_index.specs.Bounds.{bound_at, AreBounds, before_group, group_of, elements_before, pairs_before, values_before}
 use Rattle.orc_row_index.specs.EntryText.{IsEntryText}
+use Rattle.orc_row_index.specs.OwnCells.{own_cells, AreOwn, AreSpelledOwn}
 use Rattle.orc_row_index.specs.Places.{octets, PlacesIn, is_place, AreWrittenPlaces, Adds}
 use Rattle.orc_row_index.specs.RowIndex.{IsWrittenEntry, AreEntries}
 use Rattle.orc_row_index.specs.RunStreams.{RunStream, present_runs, own_octets}
@@ -34,6 +37,7 @@ use Rattle.orc_row_index.specs.declared.placed.PlacedStreams.{PlacedStreams}
 use Rattle.orc_row_index.specs.declared.walk.Walk.{Walk}
 use Rattle.orc_row_index.proofs.ColumnPlaces.{counted_more, column_there, values_more}
 use Rattle.orc_row_index.proofs.EntryTexts.{AreAdded, none_added, one_added}
+use Rattle.orc_row_index.proofs.OwnLemmas.{owns_long, own_count, own_part, values_many, octets_many}
 use Rattle.orc_row_index.proofs.StreamPlaces.{starts_before, later_before}
 
 -- ---- bounds
@@ -85,8 +89,8 @@ pub lent_long : (rs : List Lent) → length (lent_cells rs) ≡ length rs
 lent_long rs = length-map rs (λ (r : Lent). view r.0.now)
 
 -- a bound is a place among the cells
-pub bound_there : (rs : List Lent) (bounds : List ℕ) (group : ℕ) → AreBounds (length (lent_cells rs)) bounds → group < length bounds → get_or bounds group 0 ≤ length rs
-bound_there rs bounds group h lt = omega (arith, bound_read (length (lent_cells rs)) bounds group lt, bound_within (length (lent_cells rs)) bounds group h, lent_long rs)
+pub bound_there : (owns : List Own) (bounds : List ℕ) (group : ℕ) → AreBounds (length (own_cells owns)) bounds → group < length bounds → get_or bounds group 0 ≤ length owns
+bound_there owns bounds group h lt = omega (arith, bound_read (length (own_cells owns)) bounds group lt, bound_within (length (own_cells owns)) bounds group h, owns_long owns)
 
 map_next : (f : ℕ → ℕ) (bounds : List ℕ) (i : ℕ) → i < length bounds → map f (drop i bounds) ≡ f (get_or bounds i 0) ∷ map f (drop (suc i) bounds)
 map_next f [] i lt = absurd (omega (arith, lt))
@@ -205,15 +209,13 @@ entries_more s x cells bounds n entries entry h last = record {
   ];
 }
 
--- The first groups have their entries behind what was there; counts and walk are those of the cells before the last
--- one's bound.
-pub record Stands (s : Shape) (streams : ColumnStreams) (cells : List Cell) (bounds : List ℕ) (placed : PlacedStreams) (group at : ℕ) (old new : List ℕ) (counts : Counts) (walk : Walk) : Type 0 where
-  pub begun : at ≤ bound_at (length cells) bounds group
+-- The first groups have their entries behind what was there; counts and walk are those of the cells before the next one.
+pub record Stands (s : Shape) (streams : ColumnStreams) (cells : List Cell) (bounds : List ℕ) (placed : PlacedStreams) (group : ℕ) (old new : List ℕ) (counts : Counts) (walk : Walk) : Type 0 where
   pub entries : List RowIndexEntry
   pub are : (x : Streams) → AreStreams x streams → AreEntries s x cells bounds group entries
   pub added : AreAdded entries old new
-  pub counted : AreCounted counts (take at cells)
-  pub walked : WalkedBefore (runs placed.present) (runs placed.own) walk (take at cells)
+  pub counted : AreCounted counts (before_group cells bounds group)
+  pub walked : WalkedBefore (runs placed.present) (runs placed.own) walk (before_group cells bounds group)
 
 -- the column's streams spell the cells
 abbrev pub Spelled : Shape → ColumnStreams → List Cell → Type 0
@@ -254,18 +256,6 @@ walk_begins s streams cells placed w h p wp wo =
       in_own = at_start (runs placed.own) w.own 0 wo (starts_before (runs placed.own) 0 0 there.in_own);
     }
 
-pub stands_none : (s : Shape) (streams : ColumnStreams) (cells : List Cell) (bounds : List ℕ) (placed : PlacedStreams) (old : List ℕ) (k : Counts) (w : Walk) → Spelled s streams cells → Placed s streams placed
-    → (k.cells ≡ 0) × (k.values ≡ 0) × (k.octets ≡ 0) → w.present ≡ start_of_stream → w.own ≡ start_of_stream
-    → Stands s streams cells bounds placed 0 0 old old k w
-stands_none s streams cells bounds placed old k w h p zeros wp wo = record {
-  begun = omega arith;
-  entries = [];
-  are = λ x h. record { counted = refl; each = λ g e at. absurd cc };
-  added = none_added old;
-  counted = record { cells_are = zeros.0; values_are = zeros.1; octets_are = omega (arith, zeros.2) };
-  walked = walk_begins s streams cells placed w h p wp wo;
-}
-
 -- counts of the cells before a group
 pub counted_to : (cells : List Cell) (at start : ℕ) (k m : Counts) (group : List Cell) → at ≤ start → group ≡ take (start - at) (drop at cells) → AreCounted k (take at cells)
     → m.cells ≡ k.cells + length group → m.values ≡ k.values + length (values group) → m.octets ≡ min most (k.octets + octets group) → AreCounted m (take start cells)
@@ -282,24 +272,75 @@ walked_to present own walk cells at start le h =
       in_own = later_before own walk.own (length (values (take at cells))) (length (values (take start cells))) (omega (arith, ap (λ cs. length (values cs)) e, values_more (take at cells) more)) h.in_own;
     }
 
-pub stands_more : (s : Shape) (streams : ColumnStreams) (cells : List Cell) (bounds : List ℕ) (placed : PlacedStreams) (group at start : ℕ) (old mid new : List ℕ) (k m : Counts) (w v : Walk) (told : Stat)
-    → AreBounds (length cells) bounds → Placed s streams placed → Stands s streams cells bounds placed group at old mid k w → start ≡ bound_at (length cells) bounds group
-    → AreCounted m (take start cells) → WalkedBefore (runs placed.present) (runs placed.own) v (take start cells)
-    → told ≡ stat (kind_of s) (group_of cells bounds group)
-    → Adds (IsEntryText (runs placed.present) (lent_bytes placed.content) (runs placed.own) (take start cells) told) mid new
-    → Stands s streams cells bounds placed (group + 1) start old new m v
-stands_more s streams cells bounds placed group at start old mid new k m w v told b p h st counted walked says put =
-    let text = put.1 in
+-- what is counted of what a column says of cells is counted of the cells
+pub counted_own : (k m : Counts) (front : List Cell) (owns : List Own) (cells : List Cell) → AreOwn owns cells → AreCounted k front
+    → m.cells ≡ k.cells + length (own_cells owns) → m.values ≡ k.values + length (values (own_cells owns)) → m.octets ≡ min most (k.octets + octets (own_cells owns)) → AreCounted m (front ++ cells)
+counted_own k m front owns cells own h c v o =
+    counted_more k m front cells h
+    (c ∙ ap (λ (n : ℕ). k.cells + n) (ap length own ∙ length-map cells childless))
+    (v ∙ ap (λ (n : ℕ). k.values + n) (ap (λ (cs : List Cell). length (values cs)) own ∙ values_many cells))
+    (o ∙ ap (λ (n : ℕ). min most (k.octets + n)) (ap octets own ∙ octets_many cells))
+
+-- a group's cells come behind those before it
+pub group_behind : (cells : List Cell) (bounds : List ℕ) (group : ℕ) → AreBounds (length cells) bounds → before_group cells bounds (group + 1) ≡ before_group cells bounds group ++ group_of cells bounds group
+group_behind cells bounds group rise =
+    let start = bound_at (length cells) bounds group in
+    let end = bound_at (length cells) bounds (group + 1) in
+    cells_between cells start end (bound_up (length cells) bounds group rise)
+    ∙ ap (λ (own : List Cell). take start cells ++ own) (group_between cells bounds group start end rise refl refl)
+
+-- what a column says of the cells before the first group
+pub own_front : (owns part : List Own) (cells : List Cell) (bounds : List ℕ) (first : ℕ) → AreOwn owns cells → own_cells part ≡ take (first - 0) (drop 0 (own_cells owns)) → first ≡ bound_at (length owns) bounds 0
+    → AreOwn part (before_group cells bounds 0)
+own_front owns part cells bounds first own is at =
+    let all : first - 0 ≡ first = omega arith in
+    let e : first - 0 ≡ bound_at (length cells) bounds 0 = all ∙ at ∙ ap (λ (n : ℕ). bound_at n bounds 0) (own_count owns cells own) in
+    subst (λ (n : ℕ). AreOwn part (take n cells)) e (own_part owns part cells (first - 0) 0 own is)
+
+-- and of a group's
+pub own_group : (owns part : List Own) (cells : List Cell) (bounds : List ℕ) (group end : ℕ) → AreOwn owns cells → AreBounds (length owns) bounds → group < length bounds
+    → own_cells part ≡ take (end - get_or bounds group 0) (drop (get_or bounds group 0) (own_cells owns)) → end ≡ bound_at (length owns) bounds (group + 1) → AreOwn part (group_of cells bounds group)
+own_group owns part cells bounds group end own rise lt is at =
+    let long = own_count owns cells own in
+    let start = get_or bounds group 0 in
+    let there : AreBounds (length cells) bounds = subst (λ (n : ℕ). AreBounds n bounds) long rise in
+    let last : end ≡ bound_at (length cells) bounds (group + 1) = at ∙ ap (λ (n : ℕ). bound_at n bounds (group + 1)) long in
+    subst (λ (cs : List Cell). AreOwn part cs) (group_between cells bounds group start end there (bound_read (length cells) bounds group lt) last) (own_part owns part cells (end - start) start own is)
+
+-- no group yet: the cells before the first one are counted
+pub stands_none : (s : Shape) (streams : ColumnStreams) (owns part : List Own) (cells : List Cell) (bounds : List ℕ) (placed : PlacedStreams) (old : List ℕ) (k m : Counts) (w : Walk) → AreSpelledOwn s streams owns cells → Placed s streams placed
+    → AreOwn part (before_group cells bounds 0) → (k.cells ≡ 0) × (k.values ≡ 0) × (k.octets ≡ 0)
+    → m.cells ≡ k.cells + length (own_cells part) → m.values ≡ k.values + length (values (own_cells part)) → m.octets ≡ min most (k.octets + octets (own_cells part))
+    → w.present ≡ start_of_stream → w.own ≡ start_of_stream → Stands s streams cells bounds placed 0 old old m w
+stands_none s streams owns part cells bounds placed old k m w h p own zeros c v o wp wo =
+    let nothing : AreCounted k [] = record { cells_are = zeros.0; values_are = zeros.1; octets_are = omega (arith, zeros.2) } in
     record {
-      begun = omega (arith, bound_up (length cells) bounds group b, st);
+      entries = [];
+      are = λ x h. record { counted = refl; each = λ g e at. absurd cc };
+      added = none_added old;
+      counted = counted_own k m [] part (before_group cells bounds 0) own nothing c v o;
+      walked = walked_to (runs placed.present) (runs placed.own) w cells 0 (bound_at (length cells) bounds 0) (omega arith) (walk_begins s streams cells placed w h.spelled p wp wo);
+    }
+
+pub stands_more : (s : Shape) (streams : ColumnStreams) (part : List Own) (cells : List Cell) (bounds : List ℕ) (placed : PlacedStreams) (group : ℕ) (old mid new : List ℕ) (k m : Counts) (w v : Walk) (told : Stat)
+    → AreBounds (length cells) bounds → Placed s streams placed → Stands s streams cells bounds placed group old mid k w → AreOwn part (group_of cells bounds group)
+    → m.cells ≡ k.cells + length (own_cells part) → m.values ≡ k.values + length (values (own_cells part)) → m.octets ≡ min most (k.octets + octets (own_cells part))
+    → WalkedBefore (runs placed.present) (runs placed.own) v (before_group cells bounds group)
+    → told ≡ stat (kind_of s) (group_of cells bounds group)
+    → Adds (IsEntryText (runs placed.present) (lent_bytes placed.content) (runs placed.own) (before_group cells bounds group) told) mid new
+    → Stands s streams cells bounds placed (group + 1) old new m v
+stands_more s streams part cells bounds placed group old mid new k m w v told b p h own cs vs os walked says put =
+    let text = put.1 in
+    let at = bound_at (length cells) bounds group in
+    record {
       entries = h.entries ++ text.entry ∷ [];
       are = λ x is. entries_more s x cells bounds group h.entries text.entry (h.are x is) (record {
-        places = subst (λ (n : ℕ). AreWrittenPlaces s x (take n cells) text.entry.positions) st (written_in s x placed (take start cells) text.entry.positions (p x is) text.places);
+        places = written_in s x placed (take at cells) text.entry.positions (p x is) text.places;
         statistics = text.statistics ∙ ap (λ (t : Stat). Some (message_of t)) says;
       });
       added = one_added h.entries text.entry old mid new put.0 h.added text.bounded text.text_is put.2;
-      counted = counted;
-      walked = walked;
+      counted = subst (λ (ys : List Cell). AreCounted m ys) (sym (group_behind cells bounds group b)) (counted_own k m (take at cells) part (group_of cells bounds group) own h.counted cs vs os);
+      walked = walked_to (runs placed.present) (runs placed.own) v cells at (bound_at (length cells) bounds (group + 1)) (bound_up (length cells) bounds group b) walked;
     }
 
 -- ---- the cells of a group

@@ -1,6 +1,7 @@
 pub mod StreamPlaces
 pub mod ColumnPlaces
 pub mod EntryTexts
+pub mod OwnLemmas
 pub mod Groups
 pub mod StatWhole
 pub mod WrittenIndex

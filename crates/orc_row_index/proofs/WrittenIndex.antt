@@ -45,7 +45,7 @@ entries_whole s x cells bounds n entries fit few h =
 
 -- ---- one text
 
-same_entries : (a b : List RowIndexEntry) → length a ≡ length b → ((g : ℕ) (x y : RowIndexEntry) → slice_get a g ≡ Some x → slice_get b g ≡ Some y → x ≡ y) → a ≡ b
+pub same_entries : (a b : List RowIndexEntry) → length a ≡ length b → ((g : ℕ) (x y : RowIndexEntry) → slice_get a g ≡ Some x → slice_get b g ≡ Some y → x ≡ y) → a ≡ b
 same_entries [] [] l h = refl
 same_entries [] (y ∷ b) l h = absurd (omega (arith, l))
 same_entries (x ∷ a) [] l h = absurd (omega (arith, l))
@@ -54,7 +54,7 @@ same_entries (x ∷ a) (y ∷ b) l h =
     let later = same_entries a b (omega (arith, l)) (λ g u v p q. h (suc g) u v p q) in
     λ i. first i ∷ later i
 
-one_entry : (s : Shape) (x : Streams) (before group : List Cell) (a b : RowIndexEntry) → IsWrittenEntry s x before group a → IsWrittenEntry s x before group b → a ≡ b
+pub one_entry : (s : Shape) (x : Streams) (before group : List Cell) (a b : RowIndexEntry) → IsWrittenEntry s x before group a → IsWrittenEntry s x before group b → a ≡ b
 one_entry s x before group a b h k =
     let p = one_places s x before a.positions b.positions h.places k.places in
     let q : a.statistics ≡ b.statistics = h.statistics ∙ sym k.statistics in

@@ -3,5 +3,5 @@ pub mod Places
 pub mod Bounds
 pub mod RowIndex
 pub mod Walking
-pub mod GroupStats
+pub mod OwnCells
 pub mod EntryText

@@ -1,8 +1,9 @@
 //! Some of a column's cells, from one place to another.
 ghost use Rattle.std.specs.Prelude.{◌≡◌, ◌-◌, ◌≤◌, take, drop, length};
 ghost use Rattle.orc_types.specs.Lent.{lent_cells};
+ghost use Rattle.orc_row_index.specs.OwnCells.{own_cells};
 
-use orc_types::Lent;
+use orc_types::{Lent, Own};
 
 /// The cells from one place to another.
 pub fn cells_between<'c, 'r, 'a>(
@@ -17,4 +18,13 @@ pub fn cells_between<'c, 'r, 'a>(
     ensures { lent_cells result.now ≡ take (end - start) (drop start (lent_cells cells.now)) }
 {
     &cells[start..end]
+}
+
+/// The same of cells as their own column says them.
+pub(crate) fn owns_between<'c, 'r>(owns: &'c [Own<'r>], start: usize, end: usize) -> &'c [Own<'r>]
+    requires ordered { start ≤ end }
+    requires there { end ≤ length owns.now }
+    ensures { own_cells result.now ≡ take (end - start) (drop start (own_cells owns.now)) }
+{
+    &owns[start..end]
 }

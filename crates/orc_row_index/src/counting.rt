@@ -3,6 +3,7 @@ ghost use Rattle.std.specs.Prelude.{◌≡◌, ◌+◌, ◌^◌, ◌<◌, ◌∷
 ghost use Rattle.orc_types.specs.Cells.{values};
 ghost use Rattle.orc_types.specs.Lent.{lent_cells};
 ghost use Rattle.orc_types.specs.Own.{own_cell};
+ghost use Rattle.orc_row_index.specs.OwnCells.{own_cells};
 ghost use Rattle.orc_row_index.specs.Places.{octets, octets_in};
 ghost use Rattle.orc_row_index.specs.Walking.{most};
 
@@ -61,6 +62,21 @@ pub fn counts_after(before: Counts, cells: &[Lent<'_, '_>]) -> Counts
     let mut counts = before;
     for cell in cells {
         counts = counts.add_own(own_of(cell.0));
+    }
+    counts
+}
+
+/// The same of cells as their own column says them.
+pub(crate) fn counts_behind(before: Counts, owns: &[Own<'_>]) -> Counts
+    requires cells { before.cells + length owns.now < 2 ^ 64 }
+    requires values { before.values + length owns.now < 2 ^ 64 }
+    ensures cells { result.cells ≡ before.cells + length (own_cells owns.now) }
+    ensures values { result.values ≡ before.values + length (values (own_cells owns.now)) }
+    ensures octets { result.octets ≡ min most (before.octets + octets (own_cells owns.now)) }
+{
+    let mut counts = before;
+    for own in owns {
+        counts = counts.add_own(*own);
     }
     counts
 }

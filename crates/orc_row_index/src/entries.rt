@@ -1,48 +1,64 @@
 //! The entries of a column's row index, group by group, and the statistic of its cells.
-ghost use Rattle.std.specs.Prelude.{◌≡◌, ◌<◌, length, IfOk, OnOk};
+ghost use Rattle.std.specs.Prelude.{◌≡◌, List, length, IfOk, OnOk};
 ghost use Rattle.orc_wire.specs.CanonicalText.{KeepsFront};
-ghost use Rattle.orc_types.specs.Fits.{RowsFit};
-ghost use Rattle.orc_types.specs.Lent.{lent_cells};
+ghost use Rattle.orc_types.specs.Cells.{Cell};
 ghost use Rattle.orc_types.specs.Views.{shape};
 ghost use Rattle.orc_stats.specs.Kinds.{kind_of};
 ghost use Rattle.orc_stats.specs.Statistics.{stat};
 ghost use Rattle.orc_column_reader.specs.Starting.{AreStreams};
-ghost use Rattle.orc_column_reader.specs.Stripe.{Streams, IsColumn, cell_limit};
+ghost use Rattle.orc_column_reader.specs.Stripe.{Streams};
 ghost use Rattle.orc_row_index.specs.Bounds.{AreBounds};
-ghost use Rattle.orc_row_index.specs.GroupStats.{AreGroupStats};
+ghost use Rattle.orc_row_index.specs.OwnCells.{AreOwn, AreSpelledOwn};
 ghost use Rattle.orc_row_index.specs.Places.{Adds};
 ghost use Rattle.orc_row_index.specs.RowIndex.{IsWrittenIndex};
 
-use crate::between::cells_between;
-use crate::counting::counts_after;
+use crate::between::owns_between;
+use crate::counting::counts_behind;
 use crate::counts::Counts;
 use crate::entry_text::put_entry;
-use crate::group_stats::{GroupStats, group_stats};
+use crate::group_bounds::{group_end, group_start};
 use crate::placed::placed_streams;
+use crate::tallies::{closed, tally_of};
 use crate::walk::Walk;
 use orc_column_reader::starting::ColumnStreams;
-use orc_stats::{Stat, StatKind};
-use orc_types::{Lent, Tree};
+use orc_stats::{Bins, Bools, Children, Counted, Dates, Ints, Plain, Stat, StatKind, Tally, Texts};
+use orc_types::{Own, Tree};
 use std::alloc::{AllocError, Global};
 
-/// The statistic of a column's cells, by its type, and that of each group of them.
-fn column_stats(
+/// Adds the entries, counted by one kind of tally: the statistic of all cells is joined of those of the groups, and of
+/// the cells before the first one.
+fn put_groups<'r, T: Tally<'r>>(
     alloc: Global,
     tree: &Tree,
-    cells: &[Lent<'_, '_>],
+    streams: &ColumnStreams<'_>,
+    owns: &[Own<'r>],
     bounds: &[usize],
-) -> Result<GroupStats, AllocError>
-    requires fit { RowsFit (shape tree.now) (lent_cells cells.now) }
-    requires few { length (lent_cells cells.now) < cell_limit }
-    requires bounds { AreBounds (length (lent_cells cells.now)) bounds.now }
-    ensures whole { IfOk result (λ found. found.whole ≡ stat (kind_of (shape tree.now)) (lent_cells cells.now)) }
-    ensures groups { IfOk result (λ found. AreGroupStats (kind_of (shape tree.now)) (lent_cells cells.now) bounds.now
-        (length bounds.now) found.groups.items) }
+    out: &mut Vec<u8>,
+) -> Result<Stat, AllocError>
+    requires kind { T.kind ≡ kind_of (shape tree.now) }
+    requires column { (cells : List Cell) × AreSpelledOwn (shape tree.now) streams.now owns.now cells }
+    requires bounds { AreBounds (length owns.now) bounds.now }
+    ensures index { (cells : List Cell) → AreSpelledOwn (shape tree.now) streams.now owns.now cells
+        → OnOk result ((x : Streams) → AreStreams x streams.now
+        → Adds (IsWrittenIndex (shape tree.now) x cells bounds.now) out.old.items out.new.items) }
+    ensures stat { (cells : List Cell) → AreOwn owns.now cells
+        → IfOk result (λ found. found ≡ stat (kind_of (shape tree.now)) cells) }
+    ensures front { KeepsFront out.old.items out.new.items }
 {
-    match group_stats(alloc, StatKind::of_type(tree), cells, bounds) {
-        Ok(found) => Ok(found),
-        Err(_) => Err(AllocError),
+    let placed = placed_streams(tree, streams);
+    let before = owns_between(owns, 0, group_start(bounds, 0, owns.len()));
+    let mut counts = counts_behind(Counts::none(), before);
+    let mut whole: T = tally_of(before);
+    let mut walk = Walk::start();
+    for group in 0..bounds.len() {
+        let end = group_end(bounds, group, owns.len());
+        let cells = owns_between(owns, bounds[group], end);
+        let tally: T = tally_of(cells);
+        walk = put_entry(alloc, &placed, walk, counts, &closed(alloc, &tally)?, out)?;
+        counts = counts_behind(counts, cells);
+        whole.join(&tally);
     }
+    closed(alloc, &whole)
 }
 
 /// Adds the bytes of the entries of a column's row index, one for each bound, and answers the statistic of its cells,
@@ -53,28 +69,30 @@ pub(crate) fn put_entries(
     alloc: Global,
     tree: &Tree,
     streams: &ColumnStreams<'_>,
-    cells: &[Lent<'_, '_>],
+    owns: &[Own<'_>],
     bounds: &[usize],
     out: &mut Vec<u8>,
 ) -> Result<Stat, AllocError>
-    requires fit { RowsFit (shape tree.now) (lent_cells cells.now) }
-    requires spelled { (x : Streams) × AreStreams x streams.now × IsColumn (shape tree.now) x (lent_cells cells.now) }
-    requires bounds { AreBounds (length (lent_cells cells.now)) bounds.now }
-    ensures index { OnOk result ((x : Streams) → AreStreams x streams.now
-        → Adds (IsWrittenIndex (shape tree.now) x (lent_cells cells.now) bounds.now) out.old.items out.new.items) }
-    ensures stat { IfOk result (λ found. found ≡ stat (kind_of (shape tree.now)) (lent_cells cells.now)) }
+    requires column { (cells : List Cell) × AreSpelledOwn (shape tree.now) streams.now owns.now cells }
+    requires bounds { AreBounds (length owns.now) bounds.now }
+    ensures index { (cells : List Cell) → AreSpelledOwn (shape tree.now) streams.now owns.now cells
+        → OnOk result ((x : Streams) → AreStreams x streams.now
+        → Adds (IsWrittenIndex (shape tree.now) x cells bounds.now) out.old.items out.new.items) }
+    ensures stat { (cells : List Cell) → AreOwn owns.now cells
+        → IfOk result (λ found. found ≡ stat (kind_of (shape tree.now)) cells) }
     ensures front { KeepsFront out.old.items out.new.items }
 {
-    let stats = column_stats(alloc, tree, cells, bounds)?;
-    let placed = placed_streams(tree, streams);
-    let mut counts = Counts::none();
-    let mut walk = Walk::start();
-    let mut at = 0;
-    for group in 0..bounds.len() {
-        let start = bounds[group];
-        counts = counts_after(counts, cells_between(cells, at, start));
-        walk = put_entry(alloc, &placed, walk, counts, &stats.groups[group], out)?;
-        at = start;
+    match StatKind::of_type(tree) {
+        StatKind::Plain => put_groups::<Counted<Plain>>(alloc, tree, streams, owns, bounds, out),
+        StatKind::Ints => put_groups::<Counted<Ints>>(alloc, tree, streams, owns, bounds, out),
+        StatKind::Bools => put_groups::<Counted<Bools>>(alloc, tree, streams, owns, bounds, out),
+        StatKind::Dates => put_groups::<Counted<Dates>>(alloc, tree, streams, owns, bounds, out),
+        StatKind::Texts => put_groups::<Counted<Texts<'_>>>(
+            alloc, tree, streams, owns, bounds, out,
+        ),
+        StatKind::Bins => put_groups::<Counted<Bins>>(alloc, tree, streams, owns, bounds, out),
+        StatKind::Children => {
+            put_groups::<Counted<Children>>(alloc, tree, streams, owns, bounds, out)
+        }
     }
-    Ok(stats.whole)
 }

@@ -1,6 +1,5 @@
 //! The entry of a group in a row index, as it is written.
-ghost use Rattle.std.specs.Prelude.{◌≡◌, List, IfOk, OnOk};
-ghost use Rattle.orc_wire.specs.CanonicalText.{KeepsFront};
+ghost use Rattle.std.specs.Prelude.{◌≡◌, List, IfOk, OnOk, OnErr};
 ghost use Rattle.orc_types.specs.Cells.{Cell};
 ghost use Rattle.orc_stats.specs.Messages as spec;
 ghost use Rattle.orc_row_index.specs.EntryText.{IsEntryText};
@@ -11,13 +10,17 @@ use crate::counts::Counts;
 use crate::placed::{PlacedStreams, put_places};
 use crate::walk::Walk;
 use orc_stats::Stat;
-use orc_wire::{ColumnStats, Items, Message, RowIndexEntry, RowIndexMsg};
+use orc_wire::{ColumnStats, Items, Message, RowIndexEntry};
 use std::alloc::{AllocError, Global};
+
+/// The number of an entry's field in a row index.
+const ENTRY: u32 = 1;
 
 /// How many numbers the positions of a group are at most: three of PRESENT, and three of booleans.
 const MOST_POSITIONS: usize = 6;
 
 /// The message of a statistic.
+#[inline(always)]
 fn message_of(alloc: Global, stat: &Stat) -> Result<ColumnStats, AllocError>
     ensures { IfOk result (λ message. message ≡ spec.message_of stat.now) }
 {
@@ -30,9 +33,10 @@ fn message_of(alloc: Global, stat: &Stat) -> Result<ColumnStats, AllocError>
 /// Adds the bytes of a group's entry to those of a column's row index (ORC specification, "Row Group Index"): the
 /// positions behind the cells that are counted, and the group's statistic. Answers how far the streams are walked then.
 ///
-/// The streams have values for these cells, and the walk has come no further: conditions.
+/// The counts are of cells whose values the streams have, and the walk has come no further than these: conditions.
 ///
-/// Refusal: want of memory, behind which a part of the bytes may stand.
+/// Refusal: want of memory, which leaves `out` as it was.
+#[inline(always)]
 pub fn put_entry(
     alloc: Global,
     placed: &PlacedStreams<'_>,
@@ -55,20 +59,16 @@ pub fn put_entry(
     ensures walked { IfOk result (λ walk. (before : List Cell)
         → AreCounted counts before
         → WalkedBefore (runs placed.now.present) (runs placed.now.own) walk before) }
-    // What the Vec held stays in front, after a refusal too.
-    ensures front { KeepsFront out.old.items out.new.items }
+    // Where memory is refused, nothing is added.
+    ensures unchanged { OnErr result (out.new.items ≡ out.old.items) }
 {
     let mut positions = Vec::with_capacity(alloc, MOST_POSITIONS)?;
     let walk = put_places(placed, from, counts, &mut positions)?;
-    let mut entries = Vec::with_capacity(alloc, 1)?;
-    entries.push(RowIndexEntry {
+    let entry = RowIndexEntry {
         positions: Items::from_vec(positions),
         statistics: Some(message_of(alloc, stat)?),
-    })?;
-    let index = RowIndexMsg {
-        entries: Items::from_vec(entries),
     };
-    match index.put_members(out) {
+    match entry.put_within(ENTRY, out) {
         Ok(()) => Ok(walk),
         Err(_) => Err(AllocError),
     }

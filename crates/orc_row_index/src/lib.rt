@@ -8,11 +8,11 @@ mod counts;
 mod entries;
 mod entry_text;
 mod group_bounds;
-mod group_stats;
 mod laws;
 mod placed;
 mod row_index;
 mod run_bytes;
+mod tallies;
 mod walk;
 
 pub use between::cells_between;

@@ -56,6 +56,7 @@ impl Stat {
     /// kind, where a part is known.
     ///
     /// Refusal: `OutOfMemory`, only where a text is known, or how many values are true.
+    #[inline(always)]
     pub fn put(&self, alloc: Global) -> Result<ColumnStats, StatFault>
         // What is put has the count, the null and the record of the statistic's kind, where a part
         // is known, and no other record.

@@ -1,22 +1,21 @@
 -- The values among cells of a kind stand for those cells, where these fit the kind.
-use Rattle.std.proofs.Common.{◌≡◌, ℕ, suc, ◌-◌, ◌<◌, ◌^◌, ◌&&◌, nat_lt, ℤ, pos, negsuc, Bool, true, false, Option, List, [], ◌∷◌, ◌++◌, map, length, refl, sym, ap, ◌∙◌, arith, ltb-true, lt-ltb}
+use Rattle.std.proofs.Common.{◌≡◌, ℕ, suc, ◌-◌, ◌<◌, ◌^◌, ◌&&◌, nat_lt, ℤ, pos, negsuc, Bool, true, false, Option, List, [], ◌∷◌, ◌++◌, length, refl, sym, ap, ◌∙◌, arith, ltb-true, lt-ltb}
 use Rattle.std.specs.List.{flat_map}
 use Rattle.std.proofs.lemmas.List.{length-map}
 use Rattle.orc_types.specs.declared.kind.Scalar.{Scalar}
 use Rattle.orc_types.specs.declared.kind.Scalar.TheVariants as kind
 use Rattle.orc_types.specs.Kinds.{is_kind}
-use Rattle.orc_types.specs.Shapes.{Shape, scalar, list_of, map_of}
-use Rattle.orc_types.specs.Cells.{bool, int, date, text, bytes, Cell, null, leaf, list, struct, pairs, cells_of, list_of_cells, list_of_pairs, pairs_of, parts, pairs_in, values}
+use Rattle.orc_types.specs.Shapes.{scalar}
+use Rattle.orc_types.specs.Cells.{bool, int, date, text, bytes, Cell, null, leaf, list, struct, pairs, values}
 use Rattle.orc_types.specs.Fits.{signed_fits, RowsFit}
 use Rattle.orc_types.specs.Lent.{lent_cells}
-use Rattle.orc_types.specs.Views.{paired, view, views}
+use Rattle.orc_types.specs.Views.{view, views}
 use Rattle.orc_types.specs.declared.lent.Lent.{Lent}
 use Rattle.orc_types.specs.declared.value.Value.{Value}
-use Rattle.orc_types.specs.declared.value.MapPair.{MapPair}
 use Rattle.orc_stripe_writer.specs.declared.cell_values.ByteString.{ByteString}
-use Rattle.orc_column_reader.specs.Spellings.{AllStand, size, joined}
+use Rattle.orc_column_reader.specs.Spellings.{AllStand, joined}
 use Rattle.orc_column_reader.specs.Columns.{IsBool, IsByte, IsInt, IsDate, IsText, IsBinary}
-use Rattle.orc_stripe_writer.specs.CellValues.{bools_in, ints_in, number_bytes_in, all_bytes_in, sizes_in, byte_of}
+use Rattle.orc_stripe_writer.specs.CellValues.{bools_in, ints_in, number_bytes_in, all_bytes_in, byte_of}
 use Rattle.orc_stripe_writer.specs.WordList.{byte_strings}
 
 -- a kind of whole numbers
@@ -127,35 +126,9 @@ binaries_stand o (list xs ∷ cs) h = let wrong = h.0 in cc
 binaries_stand o (struct xs ∷ cs) h = let wrong = h.0 in cc
 binaries_stand o (pairs ps ∷ cs) h = let wrong = h.0 in cc
 
--- how long the lists are
-pub list_sizes : (s : Shape) (o : List ℕ) (cs : List Cell) → RowsFit (list_of s o) cs → sizes_in cs ≡ map (λ v. size (parts v)) (values cs)
-list_sizes s o [] h = refl
-list_sizes s o (null ∷ cs) h = list_sizes s o cs h.1
-list_sizes s o (leaf a ∷ cs) h = let wrong = h.0 in cc
-list_sizes s o (list xs ∷ cs) h = ap (λ ys. pos (length (parts (list xs))) ∷ ys) (list_sizes s o cs h.1)
-list_sizes s o (struct xs ∷ cs) h = let wrong = h.0 in cc
-list_sizes s o (pairs ps ∷ cs) h = let wrong = h.0 in cc
-
--- how many pairs the maps have
-pub map_sizes : (k v : Shape) (o : List ℕ) (cs : List Cell) → RowsFit (map_of k v o) cs → sizes_in cs ≡ map (λ m. size (pairs_in m)) (values cs)
-map_sizes k v o [] h = refl
-map_sizes k v o (null ∷ cs) h = map_sizes k v o cs h.1
-map_sizes k v o (leaf a ∷ cs) h = let wrong = h.0 in cc
-map_sizes k v o (list xs ∷ cs) h = let wrong = h.0 in cc
-map_sizes k v o (struct xs ∷ cs) h = let wrong = h.0 in cc
-map_sizes k v o (pairs ps ∷ cs) h = ap (λ ys. pos (length (pairs_in (pairs ps))) ∷ ys) (map_sizes k v o cs h.1)
-
 pub joined_is : (ps : List ByteString) → joined (byte_strings ps) ≡ flat_map (λ (p : ByteString). p.0.now) ps
 joined_is [] = refl
 joined_is (p ∷ ps) = ap (λ bs. p.0.now ++ bs) (joined_is ps)
-
-pub as_long : (rs : List (Option Value)) → length (list_of_cells (cells_of (views rs))) ≡ length rs
-as_long [] = refl
-as_long (r ∷ rs) = ap suc (as_long rs)
-
-pub as_many_pairs : (ps : List MapPair) → length (list_of_pairs (pairs_of (map paired ps))) ≡ length ps
-as_many_pairs [] = refl
-as_many_pairs (p ∷ ps) = ap suc (as_many_pairs ps)
 
 pub views_long : (rs : List (Option Value)) → length (views rs) ≡ length rs
 views_long [] = refl

@@ -1,4 +1,5 @@
 pub mod CellValuesLemmas
+pub mod OwnValues
 pub mod WordListLemmas
 pub mod EachOnceLemmas
 pub mod EntriesLemmas

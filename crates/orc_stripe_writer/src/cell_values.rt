@@ -4,15 +4,15 @@ ghost use Rattle.std.specs.List.{list_all};
 ghost use Rattle.orc_rle.specs.Values.{InRange, AllInRange};
 ghost use Rattle.orc_rle.specs.declared.sign.Sign.TheVariants.{Signed, Unsigned};
 ghost use Rattle.orc_types.specs.Cells.{is_value};
-ghost use Rattle.orc_types.specs.Views.{view, cell_of_value};
-ghost use Rattle.orc_types.specs.Lent.{lent_cells};
+ghost use Rattle.orc_types.specs.Own.{own_cell};
 ghost use Rattle.orc_column_reader.specs.Spellings.{size, joined};
 ghost use Rattle.orc_stats.specs.Statistics as stats;
+ghost use Rattle.orc_row_index.specs.OwnCells.{own_cells};
 ghost use Rattle.orc_stripe_writer.specs.CellValues as spec;
 ghost use Rattle.orc_stripe_writer.specs.CellValues.{int_in, bytes_in, size_in, bools_in, ints_in, number_bytes_in, all_bytes_in, sizes_in};
 ghost use Rattle.orc_stripe_writer.specs.WordList.{byte_strings};
 
-use orc_types::{Lent, Row, Value};
+use orc_types::Own;
 use std::alloc::{AllocError, Global};
 
 /// The bytes of a text, or of a byte string, that are lent: one element of a slice.
@@ -20,11 +20,11 @@ use std::alloc::{AllocError, Global};
 pub(crate) struct ByteString<'r>(pub(crate) &'r [u8]);
 
 /// Whether no cell is null.
-pub(crate) fn are_all_values(cells: &[Lent<'_, '_>]) -> bool
-    ensures { result ≡ list_all (λ m. m) (map is_value (lent_cells cells.now)) }
+pub(crate) fn are_all_values(owns: &[Own<'_>]) -> bool
+    ensures { result ≡ list_all (λ m. m) (map is_value (own_cells owns.now)) }
 {
-    for cell in cells {
-        if cell.0.is_none() {
+    for own in owns {
+        if own.is_null() {
             return false;
         }
     }
@@ -32,68 +32,58 @@ pub(crate) fn are_all_values(cells: &[Lent<'_, '_>]) -> bool
 }
 
 /// Which cells are not null.
-pub(crate) fn marks_in(alloc: Global, cells: &[Lent<'_, '_>]) -> Result<Vec<bool>, AllocError>
-    ensures { IfOk result (λ marks. marks.items ≡ map is_value (lent_cells cells.now)) }
+pub(crate) fn marks_in(alloc: Global, owns: &[Own<'_>]) -> Result<Vec<bool>, AllocError>
+    ensures { IfOk result (λ marks. marks.items ≡ map is_value (own_cells owns.now)) }
 {
-    let mut marks = Vec::with_capacity(alloc, cells.len())?;
-    for cell in cells {
-        marks.push(cell.0.is_some())?;
+    let mut marks = Vec::with_capacity(alloc, owns.len())?;
+    for own in owns {
+        marks.push(!own.is_null())?;
     }
     Ok(marks)
 }
 
 /// The truth value in a cell.
-fn bool_of(row: &Row<'_>) -> Option<bool>
-    ensures { result ≡ stats.bool_of (view row.now) }
+fn bool_of(own: Own<'_>) -> Option<bool>
+    ensures { result ≡ stats.bool_of (own_cell own.entry) }
 {
-    match row {
-        Some(Value::Bool(bit)) => Some(*bit),
+    match own {
+        Own::Bool(bit) => Some(bit),
         _ => None,
     }
 }
 
 /// The truth values among the cells.
-pub(crate) fn bools_of(alloc: Global, cells: &[Lent<'_, '_>]) -> Result<Vec<bool>, AllocError>
-    ensures { IfOk result (λ bools. bools.items ≡ bools_in (lent_cells cells.now)) }
+pub(crate) fn bools_of(alloc: Global, owns: &[Own<'_>]) -> Result<Vec<bool>, AllocError>
+    ensures { IfOk result (λ bools. bools.items ≡ bools_in (own_cells owns.now)) }
 {
-    let mut bools = Vec::with_capacity(alloc, cells.len())?;
-    for cell in cells {
-        if let Some(bit) = bool_of(cell.0) {
+    let mut bools = Vec::with_capacity(alloc, owns.len())?;
+    for own in owns {
+        if let Some(bit) = bool_of(*own) {
             bools.push(bit)?;
         }
     }
     Ok(bools)
 }
 
-/// A whole number, or a date's day.
-fn int_of_value(value: &Value<'_>) -> Option<i64>
-    ensures { result ≡ int_in (cell_of_value value.now) }
+/// The whole number, or the date's day, in a cell.
+fn int_of(own: Own<'_>) -> Option<i64>
+    ensures { result ≡ int_in (own_cell own.entry) }
 {
-    match value {
-        Value::Int(number) => Some(*number),
-        Value::Date(day) => Some(i64::from(*day)),
+    match own {
+        Own::Int(number) => Some(number),
+        Own::Date(day) => Some(i64::from(day)),
         _ => None,
     }
 }
 
-/// The whole number, or the date's day, in a cell.
-fn int_of(row: &Row<'_>) -> Option<i64>
-    ensures { result ≡ int_in (view row.now) }
-{
-    match row {
-        Some(value) => int_of_value(value),
-        None => None,
-    }
-}
-
 /// The whole numbers, or the days of dates, among the cells.
-pub(crate) fn ints_of(alloc: Global, cells: &[Lent<'_, '_>]) -> Result<Vec<i64>, AllocError>
-    ensures ints { IfOk result (λ ints. ints.items ≡ ints_in (lent_cells cells.now)) }
+pub(crate) fn ints_of(alloc: Global, owns: &[Own<'_>]) -> Result<Vec<i64>, AllocError>
+    ensures ints { IfOk result (λ ints. ints.items ≡ ints_in (own_cells owns.now)) }
     ensures in_range { IfOk result (λ ints. AllInRange Signed ints.items) }
 {
-    let mut ints = Vec::with_capacity(alloc, cells.len())?;
-    for cell in cells {
-        if let Some(number) = int_of(cell.0) {
+    let mut ints = Vec::with_capacity(alloc, owns.len())?;
+    for own in owns {
+        if let Some(number) = int_of(*own) {
             ints.push(number)?;
         }
     }
@@ -109,49 +99,39 @@ fn byte_of(number: i64) -> u8
 }
 
 /// The bytes that stand for the whole numbers among the cells.
-pub(crate) fn number_bytes_of(alloc: Global, cells: &[Lent<'_, '_>]) -> Result<Vec<u8>, AllocError>
-    ensures { IfOk result (λ bytes. bytes.items ≡ number_bytes_in (lent_cells cells.now)) }
+pub(crate) fn number_bytes_of(alloc: Global, owns: &[Own<'_>]) -> Result<Vec<u8>, AllocError>
+    ensures { IfOk result (λ bytes. bytes.items ≡ number_bytes_in (own_cells owns.now)) }
 {
-    let mut bytes = Vec::with_capacity(alloc, cells.len())?;
-    for cell in cells {
-        if let Some(number) = int_of(cell.0) {
+    let mut bytes = Vec::with_capacity(alloc, owns.len())?;
+    for own in owns {
+        if let Some(number) = int_of(*own) {
             bytes.push(byte_of(number))?;
         }
     }
     Ok(bytes)
 }
 
-/// A text's bytes, or bytes.
-fn bytes_of_value<'v>(value: &'v Value<'_>) -> Option<&'v [u8]>
-    ensures { option_map (λ b. b.now) result ≡ bytes_in (cell_of_value value.now) }
-{
-    match value {
-        Value::Text(text) => Some(text.as_str().as_bytes()),
-        Value::Bytes(bytes) => Some(bytes.as_slice()),
-        _ => None,
-    }
-}
-
 /// The bytes of the text, or the bytes, in a cell.
-fn bytes_of<'r>(row: &'r Row<'_>) -> Option<&'r [u8]>
-    ensures { option_map (λ b. b.now) result ≡ bytes_in (view row.now) }
+fn bytes_of<'r>(own: Own<'r>) -> Option<&'r [u8]>
+    ensures { option_map (λ b. b.now) result ≡ bytes_in (own_cell own.entry) }
 {
-    match row {
-        Some(value) => bytes_of_value(value),
-        None => None,
+    match own {
+        Own::Text(text) => Some(text.as_bytes()),
+        Own::Bytes(bytes) => Some(bytes),
+        _ => None,
     }
 }
 
 /// The texts, or the byte strings, among the cells.
 pub(crate) fn byte_strings_of<'r>(
     alloc: Global,
-    cells: &[Lent<'r, '_>],
+    owns: &[Own<'r>],
 ) -> Result<Vec<ByteString<'r>>, AllocError>
-    ensures { IfOk result (λ strings. byte_strings strings.items ≡ all_bytes_in (lent_cells cells.now)) }
+    ensures { IfOk result (λ strings. byte_strings strings.items ≡ all_bytes_in (own_cells owns.now)) }
 {
-    let mut strings = Vec::with_capacity(alloc, cells.len())?;
-    for cell in cells {
-        if let Some(bytes) = bytes_of(cell.0) {
+    let mut strings = Vec::with_capacity(alloc, owns.len())?;
+    for own in owns {
+        if let Some(bytes) = bytes_of(*own) {
             strings.push(ByteString(bytes))?;
         }
     }
@@ -198,27 +178,26 @@ pub(crate) fn append_byte_strings(
     Ok(())
 }
 
-/// How many elements a list has, or fields a struct, or pairs a map.
-fn size_of(row: &Row<'_>) -> Option<usize>
-    ensures { result ≡ size_in (view row.now) }
+/// How many elements a list has, or pairs a map.
+fn size_of(own: Own<'_>) -> Option<usize>
+    ensures { result ≡ size_in (own_cell own.entry) }
 {
-    match row {
-        Some(Value::List(items)) => Some(items.len()),
-        Some(Value::Struct(items)) => Some(items.len()),
-        Some(Value::Map(pairs)) => Some(pairs.len()),
-        Some(_) => Some(0),
-        None => None,
+    match own {
+        Own::List(size) => Some(size as usize),
+        Own::Map(size) => Some(size as usize),
+        Own::Null => None,
+        _ => Some(0),
     }
 }
 
 /// How many elements each list has, or pairs each map, that is not null.
-pub(crate) fn sizes_of(alloc: Global, cells: &[Lent<'_, '_>]) -> Result<Vec<i64>, AllocError>
-    ensures sizes { IfOk result (λ found. found.items ≡ sizes_in (lent_cells cells.now)) }
+pub(crate) fn sizes_of(alloc: Global, owns: &[Own<'_>]) -> Result<Vec<i64>, AllocError>
+    ensures sizes { IfOk result (λ found. found.items ≡ sizes_in (own_cells owns.now)) }
     ensures in_range { IfOk result (λ found. AllInRange Unsigned found.items) }
 {
-    let mut found = Vec::with_capacity(alloc, cells.len())?;
-    for cell in cells {
-        if let Some(size) = size_of(cell.0) {
+    let mut found = Vec::with_capacity(alloc, owns.len())?;
+    for own in owns {
+        if let Some(size) = size_of(*own) {
             found.push(number_of(size)?)?;
         }
     }

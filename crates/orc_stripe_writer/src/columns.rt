@@ -11,8 +11,9 @@ ghost use Rattle.orc_types.specs.Lent.{lent_cells};
 ghost use Rattle.orc_stats.specs.Kinds.{kind_of};
 ghost use Rattle.orc_stats.specs.Statistics.{stat};
 ghost use Rattle.orc_column_reader.specs.Starting.{AreStreams};
-ghost use Rattle.orc_column_reader.specs.Stripe.{Streams, IsColumn, cell_limit};
+ghost use Rattle.orc_column_reader.specs.Stripe.{Streams, cell_limit};
 ghost use Rattle.orc_row_index.specs.Bounds.{AreBounds};
+ghost use Rattle.orc_row_index.specs.OwnCells.{AreOwn, AreSpelledOwn};
 ghost use Rattle.orc_row_index.specs.RowIndex.{IsWrittenIndex};
 ghost use Rattle.orc_stripe_writer.specs.Firsts.{firsts_of};
 ghost use Rattle.orc_stripe_writer.specs.Groups.{bounds_of, AreGroupsFrom, ArePairGroupsFrom, AreFieldGroupsFrom};
@@ -25,11 +26,12 @@ use crate::body::Body;
 use crate::column_streams::column_streams;
 use crate::indexes::put_column_index;
 use crate::options::Options;
+use crate::own_cells::owns_of;
 use crate::put_column::put_cells;
 use orc_column_reader::starting::ColumnStreams;
-use orc_row_index::{element_bounds, field_bounds, pair_bounds};
-use orc_stats::{Stat, StatKind, of_cells};
-use orc_types::{Field, Lent, Tree};
+use orc_row_index::{element_bounds, field_bounds, pair_bounds, put_index};
+use orc_stats::Stat;
+use orc_types::{Field, Lent, Own, Tree};
 use orc_wire::Encoding;
 use std::alloc::{AllocError, Global};
 
@@ -42,58 +44,50 @@ pub(crate) struct Columns {
     pub(crate) stats: Vec<Stat>,
 }
 
-/// The statistic of a column's cells.
-fn cells_stat(alloc: Global, tree: &Tree, cells: &[Lent<'_, '_>]) -> Result<Stat, AllocError>
-    requires fit { RowsFit (shape tree.now) (lent_cells cells.now) }
-    requires few { length (lent_cells cells.now) < cell_limit }
-    ensures { IfOk result (λ found. found ≡ stat (kind_of (shape tree.now)) (lent_cells cells.now)) }
-{
-    match of_cells(alloc, StatKind::of_type(tree), cells) {
-        Ok(found) => Ok(found),
-        Err(_) => Err(AllocError),
-    }
-}
-
 /// The statistic of a column's cells, and where there is a stride the column's index is added.
 fn put_told(
     alloc: Global,
     stride: u32,
     tree: &Tree,
     streams: &ColumnStreams<'_>,
-    cells: &[Lent<'_, '_>],
+    owns: &[Own<'_>],
     bounds: &[usize],
     indexes: &mut Body,
 ) -> Result<Stat, AllocError>
-    requires fit { RowsFit (shape tree.now) (lent_cells cells.now) }
-    requires spelled { (x : Streams) × AreStreams x streams.now × IsColumn (shape tree.now) x (lent_cells cells.now) }
-    requires bounds { AreBounds (length (lent_cells cells.now)) bounds.now }
-    ensures index { OnOk result ((x : Streams) → AreStreams x streams.now
-        → AddsIndexIf stride (IsWrittenIndex (shape tree.now) x (lent_cells cells.now) bounds.now)
-        indexes.old indexes.new) }
-    ensures stat { IfOk result (λ found. found ≡ stat (kind_of (shape tree.now)) (lent_cells cells.now)) }
+    requires column { (cells : List Cell) × AreSpelledOwn (shape tree.now) streams.now owns.now cells }
+    requires bounds { AreBounds (length owns.now) bounds.now }
+    ensures index { (cells : List Cell) → AreSpelledOwn (shape tree.now) streams.now owns.now cells
+        → OnOk result ((x : Streams) → AreStreams x streams.now
+        → AddsIndexIf stride (IsWrittenIndex (shape tree.now) x cells bounds.now) indexes.old indexes.new) }
+    ensures stat { (cells : List Cell) → AreOwn owns.now cells
+        → IfOk result (λ found. found ≡ stat (kind_of (shape tree.now)) cells) }
 {
     if stride == 0 {
-        return cells_stat(alloc, tree, cells);
+        // an index of no groups has no bytes: what is left is the statistic
+        return put_index(alloc, tree, streams, owns, &[], &mut Vec::new(alloc));
     }
-    put_column_index(alloc, tree, streams, cells, bounds, indexes)
+    put_column_index(alloc, tree, streams, owns, bounds, indexes)
 }
 
-/// Adds the next column. A bound says how many of its cells come before a group.
+/// Adds the next column, of which the cells are given as it says them itself. A bound says how many of them come before a
+/// group.
 fn put_column(
     alloc: Global,
     options: &Options,
     tree: &Tree,
-    cells: &[Lent<'_, '_>],
+    owns: &[Own<'_>],
     bounds: &[usize],
     out: &mut Columns,
 ) -> Result<(), AllocError>
-    requires fit { RowsFit (shape tree.now) (lent_cells cells.now) }
-    requires few { length (lent_cells cells.now) < cell_limit }
-    requires bounds { AreBounds (length (lent_cells cells.now)) bounds.now }
-    ensures { OnOk result ((s : Shape) (rows : List Cell) (c : ℕ)
+    requires column { (cells : List Cell)
+        × AreOwn owns.now cells × RowsFit (shape tree.now) cells × (length cells < cell_limit) }
+    requires bounds { AreBounds (length owns.now) bounds.now }
+    ensures { OnOk result ((s : Shape) (rows cells : List Cell) (c : ℕ)
+        → AreOwn owns.now cells
+        → RowsFit (shape tree.now) cells
         → HasWritten options.now.rle options.now.stride s rows c out.old
         → shape_at s c ≡ shape tree.now
-        → spec.cells s c rows ≡ lent_cells cells.now
+        → spec.cells s c rows ≡ cells
         → bounds_of s c rows (firsts_of options.now.stride (length rows)) ≡ bounds.now
         → HasWritten options.now.rle options.now.stride s rows (c + 1) out.new) }
 {
@@ -102,7 +96,7 @@ fn put_column(
     };
     let start = out.body.bytes.len();
     let listed = out.body.directory.len();
-    let encoding = put_cells(alloc, options.rle(), tree, column, cells, &mut out.body)?;
+    let encoding = put_cells(alloc, options.rle(), tree, column, owns, &mut out.body)?;
     let (_, lines) = out.body.directory.split_at(listed);
     let (_, bytes) = out.body.bytes.split_at(start);
     let streams = column_streams(column, encoding, lines, bytes);
@@ -111,7 +105,7 @@ fn put_column(
         options.stride(),
         tree,
         &streams,
-        cells,
+        owns,
         bounds,
         &mut out.indexes,
     )?;
@@ -140,20 +134,21 @@ pub(crate) fn put_columns(
         → HasWritten options.now.rle options.now.stride s rows c out.old
         → HasWritten options.now.rle options.now.stride s rows (c + width (shape tree.now)) out.new) }
 {
-    put_column(alloc, options, tree, cells, bounds, out)?;
+    let owns = owns_of(alloc, cells)?;
+    put_column(alloc, options, tree, &owns, bounds, out)?;
     match tree {
         Tree::Scalar(_, _) => Ok(()),
         Tree::List(element, _) => {
             let elements = elements_of(alloc, cells)?;
-            let below = element_bounds(alloc, cells, bounds)?;
+            let below = element_bounds(alloc, &owns, bounds)?;
             put_columns(alloc, options, element, &elements, &below, out)
         }
         Tree::Map(key, value, _) => {
-            let below = pair_bounds(alloc, cells, bounds)?;
+            let below = pair_bounds(alloc, &owns, bounds)?;
             put_pairs(alloc, options, key, value, cells, &below, out)
         }
         Tree::Struct(fields, _) => {
-            let below = field_bounds(alloc, cells, bounds)?;
+            let below = field_bounds(alloc, &owns, bounds)?;
             put_fields(alloc, options, fields, cells, &below, out)
         }
     }

@@ -1,13 +1,13 @@
 //! The groups of rows that indexes tell of, and a column's index among those of a stripe.
-ghost use Rattle.std.specs.Prelude.{◌≡◌, ◌<◌, length, IfOk, OnOk};
-ghost use Rattle.orc_types.specs.Fits.{RowsFit};
+ghost use Rattle.std.specs.Prelude.{◌≡◌, ◌<◌, List, length, IfOk, OnOk};
+ghost use Rattle.orc_types.specs.Cells.{Cell};
 ghost use Rattle.orc_types.specs.Views.{shape};
-ghost use Rattle.orc_types.specs.Lent.{lent_cells};
 ghost use Rattle.orc_stats.specs.Kinds.{kind_of};
 ghost use Rattle.orc_stats.specs.Statistics.{stat};
 ghost use Rattle.orc_column_reader.specs.Starting.{AreStreams};
-ghost use Rattle.orc_column_reader.specs.Stripe.{Streams, IsColumn};
+ghost use Rattle.orc_column_reader.specs.Stripe.{Streams};
 ghost use Rattle.orc_row_index.specs.Bounds.{AreBounds};
+ghost use Rattle.orc_row_index.specs.OwnCells.{AreOwn, AreSpelledOwn};
 ghost use Rattle.orc_row_index.specs.RowIndex.{IsWrittenIndex};
 ghost use Rattle.orc_stripe_writer.specs.Firsts.{firsts_of};
 ghost use Rattle.orc_stripe_writer.specs.Groups.{starts};
@@ -17,7 +17,7 @@ use crate::body::Body;
 use orc_column_reader::starting::ColumnStreams;
 use orc_row_index::put_index;
 use orc_stats::Stat;
-use orc_types::{Lent, Tree};
+use orc_types::{Own, Tree};
 use orc_wire::StreamMsg;
 use std::alloc::{AllocError, Global};
 
@@ -56,22 +56,23 @@ pub(crate) fn put_column_index(
     alloc: Global,
     tree: &Tree,
     streams: &ColumnStreams<'_>,
-    cells: &[Lent<'_, '_>],
+    owns: &[Own<'_>],
     bounds: &[usize],
     out: &mut Body,
 ) -> Result<Stat, AllocError>
-    requires fit { RowsFit (shape tree.now) (lent_cells cells.now) }
-    requires spelled { (x : Streams) × AreStreams x streams.now × IsColumn (shape tree.now) x (lent_cells cells.now) }
-    requires bounds { AreBounds (length (lent_cells cells.now)) bounds.now }
-    ensures index { OnOk result ((x : Streams) → AreStreams x streams.now
-        → AddsIndex (IsWrittenIndex (shape tree.now) x (lent_cells cells.now) bounds.now) out.old out.new) }
-    ensures stat { IfOk result (λ found. found ≡ stat (kind_of (shape tree.now)) (lent_cells cells.now)) }
+    requires column { (cells : List Cell) × AreSpelledOwn (shape tree.now) streams.now owns.now cells }
+    requires bounds { AreBounds (length owns.now) bounds.now }
+    ensures index { (cells : List Cell) → AreSpelledOwn (shape tree.now) streams.now owns.now cells
+        → OnOk result ((x : Streams) → AreStreams x streams.now
+        → AddsIndex (IsWrittenIndex (shape tree.now) x cells bounds.now) out.old out.new) }
+    ensures stat { (cells : List Cell) → AreOwn owns.now cells
+        → IfOk result (λ found. found ≡ stat (kind_of (shape tree.now)) cells) }
 {
     let Ok(column) = u32::try_from(out.directory.len()) else {
         return Err(AllocError);
     };
     let start = out.bytes.len();
-    let found = put_index(alloc, tree, streams, cells, bounds, &mut out.bytes)?;
+    let found = put_index(alloc, tree, streams, owns, bounds, &mut out.bytes)?;
     let length = out.bytes.len() - start;
     out.directory.push(StreamMsg {
         kind: 6,

@@ -9,6 +9,7 @@ mod columns;
 mod indexes;
 mod limits;
 mod options;
+mod own_cells;
 mod put_column;
 mod word_list;
 mod writer;

@@ -2,11 +2,11 @@
 ghost use Rattle.std.specs.Prelude.{◌≡◌, map, IfOk, OnOk, ℕ, List};
 ghost use Rattle.orc_rle.specs.declared.sign.Sign.TheVariants.{Unsigned};
 ghost use Rattle.orc_rle.specs.Values.{AllInRange};
-ghost use Rattle.orc_types.specs.Cells.{is_value, values};
+ghost use Rattle.orc_types.specs.Cells.{Cell, is_value, values};
 ghost use Rattle.orc_types.specs.Shapes.{scalar};
 ghost use Rattle.orc_types.specs.Views.{shape};
 ghost use Rattle.orc_types.specs.Fits.{RowsFit};
-ghost use Rattle.orc_types.specs.Lent.{lent_cells};
+ghost use Rattle.orc_row_index.specs.OwnCells.{own_cells, AreOwn};
 ghost use Rattle.orc_stripe_writer.specs.CellValues.{bools_in, number_bytes_in, ints_in, sizes_in};
 ghost use Rattle.orc_stripe_writer.specs.WordList.{byte_strings, AreNamed};
 ghost use Rattle.orc_stripe_writer.specs.WrittenStreams.{AreWrittenMarks};
@@ -21,7 +21,7 @@ use crate::cell_values::{
 };
 use crate::word_list::{WordList, entries_of, word_list_of};
 use orc_rle::{Rle, Sign};
-use orc_types::{Lent, Scalar, Tree};
+use orc_types::{Own, Scalar, Tree};
 use orc_wire::Encoding;
 use std::alloc::{AllocError, Global};
 
@@ -80,16 +80,16 @@ fn plain() -> Encoding
 fn put_marks(
     alloc: Global,
     column: u32,
-    cells: &[Lent<'_, '_>],
+    owns: &[Own<'_>],
     body: &mut Body,
 ) -> Result<(), AllocError>
     ensures { OnOk result
-        (AddsStream (AreWrittenMarks (map is_value (lent_cells cells.now))) column 0 body.old body.new) }
+        (AddsStream (AreWrittenMarks (map is_value (own_cells owns.now))) column 0 body.old body.new) }
 {
-    if are_all_values(cells) {
+    if are_all_values(owns) {
         return Ok(());
     }
-    let marks = marks_in(alloc, cells)?;
+    let marks = marks_in(alloc, owns)?;
     body.put_bits(column, PRESENT, &marks)
 }
 
@@ -97,12 +97,12 @@ fn put_marks(
 fn put_bools(
     alloc: Global,
     column: u32,
-    cells: &[Lent<'_, '_>],
+    owns: &[Own<'_>],
     body: &mut Body,
 ) -> Result<Encoding, AllocError>
-    ensures { IfOk result (AddsValues (λ w. HasBits w (bools_in (lent_cells cells.now))) column body.old body.new) }
+    ensures { IfOk result (AddsValues (λ w. HasBits w (bools_in (own_cells owns.now))) column body.old body.new) }
 {
-    let bools = bools_of(alloc, cells)?;
+    let bools = bools_of(alloc, owns)?;
     body.put_bits(column, DATA, &bools)?;
     Ok(plain())
 }
@@ -111,13 +111,13 @@ fn put_bools(
 fn put_bytes(
     alloc: Global,
     column: u32,
-    cells: &[Lent<'_, '_>],
+    owns: &[Own<'_>],
     body: &mut Body,
 ) -> Result<Encoding, AllocError>
     ensures { IfOk result
-        (AddsValues (λ w. HasBytes w (number_bytes_in (lent_cells cells.now))) column body.old body.new) }
+        (AddsValues (λ w. HasBytes w (number_bytes_in (own_cells owns.now))) column body.old body.new) }
 {
-    let bytes = number_bytes_of(alloc, cells)?;
+    let bytes = number_bytes_of(alloc, owns)?;
     body.put_bytes(column, DATA, &bytes)?;
     Ok(plain())
 }
@@ -127,13 +127,13 @@ fn put_numbers(
     alloc: Global,
     rle: Rle,
     column: u32,
-    cells: &[Lent<'_, '_>],
+    owns: &[Own<'_>],
     body: &mut Body,
 ) -> Result<Encoding, AllocError>
     ensures { IfOk result
-        (AddsValues (λ w. HasNumbers rle w (ints_in (lent_cells cells.now))) column body.old body.new) }
+        (AddsValues (λ w. HasNumbers rle w (ints_in (own_cells owns.now))) column body.old body.new) }
 {
-    let numbers = ints_of(alloc, cells)?;
+    let numbers = ints_of(alloc, owns)?;
     body.put_ints(rle, column, DATA, Sign::Signed, &numbers)?;
     Ok(direct(rle))
 }
@@ -202,13 +202,13 @@ fn put_sizes(
     alloc: Global,
     rle: Rle,
     column: u32,
-    cells: &[Lent<'_, '_>],
+    owns: &[Own<'_>],
     body: &mut Body,
 ) -> Result<Encoding, AllocError>
     ensures { IfOk result
-        (AddsValues (λ w. HasSizes rle w (sizes_in (lent_cells cells.now))) column body.old body.new) }
+        (AddsValues (λ w. HasSizes rle w (sizes_in (own_cells owns.now))) column body.old body.new) }
 {
-    let sizes = sizes_of(alloc, cells)?;
+    let sizes = sizes_of(alloc, owns)?;
     body.put_ints(rle, column, LENGTH, Sign::Unsigned, &sizes)?;
     Ok(direct(rle))
 }
@@ -219,26 +219,26 @@ fn put_scalars(
     rle: Rle,
     kind: Scalar,
     column: u32,
-    cells: &[Lent<'_, '_>],
+    owns: &[Own<'_>],
     body: &mut Body,
 ) -> Result<Encoding, AllocError>
-    ensures { (o : List ℕ) → RowsFit (scalar kind o) (lent_cells cells.now)
-        → IfOk result (AddsValues (λ w. WritesValues rle w (scalar kind o) (values (lent_cells cells.now)))
+    ensures { (o : List ℕ) (cells : List Cell) → AreOwn owns.now cells → RowsFit (scalar kind o) cells
+        → IfOk result (AddsValues (λ w. WritesValues rle w (scalar kind o) (values cells))
         column body.old body.new) }
 {
     match kind {
-        Scalar::Boolean => put_bools(alloc, column, cells, body),
-        Scalar::Byte => put_bytes(alloc, column, cells, body),
-        Scalar::Short => put_numbers(alloc, rle, column, cells, body),
-        Scalar::Int => put_numbers(alloc, rle, column, cells, body),
-        Scalar::Long => put_numbers(alloc, rle, column, cells, body),
-        Scalar::Date => put_numbers(alloc, rle, column, cells, body),
+        Scalar::Boolean => put_bools(alloc, column, owns, body),
+        Scalar::Byte => put_bytes(alloc, column, owns, body),
+        Scalar::Short => put_numbers(alloc, rle, column, owns, body),
+        Scalar::Int => put_numbers(alloc, rle, column, owns, body),
+        Scalar::Long => put_numbers(alloc, rle, column, owns, body),
+        Scalar::Date => put_numbers(alloc, rle, column, owns, body),
         Scalar::String => {
-            let strings = byte_strings_of(alloc, cells)?;
+            let strings = byte_strings_of(alloc, owns)?;
             put_texts(alloc, rle, column, &strings, body)
         }
         Scalar::Binary => {
-            let strings = byte_strings_of(alloc, cells)?;
+            let strings = byte_strings_of(alloc, owns)?;
             put_groups(alloc, rle, column, &strings, body)
         }
     }
@@ -250,17 +250,17 @@ fn put_values(
     rle: Rle,
     tree: &Tree,
     column: u32,
-    cells: &[Lent<'_, '_>],
+    owns: &[Own<'_>],
     body: &mut Body,
 ) -> Result<Encoding, AllocError>
-    requires { RowsFit (shape tree.now) (lent_cells cells.now) }
-    ensures { IfOk result (AddsValues (λ w. WritesValues rle w (shape tree.now) (values (lent_cells cells.now)))
+    ensures { (cells : List Cell) → AreOwn owns.now cells → RowsFit (shape tree.now) cells
+        → IfOk result (AddsValues (λ w. WritesValues rle w (shape tree.now) (values cells))
         column body.old body.new) }
 {
     match tree {
-        Tree::Scalar(kind, _) => put_scalars(alloc, rle, *kind, column, cells, body),
-        Tree::List(_, _) => put_sizes(alloc, rle, column, cells, body),
-        Tree::Map(_, _, _) => put_sizes(alloc, rle, column, cells, body),
+        Tree::Scalar(kind, _) => put_scalars(alloc, rle, *kind, column, owns, body),
+        Tree::List(_, _) => put_sizes(alloc, rle, column, owns, body),
+        Tree::Map(_, _, _) => put_sizes(alloc, rle, column, owns, body),
         Tree::Struct(_, _) => Ok(plain()),
     }
 }
@@ -272,12 +272,12 @@ pub(crate) fn put_cells(
     rle: Rle,
     tree: &Tree,
     column: u32,
-    cells: &[Lent<'_, '_>],
+    owns: &[Own<'_>],
     body: &mut Body,
 ) -> Result<Encoding, AllocError>
-    requires { RowsFit (shape tree.now) (lent_cells cells.now) }
-    ensures { IfOk result (AddsColumn rle (shape tree.now) (lent_cells cells.now) column body.old body.new) }
+    ensures { (cells : List Cell) → AreOwn owns.now cells → RowsFit (shape tree.now) cells
+        → IfOk result (AddsColumn rle (shape tree.now) cells column body.old body.new) }
 {
-    put_marks(alloc, column, cells, body)?;
-    put_values(alloc, rle, tree, column, cells, body)
+    put_marks(alloc, column, owns, body)?;
+    put_values(alloc, rle, tree, column, owns, body)
 }

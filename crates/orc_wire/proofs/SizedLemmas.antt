@@ -1,7 +1,6 @@
 -- A field of bytes that are written before their length: a byte stands for the length until it is known.
-use Rattle.std.proofs.Common.{◌≡◌, ℕ, ◌+◌, ◌*◌, ◌<◌, ◌≤◌, List, [], ◌∷◌, ◌++◌, length, take, drop, set, refl, sym, ap, ◌∙◌, subst, arith, append_assoc, length-append, add-one, nat_lt, true}
+use Rattle.std.proofs.Common.{◌≡◌, ℕ, ◌+◌, ◌*◌, ◌<◌, ◌≤◌, List, [], ◌∷◌, ◌++◌, length, take, drop, set, refl, sym, ap, ◌∙◌, subst, arith, append_assoc, length-append, add-one, nat_lt, true, lt-ltb}
 use Rattle.std.proofs.lemmas.List.{take_at, drop_at, take-append-drop, take-take, set_split}
-use Rattle.std.proofs.lemmas.Bool.Decides.{nat_tests}
 use Rattle.orc_bits.specs.Varint.{varint_text}
 use Rattle.orc_wire.specs.Fields.{sized}
 use Rattle.orc_wire.specs.CanonicalText.{KeepsFront, payload_text, sized_text}
@@ -9,12 +8,9 @@ use Rattle.orc_wire.proofs.PutLemmas.{front_same, front_taken, keeps_more}
 
 -- ---- the length of one byte
 
-below : (m n : ℕ) → m < n → nat_lt m n ≡ true
-below m n lt = grind (arith, nat_tests)
-
-varint_text-below : (n : ℕ) → n < 128 → varint_text n ≡ n ∷ []
+pub varint_text-below : (n : ℕ) → n < 128 → varint_text n ≡ n ∷ []
 unfolding varint_text
-varint_text-below n lt = rw (below n 128 lt) refl
+varint_text-below n lt = let small : nat_lt n 128 ≡ true = lt-ltb n 128 lt in rw small refl
 
 -- the byte at the place becomes the length of what stands behind it
 pub set-size : (old : List ℕ) (place len : ℕ) → place < length old → len ≡ length (drop (place + 1) old) → len < 128
@@ -47,6 +43,10 @@ keeps_all old mid new start h is k =
 pub record Begun (n : ℕ) (old content mid : List ℕ) (place : ℕ) : Type 0 where
   pub text : mid ≡ ((old ++ varint_text (n * 8 + 2)) ++ (0 ∷ [])) ++ content
   pub at_size : place ≡ length (old ++ varint_text (n * 8 + 2))
+
+-- what is begun, with its content behind it
+pub begun_with : (n : ℕ) (old begun content mid : List ℕ) (place : ℕ) → begun ≡ (old ++ varint_text (n * 8 + 2)) ++ (0 ∷ []) → place ≡ length (old ++ varint_text (n * 8 + 2)) → mid ≡ begun ++ content → Begun n old content mid place
+begun_with n old begun content mid place b at e = record { text = e ∙ ap (λ (t : List ℕ). t ++ content) b; at_size = at }
 
 begun_front : (n : ℕ) (old content mid : List ℕ) (place : ℕ) → Begun n old content mid place → take place mid ≡ old ++ varint_text (n * 8 + 2)
 begun_front n old content mid place b =

@@ -1,7 +1,8 @@
 //! The canonical text of a message's members: shortest varints and packed lists.
 //!
 //! After a refusal, which is `OutOfMemory`, each function has left what was there in front; a part
-//! of its own text may follow.
+//! of its own text may follow. Of a field that was begun, `end_sized` leaves what stands in front of
+//! its length, and `end_some` what stands in front of the field.
 ghost use Rattle.std.specs.Prelude.{◌≡◌, ◌++◌, ◌+◌, ◌*◌, ◌<◌, ◌≤◌, ◌^◌, ℕ, [], ◌∷◌, length, take, drop, IfOk, IfErr, IfSome, OnOk};
 ghost use Rattle.std.specs.List.{AllByRecursion};
 ghost use Rattle.orc_bits.specs.Varint.{varint_text};
@@ -9,7 +10,7 @@ ghost use Rattle.orc_bits.specs.Zigzag.{zig};
 ghost use Rattle.orc_wire.specs.declared.fault.WireFault.TheVariants.{OutOfMemory};
 ghost use Rattle.orc_wire.specs.Fields.{varint, sized, wire, IsPayload};
 ghost use Rattle.orc_wire.specs.FieldValue.{payload_of};
-ghost use Rattle.orc_wire.specs.CanonicalText.{payload_text, field_text, some_text, known_text, list_text, packed_text, shown_text, KeepsFront};
+ghost use Rattle.orc_wire.specs.CanonicalText.{payload_text, field_text, some_text, known_text, list_text, packed_text, sized_text, shown_text, KeepsFront};
 ghost use Rattle.orc_wire.specs.CanonicalText.{flag_number};
 ghost use Rattle.orc_wire.specs.CanonicalKinds.{AreBelow};
 
@@ -22,15 +23,21 @@ use orc_bits::{put_varint, zigzag};
 /// The wire type of bytes behind their length.
 const LEN: u64 = 2;
 
-/// A length below this one is a varint of one byte.
-const TWO_BYTES: usize = 128;
+/// A number below this one is a varint of one byte.
+const TWO_BYTES: u64 = 128;
 
+/// Appends a varint. Keys and most lengths are one byte, which is pushed and not copied.
+#[inline(always)]
 fn put_one(n: u64, out: &mut Vec<u8>) -> Result<(), WireFault>
     ensures text { OnOk result (out.new.items ≡ out.old.items ++ varint_text n) }
     ensures fits { n < 2 ^ 64 }
     ensures refused { IfErr result (λ fault. fault ≡ OutOfMemory) }
     ensures front { KeepsFront out.old.items out.new.items }
 {
+    if n < TWO_BYTES {
+        out.push(n as u8)?;
+        return Ok(());
+    }
     match put_varint(n, out) {
         Ok(()) => Ok(()),
         Err(_) => Err(WireFault::OutOfMemory),
@@ -46,13 +53,24 @@ fn put_raw(bytes: &[u8], out: &mut Vec<u8>) -> Result<(), WireFault>
     Ok(())
 }
 
+/// Appends bytes behind their length.
+fn put_sized(bytes: &[u8], out: &mut Vec<u8>) -> Result<(), WireFault>
+    ensures text { OnOk result (out.new.items ≡ out.old.items ++ payload_text (sized bytes.now)) }
+    ensures fits { OnOk result (length bytes.now < 2 ^ 64) }
+    ensures refused { IfErr result (λ fault. fault ≡ OutOfMemory) }
+    ensures front { KeepsFront out.old.items out.new.items }
+{
+    put_one(bytes.len() as u64, out)?;
+    put_raw(bytes, out)
+}
+
 fn wire_type(value: Value<'_>) -> u64
     ensures { result ≡ wire (payload_of value.entry) }
 {
     match value {
         Value::Varint(_) => 0,
         Value::Eight(_) => 1,
-        Value::Bytes(_) => 2,
+        Value::Bytes(_) => LEN,
         Value::Four(_) => 5,
     }
 }
@@ -69,10 +87,7 @@ pub(crate) fn put_field(number: u32, value: Value<'_>, out: &mut Vec<u8>) -> Res
         Value::Varint(number) => put_one(number, out),
         Value::Eight(bytes) => put_raw(&bytes, out),
         Value::Four(bytes) => put_raw(&bytes, out),
-        Value::Bytes(bytes) => {
-            put_one(bytes.len() as u64, out)?;
-            put_raw(bytes, out)
-        }
+        Value::Bytes(bytes) => put_sized(bytes, out),
     }
 }
 
@@ -223,14 +238,13 @@ fn end_sized(place: usize, out: &mut Vec<u8>) -> Result<(), WireFault>
     ensures front { KeepsFront (take place out.old.items) out.new.items }
 {
     let len = out.len() - place - 1;
-    if len < TWO_BYTES {
+    if (len as u64) < TWO_BYTES {
         out[place] = len as u8;
         return Ok(());
     }
     let content = Vec::from_slice(*out.allocator(), &out[place + 1..])?;
     out.truncate(place);
-    put_one(len as u64, out)?;
-    put_raw(&content, out)
+    put_sized(&content, out)
 }
 
 /// Ends a field of bytes that began at `start`, or takes it back where nothing stands behind the
@@ -303,6 +317,23 @@ pub(crate) fn put_shown<M: Message>(
     }
 }
 
+/// Appends a message as a field, also where its text is empty.
+pub(crate) fn put_message<M: Message>(
+    n: u32,
+    message: &M,
+    out: &mut Vec<u8>,
+) -> Result<(), WireFault>
+    ensures text { OnOk result (out.new.items
+        ≡ out.old.items ++ sized_text n (M.canonical.text message.now)) }
+    ensures bounded { OnOk result (M.canonical.bounded message.now) }
+    ensures refused { IfErr result (λ fault. fault ≡ OutOfMemory) }
+    ensures front { KeepsFront out.old.items out.new.items }
+{
+    let place = begin_sized(n, out)?;
+    message.put_members(out)?;
+    end_sized(place, out)
+}
+
 /// Appends a field for each message.
 pub(crate) fn put_each<M: Message>(
     n: u32,
@@ -316,9 +347,7 @@ pub(crate) fn put_each<M: Message>(
     ensures front { KeepsFront out.old.items out.new.items }
 {
     for message in messages {
-        let place = begin_sized(n, out)?;
-        message.put_members(out)?;
-        end_sized(place, out)?;
+        put_message(n, message, out)?;
     }
     Ok(())
 }

@@ -5,9 +5,10 @@ ghost use Rattle.orc_wire.specs.declared.fault.WireFault.TheVariants.{OutOfMemor
 ghost use Rattle.orc_wire.specs.FieldItem.{item_of};
 ghost use Rattle.orc_wire.specs.Members.{Member};
 ghost use Rattle.orc_wire.specs.Spells.{Spells, Faults};
-ghost use Rattle.orc_wire.specs.CanonicalText.{KeepsFront};
+ghost use Rattle.orc_wire.specs.CanonicalText.{KeepsFront, sized_text};
 ghost use Rattle.orc_wire.specs.Canonical.{Canonical};
 
+use crate::canonical::put_message;
 use crate::fault::WireFault;
 use crate::field::Field;
 use crate::iter::Fields;
@@ -126,6 +127,29 @@ pub trait Message: Sized + Drop {
     {
         let start = out.len();
         match self.put_members(out) {
+            Ok(()) => Ok(()),
+            Err(fault) => {
+                out.truncate(start);
+                Err(fault)
+            }
+        }
+    }
+
+    /// Appends the message as a field of that number, behind the members of another one. A refusal,
+    /// which is `OutOfMemory`, leaves `out` as it was.
+    final fn put_within(&self, number: u32, out: &mut Vec<u8>) -> Result<(), WireFault>
+        // Unless memory is refused, the field is appended: its key, and the message's one canonical
+        // text behind its length.
+        ensures text { OnOk result (out.new.items
+            ≡ out.old.items ++ sized_text number (canonical.text self.now)) }
+        // Where it is appended, the message's numbers have the bits of their fields.
+        ensures bounded { OnOk result (canonical.bounded self.now) }
+        // A refusal is want of memory, and leaves the Vec as it was.
+        ensures refused { IfErr result (λ fault. fault ≡ OutOfMemory) }
+        ensures unchanged { OnErr result (out.new.items ≡ out.old.items) }
+    {
+        let start = out.len();
+        match put_message(number, self, out) {
             Ok(()) => Ok(()),
             Err(fault) => {
                 out.truncate(start);

@@ -2,27 +2,15 @@
 ghost use Rattle.std.specs.Prelude.{◌≡◌, ◌+◌, ◌≤◌, ◌<◌, ◌^◌, ◌∷◌, [], true, false, length, map, replicate, IfOk};
 ghost use Rattle.std.specs.Bool.{OnTrue, OnFalse};
 ghost use Rattle.orc_types.specs.Shapes.{width, widths};
-ghost use Rattle.orc_types.specs.Cells.{parts};
 ghost use Rattle.orc_types.specs.Views.{view, views, paired, shape, fields as fields_view};
 ghost use Rattle.orc_file.specs.Counts.{with_row, are_few};
 ghost use Rattle.orc_file.specs.Counting.{AddsOne, AddsCells, AddsFields};
 
-use orc_types::{Field, MapPair, Row, Schema, Tree, Value, pairs_of, width_of};
+use orc_types::{Field, MapPair, Row, Schema, Tree, pairs_of, parts_of, width_of};
 use std::alloc::{AllocError, Global};
 
 /// A column of a stripe has fewer cells than this.
 const TOO_MANY_CELLS: u64 = 1 << 31;
-
-/// The elements of a list, the fields of a struct, and nothing of another cell.
-fn parts_of<'r, 'a>(cell: &'r Row<'a>) -> &'r [Row<'a>]
-    ensures { views result.now ≡ parts (view cell.now) }
-{
-    match cell {
-        Some(Value::List(items)) => items,
-        Some(Value::Struct(items)) => items,
-        _ => &[],
-    }
-}
 
 /// One cell more, up to the limit.
 fn count_one(counts: &mut Vec<u64>, column: usize)
@@ -34,68 +22,81 @@ fn count_one(counts: &mut Vec<u64>, column: usize)
     }
 }
 
-/// Counts a cell of a type, whose columns begin at `column`, and all that is in it.
+/// Counts a cell of a type, whose columns begin at `column`, and all that is in it. Answers the column that comes next.
 #[cycle(counting)]
-fn count_cell(tree: &Tree, cell: &Row<'_>, column: usize, counts: &mut Vec<u64>)
+fn count_cell(tree: &Tree, cell: &Row<'_>, column: usize, counts: &mut Vec<u64>) -> usize
     requires { column + width (shape tree.now) ≤ length counts.old.items }
-    ensures { AddsCells (shape tree.now) column (view cell.now ∷ []) counts.old.items counts.new.items }
+    ensures cells { AddsCells (shape tree.now) column (view cell.now ∷ []) counts.old.items counts.new.items }
+    ensures next { result ≡ column + width (shape tree.now) }
 {
     count_one(counts, column);
     match tree {
-        Tree::Scalar(_, _) => {}
-        Tree::List(element, _) => {
-            for part in parts_of(cell) {
-                count_cell(element, part, column + 1, counts);
-            }
-        }
+        Tree::Scalar(_, _) => column + 1,
+        Tree::List(element, _) => count_elements(element, parts_of(cell), column + 1, counts),
         Tree::Map(key, value, _) => {
-            count_keys(key, pairs_of(cell), column + 1, counts);
-            count_values(value, pairs_of(cell), column + 1 + width_of(key), counts);
+            let values = count_keys(key, pairs_of(cell), column + 1, counts);
+            count_values(value, pairs_of(cell), values, counts)
         }
         Tree::Struct(fields, _) => count_fields(fields, parts_of(cell), column + 1, counts),
     }
 }
 
+/// Counts the elements of a list.
+#[cycle(counting)]
+fn count_elements(element: &Tree, parts: &[Row<'_>], column: usize, counts: &mut Vec<u64>) -> usize
+    requires { column + width (shape element.now) ≤ length counts.old.items }
+    ensures cells { AddsCells (shape element.now) column (views parts.now) counts.old.items counts.new.items }
+    ensures next { result ≡ column + width (shape element.now) }
+{
+    for part in parts {
+        count_cell(element, part, column, counts);
+    }
+    column + width_of(element)
+}
+
 /// Counts the keys of a map.
 #[cycle(counting)]
-fn count_keys(key: &Tree, pairs: &[MapPair<'_>], column: usize, counts: &mut Vec<u64>)
+fn count_keys(key: &Tree, pairs: &[MapPair<'_>], column: usize, counts: &mut Vec<u64>) -> usize
     requires { column + width (shape key.now) ≤ length counts.old.items }
-    ensures { AddsCells (shape key.now) column (map (λ p. p.0) (map paired pairs.now))
+    ensures cells { AddsCells (shape key.now) column (map (λ p. p.0) (map paired pairs.now))
         counts.old.items counts.new.items }
+    ensures next { result ≡ column + width (shape key.now) }
 {
     for pair in pairs {
         count_cell(key, &pair.key, column, counts);
     }
+    column + width_of(key)
 }
 
 /// Counts the values of a map.
 #[cycle(counting)]
-fn count_values(value: &Tree, pairs: &[MapPair<'_>], column: usize, counts: &mut Vec<u64>)
+fn count_values(value: &Tree, pairs: &[MapPair<'_>], column: usize, counts: &mut Vec<u64>) -> usize
     requires { column + width (shape value.now) ≤ length counts.old.items }
-    ensures { AddsCells (shape value.now) column (map (λ p. p.1) (map paired pairs.now))
+    ensures cells { AddsCells (shape value.now) column (map (λ p. p.1) (map paired pairs.now))
         counts.old.items counts.new.items }
+    ensures next { result ≡ column + width (shape value.now) }
 {
     for pair in pairs {
         count_cell(value, &pair.value, column, counts);
     }
+    column + width_of(value)
 }
 
-/// Counts the fields of a struct.
+/// Counts the fields of a struct, of which a null struct has none.
 #[cycle(counting)]
-fn count_fields(fields: &[Field], parts: &[Row<'_>], column: usize, counts: &mut Vec<u64>)
+fn count_fields(fields: &[Field], parts: &[Row<'_>], column: usize, counts: &mut Vec<u64>) -> usize
     requires { column + widths (fields_view fields.now) ≤ length counts.old.items }
-    ensures { AddsFields (fields_view fields.now) column (views parts.now) counts.old.items counts.new.items }
+    ensures cells { AddsFields (fields_view fields.now) column (views parts.now) counts.old.items counts.new.items }
+    ensures next { result ≡ column + widths (fields_view fields.now) }
 {
-    match fields {
-        [] => {}
-        [field, fields @ ..] => match parts {
-            [] => {}
-            [part, parts @ ..] => {
-                count_cell(&field.tree, part, column, counts);
-                count_fields(fields, parts, column + width_of(&field.tree), counts);
-            }
-        },
+    let mut next = column;
+    for (place, field) in fields.iter().enumerate() {
+        match parts.get(place) {
+            Some(part) => next = count_cell(&field.tree, part, next, counts),
+            None => next += width_of(&field.tree),
+        }
     }
+    next
 }
 
 /// The counts with a row more, up to the limit, in `sums`, and whether all are below it.

@@ -82,6 +82,7 @@ impl<W: Sink> Writer<W> {
                 rows: Vec::new(alloc),
                 counts,
                 sums,
+                spare: Vec::new(alloc),
                 failed: false,
             }),
             Err(_) => Err((FileFault::WriteFailed, out)),
@@ -174,7 +175,10 @@ impl<W: Sink> Writer<W> {
         let Ok(()) = self.infos.push(stripe.info) else {
             return Err(FileFault::OutOfMemory);
         };
+        swap(&mut self.rows, &mut self.spare);
         self.rows.clear();
+        // they are handed out from the end, and so in the order in which they were made
+        self.spare.reverse();
         reset(&mut self.counts);
         self.failed = false;
         Ok(())
@@ -284,6 +288,48 @@ impl<W: Sink> Writer<W> {
         };
         self.total += 1;
         swap(&mut self.counts, &mut self.sums);
+        // where nobody takes them, spare rows make room for those that are pushed
+        let missing = (self.options.stripe_rows() as usize).saturating_sub(self.rows.len());
+        self.spare.truncate(missing);
+        Ok(())
+    }
+
+    /// Adds a row that was admitted, and writes the stripe that it fills. After a refusal the writer has failed.
+    fn add(&mut self, row: Row<'static>) -> Result<(), FileFault>
+        requires open { self.old.failed ≡ false }
+        requires schema { IsSchema self.old.schema }
+        requires fits { fitting.fits (view row) self.old.schema ≡ true }
+        requires stripes { length self.old.infos.items < most_stripes }
+        requires rows { self.old.total < most_rows }
+        requires counts { self.old.sums.items ≡ with_row self.old.schema 0 (view row) self.old.counts.items }
+        requires few { are_few self.old.sums.items ≡ true }
+        ensures pushed { (first : Option (List ℕ)) (rows : List Cell)
+            → HasPushed (progress W.told self.old) first rows
+            → OnOk result (HasPushed (progress W.told self.new) first (rows ++ view row.entry ∷ [])) }
+        ensures taken { (first : Option (List ℕ)) → HasTaken first (W.told self.old.out) self.old.written
+            → HasTaken first (W.told self.new.out) self.new.written }
+        ensures same { (self.new.schema ≡ self.old.schema) × (self.new.options ≡ self.old.options) }
+        ensures cut { (first : Option (List ℕ)) (rows : List Cell)
+            → HasPushed (progress W.told self.old) first rows
+            → OnErr result (IsCutOff self.old.options self.old.schema first (W.told self.new.out)
+            (rows ++ view row.entry ∷ [])) }
+        ensures long { IsErrOf result fault.Limit
+            → PassesBytes self.old.options self.old.schema self.old.infos.items (views self.old.rows.items
+            ++ view row.entry ∷ []) }
+        ensures full { IsErrOf result fault.Limit → self.old.options.stripe_rows ≤ length self.old.rows.items + 1 }
+        ensures refused { IfErr result (λ e. (e ≡ fault.Limit) ⊎ ((e ≡ fault.WriteFailed) ⊎ (e ≡ fault.OutOfMemory))) }
+        ensures ok { OnOk result (self.new.failed ≡ false) }
+        ensures failed { OnErr result (self.new.failed ≡ true) }
+        ensures write_failed { IsErrOf result fault.WriteFailed → W.failures self.old.out < W.failures self.new.out }
+        ensures memory { IsErrOf result fault.OutOfMemory → W.failures self.new.out ≡ W.failures self.old.out }
+        ensures no_failure { OnOk result (W.failures self.new.out ≡ W.failures self.old.out) }
+        ensures unfailed { IfErr result
+            (λ e. (e ≡ fault.WriteFailed) ⊎ (W.failures self.new.out ≡ W.failures self.old.out)) }
+    {
+        self.keep(row)?;
+        if self.rows.len() >= self.options.stripe_rows() as usize {
+            return self.close();
+        }
         Ok(())
     }
 
@@ -371,11 +417,7 @@ impl<W: Sink> Writer<W> {
             (λ e. (e ≡ fault.WriteFailed) ⊎ (W.failures self.new.out ≡ W.failures self.old.out)) }
     {
         self.admit(&row)?;
-        self.keep(row)?;
-        if self.rows.len() >= self.options.stripe_rows() as usize {
-            return self.close();
-        }
-        Ok(())
+        self.add(row)
     }
 
     /// Adds a copy of a row, as `push_owned` adds a row that the caller gives away.
@@ -466,7 +508,22 @@ impl<W: Sink> Writer<W> {
             self.failed = true;
             return Err(FileFault::OutOfMemory);
         };
-        self.push_owned(copy)
+        self.add(copy)
+    }
+
+    /// A row of the stripe that was written last, for its room alone, or null where none is left: whatever it says
+    /// is no longer needed. A stripe's rows are handed out once, in their order, until as many rows are pushed.
+    pub fn spare_row(&mut self) -> Row<'static>
+        // What the writer has done so far stands, and so does what it counts, its output with it.
+        ensures progress { progress W.told self.new ≡ progress W.told self.old }
+        ensures stays { (self.new.out ≡ self.old.out) × (self.new.written ≡ self.old.written)
+            × (self.new.infos ≡ self.old.infos)
+            × (self.new.stats ≡ self.old.stats) × (self.new.rows ≡ self.old.rows) × (self.new.counts ≡ self.old.counts)
+            × (self.new.total ≡ self.old.total) × (self.new.failed ≡ self.old.failed) }
+        // It keeps its schema and its options.
+        ensures same { (self.new.schema ≡ self.old.schema) × (self.new.options ≡ self.old.options) }
+    {
+        self.spare.pop().flatten()
     }
 
     /// The schema of its rows.

@@ -19,7 +19,7 @@ loop-taken-init c =
 
 pub loop-taken-preserved : goal.loop-taken-preserved
 loop-taken-preserved c = (
-  entries_more (Grouped (AreNumbers c.args.version Unsigned c.args.lengths.now) (Is c.args.bytes.now)) (Grouped (NumbersLeft c.loop-taken.numbers) (OctetsLeft c.loop-taken.octets)) (Grouped (NumbersLeft c.next_group.new.numbers) (OctetsLeft c.next_group.new.octets)) c.loop-taken.entries.items c.push.new.self.items _ c.in_ok-push-in-Ok.ensures.items c.loop-taken.invariant.0 c.in-Ok.ensures.found,
+  entries_more (Grouped (AreNumbers c.args.version Unsigned c.args.lengths.now) (Is c.args.bytes.now)) (Grouped (NumbersLeft c.loop-taken.numbers) (OctetsLeft c.loop-taken.octets)) (Grouped (NumbersLeft c.next_group.new.numbers) (OctetsLeft c.next_group.new.octets)) c.loop-taken.entries.items c.push.new.self.items _ c.in-Ok.bytes.now c.of.ensures c.in_ok-push-in-Ok.ensures.items c.loop-taken.invariant.0 c.in-Ok.ensures.found,
   ap length c.in_ok-push-in-Ok.ensures.items ∙ length-append c.loop-taken.entries.items _ ∙ ap (λ n. n + 1) c.loop-taken.invariant.1,
   λ all n f h.
       let e : c.loop-taken.taken + suc n ≡ c.loop-taken.taken + 1 + n = omega arith in

@@ -1,170 +1,216 @@
-use Rattle.std.proofs.Common.{◌+◌, inl, refl, ◌≡◌, ◌-◌, ◌*◌, ◌<◌, ℕ, List, [], ◌∷◌, ◌++◌, length, get_or, map, replicate, Some, None, string_bytes, sym, ap, ◌∙◌, subst, arith}
-use Rattle.std.proofs.lemmas.List.{map-append}
+use Rattle.std.proofs.Common.{◌+◌, inl, refl, ◌≡◌, ◌-◌, ◌*◌, ◌<◌, ◌≤◌, ℕ, List, [], ◌∷◌, ◌++◌, length, get_or, map, take, Option, Some, None, string_bytes, sym, ap, ◌∙◌, subst, arith, rules}
+use Rattle.std.proofs.Math.ListN.{set, length-set}
+use Rattle.std.proofs.lemmas.List.{map-append, take_more_set}
 use Rattle.std.proofs.lemmas.Result.{IfOk-weaker}
 use Rattle.json.specs.Token.{Token}
 use Rattle.json.specs.Json.{after_end_array, read_key}
 use Rattle.json.proofs.Grammar.{read_key-shorter}
 use Rattle.orc_types.specs.Cells.{Cell}
-use Rattle.orc_types.specs.JsonRows.{OrNull, ArraySpells, MapSpells, Spells, PairSpells}
+use Rattle.orc_types.specs.JsonRows.{OrNull, ArraySpells, MapSpells, Spells, PairSpells, FieldsSpell, ObjectSpells}
+use Rattle.orc_types.specs.Shapes.{names_of}
 use Rattle.orc_types.specs.Views.{view, views, paired, shape, fields}
 use Rattle.orc_types.specs.JsonLeaves.{ScalarSpells}
 use Rattle.orc_types.specs.declared.tree.Tree.{Tree}
 use Rattle.orc_types.specs.declared.tree.Field.{Field}
+use Rattle.orc_types.specs.declared.value.Value.{Value, List as ListOf, Map as MapOf, Struct as StructOf, the_lemmas}
+use Rattle.orc_types.specs.declared.value.Value as value
+use Rattle.orc_types.specs.declared.value.MapPair.{MapPair}
 use Rattle.orc_types.proofs.Names.{distinct_at}
 use Rattle.orc_types.proofs.Views.{paired-is}
 use Rattle.orc_json_reader.specs.Fronts.{ValueFront}
+use Rattle.orc_json_reader.specs.Frontier.{read_up_to}
 use Rattle.orc_json_reader.proofs.FrontLemmas.{two_front}
+use Rattle.orc_json_reader.proofs.FrontierLemmas.{read_up_to-length}
 use Rattle.orc_json_reader.proofs.ItemLemmas.{elements_next, elements_last, pairs_next, pairs_last}
 use Rattle.orc_json_reader.proofs.FieldLemmas.{fields_first, fields_next, fields_last}
 use Rattle.orc_json_reader.proofs.RowLemmas.{null_front, same_front, list_front, map_front, struct_front, of_scalar, of_list, of_map, pair_front}
 use Rattle.orc_json_reader.proofs.reading.+reading.Goals as goal
 
--- ---- row_of
+-- ---- read_value
 
-pub row_of-returns-in-Scalar-clause-found : goal.row_of-returns-in-Scalar-clause-found
-row_of-returns-in-Scalar-clause-found t c =
+pub read_value-returns-in-Scalar-clause-found : goal.read_value-returns-in-Scalar-clause-found
+read_value-returns-in-Scalar-clause-found t c =
     let tree = c.args.tree.now in
-    IfOk-weaker c.scalar_from.result _ _
-    (λ row h. same_front (λ d. ScalarSpells c.in-Scalar.kind d (view row)) (λ d. Spells (shape tree) d (view row)) c.args.depth c.args.reader.now c.scalar_from.new.reader
+    let row = c.read_scalar.new.cell in
+    IfOk-weaker c.read_scalar.result _ _
+    (λ done h. same_front (λ d. ScalarSpells c.in-Scalar.kind d (view row)) (λ d. Spells (shape tree) d (view row)) c.args.depth c.args.reader.now c.read_scalar.new.reader
     (λ d g. of_scalar tree c.in-Scalar.kind c.in-Scalar.field-1 (view row) d c.in-Scalar.is g) (h c.args.depth))
-    c.scalar_from.ensures.found
+    c.read_scalar.ensures.found
 
-pub row_of-returns-in-List-clause-found : goal.row_of-returns-in-List-clause-found
-row_of-returns-in-List-clause-found t c =
+pub read_value-returns-in-List-clause-found : goal.read_value-returns-in-List-clause-found
+read_value-returns-in-List-clause-found t c =
     let tree = c.args.tree.now in
-    IfOk-weaker c.list_from.result _ _
-    (λ row h. same_front (λ d. OrNull d (view row) (ArraySpells (Spells (shape c.deref.result.now)) d (view row))) (λ d. Spells (shape tree) d (view row)) c.args.depth c.args.reader.now c.list_from.new.reader
+    let row = c.read_list.new.cell in
+    IfOk-weaker c.read_list.result _ _
+    (λ done h. same_front (λ d. OrNull d (view row) (ArraySpells (Spells (shape c.deref.result.now)) d (view row))) (λ d. Spells (shape tree) d (view row)) c.args.depth c.args.reader.now c.read_list.new.reader
     (λ d g. of_list tree c.in-List.element c.in-List.field-1 (view row) d c.in-List.is (subst (λ (x : Tree). OrNull d (view row) (ArraySpells (Spells (shape x)) d (view row))) c.deref.ensures g)) h)
-    c.list_from.ensures.found
+    c.read_list.ensures.found
 
-pub row_of-returns-in-Map-clause-found : goal.row_of-returns-in-Map-clause-found
-row_of-returns-in-Map-clause-found t c =
+pub read_value-returns-in-Map-clause-found : goal.read_value-returns-in-Map-clause-found
+read_value-returns-in-Map-clause-found t c =
     let tree = c.args.tree.now in
+    let row = c.read_map.new.cell in
     let k = c.deref-in-Map.result.now in
     let v = c.deref-in-Map-2.result.now in
-    IfOk-weaker c.map_from.result _ _
-    (λ row h. same_front (λ d. OrNull d (view row) (MapSpells (Spells (shape k)) (Spells (shape v)) d (view row))) (λ d. Spells (shape tree) d (view row)) c.args.depth c.args.reader.now c.map_from.new.reader
+    IfOk-weaker c.read_map.result _ _
+    (λ done h. same_front (λ d. OrNull d (view row) (MapSpells (Spells (shape k)) (Spells (shape v)) d (view row))) (λ d. Spells (shape tree) d (view row)) c.args.depth c.args.reader.now c.read_map.new.reader
     (λ d g. of_map tree c.in-Map.key c.in-Map.value c.in-Map.field-2 (view row) d c.in-Map.is
     (subst (λ (x : Tree). OrNull d (view row) (MapSpells (Spells (shape c.in-Map.key.value)) (Spells (shape x)) d (view row))) c.deref-in-Map-2.ensures
     (subst (λ (x : Tree). OrNull d (view row) (MapSpells (Spells (shape x)) (Spells (shape v)) d (view row))) c.deref-in-Map.ensures g))) h)
-    c.map_from.ensures.found
+    c.read_map.ensures.found
 
--- ---- list_from, map_from, struct_from
+-- ---- read_list, read_map, read_struct
 
-pub list_from-returns-in-Some-Null-clause-found : goal.list_from-returns-in-Some-Null-clause-found
-list_from-returns-in-Some-Null-clause-found t c =
+pub read_list-returns-in-Some-Null-clause-found : goal.read_list-returns-in-Some-Null-clause-found
+read_list-returns-in-Some-Null-clause-found t c =
     let first : c.args.reader.now ≡ Token.null ∷ c.next.new.self = grind arith in
     null_front _ c.args.depth c.args.reader.now c.next.new.self (inl (refl, refl)) first
 
-pub list_from-returns-in_ok-elements_of-in-Some-BeginArray-clause-found : goal.list_from-returns-in_ok-elements_of-in-Some-BeginArray-clause-found
-list_from-returns-in_ok-elements_of-in-Some-BeginArray-clause-found t c =
+pub read_list-returns-in-Some-List-clause-found : goal.read_list-returns-in-Some-List-clause-found
+read_list-returns-in-Some-List-clause-found t c =
     let first : c.args.reader.now ≡ Token.begin_array ∷ c.next.new.self = grind arith in
-    let found = c.in_ok-elements_of-in-Some-BeginArray in
-    list_front (Spells (shape c.args.element.now)) found.field-0 c.args.depth c.args.reader.now c.next.new.self c.elements_of.new.reader first (omega arith) found.ensures.found
+    let found = IfOk-weaker c.read_elements.result _ (λ done. ValueFront (λ d. OrNull d (view (Some (ListOf c.read_elements.new.rows))) (ArraySpells (Spells (shape c.args.element.now)) d (view (Some (ListOf c.read_elements.new.rows))))) c.args.depth c.args.reader.now c.read_elements.new.reader)
+    (λ done h. list_front (Spells (shape c.args.element.now)) c.read_elements.new.rows c.args.depth c.args.reader.now c.next.new.self c.read_elements.new.reader first (omega arith) h)
+    c.read_elements.ensures.found in
+    rw c.in-Some-List.field-0-is (search (rules, the_lemmas, found))
 
-pub map_from-returns-in-Some-Null-clause-found : goal.map_from-returns-in-Some-Null-clause-found
-map_from-returns-in-Some-Null-clause-found t c =
+pub read_map-returns-in-Some-Null-clause-found : goal.read_map-returns-in-Some-Null-clause-found
+read_map-returns-in-Some-Null-clause-found t c =
     let first : c.args.reader.now ≡ Token.null ∷ c.next.new.self = grind arith in
     null_front _ c.args.depth c.args.reader.now c.next.new.self (inl (refl, refl)) first
 
-pub map_from-returns-in_ok-pairs_from-in-Some-BeginArray-clause-found : goal.map_from-returns-in_ok-pairs_from-in-Some-BeginArray-clause-found
-map_from-returns-in_ok-pairs_from-in-Some-BeginArray-clause-found t c =
+pub read_map-returns-in-Some-Map-clause-found : goal.read_map-returns-in-Some-Map-clause-found
+read_map-returns-in-Some-Map-clause-found t c =
     let first : c.args.reader.now ≡ Token.begin_array ∷ c.next.new.self = grind arith in
-    let found = c.in_ok-pairs_from-in-Some-BeginArray in
-    map_front (Spells (shape c.args.key.now)) (Spells (shape c.args.value.now)) found.field-0 c.args.depth c.args.reader.now c.next.new.self c.pairs_from.new.reader first (omega arith) found.ensures.found
+    let found = IfOk-weaker c.read_pairs.result _ (λ done. ValueFront (λ d. OrNull d (view (Some (MapOf c.read_pairs.new.pairs))) (MapSpells (Spells (shape c.args.key.now)) (Spells (shape c.args.value.now)) d (view (Some (MapOf c.read_pairs.new.pairs))))) c.args.depth c.args.reader.now c.read_pairs.new.reader)
+    (λ done h. map_front (Spells (shape c.args.key.now)) (Spells (shape c.args.value.now)) c.read_pairs.new.pairs c.args.depth c.args.reader.now c.next.new.self c.read_pairs.new.reader first (omega arith) h)
+    c.read_pairs.ensures.found in
+    rw c.in-Some-Map.field-0-is (search (rules, the_lemmas, found))
 
-pub struct_from-returns-in-Some-Null-clause-found : goal.struct_from-returns-in-Some-Null-clause-found
-struct_from-returns-in-Some-Null-clause-found t c =
+pub read_struct-returns-in-Some-Null-clause-found : goal.read_struct-returns-in-Some-Null-clause-found
+read_struct-returns-in-Some-Null-clause-found t c =
     let first : c.args.reader.now ≡ Token.null ∷ c.next.new.self = grind arith in
     null_front _ c.args.depth c.args.reader.now c.next.new.self (inl (refl, refl)) first
 
-pub struct_from-returns-in_ok-fields_of-in-Some-BeginObject-clause-found : goal.struct_from-returns-in_ok-fields_of-in-Some-BeginObject-clause-found
-struct_from-returns-in_ok-fields_of-in-Some-BeginObject-clause-found t c =
+pub read_struct-returns-in-Some-Struct-clause-found : goal.read_struct-returns-in-Some-Struct-clause-found
+unfolding value.out-Value denote.Hole.Carrier.out
+read_struct-returns-in-Some-Struct-clause-found t c =
     let first : c.args.reader.now ≡ Token.begin_object ∷ c.next.new.self = grind arith in
-    let found = c.in_ok-fields_of-in-Some-BeginObject in
-    struct_front (fields c.args.fields.now.items) found.field-0 c.args.depth c.args.reader.now c.next.new.self c.fields_of.new.reader first (omega arith) found.ensures.found
+    let fs = fields c.args.fields.now.items in
+    let found = IfOk-weaker c.read_fields.result _ (λ done. ValueFront (λ d. OrNull d (view (Some (StructOf c.read_fields.new.rows))) (ObjectSpells (names_of fs) (λ cs. FieldsSpell fs d cs) d (view (Some (StructOf c.read_fields.new.rows))))) c.args.depth c.args.reader.now c.read_fields.new.reader)
+    (λ done h. struct_front fs c.read_fields.new.rows c.args.depth c.args.reader.now c.next.new.self c.read_fields.new.reader first (omega arith) h)
+    c.read_fields.ensures.found in
+    rw c.in-Some-Struct.field-0-is (search (rules, the_lemmas, found))
 
--- ---- elements_of
+-- ---- read_elements
 
-pub elements_of-elements-preserved : goal.elements_of-elements-preserved
-elements_of-elements-preserved t c =
+pub read_elements-elements-preserved : goal.read_elements-elements-preserved
+read_elements-elements-preserved t c =
     let Is = Spells (shape c.args.tree.now) in
+    let i = c.elements.count in
     let going : (after_end_array c.elements.reader ≡ None) × (c.take_end_array.new.self ≡ c.elements.reader) = grind arith in
-    let row = c.in_ok-row.row in
-    let front : ValueFront (λ d. Is d (view row)) c.args.depth c.elements.reader c.row_of.new.reader =
-    subst (λ (ts : List Token). ValueFront (λ d. Is d (view row)) c.args.depth ts c.row_of.new.reader) going.1 c.in_ok-row.ensures.found in
-    let less : length c.row_of.new.reader < length c.elements.reader = rw (← going.1) c.in_ok-row.ensures.shorter in
-    let pushed : views c.push.new.self.items ≡ views c.elements.rows.items ++ view row ∷ [] = ap views c.in_ok-push.ensures.items ∙ map-append view c.elements.rows.items (row ∷ []) in
-    rw pushed (elements_next Is c.args.depth c.args.reader.now c.elements.reader c.row_of.new.reader (views c.elements.rows.items) (view row) going.0 front less c.elements.invariant)
+    let row = c.read_value.new.cell in
+    let rows = c.make_row_room.new.rows.items in
+    let room : i < length rows = c.in_ok-make_row_room.ensures.room in
+    let same : take i rows ≡ take i c.elements.rows.items = c.in_ok-make_row_room.ensures.before in
+    let front : ValueFront (λ d. Is d (view row)) c.args.depth c.elements.reader c.read_value.new.reader =
+    subst (λ (ts : List Token). ValueFront (λ d. Is d (view row)) c.args.depth ts c.read_value.new.reader) going.1 c.in_ok-read_value.ensures.found in
+    let less : length c.read_value.new.reader < length c.elements.reader = rw (← going.1) c.in_ok-read_value.ensures.shorter in
+    let grown : views (take (i + 1) (set rows i row)) ≡ views (take i c.elements.rows.items) ++ view row ∷ [] =
+    ap views (take_more_set rows i row room ∙ ap (λ (xs : List (Option Value)). xs ++ row ∷ []) same) ∙ map-append view (take i c.elements.rows.items) (row ∷ []) in (
+      rw grown (elements_next Is c.args.depth c.args.reader.now c.elements.reader c.read_value.new.reader (views (take i c.elements.rows.items)) (view row) going.0 front less c.elements.invariant.0),
+      omega (arith, length-set rows i row),
+    )
 
-pub elements_of-returns-clause-found : goal.elements_of-returns-clause-found
-elements_of-returns-clause-found t c =
-    rw c.shrink_to_fit.ensures.items
-    (elements_last (Spells (shape c.args.tree.now)) c.args.depth c.args.reader.now c.elements.reader c.take_end_array.new.self (views c.elements.rows.items) c.elements-test.ensures c.elements.invariant)
+pub read_elements-returns-clause-found : goal.read_elements-returns-clause-found
+read_elements-returns-clause-found t c =
+    rw c.cut_rows.ensures
+    (elements_last (Spells (shape c.args.tree.now)) c.args.depth c.args.reader.now c.elements.reader c.take_end_array.new.self (views (take c.elements.count c.elements.rows.items)) c.elements-test.ensures c.elements.invariant.0)
 
 -- ---- pairs
 
-pub pair_from-returns-clause-found : goal.pair_from-returns-clause-found
-pair_from-returns-clause-found t c =
+pub read_pair-returns-clause-found : goal.read_pair-returns-clause-found
+read_pair-returns-clause-found t c =
     let K = Spells (shape c.args.key.now) in
     let V = Spells (shape c.args.value.now) in
     let first : c.args.reader.now ≡ Token.begin_array ∷ c.next.new.self = grind arith in
-    let k = view c.in_ok-key.key in
-    let v = view c.in_ok-value.value in
-    let a = c.in_ok-key.ensures in
-    let b = c.in_ok-value.ensures in
-    let ended : after_end_array c.row_of-2.new.reader ≡ Some c.take_end_array.new.self = c.if-not-take_end_array.ensures in
+    let k = view c.read_value.new.cell in
+    let v = view c.read_value-2.new.cell in
+    let a = c.in_ok-read_value.ensures in
+    let b = c.in_ok-read_value-2.ensures in
+    let ended : after_end_array c.read_value-2.new.reader ≡ Some c.take_end_array.new.self = c.if-not-take_end_array.ensures in
     pair_front K V k v c.args.depth c.args.reader.now c.next.new.self c.take_end_array.new.self first (omega arith)
-    (two_front (λ d. K d k) (λ d. V d v) (c.args.depth - 1) c.next.new.self c.row_of.new.reader c.row_of-2.new.reader c.take_end_array.new.self a.found b.found ended a.shorter b.shorter)
+    (two_front (λ d. K d k) (λ d. V d v) (c.args.depth - 1) c.next.new.self c.read_value.new.reader c.read_value-2.new.reader c.take_end_array.new.self a.found b.found ended a.shorter b.shorter)
 
-pub pairs_from-pairs-preserved : goal.pairs_from-pairs-preserved
-pairs_from-pairs-preserved t c =
+pub read_pairs-pairs-preserved : goal.read_pairs-pairs-preserved
+read_pairs-pairs-preserved t c =
     let K = Spells (shape c.args.key.now) in
     let V = Spells (shape c.args.value.now) in
+    let i = c.pairs.count in
     let going : (after_end_array c.pairs.reader ≡ None) × (c.take_end_array.new.self ≡ c.pairs.reader) = grind arith in
-    let p = c.in_ok-pair.pair in
-    let front : ValueFront (λ d. PairSpells K V d (paired p).0 (paired p).1) c.args.depth c.pairs.reader c.pair_from.new.reader =
-    subst (λ (q : Cell × Cell). ValueFront (λ d. PairSpells K V d q.0 q.1) c.args.depth c.pairs.reader c.pair_from.new.reader) (sym (paired-is p))
-    (subst (λ (ts : List Token). ValueFront (λ d. PairSpells K V d (view p.key) (view p.value)) c.args.depth ts c.pair_from.new.reader) going.1 c.in_ok-pair.ensures.found) in
-    let less : length c.pair_from.new.reader < length c.pairs.reader = rw (← going.1) c.in_ok-pair.ensures.shorter in
-    let pushed : map paired c.push.new.self.items ≡ map paired c.pairs.pairs.items ++ paired p ∷ [] = ap (map paired) c.in_ok-push.ensures.items ∙ map-append paired c.pairs.pairs.items (p ∷ []) in
-    rw pushed (pairs_next K V c.args.depth c.args.reader.now c.pairs.reader c.pair_from.new.reader (map paired c.pairs.pairs.items) (paired p) going.0 front less c.pairs.invariant)
+    let p = c.read_pair.new.pair in
+    let ps = c.make_pair_room.new.pairs.items in
+    let room : i < length ps = c.in_ok-make_pair_room.ensures.room in
+    let same : take i ps ≡ take i c.pairs.pairs.items = c.in_ok-make_pair_room.ensures.before in
+    let front : ValueFront (λ d. PairSpells K V d (paired p).0 (paired p).1) c.args.depth c.pairs.reader c.read_pair.new.reader =
+    subst (λ (q : Cell × Cell). ValueFront (λ d. PairSpells K V d q.0 q.1) c.args.depth c.pairs.reader c.read_pair.new.reader) (sym (paired-is p))
+    (subst (λ (ts : List Token). ValueFront (λ d. PairSpells K V d (view p.key) (view p.value)) c.args.depth ts c.read_pair.new.reader) going.1 c.in_ok-read_pair.ensures.found) in
+    let less : length c.read_pair.new.reader < length c.pairs.reader = rw (← going.1) c.in_ok-read_pair.ensures.shorter in
+    let grown : map paired (take (i + 1) (set ps i p)) ≡ map paired (take i c.pairs.pairs.items) ++ paired p ∷ [] =
+    ap (map paired) (take_more_set ps i p room ∙ ap (λ (xs : List MapPair). xs ++ p ∷ []) same) ∙ map-append paired (take i c.pairs.pairs.items) (p ∷ []) in (
+      rw grown (pairs_next K V c.args.depth c.args.reader.now c.pairs.reader c.read_pair.new.reader (map paired (take i c.pairs.pairs.items)) (paired p) going.0 front less c.pairs.invariant.0),
+      omega (arith, length-set ps i p),
+    )
 
-pub pairs_from-returns-clause-found : goal.pairs_from-returns-clause-found
-pairs_from-returns-clause-found t c =
-    rw c.shrink_to_fit.ensures.items
-    (pairs_last (Spells (shape c.args.key.now)) (Spells (shape c.args.value.now)) c.args.depth c.args.reader.now c.pairs.reader c.take_end_array.new.self (map paired c.pairs.pairs.items) c.pairs-test.ensures c.pairs.invariant)
+pub read_pairs-returns-clause-found : goal.read_pairs-returns-clause-found
+read_pairs-returns-clause-found t c =
+    rw c.cut_pairs.ensures
+    (pairs_last (Spells (shape c.args.key.now)) (Spells (shape c.args.value.now)) c.args.depth c.args.reader.now c.pairs.reader c.take_end_array.new.self (map paired (take c.pairs.count c.pairs.pairs.items)) c.pairs-test.ensures c.pairs.invariant.0)
 
 -- ---- fields
 
-pub fields_of-members-init : goal.fields_of-members-init
-fields_of-members-init t c =
-    let as_many : c.len.result ≡ length c.args.fields.now.items = omega arith in
-    let none : c.in_ok-rows.rows.items ≡ replicate (length c.args.fields.now.items) None = c.in_ok-rows.ensures ∙ ap (λ (n : ℕ). replicate n None) as_many in
-    fields_first c.args.fields.now.items c.args.depth c.args.reader.now c.in_ok-rows.rows.items none
+pub read_fields-members-init : goal.read_fields-members-init
+read_fields-members-init t c = (fields_first c.args.fields.now.items c.args.depth c.args.reader.now c.args.rows.now.items c.requires.as_many, omega arith)
 
-pub fields_of-row_of-requires : goal.fields_of-row_of-requires
-fields_of-row_of-requires t c =
+pub read_fields-pass_to-next-requires : goal.read_fields-pass_to-next-requires
+read_fields-pass_to-next-requires t c =
+    let placed = c.in-Some-place_of.ensures in
+    let as_many : length (read_up_to c.members.next c.members.rows.items) ≡ length c.args.fields.now.items = c.members.invariant.0.as_many in
+    omega (arith, placed.0, ap length c.deref.ensures.value, as_many, read_up_to-length c.members.next c.members.rows.items)
+
+pub read_fields-index_mut-requires : goal.read_fields-index_mut-requires
+read_fields-index_mut-requires t c =
+    let placed = c.in-Some-place_of.ensures in
+    let as_many : length (read_up_to c.members.next c.members.rows.items) ≡ length c.args.fields.now.items = c.members.invariant.0.as_many in
+    omega (arith, placed.0, ap length c.deref.ensures.value, as_many, read_up_to-length c.members.next c.members.rows.items, c.pass_to-next.ensures.len)
+
+pub read_fields-read_value-requires : goal.read_fields-read_value-requires
+read_fields-read_value-requires t c =
     let placed = c.in-Some-place_of.ensures in
     let lt : c.in-Some-place_of.place < length c.args.fields.now.items = omega (arith, placed.0, ap length c.deref.ensures.value) in
     let less : 4 * c.args.depth + 1 < t = omega arith in
-    (less, distinct_at c.args.fields.now.items c.in-Some-place_of.place c.index-field.result.now lt c.index-field.ensures c.requires.distinct)
+    (less, distinct_at c.args.fields.now.items c.in-Some-place_of.place c.index.result.now lt c.index.ensures c.requires.distinct)
 
-pub fields_of-members-preserved : goal.fields_of-members-preserved
-fields_of-members-preserved t c =
+pub read_fields-members-preserved : goal.read_fields-members-preserved
+read_fields-members-preserved t c =
     let fs = c.args.fields.now.items in
     let i = c.in-Some-place_of.place in
-    let f = c.index-field.result.now in
+    let f = c.index.result.now in
     let k = c.in-Some.name.now in
     let s = c.next_key.new.self in
+    let row = c.read_value.new.cell in
+    let old = read_up_to c.members.next c.members.rows.items in
     let placed = c.in-Some-place_of.ensures in
     let lt : i < length fs = omega (arith, placed.0, ap length c.deref.ensures.value) in
-    let named : string_bytes f.name ≡ k = placed.1 f (c.index-field.ensures ∙ ap (λ (gs : List Field). get_or gs i f) (sym c.deref.ensures.value)) in
+    let named : string_bytes f.name ≡ k = placed.1 f (c.index.ensures ∙ ap (λ (gs : List Field). get_or gs i f) (sym c.deref.ensures.value)) in
     let key : read_key c.members.reader ≡ Some (Some k, s) = grind arith in
-    fields_next fs c.args.depth c.args.reader.now c.members.reader s c.row_of.new.reader c.members.rows.items k i f c.in_ok-row.row lt c.index-field.ensures named c.requires.names key c.in_ok-row.ensures.found
-    (read_key-shorter c.members.reader (Some k) s key) c.in_ok-row.ensures.shorter c.members.invariant
+    let moved : read_up_to c.pass_to-next.result (set c.pass_to-next.new.rows.items i row) ≡ set old i row = c.pass_to-next.ensures.rows row in (
+      rw moved (fields_next fs c.args.depth c.args.reader.now c.members.reader s c.read_value.new.reader old k i f row lt c.index.ensures named c.requires.names key c.in_ok-read_value.ensures.found
+          (read_key-shorter c.members.reader (Some k) s key) c.in_ok-read_value.ensures.shorter c.members.invariant.0),
+      omega (arith, length-set c.pass_to-next.new.rows.items i row),
+    )
 
-pub fields_of-returns-clause-found : goal.fields_of-returns-clause-found
-fields_of-returns-clause-found t c =
+pub read_fields-returns-clause-found : goal.read_fields-returns-clause-found
+read_fields-returns-clause-found t c =
     let ended : read_key c.members.reader ≡ Some (None, c.next_key.new.self) = grind arith in
-    fields_last c.args.fields.now.items c.args.depth c.args.reader.now c.members.reader c.next_key.new.self c.members.rows.items ended c.members.invariant
+    rw c.end_at.ensures (fields_last c.args.fields.now.items c.args.depth c.args.reader.now c.members.reader c.next_key.new.self (read_up_to c.members.next c.members.rows.items) ended c.members.invariant.0)

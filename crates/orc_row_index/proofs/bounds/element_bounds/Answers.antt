@@ -1,47 +1,48 @@
 use Rattle.std.proofs.Common.{◌≡◌, ◌+◌, length, get_or, ap, arith}
 use Rattle.std.specs.List.{flat_map}
 use Rattle.orc_types.specs.Cells.{parts, values}
-use Rattle.orc_types.specs.Lent.{lent_cells}
+use Rattle.orc_row_index.specs.OwnCells.{own_cells}
 use Rattle.orc_row_index.specs.Bounds.{elements_before}
-use Rattle.orc_row_index.proofs.Groups.{bound_ahead, bound_there, bound_rises, lent_long, elements_between, elements_within, found_more}
+use Rattle.orc_row_index.proofs.OwnLemmas.{owns_long}
+use Rattle.orc_row_index.proofs.Groups.{bound_ahead, bound_there, bound_rises, elements_between, elements_within, found_more}
 use Rattle.orc_row_index.proofs.bounds.element_bounds.Goals as goal
 
-pub cells_between-requires-clause-there : goal.cells_between-requires-clause-there
-cells_between-requires-clause-there c = bound_there c.args.cells.now c.args.bounds.now c.loop-bound.bound-index c.requires.bounds c.loop-bound-test.true
+pub owns_between-requires-clause-there : goal.owns_between-requires-clause-there
+owns_between-requires-clause-there c = bound_there c.args.owns.now c.args.bounds.now c.loop-bound.bound-index c.requires.bounds c.loop-bound-test.true
 
 pub count_elements-count-requires : goal.count_elements-count-requires
 count_elements-count-requires c =
-    let cells = lent_cells c.args.cells.now in
+    let cells = own_cells c.args.owns.now in
     let at = c.loop-bound.at in
     let bound = get_or c.args.bounds.now c.loop-bound.bound-index 0 in
-    let there = bound_there c.args.cells.now c.args.bounds.now c.loop-bound.bound-index c.requires.bounds c.loop-bound-test.true in
+    let there = bound_there c.args.owns.now c.args.bounds.now c.loop-bound.bound-index c.requires.bounds c.loop-bound-test.true in
     omega (
       arith,
       c.requires.few,
-      ap (λ cs. length (flat_map parts (values cs))) c.cells_between.ensures,
+      ap (λ cs. length (flat_map parts (values cs))) c.owns_between.ensures,
       elements_between cells at bound (bound_ahead (length cells) c.args.bounds.now c.loop-bound.bound-index at c.loop-bound-test.true c.loop-bound.invariant.begun),
-      elements_within cells bound (omega (arith, there, lent_long c.args.cells.now)),
+      elements_within cells bound (omega (arith, there, owns_long c.args.owns.now)),
     )
 
 pub overflow_add-count : goal.overflow_add-count
 overflow_add-count c =
-    let cells = lent_cells c.args.cells.now in
+    let cells = own_cells c.args.owns.now in
     let at = c.loop-bound.at in
     let bound = get_or c.args.bounds.now c.loop-bound.bound-index 0 in
-    let there = bound_there c.args.cells.now c.args.bounds.now c.loop-bound.bound-index c.requires.bounds c.loop-bound-test.true in
+    let there = bound_there c.args.owns.now c.args.bounds.now c.loop-bound.bound-index c.requires.bounds c.loop-bound-test.true in
     omega (
       arith,
       c.requires.few,
       c.loop-bound.invariant.counted,
       c.count_elements-count.ensures,
-      ap (λ cs. length (flat_map parts (values cs))) c.cells_between.ensures,
+      ap (λ cs. length (flat_map parts (values cs))) c.owns_between.ensures,
       elements_between cells at bound (bound_ahead (length cells) c.args.bounds.now c.loop-bound.bound-index at c.loop-bound-test.true c.loop-bound.invariant.begun),
-      elements_within cells bound (omega (arith, there, lent_long c.args.cells.now)),
+      elements_within cells bound (omega (arith, there, owns_long c.args.owns.now)),
     )
 
 pub loop-bound-preserved : goal.loop-bound-preserved
 loop-bound-preserved c =
-    let cells = lent_cells c.args.cells.now in
+    let cells = own_cells c.args.owns.now in
     let at = c.loop-bound.at in
     let i = c.loop-bound.bound-index in
     let bound = get_or c.args.bounds.now i 0 in
@@ -49,7 +50,7 @@ loop-bound-preserved c =
       arith,
       c.loop-bound.invariant.counted,
       c.count_elements-count.ensures,
-      ap (λ cs. length (flat_map parts (values cs))) c.cells_between.ensures,
+      ap (λ cs. length (flat_map parts (values cs))) c.owns_between.ensures,
       elements_between cells at bound (bound_ahead (length cells) c.args.bounds.now c.loop-bound.bound-index at c.loop-bound-test.true c.loop-bound.invariant.begun),
     ) in
     record {

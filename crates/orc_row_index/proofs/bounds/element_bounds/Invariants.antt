@@ -1,11 +1,11 @@
 use Rattle.std.proofs.Common.{◌≡◌, ◌++◌, ◌≤◌, length, map, drop}
-use Rattle.orc_types.specs.Lent.{lent_cells}
+use Rattle.orc_row_index.specs.OwnCells.{own_cells}
 use Rattle.orc_row_index.specs.Bounds.{bound_at, elements_before}
 use Rattle.orc_row_index.proofs.bounds.element_bounds.Given as goal
 
 abbrev pub invariant-loop-bound : goal.invariant-loop-bound
 invariant-loop-bound l = record {
-  begun : l.at ≤ bound_at (length (lent_cells l.fn.cells)) l.fn.bounds l.bound-index;
-  counted : l.count ≡ elements_before (lent_cells l.fn.cells) l.at;
-  found : l.found.items ++ map (elements_before (lent_cells l.fn.cells)) (drop l.bound-index l.fn.bounds) ≡ map (elements_before (lent_cells l.fn.cells)) l.fn.bounds;
+  begun : l.at ≤ bound_at (length (own_cells l.fn.owns)) l.fn.bounds l.bound-index;
+  counted : l.count ≡ elements_before (own_cells l.fn.owns) l.at;
+  found : l.found.items ++ map (elements_before (own_cells l.fn.owns)) (drop l.bound-index l.fn.bounds) ≡ map (elements_before (own_cells l.fn.owns)) l.fn.bounds;
 }

@@ -1,32 +1,33 @@
 use Rattle.std.proofs.Common.{◌≡◌, ◌+◌, length, take, get_or, ap, arith}
 use Rattle.orc_types.specs.Cells.{values}
-use Rattle.orc_types.specs.Lent.{lent_cells}
+use Rattle.orc_row_index.specs.OwnCells.{own_cells}
 use Rattle.orc_row_index.specs.Bounds.{values_before}
-use Rattle.orc_row_index.proofs.Groups.{bound_ahead, bound_there, bound_rises, lent_long, values_between, values_few, take_short, found_more}
+use Rattle.orc_row_index.proofs.OwnLemmas.{owns_long}
+use Rattle.orc_row_index.proofs.Groups.{bound_ahead, bound_there, bound_rises, values_between, values_few, take_short, found_more}
 use Rattle.orc_row_index.proofs.bounds.field_bounds.Goals as goal
 
-pub cells_between-requires-clause-there : goal.cells_between-requires-clause-there
-cells_between-requires-clause-there c = bound_there c.args.cells.now c.args.bounds.now c.loop-bound.bound-index c.requires c.loop-bound-test.true
+pub owns_between-requires-clause-there : goal.owns_between-requires-clause-there
+owns_between-requires-clause-there c = bound_there c.args.owns.now c.args.bounds.now c.loop-bound.bound-index c.requires c.loop-bound-test.true
 
 pub overflow_add-count : goal.overflow_add-count
 overflow_add-count c =
-    let cells = lent_cells c.args.cells.now in
+    let cells = own_cells c.args.owns.now in
     let at = c.loop-bound.at in
     let bound = get_or c.args.bounds.now c.loop-bound.bound-index 0 in
     omega (
       arith,
       c.loop-bound.invariant.counted,
       c.count_values-count.ensures,
-      ap (λ cs. length (values cs)) c.cells_between.ensures,
+      ap (λ cs. length (values cs)) c.owns_between.ensures,
       values_between cells at bound (bound_ahead (length cells) c.args.bounds.now c.loop-bound.bound-index at c.loop-bound-test.true c.loop-bound.invariant.begun),
       values_few (take bound cells),
       take_short bound cells,
-      lent_long c.args.cells.now,
+      owns_long c.args.owns.now,
     )
 
 pub loop-bound-preserved : goal.loop-bound-preserved
 loop-bound-preserved c =
-    let cells = lent_cells c.args.cells.now in
+    let cells = own_cells c.args.owns.now in
     let at = c.loop-bound.at in
     let i = c.loop-bound.bound-index in
     let bound = get_or c.args.bounds.now i 0 in
@@ -34,7 +35,7 @@ loop-bound-preserved c =
       arith,
       c.loop-bound.invariant.counted,
       c.count_values-count.ensures,
-      ap (λ cs. length (values cs)) c.cells_between.ensures,
+      ap (λ cs. length (values cs)) c.owns_between.ensures,
       values_between cells at bound (bound_ahead (length cells) c.args.bounds.now c.loop-bound.bound-index at c.loop-bound-test.true c.loop-bound.invariant.begun),
     ) in
     record {

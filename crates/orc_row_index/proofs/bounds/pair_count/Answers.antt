@@ -1,7 +1,9 @@
-use Rattle.std.proofs.Common.{arith}
-use Rattle.std.proofs.lemmas.List.{length-map}
-use Rattle.orc_types.proofs.Views.{list_of-paired, view-Map}
+use Rattle.std.proofs.Common.{length, sym, ap, ◌∙◌}
+use Rattle.orc_types.specs.Cells.{pairs_in}
+use Rattle.orc_types.specs.Own.{own_cell}
+use Rattle.orc_types.specs.declared.own.Own.{Own}
+use Rattle.orc_types.proofs.Childless.{map_size}
 use Rattle.orc_row_index.proofs.bounds.pair_count.Goals as goal
 
-pub returns-in-Some-Map : goal.returns-in-Some-Map
-returns-in-Some-Map c = grind (arith, view-Map, list_of-paired, length-map)
+pub returns-in-Map : goal.returns-in-Map
+returns-in-Map c = sym (ap (λ (own : Own). length (pairs_in (own_cell own))) c.in-Map.is ∙ map_size c.in-Map.size)

@@ -1,6 +1,8 @@
 use Rattle.std.proofs.Common.{◌≡◌, ◌∙◌, ℕ, Some, List, [], ◌∷◌, ◌++◌, refl, sym, ap, subst}
+use Rattle.std.proofs.lemmas.List.{append-nil}
 use Rattle.orc_positions.specs.BitPosition.{IsBitPlace}
-use Rattle.orc_wire.specs.CanonicalMessages.{row_index_text}
+use Rattle.orc_wire.specs.CanonicalMessages.{row_index_text, row_index_entry_text}
+use Rattle.orc_wire.specs.CanonicalText.{sized_text}
 use Rattle.orc_wire.specs.declared.row_index.RowIndexEntry.{RowIndexEntry}
 use Rattle.orc_row_index.specs.Places.{PlacesIn, is_place}
 use Rattle.orc_row_index.specs.Walking.{runs, lent_bytes}
@@ -12,14 +14,14 @@ returns-in-Ok-clause-entry c = λ before counted there.
     let put = c.in_ok-walk.ensures.places before counted there in
     let positions : c.from_vec.result ≡ put.0 = c.from_vec.ensures ∙ put.2 ∙ ap (λ (ps : List ℕ). ps ++ put.0) c.in_ok-positions.ensures.items in
     let entry : RowIndexEntry = record { positions = c.from_vec.result; statistics = Some c.in_ok-message_of.field-0 } in
-    let entries : c.from_vec-2.result ≡ entry ∷ [] = c.from_vec-2.ensures ∙ c.in_ok-push.ensures.items ∙ ap (λ (es : List RowIndexEntry). es ++ entry ∷ []) c.in_ok-entries.ensures.items in (
+    let field = sized_text 1 (row_index_entry_text.text entry) in (
       row_index_text.text (record { entries = entry ∷ [] }),
       record {
         entry = entry;
         places = subst (λ (ps : List ℕ). PlacesIn is_place IsBitPlace (runs placed.present) (lent_bytes placed.content) (runs placed.own) before ps) (sym positions) put.1;
         statistics = ap Some c.in_ok-message_of.ensures;
-        bounded = subst (λ (es : List RowIndexEntry). row_index_text.bounded (record { entries = es })) entries c.in-Ok.ensures.bounded;
+        bounded = (c.in-Ok.ensures.bounded, tt);
         text_is = refl;
       },
-      c.in-Ok.ensures.text ∙ ap (λ (es : List RowIndexEntry). c.args.out.now.items ++ row_index_text.text (record { entries = es })) entries,
+      c.in-Ok.ensures.text ∙ ap (λ (t : List ℕ). c.args.out.now.items ++ t) (sym (append-nil field)),
     )

@@ -1,7 +1,7 @@
 use Rattle.std.proofs.Common.{◌≡◌, take, map}
-use Rattle.orc_types.specs.Lent.{lent_cells}
+use Rattle.orc_row_index.specs.OwnCells.{own_cells}
 use Rattle.orc_types.specs.Cells.{is_value}
 use Rattle.orc_stripe_writer.proofs.cell_values.marks_in.Given as goal
 
-abbrev pub invariant-loop-cell : goal.invariant-loop-cell
-invariant-loop-cell l = l.marks.items ≡ map is_value (lent_cells (take l.cell-index l.cells))
+abbrev pub invariant-loop-own : goal.invariant-loop-own
+invariant-loop-own l = l.marks.items ≡ map is_value (own_cells (take l.own-index l.owns))

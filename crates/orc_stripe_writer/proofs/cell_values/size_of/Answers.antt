@@ -1,13 +1,12 @@
-use Rattle.std.proofs.Common.{arith}
-use Rattle.orc_types.proofs.Views.{view-List, view-Map, view-Struct}
-use Rattle.orc_stripe_writer.proofs.CellValuesLemmas.{as_long, as_many_pairs}
+use Rattle.std.proofs.Common.{Some, sym, ap, ◌∙◌}
+use Rattle.orc_types.specs.Own.{own_cell}
+use Rattle.orc_types.specs.declared.own.Own.{Own}
+use Rattle.orc_types.proofs.Childless.{elements_many, pairs_many}
+use Rattle.orc_stripe_writer.specs.CellValues.{size_in}
 use Rattle.orc_stripe_writer.proofs.cell_values.size_of.Goals as goal
 
-pub returns-in-Some-List : goal.returns-in-Some-List
-returns-in-Some-List c = grind (arith, view-List, as_long)
+pub returns-in-List : goal.returns-in-List
+returns-in-List c = ap Some (sym (elements_many c.in-List.size)) ∙ sym (ap (λ (own : Own). size_in (own_cell own)) c.in-List.is)
 
-pub returns-in-Some-Struct : goal.returns-in-Some-Struct
-returns-in-Some-Struct c = grind (arith, view-Struct, as_long)
-
-pub returns-in-Some-Map : goal.returns-in-Some-Map
-returns-in-Some-Map c = grind (arith, view-Map, as_many_pairs)
+pub returns-in-Map : goal.returns-in-Map
+returns-in-Map c = ap Some (sym (pairs_many c.in-Map.size)) ∙ sym (ap (λ (own : Own). size_in (own_cell own)) c.in-Map.is)

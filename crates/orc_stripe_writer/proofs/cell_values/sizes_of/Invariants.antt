@@ -1,9 +1,9 @@
 use Rattle.std.proofs.Common.{◌≡◌, take}
-use Rattle.orc_types.specs.Lent.{lent_cells}
+use Rattle.orc_row_index.specs.OwnCells.{own_cells}
 use Rattle.orc_rle.specs.declared.sign.Sign.TheVariants.{Unsigned}
 use Rattle.orc_rle.specs.Values.{AllInRange}
 use Rattle.orc_stripe_writer.specs.CellValues.{sizes_in}
 use Rattle.orc_stripe_writer.proofs.cell_values.sizes_of.Given as goal
 
-abbrev pub invariant-loop-cell : goal.invariant-loop-cell
-invariant-loop-cell l = record { sizes : l.found.items ≡ sizes_in (lent_cells (take l.cell-index l.cells)); in_range : AllInRange Unsigned l.found.items }
+abbrev pub invariant-loop-own : goal.invariant-loop-own
+invariant-loop-own l = record { sizes : l.found.items ≡ sizes_in (own_cells (take l.own-index l.owns)); in_range : AllInRange Unsigned l.found.items }

@@ -7,11 +7,14 @@ use Rattle.orc_types.specs.Cells.{Cell, parts, pairs_in, keys_in, values_in, val
 use Rattle.orc_types.specs.Fits.{RowsFit}
 use Rattle.orc_types.specs.Views.{shape, fields}
 use Rattle.orc_types.specs.Lent.{lent_cells}
+use Rattle.orc_types.specs.declared.own.Own.{Own}
 use Rattle.orc_types.proofs.ByColumn.{width_within, parts_values, keys_values, values_values, members_values}
 use Rattle.orc_types.proofs.Together.{elements_fit, structs_fit}
 use Rattle.orc_types.proofs.Views.{shape-Scalar, shape-List, shape-Map, shape-Struct}
 use Rattle.orc_row_index.specs.Bounds.{AreBounds, elements_before, pairs_before, values_before}
+use Rattle.orc_row_index.specs.OwnCells.{own_cells, AreOwn}
 use Rattle.orc_row_index.proofs.Groups.{element_bounds_are, keys_long, map_values_long, field_bounds_are}
+use Rattle.orc_row_index.proofs.OwnLemmas.{owns_long, own_count, all_elements, own_elements, all_pairs, own_pairs, own_values}
 use Rattle.orc_stripe_writer.specs.Firsts.{firsts_of}
 use Rattle.orc_stripe_writer.specs.Groups.{AreGroupsFrom, ArePairGroupsFrom, AreFieldGroupsFrom}
 use Rattle.orc_stripe_writer.specs.WrittenStripe.{AreFew}
@@ -21,8 +24,42 @@ use Rattle.orc_stripe_writer.proofs.GroupLemmas.{pair_bounds_are, bounds_here, g
 use Rattle.orc_stripe_writer.proofs.FieldsWritten.{fields_begin, first_fits, first_few, first_bounded, fields_step, fields_end}
 use Rattle.orc_stripe_writer.proofs.columns.+columns.Goals as goal
 
-pub put_columns-put_column-requires-clause-few : goal.put_columns-put_column-requires-clause-few
-put_columns-put_column-requires-clause-few t c = few_here (shape c.args.tree.now) (lent_cells c.args.cells.now) c.requires.few
+-- what is said of the cells is as many, so that bounds of these are bounds of it
+own_bounds : (owns : List Own) (cells : List Cell) (bounds : List ℕ) → AreOwn owns cells → AreBounds (length cells) bounds → AreBounds (length owns) bounds
+own_bounds owns cells bounds own are = subst (λ (n : ℕ). AreBounds n bounds) (sym (own_count owns cells own)) are
+
+said_bounds : (owns : List Own) (cells : List Cell) (bounds : List ℕ) → AreOwn owns cells → AreBounds (length cells) bounds → AreBounds (length (own_cells owns)) bounds
+said_bounds owns cells bounds own are = subst (λ (n : ℕ). AreBounds n bounds) (sym (owns_long owns)) (own_bounds owns cells bounds own are)
+
+pub put_columns-put_column-requires-clause-column : goal.put_columns-put_column-requires-clause-column
+put_columns-put_column-requires-clause-column t c =
+    let cs = lent_cells c.args.cells.now in
+    let own : AreOwn c.deref.result.now cs = ap own_cells c.deref.ensures.value ∙ c.in_ok-owns.ensures in
+    (cs, own, c.requires.fit, few_here (shape c.args.tree.now) cs c.requires.few)
+
+pub put_columns-put_column-requires-clause-bounds : goal.put_columns-put_column-requires-clause-bounds
+put_columns-put_column-requires-clause-bounds t c =
+    let cs = lent_cells c.args.cells.now in
+    let own : AreOwn c.deref.result.now cs = ap own_cells c.deref.ensures.value ∙ c.in_ok-owns.ensures in
+    own_bounds c.deref.result.now cs c.args.bounds.now own c.requires.bounds
+
+pub put_columns-element_bounds-requires-clause-bounds : goal.put_columns-element_bounds-requires-clause-bounds
+put_columns-element_bounds-requires-clause-bounds t c =
+    let cs = lent_cells c.args.cells.now in
+    let own : AreOwn c.deref-in-List.result.now cs = ap own_cells c.deref-in-List.ensures.value ∙ c.in_ok-owns.ensures in
+    said_bounds c.deref-in-List.result.now cs c.args.bounds.now own c.requires.bounds
+
+pub put_columns-pair_bounds-requires-clause-bounds : goal.put_columns-pair_bounds-requires-clause-bounds
+put_columns-pair_bounds-requires-clause-bounds t c =
+    let cs = lent_cells c.args.cells.now in
+    let own : AreOwn c.deref-in-Map.result.now cs = ap own_cells c.deref-in-Map.ensures.value ∙ c.in_ok-owns.ensures in
+    said_bounds c.deref-in-Map.result.now cs c.args.bounds.now own c.requires.bounds
+
+pub put_columns-field_bounds-requires : goal.put_columns-field_bounds-requires
+put_columns-field_bounds-requires t c =
+    let cs = lent_cells c.args.cells.now in
+    let own : AreOwn c.deref-in-Struct.result.now cs = ap own_cells c.deref-in-Struct.ensures.value ∙ c.in_ok-owns.ensures in
+    said_bounds c.deref-in-Struct.result.now cs c.args.bounds.now own c.requires.bounds
 
 pub put_columns-element_bounds-requires-clause-few : goal.put_columns-element_bounds-requires-clause-few
 put_columns-element_bounds-requires-clause-few t c =
@@ -31,23 +68,25 @@ put_columns-element_bounds-requires-clause-few t c =
     let cs = lent_cells c.args.cells.now in
     let is : shape c.args.tree.now ≡ list_of below o = ap shape c.in-List.is ∙ shape-List c.in-List.element c.in-List.field-1 in
     let few = few_here below (flat_map parts (values cs)) (few_elements below o cs (subst (λ (x : Shape). AreFew x cs) is c.requires.few)) in
-    omega (arith, few)
+    let own : AreOwn c.deref-in-List.result.now cs = ap own_cells c.deref-in-List.ensures.value ∙ c.in_ok-owns.ensures in
+    omega (arith, few, all_elements below o c.deref-in-List.result.now cs own (subst (λ (x : Shape). RowsFit x cs) is c.requires.fit))
 
 pub put_columns-put_columns-requires : goal.put_columns-put_columns-requires
 put_columns-put_columns-requires t c =
     let o = c.in-List.field-1.items in
-    let below = shape c.deref.result.now in
+    let below = shape c.deref-in-List-2.result.now in
     let cs = lent_cells c.args.cells.now in
-    let is : shape c.args.tree.now ≡ list_of below o = ap shape c.in-List.is ∙ shape-List c.in-List.element c.in-List.field-1 ∙ ap (λ x. list_of (shape x) o) (sym c.deref.ensures) in
+    let is : shape c.args.tree.now ≡ list_of below o = ap shape c.in-List.is ∙ shape-List c.in-List.element c.in-List.field-1 ∙ ap (λ x. list_of (shape x) o) (sym c.deref-in-List-2.ensures) in
     let w : width (shape c.args.tree.now) ≡ 1 + width below = ap width is in
-    let here : lent_cells c.deref-in-List.result.now ≡ flat_map parts (values cs) = ap lent_cells c.deref-in-List.ensures.value ∙ c.in_ok-elements-in-List.ensures ∙ sym (parts_values cs) in
-    let bounds : c.deref-in-List-2.result.now ≡ map (elements_before cs) c.args.bounds.now = c.deref-in-List-2.ensures.value ∙ c.in_ok-below-in-List.ensures in (
+    let here : lent_cells c.deref-in-List-3.result.now ≡ flat_map parts (values cs) = ap lent_cells c.deref-in-List-3.ensures.value ∙ c.in_ok-elements-in-List.ensures ∙ sym (parts_values cs) in
+    let own : AreOwn c.deref-in-List.result.now cs = ap own_cells c.deref-in-List.ensures.value ∙ c.in_ok-owns.ensures in
+    let bounds : c.deref-in-List-4.result.now ≡ map (elements_before cs) c.args.bounds.now = c.deref-in-List-4.ensures.value ∙ c.in_ok-below-in-List.ensures ∙ own_elements below o c.deref-in-List.result.now cs c.args.bounds.now own (subst (λ (x : Shape). RowsFit x cs) is c.requires.fit) in (
       omega (arith, w, c.decreases),
       (
         subst (λ (xs : List Cell). RowsFit below xs) (sym here) (elements_fit below o cs (subst (λ (x : Shape). RowsFit x cs) is c.requires.fit)),
         (
           subst (λ (xs : List Cell). AreFew below xs) (sym here) (few_elements below o cs (subst (λ (x : Shape). AreFew x cs) is c.requires.few)),
-          subst (λ (bs : List ℕ). AreBounds (length (lent_cells c.deref-in-List.result.now)) bs) (sym bounds)
+          subst (λ (bs : List ℕ). AreBounds (length (lent_cells c.deref-in-List-3.result.now)) bs) (sym bounds)
               (subst (λ (xs : List Cell). AreBounds (length xs) (map (elements_before cs) c.args.bounds.now)) (sym here) (element_bounds_are cs c.args.bounds.now c.requires.bounds)),
         ),
       ),
@@ -61,17 +100,19 @@ put_columns-pair_bounds-requires-clause-few t c =
     let cs = lent_cells c.args.cells.now in
     let is : shape c.args.tree.now ≡ map_of k v o = ap shape c.in-Map.is ∙ shape-Map c.in-Map.key c.in-Map.value c.in-Map.field-2 in
     let few = few_here k (flat_map keys_in (values cs)) (few_pairs k v o cs (subst (λ (x : Shape). AreFew x cs) is c.requires.few)).0 in
-    omega (arith, few, keys_long (values cs))
+    let own : AreOwn c.deref-in-Map.result.now cs = ap own_cells c.deref-in-Map.ensures.value ∙ c.in_ok-owns.ensures in
+    omega (arith, few, keys_long (values cs), all_pairs c.deref-in-Map.result.now cs own)
 
 pub put_columns-put_pairs-requires : goal.put_columns-put_pairs-requires
 put_columns-put_pairs-requires t c =
     let o = c.in-Map.field-2.items in
-    let k = shape c.deref-in-Map.result.now in
-    let v = shape c.deref-in-Map-2.result.now in
+    let k = shape c.deref-in-Map-2.result.now in
+    let v = shape c.deref-in-Map-3.result.now in
     let cs = lent_cells c.args.cells.now in
-    let is : shape c.args.tree.now ≡ map_of k v o = ap shape c.in-Map.is ∙ shape-Map c.in-Map.key c.in-Map.value c.in-Map.field-2 ∙ ap (λ x. map_of (shape x) (shape c.in-Map.value.value) o) (sym c.deref-in-Map.ensures) ∙ ap (λ x. map_of k (shape x) o) (sym c.deref-in-Map-2.ensures) in
+    let is : shape c.args.tree.now ≡ map_of k v o = ap shape c.in-Map.is ∙ shape-Map c.in-Map.key c.in-Map.value c.in-Map.field-2 ∙ ap (λ x. map_of (shape x) (shape c.in-Map.value.value) o) (sym c.deref-in-Map-2.ensures) ∙ ap (λ x. map_of k (shape x) o) (sym c.deref-in-Map-3.ensures) in
     let w : width (shape c.args.tree.now) ≡ 1 + (width k + width v) = ap width is in
-    let bounds : c.deref-in-Map-3.result.now ≡ map (pairs_before cs) c.args.bounds.now = c.deref-in-Map-3.ensures.value ∙ c.in_ok-below-in-Map.ensures in (
+    let own : AreOwn c.deref-in-Map.result.now cs = ap own_cells c.deref-in-Map.ensures.value ∙ c.in_ok-owns.ensures in
+    let bounds : c.deref-in-Map-4.result.now ≡ map (pairs_before cs) c.args.bounds.now = c.deref-in-Map-4.ensures.value ∙ c.in_ok-below-in-Map.ensures ∙ own_pairs c.deref-in-Map.result.now cs c.args.bounds.now own in (
       omega (arith, w, c.decreases),
       (
         pairs_fit k v o cs (subst (λ (x : Shape). RowsFit x cs) is c.requires.fit),
@@ -85,11 +126,12 @@ put_columns-put_pairs-requires t c =
 pub put_columns-put_fields-requires : goal.put_columns-put_fields-requires
 put_columns-put_fields-requires t c =
     let o = c.in-Struct.field-1.items in
-    let fs = fields c.deref-in-Struct.result.now in
+    let fs = fields c.deref-in-Struct-2.result.now in
     let cs = lent_cells c.args.cells.now in
-    let is : shape c.args.tree.now ≡ struct_of fs o = ap shape c.in-Struct.is ∙ shape-Struct c.in-Struct.fields c.in-Struct.field-1 ∙ ap (λ x. struct_of (fields x) o) (sym c.deref-in-Struct.ensures.value) in
+    let is : shape c.args.tree.now ≡ struct_of fs o = ap shape c.in-Struct.is ∙ shape-Struct c.in-Struct.fields c.in-Struct.field-1 ∙ ap (λ x. struct_of (fields x) o) (sym c.deref-in-Struct-2.ensures.value) in
     let w : width (shape c.args.tree.now) ≡ 1 + widths fs = ap width is in
-    let bounds : c.deref-in-Struct-2.result.now ≡ map (values_before cs) c.args.bounds.now = c.deref-in-Struct-2.ensures.value ∙ c.in_ok-below-in-Struct.ensures in (
+    let own : AreOwn c.deref-in-Struct.result.now cs = ap own_cells c.deref-in-Struct.ensures.value ∙ c.in_ok-owns.ensures in
+    let bounds : c.deref-in-Struct-3.result.now ≡ map (values_before cs) c.args.bounds.now = c.deref-in-Struct-3.ensures.value ∙ c.in_ok-below-in-Struct.ensures ∙ own_values c.deref-in-Struct.result.now cs c.args.bounds.now own in (
       omega (arith, w, c.decreases),
       (
         structs_fit fs o cs (subst (λ (x : Shape). RowsFit x cs) is c.requires.fit),
@@ -106,74 +148,81 @@ put_columns-returns-in-Scalar t c = λ s rows n from groups h.
     let cs = lent_cells c.args.cells.now in
     let t = shape c.args.tree.now in
     let stride = c.args.options.now.stride in
+    let said : AreOwn c.deref.result.now cs = ap own_cells c.deref.ensures.value ∙ c.in_ok-owns.ensures in
     subst (λ (k : ℕ). HasWritten c.args.options.now.rle stride s rows (n + k) c.put_column.new.out) (sym w)
-    (c.in_ok-put_column.ensures s rows n h (type_from s rows n t cs from) (cells_from s rows n t cs from)
+    (c.in_ok-put_column.ensures s rows cs n said c.requires.fit h (type_from s rows n t cs from) (cells_from s rows n t cs from)
     (bounds_here s rows (firsts_of stride (length rows)) n t cs c.args.bounds.now groups c.requires.bounds))
 
-pub put_columns-returns-in_ok-below-in-List : goal.put_columns-returns-in_ok-below-in-List
-put_columns-returns-in_ok-below-in-List t c =
+pub put_columns-returns-in-List : goal.put_columns-returns-in-List
+put_columns-returns-in-List t c =
     let o = c.in-List.field-1.items in
-    let below = shape c.deref.result.now in
+    let below = shape c.deref-in-List-2.result.now in
     let cs = lent_cells c.args.cells.now in
     let t = shape c.args.tree.now in
     let bs = c.args.bounds.now in
     let stride = c.args.options.now.stride in
-    let is : t ≡ list_of below o = ap shape c.in-List.is ∙ shape-List c.in-List.element c.in-List.field-1 ∙ ap (λ x. list_of (shape x) o) (sym c.deref.ensures) in
+    let said : AreOwn c.deref.result.now cs = ap own_cells c.deref.ensures.value ∙ c.in_ok-owns.ensures in
+    let is : t ≡ list_of below o = ap shape c.in-List.is ∙ shape-List c.in-List.element c.in-List.field-1 ∙ ap (λ x. list_of (shape x) o) (sym c.deref-in-List-2.ensures) in
     let w : width t ≡ 1 + width below = ap width is in
-    let here : lent_cells c.deref-in-List.result.now ≡ flat_map parts (values cs) = ap lent_cells c.deref-in-List.ensures.value ∙ c.in_ok-elements-in-List.ensures ∙ sym (parts_values cs) in
-    let bounds : c.deref-in-List-2.result.now ≡ map (elements_before cs) bs = c.deref-in-List-2.ensures.value ∙ c.in_ok-below-in-List.ensures in
+    let here : lent_cells c.deref-in-List-3.result.now ≡ flat_map parts (values cs) = ap lent_cells c.deref-in-List-3.ensures.value ∙ c.in_ok-elements-in-List.ensures ∙ sym (parts_values cs) in
+    let own : AreOwn c.deref-in-List.result.now cs = ap own_cells c.deref-in-List.ensures.value ∙ c.in_ok-owns.ensures in
+    let bounds : c.deref-in-List-4.result.now ≡ map (elements_before cs) bs = c.deref-in-List-4.ensures.value ∙ c.in_ok-below-in-List.ensures ∙ own_elements below o c.deref-in-List.result.now cs bs own (subst (λ (x : Shape). RowsFit x cs) is c.requires.fit) in
     on_ok_weaker c.put_columns.result
     (λ h s rows n from groups written.
     let e : n + 1 + width below ≡ n + width t = omega (arith, w) in
     let firsts = firsts_of stride (length rows) in
-    let mid = c.in_ok-put_column.ensures s rows n written (type_from s rows n t cs from) (cells_from s rows n t cs from) (bounds_here s rows firsts n t cs bs groups c.requires.bounds) in
+    let mid = c.in_ok-put_column.ensures s rows cs n said c.requires.fit written (type_from s rows n t cs from) (cells_from s rows n t cs from) (bounds_here s rows firsts n t cs bs groups c.requires.bounds) in
     let from_element = element_from s rows n below o cs (subst (λ (x : Shape). AreColumnsFrom s rows n x cs) is from) in
     let groups_below = groups_element s rows firsts n below o cs bs (subst (λ (x : Shape). AreGroupsFrom s rows firsts n x cs bs) is groups) in
     subst (λ (k : ℕ). HasWritten c.args.options.now.rle stride s rows k c.put_columns.new.out) e
     (h s rows (n + 1) (subst (λ (xs : List Cell). AreColumnsFrom s rows (n + 1) below xs) (sym here) from_element)
-    (subst (λ (ys : List ℕ). AreGroupsFrom s rows firsts (n + 1) below (lent_cells c.deref-in-List.result.now) ys) (sym bounds)
+    (subst (λ (ys : List ℕ). AreGroupsFrom s rows firsts (n + 1) below (lent_cells c.deref-in-List-3.result.now) ys) (sym bounds)
     (subst (λ (xs : List Cell). AreGroupsFrom s rows firsts (n + 1) below xs (map (elements_before cs) bs)) (sym here) groups_below)) mid))
     c.put_columns.ensures
 
-pub put_columns-returns-in_ok-below-in-Map : goal.put_columns-returns-in_ok-below-in-Map
-put_columns-returns-in_ok-below-in-Map t c =
+pub put_columns-returns-in-Map : goal.put_columns-returns-in-Map
+put_columns-returns-in-Map t c =
     let o = c.in-Map.field-2.items in
-    let k = shape c.deref-in-Map.result.now in
-    let v = shape c.deref-in-Map-2.result.now in
+    let k = shape c.deref-in-Map-2.result.now in
+    let v = shape c.deref-in-Map-3.result.now in
     let cs = lent_cells c.args.cells.now in
     let t = shape c.args.tree.now in
     let bs = c.args.bounds.now in
     let stride = c.args.options.now.stride in
-    let is : t ≡ map_of k v o = ap shape c.in-Map.is ∙ shape-Map c.in-Map.key c.in-Map.value c.in-Map.field-2 ∙ ap (λ x. map_of (shape x) (shape c.in-Map.value.value) o) (sym c.deref-in-Map.ensures) ∙ ap (λ x. map_of k (shape x) o) (sym c.deref-in-Map-2.ensures) in
+    let said : AreOwn c.deref.result.now cs = ap own_cells c.deref.ensures.value ∙ c.in_ok-owns.ensures in
+    let is : t ≡ map_of k v o = ap shape c.in-Map.is ∙ shape-Map c.in-Map.key c.in-Map.value c.in-Map.field-2 ∙ ap (λ x. map_of (shape x) (shape c.in-Map.value.value) o) (sym c.deref-in-Map-2.ensures) ∙ ap (λ x. map_of k (shape x) o) (sym c.deref-in-Map-3.ensures) in
     let w : width t ≡ 1 + (width k + width v) = ap width is in
-    let bounds : c.deref-in-Map-3.result.now ≡ map (pairs_before cs) bs = c.deref-in-Map-3.ensures.value ∙ c.in_ok-below-in-Map.ensures in
+    let own : AreOwn c.deref-in-Map.result.now cs = ap own_cells c.deref-in-Map.ensures.value ∙ c.in_ok-owns.ensures in
+    let bounds : c.deref-in-Map-4.result.now ≡ map (pairs_before cs) bs = c.deref-in-Map-4.ensures.value ∙ c.in_ok-below-in-Map.ensures ∙ own_pairs c.deref-in-Map.result.now cs bs own in
     on_ok_weaker c.put_pairs.result
     (λ h s rows n from groups written.
     let e : n + 1 + (width k + width v) ≡ n + width t = omega (arith, w) in
     let firsts = firsts_of stride (length rows) in
-    let mid = c.in_ok-put_column.ensures s rows n written (type_from s rows n t cs from) (cells_from s rows n t cs from) (bounds_here s rows firsts n t cs bs groups c.requires.bounds) in
+    let mid = c.in_ok-put_column.ensures s rows cs n said c.requires.fit written (type_from s rows n t cs from) (cells_from s rows n t cs from) (bounds_here s rows firsts n t cs bs groups c.requires.bounds) in
     let groups_below = groups_pairs s rows firsts n k v o cs bs (subst (λ (x : Shape). AreGroupsFrom s rows firsts n x cs bs) is groups) in
     subst (λ (j : ℕ). HasWritten c.args.options.now.rle stride s rows j c.put_pairs.new.out) e
     (h s rows (n + 1) (pairs_from s rows n k v o cs (subst (λ (x : Shape). AreColumnsFrom s rows n x cs) is from))
     (subst (λ (ys : List ℕ). ArePairGroupsFrom s rows firsts (n + 1) k v cs ys) (sym bounds) groups_below) mid))
     c.put_pairs.ensures
 
-pub put_columns-returns-in_ok-below-in-Struct : goal.put_columns-returns-in_ok-below-in-Struct
-put_columns-returns-in_ok-below-in-Struct t c =
+pub put_columns-returns : goal.put_columns-returns
+put_columns-returns t c =
     let o = c.in-Struct.field-1.items in
-    let fs = fields c.deref-in-Struct.result.now in
+    let fs = fields c.deref-in-Struct-2.result.now in
     let cs = lent_cells c.args.cells.now in
     let t = shape c.args.tree.now in
     let bs = c.args.bounds.now in
     let stride = c.args.options.now.stride in
-    let is : t ≡ struct_of fs o = ap shape c.in-Struct.is ∙ shape-Struct c.in-Struct.fields c.in-Struct.field-1 ∙ ap (λ x. struct_of (fields x) o) (sym c.deref-in-Struct.ensures.value) in
+    let said : AreOwn c.deref.result.now cs = ap own_cells c.deref.ensures.value ∙ c.in_ok-owns.ensures in
+    let is : t ≡ struct_of fs o = ap shape c.in-Struct.is ∙ shape-Struct c.in-Struct.fields c.in-Struct.field-1 ∙ ap (λ x. struct_of (fields x) o) (sym c.deref-in-Struct-2.ensures.value) in
     let w : width t ≡ 1 + widths fs = ap width is in
-    let bounds : c.deref-in-Struct-2.result.now ≡ map (values_before cs) bs = c.deref-in-Struct-2.ensures.value ∙ c.in_ok-below-in-Struct.ensures in
+    let own : AreOwn c.deref-in-Struct.result.now cs = ap own_cells c.deref-in-Struct.ensures.value ∙ c.in_ok-owns.ensures in
+    let bounds : c.deref-in-Struct-3.result.now ≡ map (values_before cs) bs = c.deref-in-Struct-3.ensures.value ∙ c.in_ok-below-in-Struct.ensures ∙ own_values c.deref-in-Struct.result.now cs bs own in
     on_ok_weaker c.put_fields.result
     (λ h s rows n from groups written.
     let e : n + 1 + widths fs ≡ n + width t = omega (arith, w) in
     let firsts = firsts_of stride (length rows) in
-    let mid = c.in_ok-put_column.ensures s rows n written (type_from s rows n t cs from) (cells_from s rows n t cs from) (bounds_here s rows firsts n t cs bs groups c.requires.bounds) in
+    let mid = c.in_ok-put_column.ensures s rows cs n said c.requires.fit written (type_from s rows n t cs from) (cells_from s rows n t cs from) (bounds_here s rows firsts n t cs bs groups c.requires.bounds) in
     let groups_below = groups_fields s rows firsts n fs o cs bs (subst (λ (x : Shape). AreGroupsFrom s rows firsts n x cs bs) is groups) in
     subst (λ (k : ℕ). HasWritten c.args.options.now.rle stride s rows k c.put_fields.new.out) e
     (h s rows (n + 1) (fields_from s rows n fs o cs (subst (λ (x : Shape). AreColumnsFrom s rows n x cs) is from))

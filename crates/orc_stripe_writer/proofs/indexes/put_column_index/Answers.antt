@@ -2,9 +2,9 @@ use Rattle.std.proofs.Common.{◌≡◌, ℕ, ◌-◌, [], ◌∷◌, ◌++◌, 
 use Rattle.orc_stripe_writer.proofs.indexes.put_column_index.Goals as goal
 
 pub returns-clause-index : goal.returns-clause-index
-returns-clause-index c = λ x are.
+returns-clause-index c = λ cells has x are.
     let old = c.args.out.now in
-    let added = c.in_ok-found.ensures.index x are in
+    let added = c.in_ok-found.ensures.index cells has x are in
     let place : c.in-Ok.column ≡ length old.directory.items = search rules in
     let end : c.len-2.result ≡ length c.put_index.new.out.items = omega (arith, c.len-2.ensures) in
     let start : c.len-start.result ≡ length old.bytes.items = omega (arith, c.len-start.ensures) in

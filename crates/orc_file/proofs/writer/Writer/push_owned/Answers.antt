@@ -1,108 +1,13 @@
-use Rattle.std.proofs.Common.{◌≡◌, ◌≤◌, ◌++◌, ◌∷◌, [], length, ap, ◌∙◌, arith}
+use Rattle.std.proofs.Common.{◌≡◌, arith}
 use Rattle.std.proofs.lemmas.List.{length-map}
-use Rattle.orc_stripe_writer.specs.declared.options.Options.{Options}
 use Rattle.orc_types.specs.Views.{view, views}
-use Rattle.orc_file.proofs.Spread.{HasKept}
+use Rattle.orc_file.proofs.Spread.{HasPushed}
 use Rattle.orc_file.proofs.LimitLemmas.{same_limits}
-use Rattle.orc_file.proofs.PushLemmas.{failed_only, one_more, pushed_full}
-use Rattle.orc_file.proofs.WriterLemmas.{cut_row, kept_row, within_of}
+use Rattle.orc_file.proofs.PushLemmas.{failed_only}
 use Rattle.orc_file.proofs.writer.Writer.push_owned.Goals as goal
-
-pub returns-in_err-keep-clause-cut : goal.returns-in_err-keep-clause-cut
-returns-in_err-keep-clause-cut g c = λ first rows h ready failed.
-    let w = c.args.self.now in
-    let few = h.1 in
-    rw (c.keep.ensures.stands.0, c.admit.ensures.stays.0)
-    (cut_row w.options w.schema first _ w.written w.infos.items w.stats.items (views w.rows.items) rows (view c.args.row) (omega (arith, few)) (within_of w.infos.items w.total _ w.stripes w.total_is w.few_rows w.bytes) c.admit.ensures.schema h.0)
-
-pub returns-then-len-stripe_rows-clause-pushed : goal.returns-then-len-stripe_rows-clause-pushed
-returns-then-len-stripe_rows-clause-pushed g c = λ first rows h.
-    let w = c.args.self.now in
-    let k = c.keep.new.self in
-    let all = rows ++ view c.args.row ∷ [] in
-    let kept_is : views k.rows.items ≡ views w.rows.items ++ view c.args.row ∷ [] = c.in_ok-keep.ensures.kept ∙ ap (λ v. views v.items ++ view c.args.row ∷ []) c.admit.ensures.stays.4 in
-    let kept : HasKept k.options k.schema first (g.W.Sink.told k.out) k.written k.infos.items k.stats.items (views k.rows.items) all =
-    rw (
-      kept_is,
-      c.keep.ensures.same.0,
-      c.keep.ensures.same.1,
-      c.keep.ensures.stands.0,
-      c.keep.ensures.stands.1,
-      c.keep.ensures.stands.2,
-      c.keep.ensures.stands.3,
-      c.admit.ensures.same.0,
-      c.admit.ensures.same.1,
-      c.admit.ensures.stays.0,
-      c.admit.ensures.stays.1,
-      c.admit.ensures.stays.2,
-      c.admit.ensures.stays.3,
-    )
-    (kept_row w.options w.schema first _ w.written w.infos.items w.stats.items (views w.rows.items) rows (view c.args.row) h.0) in
-    let few = h.1 in
-    let l = length-map w.rows.items view in
-    let more = one_more w.rows.items k.rows.items (view c.args.row) kept_is in
-    let size = ap (λ (o : Options). o.stripe_rows) (c.keep.ensures.same.1 ∙ c.admit.ensures.same.1) in
-    let full : length k.rows.items ≡ k.options.stripe_rows = omega (arith, few, l, more, size, c.len.ensures, c.stripe_rows.ensures, k.rows.ok.0) in
-    let n = c.close.new.self in
-    pushed_full c.close.result n.options n.schema first _ n.written n.infos.items n.stats.items n.rows.items all n.options.some c.close.ensures.empty (c.close.ensures.kept first all full kept)
-
-pub returns-then-len-stripe_rows-clause-cut : goal.returns-then-len-stripe_rows-clause-cut
-returns-then-len-stripe_rows-clause-cut g c = λ first rows h ready failed.
-    let w = c.args.self.now in
-    let k = c.keep.new.self in
-    let all = rows ++ view c.args.row ∷ [] in
-    let kept_is : views k.rows.items ≡ views w.rows.items ++ view c.args.row ∷ [] = c.in_ok-keep.ensures.kept ∙ ap (λ v. views v.items ++ view c.args.row ∷ []) c.admit.ensures.stays.4 in
-    let kept : HasKept k.options k.schema first (g.W.Sink.told k.out) k.written k.infos.items k.stats.items (views k.rows.items) all =
-    rw (
-      kept_is,
-      c.keep.ensures.same.0,
-      c.keep.ensures.same.1,
-      c.keep.ensures.stands.0,
-      c.keep.ensures.stands.1,
-      c.keep.ensures.stands.2,
-      c.keep.ensures.stands.3,
-      c.admit.ensures.same.0,
-      c.admit.ensures.same.1,
-      c.admit.ensures.stays.0,
-      c.admit.ensures.stays.1,
-      c.admit.ensures.stays.2,
-      c.admit.ensures.stays.3,
-    )
-    (kept_row w.options w.schema first _ w.written w.infos.items w.stats.items (views w.rows.items) rows (view c.args.row) h.0) in
-    let few = h.1 in
-    let l = length-map w.rows.items view in
-    let more = one_more w.rows.items k.rows.items (view c.args.row) kept_is in
-    let size = ap (λ (o : Options). o.stripe_rows) (c.keep.ensures.same.1 ∙ c.admit.ensures.same.1) in
-    let room : length k.rows.items ≤ k.options.stripe_rows = omega (arith, few, l, more, size) in
-    let cut = c.close.ensures.cut first all room kept in
-    failed_only c.close.result c.close.new.self.failed (rw (c.keep.ensures.same.0, c.keep.ensures.same.1, c.admit.ensures.same.0, c.admit.ensures.same.1) at cut) c.close.ensures.ok failed
-
-pub returns-then-len-stripe_rows-clause-full : goal.returns-then-len-stripe_rows-clause-full
-returns-then-len-stripe_rows-clause-full g c = λ limit failed.
-    let w = c.args.self.now in
-    let k = c.keep.new.self in
-    let kept_is : views k.rows.items ≡ views w.rows.items ++ view c.args.row ∷ [] = c.in_ok-keep.ensures.kept ∙ ap (λ v. views v.items ++ view c.args.row ∷ []) c.admit.ensures.stays.4 in
-    let more = one_more w.rows.items k.rows.items (view c.args.row) kept_is in
-    let size = ap (λ (o : Options). o.stripe_rows) (c.keep.ensures.same.1 ∙ c.admit.ensures.same.1) in
-    omega (arith, more, size, c.len.ensures, c.stripe_rows.ensures, k.rows.ok.0)
-
-pub returns-then-len-stripe_rows-clause-unfailed : goal.returns-then-len-stripe_rows-clause-unfailed
-returns-then-len-stripe_rows-clause-unfailed g c = rw (c.keep.ensures.stands.0, c.admit.ensures.stays.0) at c.close.ensures.unfailed
 
 pub returns-in_err-admit-clause-counted : goal.returns-in_err-admit-clause-counted
 returns-in_err-admit-clause-counted g c = λ first rows h.
-    let w = c.args.self.now in
-    let l = length-map w.rows.items view in
-    same_limits w.options w.schema first _ w.written w.infos.items w.stats.items (views w.rows.items) rows w.total w.counts.items (view c.args.row) h (omega (arith, l, w.total_is)) w.wide w.counted
-
-pub returns-in_err-keep-clause-counted : goal.returns-in_err-keep-clause-counted
-returns-in_err-keep-clause-counted g c = λ first rows h.
-    let w = c.args.self.now in
-    let l = length-map w.rows.items view in
-    same_limits w.options w.schema first _ w.written w.infos.items w.stats.items (views w.rows.items) rows w.total w.counts.items (view c.args.row) h (omega (arith, l, w.total_is)) w.wide w.counted
-
-pub returns-then-len-stripe_rows-clause-counted : goal.returns-then-len-stripe_rows-clause-counted
-returns-then-len-stripe_rows-clause-counted g c = λ first rows h.
     let w = c.args.self.now in
     let l = length-map w.rows.items view in
     same_limits w.options w.schema first _ w.written w.infos.items w.stats.items (views w.rows.items) rows w.total w.counts.items (view c.args.row) h (omega (arith, l, w.total_is)) w.wide w.counted
@@ -112,3 +17,11 @@ returns-clause-counted g c = λ first rows h.
     let w = c.args.self.now in
     let l = length-map w.rows.items view in
     same_limits w.options w.schema first _ w.written w.infos.items w.stats.items (views w.rows.items) rows w.total w.counts.items (view c.args.row) h (omega (arith, l, w.total_is)) w.wide w.counted
+
+pub returns-clause-cut : goal.returns-clause-cut
+returns-clause-cut g c = λ first rows h ready failed.
+    let a = c.admit.new.self in
+    let e = c.admit.ensures in
+    let before : HasPushed a.options a.schema first (g.W.Sink.told a.out) a.written a.infos.items a.stats.items (views a.rows.items) rows = rw (e.same.0, e.same.1, e.stays.0, e.stays.1, e.stays.2, e.stays.3, e.stays.4) h in
+    let cut = c.add.ensures.cut first rows before in
+    failed_only c.add.result c.add.new.self.failed (rw (e.same.0, e.same.1) at cut) c.add.ensures.ok failed

@@ -2,11 +2,12 @@ use Rattle.std.proofs.Common.{◌+◌, ◌*◌, map, take}
 use Rattle.orc_types.specs.Shapes.{width, widths}
 use Rattle.orc_types.specs.Views.{views, paired, shape, fields}
 use Rattle.orc_file.specs.Counting.{AddsCells}
+use Rattle.orc_file.proofs.CountSteps.{FieldsCounted}
 use Rattle.orc_file.proofs.writer.counting.+counting.Given as goal
 
 -- the columns of the elements have those of the first parts more
-abbrev pub invariant-count_cell-loop-part : goal.invariant-count_cell-loop-part
-invariant-count_cell-loop-part l = AddsCells (shape l.element.value) (l.column + 1) (views (take l.part-index l.part-items)) l.initial.counts.items l.counts.items
+abbrev pub invariant-count_elements-loop-part : goal.invariant-count_elements-loop-part
+invariant-count_elements-loop-part l = AddsCells (shape l.element) l.column (views (take l.part-index l.parts)) l.initial.counts.items l.counts.items
 
 -- the columns of the keys, or of the values, have those of the first pairs more
 abbrev pub invariant-count_keys-loop-pair : goal.invariant-count_keys-loop-pair
@@ -15,8 +16,15 @@ invariant-count_keys-loop-pair l = AddsCells (shape l.key) l.column (map (λ p. 
 abbrev pub invariant-count_values-loop-pair : goal.invariant-count_values-loop-pair
 invariant-count_values-loop-pair l = AddsCells (shape l.value) l.column (map (λ p. p.1) (map paired (take l.pair-index l.pairs))) l.initial.counts.items l.counts.items
 
+-- the fields so far, before those that are left
+abbrev pub invariant-count_fields-loop-place : goal.invariant-count_fields-loop-place
+invariant-count_fields-loop-place l = FieldsCounted l.fields l.parts l.column l.next l.place l.initial.counts.items l.counts.items
+
 abbrev pub decreases-count_cell : goal.decreases-count_cell
 decreases-count_cell l = 2 * width (shape l.tree.now)
+
+abbrev pub decreases-count_elements : goal.decreases-count_elements
+decreases-count_elements l = 2 * width (shape l.element.now) + 1
 
 abbrev pub decreases-count_fields : goal.decreases-count_fields
 decreases-count_fields l = 2 * widths (fields l.fields.now) + 1

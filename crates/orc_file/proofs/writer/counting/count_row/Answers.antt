@@ -10,11 +10,11 @@ use Rattle.orc_file.proofs.writer.counting.count_row.Goals as goal
 pub returns-clause-few : goal.returns-clause-few
 returns-clause-few c =
     let all : c.all.result ≡ are_few c.count_cell.new.counts.items = all_from_yields_List (λ n. ltb n (2 ^ 31)) _ _ c.all.result c.all.ensures.ran (YieldsList-from_slice c.deref.result.now cc) (λ x b q k. search (rules, tests)) ∙ ap are_few c.deref.ensures.value in
-    let counted : AddsCells c.args.schema.now 0 (view c.args.row.now ∷ []) c.args.counts.now c.count_cell.new.counts.items = rw (c.copy_from_slice.ensures.items, c.tree.ensures.same) at c.count_cell.ensures in
+    let counted : AddsCells c.args.schema.now 0 (view c.args.row.now ∷ []) c.args.counts.now c.count_cell.new.counts.items = rw (c.copy_from_slice.ensures.items, c.tree.ensures.same) at c.count_cell.ensures.cells in
     when_few c.args.schema.now (view c.args.row.now) c.args.counts.now c.count_cell.new.counts.items c.requires.wide counted c.all.result all
 
 pub returns-clause-many : goal.returns-clause-many
 returns-clause-many c =
     let all : c.all.result ≡ are_few c.count_cell.new.counts.items = all_from_yields_List (λ n. ltb n (2 ^ 31)) _ _ c.all.result c.all.ensures.ran (YieldsList-from_slice c.deref.result.now cc) (λ x b q k. search (rules, tests)) ∙ ap are_few c.deref.ensures.value in
-    let counted : AddsCells c.args.schema.now 0 (view c.args.row.now ∷ []) c.args.counts.now c.count_cell.new.counts.items = rw (c.copy_from_slice.ensures.items, c.tree.ensures.same) at c.count_cell.ensures in
+    let counted : AddsCells c.args.schema.now 0 (view c.args.row.now ∷ []) c.args.counts.now c.count_cell.new.counts.items = rw (c.copy_from_slice.ensures.items, c.tree.ensures.same) at c.count_cell.ensures.cells in
     when_many c.args.schema.now (view c.args.row.now) c.args.counts.now c.count_cell.new.counts.items c.requires.wide counted c.all.result all
