@@ -43,12 +43,21 @@ pub(crate) fn is_written(
     };
     let placed = placed_streams(tree, streams);
     let mut walk = Walk::start();
-    // one room for the bytes of all entries
+    // one room for the bytes of all entries, and one for their positions
     let mut entry = Vec::new(alloc);
+    let mut room = Vec::new(alloc);
     let mut rest = bytes;
     for group in groups {
         entry.clear();
-        walk = put_entry(alloc, &placed, walk, group.before, &group.stat, &mut entry)?;
+        walk = put_entry(
+            alloc,
+            &placed,
+            walk,
+            group.before,
+            &group.stat,
+            &mut room,
+            &mut entry,
+        )?;
         let Some(behind) = rest.strip_prefix(&entry) else {
             return Ok(false);
         };

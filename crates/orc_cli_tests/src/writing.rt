@@ -67,6 +67,26 @@ impl Read for Broken<'_> {
     }
 }
 
+/// Bytes, of which every other read is interrupted.
+#[derive(Drop)]
+struct Interrupted<'a> {
+    left: &'a [u8],
+    again: bool,
+}
+
+impl Read for Interrupted<'_> {
+    fn read(&mut self, into: &mut [u8]) -> io::Result<usize> {
+        self.again = !self.again;
+        if !self.again {
+            return Err(io::Error::from(io::ErrorKind::Interrupted));
+        }
+        let count = self.left.len().min(into.len());
+        into[..count].copy_from_slice(&self.left[..count]);
+        self.left = &self.left[count..];
+        Ok(count)
+    }
+}
+
 /// How lines are given.
 #[derive(Clone, Copy)]
 enum Given {
@@ -74,6 +94,8 @@ enum Given {
     There,
     /// They are read, nine bytes at once, and reading fails behind them.
     Broken,
+    /// They are read, five bytes at once, and every other read is interrupted.
+    Interrupted,
 }
 
 /// What is written of lines.
@@ -92,13 +114,20 @@ fn written(
             };
             written_read(alloc, NUMBERS, options, input, 9)
         }
+        Given::Interrupted => {
+            let input = Interrupted {
+                left: lines,
+                again: true,
+            };
+            written_read(alloc, NUMBERS, options, input, 5)
+        }
     }
 }
 
 const FAILED: Option<CliFault> = Some(CliFault::File(FileFault::SourceFailed));
 
 /// Lines in stripes of three rows, the fault, and how many bytes of a file of six sevens stand then.
-static WRITTEN: [(Given, &[u8], Option<CliFault>, usize); 7] = [
+static WRITTEN: [(Given, &[u8], Option<CliFault>, usize); 9] = [
     (
         Given::There,
         b"{\"n\":7}\n{\"n\":7}\n\n{\"n\":7}\n{\"n\":7}\n{\"n\":7}\n{\"n\":7}",
@@ -110,6 +139,18 @@ static WRITTEN: [(Given, &[u8], Option<CliFault>, usize); 7] = [
         b"{\"n\":7}\n{\"n\":7}\n{\"n\":7}\n{\"n\":7}\n{\"n\":true}\n",
         Some(CliFault::Json(JsonFault::WrongShape)),
         22,
+    ),
+    (
+        Given::Interrupted,
+        b"{\"n\":7}\n\n{\"n\":7}\n{\"n\":7}\n{\"n\":7}\n{\"n\":7}\n{\"n\":7}\n",
+        None,
+        173,
+    ),
+    (
+        Given::Interrupted,
+        b"{\"n\":7}\n{\"n\":7}\n{\"n\":7}\n{\"n\":7}\n{\"n\":7}\n{\"n\":7}",
+        None,
+        173,
     ),
     (Given::Broken, b"", FAILED, 3),
     (Given::Broken, b"{\"n\":7}\n{\"n\":7}", FAILED, 3),

@@ -278,9 +278,6 @@ module _ (fields : List Field) (rows : List (Option Value)) (first next place : 
     pub fields_counted : AddsFields (fields_view fields) first (views rows) old mid
     fields_counted = h.all mid (subst (λ fs. AddsFields fs next (views (drop place rows)) mid mid) (sym none_left) (adds_no_field next (views (drop place rows)) mid))
 
-    pub fields_passed : next ≡ first + widths (fields_view fields)
-    fields_passed = let l = h.left in omega (arith, l, ap widths none_left)
-
 -- ---- a row's counts, where they are below the limit, and where they aren't
 
 same_test : (m x y : ℕ) → min m x ≡ min m y → ltb x m ≡ ltb y m

@@ -1,10 +1,11 @@
 //! Values that contain no other, of one token each (RFC 8259, "Values", "Numbers", "Strings").
-ghost use Rattle.std.specs.Prelude.{◌≡◌, ◌<◌, ℕ, length, Some, IfOk, OnOk, option_map, string_bytes};
+ghost use Rattle.std.specs.Prelude.{◌≡◌, ◌<◌, ℕ, length, Some, OnOk, option_map, string_bytes};
 ghost use Rattle.json.specs.Reads.{token_of};
 ghost use Rattle.serde_json.specs.Data.{Data, boolean, number, string};
 ghost use Rattle.serde_json.specs.Read.{number_of};
 ghost use Rattle.orc_types.specs.Cells.{leaf, text as spec_text};
 ghost use Rattle.orc_types.specs.JsonLeaves.{IsInteger, ScalarSpells};
+ghost use Rattle.orc_types.specs.declared.kind.Scalar.TheVariants.{Date};
 ghost use Rattle.orc_types.specs.Views.{view};
 ghost use Rattle.orc_json_reader.specs.Fronts.{data_of, ValueFront};
 
@@ -16,46 +17,57 @@ use orc_types::{JsonFault, Row, Scalar, Value, int_fits, leaf_from_text};
 use std::alloc::{AllocError, Global};
 use std::borrow::CowStr;
 
-/// The value of the kind that true or false spells.
-fn leaf_from_bool(kind: Scalar, truth: bool) -> Result<Row<'static>, Unread>
-    ensures { IfOk result (λ row. ScalarSpells kind (boolean truth) (view row)) }
+/// Puts the value of the kind that true or false spells.
+fn put_bool(kind: Scalar, truth: bool, cell: &mut Row<'static>) -> Result<(), Unread>
+    ensures { OnOk result (ScalarSpells kind (boolean truth) (view cell.new)) }
 {
-    if matches!(kind, Scalar::Boolean) {
-        Ok(Some(Value::Bool(truth)))
-    } else {
-        Err(Unread::Declined)
+    if !matches!(kind, Scalar::Boolean) {
+        return Err(Unread::Declined);
     }
+    *cell = Some(Value::Bool(truth));
+    Ok(())
 }
 
-/// The value of the kind that an integer spells.
-fn leaf_from_integer(kind: Scalar, integer: i64) -> Result<Row<'static>, Unread>
-    ensures { IfOk result (λ row. (d : Data) → IsInteger d integer → ScalarSpells kind d (view row)) }
+/// Puts the date that an integer spells.
+fn put_day(integer: i64, cell: &mut Row<'static>) -> Result<(), Unread>
+    ensures { OnOk result ((d : Data) → IsInteger d integer → ScalarSpells Date d (view cell.new)) }
+{
+    let Ok(day) = i32::try_from(integer) else {
+        return Err(Unread::Declined);
+    };
+    *cell = Some(Value::Date(day));
+    Ok(())
+}
+
+/// Puts the value of the kind that an integer spells.
+fn put_integer(kind: Scalar, integer: i64, cell: &mut Row<'static>) -> Result<(), Unread>
+    ensures { OnOk result ((d : Data) → IsInteger d integer → ScalarSpells kind d (view cell.new)) }
 {
     if matches!(kind, Scalar::Date) {
-        return match i32::try_from(integer) {
-            Ok(day) => Ok(Some(Value::Date(day))),
-            Err(_) => Err(Unread::Declined),
-        };
+        return put_day(integer, cell);
     }
-    if int_fits(kind, integer) {
-        Ok(Some(Value::Int(integer)))
-    } else {
-        Err(Unread::Declined)
+    if !int_fits(kind, integer) {
+        return Err(Unread::Declined);
     }
+    *cell = Some(Value::Int(integer));
+    Ok(())
 }
 
-/// The value of the kind that a number spells.
-fn leaf_from_number(kind: Scalar, text: &str) -> Result<Row<'static>, Unread>
-    ensures { IfOk result
-        (λ row. (d : Data) × (option_map number (number_of text.now) ≡ Some d) × ScalarSpells kind d (view row)) }
+/// Puts the value of the kind that a number spells.
+// (out of line, as are the texts: `read_scalar` would else clear the room of all their locals for each value)
+#[inline(never)]
+fn put_number(kind: Scalar, text: &str, cell: &mut Row<'static>) -> Result<(), Unread>
+    ensures { OnOk result
+        ((d : Data) × (option_map number (number_of text.now) ≡ Some d) × ScalarSpells kind d (view cell.new)) }
 {
     match integer_of(text) {
-        Some(integer) => leaf_from_integer(kind, integer),
+        Some(integer) => put_integer(kind, integer, cell),
         None => Err(Unread::Declined),
     }
 }
 
 /// Puts a text over an old row: in the room of its text, where that is kept.
+#[inline(never)]
 fn write_text(alloc: Global, text: &str, cell: &mut Row<'static>) -> Result<(), AllocError>
     ensures { OnOk result (view cell.new ≡ leaf (spec_text text.now)) }
 {
@@ -69,8 +81,28 @@ fn write_text(alloc: Global, text: &str, cell: &mut Row<'static>) -> Result<(), 
     Ok(())
 }
 
-/// Reads the value of the kind that a string spells.
-fn leaf_from_string(
+/// Puts the value of a kind but STRING that a string spells.
+#[inline(never)]
+fn put_spelled(
+    alloc: Global,
+    kind: Scalar,
+    text: &str,
+    cell: &mut Row<'static>,
+) -> Result<(), Unread>
+    ensures { OnOk result (ScalarSpells kind (string text.now) (view cell.new)) }
+{
+    match leaf_from_text(alloc, kind, text) {
+        Ok(row) => {
+            *cell = row;
+            Ok(())
+        }
+        Err(JsonFault::OutOfMemory) => Err(Unread::OutOfMemory),
+        Err(_) => Err(Unread::Declined),
+    }
+}
+
+/// Puts the value of the kind that a string spells.
+fn put_string(
     alloc: Global,
     kind: Scalar,
     text: &str,
@@ -82,14 +114,7 @@ fn leaf_from_string(
         write_text(alloc, text, cell)?;
         return Ok(());
     }
-    match leaf_from_text(alloc, kind, text) {
-        Ok(row) => {
-            *cell = row;
-            Ok(())
-        }
-        Err(JsonFault::OutOfMemory) => Err(Unread::OutOfMemory),
-        Err(_) => Err(Unread::Declined),
-    }
+    put_spelled(alloc, kind, text, cell)
 }
 
 /// Reads the value of the kind that a token spells by itself. Null is null, whatever the kind.
@@ -107,15 +132,9 @@ fn read_leaf(
             *cell = None;
             Ok(())
         }
-        Token::Bool(truth) => {
-            *cell = leaf_from_bool(kind, truth)?;
-            Ok(())
-        }
-        Token::Number(text) => {
-            *cell = leaf_from_number(kind, text)?;
-            Ok(())
-        }
-        Token::String(text) => leaf_from_string(alloc, kind, text, cell),
+        Token::Bool(truth) => put_bool(kind, truth, cell),
+        Token::Number(text) => put_number(kind, text, cell),
+        Token::String(text) => put_string(alloc, kind, text, cell),
         Token::BeginObject
         | Token::EndObject
         | Token::BeginArray

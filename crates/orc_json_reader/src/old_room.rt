@@ -9,18 +9,15 @@ use std::alloc::{AllocError, AllocFailed, Global};
 /// Of a text, room for so many bytes is kept, however short the text.
 const SMALL_TEXT: usize = 64;
 
-/// Of a list or a map, room for so many elements is kept, however few there are.
-const SMALL_LIST: usize = 8;
-
-/// Whether room of a capacity is kept for so many. Where what is kept doesn't suffice and grows, it becomes at most twice what
-/// is needed; so no room is larger than the small one or twice what it holds.
-fn is_kept(capacity: usize, small: usize, count: usize) -> bool {
-    capacity <= small || capacity / 2 <= count
+/// Whether room of a capacity is less than twice what so many need. Where it doesn't suffice and grows, it becomes at most
+/// twice what is needed.
+fn is_close(capacity: usize, count: usize) -> bool {
+    capacity / 2 < count
 }
 
 /// Whether the room of an old text is kept for one of so many bytes.
 pub(crate) fn is_text_kept(capacity: usize, len: usize) -> bool {
-    is_kept(capacity, SMALL_TEXT, len)
+    capacity <= SMALL_TEXT || is_close(capacity, len)
 }
 
 /// Makes room for the element at a place, unless there is an old one.
@@ -41,7 +38,7 @@ fn cut_room<T: Drop>(items: &mut Vec<T>, count: usize, old: usize)
     ensures { items.new.items ≡ take count items.old.items }
 {
     items.truncate(count);
-    if old == 0 || !is_kept(items.capacity(), SMALL_LIST, count) {
+    if old == 0 || !is_close(items.capacity(), count) {
         items.shrink_to_fit();
     }
 }

@@ -26,6 +26,8 @@ pub struct RowReader {
 }
 
 /// The row that a text spells, by way of its value, or why it spells none.
+// (out of line: few texts come to it, and the room of its locals would be cleared for each)
+#[inline(never)]
 fn row_by_value(alloc: Global, schema: &Schema, text: &[u8]) -> Result<Row<'static>, JsonFault>
     ensures found { IfOk result (λ row. TextSpells schema.now text.now (view row)) }
     ensures fault { IfErr result (λ why. why ≢ fault.OutOfMemory → RowTextFault schema.now text.now why) }
@@ -100,8 +102,8 @@ impl RowReader {
     /// As `read_row`, in the room of a row that is no longer needed, so that a caller who drops rows as others are read takes
     /// little memory anew. The spare row is any row at all, under whatever schema it was read, and nothing of it is in the
     /// answer. Where its structs, texts, lists and maps stand at places of such in the new row, their room is used: a struct's
-    /// where it has as many fields, the others' where it is small or at most twice what is needed. So no row keeps room that is
-    /// far larger than its values, however often it is read over. After a refusal the spare row is gone.
+    /// where it has as many fields, the others' where it is less than twice what is needed, or a text's is small. So no row keeps
+    /// room that is far larger than its values, however often it is read over. After a refusal the spare row is gone.
     pub fn read_row_over(
         &mut self,
         alloc: Global,

@@ -50,11 +50,20 @@ fn put_groups<'r, T: Tally<'r>>(
     let mut counts = counts_behind(Counts::none(), before);
     let mut whole: T = tally_of(before);
     let mut walk = Walk::start();
+    let mut room = Vec::new(alloc);
     for group in 0..bounds.len() {
         let end = group_end(bounds, group, owns.len());
         let cells = owns_between(owns, bounds[group], end);
         let tally: T = tally_of(cells);
-        walk = put_entry(alloc, &placed, walk, counts, &closed(alloc, &tally)?, out)?;
+        walk = put_entry(
+            alloc,
+            &placed,
+            walk,
+            counts,
+            &closed(alloc, &tally)?,
+            &mut room,
+            out,
+        )?;
         counts = counts_behind(counts, cells);
         whole.join(&tally);
     }

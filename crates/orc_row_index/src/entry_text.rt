@@ -12,12 +12,10 @@ use crate::walk::Walk;
 use orc_stats::Stat;
 use orc_wire::{ColumnStats, Items, Message, RowIndexEntry};
 use std::alloc::{AllocError, Global};
+use std::mem::replace;
 
 /// The number of an entry's field in a row index.
 const ENTRY: u32 = 1;
-
-/// How many numbers the positions of a group are at most: three of PRESENT, and three of booleans.
-const MOST_POSITIONS: usize = 6;
 
 /// The message of a statistic.
 #[inline(always)]
@@ -32,6 +30,7 @@ fn message_of(alloc: Global, stat: &Stat) -> Result<ColumnStats, AllocError>
 
 /// Adds the bytes of a group's entry to those of a column's row index (ORC specification, "Row Group Index"): the
 /// positions behind the cells that are counted, and the group's statistic. Answers how far the streams are walked then.
+/// The room is for the numbers of the positions; whatever it holds is no longer needed.
 ///
 /// The counts are of cells whose values the streams have, and the walk has come no further than these: conditions.
 ///
@@ -43,6 +42,7 @@ pub fn put_entry(
     from: Walk,
     counts: Counts,
     stat: &Stat,
+    room: &mut Vec<u64>,
     out: &mut Vec<u8>,
 ) -> Result<Walk, AllocError>
     requires { (before : List Cell)
@@ -62,13 +62,15 @@ pub fn put_entry(
     // Where memory is refused, nothing is added.
     ensures unchanged { OnErr result (out.new.items ≡ out.old.items) }
 {
-    let mut positions = Vec::with_capacity(alloc, MOST_POSITIONS)?;
-    let walk = put_places(placed, from, counts, &mut positions)?;
+    room.clear();
+    let walk = put_places(placed, from, counts, room)?;
     let entry = RowIndexEntry {
-        positions: Items::from_vec(positions),
+        positions: Items::from_vec(replace(room, Vec::new(alloc))),
         statistics: Some(message_of(alloc, stat)?),
     };
-    match entry.put_within(ENTRY, out) {
+    let put = entry.put_within(ENTRY, out);
+    *room = entry.positions.into_vec();
+    match put {
         Ok(()) => Ok(walk),
         Err(_) => Err(AllocError),
     }

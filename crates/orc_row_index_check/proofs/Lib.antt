@@ -2,4 +2,3 @@ mod TableLemmas
 mod ColumnLemmas
 mod FewValues
 mod Entries
-mod CountedLemmas

@@ -1,7 +1,6 @@
 //! Whether the entries of a column's row index say where their groups begin.
 ghost use Rattle.std.specs.Prelude.{◌≡◌, ◌≢◌, ℕ, List, length, IfErr, MatchResult};
 ghost use Rattle.orc_types.specs.Cells.{Cell};
-ghost use Rattle.orc_types.specs.Lent.{lent_cells};
 ghost use Rattle.orc_types.specs.Views.{shape};
 ghost use Rattle.orc_column_reader.specs.Starting.{AreStreams};
 ghost use Rattle.orc_column_reader.specs.Stripe.{Streams, IsColumn};
@@ -12,11 +11,10 @@ ghost use Rattle.orc_row_index_check.specs.CountedBefore.{AreCountedBefore};
 ghost use Rattle.orc_row_index_check.specs.Decided.{AreDecided};
 
 use crate::column_table::tables_of;
-use crate::counted_groups::counts_of_groups;
 use orc_column_reader::fault::StripeFault;
 use orc_column_reader::starting::ColumnStreams;
 use orc_row_index::{Counts, own_kind, placed_streams};
-use orc_types::{Lent, Tree};
+use orc_types::Tree;
 use orc_wire::RowIndexEntry;
 use std::alloc::Global;
 
@@ -68,43 +66,4 @@ pub fn positions_right_behind(
         right.push(tables.right(entry.positions.as_slice(), *before))?;
     }
     Ok(right)
-}
-
-/// For each entry of a column's row index whether its positions are right: whether from there a reader goes on
-/// with the cells that come behind those before the entry's group (ORC specification, "Row Group Index"). Any
-/// right position counts, and not a writer's alone. A bound says how many of the column's cells come before a
-/// group; entries without one are taken for those of groups at the end.
-///
-/// Each stream is gone over once, and a position takes a search by halves, whatever it names.
-///
-/// The bounds ascend up to the number of cells: a condition.
-///
-/// Refusals: `OutOfMemory`, and nothing else where the streams spell the cells; `Run` else, of the
-/// column and one of its streams that have positions, with a fault of its runs: that of the first
-/// from the left that is none, `TooMany` of one that goes past 2^64 - 1 values, or `TooFew` at the
-/// length of the bytes, where they have fewer.
-pub fn positions_right(
-    alloc: Global,
-    tree: &Tree,
-    column: usize,
-    streams: &ColumnStreams<'_>,
-    cells: &[Lent<'_, '_>],
-    bounds: &[usize],
-    entries: &[RowIndexEntry],
-) -> Result<Vec<bool>, StripeFault>
-    requires { AreBounds (length (lent_cells cells.now)) bounds.now }
-    // Where the streams spell the cells, and the bounds are theirs, each truth value says exactly
-    // whether its entry's positions are right, whoever wrote them, or memory is refused.
-    ensures right { (x : Streams) → AreStreams x streams.now → IsColumn (shape tree.now) x (lent_cells cells.now)
-        → MatchResult result
-        (λ right. AreDecided (shape tree.now) x (lent_cells cells.now) bounds.now entries.now right.items)
-        (λ fault. fault ≡ OutOfMemory) }
-    // Any other refusal names the column and the stream, with a fault of its runs: of the first
-    // that is none, TooMany past 2^64 - 1 values, or TooFew at the end of fewer.
-    ensures fault { IfErr result (λ fault. fault ≢ OutOfMemory
-        → (x : Streams) → AreStreams x streams.now
-        → ColumnFails (shape tree.now) x column fault) }
-{
-    let counts = counts_of_groups(alloc, cells, bounds, entries.len())?;
-    positions_right_behind(alloc, tree, column, streams, &counts, entries)
 }

@@ -2,8 +2,7 @@
 #![tactic(auto)]
 
 mod column_table;
-mod counted_groups;
 mod decided;
 mod stream_table;
 
-pub use decided::{positions_right, positions_right_behind};
+pub use decided::positions_right_behind;

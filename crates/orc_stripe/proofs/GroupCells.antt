@@ -1,7 +1,7 @@
 -- The cells of a column, group after group of rows.
-use Rattle.std.proofs.Common.{◌≡◌, ℕ, ◌+◌, ◌-◌, ◌≤◌, List, [], ◌++◌, length, take, drop, sym, ap, ◌∙◌, subst, arith, length-append}
+use Rattle.std.proofs.Common.{◌≡◌, ℕ, ◌+◌, ◌-◌, ◌≤◌, List, ◌++◌, length, take, drop, ap, ◌∙◌, subst, arith, length-append}
 use Rattle.std.proofs.Math.Seq.{take-add}
-use Rattle.std.proofs.lemmas.List.{take_all, nil_from_length}
+use Rattle.std.proofs.lemmas.List.{take_all}
 use Rattle.orc_types.specs.Cells.{Cell}
 use Rattle.orc_types.specs.Columns.{cells}
 use Rattle.orc_types.specs.Shapes.{Shape}
@@ -10,11 +10,8 @@ use Rattle.orc_row_index.specs.Bounds.{AreBounds}
 use Rattle.orc_row_index.proofs.Groups.{bounds_map}
 use Rattle.orc_stripe_writer.specs.Groups.{cells_before, bounds_of}
 
-pub no_cells : (s : Shape) (c : ℕ) → cells s c [] ≡ []
-no_cells s c = nil_from_length (cells s c []) (let e = ap length (cells-append s c [] []) in omega (arith, e, length-append (cells s c []) (cells s c [])))
-
 -- a longer front of rows has the cells of a shorter one, and those of the rows between
-pub cells_between : (s : Shape) (c : ℕ) (rows : List Cell) (at start : ℕ) → at ≤ start → cells s c (take start rows) ≡ cells s c (take at rows) ++ cells s c (take (start - at) (drop at rows))
+cells_between : (s : Shape) (c : ℕ) (rows : List Cell) (at start : ℕ) → at ≤ start → cells s c (take start rows) ≡ cells s c (take at rows) ++ cells s c (take (start - at) (drop at rows))
 cells_between s c rows at start le =
     let sum : start ≡ at + (start - at) = omega (arith, le) in
     ap (λ (n : ℕ). cells s c (take n rows)) sum ∙ ap (cells s c) (take-add at (start - at) rows) ∙ cells-append s c (take at rows) (take (start - at) (drop at rows))
@@ -29,7 +26,3 @@ whole_rows s c rows = ap (cells s c) (take_all (length rows) rows (omega arith))
 pub column_bounds : (s : Shape) (c : ℕ) (rows : List Cell) (firsts : List ℕ) → AreBounds (length rows) firsts → AreBounds (length (cells s c rows)) (bounds_of s c rows firsts)
 column_bounds s c rows firsts h =
     subst (λ (n : ℕ). AreBounds n (bounds_of s c rows firsts)) (ap length (whole_rows s c rows)) (bounds_map (cells_before s c rows) (cells_rise s c rows) (length rows) firsts h)
-
--- all rows are a front of them, and those behind it
-pub cells_to_end : (s : Shape) (c : ℕ) (rows : List Cell) (at : ℕ) → at ≤ length rows → cells s c (take at rows) ++ cells s c (take (length rows - at) (drop at rows)) ≡ cells s c rows
-cells_to_end s c rows at le = sym (cells_between s c rows at (length rows) le) ∙ whole_rows s c rows

@@ -10,13 +10,13 @@ use Rattle.orc_wire.specs.declared.row_index.RowIndexEntry.{RowIndexEntry}
 use Rattle.orc_types.specs.Cells.{Cell}
 use Rattle.orc_types.specs.Shapes.{Shape}
 use Rattle.orc_column_reader.specs.Directory.{has_stream}
-use Rattle.orc_column_reader.specs.Stripe.{Streams, IsStripe}
+use Rattle.orc_column_reader.specs.Stripe.{Streams}
 use Rattle.orc_column_reader.specs.declared.fault.StripeFault.{StripeFault}
 use Rattle.orc_column_reader.specs.declared.fault.StripeFault.TheVariants as fault
 use Rattle.orc_row_index_check.specs.Decided.{AreDecided}
 use Rattle.orc_stripe_writer.specs.Groups.{group_count, starts}
 use Rattle.orc_stripe.specs.Opened.{Opened}
-use Rattle.orc_stripe.specs.RowIndexes.{index_text, IndexFault, HasOtherEntries, PositionsFault}
+use Rattle.orc_stripe.specs.RowIndexes.{index_text, IndexFault}
 
 pub index_fault : (view : Opened) (c : ℕ) (cause : WireFault) (f : StripeFault) → 0 < view.stride → has_stream c 6 view.footer.streams ≡ true → (f ≡ fault.OutOfMemory) ⊎ ((f ≡ fault.Wire cause) × (cause ≢ wire.OutOfMemory))
     → (cause ≡ wire.OutOfMemory) ⊎ Faults row_index 0 0 (index_text view.footer view.bytes c) cause → IndexFault view c f
@@ -43,12 +43,6 @@ pub err_by : {T E : Type 0} {A B : E → Type 0} (r : Result T E) → ((e : E) �
 err_by (Ok t) g h = tt
 err_by (Err e) g h = g e h
 
--- over the stripe's rows there is no fault of runs
-pub own_rows : (view : Opened) (c : ℕ) (rows : List Cell) (f : StripeFault) → IsStripe view.schema view.info view.bytes rows → PositionsFault view c rows f → IndexFault view c f ⊎ HasOtherEntries view c (length rows) f
-own_rows view c rows f is (inl h) = inl h
-own_rows view c rows f is (inr (inl h)) = inr h
-own_rows view c rows f is (inr (inr h)) = absurd (h.0 is)
-
 pub ok_always : {T E : Type 0} {K : Type 0} (r : Result T E) → K → IfOk r (λ _. K)
 ok_always (Ok t) k = k
 ok_always (Err e) k = tt
@@ -59,3 +53,8 @@ decided_same s t x cs ds bs fs ms ns right es ec eb em h =
     (subst (λ (y : List Cell). AreDecided s x y fs ns right) ec
     (subst (λ (y : List ℕ). AreDecided s x cs y ns right) eb
     (subst (λ (y : List RowIndexEntry). AreDecided s x cs bs y right) em h)))
+
+-- where only want of memory is refused, no other refusal needs a reason
+pub err_memory : {T : Type 0} (P : T → Type 0) (Q : StripeFault → Type 0) (r : Result T StripeFault) → MatchResult r P (λ f. f ≡ fault.OutOfMemory) → IfErr r (λ f. f ≢ fault.OutOfMemory → Q f)
+err_memory P Q (Ok t) h = tt
+err_memory P Q (Err e) h = λ other. absurd (other h)

@@ -4,6 +4,7 @@ pub mod OneStripe
 mod IndexBytes
 mod IndexTextLemmas
 mod GroupCells
+mod ColumnsDown
 mod IndexFaults
 mod GroupTurned
 mod GroupStarts

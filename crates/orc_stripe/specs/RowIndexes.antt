@@ -8,11 +8,10 @@ use Rattle.orc_types.specs.Cells.{Cell}
 use Rattle.orc_types.specs.Columns.{cells}
 use Rattle.orc_types.specs.Shapes.{shape_at}
 use Rattle.orc_column_reader.specs.Directory.{has_stream, slice}
-use Rattle.orc_column_reader.specs.Stripe.{IsStripe, columns_of}
+use Rattle.orc_column_reader.specs.Stripe.{columns_of}
 use Rattle.orc_column_reader.specs.declared.fault.Spot.TheVariants as spot
 use Rattle.orc_column_reader.specs.declared.fault.StripeFault.{StripeFault}
 use Rattle.orc_column_reader.specs.declared.fault.StripeFault.TheVariants as fault
-use Rattle.orc_row_index_check.specs.ColumnTables.{ColumnFails}
 use Rattle.orc_row_index_check.specs.Decided.{AreDecided}
 use Rattle.orc_stripe_writer.specs.Groups.{group_count, starts, bounds_of}
 use Rattle.orc_stripe.specs.Opened.{Opened}
@@ -66,14 +65,3 @@ HasOtherEntries view c rows f =
     (f ≡ fault.BadPosition (spot.Column c))
     × (message : RowIndexMsg) × HasIndex view.footer view.bytes c message
     × (IsWhole view rows message → ⊥)
-
--- rows that the stripe hasn't, in whose place a fault of a stream's runs was met
-abbrev pub HasOtherRows : Opened → ℕ → List Cell → StripeFault → Type 0
-HasOtherRows view c rows f =
-    (IsStripe view.schema view.info view.bytes rows → ⊥)
-    × ColumnFails (shape_at view.schema c) (columns_of view.footer view.bytes c) c f
-
--- why positions of a column's index aren't told right from wrong over rows
-abbrev pub PositionsFault : Opened → ℕ → List Cell → StripeFault → Type 0
-PositionsFault view c rows f =
-    IndexFault view c f ⊎ (HasOtherEntries view c (length rows) f ⊎ HasOtherRows view c rows f)

@@ -9,7 +9,6 @@ mod stepping;
 mod view;
 
 pub use cursor::RowCursor;
-pub use groups::{ColumnGroups, column_groups};
 pub use laws::{column_laws, group_laws, stripe_laws};
 pub use orc_column_reader::fault::{Spot, StreamKind, StripeFault};
 pub use orc_stripe_writer::{Options, StripeOut, are_few, write_stripe, writing_laws};

@@ -1,7 +1,8 @@
 //! Row indexes by the calls that no command makes, and what stripes are refused for that no file leads to.
 use crate::assertions::{demand, passes, refusal, same_fault};
-use crate::writing::STRIPE;
-use orc_stripe::{RowCursor, Spot, StripeFault, StripeView};
+use crate::writing::{STRIPE, written};
+use orc_rle::{Rle, RunFault};
+use orc_stripe::{RowCursor, Spot, StreamKind, StripeFault, StripeOut, StripeView};
 use orc_test_lines::schema_of;
 use orc_types::Schema;
 use orc_wire::StripeInfo;
@@ -168,11 +169,71 @@ fn check_refusals(rt: &impl Abort, alloc: Global, schema: &Schema) -> Result<(),
     Ok(())
 }
 
+/// Lists, maps and structs in groups of two rows, some of them null, so that each column has another number of cells before
+/// its groups.
+static NESTED: &str = r#"{"l":[1,2,3],"m":[["a",true]],"s":{"d":"2020-01-01"},"n":7}
+{"l":null,"m":[],"s":null,"n":null}
+{"l":[4],"m":null,"s":{"d":null},"n":8}
+{"l":[],"m":[["b",false],["c",null]],"s":{"d":"2020-01-02"},"n":9}
+{"l":[5,6],"m":[["d",true]],"s":null,"n":10}"#;
+
+/// All three positions are right.
+fn three_right(found: &[bool]) -> bool {
+    match found {
+        [first, second, third] => *first && *second && *third,
+        _ => false,
+    }
+}
+
+/// The stripe with another last byte of its data.
+fn broken(mut out: StripeOut) -> Result<StripeOut, StripeFault> {
+    let end = out
+        .bytes
+        .len()
+        .saturating_sub(out.info.footer_length as usize);
+    match out.bytes.get_mut(end.saturating_sub(1)) {
+        Some(byte) => *byte = 0x80,
+        None => return Err(StripeFault::BadDirectory),
+    }
+    Ok(out)
+}
+
+/// The positions that are written are right in each column.
+fn check_nested(rt: &impl Abort, alloc: Global) -> Result<(), StripeFault> {
+    let schema = schema_of(
+        alloc,
+        "struct<l:array<bigint>,m:map<string,boolean>,s:struct<d:date>,n:bigint>",
+    )?;
+    let out = written(alloc, &schema, Rle::Two, 2, NESTED)?;
+    for column in 0..schema.width() {
+        let right = right_of(alloc, &schema, out.info, 2, &out.bytes, column)?;
+        demand(rt, three_right(&right), "written positions");
+    }
+    let out = broken(out)?;
+    check_broken(rt, alloc, &schema, &out)
+}
+
+/// Where the last column's numbers break off, no position is told right, of whatever column.
+fn check_broken(
+    rt: &impl Abort,
+    alloc: Global,
+    schema: &Schema,
+    out: &StripeOut,
+) -> Result<(), StripeFault> {
+    let wanted = StripeFault::Run(8, StreamKind::Data, RunFault::Short(0));
+    for column in 0..schema.width() {
+        let answer = right_of(alloc, schema, out.info, 2, &out.bytes, column);
+        same_fault(rt, refusal(answer.err())?, Some(wanted));
+    }
+    Ok(())
+}
+
 fn check_all(rt: &impl Abort, alloc: Global) -> Result<(), StripeFault> {
     let schema = schema_of(alloc, "struct<n:bigint>")?;
     check_right(rt, alloc, &schema)?;
     check_missing(rt, alloc, &schema)?;
-    check_refusals(rt, alloc, &schema)
+    check_refusals(rt, alloc, &schema)?;
+    check_nested(rt, alloc)
 }
 
 #[test]

@@ -72,7 +72,7 @@ fn stripe_of_rows(
 }
 
 /// The stripe of the rows that the lines spell, with a row index of groups of that many rows.
-fn written(
+pub(crate) fn written(
     alloc: Global,
     schema: &Schema,
     rle: Rle,

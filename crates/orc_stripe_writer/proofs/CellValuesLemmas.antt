@@ -12,7 +12,7 @@ use Rattle.orc_types.specs.Lent.{lent_cells}
 use Rattle.orc_types.specs.Views.{view, views}
 use Rattle.orc_types.specs.declared.lent.Lent.{Lent}
 use Rattle.orc_types.specs.declared.value.Value.{Value}
-use Rattle.orc_stripe_writer.specs.declared.cell_values.ByteString.{ByteString}
+use Rattle.orc_stripe_writer.specs.declared.byte_string.ByteString.{ByteString}
 use Rattle.orc_column_reader.specs.Spellings.{AllStand, joined}
 use Rattle.orc_column_reader.specs.Columns.{IsBool, IsByte, IsInt, IsDate, IsText, IsBinary}
 use Rattle.orc_stripe_writer.specs.CellValues.{bools_in, ints_in, number_bytes_in, all_bytes_in, byte_of}

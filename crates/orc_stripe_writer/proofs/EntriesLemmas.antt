@@ -1,6 +1,5 @@
 -- That any texts have entries, and that distinct ones of them are no more.
 use Rattle.std.proofs.Common.{◌≡◌, ℕ, zero, ◌≤◌, Bool, true, false, nat_eq, List, [], ◌∷◌, length, map, refl, sym, ap, subst, ◌∙◌, arith, inl, inr, ◌⊎◌}
-use Rattle.std.specs.Borrow.{Bor}
 use Rattle.std.specs.Cmp.Lexicographic.{slice_cmp, pointwise, same_text}
 use Rattle.std.specs.List.{Contains, AllByRecursion, IsDistinct, list_any}
 use Rattle.std.specs.List.Sorted.{IsStrictlySortedBy}
@@ -12,6 +11,7 @@ use Rattle.std.proofs.lemmas.List.{length-map}
 use Rattle.std.proofs.lemmas.List.Folds.{Any-from_list_any, list_any-from_Any}
 use Rattle.std.proofs.lemmas.Map.Lookups.{exact_bytes}
 use Rattle.std.proofs.lemmas.Map.Made.{length-le_from_is_member}
+use Rattle.orc_stripe_writer.specs.declared.byte_string.ByteString.{ByteString}
 use Rattle.orc_stripe_writer.specs.WordList.{AreDistinct, is_worth}
 use Rattle.orc_stripe_writer.specs.WordChoice.{AreEachOnce, HasTooMany, HaveManyEntries}
 use Rattle.orc_stripe_writer.proofs.WordListLemmas.{from_map, to_map, in_tail, here, later}
@@ -106,33 +106,33 @@ entries_are (t ∷ ts) =
       used = λ u c. elim (put_has t u (entries ts) c) [ inl e ↦ (zero, omega arith, e) | inr more ↦ later t u ts (rest.used u more) ];
     }
 
-abbrev pub now : Bor (List ℕ) → List ℕ
-now t = t.now
+abbrev pub now : ByteString → List ℕ
+now t = t.0.now
 
-abbrev pub alike : Bor (List ℕ) → Bor (List ℕ) → Bool
-alike x y = pointwise nat_eq x.now y.now
+abbrev pub alike : ByteString → ByteString → Bool
+alike x y = pointwise nat_eq x.0.now y.0.now
 
 -- texts go from a list to another that has what it has
-moved : (xs ys : List (Bor (List ℕ))) → ((q : Bor (List ℕ)) → list_any (alike q) xs ≡ true → list_any (alike q) ys ≡ true) → (t : List ℕ) → Contains (map now xs) t → Contains (map now ys) t
+moved : (xs ys : List (ByteString)) → ((q : ByteString) → list_any (alike q) xs ≡ true → list_any (alike q) ys ≡ true) → (t : List ℕ) → Contains (map now xs) t → Contains (map now ys) t
 moved xs ys f t c =
     let a = from_map now xs t c in
-    let b = Any-from_list_any (alike a.of) ys (f a.of (list_any-from_Any (alike a.of) xs (a.there.0, a.of, a.there.1, a.there.2, nat_list_eq_equiv.refl a.of.now))) in
+    let b = Any-from_list_any (alike a.of) ys (f a.of (list_any-from_Any (alike a.of) xs (a.there.0, a.of, a.there.1, a.there.2, nat_list_eq_equiv.refl a.of.0.now))) in
     let equal : now a.of ≡ now b.1 = same_text (now a.of) (now b.1) (sym b.4) in
     subst (λ (v : List ℕ). Contains (map now ys) v) (sym equal ∙ a.is) (to_map now ys b.1 (b.0, b.2, b.3))
 
 -- the entries of each of the texts, once, are those of all
-pub all_distinct : (all few : List (Bor (List ℕ))) (es : List (List ℕ)) → AreEachOnce alike all few → AreDistinct (map now few) es → AreDistinct (map now all) es
+pub all_distinct : (all few : List (ByteString)) (es : List (List ℕ)) → AreEachOnce alike all few → AreDistinct (map now few) es → AreDistinct (map now all) es
 all_distinct all few es same found = record {
   ascend = found.ascend;
   there = λ t c. found.there t (moved all few (λ q h. same.same q ∙ h) t c);
   used = λ t c. moved few all (λ q h. sym (same.same q) ∙ h) t (found.used t c);
 }
 
-apart_from : (x : Bor (List ℕ)) (xs : List (Bor (List ℕ))) → AllByRecursion (λ y. alike x y ≡ false) xs → AllByRecursion (λ y. pointwise nat_eq (now x) y ≡ false) (map now xs)
+apart_from : (x : ByteString) (xs : List (ByteString)) → AllByRecursion (λ y. alike x y ≡ false) xs → AllByRecursion (λ y. pointwise nat_eq (now x) y ≡ false) (map now xs)
 apart_from x [] h = tt
 apart_from x (y ∷ xs) h = (h.0, apart_from x xs h.1)
 
-apart : (xs : List (Bor (List ℕ))) → IsDistinct alike xs → IsDistinct (pointwise nat_eq) (map now xs)
+apart : (xs : List (ByteString)) → IsDistinct alike xs → IsDistinct (pointwise nat_eq) (map now xs)
 unfolding IsDistinct
 apart [] h = tt
 apart (x ∷ xs) h = (apart_from x xs h.0, apart xs h.1)
@@ -141,7 +141,7 @@ worth_less : (a b n : ℕ) → is_worth a n ≡ false → a ≤ b → is_worth b
 worth_less a b n h le = grind (arith, h, le)
 
 -- where some of the texts are too many, the entries of all are
-pub all_many : (all : List (Bor (List ℕ))) → HasTooMany alike all → HaveManyEntries (map now all)
+pub all_many : (all : List (ByteString)) → HasTooMany alike all → HaveManyEntries (map now all)
 all_many all many =
     let es = entries (map now all) in
     let are = entries_are (map now all) in

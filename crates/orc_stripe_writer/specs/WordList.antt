@@ -1,19 +1,14 @@
 -- Dictionaries of texts as they are written (ORC specification, "String, Char, and VarChar Columns").
 use Rattle.std.specs.Prelude.{◌≡◌, ℕ, ◌*◌, ◌&&◌, nat_lt, nat_le, Bool, ℤ, pos, negsuc, Option, Some, None, List, map, slice_get}
-use Rattle.std.specs.Borrow.{Bor}
 use Rattle.std.specs.List.{Contains}
 use Rattle.std.specs.List.Sorted.{IsStrictlySortedBy}
 use Rattle.std.specs.Ordering.{nat_cmp}
 use Rattle.std.specs.Cmp.Lexicographic.{slice_cmp}
-use Rattle.orc_stripe_writer.specs.declared.cell_values.ByteString.{ByteString}
+use Rattle.orc_stripe_writer.specs.declared.byte_string.ByteString.{ByteString}
 
 -- the bytes of strings
 abbrev pub byte_strings : List ByteString → List (List ℕ)
 byte_strings ps = map (λ (p : ByteString). p.0.now) ps
-
--- the bytes that the references point to
-abbrev pub lent_bytes : List (Bor (List ℕ)) → List (List ℕ)
-lent_bytes items = map (λ t. t.now) items
 
 -- the entries are the texts, each once, in the order of unsigned bytes
 pub record AreDistinct (texts entries : List (List ℕ)) : Type 0 where

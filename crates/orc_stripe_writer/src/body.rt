@@ -10,7 +10,8 @@ ghost use Rattle.orc_stripe_writer.specs.WrittenStreams.{AreWrittenInts};
 ghost use Rattle.orc_stripe_writer.specs.WrittenStripe.{line};
 ghost use Rattle.orc_stripe_writer.specs.Adding.{AddsStream, AppendsText};
 
-use crate::cell_values::{ByteString, append_byte_strings};
+use crate::byte_string::ByteString;
+use crate::cell_values::append_byte_strings;
 use orc_rle::{BitRuns, ByteRuns, Rle, RunCodec, Sign, V1, V2};
 use orc_wire::StreamMsg;
 use std::alloc::{AllocError, Global};

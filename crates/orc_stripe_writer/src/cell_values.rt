@@ -12,12 +12,9 @@ ghost use Rattle.orc_stripe_writer.specs.CellValues as spec;
 ghost use Rattle.orc_stripe_writer.specs.CellValues.{int_in, bytes_in, size_in, bools_in, ints_in, number_bytes_in, all_bytes_in, sizes_in};
 ghost use Rattle.orc_stripe_writer.specs.WordList.{byte_strings};
 
+use crate::byte_string::ByteString;
 use orc_types::Own;
 use std::alloc::{AllocError, Global};
-
-/// The bytes of a text, or of a byte string, that are lent: one element of a slice.
-#[derive(Clone, Copy)]
-pub(crate) struct ByteString<'r>(pub(crate) &'r [u8]);
 
 /// Whether no cell is null.
 pub(crate) fn are_all_values(owns: &[Own<'_>]) -> bool

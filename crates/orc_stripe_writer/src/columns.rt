@@ -141,14 +141,17 @@ pub(crate) fn put_columns(
         Tree::List(element, _) => {
             let elements = elements_of(alloc, cells)?;
             let below = element_bounds(alloc, &owns, bounds)?;
+            drop(owns);
             put_columns(alloc, options, element, &elements, &below, out)
         }
         Tree::Map(key, value, _) => {
             let below = pair_bounds(alloc, &owns, bounds)?;
+            drop(owns);
             put_pairs(alloc, options, key, value, cells, &below, out)
         }
         Tree::Struct(fields, _) => {
             let below = field_bounds(alloc, &owns, bounds)?;
+            drop(owns);
             put_fields(alloc, options, fields, cells, &below, out)
         }
     }

@@ -3,6 +3,7 @@
 
 mod below;
 mod body;
+mod byte_string;
 mod cell_values;
 mod column_streams;
 mod columns;

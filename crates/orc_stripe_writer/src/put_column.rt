@@ -15,8 +15,9 @@ ghost use Rattle.orc_stripe_writer.specs.WrittenColumn.{HasBits, HasBytes, HasNu
 ghost use Rattle.orc_stripe_writer.specs.Adding.{AddsStream, AddsValues, AddsColumn};
 
 use crate::body::Body;
+use crate::byte_string::ByteString;
 use crate::cell_values::{
-    ByteString, are_all_values, bools_of, byte_string_lengths, byte_strings_of, ints_of, marks_in,
+    are_all_values, bools_of, byte_string_lengths, byte_strings_of, ints_of, marks_in,
     number_bytes_of, sizes_of,
 };
 use crate::word_list::{WordList, entries_of, word_list_of};

@@ -7,9 +7,10 @@ ghost use Rattle.orc_rle.specs.Values.{AllInRange};
 ghost use Rattle.orc_stripe_writer.specs.WordList as spec;
 ghost use Rattle.orc_stripe_writer.specs.WordChoice.{AreEachOnce, AreWorthy, HasTooMany, HaveManyEntries};
 ghost use Rattle.orc_stripe_writer.specs.WordPlaces.{same_bytes, ArePlaces};
-ghost use Rattle.orc_stripe_writer.specs.WordList.{byte_strings, lent_bytes, AreDistinct, AreNamed};
+ghost use Rattle.orc_stripe_writer.specs.WordList.{byte_strings, AreDistinct, AreNamed};
 
-use crate::cell_values::{ByteString, number_of};
+use crate::byte_string::ByteString;
+use crate::cell_values::number_of;
 use std::alloc::{AllocError, Global};
 use std::collections::{HashMap, HashSet};
 use std::hash::Hash;
@@ -28,17 +29,6 @@ fn is_worth(entries: usize, texts: usize) -> bool
     ensures { result ≡ spec.is_worth entries texts }
 {
     0 < texts && entries <= texts / 2
-}
-
-/// The texts, as a list.
-fn texts_of<'r>(alloc: Global, strings: &[ByteString<'r>]) -> Result<Vec<&'r [u8]>, AllocError>
-    ensures { IfOk result (λ texts. lent_bytes texts.items ≡ byte_strings strings.now) }
-{
-    let mut texts = Vec::with_capacity(alloc, strings.len())?;
-    for string in strings {
-        texts.push(string.0)?;
-    }
-    Ok(texts)
 }
 
 /// The items, each once, as they come; nothing where more come once they are too many for a dictionary.
@@ -60,8 +50,8 @@ fn each_once<K: Eq + Hash + Copy>(alloc: Global, items: &[K]) -> Result<Option<V
 }
 
 /// Keeps each text once, in the order of unsigned bytes. It takes no memory.
-fn distinct<'r>(mut texts: Vec<&'r [u8]>) -> Vec<&'r [u8]>
-    ensures { AreDistinct (lent_bytes texts.entry.items) (lent_bytes result.items) }
+fn distinct<'r>(mut texts: Vec<ByteString<'r>>) -> Vec<ByteString<'r>>
+    ensures { AreDistinct (byte_strings texts.entry.items) (byte_strings result.items) }
 {
     texts.sort_unstable();
     texts.dedup();
@@ -71,9 +61,9 @@ fn distinct<'r>(mut texts: Vec<&'r [u8]>) -> Vec<&'r [u8]>
 /// The place of each entry.
 fn entry_places<'r>(
     alloc: Global,
-    entries: &Vec<&'r [u8]>,
-) -> Result<HashMap<&'r [u8], usize>, AllocError>
-    ensures { IfOk result (λ places. ArePlaces (get same_bytes places) (lent_bytes entries.now.items)) }
+    entries: &Vec<ByteString<'r>>,
+) -> Result<HashMap<ByteString<'r>, usize>, AllocError>
+    ensures { IfOk result (λ places. ArePlaces (get same_bytes places) (byte_strings entries.now.items)) }
 {
     let mut places = HashMap::with_capacity(alloc, entries.len())?;
     for place in 0..entries.len() {
@@ -85,18 +75,18 @@ fn entry_places<'r>(
 /// For each text its place among the entries.
 fn places_of<'r>(
     alloc: Global,
-    entries: &Vec<&'r [u8]>,
+    entries: &Vec<ByteString<'r>>,
     strings: &[ByteString<'r>],
 ) -> Result<Vec<i64>, AllocError>
-    requires { AreDistinct (byte_strings strings.now) (lent_bytes entries.now.items) }
+    requires { AreDistinct (byte_strings strings.now) (byte_strings entries.now.items) }
     ensures named { IfOk result
-        (λ places. AreNamed (lent_bytes entries.now.items) places.items (byte_strings strings.now)) }
+        (λ places. AreNamed (byte_strings entries.now.items) places.items (byte_strings strings.now)) }
     ensures in_range { IfOk result (λ places. AllInRange Unsigned places.items) }
 {
     let known = entry_places(alloc, entries)?;
     let mut places = Vec::with_capacity(alloc, strings.len())?;
     for string in strings {
-        match known.get(&string.0) {
+        match known.get(string) {
             Some(place) => places.push(number_of(*place)?)?,
             None => unreachable!(),
         }
@@ -104,30 +94,16 @@ fn places_of<'r>(
     Ok(places)
 }
 
-/// The same texts, as elements of a slice.
-fn byte_strings_from<'r>(
-    alloc: Global,
-    texts: Vec<&'r [u8]>,
-) -> Result<Vec<ByteString<'r>>, AllocError>
-    ensures { IfOk result (λ strings. byte_strings strings.items ≡ lent_bytes texts.entry.items) }
-{
-    let mut strings = Vec::with_capacity(alloc, texts.len())?;
-    for text in texts {
-        strings.push(ByteString(text))?;
-    }
-    Ok(strings)
-}
-
 /// The texts, each once, in the order of unsigned bytes; nothing where a dictionary of them isn't worth it.
 /// Only distinct texts are sorted, of which there are one more than half of all at most.
 pub(crate) fn entries_of<'r>(
     alloc: Global,
     strings: &[ByteString<'r>],
-) -> Result<Option<Vec<&'r [u8]>>, AllocError>
+) -> Result<Option<Vec<ByteString<'r>>>, AllocError>
     ensures { IfOk result (λ found. MatchOption found (HaveManyEntries (byte_strings strings.now))
-        (λ entries. AreWorthy (byte_strings strings.now) (lent_bytes entries.items))) }
+        (λ entries. AreWorthy (byte_strings strings.now) (byte_strings entries.items))) }
 {
-    let Some(texts) = each_once(alloc, &texts_of(alloc, strings)?)? else {
+    let Some(texts) = each_once(alloc, strings)? else {
         return Ok(None);
     };
     let entries = distinct(texts);
@@ -141,16 +117,15 @@ pub(crate) fn entries_of<'r>(
 /// The entries, and the place of each text among them.
 pub(crate) fn word_list_of<'r>(
     alloc: Global,
-    entries: Vec<&'r [u8]>,
+    entries: Vec<ByteString<'r>>,
     strings: &[ByteString<'r>],
 ) -> Result<WordList<'r>, AllocError>
-    requires { AreDistinct (byte_strings strings.now) (lent_bytes entries.items) }
-    ensures entries { IfOk result (λ found. byte_strings found.entries.items ≡ lent_bytes entries.entry.items) }
+    requires { AreDistinct (byte_strings strings.now) (byte_strings entries.items) }
+    ensures entries { IfOk result (λ found. byte_strings found.entries.items ≡ byte_strings entries.entry.items) }
     ensures named { IfOk result
         (λ found. AreNamed (byte_strings found.entries.items) found.places.items (byte_strings strings.now)) }
     ensures in_range { IfOk result (λ found. AllInRange Unsigned found.places.items) }
 {
     let places = places_of(alloc, &entries, strings)?;
-    let entries = byte_strings_from(alloc, entries)?;
     Ok(WordList { entries, places })
 }

@@ -291,6 +291,10 @@ impl<W: Sink> Writer<W> {
         // where nobody takes them, spare rows make room for those that are pushed
         let missing = (self.options.stripe_rows() as usize).saturating_sub(self.rows.len());
         self.spare.truncate(missing);
+        if missing == 0 {
+            // the stripe is full, and its own rows are the next spare ones
+            self.spare.shrink_to_fit();
+        }
         Ok(())
     }
 

@@ -2,22 +2,25 @@
 ghost use Rattle.std.specs.Prelude.{◌≡◌, ◌≢◌, ◌<◌, ◌⊎◌, ℕ, List, true, false, None, length, IfOk, IfErr, IfSome, MatchResult};
 ghost use Rattle.orc_types.specs.Cells.{Cell};
 ghost use Rattle.orc_types.specs.Shapes.{width};
-ghost use Rattle.orc_types.specs.Views.{views};
 ghost use Rattle.orc_wire.specs.declared.row_index.RowIndexMsg.{RowIndexMsg as IndexMessage};
 ghost use Rattle.orc_column_reader.specs.Directory.{has_stream, have_room, is_of, slice};
 ghost use Rattle.orc_column_reader.specs.Faults.{RowsFault};
-ghost use Rattle.orc_column_reader.specs.Stripe.{IsStripe, columns_of};
+ghost use Rattle.orc_column_reader.specs.Located.{AreLocated};
+ghost use Rattle.orc_column_reader.specs.Stripe.{IsStripe, SpellRows, columns_of, cell_limit};
 ghost use Rattle.orc_column_reader.specs.declared.fault.StripeFault.TheVariants.{OutOfMemory};
-ghost use Rattle.orc_stripe.specs.RowIndexes.{HasIndex, IndexFault, IsWhole, ArePositionsDecided, HasOtherEntries, PositionsFault};
+ghost use Rattle.orc_stripe.specs.ColumnGroups.{AreCountedOf};
+ghost use Rattle.orc_stripe.specs.RowIndexes.{HasIndex, IndexFault, IsWhole, ArePositionsDecided, HasOtherEntries};
 
-use crate::groups::column_groups;
+use crate::groups::{CellGroups, count_column};
 use crate::view::StripeView;
 use orc_column_reader::fault::{Spot, StripeFault, wire_fault};
-use orc_column_reader::located::locate;
+use orc_column_reader::located::Located;
 use orc_column_reader::starting::streams_of;
-use orc_row_index_check::positions_right;
+use orc_column_walk::walk_columns;
+use orc_row_index::Counts;
+use orc_row_index_check::positions_right_behind;
 use orc_stripe_writer::group_starts;
-use orc_types::{Row, tree_at};
+use orc_types::tree_at;
 use orc_wire::{Message, RowIndexMsg, StreamMsg};
 use std::alloc::Global;
 
@@ -77,71 +80,60 @@ impl<'a> StripeView<'a> {
         }
     }
 
-    /// For each entry of a column's row index whether its positions are right: whether from there a reader goes on
-    /// with the cells that come behind those of the rows before its group. Any right position counts, and not a
-    /// writer's alone.
-    ///
-    /// The column is one of the schema: a condition. The rows are those that the stripe has, as `rows` answers them;
-    /// over others nothing is promised of the answer.
-    ///
-    /// Refusals: those of `index`; `BadPosition` of the column where there are not as many entries as groups of
-    /// rows; `Run` where a stream is none of runs, which the stripe's own rows exclude; `OutOfMemory`.
-    pub fn positions_right_of(
-        &self,
-        alloc: Global,
-        column: usize,
-        rows: &[Row<'_>],
-    ) -> Result<Vec<bool>, StripeFault>
-        requires { column < width self.now.schema }
-        // Where truth values are answered, the column has an index with an entry for each group of
-        // the rows, and the stride is above 0.
-        ensures index { IfOk result (λ _. (message : IndexMessage)
-            × HasIndex self.now.footer self.now.bytes column message
-            × IsWhole self.now (length (views rows.now)) message × (0 < self.now.stride)) }
-        // Where the rows are the stripe's and an index reads, each value says whether its entry's
-        // positions are right for the group; memory or the number of entries alone is refused.
-        ensures right { (message : IndexMessage)
-            → IsStripe self.now.schema self.now.info self.now.bytes (views rows.now)
-            → 0 < self.now.stride
-            → HasIndex self.now.footer self.now.bytes column message
-            → MatchResult result
-            (λ right. IsWhole self.now (length (views rows.now)) message
-            × ArePositionsDecided self.now column (views rows.now) message right.items)
-            (λ fault. (fault ≡ OutOfMemory) ⊎ HasOtherEntries self.now column (length (views rows.now)) fault) }
-        // A refusal but want of memory is one of the index or of its number of entries, or, where
-        // the rows aren't the stripe's, of a stream's runs.
-        ensures fault { IfErr result (λ fault. fault ≢ OutOfMemory
-            → PositionsFault self.now column (views rows.now) fault) }
+    /// Finds the streams of all columns, and tests that these spell the stripe's rows. None is made.
+    fn walk(&self, alloc: Global) -> Result<Located<'a>, StripeFault>
+        ensures found { IfOk result (λ located. AreLocated (length self.now.footer.columns)
+            self.now.footer.streams located.bytes.now located.slices.items) }
+        ensures same { IfOk result (λ located. located.bytes.now ≡ self.now.bytes) }
+        ensures rows { IfOk result (λ _. (rows : List Cell)
+            × IsStripe self.now.schema self.now.info self.now.bytes rows) }
+        ensures fault { IfErr result (λ cause. cause ≢ OutOfMemory
+            → RowsFault self.now.schema (columns_of self.now.footer self.now.bytes)
+            self.now.info.number_of_rows cause) }
     {
-        let index = match self.index(alloc, column) {
-            Ok(index) => index,
-            Err(fault) => return Err(fault),
-        };
-        let entries = index.entries.as_slice();
-        let firsts = group_starts(alloc, self.stride as usize, rows.len())?;
-        if entries.len() != firsts.len() {
-            return Err(StripeFault::BadPosition(Spot::Column(column)));
+        let located = self.locate(alloc)?;
+        let (tree, rows) = (self.schema.tree(), self.info.number_of_rows);
+        match walk_columns(alloc, tree, &self.footer, &located, rows) {
+            Ok(()) => Ok(located),
+            Err(fault) => Err(fault),
         }
-        let groups = column_groups(alloc, self.schema, column, rows, &firsts)?;
-        let located = locate(alloc, &self.footer, self.bytes)?;
-        let streams = streams_of(column, &self.footer, &located);
-        let tree = tree_at(self.schema.tree(), column);
-        positions_right(
-            alloc,
-            tree,
-            column,
-            &streams,
-            &groups.cells,
-            &groups.bounds,
-            entries,
-        )
     }
 
-    /// The same over the stripe's own rows, which are read for it.
+    /// What is counted of a column's cells before each group of the rows, which the columns spell.
+    fn column_counts(
+        &self,
+        alloc: Global,
+        located: &Located<'_>,
+        column: usize,
+    ) -> Result<Vec<Counts>, StripeFault>
+        requires there { column < width self.now.schema }
+        requires located { AreLocated (length self.now.footer.columns) self.now.footer.streams
+            located.now.bytes.now located.now.slices.items }
+        requires same { located.now.bytes.now ≡ self.now.bytes }
+        requires stride { 0 < self.now.stride }
+        requires few { self.now.info.number_of_rows < cell_limit }
+        ensures found { IfOk result (λ counts. (rows : List Cell)
+            → SpellRows self.now.schema (columns_of self.now.footer self.now.bytes) self.now.info.number_of_rows rows
+            → AreCountedOf self.now rows column counts.items) }
+        ensures refused { IfErr result (λ fault. (rows : List Cell)
+            → SpellRows self.now.schema (columns_of self.now.footer self.now.bytes) self.now.info.number_of_rows rows
+            → fault ≡ OutOfMemory) }
+    {
+        let count = self.info.number_of_rows as usize;
+        let bounds = group_starts(alloc, self.stride as usize, count)?;
+        let cells = CellGroups { count, bounds };
+        let tree = self.schema.tree();
+        count_column(alloc, tree, 0, column, &self.footer, located, &cells)
+    }
+
+    /// For each entry of a column's row index whether its positions are right: whether from there a reader goes on
+    /// with the cells that come behind those of the rows before its group. Any right position counts, and not a
+    /// writer's alone. All columns of the stripe are read for it, one after the other, and no row is held.
     ///
     /// The column is one of the schema: a condition.
     ///
-    /// Refusals: those of `rows`, and then those of `positions_right_of` but `Run`.
+    /// Refusals: those of `rows`, which come column by column here; then those of `index`; `BadPosition` of the
+    /// column where there are not as many entries as groups of rows; `OutOfMemory`.
     pub fn positions_right(&self, alloc: Global, column: usize) -> Result<Vec<bool>, StripeFault>
         requires { column < width self.now.schema }
         // Where truth values are answered, the stripe has rows, the column has an index with an
@@ -167,9 +159,26 @@ impl<'a> StripeView<'a> {
             ⊎ ((rows : List Cell) × IsStripe self.now.schema self.now.info self.now.bytes rows
             × (IndexFault self.now column cause ⊎ HasOtherEntries self.now column (length rows) cause))) }
     {
-        match self.rows(alloc) {
-            Ok(rows) => self.positions_right_of(alloc, column, &rows),
-            Err(fault) => Err(fault),
+        let rows = self.info.number_of_rows;
+        let located = match self.walk(alloc) {
+            Ok(located) => located,
+            Err(fault) => return Err(fault),
+        };
+        let index = match self.index(alloc, column) {
+            Ok(index) => index,
+            Err(fault) => return Err(fault),
+        };
+        let entries = index.entries.as_slice();
+        let groups = rows.div_ceil(self.stride as u64);
+        if entries.len() as u64 != groups {
+            return Err(StripeFault::BadPosition(Spot::Column(column)));
         }
+        let counts = match self.column_counts(alloc, &located, column) {
+            Ok(counts) => counts,
+            Err(fault) => return Err(fault),
+        };
+        let streams = streams_of(column, &self.footer, &located);
+        let tree = tree_at(self.schema.tree(), column);
+        positions_right_behind(alloc, tree, column, &streams, &counts, entries)
     }
 }

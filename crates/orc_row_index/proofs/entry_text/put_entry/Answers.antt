@@ -1,4 +1,4 @@
-use Rattle.std.proofs.Common.{◌≡◌, ◌∙◌, ℕ, Some, List, [], ◌∷◌, ◌++◌, refl, sym, ap, subst}
+use Rattle.std.proofs.Common.{◌≡◌, ◌∙◌, ℕ, Some, List, [], ◌∷◌, ◌++◌, Vec, Global, refl, sym, ap, subst}
 use Rattle.std.proofs.lemmas.List.{append-nil}
 use Rattle.orc_positions.specs.BitPosition.{IsBitPlace}
 use Rattle.orc_wire.specs.CanonicalMessages.{row_index_text, row_index_entry_text}
@@ -12,7 +12,7 @@ pub returns-in-Ok-clause-entry : goal.returns-in-Ok-clause-entry
 returns-in-Ok-clause-entry c = λ before counted there.
     let placed = c.args.placed.now in
     let put = c.in_ok-walk.ensures.places before counted there in
-    let positions : c.from_vec.result ≡ put.0 = c.from_vec.ensures ∙ put.2 ∙ ap (λ (ps : List ℕ). ps ++ put.0) c.in_ok-positions.ensures.items in
+    let positions : c.from_vec.result ≡ put.0 = c.from_vec.ensures ∙ ap (λ (v : Vec ℕ Global). v.items) c.replace.ensures.value ∙ put.2 ∙ ap (λ (ps : List ℕ). ps ++ put.0) c.clear.ensures.items in
     let entry : RowIndexEntry = record { positions = c.from_vec.result; statistics = Some c.in_ok-message_of.field-0 } in
     let field = sized_text 1 (row_index_entry_text.text entry) in (
       row_index_text.text (record { entries = entry ∷ [] }),

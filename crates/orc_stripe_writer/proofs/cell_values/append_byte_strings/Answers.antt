@@ -1,7 +1,7 @@
 use Rattle.std.proofs.Common.{◌≡◌, ◌++◌, take, sym, ap, ◌∙◌, arith}
 use Rattle.std.specs.List.{flat_map}
 use Rattle.std.proofs.lemmas.List.{take_all}
-use Rattle.orc_stripe_writer.specs.declared.cell_values.ByteString.{ByteString}
+use Rattle.orc_stripe_writer.specs.declared.byte_string.ByteString.{ByteString}
 use Rattle.orc_stripe_writer.proofs.CellValuesLemmas.{joined_is}
 use Rattle.orc_stripe_writer.proofs.cell_values.append_byte_strings.Goals as goal
 

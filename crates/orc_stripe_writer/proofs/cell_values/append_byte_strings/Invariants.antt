@@ -1,6 +1,6 @@
 use Rattle.std.proofs.Common.{◌≡◌, ◌++◌, take}
 use Rattle.std.specs.List.{flat_map}
-use Rattle.orc_stripe_writer.specs.declared.cell_values.ByteString.{ByteString}
+use Rattle.orc_stripe_writer.specs.declared.byte_string.ByteString.{ByteString}
 use Rattle.orc_stripe_writer.proofs.cell_values.append_byte_strings.Given as goal
 
 abbrev pub invariant-loop-string : goal.invariant-loop-string

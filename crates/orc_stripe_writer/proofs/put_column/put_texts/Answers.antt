@@ -1,6 +1,6 @@
 use Rattle.std.proofs.Common.{◌≡◌, List, ℕ, true, false, length, ◌∙◌, sym, subst, rules}
 use Rattle.std.proofs.lemmas.Result.{IfOk-weaker}
-use Rattle.orc_stripe_writer.specs.WordList.{byte_strings, lent_bytes, is_worth, AreDistinct}
+use Rattle.orc_stripe_writer.specs.WordList.{byte_strings, is_worth, AreDistinct}
 use Rattle.orc_stripe_writer.specs.WordChoice.{AreWorthy, HaveManyEntries}
 use Rattle.orc_stripe_writer.proofs.AddingLemmas.{texts_added}
 use Rattle.orc_stripe_writer.proofs.put_column.put_texts.Goals as goal
@@ -8,7 +8,7 @@ use Rattle.orc_stripe_writer.proofs.put_column.put_texts.Goals as goal
 pub returns-in_ok-found-in-Some : goal.returns-in_ok-found-in-Some
 returns-in_ok-found-in-Some c =
     let texts = byte_strings c.args.strings.now in
-    let entries = lent_bytes c.in-Some.entries.items in
+    let entries = byte_strings c.in-Some.entries.items in
     let named = byte_strings c.in_ok-found-in-Some.found.entries.items in
     let same : named ≡ entries = c.in_ok-found-in-Some.ensures.entries in
     let found : AreWorthy texts entries = search rules in

@@ -1,6 +1,6 @@
 use Rattle.std.proofs.Common.{◌≡◌, List, length, map, sym, ap, ◌∙◌, subst, rules}
 use Rattle.std.proofs.lemmas.List.{length-map}
-use Rattle.orc_stripe_writer.specs.declared.cell_values.ByteString.{ByteString}
+use Rattle.orc_stripe_writer.specs.declared.byte_string.ByteString.{ByteString}
 use Rattle.orc_column_reader.specs.Spellings.{size, joined}
 use Rattle.orc_stripe_writer.specs.WordList.{byte_strings}
 use Rattle.orc_stripe_writer.specs.WrittenColumn.{dictionary}

@@ -1,4 +1,4 @@
-use Rattle.std.proofs.Common.{◌≡◌, arith}
+use Rattle.std.proofs.Common.{arith}
 use Rattle.std.proofs.lemmas.List.{length-map}
 use Rattle.orc_types.specs.Views.{view, views}
 use Rattle.orc_file.proofs.Spread.{HasPushed}

@@ -1,0 +1,21 @@
+//! The bytes of texts and of byte strings, as they are compared and told apart.
+ghost use Rattle.std.specs.Prelude.{◌∷◌, []};
+ghost use Rattle.std.specs.Cmp.Rules.{hashing};
+ghost use Rattle.std.proofs.Common.{rules};
+
+use std::hash::{Hash, Hasher};
+
+/// The bytes of a text, or of a byte string, that are lent: one element of a slice. They are in the order of unsigned bytes.
+#[derive(Clone, Copy, PartialEq, Eq, PartialOrd, Ord)]
+pub(crate) struct ByteString<'r>(pub(crate) &'r [u8]);
+
+// a slice of bytes would be hashed byte by byte
+impl Hash for ByteString<'_> {
+    ghost hash_input = { λ s. s.0.now ∷ [] };
+
+    ghost respects_eq = { Prim.search (hashing, rules) };
+
+    fn hash<H: Hasher>(&self, state: &mut H) {
+        state.write(self.0);
+    }
+}
