@@ -11,6 +11,10 @@ _orcm() {
         COMPREPLY=($(compgen -W 'ints rows show check write merge help --help --version' -- "$word"))
         return
     fi
+    if [ "${COMP_WORDS[1]}" = help ]; then
+        COMPREPLY=($(compgen -W 'ints rows show check write merge' -- "$word"))
+        return
+    fi
     local options=--help
     case ${COMP_WORDS[1]} in
         ints) options='--rle --sign --help' ;;
@@ -19,7 +23,7 @@ _orcm() {
     esac
     case $word in
         -*) COMPREPLY=($(compgen -W "$options" -- "$word")) ;;
-        *) COMPREPLY=($(compgen -f -- "$word")) ;;
+        *) mapfile -t COMPREPLY < <(compgen -f -- "$word") ;;
     esac
 }
 complete -o filenames -F _orcm orcm

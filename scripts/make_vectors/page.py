@@ -54,16 +54,18 @@ of arrays of a key and a value.
 ## How another reader uses them
 
 `reader FILE` stands for a program that prints a file's rows as lines of JSON and ends with another
-status than 0 where it refuses the file. In shell, with `jq` to compare JSON and not its text:
+status than 0 where it refuses the file. In shell, with `jq` to compare JSON and not its text (`jq` 1.6
+rounds integers above 2^53, which the lines in Python compare exactly):
 
 ```sh
+rows=$(mktemp) fault=$(mktemp)
 cd vectors && find . -name '*.orc' ! -path './written/*' | sort | while read -r file; do
     name=${{file%.orc}}
     if [ -e "$name.fault" ]; then
         reader "$file" >/dev/null 2>&1 && echo "$file is read"
-    elif ! reader "$file" >rows 2>fault; then
-        echo "$file is refused: $(cat fault)"
-    elif [ "$(jq -cS . rows)" != "$(jq -cS . "$name.json")" ]; then
+    elif ! reader "$file" >"$rows" 2>"$fault"; then
+        echo "$file is refused: $(cat "$fault")"
+    elif [ "$(jq -cS . "$rows")" != "$(jq -cS . "$name.json")" ]; then
         echo "$file has other rows"
     fi
 done
@@ -75,9 +77,9 @@ In Python:
 import json, pathlib, subprocess
 
 for path in sorted(pathlib.Path("vectors").rglob("*.orc")):
-    done = subprocess.run(["reader", path], capture_output=True)
     if "written" in path.parts:
         continue
+    done = subprocess.run(["reader", path], capture_output=True)
     if path.with_suffix(".fault").exists() != (done.returncode != 0):
         print(path, "is read" if done.returncode == 0 else "is refused")
     elif done.returncode == 0:

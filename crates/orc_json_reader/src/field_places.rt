@@ -7,8 +7,8 @@ ghost use Rattle.orc_json_reader.specs.Frontier.{read_up_to};
 use orc_types::{Field, Row};
 use std::alloc::{AllocError, Global};
 
-/// Among how many fields a key is looked for at most, from the field behind that of the key before it on, and among all where a
-/// struct has no more. So the time that a row takes doesn't grow with the square of its fields.
+/// Among how many fields a key is looked for at most, from the field on that is behind all that keys have named, and among all
+/// where a struct has no more. So the time that a row takes doesn't grow with the square of its fields.
 const MOST_SEARCHED: usize = 64;
 
 /// So many nulls.

@@ -1,5 +1,6 @@
-//! The room of old texts and lists, in which new ones are read. It is kept where it is small, or not far too large for what is
-//! read, and else given back: so what a row keeps is bounded by what it holds, whatever was read in its room before.
+//! The room of old texts, lists and maps, in which new ones are read. It is kept where it is less than twice what is read, and
+//! that of a text where it is small, too; else it is given back. So what a row keeps is bounded by what it holds, whatever was
+//! read in its room before.
 ghost use Rattle.std.specs.Prelude.{◌≡◌, ◌<◌, ◌≤◌, length, take, OnOk};
 
 use crate::field_places::nulls;

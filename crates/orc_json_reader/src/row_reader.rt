@@ -18,8 +18,8 @@ use std::alloc::Global;
 /// How deep arrays and objects nest at most in a text that `serde_json` reads (RFC 8259, "Parsers", lets a parser set a limit).
 const MAX_DEPTH: usize = 127;
 
-/// What reads rows from texts of JSON, one after another and under any schema. It keeps room for the longest text that it has
-/// read, a byte a byte; else each text is read as if it were the first.
+/// What reads rows from texts of JSON, one after another and under any schema. For strings with escapes it keeps room as
+/// long as the longest text that it has read; else each text is read as if it were the first.
 #[derive(Drop)]
 pub struct RowReader {
     scratch: Scratch,
@@ -74,7 +74,7 @@ impl RowReader {
 
     /// The row that a text of JSON spells under a schema: the one that `row_from_json` answers of the value that `serde_json`
     /// reads in it, exactly. A value is made only where a refusal has to be told, and where in an object under a struct of more
-    /// than 64 fields a key's field stands before that of the last key, or more than 64 behind it.
+    /// than 64 fields a key's field doesn't stand behind that of the last key, or is more than 64 behind it.
     ///
     /// Refusals: `Syntax` where the text isn't UTF-8 (RFC 8259, "Character Encoding") or `serde_json` reads no value in it;
     /// those of `row_from_json` of the value that it reads; `OutOfMemory`. After each of them the reader reads on as before.
@@ -102,8 +102,9 @@ impl RowReader {
     /// As `read_row`, in the room of a row that is no longer needed, so that a caller who drops rows as others are read takes
     /// little memory anew. The spare row is any row at all, under whatever schema it was read, and nothing of it is in the
     /// answer. Where its structs, texts, lists and maps stand at places of such in the new row, their room is used: a struct's
-    /// where it has as many fields, the others' where it is less than twice what is needed, or a text's is small. So no row keeps
-    /// room that is far larger than its values, however often it is read over. After a refusal the spare row is gone.
+    /// where it has as many fields, a text's where it is small or less than twice what is needed, and that of lists and maps, of
+    /// which what is too large is given back. So no row keeps room that is far larger than its values, however often it is read
+    /// over. After a refusal the spare row is gone.
     pub fn read_row_over(
         &mut self,
         alloc: Global,

@@ -134,7 +134,7 @@ impl Body {
         self.list(column, kind, start)
     }
 
-    /// Adds a stream of the pieces' bytes, one after the other.
+    /// Adds a stream of the strings' bytes, one after the other.
     pub(crate) fn put_byte_strings(
         &mut self,
         column: u32,

@@ -5,11 +5,11 @@ ghost use Rattle.std.proofs.Common.{rules};
 
 use std::hash::{Hash, Hasher};
 
-/// The bytes of a text, or of a byte string, that are lent: one element of a slice. They are in the order of unsigned bytes.
+/// The bytes of a text, or of a byte string, that are lent: one element of a slice. They compare in the order of unsigned bytes.
 #[derive(Clone, Copy, PartialEq, Eq, PartialOrd, Ord)]
 pub(crate) struct ByteString<'r>(pub(crate) &'r [u8]);
 
-// a slice of bytes would be hashed byte by byte
+// derived, this would hash byte by byte; here the hasher gets all bytes in one call
 impl Hash for ByteString<'_> {
     ghost hash_input = { λ s. s.0.now ∷ [] };
 

@@ -1,5 +1,5 @@
-//! A column's cells as the column itself says them. Rows lie apart in memory: each cell is gone to once, and what is made
-//! of the column goes over this list.
+//! A column's cells as the column itself says them. Rows lie apart in memory: for what a cell says it is gone to once, and
+//! the column's streams, its statistic, its index and the bounds of the columns below are made of this list.
 ghost use Rattle.std.specs.Prelude.{IfOk};
 ghost use Rattle.orc_types.specs.Lent.{lent_cells};
 ghost use Rattle.orc_row_index.specs.OwnCells.{AreOwn};

@@ -153,8 +153,8 @@ put_columns-returns-in-Scalar t c = λ s rows n from groups h.
     (c.in_ok-put_column.ensures s rows cs n said c.requires.fit h (type_from s rows n t cs from) (cells_from s rows n t cs from)
     (bounds_here s rows (firsts_of stride (length rows)) n t cs c.args.bounds.now groups c.requires.bounds))
 
-pub put_columns-returns-in-List : goal.put_columns-returns-in-List
-put_columns-returns-in-List t c =
+pub put_columns-returns-in_ok-below-in-List : goal.put_columns-returns-in_ok-below-in-List
+put_columns-returns-in_ok-below-in-List t c =
     let o = c.in-List.field-1.items in
     let below = shape c.deref-in-List-2.result.now in
     let cs = lent_cells c.args.cells.now in
@@ -180,8 +180,8 @@ put_columns-returns-in-List t c =
     (subst (λ (xs : List Cell). AreGroupsFrom s rows firsts (n + 1) below xs (map (elements_before cs) bs)) (sym here) groups_below)) mid))
     c.put_columns.ensures
 
-pub put_columns-returns-in-Map : goal.put_columns-returns-in-Map
-put_columns-returns-in-Map t c =
+pub put_columns-returns-in_ok-below-in-Map : goal.put_columns-returns-in_ok-below-in-Map
+put_columns-returns-in_ok-below-in-Map t c =
     let o = c.in-Map.field-2.items in
     let k = shape c.deref-in-Map-2.result.now in
     let v = shape c.deref-in-Map-3.result.now in
@@ -205,8 +205,8 @@ put_columns-returns-in-Map t c =
     (subst (λ (ys : List ℕ). ArePairGroupsFrom s rows firsts (n + 1) k v cs ys) (sym bounds) groups_below) mid))
     c.put_pairs.ensures
 
-pub put_columns-returns : goal.put_columns-returns
-put_columns-returns t c =
+pub put_columns-returns-in_ok-below-in-Struct : goal.put_columns-returns-in_ok-below-in-Struct
+put_columns-returns-in_ok-below-in-Struct t c =
     let o = c.in-Struct.field-1.items in
     let fs = fields c.deref-in-Struct-2.result.now in
     let cs = lent_cells c.args.cells.now in
