@@ -31,6 +31,15 @@ use orc_wire::{Items, StripeInfo};
 use std::alloc::Global;
 use std::mem::swap;
 
+/// Drops the spare rows for which the open stripe has no place left, where nobody takes them; when it is full, their list's
+/// room, too, since its own rows are spare next.
+fn cut_spare(spare: &mut Vec<Row<'static>>, missing: usize) {
+    spare.truncate(missing);
+    if missing == 0 {
+        spare.shrink_to_fit();
+    }
+}
+
 impl<W: Sink> Writer<W> {
     /// A writer of a file of this schema, without rows yet. It has written `ORC`.
     ///
@@ -288,13 +297,8 @@ impl<W: Sink> Writer<W> {
         };
         self.total += 1;
         swap(&mut self.counts, &mut self.sums);
-        // where nobody takes them, spare rows make room for those that are pushed
         let missing = (self.options.stripe_rows() as usize).saturating_sub(self.rows.len());
-        self.spare.truncate(missing);
-        if missing == 0 {
-            // the stripe is full, and its own rows are the next spare ones
-            self.spare.shrink_to_fit();
-        }
+        cut_spare(&mut self.spare, missing);
         Ok(())
     }
 
