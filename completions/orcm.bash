@@ -12,7 +12,7 @@ _orcm() {
         return
     fi
     if [ "${COMP_WORDS[1]}" = help ]; then
-        COMPREPLY=($(compgen -W 'ints rows show check write merge' -- "$word"))
+        COMPREPLY=($(compgen -W 'rows show check write merge ints' -- "$word"))
         return
     fi
     local options=--help
