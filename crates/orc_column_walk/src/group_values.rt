@@ -155,8 +155,8 @@ fn count_groups<'a, T: Tally<'a>, V: NextValue>(
 {
     let mut whole = T::unit();
     let mut passed = Passed::nothing();
-    let mut found = Vec::new(alloc);
-    let mut bounds_below = Vec::new(alloc);
+    let mut found = Vec::with_capacity(alloc, groups.bounds.len())?;
+    let mut bounds_below = Vec::with_capacity(alloc, groups.bounds.len())?;
     for group in 0..groups.bounds.len() {
         let cells = bound_of(groups.bounds, group + 1, groups.count)
             - bound_of(groups.bounds, group, groups.count);

@@ -14,6 +14,7 @@ mod records;
 mod seen;
 mod stat;
 mod tally;
+mod text_order;
 mod text_parts;
 mod totals;
 

@@ -21,9 +21,7 @@ pub(crate) fn lent_part(part: &Option<Bytes>) -> Seen<&[u8]>
 fn copy_bytes(alloc: Global, bytes: &[u8]) -> Result<Bytes, AllocError>
     ensures { IfOk result (λ copy. copy ≡ bytes.now) }
 {
-    let mut copy = Vec::new(alloc);
-    copy.extend_from_slice(bytes)?;
-    Ok(Bytes::from_vec(copy))
+    Ok(Bytes::from_vec(bytes.to_vec(alloc)?))
 }
 
 /// A text of our own, if it is known.

@@ -3,6 +3,7 @@ use crate::fault::StatFault;
 use crate::measures::{Measures, Sizes};
 use crate::seen::Seen;
 use crate::stat::Body;
+use crate::text_order::{keep_greatest_text, keep_least_text};
 use crate::text_parts::{lent_part, owned_part};
 use crate::totals::{add_to, in_64, plus, total_of};
 use orc_types::Own;
@@ -53,8 +54,8 @@ impl<'r> Measures<'r> for Texts<'r> {
     fn add_own(&mut self, own: Own<'r>) {
         if let Own::Text(text) = own {
             let bytes = text.as_bytes();
-            self.least.keep_least(bytes);
-            self.greatest.keep_greatest(bytes);
+            keep_least_text(&mut self.least, bytes);
+            keep_greatest_text(&mut self.greatest, bytes);
             add_to(&mut self.sum, bytes.len() as i128);
         }
     }
