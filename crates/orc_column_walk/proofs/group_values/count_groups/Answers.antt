@@ -9,7 +9,7 @@ use Rattle.orc_column_walk.proofs.GroupLemmas.{no_groups_read, group_read, lacks
 use Rattle.orc_column_walk.proofs.group_values.count_groups.Goals as goal
 
 pub loop-group-init : goal.loop-group-init
-loop-group-init g c = rw (c.new-found.ensures.items, c.new-bounds_below.ensures.items)
+loop-group-init g c = rw (c.in_ok-found.ensures.items, c.in_ok-bounds_below.ensures.items)
     (no_groups_read g.T.Tally.measure (shape c.args.tree.now) c.args.source.now c.args.groups.count c.args.groups.bounds.now c.args.groups.values c.args.groups.value_bounds.now (g.T.Tally.kept c.unit-whole.result) c.nothing-passed.result c.requires.first c.requires.values c.unit-whole.ensures c.nothing-passed.ensures)
 
 pub overflow_sub-cells : goal.overflow_sub-cells
