@@ -2,8 +2,8 @@
 use Rattle.std.specs.Prelude.{IfOk, OnOk, Result, Ok, Err}
 use Rattle.std.proofs.Common.{◌≡◌, ◌∙◌, ℕ, zero, suc, ◌*◌, ◌<◌, List, [], ◌∷◌, length, get_or, refl, arith}
 use Rattle.std.proofs.lemmas.List.{length-map}
-use Rattle.orc_types.specs.Cells.{Cell}
-use Rattle.orc_types.specs.Shapes.{Shape}
+use Rattle.orc_values.specs.Cells.{Cell}
+use Rattle.orc_values.specs.Shapes.{Shape}
 use Rattle.orc_stripe_writer.specs.Groups.{group_count, starts, bounds_of, cells_before}
 use Rattle.std.proofs.lemmas.List.FromFn.{length-map-range_with_len}
 

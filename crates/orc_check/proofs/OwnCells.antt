@@ -1,9 +1,9 @@
 -- A column's own cells are cells that its streams spell, and groups of them are groups of such cells.
 use Rattle.std.proofs.Common.{◌≡◌, ◌∙◌, ℕ, pos, List, [], ◌∷◌, map, refl, sym, ap, subst, arith}
-use Rattle.orc_types.specs.Cells.{Cell, parts, pairs_in, values}
-use Rattle.orc_types.specs.Childless.{list_of_size, map_of_size}
-use Rattle.orc_types.specs.Shapes.{Shape, scalar, list_of, map_of, struct_of}
-use Rattle.orc_types.proofs.Childless.{list_size, map_size}
+use Rattle.orc_values.specs.Cells.{Cell, parts, pairs_in, values}
+use Rattle.orc_values.specs.Childless.{list_of_size, map_of_size}
+use Rattle.orc_values.specs.Shapes.{Shape, scalar, list_of, map_of, struct_of}
+use Rattle.orc_values.proofs.Childless.{list_size, map_size}
 use Rattle.orc_column_reader.specs.Numbers.{AreNumbers}
 use Rattle.orc_column_reader.specs.Spellings.{size}
 use Rattle.orc_column_reader.specs.Stripe.{Streams, version, SpellsValues, IsColumn}

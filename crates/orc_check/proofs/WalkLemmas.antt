@@ -4,14 +4,14 @@ use Rattle.std.specs.List.{flat_map, range_with_len}
 use Rattle.std.proofs.lemmas.Grind.{div_ceil_times}
 use Rattle.std.proofs.lemmas.List.{length-map}
 use Rattle.orc_wire.specs.declared.stripe_footer.StripeFooter.{StripeFooter}
-use Rattle.orc_types.specs.Cells.{Cell, parts, pairs_in, keys_in, values_in, values}
-use Rattle.orc_types.specs.Columns.{cells}
-use Rattle.orc_types.specs.Fits.{RowsFit}
-use Rattle.orc_types.specs.Shapes.{Shape, scalar, list_of, map_of, struct_of, Fields, field, width, widths, shape_at}
-use Rattle.orc_types.specs.Views.{shape, fields as fields_view}
-use Rattle.orc_types.specs.declared.kind.Scalar.{Scalar}
-use Rattle.orc_types.specs.declared.tree.Field.{Field}
-use Rattle.orc_types.proofs.Together.{cells_fit, structs_fit, tails_fit}
+use Rattle.orc_values.specs.Cells.{Cell, parts, pairs_in, keys_in, values_in, values}
+use Rattle.orc_values.specs.Columns.{cells}
+use Rattle.orc_values.specs.Fits.{RowsFit}
+use Rattle.orc_values.specs.Shapes.{Shape, scalar, list_of, map_of, struct_of, Fields, field, width, widths, shape_at}
+use Rattle.orc_values.specs.Views.{shape, fields as fields_view}
+use Rattle.orc_values.specs.declared.kind.Scalar.{Scalar}
+use Rattle.orc_values.specs.declared.tree.Field.{Field}
+use Rattle.orc_values.proofs.Together.{cells_fit, structs_fit, tails_fit}
 use Rattle.orc_stats.specs.Kinds.{kind_of}
 use Rattle.orc_stats.specs.Known.{known_as, told_body}
 use Rattle.orc_stats.specs.Statistics.{stat}

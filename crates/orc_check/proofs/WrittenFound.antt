@@ -1,11 +1,11 @@
 -- Nothing is found of the row index of a column as it is written.
 use Rattle.std.proofs.Common.{◌≡◌, ◌∙◌, ℕ, ◌<◌, true, false, Bool, if◌then◌else◌, Some, None, List, [], length, get_or, refl, sym, subst}
 use Rattle.std.proofs.lemmas.List.{append-nil}
-use Rattle.orc_types.specs.Cells.{Cell}
-use Rattle.orc_types.specs.Columns.{cells}
-use Rattle.orc_types.specs.Fits.{RowsFit}
-use Rattle.orc_types.proofs.Together.{cells_fit}
-use Rattle.orc_types.specs.Shapes.{Shape, width, shape_at}
+use Rattle.orc_values.specs.Cells.{Cell}
+use Rattle.orc_values.specs.Columns.{cells}
+use Rattle.orc_values.specs.Fits.{RowsFit}
+use Rattle.orc_values.proofs.Together.{cells_fit}
+use Rattle.orc_values.specs.Shapes.{Shape, width, shape_at}
 use Rattle.orc_column_reader.specs.Directory.{has_stream, slice}
 use Rattle.orc_column_reader.specs.Starting.{AreStreams}
 use Rattle.orc_column_reader.specs.Stripe.{Streams, IsColumn, columns_of, cell_limit}

@@ -7,9 +7,9 @@ use Rattle.orc_wire.specs.Spells.{Spells}
 use Rattle.orc_wire.specs.SpellsLaws.{one_spelled}
 use Rattle.orc_wire.specs.declared.stripe_footer.StripeFooter.{StripeFooter}
 use Rattle.orc_wire.specs.declared.stripe_info.StripeInfo.{StripeInfo}
-use Rattle.orc_types.specs.Cells.{Cell}
-use Rattle.orc_types.specs.Fits.{RowsFit}
-use Rattle.orc_types.specs.Shapes.{Shape}
+use Rattle.orc_values.specs.Cells.{Cell}
+use Rattle.orc_values.specs.Fits.{RowsFit}
+use Rattle.orc_values.specs.Shapes.{Shape}
 use Rattle.orc_column_reader.specs.Stripe.{HasFooter, IsStripe}
 use Rattle.orc_stripe_writer.specs.declared.options.Options.{Options}
 use Rattle.orc_stripe_writer.specs.Indexes.{index_bytes}

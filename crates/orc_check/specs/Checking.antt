@@ -1,9 +1,9 @@
 -- What is done of a file that is checked.
 use Rattle.std.specs.Prelude.{◌≡◌, ◌≢◌, ◌<◌, ◌≤◌, ◌⊎◌, ℕ, Some, List, [], ◌∷◌, length, slice_get}
 use Rattle.std.specs.List.{AllByRecursion}
-use Rattle.orc_types.specs.Shapes.{Shape, width}
-use Rattle.orc_types.specs.Columns.{cells}
-use Rattle.orc_types.specs.Fits.{RowsFit}
+use Rattle.orc_values.specs.Shapes.{Shape, width}
+use Rattle.orc_values.specs.Columns.{cells}
+use Rattle.orc_values.specs.Fits.{RowsFit}
 use Rattle.orc_file.specs.FileRows.{IsNoStripe, FirstRefused}
 use Rattle.orc_file.specs.Honest.{AreWhole}
 use Rattle.orc_file.specs.Stripes.{most_stripes, stripe_at}
@@ -11,7 +11,7 @@ use Rattle.orc_file.specs.Tails.{IsTail, OpenFault, IsOfTail}
 use Rattle.orc_file.specs.declared.fault.FileFault.{FileFault}
 use Rattle.orc_file.specs.declared.fault.FileFault.TheVariants.{Stripe}
 use Rattle.orc_wire.specs.declared.stripe_info.StripeInfo.{StripeInfo}
-use Rattle.orc_types.specs.Cells.{Cell}
+use Rattle.orc_values.specs.Cells.{Cell}
 use Rattle.orc_stats.specs.declared.stat.Stat.{Stat}
 use Rattle.orc_stats.specs.Known.{known_as, told_body}
 use Rattle.orc_column_reader.specs.Stripe.{IsStripe, cell_limit}

@@ -1,8 +1,8 @@
 -- Groups of cells that one column's own streams spell, whatever the columns below it are (own; ORC specification,
 -- "Row Group Index").
 use Rattle.std.specs.Prelude.{◌≡◌, ℕ, List, length}
-use Rattle.orc_types.specs.Cells.{Cell}
-use Rattle.orc_types.specs.Shapes.{Shape}
+use Rattle.orc_values.specs.Cells.{Cell}
+use Rattle.orc_values.specs.Shapes.{Shape}
 use Rattle.orc_column_reader.specs.Stripe.{Streams, IsColumn}
 use Rattle.orc_row_index.specs.Bounds.{AreBounds}
 use Rattle.orc_column_walk.specs.declared.found.GroupFound.{GroupFound}

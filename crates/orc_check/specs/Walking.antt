@@ -1,9 +1,9 @@
 -- A stripe's columns that are checked one after the other, each from its own streams, without rows (own; ORC
 -- specification, "Types": columns are numbered in pre-order).
 use Rattle.std.specs.Prelude.{◌≡◌, ℕ, ◌+◌, ◌<◌, Some, List, length, slice_get}
-use Rattle.orc_types.specs.Cells.{Cell, values}
-use Rattle.orc_types.specs.Columns.{cells}
-use Rattle.orc_types.specs.Shapes.{Shape, Fields, width, widths, shape_at}
+use Rattle.orc_values.specs.Cells.{Cell, values}
+use Rattle.orc_values.specs.Columns.{cells}
+use Rattle.orc_values.specs.Shapes.{Shape, Fields, width, widths, shape_at}
 use Rattle.orc_stats.specs.Kinds.{kind_of}
 use Rattle.orc_stats.specs.Statistics.{stat}
 use Rattle.orc_stats.specs.declared.stat.Stat.{Stat}

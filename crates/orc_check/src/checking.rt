@@ -1,6 +1,6 @@
 //! A file, checked stripe by stripe.
 ghost use Rattle.std.specs.Prelude.{◌≡◌, ◌<◌, ◌⊎◌, ℕ, List, length, OnOk, IfOk, IfErr, IfSome, IsErrOf, MatchResult};
-ghost use Rattle.orc_types.specs.Cells.{Cell};
+ghost use Rattle.orc_values.specs.Cells.{Cell};
 ghost use Rattle.orc_file.specs.FileRows.{FileIs, FirstRefused};
 ghost use Rattle.orc_file.specs.Images.{IsWithinLimits};
 ghost use Rattle.orc_file.specs.Stripes.{AllBefore};

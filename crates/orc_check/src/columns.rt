@@ -1,9 +1,9 @@
 //! The columns of a stripe, one after the other, each from its own streams. No row is made.
 ghost use Rattle.std.specs.Prelude.{◌≡◌, ◌≢◌, ◌<◌, ◌≤◌, ◌+◌, ◌++◌, ◌∷◌, [], Bool, List, slice_get, OnOk, IfOk, IfErr};
 ghost use Rattle.orc_stats.specs.Known.{known_as, told_body};
-ghost use Rattle.orc_types.specs.Cells.{Cell, values};
-ghost use Rattle.orc_types.specs.Shapes.{width, widths};
-ghost use Rattle.orc_types.specs.Views.{shape, fields as fields_view};
+ghost use Rattle.orc_values.specs.Cells.{Cell, values};
+ghost use Rattle.orc_values.specs.Shapes.{width, widths};
+ghost use Rattle.orc_values.specs.Views.{shape, fields as fields_view};
 ghost use Rattle.orc_column_reader.specs.Faults.{RowsFault};
 ghost use Rattle.orc_column_reader.specs.Stripe.{IsStripe, columns_of};
 ghost use Rattle.orc_column_reader.specs.declared.fault.StripeFault.TheVariants.{OutOfMemory};
@@ -31,7 +31,7 @@ use orc_column_walk::{ColumnFound, read_groups};
 use orc_stats::Stat;
 use orc_stripe::StripeView;
 use orc_stripe_writer::group_starts;
-use orc_types::{Field, Tree, width_of};
+use orc_values::{Field, Tree, width_of};
 use orc_wire::Items;
 use std::alloc::{AllocError, Global};
 

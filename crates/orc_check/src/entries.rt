@@ -1,13 +1,13 @@
 //! The entry of a group of rows in a column's row index.
 ghost use Rattle.std.specs.Prelude.{List, ◌≡◌, MatchBool};
-ghost use Rattle.orc_types.specs.Cells.{Cell};
-ghost use Rattle.orc_types.specs.Views.{shape};
+ghost use Rattle.orc_values.specs.Cells.{Cell};
+ghost use Rattle.orc_values.specs.Views.{shape};
 ghost use Rattle.orc_stats.specs.Kinds.{kind_of};
 ghost use Rattle.orc_stats.specs.Statistics.{stat};
 ghost use Rattle.orc_check.specs.Findings.{TellsGroup};
 
 use orc_stats::{Stat, StatKind, tells};
-use orc_types::Tree;
+use orc_values::Tree;
 use orc_wire::RowIndexEntry;
 
 /// Whether an entry tells the statistic of its group's cells.

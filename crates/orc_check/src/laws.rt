@@ -1,7 +1,7 @@
 //! Laws of findings. Each function does nothing: its contract is what it is for.
 ghost use Rattle.std.specs.Prelude.{◌≡◌, ◌↔◌, ℕ, List, [], Contains};
-ghost use Rattle.orc_types.specs.Cells.{Cell};
-ghost use Rattle.orc_types.specs.Shapes.{Shape};
+ghost use Rattle.orc_values.specs.Cells.{Cell};
+ghost use Rattle.orc_values.specs.Shapes.{Shape};
 ghost use Rattle.orc_stripe_writer.specs.declared.options.Options.{Options};
 ghost use Rattle.orc_file.specs.FileRows.{FileIs, cut_rows};
 ghost use Rattle.orc_file.specs.Honest.{Honest};

@@ -1,7 +1,7 @@
 //! Which columns' groups are needed. They are where the row index may have an entry for each group; where it can't, its
 //! number of entries is wrong, whatever the groups are. So the groups cost no more than the bytes of the indexes.
 ghost use Rattle.std.specs.Prelude.{◌<◌, ◌≤◌, MatchBool};
-ghost use Rattle.orc_types.specs.Shapes.{width};
+ghost use Rattle.orc_values.specs.Shapes.{width};
 ghost use Rattle.orc_check.specs.Needed.{MayBeWhole, NeedGroups};
 ghost use Rattle.orc_check.specs.Walking.{IsLaidOut};
 

@@ -1,9 +1,9 @@
 //! The row index of a column: an entry for each group of rows.
 ghost use Rattle.std.specs.Prelude.{◌≡◌, ◌<◌, ℕ, false, List, length, map, get_or, OnOk, IfOk};
-ghost use Rattle.orc_types.specs.Cells.{Cell};
-ghost use Rattle.orc_types.specs.Fits.{RowsFit};
-ghost use Rattle.orc_types.specs.Shapes.{width};
-ghost use Rattle.orc_types.specs.Views.{shape};
+ghost use Rattle.orc_values.specs.Cells.{Cell};
+ghost use Rattle.orc_values.specs.Fits.{RowsFit};
+ghost use Rattle.orc_values.specs.Shapes.{width};
+ghost use Rattle.orc_values.specs.Views.{shape};
 ghost use Rattle.orc_column_reader.specs.Stripe.{Streams, cell_limit, columns_of};
 ghost use Rattle.orc_column_walk.specs.declared.found.GroupFound.{GroupFound as Group};
 ghost use Rattle.orc_row_index_check.specs.Decided.{AreDecided};
@@ -23,7 +23,7 @@ use orc_column_walk::GroupFound;
 use orc_row_index::Counts;
 use orc_row_index_check::positions_right_behind;
 use orc_stripe::read_index;
-use orc_types::Tree;
+use orc_values::Tree;
 use orc_wire::RowIndexEntry;
 use std::alloc::{AllocError, Global};
 

@@ -1,8 +1,8 @@
 //! Whether a column's row index is the one that a writer writes.
 ghost use Rattle.std.specs.Prelude.{◌≡◌, ◌<◌, ℕ, Some, List, length, true, IfOk};
-ghost use Rattle.orc_types.specs.Cells.{Cell};
-ghost use Rattle.orc_types.specs.Fits.{RowsFit};
-ghost use Rattle.orc_types.specs.Views.{shape};
+ghost use Rattle.orc_values.specs.Cells.{Cell};
+ghost use Rattle.orc_values.specs.Fits.{RowsFit};
+ghost use Rattle.orc_values.specs.Views.{shape};
 ghost use Rattle.orc_column_reader.specs.Starting.{AreStreams};
 ghost use Rattle.orc_column_reader.specs.Stripe.{Streams, cell_limit};
 ghost use Rattle.orc_row_index.specs.RowIndex.{IsWrittenIndex};
@@ -12,7 +12,7 @@ ghost use Rattle.orc_check.specs.OwnGroups.{AreGroupsOf, HaveCells};
 use orc_column_reader::starting::ColumnStreams;
 use orc_column_walk::GroupFound;
 use orc_row_index::{Walk, placed_streams, put_entry};
-use orc_types::Tree;
+use orc_values::Tree;
 use std::alloc::{AllocError, Global};
 
 /// Whether the bytes are the row index of these groups as it is written. It puts each entry and compares, so that it

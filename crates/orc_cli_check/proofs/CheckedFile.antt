@@ -1,8 +1,8 @@
 -- Why a file isn't checked, and what is out then.
 use Rattle.std.proofs.Common.{◌≡◌, List, ℕ, ◌+◌, [], ◌∷◌, Option, Some, None, ◌⊎◌, inl, inr, ap, subst}
 use Rattle.std.specs.Option.{IfSome}
-use Rattle.orc_types.specs.Cells.{Cell}
-use Rattle.orc_types.specs.Shapes.{Shape}
+use Rattle.orc_values.specs.Cells.{Cell}
+use Rattle.orc_values.specs.Shapes.{Shape}
 use Rattle.orc_wire.specs.declared.stripe_info.StripeInfo.{StripeInfo}
 use Rattle.orc_file.specs.FileRows.{FileIs, FirstRefused}
 use Rattle.orc_file.specs.Tails.{ReadFault}

@@ -2,8 +2,8 @@
 use Rattle.std.proofs.Common.{◌≡◌, ◌∙◌, ℕ, zero, suc, ◌+◌, ◌*◌, ◌<◌, ◌≤◌, inl, inr, List, [], ◌∷◌, ◌++◌, length, take, drop, Option, refl, sym, ap, arith}
 use Rattle.std.proofs.lemmas.List.Concat.{flat_map-append, flat_map-cons}
 use Rattle.orc_wire.specs.declared.stripe_info.StripeInfo.{StripeInfo}
-use Rattle.orc_types.specs.Cells.{Cell}
-use Rattle.orc_types.specs.Shapes.{Shape}
+use Rattle.orc_values.specs.Cells.{Cell}
+use Rattle.orc_values.specs.Shapes.{Shape}
 use Rattle.orc_column_reader.specs.Stripe.{columns_of}
 use Rattle.orc_stripe.specs.GroupCursors.{HasGroup}
 use Rattle.orc_file.specs.Stripes.{stripe_at, stripes_rows}

@@ -3,7 +3,7 @@ use Rattle.std.proofs.Common.{◌≡◌, ℕ, ◌+◌, List, [], ◌∷◌, ◌�
 use Rattle.orc_wire.specs.declared.footer.Footer.{Footer}
 use Rattle.orc_wire.specs.declared.column_stats.Metadata.{Metadata}
 use Rattle.orc_wire.specs.declared.stripe_info.StripeInfo.{StripeInfo}
-use Rattle.orc_types.specs.Shapes.{Shape}
+use Rattle.orc_values.specs.Shapes.{Shape}
 use Rattle.orc_file.specs.Layout.{script_bytes, script_place, footer_bytes, metadata_bytes, metadata_place}
 use Rattle.orc_file.specs.Stripes.{stripe_tests, stripe_end}
 use Rattle.orc_file.specs.Tails.{script_tests, end_tests, footer_tests, metadata_tests, limit_tests, OpenFault}

@@ -1,9 +1,9 @@
 -- Lines that are made as a cursor gives its rows.
 use Rattle.std.proofs.Common.{◌≡◌, ℕ, ◌+◌, ◌<◌, ◌≤◌, List, [], ◌∷◌, ◌++◌, ◌⊎◌, inl, inr, Bool, true, false, refl, sym, ap, ◌∙◌, subst, arith, append_assoc, append-nil}
 use Rattle.std.proofs.lemmas.List.Concat.{flat_map-append}
-use Rattle.orc_types.specs.Cells.{Cell}
-use Rattle.orc_types.specs.Shapes.{Shape}
-use Rattle.orc_types.specs.Fits.{RowsFit}
+use Rattle.orc_values.specs.Cells.{Cell}
+use Rattle.orc_values.specs.Shapes.{Shape}
+use Rattle.orc_values.specs.Fits.{RowsFit}
 use Rattle.orc_json.specs.Texts.{Prints}
 use Rattle.orc_column_text.specs.Taken.{GaveText, GivesText}
 use Rattle.orc_stripe.specs.Cursors.{StandsFor}

@@ -4,8 +4,8 @@ use Rattle.std.specs.Prelude.{IfErr, OnOk, OnErr, MatchResult}
 use Rattle.std.specs.Io.KnownBytes.{Appends}
 use Rattle.std.proofs.lemmas.List.Concat.{flat_map-append}
 use Rattle.orc_wire.specs.declared.stripe_info.StripeInfo.{StripeInfo}
-use Rattle.orc_types.specs.Cells.{Cell}
-use Rattle.orc_types.specs.Shapes.{Shape}
+use Rattle.orc_values.specs.Cells.{Cell}
+use Rattle.orc_values.specs.Shapes.{Shape}
 use Rattle.orc_types.specs.FieldNames.{is_distinct}
 use Rattle.orc_json.specs.Texts.{Prints}
 use Rattle.orc_wire.specs.declared.stripe_footer.StripeFooter.{StripeFooter}

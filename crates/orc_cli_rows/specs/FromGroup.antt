@@ -2,9 +2,9 @@
 use Rattle.std.specs.Prelude.{◌≡◌, ◌≢◌, ℕ, ◌+◌, ◌*◌, ◌<◌, ◌≤◌, List, [], ◌∷◌, ◌++◌, length, drop, false, ◌⊎◌, Option}
 use Rattle.std.specs.Io.KnownBytes.{Appends, Keeps}
 use Rattle.orc_wire.specs.declared.stripe_footer.StripeFooter.{StripeFooter}
-use Rattle.orc_types.specs.Cells.{Cell}
+use Rattle.orc_values.specs.Cells.{Cell}
 use Rattle.orc_types.specs.FieldNames.{is_distinct}
-use Rattle.orc_types.specs.Fits.{RowsFit}
+use Rattle.orc_values.specs.Fits.{RowsFit}
 use Rattle.orc_types.specs.declared.json_fault.JsonFault.TheVariants as json
 use Rattle.orc_column_reader.specs.Stripe.{Streams, HasFooter}
 use Rattle.orc_column_reader.specs.declared.fault.Spot.TheVariants as spot

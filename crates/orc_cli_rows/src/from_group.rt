@@ -2,8 +2,8 @@
 ghost use Rattle.std.specs.Prelude.{◌≡◌, ◌≢◌, ◌<◌, ◌⊎◌, ℕ, List, length, IfOk, OnOk, IfErr, IfSome, Err};
 ghost use Rattle.std.specs.Bool.{MatchBool};
 ghost use Rattle.std.specs.Io.KnownBytes.{Appends};
-ghost use Rattle.orc_types.specs.Fits.{RowsFit};
-ghost use Rattle.orc_types.specs.Views.{views};
+ghost use Rattle.orc_values.specs.Fits.{RowsFit};
+ghost use Rattle.orc_values.specs.Views.{views};
 ghost use Rattle.orc_column_reader.specs.declared.fault.StripeFault.{StripeFault as Why};
 ghost use Rattle.orc_column_reader.specs.declared.fault.StripeFault.TheVariants as stripe;
 ghost use Rattle.orc_file.specs.Caps.{no_cap};
@@ -22,7 +22,8 @@ use orc_cli_output::{CliFault, write_out};
 use orc_file::{FileFault, OrcFile, Source, Tail, view_stripe};
 use orc_json::RowPrinter;
 use orc_stripe::{Spot, StripeFault};
-use orc_types::{Row, Schema, fits};
+use orc_types::{Schema, fits};
+use orc_values::Row;
 use std::alloc::Global;
 use std::io::Write;
 

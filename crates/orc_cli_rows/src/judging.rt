@@ -1,6 +1,6 @@
 //! Whether a stripe has rows, without any being held.
 ghost use Rattle.std.specs.Prelude.{◌≡◌, ◌≢◌, [], false, List, OnOk, IfErr};
-ghost use Rattle.orc_types.specs.Cells.{Cell};
+ghost use Rattle.orc_values.specs.Cells.{Cell};
 ghost use Rattle.orc_types.specs.FieldNames.{is_distinct};
 ghost use Rattle.orc_column_reader.specs.Stripe.{IsStripe};
 ghost use Rattle.orc_column_reader.specs.declared.fault.StripeFault.TheVariants.{OutOfMemory};

@@ -1,8 +1,8 @@
 //! The lines of rows that are there.
 ghost use Rattle.std.specs.Prelude.{◌≡◌, ◌≢◌, ◌++◌, ◌⊎◌, [], IfOk, OnOk, IfErr, true, false};
 ghost use Rattle.orc_types.specs.FieldNames.{is_distinct};
-ghost use Rattle.orc_types.specs.Fits.{RowsFit, fits};
-ghost use Rattle.orc_types.specs.Views.{view, views};
+ghost use Rattle.orc_values.specs.Fits.{RowsFit, fits};
+ghost use Rattle.orc_values.specs.Views.{view, views};
 ghost use Rattle.orc_types.specs.declared.json_fault.JsonFault.TheVariants as json;
 ghost use Rattle.orc_cli_output.specs.Output.{IsWantOfMemory};
 ghost use Rattle.orc_cli_output.specs.declared.fault.CliFault.TheVariants.{Json};
@@ -10,7 +10,7 @@ ghost use Rattle.orc_cli_rows.specs.Rows.{row_line, row_lines, HaveJson, IsOfRow
 
 use orc_cli_output::CliFault;
 use orc_json::RowPrinter;
-use orc_types::Row;
+use orc_values::Row;
 use std::alloc::Global;
 
 /// Puts the line of a row behind others. What is put there of a row that isn't one of the schema is left open.

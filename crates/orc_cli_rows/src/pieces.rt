@@ -1,7 +1,7 @@
 //! The lines of rows that a cursor has still to give, some at a time.
 ghost use Rattle.std.specs.Prelude.{◌≡◌, ◌<◌, true, false, List, IfOk, OnOk, IfErr, MatchResult};
 ghost use Rattle.std.specs.Io.KnownBytes.{Appends};
-ghost use Rattle.orc_types.specs.Cells.{Cell};
+ghost use Rattle.orc_values.specs.Cells.{Cell};
 ghost use Rattle.orc_column_reader.specs.declared.fault.StripeFault.TheVariants.{OutOfMemory};
 ghost use Rattle.orc_json.specs.Layouts.{text_by};
 ghost use Rattle.orc_stripe.specs.Cursors.{StandsFor};

@@ -5,8 +5,8 @@ use Rattle.std.specs.List.{flat_map}
 use Rattle.std.proofs.lemmas.Bool.{eqb-true, eqb-false}
 use Rattle.std.proofs.lemmas.List.{take_all, take-append-drop, get_or-drop}
 use Rattle.std.proofs.Math.ListN.{drop_of_length-le}
-use Rattle.orc_types.specs.Shapes.{Shape}
-use Rattle.orc_types.specs.Cells.{Cell}
+use Rattle.orc_values.specs.Shapes.{Shape}
+use Rattle.orc_values.specs.Cells.{Cell}
 use Rattle.orc_column_reader.proofs.RunsLemmas.{drop_twice}
 use Rattle.orc_cli_write.specs.Lines.{IsLine, AreLines, LinesSpell, LineSpellsRows, AreRowsOf}
 use Rattle.orc_cli_write.specs.Writes.{EndsAtLine, StopsAt, EndsInLines}

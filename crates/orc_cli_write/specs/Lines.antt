@@ -1,8 +1,8 @@
 -- The lines of a text, and the rows that they spell, a row a line as JSON.
 use Rattle.std.specs.Prelude.{◌≡◌, ◌≢◌, ℕ, List, [], ◌∷◌, ◌++◌}
 use Rattle.std.specs.List.{flat_map, AllByRecursion}
-use Rattle.orc_types.specs.Shapes.{Shape}
-use Rattle.orc_types.specs.Cells.{Cell}
+use Rattle.orc_values.specs.Shapes.{Shape}
+use Rattle.orc_values.specs.Cells.{Cell}
 use Rattle.orc_json_reader.specs.RowTexts.{TextSpells}
 
 -- no byte ends the line

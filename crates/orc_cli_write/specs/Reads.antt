@@ -3,8 +3,8 @@
 use Rattle.std.specs.Prelude.{◌≡◌, ◌≢◌, ℕ, ◌+◌, List, [], ◌∷◌, ◌++◌, ◌⊎◌, Option, Some, Result, Ok, Err, Bool, true, false}
 use Rattle.std.specs.Option.{IfSome}
 use Rattle.orc_stripe_writer.specs.declared.options.Options.{Options}
-use Rattle.orc_types.specs.Shapes.{Shape}
-use Rattle.orc_types.specs.Cells.{Cell}
+use Rattle.orc_values.specs.Shapes.{Shape}
+use Rattle.orc_values.specs.Cells.{Cell}
 use Rattle.orc_types.specs.SchemaText.{HasText}
 use Rattle.orc_types.specs.TextFaults.{TextFault}
 use Rattle.orc_types.specs.declared.fault.TypeFault.{TypeFault}

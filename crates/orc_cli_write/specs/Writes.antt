@@ -1,9 +1,9 @@
 -- Why no file is written of lines, and what stands of one then.
 use Rattle.std.specs.Prelude.{◌≡◌, ◌≢◌, ◌<◌, ◌≤◌, ◌⊎◌, ℕ, List, [], ◌∷◌, ◌++◌, length, Option}
 use Rattle.orc_stripe_writer.specs.declared.options.Options.{Options}
-use Rattle.orc_types.specs.Shapes.{Shape, width}
-use Rattle.orc_types.specs.Cells.{Cell}
-use Rattle.orc_types.specs.Columns.{cells}
+use Rattle.orc_values.specs.Shapes.{Shape, width}
+use Rattle.orc_values.specs.Cells.{Cell}
+use Rattle.orc_values.specs.Columns.{cells}
 use Rattle.orc_types.specs.SchemaText.{HasText}
 use Rattle.orc_types.specs.TextFaults.{TextFault}
 use Rattle.orc_types.specs.declared.fault.TypeFault.{TypeFault}

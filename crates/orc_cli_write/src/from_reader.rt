@@ -1,7 +1,7 @@
 //! A file of the rows of lines that are read one after another: one line is held at a time.
 ghost use Rattle.std.specs.Prelude.{◌≡◌, ◌<◌, ◌+◌, ◌⊎◌, List, IfOk, IfErr, IfSome, OnOk, false};
-ghost use Rattle.orc_types.specs.Cells.{Cell};
-ghost use Rattle.orc_types.specs.Shapes.{Shape};
+ghost use Rattle.orc_values.specs.Cells.{Cell};
+ghost use Rattle.orc_values.specs.Shapes.{Shape};
 ghost use Rattle.orc_types.specs.SchemaText.{HasText};
 ghost use Rattle.orc_file.specs.Progress.{progress};
 ghost use Rattle.orc_file.specs.Writing.{IsWhole};

@@ -3,13 +3,13 @@ use Rattle.std.proofs.Common.{◌≡◌, ℕ, ◌+◌, ◌-◌, ◌<◌, ◌≤�
 use Rattle.std.proofs.lemmas.List.{length-map, map-append, length-take-le}
 use borrow.Rule.Slice.PartMut.{put_mid}
 use Rattle.std.proofs.Math.Seq.{take-append_seam, drop-append_seam, take-length}
-use Rattle.orc_types.specs.Cells.{Cell, null, list, struct, pairs, cells_of, pairs_of, is_value}
-use Rattle.orc_types.specs.Shapes.{Shape, scalar, list_of, map_of, struct_of, Fields, no_field, field, width, widths}
-use Rattle.orc_types.specs.Views.{cell_of_value, cell_step, view, views, paired, shape, fields}
-use Rattle.orc_types.specs.declared.tree.Field.{Field}
-use Rattle.orc_types.proofs.Listed.{fields_from}
-use Rattle.orc_types.specs.declared.value.Value.{Value, the_lemmas}
-use Rattle.orc_types.specs.declared.value.Value.TheOpen.{Value-F}
+use Rattle.orc_values.specs.Cells.{Cell, null, list, struct, pairs, cells_of, pairs_of, is_value}
+use Rattle.orc_values.specs.Shapes.{Shape, scalar, list_of, map_of, struct_of, Fields, no_field, field, width, widths}
+use Rattle.orc_values.specs.Views.{cell_of_value, cell_step, view, views, paired, shape, fields}
+use Rattle.orc_values.specs.declared.tree.Field.{Field}
+use Rattle.orc_values.proofs.Listed.{fields_from}
+use Rattle.orc_values.specs.declared.value.Value.{Value, the_lemmas}
+use Rattle.orc_values.specs.declared.value.Value.TheOpen.{Value-F}
 use Rattle.orc_column_reader.specs.declared.column.ValueSource.{ValueSource}
 use Rattle.orc_column_reader.specs.declared.column.ColumnReader.{ColumnReader}
 use Rattle.orc_column_reader.specs.Fronts.{Leaves, Lacks}

@@ -2,14 +2,14 @@
 use Rattle.std.proofs.Common.{◌≡◌, ℕ, zero, suc, ◌+◌, ◌-◌, ◌<◌, ◌≤◌, ◌^◌, ℤ, pos, negsuc, Bool, true, false, ltb, List, [], ◌∷◌, ◌++◌, map, length, take, drop, refl, sym, ap, ◌∙◌, subst, arith, inl, inr}
 use Rattle.std.proofs.lemmas.Bool.{lt-ltb, le-ltb, and_parts, cases_lt}
 use Rattle.std.specs.List.{AllByRecursion, flat_map}
-use Rattle.orc_types.specs.Cells.{Cell, null, leaf, list, struct, pairs, Cells, end, more, cells_of, list_of_cells, pairs_of, parts, pairs_in, keys_in, values_in, values}
-use Rattle.orc_types.specs.Shapes.{Shape, scalar, list_of, map_of, struct_of, Fields, no_field, field, width, widths, shape_at, shape_within}
-use Rattle.orc_types.specs.Fits.{fits, int_fits, all_fit, pairs_fit, each_fits, RowsFit}
-use Rattle.orc_types.specs.Columns.{cells, cells_within}
-use Rattle.orc_types.specs.declared.kind.Scalar.{Scalar}
-use Rattle.orc_types.specs.declared.kind.Scalar.TheVariants as kind
-use Rattle.orc_types.proofs.Views.{list_of_cells-cells_of, cells_of-list_of_cells, list_of_pairs-pairs_of, pairs_of-list_of_pairs}
-use Rattle.orc_types.proofs.Together.{keys_fit, values_fit as seconds_fit}
+use Rattle.orc_values.specs.Cells.{Cell, null, leaf, list, struct, pairs, Cells, end, more, cells_of, list_of_cells, pairs_of, parts, pairs_in, keys_in, values_in, values}
+use Rattle.orc_values.specs.Shapes.{Shape, scalar, list_of, map_of, struct_of, Fields, no_field, field, width, widths, shape_at, shape_within}
+use Rattle.orc_values.specs.Fits.{fits, int_fits, all_fit, pairs_fit, each_fits, RowsFit}
+use Rattle.orc_values.specs.Columns.{cells, cells_within}
+use Rattle.orc_values.specs.declared.kind.Scalar.{Scalar}
+use Rattle.orc_values.specs.declared.kind.Scalar.TheVariants as kind
+use Rattle.orc_values.proofs.Views.{list_of_cells-cells_of, cells_of-list_of_cells, list_of_pairs-pairs_of, pairs_of-list_of_pairs}
+use Rattle.orc_values.proofs.Together.{keys_fit, values_fit as seconds_fit}
 use Rattle.std.proofs.lemmas.List.{length-map, map-append}
 use Rattle.orc_column_reader.specs.Spellings.{AllStand, size, joined, zip_cons}
 use Rattle.orc_column_reader.specs.Columns.{IsBool, IsByte, signed_byte, IsInt, IsDate, IsText, IsBinary, IsWord, IsList, IsMap, IsRecord}

@@ -2,10 +2,10 @@
 use Rattle.std.proofs.Common.{◌≡◌, ℕ, suc, ◌+◌, ℤ, Bool, true, false, List, [], ◌∷◌, map, length, refl, sym, ap, ◌∙◌, subst, arith, append-nil}
 use Rattle.std.specs.List.{AllByRecursion}
 use Rattle.std.proofs.lemmas.List.{length-map}
-use Rattle.orc_types.specs.Cells.{Cell, is_value, values}
-use Rattle.orc_types.specs.Shapes.{Shape, scalar, list_of, map_of, struct_of, Fields, no_field, field, width}
-use Rattle.orc_types.specs.declared.kind.Scalar.{Scalar}
-use Rattle.orc_types.specs.declared.kind.Scalar.TheVariants as kind
+use Rattle.orc_values.specs.Cells.{Cell, is_value, values}
+use Rattle.orc_values.specs.Shapes.{Shape, scalar, list_of, map_of, struct_of, Fields, no_field, field, width}
+use Rattle.orc_values.specs.declared.kind.Scalar.{Scalar}
+use Rattle.orc_values.specs.declared.kind.Scalar.TheVariants as kind
 use Rattle.orc_rle.specs.declared.sign.Sign.{Sign}
 use Rattle.orc_rle.specs.declared.sign.Sign.TheVariants.{Signed, Unsigned}
 use Rattle.orc_rle.proofs.StreamLemmas.{one_stream}

@@ -1,9 +1,9 @@
 -- What stands for something of a stream is a value of the column's kind.
 use Rattle.std.proofs.Common.{ℕ, ℤ, Bool, List, refl}
-use Rattle.orc_types.specs.Cells.{Cell, bool, int, date, text, bytes}
-use Rattle.orc_types.specs.Own.{IsValueOf}
-use Rattle.orc_types.specs.declared.kind.Scalar.{Scalar}
-use Rattle.orc_types.specs.declared.kind.Scalar.TheVariants as kind
+use Rattle.orc_values.specs.Cells.{Cell, bool, int, date, text, bytes}
+use Rattle.orc_values.specs.Own.{IsValueOf}
+use Rattle.orc_values.specs.declared.kind.Scalar.{Scalar}
+use Rattle.orc_values.specs.declared.kind.Scalar.TheVariants as kind
 use Rattle.orc_column_reader.specs.Columns.{IsBool, IsByte, signed_byte, IsInt, IsDate, IsText, IsBinary}
 use Rattle.orc_column_reader.proofs.ByNumber.{byte_fits}
 

@@ -1,7 +1,7 @@
 -- What the reader has still to give, by kinds.
 use Rattle.std.proofs.Common.{◌≡◌, ℕ, ◌≤◌, ℤ, pos, negsuc, Bool, true, false, List, [], ◌∷◌, map, length, refl, sym, ap, ◌∙◌, subst, arith, append-nil, length-append}
 use Rattle.std.specs.List.{AllByRecursion}
-use Rattle.orc_types.specs.Cells.{Cell, null, leaf, text, is_value, values}
+use Rattle.orc_values.specs.Cells.{Cell, null, leaf, text, is_value, values}
 use Rattle.orc_column_reader.specs.Fronts.{Leaves, Lacks}
 use Rattle.orc_column_reader.specs.Spellings.{Nullable, AllStand, Standing, size, joined, Grouped}
 use Rattle.orc_column_reader.specs.Columns.{IsBool, IsByte, IsInt, IsDate, IsText, IsBinary, IsWord, IsList, IsMap, IsRecord}

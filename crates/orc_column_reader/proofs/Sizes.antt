@@ -1,14 +1,14 @@
 -- Numbers of 64 bits as sizes, and as values.
 use Rattle.std.proofs.Common.{Bool, true, false, Some, List, [], ◌∷◌, map, length, get_or, slice_get, suc, zero, ◌≡◌, ℕ, ◌^◌, ◌<◌, ℤ, pos, negsuc, nat_abs, FitsSigned, w32, w64, lt-ltb, ltb-true, refl, sym, ap, ◌∙◌, arith, rules}
 use Rattle.std.specs.Int.{FitsUnsignedBits}
-use Rattle.orc_types.specs.Cells.{Cell, leaf, bool, int, date, text}
+use Rattle.orc_values.specs.Cells.{Cell, leaf, bool, int, date, text}
 use Rattle.std.specs.Str.{is_utf8}
-use Rattle.orc_types.specs.Fits.{signed_fits}
+use Rattle.orc_values.specs.Fits.{signed_fits}
 use Rattle.orc_column_reader.specs.declared.entry.Entry.{Entry}
 use Rattle.orc_column_reader.specs.Columns.{IsText, IsWord, entry_bytes}
 use Rattle.orc_column_reader.specs.ValueFaults.{is_text, names_text}
-use Rattle.orc_types.specs.Views.{cell_of_value}
-use Rattle.orc_types.specs.declared.value.Value.{Bool as boolean, Int, Date, Text, the_lemmas}
+use Rattle.orc_values.specs.Views.{cell_of_value}
+use Rattle.orc_values.specs.declared.value.Value.{Bool as boolean, Int, Date, Text, the_lemmas}
 use Rattle.std.specs.Borrow.{Bor}
 use Rattle.std.specs.declared.borrow.CowStr.{CowStr}
 

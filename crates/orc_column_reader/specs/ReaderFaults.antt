@@ -1,10 +1,10 @@
 -- Which fault a reader meets that is to give n values more, or cells: all that are needed, or at least so many. Reading
 -- one leaves each fault that it meets afterwards as one that it met before.
 use Rattle.std.specs.Prelude.{◌≡◌, ℕ, ◌<◌, ℤ, pos, Bool, Option, Some, None, List, [], ◌∷◌, length, map, take, drop, sum, ◌⊎◌}
-use Rattle.orc_types.specs.Fits.{int_fits, signed_fits}
-use Rattle.orc_types.specs.Shapes.{Shape, scalar, list_of, map_of, struct_of, Fields, no_field, field, width}
-use Rattle.orc_types.specs.declared.kind.Scalar.{Scalar}
-use Rattle.orc_types.specs.declared.kind.Scalar.TheVariants as kind
+use Rattle.orc_values.specs.Fits.{int_fits, signed_fits}
+use Rattle.orc_values.specs.Shapes.{Shape, scalar, list_of, map_of, struct_of, Fields, no_field, field, width}
+use Rattle.orc_values.specs.declared.kind.Scalar.{Scalar}
+use Rattle.orc_values.specs.declared.kind.Scalar.TheVariants as kind
 use Rattle.std.specs.declared.vec.Vec.{Vec}
 use Rattle.std.specs.declared.alloc.Global.{Global}
 use Rattle.orc_column_reader.specs.declared.entry.Entry.{Entry}

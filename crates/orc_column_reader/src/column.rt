@@ -1,9 +1,9 @@
 //! What is left of a column's streams: its next mark, value or size of a list or map, and whether values are left over.
 
 ghost use Rattle.std.specs.Prelude.{◌≡◌, ◌≢◌, ◌≤◌, ◌-◌, ◌∷◌, [], ℕ, suc, Bool, true, false, List, pos, IfOk, IfErr, OnOk, OnErr, MatchBool};
-ghost use Rattle.orc_types.specs.Shapes.{Shape};
-ghost use Rattle.orc_types.specs.Own.{own_cell, IsValueOf};
-ghost use Rattle.orc_types.specs.declared.kind.Scalar.TheVariants as kinds;
+ghost use Rattle.orc_values.specs.Shapes.{Shape};
+ghost use Rattle.orc_values.specs.Own.{own_cell, IsValueOf};
+ghost use Rattle.orc_values.specs.declared.kind.Scalar.TheVariants as kinds;
 ghost use Rattle.orc_column_reader.specs.Fronts.{Leaves, Precedes, Lacks};
 ghost use Rattle.orc_column_reader.specs.Numbers.{NumbersLeft, NumbersFirst};
 ghost use Rattle.orc_column_reader.specs.Bits.{BitsLeft};
@@ -29,7 +29,7 @@ use crate::marks::next_mark;
 use crate::numbers::{Numbers, numbers_end, numbers_left};
 use crate::octets::Octets;
 use crate::whole_numbers::{next_byte, next_date, next_int, next_long, next_number};
-use orc_types::{Own, Scalar};
+use orc_values::{Own, Scalar};
 
 /// The most cells that a column of a stripe may have.
 pub const MOST_CELLS: u64 = 0x7fff_ffff;

@@ -1,9 +1,9 @@
 //! Texts by a dictionary: its entries, and their indexes in DATA.
 
 ghost use Rattle.std.specs.Prelude.{◌≡◌, ◌≢◌, ◌∷◌, ◌⊎◌, [], ℕ, suc, Bool, true, false, List, length, map, IfOk, IfErr, OnOk, OnErr};
-ghost use Rattle.orc_types.specs.Cells.{Cell};
-ghost use Rattle.orc_types.specs.Own.{own_cell, IsValueOf};
-ghost use Rattle.orc_types.specs.declared.kind.Scalar.TheVariants as kinds;
+ghost use Rattle.orc_values.specs.Cells.{Cell};
+ghost use Rattle.orc_values.specs.Own.{own_cell, IsValueOf};
+ghost use Rattle.orc_values.specs.declared.kind.Scalar.TheVariants as kinds;
 ghost use Rattle.orc_column_reader.specs.Fronts.{Leaves, Lacks};
 ghost use Rattle.orc_column_reader.specs.Numbers.{AreNumbers, NumbersLeft};
 ghost use Rattle.orc_column_reader.specs.Spellings.{Standing, Grouped};
@@ -24,7 +24,7 @@ use crate::numbers::{Numbers, numbers_of};
 use crate::octets::Octets;
 use crate::whole_numbers::next_number;
 use orc_rle::{Rle, Sign};
-use orc_types::Own;
+use orc_values::Own;
 use std::alloc::Global;
 
 /// The entries of a dictionary.

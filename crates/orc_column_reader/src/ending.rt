@@ -1,8 +1,8 @@
 //! Tests that the readers of a schema's columns have nothing left.
 
 ghost use Rattle.std.specs.Prelude.{◌≡◌, ◌+◌, [], true, length, IfErr, OnOk, OnErr};
-ghost use Rattle.orc_types.specs.Shapes.{width, widths};
-ghost use Rattle.orc_types.specs.Views.{shape, fields as fields_view};
+ghost use Rattle.orc_values.specs.Shapes.{width, widths};
+ghost use Rattle.orc_values.specs.Views.{shape, fields as fields_view};
 ghost use Rattle.orc_column_reader.specs.Columns.{CellsLeft, OwnLeft, PairsLeft, FieldsLeft};
 ghost use Rattle.orc_column_reader.specs.ReaderFaults.{CellsMeet, OwnMeet, PairsMeet, FieldsMeet};
 
@@ -10,7 +10,7 @@ use crate::column::{ColumnReader, scalar_end, scalar_left};
 use crate::fault::{StreamKind, StripeFault, run_fault};
 use crate::marks::{marks_end, marks_left};
 use crate::numbers::{numbers_end, numbers_left};
-use orc_types::{Field, Tree, width_of};
+use orc_values::{Field, Tree, width_of};
 
 /// Tests that no cell of a column is left, nor of the columns below it.
 #[cycle(ending)]

@@ -1,8 +1,8 @@
 //! Texts and bytes one after the other, their sizes in LENGTH.
 
 ghost use Rattle.std.specs.Prelude.{◌≡◌, ◌≢◌, ◌++◌, ◌∷◌, [], ℕ, suc, Bool, true, false, length, pos, IfOk, IfErr, OnOk, OnErr, MatchBool};
-ghost use Rattle.orc_types.specs.Own.{own_cell, IsValueOf};
-ghost use Rattle.orc_types.specs.declared.kind.Scalar.TheVariants as kinds;
+ghost use Rattle.orc_values.specs.Own.{own_cell, IsValueOf};
+ghost use Rattle.orc_values.specs.declared.kind.Scalar.TheVariants as kinds;
 ghost use Rattle.orc_column_reader.specs.Fronts.{Leaves, Precedes, Lacks};
 ghost use Rattle.orc_column_reader.specs.Numbers.{NumbersLeft, NumbersFirst};
 ghost use Rattle.orc_column_reader.specs.Octets.{OctetsLeft};
@@ -17,7 +17,7 @@ use crate::fault::{StreamKind, StripeFault, run_fault};
 use crate::numbers::{Numbers, numbers_end, numbers_left};
 use crate::octets::{Octets, octets_end};
 use crate::whole_numbers::next_number;
-use orc_types::Own;
+use orc_values::Own;
 
 /// The next group of bytes, its size from LENGTH.
 #[inline(always)]

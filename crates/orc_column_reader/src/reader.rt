@@ -1,9 +1,9 @@
 //! A column's cells, one after the other: marks, values, and what lists, maps and structs have below them.
 ghost use Rattle.std.specs.Prelude.{map, ◌≡◌, ◌≢◌, ◌+◌, ◌++◌, ℕ, suc, Bool, false, [], ◌∷◌, List, IfOk, IfErr, OnOk, length};
-ghost use Rattle.orc_types.specs.Cells.{Atom, Cell, leaf};
-ghost use Rattle.orc_types.specs.Own.{own_cell};
-ghost use Rattle.orc_types.specs.Shapes.{width, widths};
-ghost use Rattle.orc_types.specs.Views.{view, views, paired, cell_of_value, shape, fields as fields_view};
+ghost use Rattle.orc_values.specs.Cells.{Atom, Cell, leaf};
+ghost use Rattle.orc_values.specs.Own.{own_cell};
+ghost use Rattle.orc_values.specs.Shapes.{width, widths};
+ghost use Rattle.orc_values.specs.Views.{view, views, paired, cell_of_value, shape, fields as fields_view};
 ghost use Rattle.orc_column_reader.specs.Fronts.{Leaves, Lacks};
 ghost use Rattle.orc_column_reader.specs.Columns.{CellsLeft, OwnLeft, ListsOf, MapsOf, PairsLeft, FieldsLeft, column_of, marks_of};
 ghost use Rattle.orc_column_reader.specs.ReaderFaults.{CellsMeet, OwnMeet, ListsOfMeet, MapsOfMeet, PairsMeet, FieldsMeet};
@@ -12,7 +12,7 @@ ghost use Rattle.orc_column_reader.specs.declared.fault.StripeFault.TheVariants.
 
 use crate::column::{ColumnReader, next_present, next_size};
 use crate::fault::StripeFault;
-use orc_types::{Field, MapPair, Own, Row, Tree, Value, width_of};
+use orc_values::{Field, MapPair, Own, Row, Tree, Value, width_of};
 use std::alloc::Global;
 use std::borrow::{CowSlice, CowStr};
 

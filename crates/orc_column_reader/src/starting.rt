@@ -1,9 +1,9 @@
 //! Readers of columns at the start of their streams, by a column's kind and encoding, and down the schema's tree.
 
 ghost use Rattle.std.specs.Prelude.{◌≡◌, ◌≢◌, ◌<◌, ◌≤◌, ◌+◌, ℕ, true, false, None, List, length, IfOk, IfErr, OnOk};
-ghost use Rattle.orc_types.specs.Cells.{Cell};
-ghost use Rattle.orc_types.specs.Shapes.{width, widths};
-ghost use Rattle.orc_types.specs.Views.{shape, fields as fields_view};
+ghost use Rattle.orc_values.specs.Cells.{Cell};
+ghost use Rattle.orc_values.specs.Shapes.{width, widths};
+ghost use Rattle.orc_values.specs.Views.{shape, fields as fields_view};
 ghost use Rattle.orc_column_reader.specs.Faults.{GroupsFail, EntriesFail, ScalarEntriesFail, WordsOfFail, FaultDown, FaultWithin, lengths_of};
 ghost use Rattle.orc_column_reader.specs.Located.{AreLocated};
 ghost use Rattle.orc_column_reader.specs.Starting.{DataStart, GroupsStart, TextsStart, ScalarStart, SourceStart, OwnStart, LacksEntries, ScalarLacks, HasNoDictionary, AreStreams, Puts, PutsFields};
@@ -23,7 +23,7 @@ use crate::numbers::numbers_of;
 use crate::octets::Octets;
 use crate::version::version_of;
 use orc_rle::{Rle, Sign};
-use orc_types::{Field, Scalar, Tree};
+use orc_values::{Field, Scalar, Tree};
 use orc_wire::{Encoding, StripeFooter};
 use std::alloc::Global;
 

@@ -1,8 +1,8 @@
 //! Whole numbers and dates: integers in DATA, or bytes in DATA where the numbers have 8 bits.
 
 ghost use Rattle.std.specs.Prelude.{◌≡◌, ◌≢◌, ◌∷◌, [], ℕ, suc, Bool, false, IfOk, IfErr, OnOk, OnErr};
-ghost use Rattle.orc_types.specs.Own.{own_cell, IsValueOf};
-ghost use Rattle.orc_types.specs.Fits.{int_fits as fits, signed_fits};
+ghost use Rattle.orc_values.specs.Own.{own_cell, IsValueOf};
+ghost use Rattle.orc_values.specs.Fits.{int_fits as fits, signed_fits};
 ghost use Rattle.orc_column_reader.specs.Fronts.{Leaves, Precedes, Lacks};
 ghost use Rattle.orc_column_reader.specs.Numbers.{NumbersLeft, NumbersFirst};
 ghost use Rattle.orc_column_reader.specs.Bytes.{BytesLeft};
@@ -14,14 +14,14 @@ ghost use Rattle.orc_column_reader.specs.RunFaults.{Always};
 ghost use Rattle.orc_column_reader.specs.ReaderFaults.{IntsMeet};
 ghost use Rattle.orc_column_reader.specs.declared.fault.StripeFault.TheVariants as fault;
 ghost use Rattle.orc_column_reader.specs.declared.fault.StreamKind.TheVariants as stream;
-ghost use Rattle.orc_types.specs.declared.kind.Scalar.TheVariants as kinds;
+ghost use Rattle.orc_values.specs.declared.kind.Scalar.TheVariants as kinds;
 ghost use Rattle.orc_rle.specs.declared.fault.RunFault.{RunFault as RunsFault};
 ghost use Rattle.orc_column_reader.specs.declared.fault.StripeFault.{StripeFault as Fault};
 
 use crate::bytes::RunLengthBytes;
 use crate::fault::{StreamKind, StripeFault, run_fault};
 use crate::numbers::Numbers;
-use orc_types::{Own, Scalar, int_fits};
+use orc_values::{Own, Scalar, int_fits};
 
 /// The next number of the stream.
 #[inline(always)]

@@ -6,8 +6,8 @@ use Rattle.std.proofs.lemmas.List.{drop-drop, drop-take, drop-append-le, length-
 use Rattle.std.proofs.lemmas.Slice.{take-put_mid_below}
 use Rattle.std.proofs.Math.Seq.{take-append_seam, drop-append_seam}
 use borrow.Rule.Slice.PartMut.{put_mid}
-use Rattle.orc_types.specs.Cells.{Cell, null}
-use Rattle.orc_types.specs.Shapes.{Shape, Fields, no_field, field, width, widths}
+use Rattle.orc_values.specs.Cells.{Cell, null}
+use Rattle.orc_values.specs.Shapes.{Shape, Fields, no_field, field, width, widths}
 use Rattle.orc_column_reader.specs.Columns.{CellsLeft, FieldsLeft}
 use Rattle.orc_column_reader.specs.Fronts.{Leaves, Lacks}
 use Rattle.orc_column_reader.specs.ReaderFaults.{CellsMeet, FieldsMeet}

@@ -3,10 +3,10 @@ use Rattle.std.proofs.Common.{◌≡◌, ℕ, zero, suc, ◌+◌, ◌-◌, ◌<�
 use Rattle.std.specs.Prelude.{slice_get}
 use Rattle.std.proofs.lemmas.List.{length-take-le, length-drop}
 use borrow.Rule.Slice.PartMut.{put_mid}
-use Rattle.orc_types.specs.Shapes.{Fields, width, widths}
-use Rattle.orc_types.specs.Views.{shape, fields}
-use Rattle.orc_types.specs.declared.tree.Field.{Field}
-use Rattle.orc_types.proofs.Views.{name_and_type-is}
+use Rattle.orc_values.specs.Shapes.{Fields, width, widths}
+use Rattle.orc_values.specs.Views.{shape, fields}
+use Rattle.orc_values.specs.declared.tree.Field.{Field}
+use Rattle.orc_values.proofs.Views.{name_and_type-is}
 use Rattle.orc_column_reader.specs.Columns.{CellsLeft, FieldsLeft}
 use Rattle.orc_column_reader.specs.Fronts.{Lacks}
 use Rattle.orc_column_reader.specs.ReaderFaults.{CellsMeet, FieldsMeet}

@@ -2,9 +2,9 @@
 use Rattle.std.proofs.Common.{◌≡◌, ℕ, ◌+◌, ◌≤◌, ◌-◌, List, [], ◌∷◌, ◌++◌, Bool, true, false, length, take, drop, get_or, slice_set, Vec, Box, Global, refl, sym, ap, ◌∙◌, arith, append_assoc, append-nil, length-append}
 use borrow.Rule.Slice.PartMut.{put_mid}
 use Rattle.serde_json.specs.Written.{comma_if}
-use Rattle.orc_types.specs.Cells.{Cell, list, struct, pairs, cells_of, pairs_of}
-use Rattle.orc_types.specs.Shapes.{Shape, scalar, list_of, map_of, struct_of, Fields, width}
-use Rattle.orc_types.specs.declared.kind.Scalar.{Scalar}
+use Rattle.orc_values.specs.Cells.{Cell, list, struct, pairs, cells_of, pairs_of}
+use Rattle.orc_values.specs.Shapes.{Shape, scalar, list_of, map_of, struct_of, Fields, width}
+use Rattle.orc_values.specs.declared.kind.Scalar.{Scalar}
 use Rattle.orc_column_reader.specs.Fronts.{Leaves}
 use Rattle.orc_column_reader.specs.Columns.{CellsLeft, OwnLeft, ScalarLeft, ListsOf, MapsOf, PairsLeft, FieldsLeft, MarksLeft, marks_of}
 use Rattle.orc_column_reader.specs.declared.column.ColumnReader.{ColumnReader}

@@ -2,8 +2,8 @@
 use Rattle.std.proofs.Common.{rules, ◌≡◌, ℕ, ◌+◌, ◌≤◌, ◌-◌, List, [], ◌∷◌, ◌++◌, Bool, true, false, length, take, drop, get_or, Vec, Box, Global, refl, sym, ap, ◌∙◌, arith, append_assoc, append-nil}
 use Rattle.std.proofs.Math.Seq.{take-length}
 use Rattle.serde_json.specs.Written.{comma_if}
-use Rattle.orc_types.specs.Cells.{Cell, null, list, struct, pairs, cells_of, pairs_of}
-use Rattle.orc_types.proofs.Views.{list_of_cells-cells_of, list_of_pairs-pairs_of}
+use Rattle.orc_values.specs.Cells.{Cell, null, list, struct, pairs, cells_of, pairs_of}
+use Rattle.orc_values.proofs.Views.{list_of_cells-cells_of, list_of_pairs-pairs_of}
 use Rattle.orc_json.specs.Layouts.{Part, PairTexts, text_by, part, member_parts, layout_step, null_text, elements_text, parts_text, pair_text, pair_texts, pairs_text}
 use Rattle.orc_json.specs.declared.layout.Layout.{Layout, List as ListOf, Map as MapLayout, Struct}
 use Rattle.orc_json.specs.declared.layout.Layout.TheFolds.{the_lemmas}

@@ -3,7 +3,7 @@ use Rattle.std.proofs.Common.{◌≡◌, ℕ, zero, suc, ◌+◌, ◌-◌, ◌<�
 use Rattle.std.specs.Prelude.{slice_get}
 use Rattle.std.specs.Bool.{OnTrue}
 use Rattle.std.proofs.Math.Seq.{take-length}
-use Rattle.orc_types.specs.Shapes.{Shape, Fields, no_field, field, width}
+use Rattle.orc_values.specs.Shapes.{Shape, Fields, no_field, field, width}
 use Rattle.orc_json.specs.Layouts.{member_parts}
 use Rattle.orc_json.specs.declared.layout.FieldColumns.{FieldColumns}
 use Rattle.orc_json.specs.declared.layout.Member.{Member}

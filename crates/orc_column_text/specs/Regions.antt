@@ -1,9 +1,9 @@
 -- The columns of a struct's fields, one field behind the other (ORC specification, "Types"): where those of each begin
 -- among the columns behind the struct's own, and how many they are.
 use Rattle.std.specs.Prelude.{◌≡◌, ℕ, zero, suc, ◌+◌, Bool, Some, List, [], ◌∷◌, ◌++◌, length, take, drop, map, slice_get}
-use Rattle.orc_types.specs.Cells.{Cell}
-use Rattle.orc_types.specs.Shapes.{Shape, scalar, Fields, no_field, field, width}
-use Rattle.orc_types.specs.declared.kind.Scalar.TheVariants as kind
+use Rattle.orc_values.specs.Cells.{Cell}
+use Rattle.orc_values.specs.Shapes.{Shape, scalar, Fields, no_field, field, width}
+use Rattle.orc_values.specs.declared.kind.Scalar.TheVariants as kind
 use Rattle.orc_column_reader.specs.Columns.{CellsLeft}
 use Rattle.orc_column_reader.specs.Fronts.{Leaves}
 use Rattle.orc_column_reader.specs.ReaderFaults.{CellsMeet}

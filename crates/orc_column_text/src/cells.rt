@@ -1,8 +1,8 @@
 //! The text of a column's cells, one after the other, as the readers of its streams have them.
 ghost use Rattle.std.specs.Prelude.{◌≡◌, ◌≢◌, ◌+◌, ◌<◌, ◌≤◌, ◌^◌, ◌++◌, ◌∷◌, [], ℕ, suc, Bool, false, IfOk, IfErr, OnOk, length};
-ghost use Rattle.orc_types.specs.Cells.{Cell};
-ghost use Rattle.orc_types.specs.Shapes.{width, widths};
-ghost use Rattle.orc_types.specs.Views.{shape, fields as fields_view};
+ghost use Rattle.orc_values.specs.Cells.{Cell};
+ghost use Rattle.orc_values.specs.Shapes.{width, widths};
+ghost use Rattle.orc_values.specs.Views.{shape, fields as fields_view};
 ghost use Rattle.orc_column_reader.specs.Fronts.{Leaves, Lacks};
 ghost use Rattle.orc_column_reader.specs.Columns.{CellsLeft, OwnLeft, ScalarLeft, ListsOf, MapsOf, PairsLeft, FieldsLeft, column_of, marks_of};
 ghost use Rattle.orc_column_reader.specs.ReaderFaults.{CellsMeet, OwnMeet, ScalarMeets, ListsOfMeet, MapsOfMeet, PairsMeet, FieldsMeet};
@@ -20,7 +20,7 @@ use orc_column_reader::reader::next_value;
 use orc_json::layout::{FieldColumns, Layout, Member, PairLayout};
 use orc_json::leaf_text::push_own;
 use orc_json::printing::{push_comma_if, push_text};
-use orc_types::{Field, Scalar, Tree};
+use orc_values::{Field, Scalar, Tree};
 use std::alloc::Global;
 
 /// Appends the text of a column's next cell, by a layout. What is appended before a refusal is left open.

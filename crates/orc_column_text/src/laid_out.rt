@@ -1,13 +1,13 @@
 //! Whether a layout says of a struct's columns what is so.
 ghost use Rattle.std.specs.Prelude.{◌≡◌, ◌<◌, ◌^◌, length};
 ghost use Rattle.std.specs.Bool.{OnTrue};
-ghost use Rattle.orc_types.specs.Shapes.{width, widths};
-ghost use Rattle.orc_types.specs.Views.{shape, fields as fields_view};
+ghost use Rattle.orc_values.specs.Shapes.{width, widths};
+ghost use Rattle.orc_values.specs.Views.{shape, fields as fields_view};
 ghost use Rattle.orc_json.specs.Layouts.{member_parts};
 ghost use Rattle.orc_column_text.specs.Regions.{AreColumnsOf, AreMembersOf};
 
 use orc_json::layout::{FieldColumns, Member};
-use orc_types::{Field, Tree, width_of};
+use orc_values::{Field, Tree, width_of};
 
 /// The number of columns of a type, which is one without a call where the type contains no other.
 pub(crate) fn own_width(tree: &Tree) -> usize

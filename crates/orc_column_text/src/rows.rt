@@ -1,8 +1,8 @@
 //! The rows that are still to come, one after the other: the text of the next one.
 ghost use Rattle.std.specs.Prelude.{◌≡◌, ◌≢◌, ◌+◌, List, Bool, length, IfOk, IfErr, OnOk, MatchResult, MatchBool};
-ghost use Rattle.orc_types.specs.Cells.{Cell};
-ghost use Rattle.orc_types.specs.Shapes.{width};
-ghost use Rattle.orc_types.specs.Views.{shape};
+ghost use Rattle.orc_values.specs.Cells.{Cell};
+ghost use Rattle.orc_values.specs.Shapes.{width};
+ghost use Rattle.orc_values.specs.Views.{shape};
 ghost use Rattle.orc_column_reader.specs.ReaderFaults.{CellsMeet};
 ghost use Rattle.orc_column_reader.specs.declared.fault.StripeFault.{StripeFault as Fault};
 ghost use Rattle.orc_column_reader.specs.declared.fault.StripeFault.TheVariants.{OutOfMemory};
@@ -14,7 +14,7 @@ use orc_column_reader::column::ColumnReader;
 use orc_column_reader::ending::cells_end;
 use orc_column_reader::fault::StripeFault;
 use orc_json::layout::Layout;
-use orc_types::Tree;
+use orc_values::Tree;
 use std::alloc::Global;
 
 /// Appends the text of the next of so many rows that are left, by a layout, and says whether there was one. At the end,

@@ -3,16 +3,16 @@ use Rattle.std.proofs.Common.{◌≡◌, ◌≤◌, ℕ, pos, List, [], ◌∷�
 use Rattle.std.specs.List.{flat_map}
 use Rattle.std.proofs.lemmas.List.{length-map}
 use Rattle.orc_rle.specs.declared.sign.Sign.TheVariants.{Unsigned}
-use Rattle.orc_types.specs.Cells.{Cell, null, leaf, list, struct, pairs, list_of_cells, list_of_pairs, parts, pairs_in, keys_in, values_in, values}
-use Rattle.orc_types.specs.Fits.{RowsFit}
-use Rattle.orc_types.specs.Shapes.{Shape, scalar, list_of, map_of, struct_of, Fields}
-use Rattle.orc_types.specs.declared.kind.Scalar.{Scalar}
-use Rattle.orc_types.proofs.Childless.{marks_childless, values_childless, list_size, map_size}
+use Rattle.orc_values.specs.Cells.{Cell, null, leaf, list, struct, pairs, list_of_cells, list_of_pairs, parts, pairs_in, keys_in, values_in, values}
+use Rattle.orc_values.specs.Fits.{RowsFit}
+use Rattle.orc_values.specs.Shapes.{Shape, scalar, list_of, map_of, struct_of, Fields}
+use Rattle.orc_values.specs.declared.kind.Scalar.{Scalar}
+use Rattle.orc_values.proofs.Childless.{marks_childless, values_childless, list_size, map_size}
 use Rattle.orc_column_reader.specs.Numbers.{AreNumbers}
 use Rattle.orc_column_reader.specs.Spellings.{size}
 use Rattle.orc_column_reader.specs.Stripe.{Streams, version, Marks, SpellsScalar, SpellsValues, IsColumn, most_cells}
 use Rattle.orc_column_reader.proofs.FirstLemmas.{sum_more}
-use Rattle.orc_types.specs.Childless.{list_of_size, map_of_size, childless_struct, childless}
+use Rattle.orc_values.specs.Childless.{list_of_size, map_of_size, childless_struct, childless}
 use Rattle.orc_column_walk.specs.OwnColumns.{SpellsOwnValues, IsOwnColumn, elements_together, pairs_together}
 
 -- ---- sizes

@@ -4,13 +4,13 @@ use Rattle.std.specs.List.{AllByRecursion, flat_map, drop-map}
 use Rattle.std.proofs.lemmas.Bool.{lt-ltb}
 use Rattle.std.proofs.lemmas.List.{length-map, take-map}
 use Rattle.std.proofs.lemmas.List.Sums.{sum_by-cons}
-use Rattle.orc_types.specs.Cells.{Cell, null, leaf, bool, int, date, text, bytes, list, struct, pairs, parts, keys_in, values}
-use Rattle.orc_types.specs.Childless.{childless}
-use Rattle.orc_types.specs.Columns.{cells}
-use Rattle.orc_types.specs.Fits.{fits, RowsFit}
-use Rattle.orc_types.specs.Shapes.{Shape, scalar, list_of, map_of, struct_of, width, shape_at}
-use Rattle.orc_types.proofs.Deeper.{at_within, width_pos, cells-add, cells-zero}
-use Rattle.orc_types.proofs.Together.{cells_fit}
+use Rattle.orc_values.specs.Cells.{Cell, null, leaf, bool, int, date, text, bytes, list, struct, pairs, parts, keys_in, values}
+use Rattle.orc_values.specs.Childless.{childless}
+use Rattle.orc_values.specs.Columns.{cells}
+use Rattle.orc_values.specs.Fits.{fits, RowsFit}
+use Rattle.orc_values.specs.Shapes.{Shape, scalar, list_of, map_of, struct_of, width, shape_at}
+use Rattle.orc_values.proofs.Deeper.{at_within, width_pos, cells-add, cells-zero}
+use Rattle.orc_values.proofs.Together.{cells_fit}
 use Rattle.orc_column_reader.specs.Stripe.{Streams, SpellRows, cell_limit}
 use Rattle.orc_row_index.specs.Bounds.{bound_at, before_group, group_of, elements_before, pairs_before, values_before}
 use Rattle.orc_row_index.specs.Places.{octets_in, octets}

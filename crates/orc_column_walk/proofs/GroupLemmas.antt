@@ -5,9 +5,9 @@ use Rattle.std.proofs.Math.ListN.{get_or-map}
 use Rattle.std.proofs.lemmas.Grind.{get_or_default_zero}
 use Rattle.std.proofs.lemmas.List.{take_all, drop_all, length-take, get_or_past, take-append-drop}
 use Rattle.std.specs.List.{flat_map}
-use Rattle.orc_types.specs.Cells.{Cell, parts, pairs_in, values}
-use Rattle.orc_types.specs.Shapes.{Shape, scalar, list_of, map_of, struct_of}
-use Rattle.orc_types.proofs.Together.{values-append}
+use Rattle.orc_values.specs.Cells.{Cell, parts, pairs_in, values}
+use Rattle.orc_values.specs.Shapes.{Shape, scalar, list_of, map_of, struct_of}
+use Rattle.orc_values.proofs.Together.{values-append}
 use Rattle.orc_column_reader.specs.Fronts.{Leaves, Lacks}
 use Rattle.orc_column_reader.specs.ReaderFaults.{ValuesMeet}
 use Rattle.orc_column_reader.specs.declared.column.ValueSource.{ValueSource}

@@ -5,7 +5,7 @@ use Rattle.std.proofs.Math.Seq.{take-add}
 use Rattle.std.proofs.Math.ListN.{get_or-map}
 use Rattle.std.proofs.lemmas.Grind.{get_or_default_zero}
 use Rattle.std.proofs.lemmas.List.{take-map, length-map, length-take, take_all, drop_all, length-replicate}
-use Rattle.orc_types.specs.Cells.{Cell, is_value}
+use Rattle.orc_values.specs.Cells.{Cell, is_value}
 use Rattle.orc_column_reader.specs.Columns.{MarksLeft}
 use Rattle.orc_column_reader.specs.Fronts.{Leaves, Lacks}
 use Rattle.orc_column_reader.specs.Needs.{trues}

@@ -1,7 +1,7 @@
 -- What is kept of a part of a column: its values, and whether there is null.
 use Rattle.std.proofs.Common.{◌≡◌, ◌<◌, ◌≤◌, List, [], ◌∷◌, length, refl, sym, ap, ◌∙◌, arith, inl, inr}
 use Rattle.std.proofs.lemmas.Bool.{cases_lt}
-use Rattle.orc_types.specs.Cells.{Cell, null, leaf, list, struct, pairs, values}
+use Rattle.orc_values.specs.Cells.{Cell, null, leaf, list, struct, pairs, values}
 use Rattle.orc_stats.specs.Tallies.{Measure, Kept, together, cell_kept, cells_kept}
 use Rattle.orc_stats.specs.TallyLaws.{kept_is, together_comm, together_assoc}
 

@@ -1,13 +1,13 @@
 -- The next value of a column by itself, by its kind.
 use Rattle.std.proofs.Common.{Vec, Global, ◌≡◌, ◌≤◌, ◌-◌, ℕ, suc, pos, Bool, true, false, MatchBool, List, [], ◌∷◌, map, length, replicate, refl, sym, ap, ◌∙◌, subst, arith}
 use Rattle.std.proofs.lemmas.List.{length-map}
-use Rattle.orc_types.specs.Cells.{Cell}
-use Rattle.orc_types.specs.Childless.{list_of_size, map_of_size, childless_struct}
-use Rattle.orc_types.specs.Shapes.{Shape, scalar, list_of, map_of, struct_of, no_field, Fields}
-use Rattle.orc_types.specs.Views.{shape}
-use Rattle.orc_types.proofs.Views.{shape-Scalar}
-use Rattle.orc_types.specs.declared.kind.Scalar.{Scalar as Kind}
-use Rattle.orc_types.specs.declared.tree.Tree.{Tree, Scalar as TreeScalar}
+use Rattle.orc_values.specs.Cells.{Cell}
+use Rattle.orc_values.specs.Childless.{list_of_size, map_of_size, childless_struct}
+use Rattle.orc_values.specs.Shapes.{Shape, scalar, list_of, map_of, struct_of, no_field, Fields}
+use Rattle.orc_values.specs.Views.{shape}
+use Rattle.orc_values.proofs.Views.{shape-Scalar}
+use Rattle.orc_values.specs.declared.kind.Scalar.{Scalar as Kind}
+use Rattle.orc_values.specs.declared.tree.Tree.{Tree, Scalar as TreeScalar}
 use Rattle.orc_column_reader.specs.Columns.{ListsLeft}
 use Rattle.orc_column_reader.specs.Fronts.{Leaves, Lacks}
 use Rattle.orc_column_reader.specs.Numbers.{NumbersLeft}

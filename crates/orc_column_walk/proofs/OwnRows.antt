@@ -2,15 +2,15 @@
 use Rattle.std.proofs.Common.{◌≡◌, ℕ, suc, ◌+◌, ◌-◌, ◌<◌, ◌≤◌, true, false, ltb, List, map, length, take, drop, refl, sym, ap, ◌∙◌, subst, arith}
 use Rattle.std.proofs.lemmas.Bool.{lt-ltb, le-ltb}
 use Rattle.std.specs.List.{flat_map}
-use Rattle.orc_types.specs.Cells.{Cell, parts, keys_in, values_in, values}
-use Rattle.orc_types.specs.Columns.{cells, cells_within}
-use Rattle.orc_types.specs.Fits.{RowsFit}
-use Rattle.orc_types.specs.Shapes.{Shape, scalar, list_of, map_of, struct_of, Fields, no_field, field, width, widths, shape_at, shape_within}
-use Rattle.orc_types.proofs.Together.{StructsFit, elements_fit, keys_fit, values_fit, structs_fit, heads_fit, tails_fit, heads-length}
+use Rattle.orc_values.specs.Cells.{Cell, parts, keys_in, values_in, values}
+use Rattle.orc_values.specs.Columns.{cells, cells_within}
+use Rattle.orc_values.specs.Fits.{RowsFit}
+use Rattle.orc_values.specs.Shapes.{Shape, scalar, list_of, map_of, struct_of, Fields, no_field, field, width, widths, shape_at, shape_within}
+use Rattle.orc_values.proofs.Together.{StructsFit, elements_fit, keys_fit, values_fit, structs_fit, heads_fit, tails_fit, heads-length}
 use Rattle.std.proofs.lemmas.List.{length-map}
 use Rattle.orc_column_reader.specs.Stripe.{Streams, IsColumn, SpellRows, most_cells}
 use Rattle.orc_column_reader.proofs.ByNumber.{to_number, first_cells, wide}
-use Rattle.orc_types.specs.Childless.{childless}
+use Rattle.orc_values.specs.Childless.{childless}
 use Rattle.orc_column_walk.specs.OwnColumns.{AreOwnColumns, AreOwnFields, elements_together, pairs_together, OwnDown}
 use Rattle.orc_column_walk.proofs.ChildlessLemmas.{own_of, elements_childless, pairs_childless, structs_childless, keys_long, map_values_long}
 use Rattle.orc_column_walk.proofs.OneOwn.{own_same, fields_same, one_own}

@@ -5,8 +5,8 @@ use Rattle.std.specs.List.{flat_map}
 use Rattle.orc_rle.specs.ByteRun.{IsByteRun}
 use Rattle.orc_rle.specs.Stream.{IsStream}
 use Rattle.orc_rle.specs.declared.sign.Sign.TheVariants.{Unsigned}
-use Rattle.orc_types.specs.Cells.{Cell, is_value, parts, pairs_in, values}
-use Rattle.orc_types.specs.Shapes.{Shape, scalar, list_of, map_of, struct_of, Fields, no_field, field, width}
+use Rattle.orc_values.specs.Cells.{Cell, is_value, parts, pairs_in, values}
+use Rattle.orc_values.specs.Shapes.{Shape, scalar, list_of, map_of, struct_of, Fields, no_field, field, width}
 use Rattle.orc_column_reader.specs.Faults.{FaultBelow, FaultWithin, FaultDown, RowsFault, lengths_of}
 use Rattle.orc_column_reader.specs.Needs.{MarksBegin, ValuesNeeded, ElementsNeeded}
 use Rattle.orc_column_reader.specs.Numbers.{is_run}
@@ -17,8 +17,8 @@ use Rattle.orc_column_reader.specs.declared.fault.StripeFault.{StripeFault}
 use Rattle.orc_column_reader.proofs.BitsLemmas.{held_bits, no_digit}
 use Rattle.orc_column_reader.proofs.Fronts.{length-values}
 use Rattle.orc_bits.specs.Packed.{digits}
-use Rattle.orc_types.specs.Columns.{cells}
-use Rattle.orc_types.specs.Childless.{childless, list_of_size, map_of_size}
+use Rattle.orc_values.specs.Columns.{cells}
+use Rattle.orc_values.specs.Childless.{childless, list_of_size, map_of_size}
 use Rattle.orc_column_walk.specs.OwnColumns.{IsOwnColumn, AreOwnColumns, AreOwnFields, SpellsSizes, elements_together, pairs_together}
 use Rattle.orc_column_walk.specs.OwnFaults.{OwnFault, RefusedBelow, RefusedWithin, RefusedDown}
 use Rattle.orc_column_walk.proofs.OneOwn.{one_column}

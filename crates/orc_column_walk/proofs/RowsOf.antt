@@ -4,16 +4,16 @@ use Rattle.std.proofs.Common.{◌≡◌, ℕ, zero, suc, ◌+◌, pos, Bool, tru
 use Rattle.std.specs.List.{AllByRecursion, flat_map}
 use Rattle.std.proofs.lemmas.List.{length-map, length-replicate, length-take, nil_from_length, take-append-drop}
 use Rattle.orc_rle.specs.declared.sign.Sign.TheVariants.{Unsigned}
-use Rattle.orc_types.specs.Cells.{Cell, list, struct, pairs, cells_of, pairs_of, is_value, parts, pairs_in, values}
-use Rattle.orc_types.specs.Shapes.{Shape, scalar, list_of, map_of, struct_of, Fields, no_field, field, width}
+use Rattle.orc_values.specs.Cells.{Cell, list, struct, pairs, cells_of, pairs_of, is_value, parts, pairs_in, values}
+use Rattle.orc_values.specs.Shapes.{Shape, scalar, list_of, map_of, struct_of, Fields, no_field, field, width}
 use Rattle.orc_column_reader.specs.Numbers.{AreNumbers}
 use Rattle.orc_column_reader.specs.Spellings.{Nullable, AllStand, size, joined, zip_cons}
 use Rattle.orc_column_reader.specs.Stripe.{Streams, version, Marks, SpellsTree, SpellsFields, SpellsCells}
 use Rattle.orc_column_reader.proofs.FirstLemmas.{sum_more}
 use Rattle.orc_column_reader.proofs.Fronts.{length-values, length-zip}
-use Rattle.orc_types.specs.Childless.{list_of_size, map_of_size}
+use Rattle.orc_values.specs.Childless.{list_of_size, map_of_size}
 use Rattle.orc_column_walk.specs.OwnColumns.{IsOwnColumn, AreOwnColumns, AreOwnFields, elements_together, pairs_together, OwnBelow, OwnWithin, OwnDown}
-use Rattle.orc_types.proofs.Childless.{list_size, map_size}
+use Rattle.orc_values.proofs.Childless.{list_size, map_size}
 use Rattle.orc_column_walk.proofs.Spread.{AreValues, spread, spread_is}
 
 -- other values in the places of a column's own

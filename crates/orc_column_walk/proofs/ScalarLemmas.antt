@@ -1,7 +1,7 @@
 -- Values of a column of a kind that contains no other, one after the other.
 use Rattle.std.proofs.Common.{ℕ, List}
-use Rattle.orc_types.specs.Cells.{Cell}
-use Rattle.orc_types.specs.declared.kind.Scalar.{Scalar}
+use Rattle.orc_values.specs.Cells.{Cell}
+use Rattle.orc_values.specs.declared.kind.Scalar.{Scalar}
 use Rattle.orc_column_reader.specs.Columns.{ScalarLeft}
 use Rattle.orc_column_reader.specs.ReaderFaults.{ScalarMeets}
 use Rattle.orc_column_reader.specs.declared.column.ValueSource.{ValueSource}

@@ -2,8 +2,8 @@
 use Rattle.std.proofs.Common.{◌≡◌, ℕ, zero, suc, ◌+◌, ◌-◌, ◌≤◌, pos, Bool, true, None, List, [], ◌∷◌, ◌++◌, map, length, replicate, sum, refl, sym, ap, subst, arith, length-append}
 use Rattle.std.specs.List.{AllByRecursion}
 use Rattle.std.proofs.lemmas.List.{length-map, length-replicate}
-use Rattle.orc_types.specs.Cells.{Cell, struct, cells_of, is_value, values}
-use Rattle.orc_types.specs.Shapes.{struct_of, no_field}
+use Rattle.orc_values.specs.Cells.{Cell, struct, cells_of, is_value, values}
+use Rattle.orc_values.specs.Shapes.{struct_of, no_field}
 use Rattle.orc_column_reader.specs.Columns.{CellsLeft, ListsLeft, IsRecord}
 use Rattle.orc_column_reader.specs.Fronts.{Leaves, Lacks}
 use Rattle.orc_column_reader.specs.Numbers.{NumbersLeft}

@@ -1,7 +1,7 @@
 -- Cells by their marks and values.
 use Rattle.std.proofs.Common.{◌≡◌, Bool, true, false, List, [], ◌∷◌, map, length, refl, ap, arith}
 use Rattle.std.specs.List.{AllByRecursion}
-use Rattle.orc_types.specs.Cells.{Cell, null, is_value, values}
+use Rattle.orc_values.specs.Cells.{Cell, null, is_value, values}
 use Rattle.orc_column_reader.specs.Needs.{trues}
 
 abbrev pub spread : List Bool → List Cell → List Cell

@@ -3,10 +3,10 @@ use Rattle.std.proofs.Common.{◌≡◌, ℕ, ◌<◌, ◌≤◌, pos, negsuc, s
 use Rattle.std.specs.List.{flat_map}
 use Rattle.std.proofs.lemmas.List.{length-map}
 use Rattle.orc_rle.specs.declared.sign.Sign.TheVariants.{Unsigned}
-use Rattle.orc_types.specs.Cells.{Cell, is_value, parts, pairs_in, values}
-use Rattle.orc_types.specs.Shapes.{Shape, scalar, list_of, map_of, struct_of}
-use Rattle.orc_types.specs.declared.kind.Scalar.{Scalar}
-use Rattle.orc_types.specs.declared.kind.Scalar.TheVariants as kind
+use Rattle.orc_values.specs.Cells.{Cell, is_value, parts, pairs_in, values}
+use Rattle.orc_values.specs.Shapes.{Shape, scalar, list_of, map_of, struct_of}
+use Rattle.orc_values.specs.declared.kind.Scalar.{Scalar}
+use Rattle.orc_values.specs.declared.kind.Scalar.TheVariants as kind
 use Rattle.orc_column_reader.specs.Columns.{MarksLeft, IsWord, IsText}
 use Rattle.orc_column_reader.specs.Faults.{RunsFail, WordsOfFail}
 use Rattle.orc_column_reader.specs.Needs.{trues}
@@ -23,7 +23,7 @@ use Rattle.orc_column_reader.specs.declared.fault.StripeFault.{StripeFault}
 use Rattle.orc_column_reader.proofs.Fronts.{length-values}
 use Rattle.orc_column_reader.proofs.StartFaults.{marks_start, values_start}
 use Rattle.orc_column_reader.proofs.StartLemmas.{Alike, marks_alike, numbers_alike, scalar_alike}
-use Rattle.orc_types.specs.Childless.{list_of_size, map_of_size, childless_struct}
+use Rattle.orc_values.specs.Childless.{list_of_size, map_of_size, childless_struct}
 use Rattle.orc_column_walk.specs.OwnColumns.{SpellsSizes, SpellsOwnValues, IsOwnColumn}
 use Rattle.orc_column_walk.specs.OwnFaults.{IsRefused}
 use Rattle.orc_column_walk.specs.OwnLeft.{SizesLeft, SizedLeft, OwnValuesLeft, children}

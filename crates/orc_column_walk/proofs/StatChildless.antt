@@ -2,13 +2,13 @@
 use Rattle.std.proofs.Common.{◌≡◌, Option, Some, List, [], ◌∷◌, map, length, refl, ap, ◌∙◌}
 use Rattle.std.specs.List.{filter_map, cons_option}
 use Rattle.std.proofs.lemmas.List.{length-map}
-use Rattle.orc_types.specs.Cells.{Cell, null, leaf, list, struct, pairs, values}
+use Rattle.orc_values.specs.Cells.{Cell, null, leaf, list, struct, pairs, values}
 use Rattle.orc_stats.specs.declared.kind.StatKind.{StatKind}
 use Rattle.orc_stats.specs.declared.kind.StatKind.TheVariants as kind
 use Rattle.orc_stats.specs.Statistics.{int_of, date_of, bool_of, text_of, bytes_of, children_of, values_body, has_null, stat}
-use Rattle.orc_types.specs.Childless.{childless}
+use Rattle.orc_values.specs.Childless.{childless}
 use Rattle.orc_stats.specs.OwnCells.{many_childless}
-use Rattle.orc_types.proofs.Childless.{values_childless}
+use Rattle.orc_values.proofs.Childless.{values_childless}
 
 picked_childless : {A : Type 0} (pick : Cell → Option A) → ((c : Cell) → pick (childless c) ≡ pick c) → (cs : List Cell) → filter_map pick (map childless cs) ≡ filter_map pick cs
 picked_childless pick one [] = refl

@@ -4,10 +4,10 @@ use Rattle.std.specs.Prelude.{slice_get}
 use Rattle.std.proofs.lemmas.Bool.{cases_lt, lt-ltb, le-ltb}
 use Rattle.std.proofs.lemmas.List.{length-take, length-replicate, take-append-drop, take_all}
 use Rattle.std.proofs.lemmas.List.Sums.{sum_by-append, sum_by-cons}
-use Rattle.orc_types.specs.Cells.{Cell, null, leaf, list, struct, pairs, is_value, values}
-use Rattle.orc_types.specs.Childless.{childless_struct}
-use Rattle.orc_types.specs.Shapes.{Shape, Fields, struct_of}
-use Rattle.orc_types.proofs.Together.{values-append}
+use Rattle.orc_values.specs.Cells.{Cell, null, leaf, list, struct, pairs, is_value, values}
+use Rattle.orc_values.specs.Childless.{childless_struct}
+use Rattle.orc_values.specs.Shapes.{Shape, Fields, struct_of}
+use Rattle.orc_values.proofs.Together.{values-append}
 use Rattle.orc_row_index.specs.Bounds.{AreBounds, bound_at, before_group, group_of, values_before}
 use Rattle.orc_row_index.specs.Places.{octets_in, octets}
 use Rattle.orc_row_index.specs.Walking.{AreCounted, most}

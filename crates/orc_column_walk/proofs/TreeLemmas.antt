@@ -1,11 +1,11 @@
 -- A column and those below it, one after the other.
 use Rattle.std.proofs.Common.{◌≡◌, ℕ, suc, ◌+◌, ◌<◌, ◌-◌, ◌^◌, Bool, List, length, drop, get_or, refl, sym, ap, subst, inl, inr, arith}
-use Rattle.orc_types.specs.Cells.{Cell, values}
-use Rattle.orc_types.specs.Shapes.{Shape, scalar, list_of, map_of, struct_of, Fields, width, widths}
-use Rattle.orc_types.specs.Views.{shape, fields as fields_view}
-use Rattle.orc_types.specs.declared.tree.Field.{Field}
-use Rattle.orc_types.specs.declared.kind.Scalar.{Scalar}
-use Rattle.orc_types.proofs.Listed.{fields_from}
+use Rattle.orc_values.specs.Cells.{Cell, values}
+use Rattle.orc_values.specs.Shapes.{Shape, scalar, list_of, map_of, struct_of, Fields, width, widths}
+use Rattle.orc_values.specs.Views.{shape, fields as fields_view}
+use Rattle.orc_values.specs.declared.tree.Field.{Field}
+use Rattle.orc_values.specs.declared.kind.Scalar.{Scalar}
+use Rattle.orc_values.proofs.Listed.{fields_from}
 use Rattle.orc_column_reader.specs.Faults.{RowsFault}
 use Rattle.orc_column_reader.specs.Stripe.{Streams}
 use Rattle.orc_column_reader.specs.declared.fault.StripeFault.{StripeFault}

@@ -1,14 +1,14 @@
 -- The values of a column, by its kind.
 use Rattle.std.proofs.Common.{◌≡◌, ℕ, Bool, List, map, length, replicate, sum, refl, sym, ap, ◌∙◌, subst}
 use Rattle.std.proofs.lemmas.List.{length-map, length-replicate}
-use Rattle.orc_types.specs.Cells.{Cell}
-use Rattle.orc_types.specs.Shapes.{Shape, scalar, list_of, map_of, struct_of, Fields}
-use Rattle.orc_types.specs.declared.kind.Scalar.{Scalar}
+use Rattle.orc_values.specs.Cells.{Cell}
+use Rattle.orc_values.specs.Shapes.{Shape, scalar, list_of, map_of, struct_of, Fields}
+use Rattle.orc_values.specs.declared.kind.Scalar.{Scalar}
 use Rattle.orc_column_reader.specs.Columns.{ScalarLeft}
 use Rattle.orc_column_reader.specs.ReaderFaults.{ScalarMeets, ListsMeet, ValuesMeet}
 use Rattle.orc_column_reader.specs.declared.column.ValueSource.{ValueSource}
 use Rattle.orc_column_reader.specs.declared.fault.StripeFault.{StripeFault}
-use Rattle.orc_types.specs.Childless.{list_of_size, map_of_size, childless_struct}
+use Rattle.orc_values.specs.Childless.{list_of_size, map_of_size, childless_struct}
 use Rattle.orc_column_walk.specs.OwnLeft.{SizesLeft, OwnValuesLeft, children}
 use Rattle.orc_column_walk.proofs.RowsOf.{elements_sum, pairs_sum}
 

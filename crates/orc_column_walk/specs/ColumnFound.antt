@@ -1,8 +1,8 @@
 -- What is found of a column's cells: its statistic, that of each group, and what comes before it (ORC specification,
 -- "Column Statistics" and "Row Group Index").
 use Rattle.std.specs.Prelude.{◌≡◌, ℕ, Some, List, map, length, slice_get}
-use Rattle.orc_types.specs.Cells.{Cell, values}
-use Rattle.orc_types.specs.Shapes.{Shape, scalar, list_of, map_of, struct_of}
+use Rattle.orc_values.specs.Cells.{Cell, values}
+use Rattle.orc_values.specs.Shapes.{Shape, scalar, list_of, map_of, struct_of}
 use Rattle.orc_stats.specs.Kinds.{kind_of}
 use Rattle.orc_stats.specs.Statistics.{stat}
 use Rattle.orc_row_index.specs.Bounds.{before_group, group_of, elements_before, pairs_before, values_before}

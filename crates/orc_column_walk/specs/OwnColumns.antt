@@ -3,12 +3,12 @@
 use Rattle.std.specs.Prelude.{◌≡◌, ℕ, suc, ◌+◌, ◌<◌, ◌≤◌, pos, List, length, replicate, map, sum}
 use Rattle.std.specs.List.{flat_map}
 use Rattle.orc_rle.specs.declared.sign.Sign.TheVariants.{Unsigned}
-use Rattle.orc_types.specs.Cells.{Cell, parts, pairs_in, values}
-use Rattle.orc_types.specs.Shapes.{Shape, scalar, list_of, map_of, struct_of, Fields, no_field, field, width}
+use Rattle.orc_values.specs.Cells.{Cell, parts, pairs_in, values}
+use Rattle.orc_values.specs.Shapes.{Shape, scalar, list_of, map_of, struct_of, Fields, no_field, field, width}
 use Rattle.orc_column_reader.specs.Numbers.{AreNumbers}
 use Rattle.orc_column_reader.specs.Spellings.{Nullable}
 use Rattle.orc_column_reader.specs.Stripe.{Streams, version, Marks, SpellsScalar, cell_limit, most_cells}
-use Rattle.orc_types.specs.Childless.{list_of_size, map_of_size, childless_struct}
+use Rattle.orc_values.specs.Childless.{list_of_size, map_of_size, childless_struct}
 
 -- LENGTH spells the sizes of lists, or of maps, which are no more together than a column may have cells
 abbrev pub SpellsSizes : (ℕ → Cell) → Streams → List Cell → Type 0

@@ -1,8 +1,8 @@
 -- Why a stripe has no rows, as columns that are read one after the other say it (ORC specification, "Column Encodings"):
 -- the columns above spell cells by themselves, and this one doesn't spell as many as they have children.
 use Rattle.std.specs.Prelude.{ℕ, suc, ◌+◌, Bool, List, length, ◌⊎◌}
-use Rattle.orc_types.specs.Cells.{Cell, values}
-use Rattle.orc_types.specs.Shapes.{Shape, scalar, list_of, map_of, struct_of, Fields, no_field, field, width}
+use Rattle.orc_values.specs.Cells.{Cell, values}
+use Rattle.orc_values.specs.Shapes.{Shape, scalar, list_of, map_of, struct_of, Fields, no_field, field, width}
 use Rattle.orc_column_reader.specs.Faults.{MarksFail, WordsOfFail, ValuesFail}
 use Rattle.orc_column_reader.specs.Needs.{MarksBegin, ValuesNeeded}
 use Rattle.orc_column_reader.specs.Stripe.{Streams}

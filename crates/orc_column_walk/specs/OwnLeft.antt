@@ -1,12 +1,12 @@
 -- What is left of the streams of one column, without those of a column below (ORC specification, "Column Encodings").
 use Rattle.std.specs.Prelude.{◌≡◌, ℕ, ◌≤◌, pos, List, length, replicate, map, sum}
 use Rattle.std.specs.List.{flat_map}
-use Rattle.orc_types.specs.Cells.{Cell, parts, pairs_in}
-use Rattle.orc_types.specs.Shapes.{Shape, scalar, list_of, map_of, struct_of}
+use Rattle.orc_values.specs.Cells.{Cell, parts, pairs_in}
+use Rattle.orc_values.specs.Shapes.{Shape, scalar, list_of, map_of, struct_of}
 use Rattle.orc_column_reader.specs.Columns.{ScalarLeft}
 use Rattle.orc_column_reader.specs.Numbers.{NumbersLeft}
 use Rattle.orc_column_reader.specs.declared.column.ValueSource.{ValueSource}
-use Rattle.orc_types.specs.Childless.{list_of_size, map_of_size, childless_struct}
+use Rattle.orc_values.specs.Childless.{list_of_size, map_of_size, childless_struct}
 
 -- sizes of lists or of maps, for which there is room
 abbrev pub SizesLeft : ValueSource → List ℕ → Type 0

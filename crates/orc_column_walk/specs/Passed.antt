@@ -1,9 +1,9 @@
 -- What is counted of a column's cells while they are read (ORC specification, "Row Group Index": what comes before a group).
 use Rattle.std.specs.Prelude.{◌≡◌, ◌≤◌, ℕ, suc, ◌+◌, Bool, Some, List, length, map, min, slice_get, take}
-use Rattle.orc_types.specs.Cells.{Cell, values}
-use Rattle.orc_types.specs.Shapes.{Shape}
-use Rattle.orc_types.specs.declared.own.Own.{Own}
-use Rattle.orc_types.specs.declared.own.Own.TheVariants as own
+use Rattle.orc_values.specs.Cells.{Cell, values}
+use Rattle.orc_values.specs.Shapes.{Shape}
+use Rattle.orc_values.specs.declared.own.Own.{Own}
+use Rattle.orc_values.specs.declared.own.Own.TheVariants as own
 use Rattle.orc_column_reader.specs.Needs.{trues}
 use Rattle.orc_stats.specs.Kinds.{kind_of}
 use Rattle.orc_stats.specs.Statistics.{stat}

@@ -1,7 +1,7 @@
 //! The values of a column, counted group by group. None is held but the least and the greatest text.
 ghost use Rattle.std.specs.Prelude.{◌≡◌, ◌≢◌, ◌<◌, ◌≤◌, ◌+◌, ◌-◌, ◌^◌, ◌++◌, ℕ, Bool, false, List, length, map, take, IfOk, IfErr, OnOk, OnErr};
-ghost use Rattle.orc_types.specs.Cells.{Cell, values as values_of};
-ghost use Rattle.orc_types.specs.Views.{shape};
+ghost use Rattle.orc_values.specs.Cells.{Cell, values as values_of};
+ghost use Rattle.orc_values.specs.Views.{shape};
 ghost use Rattle.orc_column_reader.specs.Fronts.{Leaves, Lacks};
 ghost use Rattle.orc_column_reader.specs.ReaderFaults.{ValuesMeet};
 ghost use Rattle.orc_column_reader.specs.Stripe.{cell_limit};
@@ -22,7 +22,7 @@ use crate::passed::Passed;
 use orc_column_reader::column::ValueSource;
 use orc_column_reader::fault::StripeFault;
 use orc_stats::{Bins, Bools, Children, Counted, Dates, Ints, Plain, Stat, StatKind, Tally, Texts};
-use orc_types::{Own, Tree};
+use orc_values::{Own, Tree};
 use std::alloc::{AllocError, Global};
 
 /// The groups of a column's cells: a bound says how many of the cells come before a group, and another how many of the values.

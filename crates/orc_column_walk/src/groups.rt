@@ -1,7 +1,7 @@
 //! A column by itself, and the groups of its cells.
 ghost use Rattle.std.specs.Prelude.{◌≡◌, ◌≢◌, ◌<◌, Bool, List, length, IfOk, IfErr};
-ghost use Rattle.orc_types.specs.Cells.{Cell};
-ghost use Rattle.orc_types.specs.Views.{shape};
+ghost use Rattle.orc_values.specs.Cells.{Cell};
+ghost use Rattle.orc_values.specs.Views.{shape};
 ghost use Rattle.orc_column_reader.specs.Located.{AreLocated};
 ghost use Rattle.orc_column_reader.specs.Stripe.{columns_of, cell_limit};
 ghost use Rattle.orc_column_reader.specs.declared.fault.StripeFault.TheVariants.{OutOfMemory};
@@ -21,7 +21,7 @@ use orc_column_reader::column::ValueSource;
 use orc_column_reader::fault::StripeFault;
 use orc_column_reader::located::Located;
 use orc_column_reader::starting::reader_of;
-use orc_types::Tree;
+use orc_values::Tree;
 use orc_wire::StripeFooter;
 use std::alloc::Global;
 

@@ -1,12 +1,12 @@
 //! Laws of columns that are read by themselves. The function does nothing: its contract is what it is for.
 ghost use Rattle.std.specs.Prelude.{◌≡◌, ◌<◌, ℕ, Bool, List, map};
-ghost use Rattle.orc_types.specs.Cells.{Cell};
-ghost use Rattle.orc_types.specs.Columns.{cells};
-ghost use Rattle.orc_types.specs.Shapes.{Shape, width};
+ghost use Rattle.orc_values.specs.Cells.{Cell};
+ghost use Rattle.orc_values.specs.Columns.{cells};
+ghost use Rattle.orc_values.specs.Shapes.{Shape, width};
 ghost use Rattle.orc_column_reader.specs.Faults.{RowsFault};
 ghost use Rattle.orc_column_reader.specs.Stripe.{Streams, SpellRows};
 ghost use Rattle.orc_column_reader.specs.declared.fault.StripeFault.{StripeFault};
-ghost use Rattle.orc_types.specs.Childless.{childless};
+ghost use Rattle.orc_values.specs.Childless.{childless};
 ghost use Rattle.orc_column_walk.specs.OwnColumns.{AreOwnColumns};
 ghost use Rattle.orc_column_walk.specs.OwnFaults.{RefusedDown};
 

@@ -2,14 +2,14 @@
 //! loop over values has that type's reader in itself, with no call for a value.
 use orc_column_reader::column::{ValueSource, next_size};
 use orc_column_reader::fault::StripeFault;
-use orc_types::{Own, Scalar, Tree};
+use orc_values::{Own, Scalar, Tree};
 
 /// A way to the next value of a column, of whatever type.
 pub(crate) trait NextValue {
     ghost use Rattle.std.specs.Prelude.{◌≡◌, ◌≢◌, ◌∷◌, [], ℕ, suc, Bool, true, false, IfOk, IfErr, OnOk, OnErr};
-    ghost use Rattle.orc_types.specs.Cells.{is_value};
-    ghost use Rattle.orc_types.specs.Own.{own_cell};
-    ghost use Rattle.orc_types.specs.Views.{shape};
+    ghost use Rattle.orc_values.specs.Cells.{is_value};
+    ghost use Rattle.orc_values.specs.Own.{own_cell};
+    ghost use Rattle.orc_values.specs.Views.{shape};
     ghost use Rattle.orc_stats.specs.Kinds.{is_of, kind_of};
     ghost use Rattle.orc_column_reader.specs.Fronts.{Leaves, Lacks};
     ghost use Rattle.orc_column_reader.specs.ReaderFaults.{ValuesMeet};

@@ -1,13 +1,13 @@
 //! The end of a column's values, whatever its kind: of values, or of the sizes of lists or maps.
 ghost use Rattle.std.specs.Prelude.{[], true, MatchBool};
-ghost use Rattle.orc_types.specs.Views.{shape};
+ghost use Rattle.orc_values.specs.Views.{shape};
 ghost use Rattle.orc_column_reader.specs.ReaderFaults.{ListsMeet, ValuesMeet};
 ghost use Rattle.orc_column_walk.specs.OwnLeft.{OwnValuesLeft, SizesLeft};
 
 use orc_column_reader::column::{ValueSource, scalar_end, scalar_left};
 use orc_column_reader::fault::{StreamKind, StripeFault, run_fault};
 use orc_column_reader::numbers::{numbers_end, numbers_left};
-use orc_types::Tree;
+use orc_values::Tree;
 
 /// Whether no size is left.
 fn sizes_end(source: &ValueSource<'_>) -> bool

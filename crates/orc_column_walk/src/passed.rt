@@ -1,13 +1,13 @@
 //! What is counted of a column's cells while they are read.
 ghost use Rattle.std.specs.Prelude.{◌≡◌, ◌<◌, ◌≤◌, ◌+◌, ◌-◌, ◌^◌, ◌++◌, ◌∷◌, [], true, List, length};
-ghost use Rattle.orc_types.specs.Cells.{Cell, is_value, values as values_of};
-ghost use Rattle.orc_types.specs.Own.{own_cell};
-ghost use Rattle.orc_types.specs.Shapes.{Shape};
+ghost use Rattle.orc_values.specs.Cells.{Cell, is_value, values as values_of};
+ghost use Rattle.orc_values.specs.Own.{own_cell};
+ghost use Rattle.orc_values.specs.Shapes.{Shape};
 ghost use Rattle.orc_column_walk.specs.OwnLeft.{children};
 ghost use Rattle.orc_column_walk.specs.Passed.{own_children, IsPassed};
 
 use orc_row_index::Counts;
-use orc_types::Own;
+use orc_values::Own;
 
 /// The counts of the cells so far, and how many children they have, which is counted up to 2^64 - 1.
 #[derive(Clone, Copy)]

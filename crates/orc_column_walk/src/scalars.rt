@@ -1,6 +1,6 @@
 //! The values of a column of a kind that contains no other, read to the end of their streams.
 ghost use Rattle.std.specs.Prelude.{◌≡◌, ◌≢◌, ◌+◌, ℕ, Bool, false, List, length, IfOk, IfErr, OnOk, OnErr};
-ghost use Rattle.orc_types.specs.Cells.{Cell};
+ghost use Rattle.orc_values.specs.Cells.{Cell};
 ghost use Rattle.orc_column_reader.specs.Columns.{ScalarLeft};
 ghost use Rattle.orc_column_reader.specs.Fronts.{Leaves, Lacks};
 ghost use Rattle.orc_column_reader.specs.ReaderFaults.{ScalarMeets};
@@ -9,7 +9,7 @@ ghost use Rattle.orc_column_reader.specs.declared.fault.StripeFault.TheVariants.
 
 use orc_column_reader::column::{ValueSource, scalar_end, scalar_left};
 use orc_column_reader::fault::StripeFault;
-use orc_types::Scalar;
+use orc_values::Scalar;
 
 /// Reads the next values, so many, and holds none.
 fn skip_scalars(source: &mut ValueSource<'_>, kind: Scalar, count: usize) -> Result<(), StripeFault>

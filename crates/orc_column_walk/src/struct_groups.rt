@@ -1,8 +1,8 @@
 //! A column of structs: its groups are counted by its marks alone, each at once.
 ghost use Rattle.std.specs.Prelude.{◌≡◌, ◌<◌, ℕ, Some, nat_lt, List, replicate, IfOk};
-ghost use Rattle.orc_types.specs.Cells.{Cell};
-ghost use Rattle.orc_types.specs.Childless.{childless_struct};
-ghost use Rattle.orc_types.specs.Shapes.{Fields, struct_of};
+ghost use Rattle.orc_values.specs.Cells.{Cell};
+ghost use Rattle.orc_values.specs.Childless.{childless_struct};
+ghost use Rattle.orc_values.specs.Shapes.{Fields, struct_of};
 ghost use Rattle.orc_column_reader.specs.Stripe.{cell_limit};
 ghost use Rattle.orc_row_index.specs.Bounds.{AreBounds};
 ghost use Rattle.orc_stats.specs.declared.stat.Body.TheVariants.{Plain};

@@ -1,7 +1,7 @@
 //! The values of a column by themselves, whatever its kind, and how many children they have.
 ghost use Rattle.std.specs.Prelude.{◌≡◌, ◌≢◌, Bool, List, length, IfOk, IfErr};
-ghost use Rattle.orc_types.specs.Cells.{Cell};
-ghost use Rattle.orc_types.specs.Views.{shape};
+ghost use Rattle.orc_values.specs.Cells.{Cell};
+ghost use Rattle.orc_values.specs.Views.{shape};
 ghost use Rattle.orc_column_reader.specs.ReaderFaults.{ValuesMeet};
 ghost use Rattle.orc_column_reader.specs.declared.fault.StripeFault.TheVariants.{OutOfMemory};
 ghost use Rattle.orc_column_walk.specs.OwnLeft.{OwnValuesLeft, children};
@@ -10,7 +10,7 @@ use crate::scalars::read_scalars;
 use crate::sizes::sum_sizes;
 use orc_column_reader::column::ValueSource;
 use orc_column_reader::fault::StripeFault;
-use orc_types::Tree;
+use orc_values::Tree;
 
 /// Reads all values of a column, which are to be so many, and answers how many children they have: elements of lists,
 /// pairs of maps, or structs, each of which has one in each field.

@@ -1,8 +1,8 @@
 //! All columns of a stripe, one after the other, in the order of their numbers: a column, and then those below it.
 ghost use Rattle.std.specs.Prelude.{◌≡◌, ◌≢◌, ◌+◌, ◌<◌, ◌≤◌, ℕ, Bool, List, length, IfOk, IfErr, OnOk};
-ghost use Rattle.orc_types.specs.Cells.{Cell, values};
-ghost use Rattle.orc_types.specs.Shapes.{width, widths};
-ghost use Rattle.orc_types.specs.Views.{shape, fields as fields_view};
+ghost use Rattle.orc_values.specs.Cells.{Cell, values};
+ghost use Rattle.orc_values.specs.Shapes.{width, widths};
+ghost use Rattle.orc_values.specs.Views.{shape, fields as fields_view};
 ghost use Rattle.orc_column_reader.specs.Faults.{RowsFault};
 ghost use Rattle.orc_column_reader.specs.Located.{AreLocated};
 ghost use Rattle.orc_column_reader.specs.Stripe.{SpellRows, columns_of, cell_limit};
@@ -17,7 +17,7 @@ use orc_column_reader::column::MOST_CELLS;
 use orc_column_reader::fault::StripeFault;
 use orc_column_reader::located::Located;
 use orc_column_reader::starting::reader_of;
-use orc_types::{Field, Tree};
+use orc_values::{Field, Tree};
 use orc_wire::StripeFooter;
 use std::alloc::Global;
 

@@ -4,7 +4,8 @@ use orc_column_reader::directory::check_directory;
 use orc_column_reader::fault::StripeFault;
 use orc_column_reader::located::{Located, locate};
 use orc_column_walk::walk_columns;
-use orc_types::{Schema, Tree};
+use orc_types::Schema;
+use orc_values::Tree;
 use orc_wire::{Message, StripeFooter};
 use std::alloc::Global;
 

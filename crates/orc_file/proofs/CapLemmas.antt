@@ -5,7 +5,7 @@ use Rattle.std.specs.Option.{IfSome}
 use Rattle.std.specs.Result.{MatchResult}
 use Rattle.orc_wire.specs.declared.stripe_info.StripeInfo.{StripeInfo}
 use Rattle.orc_wire.specs.declared.post_script.PostScript.{PostScript}
-use Rattle.orc_types.specs.Shapes.{Shape}
+use Rattle.orc_values.specs.Shapes.{Shape}
 use Rattle.orc_file.specs.Layout.{script_length, script_place}
 use Rattle.orc_file.specs.Stripes.{stripe_length, stripe_at, stripes_length, most_bytes}
 use Rattle.orc_file.specs.Tails.{end_tests, IsTail, OpenFault, ReadFault}

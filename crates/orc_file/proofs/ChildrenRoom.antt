@@ -1,11 +1,11 @@
 -- A column of lists, or of maps, has no more children than the column below has cells.
 use Rattle.std.proofs.Common.{◌≡◌, ℕ, zero, suc, ◌+◌, ◌-◌, ◌<◌, ◌≤◌, ◌^◌, List, length, sum_by, ap, ◌∙◌, arith, inl, inr}
-use Rattle.orc_types.specs.declared.kind.Scalar.{Scalar}
-use Rattle.orc_types.specs.declared.kind.Scalar.TheVariants as scalar_kind
-use Rattle.orc_types.specs.Shapes.{Shape, scalar, list_of, map_of, struct_of, Fields, no_field, field, width, widths, shape_at, shape_within}
-use Rattle.orc_types.specs.Cells.{Cell, parts, pairs_in}
-use Rattle.orc_types.specs.Columns.{cells}
-use Rattle.orc_types.proofs.Deeper.{width_pos, cells-add, elements-length, keys-length}
+use Rattle.orc_values.specs.declared.kind.Scalar.{Scalar}
+use Rattle.orc_values.specs.declared.kind.Scalar.TheVariants as scalar_kind
+use Rattle.orc_values.specs.Shapes.{Shape, scalar, list_of, map_of, struct_of, Fields, no_field, field, width, widths, shape_at, shape_within}
+use Rattle.orc_values.specs.Cells.{Cell, parts, pairs_in}
+use Rattle.orc_values.specs.Columns.{cells}
+use Rattle.orc_values.proofs.Deeper.{width_pos, cells-add, elements-length, keys-length}
 use Rattle.orc_stats.specs.declared.kind.StatKind.TheVariants as kind
 use Rattle.orc_stats.specs.Kinds.{kind_of, kind_of_scalar}
 use Rattle.orc_stripe_writer.specs.WrittenStripe.{AreFew}

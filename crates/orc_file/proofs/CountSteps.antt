@@ -6,17 +6,17 @@ use Rattle.std.proofs.Math.Seq.{take-suc}
 use Rattle.std.proofs.lemmas.Bool.{lt-ltb, le-ltb, ltb-true, and_parts}
 use Rattle.std.proofs.lemmas.Bool.Decides.{leb_tells}
 use Rattle.std.proofs.lemmas.List.{map-append, take_all, drop_all}
-use Rattle.orc_types.specs.declared.kind.Scalar.{Scalar}
-use Rattle.orc_types.specs.Shapes.{Shape, scalar, list_of, map_of, struct_of, Fields, no_field, field, width, widths}
-use Rattle.orc_types.specs.Cells.{Cell, null, leaf, list, struct, pairs, parts, keys_in, values_in, values}
-use Rattle.orc_types.specs.Columns.{cells, cells_within}
-use Rattle.orc_types.specs.Views.{view, views, paired, shape, fields as fields_view}
-use Rattle.orc_types.specs.declared.tree.Field.{Field}
-use Rattle.orc_types.specs.declared.value.Value.{Value}
-use Rattle.orc_types.specs.declared.value.MapPair.{MapPair}
-use Rattle.orc_types.proofs.ByColumn.{parts_values, keys_values, values_values}
-use Rattle.orc_types.proofs.Listed.{fields_from, widths_from}
-use Rattle.orc_types.proofs.Together.{cells-append}
+use Rattle.orc_values.specs.declared.kind.Scalar.{Scalar}
+use Rattle.orc_values.specs.Shapes.{Shape, scalar, list_of, map_of, struct_of, Fields, no_field, field, width, widths}
+use Rattle.orc_values.specs.Cells.{Cell, null, leaf, list, struct, pairs, parts, keys_in, values_in, values}
+use Rattle.orc_values.specs.Columns.{cells, cells_within}
+use Rattle.orc_values.specs.Views.{view, views, paired, shape, fields as fields_view}
+use Rattle.orc_values.specs.declared.tree.Field.{Field}
+use Rattle.orc_values.specs.declared.value.Value.{Value}
+use Rattle.orc_values.specs.declared.value.MapPair.{MapPair}
+use Rattle.orc_values.proofs.ByColumn.{parts_values, keys_values, values_values}
+use Rattle.orc_values.proofs.Listed.{fields_from, widths_from}
+use Rattle.orc_values.proofs.Together.{cells-append}
 use Rattle.orc_file.specs.Counts.{with_row, are_few}
 use Rattle.orc_file.specs.Counting.{IsMoreBy, AddsOne, AddsCells, AddsFields}
 use Rattle.orc_file.proofs.CountLemmas.{no_rows, no_structs, length-with_row, with_row_at}

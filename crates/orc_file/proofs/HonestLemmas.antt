@@ -3,10 +3,10 @@ use Rattle.std.specs.Prelude.{◌≡◌, ℕ, Bool, true, false, ◌&&◌, List,
 use Rattle.std.proofs.Common.{◌∙◌, sym, ap, refl, arith, length-append}
 use Rattle.std.specs.List.{flat_map, list_all}
 use Rattle.std.proofs.lemmas.List.Concat.{flat_map-cons}
-use Rattle.orc_types.specs.Cells.{Cell}
-use Rattle.orc_types.specs.Shapes.{Shape}
-use Rattle.orc_types.specs.Columns.{cells}
-use Rattle.orc_types.proofs.Together.{cells-append}
+use Rattle.orc_values.specs.Cells.{Cell}
+use Rattle.orc_values.specs.Shapes.{Shape}
+use Rattle.orc_values.specs.Columns.{cells}
+use Rattle.orc_values.proofs.Together.{cells-append}
 use Rattle.orc_stats.specs.declared.kind.StatKind.{StatKind}
 use Rattle.orc_stats.specs.Statistics.{stat}
 use Rattle.orc_stats.specs.Whole.{keeps_sum, whole}

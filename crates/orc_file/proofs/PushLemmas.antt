@@ -4,10 +4,10 @@ use Rattle.std.specs.Result.{OnOk, OnErr}
 use Rattle.std.proofs.lemmas.List.{length-map}
 use Rattle.orc_stripe_writer.specs.declared.options.Options.{Options}
 use Rattle.orc_wire.specs.declared.stripe_info.StripeInfo.{StripeInfo}
-use Rattle.orc_types.specs.Shapes.{Shape}
-use Rattle.orc_types.specs.Cells.{Cell}
-use Rattle.orc_types.specs.Views.{view, views}
-use Rattle.orc_types.specs.declared.value.Value.{Value}
+use Rattle.orc_values.specs.Shapes.{Shape}
+use Rattle.orc_values.specs.Cells.{Cell}
+use Rattle.orc_values.specs.Views.{view, views}
+use Rattle.orc_values.specs.declared.value.Value.{Value}
 use Rattle.orc_stats.specs.declared.stat.Stat.{Stat}
 use Rattle.orc_file.proofs.Spread.{HasKept, HasPushed}
 

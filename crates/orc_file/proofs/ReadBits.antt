@@ -20,7 +20,7 @@ use Rattle.orc_wire.specs.declared.stats_records.BucketStatistics.{BucketStatist
 use Rattle.orc_wire.specs.declared.stats_records.DateStatistics.{DateStatistics}
 use Rattle.orc_wire.specs.declared.stats_records.BinaryStatistics.{BinaryStatistics}
 use Rattle.orc_wire.specs.declared.stats_records.CollectionStatistics.{CollectionStatistics}
-use Rattle.orc_types.specs.Shapes.{Shape}
+use Rattle.orc_values.specs.Shapes.{Shape}
 use Rattle.orc_types.specs.Schemas.{HasTypes}
 use Rattle.orc_stats.specs.declared.kind.StatKind.{StatKind}
 use Rattle.orc_stats.specs.declared.kind.StatKind.TheVariants as kind

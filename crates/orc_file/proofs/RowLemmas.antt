@@ -4,8 +4,8 @@ use Rattle.std.proofs.Common.{◌∙◌, sym, ap, subst, refl, inl, inr, arith, 
 use Rattle.std.proofs.lemmas.List.Concat.{flat_map-cons}
 use Rattle.std.proofs.Math.Seq.{drop-append_seam, take-append_seam}
 use Rattle.orc_wire.specs.declared.stripe_info.StripeInfo.{StripeInfo}
-use Rattle.orc_types.specs.Cells.{Cell}
-use Rattle.orc_types.specs.Shapes.{Shape}
+use Rattle.orc_values.specs.Cells.{Cell}
+use Rattle.orc_values.specs.Shapes.{Shape}
 use Rattle.orc_stripe.proofs.OneStripe.{one_stripe}
 use Rattle.orc_file.specs.Stripes.{stripe_length, stripe_end, stripes_length, stripe_at, AllBefore, most_bytes}
 use Rattle.orc_file.specs.Tails.{tail_tests}

@@ -7,10 +7,10 @@ use Rattle.orc_rle.specs.declared.sign.Rle.TheVariants.{One, Two}
 use Rattle.orc_wire.specs.Fields.{varint, sized}
 use Rattle.orc_wire.specs.CanonicalText.{number_text, sized_text, known_text, list_text, packed_text}
 use Rattle.orc_wire.specs.CanonicalMessages.{metadata_text, footer_text, post_script_text, stripe_stats_text, stripe_info_text, column_stats_text}
-use Rattle.orc_types.specs.Shapes.{Shape, width}
+use Rattle.orc_values.specs.Shapes.{Shape, width}
 use Rattle.orc_types.specs.Schemas.{IsSchema}
-use Rattle.orc_types.specs.Cells.{Cell}
-use Rattle.orc_types.specs.Columns.{cells}
+use Rattle.orc_values.specs.Cells.{Cell}
+use Rattle.orc_values.specs.Columns.{cells}
 use Rattle.orc_stats.specs.declared.stat.Stat.{Stat}
 use Rattle.orc_stats.specs.Statistics.{stat, values_body}
 use Rattle.orc_stats.specs.Messages.{message_of}

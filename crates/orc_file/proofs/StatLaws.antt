@@ -7,7 +7,7 @@ use Rattle.std.proofs.lemmas.List.{length-map}
 use Rattle.orc_wire.specs.CanonicalKinds.{le_yes}
 use Rattle.orc_wire.specs.CanonicalMessages.{column_stats_text, integer_stats_text, string_stats_text, bucket_stats_text, date_stats_text, binary_stats_text, collection_stats_text}
 use Rattle.orc_wire.proofs.WholeLaws.{column_whole, integer_shown, string_shown, bucket_shown, date_shown, binary_shown, collection_shown}
-use Rattle.orc_types.specs.Shapes.{Shape, width}
+use Rattle.orc_values.specs.Shapes.{Shape, width}
 use Rattle.orc_stats.specs.declared.stat.Stat.{Stat}
 use Rattle.orc_stats.specs.declared.stat.Body.{Body}
 use Rattle.orc_stats.specs.declared.stat.Body.TheVariants as body

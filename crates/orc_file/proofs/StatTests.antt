@@ -4,11 +4,11 @@ use Rattle.std.specs.Prelude.{◌&&◌, ◌||◌, ◌==◌, nat_lt, slice_get}
 use Rattle.std.specs.List.{AllByRecursion, All, list_all}
 use Rattle.std.proofs.lemmas.Bool.{lt-ltb, and_parts, eq-eqb}
 use Rattle.std.proofs.lemmas.List.Folds.{list_all-append}
-use Rattle.orc_types.specs.Shapes.{Shape, width, shape_at}
-use Rattle.orc_types.specs.Cells.{Cell, values, null, leaf, list, struct, pairs}
-use Rattle.orc_types.specs.Columns.{cells}
-use Rattle.orc_types.specs.Fits.{RowsFit}
-use Rattle.orc_types.proofs.Together.{cells_fit}
+use Rattle.orc_values.specs.Shapes.{Shape, width, shape_at}
+use Rattle.orc_values.specs.Cells.{Cell, values, null, leaf, list, struct, pairs}
+use Rattle.orc_values.specs.Columns.{cells}
+use Rattle.orc_values.specs.Fits.{RowsFit}
+use Rattle.orc_values.proofs.Together.{cells_fit}
 use Rattle.orc_stats.specs.declared.kind.StatKind.{StatKind}
 use Rattle.orc_stats.specs.declared.kind.StatKind.TheVariants as kind
 use Rattle.orc_stats.specs.declared.stat.Stat.{Stat}

@@ -14,7 +14,7 @@ use Rattle.orc_wire.specs.Spells.{Spells, Faults}
 use Rattle.orc_wire.specs.SpellsCover.{some_spelled}
 use Rattle.orc_wire.proofs.KeptLaws.{kept_or_not}
 use Rattle.orc_wire.proofs.WholeLaws.{footer_kept}
-use Rattle.orc_types.specs.Shapes.{Shape, width}
+use Rattle.orc_values.specs.Shapes.{Shape, width}
 use Rattle.orc_types.specs.Schemas.{HasTypes}
 use Rattle.orc_types.proofs.Decisions.{Decided, both, same_number, at_most, same_numbers}
 use Rattle.orc_types.proofs.Cover.{SchemaCovered, schema_cover}

@@ -7,13 +7,13 @@ use Rattle.std.proofs.lemmas.Bool.{lt-ltb, ltb-true, and_parts, eqb-true, eq-eqb
 use Rattle.std.proofs.lemmas.List.{map-append, take_all, take-append-drop, length-take-le}
 use Rattle.orc_stripe_writer.specs.declared.options.Options.{Options}
 use Rattle.orc_wire.specs.declared.stripe_info.StripeInfo.{StripeInfo}
-use Rattle.orc_types.specs.Shapes.{Shape, scalar, list_of, map_of, struct_of, width}
+use Rattle.orc_values.specs.Shapes.{Shape, scalar, list_of, map_of, struct_of, width}
 use Rattle.orc_types.specs.Schemas.{IsSchema}
-use Rattle.orc_types.specs.Cells.{Cell, cells_of}
-use Rattle.orc_types.specs.Columns.{cells}
-use Rattle.orc_types.specs.Fits.{fits, all_fit, RowsFit}
-use Rattle.orc_types.specs.Views.{views}
-use Rattle.orc_types.specs.declared.value.Value.{Value}
+use Rattle.orc_values.specs.Cells.{Cell, cells_of}
+use Rattle.orc_values.specs.Columns.{cells}
+use Rattle.orc_values.specs.Fits.{fits, all_fit, RowsFit}
+use Rattle.orc_values.specs.Views.{views}
+use Rattle.orc_values.specs.declared.value.Value.{Value}
 use Rattle.orc_stats.specs.declared.stat.Stat.{Stat}
 use Rattle.orc_column_reader.specs.Stripe.{IsStripe}
 use Rattle.orc_stripe_writer.specs.WrittenStripe.{AreFew}

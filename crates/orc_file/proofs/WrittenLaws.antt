@@ -6,12 +6,12 @@ use Rattle.std.proofs.lemmas.Bool.{lt-ltb, eq-eqb}
 use Rattle.orc_stripe_writer.specs.declared.options.Options.{Options}
 use Rattle.orc_wire.specs.Canonical.{all_both}
 use Rattle.orc_wire.specs.CanonicalMessages.{column_stats_text, stripe_info_text}
-use Rattle.orc_types.specs.Shapes.{Shape, width, shape_at}
+use Rattle.orc_values.specs.Shapes.{Shape, width, shape_at}
 use Rattle.orc_types.specs.Schemas.{IsSchema}
-use Rattle.orc_types.specs.Cells.{Cell}
-use Rattle.orc_types.specs.Columns.{cells}
-use Rattle.orc_types.specs.Fits.{fits, RowsFit}
-use Rattle.orc_types.proofs.Together.{cells_fit}
+use Rattle.orc_values.specs.Cells.{Cell}
+use Rattle.orc_values.specs.Columns.{cells}
+use Rattle.orc_values.specs.Fits.{fits, RowsFit}
+use Rattle.orc_values.proofs.Together.{cells_fit}
 use Rattle.orc_stats.specs.declared.stat.Stat.{Stat}
 use Rattle.orc_stats.specs.Kinds.{is_of}
 use Rattle.orc_stats.specs.Statistics.{stat}

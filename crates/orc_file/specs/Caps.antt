@@ -4,8 +4,8 @@ use Rattle.std.specs.Prelude.{◌≡◌, ℕ, ◌+◌, ◌-◌, ◌^◌, ◌<◌
 use Rattle.std.specs.List.{AllByRecursion}
 use Rattle.orc_wire.specs.declared.stripe_info.StripeInfo.{StripeInfo}
 use Rattle.orc_wire.specs.declared.post_script.PostScript.{PostScript}
-use Rattle.orc_types.specs.Cells.{Cell}
-use Rattle.orc_types.specs.Shapes.{Shape}
+use Rattle.orc_values.specs.Cells.{Cell}
+use Rattle.orc_values.specs.Shapes.{Shape}
 use Rattle.orc_column_reader.specs.Stripe.{IsStripe}
 use Rattle.orc_file.specs.Layout.{script_length}
 use Rattle.orc_file.specs.Stripes.{stripe_length}

@@ -1,8 +1,8 @@
 -- How a cell that is counted changes the counts of the columns. They are counted up to the limit of a stripe.
 use Rattle.std.specs.Prelude.{◌≡◌, ◌≢◌, ℕ, ◌+◌, ◌<◌, ◌≤◌, ◌⊎◌, min, List, [], ◌∷◌, length, get_or}
-use Rattle.orc_types.specs.Shapes.{Shape, Fields, width, widths}
-use Rattle.orc_types.specs.Cells.{Cell}
-use Rattle.orc_types.specs.Columns.{cells, cells_within}
+use Rattle.orc_values.specs.Shapes.{Shape, Fields, width, widths}
+use Rattle.orc_values.specs.Cells.{Cell}
+use Rattle.orc_values.specs.Columns.{cells, cells_within}
 use Rattle.orc_column_reader.specs.Stripe.{cell_limit}
 
 -- one number is more than another by so many, where neither is above the limit

@@ -4,8 +4,8 @@ use Rattle.std.specs.Prelude.{◌≡◌, ◌≢◌, ℕ, ◌+◌, List, [], ◌�
 use Rattle.std.specs.List.{flat_map}
 use Rattle.orc_wire.specs.declared.stripe_info.StripeInfo.{StripeInfo}
 use Rattle.orc_wire.specs.declared.stripe_footer.StripeFooter.{StripeFooter}
-use Rattle.orc_types.specs.Cells.{Cell}
-use Rattle.orc_types.specs.Shapes.{Shape}
+use Rattle.orc_values.specs.Cells.{Cell}
+use Rattle.orc_values.specs.Shapes.{Shape}
 use Rattle.orc_column_reader.specs.Stripe.{HasFooter, IsStripe, columns_of}
 use Rattle.orc_stripe.specs.Opened.{Opened}
 use Rattle.orc_stripe.specs.Opening.{OpenFault}

@@ -1,8 +1,8 @@
 -- When a row more would pass a limit of a file, told by the rows pushed so far (limits: this project's).
 use Rattle.std.specs.Prelude.{◌≡◌, ℕ, ◌*◌, ◌<◌, ◌≤◌, ◌⊎◌, List, [], ◌∷◌, ◌++◌, length}
-use Rattle.orc_types.specs.Shapes.{Shape, width}
-use Rattle.orc_types.specs.Cells.{Cell}
-use Rattle.orc_types.specs.Columns.{cells}
+use Rattle.orc_values.specs.Shapes.{Shape, width}
+use Rattle.orc_values.specs.Cells.{Cell}
+use Rattle.orc_values.specs.Columns.{cells}
 use Rattle.orc_column_reader.specs.Stripe.{cell_limit}
 use Rattle.orc_stripe_writer.specs.declared.options.Options.{Options}
 use Rattle.orc_file.specs.Stripes.{most_stripes, most_rows}

@@ -9,7 +9,7 @@ use Rattle.orc_wire.specs.Members.{Member}
 use Rattle.orc_wire.specs.Spells.{Spells, Faults}
 use Rattle.orc_wire.specs.SpellsLaws.{one_spelled, none_spelled}
 use Rattle.orc_wire.specs.declared.type_msg.TypeMsg.{TypeMsg}
-use Rattle.orc_types.specs.Shapes.{Shape}
+use Rattle.orc_values.specs.Shapes.{Shape}
 use Rattle.orc_types.specs.Schemas.{HasTypes}
 use Rattle.orc_types.specs.Faults.{TypesFault}
 use Rattle.orc_types.specs.declared.fault.TypeFault.{TypeFault}

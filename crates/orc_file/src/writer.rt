@@ -1,10 +1,10 @@
 //! A writer of a file.
 ghost use Rattle.std.specs.Prelude.{◌≡◌, ◌+◌, ◌<◌, ◌≤◌, ℕ, length, get_or, true, false};
-ghost use Rattle.orc_types.specs.Shapes.{width};
-ghost use Rattle.orc_types.specs.Cells.{cells_of};
-ghost use Rattle.orc_types.specs.Columns as columns;
-ghost use Rattle.orc_types.specs.Fits as fitting;
-ghost use Rattle.orc_types.specs.Views.{views};
+ghost use Rattle.orc_values.specs.Shapes.{width};
+ghost use Rattle.orc_values.specs.Cells.{cells_of};
+ghost use Rattle.orc_values.specs.Columns as columns;
+ghost use Rattle.orc_values.specs.Fits as fitting;
+ghost use Rattle.orc_values.specs.Views.{views};
 ghost use Rattle.orc_file.specs.Stripes.{stripes_length, stripes_rows, most_stripes, most_rows, most_bytes};
 ghost use Rattle.orc_file.specs.Counts.{are_laid_with_few_rows, are_few, are_all_stats};
 
@@ -18,7 +18,8 @@ pub use file_stats::file_statistics;
 use orc_io::Sink;
 use orc_stats::Stat;
 use orc_stripe::Options;
-use orc_types::{Row, Schema};
+use orc_types::Schema;
+use orc_values::Row;
 use orc_wire::{Items, StripeInfo};
 use std::alloc::Global;
 

@@ -2,7 +2,8 @@
 
 use orc_file::{FileFault, OrcFile, Sink, Source, Tail, Writer};
 use orc_stripe::{Options, StripeFault, StripeView};
-use orc_types::{Row, Schema};
+use orc_types::Schema;
+use orc_values::Row;
 use std::alloc::Global;
 
 /// A file, or the fault and its source.

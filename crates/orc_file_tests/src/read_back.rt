@@ -1,8 +1,8 @@
 //! A caller that opens a file in memory and reads its rows. Its clauses rest on the public ones of `orc_file` alone: that the
 //! rows of a file come back, and that nothing but want of memory may refuse them.
 ghost use Rattle.std.specs.Prelude.{◌≡◌, List, MatchResult, IfOk};
-ghost use Rattle.orc_types.specs.Cells.{Cell};
-ghost use Rattle.orc_types.specs.Views.{views};
+ghost use Rattle.orc_values.specs.Cells.{Cell};
+ghost use Rattle.orc_values.specs.Views.{views};
 ghost use Rattle.orc_file.specs.FileRows.{FileIs};
 ghost use Rattle.orc_file.specs.declared.tail.Tail.{Tail};
 ghost use Rattle.orc_file.specs.declared.fault.FileFault.TheVariants.{OutOfMemory};
@@ -11,7 +11,7 @@ use crate::assertions::check_same;
 use crate::rows_of_files::have_numbers;
 use orc_file::{FileFault, OrcFile, SliceSource};
 use orc_test_io::UPWARDS;
-use orc_types::Row;
+use orc_values::Row;
 use std::alloc::Global;
 
 /// The rows of the file with these bytes, or why there are none.

@@ -6,7 +6,7 @@ use orc_file::{FileFault, OrcFile, SliceSource, Source};
 use orc_rle::RunFault;
 use orc_stripe::{StreamKind, StripeFault};
 use orc_test_io::{FailSource, SEVENS, TWICE, UPWARDS};
-use orc_types::{Row, Value};
+use orc_values::{Row, Value};
 use std::alloc::Global;
 
 /// The number that a value is.

@@ -6,7 +6,8 @@ use orc_file::{FileFault, Sink, Tail, VecSink, Writer};
 use orc_rle::Rle;
 use orc_stripe::Options;
 use orc_test_io::{FailSink, Full, SEVENS};
-use orc_types::{Row, Schema, Value};
+use orc_types::Schema;
+use orc_values::{Row, Value};
 use std::alloc::Global;
 use std::process::Abort;
 

@@ -1,10 +1,10 @@
 -- The readers of all columns.
 use Rattle.std.proofs.Common.{◌≡◌, true, ℕ, zero, suc, ◌<◌, Some, List, [], ◌∷◌, ◌++◌, length, refl, sym, ap, ◌∙◌, subst, arith, inl, inr, ◌⊎◌, slice_get, length-append}
-use Rattle.orc_types.specs.Cells.{Cell}
-use Rattle.orc_types.specs.Columns.{cells}
-use Rattle.orc_types.specs.Fits.{fits}
-use Rattle.orc_types.specs.Shapes.{Shape, width, shape_at}
-use Rattle.orc_types.proofs.Together.{cells-append}
+use Rattle.orc_values.specs.Cells.{Cell}
+use Rattle.orc_values.specs.Columns.{cells}
+use Rattle.orc_values.specs.Fits.{fits}
+use Rattle.orc_values.specs.Shapes.{Shape, width, shape_at}
+use Rattle.orc_values.proofs.Together.{cells-append}
 use Rattle.orc_wire.specs.declared.row_index.RowIndexEntry.{RowIndexEntry}
 use Rattle.orc_column_reader.specs.Columns.{CellsLeft}
 use Rattle.orc_column_reader.specs.declared.column.ColumnReader.{ColumnReader}

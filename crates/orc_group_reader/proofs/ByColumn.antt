@@ -4,11 +4,11 @@ use Rattle.std.proofs.lemmas.Bool.{lt-ltb, le-ltb}
 use Rattle.std.proofs.lemmas.List.{length-map, length-take-le}
 use Rattle.std.proofs.lemmas.Option.{slice_get_within}
 use Rattle.std.specs.List.{flat_map}
-use Rattle.orc_types.specs.Cells.{Cell, parts, pairs_in, keys_in, values_in, values}
-use Rattle.orc_types.specs.Shapes.{Shape, scalar, list_of, map_of, struct_of, Fields, no_field, field, width, widths, shape_at, shape_within}
-use Rattle.orc_types.specs.Fits.{RowsFit}
-use Rattle.orc_types.specs.Columns.{cells, cells_within}
-use Rattle.orc_types.proofs.Together.{keys_fit, values_fit}
+use Rattle.orc_values.specs.Cells.{Cell, parts, pairs_in, keys_in, values_in, values}
+use Rattle.orc_values.specs.Shapes.{Shape, scalar, list_of, map_of, struct_of, Fields, no_field, field, width, widths, shape_at, shape_within}
+use Rattle.orc_values.specs.Fits.{RowsFit}
+use Rattle.orc_values.specs.Columns.{cells, cells_within}
+use Rattle.orc_values.proofs.Together.{keys_fit, values_fit}
 use Rattle.orc_column_reader.specs.Columns.{CellsLeft, FieldsLeft}
 use Rattle.orc_column_reader.specs.Spellings.{joined}
 use Rattle.orc_column_reader.specs.declared.column.ColumnReader.{ColumnReader}

@@ -2,9 +2,9 @@
 use Rattle.std.proofs.Common.{◌≡◌, ℕ, ◌+◌, ◌≤◌, true, Option, Some, None, List, [], ◌∷◌, ◌++◌, length, map, take, drop, get_or, replicate, refl, sym, ap, ◌∙◌, subst, arith, length-append}
 use Rattle.std.proofs.lemmas.List.{length-map}
 use Rattle.orc_positions.specs.BitPosition.{BeginsBits}
-use Rattle.orc_types.specs.Cells.{Cell, is_value}
-use Rattle.orc_types.specs.Shapes.{Shape}
-use Rattle.orc_types.proofs.Together.{values-append}
+use Rattle.orc_values.specs.Cells.{Cell, is_value}
+use Rattle.orc_values.specs.Shapes.{Shape}
+use Rattle.orc_values.proofs.Together.{values-append}
 use Rattle.orc_column_reader.specs.Columns.{MarksLeft}
 use Rattle.orc_column_reader.specs.Stripe.{Streams, Marks, SpellsValues}
 use Rattle.orc_column_reader.specs.declared.bits.Bits.{Bits}

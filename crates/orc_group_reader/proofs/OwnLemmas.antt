@@ -3,9 +3,9 @@ use Rattle.std.proofs.Common.{◌≡◌, ℕ, Bool, true, false, Option, Some, N
 use Rattle.std.specs.declared.vec.Vec.{Vec}
 use Rattle.std.specs.declared.alloc.Global.{Global}
 use Rattle.orc_positions.specs.BitPosition.{BeginsBits}
-use Rattle.orc_types.specs.Cells.{Cell, values}
-use Rattle.orc_types.specs.Shapes.{Shape, scalar, list_of, map_of, struct_of}
-use Rattle.orc_types.specs.declared.kind.Scalar.TheVariants as kind
+use Rattle.orc_values.specs.Cells.{Cell, values}
+use Rattle.orc_values.specs.Shapes.{Shape, scalar, list_of, map_of, struct_of}
+use Rattle.orc_values.specs.declared.kind.Scalar.TheVariants as kind
 use Rattle.orc_column_reader.specs.Columns.{entry_bytes}
 use Rattle.orc_column_reader.specs.Starting.{HasNoDictionary, LacksEntries}
 use Rattle.orc_column_reader.specs.Stripe.{Streams, version, version_at, uses_dictionary, has_dictionary, IsDictionary, SpellsTexts, SpellsValues}

@@ -1,7 +1,7 @@
 -- A column is refused where one of its streams is.
 use Rattle.std.proofs.Common.{◌≡◌, ℕ, ◌+◌, Option, Some, None, List, length, drop, sym, ap, ◌∙◌, subst, inl, inr}
 use Rattle.orc_rle.specs.declared.fault.RunFault.{RunFault}
-use Rattle.orc_types.specs.Shapes.{Shape}
+use Rattle.orc_values.specs.Shapes.{Shape}
 use Rattle.orc_column_reader.specs.Stripe.{Streams, has_dictionary}
 use Rattle.orc_column_reader.specs.declared.fault.StreamKind.{StreamKind}
 use Rattle.orc_column_reader.specs.declared.fault.StripeFault.{StripeFault}

@@ -5,11 +5,11 @@ use Rattle.std.proofs.lemmas.List.{map-append, length-map, length-take-le}
 use Rattle.std.proofs.lemmas.List.Sums.{sum_by-append}
 use Rattle.std.proofs.lemmas.Option.{slice_get_within}
 use Rattle.std.specs.List.{flat_map}
-use Rattle.orc_types.specs.Cells.{Cell, null, leaf, list, struct, pairs, is_value, parts, pairs_in, keys_in, values_in, values}
-use Rattle.orc_types.specs.Columns.{cells, cells_within}
-use Rattle.orc_types.specs.Fits.{RowsFit}
-use Rattle.orc_types.specs.Shapes.{Shape, scalar, list_of, map_of, struct_of, Fields, no_field, field, width, widths, shape_at, shape_within}
-use Rattle.orc_types.proofs.Together.{keys_fit, values_fit}
+use Rattle.orc_values.specs.Cells.{Cell, null, leaf, list, struct, pairs, is_value, parts, pairs_in, keys_in, values_in, values}
+use Rattle.orc_values.specs.Columns.{cells, cells_within}
+use Rattle.orc_values.specs.Fits.{RowsFit}
+use Rattle.orc_values.specs.Shapes.{Shape, scalar, list_of, map_of, struct_of, Fields, no_field, field, width, widths, shape_at, shape_within}
+use Rattle.orc_values.proofs.Together.{keys_fit, values_fit}
 use Rattle.orc_column_reader.specs.Columns.{MarksFirst}
 use Rattle.orc_column_reader.specs.Faults.{ValuesFail, FaultBelow, FaultWithin, FaultDown, lengths_of}
 use Rattle.orc_column_reader.specs.Needs.{trues, MarksBegin, ValuesNeeded, ElementsNeeded}

@@ -8,10 +8,10 @@ use Rattle.orc_rle.specs.BitStream.{IsBitStream}
 use Rattle.orc_rle.specs.ByteRun.{IsByteRun}
 use Rattle.orc_rle.specs.Stream.{IsStream}
 use Rattle.orc_rle.specs.declared.sign.Sign.TheVariants.{Signed, Unsigned}
-use Rattle.orc_types.specs.Cells.{Cell, parts, pairs_in}
-use Rattle.orc_types.specs.Shapes.{Shape, scalar, list_of, map_of, struct_of}
-use Rattle.orc_types.specs.declared.kind.Scalar.{Scalar}
-use Rattle.orc_types.specs.declared.kind.Scalar.TheVariants as kind
+use Rattle.orc_values.specs.Cells.{Cell, parts, pairs_in}
+use Rattle.orc_values.specs.Shapes.{Shape, scalar, list_of, map_of, struct_of}
+use Rattle.orc_values.specs.declared.kind.Scalar.{Scalar}
+use Rattle.orc_values.specs.declared.kind.Scalar.TheVariants as kind
 use Rattle.orc_column_reader.specs.Bits.{BitsLeft}
 use Rattle.orc_column_reader.specs.Bytes.{BytesLeft}
 use Rattle.orc_column_reader.specs.Columns.{IsBool, IsByte, IsInt, IsDate, IsText, IsBinary, IsWord, entry_bytes, GroupsLeft, TextsLeft, ScalarLeft}

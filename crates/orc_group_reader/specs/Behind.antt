@@ -2,10 +2,10 @@
 use Rattle.std.specs.Prelude.{◌≡◌, ℕ, ◌+◌, ◌*◌, ◌≤◌, Bool, true, false, List, ◌++◌, length, map}
 use Rattle.orc_rle.specs.ByteRun.{IsByteRun}
 use Rattle.orc_rle.specs.Stream.{IsStream}
-use Rattle.orc_types.specs.Cells.{Cell, is_value, parts, pairs_in, values}
-use Rattle.orc_types.specs.Shapes.{Shape, scalar, list_of, map_of, struct_of}
-use Rattle.orc_types.specs.declared.kind.Scalar.{Scalar}
-use Rattle.orc_types.specs.declared.kind.Scalar.TheVariants as kind
+use Rattle.orc_values.specs.Cells.{Cell, is_value, parts, pairs_in, values}
+use Rattle.orc_values.specs.Shapes.{Shape, scalar, list_of, map_of, struct_of}
+use Rattle.orc_values.specs.declared.kind.Scalar.{Scalar}
+use Rattle.orc_values.specs.declared.kind.Scalar.TheVariants as kind
 use Rattle.orc_column_reader.specs.Faults.{lengths_of}
 use Rattle.orc_column_reader.specs.Needs.{MarksBegin}
 use Rattle.orc_column_reader.specs.RunFaults.{IntegersFirst}

@@ -1,8 +1,8 @@
 -- Rows that are read on from the positions of each column (ORC specification, "Row Group Index").
 use Rattle.std.specs.Prelude.{◌≡◌, ℕ, ◌<◌, Some, List, ◌++◌, length, slice_get}
-use Rattle.orc_types.specs.Cells.{Cell}
-use Rattle.orc_types.specs.Columns.{cells}
-use Rattle.orc_types.specs.Shapes.{Shape, width, shape_at}
+use Rattle.orc_values.specs.Cells.{Cell}
+use Rattle.orc_values.specs.Columns.{cells}
+use Rattle.orc_values.specs.Shapes.{Shape, width, shape_at}
 use Rattle.orc_wire.specs.declared.row_index.RowIndexEntry.{RowIndexEntry}
 use Rattle.orc_column_reader.specs.Stripe.{Streams, SpellRows}
 use Rattle.orc_column_reader.specs.declared.fault.StripeFault.{StripeFault}

@@ -1,6 +1,6 @@
 //! The entries of a column's dictionary.
 ghost use Rattle.std.specs.Prelude.{◌≡◌, ◌≢◌, IfOk, IfErr};
-ghost use Rattle.orc_types.specs.Views.{shape};
+ghost use Rattle.orc_values.specs.Views.{shape};
 ghost use Rattle.orc_column_reader.specs.Faults.{EntriesFail, WordsOfFail};
 ghost use Rattle.orc_column_reader.specs.Starting.{AreStreams, HasNoDictionary, LacksEntries};
 ghost use Rattle.orc_column_reader.specs.Stripe.{Streams};
@@ -11,7 +11,7 @@ use orc_column_reader::column::Entry;
 use orc_column_reader::dictionary::entries_of;
 use orc_column_reader::fault::StripeFault;
 use orc_column_reader::starting::ColumnStreams;
-use orc_types::{Scalar, Tree};
+use orc_values::{Scalar, Tree};
 use std::alloc::Global;
 
 /// Those of a column of texts, where it has a dictionary.

@@ -1,9 +1,9 @@
 //! Laws of readers that stand at positions. The function does nothing: its contract is what it is for.
 ghost use Rattle.std.specs.Prelude.{◌≡◌, ◌+◌, ℕ, Bool, Some, List, length, slice_get};
-ghost use Rattle.orc_types.specs.Cells.{Cell};
-ghost use Rattle.orc_types.specs.Columns.{cells};
-ghost use Rattle.orc_types.specs.Fits.{RowsFit};
-ghost use Rattle.orc_types.specs.Shapes.{Shape, shape_at};
+ghost use Rattle.orc_values.specs.Cells.{Cell};
+ghost use Rattle.orc_values.specs.Columns.{cells};
+ghost use Rattle.orc_values.specs.Fits.{RowsFit};
+ghost use Rattle.orc_values.specs.Shapes.{Shape, shape_at};
 ghost use Rattle.orc_wire.specs.declared.row_index.RowIndexEntry.{RowIndexEntry as IndexEntry};
 ghost use Rattle.orc_column_reader.specs.Faults.{FaultDown};
 ghost use Rattle.orc_column_reader.specs.ReaderFaults.{CellsMeet};

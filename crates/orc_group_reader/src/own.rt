@@ -1,7 +1,7 @@
 //! What a column's values are read from, from its positions on.
 ghost use Rattle.std.specs.Prelude.{◌≡◌, ◌≢◌, ◌++◌, ℕ, List, IfOk, IfErr, MatchResult};
-ghost use Rattle.orc_types.specs.Cells.{Cell, values};
-ghost use Rattle.orc_types.specs.Views.{shape};
+ghost use Rattle.orc_values.specs.Cells.{Cell, values};
+ghost use Rattle.orc_values.specs.Views.{shape};
 ghost use Rattle.orc_column_reader.specs.Starting.{AreStreams};
 ghost use Rattle.orc_column_reader.specs.Stripe.{Streams};
 ghost use Rattle.orc_column_reader.specs.declared.fault.StripeFault.TheVariants.{OutOfMemory};
@@ -20,7 +20,7 @@ use orc_column_reader::column::ValueSource;
 use orc_column_reader::fault::{Spot, StreamKind, StripeFault};
 use orc_column_reader::starting::ColumnStreams;
 use orc_row_index::{own_kind, placed_streams};
-use orc_types::Tree;
+use orc_values::Tree;
 use std::alloc::Global;
 
 /// The source of a column's values, from the positions of its streams beside PRESENT on.

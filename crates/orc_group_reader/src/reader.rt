@@ -1,7 +1,7 @@
 //! A column's reader, from its positions on.
 ghost use Rattle.std.specs.Prelude.{◌≡◌, ◌≢◌, ◌++◌, ◌+◌, List, length, IfOk, IfErr, MatchResult};
-ghost use Rattle.orc_types.specs.Cells.{Cell};
-ghost use Rattle.orc_types.specs.Views.{shape};
+ghost use Rattle.orc_values.specs.Cells.{Cell};
+ghost use Rattle.orc_values.specs.Views.{shape};
 ghost use Rattle.orc_column_reader.specs.Starting.{AreStreams};
 ghost use Rattle.orc_column_reader.specs.Stripe.{Streams};
 ghost use Rattle.orc_column_reader.specs.declared.fault.StripeFault.TheVariants.{OutOfMemory};
@@ -18,7 +18,7 @@ use orc_column_reader::column::ColumnReader;
 use orc_column_reader::fault::{Spot, StreamKind, StripeFault};
 use orc_column_reader::starting::ColumnStreams;
 use orc_row_index::{PlacedStreams, placed_streams};
-use orc_types::Tree;
+use orc_values::Tree;
 use std::alloc::Global;
 
 /// How many numbers the positions of bytes as they are have, where a column has such.

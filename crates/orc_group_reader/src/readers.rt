@@ -1,8 +1,8 @@
 //! The readers of all columns, each from its positions on.
 ghost use Rattle.std.specs.Prelude.{◌≡◌, ◌≢◌, ℕ, List, length, IfOk, IfErr, MatchResult};
-ghost use Rattle.orc_types.specs.Cells.{Cell};
-ghost use Rattle.orc_types.specs.Shapes.{width};
-ghost use Rattle.orc_types.specs.Views.{shape};
+ghost use Rattle.orc_values.specs.Cells.{Cell};
+ghost use Rattle.orc_values.specs.Shapes.{width};
+ghost use Rattle.orc_values.specs.Views.{shape};
 ghost use Rattle.orc_column_reader.specs.Columns.{CellsLeft};
 ghost use Rattle.orc_column_reader.specs.Located.{AreLocated};
 ghost use Rattle.orc_column_reader.specs.Stripe.{Streams, columns_of};
@@ -15,7 +15,7 @@ use orc_column_reader::column::ColumnReader;
 use orc_column_reader::fault::StripeFault;
 use orc_column_reader::located::Located;
 use orc_column_reader::starting::streams_of;
-use orc_types::{Tree, tree_at, width_of};
+use orc_values::{Tree, tree_at, width_of};
 use orc_wire::{RowIndexEntry, StripeFooter};
 use std::alloc::Global;
 

@@ -3,19 +3,19 @@ use Rattle.std.proofs.Common.{◌≡◌, ℕ, zero, suc, ◌+◌, ◌<◌, List,
 use Rattle.std.proofs.lemmas.List.{get_or-map, drop_all, length-map}
 use Rattle.std.specs.BTreeMap.{insert_entry}
 use Rattle.serde_json.specs.Data.{no_members, put}
-use Rattle.orc_types.specs.Shapes.{Shape, width, widths}
+use Rattle.orc_values.specs.Shapes.{Shape, width, widths}
 use Rattle.orc_types.specs.JsonPrinting.{members_json}
 use Rattle.serde_json.specs.Written.{comma_if}
-use Rattle.orc_types.specs.Cells.{Cell, null, leaf, list, struct, pairs, cells_of}
-use Rattle.orc_types.specs.Childless.{childless}
-use Rattle.orc_types.specs.Views.{shape, fields, name_and_type, fields_of, view, views, paired}
-use Rattle.orc_types.specs.declared.kind.Scalar.{Scalar as Kind}
-use Rattle.orc_types.specs.declared.tree.Field.{Field}
-use Rattle.orc_types.specs.declared.tree.Tree.{Tree, Scalar as TreeScalar, List as TreeList, Map as TreeMap, Struct as TreeStruct}
-use Rattle.orc_types.specs.declared.value.Value.{Value, List as Rows, Struct as Parts, Map as MapOf}
-use Rattle.orc_types.specs.declared.value.MapPair.{MapPair}
-use Rattle.orc_types.proofs.Listed.{widths_from}
-use Rattle.orc_types.proofs.Views.{shape-Scalar, shape-List, shape-Map, shape-Struct, view-List, view-Struct, view-Map, list_of-views, list_of-paired, name_and_type-is}
+use Rattle.orc_values.specs.Cells.{Cell, null, leaf, list, struct, pairs, cells_of}
+use Rattle.orc_values.specs.Childless.{childless}
+use Rattle.orc_values.specs.Views.{shape, fields, name_and_type, fields_of, view, views, paired}
+use Rattle.orc_values.specs.declared.kind.Scalar.{Scalar as Kind}
+use Rattle.orc_values.specs.declared.tree.Field.{Field}
+use Rattle.orc_values.specs.declared.tree.Tree.{Tree, Scalar as TreeScalar, List as TreeList, Map as TreeMap, Struct as TreeStruct}
+use Rattle.orc_values.specs.declared.value.Value.{Value, List as Rows, Struct as Parts, Map as MapOf}
+use Rattle.orc_values.specs.declared.value.MapPair.{MapPair}
+use Rattle.orc_values.proofs.Listed.{widths_from}
+use Rattle.orc_values.proofs.Views.{shape-Scalar, shape-List, shape-Map, shape-Struct, view-List, view-Struct, view-Map, list_of-views, list_of-paired, name_and_type-is}
 use Rattle.orc_json.specs.Layouts.{Part, PairTexts, text_by, part, member_parts, pair_texts, leaf_text, list_text, map_text, struct_text, elements_text, pair_text, pairs_text, parts_text}
 use Rattle.orc_json.specs.Texts.{Prints, PrintsStruct, no_name, shape_in, json_in, members_at, ArePlacesInOrder}
 use Rattle.orc_json.specs.declared.layout.Layout.{Layout, Leaf, List as ListOf, Map as MapLayout, Struct}

@@ -7,13 +7,13 @@ use Rattle.std.specs.BTreeMap.{insert_entry}
 use Rattle.json.specs.Print.{quoted}
 use Rattle.serde_json.specs.Data.{Data, Members, no_members, put}
 use Rattle.serde_json.specs.Written.{compact_text, comma_if, items_text, members_text}
-use Rattle.orc_types.specs.Shapes.{Shape, scalar, list_of, map_of, struct_of}
-use Rattle.orc_types.specs.Cells.{Cell, null, leaf, list, struct, pairs, Cells, end, more, Pairs, no_pair, pair, cells_of, list_of_cells, list_of_pairs}
-use Rattle.orc_types.specs.Fits.{fits, all_fit, pairs_fit, each_fits}
+use Rattle.orc_values.specs.Shapes.{Shape, scalar, list_of, map_of, struct_of}
+use Rattle.orc_values.specs.Cells.{Cell, null, leaf, list, struct, pairs, Cells, end, more, Pairs, no_pair, pair, cells_of, list_of_cells, list_of_pairs}
+use Rattle.orc_values.specs.Fits.{fits, all_fit, pairs_fit, each_fits}
 use Rattle.orc_types.specs.JsonPrinting.{json_of, each_json, pair_json, pairs_json, members_json}
-use Rattle.orc_types.specs.Views.{fields_of}
-use Rattle.orc_types.specs.declared.kind.Scalar.{Scalar}
-use Rattle.orc_types.proofs.Views.{cells_of-list_of_cells}
+use Rattle.orc_values.specs.Views.{fields_of}
+use Rattle.orc_values.specs.declared.kind.Scalar.{Scalar}
+use Rattle.orc_values.proofs.Views.{cells_of-list_of_cells}
 use Rattle.orc_json.specs.Layouts.{Part, PairTexts, leaf_text, elements_text, pair_text, pairs_text, parts_text, list_text, map_text, struct_text}
 use Rattle.orc_json.specs.Texts.{Prints, PrintsStruct, no_name, shape_in, cell_in, json_in, members_at, ArePlacesInOrder, AreWithin}
 

@@ -1,7 +1,7 @@
 -- The text that a layout prints of a cell.
 use Rattle.std.specs.Prelude.{ℕ, List, [], ◌∷◌, ◌++◌, Bool, true, false, map, get_or}
 use Rattle.serde_json.specs.Written.{compact_text, comma_if}
-use Rattle.orc_types.specs.Cells.{Cell, null, leaf, list, struct, pairs, list_of_cells, list_of_pairs}
+use Rattle.orc_values.specs.Cells.{Cell, null, leaf, list, struct, pairs, list_of_cells, list_of_pairs}
 use Rattle.orc_types.specs.JsonPrinting.{scalar_json}
 use Rattle.orc_json.specs.declared.layout.Layout.{Layout, fold-Layout}
 use Rattle.orc_json.specs.declared.layout.Member.{Member, fold-Member}

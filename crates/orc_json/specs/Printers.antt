@@ -1,6 +1,6 @@
 -- The fields of a `RowPrinter`.
 use Rattle.std.specs.Prelude.{◌≡◌}
-use Rattle.orc_types.specs.Shapes.{Shape}
+use Rattle.orc_values.specs.Shapes.{Shape}
 use Rattle.orc_types.specs.FieldNames.{is_distinct}
 use Rattle.orc_json.specs.Layouts.{text_by}
 use Rattle.orc_json.specs.Texts.{Prints}

@@ -4,12 +4,12 @@ use Rattle.std.specs.List.{AllByRecursion}
 use Rattle.std.specs.declared.alloc.Global.{Global}
 use Rattle.serde_json.specs.Data.{Data, Members, no_members, member}
 use Rattle.serde_json.specs.Written.{compact_text}
-use Rattle.orc_types.specs.declared.kind.Scalar.TheVariants as kind
-use Rattle.orc_types.specs.Shapes.{Shape, scalar, struct_of}
-use Rattle.orc_types.specs.Cells.{Cell, null, cells_of}
-use Rattle.orc_types.specs.Fits.{fits}
+use Rattle.orc_values.specs.declared.kind.Scalar.TheVariants as kind
+use Rattle.orc_values.specs.Shapes.{Shape, scalar, struct_of}
+use Rattle.orc_values.specs.Cells.{Cell, null, cells_of}
+use Rattle.orc_values.specs.Fits.{fits}
 use Rattle.orc_types.specs.JsonPrinting.{json_of, members_json}
-use Rattle.orc_types.specs.Views.{fields_of}
+use Rattle.orc_values.specs.Views.{fields_of}
 
 -- of each row of the type the text is that of its JSON
 abbrev pub Prints : (Cell → List ℕ) → Shape → Type 0

@@ -2,13 +2,13 @@
 ghost use Rattle.std.specs.Prelude.{◌≡◌, ◌<◌, ◌^◌, ◌++◌, ◌∷◌, [], IfOk, length, map};
 ghost use Rattle.json.specs.Print.{quoted};
 ghost use Rattle.serde_json.specs.Written.{comma_if};
-ghost use Rattle.orc_types.specs.Shapes.{width, widths};
-ghost use Rattle.orc_types.specs.Views.{shape, fields as fields_view, name_and_type};
+ghost use Rattle.orc_values.specs.Shapes.{width, widths};
+ghost use Rattle.orc_values.specs.Views.{shape, fields as fields_view, name_and_type};
 ghost use Rattle.orc_json.specs.Layouts.{text_by, member_parts, struct_text};
 ghost use Rattle.orc_json.specs.Texts.{Prints, PrintsStruct, ArePlacesInOrder, AreWithin};
 
 use crate::quoted::push_quoted;
-use orc_types::{Field, Tree, width_of};
+use orc_values::{Field, Tree, width_of};
 use std::alloc::{AllocError, Global};
 use std::collections::BTreeMap;
 

@@ -6,14 +6,14 @@ ghost use Rattle.serde_json.specs.Written.{compact_text};
 ghost use Rattle.std.specs.Fmt.{signed_decimal};
 ghost use Rattle.orc_types.specs.Days.{has_text as spec_has_text};
 ghost use Rattle.orc_types.specs.JsonLeaves.{date_json};
-ghost use Rattle.orc_types.specs.Own.{own_cell};
+ghost use Rattle.orc_values.specs.Own.{own_cell};
 ghost use Rattle.orc_json.specs.Growth.{Grows};
 ghost use Rattle.orc_json.specs.Layouts.{leaf_text};
 
 use crate::quoted::push_quoted;
 use jiff_core::civil;
 use jiff_fmt::temporal::DateTimePrinter;
-use orc_types::Own;
+use orc_values::Own;
 use std::alloc::{AllocError, Global};
 
 /// The first day that has a text: 0001-01-01.

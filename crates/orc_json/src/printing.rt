@@ -1,14 +1,14 @@
 //! Rows as text, by a layout.
 ghost use Rattle.std.specs.Prelude.{◌≡◌, ◌++◌, ◌∷◌, false, get_or, map, OnOk};
 ghost use Rattle.serde_json.specs.Written.{comma_if};
-ghost use Rattle.orc_types.specs.Cells.{null};
-ghost use Rattle.orc_types.specs.Views.{view, views, paired};
+ghost use Rattle.orc_values.specs.Cells.{null};
+ghost use Rattle.orc_values.specs.Views.{view, views, paired};
 ghost use Rattle.orc_json.specs.Growth.{Grows};
 ghost use Rattle.orc_json.specs.Layouts.{text_by, member_parts, elements_text, pair_text, pair_texts, pairs_text, parts_text};
 
 use crate::layout::{Layout, Member, PairLayout};
 use crate::leaf_text::push_own;
-use orc_types::{MapPair, Row, Value, own_of};
+use orc_values::{MapPair, Row, Value, own_of};
 use std::alloc::{AllocError, Global};
 
 /// Appends the text of a row.

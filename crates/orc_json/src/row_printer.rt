@@ -2,9 +2,9 @@
 ghost use Rattle.std.specs.Prelude.{◌≡◌, ◌≢◌, ◌++◌, true, false, IfOk, OnOk, IfErr, OnErr, MatchOption};
 ghost use Rattle.serde_json.specs.Written.{compact_text};
 ghost use Rattle.orc_types.specs.FieldNames.{is_distinct};
-ghost use Rattle.orc_types.specs.Fits.{fits};
+ghost use Rattle.orc_values.specs.Fits.{fits};
 ghost use Rattle.orc_types.specs.JsonPrinting.{json_of};
-ghost use Rattle.orc_types.specs.Views.{view};
+ghost use Rattle.orc_values.specs.Views.{view};
 ghost use Rattle.orc_types.specs.declared.json_fault.JsonFault.TheVariants as fault;
 ghost use Rattle.orc_json.specs.Growth.{Grows};
 ghost use Rattle.orc_json.specs.Layouts.{text_by};
@@ -12,7 +12,8 @@ ghost use Rattle.orc_json.specs.Texts.{Prints};
 
 use crate::layout::{Layout, layout_of};
 use crate::printing::push_text;
-use orc_types::{JsonFault, Row, Schema, row_to_json};
+use orc_types::{JsonFault, Schema, row_to_json};
+use orc_values::Row;
 use std::alloc::{AllocError, Global};
 use std::marker::Model;
 use std::snapshot::Snapshot;
@@ -28,8 +29,8 @@ pub struct RowPrinter {
 }
 
 impl Model for RowPrinter {
-    ghost use Rattle.orc_types.specs.Shapes.{Shape};
-    ghost use Rattle.orc_types.specs.Coding.{coded_shape};
+    ghost use Rattle.orc_values.specs.Shapes.{Shape};
+    ghost use Rattle.orc_values.specs.Coding.{coded_shape};
     ghost use Rattle.orc_json.specs.Printers.{shape_of, PrintsRows};
 
     ghost Value = { Shape };

@@ -9,14 +9,14 @@ use Rattle.json.specs.Json.{read_key}
 use Rattle.serde_json.specs.Data.{Data, object, Members, no_members, member, put}
 use Rattle.serde_json.specs.Find.{get_member}
 use Rattle.serde_json.proofs.Views.{get_member-put, get_member-put_other}
-use Rattle.orc_types.specs.Cells.{Cells, end, more, cells_of}
+use Rattle.orc_values.specs.Cells.{Cells, end, more, cells_of}
 use Rattle.orc_types.specs.FieldNames.{is_among, all_differ, all_known}
 use Rattle.orc_types.specs.JsonRows.{Spells, MemberSpells, FieldsSpell}
-use Rattle.orc_types.specs.Shapes.{Shape, Fields, no_field, field, names_of}
-use Rattle.orc_types.specs.Views.{view, views, shape, fields}
-use Rattle.orc_types.specs.declared.tree.Field.{Field}
-use Rattle.orc_types.specs.declared.value.Value.{Value}
-use Rattle.orc_types.proofs.Views.{name_and_type-is}
+use Rattle.orc_values.specs.Shapes.{Shape, Fields, no_field, field, names_of}
+use Rattle.orc_values.specs.Views.{view, views, shape, fields}
+use Rattle.orc_values.specs.declared.tree.Field.{Field}
+use Rattle.orc_values.specs.declared.value.Value.{Value}
+use Rattle.orc_values.proofs.Views.{name_and_type-is}
 use Rattle.orc_json_reader.specs.Fronts.{ValueFront, MembersFront, AreFields}
 use Rattle.orc_json_reader.specs.Frontier.{read_up_to}
 use Rattle.orc_json_reader.proofs.FrontierLemmas.{read_up_to-length, read_up_to-none}

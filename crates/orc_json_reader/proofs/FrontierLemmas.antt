@@ -1,7 +1,7 @@
 -- Rows that are read over old ones: those before a frontier, and null behind it.
 use Rattle.std.proofs.Common.{◌≡◌, ℕ, zero, suc, ◌<◌, List, [], ◌∷◌, length, replicate, Option, None, refl, ap, arith}
 use Rattle.std.proofs.Math.ListN.{set}
-use Rattle.orc_types.specs.declared.value.Value.{Value}
+use Rattle.orc_values.specs.declared.value.Value.{Value}
 use Rattle.orc_json_reader.specs.Frontier.{read_up_to}
 
 pub read_up_to-length : (n : ℕ) (rows : List (Option Value)) → length (read_up_to n rows) ≡ length rows

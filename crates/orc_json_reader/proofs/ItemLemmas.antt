@@ -6,7 +6,7 @@ use Rattle.json.specs.Json.{parse_map, after_end_array}
 use Rattle.json.proofs.Grammar.{items_more, items_end}
 use Rattle.serde_json.specs.Data.{Data, Items, no_items, item}
 use Rattle.serde_json.specs.Read.{of_items}
-use Rattle.orc_types.specs.Cells.{Cell, Cells, end, more, Pairs, no_pair, pair, cells_of, pairs_of}
+use Rattle.orc_values.specs.Cells.{Cell, Cells, end, more, Pairs, no_pair, pair, cells_of, pairs_of}
 use Rattle.orc_types.specs.JsonRows.{EachSpells, PairSpells, PairsSpell}
 use Rattle.orc_types.proofs.JsonFronts.{before, before_pairs}
 use Rattle.orc_json_reader.specs.Fronts.{ValueFront, ItemsFront}

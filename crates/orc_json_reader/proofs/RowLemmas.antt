@@ -4,17 +4,17 @@ use Rattle.json.specs.Token.{Token}
 use Rattle.serde_json.specs.Data.{Data, Num, null as nothing, array, no_items, item}
 use Rattle.serde_json.specs.Find.{as_integer}
 use Rattle.std.specs.Prelude.{option_and_then}
-use Rattle.orc_types.specs.Cells.{Cell, cells_of, pairs_of}
+use Rattle.orc_values.specs.Cells.{Cell, cells_of, pairs_of}
 use Rattle.orc_types.specs.JsonLeaves.{ScalarSpells}
 use Rattle.orc_types.specs.JsonRows.{OrNull, Spells, EachSpells, ArraySpells, PairSpells, PairsSpell, MapSpells, FieldsSpell, ObjectSpells}
-use Rattle.orc_types.specs.Shapes.{Fields, names_of}
-use Rattle.orc_types.specs.Views.{view, views, paired, shape, fields}
-use Rattle.orc_types.specs.declared.kind.Scalar.{Scalar as Kind}
-use Rattle.orc_types.specs.declared.tree.Tree.{Tree, Scalar, List as TreeList, Map as TreeMap, Struct as TreeStruct}
-use Rattle.orc_types.specs.declared.tree.Field.{Field}
-use Rattle.orc_types.specs.declared.value.Value.{Value, List as ListOf, Map as MapOf, Struct as StructOf}
-use Rattle.orc_types.specs.declared.value.MapPair.{MapPair}
-use Rattle.orc_types.proofs.Views.{shape-Scalar, shape-List, shape-Map, shape-Struct, view-List, view-Map, view-Struct}
+use Rattle.orc_values.specs.Shapes.{Fields, names_of}
+use Rattle.orc_values.specs.Views.{view, views, paired, shape, fields}
+use Rattle.orc_values.specs.declared.kind.Scalar.{Scalar as Kind}
+use Rattle.orc_values.specs.declared.tree.Tree.{Tree, Scalar, List as TreeList, Map as TreeMap, Struct as TreeStruct}
+use Rattle.orc_values.specs.declared.tree.Field.{Field}
+use Rattle.orc_values.specs.declared.value.Value.{Value, List as ListOf, Map as MapOf, Struct as StructOf}
+use Rattle.orc_values.specs.declared.value.MapPair.{MapPair}
+use Rattle.orc_values.proofs.Views.{shape-Scalar, shape-List, shape-Map, shape-Struct, view-List, view-Map, view-Struct}
 use Rattle.orc_json_reader.specs.Fronts.{data_of, ValueFront, ItemsFront, MembersFront, AreFields}
 use Rattle.orc_json_reader.proofs.FrontLemmas.{token_front, array_front, object_front}
 

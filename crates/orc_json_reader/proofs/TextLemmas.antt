@@ -2,11 +2,11 @@
 use Rattle.std.proofs.Common.{◌≡◌, ℕ, List, true, inl, inr, subst}
 use Rattle.std.specs.Prelude.{◌≢◌}
 use Rattle.serde_json.specs.Data.{Data}
-use Rattle.orc_types.specs.Cells.{Cell}
-use Rattle.orc_types.specs.Fits.{fits}
+use Rattle.orc_values.specs.Cells.{Cell}
+use Rattle.orc_values.specs.Fits.{fits}
 use Rattle.orc_types.specs.JsonFaults.{FaultAt, Somewhere}
 use Rattle.orc_types.specs.JsonRows.{Spells}
-use Rattle.orc_types.specs.Shapes.{Shape}
+use Rattle.orc_values.specs.Shapes.{Shape}
 use Rattle.orc_types.specs.declared.json_fault.JsonFault.{JsonFault}
 use Rattle.orc_types.specs.declared.json_fault.JsonFault.TheVariants as fault
 use Rattle.orc_types.proofs.JsonLaws.{one_row, row_fits, only_memory}

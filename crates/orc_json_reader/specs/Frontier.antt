@@ -1,6 +1,6 @@
 -- Rows that are read over old ones, up to a frontier.
 use Rattle.std.specs.Prelude.{ℕ, zero, suc, List, [], ◌∷◌, Option, None}
-use Rattle.orc_types.specs.declared.value.Value.{Value}
+use Rattle.orc_values.specs.declared.value.Value.{Value}
 
 -- so many rows, and null in the place of each row behind them
 abbrev pub read_up_to : ℕ → List (Option Value) → List (Option Value)

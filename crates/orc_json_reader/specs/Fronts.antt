@@ -5,8 +5,8 @@ use Rattle.json.specs.Token.{Token}
 use Rattle.json.specs.Json as json
 use Rattle.serde_json.specs.Data.{Data, null, boolean, number, string, object, Items, Members, no_members}
 use Rattle.serde_json.specs.Read.{number_of, of_json, of_items, of_members}
-use Rattle.orc_types.specs.Shapes.{Fields, names_of}
-use Rattle.orc_types.specs.Cells.{Cells}
+use Rattle.orc_values.specs.Shapes.{Fields, names_of}
+use Rattle.orc_values.specs.Cells.{Cells}
 use Rattle.orc_types.specs.FieldNames.{all_known}
 use Rattle.orc_types.specs.JsonRows.{FieldsSpell}
 

@@ -3,11 +3,11 @@
 use Rattle.std.specs.Prelude.{◌≡◌, ◌⊎◌, ℕ, List, Some, None, true, false, IsUtf8}
 use Rattle.serde_json.specs.Data.{Data}
 use Rattle.serde_json.specs.Read.{read as read_text}
-use Rattle.orc_types.specs.Cells.{Cell}
+use Rattle.orc_values.specs.Cells.{Cell}
 use Rattle.orc_types.specs.FieldNames.{is_distinct}
 use Rattle.orc_types.specs.JsonFaults.{FaultAt, Somewhere}
 use Rattle.orc_types.specs.JsonRows.{Spells}
-use Rattle.orc_types.specs.Shapes.{Shape}
+use Rattle.orc_values.specs.Shapes.{Shape}
 use Rattle.orc_types.specs.declared.json_fault.JsonFault.{JsonFault}
 use Rattle.orc_types.specs.declared.json_fault.JsonFault.TheVariants as fault
 

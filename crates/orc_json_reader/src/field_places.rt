@@ -1,10 +1,10 @@
 //! The fields of a struct, and which of them a key of an object names (RFC 8259, "Objects").
 ghost use Rattle.std.specs.Prelude.{◌≡◌, ◌<◌, ◌≤◌, length, get_or, replicate, None, Option, IfOk, IfSome, string_bytes, slice_set};
-ghost use Rattle.orc_types.specs.declared.tree.Field.{Field as SpecField};
-ghost use Rattle.orc_types.specs.declared.value.Value.{Value as SpecValue};
+ghost use Rattle.orc_values.specs.declared.tree.Field.{Field as SpecField};
+ghost use Rattle.orc_values.specs.declared.value.Value.{Value as SpecValue};
 ghost use Rattle.orc_json_reader.specs.Frontier.{read_up_to};
 
-use orc_types::{Field, Row};
+use orc_values::{Field, Row};
 use std::alloc::{AllocError, Global};
 
 /// Among how many fields a key is looked for at most, from the field on that is behind all that keys have named, and among all

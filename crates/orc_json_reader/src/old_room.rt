@@ -4,7 +4,7 @@
 ghost use Rattle.std.specs.Prelude.{◌≡◌, ◌<◌, ◌≤◌, length, take, OnOk};
 
 use crate::field_places::nulls;
-use orc_types::{MapPair, Row, Value};
+use orc_values::{MapPair, Row, Value};
 use std::alloc::{AllocError, AllocFailed, Global};
 
 /// Of a text, room for so many bytes is kept, however short the text.

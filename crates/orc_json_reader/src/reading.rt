@@ -4,11 +4,11 @@
 //! Each row is read over one that is no longer needed, in the room of its texts and lists where that is of use. No clause speaks
 //! of the old row, so nothing of it is in the new one. After a refusal the cell holds what was read so far and what is old.
 ghost use Rattle.std.specs.Prelude.{◌≡◌, ◌<◌, length, map, true, OnOk};
-ghost use Rattle.orc_types.specs.Cells.{cells_of, pairs_of};
+ghost use Rattle.orc_values.specs.Cells.{cells_of, pairs_of};
 ghost use Rattle.orc_types.specs.FieldNames.{is_distinct, are_distinct, all_differ};
 ghost use Rattle.orc_types.specs.JsonRows.{OrNull, Spells, EachSpells, ArraySpells, PairSpells, PairsSpell, MapSpells, FieldsSpell, ObjectSpells};
-ghost use Rattle.orc_types.specs.Shapes.{names_of};
-ghost use Rattle.orc_types.specs.Views.{view, views, paired, shape, fields as fields_view};
+ghost use Rattle.orc_values.specs.Shapes.{names_of};
+ghost use Rattle.orc_values.specs.Views.{view, views, paired, shape, fields as fields_view};
 ghost use Rattle.orc_json_reader.specs.Fronts.{ValueFront, ItemsFront, MembersFront, AreFields};
 
 use crate::field_places::{end_at, pass_to, place_of};
@@ -18,7 +18,7 @@ use crate::old_room::{
 };
 use crate::unread::Unread;
 use json::{Reader, Token};
-use orc_types::{Field, MapPair, Row, Tree, Value};
+use orc_values::{Field, MapPair, Row, Tree, Value};
 use std::alloc::Global;
 
 /// Reads the row that the next value spells. Arrays and objects may nest `depth` deep in it, the value itself among them.

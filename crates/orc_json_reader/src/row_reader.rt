@@ -1,16 +1,17 @@
 //! Rows from texts of JSON.
 ghost use Rattle.std.specs.Prelude.{◌≡◌, ◌≢◌, true, IfOk, IfErr, OnOk, MatchResult};
-ghost use Rattle.orc_types.specs.Cells.{Cell};
+ghost use Rattle.orc_values.specs.Cells.{Cell};
 ghost use Rattle.orc_types.specs.FieldNames.{is_distinct};
-ghost use Rattle.orc_types.specs.Fits.{fits};
-ghost use Rattle.orc_types.specs.Views.{view};
+ghost use Rattle.orc_values.specs.Fits.{fits};
+ghost use Rattle.orc_values.specs.Views.{view};
 ghost use Rattle.orc_types.specs.declared.json_fault.JsonFault.TheVariants as fault;
 ghost use Rattle.orc_json_reader.specs.RowTexts.{TextSpells, RowTextFault};
 
 use crate::reading::read_value;
 use crate::unread::Unread;
 use json::{Reader, Scratch};
-use orc_types::{JsonFault, Row, Schema, row_from_json};
+use orc_types::{JsonFault, Schema, row_from_json};
+use orc_values::Row;
 use serde_json::Value as Json;
 use serde_json::error::Category;
 use std::alloc::Global;

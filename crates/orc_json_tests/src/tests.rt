@@ -4,7 +4,8 @@
 //! old row has a part in them.
 use orc_json::RowPrinter;
 use orc_json_reader::RowReader;
-use orc_types::{JsonFault, Row, Schema, Value, fits};
+use orc_types::{JsonFault, Schema, fits};
+use orc_values::{Row, Value};
 use std::alloc::{AllocError, Global};
 use std::borrow::{CowSlice, CowStr};
 use std::fmt;

@@ -1,6 +1,7 @@
 //! What several tests hand to their calls.
 use orc_test_io::{FailSink, Full};
-use orc_types::{Row, Schema, TypeFault, Value};
+use orc_types::{Schema, TypeFault};
+use orc_values::{Row, Value};
 use std::alloc::{AllocError, Global};
 
 /// `Schema::parse`, without its contract.

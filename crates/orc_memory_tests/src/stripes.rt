@@ -1,14 +1,15 @@
 //! Stripes that are written, and read from a group on.
 ghost use Rattle.std.specs.Prelude.{◌≡◌, true, IfOk};
-ghost use Rattle.orc_types.specs.Fits.{RowsFit, fits};
-ghost use Rattle.orc_types.specs.Views.{view, views};
+ghost use Rattle.orc_values.specs.Fits.{RowsFit, fits};
+ghost use Rattle.orc_values.specs.Views.{view, views};
 
 use crate::assertions::{demand, same, same_bytes};
 use crate::sevens::{has_number, have_numbers, schema_of};
 use orc_rle::Rle;
 use orc_stripe::{Options, RowCursor, StripeFault, StripeOut, StripeView, are_few, write_stripe};
 use orc_test_io::SEVENS;
-use orc_types::{Row, Schema, row_from_json};
+use orc_types::{Schema, row_from_json};
+use orc_values::Row;
 use serde_json::Value as Json;
 use std::alloc::Global;
 use std::process::Abort;

@@ -5,7 +5,8 @@ use orc_file::{FileFault, Writer};
 use orc_rle::Rle;
 use orc_stripe::Options;
 use orc_test_io::{FailSink, SEVENS};
-use orc_types::{Row, Schema, Value};
+use orc_types::Schema;
+use orc_values::{Row, Value};
 use std::alloc::{AllocError, Global};
 use std::process::Abort;
 

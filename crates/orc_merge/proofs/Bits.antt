@@ -14,7 +14,7 @@ use Rattle.orc_wire.specs.declared.footer.UserMetadataItem.{UserMetadataItem}
 use Rattle.orc_wire.specs.CanonicalFields.{some_top}
 use Rattle.orc_wire.specs.CanonicalMessages.{stripe_info_text, user_metadata_text, column_stats_text, integer_stats_text, string_stats_text}
 use Rattle.orc_wire.specs.CanonicalMessages.{bucket_stats_text, date_stats_text, binary_stats_text, collection_stats_text}
-use Rattle.orc_types.specs.Fits.{signed_fits}
+use Rattle.orc_values.specs.Fits.{signed_fits}
 use Rattle.orc_stats.specs.declared.kind.StatKind.{StatKind}
 use Rattle.orc_stats.specs.declared.kind.StatKind.TheVariants as kind
 use Rattle.orc_stats.specs.declared.stat.Stat.{Stat}
@@ -25,7 +25,7 @@ use Rattle.orc_stats.specs.Joining.{parts_if_known, of_known, in_limit, trues_to
 use Rattle.orc_stats.specs.Joining.{least_children, greatest_children, total_children, bodies_joined, has_values, valued_bodies, joined}
 use Rattle.orc_stats.specs.Messages.{message_of, ints_record, dates_record, texts_record, bins_record, bools_record, int_record, date_record, text_record}
 use Rattle.orc_stats.specs.Messages.{bucket_record, bin_record, collection_record, children_record}
-use Rattle.orc_types.specs.Shapes.{Shape, width}
+use Rattle.orc_values.specs.Shapes.{Shape, width}
 use Rattle.orc_file.specs.Stripes.{stripe_length, stripes_length}
 use Rattle.orc_file.specs.Statistics.{kind_at}
 use Rattle.orc_file.specs.Writing.{column_stats, of_columns, file_stats}

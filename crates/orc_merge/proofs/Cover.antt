@@ -4,7 +4,7 @@ use Rattle.std.specs.List.{concat, AllByRecursion}
 use Rattle.std.proofs.lemmas.List.{append-nil}
 use Rattle.std.proofs.lemmas.Bool.{false≢true}
 use Rattle.orc_bits.specs.Varint.{AllBytes}
-use Rattle.orc_types.specs.Shapes.{Shape, width}
+use Rattle.orc_values.specs.Shapes.{Shape, width}
 use Rattle.orc_types.specs.Schemas.{same_types}
 use Rattle.orc_types.proofs.Exclusion.{equal_schemas}
 use Rattle.orc_types.proofs.Decisions.{Decided, both, same_number, same_numbers}

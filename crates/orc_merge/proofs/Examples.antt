@@ -2,9 +2,9 @@
 use Rattle.std.proofs.Common.{◌≡◌, ℕ, ℤ, pos, negsuc, List, [], ◌∷◌, map, Option, Some, None, false, refl, ap, inl, inr, arith}
 use Rattle.orc_wire.specs.declared.stripe_info.StripeInfo.{StripeInfo}
 use Rattle.orc_wire.specs.declared.footer.UserMetadataItem.{UserMetadataItem}
-use Rattle.orc_types.specs.declared.kind.Scalar.TheVariants as scalar_kind
-use Rattle.orc_types.specs.Cells.{leaf, int}
-use Rattle.orc_types.specs.Shapes.{Shape, scalar, struct_of, no_field, field}
+use Rattle.orc_values.specs.declared.kind.Scalar.TheVariants as scalar_kind
+use Rattle.orc_values.specs.Cells.{leaf, int}
+use Rattle.orc_values.specs.Shapes.{Shape, scalar, struct_of, no_field, field}
 use Rattle.orc_stats.specs.declared.kind.StatKind.TheVariants as kind
 use Rattle.orc_stats.specs.declared.stat.Stat.{Stat}
 use Rattle.orc_stats.specs.declared.stat.Body.TheVariants as body

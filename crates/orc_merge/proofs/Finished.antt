@@ -2,7 +2,7 @@
 use Rattle.std.proofs.Common.{◌≡◌, ℕ, ◌+◌, ◌<◌, ◌≤◌, true, List, ◌∷◌, ◌++◌, length, map, take, Option, Some, Result, Ok, Err, sym, ap, ◌∙◌, subst, arith}
 use Rattle.std.specs.Prelude.{All, slice_index, IfOk, IfErr}
 use Rattle.std.proofs.lemmas.List.{take_all, length-map}
-use Rattle.orc_types.specs.Shapes.{Shape}
+use Rattle.orc_values.specs.Shapes.{Shape}
 use Rattle.orc_stats.specs.declared.stat.Stat.{Stat}
 use Rattle.orc_stats.specs.Kinds.{body_is_of}
 use Rattle.orc_file.specs.Layout.{magic}

@@ -3,8 +3,8 @@ use Rattle.std.proofs.Common.{◌≡◌, ℕ, ◌+◌, ◌<◌, List, [], ◌∷
 use Rattle.std.specs.List.{AllByRecursion, concat}
 use Rattle.std.proofs.lemmas.List.Concat.{flat_map-cons, flat_map-append}
 use Rattle.orc_wire.specs.declared.stripe_info.StripeInfo.{StripeInfo}
-use Rattle.orc_types.specs.Cells.{Cell}
-use Rattle.orc_types.specs.Shapes.{Shape}
+use Rattle.orc_values.specs.Cells.{Cell}
+use Rattle.orc_values.specs.Shapes.{Shape}
 use Rattle.orc_column_reader.specs.Stripe.{IsStripe}
 use Rattle.orc_file.specs.Stripes.{stripe_length}
 use Rattle.orc_file.specs.FileRows.{stripe_bytes, joined, AreOfStripes, HasRows, FileIs}

@@ -1,7 +1,7 @@
 -- Groupings: ordered trees with inputs at the leaves, and at each inner node a merge of its children in order (own).
 use Rattle.std.specs.Prelude.{◌≡◌, ◌⊎◌, ℕ, ◌^◌, ◌<◌, List, [], ◌∷◌, ◌++◌, length}
 use Rattle.std.specs.List.{AllByRecursion}
-use Rattle.orc_types.specs.Cells.{Cell}
+use Rattle.orc_values.specs.Cells.{Cell}
 use Rattle.orc_file.specs.FileRows.{FileIs}
 use Rattle.orc_file.specs.Honest.{Honest}
 use Rattle.orc_file.specs.declared.tail.Tail.{Tail}

@@ -5,7 +5,7 @@ use Rattle.std.specs.List.{AllByRecursion, concat, flat_map}
 use Rattle.std.specs.Cmp.Lexicographic.{pointwise}
 use Rattle.orc_wire.specs.declared.stripe_info.StripeInfo.{StripeInfo}
 use Rattle.orc_wire.specs.declared.footer.UserMetadataItem.{UserMetadataItem}
-use Rattle.orc_types.specs.Shapes.{width}
+use Rattle.orc_values.specs.Shapes.{width}
 use Rattle.orc_stats.specs.declared.stat.Stat.{Stat}
 use Rattle.orc_file.specs.Stripes.{stripe_length}
 use Rattle.orc_file.specs.FileRows.{stripe_bytes}

@@ -3,7 +3,7 @@
 ghost use Rattle.std.specs.Prelude.{◌≡◌, ◌↔◌, ◌⊎◌, ◌&&◌, ◌+◌, ◌<◌, ◌^◌, ℕ, List, Option, length, take, IsPermutation};
 ghost use Rattle.std.specs.List.{AllByRecursion, list_all, flat_map};
 ghost use Rattle.orc_bits.specs.Varint.{AllBytes};
-ghost use Rattle.orc_types.specs.Cells.{Cell};
+ghost use Rattle.orc_values.specs.Cells.{Cell};
 ghost use Rattle.orc_stats.specs.declared.kind.StatKind.{StatKind};
 ghost use Rattle.orc_stats.specs.declared.kind.StatKind.TheVariants.{Children};
 ghost use Rattle.orc_stats.specs.declared.stat.Stat.{Stat};

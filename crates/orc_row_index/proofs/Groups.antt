@@ -9,15 +9,15 @@ use Rattle.orc_positions.specs.BitPosition.{IsBitPlace}
 use Rattle.orc_positions.specs.Marks.{start_of_stream}
 use Rattle.orc_positions.specs.declared.mark.Mark.{Mark}
 use Rattle.orc_wire.specs.declared.row_index.RowIndexEntry.{RowIndexEntry}
-use Rattle.orc_types.specs.Childless.{childless}
-use Rattle.orc_types.specs.Cells.{Cell, null, leaf, list, struct, pairs, parts, pairs_in, keys_in, values_in, values}
-use Rattle.orc_types.specs.Fits.{fits, RowsFit}
-use Rattle.orc_types.specs.Lent.{lent_cells}
-use Rattle.orc_types.specs.Shapes.{Shape}
-use Rattle.orc_types.specs.Views.{view}
-use Rattle.orc_types.specs.declared.lent.Lent.{Lent}
-use Rattle.orc_types.specs.declared.own.Own.{Own}
-use Rattle.orc_types.proofs.Together.{values-append, flat_map-append}
+use Rattle.orc_values.specs.Childless.{childless}
+use Rattle.orc_values.specs.Cells.{Cell, null, leaf, list, struct, pairs, parts, pairs_in, keys_in, values_in, values}
+use Rattle.orc_values.specs.Fits.{fits, RowsFit}
+use Rattle.orc_values.specs.Lent.{lent_cells}
+use Rattle.orc_values.specs.Shapes.{Shape}
+use Rattle.orc_values.specs.Views.{view}
+use Rattle.orc_values.specs.declared.lent.Lent.{Lent}
+use Rattle.orc_values.specs.declared.own.Own.{Own}
+use Rattle.orc_values.proofs.Together.{values-append, flat_map-append}
 use Rattle.orc_stats.specs.Kinds.{kind_of}
 use Rattle.orc_stats.specs.Messages.{message_of}
 use Rattle.orc_stats.specs.Statistics.{stat}

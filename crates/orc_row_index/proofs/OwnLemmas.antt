@@ -5,13 +5,13 @@ use Rattle.std.proofs.lemmas.List.{length-map, take-map, drop_more, drop_all, ge
 use Rattle.std.proofs.lemmas.List.Elements.{All-from_recursion}
 use Rattle.std.proofs.lemmas.List.Sums.{sum_by-cons}
 use Rattle.std.specs.List.{flat_map, drop-map, AllByRecursion}
-use Rattle.orc_types.specs.Cells.{Cell, null, leaf, list, struct, pairs, list_of_cells, list_of_pairs, is_value, parts, pairs_in, values}
-use Rattle.orc_types.specs.Childless.{list_of_size, map_of_size, childless}
-use Rattle.orc_types.specs.Fits.{RowsFit}
-use Rattle.orc_types.specs.Own.{own_cell}
-use Rattle.orc_types.specs.Shapes.{Shape, list_of}
-use Rattle.orc_types.specs.declared.own.Own.{Own}
-use Rattle.orc_types.proofs.Childless.{list_size, map_size, values_childless}
+use Rattle.orc_values.specs.Cells.{Cell, null, leaf, list, struct, pairs, list_of_cells, list_of_pairs, is_value, parts, pairs_in, values}
+use Rattle.orc_values.specs.Childless.{list_of_size, map_of_size, childless}
+use Rattle.orc_values.specs.Fits.{RowsFit}
+use Rattle.orc_values.specs.Own.{own_cell}
+use Rattle.orc_values.specs.Shapes.{Shape, list_of}
+use Rattle.orc_values.specs.declared.own.Own.{Own}
+use Rattle.orc_values.proofs.Childless.{list_size, map_size, values_childless}
 use Rattle.orc_stats.specs.declared.kind.StatKind.{StatKind}
 use Rattle.orc_stats.specs.declared.stat.Stat.{Stat}
 use Rattle.orc_stats.specs.Kinds.{is_of, kind_of}

@@ -2,7 +2,7 @@
 use Rattle.std.proofs.Common.{◌≡◌, ℕ, ◌+◌, Option, Some, None, List, ◌++◌, length, take, drop, refl, sym, ap, ◌∙◌, subst, arith, length-append}
 use Rattle.std.proofs.Math.Seq.{take-append_seam, drop-append_seam}
 use Rattle.orc_positions.specs.BitPosition.{BeginsBits}
-use Rattle.orc_types.specs.Cells.{Cell, values}
+use Rattle.orc_values.specs.Cells.{Cell, values}
 use Rattle.orc_row_index.specs.Places.{StreamPlace, PlacesIn, OwnPlaces, octets, octets_place, octets_size, begins, position_size}
 use Rattle.orc_row_index.specs.RunStreams.{RunStream, no_stream, bit_runs, byte_runs, number_runs}
 

@@ -6,9 +6,9 @@ use Rattle.orc_wire.specs.declared.column_stats.ColumnStats.{ColumnStats}
 use Rattle.orc_wire.specs.declared.row_index.RowIndexEntry.{RowIndexEntry}
 use Rattle.orc_wire.specs.CanonicalMessages.{column_stats_text, row_index_entry_text, row_index_text}
 use Rattle.orc_wire.proofs.WholeLaws.{entry_whole, index_whole}
-use Rattle.orc_types.specs.Cells.{Cell}
-use Rattle.orc_types.specs.Fits.{RowsFit}
-use Rattle.orc_types.specs.Shapes.{Shape}
+use Rattle.orc_values.specs.Cells.{Cell}
+use Rattle.orc_values.specs.Fits.{RowsFit}
+use Rattle.orc_values.specs.Shapes.{Shape}
 use Rattle.orc_stats.specs.Kinds.{is_of, kind_of}
 use Rattle.orc_stats.specs.Messages.{message_of, IsStat}
 use Rattle.orc_stats.specs.Statistics.{stat}

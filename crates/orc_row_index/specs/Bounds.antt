@@ -1,7 +1,7 @@
 -- The groups of a column's cells: how many cells come before each (ORC specification, "Row Group Index").
 use Rattle.std.specs.Prelude.{ℕ, suc, ◌≤◌, List, length, get_or, take, drop}
 use Rattle.std.specs.List.{flat_map}
-use Rattle.orc_types.specs.Cells.{Cell, parts, pairs_in, values}
+use Rattle.orc_values.specs.Cells.{Cell, parts, pairs_in, values}
 
 -- where a group of so many cells begins: at its bound, and behind the last group at the end
 abbrev pub bound_at : ℕ → List ℕ → ℕ → ℕ

@@ -3,7 +3,7 @@ use Rattle.std.specs.Prelude.{◌≡◌, ℕ, Option, Some, List, [], ◌∷◌}
 use Rattle.orc_wire.specs.CanonicalMessages.{row_index_text}
 use Rattle.orc_wire.specs.declared.row_index.RowIndexEntry.{RowIndexEntry}
 use Rattle.orc_positions.specs.BitPosition.{IsBitPlace}
-use Rattle.orc_types.specs.Cells.{Cell}
+use Rattle.orc_values.specs.Cells.{Cell}
 use Rattle.orc_stats.specs.Messages.{message_of}
 use Rattle.orc_stats.specs.declared.stat.Stat.{Stat}
 use Rattle.orc_row_index.specs.Places.{PlacesIn, is_place}

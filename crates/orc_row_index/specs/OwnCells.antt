@@ -1,11 +1,11 @@
 -- A column's cells as the column itself says them, in a slice (ORC specification, "Column Encodings").
 use Rattle.std.specs.Prelude.{◌≡◌, List, map}
-use Rattle.orc_types.specs.Cells.{Cell}
-use Rattle.orc_types.specs.Childless.{childless}
-use Rattle.orc_types.specs.Fits.{RowsFit}
-use Rattle.orc_types.specs.Own.{own_cell}
-use Rattle.orc_types.specs.Shapes.{Shape}
-use Rattle.orc_types.specs.declared.own.Own.{Own}
+use Rattle.orc_values.specs.Cells.{Cell}
+use Rattle.orc_values.specs.Childless.{childless}
+use Rattle.orc_values.specs.Fits.{RowsFit}
+use Rattle.orc_values.specs.Own.{own_cell}
+use Rattle.orc_values.specs.Shapes.{Shape}
+use Rattle.orc_values.specs.declared.own.Own.{Own}
 use Rattle.orc_column_reader.specs.Starting.{AreStreams}
 use Rattle.orc_column_reader.specs.Stripe.{Streams, IsColumn}
 use Rattle.orc_column_reader.specs.declared.starting.ColumnStreams.{ColumnStreams}

@@ -4,8 +4,8 @@ use Rattle.std.specs.Prelude.{◌≡◌, ℕ, ℤ, Option, Some, None, List, [],
 use Rattle.orc_rle.specs.ByteRun.{IsByteRun}
 use Rattle.orc_positions.specs.Position.{Begins, IsPlace}
 use Rattle.orc_positions.specs.BitPosition.{BeginsBits, IsBitPlace}
-use Rattle.orc_types.specs.Cells.{Cell, null, leaf, list, struct, pairs, bool, int, date, text, bytes, values}
-use Rattle.orc_types.specs.Shapes.{Shape}
+use Rattle.orc_values.specs.Cells.{Cell, null, leaf, list, struct, pairs, bool, int, date, text, bytes, values}
+use Rattle.orc_values.specs.Shapes.{Shape}
 use Rattle.orc_column_reader.specs.Numbers.{is_run}
 use Rattle.orc_column_reader.specs.Stripe.{Streams}
 use Rattle.orc_row_index.specs.RunStreams.{RunStream, no_stream, bit_runs, byte_runs, number_runs, present_runs, own_runs, own_octets}

@@ -6,8 +6,8 @@ use Rattle.orc_wire.specs.declared.row_index.RowIndexMsg.{RowIndexMsg}
 use Rattle.orc_wire.specs.CanonicalMessages.{row_index_text}
 use Rattle.orc_wire.specs.Messages.{row_index}
 use Rattle.orc_wire.specs.Spells.{Spells}
-use Rattle.orc_types.specs.Cells.{Cell}
-use Rattle.orc_types.specs.Shapes.{Shape}
+use Rattle.orc_values.specs.Cells.{Cell}
+use Rattle.orc_values.specs.Shapes.{Shape}
 use Rattle.orc_stats.specs.Kinds.{kind_of}
 use Rattle.orc_stats.specs.Messages.{message_of, stat_read}
 use Rattle.orc_stats.specs.Statistics.{stat}

@@ -5,8 +5,8 @@ use Rattle.orc_rle.specs.ByteRun.{IsByteRun}
 use Rattle.orc_positions.specs.Position.{HasValues}
 use Rattle.orc_positions.specs.Marks.{IsMark}
 use Rattle.orc_positions.specs.declared.mark.Mark.{Mark}
-use Rattle.orc_types.specs.Cells.{Cell, values}
-use Rattle.orc_types.specs.Shapes.{Shape}
+use Rattle.orc_values.specs.Cells.{Cell, values}
+use Rattle.orc_values.specs.Shapes.{Shape}
 use Rattle.orc_column_reader.specs.Numbers.{is_run}
 use Rattle.orc_column_reader.specs.Stripe.{Streams}
 use Rattle.orc_row_index.specs.RunStreams.{RunStream, no_stream, bit_runs, byte_runs, number_runs, present_runs, own_runs, own_octets}

@@ -1,9 +1,9 @@
 //! Some of a column's cells, from one place to another.
 ghost use Rattle.std.specs.Prelude.{◌≡◌, ◌-◌, ◌≤◌, take, drop, length};
-ghost use Rattle.orc_types.specs.Lent.{lent_cells};
+ghost use Rattle.orc_values.specs.Lent.{lent_cells};
 ghost use Rattle.orc_row_index.specs.OwnCells.{own_cells};
 
-use orc_types::{Lent, Own};
+use orc_values::{Lent, Own};
 
 /// The cells from one place to another.
 pub fn cells_between<'c, 'r, 'a>(

@@ -1,13 +1,13 @@
 //! The bounds of groups, one level down the schema.
 ghost use Rattle.std.specs.Prelude.{◌≡◌, ◌<◌, ◌^◌, map, length, IfOk};
 ghost use Rattle.std.specs.List.{flat_map};
-ghost use Rattle.orc_types.specs.Cells.{parts, pairs_in, values};
-ghost use Rattle.orc_types.specs.Own.{own_cell};
+ghost use Rattle.orc_values.specs.Cells.{parts, pairs_in, values};
+ghost use Rattle.orc_values.specs.Own.{own_cell};
 ghost use Rattle.orc_row_index.specs.Bounds.{AreBounds, elements_before, pairs_before, values_before};
 ghost use Rattle.orc_row_index.specs.OwnCells.{own_cells};
 
 use crate::between::owns_between;
-use orc_types::Own;
+use orc_values::Own;
 use std::alloc::{AllocError, Global};
 
 /// How many elements a list has, and none another cell.

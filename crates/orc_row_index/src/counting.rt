@@ -1,14 +1,14 @@
 //! The counts of a column's cells, group after group.
 ghost use Rattle.std.specs.Prelude.{◌≡◌, ◌+◌, ◌^◌, ◌<◌, ◌∷◌, [], min, length};
-ghost use Rattle.orc_types.specs.Cells.{values};
-ghost use Rattle.orc_types.specs.Lent.{lent_cells};
-ghost use Rattle.orc_types.specs.Own.{own_cell};
+ghost use Rattle.orc_values.specs.Cells.{values};
+ghost use Rattle.orc_values.specs.Lent.{lent_cells};
+ghost use Rattle.orc_values.specs.Own.{own_cell};
 ghost use Rattle.orc_row_index.specs.OwnCells.{own_cells};
 ghost use Rattle.orc_row_index.specs.Places.{octets, octets_in};
 ghost use Rattle.orc_row_index.specs.Walking.{most};
 
 use crate::counts::Counts;
-use orc_types::{Lent, Own, own_of};
+use orc_values::{Lent, Own, own_of};
 
 /// How many bytes a text has, or a byte string; 0 of other cells.
 fn octets_of(own: Own<'_>) -> usize

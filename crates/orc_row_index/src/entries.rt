@@ -1,8 +1,8 @@
 //! The entries of a column's row index, group by group, and the statistic of its cells.
 ghost use Rattle.std.specs.Prelude.{◌≡◌, List, length, IfOk, OnOk};
 ghost use Rattle.orc_wire.specs.CanonicalText.{KeepsFront};
-ghost use Rattle.orc_types.specs.Cells.{Cell};
-ghost use Rattle.orc_types.specs.Views.{shape};
+ghost use Rattle.orc_values.specs.Cells.{Cell};
+ghost use Rattle.orc_values.specs.Views.{shape};
 ghost use Rattle.orc_stats.specs.Kinds.{kind_of};
 ghost use Rattle.orc_stats.specs.Statistics.{stat};
 ghost use Rattle.orc_column_reader.specs.Starting.{AreStreams};
@@ -22,7 +22,7 @@ use crate::tallies::{closed, tally_of};
 use crate::walk::Walk;
 use orc_column_reader::starting::ColumnStreams;
 use orc_stats::{Bins, Bools, Children, Counted, Dates, Ints, Plain, Stat, StatKind, Tally, Texts};
-use orc_types::{Own, Tree};
+use orc_values::{Own, Tree};
 use std::alloc::{AllocError, Global};
 
 /// Adds the entries, counted by one kind of tally: the statistic of all cells is joined of those of the groups, and of

@@ -1,6 +1,6 @@
 //! The entry of a group in a row index, as it is written.
 ghost use Rattle.std.specs.Prelude.{◌≡◌, List, IfOk, OnOk, OnErr};
-ghost use Rattle.orc_types.specs.Cells.{Cell};
+ghost use Rattle.orc_values.specs.Cells.{Cell};
 ghost use Rattle.orc_stats.specs.Messages as spec;
 ghost use Rattle.orc_row_index.specs.EntryText.{IsEntryText};
 ghost use Rattle.orc_row_index.specs.Places.{Adds};

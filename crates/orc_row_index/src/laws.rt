@@ -1,9 +1,9 @@
 //! Laws of row indexes as they are written. The function does nothing: its contract is what it is for.
 ghost use Rattle.std.specs.Prelude.{◌≡◌, ◌<◌, ℕ, List, map, length};
 ghost use Rattle.std.specs.List.{flat_map};
-ghost use Rattle.orc_types.specs.Cells.{Cell, parts, keys_in, values_in, values};
-ghost use Rattle.orc_types.specs.Fits.{RowsFit};
-ghost use Rattle.orc_types.specs.Shapes.{Shape};
+ghost use Rattle.orc_values.specs.Cells.{Cell, parts, keys_in, values_in, values};
+ghost use Rattle.orc_values.specs.Fits.{RowsFit};
+ghost use Rattle.orc_values.specs.Shapes.{Shape};
 ghost use Rattle.orc_column_reader.specs.Stripe.{Streams, cell_limit};
 ghost use Rattle.orc_row_index.specs.Bounds.{AreBounds, elements_before, pairs_before, values_before};
 ghost use Rattle.orc_row_index.specs.Places.{AreReadPlaces, AreWrittenPlaces};

@@ -1,8 +1,8 @@
 //! The streams of a column that have positions.
 ghost use Rattle.std.specs.Prelude.{◌≡◌, ◌++◌, ℕ, List, min, IfOk, OnOk};
 ghost use Rattle.orc_positions.specs.BitPosition.{IsBitPlace};
-ghost use Rattle.orc_types.specs.Cells.{Cell};
-ghost use Rattle.orc_types.specs.Views.{shape};
+ghost use Rattle.orc_values.specs.Cells.{Cell};
+ghost use Rattle.orc_values.specs.Views.{shape};
 ghost use Rattle.orc_column_reader.specs.Starting.{AreStreams};
 ghost use Rattle.orc_column_reader.specs.Stripe.{Streams};
 ghost use Rattle.orc_row_index.specs.Places.{PlacesIn, octets_place, is_place, Adds};
@@ -15,7 +15,7 @@ use crate::walk::Walk;
 use orc_column_reader::fault::StreamKind;
 use orc_column_reader::starting::ColumnStreams;
 use orc_rle::Sign;
-use orc_types::{Scalar, Tree};
+use orc_values::{Scalar, Tree};
 use std::alloc::AllocError;
 
 /// The streams of a column that have positions, in the order of these (ORC specification, "Row Group Index").

@@ -1,7 +1,7 @@
 //! The row index of a column.
 ghost use Rattle.std.specs.Prelude.{◌≡◌, List, length, IfOk, OnOk, OnErr};
-ghost use Rattle.orc_types.specs.Cells.{Cell};
-ghost use Rattle.orc_types.specs.Views.{shape};
+ghost use Rattle.orc_values.specs.Cells.{Cell};
+ghost use Rattle.orc_values.specs.Views.{shape};
 ghost use Rattle.orc_stats.specs.Kinds.{kind_of};
 ghost use Rattle.orc_stats.specs.Statistics.{stat};
 ghost use Rattle.orc_column_reader.specs.Starting.{AreStreams};
@@ -14,7 +14,7 @@ ghost use Rattle.orc_row_index.specs.RowIndex.{IsWrittenIndex};
 use crate::entries::put_entries;
 use orc_column_reader::starting::ColumnStreams;
 use orc_stats::Stat;
-use orc_types::{Own, Tree};
+use orc_values::{Own, Tree};
 use std::alloc::{AllocError, Global};
 
 /// Adds the bytes of a column's ROW_INDEX (ORC specification, "Row Group Index"). A bound says how many of the

@@ -5,7 +5,7 @@ ghost use Rattle.orc_stats.specs.Tallies.{cells_kept, stat_of_kept};
 ghost use Rattle.orc_row_index.specs.OwnCells.{own_cells};
 
 use orc_stats::{Stat, Tally};
-use orc_types::Own;
+use orc_values::Own;
 use std::alloc::{AllocError, Global};
 
 /// What is counted of cells.

@@ -3,7 +3,7 @@ use Rattle.std.specs.Prelude.{MatchBool}
 use Rattle.std.proofs.Common.{◌≡◌, ℕ, ◌≤◌, Bool, true, false, Option, Some, None, List, [], ◌∷◌, ◌++◌, length, take, drop, get_or, refl, sym, ap, ◌∙◌, subst, arith}
 use Rattle.std.proofs.lemmas.List.{take-append-drop}
 use Rattle.orc_positions.specs.BitPosition.{BeginsBits}
-use Rattle.orc_types.specs.Cells.{Cell, values}
+use Rattle.orc_values.specs.Cells.{Cell, values}
 use Rattle.orc_row_index.specs.Places.{StreamPlace, PlacesIn, OwnPlaces, octets, begins, position_size}
 use Rattle.orc_row_index.specs.RunStreams.{RunStream}
 use Rattle.orc_row_index.specs.Walking.{HasPlace, HasOctets}

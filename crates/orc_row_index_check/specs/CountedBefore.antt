@@ -1,6 +1,6 @@
 -- What is counted of a column's cells before each group (ORC specification, "Row Group Index").
 use Rattle.std.specs.Prelude.{◌≡◌, ℕ, Some, List, length, slice_get}
-use Rattle.orc_types.specs.Cells.{Cell}
+use Rattle.orc_values.specs.Cells.{Cell}
 use Rattle.orc_row_index.specs.Bounds.{before_group}
 use Rattle.orc_row_index.specs.Walking.{AreCounted}
 use Rattle.orc_row_index.specs.declared.counts.Counts.{Counts}

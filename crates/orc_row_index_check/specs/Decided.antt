@@ -1,8 +1,8 @@
 -- Which entries of a row index have right positions (ORC specification, "Row Group Index").
 use Rattle.std.specs.Prelude.{◌≡◌, ℕ, Bool, Some, List, length, slice_get, MatchBool}
 use Rattle.orc_wire.specs.declared.row_index.RowIndexEntry.{RowIndexEntry}
-use Rattle.orc_types.specs.Cells.{Cell}
-use Rattle.orc_types.specs.Shapes.{Shape}
+use Rattle.orc_values.specs.Cells.{Cell}
+use Rattle.orc_values.specs.Shapes.{Shape}
 use Rattle.orc_column_reader.specs.Stripe.{Streams}
 use Rattle.orc_row_index.specs.Bounds.{before_group}
 use Rattle.orc_row_index.specs.Places.{AreReadPlaces}

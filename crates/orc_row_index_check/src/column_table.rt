@@ -1,8 +1,8 @@
 //! The runs of a column's streams, in which its positions are looked up.
 ghost use Rattle.std.specs.Prelude.{◌≡◌, ◌≢◌, ◌≤◌, ◌⊎◌, ℕ, Option, List, min, length, IfOk, IfErr, MatchBool};
 ghost use Rattle.orc_positions.specs.BitPosition.{BeginsBits};
-ghost use Rattle.orc_types.specs.Cells.{Cell};
-ghost use Rattle.orc_types.specs.Views.{shape};
+ghost use Rattle.orc_values.specs.Cells.{Cell};
+ghost use Rattle.orc_values.specs.Views.{shape};
 ghost use Rattle.orc_column_reader.specs.declared.fault.StripeFault.TheVariants.{OutOfMemory};
 ghost use Rattle.orc_column_reader.specs.declared.fault.StreamKind.TheVariants.{Present};
 ghost use Rattle.orc_row_index.specs.Places.{PlacesIn, OwnPlaces, begins};

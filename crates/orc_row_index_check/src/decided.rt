@@ -1,7 +1,7 @@
 //! Whether the entries of a column's row index say where their groups begin.
 ghost use Rattle.std.specs.Prelude.{◌≡◌, ◌≢◌, ℕ, List, length, IfErr, MatchResult};
-ghost use Rattle.orc_types.specs.Cells.{Cell};
-ghost use Rattle.orc_types.specs.Views.{shape};
+ghost use Rattle.orc_values.specs.Cells.{Cell};
+ghost use Rattle.orc_values.specs.Views.{shape};
 ghost use Rattle.orc_column_reader.specs.Starting.{AreStreams};
 ghost use Rattle.orc_column_reader.specs.Stripe.{Streams, IsColumn};
 ghost use Rattle.orc_column_reader.specs.declared.fault.StripeFault.TheVariants.{OutOfMemory};
@@ -14,7 +14,7 @@ use crate::column_table::tables_of;
 use orc_column_reader::fault::StripeFault;
 use orc_column_reader::starting::ColumnStreams;
 use orc_row_index::{Counts, own_kind, placed_streams};
-use orc_types::Tree;
+use orc_values::Tree;
 use orc_wire::RowIndexEntry;
 use std::alloc::Global;
 

@@ -1,10 +1,10 @@
 -- A cell that fits a type is one of its kind of statistic.
 use Rattle.std.proofs.Common.{◌≡◌, refl, true}
-use Rattle.orc_types.specs.declared.kind.Scalar.{Scalar}
-use Rattle.orc_types.specs.declared.kind.Scalar.TheVariants as scalar_kind
-use Rattle.orc_types.specs.Shapes.{Shape, scalar, list_of, map_of, struct_of}
-use Rattle.orc_types.specs.Cells.{Atom, bool, int, date, text, bytes, Cell, null, leaf, list, struct, pairs}
-use Rattle.orc_types.specs.Fits.{atom_fits, fits}
+use Rattle.orc_values.specs.declared.kind.Scalar.{Scalar}
+use Rattle.orc_values.specs.declared.kind.Scalar.TheVariants as scalar_kind
+use Rattle.orc_values.specs.Shapes.{Shape, scalar, list_of, map_of, struct_of}
+use Rattle.orc_values.specs.Cells.{Atom, bool, int, date, text, bytes, Cell, null, leaf, list, struct, pairs}
+use Rattle.orc_values.specs.Fits.{atom_fits, fits}
 use Rattle.orc_stats.specs.Kinds.{kind_of_scalar, kind_of, atom_is_of, is_of}
 
 atom_kind : (k : Scalar) (a : Atom) → atom_fits k a ≡ true → atom_is_of (kind_of_scalar k) a ≡ true

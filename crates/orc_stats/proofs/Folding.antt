@@ -1,10 +1,10 @@
 -- Tallies of lists, one after the other.
 use Rattle.std.proofs.Common.{◌≡◌, refl, sym, ◌∙◌, ap, arith, ℕ, suc, ◌+◌, ◌^◌, ◌<◌, ◌≤◌, List, [], ◌∷◌, length, drop, get_or, sum_by, true, All, Result, Ok, Err, IfErr, OnOk, subst}
 use Rattle.std.proofs.lemmas.List.{drop_more, drop_all, get_or-map}
-use Rattle.orc_types.specs.Cells.{Cell, null, leaf, list, struct, pairs, is_value, values}
-use Rattle.orc_types.specs.Views.{view}
-use Rattle.orc_types.specs.Lent.{lent_cells}
-use Rattle.orc_types.specs.declared.lent.Lent.{Lent}
+use Rattle.orc_values.specs.Cells.{Cell, null, leaf, list, struct, pairs, is_value, values}
+use Rattle.orc_values.specs.Views.{view}
+use Rattle.orc_values.specs.Lent.{lent_cells}
+use Rattle.orc_values.specs.declared.lent.Lent.{Lent}
 use Rattle.orc_stats.specs.declared.stat.Stat.{Stat}
 use Rattle.orc_stats.specs.declared.kind.StatKind.{StatKind}
 use Rattle.orc_stats.specs.declared.fault.StatFault.{StatFault}

@@ -3,8 +3,8 @@ use Rattle.std.proofs.Common.{◌≡◌, refl, sym, ◌∙◌, ap, ap₂, arith,
 use Rattle.std.proofs.lemmas.List.Elements.{filter_map-append}
 use Rattle.std.specs.List.{filter_map, list_all, AllByRecursion}
 use Rattle.std.specs.Option.{is_some, option_and_then}
-use Rattle.orc_types.specs.Fits.{signed_fits}
-use Rattle.orc_types.specs.Cells.{Cell, values}
+use Rattle.orc_values.specs.Fits.{signed_fits}
+use Rattle.orc_values.specs.Cells.{Cell, values}
 use Rattle.orc_stats.specs.declared.kind.StatKind.{StatKind}
 use Rattle.orc_stats.specs.declared.stat.Stat.{Stat}
 use Rattle.orc_stats.specs.declared.stat.Body.{Body}

@@ -1,8 +1,8 @@
 -- What is counted of a cell is counted of it without its children, too.
 use Rattle.std.proofs.Common.{◌≡◌, refl, ap, ◌∙◌, ℕ, not, length, Some}
-use Rattle.orc_types.specs.Cells.{Cell, null, leaf, list, struct, pairs, list_of_cells, list_of_pairs, is_value}
-use Rattle.orc_types.specs.Childless.{childless}
-use Rattle.orc_types.proofs.Childless.{value_childless, elements_many, pairs_many}
+use Rattle.orc_values.specs.Cells.{Cell, null, leaf, list, struct, pairs, list_of_cells, list_of_pairs, is_value}
+use Rattle.orc_values.specs.Childless.{childless}
+use Rattle.orc_values.proofs.Childless.{value_childless, elements_many, pairs_many}
 use Rattle.orc_stats.specs.declared.kind.StatKind.{StatKind}
 use Rattle.orc_stats.specs.declared.kind.StatKind.TheVariants as kind
 use Rattle.orc_stats.specs.Kinds.{is_of}

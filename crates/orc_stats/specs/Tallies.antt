@@ -1,6 +1,6 @@
 -- How statistics are counted: what is kept on the way, and how two such are put together.
 use Rattle.std.specs.Prelude.{◌≡◌, ℕ, ◌+◌, Bool, false, not, if◌then◌else◌, List, [], ◌∷◌, map, Option, Some}
-use Rattle.orc_types.specs.Cells.{Cell, null, is_value}
+use Rattle.orc_values.specs.Cells.{Cell, null, is_value}
 use Rattle.orc_stats.specs.declared.stat.Stat.{Stat}
 use Rattle.orc_stats.specs.declared.stat.Body.{Body}
 use Rattle.orc_stats.specs.Statistics.{bit}

@@ -3,7 +3,7 @@ use Rattle.std.proofs.Common.{◌≡◌, refl, sym, ◌∙◌, ap, arith, ℕ, �
 use Rattle.std.proofs.lemmas.List.Sums.{sum_by-cons}
 use Rattle.std.specs.List.{filter_map, cons_option}
 use Rattle.std.specs.Option.{option_map, option_and_then}
-use Rattle.orc_types.specs.Cells.{Cell, null, leaf, list, struct, pairs, values}
+use Rattle.orc_values.specs.Cells.{Cell, null, leaf, list, struct, pairs, values}
 use Rattle.orc_stats.specs.declared.kind.StatKind.{StatKind}
 use Rattle.orc_stats.specs.declared.stat.Stat.{Stat}
 use Rattle.orc_stats.specs.declared.stat.Body.{Body}

@@ -1,6 +1,6 @@
 //! The statistic of cells, and the one that several are joined to.
 ghost use Rattle.std.specs.Prelude.{◌≡◌, ◌≤◌, ◌^◌, IfOk, IfErr, OnOk, All, length, sum_by, true};
-ghost use Rattle.orc_types.specs.Lent.{lent_cells};
+ghost use Rattle.orc_values.specs.Lent.{lent_cells};
 ghost use Rattle.orc_stats.specs.declared.kind.StatKind.TheVariants.{Texts as text_kind};
 ghost use Rattle.orc_stats.specs.declared.fault.StatFault.TheVariants.{OutOfMemory};
 ghost use Rattle.orc_stats.specs.Kinds.{is_of, body_is_of};
@@ -14,7 +14,7 @@ use crate::kind::StatKind;
 use crate::measures::{Bins, Bools, Children, Dates, Ints, Plain, Texts};
 use crate::stat::Stat;
 use crate::tally::Tally;
-use orc_types::Lent;
+use orc_values::Lent;
 use std::alloc::Global;
 
 /// The statistic of a column's cells (ORC specification, "Column Statistics"). Of lists or maps it

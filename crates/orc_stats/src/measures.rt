@@ -16,7 +16,7 @@ pub use bools::Bools;
 pub use children::Children;
 pub use dates::Dates;
 pub use ints::Ints;
-use orc_types::Own;
+use orc_values::Own;
 pub use plain::Plain;
 use std::alloc::Global;
 pub use texts::Texts;
@@ -31,9 +31,9 @@ pub trait Sizes {
 /// texts that it was given.
 pub trait Measures<'r>: Sizes + Sized + Drop {
     ghost use Rattle.std.specs.Prelude.{◌≡◌, ◌+◌, ◌^◌, ◌≤◌, ◌<◌, ℕ, true, List, IfOk, IfErr, All, length};
-    ghost use Rattle.orc_types.specs.Cells.{Cell};
-    ghost use Rattle.orc_types.specs.Childless.{childless};
-    ghost use Rattle.orc_types.specs.Own.{own_cell};
+    ghost use Rattle.orc_values.specs.Cells.{Cell};
+    ghost use Rattle.orc_values.specs.Childless.{childless};
+    ghost use Rattle.orc_values.specs.Own.{own_cell};
     ghost use Rattle.orc_stats.specs.declared.kind.StatKind.{StatKind};
     ghost use Rattle.orc_stats.specs.declared.stat.Stat.{Stat};
     ghost use Rattle.orc_stats.specs.declared.fault.StatFault.TheVariants.{OutOfMemory};

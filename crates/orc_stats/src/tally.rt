@@ -2,7 +2,7 @@
 use crate::fault::StatFault;
 use crate::kind::StatKind;
 use crate::stat::Stat;
-use orc_types::{Lent, Own, Row, own_of};
+use orc_values::{Lent, Own, Row, own_of};
 use std::alloc::Global;
 
 /// So many values at most are counted in one statistic.
@@ -13,11 +13,11 @@ pub(crate) const MOST_VALUES: u64 = 1 << 62;
 /// memory, and of the kinds here that of STRING alone.
 pub trait Tally<'r>: Sized + Drop {
     ghost use Rattle.std.specs.Prelude.{◌≡◌, ◌+◌, ◌^◌, ◌≤◌, ◌<◌, ℕ, true, List, IfOk, IfErr, OnOk, All, length, sum_by};
-    ghost use Rattle.orc_types.specs.Cells.{Cell, is_value, values};
-    ghost use Rattle.orc_types.specs.Childless.{childless};
-    ghost use Rattle.orc_types.specs.Own.{own_cell};
-    ghost use Rattle.orc_types.specs.Views.{view};
-    ghost use Rattle.orc_types.specs.Lent.{lent_cells};
+    ghost use Rattle.orc_values.specs.Cells.{Cell, is_value, values};
+    ghost use Rattle.orc_values.specs.Childless.{childless};
+    ghost use Rattle.orc_values.specs.Own.{own_cell};
+    ghost use Rattle.orc_values.specs.Views.{view};
+    ghost use Rattle.orc_values.specs.Lent.{lent_cells};
     ghost use Rattle.orc_stats.specs.declared.kind.StatKind.{StatKind};
     ghost use Rattle.orc_stats.specs.declared.stat.Stat.{Stat};
     ghost use Rattle.orc_stats.specs.declared.fault.StatFault.TheVariants.{OutOfMemory};

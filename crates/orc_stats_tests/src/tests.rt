@@ -4,7 +4,7 @@ ghost use Rattle.orc_stats.specs.Kinds.{body_is_of};
 ghost use Rattle.orc_stats.specs.declared.kind.StatKind.TheVariants as kind;
 
 use orc_stats::{Body, Counted, Ints, Stat, StatFault, Tally};
-use orc_types::{Row, Value};
+use orc_values::{Row, Value};
 
 /// A statistic of one integer.
 fn one(value: i64) -> Stat

@@ -1,7 +1,7 @@
 -- The text of the next row of those that a cursor stands for.
 use Rattle.std.proofs.Common.{◌≡◌, ℕ, List, [], ◌∷◌, Bool, true, false, refl, sym, ◌∙◌, subst}
-use Rattle.orc_types.specs.Cells.{Cell}
-use Rattle.orc_types.specs.Views.{shape}
+use Rattle.orc_values.specs.Cells.{Cell}
+use Rattle.orc_values.specs.Views.{shape}
 use Rattle.orc_column_reader.specs.Columns.{CellsLeft}
 use Rattle.orc_column_reader.specs.declared.column.ColumnReader.{ColumnReader}
 use Rattle.orc_column_text.specs.Taken.{RowsLeft, GaveText, GivesText}

@@ -1,7 +1,7 @@
 -- A fault that is met behind a group's positions is one of the stripe itself, where they are right as far as they go.
 use Rattle.std.proofs.Common.{◌≡◌, ℕ, ◌+◌, ◌-◌, ◌*◌, List, length, subst, arith}
 use Rattle.std.proofs.lemmas.Option.{slice_get_within}
-use Rattle.orc_types.specs.Cells.{Cell}
+use Rattle.orc_values.specs.Cells.{Cell}
 use Rattle.orc_column_reader.specs.Faults.{FaultDown, HasFault}
 use Rattle.orc_column_reader.specs.Stripe.{columns_of}
 use Rattle.orc_column_reader.specs.declared.fault.StripeFault.{StripeFault}

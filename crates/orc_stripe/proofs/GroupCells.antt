@@ -2,10 +2,10 @@
 use Rattle.std.proofs.Common.{◌≡◌, ℕ, ◌+◌, ◌-◌, ◌≤◌, List, ◌++◌, length, take, drop, ap, ◌∙◌, subst, arith, length-append}
 use Rattle.std.proofs.Math.Seq.{take-add}
 use Rattle.std.proofs.lemmas.List.{take_all}
-use Rattle.orc_types.specs.Cells.{Cell}
-use Rattle.orc_types.specs.Columns.{cells}
-use Rattle.orc_types.specs.Shapes.{Shape}
-use Rattle.orc_types.proofs.Together.{cells-append}
+use Rattle.orc_values.specs.Cells.{Cell}
+use Rattle.orc_values.specs.Columns.{cells}
+use Rattle.orc_values.specs.Shapes.{Shape}
+use Rattle.orc_values.proofs.Together.{cells-append}
 use Rattle.orc_row_index.specs.Bounds.{AreBounds}
 use Rattle.orc_row_index.proofs.Groups.{bounds_map}
 use Rattle.orc_stripe_writer.specs.Groups.{cells_before, bounds_of}

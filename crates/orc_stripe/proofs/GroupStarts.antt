@@ -3,10 +3,10 @@ use Rattle.std.proofs.Common.{◌≡◌, ℕ, ◌*◌, ◌<◌, Bool, true, Opti
 use Rattle.std.proofs.lemmas.List.{take-append-drop, get_or-map}
 use Rattle.std.proofs.lemmas.List.FromFn.{get_or-map-range_with_len}
 use Rattle.std.proofs.Math.Seq.{take-append_seam}
-use Rattle.orc_types.specs.Cells.{Cell}
-use Rattle.orc_types.specs.Columns.{cells}
-use Rattle.orc_types.specs.Shapes.{Shape, width, shape_at}
-use Rattle.orc_types.proofs.Together.{cells-append}
+use Rattle.orc_values.specs.Cells.{Cell}
+use Rattle.orc_values.specs.Columns.{cells}
+use Rattle.orc_values.specs.Shapes.{Shape, width, shape_at}
+use Rattle.orc_values.proofs.Together.{cells-append}
 use Rattle.orc_wire.specs.declared.row_index.RowIndexMsg.{RowIndexMsg}
 use Rattle.orc_column_reader.specs.Stripe.{Streams, SpellRows, columns_of}
 use Rattle.orc_row_index.specs.Bounds.{before_group}

@@ -7,8 +7,8 @@ use Rattle.orc_wire.specs.Spells.{Faults}
 use Rattle.orc_wire.specs.declared.fault.WireFault.{WireFault}
 use Rattle.orc_wire.specs.declared.fault.WireFault.TheVariants as wire
 use Rattle.orc_wire.specs.declared.row_index.RowIndexEntry.{RowIndexEntry}
-use Rattle.orc_types.specs.Cells.{Cell}
-use Rattle.orc_types.specs.Shapes.{Shape}
+use Rattle.orc_values.specs.Cells.{Cell}
+use Rattle.orc_values.specs.Shapes.{Shape}
 use Rattle.orc_column_reader.specs.Directory.{has_stream}
 use Rattle.orc_column_reader.specs.Stripe.{Streams}
 use Rattle.orc_column_reader.specs.declared.fault.StripeFault.{StripeFault}

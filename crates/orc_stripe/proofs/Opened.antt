@@ -1,14 +1,14 @@
 -- Why a stripe isn't opened.
 use Rattle.std.proofs.Common.{Bool, true, false, Option, Some, if◌then◌else◌, nat_le, ◌&&◌, ◌≡◌, ◌≢◌, ◌+◌, ◌-◌, ◌≤◌, ℕ, None, List, [], ◌∷◌, length, refl, inl, inr, ◌⊎◌, sym, ◌∙◌, subst, arith}
 use Rattle.std.proofs.lemmas.Bool.{both_ways, and_parts, leb-true, le-leb}
-use Rattle.orc_types.specs.Shapes.{width}
-use Rattle.orc_types.specs.Types.{types}
+use Rattle.orc_values.specs.Shapes.{width}
+use Rattle.orc_values.specs.Types.{types}
 use Rattle.orc_types.proofs.Trees.{length-types}
 use Rattle.orc_wire.specs.declared.encoding.Encoding.{Encoding}
 use Rattle.orc_wire.specs.declared.stripe_footer.StreamMsg.{StreamMsg}
 use Rattle.orc_wire.specs.declared.type_msg.TypeMsg.{TypeMsg}
 use Rattle.orc_column_reader.specs.Directory.{have_room, names_once, have_columns, is_directory, first_wrong, takes_encoding}
-use Rattle.orc_types.specs.Shapes.{Shape}
+use Rattle.orc_values.specs.Shapes.{Shape}
 use Rattle.orc_wire.specs.declared.stripe_info.StripeInfo.{StripeInfo}
 use Rattle.orc_wire.specs.declared.fault.WireFault.{WireFault}
 use Rattle.orc_wire.specs.declared.fault.WireFault.TheVariants as wire

@@ -1,9 +1,9 @@
 -- What is counted of one column before each group of rows, on the way down to it from the root (own; ORC specification,
 -- "Row Group Index", "Types": columns are numbered in pre-order).
 use Rattle.std.specs.Prelude.{◌≡◌, ℕ, ◌+◌, ◌<◌, ◌≤◌, List, length}
-use Rattle.orc_types.specs.Cells.{Cell, values}
-use Rattle.orc_types.specs.Columns.{cells}
-use Rattle.orc_types.specs.Shapes.{Shape, Fields, width, widths}
+use Rattle.orc_values.specs.Cells.{Cell, values}
+use Rattle.orc_values.specs.Columns.{cells}
+use Rattle.orc_values.specs.Shapes.{Shape, Fields, width, widths}
 use Rattle.orc_column_reader.specs.Stripe.{Streams, SpellRows, cell_limit}
 use Rattle.orc_column_reader.specs.declared.fault.StripeFault.{StripeFault}
 use Rattle.orc_column_reader.specs.declared.fault.StripeFault.TheVariants as fault

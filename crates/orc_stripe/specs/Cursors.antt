@@ -1,8 +1,8 @@
 -- Rows one after the other (ORC specification, "Stripes").
 use Rattle.std.specs.Prelude.{◌≡◌, ◌+◌, Bool, true, false, Option, Some, None, List, [], ◌∷◌, length}
-use Rattle.orc_types.specs.Cells.{Cell}
-use Rattle.orc_types.specs.Views.{view, shape}
-use Rattle.orc_types.specs.declared.value.Value.{Value}
+use Rattle.orc_values.specs.Cells.{Cell}
+use Rattle.orc_values.specs.Views.{view, shape}
+use Rattle.orc_values.specs.declared.value.Value.{Value}
 use Rattle.orc_column_reader.specs.Columns.{CellsLeft}
 use Rattle.orc_column_reader.specs.ReaderFaults.{CellsMeet}
 use Rattle.orc_column_reader.specs.declared.fault.StripeFault.{StripeFault}

@@ -1,6 +1,6 @@
 -- A stripe's bytes, with what is known of them before its rows are read (ORC specification, "Stripes").
 use Rattle.std.specs.Prelude.{ℕ, List}
-use Rattle.orc_types.specs.Shapes.{Shape}
+use Rattle.orc_values.specs.Shapes.{Shape}
 use Rattle.orc_wire.specs.declared.stripe_info.StripeInfo.{StripeInfo}
 use Rattle.orc_wire.specs.declared.stripe_footer.StripeFooter.{StripeFooter}
 

@@ -4,9 +4,9 @@ use Rattle.orc_wire.specs.declared.row_index.RowIndexMsg.{RowIndexMsg}
 use Rattle.orc_wire.specs.declared.stripe_footer.StripeFooter.{StripeFooter}
 use Rattle.orc_wire.specs.Messages.{row_index}
 use Rattle.orc_wire.specs.Spells.{Spells, Faults}
-use Rattle.orc_types.specs.Cells.{Cell}
-use Rattle.orc_types.specs.Columns.{cells}
-use Rattle.orc_types.specs.Shapes.{shape_at}
+use Rattle.orc_values.specs.Cells.{Cell}
+use Rattle.orc_values.specs.Columns.{cells}
+use Rattle.orc_values.specs.Shapes.{shape_at}
 use Rattle.orc_column_reader.specs.Directory.{has_stream, slice}
 use Rattle.orc_column_reader.specs.Stripe.{columns_of}
 use Rattle.orc_column_reader.specs.declared.fault.Spot.TheVariants as spot

@@ -1,10 +1,10 @@
 //! A cursor: readers of all columns of a stripe, in the middle of their streams.
 ghost use Rattle.std.specs.Prelude.{◌≡◌, length};
-ghost use Rattle.orc_types.specs.Shapes.{width};
-ghost use Rattle.orc_types.specs.Views.{shape};
+ghost use Rattle.orc_values.specs.Shapes.{width};
+ghost use Rattle.orc_values.specs.Views.{shape};
 
 use orc_column_reader::column::ColumnReader;
-use orc_types::Tree;
+use orc_values::Tree;
 use std::alloc::Global;
 
 /// The rows of a stripe, one after the other. It keeps one run of each stream of runs, and dictionaries whole.

@@ -1,7 +1,7 @@
 //! What is counted of one column before each group of rows, on the way down to it from the root. No row is made.
 ghost use Rattle.std.specs.Prelude.{◌≡◌, ◌<◌, ◌≤◌, ◌+◌, map, length, IfOk, IfErr};
-ghost use Rattle.orc_types.specs.Shapes.{width, widths};
-ghost use Rattle.orc_types.specs.Views.{shape, fields as fields_view};
+ghost use Rattle.orc_values.specs.Shapes.{width, widths};
+ghost use Rattle.orc_values.specs.Views.{shape, fields as fields_view};
 ghost use Rattle.orc_column_reader.specs.Located.{AreLocated};
 ghost use Rattle.orc_column_reader.specs.Stripe.{columns_of};
 ghost use Rattle.orc_column_walk.specs.declared.found.GroupFound.{GroupFound as Group};
@@ -11,7 +11,7 @@ use orc_column_reader::fault::StripeFault;
 use orc_column_reader::located::Located;
 use orc_column_walk::{GroupFound, read_groups};
 use orc_row_index::Counts;
-use orc_types::{Field, Tree, width_of};
+use orc_values::{Field, Tree, width_of};
 use orc_wire::StripeFooter;
 use std::alloc::{AllocError, Global};
 

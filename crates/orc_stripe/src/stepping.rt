@@ -1,7 +1,7 @@
 //! The rows that a cursor has still to give: the next one, its text, or all of them.
 ghost use Rattle.std.specs.Prelude.{◌≡◌, ◌≢◌, List, Ok, Err, IfOk, IfErr, OnOk, OnErr, MatchResult};
-ghost use Rattle.orc_types.specs.Cells.{Cell};
-ghost use Rattle.orc_types.specs.Views.{views};
+ghost use Rattle.orc_values.specs.Cells.{Cell};
+ghost use Rattle.orc_values.specs.Views.{views};
 ghost use Rattle.orc_json.specs.Layouts.{text_by};
 ghost use Rattle.orc_column_text.specs.Taken.{GaveText, GivesText};
 ghost use Rattle.orc_column_reader.specs.declared.fault.StripeFault.{StripeFault as Fault};
@@ -15,7 +15,7 @@ use orc_column_reader::fault::StripeFault;
 use orc_column_reader::reader::{next_cell, next_cells};
 use orc_column_text::push_next;
 use orc_json::layout::Layout;
-use orc_types::Row;
+use orc_values::Row;
 
 impl<'a> RowCursor<'a> {
     /// The next row; at the end `None`, once nothing is found left over in any stream. Each row is

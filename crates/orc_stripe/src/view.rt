@@ -1,8 +1,8 @@
 //! A stripe of which the directory and the encodings are accepted, and its rows: all at once, or by a cursor.
 ghost use Rattle.std.specs.Prelude.{◌≡◌, ◌≢◌, ◌+◌, ℕ, List, true, false, Some, None, ◌⊎◌, IfOk, IfErr, MatchResult, length, drop};
-ghost use Rattle.orc_types.specs.Cells.{Cell};
+ghost use Rattle.orc_values.specs.Cells.{Cell};
 ghost use Rattle.orc_wire.specs.declared.stripe_footer.StripeFooter.{StripeFooter};
-ghost use Rattle.orc_types.specs.Views.{views};
+ghost use Rattle.orc_values.specs.Views.{views};
 ghost use Rattle.orc_column_reader.specs.Stripe.{HasFooter, IsStripe, columns_of};
 ghost use Rattle.orc_stripe.specs.Opening.{OpenFault};
 ghost use Rattle.orc_stripe.specs.Cursors.{IsGoing, StandsFor, MeetsFault};
@@ -21,7 +21,8 @@ use orc_column_reader::directory::{check_directory, first_wrong};
 use orc_column_reader::fault::{StripeFault, wire_fault};
 use orc_column_reader::located::locate;
 use orc_column_reader::starting::put_tree;
-use orc_types::{Row, Schema};
+use orc_types::Schema;
+use orc_values::Row;
 use orc_wire::{Message, StripeFooter, StripeInfo};
 use std::alloc::Global;
 use std::marker::Model;
@@ -48,7 +49,7 @@ pub struct StripeView<'a> {
 
 impl<'a> Model for StripeView<'a> {
     ghost use Rattle.std.specs.Coded.{codes};
-    ghost use Rattle.orc_types.specs.Coding.{coded_shape};
+    ghost use Rattle.orc_values.specs.Coding.{coded_shape};
     ghost use Rattle.orc_stripe.specs.Opened.{Opened};
     ghost use Rattle.orc_column_reader.specs.Stripe.{HasFooter};
 

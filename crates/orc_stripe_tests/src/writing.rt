@@ -1,13 +1,14 @@
 //! Stripes as they are written.
 ghost use Rattle.std.specs.Prelude.{◌≡◌, true, IfOk};
-ghost use Rattle.orc_types.specs.Fits.{RowsFit, fits};
-ghost use Rattle.orc_types.specs.Views.{view, views};
+ghost use Rattle.orc_values.specs.Fits.{RowsFit, fits};
+ghost use Rattle.orc_values.specs.Views.{view, views};
 
 use crate::assertions::{demand, passes};
 use orc_rle::Rle;
 use orc_stripe::{Options, StripeFault, StripeOut, are_few, write_stripe};
 use orc_test_lines::schema_of;
-use orc_types::{Row, Schema, row_from_json};
+use orc_types::{Schema, row_from_json};
+use orc_values::Row;
 use serde_json::Value as Json;
 use std::alloc::Global;
 use std::process::Abort;

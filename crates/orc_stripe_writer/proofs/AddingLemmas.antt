@@ -6,8 +6,8 @@ use Rattle.orc_rle.specs.Cut.{IsWritten}
 use Rattle.orc_rle.specs.ByteRun.{byte_rule}
 use Rattle.orc_rle.specs.BitStream.{IsBitText}
 use Rattle.orc_wire.specs.declared.encoding.Encoding.{Encoding}
-use Rattle.orc_types.specs.Shapes.{Shape}
-use Rattle.orc_types.specs.Cells.{Cell, is_value, values}
+use Rattle.orc_values.specs.Shapes.{Shape}
+use Rattle.orc_values.specs.Cells.{Cell, is_value, values}
 use Rattle.orc_stripe_writer.specs.declared.body.Body.{Body}
 use Rattle.orc_column_reader.specs.Spellings.{size, joined}
 use Rattle.orc_stripe_writer.specs.WordList.{AreDistinct, AreNamed, is_worth}

@@ -2,16 +2,16 @@
 use Rattle.std.proofs.Common.{◌≡◌, ℕ, suc, ◌-◌, ◌<◌, ◌^◌, ◌&&◌, nat_lt, ℤ, pos, negsuc, Bool, true, false, Option, List, [], ◌∷◌, ◌++◌, length, refl, sym, ap, ◌∙◌, arith, ltb-true, lt-ltb}
 use Rattle.std.specs.List.{flat_map}
 use Rattle.std.proofs.lemmas.List.{length-map}
-use Rattle.orc_types.specs.declared.kind.Scalar.{Scalar}
-use Rattle.orc_types.specs.declared.kind.Scalar.TheVariants as kind
-use Rattle.orc_types.specs.Kinds.{is_kind}
-use Rattle.orc_types.specs.Shapes.{scalar}
-use Rattle.orc_types.specs.Cells.{bool, int, date, text, bytes, Cell, null, leaf, list, struct, pairs, values}
-use Rattle.orc_types.specs.Fits.{signed_fits, RowsFit}
-use Rattle.orc_types.specs.Lent.{lent_cells}
-use Rattle.orc_types.specs.Views.{view, views}
-use Rattle.orc_types.specs.declared.lent.Lent.{Lent}
-use Rattle.orc_types.specs.declared.value.Value.{Value}
+use Rattle.orc_values.specs.declared.kind.Scalar.{Scalar}
+use Rattle.orc_values.specs.declared.kind.Scalar.TheVariants as kind
+use Rattle.orc_values.specs.Kinds.{is_kind}
+use Rattle.orc_values.specs.Shapes.{scalar}
+use Rattle.orc_values.specs.Cells.{bool, int, date, text, bytes, Cell, null, leaf, list, struct, pairs, values}
+use Rattle.orc_values.specs.Fits.{signed_fits, RowsFit}
+use Rattle.orc_values.specs.Lent.{lent_cells}
+use Rattle.orc_values.specs.Views.{view, views}
+use Rattle.orc_values.specs.declared.lent.Lent.{Lent}
+use Rattle.orc_values.specs.declared.value.Value.{Value}
 use Rattle.orc_stripe_writer.specs.declared.byte_string.ByteString.{ByteString}
 use Rattle.orc_column_reader.specs.Spellings.{AllStand, joined}
 use Rattle.orc_column_reader.specs.Columns.{IsBool, IsByte, IsInt, IsDate, IsText, IsBinary}

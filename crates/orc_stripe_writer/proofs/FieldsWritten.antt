@@ -2,12 +2,12 @@
 use Rattle.std.proofs.Common.{◌≡◌, ℕ, suc, ◌+◌, ◌<◌, ◌≤◌, List, [], ◌∷◌, length, get_or, take, drop, map, refl, sym, ap, ◌∙◌, subst, arith, string_bytes}
 use Rattle.std.specs.List.{flat_map}
 use Rattle.orc_rle.specs.declared.sign.Rle.{Rle}
-use Rattle.orc_types.specs.declared.tree.Field.{Field}
-use Rattle.orc_types.specs.Shapes.{Shape, Fields, field, width, widths}
-use Rattle.orc_types.specs.Cells.{Cell}
-use Rattle.orc_types.specs.Fits.{RowsFit}
-use Rattle.orc_types.specs.Views.{shape, fields}
-use Rattle.orc_types.proofs.Together.{heads_fit, tails_fit}
+use Rattle.orc_values.specs.declared.tree.Field.{Field}
+use Rattle.orc_values.specs.Shapes.{Shape, Fields, field, width, widths}
+use Rattle.orc_values.specs.Cells.{Cell}
+use Rattle.orc_values.specs.Fits.{RowsFit}
+use Rattle.orc_values.specs.Views.{shape, fields}
+use Rattle.orc_values.proofs.Together.{heads_fit, tails_fit}
 use Rattle.orc_row_index.specs.Bounds.{AreBounds}
 use Rattle.orc_stripe_writer.specs.Firsts.{firsts_of}
 use Rattle.orc_stripe_writer.specs.Groups.{AreGroupsFrom, AreFieldGroupsFrom}

@@ -5,10 +5,10 @@ use Rattle.std.proofs.lemmas.Bool.{cases_lt}
 use Rattle.std.proofs.lemmas.Grind.{div_ceil_times}
 use Rattle.std.proofs.lemmas.List.{take-append-drop, take-map}
 use Rattle.std.proofs.lemmas.List.FromFn.{length-map-range_with_len, get_or-map-range_with_len}
-use Rattle.orc_types.specs.Cells.{Cell, parts, pairs_in, keys_in, values_in, values}
-use Rattle.orc_types.specs.Columns.{cells, cells_within}
-use Rattle.orc_types.specs.Shapes.{Shape, list_of, map_of, struct_of, Fields, field, width}
-use Rattle.orc_types.proofs.Together.{values-append, flat_map-append, keys-append, map_values-append}
+use Rattle.orc_values.specs.Cells.{Cell, parts, pairs_in, keys_in, values_in, values}
+use Rattle.orc_values.specs.Columns.{cells, cells_within}
+use Rattle.orc_values.specs.Shapes.{Shape, list_of, map_of, struct_of, Fields, field, width}
+use Rattle.orc_values.proofs.Together.{values-append, flat_map-append, keys-append, map_values-append}
 use Rattle.orc_column_reader.proofs.Arms.{some_width}
 use Rattle.orc_row_index.specs.Bounds.{AreBounds, elements_before, pairs_before, values_before}
 use Rattle.orc_row_index.proofs.Groups.{bound_within, keys_long, map_values_long, key_bounds_are}

@@ -1,8 +1,8 @@
 -- The indexes of columns, one after the other.
 use Rattle.std.proofs.Common.{◌≡◌, ℕ, zero, suc, ◌+◌, ◌<◌, ◌≤◌, Some, List, [], ◌∷◌, ◌++◌, length, slice_get, refl, sym, ap, ◌∙◌, subst, arith, inl, inr, ◌⊎◌, append-nil, append_assoc, length-append}
-use Rattle.orc_types.specs.Shapes.{Shape, shape_at}
-use Rattle.orc_types.specs.Cells.{Cell}
-use Rattle.orc_types.specs.Columns.{cells}
+use Rattle.orc_values.specs.Shapes.{Shape, shape_at}
+use Rattle.orc_values.specs.Cells.{Cell}
+use Rattle.orc_values.specs.Columns.{cells}
 use Rattle.orc_row_index.specs.RowIndex.{IsWrittenIndex}
 use Rattle.orc_stripe_writer.specs.declared.body.Body.{Body}
 use Rattle.orc_stripe_writer.specs.Firsts.{firsts_of}

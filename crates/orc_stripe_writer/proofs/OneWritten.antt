@@ -14,11 +14,11 @@ use Rattle.orc_rle.specs.TwoWrittenLaws.{one_text_two}
 use Rattle.orc_rle.specs.ByteLaws.{one_byte_text}
 use Rattle.orc_rle.specs.BitLaws.{one_bit_text}
 use Rattle.orc_wire.specs.declared.encoding.Encoding.{Encoding}
-use Rattle.orc_types.specs.declared.kind.Scalar.{Scalar}
-use Rattle.orc_types.specs.declared.kind.Scalar.TheVariants as kind
-use Rattle.orc_types.specs.Shapes.{Shape, scalar, list_of, map_of, struct_of, shape_at}
-use Rattle.orc_types.specs.Cells.{Cell, leaf, int, is_value, parts, pairs_in, values}
-use Rattle.orc_types.specs.Columns.{cells}
+use Rattle.orc_values.specs.declared.kind.Scalar.{Scalar}
+use Rattle.orc_values.specs.declared.kind.Scalar.TheVariants as kind
+use Rattle.orc_values.specs.Shapes.{Shape, scalar, list_of, map_of, struct_of, shape_at}
+use Rattle.orc_values.specs.Cells.{Cell, leaf, int, is_value, parts, pairs_in, values}
+use Rattle.orc_values.specs.Columns.{cells}
 use Rattle.orc_column_reader.specs.Spellings.{AllStand, size, joined}
 use Rattle.orc_column_reader.specs.Columns.{IsBool, IsByte, IsInt, IsDate, IsText, IsBinary, signed_byte}
 use Rattle.orc_stripe_writer.specs.WordList.{entry_at, AreNamed, is_worth}

@@ -2,12 +2,12 @@
 use Rattle.std.proofs.Common.{◌≡◌, ◌∙◌, ℕ, pos, List, [], ◌∷◌, ◌++◌, map, length, option_map, refl, ap}
 use Rattle.std.specs.List.{flat_map}
 use Rattle.std.specs.Option.{option_to_list}
-use Rattle.orc_types.specs.Cells.{Cell, null, leaf, list, struct, pairs, is_value, list_of_cells, list_of_pairs, parts, pairs_in, values}
-use Rattle.orc_types.specs.Childless.{childless}
-use Rattle.orc_types.specs.Fits.{RowsFit}
-use Rattle.orc_types.specs.Shapes.{Shape, list_of, map_of}
-use Rattle.orc_types.specs.declared.own.Own.{Own}
-use Rattle.orc_types.proofs.Childless.{marks_childless, elements_many, pairs_many}
+use Rattle.orc_values.specs.Cells.{Cell, null, leaf, list, struct, pairs, is_value, list_of_cells, list_of_pairs, parts, pairs_in, values}
+use Rattle.orc_values.specs.Childless.{childless}
+use Rattle.orc_values.specs.Fits.{RowsFit}
+use Rattle.orc_values.specs.Shapes.{Shape, list_of, map_of}
+use Rattle.orc_values.specs.declared.own.Own.{Own}
+use Rattle.orc_values.proofs.Childless.{marks_childless, elements_many, pairs_many}
 use Rattle.orc_stats.specs.Statistics.{bool_of}
 use Rattle.orc_column_reader.specs.Spellings.{size}
 use Rattle.orc_row_index.specs.OwnCells.{own_cells, AreOwn}

@@ -8,10 +8,10 @@ use Rattle.orc_wire.specs.declared.stripe_footer.StreamMsg.{StreamMsg}
 use Rattle.orc_wire.specs.Messages.{stripe_footer}
 use Rattle.orc_wire.specs.Spells.{Spells}
 use Rattle.orc_wire.specs.CanonicalMessages.{stripe_footer_text}
-use Rattle.orc_types.specs.Cells.{Cell}
-use Rattle.orc_types.specs.Columns.{cells}
-use Rattle.orc_types.specs.Fits.{RowsFit}
-use Rattle.orc_types.specs.Shapes.{Shape, width, shape_at}
+use Rattle.orc_values.specs.Cells.{Cell}
+use Rattle.orc_values.specs.Columns.{cells}
+use Rattle.orc_values.specs.Fits.{RowsFit}
+use Rattle.orc_values.specs.Shapes.{Shape, width, shape_at}
 use Rattle.orc_column_reader.specs.Directory.{has_stream, slice, have_room, names_once, have_columns, is_directory}
 use Rattle.orc_column_reader.specs.Stripe.{encoding_at, columns_of, IsStripe}
 use Rattle.orc_stripe_writer.specs.WrittenColumn.{Written}

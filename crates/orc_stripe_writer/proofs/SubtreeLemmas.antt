@@ -6,14 +6,14 @@ use Rattle.std.proofs.lemmas.List.{length-map}
 use Rattle.orc_rle.specs.declared.sign.Rle.{Rle}
 use Rattle.orc_wire.specs.declared.encoding.Encoding.{Encoding}
 use Rattle.orc_wire.specs.declared.stripe_footer.StreamMsg.{StreamMsg}
-use Rattle.orc_types.specs.declared.tree.Field.{Field}
-use Rattle.orc_types.specs.Shapes.{Shape, scalar, list_of, map_of, struct_of, Fields, no_field, field, width, shape_at}
-use Rattle.orc_types.specs.Cells.{Cell, parts, keys_in, values_in, values}
-use Rattle.orc_types.specs.Columns.{cells}
-use Rattle.orc_types.specs.Fits.{RowsFit}
-use Rattle.orc_types.specs.Views.{shape, fields}
-use Rattle.orc_types.proofs.Together.{keys_fit, values_fit}
-use Rattle.orc_types.proofs.Views.{name_and_type-is}
+use Rattle.orc_values.specs.declared.tree.Field.{Field}
+use Rattle.orc_values.specs.Shapes.{Shape, scalar, list_of, map_of, struct_of, Fields, no_field, field, width, shape_at}
+use Rattle.orc_values.specs.Cells.{Cell, parts, keys_in, values_in, values}
+use Rattle.orc_values.specs.Columns.{cells}
+use Rattle.orc_values.specs.Fits.{RowsFit}
+use Rattle.orc_values.specs.Views.{shape, fields}
+use Rattle.orc_values.proofs.Together.{keys_fit, values_fit}
+use Rattle.orc_values.proofs.Views.{name_and_type-is}
 use Rattle.orc_column_reader.proofs.Arms.{some_width}
 use Rattle.orc_stripe_writer.specs.WrittenColumn.{Written}
 use Rattle.orc_stripe_writer.specs.WrittenStripe.{AreFew, HasColumns}

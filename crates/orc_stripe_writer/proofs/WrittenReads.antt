@@ -17,13 +17,13 @@ use Rattle.orc_rle.specs.BitStream.{IsBitText, IsBitStream}
 use Rattle.orc_wire.specs.declared.encoding.Encoding.{Encoding}
 use Rattle.orc_wire.specs.declared.type_msg.TypeMsg.{TypeMsg}
 use Rattle.orc_wire.specs.declared.stripe_footer.StreamMsg.{StreamMsg}
-use Rattle.orc_types.specs.declared.kind.Scalar.{Scalar}
-use Rattle.orc_types.specs.declared.kind.Scalar.TheVariants as kind
-use Rattle.orc_types.specs.Kinds.{number}
-use Rattle.orc_types.specs.Shapes.{Shape, scalar, list_of, map_of, struct_of, Fields, no_field, field, width, widths, shape_at, shape_within}
-use Rattle.orc_types.specs.Types.{types, fields_types}
-use Rattle.orc_types.specs.Cells.{Cell, is_value, parts, pairs_in, values}
-use Rattle.orc_types.specs.Columns.{cells}
+use Rattle.orc_values.specs.declared.kind.Scalar.{Scalar}
+use Rattle.orc_values.specs.declared.kind.Scalar.TheVariants as kind
+use Rattle.orc_values.specs.Kinds.{number}
+use Rattle.orc_values.specs.Shapes.{Shape, scalar, list_of, map_of, struct_of, Fields, no_field, field, width, widths, shape_at, shape_within}
+use Rattle.orc_values.specs.Types.{types, fields_types}
+use Rattle.orc_values.specs.Cells.{Cell, is_value, parts, pairs_in, values}
+use Rattle.orc_values.specs.Columns.{cells}
 use Rattle.orc_types.proofs.Trees.{length-types}
 use Rattle.orc_column_reader.specs.Spellings.{AllStand, Standing, size, Grouped}
 use Rattle.orc_column_reader.specs.Numbers.{AreNumbers}

@@ -2,8 +2,8 @@
 use Rattle.std.specs.Prelude.{ℕ, ◌≡◌, List, ◌++◌}
 use Rattle.orc_wire.specs.declared.encoding.Encoding.{Encoding}
 use Rattle.orc_rle.specs.declared.sign.Rle.{Rle}
-use Rattle.orc_types.specs.Shapes.{Shape}
-use Rattle.orc_types.specs.Cells.{Cell}
+use Rattle.orc_values.specs.Shapes.{Shape}
+use Rattle.orc_values.specs.Cells.{Cell}
 use Rattle.orc_stripe_writer.specs.declared.body.Body.{Body}
 use Rattle.orc_stripe_writer.specs.WrittenColumn.{Written, IsWrittenColumn}
 use Rattle.orc_stripe_writer.specs.WrittenStripe.{line, column_bytes, column_lines}

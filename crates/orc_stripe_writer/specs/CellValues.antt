@@ -2,7 +2,7 @@
 use Rattle.std.specs.Prelude.{ℕ, ◌-◌, ℤ, pos, negsuc, nat_lt, if◌then◌else◌, Bool, Option, Some, None, List, length, option_map}
 use Rattle.std.specs.List.{flat_map}
 use Rattle.std.specs.Option.{option_to_list}
-use Rattle.orc_types.specs.Cells.{Cell, null, leaf, list, struct, pairs, bool, int, date, text, bytes, list_of_cells, list_of_pairs}
+use Rattle.orc_values.specs.Cells.{Cell, null, leaf, list, struct, pairs, bool, int, date, text, bytes, list_of_cells, list_of_pairs}
 use Rattle.orc_stats.specs.Statistics.{bool_of}
 
 -- a whole number, or a date's day

@@ -2,9 +2,9 @@
 -- "Row Group Index").
 use Rattle.std.specs.Prelude.{◌≡◌, ℕ, ◌+◌, ◌*◌, ◌/◌, ◌%◌, ◌<◌, min, List, length, map, take}
 use Rattle.std.specs.List.{range_with_len, flat_map}
-use Rattle.orc_types.specs.Cells.{Cell, keys_in, values_in, values}
-use Rattle.orc_types.specs.Columns.{cells, cells_within}
-use Rattle.orc_types.specs.Shapes.{Shape, Fields, width, widths}
+use Rattle.orc_values.specs.Cells.{Cell, keys_in, values_in, values}
+use Rattle.orc_values.specs.Columns.{cells, cells_within}
+use Rattle.orc_values.specs.Shapes.{Shape, Fields, width, widths}
 
 -- how many groups so many rows have: each begins with a multiple of the stride
 abbrev pub group_count : ℕ → ℕ → ℕ

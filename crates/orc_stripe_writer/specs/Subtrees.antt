@@ -3,10 +3,10 @@
 use Rattle.std.specs.Prelude.{◌≡◌, ℕ, ◌+◌, ◌<◌, List, true, length}
 use Rattle.std.specs.List.{AllByRecursion, flat_map}
 use Rattle.orc_rle.specs.declared.sign.Rle.{Rle}
-use Rattle.orc_types.specs.Shapes.{Shape, Fields, width, widths, shape_at, shape_within}
-use Rattle.orc_types.specs.Cells.{Cell, cells_of, keys_in, values_in, values}
-use Rattle.orc_types.specs.Columns.{cells, cells_within}
-use Rattle.orc_types.specs.Fits.{each_fits, RowsFit}
+use Rattle.orc_values.specs.Shapes.{Shape, Fields, width, widths, shape_at, shape_within}
+use Rattle.orc_values.specs.Cells.{Cell, cells_of, keys_in, values_in, values}
+use Rattle.orc_values.specs.Columns.{cells, cells_within}
+use Rattle.orc_values.specs.Fits.{each_fits, RowsFit}
 use Rattle.orc_column_reader.specs.Stripe.{cell_limit}
 use Rattle.orc_stripe_writer.specs.declared.columns.Columns.{Columns}
 use Rattle.orc_stripe_writer.specs.Firsts.{firsts_of}

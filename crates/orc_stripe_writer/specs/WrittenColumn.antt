@@ -8,10 +8,10 @@ use Rattle.orc_rle.specs.Cut.{IsWritten}
 use Rattle.orc_rle.specs.ByteRun.{byte_rule}
 use Rattle.orc_rle.specs.BitStream.{IsBitText}
 use Rattle.orc_wire.specs.declared.encoding.Encoding.{Encoding}
-use Rattle.orc_types.specs.declared.kind.Scalar.{Scalar}
-use Rattle.orc_types.specs.declared.kind.Scalar.TheVariants as kind
-use Rattle.orc_types.specs.Shapes.{Shape, scalar, list_of, map_of, struct_of}
-use Rattle.orc_types.specs.Cells.{Cell, is_value, parts, pairs_in, values}
+use Rattle.orc_values.specs.declared.kind.Scalar.{Scalar}
+use Rattle.orc_values.specs.declared.kind.Scalar.TheVariants as kind
+use Rattle.orc_values.specs.Shapes.{Shape, scalar, list_of, map_of, struct_of}
+use Rattle.orc_values.specs.Cells.{Cell, is_value, parts, pairs_in, values}
 use Rattle.orc_column_reader.specs.Spellings.{Standing, size, joined}
 use Rattle.orc_column_reader.specs.Columns.{IsBool, IsByte, IsInt, IsDate, IsText, IsBinary}
 use Rattle.orc_stripe_writer.specs.WordList.{AreDistinct, AreNamed, is_worth}

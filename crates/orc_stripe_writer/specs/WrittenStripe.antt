@@ -10,9 +10,9 @@ use Rattle.orc_wire.specs.declared.stripe_info.StripeInfo.{StripeInfo}
 use Rattle.orc_wire.specs.Messages.{stripe_footer}
 use Rattle.orc_wire.specs.CanonicalMessages.{stripe_footer_text}
 use Rattle.orc_wire.specs.Spells.{Spells}
-use Rattle.orc_types.specs.Shapes.{Shape, width, shape_at}
-use Rattle.orc_types.specs.Cells.{Cell}
-use Rattle.orc_types.specs.Columns.{cells}
+use Rattle.orc_values.specs.Shapes.{Shape, width, shape_at}
+use Rattle.orc_values.specs.Cells.{Cell}
+use Rattle.orc_values.specs.Columns.{cells}
 use Rattle.orc_stats.specs.declared.stat.Stat.{Stat}
 use Rattle.orc_stats.specs.Kinds.{kind_of}
 use Rattle.orc_stats.specs.Statistics.{stat}

@@ -1,11 +1,11 @@
 //! The cells of the columns right below a column (ORC specification, "Column Encodings").
 ghost use Rattle.std.specs.Prelude.{◌≡◌, ◌++◌, IfOk, OnOk, map, take, drop, option_map, slice_get};
 ghost use Rattle.std.specs.List.{flat_map};
-ghost use Rattle.orc_types.specs.Cells.{parts, keys_in, values_in};
-ghost use Rattle.orc_types.specs.Lent.{lent_cells};
-ghost use Rattle.orc_types.specs.Views.{paired, view, views};
+ghost use Rattle.orc_values.specs.Cells.{parts, keys_in, values_in};
+ghost use Rattle.orc_values.specs.Lent.{lent_cells};
+ghost use Rattle.orc_values.specs.Views.{paired, view, views};
 
-use orc_types::{Lent, MapPair, Row, pairs_of, parts_of};
+use orc_values::{Lent, MapPair, Row, pairs_of, parts_of};
 use std::alloc::{AllocError, Global};
 
 /// Adds each of the rows at the end.

@@ -3,8 +3,8 @@ ghost use Rattle.std.specs.Prelude.{◌≡◌, ◌++◌, pos, map, length, IfOk,
 ghost use Rattle.std.specs.List.{list_all};
 ghost use Rattle.orc_rle.specs.Values.{InRange, AllInRange};
 ghost use Rattle.orc_rle.specs.declared.sign.Sign.TheVariants.{Signed, Unsigned};
-ghost use Rattle.orc_types.specs.Cells.{is_value};
-ghost use Rattle.orc_types.specs.Own.{own_cell};
+ghost use Rattle.orc_values.specs.Cells.{is_value};
+ghost use Rattle.orc_values.specs.Own.{own_cell};
 ghost use Rattle.orc_column_reader.specs.Spellings.{size, joined};
 ghost use Rattle.orc_stats.specs.Statistics as stats;
 ghost use Rattle.orc_row_index.specs.OwnCells.{own_cells};
@@ -13,7 +13,7 @@ ghost use Rattle.orc_stripe_writer.specs.CellValues.{int_in, bytes_in, size_in, 
 ghost use Rattle.orc_stripe_writer.specs.WordList.{byte_strings};
 
 use crate::byte_string::ByteString;
-use orc_types::Own;
+use orc_values::Own;
 use std::alloc::{AllocError, Global};
 
 /// Whether no cell is null.

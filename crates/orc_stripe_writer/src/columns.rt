@@ -2,12 +2,12 @@
 //! its index.
 ghost use Rattle.std.specs.Prelude.{◌≡◌, ◌+◌, ◌<◌, ℕ, List, map, length, IfOk, OnOk};
 ghost use Rattle.std.specs.List.{flat_map};
-ghost use Rattle.orc_types.specs.Shapes.{Shape, width, widths, shape_at};
-ghost use Rattle.orc_types.specs.Cells.{Cell, parts, pairs_in, values};
-ghost use Rattle.orc_types.specs.Columns as spec;
-ghost use Rattle.orc_types.specs.Fits.{RowsFit};
-ghost use Rattle.orc_types.specs.Views.{shape, fields as fields_view};
-ghost use Rattle.orc_types.specs.Lent.{lent_cells};
+ghost use Rattle.orc_values.specs.Shapes.{Shape, width, widths, shape_at};
+ghost use Rattle.orc_values.specs.Cells.{Cell, parts, pairs_in, values};
+ghost use Rattle.orc_values.specs.Columns as spec;
+ghost use Rattle.orc_values.specs.Fits.{RowsFit};
+ghost use Rattle.orc_values.specs.Views.{shape, fields as fields_view};
+ghost use Rattle.orc_values.specs.Lent.{lent_cells};
 ghost use Rattle.orc_stats.specs.Kinds.{kind_of};
 ghost use Rattle.orc_stats.specs.Statistics.{stat};
 ghost use Rattle.orc_column_reader.specs.Starting.{AreStreams};
@@ -31,7 +31,7 @@ use crate::put_column::put_cells;
 use orc_column_reader::starting::ColumnStreams;
 use orc_row_index::{element_bounds, field_bounds, pair_bounds, put_index};
 use orc_stats::Stat;
-use orc_types::{Field, Lent, Own, Tree};
+use orc_values::{Field, Lent, Own, Tree};
 use orc_wire::Encoding;
 use std::alloc::{AllocError, Global};
 

@@ -1,7 +1,7 @@
 //! The groups of rows that indexes tell of, and a column's index among those of a stripe.
 ghost use Rattle.std.specs.Prelude.{◌≡◌, ◌<◌, List, length, IfOk, OnOk};
-ghost use Rattle.orc_types.specs.Cells.{Cell};
-ghost use Rattle.orc_types.specs.Views.{shape};
+ghost use Rattle.orc_values.specs.Cells.{Cell};
+ghost use Rattle.orc_values.specs.Views.{shape};
 ghost use Rattle.orc_stats.specs.Kinds.{kind_of};
 ghost use Rattle.orc_stats.specs.Statistics.{stat};
 ghost use Rattle.orc_column_reader.specs.Starting.{AreStreams};
@@ -17,7 +17,7 @@ use crate::body::Body;
 use orc_column_reader::starting::ColumnStreams;
 use orc_row_index::put_index;
 use orc_stats::Stat;
-use orc_types::{Own, Tree};
+use orc_values::{Own, Tree};
 use orc_wire::StreamMsg;
 use std::alloc::{AllocError, Global};
 

@@ -1,16 +1,17 @@
 //! Whether rows are few enough for one stripe: each column has a greatest number of cells.
 ghost use Rattle.std.specs.Prelude.{IfOk, IfErr, ◌≡◌, map};
 ghost use Rattle.std.specs.Bool.{OnTrue, OnFalse};
-ghost use Rattle.orc_types.specs.Cells.{parts, values};
-ghost use Rattle.orc_types.specs.Lent.{lent_cells};
-ghost use Rattle.orc_types.specs.Views.{views, shape, fields as fields_view};
+ghost use Rattle.orc_values.specs.Cells.{parts, values};
+ghost use Rattle.orc_values.specs.Lent.{lent_cells};
+ghost use Rattle.orc_values.specs.Views.{views, shape, fields as fields_view};
 ghost use Rattle.orc_stripe_writer.specs.Subtrees.{PairsAreFew, FieldsAreFew};
 ghost use Rattle.orc_stripe_writer.specs.WrittenStripe.{AreFew};
 ghost use Rattle.orc_column_reader.specs.declared.fault.StripeFault.TheVariants.{OutOfMemory};
 
 use crate::below::{elements_of, fields_of, keys_of, lent_rows, map_values_of};
 use orc_column_reader::fault::StripeFault;
-use orc_types::{Field, Lent, Row, Schema, Tree};
+use orc_types::Schema;
+use orc_values::{Field, Lent, Row, Tree};
 use std::alloc::{AllocError, Global};
 
 /// Whether neither the column nor one below it has more than 2,147,483,647 cells.

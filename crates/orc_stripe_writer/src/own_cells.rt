@@ -1,10 +1,10 @@
 //! A column's cells as the column itself says them. Rows lie apart in memory: for what a cell says it is gone to once, and
 //! the column's streams, its statistic, its index and the bounds of the columns below are made of this list.
 ghost use Rattle.std.specs.Prelude.{IfOk};
-ghost use Rattle.orc_types.specs.Lent.{lent_cells};
+ghost use Rattle.orc_values.specs.Lent.{lent_cells};
 ghost use Rattle.orc_row_index.specs.OwnCells.{AreOwn};
 
-use orc_types::{Lent, Own, own_of};
+use orc_values::{Lent, Own, own_of};
 use std::alloc::{AllocError, Global};
 
 /// What a column says of its cells.

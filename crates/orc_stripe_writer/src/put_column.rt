@@ -2,10 +2,10 @@
 ghost use Rattle.std.specs.Prelude.{◌≡◌, map, IfOk, OnOk, ℕ, List};
 ghost use Rattle.orc_rle.specs.declared.sign.Sign.TheVariants.{Unsigned};
 ghost use Rattle.orc_rle.specs.Values.{AllInRange};
-ghost use Rattle.orc_types.specs.Cells.{Cell, is_value, values};
-ghost use Rattle.orc_types.specs.Shapes.{scalar};
-ghost use Rattle.orc_types.specs.Views.{shape};
-ghost use Rattle.orc_types.specs.Fits.{RowsFit};
+ghost use Rattle.orc_values.specs.Cells.{Cell, is_value, values};
+ghost use Rattle.orc_values.specs.Shapes.{scalar};
+ghost use Rattle.orc_values.specs.Views.{shape};
+ghost use Rattle.orc_values.specs.Fits.{RowsFit};
 ghost use Rattle.orc_row_index.specs.OwnCells.{own_cells, AreOwn};
 ghost use Rattle.orc_stripe_writer.specs.CellValues.{bools_in, number_bytes_in, ints_in, sizes_in};
 ghost use Rattle.orc_stripe_writer.specs.WordList.{byte_strings, AreNamed};
@@ -22,7 +22,7 @@ use crate::cell_values::{
 };
 use crate::word_list::{WordList, entries_of, word_list_of};
 use orc_rle::{Rle, Sign};
-use orc_types::{Own, Scalar, Tree};
+use orc_values::{Own, Scalar, Tree};
 use orc_wire::Encoding;
 use std::alloc::{AllocError, Global};
 

@@ -1,10 +1,10 @@
 //! Rows to the bytes of a stripe.
 ghost use Rattle.std.specs.Prelude.{◌≡◌, ℕ, List, length, IfOk, IfErr};
 ghost use Rattle.orc_rle.specs.declared.sign.Rle.{Rle};
-ghost use Rattle.orc_types.specs.Shapes.{Shape, width};
-ghost use Rattle.orc_types.specs.Cells.{Cell};
-ghost use Rattle.orc_types.specs.Fits.{RowsFit};
-ghost use Rattle.orc_types.specs.Views.{views};
+ghost use Rattle.orc_values.specs.Shapes.{Shape, width};
+ghost use Rattle.orc_values.specs.Cells.{Cell};
+ghost use Rattle.orc_values.specs.Fits.{RowsFit};
+ghost use Rattle.orc_values.specs.Views.{views};
 ghost use Rattle.orc_column_reader.specs.Stripe.{IsStripe};
 ghost use Rattle.orc_stripe_writer.specs.Groups.{starts};
 ghost use Rattle.orc_stripe_writer.specs.Indexes.{HaveIndexes};
@@ -19,7 +19,8 @@ use crate::indexes::first_rows;
 use crate::options::Options;
 use orc_column_reader::fault::StripeFault;
 use orc_stats::Stat;
-use orc_types::{Row, Schema};
+use orc_types::Schema;
+use orc_values::Row;
 use orc_wire::{Items, Message, StripeFooter, StripeInfo, whole_laws};
 use std::alloc::{AllocError, Global};
 

@@ -2,9 +2,9 @@
 ghost use Rattle.std.specs.Prelude.{◌≡◌, ◌<◌, ℕ, List};
 ghost use Rattle.orc_rle.specs.declared.sign.Rle.{Rle};
 ghost use Rattle.orc_wire.specs.declared.stripe_info.StripeInfo.{StripeInfo};
-ghost use Rattle.orc_types.specs.Shapes.{Shape, width};
-ghost use Rattle.orc_types.specs.Cells.{Cell};
-ghost use Rattle.orc_types.specs.Fits.{RowsFit};
+ghost use Rattle.orc_values.specs.Shapes.{Shape, width};
+ghost use Rattle.orc_values.specs.Cells.{Cell};
+ghost use Rattle.orc_values.specs.Fits.{RowsFit};
 ghost use Rattle.orc_column_reader.specs.Stripe.{IsStripe};
 ghost use Rattle.orc_stripe_writer.specs.WrittenStripe.{AreFew, HasRightIndex, IsWrittenStripe};
 

@@ -2,7 +2,8 @@
 //! part of the proof of each test that makes them, of which the proof says nothing but that it is safe.
 use orc_json::layout::Layout;
 use orc_stripe::{RowCursor, StripeFault, StripeView};
-use orc_types::{Row, Schema};
+use orc_types::Schema;
+use orc_values::Row;
 use orc_wire::StripeInfo;
 use std::alloc::Global;
 

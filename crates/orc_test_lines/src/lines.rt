@@ -3,7 +3,8 @@ use crate::calls::{cursor_of, next_row, next_text, rows_of};
 use orc_json::RowPrinter;
 use orc_json::layout::Layout;
 use orc_stripe::{RowCursor, StripeFault};
-use orc_types::{Row, Schema, fits, row_to_json};
+use orc_types::{Schema, fits, row_to_json};
+use orc_values::Row;
 use orc_wire::StripeInfo;
 use std::alloc::Global;
 

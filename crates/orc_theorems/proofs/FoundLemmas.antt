@@ -1,7 +1,7 @@
 -- What is found of a file that two files are joined into.
 use Rattle.std.proofs.Common.{◌≡◌, ℕ, ◌<◌, List, [], ◌∷◌, length, Option, Some, Result, Ok, Err, subst}
 use Rattle.std.specs.Prelude.{IfSome, IfErr, MatchResult}
-use Rattle.orc_types.specs.Cells.{Cell}
+use Rattle.orc_values.specs.Cells.{Cell}
 use Rattle.orc_file.specs.FileRows.{FileIs, joined}
 use Rattle.orc_file.specs.declared.tail.Tail.{Tail}
 use Rattle.orc_file.specs.declared.fault.FileFault.{FileFault}

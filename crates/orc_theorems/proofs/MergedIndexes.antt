@@ -1,6 +1,6 @@
 -- The row indexes of a merged file are those of its inputs.
 use Rattle.std.proofs.Common.{◌↔◌, ℕ, List, [], ◌∷◌}
-use Rattle.orc_types.specs.Cells.{Cell}
+use Rattle.orc_values.specs.Cells.{Cell}
 use Rattle.orc_file.specs.FileRows.{joined, FileIs}
 use Rattle.orc_file.specs.Honest.{Honest}
 use Rattle.orc_file.specs.declared.tail.Tail.{Tail}

@@ -3,7 +3,7 @@ use Rattle.std.proofs.Common.{◌≡◌, ◌⊎◌, ℕ, List, [], ◌∷◌, le
 use Rattle.std.specs.Prelude.{IfSome}
 use Rattle.std.specs.Borrow.{Bor}
 use Rattle.std.specs.Io.KnownBytes.{Appends}
-use Rattle.orc_types.specs.Cells.{Cell}
+use Rattle.orc_values.specs.Cells.{Cell}
 use Rattle.orc_file.specs.FileRows.{FileIs}
 use Rattle.orc_file.specs.Tails.{IsTail, tail_tests}
 use Rattle.orc_file.specs.declared.tail.Tail.{Tail}

@@ -7,9 +7,9 @@ use Rattle.orc_positions.specs.BitPosition.{BeginsBits}
 use Rattle.orc_positions.proofs.BitPositionLemmas.{bit_place_begins}
 use Rattle.orc_wire.specs.declared.row_index.RowIndexEntry.{RowIndexEntry}
 use Rattle.orc_wire.specs.declared.row_index.RowIndexMsg.{RowIndexMsg}
-use Rattle.orc_types.specs.Cells.{Cell, values}
-use Rattle.orc_types.specs.Columns.{cells}
-use Rattle.orc_types.specs.Shapes.{Shape, width, shape_at}
+use Rattle.orc_values.specs.Cells.{Cell, values}
+use Rattle.orc_values.specs.Columns.{cells}
+use Rattle.orc_values.specs.Shapes.{Shape, width, shape_at}
 use Rattle.orc_column_reader.specs.Stripe.{Streams, HasFooter, columns_of}
 use Rattle.orc_row_index.specs.Bounds.{before_group}
 use Rattle.orc_row_index.specs.Places.{RunPlace, BitPlace, StreamPlace, PlacesIn, position_size, octets, octets_place, begins}

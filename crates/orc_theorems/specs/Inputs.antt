@@ -1,6 +1,6 @@
 -- Files of which nothing is found, and what is found of a file (own).
 use Rattle.std.specs.Prelude.{ℕ, List, [], ◌∷◌}
-use Rattle.orc_types.specs.Cells.{Cell}
+use Rattle.orc_values.specs.Cells.{Cell}
 use Rattle.orc_file.specs.FileRows.{FileIs}
 use Rattle.orc_file.specs.declared.tail.Tail.{Tail}
 use Rattle.orc_check.specs.Findings.{Findings}

@@ -6,7 +6,7 @@
 //! and to be refused for memory alone. `DiffersOnlyBefore view group bytes` says that bytes are the stripe's but for
 //! some before the offsets that the group's entries record.
 ghost use Rattle.std.specs.Prelude.{◌≡◌, ℕ, List, [], Option, drop};
-ghost use Rattle.orc_types.specs.Cells.{Cell};
+ghost use Rattle.orc_values.specs.Cells.{Cell};
 ghost use Rattle.orc_column_reader.specs.Stripe.{Streams, HasFooter};
 ghost use Rattle.orc_stripe.specs.Opened.{Opened};
 ghost use Rattle.orc_stripe.specs.GroupCursors.{StartsGroup};

@@ -5,7 +5,7 @@
 //! index that doesn't say where the groups begin. `AreWithoutFinding files parts` says that each file has these rows,
 //! and that nothing is found of it.
 ghost use Rattle.std.specs.Prelude.{◌<◌, ◌^◌, ℕ, List, [], length};
-ghost use Rattle.orc_types.specs.Cells.{Cell};
+ghost use Rattle.orc_values.specs.Cells.{Cell};
 ghost use Rattle.orc_file.specs.FileRows.{FileIs, joined};
 ghost use Rattle.orc_file.specs.declared.tail.Tail.{Tail};
 ghost use Rattle.orc_check.specs.Findings.{Findings};

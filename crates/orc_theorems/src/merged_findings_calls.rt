@@ -1,6 +1,6 @@
 //! A caller over the theorem of findings: it checks two files, joins them, and checks what that gave.
 ghost use Rattle.std.specs.Prelude.{◌≡◌, ◌⊎◌, ◌∷◌, [], List, Some, IfOk, IfErr};
-ghost use Rattle.orc_types.specs.Cells.{Cell};
+ghost use Rattle.orc_values.specs.Cells.{Cell};
 ghost use Rattle.orc_file.specs.FileRows.{FileIs};
 ghost use Rattle.orc_file.specs.declared.tail.Tail.{Tail};
 ghost use Rattle.orc_file.specs.declared.fault.FileFault.TheVariants as fault;

@@ -8,8 +8,8 @@
 //! their order. `Wrote (merge groups) out` says that each of these calls answered Ok, and that the last one wrote
 //! `out`.
 ghost use Rattle.std.specs.Prelude.{◌≡◌, ◌↔◌, ◌&&◌, ◌<◌, ◌^◌, ℕ, List, Option, Some, length, slice_get, IsPermutation};
-ghost use Rattle.orc_types.specs.Cells.{Cell};
-ghost use Rattle.orc_types.specs.Shapes.{width};
+ghost use Rattle.orc_values.specs.Cells.{Cell};
+ghost use Rattle.orc_values.specs.Shapes.{width};
 ghost use Rattle.orc_stats.specs.declared.stat.Stat.{Stat};
 ghost use Rattle.orc_stats.specs.Whole.{has_sum};
 ghost use Rattle.orc_stripe_writer.specs.WrittenStripe.{column_stat};

@@ -1,8 +1,8 @@
 //! Callers over the merge theorem. Each makes merges that the theorem speaks of, and its contract is what the theorem
 //! says of them.
 ghost use Rattle.std.specs.Prelude.{◌≡◌, ◌↔◌, ◌<◌, ◌⊎◌, ◌&&◌, ◌++◌, ◌∷◌, [], ℕ, List, Some, map, slice_get, IsTrue, IfOk, IfErr};
-ghost use Rattle.orc_types.specs.Cells.{Cell};
-ghost use Rattle.orc_types.specs.Shapes.{width};
+ghost use Rattle.orc_values.specs.Cells.{Cell};
+ghost use Rattle.orc_values.specs.Shapes.{width};
 ghost use Rattle.orc_stats.specs.declared.stat.Stat.{Stat};
 ghost use Rattle.orc_stats.specs.Whole.{has_sum};
 ghost use Rattle.orc_stripe_writer.specs.WrittenStripe.{column_stat};

@@ -5,8 +5,8 @@
 //! `told` what it tells then. Its `bytes` are what was written. `OrcFile::open` finds a tail of which it says
 //! `IsTail`, `OrcFile::rows` rows of which it says `FileIs`, `check` a list of which it says `Findings`.
 ghost use Rattle.std.specs.Prelude.{◌≡◌, ◌<◌, ◌^◌, ℕ, List, [], length, Option};
-ghost use Rattle.orc_types.specs.Cells.{Cell};
-ghost use Rattle.orc_types.specs.Shapes.{Shape};
+ghost use Rattle.orc_values.specs.Cells.{Cell};
+ghost use Rattle.orc_values.specs.Shapes.{Shape};
 ghost use Rattle.orc_stripe_writer.specs.declared.options.Options.{Options};
 ghost use Rattle.orc_io.specs.Devices.{appended};
 ghost use Rattle.orc_file.specs.Tails.{IsTail};

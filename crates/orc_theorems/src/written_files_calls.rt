@@ -1,8 +1,8 @@
 //! Callers over the theorem of written files. One writes rows to an output, which may fail; the other writes them to
 //! memory, reads them back, and checks what it wrote.
 ghost use Rattle.std.specs.Prelude.{◌≡◌, ◌<◌, ◌^◌, ◌++◌, [], ℕ, List, length, Option, Some, false, IfOk, IfErr, OnOk, IsErrOf};
-ghost use Rattle.orc_types.specs.Cells.{Cell};
-ghost use Rattle.orc_types.specs.Views.{views};
+ghost use Rattle.orc_values.specs.Cells.{Cell};
+ghost use Rattle.orc_values.specs.Views.{views};
 ghost use Rattle.orc_file.specs.FileRows.{FileIs};
 ghost use Rattle.orc_file.specs.Images.{types_text};
 ghost use Rattle.orc_file.specs.Progress.{progress};
@@ -17,7 +17,8 @@ use crate::written_files::written_files_read_back;
 use orc_check::Finding;
 use orc_file::{FileFault, OrcFile, Sink, SliceSource, Tail, VecSink, Writer};
 use orc_stripe::Options;
-use orc_types::{Row, Schema};
+use orc_types::Schema;
+use orc_values::Row;
 use std::alloc::Global;
 
 /// A file that was written of rows, the rows that it is read as, and what is found of it.

@@ -7,8 +7,8 @@
 //! runs that were decoded rises by one at most. `SeekCounts` is what `RunCodec::seek`, `ByteRuns::seek` and
 //! `BitRuns::seek` promise of that count.
 ghost use Rattle.std.specs.Prelude.{◌<◌, ◌^◌, ℕ, List, Option, length};
-ghost use Rattle.orc_types.specs.Cells.{Cell};
-ghost use Rattle.orc_types.specs.Shapes.{Shape};
+ghost use Rattle.orc_values.specs.Cells.{Cell};
+ghost use Rattle.orc_values.specs.Shapes.{Shape};
 ghost use Rattle.orc_stripe_writer.specs.declared.options.Options.{Options};
 ghost use Rattle.orc_file.specs.FileRows.{FileIs, joined};
 ghost use Rattle.orc_file.specs.Writing.{IsWhole};

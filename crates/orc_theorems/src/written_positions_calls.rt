@@ -1,8 +1,8 @@
 //! Callers over the theorem of positions: they go to where a group of rows begins in the streams of a column, in a
 //! file that was written of rows, and in one that two such files were joined into.
 ghost use Rattle.std.specs.Prelude.{◌≡◌, ◌<◌, ℕ, List, IfOk};
-ghost use Rattle.orc_types.specs.Cells.{Cell};
-ghost use Rattle.orc_types.specs.Shapes.{width, shape_at};
+ghost use Rattle.orc_values.specs.Cells.{Cell};
+ghost use Rattle.orc_values.specs.Shapes.{width, shape_at};
 ghost use Rattle.orc_column_reader.specs.Stripe.{columns_of};
 ghost use Rattle.orc_row_index.specs.Walking.{ArePlaced};
 ghost use Rattle.orc_file.specs.FileRows.{FileIs};
@@ -20,7 +20,8 @@ use orc_column_reader::starting::streams_of;
 use orc_file::{FileFault, OrcFile, SliceSource, tail_laws};
 use orc_row_index::{PlacedStreams, placed_streams};
 use orc_stripe::{Options, Spot, StripeFault, StripeView};
-use orc_types::{Row, Schema, tree_at};
+use orc_types::Schema;
+use orc_values::{Row, tree_at};
 use std::alloc::Global;
 
 /// The streams of a column of a stripe that have positions.

@@ -7,7 +7,8 @@ use orc_theorems::{
     CallFault, ColumnSought, Sought, in_two_steps, join_and_seek, join_checked, join_in_groupings,
     join_in_orders, join_in_steps, print_from, print_other_from, write_and_read, write_and_seek,
 };
-use orc_types::{Row, Schema};
+use orc_types::Schema;
+use orc_values::Row;
 use std::alloc::Global;
 
 /// Merges in two steps, and forgets the tail.

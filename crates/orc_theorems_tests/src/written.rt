@@ -7,7 +7,8 @@ use orc_rle::Rle;
 use orc_stripe::Options;
 use orc_test_io::SEVENS;
 use orc_theorems::CallFault;
-use orc_types::{Row, Schema, Value};
+use orc_types::Schema;
+use orc_values::{Row, Value};
 use std::alloc::{AllocError, Global};
 
 fn row(alloc: Global, number: i64) -> Result<Row<'static>, AllocError> {

@@ -1,6 +1,6 @@
 -- A schema's text is that of its kinds and names.
 use Rattle.std.proofs.Common.{◌≡◌, [], Bool, true, false, refl, sym, ◌∙◌, append-nil}
-use Rattle.orc_types.specs.Shapes.{Shape, scalar, list_of, map_of, struct_of, Fields, no_field, field, width, widths, depth, depths, IsStruct}
+use Rattle.orc_values.specs.Shapes.{Shape, scalar, list_of, map_of, struct_of, Fields, no_field, field, width, widths, depth, depths, IsStruct}
 use Rattle.orc_types.specs.Schemas.{IsSchema}
 use Rattle.orc_types.specs.SchemaText.{text, fields_text, IsPlain, bare, bare_fields, HasText}
 use Rattle.orc_types.specs.TextFronts.{IsFront}

@@ -4,12 +4,12 @@ use Rattle.std.proofs.Common.{Bool, true, false, Option, Some, None}
 use Rattle.std.specs.Prelude.{◌⊎◌, ◌≢◌, slice_get}
 use Rattle.std.specs.List.{AllByRecursion}
 use Rattle.std.specs.Str.{is_utf8}
-use Rattle.orc_types.specs.declared.kind.Scalar.{Scalar}
+use Rattle.orc_values.specs.declared.kind.Scalar.{Scalar}
 use Rattle.orc_types.specs.declared.fault.TypeFault.{TypeFault}
 use Rattle.orc_types.specs.declared.fault.TypeFault.TheVariants as fault
-use Rattle.orc_types.specs.Kinds.{scalar_of, IsKind}
+use Rattle.orc_values.specs.Kinds.{scalar_of, IsKind}
 use Rattle.orc_wire.specs.declared.type_msg.TypeMsg.{TypeMsg}
-use Rattle.orc_types.specs.Shapes.{Shape, scalar, list_of, map_of, struct_of, Fields, no_field, field}
+use Rattle.orc_values.specs.Shapes.{Shape, scalar, list_of, map_of, struct_of, Fields, no_field, field}
 use Rattle.orc_types.specs.Schemas.{HasTypes, AllKept}
 use Rattle.orc_types.specs.Faults.{HasForeignKind, TypesFault}
 use Rattle.orc_types.specs.Preorder.{HasKeyAt, Found, FoundFields, NoFieldsAt, PlaceFault, FieldsPlaceFault}

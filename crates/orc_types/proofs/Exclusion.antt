@@ -9,11 +9,12 @@ use Rattle.std.proofs.lemmas.Bool.{eqb-true, eq-eqb}
 use Rattle.orc_wire.specs.declared.type_msg.TypeMsg.{TypeMsg}
 use Rattle.orc_types.specs.declared.fault.TypeFault.{TypeFault}
 use Rattle.orc_types.specs.declared.fault.TypeFault.TheVariants as fault
-use Rattle.orc_types.specs.Kinds.{IsKind}
-use Rattle.orc_types.specs.Types.{starts, types, fields_types}
-use Rattle.orc_types.specs.Shapes.{Shape, scalar, list_of, map_of, struct_of, Fields, no_field, field, width, depth, depths, HasTextNames, HaveTextNames, names_of, IsStruct}
+use Rattle.orc_values.specs.Kinds.{IsKind}
+use Rattle.orc_values.specs.Types.{starts, types, fields_types}
+use Rattle.orc_values.specs.Shapes.{Shape, scalar, list_of, map_of, struct_of, Fields, no_field, field, width, depth, depths, HasTextNames, HaveTextNames, names_of, IsStruct}
 use Rattle.orc_types.specs.Schemas.{HasTypes, same_node, same_types}
 use Rattle.orc_types.specs.Faults.{HasNoRoot, IsBelow, Descends, TypesFault}
+use Rattle.orc_values.proofs.Together.{all_append}
 use Rattle.orc_types.proofs.Trees.{past, slice_get_at, drop_suc, length-types, one_list}
 
 -- ---- facts of all elements
@@ -23,10 +24,6 @@ all_at P [] zero x all at = cc
 all_at P [] (suc i) x all at = cc
 all_at P (y ∷ ys) zero x all at = let e : y ≡ x = cc in subst P e all.0
 all_at P (y ∷ ys) (suc i) x all at = all_at P ys i x all.1 at
-
-pub all_append : {X : Type 0} (P : X → Type 0) (xs ys : List X) → AllByRecursion P xs → AllByRecursion P ys → AllByRecursion P (xs ++ ys)
-all_append P [] ys a b = b
-all_append P (x ∷ xs) ys a b = (a.0, all_append P xs ys a.1 b)
 
 abbrev HasKind : TypeMsg → Type 0
 HasKind t = IsKind t.kind

@@ -8,9 +8,9 @@ use Rattle.std.proofs.lemmas.Slice.Eq.{bytes_eq-Decides}
 use Rattle.serde_json.specs.Data.{Data, object, Members, no_members, member, put}
 use Rattle.serde_json.specs.Find.{get_member}
 use Rattle.serde_json.proofs.Views.{get_member-put, get_member-put_other}
-use Rattle.orc_types.specs.Shapes.{Shape, scalar, list_of, map_of, struct_of, Fields, no_field, field, names_of}
-use Rattle.orc_types.specs.Cells.{Atom, bool, int, date, text, bytes, Cell, null, leaf, list, struct, pairs, Cells, end, more, Pairs, no_pair, pair}
-use Rattle.orc_types.specs.Fits.{fits, all_fit, each_fits, pairs_fit}
+use Rattle.orc_values.specs.Shapes.{Shape, scalar, list_of, map_of, struct_of, Fields, no_field, field, names_of}
+use Rattle.orc_values.specs.Cells.{Atom, bool, int, date, text, bytes, Cell, null, leaf, list, struct, pairs, Cells, end, more, Pairs, no_pair, pair}
+use Rattle.orc_values.specs.Fits.{fits, all_fit, each_fits, pairs_fit}
 use Rattle.orc_types.specs.FieldNames.{is_among, all_differ, is_distinct, are_distinct, all_known}
 use Rattle.orc_types.specs.Days.{has_text}
 use Rattle.orc_types.specs.JsonLeaves.{atom_json, date_json}

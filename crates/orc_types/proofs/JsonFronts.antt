@@ -10,13 +10,13 @@ use Rattle.serde_json.specs.Find.{get, get_item}
 use Rattle.serde_json.specs.View.{view as json_view, items_view, members_view}
 use Rattle.serde_json.specs.declared.value.Value.{Value as Json, Array, Object}
 use Rattle.serde_json.proofs.Views.{view-Array, view-Object}
-use Rattle.orc_types.specs.Cells.{Cell, Cells, end, more, Pairs, no_pair, pair, cells_of, pairs_of}
-use Rattle.orc_types.specs.Shapes.{Shape, map_of, names_of}
-use Rattle.orc_types.specs.Views.{view, views, paired, shape, fields as fields_view}
-use Rattle.orc_types.specs.declared.tree.Tree.{Tree, List as TreeList, Map as TreeMap, Struct as TreeStruct}
-use Rattle.orc_types.specs.declared.tree.Field.{Field}
-use Rattle.orc_types.specs.declared.value.Value.{Value, List as ListOf, Map as MapOf, Struct as StructOf}
-use Rattle.orc_types.specs.declared.value.MapPair.{MapPair}
+use Rattle.orc_values.specs.Cells.{Cell, Cells, end, more, Pairs, no_pair, pair, cells_of, pairs_of}
+use Rattle.orc_values.specs.Shapes.{Shape, map_of, names_of}
+use Rattle.orc_values.specs.Views.{view, views, paired, shape, fields as fields_view}
+use Rattle.orc_values.specs.declared.tree.Tree.{Tree, List as TreeList, Map as TreeMap, Struct as TreeStruct}
+use Rattle.orc_values.specs.declared.tree.Field.{Field}
+use Rattle.orc_values.specs.declared.value.Value.{Value, List as ListOf, Map as MapOf, Struct as StructOf}
+use Rattle.orc_values.specs.declared.value.MapPair.{MapPair}
 use Rattle.orc_types.specs.FieldNames.{is_distinct, all_differ, are_distinct, all_known}
 use Rattle.orc_types.specs.KnownKeys.{count_keys}
 use Rattle.orc_types.specs.JsonRows.{Spells, PairSpells, PairsSpell, EachSpells, MemberSpells, FieldsSpell}
@@ -24,7 +24,7 @@ use Rattle.orc_types.specs.JsonFaults.{FaultAt, PairFault, Somewhere, InElement,
 use Rattle.orc_types.specs.declared.json_fault.JsonFault.{JsonFault}
 use Rattle.orc_types.specs.declared.json_fault.JsonFault.TheVariants as fault
 use Rattle.orc_types.proofs.Names.{counted_known}
-use Rattle.orc_types.proofs.Views.{name_and_type-is, paired-is, shape-List, shape-Map, shape-Struct, view-List, view-Map, view-Struct}
+use Rattle.orc_values.proofs.Views.{name_and_type-is, paired-is, shape-List, shape-Map, shape-Struct, view-List, view-Map, view-Struct}
 
 abbrev pub before : List Cell → Cells → Cells
 before [] ys = ys

@@ -6,17 +6,17 @@ use Rattle.hex.specs.Hex.{encode_lower}
 use Rattle.hex.proofs.HexLemmas.{decode_of-encode_lower}
 use Rattle.serde_json.specs.Data.{Data, null, boolean, number, string, array, object}
 use Rattle.serde_json.specs.Find.{of_integer}
-use Rattle.orc_types.specs.declared.kind.Scalar.{Scalar}
-use Rattle.orc_types.specs.declared.kind.Scalar.TheVariants as kind
+use Rattle.orc_values.specs.declared.kind.Scalar.{Scalar}
+use Rattle.orc_values.specs.declared.kind.Scalar.TheVariants as kind
 use Rattle.orc_types.specs.declared.json_fault.JsonFault.{JsonFault}
 use Rattle.orc_types.specs.declared.json_fault.JsonFault.TheVariants as fault
-use Rattle.orc_types.specs.Cells.{Atom, bool, int, date, text, bytes}
-use Rattle.orc_types.specs.Fits.{atom_fits, are_bytes}
-use Rattle.orc_types.specs.Kinds.{is_kind}
+use Rattle.orc_values.specs.Cells.{Atom, bool, int, date, text, bytes}
+use Rattle.orc_values.specs.Fits.{atom_fits, are_bytes}
+use Rattle.orc_values.specs.Kinds.{is_kind}
 use Rattle.orc_types.specs.Days.{has_text, day_text, IsDayText}
 use Rattle.orc_types.specs.JsonLeaves.{IsInteger, IsHex, SpellsAtom, LeafSpells, IsMisfit, IsOutOfRange, IsBadDate, IsBadHex, LeafFault, takes_numbers, takes_strings, date_json, atom_json}
 use Rattle.orc_types.proofs.Days.{one_day}
-use Rattle.orc_types.proofs.Bytes.{bytes_below}
+use Rattle.orc_values.proofs.Bytes.{bytes_below}
 
 -- ---- one value at most
 

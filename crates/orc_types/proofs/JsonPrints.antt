@@ -7,16 +7,16 @@ use Rattle.serde_json.specs.Data.{Data, array, object, item, Members, no_members
 use Rattle.serde_json.specs.View.{view as json_view, items_of, members_view}
 use Rattle.serde_json.specs.declared.value.Value.{Value as Json, Array, Object}
 use Rattle.serde_json.proofs.Views.{view-Array, view-Object}
-use Rattle.orc_types.specs.Shapes.{Shape}
-use Rattle.orc_types.specs.Cells.{Cell, cells_of, pairs_of}
-use Rattle.orc_types.specs.Views.{view, views, paired, shape, name_and_type, fields as fields_view}
-use Rattle.orc_types.specs.declared.tree.Field.{Field}
-use Rattle.orc_types.specs.declared.tree.Tree.{Tree, List as TreeList, Map as TreeMap, Struct as TreeStruct}
-use Rattle.orc_types.specs.declared.value.Value.{Value, List as ListOf, Map as MapOf, Struct as StructOf}
-use Rattle.orc_types.specs.declared.value.MapPair.{MapPair}
-use Rattle.orc_types.specs.Fits.{fits, all_fit, each_fits, pairs_fit}
+use Rattle.orc_values.specs.Shapes.{Shape}
+use Rattle.orc_values.specs.Cells.{Cell, cells_of, pairs_of}
+use Rattle.orc_values.specs.Views.{view, views, paired, shape, name_and_type, fields as fields_view}
+use Rattle.orc_values.specs.declared.tree.Field.{Field}
+use Rattle.orc_values.specs.declared.tree.Tree.{Tree, List as TreeList, Map as TreeMap, Struct as TreeStruct}
+use Rattle.orc_values.specs.declared.value.Value.{Value, List as ListOf, Map as MapOf, Struct as StructOf}
+use Rattle.orc_values.specs.declared.value.MapPair.{MapPair}
+use Rattle.orc_values.specs.Fits.{fits, all_fit, each_fits, pairs_fit}
 use Rattle.orc_types.specs.JsonPrinting.{json_of, each_json, pair_json, pairs_json, members_json}
-use Rattle.orc_types.proofs.Views.{name_and_type-is, paired-is, shape-List, shape-Map, shape-Struct, view-List, view-Map, view-Struct}
+use Rattle.orc_values.proofs.Views.{name_and_type-is, paired-is, shape-List, shape-Map, shape-Struct, view-List, view-Map, view-Struct}
 
 each_json-cells_of : (f : Cell → Data) (cs : List Cell) → each_json f (cells_of cs) ≡ items_of (map f cs)
 each_json-cells_of f [] = refl

@@ -2,10 +2,10 @@
 use Rattle.std.proofs.Common.{◌≡◌, ℕ, ◌<◌, suc, List, [], ◌∷◌, ◌++◌, take, map, length, get_or, Option, Bor, sym, ap, ◌∙◌, append_assoc}
 use Rattle.std.proofs.lemmas.List.{map-append}
 use Rattle.std.proofs.Math.Seq.{take-suc}
-use Rattle.orc_types.specs.Cells.{Cell}
-use Rattle.orc_types.specs.Views.{view, paired, lent_views}
-use Rattle.orc_types.specs.declared.value.Value.{Value}
-use Rattle.orc_types.specs.declared.value.MapPair.{MapPair}
+use Rattle.orc_values.specs.Cells.{Cell}
+use Rattle.orc_values.specs.Views.{view, paired, lent_views}
+use Rattle.orc_values.specs.declared.value.Value.{Value}
+use Rattle.orc_values.specs.declared.value.MapPair.{MapPair}
 
 pub lent_more : (part : Cell × Cell → Cell) (found : List (Bor (Option Value))) (r : Bor (Option Value)) (before : List Cell) (ps : List MapPair) (i : ℕ) (p : MapPair) → i < length ps → p ≡ get_or ps i p → view r.now ≡ part (paired p)
     → lent_views found ≡ before ++ map part (map paired (take i ps)) → lent_views (found ++ r ∷ []) ≡ before ++ map part (map paired (take (suc i) ps))

@@ -1,13 +1,8 @@
-pub mod Views
-pub mod Childless
-pub mod ByColumn
 pub mod Lending
-pub mod Copied
 pub mod Trees
 pub mod Exclusion
 pub mod Decisions
 pub mod Cover
-pub mod Together
 pub mod KeptFields
 pub mod Texts
 pub mod Listed
@@ -16,7 +11,6 @@ pub mod Bare
 pub mod TextFronts
 pub mod TextSchemas
 pub mod TextExclusion
-pub mod Bytes
 pub mod Days
 pub mod JsonLeaves
 pub mod JsonFronts
@@ -24,4 +18,3 @@ pub mod JsonLaws
 pub mod JsonPrints
 pub mod JsonBack
 pub mod Names
-pub mod Deeper

@@ -15,12 +15,12 @@ use Rattle.serde_json.specs.Find.{get, get_member}
 use Rattle.serde_json.specs.View.{view as json_view, members_view}
 use Rattle.serde_json.specs.declared.value.Value.{Null, the_lemmas}
 use Rattle.serde_json.proofs.Views.{Entry, member_here, member_later, get_member-put, get_member-put_other}
-use Rattle.orc_types.specs.Shapes.{Shape, names_of}
-use Rattle.orc_types.specs.Views.{shape, name_and_type, fields}
+use Rattle.orc_values.specs.Shapes.{Shape, names_of}
+use Rattle.orc_values.specs.Views.{shape, name_and_type, fields}
 use Rattle.orc_types.specs.FieldNames.{is_among, all_differ, are_distinct, is_distinct, all_known}
 use Rattle.orc_types.specs.KnownKeys.{one_if_some, count_keys}
-use Rattle.orc_types.specs.declared.tree.Field.{Field}
-use Rattle.orc_types.proofs.Views.{name_and_type-is}
+use Rattle.orc_values.specs.declared.tree.Field.{Field}
+use Rattle.orc_values.proofs.Views.{name_and_type-is}
 
 -- ---- names that differ
 

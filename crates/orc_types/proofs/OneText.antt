@@ -1,9 +1,9 @@
 -- A text is of one plain type at most, whatever stands behind it.
 use Rattle.std.proofs.Common.{◌≡◌, ℕ, List, [], ◌∷◌, ◌++◌, Bool, true, false, cond, ◌==◌, Option, Some, None, codes, refl, sym, ap, ◌∙◌, subst, append_assoc, arith, get_or, append-nil}
 use Rattle.std.proofs.lemmas.List.{append_cancel_left}
-use Rattle.orc_types.specs.declared.kind.Scalar.{Scalar}
-use Rattle.orc_types.specs.declared.kind.Scalar.TheVariants as kind
-use Rattle.orc_types.specs.Shapes.{Shape, scalar, list_of, map_of, struct_of, Fields, no_field, field}
+use Rattle.orc_values.specs.declared.kind.Scalar.{Scalar}
+use Rattle.orc_values.specs.declared.kind.Scalar.TheVariants as kind
+use Rattle.orc_values.specs.Shapes.{Shape, scalar, list_of, map_of, struct_of, Fields, no_field, field}
 use Rattle.orc_types.specs.SchemaText.{kind_name, comma, colon, text, fields_text, is_word, AreWords, IsName, IsPlain, ArePlain}
 
 -- ---- the first bytes tell the kind

@@ -3,7 +3,7 @@ use Rattle.std.proofs.Common.{◌≡◌, ℕ, zero, suc, ◌<◌, List, [], ◌+
 use Rattle.std.proofs.lemmas.List.{append_cancel_left}
 use Rattle.orc_types.specs.declared.fault.TypeFault.{TypeFault}
 use Rattle.orc_types.specs.declared.fault.TypeFault.TheVariants as fault
-use Rattle.orc_types.specs.Shapes.{Shape, scalar, list_of, map_of, struct_of, Fields, no_field, field, width, depth, depths, IsStruct}
+use Rattle.orc_values.specs.Shapes.{Shape, scalar, list_of, map_of, struct_of, Fields, no_field, field, width, depth, depths, IsStruct}
 use Rattle.orc_types.specs.SchemaText.{comma, colon, text, fields_text, IsName, IsPlain, ArePlain, HasText}
 use Rattle.orc_types.specs.TextFaults.{is_empty, element, key, value, member, Opens, TextFault}
 use Rattle.orc_types.proofs.Exclusion.{depth_pos}

@@ -5,17 +5,17 @@ use Rattle.std.specs.Str.{is_utf8}
 use Rattle.std.proofs.lemmas.Str.{is_utf8-from_IsUtf8, IsUtf8-from_ascii}
 use Rattle.std.proofs.lemmas.Str.Ascii.{IsAscii-from_all}
 use Rattle.std.proofs.lemmas.List.{append_cancel_left, take-append-drop, take_all, drop_all}
-use Rattle.orc_types.specs.declared.kind.Scalar.{Scalar}
-use Rattle.orc_types.specs.declared.kind.Scalar.TheVariants as kind
+use Rattle.orc_values.specs.declared.kind.Scalar.{Scalar}
+use Rattle.orc_values.specs.declared.kind.Scalar.TheVariants as kind
 use Rattle.orc_types.specs.declared.fault.TypeFault.{TypeFault}
 use Rattle.orc_types.specs.declared.fault.TypeFault.TheVariants as fault
-use Rattle.orc_types.specs.Shapes.{Shape, scalar, list_of, map_of, struct_of, Fields, no_field, field, depth, depths}
+use Rattle.orc_values.specs.Shapes.{Shape, scalar, list_of, map_of, struct_of, Fields, no_field, field, depth, depths}
 use Rattle.orc_types.specs.SchemaText.{kind_name, comma, colon, text, fields_text, is_word, AreWords, IsName, IsPlain, ArePlain}
 use Rattle.orc_types.specs.TextFaults.{is_empty, EntersField, Enters, element, key, value, member, Opens}
 use Rattle.orc_types.specs.TextFronts.{IsFront, IsFieldFront, IsFieldsFront, NoFront, NoFieldFront, NoFieldsFront, FrontFaultBy, FrontFault, FieldOpens, FieldFault, FieldsFault}
 use Rattle.orc_types.specs.Preorder.{NameFault}
-use Rattle.orc_types.specs.Views.{fields_of, fields}
-use Rattle.orc_types.specs.declared.tree.Field.{Field}
+use Rattle.orc_values.specs.Views.{fields_of, fields}
+use Rattle.orc_values.specs.declared.tree.Field.{Field}
 use Rattle.std.proofs.Math.Dec.{eqb-suc-zero}
 use Rattle.std.proofs.lemmas.Bool.Decides.{nat_tests}
 use Rattle.orc_types.proofs.OneText.{kind_or_map, array_or_map, map_or_struct, map_text, colon_ends, one_front, kind_or_array, kind_or_struct, array_or_struct, array_text, struct_text, field_text, no_field_closes, one_field, one_text}

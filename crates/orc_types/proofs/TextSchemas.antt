@@ -2,17 +2,17 @@
 use Rattle.std.proofs.Common.{◌≡◌, ◌≢◌, ℕ, ◌+◌, ◌≤◌, List, [], ◌++◌, length, Bool, true, false, codes, sym, ap, ◌∙◌, arith, length-append, append-nil}
 use Rattle.orc_wire.specs.declared.type_msg.TypeMsg.{TypeMsg}
 use Rattle.orc_wire.specs.CanonicalKinds.{AreKept}
-use Rattle.orc_types.specs.declared.kind.Scalar.{Scalar}
-use Rattle.orc_types.specs.declared.kind.Scalar.TheVariants as kind
+use Rattle.orc_values.specs.declared.kind.Scalar.{Scalar}
+use Rattle.orc_values.specs.declared.kind.Scalar.TheVariants as kind
 use Rattle.orc_types.specs.declared.fault.TypeFault.{TypeFault}
 use Rattle.orc_types.specs.declared.fault.TypeFault.TheVariants as fault
-use Rattle.orc_types.specs.Shapes.{Shape, scalar, list_of, map_of, struct_of, Fields, no_field, field, width, widths, IsStruct, HasTextNames, HaveTextNames}
-use Rattle.orc_types.specs.Types.{types, fields_types}
+use Rattle.orc_values.specs.Shapes.{Shape, scalar, list_of, map_of, struct_of, Fields, no_field, field, width, widths, IsStruct, HasTextNames, HaveTextNames}
+use Rattle.orc_values.specs.Types.{types, fields_types}
 use Rattle.orc_types.specs.Schemas.{AllKept}
 use Rattle.orc_types.specs.SchemaText.{kind_name, comma, colon, text, fields_text, IsPlain, ArePlain, HasText}
 use Rattle.orc_types.specs.TextFaults.{TextFault}
 use Rattle.orc_types.specs.TextFronts.{IsFront, FrontFault}
-use Rattle.orc_types.proofs.Exclusion.{all_append}
+use Rattle.orc_values.proofs.Together.{all_append}
 use Rattle.orc_types.proofs.KeptFields.{none_kept}
 use Rattle.orc_types.proofs.OneText.{one_text}
 use Rattle.orc_types.proofs.TextFronts.{name_text}

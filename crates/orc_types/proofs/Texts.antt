@@ -2,9 +2,9 @@
 use Rattle.std.proofs.Common.{◌≡◌, ℕ, suc, ◌<◌, List, ◌++◌, length, get_or, drop, ◌==◌, string_bytes, append_assoc, drop-cons}
 use Rattle.std.proofs.Math.Dec.{eqb-suc-zero}
 use Rattle.orc_types.specs.SchemaText.{text, fields_text, comma, colon}
-use Rattle.orc_types.specs.Views.{shape, fields}
-use Rattle.orc_types.specs.declared.tree.Field.{Field}
-use Rattle.orc_types.proofs.Views.{name_and_type-is}
+use Rattle.orc_values.specs.Views.{shape, fields}
+use Rattle.orc_values.specs.declared.tree.Field.{Field}
+use Rattle.orc_values.proofs.Views.{name_and_type-is}
 
 pub text_more : (fs : List Field) (i : ℕ) (f : Field) (a b : List ℕ) → i < length fs → f ≡ get_or fs i f → b ≡ a ++ comma (i == 0) ++ string_bytes f.name ++ colon ++ text (shape f.tree)
     → b ++ fields_text (suc i == 0) (fields (drop (suc i) fs)) ≡ a ++ fields_text (i == 0) (fields (drop i fs))

@@ -5,18 +5,18 @@ use Rattle.std.specs.List.{AllByRecursion}
 use Rattle.std.specs.Str.{is_utf8}
 use Rattle.std.proofs.lemmas.List.{drop-drop, drop_at, drop_all}
 use Rattle.std.proofs.lemmas.Bool.Decides.{eqb_tells}
-use Rattle.orc_types.specs.declared.kind.Scalar.{Scalar}
-use Rattle.orc_types.specs.declared.kind.Scalar.TheVariants as kind
+use Rattle.orc_values.specs.declared.kind.Scalar.{Scalar}
+use Rattle.orc_values.specs.declared.kind.Scalar.TheVariants as kind
 use Rattle.orc_types.specs.declared.fault.TypeFault.{TypeFault}
 use Rattle.orc_types.specs.declared.fault.TypeFault.TheVariants as fault
-use Rattle.orc_types.specs.Kinds.{number, scalar_of, IsKind}
-use Rattle.orc_types.specs.Types.{starts, types, fields_types}
+use Rattle.orc_values.specs.Kinds.{number, scalar_of, IsKind}
+use Rattle.orc_values.specs.Types.{starts, types, fields_types}
 use Rattle.orc_wire.specs.declared.type_msg.TypeMsg.{TypeMsg}
-use Rattle.orc_types.specs.Shapes.{Shape, scalar, list_of, map_of, struct_of, Fields, no_field, field, width, widths, names_of, IsStruct}
+use Rattle.orc_values.specs.Shapes.{Shape, scalar, list_of, map_of, struct_of, Fields, no_field, field, width, widths, names_of, IsStruct}
 use Rattle.orc_types.specs.Schemas.{HasTypes, AllKept}
 use Rattle.orc_types.specs.Faults.{IsBelow, Descends, HasNoRoot, TypesFault}
 use Rattle.orc_types.specs.Preorder.{HasKeyAt, Found, FoundFields, NoneAt, NoFieldsAt, NameFault, PlaceFault, FieldsPlaceFault}
-use Rattle.orc_types.specs.Views.{fields_of}
+use Rattle.orc_values.specs.Views.{fields_of}
 
 -- ---- kinds and their numbers
 

@@ -1,7 +1,7 @@
 -- The names of a schema's fields, which JSON objects have as their keys (RFC 8259, "Objects").
 use Rattle.std.specs.Prelude.{ℕ, List, [], ◌∷◌, Bool, true, false, not, ◌&&◌, ◌||◌, bytes_eq}
 use Rattle.serde_json.specs.Data.{Members, no_members, member}
-use Rattle.orc_types.specs.Shapes.{Shape, scalar, list_of, map_of, struct_of, Fields, no_field, field, names_of}
+use Rattle.orc_values.specs.Shapes.{Shape, scalar, list_of, map_of, struct_of, Fields, no_field, field, names_of}
 
 -- whether a name is one of these
 abbrev pub is_among : List (List ℕ) → List ℕ → Bool

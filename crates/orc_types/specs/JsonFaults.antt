@@ -5,7 +5,7 @@ use Rattle.serde_json.specs.Data.{Data, null as nothing, array, object, Items, n
 use Rattle.serde_json.specs.Find.{at, get}
 use Rattle.orc_types.specs.declared.json_fault.JsonFault.{JsonFault}
 use Rattle.orc_types.specs.declared.json_fault.JsonFault.TheVariants as fault
-use Rattle.orc_types.specs.Shapes.{Shape, scalar, list_of, map_of, struct_of, Fields, no_field, field, names_of}
+use Rattle.orc_values.specs.Shapes.{Shape, scalar, list_of, map_of, struct_of, Fields, no_field, field, names_of}
 use Rattle.orc_types.specs.FieldNames.{all_known}
 use Rattle.orc_types.specs.JsonLeaves.{LeafFault}
 

@@ -4,14 +4,14 @@ use Rattle.std.specs.Prelude.{◌≡◌, ℕ, ℤ, List, Bool, true, false, Some
 use Rattle.hex.specs.Hex.{decode_of, encode_lower}
 use Rattle.serde_json.specs.Data.{Data, null, boolean, number, string, array, object}
 use Rattle.serde_json.specs.Find.{as_number, as_integer, of_integer}
-use Rattle.orc_types.specs.declared.kind.Scalar.{Scalar}
-use Rattle.orc_types.specs.declared.kind.Scalar.TheVariants as kind
+use Rattle.orc_values.specs.declared.kind.Scalar.{Scalar}
+use Rattle.orc_values.specs.declared.kind.Scalar.TheVariants as kind
 use Rattle.orc_types.specs.declared.json_fault.JsonFault.{JsonFault}
 use Rattle.orc_types.specs.declared.json_fault.JsonFault.TheVariants as fault
-use Rattle.orc_types.specs.Cells.{Atom, bool, int, date, text, bytes, Cell, null as null_cell, leaf, list, struct, pairs}
+use Rattle.orc_values.specs.Cells.{Atom, bool, int, date, text, bytes, Cell, null as null_cell, leaf, list, struct, pairs}
 use Rattle.orc_types.specs.Days.{has_text, day_text, IsDayText}
-use Rattle.orc_types.specs.Fits.{atom_fits}
-use Rattle.orc_types.specs.Kinds.{is_kind}
+use Rattle.orc_values.specs.Fits.{atom_fits}
+use Rattle.orc_values.specs.Kinds.{is_kind}
 
 -- a number that serde_json holds as one of 64 bits, with a sign or without
 abbrev pub IsInteger : Data → ℤ → Type 0

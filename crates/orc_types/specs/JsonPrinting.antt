@@ -3,8 +3,8 @@ use Rattle.std.specs.Prelude.{ℕ, ◌≡◌, List, true}
 use Rattle.std.specs.Ordering.{is_lt, nat_cmp}
 use Rattle.std.specs.Cmp.Lexicographic.{slice_cmp}
 use Rattle.serde_json.specs.Data.{Data, null as nothing, array, object, Items, no_items, item, Members, no_members, member, put}
-use Rattle.orc_types.specs.Shapes.{Shape, scalar, list_of, map_of, struct_of, Fields, no_field, field}
-use Rattle.orc_types.specs.Cells.{Cell, null, leaf, list, struct, pairs, Cells, end, more, Pairs, no_pair, pair}
+use Rattle.orc_values.specs.Shapes.{Shape, scalar, list_of, map_of, struct_of, Fields, no_field, field}
+use Rattle.orc_values.specs.Cells.{Cell, null, leaf, list, struct, pairs, Cells, end, more, Pairs, no_pair, pair}
 use Rattle.orc_types.specs.JsonLeaves.{atom_json}
 
 -- the elements of an array, a cell each

@@ -2,8 +2,8 @@
 use Rattle.std.specs.Prelude.{ℕ, ◌≡◌, ◌⊎◌, List, true, Option, Some, None}
 use Rattle.serde_json.specs.Data.{Data, null as nothing, array, object, Items, no_items, item, Members}
 use Rattle.serde_json.specs.Find.{get}
-use Rattle.orc_types.specs.Shapes.{Shape, scalar, list_of, map_of, struct_of, Fields, no_field, field, names_of}
-use Rattle.orc_types.specs.Cells.{Cell, null, list, struct, pairs, Cells, end, more, Pairs, no_pair, pair}
+use Rattle.orc_values.specs.Shapes.{Shape, scalar, list_of, map_of, struct_of, Fields, no_field, field, names_of}
+use Rattle.orc_values.specs.Cells.{Cell, null, list, struct, pairs, Cells, end, more, Pairs, no_pair, pair}
 use Rattle.orc_types.specs.FieldNames.{all_known}
 use Rattle.orc_types.specs.JsonLeaves.{ScalarSpells}
 

@@ -1,6 +1,6 @@
 -- Why a text is no schema's (ORC specification, "Types", and this project's limits).
 use Rattle.std.specs.Prelude.{◌≡◌, ◌<◌, ◌≤◌, ℕ, zero, suc, List, ◌++◌, length, Bool, true, false, codes}
-use Rattle.orc_types.specs.Shapes.{Shape, Fields, no_field, field, width, IsStruct}
+use Rattle.orc_values.specs.Shapes.{Shape, Fields, no_field, field, width, IsStruct}
 use Rattle.orc_types.specs.SchemaText.{text, fields_text, comma, colon, IsName, IsPlain, ArePlain}
 use Rattle.orc_types.specs.declared.fault.TypeFault.{TypeFault}
 use Rattle.orc_types.specs.declared.fault.TypeFault.TheVariants as fault

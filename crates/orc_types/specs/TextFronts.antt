@@ -1,6 +1,6 @@
 -- The type whose text stands at the front of some bytes (ORC specification, "Types").
 use Rattle.std.specs.Prelude.{◌≡◌, ◌≤◌, ℕ, List, ◌++◌, length, Bool, true, codes}
-use Rattle.orc_types.specs.Shapes.{Shape, Fields, depth, depths}
+use Rattle.orc_values.specs.Shapes.{Shape, Fields, depth, depths}
 use Rattle.orc_types.specs.SchemaText.{text, fields_text, comma, colon, IsName, IsPlain, ArePlain}
 use Rattle.orc_types.specs.TextFaults.{Opens, EntersField}
 use Rattle.orc_types.specs.declared.fault.TypeFault.{TypeFault}

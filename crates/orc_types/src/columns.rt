@@ -2,30 +2,17 @@
 //! schema.
 ghost use Rattle.std.specs.Prelude.{◌≡◌, ◌<◌, ◌^◌, ◌++◌, ◌≤◌, IfOk, IfErr, OnOk, IfSome, IfNone, take, drop, map, length, option_map, slice_get};
 ghost use Rattle.std.specs.List.{flat_map};
-ghost use Rattle.orc_types.specs.Shapes.{width, widths};
-ghost use Rattle.orc_types.specs.Cells.{parts, values, pairs_in, keys_in, values_in};
-ghost use Rattle.orc_types.specs.Columns as spec;
-ghost use Rattle.orc_types.specs.Columns.{IsLocated};
-ghost use Rattle.orc_types.specs.Views.{view, views, lent_views, paired, shape, fields as fields_view};
+ghost use Rattle.orc_values.specs.Shapes.{width, widths};
+ghost use Rattle.orc_values.specs.Cells.{parts, values, pairs_in, keys_in, values_in};
+ghost use Rattle.orc_values.specs.Columns as spec;
+ghost use Rattle.orc_values.specs.Columns.{IsLocated};
+ghost use Rattle.orc_values.specs.Views.{view, views, lent_views, paired, shape, fields as fields_view};
 ghost use Rattle.orc_types.specs.declared.fault.TypeFault.TheVariants.{OutOfMemory};
 
 use crate::fault::TypeFault;
 use crate::schema::Schema;
-use crate::tree::{Field, Tree, width_of};
-use crate::value::{MapPair, Row, Value};
+use orc_values::{Field, MapPair, Row, Tree, pairs_of, parts_of, width_of};
 use std::alloc::{AllocError, Global};
-
-/// The elements of a list or the fields of a struct, in order, and none of another cell.
-pub fn parts_of<'r, 'a>(row: &'r Row<'a>) -> &'r [Row<'a>]
-    // A list's elements or a struct's fields are answered, in order, and nothing of another row.
-    ensures { views result.now ≡ parts (view row.now) }
-{
-    match row {
-        Some(Value::List(items)) => items,
-        Some(Value::Struct(items)) => items,
-        _ => &[],
-    }
-}
 
 /// Adds each of the rows at the end.
 fn lend_all<'r, 'a>(found: &mut Vec<&'r Row<'a>>, rows: &'r [Row<'a>]) -> Result<(), AllocError>
@@ -85,17 +72,6 @@ fn members<'r, 'a>(
         lend_field(&mut found, row, i)?;
     }
     Ok(found)
-}
-
-/// The pairs of a map, in order, and none of another cell.
-pub fn pairs_of<'r, 'a>(row: &'r Row<'a>) -> &'r [MapPair<'a>]
-    // A map's pairs are answered, in order, and nothing of another row.
-    ensures { map paired result.now ≡ pairs_in (view row.now) }
-{
-    match row {
-        Some(Value::Map(pairs)) => pairs,
-        _ => &[],
-    }
 }
 
 /// Adds the key of each pair at the end.

@@ -2,12 +2,12 @@
 ghost use Rattle.std.specs.Prelude.{◌≡◌, IfOk, is_some, true};
 ghost use Rattle.serde_json.specs.Find.{get_member};
 ghost use Rattle.serde_json.specs.View.{members_view};
-ghost use Rattle.orc_types.specs.Shapes.{names_of};
-ghost use Rattle.orc_types.specs.Views.{shape, fields as fields_view};
+ghost use Rattle.orc_values.specs.Shapes.{names_of};
+ghost use Rattle.orc_values.specs.Views.{shape, fields as fields_view};
 ghost use Rattle.orc_types.specs.FieldNames as spec;
 
 use crate::json_printing::put;
-use crate::tree::{Field, Tree};
+use orc_values::{Field, Tree};
 use serde_json::{Map, Value as Json};
 use std::alloc::{AllocError, Global};
 

@@ -2,17 +2,15 @@
 ghost use Rattle.std.specs.Prelude.{◌≡◌, IfOk, IfErr};
 ghost use Rattle.serde_json.specs.Data.{number as json_number, string as json_string};
 ghost use Rattle.serde_json.specs.View.{view as json_view, number_view};
-ghost use Rattle.orc_types.specs.Cells.{bytes};
-ghost use Rattle.orc_types.specs.Views.{view, cell_of_value};
+ghost use Rattle.orc_values.specs.Cells.{bytes};
+ghost use Rattle.orc_values.specs.Views.{view, cell_of_value};
 ghost use Rattle.orc_types.specs.JsonLeaves as spec;
-ghost use Rattle.orc_types.specs.declared.kind.Scalar.TheVariants as kinds;
+ghost use Rattle.orc_values.specs.declared.kind.Scalar.TheVariants as kinds;
 
 use crate::day_text::{day_of_text, day_text, has_text};
-use crate::fitting::int_fits;
 use crate::json_fault::JsonFault;
-use crate::kind::Scalar;
-use crate::value::{Row, Value};
 use hex::FromHexError;
+use orc_values::{Row, Scalar, Value, int_fits};
 use serde_json::{Number, Value as Json};
 use std::alloc::{AllocError, Global};
 use std::borrow::{CowSlice, CowStr};

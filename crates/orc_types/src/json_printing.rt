@@ -2,9 +2,9 @@
 ghost use Rattle.std.specs.Prelude.{◌≡◌, ◌≢◌, IfOk, IfErr, OnOk, true, false, map};
 ghost use Rattle.serde_json.specs.Data.{no_members, put as spec_put};
 ghost use Rattle.serde_json.specs.View.{view as json_view, members_view};
-ghost use Rattle.orc_types.specs.Cells.{cells_of, pairs_of};
-ghost use Rattle.orc_types.specs.Fits.{fits, all_fit, pairs_fit, each_fits};
-ghost use Rattle.orc_types.specs.Views.{view, views, paired, shape, fields as fields_view};
+ghost use Rattle.orc_values.specs.Cells.{cells_of, pairs_of};
+ghost use Rattle.orc_values.specs.Fits.{fits, all_fit, pairs_fit, each_fits};
+ghost use Rattle.orc_values.specs.Views.{view, views, paired, shape, fields as fields_view};
 ghost use Rattle.orc_types.specs.FieldNames.{is_distinct as spec_distinct};
 ghost use Rattle.orc_types.specs.JsonRows.{Spells};
 ghost use Rattle.orc_types.specs.JsonPrinting as spec;
@@ -13,8 +13,7 @@ ghost use Rattle.orc_types.specs.declared.json_fault.JsonFault.TheVariants as fa
 use crate::json_fault::JsonFault;
 use crate::json_leaf::leaf_to_json;
 use crate::schema::Schema;
-use crate::tree::{Field, Tree};
-use crate::value::{MapPair, Row, Value};
+use orc_values::{Field, MapPair, Row, Tree, Value};
 use serde_json::{Map, Value as Json};
 use std::alloc::{AllocError, Global};
 

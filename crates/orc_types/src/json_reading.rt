@@ -2,10 +2,10 @@
 ghost use Rattle.std.specs.Prelude.{◌≡◌, ◌≢◌, ◌⊎◌, IfOk, IfErr, MatchOption, MatchResult, true, false, map};
 ghost use Rattle.serde_json.specs.Data.{array, item, no_items};
 ghost use Rattle.serde_json.specs.View.{view as json_view, items_view};
-ghost use Rattle.orc_types.specs.Cells.{Cell, cells_of, pairs_of};
-ghost use Rattle.orc_types.specs.Fits.{fits};
-ghost use Rattle.orc_types.specs.Views.{view, views, paired, shape, fields as fields_view};
-ghost use Rattle.orc_types.specs.Shapes.{names_of};
+ghost use Rattle.orc_values.specs.Cells.{Cell, cells_of, pairs_of};
+ghost use Rattle.orc_values.specs.Fits.{fits};
+ghost use Rattle.orc_values.specs.Views.{view, views, paired, shape, fields as fields_view};
+ghost use Rattle.orc_values.specs.Shapes.{names_of};
 ghost use Rattle.orc_types.specs.FieldNames.{is_distinct as spec_distinct, are_distinct};
 ghost use Rattle.orc_types.specs.KnownKeys.{count_keys};
 ghost use Rattle.orc_types.specs.JsonRows.{Spells, EachSpells, PairsSpell, PairSpells, FieldsSpell};
@@ -15,8 +15,7 @@ ghost use Rattle.orc_types.specs.declared.json_fault.JsonFault.TheVariants as fa
 use crate::json_fault::JsonFault;
 use crate::json_leaf::leaf_from_json;
 use crate::schema::Schema;
-use crate::tree::{Field, Tree};
-use crate::value::{MapPair, Row, Value};
+use orc_values::{Field, MapPair, Row, Tree, Value};
 use serde_json::Value as Json;
 use std::alloc::Global;
 

@@ -1,19 +1,19 @@
 //! Laws of schemas, texts, cells, days and JSON. Each function does nothing: its contract is what it is for.
 ghost use Rattle.std.specs.Prelude.{◌≡◌, ◌≢◌, ◌↔◌, ◌++◌, ◌+◌, ◌<◌, length, sum_by, slice_get, Some, ◌≤ℤ◌, ◌⊎◌, ℕ, ℤ, pos, List, true};
-ghost use Rattle.orc_types.specs.Shapes.{Shape, list_of, map_of, struct_of, Fields, width, shape_at};
-ghost use Rattle.orc_types.specs.Types.{types, starts};
+ghost use Rattle.orc_values.specs.Shapes.{Shape, list_of, map_of, struct_of, Fields, width, shape_at};
+ghost use Rattle.orc_values.specs.Types.{types, starts};
 ghost use Rattle.orc_wire.specs.declared.type_msg.TypeMsg.{TypeMsg};
 ghost use Rattle.orc_types.specs.Schemas.{IsSchema, HasTypes, AllKept, same_types};
 ghost use Rattle.orc_types.specs.Faults.{TypesFault};
 ghost use Rattle.orc_types.specs.SchemaText.{text, bare, IsPlain, HasText};
 ghost use Rattle.orc_types.specs.TextFaults.{TextFault};
-ghost use Rattle.orc_types.specs.Cells.{Cell, parts, pairs_in, values};
-ghost use Rattle.orc_types.specs.Columns.{cells};
-ghost use Rattle.orc_types.specs.Fits.{RowsFit, fits};
+ghost use Rattle.orc_values.specs.Cells.{Cell, parts, pairs_in, values};
+ghost use Rattle.orc_values.specs.Columns.{cells};
+ghost use Rattle.orc_values.specs.Fits.{RowsFit, fits};
 ghost use Rattle.orc_types.specs.Days.{has_text, day_text, IsDayText};
 ghost use Rattle.jiff.specs.Words.{epoch_day, date_text};
 ghost use Rattle.jiff_core.specs.declared.civil.date.Date.{Date};
-ghost use Rattle.orc_types.specs.declared.kind.Scalar.{Scalar};
+ghost use Rattle.orc_values.specs.declared.kind.Scalar.{Scalar};
 ghost use Rattle.orc_types.specs.JsonLeaves.{LeafFault};
 ghost use Rattle.orc_types.specs.FieldNames.{is_distinct};
 ghost use Rattle.orc_types.specs.JsonRows.{Spells};

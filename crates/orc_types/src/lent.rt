@@ -1,16 +1,12 @@
-//! Cells that are lent: rows of another's, in a slice.
+//! Slices of cells that are lent.
 ghost use Rattle.std.specs.Prelude.{◌≡◌, IfOk, IfErr};
-ghost use Rattle.orc_types.specs.Views.{lent_views};
-ghost use Rattle.orc_types.specs.Lent.{lent_cells};
+ghost use Rattle.orc_values.specs.Views.{lent_views};
+ghost use Rattle.orc_values.specs.Lent.{lent_cells};
 ghost use Rattle.orc_types.specs.declared.fault.TypeFault.TheVariants.{OutOfMemory};
 
 use crate::fault::TypeFault;
-use crate::value::Row;
+use orc_values::{Lent, Row};
 use std::alloc::Global;
-
-/// A cell that is lent, as one element of a slice of cells.
-#[derive(Clone, Copy)]
-pub struct Lent<'r, 'a>(pub &'r Row<'a>);
 
 /// The same cells, so that a slice of them can be lent.
 ///

@@ -1,12 +1,11 @@
 //! A schema's tree to the list of its types, in pre-order.
 ghost use Rattle.std.specs.Prelude.{◌≡◌, ◌+◌, ◌<◌, ◌^◌, ◌++◌, [], ◌∷◌, IfOk, OnOk, length};
-ghost use Rattle.orc_types.specs.Shapes.{map_of, width, widths, names_of as spec_names};
-ghost use Rattle.orc_types.specs.Types.{types as spec_types, fields_types, starts as spec_starts};
-ghost use Rattle.orc_types.specs.Views.{shape, fields as fields_view};
+ghost use Rattle.orc_values.specs.Shapes.{map_of, width, widths, names_of as spec_names};
+ghost use Rattle.orc_values.specs.Types.{types as spec_types, fields_types, starts as spec_starts};
+ghost use Rattle.orc_values.specs.Views.{shape, fields as fields_view};
 
 use crate::copies::copy_bytes;
-use crate::kind::{LIST, MAP, STRUCT};
-use crate::tree::{Field, Tree, width_of};
+use orc_values::{Field, LIST, MAP, STRUCT, Tree, width_of};
 use orc_wire::{Bytes, Items, TypeMsg};
 use std::alloc::{AllocError, Global};
 

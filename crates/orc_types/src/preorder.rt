@@ -2,16 +2,15 @@
 ghost use Rattle.std.specs.Prelude.{◌≡◌, ◌<◌, ◌↔◌, IsTrue, IfOk, IfErr, IfSome, slice_get, option_map, [], ◌∷◌, true, string_bytes, length, get_or};
 ghost use Rattle.std.specs.List.{AllByRecursion};
 ghost use Rattle.std.specs.Str.{is_utf8};
-ghost use Rattle.orc_types.specs.Kinds.{IsKind};
+ghost use Rattle.orc_values.specs.Kinds.{IsKind};
 ghost use Rattle.orc_types.specs.Schemas.{HasTypes, AllKept};
 ghost use Rattle.orc_types.specs.Faults.{TypesFault};
 ghost use Rattle.orc_types.specs.Preorder.{HasKeyAt, Found, FoundFields, NameFault, PlaceFault, FieldsPlaceFault};
-ghost use Rattle.orc_types.specs.Views.{shape, fields as fields_view};
+ghost use Rattle.orc_values.specs.Views.{shape, fields as fields_view};
 
 use crate::copies::copy_bytes;
 use crate::fault::TypeFault;
-use crate::kind::{LIST, MAP, STRUCT, Scalar};
-use crate::tree::{Field, Tree};
+use orc_values::{Field, LIST, MAP, STRUCT, Scalar, Tree};
 use orc_wire::TypeMsg;
 use std::alloc::Global;
 use std::str;

@@ -2,12 +2,12 @@
 ghost use Rattle.std.specs.Prelude.{◌≡◌, ◌≤◌, IfOk, IfErr, MatchResult, ◌==◌};
 ghost use Rattle.std.specs.Cmp.{partial_equiv_from_equiv};
 ghost use Rattle.std.specs.Cmp.Lexicographic.{pointwise};
-ghost use Rattle.orc_types.specs.Shapes.{Shape, width};
-ghost use Rattle.orc_types.specs.Types.{types as spec_types};
+ghost use Rattle.orc_values.specs.Shapes.{Shape, width};
+ghost use Rattle.orc_values.specs.Types.{types as spec_types};
 ghost use Rattle.orc_types.specs.Schemas.{IsSchema, HasTypes, AllKept, same_node, same_types, same_types_equiv};
 ghost use Rattle.orc_types.specs.Faults.{TypesFault};
 ghost use Rattle.orc_types.specs.FieldNames.{is_distinct as distinct_names};
-ghost use Rattle.orc_types.specs.Views.{shape};
+ghost use Rattle.orc_values.specs.Views.{shape};
 ghost use Rattle.orc_types.specs.declared.fault.TypeFault.TheVariants.{OutOfMemory};
 
 use crate::copies::copy_types;
@@ -15,7 +15,7 @@ use crate::fault::TypeFault;
 use crate::field_names::is_distinct;
 use crate::listing::types_of;
 use crate::preorder::tree_of;
-use crate::tree::Tree;
+use orc_values::Tree;
 use orc_wire::{Bytes, TypeMsg};
 use std::alloc::{AllocError, Global};
 use std::marker::Model;
@@ -31,10 +31,10 @@ pub struct Schema {
 }
 
 impl Model for Schema {
-    ghost use Rattle.orc_types.specs.Shapes.{Shape};
+    ghost use Rattle.orc_values.specs.Shapes.{Shape};
     ghost use Rattle.orc_types.specs.Schemas.{Keeps};
-    ghost use Rattle.orc_types.specs.Views.{shape};
-    ghost use Rattle.orc_types.specs.Coding.{coded_shape};
+    ghost use Rattle.orc_values.specs.Views.{shape};
+    ghost use Rattle.orc_values.specs.Coding.{coded_shape};
 
     ghost Value = { Shape };
 

@@ -1,19 +1,18 @@
 //! The text of a schema, such as `struct<a:int,b:array<string>>`, written and read.
 ghost use Rattle.std.specs.Prelude.{◌↔◌, IsTrue, ◌≡◌, ◌≢◌, ◌++◌, ℕ, List, [], IfOk, IfErr, IfSome, IfNone, OnOk, MatchOption, MatchResult, true, string_bytes};
-ghost use Rattle.orc_types.specs.Shapes.{Shape, IsStruct};
+ghost use Rattle.orc_values.specs.Shapes.{Shape, IsStruct};
 ghost use Rattle.orc_types.specs.SchemaText as spec;
 ghost use Rattle.orc_types.specs.SchemaText.{HasText};
 ghost use Rattle.orc_types.specs.TextFaults.{TextFault};
 ghost use Rattle.orc_types.specs.TextFronts.{IsFront, IsFieldFront, IsFieldsFront, FrontFault, FieldFault, FieldsFault};
-ghost use Rattle.orc_types.specs.declared.kind.Scalar.{Scalar};
-ghost use Rattle.orc_types.specs.Views.{shape, fields as fields_view};
+ghost use Rattle.orc_values.specs.declared.kind.Scalar.{Scalar};
+ghost use Rattle.orc_values.specs.Views.{shape, fields as fields_view};
 ghost use Rattle.orc_types.specs.declared.fault.TypeFault.TheVariants.{OutOfMemory};
 
 use crate::fault::TypeFault;
-use crate::kind::Scalar;
 use crate::preorder::{MOST_LEVELS, MOST_TYPES, name_of};
 use crate::schema::Schema;
-use crate::tree::{Field, Tree, width_of};
+use orc_values::{Field, Scalar, Tree, width_of};
 use std::alloc::{AllocError, Global};
 
 impl Schema {

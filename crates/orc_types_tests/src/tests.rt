@@ -2,7 +2,7 @@
 //! texts spell schemas and which lines spell rows is said by the cases of the program, which lists of types are no schemas
 //! by the vectors.
 ghost use Rattle.std.specs.Prelude.{◌<◌};
-ghost use Rattle.orc_types.specs.Shapes.{width};
+ghost use Rattle.orc_values.specs.Shapes.{width};
 
 use orc_types::*;
 use serde_json::Value as Json;

@@ -1,7 +1,7 @@
 //! Laws of files that are opened with a cap. The function does nothing: its contract is what it is for.
 ghost use Rattle.std.specs.Prelude.{◌≡◌, ◌≤◌, ◌⊎◌, ℕ, List, length};
 ghost use Rattle.orc_wire.specs.declared.stripe_info.StripeInfo.{StripeInfo};
-ghost use Rattle.orc_types.specs.Shapes.{Shape};
+ghost use Rattle.orc_values.specs.Shapes.{Shape};
 ghost use Rattle.orc_file.specs.Tails.{IsTail, OpenFault};
 ghost use Rattle.orc_file.specs.FileRows.{FirstRefused};
 ghost use Rattle.orc_file.specs.Caps.{no_cap, IsCappedTail, CappedFault, AllWithin, FirstCapped};

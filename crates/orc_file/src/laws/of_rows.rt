@@ -1,9 +1,9 @@
 //! Laws of a file's rows. Each function does nothing: its contract is what it is for.
 ghost use Rattle.std.specs.Prelude.{◌≡◌, ℕ, List, true, false};
 ghost use Rattle.orc_wire.specs.declared.stripe_info.StripeInfo.{StripeInfo};
-ghost use Rattle.orc_types.specs.Cells.{Cell};
-ghost use Rattle.orc_types.specs.Shapes.{Shape};
-ghost use Rattle.orc_types.specs.Columns.{cells};
+ghost use Rattle.orc_values.specs.Cells.{Cell};
+ghost use Rattle.orc_values.specs.Shapes.{Shape};
+ghost use Rattle.orc_values.specs.Columns.{cells};
 ghost use Rattle.orc_stats.specs.Statistics.{stat};
 ghost use Rattle.orc_file.specs.Statistics.{kind_at};
 ghost use Rattle.orc_file.specs.Honest.{each_fits, less_sum, whole_of};

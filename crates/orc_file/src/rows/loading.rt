@@ -6,7 +6,7 @@ ghost use Rattle.orc_column_reader.specs.Stripe.{HasFooter, IsStripe};
 ghost use Rattle.orc_stripe.specs.Opening.{OpenFault};
 ghost use Rattle.orc_column_reader.specs.declared.fault.StripeFault.{StripeFault};
 ghost use Rattle.orc_column_reader.specs.declared.fault.StripeFault.TheVariants as stripe;
-ghost use Rattle.orc_types.specs.Views.{views};
+ghost use Rattle.orc_values.specs.Views.{views};
 ghost use Rattle.orc_file.specs.Stripes.{AllBefore, most_bytes, stripe_length, stripe_at, stripes_length};
 ghost use Rattle.orc_file.specs.FileRows.{stripe_bytes, IsNoStripe};
 ghost use Rattle.orc_file.specs.Caps.{no_cap};
@@ -17,7 +17,7 @@ use crate::file::OrcFile;
 use crate::tail::{Tail, stripe_length};
 use orc_io::Source;
 use orc_stripe::{StripeFault, StripeView};
-use orc_types::Row;
+use orc_values::Row;
 use std::alloc::Global;
 
 /// The fault of the stripe with this number.

@@ -1,7 +1,7 @@
 //! A file's rows, read stripe by stripe: the bytes of one stripe are held at a time.
 ghost use Rattle.std.specs.Prelude.{◌≡◌, ◌≢◌, ◌<◌, ◌≤◌, ◌++◌, ◌⊎◌, List, length, OnOk, IfOk, IfErr, IfSome, IsErrOf, MatchResult};
-ghost use Rattle.orc_types.specs.Cells.{Cell};
-ghost use Rattle.orc_types.specs.Views.{views};
+ghost use Rattle.orc_values.specs.Cells.{Cell};
+ghost use Rattle.orc_values.specs.Views.{views};
 ghost use Rattle.orc_column_reader.specs.Stripe.{IsStripe};
 ghost use Rattle.orc_column_reader.specs.declared.fault.StripeFault.{StripeFault};
 ghost use Rattle.orc_column_reader.specs.declared.fault.StripeFault.TheVariants as stripe;
@@ -16,7 +16,7 @@ use crate::fault::FileFault;
 use crate::file::OrcFile;
 use crate::rows::loading::stripe_rows;
 use orc_io::Source;
-use orc_types::{Row, owned};
+use orc_values::{Row, owned};
 use std::alloc::{AllocError, Global};
 
 /// Puts rows with texts of their own behind others.

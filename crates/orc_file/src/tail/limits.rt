@@ -1,6 +1,6 @@
 //! What a footer and the metadata say of stripes, rows and statistics, and the limits on it.
 ghost use Rattle.std.specs.Prelude.{◌≡◌, ◌≤◌, ◌⊎◌, length, true, OnOk, IfOk, IfErr};
-ghost use Rattle.orc_types.specs.Shapes.{width};
+ghost use Rattle.orc_values.specs.Shapes.{width};
 ghost use Rattle.orc_file.specs.Tails.{limit_tests, IsOfTail};
 ghost use Rattle.orc_file.specs.Statistics.{have_few};
 ghost use Rattle.orc_file.specs.Stripes.{stripe_tests, stripes_rows, stripes_length, most_stripes};

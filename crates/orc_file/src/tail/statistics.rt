@@ -1,14 +1,15 @@
 //! The statistics of columns, from their messages.
 ghost use Rattle.std.specs.Prelude.{◌≡◌, ◌⊎◌, ◌≤◌, length, true, false, List, IfOk, IfErr};
 ghost use Rattle.std.specs.List.{list_all};
-ghost use Rattle.orc_types.specs.Shapes.{width};
+ghost use Rattle.orc_values.specs.Shapes.{width};
 ghost use Rattle.orc_stats.specs.Messages.{stat_read, in_limits};
 ghost use Rattle.orc_file.specs.Statistics.{kind_of_number, have_few, stats_read, stripe_stats_read};
 ghost use Rattle.orc_file.specs.declared.fault.FileFault.TheVariants.{OutOfMemory, Limit};
 
 use crate::fault::FileFault;
 use orc_stats::{Stat, StatFault, StatKind};
-use orc_types::{Scalar, Schema};
+use orc_types::Schema;
+use orc_values::Scalar;
 use orc_wire::{ColumnStats, Items, StripeStatistics, TypeMsg};
 use std::alloc::Global;
 

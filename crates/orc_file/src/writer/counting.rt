@@ -1,12 +1,13 @@
 //! How many cells the columns of some rows have.
 ghost use Rattle.std.specs.Prelude.{◌≡◌, ◌+◌, ◌≤◌, ◌<◌, ◌^◌, ◌∷◌, [], true, false, length, map, replicate, IfOk};
 ghost use Rattle.std.specs.Bool.{OnTrue, OnFalse};
-ghost use Rattle.orc_types.specs.Shapes.{width, widths};
-ghost use Rattle.orc_types.specs.Views.{view, views, paired, shape, fields as fields_view};
+ghost use Rattle.orc_values.specs.Shapes.{width, widths};
+ghost use Rattle.orc_values.specs.Views.{view, views, paired, shape, fields as fields_view};
 ghost use Rattle.orc_file.specs.Counts.{with_row, are_few};
 ghost use Rattle.orc_file.specs.Counting.{AddsOne, AddsCells, AddsFields};
 
-use orc_types::{Field, MapPair, Row, Schema, Tree, pairs_of, parts_of, width_of};
+use orc_types::Schema;
+use orc_values::{Field, MapPair, Row, Tree, pairs_of, parts_of, width_of};
 use std::alloc::{AllocError, Global};
 
 /// A column of a stripe has fewer cells than this.

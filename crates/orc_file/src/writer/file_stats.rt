@@ -1,6 +1,6 @@
 //! The statistics of a file's columns, joined of those of its stripes.
 ghost use Rattle.std.specs.Prelude.{◌≡◌, ◌≤◌, ◌<◌, ◌^◌, ◌⊎◌, ℕ, true, sum_by, All, IfOk, OnOk, IfErr};
-ghost use Rattle.orc_types.specs.Shapes.{width};
+ghost use Rattle.orc_values.specs.Shapes.{width};
 ghost use Rattle.orc_stats.specs.declared.stat.Stat.{Stat};
 ghost use Rattle.orc_stats.specs.declared.fault.StatFault.TheVariants as fault;
 ghost use Rattle.orc_stats.specs.Kinds.{body_is_of};

@@ -2,7 +2,7 @@
 use orc_file::{FileFault, OrcFile, SliceSource, Source, VecSink};
 use orc_merge::{MergeFault, merge};
 use orc_test_io::{SEVENS, UPWARDS};
-use orc_types::Value;
+use orc_values::Value;
 use std::alloc::Global;
 
 /// The numbers in the first column of a file, without its nulls.

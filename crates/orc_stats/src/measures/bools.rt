@@ -4,7 +4,7 @@ use crate::measures::{Measures, Sizes};
 use crate::seen::Seen;
 use crate::stat::Body;
 use crate::totals::{count_to, in_limit, more, number_of};
-use orc_types::Own;
+use orc_values::Own;
 use std::alloc::Global;
 
 /// Of truth values: how many are true.

@@ -4,7 +4,7 @@ use crate::measures::{Measures, Sizes};
 use crate::seen::Seen;
 use crate::stat::Body;
 use crate::totals::{count_to, in_u64, more, number_of};
-use orc_types::Own;
+use orc_values::Own;
 use std::alloc::Global;
 
 /// Of lists and maps: the least and the greatest number of children, and the total of all these numbers.

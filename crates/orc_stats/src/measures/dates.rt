@@ -3,7 +3,7 @@ use crate::fault::StatFault;
 use crate::measures::{Measures, Sizes};
 use crate::seen::Seen;
 use crate::stat::Body;
-use orc_types::Own;
+use orc_values::Own;
 use std::alloc::Global;
 
 /// Of dates: least and greatest.

@@ -4,7 +4,7 @@ use crate::measures::{Measures, Sizes};
 use crate::seen::Seen;
 use crate::stat::Body;
 use crate::totals::{add_to, in_64, plus, total_of};
-use orc_types::Own;
+use orc_values::Own;
 use std::alloc::Global;
 
 /// Of integers: least, greatest and sum.

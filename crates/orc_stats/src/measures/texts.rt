@@ -5,7 +5,7 @@ use crate::seen::Seen;
 use crate::stat::Body;
 use crate::text_parts::{lent_part, owned_part};
 use crate::totals::{add_to, in_64, plus, total_of};
-use orc_types::Own;
+use orc_values::Own;
 use std::alloc::Global;
 
 /// Of texts: least and greatest by their bytes, and the sum of their lengths.

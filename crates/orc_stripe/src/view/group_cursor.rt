@@ -1,7 +1,7 @@
 //! A cursor in the middle of a stripe, at the first row of a group.
 ghost use Rattle.std.specs.Prelude.{◌≡◌, ◌≢◌, ◌*◌, ◌<◌, ℕ, Some, List, drop, length, slice_get, IfOk, IfErr, MatchResult};
-ghost use Rattle.orc_types.specs.Cells.{Cell};
-ghost use Rattle.orc_types.specs.Shapes.{width};
+ghost use Rattle.orc_values.specs.Cells.{Cell};
+ghost use Rattle.orc_values.specs.Shapes.{width};
 ghost use Rattle.orc_wire.specs.declared.row_index.RowIndexEntry.{RowIndexEntry as IndexEntry};
 ghost use Rattle.orc_column_reader.specs.Stripe.{Streams};
 ghost use Rattle.orc_column_reader.specs.declared.fault.StripeFault.{StripeFault as Fault};

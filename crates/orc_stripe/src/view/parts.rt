@@ -1,7 +1,7 @@
 //! What a stripe's columns are read from, each by itself.
 ghost use Rattle.std.specs.Prelude.{◌≡◌, length, IfOk, IfErr};
-ghost use Rattle.orc_types.specs.Shapes.{width};
-ghost use Rattle.orc_types.specs.Views.{shape};
+ghost use Rattle.orc_values.specs.Shapes.{width};
+ghost use Rattle.orc_values.specs.Views.{shape};
 ghost use Rattle.orc_column_reader.specs.Located.{AreLocated};
 ghost use Rattle.orc_column_reader.specs.Stripe.{HasFooter};
 ghost use Rattle.orc_column_reader.specs.declared.fault.StripeFault.TheVariants.{OutOfMemory};
@@ -11,7 +11,7 @@ use crate::view::StripeView;
 use crate::view::index_texts::{IndexText, index_texts};
 use orc_column_reader::fault::StripeFault;
 use orc_column_reader::located::{Located, locate};
-use orc_types::Tree;
+use orc_values::Tree;
 use orc_wire::StripeFooter;
 use std::alloc::{AllocError, Global};
 

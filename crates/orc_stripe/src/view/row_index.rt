@@ -1,7 +1,7 @@
 //! Row indexes of a stripe, as they are read.
 ghost use Rattle.std.specs.Prelude.{◌≡◌, ◌≢◌, ◌<◌, ◌⊎◌, ℕ, List, true, false, None, length, IfOk, IfErr, IfSome, MatchResult};
-ghost use Rattle.orc_types.specs.Cells.{Cell};
-ghost use Rattle.orc_types.specs.Shapes.{width};
+ghost use Rattle.orc_values.specs.Cells.{Cell};
+ghost use Rattle.orc_values.specs.Shapes.{width};
 ghost use Rattle.orc_wire.specs.declared.row_index.RowIndexMsg.{RowIndexMsg as IndexMessage};
 ghost use Rattle.orc_column_reader.specs.Directory.{has_stream, have_room, is_of, slice};
 ghost use Rattle.orc_column_reader.specs.Faults.{RowsFault};
@@ -20,7 +20,7 @@ use orc_column_walk::walk_columns;
 use orc_row_index::Counts;
 use orc_row_index_check::positions_right_behind;
 use orc_stripe_writer::group_starts;
-use orc_types::tree_at;
+use orc_values::tree_at;
 use orc_wire::{Message, RowIndexMsg, StreamMsg};
 use std::alloc::Global;
 

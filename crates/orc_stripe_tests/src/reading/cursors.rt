@@ -6,7 +6,8 @@ use orc_stripe::{RowCursor, StreamKind, StripeFault};
 use orc_test_lines::{
     cursor_of, line_of, lines_one_by_one, lines_straight, next_row, rest_of, schema_of,
 };
-use orc_types::{Row, Schema};
+use orc_types::Schema;
+use orc_values::Row;
 use std::alloc::Global;
 use std::process::Abort;
 

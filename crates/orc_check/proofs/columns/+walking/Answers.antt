@@ -1,9 +1,9 @@
 use Rattle.std.proofs.Common.{◌*◌, ◌+◌, ◌<◌, refl, ap, ◌∙◌, arith, add-one}
-use Rattle.orc_types.specs.Shapes.{width}
-use Rattle.orc_types.specs.Views.{shape, fields as fields_view}
-use Rattle.orc_types.proofs.ByColumn.{width_within}
-use Rattle.orc_types.proofs.Listed.{widths_from}
-use Rattle.orc_types.proofs.Views.{shape-Scalar, shape-List, shape-Map, shape-Struct}
+use Rattle.orc_values.specs.Shapes.{width}
+use Rattle.orc_values.specs.Views.{shape, fields as fields_view}
+use Rattle.orc_values.proofs.ByColumn.{width_within}
+use Rattle.orc_values.proofs.Listed.{widths_from}
+use Rattle.orc_values.proofs.Views.{shape-Scalar, shape-List, shape-Map, shape-Struct}
 use Rattle.orc_column_reader.specs.Stripe.{columns_of}
 use Rattle.orc_column_reader.proofs.Arms.{some_width}
 use Rattle.orc_column_walk.proofs.TreeLemmas.{scalar_down, list_down, map_down, struct_down, list_refused, keys_refused, seconds_refused, none_read, field_read, field_refused}

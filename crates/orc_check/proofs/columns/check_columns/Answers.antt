@@ -1,6 +1,6 @@
 use Rattle.std.proofs.Common.{ℕ, List, sym, ap, subst, arith, length}
-use Rattle.orc_types.specs.Shapes.{width}
-use Rattle.orc_types.specs.Views.{shape}
+use Rattle.orc_values.specs.Shapes.{width}
+use Rattle.orc_values.specs.Views.{shape}
 use Rattle.orc_stats.specs.declared.stat.Stat.{Stat}
 use Rattle.orc_check.specs.Checking.{HaveKnown}
 use Rattle.orc_column_reader.specs.Located.{AreLocated}

@@ -3,7 +3,7 @@ use Rattle.std.specs.Bool.{OnTrue, OnFalse}
 use Rattle.std.specs.Option.{option_map}
 use Rattle.std.proofs.Common.{Bool, true, false, Option, Some, sym, subst}
 use Rattle.orc_wire.specs.declared.column_stats.ColumnStats.{ColumnStats}
-use Rattle.orc_types.specs.Views.{shape}
+use Rattle.orc_values.specs.Views.{shape}
 use Rattle.orc_stats.specs.Kinds.{kind_of}
 use Rattle.orc_stats.specs.Known.{Agrees}
 use Rattle.orc_stats.specs.Messages.{stat_read}

@@ -1,6 +1,6 @@
 use Rattle.std.proofs.Common.{◌≡◌, ◌∙◌, ℕ, ◌<◌, List, slice_get, subst, arith}
 use Rattle.std.specs.Prelude.{MatchBool}
-use Rattle.orc_types.specs.Shapes.{width}
+use Rattle.orc_values.specs.Shapes.{width}
 use Rattle.orc_stats.specs.declared.stat.Stat.{Stat}
 use Rattle.orc_file.specs.Honest.{known_whole_of}
 use Rattle.std.proofs.lemmas.Option.{get_or_from_slice_get}

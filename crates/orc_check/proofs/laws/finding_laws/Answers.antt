@@ -1,6 +1,6 @@
 use Rattle.std.proofs.Common.{◌<◌, ◌≤◌, List, [], ◌∷◌, length, arith}
 use Rattle.std.specs.List.{AllByRecursion}
-use Rattle.orc_types.specs.Shapes.{Shape, scalar, list_of, map_of, struct_of, width}
+use Rattle.orc_values.specs.Shapes.{Shape, scalar, list_of, map_of, struct_of, width}
 use Rattle.orc_stats.specs.declared.stat.Stat.{Stat}
 use Rattle.orc_file.specs.Statistics.{AreStats}
 use Rattle.orc_file.proofs.Opened.{tail_within}

@@ -1,7 +1,7 @@
 use Rattle.std.proofs.Common.{ℕ, ◌<◌, List, length}
-use Rattle.orc_types.specs.Cells.{Cell}
-use Rattle.orc_types.specs.Fits.{RowsFit}
-use Rattle.orc_types.specs.Views.{shape}
+use Rattle.orc_values.specs.Cells.{Cell}
+use Rattle.orc_values.specs.Fits.{RowsFit}
+use Rattle.orc_values.specs.Views.{shape}
 use Rattle.orc_column_reader.specs.Stripe.{Streams, cell_limit}
 use Rattle.orc_row_index_check.specs.Decided.{AreDecided}
 use Rattle.orc_check.specs.Findings.{Adds, OfEach, OfGroup}

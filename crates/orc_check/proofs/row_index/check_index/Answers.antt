@@ -3,7 +3,7 @@ use Rattle.std.proofs.Common.{rules, Bool, Option, Ok, ◌∙◌, List, sym, ap,
 use Rattle.orc_wire.specs.declared.row_index.RowIndexMsg.{RowIndexMsg}
 use Rattle.orc_row_index_check.specs.Decided.{AreDecided}
 use Rattle.orc_stripe.specs.IndexTexts.{IsMessage}
-use Rattle.orc_types.specs.Views.{shape}
+use Rattle.orc_values.specs.Views.{shape}
 use Rattle.orc_column_reader.specs.Stripe.{columns_of}
 use Rattle.orc_check.proofs.GroupBounds.{on_ok_so}
 use Rattle.orc_check.proofs.IndexFound.{too_short, none_there, other_number, index_found, streams_here}

@@ -1,4 +1,4 @@
-use Rattle.orc_types.specs.Views.{shape}
+use Rattle.orc_values.specs.Views.{shape}
 use Rattle.orc_check.proofs.Matching.{Matches}
 use Rattle.orc_check.proofs.written_index.is_written.Given as goal
 

@@ -1,6 +1,6 @@
 use Rattle.std.proofs.Common.{drop}
-use Rattle.orc_types.specs.Fits.{RowsFit}
-use Rattle.orc_types.specs.Views.{views}
+use Rattle.orc_values.specs.Fits.{RowsFit}
+use Rattle.orc_values.specs.Views.{views}
 use Rattle.orc_cli_rows.proofs.from_group.all_fit.Given as goal
 
 -- all of them fit just where those that are left do

@@ -1,7 +1,7 @@
 use Rattle.std.proofs.Common.{◌≡◌, ◌++◌, ◌⊎◌, drop, true}
 use Rattle.orc_types.specs.FieldNames.{is_distinct}
-use Rattle.orc_types.specs.Fits.{RowsFit}
-use Rattle.orc_types.specs.Views.{views}
+use Rattle.orc_values.specs.Fits.{RowsFit}
+use Rattle.orc_values.specs.Views.{views}
 use Rattle.orc_cli_rows.specs.Rows.{row_lines}
 use Rattle.orc_cli_rows.proofs.lines.lines_of.Given as goal
 

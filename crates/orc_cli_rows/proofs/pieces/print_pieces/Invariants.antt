@@ -1,6 +1,6 @@
 use Rattle.std.proofs.Common.{List, ◌+◌}
 use Rattle.std.specs.Prelude.{if◌then◌else◌}
-use Rattle.orc_types.specs.Cells.{Cell}
+use Rattle.orc_values.specs.Cells.{Cell}
 use Rattle.orc_json.specs.Layouts.{text_by}
 use Rattle.orc_stripe.specs.Cursors.{StandsFor}
 use Rattle.orc_cli_rows.proofs.PieceLemmas.{Printing}

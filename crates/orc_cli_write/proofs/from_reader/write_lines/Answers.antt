@@ -1,8 +1,8 @@
 use Rattle.std.proofs.Common.{◌≡◌, ◌<◌, [], length, refl, ap, ◌∙◌, arith, inl, inr, subst}
 use Rattle.std.specs.Prelude.{◌⊎◌, IfSome}
 use Rattle.std.proofs.lemmas.List.{length-map}
-use Rattle.orc_types.specs.Shapes.{Shape}
-use Rattle.orc_types.specs.Views.{view, views}
+use Rattle.orc_values.specs.Shapes.{Shape}
+use Rattle.orc_values.specs.Views.{view, views}
 use Rattle.orc_file.specs.declared.fault.FileFault.TheVariants as file
 use Rattle.orc_cli_write.specs.Lines.{AreRowsOf}
 use Rattle.orc_cli_write.specs.Writes.{IsOfWriter, EndsInLines, LimitStands}

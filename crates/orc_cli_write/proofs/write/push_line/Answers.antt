@@ -3,7 +3,7 @@ use Rattle.std.proofs.lemmas.Result.{err_from_is_err_and}
 use Rattle.orc_file.proofs.WriterLemmas.{cut_kept, cut_row, within_of}
 use Rattle.std.proofs.lemmas.Bool.{eqb-true}
 use Rattle.orc_types.specs.Schemas.{IsSchema}
-use Rattle.orc_types.specs.Views.{view, views}
+use Rattle.orc_values.specs.Views.{view, views}
 use Rattle.std.proofs.lemmas.List.{length-map}
 use Rattle.orc_file.specs.Counts.{PassesLimit}
 use Rattle.orc_file.specs.Progress.{progress}

@@ -1,5 +1,5 @@
 use Rattle.std.proofs.Common.{◌≡◌, ◌≤◌, ◌-◌, List, length, drop, false}
-use Rattle.orc_types.specs.Cells.{Cell}
+use Rattle.orc_values.specs.Cells.{Cell}
 use Rattle.orc_file.specs.Progress.{progress}
 use Rattle.orc_cli_write.specs.Writes.{PushesAlso}
 use Rattle.orc_cli_write.proofs.LinesLemmas.{Leads}

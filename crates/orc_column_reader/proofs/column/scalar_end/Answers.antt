@@ -1,4 +1,4 @@
-use Rattle.orc_types.specs.declared.kind.Scalar.TheVariants as kind
+use Rattle.orc_values.specs.declared.kind.Scalar.TheVariants as kind
 use Rattle.std.proofs.Common.{map}
 use Rattle.orc_column_reader.specs.Numbers.{NumbersLeft}
 use Rattle.orc_column_reader.specs.Bits.{BitsLeft}

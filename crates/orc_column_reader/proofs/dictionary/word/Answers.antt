@@ -1,6 +1,6 @@
 use Rattle.std.proofs.Common.{inr, refl, rules, ◌≡◌, ap, sym, map, length, ltb-true, w64, to_z, of_z}
 use Rattle.std.proofs.lemmas.Int.{to_z-of_z}
-use Rattle.orc_types.specs.Cells.{leaf, text}
+use Rattle.orc_values.specs.Cells.{leaf, text}
 use Rattle.orc_column_reader.specs.Columns.{entry_bytes}
 use Rattle.orc_column_reader.proofs.OwnKinds.{text_kind}
 use Rattle.orc_column_reader.proofs.TextLemmas.{entry_text, entry_no_text}

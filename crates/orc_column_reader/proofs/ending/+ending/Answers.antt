@@ -1,7 +1,7 @@
 use Rattle.std.proofs.Common.{true, inl, [], length, take, drop, ◌-◌, sym, ap, ◌∙◌, subst, arith, string_bytes}
-use Rattle.orc_types.specs.Views.{shape}
-use Rattle.orc_types.specs.Views.{fields as fields_view}
-use Rattle.orc_types.proofs.Views.{shape-Scalar, shape-List, shape-Map, shape-Struct}
+use Rattle.orc_values.specs.Views.{shape}
+use Rattle.orc_values.specs.Views.{fields as fields_view}
+use Rattle.orc_values.proofs.Views.{shape-Scalar, shape-List, shape-Map, shape-Struct}
 use Rattle.orc_column_reader.specs.Columns.{ScalarLeft}
 use Rattle.orc_column_reader.specs.Numbers.{NumbersLeft}
 use Rattle.orc_column_reader.proofs.Arms.{some_width, first_field}

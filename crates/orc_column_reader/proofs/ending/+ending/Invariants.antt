@@ -1,6 +1,6 @@
 use Rattle.std.proofs.Common.{◌+◌, ◌*◌, ◌-◌}
-use Rattle.orc_types.specs.Shapes.{width, widths}
-use Rattle.orc_types.specs.Views.{shape, fields as fields_view}
+use Rattle.orc_values.specs.Shapes.{width, widths}
+use Rattle.orc_values.specs.Views.{shape, fields as fields_view}
 use Rattle.orc_column_reader.proofs.ending.+ending.Given as goal
 
 abbrev pub decreases-cells_end : goal.decreases-cells_end

@@ -1,6 +1,6 @@
 use Rattle.std.proofs.Common.{suc, false, ap, inl}
 use Rattle.std.proofs.lemmas.Str.{is_utf8-from_IsUtf8, IsUtf8-from_is_utf8}
-use Rattle.orc_types.specs.Cells.{leaf, text}
+use Rattle.orc_values.specs.Cells.{leaf, text}
 use Rattle.orc_column_reader.specs.Numbers.{NumbersLeft}
 use Rattle.orc_column_reader.specs.Octets.{OctetsLeft}
 use Rattle.orc_column_reader.specs.Spellings.{Grouped}

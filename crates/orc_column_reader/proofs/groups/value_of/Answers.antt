@@ -1,5 +1,5 @@
 use Rattle.std.proofs.Common.{refl}
-use Rattle.orc_types.proofs.Bytes.{all_bytes}
+use Rattle.orc_values.proofs.Bytes.{all_bytes}
 use Rattle.orc_column_reader.proofs.groups.value_of.Goals as goal
 
 pub returns : goal.returns

@@ -1,12 +1,12 @@
 use Rattle.std.proofs.Common.{rules, ◌≡◌, ℕ, suc, ◌+◌, false, subst, [], ◌∷◌, map, length, take, drop, ◌-◌, ◌++◌, append-nil, string_bytes, get_or, sym, ap, ◌∙◌, arith}
 use Rattle.std.specs.Prelude.{Option}
-use Rattle.orc_types.specs.Cells.{struct, cells_of}
-use Rattle.orc_types.specs.Shapes.{width}
-use Rattle.orc_types.specs.declared.value.MapPair.{roll-MapPair, the_lemmas}
-use Rattle.orc_types.specs.declared.value.Value.{Value}
-use Rattle.orc_types.specs.Views.{view, views, paired, cell_of_value, shape}
-use Rattle.orc_types.specs.Views.{fields as fields_view}
-use Rattle.orc_types.proofs.Views.{shape-List, shape-Map, shape-Struct, view-List, view-Map, view-Struct, paired-is}
+use Rattle.orc_values.specs.Cells.{struct, cells_of}
+use Rattle.orc_values.specs.Shapes.{width}
+use Rattle.orc_values.specs.declared.value.MapPair.{roll-MapPair, the_lemmas}
+use Rattle.orc_values.specs.declared.value.Value.{Value}
+use Rattle.orc_values.specs.Views.{view, views, paired, cell_of_value, shape}
+use Rattle.orc_values.specs.Views.{fields as fields_view}
+use Rattle.orc_values.proofs.Views.{shape-List, shape-Map, shape-Struct, view-List, view-Map, view-Struct, paired-is}
 use Rattle.orc_column_reader.specs.Columns.{CellsLeft, PairsLeft}
 use Rattle.orc_column_reader.proofs.Arms.{value_is, some_width, fields_put, fields_behind, cell_value, cell_null, cell_lacks, own_list, own_list_lacks, own_map, own_map_lacks, own_struct, own_struct_lacks, list_taken, list_lacking, map_taken, map_lacking, cells_more, cells_counted, pairs_more, pairs_counted, cells_lacking, pair_next, first_counted, no_fields, first_field, fields_none, fields_next, fields_lack_first, fields_lack_others, fields_counted, cells_joined}
 use Rattle.orc_column_reader.specs.declared.column.ColumnReader.{ColumnReader}

@@ -1,6 +1,6 @@
 use Rattle.std.proofs.Common.{◌≡◌, ℕ, Bool, map, ◌+◌, ◌*◌, ◌-◌, length}
-use Rattle.orc_types.specs.Shapes.{width, widths}
-use Rattle.orc_types.specs.Views.{views, paired, shape, fields as fields_view}
+use Rattle.orc_values.specs.Shapes.{width, widths}
+use Rattle.orc_values.specs.Views.{views, paired, shape, fields as fields_view}
 use Rattle.orc_column_reader.specs.Fronts.{Leaves}
 use Rattle.orc_column_reader.specs.Columns.{CellsLeft, PairsLeft}
 use Rattle.orc_column_reader.specs.declared.fault.StripeFault.{StripeFault}

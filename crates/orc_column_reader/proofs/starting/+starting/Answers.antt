@@ -1,8 +1,8 @@
 use Rattle.std.proofs.Common.{rules, ◌≡◌, ◌+◌, arith, length, take, drop, ◌-◌, string_bytes, ap, ◌∙◌, subst}
-use Rattle.orc_types.specs.Views.{shape}
-use Rattle.orc_types.specs.Shapes.{width}
-use Rattle.orc_types.specs.Views.{fields as fields_view}
-use Rattle.orc_types.proofs.Views.{shape-List, shape-Map, shape-Struct}
+use Rattle.orc_values.specs.Views.{shape}
+use Rattle.orc_values.specs.Shapes.{width}
+use Rattle.orc_values.specs.Views.{fields as fields_view}
+use Rattle.orc_values.proofs.Views.{shape-List, shape-Map, shape-Struct}
 use Rattle.orc_column_reader.specs.Stripe.{columns_of}
 use Rattle.orc_column_reader.specs.Starting.{OwnStart, HasNoDictionary, IsOf}
 use Rattle.orc_column_reader.proofs.Arms.{first_field}

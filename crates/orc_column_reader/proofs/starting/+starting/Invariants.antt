@@ -1,6 +1,6 @@
 use Rattle.std.proofs.Common.{◌+◌, ◌*◌}
-use Rattle.orc_types.specs.Shapes.{width, widths}
-use Rattle.orc_types.specs.Views.{shape, fields as fields_view}
+use Rattle.orc_values.specs.Shapes.{width, widths}
+use Rattle.orc_values.specs.Views.{shape, fields as fields_view}
 use Rattle.orc_column_reader.proofs.starting.+starting.Given as goal
 
 abbrev pub decreases-put_tree : goal.decreases-put_tree

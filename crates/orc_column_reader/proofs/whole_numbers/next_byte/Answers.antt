@@ -1,6 +1,6 @@
 use Rattle.std.proofs.Common.{◌≡◌, ◌<◌, ◌∙◌, ap, rules, w64, to_z, of_z}
 use Rattle.std.proofs.lemmas.Int.{to_z-of_z}
-use Rattle.orc_types.specs.Cells.{leaf, int}
+use Rattle.orc_values.specs.Cells.{leaf, int}
 use Rattle.orc_column_reader.specs.Bytes.{BytesLeft}
 use Rattle.orc_column_reader.specs.Columns.{IsByte, signed_byte}
 use Rattle.orc_column_reader.proofs.Fronts.{standing_lacks}

@@ -1,13 +1,13 @@
 use Rattle.std.proofs.Common.{suc, false, inl, rules, ◌≡◌, ◌∙◌, ap, w32, w64, to_z, of_z}
 use Rattle.std.proofs.lemmas.Int.{to_z-of_z}
-use Rattle.orc_types.specs.Cells.{leaf, date}
+use Rattle.orc_values.specs.Cells.{leaf, date}
 use Rattle.orc_column_reader.specs.Numbers.{NumbersLeft}
 use Rattle.orc_column_reader.specs.Columns.{IsDate}
 use Rattle.orc_column_reader.proofs.Fronts.{standing_lacks}
 use Rattle.orc_column_reader.proofs.ReaderLemmas.{one_stands, nothing_stands, one_date}
 use Rattle.orc_column_reader.proofs.Sizes.{day_fits, fits_day}
 use Rattle.orc_column_reader.proofs.OwnKinds.{date_kind}
-use Rattle.orc_types.specs.Fits.{signed_fits}
+use Rattle.orc_values.specs.Fits.{signed_fits}
 use Rattle.orc_column_reader.proofs.MetLemmas.{ints_before, ints_now}
 use Rattle.orc_column_reader.proofs.whole_numbers.next_date.Goals as goal
 

@@ -1,6 +1,6 @@
 use Rattle.std.proofs.Common.{◌≡◌, refl, suc, true, false, sym, ◌∙◌, inl, rules, w64, to_z, of_z}
 use Rattle.std.proofs.lemmas.Int.{to_z-of_z}
-use Rattle.orc_types.specs.Fits.{int_fits}
+use Rattle.orc_values.specs.Fits.{int_fits}
 use Rattle.orc_column_reader.specs.Numbers.{NumbersLeft}
 use Rattle.orc_column_reader.specs.Columns.{IsInt}
 use Rattle.orc_column_reader.proofs.Fronts.{standing_lacks}

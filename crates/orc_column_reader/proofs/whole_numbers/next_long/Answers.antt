@@ -1,6 +1,6 @@
 use Rattle.std.proofs.Common.{◌≡◌, refl, rules, w64, to_z, of_z}
 use Rattle.std.proofs.lemmas.Int.{to_z-of_z}
-use Rattle.orc_types.specs.declared.kind.Scalar.TheVariants as kind
+use Rattle.orc_values.specs.declared.kind.Scalar.TheVariants as kind
 use Rattle.orc_column_reader.specs.Numbers.{NumbersLeft}
 use Rattle.orc_column_reader.specs.Columns.{IsInt}
 use Rattle.orc_column_reader.specs.declared.fault.StreamKind.TheVariants as stream

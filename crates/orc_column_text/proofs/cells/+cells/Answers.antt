@@ -1,9 +1,9 @@
 use Rattle.std.proofs.Common.{rules, ◌≡◌, ℕ, suc, ◌+◌, ◌<◌, false, subst, length, take, drop, ◌-◌, ◌++◌, get_or, sym, ap, ◌∙◌, arith}
-use Rattle.orc_types.specs.Cells.{null}
-use Rattle.orc_types.specs.Shapes.{width}
-use Rattle.orc_types.specs.Views.{shape}
-use Rattle.orc_types.specs.Views.{fields as fields_view}
-use Rattle.orc_types.proofs.Views.{shape-List, shape-Map, shape-Struct}
+use Rattle.orc_values.specs.Cells.{null}
+use Rattle.orc_values.specs.Shapes.{width}
+use Rattle.orc_values.specs.Views.{shape}
+use Rattle.orc_values.specs.Views.{fields as fields_view}
+use Rattle.orc_values.proofs.Views.{shape-List, shape-Map, shape-Struct}
 use Rattle.orc_column_reader.specs.Columns.{CellsLeft, PairsLeft}
 use Rattle.orc_column_reader.proofs.Arms.{some_width, fields_put, fields_behind, cell_null, cell_lacks, own_list_lacks, own_map_lacks, own_struct_lacks, list_taken, list_lacking, map_taken, map_lacking, cells_lacking, first_counted}
 use Rattle.orc_column_reader.specs.declared.column.ColumnReader.{ColumnReader}

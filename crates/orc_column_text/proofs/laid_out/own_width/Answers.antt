@@ -1,5 +1,5 @@
 use Rattle.std.proofs.Common.{refl}
-use Rattle.orc_types.proofs.Views.{shape-Scalar}
+use Rattle.orc_values.proofs.Views.{shape-Scalar}
 use Rattle.orc_column_text.proofs.laid_out.own_width.Goals as goal
 
 pub returns-in-Scalar : goal.returns-in-Scalar

@@ -1,6 +1,6 @@
 use Rattle.std.proofs.Common.{◌≡◌, ◌≤◌, ◌+◌, ◌^◌, ◌∙◌, List, length, refl, ap, arith}
-use Rattle.orc_types.specs.Cells.{Cell}
-use Rattle.orc_types.specs.Views.{shape}
+use Rattle.orc_values.specs.Cells.{Cell}
+use Rattle.orc_values.specs.Views.{shape}
 use Rattle.orc_stats.specs.Kinds.{kind_of}
 use Rattle.orc_stats.specs.Statistics.{stat}
 use Rattle.orc_stats.specs.Tallies.{cells_kept, stat_of_kept}

@@ -1,5 +1,5 @@
 use Rattle.std.proofs.Common.{rules, arith}
-use Rattle.orc_types.specs.Views.{shape}
+use Rattle.orc_values.specs.Views.{shape}
 use Rattle.orc_column_walk.specs.OwnLeft.{OwnValuesLeft}
 use Rattle.orc_column_walk.proofs.GroupLemmas.{counted_found}
 use Rattle.orc_column_walk.proofs.ReadLemmas.{all_read}

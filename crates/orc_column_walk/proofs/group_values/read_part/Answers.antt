@@ -1,6 +1,6 @@
 use Rattle.std.proofs.Common.{refl, length, ◌++◌, sym, ap, ◌∙◌, subst, arith}
-use Rattle.orc_types.specs.Cells.{null}
-use Rattle.orc_types.specs.Views.{shape}
+use Rattle.orc_values.specs.Cells.{null}
+use Rattle.orc_values.specs.Views.{shape}
 use Rattle.orc_stats.specs.Tallies.{together, cell_kept}
 use Rattle.orc_stats.specs.TallyLaws.{cells_kept_count}
 use Rattle.orc_column_walk.specs.Passed.{IsPassed}

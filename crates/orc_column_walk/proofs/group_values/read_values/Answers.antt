@@ -1,6 +1,6 @@
 use Rattle.std.proofs.Common.{◌≡◌, ◌+◌, refl, true, sym, ap, subst, length, arith}
-use Rattle.orc_types.specs.Own.{own_cell}
-use Rattle.orc_types.specs.Views.{shape}
+use Rattle.orc_values.specs.Own.{own_cell}
+use Rattle.orc_values.specs.Views.{shape}
 use Rattle.orc_stats.specs.Kinds.{is_of}
 use Rattle.orc_stats.specs.Statistics.{bit}
 use Rattle.orc_stats.specs.TallyLaws.{cells_kept_count}

@@ -1,4 +1,4 @@
-use Rattle.orc_types.specs.Views.{shape}
+use Rattle.orc_values.specs.Views.{shape}
 use Rattle.orc_column_walk.proofs.PassedLemmas.{AreCountedValues}
 use Rattle.orc_column_walk.proofs.group_values.read_values.Given as goal
 

@@ -1,6 +1,6 @@
 use Rattle.std.proofs.Common.{ap, ◌∙◌}
-use Rattle.orc_types.specs.Views.{shape, fields}
-use Rattle.orc_types.proofs.Views.{shape-Struct}
+use Rattle.orc_values.specs.Views.{shape, fields}
+use Rattle.orc_values.proofs.Views.{shape-Struct}
 use Rattle.orc_column_walk.proofs.StructLemmas.{struct_column}
 use Rattle.orc_column_walk.proofs.groups.find_column.Goals as goal
 

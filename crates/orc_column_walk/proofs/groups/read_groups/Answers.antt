@@ -1,5 +1,5 @@
 use Rattle.std.proofs.Common.{◌∙◌, sym, arith}
-use Rattle.orc_types.specs.Views.{shape}
+use Rattle.orc_values.specs.Views.{shape}
 use Rattle.orc_column_reader.specs.Stripe.{columns_of}
 use Rattle.orc_column_walk.proofs.GroupMarkLemmas.{value_bounds_are, values_by_marks}
 use Rattle.orc_column_walk.proofs.StartedLemmas.{own_found, children_few, refused_entries, refused_marks, refused_values}

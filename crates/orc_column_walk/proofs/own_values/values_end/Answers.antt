@@ -1,6 +1,6 @@
 use Rattle.std.proofs.Common.{ap, ◌∙◌}
-use Rattle.orc_types.specs.Views.{shape}
-use Rattle.orc_types.proofs.Views.{shape-List, shape-Map}
+use Rattle.orc_values.specs.Views.{shape}
+use Rattle.orc_values.proofs.Views.{shape-List, shape-Map}
 use Rattle.orc_column_walk.proofs.NextLemmas.{list_end, map_end}
 use Rattle.orc_column_walk.proofs.own_values.values_end.Goals as goal
 

@@ -1,5 +1,5 @@
 use Rattle.std.proofs.Common.{arith, [], ◌∷◌, ◌++◌}
-use Rattle.orc_types.specs.Own.{own_cell}
+use Rattle.orc_values.specs.Own.{own_cell}
 use Rattle.orc_column_reader.specs.Columns.{ScalarLeft}
 use Rattle.orc_column_walk.proofs.ReadLemmas.{none_read, one_read, read_lacks, read_fault, read_on}
 use Rattle.orc_column_walk.proofs.ScalarLemmas.{ScalarMet}

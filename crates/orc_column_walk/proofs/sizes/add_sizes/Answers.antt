@@ -1,5 +1,5 @@
 use Rattle.std.proofs.Common.{[], refl, arith}
-use Rattle.orc_types.specs.Shapes.{struct_of, no_field}
+use Rattle.orc_values.specs.Shapes.{struct_of, no_field}
 use Rattle.orc_column_reader.specs.ReaderFaults.{ListsMeet}
 use Rattle.orc_column_walk.specs.OwnLeft.{SizesLeft}
 use Rattle.orc_column_walk.proofs.ReadLemmas.{read_lacks, read_fault, read_on}

@@ -1,7 +1,7 @@
 use Rattle.std.proofs.Common.{ℕ, List, replicate}
-use Rattle.orc_types.specs.Cells.{Cell}
-use Rattle.orc_types.specs.Childless.{childless_struct}
-use Rattle.orc_types.specs.Shapes.{Fields, struct_of}
+use Rattle.orc_values.specs.Cells.{Cell}
+use Rattle.orc_values.specs.Childless.{childless_struct}
+use Rattle.orc_values.specs.Shapes.{Fields, struct_of}
 use Rattle.orc_column_walk.specs.Passed.{HasValues, AreGroupsFound}
 use Rattle.orc_column_walk.proofs.struct_groups.find_structs.Given as goal
 

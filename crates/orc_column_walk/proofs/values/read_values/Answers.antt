@@ -1,6 +1,6 @@
 use Rattle.std.proofs.Common.{ap, ◌∙◌}
-use Rattle.orc_types.specs.Views.{shape, fields}
-use Rattle.orc_types.proofs.Views.{shape-List, shape-Map, shape-Struct}
+use Rattle.orc_values.specs.Views.{shape, fields}
+use Rattle.orc_values.proofs.Views.{shape-List, shape-Map, shape-Struct}
 use Rattle.orc_column_walk.proofs.ValueLemmas.{lists_read, no_lists, maps_read, no_maps, structs_read}
 use Rattle.orc_column_walk.proofs.values.read_values.Goals as goal
 

@@ -1,9 +1,9 @@
 use Rattle.std.proofs.Common.{◌*◌, ◌+◌, ◌<◌, refl, ap, ◌∙◌, arith, add-one}
-use Rattle.orc_types.specs.Shapes.{width}
-use Rattle.orc_types.specs.Views.{shape}
-use Rattle.orc_types.proofs.ByColumn.{width_within}
-use Rattle.orc_types.proofs.Listed.{widths_from}
-use Rattle.orc_types.proofs.Views.{shape-List, shape-Map}
+use Rattle.orc_values.specs.Shapes.{width}
+use Rattle.orc_values.specs.Views.{shape}
+use Rattle.orc_values.proofs.ByColumn.{width_within}
+use Rattle.orc_values.proofs.Listed.{widths_from}
+use Rattle.orc_values.proofs.Views.{shape-List, shape-Map}
 use Rattle.orc_column_reader.specs.Stripe.{columns_of}
 use Rattle.orc_column_walk.proofs.TreeLemmas.{list_down, map_down, list_refused, keys_refused, seconds_refused, field_read, field_refused}
 use Rattle.orc_column_walk.proofs.walk.+walking.Goals as goal

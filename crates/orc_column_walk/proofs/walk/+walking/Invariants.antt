@@ -1,6 +1,6 @@
 use Rattle.std.proofs.Common.{◌+◌, ◌*◌}
-use Rattle.orc_types.specs.Shapes.{width, widths}
-use Rattle.orc_types.specs.Views.{shape, fields as fields_view}
+use Rattle.orc_values.specs.Shapes.{width, widths}
+use Rattle.orc_values.specs.Views.{shape, fields as fields_view}
 use Rattle.orc_column_reader.specs.Stripe.{columns_of}
 use Rattle.orc_column_walk.proofs.TreeLemmas.{FieldsRead}
 use Rattle.orc_column_walk.proofs.walk.+walking.Given as goal

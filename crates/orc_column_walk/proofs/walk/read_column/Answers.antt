@@ -1,5 +1,5 @@
 use Rattle.std.proofs.Common.{◌∙◌, arith}
-use Rattle.orc_types.specs.Views.{shape}
+use Rattle.orc_values.specs.Views.{shape}
 use Rattle.orc_column_reader.specs.Stripe.{columns_of}
 use Rattle.orc_column_walk.proofs.StartedLemmas.{own_found, children_few, refused_marks, refused_values}
 use Rattle.orc_column_walk.proofs.walk.read_column.Goals as goal

@@ -1,4 +1,4 @@
-use Rattle.orc_types.specs.Views.{shape}
+use Rattle.orc_values.specs.Views.{shape}
 use Rattle.orc_column_reader.specs.Stripe.{columns_of}
 use Rattle.orc_column_walk.proofs.OwnRows.{down_rows}
 use Rattle.orc_column_walk.proofs.RefusedLemmas.{refused_rows}

@@ -1,7 +1,7 @@
 use Rattle.std.proofs.Common.{◌≡◌, ◌∙◌, ℕ, List, inl, inr, sym, subst, arith}
 use Rattle.std.specs.Prelude.{◌⊎◌, MatchResult}
-use Rattle.orc_types.specs.Cells.{Cell}
-use Rattle.orc_types.specs.Views.{views}
+use Rattle.orc_values.specs.Cells.{Cell}
+use Rattle.orc_values.specs.Views.{views}
 use Rattle.orc_file.specs.FileRows.{FileIs}
 use Rattle.orc_file.specs.Tails.{IsTail}
 use Rattle.orc_file.specs.declared.tail.Tail.{Tail}

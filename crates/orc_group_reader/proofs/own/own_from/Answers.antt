@@ -1,8 +1,8 @@
 use Rattle.std.proofs.Common.{ℕ, List, Option, length, sym, ap, ◌∙◌, subst}
 use Rattle.std.specs.declared.vec.Vec.{Vec}
 use Rattle.std.specs.declared.alloc.Global.{Global}
-use Rattle.orc_types.specs.Cells.{values}
-use Rattle.orc_types.specs.Views.{shape}
+use Rattle.orc_values.specs.Cells.{values}
+use Rattle.orc_values.specs.Views.{shape}
 use Rattle.orc_column_reader.specs.declared.entry.Entry.{Entry}
 use Rattle.orc_row_index.specs.RunStreams.{RunStream, own_runs, kind_of_own}
 use Rattle.orc_group_reader.specs.Columns.{CutsOctets, EntriesOf}

@@ -1,5 +1,5 @@
 use Rattle.std.proofs.Common.{◌≡◌, ℕ, List, take, drop, ap, ◌∙◌, subst}
-use Rattle.orc_types.specs.Views.{shape}
+use Rattle.orc_values.specs.Views.{shape}
 use Rattle.orc_row_index.specs.Places.{position_size}
 use Rattle.orc_group_reader.specs.ReadersAt.{MarksAt, SourceAt}
 use Rattle.orc_group_reader.specs.Refusals as refusals

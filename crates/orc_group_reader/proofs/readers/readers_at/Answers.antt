@@ -1,8 +1,8 @@
 use Rattle.std.proofs.Common.{◌≡◌, List, ℕ, length, sym, ap, ◌∙◌, subst, arith, length-append, ◌∷◌, [], ◌<◌, refl}
 use Rattle.std.proofs.lemmas.Option.{slice_get_read}
-use Rattle.orc_types.specs.Columns.{cells}
-use Rattle.orc_types.specs.Shapes.{Shape, width}
-use Rattle.orc_types.specs.Views.{shape}
+use Rattle.orc_values.specs.Columns.{cells}
+use Rattle.orc_values.specs.Shapes.{Shape, width}
+use Rattle.orc_values.specs.Views.{shape}
 use Rattle.orc_column_reader.specs.Stripe.{columns_of}
 use Rattle.orc_wire.specs.declared.row_index.RowIndexEntry.{RowIndexEntry}
 use Rattle.orc_group_reader.specs.ReadersAt.{ColumnAt}

@@ -1,7 +1,7 @@
 use Rattle.std.proofs.Common.{ℕ, List, [], ◌∷◌, ◌++◌, length, map, refl, ap, ◌∙◌, arith}
 use Rattle.json.specs.Print.{quoted}
 use Rattle.serde_json.specs.Written.{comma_if}
-use Rattle.orc_types.specs.Views.{name_and_type}
+use Rattle.orc_values.specs.Views.{name_and_type}
 use Rattle.orc_json.specs.Layouts.{text_by, member_parts}
 use Rattle.orc_json.proofs.Prints.{laying_first, laying_next, laying_place, laying_last}
 use Rattle.orc_json.proofs.Layouts.{laid_list, laid_map, laid_struct, member_parts_more, shape_placed, width_within}

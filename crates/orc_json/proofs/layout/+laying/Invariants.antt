@@ -1,6 +1,6 @@
 use Rattle.std.proofs.Common.{◌+◌, ◌*◌, length, map}
-use Rattle.orc_types.specs.Shapes.{width, widths}
-use Rattle.orc_types.specs.Views.{shape, fields, name_and_type}
+use Rattle.orc_values.specs.Shapes.{width, widths}
+use Rattle.orc_values.specs.Views.{shape, fields, name_and_type}
 use Rattle.orc_json.specs.Layouts.{member_parts}
 use Rattle.orc_json.proofs.Prints.{Laying}
 use Rattle.orc_json.proofs.layout.+laying.Given as goal

@@ -1,8 +1,8 @@
 use Rattle.std.proofs.Common.{◌≡◌, List, length, map, drop}
 use Rattle.serde_json.specs.Data.{no_members}
-use Rattle.orc_types.specs.Cells.{Cell, cells_of}
+use Rattle.orc_values.specs.Cells.{Cell, cells_of}
 use Rattle.orc_types.specs.JsonPrinting.{members_json}
-use Rattle.orc_types.specs.Views.{name_and_type, fields_of}
+use Rattle.orc_values.specs.Views.{name_and_type, fields_of}
 use Rattle.orc_json.specs.Texts.{json_in, members_at, AreWithin}
 use Rattle.orc_json.proofs.layout.places_of.Given as goal
 

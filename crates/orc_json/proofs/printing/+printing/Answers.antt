@@ -1,8 +1,8 @@
 use Rattle.std.proofs.Common.{ℕ, List, ◌++◌, false, map, sym, ap, ◌∙◌}
 use Rattle.std.proofs.lemmas.Result.{on_ok_weaker}
 use Rattle.orc_json.specs.Layouts.{text_by, member_parts, pair_texts, elements_text, pairs_text, parts_text}
-use Rattle.orc_types.specs.Own.{own_cell}
-use Rattle.orc_types.specs.Views.{view, views, paired}
+use Rattle.orc_values.specs.Own.{own_cell}
+use Rattle.orc_values.specs.Views.{view, views, paired}
 use Rattle.orc_json.proofs.Growth.{grows_on}
 use Rattle.orc_json.proofs.Layouts.{printed_leaf, printed_list, printed_map, printed_struct, elements_next, pairs_next, members_next_text}
 use Rattle.orc_json.proofs.printing.+printing.Goals as goal

@@ -1,5 +1,5 @@
 use Rattle.std.proofs.Common.{◌≡◌, ◌++◌, drop, false, map}
-use Rattle.orc_types.specs.Views.{views, paired}
+use Rattle.orc_values.specs.Views.{views, paired}
 use Rattle.orc_json.specs.Growth.{Grows}
 use Rattle.orc_json.specs.Layouts.{text_by, member_parts, elements_text, pair_texts, pairs_text, parts_text}
 use Rattle.orc_json.proofs.printing.+printing.Given as goal

@@ -1,6 +1,6 @@
 use Rattle.std.proofs.Common.{List, Option, add-one, ap, ◌∙◌}
 use Rattle.std.proofs.Math.ListN.{set}
-use Rattle.orc_types.specs.declared.value.Value.{Value}
+use Rattle.orc_values.specs.declared.value.Value.{Value}
 use Rattle.orc_json_reader.proofs.FrontierLemmas.{read_up_to-next, read_up_to-before}
 use Rattle.orc_json_reader.proofs.field_places.pass_to.Goals as goal
 

@@ -5,18 +5,18 @@ use Rattle.std.proofs.lemmas.Result.{IfOk-weaker}
 use Rattle.json.specs.Token.{Token}
 use Rattle.json.specs.Json.{after_end_array, read_key}
 use Rattle.json.proofs.Grammar.{read_key-shorter}
-use Rattle.orc_types.specs.Cells.{Cell}
+use Rattle.orc_values.specs.Cells.{Cell}
 use Rattle.orc_types.specs.JsonRows.{OrNull, ArraySpells, MapSpells, Spells, PairSpells, FieldsSpell, ObjectSpells}
-use Rattle.orc_types.specs.Shapes.{names_of}
-use Rattle.orc_types.specs.Views.{view, views, paired, shape, fields}
+use Rattle.orc_values.specs.Shapes.{names_of}
+use Rattle.orc_values.specs.Views.{view, views, paired, shape, fields}
 use Rattle.orc_types.specs.JsonLeaves.{ScalarSpells}
-use Rattle.orc_types.specs.declared.tree.Tree.{Tree}
-use Rattle.orc_types.specs.declared.tree.Field.{Field}
-use Rattle.orc_types.specs.declared.value.Value.{Value, List as ListOf, Map as MapOf, Struct as StructOf, the_lemmas}
-use Rattle.orc_types.specs.declared.value.Value as value
-use Rattle.orc_types.specs.declared.value.MapPair.{MapPair}
+use Rattle.orc_values.specs.declared.tree.Tree.{Tree}
+use Rattle.orc_values.specs.declared.tree.Field.{Field}
+use Rattle.orc_values.specs.declared.value.Value.{Value, List as ListOf, Map as MapOf, Struct as StructOf, the_lemmas}
+use Rattle.orc_values.specs.declared.value.Value as value
+use Rattle.orc_values.specs.declared.value.MapPair.{MapPair}
 use Rattle.orc_types.proofs.Names.{distinct_at}
-use Rattle.orc_types.proofs.Views.{paired-is}
+use Rattle.orc_values.proofs.Views.{paired-is}
 use Rattle.orc_json_reader.specs.Fronts.{ValueFront}
 use Rattle.orc_json_reader.specs.Frontier.{read_up_to}
 use Rattle.orc_json_reader.proofs.FrontLemmas.{two_front}

@@ -1,6 +1,6 @@
 use Rattle.std.proofs.Common.{◌+◌, ◌*◌, ◌≤◌, map, take, length}
 use Rattle.orc_types.specs.JsonRows.{Spells}
-use Rattle.orc_types.specs.Views.{views, paired, shape}
+use Rattle.orc_values.specs.Views.{views, paired, shape}
 use Rattle.orc_json_reader.specs.Frontier.{read_up_to}
 use Rattle.orc_json_reader.proofs.ItemLemmas.{ElementsGo, PairsGo}
 use Rattle.orc_json_reader.proofs.FieldLemmas.{FieldsGo}

@@ -1,6 +1,6 @@
 use Rattle.std.proofs.Common.{◌≡◌, ◌+◌, length, drop}
 use Rattle.std.specs.List.{flat_map}
-use Rattle.orc_types.specs.Cells.{parts, values}
+use Rattle.orc_values.specs.Cells.{parts, values}
 use Rattle.orc_row_index.specs.OwnCells.{own_cells}
 use Rattle.orc_row_index.proofs.bounds.count_elements.Given as goal
 

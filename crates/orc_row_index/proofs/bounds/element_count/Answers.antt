@@ -1,8 +1,8 @@
 use Rattle.std.proofs.Common.{length, sym, ap, ◌∙◌}
-use Rattle.orc_types.specs.Cells.{parts}
-use Rattle.orc_types.specs.Own.{own_cell}
-use Rattle.orc_types.specs.declared.own.Own.{Own}
-use Rattle.orc_types.proofs.Childless.{list_size}
+use Rattle.orc_values.specs.Cells.{parts}
+use Rattle.orc_values.specs.Own.{own_cell}
+use Rattle.orc_values.specs.declared.own.Own.{Own}
+use Rattle.orc_values.proofs.Childless.{list_size}
 use Rattle.orc_row_index.proofs.bounds.element_count.Goals as goal
 
 pub returns-in-List : goal.returns-in-List

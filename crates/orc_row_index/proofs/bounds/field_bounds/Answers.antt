@@ -1,5 +1,5 @@
 use Rattle.std.proofs.Common.{◌≡◌, ◌+◌, length, take, get_or, ap, arith}
-use Rattle.orc_types.specs.Cells.{values}
+use Rattle.orc_values.specs.Cells.{values}
 use Rattle.orc_row_index.specs.OwnCells.{own_cells}
 use Rattle.orc_row_index.specs.Bounds.{values_before}
 use Rattle.orc_row_index.proofs.OwnLemmas.{owns_long}

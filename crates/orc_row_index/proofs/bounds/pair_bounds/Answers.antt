@@ -1,6 +1,6 @@
 use Rattle.std.proofs.Common.{◌≡◌, ◌+◌, length, get_or, ap, arith}
 use Rattle.std.specs.List.{flat_map}
-use Rattle.orc_types.specs.Cells.{pairs_in, values}
+use Rattle.orc_values.specs.Cells.{pairs_in, values}
 use Rattle.orc_row_index.specs.OwnCells.{own_cells}
 use Rattle.orc_row_index.specs.Bounds.{pairs_before}
 use Rattle.orc_row_index.proofs.OwnLemmas.{owns_long}

@@ -1,6 +1,6 @@
 use Rattle.std.proofs.Common.{◌≡◌, ◌+◌, ◌≤◌, min, length, drop}
-use Rattle.orc_types.specs.Cells.{values}
-use Rattle.orc_types.specs.Lent.{lent_cells}
+use Rattle.orc_values.specs.Cells.{values}
+use Rattle.orc_values.specs.Lent.{lent_cells}
 use Rattle.orc_row_index.specs.Places.{octets}
 use Rattle.orc_row_index.specs.Walking.{most}
 use Rattle.orc_row_index.proofs.counting.counts_after.Given as goal

@@ -1,5 +1,5 @@
 use Rattle.std.proofs.Common.{◌≡◌, ◌+◌, ◌≤◌, min, length, drop}
-use Rattle.orc_types.specs.Cells.{values}
+use Rattle.orc_values.specs.Cells.{values}
 use Rattle.orc_row_index.specs.OwnCells.{own_cells}
 use Rattle.orc_row_index.specs.Places.{octets}
 use Rattle.orc_row_index.specs.Walking.{most}

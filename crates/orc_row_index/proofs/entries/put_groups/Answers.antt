@@ -2,7 +2,7 @@ use Rattle.std.proofs.Common.{◌≡◌, ℕ, ◌+◌, ◌-◌, ◌<◌, ◌≤�
 use Rattle.std.proofs.lemmas.Result.{IfOk-weaker}
 use Rattle.orc_wire.specs.CanonicalMessages.{row_index_text}
 use Rattle.orc_wire.proofs.PutLemmas.{keeps_more, text_fits}
-use Rattle.orc_types.specs.Views.{shape}
+use Rattle.orc_values.specs.Views.{shape}
 use Rattle.orc_stats.specs.Kinds.{is_of}
 use Rattle.orc_stats.specs.Tallies.{cells_kept}
 use Rattle.orc_row_index.specs.Bounds.{AreBounds, bound_at, before_group, group_of}

@@ -1,4 +1,4 @@
-use Rattle.orc_types.specs.Views.{shape}
+use Rattle.orc_values.specs.Views.{shape}
 use Rattle.orc_row_index.proofs.GroupFolds.{AreEntered}
 use Rattle.orc_row_index.proofs.entries.put_groups.Given as goal
 

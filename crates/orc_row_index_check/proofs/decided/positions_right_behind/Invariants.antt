@@ -1,4 +1,4 @@
-use Rattle.orc_types.specs.Views.{shape}
+use Rattle.orc_values.specs.Views.{shape}
 use Rattle.orc_row_index_check.proofs.Entries.{Deciding}
 use Rattle.orc_row_index_check.proofs.decided.positions_right_behind.Given as goal
 

@@ -1,9 +1,9 @@
 use Rattle.std.proofs.Common.{◌≡◌, ◌∙◌, ◌*◌, ◌+◌, ◌<◌, ℕ, sym, ap, arith}
 use Rattle.std.proofs.lemmas.Result.{IfOk-weaker}
-use Rattle.orc_types.specs.Shapes.{list_of, map_of, struct_of, width, widths}
-use Rattle.orc_types.specs.Views.{shape, fields as fields_view}
-use Rattle.orc_types.proofs.ByColumn.{width_within}
-use Rattle.orc_types.proofs.Views.{shape-Scalar, shape-List, shape-Map, shape-Struct}
+use Rattle.orc_values.specs.Shapes.{list_of, map_of, struct_of, width, widths}
+use Rattle.orc_values.specs.Views.{shape, fields as fields_view}
+use Rattle.orc_values.proofs.ByColumn.{width_within}
+use Rattle.orc_values.proofs.Views.{shape-Scalar, shape-List, shape-Map, shape-Struct}
 use Rattle.orc_column_reader.specs.Stripe.{columns_of}
 use Rattle.orc_column_reader.specs.declared.fault.StripeFault.TheVariants as fault
 use Rattle.orc_column_reader.proofs.Arms.{some_width}

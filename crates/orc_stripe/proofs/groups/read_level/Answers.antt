@@ -1,5 +1,5 @@
 use Rattle.std.proofs.Common.{List, ℕ, map, refl, subst, sym, ap, ◌∙◌}
-use Rattle.orc_types.specs.Views.{shape}
+use Rattle.orc_values.specs.Views.{shape}
 use Rattle.orc_column_reader.specs.Stripe.{columns_of}
 use Rattle.orc_row_index.specs.Bounds.{AreBounds, bound_at}
 use Rattle.orc_column_walk.specs.declared.found.GroupFound.{GroupFound}

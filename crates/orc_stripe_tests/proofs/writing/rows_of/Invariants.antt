@@ -1,5 +1,5 @@
-use Rattle.orc_types.specs.Fits.{RowsFit}
-use Rattle.orc_types.specs.Views.{views}
+use Rattle.orc_values.specs.Fits.{RowsFit}
+use Rattle.orc_values.specs.Views.{views}
 use Rattle.orc_stripe_tests.proofs.writing.rows_of.Given as goal
 
 abbrev pub invariant-loop-line : goal.invariant-loop-line

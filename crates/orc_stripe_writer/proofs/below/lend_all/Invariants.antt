@@ -1,6 +1,6 @@
 use Rattle.std.proofs.Common.{◌≡◌, take, ◌++◌}
-use Rattle.orc_types.specs.Lent.{lent_cells}
-use Rattle.orc_types.specs.Views.{views}
+use Rattle.orc_values.specs.Lent.{lent_cells}
+use Rattle.orc_values.specs.Views.{views}
 use Rattle.orc_stripe_writer.proofs.below.lend_all.Given as goal
 
 abbrev pub invariant-loop-row : goal.invariant-loop-row

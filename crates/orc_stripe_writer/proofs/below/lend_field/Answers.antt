@@ -1,8 +1,8 @@
 use Rattle.std.proofs.Common.{◌≡◌, ℕ, zero, suc, Some, None, List, [], ◌∷◌, ◌++◌, take, drop, refl, sym, ap, ◌∙◌, append-nil, slice_get}
 use Rattle.std.proofs.lemmas.List.{map-append}
-use Rattle.orc_types.specs.Cells.{Cell, parts}
-use Rattle.orc_types.specs.Lent.{lent_cells}
-use Rattle.orc_types.specs.Views.{view}
+use Rattle.orc_values.specs.Cells.{Cell, parts}
+use Rattle.orc_values.specs.Lent.{lent_cells}
+use Rattle.orc_values.specs.Views.{view}
 use Rattle.orc_stripe_writer.proofs.below.lend_field.Goals as goal
 
 there : (xs : List Cell) (i : ℕ) (c : Cell) → Some c ≡ slice_get xs i → c ∷ [] ≡ take 1 (drop i xs)

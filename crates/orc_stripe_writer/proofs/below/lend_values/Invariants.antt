@@ -1,6 +1,6 @@
 use Rattle.std.proofs.Common.{◌≡◌, take, map, ◌++◌}
-use Rattle.orc_types.specs.Lent.{lent_cells}
-use Rattle.orc_types.specs.Views.{paired}
+use Rattle.orc_values.specs.Lent.{lent_cells}
+use Rattle.orc_values.specs.Views.{paired}
 use Rattle.orc_stripe_writer.proofs.below.lend_values.Given as goal
 
 abbrev pub invariant-loop-pair : goal.invariant-loop-pair

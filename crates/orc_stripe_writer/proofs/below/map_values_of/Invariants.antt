@@ -1,7 +1,7 @@
 use Rattle.std.proofs.Common.{◌≡◌, take}
 use Rattle.std.specs.List.{flat_map}
-use Rattle.orc_types.specs.Cells.{values_in}
-use Rattle.orc_types.specs.Lent.{lent_cells}
+use Rattle.orc_values.specs.Cells.{values_in}
+use Rattle.orc_values.specs.Lent.{lent_cells}
 use Rattle.orc_stripe_writer.proofs.below.map_values_of.Given as goal
 
 abbrev pub invariant-loop-row : goal.invariant-loop-row

@@ -1,7 +1,7 @@
 use Rattle.std.proofs.Common.{Some, sym, ap, ◌∙◌}
-use Rattle.orc_types.specs.Own.{own_cell}
-use Rattle.orc_types.specs.declared.own.Own.{Own}
-use Rattle.orc_types.proofs.Childless.{elements_many, pairs_many}
+use Rattle.orc_values.specs.Own.{own_cell}
+use Rattle.orc_values.specs.declared.own.Own.{Own}
+use Rattle.orc_values.proofs.Childless.{elements_many, pairs_many}
 use Rattle.orc_stripe_writer.specs.CellValues.{size_in}
 use Rattle.orc_stripe_writer.proofs.cell_values.size_of.Goals as goal
 

@@ -2,15 +2,15 @@ use Rattle.std.proofs.Common.{◌≡◌, ℕ, ◌+◌, ◌≤◌, List, length, 
 use Rattle.std.proofs.lemmas.Result.{on_ok_weaker}
 use Rattle.std.proofs.lemmas.List.{length-map}
 use Rattle.std.specs.List.{flat_map}
-use Rattle.orc_types.specs.Shapes.{Shape, list_of, map_of, struct_of, width, widths}
-use Rattle.orc_types.specs.Cells.{Cell, parts, pairs_in, keys_in, values_in, values}
-use Rattle.orc_types.specs.Fits.{RowsFit}
-use Rattle.orc_types.specs.Views.{shape, fields}
-use Rattle.orc_types.specs.Lent.{lent_cells}
-use Rattle.orc_types.specs.declared.own.Own.{Own}
-use Rattle.orc_types.proofs.ByColumn.{width_within, parts_values, keys_values, values_values, members_values}
-use Rattle.orc_types.proofs.Together.{elements_fit, structs_fit}
-use Rattle.orc_types.proofs.Views.{shape-Scalar, shape-List, shape-Map, shape-Struct}
+use Rattle.orc_values.specs.Shapes.{Shape, list_of, map_of, struct_of, width, widths}
+use Rattle.orc_values.specs.Cells.{Cell, parts, pairs_in, keys_in, values_in, values}
+use Rattle.orc_values.specs.Fits.{RowsFit}
+use Rattle.orc_values.specs.Views.{shape, fields}
+use Rattle.orc_values.specs.Lent.{lent_cells}
+use Rattle.orc_values.specs.declared.own.Own.{Own}
+use Rattle.orc_values.proofs.ByColumn.{width_within, parts_values, keys_values, values_values, members_values}
+use Rattle.orc_values.proofs.Together.{elements_fit, structs_fit}
+use Rattle.orc_values.proofs.Views.{shape-Scalar, shape-List, shape-Map, shape-Struct}
 use Rattle.orc_row_index.specs.Bounds.{AreBounds, elements_before, pairs_before, values_before}
 use Rattle.orc_row_index.specs.OwnCells.{own_cells, AreOwn}
 use Rattle.orc_row_index.proofs.Groups.{element_bounds_are, keys_long, map_values_long, field_bounds_are}

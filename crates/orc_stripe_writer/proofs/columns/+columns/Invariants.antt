@@ -1,8 +1,8 @@
 use Rattle.std.proofs.Common.{◌+◌, ◌*◌, map}
-use Rattle.orc_types.specs.Cells.{parts, values}
-use Rattle.orc_types.specs.Lent.{lent_cells}
-use Rattle.orc_types.specs.Shapes.{width, widths}
-use Rattle.orc_types.specs.Views.{shape, fields as fields_view}
+use Rattle.orc_values.specs.Cells.{parts, values}
+use Rattle.orc_values.specs.Lent.{lent_cells}
+use Rattle.orc_values.specs.Shapes.{width, widths}
+use Rattle.orc_values.specs.Views.{shape, fields as fields_view}
 use Rattle.orc_stripe_writer.proofs.FieldsWritten.{FieldsStand}
 use Rattle.orc_stripe_writer.proofs.columns.+columns.Given as goal
 

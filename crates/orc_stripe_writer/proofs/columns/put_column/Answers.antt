@@ -1,5 +1,5 @@
 use Rattle.std.proofs.Common.{◌≡◌, ℕ, ◌<◌, length, drop, ◌∙◌, subst, arith, rules}
-use Rattle.orc_types.specs.Views.{shape}
+use Rattle.orc_values.specs.Views.{shape}
 use Rattle.orc_column_reader.specs.Stripe.{cell_limit}
 use Rattle.orc_row_index.specs.OwnCells.{AreSpelledOwn}
 use Rattle.orc_row_index.specs.RowIndex.{IsWrittenIndex}

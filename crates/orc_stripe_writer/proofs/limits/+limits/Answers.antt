@@ -2,12 +2,12 @@ use Rattle.std.proofs.Common.{◌≡◌, ◌≤◌, List, map, drop, take, sym, 
 use Rattle.std.proofs.lemmas.Bool.{OnTrue_at, OnTrue_from, OnFalse_at, OnFalse_from}
 use Rattle.std.proofs.lemmas.Result.{IfOk-weaker}
 use Rattle.std.specs.List.{flat_map}
-use Rattle.orc_types.specs.Shapes.{Shape, list_of, map_of, struct_of, width, widths}
-use Rattle.orc_types.specs.Cells.{Cell, parts, keys_in, values_in, values}
-use Rattle.orc_types.specs.Views.{shape, fields}
-use Rattle.orc_types.specs.Lent.{lent_cells}
-use Rattle.orc_types.proofs.ByColumn.{width_within, parts_values, keys_values, values_values, members_values}
-use Rattle.orc_types.proofs.Views.{shape-List, shape-Map, shape-Struct}
+use Rattle.orc_values.specs.Shapes.{Shape, list_of, map_of, struct_of, width, widths}
+use Rattle.orc_values.specs.Cells.{Cell, parts, keys_in, values_in, values}
+use Rattle.orc_values.specs.Views.{shape, fields}
+use Rattle.orc_values.specs.Lent.{lent_cells}
+use Rattle.orc_values.proofs.ByColumn.{width_within, parts_values, keys_values, values_values, members_values}
+use Rattle.orc_values.proofs.Views.{shape-List, shape-Map, shape-Struct}
 use Rattle.orc_stripe_writer.specs.WrittenStripe.{AreFew}
 use Rattle.orc_stripe_writer.proofs.CellValuesLemmas.{cells_long}
 use Rattle.orc_stripe_writer.proofs.SubtreeLemmas.{heads_at, few_elements, few_pairs, few_fields, few_list, few_map, few_struct, few_begin, few_step, few_first_not}

@@ -1,5 +1,5 @@
 use Rattle.std.proofs.Common.{take}
-use Rattle.orc_types.specs.Lent.{lent_cells}
+use Rattle.orc_values.specs.Lent.{lent_cells}
 use Rattle.orc_row_index.specs.OwnCells.{AreOwn}
 use Rattle.orc_stripe_writer.proofs.own_cells.owns_of.Given as goal
 

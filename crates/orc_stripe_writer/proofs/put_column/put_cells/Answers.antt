@@ -1,6 +1,6 @@
 use Rattle.std.proofs.Common.{subst}
 use Rattle.std.proofs.lemmas.Result.{IfOk-weaker}
-use Rattle.orc_types.specs.Views.{shape}
+use Rattle.orc_values.specs.Views.{shape}
 use Rattle.orc_stripe_writer.specs.Adding.{AddsStream}
 use Rattle.orc_stripe_writer.specs.WrittenStreams.{AreWrittenMarks}
 use Rattle.orc_stripe_writer.proofs.AddingLemmas.{adds_column}

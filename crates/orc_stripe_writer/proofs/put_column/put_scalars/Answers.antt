@@ -2,11 +2,11 @@ use Rattle.std.proofs.Common.{◌≡◌, List, ℕ, sym, ap, ◌∙◌, subst}
 use Rattle.std.proofs.lemmas.Result.{IfOk-weaker}
 use Rattle.orc_rle.specs.declared.sign.Rle.{Rle}
 use Rattle.orc_wire.specs.declared.encoding.Encoding.{Encoding}
-use Rattle.orc_types.specs.declared.kind.Scalar.{Scalar}
-use Rattle.orc_types.specs.declared.kind.Scalar.TheVariants as kind
-use Rattle.orc_types.specs.Shapes.{scalar}
-use Rattle.orc_types.specs.Cells.{Cell, values}
-use Rattle.orc_types.specs.Fits.{RowsFit}
+use Rattle.orc_values.specs.declared.kind.Scalar.{Scalar}
+use Rattle.orc_values.specs.declared.kind.Scalar.TheVariants as kind
+use Rattle.orc_values.specs.Shapes.{scalar}
+use Rattle.orc_values.specs.Cells.{Cell, values}
+use Rattle.orc_values.specs.Fits.{RowsFit}
 use Rattle.orc_row_index.specs.OwnCells.{own_cells}
 use Rattle.orc_stripe_writer.specs.declared.body.Body.{Body}
 use Rattle.orc_stripe_writer.specs.CellValues.{bools_in, number_bytes_in, ints_in, all_bytes_in}

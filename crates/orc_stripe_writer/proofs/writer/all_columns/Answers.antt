@@ -1,8 +1,8 @@
 use Rattle.std.proofs.Common.{◌≡◌, ◌+◌, ℕ, List, length, sym, ap, ◌∙◌, subst, arith}
-use Rattle.orc_types.specs.Shapes.{Shape, width}
-use Rattle.orc_types.specs.Cells.{Cell}
-use Rattle.orc_types.specs.Views.{shape, views}
-use Rattle.orc_types.specs.Lent.{lent_cells}
+use Rattle.orc_values.specs.Shapes.{Shape, width}
+use Rattle.orc_values.specs.Cells.{Cell}
+use Rattle.orc_values.specs.Views.{shape, views}
+use Rattle.orc_values.specs.Lent.{lent_cells}
 use Rattle.orc_row_index.specs.Bounds.{AreBounds}
 use Rattle.orc_stripe_writer.specs.Firsts.{firsts_of}
 use Rattle.orc_stripe_writer.specs.Groups.{AreGroupsFrom}

@@ -7,8 +7,8 @@ use Rattle.orc_wire.specs.declared.stripe_footer.StripeFooter.{StripeFooter}
 use Rattle.orc_wire.specs.Messages.{stripe_footer}
 use Rattle.orc_wire.specs.CanonicalMessages.{stripe_footer_text, encoding_text}
 use Rattle.orc_wire.specs.Spells.{Spells}
-use Rattle.orc_types.specs.Shapes.{Shape, width}
-use Rattle.orc_types.specs.Cells.{Cell}
+use Rattle.orc_values.specs.Shapes.{Shape, width}
+use Rattle.orc_values.specs.Cells.{Cell}
 use Rattle.orc_stripe_writer.specs.Groups.{starts}
 use Rattle.orc_stripe_writer.specs.Indexes.{index_bytes, HaveIndexes}
 use Rattle.orc_stripe_writer.specs.WrittenStripe.{HasColumns, indexed_columns, IsWrittenStripe}

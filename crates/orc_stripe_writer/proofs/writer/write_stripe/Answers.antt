@@ -1,6 +1,6 @@
 use Rattle.std.proofs.Common.{◌∙◌}
-use Rattle.orc_types.specs.Shapes.{width}
-use Rattle.orc_types.specs.Views.{views}
+use Rattle.orc_values.specs.Shapes.{width}
+use Rattle.orc_values.specs.Views.{views}
 use Rattle.orc_stripe_writer.specs.WrittenStripe.{HasColumns}
 use Rattle.orc_stripe_writer.proofs.CellValuesLemmas.{views_long}
 use Rattle.orc_stripe_writer.proofs.IndexLemmas.{indexed_by_starts}

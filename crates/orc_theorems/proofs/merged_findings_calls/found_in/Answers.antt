@@ -1,5 +1,5 @@
 use Rattle.std.proofs.Common.{◌≡◌, ◌⊎◌, ℕ, List, Vec, Global}
-use Rattle.orc_types.specs.Cells.{Cell}
+use Rattle.orc_values.specs.Cells.{Cell}
 use Rattle.orc_file.specs.declared.tail.Tail.{Tail}
 use Rattle.orc_file.specs.declared.fault.FileFault.{FileFault}
 use Rattle.orc_file.specs.declared.fault.FileFault.TheVariants.{SourceFailed, OutOfMemory}

@@ -1,5 +1,5 @@
 use Rattle.std.proofs.Common.{length}
-use Rattle.orc_types.specs.Cells.{values}
+use Rattle.orc_values.specs.Cells.{values}
 use Rattle.orc_theorems.proofs.SoughtLemmas.{column_sought}
 use Rattle.orc_theorems.proofs.seeking.seek_places.Goals as goal
 

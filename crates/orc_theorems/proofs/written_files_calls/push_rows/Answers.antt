@@ -1,7 +1,7 @@
 use Rattle.std.proofs.Common.{◌≡◌, ◌∙◌, [], ◌∷◌, ◌++◌, map, sym, append_assoc, append-nil, drop}
 use Rattle.std.proofs.lemmas.List.{at_drop_all}
 use Rattle.std.proofs.lemmas.Result.{err_from_is_err_and}
-use Rattle.orc_types.specs.Views.{view, views}
+use Rattle.orc_values.specs.Views.{view, views}
 use Rattle.orc_theorems.proofs.ReadLemmas.{pushed_more, cut_of_all}
 use Rattle.orc_theorems.proofs.written_files_calls.push_rows.Goals as goal
 

@@ -1,5 +1,5 @@
 use Rattle.std.proofs.Common.{◌∙◌, ℕ, List}
-use Rattle.orc_types.specs.Views.{views}
+use Rattle.orc_values.specs.Views.{views}
 use Rattle.orc_file.specs.FileRows.{FileIs}
 use Rattle.orc_file.specs.Tails.{IsTail}
 use Rattle.orc_theorems.proofs.Told.{at_told, ok_more}

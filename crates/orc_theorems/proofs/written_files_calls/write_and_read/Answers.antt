@@ -1,4 +1,4 @@
-use Rattle.orc_types.specs.Views.{views}
+use Rattle.orc_values.specs.Views.{views}
 use Rattle.orc_theorems.proofs.ReadLemmas.{read_back, file_back, nothing_back}
 use Rattle.orc_theorems.proofs.written_files_calls.write_and_read.Goals as goal
 

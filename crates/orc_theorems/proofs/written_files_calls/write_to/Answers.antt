@@ -1,5 +1,5 @@
 use Rattle.std.proofs.Common.{◌∙◌, []}
-use Rattle.orc_types.specs.Views.{views}
+use Rattle.orc_values.specs.Views.{views}
 use Rattle.orc_theorems.proofs.Told.{err_more}
 use Rattle.orc_theorems.proofs.ReadLemmas.{cut_longer, same_cut}
 use Rattle.orc_theorems.proofs.written_files_calls.write_to.Goals as goal

@@ -1,7 +1,7 @@
 use Rattle.std.proofs.Common.{◌∙◌, length, sym, ap}
 use Rattle.orc_wire.specs.declared.row_index.RowIndexEntry.{RowIndexEntry}
-use Rattle.orc_types.specs.Columns.{cells}
-use Rattle.orc_types.specs.Shapes.{shape_at}
+use Rattle.orc_values.specs.Columns.{cells}
+use Rattle.orc_values.specs.Shapes.{shape_at}
 use Rattle.orc_column_reader.specs.Stripe.{columns_of}
 use Rattle.orc_row_index.specs.Bounds.{before_group}
 use Rattle.orc_stripe_writer.specs.Groups.{starts, bounds_of}

@@ -1,7 +1,7 @@
 use Rattle.std.proofs.Common.{◌≡◌, ◌∙◌, ℕ, List, ap, subst}
 use Rattle.orc_wire.specs.declared.stripe_footer.StripeFooter.{StripeFooter}
-use Rattle.orc_types.specs.Shapes.{Shape, shape_at}
-use Rattle.orc_types.specs.Views.{shape}
+use Rattle.orc_values.specs.Shapes.{Shape, shape_at}
+use Rattle.orc_values.specs.Views.{shape}
 use Rattle.orc_column_reader.specs.Starting.{AreStreams}
 use Rattle.orc_column_reader.specs.Stripe.{columns_of}
 use Rattle.orc_row_index.specs.Walking.{ArePlaced}

@@ -1,5 +1,5 @@
 use Rattle.std.proofs.Common.{◌≡◌, ◌∙◌, ℕ, List, [], Some, refl, sym, subst}
-use Rattle.orc_types.specs.Views.{views}
+use Rattle.orc_values.specs.Views.{views}
 use Rattle.orc_file.specs.FileRows.{FileIs}
 use Rattle.orc_theorems.specs.OneRunPlaces.{ReadsOneRun}
 use Rattle.orc_theorems.proofs.Told.{bytes_are}

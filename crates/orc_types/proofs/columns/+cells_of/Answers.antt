@@ -1,12 +1,12 @@
 use Rattle.std.proofs.Common.{◌≡◌, ◌+◌, ◌-◌, ◌<◌, ◌≤◌, map, sym, ap, ◌∙◌, arith}
 use Rattle.std.specs.List.{flat_map}
 use Rattle.std.proofs.lemmas.Result.{IfOk-weaker}
-use Rattle.orc_types.specs.Shapes.{width, widths}
-use Rattle.orc_types.specs.Cells.{parts, values, keys_in, values_in}
-use Rattle.orc_types.specs.Columns.{cells}
-use Rattle.orc_types.specs.Views.{shape, fields, lent_views}
-use Rattle.orc_types.proofs.Views.{shape-Struct}
-use Rattle.orc_types.proofs.ByColumn.{located_cells, not_located, struct_cells, list_cells, key_cells, value_cells, members_values, width_within}
+use Rattle.orc_values.specs.Shapes.{width, widths}
+use Rattle.orc_values.specs.Cells.{parts, values, keys_in, values_in}
+use Rattle.orc_values.specs.Columns.{cells}
+use Rattle.orc_values.specs.Views.{shape, fields, lent_views}
+use Rattle.orc_values.proofs.Views.{shape-Struct}
+use Rattle.orc_values.proofs.ByColumn.{located_cells, not_located, struct_cells, list_cells, key_cells, value_cells, members_values, width_within}
 use Rattle.orc_types.proofs.columns.+cells_of.Goals as goal
 
 pub returns-in_default : goal.returns-in_default

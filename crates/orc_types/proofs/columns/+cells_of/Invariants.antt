@@ -1,5 +1,5 @@
-use Rattle.orc_types.specs.Shapes.{width}
-use Rattle.orc_types.specs.Views.{shape}
+use Rattle.orc_values.specs.Shapes.{width}
+use Rattle.orc_values.specs.Views.{shape}
 use Rattle.orc_types.proofs.columns.+cells_of.Given as goal
 
 abbrev pub decreases-cells_of : goal.decreases-cells_of

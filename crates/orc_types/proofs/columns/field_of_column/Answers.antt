@@ -1,7 +1,7 @@
 use Rattle.std.proofs.Common.{suc, add-one, add-zero, ◌<◌, ◌≤◌, length, ap, arith}
-use Rattle.orc_types.specs.Shapes.{width, widths}
-use Rattle.orc_types.specs.Views.{shape, fields}
-use Rattle.orc_types.proofs.ByColumn.{width_within, located_here, located_more, past_more, located_next}
+use Rattle.orc_values.specs.Shapes.{width, widths}
+use Rattle.orc_values.specs.Views.{shape, fields}
+use Rattle.orc_values.proofs.ByColumn.{width_within, located_here, located_more, past_more, located_next}
 use Rattle.orc_types.proofs.columns.field_of_column.Goals as goal
 
 pub width_of-width-requires : goal.width_of-width-requires

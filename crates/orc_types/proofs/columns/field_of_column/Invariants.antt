@@ -1,7 +1,7 @@
 use Rattle.std.proofs.Common.{ℕ, ◌+◌, ◌≤◌, drop}
-use Rattle.orc_types.specs.Shapes.{widths}
-use Rattle.orc_types.specs.Columns.{IsLocated}
-use Rattle.orc_types.specs.Views.{fields}
+use Rattle.orc_values.specs.Shapes.{widths}
+use Rattle.orc_values.specs.Columns.{IsLocated}
+use Rattle.orc_values.specs.Views.{fields}
 use Rattle.orc_types.proofs.columns.field_of_column.Given as goal
 
 -- what is located in the fields that are left is located in all of them

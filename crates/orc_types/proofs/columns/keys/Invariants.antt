@@ -1,7 +1,7 @@
 use Rattle.std.proofs.Common.{◌≡◌}
 use Rattle.std.specs.List.{flat_map}
-use Rattle.orc_types.specs.Cells.{keys_in}
-use Rattle.orc_types.specs.Views.{lent_views}
+use Rattle.orc_values.specs.Cells.{keys_in}
+use Rattle.orc_values.specs.Views.{lent_views}
 use Rattle.orc_types.proofs.columns.keys.Given as goal
 
 abbrev pub invariant-loop-row : goal.invariant-loop-row

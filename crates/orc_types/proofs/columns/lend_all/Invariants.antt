@@ -1,5 +1,5 @@
 use Rattle.std.proofs.Common.{◌≡◌, take, ◌++◌}
-use Rattle.orc_types.specs.Views.{views, lent_views}
+use Rattle.orc_values.specs.Views.{views, lent_views}
 use Rattle.orc_types.proofs.columns.lend_all.Given as goal
 
 abbrev pub invariant-loop-row : goal.invariant-loop-row

@@ -1,7 +1,7 @@
 use Rattle.std.proofs.Common.{◌≡◌, ℕ, zero, suc, Some, None, List, [], ◌∷◌, ◌++◌, take, drop, refl, sym, ap, ◌∙◌, append-nil, slice_get}
 use Rattle.std.proofs.lemmas.List.{map-append}
-use Rattle.orc_types.specs.Cells.{Cell, parts}
-use Rattle.orc_types.specs.Views.{lent_views, view}
+use Rattle.orc_values.specs.Cells.{Cell, parts}
+use Rattle.orc_values.specs.Views.{lent_views, view}
 use Rattle.orc_types.proofs.columns.lend_field.Goals as goal
 
 there : (xs : List Cell) (i : ℕ) (c : Cell) → Some c ≡ slice_get xs i → c ∷ [] ≡ take 1 (drop i xs)

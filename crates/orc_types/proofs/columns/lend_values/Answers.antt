@@ -1,6 +1,6 @@
 use Rattle.std.proofs.Common.{sym, ap, add-one}
-use Rattle.orc_types.specs.Views.{lent_views}
-use Rattle.orc_types.proofs.Views.{paired-is}
+use Rattle.orc_values.specs.Views.{lent_views}
+use Rattle.orc_values.proofs.Views.{paired-is}
 use Rattle.orc_types.proofs.Lending.{lent_more}
 use Rattle.orc_types.proofs.columns.lend_values.Goals as goal
 

@@ -1,5 +1,5 @@
 use Rattle.std.proofs.Common.{◌≡◌, take, map, ◌++◌}
-use Rattle.orc_types.specs.Views.{paired, lent_views}
+use Rattle.orc_values.specs.Views.{paired, lent_views}
 use Rattle.orc_types.proofs.columns.lend_values.Given as goal
 
 abbrev pub invariant-loop-pair : goal.invariant-loop-pair

@@ -1,7 +1,7 @@
 use Rattle.std.proofs.Common.{◌≡◌, take, drop}
 use Rattle.std.specs.List.{flat_map}
-use Rattle.orc_types.specs.Cells.{parts}
-use Rattle.orc_types.specs.Views.{lent_views}
+use Rattle.orc_values.specs.Cells.{parts}
+use Rattle.orc_values.specs.Views.{lent_views}
 use Rattle.orc_types.proofs.columns.members.Given as goal
 
 abbrev pub invariant-loop-row : goal.invariant-loop-row

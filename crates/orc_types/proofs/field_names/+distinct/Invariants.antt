@@ -1,5 +1,5 @@
 use Rattle.std.proofs.Common.{◌≡◌, drop}
-use Rattle.orc_types.specs.Views.{fields}
+use Rattle.orc_values.specs.Views.{fields}
 use Rattle.orc_types.specs.FieldNames as spec
 use Rattle.orc_types.proofs.field_names.+distinct.Given as goal
 

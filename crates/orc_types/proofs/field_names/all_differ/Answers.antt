@@ -1,9 +1,9 @@
 use Rattle.std.proofs.Common.{◌≡◌, ◌∷◌, ◌+◌, suc, drop, ap, ◌∙◌, sym, add-one}
 use Rattle.serde_json.specs.Data.{put}
 use Rattle.serde_json.specs.View.{members_view}
-use Rattle.orc_types.specs.Shapes.{names_of}
+use Rattle.orc_values.specs.Shapes.{names_of}
 use Rattle.orc_types.specs.FieldNames.{all_differ}
-use Rattle.orc_types.specs.Views.{fields}
+use Rattle.orc_values.specs.Views.{fields}
 use Rattle.orc_types.proofs.Names.{view-Null, differ_after, differ_after-none, differ_stop, differ_more, names_of-drop}
 use Rattle.orc_types.proofs.field_names.all_differ.Goals as goal
 

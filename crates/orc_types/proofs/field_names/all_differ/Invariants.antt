@@ -1,7 +1,7 @@
 use Rattle.std.proofs.Common.{◌≡◌, drop}
 use Rattle.serde_json.specs.View.{members_view}
-use Rattle.orc_types.specs.Shapes.{names_of}
-use Rattle.orc_types.specs.Views.{fields}
+use Rattle.orc_values.specs.Shapes.{names_of}
+use Rattle.orc_values.specs.Views.{fields}
 use Rattle.orc_types.specs.FieldNames as spec
 use Rattle.orc_types.proofs.Names.{differ_after}
 use Rattle.orc_types.proofs.field_names.all_differ.Given as goal

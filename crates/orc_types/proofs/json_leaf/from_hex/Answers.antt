@@ -1,7 +1,7 @@
 use Rattle.std.proofs.Common.{refl}
 use Rattle.hex.proofs.HexLemmas.{decode_of-ok}
-use Rattle.orc_types.proofs.Bytes.{all_bytes}
-use Rattle.orc_types.proofs.Views.{view-Bytes}
+use Rattle.orc_values.proofs.Bytes.{all_bytes}
+use Rattle.orc_values.proofs.Views.{view-Bytes}
 use Rattle.orc_types.proofs.json_leaf.from_hex.Goals as goal
 
 pub returns-in-Ok-clause-found : goal.returns-in-Ok-clause-found

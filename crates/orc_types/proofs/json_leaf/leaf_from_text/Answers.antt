@@ -1,7 +1,7 @@
 use Rattle.std.specs.String.{string_bytes}
 use Rattle.std.proofs.lemmas.Str.{is_utf8-from_IsUtf8}
 use Rattle.orc_types.proofs.JsonLeaves.{text_spells}
-use Rattle.orc_types.proofs.Views.{view-Text}
+use Rattle.orc_values.proofs.Views.{view-Text}
 use Rattle.orc_types.proofs.json_leaf.leaf_from_text.Goals as goal
 
 pub returns-in_ok-from_str-in-String-clause-found : goal.returns-in_ok-from_str-in-String-clause-found

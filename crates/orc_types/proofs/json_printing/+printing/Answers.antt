@@ -1,12 +1,12 @@
 use Rattle.std.proofs.Common.{◌*◌, ◌≡◌, ◌+◌, ◌<◌, length, map, refl, ap, ◌∙◌, arith, add-one}
 use Rattle.serde_json.specs.Data.{Data}
 use Rattle.serde_json.specs.View.{view as json_view, members_view}
-use Rattle.orc_types.specs.Cells.{Cell}
-use Rattle.orc_types.specs.Shapes.{width, widths}
-use Rattle.orc_types.specs.Views.{view, views, paired, shape, fields as fields_view}
+use Rattle.orc_values.specs.Cells.{Cell}
+use Rattle.orc_values.specs.Shapes.{width, widths}
+use Rattle.orc_values.specs.Views.{view, views, paired, shape, fields as fields_view}
 use Rattle.orc_types.specs.JsonPrinting as spec
-use Rattle.orc_types.proofs.Views.{shape-List, shape-Struct}
-use Rattle.orc_types.proofs.ByColumn.{width_within}
+use Rattle.orc_values.proofs.Views.{shape-List, shape-Struct}
+use Rattle.orc_values.proofs.ByColumn.{width_within}
 use Rattle.orc_types.proofs.JsonPrints.{pair_fits, map_prints, rows_more, pairs_more, members_more, list_prints, struct_prints, list_fits, struct_fits, element_fits, member_fits, as_many}
 use Rattle.orc_types.proofs.json_printing.+printing.Goals as goal
 

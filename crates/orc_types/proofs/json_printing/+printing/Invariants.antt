@@ -1,9 +1,9 @@
 use Rattle.std.proofs.Common.{◌≡◌, take, drop, map, ◌+◌, ◌*◌}
 use Rattle.serde_json.specs.Data.{no_members}
 use Rattle.serde_json.specs.View.{view as json_view, members_view}
-use Rattle.orc_types.specs.Cells.{cells_of}
-use Rattle.orc_types.specs.Shapes.{width, widths}
-use Rattle.orc_types.specs.Views.{views, paired, shape, fields as fields_view}
+use Rattle.orc_values.specs.Cells.{cells_of}
+use Rattle.orc_values.specs.Shapes.{width, widths}
+use Rattle.orc_values.specs.Views.{views, paired, shape, fields as fields_view}
 use Rattle.orc_types.specs.JsonPrinting as spec
 use Rattle.orc_types.proofs.json_printing.+printing.Given as goal
 

@@ -1,5 +1,5 @@
 use Rattle.std.proofs.Common.{◌≡◌, true, sym, ◌∙◌}
-use Rattle.orc_types.specs.Views.{view}
+use Rattle.orc_values.specs.Views.{view}
 use Rattle.orc_types.specs.FieldNames.{is_distinct}
 use Rattle.orc_types.proofs.JsonBack.{reads_back}
 use Rattle.orc_types.proofs.json_printing.row_to_json.Goals as goal

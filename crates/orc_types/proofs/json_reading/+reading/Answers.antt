@@ -4,14 +4,14 @@ use Rattle.std.proofs.lemmas.List.{map-append}
 use Rattle.serde_json.specs.Data.{array}
 use Rattle.serde_json.specs.Find.{get}
 use Rattle.serde_json.specs.View.{view as json_view, items_view}
-use Rattle.orc_types.specs.Shapes.{width, widths, names_of}
-use Rattle.orc_types.specs.Cells.{cells_of, pairs_of}
-use Rattle.orc_types.specs.Views.{view, views, paired, shape, fields as fields_view}
+use Rattle.orc_values.specs.Shapes.{width, widths, names_of}
+use Rattle.orc_values.specs.Cells.{cells_of, pairs_of}
+use Rattle.orc_values.specs.Views.{view, views, paired, shape, fields as fields_view}
 use Rattle.orc_types.specs.FieldNames.{are_distinct}
 use Rattle.orc_types.specs.KnownKeys.{one_if_some, count_keys}
 use Rattle.orc_types.specs.JsonRows.{Spells, PairsSpell, EachSpells, MemberSpells, FieldsSpell}
 use Rattle.orc_types.specs.JsonFaults.{FaultAt, PairFault, Somewhere, InElement}
-use Rattle.orc_types.proofs.ByColumn.{width_within}
+use Rattle.orc_values.proofs.ByColumn.{width_within}
 use Rattle.orc_types.proofs.JsonFronts.{pairs_more, pairs_all, pairs_spell, map_fault, elements_more, elements_all, element_at, fields_more, fields_all, in_field, array_spells, object_read, array_fault, object_fault, object_unknown}
 use Rattle.orc_types.proofs.Names.{distinct_at, count_more, count_none, one_at_most}
 use Rattle.orc_types.proofs.json_reading.+reading.Goals as goal

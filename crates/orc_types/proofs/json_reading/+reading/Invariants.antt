@@ -1,8 +1,8 @@
 use Rattle.std.proofs.Common.{◌≡◌, ◌≤◌, ◌+◌, ◌*◌, drop, map}
 use Rattle.serde_json.specs.View.{view as json_view}
-use Rattle.orc_types.specs.Shapes.{width, widths, names_of}
+use Rattle.orc_values.specs.Shapes.{width, widths, names_of}
 use Rattle.orc_types.specs.KnownKeys.{count_keys}
-use Rattle.orc_types.specs.Views.{views, paired, shape, fields as fields_view}
+use Rattle.orc_values.specs.Views.{views, paired, shape, fields as fields_view}
 use Rattle.orc_types.specs.JsonRows.{Spells}
 use Rattle.orc_types.proofs.JsonFronts.{ElementsRead, PairsRead, FieldsRead}
 use Rattle.orc_types.proofs.json_reading.+reading.Given as goal

@@ -2,7 +2,7 @@ use Rattle.std.proofs.Common.{Result, Ok, Err, subst}
 use Rattle.std.specs.Prelude.{IfOk, IfErr, MatchResult}
 use Rattle.std.proofs.lemmas.Result.{IfOk-weaker, IfErr-weaker}
 use Rattle.serde_json.specs.View.{view as json_view}
-use Rattle.orc_types.specs.Views.{view, shape}
+use Rattle.orc_values.specs.Views.{view, shape}
 use Rattle.orc_types.specs.JsonRows.{Spells}
 use Rattle.orc_types.specs.JsonFaults.{FaultAt, Somewhere}
 use Rattle.orc_types.specs.declared.json_fault.JsonFault.TheVariants as fault

@@ -1,5 +1,5 @@
-use Rattle.orc_types.proofs.Together.{cells-append, cells_fit}
-use Rattle.orc_types.proofs.Deeper.{cells-add, elements-length, keys-length, map_values-length, members-length}
+use Rattle.orc_values.proofs.Together.{cells-append, cells_fit}
+use Rattle.orc_values.proofs.Deeper.{cells-add, elements-length, keys-length, map_values-length, members-length}
 use Rattle.orc_types.proofs.laws.cells_laws.Goals as goal
 
 pub returns-clause-append : goal.returns-clause-append

@@ -1,6 +1,6 @@
 use Rattle.std.proofs.Common.{◌≡◌}
-use Rattle.orc_types.specs.Lent.{lent_cells}
-use Rattle.orc_types.specs.Views.{lent_views}
+use Rattle.orc_values.specs.Lent.{lent_cells}
+use Rattle.orc_values.specs.Views.{lent_views}
 use Rattle.orc_types.proofs.lent.lend.Given as goal
 
 abbrev pub invariant-loop-cell : goal.invariant-loop-cell

@@ -1,12 +1,13 @@
 use Rattle.std.proofs.Common.{◌≡◌, ◌+◌, ◌*◌, ◌<◌, ◌++◌, List, [], ◌∷◌, length, refl, sym, ap, ◌∙◌, arith, add-one, append_assoc, length-append}
-use Rattle.orc_types.specs.Shapes.{map_of, width, widths, names_of}
-use Rattle.orc_types.specs.Types.{types, fields_types, starts}
+use Rattle.orc_values.specs.Shapes.{map_of, width, widths, names_of}
+use Rattle.orc_values.specs.Types.{types, fields_types, starts}
 use Rattle.orc_wire.specs.declared.type_msg.TypeMsg.{TypeMsg}
-use Rattle.orc_types.specs.Views.{shape, fields}
-use Rattle.orc_types.proofs.Views.{shape-Scalar, shape-List, shape-Map, shape-Struct}
-use Rattle.orc_types.proofs.ByColumn.{width_within}
+use Rattle.orc_values.specs.Views.{shape, fields}
+use Rattle.orc_values.proofs.Views.{shape-Scalar, shape-List, shape-Map, shape-Struct}
+use Rattle.orc_values.proofs.ByColumn.{width_within}
 use Rattle.orc_types.proofs.Trees.{length-types}
-use Rattle.orc_types.proofs.Listed.{widths_from, types_more, map_type, map_listed}
+use Rattle.orc_values.proofs.Listed.{widths_from}
+use Rattle.orc_types.proofs.Listed.{types_more, map_type, map_listed}
 use Rattle.orc_types.proofs.listing.+list.Goals as goal
 
 pub list_fields-list_tree-requires : goal.list_fields-list_tree-requires

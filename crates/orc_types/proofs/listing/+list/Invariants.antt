@@ -1,7 +1,7 @@
 use Rattle.std.proofs.Common.{◌≡◌, ◌+◌, ◌*◌, ◌++◌, drop, length}
-use Rattle.orc_types.specs.Shapes.{width, widths}
-use Rattle.orc_types.specs.Types.{fields_types}
-use Rattle.orc_types.specs.Views.{shape, fields}
+use Rattle.orc_values.specs.Shapes.{width, widths}
+use Rattle.orc_values.specs.Types.{fields_types}
+use Rattle.orc_values.specs.Views.{shape, fields}
 use Rattle.orc_types.proofs.listing.+list.Given as goal
 
 abbrev pub decreases-list_tree : goal.decreases-list_tree

@@ -1,7 +1,7 @@
 use Rattle.std.proofs.Common.{◌≡◌, suc, ◌++◌, [], ◌∷◌, drop, string_bytes, sym, ap, ◌∙◌, add-one, append_assoc}
-use Rattle.orc_types.specs.Shapes.{names_of}
-use Rattle.orc_types.specs.Views.{fields}
-use Rattle.orc_types.proofs.Listed.{names_from}
+use Rattle.orc_values.specs.Shapes.{names_of}
+use Rattle.orc_values.specs.Views.{fields}
+use Rattle.orc_values.proofs.Listed.{names_from}
 use Rattle.orc_types.proofs.listing.names_of.Goals as goal
 
 pub loop-field-preserved : goal.loop-field-preserved

@@ -1,6 +1,6 @@
 use Rattle.std.proofs.Common.{◌≡◌, ◌++◌, drop}
-use Rattle.orc_types.specs.Shapes.{names_of}
-use Rattle.orc_types.specs.Views.{fields}
+use Rattle.orc_values.specs.Shapes.{names_of}
+use Rattle.orc_values.specs.Views.{fields}
 use Rattle.orc_types.proofs.listing.names_of.Given as goal
 
 -- the names so far, before those of the fields that are left, are all

@@ -1,7 +1,7 @@
 use Rattle.std.proofs.Common.{◌≡◌, ◌+◌, ◌++◌, drop}
-use Rattle.orc_types.specs.Shapes.{widths}
-use Rattle.orc_types.specs.Types.{starts}
-use Rattle.orc_types.specs.Views.{fields}
+use Rattle.orc_values.specs.Shapes.{widths}
+use Rattle.orc_values.specs.Types.{starts}
+use Rattle.orc_values.specs.Views.{fields}
 use Rattle.orc_types.proofs.listing.starts_of.Given as goal
 
 -- the starts so far, before those of the fields that are left, are all

@@ -1,10 +1,10 @@
 use Rattle.std.proofs.Common.{◌≡◌, ℕ, ◌<◌, length, get_or, List, [], ◌∷◌, ◌++◌, map, sym, ap, ◌∙◌, arith, add-one}
-use Rattle.orc_types.specs.declared.tree.Field.{Field}
+use Rattle.orc_values.specs.declared.tree.Field.{Field}
 use Rattle.std.proofs.lemmas.Result.{err_from_is_err_and}
 use Rattle.std.proofs.lemmas.List.{map-append}
-use Rattle.orc_types.specs.Views.{name_and_type, shape, fields}
+use Rattle.orc_values.specs.Views.{name_and_type, shape, fields}
 use Rattle.orc_types.specs.Preorder.{NoFieldsAt}
-use Rattle.orc_types.proofs.Views.{name_and_type-is, shape-Scalar, shape-List, shape-Map, shape-Struct}
+use Rattle.orc_values.proofs.Views.{name_and_type-is, shape-Scalar, shape-List, shape-Map, shape-Struct}
 use Rattle.orc_types.proofs.Trees.{map_wrong, key_fault, value_wrong, value_fault, map_found, get_or-any, number-scalar_of, got_below, past_end, list_wrong, list_fault, list_found, struct_fault, struct_found, scalar_wrong, scalar_found, lengths_wrong, name_fault, field_fault, reached_place, reached_more, reached_all}
 use Rattle.orc_types.proofs.preorder.+subtree.Goals as goal
 

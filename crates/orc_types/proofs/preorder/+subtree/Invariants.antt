@@ -1,5 +1,5 @@
 use Rattle.std.proofs.Common.{drop, map, ◌+◌, ◌*◌}
-use Rattle.orc_types.specs.Views.{name_and_type}
+use Rattle.orc_values.specs.Views.{name_and_type}
 use Rattle.orc_types.proofs.Trees.{Reached}
 use Rattle.orc_types.proofs.preorder.+subtree.Given as goal
 

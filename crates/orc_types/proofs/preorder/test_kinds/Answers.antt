@@ -1,6 +1,6 @@
 use Rattle.std.proofs.Common.{refl, sym, ap, ◌∙◌, add-one, inl, inr}
 use Rattle.std.specs.Prelude.{is_some}
-use Rattle.orc_types.specs.Kinds.{IsKind}
+use Rattle.orc_values.specs.Kinds.{IsKind}
 use Rattle.orc_types.proofs.Trees.{known, unknown, node_at, kinds_more}
 use Rattle.orc_types.proofs.preorder.test_kinds.Goals as goal
 use Rattle.orc_types.proofs.preorder.test_kinds.Goals.{else-t-ne-LIST-via-then-t-ne-LIST+then-t-ne-STRUCT+then-t-ne-MAP+else-is_none, else-t-ne-LIST-via-then-t-ne-LIST+then-t-ne-STRUCT+else-t-ne-MAP, else-t-ne-LIST-via-then-t-ne-LIST+else-t-ne-STRUCT, else-t-ne-LIST-via-else-t-ne-LIST}

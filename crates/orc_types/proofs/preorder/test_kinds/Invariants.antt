@@ -1,6 +1,6 @@
 use Rattle.std.proofs.Common.{take}
 use Rattle.std.specs.List.{AllByRecursion}
-use Rattle.orc_types.specs.Kinds.{IsKind}
+use Rattle.orc_values.specs.Kinds.{IsKind}
 use Rattle.orc_types.proofs.preorder.test_kinds.Given as goal
 
 abbrev pub invariant-loop-t : goal.invariant-loop-t

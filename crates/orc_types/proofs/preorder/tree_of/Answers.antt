@@ -1,6 +1,6 @@
 use Rattle.std.proofs.Common.{sym, arith}
 use Rattle.std.proofs.lemmas.Result.{err_from_is_err_and}
-use Rattle.orc_types.specs.Views.{shape}
+use Rattle.orc_values.specs.Views.{shape}
 use Rattle.orc_types.proofs.Trees.{root_fault, more_types, schema_from, no_root, empty_root}
 use Rattle.orc_types.proofs.preorder.tree_of.Goals as goal
 

@@ -1,8 +1,8 @@
 use Rattle.std.proofs.Common.{◌≡◌, [], ◌∷◌, ◌++◌, map, ap, ◌∙◌, arith, string_bytes}
 use Rattle.std.proofs.lemmas.Result.{err_from_is_err_and}
 use Rattle.std.proofs.lemmas.List.{map-append}
-use Rattle.orc_types.specs.Views.{name_and_type, shape, fields}
-use Rattle.orc_types.proofs.Views.{name_and_type-is, shape-List, shape-Map, shape-Struct}
+use Rattle.orc_values.specs.Views.{name_and_type, shape, fields}
+use Rattle.orc_values.proofs.Views.{name_and_type-is, shape-List, shape-Map, shape-Struct}
 use Rattle.orc_types.proofs.TextFronts.{map_front, key_fault, open_key, value_fault, open_map, array_front, struct_front, no_front, array_fault, open_array, struct_fault, name_fault, type_fault, reached_none, reached_more, none_yet, field_fault}
 use Rattle.orc_types.proofs.schema_text.+front.Goals as goal
 

@@ -1,5 +1,5 @@
 use Rattle.std.proofs.Common.{◌+◌, ◌*◌, length, map}
-use Rattle.orc_types.specs.Views.{name_and_type}
+use Rattle.orc_values.specs.Views.{name_and_type}
 use Rattle.orc_types.proofs.TextFronts.{Reached}
 use Rattle.orc_types.proofs.schema_text.+front.Given as goal
 

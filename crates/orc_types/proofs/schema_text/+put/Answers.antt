@@ -1,7 +1,7 @@
 use Rattle.std.proofs.Common.{◌*◌, ◌+◌, ◌<◌, ap, ◌∙◌, arith, add-one, string_bytes}
-use Rattle.orc_types.specs.Shapes.{width, widths}
-use Rattle.orc_types.specs.Views.{shape, fields}
-use Rattle.orc_types.proofs.ByColumn.{width_within}
+use Rattle.orc_values.specs.Shapes.{width, widths}
+use Rattle.orc_values.specs.Views.{shape, fields}
+use Rattle.orc_values.proofs.ByColumn.{width_within}
 use Rattle.orc_types.proofs.Texts.{text_more}
 use Rattle.orc_types.proofs.schema_text.+put.Goals as goal
 

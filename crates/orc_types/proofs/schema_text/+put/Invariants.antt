@@ -1,7 +1,7 @@
 use Rattle.std.proofs.Common.{◌≡◌, ◌+◌, ◌*◌, ◌==◌, ◌++◌, drop, true, string_bytes}
-use Rattle.orc_types.specs.Shapes.{width, widths}
+use Rattle.orc_values.specs.Shapes.{width, widths}
 use Rattle.orc_types.specs.SchemaText as spec
-use Rattle.orc_types.specs.Views.{shape, fields as fields_view}
+use Rattle.orc_values.specs.Views.{shape, fields as fields_view}
 use Rattle.orc_types.proofs.schema_text.+put.Given as goal
 
 abbrev pub decreases-put_tree : goal.decreases-put_tree

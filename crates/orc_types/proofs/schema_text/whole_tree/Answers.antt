@@ -1,5 +1,5 @@
 use Rattle.std.proofs.Common.{◌≢◌, [], length, ap, arith}
-use Rattle.orc_types.specs.Views.{shape}
+use Rattle.orc_values.specs.Views.{shape}
 use Rattle.orc_types.proofs.TextSchemas.{front_fault, more_text}
 use Rattle.orc_types.proofs.schema_text.whole_tree.Goals as goal
 

@@ -1,7 +1,7 @@
 use Rattle.std.proofs.Common.{[], ap, ◌∙◌}
-use Rattle.orc_types.specs.Shapes.{struct_of, no_field}
-use Rattle.orc_types.specs.Views.{shape, fields}
-use Rattle.orc_types.proofs.Views.{shape-List, shape-Map, shape-Struct}
+use Rattle.orc_values.specs.Shapes.{struct_of, no_field}
+use Rattle.orc_values.specs.Views.{shape, fields}
+use Rattle.orc_values.proofs.Views.{shape-List, shape-Map, shape-Struct}
 use Rattle.orc_column_walk.proofs.NextLemmas.{list_leave, map_leave, list_children, map_children, list_lack, map_lack, list_before, map_before, list_now, map_now, struct_leave}
 use Rattle.orc_column_walk.proofs.next_value.AnyValuesNextValue.next.Goals as goal
 

@@ -1,7 +1,7 @@
 use Rattle.std.proofs.Common.{[], ap, ◌∙◌}
-use Rattle.orc_types.specs.Shapes.{struct_of, no_field}
-use Rattle.orc_types.specs.Views.{shape}
-use Rattle.orc_types.proofs.Views.{shape-List}
+use Rattle.orc_values.specs.Shapes.{struct_of, no_field}
+use Rattle.orc_values.specs.Views.{shape}
+use Rattle.orc_values.proofs.Views.{shape-List}
 use Rattle.orc_column_walk.proofs.NextLemmas.{list_leave, list_children, list_lack, list_before, list_now}
 use Rattle.orc_column_walk.proofs.next_value.ListValuesNextValue.next.Goals as goal
 

@@ -1,7 +1,7 @@
 use Rattle.std.specs.Prelude.{IfOk, IfErr, OnOk}
 use Rattle.std.proofs.Common.{◌≢◌, ℕ, suc, Bool, false, [], ◌∷◌, sym, subst}
-use Rattle.orc_types.specs.Own.{own_cell}
-use Rattle.orc_types.specs.declared.kind.Scalar.TheVariants as kind
+use Rattle.orc_values.specs.Own.{own_cell}
+use Rattle.orc_values.specs.declared.kind.Scalar.TheVariants as kind
 use Rattle.orc_column_reader.specs.Fronts.{Leaves}
 use Rattle.orc_column_reader.specs.ReaderFaults.{ValuesMeet}
 use Rattle.orc_column_reader.specs.declared.fault.StripeFault.{StripeFault}

@@ -1,6 +1,6 @@
 use Rattle.std.proofs.Common.{◌≡◌, ◌∷◌, [], ap, ◌∙◌, sym, ◌+◌, min, arith}
-use Rattle.orc_types.specs.Cells.{values}
-use Rattle.orc_types.specs.Own.{own_cell}
+use Rattle.orc_values.specs.Cells.{values}
+use Rattle.orc_values.specs.Own.{own_cell}
 use Rattle.orc_row_index.specs.Walking.{most}
 use Rattle.orc_column_walk.specs.OwnLeft.{children}
 use Rattle.orc_column_walk.proofs.KeptLemmas.{few_values}

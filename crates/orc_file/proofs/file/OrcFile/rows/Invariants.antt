@@ -1,5 +1,5 @@
 use Rattle.std.proofs.Common.{◌≡◌, IfSome}
-use Rattle.orc_types.specs.Views.{views}
+use Rattle.orc_values.specs.Views.{views}
 use Rattle.orc_file.proofs.RowFronts.{Front, IsWithinFront}
 use Rattle.orc_file.proofs.file.OrcFile.rows.Given as goal
 

@@ -2,7 +2,7 @@ use Rattle.std.proofs.Common.{◌≡◌, ◌++◌, ◌∷◌, [], List, ap, ◌�
 use Rattle.std.specs.List.{list_all}
 use Rattle.orc_wire.specs.declared.column_stats.ColumnStats.{ColumnStats}
 use Rattle.orc_wire.specs.declared.column_stats.StripeStatistics.{StripeStatistics}
-use Rattle.orc_types.specs.Shapes.{width}
+use Rattle.orc_values.specs.Shapes.{width}
 use Rattle.orc_stats.specs.declared.stat.Stat.{Stat}
 use Rattle.orc_stats.specs.Messages.{in_limits}
 use Rattle.orc_file.specs.Statistics.{stats_read}

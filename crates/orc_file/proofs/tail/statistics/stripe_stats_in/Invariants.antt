@@ -1,6 +1,6 @@
 use Rattle.std.proofs.Common.{◌≡◌, ◌++◌, drop, true}
 use Rattle.std.specs.List.{list_all}
-use Rattle.orc_types.specs.Shapes.{width}
+use Rattle.orc_values.specs.Shapes.{width}
 use Rattle.orc_stats.specs.Messages.{in_limits}
 use Rattle.orc_file.specs.Statistics.{stripe_stats_read, have_few}
 use Rattle.orc_file.proofs.tail.statistics.stripe_stats_in.Given as goal

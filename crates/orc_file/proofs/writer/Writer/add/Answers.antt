@@ -1,7 +1,7 @@
 use Rattle.std.proofs.Common.{◌≡◌, ◌≤◌, ◌++◌, ◌∷◌, [], length, ap, arith}
 use Rattle.std.proofs.lemmas.List.{length-map}
 use Rattle.orc_stripe_writer.specs.declared.options.Options.{Options}
-use Rattle.orc_types.specs.Views.{view, views}
+use Rattle.orc_values.specs.Views.{view, views}
 use Rattle.orc_file.proofs.Spread.{HasKept}
 use Rattle.orc_file.proofs.PushLemmas.{refused_so, one_more, pushed_full}
 use Rattle.orc_file.proofs.WriterLemmas.{cut_row, kept_row, within_of}

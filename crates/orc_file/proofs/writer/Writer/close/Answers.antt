@@ -1,5 +1,5 @@
 use Rattle.std.proofs.Common.{arith}
-use Rattle.orc_types.specs.Views.{views}
+use Rattle.orc_values.specs.Views.{views}
 use Rattle.orc_file.proofs.WriterLemmas.{cut_kept, within_of}
 use Rattle.orc_file.proofs.writer.Writer.close.Goals as goal
 

@@ -1,5 +1,5 @@
 use Rattle.std.proofs.Common.{◌≡◌}
-use Rattle.orc_types.specs.Views.{views}
+use Rattle.orc_values.specs.Views.{views}
 use Rattle.orc_file.proofs.Spread.{HasFilled}
 use Rattle.orc_file.proofs.WriterLemmas.{whole_end, cut_end, within_of}
 use Rattle.orc_file.proofs.writer.Writer.finish.Goals as goal

@@ -1,6 +1,6 @@
 use Rattle.std.proofs.Common.{◌≡◌, ◌++◌, ◌∷◌, [], ap, ◌∙◌}
 use Rattle.std.proofs.lemmas.List.{map-append}
-use Rattle.orc_types.specs.Views.{view, views}
+use Rattle.orc_values.specs.Views.{view, views}
 use Rattle.orc_file.proofs.CountLemmas.{counts_more}
 use Rattle.orc_file.proofs.WriterLemmas.{fit_more}
 use Rattle.orc_file.proofs.writer.Writer.keep.Goals as goal

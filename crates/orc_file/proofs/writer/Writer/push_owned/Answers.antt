@@ -1,6 +1,6 @@
 use Rattle.std.proofs.Common.{arith}
 use Rattle.std.proofs.lemmas.List.{length-map}
-use Rattle.orc_types.specs.Views.{view, views}
+use Rattle.orc_values.specs.Views.{view, views}
 use Rattle.orc_file.proofs.Spread.{HasPushed}
 use Rattle.orc_file.proofs.LimitLemmas.{same_limits}
 use Rattle.orc_file.proofs.PushLemmas.{failed_only}

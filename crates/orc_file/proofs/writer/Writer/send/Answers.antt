@@ -1,6 +1,6 @@
 use Rattle.std.proofs.Common.{◌≡◌, ◌+◌, length, ap, ◌∙◌, arith, refl}
 use Rattle.std.proofs.lemmas.List.{length-map}
-use Rattle.orc_types.specs.Views.{view, views}
+use Rattle.orc_values.specs.Views.{view, views}
 use Rattle.orc_file.specs.Writing.{Closed, IsClosed}
 use Rattle.orc_file.proofs.CountLemmas.{counts_none, few_none, few_cells}
 use Rattle.orc_file.proofs.StatTests.{all_stats_more, stripe_stats_are}

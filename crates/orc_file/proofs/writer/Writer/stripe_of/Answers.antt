@@ -1,4 +1,4 @@
-use Rattle.orc_types.specs.Views.{views}
+use Rattle.orc_values.specs.Views.{views}
 use Rattle.orc_file.proofs.WriterLemmas.{rows_fit}
 use Rattle.orc_file.proofs.writer.Writer.stripe_of.Goals as goal
 

@@ -1,10 +1,10 @@
 use Rattle.std.proofs.Common.{◌<◌, ◌+◌, ◌*◌, List, map, ap, ◌∙◌, subst, add-one, arith}
-use Rattle.orc_types.specs.Views.{view, shape, fields as fields_view}
-use Rattle.orc_types.specs.Shapes.{width}
-use Rattle.orc_types.specs.Cells.{Cell}
-use Rattle.orc_types.proofs.ByColumn.{width_within}
-use Rattle.orc_types.proofs.Listed.{widths_from}
-use Rattle.orc_types.proofs.Views.{shape-List, shape-Map, shape-Struct, paired-is}
+use Rattle.orc_values.specs.Views.{view, shape, fields as fields_view}
+use Rattle.orc_values.specs.Shapes.{width}
+use Rattle.orc_values.specs.Cells.{Cell}
+use Rattle.orc_values.proofs.ByColumn.{width_within}
+use Rattle.orc_values.proofs.Listed.{widths_from}
+use Rattle.orc_values.proofs.Views.{shape-List, shape-Map, shape-Struct, paired-is}
 use Rattle.orc_file.specs.Counting.{AddsCells, AddsFields}
 use Rattle.orc_file.proofs.CountSteps.{adds_none, list_counted, map_counted, struct_counted, part_counted, parts_counted, pair_counted, pairs_counted, none_counted, field_counted, field_lacking, fields_counted}
 use Rattle.orc_file.proofs.writer.counting.+counting.Goals as goal

@@ -1,6 +1,6 @@
 use Rattle.std.proofs.Common.{◌+◌, ◌*◌, map, take}
-use Rattle.orc_types.specs.Shapes.{width, widths}
-use Rattle.orc_types.specs.Views.{views, paired, shape, fields}
+use Rattle.orc_values.specs.Shapes.{width, widths}
+use Rattle.orc_values.specs.Views.{views, paired, shape, fields}
 use Rattle.orc_file.specs.Counting.{AddsCells}
 use Rattle.orc_file.proofs.CountSteps.{FieldsCounted}
 use Rattle.orc_file.proofs.writer.counting.+counting.Given as goal

@@ -1,7 +1,7 @@
 use Rattle.std.proofs.Common.{◌≡◌, ◌∷◌, [], ◌^◌, ltb, ap, ◌∙◌, rules, tests}
 use Rattle.std.proofs.lemmas.Iterator.{YieldsList-from_slice}
 use Rattle.std.proofs.lemmas.Iterator.Search.{all_from_yields_List}
-use Rattle.orc_types.specs.Views.{view}
+use Rattle.orc_values.specs.Views.{view}
 use Rattle.orc_file.specs.Counts.{are_few}
 use Rattle.orc_file.specs.Counting.{AddsCells}
 use Rattle.orc_file.proofs.CountSteps.{when_few, when_many}

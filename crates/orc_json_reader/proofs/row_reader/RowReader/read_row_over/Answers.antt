@@ -1,7 +1,7 @@
 use Rattle.std.proofs.Common.{Result, Ok, Err}
 use Rattle.std.specs.Prelude.{IfOk, IfErr, MatchResult}
 use Rattle.std.proofs.lemmas.Result.{IfOk-weaker}
-use Rattle.orc_types.specs.Views.{view}
+use Rattle.orc_values.specs.Views.{view}
 use Rattle.orc_json_reader.proofs.TextLemmas.{one_text_row, text_fits, only_want}
 use Rattle.orc_json_reader.proofs.row_reader.RowReader.read_row_over.Goals as goal
 

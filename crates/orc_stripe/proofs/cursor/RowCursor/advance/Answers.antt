@@ -1,6 +1,6 @@
 use Rattle.std.proofs.Common.{length, ◌≡◌, ◌-◌, suc, true, false, subst, ◌∙◌, sym, arith}
 use Rattle.std.proofs.lemmas.List.{with_items_is}
-use Rattle.orc_types.specs.Views.{shape}
+use Rattle.orc_values.specs.Views.{shape}
 use Rattle.orc_column_reader.specs.ReaderFaults.{CellsMeet}
 use Rattle.orc_column_reader.proofs.NeverFailed.{never_failed}
 use Rattle.orc_stripe.proofs.cursor.RowCursor.advance.Goals as goal

@@ -1,5 +1,5 @@
 use Rattle.std.proofs.Common.{◌≡◌, ◌+◌, true, false, subst, ◌∙◌, sym, arith}
-use Rattle.orc_types.specs.Views.{shape}
+use Rattle.orc_values.specs.Views.{shape}
 use Rattle.orc_column_reader.specs.ReaderFaults.{CellsMeet}
 use Rattle.orc_column_reader.proofs.NeverFailed.{never_failed}
 use Rattle.orc_stripe.proofs.cursor.RowCursor.rest.Goals as goal

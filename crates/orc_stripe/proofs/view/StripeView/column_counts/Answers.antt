@@ -1,7 +1,7 @@
 use Rattle.std.proofs.Common.{◌≡◌, refl, ap, arith}
 use Rattle.std.proofs.lemmas.Result.{IfOk-weaker}
-use Rattle.orc_types.specs.Shapes.{width}
-use Rattle.orc_types.specs.Views.{shape}
+use Rattle.orc_values.specs.Shapes.{width}
+use Rattle.orc_values.specs.Views.{shape}
 use Rattle.orc_column_reader.specs.declared.fault.StripeFault.TheVariants as fault
 use Rattle.orc_stripe.specs.ColumnGroups.{AreCountedOver}
 use Rattle.orc_stripe.specs.Opened.{Opened}

@@ -1,6 +1,6 @@
 use Rattle.std.proofs.Common.{◌≡◌, false, refl, inl, inr, length, ap, sym, subst, arith}
-use Rattle.orc_types.specs.Shapes.{width}
-use Rattle.orc_types.specs.Views.{shape}
+use Rattle.orc_values.specs.Shapes.{width}
+use Rattle.orc_values.specs.Views.{shape}
 use Rattle.orc_column_reader.specs.Starting.{Puts}
 use Rattle.orc_column_reader.specs.Faults.{FaultDown}
 use Rattle.orc_column_reader.specs.Located.{AreLocated}

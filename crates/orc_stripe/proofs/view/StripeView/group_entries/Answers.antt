@@ -1,5 +1,5 @@
 use Rattle.std.proofs.Common.{◌<◌, [], ◌∷◌, length, length-append, ap, arith}
-use Rattle.orc_types.specs.Shapes.{width}
+use Rattle.orc_values.specs.Shapes.{width}
 use Rattle.orc_stripe.proofs.GroupTurned.{one_more_entry, one_more_only}
 use Rattle.orc_stripe.proofs.view.StripeView.group_entries.Goals as goal
 

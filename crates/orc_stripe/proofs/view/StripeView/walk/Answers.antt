@@ -1,5 +1,5 @@
 use Rattle.std.proofs.Common.{List, ℕ, length, sym, ap, subst, arith}
-use Rattle.orc_types.specs.Shapes.{width}
+use Rattle.orc_values.specs.Shapes.{width}
 use Rattle.orc_column_reader.specs.Located.{AreLocated}
 use Rattle.orc_stripe.proofs.Opened.{footer_columns}
 use Rattle.orc_stripe.proofs.view.StripeView.walk.Goals as goal

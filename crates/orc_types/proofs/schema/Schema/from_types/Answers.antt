@@ -1,5 +1,5 @@
 use Rattle.std.proofs.lemmas.Result.{err_from_is_err_and}
-use Rattle.orc_types.specs.Views.{shape}
+use Rattle.orc_values.specs.Views.{shape}
 use Rattle.orc_types.proofs.Trees.{one_schema}
 use Rattle.orc_types.proofs.Exclusion.{no_schema}
 use Rattle.orc_types.proofs.schema.Schema.from_types.Goals as goal

@@ -1,9 +1,0 @@
--- The cells of rows that are lent, in a slice (ORC specification, "Column Encodings").
-use Rattle.std.specs.Prelude.{List, map}
-use Rattle.orc_types.specs.Cells.{Cell}
-use Rattle.orc_types.specs.Views.{view}
-use Rattle.orc_types.specs.declared.lent.Lent.{Lent}
-
--- rows that are lent, as cells
-abbrev pub lent_cells : List Lent → List Cell
-lent_cells rs = map (λ r. view r.0.now) rs

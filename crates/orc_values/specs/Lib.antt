@@ -1,0 +1,11 @@
+pub mod Kinds
+pub mod Shapes
+pub mod Types
+pub mod Cells
+pub mod Fits
+pub mod Columns
+pub mod Coding
+pub mod Views
+pub mod Childless
+pub mod Own
+pub mod Lent

@@ -1,0 +1,20 @@
+//! What a column's types and cells are: trees of types, values and rows, and what a cell says without its children.
+#![tactic(auto)]
+
+mod children;
+mod fitting;
+mod kind;
+mod lent;
+mod own;
+mod row_copies;
+mod tree;
+mod value;
+
+pub use children::{pairs_of, parts_of};
+pub use fitting::{int_fits, value_fits};
+pub use kind::{LIST, MAP, STRUCT, Scalar};
+pub use lent::Lent;
+pub use own::{Own, own_of};
+pub use row_copies::owned;
+pub use tree::{Field, Tree, tree_at, width_of};
+pub use value::{MapPair, Row, Value};

@@ -1,0 +1,100 @@
+//! Types with all that they contain, and their columns, which are counted in pre-order.
+ghost use Rattle.std.specs.Prelude.{◌≡◌, ◌<◌, ◌^◌};
+ghost use Rattle.orc_values.specs.Shapes.{width, widths, shape_at, shape_within};
+ghost use Rattle.orc_values.specs.Views.{shape, fields as fields_view};
+
+use crate::kind::Scalar;
+
+/// A type with all that it contains. Each type keeps the bytes of the fields of its message that
+/// have no meaning here, as they stood.
+#[cycle(tree)]
+#[derive(Debug, Drop)]
+pub enum Tree {
+    Scalar(Scalar, Vec<u8>),
+    List(Box<Tree>, Vec<u8>),
+    /// The type of the keys, and that of the values.
+    Map(Box<Tree>, Box<Tree>, Vec<u8>),
+    Struct(Vec<Field>, Vec<u8>),
+}
+
+/// A field of a struct.
+#[cycle(tree)]
+#[derive(Debug, Drop)]
+pub struct Field {
+    pub name: String,
+    pub tree: Tree,
+}
+
+/// The number of columns of a type, itself the first.
+#[cycle(widths)]
+pub fn width_of(tree: &Tree) -> usize
+    requires { width (shape tree.now) < 2 ^ 64 }
+    // Where a type has fewer than 2^64 columns, they are counted, itself the first.
+    ensures { result ≡ width (shape tree.now) }
+{
+    match tree {
+        Tree::Scalar(_, _) => 1,
+        Tree::List(element, _) => 1 + width_of(element),
+        Tree::Map(key, value, _) => 1 + width_of(key) + width_of(value),
+        Tree::Struct(fields, _) => 1 + widths_of(fields),
+    }
+}
+
+/// The number of columns of some fields.
+#[cycle(widths)]
+fn widths_of(fields: &[Field]) -> usize
+    requires { widths (fields_view fields.now) < 2 ^ 64 }
+    ensures { result ≡ widths (fields_view fields.now) }
+{
+    match fields {
+        [] => 0,
+        [first, others @ ..] => width_of(&first.tree) + widths_of(others),
+    }
+}
+
+/// The type of a column of a type, by the column's number in pre-order.
+#[cycle(trees)]
+pub fn tree_at(tree: &Tree, column: usize) -> &Tree
+    requires few { width (shape tree.now) < 2 ^ 64 }
+    requires there { column < width (shape tree.now) }
+    // Where a type has fewer than 2^64 columns, and this one among them, the type is lent that has
+    // this number in pre-order.
+    ensures { shape result.now ≡ shape_at (shape tree.now) column }
+{
+    if column == 0 {
+        return tree;
+    }
+    match tree {
+        Tree::Scalar(_, _) => tree,
+        Tree::List(element, _) => tree_at(element, column - 1),
+        Tree::Map(key, value, _) => {
+            let width = width_of(key);
+            if column - 1 < width {
+                tree_at(key, column - 1)
+            } else {
+                tree_at(value, column - 1 - width)
+            }
+        }
+        Tree::Struct(fields, _) => tree_within(fields, column - 1),
+    }
+}
+
+/// The type of a column of some fields.
+#[cycle(trees)]
+fn tree_within(fields: &[Field], column: usize) -> &Tree
+    requires few { widths (fields_view fields.now) < 2 ^ 64 }
+    requires there { column < widths (fields_view fields.now) }
+    ensures { shape result.now ≡ shape_within (fields_view fields.now) column }
+{
+    match fields {
+        [] => unreachable!(),
+        [first, others @ ..] => {
+            let width = width_of(&first.tree);
+            if column < width {
+                tree_at(&first.tree, column)
+            } else {
+                tree_within(others, column - width)
+            }
+        }
+    }
+}
