@@ -13,12 +13,12 @@ use Rattle.orc_column_reader.specs.Stripe.{HasFooter, IsStripe, columns_of}
 use Rattle.orc_stripe.specs.Opened.{Opened}
 use Rattle.orc_stripe.specs.Opening as opening
 use Rattle.orc_stripe.proofs.OneStripe.{by_footer}
-use Rattle.orc_file.specs.Stripes.{stripe_at, most_stripes}
+use Rattle.orc_tail.specs.Stripes.{stripe_at, most_stripes}
 use Rattle.orc_file.specs.FileRows.{stripe_bytes, joined, AreOfStripes, HasRows, FileIs, IsNoStripe, StripeRefused, FirstRefused, cut_rows}
-use Rattle.orc_file.specs.Tails.{IsTail, OpenFault, ReadFault, IsOfTail, tail_tests}
-use Rattle.orc_file.specs.declared.tail.Tail.{Tail}
-use Rattle.orc_file.specs.declared.fault.FileFault.{FileFault}
-use Rattle.orc_file.specs.declared.fault.FileFault.TheVariants.{Stripe, SourceFailed, OutOfMemory}
+use Rattle.orc_tail.specs.Tails.{IsTail, OpenFault, ReadFault, IsOfTail, tail_tests}
+use Rattle.orc_tail.specs.declared.tail.Tail.{Tail}
+use Rattle.orc_tail.specs.declared.fault.FileFault.{FileFault}
+use Rattle.orc_tail.specs.declared.fault.FileFault.TheVariants.{Stripe, SourceFailed, OutOfMemory}
 use Rattle.orc_column_reader.specs.declared.fault.StripeFault.{StripeFault}
 use Rattle.orc_column_reader.specs.declared.fault.StripeFault.TheVariants as stripe
 use Rattle.orc_file.proofs.RowLemmas.{one_file, no_file, parts_cut}

@@ -21,10 +21,10 @@ use Rattle.orc_row_index.specs.RowIndex.{SaysStat}
 use Rattle.orc_stripe_writer.specs.Groups.{starts, bounds_of}
 use Rattle.orc_stripe_writer.specs.WrittenStripe.{HasRightIndex, column_stat}
 use Rattle.orc_stripe.specs.Opened.{Opened}
-use Rattle.orc_file.specs.Stripes.{stripe_at}
+use Rattle.orc_tail.specs.Stripes.{stripe_at}
 use Rattle.orc_file.specs.FileRows.{stripe_bytes, opened_stripe, cut_rows, AreOfStripes, FileIs}
 use Rattle.orc_file.specs.Honest.{AgreeStats, AreHonest, Honest, HasWholeStats, known_whole_of}
-use Rattle.orc_file.specs.declared.tail.Tail.{Tail}
+use Rattle.orc_tail.specs.declared.tail.Tail.{Tail}
 use Rattle.orc_file.proofs.RowLemmas.{rows_cut}
 use Rattle.orc_check.specs.declared.finding.Finding.{Finding}
 use Rattle.orc_check.specs.declared.finding.Finding.TheVariants.{StripeStatistic, IndexStatistic, IndexPosition, FileStatistic}

@@ -22,9 +22,8 @@ use Rattle.orc_stats.specs.Joining.{joined}
 use Rattle.orc_stats.specs.Known.{known_in, known_as, told_body, known_stats}
 use Rattle.orc_stats.proofs.KnownParts.{joined-known}
 use Rattle.orc_stripe_writer.specs.WrittenStripe.{column_stat}
-use Rattle.orc_file.specs.Statistics.{kind_at}
+use Rattle.orc_tail.specs.Statistics.{kind_at, column_stats, of_columns, file_stats}
 use Rattle.orc_file.specs.Honest.{AreWhole, told_at, known_whole_of}
-use Rattle.orc_file.specs.Writing.{column_stats, of_columns, file_stats}
 use Rattle.orc_file.proofs.StatTests.{are_of_kind, values_few}
 use Rattle.orc_check.specs.Checking.{AreKnown, AreOfSchema, AreOwn}
 

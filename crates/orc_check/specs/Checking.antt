@@ -6,10 +6,10 @@ use Rattle.orc_values.specs.Columns.{cells}
 use Rattle.orc_values.specs.Fits.{RowsFit}
 use Rattle.orc_file.specs.FileRows.{IsNoStripe, FirstRefused}
 use Rattle.orc_file.specs.Honest.{AreWhole}
-use Rattle.orc_file.specs.Stripes.{most_stripes, stripe_at}
-use Rattle.orc_file.specs.Tails.{IsTail, OpenFault, IsOfTail}
-use Rattle.orc_file.specs.declared.fault.FileFault.{FileFault}
-use Rattle.orc_file.specs.declared.fault.FileFault.TheVariants.{Stripe}
+use Rattle.orc_tail.specs.Stripes.{most_stripes, stripe_at}
+use Rattle.orc_tail.specs.Tails.{IsTail, OpenFault, IsOfTail}
+use Rattle.orc_tail.specs.declared.fault.FileFault.{FileFault}
+use Rattle.orc_tail.specs.declared.fault.FileFault.TheVariants.{Stripe}
 use Rattle.orc_wire.specs.declared.stripe_info.StripeInfo.{StripeInfo}
 use Rattle.orc_values.specs.Cells.{Cell}
 use Rattle.orc_stats.specs.declared.stat.Stat.{Stat}
@@ -18,7 +18,7 @@ use Rattle.orc_column_reader.specs.Stripe.{IsStripe, cell_limit}
 use Rattle.orc_column_reader.specs.declared.fault.StripeFault.{StripeFault}
 use Rattle.orc_column_reader.specs.declared.fault.StripeFault.TheVariants as stripe
 use Rattle.orc_stripe_writer.specs.WrittenStripe.{column_stat}
-use Rattle.orc_file.specs.declared.tail.Tail.{Tail}
+use Rattle.orc_tail.specs.declared.tail.Tail.{Tail}
 use Rattle.orc_check.specs.declared.finding.Finding.{Finding}
 use Rattle.orc_check.specs.Findings.{OfStripe, Adds, stripe_told}
 

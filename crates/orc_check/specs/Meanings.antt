@@ -12,9 +12,9 @@ use Rattle.orc_row_index.specs.Bounds.{before_group, group_of}
 use Rattle.orc_row_index.specs.Places.{AreReadPlaces}
 use Rattle.orc_stripe_writer.specs.Groups.{starts, bounds_of}
 use Rattle.orc_stripe.specs.RowIndexes.{HasIndex, IsWhole}
-use Rattle.orc_file.specs.Stripes.{stripe_at}
+use Rattle.orc_tail.specs.Stripes.{stripe_at}
 use Rattle.orc_file.specs.FileRows.{stripe_bytes, opened_stripe}
-use Rattle.orc_file.specs.declared.tail.Tail.{Tail}
+use Rattle.orc_tail.specs.declared.tail.Tail.{Tail}
 use Rattle.orc_check.specs.declared.finding.Finding.{Finding}
 use Rattle.orc_check.specs.declared.finding.Finding.TheVariants.{StripeStatistic, IndexEntries, IndexStatistic, IndexPosition, FileStatistic}
 use Rattle.orc_check.specs.Findings.{TellsStripe, TellsFile, TellsGroup, entry_at, stripe_told, rows_at}

@@ -15,9 +15,9 @@ use Rattle.orc_row_index.specs.Bounds.{before_group, group_of}
 use Rattle.orc_row_index.specs.Places.{AreReadPlaces}
 use Rattle.orc_stripe_writer.specs.Groups.{starts, bounds_of}
 use Rattle.orc_stripe.specs.GroupCursors.{HasGroup, StartsGroup}
-use Rattle.orc_file.specs.Stripes.{stripe_at}
+use Rattle.orc_tail.specs.Stripes.{stripe_at}
 use Rattle.orc_file.specs.FileRows.{stripe_bytes, opened_stripe, cut_rows}
-use Rattle.orc_file.specs.declared.tail.Tail.{Tail}
+use Rattle.orc_tail.specs.declared.tail.Tail.{Tail}
 use Rattle.orc_check.specs.Findings.{TellsGroup, rows_at}
 
 -- Bytes that are taken for the index of these groups: as many entries as bounds, each with places from which a reader

@@ -2,11 +2,11 @@
 ghost use Rattle.std.specs.Prelude.{◌≡◌, ◌<◌, ◌⊎◌, ℕ, List, length, OnOk, IfOk, IfErr, IfSome, IsErrOf, MatchResult};
 ghost use Rattle.orc_values.specs.Cells.{Cell};
 ghost use Rattle.orc_file.specs.FileRows.{FileIs, FirstRefused};
-ghost use Rattle.orc_file.specs.Images.{IsWithinLimits};
-ghost use Rattle.orc_file.specs.Stripes.{AllBefore};
-ghost use Rattle.orc_file.specs.Tails.{IsTail, ReadFault};
-ghost use Rattle.orc_file.specs.declared.tail.Tail.{Tail};
-ghost use Rattle.orc_file.specs.declared.fault.FileFault.TheVariants.{SourceFailed, OutOfMemory};
+ghost use Rattle.orc_tail.specs.Images.{IsWithinLimits};
+ghost use Rattle.orc_tail.specs.Stripes.{AllBefore};
+ghost use Rattle.orc_tail.specs.Tails.{IsTail, ReadFault};
+ghost use Rattle.orc_tail.specs.declared.tail.Tail.{Tail};
+ghost use Rattle.orc_tail.specs.declared.fault.FileFault.TheVariants.{SourceFailed, OutOfMemory};
 ghost use Rattle.orc_check.specs.Findings.{Findings};
 ghost use Rattle.orc_check.specs.Checking.{CheckFault, HaveOwn, IsWholeOf, IsOfStripes, IsOfCheck};
 

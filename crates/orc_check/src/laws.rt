@@ -6,7 +6,7 @@ ghost use Rattle.orc_stripe_writer.specs.declared.options.Options.{Options};
 ghost use Rattle.orc_file.specs.FileRows.{FileIs, cut_rows};
 ghost use Rattle.orc_file.specs.Honest.{Honest};
 ghost use Rattle.orc_file.specs.Writing.{IsWrittenFile};
-ghost use Rattle.orc_file.specs.declared.tail.Tail.{Tail};
+ghost use Rattle.orc_tail.specs.declared.tail.Tail.{Tail};
 ghost use Rattle.orc_check.specs.declared.finding.Finding.{Finding};
 ghost use Rattle.orc_check.specs.Findings.{Findings, TellsWhole};
 ghost use Rattle.orc_check.specs.Meanings.{IsSo};

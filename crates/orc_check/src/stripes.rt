@@ -1,11 +1,11 @@
 //! A stripe of a file.
 ghost use Rattle.std.specs.Prelude.{◌≡◌, ◌≢◌, ◌<◌, ◌≤◌, ◌⊎◌, length, OnOk, IfOk, IfErr, IfSome, IsErrOf};
-ghost use Rattle.orc_file.specs.Stripes.{AllBefore, most_bytes, stripe_at, stripes_length};
+ghost use Rattle.orc_tail.specs.Stripes.{AllBefore, most_bytes, stripe_at, stripes_length};
 ghost use Rattle.orc_file.specs.FileRows as rows;
 ghost use Rattle.orc_file.specs.FileRows.{StripeRefused};
-ghost use Rattle.orc_file.specs.Tails.{ReadFault};
+ghost use Rattle.orc_tail.specs.Tails.{ReadFault};
 ghost use Rattle.orc_column_reader.specs.declared.fault.StripeFault.TheVariants as stripe;
-ghost use Rattle.orc_file.specs.declared.fault.FileFault.TheVariants.{Stripe, SourceFailed, OutOfMemory};
+ghost use Rattle.orc_tail.specs.declared.fault.FileFault.TheVariants.{Stripe, SourceFailed, OutOfMemory};
 ghost use Rattle.orc_check.specs.Findings.{stripe_told};
 ghost use Rattle.orc_check.specs.Checking.{IsChecked, IsOfStripe};
 

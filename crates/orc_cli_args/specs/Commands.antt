@@ -14,7 +14,7 @@ use Rattle.clap.specs.declared.error.kind.ErrorKind.TheVariants.{DisplayHelp, Di
 use Rattle.clap.specs.declared.parser.matches.ArgMatches.{ArgMatches}
 use Rattle.orc_cli_output.specs.Output.{write_failed}
 use Rattle.orc_cli_output.specs.declared.fault.CliFault.TheVariants.{File}
-use Rattle.orc_file.specs.declared.fault.FileFault.TheVariants as file
+use Rattle.orc_tail.specs.declared.fault.FileFault.TheVariants as file
 use Rattle.orc_rle.specs.declared.sign.Rle.TheVariants.{One, Two}
 use Rattle.orc_rle.specs.declared.sign.Sign.TheVariants.{Signed, Unsigned as UnsignedNumbers}
 use Rattle.orc_cli_args.specs.Requests.{version_word, sign_word}

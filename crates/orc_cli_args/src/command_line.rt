@@ -2,7 +2,7 @@
 ghost use Rattle.std.specs.Prelude.{◌≡◌, ◌⊎◌, IfOk, IfErr, map, string_bytes};
 ghost use Rattle.clap.specs.Values.{kind_of};
 ghost use Rattle.clap.specs.declared.error.kind.ErrorKind.TheVariants as kind;
-ghost use Rattle.orc_file.specs.declared.fault.FileFault.TheVariants as file;
+ghost use Rattle.orc_tail.specs.declared.fault.FileFault.TheVariants as file;
 ghost use Rattle.orc_cli_output.specs.declared.fault.CliFault.TheVariants.{File};
 ghost use Rattle.orc_cli_args.specs.Commands.{IsFound, HasFault, IsAskedIn, IsNotAskedIn};
 ghost use Rattle.orc_cli_args.specs.declared.command_line.Refusal.TheVariants.{Fault, NotUnderstood};
@@ -11,7 +11,7 @@ use crate::commands::orcm;
 use clap::error::ErrorKind;
 use clap::{ArgMatches, Error};
 use orc_cli_output::CliFault;
-use orc_file::FileFault;
+use orc_tail::FileFault;
 use std::alloc::Global;
 use std::convert::AsStr;
 use std::rt::Env;

@@ -13,7 +13,7 @@ use crate::help::{CHECK_HELP, MERGE_HELP, ROWS_HELP, STATUSES, WRITE_HELP};
 use crate::request::{SIGNS, VERSIONS};
 use clap::builder::ValueParser;
 use clap::{Arg, ArgAction, Command, Error};
-use orc_file::MOST_STRIPE_ROWS;
+use orc_tail::MOST_STRIPE_ROWS;
 use std::alloc::Global;
 
 /// The program's own version.

@@ -1,11 +1,12 @@
 //! The files that a command names.
 ghost use Rattle.std.specs.Prelude.{◌≡◌, IfOk, IfErr, true};
 ghost use Rattle.std.specs.Fs.{new_options, with_write, with_create_new};
-ghost use Rattle.orc_file.specs.declared.fault.FileFault.TheVariants.{SourceFailed, WriteFailed};
+ghost use Rattle.orc_tail.specs.declared.fault.FileFault.TheVariants.{SourceFailed, WriteFailed};
 ghost use Rattle.orc_cli_output.specs.declared.fault.CliFault.TheVariants.{File as FileFaulted};
 
 use orc_cli_output::CliFault;
-use orc_file::{FileFault, FileSource};
+use orc_io::FileSource;
+use orc_tail::FileFault;
 use std::fs::{File, OpenOptions};
 use std::rt::Files;
 

@@ -5,10 +5,10 @@ use Rattle.orc_values.specs.Cells.{Cell}
 use Rattle.orc_values.specs.Shapes.{Shape}
 use Rattle.orc_wire.specs.declared.stripe_info.StripeInfo.{StripeInfo}
 use Rattle.orc_file.specs.FileRows.{FileIs, FirstRefused}
-use Rattle.orc_file.specs.Tails.{ReadFault}
-use Rattle.orc_file.specs.declared.tail.Tail.{Tail}
-use Rattle.orc_file.specs.declared.fault.FileFault.{FileFault}
-use Rattle.orc_file.specs.declared.fault.FileFault.TheVariants.{WriteFailed, SourceFailed, OutOfMemory}
+use Rattle.orc_tail.specs.Tails.{ReadFault}
+use Rattle.orc_tail.specs.declared.tail.Tail.{Tail}
+use Rattle.orc_tail.specs.declared.fault.FileFault.{FileFault}
+use Rattle.orc_tail.specs.declared.fault.FileFault.TheVariants.{WriteFailed, SourceFailed, OutOfMemory}
 use Rattle.orc_cli_output.proofs.OpenFaults.{never_output}
 use Rattle.orc_cli_output.specs.Output.{write_failed}
 use Rattle.orc_cli_output.specs.declared.fault.CliFault.TheVariants.{File}

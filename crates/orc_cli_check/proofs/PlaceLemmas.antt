@@ -6,9 +6,9 @@ use Rattle.orc_values.specs.Cells.{Cell}
 use Rattle.orc_values.specs.Shapes.{Shape}
 use Rattle.orc_column_reader.specs.Stripe.{columns_of}
 use Rattle.orc_stripe.specs.GroupCursors.{HasGroup}
-use Rattle.orc_file.specs.Stripes.{stripe_at, stripes_rows}
+use Rattle.orc_tail.specs.Stripes.{stripe_at, stripes_rows}
 use Rattle.orc_file.specs.FileRows.{stripe_bytes, opened_stripe, cut_rows, joined, AreOfStripes, HasRows, FileIs}
-use Rattle.orc_file.specs.declared.tail.Tail.{Tail}
+use Rattle.orc_tail.specs.declared.tail.Tail.{Tail}
 use Rattle.orc_file.proofs.RowLemmas.{rows_cut, cut_whole, one_rows}
 use Rattle.orc_cli_output.specs.Output.{IsOutsideFile}
 use Rattle.orc_cli_output.specs.declared.fault.CliFault.{CliFault}

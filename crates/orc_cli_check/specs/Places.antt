@@ -1,7 +1,7 @@
 -- Groups of a file's rows (ORC specification, "Row Group Index").
 use Rattle.std.specs.Prelude.{ℕ, ◌+◌, ◌*◌, ◌<◌, length, take}
-use Rattle.orc_file.specs.Stripes.{stripe_at, stripes_rows}
-use Rattle.orc_file.specs.declared.tail.Tail.{Tail}
+use Rattle.orc_tail.specs.Stripes.{stripe_at, stripes_rows}
+use Rattle.orc_tail.specs.declared.tail.Tail.{Tail}
 
 -- the file has groups, and this stripe one of this number
 pub record IsPlace (tail : Tail) (stripe group : ℕ) : Type 0 where

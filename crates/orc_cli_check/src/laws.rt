@@ -3,7 +3,7 @@
 ghost use Rattle.std.specs.Prelude.{◌≡◌, ℕ, List, [], Option, drop};
 ghost use Rattle.orc_values.specs.Cells.{Cell};
 ghost use Rattle.orc_file.specs.FileRows.{FileIs};
-ghost use Rattle.orc_file.specs.declared.tail.Tail.{Tail};
+ghost use Rattle.orc_tail.specs.declared.tail.Tail.{Tail};
 ghost use Rattle.orc_cli_output.specs.Output.{IsOutsideFile};
 ghost use Rattle.orc_cli_output.specs.declared.fault.CliFault.{CliFault};
 ghost use Rattle.orc_check.specs.Findings.{Findings};

@@ -12,11 +12,11 @@ use Rattle.orc_types.specs.SchemaText.{HasText}
 use Rattle.orc_types.specs.declared.json_fault.JsonFault.TheVariants as json
 use Rattle.orc_stripe_writer.specs.declared.options.Options.{Options}
 use Rattle.orc_file.specs.FileRows.{FileIs}
-use Rattle.orc_file.specs.Tails.{IsTail}
+use Rattle.orc_tail.specs.Tails.{IsTail}
 use Rattle.orc_file.specs.Writing.{IsWhole}
-use Rattle.orc_file.specs.declared.fault.FileFault.{FileFault}
-use Rattle.orc_file.specs.declared.fault.FileFault.TheVariants as file
-use Rattle.orc_file.specs.declared.tail.Tail.{Tail}
+use Rattle.orc_tail.specs.declared.fault.FileFault.{FileFault}
+use Rattle.orc_tail.specs.declared.fault.FileFault.TheVariants as file
+use Rattle.orc_tail.specs.declared.tail.Tail.{Tail}
 use Rattle.orc_cli_output.specs.Output.{AppendsPart, IsNotOpened, IsOutside, IsOutsideFile, IsWantOfMemory, write_failed}
 use Rattle.orc_cli_output.specs.declared.fault.CliFault.{CliFault}
 use Rattle.orc_cli_output.specs.declared.fault.CliFault.TheVariants.{File, Run, Json}

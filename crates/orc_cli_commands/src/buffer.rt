@@ -2,7 +2,7 @@
 ghost use Rattle.std.specs.Prelude.{◌≡◌, ◌^◌, [], IfOk, IfErr};
 ghost use Rattle.std.specs.Io.KnownBytes.{Keeps};
 ghost use Rattle.std.specs.Io.Buffered.{writer_inner, writer_buffer, writer_capacity, writer_contents};
-ghost use Rattle.orc_file.specs.declared.fault.FileFault.TheVariants.{WriteFailed, OutOfMemory};
+ghost use Rattle.orc_tail.specs.declared.fault.FileFault.TheVariants.{WriteFailed, OutOfMemory};
 ghost use Rattle.orc_cli_output.specs.declared.fault.CliFault.TheVariants.{File as FileFaulted};
 
 use orc_cli_output::CliFault;

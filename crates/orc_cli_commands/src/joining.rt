@@ -1,7 +1,7 @@
 //! The command that joins files into one.
 ghost use Rattle.std.specs.Prelude.{◌≡◌, ◌≢◌, List, ℕ, map, Some, IsSome, IsErr, IfOk, IfErr, ◌⊎◌};
 ghost use Rattle.std.specs.List.{All, Any};
-ghost use Rattle.orc_file.specs.declared.fault.FileFault.TheVariants as file;
+ghost use Rattle.orc_tail.specs.declared.fault.FileFault.TheVariants as file;
 ghost use Rattle.orc_cli_output.specs.declared.fault.CliFault.TheVariants.{File};
 ghost use Rattle.orc_cli_commands.specs.Places.{CanFail, CanFailAt};
 ghost use Rattle.orc_cli_commands.specs.Commands.{AnswersMerge};

@@ -1,6 +1,6 @@
 //! Where the files of a command lie.
 ghost use Rattle.std.specs.Prelude.{◌≡◌, ◌≢◌, ◌⊎◌, ℕ, List, [], Option, Some, Err, IsSome, IsOk, IsErr, IfOk, IfErr, OnOk, OnErr, IsOkAnd};
-ghost use Rattle.orc_file.specs.declared.fault.FileFault.TheVariants as file;
+ghost use Rattle.orc_tail.specs.declared.fault.FileFault.TheVariants as file;
 ghost use Rattle.orc_cli_output.specs.Output.{write_failed};
 ghost use Rattle.orc_cli_output.specs.declared.fault.CliFault.TheVariants.{File};
 

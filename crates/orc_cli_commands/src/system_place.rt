@@ -1,6 +1,6 @@
 //! The files of the system as a place.
 ghost use Rattle.std.specs.Prelude.{◌≡◌, ◌⊎◌, None, IfOk, IfErr};
-ghost use Rattle.orc_file.specs.declared.fault.FileFault.TheVariants as file;
+ghost use Rattle.orc_tail.specs.declared.fault.FileFault.TheVariants as file;
 ghost use Rattle.orc_cli_output.specs.declared.fault.CliFault.TheVariants.{File as FileFaulted};
 
 use crate::buffer::{BUFFER, with_buffer};

@@ -11,8 +11,8 @@ ghost use Rattle.orc_rle.specs.Stream.{Refuses};
 
 use hex::FromHexError;
 use orc_cli_output::{CliFault, write_out};
-use orc_file::FileFault;
 use orc_rle::{Rle, RunCodec, RunFault, Sign, V1, V2};
+use orc_tail::FileFault;
 use orc_types::JsonFault;
 use std::alloc::{AllocError, Global};
 use std::io::Write;

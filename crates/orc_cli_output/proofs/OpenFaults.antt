@@ -4,12 +4,12 @@ use Rattle.orc_wire.specs.declared.footer.Footer.{Footer}
 use Rattle.orc_wire.specs.declared.column_stats.Metadata.{Metadata}
 use Rattle.orc_wire.specs.declared.stripe_info.StripeInfo.{StripeInfo}
 use Rattle.orc_values.specs.Shapes.{Shape}
-use Rattle.orc_file.specs.Layout.{script_bytes, script_place, footer_bytes, metadata_bytes, metadata_place}
-use Rattle.orc_file.specs.Stripes.{stripe_tests, stripe_end}
-use Rattle.orc_file.specs.Tails.{script_tests, end_tests, footer_tests, metadata_tests, limit_tests, OpenFault}
-use Rattle.orc_file.specs.Tests.{Test}
-use Rattle.orc_file.specs.declared.fault.FileFault.{FileFault}
-use Rattle.orc_file.specs.declared.fault.FileFault.TheVariants.{NotOrc, BadPostscript, Compressed, Encrypted, BadLengths, BadFooter, BadMetadata, BadStripe, RowCount, Limit, WriteFailed}
+use Rattle.orc_tail.specs.Layout.{script_bytes, script_place, footer_bytes, metadata_bytes, metadata_place}
+use Rattle.orc_tail.specs.Stripes.{stripe_tests, stripe_end}
+use Rattle.orc_tail.specs.Tails.{script_tests, end_tests, footer_tests, metadata_tests, limit_tests, OpenFault}
+use Rattle.orc_tail.specs.Tests.{Test}
+use Rattle.orc_tail.specs.declared.fault.FileFault.{FileFault}
+use Rattle.orc_tail.specs.declared.fault.FileFault.TheVariants.{NotOrc, BadPostscript, Compressed, Encrypted, BadLengths, BadFooter, BadMetadata, BadStripe, RowCount, Limit, WriteFailed}
 
 abbrev Never : {A : Type 0} → Test A → Type 0
 Never test = test.fails WriteFailed → ⊥

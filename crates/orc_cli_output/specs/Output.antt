@@ -4,9 +4,9 @@ use Rattle.std.specs.Io.KnownBytes.{Appends}
 use Rattle.orc_rle.specs.declared.fault.RunFault.TheVariants as run
 use Rattle.orc_types.specs.declared.fault.TypeFault.TheVariants as types
 use Rattle.orc_types.specs.declared.json_fault.JsonFault.TheVariants as json
-use Rattle.orc_file.specs.Tails.{OpenFault}
-use Rattle.orc_file.specs.declared.fault.FileFault.{FileFault}
-use Rattle.orc_file.specs.declared.fault.FileFault.TheVariants as file
+use Rattle.orc_tail.specs.Tails.{OpenFault}
+use Rattle.orc_tail.specs.declared.fault.FileFault.{FileFault}
+use Rattle.orc_tail.specs.declared.fault.FileFault.TheVariants as file
 use Rattle.orc_cli_output.specs.declared.fault.CliFault.{CliFault}
 use Rattle.orc_cli_output.specs.declared.fault.CliFault.TheVariants.{Run, Types, Json, File}
 

@@ -1,7 +1,7 @@
 //! What a command refuses with.
 
-use orc_file::FileFault;
 use orc_rle::RunFault;
+use orc_tail::FileFault;
 use orc_types::{JsonFault, TypeFault};
 use std::alloc::AllocError;
 use thiserror::Error;
@@ -62,7 +62,7 @@ impl From<FileFault> for CliFault {
 
 impl From<AllocError> for CliFault {
     ghost use Rattle.std.specs.Prelude.{◌≡◌};
-    ghost use Rattle.orc_file.specs.declared.fault.FileFault.TheVariants as file;
+    ghost use Rattle.orc_tail.specs.declared.fault.FileFault.TheVariants as file;
     ghost use Rattle.orc_cli_output.specs.declared.fault.CliFault.TheVariants.{File};
 
     ghost from_gives = { λ _ fault. fault ≡ File file.OutOfMemory };

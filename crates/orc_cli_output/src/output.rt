@@ -4,7 +4,7 @@ ghost use Rattle.std.specs.Io.KnownBytes.{Appends};
 ghost use Rattle.orc_cli_output.specs.Output.{AppendsPart, write_failed};
 
 use crate::fault::CliFault;
-use orc_file::FileFault;
+use orc_tail::FileFault;
 use std::io::Write;
 
 /// Writes all the bytes. It is refused, as `WriteFailed`, at the first `write` that fails or takes

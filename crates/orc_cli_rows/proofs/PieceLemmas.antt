@@ -19,9 +19,9 @@ use Rattle.orc_stripe.specs.declared.cursor.RowCursor.{RowCursor}
 use Rattle.orc_types.specs.declared.json_fault.JsonFault.TheVariants as json
 use Rattle.orc_column_reader.specs.declared.fault.StripeFault.TheVariants as stripe
 use Rattle.orc_file.specs.FileRows.{IsNoStripe}
-use Rattle.orc_file.specs.declared.fault.FileFault.{FileFault}
-use Rattle.orc_file.specs.declared.fault.FileFault.TheVariants as file
-use Rattle.orc_file.specs.declared.fault.FileFault.TheVariants.{Stripe}
+use Rattle.orc_tail.specs.declared.fault.FileFault.{FileFault}
+use Rattle.orc_tail.specs.declared.fault.FileFault.TheVariants as file
+use Rattle.orc_tail.specs.declared.fault.FileFault.TheVariants.{Stripe}
 use Rattle.orc_cli_output.specs.declared.fault.CliFault.TheVariants.{File, Json}
 use Rattle.orc_cli_output.specs.Output.{write_failed, AppendsPart, IsWantOfMemory}
 use Rattle.orc_cli_output.specs.declared.fault.CliFault.{CliFault}

@@ -11,7 +11,7 @@ use Rattle.orc_column_reader.specs.declared.fault.StripeFault.TheVariants as str
 use Rattle.orc_stripe.specs.Cursors.{StandsFor}
 use Rattle.orc_stripe.specs.declared.cursor.RowCursor.{RowCursor}
 use Rattle.orc_file.specs.FileRows.{IsNoStripe}
-use Rattle.orc_file.specs.declared.fault.FileFault.TheVariants.{Stripe}
+use Rattle.orc_tail.specs.declared.fault.FileFault.TheVariants.{Stripe}
 use Rattle.orc_cli_output.specs.Output.{write_failed, AppendsPart, IsWantOfMemory}
 use Rattle.orc_cli_output.specs.declared.fault.CliFault.{CliFault}
 use Rattle.orc_cli_output.specs.declared.fault.CliFault.TheVariants.{Json, File}

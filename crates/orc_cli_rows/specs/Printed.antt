@@ -3,8 +3,8 @@ use Rattle.std.specs.Prelude.{◌≡◌, List, ℕ, ◌⊎◌, Option, Some, Non
 use Rattle.std.specs.Borrow.{Bor}
 use Rattle.std.specs.Io.KnownBytes.{Appends, Keeps}
 use Rattle.orc_types.specs.declared.json_fault.JsonFault.TheVariants as json
-use Rattle.orc_file.specs.Tails.{IsTail}
-use Rattle.orc_file.specs.declared.tail.Tail.{Tail}
+use Rattle.orc_tail.specs.Tails.{IsTail}
+use Rattle.orc_tail.specs.declared.tail.Tail.{Tail}
 use Rattle.orc_cli_output.specs.Output.{IsNotOpened, IsWantOfMemory}
 use Rattle.orc_cli_output.specs.declared.fault.CliFault.{CliFault}
 use Rattle.orc_cli_output.specs.declared.fault.CliFault.TheVariants.{Json}

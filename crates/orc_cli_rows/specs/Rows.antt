@@ -10,11 +10,11 @@ use Rattle.orc_types.specs.FieldNames.{is_distinct}
 use Rattle.orc_types.specs.JsonPrinting.{json_of}
 use Rattle.orc_types.specs.declared.json_fault.JsonFault.TheVariants as json
 use Rattle.orc_column_reader.specs.Stripe.{IsStripe}
-use Rattle.orc_file.specs.Stripes.{stripe_at}
+use Rattle.orc_tail.specs.Stripes.{stripe_at}
 use Rattle.orc_file.specs.FileRows.{stripe_bytes, HasRows, StripeRefused}
-use Rattle.orc_file.specs.declared.tail.Tail.{Tail}
-use Rattle.orc_file.specs.declared.fault.FileFault.{FileFault}
-use Rattle.orc_file.specs.declared.fault.FileFault.TheVariants as file
+use Rattle.orc_tail.specs.declared.tail.Tail.{Tail}
+use Rattle.orc_tail.specs.declared.fault.FileFault.{FileFault}
+use Rattle.orc_tail.specs.declared.fault.FileFault.TheVariants as file
 use Rattle.orc_cli_output.specs.Output.{write_failed, IsOfSource, IsWantOfMemory}
 use Rattle.orc_cli_output.specs.declared.fault.CliFault.{CliFault}
 use Rattle.orc_cli_output.specs.declared.fault.CliFault.TheVariants.{Run, Types, Json, File}

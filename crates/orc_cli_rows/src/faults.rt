@@ -1,7 +1,7 @@
 //! The faults of stripes as those of their file.
 ghost use Rattle.std.specs.Prelude.{◌≡◌, ◌≢◌, ◌⊎◌};
 ghost use Rattle.orc_column_reader.specs.declared.fault.StripeFault.TheVariants as stripe;
-ghost use Rattle.orc_file.specs.declared.fault.FileFault.TheVariants.{Stripe, OutOfMemory};
+ghost use Rattle.orc_tail.specs.declared.fault.FileFault.TheVariants.{Stripe, OutOfMemory};
 
 use orc_file::FileFault;
 use orc_stripe::StripeFault;

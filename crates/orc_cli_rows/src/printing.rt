@@ -2,10 +2,10 @@
 ghost use Rattle.std.specs.Prelude.{◌≡◌, ◌<◌, ℕ, List, Option, MatchResult, None, IfOk, OnOk, IfErr, IfSome, Err};
 ghost use Rattle.std.specs.Io.KnownBytes.{Appends, Keeps};
 ghost use Rattle.orc_values.specs.Cells.{Cell};
-ghost use Rattle.orc_file.specs.Caps.{no_cap};
+ghost use Rattle.orc_tail.specs.Caps.{no_cap};
 ghost use Rattle.orc_file.specs.FileRows.{FileIs};
-ghost use Rattle.orc_file.specs.declared.fault.FileFault.TheVariants.{SourceFailed};
-ghost use Rattle.orc_file.specs.declared.tail.Tail.{Tail};
+ghost use Rattle.orc_tail.specs.declared.fault.FileFault.TheVariants.{SourceFailed};
+ghost use Rattle.orc_tail.specs.declared.tail.Tail.{Tail};
 ghost use Rattle.orc_cli_output.specs.Output.{IsOutsideFile, IsWantOfMemory};
 ghost use Rattle.orc_cli_output.specs.declared.fault.CliFault.TheVariants.{File};
 ghost use Rattle.orc_cli_rows.specs.Rows.{HaveJson, IsOfRows, IsWantOfRows};

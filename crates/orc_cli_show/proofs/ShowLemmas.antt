@@ -5,10 +5,10 @@ use Rattle.std.specs.Io.KnownBytes.{Keeps}
 use Rattle.serde_json.specs.Data.{string}
 use Rattle.serde_json.specs.View.{view}
 use Rattle.serde_json.specs.declared.value.Value.{String as JsonString, the_lemmas}
-use Rattle.orc_file.specs.Tails.{IsTail, OpenFault, ReadFault}
-use Rattle.orc_file.specs.declared.tail.Tail.{Tail}
-use Rattle.orc_file.specs.declared.fault.FileFault.{FileFault}
-use Rattle.orc_file.specs.declared.fault.FileFault.TheVariants.{WriteFailed, SourceFailed, OutOfMemory}
+use Rattle.orc_tail.specs.Tails.{IsTail, OpenFault, ReadFault}
+use Rattle.orc_tail.specs.declared.tail.Tail.{Tail}
+use Rattle.orc_tail.specs.declared.fault.FileFault.{FileFault}
+use Rattle.orc_tail.specs.declared.fault.FileFault.TheVariants.{WriteFailed, SourceFailed, OutOfMemory}
 use Rattle.orc_cli_output.proofs.OpenFaults.{never_output}
 use Rattle.orc_cli_output.specs.Output.{IsOutsideFile, IsWantOfMemory, write_failed}
 use Rattle.orc_cli_output.specs.declared.fault.CliFault.{CliFault}

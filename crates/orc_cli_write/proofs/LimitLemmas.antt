@@ -9,7 +9,7 @@ use Rattle.orc_wire.specs.declared.stripe_info.StripeInfo.{StripeInfo}
 use Rattle.orc_values.specs.Shapes.{Shape, width}
 use Rattle.orc_values.specs.Cells.{Cell}
 use Rattle.orc_stats.specs.declared.stat.Stat.{Stat}
-use Rattle.orc_file.specs.Stripes.{stripes_rows, most_stripes, most_rows}
+use Rattle.orc_tail.specs.Stripes.{stripes_rows, most_stripes, most_rows}
 use Rattle.orc_file.specs.Counts.{with_row, are_few, PassesLimit}
 use Rattle.orc_file.specs.Writing.{Closed, AreClosed, rows_of, infos_of, PassesBytes}
 use Rattle.orc_file.proofs.Spread.{HasPushed}

@@ -5,7 +5,7 @@ use Rattle.std.specs.Option.{IfSome}
 use Rattle.orc_values.specs.Shapes.{Shape}
 use Rattle.orc_values.specs.Cells.{Cell}
 use Rattle.orc_cli_write.specs.Lines.{LineSpellsRows, AreRowsOf}
-use Rattle.orc_file.specs.declared.fault.FileFault.TheVariants as file
+use Rattle.orc_tail.specs.declared.fault.FileFault.TheVariants as file
 use Rattle.orc_cli_write.specs.Writes.{IsOfWriter, IsWantOfLines, EndsAtLine, EndsInLines}
 use Rattle.orc_types.specs.SchemaText.{HasText}
 use Rattle.orc_cli_write.specs.Reads.{HasRead, line_failures, refusal_of, BeginWith, EndsReading}

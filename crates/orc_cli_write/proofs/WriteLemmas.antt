@@ -13,8 +13,8 @@ use Rattle.orc_types.specs.declared.json_fault.JsonFault.TheVariants as json
 use Rattle.orc_stats.specs.declared.stat.Stat.{Stat}
 use Rattle.orc_file.proofs.Spread.{HasPushed}
 use Rattle.orc_file.specs.Writing.{Progress}
-use Rattle.orc_file.specs.declared.fault.FileFault.{FileFault}
-use Rattle.orc_file.specs.declared.fault.FileFault.TheVariants as file
+use Rattle.orc_tail.specs.declared.fault.FileFault.{FileFault}
+use Rattle.orc_tail.specs.declared.fault.FileFault.TheVariants as file
 use Rattle.orc_cli_output.specs.declared.fault.CliFault.{CliFault}
 use Rattle.orc_cli_output.specs.declared.fault.CliFault.TheVariants.{Types, Json, File}
 use Rattle.orc_cli_output.specs.Output.{IsWantOfMemory, IsOutside}

@@ -14,7 +14,7 @@ use Rattle.orc_cli_write.specs.Writes.{EndsUnder, LimitStands, OpenAtLine, Stand
 use Rattle.orc_cli_output.specs.Output.{IsOfSource}
 use Rattle.orc_cli_output.specs.declared.fault.CliFault.{CliFault}
 use Rattle.orc_cli_output.specs.declared.fault.CliFault.TheVariants.{Types, File}
-use Rattle.orc_file.specs.declared.fault.FileFault.TheVariants as file
+use Rattle.orc_tail.specs.declared.fault.FileFault.TheVariants as file
 use Rattle.orc_cli_write.specs.declared.line_fault.LineFault.{LineFault}
 use Rattle.orc_cli_write.specs.declared.line_fault.LineFault.TheVariants.{Failed, OutOfMemory}
 

@@ -13,10 +13,10 @@ use Rattle.orc_types.specs.declared.json_fault.JsonFault.TheVariants as json
 use Rattle.orc_json_reader.specs.RowTexts.{RowTextFault}
 use Rattle.orc_column_reader.specs.Stripe.{cell_limit}
 use Rattle.orc_io.specs.Devices.{appended}
-use Rattle.orc_file.specs.Layout.{magic}
-use Rattle.orc_file.specs.Stripes.{most_stripes, most_rows}
+use Rattle.orc_tail.specs.Layout.{magic}
+use Rattle.orc_tail.specs.Stripes.{most_stripes, most_rows}
 use Rattle.orc_file.specs.Writing.{Closed, AreClosed, AreFull, bytes_of, rows_of, infos_of, PassesBytes, Progress, HasPushed, IsCutOff}
-use Rattle.orc_file.specs.declared.fault.FileFault.TheVariants as file
+use Rattle.orc_tail.specs.declared.fault.FileFault.TheVariants as file
 use Rattle.orc_cli_write.specs.Lines.{AreLines, LinesSpell, LineSpellsRows, AreRowsOf}
 use Rattle.orc_cli_output.specs.Output.{IsWantOfMemory, IsOutside}
 use Rattle.orc_cli_output.specs.declared.fault.CliFault.{CliFault}

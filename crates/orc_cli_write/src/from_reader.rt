@@ -5,7 +5,7 @@ ghost use Rattle.orc_values.specs.Shapes.{Shape};
 ghost use Rattle.orc_types.specs.SchemaText.{HasText};
 ghost use Rattle.orc_file.specs.Progress.{progress};
 ghost use Rattle.orc_file.specs.Writing.{IsWhole};
-ghost use Rattle.orc_file.specs.declared.fault.FileFault.TheVariants as file;
+ghost use Rattle.orc_tail.specs.declared.fault.FileFault.TheVariants as file;
 ghost use Rattle.orc_cli_write.specs.Lines.{AreRowsOf};
 ghost use Rattle.orc_cli_write.specs.Writes.{IsOfWriter, IsWantOfLines, IsWantOfWrite, EndsInLines, PushesAlso};
 ghost use Rattle.orc_cli_write.specs.Reads.{BeginWith, LeavesReading, RefusesLines};

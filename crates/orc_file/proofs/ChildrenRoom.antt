@@ -9,7 +9,7 @@ use Rattle.orc_values.proofs.Deeper.{width_pos, cells-add, elements-length, keys
 use Rattle.orc_stats.specs.declared.kind.StatKind.TheVariants as kind
 use Rattle.orc_stats.specs.Kinds.{kind_of, kind_of_scalar}
 use Rattle.orc_stripe_writer.specs.WrittenStripe.{AreFew}
-use Rattle.orc_file.specs.Statistics.{kind_at}
+use Rattle.orc_tail.specs.Statistics.{kind_at}
 use Rattle.std.proofs.lemmas.Bool.Decides.{leb_tells}
 
 -- the children of a cell of the type; what contains no other, and a struct, has none

@@ -22,7 +22,7 @@ use Rattle.orc_column_reader.specs.Spellings.{AllStand, joined}
 use Rattle.orc_column_reader.specs.Columns.{IsText, IsWord}
 use Rattle.orc_column_reader.specs.Directory.{slice, is_of}
 use Rattle.orc_column_reader.specs.Stripe.{Streams, SpellsTexts, IsColumn, IsStripe, has_dictionary, columns_of}
-use Rattle.orc_file.proofs.TextLengths.{HasShortTexts}
+use Rattle.orc_tail.proofs.TextLengths.{HasShortTexts}
 use Rattle.orc_file.proofs.WrittenBits.{least_is}
 
 -- ---- cells

@@ -10,7 +10,7 @@ use Rattle.orc_values.proofs.Together.{cells-append}
 use Rattle.orc_stats.specs.declared.kind.StatKind.{StatKind}
 use Rattle.orc_stats.specs.Statistics.{stat}
 use Rattle.orc_stats.specs.Whole.{keeps_sum, whole}
-use Rattle.orc_file.specs.Statistics.{kind_at}
+use Rattle.orc_tail.specs.Statistics.{kind_at}
 use Rattle.orc_file.specs.FileRows.{joined}
 use Rattle.orc_file.specs.Honest.{whole_of, less_sum, each_fits}
 

@@ -1,17 +1,4 @@
-pub mod KeptLemmas
-pub mod StripeLemmas
-pub mod Columns
-pub mod Seams
-pub mod StatLaws
-pub mod ShortScript
-pub mod ImageLaws
-pub mod TailText
-pub mod TailLemmas
-pub mod TailCover
-pub mod EndLemmas
-pub mod CapLemmas
-pub mod Opened
-pub mod ReadBits
+pub mod StripeCapLemmas
 pub mod RowLemmas
 pub mod RowFronts
 pub mod HonestLemmas
@@ -27,6 +14,5 @@ pub mod WrittenBits
 pub mod WrittenLaws
 pub mod OneWritten
 pub mod LimitLemmas
-pub mod TextLengths
 pub mod ColumnTexts
 pub mod ShortFile

@@ -10,7 +10,7 @@ use Rattle.orc_values.specs.Columns.{cells}
 use Rattle.orc_stats.specs.declared.stat.Stat.{Stat}
 use Rattle.orc_stripe_writer.specs.declared.options.Options.{Options}
 use Rattle.orc_file.specs.Counts.{with_row, are_few, PassesLimit}
-use Rattle.orc_file.specs.Stripes.{stripes_rows}
+use Rattle.orc_tail.specs.Stripes.{stripes_rows}
 use Rattle.orc_file.specs.Writing.{Closed, AreClosed, AreFull, rows_of, infos_of}
 use Rattle.orc_file.specs.RowLimits.{PassesByRows}
 use Rattle.orc_file.proofs.Spread.{HasPushed}

@@ -10,10 +10,10 @@ use Rattle.orc_values.specs.Cells.{Cell}
 use Rattle.orc_stats.specs.declared.stat.Stat.{Stat}
 use Rattle.orc_stripe_writer.specs.WrittenStripe.{IsWrittenStripe, HaveStats, column_stat}
 use Rattle.orc_stripe_writer.proofs.StripeLaws.{one_stripe}
-use Rattle.orc_file.specs.Layout.{magic}
-use Rattle.orc_file.specs.Images.{tail_text}
+use Rattle.orc_tail.specs.Layout.{magic}
+use Rattle.orc_tail.specs.Images.{tail_text}
 use Rattle.orc_file.specs.Writing.{Closed, IsClosed, AreClosed, bytes_of, rows_of, infos_of, stats_of, AreFilled, written_tail, IsWrittenFile}
-use Rattle.orc_file.specs.declared.tail.Tail.{Tail}
+use Rattle.orc_tail.specs.declared.tail.Tail.{Tail}
 use Rattle.orc_file.proofs.StatTests.{some_or}
 
 -- ---- a stripe

@@ -8,15 +8,15 @@ use Rattle.orc_wire.specs.declared.stripe_info.StripeInfo.{StripeInfo}
 use Rattle.orc_values.specs.Cells.{Cell}
 use Rattle.orc_values.specs.Shapes.{Shape}
 use Rattle.orc_column_reader.specs.Stripe.{IsStripe}
-use Rattle.orc_file.specs.Stripes.{stripe_at, stripe_length}
-use Rattle.orc_file.specs.Tails.{IsTail, ReadFault}
+use Rattle.orc_tail.specs.Stripes.{stripe_at, stripe_length}
+use Rattle.orc_tail.specs.Tails.{IsTail, ReadFault}
 use Rattle.orc_file.specs.FileRows.{stripe_bytes, HasRows, HasMore, FileIs}
-use Rattle.orc_file.specs.Caps.{AllWithin, CappedRefused, FirstCapped}
-use Rattle.orc_file.specs.declared.tail.Tail.{Tail}
-use Rattle.orc_file.specs.declared.fault.FileFault.{FileFault}
-use Rattle.orc_file.specs.declared.fault.FileFault.TheVariants.{SourceFailed, OutOfMemory}
-use Rattle.orc_file.proofs.CapLemmas.{refused_within}
-use Rattle.orc_file.proofs.StripeLemmas.{next_is}
+use Rattle.orc_file.specs.StripeCaps.{AllWithin, CappedRefused, FirstCapped}
+use Rattle.orc_tail.specs.declared.tail.Tail.{Tail}
+use Rattle.orc_tail.specs.declared.fault.FileFault.{FileFault}
+use Rattle.orc_tail.specs.declared.fault.FileFault.TheVariants.{SourceFailed, OutOfMemory}
+use Rattle.orc_file.proofs.StripeCapLemmas.{refused_within}
+use Rattle.orc_tail.proofs.StripeLemmas.{next_is}
 use Rattle.orc_file.proofs.RowLemmas.{one_rows, no_file}
 
 -- The rows of the first n stripes: with those of the others they are all rows, and the first of the others that

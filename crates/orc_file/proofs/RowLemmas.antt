@@ -7,11 +7,11 @@ use Rattle.orc_wire.specs.declared.stripe_info.StripeInfo.{StripeInfo}
 use Rattle.orc_values.specs.Cells.{Cell}
 use Rattle.orc_values.specs.Shapes.{Shape}
 use Rattle.orc_stripe.proofs.OneStripe.{one_stripe}
-use Rattle.orc_file.specs.Stripes.{stripe_length, stripe_end, stripes_length, stripe_at, AllBefore, most_bytes}
-use Rattle.orc_file.specs.Tails.{tail_tests}
+use Rattle.orc_tail.specs.Stripes.{stripe_length, stripe_end, stripes_length, stripe_at, AllBefore, most_bytes}
+use Rattle.orc_tail.specs.Tails.{tail_tests}
 use Rattle.orc_file.specs.FileRows.{stripe_bytes, joined, AreOfStripes, HasRows, FileIs, FirstRefused, cut_rows}
-use Rattle.orc_file.specs.declared.tail.Tail.{Tail}
-use Rattle.orc_file.specs.declared.fault.FileFault.{FileFault}
+use Rattle.orc_tail.specs.declared.tail.Tail.{Tail}
+use Rattle.orc_tail.specs.declared.fault.FileFault.{FileFault}
 
 -- a stripe is no longer than all of them together
 pub stripe_few : (ss : List StripeInfo) (i : ℕ) → i < length ss → stripe_length (stripe_at ss i) ≤ stripes_length ss

@@ -17,15 +17,15 @@ use Rattle.orc_stats.specs.Messages.{message_of}
 use Rattle.orc_stats.specs.Whole.{keeps_sum}
 use Rattle.orc_stats.specs.Joining as joining
 use Rattle.orc_stripe_writer.specs.WrittenStripe.{column_stat}
-use Rattle.orc_file.specs.Layout.{magic}
-use Rattle.orc_file.specs.Stripes.{stripes_length, most_stripes}
-use Rattle.orc_file.specs.Statistics.{kind_at, stripe_message}
-use Rattle.orc_file.specs.Images.{metadata_of, footer_of, script_of, tail_text, types_text}
-use Rattle.orc_file.specs.Writing.{Closed, IsClosed, AreClosed, bytes_of, infos_of, stats_of, version_of, column_stats, file_stats, written_tail, IsWrittenFile, IsCutOff, IsFrontOfFile}
-use Rattle.orc_file.specs.declared.tail.Tail.{Tail}
+use Rattle.orc_tail.specs.Layout.{magic}
+use Rattle.orc_tail.specs.Stripes.{stripes_length, most_stripes}
+use Rattle.orc_tail.specs.Statistics.{kind_at, stripe_message, column_stats, file_stats}
+use Rattle.orc_tail.specs.Images.{metadata_of, footer_of, script_of, tail_text, types_text}
+use Rattle.orc_file.specs.Writing.{Closed, IsClosed, AreClosed, bytes_of, infos_of, stats_of, version_of, written_tail, IsWrittenFile, IsCutOff, IsFrontOfFile}
+use Rattle.orc_tail.specs.declared.tail.Tail.{Tail}
 use Rattle.orc_file.proofs.WriterLemmas.{all_length}
 use Rattle.orc_file.proofs.TailLimits.{length-of_columns}
-use Rattle.orc_file.proofs.TextLengths.{number_most, sized_most, known_most, HasShortTexts, stats_most, infos_most, pair_most, five, seven}
+use Rattle.orc_tail.proofs.TextLengths.{number_most, sized_most, known_most, HasShortTexts, stats_most, infos_most, pair_most, five, seven}
 use Rattle.orc_file.proofs.ColumnTexts.{AreShort, stripe_short, short_both, body_short, either_short}
 use Rattle.orc_file.proofs.WrittenLaws.{parts_of, each_got, each_column, file_stat, most_closed, written_rows}
 

@@ -19,8 +19,7 @@ use Rattle.orc_stats.specs.Messages.{unknown, in_limits}
 use Rattle.orc_stats.proofs.Normal.{stat-normal}
 use Rattle.orc_stats.proofs.Fitting.{cell_kind}
 use Rattle.orc_stripe_writer.specs.WrittenStripe.{AreFew, HaveStats, column_stat}
-use Rattle.orc_file.specs.Statistics.{kind_at}
-use Rattle.orc_file.specs.Writing.{column_stats}
+use Rattle.orc_tail.specs.Statistics.{kind_at, column_stats}
 use Rattle.orc_file.proofs.WriterLemmas.{both}
 use Rattle.orc_file.specs.Counts.{is_unknown, is_column_stat, are_column_stats, are_stripe_stats, are_all_stats}
 

@@ -20,12 +20,12 @@ use Rattle.orc_stats.specs.Kinds.{body_is_of}
 use Rattle.orc_stats.specs.Joining.{joined}
 use Rattle.orc_stats.specs.Messages.{unknown, in_limits, IsStat}
 use Rattle.orc_stats.proofs.Normal.{joined-normal}
-use Rattle.orc_file.specs.Stripes.{most_stripes}
-use Rattle.orc_file.specs.Statistics.{kind_at, AreOfColumns, AreStats}
-use Rattle.orc_file.specs.Images.{IsWithinLimits}
-use Rattle.orc_file.specs.Tails.{most_versions}
+use Rattle.orc_tail.specs.Stripes.{most_stripes}
+use Rattle.orc_tail.specs.Statistics.{kind_at, AreOfColumns, AreStats, of_columns, column_stats, file_stats}
+use Rattle.orc_tail.specs.Images.{IsWithinLimits}
+use Rattle.orc_tail.specs.Tails.{most_versions}
 use Rattle.orc_file.specs.Counts.{is_unknown, is_column_stat, are_column_stats, are_stripe_stats, are_all_stats, are_laid_with_few_rows}
-use Rattle.orc_file.specs.Writing.{version_of, of_columns, column_stats, file_stats, written_tail, AreWithin}
+use Rattle.orc_file.specs.Writing.{version_of, written_tail, AreWithin}
 use Rattle.orc_file.proofs.WriterLemmas.{laid_rows}
 
 -- ---- a statistic that passes the test is one of its kind

@@ -18,10 +18,10 @@ use Rattle.orc_stats.specs.declared.stat.Stat.{Stat}
 use Rattle.orc_column_reader.specs.Stripe.{IsStripe}
 use Rattle.orc_stripe_writer.specs.WrittenStripe.{AreFew}
 use Rattle.orc_io.specs.Devices.{appended}
-use Rattle.orc_file.specs.Layout.{magic}
-use Rattle.orc_file.specs.Stripes.{stripe_length, stripe_end, stripes_length, stripes_rows, IsLaid, most_stripes, most_stripe_rows, most_rows, most_bytes}
-use Rattle.orc_file.specs.Images.{tail_text}
-use Rattle.orc_file.specs.declared.tail.Tail.{Tail}
+use Rattle.orc_tail.specs.Layout.{magic}
+use Rattle.orc_tail.specs.Stripes.{stripe_length, stripe_end, stripes_length, stripes_rows, IsLaid, most_stripes, most_stripe_rows, most_rows, most_bytes}
+use Rattle.orc_tail.specs.Images.{tail_text}
+use Rattle.orc_tail.specs.declared.tail.Tail.{Tail}
 use Rattle.orc_file.specs.Counts.{are_laid_with_few_rows}
 use Rattle.orc_file.specs.Writing.{Closed, IsClosed, AreClosed, bytes_of, rows_of, infos_of, stats_of, AreFull, AreFilled, written_tail, AreWithin, IsWrittenFile, IsSomeFile, IsWhole, IsCutOff, HasTaken}
 use Rattle.orc_file.proofs.Spread.{HasKept, HasPushed, HasFilled}

@@ -34,9 +34,9 @@ use Rattle.orc_stats.specs.Messages.{message_of, few_trues, IsStat}
 use Rattle.orc_stats.specs.Whole.{without_sum}
 use Rattle.orc_stats.proofs.Normal.{stat-normal}
 use Rattle.orc_file.specs.Writing.{version_of}
-use Rattle.orc_file.proofs.Columns.{le_is}
+use Rattle.orc_tail.proofs.Columns.{le_is}
 use Rattle.orc_file.proofs.StatTests.{values_few, are_of_kind}
-use Rattle.orc_file.proofs.ReadBits.{BodyBits, where_so}
+use Rattle.orc_tail.proofs.ReadBits.{BodyBits, where_so}
 
 -- ---- the types
 

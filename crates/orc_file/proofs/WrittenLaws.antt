@@ -26,23 +26,23 @@ use Rattle.orc_stats.specs.declared.kind.StatKind.TheVariants as kind
 use Rattle.std.proofs.lemmas.List.Sums.{sum_by-append}
 use Rattle.orc_column_reader.specs.Stripe.{IsStripe}
 use Rattle.orc_stripe_writer.specs.WrittenStripe.{AreFew, column_stat}
-use Rattle.orc_file.specs.Layout.{magic}
-use Rattle.orc_file.specs.Stripes.{stripe_length, stripe_end, stripes_length, most_stripes}
-use Rattle.orc_file.specs.Statistics.{kind_at}
-use Rattle.orc_file.specs.Tails.{IsTail}
-use Rattle.orc_file.specs.Images.{image, tail_text, IsWithinLimits, HasBits}
+use Rattle.orc_tail.specs.Layout.{magic}
+use Rattle.orc_tail.specs.Stripes.{stripe_length, stripe_end, stripes_length, most_stripes}
+use Rattle.orc_tail.specs.Statistics.{kind_at, of_columns, column_stats, file_stats}
+use Rattle.orc_tail.specs.Tails.{IsTail}
+use Rattle.orc_tail.specs.Images.{image, tail_text, IsWithinLimits, HasBits}
 use Rattle.orc_file.specs.FileRows.{stripe_bytes, joined, AreOfStripes, HasRows, FileIs, cut_rows}
 use Rattle.orc_file.specs.Honest.{AreHonest, Honest, whole_of, told_at, known_whole_of, AreWhole, HasWholeStats}
 use Rattle.orc_file.specs.Counts.{are_laid_with_few_rows, are_stripe_stats, are_all_stats}
-use Rattle.orc_file.specs.Writing.{Closed, IsClosed, AreClosed, bytes_of, rows_of, infos_of, stats_of, of_columns, column_stats, file_stats, written_tail, IsWrittenFile}
-use Rattle.orc_file.specs.declared.tail.Tail.{Tail}
+use Rattle.orc_file.specs.Writing.{Closed, IsClosed, AreClosed, bytes_of, rows_of, infos_of, stats_of, written_tail, IsWrittenFile}
+use Rattle.orc_tail.specs.declared.tail.Tail.{Tail}
 use Rattle.orc_file.proofs.WriterLemmas as writer
 use Rattle.orc_file.proofs.WriterLemmas.{both, root_rows, has_root, laid_places, all_length}
 use Rattle.orc_file.proofs.StatTests.{stripe_stats_are, are_of_kind, some_or}
 use Rattle.orc_file.proofs.TailLimits.{tail_within, length-of_columns}
 use Rattle.orc_file.proofs.WrittenBits.{version_bits, types_bits, FewChildren, cells_stat, cells_whole}
-use Rattle.orc_file.proofs.ImageLaws.{image_is}
-use Rattle.orc_file.proofs.Seams.{between}
+use Rattle.orc_tail.proofs.ImageLaws.{image_is}
+use Rattle.orc_tail.proofs.Seams.{between}
 use Rattle.orc_file.proofs.ChildrenRoom.{child_number, few_children}
 use Rattle.orc_file.proofs.HonestLemmas.{all_cells}
 use Rattle.orc_file.proofs.RowLemmas.{parts_cut}

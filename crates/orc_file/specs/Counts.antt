@@ -13,8 +13,8 @@ use Rattle.orc_stats.specs.declared.stat.Body.TheVariants as body
 use Rattle.orc_stats.specs.Kinds.{body_is_of}
 use Rattle.orc_stats.specs.Messages.{in_limits}
 use Rattle.orc_column_reader.specs.Stripe.{cell_limit}
-use Rattle.orc_file.specs.Statistics.{kind_at}
-use Rattle.orc_file.specs.Stripes.{stripe_end, most_stripes, most_rows}
+use Rattle.orc_tail.specs.Statistics.{kind_at}
+use Rattle.orc_tail.specs.Stripes.{stripe_end, most_stripes, most_rows}
 
 -- ---- cells
 

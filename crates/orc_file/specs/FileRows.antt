@@ -13,11 +13,11 @@ use Rattle.orc_column_reader.specs.Faults.{RowsFault}
 use Rattle.orc_column_reader.specs.declared.fault.StripeFault.{StripeFault}
 use Rattle.orc_column_reader.specs.declared.fault.StripeFault.TheVariants as stripe
 use Rattle.orc_io.specs.Devices.{bytes_at}
-use Rattle.orc_file.specs.Stripes.{stripe_length, stripe_at}
-use Rattle.orc_file.specs.Tails.{IsTail}
-use Rattle.orc_file.specs.declared.tail.Tail.{Tail}
-use Rattle.orc_file.specs.declared.fault.FileFault.{FileFault}
-use Rattle.orc_file.specs.declared.fault.FileFault.TheVariants.{Stripe}
+use Rattle.orc_tail.specs.Stripes.{stripe_length, stripe_at}
+use Rattle.orc_tail.specs.Tails.{IsTail}
+use Rattle.orc_tail.specs.declared.tail.Tail.{Tail}
+use Rattle.orc_tail.specs.declared.fault.FileFault.{FileFault}
+use Rattle.orc_tail.specs.declared.fault.FileFault.TheVariants.{Stripe}
 
 -- a stripe's bytes, of those of its file
 abbrev pub stripe_bytes : StripeInfo → List ℕ → List ℕ

@@ -10,9 +10,9 @@ use Rattle.orc_stats.specs.Statistics.{stat}
 use Rattle.orc_stats.specs.Whole.{keeps_sum, without_sum, whole}
 use Rattle.orc_stats.specs.Known.{Agrees, known_whole}
 use Rattle.orc_stripe_writer.specs.WrittenStripe.{column_stat}
-use Rattle.orc_file.specs.Statistics.{kind_at}
+use Rattle.orc_tail.specs.Statistics.{kind_at}
 use Rattle.orc_file.specs.FileRows.{cut_rows}
-use Rattle.orc_file.specs.declared.tail.Tail.{Tail}
+use Rattle.orc_tail.specs.declared.tail.Tail.{Tail}
 
 -- one statistic of each of the first n types, which agrees with that of its cells in the rows
 pub record AgreeStats (s : Shape) (rows : List Cell) (n : ℕ) (stats : List Stat) : Type 0 where

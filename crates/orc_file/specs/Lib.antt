@@ -1,11 +1,5 @@
-pub mod Tests
-pub mod Layout
-pub mod Stripes
-pub mod Statistics
-pub mod Tails
-pub mod Images
 pub mod FileRows
-pub mod Caps
+pub mod StripeCaps
 pub mod RowFaults
 pub mod RowLimits
 pub mod Honest

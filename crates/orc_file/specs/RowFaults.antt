@@ -2,12 +2,12 @@
 use Rattle.std.specs.Prelude.{◌≡◌, ◌≢◌, ℕ, ◌<◌, ◌≤◌, List, length}
 use Rattle.orc_column_reader.specs.declared.fault.StripeFault.{StripeFault}
 use Rattle.orc_column_reader.specs.declared.fault.StripeFault.TheVariants as stripe
-use Rattle.orc_file.specs.Stripes.{stripe_length, stripe_at}
+use Rattle.orc_tail.specs.Stripes.{stripe_length, stripe_at}
 use Rattle.orc_file.specs.FileRows.{IsNoStripe}
-use Rattle.orc_file.specs.declared.tail.Tail.{Tail}
-use Rattle.orc_file.specs.declared.fault.FileFault.{FileFault}
-use Rattle.orc_file.specs.declared.fault.FileFault.TheVariants.{NotOrc, BadPostscript, Compressed, Encrypted, BadLengths, BadFooter, BadMetadata, BadTypes, BadStripe, RowCount, Limit, Stripe}
-use Rattle.orc_file.specs.declared.fault.FileFault.TheVariants.{RowShape, SourceFailed, WriteFailed, OutOfMemory, Failed}
+use Rattle.orc_tail.specs.declared.tail.Tail.{Tail}
+use Rattle.orc_tail.specs.declared.fault.FileFault.{FileFault}
+use Rattle.orc_tail.specs.declared.fault.FileFault.TheVariants.{NotOrc, BadPostscript, Compressed, Encrypted, BadLengths, BadFooter, BadMetadata, BadTypes, BadStripe, RowCount, Limit, Stripe}
+use Rattle.orc_tail.specs.declared.fault.FileFault.TheVariants.{RowShape, SourceFailed, WriteFailed, OutOfMemory, Failed}
 
 -- a stripe that the tail names is longer than the cap
 abbrev pub HasLongStripe : ℕ → Tail → Type 0

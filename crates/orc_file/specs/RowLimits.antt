@@ -5,7 +5,7 @@ use Rattle.orc_values.specs.Cells.{Cell}
 use Rattle.orc_values.specs.Columns.{cells}
 use Rattle.orc_column_reader.specs.Stripe.{cell_limit}
 use Rattle.orc_stripe_writer.specs.declared.options.Options.{Options}
-use Rattle.orc_file.specs.Stripes.{most_stripes, most_rows}
+use Rattle.orc_tail.specs.Stripes.{most_stripes, most_rows}
 
 -- With this row behind those pushed a limit would be passed: of stripes, of a file's rows, or of a column's cells in the
 -- stripe that is still open. The first of the rows pushed fill so many stripes; those behind them are fewer than one has.

@@ -1,6 +1,6 @@
 -- What a writer of files has written, and what it keeps (ORC specification, "File Tail"). Where a stripe ends,
 -- what the tail says and the limits are this project's.
-use Rattle.std.specs.Prelude.{◌≡◌, ℕ, zero, suc, ◌+◌, ◌<◌, ◌≤◌, ◌^◌, List, [], ◌∷◌, ◌++◌, length, map, take, drop, Option, Some}
+use Rattle.std.specs.Prelude.{◌≡◌, ℕ, ◌+◌, ◌<◌, ◌≤◌, ◌^◌, List, [], ◌∷◌, ◌++◌, length, map, take, Option, Some}
 use Rattle.std.specs.List.{flat_map}
 use Rattle.orc_rle.specs.declared.sign.Rle.{Rle}
 use Rattle.orc_rle.specs.declared.sign.Rle.TheVariants.{One, Two}
@@ -9,17 +9,16 @@ use Rattle.orc_values.specs.Shapes.{Shape, width}
 use Rattle.orc_types.specs.Schemas.{IsSchema}
 use Rattle.orc_values.specs.Cells.{Cell}
 use Rattle.orc_stats.specs.declared.stat.Stat.{Stat}
-use Rattle.orc_stats.specs.Joining.{joined}
 use Rattle.orc_column_reader.specs.Stripe.{IsStripe}
 use Rattle.orc_stripe_writer.specs.WrittenStripe.{IsWrittenStripe, HaveStats}
 use Rattle.orc_stripe_writer.specs.declared.options.Options.{Options}
 use Rattle.orc_io.specs.Devices.{appended}
-use Rattle.orc_file.specs.Layout.{magic}
-use Rattle.orc_file.specs.Stripes.{stripes_length, stripes_rows, most_stripes, most_rows, most_bytes}
-use Rattle.orc_file.specs.Statistics.{kind_at}
-use Rattle.orc_file.specs.Images.{tail_text}
+use Rattle.orc_tail.specs.Layout.{magic}
+use Rattle.orc_tail.specs.Stripes.{stripes_length, stripes_rows, most_stripes, most_rows, most_bytes}
+use Rattle.orc_tail.specs.Images.{tail_text}
 use Rattle.orc_file.specs.FileRows.{FileIs}
-use Rattle.orc_file.specs.declared.tail.Tail.{Tail}
+use Rattle.orc_tail.specs.declared.tail.Tail.{Tail}
+use Rattle.orc_tail.specs.Statistics.{file_stats}
 
 -- ---- stripes
 
@@ -75,19 +74,6 @@ AreFilled n (c ∷ d ∷ cs) = (length c.rows ≡ n) × AreFilled n (d ∷ cs)
 abbrev pub version_of : Rle → List ℕ
 version_of One = 0 ∷ 11 ∷ []
 version_of Two = 0 ∷ 12 ∷ []
-
--- what a word says of so many columns, from one on
-abbrev pub of_columns : (ℕ → Stat) → ℕ → ℕ → List Stat
-of_columns f c zero = []
-of_columns f c (suc n) = f c ∷ of_columns f (suc c) n
-
--- the statistics of a column in each stripe
-abbrev pub column_stats : ℕ → List (List Stat) → List Stat
-column_stats c stats = flat_map (λ (xs : List Stat). take 1 (drop c xs)) stats
-
--- those of the whole file's columns: each joined of the stripes'
-abbrev pub file_stats : Shape → List (List Stat) → List Stat
-file_stats s stats = of_columns (λ c. joined (kind_at s c) (column_stats c stats)) 0 (width s)
 
 -- the tail behind stripes with these statistics
 abbrev pub written_tail : Options → Shape → List StripeInfo → List (List Stat) → Tail

@@ -5,16 +5,13 @@ ghost use Rattle.orc_values.specs.Cells.{cells_of};
 ghost use Rattle.orc_values.specs.Columns as columns;
 ghost use Rattle.orc_values.specs.Fits as fitting;
 ghost use Rattle.orc_values.specs.Views.{views};
-ghost use Rattle.orc_file.specs.Stripes.{stripes_length, stripes_rows, most_stripes, most_rows, most_bytes};
+ghost use Rattle.orc_tail.specs.Stripes.{stripes_length, stripes_rows, most_stripes, most_rows, most_bytes};
 ghost use Rattle.orc_file.specs.Counts.{are_laid_with_few_rows, are_few, are_all_stats};
 
 mod counting;
 mod file_end;
-mod file_stats;
-mod tail_writing;
 mod writing;
 
-pub use file_stats::file_statistics;
 use orc_io::Sink;
 use orc_stats::Stat;
 use orc_stripe::Options;

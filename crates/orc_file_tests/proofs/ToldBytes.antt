@@ -1,7 +1,7 @@
 -- What a source that tells its bytes answers.
 use Rattle.std.proofs.Common.{◌≡◌, ◌<◌, ℕ, List, Option, Some, Result, Ok, Err, inl, inr, ap, subst}
 use Rattle.std.specs.Prelude.{◌⊎◌, IfOk, IfSome, MatchResult}
-use Rattle.orc_file.specs.declared.fault.FileFault.{FileFault}
+use Rattle.orc_tail.specs.declared.fault.FileFault.{FileFault}
 
 -- what is said of the bytes that are told
 pub at_told : (told : Option (List ℕ)) (bytes : List ℕ) (P : List ℕ → Type 0) → told ≡ Some bytes → IfSome told P → P bytes

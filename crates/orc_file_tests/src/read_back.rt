@@ -4,8 +4,8 @@ ghost use Rattle.std.specs.Prelude.{◌≡◌, List, MatchResult, IfOk};
 ghost use Rattle.orc_values.specs.Cells.{Cell};
 ghost use Rattle.orc_values.specs.Views.{views};
 ghost use Rattle.orc_file.specs.FileRows.{FileIs};
-ghost use Rattle.orc_file.specs.declared.tail.Tail.{Tail};
-ghost use Rattle.orc_file.specs.declared.fault.FileFault.TheVariants.{OutOfMemory};
+ghost use Rattle.orc_tail.specs.declared.tail.Tail.{Tail};
+ghost use Rattle.orc_tail.specs.declared.fault.FileFault.TheVariants.{OutOfMemory};
 
 use crate::assertions::check_same;
 use crate::rows_of_files::have_numbers;

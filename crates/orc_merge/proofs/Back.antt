@@ -2,9 +2,9 @@
 use Rattle.std.proofs.Common.{◌≡◌, ℕ, ◌<◌, List, [], ◌∷◌, ◌++◌, length, Option, refl, sym, ap, ◌∙◌, subst}
 use Rattle.std.specs.List.{AllByRecursion}
 use Rattle.orc_io.specs.Devices.{appended}
-use Rattle.orc_file.specs.Tails.{IsTail, tail_tests}
-use Rattle.orc_file.specs.Images.{IsWithinLimits}
-use Rattle.orc_file.specs.declared.tail.Tail.{Tail}
+use Rattle.orc_tail.specs.Tails.{IsTail, tail_tests}
+use Rattle.orc_tail.specs.Images.{IsWithinLimits}
+use Rattle.orc_tail.specs.declared.tail.Tail.{Tail}
 use Rattle.orc_merge.specs.Merging.{merged, IsLike, CanMerge, AreOpened, bodies, IsMerge}
 use Rattle.orc_merge.specs.Grouping.{Group, Groups, input, merge, one, and, leaves, all_leaves, Gives, AllGive, AreShort, AllShort, Wrote, AllWrote}
 use Rattle.orc_merge.specs.Outcomes.{WroteMerge}

@@ -26,9 +26,8 @@ use Rattle.orc_stats.specs.Joining.{least_children, greatest_children, total_chi
 use Rattle.orc_stats.specs.Messages.{message_of, ints_record, dates_record, texts_record, bins_record, bools_record, int_record, date_record, text_record}
 use Rattle.orc_stats.specs.Messages.{bucket_record, bin_record, collection_record, children_record}
 use Rattle.orc_values.specs.Shapes.{Shape, width}
-use Rattle.orc_file.specs.Stripes.{stripe_length, stripes_length}
-use Rattle.orc_file.specs.Statistics.{kind_at}
-use Rattle.orc_file.specs.Writing.{column_stats, of_columns, file_stats}
+use Rattle.orc_tail.specs.Stripes.{stripe_length, stripes_length}
+use Rattle.orc_tail.specs.Statistics.{kind_at, column_stats, of_columns, file_stats}
 use Rattle.orc_merge.specs.Merging.{placed}
 
 -- ---- a joined statistic's parts

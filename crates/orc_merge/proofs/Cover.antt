@@ -9,9 +9,9 @@ use Rattle.orc_types.specs.Schemas.{same_types}
 use Rattle.orc_types.proofs.Exclusion.{equal_schemas}
 use Rattle.orc_types.proofs.Decisions.{Decided, both, same_number, same_numbers}
 use Rattle.orc_stats.specs.declared.stat.Stat.{Stat}
-use Rattle.orc_file.specs.Images.{image, IsWithinLimits}
-use Rattle.orc_file.specs.declared.tail.Tail.{Tail}
-use Rattle.orc_file.proofs.TailCover.{tail_cover}
+use Rattle.orc_tail.specs.Images.{image, IsWithinLimits}
+use Rattle.orc_tail.specs.declared.tail.Tail.{Tail}
+use Rattle.orc_tail.proofs.TailCover.{tail_cover}
 use Rattle.orc_merge.specs.declared.fault.MergeFault.{MergeFault}
 use Rattle.orc_merge.specs.declared.fault.MergeFault.TheVariants as fault
 use Rattle.orc_merge.specs.Merging.{SameVersion, HasStatistics, IsLike, CanMerge, all_pairs, merged, AreOpened, bodies, IsMerge}

@@ -9,10 +9,10 @@ use Rattle.orc_stats.specs.declared.kind.StatKind.TheVariants as kind
 use Rattle.orc_stats.specs.declared.stat.Stat.{Stat}
 use Rattle.orc_stats.specs.declared.stat.Body.TheVariants as body
 use Rattle.orc_stats.specs.Statistics.{stat}
-use Rattle.orc_file.specs.declared.tail.Tail.{Tail}
+use Rattle.orc_tail.specs.declared.tail.Tail.{Tail}
 use Rattle.orc_merge.specs.declared.fault.MergeFault.TheVariants.{NoInput, SchemaDiffers, VersionDiffers, StrideDiffers, UserMetadataConflict}
 use Rattle.orc_merge.specs.Faults.{NextFault, IsRefused}
-use Rattle.orc_file.specs.Writing.{file_stats}
+use Rattle.orc_tail.specs.Statistics.{file_stats}
 use Rattle.orc_merge.specs.Merging.{distinct, merged}
 
 -- ---- the file's statistics

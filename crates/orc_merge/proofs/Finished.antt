@@ -5,12 +5,11 @@ use Rattle.std.proofs.lemmas.List.{take_all, length-map}
 use Rattle.orc_values.specs.Shapes.{Shape}
 use Rattle.orc_stats.specs.declared.stat.Stat.{Stat}
 use Rattle.orc_stats.specs.Kinds.{body_is_of}
-use Rattle.orc_file.specs.Layout.{magic}
-use Rattle.orc_file.specs.Stripes.{IsLaid}
-use Rattle.orc_file.specs.Statistics.{kind_at}
-use Rattle.orc_file.specs.Images.{IsWithinLimits, tail_text}
-use Rattle.orc_file.specs.Writing.{column_stats}
-use Rattle.orc_file.specs.declared.tail.Tail.{Tail}
+use Rattle.orc_tail.specs.Layout.{magic}
+use Rattle.orc_tail.specs.Stripes.{IsLaid}
+use Rattle.orc_tail.specs.Statistics.{kind_at, column_stats}
+use Rattle.orc_tail.specs.Images.{IsWithinLimits, tail_text}
+use Rattle.orc_tail.specs.declared.tail.Tail.{Tail}
 use Rattle.orc_merge.specs.declared.copying.Piece.{Piece}
 use Rattle.orc_merge.specs.declared.gathered.Gathered.{Gathered}
 use Rattle.orc_merge.specs.Merging.{AreOpened, IsMerge, all_stripes, merged}

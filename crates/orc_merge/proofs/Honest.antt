@@ -20,16 +20,15 @@ use Rattle.orc_stats.specs.Joining.{joined}
 use Rattle.orc_stats.specs.Whole.{has_sum, without_sum, keeps_sum, whole}
 use Rattle.orc_stats.proofs.KnownParts.{joined-agreed}
 use Rattle.orc_stats.specs.Known.{AllAgree, known_in, told_of, known_whole}
-use Rattle.orc_file.specs.Stripes.{most_stripes}
-use Rattle.orc_file.specs.Statistics.{kind_at}
+use Rattle.orc_tail.specs.Stripes.{most_stripes}
+use Rattle.orc_tail.specs.Statistics.{kind_at, column_stats, of_columns, file_stats}
 use Rattle.orc_file.specs.FileRows.{HasRows, FileIs, cut_rows}
 use Rattle.orc_file.specs.FileRows as rows
 use Rattle.orc_file.specs.Honest.{AreHonest, Honest, told_at, known_whole_of, AreWhole, HasWholeStats}
-use Rattle.orc_file.specs.Tails.{tail_tests}
-use Rattle.orc_file.specs.Images.{image}
-use Rattle.orc_file.specs.declared.tail.Tail.{Tail}
+use Rattle.orc_tail.specs.Tails.{tail_tests}
+use Rattle.orc_tail.specs.Images.{image}
+use Rattle.orc_tail.specs.declared.tail.Tail.{Tail}
 use Rattle.orc_file.proofs.RowLemmas.{parts_cut}
-use Rattle.orc_file.specs.Writing.{column_stats, of_columns, file_stats}
 use Rattle.orc_file.proofs.StatTests.{are_of_kind}
 use Rattle.orc_merge.specs.Merging.{placed, all_stripes, all_stats, merged, IsLike, stripes_of, AreOpened, bodies}
 use Rattle.orc_merge.specs.Merging.{IsMerge}

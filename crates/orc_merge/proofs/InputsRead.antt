@@ -3,12 +3,12 @@ use Rattle.std.proofs.Common.{◌≡◌, ℕ, zero, suc, ◌+◌, ◌<◌, ◌�
 use Rattle.std.specs.Prelude.{slice_index, slice_index_or}
 use Rattle.std.specs.Option.{IfSome}
 use Rattle.std.proofs.lemmas.List.{take_more, drop_more, take-append-drop, get_or-map, length-map, length_push}
-use Rattle.orc_file.specs.Stripes.{AllBefore}
-use Rattle.orc_file.specs.Tails.{IsTail, OpenFault, IsOfTail}
-use Rattle.orc_file.specs.Images.{IsWithinLimits}
-use Rattle.orc_file.specs.declared.tail.Tail.{Tail}
-use Rattle.orc_file.specs.declared.fault.FileFault.{FileFault}
-use Rattle.orc_file.specs.declared.fault.FileFault.TheVariants as file_fault
+use Rattle.orc_tail.specs.Stripes.{AllBefore}
+use Rattle.orc_tail.specs.Tails.{IsTail, OpenFault, IsOfTail}
+use Rattle.orc_tail.specs.Images.{IsWithinLimits}
+use Rattle.orc_tail.specs.declared.tail.Tail.{Tail}
+use Rattle.orc_tail.specs.declared.fault.FileFault.{FileFault}
+use Rattle.orc_tail.specs.declared.fault.FileFault.TheVariants as file_fault
 use Rattle.orc_merge.specs.declared.fault.MergeFault.{MergeFault}
 use Rattle.orc_merge.specs.declared.fault.MergeFault.TheVariants as fault
 use Rattle.orc_merge.specs.Merging.{AreOpened}

@@ -14,11 +14,10 @@ use Rattle.orc_stats.specs.declared.stat.Stat.{Stat}
 use Rattle.orc_stats.specs.Joining.{joined, trues_of}
 use Rattle.orc_stats.specs.Messages.{few_trues}
 use Rattle.orc_stats.proofs.Normal.{joined-normal}
-use Rattle.orc_file.specs.Stripes.{stripes_length, stripes_rows, most_stripes, most_stripe_rows, most_rows, most_bytes}
-use Rattle.orc_file.specs.Statistics.{kind_at, AreOfColumns, AreStats}
-use Rattle.orc_file.specs.Images.{IsWithinLimits}
-use Rattle.orc_file.specs.declared.tail.Tail.{Tail}
-use Rattle.orc_file.specs.Writing.{column_stats, of_columns, file_stats}
+use Rattle.orc_tail.specs.Stripes.{stripes_length, stripes_rows, most_stripes, most_stripe_rows, most_rows, most_bytes}
+use Rattle.orc_tail.specs.Statistics.{kind_at, AreOfColumns, AreStats, column_stats, of_columns, file_stats}
+use Rattle.orc_tail.specs.Images.{IsWithinLimits}
+use Rattle.orc_tail.specs.declared.tail.Tail.{Tail}
 use Rattle.orc_merge.specs.Merging.{HasStatistics, all_stripes, all_stats, merged, IsLike}
 use Rattle.orc_merge.proofs.Placing.{length-placed, bytes-placed, rows-placed, stripe_rows-placed, bytes-append, rows-append}
 use Rattle.orc_merge.proofs.Bits.{all-append}

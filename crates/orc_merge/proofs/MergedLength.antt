@@ -1,10 +1,10 @@
 -- How long a merged file is: its stripes are few, so it is short where its tail's text is.
 use Rattle.std.proofs.Common.{◌≡◌, ℕ, ◌+◌, ◌<◌, ◌≤◌, List, [], ◌∷◌, ◌++◌, length, subst, sym, arith, length-append}
 use Rattle.std.specs.List.{concat}
-use Rattle.orc_file.specs.Layout.{magic}
-use Rattle.orc_file.specs.Stripes.{stripes_length}
-use Rattle.orc_file.specs.Images.{image, tail_text}
-use Rattle.orc_file.specs.declared.tail.Tail.{Tail}
+use Rattle.orc_tail.specs.Layout.{magic}
+use Rattle.orc_tail.specs.Stripes.{stripes_length}
+use Rattle.orc_tail.specs.Images.{image, tail_text}
+use Rattle.orc_tail.specs.declared.tail.Tail.{Tail}
 use Rattle.orc_merge.specs.Merging.{placed, all_stripes, Merged, AreOpened, bodies, IsMerge}
 use Rattle.orc_merge.proofs.Placing.{bytes-placed, length-concat}
 use Rattle.orc_merge.proofs.Opened.{all_lengths}

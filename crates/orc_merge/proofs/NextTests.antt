@@ -7,11 +7,10 @@ use Rattle.orc_values.specs.Shapes.{Shape, width}
 use Rattle.orc_stats.specs.declared.stat.Stat.{Stat}
 use Rattle.orc_stats.specs.Kinds.{body_is_of}
 use Rattle.orc_stats.specs.Joining.{joined}
-use Rattle.orc_file.specs.Stripes.{most_rows, most_bytes}
-use Rattle.orc_file.specs.Statistics.{kind_at, AreOfColumns, AreStats}
-use Rattle.orc_file.specs.Images.{IsWithinLimits}
-use Rattle.orc_file.specs.Writing.{column_stats, of_columns}
-use Rattle.orc_file.specs.declared.tail.Tail.{Tail}
+use Rattle.orc_tail.specs.Stripes.{most_rows, most_bytes}
+use Rattle.orc_tail.specs.Statistics.{kind_at, AreOfColumns, AreStats, column_stats, of_columns}
+use Rattle.orc_tail.specs.Images.{IsWithinLimits}
+use Rattle.orc_tail.specs.declared.tail.Tail.{Tail}
 use Rattle.orc_merge.specs.declared.gathered.Gathered.{Gathered}
 use Rattle.orc_merge.specs.declared.fault.MergeFault.{MergeFault}
 use Rattle.orc_merge.specs.declared.fault.MergeFault.TheVariants as fault

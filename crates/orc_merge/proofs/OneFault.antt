@@ -1,9 +1,9 @@
 -- Inputs have one merged file at most, and one fault is the first.
 use Rattle.std.proofs.Common.{◌≡◌, ℕ, ◌⊎◌, inl, inr, List, [], ◌∷◌, ◌++◌, length, refl, sym, ap, ◌∙◌, subst}
 use Rattle.std.specs.List.{concat}
-use Rattle.orc_file.specs.Tails.{tail_tests}
-use Rattle.orc_file.specs.Images.{image}
-use Rattle.orc_file.specs.declared.tail.Tail.{Tail}
+use Rattle.orc_tail.specs.Tails.{tail_tests}
+use Rattle.orc_tail.specs.Images.{image}
+use Rattle.orc_tail.specs.declared.tail.Tail.{Tail}
 use Rattle.orc_merge.specs.declared.fault.MergeFault.{MergeFault}
 use Rattle.orc_merge.specs.Merging.{Merged, AreOpened, bodies, IsMerge}
 use Rattle.orc_merge.specs.Faults.{Tested, NextFault, AreGathered, InputFault, IsRefusedAt, IsRefused, AreOne}

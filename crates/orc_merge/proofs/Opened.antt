@@ -3,13 +3,13 @@ use Rattle.std.proofs.Common.{◌≡◌, ℕ, ◌+◌, ◌≤◌, List, [], ◌�
 use Rattle.std.specs.List.{AllByRecursion}
 use Rattle.std.proofs.lemmas.List.{map-append, length-take-le, length-drop}
 use Rattle.orc_wire.specs.declared.stripe_info.StripeInfo.{StripeInfo}
-use Rattle.orc_file.specs.Stripes.{stripe_length, AllBefore}
+use Rattle.orc_tail.specs.Stripes.{stripe_length, AllBefore}
 use Rattle.orc_file.specs.FileRows.{stripe_bytes}
-use Rattle.orc_file.specs.Tails.{tail_tests}
-use Rattle.orc_file.specs.Images.{IsWithinLimits, HasBits}
-use Rattle.orc_file.specs.declared.tail.Tail.{Tail}
-use Rattle.orc_file.proofs.Opened.{tail_within, tail_before}
-use Rattle.orc_file.proofs.ReadBits.{tail_bits}
+use Rattle.orc_tail.specs.Tails.{tail_tests}
+use Rattle.orc_tail.specs.Images.{IsWithinLimits, HasBits}
+use Rattle.orc_tail.specs.declared.tail.Tail.{Tail}
+use Rattle.orc_tail.proofs.Opened.{tail_within, tail_before}
+use Rattle.orc_tail.proofs.ReadBits.{tail_bits}
 use Rattle.orc_merge.specs.Merging.{all_stripes, stripes_of, AreOpened, bodies}
 
 pub opened_split : (xs ys : List (List ℕ)) (ts : List Tail) → AreOpened (xs ++ ys) ts

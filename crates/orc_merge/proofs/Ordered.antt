@@ -10,11 +10,10 @@ use Rattle.orc_values.specs.Shapes.{Shape, width}
 use Rattle.orc_stats.specs.declared.stat.Stat.{Stat}
 use Rattle.orc_stats.specs.Joining.{joined}
 use Rattle.orc_stats.proofs.Shuffled.{joined-shuffled}
-use Rattle.orc_file.specs.Stripes.{stripes_length}
-use Rattle.orc_file.specs.Statistics.{kind_at}
-use Rattle.orc_file.specs.Images.{image, IsWithinLimits}
-use Rattle.orc_file.specs.declared.tail.Tail.{Tail}
-use Rattle.orc_file.specs.Writing.{column_stats, of_columns, file_stats}
+use Rattle.orc_tail.specs.Stripes.{stripes_length}
+use Rattle.orc_tail.specs.Statistics.{kind_at, column_stats, of_columns, file_stats}
+use Rattle.orc_tail.specs.Images.{image, IsWithinLimits}
+use Rattle.orc_tail.specs.declared.tail.Tail.{Tail}
 use Rattle.orc_merge.specs.Merging.{Agree, all_stripes, all_stats, all_pairs, merged, IsLike, CanMerge, Merged}
 use Rattle.orc_merge.specs.Merging.{AreOpened, bodies, IsMerge}
 use Rattle.orc_merge.proofs.Reordered.{Reordered, nil, cons, first_two, trans, of_permutation}

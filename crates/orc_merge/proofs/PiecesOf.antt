@@ -7,9 +7,9 @@ use Rattle.std.proofs.lemmas.List.Concat.{flat_map-append}
 use Rattle.std.proofs.lemmas.List.Elements.{All-from_recursion}
 use Rattle.orc_wire.specs.declared.stripe_info.StripeInfo.{StripeInfo}
 use Rattle.orc_io.specs.Devices.{bytes_at}
-use Rattle.orc_file.specs.Stripes.{stripe_length, AllBefore}
+use Rattle.orc_tail.specs.Stripes.{stripe_length, AllBefore}
 use Rattle.orc_file.specs.FileRows.{stripe_bytes}
-use Rattle.orc_file.specs.declared.tail.Tail.{Tail}
+use Rattle.orc_tail.specs.declared.tail.Tail.{Tail}
 use Rattle.orc_merge.specs.declared.copying.Piece.{Piece}
 use Rattle.orc_merge.specs.Merging.{AreOpened, bodies, stripes_of}
 use Rattle.orc_merge.specs.Copies.{piece_bytes, pieces_bytes}

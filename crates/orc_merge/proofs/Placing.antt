@@ -4,7 +4,7 @@ use Rattle.std.specs.List.{concat, AllByRecursion}
 use Rattle.std.proofs.lemmas.List.{take_at, drop_at}
 use Rattle.orc_wire.specs.declared.stripe_info.StripeInfo.{StripeInfo}
 use Rattle.orc_io.specs.Devices.{bytes_at}
-use Rattle.orc_file.specs.Stripes.{stripe_length, stripes_length, stripes_rows, most_stripe_rows, IsLaid}
+use Rattle.orc_tail.specs.Stripes.{stripe_length, stripes_length, stripes_rows, most_stripe_rows, IsLaid}
 use Rattle.orc_file.specs.FileRows.{stripe_bytes}
 use Rattle.orc_merge.specs.Merging.{placed}
 

@@ -6,11 +6,11 @@ use Rattle.orc_wire.specs.declared.stripe_info.StripeInfo.{StripeInfo}
 use Rattle.orc_values.specs.Cells.{Cell}
 use Rattle.orc_values.specs.Shapes.{Shape}
 use Rattle.orc_column_reader.specs.Stripe.{IsStripe}
-use Rattle.orc_file.specs.Stripes.{stripe_length}
+use Rattle.orc_tail.specs.Stripes.{stripe_length}
 use Rattle.orc_file.specs.FileRows.{stripe_bytes, joined, AreOfStripes, HasRows, FileIs}
-use Rattle.orc_file.specs.Tails.{tail_tests, IsTail}
-use Rattle.orc_file.specs.Images.{image}
-use Rattle.orc_file.specs.declared.tail.Tail.{Tail}
+use Rattle.orc_tail.specs.Tails.{tail_tests, IsTail}
+use Rattle.orc_tail.specs.Images.{image}
+use Rattle.orc_tail.specs.declared.tail.Tail.{Tail}
 use Rattle.orc_file.proofs.WriterLemmas.{moved}
 use Rattle.orc_merge.specs.Merging.{placed, all_stripes, merged, IsLike, CanMerge, Merged, stripes_of, AreOpened, bodies, IsMerge}
 use Rattle.orc_merge.specs.Grouping.{HaveRows}

@@ -9,10 +9,10 @@ use Rattle.std.proofs.lemmas.List.Elements.{Contains-append_left, Contains-appen
 use Rattle.orc_wire.specs.declared.stripe_info.StripeInfo.{StripeInfo}
 use Rattle.orc_wire.specs.declared.footer.UserMetadataItem.{UserMetadataItem}
 use Rattle.orc_stats.specs.declared.stat.Stat.{Stat}
-use Rattle.orc_file.specs.declared.tail.Tail.{Tail}
+use Rattle.orc_tail.specs.declared.tail.Tail.{Tail}
 use Rattle.orc_values.specs.Shapes.{Shape}
-use Rattle.orc_file.specs.Images.{IsWithinLimits}
-use Rattle.orc_file.specs.Writing.{file_stats}
+use Rattle.orc_tail.specs.Images.{IsWithinLimits}
+use Rattle.orc_tail.specs.Statistics.{file_stats}
 use Rattle.orc_merge.specs.Merging.{placed, distinct, Agree, HasStatistics, all_stripes, all_stats, all_pairs, merged, IsLike, CanMerge}
 use Rattle.orc_merge.proofs.Placing.{unplaced, unplaced-placed, placed_same}
 use Rattle.orc_merge.proofs.Limits.{room_of, room_both, limits_of}

@@ -2,11 +2,11 @@
 use Rattle.std.proofs.Common.{◌≡◌, ℕ, ◌<◌, List, [], ◌∷◌, length, sym, ◌∙◌, arith}
 use Rattle.std.specs.List.{concat, AllByRecursion}
 use Rattle.orc_wire.specs.CanonicalMessages.{stripe_info_text}
-use Rattle.orc_file.specs.Layout.{magic}
-use Rattle.orc_file.specs.Tails.{IsTail}
-use Rattle.orc_file.specs.Images.{image, tail_text, IsWithinLimits, HasBits}
-use Rattle.orc_file.specs.declared.tail.Tail.{Tail}
-use Rattle.orc_file.proofs.ImageLaws.{image_is}
+use Rattle.orc_tail.specs.Layout.{magic}
+use Rattle.orc_tail.specs.Tails.{IsTail}
+use Rattle.orc_tail.specs.Images.{image, tail_text, IsWithinLimits, HasBits}
+use Rattle.orc_tail.specs.declared.tail.Tail.{Tail}
+use Rattle.orc_tail.proofs.ImageLaws.{image_is}
 use Rattle.orc_merge.specs.Merging.{distinct, all_stripes, all_stats, all_pairs, merged, CanMerge, stripes_of, AreOpened, bodies}
 use Rattle.orc_merge.proofs.Placing.{laid-placed, bytes-placed, length-concat, found_again}
 use Rattle.orc_merge.proofs.Bits.{all-append, StatBits, file_stats_bits, placed_bits, pairs_bits}

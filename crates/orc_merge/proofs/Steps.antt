@@ -2,9 +2,9 @@
 use Rattle.std.proofs.Common.{◌≡◌, ℕ, ◌<◌, List, [], ◌∷◌, ◌++◌, length, refl, sym, ap, ◌∙◌, subst}
 use Rattle.std.specs.List.{concat, AllByRecursion}
 use Rattle.std.proofs.lemmas.List.{append-nil}
-use Rattle.orc_file.specs.Tails.{IsTail}
-use Rattle.orc_file.specs.Images.{image, IsWithinLimits}
-use Rattle.orc_file.specs.declared.tail.Tail.{Tail}
+use Rattle.orc_tail.specs.Tails.{IsTail}
+use Rattle.orc_tail.specs.Images.{image, IsWithinLimits}
+use Rattle.orc_tail.specs.declared.tail.Tail.{Tail}
 use Rattle.orc_merge.specs.Merging.{HasStatistics, merged, IsLike, CanMerge, Merged, stripes_of, AreOpened, bodies, IsMerge}
 use Rattle.orc_merge.specs.Grouping.{Group, Groups, input, merge, one, and, leaves, all_leaves, Gives, AllGive, AreShort, AllShort}
 use Rattle.orc_merge.proofs.Same.{Same, Same-refl, Same-append, Same-trans, Same-merged, Agree-same, AreSound, bare, merged_same, bare_of_like}

@@ -5,11 +5,10 @@ use Rattle.std.proofs.lemmas.List.Sums.{sum_by-append}
 use Rattle.orc_values.specs.Shapes.{Shape, width}
 use Rattle.orc_stats.specs.declared.stat.Stat.{Stat}
 use Rattle.orc_stats.specs.Joining.{joined}
-use Rattle.orc_file.specs.Stripes.{stripes_length}
-use Rattle.orc_file.specs.Statistics.{kind_at}
-use Rattle.orc_file.specs.Images.{IsWithinLimits}
-use Rattle.orc_file.specs.declared.tail.Tail.{Tail}
-use Rattle.orc_file.specs.Writing.{column_stats, of_columns, file_stats}
+use Rattle.orc_tail.specs.Stripes.{stripes_length}
+use Rattle.orc_tail.specs.Statistics.{kind_at, column_stats, of_columns, file_stats}
+use Rattle.orc_tail.specs.Images.{IsWithinLimits}
+use Rattle.orc_tail.specs.declared.tail.Tail.{Tail}
 use Rattle.orc_merge.specs.Merging.{all_stripes, all_stats, merged, IsLike}
 use Rattle.orc_merge.specs.Counts.{column_count}
 use Rattle.orc_merge.specs.Limits.{AreFew}

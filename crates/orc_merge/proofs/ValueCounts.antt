@@ -7,7 +7,7 @@ use Rattle.std.proofs.lemmas.List.Sums.{sum_by-cons, sum_by-append}
 use Rattle.std.proofs.lemmas.List.Concat.{flat_map-append}
 use Rattle.std.proofs.lemmas.List.Elements.{All-from_get_or}
 use Rattle.orc_stats.specs.declared.stat.Stat.{Stat}
-use Rattle.orc_file.specs.Writing.{column_stats}
+use Rattle.orc_tail.specs.Statistics.{column_stats}
 use Rattle.orc_merge.specs.Counts.{AreCounts, column_count}
 
 -- the values of a column in a stripe

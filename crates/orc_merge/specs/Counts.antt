@@ -1,7 +1,7 @@
 -- How many values the columns of stripes have (ORC specification, "Column Statistics").
 use Rattle.std.specs.Prelude.{◌≡◌, ℕ, ◌-◌, ◌^◌, List, sum_by, min, slice_index_or}
 use Rattle.orc_stats.specs.declared.stat.Stat.{Stat}
-use Rattle.orc_file.specs.Writing.{column_stats}
+use Rattle.orc_tail.specs.Statistics.{column_stats}
 
 -- the values of a column in all stripes
 abbrev pub column_count : ℕ → List (List Stat) → ℕ

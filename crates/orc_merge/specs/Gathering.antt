@@ -2,9 +2,9 @@
 use Rattle.std.specs.Prelude.{◌≡◌, ℕ, ◌+◌, List, [], ◌∷◌, ◌++◌, map}
 use Rattle.orc_wire.specs.declared.stripe_info.StripeInfo.{StripeInfo}
 use Rattle.orc_wire.specs.declared.footer.UserMetadataItem.{UserMetadataItem}
-use Rattle.orc_file.specs.Stripes.{stripe_length}
-use Rattle.orc_file.specs.Images.{IsWithinLimits}
-use Rattle.orc_file.specs.declared.tail.Tail.{Tail}
+use Rattle.orc_tail.specs.Stripes.{stripe_length}
+use Rattle.orc_tail.specs.Images.{IsWithinLimits}
+use Rattle.orc_tail.specs.declared.tail.Tail.{Tail}
 use Rattle.orc_merge.specs.declared.copying.Piece.{Piece}
 use Rattle.orc_merge.specs.declared.user_pairs.UserPairs.{UserPairs}
 use Rattle.orc_merge.specs.declared.fault.MergeFault.{MergeFault}

@@ -1,9 +1,9 @@
 -- What stands once the first inputs, so many of them, are gathered, and what speaks of their devices.
 use Rattle.std.specs.Prelude.{◌≡◌, ℕ, ◌<◌, List, [], ◌∷◌, length, map, take, slice_index, Option, Some}
 use Rattle.std.specs.List.{AllByRecursion}
-use Rattle.orc_file.specs.Stripes.{AllBefore}
-use Rattle.orc_file.specs.Images.{IsWithinLimits}
-use Rattle.orc_file.specs.declared.tail.Tail.{Tail}
+use Rattle.orc_tail.specs.Stripes.{AllBefore}
+use Rattle.orc_tail.specs.Images.{IsWithinLimits}
+use Rattle.orc_tail.specs.declared.tail.Tail.{Tail}
 use Rattle.orc_merge.specs.declared.gathered.Gathered.{Gathered}
 use Rattle.orc_merge.specs.declared.fault.MergeFault.{MergeFault}
 use Rattle.orc_merge.specs.declared.fault.MergeFault.TheVariants.{NoInput, File, SchemaDiffers, VersionDiffers, StrideDiffers, OtherFooterFields}

@@ -1,6 +1,6 @@
 -- What of a tail is joined.
 use Rattle.std.specs.Prelude.{◌≡◌}
-use Rattle.orc_file.specs.declared.tail.Tail.{Tail}
+use Rattle.orc_tail.specs.declared.tail.Tail.{Tail}
 use Rattle.orc_merge.specs.declared.gathered.Lists.{Lists}
 
 -- lists that grow to those of a merged tail

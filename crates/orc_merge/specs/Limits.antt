@@ -1,8 +1,8 @@
 -- The limits on what inputs have together (this project's).
 use Rattle.std.specs.Prelude.{ℕ, ◌+◌, ◌^◌, ◌≤◌, List, length, sum_by}
 use Rattle.orc_stats.specs.declared.stat.Stat.{Stat}
-use Rattle.orc_file.specs.Stripes.{stripes_length, most_stripes, most_rows, most_bytes}
-use Rattle.orc_file.specs.declared.tail.Tail.{Tail}
+use Rattle.orc_tail.specs.Stripes.{stripes_length, most_stripes, most_rows, most_bytes}
+use Rattle.orc_tail.specs.declared.tail.Tail.{Tail}
 use Rattle.orc_merge.specs.Merging.{all_stripes, all_stats}
 use Rattle.orc_merge.specs.Counts.{column_count}
 

@@ -1,7 +1,7 @@
 -- What stands after a merge.
 use Rattle.std.specs.Prelude.{◌≡◌, ◌⊎◌, ℕ, ◌<◌, ◌^◌, List, length, Option}
 use Rattle.orc_io.specs.Devices.{appended}
-use Rattle.orc_file.specs.declared.tail.Tail.{Tail}
+use Rattle.orc_tail.specs.declared.tail.Tail.{Tail}
 use Rattle.orc_merge.specs.declared.fault.MergeFault.{MergeFault}
 use Rattle.orc_merge.specs.Merging.{IsMerge}
 use Rattle.orc_merge.specs.Faults.{IsRefused, IsDeviceFault}

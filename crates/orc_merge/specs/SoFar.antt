@@ -1,9 +1,9 @@
 -- What inputs have together once they are gathered.
 use Rattle.std.specs.Prelude.{◌≡◌, ℕ, ◌+◌, List, length, sum_by}
 use Rattle.std.specs.List.{AllByRecursion}
-use Rattle.orc_file.specs.Stripes.{stripes_length}
-use Rattle.orc_file.specs.Images.{IsWithinLimits}
-use Rattle.orc_file.specs.declared.tail.Tail.{Tail}
+use Rattle.orc_tail.specs.Stripes.{stripes_length}
+use Rattle.orc_tail.specs.Images.{IsWithinLimits}
+use Rattle.orc_tail.specs.declared.tail.Tail.{Tail}
 use Rattle.orc_merge.specs.declared.gathered.Gathered.{Gathered}
 use Rattle.orc_merge.specs.declared.gathered.Lists.{Lists}
 use Rattle.orc_merge.specs.Merging.{distinct, placed, all_stripes, all_stats, all_pairs, CanMerge}

@@ -2,7 +2,7 @@
 ghost use Rattle.std.specs.Prelude.{◌≡◌, ◌+◌, ◌<◌, ◌≤◌, ◌++◌, ℕ, List, Some, length, map, slice_index, IfErr, OnOk, IsErrOf, All};
 ghost use Rattle.std.specs.Bool.{OnTrue, OnFalse};
 ghost use Rattle.orc_io.specs.Devices.{appended};
-ghost use Rattle.orc_file.specs.Layout.{magic};
+ghost use Rattle.orc_tail.specs.Layout.{magic};
 ghost use Rattle.orc_merge.specs.Copies.{Copied, CopiedSome, WroteSome, IsLastOfInput};
 ghost use Rattle.orc_merge.specs.Copies.{piece_at, piece_bytes, pieces_bytes};
 

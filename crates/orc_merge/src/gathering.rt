@@ -1,10 +1,10 @@
 //! All inputs' tails are read and tested before the first byte is written.
 ghost use Rattle.std.specs.Prelude.{◌≡◌, ◌+◌, ◌<◌, ◌≤◌, ◌⊎◌, ◌++◌, ℕ, List, Some, length, map, slice_index, All, IfOk, IfErr, OnOk, IfSome, IsErrOf};
-ghost use Rattle.orc_file.specs.Layout.{magic};
-ghost use Rattle.orc_file.specs.Stripes.{IsLaid, AllBefore};
-ghost use Rattle.orc_file.specs.Tails.{IsTail, OpenFault, IsOfTail};
-ghost use Rattle.orc_file.specs.Images.{IsWithinLimits, tail_text};
-ghost use Rattle.orc_file.specs.declared.fault.FileFault.{FileFault};
+ghost use Rattle.orc_tail.specs.Layout.{magic};
+ghost use Rattle.orc_tail.specs.Stripes.{IsLaid, AllBefore};
+ghost use Rattle.orc_tail.specs.Tails.{IsTail, OpenFault, IsOfTail};
+ghost use Rattle.orc_tail.specs.Images.{IsWithinLimits, tail_text};
+ghost use Rattle.orc_tail.specs.declared.fault.FileFault.{FileFault};
 ghost use Rattle.orc_merge.specs.declared.fault.MergeFault.TheVariants as fault;
 ghost use Rattle.orc_merge.specs.Merging.{IsMerge};
 ghost use Rattle.orc_merge.specs.Faults.{IsOfBytes, IsOfMerge};

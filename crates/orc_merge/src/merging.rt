@@ -1,6 +1,6 @@
 //! The merger.
 ghost use Rattle.std.specs.Prelude.{◌≡◌, ◌<◌, ℕ, List, Some, length, map, slice_index, IfOk, IfErr, OnOk, IsErrOf};
-ghost use Rattle.orc_file.specs.declared.fault.FileFault.{FileFault};
+ghost use Rattle.orc_tail.specs.declared.fault.FileFault.{FileFault};
 ghost use Rattle.orc_merge.specs.Faults.{IsDeviceFault, IsOfBytes, IsOfMerge};
 ghost use Rattle.orc_merge.specs.Outcomes.{IsAnswer, WroteMerge, WrotePart};
 

@@ -1,6 +1,6 @@
 //! Where stripes stand, in the inputs and in the merged file.
 ghost use Rattle.std.specs.Prelude.{◌≡◌, ◌+◌, ◌<◌, ◌^◌, ◌++◌, IfOk, OnOk};
-ghost use Rattle.orc_file.specs.Stripes.{stripes_length};
+ghost use Rattle.orc_tail.specs.Stripes.{stripes_length};
 ghost use Rattle.orc_merge.specs.Merging.{placed};
 ghost use Rattle.orc_merge.specs.Gathering.{pieces_in};
 

@@ -3,8 +3,8 @@ use Rattle.std.proofs.Common.{◌≡◌, ℕ, ◌<◌, List, [], ◌∷◌, leng
 use Rattle.std.specs.Prelude.{IfSome, IfErr, MatchResult}
 use Rattle.orc_values.specs.Cells.{Cell}
 use Rattle.orc_file.specs.FileRows.{FileIs, joined}
-use Rattle.orc_file.specs.declared.tail.Tail.{Tail}
-use Rattle.orc_file.specs.declared.fault.FileFault.{FileFault}
+use Rattle.orc_tail.specs.declared.tail.Tail.{Tail}
+use Rattle.orc_tail.specs.declared.fault.FileFault.{FileFault}
 use Rattle.orc_file.proofs.RowLemmas.{one_file}
 use Rattle.orc_check.specs.Findings.{Findings}
 use Rattle.orc_check.specs.declared.finding.Finding.{Finding}

@@ -30,13 +30,13 @@ use Rattle.orc_stripe_writer.proofs.StripeLaws.{got, all_indexed, indexes_right}
 use Rattle.orc_stripe_writer.proofs.StripeReads.{index_met, columns_found, column_encoded}
 use Rattle.orc_stripe_writer.proofs.WrittenDirectory.{drop_front, from_zero}
 use Rattle.orc_stripe_writer.proofs.WrittenReads.{column_at, there}
-use Rattle.orc_file.specs.Layout.{magic}
-use Rattle.orc_file.specs.Stripes.{stripe_at, stripe_length}
-use Rattle.orc_file.specs.Images.{tail_text}
+use Rattle.orc_tail.specs.Layout.{magic}
+use Rattle.orc_tail.specs.Stripes.{stripe_at, stripe_length}
+use Rattle.orc_tail.specs.Images.{tail_text}
 use Rattle.orc_file.specs.FileRows.{stripe_bytes, FileIs, cut_rows}
 use Rattle.orc_file.specs.Writing.{Closed, IsClosed, AreClosed, bytes_of, rows_of, infos_of, IsWrittenFile}
-use Rattle.orc_file.specs.declared.tail.Tail.{Tail}
-use Rattle.orc_file.proofs.Seams.{between}
+use Rattle.orc_tail.specs.declared.tail.Tail.{Tail}
+use Rattle.orc_tail.proofs.Seams.{between}
 use Rattle.orc_file.proofs.WriterLemmas as writer
 use Rattle.orc_file.proofs.WrittenLaws.{parts_of, written_rows}
 use Rattle.orc_check.specs.Findings.{rows_at}

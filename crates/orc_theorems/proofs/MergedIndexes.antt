@@ -3,7 +3,7 @@ use Rattle.std.proofs.Common.{◌↔◌, ℕ, List, [], ◌∷◌}
 use Rattle.orc_values.specs.Cells.{Cell}
 use Rattle.orc_file.specs.FileRows.{joined, FileIs}
 use Rattle.orc_file.specs.Honest.{Honest}
-use Rattle.orc_file.specs.declared.tail.Tail.{Tail}
+use Rattle.orc_tail.specs.declared.tail.Tail.{Tail}
 use Rattle.orc_check.specs.Findings.{Findings, TellsWhole}
 use Rattle.orc_check.specs.RightIndexes.{IsIndexed, HasIndexes}
 use Rattle.orc_check.proofs.WrittenIndexes.{indexed_moved}

@@ -5,11 +5,11 @@ use Rattle.std.proofs.lemmas.List.Concat.{flat_map-cons}
 use Rattle.orc_wire.specs.declared.stripe_info.StripeInfo.{StripeInfo}
 use Rattle.orc_values.specs.Cells.{Cell}
 use Rattle.orc_values.specs.Shapes.{Shape}
-use Rattle.orc_file.specs.Stripes.{stripe_at, stripe_length}
+use Rattle.orc_tail.specs.Stripes.{stripe_at, stripe_length}
 use Rattle.orc_file.specs.FileRows.{stripe_bytes, joined, HasRows, FileIs, cut_rows}
-use Rattle.orc_file.specs.Tails.{tail_tests}
-use Rattle.orc_file.specs.Images.{image}
-use Rattle.orc_file.specs.declared.tail.Tail.{Tail}
+use Rattle.orc_tail.specs.Tails.{tail_tests}
+use Rattle.orc_tail.specs.Images.{image}
+use Rattle.orc_tail.specs.declared.tail.Tail.{Tail}
 use Rattle.orc_file.proofs.RowLemmas.{parts_cut}
 use Rattle.orc_check.specs.Findings.{rows_at}
 use Rattle.orc_check.proofs.NoFinding.{cut_many}

@@ -27,9 +27,9 @@ use Rattle.orc_row_index.specs.RunStreams.{RunStream, no_stream, bit_runs, byte_
 use Rattle.orc_row_index.proofs.ColumnPlaces.{values_more, stand_long}
 use Rattle.orc_stripe.proofs.OneStripe.{one_footer, by_footer}
 use Rattle.orc_stripe_writer.specs.Groups.{starts, bounds_of}
-use Rattle.orc_file.specs.Stripes.{stripe_at}
+use Rattle.orc_tail.specs.Stripes.{stripe_at}
 use Rattle.orc_file.specs.FileRows.{stripe_bytes, FileIs, cut_rows}
-use Rattle.orc_file.specs.declared.tail.Tail.{Tail}
+use Rattle.orc_tail.specs.declared.tail.Tail.{Tail}
 use Rattle.orc_check.specs.Findings.{rows_at}
 use Rattle.orc_check.proofs.NoFinding.{stripe_is}
 use Rattle.orc_theorems.specs.WrittenIndexes.{HasWrittenIndex, HasWrittenIndexes}

@@ -6,7 +6,7 @@ use Rattle.orc_values.specs.Shapes.{Shape}
 use Rattle.orc_stripe_writer.specs.declared.options.Options.{Options}
 use Rattle.orc_file.specs.FileRows.{FileIs}
 use Rattle.orc_file.specs.Writing.{IsWhole, IsSomeFile, IsCutOff}
-use Rattle.orc_file.specs.declared.tail.Tail.{Tail}
+use Rattle.orc_tail.specs.declared.tail.Tail.{Tail}
 use Rattle.orc_check.specs.Findings.{Findings}
 use Rattle.orc_check.specs.declared.finding.Finding.{Finding}
 use Rattle.orc_theorems.specs.Inputs.{AreFound}

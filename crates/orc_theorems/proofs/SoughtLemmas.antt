@@ -20,9 +20,9 @@ use Rattle.orc_row_index.proofs.PositionParts.{front_is, back_is}
 use Rattle.orc_stripe_writer.specs.Groups.{starts, bounds_of}
 use Rattle.orc_stripe.specs.Opened.{Opened}
 use Rattle.orc_stripe.specs.RowIndexes.{HasIndex}
-use Rattle.orc_file.specs.Stripes.{stripe_at}
+use Rattle.orc_tail.specs.Stripes.{stripe_at}
 use Rattle.orc_file.specs.FileRows.{stripe_bytes, opened_stripe, cut_rows}
-use Rattle.orc_file.specs.declared.tail.Tail.{Tail}
+use Rattle.orc_tail.specs.declared.tail.Tail.{Tail}
 use Rattle.orc_check.specs.Findings.{rows_at}
 use Rattle.orc_theorems.specs.OneRunPlaces.{SeekCounts, IsOneRunPlace, IsOneRunBitPlace, one_run, one_bit_run, AreOneRunPlaces, ColumnReadsOneRun, ReadsOneRun}
 

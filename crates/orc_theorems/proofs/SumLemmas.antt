@@ -13,10 +13,10 @@ use Rattle.orc_stats.specs.Statistics.{stat}
 use Rattle.orc_stats.specs.Known.{known_in, told_of}
 use Rattle.orc_stats.specs.Whole.{has_sum, keeps_sum, whole}
 use Rattle.orc_stripe_writer.specs.WrittenStripe.{column_stat}
-use Rattle.orc_file.specs.Statistics.{kind_at}
+use Rattle.orc_tail.specs.Statistics.{kind_at}
 use Rattle.orc_file.specs.FileRows.{joined, cut_rows}
 use Rattle.orc_file.specs.Honest.{HasWholeStats, each_fits, told_at, whole_of, known_whole_of}
-use Rattle.orc_file.specs.declared.tail.Tail.{Tail}
+use Rattle.orc_tail.specs.declared.tail.Tail.{Tail}
 use Rattle.orc_file.proofs.HonestLemmas.{all_cells}
 use Rattle.orc_merge.specs.Grouping.{HaveRows, AreHonestFiles}
 

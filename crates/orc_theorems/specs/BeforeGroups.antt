@@ -13,9 +13,9 @@ use Rattle.orc_group_reader.specs.Entering.{AgreeFrom}
 use Rattle.orc_group_reader.specs.Refusals.{present_size}
 use Rattle.orc_stripe.specs.Opened.{Opened}
 use Rattle.orc_stripe.specs.GroupCursors.{IsGroupEntry}
-use Rattle.orc_file.specs.Stripes.{stripe_at}
+use Rattle.orc_tail.specs.Stripes.{stripe_at}
 use Rattle.orc_file.specs.FileRows.{stripe_bytes, opened_stripe}
-use Rattle.orc_file.specs.declared.tail.Tail.{Tail}
+use Rattle.orc_tail.specs.declared.tail.Tail.{Tail}
 
 -- The offset that a column's positions record for its stream of a kind. Those of PRESENT come first, then those of
 -- DATA, and then those of LENGTH. A dictionary's streams have none, nor has a row index: they count from their start.

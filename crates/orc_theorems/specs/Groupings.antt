@@ -1,6 +1,6 @@
 -- Groupings of two files and of three (own).
 use Rattle.std.specs.Prelude.{◌⊎◌, ℕ, List}
-use Rattle.orc_file.specs.declared.tail.Tail.{Tail}
+use Rattle.orc_tail.specs.declared.tail.Tail.{Tail}
 use Rattle.orc_merge.specs.declared.fault.MergeFault.{MergeFault}
 use Rattle.orc_merge.specs.Merging.{IsMerge}
 use Rattle.orc_merge.specs.Faults.{IsDeviceFault}

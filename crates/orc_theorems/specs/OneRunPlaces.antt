@@ -16,9 +16,9 @@ use Rattle.orc_row_index.specs.Places.{RunRelation, BitRelation, ArePlacesBy}
 use Rattle.orc_stripe_writer.specs.Groups.{starts, bounds_of}
 use Rattle.orc_stripe.specs.Opened.{Opened}
 use Rattle.orc_stripe.specs.RowIndexes.{HasIndex}
-use Rattle.orc_file.specs.Stripes.{stripe_at}
+use Rattle.orc_tail.specs.Stripes.{stripe_at}
 use Rattle.orc_file.specs.FileRows.{stripe_bytes, opened_stripe, cut_rows}
-use Rattle.orc_file.specs.declared.tail.Tail.{Tail}
+use Rattle.orc_tail.specs.declared.tail.Tail.{Tail}
 use Rattle.orc_check.specs.Findings.{rows_at}
 
 -- What `seek` promises of the count of runs that it reads, where so many values are needed from an offset on: it rises

@@ -11,7 +11,7 @@ ghost use Rattle.orc_column_reader.specs.Stripe.{Streams, HasFooter};
 ghost use Rattle.orc_stripe.specs.Opened.{Opened};
 ghost use Rattle.orc_stripe.specs.GroupCursors.{StartsGroup};
 ghost use Rattle.orc_file.specs.FileRows.{FileIs, joined};
-ghost use Rattle.orc_file.specs.declared.tail.Tail.{Tail};
+ghost use Rattle.orc_tail.specs.declared.tail.Tail.{Tail};
 ghost use Rattle.orc_check.specs.Findings.{Findings};
 ghost use Rattle.orc_check.specs.RightIndexes.{StartsAtGroups};
 ghost use Rattle.orc_merge.specs.Grouping.{Groups, merge, all_leaves, Wrote};

@@ -4,8 +4,8 @@ ghost use Rattle.std.specs.Prelude.{◌≡◌, ◌≢◌, ℕ, List, [], drop, I
 ghost use Rattle.std.specs.Io.KnownBytes.{Appends};
 ghost use Rattle.orc_values.specs.Cells.{Cell};
 ghost use Rattle.orc_file.specs.FileRows.{FileIs};
-ghost use Rattle.orc_file.specs.declared.tail.Tail.{Tail};
-ghost use Rattle.orc_file.specs.Tails.{IsTail};
+ghost use Rattle.orc_tail.specs.declared.tail.Tail.{Tail};
+ghost use Rattle.orc_tail.specs.Tails.{IsTail};
 ghost use Rattle.orc_check.specs.declared.finding.Finding.{Finding};
 ghost use Rattle.orc_cli_output.specs.Output.{IsOutsideFile};
 ghost use Rattle.orc_cli_rows.specs.Rows.{row_lines, HaveJson};

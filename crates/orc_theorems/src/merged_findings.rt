@@ -7,7 +7,7 @@
 ghost use Rattle.std.specs.Prelude.{◌<◌, ◌^◌, ℕ, List, [], length};
 ghost use Rattle.orc_values.specs.Cells.{Cell};
 ghost use Rattle.orc_file.specs.FileRows.{FileIs, joined};
-ghost use Rattle.orc_file.specs.declared.tail.Tail.{Tail};
+ghost use Rattle.orc_tail.specs.declared.tail.Tail.{Tail};
 ghost use Rattle.orc_check.specs.Findings.{Findings};
 ghost use Rattle.orc_merge.specs.Merging.{IsMerge};
 ghost use Rattle.orc_merge.specs.Grouping.{Groups, merge, all_leaves, Wrote};

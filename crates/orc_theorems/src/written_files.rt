@@ -9,12 +9,12 @@ ghost use Rattle.orc_values.specs.Cells.{Cell};
 ghost use Rattle.orc_values.specs.Shapes.{Shape};
 ghost use Rattle.orc_stripe_writer.specs.declared.options.Options.{Options};
 ghost use Rattle.orc_io.specs.Devices.{appended};
-ghost use Rattle.orc_file.specs.Tails.{IsTail};
-ghost use Rattle.orc_file.specs.Images.{types_text};
+ghost use Rattle.orc_tail.specs.Tails.{IsTail};
+ghost use Rattle.orc_tail.specs.Images.{types_text};
 ghost use Rattle.orc_file.specs.FileRows.{FileIs};
 ghost use Rattle.orc_file.specs.Honest.{Honest, HasWholeStats};
 ghost use Rattle.orc_file.specs.Writing.{IsWhole, IsCutOff, IsFrontOfFile};
-ghost use Rattle.orc_file.specs.declared.tail.Tail.{Tail};
+ghost use Rattle.orc_tail.specs.declared.tail.Tail.{Tail};
 ghost use Rattle.orc_check.specs.Findings.{Findings};
 ghost use Rattle.orc_check.specs.declared.finding.Finding.{Finding};
 

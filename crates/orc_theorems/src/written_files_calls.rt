@@ -4,11 +4,11 @@ ghost use Rattle.std.specs.Prelude.{◌≡◌, ◌<◌, ◌^◌, ◌++◌, [], �
 ghost use Rattle.orc_values.specs.Cells.{Cell};
 ghost use Rattle.orc_values.specs.Views.{views};
 ghost use Rattle.orc_file.specs.FileRows.{FileIs};
-ghost use Rattle.orc_file.specs.Images.{types_text};
+ghost use Rattle.orc_tail.specs.Images.{types_text};
 ghost use Rattle.orc_file.specs.Progress.{progress};
 ghost use Rattle.orc_file.specs.Writing.{HasPushed, IsWhole, IsCutOff, IsFrontOfFile};
-ghost use Rattle.orc_file.specs.declared.tail.Tail.{Tail};
-ghost use Rattle.orc_file.specs.declared.fault.FileFault.TheVariants as fault;
+ghost use Rattle.orc_tail.specs.declared.tail.Tail.{Tail};
+ghost use Rattle.orc_tail.specs.declared.fault.FileFault.TheVariants as fault;
 ghost use Rattle.orc_theorems.specs.Inputs.{AreFound};
 
 use crate::memory::FileInMemory;

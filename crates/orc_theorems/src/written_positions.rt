@@ -12,7 +12,7 @@ ghost use Rattle.orc_values.specs.Shapes.{Shape};
 ghost use Rattle.orc_stripe_writer.specs.declared.options.Options.{Options};
 ghost use Rattle.orc_file.specs.FileRows.{FileIs, joined};
 ghost use Rattle.orc_file.specs.Writing.{IsWhole};
-ghost use Rattle.orc_file.specs.declared.tail.Tail.{Tail};
+ghost use Rattle.orc_tail.specs.declared.tail.Tail.{Tail};
 ghost use Rattle.orc_merge.specs.Merging.{IsMerge};
 ghost use Rattle.orc_merge.specs.Grouping.{Groups, merge, all_leaves, Wrote};
 ghost use Rattle.orc_theorems.specs.WrittenIndexes.{HasWrittenIndexes, AreIndexedAsWritten, WereWritten};

@@ -2,12 +2,13 @@
 ghost use Rattle.std.specs.Prelude.{◌≡◌, ◌≤◌, ◌⊎◌, ℕ, List, length};
 ghost use Rattle.orc_wire.specs.declared.stripe_info.StripeInfo.{StripeInfo};
 ghost use Rattle.orc_values.specs.Shapes.{Shape};
-ghost use Rattle.orc_file.specs.Tails.{IsTail, OpenFault};
+ghost use Rattle.orc_tail.specs.Tails.{IsTail, OpenFault};
 ghost use Rattle.orc_file.specs.FileRows.{FirstRefused};
-ghost use Rattle.orc_file.specs.Caps.{no_cap, IsCappedTail, CappedFault, AllWithin, FirstCapped};
-ghost use Rattle.orc_file.specs.declared.tail.Tail.{Tail};
-ghost use Rattle.orc_file.specs.declared.fault.FileFault.{FileFault};
-ghost use Rattle.orc_file.specs.declared.fault.FileFault.TheVariants.{Limit};
+ghost use Rattle.orc_tail.specs.Caps.{no_cap, IsCappedTail, CappedFault};
+ghost use Rattle.orc_file.specs.StripeCaps.{AllWithin, FirstCapped};
+ghost use Rattle.orc_tail.specs.declared.tail.Tail.{Tail};
+ghost use Rattle.orc_tail.specs.declared.fault.FileFault.{FileFault};
+ghost use Rattle.orc_tail.specs.declared.fault.FileFault.TheVariants.{Limit};
 
 /// A cap adds one refusal, `Limit`, and changes no other. The greatest one adds none: the tail and the fault of bytes
 /// are those without a cap. Where no stripe is longer than the cap, the first that is refused is the first one that has

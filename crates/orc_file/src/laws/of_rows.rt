@@ -5,11 +5,11 @@ ghost use Rattle.orc_values.specs.Cells.{Cell};
 ghost use Rattle.orc_values.specs.Shapes.{Shape};
 ghost use Rattle.orc_values.specs.Columns.{cells};
 ghost use Rattle.orc_stats.specs.Statistics.{stat};
-ghost use Rattle.orc_file.specs.Statistics.{kind_at};
+ghost use Rattle.orc_tail.specs.Statistics.{kind_at};
 ghost use Rattle.orc_file.specs.Honest.{each_fits, less_sum, whole_of};
 ghost use Rattle.orc_file.specs.FileRows.{AreOfStripes, HasRows, FileIs, FirstRefused, joined, cut_rows};
-ghost use Rattle.orc_file.specs.declared.tail.Tail.{Tail};
-ghost use Rattle.orc_file.specs.declared.fault.FileFault.{FileFault};
+ghost use Rattle.orc_tail.specs.declared.tail.Tail.{Tail};
+ghost use Rattle.orc_tail.specs.declared.fault.FileFault.{FileFault};
 
 /// Bytes are a file of one tail and one list of rows at most, and of none where a stripe is refused. The
 /// rows of each stripe are the file's, cut by the stripes' numbers of rows.

@@ -5,12 +5,12 @@ ghost use Rattle.orc_values.specs.Shapes.{Shape};
 ghost use Rattle.orc_types.specs.Schemas.{IsSchema};
 ghost use Rattle.orc_stripe_writer.specs.declared.options.Options.{Options};
 ghost use Rattle.orc_io.specs.Devices.{appended};
-ghost use Rattle.orc_file.specs.Tails.{IsTail};
-ghost use Rattle.orc_file.specs.Images.{types_text};
+ghost use Rattle.orc_tail.specs.Tails.{IsTail};
+ghost use Rattle.orc_tail.specs.Images.{types_text};
 ghost use Rattle.orc_file.specs.FileRows.{FileIs};
 ghost use Rattle.orc_file.specs.Honest.{Honest, HasWholeStats};
 ghost use Rattle.orc_file.specs.Writing.{IsWrittenFile, IsWhole, IsCutOff, IsFrontOfFile};
-ghost use Rattle.orc_file.specs.declared.tail.Tail.{Tail};
+ghost use Rattle.orc_tail.specs.declared.tail.Tail.{Tail};
 
 /// What a writer wrote of rows is a file with the tail that the writer answered and these rows: so opening it
 /// finds that tail, and reading it finds those rows and no others. The same holds of any file of a schema that

@@ -7,16 +7,15 @@ ghost use Rattle.orc_stripe.specs.Opening.{OpenFault};
 ghost use Rattle.orc_column_reader.specs.declared.fault.StripeFault.{StripeFault};
 ghost use Rattle.orc_column_reader.specs.declared.fault.StripeFault.TheVariants as stripe;
 ghost use Rattle.orc_values.specs.Views.{views};
-ghost use Rattle.orc_file.specs.Stripes.{AllBefore, most_bytes, stripe_length, stripe_at, stripes_length};
+ghost use Rattle.orc_tail.specs.Stripes.{AllBefore, most_bytes, stripe_length, stripe_at, stripes_length};
 ghost use Rattle.orc_file.specs.FileRows.{stripe_bytes, IsNoStripe};
-ghost use Rattle.orc_file.specs.Caps.{no_cap};
-ghost use Rattle.orc_file.specs.declared.fault.FileFault.TheVariants.{Stripe, SourceFailed, OutOfMemory, Limit};
+ghost use Rattle.orc_tail.specs.Caps.{no_cap};
+ghost use Rattle.orc_tail.specs.declared.fault.FileFault.TheVariants.{Stripe, SourceFailed, OutOfMemory, Limit};
 
-use crate::fault::FileFault;
 use crate::file::OrcFile;
-use crate::tail::{Tail, stripe_length};
 use orc_io::Source;
 use orc_stripe::{StripeFault, StripeView};
+use orc_tail::{FileFault, Tail, stripe_length};
 use orc_values::Row;
 use std::alloc::Global;
 

@@ -5,17 +5,18 @@ ghost use Rattle.orc_values.specs.Views.{views};
 ghost use Rattle.orc_column_reader.specs.Stripe.{IsStripe};
 ghost use Rattle.orc_column_reader.specs.declared.fault.StripeFault.{StripeFault};
 ghost use Rattle.orc_column_reader.specs.declared.fault.StripeFault.TheVariants as stripe;
-ghost use Rattle.orc_file.specs.Stripes.{stripe_at, stripe_length};
-ghost use Rattle.orc_file.specs.Tails.{IsTail, ReadFault};
+ghost use Rattle.orc_tail.specs.Stripes.{stripe_at, stripe_length};
+ghost use Rattle.orc_tail.specs.Tails.{IsTail, ReadFault};
 ghost use Rattle.orc_file.specs.FileRows.{stripe_bytes, IsNoStripe, HasMore, FileIs};
-ghost use Rattle.orc_file.specs.Caps.{no_cap, AllWithin, CappedRefused, FirstCapped};
+ghost use Rattle.orc_tail.specs.Caps.{no_cap};
+ghost use Rattle.orc_file.specs.StripeCaps.{AllWithin, CappedRefused, FirstCapped};
 ghost use Rattle.orc_file.specs.RowFaults.{IsOfRows};
-ghost use Rattle.orc_file.specs.declared.fault.FileFault.TheVariants.{Stripe, SourceFailed, OutOfMemory, Limit};
+ghost use Rattle.orc_tail.specs.declared.fault.FileFault.TheVariants.{Stripe, SourceFailed, OutOfMemory, Limit};
 
-use crate::fault::FileFault;
 use crate::file::OrcFile;
 use crate::rows::loading::stripe_rows;
 use orc_io::Source;
+use orc_tail::FileFault;
 use orc_values::{Row, owned};
 use std::alloc::{AllocError, Global};
 

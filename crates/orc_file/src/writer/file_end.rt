@@ -2,19 +2,17 @@
 ghost use Rattle.std.specs.Prelude.{◌≡◌, ◌<◌, ◌≤◌, ◌^◌, ◌⊎◌, ℕ, true, take, length, IfOk, IfErr, OnOk, OnErr, IsErrOf};
 ghost use Rattle.orc_types.specs.Schemas.{IsSchema};
 ghost use Rattle.orc_io.specs.Devices.{appended};
-ghost use Rattle.orc_file.specs.Stripes.{stripes_rows};
-ghost use Rattle.orc_file.specs.Images.{tail_text};
+ghost use Rattle.orc_tail.specs.Stripes.{stripes_rows};
+ghost use Rattle.orc_tail.specs.Images.{tail_text};
 ghost use Rattle.orc_file.specs.Counts.{are_laid_with_few_rows, are_all_stats};
 ghost use Rattle.orc_file.specs.Writing.{version_of, written_tail, AreWithin};
-ghost use Rattle.orc_file.specs.declared.fault.FileFault.TheVariants.{WriteFailed, OutOfMemory};
+ghost use Rattle.orc_tail.specs.declared.fault.FileFault.TheVariants.{WriteFailed, OutOfMemory};
 
-use crate::fault::FileFault;
-use crate::tail::Tail;
-use crate::writer::file_stats::file_statistics;
 use orc_io::{Sink, write_all};
 use orc_rle::Rle;
 use orc_stats::Stat;
 use orc_stripe_writer::Options;
+use orc_tail::{FileFault, Tail, file_statistics};
 use orc_types::Schema;
 use orc_wire::{Items, StripeInfo};
 use std::alloc::{AllocError, Global};

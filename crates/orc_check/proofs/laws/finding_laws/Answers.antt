@@ -2,8 +2,8 @@ use Rattle.std.proofs.Common.{◌<◌, ◌≤◌, List, [], ◌∷◌, length, a
 use Rattle.std.specs.List.{AllByRecursion}
 use Rattle.orc_values.specs.Shapes.{Shape, scalar, list_of, map_of, struct_of, width}
 use Rattle.orc_stats.specs.declared.stat.Stat.{Stat}
-use Rattle.orc_file.specs.Statistics.{AreStats}
-use Rattle.orc_file.proofs.Opened.{tail_within}
+use Rattle.orc_tail.specs.Statistics.{AreStats}
+use Rattle.orc_tail.proofs.Opened.{tail_within}
 use Rattle.orc_file.proofs.WrittenLaws.{written_honest, written_whole}
 use Rattle.orc_check.proofs.EachFinding.{each_found}
 use Rattle.orc_check.proofs.OneList.{one_findings}

@@ -1,6 +1,6 @@
 use Rattle.std.proofs.Common.{subst, List, ℕ}
 use Rattle.std.proofs.lemmas.Result.{err_from_is_err_and}
-use Rattle.orc_file.specs.Stripes.{stripe_at}
+use Rattle.orc_tail.specs.Stripes.{stripe_at}
 use Rattle.orc_check.proofs.CheckLemmas.{NoRows, stripe_read, stripe_named, no_view, no_columns}
 use Rattle.orc_check.proofs.stripes.check_stripe.Goals as goal
 

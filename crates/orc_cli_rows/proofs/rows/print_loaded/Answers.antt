@@ -1,5 +1,5 @@
 use Rattle.std.proofs.lemmas.Result.{err_from_is_err_and, IfErr-weaker}
-use Rattle.orc_file.specs.Stripes.{stripe_at}
+use Rattle.orc_tail.specs.Stripes.{stripe_at}
 use Rattle.orc_cli_rows.proofs.PieceLemmas.{on_ok_so, not_viewed, none_out, none_printed}
 use Rattle.orc_cli_rows.proofs.rows.print_loaded.Goals as goal
 

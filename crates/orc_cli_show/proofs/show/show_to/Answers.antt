@@ -1,7 +1,7 @@
 use Rattle.std.proofs.Common.{List, ℕ, ap, inr}
-use Rattle.orc_file.specs.declared.tail.Tail.{Tail}
+use Rattle.orc_tail.specs.declared.tail.Tail.{Tail}
 use Rattle.std.specs.Io.KnownBytes.{Appends}
-use Rattle.orc_file.specs.Tails.{IsTail}
+use Rattle.orc_tail.specs.Tails.{IsTail}
 use Rattle.orc_cli_output.specs.Output.{AppendsPart}
 use Rattle.orc_cli_output.proofs.OutputLemmas.{file_want, part_of}
 use Rattle.orc_cli_output.specs.declared.fault.CliFault.TheVariants.{File}

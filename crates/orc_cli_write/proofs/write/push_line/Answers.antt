@@ -8,7 +8,7 @@ use Rattle.std.proofs.lemmas.List.{length-map}
 use Rattle.orc_file.specs.Counts.{PassesLimit}
 use Rattle.orc_file.specs.Progress.{progress}
 use Rattle.orc_file.specs.Writing.{PassesBytes, Progress}
-use Rattle.orc_file.specs.declared.fault.FileFault.TheVariants as file
+use Rattle.orc_tail.specs.declared.fault.FileFault.TheVariants as file
 use Rattle.orc_cli_output.proofs.OutputLemmas.{file_want}
 use Rattle.orc_cli_write.proofs.LimitLemmas.{row_passes}
 use Rattle.orc_cli_write.proofs.WriteLemmas.{none_spelled, some_spelled, some_line, either, ends_unread, of_writer, pushed_no_source, stands_open, leaves_same}

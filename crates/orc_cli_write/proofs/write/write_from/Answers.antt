@@ -2,7 +2,7 @@ use Rattle.std.proofs.Common.{◌≡◌, ◌<◌, [], length, false, subst, refl
 use Rattle.std.proofs.lemmas.List.{length-map}
 use Rattle.orc_values.specs.Shapes.{Shape}
 use Rattle.orc_values.specs.Views.{view, views}
-use Rattle.orc_file.specs.declared.fault.FileFault.TheVariants as file
+use Rattle.orc_tail.specs.declared.fault.FileFault.TheVariants as file
 use Rattle.orc_cli_write.specs.Lines.{AreRowsOf}
 use Rattle.orc_cli_write.specs.Writes.{EndsInLines, LimitStands}
 use Rattle.orc_cli_output.specs.declared.fault.CliFault.TheVariants.{File}

@@ -3,9 +3,9 @@ use Rattle.std.specs.Prelude.{◌⊎◌, MatchResult}
 use Rattle.orc_values.specs.Cells.{Cell}
 use Rattle.orc_values.specs.Views.{views}
 use Rattle.orc_file.specs.FileRows.{FileIs}
-use Rattle.orc_file.specs.Tails.{IsTail}
-use Rattle.orc_file.specs.declared.tail.Tail.{Tail}
-use Rattle.orc_file.specs.declared.fault.FileFault.TheVariants.{OutOfMemory, SourceFailed}
+use Rattle.orc_tail.specs.Tails.{IsTail}
+use Rattle.orc_tail.specs.declared.tail.Tail.{Tail}
+use Rattle.orc_tail.specs.declared.fault.FileFault.TheVariants.{OutOfMemory, SourceFailed}
 use Rattle.orc_file_tests.proofs.ToldBytes.{at_told, ok_more, only_one}
 use Rattle.orc_file_tests.proofs.read_back.rows_of_file.Goals as goal
 

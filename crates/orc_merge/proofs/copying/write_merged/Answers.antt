@@ -1,6 +1,6 @@
 use Rattle.std.proofs.Common.{◌++◌}
 use Rattle.orc_merge.specs.Copies.{pieces_bytes}
-use Rattle.orc_file.specs.Layout.{magic}
+use Rattle.orc_tail.specs.Layout.{magic}
 use Rattle.orc_merge.proofs.BytesOut.{some_of_more, whole_then_some, all_is_some}
 use Rattle.orc_merge.proofs.copying.write_merged.Goals as goal
 

@@ -1,6 +1,6 @@
 use Rattle.std.proofs.Common.{inl, inr, [], ◌∷◌, map, refl}
 use Rattle.std.proofs.lemmas.Result.{err_from_is_err_and}
-use Rattle.orc_file.specs.declared.tail.Tail.{Tail}
+use Rattle.orc_tail.specs.declared.tail.Tail.{Tail}
 use Rattle.orc_merge.specs.SoFar.{IsNext}
 use Rattle.orc_merge.proofs.InputsRead.{no_tails, one_more, open_refused, next_refused, no_memory, no_memory_counted, open_named, no_memory_named}
 use Rattle.orc_merge.proofs.NextTests.{own_kind, none_merge, end_few, rows_few, first_refused, join_counted, join_named}

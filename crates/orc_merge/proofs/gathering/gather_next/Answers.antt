@@ -1,7 +1,7 @@
 use Rattle.std.proofs.Common.{◌≡◌, ◌<◌, inl, inr, refl, Err, [], ◌∷◌, ◌++◌, map, sym, ap, arith}
 use Rattle.std.proofs.Math.Seq.{map-set_same}
 use Rattle.std.proofs.lemmas.Result.{err_from_is_err_and, IfErr-at_err}
-use Rattle.orc_file.specs.declared.tail.Tail.{Tail}
+use Rattle.orc_tail.specs.declared.tail.Tail.{Tail}
 use Rattle.orc_merge.specs.declared.fault.MergeFault.{MergeFault}
 use Rattle.orc_merge.specs.SoFar.{IsNext}
 use Rattle.orc_merge.proofs.InputsRead.{one_more, open_refused, open_counted, next_refused, no_memory, no_memory_counted, open_named, no_memory_named}

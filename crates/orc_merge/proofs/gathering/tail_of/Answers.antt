@@ -1,5 +1,5 @@
 use Rattle.std.proofs.Common.{◌≡◌, inl, inr, rules}
-use Rattle.orc_file.specs.declared.fault.FileFault.TheVariants.{SourceFailed, OutOfMemory}
+use Rattle.orc_tail.specs.declared.fault.FileFault.TheVariants.{SourceFailed, OutOfMemory}
 use Rattle.orc_merge.proofs.InputsRead.{tail_unfound}
 use Rattle.orc_merge.proofs.gathering.tail_of.Goals as goal
 

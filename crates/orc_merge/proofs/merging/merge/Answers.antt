@@ -1,7 +1,7 @@
 use Rattle.std.proofs.Common.{◌<◌, ◌++◌, length, ap, ◌∙◌, arith}
 use Rattle.orc_io.specs.Devices.{appended}
-use Rattle.orc_file.specs.Layout.{magic}
-use Rattle.orc_file.specs.Images.{tail_text}
+use Rattle.orc_tail.specs.Layout.{magic}
+use Rattle.orc_tail.specs.Images.{tail_text}
 use Rattle.orc_merge.specs.Copies.{pieces_bytes}
 use Rattle.orc_merge.proofs.InputsRead.{rose_within, as_long}
 use Rattle.orc_merge.proofs.MergedLength.{short_of_text}

@@ -1,5 +1,5 @@
 use Rattle.std.proofs.Common.{◌≡◌, ◌≤◌, ◌++◌, drop}
-use Rattle.orc_file.specs.Stripes.{stripes_length}
+use Rattle.orc_tail.specs.Stripes.{stripes_length}
 use Rattle.orc_merge.specs.Gathering.{pieces_in}
 use Rattle.orc_merge.proofs.stripe_places.add_pieces.Given as goal
 

@@ -1,5 +1,5 @@
 use Rattle.std.proofs.Common.{◌≡◌, ◌+◌, ◌++◌, drop}
-use Rattle.orc_file.specs.Stripes.{stripes_length}
+use Rattle.orc_tail.specs.Stripes.{stripes_length}
 use Rattle.orc_merge.specs.Merging.{placed}
 use Rattle.orc_merge.proofs.stripe_places.place_stripes.Given as goal
 

@@ -1,8 +1,8 @@
 use Rattle.std.proofs.Common.{◌≡◌, ◌⊎◌, ℕ, List, Vec, Global}
 use Rattle.orc_values.specs.Cells.{Cell}
-use Rattle.orc_file.specs.declared.tail.Tail.{Tail}
-use Rattle.orc_file.specs.declared.fault.FileFault.{FileFault}
-use Rattle.orc_file.specs.declared.fault.FileFault.TheVariants.{SourceFailed, OutOfMemory}
+use Rattle.orc_tail.specs.declared.tail.Tail.{Tail}
+use Rattle.orc_tail.specs.declared.fault.FileFault.{FileFault}
+use Rattle.orc_tail.specs.declared.fault.FileFault.TheVariants.{SourceFailed, OutOfMemory}
 use Rattle.orc_check.specs.Findings.{Findings}
 use Rattle.orc_check.specs.declared.finding.Finding.{Finding}
 use Rattle.orc_theorems.proofs.FoundLemmas.{told_only}

@@ -1,7 +1,7 @@
 use Rattle.std.proofs.Common.{◌∙◌, ℕ, List, ap, subst}
 use Rattle.orc_io.specs.Devices.{appended}
 use Rattle.orc_file.specs.FileRows.{joined}
-use Rattle.orc_file.specs.declared.tail.Tail.{Tail}
+use Rattle.orc_tail.specs.declared.tail.Tail.{Tail}
 use Rattle.orc_merge.specs.Merging.{IsMerge}
 use Rattle.orc_merge.specs.Grouping.{merge, all_leaves, Wrote}
 use Rattle.orc_theorems.proofs.SumLemmas.{honest_have_rows, sum_told}

@@ -1,7 +1,7 @@
 use Rattle.std.proofs.Common.{◌∙◌, ℕ, List}
 use Rattle.orc_values.specs.Views.{views}
 use Rattle.orc_file.specs.FileRows.{FileIs}
-use Rattle.orc_file.specs.Tails.{IsTail}
+use Rattle.orc_tail.specs.Tails.{IsTail}
 use Rattle.orc_theorems.proofs.Told.{at_told, ok_more}
 use Rattle.orc_theorems.proofs.written_files_calls.read_rows.Goals as goal
 

@@ -1,11 +1,11 @@
 use Rattle.std.specs.Prelude.{◌≡◌, ℕ, List, ◌⊎◌, Option, Some, None}
 use Rattle.std.proofs.Common.{inl, inr}
 use Rattle.std.specs.Option.{IfSome}
-use Rattle.orc_file.specs.Tails.{ReadFault}
-use Rattle.orc_file.specs.Caps.{capped_tests, IsCappedTail, CappedFault}
-use Rattle.orc_file.specs.declared.tail.Tail.{Tail}
-use Rattle.orc_file.specs.declared.fault.FileFault.{FileFault}
-use Rattle.orc_file.specs.declared.fault.FileFault.TheVariants.{SourceFailed, OutOfMemory}
+use Rattle.orc_tail.specs.Tails.{ReadFault}
+use Rattle.orc_tail.specs.Caps.{capped_tests, IsCappedTail, CappedFault}
+use Rattle.orc_tail.specs.declared.tail.Tail.{Tail}
+use Rattle.orc_tail.specs.declared.fault.FileFault.{FileFault}
+use Rattle.orc_tail.specs.declared.fault.FileFault.TheVariants.{SourceFailed, OutOfMemory}
 use Rattle.orc_file.proofs.file.OrcFile.open_capped.Goals as goal
 
 only_found : (told : Option (List ℕ)) (cap : ℕ) (a : Tail) → IfSome told (λ bytes. IsCappedTail cap bytes a) → IfSome told (λ bytes. (tail : Tail) → IsCappedTail cap bytes tail → a ≡ tail)

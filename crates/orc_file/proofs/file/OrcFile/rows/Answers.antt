@@ -2,8 +2,8 @@ use Rattle.std.proofs.Common.{◌≡◌, ◌∙◌, sym, ap, Err, arith, inl, in
 use Rattle.std.proofs.lemmas.Result.{err_from_is_err_and}
 use Rattle.orc_values.specs.Views.{views}
 use Rattle.orc_file.proofs.RowFronts.{front_next, front_found, front_only, front_fault, fault_only, within_next, within_all}
-use Rattle.orc_file.proofs.CapLemmas.{within_at, none_above}
-use Rattle.orc_file.specs.declared.fault.FileFault.TheVariants.{Limit}
+use Rattle.orc_file.proofs.StripeCapLemmas.{within_at, none_above}
+use Rattle.orc_tail.specs.declared.fault.FileFault.TheVariants.{Limit}
 use Rattle.orc_file.proofs.file.OrcFile.rows.Goals as goal
 
 pub returns-in_err-read_stripe-clause-fault : goal.returns-in_err-read_stripe-clause-fault

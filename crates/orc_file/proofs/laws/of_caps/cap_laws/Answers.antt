@@ -1,4 +1,5 @@
-use Rattle.orc_file.proofs.CapLemmas.{is_tail, is_capped, is_open, is_open_capped, one_more_fault, refused_within, capped_within}
+use Rattle.orc_tail.proofs.CapLemmas.{is_tail, is_capped, is_open, is_open_capped, one_more_fault}
+use Rattle.orc_file.proofs.StripeCapLemmas.{refused_within, capped_within}
 use Rattle.orc_file.proofs.laws.of_caps.cap_laws.Goals as goal
 
 pub returns-clause-tail : goal.returns-clause-tail

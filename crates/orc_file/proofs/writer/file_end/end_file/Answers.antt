@@ -1,6 +1,6 @@
 use Rattle.std.proofs.Common.{◌++◌, ◌∙◌, ap, take}
 use Rattle.orc_io.specs.Devices.{appended}
-use Rattle.orc_file.specs.Images.{tail_text}
+use Rattle.orc_tail.specs.Images.{tail_text}
 use Rattle.orc_file.specs.Writing.{written_tail}
 use Rattle.orc_file.proofs.WriterLemmas.{laid_places, none_taken}
 use Rattle.orc_file.proofs.TailLimits.{tail_within}

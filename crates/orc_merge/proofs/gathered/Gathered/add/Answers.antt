@@ -1,6 +1,6 @@
 use Rattle.std.proofs.Common.{◌≡◌, ◌+◌, ◌++◌, length, refl, sym, ap, ◌∙◌, subst, arith, inl, inr}
 use Rattle.std.proofs.lemmas.Result.{err_from_is_err_and}
-use Rattle.orc_file.specs.Stripes.{stripes_length}
+use Rattle.orc_tail.specs.Stripes.{stripes_length}
 use Rattle.orc_merge.specs.Merging.{Agree, HasStatistics, all_pairs, all_stats, placed, distinct}
 use Rattle.orc_merge.specs.Gathering.{pieces_in}
 use Rattle.orc_merge.specs.Counts.{AreCounts}

@@ -1,7 +1,7 @@
 use Rattle.std.proofs.Common.{◌≡◌, ◌≤◌, ◌+◌, ◌++◌, List, length, length-append, refl, ap, ◌∙◌, sym, subst, arith, inr}
 use Rattle.std.specs.List.{All}
 use Rattle.orc_wire.specs.declared.stripe_info.StripeInfo.{StripeInfo}
-use Rattle.orc_file.specs.Stripes.{stripes_length}
+use Rattle.orc_tail.specs.Stripes.{stripes_length}
 use Rattle.orc_merge.specs.Merging.{placed}
 use Rattle.orc_merge.proofs.Placing.{length-placed}
 use Rattle.orc_merge.proofs.ValueCounts.{few_counts}

@@ -1,5 +1,0 @@
-use Rattle.orc_file.proofs.KeptLemmas.{Scanned}
-use Rattle.orc_file.proofs.tail.footer.are_above_ten.Given as goal
-
-abbrev pub invariant-loop-next : goal.invariant-loop-next
-invariant-loop-next l = Scanned l.kept l.next-iterator.rest.now l.next-iterator.place

@@ -1,7 +1,0 @@
-use Rattle.std.proofs.Common.{◌≡◌, drop}
-use Rattle.orc_file.specs.Statistics.{have_few}
-use Rattle.orc_file.proofs.tail.metadata.have_few_stats.Given as goal
-
--- those that are left decide
-abbrev pub invariant-loop-one : goal.invariant-loop-one
-invariant-loop-one l = have_few l.columns (drop l.one-index l.stats) ≡ have_few l.columns l.stats

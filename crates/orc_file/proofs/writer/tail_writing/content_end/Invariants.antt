@@ -1,6 +1,0 @@
-use Rattle.std.proofs.Common.{◌≡◌, ◌+◌, drop}
-use Rattle.orc_file.specs.Stripes.{stripes_length}
-use Rattle.orc_file.proofs.writer.tail_writing.content_end.Given as goal
-
-abbrev pub invariant-loop-stripe : goal.invariant-loop-stripe
-invariant-loop-stripe l = l.end + stripes_length (drop l.stripe-index l.stripes) ≡ 3 + stripes_length l.stripes

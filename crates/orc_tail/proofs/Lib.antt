@@ -1,0 +1,15 @@
+pub mod KeptLemmas
+pub mod StripeLemmas
+pub mod Columns
+pub mod Seams
+pub mod StatLaws
+pub mod ShortScript
+pub mod ImageLaws
+pub mod TailText
+pub mod TailLemmas
+pub mod TailCover
+pub mod EndLemmas
+pub mod CapLemmas
+pub mod Opened
+pub mod ReadBits
+pub mod TextLengths

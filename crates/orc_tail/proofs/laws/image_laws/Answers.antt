@@ -1,0 +1,8 @@
+use Rattle.orc_tail.proofs.ImageLaws.{image_is, short_is}
+use Rattle.orc_tail.proofs.laws.image_laws.Goals as goal
+
+pub returns-clause-image : goal.returns-clause-image
+returns-clause-image c = λ tail stripes lim laid bits len few. image_is tail stripes lim laid bits len few
+
+pub returns-clause-script : goal.returns-clause-script
+returns-clause-script c = λ tail lim bits few. short_is tail lim bits few

@@ -1,0 +1,33 @@
+-- A cap on what is read at once: the tail's three parts have no more bytes together than it says. The ORC
+-- specification has no such limit: it is this project's, for whoever reads files of strangers.
+use Rattle.std.specs.Prelude.{ℕ, ◌+◌, ◌-◌, ◌^◌, ◌≤◌, List}
+use Rattle.orc_wire.specs.declared.post_script.PostScript.{PostScript}
+use Rattle.orc_tail.specs.Layout.{script_length}
+use Rattle.orc_tail.specs.Tests.{Test, check, ◌then◌}
+use Rattle.orc_tail.specs.Tails.{end_tests, tail_tests}
+use Rattle.orc_tail.specs.declared.tail.Tail.{Tail}
+use Rattle.orc_tail.specs.declared.fault.FileFault.{FileFault}
+use Rattle.orc_tail.specs.declared.fault.FileFault.TheVariants.{Limit}
+
+-- the greatest cap, which no file passes
+abbrev pub no_cap : ℕ
+no_cap = 2 ^ 64 - 1
+
+-- the bytes of the postscript, the footer and the metadata together
+abbrev pub tail_length : List ℕ → PostScript → ℕ
+tail_length bytes script = script_length bytes + script.footer_length + script.metadata_length
+
+-- the tests of both ends, the cap, and then the tests of a tail
+abbrev pub capped_tests : ℕ → List ℕ → Test Tail
+capped_tests cap bytes =
+    end_tests bytes then λ script.
+    check (tail_length bytes script ≤ cap) Limit
+    (tail_tests bytes)
+
+-- the bytes pass each test, the cap's too, and this is the tail found there
+abbrev pub IsCappedTail : ℕ → List ℕ → Tail → Type 0
+IsCappedTail cap bytes = (capped_tests cap bytes).finds
+
+-- the fault of the first of these tests that the bytes don't pass
+abbrev pub CappedFault : ℕ → List ℕ → FileFault → Type 0
+CappedFault cap bytes = (capped_tests cap bytes).fails

@@ -1,0 +1,35 @@
+//! Whether stripes lie one after the other.
+ghost use Rattle.std.specs.Prelude.{◌≡◌};
+ghost use Rattle.std.specs.Bool.{OnTrue, OnFalse};
+ghost use Rattle.orc_tail.specs.Stripes.{IsLaid};
+
+use crate::tail::Tail;
+use crate::tail::extent::stripe_end;
+use orc_wire::StripeInfo;
+
+/// Whether the stripes lie one after the other behind `ORC`.
+fn lie_behind_magic(stripes: &[StripeInfo]) -> bool
+    ensures yes { OnTrue result (IsLaid 3 stripes.now) }
+    ensures no { OnFalse result (IsLaid 3 stripes.now → ⊥) }
+{
+    let mut place = 3;
+    for stripe in stripes {
+        if u128::from(stripe.offset) != place {
+            return false;
+        }
+        place = stripe_end(stripe);
+    }
+    true
+}
+
+impl Tail {
+    /// Whether the stripes lie one after the other behind `ORC`, without gaps, as `put` wants them.
+    pub fn is_laid(&self) -> bool
+        // The answer is yes exactly where the stripes lie from byte 3 on, one after the other
+        // without gaps.
+        ensures yes { OnTrue result (IsLaid 3 self.now.stripes) }
+        ensures no { OnFalse result (IsLaid 3 self.now.stripes → ⊥) }
+    {
+        lie_behind_magic(self.stripes.as_slice())
+    }
+}

@@ -1,0 +1,232 @@
+//! Reading a file's tail: at most five ranges, in this order, and none that is empty: the first 3 bytes, the last
+//! byte, the postscript, the footer, the metadata. A test that fails ends the reading.
+ghost use Rattle.std.specs.Prelude.{◌≡◌, ◌+◌, ◌<◌, ◌≤◌, ◌⊎◌, length, OnOk, IfOk, IfErr, IfSome, IsErrOf};
+ghost use Rattle.orc_io.specs.Devices.{bytes_at};
+ghost use Rattle.std.specs.Bool.{OnTrue, OnFalse};
+ghost use Rattle.orc_tail.specs.Layout.{magic, script_length, script_place};
+ghost use Rattle.orc_tail.specs.Stripes.{AllBefore};
+ghost use Rattle.orc_tail.specs.Tails.{most_versions, end_tests, IsTail, OpenFault, ReadFault, IsOfTail};
+ghost use Rattle.orc_tail.specs.Caps.{no_cap, IsCappedTail, CappedFault};
+ghost use Rattle.orc_tail.specs.Images.{IsWithinLimits};
+ghost use Rattle.orc_tail.specs.declared.fault.FileFault.TheVariants.{SourceFailed, OutOfMemory};
+
+use crate::fault::FileFault;
+use crate::tail::Tail;
+use crate::tail::footer::footer_in;
+use crate::tail::limits::limits_of;
+use crate::tail::metadata::metadata_in;
+use crate::tail::postscript::script_in;
+use orc_io::{RangeFault, Source, read_range};
+use orc_wire::PostScript;
+use std::alloc::Global;
+
+/// The postscript, the place where it begins, and how many bytes it has.
+#[derive(Drop)]
+struct End {
+    script: PostScript,
+    place: u64,
+    length: u64,
+}
+
+/// Fills the slice from a place on.
+fn read_into<S: Source>(source: &mut S, at: u64, into: &mut [u8]) -> Result<(), FileFault>
+    requires { at + length into.old ≤ S.size source.old }
+    ensures size { S.size source.new ≡ S.size source.old }
+    ensures told { S.told source.new ≡ S.told source.old }
+    ensures bytes { OnOk result (IfSome (S.told source.old) (λ bytes. into.new ≡ bytes_at at (length into.old) bytes)) }
+    ensures length { length into.new ≡ length into.old }
+
+    ensures fault { IfErr result (λ fault. fault ≡ SourceFailed) }
+    ensures kept { OnOk result (S.failures source.new ≡ S.failures source.old) }
+    ensures failed { IsErrOf result SourceFailed → S.failures source.old < S.failures source.new }
+{
+    match source.read_at(at, into) {
+        Ok(()) => Ok(()),
+        Err(_) => Err(FileFault::SourceFailed),
+    }
+}
+
+/// The bytes of a range. Nothing is read where it is empty.
+fn range_of<S: Source>(
+    alloc: Global,
+    source: &mut S,
+    at: u64,
+    len: u64,
+) -> Result<Vec<u8>, FileFault>
+    requires { at + len ≤ S.size source.old }
+    ensures size { S.size source.new ≡ S.size source.old }
+    ensures told { S.told source.new ≡ S.told source.old }
+    ensures bytes { IfOk result (λ read. IfSome (S.told source.old) (λ bytes. read.items ≡ bytes_at at len bytes)) }
+
+    ensures fault { IfErr result (λ fault. (fault ≡ OutOfMemory) ⊎ (fault ≡ SourceFailed)) }
+    ensures kept { OnOk result (S.failures source.new ≡ S.failures source.old) }
+    ensures failed { IsErrOf result SourceFailed → S.failures source.old < S.failures source.new }
+    ensures memory { IsErrOf result OutOfMemory → S.failures source.new ≡ S.failures source.old }
+{
+    match read_range(alloc, source, at, len) {
+        Ok(read) => Ok(read),
+        Err(RangeFault::SourceFailed) => Err(FileFault::SourceFailed),
+        Err(RangeFault::OutOfMemory) => Err(FileFault::OutOfMemory),
+    }
+}
+
+/// Whether the bytes are `ORC`.
+fn is_orc(front: &[u8]) -> bool
+    ensures yes { OnTrue result (front.now ≡ magic) }
+    ensures no { OnFalse result (front.now ≡ magic → ⊥) }
+{
+    front == b"ORC".as_slice()
+}
+
+/// The postscript of a file with these two ends.
+fn read_end<S: Source>(alloc: Global, source: &mut S) -> Result<End, FileFault>
+    ensures size { S.size source.new ≡ S.size source.old }
+    ensures told { S.told source.new ≡ S.told source.old }
+    ensures sized { S.size source.old ≤ no_cap }
+    ensures found { IfOk result (λ end. IfSome (S.told source.old)
+        (λ bytes. (end_tests bytes).finds end.script × (end.place ≡ script_place bytes))) }
+    ensures length { IfOk result (λ end. IfSome (S.told source.old) (λ bytes. end.length ≡ script_length bytes)) }
+    ensures few { IfOk result (λ end. length end.script.version ≤ most_versions) }
+    ensures room { IfOk result (λ end. (3 + end.script.metadata_length + end.script.footer_length ≤ end.place)
+        × (end.place ≤ S.size source.old)) }
+
+    ensures fault { IfErr result (λ fault. ReadFault (S.told source.old) fault
+        (λ bytes. (end_tests bytes).fails fault)) }
+    ensures unfailed { IfErr result (λ fault. (fault ≡ SourceFailed)
+        ⊎ (IsOfTail fault × (S.failures source.new ≡ S.failures source.old))) }
+    ensures kept { OnOk result (S.failures source.new ≡ S.failures source.old) }
+    ensures failed { IsErrOf result SourceFailed → S.failures source.old < S.failures source.new }
+    ensures memory { IsErrOf result OutOfMemory → S.failures source.new ≡ S.failures source.old }
+{
+    let len = source.len();
+    if len < 4 {
+        return Err(FileFault::NotOrc);
+    }
+    let mut front = [0u8; 3];
+    read_into(source, 0, &mut front)?;
+    if !is_orc(&front) {
+        return Err(FileFault::NotOrc);
+    }
+    let mut last = [0u8; 1];
+    read_into(source, len - 1, &mut last)?;
+    let length = u64::from(last[0]);
+    if length + 4 > len {
+        return Err(FileFault::BadLengths);
+    }
+    let place = len - 1 - length;
+    let text = range_of(alloc, source, place, length)?;
+    let script = script_in(alloc, &text, place)?;
+    Ok(End {
+        script,
+        place,
+        length,
+    })
+}
+
+/// Whether a postscript, a footer and metadata of so many bytes are together longer than the cap.
+fn is_above(cap: u64, script: u64, footer: u64, metadata: u64) -> bool
+    ensures yes { OnTrue result (cap < script + footer + metadata) }
+    ensures no { OnFalse result (script + footer + metadata ≤ cap) }
+{
+    // three lengths of 64 bits need two bits more together
+    let parts = u128::from(script) + (u128::from(footer) + u128::from(metadata));
+    parts > u128::from(cap)
+}
+
+/// The tail of a file whose source is lent, of which no more bytes than the cap are read at once: for whoever reads
+/// files of strangers.
+///
+/// The tests and the refusals are those of `read_tail`, and one more stands between the ends' and the footer's, before
+/// footer and metadata are read: `Limit` where metadata, footer and postscript have together more bytes than the cap
+/// says.
+pub fn read_capped_tail<S: Source>(
+    alloc: Global,
+    source: &mut S,
+    cap: u64,
+) -> Result<Tail, FileFault>
+    // The source has at most 2^64 - 1 bytes.
+    ensures sized { S.size source.old ≤ no_cap }
+    // After each answer the source has the length that it had, and tells what it told.
+    ensures size { S.size source.new ≡ S.size source.old }
+    ensures told { S.told source.new ≡ S.told source.old }
+    // Where the source tells its bytes, the tail that is answered is the one that they have, and
+    // metadata, footer and postscript have together no more bytes than the cap.
+    ensures found { IfOk result (λ tail. IfSome (S.told source.old) (λ bytes. IsCappedTail cap bytes tail)) }
+    // The tail is within the limits and its stripes end within the source, also where this tells
+    // nothing.
+    ensures limits { IfOk result (λ tail. IsWithinLimits tail) }
+    ensures within { IfOk result (λ tail. AllBefore (S.size source.old) tail.stripes) }
+
+    // Where the source tells its bytes, a refusal names the first test that they fail, Limit for
+    // the cap, or it is want of memory or SourceFailed.
+    ensures fault { IfErr result (λ fault. ReadFault (S.told source.old) fault (λ bytes. CappedFault cap bytes fault)) }
+    // Over any source a refusal is SourceFailed, or it is one that a tail may have and no read
+    // failed.
+    ensures unfailed { IfErr result (λ fault. (fault ≡ SourceFailed)
+        ⊎ (IsOfTail fault × (S.failures source.new ≡ S.failures source.old))) }
+    // The source's count of failures rises with SourceFailed, and stands where a tail is answered
+    // or memory is refused.
+    ensures kept { OnOk result (S.failures source.new ≡ S.failures source.old) }
+    ensures failed { IsErrOf result SourceFailed → S.failures source.old < S.failures source.new }
+    ensures memory { IsErrOf result OutOfMemory → S.failures source.new ≡ S.failures source.old }
+{
+    let End {
+        script,
+        place,
+        length,
+    } = read_end(alloc, source)?;
+    if is_above(cap, length, script.footer_length, script.metadata_length) {
+        return Err(FileFault::Limit);
+    }
+    let footer_at = place - script.footer_length;
+    let text = range_of(alloc, source, footer_at, script.footer_length)?;
+    let (footer, schema) = footer_in(alloc, &text)?;
+    let metadata_at = footer_at - script.metadata_length;
+    let text = range_of(alloc, source, metadata_at, script.metadata_length)?;
+    let metadata = metadata_in(alloc, &text, &footer, &schema)?;
+    let (file_stats, stripe_stats) = limits_of(alloc, metadata_at, &footer, &schema, &metadata)?;
+    Ok(Tail {
+        version: script.version,
+        writer: footer.writer,
+        writer_version: script.writer_version,
+        schema,
+        stripes: footer.stripes,
+        stripe_stats,
+        file_stats,
+        user: footer.metadata,
+        stride: footer.row_index_stride,
+        rows: footer.number_of_rows,
+        other: footer.kept,
+    })
+}
+
+/// The tail of a file whose source is lent.
+///
+/// The tests come in this order, and the fault is the first one's that fails: both ends and the postscript, the
+/// footer, the metadata, the limits and the stripes' places. `SourceFailed` and `OutOfMemory` may come instead.
+pub fn read_tail<S: Source>(alloc: Global, source: &mut S) -> Result<Tail, FileFault>
+    // After each answer the source has the length that it had, and tells what it told.
+    ensures size { S.size source.new ≡ S.size source.old }
+    ensures told { S.told source.new ≡ S.told source.old }
+    // Where the source tells its bytes, the tail that is answered is the one that they have.
+    ensures found { IfOk result (λ tail. IfSome (S.told source.old) (λ bytes. IsTail bytes tail)) }
+    // The tail is within the limits and its stripes end within the source, also where this tells
+    // nothing.
+    ensures limits { IfOk result (λ tail. IsWithinLimits tail) }
+    ensures within { IfOk result (λ tail. AllBefore (S.size source.old) tail.stripes) }
+
+    // Where the source tells its bytes, a refusal names the first test that they fail, or it is
+    // want of memory or SourceFailed.
+    ensures fault { IfErr result (λ fault. ReadFault (S.told source.old) fault (λ bytes. OpenFault bytes fault)) }
+    // Over any source a refusal is SourceFailed, or it is one that a tail may have and no read
+    // failed.
+    ensures unfailed { IfErr result (λ fault. (fault ≡ SourceFailed)
+        ⊎ (IsOfTail fault × (S.failures source.new ≡ S.failures source.old))) }
+    // The source's count of failures rises with SourceFailed, and stands where a tail is answered
+    // or memory is refused.
+    ensures kept { OnOk result (S.failures source.new ≡ S.failures source.old) }
+    ensures failed { IsErrOf result SourceFailed → S.failures source.old < S.failures source.new }
+    ensures memory { IsErrOf result OutOfMemory → S.failures source.new ≡ S.failures source.old }
+{
+    read_capped_tail(alloc, source, u64::MAX)
+}
