@@ -11,8 +11,8 @@ use Rattle.orc_cli_output.specs.declared.fault.CliFault.TheVariants.{File}
 use Rattle.orc_cli_args.specs.declared.command_line.Refusal.TheVariants.{Fault, NotUnderstood}
 use Rattle.orc_cli_args.specs.declared.request.Request.{Request}
 use Rattle.orc_cli_args.specs.declared.request.Request.TheVariants.{Ints, Rows, Show, Check, Write, Merge}
-use Rattle.orc_merge.specs.declared.fault.MergeFault.{MergeFault}
-use Rattle.orc_merge.specs.declared.fault.MergeFault.TheVariants.{WriteFailed as MergeWriteFailed}
+use Rattle.orc_merger.specs.declared.fault.MergeFault.{MergeFault}
+use Rattle.orc_merger.specs.declared.fault.MergeFault.TheVariants.{WriteFailed as MergeWriteFailed}
 use Rattle.orc_cli_commands.specs.declared.ending.Ending.{Ending}
 use Rattle.orc_cli_commands.specs.declared.ending.Ending.TheVariants.{Refused, NotMerged}
 use Rattle.orc_cli_commands.specs.declared.outcome.Outcome.{Outcome}

@@ -28,10 +28,10 @@ use Rattle.orc_cli_check.specs.Lines.{finding_lines, IsFoundOf, IsSourceOrMemory
 use Rattle.orc_cli_write.specs.Lines.{AreRowsOf}
 use Rattle.orc_cli_write.specs.Writes.{IsOfWriter}
 use Rattle.orc_cli_write.specs.Reads.{RefusesLines}
-use Rattle.orc_merge.specs.Faults.{IsDeviceFault, IsOfBytes, IsOfMerge}
-use Rattle.orc_merge.specs.Outcomes.{IsAnswer, WroteMerge, WrotePart}
-use Rattle.orc_merge.specs.declared.fault.MergeFault.{MergeFault}
-use Rattle.orc_merge.specs.declared.fault.MergeFault.TheVariants as merge
+use Rattle.orc_merger.specs.Faults.{IsDeviceFault, IsOfBytes, IsOfMerge}
+use Rattle.orc_merger.specs.Outcomes.{IsAnswer, WroteMerge, WrotePart}
+use Rattle.orc_merger.specs.declared.fault.MergeFault.{MergeFault}
+use Rattle.orc_merger.specs.declared.fault.MergeFault.TheVariants as merge
 use Rattle.orc_cli_commands.specs.declared.outcome.Outcome.{Outcome}
 use Rattle.orc_cli_commands.specs.declared.outcome.Outcome.TheVariants.{Done, Found}
 

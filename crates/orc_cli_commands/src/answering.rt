@@ -29,7 +29,7 @@ use std::io::Write;
 ///   request's schema and options. What was written is at the output's path then, also after a
 ///   refusal, if the place lacked a file there.
 ///
-/// - `merge` joins all inputs of the request, in their order, as `merge` of `orc_merge` says. What
+/// - `merge` joins all inputs of the request, in their order, as `merge` of `orc_merger` says. What
 ///   was written is at the output's path then, also after a refusal, if the place lacked a file
 ///   there.
 ///

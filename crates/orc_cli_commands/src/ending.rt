@@ -3,11 +3,11 @@ ghost use Rattle.std.specs.Prelude.{◌≡◌};
 ghost use Rattle.orc_cli_args.specs.declared.command_line.Refusal.TheVariants.{Fault, NotUnderstood};
 ghost use Rattle.orc_cli_commands.specs.declared.ending.Ending.TheVariants.{Refused, NotMerged};
 ghost use Rattle.orc_cli_output.specs.declared.fault.CliFault.{CliFault};
-ghost use Rattle.orc_merge.specs.declared.fault.MergeFault.{MergeFault};
+ghost use Rattle.orc_merger.specs.declared.fault.MergeFault.{MergeFault};
 
 use orc_cli_args::Refusal;
 use orc_cli_output::CliFault;
-use orc_merge::MergeFault;
+use orc_merger::MergeFault;
 
 /// Why what the command line asks for isn't done: by a layer's fault, by its own words, or by the merger's fault.
 #[derive(Clone, Copy, Debug, PartialEq, Eq)]

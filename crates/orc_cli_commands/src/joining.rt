@@ -12,7 +12,7 @@ use crate::outcome::Outcome;
 use crate::place::Place;
 use orc_cli_output::CliFault;
 use orc_file::{FileFault, Sink, Source};
-use orc_merge::{MergeFault, merge};
+use orc_merger::{MergeFault, merge};
 use std::alloc::Global;
 
 /// All inputs, in their order.

@@ -26,7 +26,7 @@ pub use orc_cli_output::CliFault;
 pub use orc_cli_rows::rows_to;
 pub use orc_cli_show::show_to;
 pub use orc_cli_write::{LineFault, LineReader, StdLines, write_from, write_lines};
-pub use orc_merge::{MergeFault, merge as merge_to};
+pub use orc_merger::{MergeFault, merge as merge_to};
 pub use outcome::Outcome;
 pub use place::Place;
 pub use system_place::SystemPlace;

@@ -1,9 +1,8 @@
 //! Files that are merged and checked.
 use crate::assertions::{demand, is_front, same, same_bytes};
 use crate::sevens::output;
-use orc_check::{Finding, check};
 use orc_file::{FileFault, SliceSource};
-use orc_merge::{MergeFault, merge};
+use orc_merge::{Finding, MergeFault, check, merge};
 use orc_test_io::{FailSink, SEVENS, TWICE, UPWARDS};
 use std::alloc::Global;
 use std::process::Abort;

@@ -1,17 +1,7 @@
-//! Joins files whose tails agree, stripe by stripe, and the laws of what it writes.
+//! Files merged and checked: the calls of `orc_merger` and of `orc_check`, and the laws of merging.
 #![tactic(auto)]
 
-mod copying;
-mod differing;
-mod fault;
-mod gathered;
-mod gathering;
 pub mod laws;
-mod merging;
-mod stripe_places;
-mod user_pairs;
-mod value_counts;
 
-pub use fault::MergeFault;
-pub use laws::{grouping, orders, outcomes};
-pub use merging::merge;
+pub use orc_check::{Finding, check};
+pub use orc_merger::{MergeFault, merge};

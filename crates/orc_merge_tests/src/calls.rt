@@ -1,7 +1,6 @@
 //! The calls that are tested, without their contracts, of which each caller would prove more.
-use orc_check::{Finding, check};
 use orc_file::{FileFault, OrcFile, Sink, SliceSource, Source, VecSink};
-use orc_merge::{MergeFault, merge};
+use orc_merge::{Finding, MergeFault, check, merge};
 use std::alloc::Global;
 
 /// Merges files, and forgets the tail.

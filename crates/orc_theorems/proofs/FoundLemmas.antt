@@ -8,8 +8,8 @@ use Rattle.orc_tail.specs.declared.fault.FileFault.{FileFault}
 use Rattle.orc_file.proofs.RowLemmas.{one_file}
 use Rattle.orc_check.specs.Findings.{Findings}
 use Rattle.orc_check.specs.declared.finding.Finding.{Finding}
-use Rattle.orc_merge.specs.Merging.{IsMerge}
-use Rattle.orc_merge.specs.Outcomes.{WroteMerge}
+use Rattle.orc_merger.specs.Merging.{IsMerge}
+use Rattle.orc_merger.specs.Outcomes.{WroteMerge}
 use Rattle.orc_theorems.specs.Inputs.{AreWithoutFinding, AreFound}
 use Rattle.orc_theorems.proofs.Told.{at_told}
 use Rattle.orc_theorems.proofs.StepLemmas.{merge_of}

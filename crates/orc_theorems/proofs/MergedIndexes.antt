@@ -7,8 +7,8 @@ use Rattle.orc_tail.specs.declared.tail.Tail.{Tail}
 use Rattle.orc_check.specs.Findings.{Findings, TellsWhole}
 use Rattle.orc_check.specs.RightIndexes.{IsIndexed, HasIndexes}
 use Rattle.orc_check.proofs.WrittenIndexes.{indexed_moved}
-use Rattle.orc_merge.specs.Merging.{IsMerge}
-use Rattle.orc_merge.specs.Grouping.{HaveRows, AreHonestFiles}
+use Rattle.orc_merger.specs.Merging.{IsMerge}
+use Rattle.orc_merger.specs.Grouping.{HaveRows, AreHonestFiles}
 use Rattle.orc_theorems.specs.Inputs.{AreWithoutFinding}
 use Rattle.orc_theorems.proofs.MergedStripes.{HoldsOfFiles, merged_stripes}
 

@@ -13,10 +13,10 @@ use Rattle.orc_tail.specs.declared.tail.Tail.{Tail}
 use Rattle.orc_file.proofs.RowLemmas.{parts_cut}
 use Rattle.orc_check.specs.Findings.{rows_at}
 use Rattle.orc_check.proofs.NoFinding.{cut_many}
-use Rattle.orc_merge.specs.Merging.{placed, all_stripes, merged, IsLike, stripes_of, AreOpened, bodies, IsMerge}
-use Rattle.orc_merge.specs.Grouping.{HaveRows}
-use Rattle.orc_merge.proofs.Rows.{AreStripes, of_file, stripes-append, joined-append, accepted, image_stripes}
-use Rattle.orc_merge.proofs.Standing.{stripes_of_image}
+use Rattle.orc_merger.specs.Merging.{placed, all_stripes, merged, IsLike, stripes_of, AreOpened, bodies, IsMerge}
+use Rattle.orc_merger.specs.Grouping.{HaveRows}
+use Rattle.orc_merger.proofs.Rows.{AreStripes, of_file, stripes-append, joined-append, accepted, image_stripes}
+use Rattle.orc_merger.proofs.Standing.{stripes_of_image}
 
 -- ---- what is said of stripes
 

@@ -3,15 +3,15 @@ use Rattle.std.proofs.Common.{◌≡◌, ◌∙◌, ◌↔◌, ℕ, ◌<◌, Lis
 use Rattle.std.specs.Prelude.{IsPermutation}
 use Rattle.std.proofs.lemmas.List.Sorted.{IsPermutation-append_comm}
 use Rattle.orc_tail.specs.declared.tail.Tail.{Tail}
-use Rattle.orc_merge.specs.declared.fault.MergeFault.{MergeFault}
-use Rattle.orc_merge.specs.declared.fault.MergeFault.TheVariants.{NoInput, File, SchemaDiffers, VersionDiffers, StrideDiffers, OtherFooterFields}
-use Rattle.orc_merge.specs.declared.fault.MergeFault.TheVariants.{UserMetadataConflict, NoStripeStatistics, Limit, SourceFailed, WriteFailed, OutOfMemory}
-use Rattle.orc_merge.specs.Merging.{Merged, AreOpened, IsMerge}
-use Rattle.orc_merge.specs.Faults.{IsRefused, IsDeviceFault}
-use Rattle.orc_merge.specs.Outcomes.{WroteMerge, IsAnswer}
-use Rattle.orc_merge.specs.Grouping.{Groups, input, merge, one, and, all_leaves, Gives, AllGive, AllShort, Wrote, AllWrote, ComesOfJoining, AreFellows, IsFlatRefused, IsStepRefused}
-use Rattle.orc_merge.proofs.OneFault.{one_merge}
-use Rattle.orc_merge.proofs.Refusing.{no_fault}
+use Rattle.orc_merger.specs.declared.fault.MergeFault.{MergeFault}
+use Rattle.orc_merger.specs.declared.fault.MergeFault.TheVariants.{NoInput, File, SchemaDiffers, VersionDiffers, StrideDiffers, OtherFooterFields}
+use Rattle.orc_merger.specs.declared.fault.MergeFault.TheVariants.{UserMetadataConflict, NoStripeStatistics, Limit, SourceFailed, WriteFailed, OutOfMemory}
+use Rattle.orc_merger.specs.Merging.{Merged, AreOpened, IsMerge}
+use Rattle.orc_merger.specs.Faults.{IsRefused, IsDeviceFault}
+use Rattle.orc_merger.specs.Outcomes.{WroteMerge, IsAnswer}
+use Rattle.orc_merger.specs.Grouping.{Groups, input, merge, one, and, all_leaves, Gives, AllGive, AllShort, Wrote, AllWrote, ComesOfJoining, AreFellows, IsFlatRefused, IsStepRefused}
+use Rattle.orc_merger.proofs.OneFault.{one_merge}
+use Rattle.orc_merger.proofs.Refusing.{no_fault}
 use Rattle.orc_theorems.specs.Groupings.{pair, at_once, first_two, last_two, Gave, IsStepAnswer}
 use Rattle.orc_theorems.proofs.Told.{bytes_are}
 

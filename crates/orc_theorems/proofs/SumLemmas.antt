@@ -18,7 +18,7 @@ use Rattle.orc_file.specs.FileRows.{joined, cut_rows}
 use Rattle.orc_file.specs.Honest.{HasWholeStats, each_fits, told_at, whole_of, known_whole_of}
 use Rattle.orc_tail.specs.declared.tail.Tail.{Tail}
 use Rattle.orc_file.proofs.HonestLemmas.{all_cells}
-use Rattle.orc_merge.specs.Grouping.{HaveRows, AreHonestFiles}
+use Rattle.orc_merger.specs.Grouping.{HaveRows, AreHonestFiles}
 
 -- files with rows and their statistics have rows
 pub honest_have_rows : (xs : List (List ℕ)) (parts : List (List Cell)) → AreHonestFiles xs parts → HaveRows xs parts

@@ -1,10 +1,10 @@
 -- Groupings of two files and of three (own).
 use Rattle.std.specs.Prelude.{◌⊎◌, ℕ, List}
 use Rattle.orc_tail.specs.declared.tail.Tail.{Tail}
-use Rattle.orc_merge.specs.declared.fault.MergeFault.{MergeFault}
-use Rattle.orc_merge.specs.Merging.{IsMerge}
-use Rattle.orc_merge.specs.Faults.{IsDeviceFault}
-use Rattle.orc_merge.specs.Grouping.{Group, input, merge, one, and, StepRefused}
+use Rattle.orc_merger.specs.declared.fault.MergeFault.{MergeFault}
+use Rattle.orc_merger.specs.Merging.{IsMerge}
+use Rattle.orc_merger.specs.Faults.{IsDeviceFault}
+use Rattle.orc_merger.specs.Grouping.{Group, input, merge, one, and, StepRefused}
 
 -- two files
 abbrev pub pair : List ℕ → List ℕ → Group

@@ -14,7 +14,7 @@ ghost use Rattle.orc_file.specs.FileRows.{FileIs, joined};
 ghost use Rattle.orc_tail.specs.declared.tail.Tail.{Tail};
 ghost use Rattle.orc_check.specs.Findings.{Findings};
 ghost use Rattle.orc_check.specs.RightIndexes.{StartsAtGroups};
-ghost use Rattle.orc_merge.specs.Grouping.{Groups, merge, all_leaves, Wrote};
+ghost use Rattle.orc_merger.specs.Grouping.{Groups, merge, all_leaves, Wrote};
 ghost use Rattle.orc_cli_output.specs.Output.{IsOutsideFile};
 ghost use Rattle.orc_cli_output.specs.declared.fault.CliFault.{CliFault};
 ghost use Rattle.orc_cli_rows.specs.Rows.{row_lines, HaveJson};

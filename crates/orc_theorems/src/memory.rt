@@ -1,9 +1,9 @@
 //! Files in memory, joined.
 ghost use Rattle.std.specs.Prelude.{◌≡◌, ◌↔◌, ◌∷◌, [], Some, IsTrue, IfOk, IfErr};
-ghost use Rattle.orc_merge.specs.Outcomes.{WroteMerge, IsAnswer};
+ghost use Rattle.orc_merger.specs.Outcomes.{WroteMerge, IsAnswer};
 
 use orc_file::{SliceSource, Tail, VecSink};
-use orc_merge::{MergeFault, merge};
+use orc_merger::{MergeFault, merge};
 use std::alloc::Global;
 
 /// A file that a call wrote to memory: the tail that the call answered, and the bytes.

@@ -9,12 +9,12 @@ ghost use Rattle.orc_values.specs.Cells.{Cell};
 ghost use Rattle.orc_file.specs.FileRows.{FileIs, joined};
 ghost use Rattle.orc_tail.specs.declared.tail.Tail.{Tail};
 ghost use Rattle.orc_check.specs.Findings.{Findings};
-ghost use Rattle.orc_merge.specs.Merging.{IsMerge};
-ghost use Rattle.orc_merge.specs.Grouping.{Groups, merge, all_leaves, Wrote};
+ghost use Rattle.orc_merger.specs.Merging.{IsMerge};
+ghost use Rattle.orc_merger.specs.Grouping.{Groups, merge, all_leaves, Wrote};
 ghost use Rattle.orc_theorems.specs.Inputs.{AreWithoutFinding};
 
 use orc_check::finding_laws;
-use orc_merge::{grouping, orders};
+use orc_merger::{grouping, orders};
 
 /// A file that is merged of files of which nothing is found has their rows in order, and nothing is found of it. So
 /// this holds of what is merged in groups, however deep: and reading from a group of rows, which is right in the

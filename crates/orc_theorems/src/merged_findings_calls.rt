@@ -4,7 +4,7 @@ ghost use Rattle.orc_values.specs.Cells.{Cell};
 ghost use Rattle.orc_file.specs.FileRows.{FileIs};
 ghost use Rattle.orc_tail.specs.declared.tail.Tail.{Tail};
 ghost use Rattle.orc_tail.specs.declared.fault.FileFault.TheVariants as fault;
-ghost use Rattle.orc_merge.specs.Outcomes.{WroteMerge};
+ghost use Rattle.orc_merger.specs.Outcomes.{WroteMerge};
 ghost use Rattle.orc_theorems.specs.Inputs.{AreFound};
 
 use crate::fault::CallFault;

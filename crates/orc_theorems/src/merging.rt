@@ -18,12 +18,12 @@ ghost use Rattle.orc_file.specs.FileRows.{FileIs, joined, cut_rows};
 ghost use Rattle.orc_file.specs.Honest.{Honest, HasWholeStats, each_fits};
 ghost use Rattle.orc_tail.specs.Tails.{IsTail};
 ghost use Rattle.orc_tail.specs.declared.tail.Tail.{Tail};
-ghost use Rattle.orc_merge.specs.Merging.{IsMerge};
-ghost use Rattle.orc_merge.specs.Outcomes.{WroteMerge};
-ghost use Rattle.orc_merge.specs.Grouping.{Groups, merge, all_leaves, Gives, AllShort, Wrote, AllWrote, HaveRows, AreHonestFiles, AreFellows, IsFlatRefused, IsStepRefused};
+ghost use Rattle.orc_merger.specs.Merging.{IsMerge};
+ghost use Rattle.orc_merger.specs.Outcomes.{WroteMerge};
+ghost use Rattle.orc_merger.specs.Grouping.{Groups, merge, all_leaves, Gives, AllShort, Wrote, AllWrote, HaveRows, AreHonestFiles, AreFellows, IsFlatRefused, IsStepRefused};
 
 use orc_file::{row_laws, tail_laws};
-use orc_merge::{grouping, orders, outcomes};
+use orc_merger::{grouping, orders, outcomes};
 
 /// Files that are joined in groups become the file that they become at once: the same bytes, in whatever groups,
 /// which have all the files' rows in order. Its statistics are the same for every order of the files, and are those

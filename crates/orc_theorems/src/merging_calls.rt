@@ -11,18 +11,18 @@ ghost use Rattle.orc_file.specs.FileRows as rows;
 ghost use Rattle.orc_file.specs.Honest.{Honest, HasWholeStats, each_fits};
 ghost use Rattle.orc_tail.specs.Tails.{IsTail};
 ghost use Rattle.orc_tail.specs.declared.tail.Tail.{Tail};
-ghost use Rattle.orc_merge.specs.declared.fault.MergeFault.{MergeFault};
-ghost use Rattle.orc_merge.specs.Faults.{IsRefused, IsDeviceFault};
-ghost use Rattle.orc_merge.specs.Merging.{IsMerge};
-ghost use Rattle.orc_merge.specs.Outcomes.{WroteMerge, IsAnswer};
-ghost use Rattle.orc_merge.specs.Grouping as grouping;
-ghost use Rattle.orc_merge.specs.Grouping.{Groups, all_leaves, Gives, AllShort, HaveRows, AreHonestFiles, AreFellows, ComesOfJoining, Wrote};
+ghost use Rattle.orc_merger.specs.declared.fault.MergeFault.{MergeFault};
+ghost use Rattle.orc_merger.specs.Faults.{IsRefused, IsDeviceFault};
+ghost use Rattle.orc_merger.specs.Merging.{IsMerge};
+ghost use Rattle.orc_merger.specs.Outcomes.{WroteMerge, IsAnswer};
+ghost use Rattle.orc_merger.specs.Grouping as grouping;
+ghost use Rattle.orc_merger.specs.Grouping.{Groups, all_leaves, Gives, AllShort, HaveRows, AreHonestFiles, AreFellows, ComesOfJoining, Wrote};
 ghost use Rattle.orc_theorems.specs.Groupings.{at_once, first_two, last_two, Gave, IsStepAnswer};
 
 use crate::memory::{FileInMemory, is_same, join_three, join_two};
 use crate::merging::merge_theorem;
 use orc_file::{Sink, SliceSource, Source, Tail, VecSink};
-use orc_merge::{MergeFault, merge};
+use orc_merger::{MergeFault, merge};
 use std::alloc::Global;
 
 /// Merges each of two lists of files into memory, and then the two that this gave. What goes out is the merged file

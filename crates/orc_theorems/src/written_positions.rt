@@ -13,13 +13,13 @@ ghost use Rattle.orc_stripe_writer.specs.declared.options.Options.{Options};
 ghost use Rattle.orc_file.specs.FileRows.{FileIs, joined};
 ghost use Rattle.orc_file.specs.Writing.{IsWhole};
 ghost use Rattle.orc_tail.specs.declared.tail.Tail.{Tail};
-ghost use Rattle.orc_merge.specs.Merging.{IsMerge};
-ghost use Rattle.orc_merge.specs.Grouping.{Groups, merge, all_leaves, Wrote};
+ghost use Rattle.orc_merger.specs.Merging.{IsMerge};
+ghost use Rattle.orc_merger.specs.Grouping.{Groups, merge, all_leaves, Wrote};
 ghost use Rattle.orc_theorems.specs.WrittenIndexes.{HasWrittenIndexes, AreIndexedAsWritten, WereWritten};
 ghost use Rattle.orc_theorems.specs.OneRunPlaces.{ReadsOneRun};
 
 use orc_file::written_laws;
-use orc_merge::grouping;
+use orc_merger::grouping;
 
 /// From a position in a row index of a file that was written, `seek` reads one run at most, whatever the stream is of.
 /// So it does in a file that is merged of such files, in whatever groups. It is said of a writer's indexes: those of

@@ -1,8 +1,8 @@
 //! Sources of which one read fails.
 use crate::assertions::{check_same, demand};
 use crate::calls::{checked, refusal_of};
-use orc_check::Finding;
 use orc_file::FileFault;
+use orc_merge::Finding;
 use orc_test_io::{EMPTY, FailSource, SEVENS, UPWARDS};
 use std::alloc::Global;
 use std::process::Abort;

@@ -1,6 +1,6 @@
 use Rattle.orc_file.specs.FileRows.{joined}
 use Rattle.orc_check.proofs.NoFinding.{whole_tells}
-use Rattle.orc_merge.specs.Grouping.{all_leaves}
+use Rattle.orc_merger.specs.Grouping.{all_leaves}
 use Rattle.orc_theorems.proofs.MergedIndexes.{merged_indexes, are_files, are_honest}
 use Rattle.orc_theorems.proofs.merged_findings.findings_of_merges.Goals as goal
 

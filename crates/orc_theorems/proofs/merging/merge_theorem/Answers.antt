@@ -2,8 +2,8 @@ use Rattle.std.proofs.Common.{◌∙◌, ℕ, List, ap, subst}
 use Rattle.orc_io.specs.Devices.{appended}
 use Rattle.orc_file.specs.FileRows.{joined}
 use Rattle.orc_tail.specs.declared.tail.Tail.{Tail}
-use Rattle.orc_merge.specs.Merging.{IsMerge}
-use Rattle.orc_merge.specs.Grouping.{merge, all_leaves, Wrote}
+use Rattle.orc_merger.specs.Merging.{IsMerge}
+use Rattle.orc_merger.specs.Grouping.{merge, all_leaves, Wrote}
 use Rattle.orc_theorems.proofs.SumLemmas.{honest_have_rows, sum_told}
 use Rattle.orc_theorems.proofs.merging.merge_theorem.Goals as goal
 

@@ -1,6 +1,6 @@
 use Rattle.std.proofs.Common.{◌∙◌, ℕ, List, [], ◌∷◌, inl, inr, sym, subst}
 use Rattle.std.proofs.lemmas.Result.{err_from_is_err_and}
-use Rattle.orc_merge.specs.Grouping.{Wrote}
+use Rattle.orc_merger.specs.Grouping.{Wrote}
 use Rattle.orc_theorems.specs.Groupings.{first_two, last_two}
 use Rattle.orc_theorems.proofs.StepLemmas.{merge_of, first_two_same, last_two_same, last_two_wrote, given_is, last_step, last_last_step, only_step}
 use Rattle.orc_theorems.proofs.merging_calls.join_in_groupings.Goals as goal

@@ -1,5 +1,5 @@
 use Rattle.orc_file.specs.FileRows.{joined}
-use Rattle.orc_merge.specs.Grouping.{all_leaves}
+use Rattle.orc_merger.specs.Grouping.{all_leaves}
 use Rattle.orc_theorems.specs.WrittenIndexes.{IsIndexedAsWritten}
 use Rattle.orc_theorems.proofs.MergedStripes.{have_rows, merged_stripes}
 use Rattle.orc_theorems.proofs.IndexesAsWritten.{as_written_moved, file_indexed, files_indexed, files_hold}

@@ -1,0 +1,106 @@
+use Rattle.std.proofs.Common.{inl, inr, [], ◌∷◌, map, refl}
+use Rattle.std.proofs.lemmas.Result.{err_from_is_err_and}
+use Rattle.orc_tail.specs.declared.tail.Tail.{Tail}
+use Rattle.orc_merger.specs.SoFar.{IsNext}
+use Rattle.orc_merger.proofs.InputsRead.{no_tails, one_more, open_refused, next_refused, no_memory, no_memory_counted, open_named, no_memory_named}
+use Rattle.orc_merger.proofs.NextTests.{own_kind, none_merge, end_few, rows_few, first_refused, join_counted, join_named}
+use Rattle.orc_merger.proofs.gathering.gather_first.Goals as goal
+
+pub returns-in_err-tail-clause-refused : goal.returns-in_err-tail-clause-refused
+returns-in_err-tail-clause-refused g c =
+    let p = err_from_is_err_and c.from_residual.result c.from_residual.ensures.1 in
+    rw (p.1, p.2) (open_refused g.S.Source.told (map g.S.Source.size c.args.inputs.now) c.args.inputs.now 0 c.index-inputs-0.result [] _ c.requires (no_tails _ _) tt c.in_err-tail.ensures.fault)
+
+pub add-requires-clause-end : goal.add-requires-clause-end
+add-requires-clause-end g c =
+    let t : Tail = c.in_ok-tail.tail in
+    end_few t [] c.new-gathered.result (none_merge t c.in_ok-tail.ensures.limits) (c.new-gathered.ensures t c.take_lists-lists.ensures.left)
+
+pub add-requires-clause-rows : goal.add-requires-clause-rows
+add-requires-clause-rows g c =
+    let t : Tail = c.in_ok-tail.tail in
+    rows_few t [] c.new-gathered.result (none_merge t c.in_ok-tail.ensures.limits) (c.new-gathered.ensures t c.take_lists-lists.ensures.left)
+
+pub returns-in_err-add-clause-refused : goal.returns-in_err-add-clause-refused
+returns-in_err-add-clause-refused g c =
+    let t : Tail = c.in_ok-tail.tail in
+    let next : IsNext t [] t 0 c.take_lists-lists.result c.new-gathered.result = record {
+      number_is = refl;
+      gathered = c.new-gathered.ensures t c.take_lists-lists.ensures.left;
+      merges = none_merge t c.in_ok-tail.ensures.limits;
+      first_within = c.in_ok-tail.ensures.limits;
+      tails_within = tt;
+      tail_within = c.in_ok-tail.ensures.limits;
+      kind = own_kind t;
+      lists_are = c.take_lists-lists.ensures.lists;
+    } in
+    let p = err_from_is_err_and c.from_residual-in_err-add.result c.from_residual-in_err-add.ensures.1 in
+    rw (p.1, p.2) (elim c.in_err-add.ensures.fault [
+      | inl is ↦ no_memory _ is _
+      | inr fails ↦ next_refused g.S.Source.told (map g.S.Source.size c.args.inputs.now) c.args.inputs.now 0 c.index-inputs-0.result [] t _ c.requires (no_tails _ _) tt c.in_ok-tail.ensures.found (first_refused t _ (fails t t [] next))
+    ])
+
+pub returns-in_err-add-clause-counted : goal.returns-in_err-add-clause-counted
+returns-in_err-add-clause-counted g c =
+    let t : Tail = c.in_ok-tail.tail in
+    let next : IsNext t [] t 0 c.take_lists-lists.result c.new-gathered.result = record {
+      number_is = refl;
+      gathered = c.new-gathered.ensures t c.take_lists-lists.ensures.left;
+      merges = none_merge t c.in_ok-tail.ensures.limits;
+      first_within = c.in_ok-tail.ensures.limits;
+      tails_within = tt;
+      tail_within = c.in_ok-tail.ensures.limits;
+      kind = own_kind t;
+      lists_are = c.take_lists-lists.ensures.lists;
+    } in
+    let p = err_from_is_err_and c.from_residual-in_err-add.result c.from_residual-in_err-add.ensures.1 in
+    rw (p.1, p.2) (elim c.in_err-add.ensures.fault [
+      | inl is ↦ no_memory_counted _ _ _ is
+      | inr fails ↦ join_counted _ _ t t (t ∷ []) 0 _ (fails t t [] next)
+    ])
+
+pub returns-clause-found : goal.returns-clause-found
+returns-clause-found g c =
+    let t : Tail = c.in_ok-tail.tail in
+    let limits = c.in_ok-tail.ensures.limits in
+    let next : IsNext t [] t 0 c.take_lists-lists.result c.new-gathered.result = record {
+      number_is = refl;
+      gathered = c.new-gathered.ensures t c.take_lists-lists.ensures.left;
+      merges = none_merge t limits;
+      first_within = limits;
+      tails_within = tt;
+      tail_within = limits;
+      kind = own_kind t;
+      lists_are = c.take_lists-lists.ensures.lists;
+    } in
+    record {
+      first = t;
+      rest = [];
+      tails_are = one_more g.S.Source.told g.S.Source.size c.args.inputs.now 0 c.index-inputs-0.result [] t c.requires (no_tails _ _) limits c.in_ok-tail.ensures.within c.in_ok-tail.ensures.found;
+      merges = c.in_ok-add.ensures.merges t t [] next;
+      gathered = c.in_ok-add.ensures.gathered t t [] next;
+    }
+
+pub returns-in_err-tail-clause-named : goal.returns-in_err-tail-clause-named
+returns-in_err-tail-clause-named g c =
+    let p = err_from_is_err_and c.from_residual.result c.from_residual.ensures.1 in
+    rw (p.1, p.2) (open_named _ 0 _ _ c.requires c.in_err-tail.ensures.fault)
+
+pub returns-in_err-add-clause-named : goal.returns-in_err-add-clause-named
+returns-in_err-add-clause-named g c =
+    let t : Tail = c.in_ok-tail.tail in
+    let next : IsNext t [] t 0 c.take_lists-lists.result c.new-gathered.result = record {
+      number_is = refl;
+      gathered = c.new-gathered.ensures t c.take_lists-lists.ensures.left;
+      merges = none_merge t c.in_ok-tail.ensures.limits;
+      first_within = c.in_ok-tail.ensures.limits;
+      tails_within = tt;
+      tail_within = c.in_ok-tail.ensures.limits;
+      kind = own_kind t;
+      lists_are = c.take_lists-lists.ensures.lists;
+    } in
+    let p = err_from_is_err_and c.from_residual-in_err-add.result c.from_residual-in_err-add.ensures.1 in
+    rw (p.1, p.2) (elim c.in_err-add.ensures.fault [
+      | inl is ↦ no_memory_named _ 0 _ c.requires is
+      | inr fails ↦ join_named _ t t (t ∷ []) 0 _ c.requires (fails t t [] next)
+    ])

@@ -1,0 +1,11 @@
+use Rattle.std.proofs.Common.{◌≡◌, inl, inr, rules}
+use Rattle.orc_tail.specs.declared.fault.FileFault.TheVariants.{SourceFailed, OutOfMemory}
+use Rattle.orc_merger.proofs.InputsRead.{tail_unfound}
+use Rattle.orc_merger.proofs.gathering.tail_of.Goals as goal
+
+pub returns-in-Err-clause-fault : goal.returns-in-Err-clause-fault
+returns-in-Err-clause-fault g c =
+    let source : c.in-Err.fault ≡ SourceFailed → ⊥ = search rules in
+    let memory : c.in-Err.fault ≡ OutOfMemory → ⊥ = search rules in
+    tail_unfound c.args.number _ c.in-Err.fault source memory c.in-Err.ensures.fault
+    (elim c.in-Err.ensures.unfailed [ inl is ↦ inl is | inr named ↦ inr named.0 ])

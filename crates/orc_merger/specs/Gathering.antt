@@ -1,0 +1,56 @@
+-- What is gathered of the inputs, one after the other.
+use Rattle.std.specs.Prelude.{◌≡◌, ℕ, ◌+◌, List, [], ◌∷◌, ◌++◌, map}
+use Rattle.orc_wire.specs.declared.stripe_info.StripeInfo.{StripeInfo}
+use Rattle.orc_wire.specs.declared.footer.UserMetadataItem.{UserMetadataItem}
+use Rattle.orc_tail.specs.Stripes.{stripe_length}
+use Rattle.orc_tail.specs.Images.{IsWithinLimits}
+use Rattle.orc_tail.specs.declared.tail.Tail.{Tail}
+use Rattle.orc_merger.specs.declared.copying.Piece.{Piece}
+use Rattle.orc_merger.specs.declared.user_pairs.UserPairs.{UserPairs}
+use Rattle.orc_merger.specs.declared.fault.MergeFault.{MergeFault}
+use Rattle.orc_merger.specs.declared.fault.MergeFault.TheVariants.{SchemaDiffers, VersionDiffers, StrideDiffers, OtherFooterFields}
+use Rattle.orc_merger.specs.declared.fault.MergeFault.TheVariants.{UserMetadataConflict, NoStripeStatistics, Limit}
+use Rattle.orc_merger.specs.Merging.{Agree, distinct, all_pairs, merged, SameVersion, HasStatistics}
+use Rattle.orc_merger.specs.Faults.{Tested}
+use Rattle.orc_merger.specs.PairPlaces.{ArePlaces}
+
+-- where the stripes of the input with that number stand in it
+abbrev pub pieces_in : ℕ → List StripeInfo → List Piece
+pieces_in i stripes = map (λ (s : StripeInfo). record { input = i; offset = s.offset; len = stripe_length s }) stripes
+
+-- where those of the inputs from the one with that number on stand
+abbrev pub pieces_of : ℕ → List Tail → List Piece
+pieces_of i [] = []
+pieces_of i (t ∷ ts) = pieces_in i t.stripes ++ pieces_of (i + 1) ts
+
+-- each pair whose name is new, of pairs that agree; each is found by its name
+pub record HasPairs (all : List UserMetadataItem) (kept : UserPairs) : Type 0 where
+  pub agree : Agree all
+  pub kept_are : kept.pairs.items ≡ distinct all
+  pub places : ArePlaces kept.pairs.items kept.places
+
+-- of one schema, version and stride, with the same other footer fields
+pub record IsOfKind (first tail : Tail) : Type 0 where
+  pub schema : tail.schema ≡ first.schema
+  pub version : SameVersion first tail
+  pub stride : tail.stride ≡ first.stride
+  pub other : tail.other ≡ first.other
+
+-- the first of those that differs
+abbrev pub KindFault : ℕ → Tail → Tail → MergeFault → Type 0
+KindFault i first tail fault =
+    Tested (tail.schema ≡ first.schema) (SchemaDiffers i) fault (
+    Tested (SameVersion first tail) (VersionDiffers i) fault (
+    Tested (tail.stride ≡ first.stride) (StrideDiffers i) fault (
+    Tested (tail.other ≡ first.other) (OtherFooterFields i) fault ⊥)))
+
+-- the tests of the next input that ask of all of them together, after those of its kind
+abbrev pub JoinFault : ℕ → Tail → Tail → List Tail → MergeFault → Type 0
+JoinFault i first tail all fault =
+    Tested (Agree (all_pairs all)) (UserMetadataConflict i) fault (
+    Tested (HasStatistics tail) (NoStripeStatistics i) fault (
+    Tested (IsWithinLimits (merged first all)) (Limit i) fault ⊥))
+
+-- a tail without what is joined
+abbrev pub bare : Tail → Tail
+bare tail = record tail { stripes = []; stripe_stats = []; user = [] }

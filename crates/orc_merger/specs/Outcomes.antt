@@ -1,0 +1,24 @@
+-- What stands after a merge.
+use Rattle.std.specs.Prelude.{◌≡◌, ◌⊎◌, ℕ, ◌<◌, ◌^◌, List, length, Option}
+use Rattle.orc_io.specs.Devices.{appended}
+use Rattle.orc_tail.specs.declared.tail.Tail.{Tail}
+use Rattle.orc_merger.specs.declared.fault.MergeFault.{MergeFault}
+use Rattle.orc_merger.specs.Merging.{IsMerge}
+use Rattle.orc_merger.specs.Faults.{IsRefused, IsDeviceFault}
+use Rattle.orc_merger.specs.Copies.{WroteSome}
+
+-- where no device failed, the inputs are refused for this fault
+abbrev pub IsAnswer : List (List ℕ) → MergeFault → Type 0
+IsAnswer files fault = IsDeviceFault fault ⊎ IsRefused files fault
+
+-- the merged file went out, and its length fits 64 bits
+pub record WroteMerge (files : List (List ℕ)) (tail : Tail) (old new : Option (List ℕ)) : Type 0 where
+  pub bytes : List ℕ
+  pub merge : IsMerge files tail bytes
+  pub few : length bytes < 2 ^ 64
+  pub told_is : new ≡ appended old bytes
+
+-- nothing went out, or a part of the merged file from its front on
+abbrev pub WrotePart : List (List ℕ) → Option (List ℕ) → Option (List ℕ) → Type 0
+WrotePart files old new =
+    (new ≡ old) ⊎ ((tail : Tail) × (bytes : List ℕ) × IsMerge files tail bytes × WroteSome old new bytes)

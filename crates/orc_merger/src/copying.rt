@@ -1,0 +1,178 @@
+//! Bytes go out: pieces of the inputs through one array, and what stands before and behind them.
+ghost use Rattle.std.specs.Prelude.{◌≡◌, ◌+◌, ◌<◌, ◌≤◌, ◌++◌, ℕ, List, Some, length, map, slice_index, IfErr, OnOk, IsErrOf, All};
+ghost use Rattle.std.specs.Bool.{OnTrue, OnFalse};
+ghost use Rattle.orc_io.specs.Devices.{appended};
+ghost use Rattle.orc_tail.specs.Layout.{magic};
+ghost use Rattle.orc_merger.specs.Copies.{Copied, CopiedSome, WroteSome, IsLastOfInput};
+ghost use Rattle.orc_merger.specs.Copies.{piece_at, piece_bytes, pieces_bytes};
+
+use orc_file::{Sink, Source, write_all};
+
+/// Which device failed while bytes were copied.
+#[derive(Clone, Copy)]
+pub(crate) enum CopyFault {
+    SourceFailed,
+    WriteFailed,
+}
+
+/// How many bytes are held at a time.
+const WINDOW: usize = 16_384;
+
+/// Copies `len` bytes from a place on, through one array: a read for each full array and one for the rest.
+fn copy_range<S: Source, W: Sink>(
+    source: &mut S,
+    at: u64,
+    len: u64,
+    out: &mut W,
+) -> Result<(), CopyFault>
+    requires { at + len ≤ S.size source.old }
+    ensures size { S.size source.new ≡ S.size source.old }
+    ensures told { S.told source.new ≡ S.told source.old }
+    ensures all { OnOk result (Copied (S.told source.old) at len (W.told out.old) (W.told out.new)) }
+    ensures prefix { CopiedSome (S.told source.old) at len (W.told out.old) (W.told out.new) }
+    ensures kept { OnOk result ((S.failures source.new ≡ S.failures source.old)
+        × (W.failures out.new ≡ W.failures out.old)) }
+    ensures source_failed { IsErrOf result CopyFault.SourceFailed → S.failures source.old < S.failures source.new }
+    ensures write_failed { IsErrOf result CopyFault.WriteFailed → W.failures out.old < W.failures out.new }
+{
+    // for its contract alone: the source's size is a number of 64 bits, and so is each place in it
+    let _all = source.len();
+    let mut window = [0u8; WINDOW];
+    let mut done = 0;
+    while done < len {
+        let n = (len - done).min(WINDOW as u64) as usize;
+        let part = &mut window[..n];
+        match source.read_at(at + done, part) {
+            Ok(()) => {}
+            Err(_) => return Err(CopyFault::SourceFailed),
+        }
+        match write_all(out, part) {
+            Ok(()) => {}
+            Err(_) => return Err(CopyFault::WriteFailed),
+        }
+        done += n as u64;
+    }
+    Ok(())
+}
+
+/// Where the bytes of a stripe stand: in which input, from which place on, and how many.
+#[derive(Clone, Copy)]
+pub(crate) struct Piece {
+    pub input: usize,
+    pub offset: u64,
+    pub len: u64,
+}
+
+/// Whether the piece with this number is the last one in a row of its input's.
+fn is_last_of_input(pieces: &[Piece], i: usize) -> bool
+    requires { i < length pieces.now }
+    ensures yes { OnTrue result (IsLastOfInput pieces.now i) }
+    ensures no { OnFalse result (IsLastOfInput pieces.now i → ⊥) }
+{
+    match pieces.get(i + 1) {
+        Some(next) => next.input != pieces[i].input,
+        None => true,
+    }
+}
+
+/// Copies the piece with this number. After the last one in a row of its input's, and after a refusal, the input rests:
+/// pieces stand input by input, so each input rests before the next one is read. An `Err` says which input's.
+fn copy_piece<S: Source, W: Sink>(
+    inputs: &mut [S],
+    pieces: &[Piece],
+    i: usize,
+    out: &mut W,
+) -> Result<(), (usize, CopyFault)>
+    requires number { i < length pieces.now }
+    requires input { (piece_at pieces.now i).input < length inputs.old }
+    requires size { (piece_at pieces.now i).offset + (piece_at pieces.now i).len
+        ≤ slice_index (map S.size inputs.old) (piece_at pieces.now i).input }
+    ensures told { map S.told inputs.new ≡ map S.told inputs.old }
+    ensures sizes { map S.size inputs.new ≡ map S.size inputs.old }
+    ensures all { OnOk result ((files : List (List ℕ)) → map S.told inputs.old ≡ map Some files
+        → W.told out.new ≡ appended (W.told out.old) (piece_bytes files (piece_at pieces.now i))) }
+    ensures some { (files : List (List ℕ)) → map S.told inputs.old ≡ map Some files
+        → WroteSome (W.told out.old) (W.told out.new) (piece_bytes files (piece_at pieces.now i)) }
+    ensures kept { OnOk result ((map S.failures inputs.new ≡ map S.failures inputs.old)
+        × (W.failures out.new ≡ W.failures out.old)) }
+    ensures source_failed { IfErr result (λ e. e.1 ≡ CopyFault.SourceFailed
+        → slice_index (map S.failures inputs.old) e.0 < slice_index (map S.failures inputs.new) e.0) }
+    ensures write_failed { IfErr result (λ e. e.1 ≡ CopyFault.WriteFailed → W.failures out.old < W.failures out.new) }
+{
+    let piece = pieces[i];
+    let input = &mut inputs[piece.input];
+    match copy_range(input, piece.offset, piece.len, out) {
+        Ok(()) => {
+            if is_last_of_input(pieces, i) {
+                input.rest();
+            }
+            Ok(())
+        }
+        Err(fault) => {
+            input.rest();
+            Err((piece.input, fault))
+        }
+    }
+}
+
+/// Copies the pieces, one after the other. An `Err` says which input's.
+fn copy_pieces<S: Source, W: Sink>(
+    inputs: &mut [S],
+    pieces: &[Piece],
+    out: &mut W,
+) -> Result<(), (usize, CopyFault)>
+    requires inputs { All (λ p. p.input < length inputs.old) pieces.now }
+    requires sizes { All (λ p. p.offset + p.len ≤ slice_index (map S.size inputs.old) p.input) pieces.now }
+    ensures told { map S.told inputs.new ≡ map S.told inputs.old }
+    ensures all { OnOk result ((files : List (List ℕ)) → map S.told inputs.old ≡ map Some files
+        → W.told out.new ≡ appended (W.told out.old) (pieces_bytes files pieces.now)) }
+    ensures some { (files : List (List ℕ)) → map S.told inputs.old ≡ map Some files
+        → WroteSome (W.told out.old) (W.told out.new) (pieces_bytes files pieces.now) }
+    ensures kept { OnOk result ((map S.failures inputs.new ≡ map S.failures inputs.old)
+        × (W.failures out.new ≡ W.failures out.old)) }
+    ensures source_failed { IfErr result (λ e. e.1 ≡ CopyFault.SourceFailed
+        → slice_index (map S.failures inputs.old) e.0 < slice_index (map S.failures inputs.new) e.0) }
+    ensures write_failed { IfErr result (λ e. e.1 ≡ CopyFault.WriteFailed → W.failures out.old < W.failures out.new) }
+{
+    for i in 0..pieces.len() {
+        match copy_piece(inputs, pieces, i, out) {
+            Ok(()) => {}
+            Err(fault) => return Err(fault),
+        }
+    }
+    Ok(())
+}
+
+/// Writes `ORC`, the pieces and a text.
+pub(crate) fn write_merged<S: Source, W: Sink>(
+    inputs: &mut [S],
+    pieces: &[Piece],
+    text: &[u8],
+    out: &mut W,
+) -> Result<(), (usize, CopyFault)>
+    requires inputs { All (λ p. p.input < length inputs.old) pieces.now }
+    requires sizes { All (λ p. p.offset + p.len ≤ slice_index (map S.size inputs.old) p.input) pieces.now }
+    ensures told { map S.told inputs.new ≡ map S.told inputs.old }
+    ensures all { OnOk result ((files : List (List ℕ)) → map S.told inputs.old ≡ map Some files
+        → W.told out.new ≡ appended (W.told out.old) (magic ++ (pieces_bytes files pieces.now ++ text.now))) }
+    ensures some { (files : List (List ℕ)) → map S.told inputs.old ≡ map Some files
+        → WroteSome (W.told out.old) (W.told out.new) (magic ++ (pieces_bytes files pieces.now ++ text.now)) }
+    ensures kept { OnOk result ((map S.failures inputs.new ≡ map S.failures inputs.old)
+        × (W.failures out.new ≡ W.failures out.old)) }
+    ensures source_failed { IfErr result (λ e. e.1 ≡ CopyFault.SourceFailed
+        → slice_index (map S.failures inputs.old) e.0 < slice_index (map S.failures inputs.new) e.0) }
+    ensures write_failed { IfErr result (λ e. e.1 ≡ CopyFault.WriteFailed → W.failures out.old < W.failures out.new) }
+{
+    match write_all(out, b"ORC") {
+        Ok(()) => {}
+        Err(_) => return Err((0, CopyFault::WriteFailed)),
+    }
+    match copy_pieces(inputs, pieces, out) {
+        Ok(()) => {}
+        Err(fault) => return Err(fault),
+    }
+    match write_all(out, text) {
+        Ok(()) => Ok(()),
+        Err(_) => Err((0, CopyFault::WriteFailed)),
+    }
+}
