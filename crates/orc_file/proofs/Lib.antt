@@ -8,6 +8,7 @@ pub mod StatTests
 pub mod Spread
 pub mod WriterLemmas
 pub mod PushLemmas
+pub mod BatchSteps
 pub mod TailLimits
 pub mod ChildrenRoom
 pub mod WrittenBits

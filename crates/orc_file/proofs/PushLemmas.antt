@@ -1,13 +1,10 @@
 -- What a row more leaves, where it fills a stripe.
 use Rattle.std.proofs.Common.{◌≡◌, ℕ, ◌+◌, ◌<◌, Bool, true, false, List, [], ◌∷◌, ◌++◌, length, Option, Result, Ok, Err, sym, ap, subst, arith, length-append}
 use Rattle.std.specs.Result.{OnOk, OnErr}
-use Rattle.std.proofs.lemmas.List.{length-map}
 use Rattle.orc_stripe_writer.specs.declared.options.Options.{Options}
 use Rattle.orc_wire.specs.declared.stripe_info.StripeInfo.{StripeInfo}
 use Rattle.orc_values.specs.Shapes.{Shape}
 use Rattle.orc_values.specs.Cells.{Cell}
-use Rattle.orc_values.specs.Views.{view, views}
-use Rattle.orc_values.specs.declared.value.Value.{Value}
 use Rattle.orc_stats.specs.declared.stat.Stat.{Stat}
 use Rattle.orc_file.proofs.Spread.{HasKept, HasPushed}
 
@@ -21,13 +18,12 @@ pub refused_so : {T E P : Type 0} (r : Result T E) → P → OnErr r P
 refused_so (Ok x) p = tt
 refused_so (Err x) p = p
 
-pub one_more : (before after : List (Option Value)) (row : Cell) → views after ≡ views before ++ row ∷ [] → length after ≡ length before + 1
-one_more before after row e =
-    omega (arith, length-map before view, length-map after view, ap length e, length-append (views before) (row ∷ []))
+pub one_more : (before after : List Cell) (row : Cell) → after ≡ before ++ row ∷ [] → length after ≡ length before + 1
+one_more before after row e = omega (arith, ap length e, length-append before (row ∷ []))
 
 -- once the stripe is written, no row is kept
-pub pushed_full : {T E : Type 0} (r : Result T E) (options : Options) (s : Shape) (first told : Option (List ℕ)) (written : ℕ) (infos : List StripeInfo) (stats : List (List Stat)) (kept : List (Option Value)) (rows : List Cell)
-    → 0 < options.stripe_rows → OnOk r (kept ≡ []) → OnOk r (HasKept options s first told written infos stats [] rows) → OnOk r (HasPushed options s first told written infos stats (views kept) rows)
+pub pushed_full : {T E : Type 0} (r : Result T E) (options : Options) (s : Shape) (first told : Option (List ℕ)) (written : ℕ) (infos : List StripeInfo) (stats : List (List Stat)) (kept rows : List Cell)
+    → 0 < options.stripe_rows → OnOk r (kept ≡ []) → OnOk r (HasKept options s first told written infos stats [] rows) → OnOk r (HasPushed options s first told written infos stats kept rows)
 pushed_full (Ok x) options s first told written infos stats kept rows l e h =
-    subst (λ k. HasPushed options s first told written infos stats (views k) rows) (sym e) (h, l)
+    subst (λ k. HasPushed options s first told written infos stats k rows) (sym e) (h, l)
 pushed_full (Err x) options s first told written infos stats kept rows l e h = tt

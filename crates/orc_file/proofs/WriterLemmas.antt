@@ -9,11 +9,8 @@ use Rattle.orc_stripe_writer.specs.declared.options.Options.{Options}
 use Rattle.orc_wire.specs.declared.stripe_info.StripeInfo.{StripeInfo}
 use Rattle.orc_values.specs.Shapes.{Shape, scalar, list_of, map_of, struct_of, width}
 use Rattle.orc_types.specs.Schemas.{IsSchema}
-use Rattle.orc_values.specs.Cells.{Cell, cells_of}
+use Rattle.orc_values.specs.Cells.{Cell}
 use Rattle.orc_values.specs.Columns.{cells}
-use Rattle.orc_values.specs.Fits.{fits, all_fit, RowsFit}
-use Rattle.orc_values.specs.Views.{views}
-use Rattle.orc_values.specs.declared.value.Value.{Value}
 use Rattle.orc_stats.specs.declared.stat.Stat.{Stat}
 use Rattle.orc_column_reader.specs.Stripe.{IsStripe}
 use Rattle.orc_stripe_writer.specs.WrittenStripe.{AreFew}
@@ -88,11 +85,11 @@ pub within_of : (infos : List StripeInfo) (total k : ℕ) → length infos ≤ m
 within_of infos total k n t f b = record { stripes = n; rows = omega (arith, t, f); bytes = b }
 
 -- the kept rows' stripe is within the limits
-pub stripe_within : (s : Shape) (infos : List StripeInfo) (info : StripeInfo) (bytes : List ℕ) (kept : List Cell) (total k : ℕ) → IsStripe s info bytes kept → length infos < most_stripes
-    → total ≡ stripes_rows infos + k → length kept ≡ k → total ≤ most_rows → stripes_length infos + length bytes ≤ most_bytes → AreWithin (infos ++ info ∷ [])
-stripe_within s infos info bytes kept total k h room t l few b =
+pub stripe_within : (s : Shape) (infos : List StripeInfo) (info : StripeInfo) (bytes : List ℕ) (kept : List Cell) (total : ℕ) → IsStripe s info bytes kept → length infos < most_stripes
+    → total ≡ stripes_rows infos + length kept → total ≤ most_rows → stripes_length infos + length bytes ≤ most_bytes → AreWithin (infos ++ info ∷ [])
+stripe_within s infos info bytes kept total h room t few b =
     let c = stripe_rows s info bytes kept h in let n = stripe_bytes s info bytes kept h in
-    within_more infos info room (omega (arith, t, l, few, c)) (omega (arith, b, n))
+    within_more infos info room (omega (arith, t, few, c)) (omega (arith, b, n))
 
 -- ---- places of stripes
 
@@ -110,16 +107,6 @@ laid_rows at (i ∷ is) h =
     let q = and_parts (ltb i.number_of_rows (2 ^ 31)) (are_laid_with_few_rows (stripe_end i) is) p.1 in
     let l = ltb-true i.number_of_rows (2 ^ 31) q.0 in
     (omega (arith, l), laid_rows (stripe_end i) is q.1)
-
--- ---- rows that fit
-
-pub rows_fit : (s : Shape) (rows : List Cell) → all_fit (cells_of rows) s ≡ true → RowsFit s rows
-rows_fit s [] h = tt
-rows_fit s (c ∷ cs) h = let p = and_parts (fits c s) (all_fit (cells_of cs) s) h in (p.0, rows_fit s cs p.1)
-
-pub fit_more : (s : Shape) (rows : List Cell) (row : Cell) → all_fit (cells_of rows) s ≡ true → fits row s ≡ true → all_fit (cells_of (rows ++ row ∷ [])) s ≡ true
-fit_more s [] row h f = both (fits row s) true f refl
-fit_more s (c ∷ cs) row h f = let p = and_parts (fits c s) (all_fit (cells_of cs) s) h in both (fits c s) _ p.0 (fit_more s cs row p.1 f)
 
 -- ---- stripes, one more behind others
 
@@ -376,7 +363,7 @@ cut_all options s first told written infos stats kept rows h c e is new a b w sc
 pub root_few : (s : Shape) (rows : List Cell) → AreFew s rows → length rows < 2 ^ 31
 root_few s rows few = let f = few 0 (has_root s) in let e = root_rows s rows in omega (arith, f, e)
 
-pub none_kept : (rows : List (Option Value)) → length rows ≡ 0 → views rows ≡ []
+pub none_kept : (rows : List Cell) → length rows ≡ 0 → rows ≡ []
 none_kept [] e = refl
 none_kept (r ∷ rs) e = absurd (omega (arith, e))
 

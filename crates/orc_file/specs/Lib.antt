@@ -6,4 +6,5 @@ pub mod Honest
 pub mod Counts
 pub mod Counting
 pub mod Writing
+pub mod Held
 pub mod Progress

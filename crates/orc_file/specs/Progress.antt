@@ -1,6 +1,6 @@
 -- What a writer has done so far, by its fields.
 use Rattle.std.specs.Prelude.{ℕ, List, Option}
-use Rattle.orc_values.specs.Views.{views}
+use Rattle.orc_row_batch.specs.Batch.{kept_rows}
 use Rattle.orc_io.specs.declared.sink.Sink.{Ghosts}
 use Rattle.orc_file.specs.Writing.{Progress}
 use Rattle.orc_file.specs.declared.writer.Writer.{Writer}
@@ -14,5 +14,5 @@ progress told w = record {
   written = w.written;
   infos = w.infos.items;
   stats = w.stats.items;
-  kept = views w.rows.items;
+  kept = kept_rows w.schema w.batch;
 }

@@ -1,18 +1,18 @@
 //! A writer of a file.
 ghost use Rattle.std.specs.Prelude.{◌≡◌, ◌+◌, ◌<◌, ◌≤◌, ℕ, length, get_or, true, false};
 ghost use Rattle.orc_values.specs.Shapes.{width};
-ghost use Rattle.orc_values.specs.Cells.{cells_of};
 ghost use Rattle.orc_values.specs.Columns as columns;
-ghost use Rattle.orc_values.specs.Fits as fitting;
-ghost use Rattle.orc_values.specs.Views.{views};
+ghost use Rattle.orc_row_batch.specs.Batch.{Holds, kept_rows};
 ghost use Rattle.orc_tail.specs.Stripes.{stripes_length, stripes_rows, most_stripes, most_rows, most_bytes};
 ghost use Rattle.orc_file.specs.Counts.{are_laid_with_few_rows, are_few, are_all_stats};
+ghost use Rattle.orc_file.specs.Held.{Holds-prop};
 
 mod counting;
 mod file_end;
 mod writing;
 
 use orc_io::Sink;
+use orc_row_batch::RowBatch;
 use orc_stats::Stat;
 use orc_stripe::Options;
 use orc_types::Schema;
@@ -36,14 +36,14 @@ pub struct Writer<W: Sink> {
     pub(crate) written: u64,
     /// How many rows were pushed.
     pub(crate) total: u64,
-    /// Those of the stripe that is still open.
-    pub(crate) rows: Vec<Row<'static>>,
+    /// Those of the stripe that is still open, as columns.
+    pub(crate) batch: RowBatch,
     /// How many cells each column has in them.
     pub(crate) counts: Vec<u64>,
     /// Room for the counts with a row more.
     pub(crate) sums: Vec<u64>,
-    /// Rows of the stripe before, for their room alone: no more than the open stripe is still to have.
-    pub(crate) spare: Vec<Row<'static>>,
+    /// The row that was given away last, for its room alone, or null where it was handed out again.
+    pub(crate) spare: Row<'static>,
     pub(crate) failed: bool,
     ghost laid: { are_laid_with_few_rows 3 infos.items ≡ true },
     ghost stripes: { length infos.items ≤ most_stripes },
@@ -52,15 +52,15 @@ pub struct Writer<W: Sink> {
     ghost paired: { failed ≡ false → length stats.items ≡ length infos.items },
     ghost placed: { failed ≡ false → written ≡ 3 + stripes_length infos.items },
     ghost few_bytes: { written ≤ 3 + most_bytes },
-    ghost total_is: { total ≡ stripes_rows infos.items + length rows.items },
+    ghost held: { Holds schema (kept_rows schema batch) batch } by { Holds-prop schema (kept_rows schema batch) batch },
+    ghost total_is: { total ≡ stripes_rows infos.items + length (kept_rows schema batch) },
     ghost few_rows: { total ≤ most_rows },
-    ghost room: { 0 < length rows.items → length infos.items < most_stripes },
-    ghost fit: { fitting.all_fit (cells_of (views rows.items)) schema ≡ true },
+    ghost room: { 0 < length (kept_rows schema batch) → length infos.items < most_stripes },
     ghost wide: { length counts.items ≡ width schema },
     ghost wide_sums: { length sums.items ≡ width schema },
     ghost few_cells: { are_few counts.items ≡ true },
     ghost counted: { (c : ℕ) → c < width schema
-        → get_or counts.items c 0 ≡ length (columns.cells schema c (views rows.items)) },
+        → get_or counts.items c 0 ≡ length (columns.cells schema c (kept_rows schema batch)) },
 }
 
 impl<W: Sink> Writer<W> {

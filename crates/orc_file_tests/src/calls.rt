@@ -109,7 +109,12 @@ pub(crate) fn push<W: Sink>(writer: &mut Writer<W>, row: &Row<'_>) -> Result<(),
     writer.push(row)
 }
 
-/// A row of a written stripe, for its room.
+/// Gives a row away.
+pub(crate) fn give<W: Sink>(writer: &mut Writer<W>, row: Row<'static>) -> Result<(), FileFault> {
+    writer.push_owned(row)
+}
+
+/// The row that was given away last, for its room.
 pub(crate) fn spare_row<W: Sink>(writer: &mut Writer<W>) -> Row<'static> {
     writer.spare_row()
 }

@@ -1,7 +1,7 @@
 //! The `Writer`: outputs that fail on the way, rows that don't fit, and the faults that it alone answers.
 
 use crate::assertions::{check_list, check_same};
-use crate::calls::{finish, new_writer, push, spare_row};
+use crate::calls::{finish, give, new_writer, push, spare_row};
 use orc_file::{FileFault, Sink, Tail, VecSink, Writer};
 use orc_rle::Rle;
 use orc_stripe::Options;
@@ -203,17 +203,17 @@ fn a_row_of_another_shape(rt: HostRuntime) -> Result<(), FileFault> {
     Ok(())
 }
 
-/// How many spare rows are taken before each of eight rows, and how many of them aren't null: a stripe of three is
-/// written with the third row and the sixth, and a row that is pushed takes the place of one that nobody took.
-static SPARES: [(usize, usize); 8] = [
-    (1, 0),
-    (0, 0),
-    (1, 0),
-    (1, 1),
-    (0, 0),
-    (2, 1),
-    (4, 3),
-    (1, 0),
+/// Of eight rows whether each is given away, how many spare rows are taken behind it, and how many of these aren't null:
+/// the one that was given away last, once. A stripe of three is written with the third row and the sixth.
+static SPARES: [(bool, usize, usize); 8] = [
+    (true, 1, 1),
+    (false, 1, 0),
+    (true, 2, 1),
+    (true, 0, 0),
+    (true, 1, 1),
+    (false, 1, 0),
+    (true, 0, 0),
+    (false, 1, 1),
 ];
 
 /// Takes so many spare rows: whether so many of them aren't null, those that come first.
@@ -226,14 +226,22 @@ fn are_taken(writer: &mut Writer<VecSink>, count: usize, wanted: usize) -> bool 
     true
 }
 
-/// Eight rows, with spare rows taken before each.
-fn push_over(writer: &mut Writer<VecSink>, seven: &Row<'_>) -> Result<(), FileFault> {
-    for (count, wanted) in SPARES {
+/// Eight rows, with spare rows taken behind each.
+fn push_over(
+    alloc: Global,
+    writer: &mut Writer<VecSink>,
+    seven: &Row<'_>,
+) -> Result<(), FileFault> {
+    for (is_given, count, wanted) in SPARES {
+        if is_given {
+            give(writer, row(alloc, 7)?)?;
+        } else {
+            push(writer, seven)?;
+        }
         let before = writer.written();
         if !are_taken(writer, count, wanted) || writer.written() != before {
             return Err(FileFault::RowCount);
         }
-        push(writer, seven)?;
     }
     Ok(())
 }
@@ -254,7 +262,7 @@ fn of_eight(alloc: Global, over: bool) -> Result<Vec<u8>, FileFault> {
         Err((fault, _)) => return Err(fault),
     };
     if over {
-        push_over(&mut writer, &seven)?;
+        push_over(alloc, &mut writer, &seven)?;
     } else {
         push_eight(&mut writer, &seven)?;
     }
@@ -273,7 +281,7 @@ fn of_eight_again(alloc: Global, over: bool) -> Result<Vec<u8>, FileFault> {
 }
 
 #[test]
-fn rows_of_written_stripes_are_spare(rt: HostRuntime) -> Result<(), FileFault> {
+fn the_row_given_away_last_is_spare(rt: HostRuntime) -> Result<(), FileFault> {
     let plain = of_eight_again(rt.alloc(), false)?;
     let over = of_eight_again(rt.alloc(), true)?;
     check_list(&rt, &over, &plain, "spare rows", &[]);

@@ -1,6 +1,5 @@
-//! The room of old texts, lists and maps, in which new ones are read. It is kept where it is less than twice what is read, and
-//! that of a text where it is small, too; else it is given back. So what a row keeps is bounded by what it holds, whatever was
-//! read in its room before.
+//! The room of old texts, lists and maps, in which new ones are read. It is kept where it is small, or less than twice what is
+//! read; else it is given back. So what a row keeps is bounded by what it holds, whatever was read in its room before.
 ghost use Rattle.std.specs.Prelude.{◌≡◌, ◌<◌, ◌≤◌, length, take, OnOk};
 
 use crate::field_places::nulls;
@@ -10,15 +9,18 @@ use std::alloc::{AllocError, AllocFailed, Global};
 /// Of a text, room for so many bytes is kept, however short the text.
 const SMALL_TEXT: usize = 64;
 
-/// Whether room of a capacity is less than twice what so many need. Where it doesn't suffice and grows, it becomes at most
-/// twice what is needed.
-fn is_close(capacity: usize, count: usize) -> bool {
-    capacity / 2 < count
+/// Of a list or a map, room for so many elements is kept, however few there are.
+const SMALL_LIST: usize = 16;
+
+/// Whether room of a capacity is kept for so many: up to a small one it is, and above where it is less than twice what they
+/// need. Where it doesn't suffice and grows, it becomes at most twice what is needed.
+fn is_kept(capacity: usize, count: usize, small: usize) -> bool {
+    capacity <= small || capacity / 2 < count
 }
 
 /// Whether the room of an old text is kept for one of so many bytes.
 pub(crate) fn is_text_kept(capacity: usize, len: usize) -> bool {
-    capacity <= SMALL_TEXT || is_close(capacity, len)
+    is_kept(capacity, len, SMALL_TEXT)
 }
 
 /// Makes room for the element at a place, unless there is an old one.
@@ -33,13 +35,12 @@ fn make_room<T: Drop>(items: &mut Vec<T>, place: usize, blank: T) -> Result<(), 
     items.push(blank)
 }
 
-/// Drops the old elements behind so many, and gives the room back that is too large; and, where there was none before, all that
-/// isn't needed, since most lists are shorter than the room that the first element takes.
-fn cut_room<T: Drop>(items: &mut Vec<T>, count: usize, old: usize)
+/// Drops the old elements behind so many, and gives the room back that is too large.
+fn cut_room<T: Drop>(items: &mut Vec<T>, count: usize)
     ensures { items.new.items ≡ take count items.old.items }
 {
     items.truncate(count);
-    if old == 0 || !is_close(items.capacity(), count) {
+    if !is_kept(items.capacity(), count, SMALL_LIST) {
         items.shrink_to_fit();
     }
 }
@@ -56,11 +57,11 @@ pub(crate) fn make_row_room(rows: &mut Vec<Row<'static>>, place: usize) -> Resul
     }
 }
 
-/// Drops the old elements of a list behind so many, as `cut_room` does, of which it had so much before.
-pub(crate) fn cut_rows(rows: &mut Vec<Row<'static>>, count: usize, old: usize)
+/// Drops the old elements of a list behind so many, as `cut_room` does.
+pub(crate) fn cut_rows(rows: &mut Vec<Row<'static>>, count: usize)
     ensures { rows.new.items ≡ take count rows.old.items }
 {
-    cut_room(rows, count, old);
+    cut_room(rows, count);
 }
 
 /// Makes room for the pair of a map at a place, unless there is an old one.
@@ -83,10 +84,10 @@ pub(crate) fn make_pair_room(
 }
 
 /// Drops the old pairs of a map behind so many, as `cut_room` does.
-pub(crate) fn cut_pairs(pairs: &mut Vec<MapPair<'static>>, count: usize, old: usize)
+pub(crate) fn cut_pairs(pairs: &mut Vec<MapPair<'static>>, count: usize)
     ensures { pairs.new.items ≡ take count pairs.old.items }
 {
-    cut_room(pairs, count, old);
+    cut_room(pairs, count);
 }
 
 /// Makes a row a list, unless it is one.

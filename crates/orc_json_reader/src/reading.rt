@@ -157,14 +157,13 @@ fn read_elements(
         (λ ds. EachSpells (Spells (shape tree.now)) ds (cells_of (views rows.new.items))) depth reader.old reader.new) }
     ensures shorter { OnOk result (length reader.new < length reader.old) }
 {
-    let room = rows.capacity();
     let mut count = 0;
     'elements: while !reader.take_end_array() {
         make_row_room(rows, count)?;
         read_value(alloc, tree, depth, reader, &mut rows[count])?;
         count += 1;
     }
-    cut_rows(rows, count, room);
+    cut_rows(rows, count);
     Ok(())
 }
 
@@ -216,14 +215,13 @@ fn read_pairs(
         depth reader.old reader.new) }
     ensures shorter { OnOk result (length reader.new < length reader.old) }
 {
-    let room = pairs.capacity();
     let mut count = 0;
     'pairs: while !reader.take_end_array() {
         make_pair_room(pairs, count)?;
         read_pair(alloc, key, value, depth, reader, &mut pairs[count])?;
         count += 1;
     }
-    cut_pairs(pairs, count, room);
+    cut_pairs(pairs, count);
     Ok(())
 }
 

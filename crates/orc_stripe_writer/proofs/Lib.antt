@@ -14,5 +14,6 @@ pub mod GroupLemmas
 pub mod IndexLemmas
 pub mod StripeReads
 pub mod StripeLaws
-pub mod FieldsWritten
+pub mod StandingLemmas
 pub mod LastColumn
+pub mod RowsKept

@@ -11,3 +11,4 @@ pub mod IndexSteps
 pub mod WrittenStripe
 pub mod Adding
 pub mod Subtrees
+pub mod Standing

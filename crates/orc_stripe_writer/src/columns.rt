@@ -1,13 +1,12 @@
 //! The columns of rows as they are written: each before those below it, its streams, its encoding, its statistic and
 //! its index.
-ghost use Rattle.std.specs.Prelude.{◌≡◌, ◌+◌, ◌<◌, ℕ, List, map, length, IfOk, OnOk};
-ghost use Rattle.std.specs.List.{flat_map};
+ghost use Rattle.std.specs.Prelude.{◌≡◌, ◌+◌, ◌<◌, ℕ, List, length, IfOk, OnOk};
 ghost use Rattle.orc_values.specs.Shapes.{Shape, width, widths, shape_at};
-ghost use Rattle.orc_values.specs.Cells.{Cell, parts, pairs_in, values};
+ghost use Rattle.orc_values.specs.Cells.{Cell};
 ghost use Rattle.orc_values.specs.Columns as spec;
 ghost use Rattle.orc_values.specs.Fits.{RowsFit};
 ghost use Rattle.orc_values.specs.Views.{shape, fields as fields_view};
-ghost use Rattle.orc_values.specs.Lent.{lent_cells};
+ghost use Rattle.orc_row_batch.specs.Batch.{Holds, kept_rows};
 ghost use Rattle.orc_stats.specs.Kinds.{kind_of};
 ghost use Rattle.orc_stats.specs.Statistics.{stat};
 ghost use Rattle.orc_column_reader.specs.Starting.{AreStreams};
@@ -16,22 +15,22 @@ ghost use Rattle.orc_row_index.specs.Bounds.{AreBounds};
 ghost use Rattle.orc_row_index.specs.OwnCells.{AreOwn, AreSpelledOwn};
 ghost use Rattle.orc_row_index.specs.RowIndex.{IsWrittenIndex};
 ghost use Rattle.orc_stripe_writer.specs.Firsts.{firsts_of};
-ghost use Rattle.orc_stripe_writer.specs.Groups.{bounds_of, AreGroupsFrom, ArePairGroupsFrom, AreFieldGroupsFrom};
+ghost use Rattle.orc_stripe_writer.specs.Groups.{bounds_of};
 ghost use Rattle.orc_stripe_writer.specs.IndexSteps.{AddsIndexIf};
-ghost use Rattle.orc_stripe_writer.specs.WrittenStripe.{AreFew};
-ghost use Rattle.orc_stripe_writer.specs.Subtrees.{AreColumnsFrom, ArePairsFrom, AreFieldsFrom, PairsFit, FieldsFit, PairsAreFew, FieldsAreFew, HasWritten};
+ghost use Rattle.orc_stripe_writer.specs.Standing.{ColumnStands, FieldsStand, structs_in};
+ghost use Rattle.orc_stripe_writer.specs.Subtrees.{HasWritten};
 
-use crate::below::{elements_of, fields_of, keys_of, map_values_of};
 use crate::body::Body;
 use crate::column_streams::column_streams;
 use crate::indexes::put_column_index;
 use crate::options::Options;
-use crate::own_cells::owns_of;
 use crate::put_column::put_cells;
 use orc_column_reader::starting::ColumnStreams;
+use orc_row_batch::RowBatch;
 use orc_row_index::{element_bounds, field_bounds, pair_bounds, put_index};
 use orc_stats::Stat;
-use orc_values::{Field, Lent, Own, Tree};
+use orc_types::Schema;
+use orc_values::{Field, Own, Tree, width_of};
 use orc_wire::Encoding;
 use std::alloc::{AllocError, Global};
 
@@ -114,102 +113,78 @@ fn put_column(
     Ok(())
 }
 
-/// Adds a column, and all that are below it. A bound says how many of the cells come before a group.
+/// The rows of a stripe as columns, and how they are written.
+#[derive(Clone, Copy)]
+pub(crate) struct Source<'a> {
+    pub(crate) alloc: Global,
+    pub(crate) options: &'a Options,
+    pub(crate) schema: &'a Schema,
+    pub(crate) batch: &'a RowBatch,
+}
+
+/// Adds a column, and all that are below it. A bound says how many of its cells come before a group.
 #[cycle(columns)]
 pub(crate) fn put_columns(
-    alloc: Global,
-    options: &Options,
+    source: Source<'_>,
     tree: &Tree,
-    cells: &[Lent<'_, '_>],
+    column: usize,
     bounds: &[usize],
     out: &mut Columns,
 ) -> Result<(), AllocError>
-    requires fit { RowsFit (shape tree.now) (lent_cells cells.now) }
-    requires few { AreFew (shape tree.now) (lent_cells cells.now) }
-    requires bounds { AreBounds (length (lent_cells cells.now)) bounds.now }
-    ensures { OnOk result ((s : Shape) (rows : List Cell) (c : ℕ)
-        → AreColumnsFrom s rows c (shape tree.now) (lent_cells cells.now)
-        → AreGroupsFrom s rows (firsts_of options.now.stride (length rows)) c
-        (shape tree.now) (lent_cells cells.now) bounds.now
-        → HasWritten options.now.rle options.now.stride s rows c out.old
-        → HasWritten options.now.rle options.now.stride s rows (c + width (shape tree.now)) out.new) }
+    requires held { Holds source.schema.now (kept_rows source.schema.now source.batch.now) source.batch.now }
+    requires stands { ColumnStands source.schema.now (kept_rows source.schema.now source.batch.now)
+        source.options.now.stride column (shape tree.now) bounds.now }
+    requires written { HasWritten source.options.now.rle source.options.now.stride source.schema.now
+        (kept_rows source.schema.now source.batch.now) column out.old }
+    ensures { OnOk result (HasWritten source.entry.options.now.rle source.entry.options.now.stride source.entry.schema.now
+        (kept_rows source.entry.schema.now source.entry.batch.now) (column + width (shape tree.now)) out.new) }
 {
-    let owns = owns_of(alloc, cells)?;
-    put_column(alloc, options, tree, &owns, bounds, out)?;
+    let owns = source.batch.owns(source.alloc, column)?;
+    put_column(source.alloc, source.options, tree, &owns, bounds, out)?;
     match tree {
         Tree::Scalar(_, _) => Ok(()),
         Tree::List(element, _) => {
-            let elements = elements_of(alloc, cells)?;
-            let below = element_bounds(alloc, &owns, bounds)?;
+            let below = element_bounds(source.alloc, &owns, bounds)?;
             drop(owns);
-            put_columns(alloc, options, element, &elements, &below, out)
+            put_columns(source, element, column + 1, &below, out)
         }
         Tree::Map(key, value, _) => {
-            let below = pair_bounds(alloc, &owns, bounds)?;
+            let below = pair_bounds(source.alloc, &owns, bounds)?;
             drop(owns);
-            put_pairs(alloc, options, key, value, cells, &below, out)
+            put_columns(source, key, column + 1, &below, out)?;
+            put_columns(source, value, column + 1 + width_of(key), &below, out)
         }
         Tree::Struct(fields, _) => {
-            let below = field_bounds(alloc, &owns, bounds)?;
+            let below = field_bounds(source.alloc, &owns, bounds)?;
             drop(owns);
-            put_fields(alloc, options, fields, cells, &below, out)
+            put_fields(source, fields, column, &below, out)
         }
     }
 }
 
-/// Adds the columns of the maps' keys and of their values, and all that are below them. A bound says how many pairs
-/// come before a group.
-#[cycle(columns)]
-fn put_pairs(
-    alloc: Global,
-    options: &Options,
-    key: &Tree,
-    value: &Tree,
-    maps: &[Lent<'_, '_>],
-    bounds: &[usize],
-    out: &mut Columns,
-) -> Result<(), AllocError>
-    requires fit { PairsFit (shape key.now) (shape value.now) (lent_cells maps.now) }
-    requires few { PairsAreFew (shape key.now) (shape value.now) (lent_cells maps.now) }
-    requires bounds { AreBounds (length (flat_map pairs_in (values (lent_cells maps.now)))) bounds.now }
-    ensures { OnOk result ((s : Shape) (rows : List Cell) (c : ℕ)
-        → ArePairsFrom s rows c (shape key.now) (shape value.now) (lent_cells maps.now)
-        → ArePairGroupsFrom s rows (firsts_of options.now.stride (length rows)) c
-        (shape key.now) (shape value.now) (lent_cells maps.now) bounds.now
-        → HasWritten options.now.rle options.now.stride s rows c out.old
-        → HasWritten options.now.rle options.now.stride s rows
-        (c + (width (shape key.now) + width (shape value.now))) out.new) }
-{
-    let keys = keys_of(alloc, maps)?;
-    put_columns(alloc, options, key, &keys, bounds, out)?;
-    let map_values = map_values_of(alloc, maps)?;
-    put_columns(alloc, options, value, &map_values, bounds, out)
-}
-
-/// Adds the columns of the structs' fields, and all that are below them. A bound says how many of the structs that
-/// are not null come before a group.
+/// Adds the columns of the fields of a column of structs, and all that are below them. A bound says how many of the structs
+/// that are not null come before a group.
 #[cycle(columns)]
 fn put_fields(
-    alloc: Global,
-    options: &Options,
+    source: Source<'_>,
     fields: &[Field],
-    structs: &[Lent<'_, '_>],
+    structs: usize,
     bounds: &[usize],
     out: &mut Columns,
 ) -> Result<(), AllocError>
-    requires fit { FieldsFit (fields_view fields.now) (map parts (values (lent_cells structs.now))) }
-    requires few { FieldsAreFew (fields_view fields.now) (map parts (values (lent_cells structs.now))) }
-    requires bounds { AreBounds (length (values (lent_cells structs.now))) bounds.now }
-    ensures { OnOk result ((s : Shape) (rows : List Cell) (c : ℕ)
-        → AreFieldsFrom s rows c (fields_view fields.now) (map parts (values (lent_cells structs.now)))
-        → AreFieldGroupsFrom s rows (firsts_of options.now.stride (length rows)) c (fields_view fields.now)
-        (map parts (values (lent_cells structs.now))) bounds.now
-        → HasWritten options.now.rle options.now.stride s rows c out.old
-        → HasWritten options.now.rle options.now.stride s rows (c + widths (fields_view fields.now)) out.new) }
+    requires held { Holds source.schema.now (kept_rows source.schema.now source.batch.now) source.batch.now }
+    requires stand { FieldsStand source.schema.now (kept_rows source.schema.now source.batch.now)
+        source.options.now.stride (structs + 1) (fields_view fields.now)
+        (structs_in source.schema.now (kept_rows source.schema.now source.batch.now) structs) bounds.now }
+    requires written { HasWritten source.options.now.rle source.options.now.stride source.schema.now
+        (kept_rows source.schema.now source.batch.now) (structs + 1) out.old }
+    ensures { OnOk result (HasWritten source.entry.options.now.rle source.entry.options.now.stride source.entry.schema.now
+        (kept_rows source.entry.schema.now source.entry.batch.now) (structs + 1 + widths (fields_view fields.now)) out.new) }
 {
-    for (place, field) in fields.iter().enumerate() {
-        let cells = fields_of(alloc, structs, place)?;
-        put_columns(alloc, options, &field.tree, &cells, bounds, out)?;
+    let mut next = structs + 1;
+    for field in fields {
+        put_columns(source, &field.tree, next, bounds, out)?;
+        next += width_of(&field.tree);
     }
     Ok(())
 }

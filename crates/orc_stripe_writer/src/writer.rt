@@ -5,6 +5,7 @@ ghost use Rattle.orc_values.specs.Shapes.{Shape, width};
 ghost use Rattle.orc_values.specs.Cells.{Cell};
 ghost use Rattle.orc_values.specs.Fits.{RowsFit};
 ghost use Rattle.orc_values.specs.Views.{views};
+ghost use Rattle.orc_row_batch.specs.Batch.{Holds, kept_rows};
 ghost use Rattle.orc_column_reader.specs.Stripe.{IsStripe};
 ghost use Rattle.orc_stripe_writer.specs.Groups.{starts};
 ghost use Rattle.orc_stripe_writer.specs.Indexes.{HaveIndexes};
@@ -12,12 +13,12 @@ ghost use Rattle.orc_stripe_writer.specs.WrittenStripe.{AreFew, indexed_columns,
 ghost use Rattle.orc_stripe_writer.specs.Subtrees.{HasWritten};
 ghost use Rattle.orc_column_reader.specs.declared.fault.StripeFault.TheVariants.{OutOfMemory};
 
-use crate::below::lent_rows;
 use crate::body::Body;
-use crate::columns::{Columns, put_columns};
+use crate::columns::{Columns, Source, put_columns};
 use crate::indexes::first_rows;
 use crate::options::Options;
 use orc_column_reader::fault::StripeFault;
+use orc_row_batch::RowBatch;
 use orc_stats::Stat;
 use orc_types::Schema;
 use orc_values::Row;
@@ -40,12 +41,12 @@ fn all_columns(
     alloc: Global,
     options: &Options,
     schema: &Schema,
-    rows: &[Row<'_>],
+    batch: &RowBatch,
 ) -> Result<Columns, AllocError>
-    requires fit { RowsFit schema.now (views rows.now) }
-    requires few { AreFew schema.now (views rows.now) }
-    ensures { IfOk result
-        (HasWritten options.now.rle options.now.stride schema.now (views rows.now) (width schema.now)) }
+    requires held { Holds schema.now (kept_rows schema.now batch.now) batch.now }
+    requires few { AreFew schema.now (kept_rows schema.now batch.now) }
+    ensures { IfOk result (HasWritten options.now.rle options.now.stride schema.now
+        (kept_rows schema.now batch.now) (width schema.now)) }
 {
     let mut out = Columns {
         body: Body::new(alloc),
@@ -53,9 +54,14 @@ fn all_columns(
         encodings: Vec::new(alloc),
         stats: Vec::new(alloc),
     };
-    let cells = lent_rows(alloc, rows)?;
-    let bounds = first_rows(alloc, options.stride() as usize, rows.len())?;
-    put_columns(alloc, options, schema.tree(), &cells, &bounds, &mut out)?;
+    let bounds = first_rows(alloc, options.stride() as usize, batch.len())?;
+    let source = Source {
+        alloc,
+        options,
+        schema,
+        batch,
+    };
+    put_columns(source, schema.tree(), 0, &bounds, &mut out)?;
     Ok(out)
 }
 
@@ -100,6 +106,59 @@ fn assemble(
     Ok(StripeOut { bytes, info, stats })
 }
 
+/// The stripe of the rows of a batch, as `write_stripe` makes it of rows. The batch has to hold rows of the schema, and no
+/// column may have more than 2,147,483,647 cells.
+///
+/// Refusal: `OutOfMemory`.
+pub fn write_batch(
+    alloc: Global,
+    schema: &Schema,
+    options: &Options,
+    batch: &RowBatch,
+) -> Result<StripeOut, StripeFault>
+    requires held { Holds schema.now (kept_rows schema.now batch.now) batch.now }
+    requires few { AreFew schema.now (kept_rows schema.now batch.now) }
+    // Where the batch holds rows, few enough for one stripe, what is written is a stripe of them,
+    // so that it is opened, and its rows are read as them.
+    ensures stripe { IfOk result (λ out. IsStripe schema.now out.info out.bytes.items (kept_rows schema.now batch.now)) }
+    // It is laid out by the writer's rules, at offset 0: the order of indexes, streams and columns,
+    // what is left out, encodings, dictionaries, runs, and with a stride the row indexes.
+    ensures written { IfOk result
+        (λ out. IsWrittenStripe options.now.rle options.now.stride schema.now
+        (kept_rows schema.now batch.now) out.info out.bytes.items) }
+    // There is a statistic for each column, that of its cells.
+    ensures stats { IfOk result
+        (λ out. HaveStats schema.now (kept_rows schema.now batch.now) (width schema.now) out.stats.items) }
+    // Want of memory is the only refusal.
+    ensures refused { IfErr result (λ fault. fault ≡ OutOfMemory) }
+{
+    let columns = all_columns(alloc, options, schema, batch)?;
+    let streams = columns.body.bytes;
+    let footer = StripeFooter {
+        streams: Items::from_vec(columns.body.directory),
+        columns: Items::from_vec(columns.encodings),
+    };
+    Ok(assemble(
+        columns.indexes,
+        streams,
+        footer,
+        columns.stats,
+        batch.len() as u64,
+    )?)
+}
+
+/// The rows in a batch.
+fn batch_of(alloc: Global, schema: &Schema, rows: &[Row<'_>]) -> Result<RowBatch, AllocError>
+    requires { RowsFit schema.now (views rows.now) }
+    ensures { IfOk result (Holds schema.now (views rows.now)) }
+{
+    let mut batch = RowBatch::new(alloc, schema.width())?;
+    for row in rows {
+        batch.push(schema.tree(), row)?;
+    }
+    Ok(batch)
+}
+
 /// The stripe of the rows (ORC specification, "Stripes"). Each row has to fit the schema, and no column
 /// may have more than 2,147,483,647 cells. The stripe stands for itself: its offset is 0.
 ///
@@ -133,17 +192,6 @@ pub fn write_stripe(
     // Want of memory is the only refusal.
     ensures refused { IfErr result (λ fault. fault ≡ OutOfMemory) }
 {
-    let columns = all_columns(alloc, options, schema, rows)?;
-    let streams = columns.body.bytes;
-    let footer = StripeFooter {
-        streams: Items::from_vec(columns.body.directory),
-        columns: Items::from_vec(columns.encodings),
-    };
-    Ok(assemble(
-        columns.indexes,
-        streams,
-        footer,
-        columns.stats,
-        rows.len() as u64,
-    )?)
+    let batch = batch_of(alloc, schema, rows)?;
+    write_batch(alloc, schema, options, &batch)
 }

@@ -7,7 +7,8 @@ ghost use Rattle.orc_types.specs.Schemas.{IsSchema};
 ghost use Rattle.orc_values.specs.Cells.{Cell, cells_of};
 ghost use Rattle.orc_values.specs.Columns as columns;
 ghost use Rattle.orc_values.specs.Fits as fitting;
-ghost use Rattle.orc_values.specs.Views.{view, views};
+ghost use Rattle.orc_values.specs.Views.{view};
+ghost use Rattle.orc_row_batch.specs.Batch.{kept_rows};
 ghost use Rattle.orc_column_reader.specs.Stripe.{IsStripe};
 ghost use Rattle.orc_stripe_writer.specs.WrittenStripe.{IsWrittenStripe, HaveStats};
 ghost use Rattle.orc_io.specs.Devices.{appended};
@@ -22,23 +23,16 @@ use crate::writer::Writer;
 use crate::writer::counting::{count_row, no_cells, reset};
 use crate::writer::file_end::{Stripes, end_file};
 use orc_io::{Sink, write_all};
+use orc_row_batch::RowBatch;
 use orc_stats::Stat;
-use orc_stripe::{Options, StripeOut, write_stripe};
+use orc_stripe::{Options, StripeOut};
+use orc_stripe_writer::write_batch;
 use orc_tail::{FileFault, MOST_BYTES, MOST_ROWS, MOST_STRIPES, Tail};
 use orc_types::{Schema, fits};
-use orc_values::{Row, owned};
+use orc_values::Row;
 use orc_wire::{Items, StripeInfo};
 use std::alloc::Global;
 use std::mem::swap;
-
-/// Drops the spare rows for which the open stripe has no place left, where nobody takes them; when it is full, their list's
-/// room, too, since its own rows are spare next.
-fn cut_spare(spare: &mut Vec<Row<'static>>, missing: usize) {
-    spare.truncate(missing);
-    if missing == 0 {
-        spare.shrink_to_fit();
-    }
-}
 
 impl<W: Sink> Writer<W> {
     /// A writer of a file of this schema, without rows yet. It has written `ORC`.
@@ -78,6 +72,9 @@ impl<W: Sink> Writer<W> {
         let Ok(sums) = no_cells(alloc, schema.width()) else {
             return Err((FileFault::OutOfMemory, out));
         };
+        let Ok(batch) = RowBatch::new(alloc, schema.width()) else {
+            return Err((FileFault::OutOfMemory, out));
+        };
         match write_all(&mut out, b"ORC") {
             Ok(()) => Ok(Writer {
                 alloc,
@@ -88,10 +85,10 @@ impl<W: Sink> Writer<W> {
                 stats: Vec::new(alloc),
                 written: 3,
                 total: 0,
-                rows: Vec::new(alloc),
+                batch,
                 counts,
                 sums,
-                spare: Vec::new(alloc),
+                spare: None,
                 failed: false,
             }),
             Err(_) => Err((FileFault::WriteFailed, out)),
@@ -102,22 +99,23 @@ impl<W: Sink> Writer<W> {
     fn stripe_of(&self) -> Result<StripeOut, FileFault>
         requires open { self.now.failed ≡ false }
         ensures stripe { IfOk result
-            (λ out. IsStripe self.now.schema out.info out.bytes.items (views self.now.rows.items)) }
+            (λ out. IsStripe self.now.schema out.info out.bytes.items (kept_rows self.now.schema self.now.batch)) }
         ensures text { IfOk result
             (λ out. IsWrittenStripe self.now.options.rle self.now.options.stride self.now.schema
-            (views self.now.rows.items) (record out.info { offset = 0 }) out.bytes.items) }
+            (kept_rows self.now.schema self.now.batch) (record out.info { offset = 0 }) out.bytes.items) }
         ensures stats { IfOk result
-            (λ out. HaveStats self.now.schema (views self.now.rows.items) (width self.now.schema) out.stats.items) }
+            (λ out. HaveStats self.now.schema (kept_rows self.now.schema self.now.batch) (width self.now.schema) out.stats.items) }
         ensures place { IfOk result (λ out. out.info.offset ≡ self.now.written) }
         ensures few { IfOk result (λ out. stripes_length self.now.infos.items + length out.bytes.items ≤ most_bytes) }
         ensures schema { IsSchema self.now.schema }
         ensures limit { IsErrOf result fault.Limit
-            → PassesBytes self.now.options self.now.schema self.now.infos.items (views self.now.rows.items) }
+            → PassesBytes self.now.options self.now.schema self.now.infos.items
+            (kept_rows self.now.schema self.now.batch) }
         ensures refused { IfErr result (λ e. (e ≡ fault.Limit) ⊎ (e ≡ fault.OutOfMemory)) }
     {
         // for its contract alone: the types are those of a schema
         let _types = self.schema.types();
-        let Ok(out) = write_stripe(self.alloc, &self.schema, &self.options, &self.rows) else {
+        let Ok(out) = write_batch(self.alloc, &self.schema, &self.options, &self.batch) else {
             return Err(FileFault::OutOfMemory);
         };
         if out.bytes.len() as u64 > MOST_BYTES - (self.written - 3) {
@@ -136,30 +134,31 @@ impl<W: Sink> Writer<W> {
     /// Writes a stripe of the kept rows. After a refusal the writer has failed.
     fn send(&mut self, stripe: StripeOut) -> Result<(), FileFault>
         requires open { self.old.failed ≡ false }
-        requires begun { 0 < length self.old.rows.items }
-        requires stripe { IsStripe self.old.schema stripe.info stripe.bytes.items (views self.old.rows.items) }
+        requires begun { 0 < length (kept_rows self.old.schema self.old.batch) }
+        requires stripe { IsStripe self.old.schema stripe.info stripe.bytes.items
+            (kept_rows self.old.schema self.old.batch) }
         requires text { IsWrittenStripe self.old.options.rle self.old.options.stride self.old.schema
-            (views self.old.rows.items) (record stripe.info { offset = 0 }) stripe.bytes.items }
-        requires stats { HaveStats self.old.schema (views self.old.rows.items) (width self.old.schema)
+            (kept_rows self.old.schema self.old.batch) (record stripe.info { offset = 0 }) stripe.bytes.items }
+        requires stats { HaveStats self.old.schema (kept_rows self.old.schema self.old.batch) (width self.old.schema)
             stripe.stats.items }
         requires place { stripe.info.offset ≡ self.old.written }
         requires few { stripes_length self.old.infos.items + length stripe.bytes.items ≤ most_bytes }
         requires schema { IsSchema self.old.schema }
         ensures kept { (first : Option (List ℕ)) (rows : List Cell)
-            → length self.old.rows.items ≡ self.old.options.stripe_rows
+            → length (kept_rows self.old.schema self.old.batch) ≡ self.old.options.stripe_rows
             → HasKept (progress W.told self.old) first rows
             → OnOk result (HasKept (record (progress W.told self.new) { kept = [] }) first rows) }
         ensures last { (first : Option (List ℕ)) (rows : List Cell)
-            → length self.old.rows.items ≤ self.old.options.stripe_rows
+            → length (kept_rows self.old.schema self.old.batch) ≤ self.old.options.stripe_rows
             → HasKept (progress W.told self.old) first rows
             → OnOk result (HasFilled (progress W.told self.new) first rows) }
         ensures cut { (first : Option (List ℕ)) (rows : List Cell)
-            → length self.old.rows.items ≤ self.old.options.stripe_rows
+            → length (kept_rows self.old.schema self.old.batch) ≤ self.old.options.stripe_rows
             → HasKept (progress W.told self.old) first rows
             → OnErr result (IsCutOff self.old.options self.old.schema first (W.told self.new.out) rows) }
         ensures taken { (first : Option (List ℕ)) → HasTaken first (W.told self.old.out) self.old.written
             → HasTaken first (W.told self.new.out) self.new.written }
-        ensures empty { OnOk result (self.new.rows.items ≡ []) }
+        ensures empty { OnOk result (kept_rows self.new.schema self.new.batch ≡ []) }
         ensures same { (self.new.schema ≡ self.old.schema) × (self.new.options ≡ self.old.options) }
         ensures ok { OnOk result (self.new.failed ≡ false) }
         ensures failed { OnErr result (self.new.failed ≡ true) }
@@ -184,10 +183,7 @@ impl<W: Sink> Writer<W> {
         let Ok(()) = self.infos.push(stripe.info) else {
             return Err(FileFault::OutOfMemory);
         };
-        swap(&mut self.rows, &mut self.spare);
-        self.rows.clear();
-        // they are handed out from the end, and so in the order in which they were made
-        self.spare.reverse();
+        self.batch.clear();
         reset(&mut self.counts);
         self.failed = false;
         Ok(())
@@ -197,27 +193,28 @@ impl<W: Sink> Writer<W> {
     /// failed.
     fn close(&mut self) -> Result<(), FileFault>
         requires open { self.old.failed ≡ false }
-        requires begun { 0 < length self.old.rows.items }
+        requires begun { 0 < length (kept_rows self.old.schema self.old.batch) }
         ensures kept { (first : Option (List ℕ)) (rows : List Cell)
-            → length self.old.rows.items ≡ self.old.options.stripe_rows
+            → length (kept_rows self.old.schema self.old.batch) ≡ self.old.options.stripe_rows
             → HasKept (progress W.told self.old) first rows
             → OnOk result (HasKept (record (progress W.told self.new) { kept = [] }) first rows) }
         ensures last { (first : Option (List ℕ)) (rows : List Cell)
-            → length self.old.rows.items ≤ self.old.options.stripe_rows
+            → length (kept_rows self.old.schema self.old.batch) ≤ self.old.options.stripe_rows
             → HasKept (progress W.told self.old) first rows
             → OnOk result (HasFilled (progress W.told self.new) first rows) }
         ensures cut { (first : Option (List ℕ)) (rows : List Cell)
-            → length self.old.rows.items ≤ self.old.options.stripe_rows
+            → length (kept_rows self.old.schema self.old.batch) ≤ self.old.options.stripe_rows
             → HasKept (progress W.told self.old) first rows
             → OnErr result (IsCutOff self.old.options self.old.schema first (W.told self.new.out) rows) }
         ensures taken { (first : Option (List ℕ)) → HasTaken first (W.told self.old.out) self.old.written
             → HasTaken first (W.told self.new.out) self.new.written }
-        ensures empty { OnOk result (self.new.rows.items ≡ []) }
+        ensures empty { OnOk result (kept_rows self.new.schema self.new.batch ≡ []) }
         ensures same { (self.new.schema ≡ self.old.schema) × (self.new.options ≡ self.old.options) }
         ensures ok { OnOk result (self.new.failed ≡ false) }
         ensures failed { OnErr result (self.new.failed ≡ true) }
         ensures limit { IsErrOf result fault.Limit
-            → PassesBytes self.old.options self.old.schema self.old.infos.items (views self.old.rows.items) }
+            → PassesBytes self.old.options self.old.schema self.old.infos.items
+            (kept_rows self.old.schema self.old.batch) }
         ensures refused { IfErr result (λ e. (e ≡ fault.WriteFailed) ⊎ ((e ≡ fault.Limit) ⊎ (e ≡ fault.OutOfMemory))) }
         ensures write_failed { IsErrOf result fault.WriteFailed → W.failures self.old.out < W.failures self.new.out }
         ensures memory { IsErrOf result fault.OutOfMemory → W.failures self.new.out ≡ W.failures self.old.out }
@@ -255,7 +252,8 @@ impl<W: Sink> Writer<W> {
         ensures same { (self.new.schema ≡ self.old.schema) × (self.new.options ≡ self.old.options) }
         ensures stays { (self.new.out ≡ self.old.out) × (self.new.written ≡ self.old.written)
             × (self.new.infos ≡ self.old.infos)
-            × (self.new.stats ≡ self.old.stats) × (self.new.rows ≡ self.old.rows) × (self.new.counts ≡ self.old.counts)
+            × (self.new.stats ≡ self.old.stats) × (self.new.batch ≡ self.old.batch)
+            × (self.new.counts ≡ self.old.counts)
             × (self.new.total ≡ self.old.total) × (self.new.failed ≡ self.old.failed) }
     {
         let _types = self.schema.types();
@@ -275,14 +273,15 @@ impl<W: Sink> Writer<W> {
     }
 
     /// Keeps a row that was admitted. After a refusal the writer has failed.
-    fn keep(&mut self, row: Row<'static>) -> Result<(), FileFault>
+    fn keep(&mut self, row: &Row<'_>) -> Result<(), FileFault>
         requires open { self.old.failed ≡ false }
-        requires fits { fitting.fits (view row) self.old.schema ≡ true }
+        requires fits { fitting.fits (view row.now) self.old.schema ≡ true }
         requires stripes { length self.old.infos.items < most_stripes }
         requires rows { self.old.total < most_rows }
-        requires counts { self.old.sums.items ≡ with_row self.old.schema 0 (view row) self.old.counts.items }
+        requires counts { self.old.sums.items ≡ with_row self.old.schema 0 (view row.now) self.old.counts.items }
         requires few { are_few self.old.sums.items ≡ true }
-        ensures kept { OnOk result (views self.new.rows.items ≡ views self.old.rows.items ++ view row.entry ∷ []) }
+        ensures kept { OnOk result (kept_rows self.new.schema self.new.batch
+            ≡ kept_rows self.old.schema self.old.batch ++ view row.now ∷ []) }
         ensures stands { (self.new.out ≡ self.old.out) × (self.new.written ≡ self.old.written)
             × (self.new.infos ≡ self.old.infos)
             × (self.new.stats ≡ self.old.stats) }
@@ -291,40 +290,45 @@ impl<W: Sink> Writer<W> {
         ensures refused { IfErr result (λ e. e ≡ fault.OutOfMemory) }
         ensures same { (self.new.schema ≡ self.old.schema) × (self.new.options ≡ self.old.options) }
     {
-        let Ok(()) = self.rows.push(row) else {
+        let kept = self.batch.len() as u64;
+        let Ok(()) = self.batch.push(self.schema.tree(), row) else {
+            // a part of the row may stand in the batch
+            self.batch.clear();
+            reset(&mut self.counts);
+            self.total -= kept;
             self.failed = true;
             return Err(FileFault::OutOfMemory);
         };
         self.total += 1;
         swap(&mut self.counts, &mut self.sums);
-        let missing = (self.options.stripe_rows() as usize).saturating_sub(self.rows.len());
-        cut_spare(&mut self.spare, missing);
         Ok(())
     }
 
     /// Adds a row that was admitted, and writes the stripe that it fills. After a refusal the writer has failed.
-    fn add(&mut self, row: Row<'static>) -> Result<(), FileFault>
+    fn add(&mut self, row: &Row<'_>) -> Result<(), FileFault>
         requires open { self.old.failed ≡ false }
         requires schema { IsSchema self.old.schema }
-        requires fits { fitting.fits (view row) self.old.schema ≡ true }
+        requires fits { fitting.fits (view row.now) self.old.schema ≡ true }
         requires stripes { length self.old.infos.items < most_stripes }
         requires rows { self.old.total < most_rows }
-        requires counts { self.old.sums.items ≡ with_row self.old.schema 0 (view row) self.old.counts.items }
+        requires counts { self.old.sums.items ≡ with_row self.old.schema 0 (view row.now) self.old.counts.items }
         requires few { are_few self.old.sums.items ≡ true }
         ensures pushed { (first : Option (List ℕ)) (rows : List Cell)
             → HasPushed (progress W.told self.old) first rows
-            → OnOk result (HasPushed (progress W.told self.new) first (rows ++ view row.entry ∷ [])) }
+            → OnOk result (HasPushed (progress W.told self.new) first (rows ++ view row.now ∷ [])) }
         ensures taken { (first : Option (List ℕ)) → HasTaken first (W.told self.old.out) self.old.written
             → HasTaken first (W.told self.new.out) self.new.written }
         ensures same { (self.new.schema ≡ self.old.schema) × (self.new.options ≡ self.old.options) }
         ensures cut { (first : Option (List ℕ)) (rows : List Cell)
             → HasPushed (progress W.told self.old) first rows
             → OnErr result (IsCutOff self.old.options self.old.schema first (W.told self.new.out)
-            (rows ++ view row.entry ∷ [])) }
+            (rows ++ view row.now ∷ [])) }
         ensures long { IsErrOf result fault.Limit
-            → PassesBytes self.old.options self.old.schema self.old.infos.items (views self.old.rows.items
-            ++ view row.entry ∷ []) }
-        ensures full { IsErrOf result fault.Limit → self.old.options.stripe_rows ≤ length self.old.rows.items + 1 }
+            → PassesBytes self.old.options self.old.schema self.old.infos.items
+            (kept_rows self.old.schema self.old.batch
+            ++ view row.now ∷ []) }
+        ensures full { IsErrOf result fault.Limit → self.old.options.stripe_rows ≤ length
+            (kept_rows self.old.schema self.old.batch) + 1 }
         ensures refused { IfErr result (λ e. (e ≡ fault.Limit) ⊎ ((e ≡ fault.WriteFailed) ⊎ (e ≡ fault.OutOfMemory))) }
         ensures ok { OnOk result (self.new.failed ≡ false) }
         ensures failed { OnErr result (self.new.failed ≡ true) }
@@ -335,13 +339,13 @@ impl<W: Sink> Writer<W> {
             (λ e. (e ≡ fault.WriteFailed) ⊎ (W.failures self.new.out ≡ W.failures self.old.out)) }
     {
         self.keep(row)?;
-        if self.rows.len() >= self.options.stripe_rows() as usize {
+        if self.batch.len() >= self.options.stripe_rows() as usize {
             return self.close();
         }
         Ok(())
     }
 
-    /// Adds a row, and takes it: nothing of it is copied. With the last row of a stripe the stripe is written.
+    /// Adds a row as `push` does, and takes it: `spare_row` hands it out again, for its room.
     ///
     /// Refusals: `Failed`, where an earlier call failed; `RowShape` where the row doesn't fit the schema, and
     /// `Limit` where a limit of stripes, of rows or of a column's cells would be passed, which leave the
@@ -384,11 +388,12 @@ impl<W: Sink> Writer<W> {
         // A Limit after which it has failed comes only where the stripe that ends with this row
         // would pass the limit of the stripes' bytes.
         ensures long { IsErrOf result fault.Limit → self.new.failed ≡ true
-            → PassesBytes self.old.options self.old.schema self.old.infos.items (views self.old.rows.items
+            → PassesBytes self.old.options self.old.schema self.old.infos.items
+            (kept_rows self.old.schema self.old.batch
             ++ view row.entry ∷ []) }
         // A Limit after which it has failed comes only with a row that fills its stripe.
         ensures full { IsErrOf result fault.Limit → self.new.failed ≡ true
-            → self.old.options.stripe_rows ≤ length self.old.rows.items + 1 }
+            → self.old.options.stripe_rows ≤ length (kept_rows self.old.schema self.old.batch) + 1 }
         // A refusal is Failed, RowShape, Limit, WriteFailed or want of memory.
         ensures refused { IfErr result (λ e. (e ≡ fault.Failed)
             ⊎ ((e ≡ fault.RowShape) ⊎ ((e ≡ fault.Limit) ⊎ ((e ≡ fault.WriteFailed) ⊎ (e ≡ fault.OutOfMemory))))) }
@@ -399,7 +404,8 @@ impl<W: Sink> Writer<W> {
         ensures unchanged { OnErr result (self.new.failed ≡ self.old.failed → (self.new.out ≡ self.old.out)
             × (self.new.written ≡ self.old.written) × (self.new.infos ≡ self.old.infos)
             × (self.new.stats ≡ self.old.stats)
-            × (self.new.rows ≡ self.old.rows) × (self.new.counts ≡ self.old.counts) × (self.new.total ≡ self.old.total)
+            × (self.new.batch ≡ self.old.batch) × (self.new.counts ≡ self.old.counts)
+            × (self.new.total ≡ self.old.total)
             × (self.new.failed ≡ self.old.failed)) }
         // After WriteFailed and want of memory it has failed; once failed it stays so, and after a
         // success it has not failed.
@@ -424,11 +430,13 @@ impl<W: Sink> Writer<W> {
         ensures unfailed { IfErr result
             (λ e. (e ≡ fault.WriteFailed) ⊎ (W.failures self.new.out ≡ W.failures self.old.out)) }
     {
-        self.admit(&row)?;
-        self.add(row)
+        let pushed = self.push(&row);
+        self.spare = row;
+        pushed
     }
 
-    /// Adds a copy of a row, as `push_owned` adds a row that the caller gives away.
+    /// Adds a row. The writer keeps what the columns say of it, so the row itself stays the caller's. With the last row of
+    /// a stripe the stripe is written.
     ///
     /// Refusals: `Failed`, where an earlier call failed; `RowShape` where the row doesn't fit the schema, and
     /// `Limit` where a limit of stripes, of rows or of a column's cells would be passed, which leave the
@@ -471,11 +479,12 @@ impl<W: Sink> Writer<W> {
         // A Limit after which it has failed comes only where the stripe that ends with this row
         // would pass the limit of the stripes' bytes.
         ensures long { IsErrOf result fault.Limit → self.new.failed ≡ true
-            → PassesBytes self.old.options self.old.schema self.old.infos.items (views self.old.rows.items
+            → PassesBytes self.old.options self.old.schema self.old.infos.items
+            (kept_rows self.old.schema self.old.batch
             ++ view row.now ∷ []) }
         // A Limit after which it has failed comes only with a row that fills its stripe.
         ensures full { IsErrOf result fault.Limit → self.new.failed ≡ true
-            → self.old.options.stripe_rows ≤ length self.old.rows.items + 1 }
+            → self.old.options.stripe_rows ≤ length (kept_rows self.old.schema self.old.batch) + 1 }
         // A refusal is Failed, RowShape, Limit, WriteFailed or want of memory.
         ensures refused { IfErr result (λ e. (e ≡ fault.Failed)
             ⊎ ((e ≡ fault.RowShape) ⊎ ((e ≡ fault.Limit) ⊎ ((e ≡ fault.WriteFailed) ⊎ (e ≡ fault.OutOfMemory))))) }
@@ -486,7 +495,8 @@ impl<W: Sink> Writer<W> {
         ensures unchanged { OnErr result (self.new.failed ≡ self.old.failed → (self.new.out ≡ self.old.out)
             × (self.new.written ≡ self.old.written) × (self.new.infos ≡ self.old.infos)
             × (self.new.stats ≡ self.old.stats)
-            × (self.new.rows ≡ self.old.rows) × (self.new.counts ≡ self.old.counts) × (self.new.total ≡ self.old.total)
+            × (self.new.batch ≡ self.old.batch) × (self.new.counts ≡ self.old.counts)
+            × (self.new.total ≡ self.old.total)
             × (self.new.failed ≡ self.old.failed)) }
         // After WriteFailed and want of memory it has failed; once failed it stays so, and after a
         // success it has not failed.
@@ -512,26 +522,23 @@ impl<W: Sink> Writer<W> {
             (λ e. (e ≡ fault.WriteFailed) ⊎ (W.failures self.new.out ≡ W.failures self.old.out)) }
     {
         self.admit(row)?;
-        let Ok(copy) = owned(self.alloc, row) else {
-            self.failed = true;
-            return Err(FileFault::OutOfMemory);
-        };
-        self.add(copy)
+        self.add(row)
     }
 
-    /// A row of the stripe that was written last, for its room alone, or null where none is left: whatever it says
-    /// is no longer needed. A stripe's rows are handed out once, in their order, until as many rows are pushed.
+    /// The row that was given away last, for its room alone, or null where there was none since the last call: whatever
+    /// it says is no longer needed.
     pub fn spare_row(&mut self) -> Row<'static>
         // What the writer has done so far stands, and so does what it counts, its output with it.
         ensures progress { progress W.told self.new ≡ progress W.told self.old }
         ensures stays { (self.new.out ≡ self.old.out) × (self.new.written ≡ self.old.written)
             × (self.new.infos ≡ self.old.infos)
-            × (self.new.stats ≡ self.old.stats) × (self.new.rows ≡ self.old.rows) × (self.new.counts ≡ self.old.counts)
+            × (self.new.stats ≡ self.old.stats) × (self.new.batch ≡ self.old.batch)
+            × (self.new.counts ≡ self.old.counts)
             × (self.new.total ≡ self.old.total) × (self.new.failed ≡ self.old.failed) }
         // It keeps its schema and its options.
         ensures same { (self.new.schema ≡ self.old.schema) × (self.new.options ≡ self.old.options) }
     {
-        self.spare.pop().flatten()
+        self.spare.take()
     }
 
     /// The schema of its rows.
@@ -559,12 +566,13 @@ impl<W: Sink> Writer<W> {
         ensures cut { (first : Option (List ℕ)) (rows : List Cell)
             → HasPushed (progress W.told self.old) first rows
             → OnErr result (IsCutOff self.old.options self.old.schema first (W.told self.new.out) rows) }
-        ensures empty { OnOk result (self.new.rows.items ≡ []) }
+        ensures empty { OnOk result (kept_rows self.new.schema self.new.batch ≡ []) }
         ensures ok { OnOk result (self.new.failed ≡ false) }
         ensures same { (self.new.schema ≡ self.old.schema) × (self.new.options ≡ self.old.options) }
         ensures limit { IsErrOf result fault.Limit
-            → PassesBytes self.old.options self.old.schema self.old.infos.items (views self.old.rows.items) }
-        ensures begun { OnErr result (0 < length self.old.rows.items) }
+            → PassesBytes self.old.options self.old.schema self.old.infos.items
+            (kept_rows self.old.schema self.old.batch) }
+        ensures begun { OnErr result (0 < length (kept_rows self.old.schema self.old.batch)) }
         ensures refused { IfErr result (λ e. (e ≡ fault.WriteFailed) ⊎ ((e ≡ fault.Limit) ⊎ (e ≡ fault.OutOfMemory))) }
         ensures write_failed { IsErrOf result fault.WriteFailed → W.failures self.old.out < W.failures self.new.out }
         ensures memory { IsErrOf result fault.OutOfMemory → W.failures self.new.out ≡ W.failures self.old.out }
@@ -572,7 +580,7 @@ impl<W: Sink> Writer<W> {
         ensures unfailed { IfErr result
             (λ e. (e ≡ fault.WriteFailed) ⊎ (W.failures self.new.out ≡ W.failures self.old.out)) }
     {
-        if self.rows.is_empty() {
+        if self.batch.len() == 0 {
             return Ok(());
         }
         self.close()
@@ -598,8 +606,8 @@ impl<W: Sink> Writer<W> {
         // Limit comes only where a row is kept and the stripe of those kept would pass the limit of
         // the stripes' bytes.
         ensures long { IfErr result (λ e. e.0 ≡ fault.Limit
-            → PassesBytes self.options self.schema self.infos.items (views self.rows.items)) }
-        ensures begun { IfErr result (λ e. e.0 ≡ fault.Limit → 0 < length self.rows.items) }
+            → PassesBytes self.options self.schema self.infos.items (kept_rows self.schema self.batch)) }
+        ensures begun { IfErr result (λ e. e.0 ≡ fault.Limit → 0 < length (kept_rows self.schema self.batch)) }
         // A refusal is Failed, Limit, WriteFailed or want of memory.
         ensures refused { IfErr result (λ e. (e.0 ≡ fault.Failed)
             ⊎ ((e.0 ≡ fault.Limit) ⊎ ((e.0 ≡ fault.WriteFailed) ⊎ (e.0 ≡ fault.OutOfMemory)))) }

@@ -1,7 +1,7 @@
 use Rattle.std.proofs.Common.{◌≡◌, ◌≤◌, ◌++◌, ◌∷◌, [], length, ap, arith}
-use Rattle.std.proofs.lemmas.List.{length-map}
 use Rattle.orc_stripe_writer.specs.declared.options.Options.{Options}
-use Rattle.orc_values.specs.Views.{view, views}
+use Rattle.orc_values.specs.Views.{view}
+use Rattle.orc_row_batch.specs.Batch.{kept_rows}
 use Rattle.orc_file.proofs.Spread.{HasKept}
 use Rattle.orc_file.proofs.PushLemmas.{refused_so, one_more, pushed_full}
 use Rattle.orc_file.proofs.WriterLemmas.{cut_row, kept_row, within_of}
@@ -12,39 +12,37 @@ returns-in_err-keep-clause-cut g c = λ first rows h.
     let w = c.args.self.now in
     let few = h.1 in
     rw c.keep.ensures.stands.0
-    (refused_so c.from_residual.result (cut_row w.options w.schema first _ w.written w.infos.items w.stats.items (views w.rows.items) rows (view c.args.row) (omega (arith, few)) (within_of w.infos.items w.total _ w.stripes w.total_is w.few_rows w.bytes) c.requires.schema h.0))
+    (refused_so c.from_residual.result (cut_row w.options w.schema first _ w.written w.infos.items w.stats.items (kept_rows w.schema w.batch) rows (view c.args.row.now) (omega (arith, few)) (within_of w.infos.items w.total _ w.stripes w.total_is w.few_rows w.bytes) c.requires.schema h.0))
 
 pub returns-then-len-stripe_rows-clause-pushed : goal.returns-then-len-stripe_rows-clause-pushed
 returns-then-len-stripe_rows-clause-pushed g c = λ first rows h.
     let w = c.args.self.now in
     let k = c.keep.new.self in
-    let all = rows ++ view c.args.row ∷ [] in
-    let kept_is : views k.rows.items ≡ views w.rows.items ++ view c.args.row ∷ [] = c.in_ok-keep.ensures.kept in
-    let kept : HasKept k.options k.schema first (g.W.Sink.told k.out) k.written k.infos.items k.stats.items (views k.rows.items) all =
+    let all = rows ++ view c.args.row.now ∷ [] in
+    let kept_is : kept_rows k.schema k.batch ≡ kept_rows w.schema w.batch ++ view c.args.row.now ∷ [] = c.in_ok-keep.ensures.kept in
+    let kept : HasKept k.options k.schema first (g.W.Sink.told k.out) k.written k.infos.items k.stats.items (kept_rows k.schema k.batch) all =
     rw (kept_is, c.keep.ensures.same.0, c.keep.ensures.same.1, c.keep.ensures.stands.0, c.keep.ensures.stands.1, c.keep.ensures.stands.2, c.keep.ensures.stands.3)
-    (kept_row w.options w.schema first _ w.written w.infos.items w.stats.items (views w.rows.items) rows (view c.args.row) h.0) in
+    (kept_row w.options w.schema first _ w.written w.infos.items w.stats.items (kept_rows w.schema w.batch) rows (view c.args.row.now) h.0) in
     let few = h.1 in
-    let l = length-map w.rows.items view in
-    let more = one_more w.rows.items k.rows.items (view c.args.row) kept_is in
+    let more = one_more (kept_rows w.schema w.batch) (kept_rows k.schema k.batch) (view c.args.row.now) kept_is in
     let size = ap (λ (o : Options). o.stripe_rows) c.keep.ensures.same.1 in
-    let full : length k.rows.items ≡ k.options.stripe_rows = omega (arith, few, l, more, size, c.len.ensures, c.stripe_rows.ensures, k.rows.ok.0) in
+    let full : length (kept_rows k.schema k.batch) ≡ k.options.stripe_rows = omega (arith, few, more, size, c.len.ensures k.schema (kept_rows k.schema k.batch) k.held, c.stripe_rows.ensures) in
     let n = c.close.new.self in
-    pushed_full c.close.result n.options n.schema first _ n.written n.infos.items n.stats.items n.rows.items all n.options.some c.close.ensures.empty (c.close.ensures.kept first all full kept)
+    pushed_full c.close.result n.options n.schema first _ n.written n.infos.items n.stats.items (kept_rows n.schema n.batch) all n.options.some c.close.ensures.empty (c.close.ensures.kept first all full kept)
 
 pub returns-then-len-stripe_rows-clause-cut : goal.returns-then-len-stripe_rows-clause-cut
 returns-then-len-stripe_rows-clause-cut g c = λ first rows h.
     let w = c.args.self.now in
     let k = c.keep.new.self in
-    let all = rows ++ view c.args.row ∷ [] in
-    let kept_is : views k.rows.items ≡ views w.rows.items ++ view c.args.row ∷ [] = c.in_ok-keep.ensures.kept in
-    let kept : HasKept k.options k.schema first (g.W.Sink.told k.out) k.written k.infos.items k.stats.items (views k.rows.items) all =
+    let all = rows ++ view c.args.row.now ∷ [] in
+    let kept_is : kept_rows k.schema k.batch ≡ kept_rows w.schema w.batch ++ view c.args.row.now ∷ [] = c.in_ok-keep.ensures.kept in
+    let kept : HasKept k.options k.schema first (g.W.Sink.told k.out) k.written k.infos.items k.stats.items (kept_rows k.schema k.batch) all =
     rw (kept_is, c.keep.ensures.same.0, c.keep.ensures.same.1, c.keep.ensures.stands.0, c.keep.ensures.stands.1, c.keep.ensures.stands.2, c.keep.ensures.stands.3)
-    (kept_row w.options w.schema first _ w.written w.infos.items w.stats.items (views w.rows.items) rows (view c.args.row) h.0) in
+    (kept_row w.options w.schema first _ w.written w.infos.items w.stats.items (kept_rows w.schema w.batch) rows (view c.args.row.now) h.0) in
     let few = h.1 in
-    let l = length-map w.rows.items view in
-    let more = one_more w.rows.items k.rows.items (view c.args.row) kept_is in
+    let more = one_more (kept_rows w.schema w.batch) (kept_rows k.schema k.batch) (view c.args.row.now) kept_is in
     let size = ap (λ (o : Options). o.stripe_rows) c.keep.ensures.same.1 in
-    let room : length k.rows.items ≤ k.options.stripe_rows = omega (arith, few, l, more, size) in
+    let room : length (kept_rows k.schema k.batch) ≤ k.options.stripe_rows = omega (arith, few, more, size) in
     let cut = c.close.ensures.cut first all room kept in
     rw (c.keep.ensures.same.0, c.keep.ensures.same.1) at cut
 
@@ -52,9 +50,9 @@ pub returns-then-len-stripe_rows-clause-full : goal.returns-then-len-stripe_rows
 returns-then-len-stripe_rows-clause-full g c = λ limit.
     let w = c.args.self.now in
     let k = c.keep.new.self in
-    let more = one_more w.rows.items k.rows.items (view c.args.row) c.in_ok-keep.ensures.kept in
+    let more = one_more (kept_rows w.schema w.batch) (kept_rows k.schema k.batch) (view c.args.row.now) c.in_ok-keep.ensures.kept in
     let size = ap (λ (o : Options). o.stripe_rows) c.keep.ensures.same.1 in
-    omega (arith, more, size, c.len.ensures, c.stripe_rows.ensures, k.rows.ok.0)
+    omega (arith, more, size, c.len.ensures k.schema (kept_rows k.schema k.batch) k.held, c.stripe_rows.ensures)
 
 pub returns-then-len-stripe_rows-clause-unfailed : goal.returns-then-len-stripe_rows-clause-unfailed
 returns-then-len-stripe_rows-clause-unfailed g c = rw c.keep.ensures.stands.0 at c.close.ensures.unfailed

@@ -1,0 +1,117 @@
+-- What is kept of a column's cells: each as its own column says it, and the bytes of the texts and of the byte strings, one
+-- after the other (ORC specification, "Column Encodings": string and binary columns have the bytes apart from the lengths).
+use Rattle.std.specs.Prelude.{ℕ, ◌++◌, List, [], ◌∷◌, length, map, take, drop, string_bytes}
+use Rattle.std.specs.List.{flat_map}
+use Rattle.orc_values.specs.Cells.{bool, int, date, text, bytes, Cell, null, leaf, list, struct, pairs, list_of_cells, list_of_pairs}
+use Rattle.orc_values.specs.Childless.{list_of_size, map_of_size, childless_struct}
+use Rattle.orc_row_batch.specs.declared.kept_cell.KeptCell.{KeptCell}
+use Rattle.orc_row_batch.specs.declared.kept_cell.KeptCell.TheVariants as kept_cell
+use Rattle.orc_row_batch.specs.declared.vector.ColumnVector.{ColumnVector}
+
+-- a column's cells, the bytes of its texts, and those of its byte strings
+pub record Kept : Type 0 where
+  pub cells : List KeptCell
+  pub texts : List ℕ
+  pub bytes : List ℕ
+
+-- of a column without a cell
+abbrev pub nothing : Kept
+nothing = record { cells = []; texts = []; bytes = [] }
+
+-- what a column's vector keeps
+abbrev pub kept : ColumnVector → Kept
+kept v = record { cells = v.cells.items; texts = string_bytes v.texts; bytes = v.bytes.items }
+
+-- ---- as it is kept
+
+-- a text or a byte string by its length, a list or a map by its size
+abbrev pub kept_cell_of : Cell → KeptCell
+kept_cell_of null = kept_cell.Null
+kept_cell_of (leaf (bool b)) = kept_cell.Bool b
+kept_cell_of (leaf (int n)) = kept_cell.Int n
+kept_cell_of (leaf (date n)) = kept_cell.Date n
+kept_cell_of (leaf (text t)) = kept_cell.Text (length t)
+kept_cell_of (leaf (bytes b)) = kept_cell.Bytes (length b)
+kept_cell_of (list cs) = kept_cell.List (length (list_of_cells cs))
+kept_cell_of (struct cs) = kept_cell.Struct
+kept_cell_of (pairs ps) = kept_cell.Map (length (list_of_pairs ps))
+
+-- the bytes of a text
+abbrev pub text_in : Cell → List ℕ
+text_in null = []
+text_in (leaf (bool b)) = []
+text_in (leaf (int n)) = []
+text_in (leaf (date n)) = []
+text_in (leaf (text t)) = t
+text_in (leaf (bytes b)) = []
+text_in (list cs) = []
+text_in (struct cs) = []
+text_in (pairs ps) = []
+
+-- the bytes of a byte string
+abbrev pub bytes_in : Cell → List ℕ
+bytes_in null = []
+bytes_in (leaf (bool b)) = []
+bytes_in (leaf (int n)) = []
+bytes_in (leaf (date n)) = []
+bytes_in (leaf (text t)) = []
+bytes_in (leaf (bytes b)) = b
+bytes_in (list cs) = []
+bytes_in (struct cs) = []
+bytes_in (pairs ps) = []
+
+-- a column's cells with others behind them
+abbrev pub with_cells : List Cell → Kept → Kept
+with_cells cs k = record {
+  cells = k.cells ++ map kept_cell_of cs;
+  texts = k.texts ++ flat_map text_in cs;
+  bytes = k.bytes ++ flat_map bytes_in cs;
+}
+
+-- ---- as it is told again
+
+-- how many bytes a cell's text has, and none of another cell
+abbrev pub text_size : KeptCell → ℕ
+text_size kept_cell.Null = 0
+text_size (kept_cell.Bool b) = 0
+text_size (kept_cell.Int n) = 0
+text_size (kept_cell.Date n) = 0
+text_size (kept_cell.Text n) = n
+text_size (kept_cell.Bytes n) = 0
+text_size (kept_cell.List n) = 0
+text_size (kept_cell.Map n) = 0
+text_size kept_cell.Struct = 0
+
+-- how many bytes a cell's byte string has, and none of another cell
+abbrev pub bytes_size : KeptCell → ℕ
+bytes_size kept_cell.Null = 0
+bytes_size (kept_cell.Bool b) = 0
+bytes_size (kept_cell.Int n) = 0
+bytes_size (kept_cell.Date n) = 0
+bytes_size (kept_cell.Text n) = 0
+bytes_size (kept_cell.Bytes n) = n
+bytes_size (kept_cell.List n) = 0
+bytes_size (kept_cell.Map n) = 0
+bytes_size kept_cell.Struct = 0
+
+-- a cell, with its text or its byte string from the front of those that are left
+abbrev pub cell_of : KeptCell → List ℕ → List ℕ → Cell
+cell_of kept_cell.Null texts strings = null
+cell_of (kept_cell.Bool b) texts strings = leaf (bool b)
+cell_of (kept_cell.Int n) texts strings = leaf (int n)
+cell_of (kept_cell.Date n) texts strings = leaf (date n)
+cell_of (kept_cell.Text n) texts strings = leaf (text (take n texts))
+cell_of (kept_cell.Bytes n) texts strings = leaf (bytes (take n strings))
+cell_of (kept_cell.List n) texts strings = list_of_size n
+cell_of (kept_cell.Map n) texts strings = map_of_size n
+cell_of kept_cell.Struct texts strings = childless_struct
+
+-- cells, each with its text or its byte string, which stand one after the other
+abbrev pub cells_from : List KeptCell → List ℕ → List ℕ → List Cell
+cells_from [] texts strings = []
+cells_from (k ∷ ks) texts strings =
+    cell_of k texts strings ∷ cells_from ks (drop (text_size k) texts) (drop (bytes_size k) strings)
+
+-- the cells that a column says, without the columns below
+abbrev pub told : Kept → List Cell
+told k = cells_from k.cells k.texts k.bytes

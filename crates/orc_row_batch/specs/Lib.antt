@@ -1,0 +1,4 @@
+pub mod Kept
+pub mod Keeping
+pub mod RowsFrom
+pub mod Batch

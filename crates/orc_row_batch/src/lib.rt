@@ -1,0 +1,12 @@
+//! Rows kept as columns: each row's cells go behind their columns' own lists as it comes, and the row may be dropped.
+#![tactic(auto)]
+
+mod batch;
+mod blocks;
+mod keeping;
+mod kept_cell;
+mod laws;
+mod vector;
+
+pub use batch::RowBatch;
+pub use laws::batch_laws;
