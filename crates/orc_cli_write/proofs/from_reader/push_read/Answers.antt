@@ -1,7 +1,7 @@
 use Rattle.std.proofs.Common.{◌++◌, [], refl, ◌∙◌, append_assoc, append-nil, inl, inr, arith, true, false}
 use Rattle.std.proofs.lemmas.Result.{err_from_is_err_and}
 use Rattle.orc_types.specs.Schemas.{IsSchema}
-use Rattle.orc_values.specs.Views.{views}
+use Rattle.orc_row_batch.specs.Batch.{kept_rows}
 use Rattle.orc_file.proofs.WriterLemmas.{cut_kept, within_of}
 use Rattle.orc_tail.specs.declared.fault.FileFault.TheVariants as file
 use Rattle.orc_cli_write.specs.Writes.{EndsInLines}
@@ -70,8 +70,8 @@ returns-in_err-next_line-clause-refused g c = λ ready.
           let all = rows ++ inv.pushed.0 in
           let now = inv.pushed.2 first rows h in
           let few = now.1 in
-          let cut = cut_kept w.options w.schema first _ w.written w.infos.items w.stats.items (views w.rows.items) all (omega (arith, few)) (within_of w.infos.items w.total _ w.stripes w.total_is w.few_rows w.bytes) schema now.0 in
-          let out = stands_open w.options w.schema first _ w.written w.infos.items w.stats.items (views w.rows.items) all now in
+          let cut = cut_kept w.options w.schema first _ w.written w.infos.items w.stats.items (kept_rows w.schema w.batch) all (omega (arith, few)) (within_of w.infos.items w.total _ w.stripes w.total_is w.few_rows w.bytes) schema now.0 in
+          let out = stands_open w.options w.schema first _ w.written w.infos.items w.stats.items (kept_rows w.schema w.batch) all now in
           ((λ q. source_no_limit fault is q), rw (inv.schema, inv.options) at cut, (λ why q. rw (inv.schema, inv.options) at out), (λ q. rw (inv.schema, inv.options) at out)),
     )
 
@@ -120,8 +120,8 @@ returns-clause-refused g c = λ ready.
           let all = rows ++ inv.pushed.0 in
           let now = inv.pushed.2 first rows h in
           let few = now.1 in
-          let cut = cut_kept w.options w.schema first _ w.written w.infos.items w.stats.items (views w.rows.items) all (omega (arith, few)) (within_of w.infos.items w.total _ w.stripes w.total_is w.few_rows w.bytes) schema now.0 in
-          let out = stands_open w.options w.schema first _ w.written w.infos.items w.stats.items (views w.rows.items) all now in
+          let cut = cut_kept w.options w.schema first _ w.written w.infos.items w.stats.items (kept_rows w.schema w.batch) all (omega (arith, few)) (within_of w.infos.items w.total _ w.stripes w.total_is w.few_rows w.bytes) schema now.0 in
+          let out = stands_open w.options w.schema first _ w.written w.infos.items w.stats.items (kept_rows w.schema w.batch) all now in
           ((λ q. source_no_limit (File file.OutOfMemory) is q), rw (inv.schema, inv.options) at cut, (λ why q. rw (inv.schema, inv.options) at out), (λ q. rw (inv.schema, inv.options) at out)),
     )
 

@@ -1,8 +1,7 @@
 use Rattle.std.proofs.Common.{◌≡◌, ◌<◌, [], length, refl, ap, ◌∙◌, arith, inl, inr, subst}
 use Rattle.std.specs.Prelude.{◌⊎◌, IfSome}
-use Rattle.std.proofs.lemmas.List.{length-map}
 use Rattle.orc_values.specs.Shapes.{Shape}
-use Rattle.orc_values.specs.Views.{view, views}
+use Rattle.orc_row_batch.specs.Batch.{kept_rows}
 use Rattle.orc_tail.specs.declared.fault.FileFault.TheVariants as file
 use Rattle.orc_cli_write.specs.Lines.{AreRowsOf}
 use Rattle.orc_cli_write.specs.Writes.{IsOfWriter, EndsInLines, LimitStands}
@@ -54,11 +53,10 @@ returns-in-Err-finish-clause-refused g c =
     let rows = subst (λ (x : Shape). IfSome told (λ bytes. AreRowsOf x bytes p.0)) made.0 p.1 in
     let limit : LimitStands c.args.options s (File c.in-Err-finish.fault) p.0 = λ q.
     let why : c.in-Err-finish.fault ≡ file.Limit = cc in
-    let some : 0 < length (views n.rows.items) =
-    let k = e.begun why in
-    let l = length-map n.rows.items view in omega (arith, k, l) in
+    let some : 0 < length (kept_rows n.schema n.batch) =
+    e.begun why in
     let passes = rest_passes n.options n.schema (g.W.Sink.told c.args.out) (g.W.Sink.told n.out)
-    n.written n.infos.items n.stats.items (views n.rows.items) p.0 pushed some (e.long why) in
+    n.written n.infos.items n.stats.items (kept_rows n.schema n.batch) p.0 pushed some (e.long why) in
     rw (schema, options) at passes in
     let writer : IsOfWriter (File c.in-Err-finish.fault) = of_finish c.in-Err-finish.fault (λ q. let t = e.failed q in cc) e.refused in
     inr (

@@ -1,10 +1,10 @@
-use Rattle.std.proofs.Common.{◌≡◌, ◌⊎◌, [], ◌∷◌, ◌++◌, length, sym, ◌∙◌, append-nil, ap, subst, Err, arith, inl, inr}
+use Rattle.std.proofs.Common.{◌≡◌, ◌⊎◌, [], ◌∷◌, ◌++◌, length, sym, ◌∙◌, append-nil, ap, subst, Err, arith, inl, inr, refl}
 use Rattle.std.proofs.lemmas.Result.{err_from_is_err_and}
 use Rattle.orc_file.proofs.WriterLemmas.{cut_kept, cut_row, within_of}
 use Rattle.std.proofs.lemmas.Bool.{eqb-true}
 use Rattle.orc_types.specs.Schemas.{IsSchema}
-use Rattle.orc_values.specs.Views.{view, views}
-use Rattle.std.proofs.lemmas.List.{length-map}
+use Rattle.orc_values.specs.Views.{view}
+use Rattle.orc_row_batch.specs.Batch.{kept_rows}
 use Rattle.orc_file.specs.Counts.{PassesLimit}
 use Rattle.orc_file.specs.Progress.{progress}
 use Rattle.orc_file.specs.Writing.{PassesBytes, Progress}
@@ -44,8 +44,8 @@ returns-in_err-row-clause-refused g c = λ ready.
       leaves_same c.args.writer.now.options w.options c.args.writer.now.schema w.schema (progress g.W.Sink.told c.args.writer.now) (progress g.W.Sink.told w) _ _ [] spare.same.1 spare.same.0 spare.progress (λ first rows h.
           let few = h.1 in (
             (λ q. cc),
-            rw (append-nil rows) (cut_kept w.options w.schema first _ w.written w.infos.items w.stats.items (views w.rows.items) rows (omega (arith, few)) (within_of w.infos.items w.total _ w.stripes w.total_is w.few_rows w.bytes) schema h.0),
-            λ why q. rw (append-nil rows) (stands_open w.options w.schema first _ w.written w.infos.items w.stats.items (views w.rows.items) rows h),
+            rw (append-nil rows) (cut_kept w.options w.schema first _ w.written w.infos.items w.stats.items (kept_rows w.schema w.batch) rows (omega (arith, few)) (within_of w.infos.items w.total _ w.stripes w.total_is w.few_rows w.bytes) schema h.0),
+            λ why q. rw (append-nil rows) (stands_open w.options w.schema first _ w.written w.infos.items w.stats.items (kept_rows w.schema w.batch) rows h),
           )),
     )
 
@@ -63,7 +63,7 @@ returns-in_err-push_owned-clause-refused g c = λ ready.
     let some = sym c.is_empty.ensures ∙ c.if-is_empty.false in
     let schema : IsSchema w.schema = rw c.schema-schema.ensures at c.types-types.ensures.schema in
     let limit : c.in_err-push_owned.field-0.0 ≡ file.Limit → PassesLimit w.schema w.infos.items w.total w.counts.items row ⊎ PassesBytes w.options w.schema w.infos.items
-    (views w.rows.items ++ row ∷ [])
+    (kept_rows w.schema w.batch ++ row ∷ [])
     = λ q. elim (either n.failed) [ inl has ↦ inr (e.long (ap Err q) has) | inr none ↦ inl (e.only_limit (ap Err q) none) ] in
     rw (p.1, p.2) (
       row ∷ [],
@@ -71,11 +71,11 @@ returns-in_err-push_owned-clause-refused g c = λ ready.
       inr (inr (some_spelled c.args.writer.now.schema c.args.line.now row some spells, of_writer c.in_err-push_owned.field-0.0 (λ q. let t = e.failed.0 (ap Err q) in cc) (λ q. let t = (e.shape begun).0 (ap Err q) in cc) e.refused)),
       leaves_same c.args.writer.now.options w.options c.args.writer.now.schema w.schema (progress g.W.Sink.told c.args.writer.now) (progress g.W.Sink.told w) _ _ (row ∷ []) spare.same.1 spare.same.0 spare.progress (λ first rows h.
           let few = h.1 in (
-            (λ q. row_passes w.options w.schema first _ w.written w.infos.items w.stats.items (views w.rows.items) rows h
-                row w.total _ w.counts.items w.total_is (length-map w.rows.items view) w.wide w.counted (limit (let same : c.in_err-push_owned.field-0.0 ≡ file.Limit = cc in same))),
+            (λ q. row_passes w.options w.schema first _ w.written w.infos.items w.stats.items (kept_rows w.schema w.batch) rows h
+                row w.total _ w.counts.items w.total_is refl w.wide w.counted (limit (let same : c.in_err-push_owned.field-0.0 ≡ file.Limit = cc in same))),
             elim (either n.failed) [
               | inl has ↦ e.cut first rows h begun has
-              | inr none ↦ rw ((e.unchanged (none ∙ sym begun)).0) (cut_row w.options w.schema first _ w.written w.infos.items w.stats.items (views w.rows.items) rows row (omega (arith, few)) (within_of w.infos.items w.total _ w.stripes w.total_is w.few_rows w.bytes) schema h.0)
+              | inr none ↦ rw ((e.unchanged (none ∙ sym begun)).0) (cut_row w.options w.schema first _ w.written w.infos.items w.stats.items (kept_rows w.schema w.batch) rows row (omega (arith, few)) (within_of w.infos.items w.total _ w.stripes w.total_is w.few_rows w.bytes) schema h.0)
             ],
             λ why q. cc,
           )),
