@@ -1,9 +1,17 @@
-use Rattle.std.proofs.Common.{◌≡◌, ◌∙◌, [], ◌∷◌, ◌++◌, map, sym, append_assoc, append-nil, drop}
+use Rattle.std.proofs.Common.{◌≡◌, ◌∙◌, [], ◌∷◌, ◌++◌, map, refl, sym, append_assoc, append-nil, drop}
 use Rattle.std.proofs.lemmas.List.{at_drop_all}
 use Rattle.std.proofs.lemmas.Result.{err_from_is_err_and}
 use Rattle.orc_values.specs.Views.{view, views}
 use Rattle.orc_theorems.proofs.ReadLemmas.{pushed_more, cut_of_all}
 use Rattle.orc_theorems.proofs.written_files_calls.push_rows.Goals as goal
+
+pub loop-row-init : goal.loop-row-init
+loop-row-init g c = record {
+  schema = refl;
+  options = refl;
+  going = λ was. was;
+  pushed = ([], refl, λ first before h. rw (append-nil before) h);
+}
 
 pub loop-row-preserved : goal.loop-row-preserved
 loop-row-preserved g c =
