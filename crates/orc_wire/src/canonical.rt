@@ -26,6 +26,19 @@ const LEN: u64 = 2;
 /// A number below this one is a varint of one byte.
 const TWO_BYTES: u64 = 128;
 
+/// Appends a varint of whatever length, by a call of its own, so that what calls it stays short.
+#[inline(never)]
+fn put_any(n: u64, out: &mut Vec<u8>) -> Result<(), WireFault>
+    ensures text { OnOk result (out.new.items ≡ out.old.items ++ varint_text n) }
+    ensures refused { IfErr result (λ fault. fault ≡ OutOfMemory) }
+    ensures front { KeepsFront out.old.items out.new.items }
+{
+    match put_varint(n, out) {
+        Ok(()) => Ok(()),
+        Err(_) => Err(WireFault::OutOfMemory),
+    }
+}
+
 /// Appends a varint. Keys and most lengths are one byte, which is pushed and not copied.
 #[inline(always)]
 fn put_one(n: u64, out: &mut Vec<u8>) -> Result<(), WireFault>
@@ -38,10 +51,7 @@ fn put_one(n: u64, out: &mut Vec<u8>) -> Result<(), WireFault>
         out.push(n as u8)?;
         return Ok(());
     }
-    match put_varint(n, out) {
-        Ok(()) => Ok(()),
-        Err(_) => Err(WireFault::OutOfMemory),
-    }
+    put_any(n, out)
 }
 
 fn put_raw(bytes: &[u8], out: &mut Vec<u8>) -> Result<(), WireFault>
@@ -64,6 +74,7 @@ fn put_sized(bytes: &[u8], out: &mut Vec<u8>) -> Result<(), WireFault>
     put_raw(bytes, out)
 }
 
+#[inline(always)]
 fn wire_type(value: Value<'_>) -> u64
     ensures { result ≡ wire (payload_of value.entry) }
 {
@@ -76,6 +87,7 @@ fn wire_type(value: Value<'_>) -> u64
 }
 
 /// Appends a field.
+#[inline(always)]
 pub(crate) fn put_field(number: u32, value: Value<'_>, out: &mut Vec<u8>) -> Result<(), WireFault>
     ensures text { OnOk result (out.new.items ≡ out.old.items ++ field_text number (payload_of value.entry)) }
     ensures holds { OnOk result (IsPayload (payload_of value.entry) (payload_text (payload_of value.entry))) }
@@ -92,6 +104,7 @@ pub(crate) fn put_field(number: u32, value: Value<'_>, out: &mut Vec<u8>) -> Res
 }
 
 /// Appends a number.
+#[inline(always)]
 pub(crate) fn put_number(n: u32, value: u64, out: &mut Vec<u8>) -> Result<(), WireFault>
     ensures text { OnOk result (out.new.items ≡ out.old.items ++ field_text n (varint value)) }
     ensures refused { IfErr result (λ fault. fault ≡ OutOfMemory) }
@@ -114,6 +127,7 @@ pub(crate) fn put_known_u32(n: u32, value: Option<u32>, out: &mut Vec<u8>) -> Re
 }
 
 /// Appends a number of 64 bits that is known.
+#[inline(always)]
 pub(crate) fn put_known_u64(n: u32, value: Option<u64>, out: &mut Vec<u8>) -> Result<(), WireFault>
     ensures text { OnOk result (out.new.items ≡ out.old.items ++ known_text (λ v. varint v) n value) }
     ensures bounded { IfSome value (λ v. v < 2 ^ 64) }
@@ -127,6 +141,7 @@ pub(crate) fn put_known_u64(n: u32, value: Option<u64>, out: &mut Vec<u8>) -> Re
 }
 
 /// Appends a signed number that is known.
+#[inline(always)]
 pub(crate) fn put_known_i64(n: u32, value: Option<i64>, out: &mut Vec<u8>) -> Result<(), WireFault>
     ensures text { OnOk result (out.new.items ≡ out.old.items ++ known_text (λ v. varint (zig v)) n value) }
     ensures bounded { OnOk result (IfSome value (λ v. zig v < 2 ^ 64)) }
@@ -153,6 +168,7 @@ pub(crate) fn put_known_i32(n: u32, value: Option<i32>, out: &mut Vec<u8>) -> Re
 }
 
 /// Appends a flag that is known.
+#[inline(always)]
 pub(crate) fn put_known_flag(
     n: u32,
     value: Option<bool>,
@@ -216,6 +232,7 @@ pub(crate) fn put_kept(kept: &Bytes, out: &mut Vec<u8>) -> Result<(), WireFault>
 
 /// Begins a field of bytes that are yet to be written: appends its key, and one byte in which the
 /// length of most of them will fit. Answers the place of that byte.
+#[inline(always)]
 fn begin_sized(n: u32, out: &mut Vec<u8>) -> Result<usize, WireFault>
     ensures text { OnOk result (out.new.items ≡ (out.old.items ++ varint_text (n * 8 + 2)) ++ (0 ∷ [])) }
     ensures place { IfOk result (λ place. place ≡ length (out.old.items ++ varint_text (n * 8 + 2))) }
@@ -228,8 +245,23 @@ fn begin_sized(n: u32, out: &mut Vec<u8>) -> Result<usize, WireFault>
     Ok(place)
 }
 
+/// Ends a field of bytes whose length takes more than a byte, for which they are moved.
+#[inline(never)]
+fn end_long(place: usize, out: &mut Vec<u8>) -> Result<(), WireFault>
+    requires { place < length out.old.items }
+    ensures text { OnOk result (out.new.items
+        ≡ take place out.old.items ++ payload_text (sized (drop (place + 1) out.old.items))) }
+    ensures refused { IfErr result (λ fault. fault ≡ OutOfMemory) }
+    ensures front { KeepsFront (take place out.old.items) out.new.items }
+{
+    let content = Vec::from_slice(*out.allocator(), &out[place + 1..])?;
+    out.truncate(place);
+    put_sized(&content, out)
+}
+
 /// Ends a field of bytes: what stands behind the byte at `place` gets its length there, for which
 /// it is moved only where the length takes more than that byte.
+#[inline(always)]
 fn end_sized(place: usize, out: &mut Vec<u8>) -> Result<(), WireFault>
     requires { place < length out.old.items }
     ensures text { OnOk result (out.new.items
@@ -242,13 +274,12 @@ fn end_sized(place: usize, out: &mut Vec<u8>) -> Result<(), WireFault>
         out[place] = len as u8;
         return Ok(());
     }
-    let content = Vec::from_slice(*out.allocator(), &out[place + 1..])?;
-    out.truncate(place);
-    put_sized(&content, out)
+    end_long(place, out)
 }
 
 /// Ends a field of bytes that began at `start`, or takes it back where nothing stands behind the
 /// byte at `place`.
+#[inline(always)]
 fn end_some(start: usize, place: usize, out: &mut Vec<u8>) -> Result<(), WireFault>
     requires within { place < length out.old.items }
     requires ordered { start ≤ place }

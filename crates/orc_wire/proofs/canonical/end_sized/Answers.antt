@@ -1,8 +1,8 @@
-use Rattle.std.proofs.Common.{◌+◌, ◌-◌, take, drop, refl, arith, length-drop}
+use Rattle.std.proofs.Common.{◌+◌, ◌-◌, take, drop, arith, length-drop}
 use Rattle.orc_wire.specs.Fields.{sized}
 use Rattle.orc_wire.specs.CanonicalText.{payload_text}
 use Rattle.orc_wire.proofs.PutLemmas.{keeps_more}
-use Rattle.orc_wire.proofs.SizedLemmas.{set-size, keeps_taken}
+use Rattle.orc_wire.proofs.SizedLemmas.{set-size}
 use Rattle.orc_wire.proofs.canonical.end_sized.Goals as goal
 
 pub returns-then-len-lt-TWO_BYTES-clause-text : goal.returns-then-len-lt-TWO_BYTES-clause-text
@@ -17,6 +17,3 @@ returns-then-len-lt-TWO_BYTES-clause-front c =
     let place = c.args.place in
     keeps_more (take place old) _ (payload_text (sized (drop (place + 1) old)))
     (set-size old place (c.len.result - place - 1) c.requires (omega (arith, length-drop (place + 1) old)) (omega arith))
-
-pub returns-in_err-content-clause-front : goal.returns-in_err-content-clause-front
-returns-in_err-content-clause-front c = keeps_taken c.args.out.now.items c.args.out.now.items c.args.place refl
