@@ -327,6 +327,7 @@ pub(crate) fn put_packed_u64(n: u32, numbers: &[u64], out: &mut Vec<u8>) -> Resu
 }
 
 /// Appends a message, or nothing where there is none or its text is empty.
+#[inline(always)]
 pub(crate) fn put_shown<M: Message>(
     n: u32,
     message: &Option<M>,
