@@ -25,6 +25,7 @@ fn copy_bytes(alloc: Global, bytes: &[u8]) -> Result<Bytes, AllocError>
 }
 
 /// A text of our own, if it is known.
+#[inline(always)]
 pub(crate) fn owned_part(alloc: Global, part: Seen<&[u8]>) -> Result<Option<Bytes>, AllocError>
     ensures { IfOk result (λ text. text ≡ known_of (seen_now part.entry)) }
 {

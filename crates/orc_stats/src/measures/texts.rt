@@ -76,6 +76,7 @@ impl<'r> Measures<'r> for Texts<'r> {
         }
     }
 
+    #[inline(always)]
     fn join(&self, other: &Texts<'r>) -> Texts<'r> {
         Texts {
             least: self.least.least(other.least),
@@ -84,6 +85,7 @@ impl<'r> Measures<'r> for Texts<'r> {
         }
     }
 
+    #[inline(always)]
     fn body(&self, alloc: Global) -> Result<Body, StatFault> {
         Ok(Body::Texts {
             least: owned_part(alloc, self.least)?,
