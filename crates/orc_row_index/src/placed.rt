@@ -136,6 +136,7 @@ pub fn own_kind(tree: &Tree, has_dictionary: bool) -> StreamKind
 
 /// Adds the position in bytes as they are, where a column has them: how many come before, which are no
 /// more than there are.
+#[inline(always)]
 fn put_octets(content: Option<&[u8]>, octets: usize, out: &mut Vec<u64>) -> Result<(), AllocError>
     ensures { (n : ℕ) → octets ≡ min most n → HasOctets (lent_bytes content.entry) n
         → OnOk result (out.new.items ≡ out.old.items ++ octets_place (lent_bytes content.entry) n) }
@@ -150,6 +151,7 @@ fn put_octets(content: Option<&[u8]>, octets: usize, out: &mut Vec<u64>) -> Resu
 }
 
 /// Adds the positions behind so many cells, and answers how far the streams are walked then.
+#[inline(always)]
 pub(crate) fn put_places(
     placed: &PlacedStreams<'_>,
     from: Walk,

@@ -56,6 +56,7 @@ fn number_mark(version: Rle, sign: Sign, bytes: &[u8], from: Mark, n: usize) -> 
 }
 
 /// Adds the two numbers of a position.
+#[inline(always)]
 fn put_pos(place: Pos, out: &mut Vec<u64>) -> Result<(), AllocError>
     ensures { OnOk result (out.new.items ≡ out.old.items ++ place.offset ∷ place.skip ∷ []) }
 {
@@ -65,6 +66,7 @@ fn put_pos(place: Pos, out: &mut Vec<u64>) -> Result<(), AllocError>
 }
 
 /// Adds the three numbers of a boolean's position.
+#[inline(always)]
 fn put_bit_pos(place: BitPos, out: &mut Vec<u64>) -> Result<(), AllocError>
     ensures { OnOk result (out.new.items ≡ out.old.items ++ place.offset ∷ place.skip ∷ place.bits ∷ []) }
 {
@@ -76,6 +78,7 @@ fn put_bit_pos(place: BitPos, out: &mut Vec<u64>) -> Result<(), AllocError>
 
 /// Adds the position of value `n` of a stream, and answers the mark of its run. The search begins at a mark
 /// that is not behind the value.
+#[inline(always)]
 pub(crate) fn put_place(
     stream: &RunBytes<'_>,
     from: Mark,
