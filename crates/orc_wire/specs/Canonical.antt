@@ -157,6 +157,7 @@ module _ {V W : Type 0} (a : Member V) (b : Member W) (x : Canonical a) (y : Can
       → IsFields base fields bytes → (a and b).says fields v → x.bounded v.0 × y.bounded v.1
   both_read base fields bytes v are says = (x.read base fields bytes v.0 are says.0, y.read base fields bytes v.1 are says.1)
 
+  -- the text of one member, then that of the other, whose field numbers are higher
   abbrev pub both : Canonical (a and b)
   both = record {
     text = λ v. x.text v.0 ++ y.text v.1;
@@ -177,10 +178,12 @@ module _ {V W : Type 0} (a : Member V) (b : Member W) (x : Canonical a) (y : Can
 -- the second is written where the first passes a test; elsewhere it must be as if no field spoke of it
 module _ {V W : Type 0} (a : Member V) (b : Member W) (x : Canonical a) (y : Canonical b) (test : V → Bool)
     (apart : x.high ≤ y.low) where
+  -- where the test passes the text holds both; else it holds the first, and the second is what it is without a field
   abbrev pub WholeIf : Bool → V × W → Type 0
   WholeIf true v = x.whole v.0 × y.whole v.1
   WholeIf false v = x.whole v.0 × (v.1 ≡ b.start)
 
+  -- the second text stands behind the first where the test passes
   abbrev pub text_if : Bool → V × W → List ℕ
   text_if true v = x.text v.0 ++ y.text v.1
   text_if false v = x.text v.0
@@ -208,6 +211,7 @@ module _ {V W : Type 0} (a : Member V) (b : Member W) (x : Canonical a) (y : Can
         shows = r.shows;
       }
 
+  -- two members, the second of which is written where the first passes the test
   abbrev pub both_if : Canonical (a and b)
   both_if = record {
     text = λ v. text_if (test v.0) v;
@@ -239,6 +243,7 @@ module _ {V W : Type 0} (shape : Shape V W) (m : Member V) (x : Canonical m) whe
       let r = x.again (shape.into w) can whole len base before front are (subst (λ (v : V). m.says before v) (shape.here m.start) says) in
       record { more = r.more; are = r.are; says = r.says; between = r.between; shows = r.shows }
 
+  -- the text of a record is that of its members
   abbrev pub shaped_text : Canonical (shaped shape m)
   shaped_text = record {
     text = λ w. x.text (shape.into w);

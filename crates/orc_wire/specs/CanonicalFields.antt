@@ -151,6 +151,7 @@ pub all_top : {V : Type 0} (xs : List V) → AllByRecursion (λ v. ⊤) xs
 all_top [] = tt
 all_top (x ∷ xs) = (tt, all_top xs)
 
+-- a varint of 64 bits (uint64)
 abbrev pub a_number : (n : ℕ) → Single n (number n)
 a_number n = record {
   payload = λ v. varint v;
@@ -166,6 +167,7 @@ a_number n = record {
   read = λ place item p is e. subst (λ (t : Option ℕ). IfSome t (λ v. v < 2 ^ 64)) (sym e) (number_fits n place item is);
 }
 
+-- a varint of 32 bits (uint32 or an enum)
 abbrev pub a_small : (n : ℕ) → Single n (small n)
 a_small n = record {
   payload = λ v. varint v;
@@ -181,6 +183,7 @@ a_small n = record {
   read = λ place item p is gives. gives.1;
 }
 
+-- a varint of 64 bits, whose sign is folded in by ZigZag (sint64)
 abbrev pub a_signed : (n : ℕ) → Single n (signed n)
 a_signed n = record {
   payload = λ v. varint (zig v);
@@ -196,6 +199,7 @@ a_signed n = record {
   read = λ place item p is e. signed_fits (2 ^ 64) p (number_in n item) e (number_fits n place item is);
 }
 
+-- a varint of 32 bits, whose sign is folded in by ZigZag (sint32)
 abbrev pub a_small_signed : (n : ℕ) → Single n (small_signed n)
 a_small_signed n = record {
   payload = λ v. varint (zig v);
@@ -219,6 +223,7 @@ pub flag_fits : (b : Bool) → flag_number b < 2 ^ 64
 flag_fits true = omega arith
 flag_fits false = omega arith
 
+-- a boolean as the varint 0 or 1 (bool)
 abbrev pub a_flag : (n : ℕ) → Single n (flag n)
 a_flag n = record {
   payload = λ v. varint (flag_number v);
@@ -234,6 +239,7 @@ a_flag n = record {
   read = λ place item p is gives. some_top p;
 }
 
+-- bytes behind their length (string or bytes)
 abbrev pub a_text : (n : ℕ) → Single n (text n)
 a_text n = record {
   payload = λ v. sized v;
@@ -290,6 +296,7 @@ module _ {C : Type 0} (members : Member C) (w : Canonical members) (required : �
   message_read item (Some b) p h =
       let is = h.2 in subst (λ (t : Option C). IfSome t w.bounded) (sym h.1) (w.read (inside item b) is.fields b h.0 is.are is.says)
 
+  -- the text of an embedded message, behind its length
   abbrev pub a_message : Single n (message members required n)
   a_message = record {
     payload = λ c. sized (w.text c);

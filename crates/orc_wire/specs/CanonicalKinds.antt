@@ -194,6 +194,7 @@ module _ {V : Type 0} (n : ℕ) (is : IsNumber n) (part : Part (Option V)) (s : 
       subst (λ (t : List V). AllByRecursion s.bounded t) (sym says.4)
       (all_both s.bounded says.0 (option_to_list says.1) old (listed_fits s.bounded says.1 given))
 
+  -- repeated: a field for each value, in order
   abbrev pub for_each : Canonical (each part)
   for_each = record {
     text = list_text s.payload n;
@@ -213,6 +214,7 @@ module _ {V : Type 0} (n : ℕ) (is : IsNumber n) (part : Part (Option V)) (s : 
 
 -- ---- packed lists
 
+-- each number is below the limit
 abbrev pub AreBelow : ℕ → List ℕ → Type 0
 AreBelow limit ns = AllByRecursion (λ n. n < limit) ns
 
@@ -414,6 +416,7 @@ moved_field place at item is = record {
   at_place = refl;
 }
 
+-- more fields behind the front, of number n or higher, whose bytes are kept as they are
 record KeptBehind (n base : ℕ) (before : List Item) (front bytes : List ℕ) : Type 0 where
   more : List Item
   are : IsFields base (more ++ before) (front ++ bytes)
@@ -502,6 +505,7 @@ says_kept n base (item ∷ before) bytes kept are says =
 
 module _ {C : Type 0} (members : Member C) (w : Canonical members) (required : ℕ)
     (there : (required ≡ 0) ⊎ w.always required) (n : ℕ) (is : IsNumber n) where
+  -- the text holds all of the message, and is not empty
   abbrev pub IsShown : C → Type 0
   IsShown c = w.whole c × (w.text c ≡ [] → ⊥)
 
@@ -571,6 +575,7 @@ module _ {C : Type 0} (members : Member C) (w : Canonical members) (required : �
   only_read (item ∷ before) v says =
       only_joins says.0 says.1 v says.4 (only_read before says.0 says.2) (message_read members w required there n item (bytes_in n item) says.1 says.3)
 
+  -- an embedded message that may stand once, written where its text is not empty
   abbrev pub where_shown : Canonical (only members required n)
   where_shown = record {
     text = shown_text w.text n;
@@ -590,43 +595,56 @@ module _ {C : Type 0} (members : Member C) (w : Canonical members) (required : �
 
 -- ---- one name for each line of the table of messages
 
+-- uint64, always written
 abbrev pub always_number : (n : ℕ) → IsNumber n → Canonical (last 0 (number n))
 always_number n is = written_always n is (number n) (a_number n) 0 (lit< tt)
 
+-- uint32 or an enum, always written
 abbrev pub always_small : (n : ℕ) → IsNumber n → Canonical (last 0 (small n))
 always_small n is = written_always n is (small n) (a_small n) 0 (lit< tt)
 
+-- string or bytes, always written
 abbrev pub always_text : (n : ℕ) → IsNumber n → Canonical (last [] (text n))
 always_text n is = written_always n is (text n) (a_text n) [] tt
 
+-- optional uint64, written where it is known
 abbrev pub known_number : (n : ℕ) → IsNumber n → Canonical (known (number n))
 known_number n is = where_known n is (number n) (a_number n)
 
+-- optional uint32, written where it is known
 abbrev pub known_small : (n : ℕ) → IsNumber n → Canonical (known (small n))
 known_small n is = where_known n is (small n) (a_small n)
 
+-- optional sint64, written where it is known
 abbrev pub known_signed : (n : ℕ) → IsNumber n → Canonical (known (signed n))
 known_signed n is = where_known n is (signed n) (a_signed n)
 
+-- optional sint32, written where it is known
 abbrev pub known_small_signed : (n : ℕ) → IsNumber n → Canonical (known (small_signed n))
 known_small_signed n is = where_known n is (small_signed n) (a_small_signed n)
 
+-- optional bool, written where it is known
 abbrev pub known_flag : (n : ℕ) → IsNumber n → Canonical (known (flag n))
 known_flag n is = where_known n is (flag n) (a_flag n)
 
+-- optional string or bytes, written where it is known
 abbrev pub text_where_known : (n : ℕ) → IsNumber n → Canonical (known (text n))
 text_where_known n is = where_known n is (text n) (a_text n)
 
+-- repeated string or bytes, a field for each
 abbrev pub each_as_text : (n : ℕ) → IsNumber n → Canonical (each (text n))
 each_as_text n is = for_each n is (text n) (a_text n)
 
+-- repeated embedded messages, a field for each; a required member of theirs is always written
 abbrev pub each_message : {C : Type 0} (members : Member C) (w : Canonical members) (required : ℕ)
     → (required ≡ 0) ⊎ w.always required → (n : ℕ) → IsNumber n → Canonical (each (message members required n))
 each_message members w required there n is =
     for_each n is (message members required n) (a_message members w required there n)
 
+-- repeated uint32, packed
 abbrev pub small_list : (n : ℕ) → IsNumber n → Canonical (all (packed (2 ^ 32) n))
 small_list n is = as_packed (2 ^ 32) n (lit≤ tt) is
 
+-- repeated uint64, packed
 abbrev pub number_list : (n : ℕ) → IsNumber n → Canonical (all (packed (2 ^ 64) n))
 number_list n is = as_packed (2 ^ 64) n (lit≤ tt) is

@@ -63,9 +63,11 @@ abbrev pub stream_text : Canonical stream
 stream_text = shaped_text stream_shape _ (both _ _ (always_small 1 one)
     (both _ _ (always_small 2 two) (always_number 3 three) (lit≤ tt)) (lit≤ tt))
 
+-- kind is required of a ColumnEncoding, and always written
 abbrev pub encoding_complete : (◌≡◌ {A = ℕ} 1 0) ⊎ encoding_text.always 1
 encoding_complete = inr refl
 
+-- kind is required of a Stream, and always written
 abbrev pub stream_complete : (◌≡◌ {A = ℕ} 1 0) ⊎ stream_text.always 1
 stream_complete = inr (inl refl)
 
@@ -89,12 +91,15 @@ abbrev pub type_text : Canonical type_msg
 type_text = shaped_text type_shape _ (both _ _ (always_small 1 one)
     (both _ _ (small_list 2 two) (both _ _ (each_as_text 3 three) (as_kept 4 four) (lit≤ tt)) (lit≤ tt)) (lit≤ tt))
 
+-- kind is required of a Type, and always written
 abbrev pub type_complete : (◌≡◌ {A = ℕ} 1 0) ⊎ type_text.always 1
 type_complete = inr (inl refl)
 
+-- no member of StripeFooter is required
 abbrev pub stripe_footer_complete : (◌≡◌ {A = ℕ} 0 0) ⊎ stripe_footer_text.always 0
 stripe_footer_complete = inl refl
 
+-- no member of PostScript is required
 abbrev pub post_script_complete : (◌≡◌ {A = ℕ} 0 0) ⊎ post_script_text.always 0
 post_script_complete = inl refl
 
@@ -106,6 +111,7 @@ stripe_info_text = shaped_text stripe_info_shape _ (both _ _ (always_number 1 on
     (both _ _ (always_number 4 four) (always_number 5 five) (lit≤ tt))
     (lit≤ tt)) (lit≤ tt)) (lit≤ tt))
 
+-- no member of StripeInformation is required
 abbrev pub stripe_info_complete : (◌≡◌ {A = ℕ} 0 0) ⊎ stripe_info_text.always 0
 stripe_info_complete = inl refl
 
@@ -114,6 +120,7 @@ abbrev pub integer_stats_text : Canonical integer_stats
 integer_stats_text = shaped_text integer_stats_shape _ (both _ _ (known_signed 1 one)
     (both _ _ (known_signed 2 two) (known_signed 3 three) (lit≤ tt)) (lit≤ tt))
 
+-- no member of IntegerStatistics is required
 abbrev pub integer_stats_complete : (◌≡◌ {A = ℕ} 0 0) ⊎ integer_stats_text.always 0
 integer_stats_complete = inl refl
 
@@ -122,6 +129,7 @@ abbrev pub string_stats_text : Canonical string_stats
 string_stats_text = shaped_text string_stats_shape _ (both _ _ (text_where_known 1 one)
     (both _ _ (text_where_known 2 two) (known_signed 3 three) (lit≤ tt)) (lit≤ tt))
 
+-- no member of StringStatistics is required
 abbrev pub string_stats_complete : (◌≡◌ {A = ℕ} 0 0) ⊎ string_stats_text.always 0
 string_stats_complete = inl refl
 
@@ -129,6 +137,7 @@ string_stats_complete = inl refl
 abbrev pub bucket_stats_text : Canonical bucket_stats
 bucket_stats_text = shaped_text bucket_stats_shape _ (number_list 1 one)
 
+-- no member of BucketStatistics is required
 abbrev pub bucket_stats_complete : (◌≡◌ {A = ℕ} 0 0) ⊎ bucket_stats_text.always 0
 bucket_stats_complete = inl refl
 
@@ -137,6 +146,7 @@ abbrev pub date_stats_text : Canonical date_stats
 date_stats_text = shaped_text date_stats_shape _
     (both _ _ (known_small_signed 1 one) (known_small_signed 2 two) (lit≤ tt))
 
+-- no member of DateStatistics is required
 abbrev pub date_stats_complete : (◌≡◌ {A = ℕ} 0 0) ⊎ date_stats_text.always 0
 date_stats_complete = inl refl
 
@@ -144,6 +154,7 @@ date_stats_complete = inl refl
 abbrev pub binary_stats_text : Canonical binary_stats
 binary_stats_text = shaped_text binary_stats_shape _ (known_signed 1 one)
 
+-- no member of BinaryStatistics is required
 abbrev pub binary_stats_complete : (◌≡◌ {A = ℕ} 0 0) ⊎ binary_stats_text.always 0
 binary_stats_complete = inl refl
 
@@ -152,6 +163,7 @@ abbrev pub collection_stats_text : Canonical collection_stats
 collection_stats_text = shaped_text collection_stats_shape _ (both _ _ (known_number 1 one)
     (both _ _ (known_number 2 two) (known_number 3 three) (lit≤ tt)) (lit≤ tt))
 
+-- no member of CollectionStatistics is required
 abbrev pub collection_stats_complete : (◌≡◌ {A = ℕ} 0 0) ⊎ collection_stats_text.always 0
 collection_stats_complete = inl refl
 
@@ -166,6 +178,7 @@ column_stats_text = shaped_text column_stats_shape _ (both _ _ (always_number 1 
     (both _ _ (known_flag 10 ten) (where_shown collection_stats collection_stats_text 0 collection_stats_complete 12 twelve) (lit≤ tt))
     (lit≤ tt)) (lit≤ tt)) (lit≤ tt)) (lit≤ tt)) (lit≤ tt)) (lit≤ tt))
 
+-- no member of ColumnStatistics is required
 abbrev pub column_stats_complete : (◌≡◌ {A = ℕ} 0 0) ⊎ column_stats_text.always 0
 column_stats_complete = inl refl
 
@@ -174,6 +187,7 @@ abbrev pub stripe_stats_text : Canonical stripe_stats
 stripe_stats_text = shaped_text stripe_stats_shape _
     (each_message column_stats column_stats_text 0 column_stats_complete 1 one)
 
+-- no member of StripeStatistics is required
 abbrev pub stripe_stats_complete : (◌≡◌ {A = ℕ} 0 0) ⊎ stripe_stats_text.always 0
 stripe_stats_complete = inl refl
 
@@ -182,6 +196,7 @@ abbrev pub metadata_text : Canonical metadata
 metadata_text = shaped_text metadata_shape _
     (each_message stripe_stats stripe_stats_text 0 stripe_stats_complete 1 one)
 
+-- no member of Metadata is required
 abbrev pub metadata_complete : (◌≡◌ {A = ℕ} 0 0) ⊎ metadata_text.always 0
 metadata_complete = inl refl
 
@@ -190,6 +205,7 @@ abbrev pub row_index_entry_text : Canonical row_index_entry
 row_index_entry_text = shaped_text row_index_entry_shape _ (both _ _ (number_list 1 one)
     (where_shown column_stats column_stats_text 0 column_stats_complete 2 two) (lit≤ tt))
 
+-- no member of RowIndexEntry is required
 abbrev pub row_index_entry_complete : (◌≡◌ {A = ℕ} 0 0) ⊎ row_index_entry_text.always 0
 row_index_entry_complete = inl refl
 
@@ -198,6 +214,7 @@ abbrev pub row_index_text : Canonical row_index
 row_index_text = shaped_text row_index_shape _
     (each_message row_index_entry row_index_entry_text 0 row_index_entry_complete 1 one)
 
+-- no member of RowIndex is required
 abbrev pub row_index_complete : (◌≡◌ {A = ℕ} 0 0) ⊎ row_index_text.always 0
 row_index_complete = inl refl
 
@@ -205,6 +222,7 @@ row_index_complete = inl refl
 abbrev pub user_metadata_text : Canonical user_metadata
 user_metadata_text = shaped_text user_metadata_shape _ (both _ _ (always_text 1 one) (always_text 2 two) (lit≤ tt))
 
+-- no member of UserMetadataItem is required
 abbrev pub user_metadata_complete : (◌≡◌ {A = ℕ} 0 0) ⊎ user_metadata_text.always 0
 user_metadata_complete = inl refl
 
@@ -221,5 +239,6 @@ footer_text = shaped_text footer_shape _ (both _ _ (always_number 1 one)
     (both _ _ (known_small 9 nine) (as_kept 10 ten) (lit≤ tt))
     (lit≤ tt)) (lit≤ tt)) (lit≤ tt)) (lit≤ tt)) (lit≤ tt)) (lit≤ tt)) (lit≤ tt)) (lit≤ tt))
 
+-- no member of Footer is required
 abbrev pub footer_complete : (◌≡◌ {A = ℕ} 0 0) ⊎ footer_text.always 0
 footer_complete = inl refl

@@ -36,15 +36,18 @@ record NoKey (place : ℕ) (bytes : List ℕ) (fault : WireFault) : Type 0 where
   none : NoVarint bytes why
   fails : fault ≡ fault_at place why
 
+-- a key stands in front, and its payload does not
 record Lacks (place : ℕ) (bytes : List ℕ) (fault : WireFault) : Type 0 where
   why : BitFault
   lacks : LacksPayload bytes why
   fails : fault ≡ fault_at place why
 
+-- the key in front has a field number or a wire type that no field has
 record IsBad (place : ℕ) (bytes : List ℕ) (fault : WireFault) : Type 0 where
   bad : HasBadKey bytes
   fails : fault ≡ BadWireType place
 
+-- one of the three
 abbrev Why : ℕ → List ℕ → WireFault → Type 0
 Why place bytes fault = NoKey place bytes fault ⊎ (Lacks place bytes fault ⊎ IsBad place bytes fault)
 

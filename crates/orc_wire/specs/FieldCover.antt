@@ -30,6 +30,7 @@ record HasPayload (w : ℕ) (bytes : List ℕ) : Type 0 where
   holds : IsPayload payload text
   kind : wire payload ≡ w
 
+-- a payload of the wire type stands in front, or there is a reason why none does
 abbrev SomePayload : ℕ → List ℕ → Type 0
 SomePayload w bytes = HasPayload w bytes ⊎ ((why : BitFault) × NoPayload w bytes why)
 
@@ -143,6 +144,7 @@ good_or_bad key = elim (cases_lt 0 (key / 8)) [
   | inr none ↦ inr (inl (omega (arith, none)))
 ]
 
+-- a field stands in front, or there is a fault that says why none does
 abbrev SomeField : ℕ → List ℕ → Type 0
 SomeField place bytes = HasField place bytes ⊎ ((fault : WireFault) × NoField place bytes fault)
 

@@ -51,6 +51,7 @@ module _ {V P : Type 0} (zero : V) (join : V → P → V → Type 0) (gives : It
       let olds = one_joined before h.0 v h.2 says in
       no_step item v h.1 w fault bad h.3 (subst (λ (t : V). join t h.1 w) olds h.4)
 
+  -- the member that joins what each of its fields gives, in order
   abbrev pub joined : Member V
   joined = record {
     says = Joined zero join gives;

@@ -79,6 +79,7 @@ module _ {C : Type 0} (members : Member C) (required : ℕ) where
   MessageIn n item None p = p ≡ None
   MessageIn n item (Some b) p = (c : C) × (p ≡ Some c) × Spells members required (inside item b) b c
 
+  -- why the bytes spell no message
   abbrev pub MessageFails : ℕ → Item → Option (List ℕ) → WireFault → Type 0
   MessageFails n item None fault = ⊥
   MessageFails n item (Some b) fault = Faults members required (inside item b) b fault

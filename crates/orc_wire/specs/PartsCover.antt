@@ -75,6 +75,7 @@ shorter k bytes h le =
     omega (arith, le, some, sum, same)
 
 module _ (limit place : ℕ) where
+  -- the bytes are varints of numbers below the limit, or there is a fault that says why not
   abbrev SomeVarints : List ℕ → Type 0
   SomeVarints bytes =
       ((ns : List ℕ) × AreVarints limit ns bytes)
@@ -171,6 +172,7 @@ module _ {C : Type 0} (members : Member C) (required n : ℕ) (item : Item) (are
       ((fault : WireFault) × MessageFails members required n item (bytes_in n item) fault)
   some_message = message_or (bytes_in n item) refl
 
+  -- the field is joined to what was there, or there is a fault that says why not
   abbrev SomeOnly : Option C → Type 0
   SomeOnly old =
       ((v : Option C) × ((p : Option C) × MessageIn members required n item (bytes_in n item) p × JoinsOnly old p v))

@@ -13,6 +13,7 @@ use Rattle.orc_wire.specs.Spells.{has_number, Spells, Faults}
 use Rattle.orc_wire.specs.SpellsLaws.{text_some}
 
 module _ {C : Type 0} (members : Member C) (required base : ℕ) (bytes : List ℕ) where
+  -- the bytes spell a content of the message, or there is a fault that says why not
   abbrev SomeContent : Type 0
   SomeContent =
       ((content : C) × Spells members required base bytes content)
