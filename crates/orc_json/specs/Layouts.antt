@@ -1,7 +1,7 @@
 -- The text that a layout prints of a cell.
 use Rattle.std.specs.Prelude.{ℕ, List, [], ◌∷◌, ◌++◌, Bool, true, false, map, get_or}
 use Rattle.serde_json.specs.Written.{compact_text, comma_if}
-use Rattle.orc_values.specs.Cells.{Cell, null, leaf, list, struct, pairs, list_of_cells, list_of_pairs}
+use Rattle.orc_values.specs.Cells.{Cell, null, list, struct, pairs, list_of_cells, list_of_pairs}
 use Rattle.orc_types.specs.JsonPrinting.{scalar_json}
 use Rattle.orc_json.specs.declared.layout.Layout.{Layout, fold-Layout}
 use Rattle.orc_json.specs.declared.layout.Member.{Member, fold-Member}
@@ -44,27 +44,18 @@ parts_text (p ∷ ps) cs = p.key ++ (p.text (get_or cs p.place null) ++ parts_te
 
 -- a list as an array of its elements' texts
 abbrev pub list_text : (Cell → List ℕ) → Cell → List ℕ
-list_text f null = null_text
-list_text f (leaf a) = null_text
 list_text f (list cs) = 91 ∷ elements_text f false (list_of_cells cs)
-list_text f (struct cs) = null_text
-list_text f (pairs ps) = null_text
+list_text f _ = null_text
 
 -- a map as an array of its pairs' texts
 abbrev pub map_text : PairTexts → Cell → List ℕ
-map_text t null = null_text
-map_text t (leaf a) = null_text
-map_text t (list cs) = null_text
-map_text t (struct cs) = null_text
 map_text t (pairs ps) = 91 ∷ pairs_text t false (list_of_pairs ps)
+map_text t _ = null_text
 
 -- a struct as an object of its members' texts
 abbrev pub struct_text : List Part → Cell → List ℕ
-struct_text ps null = null_text
-struct_text ps (leaf a) = null_text
-struct_text ps (list cs) = null_text
 struct_text ps (struct cs) = 123 ∷ parts_text ps (list_of_cells cs)
-struct_text ps (pairs qs) = null_text
+struct_text ps _ = null_text
 
 -- a single value's text
 abbrev pub leaf_text : Cell → List ℕ

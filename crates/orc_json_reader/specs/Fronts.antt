@@ -12,16 +12,11 @@ use Rattle.orc_types.specs.JsonRows.{FieldsSpell}
 
 -- the value of a token that is one by itself: a string, a number, true, false or null
 abbrev pub data_of : Token → Option Data
-data_of Token.begin_object = None
-data_of Token.end_object = None
-data_of Token.begin_array = None
-data_of Token.end_array = None
-data_of (Token.key s) = None
 data_of (Token.string s) = Some (string s)
 data_of (Token.number s) = option_map number (number_of s)
 data_of (Token.boolean b) = Some (boolean b)
 data_of Token.null = Some null
-data_of Token.bad = None
+data_of _ = None
 
 -- A value comes first, and of what it stands for the fact holds. Arrays and objects nest so deep in it at most.
 pub record ValueFront (Is : Data → Type 0) (depth : ℕ) (old new : List Token) : Type 0 where

@@ -8,7 +8,7 @@ use Rattle.orc_values.specs.declared.kind.Scalar.{Scalar}
 use Rattle.orc_values.specs.declared.kind.Scalar.TheVariants as kind
 use Rattle.orc_types.specs.declared.json_fault.JsonFault.{JsonFault}
 use Rattle.orc_types.specs.declared.json_fault.JsonFault.TheVariants as fault
-use Rattle.orc_values.specs.Cells.{Atom, bool, int, date, text, bytes, Cell, null as null_cell, leaf, list, struct, pairs}
+use Rattle.orc_values.specs.Cells.{Atom, bool, int, date, text, bytes, Cell, null as null_cell, leaf}
 use Rattle.orc_types.specs.Days.{has_text, day_text, IsDayText}
 use Rattle.orc_values.specs.Fits.{atom_fits}
 use Rattle.orc_values.specs.Kinds.{is_kind}
@@ -37,22 +37,18 @@ LeafSpells k d a = SpellsAtom d a × (atom_fits k a ≡ true)
 abbrev pub ScalarSpells : Scalar → Data → Cell → Type 0
 ScalarSpells k d null_cell = d ≡ null
 ScalarSpells k d (leaf a) = LeafSpells k d a
-ScalarSpells k d (list cs) = ⊥
-ScalarSpells k d (struct cs) = ⊥
-ScalarSpells k d (pairs ps) = ⊥
+ScalarSpells k d _ = ⊥
 
 -- ---- why a value is refused; null never is
 
 -- whether a value of this kind is spelled by a number
 abbrev pub takes_numbers : Scalar → Bool
-takes_numbers kind.Boolean = false
 takes_numbers kind.Byte = true
 takes_numbers kind.Short = true
 takes_numbers kind.Int = true
 takes_numbers kind.Long = true
-takes_numbers kind.String = false
-takes_numbers kind.Binary = false
 takes_numbers kind.Date = true
+takes_numbers _ = false
 
 -- whether a value of this kind is spelled by a string
 abbrev pub takes_strings : Scalar → Bool
@@ -83,14 +79,12 @@ IsBadHex k d = (is_kind kind.Binary k ≡ true) × ((s : List ℕ) × (d ≡ str
 
 -- Memory may run out with any value. The other faults are of texts and of objects.
 abbrev pub LeafFault : Scalar → Data → JsonFault → Type 0
-LeafFault k d fault.Syntax = ⊥
 LeafFault k d fault.WrongShape = IsMisfit k d
 LeafFault k d fault.Range = IsOutOfRange k d
-LeafFault k d fault.UnknownField = ⊥
-LeafFault k d fault.DuplicateField = ⊥
 LeafFault k d fault.BadDate = IsBadDate k d
 LeafFault k d fault.BadHex = IsBadHex k d
 LeafFault k d fault.OutOfMemory = Unit {0}
+LeafFault k d _ = ⊥
 
 -- ---- printing
 
@@ -108,16 +102,10 @@ atom_json (bytes bs) = string (encode_lower bs)
 
 -- a cell that contains no other, and is not null
 abbrev pub IsLeaf : Cell → Type 0
-IsLeaf null_cell = ⊥
 IsLeaf (leaf a) = Unit {0}
-IsLeaf (list cs) = ⊥
-IsLeaf (struct cs) = ⊥
-IsLeaf (pairs ps) = ⊥
+IsLeaf _ = ⊥
 
 -- the value of JSON is that of the leaf
 abbrev pub LeafPrints : Cell → Data → Type 0
-LeafPrints null_cell d = ⊥
 LeafPrints (leaf a) d = d ≡ atom_json a
-LeafPrints (list cs) d = ⊥
-LeafPrints (struct cs) d = ⊥
-LeafPrints (pairs ps) d = ⊥
+LeafPrints _ d = ⊥

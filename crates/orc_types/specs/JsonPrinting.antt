@@ -4,7 +4,7 @@ use Rattle.std.specs.Ordering.{is_lt, nat_cmp}
 use Rattle.std.specs.Cmp.Lexicographic.{slice_cmp}
 use Rattle.serde_json.specs.Data.{Data, null as nothing, array, object, Items, no_items, item, Members, no_members, member, put}
 use Rattle.orc_values.specs.Shapes.{Shape, scalar, list_of, map_of, struct_of, Fields, no_field, field}
-use Rattle.orc_values.specs.Cells.{Cell, null, leaf, list, struct, pairs, Cells, end, more, Pairs, no_pair, pair}
+use Rattle.orc_values.specs.Cells.{Cell, leaf, list, struct, pairs, Cells, end, more, Pairs, no_pair, pair}
 use Rattle.orc_types.specs.JsonLeaves.{atom_json}
 
 -- the elements of an array, a cell each
@@ -14,19 +14,13 @@ each_json f (more c cs) = item (f c) (each_json f cs)
 
 -- null where the cell isn't one of the type
 abbrev pub scalar_json : Cell → Data
-scalar_json null = nothing
 scalar_json (leaf a) = atom_json a
-scalar_json (list cs) = nothing
-scalar_json (struct cs) = nothing
-scalar_json (pairs ps) = nothing
+scalar_json _ = nothing
 
 -- a list as an array of its elements
 abbrev pub list_json : (Cell → Data) → Cell → Data
-list_json f null = nothing
-list_json f (leaf a) = nothing
 list_json f (list cs) = array (each_json f cs)
-list_json f (struct cs) = nothing
-list_json f (pairs ps) = nothing
+list_json f _ = nothing
 
 -- an array of two
 abbrev pub pair_json : Data → Data → Data
@@ -39,19 +33,13 @@ pairs_json f g (pair k v ps) = item (pair_json (f k) (g v)) (pairs_json f g ps)
 
 -- a map as an array of its pairs
 abbrev pub map_json : (Cell → Data) → (Cell → Data) → Cell → Data
-map_json f g null = nothing
-map_json f g (leaf a) = nothing
-map_json f g (list cs) = nothing
-map_json f g (struct cs) = nothing
 map_json f g (pairs ps) = array (pairs_json f g ps)
+map_json f g _ = nothing
 
 -- a struct as an object of its fields
 abbrev pub struct_json : (Cells → Members) → Cell → Data
-struct_json f null = nothing
-struct_json f (leaf a) = nothing
-struct_json f (list cs) = nothing
 struct_json f (struct cs) = object (f cs)
-struct_json f (pairs ps) = nothing
+struct_json f _ = nothing
 
 -- an object has its fields' names as keys, in byte order, which `put` keeps
 abbrev mutual

@@ -44,13 +44,9 @@ NoFieldsAt ts n subtypes names =
 
 -- why bytes are no name
 abbrev pub NameFault : List ℕ → TypeFault → Type 0
-NameFault bytes (fault.UnsupportedKind k) = ⊥
-NameFault bytes fault.BadTree = ⊥
-NameFault bytes fault.TooDeep = ⊥
-NameFault bytes fault.TooMany = ⊥
-NameFault bytes fault.RootNotStruct = ⊥
 NameFault bytes (fault.BadText place) = (place ≡ 0) × (is_utf8 bytes ≡ false)
 NameFault bytes fault.OutOfMemory = Unit {0}
+NameFault bytes _ = ⊥
 
 -- some name isn't text
 pub record HasBadAmong (names : List (List ℕ)) : Type 0 where

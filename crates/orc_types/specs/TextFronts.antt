@@ -46,13 +46,10 @@ NoFieldsFront bytes first =
 
 -- Why what is read isn't in front: it goes too deep, or it is wrong where so many bytes are left.
 abbrev pub FrontFaultBy : List ℕ → Type 0 → Type 0 → TypeFault → Type 0
-FrontFaultBy bytes deep wrong (fault.UnsupportedKind k) = ⊥
-FrontFaultBy bytes deep wrong fault.BadTree = ⊥
 FrontFaultBy bytes deep wrong fault.TooDeep = deep
-FrontFaultBy bytes deep wrong fault.TooMany = ⊥
-FrontFaultBy bytes deep wrong fault.RootNotStruct = ⊥
 FrontFaultBy bytes deep wrong (fault.BadText left) = (left ≤ length bytes) × wrong
 FrontFaultBy bytes deep wrong fault.OutOfMemory = Unit {0}
+FrontFaultBy bytes deep wrong _ = ⊥
 
 -- no type of so many levels
 abbrev pub FrontFault : List ℕ → ℕ → TypeFault → Type 0
