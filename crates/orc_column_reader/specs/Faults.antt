@@ -110,21 +110,13 @@ EntriesFail false x column f = ⊥
 
 -- what a column's dictionary is refused with: strings alone have one
 abbrev pub ScalarEntriesFail : Scalar → Streams → ℕ → StripeFault → Type 0
-ScalarEntriesFail kind.Boolean x column f = ⊥
-ScalarEntriesFail kind.Byte x column f = ⊥
-ScalarEntriesFail kind.Short x column f = ⊥
-ScalarEntriesFail kind.Int x column f = ⊥
-ScalarEntriesFail kind.Long x column f = ⊥
-ScalarEntriesFail kind.Date x column f = ⊥
-ScalarEntriesFail kind.Binary x column f = ⊥
 ScalarEntriesFail kind.String x column f = EntriesFail (has_dictionary x) x column f
+ScalarEntriesFail _ x column f = ⊥
 
 -- the same for a column of any shape
 abbrev pub WordsOfFail : Shape → Streams → ℕ → StripeFault → Type 0
 WordsOfFail (scalar k o) x column f = ScalarEntriesFail k x column f
-WordsOfFail (list_of s o) x column f = ⊥
-WordsOfFail (map_of k v o) x column f = ⊥
-WordsOfFail (struct_of fs o) x column f = ⊥
+WordsOfFail _ x column f = ⊥
 
 -- a column of so many cells: its PRESENT, its dictionary, the streams of its values, or what is below it
 abbrev pub FaultFrom : (ℕ → Bool → ℕ → StripeFault → Type 0)

@@ -107,21 +107,13 @@ LacksEntries false x = ⊥
 
 -- the same, by the column's kind: strings alone have a dictionary
 abbrev pub ScalarLacks : Scalar → Streams → Type 0
-ScalarLacks kind.Boolean x = ⊥
-ScalarLacks kind.Byte x = ⊥
-ScalarLacks kind.Short x = ⊥
-ScalarLacks kind.Int x = ⊥
-ScalarLacks kind.Long x = ⊥
-ScalarLacks kind.Date x = ⊥
-ScalarLacks kind.Binary x = ⊥
 ScalarLacks kind.String x = LacksEntries (has_dictionary x) x
+ScalarLacks _ x = ⊥
 
 -- the column has a dictionary, by its encoding, and its streams spell none
 abbrev pub HasNoDictionary : Shape → Streams → Type 0
 HasNoDictionary (scalar k o) x = ScalarLacks k x
-HasNoDictionary (list_of s o) x = ⊥
-HasNoDictionary (map_of k v o) x = ⊥
-HasNoDictionary (struct_of fs o) x = ⊥
+HasNoDictionary _ x = ⊥
 
 -- what a column's cells are read from
 pub record AreStreams (x : Streams) (r : ColumnStreams) : Type 0 where
