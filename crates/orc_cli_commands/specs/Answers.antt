@@ -47,12 +47,9 @@ FindsAll lacks told paths Found NotFound =
 
 -- the path is that of a file which the request makes
 abbrev pub IsMadeBy : Request → List ℕ → Type 0
-IsMadeBy (Ints _ _ _) path = ⊥
-IsMadeBy (Rows _ _) path = ⊥
-IsMadeBy (Show _) path = ⊥
-IsMadeBy (Check _) path = ⊥
 IsMadeBy (Write _ _ _ output) path = path ≡ output.now
 IsMadeBy (Merge output _) path = path ≡ output.now
+IsMadeBy _ path = ⊥
 
 -- Of a place: what it has told of paths, and which it has lacked.
 module _ (told : List ℕ → Option (List ℕ)) (lacks : List ℕ → Type 0) where

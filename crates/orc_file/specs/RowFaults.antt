@@ -6,8 +6,7 @@ use Rattle.orc_tail.specs.Stripes.{stripe_length, stripe_at}
 use Rattle.orc_file.specs.FileRows.{IsNoStripe}
 use Rattle.orc_tail.specs.declared.tail.Tail.{Tail}
 use Rattle.orc_tail.specs.declared.fault.FileFault.{FileFault}
-use Rattle.orc_tail.specs.declared.fault.FileFault.TheVariants.{NotOrc, BadPostscript, Compressed, Encrypted, BadLengths, BadFooter, BadMetadata, BadTypes, BadStripe, RowCount, Limit, Stripe}
-use Rattle.orc_tail.specs.declared.fault.FileFault.TheVariants.{RowShape, SourceFailed, WriteFailed, OutOfMemory, Failed}
+use Rattle.orc_tail.specs.declared.fault.FileFault.TheVariants.{Limit, Stripe, OutOfMemory}
 
 -- a stripe that the tail names is longer than the cap
 abbrev pub HasLongStripe : ℕ → Tail → Type 0
@@ -22,20 +21,7 @@ MayBeNoStripe cap tail n why =
 
 -- A fault that reading the rows behind this tail ends with where the source hasn't failed: a stripe's, or want of memory.
 abbrev pub IsOfRows : ℕ → Tail → FileFault → Type 0
-IsOfRows cap tail NotOrc = ⊥
-IsOfRows cap tail BadPostscript = ⊥
-IsOfRows cap tail (Compressed kind) = ⊥
-IsOfRows cap tail Encrypted = ⊥
-IsOfRows cap tail BadLengths = ⊥
-IsOfRows cap tail BadFooter = ⊥
-IsOfRows cap tail BadMetadata = ⊥
-IsOfRows cap tail (BadTypes why) = ⊥
-IsOfRows cap tail (BadStripe number) = ⊥
-IsOfRows cap tail RowCount = ⊥
 IsOfRows cap tail Limit = HasLongStripe cap tail
 IsOfRows cap tail (Stripe number why) = (why ≢ stripe.OutOfMemory) × MayBeNoStripe cap tail number why
-IsOfRows cap tail RowShape = ⊥
-IsOfRows cap tail SourceFailed = ⊥
-IsOfRows cap tail WriteFailed = ⊥
 IsOfRows cap tail OutOfMemory = Unit {0}
-IsOfRows cap tail Failed = ⊥
+IsOfRows cap tail _ = ⊥

@@ -64,18 +64,10 @@ AreOne e f = (e ≡ f) ⊎ ((i : ℕ) × (a : FileFault) × (b : FileFault) × A
 
 -- a source, the output or memory failed
 abbrev pub IsDeviceFault : MergeFault → Type 0
-IsDeviceFault NoInput = ⊥
-IsDeviceFault (File i e) = ⊥
-IsDeviceFault (SchemaDiffers i) = ⊥
-IsDeviceFault (VersionDiffers i) = ⊥
-IsDeviceFault (StrideDiffers i) = ⊥
-IsDeviceFault (OtherFooterFields i) = ⊥
-IsDeviceFault (UserMetadataConflict i) = ⊥
-IsDeviceFault (NoStripeStatistics i) = ⊥
-IsDeviceFault (Limit i) = ⊥
 IsDeviceFault (SourceFailed i) = Unit {0}
 IsDeviceFault WriteFailed = Unit {0}
 IsDeviceFault OutOfMemory = Unit {0}
+IsDeviceFault _ = ⊥
 
 -- the fault of an input is not want of memory and not its source's: those are faults of the merger's own
 pub record IsOfBytes (why : FileFault) : Type 0 where

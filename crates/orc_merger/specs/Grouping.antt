@@ -6,8 +6,7 @@ use Rattle.orc_file.specs.FileRows.{FileIs}
 use Rattle.orc_file.specs.Honest.{Honest}
 use Rattle.orc_tail.specs.declared.tail.Tail.{Tail}
 use Rattle.orc_merger.specs.declared.fault.MergeFault.{MergeFault}
-use Rattle.orc_merger.specs.declared.fault.MergeFault.TheVariants.{NoInput, File, SchemaDiffers, VersionDiffers, StrideDiffers, OtherFooterFields}
-use Rattle.orc_merger.specs.declared.fault.MergeFault.TheVariants.{UserMetadataConflict, NoStripeStatistics, Limit, SourceFailed, WriteFailed, OutOfMemory}
+use Rattle.orc_merger.specs.declared.fault.MergeFault.TheVariants.{UserMetadataConflict, Limit}
 use Rattle.orc_merger.specs.Merging.{IsLike, AreOpened, IsMerge}
 use Rattle.orc_merger.specs.Faults.{IsRefused}
 
@@ -101,18 +100,9 @@ pub record AreFellows (inputs : List (List ℕ)) : Type 0 where
 
 -- user metadata or a limit speaks against it
 abbrev pub ComesOfJoining : MergeFault → Type 0
-ComesOfJoining NoInput = ⊥
-ComesOfJoining (File i e) = ⊥
-ComesOfJoining (SchemaDiffers i) = ⊥
-ComesOfJoining (VersionDiffers i) = ⊥
-ComesOfJoining (StrideDiffers i) = ⊥
-ComesOfJoining (OtherFooterFields i) = ⊥
 ComesOfJoining (UserMetadataConflict i) = Unit {0}
-ComesOfJoining (NoStripeStatistics i) = ⊥
 ComesOfJoining (Limit i) = Unit {0}
-ComesOfJoining (SourceFailed i) = ⊥
-ComesOfJoining WriteFailed = ⊥
-ComesOfJoining OutOfMemory = ⊥
+ComesOfJoining _ = ⊥
 
 -- the flat merge is refused for one of these
 abbrev pub IsFlatRefused : Groups → Type 0

@@ -6,8 +6,7 @@ use Rattle.orc_tail.specs.Images.{IsWithinLimits}
 use Rattle.orc_tail.specs.declared.tail.Tail.{Tail}
 use Rattle.orc_merger.specs.declared.gathered.Gathered.{Gathered}
 use Rattle.orc_merger.specs.declared.fault.MergeFault.{MergeFault}
-use Rattle.orc_merger.specs.declared.fault.MergeFault.TheVariants.{NoInput, File, SchemaDiffers, VersionDiffers, StrideDiffers, OtherFooterFields}
-use Rattle.orc_merger.specs.declared.fault.MergeFault.TheVariants.{UserMetadataConflict, NoStripeStatistics, Limit, SourceFailed, WriteFailed, OutOfMemory}
+use Rattle.orc_merger.specs.declared.fault.MergeFault.TheVariants.{File, SourceFailed, WriteFailed}
 use Rattle.orc_merger.specs.Merging.{CanMerge, AreOpened}
 use Rattle.orc_merger.specs.Faults.{IsOfBytes}
 use Rattle.orc_merger.specs.SoFar.{HasGathered}
@@ -35,15 +34,7 @@ pub record IsGatheredOf (told : List (Option (List ℕ))) (sizes : List ℕ) (nu
 
 -- a fault of a source comes where its count of failures rose, none is the output's, and an input's is its bytes'
 abbrev pub IsCounted : List ℕ → List ℕ → MergeFault → Type 0
-IsCounted old new NoInput = Unit {0}
 IsCounted old new (File i e) = IsOfBytes e
-IsCounted old new (SchemaDiffers i) = Unit {0}
-IsCounted old new (VersionDiffers i) = Unit {0}
-IsCounted old new (StrideDiffers i) = Unit {0}
-IsCounted old new (OtherFooterFields i) = Unit {0}
-IsCounted old new (UserMetadataConflict i) = Unit {0}
-IsCounted old new (NoStripeStatistics i) = Unit {0}
-IsCounted old new (Limit i) = Unit {0}
 IsCounted old new (SourceFailed i) = slice_index old i < slice_index new i
 IsCounted old new WriteFailed = ⊥
-IsCounted old new OutOfMemory = Unit {0}
+IsCounted old new _ = Unit {0}
