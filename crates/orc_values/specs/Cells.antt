@@ -51,26 +51,18 @@ list_of_pairs (pair k v ps) = (k, v) ∷ list_of_pairs ps
 -- whether a cell isn't null
 abbrev pub is_value : Cell → Bool
 is_value null = false
-is_value (leaf a) = true
-is_value (list cs) = true
-is_value (struct cs) = true
-is_value (pairs ps) = true
+is_value _ = true
 
 -- the elements of a list, the fields of a struct
 abbrev pub parts : Cell → List Cell
-parts null = []
-parts (leaf a) = []
 parts (list cs) = list_of_cells cs
 parts (struct cs) = list_of_cells cs
-parts (pairs ps) = []
+parts _ = []
 
 -- the pairs of a map
 abbrev pub pairs_in : Cell → List (Cell × Cell)
-pairs_in null = []
-pairs_in (leaf a) = []
-pairs_in (list cs) = []
-pairs_in (struct cs) = []
 pairs_in (pairs ps) = list_of_pairs ps
+pairs_in _ = []
 
 -- the keys of a map, and its values
 abbrev pub keys_in : Cell → List Cell

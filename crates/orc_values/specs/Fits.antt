@@ -15,14 +15,11 @@ signed_fits bits (negsuc n) = nat_lt n (2 ^ bits)
 
 -- a whole number of a column of that kind
 abbrev pub int_fits : Scalar → ℤ → Bool
-int_fits kind.Boolean z = false
 int_fits kind.Byte z = signed_fits 7 z
 int_fits kind.Short z = signed_fits 15 z
 int_fits kind.Int z = signed_fits 31 z
 int_fits kind.Long z = signed_fits 63 z
-int_fits kind.String z = false
-int_fits kind.Binary z = false
-int_fits kind.Date z = false
+int_fits _ z = false
 
 -- whether each number is a byte
 abbrev pub are_bytes : List ℕ → Bool
@@ -83,6 +80,4 @@ RowsFit s rows = AllByRecursion (λ c. fits c s ≡ true) rows
 abbrev pub scalar_fits : Scalar → Cell → Bool
 scalar_fits k null = true
 scalar_fits k (leaf a) = atom_fits k a
-scalar_fits k (list cs) = false
-scalar_fits k (struct cs) = false
-scalar_fits k (pairs ps) = false
+scalar_fits k _ = false

@@ -56,10 +56,8 @@ abbrev mutual
 
 -- a shape that is a struct
 abbrev pub IsStruct : Shape → Type 0
-IsStruct (scalar k o) = ⊥
-IsStruct (list_of s o) = ⊥
-IsStruct (map_of k v o) = ⊥
 IsStruct (struct_of fs o) = Unit {0}
+IsStruct _ = ⊥
 
 -- the names of fields, in order
 abbrev pub names_of : Fields → List (List ℕ)
