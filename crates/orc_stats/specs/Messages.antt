@@ -164,13 +164,9 @@ message_of s = record {
 
 -- whether its record takes memory: for a text, or for the list of buckets
 abbrev pub takes_memory : Body → Bool
-takes_memory body.Plain = false
-takes_memory (body.Ints l g s) = false
 takes_memory (body.Bools t) = is_some t
-takes_memory (body.Dates l g) = false
 takes_memory (body.Texts l g s) = is_some l || is_some g
-takes_memory (body.Bins s) = false
-takes_memory (body.Children l g t) = false
+takes_memory _ = false
 
 -- a statistic of a column of that kind, within the limits; of no values nothing is known
 pub record IsStat (k : StatKind) (s : Stat) : Type 0 where

@@ -7,12 +7,9 @@ use Rattle.orc_stats.specs.declared.seen.Seen.TheVariants.{Nothing, Known, Unkno
 -- of two parts: nothing adds nothing, and what isn't known stays so
 abbrev pub both : {A : Type 0} → (A → A → A) → Seen A → Seen A → Seen A
 both op Nothing q = q
-both op Unknown Nothing = Unknown
-both op Unknown Unknown = Unknown
-both op Unknown (Known y) = Unknown
 both op (Known x) Nothing = Known x
-both op (Known x) Unknown = Unknown
 both op (Known x) (Known y) = Known (op x y)
+both op _ _ = Unknown
 
 -- what a statistic tells, or that it doesn't
 abbrev pub seen_of : {A : Type 0} → Option A → Seen A

@@ -5,7 +5,7 @@ use Rattle.std.specs.Option.{option_and_then}
 use Rattle.std.specs.Ordering.{is_gt, int_cmp, nat_cmp, flip_args}
 use Rattle.std.specs.Cmp.Lexicographic.{slice_cmp}
 use Rattle.std.specs.declared.cmp.Ordering.{Ordering}
-use Rattle.orc_values.specs.Cells.{bool, int, date, text, bytes, Cell, null, leaf, list, struct, pairs, list_of_cells, list_of_pairs, values, is_value}
+use Rattle.orc_values.specs.Cells.{bool, int, date, text, bytes, Cell, leaf, list, pairs, list_of_cells, list_of_pairs, values, is_value}
 use Rattle.orc_values.specs.Fits.{signed_fits}
 use Rattle.orc_stats.specs.declared.kind.StatKind.{StatKind}
 use Rattle.orc_stats.specs.declared.kind.StatKind.TheVariants as kind
@@ -70,71 +70,34 @@ bit false = 0
 
 -- the values of a column of one kind, in order
 abbrev pub int_of : Cell → Option ℤ
-int_of null = None
-int_of (leaf (bool b)) = None
 int_of (leaf (int z)) = Some z
-int_of (leaf (date z)) = None
-int_of (leaf (text s)) = None
-int_of (leaf (bytes s)) = None
-int_of (list cs) = None
-int_of (struct cs) = None
-int_of (pairs ps) = None
+int_of _ = None
 
 -- the date that a cell is, if it is one
 abbrev pub date_of : Cell → Option ℤ
-date_of null = None
-date_of (leaf (bool b)) = None
-date_of (leaf (int z)) = None
 date_of (leaf (date z)) = Some z
-date_of (leaf (text s)) = None
-date_of (leaf (bytes s)) = None
-date_of (list cs) = None
-date_of (struct cs) = None
-date_of (pairs ps) = None
+date_of _ = None
 
 -- the boolean that a cell is, if it is one
 abbrev pub bool_of : Cell → Option Bool
-bool_of null = None
 bool_of (leaf (bool b)) = Some b
-bool_of (leaf (int z)) = None
-bool_of (leaf (date z)) = None
-bool_of (leaf (text s)) = None
-bool_of (leaf (bytes s)) = None
-bool_of (list cs) = None
-bool_of (struct cs) = None
-bool_of (pairs ps) = None
+bool_of _ = None
 
 -- the string that a cell is, if it is one
 abbrev pub text_of : Cell → Option (List ℕ)
-text_of null = None
-text_of (leaf (bool b)) = None
-text_of (leaf (int z)) = None
-text_of (leaf (date z)) = None
 text_of (leaf (text s)) = Some s
-text_of (leaf (bytes s)) = None
-text_of (list cs) = None
-text_of (struct cs) = None
-text_of (pairs ps) = None
+text_of _ = None
 
 -- the byte string that a cell is, if it is one
 abbrev pub bytes_of : Cell → Option (List ℕ)
-bytes_of null = None
-bytes_of (leaf (bool b)) = None
-bytes_of (leaf (int z)) = None
-bytes_of (leaf (date z)) = None
-bytes_of (leaf (text s)) = None
 bytes_of (leaf (bytes s)) = Some s
-bytes_of (list cs) = None
-bytes_of (struct cs) = None
-bytes_of (pairs ps) = None
+bytes_of _ = None
 
 -- how many children a list has, or pairs a map; one that is null has no such number
 abbrev pub children_of : Cell → Option ℕ
-children_of null = None
-children_of (leaf a) = None
 children_of (list cs) = Some (length (list_of_cells cs))
-children_of (struct cs) = None
 children_of (pairs ps) = Some (length (list_of_pairs ps))
+children_of _ = None
 
 -- what a statistic of this kind tells of cells
 abbrev pub values_body : StatKind → List Cell → Body

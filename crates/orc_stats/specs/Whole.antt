@@ -13,13 +13,10 @@ use Rattle.orc_stats.specs.Joining.{has_values}
 -- A body whose kind has no sum lacks none. A total of children is no sum: where that of a part doesn't fit, that of
 -- all doesn't.
 abbrev pub has_sum : Body → Bool
-has_sum body.Plain = true
 has_sum (body.Ints l g s) = is_some s
-has_sum (body.Bools t) = true
-has_sum (body.Dates l g) = true
 has_sum (body.Texts l g s) = is_some s
 has_sum (body.Bins s) = is_some s
-has_sum (body.Children l g t) = true
+has_sum _ = true
 
 -- what a statistic tells besides its sum
 abbrev pub without_sum : Body → Body
