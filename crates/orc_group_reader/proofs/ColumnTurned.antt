@@ -1,14 +1,13 @@
 -- A column that is entered at its positions.
 use Rattle.std.proofs.Common.{◌≡◌, ℕ, ◌+◌, ◌≤◌, true, Option, Some, None, List, [], ◌∷◌, ◌++◌, length, map, take, drop, get_or, replicate, refl, sym, ap, ◌∙◌, subst, arith, length-append}
 use Rattle.std.proofs.lemmas.List.{length-map}
-use Rattle.orc_positions.specs.BitPosition.{BeginsBits}
 use Rattle.orc_values.specs.Cells.{Cell, is_value}
 use Rattle.orc_values.specs.Shapes.{Shape}
 use Rattle.orc_values.proofs.Together.{values-append}
 use Rattle.orc_column_reader.specs.Columns.{MarksLeft}
 use Rattle.orc_column_reader.specs.Stripe.{Streams, Marks, SpellsValues}
 use Rattle.orc_column_reader.specs.declared.bits.Bits.{Bits}
-use Rattle.orc_row_index.specs.Places.{StreamPlace, begins, octets, octets_place, octets_size, position_size}
+use Rattle.orc_row_index.specs.Places.{IsPosition, reader, octets, octets_place, octets_size, position_size}
 use Rattle.orc_row_index.specs.RunStreams.{RunStream, no_stream, bit_runs, byte_runs, number_runs, present_runs, own_runs, own_octets}
 use Rattle.orc_row_index.specs.Walking.{runs, lent_bytes, ArePlaced}
 use Rattle.orc_row_index.specs.declared.placed.PlacedStreams.{PlacedStreams}
@@ -67,7 +66,7 @@ back_true (c ∷ b) a h = back_true b a (ap (drop 1) h)
 few_marks : (b a : List Cell) → length b ≤ length (map is_value (b ++ a))
 few_marks b a = omega (arith, length-map (b ++ a) is_value, length-append b a)
 
-marks_turned : (yb xb first : List ℕ) (b a : List Cell) (present : Option Bits) → EntersMarks yb first present → StreamPlace begins BeginsBits (present_runs xb) (length b) first
+marks_turned : (yb xb first : List ℕ) (b a : List Cell) (present : Option Bits) → EntersMarks yb first present → IsPosition reader (present_runs xb) (length b) first
     → RunsAgree (get_or first 0 0) (present_runs yb) (present_runs xb) → Marks xb (map is_value (b ++ a)) → MarksLeft present (map is_value a)
 marks_turned [] [] first b a None enters place agree marks = back_true b a marks
 marks_turned [] [] first b a (Some bits) enters place agree marks = absurd enters
@@ -79,14 +78,14 @@ marks_turned (y ∷ yb) (x ∷ xb) first b a (Some bits) enters place agree mark
 
 -- PRESENT's own positions, cut from those of the column
 pub record AtPresent (x y : Streams) (before : List Cell) (first : List ℕ) : Type 0 where
-  pub place : StreamPlace begins BeginsBits (present_runs (x.stream 0)) (length before) first
+  pub place : IsPosition reader (present_runs (x.stream 0)) (length before) first
   pub agree : RunsAgree (get_or first 0 0) (present_runs (y.stream 0)) (present_runs (x.stream 0))
 
 pub at_present : (s : Shape) (x y : Streams) (before : List Cell) (ps first : List ℕ) (size : ℕ) → size ≡ position_size (present_runs (x.stream 0)) → first ≡ take size ps → AgreeFromPlaces s x y before ps → AtPresent x y before first
 at_present s x y before ps first size e cut t =
     let same : t.places.first ≡ first = front_is (present_runs (x.stream 0)) (own_octets s x) (own_runs s x) before ps size e t.places ∙ sym cut in
     record {
-      place = subst (λ (f : List ℕ). StreamPlace begins BeginsBits (present_runs (x.stream 0)) (length before) f) same t.places.present_place;
+      place = subst (λ (f : List ℕ). IsPosition reader (present_runs (x.stream 0)) (length before) f) same t.places.present_place;
       agree = subst (λ (f : List ℕ). RunsAgree (get_or f 0 0) (present_runs (y.stream 0)) (present_runs (x.stream 0))) same t.present_same;
     }
 

@@ -29,9 +29,9 @@ use Rattle.orc_column_reader.specs.declared.fault.StripeFault.{StripeFault}
 use Rattle.orc_column_reader.specs.declared.numbers.Numbers.{Numbers}
 use Rattle.orc_column_reader.proofs.FirstLemmas.{nothing_first}
 use Rattle.orc_column_reader.proofs.NumbersLemmas.{laws_of}
-use Rattle.orc_row_index.specs.Places.{StreamPlace, octets, octets_place, position_size}
+use Rattle.orc_row_index.specs.Places.{octets, octets_place, position_size}
 use Rattle.orc_row_index.specs.RunStreams.{RunStream, no_stream, bit_runs, byte_runs, number_runs, present_runs, text_runs, own_runs, own_octets, text_octets}
-use Rattle.orc_group_reader.specs.Behind.{LeadsTo, LeadsToBit, leads, leads_bits, GroupsBegin, TextsBegin, SizesBegin, IsBehind}
+use Rattle.orc_group_reader.specs.Behind.{LeadsTo, LeadsToBit, LeadsIn, GroupsBegin, TextsBegin, SizesBegin, IsBehind}
 use Rattle.orc_group_reader.specs.Columns.{CutsOctets, IsCut, IsSource, HasEntries, EntriesOf}
 use Rattle.orc_group_reader.specs.ReadersAt.{StreamAt, MarksAt, ColumnAt, ReadersAt}
 use Rattle.orc_group_reader.specs.Refusals as refusals
@@ -54,26 +54,26 @@ leads_here R bytes ps o s p t k e d h =
     let same = same_two p t o s (sym d ∙ e) in
     subst (λ (i : ℕ). LeadsTo R bytes i s k) same.0 (subst (λ (i : ℕ). LeadsTo R bytes p i k) same.1 h)
 
-bits_of : (b ps : List ℕ) (k : ℕ) (r : Bits) → StreamAt (bit_runs b) ps (entered.Bits r) → StreamPlace leads leads_bits (bit_runs b) k ps → BitsBehind b k r
+bits_of : (b ps : List ℕ) (k : ℕ) (r : Bits) → StreamAt (bit_runs b) ps (entered.Bits r) → LeadsIn (bit_runs b) k ps → BitsBehind b k r
 bits_of b ps k r h p =
     let same = same_three p.0 p.1 p.2 h.0 h.1 h.2 (sym p.3 ∙ h.3) in
     let here = subst (λ (i : ℕ). LeadsToBit b i h.1 h.2 k) same.0 (subst (λ (i : ℕ). LeadsToBit b p.0 i h.2 k) same.1 (subst (λ (i : ℕ). LeadsToBit b p.0 p.1 i k) same.2 p.4)) in
     bits_behind b h.0 h.1 h.2 k r h.4 here
 
-bits_source : (b last : List ℕ) (own : Entered) (rest : List ℕ) (k : ℕ) (source : ValueSource) → StreamAt (bit_runs b) last own → IsSource own rest source → StreamPlace leads leads_bits (bit_runs b) k last → BitsBehind b k source.bits
+bits_source : (b last : List ℕ) (own : Entered) (rest : List ℕ) (k : ℕ) (source : ValueSource) → StreamAt (bit_runs b) last own → IsSource own rest source → LeadsIn (bit_runs b) k last → BitsBehind b k source.bits
 bits_source b last entered.Nothing rest k source h is p = absurd h
 bits_source b last (entered.Bits r) rest k source h is p = subst (λ (q : Bits). BitsBehind b k q) (sym is.0) (bits_of b last k r h p)
 bits_source b last (entered.Bytes r) rest k source h is p = absurd h
 bits_source b last (entered.Numbers r) rest k source h is p = absurd h
 
-bytes_source : (b last : List ℕ) (own : Entered) (rest : List ℕ) (k : ℕ) (source : ValueSource) → StreamAt (byte_runs b) last own → IsSource own rest source → StreamPlace leads leads_bits (byte_runs b) k last → BytesBehind b k source.bytes
+bytes_source : (b last : List ℕ) (own : Entered) (rest : List ℕ) (k : ℕ) (source : ValueSource) → StreamAt (byte_runs b) last own → IsSource own rest source → LeadsIn (byte_runs b) k last → BytesBehind b k source.bytes
 bytes_source b last entered.Nothing rest k source h is p = absurd h
 bytes_source b last (entered.Bits r) rest k source h is p = absurd h
 bytes_source b last (entered.Bytes r) rest k source h is p =
     subst (λ (q : RunLengthBytes). BytesBehind b k q) (sym is.0) (bytes_behind b h.0 h.1 k r h.3 (leads_here IsByteRun b last h.0 h.1 p.0 p.1 k h.2 p.2 p.3))
 bytes_source b last (entered.Numbers r) rest k source h is p = absurd h
 
-numbers_source : (v : Rle) (s : Sign) (b last : List ℕ) (own : Entered) (rest : List ℕ) (k : ℕ) (source : ValueSource) → StreamAt (number_runs v s b) last own → IsSource own rest source → StreamPlace leads leads_bits (number_runs v s b) k last
+numbers_source : (v : Rle) (s : Sign) (b last : List ℕ) (own : Entered) (rest : List ℕ) (k : ℕ) (source : ValueSource) → StreamAt (number_runs v s b) last own → IsSource own rest source → LeadsIn (number_runs v s b) k last
     → NumbersBehind v s b k source.numbers × (source.octets.rest.now ≡ rest)
 numbers_source v s b last entered.Nothing rest k source h is p = absurd h
 numbers_source v s b last (entered.Bits r) rest k source h is p = absurd h
@@ -103,7 +103,7 @@ groups_behind x vs n rest source h cut g =
     }
 
 texts_behind : (d : Bool) (x : Streams) (vs : List Cell) (n : ℕ) (last : List ℕ) (own : Entered) (rest : List ℕ) (source : ValueSource) → StreamAt (text_runs d x) last own → IsSource own rest source → IsCut (text_octets d x) n rest
-    → StreamPlace leads leads_bits (text_runs d x) (length vs) last → HasEntries d x source.entries → TextsBegin d x vs n → TextsBehind d x (length vs) source
+    → LeadsIn (text_runs d x) (length vs) last → HasEntries d x source.entries → TextsBegin d x vs n → TextsBehind d x (length vs) source
 texts_behind true x vs n last own rest source h is cut p has begin = (has, (numbers_source (version x) Unsigned (x.stream 1) last own rest (length vs) source h is p).0)
 texts_behind false x vs n last own rest source h is cut p has begin = (has, groups_behind x vs n rest source (numbers_source (version x) Unsigned (x.stream 2) last own rest (length vs) source h is p) cut begin)
 
@@ -126,7 +126,7 @@ sizes_behind x count lengths sizes source h long same begin room =
     }
 
 scalar_behind : (t : Scalar) (o : List ℕ) (x : Streams) (vs : List Cell) (n : ℕ) (last : List ℕ) (own : Entered) (rest : List ℕ) (source : ValueSource) → StreamAt (own_runs (scalar t o) x) last own → IsSource own rest source → IsCut (own_octets (scalar t o) x) n rest
-    → StreamPlace leads leads_bits (own_runs (scalar t o) x) (length vs) last → EntriesOf (scalar t o) x source.entries → SizesBegin (scalar t o) x vs n → SourceBehind (scalar t o) x vs source
+    → LeadsIn (own_runs (scalar t o) x) (length vs) last → EntriesOf (scalar t o) x source.entries → SizesBegin (scalar t o) x vs n → SourceBehind (scalar t o) x vs source
 scalar_behind kind.Boolean o x vs n last own rest source h is cut p has begin = bits_source (x.stream 1) last own rest (length vs) source h is p
 scalar_behind kind.Byte o x vs n last own rest source h is cut p has begin = bytes_source (x.stream 1) last own rest (length vs) source h is p
 scalar_behind kind.Short o x vs n last own rest source h is cut p has begin = (numbers_source (version x) Signed (x.stream 1) last own rest (length vs) source h is p).0
@@ -137,7 +137,7 @@ scalar_behind kind.Binary o x vs n last own rest source h is cut p has begin = g
 scalar_behind kind.String o x vs n last own rest source h is cut p has begin = texts_behind (has_dictionary x) x vs n last own rest source h is cut p has begin
 
 source_behind : (s : Shape) (x : Streams) (vs : List Cell) (n : ℕ) (last : List ℕ) (own : Entered) (rest : List ℕ) (source : ValueSource) → StreamAt (own_runs s x) last own → IsSource own rest source → IsCut (own_octets s x) n rest
-    → StreamPlace leads leads_bits (own_runs s x) (length vs) last → EntriesOf s x source.entries → source.room ≡ most_cells → SizesBegin s x vs n → SourceBehind s x vs source
+    → LeadsIn (own_runs s x) (length vs) last → EntriesOf s x source.entries → source.room ≡ most_cells → SizesBegin s x vs n → SourceBehind s x vs source
 source_behind (scalar t o) x vs n last own rest source h is cut p has room begin = scalar_behind t o x vs n last own rest source h is cut p has begin
 source_behind (list_of s o) x vs n last own rest source h is cut p has room begin =
     sizes_behind x (length vs) (list_lengths vs) (map (λ v. size (parts v)) vs) source (numbers_source (version x) Unsigned (x.stream 2) last own rest (length vs) source h is p).0 (sym (length-map vs (λ v. length (parts v)))) (list_sizes vs) begin room
@@ -156,13 +156,13 @@ cut_here (Some b) n ps rest behind last h e =
     heads : (o n : ℕ) (b l : List ℕ) → o ∷ b ≡ n ∷ l → (o ≡ n) × (b ≡ l)
     heads o n b l e = (cc, cc)
 
-place_long : (r : RunStream) (n : ℕ) (ps : List ℕ) → StreamPlace leads leads_bits r n ps → length ps ≡ position_size r
+place_long : (r : RunStream) (n : ℕ) (ps : List ℕ) → LeadsIn r n ps → length ps ≡ position_size r
 place_long no_stream n ps h = ap length h
 place_long (bit_runs b) n ps h = ap length h.3
 place_long (byte_runs b) n ps h = ap length h.2
 place_long (number_runs v s b) n ps h = ap length h.2
 
-present_behind : (b first : List ℕ) (k : ℕ) (present : Option Bits) → MarksAt b first present → StreamPlace leads leads_bits (present_runs b) k first → MarksBehind b k present
+present_behind : (b first : List ℕ) (k : ℕ) (present : Option Bits) → MarksAt b first present → LeadsIn (present_runs b) k first → MarksBehind b k present
 present_behind [] first k None h p = tt
 present_behind [] first k (Some bits) h p = absurd h
 present_behind (x ∷ b) first k None h p = absurd h
@@ -170,17 +170,16 @@ present_behind (x ∷ b) first k (Some bits) h p = bits_of (x ∷ b) first k bit
 
 column_behind : (s : Shape) (x : Streams) (m : ℕ) (before : List Cell) (ps : List ℕ) (reader : ColumnReader) → IsBehind s x before ps → ColumnAt s x m ps reader → ColumnBehind s x m before reader
 column_behind s x m before ps reader b at =
-    let p = b.places in
-    let behind : List ℕ = octets_place (own_octets s x) (octets before) ++ p.last in
-    let size : refusals.present_size x ≡ length p.first = sym (place_long (present_runs (x.stream 0)) (length before) p.first p.present_place) in
-    let front : take (refusals.present_size x) ps ≡ p.first = ap (take (refusals.present_size x)) p.parts ∙ ap (λ (n : ℕ). take n (p.first ++ behind)) size ∙ take-append_seam p.first behind in
-    let back : drop (refusals.present_size x) ps ≡ behind = ap (drop (refusals.present_size x)) p.parts ∙ ap (λ (n : ℕ). drop n (p.first ++ behind)) size ∙ drop-append_seam p.first behind in
+    let behind : List ℕ = octets_place (own_octets s x) (octets before) ++ b.last in
+    let size : refusals.present_size x ≡ length b.first = sym (place_long (present_runs (x.stream 0)) (length before) b.first b.present_place) in
+    let front : take (refusals.present_size x) ps ≡ b.first = ap (take (refusals.present_size x)) b.parts ∙ ap (λ (n : ℕ). take n (b.first ++ behind)) size ∙ take-append_seam b.first behind in
+    let back : drop (refusals.present_size x) ps ≡ behind = ap (drop (refusals.present_size x)) b.parts ∙ ap (λ (n : ℕ). drop n (b.first ++ behind)) size ∙ drop-append_seam b.first behind in
     let source = at.source in
-    let cut = cut_here (own_octets s x) (octets before) (drop (refusals.present_size x) ps) source.rest source.last p.last source.cut back in
+    let cut = cut_here (own_octets s x) (octets before) (drop (refusals.present_size x) ps) source.rest source.last b.last source.cut back in
     record {
-      marks = present_behind (x.stream 0) p.first (length before) reader.present (subst (λ (t : List ℕ). MarksAt (x.stream 0) t reader.present) front at.marks) p.present_place;
+      marks = present_behind (x.stream 0) b.first (length before) reader.present (subst (λ (t : List ℕ). MarksAt (x.stream 0) t reader.present) front at.marks) b.present_place;
       begin = b.marks;
-      source = source_behind s x (values before) (octets before) p.last source.own source.rest reader.source (subst (λ (t : List ℕ). StreamAt (own_runs s x) t source.own) cut.0 source.entered) source.source_is cut.1 p.own_place source.entries source.room
+      source = source_behind s x (values before) (octets before) b.last source.own source.rest reader.source (subst (λ (t : List ℕ). StreamAt (own_runs s x) t source.own) cut.0 source.entered) source.source_is cut.1 b.own_place source.entries source.room
           b.sizes;
       column = source.column;
     }

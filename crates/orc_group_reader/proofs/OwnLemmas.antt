@@ -2,7 +2,6 @@
 use Rattle.std.proofs.Common.{◌≡◌, ℕ, Bool, true, false, Option, Some, None, List, ◌∷◌, ◌++◌, length, drop, get_or, map, refl, sym, ap, ◌∙◌, subst, arith, length-append}
 use Rattle.std.specs.declared.vec.Vec.{Vec}
 use Rattle.std.specs.declared.alloc.Global.{Global}
-use Rattle.orc_positions.specs.BitPosition.{BeginsBits}
 use Rattle.orc_values.specs.Cells.{Cell, values}
 use Rattle.orc_values.specs.Shapes.{Shape, scalar, list_of, map_of, struct_of}
 use Rattle.orc_values.specs.declared.kind.Scalar.TheVariants as kind
@@ -11,7 +10,7 @@ use Rattle.orc_column_reader.specs.Starting.{HasNoDictionary, LacksEntries}
 use Rattle.orc_column_reader.specs.Stripe.{Streams, version, version_at, uses_dictionary, has_dictionary, IsDictionary, SpellsTexts, SpellsValues}
 use Rattle.orc_column_reader.specs.declared.entry.Entry.{Entry}
 use Rattle.orc_wire.specs.declared.encoding.Encoding.{Encoding}
-use Rattle.orc_row_index.specs.Places.{StreamPlace, begins, octets, octets_place}
+use Rattle.orc_row_index.specs.Places.{IsPosition, reader, octets, octets_place}
 use Rattle.orc_row_index.specs.RunStreams.{RunStream, own_runs, own_octets}
 use Rattle.orc_row_index.specs.Walking.{runs, lent_bytes, ArePlaced, HasOctets}
 use Rattle.orc_row_index.proofs.ColumnPlaces.{octets_of_values}
@@ -95,7 +94,7 @@ dictionary_there (struct_of fs o) x y vs e same h none = none
 
 pub record AtOwn (s : Shape) (x : Streams) (placed : PlacedStreams) (before : List Cell) (rest behind : List ℕ) : Type 0 where
   pub cut : IsCut (own_octets s x) (octets (values before)) rest
-  pub place : StreamPlace begins BeginsBits (own_runs s x) (length (values before)) behind
+  pub place : IsPosition reader (own_runs s x) (length (values before)) behind
   pub agree : RunsAgree (get_or behind 0 0) (runs placed.own) (own_runs s x)
 
 pub at_own : (s : Shape) (x y : Streams) (placed : PlacedStreams) (before after : List Cell) (ps rest behind last : List ℕ) → ArePlaced s y placed → OwnTurns s x y before after last → ps ≡ octets_place (own_octets s x) (octets before) ++ last
@@ -105,7 +104,7 @@ at_own s x y placed before after ps rest behind last are t e h =
     let k = cut_turned (lent_bytes placed.content) (own_octets s x) (octets before) ps rest behind last agree h e in
     record {
       cut = subst (λ (n : ℕ). IsCut (own_octets s x) n rest) (sym (octets_of_values before)) k.1;
-      place = subst (λ (p : List ℕ). StreamPlace begins BeginsBits (own_runs s x) (length (values before)) p) (sym k.0) t.place;
+      place = subst (λ (p : List ℕ). IsPosition reader (own_runs s x) (length (values before)) p) (sym k.0) t.place;
       agree = subst (λ (r : RunStream). RunsAgree (get_or behind 0 0) r (own_runs s x)) (sym are.own_is) (subst (λ (p : List ℕ). RunsAgree (get_or p 0 0) (own_runs s y) (own_runs s x)) (sym k.0) t.own_same);
     }
 

@@ -1,5 +1,5 @@
 -- Positions in streams that may be broken behind them (ORC specification, "Row Group Index", "Column Encodings").
-use Rattle.std.specs.Prelude.{◌≡◌, ℕ, ◌+◌, ◌*◌, ◌≤◌, Bool, true, false, List, ◌++◌, length, map}
+use Rattle.std.specs.Prelude.{◌≡◌, ℕ, ◌+◌, ◌*◌, ◌≤◌, Bool, true, false, List, [], ◌++◌, length, map}
 use Rattle.orc_rle.specs.ByteRun.{IsByteRun}
 use Rattle.orc_rle.specs.Stream.{IsStream}
 use Rattle.orc_values.specs.Cells.{Cell, is_value, parts, pairs_in, values}
@@ -8,10 +8,12 @@ use Rattle.orc_values.specs.declared.kind.Scalar.{Scalar}
 use Rattle.orc_values.specs.declared.kind.Scalar.TheVariants as kind
 use Rattle.orc_column_reader.specs.Faults.{lengths_of}
 use Rattle.orc_column_reader.specs.Needs.{MarksBegin}
+use Rattle.orc_column_reader.specs.Numbers.{is_run}
 use Rattle.orc_column_reader.specs.RunFaults.{IntegersFirst}
 use Rattle.orc_column_reader.specs.Spellings.{size, joined}
 use Rattle.orc_column_reader.specs.Stripe.{Streams, has_dictionary}
-use Rattle.orc_row_index.specs.Places.{RunRelation, BitRelation, ArePlacesBy, octets}
+use Rattle.orc_row_index.specs.Places.{RunPlace, BitPlace, octets, octets_place}
+use Rattle.orc_row_index.specs.RunStreams.{RunStream, no_stream, bit_runs, byte_runs, number_runs, present_runs, own_runs, own_octets}
 
 -- The position leads to value n, whatever comes then: its offset is that of a run's start, or the stream's length, and
 -- the values before it and those that are passed from there make n.
@@ -31,13 +33,12 @@ pub record LeadsToBit (bytes : List ℕ) (offset skip bits n : ℕ) : Type 0 whe
   pub few : bits ≤ 8
   pub number_is : n ≡ 8 * whole + bits
 
--- a place leads to the n-th value of a stream of runs
-abbrev pub leads : RunRelation
-leads A is_run stream offset skip n = LeadsTo is_run stream offset skip n
-
--- a place leads to the n-th boolean
-abbrev pub leads_bits : BitRelation
-leads_bits stream total offset skip bits n = LeadsToBit stream offset skip bits n
+-- the position leads to value n of the stream
+abbrev pub LeadsIn : RunStream → ℕ → List ℕ → Type 0
+LeadsIn no_stream n positions = positions ≡ []
+LeadsIn (bit_runs stream) n positions = BitPlace (LeadsToBit stream) n positions
+LeadsIn (byte_runs stream) n positions = RunPlace (LeadsTo IsByteRun stream) n positions
+LeadsIn (number_runs version sign stream) n positions = RunPlace (LeadsTo (is_run version sign) stream) n positions
 
 -- as many groups of bytes come first in LENGTH and DATA as there are values, and so many bytes in these
 abbrev pub GroupsBegin : Streams → List Cell → ℕ → Type 0
@@ -74,6 +75,10 @@ SizesBegin (struct_of fs o) x vs count = Unit {0}
 
 -- The positions are those of a column behind these cells, whatever its streams have behind them.
 pub record IsBehind (s : Shape) (x : Streams) (before : List Cell) (positions : List ℕ) : Type 0 where
-  pub places : ArePlacesBy leads leads_bits s x before positions
+  pub first : List ℕ
+  pub last : List ℕ
+  pub parts : positions ≡ first ++ (octets_place (own_octets s x) (octets before) ++ last)
+  pub present_place : LeadsIn (present_runs (x.stream 0)) (length before) first
+  pub own_place : LeadsIn (own_runs s x) (length (values before)) last
   pub marks : MarksBegin (x.stream 0) (map is_value before)
   pub sizes : SizesBegin s x (values before) (octets before)

@@ -14,8 +14,7 @@ use Rattle.orc_column_reader.specs.declared.bits.Bits.{Bits}
 use Rattle.orc_column_reader.specs.declared.column.ColumnReader.{ColumnReader}
 use Rattle.orc_column_reader.specs.declared.entry.Entry.{Entry}
 use Rattle.orc_column_reader.specs.declared.column.ValueSource.{ValueSource}
-use Rattle.orc_positions.specs.BitPosition.{BeginsBits}
-use Rattle.orc_row_index.specs.Places.{AreReadPlaces, StreamPlace, begins, octets}
+use Rattle.orc_row_index.specs.Places.{AreReadPlaces, IsPosition, reader, octets}
 use Rattle.orc_row_index.specs.Walking.{HasOctets}
 use Rattle.orc_row_index.specs.RunStreams.{bit_runs, present_runs, own_runs, own_octets}
 use Rattle.orc_group_reader.specs.Entering.{AgreeFrom}
@@ -98,7 +97,7 @@ pub record Turns (s : Shape) (x y : Streams) (before after : List Cell) (positio
 -- the same of its streams beside PRESENT
 pub record OwnTurns (s : Shape) (x y : Streams) (before after : List Cell) (last : List ℕ) : Type 0 where
   pub spelled : SpellsValues s x (values before ++ values after)
-  pub place : StreamPlace begins BeginsBits (own_runs s x) (length (values before)) last
+  pub place : IsPosition reader (own_runs s x) (length (values before)) last
   pub encoded : y.encoding ≡ x.encoding
   pub there : HasOctets (own_octets s x) (octets before)
   pub content_same : OctetsAgree (octets before) (own_octets s y) (own_octets s x)

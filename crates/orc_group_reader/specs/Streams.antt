@@ -3,11 +3,10 @@ use Rattle.std.specs.Prelude.{◌≡◌, ℕ, ◌≤◌, ℤ, Bool, List, length
 use Rattle.orc_rle.specs.BitStream.{IsBitStream}
 use Rattle.orc_rle.specs.ByteRun.{IsByteRun}
 use Rattle.orc_rle.specs.Stream.{IsStream}
-use Rattle.orc_positions.specs.BitPosition.{BeginsBits}
 use Rattle.orc_column_reader.specs.Bits.{BitsLeft}
 use Rattle.orc_column_reader.specs.Bytes.{BytesLeft}
 use Rattle.orc_column_reader.specs.Numbers.{is_run, NumbersLeft}
-use Rattle.orc_row_index.specs.Places.{StreamPlace, begins}
+use Rattle.orc_row_index.specs.Places.{IsPosition, reader}
 use Rattle.orc_row_index.specs.RunStreams.{RunStream, no_stream, bit_runs, byte_runs, number_runs}
 use Rattle.orc_group_reader.specs.Entering.{AgreeFrom}
 use Rattle.orc_group_reader.specs.declared.entered.Entered.{Entered}
@@ -64,13 +63,13 @@ HasSome (number_runs v s b) n = (all : List ℤ) × IsStream (is_run v s) b all
 -- Whatever stream agrees from the positions' offset on, and has value n there: its values from n on are left.
 abbrev pub Enters : RunStream → List ℕ → Entered → Type 0
 Enters stream positions e =
-    (other : RunStream) (n : ℕ) → StreamPlace begins BeginsBits other n positions
+    (other : RunStream) (n : ℕ) → IsPosition reader other n positions
     → RunsAgree (get_or positions 0 0) stream other
     → LeftFrom other n e
 
 -- there is no such stream
 abbrev pub NeverEnters : RunStream → List ℕ → Type 0
 NeverEnters stream positions =
-    (other : RunStream) (n : ℕ) → StreamPlace begins BeginsBits other n positions
+    (other : RunStream) (n : ℕ) → IsPosition reader other n positions
     → RunsAgree (get_or positions 0 0) stream other
     → HasSome other n → ⊥

@@ -5,7 +5,6 @@ use Rattle.std.proofs.Math.ListN.{get_or-map}
 use Rattle.std.proofs.Math.Seq.{take-add}
 use Rattle.std.proofs.lemmas.Grind.{get_or_default_zero}
 use Rattle.std.proofs.lemmas.List.{length-map, take_all, take-append-drop, drop-take, take-map}
-use Rattle.orc_positions.specs.BitPosition.{IsBitPlace}
 use Rattle.orc_positions.specs.Marks.{start_of_stream}
 use Rattle.orc_positions.specs.declared.mark.Mark.{Mark}
 use Rattle.orc_wire.specs.declared.row_index.RowIndexEntry.{RowIndexEntry}
@@ -28,7 +27,7 @@ use Rattle.orc_column_reader.specs.declared.starting.ColumnStreams.{ColumnStream
 use Rattle.orc_row_index.specs.Bounds.{bound_at, AreBounds, before_group, group_of, elements_before, pairs_before, values_before}
 use Rattle.orc_row_index.specs.EntryText.{IsEntryText}
 use Rattle.orc_row_index.specs.OwnCells.{own_cells, AreOwn, AreSpelledOwn}
-use Rattle.orc_row_index.specs.Places.{octets, PlacesIn, is_place, AreWrittenPlaces, Adds}
+use Rattle.orc_row_index.specs.Places.{octets, ArePositions, writer, AreWrittenPlaces, Adds}
 use Rattle.orc_row_index.specs.RowIndex.{IsWrittenEntry, AreEntries}
 use Rattle.orc_row_index.specs.RunStreams.{RunStream, present_runs, own_octets}
 use Rattle.orc_row_index.specs.Walking.{runs, lent_bytes, most, ArePlaced, BeginsBefore, AreCounted, HavePlaces, WalkedBefore}
@@ -237,11 +236,11 @@ front_there s streams cells placed start h p =
     (subst (λ (y : RunStream). HavePlaces (present_runs (x.stream 0)) (own_octets s x) y (take start cells)) (sym are.own_is) there))
 
 pub written_in : (s : Shape) (x : Streams) (placed : PlacedStreams) (before : List Cell) (ps : List ℕ) → ArePlaced s x placed
-    → PlacesIn is_place IsBitPlace (runs placed.present) (lent_bytes placed.content) (runs placed.own) before ps → AreWrittenPlaces s x before ps
+    → ArePositions writer (runs placed.present) (lent_bytes placed.content) (runs placed.own) before ps → AreWrittenPlaces s x before ps
 written_in s x placed before ps are h =
-    subst (λ (y : RunStream). PlacesIn is_place IsBitPlace (present_runs (x.stream 0)) (own_octets s x) y before ps) are.own_is
-    (subst (λ (y : Option (List ℕ)). PlacesIn is_place IsBitPlace (present_runs (x.stream 0)) y (runs placed.own) before ps) are.content_is
-    (subst (λ (y : RunStream). PlacesIn is_place IsBitPlace y (lent_bytes placed.content) (runs placed.own) before ps) are.present_is h))
+    subst (λ (y : RunStream). ArePositions writer (present_runs (x.stream 0)) (own_octets s x) y before ps) are.own_is
+    (subst (λ (y : Option (List ℕ)). ArePositions writer (present_runs (x.stream 0)) y (runs placed.own) before ps) are.content_is
+    (subst (λ (y : RunStream). ArePositions writer y (lent_bytes placed.content) (runs placed.own) before ps) are.present_is h))
 
 at_start : (c : RunStream) (mark : Mark) (n : ℕ) → mark ≡ start_of_stream → BeginsBefore c start_of_stream n → BeginsBefore c mark n
 at_start c mark n e h = subst (λ (m : Mark). BeginsBefore c m n) (sym e) h

@@ -2,7 +2,6 @@
 use Rattle.std.proofs.Common.{◌≡◌, ℕ, ◌≤◌, List, [], ◌∷◌, sym, ◌∙◌, arith}
 use Rattle.orc_rle.specs.ByteRun.{IsByteRun}
 use Rattle.orc_rle.specs.ByteLaws.{one_byte_run, byte_run_some}
-use Rattle.orc_positions.specs.BitPosition.{BeginsBits, IsBitPlace}
 use Rattle.orc_positions.specs.Marks.{start_of_stream}
 use Rattle.orc_positions.specs.declared.mark.Mark.{Mark}
 use Rattle.orc_positions.proofs.PositionLemmas.{one_place}
@@ -11,18 +10,18 @@ use Rattle.orc_positions.proofs.BitPositionLemmas.{bit_place_begins, one_bit_pla
 use Rattle.orc_column_reader.specs.Numbers.{is_run}
 use Rattle.orc_column_reader.proofs.NumbersLemmas.{laws_of}
 use Rattle.orc_row_index.specs.RunStreams.{RunStream, no_stream, bit_runs, byte_runs, number_runs}
-use Rattle.orc_row_index.specs.Places.{StreamPlace, begins, is_place}
+use Rattle.orc_row_index.specs.Places.{IsPosition, reader, writer}
 use Rattle.orc_row_index.specs.Walking.{HasPlace, BeginsBefore}
 
 -- a writer's place is right for a reader
-pub place_read : (c : RunStream) (n : ℕ) (ps : List ℕ) → StreamPlace is_place IsBitPlace c n ps → StreamPlace begins BeginsBits c n ps
+pub place_read : (c : RunStream) (n : ℕ) (ps : List ℕ) → IsPosition writer c n ps → IsPosition reader c n ps
 place_read no_stream n ps h = h
 place_read (bit_runs b) n ps h = (h.0, h.1, h.2, h.3, bit_place_begins b n h.0 h.1 h.2 n h.4)
 place_read (byte_runs b) n ps h = (h.0, h.1, h.2, h.3.begins)
 place_read (number_runs v sign b) n ps h = (h.0, h.1, h.2, h.3.begins)
 
 -- a value has one place
-pub one_stream_place : (c : RunStream) (n : ℕ) (ps qs : List ℕ) → StreamPlace is_place IsBitPlace c n ps → StreamPlace is_place IsBitPlace c n qs → ps ≡ qs
+pub one_stream_place : (c : RunStream) (n : ℕ) (ps qs : List ℕ) → IsPosition writer c n ps → IsPosition writer c n qs → ps ≡ qs
 one_stream_place no_stream n ps qs h k = h ∙ sym k
 one_stream_place (bit_runs b) n ps qs h k =
     let same = one_bit_place b n h.0 k.0 h.1 k.1 h.2 k.2 n h.4 k.4 in

@@ -1,11 +1,10 @@
 //! The streams of a column that have positions.
 ghost use Rattle.std.specs.Prelude.{◌≡◌, ◌++◌, ℕ, List, min, IfOk, OnOk};
-ghost use Rattle.orc_positions.specs.BitPosition.{IsBitPlace};
 ghost use Rattle.orc_values.specs.Cells.{Cell};
 ghost use Rattle.orc_values.specs.Views.{shape};
 ghost use Rattle.orc_column_reader.specs.Starting.{AreStreams};
 ghost use Rattle.orc_column_reader.specs.Stripe.{Streams};
-ghost use Rattle.orc_row_index.specs.Places.{PlacesIn, octets_place, is_place, Adds};
+ghost use Rattle.orc_row_index.specs.Places.{ArePositions, octets_place, writer, Adds};
 ghost use Rattle.orc_row_index.specs.RunStreams.{kind_of_own, present_runs, scalar_runs, text_runs, scalar_octets, text_octets};
 ghost use Rattle.orc_row_index.specs.Walking.{runs, lent_bytes, most, ArePlaced, AreCounted, HasOctets, HavePlaces, WalkedBefore};
 
@@ -164,7 +163,7 @@ pub(crate) fn put_places(
         × WalkedBefore (runs placed.now.present) (runs placed.now.own) from before }
     ensures places { (before : List Cell) → AreCounted counts before
         → HavePlaces (runs placed.now.present) (lent_bytes placed.now.content) (runs placed.now.own) before
-        → OnOk result (Adds (PlacesIn is_place IsBitPlace (runs placed.now.present)
+        → OnOk result (Adds (ArePositions writer (runs placed.now.present)
         (lent_bytes placed.now.content) (runs placed.now.own) before)
         out.old.items out.new.items) }
     ensures walked { IfOk result (λ walk. (before : List Cell)

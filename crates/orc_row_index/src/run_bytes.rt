@@ -2,9 +2,8 @@
 ghost use Rattle.std.specs.Prelude.{◌≡◌, ◌-◌, ◌≤◌, ◌++◌, [], ◌∷◌, IfOk, OnOk};
 ghost use Rattle.orc_positions.specs.Position.{IsPlace, HasValues};
 ghost use Rattle.orc_positions.specs.Marks.{IsMark};
-ghost use Rattle.orc_positions.specs.BitPosition.{IsBitPlace};
 ghost use Rattle.orc_column_reader.specs.Numbers.{is_run};
-ghost use Rattle.orc_row_index.specs.Places.{StreamPlace, is_place, Adds, position_size};
+ghost use Rattle.orc_row_index.specs.Places.{IsPosition, writer, Adds, position_size};
 ghost use Rattle.orc_row_index.specs.Walking.{runs, HasPlace, BeginsBefore};
 
 use orc_positions::{Mark, byte_mark_at, mark_at};
@@ -88,7 +87,7 @@ pub(crate) fn put_place(
     requires there { HasPlace (runs stream.now) n }
     requires from { BeginsBefore (runs stream.now) from n }
     ensures place { OnOk result
-        (Adds (StreamPlace is_place IsBitPlace (runs stream.now) n) out.old.items out.new.items) }
+        (Adds (IsPosition writer (runs stream.now) n) out.old.items out.new.items) }
     ensures from { IfOk result (λ mark. BeginsBefore (runs stream.now) mark n) }
 {
     match *stream {

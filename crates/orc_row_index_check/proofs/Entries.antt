@@ -2,7 +2,6 @@
 use Rattle.std.specs.Prelude.{MatchBool}
 use Rattle.std.proofs.Common.{◌≡◌, ℕ, ◌+◌, ◌<◌, ◌≤◌, Bool, Option, Some, List, [], ◌∷◌, ◌++◌, length, take, slice_get, refl, sym, ap, ◌∙◌, subst, arith, inl, inr, ◌⊎◌, length-append}
 use Rattle.orc_wire.specs.declared.row_index.RowIndexEntry.{RowIndexEntry}
-use Rattle.orc_positions.specs.BitPosition.{BeginsBits}
 use Rattle.orc_values.specs.Cells.{Cell}
 use Rattle.orc_values.specs.Shapes.{Shape}
 use Rattle.orc_column_reader.specs.Starting.{AreStreams}
@@ -12,7 +11,7 @@ use Rattle.orc_column_reader.specs.declared.fault.StreamKind.TheVariants.{Presen
 use Rattle.orc_column_reader.specs.declared.fault.StripeFault.{StripeFault}
 use Rattle.orc_column_reader.specs.declared.starting.ColumnStreams.{ColumnStreams}
 use Rattle.orc_row_index.specs.Bounds.{bound_at}
-use Rattle.orc_row_index.specs.Places.{PlacesIn, AreReadPlaces, begins}
+use Rattle.orc_row_index.specs.Places.{ArePositions, AreReadPlaces, reader}
 use Rattle.orc_row_index.specs.RunStreams.{RunStream, present_runs, own_octets}
 use Rattle.orc_row_index.specs.Walking.{runs, lent_bytes, ArePlaced}
 use Rattle.orc_row_index.specs.declared.counts.Counts.{Counts}
@@ -35,17 +34,17 @@ deciding_none s streams counts entries right none =
 
 -- what is said of the streams that are walked is said of the column's
 decided_in : (s : Shape) (x : Streams) (placed : PlacedStreams) (before : List Cell) (ps : List ℕ) (b : Bool) → ArePlaced s x placed
-    → MatchBool b (PlacesIn begins BeginsBits (runs placed.present) (lent_bytes placed.content) (runs placed.own) before ps)
-    (PlacesIn begins BeginsBits (runs placed.present) (lent_bytes placed.content) (runs placed.own) before ps → ⊥)
+    → MatchBool b (ArePositions reader (runs placed.present) (lent_bytes placed.content) (runs placed.own) before ps)
+    (ArePositions reader (runs placed.present) (lent_bytes placed.content) (runs placed.own) before ps → ⊥)
     → MatchBool b (AreReadPlaces s x before ps) (AreReadPlaces s x before ps → ⊥)
 decided_in s x placed before ps b are h =
-    subst (λ (y : RunStream). MatchBool b (PlacesIn begins BeginsBits (present_runs (x.stream 0)) (own_octets s x) y before ps) (PlacesIn begins BeginsBits (present_runs (x.stream 0)) (own_octets s x) y before ps → ⊥)) are.own_is
-    (subst (λ (y : Option (List ℕ)). MatchBool b (PlacesIn begins BeginsBits (present_runs (x.stream 0)) y (runs placed.own) before ps) (PlacesIn begins BeginsBits (present_runs (x.stream 0)) y (runs placed.own) before ps → ⊥)) are.content_is
-    (subst (λ (y : RunStream). MatchBool b (PlacesIn begins BeginsBits y (lent_bytes placed.content) (runs placed.own) before ps) (PlacesIn begins BeginsBits y (lent_bytes placed.content) (runs placed.own) before ps → ⊥)) are.present_is h))
+    subst (λ (y : RunStream). MatchBool b (ArePositions reader (present_runs (x.stream 0)) (own_octets s x) y before ps) (ArePositions reader (present_runs (x.stream 0)) (own_octets s x) y before ps → ⊥)) are.own_is
+    (subst (λ (y : Option (List ℕ)). MatchBool b (ArePositions reader (present_runs (x.stream 0)) y (runs placed.own) before ps) (ArePositions reader (present_runs (x.stream 0)) y (runs placed.own) before ps → ⊥)) are.content_is
+    (subst (λ (y : RunStream). MatchBool b (ArePositions reader y (lent_bytes placed.content) (runs placed.own) before ps) (ArePositions reader y (lent_bytes placed.content) (runs placed.own) before ps → ⊥)) are.present_is h))
 
 pub group_decided : (s : Shape) (x : Streams) (placed : PlacedStreams) (cells : List Cell) (bounds : List ℕ) (group start : ℕ) (ps : List ℕ) (b : Bool) → ArePlaced s x placed → start ≡ bound_at (length cells) bounds group
-    → MatchBool b (PlacesIn begins BeginsBits (runs placed.present) (lent_bytes placed.content) (runs placed.own) (take start cells) ps)
-    (PlacesIn begins BeginsBits (runs placed.present) (lent_bytes placed.content) (runs placed.own) (take start cells) ps → ⊥)
+    → MatchBool b (ArePositions reader (runs placed.present) (lent_bytes placed.content) (runs placed.own) (take start cells) ps)
+    (ArePositions reader (runs placed.present) (lent_bytes placed.content) (runs placed.own) (take start cells) ps → ⊥)
     → Decides s x cells bounds group ps b
 group_decided s x placed cells bounds group start ps b are at h =
     subst (λ (n : ℕ). MatchBool b (AreReadPlaces s x (take n cells) ps) (AreReadPlaces s x (take n cells) ps → ⊥)) at (decided_in s x placed (take start cells) ps b are h)

@@ -1,11 +1,10 @@
 //! The runs of a column's streams, in which its positions are looked up.
 ghost use Rattle.std.specs.Prelude.{◌≡◌, ◌≢◌, ◌≤◌, ◌⊎◌, ℕ, Option, List, min, length, IfOk, IfErr, MatchBool};
-ghost use Rattle.orc_positions.specs.BitPosition.{BeginsBits};
 ghost use Rattle.orc_values.specs.Cells.{Cell};
 ghost use Rattle.orc_values.specs.Views.{shape};
 ghost use Rattle.orc_column_reader.specs.declared.fault.StripeFault.TheVariants.{OutOfMemory};
 ghost use Rattle.orc_column_reader.specs.declared.fault.StreamKind.TheVariants.{Present};
-ghost use Rattle.orc_row_index.specs.Places.{PlacesIn, OwnPlaces, begins};
+ghost use Rattle.orc_row_index.specs.Places.{ArePositions, OwnPlaces, reader};
 ghost use Rattle.orc_row_index.specs.RunStreams.{RunStream};
 ghost use Rattle.orc_row_index.specs.Walking.{runs, lent_bytes, most, AreCounted, HavePlaces};
 ghost use Rattle.orc_row_index_check.specs.Tables.{IsTable, IsFew};
@@ -105,8 +104,8 @@ impl<'a> ColumnTable<'a> {
         ensures { (present : RunStream) (content : Option (List ℕ)) (own : RunStream) (before : List Cell)
             → AreTables present content own self.now
             → AreCounted counts before → HavePlaces present content own before
-            → MatchBool result (PlacesIn begins BeginsBits present content own before positions.now)
-            (PlacesIn begins BeginsBits present content own before positions.now → ⊥) }
+            → MatchBool result (ArePositions reader present content own before positions.now)
+            (ArePositions reader present content own before positions.now → ⊥) }
     {
         let size = self.present.size();
         if positions.len() < size {

@@ -17,11 +17,10 @@ use Rattle.orc_values.proofs.Together.{cells_fit}
 use Rattle.orc_column_reader.specs.Directory.{has_stream, slice}
 use Rattle.orc_column_reader.specs.Stripe.{Streams, version_at, uses_dictionary, columns_of}
 use Rattle.orc_row_index.specs.Bounds.{before_group}
-use Rattle.orc_row_index.specs.Places.{PlacesIn, begins, AreReadPlaces}
+use Rattle.orc_row_index.specs.Places.{ArePositions, reader, AreReadPlaces}
 use Rattle.orc_row_index.specs.RowIndex.{IsRightIndex}
 use Rattle.orc_row_index.specs.RunStreams.{RunStream, bit_runs, byte_runs, number_runs, present_runs, text_runs, own_runs, text_octets, own_octets}
 use Rattle.orc_row_index.proofs.WrittenIndex.{one_index, index_right}
-use Rattle.orc_positions.specs.BitPosition.{BeginsBits}
 use Rattle.orc_stripe_writer.specs.Groups.{starts, bounds_of}
 use Rattle.orc_stripe_writer.specs.Indexes.{streams_written, index_lines, index_bytes}
 use Rattle.orc_stripe_writer.specs.WrittenColumn.{Written}
@@ -109,9 +108,9 @@ octets_same (scalar kind.String o) x y e a = contents_same (uses_dictionary x.en
 places_same : (s : Shape) (x y : Streams) (before : List Cell) (positions : List ℕ) → x.encoding ≡ y.encoding → x.stream 0 ≡ y.stream 0 → x.stream 1 ≡ y.stream 1 → x.stream 2 ≡ y.stream 2
     → AreReadPlaces s x before positions → AreReadPlaces s y before positions
 places_same s x y before positions e p a b h =
-    subst (λ (m : RunStream). PlacesIn begins BeginsBits m (own_octets s y) (own_runs s y) before positions) (ap present_runs p)
-    (subst (λ (o : Option (List ℕ)). PlacesIn begins BeginsBits (present_runs (x.stream 0)) o (own_runs s y) before positions) (octets_same s x y e a)
-    (subst (λ (r : RunStream). PlacesIn begins BeginsBits (present_runs (x.stream 0)) (own_octets s x) r before positions) (own_same s x y e a b) h))
+    subst (λ (m : RunStream). ArePositions reader m (own_octets s y) (own_runs s y) before positions) (ap present_runs p)
+    (subst (λ (o : Option (List ℕ)). ArePositions reader (present_runs (x.stream 0)) o (own_runs s y) before positions) (octets_same s x y e a)
+    (subst (λ (r : RunStream). ArePositions reader (present_runs (x.stream 0)) (own_octets s x) r before positions) (own_same s x y e a b) h))
 
 right_in : (s : Shape) (y : Streams) (w : Written) (cs : List Cell) (bounds text : List ℕ) → y.encoding ≡ w.encoding → AreFound y.stream w → IsRightIndex s (streams_written w) cs bounds text
     → IsRightIndex s y cs bounds text

@@ -12,8 +12,7 @@ use Rattle.orc_values.specs.Shapes.{Shape, scalar, list_of, map_of, struct_of, w
 use Rattle.orc_values.specs.declared.kind.Scalar.TheVariants as kind
 use Rattle.orc_column_reader.specs.Directory.{slice}
 use Rattle.orc_column_reader.specs.Stripe.{Streams, HasFooter, uses_dictionary, encoding_at}
-use Rattle.orc_positions.specs.BitPosition.{BeginsBits}
-use Rattle.orc_row_index.specs.Places.{StreamPlace, begins, octets, octets_place, octets_size, position_size}
+use Rattle.orc_row_index.specs.Places.{IsPosition, reader, octets, octets_place, octets_size, position_size}
 use Rattle.orc_row_index.specs.RunStreams.{RunStream, no_stream, bit_runs, byte_runs, number_runs, present_runs, text_runs, own_runs, text_octets, own_octets}
 use Rattle.orc_group_reader.specs.Entering.{AgreeFrom}
 use Rattle.orc_group_reader.specs.Streams.{RunsAgree}
@@ -91,7 +90,7 @@ octets_alike o None (Some b) h = absurd h
 octets_alike o (Some a) None h = absurd h
 octets_alike o (Some a) (Some b) h = refl
 
-place_size : (r : RunStream) (n : ℕ) (ps : List ℕ) → StreamPlace begins BeginsBits r n ps → length ps ≡ position_size r
+place_size : (r : RunStream) (n : ℕ) (ps : List ℕ) → IsPosition reader r n ps → length ps ≡ position_size r
 place_size no_stream n ps h = ap (λ (l : List ℕ). length l) h
 place_size (bit_runs b) n ps h = ap (λ (l : List ℕ). length l) h.3
 place_size (byte_runs b) n ps h = ap (λ (l : List ℕ). length l) h.2

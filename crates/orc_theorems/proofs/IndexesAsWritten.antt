@@ -18,10 +18,9 @@ use Rattle.orc_values.specs.declared.kind.Scalar.TheVariants as kind
 use Rattle.orc_column_reader.specs.Directory.{slice}
 use Rattle.orc_column_reader.specs.Stripe.{Streams, version_at, uses_dictionary, columns_of, HasFooter, IsStripe}
 use Rattle.orc_row_index.specs.Bounds.{before_group}
-use Rattle.orc_row_index.specs.Places.{PlacesIn, is_place, AreWrittenPlaces}
+use Rattle.orc_row_index.specs.Places.{ArePositions, writer, AreWrittenPlaces}
 use Rattle.orc_row_index.specs.RowIndex.{IsWrittenIndex}
 use Rattle.orc_row_index.specs.RunStreams.{RunStream, bit_runs, byte_runs, number_runs, present_runs, text_runs, own_runs, text_octets, own_octets}
-use Rattle.orc_positions.specs.BitPosition.{IsBitPlace}
 use Rattle.orc_stripe_writer.specs.declared.options.Options.{Options}
 use Rattle.orc_stripe_writer.specs.Groups.{starts, bounds_of}
 use Rattle.orc_stripe_writer.specs.Indexes.{streams_written, index_bytes}
@@ -37,7 +36,7 @@ use Rattle.orc_file.specs.FileRows.{stripe_bytes, FileIs, cut_rows}
 use Rattle.orc_file.specs.Writing.{Closed, IsClosed, AreClosed, bytes_of, rows_of, infos_of, IsWrittenFile}
 use Rattle.orc_tail.specs.declared.tail.Tail.{Tail}
 use Rattle.orc_tail.proofs.Seams.{between}
-use Rattle.orc_file.proofs.WriterLemmas as writer
+use Rattle.orc_file.proofs.WriterLemmas as lemmas
 use Rattle.orc_file.proofs.WrittenLaws.{parts_of, written_rows}
 use Rattle.orc_check.specs.Findings.{rows_at}
 use Rattle.orc_theorems.specs.WrittenIndexes.{HasWrittenIndex, IsIndexedAsWritten, HasWrittenIndexes, AreIndexedAsWritten, WereWritten}
@@ -86,9 +85,9 @@ octets_same (scalar kind.String o) x y e a = contents_same (uses_dictionary x.en
 places_same : (s : Shape) (x y : Streams) (before : List Cell) (positions : List ℕ) → x.encoding ≡ y.encoding → x.stream 0 ≡ y.stream 0 → x.stream 1 ≡ y.stream 1 → x.stream 2 ≡ y.stream 2
     → AreWrittenPlaces s x before positions → AreWrittenPlaces s y before positions
 places_same s x y before positions e p a b h =
-    subst (λ (m : RunStream). PlacesIn is_place IsBitPlace m (own_octets s y) (own_runs s y) before positions) (ap present_runs p)
-    (subst (λ (o : Option (List ℕ)). PlacesIn is_place IsBitPlace (present_runs (x.stream 0)) o (own_runs s y) before positions) (octets_same s x y e a)
-    (subst (λ (r : RunStream). PlacesIn is_place IsBitPlace (present_runs (x.stream 0)) (own_octets s x) r before positions) (own_same s x y e a b) h))
+    subst (λ (m : RunStream). ArePositions writer m (own_octets s y) (own_runs s y) before positions) (ap present_runs p)
+    (subst (λ (o : Option (List ℕ)). ArePositions writer (present_runs (x.stream 0)) o (own_runs s y) before positions) (octets_same s x y e a)
+    (subst (λ (r : RunStream). ArePositions writer (present_runs (x.stream 0)) (own_octets s x) r before positions) (own_same s x y e a b) h))
 
 index_same : (s : Shape) (x y : Streams) (cs : List Cell) (bounds text : List ℕ) → x.encoding ≡ y.encoding → x.stream 0 ≡ y.stream 0 → x.stream 1 ≡ y.stream 1 → x.stream 2 ≡ y.stream 2
     → IsWrittenIndex s x cs bounds text → IsWrittenIndex s y cs bounds text
@@ -162,7 +161,7 @@ closed_in_file options s some file front rest at [] h place e = tt
 closed_in_file options s some file front rest at (c ∷ cs) h place e =
     let i = h.0 in
     let split : file ≡ front ++ (c.bytes ++ (bytes_of cs ++ rest)) = e ∙ ap (λ x. front ++ x) (append_assoc c.bytes (bytes_of cs) rest) in
-    let long : length c.bytes ≡ stripe_length c.info = writer.stripe_bytes s c.info c.bytes c.rows i.read in
+    let long : length c.bytes ≡ stripe_length c.info = lemmas.stripe_bytes s c.info c.bytes c.rows i.read in
     let own : stripe_bytes c.info file ≡ c.bytes = between file front c.bytes (bytes_of cs ++ rest) c.info.offset (stripe_length c.info) split (i.placed ∙ place) (sym long) in (
       subst (λ b. IsIndexedAsWritten s options.stride c.info b c.rows) (sym own) (closed_indexed options s some at c i),
       closed_in_file options s some file (front ++ c.bytes) rest (at + length c.bytes) cs h.1 (omega (arith, place, length-append front c.bytes)) (split ∙ sym (append_assoc front c.bytes (bytes_of cs ++ rest))),
@@ -172,7 +171,7 @@ cut_closed : (options : Options) (s : Shape) (at : ℕ) (cs : List Closed) → A
 cut_closed options s at [] h = refl
 cut_closed options s at (c ∷ cs) h =
     let i = h.0 in
-    let many : length c.rows ≡ c.info.number_of_rows = writer.stripe_rows s c.info c.bytes c.rows i.read in
+    let many : length c.rows ≡ c.info.number_of_rows = lemmas.stripe_rows s c.info c.bytes c.rows i.read in
     let own : take c.info.number_of_rows (c.rows ++ rows_of cs) ≡ c.rows = subst (λ (n : ℕ). take n (c.rows ++ rows_of cs) ≡ c.rows) many (take-append_seam c.rows (rows_of cs)) in
     let more : drop c.info.number_of_rows (c.rows ++ rows_of cs) ≡ rows_of cs = subst (λ (n : ℕ). drop n (c.rows ++ rows_of cs) ≡ rows_of cs) many (drop-append_seam c.rows (rows_of cs)) in
     rw (own, more, cut_closed options s (at + length c.bytes) cs h.1) refl

@@ -22,7 +22,7 @@ use Rattle.orc_column_reader.specs.Directory.{slice}
 use Rattle.orc_column_reader.specs.Numbers.{is_run}
 use Rattle.orc_column_reader.specs.Stripe.{Streams, has_dictionary, Marks, SpellsScalar, SpellsValues, IsColumn, columns_of, IsStripe}
 use Rattle.orc_row_index.specs.Bounds.{bound_at, before_group}
-use Rattle.orc_row_index.specs.Places.{StreamPlace, is_place, AreWrittenPlaces}
+use Rattle.orc_row_index.specs.Places.{IsPosition, writer, AreWrittenPlaces}
 use Rattle.orc_row_index.specs.RunStreams.{RunStream, no_stream, bit_runs, byte_runs, number_runs, present_runs, text_runs, scalar_runs, own_runs}
 use Rattle.orc_row_index.proofs.ColumnPlaces.{values_more, stand_long}
 use Rattle.orc_stripe.proofs.OneStripe.{one_footer, by_footer}
@@ -33,7 +33,7 @@ use Rattle.orc_tail.specs.declared.tail.Tail.{Tail}
 use Rattle.orc_check.specs.Findings.{rows_at}
 use Rattle.orc_check.proofs.NoFinding.{stripe_is}
 use Rattle.orc_theorems.specs.WrittenIndexes.{HasWrittenIndex, HasWrittenIndexes}
-use Rattle.orc_theorems.specs.OneRunPlaces.{SeekCounts, IsOneRunPlace, IsOneRunBitPlace, one_run, one_bit_run, AreOneRunPlaces, ReadsOneRun}
+use Rattle.orc_theorems.specs.OneRunPlaces.{SeekCounts, IsOneRunPlace, IsOneRunBitPlace, IsOneRunPosition, AreOneRunPlaces, ReadsOneRun}
 
 -- ---- one position
 
@@ -63,7 +63,7 @@ HasSome (bit_runs b) n = (total : ℕ) × HasBits b total × (n ≤ total)
 HasSome (byte_runs b) n = Unit {0}
 HasSome (number_runs v sign b) n = Unit {0}
 
-stream_one : (c : RunStream) (n : ℕ) (ps : List ℕ) → HasSome c n → StreamPlace is_place IsBitPlace c n ps → StreamPlace one_run one_bit_run c n ps
+stream_one : (c : RunStream) (n : ℕ) (ps : List ℕ) → HasSome c n → IsPosition writer c n ps → IsOneRunPosition c n ps
 stream_one no_stream n ps has h = h
 stream_one (bit_runs b) n ps has h = (h.0, h.1, h.2, h.3, bit_place_one b has.0 h.0 h.1 h.2 n has.1 has.2 h.4)
 stream_one (byte_runs b) n ps has h = (h.0, h.1, h.2, place_one IsByteRun b h.0 h.1 n h.3)

@@ -3,7 +3,6 @@ use Rattle.std.proofs.Common.{◌≡◌, ◌∙◌, ℕ, ◌<◌, ◌≤◌, Opt
 use Rattle.std.proofs.lemmas.Option.{slice_get_read}
 use Rattle.orc_rle.specs.ByteRun.{IsByteRun}
 use Rattle.orc_rle.specs.Seeking.{bytes_needed}
-use Rattle.orc_positions.specs.BitPosition.{BeginsBits}
 use Rattle.orc_positions.proofs.BitPositionLemmas.{bit_place_begins}
 use Rattle.orc_wire.specs.declared.row_index.RowIndexEntry.{RowIndexEntry}
 use Rattle.orc_wire.specs.declared.row_index.RowIndexMsg.{RowIndexMsg}
@@ -12,7 +11,7 @@ use Rattle.orc_values.specs.Columns.{cells}
 use Rattle.orc_values.specs.Shapes.{Shape, width, shape_at}
 use Rattle.orc_column_reader.specs.Stripe.{Streams, HasFooter, columns_of}
 use Rattle.orc_row_index.specs.Bounds.{before_group}
-use Rattle.orc_row_index.specs.Places.{RunPlace, BitPlace, StreamPlace, PlacesIn, position_size, octets, octets_place, begins}
+use Rattle.orc_row_index.specs.Places.{RunPlace, BitPlace, IsPosition, ArePositions, position_size, octets, octets_place, reader}
 use Rattle.orc_row_index.specs.RunStreams.{RunStream, no_stream, bit_runs, byte_runs, number_runs, present_runs, own_runs, own_octets}
 use Rattle.orc_row_index.specs.Walking.{runs, lent_bytes, ArePlaced}
 use Rattle.orc_row_index.specs.declared.placed.PlacedStreams.{PlacedStreams}
@@ -24,7 +23,7 @@ use Rattle.orc_tail.specs.Stripes.{stripe_at}
 use Rattle.orc_file.specs.FileRows.{stripe_bytes, opened_stripe, cut_rows}
 use Rattle.orc_tail.specs.declared.tail.Tail.{Tail}
 use Rattle.orc_check.specs.Findings.{rows_at}
-use Rattle.orc_theorems.specs.OneRunPlaces.{SeekCounts, IsOneRunPlace, IsOneRunBitPlace, one_run, one_bit_run, AreOneRunPlaces, ColumnReadsOneRun, ReadsOneRun}
+use Rattle.orc_theorems.specs.OneRunPlaces.{SeekCounts, IsOneRunPlace, IsOneRunBitPlace, IsOneRunPosition, AreOneRunPlaces, ColumnReadsOneRun, ReadsOneRun}
 
 -- ---- one stream
 
@@ -49,7 +48,7 @@ bit_sought bytes ps o s b n old new e h none k =
 
 -- ---- the streams of a column
 
-stream_begins : (c : RunStream) (n : ℕ) (ps : List ℕ) → StreamPlace one_run one_bit_run c n ps → StreamPlace begins BeginsBits c n ps
+stream_begins : (c : RunStream) (n : ℕ) (ps : List ℕ) → IsOneRunPosition c n ps → IsPosition reader c n ps
 stream_begins no_stream n ps h = h
 stream_begins (bit_runs b) n ps h = (h.0, h.1, h.2, h.3, bit_place_begins b n h.0 h.1 h.2 n (record { place = h.4.place.place; bits_are = h.4.place.bits_are; there = omega arith }))
 stream_begins (byte_runs b) n ps h = (h.0, h.1, h.2, h.3.place.begins)
@@ -57,14 +56,14 @@ stream_begins (number_runs v sign b) n ps h = (h.0, h.1, h.2, h.3.place.begins)
 
 pub column_sought : (s : Shape) (x : Streams) (before : List Cell) (placed : PlacedStreams) (ps : List ℕ) (size : ℕ) (first last : List ℕ) → ArePlaced s x placed → AreOneRunPlaces s x before ps
     → size ≡ position_size (runs placed.present) → first ≡ take size ps → last ≡ drop size ps
-    → StreamPlace one_run one_bit_run (runs placed.present) (length before) first
+    → IsOneRunPosition (runs placed.present) (length before) first
     × ((behind : List ℕ) → ((n : ℕ) (rest : List ℕ) → last ≡ octets_place (lent_bytes placed.content) n ++ rest → behind ≡ rest)
-    → StreamPlace one_run one_bit_run (runs placed.own) (length (values before)) behind)
+    → IsOneRunPosition (runs placed.own) (length (values before)) behind)
 column_sought s x before placed ps size first last are h e f l =
     let present : RunStream = present_runs (x.stream 0) in
     let content : Option (List ℕ) = own_octets s x in
     let own : RunStream = own_runs s x in
-    let b : PlacesIn begins BeginsBits present content own before ps = record {
+    let b : ArePositions reader present content own before ps = record {
       first = h.first;
       last = h.last;
       parts = h.parts;
@@ -74,13 +73,13 @@ column_sought s x before placed ps size first last are h e f l =
     let long : size ≡ position_size present = e ∙ ap position_size are.present_is in
     let front : h.first ≡ take size ps = front_is present content own before ps size long b in
     let back : drop size ps ≡ octets_place content (octets before) ++ h.last = back_is present content own before ps size long b in
-    let in_front : StreamPlace one_run one_bit_run present (length before) first = subst (λ (t : List ℕ). StreamPlace one_run one_bit_run present (length before) t) (front ∙ sym f) h.present_place in (
-      subst (λ (r : RunStream). StreamPlace one_run one_bit_run r (length before) first) (sym are.present_is) in_front,
+    let in_front : IsOneRunPosition present (length before) first = subst (λ (t : List ℕ). IsOneRunPosition present (length before) t) (front ∙ sym f) h.present_place in (
+      subst (λ (r : RunStream). IsOneRunPosition r (length before) first) (sym are.present_is) in_front,
       λ behind law.
           let cut : last ≡ octets_place (lent_bytes placed.content) (octets before) ++ h.last = l ∙ back ∙ ap (λ (o : Option (List ℕ)). octets_place o (octets before) ++ h.last) (sym are.content_is) in
           let is : behind ≡ h.last = law (octets before) h.last cut in
-          subst (λ (r : RunStream). StreamPlace one_run one_bit_run r (length (values before)) behind) (sym are.own_is)
-          (subst (λ (t : List ℕ). StreamPlace one_run one_bit_run own (length (values before)) t) (sym is) h.own_place),
+          subst (λ (r : RunStream). IsOneRunPosition r (length (values before)) behind) (sym are.own_is)
+          (subst (λ (t : List ℕ). IsOneRunPosition own (length (values before)) t) (sym is) h.own_place),
     )
 
 -- ---- a group of a column

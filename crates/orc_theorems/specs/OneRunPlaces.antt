@@ -1,5 +1,5 @@
 -- Positions from which one run is read at most (ORC specification, "Row Group Index").
-use Rattle.std.specs.Prelude.{◌≡◌, ℕ, ◌+◌, ◌<◌, ◌≤◌, Some, List, ◌++◌, length, drop, slice_get}
+use Rattle.std.specs.Prelude.{◌≡◌, ℕ, ◌+◌, ◌<◌, ◌≤◌, Some, List, [], ◌++◌, length, drop, slice_get}
 use Rattle.orc_rle.specs.ByteRun.{IsByteRun}
 use Rattle.orc_rle.specs.Seeking.{bytes_needed}
 use Rattle.orc_positions.specs.Position.{IsPlace}
@@ -7,12 +7,14 @@ use Rattle.orc_positions.specs.BitPosition.{IsBitPlace, HasBits}
 use Rattle.orc_wire.specs.declared.row_index.RowIndexEntry.{RowIndexEntry}
 use Rattle.orc_wire.specs.declared.row_index.RowIndexMsg.{RowIndexMsg}
 use Rattle.orc_wire.specs.declared.stripe_footer.StripeFooter.{StripeFooter}
-use Rattle.orc_values.specs.Cells.{Cell}
+use Rattle.orc_values.specs.Cells.{Cell, values}
 use Rattle.orc_values.specs.Columns.{cells}
 use Rattle.orc_values.specs.Shapes.{Shape, width, shape_at}
+use Rattle.orc_column_reader.specs.Numbers.{is_run}
 use Rattle.orc_column_reader.specs.Stripe.{Streams, HasFooter, columns_of}
 use Rattle.orc_row_index.specs.Bounds.{before_group}
-use Rattle.orc_row_index.specs.Places.{RunRelation, BitRelation, ArePlacesBy}
+use Rattle.orc_row_index.specs.Places.{RunPlace, BitPlace, octets, octets_place}
+use Rattle.orc_row_index.specs.RunStreams.{RunStream, no_stream, bit_runs, byte_runs, number_runs, present_runs, own_runs, own_octets}
 use Rattle.orc_stripe_writer.specs.Groups.{starts, bounds_of}
 use Rattle.orc_stripe.specs.Opened.{Opened}
 use Rattle.orc_stripe.specs.RowIndexes.{HasIndex}
@@ -45,17 +47,21 @@ pub record IsOneRunBitPlace (bytes : List ℕ) (offset skip bits n : ℕ) : Type
   pub place : IsBitPlace bytes total offset skip bits n
   pub one_run : (old new : ℕ) → SeekCounts IsByteRun bytes offset (bytes_needed skip bits) old new → new ≤ old + 1
 
--- the same, whatever the runs are of
-abbrev pub one_run : RunRelation
-one_run A is_run stream offset skip n = IsOneRunPlace is_run stream offset skip n
-
--- and of booleans, of which the stream has as many as its column has cells or values
-abbrev pub one_bit_run : BitRelation
-one_bit_run stream total offset skip bits n = IsOneRunBitPlace stream offset skip bits n
+-- The same, whatever the runs are of. Of booleans the stream has as many as its column has cells or values.
+abbrev pub IsOneRunPosition : RunStream → ℕ → List ℕ → Type 0
+IsOneRunPosition no_stream n positions = positions ≡ []
+IsOneRunPosition (bit_runs stream) n positions = BitPlace (IsOneRunBitPlace stream) n positions
+IsOneRunPosition (byte_runs stream) n positions = RunPlace (IsOneRunPlace IsByteRun stream) n positions
+IsOneRunPosition (number_runs version sign stream) n positions =
+    RunPlace (IsOneRunPlace (is_run version sign) stream) n positions
 
 -- such positions of a column behind these cells
-abbrev pub AreOneRunPlaces : Shape → Streams → List Cell → List ℕ → Type 0
-AreOneRunPlaces s x before positions = ArePlacesBy one_run one_bit_run s x before positions
+pub record AreOneRunPlaces (s : Shape) (x : Streams) (before : List Cell) (positions : List ℕ) : Type 0 where
+  pub first : List ℕ
+  pub last : List ℕ
+  pub parts : positions ≡ first ++ (octets_place (own_octets s x) (octets before) ++ last)
+  pub present_place : IsOneRunPosition (present_runs (x.stream 0)) (length before) first
+  pub own_place : IsOneRunPosition (own_runs s x) (length (values before)) last
 
 -- Each entry of the index of column c, as it is read of a stripe of these rows, has such positions behind the cells
 -- before its group.

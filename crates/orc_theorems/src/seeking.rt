@@ -4,10 +4,10 @@ ghost use Rattle.orc_values.specs.Cells.{Cell};
 ghost use Rattle.orc_values.specs.Shapes.{Shape};
 ghost use Rattle.orc_column_reader.specs.Numbers.{is_run};
 ghost use Rattle.orc_column_reader.specs.Stripe.{Streams};
-ghost use Rattle.orc_row_index.specs.Places.{StreamPlace, octets_place};
+ghost use Rattle.orc_row_index.specs.Places.{octets_place};
 ghost use Rattle.orc_row_index.specs.RunStreams.{bit_runs, byte_runs, number_runs};
 ghost use Rattle.orc_row_index.specs.Walking.{runs, lent_bytes, ArePlaced};
-ghost use Rattle.orc_theorems.specs.OneRunPlaces.{SeekCounts, one_run, one_bit_run, AreOneRunPlaces};
+ghost use Rattle.orc_theorems.specs.OneRunPlaces.{SeekCounts, IsOneRunPosition, AreOneRunPlaces};
 ghost use Rattle.orc_theorems.specs.RunsRead.{runs_read, ReadOneEach};
 
 use orc_rle::{BitPos, BitRuns, ByteRuns, Pos, Rle, Run, RunCodec, RunFault, RunU8, Sign, V1, V2};
@@ -81,7 +81,7 @@ fn seek_numbers(
     bytes: &[u8],
     positions: &[u64],
 ) -> Result<Sought, RunFault>
-    ensures { (n : ℕ) → StreamPlace one_run one_bit_run (number_runs version sign bytes.now) n positions.now
+    ensures { (n : ℕ) → IsOneRunPosition (number_runs version sign bytes.now) n positions.now
         → IfOk result (λ sought. runs_read sought ≤ 1) }
 {
     let Some(pos) = pos_of(positions) else {
@@ -96,7 +96,7 @@ fn seek_numbers(
 
 /// Goes to a position of a stream of bytes.
 fn seek_bytes(bytes: &[u8], positions: &[u64]) -> Result<Sought, RunFault>
-    ensures { (n : ℕ) → StreamPlace one_run one_bit_run (byte_runs bytes.now) n positions.now
+    ensures { (n : ℕ) → IsOneRunPosition (byte_runs bytes.now) n positions.now
         → IfOk result (λ sought. runs_read sought ≤ 1) }
 {
     let Some(pos) = pos_of(positions) else {
@@ -111,7 +111,7 @@ fn seek_bytes(bytes: &[u8], positions: &[u64]) -> Result<Sought, RunFault>
 
 /// Goes to a position of a stream of booleans.
 fn seek_bits(bytes: &[u8], positions: &[u64]) -> Result<Sought, RunFault>
-    ensures { (n : ℕ) → StreamPlace one_run one_bit_run (bit_runs bytes.now) n positions.now
+    ensures { (n : ℕ) → IsOneRunPosition (bit_runs bytes.now) n positions.now
         → IfOk result (λ sought. runs_read sought ≤ 1) }
 {
     let Some(pos) = bit_pos_of(positions) else {
@@ -126,7 +126,7 @@ fn seek_bits(bytes: &[u8], positions: &[u64]) -> Result<Sought, RunFault>
 
 /// Goes to a position of a stream, whatever its runs are of.
 fn seek_stream(stream: &RunBytes<'_>, positions: &[u64]) -> Result<Sought, RunFault>
-    ensures { (n : ℕ) → StreamPlace one_run one_bit_run (runs stream.now) n positions.now
+    ensures { (n : ℕ) → IsOneRunPosition (runs stream.now) n positions.now
         → IfOk result (λ sought. runs_read sought ≤ 1) }
 {
     match *stream {

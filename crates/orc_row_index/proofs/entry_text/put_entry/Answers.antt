@@ -1,10 +1,9 @@
 use Rattle.std.proofs.Common.{◌≡◌, ◌∙◌, ℕ, Some, List, [], ◌∷◌, ◌++◌, Vec, Global, refl, sym, ap, subst}
 use Rattle.std.proofs.lemmas.List.{append-nil}
-use Rattle.orc_positions.specs.BitPosition.{IsBitPlace}
 use Rattle.orc_wire.specs.CanonicalMessages.{row_index_text, row_index_entry_text}
 use Rattle.orc_wire.specs.CanonicalText.{sized_text}
 use Rattle.orc_wire.specs.declared.row_index.RowIndexEntry.{RowIndexEntry}
-use Rattle.orc_row_index.specs.Places.{PlacesIn, is_place}
+use Rattle.orc_row_index.specs.Places.{ArePositions, writer}
 use Rattle.orc_row_index.specs.Walking.{runs, lent_bytes}
 use Rattle.orc_row_index.proofs.entry_text.put_entry.Goals as goal
 
@@ -18,7 +17,7 @@ returns-in-Ok-clause-entry c = λ before counted there.
       row_index_text.text (record { entries = entry ∷ [] }),
       record {
         entry = entry;
-        places = subst (λ (ps : List ℕ). PlacesIn is_place IsBitPlace (runs placed.present) (lent_bytes placed.content) (runs placed.own) before ps) (sym positions) put.1;
+        places = subst (λ (ps : List ℕ). ArePositions writer (runs placed.present) (lent_bytes placed.content) (runs placed.own) before ps) (sym positions) put.1;
         statistics = ap Some c.in_ok-message_of.ensures;
         bounded = (c.in-Ok.ensures.bounded, tt);
         text_is = refl;

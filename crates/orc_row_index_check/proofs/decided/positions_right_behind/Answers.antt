@@ -1,10 +1,9 @@
 use Rattle.std.specs.Prelude.{MatchBool}
 use Rattle.std.proofs.Common.{◌≡◌, ◌∙◌, ℕ, Some, List, length, slice_get, refl, sym, ap, subst, arith, ltb-true}
 use Rattle.std.proofs.lemmas.Option.{slice_get_read}
-use Rattle.orc_positions.specs.BitPosition.{BeginsBits}
 use Rattle.orc_values.specs.Views.{shape}
 use Rattle.orc_row_index.specs.Bounds.{bound_at, before_group}
-use Rattle.orc_row_index.specs.Places.{PlacesIn, begins}
+use Rattle.orc_row_index.specs.Places.{ArePositions, reader}
 use Rattle.orc_row_index.specs.RunStreams.{RunStream, kind_of_own}
 use Rattle.orc_row_index.specs.Walking.{runs, lent_bytes}
 use Rattle.orc_row_index.proofs.Groups.{front_there}
@@ -40,8 +39,8 @@ loop-group-preserved c =
     let positions : c.as_slice.result.now ≡ entry.positions = c.as_slice.ensures in
     deciding_more s streams c.args.counts.now entries group c.loop-group.right.items c.push.new.self.items entry b c.loop-group.invariant there c.in_ok-push.ensures.items
     (λ x cells bounds is column counted. group_decided s x placed cells bounds group (bound_at (length cells) bounds group) entry.positions b (c.placed_streams-placed.ensures x is) refl
-    (subst (λ (ps : List ℕ). MatchBool b (PlacesIn begins BeginsBits (runs placed.present) (lent_bytes placed.content) (runs placed.own) (before_group cells bounds group) ps)
-    (PlacesIn begins BeginsBits (runs placed.present) (lent_bytes placed.content) (runs placed.own) (before_group cells bounds group) ps → ⊥)) positions
+    (subst (λ (ps : List ℕ). MatchBool b (ArePositions reader (runs placed.present) (lent_bytes placed.content) (runs placed.own) (before_group cells bounds group) ps)
+    (ArePositions reader (runs placed.present) (lent_bytes placed.content) (runs placed.own) (before_group cells bounds group) ps → ⊥)) positions
     (c.right.ensures (runs placed.present) (lent_bytes placed.content) (runs placed.own) (before_group cells bounds group) c.in-Ok.ensures.found (counted.each group c.in-Some.before.now counts)
     (front_there s streams cells placed (bound_at (length cells) bounds group) (x, is, column) c.placed_streams-placed.ensures))))
 
