@@ -50,8 +50,7 @@ fn push_read<L: LineReader, W: Sink>(
         → W.failures writer.new.out ≡ W.failures writer.old.out) }
     ensures layer { IfErr result (λ fault. IsWantOfMemory fault → IsWantOfLines fault) }
 {
-    // for its contract alone: the types are those of a schema
-    let _types = writer.schema().types();
+    writer.schema().limit_laws();
     let mut reader = RowReader::new(alloc);
     let mut line = Vec::new(alloc);
     for _ in 0..u64::MAX {

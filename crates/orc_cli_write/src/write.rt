@@ -45,8 +45,7 @@ pub(crate) fn push_line<W: Sink>(
     }
     let spare = writer.spare_row();
     let schema = writer.schema();
-    // for its contract alone: the types are those of a schema
-    let _types = schema.types();
+    schema.limit_laws();
     let row = reader.read_row_over(alloc, schema, line, spare)?;
     writer.push_owned(row)?;
     Ok(())

@@ -100,6 +100,15 @@ impl Schema {
         &self.types
     }
 
+    /// That a schema is within the limits, for a proof to cite. It does nothing: its contract is a law.
+    pub fn limit_laws(&self)
+        // The root is a STRUCT, names are texts, and there are at most 4,096 types and 32 levels.
+        ensures { IsSchema self.now }
+    {
+        // the use of a field tells what is true of all
+        let _ = &self.tree;
+    }
+
     /// The number of columns: each type is one, the root column 0.
     pub fn width(&self) -> usize
         // The answer is the number of the schema's columns, of which there are at most 4,096.

@@ -98,8 +98,7 @@ pub(crate) fn end_file<W: Sink>(
     ensures no_failure { OnOk result (W.failures out.new ≡ W.failures out.old) }
     ensures unfailed { IfErr result (λ e. (e ≡ WriteFailed) ⊎ (W.failures out.new ≡ W.failures out.old)) }
 {
-    // for its contract alone: the types are those of a schema
-    let _types = schema.types();
+    schema.limit_laws();
     let tail = match tail_of(alloc, options, schema, stripes) {
         Ok(tail) => tail,
         Err(fault) => return Err(fault),

@@ -63,8 +63,7 @@ impl<W: Sink> Writer<W> {
         ensures memory { IfErr result (λ e. e.0 ≡ fault.OutOfMemory → W.failures e.1 ≡ W.failures out) }
         ensures no_failure { IfOk result (λ w. W.failures w.out ≡ W.failures out) }
     {
-        // for its contract alone: the types are those of a schema
-        let _types = schema.types();
+        schema.limit_laws();
         let mut out = out;
         let Ok(counts) = no_cells(alloc, schema.width()) else {
             return Err((FileFault::OutOfMemory, out));
@@ -113,8 +112,7 @@ impl<W: Sink> Writer<W> {
             (kept_rows self.now.schema self.now.batch) }
         ensures refused { IfErr result (λ e. (e ≡ fault.Limit) ⊎ (e ≡ fault.OutOfMemory)) }
     {
-        // for its contract alone: the types are those of a schema
-        let _types = self.schema.types();
+        self.schema.limit_laws();
         let Ok(out) = write_batch(self.alloc, &self.schema, &self.options, &self.batch) else {
             return Err(FileFault::OutOfMemory);
         };
@@ -256,7 +254,7 @@ impl<W: Sink> Writer<W> {
             × (self.new.counts ≡ self.old.counts)
             × (self.new.total ≡ self.old.total) × (self.new.failed ≡ self.old.failed) }
     {
-        let _types = self.schema.types();
+        self.schema.limit_laws();
         if self.failed {
             return Err(FileFault::Failed);
         }

@@ -62,7 +62,7 @@ returns-in_err-next_line-clause-refused g c = λ ready.
     let w = c.loop.writer in
     let fault = refusal_of c.in_err-next_line.field-0.0 in
     let is : IsOfSource fault = line_of_source c.in_err-next_line.field-0.0 in
-    let schema : IsSchema w.schema = rw inv.schema (rw c.schema.ensures at c.types-types.ensures.schema) in
+    let schema : IsSchema w.schema = rw inv.schema (rw c.schema.ensures at c.limit_laws.ensures) in
     rw (p.1, p.2) (
       inv.pushed.0,
       led_begun (λ bytes. EndsInLines s bytes fault inv.pushed.0) s (g.L.LineReader.remaining c.args.lines.now) _ inv.pushed.0 (IsOfSource fault) inv.pushed.1 is,
@@ -113,7 +113,7 @@ returns-clause-refused g c = λ ready.
     let inv = c.loop.invariant in
     let w = c.loop.writer in
     let is : IsOfSource (File file.OutOfMemory) = inr (inl refl) in
-    let schema : IsSchema w.schema = rw inv.schema (rw c.schema.ensures at c.types-types.ensures.schema) in (
+    let schema : IsSchema w.schema = rw inv.schema (rw c.schema.ensures at c.limit_laws.ensures) in (
       inv.pushed.0,
       led_begun (λ bytes. EndsInLines s bytes (File file.OutOfMemory) inv.pushed.0) s (g.L.LineReader.remaining c.args.lines.now) _ inv.pushed.0 (IsOfSource (File file.OutOfMemory)) inv.pushed.1 is,
       λ first rows h.

@@ -36,7 +36,7 @@ returns-in_err-row-clause-refused g c = λ ready.
     let spare = c.spare_row-spare.ensures in
     let w = c.spare_row-spare.new.self in
     let fault = rw (c.schema-schema.ensures, spare.same.0) at c.in_err-row.ensures.fault in
-    let schema : IsSchema w.schema = rw c.schema-schema.ensures at c.types-types.ensures.schema in
+    let schema : IsSchema w.schema = rw c.schema-schema.ensures at c.limit_laws.ensures in
     rw (p.1, p.2) (
       [],
       some_line c.args.line.now (sym c.is_empty.ensures ∙ c.if-is_empty.false),
@@ -61,7 +61,7 @@ returns-in_err-push_owned-clause-refused g c = λ ready.
     let spells = rw (c.schema-schema.ensures, spare.same.0) at c.in_ok-row.ensures.found in
     let fits = rw c.schema-schema.ensures at c.in_ok-row.ensures.fits in
     let some = sym c.is_empty.ensures ∙ c.if-is_empty.false in
-    let schema : IsSchema w.schema = rw c.schema-schema.ensures at c.types-types.ensures.schema in
+    let schema : IsSchema w.schema = rw c.schema-schema.ensures at c.limit_laws.ensures in
     let limit : c.in_err-push_owned.field-0.0 ≡ file.Limit → PassesLimit w.schema w.infos.items w.total w.counts.items row ⊎ PassesBytes w.options w.schema w.infos.items
     (kept_rows w.schema w.batch ++ row ∷ [])
     = λ q. elim (either n.failed) [ inl has ↦ inr (e.long (ap Err q) has) | inr none ↦ inl (e.only_limit (ap Err q) none) ] in

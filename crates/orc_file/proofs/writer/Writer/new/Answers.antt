@@ -13,13 +13,13 @@ invariant_of-result-clause-counted g c =
     rw (c.in-Ok.ensures, c.width.ensures.same, none) (counts_none c.args.schema)
 
 pub returns-in-Err-clause-cut : goal.returns-in-Err-clause-cut
-returns-in-Err-clause-cut g c = cut_begun c.args.options c.args.schema (g.W.Sink.told c.args.out) _ c.in-Err.field-0 c.types-types.ensures.schema c.in-Err.ensures.some
+returns-in-Err-clause-cut g c = cut_begun c.args.options c.args.schema (g.W.Sink.told c.args.out) _ c.in-Err.field-0 c.limit_laws.ensures c.in-Err.ensures.some
 
 pub returns-in_default-clause-cut : goal.returns-in_default-clause-cut
-returns-in_default-clause-cut g c = cut_unbegun c.args.options c.args.schema (g.W.Sink.told c.args.out) c.types-types.ensures.schema
+returns-in_default-clause-cut g c = cut_unbegun c.args.options c.args.schema (g.W.Sink.told c.args.out) c.limit_laws.ensures
 
 pub returns-in_default-no_cells-clause-cut : goal.returns-in_default-no_cells-clause-cut
-returns-in_default-no_cells-clause-cut g c = cut_unbegun c.args.options c.args.schema (g.W.Sink.told c.args.out) c.types-types.ensures.schema
+returns-in_default-no_cells-clause-cut g c = cut_unbegun c.args.options c.args.schema (g.W.Sink.told c.args.out) c.limit_laws.ensures
 
 pub returns-in_default-new-clause-cut : goal.returns-in_default-new-clause-cut
-returns-in_default-new-clause-cut g c = cut_unbegun c.args.options c.args.schema (g.W.Sink.told c.args.out) c.types-types.ensures.schema
+returns-in_default-new-clause-cut g c = cut_unbegun c.args.options c.args.schema (g.W.Sink.told c.args.out) c.limit_laws.ensures

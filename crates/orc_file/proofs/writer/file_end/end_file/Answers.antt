@@ -12,7 +12,7 @@ returns-in-Err-clause-cut g c = (0, none_taken (g.W.Sink.told c.args.out.now) (t
 pub put-requires-clause-limits : goal.put-requires-clause-limits
 put-requires-clause-limits g c =
     rw c.in-Ok.ensures.found
-    (tail_within c.args.options c.args.schema c.args.stripes.infos.items c.args.stripes.stats.items c.types-types.ensures.schema c.requires.within c.requires.laid c.requires.few c.requires.stats)
+    (tail_within c.args.options c.args.schema c.args.stripes.infos.items c.args.stripes.stats.items c.limit_laws.ensures c.requires.within c.requires.laid c.requires.few c.requires.stats)
 
 pub put-requires-clause-laid : goal.put-requires-clause-laid
 put-requires-clause-laid g c = rw c.in-Ok.ensures.found (laid_places 3 c.args.stripes.infos.items c.requires.laid)
