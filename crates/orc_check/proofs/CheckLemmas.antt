@@ -168,13 +168,13 @@ no_view s info n bytes fault only (inr h) =
 
 -- nor have those whose columns spell none
 pub no_columns : (view : Opened) (s : Shape) (info : StripeInfo) (bytes : List ℕ) (n : ℕ) (cause : StripeFault) (fault : FileFault) → HasFooter s info bytes view.footer → view.schema ≡ s → view.info ≡ info → view.bytes ≡ bytes
-    → (cause ≢ stripe.OutOfMemory → RowsFault view.schema (columns_of view.footer view.bytes) view.info.number_of_rows cause) → (fault ≡ OutOfMemory) ⊎ ((fault ≡ Stripe n cause) × (cause ≢ stripe.OutOfMemory)) → NoRows s info n bytes fault
-no_columns view s info bytes n cause fault has es ei eb refused (inl memory) = inl memory
+    → (cause ≢ stripe.OutOfMemory → RowsFault view.schema (columns_of view.footer view.bytes) view.info.number_of_rows cause) → ((cause ≡ stripe.OutOfMemory) × (fault ≡ OutOfMemory)) ⊎ ((cause ≢ stripe.OutOfMemory) × (fault ≡ Stripe n cause)) → NoRows s info n bytes fault
+no_columns view s info bytes n cause fault has es ei eb refused (inl memory) = inl memory.1
 no_columns view s info bytes n cause fault has es ei eb refused (inr h) =
-    let by_schema = subst (λ (t : Shape). RowsFault t (columns_of view.footer view.bytes) view.info.number_of_rows cause) es (refused h.1) in
+    let by_schema = subst (λ (t : Shape). RowsFault t (columns_of view.footer view.bytes) view.info.number_of_rows cause) es (refused h.0) in
     let by_info = subst (λ (i : StripeInfo). RowsFault s (columns_of view.footer view.bytes) i.number_of_rows cause) ei by_schema in
     let why = subst (λ (b : List ℕ). RowsFault s (columns_of view.footer b) info.number_of_rows cause) eb by_info in
-    inr (cause, h.0, h.1, record { none = λ rows is. why.none rows (by_footer s info bytes view.footer rows has is); reason = inr (view.footer, has, why) })
+    inr (cause, h.1, h.0, record { none = λ rows is. why.none rows (by_footer s info bytes view.footer rows has is); reason = inr (view.footer, has, why) })
 
 pub stripe_refused : (told : Option (List ℕ)) (tail : Tail) (n : ℕ) (texts : List (List ℕ)) (parts : List (List Cell)) (found : List Finding) (own : List (List Stat)) (fault : FileFault) → n < length tail.stripes
     → AreChecked tail n texts parts found own → AreTold told tail n texts

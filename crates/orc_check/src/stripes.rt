@@ -1,20 +1,19 @@
 //! A stripe of a file.
-ghost use Rattle.std.specs.Prelude.{◌≡◌, ◌≢◌, ◌<◌, ◌≤◌, ◌⊎◌, length, OnOk, IfOk, IfErr, IfSome, IsErrOf};
+ghost use Rattle.std.specs.Prelude.{◌≡◌, ◌<◌, ◌≤◌, ◌⊎◌, length, OnOk, IfOk, IfErr, IfSome, IsErrOf};
 ghost use Rattle.orc_tail.specs.Stripes.{AllBefore, most_bytes, stripe_at, stripes_length};
 ghost use Rattle.orc_file.specs.FileRows as rows;
 ghost use Rattle.orc_file.specs.FileRows.{StripeRefused};
 ghost use Rattle.orc_tail.specs.Tails.{ReadFault};
-ghost use Rattle.orc_column_reader.specs.declared.fault.StripeFault.TheVariants as stripe;
-ghost use Rattle.orc_tail.specs.declared.fault.FileFault.TheVariants.{Stripe, SourceFailed, OutOfMemory};
+ghost use Rattle.orc_tail.specs.declared.fault.FileFault.TheVariants.{SourceFailed, OutOfMemory};
 ghost use Rattle.orc_check.specs.Findings.{stripe_told};
 ghost use Rattle.orc_check.specs.Checking.{IsChecked, IsOfStripe};
 
 use crate::columns::check_columns;
 use crate::finding::Finding;
-use orc_column_reader::fault::StripeFault;
 use orc_file::{FileFault, Tail, load_stripe, view_stripe};
 use orc_io::Source;
 use orc_stats::Stat;
+use orc_tail::stripe_fault;
 use orc_wire::Items;
 use std::alloc::Global;
 
@@ -25,17 +24,6 @@ fn told_of(tail: &Tail, number: usize) -> &[Stat]
     match tail.stripe_stats.as_slice().get(number) {
         Some(told) => told.as_slice(),
         None => &[],
-    }
-}
-
-/// The fault of the stripe with this number.
-fn stripe_fault(number: usize, cause: StripeFault) -> FileFault
-    ensures memory { cause ≡ stripe.OutOfMemory → result ≡ OutOfMemory }
-    ensures either { (result ≡ OutOfMemory) ⊎ ((result ≡ Stripe number cause) × (cause ≢ stripe.OutOfMemory)) }
-{
-    match cause {
-        StripeFault::OutOfMemory => FileFault::OutOfMemory,
-        cause => FileFault::Stripe(number, cause),
     }
 }
 

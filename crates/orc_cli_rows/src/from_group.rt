@@ -15,13 +15,13 @@ ghost use Rattle.orc_cli_output.specs.declared.fault.CliFault.TheVariants.{File}
 ghost use Rattle.orc_cli_rows.specs.Rows.{IsOfRows};
 ghost use Rattle.orc_cli_rows.specs.FromGroup.{AreFromGroup, AreLinesFrom, StopsAtGroup, EndsAtGroup};
 
-use crate::faults::fault_of;
 use crate::lines::lines_of;
 use crate::start::Start;
 use orc_cli_output::{CliFault, write_out};
 use orc_file::{FileFault, OrcFile, Source, Tail, view_stripe};
 use orc_json::RowPrinter;
 use orc_stripe::{Spot, StripeFault};
+use orc_tail::stripe_fault;
 use orc_types::{Schema, fits};
 use orc_values::Row;
 use std::alloc::Global;
@@ -59,12 +59,12 @@ fn rows_from<'a>(
     let view = view_stripe(alloc, tail, number, bytes)?;
     let cursor = match view.cursor_at(alloc, u64::from(group)) {
         Ok(cursor) => cursor,
-        Err(why) => return Err(fault_of(number, why)),
+        Err(why) => return Err(stripe_fault(number, why)),
     };
     match cursor.rest() {
         Ok(rows) if all_fit(&tail.schema, &rows) => Ok(rows),
         Ok(_) => Err(FileFault::Stripe(number, StripeFault::BadPosition(Spot::Stripe))),
-        Err(why) => Err(fault_of(number, why)),
+        Err(why) => Err(stripe_fault(number, why)),
     }
 }
 

@@ -8,10 +8,10 @@ ghost use Rattle.orc_file.specs.FileRows.{IsNoStripe};
 ghost use Rattle.orc_cli_rows.specs.Rows.{IsOfRows};
 ghost use Rattle.orc_cli_rows.specs.Pieces.{HasNoLines};
 
-use crate::faults::fault_of;
 use orc_cli_output::CliFault;
 use orc_column_walk::walk_columns;
 use orc_stripe::{StripeFault, StripeView};
+use orc_tail::stripe_fault;
 use orc_types::JsonFault;
 use std::alloc::Global;
 
@@ -41,7 +41,7 @@ pub(crate) fn judge(alloc: Global, number: usize, view: &StripeView<'_>) -> Resu
 {
     match walk(alloc, view) {
         Ok(()) => Ok(()),
-        Err(why) => Err(CliFault::File(fault_of(number, why))),
+        Err(why) => Err(CliFault::File(stripe_fault(number, why))),
     }
 }
 

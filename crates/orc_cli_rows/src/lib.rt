@@ -1,7 +1,6 @@
 //! A file's rows as lines of JSON.
 #![tactic(auto)]
 
-mod faults;
 mod from_group;
 mod judging;
 mod lines;

@@ -1,5 +1,6 @@
 //! Why bytes are no file, or why a file can't be read or written.
-ghost use Rattle.std.specs.Prelude.{◌≡◌};
+ghost use Rattle.std.specs.Prelude.{◌≡◌, ◌≢◌, ◌⊎◌};
+ghost use Rattle.orc_column_reader.specs.declared.fault.StripeFault.TheVariants as stripe;
 ghost use Rattle.orc_tail.specs.declared.fault.FileFault.TheVariants as fault;
 
 use orc_column_reader::fault::StripeFault;
@@ -76,5 +77,17 @@ impl<T: Drop> From<AllocFailed<T>> for FileFault {
 
     fn from(_: AllocFailed<T>) -> FileFault {
         FileFault::OutOfMemory
+    }
+}
+
+/// The file's fault where its stripe with this number is refused.
+pub fn stripe_fault(number: usize, cause: StripeFault) -> FileFault
+    // Want of memory is the file's own; every other cause is answered with the stripe's number.
+    ensures { ((cause ≡ stripe.OutOfMemory) × (result ≡ fault.OutOfMemory))
+        ⊎ ((cause ≢ stripe.OutOfMemory) × (result ≡ fault.Stripe number cause)) }
+{
+    match cause {
+        StripeFault::OutOfMemory => FileFault::OutOfMemory,
+        cause => FileFault::Stripe(number, cause),
     }
 }

@@ -5,7 +5,7 @@ mod fault;
 mod laws;
 mod tail;
 
-pub use fault::FileFault;
+pub use fault::{FileFault, stripe_fault};
 pub use laws::{image_laws, tail_laws};
 pub use tail::{
     MOST_BYTES, MOST_ROWS, MOST_STRIPE_ROWS, MOST_STRIPES, Tail, file_statistics, read_capped_tail,

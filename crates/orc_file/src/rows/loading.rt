@@ -14,21 +14,10 @@ ghost use Rattle.orc_tail.specs.declared.fault.FileFault.TheVariants.{Stripe, So
 
 use crate::file::OrcFile;
 use orc_io::Source;
-use orc_stripe::{StripeFault, StripeView};
-use orc_tail::{FileFault, Tail, stripe_length};
+use orc_stripe::StripeView;
+use orc_tail::{FileFault, Tail, stripe_fault, stripe_length};
 use orc_values::Row;
 use std::alloc::Global;
-
-/// The fault of the stripe with this number.
-fn stripe_fault(number: usize, cause: StripeFault) -> FileFault
-    ensures memory { cause ≡ stripe.OutOfMemory → result ≡ OutOfMemory }
-    ensures either { (result ≡ OutOfMemory) ⊎ ((result ≡ Stripe number cause) × (cause ≢ stripe.OutOfMemory)) }
-{
-    match cause {
-        StripeFault::OutOfMemory => FileFault::OutOfMemory,
-        cause => FileFault::Stripe(number, cause),
-    }
-}
 
 /// Fills the vector with the bytes of the stripe with this number, which are read in one call; of a stripe without
 /// bytes nothing is asked. After a refusal the vector holds anything.

@@ -21,7 +21,7 @@ returns-clause-fault g c =
     let same = c.in_ok-view.ensures.same in
     stripe_read (g.S.Source.told c.args.source.now) tail.schema info n c.load_stripe.new.into.items c.stripe_fault.result c.in_ok-load_stripe.ensures.bytes
     (subst (λ (b : List ℕ). NoRows tail.schema info n b c.stripe_fault.result) c.deref.ensures.value
-    (no_columns c.in_ok-view.view tail.schema info c.deref.result.now n c.in-Err.cause c.stripe_fault.result c.in_ok-view.ensures.found same.0 same.1 same.3 c.in-Err.ensures.fault c.stripe_fault.ensures.either))
+    (no_columns c.in_ok-view.view tail.schema info c.deref.result.now n c.in-Err.cause c.stripe_fault.result c.in_ok-view.ensures.found same.0 same.1 same.3 c.in-Err.ensures.fault c.stripe_fault.ensures))
 
 pub returns-in_err-view-clause-named : goal.returns-in_err-view-clause-named
 returns-in_err-view-clause-named g c =
@@ -38,4 +38,4 @@ returns-clause-named g c =
     let info = stripe_at tail.stripes n in
     let same = c.in_ok-view.ensures.same in
     stripe_named tail.schema info n c.deref.result.now c.stripe_fault.result
-    (no_columns c.in_ok-view.view tail.schema info c.deref.result.now n c.in-Err.cause c.stripe_fault.result c.in_ok-view.ensures.found same.0 same.1 same.3 c.in-Err.ensures.fault c.stripe_fault.ensures.either)
+    (no_columns c.in_ok-view.view tail.schema info c.deref.result.now n c.in-Err.cause c.stripe_fault.result c.in_ok-view.ensures.found same.0 same.1 same.3 c.in-Err.ensures.fault c.stripe_fault.ensures)

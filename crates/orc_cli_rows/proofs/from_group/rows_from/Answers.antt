@@ -19,7 +19,7 @@ returns-in-Err-clause-fault c =
     let view = c.in_ok-view.view in
     let starts = rw (c.from.ensures) at c.in-Err.ensures.starts in
     let fault = rw (c.from.ensures) at c.in-Err.ensures.fault in
-    stripe_fault c.fault_of.result c.args.number c.in-Err.why (λ (w : StripeFault). StopsAtGroup tail c.args.number bytes c.args.group w) c.fault_of.ensures
+    stripe_fault c.stripe_fault.result c.args.number c.in-Err.why (λ (w : StripeFault). StopsAtGroup tail c.args.number bytes c.args.group w) c.stripe_fault.ensures
     (λ other. stops_view tail c.args.number bytes c.args.group view c.in_ok-view.ensures.same c.in_ok-view.ensures.found c.in-Err.why (λ x all s. other (starts x all s)) (inl (fault other)))
 
 pub returns-in-Ok-rest-clause-found : goal.returns-in-Ok-rest-clause-found
@@ -63,7 +63,7 @@ returns-clause-fault c =
     let starts = rw (c.from.ensures) at c.in-Ok.ensures.starts in
     let there = rw (c.from.ensures) at c.in-Ok.ensures.there in
     let meets = rw (c.from.ensures) at c.in-Ok.ensures.meets in
-    stripe_fault c.fault_of-in-Err-rest.result c.args.number c.in-Err-rest.why (λ (w : StripeFault). StopsAtGroup tail c.args.number bytes c.args.group w) c.fault_of-in-Err-rest.ensures
+    stripe_fault c.stripe_fault-in-Err-rest.result c.args.number c.in-Err-rest.why (λ (w : StripeFault). StopsAtGroup tail c.args.number bytes c.args.group w) c.stripe_fault-in-Err-rest.ensures
     (λ other. stops_view tail c.args.number bytes c.args.group view c.in_ok-view.ensures.same c.in_ok-view.ensures.found c.in-Err-rest.why
     (λ x all s. other (c.in-Err-rest.ensures.only (drop (c.args.group * view.stride) all) (starts x all s)))
     (inr (record {
