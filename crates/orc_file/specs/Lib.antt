@@ -8,3 +8,4 @@ pub mod Counting
 pub mod Writing
 pub mod Held
 pub mod Progress
+pub mod Pushing

@@ -15,7 +15,7 @@ ghost use Rattle.orc_io.specs.Devices.{appended};
 ghost use Rattle.orc_tail.specs.Stripes.{stripe_length, stripes_length, stripes_rows, most_stripes, most_rows, most_bytes};
 ghost use Rattle.orc_file.specs.Counts.{are_laid_with_few_rows, are_few, are_all_stats, with_row, PassesLimit};
 ghost use Rattle.orc_file.specs.Writing.{HasTaken, HasKept, HasPushed, HasFilled, IsCutOff, IsWhole, PassesBytes};
-ghost use Rattle.orc_file.specs.RowLimits.{PassesByRows};
+ghost use Rattle.orc_file.specs.Pushing.{AddsRow, TakesRow};
 ghost use Rattle.orc_file.specs.Progress.{progress};
 ghost use Rattle.orc_tail.specs.declared.fault.FileFault.TheVariants as fault;
 
@@ -353,80 +353,15 @@ impl<W: Sink> Writer<W> {
     pub fn push_owned(&mut self, row: Row<'static>) -> Result<(), FileFault>
         // Where the output tells its bytes, a push that succeeds adds its row behind those pushed;
         // a stripe goes out with its last row, and not before.
-        ensures pushed { (first : Option (List ℕ)) (rows : List Cell)
-            → HasPushed (progress W.told self.old) first rows
-            → OnOk result (HasPushed (progress W.told self.new) first (rows ++ view row.entry ∷ [])) }
-        // Where the output tells its bytes, it has got as many as the writer counts, after each
-        // answer.
-        ensures taken { (first : Option (List ℕ)) → HasTaken first (W.told self.old.out) self.old.written
-            → HasTaken first (W.told self.new.out) self.new.written }
-        // The writer keeps its schema and its options.
-        ensures same { (self.new.schema ≡ self.old.schema) × (self.new.options ≡ self.old.options) }
-
-        // Failed is answered exactly where an earlier call failed.
-        ensures failed { IsErrOf result fault.Failed ↔ (self.old.failed ≡ true) }
-        // Where the writer has not failed, RowShape is answered exactly where the row doesn't fit.
-        ensures shape { self.old.failed ≡ false → (IsErrOf result fault.RowShape
-            ↔ (fitting.fits (view row.entry) self.old.schema ≡ false)) }
-        // Where it has not failed and the row fits, passing a limit of stripes, rows or a column's
-        // cells is refused as Limit, and it has not failed then.
-        ensures limit { self.old.failed ≡ false → fitting.fits (view row.entry) self.old.schema ≡ true
-            → (PassesLimit self.old.schema self.old.infos.items self.old.total self.old.counts.items (view row.entry)
-            → IsErrOf result fault.Limit × (self.new.failed ≡ false)) }
-        // A Limit after which it has not failed comes only where one of these limits would be
-        // passed.
-        ensures only_limit { IsErrOf result fault.Limit → self.new.failed ≡ false
-            → PassesLimit self.old.schema self.old.infos.items self.old.total self.old.counts.items (view row.entry) }
-        // By its counts the writer would pass one of these limits exactly where it would by the rows
-        // that were pushed.
-        ensures counted { (first : Option (List ℕ)) (rows : List Cell)
-            → HasPushed (progress W.told self.old) first rows
-            → (PassesLimit self.old.schema self.old.infos.items self.old.total self.old.counts.items (view row.entry)
-            ↔ PassesByRows self.old.options self.old.schema rows (view row.entry)) }
-        // A Limit after which it has failed comes only where the stripe that ends with this row
-        // would pass the limit of the stripes' bytes.
-        ensures long { IsErrOf result fault.Limit → self.new.failed ≡ true
-            → PassesBytes self.old.options self.old.schema self.old.infos.items
-            (kept_rows self.old.schema self.old.batch
-            ++ view row.entry ∷ []) }
-        // A Limit after which it has failed comes only with a row that fills its stripe.
-        ensures full { IsErrOf result fault.Limit → self.new.failed ≡ true
-            → self.old.options.stripe_rows ≤ length (kept_rows self.old.schema self.old.batch) + 1 }
-        // A refusal is Failed, RowShape, Limit, WriteFailed or want of memory.
-        ensures refused { IfErr result (λ e. (e ≡ fault.Failed)
-            ⊎ ((e ≡ fault.RowShape) ⊎ ((e ≡ fault.Limit) ⊎ ((e ≡ fault.WriteFailed) ⊎ (e ≡ fault.OutOfMemory))))) }
-        // After RowShape the writer has not failed.
-        ensures shape_stays { IsErrOf result fault.RowShape → self.new.failed ≡ false }
-        // Where a push is refused and the writer hasn't failed by it, its output, stripes, rows and
-        // counts are as they were.
-        ensures unchanged { OnErr result (self.new.failed ≡ self.old.failed → (self.new.out ≡ self.old.out)
-            × (self.new.written ≡ self.old.written) × (self.new.infos ≡ self.old.infos)
-            × (self.new.stats ≡ self.old.stats)
-            × (self.new.batch ≡ self.old.batch) × (self.new.counts ≡ self.old.counts)
-            × (self.new.total ≡ self.old.total)
-            × (self.new.failed ≡ self.old.failed)) }
-        // After WriteFailed and want of memory it has failed; once failed it stays so, and after a
-        // success it has not failed.
-        ensures write_fails { IsErrOf result fault.WriteFailed → self.new.failed ≡ true }
-        ensures memory_fails { IsErrOf result fault.OutOfMemory → self.new.failed ≡ true }
-        ensures stays_failed { self.old.failed ≡ true → self.new.failed ≡ true }
-        ensures ok { OnOk result (self.new.failed ≡ false) }
-
-        // Where the output tells its bytes and the writer fails by this push, what was written is
-        // the front of a file of the first rows pushed, for some number of them, this row counted.
-        ensures cut { (first : Option (List ℕ)) (rows : List Cell)
-            → HasPushed (progress W.told self.old) first rows
-            → self.old.failed ≡ false → self.new.failed ≡ true
-            → IsCutOff self.old.options self.old.schema first (W.told self.new.out)
-            (rows ++ view row.entry ∷ []) }
-        // The output's count of failures rises with WriteFailed, and stands where the push succeeds
-        // or memory is refused.
-        ensures write_failed { IsErrOf result fault.WriteFailed → W.failures self.old.out < W.failures self.new.out }
-        ensures memory { IsErrOf result fault.OutOfMemory → W.failures self.new.out ≡ W.failures self.old.out }
-        ensures no_failure { OnOk result (W.failures self.new.out ≡ W.failures self.old.out) }
-        // With every other refusal than WriteFailed the output's count of failures stands.
-        ensures unfailed { IfErr result
-            (λ e. (e ≡ fault.WriteFailed) ⊎ (W.failures self.new.out ≡ W.failures self.old.out)) }
+        ensures pushed { AddsRow (progress W.told self.old) (progress W.told self.new) (view row.entry) result }
+        // Failed and RowShape are answered exactly where an earlier call failed, or the row doesn't
+        // fit. Limit is answered only where a limit would be passed: of the stripes' bytes, after
+        // which the writer has failed, as after WriteFailed and want of memory; or of stripes, rows
+        // or a column's cells, which leaves its output, stripes, rows and counts as they were, as
+        // Failed and RowShape do. Where it fails by this push and the output tells its bytes, the
+        // front of a file is out. The output's count of failures rises with WriteFailed alone. Each
+        // of these is a field of `TakesRow`.
+        ensures takes { TakesRow W.told W.failures self.old self.new (view row.entry) result }
     {
         let pushed = self.push(&row);
         self.spare = row;
@@ -444,80 +379,15 @@ impl<W: Sink> Writer<W> {
     pub fn push(&mut self, row: &Row<'_>) -> Result<(), FileFault>
         // Where the output tells its bytes, a push that succeeds adds its row behind those pushed;
         // a stripe goes out with its last row, and not before.
-        ensures pushed { (first : Option (List ℕ)) (rows : List Cell)
-            → HasPushed (progress W.told self.old) first rows
-            → OnOk result (HasPushed (progress W.told self.new) first (rows ++ view row.now ∷ [])) }
-        // Where the output tells its bytes, it has got as many as the writer counts, after each
-        // answer.
-        ensures taken { (first : Option (List ℕ)) → HasTaken first (W.told self.old.out) self.old.written
-            → HasTaken first (W.told self.new.out) self.new.written }
-        // The writer keeps its schema and its options.
-        ensures same { (self.new.schema ≡ self.old.schema) × (self.new.options ≡ self.old.options) }
-
-        // Failed is answered exactly where an earlier call failed.
-        ensures failed { IsErrOf result fault.Failed ↔ (self.old.failed ≡ true) }
-        // Where the writer has not failed, RowShape is answered exactly where the row doesn't fit.
-        ensures shape { self.old.failed ≡ false → (IsErrOf result fault.RowShape
-            ↔ (fitting.fits (view row.now) self.old.schema ≡ false)) }
-        // Where it has not failed and the row fits, passing a limit of stripes, rows or a column's
-        // cells is refused as Limit, and it has not failed then.
-        ensures limit { self.old.failed ≡ false → fitting.fits (view row.now) self.old.schema ≡ true
-            → (PassesLimit self.old.schema self.old.infos.items self.old.total self.old.counts.items (view row.now)
-            → IsErrOf result fault.Limit × (self.new.failed ≡ false)) }
-        // A Limit after which it has not failed comes only where one of these limits would be
-        // passed.
-        ensures only_limit { IsErrOf result fault.Limit → self.new.failed ≡ false
-            → PassesLimit self.old.schema self.old.infos.items self.old.total self.old.counts.items (view row.now) }
-        // By its counts the writer would pass one of these limits exactly where it would by the rows
-        // that were pushed.
-        ensures counted { (first : Option (List ℕ)) (rows : List Cell)
-            → HasPushed (progress W.told self.old) first rows
-            → (PassesLimit self.old.schema self.old.infos.items self.old.total self.old.counts.items (view row.now)
-            ↔ PassesByRows self.old.options self.old.schema rows (view row.now)) }
-        // A Limit after which it has failed comes only where the stripe that ends with this row
-        // would pass the limit of the stripes' bytes.
-        ensures long { IsErrOf result fault.Limit → self.new.failed ≡ true
-            → PassesBytes self.old.options self.old.schema self.old.infos.items
-            (kept_rows self.old.schema self.old.batch
-            ++ view row.now ∷ []) }
-        // A Limit after which it has failed comes only with a row that fills its stripe.
-        ensures full { IsErrOf result fault.Limit → self.new.failed ≡ true
-            → self.old.options.stripe_rows ≤ length (kept_rows self.old.schema self.old.batch) + 1 }
-        // A refusal is Failed, RowShape, Limit, WriteFailed or want of memory.
-        ensures refused { IfErr result (λ e. (e ≡ fault.Failed)
-            ⊎ ((e ≡ fault.RowShape) ⊎ ((e ≡ fault.Limit) ⊎ ((e ≡ fault.WriteFailed) ⊎ (e ≡ fault.OutOfMemory))))) }
-        // After RowShape the writer has not failed.
-        ensures shape_stays { IsErrOf result fault.RowShape → self.new.failed ≡ false }
-        // Where a push is refused and the writer hasn't failed by it, its output, stripes, rows and
-        // counts are as they were.
-        ensures unchanged { OnErr result (self.new.failed ≡ self.old.failed → (self.new.out ≡ self.old.out)
-            × (self.new.written ≡ self.old.written) × (self.new.infos ≡ self.old.infos)
-            × (self.new.stats ≡ self.old.stats)
-            × (self.new.batch ≡ self.old.batch) × (self.new.counts ≡ self.old.counts)
-            × (self.new.total ≡ self.old.total)
-            × (self.new.failed ≡ self.old.failed)) }
-        // After WriteFailed and want of memory it has failed; once failed it stays so, and after a
-        // success it has not failed.
-        ensures write_fails { IsErrOf result fault.WriteFailed → self.new.failed ≡ true }
-        ensures memory_fails { IsErrOf result fault.OutOfMemory → self.new.failed ≡ true }
-        ensures stays_failed { self.old.failed ≡ true → self.new.failed ≡ true }
-        ensures ok { OnOk result (self.new.failed ≡ false) }
-
-        // Where the output tells its bytes and the writer fails by this push, what was written is
-        // the front of a file of the first rows pushed, for some number of them, this row counted.
-        ensures cut { (first : Option (List ℕ)) (rows : List Cell)
-            → HasPushed (progress W.told self.old) first rows
-            → self.old.failed ≡ false → self.new.failed ≡ true
-            → IsCutOff self.old.options self.old.schema first (W.told self.new.out)
-            (rows ++ view row.now ∷ []) }
-        // The output's count of failures rises with WriteFailed, and stands where the push succeeds
-        // or memory is refused.
-        ensures write_failed { IsErrOf result fault.WriteFailed → W.failures self.old.out < W.failures self.new.out }
-        ensures memory { IsErrOf result fault.OutOfMemory → W.failures self.new.out ≡ W.failures self.old.out }
-        ensures no_failure { OnOk result (W.failures self.new.out ≡ W.failures self.old.out) }
-        // With every other refusal than WriteFailed the output's count of failures stands.
-        ensures unfailed { IfErr result
-            (λ e. (e ≡ fault.WriteFailed) ⊎ (W.failures self.new.out ≡ W.failures self.old.out)) }
+        ensures pushed { AddsRow (progress W.told self.old) (progress W.told self.new) (view row.now) result }
+        // Failed and RowShape are answered exactly where an earlier call failed, or the row doesn't
+        // fit. Limit is answered only where a limit would be passed: of the stripes' bytes, after
+        // which the writer has failed, as after WriteFailed and want of memory; or of stripes, rows
+        // or a column's cells, which leaves its output, stripes, rows and counts as they were, as
+        // Failed and RowShape do. Where it fails by this push and the output tells its bytes, the
+        // front of a file is out. The output's count of failures rises with WriteFailed alone. Each
+        // of these is a field of `TakesRow`.
+        ensures takes { TakesRow W.told W.failures self.old self.new (view row.now) result }
     {
         self.admit(row)?;
         self.add(row)

@@ -55,7 +55,7 @@ returns-in_err-push_owned-clause-refused g c = λ ready.
     let spare = c.spare_row-spare.ensures in
     let w = c.spare_row-spare.new.self in
     let n = c.push_owned.new.self in
-    let e = c.in_err-push_owned.ensures in
+    let e = c.in_err-push_owned.ensures.takes in
     let row = view c.in_ok-row.row in
     let begun = spare.stays.7 ∙ ready in
     let spells = rw (c.schema-schema.ensures, spare.same.0) at c.in_ok-row.ensures.found in
@@ -84,7 +84,7 @@ returns-in_err-push_owned-clause-refused g c = λ ready.
 pub returns-in_err-push_owned-clause-memory : goal.returns-in_err-push_owned-clause-memory
 returns-in_err-push_owned-clause-memory g c =
     let p = err_from_is_err_and c.from_residual-in_err-push_owned.result c.from_residual-in_err-push_owned.ensures.1 in
-    rw (p.1, p.2) (λ want. c.in_err-push_owned.ensures.memory (ap Err (file_want c.in_err-push_owned.field-0.0 want)) ∙ ap g.W.Sink.failures c.spare_row-spare.ensures.stays.0)
+    rw (p.1, p.2) (λ want. c.in_err-push_owned.ensures.takes.memory (ap Err (file_want c.in_err-push_owned.field-0.0 want)) ∙ ap g.W.Sink.failures c.spare_row-spare.ensures.stays.0)
 
 pub returns-in_err-row-clause-layer : goal.returns-in_err-row-clause-layer
 returns-in_err-row-clause-layer g c =
@@ -94,4 +94,4 @@ returns-in_err-row-clause-layer g c =
 pub returns-in_err-push_owned-clause-layer : goal.returns-in_err-push_owned-clause-layer
 returns-in_err-push_owned-clause-layer g c =
     let p = err_from_is_err_and c.from_residual-in_err-push_owned.result c.from_residual-in_err-push_owned.ensures.1 in
-    rw (p.1, p.2) (λ q. pushed_no_source c.in_err-push_owned.field-0.0 c.in_err-push_owned.ensures.refused q)
+    rw (p.1, p.2) (λ q. pushed_no_source c.in_err-push_owned.field-0.0 c.in_err-push_owned.ensures.takes.refused q)

@@ -18,9 +18,9 @@ loop-row-preserved g c =
     let inv = c.loop-row.invariant in
     let row = c.row-item.result in
     record {
-      schema = c.push.ensures.same.0 ∙ inv.schema;
-      options = c.push.ensures.same.1 ∙ inv.options;
-      going = λ was. c.in_ok-push.ensures.ok;
+      schema = c.push.ensures.takes.same.0 ∙ inv.schema;
+      options = c.push.ensures.takes.same.1 ∙ inv.options;
+      going = λ was. c.in_ok-push.ensures.takes.ok;
       pushed = (
         inv.pushed.0 ++ view c.row-item.result ∷ [],
         pushed_more view c.args.rows.now c.loop-row.row-index c.row-item.result inv.pushed.0 c.loop-row-test.true c.row-item.is inv.pushed.1,
@@ -44,4 +44,4 @@ returns-in_err-push-clause-cut g c = λ first before pushed was wrote.
     let why = rw (p.1, p.2) at wrote in
     cut_of_all view c.args.writer.now.options c.loop-row.writer.options c.args.writer.now.schema c.loop-row.writer.schema first (g.W.Sink.told c.push.new.self.out) before inv.pushed.0
     c.args.rows.now c.loop-row.row-index c.row-item.result inv.options inv.schema c.loop-row-test.true c.row-item.is inv.pushed.1
-    (c.in_err-push.ensures.cut first (before ++ inv.pushed.0) (inv.pushed.2 first before pushed) (inv.going was) (c.in_err-push.ensures.write_fails why))
+    (c.in_err-push.ensures.takes.cut first (before ++ inv.pushed.0) (inv.pushed.2 first before pushed) (inv.going was) (c.in_err-push.ensures.takes.write_fails why))
