@@ -9,3 +9,4 @@ pub mod Writing
 pub mod Held
 pub mod Progress
 pub mod Pushing
+pub mod Loading

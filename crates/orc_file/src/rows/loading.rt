@@ -1,14 +1,13 @@
 //! A stripe's bytes, read in one call, the view of them, and their rows.
-ghost use Rattle.std.specs.Prelude.{◌≡◌, ◌≢◌, ◌<◌, ◌≤◌, ◌^◌, ◌⊎◌, length, false, Err, OnOk, IfOk, IfErr, IfSome, IsErrOf, MatchResult, vec_capacity};
-ghost use Rattle.orc_wire.specs.declared.stripe_footer.StripeFooter.{StripeFooter};
+ghost use Rattle.std.specs.Prelude.{◌≡◌, ◌≢◌, ◌<◌, ◌≤◌, ◌^◌, ◌⊎◌, length, false, Err, OnOk, IfOk, IfErr, vec_capacity};
 ghost use Rattle.std.specs.Bool.{OnTrue, OnFalse};
-ghost use Rattle.orc_column_reader.specs.Stripe.{HasFooter, IsStripe};
-ghost use Rattle.orc_stripe.specs.Opening.{OpenFault};
+ghost use Rattle.orc_column_reader.specs.Stripe.{IsStripe};
 ghost use Rattle.orc_column_reader.specs.declared.fault.StripeFault.{StripeFault};
 ghost use Rattle.orc_column_reader.specs.declared.fault.StripeFault.TheVariants as stripe;
 ghost use Rattle.orc_values.specs.Views.{views};
 ghost use Rattle.orc_tail.specs.Stripes.{AllBefore, most_bytes, stripe_length, stripe_at, stripes_length};
-ghost use Rattle.orc_file.specs.FileRows.{stripe_bytes, IsNoStripe};
+ghost use Rattle.orc_file.specs.FileRows.{IsNoStripe};
+ghost use Rattle.orc_file.specs.Loading.{LoadsStripe, ViewsStripe};
 ghost use Rattle.orc_tail.specs.Caps.{no_cap};
 ghost use Rattle.orc_tail.specs.declared.fault.FileFault.TheVariants.{Stripe, SourceFailed, OutOfMemory, Limit};
 
@@ -32,26 +31,12 @@ pub fn load_stripe<S: Source>(
     requires there { number < length tail.now.stripes }
     requires within { AllBefore (S.size source.old) tail.now.stripes }
     requires most { stripes_length tail.now.stripes ≤ most_bytes }
-    // Where the source tells its bytes and the call succeeds, the vector has the bytes of the
-    // stripe.
-    ensures bytes { OnOk result (IfSome (S.told source.old)
-        (λ bytes. into.new.items ≡ stripe_bytes (stripe_at tail.now.stripes number) bytes)) }
-    // Over any source the vector has then as many bytes as the stripe.
-    ensures length { OnOk result (length into.new.items ≡ stripe_length (stripe_at tail.now.stripes number)) }
-    // After each answer the source tells what it told, and has the length that it had.
-    ensures told { S.told source.new ≡ S.told source.old }
-    ensures size { S.size source.new ≡ S.size source.old }
-
+    // Where the call succeeds, the vector has the bytes of the stripe, which are known where the source tells its bytes.
+    // The source tells what it told, and its failures are counted, as the fields of `LoadsStripe` say.
+    ensures loaded { LoadsStripe S.told S.size S.failures source.old source.new (stripe_at tail.now.stripes number)
+        (vec_capacity into.old) into.new.items result }
     // A refusal is want of memory or SourceFailed.
     ensures fault { IfErr result (λ fault. (fault ≡ OutOfMemory) ⊎ (fault ≡ SourceFailed)) }
-    // The source's count of failures rises with SourceFailed, and stands where the call succeeds or
-    // memory is refused.
-    ensures kept { OnOk result (S.failures source.new ≡ S.failures source.old) }
-    ensures failed { IsErrOf result SourceFailed → S.failures source.old < S.failures source.new }
-    ensures memory { IsErrOf result OutOfMemory → S.failures source.new ≡ S.failures source.old }
-    // Memory is refused only where the vector's capacity was below the stripe's length.
-    ensures room { IsErrOf result OutOfMemory
-        → vec_capacity into.old < stripe_length (stripe_at tail.now.stripes number) }
 {
     let stripe = tail.stripes.as_slice()[number];
     let len = stripe_length(stripe);
@@ -73,21 +58,9 @@ pub fn view_stripe<'a>(
     bytes: &'a [u8],
 ) -> Result<StripeView<'a>, FileFault>
     requires { number < length tail.now.stripes }
-    // The view's footer is the one that the stripe's bytes have by the tail's schema.
-    ensures found { IfOk result
-        (λ view. HasFooter tail.now.schema (stripe_at tail.now.stripes number) bytes.now view.footer) }
-    // The view is that of this stripe over these bytes, with the tail's schema and stride.
-    ensures same { IfOk result (λ view. (view.schema ≡ tail.now.schema)
-        × (view.info ≡ stripe_at tail.now.stripes number)
-        × (view.stride ≡ tail.now.stride) × (view.bytes ≡ bytes.now)) }
-    // Where the bytes have a footer, the view is answered with it, or memory is refused.
-    ensures only { (footer : StripeFooter)
-        → HasFooter tail.now.schema (stripe_at tail.now.stripes number) bytes.now footer
-        → MatchResult result (λ view. view.footer ≡ footer) (λ fault. fault ≡ OutOfMemory) }
-    // A refusal is want of memory, or it names the stripe and why its footer isn't accepted.
-    ensures fault { IfErr result (λ fault. (fault ≡ OutOfMemory)
-        ⊎ ((why : StripeFault) × (fault ≡ Stripe number why) × (why ≢ stripe.OutOfMemory)
-        × OpenFault tail.now.schema (stripe_at tail.now.stripes number) bytes.now why)) }
+    // The view is that of this stripe over these bytes, by the tail's schema; a refusal is want of memory, or it names the
+    // stripe and why its footer isn't accepted, as the fields of `ViewsStripe` say.
+    ensures { ViewsStripe tail.now number bytes.now result }
 {
     let stripe = tail.stripes.as_slice()[number];
     match StripeView::open(alloc, &tail.schema, stripe, tail.stride, bytes) {
@@ -141,19 +114,13 @@ impl<S: Source> OrcFile<S> {
     /// the vector touched; `SourceFailed` where the source failed; `OutOfMemory`.
     pub fn load(&mut self, number: usize, into: &mut Vec<u8>) -> Result<(), FileFault>
         requires { number < length self.old.tail.stripes }
-        // Where the source tells its bytes and the call succeeds, the vector has the bytes of the
-        // stripe.
-        ensures bytes { OnOk result (IfSome (S.told self.old.source)
-            (λ bytes. into.new.items ≡ stripe_bytes (stripe_at self.old.tail.stripes number) bytes)) }
-        // Over any source the vector has then as many bytes as the stripe.
-        ensures length { OnOk result
-            (length into.new.items ≡ stripe_length (stripe_at self.old.tail.stripes number)) }
-        // After each answer the file has the tail and the cap that it had, and its source tells
-        // what it told and has the length that it had.
+        // Where the call succeeds, the vector has the bytes of the stripe, which are known where the source tells its
+        // bytes. The source tells what it told, and its failures are counted, as the fields of `LoadsStripe` say.
+        ensures loaded { LoadsStripe S.told S.size S.failures self.old.source self.new.source
+            (stripe_at self.old.tail.stripes number) (vec_capacity into.old) into.new.items result }
+        // After each answer the file has the tail and the cap that it had.
         ensures tail { self.new.tail ≡ self.old.tail }
         ensures cap { self.new.cap ≡ self.old.cap }
-        ensures told { S.told self.new.source ≡ S.told self.old.source }
-        ensures size { S.size self.new.source ≡ S.size self.old.source }
 
         // Where the stripe is longer than the cap, the answer is Limit, with file and vector as
         // they were.
@@ -168,14 +135,6 @@ impl<S: Source> OrcFile<S> {
         // With the greatest cap a refusal is want of memory or SourceFailed alone.
         ensures uncapped { self.old.cap ≡ no_cap → IfErr result
             (λ fault. (fault ≡ OutOfMemory) ⊎ (fault ≡ SourceFailed)) }
-        // The source's count of failures rises with SourceFailed, and stands where the call
-        // succeeds or memory is refused.
-        ensures kept { OnOk result (S.failures self.new.source ≡ S.failures self.old.source) }
-        ensures failed { IsErrOf result SourceFailed → S.failures self.old.source < S.failures self.new.source }
-        ensures memory { IsErrOf result OutOfMemory → S.failures self.new.source ≡ S.failures self.old.source }
-        // Memory is refused only where the vector's capacity was below the stripe's length.
-        ensures room { IsErrOf result OutOfMemory
-            → vec_capacity into.old < stripe_length (stripe_at self.old.tail.stripes number) }
     {
         if self.is_above_cap(number) {
             return Err(FileFault::Limit);
@@ -193,22 +152,9 @@ impl<S: Source> OrcFile<S> {
         bytes: &'a [u8],
     ) -> Result<StripeView<'a>, FileFault>
         requires { number < length self.now.tail.stripes }
-        // The view's footer is the one that the stripe's bytes have by the file's schema.
-        ensures found { IfOk result
-            (λ view. HasFooter self.now.tail.schema (stripe_at self.now.tail.stripes number) bytes.now view.footer) }
-        // The view is that of this stripe over these bytes, with the schema and the stride of the
-        // file.
-        ensures same { IfOk result (λ view. (view.schema ≡ self.now.tail.schema)
-            × (view.info ≡ stripe_at self.now.tail.stripes number)
-            × (view.stride ≡ self.now.tail.stride) × (view.bytes ≡ bytes.now)) }
-        // Where the bytes have a footer, the view is answered with it, or memory is refused.
-        ensures only { (footer : StripeFooter)
-            → HasFooter self.now.tail.schema (stripe_at self.now.tail.stripes number) bytes.now footer
-            → MatchResult result (λ view. view.footer ≡ footer) (λ fault. fault ≡ OutOfMemory) }
-        // A refusal is want of memory, or it names the stripe and why its footer isn't accepted.
-        ensures fault { IfErr result (λ fault. (fault ≡ OutOfMemory)
-            ⊎ ((why : StripeFault) × (fault ≡ Stripe number why) × (why ≢ stripe.OutOfMemory)
-            × OpenFault self.now.tail.schema (stripe_at self.now.tail.stripes number) bytes.now why)) }
+        // The view is that of this stripe over these bytes, by the file's schema; a refusal is want of memory, or it names
+        // the stripe and why its footer isn't accepted, as the fields of `ViewsStripe` say.
+        ensures { ViewsStripe self.now.tail number bytes.now result }
     {
         view_stripe(alloc, &self.tail, number, bytes)
     }

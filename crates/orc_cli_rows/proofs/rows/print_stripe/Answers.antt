@@ -8,19 +8,19 @@ use Rattle.orc_cli_rows.proofs.rows.print_stripe.Goals as goal
 pub returns-in_err-load-clause-memory : goal.returns-in_err-load-clause-memory
 returns-in_err-load-clause-memory g c =
     let p = err_from_is_err_and c.from_residual.result c.from_residual.ensures.1 in
-    rw (p.1, p.2) (λ want. c.in_err-load.ensures.memory (ap Err (file_want c.in_err-load.field-0.0 want)))
+    rw (p.1, p.2) (λ want. c.in_err-load.ensures.loaded.memory (ap Err (file_want c.in_err-load.field-0.0 want)))
 
 pub returns-clause-memory : goal.returns-clause-memory
-returns-clause-memory g c = IfErr-weaker c.print_loaded.result _ _ (λ fault is want. c.in_ok-load.ensures.kept) c.print_loaded.ensures.refused
+returns-clause-memory g c = IfErr-weaker c.print_loaded.result _ _ (λ fault is want. c.in_ok-load.ensures.loaded.kept) c.print_loaded.ensures.refused
 
 pub returns-clause-written : goal.returns-clause-written
 returns-clause-written g c =
-    let bytes = rw (← c.deref.ensures.value) at c.in_ok-load.ensures.bytes in
+    let bytes = rw (← c.deref.ensures.value) at c.in_ok-load.ensures.loaded.bytes in
     let written = rw (c.tail.ensures, c.in_ok-load.ensures.tail) at c.print_loaded.ensures.written in
     on_ok_so c.print_loaded.result _ _ (printed_loaded _ _ _ _ _ _ bytes) written
 
 pub returns-clause-refused : goal.returns-clause-refused
 returns-clause-refused g c =
-    let bytes = rw (← c.deref.ensures.value) at c.in_ok-load.ensures.bytes in
+    let bytes = rw (← c.deref.ensures.value) at c.in_ok-load.ensures.loaded.bytes in
     let refused = rw (c.tail.ensures, c.in_ok-load.ensures.tail) at c.print_loaded.ensures.refused in
     IfErr-weaker c.print_loaded.result _ _ (λ fault ends. ends_loaded _ _ _ _ _ _ _ fault bytes ends) refused
