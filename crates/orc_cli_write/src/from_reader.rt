@@ -7,6 +7,7 @@ ghost use Rattle.orc_file.specs.Progress.{progress};
 ghost use Rattle.orc_file.specs.Writing.{IsWhole};
 ghost use Rattle.orc_tail.specs.declared.fault.FileFault.TheVariants as file;
 ghost use Rattle.orc_cli_write.specs.Lines.{AreRowsOf};
+ghost use Rattle.orc_cli_write.specs.Pushes.{LeavesWriter};
 ghost use Rattle.orc_cli_write.specs.Writes.{IsOfWriter, IsWantOfLines, IsWantOfWrite, EndsInLines, PushesAlso};
 ghost use Rattle.orc_cli_write.specs.Reads.{BeginWith, LeavesReading, RefusesLines};
 ghost use Rattle.orc_cli_output.specs.Output.{IsWantOfMemory, IsOfSource, write_failed};
@@ -30,10 +31,8 @@ fn push_read<L: LineReader, W: Sink>(
     ensures pushed { OnOk result ((own : List Cell)
         × IfSome (L.remaining lines.old) (λ bytes. AreRowsOf writer.old.schema bytes own)
         × PushesAlso (progress W.told writer.old) (progress W.told writer.new) own) }
-    ensures same { (writer.new.schema ≡ writer.old.schema) × (writer.new.options ≡ writer.old.options) }
-    ensures ready { OnOk result (writer.old.failed ≡ false → writer.new.failed ≡ false) }
+    ensures writer { LeavesWriter W.failures writer.old writer.new result }
     ensures kept { OnOk result (L.failures lines.new ≡ L.failures lines.old) }
-    ensures no_failure { OnOk result (W.failures writer.new.out ≡ W.failures writer.old.out) }
 
     ensures refused { writer.old.failed ≡ false → IfErr result (λ fault. (own : List Cell)
         × IfSome (L.remaining lines.old) (λ bytes. EndsInLines writer.old.schema bytes fault own
@@ -44,10 +43,6 @@ fn push_read<L: LineReader, W: Sink>(
         → L.failures lines.new ≡ L.failures lines.old + 1) }
     ensures unfailed { IfErr result (λ fault. (fault ≡ File file.SourceFailed)
         ⊎ (L.failures lines.new ≡ L.failures lines.old)) }
-    ensures write_failed { IfErr result (λ fault. fault ≡ write_failed
-        → W.failures writer.old.out < W.failures writer.new.out) }
-    ensures memory { IfErr result (λ fault. IsWantOfMemory fault
-        → W.failures writer.new.out ≡ W.failures writer.old.out) }
     ensures layer { IfErr result (λ fault. IsWantOfMemory fault → IsWantOfLines fault) }
 {
     writer.schema().limit_laws();

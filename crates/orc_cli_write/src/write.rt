@@ -7,6 +7,7 @@ ghost use Rattle.orc_file.specs.Progress.{progress};
 ghost use Rattle.orc_file.specs.Writing.{IsWhole};
 ghost use Rattle.orc_cli_write.specs.Lines.{LineSpellsRows, AreRowsOf};
 ghost use Rattle.orc_cli_output.specs.Output.{IsWantOfMemory, write_failed};
+ghost use Rattle.orc_cli_write.specs.Pushes.{LeavesWriter};
 ghost use Rattle.orc_cli_write.specs.Writes.{IsOfLine, IsOfWriter, IsWantOfWrite, EndsAtLine, EndsInLines, PushesAlso, LeavesAtLine, RefusesWrite};
 
 use crate::line_end::line_length;
@@ -26,18 +27,12 @@ pub(crate) fn push_line<W: Sink>(
 ) -> Result<(), CliFault>
     ensures pushed { OnOk result ((own : List Cell) × LineSpellsRows writer.old.schema line.now own
         × PushesAlso (progress W.told writer.old) (progress W.told writer.new) own) }
-    ensures same { (writer.new.schema ≡ writer.old.schema) × (writer.new.options ≡ writer.old.options) }
-    ensures ready { OnOk result (writer.old.failed ≡ false → writer.new.failed ≡ false) }
-    ensures no_failure { OnOk result (W.failures writer.new.out ≡ W.failures writer.old.out) }
+    ensures writer { LeavesWriter W.failures writer.old writer.new result }
 
     ensures refused { writer.old.failed ≡ false → IfErr result (λ fault. (own : List Cell) × (line.now ≢ [])
         × EndsAtLine writer.old.schema line.now fault own
         × LeavesAtLine writer.old.options writer.old.schema (progress W.told writer.old) (W.told writer.new.out)
         fault own) }
-    ensures write_failed { IfErr result (λ fault. fault ≡ write_failed
-        → W.failures writer.old.out < W.failures writer.new.out) }
-    ensures memory { IfErr result (λ fault. IsWantOfMemory fault
-        → W.failures writer.new.out ≡ W.failures writer.old.out) }
     ensures layer { IfErr result IsOfLine }
 {
     if line.is_empty() {
@@ -55,18 +50,12 @@ pub(crate) fn push_line<W: Sink>(
 fn push_lines<W: Sink>(alloc: Global, input: &[u8], writer: &mut Writer<W>) -> Result<(), CliFault>
     ensures pushed { OnOk result ((own : List Cell) × AreRowsOf writer.old.schema input.now own
         × PushesAlso (progress W.told writer.old) (progress W.told writer.new) own) }
-    ensures same { (writer.new.schema ≡ writer.old.schema) × (writer.new.options ≡ writer.old.options) }
-    ensures ready { OnOk result (writer.old.failed ≡ false → writer.new.failed ≡ false) }
-    ensures no_failure { OnOk result (W.failures writer.new.out ≡ W.failures writer.old.out) }
+    ensures writer { LeavesWriter W.failures writer.old writer.new result }
 
     ensures refused { writer.old.failed ≡ false → IfErr result (λ fault. (own : List Cell)
         × EndsInLines writer.old.schema input.now fault own
         × LeavesAtLine writer.old.options writer.old.schema (progress W.told writer.old) (W.told writer.new.out)
         fault own) }
-    ensures write_failed { IfErr result (λ fault. fault ≡ write_failed
-        → W.failures writer.old.out < W.failures writer.new.out) }
-    ensures memory { IfErr result (λ fault. IsWantOfMemory fault
-        → W.failures writer.new.out ≡ W.failures writer.old.out) }
     ensures layer { IfErr result IsOfLine }
 {
     let mut reader = RowReader::new(alloc);

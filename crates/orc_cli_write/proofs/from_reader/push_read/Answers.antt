@@ -1,4 +1,4 @@
-use Rattle.std.proofs.Common.{◌++◌, [], refl, ◌∙◌, append_assoc, append-nil, inl, inr, arith, true, false}
+use Rattle.std.proofs.Common.{◌++◌, [], refl, ◌∙◌, append_assoc, append-nil, inl, inr, arith, true, false, rules}
 use Rattle.std.proofs.lemmas.Result.{err_from_is_err_and}
 use Rattle.orc_types.specs.Schemas.{IsSchema}
 use Rattle.orc_row_batch.specs.Batch.{kept_rows}
@@ -33,11 +33,11 @@ loop-preserved g c =
     let read : ReadOf true (g.L.LineReader.remaining c.loop.lines) line (g.L.LineReader.remaining c.next_line.new.self) = rw c.if-not-branch.false at c.in_ok-next_line.ensures.found in
     let spells = spells_same s c.loop.writer.schema line _ p.0 inv.schema c.deref.ensures.value p.1 in
     record {
-      schema = c.push_line.ensures.same.0 ∙ inv.schema;
-      options = c.push_line.ensures.same.1 ∙ inv.options;
-      ready = λ r. c.in_ok-push_line.ensures.ready (inv.ready r);
+      schema = c.push_line.ensures.writer.same.0 ∙ inv.schema;
+      options = c.push_line.ensures.writer.same.1 ∙ inv.options;
+      ready = λ r. c.in_ok-push_line.ensures.writer.ready (inv.ready r);
       read = c.in_ok-next_line.ensures.failures ∙ inv.read;
-      kept = c.in_ok-push_line.ensures.no_failure ∙ inv.kept;
+      kept = c.in_ok-push_line.ensures.writer.no_failure ∙ inv.kept;
       pushed = (
         inv.pushed.0 ++ p.0,
         led_line s told _ _ line inv.pushed.0 p.0 inv.pushed.1 read spells,
@@ -97,15 +97,16 @@ returns-in_err-push_line-clause-refused g c = λ ready.
           rw (← append_assoc rows inv.pushed.0 e.0) (said.0, said.1, said.2, λ q. line_no_source fault c.in_err-push_line.ensures.layer q),
     )
 
-pub returns-in_err-push_line-clause-write_failed : goal.returns-in_err-push_line-clause-write_failed
-returns-in_err-push_line-clause-write_failed g c =
+pub returns-in_err-push_line-clause-writer : goal.returns-in_err-push_line-clause-writer
+returns-in_err-push_line-clause-writer g c =
     let p = err_from_is_err_and c.from_residual-in_err-push_line.result c.from_residual-in_err-push_line.ensures.1 in
-    rw (p.1, p.2) (λ q. rw c.loop.invariant.kept at (c.in_err-push_line.ensures.write_failed q))
-
-pub returns-in_err-push_line-clause-memory : goal.returns-in_err-push_line-clause-memory
-returns-in_err-push_line-clause-memory g c =
-    let p = err_from_is_err_and c.from_residual-in_err-push_line.result c.from_residual-in_err-push_line.ensures.1 in
-    rw (p.1, p.2) (λ want. c.in_err-push_line.ensures.memory want ∙ c.loop.invariant.kept)
+    record {
+      same = search rules;
+      ready = search rules;
+      no_failure = search rules;
+      write_failed = rw (p.1, p.2) (λ q. rw c.loop.invariant.kept at (c.in_err-push_line.ensures.writer.write_failed q));
+      memory = rw (p.1, p.2) (λ want. c.in_err-push_line.ensures.writer.memory want ∙ c.loop.invariant.kept);
+    }
 
 pub returns-clause-refused : goal.returns-clause-refused
 returns-clause-refused g c = λ ready.

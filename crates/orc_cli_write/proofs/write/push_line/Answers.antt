@@ -1,4 +1,4 @@
-use Rattle.std.proofs.Common.{◌≡◌, ◌⊎◌, [], ◌∷◌, ◌++◌, length, sym, ◌∙◌, append-nil, ap, subst, Err, arith, inl, inr, refl}
+use Rattle.std.proofs.Common.{◌≡◌, ◌⊎◌, [], ◌∷◌, ◌++◌, length, sym, ◌∙◌, append-nil, ap, subst, Err, arith, inl, inr, refl, rules}
 use Rattle.std.proofs.lemmas.Result.{err_from_is_err_and}
 use Rattle.orc_file.proofs.WriterLemmas.{cut_kept, cut_row, within_of}
 use Rattle.std.proofs.lemmas.Bool.{eqb-true}
@@ -81,10 +81,16 @@ returns-in_err-push_owned-clause-refused g c = λ ready.
           )),
     )
 
-pub returns-in_err-push_owned-clause-memory : goal.returns-in_err-push_owned-clause-memory
-returns-in_err-push_owned-clause-memory g c =
+pub returns-in_err-push_owned-clause-writer : goal.returns-in_err-push_owned-clause-writer
+returns-in_err-push_owned-clause-writer g c =
     let p = err_from_is_err_and c.from_residual-in_err-push_owned.result c.from_residual-in_err-push_owned.ensures.1 in
-    rw (p.1, p.2) (λ want. c.in_err-push_owned.ensures.takes.memory (ap Err (file_want c.in_err-push_owned.field-0.0 want)) ∙ ap g.W.Sink.failures c.spare_row-spare.ensures.stays.0)
+    record {
+      same = search rules;
+      ready = search rules;
+      no_failure = search rules;
+      write_failed = search rules;
+      memory = rw (p.1, p.2) (λ want. c.in_err-push_owned.ensures.takes.memory (ap Err (file_want c.in_err-push_owned.field-0.0 want)) ∙ ap g.W.Sink.failures c.spare_row-spare.ensures.stays.0);
+    }
 
 pub returns-in_err-row-clause-layer : goal.returns-in_err-row-clause-layer
 returns-in_err-row-clause-layer g c =

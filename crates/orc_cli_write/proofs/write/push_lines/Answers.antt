@@ -1,4 +1,4 @@
-use Rattle.std.proofs.Common.{◌≡◌, ℕ, ◌+◌, ◌++◌, List, [], take, drop, refl, ap, ◌∙◌, append_assoc, append-nil, arith}
+use Rattle.std.proofs.Common.{◌≡◌, ℕ, ◌+◌, ◌++◌, List, [], take, drop, refl, ap, ◌∙◌, append_assoc, append-nil, arith, rules}
 use Rattle.std.proofs.lemmas.Result.{err_from_is_err_and}
 use Rattle.orc_cli_write.proofs.LinesLemmas.{leads_none, leads_both, leads_ended, leads_rest, all_led, ends_behind, spells_same, ends_same, some_same}
 use Rattle.orc_cli_write.proofs.write.push_lines.Goals as goal
@@ -28,10 +28,10 @@ loop-at-preserved-then-at-input g c =
     let spells = spells_same s c.loop-at.writer.schema (take len (drop place input)) _ p.0 inv.schema text p.1 in
     record {
       within = omega (arith, c.if-at-input.true);
-      schema = c.push_line.ensures.same.0 ∙ inv.schema;
-      options = c.push_line.ensures.same.1 ∙ inv.options;
-      ready = λ r. c.in_ok-push_line.ensures.ready (inv.ready r);
-      kept = c.in_ok-push_line.ensures.no_failure ∙ inv.kept;
+      schema = c.push_line.ensures.writer.same.0 ∙ inv.schema;
+      options = c.push_line.ensures.writer.same.1 ∙ inv.options;
+      ready = λ r. c.in_ok-push_line.ensures.writer.ready (inv.ready r);
+      kept = c.in_ok-push_line.ensures.writer.no_failure ∙ inv.kept;
       pushed = (
         inv.pushed.0 ++ p.0,
         leads_both s input (drop place input) (drop (place + len + 1) input) inv.pushed.0 p.0 inv.pushed.1 (leads_ended s input place len p.0 c.if-at-input.true end is spells),
@@ -56,10 +56,10 @@ loop-at-preserved g c =
     let spells = spells_same s c.loop-at.writer.schema (take len (drop place input)) _ p.0 inv.schema text p.1 in
     record {
       within = omega (arith, c.line_length-len.ensures.bound, c.split_at.ensures.back_len);
-      schema = c.push_line.ensures.same.0 ∙ inv.schema;
-      options = c.push_line.ensures.same.1 ∙ inv.options;
-      ready = λ r. c.in_ok-push_line.ensures.ready (inv.ready r);
-      kept = c.in_ok-push_line.ensures.no_failure ∙ inv.kept;
+      schema = c.push_line.ensures.writer.same.0 ∙ inv.schema;
+      options = c.push_line.ensures.writer.same.1 ∙ inv.options;
+      ready = λ r. c.in_ok-push_line.ensures.writer.ready (inv.ready r);
+      kept = c.in_ok-push_line.ensures.writer.no_failure ∙ inv.kept;
       pushed = (
         inv.pushed.0 ++ p.0,
         leads_both s input (drop place input) (drop (place + len) input) inv.pushed.0 p.0 inv.pushed.1 (leads_rest s input place len p.0 c.if-at-input.false is spells),
@@ -97,10 +97,16 @@ returns-in_err-push_line-clause-refused g c = λ ready.
           rw (← append_assoc rows inv.pushed.0 e.0) (rw (inv.schema, inv.options) at stands),
     )
 
-pub returns-in_err-push_line-clause-memory : goal.returns-in_err-push_line-clause-memory
-returns-in_err-push_line-clause-memory g c =
+pub returns-in_err-push_line-clause-writer : goal.returns-in_err-push_line-clause-writer
+returns-in_err-push_line-clause-writer g c =
     let p = err_from_is_err_and c.from_residual.result c.from_residual.ensures.1 in
-    rw (p.1, p.2) (λ want. c.in_err-push_line.ensures.memory want ∙ c.loop-at.invariant.kept)
+    record {
+      same = search rules;
+      ready = search rules;
+      no_failure = search rules;
+      write_failed = search rules;
+      memory = rw (p.1, p.2) (λ want. c.in_err-push_line.ensures.writer.memory want ∙ c.loop-at.invariant.kept);
+    }
 
 pub returns-in_err-push_line-clause-layer : goal.returns-in_err-push_line-clause-layer
 returns-in_err-push_line-clause-layer g c =

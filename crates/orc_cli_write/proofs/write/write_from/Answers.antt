@@ -34,11 +34,11 @@ returns-in-Err-finish-clause-refused g c =
     let s = c.in-Ok.schema in
     let n = c.push_lines.new.writer in
     let made = c.in-Ok-new.ensures.made in
-    let same = c.push_lines.ensures.same in
+    let same = c.push_lines.ensures.writer.same in
     let schema : n.schema ≡ s = same.0 ∙ made.0 in
     let options : n.options ≡ c.args.options = same.1 ∙ made.1 in
     let p = c.in_default.ensures.pushed in
-    let ready : n.failed ≡ false = c.in_default.ensures.ready made.2 in
+    let ready : n.failed ≡ false = c.in_default.ensures.writer.ready made.2 in
     let begun = c.in-Ok-new.ensures.pushed in
     let pushed = p.2 (g.W.Sink.told c.args.out) [] begun in
     let e = c.in-Err-finish.ensures in
@@ -69,11 +69,11 @@ returns-in-Err-new-clause-refused g c =
 
 pub returns-in-Err-push_lines-clause-memory : goal.returns-in-Err-push_lines-clause-memory
 returns-in-Err-push_lines-clause-memory g c = λ want.
-    rw c.into_out.ensures (c.in-Err-push_lines.ensures.memory want ∙ c.in-Ok-new.ensures.no_failure)
+    rw c.into_out.ensures (c.in-Err-push_lines.ensures.writer.memory want ∙ c.in-Ok-new.ensures.no_failure)
 
 pub returns-in-Err-finish-clause-memory : goal.returns-in-Err-finish-clause-memory
 returns-in-Err-finish-clause-memory g c = λ want.
-    c.in-Err-finish.ensures.memory (file_want c.in-Err-finish.fault want) ∙ c.in_default.ensures.no_failure ∙ c.in-Ok-new.ensures.no_failure
+    c.in-Err-finish.ensures.memory (file_want c.in-Err-finish.fault want) ∙ c.in_default.ensures.writer.no_failure ∙ c.in-Ok-new.ensures.no_failure
 
 pub returns-in-Err-new-clause-memory : goal.returns-in-Err-new-clause-memory
 returns-in-Err-new-clause-memory g c = λ want. c.in-Err-new.ensures.memory (file_want c.in-Err-new.fault want)
