@@ -17,15 +17,10 @@ use Rattle.orc_column_walk.specs.declared.passed.Passed.{Passed}
 
 -- how many children a value has
 abbrev pub own_children : Own → ℕ
-own_children own.Null = 0
-own_children (own.Bool b) = 0
-own_children (own.Int n) = 0
-own_children (own.Date n) = 0
-own_children (own.Text t) = 0
-own_children (own.Bytes b) = 0
 own_children (own.List n) = n
 own_children (own.Map n) = n
 own_children own.Struct = 1
+own_children _ = 0
 
 -- how many children the first cells have, counted up to the most
 abbrev pub children_before : Shape → List Cell → ℕ → ℕ

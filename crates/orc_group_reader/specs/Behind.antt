@@ -56,14 +56,9 @@ TextsBegin false x vs count = GroupsBegin x vs count
 
 -- where the bytes behind so many values begin, for the kinds that have such
 abbrev pub ScalarsBegin : Scalar → Streams → List Cell → ℕ → Type 0
-ScalarsBegin kind.Boolean x vs count = Unit {0}
-ScalarsBegin kind.Byte x vs count = Unit {0}
-ScalarsBegin kind.Short x vs count = Unit {0}
-ScalarsBegin kind.Int x vs count = Unit {0}
-ScalarsBegin kind.Long x vs count = Unit {0}
-ScalarsBegin kind.Date x vs count = Unit {0}
 ScalarsBegin kind.Binary x vs count = GroupsBegin x vs count
 ScalarsBegin kind.String x vs count = TextsBegin (has_dictionary x) x vs count
+ScalarsBegin _ x vs count = Unit {0}
 
 -- of values, the sizes that their column's streams have for them come first there: of byte strings and texts, which are
 -- so many bytes together, of lists and of maps

@@ -56,21 +56,13 @@ HasEntries false x None = Unit {0}
 
 -- a reader has a dictionary's entries just where the column is of strings in one
 abbrev pub ScalarEntries : Scalar → Streams → Option (Vec Entry Global) → Type 0
-ScalarEntries kind.Boolean x entries = Unit {0}
-ScalarEntries kind.Byte x entries = Unit {0}
-ScalarEntries kind.Short x entries = Unit {0}
-ScalarEntries kind.Int x entries = Unit {0}
-ScalarEntries kind.Long x entries = Unit {0}
-ScalarEntries kind.Date x entries = Unit {0}
-ScalarEntries kind.Binary x entries = Unit {0}
 ScalarEntries kind.String x entries = HasEntries (has_dictionary x) x entries
+ScalarEntries _ x entries = Unit {0}
 
 -- those of a column's, where it has one
 abbrev pub EntriesOf : Shape → Streams → Option (Vec Entry Global) → Type 0
 EntriesOf (scalar k o) x entries = ScalarEntries k x entries
-EntriesOf (list_of s o) x entries = Unit {0}
-EntriesOf (map_of k v o) x entries = Unit {0}
-EntriesOf (struct_of fs o) x entries = Unit {0}
+EntriesOf _ x entries = Unit {0}
 
 -- bytes as they are, the same from so many on
 abbrev pub OctetsAgree : ℕ → Option (List ℕ) → Option (List ℕ) → Type 0

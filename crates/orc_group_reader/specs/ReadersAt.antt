@@ -53,24 +53,13 @@ pub record BitsAt (bytes : List ℕ) (offset skip bits : ℕ) (r : Bits) : Type 
 -- a stream of runs from its positions on, which are as many numbers as a position of it has
 abbrev pub StreamAt : RunStream → List ℕ → Entered → Type 0
 StreamAt no_stream positions entered.Nothing = positions ≡ []
-StreamAt no_stream positions (entered.Bits r) = ⊥
-StreamAt no_stream positions (entered.Bytes r) = ⊥
-StreamAt no_stream positions (entered.Numbers r) = ⊥
-StreamAt (bit_runs b) positions entered.Nothing = ⊥
 StreamAt (bit_runs b) positions (entered.Bits r) =
     (offset : ℕ) × (skip : ℕ) × (bits : ℕ) × (positions ≡ offset ∷ skip ∷ bits ∷ []) × BitsAt b offset skip bits r
-StreamAt (bit_runs b) positions (entered.Bytes r) = ⊥
-StreamAt (bit_runs b) positions (entered.Numbers r) = ⊥
-StreamAt (byte_runs b) positions entered.Nothing = ⊥
-StreamAt (byte_runs b) positions (entered.Bits r) = ⊥
 StreamAt (byte_runs b) positions (entered.Bytes r) =
     (offset : ℕ) × (skip : ℕ) × (positions ≡ offset ∷ skip ∷ []) × BytesAt b offset skip r
-StreamAt (byte_runs b) positions (entered.Numbers r) = ⊥
-StreamAt (number_runs v s b) positions entered.Nothing = ⊥
-StreamAt (number_runs v s b) positions (entered.Bits r) = ⊥
-StreamAt (number_runs v s b) positions (entered.Bytes r) = ⊥
 StreamAt (number_runs v s b) positions (entered.Numbers r) =
     (offset : ℕ) × (skip : ℕ) × (positions ≡ offset ∷ skip ∷ []) × NumbersAt v s b offset skip r
+StreamAt _ positions _ = ⊥
 
 -- PRESENT from its positions on; without bytes there are none
 abbrev pub MarksAt : List ℕ → List ℕ → Option Bits → Type 0

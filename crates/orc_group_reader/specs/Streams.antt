@@ -15,43 +15,21 @@ use Rattle.orc_group_reader.specs.declared.entered.Entered.TheVariants as entere
 -- two streams of runs of the same kind, whose bytes are the same from an offset on
 abbrev pub RunsAgree : ℕ → RunStream → RunStream → Type 0
 RunsAgree offset no_stream no_stream = Unit {0}
-RunsAgree offset no_stream (bit_runs b) = ⊥
-RunsAgree offset no_stream (byte_runs b) = ⊥
-RunsAgree offset no_stream (number_runs v s b) = ⊥
-RunsAgree offset (bit_runs a) no_stream = ⊥
 RunsAgree offset (bit_runs a) (bit_runs b) = AgreeFrom offset a b
-RunsAgree offset (bit_runs a) (byte_runs b) = ⊥
-RunsAgree offset (bit_runs a) (number_runs v s b) = ⊥
-RunsAgree offset (byte_runs a) no_stream = ⊥
-RunsAgree offset (byte_runs a) (bit_runs b) = ⊥
 RunsAgree offset (byte_runs a) (byte_runs b) = AgreeFrom offset a b
-RunsAgree offset (byte_runs a) (number_runs v s b) = ⊥
-RunsAgree offset (number_runs w t a) no_stream = ⊥
-RunsAgree offset (number_runs w t a) (bit_runs b) = ⊥
-RunsAgree offset (number_runs w t a) (byte_runs b) = ⊥
 RunsAgree offset (number_runs w t a) (number_runs v s b) = (w ≡ v) × (t ≡ s) × AgreeFrom offset a b
+RunsAgree offset _ _ = ⊥
 
 -- the values of a stream from number n on are left
 abbrev pub LeftFrom : RunStream → ℕ → Entered → Type 0
 LeftFrom no_stream n entered.Nothing = Unit {0}
-LeftFrom no_stream n (entered.Bits r) = ⊥
-LeftFrom no_stream n (entered.Bytes r) = ⊥
-LeftFrom no_stream n (entered.Numbers r) = ⊥
-LeftFrom (bit_runs b) n entered.Nothing = ⊥
 LeftFrom (bit_runs b) n (entered.Bits r) =
     (all : List Bool) → IsBitStream b all → n ≤ length all → BitsLeft r (drop n all)
-LeftFrom (bit_runs b) n (entered.Bytes r) = ⊥
-LeftFrom (bit_runs b) n (entered.Numbers r) = ⊥
-LeftFrom (byte_runs b) n entered.Nothing = ⊥
-LeftFrom (byte_runs b) n (entered.Bits r) = ⊥
 LeftFrom (byte_runs b) n (entered.Bytes r) =
     (all : List ℕ) → IsStream IsByteRun b all → BytesLeft r (drop n all)
-LeftFrom (byte_runs b) n (entered.Numbers r) = ⊥
-LeftFrom (number_runs v s b) n entered.Nothing = ⊥
-LeftFrom (number_runs v s b) n (entered.Bits r) = ⊥
-LeftFrom (number_runs v s b) n (entered.Bytes r) = ⊥
 LeftFrom (number_runs v s b) n (entered.Numbers r) =
     (all : List ℤ) → IsStream (is_run v s) b all → NumbersLeft r (drop n all)
+LeftFrom _ n _ = ⊥
 
 -- the bytes are a stream that has n values or more
 abbrev pub HasSome : RunStream → ℕ → Type 0

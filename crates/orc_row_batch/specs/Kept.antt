@@ -38,27 +38,13 @@ kept_cell_of (pairs ps) = kept_cell.Map (length (list_of_pairs ps))
 
 -- the bytes of a text
 abbrev pub text_in : Cell → List ℕ
-text_in null = []
-text_in (leaf (bool b)) = []
-text_in (leaf (int n)) = []
-text_in (leaf (date n)) = []
 text_in (leaf (text t)) = t
-text_in (leaf (bytes b)) = []
-text_in (list cs) = []
-text_in (struct cs) = []
-text_in (pairs ps) = []
+text_in _ = []
 
 -- the bytes of a byte string
 abbrev pub bytes_in : Cell → List ℕ
-bytes_in null = []
-bytes_in (leaf (bool b)) = []
-bytes_in (leaf (int n)) = []
-bytes_in (leaf (date n)) = []
-bytes_in (leaf (text t)) = []
 bytes_in (leaf (bytes b)) = b
-bytes_in (list cs) = []
-bytes_in (struct cs) = []
-bytes_in (pairs ps) = []
+bytes_in _ = []
 
 -- a column's cells with others behind them
 abbrev pub with_cells : List Cell → Kept → Kept
@@ -72,27 +58,13 @@ with_cells cs k = record {
 
 -- how many bytes a cell's text has, and none of another cell
 abbrev pub text_size : KeptCell → ℕ
-text_size kept_cell.Null = 0
-text_size (kept_cell.Bool b) = 0
-text_size (kept_cell.Int n) = 0
-text_size (kept_cell.Date n) = 0
 text_size (kept_cell.Text n) = n
-text_size (kept_cell.Bytes n) = 0
-text_size (kept_cell.List n) = 0
-text_size (kept_cell.Map n) = 0
-text_size kept_cell.Struct = 0
+text_size _ = 0
 
 -- how many bytes a cell's byte string has, and none of another cell
 abbrev pub bytes_size : KeptCell → ℕ
-bytes_size kept_cell.Null = 0
-bytes_size (kept_cell.Bool b) = 0
-bytes_size (kept_cell.Int n) = 0
-bytes_size (kept_cell.Date n) = 0
-bytes_size (kept_cell.Text n) = 0
 bytes_size (kept_cell.Bytes n) = n
-bytes_size (kept_cell.List n) = 0
-bytes_size (kept_cell.Map n) = 0
-bytes_size kept_cell.Struct = 0
+bytes_size _ = 0
 
 -- a cell, with its text or its byte string from the front of those that are left
 abbrev pub cell_of : KeptCell → List ℕ → List ℕ → Cell

@@ -4,7 +4,7 @@ use Rattle.std.specs.Prelude.{◌≡◌, ℕ, Option, Some, None, List, [], ◌�
 use Rattle.orc_rle.specs.ByteRun.{IsByteRun}
 use Rattle.orc_positions.specs.Position.{Begins, IsPlace}
 use Rattle.orc_positions.specs.BitPosition.{BeginsBits, IsBitPlace}
-use Rattle.orc_values.specs.Cells.{Cell, null, leaf, list, struct, pairs, bool, int, date, text, bytes, values}
+use Rattle.orc_values.specs.Cells.{Cell, leaf, text, bytes, values}
 use Rattle.orc_values.specs.Shapes.{Shape}
 use Rattle.orc_column_reader.specs.Numbers.{is_run}
 use Rattle.orc_column_reader.specs.Stripe.{Streams}
@@ -47,15 +47,9 @@ position_size (number_runs version sign stream) = 2
 
 -- how many bytes a text has, or a byte string
 abbrev pub octets_in : Cell → ℕ
-octets_in null = 0
-octets_in (leaf (bool b)) = 0
-octets_in (leaf (int n)) = 0
-octets_in (leaf (date n)) = 0
 octets_in (leaf (text t)) = length t
 octets_in (leaf (bytes t)) = length t
-octets_in (list cs) = 0
-octets_in (struct cs) = 0
-octets_in (pairs ps) = 0
+octets_in _ = 0
 
 -- how many those among the cells have together
 abbrev pub octets : List Cell → ℕ

@@ -76,18 +76,11 @@ text_octets false x = Some (x.stream 1)
 
 -- a column's stream of bytes that isn't in runs, if it has one
 abbrev pub scalar_octets : Scalar → Streams → Option (List ℕ)
-scalar_octets kind.Boolean x = None
-scalar_octets kind.Byte x = None
-scalar_octets kind.Short x = None
-scalar_octets kind.Int x = None
-scalar_octets kind.Long x = None
-scalar_octets kind.Date x = None
 scalar_octets kind.Binary x = Some (x.stream 1)
 scalar_octets kind.String x = text_octets (has_dictionary x) x
+scalar_octets _ x = None
 
 -- DATA, where it has the bytes of the values as they are, one value after the other
 abbrev pub own_octets : Shape → Streams → Option (List ℕ)
 own_octets (scalar k o) x = scalar_octets k x
-own_octets (list_of s o) x = None
-own_octets (map_of k v o) x = None
-own_octets (struct_of fs o) x = None
+own_octets _ x = None

@@ -1,5 +1,5 @@
 -- The runs of a stream, in which positions are looked up (ORC specification, "Row Group Index").
-use Rattle.std.specs.Prelude.{◌≡◌, ℕ, ℤ, ◌<◌, ◌^◌, List, [], length}
+use Rattle.std.specs.Prelude.{◌≡◌, ℕ, ◌<◌, ◌^◌, List, [], length}
 use Rattle.orc_rle.specs.ByteRun.{IsByteRun, NoByteRun}
 use Rattle.orc_rle.specs.Stream.{IsStream, StopsWithin}
 use Rattle.orc_rle.specs.declared.fault.RunFault.{RunFault}
@@ -15,17 +15,10 @@ use Rattle.orc_row_index_check.specs.declared.stream_table.StreamTable.TheVarian
 -- the places of the stream's runs and of its end
 abbrev pub IsTable : RunStream → StreamTable → Type 0
 IsTable no_stream table.Nothing = Unit {0}
-IsTable no_stream (table.Bits places) = ⊥
-IsTable no_stream (table.Runs places) = ⊥
-IsTable (bit_runs stream) table.Nothing = ⊥
 IsTable (bit_runs stream) (table.Bits places) = ArePlaces IsByteRun stream places
-IsTable (bit_runs stream) (table.Runs places) = ⊥
-IsTable (byte_runs stream) table.Nothing = ⊥
-IsTable (byte_runs stream) (table.Bits places) = ⊥
 IsTable (byte_runs stream) (table.Runs places) = ArePlaces IsByteRun stream places
-IsTable (number_runs version sign stream) table.Nothing = ⊥
-IsTable (number_runs version sign stream) (table.Bits places) = ⊥
 IsTable (number_runs version sign stream) (table.Runs places) = ArePlaces (is_run version sign) stream places
+IsTable _ _ = ⊥
 
 -- the bytes are a stream of no more values than are counted
 abbrev pub HasFew : {A : Type 0} → (List ℕ → List A → Type 0) → List ℕ → Type 0

@@ -30,22 +30,12 @@ abbrev pub IndexFault : Opened → ℕ → StripeFault → Type 0
 IndexFault view c (fault.NoIndex spot.Stripe) = view.stride ≡ 0
 IndexFault view c (fault.NoIndex (spot.Column column)) =
     (0 < view.stride) × (column ≡ c) × (has_stream c 6 view.footer.streams ≡ false)
-IndexFault view c (fault.NoIndex (spot.Stream column stream)) = ⊥
 IndexFault view c (fault.Wire wire) =
     (0 < view.stride)
     × (has_stream c 6 view.footer.streams ≡ true)
     × Faults row_index 0 0 (index_text view.footer view.bytes c) wire
 IndexFault view c fault.OutOfMemory = Unit {0}
-IndexFault view c fault.BadDirectory = ⊥
-IndexFault view c (fault.BadEncoding column) = ⊥
-IndexFault view c (fault.Run column stream run) = ⊥
-IndexFault view c (fault.NotUtf8 column stream) = ⊥
-IndexFault view c (fault.BadIndex column) = ⊥
-IndexFault view c (fault.LengthSum column stream) = ⊥
-IndexFault view c (fault.BadPosition spot) = ⊥
-IndexFault view c (fault.TooMany column) = ⊥
-IndexFault view c (fault.OutOfRange column) = ⊥
-IndexFault view c fault.Failed = ⊥
+IndexFault view c _ = ⊥
 
 -- the index has an entry for each group of so many rows
 abbrev pub IsWhole : Opened → ℕ → RowIndexMsg → Type 0

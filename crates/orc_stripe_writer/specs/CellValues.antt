@@ -2,20 +2,14 @@
 use Rattle.std.specs.Prelude.{ℕ, ◌-◌, ℤ, pos, negsuc, nat_lt, if◌then◌else◌, Bool, Option, Some, None, List, length, option_map}
 use Rattle.std.specs.List.{flat_map}
 use Rattle.std.specs.Option.{option_to_list}
-use Rattle.orc_values.specs.Cells.{Cell, null, leaf, list, struct, pairs, bool, int, date, text, bytes, list_of_cells, list_of_pairs}
+use Rattle.orc_values.specs.Cells.{Cell, null, leaf, list, struct, pairs, int, date, text, bytes, list_of_cells, list_of_pairs}
 use Rattle.orc_stats.specs.Statistics.{bool_of}
 
 -- a whole number, or a date's day
 abbrev pub int_in : Cell → Option ℤ
-int_in null = None
-int_in (leaf (bool b)) = None
 int_in (leaf (int n)) = Some n
 int_in (leaf (date n)) = Some n
-int_in (leaf (text t)) = None
-int_in (leaf (bytes t)) = None
-int_in (list cs) = None
-int_in (struct cs) = None
-int_in (pairs ps) = None
+int_in _ = None
 
 -- the byte that stands for a number of 8 bits and a sign
 abbrev pub byte_of : ℤ → ℕ
@@ -24,15 +18,9 @@ byte_of (negsuc n) = if nat_lt n 256 then 255 - n else 0
 
 -- a text's bytes, or bytes
 abbrev pub bytes_in : Cell → Option (List ℕ)
-bytes_in null = None
-bytes_in (leaf (bool b)) = None
-bytes_in (leaf (int n)) = None
-bytes_in (leaf (date n)) = None
 bytes_in (leaf (text t)) = Some t
 bytes_in (leaf (bytes t)) = Some t
-bytes_in (list cs) = None
-bytes_in (struct cs) = None
-bytes_in (pairs ps) = None
+bytes_in _ = None
 
 -- how many elements, fields or pairs a cell has that is not null
 abbrev pub size_in : Cell → Option ℕ

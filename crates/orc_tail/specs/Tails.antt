@@ -19,8 +19,8 @@ use Rattle.orc_tail.specs.Stripes.{stripe_tests, stripes_rows, stripes_length, m
 use Rattle.orc_tail.specs.Statistics.{have_few, stats_read, stripe_stats_read}
 use Rattle.orc_tail.specs.declared.tail.Tail.{Tail}
 use Rattle.orc_tail.specs.declared.fault.FileFault.{FileFault}
-use Rattle.orc_tail.specs.declared.fault.FileFault.TheVariants.{NotOrc, BadPostscript, Compressed, Encrypted, BadLengths, BadFooter, BadMetadata, BadTypes, BadStripe, RowCount, Limit, Stripe}
-use Rattle.orc_tail.specs.declared.fault.FileFault.TheVariants.{RowShape, SourceFailed, WriteFailed, OutOfMemory, Failed}
+use Rattle.orc_tail.specs.declared.fault.FileFault.TheVariants.{NotOrc, BadPostscript, Compressed, Encrypted, BadLengths, BadFooter, BadMetadata, BadTypes, BadStripe, RowCount, Limit}
+use Rattle.orc_tail.specs.declared.fault.FileFault.TheVariants.{SourceFailed, OutOfMemory}
 
 -- the most numbers of a version
 abbrev pub most_versions : ℕ
@@ -128,9 +128,5 @@ IsOfTail (BadTypes why) = why ≢ types.OutOfMemory
 IsOfTail (BadStripe number) = number < most_stripes
 IsOfTail RowCount = Unit {0}
 IsOfTail Limit = Unit {0}
-IsOfTail (Stripe number why) = ⊥
-IsOfTail RowShape = ⊥
-IsOfTail SourceFailed = ⊥
-IsOfTail WriteFailed = ⊥
 IsOfTail OutOfMemory = Unit {0}
-IsOfTail Failed = ⊥
+IsOfTail _ = ⊥
