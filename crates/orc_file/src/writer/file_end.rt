@@ -99,10 +99,7 @@ pub(crate) fn end_file<W: Sink>(
     ensures unfailed { IfErr result (λ e. (e ≡ WriteFailed) ⊎ (W.failures out.new ≡ W.failures out.old)) }
 {
     schema.limit_laws();
-    let tail = match tail_of(alloc, options, schema, stripes) {
-        Ok(tail) => tail,
-        Err(fault) => return Err(fault),
-    };
+    let tail = tail_of(alloc, options, schema, stripes)?;
     let mut text = Vec::new(alloc);
     tail.put(&mut text)?;
     match write_all(out, &text) {
