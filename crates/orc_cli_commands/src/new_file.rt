@@ -28,10 +28,8 @@ impl NewFile {
     pub(crate) fn flush(self) -> Result<(), CliFault>
         ensures { IfErr result (λ fault. fault ≡ write_failed) }
     {
-        match flush_buffer(self.buffered) {
-            Ok(_) => Ok(()),
-            Err(fault) => Err(fault),
-        }
+        flush_buffer(self.buffered)?;
+        Ok(())
     }
 }
 

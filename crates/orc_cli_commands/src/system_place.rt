@@ -73,21 +73,12 @@ impl<'a, R: Files<File = File>> Place<'a> for SystemPlace<'a, R> {
     }
 
     fn lines(&self, alloc: Global, path: &'a str) -> Result<StdLines<BufReader<File>>, CliFault> {
-        match reader_of(self.files, alloc, path) {
-            Ok(reader) => Ok(StdLines::new(reader)),
-            Err(fault) => Err(fault),
-        }
+        Ok(StdLines::new(reader_of(self.files, alloc, path)?))
     }
 
     fn make(&mut self, alloc: Global, path: &'a str) -> Result<NewFile, CliFault> {
-        let file = match new_file(self.files, path) {
-            Ok(file) => file,
-            Err(fault) => return Err(fault),
-        };
-        match with_buffer(alloc, file) {
-            Ok(buffered) => Ok(NewFile::new(buffered)),
-            Err(fault) => Err(fault),
-        }
+        let file = new_file(self.files, path)?;
+        Ok(NewFile::new(with_buffer(alloc, file)?))
     }
 
     fn close(&mut self, _path: &'a str, output: NewFile) -> Result<(), CliFault> {
