@@ -6,6 +6,7 @@ use Rattle.orc_wire.specs.declared.row_index.RowIndexEntry.{RowIndexEntry}
 use Rattle.orc_wire.specs.declared.row_index.RowIndexMsg.{RowIndexMsg}
 use Rattle.orc_wire.specs.declared.stripe_footer.StripeFooter.{StripeFooter}
 use Rattle.orc_wire.specs.declared.stripe_info.StripeInfo.{StripeInfo}
+use Rattle.orc_wire.specs.StreamKinds.{ROW_INDEX}
 use Rattle.orc_values.specs.Cells.{Cell}
 use Rattle.orc_values.specs.Columns.{cells}
 use Rattle.orc_values.specs.Shapes.{Shape, width, shape_at}
@@ -36,9 +37,9 @@ pub record IsAgreeingIndex (s : Shape) (x : Streams) (cells : List Cell) (bounds
 -- the directory lists such an index of column c
 abbrev pub HasAgreeingIndex : ℕ → Shape → List Cell → StripeFooter → List ℕ → ℕ → Type 0
 HasAgreeingIndex stride s rows footer bytes c =
-    (has_stream c 6 footer.streams ≡ true)
+    (has_stream c ROW_INDEX footer.streams ≡ true)
     × IsAgreeingIndex (shape_at s c) (columns_of footer bytes c) (cells s c rows)
-    (bounds_of s c rows (starts stride (length rows))) (slice c 6 footer.streams bytes)
+    (bounds_of s c rows (starts stride (length rows))) (slice c ROW_INDEX footer.streams bytes)
 
 -- Each column of a stripe has an index with an entry for each group of these rows: its statistic, of children perhaps
 -- less, and where a reader goes on.

@@ -16,7 +16,7 @@ use Rattle.orc_column_reader.specs.declared.fault.StripeFault.TheVariants as fau
 use Rattle.orc_column_reader.specs.Needs.{MarksBegin, ValuesNeeded, ElementsNeeded}
 use Rattle.orc_column_reader.specs.RunFaults.{Integers, IntegersFirst, IntegersFail, ByteRunsFail, BoolsFail}
 use Rattle.orc_column_reader.specs.ValueFaults.{NotAll, is_index, names_text, CutsNoText, PassTogether, HasOtherLength}
-use Rattle.orc_column_reader.specs.Stripe.{Streams, version, has_dictionary, IsDictionary, SpellRows, cell_limit, most_cells}
+use Rattle.orc_column_reader.specs.Stripe.{Streams, version, has_dictionary, IsDictionary, SpellRows, cell_limit, most_cells, in_present, in_data, in_length, in_dictionary}
 
 -- the column's stream of this kind has no runs as the column needs them; what stands of the fault of its runs
 abbrev pub RunsFail : StreamKind → ℕ → (RunFault → Type 0) → StripeFault → Type 0
@@ -34,15 +34,15 @@ NumbersFail kind from all n column f = RunsFail kind column (IntegersFail from a
 
 -- whole numbers and dates are integers with a sign in DATA
 abbrev pub data_of : Streams → Integers
-data_of x = record { version = version x; sign = Signed; bytes = x.stream 1 }
+data_of x = record { version = version x; sign = Signed; bytes = in_data x }
 
 -- indexes are integers without a sign in DATA
 abbrev pub indexes_of : Streams → Integers
-indexes_of x = record { version = version x; sign = Unsigned; bytes = x.stream 1 }
+indexes_of x = record { version = version x; sign = Unsigned; bytes = in_data x }
 
 -- lengths are integers without a sign in LENGTH
 abbrev pub lengths_of : Streams → Integers
-lengths_of x = record { version = version x; sign = Unsigned; bytes = x.stream 2 }
+lengths_of x = record { version = version x; sign = Unsigned; bytes = in_length x }
 
 -- numbers, and one of them outside of the column's type
 abbrev pub IntsFail : (ℤ → Bool) → (RunFault → Type 0) → (List ℤ → Type 0) → ℕ → StripeFault → Type 0
@@ -71,8 +71,8 @@ WordsFail x all n column f =
 abbrev pub TextsFail : Bool → Streams → Bool → ℕ → ℕ → StripeFault → Type 0
 TextsFail true x all n column f = WordsFail x all n column f
 TextsFail false x all n column f =
-    GroupsFail stream.Data (lengths_of x) all n (x.stream 1) column f
-    ⊎ ((f ≡ fault.NotUtf8 column stream.Data) × CutsNoText (IntegersFirst (lengths_of x)) (x.stream 1))
+    GroupsFail stream.Data (lengths_of x) all n (in_data x) column f
+    ⊎ ((f ≡ fault.NotUtf8 column stream.Data) × CutsNoText (IntegersFirst (lengths_of x)) (in_data x))
 
 -- whole numbers, in DATA
 abbrev pub SignedFail : (ℤ → Bool) → Streams → Bool → ℕ → ℕ → StripeFault → Type 0
@@ -80,13 +80,13 @@ SignedFail fits x all n column f = IntsFail fits (IntegersFail (data_of x) all n
 
 -- n values; every number of 64 bits is a LONG
 abbrev pub ScalarFails : Scalar → Streams → Bool → ℕ → ℕ → StripeFault → Type 0
-ScalarFails kind.Boolean x all n column f = RunsFail stream.Data column (BoolsFail all n (x.stream 1)) f
-ScalarFails kind.Byte x all n column f = RunsFail stream.Data column (ByteRunsFail all n (x.stream 1)) f
+ScalarFails kind.Boolean x all n column f = RunsFail stream.Data column (BoolsFail all n (in_data x)) f
+ScalarFails kind.Byte x all n column f = RunsFail stream.Data column (ByteRunsFail all n (in_data x)) f
 ScalarFails kind.Short x all n column f = SignedFail (int_fits kind.Short) x all n column f
 ScalarFails kind.Int x all n column f = SignedFail (int_fits kind.Int) x all n column f
 ScalarFails kind.Long x all n column f = NumbersFail stream.Data (data_of x) all n column f
 ScalarFails kind.Date x all n column f = SignedFail (signed_fits 31) x all n column f
-ScalarFails kind.Binary x all n column f = GroupsFail stream.Data (lengths_of x) all n (x.stream 1) column f
+ScalarFails kind.Binary x all n column f = GroupsFail stream.Data (lengths_of x) all n (in_data x) column f
 ScalarFails kind.String x all n column f = TextsFail (has_dictionary x) x all n column f
 
 -- lengths of n lists, or of maps, which have more elements or pairs together than a column may have cells
@@ -105,7 +105,7 @@ ValuesFail (struct_of fs o) x all n column f = ⊥
 -- the dictionary of a column that has one, by its size
 abbrev pub EntriesFail : Bool → Streams → ℕ → StripeFault → Type 0
 EntriesFail true x column f =
-    GroupsFail stream.DictionaryData (lengths_of x) true x.encoding.dictionary_size (x.stream 3) column f
+    GroupsFail stream.DictionaryData (lengths_of x) true x.encoding.dictionary_size (in_dictionary x) column f
 EntriesFail false x column f = ⊥
 
 -- what a column's dictionary is refused with: strings alone have one
@@ -122,10 +122,10 @@ WordsOfFail _ x column f = ⊥
 abbrev pub FaultFrom : (ℕ → Bool → ℕ → StripeFault → Type 0)
     → Shape → (ℕ → Streams) → ℕ → Bool → ℕ → StripeFault → Type 0
 FaultFrom below s columns c all cells f =
-    MarksFail ((columns c).stream 0) all cells c f
+    MarksFail (in_present (columns c)) all cells c f
     ⊎ (WordsOfFail s (columns c) c f
     ⊎ ((n : ℕ)
-    × ValuesNeeded all cells (MarksBegin ((columns c).stream 0)) n
+    × ValuesNeeded all cells (MarksBegin (in_present (columns c))) n
     × (ValuesFail s (columns c) all n c f ⊎ below c all n f)))
 
 abbrev mutual

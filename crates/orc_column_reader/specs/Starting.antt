@@ -17,7 +17,7 @@ use Rattle.orc_column_reader.specs.declared.column.ColumnReader.{ColumnReader}
 use Rattle.orc_column_reader.specs.declared.starting.ColumnStreams.{ColumnStreams}
 use Rattle.orc_wire.specs.declared.stripe_footer.StripeFooter.{StripeFooter}
 use Rattle.orc_column_reader.specs.Columns.{entry_bytes}
-use Rattle.orc_column_reader.specs.Stripe.{Streams, version, has_dictionary, IsDictionary, most_cells, columns_of, columns_from}
+use Rattle.orc_column_reader.specs.Stripe.{Streams, version, has_dictionary, IsDictionary, most_cells, columns_of, columns_from, in_present, in_data, in_length, in_dictionary}
 
 -- a reader of integers at the start of its bytes
 pub record NumbersStart (v : Rle) (sign : Sign) (bytes : List ℕ) (r : Numbers) : Type 0 where
@@ -49,37 +49,37 @@ MarksStart (b ∷ bs) (Some bits) = BitsStart (b ∷ bs) bits
 
 -- a reader of byte strings at its start: LENGTH and DATA
 abbrev pub GroupsStart : Streams → ValueSource → Type 0
-GroupsStart x r = NumbersStart (version x) Unsigned (x.stream 2) r.numbers × (r.octets.rest.now ≡ x.stream 1)
+GroupsStart x r = NumbersStart (version x) Unsigned (in_length x) r.numbers × (r.octets.rest.now ≡ in_data x)
 
 -- a reader of strings at its start: with its dictionary read, or with bytes of its own
 abbrev pub TextsStart : Bool → Streams → Option (Vec Entry Global) → ValueSource → Type 0
 TextsStart true x (Some entries) r =
-    IsDictionary x (map entry_bytes entries.items) × NumbersStart (version x) Unsigned (x.stream 1) r.numbers
+    IsDictionary x (map entry_bytes entries.items) × NumbersStart (version x) Unsigned (in_data x) r.numbers
 TextsStart true x None r = ⊥
 TextsStart false x (Some entries) r = ⊥
 TextsStart false x None r = GroupsStart x r
 
 -- a reader of single values at its start, by its kind
 abbrev pub ScalarStart : Scalar → Streams → ValueSource → Type 0
-ScalarStart kind.Boolean x r = BitsStart (x.stream 1) r.bits
-ScalarStart kind.Byte x r = BytesStart (x.stream 1) r.bytes
-ScalarStart kind.Short x r = NumbersStart (version x) Signed (x.stream 1) r.numbers
-ScalarStart kind.Int x r = NumbersStart (version x) Signed (x.stream 1) r.numbers
-ScalarStart kind.Long x r = NumbersStart (version x) Signed (x.stream 1) r.numbers
-ScalarStart kind.Date x r = NumbersStart (version x) Signed (x.stream 1) r.numbers
+ScalarStart kind.Boolean x r = BitsStart (in_data x) r.bits
+ScalarStart kind.Byte x r = BytesStart (in_data x) r.bytes
+ScalarStart kind.Short x r = NumbersStart (version x) Signed (in_data x) r.numbers
+ScalarStart kind.Int x r = NumbersStart (version x) Signed (in_data x) r.numbers
+ScalarStart kind.Long x r = NumbersStart (version x) Signed (in_data x) r.numbers
+ScalarStart kind.Date x r = NumbersStart (version x) Signed (in_data x) r.numbers
 ScalarStart kind.Binary x r = GroupsStart x r
 ScalarStart kind.String x r = TextsStart (has_dictionary x) x r.entries r
 
 -- of a column's own reader, what is beside the marks
 abbrev pub SourceStart : Shape → Streams → ValueSource → Type 0
 SourceStart (scalar k o) x r = ScalarStart k x r
-SourceStart (list_of s o) x r = NumbersStart (version x) Unsigned (x.stream 2) r.numbers × (r.room ≡ most_cells)
-SourceStart (map_of k v o) x r = NumbersStart (version x) Unsigned (x.stream 2) r.numbers × (r.room ≡ most_cells)
+SourceStart (list_of s o) x r = NumbersStart (version x) Unsigned (in_length x) r.numbers × (r.room ≡ most_cells)
+SourceStart (map_of k v o) x r = NumbersStart (version x) Unsigned (in_length x) r.numbers × (r.room ≡ most_cells)
 SourceStart (struct_of fs o) x r = Unit {0}
 
 -- a column's own reader
 abbrev pub OwnStart : Shape → Streams → ColumnReader → Type 0
-OwnStart s x r = MarksStart (x.stream 0) r.present × SourceStart s x r.source
+OwnStart s x r = MarksStart (in_present x) r.present × SourceStart s x r.source
 
 abbrev mutual
   -- the readers of a column and of those below it
@@ -120,16 +120,16 @@ pub record AreStreams (x : Streams) (r : ColumnStreams) : Type 0 where
   pub version_is : r.version ≡ version x
   pub dictionary_is : r.has_dictionary ≡ has_dictionary x
   pub size_is : r.dictionary_size ≡ x.encoding.dictionary_size
-  pub present_is : r.present.now ≡ x.stream 0
-  pub data_is : r.data.now ≡ x.stream 1
-  pub lengths_are : r.lengths.now ≡ x.stream 2
-  pub words_are : r.words.now ≡ x.stream 3
+  pub present_is : r.present.now ≡ in_present x
+  pub data_is : r.data.now ≡ in_data x
+  pub lengths_are : r.lengths.now ≡ in_length x
+  pub words_are : r.words.now ≡ in_dictionary x
 
 -- a source from the start of DATA, whatever is read from it
 pub record DataStart (x : Streams) (r : ValueSource) : Type 0 where
-  pub numbers : NumbersStart (version x) Signed (x.stream 1) r.numbers
-  pub bytes : BytesStart (x.stream 1) r.bytes
-  pub bits : BitsStart (x.stream 1) r.bits
+  pub numbers : NumbersStart (version x) Signed (in_data x) r.numbers
+  pub bytes : BytesStart (in_data x) r.bytes
+  pub bits : BitsStart (in_data x) r.bits
 
 -- a column's own reader, which has the column's number
 abbrev pub IsOf : Shape → (ℕ → Streams) → ℕ → ColumnReader → Type 0

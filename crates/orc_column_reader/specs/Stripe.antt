@@ -1,5 +1,5 @@
 -- Bytes that are a stripe of rows (ORC specification, "Stripes", "Column Encodings").
-use Rattle.std.specs.Prelude.{◌≡◌, ℕ, zero, suc, ◌+◌, ◌-◌, ◌<◌, ◌^◌, ◌||◌, ◌==◌, nat_lt, if◌then◌else◌, Bool, true, false, None, List, [], ◌∷◌, length, replicate, map, drop}
+use Rattle.std.specs.Prelude.{◌≡◌, ℕ, zero, suc, ◌+◌, ◌-◌, ◌<◌, ◌^◌, ◌||◌, ◌==◌, nat_lt, if◌then◌else◌, Bool, true, false, None, List, [], ◌∷◌, length, replicate, map, drop, ℤ}
 use Rattle.std.specs.List.{AllByRecursion}
 use Rattle.orc_values.specs.Cells.{Cell, is_value, parts, pairs_in, values}
 use Rattle.orc_values.specs.Shapes.{Shape, scalar, list_of, map_of, struct_of, Fields, no_field, field, width, shape_at}
@@ -14,6 +14,8 @@ use Rattle.orc_wire.specs.declared.stripe_info.StripeInfo.{StripeInfo}
 use Rattle.orc_wire.specs.declared.stripe_footer.StripeFooter.{StripeFooter}
 use Rattle.orc_wire.specs.Messages.{stripe_footer}
 use Rattle.orc_wire.specs.Spells.{Spells}
+use Rattle.orc_wire.specs.StreamKinds.{PRESENT, DATA, LENGTH, DICTIONARY_DATA}
+use Rattle.orc_wire.specs.EncodingKinds.{DIRECT, DIRECT_V2, is_dictionary}
 use Rattle.orc_rle.specs.declared.sign.Rle.{Rle}
 use Rattle.orc_rle.specs.declared.sign.Rle.TheVariants.{One, Two}
 use Rattle.orc_column_reader.specs.Spellings.{Nullable, Standing, size, Grouped, Within, Paired, Fielded}
@@ -28,21 +30,33 @@ pub record Streams : Type 0 where
   pub encoding : Encoding
   pub stream : ℕ → List ℕ
 
--- the version-2 kinds of encoding have integers of version 2
+-- the bytes of a column's PRESENT
+abbrev pub in_present : Streams → List ℕ
+in_present x = x.stream PRESENT
+
+-- the bytes of its DATA
+abbrev pub in_data : Streams → List ℕ
+in_data x = x.stream DATA
+
+-- the bytes of its LENGTH
+abbrev pub in_length : Streams → List ℕ
+in_length x = x.stream LENGTH
+
+-- the bytes of its DICTIONARY_DATA
+abbrev pub in_dictionary : Streams → List ℕ
+in_dictionary x = x.stream DICTIONARY_DATA
+
+-- DIRECT_V2 and DICTIONARY_V2 have integers of version 2
 abbrev pub version_at : ℕ → Rle
-version_at encoding = if nat_lt encoding 2 then One else Two
+version_at encoding = if nat_lt encoding DIRECT_V2 then One else Two
 
 -- the version of integers in a column's streams
 abbrev pub version : Streams → Rle
 version s = version_at s.encoding.kind
 
--- DICTIONARY and DICTIONARY_V2
-abbrev pub uses_dictionary : ℕ → Bool
-uses_dictionary encoding = (encoding == 1) || (encoding == 3)
-
 -- whether a column's strings are named in a dictionary
 abbrev pub has_dictionary : Streams → Bool
-has_dictionary s = uses_dictionary s.encoding.kind
+has_dictionary s = is_dictionary s.encoding.kind
 
 -- PRESENT; where it is empty, nothing is null
 abbrev pub Marks : List ℕ → List Bool → Type 0
@@ -53,41 +67,56 @@ Marks (b ∷ bs) marks = IsBitStream (b ∷ bs) marks
 abbrev pub Is : List ℕ → List ℕ → Type 0
 Is bytes all = all ≡ bytes
 
+-- the numbers in LENGTH
+abbrev pub AreLengths : Streams → List ℤ → Type 0
+AreLengths s = AreNumbers (version s) Unsigned (in_length s)
+
+-- the integers in DATA
+abbrev pub AreIntegers : Streams → List ℤ → Type 0
+AreIntegers s = AreNumbers (version s) Signed (in_data s)
+
+-- DATA has the strings one after the other, and LENGTH the length of each
+abbrev pub AreStrings : Streams → List (List ℕ) → Type 0
+AreStrings s = Grouped (AreLengths s) (Is (in_data s))
+
+-- DATA has the index of an entry for each string
+abbrev pub AreIndexes : Streams → List ℤ → Type 0
+AreIndexes s = AreNumbers (version s) Unsigned (in_data s)
+
 -- LENGTH has a length for each entry, and DICTIONARY_DATA their bytes
 pub record IsDictionary (s : Streams) (entries : List (List ℕ)) : Type 0 where
   pub counted : length entries ≡ s.encoding.dictionary_size
-  pub spelled : Grouped (AreNumbers (version s) Unsigned (s.stream 2)) (Is (s.stream 3)) entries
+  pub spelled : Grouped (AreLengths s) (Is (in_dictionary s)) entries
 
 -- strings named in a dictionary by DATA, or spelled by DATA with their lengths in LENGTH
 abbrev pub SpellsTexts : Streams → Bool → List Cell → Type 0
 SpellsTexts s true vs =
     (entries : List (List ℕ))
     × IsDictionary s entries
-    × Standing (IsWord entries) (AreNumbers (version s) Unsigned (s.stream 1)) vs
-SpellsTexts s false vs = Standing IsText (Grouped (AreNumbers (version s) Unsigned (s.stream 2)) (Is (s.stream 1))) vs
+    × Standing (IsWord entries) (AreIndexes s) vs
+SpellsTexts s false vs = Standing IsText (AreStrings s) vs
 
 -- integers in DATA that the kind holds
 abbrev pub SpellsInts : Scalar → Streams → List Cell → Type 0
-SpellsInts k s vs = Standing (IsInt k) (AreNumbers (version s) Signed (s.stream 1)) vs
+SpellsInts k s vs = Standing (IsInt k) (AreIntegers s) vs
 
 -- DATA and the streams beside it spell the values of a column of this kind
 abbrev pub SpellsScalar : Scalar → Streams → List Cell → Type 0
-SpellsScalar kind.Boolean s vs = Standing IsBool (IsBitStream (s.stream 1)) vs
-SpellsScalar kind.Byte s vs = Standing IsByte (AreBytes (s.stream 1)) vs
+SpellsScalar kind.Boolean s vs = Standing IsBool (IsBitStream (in_data s)) vs
+SpellsScalar kind.Byte s vs = Standing IsByte (AreBytes (in_data s)) vs
 SpellsScalar kind.Short s vs = SpellsInts kind.Short s vs
 SpellsScalar kind.Int s vs = SpellsInts kind.Int s vs
 SpellsScalar kind.Long s vs = SpellsInts kind.Long s vs
-SpellsScalar kind.Date s vs = Standing IsDate (AreNumbers (version s) Signed (s.stream 1)) vs
-SpellsScalar kind.Binary s vs =
-    Standing IsBinary (Grouped (AreNumbers (version s) Unsigned (s.stream 2)) (Is (s.stream 1))) vs
+SpellsScalar kind.Date s vs = Standing IsDate (AreIntegers s) vs
+SpellsScalar kind.Binary s vs = Standing IsBinary (AreStrings s) vs
 SpellsScalar kind.String s vs = SpellsTexts s (has_dictionary s) vs
 
 -- the streams beside PRESENT spell the values of a column: of lists their lengths, of maps how many pairs they have,
 -- of structs nothing
 abbrev pub SpellsValues : Shape → Streams → List Cell → Type 0
 SpellsValues (scalar k o) s vs = SpellsScalar k s vs
-SpellsValues (list_of e o) s vs = AreNumbers (version s) Unsigned (s.stream 2) (map (λ v. size (parts v)) vs)
-SpellsValues (map_of k v o) s vs = AreNumbers (version s) Unsigned (s.stream 2) (map (λ m. size (pairs_in m)) vs)
+SpellsValues (list_of e o) s vs = AreLengths s (map (λ v. size (parts v)) vs)
+SpellsValues (map_of k v o) s vs = AreLengths s (map (λ m. size (pairs_in m)) vs)
 SpellsValues (struct_of fs o) s vs = Unit {0}
 
 -- a column of a stripe has fewer cells than this
@@ -101,7 +130,7 @@ most_cells = cell_limit - 1
 -- the streams of a column spell its cells
 pub record IsColumn (shape : Shape) (s : Streams) (column : List Cell) : Type 0 where
   pub few : length column < cell_limit
-  pub marks : Marks (s.stream 0) (map is_value column)
+  pub marks : Marks (in_present s) (map is_value column)
   pub spelled : SpellsValues shape s (values column)
 
 -- The columns' streams spell so many rows of the schema.
@@ -114,7 +143,7 @@ pub record SpellRows (schema : Shape) (columns : ℕ → Streams) (count : ℕ) 
 
 -- a column's cells: nulls where PRESENT says, and values as its other streams spell them
 abbrev pub SpellsColumn : ((ℕ → Streams) → List Cell → Type 0) → (ℕ → Streams) → List Cell → Type 0
-SpellsColumn found columns cells = Nullable (Marks ((columns 0).stream 0)) (found columns) cells
+SpellsColumn found columns cells = Nullable (Marks (in_present (columns 0))) (found columns) cells
 
 abbrev mutual
   -- a column's values, with all below it: lists of the child's cells, maps of the cells of the keys and of
@@ -123,11 +152,11 @@ abbrev mutual
   SpellsTree (scalar k o) columns vs = SpellsScalar k (columns 0) vs
   SpellsTree (list_of s o) columns vs =
       Standing IsList
-      (Grouped (AreNumbers (version (columns 0)) Unsigned ((columns 0).stream 2))
+      (Grouped (AreLengths (columns 0))
       (Within most_cells (SpellsColumn (SpellsTree s) (λ c. columns (suc c))))) vs
   SpellsTree (map_of k v o) columns vs =
       Standing IsMap
-      (Grouped (AreNumbers (version (columns 0)) Unsigned ((columns 0).stream 2))
+      (Grouped (AreLengths (columns 0))
       (Within most_cells
       (Paired (SpellsColumn (SpellsTree k) (λ c. columns (suc c)))
       (SpellsColumn (SpellsTree v) (λ c. columns (suc (width k + c))))))) vs
@@ -142,13 +171,13 @@ abbrev mutual
 abbrev pub SpellsCells : Shape → (ℕ → Streams) → List Cell → Type 0
 SpellsCells s columns cells = SpellsColumn (SpellsTree s) columns cells
 
--- the encoding of a column for which the footer has none
-abbrev pub no_encoding : Encoding
-no_encoding = record { kind = 0; dictionary_size = 0 }
+-- DIRECT; what a column counts as for which the footer has no encoding
+abbrev pub plain : Encoding
+plain = record { kind = DIRECT; dictionary_size = 0 }
 
 -- the encoding of a column
 abbrev pub encoding_at : List Encoding → ℕ → Encoding
-encoding_at [] c = no_encoding
+encoding_at [] c = plain
 encoding_at (e ∷ es) zero = e
 encoding_at (e ∷ es) (suc c) = encoding_at es c
 

@@ -31,8 +31,11 @@ use crate::octets::Octets;
 use crate::whole_numbers::{next_byte, next_date, next_int, next_long, next_number};
 use orc_values::{Own, Scalar};
 
+/// A column of a stripe has fewer cells than this.
+pub const CELL_LIMIT: u64 = 1 << 31;
+
 /// The most cells that a column of a stripe may have.
-pub const MOST_CELLS: u64 = 0x7fff_ffff;
+pub const MOST_CELLS: u64 = CELL_LIMIT - 1;
 
 /// What is left of the streams of a column beside PRESENT. Each kind of column uses some of them.
 #[derive(Drop)]

@@ -4,7 +4,10 @@ ghost use Rattle.orc_column_reader.specs.declared.fault.StripeFault.TheVariants.
 ghost use Rattle.orc_column_reader.specs.Directory as spec;
 
 use crate::fault::StripeFault;
-use orc_wire::{Encoding, StreamMsg, TypeMsg};
+use orc_values::Scalar;
+use orc_wire::{
+    CELL_KINDS, DICTIONARY, DICTIONARY_V2, DIRECT, DIRECT_V2, Encoding, ROW_INDEX, StreamMsg, TypeMsg,
+};
 use std::alloc::Global;
 use std::collections::BTreeSet;
 
@@ -41,7 +44,7 @@ fn names_once(alloc: Global, streams: &[StreamMsg]) -> Result<bool, StripeFault>
 fn needs_column(kind: u32) -> bool
     ensures { result ≡ spec.needs_column kind }
 {
-    kind < 4 || kind == 6
+    kind < CELL_KINDS || kind == ROW_INDEX
 }
 
 /// Whether the columns that are needed are there.
@@ -88,7 +91,9 @@ pub fn check_directory(
 fn takes_encoding(kind: u32, encoding: u32) -> bool
     ensures { result ≡ spec.takes_encoding kind encoding }
 {
-    encoding == 0 || encoding == 2 || (kind == 7 && (encoding == 1 || encoding == 3))
+    encoding == DIRECT
+        || encoding == DIRECT_V2
+        || (kind == Scalar::String.number() && (encoding == DICTIONARY || encoding == DICTIONARY_V2))
 }
 
 /// The first column that has no encoding, or one that its type can't have.

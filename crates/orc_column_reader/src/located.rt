@@ -3,14 +3,14 @@ ghost use Rattle.std.specs.Prelude.{◌≡◌, ◌*◌, ◌+◌, ◌<◌, length
 ghost use Rattle.orc_column_reader.specs.declared.fault.StripeFault.TheVariants.{OutOfMemory};
 ghost use Rattle.orc_column_reader.specs.Directory as spec;
 ghost use Rattle.orc_column_reader.specs.Located.{AreLocated, Finds, stream_at};
+ghost use Rattle.orc_wire.specs.StreamKinds.{CELL_KINDS};
 
 use crate::fault::StripeFault;
-use orc_wire::{StreamMsg, StripeFooter};
+use orc_wire::{CELL_KINDS, StreamMsg, StripeFooter};
 use std::alloc::Global;
 
-/// The kinds of streams that columns are read from: PRESENT, DATA, LENGTH and DICTIONARY_DATA, which are
-/// numbered from 0.
-const KINDS: usize = 4;
+/// How many streams a column may be read from: PRESENT, DATA, LENGTH and DICTIONARY_DATA.
+const KINDS: usize = CELL_KINDS as usize;
 
 /// The bytes of one stream.
 #[derive(Clone, Copy)]
@@ -28,19 +28,19 @@ pub struct Located<'a> {
 
 impl<'a> Located<'a> {
     /// The bytes of the column's stream of one of the four kinds.
-    pub fn stream(&self, column: usize, kind: usize) -> &'a [u8]
-        requires there { 4 * column + kind < length self.now.slices.items }
+    pub fn stream(&self, column: usize, kind: u32) -> &'a [u8]
+        requires there { CELL_KINDS * column + kind < length self.now.slices.items }
         // Where the column was looked for, and the kind is one of the four, the stream's bytes are
         // answered as they were found.
         ensures { result.now ≡ stream_at self.now.slices.items column kind }
     {
-        self.slices[KINDS * column + kind].bytes
+        self.slices[KINDS * column + kind as usize].bytes
     }
 }
 
 /// Keeps the bytes of a stream, if a column is read from it.
 fn keep<'a>(slices: &mut Vec<Slice<'a>>, columns: usize, stream: &StreamMsg, bytes: &'a [u8])
-    requires len { length slices.old.items ≡ 4 * columns }
+    requires len { length slices.old.items ≡ CELL_KINDS * columns }
     ensures { Finds columns stream.now bytes.now slices.old.items slices.new.items }
 {
     let column = stream.column as usize;

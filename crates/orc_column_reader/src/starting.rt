@@ -7,8 +7,7 @@ ghost use Rattle.orc_values.specs.Views.{shape, fields as fields_view};
 ghost use Rattle.orc_column_reader.specs.Faults.{GroupsFail, EntriesFail, ScalarEntriesFail, WordsOfFail, FaultDown, FaultWithin, lengths_of};
 ghost use Rattle.orc_column_reader.specs.Located.{AreLocated};
 ghost use Rattle.orc_column_reader.specs.Starting.{DataStart, GroupsStart, TextsStart, ScalarStart, SourceStart, OwnStart, LacksEntries, ScalarLacks, HasNoDictionary, AreStreams, Puts, PutsFields};
-ghost use Rattle.orc_column_reader.specs.Stripe.{Streams, IsDictionary, encoding_at, columns_of, columns_from, SpellsCells, SpellsFields, most_cells};
-ghost use Rattle.orc_column_reader.specs.Stripe as spec;
+ghost use Rattle.orc_column_reader.specs.Stripe.{Streams, IsDictionary, encoding_at, columns_of, columns_from, SpellsCells, SpellsFields, most_cells, in_dictionary};
 ghost use Rattle.orc_column_reader.specs.declared.fault.StripeFault.TheVariants.{OutOfMemory};
 ghost use Rattle.orc_column_reader.specs.declared.fault.StreamKind.TheVariants.{DictionaryData};
 
@@ -24,7 +23,7 @@ use crate::octets::Octets;
 use crate::version::version_of;
 use orc_rle::{Rle, Sign};
 use orc_values::{Field, Scalar, Tree};
-use orc_wire::{Encoding, StripeFooter};
+use orc_wire::{DATA, DICTIONARY_DATA, Encoding, LENGTH, PRESENT, StripeFooter};
 use std::alloc::Global;
 
 /// What a column's cells are read from, by its encoding and the directory.
@@ -47,13 +46,6 @@ fn encoding_of(column: usize, footer: &StripeFooter) -> Encoding
     footer.columns.as_slice()[column]
 }
 
-/// Whether the encoding is one by a dictionary.
-fn uses_dictionary(encoding: u32) -> bool
-    ensures { result ≡ spec.uses_dictionary encoding }
-{
-    encoding == 1 || encoding == 3
-}
-
 /// The streams of a column.
 pub fn streams_of<'a>(
     column: usize,
@@ -70,12 +62,12 @@ pub fn streams_of<'a>(
     let encoding = encoding_of(column, footer);
     ColumnStreams {
         version: version_of(encoding.kind),
-        has_dictionary: uses_dictionary(encoding.kind),
+        has_dictionary: encoding.is_dictionary(),
         dictionary_size: encoding.dictionary_size,
-        present: located.stream(column, 0),
-        data: located.stream(column, 1),
-        lengths: located.stream(column, 2),
-        words: located.stream(column, 3),
+        present: located.stream(column, PRESENT),
+        data: located.stream(column, DATA),
+        lengths: located.stream(column, LENGTH),
+        words: located.stream(column, DICTIONARY_DATA),
     }
 }
 
@@ -128,7 +120,7 @@ fn word_source<'a>(
         → IsDictionary x entries → ⊥) }
     ensures column { IfOk result (λ source. source.column ≡ column) }
     ensures fault { IfErr result (λ cause. cause ≢ OutOfMemory → (x : Streams) → AreStreams x streams.now
-        → GroupsFail DictionaryData (lengths_of x) true x.encoding.dictionary_size (x.stream 3) column cause) }
+        → GroupsFail DictionaryData (lengths_of x) true x.encoding.dictionary_size (in_dictionary x) column cause) }
 {
     match entries_of(
         alloc,

@@ -6,13 +6,14 @@ ghost use Rattle.orc_column_reader.specs.RunFaults.{no_run};
 ghost use Rattle.orc_column_reader.specs.Stripe.{version_at};
 
 use orc_rle::{Rle, Run, RunCodec, RunFault, Sign, V1, V2};
+use orc_wire::DIRECT_V2;
 
 /// The version of an encoding's integer streams.
 pub fn version_of(encoding: u32) -> Rle
-    // Encodings 0 and 1 have integers of version 1, and all others of version 2.
+    // DIRECT and DICTIONARY have integers of version 1, and all others of version 2.
     ensures { result ≡ version_at encoding }
 {
-    if encoding < 2 { Rle::One } else { Rle::Two }
+    if encoding < DIRECT_V2 { Rle::One } else { Rle::Two }
 }
 
 /// The run in front, whatever the version.

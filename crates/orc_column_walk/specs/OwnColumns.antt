@@ -7,14 +7,14 @@ use Rattle.orc_values.specs.Cells.{Cell, parts, pairs_in, values}
 use Rattle.orc_values.specs.Shapes.{Shape, scalar, list_of, map_of, struct_of, Fields, no_field, field, width}
 use Rattle.orc_column_reader.specs.Numbers.{AreNumbers}
 use Rattle.orc_column_reader.specs.Spellings.{Nullable}
-use Rattle.orc_column_reader.specs.Stripe.{Streams, version, Marks, SpellsScalar, cell_limit, most_cells}
+use Rattle.orc_column_reader.specs.Stripe.{Streams, version, Marks, SpellsScalar, cell_limit, most_cells, in_present, in_length}
 use Rattle.orc_values.specs.Childless.{list_of_size, map_of_size, childless_struct}
 
 -- LENGTH spells the sizes of lists, or of maps, which are no more together than a column may have cells
 abbrev pub SpellsSizes : (ℕ → Cell) → Streams → List Cell → Type 0
 SpellsSizes sized x vs =
     (sizes : List ℕ)
-    × AreNumbers (version x) Unsigned (x.stream 2) (map pos sizes)
+    × AreNumbers (version x) Unsigned (in_length x) (map pos sizes)
     × (vs ≡ map sized sizes)
     × (sum sizes ≤ most_cells)
 
@@ -29,7 +29,7 @@ SpellsOwnValues (struct_of fs o) x vs = vs ≡ replicate (length vs) childless_s
 pub record IsOwnColumn (s : Shape) (x : Streams) (count : ℕ) (own : List Cell) : Type 0 where
   pub counted : length own ≡ count
   pub few : count < cell_limit
-  pub spelled : Nullable (Marks (x.stream 0)) (SpellsOwnValues s x) own
+  pub spelled : Nullable (Marks (in_present x)) (SpellsOwnValues s x) own
 
 -- how many elements the lists among the cells have together, and how many pairs the maps
 abbrev pub elements_together : List Cell → ℕ

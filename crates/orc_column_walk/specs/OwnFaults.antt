@@ -5,16 +5,16 @@ use Rattle.orc_values.specs.Cells.{Cell, values}
 use Rattle.orc_values.specs.Shapes.{Shape, scalar, list_of, map_of, struct_of, Fields, no_field, field, width}
 use Rattle.orc_column_reader.specs.Faults.{MarksFail, WordsOfFail, ValuesFail}
 use Rattle.orc_column_reader.specs.Needs.{MarksBegin, ValuesNeeded}
-use Rattle.orc_column_reader.specs.Stripe.{Streams}
+use Rattle.orc_column_reader.specs.Stripe.{Streams, in_present}
 use Rattle.orc_column_reader.specs.declared.fault.StripeFault.{StripeFault}
 use Rattle.orc_column_walk.specs.OwnColumns.{IsOwnColumn, elements_together, pairs_together}
 
 -- a fault of a column's own streams: of PRESENT, of the dictionary, or of those beside
 abbrev pub OwnFault : Shape → Streams → ℕ → Bool → ℕ → StripeFault → Type 0
 OwnFault s x c all n f =
-    MarksFail (x.stream 0) all n c f
+    MarksFail (in_present x) all n c f
     ⊎ (WordsOfFail s x c f
-    ⊎ ((v : ℕ) × ValuesNeeded all n (MarksBegin (x.stream 0)) v × ValuesFail s x all v c f))
+    ⊎ ((v : ℕ) × ValuesNeeded all n (MarksBegin (in_present x)) v × ValuesFail s x all v c f))
 
 -- The streams of column c spell no n cells, for this reason.
 pub record IsRefused (s : Shape) (x : Streams) (c : ℕ) (all : Bool) (n : ℕ) (f : StripeFault) : Type 0 where

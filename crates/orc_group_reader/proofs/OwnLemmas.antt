@@ -7,9 +7,10 @@ use Rattle.orc_values.specs.Shapes.{Shape, scalar, list_of, map_of, struct_of}
 use Rattle.orc_values.specs.declared.kind.Scalar.TheVariants as kind
 use Rattle.orc_column_reader.specs.Columns.{entry_bytes}
 use Rattle.orc_column_reader.specs.Starting.{HasNoDictionary, LacksEntries}
-use Rattle.orc_column_reader.specs.Stripe.{Streams, version, version_at, uses_dictionary, has_dictionary, IsDictionary, SpellsTexts, SpellsValues}
+use Rattle.orc_column_reader.specs.Stripe.{Streams, version, version_at, has_dictionary, IsDictionary, SpellsTexts, SpellsValues}
 use Rattle.orc_column_reader.specs.declared.entry.Entry.{Entry}
 use Rattle.orc_wire.specs.declared.encoding.Encoding.{Encoding}
+use Rattle.orc_wire.specs.EncodingKinds.{is_dictionary}
 use Rattle.orc_row_index.specs.Places.{IsPosition, reader, octets, octets_place}
 use Rattle.orc_row_index.specs.RunStreams.{RunStream, own_runs, own_octets}
 use Rattle.orc_row_index.specs.Walking.{runs, lent_bytes, ArePlaced, HasOctets}
@@ -61,7 +62,7 @@ entries_turned (scalar kind.Long o) x y entries e same h = tt
 entries_turned (scalar kind.Date o) x y entries e same h = tt
 entries_turned (scalar kind.Binary o) x y entries e same h = tt
 entries_turned (scalar kind.String o) x y entries e same h =
-    let d : has_dictionary y ≡ has_dictionary x = ap (λ (k : Encoding). uses_dictionary k.kind) e in
+    let d : has_dictionary y ≡ has_dictionary x = ap (λ (k : Encoding). is_dictionary k.kind) e in
     entries_here (has_dictionary x) x y entries e same (subst (λ (b : Bool). HasEntries b y entries) d h)
 entries_turned (list_of s o) x y entries e same h = tt
 entries_turned (map_of k v o) x y entries e same h = tt
@@ -84,7 +85,7 @@ dictionary_there (scalar kind.Long o) x y vs e same h none = none
 dictionary_there (scalar kind.Date o) x y vs e same h none = none
 dictionary_there (scalar kind.Binary o) x y vs e same h none = none
 dictionary_there (scalar kind.String o) x y vs e same h none =
-    let d : has_dictionary y ≡ has_dictionary x = ap (λ (k : Encoding). uses_dictionary k.kind) e in
+    let d : has_dictionary y ≡ has_dictionary x = ap (λ (k : Encoding). is_dictionary k.kind) e in
     lacks_none (has_dictionary x) x y vs e same h (subst (λ (b : Bool). LacksEntries b y) d none)
 dictionary_there (list_of s o) x y vs e same h none = none
 dictionary_there (map_of k v o) x y vs e same h none = none

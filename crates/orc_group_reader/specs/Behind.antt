@@ -11,7 +11,7 @@ use Rattle.orc_column_reader.specs.Needs.{MarksBegin}
 use Rattle.orc_column_reader.specs.Numbers.{is_run}
 use Rattle.orc_column_reader.specs.RunFaults.{IntegersFirst}
 use Rattle.orc_column_reader.specs.Spellings.{size, joined}
-use Rattle.orc_column_reader.specs.Stripe.{Streams, has_dictionary}
+use Rattle.orc_column_reader.specs.Stripe.{Streams, has_dictionary, in_present, in_data}
 use Rattle.orc_row_index.specs.Places.{RunPlace, BitPlace, octets, octets_place}
 use Rattle.orc_row_index.specs.RunStreams.{RunStream, no_stream, bit_runs, byte_runs, number_runs, present_runs, own_runs, own_octets}
 
@@ -47,7 +47,7 @@ GroupsBegin x vs count =
     × (length groups ≡ length vs)
     × (length (joined groups) ≡ count)
     × IntegersFirst (lengths_of x) (map size groups)
-    × (x.stream 1 ≡ joined groups ++ rest)
+    × (in_data x ≡ joined groups ++ rest)
 
 -- strings in a dictionary have no bytes of their own to begin in
 abbrev pub TextsBegin : Bool → Streams → List Cell → ℕ → Type 0
@@ -73,7 +73,7 @@ pub record IsBehind (s : Shape) (x : Streams) (before : List Cell) (positions : 
   pub first : List ℕ
   pub last : List ℕ
   pub parts : positions ≡ first ++ (octets_place (own_octets s x) (octets before) ++ last)
-  pub present_place : LeadsIn (present_runs (x.stream 0)) (length before) first
+  pub present_place : LeadsIn (present_runs (in_present x)) (length before) first
   pub own_place : LeadsIn (own_runs s x) (length (values before)) last
-  pub marks : MarksBegin (x.stream 0) (map is_value before)
+  pub marks : MarksBegin (in_present x) (map is_value before)
   pub sizes : SizesBegin s x (values before) (octets before)

@@ -9,7 +9,7 @@ use Rattle.orc_values.specs.declared.kind.Scalar.TheVariants as kind
 use Rattle.orc_column_reader.specs.Columns.{MarksLeft, ScalarLeft, entry_bytes}
 use Rattle.orc_column_reader.specs.Numbers.{NumbersLeft}
 use Rattle.orc_column_reader.specs.Spellings.{size}
-use Rattle.orc_column_reader.specs.Stripe.{Streams, IsColumn, IsDictionary, SpellsValues, has_dictionary, most_cells}
+use Rattle.orc_column_reader.specs.Stripe.{Streams, IsColumn, IsDictionary, SpellsValues, has_dictionary, most_cells, in_present, in_length, in_dictionary}
 use Rattle.orc_column_reader.specs.declared.bits.Bits.{Bits}
 use Rattle.orc_column_reader.specs.declared.column.ColumnReader.{ColumnReader}
 use Rattle.orc_column_reader.specs.declared.entry.Entry.{Entry}
@@ -76,10 +76,10 @@ OctetsAgree offset (Some a) (Some b) = AgreeFrom offset a b
 pub record AgreeFromPlaces (s : Shape) (x y : Streams) (before : List Cell) (positions : List ℕ) : Type 0 where
   pub places : AreReadPlaces s x before positions
   pub encoded : y.encoding ≡ x.encoding
-  pub present_same : RunsAgree (get_or places.first 0 0) (present_runs (y.stream 0)) (present_runs (x.stream 0))
+  pub present_same : RunsAgree (get_or places.first 0 0) (present_runs (in_present y)) (present_runs (in_present x))
   pub content_same : OctetsAgree (octets before) (own_octets s y) (own_octets s x)
   pub own_same : RunsAgree (get_or places.last 0 0) (own_runs s y) (own_runs s x)
-  pub dictionary_same : has_dictionary x ≡ true → (y.stream 2 ≡ x.stream 2) × (y.stream 3 ≡ x.stream 3)
+  pub dictionary_same : has_dictionary x ≡ true → (in_length y ≡ in_length x) × (in_dictionary y ≡ in_dictionary x)
 
 -- Streams y are entered at these positions, behind some cells of those that x spells.
 pub record Turns (s : Shape) (x y : Streams) (before after : List Cell) (positions : List ℕ) : Type 0 where
@@ -94,7 +94,7 @@ pub record OwnTurns (s : Shape) (x y : Streams) (before after : List Cell) (last
   pub there : HasOctets (own_octets s x) (octets before)
   pub content_same : OctetsAgree (octets before) (own_octets s y) (own_octets s x)
   pub own_same : RunsAgree (get_or last 0 0) (own_runs s y) (own_runs s x)
-  pub dictionary_same : has_dictionary x ≡ true → (y.stream 2 ≡ x.stream 2) × (y.stream 3 ≡ x.stream 3)
+  pub dictionary_same : has_dictionary x ≡ true → (in_length y ≡ in_length x) × (in_dictionary y ≡ in_dictionary x)
 
 -- what is left of the values of a column's own streams: of lists their lengths, of maps how many pairs they have,
 -- of structs nothing

@@ -7,7 +7,7 @@ use Rattle.orc_rle.specs.declared.sign.Sign.{Sign}
 use Rattle.orc_values.specs.Shapes.{Shape, width, shape_at}
 use Rattle.orc_wire.specs.declared.row_index.RowIndexEntry.{RowIndexEntry}
 use Rattle.orc_column_reader.specs.Numbers.{is_run}
-use Rattle.orc_column_reader.specs.Stripe.{Streams, most_cells}
+use Rattle.orc_column_reader.specs.Stripe.{Streams, most_cells, in_present}
 use Rattle.orc_column_reader.specs.declared.bits.Bits.{Bits}
 use Rattle.orc_column_reader.specs.declared.bytes.RunLengthBytes.{RunLengthBytes}
 use Rattle.orc_column_reader.specs.declared.column.ColumnReader.{ColumnReader}
@@ -83,7 +83,7 @@ pub record SourceAt (s : Shape) (x : Streams) (c : ℕ) (positions : List ℕ) (
 -- a column's own reader, from its positions on, which are as many as its streams have
 pub record ColumnAt (s : Shape) (x : Streams) (c : ℕ) (positions : List ℕ) (reader : ColumnReader) : Type 0 where
   pub counted : length positions ≡ positions_size s x
-  pub marks : MarksAt (x.stream 0) (take (present_size x) positions) reader.present
+  pub marks : MarksAt (in_present x) (take (present_size x) positions) reader.present
   pub source : SourceAt s x c (drop (present_size x) positions) reader.source
 
 -- the readers of all columns, each from the positions of its entry on; each column has one

@@ -8,7 +8,7 @@ use Rattle.orc_values.specs.Shapes.{Shape}
 use Rattle.orc_column_reader.specs.Faults.{WordsOfFail}
 use Rattle.orc_column_reader.specs.Numbers.{is_run}
 use Rattle.orc_column_reader.specs.RunFaults.{no_run}
-use Rattle.orc_column_reader.specs.Stripe.{Streams, has_dictionary}
+use Rattle.orc_column_reader.specs.Stripe.{Streams, has_dictionary, in_present}
 use Rattle.orc_column_reader.specs.declared.fault.Spot.TheVariants as spot
 use Rattle.orc_column_reader.specs.declared.fault.StreamKind.{StreamKind}
 use Rattle.orc_column_reader.specs.declared.fault.StreamKind.TheVariants as stream
@@ -60,7 +60,7 @@ OwnRefused s x c positions f =
 
 -- how many positions PRESENT has
 abbrev pub present_size : Streams → ℕ
-present_size x = position_size (present_runs (x.stream 0))
+present_size x = position_size (present_runs (in_present x))
 
 -- how many positions a column has
 abbrev pub positions_size : Shape → Streams → ℕ
@@ -71,5 +71,5 @@ abbrev pub ColumnRefused : Shape → Streams → ℕ → List ℕ → StripeFaul
 ColumnRefused s x c positions f =
     ((f ≡ fault.BadPosition (spot.Column c)) × (length positions ≢ positions_size s x))
     ⊎ ((length positions ≡ positions_size s x)
-    × (FailsAt c stream.Present (present_runs (x.stream 0)) (take (present_size x) positions) f
+    × (FailsAt c stream.Present (present_runs (in_present x)) (take (present_size x) positions) f
     ⊎ OwnRefused s x c (drop (present_size x) positions) f))

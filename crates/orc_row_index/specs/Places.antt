@@ -7,7 +7,7 @@ use Rattle.orc_positions.specs.BitPosition.{BeginsBits, IsBitPlace}
 use Rattle.orc_values.specs.Cells.{Cell, leaf, text, bytes, values}
 use Rattle.orc_values.specs.Shapes.{Shape}
 use Rattle.orc_column_reader.specs.Numbers.{is_run}
-use Rattle.orc_column_reader.specs.Stripe.{Streams}
+use Rattle.orc_column_reader.specs.Stripe.{Streams, in_present}
 use Rattle.orc_row_index.specs.RunStreams.{RunStream, no_stream, bit_runs, byte_runs, number_runs, present_runs, own_runs, own_octets}
 
 -- A position among runs is two numbers: an offset, where a run begins or the stream ends, and how many of the values
@@ -78,12 +78,12 @@ pub record ArePositions (whose : Whose) (present : RunStream) (content : Option 
 -- those of a column, from which a reader goes on with the cells that come then
 abbrev pub AreReadPlaces : Shape → Streams → List Cell → List ℕ → Type 0
 AreReadPlaces s x before positions =
-    ArePositions reader (present_runs (x.stream 0)) (own_octets s x) (own_runs s x) before positions
+    ArePositions reader (present_runs (in_present x)) (own_octets s x) (own_runs s x) before positions
 
 -- those of a column that a writer gives
 abbrev pub AreWrittenPlaces : Shape → Streams → List Cell → List ℕ → Type 0
 AreWrittenPlaces s x before positions =
-    ArePositions writer (present_runs (x.stream 0)) (own_octets s x) (own_runs s x) before positions
+    ArePositions writer (present_runs (in_present x)) (own_octets s x) (own_runs s x) before positions
 
 -- a reader's positions behind those of PRESENT
 abbrev pub OwnPlaces : Option (List ℕ) → RunStream → List Cell → List ℕ → Type 0

@@ -6,7 +6,7 @@ use Rattle.orc_values.specs.Shapes.{Shape, scalar, list_of, map_of, struct_of}
 use Rattle.orc_values.specs.declared.kind.Scalar.{Scalar}
 use Rattle.orc_values.specs.declared.kind.Scalar.TheVariants as kind
 use Rattle.orc_rle.specs.declared.sign.Rle.{Rle}
-use Rattle.orc_column_reader.specs.Stripe.{Streams, version, has_dictionary}
+use Rattle.orc_column_reader.specs.Stripe.{Streams, version, has_dictionary, in_data, in_length}
 use Rattle.orc_column_reader.specs.declared.fault.StreamKind.{StreamKind}
 use Rattle.orc_column_reader.specs.declared.fault.StreamKind.TheVariants as stream
 
@@ -25,25 +25,25 @@ present_runs (b ∷ bs) = bit_runs (b ∷ bs)
 -- of texts: DATA has their places in the dictionary, or LENGTH their lengths;
 -- a dictionary's own streams have no positions
 abbrev pub text_runs : Bool → Streams → RunStream
-text_runs true x = number_runs (version x) Unsigned (x.stream 1)
-text_runs false x = number_runs (version x) Unsigned (x.stream 2)
+text_runs true x = number_runs (version x) Unsigned (in_data x)
+text_runs false x = number_runs (version x) Unsigned (in_length x)
 
 -- the stream of runs of a column of single values
 abbrev pub scalar_runs : Scalar → Streams → RunStream
-scalar_runs kind.Boolean x = bit_runs (x.stream 1)
-scalar_runs kind.Byte x = byte_runs (x.stream 1)
-scalar_runs kind.Short x = number_runs (version x) Signed (x.stream 1)
-scalar_runs kind.Int x = number_runs (version x) Signed (x.stream 1)
-scalar_runs kind.Long x = number_runs (version x) Signed (x.stream 1)
-scalar_runs kind.Date x = number_runs (version x) Signed (x.stream 1)
-scalar_runs kind.Binary x = number_runs (version x) Unsigned (x.stream 2)
+scalar_runs kind.Boolean x = bit_runs (in_data x)
+scalar_runs kind.Byte x = byte_runs (in_data x)
+scalar_runs kind.Short x = number_runs (version x) Signed (in_data x)
+scalar_runs kind.Int x = number_runs (version x) Signed (in_data x)
+scalar_runs kind.Long x = number_runs (version x) Signed (in_data x)
+scalar_runs kind.Date x = number_runs (version x) Signed (in_data x)
+scalar_runs kind.Binary x = number_runs (version x) Unsigned (in_length x)
 scalar_runs kind.String x = text_runs (has_dictionary x) x
 
 -- the stream of runs that a column has beside PRESENT: DATA or LENGTH, and a struct none
 abbrev pub own_runs : Shape → Streams → RunStream
 own_runs (scalar k o) x = scalar_runs k x
-own_runs (list_of s o) x = number_runs (version x) Unsigned (x.stream 2)
-own_runs (map_of k v o) x = number_runs (version x) Unsigned (x.stream 2)
+own_runs (list_of s o) x = number_runs (version x) Unsigned (in_length x)
+own_runs (map_of k v o) x = number_runs (version x) Unsigned (in_length x)
 own_runs (struct_of fs o) x = no_stream
 
 -- which stream of a column of strings has runs: DATA with a dictionary, else LENGTH
@@ -72,11 +72,11 @@ kind_of_own (struct_of fs o) d = stream.Data
 -- the bytes of strings that aren't in a dictionary
 abbrev pub text_octets : Bool → Streams → Option (List ℕ)
 text_octets true x = None
-text_octets false x = Some (x.stream 1)
+text_octets false x = Some (in_data x)
 
 -- a column's stream of bytes that isn't in runs, if it has one
 abbrev pub scalar_octets : Scalar → Streams → Option (List ℕ)
-scalar_octets kind.Binary x = Some (x.stream 1)
+scalar_octets kind.Binary x = Some (in_data x)
 scalar_octets kind.String x = text_octets (has_dictionary x) x
 scalar_octets _ x = None
 

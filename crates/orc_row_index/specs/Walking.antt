@@ -8,7 +8,7 @@ use Rattle.orc_positions.specs.declared.mark.Mark.{Mark}
 use Rattle.orc_values.specs.Cells.{Cell, values}
 use Rattle.orc_values.specs.Shapes.{Shape}
 use Rattle.orc_column_reader.specs.Numbers.{is_run}
-use Rattle.orc_column_reader.specs.Stripe.{Streams}
+use Rattle.orc_column_reader.specs.Stripe.{Streams, in_present}
 use Rattle.orc_row_index.specs.RunStreams.{RunStream, no_stream, bit_runs, byte_runs, number_runs, present_runs, own_runs, own_octets}
 use Rattle.orc_row_index.specs.Places.{octets}
 use Rattle.orc_row_index.specs.declared.run_bytes.RunBytes.{RunBytes}
@@ -30,7 +30,7 @@ lent_bytes lent = option_map (λ b. b.now) lent
 
 -- these are the column's streams that have positions
 pub record ArePlaced (s : Shape) (x : Streams) (placed : PlacedStreams) : Type 0 where
-  pub present_is : runs placed.present ≡ present_runs (x.stream 0)
+  pub present_is : runs placed.present ≡ present_runs (in_present x)
   pub content_is : lent_bytes placed.content ≡ own_octets s x
   pub own_is : runs placed.own ≡ own_runs s x
 

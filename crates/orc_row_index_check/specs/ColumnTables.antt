@@ -3,7 +3,7 @@
 use Rattle.std.specs.Prelude.{◌≡◌, ℕ, ◌⊎◌, Option, List}
 use Rattle.orc_rle.specs.declared.fault.RunFault.{RunFault}
 use Rattle.orc_values.specs.Shapes.{Shape}
-use Rattle.orc_column_reader.specs.Stripe.{Streams, has_dictionary}
+use Rattle.orc_column_reader.specs.Stripe.{Streams, has_dictionary, in_present}
 use Rattle.orc_column_reader.specs.declared.fault.StripeFault.{StripeFault}
 use Rattle.orc_column_reader.specs.declared.fault.StripeFault.TheVariants.{Run}
 use Rattle.orc_column_reader.specs.declared.fault.StreamKind.{StreamKind}
@@ -27,5 +27,5 @@ FailsIn column kind runs fault = (cause : RunFault) × (fault ≡ Run column kin
 -- the fault of the runs of one of the column's streams that have positions
 abbrev pub ColumnFails : Shape → Streams → ℕ → StripeFault → Type 0
 ColumnFails s x column fault =
-    FailsIn column stream.Present (present_runs (x.stream 0)) fault
+    FailsIn column stream.Present (present_runs (in_present x)) fault
     ⊎ FailsIn column (kind_of_own s (has_dictionary x)) (own_runs s x) fault

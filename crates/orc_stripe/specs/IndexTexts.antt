@@ -6,6 +6,7 @@ use Rattle.orc_wire.specs.Messages.{row_index}
 use Rattle.orc_wire.specs.Spells.{Spells}
 use Rattle.orc_wire.specs.declared.row_index.RowIndexMsg.{RowIndexMsg}
 use Rattle.orc_wire.specs.declared.stripe_footer.StreamMsg.{StreamMsg}
+use Rattle.orc_wire.specs.StreamKinds.{ROW_INDEX}
 use Rattle.orc_column_reader.specs.Directory.{has_stream, slice}
 use Rattle.orc_stripe.specs.declared.view.index_texts.IndexText.{IndexText}
 
@@ -24,7 +25,7 @@ or_else None other = other
 
 -- the bytes of column c's ROW_INDEX, if the directory lists one
 abbrev pub listed : ℕ → List StreamMsg → List ℕ → Option (List ℕ)
-listed c streams bytes = if has_stream c 6 streams then Some (slice c 6 streams bytes) else None
+listed c streams bytes = if has_stream c ROW_INDEX streams then Some (slice c ROW_INDEX streams bytes) else None
 
 -- the bytes are this message
 abbrev pub IsText : Option (List ℕ) → RowIndexMsg → Type 0

@@ -4,6 +4,7 @@ use Rattle.orc_wire.specs.declared.row_index.RowIndexMsg.{RowIndexMsg}
 use Rattle.orc_wire.specs.declared.stripe_footer.StripeFooter.{StripeFooter}
 use Rattle.orc_wire.specs.Messages.{row_index}
 use Rattle.orc_wire.specs.Spells.{Spells, Faults}
+use Rattle.orc_wire.specs.StreamKinds.{ROW_INDEX}
 use Rattle.orc_values.specs.Cells.{Cell}
 use Rattle.orc_values.specs.Columns.{cells}
 use Rattle.orc_values.specs.Shapes.{shape_at}
@@ -18,21 +19,21 @@ use Rattle.orc_stripe.specs.Opened.{Opened}
 
 -- the bytes of column c's ROW_INDEX
 abbrev pub index_text : StripeFooter → List ℕ → ℕ → List ℕ
-index_text footer bytes c = slice c 6 footer.streams bytes
+index_text footer bytes c = slice c ROW_INDEX footer.streams bytes
 
 -- the directory lists an index of column c, and its bytes are this message
 abbrev pub HasIndex : StripeFooter → List ℕ → ℕ → RowIndexMsg → Type 0
 HasIndex footer bytes c message =
-    (has_stream c 6 footer.streams ≡ true) × Spells row_index 0 0 (index_text footer bytes c) message
+    (has_stream c ROW_INDEX footer.streams ≡ true) × Spells row_index 0 0 (index_text footer bytes c) message
 
 -- why a column has no index
 abbrev pub IndexFault : Opened → ℕ → StripeFault → Type 0
 IndexFault view c (fault.NoIndex spot.Stripe) = view.stride ≡ 0
 IndexFault view c (fault.NoIndex (spot.Column column)) =
-    (0 < view.stride) × (column ≡ c) × (has_stream c 6 view.footer.streams ≡ false)
+    (0 < view.stride) × (column ≡ c) × (has_stream c ROW_INDEX view.footer.streams ≡ false)
 IndexFault view c (fault.Wire wire) =
     (0 < view.stride)
-    × (has_stream c 6 view.footer.streams ≡ true)
+    × (has_stream c ROW_INDEX view.footer.streams ≡ true)
     × Faults row_index 0 0 (index_text view.footer view.bytes c) wire
 IndexFault view c fault.OutOfMemory = Unit {0}
 IndexFault view c _ = ⊥

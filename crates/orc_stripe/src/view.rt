@@ -17,6 +17,7 @@ mod row_index;
 
 use crate::cursor::RowCursor;
 pub use index_texts::{IndexText, read_index};
+use orc_column_reader::column::CELL_LIMIT;
 use orc_column_reader::directory::{check_directory, first_wrong};
 use orc_column_reader::fault::{StripeFault, wire_fault};
 use orc_column_reader::located::locate;
@@ -198,7 +199,7 @@ impl<'a> StripeView<'a> {
             self.now.info.number_of_rows cause) }
     {
         let count = self.info.number_of_rows;
-        if count >= 0x8000_0000 {
+        if count >= CELL_LIMIT {
             return Err(StripeFault::TooMany(0));
         }
         let tree = self.schema.tree();

@@ -10,9 +10,10 @@ use Rattle.orc_values.specs.Shapes.{Shape}
 use Rattle.orc_values.specs.Cells.{Cell, is_value, values}
 use Rattle.orc_stripe_writer.specs.declared.body.Body.{Body}
 use Rattle.orc_column_reader.specs.Spellings.{size, joined}
+use Rattle.orc_column_reader.specs.Stripe.{plain}
 use Rattle.orc_stripe_writer.specs.WordList.{AreDistinct, AreNamed, is_worth}
 use Rattle.orc_stripe_writer.specs.WrittenStreams.{AreWrittenInts, AreWrittenMarks}
-use Rattle.orc_stripe_writer.specs.WrittenColumn.{Written, direct, dictionary, plain, HasBits, HasBytes, HasNumbers, HasGroups, HasWords, HasTextsIf, HasTexts, HasSizes, HasNothing, WritesValues}
+use Rattle.orc_stripe_writer.specs.WrittenColumn.{Written, direct, dictionary, HasBits, HasBytes, HasNumbers, HasGroups, HasWords, HasTextsIf, HasTexts, HasSizes, HasNothing, WritesValues}
 use Rattle.orc_stripe_writer.specs.WrittenStripe.{line}
 use Rattle.orc_stripe_writer.specs.Adding.{AddsStream, AddsValues, AddsColumn}
 

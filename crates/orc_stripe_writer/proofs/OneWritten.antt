@@ -21,9 +21,10 @@ use Rattle.orc_values.specs.Cells.{Cell, leaf, int, is_value, parts, pairs_in, v
 use Rattle.orc_values.specs.Columns.{cells}
 use Rattle.orc_column_reader.specs.Spellings.{AllStand, size, joined}
 use Rattle.orc_column_reader.specs.Columns.{IsBool, IsByte, IsInt, IsDate, IsText, IsBinary, signed_byte}
+use Rattle.orc_column_reader.specs.Stripe.{plain}
 use Rattle.orc_stripe_writer.specs.WordList.{entry_at, AreNamed, is_worth}
 use Rattle.orc_stripe_writer.specs.WrittenStreams.{AreWrittenInts, AreMarksIf}
-use Rattle.orc_stripe_writer.specs.WrittenColumn.{Written, direct, plain, HasBits, HasBytes, HasNumbers, HasGroups, HasWords, HasTextsIf, HasTexts, HasSizes, WritesScalar, WritesValues, IsWrittenColumn}
+use Rattle.orc_stripe_writer.specs.WrittenColumn.{Written, direct, HasBits, HasBytes, HasNumbers, HasGroups, HasWords, HasTextsIf, HasTexts, HasSizes, WritesScalar, WritesValues, IsWrittenColumn}
 use Rattle.orc_stripe_writer.specs.WrittenStripe.{AreWrittenColumns}
 use Rattle.orc_stripe_writer.proofs.WordListLemmas.{less_in, not_itself, one_distinct}
 

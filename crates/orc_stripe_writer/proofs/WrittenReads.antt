@@ -17,6 +17,7 @@ use Rattle.orc_rle.specs.BitStream.{IsBitText, IsBitStream}
 use Rattle.orc_wire.specs.declared.encoding.Encoding.{Encoding}
 use Rattle.orc_wire.specs.declared.type_msg.TypeMsg.{TypeMsg}
 use Rattle.orc_wire.specs.declared.stripe_footer.StreamMsg.{StreamMsg}
+use Rattle.orc_wire.specs.EncodingKinds.{is_dictionary}
 use Rattle.orc_values.specs.declared.kind.Scalar.{Scalar}
 use Rattle.orc_values.specs.declared.kind.Scalar.TheVariants as kind
 use Rattle.orc_values.specs.Kinds.{number}
@@ -30,10 +31,10 @@ use Rattle.orc_column_reader.specs.Numbers.{AreNumbers}
 use Rattle.orc_column_reader.specs.Bytes.{AreBytes}
 use Rattle.orc_column_reader.specs.Columns.{IsBool, IsByte, IsText, IsWord}
 use Rattle.orc_column_reader.specs.Directory.{takes_encoding, first_wrong}
-use Rattle.orc_column_reader.specs.Stripe.{Streams, version_at, uses_dictionary, Marks, Is, SpellsTexts, SpellsScalar, SpellsValues, IsColumn, encoding_at}
+use Rattle.orc_column_reader.specs.Stripe.{Streams, version_at, Marks, Is, SpellsTexts, SpellsScalar, SpellsValues, IsColumn, encoding_at, plain}
 use Rattle.orc_stripe_writer.specs.WordList.{entry_at, AreNamed, is_worth}
 use Rattle.orc_stripe_writer.specs.WrittenStreams.{AreWrittenInts, AreMarksIf, AreWrittenMarks}
-use Rattle.orc_stripe_writer.specs.WrittenColumn.{Written, direct, dictionary, plain, HasBits, HasBytes, HasNumbers, HasGroups, HasTextsIf, WritesScalar, WritesValues, IsWrittenColumn}
+use Rattle.orc_stripe_writer.specs.WrittenColumn.{Written, direct, dictionary, HasBits, HasBytes, HasNumbers, HasGroups, HasTextsIf, WritesScalar, WritesValues, IsWrittenColumn}
 use Rattle.orc_stripe_writer.specs.WrittenStripe.{AreWrittenColumns, HasColumns}
 use Rattle.orc_stripe_writer.proofs.WrittenDirectory.{from_zero, AreFound}
 
@@ -73,11 +74,11 @@ dictionary_version : (rle : Rle) (n : ℕ) → version_at (dictionary rle n).kin
 dictionary_version One n = refl
 dictionary_version Two n = refl
 
-direct_uses : (rle : Rle) → uses_dictionary (direct rle).kind ≡ false
+direct_uses : (rle : Rle) → is_dictionary (direct rle).kind ≡ false
 direct_uses One = refl
 direct_uses Two = refl
 
-dictionary_uses : (rle : Rle) (n : ℕ) → uses_dictionary (dictionary rle n).kind ≡ true
+dictionary_uses : (rle : Rle) (n : ℕ) → is_dictionary (dictionary rle n).kind ≡ true
 dictionary_uses One n = refl
 dictionary_uses Two n = refl
 
@@ -125,10 +126,10 @@ words_stand entries (p ∷ ps) (t ∷ ts) (v ∷ vs) n h =
     let later : map (entry_at entries) ps ≡ map Some ts = cc in
     (word_at entries p t v first h.0, words_stand entries ps ts vs later h.1)
 
-texts_if : (t : Bool) (rle : Rle) (x : Streams) (w : Written) (vs : List Cell) (entries texts : List (List ℕ)) → AreRead x w → AllStand IsText texts vs → HasTextsIf t rle w entries texts → SpellsTexts x (uses_dictionary x.encoding.kind) vs
+texts_if : (t : Bool) (rle : Rle) (x : Streams) (w : Written) (vs : List Cell) (entries texts : List (List ℕ)) → AreRead x w → AllStand IsText texts vs → HasTextsIf t rle w entries texts → SpellsTexts x (is_dictionary x.encoding.kind) vs
 texts_if true rle x w vs entries texts r stand h =
     let e : x.encoding ≡ dictionary rle (length entries) = r.encoded ∙ h.encoded in
-    let uses : uses_dictionary x.encoding.kind ≡ true = ap (λ (n : Encoding). uses_dictionary n.kind) e ∙ dictionary_uses rle (length entries) in
+    let uses : is_dictionary x.encoding.kind ≡ true = ap (λ (n : Encoding). is_dictionary n.kind) e ∙ dictionary_uses rle (length entries) in
     let v : version_at x.encoding.kind ≡ rle = ap (λ (n : Encoding). version_at n.kind) e ∙ dictionary_version rle (length entries) in
     let n : x.encoding.dictionary_size ≡ length entries = ap (λ (n : Encoding). n.dictionary_size) e ∙ dictionary_size rle (length entries) in
     subst (λ (b : Bool). SpellsTexts x b vs) (sym uses) (
@@ -141,7 +142,7 @@ texts_if true rle x w vs entries texts r stand h =
     )
 texts_if false rle x w vs entries texts r stand h =
     let e : x.encoding ≡ direct rle = r.encoded ∙ ap (λ (u : Written). u.encoding) h.others in
-    let uses : uses_dictionary x.encoding.kind ≡ false = ap (λ (n : Encoding). uses_dictionary n.kind) e ∙ direct_uses rle in
+    let uses : is_dictionary x.encoding.kind ≡ false = ap (λ (n : Encoding). is_dictionary n.kind) e ∙ direct_uses rle in
     subst (λ (b : Bool). SpellsTexts x b vs) (sym uses) (texts, stand, groups_read rle x w texts r h)
 
 numbers_read : (rle : Rle) (x : Streams) (w : Written) (ns : List ℤ) → AreRead x w → HasNumbers rle w ns → AreNumbers (version_at x.encoding.kind) Signed (x.stream 1) ns

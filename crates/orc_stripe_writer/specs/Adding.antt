@@ -1,6 +1,7 @@
 -- What one more stream, or one more column, adds to the streams of a stripe.
 use Rattle.std.specs.Prelude.{ℕ, ◌≡◌, List, ◌++◌}
 use Rattle.orc_wire.specs.declared.encoding.Encoding.{Encoding}
+use Rattle.orc_wire.specs.StreamKinds.{DATA, LENGTH, DICTIONARY_DATA}
 use Rattle.orc_rle.specs.declared.sign.Rle.{Rle}
 use Rattle.orc_values.specs.Shapes.{Shape}
 use Rattle.orc_values.specs.Cells.{Cell}
@@ -28,7 +29,7 @@ pub record AddsValues (is_written : Written → Type 0) (c : ℕ) (old new : Bod
       → is_written (record { encoding = encoding; marks = marks; content = content; lengths = lengths; words = words })
   pub bytes : new.bytes.items ≡ old.bytes.items ++ (content ++ (lengths ++ words))
   pub directory : new.directory.items
-      ≡ old.directory.items ++ (line c 1 content ++ (line c 2 lengths ++ line c 3 words))
+      ≡ old.directory.items ++ (line c DATA content ++ (line c LENGTH lengths ++ line c DICTIONARY_DATA words))
 
 -- the streams of one more column
 pub record AddsColumn (rle : Rle) (s : Shape) (column : List Cell) (c : ℕ) (old new : Body)

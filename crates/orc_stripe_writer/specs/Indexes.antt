@@ -4,6 +4,7 @@ use Rattle.std.specs.Prelude.{◌≡◌, ℕ, zero, suc, ◌+◌, ◌<◌, Some,
 use Rattle.std.specs.List.{flat_map}
 use Rattle.orc_wire.specs.declared.stripe_footer.StreamMsg.{StreamMsg}
 use Rattle.orc_wire.specs.declared.stripe_footer.StripeFooter.{StripeFooter}
+use Rattle.orc_wire.specs.StreamKinds.{ROW_INDEX}
 use Rattle.orc_values.specs.Cells.{Cell, keys_in, values_in, values}
 use Rattle.orc_values.specs.Columns.{cells, cells_within}
 use Rattle.orc_values.specs.Shapes.{Shape, Fields, width, widths, shape_at, shape_within}
@@ -29,7 +30,7 @@ streams_written w = record { encoding = w.encoding; stream = written_stream w }
 
 -- an index's line in the directory, which it has without bytes, too
 abbrev pub index_line : ℕ → List ℕ → StreamMsg
-index_line c text = record { kind = 6; column = c; length = length text }
+index_line c text = record { kind = ROW_INDEX; column = c; length = length text }
 
 -- those of the columns from number c on
 abbrev pub index_lines : ℕ → List (List ℕ) → List StreamMsg

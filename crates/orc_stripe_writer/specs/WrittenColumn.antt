@@ -8,12 +8,14 @@ use Rattle.orc_rle.specs.Cut.{IsWritten}
 use Rattle.orc_rle.specs.ByteRun.{byte_rule}
 use Rattle.orc_rle.specs.BitStream.{IsBitText}
 use Rattle.orc_wire.specs.declared.encoding.Encoding.{Encoding}
+use Rattle.orc_wire.specs.EncodingKinds.{DIRECT, DICTIONARY, DIRECT_V2, DICTIONARY_V2}
 use Rattle.orc_values.specs.declared.kind.Scalar.{Scalar}
 use Rattle.orc_values.specs.declared.kind.Scalar.TheVariants as kind
 use Rattle.orc_values.specs.Shapes.{Shape, scalar, list_of, map_of, struct_of}
 use Rattle.orc_values.specs.Cells.{Cell, is_value, parts, pairs_in, values}
 use Rattle.orc_column_reader.specs.Spellings.{Standing, size, joined}
 use Rattle.orc_column_reader.specs.Columns.{IsBool, IsByte, IsInt, IsDate, IsText, IsBinary}
+use Rattle.orc_column_reader.specs.Stripe.{plain}
 use Rattle.orc_stripe_writer.specs.WordList.{AreDistinct, AreNamed, is_worth}
 use Rattle.orc_stripe_writer.specs.WrittenStreams.{AreWrittenInts, AreWrittenMarks}
 
@@ -28,19 +30,15 @@ pub record Written : Type 0 where
 
 -- DIRECT, or DIRECT_V2
 abbrev pub direct : Rle → Encoding
-direct One = record { kind = 0; dictionary_size = 0 }
-direct Two = record { kind = 2; dictionary_size = 0 }
+direct One = record { kind = DIRECT; dictionary_size = 0 }
+direct Two = record { kind = DIRECT_V2; dictionary_size = 0 }
 
 -- DICTIONARY, or DICTIONARY_V2
 abbrev pub dictionary : Rle → ℕ → Encoding
-dictionary One entries = record { kind = 1; dictionary_size = entries }
-dictionary Two entries = record { kind = 3; dictionary_size = entries }
+dictionary One entries = record { kind = DICTIONARY; dictionary_size = entries }
+dictionary Two entries = record { kind = DICTIONARY_V2; dictionary_size = entries }
 
--- a column without streams of integers is DIRECT in either version
-abbrev pub plain : Encoding
-plain = record { kind = 0; dictionary_size = 0 }
-
--- DATA has booleans
+-- DATA has booleans; a column without streams of integers is DIRECT in either version
 pub record HasBits (w : Written) (bits : List Bool) : Type 0 where
   pub content_is : IsBitText bits w.content
   pub others : w ≡ record { encoding = plain; marks = w.marks; content = w.content; lengths = []; words = [] }

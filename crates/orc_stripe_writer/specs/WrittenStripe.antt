@@ -10,6 +10,7 @@ use Rattle.orc_wire.specs.declared.stripe_info.StripeInfo.{StripeInfo}
 use Rattle.orc_wire.specs.Messages.{stripe_footer}
 use Rattle.orc_wire.specs.CanonicalMessages.{stripe_footer_text}
 use Rattle.orc_wire.specs.Spells.{Spells}
+use Rattle.orc_wire.specs.StreamKinds.{PRESENT, DATA, LENGTH, DICTIONARY_DATA, ROW_INDEX}
 use Rattle.orc_values.specs.Shapes.{Shape, width, shape_at}
 use Rattle.orc_values.specs.Cells.{Cell}
 use Rattle.orc_values.specs.Columns.{cells}
@@ -38,7 +39,9 @@ column_bytes w = w.marks ++ (w.content ++ (w.lengths ++ w.words))
 
 -- the lines of the directory for a column's streams, by their kinds
 abbrev pub column_lines : ℕ → Written → List StreamMsg
-column_lines c w = line c 0 w.marks ++ (line c 1 w.content ++ (line c 2 w.lengths ++ line c 3 w.words))
+column_lines c w =
+    line c PRESENT w.marks
+    ++ (line c DATA w.content ++ (line c LENGTH w.lengths ++ line c DICTIONARY_DATA w.words))
 
 -- of the columns from number c on
 abbrev pub lines_from : ℕ → List Written → List StreamMsg
@@ -91,9 +94,9 @@ pub record IsWrittenStripe (rle : Rle) (stride : ℕ) (s : Shape) (rows : List C
 -- the directory lists an index of column c, and it is right for a reader of the stripe
 abbrev pub HasRightIndex : ℕ → Shape → List Cell → StripeFooter → List ℕ → ℕ → Type 0
 HasRightIndex stride s rows footer bytes c =
-    (has_stream c 6 footer.streams ≡ true)
+    (has_stream c ROW_INDEX footer.streams ≡ true)
     × IsRightIndex (shape_at s c) (columns_of footer bytes c) (cells s c rows)
-    (bounds_of s c rows (starts stride (length rows))) (slice c 6 footer.streams bytes)
+    (bounds_of s c rows (starts stride (length rows))) (slice c ROW_INDEX footer.streams bytes)
 
 -- the statistic of a column's cells
 abbrev pub column_stat : Shape → List Cell → ℕ → Stat

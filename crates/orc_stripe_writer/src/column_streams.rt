@@ -2,14 +2,13 @@
 ghost use Rattle.std.specs.Prelude.{◌≡◌, length, true};
 ghost use Rattle.orc_column_reader.specs.Directory.{is_of, have_room, slice};
 ghost use Rattle.orc_column_reader.specs.Starting.{AreStreams};
-ghost use Rattle.orc_column_reader.specs.Stripe as spec;
 ghost use Rattle.orc_stripe_writer.specs.Indexes.{streams_written};
 ghost use Rattle.orc_stripe_writer.specs.WrittenColumn.{Written};
 ghost use Rattle.orc_stripe_writer.specs.WrittenStripe.{column_bytes, column_lines};
 
 use orc_column_reader::starting::ColumnStreams;
 use orc_column_reader::version::version_of;
-use orc_wire::{Encoding, StreamMsg};
+use orc_wire::{DATA, DICTIONARY_DATA, Encoding, LENGTH, PRESENT, StreamMsg};
 
 /// Whether the line is that of a column's stream of a kind.
 fn names(line: &StreamMsg, column: u32, kind: u32) -> bool
@@ -34,13 +33,6 @@ fn stream_bytes<'a>(lines: &[StreamMsg], bytes: &'a [u8], column: u32, kind: u32
     bytes.split_at(0).0
 }
 
-/// Whether the encoding is one by a dictionary.
-fn uses_dictionary(encoding: u32) -> bool
-    ensures { result ≡ spec.uses_dictionary encoding }
-{
-    encoding == 1 || encoding == 3
-}
-
 /// The streams of a column, from its bytes and the lines that list them.
 pub(crate) fn column_streams<'a>(
     column: u32,
@@ -54,11 +46,11 @@ pub(crate) fn column_streams<'a>(
 {
     ColumnStreams {
         version: version_of(encoding.kind),
-        has_dictionary: uses_dictionary(encoding.kind),
+        has_dictionary: encoding.is_dictionary(),
         dictionary_size: encoding.dictionary_size,
-        present: stream_bytes(lines, bytes, column, 0),
-        data: stream_bytes(lines, bytes, column, 1),
-        lengths: stream_bytes(lines, bytes, column, 2),
-        words: stream_bytes(lines, bytes, column, 3),
+        present: stream_bytes(lines, bytes, column, PRESENT),
+        data: stream_bytes(lines, bytes, column, DATA),
+        lengths: stream_bytes(lines, bytes, column, LENGTH),
+        words: stream_bytes(lines, bytes, column, DICTIONARY_DATA),
     }
 }

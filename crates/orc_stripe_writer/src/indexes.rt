@@ -18,7 +18,7 @@ use orc_column_reader::starting::ColumnStreams;
 use orc_row_index::put_index;
 use orc_stats::Stat;
 use orc_values::{Own, Tree};
-use orc_wire::StreamMsg;
+use orc_wire::{ROW_INDEX, StreamMsg};
 use std::alloc::{AllocError, Global};
 
 /// How many rows come before each group: a group begins each `stride` rows (ORC specification, "Row Group Index").
@@ -75,7 +75,7 @@ pub(crate) fn put_column_index(
     let found = put_index(alloc, tree, streams, owns, bounds, &mut out.bytes)?;
     let length = out.bytes.len() - start;
     out.directory.push(StreamMsg {
-        kind: 6,
+        kind: ROW_INDEX,
         column,
         length: length as u64,
     })?;

@@ -9,6 +9,7 @@ ghost use Rattle.orc_stripe_writer.specs.WrittenStripe.{AreFew};
 ghost use Rattle.orc_column_reader.specs.declared.fault.StripeFault.TheVariants.{OutOfMemory};
 
 use crate::below::{elements_of, fields_of, keys_of, lent_rows, map_values_of};
+use orc_column_reader::column::CELL_LIMIT;
 use orc_column_reader::fault::StripeFault;
 use orc_types::Schema;
 use orc_values::{Field, Lent, Row, Tree};
@@ -20,7 +21,7 @@ fn columns_are_few(alloc: Global, tree: &Tree, cells: &[Lent<'_, '_>]) -> Result
     ensures yes { IfOk result (λ few. OnTrue few (AreFew (shape tree.now) (lent_cells cells.now))) }
     ensures no { IfOk result (λ few. OnFalse few (AreFew (shape tree.now) (lent_cells cells.now) → ⊥)) }
 {
-    if cells.len() >= 0x8000_0000 {
+    if cells.len() as u64 >= CELL_LIMIT {
         return Ok(false);
     }
     match tree {

@@ -2,6 +2,7 @@
 ghost use Rattle.std.specs.Prelude.{◌≡◌, ◌<◌, ◌≤◌, ◌⊎◌, ◌^◌, IfSome, IfNone};
 ghost use Rattle.orc_column_reader.specs.Stripe.{cell_limit};
 
+use orc_column_reader::column::CELL_LIMIT;
 use orc_rle::Rle;
 
 /// How stripes are written: the version of integer run lengths, after how many rows a group of the row index
@@ -30,7 +31,7 @@ impl Options {
         // They are refused only where a stripe would have no rows, or more than 2,147,483,647.
         ensures none { IfNone result ((stripe_rows ≡ 0) ⊎ (cell_limit ≤ stripe_rows)) }
     {
-        if stripe_rows == 0 || stripe_rows >= 0x8000_0000 {
+        if stripe_rows == 0 || stripe_rows as u64 >= CELL_LIMIT {
             return None;
         }
         Some(Options {

@@ -13,6 +13,8 @@ ghost use Rattle.orc_stripe_writer.specs.WrittenStreams.{AreWrittenMarks};
 ghost use Rattle.orc_stripe_writer.specs.WrittenColumn as spec;
 ghost use Rattle.orc_stripe_writer.specs.WrittenColumn.{HasBits, HasBytes, HasNumbers, HasGroups, HasWords, HasTexts, HasSizes, WritesValues};
 ghost use Rattle.orc_stripe_writer.specs.Adding.{AddsStream, AddsValues, AddsColumn};
+ghost use Rattle.orc_wire.specs.StreamKinds.{PRESENT};
+ghost use Rattle.orc_column_reader.specs.Stripe.{plain as plain_encoding};
 
 use crate::body::Body;
 use crate::byte_string::ByteString;
@@ -23,17 +25,10 @@ use crate::cell_values::{
 use crate::word_list::{WordList, entries_of, word_list_of};
 use orc_rle::{Rle, Sign};
 use orc_values::{Own, Scalar, Tree};
-use orc_wire::Encoding;
+use orc_wire::{
+    DATA, DICTIONARY, DICTIONARY_DATA, DICTIONARY_V2, DIRECT, DIRECT_V2, Encoding, LENGTH, PRESENT,
+};
 use std::alloc::{AllocError, Global};
-
-// The kinds of the streams that a column is written with.
-const PRESENT: u32 = 0;
-
-const DATA: u32 = 1;
-
-const LENGTH: u32 = 2;
-
-const DICTIONARY_DATA: u32 = 3;
 
 /// DIRECT or DIRECT_V2.
 fn direct(rle: Rle) -> Encoding
@@ -41,11 +36,11 @@ fn direct(rle: Rle) -> Encoding
 {
     match rle {
         Rle::One => Encoding {
-            kind: 0,
+            kind: DIRECT,
             dictionary_size: 0,
         },
         Rle::Two => Encoding {
-            kind: 2,
+            kind: DIRECT_V2,
             dictionary_size: 0,
         },
     }
@@ -57,11 +52,11 @@ fn dictionary(rle: Rle, entries: u32) -> Encoding
 {
     match rle {
         Rle::One => Encoding {
-            kind: 1,
+            kind: DICTIONARY,
             dictionary_size: entries,
         },
         Rle::Two => Encoding {
-            kind: 3,
+            kind: DICTIONARY_V2,
             dictionary_size: entries,
         },
     }
@@ -69,10 +64,10 @@ fn dictionary(rle: Rle, entries: u32) -> Encoding
 
 /// DIRECT, in either version.
 fn plain() -> Encoding
-    ensures { result ≡ spec.plain }
+    ensures { result ≡ plain_encoding }
 {
     Encoding {
-        kind: 0,
+        kind: DIRECT,
         dictionary_size: 0,
     }
 }
@@ -85,7 +80,7 @@ fn put_marks(
     body: &mut Body,
 ) -> Result<(), AllocError>
     ensures { OnOk result
-        (AddsStream (AreWrittenMarks (map is_value (own_cells owns.now))) column 0 body.old body.new) }
+        (AddsStream (AreWrittenMarks (map is_value (own_cells owns.now))) column PRESENT body.old body.new) }
 {
     if are_all_values(owns) {
         return Ok(());

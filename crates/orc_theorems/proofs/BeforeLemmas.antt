@@ -6,12 +6,13 @@ use Rattle.orc_wire.specs.Spells.{Spells}
 use Rattle.orc_wire.specs.declared.encoding.Encoding.{Encoding}
 use Rattle.orc_wire.specs.declared.row_index.RowIndexEntry.{RowIndexEntry}
 use Rattle.orc_wire.specs.declared.stripe_footer.StripeFooter.{StripeFooter}
+use Rattle.orc_wire.specs.EncodingKinds.{is_dictionary}
 use Rattle.orc_values.specs.Cells.{Cell}
 use Rattle.orc_values.specs.Columns.{cells}
 use Rattle.orc_values.specs.Shapes.{Shape, scalar, list_of, map_of, struct_of, width, shape_at}
 use Rattle.orc_values.specs.declared.kind.Scalar.TheVariants as kind
 use Rattle.orc_column_reader.specs.Directory.{slice}
-use Rattle.orc_column_reader.specs.Stripe.{Streams, HasFooter, uses_dictionary, encoding_at}
+use Rattle.orc_column_reader.specs.Stripe.{Streams, HasFooter, encoding_at}
 use Rattle.orc_row_index.specs.Places.{IsPosition, reader, octets, octets_place, octets_size, position_size}
 use Rattle.orc_row_index.specs.RunStreams.{RunStream, no_stream, bit_runs, byte_runs, number_runs, present_runs, text_runs, own_runs, text_octets, own_octets}
 use Rattle.orc_group_reader.specs.Entering.{AgreeFrom}
@@ -160,10 +161,10 @@ own_between (scalar kind.Short d) e f g ps o is same = (refl, refl, data_between
 own_between (scalar kind.Int d) e f g ps o is same = (refl, refl, data_between ps (present_of f) o (g 1) (f 1) is (same 1))
 own_between (scalar kind.Long d) e f g ps o is same = (refl, refl, data_between ps (present_of f) o (g 1) (f 1) is (same 1))
 own_between (scalar kind.Date d) e f g ps o is same = (refl, refl, data_between ps (present_of f) o (g 1) (f 1) is (same 1))
-own_between (scalar kind.Binary d) e f g ps o is same = (refl, refl, length_between (uses_dictionary e.kind) _ o (g 2) (f 2) is (same 2))
-own_between (scalar kind.String d) e f g ps o is same = texts_between (uses_dictionary e.kind) e f g ps (present_of f) o is (same 1) (same 2)
-own_between (list_of s d) e f g ps o is same = (refl, refl, length_between (uses_dictionary e.kind) _ o (g 2) (f 2) is (same 2))
-own_between (map_of l r d) e f g ps o is same = (refl, refl, length_between (uses_dictionary e.kind) _ o (g 2) (f 2) is (same 2))
+own_between (scalar kind.Binary d) e f g ps o is same = (refl, refl, length_between (is_dictionary e.kind) _ o (g 2) (f 2) is (same 2))
+own_between (scalar kind.String d) e f g ps o is same = texts_between (is_dictionary e.kind) e f g ps (present_of f) o is (same 1) (same 2)
+own_between (list_of s d) e f g ps o is same = (refl, refl, length_between (is_dictionary e.kind) _ o (g 2) (f 2) is (same 2))
+own_between (map_of l r d) e f g ps o is same = (refl, refl, length_between (is_dictionary e.kind) _ o (g 2) (f 2) is (same 2))
 own_between (struct_of fs d) e f g ps o is same = tt
 
 text_content : (d : Bool) (e : Encoding) (f g : ℕ → List ℕ) (off n : ℕ) → (octets_size (text_octets d (streams e f)) ≡ 1 → off ≡ n) → AgreeFrom off (g 1) (f 1)
@@ -180,7 +181,7 @@ content_between (scalar kind.Int d) e f g off n is h = tt
 content_between (scalar kind.Long d) e f g off n is h = tt
 content_between (scalar kind.Date d) e f g off n is h = tt
 content_between (scalar kind.Binary d) e f g off n is h = subst (λ (k : ℕ). AgreeFrom k (g 1) (f 1)) (is refl) h
-content_between (scalar kind.String d) e f g off n is h = text_content (uses_dictionary e.kind) e f g off n is h
+content_between (scalar kind.String d) e f g off n is h = text_content (is_dictionary e.kind) e f g off n is h
 content_between (list_of s d) e f g off n is h = tt
 content_between (map_of l r d) e f g off n is h = tt
 content_between (struct_of fs d) e f g off n is h = tt
@@ -211,8 +212,8 @@ column_before s x e f g before ps h same =
       own_same = runs_through (get_or last 0 0) (own_runs s (streams e g)) (own_runs s (streams e f)) (own_runs s x) (own_between s e f g ps (get_or last 0 0) in_last same) h.own_same;
       dictionary_same = λ d.
           let old = h.dictionary_same d in
-          let has : uses_dictionary e.kind ≡ true = ap (λ (k : Encoding). uses_dictionary k.kind) h.encoded ∙ d in
-          let two : g 2 ≡ f 2 = words_same (uses_dictionary e.kind) _ (g 2) (f 2) has (same 2) in
+          let has : is_dictionary e.kind ≡ true = ap (λ (k : Encoding). is_dictionary k.kind) h.encoded ∙ d in
+          let two : g 2 ≡ f 2 = words_same (is_dictionary e.kind) _ (g 2) (f 2) has (same 2) in
           let three : g 3 ≡ f 3 = (same 3).same in
           (two ∙ old.0, three ∙ old.1);
     }

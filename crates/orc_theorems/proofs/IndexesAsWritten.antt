@@ -10,13 +10,14 @@ use Rattle.orc_wire.specs.SpellsLaws.{one_spelled}
 use Rattle.orc_wire.specs.declared.encoding.Encoding.{Encoding}
 use Rattle.orc_wire.specs.declared.stripe_footer.StripeFooter.{StripeFooter}
 use Rattle.orc_wire.specs.declared.stripe_info.StripeInfo.{StripeInfo}
+use Rattle.orc_wire.specs.EncodingKinds.{is_dictionary}
 use Rattle.orc_values.specs.Cells.{Cell}
 use Rattle.orc_values.specs.Columns.{cells}
 use Rattle.orc_values.specs.Fits.{RowsFit}
 use Rattle.orc_values.specs.Shapes.{Shape, scalar, list_of, map_of, struct_of, width, shape_at}
 use Rattle.orc_values.specs.declared.kind.Scalar.TheVariants as kind
 use Rattle.orc_column_reader.specs.Directory.{slice}
-use Rattle.orc_column_reader.specs.Stripe.{Streams, version_at, uses_dictionary, columns_of, HasFooter, IsStripe}
+use Rattle.orc_column_reader.specs.Stripe.{Streams, version_at, columns_of, HasFooter, IsStripe}
 use Rattle.orc_row_index.specs.Bounds.{before_group}
 use Rattle.orc_row_index.specs.Places.{ArePositions, writer, AreWrittenPlaces}
 use Rattle.orc_row_index.specs.RowIndex.{IsWrittenIndex}
@@ -67,7 +68,7 @@ own_same (scalar kind.Int o) x y e a b = λ i. number_runs (version_at (e i).kin
 own_same (scalar kind.Long o) x y e a b = λ i. number_runs (version_at (e i).kind) Signed (a i)
 own_same (scalar kind.Date o) x y e a b = λ i. number_runs (version_at (e i).kind) Signed (a i)
 own_same (scalar kind.Binary o) x y e a b = λ i. number_runs (version_at (e i).kind) Unsigned (b i)
-own_same (scalar kind.String o) x y e a b = texts_same (uses_dictionary x.encoding.kind) (uses_dictionary y.encoding.kind) x y (ap (λ (k : Encoding). uses_dictionary k.kind) e) e a b
+own_same (scalar kind.String o) x y e a b = texts_same (is_dictionary x.encoding.kind) (is_dictionary y.encoding.kind) x y (ap (λ (k : Encoding). is_dictionary k.kind) e) e a b
 
 octets_same : (s : Shape) (x y : Streams) → x.encoding ≡ y.encoding → x.stream 1 ≡ y.stream 1 → own_octets s x ≡ own_octets s y
 octets_same (list_of s o) x y e a = refl
@@ -80,7 +81,7 @@ octets_same (scalar kind.Int o) x y e a = refl
 octets_same (scalar kind.Long o) x y e a = refl
 octets_same (scalar kind.Date o) x y e a = refl
 octets_same (scalar kind.Binary o) x y e a = ap Some a
-octets_same (scalar kind.String o) x y e a = contents_same (uses_dictionary x.encoding.kind) (uses_dictionary y.encoding.kind) x y (ap (λ (k : Encoding). uses_dictionary k.kind) e) a
+octets_same (scalar kind.String o) x y e a = contents_same (is_dictionary x.encoding.kind) (is_dictionary y.encoding.kind) x y (ap (λ (k : Encoding). is_dictionary k.kind) e) a
 
 places_same : (s : Shape) (x y : Streams) (before : List Cell) (positions : List ℕ) → x.encoding ≡ y.encoding → x.stream 0 ≡ y.stream 0 → x.stream 1 ≡ y.stream 1 → x.stream 2 ≡ y.stream 2
     → AreWrittenPlaces s x before positions → AreWrittenPlaces s y before positions

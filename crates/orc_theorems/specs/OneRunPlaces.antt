@@ -11,7 +11,7 @@ use Rattle.orc_values.specs.Cells.{Cell, values}
 use Rattle.orc_values.specs.Columns.{cells}
 use Rattle.orc_values.specs.Shapes.{Shape, width, shape_at}
 use Rattle.orc_column_reader.specs.Numbers.{is_run}
-use Rattle.orc_column_reader.specs.Stripe.{Streams, HasFooter, columns_of}
+use Rattle.orc_column_reader.specs.Stripe.{Streams, HasFooter, columns_of, in_present}
 use Rattle.orc_row_index.specs.Bounds.{before_group}
 use Rattle.orc_row_index.specs.Places.{RunPlace, BitPlace, octets, octets_place}
 use Rattle.orc_row_index.specs.RunStreams.{RunStream, no_stream, bit_runs, byte_runs, number_runs, present_runs, own_runs, own_octets}
@@ -60,7 +60,7 @@ pub record AreOneRunPlaces (s : Shape) (x : Streams) (before : List Cell) (posit
   pub first : List ℕ
   pub last : List ℕ
   pub parts : positions ≡ first ++ (octets_place (own_octets s x) (octets before) ++ last)
-  pub present_place : IsOneRunPosition (present_runs (x.stream 0)) (length before) first
+  pub present_place : IsOneRunPosition (present_runs (in_present x)) (length before) first
   pub own_place : IsOneRunPosition (own_runs s x) (length (values before)) last
 
 -- Each entry of the index of column c, as it is read of a stripe of these rows, has such positions behind the cells

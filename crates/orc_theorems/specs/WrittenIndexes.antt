@@ -2,6 +2,7 @@
 use Rattle.std.specs.Prelude.{◌≡◌, ℕ, ◌<◌, true, Option, List, [], ◌∷◌, length}
 use Rattle.orc_wire.specs.declared.stripe_footer.StripeFooter.{StripeFooter}
 use Rattle.orc_wire.specs.declared.stripe_info.StripeInfo.{StripeInfo}
+use Rattle.orc_wire.specs.StreamKinds.{ROW_INDEX}
 use Rattle.orc_values.specs.Cells.{Cell}
 use Rattle.orc_values.specs.Columns.{cells}
 use Rattle.orc_values.specs.Shapes.{Shape, width, shape_at}
@@ -19,9 +20,9 @@ use Rattle.orc_check.specs.Findings.{rows_at}
 -- the directory lists an index of column c: the one that is written of the column's streams and cells
 abbrev pub HasWrittenIndex : ℕ → Shape → List Cell → StripeFooter → List ℕ → ℕ → Type 0
 HasWrittenIndex stride s rows footer bytes c =
-    (has_stream c 6 footer.streams ≡ true)
+    (has_stream c ROW_INDEX footer.streams ≡ true)
     × IsWrittenIndex (shape_at s c) (columns_of footer bytes c) (cells s c rows)
-    (bounds_of s c rows (starts stride (length rows))) (slice c 6 footer.streams bytes)
+    (bounds_of s c rows (starts stride (length rows))) (slice c ROW_INDEX footer.streams bytes)
 
 -- a stripe of these rows has such an index of each column
 pub record IsIndexedAsWritten (s : Shape) (stride : ℕ) (info : StripeInfo) (bytes : List ℕ)

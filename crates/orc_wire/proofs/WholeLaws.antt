@@ -33,7 +33,8 @@ use Rattle.orc_wire.specs.CanonicalText.{payload_text, field_text, known_text, s
 use Rattle.orc_wire.specs.Canonical.{WholeIf, all_both}
 use Rattle.orc_wire.specs.CanonicalFields.{IsNumber, wire_most, some_top, all_top}
 use Rattle.orc_wire.specs.CanonicalKinds.{AreBelow, always_small, AreKept, says_kept}
-use Rattle.orc_wire.specs.CanonicalMessages.{one, two, three, is_dictionary, encoding_text, stream_text, stripe_footer_text, row_index_entry_text, row_index_text, stripe_stats_text, metadata_text, type_text, stripe_info_text, user_metadata_text, footer_text, integer_stats_text, string_stats_text, bucket_stats_text, date_stats_text, binary_stats_text, collection_stats_text, column_stats_text}
+use Rattle.orc_wire.specs.CanonicalMessages.{one, two, three, encoding_text, stream_text, stripe_footer_text, row_index_entry_text, row_index_text, stripe_stats_text, metadata_text, type_text, stripe_info_text, user_metadata_text, footer_text, integer_stats_text, string_stats_text, bucket_stats_text, date_stats_text, binary_stats_text, collection_stats_text, column_stats_text}
+use Rattle.orc_wire.specs.EncodingKinds.{is_dictionary}
 
 pub encoding_whole : (test : Bool) (m : Encoding) → (test ≡ false → m.dictionary_size ≡ 0)
     → WholeIf (last 0 (small 1)) (last 0 (small 2)) (always_small 1 one) (always_small 2 two) is_dictionary (lit≤ tt) test (m.kind, m.dictionary_size)

@@ -12,6 +12,7 @@ use Rattle.orc_wire.specs.Canonical.{Canonical, both, both_if, shaped_text}
 use Rattle.orc_wire.specs.CanonicalFields.{IsNumber}
 use Rattle.orc_wire.specs.CanonicalKinds.{always_number, always_small, always_text, known_number, known_small, known_signed, known_small_signed, known_flag}
 use Rattle.orc_wire.specs.CanonicalKinds.{text_where_known, each_as_text, each_message, small_list, number_list, as_kept, where_shown}
+use Rattle.orc_wire.specs.EncodingKinds.{is_dictionary}
 
 pub one : IsNumber 1
 one = record { least = lit≤ tt; most = lit< tt }
@@ -48,10 +49,6 @@ twelve = record { least = lit≤ tt; most = lit< tt }
 
 pub eight_thousand : IsNumber 8000
 eight_thousand = record { least = lit≤ tt; most = lit< tt }
-
--- DICTIONARY and DICTIONARY_V2
-abbrev pub is_dictionary : ℕ → Bool
-is_dictionary kind = (kind == 1) || (kind == 3)
 
 -- kind; dictionarySize for dictionary kinds
 abbrev pub encoding_text : Canonical encoding

@@ -18,4 +18,6 @@ pub mod Canonical
 pub mod CanonicalFields
 pub mod CanonicalKinds
 pub mod CanonicalMessages
+pub mod EncodingKinds
 pub mod FieldsNext
+pub mod StreamKinds

@@ -1,4 +1,7 @@
 //! How a column is encoded in a stripe.
+ghost use Rattle.std.specs.Prelude.{◌≡◌};
+ghost use Rattle.orc_wire.specs.EncodingKinds.{is_dictionary as has_dictionary};
+
 use crate::canonical::put_number;
 use crate::fault::WireFault;
 use crate::field::Field;
@@ -6,14 +9,36 @@ use crate::members::take_u32;
 use crate::message::Message;
 use std::alloc::Global;
 
+/// The encoding of values as they are, with integers in runs of version 1.
+pub const DIRECT: u32 = 0;
+
+/// The encoding of strings as their indexes in a dictionary, with integers in runs of version 1.
+pub const DICTIONARY: u32 = 1;
+
+/// The encoding of values as they are, with integers in runs of version 2.
+pub const DIRECT_V2: u32 = 2;
+
+/// The encoding of strings as their indexes in a dictionary, with integers in runs of version 2.
+pub const DICTIONARY_V2: u32 = 3;
+
 /// How a column is encoded in a stripe (ORC specification, "Stripe Footer", ColumnEncoding). Its kind
 /// must be there; the size of its dictionary is written for dictionary kinds alone.
 #[derive(Clone, Copy, Debug, PartialEq, Eq)]
 pub struct Encoding {
-    /// 0 DIRECT, 1 DICTIONARY, 2 DIRECT_V2, 3 DICTIONARY_V2.
+    /// `DIRECT`, `DICTIONARY`, `DIRECT_V2` or `DICTIONARY_V2`, where the ORC specification has it.
     pub kind: u32,
     /// How many entries the dictionary has.
     pub dictionary_size: u32,
+}
+
+impl Encoding {
+    /// Whether the column has a dictionary.
+    pub fn is_dictionary(&self) -> bool
+        // The kinds with a dictionary are DICTIONARY and DICTIONARY_V2.
+        ensures { result ≡ has_dictionary self.now.kind }
+    {
+        self.kind == DICTIONARY || self.kind == DICTIONARY_V2
+    }
 }
 
 impl Message for Encoding {
@@ -30,7 +55,7 @@ impl Message for Encoding {
 
     fn empty(_alloc: Global) -> Encoding {
         Encoding {
-            kind: 0,
+            kind: DIRECT,
             dictionary_size: 0,
         }
     }
@@ -43,9 +68,10 @@ impl Message for Encoding {
     fn put_members(&self, out: &mut Vec<u8>) -> Result<(), WireFault> {
         let dictionary_size = u64::from(self.dictionary_size);
         put_number(1, u64::from(self.kind), out)?;
-        match self.kind {
-            1 | 3 => put_number(2, dictionary_size, out),
-            _ => Ok(()),
+        if self.is_dictionary() {
+            put_number(2, dictionary_size, out)
+        } else {
+            Ok(())
         }
     }
 

@@ -32,7 +32,8 @@ ghost use Rattle.orc_wire.specs.Messages.{type_msg, footer};
 ghost use Rattle.orc_wire.specs.CanonicalText.{number_text, sized_text, known_text, list_text, packed_text, shown_text};
 ghost use Rattle.orc_wire.specs.CanonicalText.{flag_number};
 ghost use Rattle.orc_wire.specs.CanonicalKinds.{AreBelow, AreKept};
-ghost use Rattle.orc_wire.specs.CanonicalMessages.{is_dictionary, encoding_text, stream_text, stripe_footer_text, post_script_text, type_text, stripe_info_text, user_metadata_text, footer_text, integer_stats_text, string_stats_text, bucket_stats_text, date_stats_text, binary_stats_text, collection_stats_text, column_stats_text, stripe_stats_text, metadata_text, row_index_entry_text, row_index_text};
+ghost use Rattle.orc_wire.specs.CanonicalMessages.{encoding_text, stream_text, stripe_footer_text, post_script_text, type_text, stripe_info_text, user_metadata_text, footer_text, integer_stats_text, string_stats_text, bucket_stats_text, date_stats_text, binary_stats_text, collection_stats_text, column_stats_text, stripe_stats_text, metadata_text, row_index_entry_text, row_index_text};
+ghost use Rattle.orc_wire.specs.EncodingKinds.{is_dictionary};
 
 use crate::message::Message;
 

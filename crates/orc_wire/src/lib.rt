@@ -26,7 +26,7 @@ mod stripe_info;
 mod type_msg;
 
 pub use column_stats::{ColumnStats, Metadata, StripeStatistics};
-pub use encoding::Encoding;
+pub use encoding::{DICTIONARY, DICTIONARY_V2, DIRECT, DIRECT_V2, Encoding};
 pub use fault::WireFault;
 pub use field::{Field, Value};
 pub use field_writer::FieldWriter;
@@ -41,6 +41,8 @@ pub use stats_records::{
     BinaryStatistics, BucketStatistics, CollectionStatistics, DateStatistics, IntegerStatistics,
     StringStatistics,
 };
-pub use stripe_footer::{StreamMsg, StripeFooter};
+pub use stripe_footer::{
+    CELL_KINDS, DATA, DICTIONARY_DATA, LENGTH, PRESENT, ROW_INDEX, StreamMsg, StripeFooter,
+};
 pub use stripe_info::StripeInfo;
 pub use type_msg::TypeMsg;

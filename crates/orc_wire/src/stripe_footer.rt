@@ -9,10 +9,28 @@ use crate::members::{take_u32, take_u64};
 use crate::message::Message;
 use std::alloc::Global;
 
+/// The kind of the stream that says which of a column's cells are not null.
+pub const PRESENT: u32 = 0;
+
+/// The kind of the stream of a column's values, or of their indexes in its dictionary.
+pub const DATA: u32 = 1;
+
+/// The kind of the stream of the lengths of a column's values, or of its dictionary's entries.
+pub const LENGTH: u32 = 2;
+
+/// The kind of the stream of the entries of a column's dictionary.
+pub const DICTIONARY_DATA: u32 = 3;
+
+/// The kinds below this one are those that a column's cells are read from.
+pub const CELL_KINDS: u32 = 4;
+
+/// The kind of the stream that is a column's row index.
+pub const ROW_INDEX: u32 = 6;
+
 /// A stream of a stripe (ORC specification, "Stripe Footer", Stream). Its kind must be there.
 #[derive(Clone, Copy, Debug, PartialEq, Eq)]
 pub struct StreamMsg {
-    /// What it holds: 0 for PRESENT to 8 for BLOOM_FILTER_UTF8.
+    /// What it holds: `PRESENT` or another kind, up to 8 for BLOOM_FILTER_UTF8.
     pub kind: u32,
     /// The column that it belongs to.
     pub column: u32,
@@ -34,7 +52,7 @@ impl Message for StreamMsg {
 
     fn empty(_alloc: Global) -> StreamMsg {
         StreamMsg {
-            kind: 0,
+            kind: PRESENT,
             column: 0,
             length: 0,
         }

@@ -6,19 +6,17 @@ ghost use Rattle.orc_values.specs.Views.{view, views, paired, shape, fields as f
 ghost use Rattle.orc_file.specs.Counts.{with_row, are_few};
 ghost use Rattle.orc_file.specs.Counting.{AddsOne, AddsCells, AddsFields};
 
+use orc_column_reader::column::CELL_LIMIT;
 use orc_types::Schema;
 use orc_values::{Field, MapPair, Row, Tree, pairs_of, parts_of, width_of};
 use std::alloc::{AllocError, Global};
-
-/// A column of a stripe has fewer cells than this.
-const TOO_MANY_CELLS: u64 = 1 << 31;
 
 /// One cell more, up to the limit.
 fn count_one(counts: &mut Vec<u64>, column: usize)
     requires { column < length counts.old.items }
     ensures { AddsOne column counts.old.items counts.new.items }
 {
-    if counts[column] < TOO_MANY_CELLS {
+    if counts[column] < CELL_LIMIT {
         counts[column] += 1;
     }
 }
@@ -111,7 +109,7 @@ pub(crate) fn count_row(schema: &Schema, row: &Row<'_>, counts: &[u64], sums: &m
 {
     sums.copy_from_slice(counts);
     count_cell(schema.tree(), row, 0, sums);
-    sums.iter().all(|count| *count < TOO_MANY_CELLS)
+    sums.iter().all(|count| *count < CELL_LIMIT)
 }
 
 /// No cells yet, of each column.

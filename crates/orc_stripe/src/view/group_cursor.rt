@@ -11,6 +11,7 @@ ghost use Rattle.orc_stripe.specs.GroupCursors.{HasGroup, HasEntries, IsGroupEnt
 
 use crate::cursor::RowCursor;
 use crate::view::StripeView;
+use orc_column_reader::column::CELL_LIMIT;
 use orc_column_reader::fault::{Spot, StripeFault};
 use orc_column_reader::located::locate;
 use orc_group_reader::readers_at;
@@ -119,7 +120,7 @@ impl<'a> StripeView<'a> {
         if self.stride == 0 {
             return Err(StripeFault::NoIndex(Spot::Stripe));
         }
-        if count >= 0x8000_0000 {
+        if count >= CELL_LIMIT {
             return Err(StripeFault::TooMany(0));
         }
         let Some(first) = group.checked_mul(self.stride as u64) else {

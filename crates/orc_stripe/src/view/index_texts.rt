@@ -3,10 +3,11 @@ ghost use Rattle.std.specs.Prelude.{◌≡◌, ◌≢◌, ◌<◌, ℕ, None, Li
 ghost use Rattle.std.specs.Bool.{MatchBool};
 ghost use Rattle.orc_wire.specs.declared.fault.WireFault.TheVariants.{OutOfMemory};
 ghost use Rattle.orc_wire.specs.declared.row_index.RowIndexMsg.{RowIndexMsg as IndexMessage};
+ghost use Rattle.orc_wire.specs.StreamKinds.{ROW_INDEX};
 ghost use Rattle.orc_column_reader.specs.Directory.{have_room, is_of};
 ghost use Rattle.orc_stripe.specs.IndexTexts.{index_at, or_else, IsMessage, AreIndexTexts};
 
-use orc_wire::{Message, RowIndexMsg, StreamMsg, WireFault};
+use orc_wire::{Message, ROW_INDEX, RowIndexMsg, StreamMsg, WireFault};
 use std::alloc::{AllocError, Global};
 
 /// The bytes of a column's row index, where the directory lists one.
@@ -20,10 +21,10 @@ fn keep_index<'a>(texts: &mut Vec<IndexText<'a>>, stream: &StreamMsg, bytes: &'a
     ensures len { length texts.new.items ≡ length texts.old.items }
     ensures kept { (column : ℕ) → column < length texts.old.items
         → index_at texts.new.items column ≡ or_else (index_at texts.old.items column)
-        (if is_of column 6 stream.now then Some bytes.now else None) }
+        (if is_of column ROW_INDEX stream.now then Some bytes.now else None) }
 {
     let column = stream.column as usize;
-    if stream.kind == 6 && column < texts.len() && texts[column].bytes.is_none() {
+    if stream.kind == ROW_INDEX && column < texts.len() && texts[column].bytes.is_none() {
         texts[column] = IndexText { bytes: Some(bytes) };
     }
 }

@@ -3,6 +3,7 @@ ghost use Rattle.std.specs.Prelude.{◌≡◌, ◌≢◌, ◌<◌, ◌⊎◌, �
 ghost use Rattle.orc_values.specs.Cells.{Cell};
 ghost use Rattle.orc_values.specs.Shapes.{width};
 ghost use Rattle.orc_wire.specs.declared.row_index.RowIndexMsg.{RowIndexMsg as IndexMessage};
+ghost use Rattle.orc_wire.specs.StreamKinds.{ROW_INDEX};
 ghost use Rattle.orc_column_reader.specs.Directory.{has_stream, have_room, is_of, slice};
 ghost use Rattle.orc_column_reader.specs.Faults.{RowsFault};
 ghost use Rattle.orc_column_reader.specs.Located.{AreLocated};
@@ -21,22 +22,22 @@ use orc_row_index::Counts;
 use orc_row_index_check::positions_right_behind;
 use orc_stripe_writer::group_starts;
 use orc_values::tree_at;
-use orc_wire::{Message, RowIndexMsg, StreamMsg};
+use orc_wire::{Message, ROW_INDEX, RowIndexMsg, StreamMsg};
 use std::alloc::Global;
 
 /// Whether the stream is the row index of the column.
 fn is_index(stream: &StreamMsg, column: usize) -> bool
-    ensures { result ≡ is_of column 6 stream.now }
+    ensures { result ≡ is_of column ROW_INDEX stream.now }
 {
-    stream.column as usize == column && stream.kind == 6
+    stream.column as usize == column && stream.kind == ROW_INDEX
 }
 
 /// The bytes of a column's row index, where the directory lists one.
 fn index_bytes<'a>(column: usize, streams: &[StreamMsg], bytes: &'a [u8]) -> Option<&'a [u8]>
     requires { have_room (length bytes.now) streams.now ≡ true }
-    ensures there { IfSome result (λ text. (has_stream column 6 streams.now ≡ true)
-        × (text.now ≡ slice column 6 streams.now bytes.now)) }
-    ensures missing { result ≡ None → has_stream column 6 streams.now ≡ false }
+    ensures there { IfSome result (λ text. (has_stream column ROW_INDEX streams.now ≡ true)
+        × (text.now ≡ slice column ROW_INDEX streams.now bytes.now)) }
+    ensures missing { result ≡ None → has_stream column ROW_INDEX streams.now ≡ false }
 {
     let mut left = bytes;
     for stream in streams {

@@ -21,7 +21,7 @@ columns_are_few-returns-in_ok-elements-in-List-clause-yes t c =
     let is : shape c.args.tree.now ≡ list_of below o = ap shape c.in-List.is ∙ shape-List c.in-List.element c.in-List.field-1 ∙ ap (λ x. list_of (shape x) o) (sym c.deref.ensures) in
     let here : lent_cells c.deref-in-List.result.now ≡ flat_map parts (values cs) = ap lent_cells c.deref-in-List.ensures.value ∙ c.in_ok-elements-in-List.ensures ∙ sym (parts_values cs) in
     IfOk-weaker c.columns_are_few.result _ _
-    (λ b h. OnTrue_from b _ (λ e. subst (λ (x : Shape). AreFew x cs) (sym is) (few_list below o cs (cells_long c.args.cells.now c.if-cells-ge2147483648.false) (subst (λ (xs : List Cell). AreFew below xs) here (OnTrue_at e h)))))
+    (λ b h. OnTrue_from b _ (λ e. subst (λ (x : Shape). AreFew x cs) (sym is) (few_list below o cs (cells_long c.args.cells.now (omega (arith, c.if-cells-ge-CELL_LIMIT.false))) (subst (λ (xs : List Cell). AreFew below xs) here (OnTrue_at e h)))))
     c.columns_are_few.ensures.yes
 
 pub columns_are_few-returns-in_ok-elements-in-List-clause-no : goal.columns_are_few-returns-in_ok-elements-in-List-clause-no
@@ -43,7 +43,7 @@ columns_are_few-returns-in-Map-clause-yes t c =
     let cs = lent_cells c.args.cells.now in
     let is : shape c.args.tree.now ≡ map_of k v o = ap shape c.in-Map.is ∙ shape-Map c.in-Map.key c.in-Map.value c.in-Map.field-2 ∙ ap (λ x. map_of (shape x) (shape c.in-Map.value.value) o) (sym c.deref-in-Map.ensures) ∙ ap (λ x. map_of k (shape x) o) (sym c.deref-in-Map-2.ensures) in
     IfOk-weaker c.pairs_are_few.result _ _
-    (λ b h. OnTrue_from b _ (λ e. subst (λ (x : Shape). AreFew x cs) (sym is) (few_map k v o cs (cells_long c.args.cells.now c.if-cells-ge2147483648.false) (OnTrue_at e h))))
+    (λ b h. OnTrue_from b _ (λ e. subst (λ (x : Shape). AreFew x cs) (sym is) (few_map k v o cs (cells_long c.args.cells.now (omega (arith, c.if-cells-ge-CELL_LIMIT.false))) (OnTrue_at e h))))
     c.pairs_are_few.ensures.yes
 
 pub columns_are_few-returns-in-Map-clause-no : goal.columns_are_few-returns-in-Map-clause-no
@@ -88,7 +88,7 @@ columns_are_few-returns-in-Struct-clause-yes t c =
     let cs = lent_cells c.args.cells.now in
     let is : shape c.args.tree.now ≡ struct_of fs o = ap shape c.in-Struct.is ∙ shape-Struct c.in-Struct.fields c.in-Struct.field-1 ∙ ap (λ x. struct_of (fields x) o) (sym c.deref-in-Struct.ensures.value) in
     IfOk-weaker c.fields_are_few.result _ _
-    (λ b h. OnTrue_from b _ (λ e. subst (λ (x : Shape). AreFew x cs) (sym is) (few_struct fs o cs (cells_long c.args.cells.now c.if-cells-ge2147483648.false) (OnTrue_at e h))))
+    (λ b h. OnTrue_from b _ (λ e. subst (λ (x : Shape). AreFew x cs) (sym is) (few_struct fs o cs (cells_long c.args.cells.now (omega (arith, c.if-cells-ge-CELL_LIMIT.false))) (OnTrue_at e h))))
     c.fields_are_few.ensures.yes
 
 pub columns_are_few-returns-in-Struct-clause-no : goal.columns_are_few-returns-in-Struct-clause-no

@@ -1,8 +1,8 @@
 use Rattle.orc_wire.specs.CanonicalKinds.{says_kept}
-use Rattle.orc_wire.specs.CanonicalMessages.{is_dictionary}
 use Rattle.orc_wire.proofs.KeptLaws.{kept_or_not}
 use Rattle.orc_wire.proofs.WholeLaws.{encoding_whole, footer_whole, footer_kept, column_whole, directory_whole, entry_whole, integer_shown, string_shown, bucket_shown, date_shown, binary_shown, collection_shown, column_shown, integer_whole, string_whole, bucket_whole, date_whole, binary_whole, collection_whole, stripes_whole, metadata_whole, index_whole}
 use Rattle.orc_wire.proofs.laws.whole_laws.Goals as goal
+use Rattle.orc_wire.specs.EncodingKinds.{is_dictionary}
 
 pub returns-clause-encoding : goal.returns-clause-encoding
 returns-clause-encoding c = λ m h. encoding_whole (is_dictionary m.kind) m h

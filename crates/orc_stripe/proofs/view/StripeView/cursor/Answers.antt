@@ -15,18 +15,18 @@ use Rattle.orc_group_reader.proofs.OnlyMemory.{only_memory}
 use Rattle.orc_stripe.proofs.RowsLemmas.{rows_too_many}
 use Rattle.orc_stripe.proofs.view.StripeView.cursor.Goals as goal
 
-pub returns-then-count-ge2147483648-clause-only : goal.returns-then-count-ge2147483648-clause-only
-returns-then-count-ge2147483648-clause-only c = λ rows h.
+pub returns-then-count-ge-CELL_LIMIT-clause-only : goal.returns-then-count-ge-CELL_LIMIT-clause-only
+returns-then-count-ge-CELL_LIMIT-clause-only c = λ rows h.
     let v = c.self.inside in
     let is = rw (← c.self.view_is) at h in
-    absurd (rows_too_many v.schema.now (columns_of v.footer v.bytes.now) v.info.number_of_rows rows c.if-count-ge2147483648.true (by_footer v.schema.now v.info v.bytes.now v.footer rows c.self.invariant is))
+    absurd (rows_too_many v.schema.now (columns_of v.footer v.bytes.now) v.info.number_of_rows rows (omega (arith, c.if-count-ge-CELL_LIMIT.true)) (by_footer v.schema.now v.info v.bytes.now v.footer rows c.self.invariant is))
 
-pub returns-then-count-ge2147483648-clause-fault : goal.returns-then-count-ge2147483648-clause-fault
-returns-then-count-ge2147483648-clause-fault c = λ memory.
+pub returns-then-count-ge-CELL_LIMIT-clause-fault : goal.returns-then-count-ge-CELL_LIMIT-clause-fault
+returns-then-count-ge-CELL_LIMIT-clause-fault c = λ memory.
     let v = c.self.inside in
     rw (← c.self.view_is) (record {
-      none = λ rows h. rows_too_many v.schema.now (columns_of v.footer v.bytes.now) v.info.number_of_rows rows c.if-count-ge2147483648.true h;
-      reason = inl (refl, c.if-count-ge2147483648.true);
+      none = λ rows h. rows_too_many v.schema.now (columns_of v.footer v.bytes.now) v.info.number_of_rows rows (omega (arith, c.if-count-ge-CELL_LIMIT.true)) h;
+      reason = inl (refl, (omega (arith, c.if-count-ge-CELL_LIMIT.true)));
     })
 
 pub returns-in-Ok-clause-found : goal.returns-in-Ok-clause-found
@@ -35,7 +35,7 @@ returns-in-Ok-clause-found c = λ rows h.
     let x = columns_of v.footer v.bytes.now in
     let s = c.tree-tree.ensures.same in
     let made = all_put v.footer v.bytes.now (shape c.tree-tree.result.now) c.in_ok-readers.readers.items c.put_tree.new.readers.items c.in_ok-readers.ensures.items (subst (λ b. Puts v.footer b (shape c.tree-tree.result.now) c.in_ok-readers.readers.items c.put_tree.new.readers.items) c.in_ok-located.ensures.same c.in-Ok.ensures.found) in
-    let n = to_number (shape c.tree-tree.result.now) x rows (omega (arith, h.counted, c.if-count-ge2147483648.false)) ((tree_alike (shape c.tree-tree.result.now) x c.put_tree.new.readers.items made).to rows h.spelled) in
+    let n = to_number (shape c.tree-tree.result.now) x rows (omega (arith, h.counted, (omega (arith, c.if-count-ge-CELL_LIMIT.false)))) ((tree_alike (shape c.tree-tree.result.now) x c.put_tree.new.readers.items made).to rows h.spelled) in
     rw (← c.self.view_is) (record {
       footer = v.footer;
       has_footer = c.self.invariant;

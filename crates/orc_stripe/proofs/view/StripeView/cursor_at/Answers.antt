@@ -13,11 +13,11 @@ use Rattle.orc_stripe.proofs.Opened.{footer_room, footer_columns}
 use Rattle.orc_stripe.proofs.RowsLemmas.{rows_too_many}
 use Rattle.orc_stripe.proofs.view.StripeView.cursor_at.Goals as goal
 
-pub returns-then-count-ge2147483648-clause-starts : goal.returns-then-count-ge2147483648-clause-starts
-returns-then-count-ge2147483648-clause-starts c = λ x rows h.
+pub returns-then-count-ge-CELL_LIMIT-clause-starts : goal.returns-then-count-ge-CELL_LIMIT-clause-starts
+returns-then-count-ge-CELL_LIMIT-clause-starts c = λ x rows h.
     let v = c.self.inside in
     let spelled = rw (← c.self.view_is) at h.spelled in
-    absurd (rows_too_many v.schema.now x v.info.number_of_rows rows c.if-count-ge2147483648.true spelled)
+    absurd (rows_too_many v.schema.now x v.info.number_of_rows rows (omega (arith, c.if-count-ge-CELL_LIMIT.true)) spelled)
 
 pub returns-in-Err-clause-starts : goal.returns-in-Err-clause-starts
 returns-in-Err-clause-starts c = λ x rows h. c.in-Err.ensures.refused (λ column lt. let k = h.column column lt in (k.0, k.1))
