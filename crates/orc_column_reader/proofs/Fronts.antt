@@ -2,8 +2,8 @@
 use Rattle.std.proofs.Common.{◌≡◌, ℕ, zero, suc, ◌+◌, ◌-◌, ◌<◌, ◌≤◌, ℤ, Bool, List, [], ◌∷◌, ◌++◌, map, length, refl, sym, ap, ◌∙◌, subst, arith, append_assoc, length-append}
 use Rattle.std.proofs.lemmas.List.{length-map, map-append}
 use Rattle.orc_values.specs.Cells.{Cell, null, leaf, list, struct, pairs, is_value, values}
+use Rattle.orc_values.specs.Trues.{trues}
 use Rattle.orc_column_reader.specs.Fronts.{Leaves, Lacks}
-use Rattle.orc_column_reader.specs.Needs.{trues}
 use Rattle.orc_column_reader.specs.Spellings.{Nullable, AllStand, Standing, size, joined, Grouped, Within, Paired, zip_cons, Fielded}
 
 -- nothing was taken

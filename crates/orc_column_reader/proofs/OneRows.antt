@@ -6,6 +6,7 @@ use Rattle.orc_values.specs.Cells.{Cell, is_value, values}
 use Rattle.orc_values.specs.Shapes.{Shape, scalar, list_of, map_of, struct_of, Fields, no_field, field, width}
 use Rattle.orc_values.specs.declared.kind.Scalar.{Scalar}
 use Rattle.orc_values.specs.declared.kind.Scalar.TheVariants as kind
+use Rattle.orc_values.specs.Trues.{trues}
 use Rattle.orc_rle.specs.declared.sign.Sign.{Sign}
 use Rattle.orc_rle.specs.declared.sign.Sign.TheVariants.{Signed, Unsigned}
 use Rattle.orc_rle.proofs.StreamLemmas.{one_stream}
@@ -19,7 +20,6 @@ use Rattle.orc_rle.specs.BitStream.{IsBitStream}
 use Rattle.orc_column_reader.specs.Columns.{IsBool, IsByte, IsInt, IsDate, IsText, IsBinary, IsWord, IsList, IsMap, IsRecord}
 use Rattle.orc_column_reader.specs.Stripe.{Streams, version, Marks, Is, IsDictionary, SpellsScalar, SpellsTexts, SpellsInts, SpellsTree, SpellsFields, SpellsCells, has_dictionary, most_cells}
 use Rattle.orc_column_reader.proofs.Fronts.{same_pairs, length-zip, stand_length, one_standing, same_groups, joined_length, same_cells, length-values}
-use Rattle.orc_column_reader.specs.Needs.{trues}
 use Rattle.orc_column_reader.proofs.NumbersLemmas.{laws_of}
 use Rattle.orc_column_reader.proofs.BitsLemmas.{one_bit_stream}
 use Rattle.orc_column_reader.proofs.ReaderLemmas.{one_bool, one_byte, one_int, one_date, one_text, one_binary, one_word, one_list, one_map, one_record}

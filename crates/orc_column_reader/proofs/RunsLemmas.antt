@@ -1,9 +1,8 @@
 -- What a reader of runs has still to give, whatever a run is.
 use Rattle.std.proofs.Common.{get_or, ◌≡◌, ℕ, zero, suc, ◌+◌, ◌<◌, ◌≤◌, List, [], ◌∷◌, ◌++◌, length, take, drop, refl, sym, ap, ◌∙◌, subst, arith, append-nil, take-append-drop}
-use Rattle.orc_rle.specs.Stream.{IsStream}
+use Rattle.orc_rle.specs.Stream.{IsStream, RunsLeft}
 use Rattle.orc_rle.proofs.StreamLemmas.{runs_rest}
 use Rattle.orc_column_reader.specs.Fronts.{Leaves, Lacks}
-use Rattle.orc_column_reader.specs.Runs.{RunsLeft}
 
 -- no run begins another, and each has bytes and values
 pub record RunLaws {A : Type 0} (is_run : List ℕ → List A → Type 0) : Type 0 where

@@ -3,8 +3,7 @@ use Rattle.std.proofs.Common.{◌≡◌, ℕ, zero, suc, ◌+◌, ◌<◌, ◌�
 use Rattle.std.proofs.lemmas.List.{length-take-le}
 use Rattle.orc_rle.specs.declared.fault.RunFault.{RunFault}
 use Rattle.orc_rle.specs.declared.fault.RunFault.TheVariants as run
-use Rattle.orc_rle.specs.Stream.{IsStream, StopsWithin, IsTooFew, IsNoRun, IsTooMany, at_place}
-use Rattle.orc_column_reader.specs.Runs.{RunsLeft}
+use Rattle.orc_rle.specs.Stream.{IsStream, StopsWithin, IsTooFew, IsNoRun, IsTooMany, at_place, RunsLeft}
 use Rattle.orc_column_reader.specs.RunsMet.{StopsThere, StopsLater, RunsMeet}
 use Rattle.orc_column_reader.proofs.RunsLemmas.{RunLaws, drop_twice, past_end, not_past_end, runs_ended}
 

@@ -1,9 +1,9 @@
 -- Streams of bytes in runs (ORC specification, "Byte Run Length Encoding").
 use Rattle.std.specs.Prelude.{ℕ, List, drop}
 use Rattle.orc_rle.specs.ByteRun.{IsByteRun}
-use Rattle.orc_rle.specs.Stream.{IsStream}
+use Rattle.orc_rle.specs.Stream.{IsStream, RunsLeft}
 use Rattle.orc_column_reader.specs.declared.bytes.RunLengthBytes.{RunLengthBytes}
-use Rattle.orc_column_reader.specs.Runs.{RunsLeft, RunsFirst}
+use Rattle.orc_column_reader.specs.Runs.{RunsFirst}
 
 -- the bytes that a stream's bytes spell
 abbrev pub AreBytes : List ℕ → List ℕ → Type 0

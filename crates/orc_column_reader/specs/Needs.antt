@@ -7,12 +7,7 @@ use Rattle.orc_rle.specs.BitStream.{digit}
 use Rattle.orc_rle.specs.ByteRun.{IsByteRun}
 use Rattle.orc_column_reader.specs.Runs.{Begins}
 use Rattle.orc_column_reader.specs.RunFaults.{Needed}
-
--- how many are true
-abbrev pub trues : List Bool → ℕ
-trues [] = 0
-trues (false ∷ bs) = trues bs
-trues (true ∷ bs) = suc (trues bs)
+use Rattle.orc_values.specs.Trues.{trues}
 
 -- booleans that come first in runs of their bytes
 pub record BoolsBegin (bytes : List ℕ) (bools : List Bool) : Type 0 where

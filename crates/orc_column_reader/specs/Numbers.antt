@@ -3,11 +3,11 @@ use Rattle.std.specs.Prelude.{ℕ, ℤ, List, drop}
 use Rattle.orc_rle.specs.declared.sign.Sign.{Sign}
 use Rattle.orc_rle.specs.RunOne.{IsRunOne}
 use Rattle.orc_rle.specs.RunTwo.{IsRunTwo}
-use Rattle.orc_rle.specs.Stream.{IsStream}
+use Rattle.orc_rle.specs.Stream.{IsStream, RunsLeft}
 use Rattle.orc_rle.specs.declared.sign.Rle.{Rle}
 use Rattle.orc_rle.specs.declared.sign.Rle.TheVariants.{One, Two}
 use Rattle.orc_column_reader.specs.declared.numbers.Numbers.{Numbers}
-use Rattle.orc_column_reader.specs.Runs.{RunsLeft, RunsFirst}
+use Rattle.orc_column_reader.specs.Runs.{RunsFirst}
 
 -- a run of that version
 abbrev pub is_run : Rle → Sign → List ℕ → List ℤ → Type 0

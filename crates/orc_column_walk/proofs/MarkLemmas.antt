@@ -6,13 +6,13 @@ use Rattle.orc_rle.specs.declared.fault.RunFault.{RunFault}
 use Rattle.orc_column_reader.specs.Columns.{MarksLeft}
 use Rattle.orc_column_reader.specs.Faults.{RunsFail}
 use Rattle.orc_column_reader.specs.Fronts.{Leaves}
-use Rattle.orc_column_reader.specs.Needs.{trues}
 use Rattle.orc_column_reader.specs.RunFaults.{Always}
 use Rattle.orc_column_reader.specs.RunsMet.{MarksMeet}
 use Rattle.orc_column_reader.specs.declared.bits.Bits.{Bits}
 use Rattle.orc_column_reader.specs.declared.fault.StreamKind.TheVariants.{Present}
 use Rattle.orc_column_reader.proofs.NeedLemmas.{runs_more}
 use Rattle.orc_column_walk.proofs.ReadLemmas.{Meets, AreRead, none_read, one_read}
+use Rattle.orc_values.specs.Trues.{trues}
 
 abbrev pub PresentMet : ℕ → Option Bits → Meets
 PresentMet column present all n f = RunsFail Present column (Always all n (MarksMeet present)) f

@@ -6,7 +6,6 @@ use Rattle.orc_rle.specs.declared.sign.Sign.TheVariants.{Unsigned}
 use Rattle.orc_rle.proofs.StreamLemmas.{one_stream}
 use Rattle.orc_values.specs.Cells.{Cell, is_value, values}
 use Rattle.orc_values.specs.Shapes.{Shape, scalar, list_of, map_of, struct_of, Fields, no_field, field, width, widths}
-use Rattle.orc_column_reader.specs.Needs.{trues}
 use Rattle.orc_column_reader.specs.Numbers.{is_run}
 use Rattle.orc_column_reader.specs.Spellings.{Nullable}
 use Rattle.orc_column_reader.specs.Stripe.{Streams, version, Marks}
@@ -15,6 +14,7 @@ use Rattle.orc_column_reader.proofs.BitsLemmas.{one_bit_stream}
 use Rattle.orc_column_reader.proofs.NumbersLemmas.{laws_of}
 use Rattle.orc_column_reader.proofs.OneRows.{One, one_cells}
 use Rattle.orc_values.specs.Childless.{list_of_size, map_of_size, childless_struct}
+use Rattle.orc_values.specs.Trues.{trues}
 use Rattle.orc_column_walk.specs.OwnColumns.{SpellsSizes, IsOwnColumn, AreOwnColumns, AreOwnFields, elements_together, pairs_together}
 
 -- ---- one column

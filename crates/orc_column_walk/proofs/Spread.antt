@@ -2,7 +2,7 @@
 use Rattle.std.proofs.Common.{◌≡◌, Bool, true, false, List, [], ◌∷◌, map, length, refl, ap, arith}
 use Rattle.std.specs.List.{AllByRecursion}
 use Rattle.orc_values.specs.Cells.{Cell, null, is_value, values}
-use Rattle.orc_column_reader.specs.Needs.{trues}
+use Rattle.orc_values.specs.Trues.{trues}
 
 abbrev pub spread : List Bool → List Cell → List Cell
 spread [] vs = []

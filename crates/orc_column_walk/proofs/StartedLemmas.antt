@@ -9,7 +9,6 @@ use Rattle.orc_values.specs.declared.kind.Scalar.{Scalar}
 use Rattle.orc_values.specs.declared.kind.Scalar.TheVariants as kind
 use Rattle.orc_column_reader.specs.Columns.{MarksLeft, IsWord, IsText}
 use Rattle.orc_column_reader.specs.Faults.{RunsFail, WordsOfFail}
-use Rattle.orc_column_reader.specs.Needs.{trues}
 use Rattle.orc_column_reader.specs.ReaderFaults.{ValuesMeet}
 use Rattle.orc_column_reader.specs.RunFaults.{Always}
 use Rattle.orc_column_reader.specs.RunsMet.{MarksMeet}
@@ -24,6 +23,7 @@ use Rattle.orc_column_reader.proofs.Fronts.{length-values}
 use Rattle.orc_column_reader.proofs.StartFaults.{marks_start, values_start}
 use Rattle.orc_column_reader.proofs.StartLemmas.{Alike, marks_alike, numbers_alike, scalar_alike}
 use Rattle.orc_values.specs.Childless.{list_of_size, map_of_size, childless_struct}
+use Rattle.orc_values.specs.Trues.{trues}
 use Rattle.orc_column_walk.specs.OwnColumns.{SpellsSizes, SpellsOwnValues, IsOwnColumn}
 use Rattle.orc_column_walk.specs.OwnFaults.{IsRefused}
 use Rattle.orc_column_walk.specs.OwnLeft.{SizesLeft, SizedLeft, OwnValuesLeft, children}

@@ -4,7 +4,7 @@ use Rattle.orc_values.specs.Cells.{Cell, values}
 use Rattle.orc_values.specs.Shapes.{Shape}
 use Rattle.orc_values.specs.declared.own.Own.{Own}
 use Rattle.orc_values.specs.declared.own.Own.TheVariants as own
-use Rattle.orc_column_reader.specs.Needs.{trues}
+use Rattle.orc_values.specs.Trues.{trues}
 use Rattle.orc_stats.specs.Kinds.{kind_of}
 use Rattle.orc_stats.specs.Statistics.{stat}
 use Rattle.orc_row_index.specs.Bounds.{AreBounds, bound_at, values_before}

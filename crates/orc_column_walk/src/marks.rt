@@ -3,7 +3,6 @@ ghost use Rattle.std.specs.Prelude.{◌≡◌, ◌≢◌, ◌+◌, ◌∷◌, []
 ghost use Rattle.orc_column_reader.specs.Columns.{MarksLeft};
 ghost use Rattle.orc_column_reader.specs.Faults.{RunsFail};
 ghost use Rattle.orc_column_reader.specs.Fronts.{Leaves, Lacks};
-ghost use Rattle.orc_column_reader.specs.Needs.{trues};
 ghost use Rattle.orc_column_reader.specs.RunFaults.{Always};
 ghost use Rattle.orc_column_reader.specs.RunsMet.{MarksMeet};
 ghost use Rattle.orc_column_reader.specs.declared.fault.StripeFault.{StripeFault as Fault};
@@ -11,6 +10,7 @@ ghost use Rattle.orc_column_reader.specs.declared.fault.StripeFault.TheVariants.
 ghost use Rattle.orc_column_reader.specs.declared.fault.StreamKind.TheVariants.{Present};
 ghost use Rattle.orc_row_index.specs.Bounds.{AreBounds, bound_at};
 ghost use Rattle.orc_column_walk.specs.Passed.{trues_before};
+ghost use Rattle.orc_values.specs.Trues.{trues};
 
 use crate::bounds::bound_of;
 use orc_column_reader::bits::Bits;

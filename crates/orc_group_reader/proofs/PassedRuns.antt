@@ -3,11 +3,11 @@ use Rattle.std.proofs.Common.{◌≡◌, ℕ, ◌+◌, ◌-◌, ◌<◌, ◌≤�
 use Rattle.std.proofs.lemmas.List.{length-take-le, nil_from_length}
 use Rattle.orc_bits.proofs.PackedLaws.{same_length}
 use Rattle.orc_rle.specs.Seeking.{Passes}
-use Rattle.orc_rle.specs.Stream.{AreRuns, IsStream, StopsWithin, at_place}
+use Rattle.orc_rle.specs.Stream.{AreRuns, IsStream, StopsWithin, at_place, RunsLeft}
 use Rattle.orc_rle.specs.declared.fault.RunFault.{RunFault}
 use Rattle.orc_rle.specs.declared.fault.RunFault.TheVariants as run
 use Rattle.orc_rle.proofs.StreamLemmas.{Going, fronts, runs_push, one_stream}
-use Rattle.orc_column_reader.specs.Runs.{RunsLeft, RunsFirst, Begins}
+use Rattle.orc_column_reader.specs.Runs.{RunsFirst, Begins}
 use Rattle.orc_column_reader.specs.RunsMet.{StopsThere, RunsMeet}
 use Rattle.orc_column_reader.proofs.RunsLemmas.{RunLaws}
 use Rattle.orc_group_reader.specs.RunsPassed.{IsLastRun}

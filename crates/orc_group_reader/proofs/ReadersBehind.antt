@@ -7,7 +7,7 @@ use Rattle.orc_bits.proofs.PackedLemmas.{length-digits, digits-append}
 use Rattle.orc_rle.specs.BitStream.{digit}
 use Rattle.orc_rle.specs.ByteRun.{IsByteRun, NoByteRun}
 use Rattle.orc_rle.specs.Seeking.{SeeksBits, bytes_needed}
-use Rattle.orc_rle.specs.Stream.{AreRuns, IsStream, StopsWithin}
+use Rattle.orc_rle.specs.Stream.{AreRuns, IsStream, StopsWithin, RunsLeft}
 use Rattle.orc_rle.specs.declared.fault.RunFault.{RunFault}
 use Rattle.orc_rle.specs.declared.sign.Rle.{Rle}
 use Rattle.orc_rle.specs.declared.sign.Sign.{Sign}
@@ -19,7 +19,7 @@ use Rattle.orc_column_reader.specs.Bytes.{BytesFirst}
 use Rattle.orc_column_reader.specs.Needs.{BoolsBegin}
 use Rattle.orc_column_reader.specs.Numbers.{is_run, NumbersLeft, NumbersFirst}
 use Rattle.orc_column_reader.specs.RunFaults.{no_run}
-use Rattle.orc_column_reader.specs.Runs.{RunsLeft, RunsFirst, Begins}
+use Rattle.orc_column_reader.specs.Runs.{RunsFirst, Begins}
 use Rattle.orc_column_reader.specs.RunsMet.{RunsMeet, NumbersMeet, BytesMeet, BitsMeet}
 use Rattle.orc_column_reader.specs.declared.bits.Bits.{Bits}
 use Rattle.orc_column_reader.specs.declared.bytes.RunLengthBytes.{RunLengthBytes}

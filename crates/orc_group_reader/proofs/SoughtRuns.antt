@@ -1,11 +1,10 @@
 -- A position that is gone to leaves the values from there on.
 use Rattle.std.proofs.Common.{ℕ, ◌≤◌, List, length, drop, sym, subst, arith}
 use Rattle.orc_rle.specs.Seeking.{Seeks}
-use Rattle.orc_rle.specs.Stream.{IsStream}
+use Rattle.orc_rle.specs.Stream.{IsStream, RunsLeft}
 use Rattle.orc_rle.proofs.RunLemmas.{One, Some}
 use Rattle.orc_positions.specs.Position.{Begins}
 use Rattle.orc_positions.proofs.PositionLemmas.{sought, goes_on, seek_alone, rest_alone, offset_within}
-use Rattle.orc_column_reader.specs.Runs.{RunsLeft}
 use Rattle.orc_group_reader.specs.Entering.{AgreeFrom}
 
 -- the position lies within both

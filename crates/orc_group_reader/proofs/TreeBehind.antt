@@ -10,9 +10,10 @@ use Rattle.orc_values.specs.Columns.{cells, cells_within}
 use Rattle.orc_values.specs.Fits.{RowsFit}
 use Rattle.orc_values.specs.Shapes.{Shape, scalar, list_of, map_of, struct_of, Fields, no_field, field, width, widths, shape_at, shape_within}
 use Rattle.orc_values.proofs.Together.{keys_fit, values_fit}
+use Rattle.orc_values.specs.Trues.{trues}
 use Rattle.orc_column_reader.specs.Columns.{MarksFirst}
 use Rattle.orc_column_reader.specs.Faults.{ValuesFail, FaultBelow, FaultWithin, FaultDown, lengths_of}
-use Rattle.orc_column_reader.specs.Needs.{trues, MarksBegin, ValuesNeeded, ElementsNeeded}
+use Rattle.orc_column_reader.specs.Needs.{MarksBegin, ValuesNeeded, ElementsNeeded}
 use Rattle.orc_column_reader.specs.Numbers.{NumbersFirst}
 use Rattle.orc_column_reader.specs.ReaderFaults.{ValuesMeet, BelowMeet, FieldsMeet, CellsMeet}
 use Rattle.orc_column_reader.specs.RunFaults.{Needed, IntegersFirst}

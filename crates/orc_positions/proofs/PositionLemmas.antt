@@ -5,12 +5,12 @@ use Rattle.std.proofs.lemmas.List.{append-nil, take-append-drop, length-take-le,
 use Rattle.std.proofs.lemmas.Bool.{cases_lt}
 use Rattle.orc_bits.proofs.PackedLaws.{same_length}
 use Rattle.orc_rle.specs.declared.fault.RunFault.{RunFault}
-use Rattle.orc_rle.specs.Stream.{AreRuns, IsStream}
+use Rattle.orc_rle.specs.Stream.{AreRuns, IsStream, RunsLeft}
 use Rattle.orc_rle.specs.Seeking.{Passes, Seeks, CountsRuns, SeekFails}
 use Rattle.orc_rle.proofs.RunLemmas.{One, Some, None}
 use Rattle.orc_rle.proofs.SeekLemmas.{counts_some, counts_zero}
 use Rattle.orc_rle.proofs.StreamLemmas.{Going, fronts, runs_push, runs_rest, one_stream, no_first, single, empty_front}
-use Rattle.orc_positions.specs.Position.{Begins, RunsLeft, GoesOn, IsInside, IsPlace, HasValues, IsOneRun}
+use Rattle.orc_positions.specs.Position.{Begins, GoesOn, IsInside, IsPlace, HasValues, IsOneRun}
 
 drop-front : {A : Type 0} (xs ys : List A) (n : ℕ) → n ≡ length xs → drop n (xs ++ ys) ≡ ys
 drop-front {A = A} xs ys n e = ap (λ (k : ℕ). drop k (xs ++ ys)) e ∙ drop-append_seam xs ys

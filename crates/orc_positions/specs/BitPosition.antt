@@ -4,7 +4,8 @@ use Rattle.orc_bits.specs.Packed.{digits}
 use Rattle.orc_rle.specs.BitStream.{digit, IsBitStream}
 use Rattle.orc_rle.specs.ByteRun.{IsByteRun}
 use Rattle.orc_rle.specs.Seeking.{SeeksBits}
-use Rattle.orc_positions.specs.Position.{Begins, RunsLeft, IsPlace}
+use Rattle.orc_rle.specs.Stream.{RunsLeft}
+use Rattle.orc_positions.specs.Position.{Begins, IsPlace}
 
 -- the position names boolean n of so many: eight for each byte that is passed, and 0 to 8 more
 pub record BeginsBits (bytes : List ℕ) (total offset skip bits n : ℕ) : Type 0 where

@@ -6,8 +6,8 @@ ghost use Rattle.orc_rle.specs.declared.sign.Sign.{Sign};
 ghost use Rattle.orc_rle.specs.BitStream.{IsBitStream};
 ghost use Rattle.orc_rle.specs.ByteRun.{IsByteRun, NoByteRun};
 ghost use Rattle.orc_rle.specs.Seeking.{bytes_needed, Seeks, SeekFails, SeeksBits, BitSeekFails};
-ghost use Rattle.orc_rle.specs.Stream.{IsStream};
-ghost use Rattle.orc_positions.specs.Position.{Begins, GoesOn, RunsLeft, IsPlace, HasValues};
+ghost use Rattle.orc_rle.specs.Stream.{IsStream, RunsLeft};
+ghost use Rattle.orc_positions.specs.Position.{Begins, GoesOn, IsPlace, HasValues};
 ghost use Rattle.orc_positions.specs.BitPosition.{BeginsBits, BitsGoOn, BitsLeft, IsBitPlace, HasBits};
 ghost use Rattle.orc_positions.specs.Marks.{start_of_stream, IsMark};
 

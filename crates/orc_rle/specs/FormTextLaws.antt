@@ -21,7 +21,7 @@ use Rattle.orc_rle.specs.PatchedValuesLaws.{get_or-raised}
 use Rattle.orc_rle.specs.RepeatText.{IsRepeatText}
 use Rattle.orc_rle.specs.RunOne.{progression}
 use Rattle.orc_rle.specs.Values.{IsSpelledShortest, Stands}
-use Rattle.orc_rle.specs.WrittenLaws.{cancel, one_spelled, one_number}
+use Rattle.orc_rle.specs.WrittenLaws.{SameSteps, cancel, one_spelled, one_number}
 use Rattle.orc_rle.specs.WrittenTwo.{IsEqualText, IsShortestText}
 
 -- numbers have one width and one packed text
@@ -44,13 +44,8 @@ one_direct sign chunk a b p q =
     let same = same_packed 1 p.code q.code p.numbers q.numbers p.packed q.packed (one_numbers sign chunk p.numbers q.numbers p.stand q.stand) p.width q.width p.packed_is q.packed_is in
     p.text_is ∙ ((rw (same.code_is, same.text_is) refl) ∙ sym q.text_is)
 
--- where a chunk begins, and its first step
-pub record SameFirstStep (a d b e : ℤ) : Type 0 where
-  pub first : a ≡ b
-  pub step : d ≡ e
-
 pub same_start : (chunk x y : List ℤ) (a d b e : ℤ)
-    → chunk ≡ a ∷ (a +ℤ d) ∷ x → chunk ≡ b ∷ (b +ℤ e) ∷ y → SameFirstStep a d b e
+    → chunk ≡ a ∷ (a +ℤ d) ∷ x → chunk ≡ b ∷ (b +ℤ e) ∷ y → SameSteps a d b e
 same_start chunk x y a d b e p q =
     let both : a ∷ (a +ℤ d) ∷ x ≡ b ∷ (b +ℤ e) ∷ y = sym p ∙ q in
     let first : a ≡ b = cc in

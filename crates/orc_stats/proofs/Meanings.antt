@@ -10,8 +10,9 @@ use Rattle.std.specs.Ordering.{is_gt, int_cmp, nat_cmp, flip_args, ordering_reve
 use Rattle.std.specs.declared.cmp.Ordering.{Ordering}
 use Rattle.std.specs.declared.cmp.Ordering.TheVariants.{Less, Equal, Greater}
 use Rattle.orc_stats.specs.Statistics.{lower, onto, reduce, bit, least, greatest, text_cmp, exact_total}
-use Rattle.orc_stats.specs.Meanings.{IsLowest, sum_without_limit, trues}
+use Rattle.orc_stats.specs.Meanings.{IsLowest, sum_without_limit}
 use Rattle.orc_stats.specs.Orders.{flipped_same}
+use Rattle.orc_values.specs.Trues.{trues}
 
 module _ {A : Type 0} (cmp : A → A → Ordering) (total : IsTotalOrder cmp) (same : IsAntisymmetric cmp) where
   reflexive : (x : A) → is_gt (cmp x x) ≡ false

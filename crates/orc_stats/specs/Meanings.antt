@@ -8,12 +8,6 @@ use Rattle.std.specs.declared.cmp.Ordering.{Ordering}
 abbrev pub IsLowest : {A : Type 0} → (A → A → Ordering) → List A → A → Type 0
 IsLowest cmp xs x = Contains xs x × AllByRecursion (λ y. is_gt (cmp x y) ≡ false) xs
 
--- how many are true
-abbrev pub trues : List Bool → ℕ
-trues [] = 0
-trues (false ∷ bs) = trues bs
-trues (true ∷ bs) = suc (trues bs)
-
 -- numbers added without a limit
 abbrev pub sum_without_limit : List ℤ → ℤ
 sum_without_limit [] = pos 0

@@ -1,11 +1,12 @@
 //! Laws of statistics. Each function does nothing: its contract is what it is for.
 ghost use Rattle.std.specs.Ordering.{int_cmp, nat_cmp, flip_args};
-ghost use Rattle.orc_stats.specs.Meanings.{IsLowest, sum_without_limit, trues};
+ghost use Rattle.orc_stats.specs.Meanings.{IsLowest, sum_without_limit};
 ghost use Rattle.std.specs.Prelude.{◌≡◌, ◌↔◌, ℕ, ℤ, pos, negsuc, ◌≤◌, ◌+◌, ◌^◌, ◌++◌, ◌∷◌, Bool, true, false, Option, Some, None, List, [], sum, sum_by, IsPermutation, flat_map, length, map};
 ghost use Rattle.std.specs.List.{AllByRecursion};
 ghost use Rattle.orc_values.specs.Cells.{Cell};
 ghost use Rattle.orc_values.specs.Shapes.{Shape};
 ghost use Rattle.orc_values.specs.Fits.{fits};
+ghost use Rattle.orc_values.specs.Trues.{trues};
 ghost use Rattle.orc_stats.specs.declared.kind.StatKind.{StatKind};
 ghost use Rattle.orc_stats.specs.declared.kind.StatKind.TheVariants as kind;
 ghost use Rattle.orc_stats.specs.declared.stat.Stat.{Stat};
