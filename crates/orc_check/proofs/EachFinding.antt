@@ -10,7 +10,7 @@ use Rattle.orc_values.specs.Shapes.{width, shape_at}
 use Rattle.orc_stats.specs.declared.stat.Stat.{Stat}
 use Rattle.orc_column_reader.specs.Stripe.{HasFooter, columns_of}
 use Rattle.orc_row_index.specs.Bounds.{before_group, group_of}
-use Rattle.orc_row_index.specs.Places.{AreReadPlaces}
+use Rattle.orc_row_index.specs.Positions.{AreReadPositions}
 use Rattle.orc_stripe_writer.specs.Groups.{starts, bounds_of}
 use Rattle.orc_stripe.specs.Opened.{Opened}
 use Rattle.orc_stripe.specs.RowIndexes.{HasIndex, IsWhole}
@@ -111,7 +111,7 @@ module _ (view : Opened) (n : ℕ) (rows : List Cell) (c : ℕ) where
   abbrev GroupSays : List RowIndexEntry → ℕ → Finding → Type 0
   GroupSays entries g f =
       ((f ≡ IndexStatistic n c g) × (TellsGroup (shape_at view.schema c) (group_of own bounds g) (entry_at entries g) → ⊥))
-      ⊎ ((f ≡ IndexPosition n c g) × (AreReadPlaces (shape_at view.schema c) (columns_of view.footer view.bytes c) (before_group own bounds g) (entry_at entries g).positions → ⊥))
+      ⊎ ((f ≡ IndexPosition n c g) × (AreReadPositions (shape_at view.schema c) (columns_of view.footer view.bytes c) (before_group own bounds g) (entry_at entries g).positions → ⊥))
 
   record GroupsSay (f : Finding) : Type 0 where
     message : RowIndexMsg
@@ -125,11 +125,11 @@ module _ (view : Opened) (n : ℕ) (rows : List Cell) (c : ℕ) where
   groups_say : (entries : List RowIndexEntry) (g : ℕ) → Says (OfGroup (shape_at view.schema c) (columns_of view.footer view.bytes c) own bounds n c entries g) (GroupSays entries g)
   groups_say entries g =
       both_says (Unless (TellsGroup (shape_at view.schema c) (group_of own bounds g) (entry_at entries g)) (IndexStatistic n c g))
-      (Unless (AreReadPlaces (shape_at view.schema c) (columns_of view.footer view.bytes c) (before_group own bounds g) (entry_at entries g).positions) (IndexPosition n c g))
+      (Unless (AreReadPositions (shape_at view.schema c) (columns_of view.footer view.bytes c) (before_group own bounds g) (entry_at entries g).positions) (IndexPosition n c g))
       (λ f. (f ≡ IndexStatistic n c g) × (TellsGroup (shape_at view.schema c) (group_of own bounds g) (entry_at entries g) → ⊥))
-      (λ f. (f ≡ IndexPosition n c g) × (AreReadPlaces (shape_at view.schema c) (columns_of view.footer view.bytes c) (before_group own bounds g) (entry_at entries g).positions → ⊥))
+      (λ f. (f ≡ IndexPosition n c g) × (AreReadPositions (shape_at view.schema c) (columns_of view.footer view.bytes c) (before_group own bounds g) (entry_at entries g).positions → ⊥))
       (unless_says (TellsGroup (shape_at view.schema c) (group_of own bounds g) (entry_at entries g)) (IndexStatistic n c g))
-      (unless_says (AreReadPlaces (shape_at view.schema c) (columns_of view.footer view.bytes c) (before_group own bounds g) (entry_at entries g).positions) (IndexPosition n c g))
+      (unless_says (AreReadPositions (shape_at view.schema c) (columns_of view.footer view.bytes c) (before_group own bounds g) (entry_at entries g).positions) (IndexPosition n c g))
 
   index_says : Says (OfIndex view n rows c) IndexSays
   index_says found (inl h) f = (λ x. absurd (subst (λ (xs : List Finding). In f xs) h.1 x), λ w. let some = w.0 in let none = h.0 in absurd (omega (arith, some, none)))

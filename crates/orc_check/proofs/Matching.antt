@@ -15,9 +15,9 @@ use Rattle.orc_column_reader.specs.Stripe.{Streams, cell_limit}
 use Rattle.orc_column_reader.specs.declared.starting.ColumnStreams.{ColumnStreams}
 use Rattle.orc_row_index.specs.Bounds.{bound_at, before_group}
 use Rattle.orc_row_index.specs.EntryText.{IsEntryText}
-use Rattle.orc_row_index.specs.Places.{Adds}
+use Rattle.orc_row_index.specs.Positions.{Adds}
 use Rattle.orc_row_index.specs.RowIndex.{AreEntries, IsWrittenIndex}
-use Rattle.orc_row_index.specs.Walking.{runs, lent_bytes, AreCounted, HavePlaces, WalkedBefore}
+use Rattle.orc_row_index.specs.Walking.{runs, lent_bytes, AreCounted, HavePositions, WalkedBefore}
 use Rattle.orc_row_index.specs.declared.placed.PlacedStreams.{PlacedStreams}
 use Rattle.orc_row_index.specs.declared.walk.Walk.{Walk}
 use Rattle.orc_row_index.proofs.EntryTexts.{texts_join, bounded_join, index_spelled}
@@ -57,7 +57,7 @@ module _ (s : Shape) (streams : ColumnStreams) (groups : List GroupFound) (place
   abbrev pub Ready : ℕ → GroupFound → Walk → List Cell → Type 0
   Ready n group walk before =
       AreCounted group.before before
-      × HavePlaces (runs placed.present) (lent_bytes placed.content) (runs placed.own) before
+      × HavePositions (runs placed.present) (lent_bytes placed.content) (runs placed.own) before
       × WalkedBefore (runs placed.present) (runs placed.own) walk before
 
   module _ (n : ℕ) (group : GroupFound) (there : slice_get groups n ≡ Some group) (bytes mid : List ℕ) (walk : Walk) where
@@ -72,7 +72,7 @@ module _ (s : Shape) (streams : ColumnStreams) (groups : List GroupFound) (place
     next_ready m h = (before_group h.2.0 h.2.1 n, ready h.0 h.2.0 h.2.1 h.1 h.2.2 (m h.0 h.2.0 h.2.1 h.1 h.2.2))
 
     pub next_matched : (old text rest : List ℕ) (next : Walk) → Matches s streams groups placed n bytes mid walk → old ≡ [] → mid ≡ text ++ rest
-        → ((before : List Cell) → AreCounted group.before before → HavePlaces (runs placed.present) (lent_bytes placed.content) (runs placed.own) before → Adds (IsEntryText (runs placed.present) (lent_bytes placed.content) (runs placed.own) before group.stat) old text)
+        → ((before : List Cell) → AreCounted group.before before → HavePositions (runs placed.present) (lent_bytes placed.content) (runs placed.own) before → Adds (IsEntryText (runs placed.present) (lent_bytes placed.content) (runs placed.own) before group.stat) old text)
         → ((before : List Cell) → AreCounted group.before before → WalkedBefore (runs placed.present) (runs placed.own) next before)
         → Matches s streams groups placed (n + 1) bytes rest next
     next_matched old text rest next all none split put walked x cells bounds is h =

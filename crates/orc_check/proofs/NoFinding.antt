@@ -16,7 +16,7 @@ use Rattle.orc_stats.specs.Statistics.{stat}
 use Rattle.orc_stats.proofs.Agreed.{same_agrees}
 use Rattle.orc_column_reader.specs.Stripe.{Streams, HasFooter, IsStripe, columns_of}
 use Rattle.orc_row_index.specs.Bounds.{before_group, group_of}
-use Rattle.orc_row_index.specs.Places.{AreReadPlaces}
+use Rattle.orc_row_index.specs.Positions.{AreReadPositions}
 use Rattle.orc_row_index.specs.RowIndex.{SaysStat}
 use Rattle.orc_stripe_writer.specs.Groups.{starts, bounds_of}
 use Rattle.orc_stripe_writer.specs.WrittenStripe.{HasRightIndex, column_stat}
@@ -135,15 +135,15 @@ module _ (view : Opened) (n : ℕ) (rows : List Cell) (c : ℕ) (some : 0 < view
       let es : List RowIndexEntry = h.0.entries in
       let at : (g : ℕ) → g < length es → OfGroup s x cs bounds n c es g [] = λ g lt. each_at (OfGroup s x cs bounds n c es) (length es) h.3 g lt in
       let tells : (g : ℕ) → g < length es → TellsGroup s (group_of cs bounds g) (entry_at es g) = λ g lt.
-      holds_of (TellsGroup s (group_of cs bounds g) (entry_at es g)) (IndexStatistic n c g) (first_none (Unless (TellsGroup s (group_of cs bounds g) (entry_at es g)) (IndexStatistic n c g)) (Unless (AreReadPlaces s x (before_group cs bounds g) (entry_at es g).positions) (IndexPosition n c g)) (at g lt)) in
-      let places : (g : ℕ) → g < length es → AreReadPlaces s x (before_group cs bounds g) (entry_at es g).positions = λ g lt.
-      holds_of (AreReadPlaces s x (before_group cs bounds g) (entry_at es g).positions) (IndexPosition n c g) (second_none (Unless (TellsGroup s (group_of cs bounds g) (entry_at es g)) (IndexStatistic n c g)) (Unless (AreReadPlaces s x (before_group cs bounds g) (entry_at es g).positions) (IndexPosition n c g)) (at g lt)) in (
+      holds_of (TellsGroup s (group_of cs bounds g) (entry_at es g)) (IndexStatistic n c g) (first_none (Unless (TellsGroup s (group_of cs bounds g) (entry_at es g)) (IndexStatistic n c g)) (Unless (AreReadPositions s x (before_group cs bounds g) (entry_at es g).positions) (IndexPosition n c g)) (at g lt)) in
+      let places : (g : ℕ) → g < length es → AreReadPositions s x (before_group cs bounds g) (entry_at es g).positions = λ g lt.
+      holds_of (AreReadPositions s x (before_group cs bounds g) (entry_at es g).positions) (IndexPosition n c g) (second_none (Unless (TellsGroup s (group_of cs bounds g) (entry_at es g)) (IndexStatistic n c g)) (Unless (AreReadPositions s x (before_group cs bounds g) (entry_at es g).positions) (IndexPosition n c g)) (at g lt)) in (
         h.1.0,
         record {
           message = h.0;
           spelled = h.1.1;
           counted = h.2 ∙ sym (bounds_long view.schema c view.stride rows);
-          places = λ g e got. let b = entry_below es g e got in subst (λ (y : RowIndexEntry). AreReadPlaces s x (before_group cs bounds g) y.positions) b.1 (places g b.0);
+          places = λ g e got. let b = entry_below es g e got in subst (λ (y : RowIndexEntry). AreReadPositions s x (before_group cs bounds g) y.positions) b.1 (places g b.0);
           statistics = λ g e got. let b = entry_below es g e got in subst (λ (y : RowIndexEntry). TellsGroup s (group_of cs bounds g) y) b.1 (tells g b.0);
         },
       )

@@ -11,7 +11,7 @@ use Rattle.orc_values.specs.Shapes.{Shape, width, shape_at}
 use Rattle.orc_stats.specs.declared.stat.Stat.{Stat}
 use Rattle.orc_column_reader.specs.Stripe.{Streams, columns_of}
 use Rattle.orc_row_index.specs.Bounds.{before_group, group_of}
-use Rattle.orc_row_index.specs.Places.{AreReadPlaces}
+use Rattle.orc_row_index.specs.Positions.{AreReadPositions}
 use Rattle.orc_stripe_writer.specs.Groups.{starts, bounds_of}
 use Rattle.orc_stripe.specs.Opened.{Opened}
 use Rattle.orc_stripe.specs.RowIndexes.{HasIndex, index_text}
@@ -38,8 +38,8 @@ each_one F one (suc n) a b x y = both_one (OfEach F n) (F n) (each_one F one n) 
 
 group_one : (s : Shape) (x : Streams) (cs : List Cell) (bounds : List ℕ) (n c : ℕ) (es : List RowIndexEntry) (g : ℕ) (a b : List Finding) → OfGroup s x cs bounds n c es g a → OfGroup s x cs bounds n c es g b → a ≡ b
 group_one s x cs bounds n c es g =
-    both_one (Unless (TellsGroup s (group_of cs bounds g) (entry_at es g)) (IndexStatistic n c g)) (Unless (AreReadPlaces s x (before_group cs bounds g) (entry_at es g).positions) (IndexPosition n c g))
-    (unless_one (TellsGroup s (group_of cs bounds g) (entry_at es g)) (IndexStatistic n c g)) (unless_one (AreReadPlaces s x (before_group cs bounds g) (entry_at es g).positions) (IndexPosition n c g))
+    both_one (Unless (TellsGroup s (group_of cs bounds g) (entry_at es g)) (IndexStatistic n c g)) (Unless (AreReadPositions s x (before_group cs bounds g) (entry_at es g).positions) (IndexPosition n c g))
+    (unless_one (TellsGroup s (group_of cs bounds g) (entry_at es g)) (IndexStatistic n c g)) (unless_one (AreReadPositions s x (before_group cs bounds g) (entry_at es g).positions) (IndexPosition n c g))
 
 -- a column has one index at most
 pub one_index : (footer : StripeFooter) (bytes : List ℕ) (c : ℕ) (a b : RowIndexMsg) → HasIndex footer bytes c a → HasIndex footer bytes c b → a ≡ b

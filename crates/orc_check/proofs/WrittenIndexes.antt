@@ -20,7 +20,7 @@ use Rattle.orc_tail.specs.Layout.{magic}
 use Rattle.orc_tail.specs.Stripes.{stripe_at, stripe_length}
 use Rattle.orc_tail.specs.Images.{tail_text}
 use Rattle.orc_file.specs.FileRows.{stripe_bytes, cut_rows}
-use Rattle.orc_file.specs.Writing.{Closed, IsClosed, AreClosed, bytes_of, rows_of, infos_of, IsWrittenFile}
+use Rattle.orc_file.specs.Writing.{WrittenStripe, IsWrittenAt, AreWrittenStripes, bytes_of, rows_of, infos_of, IsWrittenFile}
 use Rattle.orc_tail.specs.declared.tail.Tail.{Tail}
 use Rattle.orc_tail.proofs.Seams.{between}
 use Rattle.orc_file.proofs.WriterLemmas as writer
@@ -38,7 +38,7 @@ indexed_moved s stride info bytes rows at h = record {
 }
 
 module _ (options : Options) (s : Shape) (some : 0 < options.stride) where
-  stripe_indexed : (at : ℕ) (c : Closed) → IsClosed options s at c → IsIndexed s options.stride c.info c.bytes c.rows
+  stripe_indexed : (at : ℕ) (c : WrittenStripe) → IsWrittenAt options s at c → IsIndexed s options.stride c.info c.bytes c.rows
   stripe_indexed at c h =
       let own : StripeInfo = record c.info { offset = 0 } in
       let is : IsStripe s c.info c.bytes c.rows = h.read in
@@ -60,7 +60,7 @@ module _ (options : Options) (s : Shape) (some : 0 < options.stride) where
       }
 
   -- in a file's bytes, the stripe with a number among these
-  indexed_at : (file front rest : List ℕ) (at : ℕ) (cs : List Closed) → AreClosed options s at cs → at ≡ length front → file ≡ front ++ (bytes_of cs ++ rest) → (n : ℕ) → n < length (infos_of cs)
+  indexed_at : (file front rest : List ℕ) (at : ℕ) (cs : List WrittenStripe) → AreWrittenStripes options s at cs → at ≡ length front → file ≡ front ++ (bytes_of cs ++ rest) → (n : ℕ) → n < length (infos_of cs)
       → IsIndexed s options.stride (stripe_at (infos_of cs) n) (stripe_bytes (stripe_at (infos_of cs) n) file) (rows_at (parts_of cs) n)
   indexed_at file front rest at [] h place e n lt = absurd (omega (arith, lt))
   indexed_at file front rest at (c ∷ cs) h place e zero lt =
@@ -73,19 +73,19 @@ module _ (options : Options) (s : Shape) (some : 0 < options.stride) where
       let split : file ≡ front ++ (c.bytes ++ (bytes_of cs ++ rest)) = e ∙ ap (λ x. front ++ x) (append_assoc c.bytes (bytes_of cs) rest) in
       indexed_at file (front ++ c.bytes) rest (at + length c.bytes) cs h.1 (omega (arith, place, length-append front c.bytes)) (split ∙ sym (append_assoc front c.bytes (bytes_of cs ++ rest))) n (omega (arith, lt))
 
-cut_closed : (options : Options) (s : Shape) (at : ℕ) (cs : List Closed) → AreClosed options s at cs → cut_rows (infos_of cs) (rows_of cs) ≡ parts_of cs
-cut_closed options s at [] h = refl
-cut_closed options s at (c ∷ cs) h =
+cut_written : (options : Options) (s : Shape) (at : ℕ) (cs : List WrittenStripe) → AreWrittenStripes options s at cs → cut_rows (infos_of cs) (rows_of cs) ≡ parts_of cs
+cut_written options s at [] h = refl
+cut_written options s at (c ∷ cs) h =
     let i = h.0 in
     let many : length c.rows ≡ c.info.number_of_rows = writer.stripe_rows s c.info c.bytes c.rows i.read in
     let own : take c.info.number_of_rows (c.rows ++ rows_of cs) ≡ c.rows = subst (λ (n : ℕ). take n (c.rows ++ rows_of cs) ≡ c.rows) many (take-append_seam c.rows (rows_of cs)) in
     let more : drop c.info.number_of_rows (c.rows ++ rows_of cs) ≡ rows_of cs = subst (λ (n : ℕ). drop n (c.rows ++ rows_of cs) ≡ rows_of cs) many (drop-append_seam c.rows (rows_of cs)) in
-    rw (own, more, cut_closed options s (at + length c.bytes) cs h.1) refl
+    rw (own, more, cut_written options s (at + length c.bytes) cs h.1) refl
 
 pub written_indexes : (options : Options) (s : Shape) (tail : Tail) (bytes : List ℕ) (rows : List Cell) → IsWrittenFile options s tail bytes rows → HasIndexes bytes tail rows
 written_indexes options s tail bytes rows h =
-    let cs : List Closed = h.closed in
-    let cut : cut_rows (infos_of cs) rows ≡ parts_of cs = ap (cut_rows (infos_of cs)) h.rows_are ∙ cut_closed options s 3 cs h.are in
+    let cs : List WrittenStripe = h.stripes_written in
+    let cut : cut_rows (infos_of cs) rows ≡ parts_of cs = ap (cut_rows (infos_of cs)) h.rows_are ∙ cut_written options s 3 cs h.are in
     subst (λ (t : Tail). HasIndexes bytes t rows) (sym h.tail_is) (λ some n lt.
     subst (λ (p : List (List Cell)). IsIndexed s options.stride (stripe_at (infos_of cs) n) (stripe_bytes (stripe_at (infos_of cs) n) bytes) (rows_at p n)) (sym cut)
     (indexed_at options s some bytes magic (tail_text tail) 3 cs h.are refl (h.bytes_are ∙ append_assoc magic (bytes_of cs) (tail_text tail)) n lt))

@@ -15,7 +15,7 @@ use Rattle.orc_stats.specs.Statistics.{stat}
 use Rattle.orc_stats.specs.declared.stat.Stat.{Stat}
 use Rattle.orc_column_reader.specs.Stripe.{Streams, HasFooter, columns_of}
 use Rattle.orc_row_index.specs.Bounds.{before_group, group_of}
-use Rattle.orc_row_index.specs.Places.{AreReadPlaces}
+use Rattle.orc_row_index.specs.Positions.{AreReadPositions}
 use Rattle.orc_stripe_writer.specs.Groups.{starts, bounds_of}
 use Rattle.orc_stripe_writer.specs.WrittenStripe.{column_stat}
 use Rattle.orc_stripe.specs.Opened.{Opened}
@@ -67,7 +67,7 @@ TellsGroup s group entry = Tells (option_map (stat_read (kind_of s)) entry.stati
 abbrev pub OfGroup : Shape → Streams → List Cell → List ℕ → ℕ → ℕ → List RowIndexEntry → ℕ → List Finding → Type 0
 OfGroup s x cells bounds n c entries g =
     Both (Unless (TellsGroup s (group_of cells bounds g) (entry_at entries g)) (IndexStatistic n c g))
-    (Unless (AreReadPlaces s x (before_group cells bounds g) (entry_at entries g).positions) (IndexPosition n c g))
+    (Unless (AreReadPositions s x (before_group cells bounds g) (entry_at entries g).positions) (IndexPosition n c g))
 
 -- what is found of the column's groups, of which each has an entry
 abbrev pub OfGroups : Opened → ℕ → List Cell → ℕ → List RowIndexEntry → List Finding → Type 0

@@ -9,7 +9,7 @@ use Rattle.orc_values.specs.Columns.{cells}
 use Rattle.orc_values.specs.Shapes.{width, shape_at}
 use Rattle.orc_column_reader.specs.Stripe.{HasFooter, columns_of}
 use Rattle.orc_row_index.specs.Bounds.{before_group, group_of}
-use Rattle.orc_row_index.specs.Places.{AreReadPlaces}
+use Rattle.orc_row_index.specs.Positions.{AreReadPositions}
 use Rattle.orc_stripe_writer.specs.Groups.{starts, bounds_of}
 use Rattle.orc_stripe.specs.RowIndexes.{HasIndex, IsWhole}
 use Rattle.orc_tail.specs.Stripes.{stripe_at}
@@ -69,7 +69,7 @@ IsSo bytes tail parts (IndexStatistic n c g) =
     (entry_at entries g) → ⊥)
 IsSo bytes tail parts (IndexPosition n c g) =
     (entries : List RowIndexEntry) × (h : HasGroupEntry bytes tail parts n c g entries)
-    × (AreReadPlaces (shape_at tail.schema c) (columns_of h.has.footer (text_of bytes tail n) c)
+    × (AreReadPositions (shape_at tail.schema c) (columns_of h.has.footer (text_of bytes tail n) c)
     (before_group (cells_of tail parts n c) (groups_of tail parts n c) g) (entry_at entries g).positions → ⊥)
 IsSo bytes tail parts (FileStatistic c) =
     (c < width tail.schema) × (TellsFile tail parts c → ⊥)

@@ -13,7 +13,7 @@ use Rattle.orc_values.specs.Shapes.{Shape, width, shape_at}
 use Rattle.orc_column_reader.specs.Directory.{has_stream, slice}
 use Rattle.orc_column_reader.specs.Stripe.{Streams, HasFooter, columns_of}
 use Rattle.orc_row_index.specs.Bounds.{before_group, group_of}
-use Rattle.orc_row_index.specs.Places.{AreReadPlaces}
+use Rattle.orc_row_index.specs.Positions.{AreReadPositions}
 use Rattle.orc_stripe_writer.specs.Groups.{starts, bounds_of}
 use Rattle.orc_stripe.specs.GroupCursors.{HasGroup, StartsGroup}
 use Rattle.orc_tail.specs.Stripes.{stripe_at}
@@ -29,7 +29,7 @@ pub record IsAgreeingIndex (s : Shape) (x : Streams) (cells : List Cell) (bounds
   pub counted : length message.entries ≡ length bounds
   pub places : (g : ℕ) (entry : RowIndexEntry)
       → slice_get message.entries g ≡ Some entry
-      → AreReadPlaces s x (before_group cells bounds g) entry.positions
+      → AreReadPositions s x (before_group cells bounds g) entry.positions
   pub statistics : (g : ℕ) (entry : RowIndexEntry)
       → slice_get message.entries g ≡ Some entry
       → TellsGroup s (group_of cells bounds g) entry

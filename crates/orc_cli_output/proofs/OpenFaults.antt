@@ -4,9 +4,9 @@ use Rattle.orc_wire.specs.declared.footer.Footer.{Footer}
 use Rattle.orc_wire.specs.declared.column_stats.Metadata.{Metadata}
 use Rattle.orc_wire.specs.declared.stripe_info.StripeInfo.{StripeInfo}
 use Rattle.orc_values.specs.Shapes.{Shape}
-use Rattle.orc_tail.specs.Layout.{script_bytes, script_place, footer_bytes, metadata_bytes, metadata_place}
+use Rattle.orc_tail.specs.Layout.{postscript_bytes, postscript_place, footer_bytes, metadata_bytes, metadata_place}
 use Rattle.orc_tail.specs.Stripes.{stripe_tests, stripe_end}
-use Rattle.orc_tail.specs.Tails.{script_tests, end_tests, footer_tests, metadata_tests, limit_tests, OpenFault}
+use Rattle.orc_tail.specs.Tails.{postscript_tests, end_tests, footer_tests, metadata_tests, limit_tests, OpenFault}
 use Rattle.orc_tail.specs.Tests.{Test}
 use Rattle.orc_tail.specs.declared.fault.FileFault.{FileFault}
 use Rattle.orc_tail.specs.declared.fault.FileFault.TheVariants.{NotOrc, BadPostscript, Compressed, Encrypted, BadLengths, BadFooter, BadMetadata, BadStripe, RowCount, Limit, WriteFailed}
@@ -23,13 +23,13 @@ behind : {X A : Type 0} {F G : A → Type 0} → X ⊎ ((a : A) × F a × G a) �
 behind (inl h) here later = here h
 behind (inr h) here later = later h.0 h.2
 
-at_script : (text : List ℕ) (place : ℕ) → Never (script_tests text place)
-at_script text place h =
-    behind h (λ h. let e = h.1 in cc) (λ script h.
-    past BadPostscript h (λ e. cc) (λ h. past NotOrc h (λ e. cc) (λ h. past (Compressed script.compression) h (λ e. cc) (λ h. past BadLengths h (λ e. cc) (λ h. h)))))
+at_postscript : (text : List ℕ) (place : ℕ) → Never (postscript_tests text place)
+at_postscript text place h =
+    behind h (λ h. let e = h.1 in cc) (λ postscript h.
+    past BadPostscript h (λ e. cc) (λ h. past NotOrc h (λ e. cc) (λ h. past (Compressed postscript.compression) h (λ e. cc) (λ h. past BadLengths h (λ e. cc) (λ h. h)))))
 
 at_ends : (bytes : List ℕ) → Never (end_tests bytes)
-at_ends bytes h = past NotOrc h (λ e. cc) (λ h. past NotOrc h (λ e. cc) (λ h. past BadLengths h (λ e. cc) (at_script (script_bytes bytes) (script_place bytes))))
+at_ends bytes h = past NotOrc h (λ e. cc) (λ h. past NotOrc h (λ e. cc) (λ h. past BadLengths h (λ e. cc) (at_postscript (postscript_bytes bytes) (postscript_place bytes))))
 
 at_footer : (text : List ℕ) → Never (footer_tests text)
 at_footer text h =
@@ -50,7 +50,7 @@ at_limits before f s m h =
 
 pub never_output : (bytes : List ℕ) → OpenFault bytes WriteFailed → ⊥
 never_output bytes h =
-    behind h (at_ends bytes) (λ script h.
-    behind h (at_footer (footer_bytes bytes script)) (λ f h.
-    behind h (at_metadata (metadata_bytes bytes script) f.0 f.1) (λ m h.
-    behind h (at_limits (metadata_place bytes script) f.0 f.1 m) (λ stats h. h))))
+    behind h (at_ends bytes) (λ postscript h.
+    behind h (at_footer (footer_bytes bytes postscript)) (λ f h.
+    behind h (at_metadata (metadata_bytes bytes postscript) f.0 f.1) (λ m h.
+    behind h (at_limits (metadata_place bytes postscript) f.0 f.1 m) (λ stats h. h))))

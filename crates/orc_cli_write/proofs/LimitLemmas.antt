@@ -11,13 +11,13 @@ use Rattle.orc_values.specs.Cells.{Cell}
 use Rattle.orc_stats.specs.declared.stat.Stat.{Stat}
 use Rattle.orc_tail.specs.Stripes.{stripes_rows, most_stripes, most_rows}
 use Rattle.orc_file.specs.Counts.{with_row, are_few, PassesLimit}
-use Rattle.orc_file.specs.Writing.{Closed, AreClosed, rows_of, infos_of, PassesBytes}
+use Rattle.orc_file.specs.Writing.{WrittenStripe, AreWrittenStripes, rows_of, infos_of, PassesBytes}
 use Rattle.orc_file.proofs.Spread.{HasPushed}
 use Rattle.orc_file.proofs.WriterLemmas.{stripe_rows}
 use Rattle.orc_file.proofs.CountLemmas.{AreCounts, counts_more, length-with_row}
 use Rattle.orc_cli_write.specs.Writes.{HaveManyCells, PassesLimits}
 
-rows_count : (options : Options) (s : Shape) (at : ℕ) (cs : List Closed) → AreClosed options s at cs → stripes_rows (infos_of cs) ≡ length (rows_of cs)
+rows_count : (options : Options) (s : Shape) (at : ℕ) (cs : List WrittenStripe) → AreWrittenStripes options s at cs → stripes_rows (infos_of cs) ≡ length (rows_of cs)
 rows_count options s at [] h = refl
 rows_count options s at (c ∷ cs) h =
     let i = h.0 in
@@ -61,18 +61,18 @@ module _ (options : Options) (s : Shape) (first told : Option (List ℕ)) (writt
     total_rows =
         let h = p.0 in
         let l = ap length h.rows_are in
-        let m = length-append (rows_of h.closed) kept in
-        let c = rows_count options s 3 h.closed h.are in
+        let m = length-append (rows_of h.stripes_written) kept in
+        let c = rows_count options s 3 h.stripes_written h.are in
         let i = ap stripes_rows h.infos_are in
         omega (arith, l, m, c, i, total_is, k_is)
 
     which : PassesLimit s infos total counts row ⊎ PassesBytes options s infos (kept ++ row ∷ [])
-        → (most_stripes ≤ length p.0.closed)
-        ⊎ ((most_rows < length (rows ++ row ∷ [])) ⊎ (HaveManyCells s (kept ++ row ∷ []) ⊎ PassesBytes options s (infos_of p.0.closed) (kept ++ row ∷ [])))
+        → (most_stripes ≤ length p.0.stripes_written)
+        ⊎ ((most_rows < length (rows ++ row ∷ [])) ⊎ (HaveManyCells s (kept ++ row ∷ []) ⊎ PassesBytes options s (infos_of p.0.stripes_written) (kept ++ row ∷ [])))
     which (inl (inl stripes)) =
         let h = p.0 in
         let i = ap length h.infos_are in
-        let m = length-map h.closed (λ (c : Closed). c.info) in
+        let m = length-map h.stripes_written (λ (c : WrittenStripe). c.info) in
         inl (omega (arith, stripes, i, m))
     which (inl (inr (inl many))) = let l = length-append rows (row ∷ []) in let t = total_rows in inr (inl (omega (arith, many, l, t)))
     which (inl (inr (inr cells))) = inr (inr (inl (many_cells s counts kept row wide counted cells)))
@@ -86,13 +86,13 @@ module _ (options : Options) (s : Shape) (first told : Option (List ℕ)) (writt
         let l = length-append kept (row ∷ []) in
         let few = p.1 in
         record {
-          closed = h.closed;
+          stripes_written = h.stripes_written;
           last = kept ++ row ∷ [];
           are = h.are;
           full = h.full;
           some = omega (arith, l);
           most = omega (arith, l, few);
-          rows_are = ap (λ (r : List Cell). r ++ row ∷ []) h.rows_are ∙ append_assoc (rows_of h.closed) kept (row ∷ []);
+          rows_are = ap (λ (r : List Cell). r ++ row ∷ []) h.rows_are ∙ append_assoc (rows_of h.stripes_written) kept (row ∷ []);
           passes = which limit;
         }
 
@@ -102,7 +102,7 @@ module _ (options : Options) (s : Shape) (first told : Option (List ℕ)) (writt
       let h = p.0 in
       let few = p.1 in
       record {
-        closed = h.closed;
+        stripes_written = h.stripes_written;
         last = kept;
         are = h.are;
         full = h.full;

@@ -159,7 +159,7 @@ pub stands_open : (options : Options) (s : Shape) (first told : Option (List ℕ
     → HasPushed options s first told written infos stats kept rows → StandsOpen options s first told rows
 stands_open options s first told written infos stats kept rows h =
     let p = h.0 in
-    record { closed = p.closed; kept = kept; are = p.are; full = p.full; told_is = p.told_is; rows_are = p.rows_are; few = h.1 }
+    record { stripes_written = p.stripes_written; kept = kept; are = p.are; full = p.full; told_is = p.told_is; rows_are = p.rows_are; few = h.1 }
 
 -- what stands behind a writer that has done the same
 pub leaves_same : (options other : Options) (s like : Shape) (old mid : Progress) (told : Option (List ℕ)) (fault : CliFault) (own : List Cell) → other ≡ options → like ≡ s → mid ≡ old

@@ -15,7 +15,7 @@ use Rattle.orc_column_reader.specs.Stripe.{cell_limit}
 use Rattle.orc_io.specs.Devices.{appended}
 use Rattle.orc_tail.specs.Layout.{magic}
 use Rattle.orc_tail.specs.Stripes.{most_stripes, most_rows}
-use Rattle.orc_file.specs.Writing.{Closed, AreClosed, AreFull, bytes_of, rows_of, infos_of, PassesBytes, Progress, HasPushed, IsCutOff}
+use Rattle.orc_file.specs.Writing.{WrittenStripe, AreWrittenStripes, AreFull, bytes_of, rows_of, infos_of, PassesBytes, Progress, HasPushed, IsCutOff}
 use Rattle.orc_tail.specs.declared.fault.FileFault.TheVariants as file
 use Rattle.orc_cli_write.specs.Lines.{AreLines, LinesSpell, LineSpellsRows, AreRowsOf}
 use Rattle.orc_cli_output.specs.Output.{IsWantOfMemory, IsOutside}
@@ -90,16 +90,16 @@ HaveManyCells s rows = (c : ℕ) × (c < width s) × (cell_limit ≤ length (cel
 -- last one, which has a row at least and no more than a full one. With it there are too many stripes or rows, or it
 -- has too many cells in a column, or the stripes have too many bytes.
 pub record PassesLimits (options : Options) (s : Shape) (rows : List Cell) : Type 0 where
-  pub closed : List Closed
+  pub stripes_written : List WrittenStripe
   pub last : List Cell
-  pub are : AreClosed options s 3 closed
-  pub full : AreFull options.stripe_rows closed
+  pub are : AreWrittenStripes options s 3 stripes_written
+  pub full : AreFull options.stripe_rows stripes_written
   pub some : 0 < length last
   pub most : length last ≤ options.stripe_rows
-  pub rows_are : rows ≡ rows_of closed ++ last
-  pub passes : (most_stripes ≤ length closed)
+  pub rows_are : rows ≡ rows_of stripes_written ++ last
+  pub passes : (most_stripes ≤ length stripes_written)
       ⊎ ((most_rows < length rows)
-      ⊎ (HaveManyCells s last ⊎ PassesBytes options s (infos_of closed) last))
+      ⊎ (HaveManyCells s last ⊎ PassesBytes options s (infos_of stripes_written) last))
 
 -- a limit is the refusal only where the rows that the writer was given pass one
 abbrev pub LimitStands : Options → Shape → CliFault → List Cell → Type 0
@@ -108,12 +108,12 @@ LimitStands options s fault rows = fault ≡ File file.Limit → PassesLimits op
 -- Behind what the output had told first stand `ORC` and the full stripes of the rows, and nothing more: the rows
 -- behind them, which are too few for one, are in no stripe, and there is no tail.
 pub record StandsOpen (options : Options) (s : Shape) (first told : Option (List ℕ)) (rows : List Cell) : Type 0 where
-  pub closed : List Closed
+  pub stripes_written : List WrittenStripe
   pub kept : List Cell
-  pub are : AreClosed options s 3 closed
-  pub full : AreFull options.stripe_rows closed
-  pub told_is : told ≡ appended first (magic ++ bytes_of closed)
-  pub rows_are : rows ≡ rows_of closed ++ kept
+  pub are : AreWrittenStripes options s 3 stripes_written
+  pub full : AreFull options.stripe_rows stripes_written
+  pub told_is : told ≡ appended first (magic ++ bytes_of stripes_written)
+  pub rows_are : rows ≡ rows_of stripes_written ++ kept
   pub few : length kept < options.stripe_rows
 
 -- after the refusal of a line the file stands open, with the rows that the writer was given

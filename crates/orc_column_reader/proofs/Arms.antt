@@ -13,7 +13,7 @@ use Rattle.orc_values.specs.declared.value.Value.TheOpen.{Value-F}
 use Rattle.orc_column_reader.specs.declared.column.ValueSource.{ValueSource}
 use Rattle.orc_column_reader.specs.declared.column.ColumnReader.{ColumnReader}
 use Rattle.orc_column_reader.specs.Fronts.{Leaves, Lacks}
-use Rattle.orc_column_reader.specs.Spellings.{Nullable, Grouped, Within}
+use Rattle.orc_column_reader.specs.Spellings.{Nullable, Sized, Within}
 use Rattle.orc_column_reader.specs.Numbers.{NumbersLeft}
 use Rattle.orc_column_reader.specs.Columns.{IsList, IsMap, IsRecord, MarksLeft, CellsLeft, ValuesLeft, FieldsLeft, ListsLeft, OwnLeft, ListsOf, PairsLeft, MapsLeft, MapsOf, marks_of}
 use Rattle.orc_column_reader.proofs.Fronts.{one_after_other, lacks_after, lacks_more, standing_lacks, fielded_leaves, fielded_lacks_first, fielded_lacks_others, paired_leaves, within_leaves, within_lacks}
@@ -166,14 +166,14 @@ own_struct_lacks s fs o (own ∷ below) is p = struct_lacks s fs o own.source be
 
 sized_leaves : {X : Type 0} (room size : ℕ) (sizes sizes' : List ℤ → Type 0) (elements elements' : List X → Type 0) (xs : List X)
     → length xs ≡ size → size ≤ room → Leaves sizes sizes' (pos size ∷ []) → Leaves elements elements' xs
-    → Leaves (Grouped sizes (Within room elements)) (Grouped sizes' (Within (room - size) elements')) (xs ∷ [])
+    → Leaves (Sized sizes (Within room elements)) (Sized sizes' (Within (room - size) elements')) (xs ∷ [])
 sized_leaves room size sizes sizes' elements elements' xs n le p q =
     group_leaves sizes sizes' (Within room elements) (Within (room - size) elements') size xs n p
     (subst (λ k. Leaves (Within room elements) (Within (room - k) elements') xs) n
     (within_leaves room elements elements' xs (omega (arith, n, le)) q))
 
 sized_lacks : {X : Type 0} (room size : ℕ) (sizes sizes' : List ℤ → Type 0) (elements : List X → Type 0)
-    → Leaves sizes sizes' (pos size ∷ []) → Lacks elements size → Lacks (Grouped sizes (Within room elements)) 1
+    → Leaves sizes sizes' (pos size ∷ []) → Lacks elements size → Lacks (Sized sizes (Within room elements)) 1
 sized_lacks room size sizes sizes' elements p q =
     group_lacks sizes sizes' (Within room elements) size p (within_lacks room size elements q)
 
@@ -185,7 +185,7 @@ list_taken e [] ys own' d size cells some p le r n q = absurd (omega (arith, som
 list_taken e (own ∷ below) ys own' d size cells some p le r n q =
     let q' : Leaves (CellsLeft e below) (CellsLeft e ys) cells = subst (λ t. Leaves (CellsLeft e t) (CellsLeft e ys) cells) (behind own' below) q in
     subst (λ t. Leaves (ListsOf e (own ∷ below)) (ListsOf e t) (cells ∷ [])) (sym (put_behind own' below ys))
-    (subst (λ k. Leaves (ListsLeft e own.source below) (Grouped (NumbersLeft own'.source.numbers) (Within k (CellsLeft e ys))) (cells ∷ [])) (sym r)
+    (subst (λ k. Leaves (ListsLeft e own.source below) (Sized (NumbersLeft own'.source.numbers) (Within k (CellsLeft e ys))) (cells ∷ [])) (sym r)
     (sized_leaves own.source.room size (NumbersLeft own.source.numbers) (NumbersLeft own'.source.numbers) (CellsLeft e below) (CellsLeft e ys) cells n le p q'))
 
 pub list_lacking : (e : Shape) (before : List ColumnReader) (own' d : ColumnReader) (size : ℕ)
@@ -203,7 +203,7 @@ map_taken k v [] ys own' d size ps some p le r n q = absurd (omega (arith, some)
 map_taken k v (own ∷ below) ys own' d size ps some p le r n q =
     let q' : Leaves (PairsLeft k v below) (PairsLeft k v ys) ps = subst (λ t. Leaves (PairsLeft k v t) (PairsLeft k v ys) ps) (behind own' below) q in
     subst (λ t. Leaves (MapsOf k v (own ∷ below)) (MapsOf k v t) (ps ∷ [])) (sym (put_behind own' below ys))
-    (subst (λ m. Leaves (MapsLeft k v own.source below) (Grouped (NumbersLeft own'.source.numbers) (Within m (PairsLeft k v ys))) (ps ∷ [])) (sym r)
+    (subst (λ m. Leaves (MapsLeft k v own.source below) (Sized (NumbersLeft own'.source.numbers) (Within m (PairsLeft k v ys))) (ps ∷ [])) (sym r)
     (sized_leaves own.source.room size (NumbersLeft own.source.numbers) (NumbersLeft own'.source.numbers) (PairsLeft k v below) (PairsLeft k v ys) ps n le p q'))
 
 pub map_lacking : (k v : Shape) (before : List ColumnReader) (own' d : ColumnReader) (size : ℕ)

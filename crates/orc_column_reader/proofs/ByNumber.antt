@@ -12,7 +12,7 @@ use Rattle.orc_values.proofs.Views.{list_of_cells-cells_of, cells_of-list_of_cel
 use Rattle.orc_values.proofs.Together.{keys_fit, values_fit as seconds_fit}
 use Rattle.std.proofs.lemmas.List.{length-map, map-append}
 use Rattle.orc_column_reader.specs.Spellings.{AllStand, size, joined, zip_cons}
-use Rattle.orc_column_reader.specs.Columns.{IsBool, IsByte, signed_byte, IsInt, IsDate, IsText, IsBinary, IsWord, IsList, IsMap, IsRecord}
+use Rattle.orc_column_reader.specs.Columns.{IsBool, IsByte, signed_byte, IsInt, IsDate, IsText, IsBinary, IsEntry, IsList, IsMap, IsRecord}
 use Rattle.orc_column_reader.specs.Stripe.{Streams, SpellsScalar, IsColumn, SpellRows, SpellsFields, SpellsCells, has_dictionary, SpellsTexts}
 use Rattle.orc_column_reader.proofs.Fronts.{length-zip, stand_length}
 
@@ -70,7 +70,7 @@ date_value o n v h = ap (λ c. fits c (scalar kind.Date o)) h.1 ∙ h.0
 text_value : (o : List ℕ) (bs : List ℕ) (v : Cell) → IsText bs v → fits v (scalar kind.String o) ≡ true
 text_value o bs v h = ap (λ c. fits c (scalar kind.String o)) h.1 ∙ h.0
 
-word_value : (entries : List (List ℕ)) (o : List ℕ) (n : ℤ) (v : Cell) → IsWord entries n v → fits v (scalar kind.String o) ≡ true
+word_value : (entries : List (List ℕ)) (o : List ℕ) (n : ℤ) (v : Cell) → IsEntry entries n v → fits v (scalar kind.String o) ≡ true
 word_value entries o (pos i) v h = text_value o h.0 v h.2
 word_value entries o (negsuc i) v h = absurd h
 
@@ -81,7 +81,7 @@ bool_value : (o : List ℕ) (b : Bool) (v : Cell) → IsBool b v → fits v (sca
 bool_value o b v h = ap (λ c. fits c (scalar kind.Boolean o)) h
 
 texts_fit : (o : List ℕ) (x : Streams) (dictionary : Bool) (vs : List Cell) → SpellsTexts x dictionary vs → RowsFit (scalar kind.String o) vs
-texts_fit o x true vs h = standing_fits (IsWord h.0) (scalar kind.String o) (word_value h.0 o) h.2.0 vs h.2.1
+texts_fit o x true vs h = standing_fits (IsEntry h.0) (scalar kind.String o) (word_value h.0 o) h.2.0 vs h.2.1
 texts_fit o x false vs h = standing_fits IsText (scalar kind.String o) (text_value o) h.0 vs h.1
 
 scalar_fit : (k : Scalar) (o : List ℕ) (x : Streams) (vs : List Cell) → SpellsScalar k x vs → RowsFit (scalar k o) vs
@@ -105,18 +105,18 @@ fit_of_all s end h = tt
 fit_of_all s (more c cs) h = let p = and_parts (fits c s) (all_fit cs s) h in (p.0, fit_of_all s cs p.1)
 
 -- lists, their elements joined, and their sizes
-pub record Lists (s : Shape) (o : List ℕ) (groups : List (List Cell)) (vs : List Cell) : Type 0 where
+pub record Lists (s : Shape) (o : List ℕ) (byte_strings : List (List Cell)) (vs : List Cell) : Type 0 where
   pub fit : RowsFit (list_of s o) vs
-  pub elements : flat_map parts vs ≡ joined groups
-  pub sizes : map (λ v. size (parts v)) vs ≡ map size groups
+  pub elements : flat_map parts vs ≡ joined byte_strings
+  pub sizes : map (λ v. size (parts v)) vs ≡ map size byte_strings
 
-lists_of : (s : Shape) (o : List ℕ) (groups : List (List Cell)) (vs : List Cell) → AllStand IsList groups vs → RowsFit s (joined groups) → Lists s o groups vs
+lists_of : (s : Shape) (o : List ℕ) (byte_strings : List (List Cell)) (vs : List Cell) → AllStand IsList byte_strings vs → RowsFit s (joined byte_strings) → Lists s o byte_strings vs
 lists_of s o [] [] h f = record { fit = tt; elements = refl; sizes = refl }
 lists_of s o [] (v ∷ vs) h f = absurd h
-lists_of s o (g ∷ groups) [] h f = absurd h
-lists_of s o (g ∷ groups) (v ∷ vs) h f =
-    let a = all-front (λ c. fits c s ≡ true) g (joined groups) f in
-    let l = lists_of s o groups vs h.1 a.1 in
+lists_of s o (g ∷ byte_strings) [] h f = absurd h
+lists_of s o (g ∷ byte_strings) (v ∷ vs) h f =
+    let a = all-front (λ c. fits c s ≡ true) g (joined byte_strings) f in
+    let l = lists_of s o byte_strings vs h.1 a.1 in
     let p : parts v ≡ g = ap parts h.0 ∙ list_of_cells-cells_of g in
     record {
       fit = (ap (λ c. fits c (list_of s o)) h.0 ∙ all_fit_of s g a.0, l.fit);
@@ -160,22 +160,22 @@ pairs_fit_of k v [] h f = refl
 pairs_fit_of k v (p ∷ ps) h f = rw (h.0, f.0, pairs_fit_of k v ps h.1 f.1) refl
 
 -- maps, their keys and values joined, and how many pairs they have
-record Maps (k v : Shape) (o : List ℕ) (groups : List (List (Cell × Cell))) (vs : List Cell) : Type 0 where
+record Maps (k v : Shape) (o : List ℕ) (byte_strings : List (List (Cell × Cell))) (vs : List Cell) : Type 0 where
   fit : RowsFit (map_of k v o) vs
-  keys : flat_map keys_in vs ≡ map first_of (joined groups)
-  seconds : flat_map values_in vs ≡ map second_of (joined groups)
-  sizes : map (λ m. size (pairs_in m)) vs ≡ map size groups
+  keys : flat_map keys_in vs ≡ map first_of (joined byte_strings)
+  seconds : flat_map values_in vs ≡ map second_of (joined byte_strings)
+  sizes : map (λ m. size (pairs_in m)) vs ≡ map size byte_strings
 
-maps_of : (k v : Shape) (o : List ℕ) (groups : List (List (Cell × Cell))) (vs : List Cell) → AllStand IsMap groups vs → RowsFit k (map first_of (joined groups)) → RowsFit v (map second_of (joined groups)) → Maps k v o groups vs
+maps_of : (k v : Shape) (o : List ℕ) (byte_strings : List (List (Cell × Cell))) (vs : List Cell) → AllStand IsMap byte_strings vs → RowsFit k (map first_of (joined byte_strings)) → RowsFit v (map second_of (joined byte_strings)) → Maps k v o byte_strings vs
 maps_of k v o [] [] h f e = record { fit = tt; keys = refl; seconds = refl; sizes = refl }
 maps_of k v o [] (c ∷ vs) h f e = absurd h
-maps_of k v o (g ∷ groups) [] h f e = absurd h
-maps_of k v o (g ∷ groups) (c ∷ vs) h f e =
-    let i = map-append first_of g (joined groups) in
-    let j = map-append second_of g (joined groups) in
-    let a = all-front (λ x. fits x k ≡ true) (map first_of g) (map first_of (joined groups)) (subst (RowsFit k) i f) in
-    let b = all-front (λ x. fits x v ≡ true) (map second_of g) (map second_of (joined groups)) (subst (RowsFit v) j e) in
-    let l = maps_of k v o groups vs h.1 a.1 b.1 in
+maps_of k v o (g ∷ byte_strings) [] h f e = absurd h
+maps_of k v o (g ∷ byte_strings) (c ∷ vs) h f e =
+    let i = map-append first_of g (joined byte_strings) in
+    let j = map-append second_of g (joined byte_strings) in
+    let a = all-front (λ x. fits x k ≡ true) (map first_of g) (map first_of (joined byte_strings)) (subst (RowsFit k) i f) in
+    let b = all-front (λ x. fits x v ≡ true) (map second_of g) (map second_of (joined byte_strings)) (subst (RowsFit v) j e) in
+    let l = maps_of k v o byte_strings vs h.1 a.1 b.1 in
     let p : pairs_in c ≡ g = ap pairs_in h.0 ∙ list_of_pairs-pairs_of g in
     record {
       fit = (ap (λ x. fits x (map_of k v o)) h.0 ∙ pairs_fit_of k v g a.0 b.0, l.fit);

@@ -6,7 +6,7 @@ use Rattle.orc_rle.specs.declared.sign.Rle.{Rle}
 use Rattle.orc_column_reader.specs.declared.numbers.Numbers.{Numbers}
 use Rattle.orc_column_reader.specs.declared.entry.Entry.{Entry}
 use Rattle.orc_column_reader.specs.Fronts.{Leaves, Lacks}
-use Rattle.orc_column_reader.specs.Spellings.{size, Grouped}
+use Rattle.orc_column_reader.specs.Spellings.{size, Sized}
 use Rattle.orc_column_reader.specs.Numbers.{AreNumbers, NumbersLeft}
 use Rattle.orc_column_reader.specs.Stripe.{Is}
 use Rattle.orc_column_reader.specs.Starting.{NumbersStart}
@@ -14,7 +14,7 @@ use Rattle.orc_column_reader.specs.Columns.{entry_bytes}
 use Rattle.orc_column_reader.proofs.Fronts.{one_after_other, lacks_after}
 use Rattle.orc_column_reader.proofs.StartLemmas.{numbers_alike}
 
-pub begun : (v : Rle) (lengths bytes : List ℕ) (r : Numbers) → NumbersStart v Unsigned lengths r → Leaves (Grouped (AreNumbers v Unsigned lengths) (Is bytes)) (Grouped (NumbersLeft r) (Is bytes)) []
+pub begun : (v : Rle) (lengths bytes : List ℕ) (r : Numbers) → NumbersStart v Unsigned lengths r → Leaves (Sized (AreNumbers v Unsigned lengths) (Is bytes)) (Sized (NumbersLeft r) (Is bytes)) []
 begun v lengths bytes r s =
     let a = numbers_alike v Unsigned lengths r s in
     record { found = λ rest h. (a.to (map size rest) h.0, h.1); only = λ all h le. (all, refl, (a.from (map size all) h.0, h.1)) }

@@ -12,7 +12,7 @@ use Rattle.orc_column_reader.specs.declared.column.ValueSource.{ValueSource}
 use Rattle.orc_column_reader.specs.declared.fault.StreamKind.TheVariants as stream
 use Rattle.orc_column_reader.specs.declared.fault.StripeFault.{StripeFault}
 use Rattle.orc_column_reader.specs.Columns.{MarksFirst, column_of, marks_of}
-use Rattle.orc_column_reader.specs.Faults.{RunsFail, HasFault, WordsOfFail, ValuesFail, FaultBelow, FaultWithin, FaultDown, TooManyRows, lengths_of}
+use Rattle.orc_column_reader.specs.Faults.{RunsFail, HasFault, DictionaryFails, ValuesFail, FaultBelow, FaultWithin, FaultDown, TooManyRows, lengths_of}
 use Rattle.orc_column_reader.specs.Fronts.{Precedes}
 use Rattle.orc_column_reader.specs.Needs.{MarksBegin, ValuesNeeded}
 use Rattle.orc_column_reader.specs.Numbers.{NumbersFirst}
@@ -311,8 +311,8 @@ readers_down s columns c readers all n f are h = from_down s columns c readers a
 below_from : (s : Shape) (columns : ℕ → Streams) (c n : ℕ) (f : StripeFault) → FaultBelow s columns c false 0 f → FaultDown s columns c false n f
 below_from s columns c n f h = inr (inr (0, values_none n (MarksBegin ((columns c).stream 0)) (no_marks ((columns c).stream 0)), inr h))
 
-pub down_own : (s : Shape) (columns : ℕ → Streams) (c m n : ℕ) (f : StripeFault) → m ≡ c → WordsOfFail s (columns m) m f → FaultDown s columns c false n f
-down_own s columns c m n f is h = inr (inl (subst (λ k. WordsOfFail s (columns k) k f) is h))
+pub down_own : (s : Shape) (columns : ℕ → Streams) (c m n : ℕ) (f : StripeFault) → m ≡ c → DictionaryFails s (columns m) m f → FaultDown s columns c false n f
+down_own s columns c m n f is h = inr (inl (subst (λ k. DictionaryFails s (columns k) k f) is h))
 
 pub down_list : (s e : Shape) (o : List ℕ) (columns : ℕ → Streams) (c m n : ℕ) (f : StripeFault) → s ≡ list_of e o → m ≡ c + 1 → ((k : ℕ) → FaultDown e columns m false k f) → FaultDown s columns c false n f
 down_list s e o columns c m n f is next h =

@@ -4,7 +4,7 @@ use Rattle.std.proofs.lemmas.List.{length-map, map-append}
 use Rattle.orc_values.specs.Cells.{Cell, null, leaf, list, struct, pairs, is_value, values}
 use Rattle.orc_values.specs.Trues.{trues}
 use Rattle.orc_column_reader.specs.Fronts.{Leaves, Lacks}
-use Rattle.orc_column_reader.specs.Spellings.{Nullable, AllStand, Standing, size, joined, Grouped, Within, Paired, zip_cons, Fielded}
+use Rattle.orc_column_reader.specs.Spellings.{Nullable, AllStand, Standing, size, joined, Sized, Within, Paired, zip_cons, Fielded}
 
 -- nothing was taken
 pub nothing : {X : Type 0} (before : List X → Type 0) → Leaves before before []
@@ -160,21 +160,21 @@ groups_apart all sizes more e =
     let p = same_pieces (map size c.front) sizes (map size c.back) more (length-map c.front size ∙ c.counted) (sym (map-append size c.front c.back) ∙ ap (map size) (sym c.parts) ∙ e) in
     record { front = c.front; back = c.back; parts = c.parts; front_sizes = p.front; back_sizes = p.back }
 
-pub grouped_leaves : {X : Type 0} (sizes sizes' : List ℤ → Type 0) (elements elements' : List X → Type 0) (groups : List (List X))
-    → Leaves sizes sizes' (map size groups) → Leaves elements elements' (joined groups) → Leaves (Grouped sizes elements) (Grouped sizes' elements') groups
-grouped_leaves sizes sizes' elements elements' groups p q = record {
+pub grouped_leaves : {X : Type 0} (sizes sizes' : List ℤ → Type 0) (elements elements' : List X → Type 0) (byte_strings : List (List X))
+    → Leaves sizes sizes' (map size byte_strings) → Leaves elements elements' (joined byte_strings) → Leaves (Sized sizes elements) (Sized sizes' elements') byte_strings
+grouped_leaves sizes sizes' elements elements' byte_strings p q = record {
   found = λ rest r.
-      (subst sizes (sym (map-append size groups rest)) (p.found (map size rest) r.0), subst elements (sym (joined-append groups rest)) (q.found (joined rest) r.1));
+      (subst sizes (sym (map-append size byte_strings rest)) (p.found (map size rest) r.0), subst elements (sym (joined-append byte_strings rest)) (q.found (joined rest) r.1));
   only = λ all r le.
-      let i = p.only (map size all) r.0 (omega (arith, le, length-map all size, length-map groups size)) in
-      let g = groups_apart all (map size groups) i.0 i.1 in
+      let i = p.only (map size all) r.0 (omega (arith, le, length-map all size, length-map byte_strings size)) in
+      let g = groups_apart all (map size byte_strings) i.0 i.1 in
       let e = ap joined g.parts ∙ joined-append g.front g.back in
-      let j = q.only (joined all) r.1 (omega (arith, ap length e, length-append (joined g.front) (joined g.back), joined_length g.front groups g.front_sizes)) in
-      let s = same_groups g.front groups (joined g.back) j.0 g.front_sizes (sym e ∙ j.1) in
+      let j = q.only (joined all) r.1 (omega (arith, ap length e, length-append (joined g.front) (joined g.back), joined_length g.front byte_strings g.front_sizes)) in
+      let s = same_groups g.front byte_strings (joined g.back) j.0 g.front_sizes (sym e ∙ j.1) in
       (g.back, g.parts ∙ ap (λ t. t ++ g.back) s.0, (subst sizes' (sym g.back_sizes) i.2, subst elements' (sym s.1) j.2));
 }
 
-pub grouped_lacks_sizes : {X : Type 0} (sizes : List ℤ → Type 0) (elements : List X → Type 0) (n : ℕ) → Lacks sizes n → Lacks (Grouped sizes elements) n
+pub grouped_lacks_sizes : {X : Type 0} (sizes : List ℤ → Type 0) (elements : List X → Type 0) (n : ℕ) → Lacks sizes n → Lacks (Sized sizes elements) n
 grouped_lacks_sizes sizes elements n p = λ all r le. p (map size all) r.0 (omega (arith, le, length-map all size))
 
 -- ---- cells, some of them null

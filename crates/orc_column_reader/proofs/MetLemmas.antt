@@ -18,7 +18,7 @@ use Rattle.orc_column_reader.specs.Faults.{RunsFail}
 use Rattle.orc_column_reader.specs.Fronts.{Leaves, Precedes}
 use Rattle.orc_column_reader.specs.Numbers.{is_run, NumbersLeft, NumbersFirst}
 use Rattle.orc_column_reader.specs.Octets.{OctetsLeft}
-use Rattle.orc_column_reader.specs.ReaderFaults.{IntsMeet, GroupsMeet, TextMeets, WordsMeet, ListsMeet}
+use Rattle.orc_column_reader.specs.ReaderFaults.{IntsMeet, StringsMeet, TextMeets, IndexesMeet, ListsMeet}
 use Rattle.orc_column_reader.specs.RunFaults.{Always}
 use Rattle.orc_column_reader.specs.RunsMet.{NumbersMeet, BytesMeet, BitsMeet}
 use Rattle.orc_column_reader.specs.ValueFaults.{is_index, names_text}
@@ -76,7 +76,7 @@ ints_now fits r r' all m column n p bad = inr (refl, not_all_now fits (NumbersFi
 -- ---- words
 
 pub words_before : (entries : List (List ℕ)) (r r' : Numbers) (all : Bool) (m column : ℕ) (n : ℤ) (f : StripeFault) → ((m : ℕ) (g : RunFault) → NumbersMeet r' m g → NumbersMeet r (suc m) g) → Precedes (NumbersFirst r) (NumbersFirst r') (n ∷ [])
-    → WordsMeet entries r' all m column f → WordsMeet entries r all (suc m) column f
+    → IndexesMeet entries r' all m column f → IndexesMeet entries r all (suc m) column f
 words_before entries r r' all m column n f e p (inl h) = inl (runs_more stream.Data column all m (NumbersMeet r') (NumbersMeet r) f e h)
 words_before entries r r' all m column n f e p (inr (inl h)) = inr (inl (h.0, not_all_before (is_index (length entries)) (NumbersFirst r) (NumbersFirst r') n p h.1))
 words_before entries r r' all m column n f e p (inr (inr h)) = inr (inr (h.0, not_all_before (names_text entries) (NumbersFirst r) (NumbersFirst r') n p h.1))
@@ -85,7 +85,7 @@ no_pass : (b : Bool) → b ≡ false → b ≡ true → ⊥
 no_pass b p q = let e : false ≡ true = sym p ∙ q in cc
 
 pub words_now : (entries : List (List ℕ)) (r r' : Numbers) (all : Bool) (m column : ℕ) (n : ℤ) (f : StripeFault) → Precedes (NumbersFirst r) (NumbersFirst r') (n ∷ [])
-    → ((f ≡ fault.BadIndex column) × (is_index (length entries) n ≡ false)) ⊎ ((f ≡ fault.NotUtf8 column stream.DictionaryData) × (names_text entries n ≡ false)) → WordsMeet entries r all m column f
+    → ((f ≡ fault.BadIndex column) × (is_index (length entries) n ≡ false)) ⊎ ((f ≡ fault.NotUtf8 column stream.DictionaryData) × (names_text entries n ≡ false)) → IndexesMeet entries r all m column f
 words_now entries r r' all m column n f p (inl h) = inr (inl (h.0, not_all_now (is_index (length entries)) (NumbersFirst r) (NumbersFirst r') n p (none_first r') (no_pass (is_index (length entries) n) h.1)))
 words_now entries r r' all m column n f p (inr h) = inr (inr (h.0, not_all_now (names_text entries) (NumbersFirst r) (NumbersFirst r') n p (none_first r') (no_pass (names_text entries n) h.1)))
 
@@ -99,26 +99,26 @@ octets_front o o' front p = sym (p.found o'.rest.now refl)
 
 pub groups_before : (kind : StreamKind) (r r' : Numbers) (o o' : Octets) (all : Bool) (m column : ℕ) (front : List ℕ) (f : StripeFault) → ((m : ℕ) (g : RunFault) → NumbersMeet r' m g → NumbersMeet r (suc m) g)
     → Precedes (NumbersFirst r) (NumbersFirst r') (pos (length front) ∷ []) → Leaves (NumbersLeft r) (NumbersLeft r') (pos (length front) ∷ []) → o.rest.now ≡ front ++ o'.rest.now
-    → GroupsMeet kind r' o' all m column f → GroupsMeet kind r o all (suc m) column f
+    → StringsMeet kind r' o' all m column f → StringsMeet kind r o all (suc m) column f
 groups_before kind r r' o o' all m column front f e p l b (inl h) = inl (runs_more stream.Length column all m (NumbersMeet r') (NumbersMeet r) f e h)
 groups_before kind r r' o o' all m column front f e p l b (inr (is, inl h)) =
     inr (is, inl (pass_before (length front) (length o.rest.now) (length o'.rest.now) (NumbersFirst r) (NumbersFirst r') (front_length o.rest.now front o'.rest.now b) p h))
 groups_before kind r r' o o' all m column front f e p l b (inr (is, inr h)) =
     inr (is, inr (below_before (length front) (length o.rest.now) (length o'.rest.now) (NumbersLeft r) (NumbersLeft r') (front_length o.rest.now front o'.rest.now b) l.found h))
 
-pub groups_short : (kind : StreamKind) (r r' : Numbers) (o : Octets) (all : Bool) (m column size : ℕ) → Precedes (NumbersFirst r) (NumbersFirst r') (pos size ∷ []) → length o.rest.now < size → GroupsMeet kind r o all m column (fault.LengthSum column kind)
+pub groups_short : (kind : StreamKind) (r r' : Numbers) (o : Octets) (all : Bool) (m column size : ℕ) → Precedes (NumbersFirst r) (NumbersFirst r') (pos size ∷ []) → length o.rest.now < size → StringsMeet kind r o all m column (fault.LengthSum column kind)
 groups_short kind r r' o all m column size p lt = inr (refl, inl (pass_now size (length o.rest.now) (NumbersFirst r) (NumbersFirst r') lt p (none_first r')))
 
-pub groups_negative : (kind : StreamKind) (r r' : Numbers) (o : Octets) (all : Bool) (m column k : ℕ) → Precedes (NumbersFirst r) (NumbersFirst r') (negsuc k ∷ []) → GroupsMeet kind r o all m column (fault.LengthSum column kind)
+pub groups_negative : (kind : StreamKind) (r r' : Numbers) (o : Octets) (all : Bool) (m column k : ℕ) → Precedes (NumbersFirst r) (NumbersFirst r') (negsuc k ∷ []) → StringsMeet kind r o all m column (fault.LengthSum column kind)
 groups_negative kind r r' o all m column k p = inr (refl, inl (pass_negative k (length o.rest.now) (NumbersFirst r) (NumbersFirst r') p (none_first r')))
 
-pub groups_over : (kind : StreamKind) (r : Numbers) (o : Octets) (all : Bool) (m column : ℕ) → NumbersLeft r [] → (OctetsLeft o [] → ⊥) → GroupsMeet kind r o all m column (fault.LengthSum column kind)
+pub groups_over : (kind : StreamKind) (r : Numbers) (o : Octets) (all : Bool) (m column : ℕ) → NumbersLeft r [] → (OctetsLeft o [] → ⊥) → StringsMeet kind r o all m column (fault.LengthSum column kind)
 groups_over kind r o all m column none some = inr (refl, inr (below_now (NumbersLeft r) o.rest.now none (λ e. some (sym e))))
 
 -- ---- texts
 
 pub text_before : (r r' : Numbers) (o o' : Octets) (all : Bool) (m column : ℕ) (front : List ℕ) (f : StripeFault) → Precedes (NumbersFirst r) (NumbersFirst r') (pos (length front) ∷ []) → o.rest.now ≡ front ++ o'.rest.now
-    → (GroupsMeet stream.Data r' o' all m column f → GroupsMeet stream.Data r o all (suc m) column f) → TextMeets r' o' all m column f → TextMeets r o all (suc m) column f
+    → (StringsMeet stream.Data r' o' all m column f → StringsMeet stream.Data r o all (suc m) column f) → TextMeets r' o' all m column f → TextMeets r o all (suc m) column f
 text_before r r' o o' all m column front f p b q (inl h) = inl (q h)
 text_before r r' o o' all m column front f p b q (inr h) = inr (h.0, no_text_before (NumbersFirst r) (NumbersFirst r') front o.rest.now o'.rest.now p b h.1)
 

@@ -20,7 +20,7 @@ use Rattle.orc_column_reader.specs.Columns.{entry_bytes}
 use Rattle.orc_column_reader.specs.Faults.{RunsFail}
 use Rattle.orc_column_reader.specs.RunFaults.{Always}
 use Rattle.orc_column_reader.specs.RunsMet.{NumbersMeet, BytesMeet, BitsMeet, MarksMeet}
-use Rattle.orc_column_reader.specs.ReaderFaults.{IntsMeet, GroupsMeet, TextMeets, WordsMeet, TextsMeet, ScalarMeets, ListsMeet, ValuesMeet, ReadersMeet, BelowMeet, FieldsMeet, CellsMeet}
+use Rattle.orc_column_reader.specs.ReaderFaults.{IntsMeet, StringsMeet, TextMeets, IndexesMeet, TextsMeet, ScalarMeets, ListsMeet, ValuesMeet, ReadersMeet, BelowMeet, FieldsMeet, CellsMeet}
 
 not_runs : (k : StreamKind) (c : ℕ) (stands : RunFault → Type 0) → RunsFail k c stands Failed → ⊥
 not_runs k c stands h = let e = h.1 in cc
@@ -29,7 +29,7 @@ not_ints : (fits : ℤ → Bool) (r : Numbers) (all : Bool) (n c : ℕ) → Ints
 not_ints fits r all n c (inl h) = not_runs stream.Data c (Always all n (NumbersMeet r)) h
 not_ints fits r all n c (inr h) = let e = h.0 in cc
 
-not_groups : (k : StreamKind) (r : Numbers) (o : Octets) (all : Bool) (n c : ℕ) → GroupsMeet k r o all n c Failed → ⊥
+not_groups : (k : StreamKind) (r : Numbers) (o : Octets) (all : Bool) (n c : ℕ) → StringsMeet k r o all n c Failed → ⊥
 not_groups k r o all n c (inl h) = not_runs stream.Length c (Always all n (NumbersMeet r)) h
 not_groups k r o all n c (inr h) = let e = h.0 in cc
 
@@ -37,7 +37,7 @@ not_text : (r : Numbers) (o : Octets) (all : Bool) (n c : ℕ) → TextMeets r o
 not_text r o all n c (inl h) = not_groups stream.Data r o all n c h
 not_text r o all n c (inr h) = let e = h.0 in cc
 
-not_words : (entries : List (List ℕ)) (r : Numbers) (all : Bool) (n c : ℕ) → WordsMeet entries r all n c Failed → ⊥
+not_words : (entries : List (List ℕ)) (r : Numbers) (all : Bool) (n c : ℕ) → IndexesMeet entries r all n c Failed → ⊥
 not_words entries r all n c (inl h) = not_runs stream.Data c (Always all n (NumbersMeet r)) h
 not_words entries r all n c (inr (inl h)) = let e = h.0 in cc
 not_words entries r all n c (inr (inr h)) = let e = h.0 in cc

@@ -11,13 +11,13 @@ use Rattle.orc_rle.specs.declared.sign.Sign.{Sign}
 use Rattle.orc_rle.specs.declared.sign.Sign.TheVariants.{Signed, Unsigned}
 use Rattle.orc_rle.proofs.StreamLemmas.{one_stream}
 use Rattle.orc_rle.specs.declared.sign.Rle.{Rle}
-use Rattle.orc_column_reader.specs.Spellings.{Nullable, AllStand, Standing, size, joined, Grouped, Within, Paired, zip_cons, Fielded}
+use Rattle.orc_column_reader.specs.Spellings.{Nullable, AllStand, Standing, size, joined, Sized, Within, Paired, zip_cons, Fielded}
 use Rattle.orc_column_reader.specs.Numbers.{is_run, AreNumbers}
 use Rattle.orc_column_reader.specs.Bytes.{AreBytes}
 use Rattle.orc_rle.specs.ByteRun.{IsByteRun}
 use Rattle.orc_rle.specs.ByteLaws.{one_byte_run, byte_run_some}
 use Rattle.orc_rle.specs.BitStream.{IsBitStream}
-use Rattle.orc_column_reader.specs.Columns.{IsBool, IsByte, IsInt, IsDate, IsText, IsBinary, IsWord, IsList, IsMap, IsRecord}
+use Rattle.orc_column_reader.specs.Columns.{IsBool, IsByte, IsInt, IsDate, IsText, IsBinary, IsEntry, IsList, IsMap, IsRecord}
 use Rattle.orc_column_reader.specs.Stripe.{Streams, version, Marks, Is, IsDictionary, SpellsScalar, SpellsTexts, SpellsInts, SpellsTree, SpellsFields, SpellsCells, has_dictionary, most_cells}
 use Rattle.orc_column_reader.proofs.Fronts.{same_pairs, length-zip, stand_length, one_standing, same_groups, joined_length, same_cells, length-values}
 use Rattle.orc_column_reader.proofs.NumbersLemmas.{laws_of}
@@ -44,7 +44,7 @@ one_standings stands spelled f one a b p q l =
     let e = one p.0 q.0 p.2 q.2 (stand_length stands p.0 a p.1 ∙ l ∙ sym (stand_length stands q.0 b q.1)) in
     one_standing stands f q.0 a b (subst (λ t. AllStand stands t a) e p.1) q.1
 
-one_grouped : {X : Type 0} (sizes : List ℤ → Type 0) (elements : List X → Type 0) → One sizes → One elements → One (Grouped sizes elements)
+one_grouped : {X : Type 0} (sizes : List ℤ → Type 0) (elements : List X → Type 0) → One sizes → One elements → One (Sized sizes elements)
 one_grouped sizes elements s f a b p q l =
     let e = s (map size a) (map size b) p.0 q.0 (length-map a size ∙ l ∙ sym (length-map b size)) in
     let j = f (joined a) (joined b) p.1 q.1 (joined_length a b e) in
@@ -69,7 +69,7 @@ one_within room elements one a b p q l = one a b p.1 q.1 l
 one_is : (bytes : List ℕ) → One (Is bytes)
 one_is bytes a b p q l = p ∙ sym q
 
-one_groups : (x : Streams) (lengths bytes : List ℕ) → One (Grouped (AreNumbers (version x) Unsigned lengths) (Is bytes))
+one_groups : (x : Streams) (lengths bytes : List ℕ) → One (Sized (AreNumbers (version x) Unsigned lengths) (Is bytes))
 one_groups x lengths bytes = one_grouped (AreNumbers (version x) Unsigned lengths) (Is bytes) (one_numbers (version x) Unsigned lengths) (one_is bytes)
 
 pub one_dictionary : (x : Streams) (a b : List (List ℕ)) → IsDictionary x a → IsDictionary x b → a ≡ b
@@ -78,8 +78,8 @@ one_dictionary x a b p q = one_groups x (x.stream 2) (x.stream 3) a b p.spelled 
 one_texts : (x : Streams) (dictionary : Bool) → One (SpellsTexts x dictionary)
 one_texts x true a b p q l =
     let e = one_dictionary x p.0 q.0 p.1 q.1 in
-    one_standings (IsWord q.0) (AreNumbers (version x) Unsigned (x.stream 1)) (one_word q.0) (one_numbers (version x) Unsigned (x.stream 1)) a b (subst (λ t. Standing (IsWord t) (AreNumbers (version x) Unsigned (x.stream 1)) a) e p.2) q.2 l
-one_texts x false a b p q l = one_standings IsText (Grouped (AreNumbers (version x) Unsigned (x.stream 2)) (Is (x.stream 1))) one_text (one_groups x (x.stream 2) (x.stream 1)) a b p q l
+    one_standings (IsEntry q.0) (AreNumbers (version x) Unsigned (x.stream 1)) (one_word q.0) (one_numbers (version x) Unsigned (x.stream 1)) a b (subst (λ t. Standing (IsEntry t) (AreNumbers (version x) Unsigned (x.stream 1)) a) e p.2) q.2 l
+one_texts x false a b p q l = one_standings IsText (Sized (AreNumbers (version x) Unsigned (x.stream 2)) (Is (x.stream 1))) one_text (one_groups x (x.stream 2) (x.stream 1)) a b p q l
 
 one_ints : (k : Scalar) (x : Streams) → One (SpellsInts k x)
 one_ints k x = one_standings (IsInt k) (AreNumbers (version x) Signed (x.stream 1)) (one_int k) (one_numbers (version x) Signed (x.stream 1))
@@ -97,7 +97,7 @@ one_scalar kind.Short x = one_ints kind.Short x
 one_scalar kind.Int x = one_ints kind.Int x
 one_scalar kind.Long x = one_ints kind.Long x
 one_scalar kind.Date x = one_standings IsDate (AreNumbers (version x) Signed (x.stream 1)) one_date (one_numbers (version x) Signed (x.stream 1))
-one_scalar kind.Binary x = one_standings IsBinary (Grouped (AreNumbers (version x) Unsigned (x.stream 2)) (Is (x.stream 1))) one_binary (one_groups x (x.stream 2) (x.stream 1))
+one_scalar kind.Binary x = one_standings IsBinary (Sized (AreNumbers (version x) Unsigned (x.stream 2)) (Is (x.stream 1))) one_binary (one_groups x (x.stream 2) (x.stream 1))
 one_scalar kind.String x = one_texts x (has_dictionary x)
 
 one_empty : One {X = List Cell} (λ structs. AllByRecursion (λ cells. cells ≡ []) structs)
@@ -109,13 +109,13 @@ one_empty (a ∷ rest) (b ∷ bs) p q l = ap (λ t. t ∷ rest) (p.0 ∙ sym q.0
 mutual
   one_tree : (s : Shape) (x : ℕ → Streams) → One (SpellsTree s x)
   one_tree (scalar k o) x = one_scalar k (x 0)
-  one_tree (list_of s o) x = one_standings IsList (Grouped (AreNumbers (version (x 0)) Unsigned ((x 0).stream 2)) (Within most_cells (SpellsCells s (λ c. x (suc c))))) one_list
+  one_tree (list_of s o) x = one_standings IsList (Sized (AreNumbers (version (x 0)) Unsigned ((x 0).stream 2)) (Within most_cells (SpellsCells s (λ c. x (suc c))))) one_list
       (one_grouped (AreNumbers (version (x 0)) Unsigned ((x 0).stream 2)) (Within most_cells (SpellsCells s (λ c. x (suc c)))) (one_numbers (version (x 0)) Unsigned ((x 0).stream 2))
       (one_within most_cells (SpellsCells s (λ c. x (suc c))) (one_nullable (Marks ((x 1).stream 0)) (SpellsTree s (λ c. x (suc c))) (one_marks ((x 1).stream 0)) (one_tree s (λ c. x (suc c))))))
   one_tree (map_of k v o) x =
       let keys = SpellsCells k (λ c. x (suc c)) in
       let seconds = SpellsCells v (λ c. x (suc (width k + c))) in
-      one_standings IsMap (Grouped (AreNumbers (version (x 0)) Unsigned ((x 0).stream 2)) (Within most_cells (Paired keys seconds))) one_map
+      one_standings IsMap (Sized (AreNumbers (version (x 0)) Unsigned ((x 0).stream 2)) (Within most_cells (Paired keys seconds))) one_map
       (one_grouped (AreNumbers (version (x 0)) Unsigned ((x 0).stream 2)) (Within most_cells (Paired keys seconds)) (one_numbers (version (x 0)) Unsigned ((x 0).stream 2))
       (one_within most_cells (Paired keys seconds) (one_paired keys seconds
       (one_nullable (Marks ((x 1).stream 0)) (SpellsTree k (λ c. x (suc c))) (one_marks ((x 1).stream 0)) (one_tree k (λ c. x (suc c))))

@@ -3,8 +3,8 @@ use Rattle.std.proofs.Common.{◌≡◌, ℕ, ◌≤◌, ℤ, pos, negsuc, Bool,
 use Rattle.std.specs.List.{AllByRecursion}
 use Rattle.orc_values.specs.Cells.{Cell, null, leaf, text, is_value, values}
 use Rattle.orc_column_reader.specs.Fronts.{Leaves, Lacks}
-use Rattle.orc_column_reader.specs.Spellings.{Nullable, AllStand, Standing, size, joined, Grouped}
-use Rattle.orc_column_reader.specs.Columns.{IsBool, IsByte, IsInt, IsDate, IsText, IsBinary, IsWord, IsList, IsMap, IsRecord}
+use Rattle.orc_column_reader.specs.Spellings.{Nullable, AllStand, Standing, size, joined, Sized}
+use Rattle.orc_column_reader.specs.Columns.{IsBool, IsByte, IsInt, IsDate, IsText, IsBinary, IsEntry, IsList, IsMap, IsRecord}
 use Rattle.orc_column_reader.proofs.Fronts.{standing_leaves, none_stands, grouped_leaves, nullable_leaves, nullable_lacks_values, nothing}
 
 -- one value stands for one thing
@@ -37,7 +37,7 @@ one_text bs y z p q = p.1 ∙ sym q.1
 pub one_binary : (bs : List ℕ) (y z : Cell) → IsBinary bs y → IsBinary bs z → y ≡ z
 one_binary bs y z p q = p.1 ∙ sym q.1
 
-pub one_word : (entries : List (List ℕ)) (n : ℤ) (y z : Cell) → IsWord entries n y → IsWord entries n z → y ≡ z
+pub one_word : (entries : List (List ℕ)) (n : ℤ) (y z : Cell) → IsEntry entries n y → IsEntry entries n z → y ≡ z
 one_word entries (pos i) y z p q =
     let e : p.0 ≡ q.0 = let a = p.1 in let b = q.1 in cc in
     p.2.1 ∙ ap (λ t. leaf (text t)) e ∙ sym q.2.1
@@ -55,21 +55,21 @@ one_record cs y z p q = p ∙ sym q
 -- ---- a group
 
 pub group_leaves : {X : Type 0} (sizes sizes' : List ℤ → Type 0) (elements elements' : List X → Type 0) (k : ℕ) (xs : List X) → length xs ≡ k
-    → Leaves sizes sizes' (pos k ∷ []) → Leaves elements elements' xs → Leaves (Grouped sizes elements) (Grouped sizes' elements') (xs ∷ [])
+    → Leaves sizes sizes' (pos k ∷ []) → Leaves elements elements' xs → Leaves (Sized sizes elements) (Sized sizes' elements') (xs ∷ [])
 group_leaves sizes sizes' elements elements' k xs e p q =
     grouped_leaves sizes sizes' elements elements' (xs ∷ []) (subst (λ n. Leaves sizes sizes' (pos n ∷ [])) (sym e) p) (subst (λ t. Leaves elements elements' t) (sym (append-nil xs)) q)
 
 size_is : {X : Type 0} (xs : List X) (k : ℕ) → size xs ≡ pos k → length xs ≡ k
 size_is xs k e = cc
 
-pub group_lacks : {X : Type 0} (sizes sizes' : List ℤ → Type 0) (elements : List X → Type 0) (k : ℕ) → Leaves sizes sizes' (pos k ∷ []) → Lacks elements k → Lacks (Grouped sizes elements) 1
+pub group_lacks : {X : Type 0} (sizes sizes' : List ℤ → Type 0) (elements : List X → Type 0) (k : ℕ) → Leaves sizes sizes' (pos k ∷ []) → Lacks elements k → Lacks (Sized sizes elements) 1
 group_lacks sizes sizes' elements k p q [] r le = omega (arith, le)
 group_lacks sizes sizes' elements k p q (g ∷ gs) r le =
     let i = p.only (size g ∷ map size gs) r.0 (omega arith) in
     let e : size g ≡ pos k = let h = i.1 in cc in
     q (joined (g ∷ gs)) r.1 (omega (arith, size_is g k e, length-append g (joined gs)))
 
-pub no_size : {X : Type 0} (sizes sizes' : List ℤ → Type 0) (elements : List X → Type 0) (k : ℕ) → Leaves sizes sizes' (negsuc k ∷ []) → Lacks (Grouped sizes elements) 1
+pub no_size : {X : Type 0} (sizes sizes' : List ℤ → Type 0) (elements : List X → Type 0) (k : ℕ) → Leaves sizes sizes' (negsuc k ∷ []) → Lacks (Sized sizes elements) 1
 no_size sizes sizes' elements k p [] r le = omega (arith, le)
 no_size sizes sizes' elements k p (g ∷ gs) r le =
     let i = p.only (size g ∷ map size gs) r.0 (omega arith) in

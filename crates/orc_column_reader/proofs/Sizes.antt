@@ -5,7 +5,7 @@ use Rattle.orc_values.specs.Cells.{Cell, leaf, bool, int, date, text}
 use Rattle.std.specs.Str.{is_utf8}
 use Rattle.orc_values.specs.Fits.{signed_fits}
 use Rattle.orc_column_reader.specs.declared.entry.Entry.{Entry}
-use Rattle.orc_column_reader.specs.Columns.{IsText, IsWord, entry_bytes}
+use Rattle.orc_column_reader.specs.Columns.{IsText, IsEntry, entry_bytes}
 use Rattle.orc_column_reader.specs.ValueFaults.{is_text, names_text}
 use Rattle.orc_values.specs.Views.{cell_of_value}
 use Rattle.orc_values.specs.declared.value.Value.{Bool as boolean, Int, Date, Text, the_lemmas}
@@ -57,10 +57,10 @@ entry_below [] i b h = cc
 entry_below (x ∷ xs) zero b h = omega arith
 entry_below (x ∷ xs) (suc i) b h = omega (arith, entry_below xs i b h)
 
-pub is_word : (entries : List Entry) (n : ℤ) (i : ℕ) (e : Entry) (c : Cell) → n ≡ pos i → i < length entries → e ≡ get_or entries i e → IsText (entry_bytes e) c → IsWord (map entry_bytes entries) n c
+pub is_word : (entries : List Entry) (n : ℤ) (i : ℕ) (e : Entry) (c : Cell) → n ≡ pos i → i < length entries → e ≡ get_or entries i e → IsText (entry_bytes e) c → IsEntry (map entry_bytes entries) n c
 is_word entries n i e c is lt at t = rw is (entry_bytes e, entry_at entries i e lt at, t)
 
-pub no_text : (entries : List Entry) (n : ℤ) (i : ℕ) (e : Entry) → n ≡ pos i → i < length entries → e ≡ get_or entries i e → (is_utf8 (entry_bytes e) ≡ true → ⊥) → (c : Cell) → IsWord (map entry_bytes entries) n c → ⊥
+pub no_text : (entries : List Entry) (n : ℤ) (i : ℕ) (e : Entry) → n ≡ pos i → i < length entries → e ≡ get_or entries i e → (is_utf8 (entry_bytes e) ≡ true → ⊥) → (c : Cell) → IsEntry (map entry_bytes entries) n c → ⊥
 no_text entries n i e is lt at none c w =
     let v = rw is at w in
     let s = entry_at entries i e lt at in
@@ -75,8 +75,8 @@ not_true false h = refl
 pub names_none : (entries : List Entry) (n : ℤ) (i : ℕ) (e : Entry) → n ≡ pos i → i < length entries → e ≡ get_or entries i e → (is_utf8 (entry_bytes e) ≡ true → ⊥) → names_text (map entry_bytes entries) n ≡ false
 names_none entries n i e is lt at none = rw is (ap is_text (entry_at entries i e lt at) ∙ not_true (is_utf8 (entry_bytes e)) none)
 
-pub no_word : (entries : List Entry) (n : ℤ) (i : ℕ) → n ≡ pos i → (i < length entries → ⊥) → (c : Cell) → IsWord (map entry_bytes entries) n c → ⊥
+pub no_word : (entries : List Entry) (n : ℤ) (i : ℕ) → n ≡ pos i → (i < length entries → ⊥) → (c : Cell) → IsEntry (map entry_bytes entries) n c → ⊥
 no_word entries n i is none c w = let v = rw is at w in none (entry_below entries i v.0 v.1)
 
-pub no_index : (entries : List (List ℕ)) (n : ℤ) (k : ℕ) → n ≡ negsuc k → (c : Cell) → IsWord entries n c → ⊥
+pub no_index : (entries : List (List ℕ)) (n : ℤ) (k : ℕ) → n ≡ negsuc k → (c : Cell) → IsEntry entries n c → ⊥
 no_index entries n k is c w = rw is at w

@@ -22,9 +22,9 @@ use Rattle.orc_bits.specs.Packed.{digits, packed_len}
 use Rattle.orc_rle.specs.Stream.{StopsWithin}
 use Rattle.orc_column_reader.specs.Bytes.{BytesFirst}
 use Rattle.orc_column_reader.specs.Columns.{entry_bytes, MarksFirst}
-use Rattle.orc_column_reader.specs.Faults.{RunsFail, MarksFail, NumbersFail, IntsFail, GroupsFail, WordsFail, TextsFail, ScalarFails, ListsFail, ValuesFail, data_of, indexes_of, lengths_of}
+use Rattle.orc_column_reader.specs.Faults.{RunsFail, MarksFail, NumbersFail, IntsFail, StringsFail, IndexesFail, TextsFail, ScalarFails, ListsFail, ValuesFail, data_of, indexes_of, lengths_of}
 use Rattle.orc_column_reader.specs.Numbers.{is_run, NumbersFirst}
-use Rattle.orc_column_reader.specs.ReaderFaults.{Pass, IntsMeet, GroupsMeet, TextMeets, WordsMeet, TextsMeet, ScalarMeets, ListsMeet, ValuesMeet}
+use Rattle.orc_column_reader.specs.ReaderFaults.{Pass, IntsMeet, StringsMeet, TextMeets, IndexesMeet, TextsMeet, ScalarMeets, ListsMeet, ValuesMeet}
 use Rattle.orc_column_reader.specs.Needs.{MarksBegin}
 use Rattle.orc_column_reader.specs.RunFaults.{Always, Integers, IntegersFirst, IntegersFail, BoolsFail, no_run}
 use Rattle.orc_column_reader.specs.Runs.{RunsFirst, Begins}
@@ -137,7 +137,7 @@ pass_start : (v : Rle) (bytes : List ℕ) (r : Numbers) (most most' : ℕ) → N
 pass_start v bytes r most most' s e h = subst (λ m. Pass (IntegersFirst (integers_from v Unsigned bytes)) m) e (h.0, first_start v Unsigned bytes r h.0 s h.1, h.2)
 
 pub groups_start : (kind : StreamKind) (v : Rle) (lengths bytes : List ℕ) (r : Numbers) (o : Octets) (c m : ℕ) (all : Bool) (n : ℕ) (f : StripeFault) → NumbersStart v Unsigned lengths r → o.rest.now ≡ bytes → c ≡ m
-    → GroupsMeet kind r o all n c f → GroupsFail kind (record { version = v; sign = Unsigned; bytes = lengths }) all n bytes m f
+    → StringsMeet kind r o all n c f → StringsFail kind (record { version = v; sign = Unsigned; bytes = lengths }) all n bytes m f
 groups_start kind v lengths bytes r o c m all n f s b e (inl h) = inl (numbers_fail stream.Length (integers_from v Unsigned lengths) r c m all n f s e h)
 groups_start kind v lengths bytes r o c m all n f s b e (inr (is, inl p)) =
     inr (is ∙ ap (λ k. fault.LengthSum k kind) e, inl (begin_lengths v lengths (length bytes) (pass_start v lengths r (length o.rest.now) (length bytes) s (ap length b) p)))
@@ -146,12 +146,12 @@ groups_start kind v lengths bytes r o c m all n f s b e (inr (is, inr p)) =
     inr (is ∙ ap (λ k. fault.LengthSum k kind) e, inr (p.0, a.to (map pos p.0) p.1, subst (λ t. sum p.0 < length t) b p.2))
 
 -- so many groups are all of them
-pub groups_all : (kind : StreamKind) (lengths : Integers) (n : ℕ) (bytes : List ℕ) (c : ℕ) (f : StripeFault) → GroupsFail kind lengths false n bytes c f → GroupsFail kind lengths true n bytes c f
+pub groups_all : (kind : StreamKind) (lengths : Integers) (n : ℕ) (bytes : List ℕ) (c : ℕ) (f : StripeFault) → StringsFail kind lengths false n bytes c f → StringsFail kind lengths true n bytes c f
 groups_all kind l n bytes c f (inl h) = inl (runs_all stream.Length c n (λ k. StopsWithin (is_run l.version l.sign) (no_run l.version l.sign) k l.bytes) f h)
 groups_all kind l n bytes c f (inr h) = inr h
 
 words_start : (x : Streams) (entries : List (List ℕ)) (r : Numbers) (c m : ℕ) (all : Bool) (n : ℕ) (f : StripeFault) → IsDictionary x entries → NumbersStart (version x) Unsigned (x.stream 1) r → c ≡ m
-    → WordsMeet entries r all n c f → WordsFail x all n m f
+    → IndexesMeet entries r all n c f → IndexesFail x all n m f
 words_start x entries r c m all n f d s e (inl h) = inl (numbers_fail stream.Data (indexes_of x) r c m all n f s e h)
 words_start x entries r c m all n f d s e (inr (inl h)) =
     inr (inl (h.0 ∙ ap (λ k. fault.BadIndex k) e, subst (λ k. NotAll (is_index k) (IntegersFirst (indexes_of x))) d.counted (not_all_start (is_index (length entries)) (indexes_of x) r s h.1)))

@@ -13,16 +13,16 @@ use Rattle.orc_column_reader.specs.declared.numbers.Numbers.{Numbers}
 use Rattle.orc_column_reader.specs.declared.entry.Entry.{Entry}
 use Rattle.orc_column_reader.specs.declared.column.ValueSource.{ValueSource}
 use Rattle.orc_column_reader.specs.declared.column.ColumnReader.{ColumnReader}
-use Rattle.orc_column_reader.specs.Spellings.{Nullable, Standing, size, joined, Grouped, Within, Paired, Fielded}
+use Rattle.orc_column_reader.specs.Spellings.{Nullable, Standing, size, joined, Sized, Within, Paired, Fielded}
 use Rattle.orc_column_reader.specs.Numbers.{AreNumbers, NumbersLeft}
 use Rattle.orc_rle.specs.BitStream.{IsBitStream}
 use Rattle.orc_column_reader.specs.Bytes.{AreBytes, BytesLeft}
 use Rattle.orc_column_reader.specs.Bits.{BitsLeft}
 use Rattle.orc_column_reader.proofs.BitsLemmas.{are_bits, held_bits}
 use Rattle.orc_column_reader.specs.Octets.{OctetsLeft}
-use Rattle.orc_column_reader.specs.Columns.{MarksLeft, GroupsLeft, TextsLeft, ScalarLeft, ValuesLeft, FieldsLeft, CellsLeft, entry_bytes, IsBool, IsByte, IsInt, IsDate, IsText, IsBinary, IsWord, IsList, IsMap, IsRecord}
+use Rattle.orc_column_reader.specs.Columns.{MarksLeft, StringsLeft, TextsLeft, ScalarLeft, ValuesLeft, FieldsLeft, CellsLeft, entry_bytes, IsBool, IsByte, IsInt, IsDate, IsText, IsBinary, IsEntry, IsList, IsMap, IsRecord}
 use Rattle.orc_column_reader.specs.Stripe.{Streams, version, has_dictionary, Marks, Is, IsDictionary, SpellsTexts, SpellsInts, SpellsScalar, SpellsTree, SpellsFields, SpellsCells, most_cells}
-use Rattle.orc_column_reader.specs.Starting.{NumbersStart, BytesStart, BitsStart, MarksStart, GroupsStart, TextsStart, ScalarStart, TreeStart, FieldsStart}
+use Rattle.orc_column_reader.specs.Starting.{NumbersStart, BytesStart, BitsStart, MarksStart, StringsStart, TextsStart, ScalarStart, TreeStart, FieldsStart}
 use Rattle.std.specs.declared.vec.Vec.{Vec}
 use Rattle.std.specs.declared.alloc.Global.{Global}
 use Rattle.orc_column_reader.proofs.OneRows.{one_dictionary}
@@ -35,7 +35,7 @@ pub record Alike {X : Type 0} (a b : List X → Type 0) : Type 0 where
 standing_alike : {X Y : Type 0} (stands : X → Y → Type 0) (a b : List X → Type 0) → Alike a b → Alike (Standing stands a) (Standing stands b)
 standing_alike stands a b p = record { to = λ xs r. (r.0, r.1, p.to r.0 r.2); from = λ xs r. (r.0, r.1, p.from r.0 r.2) }
 
-grouped_alike : {X : Type 0} (a b : List ℤ → Type 0) (c d : List X → Type 0) → Alike a b → Alike c d → Alike (Grouped a c) (Grouped b d)
+grouped_alike : {X : Type 0} (a b : List ℤ → Type 0) (c d : List X → Type 0) → Alike a b → Alike c d → Alike (Sized a c) (Sized b d)
 grouped_alike a b c d p q = record { to = λ xs r. (p.to (map size xs) r.0, q.to (joined xs) r.1); from = λ xs r. (p.from (map size xs) r.0, q.from (joined xs) r.1) }
 
 nullable_alike : (a b : List Bool → Type 0) (c d : List Cell → Type 0) → Alike a b → Alike c d → Alike (Nullable a c) (Nullable b d)
@@ -101,24 +101,24 @@ marks_alike (b ∷ bs) (Some bits) s = bits_alike (b ∷ bs) bits s
 octets_alike : (bytes rest : List ℕ) → rest ≡ bytes → Alike (Is rest) (Is bytes)
 octets_alike bytes rest e = record { to = λ all h. h ∙ e; from = λ all h. h ∙ sym e }
 
-groups_alike : (x : Streams) (r : ValueSource) → GroupsStart x r → Alike (GroupsLeft r) (Grouped (AreNumbers (version x) Unsigned (x.stream 2)) (Is (x.stream 1)))
+groups_alike : (x : Streams) (r : ValueSource) → StringsStart x r → Alike (StringsLeft r) (Sized (AreNumbers (version x) Unsigned (x.stream 2)) (Is (x.stream 1)))
 groups_alike x r s = grouped_alike (NumbersLeft r.numbers) (AreNumbers (version x) Unsigned (x.stream 2)) (OctetsLeft r.octets) (Is (x.stream 1)) (numbers_alike (version x) Unsigned (x.stream 2) r.numbers s.0) (octets_alike (x.stream 1) r.octets.rest.now s.1)
 
-words_alike : (x : Streams) (entries : List (List ℕ)) (r : ValueSource) → IsDictionary x entries → NumbersStart (version x) Unsigned (x.stream 1) r.numbers → Alike (Standing (IsWord entries) (NumbersLeft r.numbers)) (SpellsTexts x true)
+words_alike : (x : Streams) (entries : List (List ℕ)) (r : ValueSource) → IsDictionary x entries → NumbersStart (version x) Unsigned (x.stream 1) r.numbers → Alike (Standing (IsEntry entries) (NumbersLeft r.numbers)) (SpellsTexts x true)
 words_alike x entries r d s =
     let n = numbers_alike (version x) Unsigned (x.stream 1) r.numbers s in
     record {
       to = λ all h. (entries, d, (h.0, h.1, n.to h.0 h.2));
       from = λ all h.
           let e = one_dictionary x h.0 entries h.1 d in
-          let k = subst (λ t. Standing (IsWord t) (AreNumbers (version x) Unsigned (x.stream 1)) all) e h.2 in
+          let k = subst (λ t. Standing (IsEntry t) (AreNumbers (version x) Unsigned (x.stream 1)) all) e h.2 in
           (k.0, k.1, n.from k.0 k.2);
     }
 
 texts_alike : (x : Streams) (dictionary : Bool) (entries : Option (Vec Entry Global)) (r : ValueSource) → TextsStart dictionary x entries r → Alike (TextsLeft entries r) (SpellsTexts x dictionary)
 texts_alike x true None r s = absurd s
 texts_alike x true (Some entries) r s = words_alike x (map entry_bytes entries.items) r s.0 s.1
-texts_alike x false None r s = standing_alike IsText (GroupsLeft r) (Grouped (AreNumbers (version x) Unsigned (x.stream 2)) (Is (x.stream 1))) (groups_alike x r s)
+texts_alike x false None r s = standing_alike IsText (StringsLeft r) (Sized (AreNumbers (version x) Unsigned (x.stream 2)) (Is (x.stream 1))) (groups_alike x r s)
 texts_alike x false (Some entries) r s = absurd s
 
 ints_alike : (k : Scalar) (x : Streams) (r : ValueSource) → NumbersStart (version x) Signed (x.stream 1) r.numbers → Alike (Standing (IsInt k) (NumbersLeft r.numbers)) (SpellsInts k x)
@@ -131,7 +131,7 @@ scalar_alike kind.Short x r s = ints_alike kind.Short x r s
 scalar_alike kind.Int x r s = ints_alike kind.Int x r s
 scalar_alike kind.Long x r s = ints_alike kind.Long x r s
 scalar_alike kind.Date x r s = standing_alike IsDate (NumbersLeft r.numbers) (AreNumbers (version x) Signed (x.stream 1)) (numbers_alike (version x) Signed (x.stream 1) r.numbers s)
-scalar_alike kind.Binary x r s = standing_alike IsBinary (GroupsLeft r) (Grouped (AreNumbers (version x) Unsigned (x.stream 2)) (Is (x.stream 1))) (groups_alike x r s)
+scalar_alike kind.Binary x r s = standing_alike IsBinary (StringsLeft r) (Sized (AreNumbers (version x) Unsigned (x.stream 2)) (Is (x.stream 1))) (groups_alike x r s)
 scalar_alike kind.String x r s = texts_alike x (has_dictionary x) r.entries r s
 
 mutual
@@ -141,7 +141,7 @@ mutual
       nullable_alike (MarksLeft r.present) (Marks ((x 0).stream 0)) (ScalarLeft k r.source) (SpellsScalar k (x 0)) (marks_alike ((x 0).stream 0) r.present h.0) (scalar_alike k (x 0) r.source h.1)
   tree_alike (list_of s o) x (r ∷ rs) h =
       nullable_alike (MarksLeft r.present) (Marks ((x 0).stream 0)) (ValuesLeft (list_of s o) r.source rs) (SpellsTree (list_of s o) x) (marks_alike ((x 0).stream 0) r.present h.0.0)
-      (standing_alike IsList (Grouped (NumbersLeft r.source.numbers) (Within r.source.room (CellsLeft s rs))) (Grouped (AreNumbers (version (x 0)) Unsigned ((x 0).stream 2)) (Within most_cells (SpellsCells s (λ c. x (suc c)))))
+      (standing_alike IsList (Sized (NumbersLeft r.source.numbers) (Within r.source.room (CellsLeft s rs))) (Sized (AreNumbers (version (x 0)) Unsigned ((x 0).stream 2)) (Within most_cells (SpellsCells s (λ c. x (suc c)))))
       (grouped_alike (NumbersLeft r.source.numbers) (AreNumbers (version (x 0)) Unsigned ((x 0).stream 2)) (Within r.source.room (CellsLeft s rs)) (Within most_cells (SpellsCells s (λ c. x (suc c))))
       (numbers_alike (version (x 0)) Unsigned ((x 0).stream 2) r.source.numbers h.0.1.0) (within_alike r.source.room most_cells (CellsLeft s rs) (SpellsCells s (λ c. x (suc c))) h.0.1.1 (tree_alike s (λ c. x (suc c)) rs h.1))))
   tree_alike (map_of k v o) x (r ∷ rs) h =
@@ -149,7 +149,7 @@ mutual
       let left = Paired (CellsLeft k (take (width k) rs)) (CellsLeft v (drop (width k) rs)) in
       let spelled = Paired (SpellsCells k (λ c. x (suc c))) (SpellsCells v (λ c. x (suc (width k + c)))) in
       nullable_alike (MarksLeft r.present) (Marks ((x 0).stream 0)) (ValuesLeft (map_of k v o) r.source rs) (SpellsTree (map_of k v o) x) (marks_alike ((x 0).stream 0) r.present h.0.0)
-      (standing_alike IsMap (Grouped (NumbersLeft r.source.numbers) (Within r.source.room left)) (Grouped sizes (Within most_cells spelled))
+      (standing_alike IsMap (Sized (NumbersLeft r.source.numbers) (Within r.source.room left)) (Sized sizes (Within most_cells spelled))
       (grouped_alike (NumbersLeft r.source.numbers) sizes (Within r.source.room left) (Within most_cells spelled)
       (numbers_alike (version (x 0)) Unsigned ((x 0).stream 2) r.source.numbers h.0.1.0) (within_alike r.source.room most_cells left spelled h.0.1.1
       (paired_alike (CellsLeft k (take (width k) rs)) (SpellsCells k (λ c. x (suc c))) (CellsLeft v (drop (width k) rs)) (SpellsCells v (λ c. x (suc (width k + c))))

@@ -13,7 +13,7 @@ use Rattle.orc_column_reader.specs.declared.column.ValueSource.{ValueSource}
 use Rattle.orc_column_reader.specs.declared.column.ColumnReader.{ColumnReader}
 use Rattle.std.specs.declared.vec.Vec.{Vec}
 use Rattle.std.specs.declared.alloc.Global.{Global}
-use Rattle.orc_column_reader.specs.Spellings.{Nullable, Standing, Grouped, Within, Paired, Fielded}
+use Rattle.orc_column_reader.specs.Spellings.{Nullable, Standing, Sized, Within, Paired, Fielded}
 use Rattle.orc_column_reader.specs.Numbers.{NumbersLeft}
 use Rattle.orc_column_reader.specs.Bits.{BitsLeft, BitsFirst}
 use Rattle.orc_column_reader.specs.Bytes.{BytesLeft}
@@ -58,9 +58,9 @@ abbrev pub IsBinary : List ℕ → Cell → Type 0
 IsBinary bs c = (are_bytes bs ≡ true) × (c ≡ leaf (bytes bs))
 
 -- the index of an entry
-abbrev pub IsWord : List (List ℕ) → ℤ → Cell → Type 0
-IsWord entries (pos i) c = (entry : List ℕ) × (slice_get entries i ≡ Some entry) × IsText entry c
-IsWord entries (negsuc i) c = ⊥
+abbrev pub IsEntry : List (List ℕ) → ℤ → Cell → Type 0
+IsEntry entries (pos i) c = (entry : List ℕ) × (slice_get entries i ≡ Some entry) × IsText entry c
+IsEntry entries (negsuc i) c = ⊥
 
 -- the cell of a column of lists: its elements in order
 abbrev pub IsList : List Cell → Cell → Type 0
@@ -75,8 +75,8 @@ abbrev pub IsRecord : List Cell → Cell → Type 0
 IsRecord cs c = c ≡ struct (cells_of cs)
 
 -- bytes of the sizes that LENGTH has
-abbrev pub GroupsLeft : ValueSource → List (List ℕ) → Type 0
-GroupsLeft source groups = Grouped (NumbersLeft source.numbers) (OctetsLeft source.octets) groups
+abbrev pub StringsLeft : ValueSource → List (List ℕ) → Type 0
+StringsLeft source byte_strings = Sized (NumbersLeft source.numbers) (OctetsLeft source.octets) byte_strings
 
 -- a dictionary's entry as its bytes
 abbrev pub entry_bytes : Entry → List ℕ
@@ -84,8 +84,8 @@ entry_bytes e = e.bytes.now
 
 -- the texts that a reader has still to give: of its own bytes, or named in its dictionary
 abbrev pub TextsLeft : Option (Vec Entry Global) → ValueSource → List Cell → Type 0
-TextsLeft None source vs = Standing IsText (GroupsLeft source) vs
-TextsLeft (Some entries) source vs = Standing (IsWord (map entry_bytes entries.items)) (NumbersLeft source.numbers) vs
+TextsLeft None source vs = Standing IsText (StringsLeft source) vs
+TextsLeft (Some entries) source vs = Standing (IsEntry (map entry_bytes entries.items)) (NumbersLeft source.numbers) vs
 
 -- the values of a column of a kind that contains no other
 abbrev pub ScalarLeft : Scalar → ValueSource → List Cell → Type 0
@@ -95,7 +95,7 @@ ScalarLeft kind.Short source vs = Standing (IsInt kind.Short) (NumbersLeft sourc
 ScalarLeft kind.Int source vs = Standing (IsInt kind.Int) (NumbersLeft source.numbers) vs
 ScalarLeft kind.Long source vs = Standing (IsInt kind.Long) (NumbersLeft source.numbers) vs
 ScalarLeft kind.Date source vs = Standing IsDate (NumbersLeft source.numbers) vs
-ScalarLeft kind.Binary source vs = Standing IsBinary (GroupsLeft source) vs
+ScalarLeft kind.Binary source vs = Standing IsBinary (StringsLeft source) vs
 ScalarLeft kind.String source vs = TextsLeft source.entries source vs
 
 -- the cells of a column, whose values are spelled so
@@ -109,10 +109,10 @@ abbrev mutual
   pub ValuesLeft : Shape → ValueSource → List ColumnReader → List Cell → Type 0
   ValuesLeft (scalar k o) source below vs = ScalarLeft k source vs
   ValuesLeft (list_of s o) source below vs =
-      Standing IsList (Grouped (NumbersLeft source.numbers) (Within source.room (ColumnLeft (ValuesLeft s) below))) vs
+      Standing IsList (Sized (NumbersLeft source.numbers) (Within source.room (ColumnLeft (ValuesLeft s) below))) vs
   ValuesLeft (map_of k v o) source below vs =
       Standing IsMap
-      (Grouped (NumbersLeft source.numbers)
+      (Sized (NumbersLeft source.numbers)
       (Within source.room
       (Paired (ColumnLeft (ValuesLeft k) (take (width k) below))
       (ColumnLeft (ValuesLeft v) (drop (width k) below))))) vs
@@ -129,7 +129,7 @@ CellsLeft s readers cells = ColumnLeft (ValuesLeft s) readers cells
 
 -- the lists that a reader has still to give: as many elements each as LENGTH says, off the reader of elements
 abbrev pub ListsLeft : Shape → ValueSource → List ColumnReader → List (List Cell) → Type 0
-ListsLeft s source below lists = Grouped (NumbersLeft source.numbers) (Within source.room (CellsLeft s below)) lists
+ListsLeft s source below lists = Sized (NumbersLeft source.numbers) (Within source.room (CellsLeft s below)) lists
 
 -- of a column's readers, its own first: the column's number, the marks, the values, the lists
 abbrev pub column_of : List ColumnReader → ℕ
@@ -159,7 +159,7 @@ PairsLeft k v below ps =
 -- the maps that a reader has still to give: as many pairs each as LENGTH says, off the readers of keys and values
 abbrev pub MapsLeft : Shape → Shape → ValueSource → List ColumnReader → List (List (Cell × Cell)) → Type 0
 MapsLeft k v source below maps =
-    Grouped (NumbersLeft source.numbers) (Within source.room (PairsLeft k v below)) maps
+    Sized (NumbersLeft source.numbers) (Within source.room (PairsLeft k v below)) maps
 
 -- the maps that a map column's readers have still to give
 abbrev pub MapsOf : Shape → Shape → List ColumnReader → List (List (Cell × Cell)) → Type 0

@@ -49,9 +49,9 @@ abbrev pub IntsFail : (ℤ → Bool) → (RunFault → Type 0) → (List ℤ →
 IntsFail fits runs first column f =
     RunsFail stream.Data column runs f ⊎ ((f ≡ fault.OutOfRange column) × NotAll fits first)
 
--- groups of bytes: their lengths, or a stream that has other bytes than these are together
-abbrev pub GroupsFail : StreamKind → Integers → Bool → ℕ → List ℕ → ℕ → StripeFault → Type 0
-GroupsFail kind lengths all n bytes column f =
+-- byte strings: their lengths, or a stream that has other bytes than these are together
+abbrev pub StringsFail : StreamKind → Integers → Bool → ℕ → List ℕ → ℕ → StripeFault → Type 0
+StringsFail kind lengths all n bytes column f =
     NumbersFail stream.Length lengths all n column f
     ⊎ ((f ≡ fault.LengthSum column kind) × HasOtherLength lengths bytes)
 
@@ -61,17 +61,17 @@ NamesNoText x =
     (entries : List (List ℕ)) × IsDictionary x entries × NotAll (names_text entries) (IntegersFirst (indexes_of x))
 
 -- indexes, and one of them that has no entry, or one that is no text
-abbrev pub WordsFail : Streams → Bool → ℕ → ℕ → StripeFault → Type 0
-WordsFail x all n column f =
+abbrev pub IndexesFail : Streams → Bool → ℕ → ℕ → StripeFault → Type 0
+IndexesFail x all n column f =
     NumbersFail stream.Data (indexes_of x) all n column f
     ⊎ (((f ≡ fault.BadIndex column) × NotAll (is_index x.encoding.dictionary_size) (IntegersFirst (indexes_of x)))
     ⊎ ((f ≡ fault.NotUtf8 column stream.DictionaryData) × NamesNoText x))
 
 -- of a column with a dictionary, and of one without
 abbrev pub TextsFail : Bool → Streams → Bool → ℕ → ℕ → StripeFault → Type 0
-TextsFail true x all n column f = WordsFail x all n column f
+TextsFail true x all n column f = IndexesFail x all n column f
 TextsFail false x all n column f =
-    GroupsFail stream.Data (lengths_of x) all n (in_data x) column f
+    StringsFail stream.Data (lengths_of x) all n (in_data x) column f
     ⊎ ((f ≡ fault.NotUtf8 column stream.Data) × CutsNoText (IntegersFirst (lengths_of x)) (in_data x))
 
 -- whole numbers, in DATA
@@ -86,7 +86,7 @@ ScalarFails kind.Short x all n column f = SignedFail (int_fits kind.Short) x all
 ScalarFails kind.Int x all n column f = SignedFail (int_fits kind.Int) x all n column f
 ScalarFails kind.Long x all n column f = NumbersFail stream.Data (data_of x) all n column f
 ScalarFails kind.Date x all n column f = SignedFail (signed_fits 31) x all n column f
-ScalarFails kind.Binary x all n column f = GroupsFail stream.Data (lengths_of x) all n (in_data x) column f
+ScalarFails kind.Binary x all n column f = StringsFail stream.Data (lengths_of x) all n (in_data x) column f
 ScalarFails kind.String x all n column f = TextsFail (has_dictionary x) x all n column f
 
 -- lengths of n lists, or of maps, which have more elements or pairs together than a column may have cells
@@ -105,7 +105,7 @@ ValuesFail (struct_of fs o) x all n column f = ⊥
 -- the dictionary of a column that has one, by its size
 abbrev pub EntriesFail : Bool → Streams → ℕ → StripeFault → Type 0
 EntriesFail true x column f =
-    GroupsFail stream.DictionaryData (lengths_of x) true x.encoding.dictionary_size (in_dictionary x) column f
+    StringsFail stream.DictionaryData (lengths_of x) true x.encoding.dictionary_size (in_dictionary x) column f
 EntriesFail false x column f = ⊥
 
 -- what a column's dictionary is refused with: strings alone have one
@@ -114,16 +114,16 @@ ScalarEntriesFail kind.String x column f = EntriesFail (has_dictionary x) x colu
 ScalarEntriesFail _ x column f = ⊥
 
 -- the same for a column of any shape
-abbrev pub WordsOfFail : Shape → Streams → ℕ → StripeFault → Type 0
-WordsOfFail (scalar k o) x column f = ScalarEntriesFail k x column f
-WordsOfFail _ x column f = ⊥
+abbrev pub DictionaryFails : Shape → Streams → ℕ → StripeFault → Type 0
+DictionaryFails (scalar k o) x column f = ScalarEntriesFail k x column f
+DictionaryFails _ x column f = ⊥
 
 -- a column of so many cells: its PRESENT, its dictionary, the streams of its values, or what is below it
 abbrev pub FaultFrom : (ℕ → Bool → ℕ → StripeFault → Type 0)
     → Shape → (ℕ → Streams) → ℕ → Bool → ℕ → StripeFault → Type 0
 FaultFrom below s columns c all cells f =
     MarksFail (in_present (columns c)) all cells c f
-    ⊎ (WordsOfFail s (columns c) c f
+    ⊎ (DictionaryFails s (columns c) c f
     ⊎ ((n : ℕ)
     × ValuesNeeded all cells (MarksBegin (in_present (columns c))) n
     × (ValuesFail s (columns c) all n c f ⊎ below c all n f)))

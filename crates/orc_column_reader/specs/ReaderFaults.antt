@@ -36,8 +36,8 @@ IntsMeet fits numbers all n column f =
 
 -- what a reader of byte strings meets: a bad run of lengths, or lengths that pass the bytes that are left, or that
 -- don't use them up
-abbrev pub GroupsMeet : StreamKind → Numbers → Octets → Bool → ℕ → ℕ → StripeFault → Type 0
-GroupsMeet kind numbers octets all n column f =
+abbrev pub StringsMeet : StreamKind → Numbers → Octets → Bool → ℕ → ℕ → StripeFault → Type 0
+StringsMeet kind numbers octets all n column f =
     RunsFail stream.Length column (Always all n (NumbersMeet numbers)) f
     ⊎ ((f ≡ fault.LengthSum column kind)
     × (Pass (NumbersFirst numbers) (length octets.rest.now)
@@ -46,12 +46,12 @@ GroupsMeet kind numbers octets all n column f =
 -- what a reader of strings meets: what one of byte strings does, or bytes that are no UTF-8
 abbrev pub TextMeets : Numbers → Octets → Bool → ℕ → ℕ → StripeFault → Type 0
 TextMeets numbers octets all n column f =
-    GroupsMeet stream.Data numbers octets all n column f
+    StringsMeet stream.Data numbers octets all n column f
     ⊎ ((f ≡ fault.NotUtf8 column stream.Data) × CutsNoText (NumbersFirst numbers) octets.rest.now)
 
 -- what a reader of dictionary indexes meets: a bad run, an index of no entry, or an entry that is no UTF-8
-abbrev pub WordsMeet : List (List ℕ) → Numbers → Bool → ℕ → ℕ → StripeFault → Type 0
-WordsMeet entries numbers all n column f =
+abbrev pub IndexesMeet : List (List ℕ) → Numbers → Bool → ℕ → ℕ → StripeFault → Type 0
+IndexesMeet entries numbers all n column f =
     RunsFail stream.Data column (Always all n (NumbersMeet numbers)) f
     ⊎ (((f ≡ fault.BadIndex column) × NotAll (is_index (length entries)) (NumbersFirst numbers))
     ⊎ ((f ≡ fault.NotUtf8 column stream.DictionaryData) × NotAll (names_text entries) (NumbersFirst numbers)))
@@ -59,7 +59,7 @@ WordsMeet entries numbers all n column f =
 -- what a reader of strings meets, with its own bytes or with a dictionary
 abbrev pub TextsMeet : Option (Vec Entry Global) → ValueSource → Bool → ℕ → StripeFault → Type 0
 TextsMeet None r all n f = TextMeets r.numbers r.octets all n r.column f
-TextsMeet (Some entries) r all n f = WordsMeet (map entry_bytes entries.items) r.numbers all n r.column f
+TextsMeet (Some entries) r all n f = IndexesMeet (map entry_bytes entries.items) r.numbers all n r.column f
 
 -- what a reader of single values meets, by its kind
 abbrev pub ScalarMeets : Scalar → ValueSource → Bool → ℕ → StripeFault → Type 0
@@ -69,7 +69,7 @@ ScalarMeets kind.Short r all n f = IntsMeet (int_fits kind.Short) r.numbers all 
 ScalarMeets kind.Int r all n f = IntsMeet (int_fits kind.Int) r.numbers all n r.column f
 ScalarMeets kind.Long r all n f = RunsFail stream.Data r.column (Always all n (NumbersMeet r.numbers)) f
 ScalarMeets kind.Date r all n f = IntsMeet (signed_fits 31) r.numbers all n r.column f
-ScalarMeets kind.Binary r all n f = GroupsMeet stream.Data r.numbers r.octets all n r.column f
+ScalarMeets kind.Binary r all n f = StringsMeet stream.Data r.numbers r.octets all n r.column f
 ScalarMeets kind.String r all n f = TextsMeet r.entries r all n f
 
 -- sizes of lists or of maps, for which there is room

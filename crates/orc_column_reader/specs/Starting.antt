@@ -48,8 +48,8 @@ MarksStart (b ∷ bs) None = ⊥
 MarksStart (b ∷ bs) (Some bits) = BitsStart (b ∷ bs) bits
 
 -- a reader of byte strings at its start: LENGTH and DATA
-abbrev pub GroupsStart : Streams → ValueSource → Type 0
-GroupsStart x r = NumbersStart (version x) Unsigned (in_length x) r.numbers × (r.octets.rest.now ≡ in_data x)
+abbrev pub StringsStart : Streams → ValueSource → Type 0
+StringsStart x r = NumbersStart (version x) Unsigned (in_length x) r.numbers × (r.octets.rest.now ≡ in_data x)
 
 -- a reader of strings at its start: with its dictionary read, or with bytes of its own
 abbrev pub TextsStart : Bool → Streams → Option (Vec Entry Global) → ValueSource → Type 0
@@ -57,7 +57,7 @@ TextsStart true x (Some entries) r =
     IsDictionary x (map entry_bytes entries.items) × NumbersStart (version x) Unsigned (in_data x) r.numbers
 TextsStart true x None r = ⊥
 TextsStart false x (Some entries) r = ⊥
-TextsStart false x None r = GroupsStart x r
+TextsStart false x None r = StringsStart x r
 
 -- a reader of single values at its start, by its kind
 abbrev pub ScalarStart : Scalar → Streams → ValueSource → Type 0
@@ -67,7 +67,7 @@ ScalarStart kind.Short x r = NumbersStart (version x) Signed (in_data x) r.numbe
 ScalarStart kind.Int x r = NumbersStart (version x) Signed (in_data x) r.numbers
 ScalarStart kind.Long x r = NumbersStart (version x) Signed (in_data x) r.numbers
 ScalarStart kind.Date x r = NumbersStart (version x) Signed (in_data x) r.numbers
-ScalarStart kind.Binary x r = GroupsStart x r
+ScalarStart kind.Binary x r = StringsStart x r
 ScalarStart kind.String x r = TextsStart (has_dictionary x) x r.entries r
 
 -- of a column's own reader, what is beside the marks
@@ -123,7 +123,7 @@ pub record AreStreams (x : Streams) (r : ColumnStreams) : Type 0 where
   pub present_is : r.present.now ≡ in_present x
   pub data_is : r.data.now ≡ in_data x
   pub lengths_are : r.lengths.now ≡ in_length x
-  pub words_are : r.words.now ≡ in_dictionary x
+  pub dictionary_data_is : r.dictionary_data.now ≡ in_dictionary x
 
 -- a source from the start of DATA, whatever is read from it
 pub record DataStart (x : Streams) (r : ValueSource) : Type 0 where

@@ -18,11 +18,11 @@ use Rattle.orc_wire.specs.StreamKinds.{PRESENT, DATA, LENGTH, DICTIONARY_DATA}
 use Rattle.orc_wire.specs.EncodingKinds.{DIRECT, DIRECT_V2, is_dictionary}
 use Rattle.orc_rle.specs.declared.sign.Rle.{Rle}
 use Rattle.orc_rle.specs.declared.sign.Rle.TheVariants.{One, Two}
-use Rattle.orc_column_reader.specs.Spellings.{Nullable, Standing, size, Grouped, Within, Paired, Fielded}
+use Rattle.orc_column_reader.specs.Spellings.{Nullable, Standing, size, Sized, Within, Paired, Fielded}
 use Rattle.orc_column_reader.specs.Numbers.{AreNumbers}
 use Rattle.orc_column_reader.specs.Bytes.{AreBytes}
 use Rattle.orc_rle.specs.BitStream.{IsBitStream}
-use Rattle.orc_column_reader.specs.Columns.{IsBool, IsByte, IsInt, IsDate, IsText, IsBinary, IsWord, IsList, IsMap, IsRecord}
+use Rattle.orc_column_reader.specs.Columns.{IsBool, IsByte, IsInt, IsDate, IsText, IsBinary, IsEntry, IsList, IsMap, IsRecord}
 use Rattle.orc_column_reader.specs.Directory.{slice, is_directory, first_wrong}
 
 -- what a column's cells are read from: its encoding, and the bytes of its stream of each kind
@@ -77,7 +77,7 @@ AreIntegers s = AreNumbers (version s) Signed (in_data s)
 
 -- DATA has the strings one after the other, and LENGTH the length of each
 abbrev pub AreStrings : Streams → List (List ℕ) → Type 0
-AreStrings s = Grouped (AreLengths s) (Is (in_data s))
+AreStrings s = Sized (AreLengths s) (Is (in_data s))
 
 -- DATA has the index of an entry for each string
 abbrev pub AreIndexes : Streams → List ℤ → Type 0
@@ -86,14 +86,14 @@ AreIndexes s = AreNumbers (version s) Unsigned (in_data s)
 -- LENGTH has a length for each entry, and DICTIONARY_DATA their bytes
 pub record IsDictionary (s : Streams) (entries : List (List ℕ)) : Type 0 where
   pub counted : length entries ≡ s.encoding.dictionary_size
-  pub spelled : Grouped (AreLengths s) (Is (in_dictionary s)) entries
+  pub spelled : Sized (AreLengths s) (Is (in_dictionary s)) entries
 
 -- strings named in a dictionary by DATA, or spelled by DATA with their lengths in LENGTH
 abbrev pub SpellsTexts : Streams → Bool → List Cell → Type 0
 SpellsTexts s true vs =
     (entries : List (List ℕ))
     × IsDictionary s entries
-    × Standing (IsWord entries) (AreIndexes s) vs
+    × Standing (IsEntry entries) (AreIndexes s) vs
 SpellsTexts s false vs = Standing IsText (AreStrings s) vs
 
 -- integers in DATA that the kind holds
@@ -152,11 +152,11 @@ abbrev mutual
   SpellsTree (scalar k o) columns vs = SpellsScalar k (columns 0) vs
   SpellsTree (list_of s o) columns vs =
       Standing IsList
-      (Grouped (AreLengths (columns 0))
+      (Sized (AreLengths (columns 0))
       (Within most_cells (SpellsColumn (SpellsTree s) (λ c. columns (suc c))))) vs
   SpellsTree (map_of k v o) columns vs =
       Standing IsMap
-      (Grouped (AreLengths (columns 0))
+      (Sized (AreLengths (columns 0))
       (Within most_cells
       (Paired (SpellsColumn (SpellsTree k) (λ c. columns (suc c)))
       (SpellsColumn (SpellsTree v) (λ c. columns (suc (width k + c))))))) vs

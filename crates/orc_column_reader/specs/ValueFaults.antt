@@ -25,13 +25,13 @@ abbrev pub names_text : List (List ℕ) → ℤ → Bool
 names_text entries (pos i) = is_text (slice_get entries i)
 names_text entries (negsuc i) = true
 
--- the lengths that come first cut the bytes into groups that aren't all UTF-8
+-- the lengths that come first cut the bytes into strings that aren't all UTF-8
 abbrev pub CutsNoText : (List ℤ → Type 0) → List ℕ → Type 0
 CutsNoText first bytes =
-    (groups : List (List ℕ)) × (rest : List ℕ)
-    × first (map size groups)
-    × (bytes ≡ joined groups ++ rest)
-    × (AllByRecursion (λ g. is_utf8 g ≡ true) groups → ⊥)
+    (byte_strings : List (List ℕ)) × (rest : List ℕ)
+    × first (map size byte_strings)
+    × (bytes ≡ joined byte_strings ++ rest)
+    × (AllByRecursion (λ g. is_utf8 g ≡ true) byte_strings → ⊥)
 
 -- the lengths that come first are more than this together
 abbrev pub PassTogether : (List ℤ → Type 0) → ℕ → Type 0

@@ -21,10 +21,10 @@ ghost use Rattle.orc_column_reader.specs.declared.fault.StripeFault.{StripeFault
 
 use crate::bits::{Bits, bits_end, bits_left};
 use crate::bytes::{RunLengthBytes, bytes_end, bytes_left};
-use crate::dictionary::next_word;
+use crate::dictionary::next_entry;
 pub use crate::entry::Entry;
 use crate::fault::{StreamKind, StripeFault, run_fault};
-use crate::groups::{groups_end, groups_left, next_binary, next_text};
+use crate::byte_strings::{strings_end, strings_left, next_binary, next_text};
 use crate::marks::next_mark;
 use crate::numbers::{Numbers, numbers_end, numbers_left};
 use crate::octets::Octets;
@@ -138,7 +138,7 @@ impl<'a> ValueSource<'a> {
             Scalar::Binary => next_binary(self.column, &mut self.numbers, &mut self.octets),
             Scalar::String => match &self.entries {
                 None => next_text(self.column, &mut self.numbers, &mut self.octets),
-                Some(entries) => next_word(self.column, entries, &mut self.numbers),
+                Some(entries) => next_entry(self.column, entries, &mut self.numbers),
             },
         }
     }
@@ -195,9 +195,9 @@ pub fn scalar_end(source: &ValueSource<'_>, kind: Scalar) -> bool
         Scalar::Int => numbers_end(&source.numbers),
         Scalar::Long => numbers_end(&source.numbers),
         Scalar::Date => numbers_end(&source.numbers),
-        Scalar::Binary => groups_end(&source.numbers, &source.octets),
+        Scalar::Binary => strings_end(&source.numbers, &source.octets),
         Scalar::String => match &source.entries {
-            None => groups_end(&source.numbers, &source.octets),
+            None => strings_end(&source.numbers, &source.octets),
             Some(_) => numbers_end(&source.numbers),
         },
     }
@@ -229,14 +229,14 @@ pub fn scalar_left(source: &ValueSource<'_>, kind: Scalar) -> StripeFault
         Scalar::Int => data_left(source),
         Scalar::Long => data_left(source),
         Scalar::Date => data_left(source),
-        Scalar::Binary => groups_left(
+        Scalar::Binary => strings_left(
             source.column,
             StreamKind::Data,
             &source.numbers,
             &source.octets,
         ),
         Scalar::String => match &source.entries {
-            None => groups_left(
+            None => strings_left(
                 source.column,
                 StreamKind::Data,
                 &source.numbers,

@@ -6,11 +6,11 @@ ghost use Rattle.orc_values.specs.Own.{own_cell, IsValueOf};
 ghost use Rattle.orc_values.specs.declared.kind.Scalar.TheVariants as kinds;
 ghost use Rattle.orc_column_reader.specs.Fronts.{Leaves, Lacks};
 ghost use Rattle.orc_column_reader.specs.Numbers.{AreNumbers, NumbersLeft};
-ghost use Rattle.orc_column_reader.specs.Spellings.{Standing, Grouped};
-ghost use Rattle.orc_column_reader.specs.Columns.{IsWord, entry_bytes};
+ghost use Rattle.orc_column_reader.specs.Spellings.{Standing, Sized};
+ghost use Rattle.orc_column_reader.specs.Columns.{IsEntry, entry_bytes};
 ghost use Rattle.orc_column_reader.specs.ValueFaults.{is_index, names_text};
-ghost use Rattle.orc_column_reader.specs.Faults.{GroupsFail};
-ghost use Rattle.orc_column_reader.specs.ReaderFaults.{WordsMeet};
+ghost use Rattle.orc_column_reader.specs.Faults.{StringsFail};
+ghost use Rattle.orc_column_reader.specs.ReaderFaults.{IndexesMeet};
 ghost use Rattle.orc_column_reader.specs.Stripe.{Is};
 ghost use Rattle.orc_column_reader.specs.declared.fault.StripeFault.TheVariants as fault;
 ghost use Rattle.orc_column_reader.specs.declared.fault.StreamKind.TheVariants as stream;
@@ -19,7 +19,7 @@ ghost use Rattle.orc_column_reader.specs.declared.fault.StripeFault.{StripeFault
 
 use crate::entry::Entry;
 use crate::fault::{StreamKind, StripeFault};
-use crate::groups::{groups_end, groups_left, next_group};
+use crate::byte_strings::{strings_end, strings_left, next_string};
 use crate::numbers::{Numbers, numbers_of};
 use crate::octets::Octets;
 use crate::whole_numbers::next_number;
@@ -39,20 +39,20 @@ pub fn entries_of<'a>(
     // What is answered are the dictionary's entries, as many as its size, whose lengths and bytes
     // the two streams spell, and nothing more.
     ensures found { IfOk result (λ entries. (length entries.items ≡ size)
-        × Grouped (AreNumbers version Unsigned lengths.now) (Is bytes.now) (map entry_bytes entries.items)) }
+        × Sized (AreNumbers version Unsigned lengths.now) (Is bytes.now) (map entry_bytes entries.items)) }
     // A refusal other than want of memory stands: the streams spell no so many entries, and the
     // fault is one of LENGTH's runs, or LengthSum where the lengths make more or fewer bytes.
     ensures none { IfErr result (λ cause. cause ≢ fault.OutOfMemory → (entries : List (List ℕ)) → length entries ≡ size
-        → Grouped (AreNumbers version Unsigned lengths.now) (Is bytes.now) entries → ⊥) }
+        → Sized (AreNumbers version Unsigned lengths.now) (Is bytes.now) entries → ⊥) }
     ensures fault { IfErr result (λ cause. cause ≢ fault.OutOfMemory
-        → GroupsFail stream.DictionaryData (record { version = version; sign = Unsigned; bytes = lengths.now })
+        → StringsFail stream.DictionaryData (record { version = version; sign = Unsigned; bytes = lengths.now })
         true size bytes.now column cause) }
 {
     let mut numbers = numbers_of(version, Sign::Unsigned, lengths);
     let mut octets = Octets { rest: bytes };
     let mut entries = Vec::new(alloc);
     for taken in 0..size {
-        match next_group(
+        match next_string(
             column,
             StreamKind::DictionaryData,
             &mut numbers,
@@ -62,17 +62,17 @@ pub fn entries_of<'a>(
             Err(fault) => return Err(fault),
         }
     }
-    if !groups_end(&numbers, &octets) {
-        return Err(groups_left(column, StreamKind::DictionaryData, &numbers, &octets));
+    if !strings_end(&numbers, &octets) {
+        return Err(strings_left(column, StreamKind::DictionaryData, &numbers, &octets));
     }
     Ok(entries)
 }
 
 /// The text at an index of a dictionary.
-fn word<'a>(column: usize, entries: &[Entry<'a>], number: i64) -> Result<Own<'a>, StripeFault>
-    ensures found { IfOk result (λ v. IsWord (map entry_bytes entries.now) number (own_cell v)) }
+fn entry_value<'a>(column: usize, entries: &[Entry<'a>], number: i64) -> Result<Own<'a>, StripeFault>
+    ensures found { IfOk result (λ v. IsEntry (map entry_bytes entries.now) number (own_cell v)) }
     ensures kind { IfOk result (λ v. IsValueOf kinds.String (own_cell v)) }
-    ensures none { OnErr result ((c : Cell) → IsWord (map entry_bytes entries.now) number c → ⊥) }
+    ensures none { OnErr result ((c : Cell) → IsEntry (map entry_bytes entries.now) number c → ⊥) }
     ensures fault { IfErr result (λ cause.
         ((cause ≡ fault.BadIndex column) × (is_index (length entries.now) number ≡ false))
         ⊎ ((cause ≡ fault.NotUtf8 column stream.DictionaryData)
@@ -91,23 +91,23 @@ fn word<'a>(column: usize, entries: &[Entry<'a>], number: i64) -> Result<Own<'a>
 }
 
 /// The next text of a column with a dictionary.
-pub(crate) fn next_word<'a>(
+pub(crate) fn next_entry<'a>(
     column: usize,
     entries: &[Entry<'a>],
     numbers: &mut Numbers<'a>,
 ) -> Result<Own<'a>, StripeFault>
-    ensures found { IfOk result (λ v. Leaves (Standing (IsWord (map entry_bytes entries.now)) (NumbersLeft numbers.old))
-        (Standing (IsWord (map entry_bytes entries.now)) (NumbersLeft numbers.new)) (own_cell v ∷ [])) }
+    ensures found { IfOk result (λ v. Leaves (Standing (IsEntry (map entry_bytes entries.now)) (NumbersLeft numbers.old))
+        (Standing (IsEntry (map entry_bytes entries.now)) (NumbersLeft numbers.new)) (own_cell v ∷ [])) }
     ensures kind { IfOk result (λ v. IsValueOf kinds.String (own_cell v)) }
-    ensures none { OnErr result (Lacks (Standing (IsWord (map entry_bytes entries.now)) (NumbersLeft numbers.old)) 1) }
+    ensures none { OnErr result (Lacks (Standing (IsEntry (map entry_bytes entries.now)) (NumbersLeft numbers.old)) 1) }
     ensures before { OnOk result ((all : Bool) (n : ℕ) (f : Fault)
-        → WordsMeet (map entry_bytes entries.now) numbers.new all n column f
-        → WordsMeet (map entry_bytes entries.now) numbers.old all (suc n) column f) }
+        → IndexesMeet (map entry_bytes entries.now) numbers.new all n column f
+        → IndexesMeet (map entry_bytes entries.now) numbers.old all (suc n) column f) }
     ensures fault { IfErr result (λ cause. cause ≢ fault.OutOfMemory
-        → (n : ℕ) → WordsMeet (map entry_bytes entries.now) numbers.old false (suc n) column cause) }
+        → (n : ℕ) → IndexesMeet (map entry_bytes entries.now) numbers.old false (suc n) column cause) }
 {
     match next_number(column, StreamKind::Data, numbers) {
-        Ok(number) => match word(column, entries, number) {
+        Ok(number) => match entry_value(column, entries, number) {
             Ok(value) => Ok(value),
             Err(fault) => Err(fault),
         },

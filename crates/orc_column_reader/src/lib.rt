@@ -10,7 +10,7 @@ pub mod directory;
 pub mod ending;
 mod entry;
 pub mod fault;
-pub mod groups;
+pub mod byte_strings;
 pub mod located;
 pub mod marks;
 pub mod numbers;

@@ -4,9 +4,9 @@ ghost use Rattle.std.specs.Prelude.{◌≡◌, ◌≢◌, ◌<◌, ◌≤◌, �
 ghost use Rattle.orc_values.specs.Cells.{Cell};
 ghost use Rattle.orc_values.specs.Shapes.{width, widths};
 ghost use Rattle.orc_values.specs.Views.{shape, fields as fields_view};
-ghost use Rattle.orc_column_reader.specs.Faults.{GroupsFail, EntriesFail, ScalarEntriesFail, WordsOfFail, FaultDown, FaultWithin, lengths_of};
+ghost use Rattle.orc_column_reader.specs.Faults.{StringsFail, EntriesFail, ScalarEntriesFail, DictionaryFails, FaultDown, FaultWithin, lengths_of};
 ghost use Rattle.orc_column_reader.specs.Located.{AreLocated};
-ghost use Rattle.orc_column_reader.specs.Starting.{DataStart, GroupsStart, TextsStart, ScalarStart, SourceStart, OwnStart, LacksEntries, ScalarLacks, HasNoDictionary, AreStreams, Puts, PutsFields};
+ghost use Rattle.orc_column_reader.specs.Starting.{DataStart, StringsStart, TextsStart, ScalarStart, SourceStart, OwnStart, LacksEntries, ScalarLacks, HasNoDictionary, AreStreams, Puts, PutsFields};
 ghost use Rattle.orc_column_reader.specs.Stripe.{Streams, IsDictionary, encoding_at, columns_of, columns_from, SpellsCells, SpellsFields, most_cells, in_dictionary};
 ghost use Rattle.orc_column_reader.specs.declared.fault.StripeFault.TheVariants.{OutOfMemory};
 ghost use Rattle.orc_column_reader.specs.declared.fault.StreamKind.TheVariants.{DictionaryData};
@@ -35,7 +35,7 @@ pub struct ColumnStreams<'a> {
     pub present: &'a [u8],
     pub data: &'a [u8],
     pub lengths: &'a [u8],
-    pub words: &'a [u8],
+    pub dictionary_data: &'a [u8],
 }
 
 /// The encoding of a column.
@@ -67,7 +67,7 @@ pub fn streams_of<'a>(
         present: located.stream(column, PRESENT),
         data: located.stream(column, DATA),
         lengths: located.stream(column, LENGTH),
-        words: located.stream(column, DICTIONARY_DATA),
+        dictionary_data: located.stream(column, DICTIONARY_DATA),
     }
 }
 
@@ -88,8 +88,8 @@ fn data_source<'a>(column: usize, streams: &ColumnStreams<'a>) -> ValueSource<'a
 }
 
 /// The source of a column whose values have sizes in LENGTH.
-fn group_source<'a>(column: usize, streams: &ColumnStreams<'a>) -> ValueSource<'a>
-    ensures groups { (x : Streams) → AreStreams x streams.now → GroupsStart x result }
+fn string_source<'a>(column: usize, streams: &ColumnStreams<'a>) -> ValueSource<'a>
+    ensures byte_strings { (x : Streams) → AreStreams x streams.now → StringsStart x result }
     ensures no_entries { result.entries ≡ None }
     ensures room { result.room ≡ most_cells }
     ensures column { result.column ≡ column }
@@ -120,14 +120,14 @@ fn word_source<'a>(
         → IsDictionary x entries → ⊥) }
     ensures column { IfOk result (λ source. source.column ≡ column) }
     ensures fault { IfErr result (λ cause. cause ≢ OutOfMemory → (x : Streams) → AreStreams x streams.now
-        → GroupsFail DictionaryData (lengths_of x) true x.encoding.dictionary_size (in_dictionary x) column cause) }
+        → StringsFail DictionaryData (lengths_of x) true x.encoding.dictionary_size (in_dictionary x) column cause) }
 {
     match entries_of(
         alloc,
         column,
         streams.version,
         streams.lengths,
-        streams.words,
+        streams.dictionary_data,
         streams.dictionary_size,
     ) {
         Ok(entries) => Ok(ValueSource {
@@ -165,7 +165,7 @@ fn text_source<'a>(
             Err(fault) => Err(fault),
         }
     } else {
-        Ok(group_source(column, streams))
+        Ok(string_source(column, streams))
     }
 }
 
@@ -190,7 +190,7 @@ fn scalar_source<'a>(
             Ok(source) => Ok(source),
             Err(fault) => Err(fault),
         },
-        Scalar::Binary => Ok(group_source(column, streams)),
+        Scalar::Binary => Ok(string_source(column, streams)),
         Scalar::Boolean => Ok(data_source(column, streams)),
         Scalar::Byte => Ok(data_source(column, streams)),
         Scalar::Short => Ok(data_source(column, streams)),
@@ -216,14 +216,14 @@ fn source_of<'a>(
     ensures column { IfOk result (λ source. source.column ≡ column) }
     ensures fault { IfErr result (λ cause. cause ≢ OutOfMemory
         → (x : Streams) → AreStreams x streams.now
-        → WordsOfFail (shape tree.now) x column cause) }
+        → DictionaryFails (shape tree.now) x column cause) }
 {
     match tree {
         Tree::Scalar(kind, _) => match scalar_source(alloc, *kind, column, streams) {
             Ok(source) => Ok(source),
             Err(fault) => Err(fault),
         },
-        Tree::List(_, _) | Tree::Map(_, _, _) => Ok(group_source(column, streams)),
+        Tree::List(_, _) | Tree::Map(_, _, _) => Ok(string_source(column, streams)),
         Tree::Struct(_, _) => Ok(data_source(column, streams)),
     }
 }
@@ -250,7 +250,7 @@ pub fn reader_of<'a>(
     ensures column { IfOk result (λ own. own.source.column ≡ column) }
     // A refusal but for want of memory is a fault of the dictionary's lengths or of its bytes.
     ensures fault { IfErr result (λ cause. cause ≢ OutOfMemory
-        → WordsOfFail (shape tree.now) (columns_of footer.now located.now.bytes.now column) column cause) }
+        → DictionaryFails (shape tree.now) (columns_of footer.now located.now.bytes.now column) column cause) }
 {
     let streams = streams_of(column, footer, located);
     match source_of(alloc, tree, column, &streams) {

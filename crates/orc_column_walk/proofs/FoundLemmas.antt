@@ -13,7 +13,7 @@ use Rattle.orc_values.proofs.Deeper.{at_within, width_pos, cells-add, cells-zero
 use Rattle.orc_values.proofs.Together.{cells_fit}
 use Rattle.orc_column_reader.specs.Stripe.{Streams, SpellRows, cell_limit}
 use Rattle.orc_row_index.specs.Bounds.{bound_at, before_group, group_of, elements_before, pairs_before, values_before}
-use Rattle.orc_row_index.specs.Places.{octets_in, octets}
+use Rattle.orc_row_index.specs.Positions.{octets_in, octets}
 use Rattle.orc_row_index.specs.Walking.{AreCounted, most}
 use Rattle.orc_row_index.specs.declared.counts.Counts.{Counts}
 use Rattle.orc_stats.specs.Kinds.{kind_of}

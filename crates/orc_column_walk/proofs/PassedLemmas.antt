@@ -6,7 +6,7 @@ use Rattle.std.proofs.lemmas.List.Concat.{flat_map-append}
 use Rattle.orc_values.specs.Cells.{Cell, null, leaf, list, struct, pairs, is_value, parts, pairs_in, values}
 use Rattle.orc_values.specs.Shapes.{Shape, scalar, list_of, map_of, struct_of}
 use Rattle.orc_values.proofs.Together.{values-append}
-use Rattle.orc_row_index.specs.Places.{octets_in, octets}
+use Rattle.orc_row_index.specs.Positions.{octets_in, octets}
 use Rattle.orc_row_index.specs.Walking.{most}
 use Rattle.orc_row_index.proofs.ColumnPlaces.{counted_more, octets_of_values}
 use Rattle.orc_column_walk.specs.OwnLeft.{children}

@@ -7,8 +7,8 @@ use Rattle.orc_values.specs.Cells.{Cell, is_value, parts, pairs_in, values}
 use Rattle.orc_values.specs.Shapes.{Shape, scalar, list_of, map_of, struct_of}
 use Rattle.orc_values.specs.declared.kind.Scalar.{Scalar}
 use Rattle.orc_values.specs.declared.kind.Scalar.TheVariants as kind
-use Rattle.orc_column_reader.specs.Columns.{MarksLeft, IsWord, IsText}
-use Rattle.orc_column_reader.specs.Faults.{RunsFail, WordsOfFail}
+use Rattle.orc_column_reader.specs.Columns.{MarksLeft, IsEntry, IsText}
+use Rattle.orc_column_reader.specs.Faults.{RunsFail, DictionaryFails}
 use Rattle.orc_column_reader.specs.ReaderFaults.{ValuesMeet}
 use Rattle.orc_column_reader.specs.RunFaults.{Always}
 use Rattle.orc_column_reader.specs.RunsMet.{MarksMeet}
@@ -40,12 +40,12 @@ stand_values stands one [] (v ∷ vs) h = absurd h
 stand_values stands one (x ∷ xs) [] h = absurd h
 stand_values stands one (x ∷ xs) (v ∷ vs) h = (one x v h.0, stand_values stands one xs vs h.1)
 
-word_value : (entries : List (List ℕ)) (n : _) (v : Cell) → IsWord entries n v → is_value v ≡ true
+word_value : (entries : List (List ℕ)) (n : _) (v : Cell) → IsEntry entries n v → is_value v ≡ true
 word_value entries (pos i) v h = ap is_value h.2.1
 word_value entries (negsuc i) v h = absurd h
 
 text_values : (x : Streams) (dictionary : Bool) (vs : List Cell) → SpellsTexts x dictionary vs → AreValues vs
-text_values x true vs h = stand_values (IsWord h.0) (word_value h.0) h.2.0 vs h.2.1
+text_values x true vs h = stand_values (IsEntry h.0) (word_value h.0) h.2.0 vs h.2.1
 text_values x false vs h = stand_values IsText (λ b v s. ap is_value s.1) h.0 vs h.1
 
 scalar_values : (k : Scalar) (x : Streams) (vs : List Cell) → SpellsScalar k x vs → AreValues vs
@@ -141,7 +141,7 @@ lacking (list_of s o) x vs none h = none
 lacking (map_of k v o) x vs none h = none
 lacking (struct_of fs o) x vs none h = none
 
-pub refused_entries : (s : Shape) (x : Streams) (c n : ℕ) (f : StripeFault) → HasNoDictionary s x → WordsOfFail s x c f → (all : Bool) × IsRefused s x c all n f
+pub refused_entries : (s : Shape) (x : Streams) (c n : ℕ) (f : StripeFault) → HasNoDictionary s x → DictionaryFails s x c f → (all : Bool) × IsRefused s x c all n f
 refused_entries s x c n f none h = (false, record { none = λ own is. lacking s x (values own) none is.spelled.1; fault = inr (inl h) })
 
 pub refused_marks : (s : Shape) (x : Streams) (r : ColumnReader) (c n : ℕ) (f : StripeFault) → OwnStart s x r → ((marks : List Bool) → MarksLeft r.present marks → length marks ≡ n → ⊥)

@@ -9,7 +9,7 @@ use Rattle.orc_values.specs.Childless.{childless_struct}
 use Rattle.orc_values.specs.Shapes.{Shape, Fields, struct_of}
 use Rattle.orc_values.proofs.Together.{values-append}
 use Rattle.orc_row_index.specs.Bounds.{AreBounds, bound_at, before_group, group_of, values_before}
-use Rattle.orc_row_index.specs.Places.{octets_in, octets}
+use Rattle.orc_row_index.specs.Positions.{octets_in, octets}
 use Rattle.orc_row_index.specs.Walking.{AreCounted, most}
 use Rattle.orc_row_index.specs.declared.counts.Counts.{Counts}
 use Rattle.orc_row_index.proofs.ColumnPlaces.{octets_of_values}

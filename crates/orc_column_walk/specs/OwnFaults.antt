@@ -3,7 +3,7 @@
 use Rattle.std.specs.Prelude.{ℕ, suc, ◌+◌, Bool, List, length, ◌⊎◌}
 use Rattle.orc_values.specs.Cells.{Cell, values}
 use Rattle.orc_values.specs.Shapes.{Shape, scalar, list_of, map_of, struct_of, Fields, no_field, field, width}
-use Rattle.orc_column_reader.specs.Faults.{MarksFail, WordsOfFail, ValuesFail}
+use Rattle.orc_column_reader.specs.Faults.{MarksFail, DictionaryFails, ValuesFail}
 use Rattle.orc_column_reader.specs.Needs.{MarksBegin, ValuesNeeded}
 use Rattle.orc_column_reader.specs.Stripe.{Streams, in_present}
 use Rattle.orc_column_reader.specs.declared.fault.StripeFault.{StripeFault}
@@ -13,7 +13,7 @@ use Rattle.orc_column_walk.specs.OwnColumns.{IsOwnColumn, elements_together, pai
 abbrev pub OwnFault : Shape → Streams → ℕ → Bool → ℕ → StripeFault → Type 0
 OwnFault s x c all n f =
     MarksFail (in_present x) all n c f
-    ⊎ (WordsOfFail s x c f
+    ⊎ (DictionaryFails s x c f
     ⊎ ((v : ℕ) × ValuesNeeded all n (MarksBegin (in_present x)) v × ValuesFail s x all v c f))
 
 -- The streams of column c spell no n cells, for this reason.

@@ -118,7 +118,7 @@ fn read_part<'a, T: Tally<'a>, V: NextValue>(
 }
 
 /// The statistic of what was counted.
-fn closed<'a, T: Tally<'a>>(alloc: Global, tally: &T) -> Result<Stat, AllocError>
+fn statistic_of<'a, T: Tally<'a>>(alloc: Global, tally: &T) -> Result<Stat, AllocError>
     ensures { IfOk result (λ found. found ≡ stat_of_kept T.measure (T.kept tally.now)) }
 {
     match tally.close(alloc) {
@@ -168,7 +168,7 @@ fn count_groups<'a, T: Tally<'a>, V: NextValue>(
             Ok(after) => passed = after,
             Err(fault) => return Err(fault),
         }
-        let stat = closed(alloc, &tally)?;
+        let stat = statistic_of(alloc, &tally)?;
         found.push(GroupFound {
             stat,
             before: before.counts,
@@ -177,7 +177,7 @@ fn count_groups<'a, T: Tally<'a>, V: NextValue>(
         whole.join(&tally);
     }
     Ok(ColumnFound {
-        stat: closed(alloc, &whole)?,
+        stat: statistic_of(alloc, &whole)?,
         groups: found,
         below: passed.children,
         bounds_below,

@@ -19,7 +19,7 @@ use Rattle.orc_stats.specs.Statistics.{text_cmp, text_of, values_body}
 use Rattle.std.specs.Ordering.{flip_args}
 use Rattle.orc_stats.specs.Whole.{without_sum}
 use Rattle.orc_column_reader.specs.Spellings.{AllStand, joined}
-use Rattle.orc_column_reader.specs.Columns.{IsText, IsWord}
+use Rattle.orc_column_reader.specs.Columns.{IsText, IsEntry}
 use Rattle.orc_column_reader.specs.Directory.{slice, is_of}
 use Rattle.orc_column_reader.specs.Stripe.{Streams, SpellsTexts, IsColumn, IsStripe, has_dictionary, columns_of}
 use Rattle.orc_tail.proofs.TextLengths.{HasShortTexts}
@@ -54,11 +54,11 @@ got P [] (suc i) x e h = cc
 got P (y ∷ ys) zero x e h = let same : y ≡ x = cc in subst P same h.0
 got P (y ∷ ys) (suc i) x e h = got P ys i x e h.1
 
-word_short : (most : ℕ) (entries : List (List ℕ)) (n : ℤ) (c : Cell) → AllByRecursion (λ g. length g ≤ most) entries → IsWord entries n c → IsShort most c
+word_short : (most : ℕ) (entries : List (List ℕ)) (n : ℤ) (c : Cell) → AllByRecursion (λ g. length g ≤ most) entries → IsEntry entries n c → IsShort most c
 word_short most entries (pos i) c h is = text_short most is.0 c (got (λ (g : List ℕ). length g ≤ most) entries i is.0 is.1 h) is.2
 word_short most entries (negsuc i) c h is = absurd is
 
-words_short : (most : ℕ) (entries : List (List ℕ)) (ns : List ℤ) (vs : List Cell) → AllByRecursion (λ g. length g ≤ most) entries → AllStand (IsWord entries) ns vs
+words_short : (most : ℕ) (entries : List (List ℕ)) (ns : List ℤ) (vs : List Cell) → AllByRecursion (λ g. length g ≤ most) entries → AllStand (IsEntry entries) ns vs
     → AllByRecursion (IsShort most) vs
 words_short most entries [] [] h a = tt
 words_short most entries [] (v ∷ vs) h a = absurd a

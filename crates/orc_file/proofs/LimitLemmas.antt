@@ -11,7 +11,7 @@ use Rattle.orc_stats.specs.declared.stat.Stat.{Stat}
 use Rattle.orc_stripe_writer.specs.declared.options.Options.{Options}
 use Rattle.orc_file.specs.Counts.{with_row, are_few, PassesLimit}
 use Rattle.orc_tail.specs.Stripes.{stripes_rows}
-use Rattle.orc_file.specs.Writing.{Closed, AreClosed, AreFull, rows_of, infos_of}
+use Rattle.orc_file.specs.Writing.{WrittenStripe, AreWrittenStripes, AreFull, rows_of, infos_of}
 use Rattle.orc_file.specs.RowLimits.{PassesByRows}
 use Rattle.orc_file.proofs.Spread.{HasPushed}
 use Rattle.orc_file.proofs.CountLemmas.{AreCounts, counts_more, few_at, length-with_row}
@@ -41,12 +41,12 @@ not_few ns i l m = by (are_few ns) refl
     by true e = let f = few_at ns i 0 l e in absurd (omega (arith, f, m))
     by false e = e
 
-full_rows : (n : ℕ) (cs : List Closed) → AreFull n cs → length (rows_of cs) ≡ length cs * n
+full_rows : (n : ℕ) (cs : List WrittenStripe) → AreFull n cs → length (rows_of cs) ≡ length cs * n
 full_rows n [] h = omega arith
 full_rows n (c ∷ cs) h =
     let l = length-append c.rows (rows_of cs) in let r = full_rows n cs h.1 in let e = h.0 in omega (arith, l, r, e)
 
-told_rows : (options : Options) (s : Shape) (at : ℕ) (cs : List Closed) → AreClosed options s at cs → stripes_rows (infos_of cs) ≡ length (rows_of cs)
+told_rows : (options : Options) (s : Shape) (at : ℕ) (cs : List WrittenStripe) → AreWrittenStripes options s at cs → stripes_rows (infos_of cs) ≡ length (rows_of cs)
 told_rows options s at [] h = refl
 told_rows options s at (c ∷ cs) h =
     let l = length-append c.rows (rows_of cs) in
@@ -58,28 +58,28 @@ module _ (options : Options) (s : Shape) (first told : Option (List ℕ)) (writt
     (kept rows : List Cell) (total : ℕ) (counts : List ℕ) (row : Cell)
     (pushed : HasPushed options s first told written infos stats kept rows) (total_is : total ≡ stripes_rows infos + length kept)
     (wide : length counts ≡ width s) (counted : AreCounts s counts kept) where
-  all_rows : length rows ≡ length (rows_of pushed.0.closed) + length kept
-  all_rows = ap length pushed.0.rows_are ∙ length-append (rows_of pushed.0.closed) kept
+  all_rows : length rows ≡ length (rows_of pushed.0.stripes_written) + length kept
+  all_rows = ap length pushed.0.rows_are ∙ length-append (rows_of pushed.0.stripes_written) kept
 
   total_rows : total ≡ length rows
   total_rows =
       let l = all_rows in
-      let t = ap stripes_rows pushed.0.infos_are ∙ told_rows options s 3 pushed.0.closed pushed.0.are in
+      let t = ap stripes_rows pushed.0.infos_are ∙ told_rows options s 3 pushed.0.stripes_written pushed.0.are in
       omega (arith, total_is, l, t)
 
-  stripes_are : length infos ≡ length pushed.0.closed
-  stripes_are = ap length pushed.0.infos_are ∙ length-map pushed.0.closed (λ (c : Closed). c.info)
+  stripes_are : length infos ≡ length pushed.0.stripes_written
+  stripes_are = ap length pushed.0.infos_are ∙ length-map pushed.0.stripes_written (λ (c : WrittenStripe). c.info)
 
   with_row_wide : length (with_row s 0 row counts) ≡ width s
   with_row_wide = length-with_row s 0 row counts ∙ wide
 
   by_rows : PassesLimit s infos total counts row → PassesByRows options s rows row
   by_rows p = record {
-    stripes = length pushed.0.closed;
-    written = rows_of pushed.0.closed;
+    stripes = length pushed.0.stripes_written;
+    written = rows_of pushed.0.stripes_written;
     kept = kept;
     rows_are = pushed.0.rows_are;
-    full = full_rows options.stripe_rows pushed.0.closed pushed.0.full;
+    full = full_rows options.stripe_rows pushed.0.stripes_written pushed.0.full;
     few = pushed.1;
     passes = elim p [
       | inl a ↦ inl (omega (arith, a, stripes_are))
@@ -96,13 +96,13 @@ module _ (options : Options) (s : Shape) (first told : Option (List ℕ)) (writt
 
   by_counts : PassesByRows options s rows row → PassesLimit s infos total counts row
   by_counts p =
-      let e = full_rows options.stripe_rows pushed.0.closed pushed.0.full in
+      let e = full_rows options.stripe_rows pushed.0.stripes_written pushed.0.full in
       let l = ap length p.rows_are ∙ length-append p.written p.kept in
       let m = all_rows in let f = p.full in
-      let both : p.stripes * options.stripe_rows + length p.kept ≡ length pushed.0.closed * options.stripe_rows + length kept = omega (arith, e, l, m, f) in
-      let same = same_count p.stripes (length pushed.0.closed) options.stripe_rows (length p.kept) (length kept) both p.few pushed.1 in
-      let front : length p.written ≡ length (rows_of pushed.0.closed) = p.full ∙ ap (λ k. k * options.stripe_rows) same ∙ sym e in
-      let rest = (cut_at p.written (rows_of pushed.0.closed) p.kept kept front (sym p.rows_are ∙ pushed.0.rows_are)).1 in
+      let both : p.stripes * options.stripe_rows + length p.kept ≡ length pushed.0.stripes_written * options.stripe_rows + length kept = omega (arith, e, l, m, f) in
+      let same = same_count p.stripes (length pushed.0.stripes_written) options.stripe_rows (length p.kept) (length kept) both p.few pushed.1 in
+      let front : length p.written ≡ length (rows_of pushed.0.stripes_written) = p.full ∙ ap (λ k. k * options.stripe_rows) same ∙ sym e in
+      let rest = (cut_at p.written (rows_of pushed.0.stripes_written) p.kept kept front (sym p.rows_are ∙ pushed.0.rows_are)).1 in
       elim p.passes [
         | inl a ↦ inl (omega (arith, a, same, stripes_are))
         | inr q ↦ elim q [

@@ -20,30 +20,30 @@ use Rattle.orc_stripe_writer.specs.WrittenStripe.{column_stat}
 use Rattle.orc_tail.specs.Layout.{magic}
 use Rattle.orc_tail.specs.Stripes.{stripes_length, most_stripes}
 use Rattle.orc_tail.specs.Statistics.{kind_at, stripe_message, column_stats, file_stats}
-use Rattle.orc_tail.specs.Images.{metadata_of, footer_of, script_of, tail_text, types_text}
-use Rattle.orc_file.specs.Writing.{Closed, IsClosed, AreClosed, bytes_of, infos_of, stats_of, version_of, written_tail, IsWrittenFile, IsCutOff, IsFrontOfFile}
+use Rattle.orc_tail.specs.Images.{metadata_of, footer_of, postscript_of, tail_text, types_text}
+use Rattle.orc_file.specs.Writing.{WrittenStripe, IsWrittenAt, AreWrittenStripes, bytes_of, infos_of, stats_of, version_of, written_tail, IsWrittenFile, IsCutOff, IsFrontOfFile}
 use Rattle.orc_tail.specs.declared.tail.Tail.{Tail}
 use Rattle.orc_file.proofs.WriterLemmas.{all_length}
 use Rattle.orc_file.proofs.TailLimits.{length-of_columns}
 use Rattle.orc_tail.proofs.TextLengths.{number_most, sized_most, known_most, HasShortTexts, stats_most, infos_most, pair_most, five, seven}
 use Rattle.orc_file.proofs.ColumnTexts.{AreShort, stripe_short, short_both, body_short, either_short}
-use Rattle.orc_file.proofs.WrittenLaws.{parts_of, each_got, each_column, file_stat, most_closed, written_rows}
+use Rattle.orc_file.proofs.WrittenLaws.{parts_of, each_got, each_column, file_stat, most_written, written_rows}
 
 -- ---- a stripe's statistics
 
-stripe_stats_short : (options : Options) (s : Shape) (at : ℕ) (c : Closed) → IsClosed options s at c → AllByRecursion (λ x. HasShortTexts (length c.bytes) x.body) c.stats
+stripe_stats_short : (options : Options) (s : Shape) (at : ℕ) (c : WrittenStripe) → IsWrittenAt options s at c → AllByRecursion (λ x. HasShortTexts (length c.bytes) x.body) c.stats
 stripe_stats_short options s at c h =
     let have = h.counted in let n = have.counted in
     each_got (λ x. HasShortTexts (length c.bytes) x.body) (column_stat s c.rows) c.stats (λ k l. have.each k (omega (arith, l, n)))
     (λ k l. body_short (length c.bytes) (kind_at s k) (cells s k c.rows) (stripe_short s c.info c.bytes c.rows (length c.bytes) k h.read (omega arith) (omega (arith, l, n))))
 
-stripe_message_most : (options : Options) (s : Shape) (at : ℕ) (c : Closed) → width s ≤ 4096 → IsClosed options s at c → length (stripe_stats_text.text (stripe_message c.stats)) ≤ 4096 * (450 + 2 * length c.bytes)
+stripe_message_most : (options : Options) (s : Shape) (at : ℕ) (c : WrittenStripe) → width s ≤ 4096 → IsWrittenAt options s at c → length (stripe_stats_text.text (stripe_message c.stats)) ≤ 4096 * (450 + 2 * length c.bytes)
 stripe_message_most options s at c columns h =
     let have = h.counted in let n = have.counted in
     stats_most 1 (length c.bytes) c.stats (omega (arith, n, columns)) (stripe_stats_short options s at c h)
 
 -- those of all stripes: a field with its key and length for each
-metadata_most : (options : Options) (s : Shape) (at : ℕ) (cs : List Closed) → width s ≤ 4096 → AreClosed options s at cs
+metadata_most : (options : Options) (s : Shape) (at : ℕ) (cs : List WrittenStripe) → width s ≤ 4096 → AreWrittenStripes options s at cs
     → length (list_text (λ m. sized (stripe_stats_text.text m)) 1 (map stripe_message (stats_of cs))) ≤ 1843220 * length cs + 8192 * length (bytes_of cs)
 metadata_most options s at [] columns h = omega arith
 metadata_most options s at (c ∷ cs) columns h =
@@ -61,14 +61,14 @@ metadata_most options s at (c ∷ cs) columns h =
 -- ---- the file's statistics
 
 module _ (options : Options) (s : Shape) (k : ℕ) (lt : k < width s) (most : ℕ) where
-  column_short : (at : ℕ) (cs : List Closed) → AreClosed options s at cs → length (bytes_of cs) ≤ most → AreShort most (kind_at s k) (flat_map (λ p. p) (map (cells s k) (parts_of cs)))
+  column_short : (at : ℕ) (cs : List WrittenStripe) → AreWrittenStripes options s at cs → length (bytes_of cs) ≤ most → AreShort most (kind_at s k) (flat_map (λ p. p) (map (cells s k) (parts_of cs)))
   column_short at [] h few = λ e. tt
   column_short at (c ∷ cs) h few =
       let i = h.0 in let both = length-append c.bytes (bytes_of cs) in
       short_both most (kind_at s k) (cells s k c.rows) (flat_map (λ p. p) (map (cells s k) (parts_of cs)))
       (stripe_short s c.info c.bytes c.rows most k i.read (omega (arith, both, few)) lt) (column_short (at + length c.bytes) cs h.1 (omega (arith, both, few)))
 
-  file_stat_short : (at : ℕ) (cs : List Closed) → AreClosed options s at cs → length cs ≤ most_stripes → length (bytes_of cs) ≤ most
+  file_stat_short : (at : ℕ) (cs : List WrittenStripe) → AreWrittenStripes options s at cs → length cs ≤ most_stripes → length (bytes_of cs) ≤ most
       → HasShortTexts most (joining.joined (kind_at s k) (column_stats k (stats_of cs))).body
   file_stat_short at cs h stripes few =
       let all = flat_map (λ p. p) (map (cells s k) (parts_of cs)) in
@@ -84,30 +84,30 @@ version_most Two = pair_most 4 0 12
 -- ---- the file
 
 module _ (options : Options) (s : Shape) (tail : Tail) (bytes : List ℕ) (rows : List Cell) (schema : IsSchema s) (h : IsWrittenFile options s tail bytes rows) where
-  stripe_bytes : length (bytes_of h.closed) ≤ 2 ^ 40
-  stripe_bytes = let w = h.within in let l = all_length options s 3 h.closed h.are in let m = w.bytes in omega (arith, l, m)
+  stripe_bytes : length (bytes_of h.stripes_written) ≤ 2 ^ 40
+  stripe_bytes = let w = h.within in let l = all_length options s 3 h.stripes_written h.are in let m = w.bytes in omega (arith, l, m)
 
-  stripes : length h.closed ≤ 65536
-  stripes = most_closed options s tail bytes rows h
+  stripes : length h.stripes_written ≤ 65536
+  stripes = most_written options s tail bytes rows h
 
-  metadata_short : length (metadata_text.text (metadata_of (written_tail options s (infos_of h.closed) (stats_of h.closed)))) ≤ 2 ^ 54
-  metadata_short = let count = schema.count in let m = metadata_most options s 3 h.closed count h.are in omega (arith, m, stripe_bytes, stripes)
+  metadata_short : length (metadata_text.text (metadata_of (written_tail options s (infos_of h.stripes_written) (stats_of h.stripes_written)))) ≤ 2 ^ 54
+  metadata_short = let count = schema.count in let m = metadata_most options s 3 h.stripes_written count h.are in omega (arith, m, stripe_bytes, stripes)
 
-  columns_short : length (list_text (λ m. sized (column_stats_text.text m)) 7 (map message_of (file_stats s (stats_of h.closed)))) ≤ 4096 * (450 + 2 * 2 ^ 40)
+  columns_short : length (list_text (λ m. sized (column_stats_text.text m)) 7 (map message_of (file_stats s (stats_of h.stripes_written)))) ≤ 4096 * (450 + 2 * 2 ^ 40)
   columns_short =
-      let f = λ (k : ℕ). joining.joined (kind_at s k) (column_stats k (stats_of h.closed)) in let count = schema.count in let l = length-of_columns f 0 (width s) in
-      stats_most 7 (2 ^ 40) (file_stats s (stats_of h.closed)) (omega (arith, l, count))
-      (each_column (λ x. HasShortTexts (2 ^ 40) x.body) f 0 (width s) (λ k l. file_stat_short options s k (omega (arith, l)) (2 ^ 40) 3 h.closed h.are stripes stripe_bytes))
+      let f = λ (k : ℕ). joining.joined (kind_at s k) (column_stats k (stats_of h.stripes_written)) in let count = schema.count in let l = length-of_columns f 0 (width s) in
+      stats_most 7 (2 ^ 40) (file_stats s (stats_of h.stripes_written)) (omega (arith, l, count))
+      (each_column (λ x. HasShortTexts (2 ^ 40) x.body) f 0 (width s) (λ k l. file_stat_short options s k (omega (arith, l)) (2 ^ 40) 3 h.stripes_written h.are stripes stripe_bytes))
 
-  infos_short : length (list_text (λ i. sized (stripe_info_text.text i)) 3 (infos_of h.closed)) ≤ 120 * 65536
-  infos_short = let w = h.within in infos_most (infos_of h.closed) w.stripes
+  infos_short : length (list_text (λ i. sized (stripe_info_text.text i)) 3 (infos_of h.stripes_written)) ≤ 120 * 65536
+  infos_short = let w = h.within in infos_most (infos_of h.stripes_written) w.stripes
 
-  footer_short : length (types_text s) < 2 ^ 62 → length (footer_text.text (footer_of (written_tail options s (infos_of h.closed) (stats_of h.closed)))) < 2 ^ 62 + 2 ^ 54
+  footer_short : length (types_text s) < 2 ^ 62 → length (footer_text.text (footer_of (written_tail options s (infos_of h.stripes_written) (stats_of h.stripes_written)))) < 2 ^ 62 + 2 ^ 54
   footer_short types =
-      let t = written_tail options s (infos_of h.closed) (stats_of h.closed) in
-      let content = length magic + stripes_length (infos_of h.closed) in
-      let first = list_text (λ i. sized (stripe_info_text.text i)) 3 (infos_of h.closed) in
-      let last = list_text (λ m. sized (column_stats_text.text m)) 7 (map message_of (file_stats s (stats_of h.closed))) in
+      let t = written_tail options s (infos_of h.stripes_written) (stats_of h.stripes_written) in
+      let content = length magic + stripes_length (infos_of h.stripes_written) in
+      let first = list_text (λ i. sized (stripe_info_text.text i)) 3 (infos_of h.stripes_written) in
+      let last = list_text (λ m. sized (column_stats_text.text m)) 7 (map message_of (file_stats s (stats_of h.stripes_written))) in
       let ends = number_text 8 t.stride ++ (known_text (λ (v : ℕ). varint v) 9 (Some 99) ++ []) in
       omega (
         arith,
@@ -124,9 +124,9 @@ module _ (options : Options) (s : Shape) (tail : Tail) (bytes : List ℕ) (rows 
         types,
       )
 
-  script_short : length (post_script_text.text (script_of (written_tail options s (infos_of h.closed) (stats_of h.closed)))) ≤ 200
-  script_short =
-      let m = script_of (written_tail options s (infos_of h.closed) (stats_of h.closed)) in
+  postscript_short : length (post_script_text.text (postscript_of (written_tail options s (infos_of h.stripes_written) (stats_of h.stripes_written)))) ≤ 200
+  postscript_short =
+      let m = postscript_of (written_tail options s (infos_of h.stripes_written) (stats_of h.stripes_written)) in
       let ends = known_text (λ (v : ℕ). varint v) 6 m.writer_version ++ sized_text 8000 magic in
       omega (
         arith,
@@ -140,10 +140,10 @@ module _ (options : Options) (s : Shape) (tail : Tail) (bytes : List ℕ) (rows 
         sized_most 8000 magic,
       )
 
-  tail_short : length (types_text s) < 2 ^ 62 → length (tail_text (written_tail options s (infos_of h.closed) (stats_of h.closed))) < 2 ^ 63
+  tail_short : length (types_text s) < 2 ^ 62 → length (tail_text (written_tail options s (infos_of h.stripes_written) (stats_of h.stripes_written))) < 2 ^ 63
   tail_short types =
-      let t = written_tail options s (infos_of h.closed) (stats_of h.closed) in
-      let a = metadata_text.text (metadata_of t) in let b = footer_text.text (footer_of t) in let c = post_script_text.text (script_of t) in
+      let t = written_tail options s (infos_of h.stripes_written) (stats_of h.stripes_written) in
+      let a = metadata_text.text (metadata_of t) in let b = footer_text.text (footer_of t) in let c = post_script_text.text (postscript_of t) in
       omega (
         arith,
         length-append a (b ++ (c ++ length c ∷ [])),
@@ -151,15 +151,15 @@ module _ (options : Options) (s : Shape) (tail : Tail) (bytes : List ℕ) (rows 
         length-append c (length c ∷ []),
         metadata_short,
         footer_short types,
-        script_short,
+        postscript_short,
       )
 
   pub written_short : length (types_text s) < 2 ^ 62 → length bytes < 2 ^ 64
   written_short types =
       let own = tail_short types in
       let text = subst (λ (x : Tail). length (tail_text x) < 2 ^ 63) (sym h.tail_is) own in
-      let front = length-append magic (bytes_of h.closed) in
-      let all = length-append (magic ++ bytes_of h.closed) (tail_text tail) in
+      let front = length-append magic (bytes_of h.stripes_written) in
+      let all = length-append (magic ++ bytes_of h.stripes_written) (tail_text tail) in
       let e = ap length h.bytes_are in
       omega (arith, text, front, all, e, stripe_bytes)
 

@@ -20,7 +20,7 @@ use Rattle.orc_tail.specs.Stripes.{stripe_length, stripe_end, stripes_length, st
 use Rattle.orc_tail.specs.Images.{tail_text}
 use Rattle.orc_tail.specs.declared.tail.Tail.{Tail}
 use Rattle.orc_file.specs.Counts.{are_laid_with_few_rows}
-use Rattle.orc_file.specs.Writing.{Closed, IsClosed, AreClosed, bytes_of, rows_of, infos_of, stats_of, AreFull, AreFilled, written_tail, AreWithin, IsWrittenFile, IsSomeFile, IsWhole, IsCutOff, HasTaken}
+use Rattle.orc_file.specs.Writing.{WrittenStripe, IsWrittenAt, AreWrittenStripes, bytes_of, rows_of, infos_of, stats_of, AreFull, AreFilled, written_tail, AreWithin, IsWrittenFile, IsSomeFile, IsWhole, IsCutOff, HasTaken}
 use Rattle.orc_file.proofs.Spread.{HasKept, HasPushed, HasFilled}
 
 -- ---- a stripe's numbers
@@ -114,23 +114,23 @@ flat_more : {X Y : Type 0} (f : X → List Y) (xs : List X) (x : X) → flat_map
 flat_more f [] x = append-nil (f x)
 flat_more f (y ∷ ys) x = ap (λ zs. f y ++ zs) (flat_more f ys x) ∙ sym (append_assoc (f y) (flat_map f ys) (f x))
 
-closed_more : (options : Options) (s : Shape) (at end : ℕ) (cs : List Closed) (c : Closed) → AreClosed options s at cs → end ≡ at + length (bytes_of cs) → IsClosed options s end c → AreClosed options s at (cs ++ c ∷ [])
-closed_more options s at end [] c h e i = (subst (λ p. IsClosed options s p c) (omega (arith, e)) i, tt)
-closed_more options s at end (d ∷ ds) c h e i =
+written_more : (options : Options) (s : Shape) (at end : ℕ) (cs : List WrittenStripe) (c : WrittenStripe) → AreWrittenStripes options s at cs → end ≡ at + length (bytes_of cs) → IsWrittenAt options s end c → AreWrittenStripes options s at (cs ++ c ∷ [])
+written_more options s at end [] c h e i = (subst (λ p. IsWrittenAt options s p c) (omega (arith, e)) i, tt)
+written_more options s at end (d ∷ ds) c h e i =
     let l = length-append d.bytes (bytes_of ds) in
-    (h.0, closed_more options s (at + length d.bytes) end ds c h.1 (omega (arith, e, l)) i)
+    (h.0, written_more options s (at + length d.bytes) end ds c h.1 (omega (arith, e, l)) i)
 
-full_more : (n : ℕ) (cs : List Closed) (c : Closed) → AreFull n cs → length c.rows ≡ n → AreFull n (cs ++ c ∷ [])
+full_more : (n : ℕ) (cs : List WrittenStripe) (c : WrittenStripe) → AreFull n cs → length c.rows ≡ n → AreFull n (cs ++ c ∷ [])
 full_more n [] c h e = (e, tt)
 full_more n (d ∷ ds) c h e = (h.0, full_more n ds c h.1 e)
 
-filled_more : (n : ℕ) (cs : List Closed) (c : Closed) → AreFull n cs → 0 < length c.rows → length c.rows ≤ n → AreFilled n (cs ++ c ∷ [])
+filled_more : (n : ℕ) (cs : List WrittenStripe) (c : WrittenStripe) → AreFull n cs → 0 < length c.rows → length c.rows ≤ n → AreFilled n (cs ++ c ∷ [])
 filled_more n [] c h a b = (a, b)
 filled_more n (d ∷ []) c h a b = (h.0, (a, b))
 filled_more n (d ∷ e ∷ es) c h a b = (h.0, filled_more n (e ∷ es) c h.1 a b)
 
 -- stripes of a positive number of rows each are those of a file
-pub filled_full : (n : ℕ) (cs : List Closed) → 0 < n → AreFull n cs → AreFilled n cs
+pub filled_full : (n : ℕ) (cs : List WrittenStripe) → 0 < n → AreFull n cs → AreFilled n cs
 filled_full n [] l h = tt
 filled_full n (c ∷ []) l h = let e = h.0 in (omega (arith, l, e), omega (arith, e))
 filled_full n (c ∷ d ∷ cs) l h = (h.0, filled_full n (d ∷ cs) l h.1)
@@ -142,26 +142,26 @@ appended_twice (Some x) a b = ap Some (append_assoc x a b)
 -- ---- what a call leaves
 
 -- stripes within the limits are closed by the tail that lists them
-closes : (options : Options) (s : Shape) (cs : List Closed) → AreClosed options s 3 cs → AreFilled options.stripe_rows cs → AreWithin (infos_of cs)
+closes : (options : Options) (s : Shape) (cs : List WrittenStripe) → AreWrittenStripes options s 3 cs → AreFilled options.stripe_rows cs → AreWithin (infos_of cs)
     → IsSomeFile options s ((magic ++ bytes_of cs) ++ tail_text (written_tail options s (infos_of cs) (stats_of cs))) (rows_of cs)
 closes options s cs are filled within = (
   written_tail options s (infos_of cs) (stats_of cs),
-  record { closed = cs; are = are; filled = filled; within = within; tail_is = refl; bytes_are = refl; rows_are = refl },
+  record { stripes_written = cs; are = are; filled = filled; within = within; tail_is = refl; bytes_are = refl; rows_are = refl },
 )
 
 -- nothing of the kept rows was written
 pub cut_kept : (options : Options) (s : Shape) (first told : Option (List ℕ)) (written : ℕ) (infos : List StripeInfo) (stats : List (List Stat)) (kept rows : List Cell)
     → 0 < options.stripe_rows → AreWithin infos → IsSchema s → HasKept options s first told written infos stats kept rows → IsCutOff options s first told rows
 cut_kept options s first told written infos stats kept rows l w schema h =
-    let text = tail_text (written_tail options s (infos_of h.closed) (stats_of h.closed)) in
-    let f = closes options s h.closed h.are (filled_full options.stripe_rows h.closed l h.full) (subst AreWithin h.infos_are w) in
+    let text = tail_text (written_tail options s (infos_of h.stripes_written) (stats_of h.stripes_written)) in
+    let f = closes options s h.stripes_written h.are (filled_full options.stripe_rows h.stripes_written l h.full) (subst AreWithin h.infos_are w) in
     record {
-      mine = magic ++ bytes_of h.closed;
+      mine = magic ++ bytes_of h.stripes_written;
       rest = text;
-      count = length (rows_of h.closed);
+      count = length (rows_of h.stripes_written);
       told_is = h.told_is;
       schema = schema;
-      file = subst (λ rs. IsSomeFile options s ((magic ++ bytes_of h.closed) ++ text) rs) (sym (ap (take (length (rows_of h.closed))) h.rows_are ∙ take-append_seam (rows_of h.closed) kept)) f;
+      file = subst (λ rs. IsSomeFile options s ((magic ++ bytes_of h.stripes_written) ++ text) rs) (sym (ap (take (length (rows_of h.stripes_written))) h.rows_are ∙ take-append_seam (rows_of h.stripes_written) kept)) f;
     }
 
 -- nothing but some of the magic was written
@@ -191,14 +191,14 @@ cut_unbegun options s first schema = cut_begun options s first first 0 schema (n
 pub kept_row : (options : Options) (s : Shape) (first told : Option (List ℕ)) (written : ℕ) (infos : List StripeInfo) (stats : List (List Stat)) (kept rows : List Cell) (row : Cell)
     → HasKept options s first told written infos stats kept rows → HasKept options s first told written infos stats (kept ++ row ∷ []) (rows ++ row ∷ [])
 kept_row options s first told written infos stats kept rows row h = record {
-  closed = h.closed;
+  stripes_written = h.stripes_written;
   are = h.are;
   full = h.full;
   infos_are = h.infos_are;
   stats_are = h.stats_are;
   told_is = h.told_is;
   written_is = h.written_is;
-  rows_are = ap (λ r. r ++ row ∷ []) h.rows_are ∙ append_assoc (rows_of h.closed) kept (row ∷ []);
+  rows_are = ap (λ r. r ++ row ∷ []) h.rows_are ∙ append_assoc (rows_of h.stripes_written) kept (row ∷ []);
 }
 
 -- and it was refused for memory
@@ -208,47 +208,47 @@ cut_row options s first told written infos stats kept rows row l w schema h =
     cut_kept options s first told written infos stats (kept ++ row ∷ []) (rows ++ row ∷ []) l w schema (kept_row options s first told written infos stats kept rows row h)
 
 module _ (options : Options) (s : Shape) (first told : Option (List ℕ)) (written : ℕ) (infos : List StripeInfo) (stats : List (List Stat)) (kept rows : List Cell)
-    (h : HasKept options s first told written infos stats kept rows) (c : Closed) (kept_is : c.rows ≡ kept) (is : IsClosed options s written c) where
-  more_are : AreClosed options s 3 (h.closed ++ c ∷ [])
-  more_are = let m = length-append magic (bytes_of h.closed) in let w = h.written_is in closed_more options s 3 written h.closed c h.are (omega (arith, m, w)) is
+    (h : HasKept options s first told written infos stats kept rows) (c : WrittenStripe) (kept_is : c.rows ≡ kept) (is : IsWrittenAt options s written c) where
+  more_are : AreWrittenStripes options s 3 (h.stripes_written ++ c ∷ [])
+  more_are = let m = length-append magic (bytes_of h.stripes_written) in let w = h.written_is in written_more options s 3 written h.stripes_written c h.are (omega (arith, m, w)) is
 
-  more_bytes : bytes_of (h.closed ++ c ∷ []) ≡ bytes_of h.closed ++ c.bytes
-  more_bytes = flat_more (λ (x : Closed). x.bytes) h.closed c
+  more_bytes : bytes_of (h.stripes_written ++ c ∷ []) ≡ bytes_of h.stripes_written ++ c.bytes
+  more_bytes = flat_more (λ (x : WrittenStripe). x.bytes) h.stripes_written c
 
-  more_rows : rows_of (h.closed ++ c ∷ []) ≡ rows
-  more_rows = flat_more (λ (x : Closed). x.rows) h.closed c ∙ ap (λ r. rows_of h.closed ++ r) kept_is ∙ sym h.rows_are
+  more_rows : rows_of (h.stripes_written ++ c ∷ []) ≡ rows
+  more_rows = flat_more (λ (x : WrittenStripe). x.rows) h.stripes_written c ∙ ap (λ r. rows_of h.stripes_written ++ r) kept_is ∙ sym h.rows_are
 
-  more_infos : infos ++ c.info ∷ [] ≡ infos_of (h.closed ++ c ∷ [])
-  more_infos = ap (λ xs. xs ++ c.info ∷ []) h.infos_are ∙ sym (map-append (λ (x : Closed). x.info) h.closed (c ∷ []))
+  more_infos : infos ++ c.info ∷ [] ≡ infos_of (h.stripes_written ++ c ∷ [])
+  more_infos = ap (λ xs. xs ++ c.info ∷ []) h.infos_are ∙ sym (map-append (λ (x : WrittenStripe). x.info) h.stripes_written (c ∷ []))
 
-  more_stats : stats ++ c.stats ∷ [] ≡ stats_of (h.closed ++ c ∷ [])
-  more_stats = ap (λ xs. xs ++ c.stats ∷ []) h.stats_are ∙ sym (map-append (λ (x : Closed). x.stats) h.closed (c ∷ []))
+  more_stats : stats ++ c.stats ∷ [] ≡ stats_of (h.stripes_written ++ c ∷ [])
+  more_stats = ap (λ xs. xs ++ c.stats ∷ []) h.stats_are ∙ sym (map-append (λ (x : WrittenStripe). x.stats) h.stripes_written (c ∷ []))
 
-  more_told : (new : Option (List ℕ)) → new ≡ appended told c.bytes → new ≡ appended first (magic ++ bytes_of (h.closed ++ c ∷ []))
-  more_told new t = t ∙ ap (λ x. appended x c.bytes) h.told_is ∙ appended_twice first (magic ++ bytes_of h.closed) c.bytes ∙ ap (appended first) (append_assoc magic (bytes_of h.closed) c.bytes ∙ ap (λ x. magic ++ x) (sym more_bytes))
+  more_told : (new : Option (List ℕ)) → new ≡ appended told c.bytes → new ≡ appended first (magic ++ bytes_of (h.stripes_written ++ c ∷ []))
+  more_told new t = t ∙ ap (λ x. appended x c.bytes) h.told_is ∙ appended_twice first (magic ++ bytes_of h.stripes_written) c.bytes ∙ ap (appended first) (append_assoc magic (bytes_of h.stripes_written) c.bytes ∙ ap (λ x. magic ++ x) (sym more_bytes))
 
-  more_filled : 0 < length kept → length kept ≤ options.stripe_rows → AreFilled options.stripe_rows (h.closed ++ c ∷ [])
-  more_filled a b = filled_more options.stripe_rows h.closed c h.full (subst (λ (r : List Cell). 0 < length r) (sym kept_is) a) (subst (λ (r : List Cell). length r ≤ options.stripe_rows) (sym kept_is) b)
+  more_filled : 0 < length kept → length kept ≤ options.stripe_rows → AreFilled options.stripe_rows (h.stripes_written ++ c ∷ [])
+  more_filled a b = filled_more options.stripe_rows h.stripes_written c h.full (subst (λ (r : List Cell). 0 < length r) (sym kept_is) a) (subst (λ (r : List Cell). length r ≤ options.stripe_rows) (sym kept_is) b)
 
   -- the kept rows are a full stripe more
   pub sent_full : (new : Option (List ℕ)) (written_new : ℕ) → length kept ≡ options.stripe_rows → new ≡ appended told c.bytes → written_new ≡ written + length c.bytes
       → HasKept options s first new written_new (infos ++ c.info ∷ []) (stats ++ c.stats ∷ []) [] rows
   sent_full new written_new full t w = record {
-    closed = h.closed ++ c ∷ [];
+    stripes_written = h.stripes_written ++ c ∷ [];
     are = more_are;
-    full = full_more options.stripe_rows h.closed c h.full (ap length kept_is ∙ full);
+    full = full_more options.stripe_rows h.stripes_written c h.full (ap length kept_is ∙ full);
     infos_are = more_infos;
     stats_are = more_stats;
     told_is = more_told new t;
-    written_is = w ∙ ap (λ k. k + length c.bytes) h.written_is ∙ sym (length-append (magic ++ bytes_of h.closed) c.bytes) ∙ ap length (append_assoc magic (bytes_of h.closed) c.bytes ∙ ap (λ x. magic ++ x) (sym more_bytes));
-    rows_are = sym more_rows ∙ sym (append-nil (rows_of (h.closed ++ c ∷ [])));
+    written_is = w ∙ ap (λ k. k + length c.bytes) h.written_is ∙ sym (length-append (magic ++ bytes_of h.stripes_written) c.bytes) ∙ ap length (append_assoc magic (bytes_of h.stripes_written) c.bytes ∙ ap (λ x. magic ++ x) (sym more_bytes));
+    rows_are = sym more_rows ∙ sym (append-nil (rows_of (h.stripes_written ++ c ∷ [])));
   }
 
   -- or the last one
   pub sent_last : (new : Option (List ℕ)) (written_new : ℕ) (kept_new : List Cell) → 0 < length kept → length kept ≤ options.stripe_rows → new ≡ appended told c.bytes
       → HasFilled options s first new written_new (infos ++ c.info ∷ []) (stats ++ c.stats ∷ []) kept_new rows
   sent_last new written_new kept_new a b t = record {
-    closed = h.closed ++ c ∷ [];
+    stripes_written = h.stripes_written ++ c ∷ [];
     are = more_are;
     filled = more_filled a b;
     infos_are = more_infos;
@@ -260,12 +260,12 @@ module _ (options : Options) (s : Shape) (first told : Option (List ℕ)) (writt
   -- or some of its bytes were written
   pub cut_sent : (new : Option (List ℕ)) (k : ℕ) → 0 < length kept → length kept ≤ options.stripe_rows → AreWithin (infos ++ c.info ∷ []) → IsSchema s → new ≡ appended told (take k c.bytes) → IsCutOff options s first new rows
   cut_sent new k a b w schema t =
-      let cs = h.closed ++ c ∷ [] in
+      let cs = h.stripes_written ++ c ∷ [] in
       let text = tail_text (written_tail options s (infos_of cs) (stats_of cs)) in
-      let before = magic ++ bytes_of h.closed in
+      let before = magic ++ bytes_of h.stripes_written in
       let all : (magic ++ bytes_of cs) ++ text ≡ (before ++ take k c.bytes) ++ (drop k c.bytes ++ text)
       = ap (λ x. (magic ++ x) ++ text) more_bytes
-      ∙ ap (λ x. x ++ text) (sym (append_assoc magic (bytes_of h.closed) c.bytes) ∙ ap (λ x. before ++ x) (sym (take-append-drop k c.bytes)) ∙ sym (append_assoc before (take k c.bytes) (drop k c.bytes)))
+      ∙ ap (λ x. x ++ text) (sym (append_assoc magic (bytes_of h.stripes_written) c.bytes) ∙ ap (λ x. before ++ x) (sym (take-append-drop k c.bytes)) ∙ sym (append_assoc before (take k c.bytes) (drop k c.bytes)))
       ∙ append_assoc (before ++ take k c.bytes) (drop k c.bytes) text in
       record {
         mine = before ++ take k c.bytes;
@@ -283,21 +283,21 @@ pub filled_empty : (options : Options) (s : Shape) (first told : Option (List �
 filled_empty options s first told written infos stats kept rows e p =
     let h = p.0 in let l = p.1 in
     record {
-      closed = h.closed;
+      stripes_written = h.stripes_written;
       are = h.are;
-      filled = filled_full options.stripe_rows h.closed (omega (arith, l)) h.full;
+      filled = filled_full options.stripe_rows h.stripes_written (omega (arith, l)) h.full;
       infos_are = h.infos_are;
       stats_are = h.stats_are;
       told_is = h.told_is;
-      rows_are = h.rows_are ∙ ap (λ k. rows_of h.closed ++ k) e ∙ append-nil (rows_of h.closed);
+      rows_are = h.rows_are ∙ ap (λ k. rows_of h.stripes_written ++ k) e ∙ append-nil (rows_of h.stripes_written);
     }
 
 -- nothing was pushed yet
 pub pushed_none : (options : Options) (s : Shape) (first : Option (List ℕ)) → 0 < options.stripe_rows → HasPushed options s first (appended first magic) 3 [] [] [] []
-pushed_none options s first l = (record { closed = []; are = tt; full = tt; infos_are = refl; stats_are = refl; told_is = refl; written_is = refl; rows_are = refl }, l)
+pushed_none options s first l = (record { stripes_written = []; are = tt; full = tt; infos_are = refl; stats_are = refl; told_is = refl; written_is = refl; rows_are = refl }, l)
 
 -- stripes have as many bytes as their records say together
-pub all_length : (options : Options) (s : Shape) (at : ℕ) (cs : List Closed) → AreClosed options s at cs → length (bytes_of cs) ≡ stripes_length (infos_of cs)
+pub all_length : (options : Options) (s : Shape) (at : ℕ) (cs : List WrittenStripe) → AreWrittenStripes options s at cs → length (bytes_of cs) ≡ stripes_length (infos_of cs)
 all_length options s at [] h = refl
 all_length options s at (c ∷ cs) h =
     let i = h.0 in
@@ -311,13 +311,13 @@ module _ (options : Options) (s : Shape) (first told : Option (List ℕ)) (writt
   abbrev end_tail : Tail
   end_tail = written_tail options s infos stats
 
-  end_file : IsWrittenFile options s end_tail ((magic ++ bytes_of h.closed) ++ tail_text end_tail) rows
+  end_file : IsWrittenFile options s end_tail ((magic ++ bytes_of h.stripes_written) ++ tail_text end_tail) rows
   end_file = record {
-    closed = h.closed;
+    stripes_written = h.stripes_written;
     are = h.are;
     filled = h.filled;
     within = subst AreWithin h.infos_are w;
-    tail_is = ap (λ i. written_tail options s i stats) h.infos_are ∙ ap (λ x. written_tail options s (infos_of h.closed) x) h.stats_are;
+    tail_is = ap (λ i. written_tail options s i stats) h.infos_are ∙ ap (λ x. written_tail options s (infos_of h.stripes_written) x) h.stats_are;
     bytes_are = refl;
     rows_are = h.rows_are;
   }
@@ -326,14 +326,14 @@ module _ (options : Options) (s : Shape) (first told : Option (List ℕ)) (writt
   pub whole_end : (new : Option (List ℕ)) → IsSchema s → length (tail_text (written_tail options s infos stats)) < 2 ^ 63 → new ≡ appended told (tail_text (written_tail options s infos stats))
       → IsWhole options s (written_tail options s infos stats) first new rows
   whole_end new schema few e = record {
-    bytes = (magic ++ bytes_of h.closed) ++ tail_text end_tail;
-    told_is = e ∙ ap (λ o. appended o (tail_text end_tail)) h.told_is ∙ appended_twice first (magic ++ bytes_of h.closed) (tail_text end_tail);
+    bytes = (magic ++ bytes_of h.stripes_written) ++ tail_text end_tail;
+    told_is = e ∙ ap (λ o. appended o (tail_text end_tail)) h.told_is ∙ appended_twice first (magic ++ bytes_of h.stripes_written) (tail_text end_tail);
     file = end_file;
     schema = schema;
     few =
-        let front = length-append magic (bytes_of h.closed) in
-        let all = length-append (magic ++ bytes_of h.closed) (tail_text end_tail) in
-        let stripes = all_length options s 3 h.closed h.are in
+        let front = length-append magic (bytes_of h.stripes_written) in
+        let all = length-append (magic ++ bytes_of h.stripes_written) (tail_text end_tail) in
+        let stripes = all_length options s 3 h.stripes_written h.are in
         omega (arith, few, front, all, stripes, subst (λ (i : List StripeInfo). stripes_length i ≤ most_bytes) h.infos_are w.bytes);
   }
 
@@ -341,7 +341,7 @@ module _ (options : Options) (s : Shape) (first told : Option (List ℕ)) (writt
   pub cut_end : (new : Option (List ℕ)) (k : ℕ) → IsSchema s → new ≡ appended told (take k (tail_text (written_tail options s infos stats))) → IsCutOff options s first new rows
   cut_end new k schema e =
       let text = tail_text end_tail in
-      let before = magic ++ bytes_of h.closed in
+      let before = magic ++ bytes_of h.stripes_written in
       let all : before ++ text ≡ (before ++ take k text) ++ drop k text = ap (λ x. before ++ x) (sym (take-append-drop k text)) ∙ sym (append_assoc before (take k text) (drop k text)) in
       record {
         mine = before ++ take k text;
@@ -354,7 +354,7 @@ module _ (options : Options) (s : Shape) (first told : Option (List ℕ)) (writt
 
 -- all of a stripe was written, and yet the call gave up
 pub cut_all : (options : Options) (s : Shape) (first told : Option (List ℕ)) (written : ℕ) (infos : List StripeInfo) (stats : List (List Stat)) (kept rows : List Cell)
-    → (h : HasKept options s first told written infos stats kept rows) → (c : Closed) → c.rows ≡ kept → IsClosed options s written c
+    → (h : HasKept options s first told written infos stats kept rows) → (c : WrittenStripe) → c.rows ≡ kept → IsWrittenAt options s written c
     → (new : Option (List ℕ)) → 0 < length kept → length kept ≤ options.stripe_rows → AreWithin (infos ++ c.info ∷ []) → IsSchema s → new ≡ appended told c.bytes → IsCutOff options s first new rows
 cut_all options s first told written infos stats kept rows h c e is new a b w schema t =
     cut_sent options s first told written infos stats kept rows h c e is new (length c.bytes) a b w schema (t ∙ ap (appended told) (sym (take_all (length c.bytes) c.bytes (omega arith))))

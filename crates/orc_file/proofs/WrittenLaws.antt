@@ -34,7 +34,7 @@ use Rattle.orc_tail.specs.Images.{image, tail_text, IsWithinLimits, HasBits}
 use Rattle.orc_file.specs.FileRows.{stripe_bytes, joined, AreOfStripes, HasRows, FileIs, cut_rows}
 use Rattle.orc_file.specs.Honest.{AreHonest, Honest, whole_of, told_at, known_whole_of, AreWhole, HasWholeStats}
 use Rattle.orc_file.specs.Counts.{are_laid_with_few_rows, are_stripe_stats, are_all_stats}
-use Rattle.orc_file.specs.Writing.{Closed, IsClosed, AreClosed, bytes_of, rows_of, infos_of, stats_of, written_tail, IsWrittenFile}
+use Rattle.orc_file.specs.Writing.{WrittenStripe, IsWrittenAt, AreWrittenStripes, bytes_of, rows_of, infos_of, stats_of, written_tail, IsWrittenFile}
 use Rattle.orc_tail.specs.declared.tail.Tail.{Tail}
 use Rattle.orc_file.proofs.WriterLemmas as writer
 use Rattle.orc_file.proofs.WriterLemmas.{both, root_rows, has_root, laid_places, all_length}
@@ -49,7 +49,7 @@ use Rattle.orc_file.proofs.RowLemmas.{parts_cut}
 
 -- ---- a stripe
 
-module _ (options : Options) (s : Shape) (at : ℕ) (c : Closed) (h : IsClosed options s at c) where
+module _ (options : Options) (s : Shape) (at : ℕ) (c : WrittenStripe) (h : IsWrittenAt options s at c) where
   whole : length c.bytes ≡ stripe_length c.info
   whole = writer.stripe_bytes s c.info c.bytes c.rows h.read
 
@@ -70,31 +70,31 @@ module _ (options : Options) (s : Shape) (at : ℕ) (c : Closed) (h : IsClosed o
 
 -- ---- stripes
 
-all_laid : (options : Options) (s : Shape) (at : ℕ) (cs : List Closed) → AreClosed options s at cs → are_laid_with_few_rows at (infos_of cs) ≡ true
+all_laid : (options : Options) (s : Shape) (at : ℕ) (cs : List WrittenStripe) → AreWrittenStripes options s at cs → are_laid_with_few_rows at (infos_of cs) ≡ true
 all_laid options s at [] h = refl
 all_laid options s at (c ∷ cs) h =
     both (c.info.offset == at) _ (let i = h.0 in eq-eqb c.info.offset at i.placed)
     (both (ltb c.info.number_of_rows (2 ^ 31)) _ (lt-ltb c.info.number_of_rows (2 ^ 31) (few_rows options s at c h.0))
     (ap (λ p. are_laid_with_few_rows p (infos_of cs)) (place_next options s at c h.0) ∙ all_laid options s (at + length c.bytes) cs h.1))
 
-all_stats : (options : Options) (s : Shape) (at : ℕ) (cs : List Closed) → AreClosed options s at cs → are_all_stats s (stats_of cs) ≡ true
+all_stats : (options : Options) (s : Shape) (at : ℕ) (cs : List WrittenStripe) → AreWrittenStripes options s at cs → are_all_stats s (stats_of cs) ≡ true
 all_stats options s at [] h = refl
 all_stats options s at (c ∷ cs) h = both (are_stripe_stats s c.stats) _ (stats_pass options s at c h.0) (all_stats options s (at + length c.bytes) cs h.1)
 
-all_rows_fit : (options : Options) (s : Shape) (at : ℕ) (cs : List Closed) → AreClosed options s at cs → RowsFit s (rows_of cs)
+all_rows_fit : (options : Options) (s : Shape) (at : ℕ) (cs : List WrittenStripe) → AreWrittenStripes options s at cs → RowsFit s (rows_of cs)
 all_rows_fit options s at [] h = tt
 all_rows_fit options s at (c ∷ cs) h = all_both (λ (r : Cell). fits r s ≡ true) c.rows (rows_of cs) (rows_fit options s at c h.0) (all_rows_fit options s (at + length c.bytes) cs h.1)
 
-same_count : (cs : List Closed) → length (stats_of cs) ≡ length (infos_of cs)
+same_count : (cs : List WrittenStripe) → length (stats_of cs) ≡ length (infos_of cs)
 same_count [] = refl
 same_count (c ∷ cs) = ap suc (same_count cs)
 
-info_count : (cs : List Closed) → length (infos_of cs) ≡ length cs
+info_count : (cs : List WrittenStripe) → length (infos_of cs) ≡ length cs
 info_count [] = refl
 info_count (c ∷ cs) = ap suc (info_count cs)
 
 -- each number of the stripes has 64 bits
-info_bits : (options : Options) (s : Shape) (at : ℕ) (cs : List Closed) → AreClosed options s at cs → at + stripes_length (infos_of cs) < 2 ^ 64 → AllByRecursion stripe_info_text.bounded (infos_of cs)
+info_bits : (options : Options) (s : Shape) (at : ℕ) (cs : List WrittenStripe) → AreWrittenStripes options s at cs → at + stripes_length (infos_of cs) < 2 ^ 64 → AllByRecursion stripe_info_text.bounded (infos_of cs)
 info_bits options s at [] h few = tt
 info_bits options s at (c ∷ cs) h few =
     let i = h.0 in
@@ -107,10 +107,10 @@ info_bits options s at (c ∷ cs) h few =
 
 -- ---- the stripes' bytes in the file, and their rows
 
-abbrev pub parts_of : List Closed → List (List Cell)
-parts_of cs = map (λ (c : Closed). c.rows) cs
+abbrev pub parts_of : List WrittenStripe → List (List Cell)
+parts_of cs = map (λ (c : WrittenStripe). c.rows) cs
 
-of_stripes : (options : Options) (s : Shape) (file front rest : List ℕ) (at : ℕ) (cs : List Closed) → AreClosed options s at cs → at ≡ length front → file ≡ front ++ (bytes_of cs ++ rest)
+of_stripes : (options : Options) (s : Shape) (file front rest : List ℕ) (at : ℕ) (cs : List WrittenStripe) → AreWrittenStripes options s at cs → at ≡ length front → file ≡ front ++ (bytes_of cs ++ rest)
     → AreOfStripes s file (infos_of cs) (parts_of cs)
 of_stripes options s file front rest at [] h place e = tt
 of_stripes options s file front rest at (c ∷ cs) h place e =
@@ -121,11 +121,11 @@ of_stripes options s file front rest at (c ∷ cs) h place e =
       of_stripes options s file (front ++ c.bytes) rest (at + length c.bytes) cs h.1 (omega (arith, place, length-append front c.bytes)) (split ∙ sym (append_assoc front c.bytes (bytes_of cs ++ rest))),
     )
 
-rows_joined : (cs : List Closed) → rows_of cs ≡ joined (parts_of cs)
+rows_joined : (cs : List WrittenStripe) → rows_of cs ≡ joined (parts_of cs)
 rows_joined [] = refl
 rows_joined (c ∷ cs) = ap (λ x. c.rows ++ x) (rows_joined cs)
 
-are_honest : (options : Options) (s : Shape) (at : ℕ) (cs : List Closed) → AreClosed options s at cs → AreHonest s (parts_of cs) (stats_of cs)
+are_honest : (options : Options) (s : Shape) (at : ℕ) (cs : List WrittenStripe) → AreWrittenStripes options s at cs → AreHonest s (parts_of cs) (stats_of cs)
 are_honest options s at [] h = tt
 are_honest options s at (c ∷ cs) h = (
   let i = h.0 in let have = i.counted in record { counted = have.counted; each = λ k l. (column_stat s c.rows k, have.each k l, same_agrees (column_stat s c.rows k)) },
@@ -142,18 +142,18 @@ one_of (y ∷ ys) (suc k) x e = one_of ys k x e
 
 module _ (options : Options) (s : Shape) (k : ℕ) (lt : k < width s) where
   -- those of the stripes are the statistics of the cells there
-  column_is : (at : ℕ) (cs : List Closed) → AreClosed options s at cs → column_stats k (stats_of cs) ≡ map (stat (kind_at s k)) (map (cells s k) (parts_of cs))
+  column_is : (at : ℕ) (cs : List WrittenStripe) → AreWrittenStripes options s at cs → column_stats k (stats_of cs) ≡ map (stat (kind_at s k)) (map (cells s k) (parts_of cs))
   column_is at [] h = refl
   column_is at (c ∷ cs) h =
       let i = h.0 in let have = i.counted in
       ap (λ x. x ++ column_stats k (stats_of cs)) (one_of c.stats k (column_stat s c.rows k) (have.each k lt))
       ∙ ap (λ x. column_stat s c.rows k ∷ x) (column_is (at + length c.bytes) cs h.1)
 
-  of_kind : (at : ℕ) (cs : List Closed) → AreClosed options s at cs → AllByRecursion (AllByRecursion (λ c. is_of (kind_at s k) c ≡ true)) (map (cells s k) (parts_of cs))
+  of_kind : (at : ℕ) (cs : List WrittenStripe) → AreWrittenStripes options s at cs → AllByRecursion (AllByRecursion (λ c. is_of (kind_at s k) c ≡ true)) (map (cells s k) (parts_of cs))
   of_kind at [] h = tt
   of_kind at (c ∷ cs) h = (are_of_kind (shape_at s k) (cells s k c.rows) (cells_fit s k c.rows lt (rows_fit options s at c h.0)), of_kind (at + length c.bytes) cs h.1)
 
-  cells_few : (at : ℕ) (cs : List Closed) → AreClosed options s at cs → length (flat_map (λ p. p) (map (cells s k) (parts_of cs))) ≤ 2 ^ 31 * length cs
+  cells_few : (at : ℕ) (cs : List WrittenStripe) → AreWrittenStripes options s at cs → length (flat_map (λ p. p) (map (cells s k) (parts_of cs))) ≤ 2 ^ 31 * length cs
   cells_few at [] h = omega arith
   cells_few at (c ∷ cs) h =
       let few = few_cells options s at c h.0 k lt in
@@ -162,27 +162,27 @@ module _ (options : Options) (s : Shape) (k : ℕ) (lt : k < width s) where
       omega (arith, few, rest, l)
 
   -- all of them are told
-  told_is : (at : ℕ) (cs : List Closed) → AreClosed options s at cs → told_at (stats_of cs) k ≡ map (λ p. Some (stat (kind_at s k) p)) (map (cells s k) (parts_of cs))
+  told_is : (at : ℕ) (cs : List WrittenStripe) → AreWrittenStripes options s at cs → told_at (stats_of cs) k ≡ map (λ p. Some (stat (kind_at s k) p)) (map (cells s k) (parts_of cs))
   told_is at [] h = refl
   told_is at (c ∷ cs) h =
       let i = h.0 in let have = i.counted in
       ap (λ x. x ∷ told_at (stats_of cs) k) (have.each k lt)
       ∙ ap (λ (x : List (Option Stat)). Some (column_stat s c.rows k) ∷ x) (told_is (at + length c.bytes) cs h.1)
 
-  known_stat : (at : ℕ) (cs : List Closed) → AreClosed options s at cs → length cs ≤ most_stripes → known_whole_of s (stats_of cs) (parts_of cs) k ≡ whole_of s (parts_of cs) k
+  known_stat : (at : ℕ) (cs : List WrittenStripe) → AreWrittenStripes options s at cs → length cs ≤ most_stripes → known_whole_of s (stats_of cs) (parts_of cs) k ≡ whole_of s (parts_of cs) k
   known_stat at cs h most =
       let few = cells_few at cs h in
       ap (λ (t : List (Option Stat)). known_whole (kind_at s k) t (map (cells s k) (parts_of cs))) (told_is at cs h)
       ∙ all-told (kind_at s k) (map (cells s k) (parts_of cs)) (of_kind at cs h) (omega (arith, few, most))
 
   -- joined, they are that of the whole file
-  pub file_stat : (at : ℕ) (cs : List Closed) → AreClosed options s at cs → length cs ≤ most_stripes → joining.joined (kind_at s k) (column_stats k (stats_of cs)) ≡ whole_of s (parts_of cs) k
+  pub file_stat : (at : ℕ) (cs : List WrittenStripe) → AreWrittenStripes options s at cs → length cs ≤ most_stripes → joining.joined (kind_at s k) (column_stats k (stats_of cs)) ≡ whole_of s (parts_of cs) k
   file_stat at cs h most =
       let few = cells_few at cs h in
       ap (joining.joined (kind_at s k)) (column_is at cs h) ∙ joined-parts (kind_at s k) (map (cells s k) (parts_of cs)) (of_kind at cs h) (omega (arith, few, most))
 
   -- the children are the cells of the column below
-  file_children : (at : ℕ) (cs : List Closed) → AreClosed options s at cs → kind_at s k ≡ kind.Children
+  file_children : (at : ℕ) (cs : List WrittenStripe) → AreWrittenStripes options s at cs → kind_at s k ≡ kind.Children
       → sum_by (child_number (shape_at s k)) (flat_map (λ p. p) (map (cells s k) (parts_of cs))) ≤ 2 ^ 31 * length cs
   file_children at [] h e = omega arith
   file_children at (c ∷ cs) h e =
@@ -191,11 +191,11 @@ module _ (options : Options) (s : Shape) (k : ℕ) (lt : k < width s) where
       let l = sum_by-append (child_number (shape_at s k)) (cells s k c.rows) (flat_map (λ p. p) (map (cells s k) (parts_of cs))) in
       omega (arith, own, rest, l)
 
-  all_children : (at : ℕ) (cs : List Closed) → AreClosed options s at cs → length cs ≤ most_stripes → kind_at s k ≡ kind.Children
+  all_children : (at : ℕ) (cs : List WrittenStripe) → AreWrittenStripes options s at cs → length cs ≤ most_stripes → kind_at s k ≡ kind.Children
       → sum_by (child_number (shape_at s k)) (flat_map (λ p. p) (map (cells s k) (parts_of cs))) < 2 ^ 64
   all_children at cs h most e = let few = file_children at cs h e in omega (arith, few, most)
 
-  file_bits : (at : ℕ) (cs : List Closed) → AreClosed options s at cs → length cs ≤ most_stripes → column_stats_text.bounded (message_of (joining.joined (kind_at s k) (column_stats k (stats_of cs))))
+  file_bits : (at : ℕ) (cs : List WrittenStripe) → AreWrittenStripes options s at cs → length cs ≤ most_stripes → column_stats_text.bounded (message_of (joining.joined (kind_at s k) (column_stats k (stats_of cs))))
   file_bits at cs h most =
       let few = cells_few at cs h in
       let all = flat_map (λ p. p) (map (cells s k) (parts_of cs)) in
@@ -222,7 +222,7 @@ each_got P f (x ∷ xs) get p =
     let e : x ≡ f 0 = ap (some_or x) (get 0 (omega arith)) in
     (subst P (sym e) (p 0 (omega arith)), each_got P (λ i. f (suc i)) xs (λ i l. get (suc i) (omega (arith, l))) (λ i l. p (suc i) (omega (arith, l))))
 
-stripe_bits : (options : Options) (s : Shape) (at : ℕ) (cs : List Closed) → AreClosed options s at cs → AllByRecursion (AllByRecursion (λ x. column_stats_text.bounded (message_of x))) (stats_of cs)
+stripe_bits : (options : Options) (s : Shape) (at : ℕ) (cs : List WrittenStripe) → AreWrittenStripes options s at cs → AllByRecursion (AllByRecursion (λ x. column_stats_text.bounded (message_of x))) (stats_of cs)
 stripe_bits options s at [] h = tt
 stripe_bits options s at (c ∷ cs) h =
     let i = h.0 in let have = i.counted in let n = have.counted in (
@@ -234,41 +234,41 @@ stripe_bits options s at (c ∷ cs) h =
 -- ---- the file
 
 module _ (options : Options) (s : Shape) (tail : Tail) (bytes : List ℕ) (rows : List Cell) (h : IsWrittenFile options s tail bytes rows) where
-  pub most_closed : length h.closed ≤ most_stripes
-  most_closed = let w = h.within in let m = w.stripes in let e = info_count h.closed in omega (arith, m, e)
+  pub most_written : length h.stripes_written ≤ most_stripes
+  most_written = let w = h.within in let m = w.stripes in let e = info_count h.stripes_written in omega (arith, m, e)
 
-  limits : IsSchema s → IsWithinLimits (written_tail options s (infos_of h.closed) (stats_of h.closed))
-  limits schema = tail_within options s (infos_of h.closed) (stats_of h.closed) schema h.within (all_laid options s 3 h.closed h.are) (same_count h.closed) (all_stats options s 3 h.closed h.are)
+  limits : IsSchema s → IsWithinLimits (written_tail options s (infos_of h.stripes_written) (stats_of h.stripes_written))
+  limits schema = tail_within options s (infos_of h.stripes_written) (stats_of h.stripes_written) schema h.within (all_laid options s 3 h.stripes_written h.are) (same_count h.stripes_written) (all_stats options s 3 h.stripes_written h.are)
 
-  bits : IsSchema s → HasBits (written_tail options s (infos_of h.closed) (stats_of h.closed))
+  bits : IsSchema s → HasBits (written_tail options s (infos_of h.stripes_written) (stats_of h.stripes_written))
   bits schema =
       let w = h.within in let size = w.bytes in let columns = schema.count in
       record {
         version = version_bits options.rle;
         writer = omega arith;
         writer_version = omega arith;
-        stripes = info_bits options s 3 h.closed h.are (omega (arith, size));
+        stripes = info_bits options s 3 h.stripes_written h.are (omega (arith, size));
         types = types_bits s 0 (omega (arith, columns));
         user = tt;
-        file_stats = each_column (λ x. column_stats_text.bounded (message_of x)) (λ k. joining.joined (kind_at s k) (column_stats k (stats_of h.closed))) 0 (width s)
-            (λ k l. file_bits options s k (omega (arith, l)) 3 h.closed h.are most_closed);
-        stripe_stats = stripe_bits options s 3 h.closed h.are;
+        file_stats = each_column (λ x. column_stats_text.bounded (message_of x)) (λ k. joining.joined (kind_at s k) (column_stats k (stats_of h.stripes_written))) 0 (width s)
+            (λ k l. file_bits options s k (omega (arith, l)) 3 h.stripes_written h.are most_written);
+        stripe_stats = stripe_bits options s 3 h.stripes_written h.are;
         stride = options.fits;
       }
 
   pub written_tail_is : IsSchema s → length bytes < 2 ^ 64 → IsTail bytes tail
   written_tail_is schema few =
-      let t = written_tail options s (infos_of h.closed) (stats_of h.closed) in
-      let e : bytes ≡ image (bytes_of h.closed) t = h.bytes_are ∙ append_assoc magic (bytes_of h.closed) (tail_text tail) ∙ ap (λ x. magic ++ (bytes_of h.closed ++ tail_text x)) h.tail_is in
+      let t = written_tail options s (infos_of h.stripes_written) (stats_of h.stripes_written) in
+      let e : bytes ≡ image (bytes_of h.stripes_written) t = h.bytes_are ∙ append_assoc magic (bytes_of h.stripes_written) (tail_text tail) ∙ ap (λ x. magic ++ (bytes_of h.stripes_written ++ tail_text x)) h.tail_is in
       let lim = limits schema in
-      let is = image_is t (bytes_of h.closed) lim (laid_places 3 (infos_of h.closed) (all_laid options s 3 h.closed h.are)) (bits schema) (all_length options s 3 h.closed h.are) (subst (λ (b : List ℕ). length b < 2 ^ 64) e few) in
+      let is = image_is t (bytes_of h.stripes_written) lim (laid_places 3 (infos_of h.stripes_written) (all_laid options s 3 h.stripes_written h.are)) (bits schema) (all_length options s 3 h.stripes_written h.are) (subst (λ (b : List ℕ). length b < 2 ^ 64) e few) in
       subst (λ (x : Tail). IsTail bytes x) (sym h.tail_is) (subst (λ (b : List ℕ). IsTail b t) (sym e) is)
 
-  abbrev has_rows : HasRows s bytes (infos_of h.closed) rows
+  abbrev has_rows : HasRows s bytes (infos_of h.stripes_written) rows
   has_rows = record {
-    parts = parts_of h.closed;
-    stripes = of_stripes options s bytes magic (tail_text tail) 3 h.closed h.are refl (h.bytes_are ∙ append_assoc magic (bytes_of h.closed) (tail_text tail));
-    rows_are = h.rows_are ∙ rows_joined h.closed;
+    parts = parts_of h.stripes_written;
+    stripes = of_stripes options s bytes magic (tail_text tail) 3 h.stripes_written h.are refl (h.bytes_are ∙ append_assoc magic (bytes_of h.stripes_written) (tail_text tail));
+    rows_are = h.rows_are ∙ rows_joined h.stripes_written;
   }
 
   pub written_rows : IsSchema s → length bytes < 2 ^ 64 → FileIs bytes tail rows
@@ -277,20 +277,20 @@ module _ (options : Options) (s : Shape) (tail : Tail) (bytes : List ℕ) (rows 
     has_rows = subst (λ (x : Tail). HasRows x.schema bytes x.stripes rows) (sym h.tail_is) has_rows;
   }
 
-  cut_is : cut_rows (infos_of h.closed) rows ≡ parts_of h.closed
-  cut_is = parts_cut s bytes (infos_of h.closed) rows has_rows
+  cut_is : cut_rows (infos_of h.stripes_written) rows ≡ parts_of h.stripes_written
+  cut_is = parts_cut s bytes (infos_of h.stripes_written) rows has_rows
 
   pub written_honest : Honest tail rows
   written_honest =
-      subst (λ (x : Tail). Honest x rows) (sym h.tail_is) (subst (λ (p : List (List Cell)). AreHonest s p (stats_of h.closed)) (sym cut_is) (are_honest options s 3 h.closed h.are))
+      subst (λ (x : Tail). Honest x rows) (sym h.tail_is) (subst (λ (p : List (List Cell)). AreHonest s p (stats_of h.stripes_written)) (sym cut_is) (are_honest options s 3 h.stripes_written h.are))
 
-  are_whole : AreWhole s (stats_of h.closed) (parts_of h.closed) (file_stats s (stats_of h.closed))
+  are_whole : AreWhole s (stats_of h.stripes_written) (parts_of h.stripes_written) (file_stats s (stats_of h.stripes_written))
   are_whole =
-      let f = λ (k : ℕ). joining.joined (kind_at s k) (column_stats k (stats_of h.closed)) in
+      let f = λ (k : ℕ). joining.joined (kind_at s k) (column_stats k (stats_of h.stripes_written)) in
       record {
         counted = length-of_columns f 0 (width s);
-        each = λ k l. at_column f 0 (width s) k l ∙ ap Some (let z : 0 + k ≡ k = omega arith in ap f z ∙ file_stat options s k l 3 h.closed h.are most_closed ∙ sym (known_stat options s k l 3 h.closed h.are most_closed));
+        each = λ k l. at_column f 0 (width s) k l ∙ ap Some (let z : 0 + k ≡ k = omega arith in ap f z ∙ file_stat options s k l 3 h.stripes_written h.are most_written ∙ sym (known_stat options s k l 3 h.stripes_written h.are most_written));
       }
 
   pub written_whole : HasWholeStats tail rows
-  written_whole = subst (λ (x : Tail). HasWholeStats x rows) (sym h.tail_is) (subst (λ (p : List (List Cell)). AreWhole s (stats_of h.closed) p (file_stats s (stats_of h.closed))) (sym cut_is) are_whole)
+  written_whole = subst (λ (x : Tail). HasWholeStats x rows) (sym h.tail_is) (subst (λ (p : List (List Cell)). AreWhole s (stats_of h.stripes_written) p (file_stats s (stats_of h.stripes_written))) (sym cut_is) are_whole)

@@ -23,47 +23,47 @@ use Rattle.orc_tail.specs.Statistics.{file_stats}
 -- ---- stripes
 
 -- a stripe in a file: where it stands, its bytes, its rows and the statistics of its columns
-pub record Closed : Type 0 where
+pub record WrittenStripe : Type 0 where
   pub info : StripeInfo
   pub bytes : List ℕ
   pub rows : List Cell
   pub stats : List Stat
 
 -- It begins at a place. Its bytes are the one text that is written of its rows, which they are read as.
-pub record IsClosed (options : Options) (s : Shape) (place : ℕ) (c : Closed) : Type 0 where
+pub record IsWrittenAt (options : Options) (s : Shape) (place : ℕ) (c : WrittenStripe) : Type 0 where
   pub placed : c.info.offset ≡ place
   pub written : IsWrittenStripe options.rle options.stride s c.rows (record c.info { offset = 0 }) c.bytes
   pub read : IsStripe s c.info c.bytes c.rows
   pub counted : HaveStats s c.rows (width s) c.stats
 
 -- one after the other from a place on, without gaps
-abbrev pub AreClosed : Options → Shape → ℕ → List Closed → Type 0
-AreClosed options s place [] = Unit {0}
-AreClosed options s place (c ∷ cs) = IsClosed options s place c × AreClosed options s (place + length c.bytes) cs
+abbrev pub AreWrittenStripes : Options → Shape → ℕ → List WrittenStripe → Type 0
+AreWrittenStripes options s place [] = Unit {0}
+AreWrittenStripes options s place (c ∷ cs) = IsWrittenAt options s place c × AreWrittenStripes options s (place + length c.bytes) cs
 
 -- the bytes of written stripes, behind one another
-abbrev pub bytes_of : List Closed → List ℕ
-bytes_of cs = flat_map (λ (c : Closed). c.bytes) cs
+abbrev pub bytes_of : List WrittenStripe → List ℕ
+bytes_of cs = flat_map (λ (c : WrittenStripe). c.bytes) cs
 
 -- the rows of written stripes, behind one another
-abbrev pub rows_of : List Closed → List Cell
-rows_of cs = flat_map (λ (c : Closed). c.rows) cs
+abbrev pub rows_of : List WrittenStripe → List Cell
+rows_of cs = flat_map (λ (c : WrittenStripe). c.rows) cs
 
 -- the footer's lines for written stripes
-abbrev pub infos_of : List Closed → List StripeInfo
-infos_of cs = map (λ (c : Closed). c.info) cs
+abbrev pub infos_of : List WrittenStripe → List StripeInfo
+infos_of cs = map (λ (c : WrittenStripe). c.info) cs
 
 -- the statistics of written stripes
-abbrev pub stats_of : List Closed → List (List Stat)
-stats_of cs = map (λ (c : Closed). c.stats) cs
+abbrev pub stats_of : List WrittenStripe → List (List Stat)
+stats_of cs = map (λ (c : WrittenStripe). c.stats) cs
 
 -- each has so many rows
-abbrev pub AreFull : ℕ → List Closed → Type 0
+abbrev pub AreFull : ℕ → List WrittenStripe → Type 0
 AreFull n [] = Unit {0}
 AreFull n (c ∷ cs) = (length c.rows ≡ n) × AreFull n cs
 
 -- each but the last one, which has a row at least, and no more
-abbrev pub AreFilled : ℕ → List Closed → Type 0
+abbrev pub AreFilled : ℕ → List WrittenStripe → Type 0
 AreFilled n [] = Unit {0}
 AreFilled n (c ∷ []) = (0 < length c.rows) × (length c.rows ≤ n)
 AreFilled n (c ∷ d ∷ cs) = (length c.rows ≡ n) × AreFilled n (d ∷ cs)
@@ -110,13 +110,13 @@ pub record PassesBytes (options : Options) (s : Shape) (infos : List StripeInfo)
 -- text of the tail that lists them. Their rows, joined, are the file's.
 pub record IsWrittenFile (options : Options) (s : Shape) (tail : Tail)
     (bytes : List ℕ) (rows : List Cell) : Type 0 where
-  pub closed : List Closed
-  pub are : AreClosed options s 3 closed
-  pub filled : AreFilled options.stripe_rows closed
-  pub within : AreWithin (infos_of closed)
-  pub tail_is : tail ≡ written_tail options s (infos_of closed) (stats_of closed)
-  pub bytes_are : bytes ≡ (magic ++ bytes_of closed) ++ tail_text tail
-  pub rows_are : rows ≡ rows_of closed
+  pub stripes_written : List WrittenStripe
+  pub are : AreWrittenStripes options s 3 stripes_written
+  pub filled : AreFilled options.stripe_rows stripes_written
+  pub within : AreWithin (infos_of stripes_written)
+  pub tail_is : tail ≡ written_tail options s (infos_of stripes_written) (stats_of stripes_written)
+  pub bytes_are : bytes ≡ (magic ++ bytes_of stripes_written) ++ tail_text tail
+  pub rows_are : rows ≡ rows_of stripes_written
 
 -- with some tail
 abbrev pub IsSomeFile : Options → Shape → List ℕ → List Cell → Type 0
@@ -172,24 +172,24 @@ pub record Progress : Type 0 where
 -- Behind what the output had told first stand `ORC` and full stripes, as many bytes as are counted. Their rows,
 -- and behind them those that are kept, are the rows pushed.
 pub record HasKept (p : Progress) (first : Option (List ℕ)) (rows : List Cell) : Type 0 where
-  pub closed : List Closed
-  pub are : AreClosed p.options p.schema 3 closed
-  pub full : AreFull p.options.stripe_rows closed
-  pub infos_are : p.infos ≡ infos_of closed
-  pub stats_are : p.stats ≡ stats_of closed
-  pub told_is : p.told ≡ appended first (magic ++ bytes_of closed)
-  pub written_is : p.written ≡ length (magic ++ bytes_of closed)
-  pub rows_are : rows ≡ rows_of closed ++ p.kept
+  pub stripes_written : List WrittenStripe
+  pub are : AreWrittenStripes p.options p.schema 3 stripes_written
+  pub full : AreFull p.options.stripe_rows stripes_written
+  pub infos_are : p.infos ≡ infos_of stripes_written
+  pub stats_are : p.stats ≡ stats_of stripes_written
+  pub told_is : p.told ≡ appended first (magic ++ bytes_of stripes_written)
+  pub written_is : p.written ≡ length (magic ++ bytes_of stripes_written)
+  pub rows_are : rows ≡ rows_of stripes_written ++ p.kept
 
 -- The same once the last stripe is written: no row is kept, and the last stripe may have fewer rows.
 pub record HasFilled (p : Progress) (first : Option (List ℕ)) (rows : List Cell) : Type 0 where
-  pub closed : List Closed
-  pub are : AreClosed p.options p.schema 3 closed
-  pub filled : AreFilled p.options.stripe_rows closed
-  pub infos_are : p.infos ≡ infos_of closed
-  pub stats_are : p.stats ≡ stats_of closed
-  pub told_is : p.told ≡ appended first (magic ++ bytes_of closed)
-  pub rows_are : rows ≡ rows_of closed
+  pub stripes_written : List WrittenStripe
+  pub are : AreWrittenStripes p.options p.schema 3 stripes_written
+  pub filled : AreFilled p.options.stripe_rows stripes_written
+  pub infos_are : p.infos ≡ infos_of stripes_written
+  pub stats_are : p.stats ≡ stats_of stripes_written
+  pub told_is : p.told ≡ appended first (magic ++ bytes_of stripes_written)
+  pub rows_are : rows ≡ rows_of stripes_written
 
 -- and fewer rows are kept than a stripe has
 abbrev pub HasPushed : Progress → Option (List ℕ) → List Cell → Type 0

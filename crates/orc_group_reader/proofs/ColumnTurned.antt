@@ -7,13 +7,13 @@ use Rattle.orc_values.proofs.Together.{values-append}
 use Rattle.orc_column_reader.specs.Columns.{MarksLeft}
 use Rattle.orc_column_reader.specs.Stripe.{Streams, Marks, SpellsValues}
 use Rattle.orc_column_reader.specs.declared.bits.Bits.{Bits}
-use Rattle.orc_row_index.specs.Places.{IsPosition, reader, octets, octets_place, octets_size, position_size}
-use Rattle.orc_row_index.specs.RunStreams.{RunStream, no_stream, bit_runs, byte_runs, number_runs, present_runs, own_runs, own_octets}
+use Rattle.orc_row_index.specs.Positions.{IsPosition, reader, octets, octets_position, octets_size, position_size}
+use Rattle.orc_row_index.specs.RunStreams.{RunStream, no_stream, bit_runs, byte_runs, number_runs, present_runs, value_runs, value_bytes}
 use Rattle.orc_row_index.specs.Walking.{runs, lent_bytes, ArePlaced}
 use Rattle.orc_row_index.specs.declared.placed.PlacedStreams.{PlacedStreams}
 use Rattle.orc_row_index.proofs.ColumnPlaces.{column_there}
 use Rattle.orc_row_index.proofs.PositionParts.{front_is, back_is, places_count}
-use Rattle.orc_group_reader.specs.Columns.{EntersMarks, OctetsAgree, AgreeFromPlaces, Turns, OwnTurns}
+use Rattle.orc_group_reader.specs.Columns.{EntersMarks, OctetsAgree, AgreeFromPositions, Turns, OwnTurns}
 use Rattle.orc_group_reader.specs.Streams.{RunsAgree, NeverEnters}
 use Rattle.orc_group_reader.proofs.SomeValues.{present_some}
 use Rattle.orc_group_reader.proofs.ValuesTurned.{drop_mapped}
@@ -45,17 +45,17 @@ octets_alike o (Some a) None h = absurd h
 octets_alike o (Some a) (Some b) h = refl
 
 -- PRESENT has as many in both
-pub present_size : (s : Shape) (x y : Streams) (placed : PlacedStreams) (before : List Cell) (ps : List ℕ) → ArePlaced s y placed → AgreeFromPlaces s x y before ps
+pub present_size : (s : Shape) (x y : Streams) (placed : PlacedStreams) (before : List Cell) (ps : List ℕ) → ArePlaced s y placed → AgreeFromPositions s x y before ps
     → position_size (runs placed.present) ≡ position_size (present_runs (x.stream 0))
 present_size s x y placed before ps are t = ap position_size are.present_is ∙ runs_alike (get_or t.places.first 0 0) (present_runs (y.stream 0)) (present_runs (x.stream 0)) t.present_same
 
-pub counted : (s : Shape) (x y : Streams) (placed : PlacedStreams) (before : List Cell) (ps : List ℕ) → ArePlaced s y placed → AgreeFromPlaces s x y before ps
+pub counted : (s : Shape) (x y : Streams) (placed : PlacedStreams) (before : List Cell) (ps : List ℕ) → ArePlaced s y placed → AgreeFromPositions s x y before ps
     → length ps ≡ position_size (runs placed.present) + (octets_size (lent_bytes placed.content) + position_size (runs placed.own))
 counted s x y placed before ps are t =
     let present = present_size s x y placed before ps are t in
-    let content : octets_size (lent_bytes placed.content) ≡ octets_size (own_octets s x) = ap octets_size are.content_is ∙ octets_alike (octets before) (own_octets s y) (own_octets s x) t.content_same in
-    let own : position_size (runs placed.own) ≡ position_size (own_runs s x) = ap position_size are.own_is ∙ runs_alike (get_or t.places.last 0 0) (own_runs s y) (own_runs s x) t.own_same in
-    omega (arith, present, content, own, places_count (present_runs (x.stream 0)) (own_octets s x) (own_runs s x) before ps t.places)
+    let content : octets_size (lent_bytes placed.content) ≡ octets_size (value_bytes s x) = ap octets_size are.content_is ∙ octets_alike (octets before) (value_bytes s y) (value_bytes s x) t.content_same in
+    let own : position_size (runs placed.own) ≡ position_size (value_runs s x) = ap position_size are.own_is ∙ runs_alike (get_or t.places.last 0 0) (value_runs s y) (value_runs s x) t.own_same in
+    omega (arith, present, content, own, places_count (present_runs (x.stream 0)) (value_bytes s x) (value_runs s x) before ps t.places)
 
 -- ---- marks
 
@@ -81,11 +81,11 @@ pub record AtPresent (x y : Streams) (before : List Cell) (first : List ℕ) : T
   pub place : IsPosition reader (present_runs (x.stream 0)) (length before) first
   pub agree : RunsAgree (get_or first 0 0) (present_runs (y.stream 0)) (present_runs (x.stream 0))
 
-pub at_present : (s : Shape) (x y : Streams) (before : List Cell) (ps first : List ℕ) (size : ℕ) → size ≡ position_size (present_runs (x.stream 0)) → first ≡ take size ps → AgreeFromPlaces s x y before ps → AtPresent x y before first
+pub at_present : (s : Shape) (x y : Streams) (before : List Cell) (ps first : List ℕ) (size : ℕ) → size ≡ position_size (present_runs (x.stream 0)) → first ≡ take size ps → AgreeFromPositions s x y before ps → AtPresent x y before first
 at_present s x y before ps first size e cut t =
-    let same : t.places.first ≡ first = front_is (present_runs (x.stream 0)) (own_octets s x) (own_runs s x) before ps size e t.places ∙ sym cut in
+    let same : t.places.first ≡ first = front_is (present_runs (x.stream 0)) (value_bytes s x) (value_runs s x) before ps size e t.places ∙ sym cut in
     record {
-      place = subst (λ (f : List ℕ). IsPosition reader (present_runs (x.stream 0)) (length before) f) same t.places.present_place;
+      place = subst (λ (f : List ℕ). IsPosition reader (present_runs (x.stream 0)) (length before) f) same t.places.present_position;
       agree = subst (λ (f : List ℕ). RunsAgree (get_or f 0 0) (present_runs (y.stream 0)) (present_runs (x.stream 0))) same t.present_same;
     }
 
@@ -105,7 +105,7 @@ marks_never x y stream first before after e at never marks =
 pub own_turns : (s : Shape) (x y : Streams) (before after : List Cell) (ps : List ℕ) (t : Turns s x y before after ps) → OwnTurns s x y before after t.agree.places.last
 own_turns s x y before after ps t = record {
   spelled = subst (SpellsValues s x) (values-append before after) t.spelled.spelled;
-  place = t.agree.places.own_place;
+  place = t.agree.places.value_position;
   encoded = t.agree.encoded;
   there = (column_there s x (before ++ after) before after refl t.spelled).in_content;
   content_same = t.agree.content_same;
@@ -113,6 +113,6 @@ own_turns s x y before after ps t = record {
   dictionary_same = t.agree.dictionary_same;
 }
 
-pub own_positions : (s : Shape) (x y : Streams) (before : List Cell) (ps last : List ℕ) (size : ℕ) → size ≡ position_size (present_runs (x.stream 0)) → last ≡ drop size ps → (t : AgreeFromPlaces s x y before ps)
-    → last ≡ octets_place (own_octets s x) (octets before) ++ t.places.last
-own_positions s x y before ps last size e cut t = cut ∙ back_is (present_runs (x.stream 0)) (own_octets s x) (own_runs s x) before ps size e t.places
+pub own_positions : (s : Shape) (x y : Streams) (before : List Cell) (ps last : List ℕ) (size : ℕ) → size ≡ position_size (present_runs (x.stream 0)) → last ≡ drop size ps → (t : AgreeFromPositions s x y before ps)
+    → last ≡ octets_position (value_bytes s x) (octets before) ++ t.places.last
+own_positions s x y before ps last size e cut t = cut ∙ back_is (present_runs (x.stream 0)) (value_bytes s x) (value_runs s x) before ps size e t.places

@@ -29,8 +29,8 @@ use Rattle.orc_column_reader.specs.declared.fault.StripeFault.{StripeFault}
 use Rattle.orc_column_reader.specs.declared.numbers.Numbers.{Numbers}
 use Rattle.orc_column_reader.proofs.FirstLemmas.{nothing_first}
 use Rattle.orc_column_reader.proofs.NumbersLemmas.{laws_of}
-use Rattle.orc_row_index.specs.Places.{octets, octets_place, position_size}
-use Rattle.orc_row_index.specs.RunStreams.{RunStream, no_stream, bit_runs, byte_runs, number_runs, present_runs, text_runs, own_runs, own_octets, text_octets}
+use Rattle.orc_row_index.specs.Positions.{octets, octets_position, position_size}
+use Rattle.orc_row_index.specs.RunStreams.{RunStream, no_stream, bit_runs, byte_runs, number_runs, present_runs, text_runs, value_runs, value_bytes, text_octets}
 use Rattle.orc_group_reader.specs.Behind.{LeadsTo, LeadsToBit, LeadsIn, GroupsBegin, TextsBegin, SizesBegin, IsBehind}
 use Rattle.orc_group_reader.specs.Columns.{CutsOctets, IsCut, IsSource, HasEntries, EntriesOf}
 use Rattle.orc_group_reader.specs.ReadersAt.{StreamAt, MarksAt, ColumnAt, ReadersAt}
@@ -125,8 +125,8 @@ sizes_behind x count lengths sizes source h long same begin room =
       room = room;
     }
 
-scalar_behind : (t : Scalar) (o : List ℕ) (x : Streams) (vs : List Cell) (n : ℕ) (last : List ℕ) (own : Entered) (rest : List ℕ) (source : ValueSource) → StreamAt (own_runs (scalar t o) x) last own → IsSource own rest source → IsCut (own_octets (scalar t o) x) n rest
-    → LeadsIn (own_runs (scalar t o) x) (length vs) last → EntriesOf (scalar t o) x source.entries → SizesBegin (scalar t o) x vs n → SourceBehind (scalar t o) x vs source
+scalar_behind : (t : Scalar) (o : List ℕ) (x : Streams) (vs : List Cell) (n : ℕ) (last : List ℕ) (own : Entered) (rest : List ℕ) (source : ValueSource) → StreamAt (value_runs (scalar t o) x) last own → IsSource own rest source → IsCut (value_bytes (scalar t o) x) n rest
+    → LeadsIn (value_runs (scalar t o) x) (length vs) last → EntriesOf (scalar t o) x source.entries → SizesBegin (scalar t o) x vs n → SourceBehind (scalar t o) x vs source
 scalar_behind kind.Boolean o x vs n last own rest source h is cut p has begin = bits_source (x.stream 1) last own rest (length vs) source h is p
 scalar_behind kind.Byte o x vs n last own rest source h is cut p has begin = bytes_source (x.stream 1) last own rest (length vs) source h is p
 scalar_behind kind.Short o x vs n last own rest source h is cut p has begin = (numbers_source (version x) Signed (x.stream 1) last own rest (length vs) source h is p).0
@@ -136,8 +136,8 @@ scalar_behind kind.Date o x vs n last own rest source h is cut p has begin = (nu
 scalar_behind kind.Binary o x vs n last own rest source h is cut p has begin = groups_behind x vs n rest source (numbers_source (version x) Unsigned (x.stream 2) last own rest (length vs) source h is p) cut begin
 scalar_behind kind.String o x vs n last own rest source h is cut p has begin = texts_behind (has_dictionary x) x vs n last own rest source h is cut p has begin
 
-source_behind : (s : Shape) (x : Streams) (vs : List Cell) (n : ℕ) (last : List ℕ) (own : Entered) (rest : List ℕ) (source : ValueSource) → StreamAt (own_runs s x) last own → IsSource own rest source → IsCut (own_octets s x) n rest
-    → LeadsIn (own_runs s x) (length vs) last → EntriesOf s x source.entries → source.room ≡ most_cells → SizesBegin s x vs n → SourceBehind s x vs source
+source_behind : (s : Shape) (x : Streams) (vs : List Cell) (n : ℕ) (last : List ℕ) (own : Entered) (rest : List ℕ) (source : ValueSource) → StreamAt (value_runs s x) last own → IsSource own rest source → IsCut (value_bytes s x) n rest
+    → LeadsIn (value_runs s x) (length vs) last → EntriesOf s x source.entries → source.room ≡ most_cells → SizesBegin s x vs n → SourceBehind s x vs source
 source_behind (scalar t o) x vs n last own rest source h is cut p has room begin = scalar_behind t o x vs n last own rest source h is cut p has begin
 source_behind (list_of s o) x vs n last own rest source h is cut p has room begin =
     sizes_behind x (length vs) (list_lengths vs) (map (λ v. size (parts v)) vs) source (numbers_source (version x) Unsigned (x.stream 2) last own rest (length vs) source h is p).0 (sym (length-map vs (λ v. length (parts v)))) (list_sizes vs) begin room
@@ -147,7 +147,7 @@ source_behind (struct_of fs o) x vs n last own rest source h is cut p has room b
 
 -- ---- a column
 
-cut_here : (content : Option (List ℕ)) (n : ℕ) (ps rest behind last : List ℕ) → CutsOctets content ps rest behind → ps ≡ octets_place content n ++ last → (behind ≡ last) × IsCut content n rest
+cut_here : (content : Option (List ℕ)) (n : ℕ) (ps rest behind last : List ℕ) → CutsOctets content ps rest behind → ps ≡ octets_position content n ++ last → (behind ≡ last) × IsCut content n rest
 cut_here None n ps rest behind last h e = (h ∙ e, tt)
 cut_here (Some b) n ps rest behind last h e =
     let same = heads h.0 n behind last (sym h.1 ∙ e) in
@@ -170,16 +170,16 @@ present_behind (x ∷ b) first k (Some bits) h p = bits_of (x ∷ b) first k bit
 
 column_behind : (s : Shape) (x : Streams) (m : ℕ) (before : List Cell) (ps : List ℕ) (reader : ColumnReader) → IsBehind s x before ps → ColumnAt s x m ps reader → ColumnBehind s x m before reader
 column_behind s x m before ps reader b at =
-    let behind : List ℕ = octets_place (own_octets s x) (octets before) ++ b.last in
-    let size : refusals.present_size x ≡ length b.first = sym (place_long (present_runs (x.stream 0)) (length before) b.first b.present_place) in
+    let behind : List ℕ = octets_position (value_bytes s x) (octets before) ++ b.last in
+    let size : refusals.present_size x ≡ length b.first = sym (place_long (present_runs (x.stream 0)) (length before) b.first b.present_position) in
     let front : take (refusals.present_size x) ps ≡ b.first = ap (take (refusals.present_size x)) b.parts ∙ ap (λ (n : ℕ). take n (b.first ++ behind)) size ∙ take-append_seam b.first behind in
     let back : drop (refusals.present_size x) ps ≡ behind = ap (drop (refusals.present_size x)) b.parts ∙ ap (λ (n : ℕ). drop n (b.first ++ behind)) size ∙ drop-append_seam b.first behind in
     let source = at.source in
-    let cut = cut_here (own_octets s x) (octets before) (drop (refusals.present_size x) ps) source.rest source.last b.last source.cut back in
+    let cut = cut_here (value_bytes s x) (octets before) (drop (refusals.present_size x) ps) source.rest source.last b.last source.cut back in
     record {
-      marks = present_behind (x.stream 0) b.first (length before) reader.present (subst (λ (t : List ℕ). MarksAt (x.stream 0) t reader.present) front at.marks) b.present_place;
+      marks = present_behind (x.stream 0) b.first (length before) reader.present (subst (λ (t : List ℕ). MarksAt (x.stream 0) t reader.present) front at.marks) b.present_position;
       begin = b.marks;
-      source = source_behind s x (values before) (octets before) b.last source.own source.rest reader.source (subst (λ (t : List ℕ). StreamAt (own_runs s x) t source.own) cut.0 source.entered) source.source_is cut.1 b.own_place source.entries source.room
+      source = source_behind s x (values before) (octets before) b.last source.own source.rest reader.source (subst (λ (t : List ℕ). StreamAt (value_runs s x) t source.own) cut.0 source.entered) source.source_is cut.1 b.value_position source.entries source.room
           b.sizes;
       column = source.column;
     }

@@ -11,8 +11,8 @@ use Rattle.orc_column_reader.specs.Stripe.{Streams, version, version_at, has_dic
 use Rattle.orc_column_reader.specs.declared.entry.Entry.{Entry}
 use Rattle.orc_wire.specs.declared.encoding.Encoding.{Encoding}
 use Rattle.orc_wire.specs.EncodingKinds.{is_dictionary}
-use Rattle.orc_row_index.specs.Places.{IsPosition, reader, octets, octets_place}
-use Rattle.orc_row_index.specs.RunStreams.{RunStream, own_runs, own_octets}
+use Rattle.orc_row_index.specs.Positions.{IsPosition, reader, octets, octets_position}
+use Rattle.orc_row_index.specs.RunStreams.{RunStream, value_runs, value_bytes}
 use Rattle.orc_row_index.specs.Walking.{runs, lent_bytes, ArePlaced, HasOctets}
 use Rattle.orc_row_index.proofs.ColumnPlaces.{octets_of_values}
 use Rattle.orc_row_index.specs.declared.placed.PlacedStreams.{PlacedStreams}
@@ -23,7 +23,7 @@ use Rattle.orc_group_reader.proofs.SomeValues.{own_some}
 
 -- ---- bytes as they are
 
-pub cut_turned : (b a : Option (List ℕ)) (n : ℕ) (ps rest behind last : List ℕ) → OctetsAgree n b a → CutsOctets b ps rest behind → ps ≡ octets_place a n ++ last → (behind ≡ last) × IsCut a n rest
+pub cut_turned : (b a : Option (List ℕ)) (n : ℕ) (ps rest behind last : List ℕ) → OctetsAgree n b a → CutsOctets b ps rest behind → ps ≡ octets_position a n ++ last → (behind ≡ last) × IsCut a n rest
 cut_turned None None n ps rest behind last agree h e = (h ∙ e, tt)
 cut_turned None (Some d) n ps rest behind last agree h e = absurd agree
 cut_turned (Some d) None n ps rest behind last agree h e = absurd agree
@@ -34,7 +34,7 @@ cut_turned (Some b) (Some a) n ps rest behind last agree h e =
     heads : (o n : ℕ) (b l : List ℕ) → o ∷ b ≡ n ∷ l → (o ≡ n) × (b ≡ l)
     heads o n b l e = (cc, cc)
 
-pub cut_never : (b a : Option (List ℕ)) (n : ℕ) (ps last : List ℕ) → OctetsAgree n b a → HasOctets a n → ps ≡ octets_place a n ++ last → EndsBefore b ps → ⊥
+pub cut_never : (b a : Option (List ℕ)) (n : ℕ) (ps last : List ℕ) → OctetsAgree n b a → HasOctets a n → ps ≡ octets_position a n ++ last → EndsBefore b ps → ⊥
 cut_never None None n ps last agree there e h = h
 cut_never None (Some d) n ps last agree there e h = absurd agree
 cut_never (Some d) None n ps last agree there e h = absurd agree
@@ -94,21 +94,21 @@ dictionary_there (struct_of fs o) x y vs e same h none = none
 -- ---- the stream of runs
 
 pub record AtOwn (s : Shape) (x : Streams) (placed : PlacedStreams) (before : List Cell) (rest behind : List ℕ) : Type 0 where
-  pub cut : IsCut (own_octets s x) (octets (values before)) rest
-  pub place : IsPosition reader (own_runs s x) (length (values before)) behind
-  pub agree : RunsAgree (get_or behind 0 0) (runs placed.own) (own_runs s x)
+  pub cut : IsCut (value_bytes s x) (octets (values before)) rest
+  pub place : IsPosition reader (value_runs s x) (length (values before)) behind
+  pub agree : RunsAgree (get_or behind 0 0) (runs placed.own) (value_runs s x)
 
-pub at_own : (s : Shape) (x y : Streams) (placed : PlacedStreams) (before after : List Cell) (ps rest behind last : List ℕ) → ArePlaced s y placed → OwnTurns s x y before after last → ps ≡ octets_place (own_octets s x) (octets before) ++ last
+pub at_own : (s : Shape) (x y : Streams) (placed : PlacedStreams) (before after : List Cell) (ps rest behind last : List ℕ) → ArePlaced s y placed → OwnTurns s x y before after last → ps ≡ octets_position (value_bytes s x) (octets before) ++ last
     → CutsOctets (lent_bytes placed.content) ps rest behind → AtOwn s x placed before rest behind
 at_own s x y placed before after ps rest behind last are t e h =
-    let agree = subst (λ (c : Option (List ℕ)). OctetsAgree (octets before) c (own_octets s x)) (sym are.content_is) t.content_same in
-    let k = cut_turned (lent_bytes placed.content) (own_octets s x) (octets before) ps rest behind last agree h e in
+    let agree = subst (λ (c : Option (List ℕ)). OctetsAgree (octets before) c (value_bytes s x)) (sym are.content_is) t.content_same in
+    let k = cut_turned (lent_bytes placed.content) (value_bytes s x) (octets before) ps rest behind last agree h e in
     record {
-      cut = subst (λ (n : ℕ). IsCut (own_octets s x) n rest) (sym (octets_of_values before)) k.1;
-      place = subst (λ (p : List ℕ). IsPosition reader (own_runs s x) (length (values before)) p) (sym k.0) t.place;
-      agree = subst (λ (r : RunStream). RunsAgree (get_or behind 0 0) r (own_runs s x)) (sym are.own_is) (subst (λ (p : List ℕ). RunsAgree (get_or p 0 0) (own_runs s y) (own_runs s x)) (sym k.0) t.own_same);
+      cut = subst (λ (n : ℕ). IsCut (value_bytes s x) n rest) (sym (octets_of_values before)) k.1;
+      place = subst (λ (p : List ℕ). IsPosition reader (value_runs s x) (length (values before)) p) (sym k.0) t.place;
+      agree = subst (λ (r : RunStream). RunsAgree (get_or behind 0 0) r (value_runs s x)) (sym are.own_is) (subst (λ (p : List ℕ). RunsAgree (get_or p 0 0) (value_runs s y) (value_runs s x)) (sym k.0) t.own_same);
     }
 
 pub own_never : (s : Shape) (x y : Streams) (placed : PlacedStreams) (before after : List Cell) (rest behind last : List ℕ) → OwnTurns s x y before after last → AtOwn s x placed before rest behind → NeverEnters (runs placed.own) behind → ⊥
 own_never s x y placed before after rest behind last t at never =
-    never (own_runs s x) (length (values before)) at.place at.agree (own_some s x (values before ++ values after) (length (values before)) t.spelled (omega (arith, length-append (values before) (values after))))
+    never (value_runs s x) (length (values before)) at.place at.agree (own_some s x (values before ++ values after) (length (values before)) t.spelled (omega (arith, length-append (values before) (values after))))

@@ -5,8 +5,8 @@ use Rattle.orc_values.specs.Shapes.{Shape}
 use Rattle.orc_column_reader.specs.Stripe.{Streams, has_dictionary}
 use Rattle.orc_column_reader.specs.declared.fault.StreamKind.{StreamKind}
 use Rattle.orc_column_reader.specs.declared.fault.StripeFault.{StripeFault}
-use Rattle.orc_row_index.specs.Places.{octets_size, position_size}
-use Rattle.orc_row_index.specs.RunStreams.{RunStream, own_octets, kind_of_own}
+use Rattle.orc_row_index.specs.Positions.{octets_size, position_size}
+use Rattle.orc_row_index.specs.RunStreams.{RunStream, value_bytes, kind_of_values}
 use Rattle.orc_row_index.specs.Walking.{runs, lent_bytes, ArePlaced}
 use Rattle.orc_row_index.specs.declared.placed.PlacedStreams.{PlacedStreams}
 use Rattle.orc_group_reader.specs.Columns.{CutsOctets}
@@ -18,11 +18,11 @@ cut_rest : (content : Option (List ℕ)) (ps rest last : List ℕ) → CutsOctet
 cut_rest None ps rest last h = h
 cut_rest (Some b) ps rest last h = sym (ap (drop 1) h.1)
 
-pub runs_refused : (s : Shape) (x : Streams) (placed : PlacedStreams) (c : ℕ) (ps rest last : List ℕ) (k : StreamKind) (cause : RunFault) (f : StripeFault) → ArePlaced s x placed → k ≡ kind_of_own s (has_dictionary x)
+pub runs_refused : (s : Shape) (x : Streams) (placed : PlacedStreams) (c : ℕ) (ps rest last : List ℕ) (k : StreamKind) (cause : RunFault) (f : StripeFault) → ArePlaced s x placed → k ≡ kind_of_values s (has_dictionary x)
     → CutsOctets (lent_bytes placed.content) ps rest last → StreamFails (runs placed.own) last cause → IsEnteringFault c k cause f → OwnRefused s x c ps f
 runs_refused s x placed c ps rest last k cause f are e cut fails named =
-    let behind = cut_rest (own_octets s x) ps rest last (subst (λ (o : Option (List ℕ)). CutsOctets o ps rest last) are.content_is cut) in
-    let own = subst (λ (r : RunStream). StreamFails r (drop (octets_size (own_octets s x)) ps) cause) are.own_is (subst (λ (t : List ℕ). StreamFails (runs placed.own) t cause) behind fails) in
+    let behind = cut_rest (value_bytes s x) ps rest last (subst (λ (o : Option (List ℕ)). CutsOctets o ps rest last) are.content_is cut) in
+    let own = subst (λ (r : RunStream). StreamFails r (drop (octets_size (value_bytes s x)) ps) cause) are.own_is (subst (λ (t : List ℕ). StreamFails (runs placed.own) t cause) behind fails) in
     inr (inl (cause, own, subst (λ (j : StreamKind). IsEnteringFault c j cause f) e named))
 
 -- ---- the column

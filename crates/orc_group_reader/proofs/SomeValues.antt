@@ -7,7 +7,7 @@ use Rattle.orc_values.specs.declared.kind.Scalar.TheVariants as kind
 use Rattle.orc_column_reader.specs.Columns.{IsBool}
 use Rattle.orc_column_reader.specs.Spellings.{size}
 use Rattle.orc_column_reader.specs.Stripe.{Streams, has_dictionary, Marks, SpellsTexts, SpellsScalar, SpellsValues}
-use Rattle.orc_row_index.specs.RunStreams.{present_runs, text_runs, scalar_runs, own_runs}
+use Rattle.orc_row_index.specs.RunStreams.{present_runs, text_runs, scalar_runs, value_runs}
 use Rattle.orc_row_index.proofs.ColumnPlaces.{stand_long}
 use Rattle.orc_group_reader.specs.Streams.{HasSome}
 
@@ -29,7 +29,7 @@ scalar_some kind.Date x vs n h le = (h.0, h.2)
 scalar_some kind.String x vs n h le = texts_some (has_dictionary x) x vs n h
 scalar_some kind.Binary x vs n h le = (map size h.0, h.2.0)
 
-pub own_some : (s : Shape) (x : Streams) (vs : List Cell) (n : ℕ) → SpellsValues s x vs → n ≤ length vs → HasSome (own_runs s x) n
+pub own_some : (s : Shape) (x : Streams) (vs : List Cell) (n : ℕ) → SpellsValues s x vs → n ≤ length vs → HasSome (value_runs s x) n
 own_some (scalar k o) x vs n h le = scalar_some k x vs n h le
 own_some (list_of s o) x vs n h le = (map (λ v. size (parts v)) vs, h)
 own_some (map_of k v o) x vs n h le = (map (λ m. size (pairs_in m)) vs, h)

@@ -18,10 +18,10 @@ use Rattle.orc_values.specs.Shapes.{Shape, scalar, list_of, map_of, struct_of}
 use Rattle.orc_values.specs.declared.kind.Scalar.{Scalar}
 use Rattle.orc_values.specs.declared.kind.Scalar.TheVariants as kind
 use Rattle.orc_column_reader.specs.Columns.{entry_bytes, MarksFirst}
-use Rattle.orc_column_reader.specs.Faults.{RunsFail, MarksFail, NumbersFail, IntsFail, GroupsFail, WordsFail, TextsFail, ScalarFails, ListsFail, ValuesFail, data_of, indexes_of, lengths_of}
+use Rattle.orc_column_reader.specs.Faults.{RunsFail, MarksFail, NumbersFail, IntsFail, StringsFail, IndexesFail, TextsFail, ScalarFails, ListsFail, ValuesFail, data_of, indexes_of, lengths_of}
 use Rattle.orc_column_reader.specs.Needs.{MarksBegin}
 use Rattle.orc_column_reader.specs.Numbers.{is_run, NumbersFirst}
-use Rattle.orc_column_reader.specs.ReaderFaults.{Pass, IntsMeet, GroupsMeet, TextMeets, WordsMeet, TextsMeet, ScalarMeets, ListsMeet, ValuesMeet}
+use Rattle.orc_column_reader.specs.ReaderFaults.{Pass, IntsMeet, StringsMeet, TextMeets, IndexesMeet, TextsMeet, ScalarMeets, ListsMeet, ValuesMeet}
 use Rattle.orc_column_reader.specs.RunFaults.{Always, IntegersFirst, AreIntegers, IntegersFail, BoolsFail, no_run}
 use Rattle.orc_column_reader.specs.RunsMet.{NumbersMeet, BytesMeet, BitsMeet, MarksMeet}
 use Rattle.orc_column_reader.specs.Spellings.{size, joined}
@@ -162,8 +162,8 @@ joined_both : (a b : List (List ℕ)) → joined (a ++ b) ≡ joined a ++ joined
 joined_both [] b = refl
 joined_both (g ∷ a) b = ap (λ (t : List ℕ). g ++ t) (joined_both a b) ∙ sym (append_assoc g (joined a) (joined b))
 
-groups_met : (x : Streams) (k : ℕ) (source : ValueSource) (m : ℕ) (all : Bool) (n : ℕ) (f : StripeFault) → GroupsBehind x k source → source.column ≡ m → GroupsMeet stream.Data source.numbers source.octets all n source.column f
-    → GroupsFail stream.Data (lengths_of x) all (k + n) (x.stream 1) m f
+groups_met : (x : Streams) (k : ℕ) (source : ValueSource) (m : ℕ) (all : Bool) (n : ℕ) (f : StripeFault) → GroupsBehind x k source → source.column ≡ m → StringsMeet stream.Data source.numbers source.octets all n source.column f
+    → StringsFail stream.Data (lengths_of x) all (k + n) (x.stream 1) m f
 groups_met x k source m all n f b e (inl h) = inl (numbers_fail stream.Length (version x) Unsigned (x.stream 2) k source.numbers source.column m all n f b.numbers e h)
 groups_met x k source m all n f b e (inr (is, inl p)) =
     let long : length (x.stream 1) ≡ length (joined b.groups) + length source.octets.rest.now = omega (arith, ap length b.content, length-append (joined b.groups) source.octets.rest.now) in
@@ -187,8 +187,8 @@ text_met x k source m all n f b e (inr (is, h)) =
     b.content ∙ ap (λ (t : List ℕ). joined b.groups ++ t) h.3 ∙ sym (append_assoc (joined b.groups) (joined h.0) h.1) ∙ ap (λ (t : List ℕ). t ++ h.1) (sym (joined_both b.groups h.0)) in
     inr (is ∙ ap (λ (i : ℕ). fault.NotUtf8 i stream.Data) e, (b.groups ++ h.0, h.1, first, parts, λ every. h.4 (all_back _ b.groups h.0 every)))
 
-words_met : (x : Streams) (entries : List (List ℕ)) (k : ℕ) (r : Numbers) (c m : ℕ) (all : Bool) (n : ℕ) (f : StripeFault) → IsDictionary x entries → NumbersBehind (version x) Unsigned (x.stream 1) k r → c ≡ m → WordsMeet entries r all n c f
-    → WordsFail x all (k + n) m f
+words_met : (x : Streams) (entries : List (List ℕ)) (k : ℕ) (r : Numbers) (c m : ℕ) (all : Bool) (n : ℕ) (f : StripeFault) → IsDictionary x entries → NumbersBehind (version x) Unsigned (x.stream 1) k r → c ≡ m → IndexesMeet entries r all n c f
+    → IndexesFail x all (k + n) m f
 words_met x entries k r c m all n f d b e (inl h) = inl (numbers_fail stream.Data (version x) Unsigned (x.stream 1) k r c m all n f b e h)
 words_met x entries k r c m all n f d b e (inr (inl h)) =
     inr (inl (h.0 ∙ ap (λ (i : ℕ). fault.BadIndex i) e, subst (λ (i : ℕ). NotAll (is_index i) (IntegersFirst (indexes_of x))) d.counted (not_all (is_index (length entries)) (version x) Unsigned (x.stream 1) k r b h.1)))

@@ -12,7 +12,7 @@ use Rattle.orc_column_reader.specs.declared.numbers.Numbers.{Numbers}
 use Rattle.orc_column_reader.specs.Bits.{BitsLeft}
 use Rattle.orc_column_reader.specs.Bytes.{BytesLeft}
 use Rattle.orc_column_reader.specs.Numbers.{is_run, NumbersLeft}
-use Rattle.orc_row_index.specs.Places.{RunPlace, BitPlace}
+use Rattle.orc_row_index.specs.Positions.{RunPosition, BitsPosition}
 use Rattle.orc_row_index.specs.RunStreams.{no_stream, bit_runs, byte_runs, number_runs}
 use Rattle.orc_group_reader.specs.Entering.{AgreeFrom, EntersRuns, EntersBits}
 use Rattle.orc_group_reader.specs.Streams.{Enters, NeverEnters}
@@ -26,7 +26,7 @@ same_three : (o s b p t c : ℕ) → o ∷ s ∷ b ∷ [] ≡ p ∷ t ∷ c ∷ 
 same_three o s b p t c e = (cc, cc, cc)
 
 -- a position of a stream of runs, by the numbers that it was made of
-run_at : {A : Type 0} (R : List ℕ → List A → Type 0) (bytes other ps : List ℕ) (o s n : ℕ) → ps ≡ o ∷ s ∷ [] → RunPlace (Begins R other) n ps → AgreeFrom (get_or ps 0 0) bytes other
+run_at : {A : Type 0} (R : List ℕ → List A → Type 0) (bytes other ps : List ℕ) (o s n : ℕ) → ps ≡ o ∷ s ∷ [] → RunPosition (Begins R other) n ps → AgreeFrom (get_or ps 0 0) bytes other
     → Begins R other o s n × AgreeFrom o bytes other
 run_at R bytes other ps o s n e h agree =
     let same = same_two o s h.0 h.1 (sym e ∙ h.2) in
@@ -35,7 +35,7 @@ run_at R bytes other ps o s n e h agree =
       subst (λ (k : ℕ). AgreeFrom k bytes other) first agree,
     )
 
-bit_at : (bytes other ps : List ℕ) (o s b n total : ℕ) → ps ≡ o ∷ s ∷ b ∷ [] → n ≤ total → BitPlace (BeginsBits other n) n ps → AgreeFrom (get_or ps 0 0) bytes other → BeginsBits other total o s b n × AgreeFrom o bytes other
+bit_at : (bytes other ps : List ℕ) (o s b n total : ℕ) → ps ≡ o ∷ s ∷ b ∷ [] → n ≤ total → BitsPosition (BeginsBits other n) n ps → AgreeFrom (get_or ps 0 0) bytes other → BeginsBits other total o s b n × AgreeFrom o bytes other
 bit_at bytes other ps o s b n total e le h agree =
     let same = same_three o s b h.0 h.1 h.2 (sym e ∙ h.3) in
     let first : get_or ps 0 0 ≡ o = ap (λ (t : List ℕ). get_or t 0 0) e in
@@ -52,7 +52,7 @@ numbers_enter v t bytes ps o s r e enters no_stream n h agree = absurd agree
 numbers_enter v t bytes ps o s r e enters (bit_runs b) n h agree = absurd agree
 numbers_enter v t bytes ps o s r e enters (byte_runs b) n h agree = absurd agree
 numbers_enter v t bytes ps o s r e enters (number_runs w u b) n h agree = λ all stream.
-    let place = subst (λ (k : Rle). RunPlace (Begins (is_run k t) b) n ps) (sym agree.0) (subst (λ (k : Sign). RunPlace (Begins (is_run w k) b) n ps) (sym agree.1) h) in
+    let place = subst (λ (k : Rle). RunPosition (Begins (is_run k t) b) n ps) (sym agree.0) (subst (λ (k : Sign). RunPosition (Begins (is_run w k) b) n ps) (sym agree.1) h) in
     let is = subst (λ (k : Rle). IsStream (is_run k t) b all) (sym agree.0) (subst (λ (k : Sign). IsStream (is_run w k) b all) (sym agree.1) stream) in
     let at = run_at (is_run v t) bytes b ps o s n e place agree.2 in
     enters b all n at.0 is at.1
@@ -62,7 +62,7 @@ numbers_never v t bytes ps o s e enters no_stream n h agree has = absurd agree
 numbers_never v t bytes ps o s e enters (bit_runs b) n h agree has = absurd agree
 numbers_never v t bytes ps o s e enters (byte_runs b) n h agree has = absurd agree
 numbers_never v t bytes ps o s e enters (number_runs w u b) n h agree has =
-    let place = subst (λ (k : Rle). RunPlace (Begins (is_run k t) b) n ps) (sym agree.0) (subst (λ (k : Sign). RunPlace (Begins (is_run w k) b) n ps) (sym agree.1) h) in
+    let place = subst (λ (k : Rle). RunPosition (Begins (is_run k t) b) n ps) (sym agree.0) (subst (λ (k : Sign). RunPosition (Begins (is_run w k) b) n ps) (sym agree.1) h) in
     let is = subst (λ (k : Rle). IsStream (is_run k t) b has.0) (sym agree.0) (subst (λ (k : Sign). IsStream (is_run w k) b has.0) (sym agree.1) has.1) in
     let at = run_at (is_run v t) bytes b ps o s n e place agree.2 in
     enters b has.0 n at.0 is at.1

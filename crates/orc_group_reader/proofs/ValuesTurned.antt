@@ -14,9 +14,9 @@ use Rattle.orc_values.specs.declared.kind.Scalar.{Scalar}
 use Rattle.orc_values.specs.declared.kind.Scalar.TheVariants as kind
 use Rattle.orc_column_reader.specs.Bits.{BitsLeft}
 use Rattle.orc_column_reader.specs.Bytes.{BytesLeft}
-use Rattle.orc_column_reader.specs.Columns.{IsBool, IsByte, IsInt, IsDate, IsText, IsBinary, IsWord, entry_bytes, GroupsLeft, TextsLeft, ScalarLeft}
+use Rattle.orc_column_reader.specs.Columns.{IsBool, IsByte, IsInt, IsDate, IsText, IsBinary, IsEntry, entry_bytes, StringsLeft, TextsLeft, ScalarLeft}
 use Rattle.orc_column_reader.specs.Numbers.{NumbersLeft, AreNumbers}
-use Rattle.orc_column_reader.specs.Spellings.{AllStand, Standing, Grouped, joined, size}
+use Rattle.orc_column_reader.specs.Spellings.{AllStand, Standing, Sized, joined, size}
 use Rattle.orc_column_reader.specs.Stripe.{Streams, version, has_dictionary, Is, SpellsTexts, SpellsScalar, SpellsValues, most_cells}
 use Rattle.orc_column_reader.specs.declared.entry.Entry.{Entry}
 use Rattle.orc_column_reader.specs.declared.column.ValueSource.{ValueSource}
@@ -24,8 +24,8 @@ use Rattle.orc_column_reader.specs.declared.bits.Bits.{Bits}
 use Rattle.orc_column_reader.specs.declared.bytes.RunLengthBytes.{RunLengthBytes}
 use Rattle.orc_column_reader.specs.declared.numbers.Numbers.{Numbers}
 use Rattle.orc_column_reader.proofs.OneRows.{one_dictionary}
-use Rattle.orc_row_index.specs.Places.{octets_in, octets}
-use Rattle.orc_row_index.specs.RunStreams.{bit_runs, byte_runs, number_runs, scalar_runs, own_runs, text_runs, scalar_octets, own_octets, text_octets}
+use Rattle.orc_row_index.specs.Positions.{octets_in, octets}
+use Rattle.orc_row_index.specs.RunStreams.{bit_runs, byte_runs, number_runs, scalar_runs, value_runs, text_runs, scalar_octets, value_bytes, text_octets}
 use Rattle.orc_row_index.proofs.ColumnPlaces.{stand_long}
 use Rattle.orc_group_reader.specs.Columns.{IsSource, IsCut, HasEntries, ScalarEntries, EntriesOf, OwnValuesLeft}
 use Rattle.orc_group_reader.specs.Streams.{LeftFrom}
@@ -104,7 +104,7 @@ rest_of (entered.Numbers r) rest source h = h.1
 
 groups_turned : (stands : List ℕ → Cell → Type 0) → ((t : List ℕ) (c : Cell) → stands t c → octets_in c ≡ length t) → (x : Streams) (content : List ℕ) (b a : List Cell) (own : Entered) (source : ValueSource) (rest : List ℕ)
     → LeftFrom (number_runs (version x) Unsigned (x.stream 2)) (length b) own → IsSource own rest source → rest ≡ drop (octets b) content
-    → Standing stands (Grouped (AreNumbers (version x) Unsigned (x.stream 2)) (Is content)) (b ++ a) → Standing stands (GroupsLeft source) a
+    → Standing stands (Sized (AreNumbers (version x) Unsigned (x.stream 2)) (Is content)) (b ++ a) → Standing stands (StringsLeft source) a
 groups_turned stands long x content b a own source rest left is from h =
     let n = length b in
     let sizes = subst (NumbersLeft source.numbers) (drop-map size n h.0) (numbers_left x Unsigned (x.stream 2) n own source rest (map size h.0) left is h.2.0) in
@@ -124,8 +124,8 @@ texts_turned : (d : Bool) (x : Streams) (b a : List Cell) (own : Entered) (sourc
     → HasEntries d x entries → IsCut (text_octets d x) (octets b) rest → SpellsTexts x d (b ++ a) → TextsLeft entries source a
 texts_turned true x b a own source rest (Some entries) left is has from h =
     let same = one_dictionary x h.0 (map entry_bytes entries.items) h.1 has in
-    numbers_turned (IsWord (map entry_bytes entries.items)) x Unsigned (x.stream 1) b a own source rest left is
-    (subst (λ (es : List (List ℕ)). Standing (IsWord es) (AreNumbers (version x) Unsigned (x.stream 1)) (b ++ a)) same h.2)
+    numbers_turned (IsEntry (map entry_bytes entries.items)) x Unsigned (x.stream 1) b a own source rest left is
+    (subst (λ (es : List (List ℕ)). Standing (IsEntry es) (AreNumbers (version x) Unsigned (x.stream 1)) (b ++ a)) same h.2)
 texts_turned true x b a own source rest None left is has from h = absurd has
 texts_turned false x b a own source rest (Some entries) left is has from h = absurd has
 texts_turned false x b a own source rest None left is has from h = groups_turned IsText text_long x (x.stream 1) b a own source rest left is from h
@@ -143,8 +143,8 @@ scalar_turned kind.Date x b a own source rest left is has from h = numbers_turne
 scalar_turned kind.Binary x b a own source rest left is has from h = groups_turned IsBinary binary_long x (x.stream 1) b a own source rest left is from h
 scalar_turned kind.String x b a own source rest left is has from h = texts_turned (has_dictionary x) x b a own source rest source.entries left is has from h
 
-pub values_turned : (s : Shape) (x : Streams) (b a : List Cell) (own : Entered) (source : ValueSource) (rest : List ℕ) → LeftFrom (own_runs s x) (length b) own → IsSource own rest source → EntriesOf s x source.entries
-    → IsCut (own_octets s x) (octets b) rest → source.room ≡ most_cells → SpellsValues s x (b ++ a) → OwnValuesLeft s source a
+pub values_turned : (s : Shape) (x : Streams) (b a : List Cell) (own : Entered) (source : ValueSource) (rest : List ℕ) → LeftFrom (value_runs s x) (length b) own → IsSource own rest source → EntriesOf s x source.entries
+    → IsCut (value_bytes s x) (octets b) rest → source.room ≡ most_cells → SpellsValues s x (b ++ a) → OwnValuesLeft s source a
 values_turned (scalar k o) x b a own source rest left is has from room h = scalar_turned k x b a own source rest left is has from h
 values_turned (list_of s o) x b a own source rest left is has from room h = (
   subst (NumbersLeft source.numbers) (drop_mapped (λ v. size (parts v)) b a) (numbers_left x Unsigned (x.stream 2) (length b) own source rest (map (λ v. size (parts v)) (b ++ a)) left is h),

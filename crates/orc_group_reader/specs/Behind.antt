@@ -12,8 +12,8 @@ use Rattle.orc_column_reader.specs.Numbers.{is_run}
 use Rattle.orc_column_reader.specs.RunFaults.{IntegersFirst}
 use Rattle.orc_column_reader.specs.Spellings.{size, joined}
 use Rattle.orc_column_reader.specs.Stripe.{Streams, has_dictionary, in_present, in_data}
-use Rattle.orc_row_index.specs.Places.{RunPlace, BitPlace, octets, octets_place}
-use Rattle.orc_row_index.specs.RunStreams.{RunStream, no_stream, bit_runs, byte_runs, number_runs, present_runs, own_runs, own_octets}
+use Rattle.orc_row_index.specs.Positions.{RunPosition, BitsPosition, octets, octets_position}
+use Rattle.orc_row_index.specs.RunStreams.{RunStream, no_stream, bit_runs, byte_runs, number_runs, present_runs, value_runs, value_bytes}
 
 -- The position leads to value n, whatever comes then: its offset is that of a run's start, or the stream's length, and
 -- the values before it and those that are passed from there make n.
@@ -36,9 +36,9 @@ pub record LeadsToBit (bytes : List ℕ) (offset skip bits n : ℕ) : Type 0 whe
 -- the position leads to value n of the stream
 abbrev pub LeadsIn : RunStream → ℕ → List ℕ → Type 0
 LeadsIn no_stream n positions = positions ≡ []
-LeadsIn (bit_runs stream) n positions = BitPlace (LeadsToBit stream) n positions
-LeadsIn (byte_runs stream) n positions = RunPlace (LeadsTo IsByteRun stream) n positions
-LeadsIn (number_runs version sign stream) n positions = RunPlace (LeadsTo (is_run version sign) stream) n positions
+LeadsIn (bit_runs stream) n positions = BitsPosition (LeadsToBit stream) n positions
+LeadsIn (byte_runs stream) n positions = RunPosition (LeadsTo IsByteRun stream) n positions
+LeadsIn (number_runs version sign stream) n positions = RunPosition (LeadsTo (is_run version sign) stream) n positions
 
 -- as many groups of bytes come first in LENGTH and DATA as there are values, and so many bytes in these
 abbrev pub GroupsBegin : Streams → List Cell → ℕ → Type 0
@@ -72,8 +72,8 @@ SizesBegin (struct_of fs o) x vs count = Unit {0}
 pub record IsBehind (s : Shape) (x : Streams) (before : List Cell) (positions : List ℕ) : Type 0 where
   pub first : List ℕ
   pub last : List ℕ
-  pub parts : positions ≡ first ++ (octets_place (own_octets s x) (octets before) ++ last)
-  pub present_place : LeadsIn (present_runs (in_present x)) (length before) first
-  pub own_place : LeadsIn (own_runs s x) (length (values before)) last
+  pub parts : positions ≡ first ++ (octets_position (value_bytes s x) (octets before) ++ last)
+  pub present_position : LeadsIn (present_runs (in_present x)) (length before) first
+  pub value_position : LeadsIn (value_runs s x) (length (values before)) last
   pub marks : MarksBegin (in_present x) (map is_value before)
   pub sizes : SizesBegin s x (values before) (octets before)

@@ -14,9 +14,9 @@ use Rattle.orc_column_reader.specs.declared.bits.Bits.{Bits}
 use Rattle.orc_column_reader.specs.declared.column.ColumnReader.{ColumnReader}
 use Rattle.orc_column_reader.specs.declared.entry.Entry.{Entry}
 use Rattle.orc_column_reader.specs.declared.column.ValueSource.{ValueSource}
-use Rattle.orc_row_index.specs.Places.{AreReadPlaces, IsPosition, reader, octets}
+use Rattle.orc_row_index.specs.Positions.{AreReadPositions, IsPosition, reader, octets}
 use Rattle.orc_row_index.specs.Walking.{HasOctets}
-use Rattle.orc_row_index.specs.RunStreams.{bit_runs, present_runs, own_runs, own_octets}
+use Rattle.orc_row_index.specs.RunStreams.{bit_runs, present_runs, value_runs, value_bytes}
 use Rattle.orc_group_reader.specs.Entering.{AgreeFrom}
 use Rattle.orc_group_reader.specs.Streams.{RunsAgree, Enters}
 use Rattle.orc_group_reader.specs.declared.entered.Entered.{Entered}
@@ -73,27 +73,27 @@ OctetsAgree offset (Some a) (Some b) = AgreeFrom offset a b
 
 -- These positions are right in streams x behind some cells, and streams y are the same from the positions'
 -- offsets on, and have the same encoding and dictionary.
-pub record AgreeFromPlaces (s : Shape) (x y : Streams) (before : List Cell) (positions : List ℕ) : Type 0 where
-  pub places : AreReadPlaces s x before positions
+pub record AgreeFromPositions (s : Shape) (x y : Streams) (before : List Cell) (positions : List ℕ) : Type 0 where
+  pub places : AreReadPositions s x before positions
   pub encoded : y.encoding ≡ x.encoding
   pub present_same : RunsAgree (get_or places.first 0 0) (present_runs (in_present y)) (present_runs (in_present x))
-  pub content_same : OctetsAgree (octets before) (own_octets s y) (own_octets s x)
-  pub own_same : RunsAgree (get_or places.last 0 0) (own_runs s y) (own_runs s x)
+  pub content_same : OctetsAgree (octets before) (value_bytes s y) (value_bytes s x)
+  pub own_same : RunsAgree (get_or places.last 0 0) (value_runs s y) (value_runs s x)
   pub dictionary_same : has_dictionary x ≡ true → (in_length y ≡ in_length x) × (in_dictionary y ≡ in_dictionary x)
 
 -- Streams y are entered at these positions, behind some cells of those that x spells.
 pub record Turns (s : Shape) (x y : Streams) (before after : List Cell) (positions : List ℕ) : Type 0 where
   pub spelled : IsColumn s x (before ++ after)
-  pub agree : AgreeFromPlaces s x y before positions
+  pub agree : AgreeFromPositions s x y before positions
 
 -- the same of its streams beside PRESENT
 pub record OwnTurns (s : Shape) (x y : Streams) (before after : List Cell) (last : List ℕ) : Type 0 where
   pub spelled : SpellsValues s x (values before ++ values after)
-  pub place : IsPosition reader (own_runs s x) (length (values before)) last
+  pub place : IsPosition reader (value_runs s x) (length (values before)) last
   pub encoded : y.encoding ≡ x.encoding
-  pub there : HasOctets (own_octets s x) (octets before)
-  pub content_same : OctetsAgree (octets before) (own_octets s y) (own_octets s x)
-  pub own_same : RunsAgree (get_or last 0 0) (own_runs s y) (own_runs s x)
+  pub there : HasOctets (value_bytes s x) (octets before)
+  pub content_same : OctetsAgree (octets before) (value_bytes s y) (value_bytes s x)
+  pub own_same : RunsAgree (get_or last 0 0) (value_runs s y) (value_runs s x)
   pub dictionary_same : has_dictionary x ≡ true → (in_length y ≡ in_length x) × (in_dictionary y ≡ in_dictionary x)
 
 -- what is left of the values of a column's own streams: of lists their lengths, of maps how many pairs they have,

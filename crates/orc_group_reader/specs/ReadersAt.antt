@@ -13,7 +13,7 @@ use Rattle.orc_column_reader.specs.declared.bytes.RunLengthBytes.{RunLengthBytes
 use Rattle.orc_column_reader.specs.declared.column.ColumnReader.{ColumnReader}
 use Rattle.orc_column_reader.specs.declared.column.ValueSource.{ValueSource}
 use Rattle.orc_column_reader.specs.declared.numbers.Numbers.{Numbers}
-use Rattle.orc_row_index.specs.RunStreams.{RunStream, no_stream, bit_runs, byte_runs, number_runs, own_runs, own_octets}
+use Rattle.orc_row_index.specs.RunStreams.{RunStream, no_stream, bit_runs, byte_runs, number_runs, value_runs, value_bytes}
 use Rattle.orc_group_reader.specs.Columns.{CutsOctets, IsSource, EntriesOf}
 use Rattle.orc_group_reader.specs.Refusals.{present_size, positions_size}
 use Rattle.orc_group_reader.specs.RunsPassed.{IsLastRun}
@@ -73,8 +73,8 @@ pub record SourceAt (s : Shape) (x : Streams) (c : ℕ) (positions : List ℕ) (
   pub own : Entered
   pub rest : List ℕ
   pub last : List ℕ
-  pub cut : CutsOctets (own_octets s x) positions rest last
-  pub entered : StreamAt (own_runs s x) last own
+  pub cut : CutsOctets (value_bytes s x) positions rest last
+  pub entered : StreamAt (value_runs s x) last own
   pub source_is : IsSource own rest source
   pub entries : EntriesOf s x source.entries
   pub room : source.room ≡ most_cells

@@ -5,7 +5,7 @@ use Rattle.orc_rle.specs.Seeking.{SeekFails, BitSeekFails}
 use Rattle.orc_rle.specs.declared.fault.RunFault.{RunFault}
 use Rattle.orc_rle.specs.declared.fault.RunFault.TheVariants as run
 use Rattle.orc_values.specs.Shapes.{Shape}
-use Rattle.orc_column_reader.specs.Faults.{WordsOfFail}
+use Rattle.orc_column_reader.specs.Faults.{DictionaryFails}
 use Rattle.orc_column_reader.specs.Numbers.{is_run}
 use Rattle.orc_column_reader.specs.RunFaults.{no_run}
 use Rattle.orc_column_reader.specs.Stripe.{Streams, has_dictionary, in_present}
@@ -14,8 +14,8 @@ use Rattle.orc_column_reader.specs.declared.fault.StreamKind.{StreamKind}
 use Rattle.orc_column_reader.specs.declared.fault.StreamKind.TheVariants as stream
 use Rattle.orc_column_reader.specs.declared.fault.StripeFault.{StripeFault}
 use Rattle.orc_column_reader.specs.declared.fault.StripeFault.TheVariants as fault
-use Rattle.orc_row_index.specs.Places.{octets_size, position_size}
-use Rattle.orc_row_index.specs.RunStreams.{RunStream, no_stream, bit_runs, byte_runs, number_runs, present_runs, own_runs, own_octets, kind_of_own}
+use Rattle.orc_row_index.specs.Positions.{octets_size, position_size}
+use Rattle.orc_row_index.specs.RunStreams.{RunStream, no_stream, bit_runs, byte_runs, number_runs, present_runs, value_runs, value_bytes, kind_of_values}
 
 -- the numbers are no position of the stream, or bytes that are no run are met on the way; where there are not
 -- as many numbers as a position has, nothing is said
@@ -54,9 +54,9 @@ FailsAt c k stream positions f = (cause : RunFault) × StreamFails stream positi
 -- one of the streams beside PRESENT isn't, or the dictionary isn't read
 abbrev pub OwnRefused : Shape → Streams → ℕ → List ℕ → StripeFault → Type 0
 OwnRefused s x c positions f =
-    ((f ≡ fault.BadPosition (spot.Stream c stream.Data)) × EndsBefore (own_octets s x) positions)
-    ⊎ (FailsAt c (kind_of_own s (has_dictionary x)) (own_runs s x) (drop (octets_size (own_octets s x)) positions) f
-    ⊎ WordsOfFail s x c f)
+    ((f ≡ fault.BadPosition (spot.Stream c stream.Data)) × EndsBefore (value_bytes s x) positions)
+    ⊎ (FailsAt c (kind_of_values s (has_dictionary x)) (value_runs s x) (drop (octets_size (value_bytes s x)) positions) f
+    ⊎ DictionaryFails s x c f)
 
 -- how many positions PRESENT has
 abbrev pub present_size : Streams → ℕ
@@ -64,7 +64,7 @@ present_size x = position_size (present_runs (in_present x))
 
 -- how many positions a column has
 abbrev pub positions_size : Shape → Streams → ℕ
-positions_size s x = present_size x + (octets_size (own_octets s x) + position_size (own_runs s x))
+positions_size s x = present_size x + (octets_size (value_bytes s x) + position_size (value_runs s x))
 
 -- there are not as many as the column has, or as many, and one of its streams isn't entered
 abbrev pub ColumnRefused : Shape → Streams → ℕ → List ℕ → StripeFault → Type 0

@@ -6,7 +6,7 @@ use Rattle.orc_values.specs.Shapes.{Shape, width, shape_at}
 use Rattle.orc_wire.specs.declared.row_index.RowIndexEntry.{RowIndexEntry}
 use Rattle.orc_column_reader.specs.Stripe.{Streams, SpellRows}
 use Rattle.orc_column_reader.specs.declared.fault.StripeFault.{StripeFault}
-use Rattle.orc_group_reader.specs.Columns.{AgreeFromPlaces}
+use Rattle.orc_group_reader.specs.Columns.{AgreeFromPositions}
 use Rattle.orc_group_reader.specs.Refusals.{ColumnRefused}
 
 -- Columns x spell the rows before and after. The positions, an entry for each column, are right in them behind
@@ -17,7 +17,7 @@ pub record RowsTurn (s : Shape) (x y : ℕ → Streams) (before after : List Cel
   pub spelled : SpellRows s x (length (before ++ after)) (before ++ after)
   pub agree : (c : ℕ) (entry : RowIndexEntry)
       → slice_get entries c ≡ Some entry
-      → AgreeFromPlaces (shape_at s c) (x c) (y c) (cells s c before) entry.positions
+      → AgreeFromPositions (shape_at s c) (x c) (y c) (cells s c before) entry.positions
 
 -- one of the columns isn't entered at the positions of its entry
 abbrev pub EntriesRefused : Shape → (ℕ → Streams) → List RowIndexEntry → StripeFault → Type 0

@@ -6,7 +6,7 @@ use Rattle.orc_rle.specs.Stream.{IsStream}
 use Rattle.orc_column_reader.specs.Bits.{BitsLeft}
 use Rattle.orc_column_reader.specs.Bytes.{BytesLeft}
 use Rattle.orc_column_reader.specs.Numbers.{is_run, NumbersLeft}
-use Rattle.orc_row_index.specs.Places.{IsPosition, reader}
+use Rattle.orc_row_index.specs.Positions.{IsPosition, reader}
 use Rattle.orc_row_index.specs.RunStreams.{RunStream, no_stream, bit_runs, byte_runs, number_runs}
 use Rattle.orc_group_reader.specs.Entering.{AgreeFrom}
 use Rattle.orc_group_reader.specs.declared.entered.Entered.{Entered}

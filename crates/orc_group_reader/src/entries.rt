@@ -1,7 +1,7 @@
 //! The entries of a column's dictionary.
 ghost use Rattle.std.specs.Prelude.{◌≡◌, ◌≢◌, IfOk, IfErr};
 ghost use Rattle.orc_values.specs.Views.{shape};
-ghost use Rattle.orc_column_reader.specs.Faults.{EntriesFail, WordsOfFail};
+ghost use Rattle.orc_column_reader.specs.Faults.{EntriesFail, DictionaryFails};
 ghost use Rattle.orc_column_reader.specs.Starting.{AreStreams, HasNoDictionary, LacksEntries};
 ghost use Rattle.orc_column_reader.specs.Stripe.{Streams};
 ghost use Rattle.orc_column_reader.specs.declared.fault.StripeFault.TheVariants.{OutOfMemory};
@@ -15,7 +15,7 @@ use orc_values::{Scalar, Tree};
 use std::alloc::Global;
 
 /// Those of a column of texts, where it has a dictionary.
-fn words_of<'a>(
+fn dictionary_of<'a>(
     alloc: Global,
     column: usize,
     streams: &ColumnStreams<'a>,
@@ -37,7 +37,7 @@ fn words_of<'a>(
         column,
         streams.version,
         streams.lengths,
-        streams.words,
+        streams.dictionary_data,
         streams.dictionary_size,
     ) {
         Ok(entries) => Ok(Some(entries)),
@@ -59,10 +59,10 @@ pub(crate) fn column_entries<'a>(
         → HasNoDictionary (shape tree.now) x) }
     ensures fault { IfErr result (λ cause. cause ≢ OutOfMemory
         → (x : Streams) → AreStreams x streams.now
-        → WordsOfFail (shape tree.now) x column cause) }
+        → DictionaryFails (shape tree.now) x column cause) }
 {
     match tree {
-        Tree::Scalar(Scalar::String, _) => words_of(alloc, column, streams),
+        Tree::Scalar(Scalar::String, _) => dictionary_of(alloc, column, streams),
         _ => Ok(None),
     }
 }

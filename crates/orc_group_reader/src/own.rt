@@ -5,8 +5,8 @@ ghost use Rattle.orc_values.specs.Views.{shape};
 ghost use Rattle.orc_column_reader.specs.Starting.{AreStreams};
 ghost use Rattle.orc_column_reader.specs.Stripe.{Streams};
 ghost use Rattle.orc_column_reader.specs.declared.fault.StripeFault.TheVariants.{OutOfMemory};
-ghost use Rattle.orc_row_index.specs.Places.{octets, octets_place};
-ghost use Rattle.orc_row_index.specs.RunStreams.{own_octets};
+ghost use Rattle.orc_row_index.specs.Positions.{octets, octets_position};
+ghost use Rattle.orc_row_index.specs.RunStreams.{value_bytes};
 ghost use Rattle.orc_group_reader.specs.Columns.{OwnTurns, OwnValuesLeft};
 ghost use Rattle.orc_group_reader.specs.ReadersAt.{SourceAt};
 ghost use Rattle.orc_group_reader.specs.Refusals.{OwnRefused};
@@ -37,7 +37,7 @@ pub(crate) fn own_from<'a>(
     ensures left { (x y : Streams) (before after : List Cell) (last : List ℕ)
         → AreStreams y streams.now
         → OwnTurns (shape tree.now) x y before after last
-        → positions.now ≡ octets_place (own_octets (shape tree.now) x) (octets before) ++ last
+        → positions.now ≡ octets_position (value_bytes (shape tree.now) x) (octets before) ++ last
         → MatchResult result
         (λ source. OwnValuesLeft (shape tree.now) source (values after))
         (λ fault. fault ≡ OutOfMemory) }

@@ -5,7 +5,7 @@ ghost use Rattle.orc_values.specs.Views.{shape};
 ghost use Rattle.orc_column_reader.specs.Starting.{AreStreams};
 ghost use Rattle.orc_column_reader.specs.Stripe.{Streams};
 ghost use Rattle.orc_column_reader.specs.declared.fault.StripeFault.TheVariants.{OutOfMemory};
-ghost use Rattle.orc_row_index.specs.Places as spec;
+ghost use Rattle.orc_row_index.specs.Positions as spec;
 ghost use Rattle.orc_row_index.specs.Walking.{runs, lent_bytes};
 ghost use Rattle.orc_group_reader.specs.Columns.{ColumnIsLeft, Turns};
 ghost use Rattle.orc_group_reader.specs.ReadersAt.{ColumnAt};

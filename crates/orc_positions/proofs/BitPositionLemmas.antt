@@ -15,7 +15,7 @@ use Rattle.orc_rle.specs.Stream.{IsStream}
 use Rattle.orc_rle.proofs.BitLemmas.{digits_one}
 use Rattle.orc_rle.proofs.StreamLemmas.{runs_rest, one_stream}
 use Rattle.orc_positions.specs.Position.{HasValues, IsOneRun}
-use Rattle.orc_positions.specs.BitPosition.{BeginsBits, BitsLeft, BitsGoOn, IsBitPlace, HasBits}
+use Rattle.orc_positions.specs.BitPosition.{BeginsBits, BitsLeft, BitsGoOn, IsWriterBitPosition, HasBits}
 use Rattle.orc_positions.proofs.PositionLemmas.{goes_on, sought, one_number, one_place, SamePlace, seek_alone, fails_alone, rest_alone}
 
 -- bytes of a stream of booleans
@@ -90,15 +90,15 @@ one_bit_number bytes total offset skip bits n m h k =
     omega (arith, h.number_is, k.number_is, whole)
 
 -- a writer's position names its boolean
-pub bit_place_begins : (bytes : List ℕ) (total offset skip bits n : ℕ) → IsBitPlace bytes total offset skip bits n → BeginsBits bytes total offset skip bits n
+pub bit_place_begins : (bytes : List ℕ) (total offset skip bits n : ℕ) → IsWriterBitPosition bytes total offset skip bits n → BeginsBits bytes total offset skip bits n
 bit_place_begins bytes total offset skip bits n h =
     record { whole = n / 8; begins = h.place.begins; few = omega (arith, h.bits_are); number_is = omega (arith, h.bits_are); there = h.there }
 
-pub one_bit_place : (bytes : List ℕ) (total o p s t k l n : ℕ) → IsBitPlace bytes total o s k n → IsBitPlace bytes total p t l n → SamePlace o p s t × (k ≡ l)
+pub one_bit_place : (bytes : List ℕ) (total o p s t k l n : ℕ) → IsWriterBitPosition bytes total o s k n → IsWriterBitPosition bytes total p t l n → SamePlace o p s t × (k ≡ l)
 one_bit_place bytes total o p s t k l n h g = (one_place IsByteRun one_byte_run byte_run_some bytes o p s t (n / 8) h.place g.place, h.bits_are ∙ sym g.bits_are)
 
 -- at the stream's end no boolean of a byte is passed
-none_at_end : (bytes : List ℕ) (total offset skip bits n : ℕ) → HasBits bytes total → IsBitPlace bytes total offset skip bits n → offset ≡ length bytes → skip ≡ 0
+none_at_end : (bytes : List ℕ) (total offset skip bits n : ℕ) → HasBits bytes total → IsWriterBitPosition bytes total offset skip bits n → offset ≡ length bytes → skip ≡ 0
     → bytes_needed skip bits ≡ 0
 none_at_end bytes total offset skip bits n has h end none =
     let b = h.place.begins in
@@ -108,7 +108,7 @@ none_at_end bytes total offset skip bits n has h end none =
     omega (arith, none, h.bits_are, h.there, b.number_is, ap length same, held_len has.1.packed has.0 has.1.held, has.2)
 
 -- and needs one run at most
-pub bit_place_run : (bytes : List ℕ) (total offset skip bits n : ℕ) → HasBits bytes total → IsBitPlace bytes total offset skip bits n
+pub bit_place_run : (bytes : List ℕ) (total offset skip bits n : ℕ) → HasBits bytes total → IsWriterBitPosition bytes total offset skip bits n
     → IsOneRun IsByteRun bytes offset (bytes_needed skip bits)
 bit_place_run bytes total offset skip bits n has h = elim h.place.inside [
   | inl end ↦ inl (none_at_end bytes total offset skip bits n has h end.0 end.1)

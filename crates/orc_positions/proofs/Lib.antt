@@ -2,4 +2,4 @@ pub mod PositionLemmas
 pub mod BitPositionLemmas
 pub mod PlaceLemmas
 pub mod WalkLemmas
-pub mod MarkLemmas
+pub mod RunStartLemmas

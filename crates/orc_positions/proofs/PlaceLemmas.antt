@@ -9,7 +9,7 @@ use Rattle.orc_rle.specs.Stream.{AreRuns, IsStream}
 use Rattle.orc_rle.proofs.RunLemmas.{One, Some}
 use Rattle.orc_rle.proofs.StreamLemmas.{one_stream, empty_front, tail_same}
 use Rattle.orc_positions.specs.Position.{Begins, HasValues}
-use Rattle.orc_positions.specs.RunPlaces.{Places, offsets_of, counts_of, Rises, ArePlaces, Names}
+use Rattle.orc_positions.specs.RunTable.{Places, offsets_of, counts_of, Rises, ArePlaces, Names}
 
 -- ---- the places go up
 

@@ -10,7 +10,7 @@ use Rattle.orc_rle.specs.Seeking.{Passes, Seeks, CountsRuns, SeekFails}
 use Rattle.orc_rle.proofs.RunLemmas.{One, Some, None}
 use Rattle.orc_rle.proofs.SeekLemmas.{counts_some, counts_zero}
 use Rattle.orc_rle.proofs.StreamLemmas.{Going, fronts, runs_push, runs_rest, one_stream, no_first, single, empty_front}
-use Rattle.orc_positions.specs.Position.{Begins, GoesOn, IsInside, IsPlace, HasValues, IsOneRun}
+use Rattle.orc_positions.specs.Position.{Begins, GoesOn, IsInside, IsWriterPosition, HasValues, IsOneRun}
 
 drop-front : {A : Type 0} (xs ys : List A) (n : ℕ) → n ≡ length xs → drop n (xs ++ ys) ≡ ys
 drop-front {A = A} xs ys n e = ap (λ (k : ℕ). drop k (xs ++ ys)) e ∙ drop-append_seam xs ys
@@ -177,7 +177,7 @@ pub record SamePlace (o p s t : ℕ) : Type 0 where
   pub skip : s ≡ t
 
 -- a value has one place
-pub one_place : {A : Type 0} (R : List ℕ → List A → Type 0) → One R → Some R → (bytes : List ℕ) (o p s t n : ℕ) → IsPlace R bytes o s n → IsPlace R bytes p t n → SamePlace o p s t
+pub one_place : {A : Type 0} (R : List ℕ → List A → Type 0) → One R → Some R → (bytes : List ℕ) (o p s t n : ℕ) → IsWriterPosition R bytes o s n → IsWriterPosition R bytes p t n → SamePlace o p s t
 one_place R one some bytes o p s t n h k =
     let b = h.begins in
     let d = k.begins in
@@ -225,9 +225,9 @@ mark_more {A = A} R one some bytes offset before len found v h le run e =
       there = omega arith;
     }
 
--- the value stands in the run at the mark
+-- the value stands in the run at the run start
 pub mark_place : {A : Type 0} (R : List ℕ → List A → Type 0) → One R → Some R → (bytes : List ℕ) (offset before n len found : ℕ) (v : List A) → Begins R bytes offset 0 before
-    → R (take len (drop offset bytes)) v → found ≡ length v → before ≤ n → n - before < found → IsPlace R bytes offset (n - before) n
+    → R (take len (drop offset bytes)) v → found ≡ length v → before ≤ n → n - before < found → IsWriterPosition R bytes offset (n - before) n
 mark_place R one some bytes offset before n len found v h run e le lt =
     let k = after_run R one some bytes offset before len v h run in
     record {
@@ -246,9 +246,9 @@ mark_place R one some bytes offset before n len found v h run e le lt =
       inside = inr (take len (drop offset bytes), drop len (drop offset bytes), v, run, sym (take-append-drop len (drop offset bytes)), omega (arith, lt, e));
     }
 
--- all values come before the mark
+-- all values come before the run start
 pub mark_end : {A : Type 0} (R : List ℕ → List A → Type 0) → One R → Some R → (bytes : List ℕ) (offset before n : ℕ) → Begins R bytes offset 0 before
-    → length bytes ≤ offset → before ≤ n → HasValues R bytes n → IsPlace R bytes offset (n - before) n
+    → length bytes ≤ offset → before ≤ n → HasValues R bytes n → IsWriterPosition R bytes offset (n - before) n
 mark_end {A = A} R one some bytes offset before n h end le all =
     let size : length h.rest ≡ 0 = omega (arith, ap length h.parts, length-append h.front h.rest, h.offset_is, end) in
     let none : h.rest ≡ [] = nil_from_length h.rest size in
@@ -271,16 +271,16 @@ mark_end {A = A} R one some bytes offset before n h end le all =
       inside = inl (omega (arith, h.offset_is, ap length whole), omega (arith, zero));
     }
 
--- where bytes come after the mark, a run stands in front of them
+-- where bytes come after the run start, a run stands in front of them
 pub mark_goes : {A : Type 0} (R : List ℕ → List A → Type 0) (F : List ℕ → RunFault → Type 0) → None R F → (bytes : List ℕ) (offset before : ℕ) (fault : RunFault) → Begins R bytes offset 0 before
     → offset < length bytes → F (drop offset bytes) fault → ⊥
 mark_goes R F none bytes offset before fault h lt fails =
     let rest = subst (λ (t : List ℕ). IsStream R t h.after) (sym (rest_is R bytes offset 0 before h)) h.more in
     no_first R F none (drop offset bytes) h.after fault (λ e. omega (arith, lt, ap length e, length-drop offset bytes)) fails rest
 
--- a stream's start is a mark
-pub start_mark : {A : Type 0} (R : List ℕ → List A → Type 0) (bytes : List ℕ) (all : List A) → IsStream R bytes all → Begins R bytes 0 0 0
-start_mark R bytes all h = record {
+-- a stream's start is a run start
+pub start_is_run_start : {A : Type 0} (R : List ℕ → List A → Type 0) (bytes : List ℕ) (all : List A) → IsStream R bytes all → Begins R bytes 0 0 0
+start_is_run_start R bytes all h = record {
   front = [];
   rest = bytes;
   before = [];

@@ -8,7 +8,7 @@ use Rattle.orc_rle.specs.declared.fault.RunFault.TheVariants.{TooFew}
 use Rattle.orc_rle.specs.Stream.{AreRuns, IsStream, StopsWithin}
 use Rattle.orc_rle.proofs.RunLemmas.{One, Some, None, OneFault}
 use Rattle.orc_rle.proofs.StreamLemmas.{runs_rest, runs_push, no_first, within_few, within_none, one_stop_within}
-use Rattle.orc_positions.specs.RunPlaces.{Places, offsets_of, counts_of, ArePlaces}
+use Rattle.orc_positions.specs.RunTable.{Places, offsets_of, counts_of, ArePlaces}
 
 -- one run more
 runs_more : {A : Type 0} (R : List ℕ → List A → Type 0) (ps : List (List ℕ × List A)) (a b : List ℕ) (v w : List A) → AreRuns R ps a v → R b w

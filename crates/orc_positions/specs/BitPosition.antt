@@ -5,7 +5,7 @@ use Rattle.orc_rle.specs.BitStream.{digit, IsBitStream}
 use Rattle.orc_rle.specs.ByteRun.{IsByteRun}
 use Rattle.orc_rle.specs.Seeking.{SeeksBits}
 use Rattle.orc_rle.specs.Stream.{RunsLeft}
-use Rattle.orc_positions.specs.Position.{Begins, IsPlace}
+use Rattle.orc_positions.specs.Position.{Begins, IsWriterPosition}
 
 -- the position names boolean n of so many: eight for each byte that is passed, and 0 to 8 more
 pub record BeginsBits (bytes : List ℕ) (total offset skip bits n : ℕ) : Type 0 where
@@ -32,8 +32,8 @@ pub record BitsGoOn (bytes : List ℕ) (offset skip bits : ℕ) (all : List Bool
   pub goes_on : BitsLeft left (drop at bytes) bits all
 
 -- the position that a writer gives to boolean n of so many
-pub record IsBitPlace (bytes : List ℕ) (total offset skip bits n : ℕ) : Type 0 where
-  pub place : IsPlace IsByteRun bytes offset skip (n / 8)
+pub record IsWriterBitPosition (bytes : List ℕ) (total offset skip bits n : ℕ) : Type 0 where
+  pub place : IsWriterPosition IsByteRun bytes offset skip (n / 8)
   pub bits_are : bits ≡ n % 8
   pub there : n ≤ total
 

@@ -1,4 +1,4 @@
 pub mod Position
 pub mod BitPosition
-pub mod RunPlaces
-pub mod Marks
+pub mod RunTable
+pub mod RunStarts

@@ -7,9 +7,9 @@ ghost use Rattle.orc_rle.specs.BitStream.{IsBitStream};
 ghost use Rattle.orc_rle.specs.ByteRun.{IsByteRun, NoByteRun};
 ghost use Rattle.orc_rle.specs.Seeking.{bytes_needed, Seeks, SeekFails, SeeksBits, BitSeekFails};
 ghost use Rattle.orc_rle.specs.Stream.{IsStream, RunsLeft};
-ghost use Rattle.orc_positions.specs.Position.{Begins, GoesOn, IsPlace, HasValues};
-ghost use Rattle.orc_positions.specs.BitPosition.{BeginsBits, BitsGoOn, BitsLeft, IsBitPlace, HasBits};
-ghost use Rattle.orc_positions.specs.Marks.{start_of_stream, IsMark};
+ghost use Rattle.orc_positions.specs.Position.{Begins, GoesOn, IsWriterPosition, HasValues};
+ghost use Rattle.orc_positions.specs.BitPosition.{BeginsBits, BitsGoOn, BitsLeft, IsWriterBitPosition, HasBits};
+ghost use Rattle.orc_positions.specs.RunStarts.{start_of_stream, IsRunStart};
 
 use orc_rle::{BitPos, BitRuns, ByteRuns, Pos, Run, RunCodec, RunFault, RunU8, Sign};
 
@@ -55,10 +55,10 @@ pub fn seek_laws<C: RunCodec>()
         → SeekFails (C.is_run sign) (C.fails sign) b offset skip fault }
     // A value has one position of the writer's at most.
     ensures one_place { (sign : Sign) (bytes : List ℕ) (o p s t n : ℕ)
-        → IsPlace (C.is_run sign) bytes o s n → IsPlace (C.is_run sign) bytes p t n → (o ≡ p) × (s ≡ t) }
-    // A stream's start is a mark of it, and so a position of value 0.
+        → IsWriterPosition (C.is_run sign) bytes o s n → IsWriterPosition (C.is_run sign) bytes p t n → (o ≡ p) × (s ≡ t) }
+    // A stream's start is a run start of it, and so a position of value 0.
     ensures start { (sign : Sign) (bytes : List ℕ) (all : List ℤ)
-        → IsStream (C.is_run sign) bytes all → IsMark (C.is_run sign) bytes start_of_stream }
+        → IsStream (C.is_run sign) bytes all → IsRunStart (C.is_run sign) bytes start_of_stream }
 {}
 
 /// The same of streams of bytes.
@@ -99,9 +99,9 @@ pub fn byte_seek_laws()
         → SeekFails IsByteRun NoByteRun b offset need fault }
     // A byte has one position of the writer's at most.
     ensures one_place { (bytes : List ℕ) (o p s t n : ℕ)
-        → IsPlace IsByteRun bytes o s n → IsPlace IsByteRun bytes p t n → (o ≡ p) × (s ≡ t) }
-    // A stream's start is a mark of it, and so a position of byte 0.
-    ensures start { (bytes all : List ℕ) → IsStream IsByteRun bytes all → IsMark IsByteRun bytes start_of_stream }
+        → IsWriterPosition IsByteRun bytes o s n → IsWriterPosition IsByteRun bytes p t n → (o ≡ p) × (s ≡ t) }
+    // A stream's start is a run start of it, and so a position of byte 0.
+    ensures start { (bytes all : List ℕ) → IsStream IsByteRun bytes all → IsRunStart IsByteRun bytes start_of_stream }
 {}
 
 /// The same of streams of booleans, of which bytes have so many: the boolean named is that of the byte and
@@ -145,10 +145,10 @@ pub fn bit_seek_laws()
         → BitSeekFails b offset skip bits fault }
     // The writer's position of a boolean names it.
     ensures place { (bytes : List ℕ) (total offset skip bits n : ℕ)
-        → IsBitPlace bytes total offset skip bits n → BeginsBits bytes total offset skip bits n }
+        → IsWriterBitPosition bytes total offset skip bits n → BeginsBits bytes total offset skip bits n }
     // A boolean has one position of the writer's at most.
     ensures one_place { (bytes : List ℕ) (total o p s t k l n : ℕ)
-        → IsBitPlace bytes total o s k n → IsBitPlace bytes total p t l n → (o ≡ p) × (s ≡ t) × (k ≡ l) }
+        → IsWriterBitPosition bytes total o s k n → IsWriterBitPosition bytes total p t l n → (o ≡ p) × (s ≡ t) × (k ≡ l) }
     // Where a stream has n booleans or more, its runs have n / 8 bytes or more.
     ensures there { (bytes : List ℕ) (total n : ℕ)
         → HasBits bytes total → n ≤ total → HasValues IsByteRun bytes (n / 8) }
@@ -161,7 +161,7 @@ pub fn seek_place<C: RunCodec>(
     pos: Pos,
     run: &mut Run,
 ) -> Result<usize, RunFault>
-    requires { (n : ℕ) × IsPlace (C.is_run sign) bytes.now pos.offset pos.skip n }
+    requires { (n : ℕ) × IsWriterPosition (C.is_run sign) bytes.now pos.offset pos.skip n }
     // From the writer's position of a value, the answer is the offset behind the run that is
     // decoded, and what is left of that run is in `run`.
     ensures found { IfOk result (λ at. Seeks (C.is_run sign) bytes.now pos.offset pos.skip pos.skip at run.new.values) }
@@ -185,7 +185,7 @@ pub fn seek_place<C: RunCodec>(
 
 /// The same in a stream of bytes.
 pub fn byte_seek_place(bytes: &[u8], pos: Pos, run: &mut RunU8) -> Result<usize, RunFault>
-    requires { (n : ℕ) × IsPlace IsByteRun bytes.now pos.offset pos.skip n }
+    requires { (n : ℕ) × IsWriterPosition IsByteRun bytes.now pos.offset pos.skip n }
     // From the writer's position of a byte, the answer is the offset behind the run that is
     // decoded, and what is left of that run is in `run`.
     ensures found { IfOk result (λ at. Seeks IsByteRun bytes.now pos.offset pos.skip pos.skip at run.new.values) }
@@ -209,7 +209,7 @@ pub fn byte_seek_place(bytes: &[u8], pos: Pos, run: &mut RunU8) -> Result<usize,
 /// The same in a stream of booleans.
 pub fn bit_seek_place(bytes: &[u8], pos: BitPos, run: &mut RunU8) -> Result<usize, RunFault>
     requires { (total : ℕ) × (n : ℕ)
-        × HasBits bytes.now total × IsBitPlace bytes.now total pos.offset pos.skip pos.bits n }
+        × HasBits bytes.now total × IsWriterBitPosition bytes.now total pos.offset pos.skip pos.bits n }
     // From the writer's position of a boolean, the answer is the offset behind the run that is
     // decoded; what is left of it is in `run`, first the byte of which bits are passed.
     ensures found { IfOk result (λ at. SeeksBits bytes.now pos.offset pos.skip pos.bits at run.new.values) }

@@ -7,7 +7,7 @@ ghost use Rattle.orc_rle.specs.Stream.{IsStream, StopsWithin, Refuses};
 ghost use Rattle.orc_rle.specs.ByteRun.{IsByteRun, NoByteRun};
 ghost use Rattle.orc_positions.specs.Position.{Begins, HasValues};
 ghost use Rattle.orc_positions.specs.BitPosition.{BeginsBits, HasBits};
-ghost use Rattle.orc_positions.specs.RunPlaces.{Places, ArePlaces, Names, NamesBit};
+ghost use Rattle.orc_positions.specs.RunTable.{Places, ArePlaces, Names, NamesBit};
 
 use orc_rle::{ByteRuns, Run, RunCodec, RunFault, RunU8, Sign};
 use std::alloc::Global;
@@ -16,14 +16,14 @@ use std::marker::Model;
 /// Where the runs of a stream begin and where the last one ends, and how many values stand before each of
 /// these places. A position is looked up in them without going over the stream again.
 #[derive(Drop)]
-pub struct RunPlaces {
+pub struct RunTable {
     offsets: Vec<u64>,
     counts: Vec<u64>,
 }
 
-impl Model for RunPlaces {
+impl Model for RunTable {
     ghost use Rattle.std.specs.Prelude.{◌≡◌, length};
-    ghost use Rattle.orc_positions.specs.RunPlaces.{Places, Rises};
+    ghost use Rattle.orc_positions.specs.RunTable.{Places, Rises};
 
     ghost Value = { Places };
 
@@ -36,11 +36,11 @@ impl Model for RunPlaces {
 ///
 /// Refusals: the fault of the first run from the left that is none, or `TooMany` where it goes past that number
 /// of values, with its place; and `OutOfMemory`. Fewer values are no fault.
-pub fn run_places<C: RunCodec>(
+pub fn run_table<C: RunCodec>(
     alloc: Global,
     bytes: &[u8],
     sign: Sign,
-) -> Result<RunPlaces, RunFault>
+) -> Result<RunTable, RunFault>
     // What is answered is the stream's places: where each run begins and where the last one ends,
     // and how many values stand before each.
     ensures found { IfOk result (ArePlaces (C.is_run sign) bytes.now) }
@@ -78,11 +78,11 @@ pub fn run_places<C: RunCodec>(
     }
     offsets.push(at as u64)?;
     counts.push(before)?;
-    Ok(RunPlaces { offsets, counts })
+    Ok(RunTable { offsets, counts })
 }
 
 /// The same of a stream of bytes, and so of the bytes of booleans.
-pub fn byte_places(alloc: Global, bytes: &[u8]) -> Result<RunPlaces, RunFault>
+pub fn byte_table(alloc: Global, bytes: &[u8]) -> Result<RunTable, RunFault>
     // What is answered is the stream's places: where each run begins and where the last one ends,
     // and how many bytes the runs before each spell.
     ensures found { IfOk result (ArePlaces IsByteRun bytes.now) }
@@ -120,7 +120,7 @@ pub fn byte_places(alloc: Global, bytes: &[u8]) -> Result<RunPlaces, RunFault>
     }
     offsets.push(at as u64)?;
     counts.push(before)?;
-    Ok(RunPlaces { offsets, counts })
+    Ok(RunTable { offsets, counts })
 }
 
 /// How many whole bytes come before boolean `n`, where so many of those before it are in the next one.
@@ -141,7 +141,7 @@ fn whole_bytes(bits: u64, n: u64) -> Option<u64>
     Some(digits / 8)
 }
 
-impl RunPlaces {
+impl RunTable {
     /// Whether the position names value `n`: the offset is one of the places, and the values before it and those
     /// that are passed from there make `n`. It takes a search by halves, and not a walk.
     pub fn begins(&self, offset: u64, skip: u64, n: u64) -> bool

@@ -11,9 +11,9 @@ use Rattle.orc_values.proofs.Together.{values-append}
 use Rattle.orc_column_reader.specs.Columns.{IsBool, IsByte, IsInt, IsDate, IsText, IsBinary}
 use Rattle.orc_column_reader.specs.Spellings.{AllStand, joined, size}
 use Rattle.orc_column_reader.specs.Stripe.{Streams, has_dictionary, Marks, SpellsTexts, SpellsScalar, SpellsValues, IsColumn}
-use Rattle.orc_row_index.specs.RunStreams.{present_runs, text_runs, scalar_runs, own_runs, text_octets, scalar_octets, own_octets}
-use Rattle.orc_row_index.specs.Places.{octets_in, octets, octets_place, AreReadPlaces, AreWrittenPlaces}
-use Rattle.orc_row_index.specs.Walking.{most, HasPlace, HasOctets, AreCounted, HavePlaces}
+use Rattle.orc_row_index.specs.RunStreams.{present_runs, text_runs, scalar_runs, value_runs, text_octets, scalar_octets, value_bytes}
+use Rattle.orc_row_index.specs.Positions.{octets_in, octets, octets_position, AreReadPositions, AreWrittenPositions}
+use Rattle.orc_row_index.specs.Walking.{most, HasPosition, HasOctets, AreCounted, HavePositions}
 use Rattle.orc_row_index.specs.declared.counts.Counts.{Counts}
 use Rattle.orc_row_index.proofs.StreamPlaces.{place_read, one_stream_place}
 
@@ -66,15 +66,15 @@ text_long t c h = ap octets_in h.1
 binary_long : (t : List ℕ) (c : Cell) → IsBinary t c → octets_in c ≡ length t
 binary_long t c h = ap octets_in h.1
 
-present_there : (b : List ℕ) (marks : List Bool) (n : ℕ) → Marks b marks → n ≤ length marks → HasPlace (present_runs b) n
+present_there : (b : List ℕ) (marks : List Bool) (n : ℕ) → Marks b marks → n ≤ length marks → HasPosition (present_runs b) n
 present_there [] marks n h le = tt
 present_there (x ∷ b) marks n h le = has_bytes (x ∷ b) (length marks) n (marks, h, refl) le
 
-texts_there : (d : Bool) (x : Streams) (vs : List Cell) (n : ℕ) → SpellsTexts x d vs → n ≤ length vs → HasPlace (text_runs d x) n
+texts_there : (d : Bool) (x : Streams) (vs : List Cell) (n : ℕ) → SpellsTexts x d vs → n ≤ length vs → HasPosition (text_runs d x) n
 texts_there true x vs n h le = let s = h.2 in (s.0, s.2, omega (arith, le, stand_long _ s.0 vs s.1))
 texts_there false x vs n h le = (map size h.0, h.2.0, omega (arith, le, stand_long IsText h.0 vs h.1, length-map h.0 (size {X = ℕ})))
 
-scalar_there : (k : Scalar) (x : Streams) (vs : List Cell) (n : ℕ) → SpellsScalar k x vs → n ≤ length vs → HasPlace (scalar_runs k x) n
+scalar_there : (k : Scalar) (x : Streams) (vs : List Cell) (n : ℕ) → SpellsScalar k x vs → n ≤ length vs → HasPosition (scalar_runs k x) n
 scalar_there kind.Boolean x vs n h le = has_bytes (x.stream 1) (length h.0) n (h.0, h.2, refl) (omega (arith, le, stand_long IsBool h.0 vs h.1))
 scalar_there kind.Byte x vs n h le = (h.0, h.2, omega (arith, le, stand_long IsByte h.0 vs h.1))
 scalar_there kind.Short x vs n h le = (h.0, h.2, omega (arith, le, stand_long (IsInt kind.Short) h.0 vs h.1))
@@ -84,7 +84,7 @@ scalar_there kind.Date x vs n h le = (h.0, h.2, omega (arith, le, stand_long IsD
 scalar_there kind.String x vs n h le = texts_there (has_dictionary x) x vs n h le
 scalar_there kind.Binary x vs n h le = (map size h.0, h.2.0, omega (arith, le, stand_long IsBinary h.0 vs h.1, length-map h.0 (size {X = ℕ})))
 
-own_there : (s : Shape) (x : Streams) (vs : List Cell) (n : ℕ) → SpellsValues s x vs → n ≤ length vs → HasPlace (own_runs s x) n
+own_there : (s : Shape) (x : Streams) (vs : List Cell) (n : ℕ) → SpellsValues s x vs → n ≤ length vs → HasPosition (value_runs s x) n
 own_there (scalar k o) x vs n h le = scalar_there k x vs n h le
 own_there (list_of s o) x vs n h le = (map (λ v. size (parts v)) vs, h, omega (arith, le, length-map vs (λ (v : Cell). size (parts v))))
 own_there (map_of k v o) x vs n h le = (map (λ m. size (pairs_in m)) vs, h, omega (arith, le, length-map vs (λ (m : Cell). size (pairs_in m))))
@@ -104,14 +104,14 @@ scalar_content kind.Date x vs n h le = tt
 scalar_content kind.String x vs n h le = text_content (has_dictionary x) x vs n h le
 scalar_content kind.Binary x vs n h le = omega (arith, ap length h.2.1, stand_octets IsBinary binary_long h.0 vs h.1, le)
 
-own_content : (s : Shape) (x : Streams) (vs : List Cell) (n : ℕ) → SpellsValues s x vs → n ≤ octets vs → HasOctets (own_octets s x) n
+own_content : (s : Shape) (x : Streams) (vs : List Cell) (n : ℕ) → SpellsValues s x vs → n ≤ octets vs → HasOctets (value_bytes s x) n
 own_content (scalar k o) x vs n h le = scalar_content k x vs n h le
 own_content (list_of s o) x vs n h le = tt
 own_content (map_of k v o) x vs n h le = tt
 own_content (struct_of fs o) x vs n h le = tt
 
 -- streams that spell a column's cells have the places behind each front of them
-pub column_there : (s : Shape) (x : Streams) (column before after : List Cell) → column ≡ before ++ after → IsColumn s x column → HavePlaces (present_runs (x.stream 0)) (own_octets s x) (own_runs s x) before
+pub column_there : (s : Shape) (x : Streams) (column before after : List Cell) → column ≡ before ++ after → IsColumn s x column → HavePositions (present_runs (x.stream 0)) (value_bytes s x) (value_runs s x) before
 column_there s x column before after e h =
     let cells : length column ≡ length before + length after = ap length e ∙ length-append before after in
     let vs : length (values column) ≡ length (values before) + length (values after) = ap (λ cs. length (values cs)) e ∙ values_more before after in
@@ -125,18 +125,18 @@ column_there s x column before after e h =
 -- ---- laws of places
 
 -- a writer's places are right for a reader
-pub places_read : (s : Shape) (x : Streams) (before : List Cell) (ps : List ℕ) → AreWrittenPlaces s x before ps → AreReadPlaces s x before ps
+pub places_read : (s : Shape) (x : Streams) (before : List Cell) (ps : List ℕ) → AreWrittenPositions s x before ps → AreReadPositions s x before ps
 places_read s x before ps h = record {
   first = h.first;
   last = h.last;
   parts = h.parts;
-  present_place = place_read (present_runs (x.stream 0)) (length before) h.first h.present_place;
-  own_place = place_read (own_runs s x) (length (values before)) h.last h.own_place;
+  present_position = place_read (present_runs (x.stream 0)) (length before) h.first h.present_position;
+  value_position = place_read (value_runs s x) (length (values before)) h.last h.value_position;
 }
 
 -- and there is one list of them
-pub one_places : (s : Shape) (x : Streams) (before : List Cell) (ps qs : List ℕ) → AreWrittenPlaces s x before ps → AreWrittenPlaces s x before qs → ps ≡ qs
+pub one_places : (s : Shape) (x : Streams) (before : List Cell) (ps qs : List ℕ) → AreWrittenPositions s x before ps → AreWrittenPositions s x before qs → ps ≡ qs
 one_places s x before ps qs h k =
-    let first = one_stream_place (present_runs (x.stream 0)) (length before) h.first k.first h.present_place k.present_place in
-    let last = one_stream_place (own_runs s x) (length (values before)) h.last k.last h.own_place k.own_place in
-    h.parts ∙ (λ i. first i ++ (octets_place (own_octets s x) (octets before) ++ last i)) ∙ sym k.parts
+    let first = one_stream_place (present_runs (x.stream 0)) (length before) h.first k.first h.present_position k.present_position in
+    let last = one_stream_place (value_runs s x) (length (values before)) h.last k.last h.value_position k.value_position in
+    h.parts ∙ (λ i. first i ++ (octets_position (value_bytes s x) (octets before) ++ last i)) ∙ sym k.parts

@@ -5,8 +5,8 @@ use Rattle.std.proofs.Math.ListN.{get_or-map}
 use Rattle.std.proofs.Math.Seq.{take-add}
 use Rattle.std.proofs.lemmas.Grind.{get_or_default_zero}
 use Rattle.std.proofs.lemmas.List.{length-map, take_all, take-append-drop, drop-take, take-map}
-use Rattle.orc_positions.specs.Marks.{start_of_stream}
-use Rattle.orc_positions.specs.declared.mark.Mark.{Mark}
+use Rattle.orc_positions.specs.RunStarts.{start_of_stream}
+use Rattle.orc_positions.specs.declared.run_start.RunStart.{RunStart}
 use Rattle.orc_wire.specs.declared.row_index.RowIndexEntry.{RowIndexEntry}
 use Rattle.orc_values.specs.Childless.{childless}
 use Rattle.orc_values.specs.Cells.{Cell, null, leaf, list, struct, pairs, parts, pairs_in, keys_in, values_in, values}
@@ -27,10 +27,10 @@ use Rattle.orc_column_reader.specs.declared.starting.ColumnStreams.{ColumnStream
 use Rattle.orc_row_index.specs.Bounds.{bound_at, AreBounds, before_group, group_of, elements_before, pairs_before, values_before}
 use Rattle.orc_row_index.specs.EntryText.{IsEntryText}
 use Rattle.orc_row_index.specs.OwnCells.{own_cells, AreOwn, AreSpelledOwn}
-use Rattle.orc_row_index.specs.Places.{octets, ArePositions, writer, AreWrittenPlaces, Adds}
+use Rattle.orc_row_index.specs.Positions.{octets, ArePositions, writer, AreWrittenPositions, Adds}
 use Rattle.orc_row_index.specs.RowIndex.{IsWrittenEntry, AreEntries}
-use Rattle.orc_row_index.specs.RunStreams.{RunStream, present_runs, own_octets}
-use Rattle.orc_row_index.specs.Walking.{runs, lent_bytes, most, ArePlaced, BeginsBefore, AreCounted, HavePlaces, WalkedBefore}
+use Rattle.orc_row_index.specs.RunStreams.{RunStream, present_runs, value_bytes}
+use Rattle.orc_row_index.specs.Walking.{runs, lent_bytes, most, ArePlaced, BeginsBefore, AreCounted, HavePositions, WalkedBefore}
 use Rattle.orc_row_index.specs.declared.counts.Counts.{Counts}
 use Rattle.orc_row_index.specs.declared.placed.PlacedStreams.{PlacedStreams}
 use Rattle.orc_row_index.specs.declared.walk.Walk.{Walk}
@@ -226,24 +226,24 @@ Placed s streams placed = (x : Streams) → AreStreams x streams → ArePlaced s
 
 -- the streams that have positions have the places behind each front of the cells
 pub front_there : (s : Shape) (streams : ColumnStreams) (cells : List Cell) (placed : PlacedStreams) (start : ℕ) → Spelled s streams cells → Placed s streams placed
-    → HavePlaces (runs placed.present) (lent_bytes placed.content) (runs placed.own) (take start cells)
+    → HavePositions (runs placed.present) (lent_bytes placed.content) (runs placed.own) (take start cells)
 front_there s streams cells placed start h p =
     let x = h.0 in
     let are = p x h.1 in
     let there = column_there s x cells (take start cells) (drop start cells) (sym (take-append-drop start cells)) h.2 in
-    subst (λ (y : RunStream). HavePlaces y (lent_bytes placed.content) (runs placed.own) (take start cells)) (sym are.present_is)
-    (subst (λ (y : Option (List ℕ)). HavePlaces (present_runs (x.stream 0)) y (runs placed.own) (take start cells)) (sym are.content_is)
-    (subst (λ (y : RunStream). HavePlaces (present_runs (x.stream 0)) (own_octets s x) y (take start cells)) (sym are.own_is) there))
+    subst (λ (y : RunStream). HavePositions y (lent_bytes placed.content) (runs placed.own) (take start cells)) (sym are.present_is)
+    (subst (λ (y : Option (List ℕ)). HavePositions (present_runs (x.stream 0)) y (runs placed.own) (take start cells)) (sym are.content_is)
+    (subst (λ (y : RunStream). HavePositions (present_runs (x.stream 0)) (value_bytes s x) y (take start cells)) (sym are.own_is) there))
 
 pub written_in : (s : Shape) (x : Streams) (placed : PlacedStreams) (before : List Cell) (ps : List ℕ) → ArePlaced s x placed
-    → ArePositions writer (runs placed.present) (lent_bytes placed.content) (runs placed.own) before ps → AreWrittenPlaces s x before ps
+    → ArePositions writer (runs placed.present) (lent_bytes placed.content) (runs placed.own) before ps → AreWrittenPositions s x before ps
 written_in s x placed before ps are h =
-    subst (λ (y : RunStream). ArePositions writer (present_runs (x.stream 0)) (own_octets s x) y before ps) are.own_is
+    subst (λ (y : RunStream). ArePositions writer (present_runs (x.stream 0)) (value_bytes s x) y before ps) are.own_is
     (subst (λ (y : Option (List ℕ)). ArePositions writer (present_runs (x.stream 0)) y (runs placed.own) before ps) are.content_is
     (subst (λ (y : RunStream). ArePositions writer y (lent_bytes placed.content) (runs placed.own) before ps) are.present_is h))
 
-at_start : (c : RunStream) (mark : Mark) (n : ℕ) → mark ≡ start_of_stream → BeginsBefore c start_of_stream n → BeginsBefore c mark n
-at_start c mark n e h = subst (λ (m : Mark). BeginsBefore c m n) (sym e) h
+at_start : (c : RunStream) (run_start : RunStart) (n : ℕ) → run_start ≡ start_of_stream → BeginsBefore c start_of_stream n → BeginsBefore c run_start n
+at_start c run_start n e h = subst (λ (m : RunStart). BeginsBefore c m n) (sym e) h
 
 -- a walk from the start of both streams has come no further than no cells
 pub walk_begins : (s : Shape) (streams : ColumnStreams) (cells : List Cell) (placed : PlacedStreams) (w : Walk) → Spelled s streams cells → Placed s streams placed → w.present ≡ start_of_stream → w.own ≡ start_of_stream

@@ -23,7 +23,7 @@ use Rattle.orc_stats.proofs.Fitting.{cell_kind}
 use Rattle.orc_stats.proofs.Folding.{few_values}
 use Rattle.orc_row_index.specs.Bounds.{elements_before, pairs_before, values_before}
 use Rattle.orc_row_index.specs.OwnCells.{own_cells, AreOwn}
-use Rattle.orc_row_index.specs.Places.{octets_in, octets}
+use Rattle.orc_row_index.specs.Positions.{octets_in, octets}
 
 -- ---- a slice of what is said
 
@@ -145,8 +145,8 @@ module _ {P : Type 0} (m : Measure P) where
   pub own_stat : (k : StatKind) (s : Shape) (owns : List Own) (cells : List Cell) (kept : Kept P) (found : Stat) → ((c : Cell) → m.of_cell (childless c) ≡ m.of_cell c)
       → ((cs : List Cell) → length cs ≤ 2 ^ 62 → stat_of_kept m (cells_kept m cs) ≡ stat k cs) → k ≡ kind_of s → AreOwn owns cells → length cells ≤ 2 ^ 62
       → kept ≡ cells_kept m (own_cells owns) → found ≡ stat_of_kept m kept → found ≡ stat (kind_of s) cells
-  own_stat k s owns cells kept found same are kind own few counted closed =
-      closed ∙ ap (stat_of_kept m) (counted ∙ ap (cells_kept m) own ∙ kept_childless same cells) ∙ are cells few ∙ ap (λ (j : StatKind). stat j cells) kind
+  own_stat k s owns cells kept found same are kind own few counted statistic_of =
+      statistic_of ∙ ap (stat_of_kept m) (counted ∙ ap (cells_kept m) own ∙ kept_childless same cells) ∙ are cells few ∙ ap (λ (j : StatKind). stat j cells) kind
 
   -- ---- counting one after the other
 

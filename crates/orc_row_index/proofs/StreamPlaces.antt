@@ -2,16 +2,16 @@
 use Rattle.std.proofs.Common.{◌≡◌, ℕ, ◌≤◌, List, [], ◌∷◌, sym, ◌∙◌, arith}
 use Rattle.orc_rle.specs.ByteRun.{IsByteRun}
 use Rattle.orc_rle.specs.ByteLaws.{one_byte_run, byte_run_some}
-use Rattle.orc_positions.specs.Marks.{start_of_stream}
-use Rattle.orc_positions.specs.declared.mark.Mark.{Mark}
+use Rattle.orc_positions.specs.RunStarts.{start_of_stream}
+use Rattle.orc_positions.specs.declared.run_start.RunStart.{RunStart}
 use Rattle.orc_positions.proofs.PositionLemmas.{one_place}
-use Rattle.orc_positions.proofs.MarkLemmas.{mark_start}
+use Rattle.orc_positions.proofs.RunStartLemmas.{mark_start}
 use Rattle.orc_positions.proofs.BitPositionLemmas.{bit_place_begins, one_bit_place}
 use Rattle.orc_column_reader.specs.Numbers.{is_run}
 use Rattle.orc_column_reader.proofs.NumbersLemmas.{laws_of}
 use Rattle.orc_row_index.specs.RunStreams.{RunStream, no_stream, bit_runs, byte_runs, number_runs}
-use Rattle.orc_row_index.specs.Places.{IsPosition, reader, writer}
-use Rattle.orc_row_index.specs.Walking.{HasPlace, BeginsBefore}
+use Rattle.orc_row_index.specs.Positions.{IsPosition, reader, writer}
+use Rattle.orc_row_index.specs.Walking.{HasPosition, BeginsBefore}
 
 -- a writer's place is right for a reader
 pub place_read : (c : RunStream) (n : ℕ) (ps : List ℕ) → IsPosition writer c n ps → IsPosition reader c n ps
@@ -35,15 +35,15 @@ one_stream_place (number_runs v sign b) n ps qs h k =
     h.2 ∙ (λ i. same.offset i ∷ same.skip i ∷ []) ∙ sym k.2
 
 -- a walk begins at the stream's start
-pub starts_before : (c : RunStream) (n m : ℕ) → HasPlace c n → BeginsBefore c start_of_stream m
+pub starts_before : (c : RunStream) (n m : ℕ) → HasPosition c n → BeginsBefore c start_of_stream m
 starts_before no_stream n m h = tt
 starts_before (bit_runs b) n m h = (mark_start IsByteRun b h.0 h.1, omega arith)
 starts_before (byte_runs b) n m h = (mark_start IsByteRun b h.0 h.1, omega arith)
 starts_before (number_runs v sign b) n m h = (mark_start (is_run v sign) b h.0 h.1, omega arith)
 
 -- what is not behind a value is not behind a later one
-pub later_before : (c : RunStream) (mark : Mark) (n m : ℕ) → n ≤ m → BeginsBefore c mark n → BeginsBefore c mark m
-later_before no_stream mark n m le h = tt
-later_before (bit_runs b) mark n m le h = (h.0, omega (arith, le, h.1))
-later_before (byte_runs b) mark n m le h = (h.0, omega (arith, le, h.1))
-later_before (number_runs v sign b) mark n m le h = (h.0, omega (arith, le, h.1))
+pub later_before : (c : RunStream) (run_start : RunStart) (n m : ℕ) → n ≤ m → BeginsBefore c run_start n → BeginsBefore c run_start m
+later_before no_stream run_start n m le h = tt
+later_before (bit_runs b) run_start n m le h = (h.0, omega (arith, le, h.1))
+later_before (byte_runs b) run_start n m le h = (h.0, omega (arith, le, h.1))
+later_before (number_runs v sign b) run_start n m le h = (h.0, omega (arith, le, h.1))

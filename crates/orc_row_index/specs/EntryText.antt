@@ -5,7 +5,7 @@ use Rattle.orc_wire.specs.declared.row_index.RowIndexEntry.{RowIndexEntry}
 use Rattle.orc_values.specs.Cells.{Cell}
 use Rattle.orc_stats.specs.Messages.{message_of}
 use Rattle.orc_stats.specs.declared.stat.Stat.{Stat}
-use Rattle.orc_row_index.specs.Places.{ArePositions, writer}
+use Rattle.orc_row_index.specs.Positions.{ArePositions, writer}
 use Rattle.orc_row_index.specs.RunStreams.{RunStream}
 
 -- The canonical text of an index with this one entry: the writer's places behind the cells before the group, and a

@@ -1,5 +1,5 @@
 pub mod RunStreams
-pub mod Places
+pub mod Positions
 pub mod Bounds
 pub mod RowIndex
 pub mod Walking

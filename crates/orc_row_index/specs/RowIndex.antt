@@ -13,11 +13,11 @@ use Rattle.orc_stats.specs.Messages.{message_of, stat_read}
 use Rattle.orc_stats.specs.Statistics.{stat}
 use Rattle.orc_column_reader.specs.Stripe.{Streams}
 use Rattle.orc_row_index.specs.Bounds.{before_group, group_of}
-use Rattle.orc_row_index.specs.Places.{AreReadPlaces, AreWrittenPlaces}
+use Rattle.orc_row_index.specs.Positions.{AreReadPositions, AreWrittenPositions}
 
 -- the entry of a group: the places behind the cells before it, and the statistic of its own
 pub record IsWrittenEntry (s : Shape) (x : Streams) (before group : List Cell) (entry : RowIndexEntry) : Type 0 where
-  pub places : AreWrittenPlaces s x before entry.positions
+  pub places : AreWrittenPositions s x before entry.positions
   pub statistics : entry.statistics ≡ Some (message_of (stat (kind_of s) group))
 
 -- the entries of the first groups
@@ -50,7 +50,7 @@ pub record IsRightIndex (s : Shape) (x : Streams) (cells : List Cell) (bounds te
   pub counted : length message.entries ≡ length bounds
   pub places : (g : ℕ) (entry : RowIndexEntry)
       → slice_get message.entries g ≡ Some entry
-      → AreReadPlaces s x (before_group cells bounds g) entry.positions
+      → AreReadPositions s x (before_group cells bounds g) entry.positions
   pub statistics : (g : ℕ) (entry : RowIndexEntry)
       → slice_get message.entries g ≡ Some entry
       → SaysStat s (group_of cells bounds g) entry

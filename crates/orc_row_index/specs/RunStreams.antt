@@ -40,11 +40,11 @@ scalar_runs kind.Binary x = number_runs (version x) Unsigned (in_length x)
 scalar_runs kind.String x = text_runs (has_dictionary x) x
 
 -- the stream of runs that a column has beside PRESENT: DATA or LENGTH, and a struct none
-abbrev pub own_runs : Shape → Streams → RunStream
-own_runs (scalar k o) x = scalar_runs k x
-own_runs (list_of s o) x = number_runs (version x) Unsigned (in_length x)
-own_runs (map_of k v o) x = number_runs (version x) Unsigned (in_length x)
-own_runs (struct_of fs o) x = no_stream
+abbrev pub value_runs : Shape → Streams → RunStream
+value_runs (scalar k o) x = scalar_runs k x
+value_runs (list_of s o) x = number_runs (version x) Unsigned (in_length x)
+value_runs (map_of k v o) x = number_runs (version x) Unsigned (in_length x)
+value_runs (struct_of fs o) x = no_stream
 
 -- which stream of a column of strings has runs: DATA with a dictionary, else LENGTH
 abbrev pub kind_of_texts : Bool → StreamKind
@@ -63,11 +63,11 @@ kind_of_scalar kind.Binary d = stream.Length
 kind_of_scalar kind.String d = kind_of_texts d
 
 -- which stream has the runs beside PRESENT
-abbrev pub kind_of_own : Shape → Bool → StreamKind
-kind_of_own (scalar k o) d = kind_of_scalar k d
-kind_of_own (list_of s o) d = stream.Length
-kind_of_own (map_of k v o) d = stream.Length
-kind_of_own (struct_of fs o) d = stream.Data
+abbrev pub kind_of_values : Shape → Bool → StreamKind
+kind_of_values (scalar k o) d = kind_of_scalar k d
+kind_of_values (list_of s o) d = stream.Length
+kind_of_values (map_of k v o) d = stream.Length
+kind_of_values (struct_of fs o) d = stream.Data
 
 -- the bytes of strings that aren't in a dictionary
 abbrev pub text_octets : Bool → Streams → Option (List ℕ)
@@ -81,6 +81,6 @@ scalar_octets kind.String x = text_octets (has_dictionary x) x
 scalar_octets _ x = None
 
 -- DATA, where it has the bytes of the values as they are, one value after the other
-abbrev pub own_octets : Shape → Streams → Option (List ℕ)
-own_octets (scalar k o) x = scalar_octets k x
-own_octets _ x = None
+abbrev pub value_bytes : Shape → Streams → Option (List ℕ)
+value_bytes (scalar k o) x = scalar_octets k x
+value_bytes _ x = None

@@ -3,14 +3,14 @@ use Rattle.std.specs.Prelude.{◌≡◌, ℕ, ◌-◌, ◌/◌, ◌^◌, ◌≤�
 use Rattle.std.specs.Borrow.{Bor}
 use Rattle.orc_rle.specs.ByteRun.{IsByteRun}
 use Rattle.orc_positions.specs.Position.{HasValues}
-use Rattle.orc_positions.specs.Marks.{IsMark}
-use Rattle.orc_positions.specs.declared.mark.Mark.{Mark}
+use Rattle.orc_positions.specs.RunStarts.{IsRunStart}
+use Rattle.orc_positions.specs.declared.run_start.RunStart.{RunStart}
 use Rattle.orc_values.specs.Cells.{Cell, values}
 use Rattle.orc_values.specs.Shapes.{Shape}
 use Rattle.orc_column_reader.specs.Numbers.{is_run}
 use Rattle.orc_column_reader.specs.Stripe.{Streams, in_present}
-use Rattle.orc_row_index.specs.RunStreams.{RunStream, no_stream, bit_runs, byte_runs, number_runs, present_runs, own_runs, own_octets}
-use Rattle.orc_row_index.specs.Places.{octets}
+use Rattle.orc_row_index.specs.RunStreams.{RunStream, no_stream, bit_runs, byte_runs, number_runs, present_runs, value_runs, value_bytes}
+use Rattle.orc_row_index.specs.Positions.{octets}
 use Rattle.orc_row_index.specs.declared.run_bytes.RunBytes.{RunBytes}
 use Rattle.orc_row_index.specs.declared.run_bytes.RunBytes.TheVariants as run_bytes
 use Rattle.orc_row_index.specs.declared.counts.Counts.{Counts}
@@ -31,22 +31,22 @@ lent_bytes lent = option_map (λ b. b.now) lent
 -- these are the column's streams that have positions
 pub record ArePlaced (s : Shape) (x : Streams) (placed : PlacedStreams) : Type 0 where
   pub present_is : runs placed.present ≡ present_runs (in_present x)
-  pub content_is : lent_bytes placed.content ≡ own_octets s x
-  pub own_is : runs placed.own ≡ own_runs s x
+  pub content_is : lent_bytes placed.content ≡ value_bytes s x
+  pub own_is : runs placed.own ≡ value_runs s x
 
 -- the stream has n values or more
-abbrev pub HasPlace : RunStream → ℕ → Type 0
-HasPlace no_stream n = Unit {0}
-HasPlace (bit_runs stream) n = HasValues IsByteRun stream (n / 8)
-HasPlace (byte_runs stream) n = HasValues IsByteRun stream n
-HasPlace (number_runs version sign stream) n = HasValues (is_run version sign) stream n
+abbrev pub HasPosition : RunStream → ℕ → Type 0
+HasPosition no_stream n = Unit {0}
+HasPosition (bit_runs stream) n = HasValues IsByteRun stream (n / 8)
+HasPosition (byte_runs stream) n = HasValues IsByteRun stream n
+HasPosition (number_runs version sign stream) n = HasValues (is_run version sign) stream n
 
--- a mark in the stream that isn't behind value n
-abbrev pub BeginsBefore : RunStream → Mark → ℕ → Type 0
-BeginsBefore no_stream mark n = Unit {0}
-BeginsBefore (bit_runs stream) mark n = IsMark IsByteRun stream mark × (mark.before ≤ n / 8)
-BeginsBefore (byte_runs stream) mark n = IsMark IsByteRun stream mark × (mark.before ≤ n)
-BeginsBefore (number_runs version sign stream) mark n = IsMark (is_run version sign) stream mark × (mark.before ≤ n)
+-- a run start in the stream that isn't behind value n
+abbrev pub BeginsBefore : RunStream → RunStart → ℕ → Type 0
+BeginsBefore no_stream run_start n = Unit {0}
+BeginsBefore (bit_runs stream) run_start n = IsRunStart IsByteRun stream run_start × (run_start.before ≤ n / 8)
+BeginsBefore (byte_runs stream) run_start n = IsRunStart IsByteRun stream run_start × (run_start.before ≤ n)
+BeginsBefore (number_runs version sign stream) run_start n = IsRunStart (is_run version sign) stream run_start × (run_start.before ≤ n)
 
 -- bytes as they are are n or more
 abbrev pub HasOctets : Option (List ℕ) → ℕ → Type 0
@@ -64,11 +64,11 @@ pub record AreCounted (counts : Counts) (cells : List Cell) : Type 0 where
   pub octets_are : counts.octets ≡ min most (octets cells)
 
 -- the streams have the values of these cells
-pub record HavePlaces (present : RunStream) (content : Option (List ℕ)) (own : RunStream)
+pub record HavePositions (present : RunStream) (content : Option (List ℕ)) (own : RunStream)
     (before : List Cell) : Type 0 where
-  pub in_present : HasPlace present (length before)
+  pub in_present : HasPosition present (length before)
   pub in_content : HasOctets content (octets before)
-  pub in_own : HasPlace own (length (values before))
+  pub in_own : HasPosition own (length (values before))
 
 -- the walk has come no further than these cells
 pub record WalkedBefore (present own : RunStream) (walk : Walk) (before : List Cell) : Type 0 where

@@ -4,7 +4,7 @@ ghost use Rattle.orc_values.specs.Cells.{values};
 ghost use Rattle.orc_values.specs.Lent.{lent_cells};
 ghost use Rattle.orc_values.specs.Own.{own_cell};
 ghost use Rattle.orc_row_index.specs.OwnCells.{own_cells};
-ghost use Rattle.orc_row_index.specs.Places.{octets, octets_in};
+ghost use Rattle.orc_row_index.specs.Positions.{octets, octets_in};
 ghost use Rattle.orc_row_index.specs.Walking.{most};
 
 use crate::counts::Counts;

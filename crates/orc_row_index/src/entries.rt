@@ -9,7 +9,7 @@ ghost use Rattle.orc_column_reader.specs.Starting.{AreStreams};
 ghost use Rattle.orc_column_reader.specs.Stripe.{Streams};
 ghost use Rattle.orc_row_index.specs.Bounds.{AreBounds};
 ghost use Rattle.orc_row_index.specs.OwnCells.{AreOwn, AreSpelledOwn};
-ghost use Rattle.orc_row_index.specs.Places.{Adds};
+ghost use Rattle.orc_row_index.specs.Positions.{Adds};
 ghost use Rattle.orc_row_index.specs.RowIndex.{IsWrittenIndex};
 
 use crate::between::owns_between;
@@ -18,7 +18,7 @@ use crate::counts::Counts;
 use crate::entry_text::put_entry;
 use crate::group_bounds::{group_end, group_start};
 use crate::placed::placed_streams;
-use crate::tallies::{closed, tally_of};
+use crate::tallies::{statistic_of, tally_of};
 use crate::walk::Walk;
 use orc_column_reader::starting::ColumnStreams;
 use orc_stats::{Bins, Bools, Children, Counted, Dates, Ints, Plain, Stat, StatKind, Tally, Texts};
@@ -60,14 +60,14 @@ fn put_groups<'r, T: Tally<'r>>(
             &placed,
             walk,
             counts,
-            &closed(alloc, &tally)?,
+            &statistic_of(alloc, &tally)?,
             &mut room,
             out,
         )?;
         counts = counts_behind(counts, cells);
         whole.join(&tally);
     }
-    closed(alloc, &whole)
+    statistic_of(alloc, &whole)
 }
 
 /// Adds the bytes of the entries of a column's row index, one for each bound, and answers the statistic of its cells,

@@ -3,11 +3,11 @@ ghost use Rattle.std.specs.Prelude.{◌≡◌, List, IfOk, OnOk, OnErr};
 ghost use Rattle.orc_values.specs.Cells.{Cell};
 ghost use Rattle.orc_stats.specs.Messages as spec;
 ghost use Rattle.orc_row_index.specs.EntryText.{IsEntryText};
-ghost use Rattle.orc_row_index.specs.Places.{Adds};
-ghost use Rattle.orc_row_index.specs.Walking.{runs, lent_bytes, AreCounted, HavePlaces, WalkedBefore};
+ghost use Rattle.orc_row_index.specs.Positions.{Adds};
+ghost use Rattle.orc_row_index.specs.Walking.{runs, lent_bytes, AreCounted, HavePositions, WalkedBefore};
 
 use crate::counts::Counts;
-use crate::placed::{PlacedStreams, put_places};
+use crate::placed::{PlacedStreams, put_positions};
 use crate::walk::Walk;
 use orc_stats::Stat;
 use orc_wire::{ColumnStats, Items, Message, RowIndexEntry};
@@ -47,12 +47,12 @@ pub fn put_entry(
 ) -> Result<Walk, AllocError>
     requires { (before : List Cell)
         × AreCounted counts before
-        × HavePlaces (runs placed.now.present) (lent_bytes placed.now.content) (runs placed.now.own) before
+        × HavePositions (runs placed.now.present) (lent_bytes placed.now.content) (runs placed.now.own) before
         × WalkedBefore (runs placed.now.present) (runs placed.now.own) from before }
     // Where so much is counted of cells whose values the streams have, the one text of the entry is
     // added: the writer's places behind them, and the statistic.
     ensures entry { (before : List Cell) → AreCounted counts before
-        → HavePlaces (runs placed.now.present) (lent_bytes placed.now.content) (runs placed.now.own) before
+        → HavePositions (runs placed.now.present) (lent_bytes placed.now.content) (runs placed.now.own) before
         → OnOk result (Adds (IsEntryText (runs placed.now.present) (lent_bytes placed.now.content)
         (runs placed.now.own) before stat.now) out.old.items out.new.items) }
     // The walk has come no further than these cells.
@@ -63,7 +63,7 @@ pub fn put_entry(
     ensures unchanged { OnErr result (out.new.items ≡ out.old.items) }
 {
     room.clear();
-    let walk = put_places(placed, from, counts, room)?;
+    let walk = put_positions(placed, from, counts, room)?;
     let entry = RowIndexEntry {
         positions: Items::from_vec(replace(room, Vec::new(alloc))),
         statistics: Some(message_of(alloc, stat)?),

@@ -6,7 +6,7 @@ ghost use Rattle.orc_values.specs.Fits.{RowsFit};
 ghost use Rattle.orc_values.specs.Shapes.{Shape};
 ghost use Rattle.orc_column_reader.specs.Stripe.{Streams, cell_limit};
 ghost use Rattle.orc_row_index.specs.Bounds.{AreBounds, elements_before, pairs_before, values_before};
-ghost use Rattle.orc_row_index.specs.Places.{AreReadPlaces, AreWrittenPlaces};
+ghost use Rattle.orc_row_index.specs.Positions.{AreReadPositions, AreWrittenPositions};
 ghost use Rattle.orc_row_index.specs.RowIndex.{IsWrittenIndex, IsRightIndex};
 
 /// Laws of row indexes as they are written. It does nothing: its contract is what it is for. Of cells, their
@@ -21,14 +21,14 @@ pub fn index_laws()
         → a ≡ b }
     // Behind some cells a column's streams have one list of a writer's positions at most.
     ensures one_places { (s : Shape) (x : Streams) (before : List Cell) (a b : List ℕ)
-        → AreWrittenPlaces s x before a
-        → AreWrittenPlaces s x before b
+        → AreWrittenPositions s x before a
+        → AreWrittenPositions s x before b
         → a ≡ b }
     // A writer's positions are right for every reader, which goes on from them with the cells that
     // come then.
     ensures places { (s : Shape) (x : Streams) (before : List Cell) (positions : List ℕ)
-        → AreWrittenPlaces s x before positions
-        → AreReadPlaces s x before positions }
+        → AreWrittenPositions s x before positions
+        → AreReadPositions s x before positions }
     // Where cells fit and are fewer than 2^31, their index reads back: an entry for each group,
     // with right positions and the statistic of the group's cells.
     ensures right { (s : Shape) (x : Streams) (cells : List Cell) (bounds text : List ℕ)

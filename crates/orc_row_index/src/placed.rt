@@ -4,12 +4,12 @@ ghost use Rattle.orc_values.specs.Cells.{Cell};
 ghost use Rattle.orc_values.specs.Views.{shape};
 ghost use Rattle.orc_column_reader.specs.Starting.{AreStreams};
 ghost use Rattle.orc_column_reader.specs.Stripe.{Streams};
-ghost use Rattle.orc_row_index.specs.Places.{ArePositions, octets_place, writer, Adds};
-ghost use Rattle.orc_row_index.specs.RunStreams.{kind_of_own, present_runs, scalar_runs, text_runs, scalar_octets, text_octets};
-ghost use Rattle.orc_row_index.specs.Walking.{runs, lent_bytes, most, ArePlaced, AreCounted, HasOctets, HavePlaces, WalkedBefore};
+ghost use Rattle.orc_row_index.specs.Positions.{ArePositions, octets_position, writer, Adds};
+ghost use Rattle.orc_row_index.specs.RunStreams.{kind_of_values, present_runs, scalar_runs, text_runs, scalar_octets, text_octets};
+ghost use Rattle.orc_row_index.specs.Walking.{runs, lent_bytes, most, ArePlaced, AreCounted, HasOctets, HavePositions, WalkedBefore};
 
 use crate::counts::Counts;
-use crate::run_bytes::{RunBytes, put_place};
+use crate::run_bytes::{RunBytes, put_position};
 use crate::walk::Walk;
 use orc_column_reader::fault::StreamKind;
 use orc_column_reader::starting::ColumnStreams;
@@ -116,7 +116,7 @@ pub fn placed_streams<'a>(tree: &Tree, streams: &ColumnStreams<'a>) -> PlacedStr
 pub fn own_kind(tree: &Tree, has_dictionary: bool) -> StreamKind
     // The stream that has a column's runs beside PRESENT is told, DATA or LENGTH: by its kind, and
     // for texts by whether there is a dictionary; DATA for a struct, which has none.
-    ensures { result ≡ kind_of_own (shape tree.now) has_dictionary }
+    ensures { result ≡ kind_of_values (shape tree.now) has_dictionary }
 {
     match tree {
         Tree::Scalar(Scalar::String, _) => {
@@ -138,7 +138,7 @@ pub fn own_kind(tree: &Tree, has_dictionary: bool) -> StreamKind
 #[inline(always)]
 fn put_octets(content: Option<&[u8]>, octets: usize, out: &mut Vec<u64>) -> Result<(), AllocError>
     ensures { (n : ℕ) → octets ≡ min most n → HasOctets (lent_bytes content.entry) n
-        → OnOk result (out.new.items ≡ out.old.items ++ octets_place (lent_bytes content.entry) n) }
+        → OnOk result (out.new.items ≡ out.old.items ++ octets_position (lent_bytes content.entry) n) }
 {
     match content {
         Some(bytes) => {
@@ -151,7 +151,7 @@ fn put_octets(content: Option<&[u8]>, octets: usize, out: &mut Vec<u64>) -> Resu
 
 /// Adds the positions behind so many cells, and answers how far the streams are walked then.
 #[inline(always)]
-pub(crate) fn put_places(
+pub(crate) fn put_positions(
     placed: &PlacedStreams<'_>,
     from: Walk,
     counts: Counts,
@@ -159,10 +159,10 @@ pub(crate) fn put_places(
 ) -> Result<Walk, AllocError>
     requires { (before : List Cell)
         × AreCounted counts before
-        × HavePlaces (runs placed.now.present) (lent_bytes placed.now.content) (runs placed.now.own) before
+        × HavePositions (runs placed.now.present) (lent_bytes placed.now.content) (runs placed.now.own) before
         × WalkedBefore (runs placed.now.present) (runs placed.now.own) from before }
     ensures places { (before : List Cell) → AreCounted counts before
-        → HavePlaces (runs placed.now.present) (lent_bytes placed.now.content) (runs placed.now.own) before
+        → HavePositions (runs placed.now.present) (lent_bytes placed.now.content) (runs placed.now.own) before
         → OnOk result (Adds (ArePositions writer (runs placed.now.present)
         (lent_bytes placed.now.content) (runs placed.now.own) before)
         out.old.items out.new.items) }
@@ -170,8 +170,8 @@ pub(crate) fn put_places(
         → AreCounted counts before
         → WalkedBefore (runs placed.now.present) (runs placed.now.own) walk before) }
 {
-    let present = put_place(&placed.present, from.present, counts.cells, out)?;
+    let present = put_position(&placed.present, from.present, counts.cells, out)?;
     put_octets(placed.content, counts.octets, out)?;
-    let own = put_place(&placed.own, from.own, counts.values, out)?;
+    let own = put_position(&placed.own, from.own, counts.values, out)?;
     Ok(Walk { present, own })
 }

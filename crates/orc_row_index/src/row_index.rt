@@ -8,7 +8,7 @@ ghost use Rattle.orc_column_reader.specs.Starting.{AreStreams};
 ghost use Rattle.orc_column_reader.specs.Stripe.{Streams};
 ghost use Rattle.orc_row_index.specs.Bounds.{AreBounds};
 ghost use Rattle.orc_row_index.specs.OwnCells.{AreOwn, AreSpelledOwn};
-ghost use Rattle.orc_row_index.specs.Places.{Adds};
+ghost use Rattle.orc_row_index.specs.Positions.{Adds};
 ghost use Rattle.orc_row_index.specs.RowIndex.{IsWrittenIndex};
 
 use crate::entries::put_entries;

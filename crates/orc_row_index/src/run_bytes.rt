@@ -1,12 +1,12 @@
 //! One stream of a column, and the positions of its values.
 ghost use Rattle.std.specs.Prelude.{◌≡◌, ◌-◌, ◌≤◌, ◌++◌, [], ◌∷◌, IfOk, OnOk};
-ghost use Rattle.orc_positions.specs.Position.{IsPlace, HasValues};
-ghost use Rattle.orc_positions.specs.Marks.{IsMark};
+ghost use Rattle.orc_positions.specs.Position.{IsWriterPosition, HasValues};
+ghost use Rattle.orc_positions.specs.RunStarts.{IsRunStart};
 ghost use Rattle.orc_column_reader.specs.Numbers.{is_run};
-ghost use Rattle.orc_row_index.specs.Places.{IsPosition, writer, Adds, position_size};
-ghost use Rattle.orc_row_index.specs.Walking.{runs, HasPlace, BeginsBefore};
+ghost use Rattle.orc_row_index.specs.Positions.{IsPosition, writer, Adds, position_size};
+ghost use Rattle.orc_row_index.specs.Walking.{runs, HasPosition, BeginsBefore};
 
-use orc_positions::{Mark, byte_mark_at, mark_at};
+use orc_positions::{RunStart, byte_run_start_at, run_start_at};
 use orc_rle::{BitPos, Pos, Rle, Sign, V1, V2};
 use std::alloc::AllocError;
 
@@ -39,18 +39,18 @@ impl RunBytes<'_> {
     }
 }
 
-/// The mark of number `n`, whatever the version.
-fn number_mark(version: Rle, sign: Sign, bytes: &[u8], from: Mark, n: usize) -> Mark
+/// The run start of number `n`, whatever the version.
+fn number_run_start(version: Rle, sign: Sign, bytes: &[u8], from: RunStart, n: usize) -> RunStart
     requires there { HasValues (is_run version sign) bytes.now n }
-    requires from { IsMark (is_run version sign) bytes.now from }
+    requires from { IsRunStart (is_run version sign) bytes.now from }
     requires ahead { from.before ≤ n }
-    ensures place { IsPlace (is_run version sign) bytes.now result.offset (n - result.before) n }
-    ensures mark { IsMark (is_run version sign) bytes.now result }
+    ensures place { IsWriterPosition (is_run version sign) bytes.now result.offset (n - result.before) n }
+    ensures run_start { IsRunStart (is_run version sign) bytes.now result }
     ensures ahead { result.before ≤ n }
 {
     match version {
-        Rle::One => mark_at::<V1>(bytes, sign, from, n),
-        Rle::Two => mark_at::<V2>(bytes, sign, from, n),
+        Rle::One => run_start_at::<V1>(bytes, sign, from, n),
+        Rle::Two => run_start_at::<V2>(bytes, sign, from, n),
     }
 }
 
@@ -75,37 +75,37 @@ fn put_bit_pos(place: BitPos, out: &mut Vec<u64>) -> Result<(), AllocError>
     Ok(())
 }
 
-/// Adds the position of value `n` of a stream, and answers the mark of its run. The search begins at a mark
+/// Adds the position of value `n` of a stream, and answers the run start of its run. The search begins at a run start
 /// that is not behind the value.
 #[inline(always)]
-pub(crate) fn put_place(
+pub(crate) fn put_position(
     stream: &RunBytes<'_>,
-    from: Mark,
+    from: RunStart,
     n: usize,
     out: &mut Vec<u64>,
-) -> Result<Mark, AllocError>
-    requires there { HasPlace (runs stream.now) n }
+) -> Result<RunStart, AllocError>
+    requires there { HasPosition (runs stream.now) n }
     requires from { BeginsBefore (runs stream.now) from n }
     ensures place { OnOk result
         (Adds (IsPosition writer (runs stream.now) n) out.old.items out.new.items) }
-    ensures from { IfOk result (λ mark. BeginsBefore (runs stream.now) mark n) }
+    ensures from { IfOk result (λ run_start. BeginsBefore (runs stream.now) run_start n) }
 {
     match *stream {
         RunBytes::Nothing => Ok(from),
         RunBytes::Bits(bytes) => {
-            let mark = byte_mark_at(bytes, from, n / 8);
-            put_bit_pos(mark.bit_place(n), out)?;
-            Ok(mark)
+            let run_start = byte_run_start_at(bytes, from, n / 8);
+            put_bit_pos(run_start.bit_place(n), out)?;
+            Ok(run_start)
         }
         RunBytes::Bytes(bytes) => {
-            let mark = byte_mark_at(bytes, from, n);
-            put_pos(mark.place(n), out)?;
-            Ok(mark)
+            let run_start = byte_run_start_at(bytes, from, n);
+            put_pos(run_start.place(n), out)?;
+            Ok(run_start)
         }
         RunBytes::Numbers(version, sign, bytes) => {
-            let mark = number_mark(version, sign, bytes, from, n);
-            put_pos(mark.place(n), out)?;
-            Ok(mark)
+            let run_start = number_run_start(version, sign, bytes, from, n);
+            put_pos(run_start.place(n), out)?;
+            Ok(run_start)
         }
     }
 }

@@ -22,7 +22,7 @@ pub(crate) fn tally_of<'r, T: Tally<'r>>(owns: &[Own<'r>]) -> T
 }
 
 /// The statistic of what was counted.
-pub(crate) fn closed<'r, T: Tally<'r>>(alloc: Global, tally: &T) -> Result<Stat, AllocError>
+pub(crate) fn statistic_of<'r, T: Tally<'r>>(alloc: Global, tally: &T) -> Result<Stat, AllocError>
     ensures { IfOk result (λ found. found ≡ stat_of_kept T.measure (T.kept tally.now)) }
 {
     match tally.close(alloc) {

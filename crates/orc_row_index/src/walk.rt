@@ -1,16 +1,16 @@
 //! Where the walk through a column's streams has come.
 ghost use Rattle.std.specs.Prelude.{◌≡◌};
-ghost use Rattle.orc_positions.specs.Marks.{start_of_stream};
+ghost use Rattle.orc_positions.specs.RunStarts.{start_of_stream};
 
-use orc_positions::Mark;
+use orc_positions::RunStart;
 
 /// How far a column's streams are walked: PRESENT, and the one beside it.
 #[derive(Clone, Copy)]
 pub struct Walk {
     /// In PRESENT.
-    pub present: Mark,
+    pub present: RunStart,
     /// In the stream of runs beside it.
-    pub own: Mark,
+    pub own: RunStart,
 }
 
 impl Walk {
@@ -21,8 +21,8 @@ impl Walk {
         ensures own { result.own ≡ start_of_stream }
     {
         Walk {
-            present: Mark::start(),
-            own: Mark::start(),
+            present: RunStart::start(),
+            own: RunStart::start(),
         }
     }
 }

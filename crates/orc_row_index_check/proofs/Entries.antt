@@ -11,13 +11,13 @@ use Rattle.orc_column_reader.specs.declared.fault.StreamKind.TheVariants.{Presen
 use Rattle.orc_column_reader.specs.declared.fault.StripeFault.{StripeFault}
 use Rattle.orc_column_reader.specs.declared.starting.ColumnStreams.{ColumnStreams}
 use Rattle.orc_row_index.specs.Bounds.{bound_at}
-use Rattle.orc_row_index.specs.Places.{ArePositions, AreReadPlaces, reader}
-use Rattle.orc_row_index.specs.RunStreams.{RunStream, present_runs, own_octets}
+use Rattle.orc_row_index.specs.Positions.{ArePositions, AreReadPositions, reader}
+use Rattle.orc_row_index.specs.RunStreams.{RunStream, present_runs, value_bytes}
 use Rattle.orc_row_index.specs.Walking.{runs, lent_bytes, ArePlaced}
 use Rattle.orc_row_index.specs.declared.counts.Counts.{Counts}
 use Rattle.orc_row_index.specs.declared.placed.PlacedStreams.{PlacedStreams}
 use Rattle.orc_row_index.proofs.Groups.{pushed_get}
-use Rattle.orc_row_index.specs.RunStreams.{kind_of_own}
+use Rattle.orc_row_index.specs.RunStreams.{kind_of_values}
 use Rattle.orc_row_index_check.specs.ColumnTables.{FailsIn, ColumnFails}
 use Rattle.orc_row_index_check.specs.CountedBefore.{AreCountedBefore}
 use Rattle.orc_row_index_check.specs.Decided.{Decides, AreDecided}
@@ -36,9 +36,9 @@ deciding_none s streams counts entries right none =
 decided_in : (s : Shape) (x : Streams) (placed : PlacedStreams) (before : List Cell) (ps : List ℕ) (b : Bool) → ArePlaced s x placed
     → MatchBool b (ArePositions reader (runs placed.present) (lent_bytes placed.content) (runs placed.own) before ps)
     (ArePositions reader (runs placed.present) (lent_bytes placed.content) (runs placed.own) before ps → ⊥)
-    → MatchBool b (AreReadPlaces s x before ps) (AreReadPlaces s x before ps → ⊥)
+    → MatchBool b (AreReadPositions s x before ps) (AreReadPositions s x before ps → ⊥)
 decided_in s x placed before ps b are h =
-    subst (λ (y : RunStream). MatchBool b (ArePositions reader (present_runs (x.stream 0)) (own_octets s x) y before ps) (ArePositions reader (present_runs (x.stream 0)) (own_octets s x) y before ps → ⊥)) are.own_is
+    subst (λ (y : RunStream). MatchBool b (ArePositions reader (present_runs (x.stream 0)) (value_bytes s x) y before ps) (ArePositions reader (present_runs (x.stream 0)) (value_bytes s x) y before ps → ⊥)) are.own_is
     (subst (λ (y : Option (List ℕ)). MatchBool b (ArePositions reader (present_runs (x.stream 0)) y (runs placed.own) before ps) (ArePositions reader (present_runs (x.stream 0)) y (runs placed.own) before ps → ⊥)) are.content_is
     (subst (λ (y : RunStream). MatchBool b (ArePositions reader y (lent_bytes placed.content) (runs placed.own) before ps) (ArePositions reader y (lent_bytes placed.content) (runs placed.own) before ps → ⊥)) are.present_is h))
 
@@ -47,7 +47,7 @@ pub group_decided : (s : Shape) (x : Streams) (placed : PlacedStreams) (cells : 
     (ArePositions reader (runs placed.present) (lent_bytes placed.content) (runs placed.own) (take start cells) ps → ⊥)
     → Decides s x cells bounds group ps b
 group_decided s x placed cells bounds group start ps b are at h =
-    subst (λ (n : ℕ). MatchBool b (AreReadPlaces s x (take n cells) ps) (AreReadPlaces s x (take n cells) ps → ⊥)) at (decided_in s x placed (take start cells) ps b are h)
+    subst (λ (n : ℕ). MatchBool b (AreReadPositions s x (take n cells) ps) (AreReadPositions s x (take n cells) ps → ⊥)) at (decided_in s x placed (take start cells) ps b are h)
 
 same_entry : (a b : RowIndexEntry) → Some a ≡ Some b → a ≡ b
 same_entry a b e = cc
@@ -80,7 +80,7 @@ counts_there counts cells bounds n group h lt le = omega (arith, h.counted, lt, 
 
 -- ---- streams that are none of runs
 
-pub fails_in : (s : Shape) (x : Streams) (placed : PlacedStreams) (column : ℕ) (kind : StreamKind) (f : StripeFault) → ArePlaced s x placed → kind ≡ kind_of_own s (has_dictionary x)
+pub fails_in : (s : Shape) (x : Streams) (placed : PlacedStreams) (column : ℕ) (kind : StreamKind) (f : StripeFault) → ArePlaced s x placed → kind ≡ kind_of_values s (has_dictionary x)
     → FailsIn column Present (runs placed.present) f ⊎ FailsIn column kind (runs placed.own) f → ColumnFails s x column f
 fails_in s x placed column kind f are k (inl h) = inl (subst (λ (y : RunStream). FailsIn column Present y f) are.present_is h)
-fails_in s x placed column kind f are k (inr h) = inr (subst (λ (y : RunStream). FailsIn column (kind_of_own s (has_dictionary x)) y f) are.own_is (subst (λ (y : StreamKind). FailsIn column y (runs placed.own) f) k h))
+fails_in s x placed column kind f are k (inr h) = inr (subst (λ (y : RunStream). FailsIn column (kind_of_values s (has_dictionary x)) y f) are.own_is (subst (λ (y : StreamKind). FailsIn column y (runs placed.own) f) k h))

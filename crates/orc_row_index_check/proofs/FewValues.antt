@@ -11,7 +11,7 @@ use Rattle.orc_values.specs.declared.kind.Scalar.TheVariants as kind
 use Rattle.orc_column_reader.specs.Columns.{IsBool, IsByte, IsInt, IsDate, IsText, IsBinary}
 use Rattle.orc_column_reader.specs.Spellings.{size}
 use Rattle.orc_column_reader.specs.Stripe.{Streams, has_dictionary, Marks, SpellsTexts, SpellsScalar, SpellsValues, IsColumn}
-use Rattle.orc_row_index.specs.RunStreams.{present_runs, text_runs, scalar_runs, own_runs}
+use Rattle.orc_row_index.specs.RunStreams.{present_runs, text_runs, scalar_runs, value_runs}
 use Rattle.orc_row_index.proofs.ColumnPlaces.{stand_long}
 use Rattle.orc_row_index.proofs.Groups.{values_few}
 use Rattle.orc_row_index_check.specs.Tables.{HasFew, IsFew}
@@ -37,7 +37,7 @@ scalar_few kind.Date x vs h few = (h.0, h.2, omega (arith, few, stand_long IsDat
 scalar_few kind.String x vs h few = texts_few (has_dictionary x) x vs h few
 scalar_few kind.Binary x vs h few = (map size h.0, h.2.0, omega (arith, few, stand_long IsBinary h.0 vs h.1, length-map h.0 (size {X = ℕ})))
 
-own_few : (s : Shape) (x : Streams) (vs : List Cell) → SpellsValues s x vs → length vs < 2 ^ 31 → IsFew (own_runs s x)
+own_few : (s : Shape) (x : Streams) (vs : List Cell) → SpellsValues s x vs → length vs < 2 ^ 31 → IsFew (value_runs s x)
 own_few (scalar k o) x vs h few = scalar_few k x vs h few
 own_few (list_of s o) x vs h few = (map (λ v. size (parts v)) vs, h, omega (arith, few, length-map vs (λ (v : Cell). size (parts v))))
 own_few (map_of k v o) x vs h few = (map (λ m. size (pairs_in m)) vs, h, omega (arith, few, length-map vs (λ (m : Cell). size (pairs_in m))))
@@ -46,5 +46,5 @@ own_few (struct_of fs o) x vs h few = tt
 pub few_in_present : (s : Shape) (x : Streams) (column : List Cell) → IsColumn s x column → IsFew (present_runs (x.stream 0))
 few_in_present s x column h = present_few (x.stream 0) (map is_value column) h.marks (omega (arith, h.few, length-map column is_value))
 
-pub few_in_own : (s : Shape) (x : Streams) (column : List Cell) → IsColumn s x column → IsFew (own_runs s x)
+pub few_in_own : (s : Shape) (x : Streams) (column : List Cell) → IsColumn s x column → IsFew (value_runs s x)
 few_in_own s x column h = own_few s x (values column) h.spelled (omega (arith, h.few, values_few column))

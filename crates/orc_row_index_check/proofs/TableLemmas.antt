@@ -6,10 +6,10 @@ use Rattle.orc_positions.specs.Position.{HasValues}
 use Rattle.orc_positions.proofs.PlaceLemmas as seek
 use Rattle.orc_column_reader.specs.Numbers.{is_run}
 use Rattle.orc_column_reader.proofs.NumbersLemmas.{laws_of, byte_laws}
-use Rattle.orc_row_index.specs.Places.{IsPosition, reader}
+use Rattle.orc_row_index.specs.Positions.{IsPosition, reader}
 use Rattle.orc_row_index.specs.RunStreams.{RunStream, no_stream, bit_runs, byte_runs, number_runs}
-use Rattle.orc_row_index.specs.Walking.{HasPlace}
-use Rattle.orc_row_index_check.specs.Tables.{IsTable, TablePlace}
+use Rattle.orc_row_index.specs.Walking.{HasPosition}
+use Rattle.orc_row_index_check.specs.Tables.{IsTable, TablePosition}
 use Rattle.orc_row_index_check.specs.declared.stream_table.StreamTable.{StreamTable}
 use Rattle.orc_row_index_check.specs.declared.stream_table.StreamTable.TheVariants as table
 
@@ -22,7 +22,7 @@ fewer : {A : Type 0} (R : List ℕ → List A → Type 0) (bytes : List ℕ) (n 
 fewer R bytes n m le h = (h.0, h.1, omega (arith, le, h.2))
 
 -- a position that is found names the value
-pub place_named : (r : RunStream) (t : StreamTable) (n : ℕ) (ps : List ℕ) → IsTable r t → HasPlace r n → TablePlace t n ps → IsPosition reader r n ps
+pub place_named : (r : RunStream) (t : StreamTable) (n : ℕ) (ps : List ℕ) → IsTable r t → HasPosition r n → TablePosition t n ps → IsPosition reader r n ps
 place_named no_stream table.Nothing n ps is has h = h
 place_named no_stream (table.Bits p) n ps is has h = absurd is
 place_named no_stream (table.Runs p) n ps is has h = absurd is
@@ -52,7 +52,7 @@ place_named (number_runs v sign b) (table.Runs p) n ps is has h =
     let law = laws_of v sign in (h.0, h.1, h.2, seek.named (is_run v sign) law.one law.some b p h.0 h.1 n is has h.3)
 
 -- and one that names it is found
-pub place_found : (r : RunStream) (t : StreamTable) (n : ℕ) (ps : List ℕ) → IsTable r t → IsPosition reader r n ps → TablePlace t n ps
+pub place_found : (r : RunStream) (t : StreamTable) (n : ℕ) (ps : List ℕ) → IsTable r t → IsPosition reader r n ps → TablePosition t n ps
 place_found no_stream table.Nothing n ps is h = h
 place_found no_stream (table.Bits p) n ps is h = absurd is
 place_found no_stream (table.Runs p) n ps is h = absurd is
@@ -68,6 +68,6 @@ place_found (number_runs v sign b) (table.Bits p) n ps is h = absurd is
 place_found (number_runs v sign b) (table.Runs p) n ps is h =
     let law = laws_of v sign in (h.0, h.1, h.2, seek.begins_named (is_run v sign) law.one law.some b p h.0 h.1 n is h.3)
 
-pub place_decided : (r : RunStream) (t : StreamTable) (n : ℕ) (ps : List ℕ) (b : Bool) → IsTable r t → HasPlace r n → MatchBool b (TablePlace t n ps) (TablePlace t n ps → ⊥)
+pub place_decided : (r : RunStream) (t : StreamTable) (n : ℕ) (ps : List ℕ) (b : Bool) → IsTable r t → HasPosition r n → MatchBool b (TablePosition t n ps) (TablePosition t n ps → ⊥)
     → MatchBool b (IsPosition reader r n ps) (IsPosition reader r n ps → ⊥)
-place_decided r t n ps b is has h = match_by {P = TablePlace t n ps} {Q = IsPosition reader r n ps} b (place_named r t n ps is has) (place_found r t n ps is) h
+place_decided r t n ps b is has h = match_by {P = TablePosition t n ps} {Q = IsPosition reader r n ps} b (place_named r t n ps is has) (place_found r t n ps is) h

@@ -8,7 +8,7 @@ use Rattle.orc_column_reader.specs.declared.fault.StripeFault.{StripeFault}
 use Rattle.orc_column_reader.specs.declared.fault.StripeFault.TheVariants.{Run}
 use Rattle.orc_column_reader.specs.declared.fault.StreamKind.{StreamKind}
 use Rattle.orc_column_reader.specs.declared.fault.StreamKind.TheVariants as stream
-use Rattle.orc_row_index.specs.RunStreams.{RunStream, present_runs, own_runs, kind_of_own}
+use Rattle.orc_row_index.specs.RunStreams.{RunStream, present_runs, value_runs, kind_of_values}
 use Rattle.orc_row_index.specs.Walking.{lent_bytes}
 use Rattle.orc_row_index_check.specs.declared.column_table.ColumnTable.{ColumnTable}
 use Rattle.orc_row_index_check.specs.Tables.{IsTable, RunsFail}
@@ -28,4 +28,4 @@ FailsIn column kind runs fault = (cause : RunFault) × (fault ≡ Run column kin
 abbrev pub ColumnFails : Shape → Streams → ℕ → StripeFault → Type 0
 ColumnFails s x column fault =
     FailsIn column stream.Present (present_runs (in_present x)) fault
-    ⊎ FailsIn column (kind_of_own s (has_dictionary x)) (own_runs s x) fault
+    ⊎ FailsIn column (kind_of_values s (has_dictionary x)) (value_runs s x) fault

@@ -5,14 +5,14 @@ use Rattle.orc_values.specs.Cells.{Cell}
 use Rattle.orc_values.specs.Shapes.{Shape}
 use Rattle.orc_column_reader.specs.Stripe.{Streams}
 use Rattle.orc_row_index.specs.Bounds.{before_group}
-use Rattle.orc_row_index.specs.Places.{AreReadPlaces}
+use Rattle.orc_row_index.specs.Positions.{AreReadPositions}
 
 -- the truth value says whether the positions are those behind the cells before a group
 abbrev pub Decides : Shape → Streams → List Cell → List ℕ → ℕ → List ℕ → Bool → Type 0
 Decides s x cells bounds group positions right =
     MatchBool right
-    (AreReadPlaces s x (before_group cells bounds group) positions)
-    (AreReadPlaces s x (before_group cells bounds group) positions → ⊥)
+    (AreReadPositions s x (before_group cells bounds group) positions)
+    (AreReadPositions s x (before_group cells bounds group) positions → ⊥)
 
 -- each entry has its truth value: true where its positions are such places behind the cells before
 -- its group, and false where they are none

@@ -3,10 +3,10 @@ use Rattle.std.specs.Prelude.{◌≡◌, ℕ, ◌<◌, ◌^◌, List, [], length
 use Rattle.orc_rle.specs.ByteRun.{IsByteRun, NoByteRun}
 use Rattle.orc_rle.specs.Stream.{IsStream, StopsWithin}
 use Rattle.orc_rle.specs.declared.fault.RunFault.{RunFault}
-use Rattle.orc_positions.specs.RunPlaces.{ArePlaces, Names, NamesBit}
+use Rattle.orc_positions.specs.RunTable.{ArePlaces, Names, NamesBit}
 use Rattle.orc_column_reader.specs.Numbers.{is_run}
 use Rattle.orc_column_reader.specs.RunFaults.{no_run}
-use Rattle.orc_row_index.specs.Places.{RunPlace, BitPlace}
+use Rattle.orc_row_index.specs.Positions.{RunPosition, BitsPosition}
 use Rattle.orc_row_index.specs.RunStreams.{RunStream, no_stream, bit_runs, byte_runs, number_runs}
 use Rattle.orc_row_index.specs.Walking.{most}
 use Rattle.orc_row_index_check.specs.declared.stream_table.StreamTable.{StreamTable}
@@ -40,7 +40,7 @@ RunsFail (number_runs version sign stream) fault =
     StopsWithin (is_run version sign) (no_run version sign) most stream fault
 
 -- the position of value n, as it is looked up
-abbrev pub TablePlace : StreamTable → ℕ → List ℕ → Type 0
-TablePlace table.Nothing n positions = positions ≡ []
-TablePlace (table.Bits places) n positions = BitPlace (NamesBit places) n positions
-TablePlace (table.Runs places) n positions = RunPlace (Names places) n positions
+abbrev pub TablePosition : StreamTable → ℕ → List ℕ → Type 0
+TablePosition table.Nothing n positions = positions ≡ []
+TablePosition (table.Bits places) n positions = BitsPosition (NamesBit places) n positions
+TablePosition (table.Runs places) n positions = RunPosition (Names places) n positions

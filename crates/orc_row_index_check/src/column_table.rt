@@ -4,9 +4,9 @@ ghost use Rattle.orc_values.specs.Cells.{Cell};
 ghost use Rattle.orc_values.specs.Views.{shape};
 ghost use Rattle.orc_column_reader.specs.declared.fault.StripeFault.TheVariants.{OutOfMemory};
 ghost use Rattle.orc_column_reader.specs.declared.fault.StreamKind.TheVariants.{Present};
-ghost use Rattle.orc_row_index.specs.Places.{ArePositions, OwnPlaces, reader};
+ghost use Rattle.orc_row_index.specs.Positions.{ArePositions, ValuePositions, reader};
 ghost use Rattle.orc_row_index.specs.RunStreams.{RunStream};
-ghost use Rattle.orc_row_index.specs.Walking.{runs, lent_bytes, most, AreCounted, HavePlaces};
+ghost use Rattle.orc_row_index.specs.Walking.{runs, lent_bytes, most, AreCounted, HavePositions};
 ghost use Rattle.orc_row_index_check.specs.Tables.{IsTable, IsFew};
 ghost use Rattle.orc_row_index_check.specs.ColumnTables.{AreTables, FailsIn};
 
@@ -80,10 +80,10 @@ impl<'a> ColumnTable<'a> {
     fn own_right(&self, positions: &[u64], counts: Counts) -> bool
         ensures { (present : RunStream) (content : Option (List ℕ)) (own : RunStream) (before : List Cell)
             → AreTables present content own self.now
-            → AreCounted counts before → HavePlaces present content own before
+            → AreCounted counts before → HavePositions present content own before
             → MatchBool result
-            (OwnPlaces content own before positions.now)
-            (OwnPlaces content own before positions.now → ⊥) }
+            (ValuePositions content own before positions.now)
+            (ValuePositions content own before positions.now → ⊥) }
     {
         let Some(bytes) = self.content else {
             return self.own.right(positions, counts.values as u64);
@@ -103,7 +103,7 @@ impl<'a> ColumnTable<'a> {
     pub(crate) fn right(&self, positions: &[u64], counts: Counts) -> bool
         ensures { (present : RunStream) (content : Option (List ℕ)) (own : RunStream) (before : List Cell)
             → AreTables present content own self.now
-            → AreCounted counts before → HavePlaces present content own before
+            → AreCounted counts before → HavePositions present content own before
             → MatchBool result (ArePositions reader present content own before positions.now)
             (ArePositions reader present content own before positions.now → ⊥) }
     {

@@ -2,16 +2,16 @@
 ghost use Rattle.std.specs.Prelude.{◌≡◌, ◌<◌, ◌^◌, ◌⊎◌, ℕ, ℤ, List, length, IfOk, IfErr, MatchBool};
 ghost use Rattle.orc_rle.specs.Stream.{IsStream, StopsWithin};
 ghost use Rattle.orc_rle.specs.declared.fault.RunFault.TheVariants.{OutOfMemory};
-ghost use Rattle.orc_positions.specs.RunPlaces.{ArePlaces, Names, NamesBit};
+ghost use Rattle.orc_positions.specs.RunTable.{ArePlaces, Names, NamesBit};
 ghost use Rattle.orc_column_reader.specs.Numbers.{is_run};
 ghost use Rattle.orc_column_reader.specs.RunFaults.{no_run};
-ghost use Rattle.orc_row_index.specs.Places.{RunPlace, BitPlace};
+ghost use Rattle.orc_row_index.specs.Positions.{RunPosition, BitsPosition};
 ghost use Rattle.orc_row_index.specs.RunStreams.{RunStream};
 ghost use Rattle.orc_row_index.specs.Walking.{runs, most};
-ghost use Rattle.orc_row_index.specs.Places.{position_size};
-ghost use Rattle.orc_row_index_check.specs.Tables.{IsTable, IsFew, RunsFail, TablePlace};
+ghost use Rattle.orc_row_index.specs.Positions.{position_size};
+ghost use Rattle.orc_row_index_check.specs.Tables.{IsTable, IsFew, RunsFail, TablePosition};
 
-use orc_positions::{RunPlaces, byte_places, run_places};
+use orc_positions::{RunTable, byte_table, run_table};
 use orc_rle::{Rle, RunFault, Sign, V1, V2};
 use orc_row_index::RunBytes;
 use std::alloc::Global;
@@ -22,9 +22,9 @@ pub(crate) enum StreamTable {
     /// There is no such stream.
     Nothing,
     /// Booleans, eight to a byte.
-    Bits(RunPlaces),
+    Bits(RunTable),
     /// Bytes or integers.
-    Runs(RunPlaces),
+    Runs(RunTable),
 }
 
 /// The places of a stream of integers, whatever the version.
@@ -33,7 +33,7 @@ fn number_places(
     version: Rle,
     sign: Sign,
     bytes: &[u8],
-) -> Result<RunPlaces, RunFault>
+) -> Result<RunTable, RunFault>
     ensures found { IfOk result (ArePlaces (is_run version sign) bytes.now) }
     ensures only { (values : List ℤ) → IsStream (is_run version sign) bytes.now values → length values < 2 ^ 64
         → IfErr result (λ fault. fault ≡ OutOfMemory) }
@@ -41,8 +41,8 @@ fn number_places(
         ⊎ StopsWithin (is_run version sign) (no_run version sign) most bytes.now fault) }
 {
     match version {
-        Rle::One => run_places::<V1>(alloc, bytes, sign),
-        Rle::Two => run_places::<V2>(alloc, bytes, sign),
+        Rle::One => run_table::<V1>(alloc, bytes, sign),
+        Rle::Two => run_table::<V2>(alloc, bytes, sign),
     }
 }
 
@@ -57,8 +57,8 @@ pub(crate) fn table_of(alloc: Global, stream: &RunBytes<'_>) -> Result<StreamTab
 {
     match *stream {
         RunBytes::Nothing => Ok(StreamTable::Nothing),
-        RunBytes::Bits(bytes) => Ok(StreamTable::Bits(byte_places(alloc, bytes)?)),
-        RunBytes::Bytes(bytes) => Ok(StreamTable::Runs(byte_places(alloc, bytes)?)),
+        RunBytes::Bits(bytes) => Ok(StreamTable::Bits(byte_table(alloc, bytes)?)),
+        RunBytes::Bytes(bytes) => Ok(StreamTable::Runs(byte_table(alloc, bytes)?)),
         RunBytes::Numbers(version, sign, bytes) => {
             Ok(StreamTable::Runs(number_places(alloc, version, sign, bytes)?))
         }
@@ -66,10 +66,10 @@ pub(crate) fn table_of(alloc: Global, stream: &RunBytes<'_>) -> Result<StreamTab
 }
 
 /// Whether these are an offset and how many values are passed from there, and name value `n`.
-fn run_right(places: &RunPlaces, positions: &[u64], n: u64) -> bool
+fn run_right(places: &RunTable, positions: &[u64], n: u64) -> bool
     ensures { MatchBool result
-        (RunPlace (Names places.now) n positions.now)
-        (RunPlace (Names places.now) n positions.now → ⊥) }
+        (RunPosition (Names places.now) n positions.now)
+        (RunPosition (Names places.now) n positions.now → ⊥) }
 {
     match positions {
         [offset, skip] => places.begins(*offset, *skip, n),
@@ -78,10 +78,10 @@ fn run_right(places: &RunPlaces, positions: &[u64], n: u64) -> bool
 }
 
 /// The same of boolean `n`: an offset, how many bytes are passed, and how many booleans of the next one.
-fn bits_right(places: &RunPlaces, positions: &[u64], n: u64) -> bool
+fn bits_right(places: &RunTable, positions: &[u64], n: u64) -> bool
     ensures { MatchBool result
-        (BitPlace (NamesBit places.now) n positions.now)
-        (BitPlace (NamesBit places.now) n positions.now → ⊥) }
+        (BitsPosition (NamesBit places.now) n positions.now)
+        (BitsPosition (NamesBit places.now) n positions.now → ⊥) }
 {
     match positions {
         [offset, skip, bits] => places.begins_bit(*offset, *skip, *bits, n),
@@ -103,7 +103,7 @@ impl StreamTable {
 
     /// Whether the position names value `n`.
     pub(crate) fn right(&self, positions: &[u64], n: u64) -> bool
-        ensures { MatchBool result (TablePlace self.now n positions.now) (TablePlace self.now n positions.now → ⊥) }
+        ensures { MatchBool result (TablePosition self.now n positions.now) (TablePosition self.now n positions.now → ⊥) }
     {
         match self {
             StreamTable::Nothing => match positions {

@@ -10,10 +10,10 @@ use Rattle.orc_values.proofs.Together.{cells-append}
 use Rattle.orc_wire.specs.declared.row_index.RowIndexMsg.{RowIndexMsg}
 use Rattle.orc_column_reader.specs.Stripe.{Streams, SpellRows, columns_of}
 use Rattle.orc_row_index.specs.Bounds.{before_group}
-use Rattle.orc_row_index.specs.Places.{AreReadPlaces}
+use Rattle.orc_row_index.specs.Positions.{AreReadPositions}
 use Rattle.orc_row_index.specs.RunStreams.{RunStream, no_stream, bit_runs, byte_runs, number_runs}
 use Rattle.orc_stripe_writer.specs.Groups.{group_count, starts, cells_before, bounds_of}
-use Rattle.orc_group_reader.specs.Columns.{OctetsAgree, AgreeFromPlaces}
+use Rattle.orc_group_reader.specs.Columns.{OctetsAgree, AgreeFromPositions}
 use Rattle.orc_group_reader.specs.Streams.{RunsAgree}
 use Rattle.orc_stripe.specs.Opened.{Opened}
 use Rattle.orc_stripe.specs.RowIndexes.{HasIndex, IsWhole, ArePositionsDecided}
@@ -33,7 +33,7 @@ octets_itself : (o : ℕ) (c : Option (List ℕ)) → OctetsAgree o c c
 octets_itself o None = tt
 octets_itself o (Some b) = record { long = refl; same = refl }
 
-agree_itself : (s : Shape) (x : Streams) (before : List Cell) (ps : List ℕ) → AreReadPlaces s x before ps → AgreeFromPlaces s x x before ps
+agree_itself : (s : Shape) (x : Streams) (before : List Cell) (ps : List ℕ) → AreReadPositions s x before ps → AgreeFromPositions s x x before ps
 agree_itself s x before ps h = record {
   places = h;
   encoded = refl;
@@ -75,5 +75,5 @@ right_entry view rows c group message right counted has read whole decided told 
     let places = decided.each group found.0 true found.1 told in (
       found.0,
       (message, read, subst (λ (n : ℕ). IsWhole view n message) counted whole, found.1),
-      subst (λ (before : List Cell). AreReadPlaces (shape_at view.schema c) (columns_of view.footer view.bytes c) before found.0.positions) (before_is view.schema c view.stride group rows less) places,
+      subst (λ (before : List Cell). AreReadPositions (shape_at view.schema c) (columns_of view.footer view.bytes c) before found.0.positions) (before_is view.schema c view.stride group rows less) places,
     )

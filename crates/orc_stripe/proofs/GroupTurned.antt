@@ -9,7 +9,7 @@ use Rattle.orc_values.specs.Columns.{cells}
 use Rattle.orc_values.specs.Shapes.{Shape, width, shape_at}
 use Rattle.orc_wire.specs.declared.row_index.RowIndexEntry.{RowIndexEntry}
 use Rattle.orc_column_reader.specs.Stripe.{Streams, SpellRows, columns_of}
-use Rattle.orc_group_reader.specs.Columns.{AgreeFromPlaces}
+use Rattle.orc_group_reader.specs.Columns.{AgreeFromPositions}
 use Rattle.orc_column_reader.specs.declared.column.ColumnReader.{ColumnReader}
 use Rattle.orc_column_reader.specs.declared.fault.StripeFault.{StripeFault}
 use Rattle.orc_group_reader.specs.ReadersAt.{ReadersAt}
@@ -33,7 +33,7 @@ group_turns view x rows group entries h counted only =
       agree = λ c entry at.
           let k = h.column c (omega (arith, slice_get_within entries c entry at, counted)) in
           let same : entry ≡ k.0 = only c entry k.0 at k.1 in
-          subst (λ (e : RowIndexEntry). AgreeFromPlaces (shape_at view.schema c) (x c) (columns_of view.footer view.bytes c) (cells view.schema c (take n rows)) e.positions) (sym same) k.2;
+          subst (λ (e : RowIndexEntry). AgreeFromPositions (shape_at view.schema c) (x c) (columns_of view.footer view.bytes c) (cells view.schema c (take n rows)) e.positions) (sym same) k.2;
     }
 
 -- a group that begins before the last row is one of the groups

@@ -13,9 +13,9 @@ use Rattle.orc_column_reader.specs.declared.column.ColumnReader.{ColumnReader}
 use Rattle.orc_column_reader.specs.declared.fault.Spot.TheVariants as spot
 use Rattle.orc_column_reader.specs.declared.fault.StripeFault.{StripeFault}
 use Rattle.orc_column_reader.specs.declared.fault.StripeFault.TheVariants as fault
-use Rattle.orc_row_index.specs.Places.{AreReadPlaces}
+use Rattle.orc_row_index.specs.Positions.{AreReadPositions}
 use Rattle.orc_group_reader.specs.Behind.{IsBehind}
-use Rattle.orc_group_reader.specs.Columns.{AgreeFromPlaces}
+use Rattle.orc_group_reader.specs.Columns.{AgreeFromPositions}
 use Rattle.orc_group_reader.specs.ReadersAt.{ReadersAt}
 use Rattle.orc_group_reader.specs.Refusals.{ColumnRefused}
 use Rattle.orc_stripe.specs.Opened.{Opened}
@@ -38,7 +38,7 @@ IsGroupEntry view c group entry =
 abbrev pub StartsColumn : Opened → Streams → List Cell → ℕ → ℕ → Type 0
 StartsColumn view x before c group =
     (entry : RowIndexEntry) × IsGroupEntry view c group entry
-    × AgreeFromPlaces (shape_at view.schema c) x (columns_of view.footer view.bytes c) before entry.positions
+    × AgreeFromPositions (shape_at view.schema c) x (columns_of view.footer view.bytes c) before entry.positions
 
 -- Columns x spell rows, as many as the stripe has. The stripe has the group, and each column of it starts
 -- behind the rows before. Where x are the stripe's own columns, the rows are the stripe's; else it differs from
@@ -53,7 +53,7 @@ pub record StartsGroup (view : Opened) (x : ℕ → Streams) (rows : List Cell) 
 abbrev pub HasRightEntry : Opened → List Cell → ℕ → ℕ → Type 0
 HasRightEntry view rows c group =
     (entry : RowIndexEntry) × IsGroupEntry view c group entry
-    × AreReadPlaces (shape_at view.schema c) (columns_of view.footer view.bytes c)
+    × AreReadPositions (shape_at view.schema c) (columns_of view.footer view.bytes c)
     (cells view.schema c (take (group * view.stride) rows)) entry.positions
 
 -- why a column has no entry of a group that the stripe has

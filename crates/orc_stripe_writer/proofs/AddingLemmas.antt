@@ -11,9 +11,9 @@ use Rattle.orc_values.specs.Cells.{Cell, is_value, values}
 use Rattle.orc_stripe_writer.specs.declared.body.Body.{Body}
 use Rattle.orc_column_reader.specs.Spellings.{size, joined}
 use Rattle.orc_column_reader.specs.Stripe.{plain}
-use Rattle.orc_stripe_writer.specs.WordList.{AreDistinct, AreNamed, is_worth}
+use Rattle.orc_stripe_writer.specs.Dictionary.{AreDistinct, AreNamed, is_worth}
 use Rattle.orc_stripe_writer.specs.WrittenStreams.{AreWrittenInts, AreWrittenMarks}
-use Rattle.orc_stripe_writer.specs.WrittenColumn.{Written, direct, dictionary, HasBits, HasBytes, HasNumbers, HasGroups, HasWords, HasTextsIf, HasTexts, HasSizes, HasNothing, WritesValues}
+use Rattle.orc_stripe_writer.specs.WrittenColumn.{Written, direct, dictionary, HasBits, HasBytes, HasNumbers, HasStrings, HasDictionary, HasTextsIf, HasTexts, HasSizes, HasNothing, WritesValues}
 use Rattle.orc_stripe_writer.specs.WrittenStripe.{line}
 use Rattle.orc_stripe_writer.specs.Adding.{AddsStream, AddsValues, AddsColumn}
 
@@ -32,12 +32,12 @@ two o a d x y p q = q ∙ ap (λ l. l ++ y) p ∙ append_assoc o x y
 
 -- the streams of values, one after the other
 pub adds_streams : (P Q R : List ℕ → Type 0) (S : Written → Type 0) (c : ℕ) (e : Encoding) (o a b d : Body) → AddsStream P c 1 o a → AddsStream Q c 2 a b → AddsStream R c 3 b d
-    → ((marks content lengths words : List ℕ) → P content → Q lengths → R words → S (record { encoding = e; marks = marks; content = content; lengths = lengths; words = words }))
+    → ((marks content lengths dictionary_data : List ℕ) → P content → Q lengths → R dictionary_data → S (record { encoding = e; marks = marks; content = content; lengths = lengths; dictionary_data = dictionary_data }))
     → AddsValues S c o d e
 adds_streams P Q R S c e o a b d p q r s = record {
   content = p.text;
   lengths = q.text;
-  words = r.text;
+  dictionary_data = r.text;
   is = λ marks. s marks p.text q.text r.text p.is q.is r.is;
   bytes = three o.bytes.items a.bytes.items b.bytes.items d.bytes.items p.text q.text r.text p.bytes q.bytes r.bytes;
   directory = three o.directory.items a.directory.items b.directory.items d.directory.items (line c 1 p.text) (line c 2 q.text) (line c 3 r.text) p.directory q.directory r.directory;
@@ -45,25 +45,25 @@ adds_streams P Q R S c e o a b d p q r s = record {
 
 -- the same streams, said in other words
 pub adds_weaker : (P Q : Written → Type 0) (c : ℕ) (e : Encoding) (o d : Body) → ((w : Written) → P w → Q w) → AddsValues P c o d e → AddsValues Q c o d e
-adds_weaker P Q c e o d f h = record { content = h.content; lengths = h.lengths; words = h.words; is = λ marks. f _ (h.is marks); bytes = h.bytes; directory = h.directory }
+adds_weaker P Q c e o d f h = record { content = h.content; lengths = h.lengths; dictionary_data = h.dictionary_data; is = λ marks. f _ (h.is marks); bytes = h.bytes; directory = h.directory }
 
 -- PRESENT first, then the streams of the values
 pub adds_column : (rle : Rle) (s : Shape) (column : List Cell) (c : ℕ) (e : Encoding) (o a d : Body) → AddsStream (AreWrittenMarks (map is_value column)) c 0 o a
     → AddsValues (λ w. WritesValues rle w s (values column)) c a d e → AddsColumn rle s column c o d e
 adds_column rle s column c e o a d m v = record {
-  written = record { encoding = e; marks = m.text; content = v.content; lengths = v.lengths; words = v.words };
+  written = record { encoding = e; marks = m.text; content = v.content; lengths = v.lengths; dictionary_data = v.dictionary_data };
   is = record { marks = m.is; written = v.is m.text };
   encoded = refl;
-  bytes = two o.bytes.items a.bytes.items d.bytes.items m.text (v.content ++ (v.lengths ++ v.words)) m.bytes v.bytes;
-  directory = two o.directory.items a.directory.items d.directory.items (line c 0 m.text) (line c 1 v.content ++ (line c 2 v.lengths ++ line c 3 v.words)) m.directory v.directory;
+  bytes = two o.bytes.items a.bytes.items d.bytes.items m.text (v.content ++ (v.lengths ++ v.dictionary_data)) m.bytes v.bytes;
+  directory = two o.directory.items a.directory.items d.directory.items (line c 0 m.text) (line c 1 v.content ++ (line c 2 v.lengths ++ line c 3 v.dictionary_data)) m.directory v.directory;
 }
 
 -- DATA alone
 content_added : (P : List ℕ → Type 0) (S : Written → Type 0) (c : ℕ) (e k : Encoding) (o d : Body) → e ≡ k → AddsStream P c 1 o d
-    → ((w : Written) → P w.content → w ≡ record { encoding = k; marks = w.marks; content = w.content; lengths = []; words = [] } → S w) → AddsValues S c o d e
+    → ((w : Written) → P w.content → w ≡ record { encoding = k; marks = w.marks; content = w.content; lengths = []; dictionary_data = [] } → S w) → AddsValues S c o d e
 content_added P S c e k o d is h s =
     adds_streams P IsNothing IsNothing S c e o d d d h (nothing c 2 d) (nothing c 3 d)
-    (λ marks content lengths words p l r. s _ p (λ i. record { encoding = is i; marks = marks; content = content; lengths = l i; words = r i }))
+    (λ marks content lengths dictionary_data p l r. s _ p (λ i. record { encoding = is i; marks = marks; content = content; lengths = l i; dictionary_data = r i }))
 
 pub bits_added : (c : ℕ) (o d : Body) (e : Encoding) (bs cs : List Bool) → e ≡ plain → bs ≡ cs → AddsStream (IsBitText bs) c 1 o d → AddsValues (λ w. HasBits w cs) c o d e
 bits_added c o d e bs cs k q h =
@@ -80,39 +80,39 @@ numbers_added rle c o d e ns ms k q h =
 pub sizes_added : (rle : Rle) (c : ℕ) (o d : Body) (e : Encoding) (ns ms : List ℤ) → e ≡ direct rle → ns ≡ ms → AddsStream (AreWrittenInts rle Unsigned ns) c 2 o d → AddsValues (λ w. HasSizes rle w ms) c o d e
 sizes_added rle c o d e ns ms k q h =
     adds_streams IsNothing (AreWrittenInts rle Unsigned ns) IsNothing (λ w. HasSizes rle w ms) c e o o d d (nothing c 1 o) h (nothing c 3 d)
-    (λ marks content lengths words n p r. record {
+    (λ marks content lengths dictionary_data n p r. record {
       lengths_are = subst (λ xs. AreWrittenInts rle Unsigned xs lengths) q p;
-      others = λ i. record { encoding = k i; marks = marks; content = n i; lengths = lengths; words = r i };
+      others = λ i. record { encoding = k i; marks = marks; content = n i; lengths = lengths; dictionary_data = r i };
     })
 
 pub groups_added : (rle : Rle) (c : ℕ) (o a d : Body) (e : Encoding) (ns : List ℤ) (ps : List (List ℕ)) → e ≡ direct rle → ns ≡ map size ps
-    → AddsStream (λ text. text ≡ joined ps) c 1 o a → AddsStream (AreWrittenInts rle Unsigned ns) c 2 a d → AddsValues (λ w. HasGroups rle w ps) c o d e
+    → AddsStream (λ text. text ≡ joined ps) c 1 o a → AddsStream (AreWrittenInts rle Unsigned ns) c 2 a d → AddsValues (λ w. HasStrings rle w ps) c o d e
 groups_added rle c o a d e ns ps k q g h =
-    adds_streams (λ text. text ≡ joined ps) (AreWrittenInts rle Unsigned ns) IsNothing (λ w. HasGroups rle w ps) c e o a d d g h (nothing c 3 d)
-    (λ marks content lengths words n p r. record {
+    adds_streams (λ text. text ≡ joined ps) (AreWrittenInts rle Unsigned ns) IsNothing (λ w. HasStrings rle w ps) c e o a d d g h (nothing c 3 d)
+    (λ marks content lengths dictionary_data n p r. record {
       content_is = n;
       lengths_are = subst (λ xs. AreWrittenInts rle Unsigned xs lengths) q p;
-      others = λ i. record { encoding = k i; marks = marks; content = content; lengths = lengths; words = r i };
+      others = λ i. record { encoding = k i; marks = marks; content = content; lengths = lengths; dictionary_data = r i };
     })
 
 -- a struct has no stream of its own
 pub struct_added : (c : ℕ) (o : Body) (e : Encoding) → e ≡ plain → AddsValues HasNothing c o o e
 struct_added c o e k =
     adds_streams IsNothing IsNothing IsNothing HasNothing c e o o o o (nothing c 1 o) (nothing c 2 o) (nothing c 3 o)
-    (λ marks content lengths words n l r. λ i. record { encoding = k i; marks = marks; content = n i; lengths = l i; words = r i })
+    (λ marks content lengths dictionary_data n l r. λ i. record { encoding = k i; marks = marks; content = n i; lengths = l i; dictionary_data = r i })
 
 -- places in a dictionary, and the dictionary
 pub words_added : (rle : Rle) (c : ℕ) (o a b d : Body) (e : Encoding) (places others ls : List ℤ) (entries texts : List (List ℕ)) → e ≡ dictionary rle (length entries) → others ≡ places → ls ≡ map size entries → AreNamed entries places texts
     → AddsStream (AreWrittenInts rle Unsigned others) c 1 o a → AddsStream (AreWrittenInts rle Unsigned ls) c 2 a b → AddsStream (λ text. text ≡ joined entries) c 3 b d
-    → AddsValues (λ w. HasWords rle w entries texts) c o d e
+    → AddsValues (λ w. HasDictionary rle w entries texts) c o d e
 words_added rle c o a b d e places others ls entries texts k s q n f g h =
-    adds_streams (AreWrittenInts rle Unsigned others) (AreWrittenInts rle Unsigned ls) (λ text. text ≡ joined entries) (λ w. HasWords rle w entries texts) c e o a b d f g h
-    (λ marks content lengths words x y z. record {
+    adds_streams (AreWrittenInts rle Unsigned others) (AreWrittenInts rle Unsigned ls) (λ text. text ≡ joined entries) (λ w. HasDictionary rle w entries texts) c e o a b d f g h
+    (λ marks content lengths dictionary_data x y z. record {
       places = places;
       named = n;
       content_is = subst (λ xs. AreWrittenInts rle Unsigned xs content) s x;
       lengths_are = subst (λ xs. AreWrittenInts rle Unsigned xs lengths) q y;
-      words_are = z;
+      dictionary_data_is = z;
       encoded = k;
     })
 

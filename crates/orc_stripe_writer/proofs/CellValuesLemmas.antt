@@ -16,7 +16,7 @@ use Rattle.orc_stripe_writer.specs.declared.byte_string.ByteString.{ByteString}
 use Rattle.orc_column_reader.specs.Spellings.{AllStand, joined}
 use Rattle.orc_column_reader.specs.Columns.{IsBool, IsByte, IsInt, IsDate, IsText, IsBinary}
 use Rattle.orc_stripe_writer.specs.CellValues.{bools_in, ints_in, number_bytes_in, all_bytes_in, byte_of}
-use Rattle.orc_stripe_writer.specs.WordList.{byte_strings}
+use Rattle.orc_stripe_writer.specs.Dictionary.{byte_strings}
 
 -- a kind of whole numbers
 pub record IsIntKind (k : Scalar) : Type 0 where

@@ -5,8 +5,8 @@ use Rattle.std.specs.List.{list_any}
 use Rattle.std.proofs.lemmas.List.Folds.{list_any-append, list_any_more}
 use Rattle.std.proofs.lemmas.List.{take_all}
 use Rattle.std.proofs.lemmas.Map.Keys.{IsDistinct-push}
-use Rattle.orc_stripe_writer.specs.WordList.{is_worth}
-use Rattle.orc_stripe_writer.specs.WordChoice.{AreEachOnce, HasTooMany}
+use Rattle.orc_stripe_writer.specs.Dictionary.{is_worth}
+use Rattle.orc_stripe_writer.specs.DictionaryChoice.{AreEachOnce, HasTooMany}
 
 untrue : false ≡ true → ⊥
 untrue h = cc

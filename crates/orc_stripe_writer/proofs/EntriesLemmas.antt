@@ -12,9 +12,9 @@ use Rattle.std.proofs.lemmas.List.Folds.{Any-from_list_any, list_any-from_Any}
 use Rattle.std.proofs.lemmas.Map.Lookups.{exact_bytes}
 use Rattle.std.proofs.lemmas.Map.Made.{length-le_from_is_member}
 use Rattle.orc_stripe_writer.specs.declared.byte_string.ByteString.{ByteString}
-use Rattle.orc_stripe_writer.specs.WordList.{AreDistinct, is_worth}
-use Rattle.orc_stripe_writer.specs.WordChoice.{AreEachOnce, HasTooMany, HaveManyEntries}
-use Rattle.orc_stripe_writer.proofs.WordListLemmas.{from_map, to_map, in_tail, here, later}
+use Rattle.orc_stripe_writer.specs.Dictionary.{AreDistinct, is_worth}
+use Rattle.orc_stripe_writer.specs.DictionaryChoice.{AreEachOnce, HasTooMany, HaveManyEntries}
+use Rattle.orc_stripe_writer.proofs.DictionaryLemmas.{from_map, to_map, in_tail, here, later}
 
 -- a text put among others in order
 abbrev pub by : Ordering → List (List ℕ) → List (List ℕ) → List (List ℕ) → List (List ℕ)

@@ -84,7 +84,7 @@ lines_behind rle s column c old new e a = ap (drop (length old.directory.items))
 -- the streams that were written spell the cells
 pub column_spelled : (rle : Rle) (s : Shape) (column : List Cell) (c : ℕ) (old new : Body) (e : Encoding) (a : AddsColumn rle s column c old new e) → length column < 2 ^ 31 → IsColumn s (streams_written a.written) column
 column_spelled rle s column c old new e a few =
-    column_read rle s column (streams_written a.written) a.written (record { encoded = refl; found = record { marks = refl; content = refl; lengths = refl; words = refl } }) few a.is
+    column_read rle s column (streams_written a.written) a.written (record { encoded = refl; found = record { marks = refl; content = refl; lengths = refl; dictionary_data = refl } }) few a.is
 
 -- ---- one column more
 

@@ -1,6 +1,6 @@
 pub mod CellValuesLemmas
 pub mod OwnValues
-pub mod WordListLemmas
+pub mod DictionaryLemmas
 pub mod EachOnceLemmas
 pub mod EntriesLemmas
 pub mod PlacesLemmas

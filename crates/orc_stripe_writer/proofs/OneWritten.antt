@@ -22,11 +22,11 @@ use Rattle.orc_values.specs.Columns.{cells}
 use Rattle.orc_column_reader.specs.Spellings.{AllStand, size, joined}
 use Rattle.orc_column_reader.specs.Columns.{IsBool, IsByte, IsInt, IsDate, IsText, IsBinary, signed_byte}
 use Rattle.orc_column_reader.specs.Stripe.{plain}
-use Rattle.orc_stripe_writer.specs.WordList.{entry_at, AreNamed, is_worth}
+use Rattle.orc_stripe_writer.specs.Dictionary.{entry_at, AreNamed, is_worth}
 use Rattle.orc_stripe_writer.specs.WrittenStreams.{AreWrittenInts, AreMarksIf}
-use Rattle.orc_stripe_writer.specs.WrittenColumn.{Written, direct, HasBits, HasBytes, HasNumbers, HasGroups, HasWords, HasTextsIf, HasTexts, HasSizes, WritesScalar, WritesValues, IsWrittenColumn}
+use Rattle.orc_stripe_writer.specs.WrittenColumn.{Written, direct, HasBits, HasBytes, HasNumbers, HasStrings, HasDictionary, HasTextsIf, HasTexts, HasSizes, WritesScalar, WritesValues, IsWrittenColumn}
 use Rattle.orc_stripe_writer.specs.WrittenStripe.{AreWrittenColumns}
-use Rattle.orc_stripe_writer.proofs.WordListLemmas.{less_in, not_itself, one_distinct}
+use Rattle.orc_stripe_writer.proofs.DictionaryLemmas.{less_in, not_itself, one_distinct}
 
 -- ---- one stream
 
@@ -125,7 +125,7 @@ one_places es (t ∷ ts) (n ∷ a) (m ∷ b) h p q =
 
 -- with the same marks, DATA, LENGTH and DICTIONARY_DATA
 abbrev filled : Encoding → List ℕ → List ℕ → List ℕ → List ℕ → Written
-filled e marks content lengths words = record { encoding = e; marks = marks; content = content; lengths = lengths; words = words }
+filled e marks content lengths dictionary_data = record { encoding = e; marks = marks; content = content; lengths = lengths; dictionary_data = dictionary_data }
 
 one_bits : (w v : Written) (a b : List Bool) → w.marks ≡ v.marks → a ≡ b → HasBits w a → HasBits v b → w ≡ v
 one_bits w v a b m e p q =
@@ -146,7 +146,7 @@ one_numbers rle w v a b m e p q =
     let content = one_ints rle Signed a b w.content v.content e p.content_is q.content_is in
     p.others ∙ (λ i. filled (direct rle) (m i) (content i) [] []) ∙ sym q.others
 
-one_groups : (rle : Rle) (w v : Written) (a b : List (List ℕ)) → w.marks ≡ v.marks → a ≡ b → HasGroups rle w a → HasGroups rle v b → w ≡ v
+one_groups : (rle : Rle) (w v : Written) (a b : List (List ℕ)) → w.marks ≡ v.marks → a ≡ b → HasStrings rle w a → HasStrings rle v b → w ≡ v
 one_groups rle w v a b m e p q =
     let content : w.content ≡ v.content = p.content_is ∙ ap joined e ∙ sym q.content_is in
     let lengths = one_ints rle Unsigned (map size a) (map size b) w.lengths v.lengths (ap (map size) e) p.lengths_are q.lengths_are in
@@ -157,14 +157,14 @@ one_sizes rle w v a m p q =
     let lengths = one_ints rle Unsigned a a w.lengths v.lengths refl p.lengths_are q.lengths_are in
     p.others ∙ (λ i. filled (direct rle) (m i) [] (lengths i) []) ∙ sym q.others
 
-one_words : (rle : Rle) (w v : Written) (entries texts : List (List ℕ)) → w.marks ≡ v.marks → IsStrictlySortedBy (slice_cmp nat_cmp) entries → HasWords rle w entries texts → HasWords rle v entries texts → w ≡ v
+one_words : (rle : Rle) (w v : Written) (entries texts : List (List ℕ)) → w.marks ≡ v.marks → IsStrictlySortedBy (slice_cmp nat_cmp) entries → HasDictionary rle w entries texts → HasDictionary rle v entries texts → w ≡ v
 one_words rle w v entries texts m ascend p q =
     let places = one_places entries texts p.places q.places ascend p.named q.named in
     let content = one_ints rle Unsigned p.places q.places w.content v.content places p.content_is q.content_is in
     let lengths = one_ints rle Unsigned (map size entries) (map size entries) w.lengths v.lengths refl p.lengths_are q.lengths_are in
-    let words : w.words ≡ v.words = p.words_are ∙ sym q.words_are in
+    let dictionary_data : w.dictionary_data ≡ v.dictionary_data = p.dictionary_data_is ∙ sym q.dictionary_data_is in
     let encoded : w.encoding ≡ v.encoding = p.encoded ∙ sym q.encoded in
-    λ i. filled (encoded i) (m i) (content i) (lengths i) (words i)
+    λ i. filled (encoded i) (m i) (content i) (lengths i) (dictionary_data i)
 
 texts_if : (t : Bool) (rle : Rle) (w v : Written) (entries texts : List (List ℕ)) → w.marks ≡ v.marks → IsStrictlySortedBy (slice_cmp nat_cmp) entries → HasTextsIf t rle w entries texts → HasTextsIf t rle v entries texts → w ≡ v
 texts_if true rle w v entries texts m ascend p q = one_words rle w v entries texts m ascend p q

@@ -9,9 +9,9 @@ use Rattle.orc_rle.specs.declared.sign.Sign.{Sign}
 use Rattle.orc_rle.specs.Values.{InRange, AllInRange}
 use Rattle.orc_stripe_writer.specs.declared.byte_string.ByteString.{ByteString}
 use Rattle.std.specs.Option.{is_some}
-use Rattle.orc_stripe_writer.specs.WordList.{byte_strings, entry_at, AreNamed}
-use Rattle.orc_stripe_writer.specs.WordPlaces.{same_bytes, ArePlaces}
-use Rattle.orc_stripe_writer.proofs.WordListLemmas.{from_map}
+use Rattle.orc_stripe_writer.specs.Dictionary.{byte_strings, entry_at, AreNamed}
+use Rattle.orc_stripe_writer.specs.EntryIndexes.{same_bytes, ArePlaces}
+use Rattle.orc_stripe_writer.proofs.DictionaryLemmas.{from_map}
 
 pub record ArePlacesOf (told : ByteString → Option ℕ) (entries : List (ByteString)) (i : ℕ) : Type 0 where
   pub known : (text : ByteString) → list_any (same_bytes text) (take i entries) ≡ true → is_some (told text) ≡ true

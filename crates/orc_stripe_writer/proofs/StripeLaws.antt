@@ -18,9 +18,9 @@ use Rattle.orc_values.proofs.Together.{cells_fit}
 use Rattle.orc_column_reader.specs.Directory.{has_stream, slice}
 use Rattle.orc_column_reader.specs.Stripe.{Streams, version_at, columns_of}
 use Rattle.orc_row_index.specs.Bounds.{before_group}
-use Rattle.orc_row_index.specs.Places.{ArePositions, reader, AreReadPlaces}
+use Rattle.orc_row_index.specs.Positions.{ArePositions, reader, AreReadPositions}
 use Rattle.orc_row_index.specs.RowIndex.{IsRightIndex}
-use Rattle.orc_row_index.specs.RunStreams.{RunStream, bit_runs, byte_runs, number_runs, present_runs, text_runs, own_runs, text_octets, own_octets}
+use Rattle.orc_row_index.specs.RunStreams.{RunStream, bit_runs, byte_runs, number_runs, present_runs, text_runs, value_runs, text_octets, value_bytes}
 use Rattle.orc_row_index.proofs.WrittenIndex.{one_index, index_right}
 use Rattle.orc_stripe_writer.specs.Groups.{starts, bounds_of}
 use Rattle.orc_stripe_writer.specs.Indexes.{streams_written, index_lines, index_bytes}
@@ -80,7 +80,7 @@ contents_same false true x y t a = cc
 contents_same false false x y t a = ap Some a
 
 -- positions are those of the same streams
-own_same : (s : Shape) (x y : Streams) → x.encoding ≡ y.encoding → x.stream 1 ≡ y.stream 1 → x.stream 2 ≡ y.stream 2 → own_runs s x ≡ own_runs s y
+own_same : (s : Shape) (x y : Streams) → x.encoding ≡ y.encoding → x.stream 1 ≡ y.stream 1 → x.stream 2 ≡ y.stream 2 → value_runs s x ≡ value_runs s y
 own_same (list_of s o) x y e a b = λ i. number_runs (version_at (e i).kind) Unsigned (b i)
 own_same (map_of k v o) x y e a b = λ i. number_runs (version_at (e i).kind) Unsigned (b i)
 own_same (struct_of fs o) x y e a b = refl
@@ -93,7 +93,7 @@ own_same (scalar kind.Date o) x y e a b = λ i. number_runs (version_at (e i).ki
 own_same (scalar kind.Binary o) x y e a b = λ i. number_runs (version_at (e i).kind) Unsigned (b i)
 own_same (scalar kind.String o) x y e a b = texts_same (is_dictionary x.encoding.kind) (is_dictionary y.encoding.kind) x y (ap (λ (k : Encoding). is_dictionary k.kind) e) e a b
 
-octets_same : (s : Shape) (x y : Streams) → x.encoding ≡ y.encoding → x.stream 1 ≡ y.stream 1 → own_octets s x ≡ own_octets s y
+octets_same : (s : Shape) (x y : Streams) → x.encoding ≡ y.encoding → x.stream 1 ≡ y.stream 1 → value_bytes s x ≡ value_bytes s y
 octets_same (list_of s o) x y e a = refl
 octets_same (map_of k v o) x y e a = refl
 octets_same (struct_of fs o) x y e a = refl
@@ -107,11 +107,11 @@ octets_same (scalar kind.Binary o) x y e a = ap Some a
 octets_same (scalar kind.String o) x y e a = contents_same (is_dictionary x.encoding.kind) (is_dictionary y.encoding.kind) x y (ap (λ (k : Encoding). is_dictionary k.kind) e) a
 
 places_same : (s : Shape) (x y : Streams) (before : List Cell) (positions : List ℕ) → x.encoding ≡ y.encoding → x.stream 0 ≡ y.stream 0 → x.stream 1 ≡ y.stream 1 → x.stream 2 ≡ y.stream 2
-    → AreReadPlaces s x before positions → AreReadPlaces s y before positions
+    → AreReadPositions s x before positions → AreReadPositions s y before positions
 places_same s x y before positions e p a b h =
-    subst (λ (m : RunStream). ArePositions reader m (own_octets s y) (own_runs s y) before positions) (ap present_runs p)
-    (subst (λ (o : Option (List ℕ)). ArePositions reader (present_runs (x.stream 0)) o (own_runs s y) before positions) (octets_same s x y e a)
-    (subst (λ (r : RunStream). ArePositions reader (present_runs (x.stream 0)) (own_octets s x) r before positions) (own_same s x y e a b) h))
+    subst (λ (m : RunStream). ArePositions reader m (value_bytes s y) (value_runs s y) before positions) (ap present_runs p)
+    (subst (λ (o : Option (List ℕ)). ArePositions reader (present_runs (x.stream 0)) o (value_runs s y) before positions) (octets_same s x y e a)
+    (subst (λ (r : RunStream). ArePositions reader (present_runs (x.stream 0)) (value_bytes s x) r before positions) (own_same s x y e a b) h))
 
 right_in : (s : Shape) (y : Streams) (w : Written) (cs : List Cell) (bounds text : List ℕ) → y.encoding ≡ w.encoding → AreFound y.stream w → IsRightIndex s (streams_written w) cs bounds text
     → IsRightIndex s y cs bounds text

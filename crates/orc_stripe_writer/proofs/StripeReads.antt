@@ -55,7 +55,7 @@ no_index : (c : ℕ) (ws : List Written) (d : ℕ) → has_stream d 6 (lines_fro
 no_index c [] d = refl
 no_index c (w ∷ ws) d =
     ap (λ es. has_stream d 6 es) (lines_before c w (lines_from (suc c) ws))
-    ∙ not_listed c 0 w.marks _ d 6 (other_kind c d 0 6 refl) (not_listed c 1 w.content _ d 6 (other_kind c d 1 6 refl) (not_listed c 2 w.lengths _ d 6 (other_kind c d 2 6 refl) (not_listed c 3 w.words _ d 6 (other_kind c d 3 6 refl) (no_index (suc c) ws d))))
+    ∙ not_listed c 0 w.marks _ d 6 (other_kind c d 0 6 refl) (not_listed c 1 w.content _ d 6 (other_kind c d 1 6 refl) (not_listed c 2 w.lengths _ d 6 (other_kind c d 2 6 refl) (not_listed c 3 w.dictionary_data _ d 6 (other_kind c d 3 6 refl) (no_index (suc c) ws d))))
 
 index_not_before : (b : ℕ) (ts : List (List ℕ)) (ls : List StreamMsg) (d : ℕ) → d < b → has_stream d 6 ls ≡ false → has_stream d 6 (index_lines b ts ++ ls) ≡ false
 index_not_before b [] ls d lt h = h
@@ -89,7 +89,7 @@ columns_found rle s rows streams rest lines footer indexes bytes c h listed part
     subst (λ ms. AreFound (λ j. slice c j ms (streams ++ rest)) w) (sym h.listed) (subst (λ bs. AreFound (λ j. slice c j (lines_from 0 h.columns) bs) w) (sym all) one) in
     let at : (j : ℕ) → (6 == j) ≡ false → slice c j footer.streams bytes ≡ slice c j lines (streams ++ rest) = λ j e.
     (λ i. slice c j (listed i) (parts i)) ∙ index_passed 0 indexes lines (streams ++ rest) c j e in
-    record { marks = at 0 refl ∙ found.marks; content = at 1 refl ∙ found.content; lengths = at 2 refl ∙ found.lengths; words = at 3 refl ∙ found.words }
+    record { marks = at 0 refl ∙ found.marks; content = at 1 refl ∙ found.content; lengths = at 2 refl ∙ found.lengths; dictionary_data = at 3 refl ∙ found.dictionary_data }
 
 pub column_encoded : (rle : Rle) (s : Shape) (rows : List Cell) (streams : List ℕ) (lines : List StreamMsg) (footer : StripeFooter) (bytes : List ℕ) (c : ℕ)
     → (h : HasColumns rle s rows (width s) streams lines footer.columns) → c < width s → (columns_of footer bytes c).encoding ≡ (column_at h.columns c).encoding

@@ -74,17 +74,17 @@ has_room c k (b ∷ bs) ms room h =
 -- ---- one column
 
 pub lines_before : (c : ℕ) (w : Written) (ms : List StreamMsg)
-    → column_lines c w ++ ms ≡ line c 0 w.marks ++ (line c 1 w.content ++ (line c 2 w.lengths ++ (line c 3 w.words ++ ms)))
+    → column_lines c w ++ ms ≡ line c 0 w.marks ++ (line c 1 w.content ++ (line c 2 w.lengths ++ (line c 3 w.dictionary_data ++ ms)))
 lines_before c w ms = simp append_assoc
 
-bytes_before : (w : Written) (rest : List ℕ) → column_bytes w ++ rest ≡ w.marks ++ (w.content ++ (w.lengths ++ (w.words ++ rest)))
+bytes_before : (w : Written) (rest : List ℕ) → column_bytes w ++ rest ≡ w.marks ++ (w.content ++ (w.lengths ++ (w.dictionary_data ++ rest)))
 bytes_before w rest = simp append_assoc
 
 abbrev all_lines : ℕ → Written → List StreamMsg → List StreamMsg
-all_lines c w ms = line c 0 w.marks ++ (line c 1 w.content ++ (line c 2 w.lengths ++ (line c 3 w.words ++ ms)))
+all_lines c w ms = line c 0 w.marks ++ (line c 1 w.content ++ (line c 2 w.lengths ++ (line c 3 w.dictionary_data ++ ms)))
 
 abbrev all_bytes : Written → List ℕ → List ℕ
-all_bytes w rest = w.marks ++ (w.content ++ (w.lengths ++ (w.words ++ rest)))
+all_bytes w rest = w.marks ++ (w.content ++ (w.lengths ++ (w.dictionary_data ++ rest)))
 
 apart : (c : ℕ) (w : Written) (ms : List StreamMsg) (rest : List ℕ) (d j : ℕ)
     → slice d j (column_lines c w ++ ms) (column_bytes w ++ rest) ≡ slice d j (all_lines c w ms) (all_bytes w rest)
@@ -95,47 +95,47 @@ column_passed : (c : ℕ) (w : Written) (ms : List StreamMsg) (rest : List ℕ) 
     → slice d j (column_lines c w ++ ms) (column_bytes w ++ rest) ≡ slice d j ms rest
 column_passed c w ms rest d j h =
     apart c w ms rest d j
-    ∙ passed c 0 w.marks _ _ d j (other_column c d 0 j h) ∙ passed c 1 w.content _ _ d j (other_column c d 1 j h) ∙ passed c 2 w.lengths _ _ d j (other_column c d 2 j h) ∙ passed c 3 w.words ms rest d j (other_column c d 3 j h)
+    ∙ passed c 0 w.marks _ _ d j (other_column c d 0 j h) ∙ passed c 1 w.content _ _ d j (other_column c d 1 j h) ∙ passed c 2 w.lengths _ _ d j (other_column c d 2 j h) ∙ passed c 3 w.dictionary_data ms rest d j (other_column c d 3 j h)
 
 column_not_listed : (c : ℕ) (w : Written) (ms : List StreamMsg) (d j : ℕ) → (c == d) ≡ false → has_stream d j ms ≡ false → has_stream d j (column_lines c w ++ ms) ≡ false
 column_not_listed c w ms d j h n =
     ap (λ es. has_stream d j es) (lines_before c w ms)
-    ∙ not_listed c 0 w.marks _ d j (other_column c d 0 j h) (not_listed c 1 w.content _ d j (other_column c d 1 j h) (not_listed c 2 w.lengths _ d j (other_column c d 2 j h) (not_listed c 3 w.words ms d j (other_column c d 3 j h) n)))
+    ∙ not_listed c 0 w.marks _ d j (other_column c d 0 j h) (not_listed c 1 w.content _ d j (other_column c d 1 j h) (not_listed c 2 w.lengths _ d j (other_column c d 2 j h) (not_listed c 3 w.dictionary_data ms d j (other_column c d 3 j h) n)))
 
 -- the streams of a column, as they are found
 pub record AreFound (x : ℕ → List ℕ) (w : Written) : Type 0 where
   pub marks : x 0 ≡ w.marks
   pub content : x 1 ≡ w.content
   pub lengths : x 2 ≡ w.lengths
-  pub words : x 3 ≡ w.words
+  pub dictionary_data : x 3 ≡ w.dictionary_data
 
 pub column_found : (c : ℕ) (w : Written) (ms : List StreamMsg) (rest : List ℕ) → ((j : ℕ) → slice c j ms rest ≡ [])
     → AreFound (λ j. slice c j (column_lines c w ++ ms) (column_bytes w ++ rest)) w
 column_found c w ms rest none = record {
-  marks = apart c w ms rest c 0 ∙ met c 0 w.marks _ _ (passed c 1 w.content _ _ c 0 (other_kind c c 1 0 refl) ∙ passed c 2 w.lengths _ _ c 0 (other_kind c c 2 0 refl) ∙ passed c 3 w.words ms rest c 0 (other_kind c c 3 0 refl) ∙ none 0);
-  content = apart c w ms rest c 1 ∙ passed c 0 w.marks _ _ c 1 (other_kind c c 0 1 refl) ∙ met c 1 w.content _ _ (passed c 2 w.lengths _ _ c 1 (other_kind c c 2 1 refl) ∙ passed c 3 w.words ms rest c 1 (other_kind c c 3 1 refl) ∙ none 1);
-  lengths = apart c w ms rest c 2 ∙ passed c 0 w.marks _ _ c 2 (other_kind c c 0 2 refl) ∙ passed c 1 w.content _ _ c 2 (other_kind c c 1 2 refl) ∙ met c 2 w.lengths _ _ (passed c 3 w.words ms rest c 2 (other_kind c c 3 2 refl) ∙ none 2);
-  words = apart c w ms rest c 3 ∙ passed c 0 w.marks _ _ c 3 (other_kind c c 0 3 refl) ∙ passed c 1 w.content _ _ c 3 (other_kind c c 1 3 refl) ∙ passed c 2 w.lengths _ _ c 3 (other_kind c c 2 3 refl) ∙ met c 3 w.words ms rest (none 3);
+  marks = apart c w ms rest c 0 ∙ met c 0 w.marks _ _ (passed c 1 w.content _ _ c 0 (other_kind c c 1 0 refl) ∙ passed c 2 w.lengths _ _ c 0 (other_kind c c 2 0 refl) ∙ passed c 3 w.dictionary_data ms rest c 0 (other_kind c c 3 0 refl) ∙ none 0);
+  content = apart c w ms rest c 1 ∙ passed c 0 w.marks _ _ c 1 (other_kind c c 0 1 refl) ∙ met c 1 w.content _ _ (passed c 2 w.lengths _ _ c 1 (other_kind c c 2 1 refl) ∙ passed c 3 w.dictionary_data ms rest c 1 (other_kind c c 3 1 refl) ∙ none 1);
+  lengths = apart c w ms rest c 2 ∙ passed c 0 w.marks _ _ c 2 (other_kind c c 0 2 refl) ∙ passed c 1 w.content _ _ c 2 (other_kind c c 1 2 refl) ∙ met c 2 w.lengths _ _ (passed c 3 w.dictionary_data ms rest c 2 (other_kind c c 3 2 refl) ∙ none 2);
+  dictionary_data = apart c w ms rest c 3 ∙ passed c 0 w.marks _ _ c 3 (other_kind c c 0 3 refl) ∙ passed c 1 w.content _ _ c 3 (other_kind c c 1 3 refl) ∙ passed c 2 w.lengths _ _ c 3 (other_kind c c 2 3 refl) ∙ met c 3 w.dictionary_data ms rest (none 3);
 }
 
 column_once : (c : ℕ) (w : Written) (ms : List StreamMsg) → ((j : ℕ) → has_stream c j ms ≡ false) → names_once ms ≡ true → names_once (column_lines c w ++ ms) ≡ true
 column_once c w ms none o =
     ap names_once (lines_before c w ms)
-    ∙ named_once c 0 w.marks _ (not_listed c 1 w.content _ c 0 (other_kind c c 1 0 refl) (not_listed c 2 w.lengths _ c 0 (other_kind c c 2 0 refl) (not_listed c 3 w.words ms c 0 (other_kind c c 3 0 refl) (none 0))))
-    (named_once c 1 w.content _ (not_listed c 2 w.lengths _ c 1 (other_kind c c 2 1 refl) (not_listed c 3 w.words ms c 1 (other_kind c c 3 1 refl) (none 1)))
-    (named_once c 2 w.lengths _ (not_listed c 3 w.words ms c 2 (other_kind c c 3 2 refl) (none 2)) (named_once c 3 w.words ms (none 3) o)))
+    ∙ named_once c 0 w.marks _ (not_listed c 1 w.content _ c 0 (other_kind c c 1 0 refl) (not_listed c 2 w.lengths _ c 0 (other_kind c c 2 0 refl) (not_listed c 3 w.dictionary_data ms c 0 (other_kind c c 3 0 refl) (none 0))))
+    (named_once c 1 w.content _ (not_listed c 2 w.lengths _ c 1 (other_kind c c 2 1 refl) (not_listed c 3 w.dictionary_data ms c 1 (other_kind c c 3 1 refl) (none 1)))
+    (named_once c 2 w.lengths _ (not_listed c 3 w.dictionary_data ms c 2 (other_kind c c 3 2 refl) (none 2)) (named_once c 3 w.dictionary_data ms (none 3) o)))
 
 column_of : (c : ℕ) (w : Written) (ms : List StreamMsg) (width : ℕ) → c < width → have_columns width ms ≡ true → have_columns width (column_lines c w ++ ms) ≡ true
 column_of c w ms width h o =
     ap (have_columns width) (lines_before c w ms)
-    ∙ has_column c 0 w.marks _ width h (has_column c 1 w.content _ width h (has_column c 2 w.lengths _ width h (has_column c 3 w.words ms width h o)))
+    ∙ has_column c 0 w.marks _ width h (has_column c 1 w.content _ width h (has_column c 2 w.lengths _ width h (has_column c 3 w.dictionary_data ms width h o)))
 
 pub column_room : (c : ℕ) (w : Written) (ms : List StreamMsg) (room : ℕ) → have_room room ms ≡ true → have_room (length (column_bytes w) + room) (column_lines c w ++ ms) ≡ true
 column_room c w ms room h =
-    let l : length (column_bytes w) ≡ length w.marks + (length w.content + (length w.lengths + length w.words)) = simp length-append in
-    let all : length (column_bytes w) + room ≡ length w.marks + (length w.content + (length w.lengths + (length w.words + room))) = omega (arith, l) in
+    let l : length (column_bytes w) ≡ length w.marks + (length w.content + (length w.lengths + length w.dictionary_data)) = simp length-append in
+    let all : length (column_bytes w) + room ≡ length w.marks + (length w.content + (length w.lengths + (length w.dictionary_data + room))) = omega (arith, l) in
     ap (λ n. have_room n (column_lines c w ++ ms)) all ∙ ap (have_room _) (lines_before c w ms)
-    ∙ has_room c 0 w.marks _ _ (has_room c 1 w.content _ _ (has_room c 2 w.lengths _ _ (has_room c 3 w.words ms room h)))
+    ∙ has_room c 0 w.marks _ _ (has_room c 1 w.content _ _ (has_room c 2 w.lengths _ _ (has_room c 3 w.dictionary_data ms room h)))
 
 -- ---- all columns
 
@@ -185,7 +185,7 @@ lines_found b (v ∷ vs) rest (suc i) c w h e =
     let on : (j : ℕ) → slice c j (lines_from b (v ∷ vs)) (flat_map column_bytes (v ∷ vs) ++ rest) ≡ slice c j (lines_from (suc b) vs) (flat_map column_bytes vs ++ rest)
     = λ j. ap (λ bs. slice c j (lines_from b (v ∷ vs)) bs) (append_assoc (column_bytes v) (flat_map column_bytes vs) rest)
     ∙ column_passed b v (lines_from (suc b) vs) (flat_map column_bytes vs ++ rest) c j (after b c (omega arith)) in
-    record { marks = on 0 ∙ found.marks; content = on 1 ∙ found.content; lengths = on 2 ∙ found.lengths; words = on 3 ∙ found.words }
+    record { marks = on 0 ∙ found.marks; content = on 1 ∙ found.content; lengths = on 2 ∙ found.lengths; dictionary_data = on 3 ∙ found.dictionary_data }
 
 -- one more column at the end
 pub lines-append : (b : ℕ) (ws : List Written) (w : Written) (n : ℕ) → length ws ≡ n → lines_from b (ws ++ w ∷ []) ≡ lines_from b ws ++ column_lines (b + n) w

@@ -26,15 +26,15 @@ use Rattle.orc_values.specs.Types.{types, fields_types}
 use Rattle.orc_values.specs.Cells.{Cell, is_value, parts, pairs_in, values}
 use Rattle.orc_values.specs.Columns.{cells}
 use Rattle.orc_types.proofs.Trees.{length-types}
-use Rattle.orc_column_reader.specs.Spellings.{AllStand, Standing, size, Grouped}
+use Rattle.orc_column_reader.specs.Spellings.{AllStand, Standing, size, Sized}
 use Rattle.orc_column_reader.specs.Numbers.{AreNumbers}
 use Rattle.orc_column_reader.specs.Bytes.{AreBytes}
-use Rattle.orc_column_reader.specs.Columns.{IsBool, IsByte, IsText, IsWord}
+use Rattle.orc_column_reader.specs.Columns.{IsBool, IsByte, IsText, IsEntry}
 use Rattle.orc_column_reader.specs.Directory.{takes_encoding, first_wrong}
 use Rattle.orc_column_reader.specs.Stripe.{Streams, version_at, Marks, Is, SpellsTexts, SpellsScalar, SpellsValues, IsColumn, encoding_at, plain}
-use Rattle.orc_stripe_writer.specs.WordList.{entry_at, AreNamed, is_worth}
+use Rattle.orc_stripe_writer.specs.Dictionary.{entry_at, AreNamed, is_worth}
 use Rattle.orc_stripe_writer.specs.WrittenStreams.{AreWrittenInts, AreMarksIf, AreWrittenMarks}
-use Rattle.orc_stripe_writer.specs.WrittenColumn.{Written, direct, dictionary, HasBits, HasBytes, HasNumbers, HasGroups, HasTextsIf, WritesScalar, WritesValues, IsWrittenColumn}
+use Rattle.orc_stripe_writer.specs.WrittenColumn.{Written, direct, dictionary, HasBits, HasBytes, HasNumbers, HasStrings, HasTextsIf, WritesScalar, WritesValues, IsWrittenColumn}
 use Rattle.orc_stripe_writer.specs.WrittenStripe.{AreWrittenColumns, HasColumns}
 use Rattle.orc_stripe_writer.proofs.WrittenDirectory.{from_zero, AreFound}
 
@@ -101,7 +101,7 @@ numbers_at rle sign ns a b v e p w = rw (e, p) (ints_read rle sign ns b w)
 is_direct : (rle : Rle) (x : Streams) (w v : Written) → AreRead x w → w ≡ v → v.encoding ≡ direct rle → version_at x.encoding.kind ≡ rle
 is_direct rle x w v r e k = ap (λ (n : Encoding). version_at n.kind) (r.encoded ∙ ap (λ (u : Written). u.encoding) e ∙ k) ∙ direct_version rle
 
-groups_read : (rle : Rle) (x : Streams) (w : Written) (groups : List (List ℕ)) → AreRead x w → HasGroups rle w groups → Grouped (AreNumbers (version_at x.encoding.kind) Unsigned (x.stream 2)) (Is (x.stream 1)) groups
+groups_read : (rle : Rle) (x : Streams) (w : Written) (groups : List (List ℕ)) → AreRead x w → HasStrings rle w groups → Sized (AreNumbers (version_at x.encoding.kind) Unsigned (x.stream 2)) (Is (x.stream 1)) groups
 groups_read rle x w groups r h = (
   numbers_at rle Unsigned (map size groups) (x.stream 2) w.lengths _ (is_direct rle x w _ r h.others refl) r.found.lengths h.lengths_are,
   sym (r.found.content ∙ h.content_is),
@@ -111,11 +111,11 @@ groups_read rle x w groups r h = (
 standing_read : {X : Type 0} (stands : X → Cell → Type 0) (P Q : List X → Type 0) (vs : List Cell) → ((xs : List X) → P xs → Q xs) → Standing stands P vs → Standing stands Q vs
 standing_read stands P Q vs f h = (h.0, h.1, f h.0 h.2)
 
-word_at : (entries : List (List ℕ)) (n : ℤ) (t : List ℕ) (c : Cell) → entry_at entries n ≡ Some t → IsText t c → IsWord entries n c
+word_at : (entries : List (List ℕ)) (n : ℤ) (t : List ℕ) (c : Cell) → entry_at entries n ≡ Some t → IsText t c → IsEntry entries n c
 word_at entries (pos i) t c e h = (t, e, h)
 word_at entries (negsuc i) t c e h = cc
 
-words_stand : (entries : List (List ℕ)) (places : List ℤ) (texts : List (List ℕ)) (vs : List Cell) → AreNamed entries places texts → AllStand IsText texts vs → AllStand (IsWord entries) places vs
+words_stand : (entries : List (List ℕ)) (places : List ℤ) (texts : List (List ℕ)) (vs : List Cell) → AreNamed entries places texts → AllStand IsText texts vs → AllStand (IsEntry entries) places vs
 words_stand entries [] [] [] n h = tt
 words_stand entries [] [] (v ∷ vs) n h = absurd h
 words_stand entries [] (t ∷ ts) vs n h = cc
@@ -136,7 +136,7 @@ texts_if true rle x w vs entries texts r stand h =
       entries,
       record {
         counted = sym n;
-        spelled = (numbers_at rle Unsigned (map size entries) (x.stream 2) w.lengths _ v r.found.lengths h.lengths_are, sym (r.found.words ∙ h.words_are));
+        spelled = (numbers_at rle Unsigned (map size entries) (x.stream 2) w.lengths _ v r.found.lengths h.lengths_are, sym (r.found.dictionary_data ∙ h.dictionary_data_is));
       },
       (h.places, words_stand entries h.places texts vs h.named stand, numbers_at rle Unsigned h.places (x.stream 1) w.content _ v r.found.content h.content_is),
     )
@@ -273,7 +273,7 @@ none_wrong n (t ∷ ts) (e ∷ es) l h = let first : takes_encoding t.kind e.kin
 -- ---- the columns of a stripe
 
 abbrev no_column : Written
-no_column = record { encoding = plain; marks = []; content = []; lengths = []; words = [] }
+no_column = record { encoding = plain; marks = []; content = []; lengths = []; dictionary_data = [] }
 
 abbrev pub column_at : List Written → ℕ → Written
 column_at [] c = no_column

@@ -24,12 +24,12 @@ pub record AddsStream (is_text : List ℕ → Type 0) (c k : ℕ) (old new : Bod
 pub record AddsValues (is_written : Written → Type 0) (c : ℕ) (old new : Body) (encoding : Encoding) : Type 0 where
   pub content : List ℕ
   pub lengths : List ℕ
-  pub words : List ℕ
+  pub dictionary_data : List ℕ
   pub is : (marks : List ℕ)
-      → is_written (record { encoding = encoding; marks = marks; content = content; lengths = lengths; words = words })
-  pub bytes : new.bytes.items ≡ old.bytes.items ++ (content ++ (lengths ++ words))
+      → is_written (record { encoding = encoding; marks = marks; content = content; lengths = lengths; dictionary_data = dictionary_data })
+  pub bytes : new.bytes.items ≡ old.bytes.items ++ (content ++ (lengths ++ dictionary_data))
   pub directory : new.directory.items
-      ≡ old.directory.items ++ (line c DATA content ++ (line c LENGTH lengths ++ line c DICTIONARY_DATA words))
+      ≡ old.directory.items ++ (line c DATA content ++ (line c LENGTH lengths ++ line c DICTIONARY_DATA dictionary_data))
 
 -- the streams of one more column
 pub record AddsColumn (rle : Rle) (s : Shape) (column : List Cell) (c : ℕ) (old new : Body)

@@ -21,7 +21,7 @@ abbrev pub written_stream : Written → ℕ → List ℕ
 written_stream w zero = w.marks
 written_stream w (suc zero) = w.content
 written_stream w (suc (suc zero)) = w.lengths
-written_stream w (suc (suc (suc zero))) = w.words
+written_stream w (suc (suc (suc zero))) = w.dictionary_data
 written_stream w (suc (suc (suc (suc k)))) = []
 
 -- a written column's streams as a reader finds them

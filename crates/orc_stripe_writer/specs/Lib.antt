@@ -1,6 +1,6 @@
-pub mod WordList
-pub mod WordChoice
-pub mod WordPlaces
+pub mod Dictionary
+pub mod DictionaryChoice
+pub mod EntryIndexes
 pub mod CellValues
 pub mod WrittenStreams
 pub mod WrittenColumn

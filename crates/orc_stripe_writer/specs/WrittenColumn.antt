@@ -16,7 +16,7 @@ use Rattle.orc_values.specs.Cells.{Cell, is_value, parts, pairs_in, values}
 use Rattle.orc_column_reader.specs.Spellings.{Standing, size, joined}
 use Rattle.orc_column_reader.specs.Columns.{IsBool, IsByte, IsInt, IsDate, IsText, IsBinary}
 use Rattle.orc_column_reader.specs.Stripe.{plain}
-use Rattle.orc_stripe_writer.specs.WordList.{AreDistinct, AreNamed, is_worth}
+use Rattle.orc_stripe_writer.specs.Dictionary.{AreDistinct, AreNamed, is_worth}
 use Rattle.orc_stripe_writer.specs.WrittenStreams.{AreWrittenInts, AreWrittenMarks}
 
 -- a column as it is written: its encoding, and the bytes of PRESENT, DATA, LENGTH and DICTIONARY_DATA; a stream
@@ -26,7 +26,7 @@ pub record Written : Type 0 where
   pub marks : List ℕ
   pub content : List ℕ
   pub lengths : List ℕ
-  pub words : List ℕ
+  pub dictionary_data : List ℕ
 
 -- DIRECT, or DIRECT_V2
 abbrev pub direct : Rle → Encoding
@@ -41,38 +41,38 @@ dictionary Two entries = record { kind = DICTIONARY_V2; dictionary_size = entrie
 -- DATA has booleans; a column without streams of integers is DIRECT in either version
 pub record HasBits (w : Written) (bits : List Bool) : Type 0 where
   pub content_is : IsBitText bits w.content
-  pub others : w ≡ record { encoding = plain; marks = w.marks; content = w.content; lengths = []; words = [] }
+  pub others : w ≡ record { encoding = plain; marks = w.marks; content = w.content; lengths = []; dictionary_data = [] }
 
 -- DATA has bytes in runs
 pub record HasBytes (w : Written) (bytes : List ℕ) : Type 0 where
   pub content_is : IsWritten byte_rule bytes w.content
-  pub others : w ≡ record { encoding = plain; marks = w.marks; content = w.content; lengths = []; words = [] }
+  pub others : w ≡ record { encoding = plain; marks = w.marks; content = w.content; lengths = []; dictionary_data = [] }
 
 -- DATA has numbers
 pub record HasNumbers (rle : Rle) (w : Written) (numbers : List ℤ) : Type 0 where
   pub content_is : AreWrittenInts rle Signed numbers w.content
-  pub others : w ≡ record { encoding = direct rle; marks = w.marks; content = w.content; lengths = []; words = [] }
+  pub others : w ≡ record { encoding = direct rle; marks = w.marks; content = w.content; lengths = []; dictionary_data = [] }
 
 -- DATA has the groups one after the other, LENGTH their lengths
-pub record HasGroups (rle : Rle) (w : Written) (groups : List (List ℕ)) : Type 0 where
+pub record HasStrings (rle : Rle) (w : Written) (groups : List (List ℕ)) : Type 0 where
   pub content_is : w.content ≡ joined groups
   pub lengths_are : AreWrittenInts rle Unsigned (map size groups) w.lengths
   pub others : w
-      ≡ record { encoding = direct rle; marks = w.marks; content = w.content; lengths = w.lengths; words = [] }
+      ≡ record { encoding = direct rle; marks = w.marks; content = w.content; lengths = w.lengths; dictionary_data = [] }
 
 -- DATA has the place of each text among the entries, DICTIONARY_DATA and LENGTH have the entries
-pub record HasWords (rle : Rle) (w : Written) (entries texts : List (List ℕ)) : Type 0 where
+pub record HasDictionary (rle : Rle) (w : Written) (entries texts : List (List ℕ)) : Type 0 where
   pub places : List ℤ
   pub named : AreNamed entries places texts
   pub content_is : AreWrittenInts rle Unsigned places w.content
   pub lengths_are : AreWrittenInts rle Unsigned (map size entries) w.lengths
-  pub words_are : w.words ≡ joined entries
+  pub dictionary_data_is : w.dictionary_data ≡ joined entries
   pub encoded : w.encoding ≡ dictionary rle (length entries)
 
 -- strings in a dictionary, or with bytes of their own
 abbrev pub HasTextsIf : Bool → Rle → Written → List (List ℕ) → List (List ℕ) → Type 0
-HasTextsIf true rle w entries texts = HasWords rle w entries texts
-HasTextsIf false rle w entries texts = HasGroups rle w texts
+HasTextsIf true rle w entries texts = HasDictionary rle w entries texts
+HasTextsIf false rle w entries texts = HasStrings rle w texts
 
 -- a dictionary of the distinct texts where it is worth it, else the texts one after the other
 pub record HasTexts (rle : Rle) (w : Written) (texts : List (List ℕ)) : Type 0 where
@@ -83,11 +83,11 @@ pub record HasTexts (rle : Rle) (w : Written) (texts : List (List ℕ)) : Type 0
 -- LENGTH has sizes
 pub record HasSizes (rle : Rle) (w : Written) (sizes : List ℤ) : Type 0 where
   pub lengths_are : AreWrittenInts rle Unsigned sizes w.lengths
-  pub others : w ≡ record { encoding = direct rle; marks = w.marks; content = []; lengths = w.lengths; words = [] }
+  pub others : w ≡ record { encoding = direct rle; marks = w.marks; content = []; lengths = w.lengths; dictionary_data = [] }
 
 -- there is no stream beside PRESENT
 abbrev pub HasNothing : Written → Type 0
-HasNothing w = w ≡ record { encoding = plain; marks = w.marks; content = []; lengths = []; words = [] }
+HasNothing w = w ≡ record { encoding = plain; marks = w.marks; content = []; lengths = []; dictionary_data = [] }
 
 -- the streams of a column of single values
 abbrev pub WritesScalar : Rle → Written → Scalar → List Cell → Type 0
@@ -98,7 +98,7 @@ WritesScalar rle w kind.Int vs = Standing (IsInt kind.Int) (HasNumbers rle w) vs
 WritesScalar rle w kind.Long vs = Standing (IsInt kind.Long) (HasNumbers rle w) vs
 WritesScalar rle w kind.Date vs = Standing IsDate (HasNumbers rle w) vs
 WritesScalar rle w kind.String vs = Standing IsText (HasTexts rle w) vs
-WritesScalar rle w kind.Binary vs = Standing IsBinary (HasGroups rle w) vs
+WritesScalar rle w kind.Binary vs = Standing IsBinary (HasStrings rle w) vs
 
 -- the streams beside PRESENT are those of the values: of lists and maps their lengths, of structs none
 abbrev pub WritesValues : Rle → Written → Shape → List Cell → Type 0

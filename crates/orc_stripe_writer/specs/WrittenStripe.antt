@@ -35,13 +35,13 @@ line c k (b ∷ bs) = record { kind = k; column = c; length = length (b ∷ bs) 
 
 -- the streams of a column: PRESENT, DATA, LENGTH, DICTIONARY_DATA
 abbrev pub column_bytes : Written → List ℕ
-column_bytes w = w.marks ++ (w.content ++ (w.lengths ++ w.words))
+column_bytes w = w.marks ++ (w.content ++ (w.lengths ++ w.dictionary_data))
 
 -- the lines of the directory for a column's streams, by their kinds
 abbrev pub column_lines : ℕ → Written → List StreamMsg
 column_lines c w =
     line c PRESENT w.marks
-    ++ (line c DATA w.content ++ (line c LENGTH w.lengths ++ line c DICTIONARY_DATA w.words))
+    ++ (line c DATA w.content ++ (line c LENGTH w.lengths ++ line c DICTIONARY_DATA w.dictionary_data))
 
 -- of the columns from number c on
 abbrev pub lines_from : ℕ → List Written → List StreamMsg

@@ -5,7 +5,7 @@ ghost use Rattle.orc_rle.specs.Cut.{IsWritten};
 ghost use Rattle.orc_rle.specs.ByteRun.{byte_rule};
 ghost use Rattle.orc_rle.specs.BitStream.{IsBitText};
 ghost use Rattle.orc_column_reader.specs.Spellings.{joined};
-ghost use Rattle.orc_stripe_writer.specs.WordList.{byte_strings};
+ghost use Rattle.orc_stripe_writer.specs.Dictionary.{byte_strings};
 ghost use Rattle.orc_stripe_writer.specs.WrittenStreams.{AreWrittenInts};
 ghost use Rattle.orc_stripe_writer.specs.WrittenStripe.{line};
 ghost use Rattle.orc_stripe_writer.specs.Adding.{AddsStream, AppendsText};

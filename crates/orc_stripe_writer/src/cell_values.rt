@@ -10,7 +10,7 @@ ghost use Rattle.orc_stats.specs.Statistics as stats;
 ghost use Rattle.orc_row_index.specs.OwnCells.{own_cells};
 ghost use Rattle.orc_stripe_writer.specs.CellValues as spec;
 ghost use Rattle.orc_stripe_writer.specs.CellValues.{int_in, bytes_in, size_in, bools_in, ints_in, number_bytes_in, all_bytes_in, sizes_in};
-ghost use Rattle.orc_stripe_writer.specs.WordList.{byte_strings};
+ghost use Rattle.orc_stripe_writer.specs.Dictionary.{byte_strings};
 
 use crate::byte_string::ByteString;
 use orc_values::Own;

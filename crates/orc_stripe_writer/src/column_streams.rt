@@ -51,6 +51,6 @@ pub(crate) fn column_streams<'a>(
         present: stream_bytes(lines, bytes, column, PRESENT),
         data: stream_bytes(lines, bytes, column, DATA),
         lengths: stream_bytes(lines, bytes, column, LENGTH),
-        words: stream_bytes(lines, bytes, column, DICTIONARY_DATA),
+        dictionary_data: stream_bytes(lines, bytes, column, DICTIONARY_DATA),
     }
 }

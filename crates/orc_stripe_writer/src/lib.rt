@@ -11,7 +11,7 @@ mod indexes;
 mod limits;
 mod options;
 mod put_column;
-mod word_list;
+mod dictionary;
 mod writer;
 mod written;
 

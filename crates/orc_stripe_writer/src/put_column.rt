@@ -8,10 +8,10 @@ ghost use Rattle.orc_values.specs.Views.{shape};
 ghost use Rattle.orc_values.specs.Fits.{RowsFit};
 ghost use Rattle.orc_row_index.specs.OwnCells.{own_cells, AreOwn};
 ghost use Rattle.orc_stripe_writer.specs.CellValues.{bools_in, number_bytes_in, ints_in, sizes_in};
-ghost use Rattle.orc_stripe_writer.specs.WordList.{byte_strings, AreNamed};
+ghost use Rattle.orc_stripe_writer.specs.Dictionary.{byte_strings, AreNamed};
 ghost use Rattle.orc_stripe_writer.specs.WrittenStreams.{AreWrittenMarks};
 ghost use Rattle.orc_stripe_writer.specs.WrittenColumn as spec;
-ghost use Rattle.orc_stripe_writer.specs.WrittenColumn.{HasBits, HasBytes, HasNumbers, HasGroups, HasWords, HasTexts, HasSizes, WritesValues};
+ghost use Rattle.orc_stripe_writer.specs.WrittenColumn.{HasBits, HasBytes, HasNumbers, HasStrings, HasDictionary, HasTexts, HasSizes, WritesValues};
 ghost use Rattle.orc_stripe_writer.specs.Adding.{AddsStream, AddsValues, AddsColumn};
 ghost use Rattle.orc_wire.specs.StreamKinds.{PRESENT};
 ghost use Rattle.orc_column_reader.specs.Stripe.{plain as plain_encoding};
@@ -22,7 +22,7 @@ use crate::cell_values::{
     are_all_values, bools_of, byte_string_lengths, byte_strings_of, ints_of, marks_in,
     number_bytes_of, sizes_of,
 };
-use crate::word_list::{WordList, entries_of, word_list_of};
+use crate::dictionary::{Dictionary, entries_of, dictionary_of};
 use orc_rle::{Rle, Sign};
 use orc_values::{Own, Scalar, Tree};
 use orc_wire::{
@@ -135,14 +135,14 @@ fn put_numbers(
 }
 
 /// Adds the strings, and their lengths.
-fn put_groups(
+fn put_strings(
     alloc: Global,
     rle: Rle,
     column: u32,
     strings: &[ByteString<'_>],
     body: &mut Body,
 ) -> Result<Encoding, AllocError>
-    ensures { IfOk result (AddsValues (λ w. HasGroups rle w (byte_strings strings.now)) column body.old body.new) }
+    ensures { IfOk result (AddsValues (λ w. HasStrings rle w (byte_strings strings.now)) column body.old body.new) }
 {
     let lengths = byte_string_lengths(alloc, strings)?;
     body.put_byte_strings(column, DATA, strings)?;
@@ -151,17 +151,17 @@ fn put_groups(
 }
 
 /// Adds the places of texts in their dictionary, and the dictionary.
-fn put_words(
+fn put_dictionary(
     alloc: Global,
     rle: Rle,
     column: u32,
-    found: &WordList<'_>,
+    found: &Dictionary<'_>,
     body: &mut Body,
 ) -> Result<Encoding, AllocError>
     requires { AllInRange Unsigned found.now.places.items }
     ensures { IfOk result (λ encoding. (texts : List (List ℕ))
         → AreNamed (byte_strings found.now.entries.items) found.now.places.items texts
-        → AddsValues (λ w. HasWords rle w (byte_strings found.now.entries.items) texts)
+        → AddsValues (λ w. HasDictionary rle w (byte_strings found.now.entries.items) texts)
         column body.old body.new encoding) }
 {
     let Ok(entries) = u32::try_from(found.entries.len()) else {
@@ -186,10 +186,10 @@ fn put_texts(
 {
     match entries_of(alloc, strings)? {
         Some(entries) => {
-            let found = word_list_of(alloc, entries, strings)?;
-            put_words(alloc, rle, column, &found, body)
+            let found = dictionary_of(alloc, entries, strings)?;
+            put_dictionary(alloc, rle, column, &found, body)
         }
-        None => put_groups(alloc, rle, column, strings, body),
+        None => put_strings(alloc, rle, column, strings, body),
     }
 }
 
@@ -235,7 +235,7 @@ fn put_scalars(
         }
         Scalar::Binary => {
             let strings = byte_strings_of(alloc, owns)?;
-            put_groups(alloc, rle, column, &strings, body)
+            put_strings(alloc, rle, column, &strings, body)
         }
     }
 }

@@ -4,7 +4,7 @@ use Rattle.std.proofs.Common.{refl, sym, subst, inl, inr, arith}
 use Rattle.std.specs.Option.{IfSome}
 use Rattle.std.specs.Result.{MatchResult}
 use Rattle.orc_wire.specs.declared.post_script.PostScript.{PostScript}
-use Rattle.orc_tail.specs.Layout.{script_length, script_place}
+use Rattle.orc_tail.specs.Layout.{postscript_length, postscript_place}
 use Rattle.orc_tail.specs.Tails.{end_tests, IsTail, OpenFault, ReadFault}
 use Rattle.orc_tail.specs.Caps.{no_cap, tail_length, IsCappedTail, CappedFault}
 use Rattle.orc_tail.specs.declared.tail.Tail.{Tail}
@@ -12,8 +12,8 @@ use Rattle.orc_tail.specs.declared.fault.FileFault.{FileFault}
 use Rattle.orc_tail.specs.declared.fault.FileFault.TheVariants.{Limit}
 
 -- the tail's parts lie within the file
-pub tail_short : (bytes : List ℕ) (script : PostScript) → length bytes ≤ no_cap → (end_tests bytes).finds script → tail_length bytes script ≤ no_cap
-tail_short bytes script few h =
+pub tail_short : (bytes : List ℕ) (postscript : PostScript) → length bytes ≤ no_cap → (end_tests bytes).finds postscript → tail_length bytes postscript ≤ no_cap
+tail_short bytes postscript few h =
     let read = h.1.1.1 in
     let room = read.2.1.1.1 in
     subst (λ (s : PostScript). tail_length bytes s ≤ no_cap) (sym room.1) (omega (arith, few, h.1.1.0, room.0))
@@ -41,27 +41,27 @@ one_more_fault cap bytes fault (inr h) = elim h.2 [ inl above ↦ inr above.1 | 
 
 -- what is known of the ends where the bytes are told
 abbrev pub HasEnds : PostScript → ℕ → ℕ → List ℕ → Type 0
-HasEnds script place n bytes = ((end_tests bytes).finds script × (place ≡ script_place bytes)) × (n ≡ script_length bytes)
+HasEnds postscript place n bytes = ((end_tests bytes).finds postscript × (place ≡ postscript_place bytes)) × (n ≡ postscript_length bytes)
 
-pub ends_with : (told : Option (List ℕ)) (script : PostScript) (place n : ℕ) → IfSome told (λ b. (end_tests b).finds script × (place ≡ script_place b))
-    → IfSome told (λ b. n ≡ script_length b) → IfSome told (λ b. HasEnds script place n b)
-ends_with None script place n e l = tt
-ends_with (Some bytes) script place n e l = (e, l)
+pub ends_with : (told : Option (List ℕ)) (postscript : PostScript) (place n : ℕ) → IfSome told (λ b. (end_tests b).finds postscript × (place ≡ postscript_place b))
+    → IfSome told (λ b. n ≡ postscript_length b) → IfSome told (λ b. HasEnds postscript place n b)
+ends_with None postscript place n e l = tt
+ends_with (Some bytes) postscript place n e l = (e, l)
 
-pub above_cap : (told : Option (List ℕ)) (cap : ℕ) (script : PostScript) (place n : ℕ) → IfSome told (λ b. HasEnds script place n b)
-    → cap < n + script.footer_length + script.metadata_length → IfSome told (λ b. CappedFault cap b Limit)
-above_cap None cap script place n e above = tt
-above_cap (Some bytes) cap script place n e above = inr (script, e.0.0, inl ((λ within. omega (arith, within, above, e.1)), refl))
+pub above_cap : (told : Option (List ℕ)) (cap : ℕ) (postscript : PostScript) (place n : ℕ) → IfSome told (λ b. HasEnds postscript place n b)
+    → cap < n + postscript.footer_length + postscript.metadata_length → IfSome told (λ b. CappedFault cap b Limit)
+above_cap None cap postscript place n e above = tt
+above_cap (Some bytes) cap postscript place n e above = inr (postscript, e.0.0, inl ((λ within. omega (arith, within, above, e.1)), refl))
 
-pub fails_within : (told : Option (List ℕ)) (cap : ℕ) (script : PostScript) (place n : ℕ) (fault : FileFault) → IfSome told (λ b. HasEnds script place n b)
-    → n + script.footer_length + script.metadata_length ≤ cap → IfSome told (λ b. OpenFault b fault) → IfSome told (λ b. CappedFault cap b fault)
-fails_within None cap script place n fault e within h = tt
-fails_within (Some bytes) cap script place n fault e within h = inr (script, e.0.0, inr (omega (arith, within, e.1), h))
+pub fails_within : (told : Option (List ℕ)) (cap : ℕ) (postscript : PostScript) (place n : ℕ) (fault : FileFault) → IfSome told (λ b. HasEnds postscript place n b)
+    → n + postscript.footer_length + postscript.metadata_length ≤ cap → IfSome told (λ b. OpenFault b fault) → IfSome told (λ b. CappedFault cap b fault)
+fails_within None cap postscript place n fault e within h = tt
+fails_within (Some bytes) cap postscript place n fault e within h = inr (postscript, e.0.0, inr (omega (arith, within, e.1), h))
 
-pub found_within : (told : Option (List ℕ)) (cap : ℕ) (script : PostScript) (place n : ℕ) (tail : Tail) → IfSome told (λ b. HasEnds script place n b)
-    → n + script.footer_length + script.metadata_length ≤ cap → IfSome told (λ b. IsTail b tail) → IfSome told (λ b. IsCappedTail cap b tail)
-found_within None cap script place n tail e within h = tt
-found_within (Some bytes) cap script place n tail e within h = (script, e.0.0, (omega (arith, within, e.1), h))
+pub found_within : (told : Option (List ℕ)) (cap : ℕ) (postscript : PostScript) (place n : ℕ) (tail : Tail) → IfSome told (λ b. HasEnds postscript place n b)
+    → n + postscript.footer_length + postscript.metadata_length ≤ cap → IfSome told (λ b. IsTail b tail) → IfSome told (λ b. IsCappedTail cap b tail)
+found_within None cap postscript place n tail e within h = tt
+found_within (Some bytes) cap postscript place n tail e within h = (postscript, e.0.0, (omega (arith, within, e.1), h))
 
 -- the ends' own fault comes before the cap
 pub ends_capped : (told : Option (List ℕ)) (cap : ℕ) (fault : FileFault) → ReadFault told fault (λ b. (end_tests b).fails fault) → ReadFault told fault (λ b. CappedFault cap b fault)

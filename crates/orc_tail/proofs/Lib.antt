@@ -3,7 +3,7 @@ pub mod StripeLemmas
 pub mod Columns
 pub mod Seams
 pub mod StatLaws
-pub mod ShortScript
+pub mod ShortPostscript
 pub mod ImageLaws
 pub mod TailText
 pub mod TailLemmas

@@ -92,10 +92,10 @@ stripe_rows n from before [] h = tt
 stripe_rows n from before (s ∷ ss) h = (h.1.0, stripe_rows (n + 1) (stripe_end s) before ss h.1.1)
 
 -- what passes the tests of footer, metadata and limits
-module _ (footer_text metadata_text : List ℕ) (before : ℕ) (script : PostScript) (version : length script.version ≤ most_versions) where
+module _ (footer_text metadata_text : List ℕ) (before : ℕ) (postscript : PostScript) (version : length postscript.version ≤ most_versions) where
   within : (f : Footer) (s : Shape) (m : Metadata) (stats : List Stat × List (List Stat)) → (footer_tests footer_text).finds (f, s) → length f.statistics ≤ width s
       → length m.stripe_stats ≤ length f.stripes → have_few (width s) m.stripe_stats ≡ true → (limit_tests before f s m).finds stats
-      → IsWithinLimits (tail_of script f s (stats_read s 0 f.statistics, stripe_stats_read s m.stripe_stats))
+      → IsWithinLimits (tail_of postscript f s (stats_read s 0 f.statistics, stripe_stats_read s m.stripe_stats))
   within f s m stats foot few count stripe_few h =
       let is = foot.2.1 in
       record {
@@ -113,25 +113,25 @@ module _ (footer_text metadata_text : List ℕ) (before : ℕ) (script : PostScr
       }
 
   pub read_within : (f : Footer) (s : Shape) (m : Metadata) (stats : List Stat × List (List Stat)) → (footer_tests footer_text).finds (f, s) → (metadata_tests metadata_text f s).finds m
-      → (limit_tests before f s m).finds stats → IsWithinLimits (tail_of script f s stats)
+      → (limit_tests before f s m).finds stats → IsWithinLimits (tail_of postscript f s stats)
   read_within f s m stats foot meta h =
       let count = subst (λ (n : Metadata). length n.stripe_stats ≤ length f.stripes) (sym meta.2.1.1) meta.2.0 in
-      subst (λ (p : List Stat × List (List Stat)). IsWithinLimits (tail_of script f s p)) (sym h.1.1.1.2.1.1.1)
+      subst (λ (p : List Stat × List (List Stat)). IsWithinLimits (tail_of postscript f s p)) (sym h.1.1.1.2.1.1.1)
       (within f s m stats foot (footer_few footer_text f s foot) count (metadata_few metadata_text f s m meta) h)
 
 -- ---- of bytes that pass all tests
 
 pub tail_within : (bytes : List ℕ) (tail : Tail) → IsTail bytes tail → IsWithinLimits tail
 tail_within bytes tail h =
-    let script = h.0 in let f = h.2.0 in let m = h.2.2.0 in let last = h.2.2.2 in
+    let postscript = h.0 in let f = h.2.0 in let m = h.2.2.0 in let last = h.2.2.2 in
     let found = h.1.1.1.1 in
-    let version : length script.version ≤ most_versions = subst (λ (p : PostScript). length p.version ≤ most_versions) (sym found.2.1.1.1.1) found.2.0 in
+    let version : length postscript.version ≤ most_versions = subst (λ (p : PostScript). length p.version ≤ most_versions) (sym found.2.1.1.1.1) found.2.0 in
     subst IsWithinLimits (sym last.2)
-    (read_within (footer_bytes bytes script) (metadata_bytes bytes script) (metadata_place bytes script) script version f.0 f.1 m last.0 h.2.1 h.2.2.1 last.1)
+    (read_within (footer_bytes bytes postscript) (metadata_bytes bytes postscript) (metadata_place bytes postscript) postscript version f.0 f.1 m last.0 h.2.1 h.2.2.1 last.1)
 
 -- the stripes end within the bytes
 pub tail_before : (bytes : List ℕ) (tail : Tail) → IsTail bytes tail → AllBefore (length bytes) tail.stripes
 tail_before bytes tail h =
-    let script = h.0 in let f = h.2.0 in let last = h.2.2.2 in
+    let postscript = h.0 in let f = h.2.0 in let last = h.2.2.2 in
     subst (λ (t : Tail). AllBefore (length bytes) t.stripes) (sym last.2)
-    (all_before 0 3 (metadata_place bytes script) (length bytes) f.0.stripes (omega arith) last.1.1.1.1.1)
+    (all_before 0 3 (metadata_place bytes postscript) (length bytes) f.0.stripes (omega arith) last.1.1.1.1.1)

@@ -119,9 +119,9 @@ stripes_bits : (s : Shape) (ms : List StripeStatistics) → AllByRecursion strip
 stripes_bits s [] h = tt
 stripes_bits s (m ∷ ms) h = (stats_bits s 0 m.col_stats h.0, stripes_bits s ms h.1)
 
-parts_bits : (script : PostScript) (f : Footer) (s : Shape) (m : Metadata) → post_script_text.bounded script → footer_text.bounded f → HasTypes s f.types → metadata_text.bounded m
-    → HasBits (tail_of script f s (stats_read s 0 f.statistics, stripe_stats_read s m.stripe_stats))
-parts_bits script f s m p q types r = record {
+parts_bits : (postscript : PostScript) (f : Footer) (s : Shape) (m : Metadata) → post_script_text.bounded postscript → footer_text.bounded f → HasTypes s f.types → metadata_text.bounded m
+    → HasBits (tail_of postscript f s (stats_read s 0 f.statistics, stripe_stats_read s m.stripe_stats))
+parts_bits postscript f s m p q types r = record {
   version = p.1.1.0;
   writer = q.1.1.1.1.1.1.1.1.0;
   writer_version = p.1.1.1.1.0;
@@ -133,8 +133,8 @@ parts_bits script f s m p q types r = record {
   stride = q.1.1.1.1.1.1.1.0;
 }
 
-script_bits : (bytes : List ℕ) (script : PostScript) → (end_tests bytes).finds script → post_script_text.bounded script
-script_bits bytes script h =
+postscript_bits : (bytes : List ℕ) (postscript : PostScript) → (end_tests bytes).finds postscript → post_script_text.bounded postscript
+postscript_bits bytes postscript h =
     let found = h.1.1.1 in
     subst (λ (p : PostScript). post_script_text.bounded p) (sym found.2.1.1.1.1) (spelled post_script post_script_text _ found.0 found.1)
 
@@ -147,8 +147,8 @@ metadata_bits text f s m h = subst (λ (n : Metadata). metadata_text.bounded n) 
 
 pub tail_bits : (bytes : List ℕ) (tail : Tail) → IsTail bytes tail → HasBits tail
 tail_bits bytes tail h =
-    let script = h.0 in let f = h.2.0 in let m = h.2.2.0 in let last = h.2.2.2 in
-    let foot = footer_bits (footer_bytes bytes script) f h.2.1 in
-    let parts = parts_bits script f.0 f.1 m (script_bits bytes script h.1) foot.0 foot.1 (metadata_bits (metadata_bytes bytes script) f.0 f.1 m h.2.2.1) in
+    let postscript = h.0 in let f = h.2.0 in let m = h.2.2.0 in let last = h.2.2.2 in
+    let foot = footer_bits (footer_bytes bytes postscript) f h.2.1 in
+    let parts = parts_bits postscript f.0 f.1 m (postscript_bits bytes postscript h.1) foot.0 foot.1 (metadata_bits (metadata_bytes bytes postscript) f.0 f.1 m h.2.2.1) in
     subst (λ (t : Tail). HasBits t) (sym last.2)
-    (subst (λ (stats : List Stat × List (List Stat)). HasBits (tail_of script f.0 f.1 stats)) (sym last.1.1.1.1.2.1.1.1) parts)
+    (subst (λ (stats : List Stat × List (List Stat)). HasBits (tail_of postscript f.0 f.1 stats)) (sym last.1.1.1.1.2.1.1.1) parts)

@@ -20,11 +20,11 @@ use Rattle.orc_types.proofs.Decisions.{Decided, both, same_number, at_most, same
 use Rattle.orc_types.proofs.Cover.{SchemaCovered, schema_cover}
 use Rattle.orc_stats.specs.Messages.{in_limits}
 use Rattle.orc_io.specs.Devices.{bytes_at}
-use Rattle.orc_tail.specs.Layout.{magic, script_length, script_place, script_bytes, footer_bytes, metadata_bytes, metadata_place}
+use Rattle.orc_tail.specs.Layout.{magic, postscript_length, postscript_place, postscript_bytes, footer_bytes, metadata_bytes, metadata_place}
 use Rattle.orc_tail.specs.Tests.{schema_of}
 use Rattle.orc_tail.specs.Stripes.{stripe_tests, stripe_end, stripes_rows, stripes_length, most_stripes, most_stripe_rows, most_rows, most_bytes}
 use Rattle.orc_tail.specs.Statistics.{have_few, stats_read, stripe_stats_read}
-use Rattle.orc_tail.specs.Tails.{most_versions, script_tests, end_tests, footer_tests, metadata_tests, limit_tests}
+use Rattle.orc_tail.specs.Tails.{most_versions, postscript_tests, end_tests, footer_tests, metadata_tests, limit_tests}
 use Rattle.orc_tail.specs.Tails.{tail_of, IsTail, OpenFault}
 use Rattle.orc_tail.specs.declared.tail.Tail.{Tail}
 use Rattle.orc_tail.specs.declared.fault.FileFault.{FileFault}
@@ -113,8 +113,8 @@ part at n bytes are = taken n (drop at bytes) (dropped at bytes are)
 
 -- ---- a tail's tests
 
-script_cover : (text : List ℕ) (place : ℕ) → AllBytes text → Covers (script_tests text place).finds (script_tests text place).fails
-script_cover text place are =
+postscript_cover : (text : List ℕ) (place : ℕ) → AllBytes text → Covers (postscript_tests text place).finds (postscript_tests text place).fails
+postscript_cover text place are =
     chained (read post_script text fault.BadPostscript are) (λ m is.
     checked (at_most (length m.version) most_versions) (λ a.
     checked (either (same_numbers m.magic []) (same_numbers m.magic magic)) (λ b.
@@ -125,8 +125,8 @@ end_cover : (bytes : List ℕ) → AllBytes bytes → Covers (end_tests bytes).f
 end_cover bytes are =
     checked (at_most 4 (length bytes)) (λ a.
     checked (same_numbers (bytes_at 0 3 bytes) magic) (λ b.
-    checked (at_most (script_length bytes + 4) (length bytes)) (λ c.
-    script_cover (script_bytes bytes) (script_place bytes) (part _ _ bytes are))))
+    checked (at_most (postscript_length bytes + 4) (length bytes)) (λ c.
+    postscript_cover (postscript_bytes bytes) (postscript_place bytes) (part _ _ bytes are))))
 
 footer_cover : (text : List ℕ) → AllBytes text → Covers (footer_tests text).finds (footer_tests text).fails
 footer_cover text are =

@@ -9,7 +9,7 @@ use Rattle.orc_wire.proofs.PutLemmas.{and_then}
 use Rattle.orc_stats.specs.declared.stat.Stat.{Stat}
 use Rattle.orc_stats.specs.Messages.{message_of}
 use Rattle.orc_tail.specs.Statistics.{stripe_message}
-use Rattle.orc_tail.specs.Images.{metadata_of, footer_of, script_of, ended, HasBits}
+use Rattle.orc_tail.specs.Images.{metadata_of, footer_of, postscript_of, ended, HasBits}
 use Rattle.orc_tail.specs.declared.tail.Tail.{Tail}
 
 list_text_map : {X Y : Type 0} (payload : Y → Payload) (f : X → Y) (n : ℕ) (xs : List X) → list_text payload n (map f xs) ≡ list_text (λ x. payload (f x)) n xs
@@ -20,12 +20,12 @@ pub metadata_is : (tail : Tail) → list_text (λ xs. sized (stripe_stats_text.t
 metadata_is tail = sym (list_text_map (λ m. sized (stripe_stats_text.text m)) stripe_message 1 tail.stripe_stats)
 
 -- three texts and the last one's length
-pub parts_are : (o0 o1 o2 o3 o4 metadata footer script : List ℕ) (n : ℕ) → o1 ≡ o0 ++ metadata → o2 ≡ o1 ++ footer → o3 ≡ o2 ++ script → o4 ≡ o3 ++ n ∷ [] → n ≡ length script
-    → o4 ≡ o0 ++ ended metadata footer script
-parts_are o0 o1 o2 o3 o4 metadata footer script n a b c d e =
-    and_then o0 o1 metadata (footer ++ (script ++ length script ∷ [])) o4 a
-    (and_then o1 o2 footer (script ++ length script ∷ []) o4 b
-    (and_then o2 o3 script (length script ∷ []) o4 c (d ∙ ap (λ (k : ℕ). o3 ++ k ∷ []) e)))
+pub parts_are : (o0 o1 o2 o3 o4 metadata footer postscript : List ℕ) (n : ℕ) → o1 ≡ o0 ++ metadata → o2 ≡ o1 ++ footer → o3 ≡ o2 ++ postscript → o4 ≡ o3 ++ n ∷ [] → n ≡ length postscript
+    → o4 ≡ o0 ++ ended metadata footer postscript
+parts_are o0 o1 o2 o3 o4 metadata footer postscript n a b c d e =
+    and_then o0 o1 metadata (footer ++ (postscript ++ length postscript ∷ [])) o4 a
+    (and_then o1 o2 footer (postscript ++ length postscript ∷ []) o4 b
+    (and_then o2 o3 postscript (length postscript ∷ []) o4 c (d ∙ ap (λ (k : ℕ). o3 ++ k ∷ []) e)))
 
 all_back : {X Y : Type 0} (P : Y → Type 0) (f : X → Y) (xs : List X) → AllByRecursion P (map f xs) → AllByRecursion (λ x. P (f x)) xs
 all_back P f [] h = tt
@@ -36,11 +36,11 @@ stripes_back [] h = tt
 stripes_back (xs ∷ xss) h = (all_back column_stats_text.bounded message_of xs h.0, stripes_back xss h.1)
 
 -- what is written has bits
-pub bits_are : (tail : Tail) → AllByRecursion (λ xs. stripe_stats_text.bounded (stripe_message xs)) tail.stripe_stats → footer_text.bounded (footer_of tail) → post_script_text.bounded (script_of tail) → HasBits tail
-bits_are tail metadata footer script = record {
-  version = script.1.1.0;
+pub bits_are : (tail : Tail) → AllByRecursion (λ xs. stripe_stats_text.bounded (stripe_message xs)) tail.stripe_stats → footer_text.bounded (footer_of tail) → post_script_text.bounded (postscript_of tail) → HasBits tail
+bits_are tail metadata footer postscript = record {
+  version = postscript.1.1.0;
   writer = footer.1.1.1.1.1.1.1.1.0;
-  writer_version = script.1.1.1.1.0;
+  writer_version = postscript.1.1.1.1.0;
   stripes = footer.1.1.0;
   types = footer.1.1.1.0;
   user = footer.1.1.1.1.0;

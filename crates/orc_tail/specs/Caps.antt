@@ -2,7 +2,7 @@
 -- specification has no such limit: it is this project's, for whoever reads files of strangers.
 use Rattle.std.specs.Prelude.{ℕ, ◌+◌, ◌-◌, ◌^◌, ◌≤◌, List}
 use Rattle.orc_wire.specs.declared.post_script.PostScript.{PostScript}
-use Rattle.orc_tail.specs.Layout.{script_length}
+use Rattle.orc_tail.specs.Layout.{postscript_length}
 use Rattle.orc_tail.specs.Tests.{Test, check, ◌then◌}
 use Rattle.orc_tail.specs.Tails.{end_tests, tail_tests}
 use Rattle.orc_tail.specs.declared.tail.Tail.{Tail}
@@ -15,13 +15,13 @@ no_cap = 2 ^ 64 - 1
 
 -- the bytes of the postscript, the footer and the metadata together
 abbrev pub tail_length : List ℕ → PostScript → ℕ
-tail_length bytes script = script_length bytes + script.footer_length + script.metadata_length
+tail_length bytes postscript = postscript_length bytes + postscript.footer_length + postscript.metadata_length
 
 -- the tests of both ends, the cap, and then the tests of a tail
 abbrev pub capped_tests : ℕ → List ℕ → Test Tail
 capped_tests cap bytes =
-    end_tests bytes then λ script.
-    check (tail_length bytes script ≤ cap) Limit
+    end_tests bytes then λ postscript.
+    check (tail_length bytes postscript ≤ cap) Limit
     (tail_tests bytes)
 
 -- the bytes pass each test, the cap's too, and this is the tail found there

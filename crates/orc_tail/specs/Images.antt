@@ -44,8 +44,8 @@ abbrev pub types_text : Shape → List ℕ
 types_text s = list_text (λ t. sized (type_text.text t)) 4 (types s 0)
 
 -- a tail as the postscript message
-abbrev pub script_of : Tail → PostScript
-script_of tail = record {
+abbrev pub postscript_of : Tail → PostScript
+postscript_of tail = record {
   footer_length = length (footer_text.text (footer_of tail));
   compression = 0;
   version = tail.version;
@@ -56,13 +56,13 @@ script_of tail = record {
 
 -- parts one after the other, the last one's length behind them
 abbrev pub ended : List ℕ → List ℕ → List ℕ → List ℕ
-ended metadata footer script = metadata ++ (footer ++ (script ++ length script ∷ []))
+ended metadata footer postscript = metadata ++ (footer ++ (postscript ++ length postscript ∷ []))
 
 -- what follows the stripes
 abbrev pub tail_text : Tail → List ℕ
 tail_text tail = ended (metadata_text.text (metadata_of tail))
     (footer_text.text (footer_of tail))
-    (post_script_text.text (script_of tail))
+    (post_script_text.text (postscript_of tail))
 
 -- a file's bytes: the magic, its stripes, its tail
 abbrev pub image : List ℕ → Tail → List ℕ

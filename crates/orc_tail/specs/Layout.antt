@@ -9,29 +9,29 @@ abbrev pub magic : List ℕ
 magic = 79 ∷ 82 ∷ 67 ∷ []
 
 -- the last byte
-abbrev pub script_length : List ℕ → ℕ
-script_length bytes = slice_index bytes (length bytes - 1)
+abbrev pub postscript_length : List ℕ → ℕ
+postscript_length bytes = slice_index bytes (length bytes - 1)
 
 -- where the postscript begins: its length is the file's last byte
-abbrev pub script_place : List ℕ → ℕ
-script_place bytes = length bytes - 1 - script_length bytes
+abbrev pub postscript_place : List ℕ → ℕ
+postscript_place bytes = length bytes - 1 - postscript_length bytes
 
 -- the bytes of the postscript
-abbrev pub script_bytes : List ℕ → List ℕ
-script_bytes bytes = bytes_at (script_place bytes) (script_length bytes) bytes
+abbrev pub postscript_bytes : List ℕ → List ℕ
+postscript_bytes bytes = bytes_at (postscript_place bytes) (postscript_length bytes) bytes
 
 -- where the footer begins, which ends at the postscript
 abbrev pub footer_place : List ℕ → PostScript → ℕ
-footer_place bytes script = script_place bytes - script.footer_length
+footer_place bytes postscript = postscript_place bytes - postscript.footer_length
 
 -- the bytes of the footer
 abbrev pub footer_bytes : List ℕ → PostScript → List ℕ
-footer_bytes bytes script = bytes_at (footer_place bytes script) script.footer_length bytes
+footer_bytes bytes postscript = bytes_at (footer_place bytes postscript) postscript.footer_length bytes
 
 -- where the metadata begins, which ends at the footer
 abbrev pub metadata_place : List ℕ → PostScript → ℕ
-metadata_place bytes script = footer_place bytes script - script.metadata_length
+metadata_place bytes postscript = footer_place bytes postscript - postscript.metadata_length
 
 -- the bytes of the metadata
 abbrev pub metadata_bytes : List ℕ → PostScript → List ℕ
-metadata_bytes bytes script = bytes_at (metadata_place bytes script) script.metadata_length bytes
+metadata_bytes bytes postscript = bytes_at (metadata_place bytes postscript) postscript.metadata_length bytes

@@ -13,7 +13,7 @@ use Rattle.orc_types.specs.declared.fault.TypeFault.TheVariants as types
 use Rattle.orc_stats.specs.declared.stat.Stat.{Stat}
 use Rattle.orc_stats.specs.Messages.{in_limits}
 use Rattle.orc_io.specs.Devices.{bytes_at}
-use Rattle.orc_tail.specs.Layout.{magic, script_length, script_place, script_bytes, footer_bytes, metadata_bytes, metadata_place}
+use Rattle.orc_tail.specs.Layout.{magic, postscript_length, postscript_place, postscript_bytes, footer_bytes, metadata_bytes, metadata_place}
 use Rattle.orc_tail.specs.Tests.{Test, gives, check, ◌then◌, reads, schema_of}
 use Rattle.orc_tail.specs.Stripes.{stripe_tests, stripes_rows, stripes_length, most_stripes, most_rows, most_bytes}
 use Rattle.orc_tail.specs.Statistics.{have_few, stats_read, stripe_stats_read}
@@ -31,22 +31,22 @@ abbrev pub IsMagic : List ℕ → Type 0
 IsMagic text = (text ≡ []) ⊎ (text ≡ magic)
 
 -- the postscript's bytes, which begin at a place
-abbrev pub script_tests : List ℕ → ℕ → Test PostScript
-script_tests text place =
-    reads post_script text BadPostscript then λ script.
-    check (length script.version ≤ most_versions) BadPostscript
-    (check (IsMagic script.magic) NotOrc
-    (check (script.compression ≡ 0) (Compressed script.compression)
-    (check (3 + script.metadata_length + script.footer_length ≤ place) BadLengths
-    (gives script))))
+abbrev pub postscript_tests : List ℕ → ℕ → Test PostScript
+postscript_tests text place =
+    reads post_script text BadPostscript then λ postscript.
+    check (length postscript.version ≤ most_versions) BadPostscript
+    (check (IsMagic postscript.magic) NotOrc
+    (check (postscript.compression ≡ 0) (Compressed postscript.compression)
+    (check (3 + postscript.metadata_length + postscript.footer_length ≤ place) BadLengths
+    (gives postscript))))
 
 -- the file's two ends
 abbrev pub end_tests : List ℕ → Test PostScript
 end_tests bytes =
     check (4 ≤ length bytes) NotOrc
     (check (bytes_at 0 3 bytes ≡ magic) NotOrc
-    (check (script_length bytes + 4 ≤ length bytes) BadLengths
-    (script_tests (script_bytes bytes) (script_place bytes))))
+    (check (postscript_length bytes + 4 ≤ length bytes) BadLengths
+    (postscript_tests (postscript_bytes bytes) (postscript_place bytes))))
 
 -- the footer's bytes; field 10 says how a file is encrypted
 abbrev pub footer_tests : List ℕ → Test (Footer × Shape)
@@ -80,10 +80,10 @@ limit_tests before f s m =
 
 -- what a file's messages say of it together
 abbrev pub tail_of : PostScript → Footer → Shape → List Stat × List (List Stat) → Tail
-tail_of script f s stats = record {
-  version = script.version;
+tail_of postscript f s stats = record {
+  version = postscript.version;
   writer = f.writer;
-  writer_version = script.writer_version;
+  writer_version = postscript.writer_version;
   schema = s;
   stripes = f.stripes;
   stripe_stats = stats.1;
@@ -97,11 +97,11 @@ tail_of script f s stats = record {
 -- the tests of a file's tail, in the order in which they are made
 abbrev pub tail_tests : List ℕ → Test Tail
 tail_tests bytes =
-    end_tests bytes then λ script.
-    footer_tests (footer_bytes bytes script) then λ f.
-    metadata_tests (metadata_bytes bytes script) f.0 f.1 then λ m.
-    limit_tests (metadata_place bytes script) f.0 f.1 m then λ stats.
-    gives (tail_of script f.0 f.1 stats)
+    end_tests bytes then λ postscript.
+    footer_tests (footer_bytes bytes postscript) then λ f.
+    metadata_tests (metadata_bytes bytes postscript) f.0 f.1 then λ m.
+    limit_tests (metadata_place bytes postscript) f.0 f.1 m then λ stats.
+    gives (tail_of postscript f.0 f.1 stats)
 
 -- the bytes pass each test, and this is the tail found there
 abbrev pub IsTail : List ℕ → Tail → Type 0

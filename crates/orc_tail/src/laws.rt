@@ -5,7 +5,7 @@ ghost use Rattle.orc_wire.specs.CanonicalMessages.{post_script_text};
 ghost use Rattle.orc_tail.specs.Tests.{AreAlike};
 ghost use Rattle.orc_tail.specs.Stripes.{stripes_length, IsLaid, AllBefore};
 ghost use Rattle.orc_tail.specs.Tails.{IsTail, OpenFault};
-ghost use Rattle.orc_tail.specs.Images.{image, tail_text, script_of, IsWithinLimits, HasBits};
+ghost use Rattle.orc_tail.specs.Images.{image, tail_text, postscript_of, IsWithinLimits, HasBits};
 ghost use Rattle.orc_tail.specs.declared.tail.Tail.{Tail};
 ghost use Rattle.orc_tail.specs.declared.fault.FileFault.{FileFault};
 
@@ -42,6 +42,6 @@ pub fn image_laws()
         → IsTail (image stripes tail) tail }
     // Where a tail is within the limits, its numbers fit their fields, and its text has fewer than
     // 2^64 bytes, one byte holds the length of the postscript.
-    ensures script { (tail : Tail) → IsWithinLimits tail → HasBits tail → length (tail_text tail) < 2 ^ 64
-        → length (post_script_text.text (script_of tail)) < 256 }
+    ensures postscript { (tail : Tail) → IsWithinLimits tail → HasBits tail → length (tail_text tail) < 2 ^ 64
+        → length (post_script_text.text (postscript_of tail)) < 256 }
 {}

@@ -13,11 +13,11 @@ use Rattle.orc_values.specs.Shapes.{Shape, scalar, list_of, map_of, struct_of, w
 use Rattle.orc_values.specs.declared.kind.Scalar.TheVariants as kind
 use Rattle.orc_column_reader.specs.Directory.{slice}
 use Rattle.orc_column_reader.specs.Stripe.{Streams, HasFooter, encoding_at}
-use Rattle.orc_row_index.specs.Places.{IsPosition, reader, octets, octets_place, octets_size, position_size}
-use Rattle.orc_row_index.specs.RunStreams.{RunStream, no_stream, bit_runs, byte_runs, number_runs, present_runs, text_runs, own_runs, text_octets, own_octets}
+use Rattle.orc_row_index.specs.Positions.{IsPosition, reader, octets, octets_position, octets_size, position_size}
+use Rattle.orc_row_index.specs.RunStreams.{RunStream, no_stream, bit_runs, byte_runs, number_runs, present_runs, text_runs, value_runs, text_octets, value_bytes}
 use Rattle.orc_group_reader.specs.Entering.{AgreeFrom}
 use Rattle.orc_group_reader.specs.Streams.{RunsAgree}
-use Rattle.orc_group_reader.specs.Columns.{OctetsAgree, AgreeFromPlaces}
+use Rattle.orc_group_reader.specs.Columns.{OctetsAgree, AgreeFromPositions}
 use Rattle.orc_stripe.specs.Opened.{Opened}
 use Rattle.orc_stripe.specs.GroupCursors.{IsGroupEntry, StartsGroup}
 use Rattle.orc_theorems.specs.BeforeGroups.{offset_of, with_bytes, DiffersOnlyBefore}
@@ -108,12 +108,12 @@ next_at first rest k n =
     let at : k ≡ length first + 0 = omega (arith, n) in
     ap (λ (j : ℕ). get_or (first ++ rest) j 0) at ∙ get_or-append-add first rest 0 0
 
-content_at : (first : List ℕ) (content : Option (List ℕ)) (n : ℕ) (last : List ℕ) (k : ℕ) → length first ≡ k → octets_size content ≡ 1 → get_or (first ++ (octets_place content n ++ last)) k 0 ≡ n
+content_at : (first : List ℕ) (content : Option (List ℕ)) (n : ℕ) (last : List ℕ) (k : ℕ) → length first ≡ k → octets_size content ≡ 1 → get_or (first ++ (octets_position content n ++ last)) k 0 ≡ n
 content_at first None n last k e one = let none : 0 ≡ 1 = one in absurd (omega (arith, none))
 content_at first (Some b) n last k e one = next_at first (n ∷ last) k e
 
 last_at : (first : List ℕ) (content : Option (List ℕ)) (n : ℕ) (last : List ℕ) (k : ℕ) → length first + octets_size content ≡ k
-    → get_or (first ++ (octets_place content n ++ last)) k 0 ≡ get_or last 0 0
+    → get_or (first ++ (octets_position content n ++ last)) k 0 ≡ get_or last 0 0
 last_at first None n last k e = let sum : length first + 0 ≡ k = e in next_at first last k (omega (arith, sum))
 last_at first (Some b) n last k e =
     let sum : length first + 1 ≡ k = e in
@@ -153,8 +153,8 @@ texts_between : (d : Bool) (e : Encoding) (f g : ℕ → List ℕ) (ps : List �
 texts_between true e f g ps p o is places lengths = (refl, refl, data_between ps p o (g 1) (f 1) is places)
 texts_between false e f g ps p o is places lengths = (refl, refl, subst (λ (k : ℕ). AgreeFrom k (g 2) (f 2)) is lengths)
 
-own_between : (s : Shape) (e : Encoding) (f g : ℕ → List ℕ) (ps : List ℕ) (o : ℕ) → get_or ps (present_of f + octets_size (own_octets s (streams e f))) 0 ≡ o
-    → ((k : ℕ) → AgreeFrom (offset_of s (streams e f) ps k) (g k) (f k)) → RunsAgree o (own_runs s (streams e g)) (own_runs s (streams e f))
+own_between : (s : Shape) (e : Encoding) (f g : ℕ → List ℕ) (ps : List ℕ) (o : ℕ) → get_or ps (present_of f + octets_size (value_bytes s (streams e f))) 0 ≡ o
+    → ((k : ℕ) → AgreeFrom (offset_of s (streams e f) ps k) (g k) (f k)) → RunsAgree o (value_runs s (streams e g)) (value_runs s (streams e f))
 own_between (scalar kind.Boolean d) e f g ps o is same = data_between ps (present_of f) o (g 1) (f 1) is (same 1)
 own_between (scalar kind.Byte d) e f g ps o is same = data_between ps (present_of f) o (g 1) (f 1) is (same 1)
 own_between (scalar kind.Short d) e f g ps o is same = (refl, refl, data_between ps (present_of f) o (g 1) (f 1) is (same 1))
@@ -172,8 +172,8 @@ text_content : (d : Bool) (e : Encoding) (f g : ℕ → List ℕ) (off n : ℕ) 
 text_content true e f g off n is h = tt
 text_content false e f g off n is h = subst (λ (k : ℕ). AgreeFrom k (g 1) (f 1)) (is refl) h
 
-content_between : (s : Shape) (e : Encoding) (f g : ℕ → List ℕ) (off n : ℕ) → (octets_size (own_octets s (streams e f)) ≡ 1 → off ≡ n) → AgreeFrom off (g 1) (f 1)
-    → OctetsAgree n (own_octets s (streams e g)) (own_octets s (streams e f))
+content_between : (s : Shape) (e : Encoding) (f g : ℕ → List ℕ) (off n : ℕ) → (octets_size (value_bytes s (streams e f)) ≡ 1 → off ≡ n) → AgreeFrom off (g 1) (f 1)
+    → OctetsAgree n (value_bytes s (streams e g)) (value_bytes s (streams e f))
 content_between (scalar kind.Boolean d) e f g off n is h = tt
 content_between (scalar kind.Byte d) e f g off n is h = tt
 content_between (scalar kind.Short d) e f g off n is h = tt
@@ -187,29 +187,29 @@ content_between (map_of l r d) e f g off n is h = tt
 content_between (struct_of fs d) e f g off n is h = tt
 
 -- what agrees with streams f behind their offsets agrees with all that these agree with
-column_before : (s : Shape) (x : Streams) (e : Encoding) (f g : ℕ → List ℕ) (before : List Cell) (ps : List ℕ) → AgreeFromPlaces s x (streams e f) before ps
-    → ((k : ℕ) → AgreeFrom (offset_of s (streams e f) ps k) (g k) (f k)) → AgreeFromPlaces s x (streams e g) before ps
+column_before : (s : Shape) (x : Streams) (e : Encoding) (f g : ℕ → List ℕ) (before : List Cell) (ps : List ℕ) → AgreeFromPositions s x (streams e f) before ps
+    → ((k : ℕ) → AgreeFrom (offset_of s (streams e f) ps k) (g k) (f k)) → AgreeFromPositions s x (streams e g) before ps
 column_before s x e f g before ps h same =
     let first : List ℕ = h.places.first in
     let last : List ℕ = h.places.last in
-    let after : List ℕ = octets_place (own_octets s x) (octets before) ++ last in
-    let sized : octets_size (own_octets s (streams e f)) ≡ octets_size (own_octets s x) = octets_alike (octets before) (own_octets s (streams e f)) (own_octets s x) h.content_same in
-    let counted : length first ≡ present_of f = place_size (present_runs (x.stream 0)) (length before) first h.places.present_place
+    let after : List ℕ = octets_position (value_bytes s x) (octets before) ++ last in
+    let sized : octets_size (value_bytes s (streams e f)) ≡ octets_size (value_bytes s x) = octets_alike (octets before) (value_bytes s (streams e f)) (value_bytes s x) h.content_same in
+    let counted : length first ≡ present_of f = place_size (present_runs (x.stream 0)) (length before) first h.places.present_position
     ∙ sym (runs_alike (get_or first 0 0) (present_runs (f 0)) (present_runs (x.stream 0)) h.present_same) in
     let in_first : present_of f ≡ 3 → get_or ps 0 0 ≡ get_or first 0 0 = (λ three. ap (λ (l : List ℕ). get_or l 0 0) h.places.parts ∙ first_at first after (counted ∙ three)) in
-    let in_content : octets_size (own_octets s (streams e f)) ≡ 1 → get_or ps (present_of f) 0 ≡ octets before = (λ one.
-    ap (λ (l : List ℕ). get_or l (present_of f) 0) h.places.parts ∙ content_at first (own_octets s x) (octets before) last (present_of f) counted (sym sized ∙ one)) in
-    let place : ℕ = present_of f + octets_size (own_octets s (streams e f)) in
-    let summed : length first + octets_size (own_octets s x) ≡ place = omega (arith, counted, sized) in
-    let in_last : get_or ps place 0 ≡ get_or last 0 0 = ap (λ (l : List ℕ). get_or l place 0) h.places.parts ∙ last_at first (own_octets s x) (octets before) last place summed in
+    let in_content : octets_size (value_bytes s (streams e f)) ≡ 1 → get_or ps (present_of f) 0 ≡ octets before = (λ one.
+    ap (λ (l : List ℕ). get_or l (present_of f) 0) h.places.parts ∙ content_at first (value_bytes s x) (octets before) last (present_of f) counted (sym sized ∙ one)) in
+    let place : ℕ = present_of f + octets_size (value_bytes s (streams e f)) in
+    let summed : length first + octets_size (value_bytes s x) ≡ place = omega (arith, counted, sized) in
+    let in_last : get_or ps place 0 ≡ get_or last 0 0 = ap (λ (l : List ℕ). get_or l place 0) h.places.parts ∙ last_at first (value_bytes s x) (octets before) last place summed in
     record {
       places = h.places;
       encoded = h.encoded;
       present_same = runs_through (get_or first 0 0) (present_runs (g 0)) (present_runs (f 0)) (present_runs (x.stream 0))
           (present_between (get_or first 0 0) (get_or ps 0 0) (g 0) (f 0) in_first (same 0)) h.present_same;
-      content_same = octets_through (octets before) (own_octets s (streams e g)) (own_octets s (streams e f)) (own_octets s x)
+      content_same = octets_through (octets before) (value_bytes s (streams e g)) (value_bytes s (streams e f)) (value_bytes s x)
           (content_between s e f g (get_or ps (present_of f) 0) (octets before) in_content (same 1)) h.content_same;
-      own_same = runs_through (get_or last 0 0) (own_runs s (streams e g)) (own_runs s (streams e f)) (own_runs s x) (own_between s e f g ps (get_or last 0 0) in_last same) h.own_same;
+      own_same = runs_through (get_or last 0 0) (value_runs s (streams e g)) (value_runs s (streams e f)) (value_runs s x) (own_between s e f g ps (get_or last 0 0) in_last same) h.own_same;
       dictionary_same = λ d.
           let old = h.dictionary_same d in
           let has : is_dictionary e.kind ≡ true = ap (λ (k : Encoding). is_dictionary k.kind) h.encoded ∙ d in

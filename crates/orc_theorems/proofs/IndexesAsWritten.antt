@@ -19,9 +19,9 @@ use Rattle.orc_values.specs.declared.kind.Scalar.TheVariants as kind
 use Rattle.orc_column_reader.specs.Directory.{slice}
 use Rattle.orc_column_reader.specs.Stripe.{Streams, version_at, columns_of, HasFooter, IsStripe}
 use Rattle.orc_row_index.specs.Bounds.{before_group}
-use Rattle.orc_row_index.specs.Places.{ArePositions, writer, AreWrittenPlaces}
+use Rattle.orc_row_index.specs.Positions.{ArePositions, writer, AreWrittenPositions}
 use Rattle.orc_row_index.specs.RowIndex.{IsWrittenIndex}
-use Rattle.orc_row_index.specs.RunStreams.{RunStream, bit_runs, byte_runs, number_runs, present_runs, text_runs, own_runs, text_octets, own_octets}
+use Rattle.orc_row_index.specs.RunStreams.{RunStream, bit_runs, byte_runs, number_runs, present_runs, text_runs, value_runs, text_octets, value_bytes}
 use Rattle.orc_stripe_writer.specs.declared.options.Options.{Options}
 use Rattle.orc_stripe_writer.specs.Groups.{starts, bounds_of}
 use Rattle.orc_stripe_writer.specs.Indexes.{streams_written, index_bytes}
@@ -34,7 +34,7 @@ use Rattle.orc_tail.specs.Layout.{magic}
 use Rattle.orc_tail.specs.Stripes.{stripe_at, stripe_length}
 use Rattle.orc_tail.specs.Images.{tail_text}
 use Rattle.orc_file.specs.FileRows.{stripe_bytes, FileIs, cut_rows}
-use Rattle.orc_file.specs.Writing.{Closed, IsClosed, AreClosed, bytes_of, rows_of, infos_of, IsWrittenFile}
+use Rattle.orc_file.specs.Writing.{WrittenStripe, IsWrittenAt, AreWrittenStripes, bytes_of, rows_of, infos_of, IsWrittenFile}
 use Rattle.orc_tail.specs.declared.tail.Tail.{Tail}
 use Rattle.orc_tail.proofs.Seams.{between}
 use Rattle.orc_file.proofs.WriterLemmas as lemmas
@@ -57,7 +57,7 @@ contents_same true false x y t a = cc
 contents_same false true x y t a = cc
 contents_same false false x y t a = ap Some a
 
-own_same : (s : Shape) (x y : Streams) → x.encoding ≡ y.encoding → x.stream 1 ≡ y.stream 1 → x.stream 2 ≡ y.stream 2 → own_runs s x ≡ own_runs s y
+own_same : (s : Shape) (x y : Streams) → x.encoding ≡ y.encoding → x.stream 1 ≡ y.stream 1 → x.stream 2 ≡ y.stream 2 → value_runs s x ≡ value_runs s y
 own_same (list_of s o) x y e a b = λ i. number_runs (version_at (e i).kind) Unsigned (b i)
 own_same (map_of k v o) x y e a b = λ i. number_runs (version_at (e i).kind) Unsigned (b i)
 own_same (struct_of fs o) x y e a b = refl
@@ -70,7 +70,7 @@ own_same (scalar kind.Date o) x y e a b = λ i. number_runs (version_at (e i).ki
 own_same (scalar kind.Binary o) x y e a b = λ i. number_runs (version_at (e i).kind) Unsigned (b i)
 own_same (scalar kind.String o) x y e a b = texts_same (is_dictionary x.encoding.kind) (is_dictionary y.encoding.kind) x y (ap (λ (k : Encoding). is_dictionary k.kind) e) e a b
 
-octets_same : (s : Shape) (x y : Streams) → x.encoding ≡ y.encoding → x.stream 1 ≡ y.stream 1 → own_octets s x ≡ own_octets s y
+octets_same : (s : Shape) (x y : Streams) → x.encoding ≡ y.encoding → x.stream 1 ≡ y.stream 1 → value_bytes s x ≡ value_bytes s y
 octets_same (list_of s o) x y e a = refl
 octets_same (map_of k v o) x y e a = refl
 octets_same (struct_of fs o) x y e a = refl
@@ -84,11 +84,11 @@ octets_same (scalar kind.Binary o) x y e a = ap Some a
 octets_same (scalar kind.String o) x y e a = contents_same (is_dictionary x.encoding.kind) (is_dictionary y.encoding.kind) x y (ap (λ (k : Encoding). is_dictionary k.kind) e) a
 
 places_same : (s : Shape) (x y : Streams) (before : List Cell) (positions : List ℕ) → x.encoding ≡ y.encoding → x.stream 0 ≡ y.stream 0 → x.stream 1 ≡ y.stream 1 → x.stream 2 ≡ y.stream 2
-    → AreWrittenPlaces s x before positions → AreWrittenPlaces s y before positions
+    → AreWrittenPositions s x before positions → AreWrittenPositions s y before positions
 places_same s x y before positions e p a b h =
-    subst (λ (m : RunStream). ArePositions writer m (own_octets s y) (own_runs s y) before positions) (ap present_runs p)
-    (subst (λ (o : Option (List ℕ)). ArePositions writer (present_runs (x.stream 0)) o (own_runs s y) before positions) (octets_same s x y e a)
-    (subst (λ (r : RunStream). ArePositions writer (present_runs (x.stream 0)) (own_octets s x) r before positions) (own_same s x y e a b) h))
+    subst (λ (m : RunStream). ArePositions writer m (value_bytes s y) (value_runs s y) before positions) (ap present_runs p)
+    (subst (λ (o : Option (List ℕ)). ArePositions writer (present_runs (x.stream 0)) o (value_runs s y) before positions) (octets_same s x y e a)
+    (subst (λ (r : RunStream). ArePositions writer (present_runs (x.stream 0)) (value_bytes s x) r before positions) (own_same s x y e a b) h))
 
 index_same : (s : Shape) (x y : Streams) (cs : List Cell) (bounds text : List ℕ) → x.encoding ≡ y.encoding → x.stream 0 ≡ y.stream 0 → x.stream 1 ≡ y.stream 1 → x.stream 2 ≡ y.stream 2
     → IsWrittenIndex s x cs bounds text → IsWrittenIndex s y cs bounds text
@@ -132,8 +132,8 @@ as_written_moved s stride info bytes rows at h = record {
   written = h.written;
 }
 
-closed_indexed : (options : Options) (s : Shape) → 0 < options.stride → (at : ℕ) (c : Closed) → IsClosed options s at c → IsIndexedAsWritten s options.stride c.info c.bytes c.rows
-closed_indexed options s some at c h =
+written_indexed : (options : Options) (s : Shape) → 0 < options.stride → (at : ℕ) (c : WrittenStripe) → IsWrittenAt options s at c → IsIndexedAsWritten s options.stride c.info c.bytes c.rows
+written_indexed options s some at c h =
     let own : StripeInfo = record c.info { offset = 0 } in
     let is : IsStripe s c.info c.bytes c.rows = h.read in
     let fit : RowsFit s c.rows = is.spelled.fit in
@@ -156,33 +156,33 @@ closed_indexed options s some at c h =
 -- ---- a file that was written
 
 -- its stripes, by its bytes
-closed_in_file : (options : Options) (s : Shape) → 0 < options.stride → (file front rest : List ℕ) (at : ℕ) (cs : List Closed) → AreClosed options s at cs → at ≡ length front → file ≡ front ++ (bytes_of cs ++ rest)
+written_in_file : (options : Options) (s : Shape) → 0 < options.stride → (file front rest : List ℕ) (at : ℕ) (cs : List WrittenStripe) → AreWrittenStripes options s at cs → at ≡ length front → file ≡ front ++ (bytes_of cs ++ rest)
     → AreEach IsIndexedAsWritten s options.stride (infos_of cs) (map (λ (i : StripeInfo). stripe_bytes i file) (infos_of cs)) (parts_of cs)
-closed_in_file options s some file front rest at [] h place e = tt
-closed_in_file options s some file front rest at (c ∷ cs) h place e =
+written_in_file options s some file front rest at [] h place e = tt
+written_in_file options s some file front rest at (c ∷ cs) h place e =
     let i = h.0 in
     let split : file ≡ front ++ (c.bytes ++ (bytes_of cs ++ rest)) = e ∙ ap (λ x. front ++ x) (append_assoc c.bytes (bytes_of cs) rest) in
     let long : length c.bytes ≡ stripe_length c.info = lemmas.stripe_bytes s c.info c.bytes c.rows i.read in
     let own : stripe_bytes c.info file ≡ c.bytes = between file front c.bytes (bytes_of cs ++ rest) c.info.offset (stripe_length c.info) split (i.placed ∙ place) (sym long) in (
-      subst (λ b. IsIndexedAsWritten s options.stride c.info b c.rows) (sym own) (closed_indexed options s some at c i),
-      closed_in_file options s some file (front ++ c.bytes) rest (at + length c.bytes) cs h.1 (omega (arith, place, length-append front c.bytes)) (split ∙ sym (append_assoc front c.bytes (bytes_of cs ++ rest))),
+      subst (λ b. IsIndexedAsWritten s options.stride c.info b c.rows) (sym own) (written_indexed options s some at c i),
+      written_in_file options s some file (front ++ c.bytes) rest (at + length c.bytes) cs h.1 (omega (arith, place, length-append front c.bytes)) (split ∙ sym (append_assoc front c.bytes (bytes_of cs ++ rest))),
     )
 
-cut_closed : (options : Options) (s : Shape) (at : ℕ) (cs : List Closed) → AreClosed options s at cs → cut_rows (infos_of cs) (rows_of cs) ≡ parts_of cs
-cut_closed options s at [] h = refl
-cut_closed options s at (c ∷ cs) h =
+cut_written : (options : Options) (s : Shape) (at : ℕ) (cs : List WrittenStripe) → AreWrittenStripes options s at cs → cut_rows (infos_of cs) (rows_of cs) ≡ parts_of cs
+cut_written options s at [] h = refl
+cut_written options s at (c ∷ cs) h =
     let i = h.0 in
     let many : length c.rows ≡ c.info.number_of_rows = lemmas.stripe_rows s c.info c.bytes c.rows i.read in
     let own : take c.info.number_of_rows (c.rows ++ rows_of cs) ≡ c.rows = subst (λ (n : ℕ). take n (c.rows ++ rows_of cs) ≡ c.rows) many (take-append_seam c.rows (rows_of cs)) in
     let more : drop c.info.number_of_rows (c.rows ++ rows_of cs) ≡ rows_of cs = subst (λ (n : ℕ). drop n (c.rows ++ rows_of cs) ≡ rows_of cs) many (drop-append_seam c.rows (rows_of cs)) in
-    rw (own, more, cut_closed options s (at + length c.bytes) cs h.1) refl
+    rw (own, more, cut_written options s (at + length c.bytes) cs h.1) refl
 
 pub file_indexed : (options : Options) (s : Shape) (tail : Tail) (bytes : List ℕ) (rows : List Cell) → IsWrittenFile options s tail bytes rows → HasWrittenIndexes bytes tail rows
 file_indexed options s tail bytes rows h =
-    let cs : List Closed = h.closed in
-    let cut : cut_rows (infos_of cs) rows ≡ parts_of cs = ap (cut_rows (infos_of cs)) h.rows_are ∙ cut_closed options s 3 cs h.are in
+    let cs : List WrittenStripe = h.stripes_written in
+    let cut : cut_rows (infos_of cs) rows ≡ parts_of cs = ap (cut_rows (infos_of cs)) h.rows_are ∙ cut_written options s 3 cs h.are in
     subst (λ (t : Tail). HasWrittenIndexes bytes t rows) (sym h.tail_is) (λ some n lt.
-    let each = closed_in_file options s some bytes magic (tail_text tail) 3 cs h.are refl (h.bytes_are ∙ append_assoc magic (bytes_of cs) (tail_text tail)) in
+    let each = written_in_file options s some bytes magic (tail_text tail) 3 cs h.are refl (h.bytes_are ∙ append_assoc magic (bytes_of cs) (tail_text tail)) in
     subst (λ (p : List (List Cell)). IsIndexedAsWritten s options.stride (stripe_at (infos_of cs) n) (stripe_bytes (stripe_at (infos_of cs) n) bytes) (rows_at p n)) (sym cut)
     (at_number IsIndexedAsWritten s options.stride bytes (infos_of cs) (parts_of cs) each n lt))
 

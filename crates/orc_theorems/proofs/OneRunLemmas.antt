@@ -3,8 +3,8 @@ use Rattle.std.proofs.Common.{◌≡◌, ◌∙◌, ℕ, ◌≤◌, inl, inr, Bo
 use Rattle.std.proofs.lemmas.List.{take-append-drop, length-map}
 use Rattle.orc_rle.specs.ByteRun.{IsByteRun}
 use Rattle.orc_rle.specs.Seeking.{bytes_needed}
-use Rattle.orc_positions.specs.Position.{IsPlace, IsOneRun}
-use Rattle.orc_positions.specs.BitPosition.{IsBitPlace, HasBits}
+use Rattle.orc_positions.specs.Position.{IsWriterPosition, IsOneRun}
+use Rattle.orc_positions.specs.BitPosition.{IsWriterBitPosition, HasBits}
 use Rattle.orc_positions.proofs.PositionLemmas.{place_run}
 use Rattle.orc_positions.proofs.BitPositionLemmas.{bit_place_run}
 use Rattle.orc_wire.specs.Messages.{row_index}
@@ -22,8 +22,8 @@ use Rattle.orc_column_reader.specs.Directory.{slice}
 use Rattle.orc_column_reader.specs.Numbers.{is_run}
 use Rattle.orc_column_reader.specs.Stripe.{Streams, has_dictionary, Marks, SpellsScalar, SpellsValues, IsColumn, columns_of, IsStripe}
 use Rattle.orc_row_index.specs.Bounds.{bound_at, before_group}
-use Rattle.orc_row_index.specs.Places.{IsPosition, writer, AreWrittenPlaces}
-use Rattle.orc_row_index.specs.RunStreams.{RunStream, no_stream, bit_runs, byte_runs, number_runs, present_runs, text_runs, scalar_runs, own_runs}
+use Rattle.orc_row_index.specs.Positions.{IsPosition, writer, AreWrittenPositions}
+use Rattle.orc_row_index.specs.RunStreams.{RunStream, no_stream, bit_runs, byte_runs, number_runs, present_runs, text_runs, scalar_runs, value_runs}
 use Rattle.orc_row_index.proofs.ColumnPlaces.{values_more, stand_long}
 use Rattle.orc_stripe.proofs.OneStripe.{one_footer, by_footer}
 use Rattle.orc_stripe_writer.specs.Groups.{starts, bounds_of}
@@ -33,7 +33,7 @@ use Rattle.orc_tail.specs.declared.tail.Tail.{Tail}
 use Rattle.orc_check.specs.Findings.{rows_at}
 use Rattle.orc_check.proofs.NoFinding.{stripe_is}
 use Rattle.orc_theorems.specs.WrittenIndexes.{HasWrittenIndex, HasWrittenIndexes}
-use Rattle.orc_theorems.specs.OneRunPlaces.{SeekCounts, IsOneRunPlace, IsOneRunBitPlace, IsOneRunPosition, AreOneRunPlaces, ReadsOneRun}
+use Rattle.orc_theorems.specs.OneRunPositions.{SeekCounts, NeedsOneRun, NeedsOneBitRun, IsOneRunPosition, AreOneRunPositions, ReadsOneRun}
 
 -- ---- one position
 
@@ -41,12 +41,12 @@ counts_one : {A : Type 0} (R : List ℕ → List A → Type 0) (bytes : List ℕ
 counts_one R bytes offset need old new (inl none) k = omega (arith, k.count, none)
 counts_one R bytes offset need old new (inr run) k = k.one_run run.0 run.1 run.2 run.3 run.4 run.5
 
-place_one : {A : Type 0} (R : List ℕ → List A → Type 0) (bytes : List ℕ) (offset skip n : ℕ) → IsPlace R bytes offset skip n → IsOneRunPlace R bytes offset skip n
+place_one : {A : Type 0} (R : List ℕ → List A → Type 0) (bytes : List ℕ) (offset skip n : ℕ) → IsWriterPosition R bytes offset skip n → NeedsOneRun R bytes offset skip n
 place_one R bytes offset skip n h = record { place = h; one_run = λ old new k. counts_one R bytes offset skip old new (place_run R bytes offset skip h.inside) k }
 
-bit_place_one : (bytes : List ℕ) (total offset skip bits n : ℕ) → HasBits bytes total → n ≤ total → IsBitPlace bytes n offset skip bits n → IsOneRunBitPlace bytes offset skip bits n
+bit_place_one : (bytes : List ℕ) (total offset skip bits n : ℕ) → HasBits bytes total → n ≤ total → IsWriterBitPosition bytes n offset skip bits n → NeedsOneBitRun bytes offset skip bits n
 bit_place_one bytes total offset skip bits n has le h =
-    let there : IsBitPlace bytes total offset skip bits n = record { place = h.place; bits_are = h.bits_are; there = le } in
+    let there : IsWriterBitPosition bytes total offset skip bits n = record { place = h.place; bits_are = h.bits_are; there = le } in
     record {
       total = total;
       has = has;
@@ -87,13 +87,13 @@ scalar_some kind.Date x vs n h le = tt
 scalar_some kind.String x vs n h le = texts_some (has_dictionary x) x n
 scalar_some kind.Binary x vs n h le = tt
 
-own_some : (s : Shape) (x : Streams) (vs : List Cell) (n : ℕ) → SpellsValues s x vs → n ≤ length vs → HasSome (own_runs s x) n
+own_some : (s : Shape) (x : Streams) (vs : List Cell) (n : ℕ) → SpellsValues s x vs → n ≤ length vs → HasSome (value_runs s x) n
 own_some (scalar k o) x vs n h le = scalar_some k x vs n h le
 own_some (list_of s o) x vs n h le = tt
 own_some (map_of k v o) x vs n h le = tt
 own_some (struct_of fs o) x vs n h le = tt
 
-column_one : (s : Shape) (x : Streams) (column before after : List Cell) (ps : List ℕ) → column ≡ before ++ after → IsColumn s x column → AreWrittenPlaces s x before ps → AreOneRunPlaces s x before ps
+column_one : (s : Shape) (x : Streams) (column before after : List Cell) (ps : List ℕ) → column ≡ before ++ after → IsColumn s x column → AreWrittenPositions s x before ps → AreOneRunPositions s x before ps
 column_one s x column before after ps e h p =
     let cs : length column ≡ length before + length after = ap length e ∙ length-append before after in
     let vs : length (values column) ≡ length (values before) + length (values after) = ap (λ (c : List Cell). length (values c)) e ∙ values_more before after in
@@ -101,9 +101,9 @@ column_one s x column before after ps e h p =
       first = p.first;
       last = p.last;
       parts = p.parts;
-      present_place = stream_one (present_runs (x.stream 0)) (length before) p.first
-          (present_some (x.stream 0) (map is_value column) (length before) h.marks (omega (arith, cs, length-map column is_value))) p.present_place;
-      own_place = stream_one (own_runs s x) (length (values before)) p.last (own_some s x (values column) (length (values before)) h.spelled (omega (arith, vs))) p.own_place;
+      present_position = stream_one (present_runs (x.stream 0)) (length before) p.first
+          (present_some (x.stream 0) (map is_value column) (length before) h.marks (omega (arith, cs, length-map column is_value))) p.present_position;
+      value_position = stream_one (value_runs s x) (length (values before)) p.last (own_some s x (values column) (length (values before)) h.spelled (omega (arith, vs))) p.value_position;
     }
 
 -- ---- a file

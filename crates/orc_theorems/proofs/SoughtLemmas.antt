@@ -11,8 +11,8 @@ use Rattle.orc_values.specs.Columns.{cells}
 use Rattle.orc_values.specs.Shapes.{Shape, width, shape_at}
 use Rattle.orc_column_reader.specs.Stripe.{Streams, HasFooter, columns_of}
 use Rattle.orc_row_index.specs.Bounds.{before_group}
-use Rattle.orc_row_index.specs.Places.{RunPlace, BitPlace, IsPosition, ArePositions, position_size, octets, octets_place, reader}
-use Rattle.orc_row_index.specs.RunStreams.{RunStream, no_stream, bit_runs, byte_runs, number_runs, present_runs, own_runs, own_octets}
+use Rattle.orc_row_index.specs.Positions.{RunPosition, BitsPosition, IsPosition, ArePositions, position_size, octets, octets_position, reader}
+use Rattle.orc_row_index.specs.RunStreams.{RunStream, no_stream, bit_runs, byte_runs, number_runs, present_runs, value_runs, value_bytes}
 use Rattle.orc_row_index.specs.Walking.{runs, lent_bytes, ArePlaced}
 use Rattle.orc_row_index.specs.declared.placed.PlacedStreams.{PlacedStreams}
 use Rattle.orc_row_index.proofs.PositionParts.{front_is, back_is}
@@ -23,11 +23,11 @@ use Rattle.orc_tail.specs.Stripes.{stripe_at}
 use Rattle.orc_file.specs.FileRows.{stripe_bytes, opened_stripe, cut_rows}
 use Rattle.orc_tail.specs.declared.tail.Tail.{Tail}
 use Rattle.orc_check.specs.Findings.{rows_at}
-use Rattle.orc_theorems.specs.OneRunPlaces.{SeekCounts, IsOneRunPlace, IsOneRunBitPlace, IsOneRunPosition, AreOneRunPlaces, ColumnReadsOneRun, ReadsOneRun}
+use Rattle.orc_theorems.specs.OneRunPositions.{SeekCounts, NeedsOneRun, NeedsOneBitRun, IsOneRunPosition, AreOneRunPositions, ColumnReadsOneRun, ReadsOneRun}
 
 -- ---- one stream
 
-pub run_sought : {A : Type 0} (R : List ℕ → List A → Type 0) (bytes ps : List ℕ) (o s n old new : ℕ) → ps ≡ o ∷ s ∷ [] → RunPlace (IsOneRunPlace R bytes) n ps → old ≡ 0 → SeekCounts R bytes o s old new → new ≤ 1
+pub run_sought : {A : Type 0} (R : List ℕ → List A → Type 0) (bytes ps : List ℕ) (o s n old new : ℕ) → ps ≡ o ∷ s ∷ [] → RunPosition (NeedsOneRun R bytes) n ps → old ≡ 0 → SeekCounts R bytes o s old new → new ≤ 1
 run_sought R bytes ps o s n old new e h none k =
     let two : o ∷ s ∷ [] ≡ h.0 ∷ h.1 ∷ [] = sym e ∙ h.2 in
     let offset : o ≡ h.0 = cc in
@@ -35,7 +35,7 @@ run_sought R bytes ps o s n old new e h none k =
     let there : SeekCounts R bytes h.0 h.1 old new = subst (λ (x : ℕ). SeekCounts R bytes x h.1 old new) offset (subst (λ (x : ℕ). SeekCounts R bytes o x old new) skip k) in
     omega (arith, h.3.one_run old new there, none)
 
-pub bit_sought : (bytes ps : List ℕ) (o s b n old new : ℕ) → ps ≡ o ∷ s ∷ b ∷ [] → BitPlace (IsOneRunBitPlace bytes) n ps → old ≡ 0 → SeekCounts IsByteRun bytes o (bytes_needed s b) old new → new ≤ 1
+pub bit_sought : (bytes ps : List ℕ) (o s b n old new : ℕ) → ps ≡ o ∷ s ∷ b ∷ [] → BitsPosition (NeedsOneBitRun bytes) n ps → old ≡ 0 → SeekCounts IsByteRun bytes o (bytes_needed s b) old new → new ≤ 1
 bit_sought bytes ps o s b n old new e h none k =
     let three : o ∷ s ∷ b ∷ [] ≡ h.0 ∷ h.1 ∷ h.2 ∷ [] = sym e ∙ h.3 in
     let offset : o ≡ h.0 = cc in
@@ -54,32 +54,32 @@ stream_begins (bit_runs b) n ps h = (h.0, h.1, h.2, h.3, bit_place_begins b n h.
 stream_begins (byte_runs b) n ps h = (h.0, h.1, h.2, h.3.place.begins)
 stream_begins (number_runs v sign b) n ps h = (h.0, h.1, h.2, h.3.place.begins)
 
-pub column_sought : (s : Shape) (x : Streams) (before : List Cell) (placed : PlacedStreams) (ps : List ℕ) (size : ℕ) (first last : List ℕ) → ArePlaced s x placed → AreOneRunPlaces s x before ps
+pub column_sought : (s : Shape) (x : Streams) (before : List Cell) (placed : PlacedStreams) (ps : List ℕ) (size : ℕ) (first last : List ℕ) → ArePlaced s x placed → AreOneRunPositions s x before ps
     → size ≡ position_size (runs placed.present) → first ≡ take size ps → last ≡ drop size ps
     → IsOneRunPosition (runs placed.present) (length before) first
-    × ((behind : List ℕ) → ((n : ℕ) (rest : List ℕ) → last ≡ octets_place (lent_bytes placed.content) n ++ rest → behind ≡ rest)
+    × ((behind : List ℕ) → ((n : ℕ) (rest : List ℕ) → last ≡ octets_position (lent_bytes placed.content) n ++ rest → behind ≡ rest)
     → IsOneRunPosition (runs placed.own) (length (values before)) behind)
 column_sought s x before placed ps size first last are h e f l =
     let present : RunStream = present_runs (x.stream 0) in
-    let content : Option (List ℕ) = own_octets s x in
-    let own : RunStream = own_runs s x in
+    let content : Option (List ℕ) = value_bytes s x in
+    let own : RunStream = value_runs s x in
     let b : ArePositions reader present content own before ps = record {
       first = h.first;
       last = h.last;
       parts = h.parts;
-      present_place = stream_begins present (length before) h.first h.present_place;
-      own_place = stream_begins own (length (values before)) h.last h.own_place;
+      present_position = stream_begins present (length before) h.first h.present_position;
+      value_position = stream_begins own (length (values before)) h.last h.value_position;
     } in
     let long : size ≡ position_size present = e ∙ ap position_size are.present_is in
     let front : h.first ≡ take size ps = front_is present content own before ps size long b in
-    let back : drop size ps ≡ octets_place content (octets before) ++ h.last = back_is present content own before ps size long b in
-    let in_front : IsOneRunPosition present (length before) first = subst (λ (t : List ℕ). IsOneRunPosition present (length before) t) (front ∙ sym f) h.present_place in (
+    let back : drop size ps ≡ octets_position content (octets before) ++ h.last = back_is present content own before ps size long b in
+    let in_front : IsOneRunPosition present (length before) first = subst (λ (t : List ℕ). IsOneRunPosition present (length before) t) (front ∙ sym f) h.present_position in (
       subst (λ (r : RunStream). IsOneRunPosition r (length before) first) (sym are.present_is) in_front,
       λ behind law.
-          let cut : last ≡ octets_place (lent_bytes placed.content) (octets before) ++ h.last = l ∙ back ∙ ap (λ (o : Option (List ℕ)). octets_place o (octets before) ++ h.last) (sym are.content_is) in
+          let cut : last ≡ octets_position (lent_bytes placed.content) (octets before) ++ h.last = l ∙ back ∙ ap (λ (o : Option (List ℕ)). octets_position o (octets before) ++ h.last) (sym are.content_is) in
           let is : behind ≡ h.last = law (octets before) h.last cut in
           subst (λ (r : RunStream). IsOneRunPosition r (length (values before)) behind) (sym are.own_is)
-          (subst (λ (t : List ℕ). IsOneRunPosition own (length (values before)) t) (sym is) h.own_place),
+          (subst (λ (t : List ℕ). IsOneRunPosition own (length (values before)) t) (sym is) h.value_position),
     )
 
 -- ---- a group of a column
@@ -87,10 +87,10 @@ column_sought s x before placed ps size first last are h e f l =
 -- the positions of its entry, as they are read
 pub entry_reads : (view : Opened) (rows : List Cell) (c g : ℕ) (message : RowIndexMsg) (entries : List RowIndexEntry) (entry : RowIndexEntry) (positions : List ℕ) → ColumnReadsOneRun view rows c
     → HasIndex view.footer view.bytes c message → entries ≡ message.entries → g < length entries → entry ≡ get_or entries g entry → positions ≡ entry.positions
-    → AreOneRunPlaces (shape_at view.schema c) (columns_of view.footer view.bytes c) (before_group (cells view.schema c rows) (bounds_of view.schema c rows (starts view.stride (length rows))) g) positions
+    → AreOneRunPositions (shape_at view.schema c) (columns_of view.footer view.bytes c) (before_group (cells view.schema c rows) (bounds_of view.schema c rows (starts view.stride (length rows))) g) positions
 entry_reads view rows c g message entries entry positions reads has same lt is at =
     let there : slice_get message.entries g ≡ Some entry = ap (λ (es : List RowIndexEntry). slice_get es g) (sym same) ∙ slice_get_read entries (length entries) g entry refl lt is in
-    subst (λ (ps : List ℕ). AreOneRunPlaces (shape_at view.schema c) (columns_of view.footer view.bytes c) (before_group (cells view.schema c rows) (bounds_of view.schema c rows (starts view.stride (length rows))) g) ps)
+    subst (λ (ps : List ℕ). AreOneRunPositions (shape_at view.schema c) (columns_of view.footer view.bytes c) (before_group (cells view.schema c rows) (bounds_of view.schema c rows (starts view.stride (length rows))) g) ps)
     (sym at) (reads message has g entry there)
 
 -- ---- a stripe of a file, as it is opened

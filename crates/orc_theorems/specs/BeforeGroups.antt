@@ -7,8 +7,8 @@ use Rattle.orc_wire.specs.declared.stripe_info.StripeInfo.{StripeInfo}
 use Rattle.orc_values.specs.Shapes.{Shape, width, shape_at}
 use Rattle.orc_column_reader.specs.Directory.{slice}
 use Rattle.orc_column_reader.specs.Stripe.{Streams, HasFooter, has_dictionary, columns_of}
-use Rattle.orc_row_index.specs.Places.{octets_size}
-use Rattle.orc_row_index.specs.RunStreams.{own_octets}
+use Rattle.orc_row_index.specs.Positions.{octets_size}
+use Rattle.orc_row_index.specs.RunStreams.{value_bytes}
 use Rattle.orc_group_reader.specs.Entering.{AgreeFrom}
 use Rattle.orc_group_reader.specs.Refusals.{present_size}
 use Rattle.orc_stripe.specs.Opened.{Opened}
@@ -24,7 +24,7 @@ offset_of s x positions kind =
     if kind == 0 then get_or positions 0 0
     else (if kind == 1 then get_or positions (present_size x) 0
     else (if (kind == 2) && not (has_dictionary x)
-    then get_or positions (present_size x + octets_size (own_octets s x)) 0
+    then get_or positions (present_size x + octets_size (value_bytes s x)) 0
     else 0))
 
 -- the stripe with other bytes, and the same record and footer

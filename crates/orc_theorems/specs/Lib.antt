@@ -2,5 +2,5 @@ pub mod Groupings
 pub mod Inputs
 pub mod BeforeGroups
 pub mod WrittenIndexes
-pub mod OneRunPlaces
+pub mod OneRunPositions
 pub mod RunsRead

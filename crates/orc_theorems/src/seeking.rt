@@ -4,10 +4,10 @@ ghost use Rattle.orc_values.specs.Cells.{Cell};
 ghost use Rattle.orc_values.specs.Shapes.{Shape};
 ghost use Rattle.orc_column_reader.specs.Numbers.{is_run};
 ghost use Rattle.orc_column_reader.specs.Stripe.{Streams};
-ghost use Rattle.orc_row_index.specs.Places.{octets_place};
+ghost use Rattle.orc_row_index.specs.Positions.{octets_position};
 ghost use Rattle.orc_row_index.specs.RunStreams.{bit_runs, byte_runs, number_runs};
 ghost use Rattle.orc_row_index.specs.Walking.{runs, lent_bytes, ArePlaced};
-ghost use Rattle.orc_theorems.specs.OneRunPlaces.{SeekCounts, IsOneRunPosition, AreOneRunPlaces};
+ghost use Rattle.orc_theorems.specs.OneRunPositions.{SeekCounts, IsOneRunPosition, AreOneRunPositions};
 ghost use Rattle.orc_theorems.specs.RunsRead.{runs_read, ReadOneEach};
 
 use orc_rle::{BitPos, BitRuns, ByteRuns, Pos, Rle, Run, RunCodec, RunFault, RunU8, Sign, V1, V2};
@@ -139,7 +139,7 @@ fn seek_stream(stream: &RunBytes<'_>, positions: &[u64]) -> Result<Sought, RunFa
 
 /// The positions behind that of bytes as they are, where a column has such.
 fn behind_octets<'p>(content: Option<&[u8]>, positions: &'p [u64]) -> &'p [u64]
-    ensures { (n : ℕ) (last : List ℕ) → positions.now ≡ octets_place (lent_bytes content.entry) n ++ last
+    ensures { (n : ℕ) (last : List ℕ) → positions.now ≡ octets_position (lent_bytes content.entry) n ++ last
         → result.now ≡ last }
 {
     match content {
@@ -159,7 +159,7 @@ pub(crate) fn seek_places(
     positions: &[u64],
 ) -> Result<ColumnSought, RunFault>
     ensures { (s : Shape) (x : Streams) (before : List Cell) → ArePlaced s x placed.now
-        → AreOneRunPlaces s x before positions.now → IfOk result ReadOneEach }
+        → AreOneRunPositions s x before positions.now → IfOk result ReadOneEach }
 {
     let size = placed.present.position_size();
     if positions.len() < size {

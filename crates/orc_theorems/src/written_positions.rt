@@ -16,7 +16,7 @@ ghost use Rattle.orc_tail.specs.declared.tail.Tail.{Tail};
 ghost use Rattle.orc_merger.specs.Merging.{IsMerge};
 ghost use Rattle.orc_merger.specs.Grouping.{Groups, merge, all_leaves, Wrote};
 ghost use Rattle.orc_theorems.specs.WrittenIndexes.{HasWrittenIndexes, AreIndexedAsWritten, WereWritten};
-ghost use Rattle.orc_theorems.specs.OneRunPlaces.{ReadsOneRun};
+ghost use Rattle.orc_theorems.specs.OneRunPositions.{ReadsOneRun};
 
 use orc_file::written_laws;
 use orc_merger::grouping;

@@ -7,7 +7,7 @@ ghost use Rattle.orc_column_reader.specs.Stripe.{columns_of};
 ghost use Rattle.orc_row_index.specs.Walking.{ArePlaced};
 ghost use Rattle.orc_file.specs.FileRows.{FileIs};
 ghost use Rattle.orc_tail.specs.declared.tail.Tail.{Tail};
-ghost use Rattle.orc_theorems.specs.OneRunPlaces.{ColumnReadsOneRun, ReadsOneRun};
+ghost use Rattle.orc_theorems.specs.OneRunPositions.{ColumnReadsOneRun, ReadsOneRun};
 ghost use Rattle.orc_theorems.specs.RunsRead.{ReadOneEach};
 ghost use Rattle.orc_theorems.specs.WrittenIndexes.{WasWritten};
 

@@ -161,7 +161,7 @@ pub fn whole_laws()
     // A stripe footer's text holds all of it where that of each of its encodings does.
     ensures directory { (m : StripeFooter) → AllByRecursion encoding_text.whole m.columns → stripe_footer_text.whole m }
     // A postscript's text holds all of it.
-    ensures script { (m : PostScript) → post_script_text.whole m }
+    ensures postscript { (m : PostScript) → post_script_text.whole m }
     // A type's text holds all of it where what it keeps is fields above 3.
     ensures type_of_kept { (m : TypeMsg) → AreKept 4 m.kept → type_text.whole m }
     // A type that was read keeps only fields above 3.
@@ -248,7 +248,7 @@ pub fn canonical_laws()
         ++ list_text (λ e. sized (encoding_text.text e)) 2 m.columns }
     // A postscript's text is footer length, compression, version packed, metadata length, writer
     // version where it is known, and magic, in fields 1, 2, 4, 5, 6 and 8000.
-    ensures script { (m : PostScript)
+    ensures postscript { (m : PostScript)
         → post_script_text.text m ≡ number_text 1 m.footer_length
         ++ (number_text 2 m.compression
         ++ (packed_text 4 m.version

@@ -4,7 +4,7 @@ ghost use Rattle.std.specs.Prelude.{ℕ, ℤ, List};
 ghost use Rattle.orc_rle.specs.declared.sign.Sign.{Sign};
 ghost use Rattle.orc_rle.specs.ByteRun.{IsByteRun};
 ghost use Rattle.orc_rle.specs.Stream.{IsStream};
-ghost use Rattle.orc_positions.specs.Marks.{start_of_stream, IsMark};
+ghost use Rattle.orc_positions.specs.RunStarts.{start_of_stream, IsRunStart};
 ghost use Rattle.orc_positions.specs.Position.{HasValues};
 
 use super::{demand, passes};
@@ -18,7 +18,7 @@ use std::process::Abort;
 /// calls before it promise.
 fn start_law<C: RunCodec>()
     ensures { (sign : Sign) (bytes : List ℕ) (all : List ℤ)
-        → IsStream (C.is_run sign) bytes all → IsMark (C.is_run sign) bytes start_of_stream }
+        → IsStream (C.is_run sign) bytes all → IsRunStart (C.is_run sign) bytes start_of_stream }
 {
     seek_laws::<C>();
 }
@@ -26,9 +26,9 @@ fn start_law<C: RunCodec>()
 /// The writer's position of a value, which is sought.
 fn sought_place<C: RunCodec>(bytes: &[u8], sign: Sign, n: usize) -> Result<Pos, RunFault>
     requires there { HasValues (C.is_run sign) bytes.now n }
-    requires start { IsMark (C.is_run sign) bytes.now start_of_stream }
+    requires start { IsRunStart (C.is_run sign) bytes.now start_of_stream }
 {
-    let pos = mark_at::<C>(bytes, sign, Mark::start(), n).place(n);
+    let pos = run_start_at::<C>(bytes, sign, RunStart::start(), n).place(n);
     let mut run = Run::new();
     seek_place::<C>(bytes, sign, pos, &mut run)?;
     Ok(pos)
@@ -52,7 +52,7 @@ fn place_of<C: RunCodec>(
 /// That the first byte of a stream begins at its start.
 fn byte_start_law()
     ensures { (bytes : List ℕ) (all : List ℕ)
-        → IsStream IsByteRun bytes all → IsMark IsByteRun bytes start_of_stream }
+        → IsStream IsByteRun bytes all → IsRunStart IsByteRun bytes start_of_stream }
 {
     byte_seek_laws();
 }
@@ -60,9 +60,9 @@ fn byte_start_law()
 /// The writer's position of a byte, which is sought.
 fn sought_byte(bytes: &[u8], n: usize) -> Result<Pos, RunFault>
     requires there { HasValues IsByteRun bytes.now n }
-    requires start { IsMark IsByteRun bytes.now start_of_stream }
+    requires start { IsRunStart IsByteRun bytes.now start_of_stream }
 {
-    let pos = byte_mark_at(bytes, Mark::start(), n).place(n);
+    let pos = byte_run_start_at(bytes, RunStart::start(), n).place(n);
     let mut run = RunU8::new();
     byte_seek_place(bytes, pos, &mut run)?;
     Ok(pos)
@@ -87,7 +87,7 @@ fn bit_place_of(alloc: Global, bytes: &[u8], total: usize, n: usize) -> Result<B
     if n > values.len() {
         return Err(RunFault::TooFew(n));
     }
-    let pos = byte_mark_at(bytes, Mark::start(), n / 8).bit_place(n);
+    let pos = byte_run_start_at(bytes, RunStart::start(), n / 8).bit_place(n);
     let mut run = RunU8::new();
     bit_seek_place(bytes, pos, &mut run)?;
     Ok(pos)
@@ -127,7 +127,7 @@ fn places_are_sought(rt: HostRuntime) {
 }
 
 /// Whether there are no places, for this fault or for want of memory.
-fn has_none(places: Result<RunPlaces, RunFault>, fault: RunFault) -> bool {
+fn has_none(places: Result<RunTable, RunFault>, fault: RunFault) -> bool {
     match places {
         Ok(_) => false,
         Err(found) => found == fault || found == RunFault::OutOfMemory,
@@ -136,9 +136,9 @@ fn has_none(places: Result<RunPlaces, RunFault>, fault: RunFault) -> bool {
 
 /// Streams whose last run ends too soon have no places.
 fn check_short(rt: &impl Abort, alloc: Global) {
-    let short = run_places::<V1>(alloc, &[0x00, 0x00, 0x02, 0xff], Signed);
+    let short = run_table::<V1>(alloc, &[0x00, 0x00, 0x02, 0xff], Signed);
     assert!(rt; has_none(short, RunFault::Short(3)));
-    let short = byte_places(alloc, &[0x61, 0x00, 0x00]);
+    let short = byte_table(alloc, &[0x61, 0x00, 0x00]);
     assert!(rt; has_none(short, RunFault::Short(2)));
 }
 

@@ -1,7 +1,7 @@
 //! The postscript, from its bytes.
 ghost use Rattle.std.specs.Prelude.{◌≡◌, ◌⊎◌, IfOk, IfErr};
 ghost use Rattle.std.specs.Bool.{OnTrue, OnFalse};
-ghost use Rattle.orc_tail.specs.Tails.{IsMagic, script_tests, IsOfTail};
+ghost use Rattle.orc_tail.specs.Tails.{IsMagic, postscript_tests, IsOfTail};
 ghost use Rattle.orc_tail.specs.declared.fault.FileFault.TheVariants.{OutOfMemory};
 
 use crate::fault::FileFault;
@@ -23,29 +23,29 @@ fn is_magic(text: &Bytes) -> bool
 /// The postscript that the bytes are, which begin at a place of their file.
 ///
 /// Refusals: the fault of the first test that the bytes don't pass, or `OutOfMemory`.
-pub(crate) fn script_in(alloc: Global, text: &[u8], place: u64) -> Result<PostScript, FileFault>
-    ensures found { IfOk result (λ script. (script_tests text.now place).finds script) }
-    ensures fault { IfErr result (λ fault. (fault ≡ OutOfMemory) ⊎ (script_tests text.now place).fails fault) }
+pub(crate) fn postscript_in(alloc: Global, text: &[u8], place: u64) -> Result<PostScript, FileFault>
+    ensures found { IfOk result (λ postscript. (postscript_tests text.now place).finds postscript) }
+    ensures fault { IfErr result (λ fault. (fault ≡ OutOfMemory) ⊎ (postscript_tests text.now place).fails fault) }
     ensures named { IfErr result (λ fault. IsOfTail fault) }
 {
-    let script = match PostScript::read(alloc, text) {
-        Ok(script) => script,
+    let postscript = match PostScript::read(alloc, text) {
+        Ok(postscript) => postscript,
         Err(WireFault::OutOfMemory) => return Err(FileFault::OutOfMemory),
         Err(_) => return Err(FileFault::BadPostscript),
     };
-    if script.version.as_slice().len() > MOST_VERSIONS {
+    if postscript.version.as_slice().len() > MOST_VERSIONS {
         return Err(FileFault::BadPostscript);
     }
-    if !is_magic(&script.magic) {
+    if !is_magic(&postscript.magic) {
         return Err(FileFault::NotOrc);
     }
-    if script.compression != 0 {
-        return Err(FileFault::Compressed(script.compression));
+    if postscript.compression != 0 {
+        return Err(FileFault::Compressed(postscript.compression));
     }
     // two lengths of 64 bits need one bit more together
-    let parts = u128::from(script.metadata_length) + u128::from(script.footer_length);
+    let parts = u128::from(postscript.metadata_length) + u128::from(postscript.footer_length);
     if parts + 3 > u128::from(place) {
         return Err(FileFault::BadLengths);
     }
-    Ok(script)
+    Ok(postscript)
 }

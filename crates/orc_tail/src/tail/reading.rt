@@ -3,7 +3,7 @@
 ghost use Rattle.std.specs.Prelude.{◌≡◌, ◌+◌, ◌<◌, ◌≤◌, ◌⊎◌, length, OnOk, IfOk, IfErr, IfSome, IsErrOf};
 ghost use Rattle.orc_io.specs.Devices.{bytes_at};
 ghost use Rattle.std.specs.Bool.{OnTrue, OnFalse};
-ghost use Rattle.orc_tail.specs.Layout.{magic, script_length, script_place};
+ghost use Rattle.orc_tail.specs.Layout.{magic, postscript_length, postscript_place};
 ghost use Rattle.orc_tail.specs.Stripes.{AllBefore};
 ghost use Rattle.orc_tail.specs.Tails.{most_versions, end_tests, IsTail, OpenFault, ReadFault, IsOfTail};
 ghost use Rattle.orc_tail.specs.Caps.{no_cap, IsCappedTail, CappedFault};
@@ -15,7 +15,7 @@ use crate::tail::Tail;
 use crate::tail::footer::footer_in;
 use crate::tail::limits::limits_of;
 use crate::tail::metadata::metadata_in;
-use crate::tail::postscript::script_in;
+use crate::tail::postscript::postscript_in;
 use orc_io::{RangeFault, Source, read_range};
 use orc_wire::PostScript;
 use std::alloc::Global;
@@ -23,7 +23,7 @@ use std::alloc::Global;
 /// The postscript, the place where it begins, and how many bytes it has.
 #[derive(Drop)]
 struct End {
-    script: PostScript,
+    postscript: PostScript,
     place: u64,
     length: u64,
 }
@@ -84,10 +84,10 @@ fn read_end<S: Source>(alloc: Global, source: &mut S) -> Result<End, FileFault>
     ensures told { S.told source.new ≡ S.told source.old }
     ensures sized { S.size source.old ≤ no_cap }
     ensures found { IfOk result (λ end. IfSome (S.told source.old)
-        (λ bytes. (end_tests bytes).finds end.script × (end.place ≡ script_place bytes))) }
-    ensures length { IfOk result (λ end. IfSome (S.told source.old) (λ bytes. end.length ≡ script_length bytes)) }
-    ensures few { IfOk result (λ end. length end.script.version ≤ most_versions) }
-    ensures room { IfOk result (λ end. (3 + end.script.metadata_length + end.script.footer_length ≤ end.place)
+        (λ bytes. (end_tests bytes).finds end.postscript × (end.place ≡ postscript_place bytes))) }
+    ensures length { IfOk result (λ end. IfSome (S.told source.old) (λ bytes. end.length ≡ postscript_length bytes)) }
+    ensures few { IfOk result (λ end. length end.postscript.version ≤ most_versions) }
+    ensures room { IfOk result (λ end. (3 + end.postscript.metadata_length + end.postscript.footer_length ≤ end.place)
         × (end.place ≤ S.size source.old)) }
 
     ensures fault { IfErr result (λ fault. ReadFault (S.told source.old) fault
@@ -115,21 +115,21 @@ fn read_end<S: Source>(alloc: Global, source: &mut S) -> Result<End, FileFault>
     }
     let place = len - 1 - length;
     let text = range_of(alloc, source, place, length)?;
-    let script = script_in(alloc, &text, place)?;
+    let postscript = postscript_in(alloc, &text, place)?;
     Ok(End {
-        script,
+        postscript,
         place,
         length,
     })
 }
 
 /// Whether a postscript, a footer and metadata of so many bytes are together longer than the cap.
-fn is_above(cap: u64, script: u64, footer: u64, metadata: u64) -> bool
-    ensures yes { OnTrue result (cap < script + footer + metadata) }
-    ensures no { OnFalse result (script + footer + metadata ≤ cap) }
+fn is_above(cap: u64, postscript: u64, footer: u64, metadata: u64) -> bool
+    ensures yes { OnTrue result (cap < postscript + footer + metadata) }
+    ensures no { OnFalse result (postscript + footer + metadata ≤ cap) }
 {
     // three lengths of 64 bits need two bits more together
-    let parts = u128::from(script) + (u128::from(footer) + u128::from(metadata));
+    let parts = u128::from(postscript) + (u128::from(footer) + u128::from(metadata));
     parts > u128::from(cap)
 }
 
@@ -171,24 +171,24 @@ pub fn read_capped_tail<S: Source>(
     ensures memory { IsErrOf result OutOfMemory → S.failures source.new ≡ S.failures source.old }
 {
     let End {
-        script,
+        postscript,
         place,
         length,
     } = read_end(alloc, source)?;
-    if is_above(cap, length, script.footer_length, script.metadata_length) {
+    if is_above(cap, length, postscript.footer_length, postscript.metadata_length) {
         return Err(FileFault::Limit);
     }
-    let footer_at = place - script.footer_length;
-    let text = range_of(alloc, source, footer_at, script.footer_length)?;
+    let footer_at = place - postscript.footer_length;
+    let text = range_of(alloc, source, footer_at, postscript.footer_length)?;
     let (footer, schema) = footer_in(alloc, &text)?;
-    let metadata_at = footer_at - script.metadata_length;
-    let text = range_of(alloc, source, metadata_at, script.metadata_length)?;
+    let metadata_at = footer_at - postscript.metadata_length;
+    let text = range_of(alloc, source, metadata_at, postscript.metadata_length)?;
     let metadata = metadata_in(alloc, &text, &footer, &schema)?;
     let (file_stats, stripe_stats) = limits_of(alloc, metadata_at, &footer, &schema, &metadata)?;
     Ok(Tail {
-        version: script.version,
+        version: postscript.version,
         writer: footer.writer,
-        writer_version: script.writer_version,
+        writer_version: postscript.writer_version,
         schema,
         stripes: footer.stripes,
         stripe_stats,

@@ -8,7 +8,7 @@ ghost use Rattle.orc_wire.specs.CanonicalMessages.{metadata_text, footer_text, p
 ghost use Rattle.orc_stats.specs.Messages.{message_of};
 ghost use Rattle.orc_tail.specs.Stripes.{stripes_length, most_bytes, IsLaid};
 ghost use Rattle.orc_tail.specs.Statistics.{stripe_message};
-ghost use Rattle.orc_tail.specs.Images.{metadata_of, footer_of, script_of, tail_text, IsWithinLimits, HasBits};
+ghost use Rattle.orc_tail.specs.Images.{metadata_of, footer_of, postscript_of, tail_text, IsWithinLimits, HasBits};
 ghost use Rattle.orc_tail.specs.declared.fault.FileFault.TheVariants.{OutOfMemory};
 
 use crate::fault::FileFault;
@@ -165,16 +165,16 @@ fn put_footer(tail: &Tail, out: &mut Vec<u8>) -> Result<(), FileFault>
 }
 
 /// The postscript behind metadata and a footer of these lengths.
-fn put_script(tail: &Tail, metadata: u64, footer: u64, out: &mut Vec<u8>) -> Result<(), FileFault>
+fn put_postscript(tail: &Tail, metadata: u64, footer: u64, out: &mut Vec<u8>) -> Result<(), FileFault>
     requires metadata { metadata ≡ length (metadata_text.text (metadata_of tail.now)) }
     requires footer { footer ≡ length (footer_text.text (footer_of tail.now)) }
-    ensures text { OnOk result (out.new.items ≡ out.old.items ++ post_script_text.text (script_of tail.now)) }
-    ensures bounded { OnOk result (post_script_text.bounded (script_of tail.now)) }
+    ensures text { OnOk result (out.new.items ≡ out.old.items ++ post_script_text.text (postscript_of tail.now)) }
+    ensures bounded { OnOk result (post_script_text.bounded (postscript_of tail.now)) }
     ensures refused { IfErr result (λ fault. fault ≡ OutOfMemory) }
     ensures front { KeepsFront out.old.items out.new.items }
 {
     let alloc = *out.allocator();
-    let script = PostScript {
+    let postscript = PostScript {
         footer_length: footer,
         compression: 0,
         version: Items::from_vec(tail.version.as_slice().to_vec(alloc)?),
@@ -182,7 +182,7 @@ fn put_script(tail: &Tail, metadata: u64, footer: u64, out: &mut Vec<u8>) -> Res
         writer_version: tail.writer_version,
         magic: Items::from_vec(b"ORC".to_vec(alloc)?),
     };
-    match script.put_members(out) {
+    match postscript.put_members(out) {
         Ok(()) => Ok(()),
         Err(_) => Err(FileFault::OutOfMemory),
     }
@@ -199,14 +199,14 @@ fn put_parts(tail: &Tail, out: &mut Vec<u8>) -> Result<(), FileFault>
     put_metadata(tail.stripe_stats.as_slice(), out)?;
     let footer_at = out.len();
     put_footer(tail, out)?;
-    let script_at = out.len();
-    put_script(
+    let postscript_at = out.len();
+    put_postscript(
         tail,
         (footer_at - metadata_at) as u64,
-        (script_at - footer_at) as u64,
+        (postscript_at - footer_at) as u64,
         out,
     )?;
-    out.push((out.len() - script_at) as u8)?;
+    out.push((out.len() - postscript_at) as u8)?;
     Ok(())
 }
 

@@ -92,20 +92,20 @@ static NO_FOOTERS: [(&'static [u8], WireFault); 1] = [(
 )];
 
 /// The text is a postscript with these lengths of the footer and of the metadata, and is written so again.
-fn check_script(
+fn check_postscript(
     rt: &impl Abort,
     alloc: Global,
     text: &[u8],
     lengths: (u64, u64),
 ) -> Result<(), WireFault> {
-    let (script, out) = both_ways::<PostScript>(alloc, text)?;
+    let (postscript, out) = both_ways::<PostScript>(alloc, text)?;
     check_list(rt, "a postscript again", &out, text);
-    let found = (script.footer_length, script.metadata_length);
+    let found = (postscript.footer_length, postscript.metadata_length);
     check_same(rt, "lengths", &found, &lengths);
-    check_same(rt, "compression", &script.compression, &0);
-    check_same(rt, "writer version", &script.writer_version, &Some(6));
-    check_list(rt, "version", script.version.as_slice(), &[0, 11]);
-    check_list(rt, "magic", script.magic.as_slice(), b"ORC");
+    check_same(rt, "compression", &postscript.compression, &0);
+    check_same(rt, "writer version", &postscript.writer_version, &Some(6));
+    check_list(rt, "version", postscript.version.as_slice(), &[0, 11]);
+    check_list(rt, "magic", postscript.magic.as_slice(), b"ORC");
     Ok(())
 }
 
@@ -113,7 +113,7 @@ fn check_script(
 fn postscripts(rt: HostRuntime) -> Result<(), Fail> {
     let lengths = [(36, 0), (56, 22), (68, 44)];
     for (text, lengths) in SCRIPTS.iter().zip(lengths) {
-        check_script(&rt, rt.alloc(), text, lengths)?;
+        check_postscript(&rt, rt.alloc(), text, lengths)?;
     }
     Ok(())
 }
@@ -162,10 +162,10 @@ static VERSION: [u8; 12] = [
 ];
 
 fn check_packed(rt: &impl Abort, alloc: Global) -> Result<(), WireFault> {
-    let script = read_message::<PostScript>(alloc, &VERSION)?;
-    check_list(rt, "version", script.version.as_slice(), &[0, 11, 5, 7]);
-    check_same(rt, "footer length", &script.footer_length, &1);
-    check_same(rt, "writer version", &script.writer_version, &None);
+    let postscript = read_message::<PostScript>(alloc, &VERSION)?;
+    check_list(rt, "version", postscript.version.as_slice(), &[0, 11, 5, 7]);
+    check_same(rt, "footer length", &postscript.footer_length, &1);
+    check_same(rt, "writer version", &postscript.writer_version, &None);
     Ok(())
 }
 

@@ -5,7 +5,7 @@ use Rattle.orc_wire.specs.declared.row_index.RowIndexEntry.{RowIndexEntry}
 use Rattle.orc_values.specs.Views.{shape}
 use Rattle.orc_column_walk.specs.declared.found.GroupFound.{GroupFound}
 use Rattle.orc_row_index.specs.Bounds.{before_group, group_of}
-use Rattle.orc_row_index.specs.Places.{AreReadPlaces}
+use Rattle.orc_row_index.specs.Positions.{AreReadPositions}
 use Rattle.orc_check.specs.declared.finding.Finding.TheVariants.{IndexStatistic, IndexPosition}
 use Rattle.orc_check.specs.Findings.{Adds, Unless, OfEach, OfGroup, TellsGroup, entry_at}
 use Rattle.orc_check.proofs.GroupBounds.{get_or_any}
@@ -33,12 +33,12 @@ loop-group-preserved c = λ x cells bounds fit few are decided.
     let right = c.is_right.result in
     let there : slice_get c.args.right.now g ≡ Some right = slice_get-get_or c.args.right.now g false (omega (arith, here, decided.counted)) ∙ ap Some (sym c.is_right.ensures) in
     let decides = decided.each g read right (slice_get_read es (length es) g read refl here c.index-entries-group.is) there in
-    let placed : MatchBool right (AreReadPlaces s x (before_group cells bounds g) (entry_at es g).positions) (AreReadPlaces s x (before_group cells bounds g) (entry_at es g).positions → ⊥) =
-    subst (λ (e : RowIndexEntry). MatchBool right (AreReadPlaces s x (before_group cells bounds g) e.positions) (AreReadPlaces s x (before_group cells bounds g) e.positions → ⊥)) entry decides in
-    let second = adds_report (AreReadPlaces s x (before_group cells bounds g) (entry_at es g).positions) right (IndexPosition n col g) c.report.new.found.items c.report-in-loop-group.new.found.items placed c.in_ok-report-2.ensures in
+    let placed : MatchBool right (AreReadPositions s x (before_group cells bounds g) (entry_at es g).positions) (AreReadPositions s x (before_group cells bounds g) (entry_at es g).positions → ⊥) =
+    subst (λ (e : RowIndexEntry). MatchBool right (AreReadPositions s x (before_group cells bounds g) e.positions) (AreReadPositions s x (before_group cells bounds g) e.positions → ⊥)) entry decides in
+    let second = adds_report (AreReadPositions s x (before_group cells bounds g) (entry_at es g).positions) right (IndexPosition n col g) c.report.new.found.items c.report-in-loop-group.new.found.items placed c.in_ok-report-2.ensures in
     adds_next (OfGroup s x cells bounds n col es) g c.args.found.now.items c.loop-group.found.items c.report-in-loop-group.new.found.items (c.loop-group.invariant x cells bounds fit few are decided)
     (adds_both (Unless (TellsGroup s (group_of cells bounds g) (entry_at es g)) (IndexStatistic n col g))
-    (Unless (AreReadPlaces s x (before_group cells bounds g) (entry_at es g).positions) (IndexPosition n col g)) c.loop-group.found.items c.report.new.found.items c.report-in-loop-group.new.found.items first second)
+    (Unless (AreReadPositions s x (before_group cells bounds g) (entry_at es g).positions) (IndexPosition n col g)) c.loop-group.found.items c.report.new.found.items c.report-in-loop-group.new.found.items first second)
 
 pub returns : goal.returns
 returns c = λ x cells bounds fit few are decided.

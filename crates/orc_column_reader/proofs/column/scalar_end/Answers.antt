@@ -4,8 +4,8 @@ use Rattle.orc_column_reader.specs.Numbers.{NumbersLeft}
 use Rattle.orc_column_reader.specs.Bits.{BitsLeft}
 use Rattle.orc_column_reader.specs.Bytes.{BytesLeft}
 use Rattle.orc_column_reader.specs.Octets.{OctetsLeft}
-use Rattle.orc_column_reader.specs.Spellings.{Grouped}
-use Rattle.orc_column_reader.specs.Columns.{IsBool, IsByte, IsInt, IsDate, IsText, IsBinary, IsWord, entry_bytes}
+use Rattle.orc_column_reader.specs.Spellings.{Sized}
+use Rattle.orc_column_reader.specs.Columns.{IsBool, IsByte, IsInt, IsDate, IsText, IsBinary, IsEntry, entry_bytes}
 use Rattle.orc_column_reader.proofs.Ends.{standing_match}
 use Rattle.orc_column_reader.proofs.column.scalar_end.Goals as goal
 
@@ -28,10 +28,10 @@ pub returns-in-Date : goal.returns-in-Date
 returns-in-Date c = rw c.in-Date.is (standing_match c.numbers_end-in-Date.result IsDate (NumbersLeft c.args.source.now.numbers) c.numbers_end-in-Date.ensures)
 
 pub returns-in-Binary : goal.returns-in-Binary
-returns-in-Binary c = rw c.in-Binary.is (standing_match c.groups_end.result IsBinary (Grouped (NumbersLeft c.args.source.now.numbers) (OctetsLeft c.args.source.now.octets)) c.groups_end.ensures)
+returns-in-Binary c = rw c.in-Binary.is (standing_match c.strings_end.result IsBinary (Sized (NumbersLeft c.args.source.now.numbers) (OctetsLeft c.args.source.now.octets)) c.strings_end.ensures)
 
 pub returns-in-None : goal.returns-in-None
-returns-in-None c = rw (c.in-String.is, c.in-None.is) (standing_match c.groups_end-in-None.result IsText (Grouped (NumbersLeft c.args.source.now.numbers) (OctetsLeft c.args.source.now.octets)) c.groups_end-in-None.ensures)
+returns-in-None c = rw (c.in-String.is, c.in-None.is) (standing_match c.strings_end-in-None.result IsText (Sized (NumbersLeft c.args.source.now.numbers) (OctetsLeft c.args.source.now.octets)) c.strings_end-in-None.ensures)
 
 pub returns-in-Some : goal.returns-in-Some
-returns-in-Some c = rw (c.in-String.is, c.in-Some.is) (standing_match c.numbers_end-in-Some.result (IsWord (map entry_bytes c.in-Some.field-0.items)) (NumbersLeft c.args.source.now.numbers) c.numbers_end-in-Some.ensures)
+returns-in-Some c = rw (c.in-String.is, c.in-Some.is) (standing_match c.numbers_end-in-Some.result (IsEntry (map entry_bytes c.in-Some.field-0.items)) (NumbersLeft c.args.source.now.numbers) c.numbers_end-in-Some.ensures)

@@ -16,5 +16,5 @@ returns c =
       present_is = c.stream.ensures ∙ c.requires.located.are column 0 there (omega arith);
       data_is = c.stream-2.ensures ∙ c.requires.located.are column 1 there (omega arith);
       lengths_are = c.stream-3.ensures ∙ c.requires.located.are column 2 there (omega arith);
-      words_are = c.stream-4.ensures ∙ c.requires.located.are column 3 there (omega arith);
+      dictionary_data_is = c.stream-4.ensures ∙ c.requires.located.are column 3 there (omega arith);
     }

@@ -82,4 +82,4 @@ returns-clause-found g c =
     let s = shape c.args.tree.now in
     let are : (cs : List Cell) → length cs ≤ 2 ^ 62 → stat_of_kept m (cells_kept m cs) ≡ stat (kind_of s) cs = λ cs few. g.T.Tally.cells_are cs few ∙ ap (λ k. stat k cs) c.requires.kind in
     groups_all m s c.args.source.now c.loop-group.source c.args.groups.count c.args.groups.bounds.now c.args.groups.values c.args.groups.value_bounds.now c.loop-group.group (g.T.Tally.kept c.loop-group.whole) c.loop-group.passed _
-    c.loop-group.invariant (omega (arith, c.loop-group-test.false, c.loop-group.auto.group-end)) c.requires.values.as_many are (omega (arith, c.requires.few)) c.in_ok-closed.ensures refl
+    c.loop-group.invariant (omega (arith, c.loop-group-test.false, c.loop-group.auto.group-end)) c.requires.values.as_many are (omega (arith, c.requires.few)) c.in_ok-statistic_of.ensures refl

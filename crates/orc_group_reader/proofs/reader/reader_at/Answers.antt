@@ -1,6 +1,6 @@
 use Rattle.std.proofs.Common.{◌≡◌, ℕ, List, take, drop, ap, ◌∙◌, subst}
 use Rattle.orc_values.specs.Views.{shape}
-use Rattle.orc_row_index.specs.Places.{position_size}
+use Rattle.orc_row_index.specs.Positions.{position_size}
 use Rattle.orc_group_reader.specs.ReadersAt.{MarksAt, SourceAt}
 use Rattle.orc_group_reader.specs.Refusals as refusals
 use Rattle.orc_group_reader.proofs.ColumnTurned.{present_size, at_present, marks_left, own_turns, own_positions}

@@ -1,6 +1,6 @@
 use Rattle.std.proofs.Common.{arith}
 use Rattle.orc_positions.proofs.PositionLemmas.{goes_on_alone, goes_on, sought, one_number, seek_alone, fails_alone, one_place}
-use Rattle.orc_positions.proofs.MarkLemmas.{mark_start}
+use Rattle.orc_positions.proofs.RunStartLemmas.{mark_start}
 use Rattle.orc_positions.proofs.laws.seek_laws.Goals as goal
 
 pub returns-clause-sought : goal.returns-clause-sought

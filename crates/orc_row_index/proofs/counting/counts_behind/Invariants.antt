@@ -1,7 +1,7 @@
 use Rattle.std.proofs.Common.{◌≡◌, ◌+◌, ◌≤◌, min, length, drop}
 use Rattle.orc_values.specs.Cells.{values}
 use Rattle.orc_row_index.specs.OwnCells.{own_cells}
-use Rattle.orc_row_index.specs.Places.{octets}
+use Rattle.orc_row_index.specs.Positions.{octets}
 use Rattle.orc_row_index.specs.Walking.{most}
 use Rattle.orc_row_index.proofs.counting.counts_behind.Given as goal
 

@@ -166,17 +166,17 @@ loop-group-preserved g c =
           let own = own_group owns part cells bounds group c.group_end-end.result has.own c.requires.bounds c.loop-group-test.true c.owns_between-cells.ensures c.group_end-end.ensures in
           let few : length (group_of cells bounds group) ≤ 2 ^ 62 = omega (arith, group_few cells bounds group, has.spelled.2.few) in
           let places = front_there s streams cells placed (bound_at (length cells) bounds group) has.spelled c.placed_streams-placed.ensures in
-          stands_more s streams part cells bounds placed group c.args.out.now.items c.loop-group.out.items c.put_entry.new.out.items c.loop-group.counts counts.result c.loop-group.walk c.in_ok-walk.walk c.in_ok-closed.field-0
+          stands_more s streams part cells bounds placed group c.args.out.now.items c.loop-group.out.items c.put_entry.new.out.items c.loop-group.counts counts.result c.loop-group.walk c.in_ok-walk.walk c.in_ok-statistic_of.field-0
           there c.placed_streams-placed.ensures stands own counts.ensures.cells counts.ensures.values counts.ensures.octets
           (c.in_ok-walk.ensures.walked (before_group cells bounds group) stands.counted)
-          (own_stat m g.T.Tally.kind s part (group_of cells bounds group) (g.T.Tally.kept c.tally_of-tally.result) c.in_ok-closed.field-0 g.T.Tally.childless_kept g.T.Tally.cells_are c.requires.kind own few c.tally_of-tally.ensures c.in_ok-closed.ensures)
+          (own_stat m g.T.Tally.kind s part (group_of cells bounds group) (g.T.Tally.kept c.tally_of-tally.result) c.in_ok-statistic_of.field-0 g.T.Tally.childless_kept g.T.Tally.cells_are c.requires.kind own few c.tally_of-tally.ensures c.in_ok-statistic_of.ensures)
           (c.in_ok-walk.ensures.entry (before_group cells bounds group) stands.counted places);
       kept = c.join.ensures ∙ kept_more m said bounds group (g.T.Tally.kept c.loop-group.whole) (g.T.Tally.kept c.tally_of-tally.result) rise c.loop-group.invariant.kept is;
     }
 
 -- what stands so far stays
-pub returns-in_err-closed-clause-front : goal.returns-in_err-closed-clause-front
-returns-in_err-closed-clause-front g c =
+pub returns-in_err-statistic_of-clause-front : goal.returns-in_err-statistic_of-clause-front
+returns-in_err-statistic_of-clause-front g c =
     let stands = c.loop-group.invariant.stands c.requires.column.0 c.requires.column.1 in
     keeps_more c.args.out.now.items c.loop-group.out.items (row_index_text.text (record { entries = stands.entries })) stands.added.text_is
 
@@ -188,7 +188,7 @@ returns-in_err-walk-clause-front g c =
 -- ---- behind the last group
 
 pub returns-clause-index : goal.returns-clause-index
-returns-clause-index g c = λ cells has. on_ok _ c.closed-2.result (λ x is.
+returns-clause-index g c = λ cells has. on_ok _ c.statistic_of-2.result (λ x is.
     let s = shape c.args.tree.now in
     let bounds = c.args.bounds.now in
     let out = c.loop-group.out in
@@ -212,8 +212,8 @@ returns-clause-stat g c = λ cells own.
     let all : length bounds ≤ c.loop-group.group = omega (arith, c.loop-group-test.false) in
     let few : length cells ≤ 2 ^ 62 = omega (arith, own_count owns cells own, own_count owns c.requires.column.0 h.own, h.spelled.2.few) in
     let kept = kept_all m (own_cells owns) bounds c.loop-group.group (g.T.Tally.kept c.loop-group.whole) all c.loop-group.invariant.kept in
-    IfOk-weaker c.closed-2.result _ _
-    (λ found e. own_stat m g.T.Tally.kind (shape c.args.tree.now) owns cells (g.T.Tally.kept c.loop-group.whole) found g.T.Tally.childless_kept g.T.Tally.cells_are c.requires.kind own few kept e) c.closed-2.ensures
+    IfOk-weaker c.statistic_of-2.result _ _
+    (λ found e. own_stat m g.T.Tally.kind (shape c.args.tree.now) owns cells (g.T.Tally.kept c.loop-group.whole) found g.T.Tally.childless_kept g.T.Tally.cells_are c.requires.kind own few kept e) c.statistic_of-2.ensures
 
 pub returns-clause-front : goal.returns-clause-front
 returns-clause-front g c =

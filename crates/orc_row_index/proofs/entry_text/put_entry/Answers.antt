@@ -3,7 +3,7 @@ use Rattle.std.proofs.lemmas.List.{append-nil}
 use Rattle.orc_wire.specs.CanonicalMessages.{row_index_text, row_index_entry_text}
 use Rattle.orc_wire.specs.CanonicalText.{sized_text}
 use Rattle.orc_wire.specs.declared.row_index.RowIndexEntry.{RowIndexEntry}
-use Rattle.orc_row_index.specs.Places.{ArePositions, writer}
+use Rattle.orc_row_index.specs.Positions.{ArePositions, writer}
 use Rattle.orc_row_index.specs.Walking.{runs, lent_bytes}
 use Rattle.orc_row_index.proofs.entry_text.put_entry.Goals as goal
 

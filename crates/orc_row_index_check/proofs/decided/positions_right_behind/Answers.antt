@@ -3,8 +3,8 @@ use Rattle.std.proofs.Common.{◌≡◌, ◌∙◌, ℕ, Some, List, length, sli
 use Rattle.std.proofs.lemmas.Option.{slice_get_read}
 use Rattle.orc_values.specs.Views.{shape}
 use Rattle.orc_row_index.specs.Bounds.{bound_at, before_group}
-use Rattle.orc_row_index.specs.Places.{ArePositions, reader}
-use Rattle.orc_row_index.specs.RunStreams.{RunStream, kind_of_own}
+use Rattle.orc_row_index.specs.Positions.{ArePositions, reader}
+use Rattle.orc_row_index.specs.RunStreams.{RunStream, kind_of_values}
 use Rattle.orc_row_index.specs.Walking.{runs, lent_bytes}
 use Rattle.orc_row_index.proofs.Groups.{front_there}
 use Rattle.orc_row_index_check.specs.Tables.{IsFew}
@@ -21,7 +21,7 @@ returns-in-Err-clause-right c = λ x cells bounds is column rises counted.
 pub returns-in-Err-clause-fault : goal.returns-in-Err-clause-fault
 returns-in-Err-clause-fault c = λ memory x is.
     let s = shape c.args.tree.now in
-    fails_in s x c.placed_streams-placed.result c.args.column c.own_kind-kind.result c.in-Err.fault (c.placed_streams-placed.ensures x is) (c.own_kind-kind.ensures ∙ ap (kind_of_own s) is.dictionary_is)
+    fails_in s x c.placed_streams-placed.result c.args.column c.own_kind-kind.result c.in-Err.fault (c.placed_streams-placed.ensures x is) (c.own_kind-kind.ensures ∙ ap (kind_of_values s) is.dictionary_is)
     (c.in-Err.ensures.fault memory)
 
 pub loop-group-preserved : goal.loop-group-preserved

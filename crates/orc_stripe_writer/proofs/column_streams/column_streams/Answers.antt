@@ -15,5 +15,5 @@ returns c = λ w e joined listed.
       present_is = c.stream_bytes.ensures ∙ f.marks;
       data_is = c.stream_bytes-2.ensures ∙ f.content;
       lengths_are = c.stream_bytes-3.ensures ∙ f.lengths;
-      words_are = c.stream_bytes-4.ensures ∙ f.words;
+      dictionary_data_is = c.stream_bytes-4.ensures ∙ f.dictionary_data;
     }

@@ -10,8 +10,8 @@ use Rattle.orc_values.specs.Fits.{RowsFit}
 use Rattle.orc_row_index.specs.OwnCells.{own_cells}
 use Rattle.orc_stripe_writer.specs.declared.body.Body.{Body}
 use Rattle.orc_stripe_writer.specs.CellValues.{bools_in, number_bytes_in, ints_in, all_bytes_in}
-use Rattle.orc_stripe_writer.specs.WordList.{byte_strings}
-use Rattle.orc_stripe_writer.specs.WrittenColumn.{Written, HasBits, HasBytes, HasNumbers, HasGroups, HasTexts, WritesValues}
+use Rattle.orc_stripe_writer.specs.Dictionary.{byte_strings}
+use Rattle.orc_stripe_writer.specs.WrittenColumn.{Written, HasBits, HasBytes, HasNumbers, HasStrings, HasTexts, WritesValues}
 use Rattle.orc_stripe_writer.specs.Adding.{AddsValues}
 use Rattle.orc_stripe_writer.proofs.AddingLemmas.{adds_weaker}
 use Rattle.orc_stripe_writer.proofs.CellValuesLemmas.{short_is, int_is, long_is, bools_stand, number_bytes_stand, ints_stand, dates_stand, texts_stand, binaries_stand}
@@ -64,5 +64,5 @@ returns-in_ok-strings-in-String c = λ o cs own fit.
 pub returns-in_ok-strings-in-Binary : goal.returns-in_ok-strings-in-Binary
 returns-in_ok-strings-in-Binary c = λ o cs own fit.
     let are : byte_strings c.deref-in-Binary.result.now ≡ all_bytes_in cs = ap byte_strings c.deref-in-Binary.ensures.value ∙ c.in_ok-strings-in-Binary.ensures ∙ own_byte_strings c.args.owns.now cs own in
-    IfOk-weaker c.put_groups.result _ _ (λ e h. of_kind c.args.rle kind.Binary c.args.kind o cs (λ w. HasGroups c.args.rle w (byte_strings c.deref-in-Binary.result.now)) c.args.column c.args.body.now c.put_groups.new.body e c.in-Binary.is fit
-    (λ g w p. (all_bytes_in cs, binaries_stand o cs g, subst (λ ps. HasGroups c.args.rle w ps) are p)) h) c.put_groups.ensures
+    IfOk-weaker c.put_strings.result _ _ (λ e h. of_kind c.args.rle kind.Binary c.args.kind o cs (λ w. HasStrings c.args.rle w (byte_strings c.deref-in-Binary.result.now)) c.args.column c.args.body.now c.put_strings.new.body e c.in-Binary.is fit
+    (λ g w p. (all_bytes_in cs, binaries_stand o cs g, subst (λ ps. HasStrings c.args.rle w ps) are p)) h) c.put_strings.ensures

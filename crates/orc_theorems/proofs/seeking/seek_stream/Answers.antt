@@ -1,7 +1,7 @@
 use Rattle.std.proofs.Common.{subst}
 use Rattle.orc_row_index.specs.Walking.{runs}
 use Rattle.orc_row_index.specs.declared.run_bytes.RunBytes.{RunBytes}
-use Rattle.orc_theorems.specs.OneRunPlaces.{IsOneRunPosition}
+use Rattle.orc_theorems.specs.OneRunPositions.{IsOneRunPosition}
 use Rattle.orc_theorems.proofs.seeking.seek_stream.Goals as goal
 
 pub returns-in-Bits : goal.returns-in-Bits

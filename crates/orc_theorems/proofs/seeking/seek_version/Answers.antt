@@ -1,7 +1,7 @@
 use Rattle.std.proofs.Common.{sym, subst}
 use Rattle.orc_rle.specs.declared.sign.Rle.{Rle}
 use Rattle.orc_column_reader.specs.Numbers.{is_run}
-use Rattle.orc_theorems.specs.OneRunPlaces.{SeekCounts}
+use Rattle.orc_theorems.specs.OneRunPositions.{SeekCounts}
 use Rattle.orc_theorems.proofs.seeking.seek_version.Goals as goal
 
 pub returns-in-One : goal.returns-in-One

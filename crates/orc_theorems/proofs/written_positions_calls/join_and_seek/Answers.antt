@@ -1,7 +1,7 @@
 use Rattle.std.proofs.Common.{ℕ, List, [], ◌∷◌, sym, subst}
 use Rattle.orc_file.specs.FileRows.{FileIs, joined}
 use Rattle.orc_merger.specs.Grouping.{input, one, and}
-use Rattle.orc_theorems.specs.OneRunPlaces.{ReadsOneRun}
+use Rattle.orc_theorems.specs.OneRunPositions.{ReadsOneRun}
 use Rattle.orc_theorems.proofs.StepLemmas.{wrote_pair}
 use Rattle.orc_theorems.proofs.written_positions_calls.join_and_seek.Goals as goal
 

@@ -25,10 +25,10 @@ pub returns-in-None-clause-found : goal.returns-in-None-clause-found
 returns-in-None-clause-found c = rw (c.in-String.is, c.in-None.is) c.next_text.ensures.found
 
 pub returns-in-Some-clause-found : goal.returns-in-Some-clause-found
-returns-in-Some-clause-found c = let e = c.next_word.ensures.found in rw (c.in-String.is, c.in-Some.is) (rw c.deref.ensures.value at e)
+returns-in-Some-clause-found c = let e = c.next_entry.ensures.found in rw (c.in-String.is, c.in-Some.is) (rw c.deref.ensures.value at e)
 
 pub returns-in-Some-clause-none : goal.returns-in-Some-clause-none
-returns-in-Some-clause-none c = let e = c.next_word.ensures.none in rw (c.in-String.is, c.in-Some.is) (rw c.deref.ensures.value at e)
+returns-in-Some-clause-none c = let e = c.next_entry.ensures.none in rw (c.in-String.is, c.in-Some.is) (rw c.deref.ensures.value at e)
 
 pub returns-in-Boolean-clause-before : goal.returns-in-Boolean-clause-before
 returns-in-Boolean-clause-before c = rw c.in-Boolean.is c.next_bool.ensures.before
@@ -55,10 +55,10 @@ pub returns-in-None-clause-before : goal.returns-in-None-clause-before
 returns-in-None-clause-before c = rw (c.in-String.is, c.in-None.is) c.next_text.ensures.before
 
 pub returns-in-Some-clause-before : goal.returns-in-Some-clause-before
-returns-in-Some-clause-before c = let e = c.next_word.ensures.before in rw (c.in-String.is, c.in-Some.is) (rw c.deref.ensures.value at e)
+returns-in-Some-clause-before c = let e = c.next_entry.ensures.before in rw (c.in-String.is, c.in-Some.is) (rw c.deref.ensures.value at e)
 
 pub returns-in-Some-clause-fault : goal.returns-in-Some-clause-fault
-returns-in-Some-clause-fault c = let e = c.next_word.ensures.fault in rw (c.in-String.is, c.in-Some.is) (rw c.deref.ensures.value at e)
+returns-in-Some-clause-fault c = let e = c.next_entry.ensures.fault in rw (c.in-String.is, c.in-Some.is) (rw c.deref.ensures.value at e)
 
 pub returns-in-Boolean-clause-fault : goal.returns-in-Boolean-clause-fault
 returns-in-Boolean-clause-fault c = rw c.in-Boolean.is c.next_bool.ensures.fault
@@ -109,4 +109,4 @@ pub returns-in-None-clause-kind : goal.returns-in-None-clause-kind
 returns-in-None-clause-kind c = rw c.in-String.is c.next_text.ensures.kind
 
 pub returns-in-Some-clause-kind : goal.returns-in-Some-clause-kind
-returns-in-Some-clause-kind c = rw c.in-String.is c.next_word.ensures.kind
+returns-in-Some-clause-kind c = rw c.in-String.is c.next_entry.ensures.kind

@@ -1,6 +1,6 @@
 use Rattle.std.proofs.Common.{◌≡◌, ◌+◌, [], length, ap, ◌∙◌, arith, refl}
 use Rattle.orc_row_batch.specs.Batch.{kept_rows}
-use Rattle.orc_file.specs.Writing.{Closed, IsClosed}
+use Rattle.orc_file.specs.Writing.{WrittenStripe, IsWrittenAt}
 use Rattle.orc_row_batch.proofs.BatchLemmas.{held_rows}
 use Rattle.orc_file.proofs.BatchSteps.{held_again}
 use Rattle.orc_file.proofs.CountLemmas.{counts_none, few_none, few_cells}
@@ -12,8 +12,8 @@ pub returns-in-Err-clause-cut : goal.returns-in-Err-clause-cut
 returns-in-Err-clause-cut g c = λ first rows few h.
     let w = c.args.self.now in
     let kept = kept_rows w.schema w.batch in
-    let one : Closed = record { info = c.args.stripe.info; bytes = c.args.stripe.bytes.items; rows = kept; stats = c.args.stripe.stats.items } in
-    let is : IsClosed w.options w.schema w.written one = record { placed = c.requires.place; written = c.requires.text; read = c.requires.stripe; counted = c.requires.stats } in
+    let one : WrittenStripe = record { info = c.args.stripe.info; bytes = c.args.stripe.bytes.items; rows = kept; stats = c.args.stripe.stats.items } in
+    let is : IsWrittenAt w.options w.schema w.written one = record { placed = c.requires.place; written = c.requires.text; read = c.requires.stripe; counted = c.requires.stats } in
     let within = stripe_within w.schema w.infos.items c.args.stripe.info c.args.stripe.bytes.items kept w.total c.requires.stripe (w.room c.requires.begun) w.total_is w.few_rows c.requires.few in
     cut_sent w.options w.schema first _ w.written w.infos.items w.stats.items kept rows h one refl is _ c.in-Err.taken c.requires.begun few within c.requires.schema (rw c.deref.ensures.value at c.in-Err.ensures.some)
 
@@ -21,8 +21,8 @@ pub returns-in_default-clause-cut : goal.returns-in_default-clause-cut
 returns-in_default-clause-cut g c = λ first rows few h.
     let w = c.args.self.now in
     let kept = kept_rows w.schema w.batch in
-    let one : Closed = record { info = c.args.stripe.info; bytes = c.args.stripe.bytes.items; rows = kept; stats = c.args.stripe.stats.items } in
-    let is : IsClosed w.options w.schema w.written one = record { placed = c.requires.place; written = c.requires.text; read = c.requires.stripe; counted = c.requires.stats } in
+    let one : WrittenStripe = record { info = c.args.stripe.info; bytes = c.args.stripe.bytes.items; rows = kept; stats = c.args.stripe.stats.items } in
+    let is : IsWrittenAt w.options w.schema w.written one = record { placed = c.requires.place; written = c.requires.text; read = c.requires.stripe; counted = c.requires.stats } in
     let within = stripe_within w.schema w.infos.items c.args.stripe.info c.args.stripe.bytes.items kept w.total c.requires.stripe (w.room c.requires.begun) w.total_is w.few_rows c.requires.few in
     cut_all w.options w.schema first _ w.written w.infos.items w.stats.items kept rows h one refl is _ c.requires.begun few within c.requires.schema (rw c.deref.ensures.value at c.in-Ok.ensures.all)
 
@@ -30,8 +30,8 @@ pub returns-in_default-push-clause-cut : goal.returns-in_default-push-clause-cut
 returns-in_default-push-clause-cut g c = λ first rows few h.
     let w = c.args.self.now in
     let kept = kept_rows w.schema w.batch in
-    let one : Closed = record { info = c.args.stripe.info; bytes = c.args.stripe.bytes.items; rows = kept; stats = c.args.stripe.stats.items } in
-    let is : IsClosed w.options w.schema w.written one = record { placed = c.requires.place; written = c.requires.text; read = c.requires.stripe; counted = c.requires.stats } in
+    let one : WrittenStripe = record { info = c.args.stripe.info; bytes = c.args.stripe.bytes.items; rows = kept; stats = c.args.stripe.stats.items } in
+    let is : IsWrittenAt w.options w.schema w.written one = record { placed = c.requires.place; written = c.requires.text; read = c.requires.stripe; counted = c.requires.stats } in
     let within = stripe_within w.schema w.infos.items c.args.stripe.info c.args.stripe.bytes.items kept w.total c.requires.stripe (w.room c.requires.begun) w.total_is w.few_rows c.requires.few in
     cut_all w.options w.schema first _ w.written w.infos.items w.stats.items kept rows h one refl is _ c.requires.begun few within c.requires.schema (rw c.deref.ensures.value at c.in-Ok.ensures.all)
 
@@ -39,8 +39,8 @@ pub returns-clause-kept : goal.returns-clause-kept
 returns-clause-kept g c = λ first rows full h.
     let w = c.args.self.now in
     let kept = kept_rows w.schema w.batch in
-    let one : Closed = record { info = c.args.stripe.info; bytes = c.args.stripe.bytes.items; rows = kept; stats = c.args.stripe.stats.items } in
-    let is : IsClosed w.options w.schema w.written one = record { placed = c.requires.place; written = c.requires.text; read = c.requires.stripe; counted = c.requires.stats } in
+    let one : WrittenStripe = record { info = c.args.stripe.info; bytes = c.args.stripe.bytes.items; rows = kept; stats = c.args.stripe.stats.items } in
+    let is : IsWrittenAt w.options w.schema w.written one = record { placed = c.requires.place; written = c.requires.text; read = c.requires.stripe; counted = c.requires.stats } in
     let n : c.len.result ≡ length c.args.stripe.bytes.items = omega (arith, c.len.ensures, c.args.stripe.bytes.ok.0) in
     rw (c.in-Ok-push.ensures.items, c.in-Ok-push-2.ensures.items, c.from_vec.ensures) (sent_full w.options w.schema first _ w.written w.infos.items w.stats.items kept rows h one refl is _ _ full (rw c.deref.ensures.value at c.in-Ok.ensures.all) (ap (λ m. w.written + m) n))
 
@@ -48,8 +48,8 @@ pub returns-clause-last : goal.returns-clause-last
 returns-clause-last g c = λ first rows few h.
     let w = c.args.self.now in
     let kept = kept_rows w.schema w.batch in
-    let one : Closed = record { info = c.args.stripe.info; bytes = c.args.stripe.bytes.items; rows = kept; stats = c.args.stripe.stats.items } in
-    let is : IsClosed w.options w.schema w.written one = record { placed = c.requires.place; written = c.requires.text; read = c.requires.stripe; counted = c.requires.stats } in
+    let one : WrittenStripe = record { info = c.args.stripe.info; bytes = c.args.stripe.bytes.items; rows = kept; stats = c.args.stripe.stats.items } in
+    let is : IsWrittenAt w.options w.schema w.written one = record { placed = c.requires.place; written = c.requires.text; read = c.requires.stripe; counted = c.requires.stats } in
     rw (c.in-Ok-push.ensures.items, c.in-Ok-push-2.ensures.items, c.from_vec.ensures) (sent_last w.options w.schema first _ w.written w.infos.items w.stats.items kept rows h one refl is _ _ (kept_rows w.schema c.clear.new.self) c.requires.begun few (rw c.deref.ensures.value at c.in-Ok.ensures.all))
 
 pub invariant_of-self-2-clause-laid : goal.invariant_of-self-2-clause-laid

@@ -1,0 +1,15 @@
+use Rattle.orc_column_reader.specs.Numbers.{NumbersLeft}
+use Rattle.orc_column_reader.specs.Octets.{OctetsLeft}
+use Rattle.orc_column_reader.specs.Spellings.{Sized}
+use Rattle.orc_column_reader.specs.Columns.{IsBinary}
+use Rattle.orc_column_reader.proofs.OwnKinds.{binary_kind}
+use Rattle.orc_column_reader.proofs.ReaderLemmas.{one_stands, one_binary}
+use Rattle.orc_column_reader.proofs.byte_strings.next_binary.Goals as goal
+
+pub returns-in-Ok-clause-found : goal.returns-in-Ok-clause-found
+returns-in-Ok-clause-found c =
+    one_stands IsBinary one_binary (Sized (NumbersLeft c.args.numbers.now) (OctetsLeft c.args.octets.now)) (Sized (NumbersLeft c.next_string.new.numbers) (OctetsLeft c.next_string.new.octets)) c.in-Ok.bytes.now _
+    c.value_of.ensures c.in-Ok.ensures.found
+
+pub returns-in-Ok-clause-kind : goal.returns-in-Ok-clause-kind
+returns-in-Ok-clause-kind c = binary_kind c.in-Ok.bytes.now _ c.value_of.ensures

@@ -1,0 +1,86 @@
+use Rattle.std.proofs.Common.{length, ap, arith, refl, inl, inr}
+use Rattle.orc_rle.specs.declared.fault.RunFault.TheVariants.{TooMany}
+use Rattle.orc_rle.proofs.StreamLemmas.{within_no_run, within_many, one_stop_within}
+use Rattle.orc_positions.specs.RunTable.{Places, ArePlaces}
+use Rattle.orc_positions.proofs.PlaceLemmas.{places_go_up}
+use Rattle.orc_positions.proofs.WalkLemmas.{walk_more, walk_ends, walk_goes, walk_fits, walk_stops}
+use Rattle.orc_positions.proofs.places.run_table.Goals as goal
+
+pub returns-in-Err-clause-only : goal.returns-in-Err-clause-only
+returns-in-Err-clause-only g c = λ values stream few.
+    let law = g.met.C.RunCodec in
+    let w = c.loop-at.invariant in
+    let fails = rw c.split_at.ensures.back at c.in-Err.ensures.fault in
+    absurd (walk_goes (g.C.RunCodec.is_run c.args.sign) (g.C.RunCodec.fails c.args.sign) (law.one c.args.sign) (law.some c.args.sign) (law.none c.args.sign) c.args.bytes.now c.loop-at.at c.loop-at.before c.loop-at.offsets.items c.loop-at.counts.items c.in-Err.fault values w
+    c.loop-at-test.true fails stream)
+
+pub returns-in-Err-clause-fault : goal.returns-in-Err-clause-fault
+returns-in-Err-clause-fault g c =
+    let w = c.loop-at.invariant in
+    let fails = rw c.split_at.ensures.back at c.in-Err.ensures.fault in
+    inr (within_no_run (g.C.RunCodec.is_run c.args.sign) (g.C.RunCodec.fails c.args.sign) 18446744073709551615 c.args.bytes.now c.loop-at.at w.values c.in-Err.fault c.with_place.result c.loop-at-test.true (w.runs, w.stream)
+    (omega (arith, w.counted, c.loop-at.auto.before-fits)) fails c.with_place.ensures)
+
+pub returns-then-before-found-clause-only : goal.returns-then-before-found-clause-only
+returns-then-before-found-clause-only g c = λ values stream few.
+    let law = g.met.C.RunCodec in
+    let w = c.loop-at.invariant in
+    let run = rw c.split_at.ensures.back at c.in-Ok.ensures.found in
+    let fits = walk_fits (g.C.RunCodec.is_run c.args.sign) (law.one c.args.sign) (law.some c.args.sign) c.args.bytes.now c.loop-at.at c.loop-at.before c.in-Ok.len c.loop-at.offsets.items c.loop-at.counts.items c.next_run.new.run.values values w run stream in
+    absurd (omega (arith, fits, few, c.if-before-found.true, ap length c.values.ensures.values))
+
+pub returns-then-before-found-clause-fault : goal.returns-then-before-found-clause-fault
+returns-then-before-found-clause-fault g c =
+    let w = c.loop-at.invariant in
+    let run = rw c.split_at.ensures.back at c.in-Ok.ensures.found in
+    inr (within_many (g.C.RunCodec.is_run c.args.sign) (g.C.RunCodec.fails c.args.sign) 18446744073709551615 c.args.bytes.now c.loop-at.at c.in-Ok.len w.values c.next_run.new.run.values (TooMany c.loop-at.at) c.loop-at-test.true
+    (w.runs, w.stream) (omega (arith, w.counted, c.loop-at.auto.before-fits)) run (omega (arith, w.counted, c.if-before-found.true, ap length c.values.ensures.values)) refl)
+
+pub loop-at-preserved : goal.loop-at-preserved
+loop-at-preserved g c =
+    let run = rw c.split_at.ensures.back at c.in-Ok.ensures.found in
+    let within = rw c.split_at.ensures.back at c.in-Ok.ensures.within in
+    rw (c.in_ok-push.ensures.items, c.in_ok-push-2.ensures.items) (walk_more (g.C.RunCodec.is_run c.args.sign) c.args.bytes.now c.loop-at.at c.loop-at.before c.in-Ok.len (length c.values.result.now)
+    c.loop-at.offsets.items c.loop-at.counts.items c.next_run.new.run.values c.loop-at.invariant within run (ap length c.values.ensures.values))
+
+pub invariant_of-result : goal.invariant_of-result
+invariant_of-result g c =
+    let law = g.met.C.RunCodec in
+    let places : Places = record { offsets = c.push-2.new.self.items; counts = c.push-3.new.self.items } in
+    let are : ArePlaces (g.C.RunCodec.is_run c.args.sign) c.args.bytes.now places =
+    walk_ends (g.C.RunCodec.is_run c.args.sign) c.args.bytes.now c.loop-at.at c.loop-at.before c.loop-at.offsets.items c.loop-at.counts.items places c.loop-at.invariant
+    c.loop-at-test.false c.in_ok-push-3.ensures.items c.in_ok-push-4.ensures.items in
+    places_go_up (g.C.RunCodec.is_run c.args.sign) (law.some c.args.sign) c.args.bytes.now places are
+
+pub returns-clause-found : goal.returns-clause-found
+returns-clause-found g c =
+    walk_ends (g.C.RunCodec.is_run c.args.sign) c.args.bytes.now c.loop-at.at c.loop-at.before c.loop-at.offsets.items c.loop-at.counts.items _ c.loop-at.invariant
+    c.loop-at-test.false c.in_ok-push-3.ensures.items c.in_ok-push-4.ensures.items
+
+pub returns-in-Err-clause-refused : goal.returns-in-Err-clause-refused
+returns-in-Err-clause-refused g c = λ fault other few.
+    let law = g.met.C.RunCodec in
+    let w = c.loop-at.invariant in
+    let run = g.C.RunCodec.is_run c.args.sign in
+    let none = g.C.RunCodec.fails c.args.sign in
+    let fails = rw c.split_at.ensures.back at c.in-Err.ensures.fault in
+    let stops = within_no_run run none 18446744073709551615 c.args.bytes.now c.loop-at.at w.values c.in-Err.fault c.with_place.result c.loop-at-test.true (w.runs, w.stream)
+    (omega (arith, w.counted, c.loop-at.auto.before-fits)) fails c.with_place.ensures in
+    inl (one_stop_within run none (law.one c.args.sign) (law.some c.args.sign) (law.none c.args.sign) (law.one_fault c.args.sign) 18446744073709551615 c.args.bytes.now _ fault stops other)
+
+pub returns-then-before-found-clause-refused : goal.returns-then-before-found-clause-refused
+returns-then-before-found-clause-refused g c = λ fault other few.
+    let law = g.met.C.RunCodec in
+    let w = c.loop-at.invariant in
+    let run = g.C.RunCodec.is_run c.args.sign in
+    let none = g.C.RunCodec.fails c.args.sign in
+    let past = rw c.split_at.ensures.back at c.in-Ok.ensures.found in
+    let stops = within_many run none 18446744073709551615 c.args.bytes.now c.loop-at.at c.in-Ok.len w.values c.next_run.new.run.values (TooMany c.loop-at.at) c.loop-at-test.true
+    (w.runs, w.stream) (omega (arith, w.counted, c.loop-at.auto.before-fits)) past (omega (arith, w.counted, c.if-before-found.true, ap length c.values.ensures.values)) refl in
+    inl (one_stop_within run none (law.one c.args.sign) (law.some c.args.sign) (law.none c.args.sign) (law.one_fault c.args.sign) 18446744073709551615 c.args.bytes.now (TooMany c.loop-at.at) fault stops other)
+
+pub returns-clause-refused : goal.returns-clause-refused
+returns-clause-refused g c = λ fault stops other.
+    let law = g.met.C.RunCodec in
+    walk_stops (g.C.RunCodec.is_run c.args.sign) (g.C.RunCodec.fails c.args.sign) (law.one c.args.sign) (law.some c.args.sign) (law.none c.args.sign) (law.one_fault c.args.sign) 18446744073709551615 c.args.bytes.now
+    c.loop-at.at c.loop-at.before c.loop-at.offsets.items c.loop-at.counts.items fault c.loop-at.invariant c.loop-at-test.false (omega (arith, c.loop-at.auto.before-fits)) stops other

@@ -1,0 +1,9 @@
+use Rattle.std.proofs.Common.{◌-◌, length}
+use Rattle.orc_positions.proofs.WalkLemmas.{Walked}
+use Rattle.orc_positions.proofs.places.run_table.Given as goal
+
+abbrev pub invariant-loop-at : goal.invariant-loop-at
+invariant-loop-at g l = Walked (g.C.RunCodec.is_run l.sign) l.bytes l.at l.before l.offsets.items l.counts.items
+
+abbrev pub decreases-loop-at : goal.decreases-loop-at
+decreases-loop-at g l = length l.bytes - l.at

@@ -1,0 +1,12 @@
+use Rattle.std.proofs.Common.{◌≤◌, ◌+◌, ◌-◌, length}
+use Rattle.orc_positions.specs.RunStarts.{IsRunStart}
+use Rattle.orc_positions.proofs.run_start.run_start_at.Given as goal
+
+abbrev pub invariant-runs : goal.invariant-runs
+invariant-runs g l = record {
+  run_start : IsRunStart (g.C.RunCodec.is_run l.sign) l.bytes l.run_start;
+  ahead : l.run_start.before ≤ l.n;
+}
+
+abbrev pub decreases-runs : goal.decreases-runs
+decreases-runs g l = length l.bytes - (l.run_start.offset + l.run_start.len)
