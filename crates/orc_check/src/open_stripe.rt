@@ -1,5 +1,5 @@
 //! A stripe whose columns are checked.
-use orc_column_reader::located::Located;
+use orc_column_reader::Located;
 use orc_stats::Stat;
 use orc_stripe::{IndexText, StripeView};
 

@@ -18,7 +18,7 @@ use crate::needed::may_be_whole;
 use crate::open_stripe::OpenStripe;
 use crate::reports::report;
 use crate::written_index::is_written;
-use orc_column_reader::starting::streams_of;
+use orc_column_reader::streams_of;
 use orc_column_walk::GroupFound;
 use orc_row_index::Counts;
 use orc_row_index_check::positions_right_behind;

@@ -9,7 +9,7 @@ ghost use Rattle.orc_row_index.specs.RowIndex.{IsWrittenIndex};
 ghost use Rattle.orc_row_index.specs.Walking.{lent_bytes};
 ghost use Rattle.orc_check.specs.OwnGroups.{AreGroupsOf, HaveCells};
 
-use orc_column_reader::starting::ColumnStreams;
+use orc_column_reader::ColumnStreams;
 use orc_column_walk::GroupFound;
 use orc_row_index::{Walk, placed_streams, put_entry};
 use orc_values::Tree;

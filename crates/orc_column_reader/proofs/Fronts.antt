@@ -146,7 +146,7 @@ joined_length (c ∷ a) (d ∷ b) s =
     let l : length c ≡ length d = cc in
     omega (arith, l, joined_length a b t, length-append c (joined a), length-append d (joined b))
 
--- the groups in front, by their sizes
+-- the strings in front, by their sizes
 pub record GroupsApart {X : Type 0} (all : List (List X)) (sizes more : List ℤ) : Type 0 where
   pub front : List (List X)
   pub back : List (List X)

@@ -20,11 +20,11 @@ ghost use Rattle.orc_rle.specs.declared.fault.RunFault.{RunFault as RunsFault};
 ghost use Rattle.orc_column_reader.specs.declared.fault.StripeFault.{StripeFault as Fault};
 
 use crate::bits::{Bits, bits_end, bits_left};
+use crate::byte_strings::{next_binary, next_text, strings_end, strings_left};
 use crate::bytes::{RunLengthBytes, bytes_end, bytes_left};
 use crate::dictionary::next_entry;
 pub use crate::entry::Entry;
 use crate::fault::{StreamKind, StripeFault, run_fault};
-use crate::byte_strings::{strings_end, strings_left, next_binary, next_text};
 use crate::marks::next_mark;
 use crate::numbers::{Numbers, numbers_end, numbers_left};
 use crate::octets::Octets;

@@ -17,9 +17,9 @@ ghost use Rattle.orc_column_reader.specs.declared.fault.StreamKind.TheVariants a
 ghost use Rattle.orc_rle.specs.declared.sign.Sign.TheVariants.{Unsigned};
 ghost use Rattle.orc_column_reader.specs.declared.fault.StripeFault.{StripeFault as Fault};
 
+use crate::byte_strings::{next_string, strings_end, strings_left};
 use crate::entry::Entry;
 use crate::fault::{StreamKind, StripeFault};
-use crate::byte_strings::{strings_end, strings_left, next_string};
 use crate::numbers::{Numbers, numbers_of};
 use crate::octets::Octets;
 use crate::whole_numbers::next_number;
@@ -69,7 +69,11 @@ pub fn entries_of<'a>(
 }
 
 /// The text at an index of a dictionary.
-fn entry_value<'a>(column: usize, entries: &[Entry<'a>], number: i64) -> Result<Own<'a>, StripeFault>
+fn entry_value<'a>(
+    column: usize,
+    entries: &[Entry<'a>],
+    number: i64,
+) -> Result<Own<'a>, StripeFault>
     ensures found { IfOk result (λ v. IsEntry (map entry_bytes entries.now) number (own_cell v)) }
     ensures kind { IfOk result (λ v. IsValueOf kinds.String (own_cell v)) }
     ensures none { OnErr result ((c : Cell) → IsEntry (map entry_bytes entries.now) number c → ⊥) }
@@ -96,7 +100,8 @@ pub(crate) fn next_entry<'a>(
     entries: &[Entry<'a>],
     numbers: &mut Numbers<'a>,
 ) -> Result<Own<'a>, StripeFault>
-    ensures found { IfOk result (λ v. Leaves (Standing (IsEntry (map entry_bytes entries.now)) (NumbersLeft numbers.old))
+    ensures found { IfOk result
+        (λ v. Leaves (Standing (IsEntry (map entry_bytes entries.now)) (NumbersLeft numbers.old))
         (Standing (IsEntry (map entry_bytes entries.now)) (NumbersLeft numbers.new)) (own_cell v ∷ [])) }
     ensures kind { IfOk result (λ v. IsValueOf kinds.String (own_cell v)) }
     ensures none { OnErr result (Lacks (Standing (IsEntry (map entry_bytes entries.now)) (NumbersLeft numbers.old)) 1) }

@@ -6,7 +6,8 @@ ghost use Rattle.orc_column_reader.specs.Directory as spec;
 use crate::fault::StripeFault;
 use orc_values::Scalar;
 use orc_wire::{
-    CELL_KINDS, DICTIONARY, DICTIONARY_V2, DIRECT, DIRECT_V2, Encoding, ROW_INDEX, StreamMsg, TypeMsg,
+    CELL_KINDS, DICTIONARY, DICTIONARY_V2, DIRECT, DIRECT_V2, Encoding, ROW_INDEX, StreamMsg,
+    TypeMsg,
 };
 use std::alloc::Global;
 use std::collections::BTreeSet;
@@ -93,7 +94,8 @@ fn takes_encoding(kind: u32, encoding: u32) -> bool
 {
     encoding == DIRECT
         || encoding == DIRECT_V2
-        || (kind == Scalar::String.number() && (encoding == DICTIONARY || encoding == DICTIONARY_V2))
+        || (kind == Scalar::String.number()
+            && (encoding == DICTIONARY || encoding == DICTIONARY_V2))
 }
 
 /// The first column that has no encoding, or one that its type can't have.

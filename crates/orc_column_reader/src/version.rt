@@ -13,7 +13,11 @@ pub fn version_of(encoding: u32) -> Rle
     // DIRECT and DICTIONARY have integers of version 1, and all others of version 2.
     ensures { result ≡ version_at encoding }
 {
-    if encoding < DIRECT_V2 { Rle::One } else { Rle::Two }
+    if encoding < DIRECT_V2 {
+        Rle::One
+    } else {
+        Rle::Two
+    }
 }
 
 /// The run in front, whatever the version.

@@ -14,9 +14,9 @@ ghost use Rattle.orc_column_text.specs.Taken.{Printed, PrintedValue, PrintedAll}
 ghost use Rattle.orc_column_text.specs.Texts.{texts};
 
 use crate::laid_out::{are_laid_out, own_width};
-use orc_column_reader::column::{ColumnReader, ValueSource, next_present, next_size};
-use orc_column_reader::fault::StripeFault;
-use orc_column_reader::reader::next_value;
+use orc_column_reader::{
+    ColumnReader, StripeFault, ValueSource, next_present, next_size, next_value,
+};
 use orc_json::layout::{FieldColumns, Layout, Member, PairLayout};
 use orc_json::leaf_text::push_own;
 use orc_json::printing::{push_comma_if, push_text};

@@ -10,9 +10,7 @@ ghost use Rattle.orc_json.specs.Layouts.{text_by};
 ghost use Rattle.orc_column_text.specs.Taken.{RowsLeft, GaveText, GivesText};
 
 use crate::cells::push_cell;
-use orc_column_reader::column::ColumnReader;
-use orc_column_reader::ending::cells_end;
-use orc_column_reader::fault::StripeFault;
+use orc_column_reader::{ColumnReader, StripeFault, cells_end};
 use orc_json::layout::Layout;
 use orc_values::Tree;
 use std::alloc::Global;

@@ -13,9 +13,9 @@ ghost use Rattle.orc_column_walk.specs.Passed.{trues_before};
 ghost use Rattle.orc_values.specs.Trues.{trues};
 
 use crate::bounds::bound_of;
-use orc_column_reader::bits::Bits;
-use orc_column_reader::fault::{StreamKind, StripeFault, run_fault};
-use orc_column_reader::marks::{marks_end, marks_left, next_mark};
+use orc_column_reader::{
+    Bits, StreamKind, StripeFault, marks_end, marks_left, next_mark, run_fault,
+};
 use std::alloc::{AllocError, Global};
 
 /// How many values a cell with this mark is.

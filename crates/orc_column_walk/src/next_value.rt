@@ -1,7 +1,6 @@
 //! Ways to the next value of a column. A way for the types that files have most of asks for its own type first, so that a
 //! loop over values has that type's reader in itself, with no call for a value.
-use orc_column_reader::column::{ValueSource, next_size};
-use orc_column_reader::fault::StripeFault;
+use orc_column_reader::{StripeFault, ValueSource, next_size};
 use orc_values::{Own, Scalar, Tree};
 
 /// A way to the next value of a column, of whatever type.

@@ -4,9 +4,10 @@ ghost use Rattle.orc_values.specs.Views.{shape};
 ghost use Rattle.orc_column_reader.specs.ReaderFaults.{ListsMeet, ValuesMeet};
 ghost use Rattle.orc_column_walk.specs.OwnLeft.{OwnValuesLeft, SizesLeft};
 
-use orc_column_reader::column::{ValueSource, scalar_end, scalar_left};
-use orc_column_reader::fault::{StreamKind, StripeFault, run_fault};
-use orc_column_reader::numbers::{numbers_end, numbers_left};
+use orc_column_reader::{
+    StreamKind, StripeFault, ValueSource, numbers_end, numbers_left, run_fault, scalar_end,
+    scalar_left,
+};
 use orc_values::Tree;
 
 /// Whether no size is left.

@@ -7,8 +7,7 @@ ghost use Rattle.orc_column_reader.specs.ReaderFaults.{ScalarMeets};
 ghost use Rattle.orc_column_reader.specs.declared.fault.StripeFault.{StripeFault as Fault};
 ghost use Rattle.orc_column_reader.specs.declared.fault.StripeFault.TheVariants.{OutOfMemory};
 
-use orc_column_reader::column::{ValueSource, scalar_end, scalar_left};
-use orc_column_reader::fault::StripeFault;
+use orc_column_reader::{StripeFault, ValueSource, scalar_end, scalar_left};
 use orc_values::Scalar;
 
 /// Reads the next values, so many, and holds none.

@@ -6,9 +6,9 @@ ghost use Rattle.orc_column_reader.specs.declared.fault.StripeFault.{StripeFault
 ghost use Rattle.orc_column_reader.specs.declared.fault.StripeFault.TheVariants.{OutOfMemory};
 ghost use Rattle.orc_column_walk.specs.OwnLeft.{SizesLeft};
 
-use orc_column_reader::column::{ValueSource, next_size};
-use orc_column_reader::fault::{StreamKind, StripeFault, run_fault};
-use orc_column_reader::numbers::{numbers_end, numbers_left};
+use orc_column_reader::{
+    StreamKind, StripeFault, ValueSource, next_size, numbers_end, numbers_left, run_fault,
+};
 
 /// Reads the next sizes, so many, and answers how many elements the lists have together, or pairs the maps.
 fn add_sizes(source: &mut ValueSource<'_>, count: usize) -> Result<usize, StripeFault>

@@ -8,8 +8,7 @@ ghost use Rattle.orc_column_walk.specs.OwnLeft.{OwnValuesLeft, children};
 
 use crate::scalars::read_scalars;
 use crate::sizes::sum_sizes;
-use orc_column_reader::column::ValueSource;
-use orc_column_reader::fault::StripeFault;
+use orc_column_reader::{StripeFault, ValueSource};
 use orc_values::Tree;
 
 /// Reads all values of a column, which are to be so many, and answers how many children they have: elements of lists,

@@ -13,10 +13,7 @@ ghost use Rattle.orc_column_walk.specs.OwnLeft.{children};
 
 use crate::marks::count_values;
 use crate::values::read_values;
-use orc_column_reader::column::MOST_CELLS;
-use orc_column_reader::fault::StripeFault;
-use orc_column_reader::located::Located;
-use orc_column_reader::starting::reader_of;
+use orc_column_reader::{Located, MOST_CELLS, StripeFault, reader_of};
 use orc_values::{Field, Tree};
 use orc_wire::StripeFooter;
 use std::alloc::Global;

@@ -1,8 +1,6 @@
 //! How many rows a stripe may have at most. Structs are counted at once.
 
-use orc_column_reader::directory::check_directory;
-use orc_column_reader::fault::StripeFault;
-use orc_column_reader::located::{Located, locate};
+use orc_column_reader::{Located, StripeFault, check_directory, locate};
 use orc_column_walk::walk_columns;
 use orc_types::Schema;
 use orc_values::Tree;

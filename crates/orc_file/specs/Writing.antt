@@ -39,7 +39,8 @@ pub record IsWrittenAt (options : Options) (s : Shape) (place : ℕ) (c : Writte
 -- one after the other from a place on, without gaps
 abbrev pub AreWrittenStripes : Options → Shape → ℕ → List WrittenStripe → Type 0
 AreWrittenStripes options s place [] = Unit {0}
-AreWrittenStripes options s place (c ∷ cs) = IsWrittenAt options s place c × AreWrittenStripes options s (place + length c.bytes) cs
+AreWrittenStripes options s place (c ∷ cs) =
+    IsWrittenAt options s place c × AreWrittenStripes options s (place + length c.bytes) cs
 
 -- the bytes of written stripes, behind one another
 abbrev pub bytes_of : List WrittenStripe → List ℕ

@@ -55,7 +55,8 @@ FailsAt c k stream positions f = (cause : RunFault) × StreamFails stream positi
 abbrev pub OwnRefused : Shape → Streams → ℕ → List ℕ → StripeFault → Type 0
 OwnRefused s x c positions f =
     ((f ≡ fault.BadPosition (spot.Stream c stream.Data)) × EndsBefore (value_bytes s x) positions)
-    ⊎ (FailsAt c (kind_of_values s (has_dictionary x)) (value_runs s x) (drop (octets_size (value_bytes s x)) positions) f
+    ⊎ (FailsAt c (kind_of_values s (has_dictionary x)) (value_runs s x)
+    (drop (octets_size (value_bytes s x)) positions) f
     ⊎ DictionaryFails s x c f)
 
 -- how many positions PRESENT has

@@ -6,8 +6,7 @@ ghost use Rattle.orc_group_reader.specs.Entering.{EntersBits};
 ghost use Rattle.orc_group_reader.specs.ReadersAt.{BitsAt};
 
 use crate::run_starts::last_byte_start;
-use orc_column_reader::bits::Bits;
-use orc_column_reader::bytes::RunLengthBytes;
+use orc_column_reader::{Bits, RunLengthBytes};
 use orc_rle::{BitPos, BitRuns, RunFault, RunU8};
 
 /// The byte that comes next.

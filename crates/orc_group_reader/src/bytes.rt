@@ -7,7 +7,7 @@ ghost use Rattle.orc_group_reader.specs.Entering.{EntersRuns};
 ghost use Rattle.orc_group_reader.specs.ReadersAt.{BytesAt};
 
 use crate::run_starts::last_byte_start;
-use orc_column_reader::bytes::RunLengthBytes;
+use orc_column_reader::RunLengthBytes;
 use orc_rle::{ByteRuns, Pos, RunFault, RunU8};
 
 /// A stream of bytes in runs from a position on: the runs from its offset to the value are decoded, and nothing before

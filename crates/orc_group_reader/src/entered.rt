@@ -10,9 +10,7 @@ ghost use Rattle.orc_group_reader.specs.declared.entered.Entered.TheVariants as 
 use crate::bits::bits_at;
 use crate::bytes::bytes_at;
 use crate::numbers::numbers_at;
-use orc_column_reader::bits::Bits;
-use orc_column_reader::bytes::RunLengthBytes;
-use orc_column_reader::numbers::Numbers;
+use orc_column_reader::{Bits, Numbers, RunLengthBytes};
 use orc_rle::{BitPos, Pos, Rle, RunFault, Sign};
 use orc_row_index::RunBytes;
 

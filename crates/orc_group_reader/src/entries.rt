@@ -7,10 +7,7 @@ ghost use Rattle.orc_column_reader.specs.Stripe.{Streams};
 ghost use Rattle.orc_column_reader.specs.declared.fault.StripeFault.TheVariants.{OutOfMemory};
 ghost use Rattle.orc_group_reader.specs.Columns.{HasEntries, EntriesOf};
 
-use orc_column_reader::column::Entry;
-use orc_column_reader::dictionary::entries_of;
-use orc_column_reader::fault::StripeFault;
-use orc_column_reader::starting::ColumnStreams;
+use orc_column_reader::{ColumnStreams, Entry, StripeFault, entries_of};
 use orc_values::{Scalar, Tree};
 use std::alloc::Global;
 

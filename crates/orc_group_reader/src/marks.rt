@@ -7,7 +7,7 @@ ghost use Rattle.orc_group_reader.specs.Refusals.{StreamFails};
 ghost use Rattle.orc_group_reader.specs.Streams.{NeverEnters};
 
 use crate::entered::bits_from;
-use orc_column_reader::bits::Bits;
+use orc_column_reader::Bits;
 use orc_rle::RunFault;
 
 /// Which cells are not null, from the positions of PRESENT on, which has none where it has no bytes.

@@ -7,7 +7,7 @@ ghost use Rattle.orc_group_reader.specs.Entering.{EntersRuns};
 ghost use Rattle.orc_group_reader.specs.ReadersAt.{NumbersAt};
 
 use crate::run_starts::last_start;
-use orc_column_reader::numbers::Numbers;
+use orc_column_reader::Numbers;
 use orc_rle::{Pos, Rle, Run, RunCodec, RunFault, Sign, V1, V2};
 
 /// Goes to a position, whatever the version.

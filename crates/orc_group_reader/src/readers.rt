@@ -11,10 +11,7 @@ ghost use Rattle.orc_group_reader.specs.ReadersAt.{ReadersAt};
 ghost use Rattle.orc_group_reader.specs.Rows.{EntriesRefused, RowsTurn};
 
 use crate::reader::reader_at;
-use orc_column_reader::column::ColumnReader;
-use orc_column_reader::fault::StripeFault;
-use orc_column_reader::located::Located;
-use orc_column_reader::starting::streams_of;
+use orc_column_reader::{ColumnReader, Located, StripeFault, streams_of};
 use orc_values::{Tree, tree_at, width_of};
 use orc_wire::{RowIndexEntry, StripeFooter};
 use std::alloc::Global;

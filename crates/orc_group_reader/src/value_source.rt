@@ -4,11 +4,9 @@ ghost use Rattle.orc_column_reader.specs.Stripe.{most_cells};
 ghost use Rattle.orc_group_reader.specs.Columns.{IsSource};
 
 use crate::entered::Entered;
-use orc_column_reader::bits::Bits;
-use orc_column_reader::bytes::RunLengthBytes;
-use orc_column_reader::column::{Entry, MOST_CELLS, ValueSource};
-use orc_column_reader::numbers::{Numbers, numbers_of};
-use orc_column_reader::octets::Octets;
+use orc_column_reader::{
+    Bits, Entry, MOST_CELLS, Numbers, Octets, RunLengthBytes, ValueSource, numbers_of,
+};
 use orc_rle::{Rle, RunU8, Sign};
 
 /// A stream of integers that has none, for columns without one.

@@ -16,8 +16,9 @@ IsExtent {A = A} is_run bytes offset len count =
     × (len ≡ length text)
     × (count ≡ length values))
 
--- A run begins at the run start, or the stream ends there; the run start says how many values come before it, and how many bytes
--- and values that run has.
-pub record IsRunStart {A : Type 0} (is_run : List ℕ → List A → Type 0) (bytes : List ℕ) (run_start : RunStart) : Type 0 where
+-- A run begins there, or the stream ends; the run start says how many values come before it, and how many bytes and
+-- values that run has.
+pub record IsRunStart {A : Type 0} (is_run : List ℕ → List A → Type 0) (bytes : List ℕ)
+    (run_start : RunStart) : Type 0 where
   pub begins : Begins is_run bytes run_start.offset 0 run_start.before
   pub extent : IsExtent is_run bytes run_start.offset run_start.len run_start.count

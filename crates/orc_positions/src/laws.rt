@@ -55,7 +55,8 @@ pub fn seek_laws<C: RunCodec>()
         → SeekFails (C.is_run sign) (C.fails sign) b offset skip fault }
     // A value has one position of the writer's at most.
     ensures one_place { (sign : Sign) (bytes : List ℕ) (o p s t n : ℕ)
-        → IsWriterPosition (C.is_run sign) bytes o s n → IsWriterPosition (C.is_run sign) bytes p t n → (o ≡ p) × (s ≡ t) }
+        → IsWriterPosition (C.is_run sign) bytes o s n → IsWriterPosition (C.is_run sign) bytes p t n
+        → (o ≡ p) × (s ≡ t) }
     // A stream's start is a run start of it, and so a position of value 0.
     ensures start { (sign : Sign) (bytes : List ℕ) (all : List ℤ)
         → IsStream (C.is_run sign) bytes all → IsRunStart (C.is_run sign) bytes start_of_stream }
@@ -148,7 +149,8 @@ pub fn bit_seek_laws()
         → IsWriterBitPosition bytes total offset skip bits n → BeginsBits bytes total offset skip bits n }
     // A boolean has one position of the writer's at most.
     ensures one_place { (bytes : List ℕ) (total o p s t k l n : ℕ)
-        → IsWriterBitPosition bytes total o s k n → IsWriterBitPosition bytes total p t l n → (o ≡ p) × (s ≡ t) × (k ≡ l) }
+        → IsWriterBitPosition bytes total o s k n → IsWriterBitPosition bytes total p t l n
+        → (o ≡ p) × (s ≡ t) × (k ≡ l) }
     // Where a stream has n booleans or more, its runs have n / 8 bytes or more.
     ensures there { (bytes : List ℕ) (total n : ℕ)
         → HasBits bytes total → n ≤ total → HasValues IsByteRun bytes (n / 8) }

@@ -36,11 +36,7 @@ impl Model for RunTable {
 ///
 /// Refusals: the fault of the first run from the left that is none, or `TooMany` where it goes past that number
 /// of values, with its place; and `OutOfMemory`. Fewer values are no fault.
-pub fn run_table<C: RunCodec>(
-    alloc: Global,
-    bytes: &[u8],
-    sign: Sign,
-) -> Result<RunTable, RunFault>
+pub fn run_table<C: RunCodec>(alloc: Global, bytes: &[u8], sign: Sign) -> Result<RunTable, RunFault>
     // What is answered is the stream's places: where each run begins and where the last one ends,
     // and how many values stand before each.
     ensures found { IfOk result (ArePlaces (C.is_run sign) bytes.now) }

@@ -58,7 +58,7 @@ impl RunStart {
         }
     }
 
-    /// The run start of a run of this size that begins here.
+    /// The start of a run of this size, which is this one.
     fn over(self, size: RunSize) -> RunStart
         ensures start { (result.offset ≡ self.offset) × (result.before ≡ self.before) }
         ensures size { (result.len ≡ size.bytes) × (result.count ≡ size.values) }
@@ -70,10 +70,10 @@ impl RunStart {
         }
     }
 
-    /// The position of value `n`, from the run start of its run.
+    /// The position of value `n`, from the start of its run.
     pub fn place(self, n: usize) -> Pos
         requires { self.before ≤ n }
-        // Where `n` values at most come before the run start, the position is at the run start's offset and
+        // Where `n` values at most come before the run start, the position is at its offset and
         // passes the values from there up to `n`.
         ensures { (result.offset ≡ self.offset) × (result.skip ≡ n - self.before) }
     {
@@ -83,10 +83,10 @@ impl RunStart {
         }
     }
 
-    /// The position of boolean `n`, from the run start of the run in which byte `n / 8` stands.
+    /// The position of boolean `n`, from the start of the run in which byte `n / 8` stands.
     pub fn bit_place(self, n: usize) -> BitPos
         requires { self.before ≤ n / 8 }
-        // Where the byte of boolean `n` isn't before the run start, the position is at the run start's offset
+        // Where the byte of boolean `n` isn't before the run start, the position is at its offset
         // and passes the bytes up to that one, and the booleans before `n` in it.
         ensures { (result.offset ≡ self.offset) × (result.skip ≡ n / 8 - self.before) × (result.bits ≡ n % 8) }
     {
@@ -98,8 +98,8 @@ impl RunStart {
     }
 }
 
-/// The run start of the run in which value `n` of a stream stands, or of the stream's end where `n` values are all that
-/// it has. The walk begins at a run start that isn't behind it: the stream's start, or the run start of a value before. It
+/// The start of the run in which value `n` of a stream stands, or the stream's end where `n` values are all that it
+/// has. The walk begins at a run start that isn't behind it: the stream's start, or that of a value before. It
 /// passes each run once, by its size, and decodes none.
 ///
 /// The bytes are a stream of `n` values or more, a condition.

@@ -46,7 +46,8 @@ abbrev pub BeginsBefore : RunStream → RunStart → ℕ → Type 0
 BeginsBefore no_stream run_start n = Unit {0}
 BeginsBefore (bit_runs stream) run_start n = IsRunStart IsByteRun stream run_start × (run_start.before ≤ n / 8)
 BeginsBefore (byte_runs stream) run_start n = IsRunStart IsByteRun stream run_start × (run_start.before ≤ n)
-BeginsBefore (number_runs version sign stream) run_start n = IsRunStart (is_run version sign) stream run_start × (run_start.before ≤ n)
+BeginsBefore (number_runs version sign stream) run_start n =
+    IsRunStart (is_run version sign) stream run_start × (run_start.before ≤ n)
 
 -- bytes as they are are n or more
 abbrev pub HasOctets : Option (List ℕ) → ℕ → Type 0

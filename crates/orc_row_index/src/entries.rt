@@ -20,7 +20,7 @@ use crate::group_bounds::{group_end, group_start};
 use crate::placed::placed_streams;
 use crate::tallies::{statistic_of, tally_of};
 use crate::walk::Walk;
-use orc_column_reader::starting::ColumnStreams;
+use orc_column_reader::ColumnStreams;
 use orc_stats::{Bins, Bools, Children, Counted, Dates, Ints, Plain, Stat, StatKind, Tally, Texts};
 use orc_values::{Own, Tree};
 use std::alloc::{AllocError, Global};

@@ -11,8 +11,7 @@ ghost use Rattle.orc_row_index.specs.Walking.{runs, lent_bytes, most, ArePlaced,
 use crate::counts::Counts;
 use crate::run_bytes::{RunBytes, put_position};
 use crate::walk::Walk;
-use orc_column_reader::fault::StreamKind;
-use orc_column_reader::starting::ColumnStreams;
+use orc_column_reader::{ColumnStreams, StreamKind};
 use orc_rle::Sign;
 use orc_values::{Scalar, Tree};
 use std::alloc::AllocError;

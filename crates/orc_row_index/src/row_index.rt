@@ -12,7 +12,7 @@ ghost use Rattle.orc_row_index.specs.Positions.{Adds};
 ghost use Rattle.orc_row_index.specs.RowIndex.{IsWrittenIndex};
 
 use crate::entries::put_entries;
-use orc_column_reader::starting::ColumnStreams;
+use orc_column_reader::ColumnStreams;
 use orc_stats::Stat;
 use orc_values::{Own, Tree};
 use std::alloc::{AllocError, Global};

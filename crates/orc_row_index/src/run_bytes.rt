@@ -39,7 +39,7 @@ impl RunBytes<'_> {
     }
 }
 
-/// The run start of number `n`, whatever the version.
+/// Where the run of number `n` begins, whatever the version.
 fn number_run_start(version: Rle, sign: Sign, bytes: &[u8], from: RunStart, n: usize) -> RunStart
     requires there { HasValues (is_run version sign) bytes.now n }
     requires from { IsRunStart (is_run version sign) bytes.now from }

@@ -11,7 +11,7 @@ ghost use Rattle.orc_row_index_check.specs.Tables.{IsTable, IsFew};
 ghost use Rattle.orc_row_index_check.specs.ColumnTables.{AreTables, FailsIn};
 
 use crate::stream_table::{StreamTable, table_of};
-use orc_column_reader::fault::{StreamKind, StripeFault, run_fault};
+use orc_column_reader::{StreamKind, StripeFault, run_fault};
 use orc_row_index::{Counts, PlacedStreams, RunBytes};
 use std::alloc::Global;
 

@@ -11,8 +11,7 @@ ghost use Rattle.orc_row_index_check.specs.CountedBefore.{AreCountedBefore};
 ghost use Rattle.orc_row_index_check.specs.Decided.{AreDecided};
 
 use crate::column_table::tables_of;
-use orc_column_reader::fault::StripeFault;
-use orc_column_reader::starting::ColumnStreams;
+use orc_column_reader::{ColumnStreams, StripeFault};
 use orc_row_index::{Counts, own_kind, placed_streams};
 use orc_values::Tree;
 use orc_wire::RowIndexEntry;

@@ -103,7 +103,8 @@ impl StreamTable {
 
     /// Whether the position names value `n`.
     pub(crate) fn right(&self, positions: &[u64], n: u64) -> bool
-        ensures { MatchBool result (TablePosition self.now n positions.now) (TablePosition self.now n positions.now → ⊥) }
+        ensures { MatchBool result (TablePosition self.now n positions.now)
+            (TablePosition self.now n positions.now → ⊥) }
     {
         match self {
             StreamTable::Nothing => match positions {

@@ -3,7 +3,7 @@ ghost use Rattle.std.specs.Prelude.{◌≡◌, length};
 ghost use Rattle.orc_values.specs.Shapes.{width};
 ghost use Rattle.orc_values.specs.Views.{shape};
 
-use orc_column_reader::column::ColumnReader;
+use orc_column_reader::ColumnReader;
 use orc_values::Tree;
 use std::alloc::Global;
 

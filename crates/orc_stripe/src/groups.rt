@@ -7,8 +7,7 @@ ghost use Rattle.orc_column_reader.specs.Stripe.{columns_of};
 ghost use Rattle.orc_column_walk.specs.declared.found.GroupFound.{GroupFound as Group};
 ghost use Rattle.orc_stripe.specs.ColumnGroups.{AreGrouped, AreCountedIn, AreCountedWithin, Leads, IsMemoryIn, IsMemoryWithin};
 
-use orc_column_reader::fault::StripeFault;
-use orc_column_reader::located::Located;
+use orc_column_reader::{Located, StripeFault};
 use orc_column_walk::{GroupFound, read_groups};
 use orc_row_index::Counts;
 use orc_values::{Field, Tree, width_of};

@@ -10,6 +10,6 @@ mod view;
 
 pub use cursor::RowCursor;
 pub use laws::{column_laws, group_laws, stripe_laws};
-pub use orc_column_reader::fault::{Spot, StreamKind, StripeFault};
+pub use orc_column_reader::{Spot, StreamKind, StripeFault};
 pub use orc_stripe_writer::{Options, StripeOut, are_few, write_stripe, writing_laws};
 pub use view::{IndexText, StripeView, read_index};

@@ -10,9 +10,7 @@ ghost use Rattle.orc_stripe.specs.TextCursors.{CountsDownWhere};
 ghost use Rattle.orc_stripe.specs.Cursors.{HasRefused, IsGoing, StandsFor, Gives, Gave, CountsDown, MeetsFault};
 
 use crate::cursor::RowCursor;
-use orc_column_reader::ending::cells_end;
-use orc_column_reader::fault::StripeFault;
-use orc_column_reader::reader::{next_cell, next_cells};
+use orc_column_reader::{StripeFault, cells_end, next_cell, next_cells};
 use orc_column_text::push_next;
 use orc_json::layout::Layout;
 use orc_values::Row;

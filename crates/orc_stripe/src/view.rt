@@ -17,11 +17,9 @@ mod row_index;
 
 use crate::cursor::RowCursor;
 pub use index_texts::{IndexText, read_index};
-use orc_column_reader::column::CELL_LIMIT;
-use orc_column_reader::directory::{check_directory, first_wrong};
-use orc_column_reader::fault::{StripeFault, wire_fault};
-use orc_column_reader::located::locate;
-use orc_column_reader::starting::put_tree;
+use orc_column_reader::{
+    CELL_LIMIT, StripeFault, check_directory, first_wrong, locate, put_tree, wire_fault,
+};
 use orc_types::Schema;
 use orc_values::Row;
 use orc_wire::{Message, StripeFooter, StripeInfo};

@@ -1,8 +1,6 @@
 //! Positions that are refused, each with the offset that a run's fault names.
 use crate::assertions::demand;
-use orc_column_reader::bits::Bits;
-use orc_column_reader::bytes::RunLengthBytes;
-use orc_column_reader::numbers::Numbers;
+use orc_column_reader::{Bits, Numbers, RunLengthBytes};
 use orc_group_reader::{bits_at, bytes_at, numbers_at};
 use orc_rle::{BitPos, Pos, Rle, RunFault, Sign};
 

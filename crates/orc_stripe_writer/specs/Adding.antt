@@ -26,10 +26,17 @@ pub record AddsValues (is_written : Written → Type 0) (c : ℕ) (old new : Bod
   pub lengths : List ℕ
   pub dictionary_data : List ℕ
   pub is : (marks : List ℕ)
-      → is_written (record { encoding = encoding; marks = marks; content = content; lengths = lengths; dictionary_data = dictionary_data })
+      → is_written (record {
+        encoding = encoding;
+        marks = marks;
+        content = content;
+        lengths = lengths;
+        dictionary_data = dictionary_data;
+      })
   pub bytes : new.bytes.items ≡ old.bytes.items ++ (content ++ (lengths ++ dictionary_data))
   pub directory : new.directory.items
-      ≡ old.directory.items ++ (line c DATA content ++ (line c LENGTH lengths ++ line c DICTIONARY_DATA dictionary_data))
+      ≡ old.directory.items
+      ++ (line c DATA content ++ (line c LENGTH lengths ++ line c DICTIONARY_DATA dictionary_data))
 
 -- the streams of one more column
 pub record AddsColumn (rle : Rle) (s : Shape) (column : List Cell) (c : ℕ) (old new : Body)

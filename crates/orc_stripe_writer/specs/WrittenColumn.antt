@@ -51,14 +51,20 @@ pub record HasBytes (w : Written) (bytes : List ℕ) : Type 0 where
 -- DATA has numbers
 pub record HasNumbers (rle : Rle) (w : Written) (numbers : List ℤ) : Type 0 where
   pub content_is : AreWrittenInts rle Signed numbers w.content
-  pub others : w ≡ record { encoding = direct rle; marks = w.marks; content = w.content; lengths = []; dictionary_data = [] }
+  pub others : w
+      ≡ record { encoding = direct rle; marks = w.marks; content = w.content; lengths = []; dictionary_data = [] }
 
 -- DATA has the groups one after the other, LENGTH their lengths
 pub record HasStrings (rle : Rle) (w : Written) (groups : List (List ℕ)) : Type 0 where
   pub content_is : w.content ≡ joined groups
   pub lengths_are : AreWrittenInts rle Unsigned (map size groups) w.lengths
-  pub others : w
-      ≡ record { encoding = direct rle; marks = w.marks; content = w.content; lengths = w.lengths; dictionary_data = [] }
+  pub others : w ≡ record {
+    encoding = direct rle;
+    marks = w.marks;
+    content = w.content;
+    lengths = w.lengths;
+    dictionary_data = [];
+  }
 
 -- DATA has the place of each text among the entries, DICTIONARY_DATA and LENGTH have the entries
 pub record HasDictionary (rle : Rle) (w : Written) (entries texts : List (List ℕ)) : Type 0 where
@@ -83,7 +89,8 @@ pub record HasTexts (rle : Rle) (w : Written) (texts : List (List ℕ)) : Type 0
 -- LENGTH has sizes
 pub record HasSizes (rle : Rle) (w : Written) (sizes : List ℤ) : Type 0 where
   pub lengths_are : AreWrittenInts rle Unsigned sizes w.lengths
-  pub others : w ≡ record { encoding = direct rle; marks = w.marks; content = []; lengths = w.lengths; dictionary_data = [] }
+  pub others : w
+      ≡ record { encoding = direct rle; marks = w.marks; content = []; lengths = w.lengths; dictionary_data = [] }
 
 -- there is no stream beside PRESENT
 abbrev pub HasNothing : Written → Type 0

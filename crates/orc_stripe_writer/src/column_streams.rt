@@ -6,8 +6,7 @@ ghost use Rattle.orc_stripe_writer.specs.Indexes.{streams_written};
 ghost use Rattle.orc_stripe_writer.specs.WrittenColumn.{Written};
 ghost use Rattle.orc_stripe_writer.specs.WrittenStripe.{column_bytes, column_lines};
 
-use orc_column_reader::starting::ColumnStreams;
-use orc_column_reader::version::version_of;
+use orc_column_reader::{ColumnStreams, version_of};
 use orc_wire::{DATA, DICTIONARY_DATA, Encoding, LENGTH, PRESENT, StreamMsg};
 
 /// Whether the line is that of a column's stream of a kind.

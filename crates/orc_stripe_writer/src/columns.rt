@@ -25,7 +25,7 @@ use crate::column_streams::column_streams;
 use crate::indexes::put_column_index;
 use crate::options::Options;
 use crate::put_column::put_cells;
-use orc_column_reader::starting::ColumnStreams;
+use orc_column_reader::ColumnStreams;
 use orc_row_batch::RowBatch;
 use orc_row_index::{element_bounds, field_bounds, pair_bounds, put_index};
 use orc_stats::Stat;

@@ -14,7 +14,7 @@ ghost use Rattle.orc_stripe_writer.specs.Groups.{starts};
 ghost use Rattle.orc_stripe_writer.specs.Indexes.{AddsIndex};
 
 use crate::body::Body;
-use orc_column_reader::starting::ColumnStreams;
+use orc_column_reader::ColumnStreams;
 use orc_row_index::put_index;
 use orc_stats::Stat;
 use orc_values::{Own, Tree};

@@ -7,11 +7,11 @@ mod byte_string;
 mod cell_values;
 mod column_streams;
 mod columns;
+mod dictionary;
 mod indexes;
 mod limits;
 mod options;
 mod put_column;
-mod dictionary;
 mod writer;
 mod written;
 

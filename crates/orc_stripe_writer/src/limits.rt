@@ -9,8 +9,7 @@ ghost use Rattle.orc_stripe_writer.specs.WrittenStripe.{AreFew};
 ghost use Rattle.orc_column_reader.specs.declared.fault.StripeFault.TheVariants.{OutOfMemory};
 
 use crate::below::{elements_of, fields_of, keys_of, lent_rows, map_values_of};
-use orc_column_reader::column::CELL_LIMIT;
-use orc_column_reader::fault::StripeFault;
+use orc_column_reader::{CELL_LIMIT, StripeFault};
 use orc_types::Schema;
 use orc_values::{Field, Lent, Row, Tree};
 use std::alloc::{AllocError, Global};

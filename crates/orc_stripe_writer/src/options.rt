@@ -2,7 +2,7 @@
 ghost use Rattle.std.specs.Prelude.{◌≡◌, ◌<◌, ◌≤◌, ◌⊎◌, ◌^◌, IfSome, IfNone};
 ghost use Rattle.orc_column_reader.specs.Stripe.{cell_limit};
 
-use orc_column_reader::column::CELL_LIMIT;
+use orc_column_reader::CELL_LIMIT;
 use orc_rle::Rle;
 
 /// How stripes are written: the version of integer run lengths, after how many rows a group of the row index

@@ -22,7 +22,7 @@ use crate::cell_values::{
     are_all_values, bools_of, byte_string_lengths, byte_strings_of, ints_of, marks_in,
     number_bytes_of, sizes_of,
 };
-use crate::dictionary::{Dictionary, entries_of, dictionary_of};
+use crate::dictionary::{Dictionary, dictionary_of, entries_of};
 use orc_rle::{Rle, Sign};
 use orc_values::{Own, Scalar, Tree};
 use orc_wire::{

@@ -17,7 +17,7 @@ use crate::body::Body;
 use crate::columns::{Columns, Source, put_columns};
 use crate::indexes::first_rows;
 use crate::options::Options;
-use orc_column_reader::fault::StripeFault;
+use orc_column_reader::StripeFault;
 use orc_row_batch::RowBatch;
 use orc_stats::Stat;
 use orc_types::Schema;

@@ -3,7 +3,7 @@ ghost use Rattle.std.specs.Prelude.{◌≡◌, ◌≢◌, ◌⊎◌};
 ghost use Rattle.orc_column_reader.specs.declared.fault.StripeFault.TheVariants as stripe;
 ghost use Rattle.orc_tail.specs.declared.fault.FileFault.TheVariants as fault;
 
-use orc_column_reader::fault::StripeFault;
+use orc_column_reader::StripeFault;
 use orc_types::TypeFault;
 use std::alloc::{AllocError, AllocFailed};
 use thiserror::Error;

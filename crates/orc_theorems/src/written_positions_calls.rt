@@ -16,7 +16,7 @@ use crate::memory::join_two;
 use crate::seeking::{ColumnSought, seek_places};
 use crate::written_files_calls::write_rows;
 use crate::written_positions::writers_positions;
-use orc_column_reader::starting::streams_of;
+use orc_column_reader::streams_of;
 use orc_file::{FileFault, OrcFile, SliceSource, tail_laws};
 use orc_row_index::{PlacedStreams, placed_streams};
 use orc_stripe::{Options, Spot, StripeFault, StripeView};

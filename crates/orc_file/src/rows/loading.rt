@@ -31,8 +31,8 @@ pub fn load_stripe<S: Source>(
     requires there { number < length tail.now.stripes }
     requires within { AllBefore (S.size source.old) tail.now.stripes }
     requires most { stripes_length tail.now.stripes ≤ most_bytes }
-    // Where the call succeeds, the vector has the bytes of the stripe, which are known where the source tells its bytes.
-    // The source tells what it told, and its failures are counted, as the fields of `LoadsStripe` say.
+    // Where the call succeeds, the vector has the bytes of the stripe, which are known where the
+    // source tells its bytes. The source tells what it told, and its failures are counted, as the fields of `LoadsStripe` say.
     ensures loaded { LoadsStripe S.told S.size S.failures source.old source.new (stripe_at tail.now.stripes number)
         (vec_capacity into.old) into.new.items result }
     // A refusal is want of memory or SourceFailed.
@@ -58,8 +58,8 @@ pub fn view_stripe<'a>(
     bytes: &'a [u8],
 ) -> Result<StripeView<'a>, FileFault>
     requires { number < length tail.now.stripes }
-    // The view is that of this stripe over these bytes, by the tail's schema; a refusal is want of memory, or it names the
-    // stripe and why its footer isn't accepted, as the fields of `ViewsStripe` say.
+    // The view is that of this stripe over these bytes, by the tail's schema; a refusal is want of
+    // memory, or it names the stripe and why its footer isn't accepted, as the fields of `ViewsStripe` say.
     ensures { ViewsStripe tail.now number bytes.now result }
 {
     let stripe = tail.stripes.as_slice()[number];
@@ -152,8 +152,8 @@ impl<S: Source> OrcFile<S> {
         bytes: &'a [u8],
     ) -> Result<StripeView<'a>, FileFault>
         requires { number < length self.now.tail.stripes }
-        // The view is that of this stripe over these bytes, by the file's schema; a refusal is want of memory, or it names
-        // the stripe and why its footer isn't accepted, as the fields of `ViewsStripe` say.
+        // The view is that of this stripe over these bytes, by the file's schema; a refusal is want
+        // of memory, or it names the stripe and why its footer isn't accepted, as the fields of `ViewsStripe` say.
         ensures { ViewsStripe self.now.tail number bytes.now result }
     {
         view_stripe(alloc, &self.tail, number, bytes)

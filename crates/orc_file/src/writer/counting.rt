@@ -6,7 +6,7 @@ ghost use Rattle.orc_values.specs.Views.{view, views, paired, shape, fields as f
 ghost use Rattle.orc_file.specs.Counts.{with_row, are_few};
 ghost use Rattle.orc_file.specs.Counting.{AddsOne, AddsCells, AddsFields};
 
-use orc_column_reader::column::CELL_LIMIT;
+use orc_column_reader::CELL_LIMIT;
 use orc_types::Schema;
 use orc_values::{Field, MapPair, Row, Tree, pairs_of, parts_of, width_of};
 use std::alloc::{AllocError, Global};

@@ -11,9 +11,7 @@ ghost use Rattle.orc_stripe.specs.GroupCursors.{HasGroup, HasEntries, IsGroupEnt
 
 use crate::cursor::RowCursor;
 use crate::view::StripeView;
-use orc_column_reader::column::CELL_LIMIT;
-use orc_column_reader::fault::{Spot, StripeFault};
-use orc_column_reader::located::locate;
+use orc_column_reader::{CELL_LIMIT, Spot, StripeFault, locate};
 use orc_group_reader::readers_at;
 use orc_wire::RowIndexEntry;
 use std::alloc::Global;

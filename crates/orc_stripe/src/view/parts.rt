@@ -9,8 +9,7 @@ ghost use Rattle.orc_stripe.specs.IndexTexts.{AreIndexTexts};
 
 use crate::view::StripeView;
 use crate::view::index_texts::{IndexText, index_texts};
-use orc_column_reader::fault::StripeFault;
-use orc_column_reader::located::{Located, locate};
+use orc_column_reader::{Located, StripeFault, locate};
 use orc_values::Tree;
 use orc_wire::StripeFooter;
 use std::alloc::{AllocError, Global};

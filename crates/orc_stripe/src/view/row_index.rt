@@ -14,9 +14,7 @@ ghost use Rattle.orc_stripe.specs.RowIndexes.{HasIndex, IndexFault, IsWhole, Are
 
 use crate::groups::{CellGroups, count_column};
 use crate::view::StripeView;
-use orc_column_reader::fault::{Spot, StripeFault, wire_fault};
-use orc_column_reader::located::Located;
-use orc_column_reader::starting::streams_of;
+use orc_column_reader::{Located, Spot, StripeFault, streams_of, wire_fault};
 use orc_column_walk::walk_columns;
 use orc_row_index::Counts;
 use orc_row_index_check::positions_right_behind;

@@ -9,7 +9,7 @@ ghost use Rattle.orc_tail.specs.declared.fault.FileFault.TheVariants.{OutOfMemor
 use crate::fault::FileFault;
 use crate::tail::extent::stripe_end;
 use crate::tail::statistics::{stats_in, stripe_stats_in};
-use orc_column_reader::column::MOST_CELLS;
+use orc_column_reader::MOST_CELLS;
 use orc_stats::Stat;
 use orc_types::Schema;
 use orc_wire::{Footer, Items, Metadata, StripeInfo};

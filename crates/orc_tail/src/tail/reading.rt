@@ -175,7 +175,12 @@ pub fn read_capped_tail<S: Source>(
         place,
         length,
     } = read_end(alloc, source)?;
-    if is_above(cap, length, postscript.footer_length, postscript.metadata_length) {
+    if is_above(
+        cap,
+        length,
+        postscript.footer_length,
+        postscript.metadata_length,
+    ) {
         return Err(FileFault::Limit);
     }
     let footer_at = place - postscript.footer_length;

@@ -165,7 +165,12 @@ fn put_footer(tail: &Tail, out: &mut Vec<u8>) -> Result<(), FileFault>
 }
 
 /// The postscript behind metadata and a footer of these lengths.
-fn put_postscript(tail: &Tail, metadata: u64, footer: u64, out: &mut Vec<u8>) -> Result<(), FileFault>
+fn put_postscript(
+    tail: &Tail,
+    metadata: u64,
+    footer: u64,
+    out: &mut Vec<u8>,
+) -> Result<(), FileFault>
     requires metadata { metadata ≡ length (metadata_text.text (metadata_of tail.now)) }
     requires footer { footer ≡ length (footer_text.text (footer_of tail.now)) }
     ensures text { OnOk result (out.new.items ≡ out.old.items ++ post_script_text.text (postscript_of tail.now)) }
