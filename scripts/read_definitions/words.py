@@ -180,7 +180,8 @@ def pieces(item):
     params.walk(TOKEN.findall(head.replace(" where", "")))
     bound = set().union(*params.bound)
     found = [("header", [], head.replace(" where", ""))]
-    for field in re.split(r"\n(?=  \S)", "\n" + body):
+    # (a record in a field ends with a brace of its own)
+    for field in re.split(r"\n(?=  [^\s}])", "\n" + body):
         name = re.match(r"\s*(?:pub )?(\S+) :", field)
         found.append(("field", set(bound), re.sub(r"^\s*(?:pub )?\S+ :", "", field)))
         if name and item.kind == "record":
