@@ -35,7 +35,7 @@ returns-in-Ok-clause-found c = λ rows h.
     let x = columns_of v.footer v.bytes.now in
     let s = c.tree-tree.ensures.same in
     let made = all_put v.footer v.bytes.now (shape c.tree-tree.result.now) c.in_ok-readers.readers.items c.put_tree.new.readers.items c.in_ok-readers.ensures.items (subst (λ b. Puts v.footer b (shape c.tree-tree.result.now) c.in_ok-readers.readers.items c.put_tree.new.readers.items) c.in_ok-located.ensures.same c.in-Ok.ensures.found) in
-    let n = to_number (shape c.tree-tree.result.now) x rows (omega (arith, h.counted, (omega (arith, c.if-count-ge-CELL_LIMIT.false)))) ((tree_alike (shape c.tree-tree.result.now) x c.put_tree.new.readers.items made).to rows h.spelled) in
+    let n = to_number (shape c.tree-tree.result.now) x rows (omega (arith, h.counted, c.if-count-ge-CELL_LIMIT.false)) ((tree_alike (shape c.tree-tree.result.now) x c.put_tree.new.readers.items made).to rows h.spelled) in
     rw (← c.self.view_is) (record {
       footer = v.footer;
       has_footer = c.self.invariant;
