@@ -15,7 +15,7 @@ use orc_rle::{BitPos, BitRuns, ByteRuns, Pos, Run, RunCodec, RunFault, RunU8, Si
 
 /// Laws of positions in streams of integers. A position that names value n is found, and what is left of the
 /// run decoded last and the runs after it are the values from n on. It names one value; only the
-/// bytes from its offset on have a part in what is answered. A value has one place of the writer's.
+/// bytes from its offset on have a part in what is answered. A value has one position of the writer's.
 pub fn seek_laws<C: RunCodec>()
     // Where the bytes are a stream, a position that names value n is found, and what is left of its
     // run and the runs after it are the values from n on.
@@ -57,7 +57,7 @@ pub fn seek_laws<C: RunCodec>()
     ensures one_place { (sign : Sign) (bytes : List ℕ) (o p s t n : ℕ)
         → IsWriterPosition (C.is_run sign) bytes o s n → IsWriterPosition (C.is_run sign) bytes p t n
         → (o ≡ p) × (s ≡ t) }
-    // A stream's start is a run start of it, and so a position of value 0.
+    // At a stream's start a run begins, or the stream ends; so it is a position of value 0.
     ensures start { (sign : Sign) (bytes : List ℕ) (all : List ℤ)
         → IsStream (C.is_run sign) bytes all → IsRunStart (C.is_run sign) bytes start_of_stream }
 {}
@@ -101,7 +101,7 @@ pub fn byte_seek_laws()
     // A byte has one position of the writer's at most.
     ensures one_place { (bytes : List ℕ) (o p s t n : ℕ)
         → IsWriterPosition IsByteRun bytes o s n → IsWriterPosition IsByteRun bytes p t n → (o ≡ p) × (s ≡ t) }
-    // A stream's start is a run start of it, and so a position of byte 0.
+    // At a stream's start a run begins, or the stream ends; so it is a position of byte 0.
     ensures start { (bytes all : List ℕ) → IsStream IsByteRun bytes all → IsRunStart IsByteRun bytes start_of_stream }
 {}
 

@@ -1,4 +1,4 @@
-//! RunStarts: where a walk over a stream's runs stands, and the positions that a writer makes of them.
+//! Where a run begins, as a walk over a stream's runs keeps it, and the position that a writer makes of it.
 ghost use Rattle.std.specs.Prelude.{◌≡◌, ◌+◌, ◌-◌, ◌/◌, ◌%◌, ◌^◌, ◌<◌, ◌≤◌, ◌⊎◌, length, IsTrue, ◌↔◌};
 ghost use Rattle.orc_rle.specs.ByteRun.{IsByteRun};
 ghost use Rattle.orc_positions.specs.Position.{IsWriterPosition, HasValues};
@@ -23,7 +23,7 @@ pub struct RunStart {
 impl RunStart {
     /// The start of a stream.
     pub fn start() -> RunStart
-        // The run start is at offset 0, with no value before it and no run known.
+        // It is at offset 0, with no value before it and no run known.
         ensures { result ≡ start_of_stream }
     {
         RunStart {
@@ -34,7 +34,7 @@ impl RunStart {
         }
     }
 
-    /// Whether value `n` stands in the run at the run start.
+    /// Whether value `n` stands in the run that begins here.
     fn holds(self, n: usize) -> bool
         requires { self.before ≤ n }
         ensures { IsTrue result ↔ n - self.before < self.count }
@@ -58,7 +58,7 @@ impl RunStart {
         }
     }
 
-    /// The start of a run of this size, which is this one.
+    /// The same start, with the size of its run.
     fn over(self, size: RunSize) -> RunStart
         ensures start { (result.offset ≡ self.offset) × (result.before ≡ self.before) }
         ensures size { (result.len ≡ size.bytes) × (result.count ≡ size.values) }
@@ -73,7 +73,7 @@ impl RunStart {
     /// The position of value `n`, from the start of its run.
     pub fn place(self, n: usize) -> Pos
         requires { self.before ≤ n }
-        // Where `n` values at most come before the run start, the position is at its offset and
+        // Where `n` values at most come before the run, the position is at the run's offset and
         // passes the values from there up to `n`.
         ensures { (result.offset ≡ self.offset) × (result.skip ≡ n - self.before) }
     {
@@ -86,7 +86,7 @@ impl RunStart {
     /// The position of boolean `n`, from the start of the run in which byte `n / 8` stands.
     pub fn bit_place(self, n: usize) -> BitPos
         requires { self.before ≤ n / 8 }
-        // Where the byte of boolean `n` isn't before the run start, the position is at its offset
+        // Where the byte of boolean `n` isn't before the run, the position is at the run's offset
         // and passes the bytes up to that one, and the booleans before `n` in it.
         ensures { (result.offset ≡ self.offset) × (result.skip ≡ n / 8 - self.before) × (result.bits ≡ n % 8) }
     {
@@ -99,7 +99,7 @@ impl RunStart {
 }
 
 /// The start of the run in which value `n` of a stream stands, or the stream's end where `n` values are all that it
-/// has. The walk begins at a run start that isn't behind it: the stream's start, or that of a value before. It
+/// has. The walk begins where a run begins that isn't behind it: the stream's start, or the run of a value before. It
 /// passes each run once, by its size, and decodes none.
 ///
 /// The bytes are a stream of `n` values or more, a condition.
@@ -107,11 +107,11 @@ pub fn run_start_at<C: RunCodec>(bytes: &[u8], sign: Sign, from: RunStart, n: us
     requires there { HasValues (C.is_run sign) bytes.now n }
     requires from { IsRunStart (C.is_run sign) bytes.now from }
     requires ahead { from.before ≤ n }
-    // Where the bytes are a stream of `n` values or more, and the walk begins at a run start that isn't
-    // behind value `n`, the run start makes the writer's position of it.
+    // Where the bytes are a stream of `n` values or more, and the walk begins at the start of a run
+    // that isn't behind value `n`, what is answered makes the writer's position of it.
     ensures place { IsWriterPosition (C.is_run sign) bytes.now result.offset (n - result.before) n }
-    // It is a run start of the stream, from which a next walk may begin: how long its run is it says
-    // rightly, or not at all.
+    // It is where a run of the stream begins, or the stream's end; a next walk may begin there. How
+    // long its run is it says rightly, or not at all.
     ensures run_start { IsRunStart (C.is_run sign) bytes.now result }
     // No more than `n` values come before it.
     ensures ahead { result.before ≤ n }
@@ -135,11 +135,11 @@ pub fn byte_run_start_at(bytes: &[u8], from: RunStart, n: usize) -> RunStart
     requires there { HasValues IsByteRun bytes.now n }
     requires from { IsRunStart IsByteRun bytes.now from }
     requires ahead { from.before ≤ n }
-    // Where the bytes are a stream of `n` bytes or more, and the walk begins at a run start that isn't
-    // behind byte `n`, the run start makes the writer's position of it.
+    // Where the bytes are a stream of `n` bytes or more, and the walk begins at the start of a run
+    // that isn't behind byte `n`, what is answered makes the writer's position of it.
     ensures place { IsWriterPosition IsByteRun bytes.now result.offset (n - result.before) n }
-    // It is a run start of the stream, from which a next walk may begin: how long its run is it says
-    // rightly, or not at all.
+    // It is where a run of the stream begins, or the stream's end; a next walk may begin there. How
+    // long its run is it says rightly, or not at all.
     ensures run_start { IsRunStart IsByteRun bytes.now result }
     // No more than `n` bytes come before it.
     ensures ahead { result.before ≤ n }

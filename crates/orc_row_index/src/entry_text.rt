@@ -50,7 +50,7 @@ pub fn put_entry(
         × HavePositions (runs placed.now.present) (lent_bytes placed.now.content) (runs placed.now.own) before
         × WalkedBefore (runs placed.now.present) (runs placed.now.own) from before }
     // Where so much is counted of cells whose values the streams have, the one text of the entry is
-    // added: the writer's places behind them, and the statistic.
+    // added: the writer's positions behind them, and the statistic.
     ensures entry { (before : List Cell) → AreCounted counts before
         → HavePositions (runs placed.now.present) (lent_bytes placed.now.content) (runs placed.now.own) before
         → OnOk result (Adds (IsEntryText (runs placed.now.present) (lent_bytes placed.now.content)

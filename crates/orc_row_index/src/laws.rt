@@ -10,8 +10,8 @@ ghost use Rattle.orc_row_index.specs.Positions.{AreReadPositions, AreWrittenPosi
 ghost use Rattle.orc_row_index.specs.RowIndex.{IsWrittenIndex, IsRightIndex};
 
 /// Laws of row indexes as they are written. It does nothing: its contract is what it is for. Of cells, their
-/// streams and bounds there is at most one index, and behind some cells one list of places; a writer's places
-/// are right for every reader; of cells that fit and are few, an index reads back, with the places and the
+/// streams and bounds there is at most one index, and behind some cells one list of positions; a writer's
+/// are right for every reader; of cells that fit and are few, an index reads back, with the positions and the
 /// statistic of each group. Bounds that are taken down a level are bounds there.
 pub fn index_laws()
     // Of a column's cells, their streams and bounds there is one row index at most, byte by byte.

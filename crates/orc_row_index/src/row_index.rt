@@ -37,7 +37,7 @@ pub fn put_index(
     requires column { (cells : List Cell) × AreSpelledOwn (shape tree.now) streams.now owns.now cells }
     requires bounds { AreBounds (length owns.now) bounds.now }
     // Where streams spell the cells, which fit, and bounds are theirs, the one text of the index is
-    // added: for each group the writer's places behind the cells before it, and its statistic.
+    // added: for each group the writer's positions behind the cells before it, and its statistic.
     ensures index { (cells : List Cell) → AreSpelledOwn (shape tree.now) streams.now owns.now cells
         → OnOk result ((x : Streams) → AreStreams x streams.now
         → Adds (IsWrittenIndex (shape tree.now) x cells bounds.now) out.old.items out.new.items) }

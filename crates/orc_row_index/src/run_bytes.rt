@@ -75,8 +75,8 @@ fn put_bit_pos(place: BitPos, out: &mut Vec<u64>) -> Result<(), AllocError>
     Ok(())
 }
 
-/// Adds the position of value `n` of a stream, and answers the run start of its run. The search begins at a run start
-/// that is not behind the value.
+/// Adds the position of value `n` of a stream, and answers where its run begins. The search begins at the start
+/// of a run that is not behind the value.
 #[inline(always)]
 pub(crate) fn put_position(
     stream: &RunBytes<'_>,

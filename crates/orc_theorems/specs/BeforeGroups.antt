@@ -4,6 +4,7 @@ use Rattle.std.specs.Prelude.{◌≡◌, ℕ, ◌+◌, ◌<◌, ◌==◌, ◌&&�
 use Rattle.orc_wire.specs.declared.row_index.RowIndexEntry.{RowIndexEntry}
 use Rattle.orc_wire.specs.declared.stripe_footer.StripeFooter.{StripeFooter}
 use Rattle.orc_wire.specs.declared.stripe_info.StripeInfo.{StripeInfo}
+use Rattle.orc_wire.specs.StreamKinds.{PRESENT, DATA, LENGTH}
 use Rattle.orc_values.specs.Shapes.{Shape, width, shape_at}
 use Rattle.orc_column_reader.specs.Directory.{slice}
 use Rattle.orc_column_reader.specs.Stripe.{Streams, HasFooter, has_dictionary, columns_of}
@@ -21,9 +22,9 @@ use Rattle.orc_tail.specs.declared.tail.Tail.{Tail}
 -- DATA, and then those of LENGTH. A dictionary's streams have none, nor has a row index: they count from their start.
 abbrev pub offset_of : Shape → Streams → List ℕ → ℕ → ℕ
 offset_of s x positions kind =
-    if kind == 0 then get_or positions 0 0
-    else (if kind == 1 then get_or positions (present_size x) 0
-    else (if (kind == 2) && not (has_dictionary x)
+    if kind == PRESENT then get_or positions 0 0
+    else (if kind == DATA then get_or positions (present_size x) 0
+    else (if (kind == LENGTH) && not (has_dictionary x)
     then get_or positions (present_size x + octets_size (value_bytes s x)) 0
     else 0))
 

@@ -31,8 +31,10 @@ pub fn load_stripe<S: Source>(
     requires there { number < length tail.now.stripes }
     requires within { AllBefore (S.size source.old) tail.now.stripes }
     requires most { stripes_length tail.now.stripes ≤ most_bytes }
-    // Where the call succeeds, the vector has the bytes of the stripe, which are known where the
-    // source tells its bytes. The source tells what it told, and its failures are counted, as the fields of `LoadsStripe` say.
+    // Where the call succeeds, the vector has as many bytes as the stripe, and those of the stripe
+    // where the source tells its bytes. The source tells what it told and is as long; its count of
+    // failures rises with SourceFailed alone. Memory is refused only where the vector's capacity
+    // was below the stripe's length. (The fields of `LoadsStripe`.)
     ensures loaded { LoadsStripe S.told S.size S.failures source.old source.new (stripe_at tail.now.stripes number)
         (vec_capacity into.old) into.new.items result }
     // A refusal is want of memory or SourceFailed.
@@ -58,8 +60,10 @@ pub fn view_stripe<'a>(
     bytes: &'a [u8],
 ) -> Result<StripeView<'a>, FileFault>
     requires { number < length tail.now.stripes }
-    // The view is that of this stripe over these bytes, by the tail's schema; a refusal is want of
-    // memory, or it names the stripe and why its footer isn't accepted, as the fields of `ViewsStripe` say.
+    // The view is that of this stripe over these bytes, with the tail's schema and stride, and its
+    // footer the one that the bytes have. Where they have one, the view is answered with it, or
+    // memory is refused; a refusal is want of memory, or it names the stripe and why its footer
+    // isn't accepted. (The fields of `ViewsStripe`.)
     ensures { ViewsStripe tail.now number bytes.now result }
 {
     let stripe = tail.stripes.as_slice()[number];
@@ -114,8 +118,10 @@ impl<S: Source> OrcFile<S> {
     /// the vector touched; `SourceFailed` where the source failed; `OutOfMemory`.
     pub fn load(&mut self, number: usize, into: &mut Vec<u8>) -> Result<(), FileFault>
         requires { number < length self.old.tail.stripes }
-        // Where the call succeeds, the vector has the bytes of the stripe, which are known where the source tells its
-        // bytes. The source tells what it told, and its failures are counted, as the fields of `LoadsStripe` say.
+        // Where the call succeeds, the vector has as many bytes as the stripe, and those of the stripe
+        // where the source tells its bytes. The source tells what it told and is as long; its count of
+        // failures rises with SourceFailed alone. Memory is refused only where the vector's capacity
+        // was below the stripe's length. (The fields of `LoadsStripe`.)
         ensures loaded { LoadsStripe S.told S.size S.failures self.old.source self.new.source
             (stripe_at self.old.tail.stripes number) (vec_capacity into.old) into.new.items result }
         // After each answer the file has the tail and the cap that it had.
@@ -152,8 +158,10 @@ impl<S: Source> OrcFile<S> {
         bytes: &'a [u8],
     ) -> Result<StripeView<'a>, FileFault>
         requires { number < length self.now.tail.stripes }
-        // The view is that of this stripe over these bytes, by the file's schema; a refusal is want
-        // of memory, or it names the stripe and why its footer isn't accepted, as the fields of `ViewsStripe` say.
+        // The view is that of this stripe over these bytes, with the file's schema and stride, and its
+        // footer the one that the bytes have. Where they have one, the view is answered with it, or
+        // memory is refused; a refusal is want of memory, or it names the stripe and why its footer
+        // isn't accepted. (The fields of `ViewsStripe`.)
         ensures { ViewsStripe self.now.tail number bytes.now result }
     {
         view_stripe(alloc, &self.tail, number, bytes)

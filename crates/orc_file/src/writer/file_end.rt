@@ -26,7 +26,7 @@ fn version(alloc: Global, rle: Rle) -> Result<Vec<u32>, AllocError>
     }
 }
 
-/// The stripes that are closed, and the statistics of their columns.
+/// The stripes that are written, and the statistics of their columns.
 #[derive(Drop)]
 pub(crate) struct Stripes {
     pub infos: Vec<StripeInfo>,

@@ -354,13 +354,13 @@ impl<W: Sink> Writer<W> {
         // Where the output tells its bytes, a push that succeeds adds its row behind those pushed;
         // a stripe goes out with its last row, and not before.
         ensures pushed { AddsRow (progress W.told self.old) (progress W.told self.new) (view row.entry) result }
-        // Failed and RowShape are answered exactly where an earlier call failed, or the row doesn't
-        // fit. Limit is answered only where a limit would be passed: of the stripes' bytes, after
-        // which the writer has failed, as after WriteFailed and want of memory; or of stripes, rows
-        // or a column's cells, which leaves its output, stripes, rows and counts as they were, as
-        // Failed and RowShape do. Where it fails by this push and the output tells its bytes, the
-        // front of a file is out. The output's count of failures rises with WriteFailed alone. Each
-        // of these is a field of `TakesRow`.
+        // Failed is answered exactly where an earlier call failed, and else RowShape exactly where
+        // the row doesn't fit. Else passing a limit of stripes, rows or a column's cells is refused
+        // as Limit, which like Failed and RowShape leaves output, stripes, rows and counts as they
+        // were. A Limit after which the writer has failed, as it has after WriteFailed and want of
+        // memory, is that of the stripes' bytes. Where it fails by this push and the output tells
+        // its bytes, the front of a file is out. The output's count of failures rises with
+        // WriteFailed alone. Each of these is a field of `TakesRow`.
         ensures takes { TakesRow W.told W.failures self.old self.new (view row.entry) result }
     {
         let pushed = self.push(&row);
@@ -380,13 +380,13 @@ impl<W: Sink> Writer<W> {
         // Where the output tells its bytes, a push that succeeds adds its row behind those pushed;
         // a stripe goes out with its last row, and not before.
         ensures pushed { AddsRow (progress W.told self.old) (progress W.told self.new) (view row.now) result }
-        // Failed and RowShape are answered exactly where an earlier call failed, or the row doesn't
-        // fit. Limit is answered only where a limit would be passed: of the stripes' bytes, after
-        // which the writer has failed, as after WriteFailed and want of memory; or of stripes, rows
-        // or a column's cells, which leaves its output, stripes, rows and counts as they were, as
-        // Failed and RowShape do. Where it fails by this push and the output tells its bytes, the
-        // front of a file is out. The output's count of failures rises with WriteFailed alone. Each
-        // of these is a field of `TakesRow`.
+        // Failed is answered exactly where an earlier call failed, and else RowShape exactly where
+        // the row doesn't fit. Else passing a limit of stripes, rows or a column's cells is refused
+        // as Limit, which like Failed and RowShape leaves output, stripes, rows and counts as they
+        // were. A Limit after which the writer has failed, as it has after WriteFailed and want of
+        // memory, is that of the stripes' bytes. Where it fails by this push and the output tells
+        // its bytes, the front of a file is out. The output's count of failures rises with
+        // WriteFailed alone. Each of these is a field of `TakesRow`.
         ensures takes { TakesRow W.told W.failures self.old self.new (view row.now) result }
     {
         self.admit(row)?;
