@@ -69,7 +69,7 @@ entry_found entry view rows c group counted has right =
     let bounds = bounds_of view.schema c rows (starts view.stride (length rows)) in
     let decided : AreDecided s x cs bounds es (all_right es) = record {
       counted = length-map es (λ (e : RowIndexEntry). true);
-      each = λ g e b at told. subst (λ (t : Bool). Decides s x cs bounds g e.positions t) (right_alone es g b told) (r.places g e at);
+      each = λ g e b at told. subst (λ (t : Bool). Decides s x cs bounds g e.positions t) (right_alone es g b told) (r.positions g e at);
     } in
     entry view rows c group r.message (all_right es) counted has (right.0, r.spelled) whole decided (right_at es group less)
 

@@ -86,7 +86,7 @@ module _ (s : Shape) (streams : ColumnStreams) (groups : List GroupFound) (place
         record {
           entries = m.entries ++ own.entry ∷ [];
           are = entries_more s x cells bounds n m.entries own.entry m.are (record {
-            places = written_in s x placed before own.entry.positions (is_placed x is) own.places;
+            positions = written_in s x placed before own.entry.positions (is_placed x is) own.positions;
             statistics = own.statistics ∙ ap (λ (t : Stat). Some (message_of t)) (h.are n group there).stat_is;
           });
           bounded = bounded_join m.entries (own.entry ∷ []) m.bounded own.bounded;

@@ -94,7 +94,7 @@ right_agrees stride s rows footer bytes c h =
         message = r.message;
         spelled = r.spelled;
         counted = r.counted;
-        places = r.places;
+        positions = r.positions;
         statistics = λ g e got. says_of (shape_at s c) (group g) e (r.statistics g e got);
       },
     )
@@ -143,7 +143,7 @@ module _ (view : Opened) (n : ℕ) (rows : List Cell) (c : ℕ) (some : 0 < view
           message = h.0;
           spelled = h.1.1;
           counted = h.2 ∙ sym (bounds_long view.schema c view.stride rows);
-          places = λ g e got. let b = entry_below es g e got in subst (λ (y : RowIndexEntry). AreReadPositions s x (before_group cs bounds g) y.positions) b.1 (places g b.0);
+          positions = λ g e got. let b = entry_below es g e got in subst (λ (y : RowIndexEntry). AreReadPositions s x (before_group cs bounds g) y.positions) b.1 (places g b.0);
           statistics = λ g e got. let b = entry_below es g e got in subst (λ (y : RowIndexEntry). TellsGroup s (group_of cs bounds g) y) b.1 (tells g b.0);
         },
       )
@@ -159,7 +159,7 @@ module _ (view : Opened) (n : ℕ) (rows : List Cell) (c : ℕ) (some : 0 < view
           (h.0, r.spelled),
           r.counted ∙ bounds_long view.schema c view.stride rows,
           none_each (OfGroup s x cs bounds n c es) (length es)
-              (λ g lt. let got = entry_there es g lt in ([], [], inl (r.statistics g (entry_at es g) got, refl), inl (r.places g (entry_at es g) got, refl), refl)),
+              (λ g lt. let got = entry_there es g lt in ([], [], inl (r.statistics g (entry_at es g) got, refl), inl (r.positions g (entry_at es g) got, refl), refl)),
         ),
       )
 

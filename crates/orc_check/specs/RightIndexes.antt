@@ -21,13 +21,13 @@ use Rattle.orc_file.specs.FileRows.{stripe_bytes, opened_stripe, cut_rows}
 use Rattle.orc_tail.specs.declared.tail.Tail.{Tail}
 use Rattle.orc_check.specs.Findings.{TellsGroup, rows_at}
 
--- Bytes that are taken for the index of these groups: as many entries as bounds, each with places from which a reader
+-- Bytes that are taken for the index of these groups: as many entries as bounds, each with positions from which a reader
 -- goes on, and with a statistic that agrees with that of its group.
 pub record IsAgreeingIndex (s : Shape) (x : Streams) (cells : List Cell) (bounds text : List ℕ) : Type 0 where
   pub message : RowIndexMsg
   pub spelled : Spells row_index 0 0 text message
   pub counted : length message.entries ≡ length bounds
-  pub places : (g : ℕ) (entry : RowIndexEntry)
+  pub positions : (g : ℕ) (entry : RowIndexEntry)
       → slice_get message.entries g ≡ Some entry
       → AreReadPositions s x (before_group cells bounds g) entry.positions
   pub statistics : (g : ℕ) (entry : RowIndexEntry)

@@ -27,10 +27,11 @@ use Rattle.orc_cli_args.specs.declared.command_line.Refusal.TheVariants.{Fault, 
 abbrev pub Words : Type 0
 Words = Bor (List (Bor Text))
 
--- the words that `--rle` takes, and those that `--sign` takes
+-- the words that `--rle` takes
 abbrev pub HasVersions : Words → Type 0
 HasVersions words = texts words.now ≡ version_word One ∷ version_word Two ∷ []
 
+-- those that `--sign` takes
 abbrev pub HasSigns : Words → Type 0
 HasSigns words = texts words.now ≡ sign_word Signed ∷ sign_word UnsignedNumbers ∷ []
 
@@ -66,24 +67,30 @@ all_of name = record (new_rule name) {
 
 -- ---- commands
 
+-- a command: its name, and its arguments in order
 abbrev pub command : Text → List Rule → Shape
 command name rules = record (new_shape name) { rules = rules }
 
+-- `ints`: the version, the sign, and a stream's bytes as hexadecimal digits
 abbrev pub ints_line : Words → Words → Shape
 ints_line versions signs = command (codes "ints")
     (one_of versions (named (needed (codes "rle")))
     ∷ one_of signs (named (needed (codes "sign")))
     ∷ needed (codes "hex") ∷ [])
 
+-- `rows`: where to start, if it says so, and a file
 abbrev pub rows_line : Shape
 rows_line = command (codes "rows") (named (optional (codes "from")) ∷ needed (codes "file") ∷ [])
 
+-- `show`: a file
 abbrev pub show_line : Shape
 show_line = command (codes "show") (needed (codes "file") ∷ [])
 
+-- `check`: a file
 abbrev pub check_line : Shape
 check_line = command (codes "check") (needed (codes "file") ∷ [])
 
+-- `write`: a schema, the version, the stride, the rows of a stripe, the lines' file and the new one
 abbrev pub write_line : Words → Shape
 write_line versions = command (codes "write")
     (named (needed (codes "schema"))
@@ -92,6 +99,7 @@ write_line versions = command (codes "write")
     ∷ between 1 2147483647 (named (needed (codes "stripe-rows")))
     ∷ needed (codes "in") ∷ needed (codes "out") ∷ [])
 
+-- `merge`: the new file and the inputs
 abbrev pub merge_line : Shape
 merge_line = command (codes "merge") (needed (codes "out") ∷ all_of (codes "in") ∷ [])
 

@@ -1,7 +1,7 @@
 -- Rows are spelled column by column, by the columns' numbers, where they are spelled going down the schema.
 use Rattle.std.proofs.Common.{◌≡◌, ℕ, zero, suc, ◌+◌, ◌-◌, ◌<◌, ◌≤◌, ◌^◌, ℤ, pos, negsuc, Bool, true, false, ltb, List, [], ◌∷◌, ◌++◌, map, length, take, drop, refl, sym, ap, ◌∙◌, subst, arith, inl, inr}
 use Rattle.std.proofs.lemmas.Bool.{lt-ltb, le-ltb, and_parts, cases_lt}
-use Rattle.std.specs.List.{AllByRecursion, flat_map}
+use Rattle.std.specs.List.{AllByRecursion, flat_map, AllZip}
 use Rattle.orc_values.specs.Cells.{Cell, null, leaf, list, struct, pairs, Cells, end, more, cells_of, list_of_cells, pairs_of, parts, pairs_in, keys_in, values_in, values}
 use Rattle.orc_values.specs.Shapes.{Shape, scalar, list_of, map_of, struct_of, Fields, no_field, field, width, widths, shape_at, shape_within}
 use Rattle.orc_values.specs.Fits.{fits, int_fits, all_fit, pairs_fit, each_fits, RowsFit}
@@ -11,7 +11,7 @@ use Rattle.orc_values.specs.declared.kind.Scalar.TheVariants as kind
 use Rattle.orc_values.proofs.Views.{list_of_cells-cells_of, cells_of-list_of_cells, list_of_pairs-pairs_of, pairs_of-list_of_pairs}
 use Rattle.orc_values.proofs.Together.{keys_fit, values_fit as seconds_fit}
 use Rattle.std.proofs.lemmas.List.{length-map, map-append}
-use Rattle.orc_column_reader.specs.Spellings.{AllStand, size, joined, zip_cons}
+use Rattle.orc_column_reader.specs.Spellings.{size, joined, zip_cons}
 use Rattle.orc_column_reader.specs.Columns.{IsBool, IsByte, signed_byte, IsInt, IsDate, IsText, IsBinary, IsEntry, IsList, IsMap, IsRecord}
 use Rattle.orc_column_reader.specs.Stripe.{Streams, SpellsScalar, IsColumn, SpellRows, SpellsFields, SpellsCells, has_dictionary, SpellsTexts}
 use Rattle.orc_column_reader.proofs.Fronts.{length-zip, stand_length}
@@ -45,7 +45,7 @@ values_fit s (list x ∷ cs) h = (h.0, values_fit s cs h.1)
 values_fit s (struct x ∷ cs) h = (h.0, values_fit s cs h.1)
 values_fit s (pairs x ∷ cs) h = (h.0, values_fit s cs h.1)
 
-standing_fits : {X : Type 0} (stands : X → Cell → Type 0) (s : Shape) → ((x : X) (v : Cell) → stands x v → fits v s ≡ true) → (xs : List X) (vs : List Cell) → AllStand stands xs vs → RowsFit s vs
+standing_fits : {X : Type 0} (stands : X → Cell → Type 0) (s : Shape) → ((x : X) (v : Cell) → stands x v → fits v s ≡ true) → (xs : List X) (vs : List Cell) → AllZip stands xs vs → RowsFit s vs
 standing_fits stands s one [] [] h = tt
 standing_fits stands s one [] (v ∷ vs) h = absurd h
 standing_fits stands s one (x ∷ xs) [] h = absurd h
@@ -110,7 +110,7 @@ pub record Lists (s : Shape) (o : List ℕ) (byte_strings : List (List Cell)) (v
   pub elements : flat_map parts vs ≡ joined byte_strings
   pub sizes : map (λ v. size (parts v)) vs ≡ map size byte_strings
 
-lists_of : (s : Shape) (o : List ℕ) (byte_strings : List (List Cell)) (vs : List Cell) → AllStand IsList byte_strings vs → RowsFit s (joined byte_strings) → Lists s o byte_strings vs
+lists_of : (s : Shape) (o : List ℕ) (byte_strings : List (List Cell)) (vs : List Cell) → AllZip IsList byte_strings vs → RowsFit s (joined byte_strings) → Lists s o byte_strings vs
 lists_of s o [] [] h f = record { fit = tt; elements = refl; sizes = refl }
 lists_of s o [] (v ∷ vs) h f = absurd h
 lists_of s o (g ∷ byte_strings) [] h f = absurd h
@@ -126,7 +126,7 @@ lists_of s o (g ∷ byte_strings) (v ∷ vs) h f =
 
 -- values that fit a list's type are lists
 pub record AreLists (s : Shape) (vs : List Cell) : Type 0 where
-  pub stand : AllStand IsList (map parts vs) vs
+  pub stand : AllZip IsList (map parts vs) vs
   pub fit : RowsFit s (joined (map parts vs))
 
 pub are_lists : (s : Shape) (o : List ℕ) (cs : List Cell) → RowsFit (list_of s o) cs → AreLists s (values cs)
@@ -166,7 +166,7 @@ record Maps (k v : Shape) (o : List ℕ) (byte_strings : List (List (Cell × Cel
   seconds : flat_map values_in vs ≡ map second_of (joined byte_strings)
   sizes : map (λ m. size (pairs_in m)) vs ≡ map size byte_strings
 
-maps_of : (k v : Shape) (o : List ℕ) (byte_strings : List (List (Cell × Cell))) (vs : List Cell) → AllStand IsMap byte_strings vs → RowsFit k (map first_of (joined byte_strings)) → RowsFit v (map second_of (joined byte_strings)) → Maps k v o byte_strings vs
+maps_of : (k v : Shape) (o : List ℕ) (byte_strings : List (List (Cell × Cell))) (vs : List Cell) → AllZip IsMap byte_strings vs → RowsFit k (map first_of (joined byte_strings)) → RowsFit v (map second_of (joined byte_strings)) → Maps k v o byte_strings vs
 maps_of k v o [] [] h f e = record { fit = tt; keys = refl; seconds = refl; sizes = refl }
 maps_of k v o [] (c ∷ vs) h f e = absurd h
 maps_of k v o (g ∷ byte_strings) [] h f e = absurd h
@@ -185,7 +185,7 @@ maps_of k v o (g ∷ byte_strings) (c ∷ vs) h f e =
     }
 
 -- values that fit a map's type are maps
-pub are_maps : (k v : Shape) (o : List ℕ) (cs : List Cell) → RowsFit (map_of k v o) cs → AllStand IsMap (map pairs_in (values cs)) (values cs)
+pub are_maps : (k v : Shape) (o : List ℕ) (cs : List Cell) → RowsFit (map_of k v o) cs → AllZip IsMap (map pairs_in (values cs)) (values cs)
 are_maps k v o [] h = tt
 are_maps k v o (null ∷ cs) h = are_maps k v o cs h.1
 are_maps k v o (leaf x ∷ cs) h = let q = h.0 in cc
@@ -235,7 +235,7 @@ record Records (fs : Fields) (o : List ℕ) (structs : List (List Cell)) (vs : L
   fit : RowsFit (struct_of fs o) vs
   are : map parts vs ≡ structs
 
-records_of : (fs : Fields) (o : List ℕ) (structs : List (List Cell)) (vs : List Cell) → AllStand IsRecord structs vs → FieldsFit fs structs → Records fs o structs vs
+records_of : (fs : Fields) (o : List ℕ) (structs : List (List Cell)) (vs : List Cell) → AllZip IsRecord structs vs → FieldsFit fs structs → Records fs o structs vs
 records_of fs o [] [] h f = record { fit = tt; are = refl }
 records_of fs o [] (v ∷ vs) h f = absurd h
 records_of fs o (g ∷ structs) [] h f = absurd h
@@ -245,7 +245,7 @@ records_of fs o (g ∷ structs) (v ∷ vs) h f =
     record { fit = (ap (λ c. fits c (struct_of fs o)) h.0 ∙ f.0, r.fit); are = ap (λ t. t ∷ map parts vs) p ∙ ap (λ t. g ∷ t) r.are }
 
 pub record AreRecords (fs : Fields) (vs : List Cell) : Type 0 where
-  pub stand : AllStand IsRecord (map parts vs) vs
+  pub stand : AllZip IsRecord (map parts vs) vs
   pub fit : FieldsFit fs (map parts vs)
 
 pub are_records : (fs : Fields) (o : List ℕ) (cs : List Cell) → RowsFit (struct_of fs o) cs → AreRecords fs (values cs)

@@ -1,18 +1,19 @@
 -- Where nothing is left.
 use Rattle.std.proofs.Common.{◌≡◌, ℕ, ◌-◌, ◌≤◌, Bool, true, false, List, [], ◌∷◌, length, take, drop, get_or, refl, sym, ap, ◌∙◌, subst, arith, length-drop}
+use Rattle.std.specs.List.{AllZip}
 use Rattle.std.specs.Bool.{MatchBool}
 use Rattle.std.proofs.Math.Seq.{take-length}
 use Rattle.orc_values.specs.Shapes.{Shape, scalar, list_of, map_of, struct_of, Fields, field, width}
 use Rattle.orc_values.specs.declared.kind.Scalar.{Scalar}
 use Rattle.orc_column_reader.specs.declared.column.ColumnReader.{ColumnReader}
 use Rattle.orc_column_reader.specs.Numbers.{NumbersLeft}
-use Rattle.orc_column_reader.specs.Spellings.{AllStand, Standing, Fielded, zip_cons}
+use Rattle.orc_column_reader.specs.Spellings.{Standing, Fielded, zip_cons}
 use Rattle.orc_column_reader.specs.Columns.{IsList, IsMap, IsRecord, MarksLeft, ScalarLeft, CellsLeft, OwnLeft, ValuesLeft, ListsLeft, MapsLeft, PairsLeft, FieldsLeft}
 use Rattle.orc_column_reader.proofs.Arms.{behind}
 
 -- ---- the ways of spelling
 
-end_of : {X Y : Type 0} (stands : X → Y → Type 0) (spelled : List X → Type 0) (xs : List X) → AllStand stands xs [] → spelled xs → spelled []
+end_of : {X Y : Type 0} (stands : X → Y → Type 0) (spelled : List X → Type 0) (xs : List X) → AllZip stands xs [] → spelled xs → spelled []
 end_of stands spelled [] h r = r
 end_of stands spelled (x ∷ xs) h r = absurd h
 

@@ -1,10 +1,11 @@
 -- A front of what is spelled, for each way of spelling.
 use Rattle.std.proofs.Common.{◌≡◌, ℕ, zero, suc, ◌+◌, ◌-◌, ◌<◌, ◌≤◌, ℤ, Bool, List, [], ◌∷◌, ◌++◌, map, length, refl, sym, ap, ◌∙◌, subst, arith, append_assoc, length-append}
+use Rattle.std.specs.List.{AllZip}
 use Rattle.std.proofs.lemmas.List.{length-map, map-append}
 use Rattle.orc_values.specs.Cells.{Cell, null, leaf, list, struct, pairs, is_value, values}
 use Rattle.orc_values.specs.Trues.{trues}
 use Rattle.orc_column_reader.specs.Fronts.{Leaves, Lacks}
-use Rattle.orc_column_reader.specs.Spellings.{Nullable, AllStand, Standing, size, joined, Sized, Within, Paired, zip_cons, Fielded}
+use Rattle.orc_column_reader.specs.Spellings.{Nullable, Standing, size, joined, Sized, Within, Paired, zip_cons, Fielded}
 
 -- nothing was taken
 pub nothing : {X : Type 0} (before : List X → Type 0) → Leaves before before []
@@ -60,13 +61,13 @@ cut (x ∷ all) (suc n) h =
 
 -- ---- values that stand for things
 
-pub stand_length : {X Y : Type 0} (stands : X → Y → Type 0) (xs : List X) (ys : List Y) → AllStand stands xs ys → length xs ≡ length ys
+pub stand_length : {X Y : Type 0} (stands : X → Y → Type 0) (xs : List X) (ys : List Y) → AllZip stands xs ys → length xs ≡ length ys
 stand_length stands [] [] h = refl
 stand_length stands [] (y ∷ ys) h = absurd h
 stand_length stands (x ∷ xs) [] h = absurd h
 stand_length stands (x ∷ xs) (y ∷ ys) h = omega (arith, stand_length stands xs ys h.1)
 
-pub stand_append : {X Y : Type 0} (stands : X → Y → Type 0) (a b : List X) (c d : List Y) → AllStand stands a c → AllStand stands b d → AllStand stands (a ++ b) (c ++ d)
+pub stand_append : {X Y : Type 0} (stands : X → Y → Type 0) (a b : List X) (c d : List Y) → AllZip stands a c → AllZip stands b d → AllZip stands (a ++ b) (c ++ d)
 stand_append stands [] b [] d h k = k
 stand_append stands [] b (y ∷ c) d h k = absurd h
 stand_append stands (x ∷ a) b [] d h k = absurd h
@@ -77,17 +78,17 @@ pub record StandApart {X Y : Type 0} (stands : X → Y → Type 0) (a b : List X
   pub front : List Y
   pub back : List Y
   pub parts : all ≡ front ++ back
-  pub first : AllStand stands a front
-  pub second : AllStand stands b back
+  pub first : AllZip stands a front
+  pub second : AllZip stands b back
 
-pub stand_apart : {X Y : Type 0} (stands : X → Y → Type 0) (a b : List X) (all : List Y) → AllStand stands (a ++ b) all → StandApart stands a b all
+pub stand_apart : {X Y : Type 0} (stands : X → Y → Type 0) (a b : List X) (all : List Y) → AllZip stands (a ++ b) all → StandApart stands a b all
 stand_apart stands [] b all h = record { front = []; back = all; parts = refl; first = tt; second = h }
 stand_apart stands (x ∷ a) b [] h = absurd h
 stand_apart stands (x ∷ a) b (y ∷ all) h =
     let k = stand_apart stands a b all h.1 in
     record { front = y ∷ k.front; back = k.back; parts = ap (λ t. y ∷ t) k.parts; first = (h.0, k.first); second = k.second }
 
-pub one_standing : {X Y : Type 0} (stands : X → Y → Type 0) → ((x : X) (y z : Y) → stands x y → stands x z → y ≡ z) → (xs : List X) (ys zs : List Y) → AllStand stands xs ys → AllStand stands xs zs → ys ≡ zs
+pub one_standing : {X Y : Type 0} (stands : X → Y → Type 0) → ((x : X) (y z : Y) → stands x y → stands x z → y ≡ z) → (xs : List X) (ys zs : List Y) → AllZip stands xs ys → AllZip stands xs zs → ys ≡ zs
 one_standing stands one [] [] [] h k = refl
 one_standing stands one [] [] (z ∷ zs) h k = absurd k
 one_standing stands one [] (y ∷ ys) zs h k = absurd h
@@ -96,12 +97,12 @@ one_standing stands one (x ∷ xs) (y ∷ ys) [] h k = absurd k
 one_standing stands one (x ∷ xs) (y ∷ ys) (z ∷ zs) h k = ap (λ t. t ∷ ys) (one x y z h.0 k.0) ∙ ap (λ t. z ∷ t) (one_standing stands one xs ys zs h.1 k.1)
 
 pub standing_leaves : {X Y : Type 0} (stands : X → Y → Type 0) → ((x : X) (y z : Y) → stands x y → stands x z → y ≡ z) → (before after : List X → Type 0) (xs : List X) (ys : List Y)
-    → AllStand stands xs ys → Leaves before after xs → Leaves (Standing stands before) (Standing stands after) ys
+    → AllZip stands xs ys → Leaves before after xs → Leaves (Standing stands before) (Standing stands after) ys
 standing_leaves stands one before after xs ys h p = record {
   found = λ rest r. (xs ++ r.0, stand_append stands xs r.0 ys rest h r.1, p.found r.0 r.2);
   only = λ all r le.
       let i = p.only r.0 r.2 (omega (arith, le, stand_length stands xs ys h, stand_length stands r.0 all r.1)) in
-      let k = stand_apart stands xs i.0 all (subst (λ t. AllStand stands t all) i.1 r.1) in
+      let k = stand_apart stands xs i.0 all (subst (λ t. AllZip stands t all) i.1 r.1) in
       (k.back, k.parts ∙ ap (λ t. t ++ k.back) (one_standing stands one xs k.front ys k.first h), (i.0, k.second, i.2));
 }
 
@@ -109,10 +110,10 @@ pub standing_lacks : {X Y : Type 0} (stands : X → Y → Type 0) (before : List
 standing_lacks stands before n p = λ all r le. p r.0 r.2 (omega (arith, le, stand_length stands r.0 all r.1))
 
 -- nothing stands for those in front
-pub none_stands : {X Y : Type 0} (stands : X → Y → Type 0) (before after : List X → Type 0) (xs : List X) → Leaves before after xs → ((ys : List Y) → AllStand stands xs ys → ⊥) → Lacks (Standing stands before) (length xs)
+pub none_stands : {X Y : Type 0} (stands : X → Y → Type 0) (before after : List X → Type 0) (xs : List X) → Leaves before after xs → ((ys : List Y) → AllZip stands xs ys → ⊥) → Lacks (Standing stands before) (length xs)
 none_stands stands before after xs p none = λ all r le.
     let i = p.only r.0 r.2 (omega (arith, le, stand_length stands r.0 all r.1)) in
-    let k = stand_apart stands xs i.0 all (subst (λ t. AllStand stands t all) i.1 r.1) in
+    let k = stand_apart stands xs i.0 all (subst (λ t. AllZip stands t all) i.1 r.1) in
     none k.front k.first
 
 -- ---- groups

@@ -1,6 +1,6 @@
 -- Streams spell at most one list of so many cells.
 use Rattle.std.proofs.Common.{◌≡◌, ℕ, suc, ◌+◌, ℤ, Bool, true, false, List, [], ◌∷◌, map, length, refl, sym, ap, ◌∙◌, subst, arith, append-nil}
-use Rattle.std.specs.List.{AllByRecursion}
+use Rattle.std.specs.List.{AllByRecursion, AllZip}
 use Rattle.std.proofs.lemmas.List.{length-map}
 use Rattle.orc_values.specs.Cells.{Cell, is_value, values}
 use Rattle.orc_values.specs.Shapes.{Shape, scalar, list_of, map_of, struct_of, Fields, no_field, field, width}
@@ -11,7 +11,7 @@ use Rattle.orc_rle.specs.declared.sign.Sign.{Sign}
 use Rattle.orc_rle.specs.declared.sign.Sign.TheVariants.{Signed, Unsigned}
 use Rattle.orc_rle.proofs.StreamLemmas.{one_stream}
 use Rattle.orc_rle.specs.declared.sign.Rle.{Rle}
-use Rattle.orc_column_reader.specs.Spellings.{Nullable, AllStand, Standing, size, joined, Sized, Within, Paired, zip_cons, Fielded}
+use Rattle.orc_column_reader.specs.Spellings.{Nullable, Standing, size, joined, Sized, Within, Paired, zip_cons, Fielded}
 use Rattle.orc_column_reader.specs.Numbers.{is_run, AreNumbers}
 use Rattle.orc_column_reader.specs.Bytes.{AreBytes}
 use Rattle.orc_rle.specs.ByteRun.{IsByteRun}
@@ -42,7 +42,7 @@ one_nullable marks found m f a b p q l =
 one_standings : {X : Type 0} (stands : X → Cell → Type 0) (spelled : List X → Type 0) → ((x : X) (y z : Cell) → stands x y → stands x z → y ≡ z) → One spelled → One (Standing stands spelled)
 one_standings stands spelled f one a b p q l =
     let e = one p.0 q.0 p.2 q.2 (stand_length stands p.0 a p.1 ∙ l ∙ sym (stand_length stands q.0 b q.1)) in
-    one_standing stands f q.0 a b (subst (λ t. AllStand stands t a) e p.1) q.1
+    one_standing stands f q.0 a b (subst (λ t. AllZip stands t a) e p.1) q.1
 
 one_grouped : {X : Type 0} (sizes : List ℤ → Type 0) (elements : List X → Type 0) → One sizes → One elements → One (Sized sizes elements)
 one_grouped sizes elements s f a b p q l =

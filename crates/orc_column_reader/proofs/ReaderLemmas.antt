@@ -1,9 +1,9 @@
 -- What the reader has still to give, by kinds.
 use Rattle.std.proofs.Common.{◌≡◌, ℕ, ◌≤◌, ℤ, pos, negsuc, Bool, true, false, List, [], ◌∷◌, map, length, refl, sym, ap, ◌∙◌, subst, arith, append-nil, length-append}
-use Rattle.std.specs.List.{AllByRecursion}
+use Rattle.std.specs.List.{AllByRecursion, AllZip}
 use Rattle.orc_values.specs.Cells.{Cell, null, leaf, text, is_value, values}
 use Rattle.orc_column_reader.specs.Fronts.{Leaves, Lacks}
-use Rattle.orc_column_reader.specs.Spellings.{Nullable, AllStand, Standing, size, joined, Sized}
+use Rattle.orc_column_reader.specs.Spellings.{Nullable, Standing, size, joined, Sized}
 use Rattle.orc_column_reader.specs.Columns.{IsBool, IsByte, IsInt, IsDate, IsText, IsBinary, IsEntry, IsList, IsMap, IsRecord}
 use Rattle.orc_column_reader.proofs.Fronts.{standing_leaves, none_stands, grouped_leaves, nullable_leaves, nullable_lacks_values, nothing}
 
@@ -15,7 +15,7 @@ one_stands stands one before after x y h p = standing_leaves stands one before a
 pub nothing_stands : {X : Type 0} (stands : X → Cell → Type 0) (before after : List X → Type 0) (x : X) → Leaves before after (x ∷ []) → ((y : Cell) → stands x y → ⊥) → Lacks (Standing stands before) 1
 nothing_stands {X = X} stands before after x p none = none_stands stands before after (x ∷ []) p (no_value none)
   where
-    no_value : ((y : Cell) → stands x y → ⊥) → (ys : List Cell) → AllStand stands (x ∷ []) ys → ⊥
+    no_value : ((y : Cell) → stands x y → ⊥) → (ys : List Cell) → AllZip stands (x ∷ []) ys → ⊥
     no_value none [] h = absurd h
     no_value none (y ∷ ys) h = none y h.0
 

@@ -57,7 +57,7 @@ IsText bs c = (is_utf8 bs ≡ true) × (c ≡ leaf (text bs))
 abbrev pub IsBinary : List ℕ → Cell → Type 0
 IsBinary bs c = (are_bytes bs ≡ true) × (c ≡ leaf (bytes bs))
 
--- the index of an entry
+-- the cell of a column of texts in a dictionary: the text that is the entry of this index
 abbrev pub IsEntry : List (List ℕ) → ℤ → Cell → Type 0
 IsEntry entries (pos i) c = (entry : List ℕ) × (slice_get entries i ≡ Some entry) × IsText entry c
 IsEntry entries (negsuc i) c = ⊥

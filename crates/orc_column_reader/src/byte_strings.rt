@@ -19,7 +19,7 @@ use crate::octets::{Octets, octets_end};
 use crate::whole_numbers::next_number;
 use orc_values::Own;
 
-/// The next group of bytes, its size from LENGTH.
+/// The next byte string, its size from LENGTH.
 #[inline(always)]
 pub fn next_string<'a>(
     column: usize,
@@ -31,15 +31,15 @@ pub fn next_string<'a>(
     // then.
     ensures found { IfOk result (λ bytes. Leaves (Sized (NumbersLeft numbers.old) (OctetsLeft octets.old))
         (Sized (NumbersLeft numbers.new) (OctetsLeft octets.new)) (bytes.now ∷ [])) }
-    // Where it is refused, the streams spell no group more.
+    // Where it is refused, the streams spell no byte string more.
     ensures none { OnErr result (Lacks (Sized (NumbersLeft numbers.old) (OctetsLeft octets.old)) 1) }
-    // The length of the group is LENGTH's next number, and its bytes are the next ones, also where
+    // Its length is LENGTH's next number, and its bytes are the next ones, also where
     // LENGTH breaks behind it.
     ensures first { IfOk result
         (λ bytes. Precedes (NumbersFirst numbers.old) (NumbersFirst numbers.new) (pos (length bytes.now) ∷ [])) }
     ensures bytes { IfOk result (λ bytes. octets.old.rest.now ≡ bytes.now ++ octets.new.rest.now) }
     // The fault of a refusal, if not want of memory, is one that the reader meets, now or after the
-    // groups before: of LENGTH's runs, or LengthSum.
+    // byte strings before: of LENGTH's runs, or LengthSum.
     ensures before { OnOk result ((all : Bool) (n : ℕ) (f : Fault)
         → StringsMeet kind numbers.new octets.new all n column f
         → StringsMeet kind numbers.old octets.old all (suc n) column f) }
@@ -60,7 +60,7 @@ pub fn next_string<'a>(
     }
 }
 
-/// Whether no group of bytes is left.
+/// Whether no byte string is left.
 pub fn strings_end(numbers: &Numbers<'_>, octets: &Octets<'_>) -> bool
     // True is answered exactly where neither lengths nor bytes are left.
     ensures { MatchBool result (Sized (NumbersLeft numbers.now) (OctetsLeft octets.now) [])
@@ -83,8 +83,8 @@ pub fn strings_left(
     octets: &Octets<'_>,
 ) -> StripeFault
     requires more { Sized (NumbersLeft numbers.now) (OctetsLeft octets.now) [] → ⊥ }
-    // Where something is left over, the fault is one that a reader meets that is to give no group
-    // more.
+    // Where something is left over, the fault is one that a reader meets that is to give no byte
+    // string more.
     ensures { StringsMeet kind numbers.now octets.now true 0 column result }
 {
     if numbers_end(numbers) {

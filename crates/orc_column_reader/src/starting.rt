@@ -88,7 +88,7 @@ fn data_source<'a>(column: usize, streams: &ColumnStreams<'a>) -> ValueSource<'a
 }
 
 /// The source of a column whose values have sizes in LENGTH.
-fn string_source<'a>(column: usize, streams: &ColumnStreams<'a>) -> ValueSource<'a>
+fn sized_source<'a>(column: usize, streams: &ColumnStreams<'a>) -> ValueSource<'a>
     ensures byte_strings { (x : Streams) → AreStreams x streams.now → StringsStart x result }
     ensures no_entries { result.entries ≡ None }
     ensures room { result.room ≡ most_cells }
@@ -106,7 +106,7 @@ fn string_source<'a>(column: usize, streams: &ColumnStreams<'a>) -> ValueSource<
 }
 
 /// The source of a column with a dictionary.
-fn word_source<'a>(
+fn dictionary_source<'a>(
     alloc: Global,
     column: usize,
     streams: &ColumnStreams<'a>,
@@ -160,12 +160,12 @@ fn text_source<'a>(
         → EntriesFail streams.now.has_dictionary x column cause) }
 {
     if streams.has_dictionary {
-        match word_source(alloc, column, streams) {
+        match dictionary_source(alloc, column, streams) {
             Ok(source) => Ok(source),
             Err(fault) => Err(fault),
         }
     } else {
-        Ok(string_source(column, streams))
+        Ok(sized_source(column, streams))
     }
 }
 
@@ -190,7 +190,7 @@ fn scalar_source<'a>(
             Ok(source) => Ok(source),
             Err(fault) => Err(fault),
         },
-        Scalar::Binary => Ok(string_source(column, streams)),
+        Scalar::Binary => Ok(sized_source(column, streams)),
         Scalar::Boolean => Ok(data_source(column, streams)),
         Scalar::Byte => Ok(data_source(column, streams)),
         Scalar::Short => Ok(data_source(column, streams)),
@@ -223,7 +223,7 @@ fn source_of<'a>(
             Ok(source) => Ok(source),
             Err(fault) => Err(fault),
         },
-        Tree::List(_, _) | Tree::Map(_, _, _) => Ok(string_source(column, streams)),
+        Tree::List(_, _) | Tree::Map(_, _, _) => Ok(sized_source(column, streams)),
         Tree::Struct(_, _) => Ok(data_source(column, streams)),
     }
 }

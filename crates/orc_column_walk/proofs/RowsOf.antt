@@ -1,13 +1,13 @@
 -- Where each column's own streams spell cells, as many as the column above has room for, there are rows that all
 -- columns spell.
 use Rattle.std.proofs.Common.{◌≡◌, ℕ, zero, suc, ◌+◌, pos, Bool, true, List, [], ◌∷◌, ◌++◌, map, length, replicate, take, drop, sum, refl, sym, ap, ◌∙◌, subst, arith, length-append, length-drop}
-use Rattle.std.specs.List.{AllByRecursion, flat_map}
+use Rattle.std.specs.List.{AllByRecursion, flat_map, AllZip}
 use Rattle.std.proofs.lemmas.List.{length-map, length-replicate, length-take, nil_from_length, take-append-drop}
 use Rattle.orc_rle.specs.declared.sign.Sign.TheVariants.{Unsigned}
 use Rattle.orc_values.specs.Cells.{Cell, list, struct, pairs, cells_of, pairs_of, is_value, parts, pairs_in, values}
 use Rattle.orc_values.specs.Shapes.{Shape, scalar, list_of, map_of, struct_of, Fields, no_field, field, width}
 use Rattle.orc_column_reader.specs.Numbers.{AreNumbers}
-use Rattle.orc_column_reader.specs.Spellings.{Nullable, AllStand, size, joined, zip_cons}
+use Rattle.orc_column_reader.specs.Spellings.{Nullable, size, joined, zip_cons}
 use Rattle.orc_column_reader.specs.Stripe.{Streams, version, Marks, SpellsTree, SpellsFields, SpellsCells}
 use Rattle.orc_column_reader.proofs.FirstLemmas.{sum_more}
 use Rattle.orc_column_reader.proofs.Fronts.{length-values, length-zip}
@@ -78,7 +78,7 @@ map_with ps = pairs (pairs_of ps)
 abbrev struct_with : List Cell → Cell
 struct_with cs = struct (cells_of cs)
 
-all_stand : {X : Type 0} (make : X → Cell) (xs : List X) → AllStand (λ x c. c ≡ make x) xs (map make xs)
+all_stand : {X : Type 0} (make : X → Cell) (xs : List X) → AllZip (λ x c. c ≡ make x) xs (map make xs)
 all_stand make [] = tt
 all_stand make (x ∷ xs) = (refl, all_stand make xs)
 

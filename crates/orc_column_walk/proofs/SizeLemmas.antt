@@ -1,6 +1,6 @@
 -- Sizes of lists, or of maps, one after the other.
 use Rattle.std.proofs.Common.{◌≡◌, ℕ, zero, suc, ◌+◌, ◌-◌, ◌≤◌, pos, Bool, true, None, List, [], ◌∷◌, ◌++◌, map, length, replicate, sum, refl, sym, ap, subst, arith, length-append}
-use Rattle.std.specs.List.{AllByRecursion}
+use Rattle.std.specs.List.{AllByRecursion, AllZip}
 use Rattle.std.proofs.lemmas.List.{length-map, length-replicate}
 use Rattle.orc_values.specs.Cells.{Cell, struct, cells_of, is_value, values}
 use Rattle.orc_values.specs.Shapes.{struct_of, no_field}
@@ -8,7 +8,7 @@ use Rattle.orc_column_reader.specs.Columns.{CellsLeft, ListsLeft, IsRecord}
 use Rattle.orc_column_reader.specs.Fronts.{Leaves, Lacks}
 use Rattle.orc_column_reader.specs.Numbers.{NumbersLeft}
 use Rattle.orc_column_reader.specs.ReaderFaults.{ListsMeet}
-use Rattle.orc_column_reader.specs.Spellings.{AllStand, size, joined}
+use Rattle.orc_column_reader.specs.Spellings.{size, joined}
 use Rattle.orc_column_reader.specs.declared.column.ColumnReader.{ColumnReader}
 use Rattle.orc_column_reader.specs.declared.column.ValueSource.{ValueSource}
 use Rattle.orc_column_reader.specs.declared.fault.StripeFault.{StripeFault}
@@ -71,7 +71,7 @@ unfolding ArePlain
 plain_marks [] h = refl
 plain_marks (c ∷ cells) h = let e = ap is_value h.0 in let r = plain_marks cells h.1 in λ i. e i ∷ r i
 
-plain_values : (cells : List Cell) → ArePlain cells → AllStand IsRecord (replicate (length (values cells)) []) (values cells)
+plain_values : (cells : List Cell) → ArePlain cells → AllZip IsRecord (replicate (length (values cells)) []) (values cells)
 unfolding ArePlain
 plain_values [] h = tt
 plain_values (c ∷ cells) h = let e = ap is_value h.0 in rw e (h.0, plain_values cells h.1)

@@ -1,6 +1,6 @@
 -- A reader at the start of a column's streams: what it gives of the column by itself, and what refuses it.
 use Rattle.std.proofs.Common.{◌≡◌, ℕ, ◌<◌, ◌≤◌, pos, negsuc, sum, Bool, true, false, List, [], ◌∷◌, map, length, replicate, zero, suc, refl, sym, ap, ◌∙◌, subst, inl, inr, arith}
-use Rattle.std.specs.List.{flat_map}
+use Rattle.std.specs.List.{flat_map, AllZip}
 use Rattle.std.proofs.lemmas.List.{length-map}
 use Rattle.orc_rle.specs.declared.sign.Sign.TheVariants.{Unsigned}
 use Rattle.orc_values.specs.Cells.{Cell, is_value, parts, pairs_in, values}
@@ -12,7 +12,7 @@ use Rattle.orc_column_reader.specs.Faults.{RunsFail, DictionaryFails}
 use Rattle.orc_column_reader.specs.ReaderFaults.{ValuesMeet}
 use Rattle.orc_column_reader.specs.RunFaults.{Always}
 use Rattle.orc_column_reader.specs.RunsMet.{MarksMeet}
-use Rattle.orc_column_reader.specs.Spellings.{AllStand}
+
 use Rattle.orc_column_reader.specs.Starting.{NumbersStart, SourceStart, OwnStart, LacksEntries, HasNoDictionary}
 use Rattle.orc_column_reader.specs.Stripe.{Streams, version, has_dictionary, Marks, SpellsScalar, SpellsTexts, most_cells, cell_limit}
 use Rattle.orc_column_reader.specs.declared.column.ColumnReader.{ColumnReader}
@@ -34,7 +34,7 @@ use Rattle.orc_column_walk.proofs.Spread.{AreValues, spread, spread_is}
 
 -- ---- what is spelled beside the marks are values
 
-stand_values : {X : Type 0} (stands : X → Cell → Type 0) → ((x : X) (v : Cell) → stands x v → is_value v ≡ true) → (xs : List X) (vs : List Cell) → AllStand stands xs vs → AreValues vs
+stand_values : {X : Type 0} (stands : X → Cell → Type 0) → ((x : X) (v : Cell) → stands x v → is_value v ≡ true) → (xs : List X) (vs : List Cell) → AllZip stands xs vs → AreValues vs
 stand_values stands one [] [] h = tt
 stand_values stands one [] (v ∷ vs) h = absurd h
 stand_values stands one (x ∷ xs) [] h = absurd h

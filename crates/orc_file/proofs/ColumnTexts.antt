@@ -1,7 +1,7 @@
 -- The texts of a stripe's columns have no more bytes than the stripe, since its streams hold them.
 use Rattle.std.proofs.Common.{◌≡◌, ℕ, zero, suc, ◌<◌, ◌≤◌, ℤ, pos, negsuc, Bool, true, false, if◌then◌else◌, List, [], ◌∷◌, ◌++◌, length, take, drop, Option, Some, None, refl, sym, subst, arith, length-append, length-drop}
 use Rattle.std.specs.Prelude.{slice_get}
-use Rattle.std.specs.List.{AllByRecursion, filter_map, cons_option}
+use Rattle.std.specs.List.{AllByRecursion, filter_map, cons_option, AllZip}
 use Rattle.std.specs.Option.{IfSome}
 use Rattle.orc_wire.specs.Canonical.{all_both}
 use Rattle.orc_wire.specs.declared.stripe_footer.StreamMsg.{StreamMsg}
@@ -18,7 +18,7 @@ use Rattle.orc_stats.specs.Kinds.{kind_of}
 use Rattle.orc_stats.specs.Statistics.{text_cmp, text_of, values_body}
 use Rattle.std.specs.Ordering.{flip_args}
 use Rattle.orc_stats.specs.Whole.{without_sum}
-use Rattle.orc_column_reader.specs.Spellings.{AllStand, joined}
+use Rattle.orc_column_reader.specs.Spellings.{joined}
 use Rattle.orc_column_reader.specs.Columns.{IsText, IsEntry}
 use Rattle.orc_column_reader.specs.Directory.{slice, is_of}
 use Rattle.orc_column_reader.specs.Stripe.{Streams, SpellsTexts, IsColumn, IsStripe, has_dictionary, columns_of}
@@ -42,7 +42,7 @@ groups_short most (g ∷ gs) h = let e = length-append g (joined gs) in (omega (
 text_short : (most : ℕ) (g : List ℕ) (c : Cell) → length g ≤ most → IsText g c → IsShort most c
 text_short most g c few is = subst (IsShort most) (sym is.1) few
 
-texts_short : (most : ℕ) (gs : List (List ℕ)) (vs : List Cell) → AllByRecursion (λ g. length g ≤ most) gs → AllStand IsText gs vs → AllByRecursion (IsShort most) vs
+texts_short : (most : ℕ) (gs : List (List ℕ)) (vs : List Cell) → AllByRecursion (λ g. length g ≤ most) gs → AllZip IsText gs vs → AllByRecursion (IsShort most) vs
 texts_short most [] [] h a = tt
 texts_short most [] (v ∷ vs) h a = absurd a
 texts_short most (g ∷ gs) [] h a = absurd a
@@ -58,7 +58,7 @@ word_short : (most : ℕ) (entries : List (List ℕ)) (n : ℤ) (c : Cell) → A
 word_short most entries (pos i) c h is = text_short most is.0 c (got (λ (g : List ℕ). length g ≤ most) entries i is.0 is.1 h) is.2
 word_short most entries (negsuc i) c h is = absurd is
 
-words_short : (most : ℕ) (entries : List (List ℕ)) (ns : List ℤ) (vs : List Cell) → AllByRecursion (λ g. length g ≤ most) entries → AllStand (IsEntry entries) ns vs
+words_short : (most : ℕ) (entries : List (List ℕ)) (ns : List ℤ) (vs : List Cell) → AllByRecursion (λ g. length g ≤ most) entries → AllZip (IsEntry entries) ns vs
     → AllByRecursion (IsShort most) vs
 words_short most entries [] [] h a = tt
 words_short most entries [] (v ∷ vs) h a = absurd a

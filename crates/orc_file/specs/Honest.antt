@@ -1,7 +1,7 @@
 -- Statistics that are those of the rows (ORC specification, "Column Statistics"; what is asked of them is this
 -- project's).
-use Rattle.std.specs.Prelude.{◌≡◌, ℕ, ◌<◌, Bool, Option, Some, List, [], ◌∷◌, length, map, slice_get}
-use Rattle.std.specs.List.{list_all}
+use Rattle.std.specs.Prelude.{◌≡◌, ℕ, ◌<◌, Bool, Option, Some, List, length, map, slice_get}
+use Rattle.std.specs.List.{list_all, AllZip}
 use Rattle.orc_values.specs.Cells.{Cell}
 use Rattle.orc_values.specs.Shapes.{Shape, width}
 use Rattle.orc_values.specs.Columns.{cells}
@@ -21,10 +21,7 @@ pub record AgreeStats (s : Shape) (rows : List Cell) (n : ℕ) (stats : List Sta
 
 -- for each stripe's rows one statistic of each type, which agrees with that of its cells there
 abbrev pub AreHonest : Shape → List (List Cell) → List (List Stat) → Type 0
-AreHonest s [] [] = Unit {0}
-AreHonest s [] (stats ∷ more) = ⊥
-AreHonest s (rows ∷ parts) [] = ⊥
-AreHonest s (rows ∷ parts) (stats ∷ more) = AgreeStats s rows (width s) stats × AreHonest s parts more
+AreHonest s = AllZip (λ (rows : List Cell) (stats : List Stat). AgreeStats s rows (width s) stats)
 
 -- A tail's statistics of stripes are those of the rows: nothing is missing, and nothing is not known that the
 -- rows have, but for parts of children.

@@ -31,7 +31,7 @@ use Rattle.orc_column_reader.proofs.FirstLemmas.{nothing_first}
 use Rattle.orc_column_reader.proofs.NumbersLemmas.{laws_of}
 use Rattle.orc_row_index.specs.Positions.{octets, octets_position, position_size}
 use Rattle.orc_row_index.specs.RunStreams.{RunStream, no_stream, bit_runs, byte_runs, number_runs, present_runs, text_runs, value_runs, value_bytes, text_octets}
-use Rattle.orc_group_reader.specs.Behind.{LeadsTo, LeadsToBit, LeadsIn, GroupsBegin, TextsBegin, SizesBegin, IsBehind}
+use Rattle.orc_group_reader.specs.Behind.{LeadsTo, LeadsToBit, LeadsIn, StringsBegin, TextsBegin, SizesBegin, IsBehind}
 use Rattle.orc_group_reader.specs.Columns.{CutsOctets, IsCut, IsSource, HasEntries, EntriesOf}
 use Rattle.orc_group_reader.specs.ReadersAt.{StreamAt, MarksAt, ColumnAt, ReadersAt}
 use Rattle.orc_group_reader.specs.Refusals as refusals
@@ -91,7 +91,7 @@ passed_is v s b k r all h long begins =
 
 -- ---- values
 
-groups_behind : (x : Streams) (vs : List Cell) (n : ℕ) (rest : List ℕ) (source : ValueSource) → NumbersBehind (version x) Unsigned (x.stream 2) (length vs) source.numbers × (source.octets.rest.now ≡ rest) → rest ≡ drop n (x.stream 1) → GroupsBegin x vs n
+groups_behind : (x : Streams) (vs : List Cell) (n : ℕ) (rest : List ℕ) (source : ValueSource) → NumbersBehind (version x) Unsigned (x.stream 2) (length vs) source.numbers × (source.octets.rest.now ≡ rest) → rest ≡ drop n (x.stream 1) → StringsBegin x vs n
     → GroupsBehind x (length vs) source
 groups_behind x vs n rest source h cut g =
     let behind : drop n (x.stream 1) ≡ g.1 = ap (λ (i : ℕ). drop i (x.stream 1)) (sym g.3) ∙ ap (drop (length (joined g.0))) g.5 ∙ drop-append_seam (joined g.0) g.1 in

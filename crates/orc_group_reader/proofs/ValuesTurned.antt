@@ -1,5 +1,6 @@
 -- The values of a column, kind by kind, from its positions on.
 use Rattle.std.proofs.Common.{◌≡◌, ℕ, zero, suc, ◌≤◌, ℤ, Bool, true, false, Option, Some, None, List, [], ◌∷◌, ◌++◌, length, map, take, drop, refl, sym, ap, ◌∙◌, subst, arith, append_assoc, length-append}
+use Rattle.std.specs.List.{AllZip}
 use Rattle.std.proofs.lemmas.List.{drop-map}
 use Rattle.std.proofs.lemmas.List.Sums.{sum_by-cons}
 use Rattle.std.specs.declared.vec.Vec.{Vec}
@@ -16,7 +17,7 @@ use Rattle.orc_column_reader.specs.Bits.{BitsLeft}
 use Rattle.orc_column_reader.specs.Bytes.{BytesLeft}
 use Rattle.orc_column_reader.specs.Columns.{IsBool, IsByte, IsInt, IsDate, IsText, IsBinary, IsEntry, entry_bytes, StringsLeft, TextsLeft, ScalarLeft}
 use Rattle.orc_column_reader.specs.Numbers.{NumbersLeft, AreNumbers}
-use Rattle.orc_column_reader.specs.Spellings.{AllStand, Standing, Sized, joined, size}
+use Rattle.orc_column_reader.specs.Spellings.{Standing, Sized, joined, size}
 use Rattle.orc_column_reader.specs.Stripe.{Streams, version, has_dictionary, Is, SpellsTexts, SpellsScalar, SpellsValues, most_cells}
 use Rattle.orc_column_reader.specs.declared.entry.Entry.{Entry}
 use Rattle.orc_column_reader.specs.declared.column.ValueSource.{ValueSource}
@@ -34,7 +35,7 @@ use Rattle.orc_group_reader.specs.declared.entered.Entered.TheVariants as entere
 
 -- ---- what stands for values behind others
 
-stand_drop : {X : Type 0} (stands : X → Cell → Type 0) (xs : List X) (b a : List Cell) → AllStand stands xs (b ++ a) → AllStand stands (drop (length b) xs) a
+stand_drop : {X : Type 0} (stands : X → Cell → Type 0) (xs : List X) (b a : List Cell) → AllZip stands xs (b ++ a) → AllZip stands (drop (length b) xs) a
 stand_drop stands xs [] a h = h
 stand_drop stands [] (v ∷ b) a h = absurd h
 stand_drop stands (x ∷ xs) (v ∷ b) a h = stand_drop stands xs b a h.1
@@ -43,7 +44,7 @@ pub drop_mapped : {X Y : Type 0} (f : X → Y) (b a : List X) → drop (length b
 drop_mapped f [] a = refl
 drop_mapped f (x ∷ b) a = drop_mapped f b a
 
-few : {X : Type 0} (stands : X → Cell → Type 0) (xs : List X) (b a : List Cell) → AllStand stands xs (b ++ a) → length b ≤ length xs
+few : {X : Type 0} (stands : X → Cell → Type 0) (xs : List X) (b a : List Cell) → AllZip stands xs (b ++ a) → length b ≤ length xs
 few stands xs b a h = omega (arith, stand_long stands xs (b ++ a) h, length-append b a)
 
 -- ---- booleans, bytes, numbers
@@ -80,7 +81,7 @@ numbers_turned stands x sign stream b a own source rest left is h =
 -- ---- texts and byte strings
 
 -- the groups of the cells in front have as many bytes as the cells
-groups_front : (stands : List ℕ → Cell → Type 0) → ((t : List ℕ) (c : Cell) → stands t c → octets_in c ≡ length t) → (groups : List (List ℕ)) (b a : List Cell) → AllStand stands groups (b ++ a)
+groups_front : (stands : List ℕ → Cell → Type 0) → ((t : List ℕ) (c : Cell) → stands t c → octets_in c ≡ length t) → (groups : List (List ℕ)) (b a : List Cell) → AllZip stands groups (b ++ a)
     → length (joined (take (length b) groups)) ≡ octets b
 groups_front stands long groups [] a h = refl
 groups_front stands long [] (c ∷ b) a h = absurd h

@@ -40,23 +40,23 @@ LeadsIn (bit_runs stream) n positions = BitsPosition (LeadsToBit stream) n posit
 LeadsIn (byte_runs stream) n positions = RunPosition (LeadsTo IsByteRun stream) n positions
 LeadsIn (number_runs version sign stream) n positions = RunPosition (LeadsTo (is_run version sign) stream) n positions
 
--- as many groups of bytes come first in LENGTH and DATA as there are values, and so many bytes in these
-abbrev pub GroupsBegin : Streams → List Cell → ℕ → Type 0
-GroupsBegin x vs count =
-    (groups : List (List ℕ)) × (rest : List ℕ)
-    × (length groups ≡ length vs)
-    × (length (joined groups) ≡ count)
-    × IntegersFirst (lengths_of x) (map size groups)
-    × (in_data x ≡ joined groups ++ rest)
+-- as many byte strings come first in LENGTH and DATA as there are values, and so many bytes in these
+abbrev pub StringsBegin : Streams → List Cell → ℕ → Type 0
+StringsBegin x vs count =
+    (strings : List (List ℕ)) × (rest : List ℕ)
+    × (length strings ≡ length vs)
+    × (length (joined strings) ≡ count)
+    × IntegersFirst (lengths_of x) (map size strings)
+    × (in_data x ≡ joined strings ++ rest)
 
 -- strings in a dictionary have no bytes of their own to begin in
 abbrev pub TextsBegin : Bool → Streams → List Cell → ℕ → Type 0
 TextsBegin true x vs count = Unit {0}
-TextsBegin false x vs count = GroupsBegin x vs count
+TextsBegin false x vs count = StringsBegin x vs count
 
 -- where the bytes behind so many values begin, for the kinds that have such
 abbrev pub ScalarsBegin : Scalar → Streams → List Cell → ℕ → Type 0
-ScalarsBegin kind.Binary x vs count = GroupsBegin x vs count
+ScalarsBegin kind.Binary x vs count = StringsBegin x vs count
 ScalarsBegin kind.String x vs count = TextsBegin (has_dictionary x) x vs count
 ScalarsBegin _ x vs count = Unit {0}
 

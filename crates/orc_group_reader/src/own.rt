@@ -17,7 +17,7 @@ use crate::faults::entering_fault;
 use crate::octets::octets_from;
 use crate::value_source::source_from;
 use orc_column_reader::{ColumnStreams, Spot, StreamKind, StripeFault, ValueSource};
-use orc_row_index::{own_kind, placed_streams};
+use orc_row_index::{values_kind, placed_streams};
 use orc_values::Tree;
 use std::alloc::Global;
 
@@ -52,7 +52,7 @@ pub(crate) fn own_from<'a>(
     let own = match enter(&placed.own, cut.positions) {
         Ok(own) => own,
         Err(fault) => {
-            let kind = own_kind(tree, streams.has_dictionary);
+            let kind = values_kind(tree, streams.has_dictionary);
             return Err(entering_fault(column, kind, fault));
         }
     };

@@ -2,6 +2,7 @@
 use Rattle.std.specs.Prelude.{ℕ, ◌+◌, Option, Some, None}
 use Rattle.std.specs.declared.snapshot.Snapshot.{Snapshot}
 
+-- how many failures there are
 abbrev pub count : Option (Snapshot ℕ) → ℕ
 count None = 0
 count (Some before) = before.value + 1

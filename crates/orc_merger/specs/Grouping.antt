@@ -1,6 +1,6 @@
 -- Groupings: ordered trees with inputs at the leaves, and at each inner node a merge of its children in order (own).
 use Rattle.std.specs.Prelude.{◌≡◌, ◌⊎◌, ℕ, ◌^◌, ◌<◌, List, [], ◌∷◌, ◌++◌, length}
-use Rattle.std.specs.List.{AllByRecursion}
+use Rattle.std.specs.List.{AllByRecursion, AllZip}
 use Rattle.orc_values.specs.Cells.{Cell}
 use Rattle.orc_file.specs.FileRows.{FileIs}
 use Rattle.orc_file.specs.Honest.{Honest}
@@ -10,12 +10,13 @@ use Rattle.orc_merger.specs.declared.fault.MergeFault.TheVariants.{UserMetadataC
 use Rattle.orc_merger.specs.Merging.{IsLike, AreOpened, IsMerge}
 use Rattle.orc_merger.specs.Faults.{IsRefused}
 
--- an input, or a merge of groups, of which there is one at least
 mutual
+  -- an input, or a merge of groups
   pub data Group : Type 0 where
     input : List ℕ → Group
     merge : Groups → Group
 
+  -- groups, of which there is one at least
   pub data Groups : Type 0 where
     one : Group → Groups
     and : Group → Groups → Groups
@@ -78,18 +79,12 @@ abbrev mutual
 
 -- each input is a file of these rows
 abbrev pub HaveRows : List (List ℕ) → List (List Cell) → Type 0
-HaveRows [] [] = Unit {0}
-HaveRows [] (rows ∷ parts) = ⊥
-HaveRows (b ∷ bs) [] = ⊥
-HaveRows (b ∷ bs) (rows ∷ parts) = ((tail : Tail) × FileIs b tail rows) × HaveRows bs parts
+HaveRows = AllZip (λ (bytes : List ℕ) (rows : List Cell). (tail : Tail) × FileIs bytes tail rows)
 
 -- and its statistics of stripes are those of the rows
 abbrev pub AreHonestFiles : List (List ℕ) → List (List Cell) → Type 0
-AreHonestFiles [] [] = Unit {0}
-AreHonestFiles [] (rows ∷ parts) = ⊥
-AreHonestFiles (b ∷ bs) [] = ⊥
-AreHonestFiles (b ∷ bs) (rows ∷ parts) =
-    ((tail : Tail) × FileIs b tail rows × Honest tail rows) × AreHonestFiles bs parts
+AreHonestFiles =
+    AllZip (λ (bytes : List ℕ) (rows : List Cell). (tail : Tail) × FileIs bytes tail rows × Honest tail rows)
 
 -- The inputs are files, and of one kind: user metadata and the limits alone can speak against merging them.
 pub record AreFellows (inputs : List (List ℕ)) : Type 0 where

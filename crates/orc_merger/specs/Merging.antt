@@ -1,7 +1,7 @@
 -- The merged tail, and the merged file (ORC specification, "File Tail"; what is joined, and how, is this
 -- project's): the stripes of all inputs as they are, and one tail that lists them.
 use Rattle.std.specs.Prelude.{◌≡◌, ℕ, ◌+◌, List, [], ◌∷◌, ◌++◌, length, map, sum_by, filter, Contains, Bool, not, ◌==◌}
-use Rattle.std.specs.List.{AllByRecursion, concat, flat_map}
+use Rattle.std.specs.List.{AllByRecursion, concat, flat_map, AllZip}
 use Rattle.std.specs.Cmp.Lexicographic.{pointwise}
 use Rattle.orc_wire.specs.declared.stripe_info.StripeInfo.{StripeInfo}
 use Rattle.orc_wire.specs.declared.footer.UserMetadataItem.{UserMetadataItem}
@@ -103,10 +103,7 @@ stripes_of bytes tail = map (λ (s : StripeInfo). stripe_bytes s bytes) tail.str
 
 -- each input is a file with this tail
 abbrev pub AreOpened : List (List ℕ) → List Tail → Type 0
-AreOpened [] [] = Unit {0}
-AreOpened [] (t ∷ ts) = ⊥
-AreOpened (b ∷ bs) [] = ⊥
-AreOpened (b ∷ bs) (t ∷ ts) = IsTail b t × AreOpened bs ts
+AreOpened = AllZip IsTail
 
 -- the stripes of all inputs
 abbrev pub bodies : List (List ℕ) → List Tail → List (List ℕ)

@@ -1,4 +1,4 @@
--- RunStarts: where a walk over a stream's runs stands (ORC specification, "Row Group Index").
+-- Where the runs of a stream begin, and how many values come before each (ORC specification, "Row Group Index").
 use Rattle.std.specs.Prelude.{◌≡◌, ℕ, ◌⊎◌, List, ◌++◌, length, drop}
 use Rattle.orc_positions.specs.declared.run_start.RunStart.{RunStart}
 use Rattle.orc_positions.specs.Position.{Begins}
@@ -16,8 +16,8 @@ IsExtent {A = A} is_run bytes offset len count =
     × (len ≡ length text)
     × (count ≡ length values))
 
--- A run begins there, or the stream ends; the run start says how many values come before it, and how many bytes and
--- values that run has.
+-- A run of the stream begins at the offset, or the stream ends there: so many values come before it, and it has so
+-- many bytes and values.
 pub record IsRunStart {A : Type 0} (is_run : List ℕ → List A → Type 0) (bytes : List ℕ)
     (run_start : RunStart) : Type 0 where
   pub begins : Begins is_run bytes run_start.offset 0 run_start.before

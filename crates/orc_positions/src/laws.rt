@@ -157,7 +157,7 @@ pub fn bit_seek_laws()
 {}
 
 /// What `C::seek` answers from a position of the writer's: one run is decoded, and none where no value is passed.
-pub fn seek_place<C: RunCodec>(
+pub fn seek_position<C: RunCodec>(
     bytes: &[u8],
     sign: Sign,
     pos: Pos,
@@ -186,7 +186,7 @@ pub fn seek_place<C: RunCodec>(
 }
 
 /// The same in a stream of bytes.
-pub fn byte_seek_place(bytes: &[u8], pos: Pos, run: &mut RunU8) -> Result<usize, RunFault>
+pub fn byte_seek_position(bytes: &[u8], pos: Pos, run: &mut RunU8) -> Result<usize, RunFault>
     requires { (n : ℕ) × IsWriterPosition IsByteRun bytes.now pos.offset pos.skip n }
     // From the writer's position of a byte, the answer is the offset behind the run that is
     // decoded, and what is left of that run is in `run`.
@@ -209,7 +209,7 @@ pub fn byte_seek_place(bytes: &[u8], pos: Pos, run: &mut RunU8) -> Result<usize,
 }
 
 /// The same in a stream of booleans.
-pub fn bit_seek_place(bytes: &[u8], pos: BitPos, run: &mut RunU8) -> Result<usize, RunFault>
+pub fn bit_seek_position(bytes: &[u8], pos: BitPos, run: &mut RunU8) -> Result<usize, RunFault>
     requires { (total : ℕ) × (n : ℕ)
         × HasBits bytes.now total × IsWriterBitPosition bytes.now total pos.offset pos.skip pos.bits n }
     // From the writer's position of a boolean, the answer is the offset behind the run that is

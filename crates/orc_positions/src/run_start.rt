@@ -71,7 +71,7 @@ impl RunStart {
     }
 
     /// The position of value `n`, from the start of its run.
-    pub fn place(self, n: usize) -> Pos
+    pub fn position(self, n: usize) -> Pos
         requires { self.before ≤ n }
         // Where `n` values at most come before the run, the position is at the run's offset and
         // passes the values from there up to `n`.
@@ -84,7 +84,7 @@ impl RunStart {
     }
 
     /// The position of boolean `n`, from the start of the run in which byte `n / 8` stands.
-    pub fn bit_place(self, n: usize) -> BitPos
+    pub fn bit_position(self, n: usize) -> BitPos
         requires { self.before ≤ n / 8 }
         // Where the byte of boolean `n` isn't before the run, the position is at the run's offset
         // and passes the bytes up to that one, and the booleans before `n` in it.

@@ -1,5 +1,6 @@
 -- The places of a column: there in streams that spell its cells, one list behind some cells, and right for a reader.
 use Rattle.std.proofs.Common.{◌≡◌, ℕ, suc, ◌+◌, ◌≤◌, min, Bool, true, false, List, [], ◌∷◌, ◌++◌, length, map, refl, sym, ap, ◌∙◌, arith, length-append, zero-add}
+use Rattle.std.specs.List.{AllZip}
 use Rattle.std.proofs.lemmas.List.{length-map}
 use Rattle.std.proofs.lemmas.List.Sums.{sum_by-append, sum_by-cons}
 use Rattle.orc_positions.proofs.BitPositionLemmas.{has_bytes}
@@ -9,7 +10,7 @@ use Rattle.orc_values.specs.declared.kind.Scalar.{Scalar}
 use Rattle.orc_values.specs.declared.kind.Scalar.TheVariants as kind
 use Rattle.orc_values.proofs.Together.{values-append}
 use Rattle.orc_column_reader.specs.Columns.{IsBool, IsByte, IsInt, IsDate, IsText, IsBinary}
-use Rattle.orc_column_reader.specs.Spellings.{AllStand, joined, size}
+use Rattle.orc_column_reader.specs.Spellings.{joined, size}
 use Rattle.orc_column_reader.specs.Stripe.{Streams, has_dictionary, Marks, SpellsTexts, SpellsScalar, SpellsValues, IsColumn}
 use Rattle.orc_row_index.specs.RunStreams.{present_runs, text_runs, scalar_runs, value_runs, text_octets, scalar_octets, value_bytes}
 use Rattle.orc_row_index.specs.Positions.{octets_in, octets, octets_position, AreReadPositions, AreWrittenPositions}
@@ -44,14 +45,14 @@ octets_of_values (list xs ∷ cs) = sum_by-cons octets_in (list xs) (values cs) 
 octets_of_values (struct xs ∷ cs) = sum_by-cons octets_in (struct xs) (values cs) ∙ ap (λ (n : ℕ). octets_in (struct xs) + n) (octets_of_values cs) ∙ sym (sum_by-cons octets_in (struct xs) cs)
 octets_of_values (pairs ps ∷ cs) = sum_by-cons octets_in (pairs ps) (values cs) ∙ ap (λ (n : ℕ). octets_in (pairs ps) + n) (octets_of_values cs) ∙ sym (sum_by-cons octets_in (pairs ps) cs)
 
-pub stand_long : {X : Type 0} (stands : X → Cell → Type 0) (xs : List X) (cs : List Cell) → AllStand stands xs cs → length xs ≡ length cs
+pub stand_long : {X : Type 0} (stands : X → Cell → Type 0) (xs : List X) (cs : List Cell) → AllZip stands xs cs → length xs ≡ length cs
 stand_long stands [] [] h = refl
 stand_long stands [] (c ∷ cs) h = absurd h
 stand_long stands (x ∷ xs) [] h = absurd h
 stand_long stands (x ∷ xs) (c ∷ cs) h = ap suc (stand_long stands xs cs h.1)
 
 -- the bytes that stand for cells are as many as the cells have
-stand_octets : (stands : List ℕ → Cell → Type 0) → ((t : List ℕ) (c : Cell) → stands t c → octets_in c ≡ length t) → (ts : List (List ℕ)) (cs : List Cell) → AllStand stands ts cs → length (joined ts) ≡ octets cs
+stand_octets : (stands : List ℕ → Cell → Type 0) → ((t : List ℕ) (c : Cell) → stands t c → octets_in c ≡ length t) → (ts : List (List ℕ)) (cs : List Cell) → AllZip stands ts cs → length (joined ts) ≡ octets cs
 stand_octets stands long [] [] h = refl
 stand_octets stands long [] (c ∷ cs) h = absurd h
 stand_octets stands long (t ∷ ts) [] h = absurd h

@@ -334,7 +334,7 @@ stands_more s streams part cells bounds placed group old mid new k m w v told b 
     record {
       entries = h.entries ++ text.entry ∷ [];
       are = λ x is. entries_more s x cells bounds group h.entries text.entry (h.are x is) (record {
-        places = written_in s x placed (take at cells) text.entry.positions (p x is) text.places;
+        positions = written_in s x placed (take at cells) text.entry.positions (p x is) text.positions;
         statistics = text.statistics ∙ ap (λ (t : Stat). Some (message_of t)) says;
       });
       added = one_added h.entries text.entry old mid new put.0 h.added text.bounded text.text_is put.2;

@@ -56,7 +56,7 @@ same_entries (x ∷ a) (y ∷ b) l h =
 
 pub one_entry : (s : Shape) (x : Streams) (before group : List Cell) (a b : RowIndexEntry) → IsWrittenEntry s x before group a → IsWrittenEntry s x before group b → a ≡ b
 one_entry s x before group a b h k =
-    let p = one_places s x before a.positions b.positions h.places k.places in
+    let p = one_places s x before a.positions b.positions h.positions k.positions in
     let q : a.statistics ≡ b.statistics = h.statistics ∙ sym k.statistics in
     λ i. record { positions = p i; statistics = q i }
 
@@ -73,6 +73,6 @@ index_right s x cells bounds text fit few h = record {
   message = record { entries = h.entries };
   spelled = h.spelled;
   counted = h.are.counted;
-  places = λ g e at. places_read s x (before_group cells bounds g) e.positions (h.are.each g e at).places;
+  positions = λ g e at. places_read s x (before_group cells bounds g) e.positions (h.are.each g e at).positions;
   statistics = λ g e at. (message_of (stat (kind_of s) (group_of cells bounds g)), (h.are.each g e at).statistics, reads_back (kind_of s) (stat (kind_of s) (group_of cells bounds g)) (group_stat s cells bounds g fit few));
 }

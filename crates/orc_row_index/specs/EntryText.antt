@@ -8,12 +8,12 @@ use Rattle.orc_stats.specs.declared.stat.Stat.{Stat}
 use Rattle.orc_row_index.specs.Positions.{ArePositions, writer}
 use Rattle.orc_row_index.specs.RunStreams.{RunStream}
 
--- The canonical text of an index with this one entry: the writer's places behind the cells before the group, and a
+-- The canonical text of an index with this one entry: the writer's positions behind the cells before the group, and a
 -- statistic. The text of an index of several entries is theirs, one behind the other.
 pub record IsEntryText (present : RunStream) (content : Option (List ℕ)) (own : RunStream) (before : List Cell)
     (stat : Stat) (text : List ℕ) : Type 0 where
   pub entry : RowIndexEntry
-  pub places : ArePositions writer present content own before entry.positions
+  pub positions : ArePositions writer present content own before entry.positions
   pub statistics : entry.statistics ≡ Some (message_of stat)
   pub bounded : row_index_text.bounded (record { entries = entry ∷ [] })
   pub text_is : text ≡ row_index_text.text (record { entries = entry ∷ [] })

@@ -15,9 +15,9 @@ use Rattle.orc_column_reader.specs.Stripe.{Streams}
 use Rattle.orc_row_index.specs.Bounds.{before_group, group_of}
 use Rattle.orc_row_index.specs.Positions.{AreReadPositions, AreWrittenPositions}
 
--- the entry of a group: the places behind the cells before it, and the statistic of its own
+-- the entry of a group: the positions behind the cells before it, and the statistic of its own
 pub record IsWrittenEntry (s : Shape) (x : Streams) (before group : List Cell) (entry : RowIndexEntry) : Type 0 where
-  pub places : AreWrittenPositions s x before entry.positions
+  pub positions : AreWrittenPositions s x before entry.positions
   pub statistics : entry.statistics ≡ Some (message_of (stat (kind_of s) group))
 
 -- the entries of the first groups
@@ -42,13 +42,13 @@ SaysStat s group entry =
     × (entry.statistics ≡ Some message)
     × (stat_read (kind_of s) message ≡ stat (kind_of s) group)
 
--- Bytes that a reader takes for the index of these groups: as many entries as bounds, each with places from which it
+-- Bytes that a reader takes for the index of these groups: as many entries as bounds, each with positions from which it
 -- goes on, and with the statistic of its group.
 pub record IsRightIndex (s : Shape) (x : Streams) (cells : List Cell) (bounds text : List ℕ) : Type 0 where
   pub message : RowIndexMsg
   pub spelled : Spells row_index 0 0 text message
   pub counted : length message.entries ≡ length bounds
-  pub places : (g : ℕ) (entry : RowIndexEntry)
+  pub positions : (g : ℕ) (entry : RowIndexEntry)
       → slice_get message.entries g ≡ Some entry
       → AreReadPositions s x (before_group cells bounds g) entry.positions
   pub statistics : (g : ℕ) (entry : RowIndexEntry)

@@ -112,7 +112,7 @@ pub fn placed_streams<'a>(tree: &Tree, streams: &ColumnStreams<'a>) -> PlacedStr
 }
 
 /// Which stream has the runs beside PRESENT.
-pub fn own_kind(tree: &Tree, has_dictionary: bool) -> StreamKind
+pub fn values_kind(tree: &Tree, has_dictionary: bool) -> StreamKind
     // The stream that has a column's runs beside PRESENT is told, DATA or LENGTH: by its kind, and
     // for texts by whether there is a dictionary; DATA for a struct, which has none.
     ensures { result ≡ kind_of_values (shape tree.now) has_dictionary }

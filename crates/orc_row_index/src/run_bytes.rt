@@ -94,17 +94,17 @@ pub(crate) fn put_position(
         RunBytes::Nothing => Ok(from),
         RunBytes::Bits(bytes) => {
             let run_start = byte_run_start_at(bytes, from, n / 8);
-            put_bit_pos(run_start.bit_place(n), out)?;
+            put_bit_pos(run_start.bit_position(n), out)?;
             Ok(run_start)
         }
         RunBytes::Bytes(bytes) => {
             let run_start = byte_run_start_at(bytes, from, n);
-            put_pos(run_start.place(n), out)?;
+            put_pos(run_start.position(n), out)?;
             Ok(run_start)
         }
         RunBytes::Numbers(version, sign, bytes) => {
             let run_start = number_run_start(version, sign, bytes, from, n);
-            put_pos(run_start.place(n), out)?;
+            put_pos(run_start.position(n), out)?;
             Ok(run_start)
         }
     }

@@ -14,7 +14,7 @@ Decides s x cells bounds group positions right =
     (AreReadPositions s x (before_group cells bounds group) positions)
     (AreReadPositions s x (before_group cells bounds group) positions → ⊥)
 
--- each entry has its truth value: true where its positions are such places behind the cells before
+-- each entry has its truth value: true where its positions are such positions behind the cells before
 -- its group, and false where they are none
 pub record AreDecided (s : Shape) (x : Streams) (cells : List Cell) (bounds : List ℕ)
     (entries : List RowIndexEntry) (right : List Bool) : Type 0 where

@@ -12,7 +12,7 @@ ghost use Rattle.orc_row_index_check.specs.Decided.{AreDecided};
 
 use crate::column_table::tables_of;
 use orc_column_reader::{ColumnStreams, StripeFault};
-use orc_row_index::{Counts, own_kind, placed_streams};
+use orc_row_index::{Counts, values_kind, placed_streams};
 use orc_values::Tree;
 use orc_wire::RowIndexEntry;
 use std::alloc::Global;
@@ -52,7 +52,7 @@ pub fn positions_right_behind(
         → ColumnFails (shape tree.now) x column fault) }
 {
     let placed = placed_streams(tree, streams);
-    let kind = own_kind(tree, streams.has_dictionary);
+    let kind = values_kind(tree, streams.has_dictionary);
     let tables = match tables_of(alloc, column, kind, &placed) {
         Ok(tables) => tables,
         Err(fault) => return Err(fault),

@@ -1,7 +1,7 @@
 -- What several statistics know of children (ORC specification, "Column Statistics": each part of CollectionStatistics,
 -- field 12 of ColumnStatistics, may be missing, and files of before the field have none; own: what is known together).
 use Rattle.std.specs.Prelude.{◌≡◌, ℕ, if◌then◌else◌, List, [], ◌∷◌, map, Option, Some, None}
-use Rattle.std.specs.List.{list_all}
+use Rattle.std.specs.List.{list_all, AllZip}
 use Rattle.std.specs.Option.{is_some}
 use Rattle.orc_values.specs.Cells.{Cell}
 use Rattle.orc_stats.specs.declared.kind.StatKind.{StatKind}
@@ -67,7 +67,4 @@ known_stats k (t ∷ ts) (p ∷ ps) = known_as (told_body t) (stat k p) ∷ know
 
 -- each statistic agrees with that of its part
 abbrev pub AllAgree : StatKind → List Stat → List (List Cell) → Type 0
-AllAgree k [] [] = Unit {0}
-AllAgree k [] (p ∷ ps) = ⊥
-AllAgree k (s ∷ ss) [] = ⊥
-AllAgree k (s ∷ ss) (p ∷ ps) = Agrees s (stat k p) × AllAgree k ss ps
+AllAgree k = AllZip (λ (s : Stat) (part : List Cell). Agrees s (stat k part))

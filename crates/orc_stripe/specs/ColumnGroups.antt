@@ -77,6 +77,7 @@ AreCountedOver column counts s rows firsts =
 abbrev pub AreCountedIn : (ℕ → Streams) → ℕ → Shape → CellGroups → ℕ → List Counts → Type 0
 AreCountedIn x c t groups column counts = InRows (AreCountedOver column counts) x c t groups
 
+-- the same of a column of structs' fields
 abbrev pub AreCountedWithin : (ℕ → Streams) → ℕ → Fields → CellGroups → ℕ → List Counts → Type 0
 AreCountedWithin x c fs groups column counts = InStructs (AreCountedOver column counts) x c fs groups
 
@@ -84,6 +85,7 @@ AreCountedWithin x c fs groups column counts = InStructs (AreCountedOver column 
 abbrev pub IsMemoryIn : (ℕ → Streams) → ℕ → Shape → CellGroups → StripeFault → Type 0
 IsMemoryIn x c t groups f = InRows (λ s rows firsts. f ≡ fault.OutOfMemory) x c t groups
 
+-- the same of structs' fields
 abbrev pub IsMemoryWithin : (ℕ → Streams) → ℕ → Fields → CellGroups → StripeFault → Type 0
 IsMemoryWithin x c fs groups f = InStructs (λ s rows firsts. f ≡ fault.OutOfMemory) x c fs groups
 

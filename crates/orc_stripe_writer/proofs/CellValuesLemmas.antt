@@ -1,6 +1,6 @@
 -- The values among cells of a kind stand for those cells, where these fit the kind.
 use Rattle.std.proofs.Common.{◌≡◌, ℕ, suc, ◌-◌, ◌<◌, ◌^◌, ◌&&◌, nat_lt, ℤ, pos, negsuc, Bool, true, false, Option, List, [], ◌∷◌, ◌++◌, length, refl, sym, ap, ◌∙◌, arith, ltb-true, lt-ltb}
-use Rattle.std.specs.List.{flat_map}
+use Rattle.std.specs.List.{flat_map, AllZip}
 use Rattle.std.proofs.lemmas.List.{length-map}
 use Rattle.orc_values.specs.declared.kind.Scalar.{Scalar}
 use Rattle.orc_values.specs.declared.kind.Scalar.TheVariants as kind
@@ -13,7 +13,7 @@ use Rattle.orc_values.specs.Views.{view, views}
 use Rattle.orc_values.specs.declared.lent.Lent.{Lent}
 use Rattle.orc_values.specs.declared.value.Value.{Value}
 use Rattle.orc_stripe_writer.specs.declared.byte_string.ByteString.{ByteString}
-use Rattle.orc_column_reader.specs.Spellings.{AllStand, joined}
+use Rattle.orc_column_reader.specs.Spellings.{joined}
 use Rattle.orc_column_reader.specs.Columns.{IsBool, IsByte, IsInt, IsDate, IsText, IsBinary}
 use Rattle.orc_stripe_writer.specs.CellValues.{bools_in, ints_in, number_bytes_in, all_bytes_in, byte_of}
 use Rattle.orc_stripe_writer.specs.Dictionary.{byte_strings}
@@ -41,7 +41,7 @@ never_both : (a b : Bool) → a ≡ false → (a && b) ≡ true → ⊥
 never_both false b e f = cc
 never_both true b e f = cc
 
-pub ints_stand : (k : Scalar) (o : List ℕ) (cs : List Cell) → IsIntKind k → RowsFit (scalar k o) cs → AllStand (IsInt k) (ints_in cs) (values cs)
+pub ints_stand : (k : Scalar) (o : List ℕ) (cs : List Cell) → IsIntKind k → RowsFit (scalar k o) cs → AllZip (IsInt k) (ints_in cs) (values cs)
 ints_stand k o [] i h = tt
 ints_stand k o (null ∷ cs) i h = ints_stand k o cs i h.1
 ints_stand k o (leaf (bool b) ∷ cs) i h = absurd (never (is_kind kind.Boolean k) i.no_bool h.0)
@@ -66,7 +66,7 @@ byte_stands (negsuc n) h =
     let back : 255 - (255 - n) ≡ n = omega arith in
     rw wide (bound, (rw high (ap (λ m. leaf (int (negsuc m))) (sym back))))
 
-pub bools_stand : (o : List ℕ) (cs : List Cell) → RowsFit (scalar kind.Boolean o) cs → AllStand IsBool (bools_in cs) (values cs)
+pub bools_stand : (o : List ℕ) (cs : List Cell) → RowsFit (scalar kind.Boolean o) cs → AllZip IsBool (bools_in cs) (values cs)
 bools_stand o [] h = tt
 bools_stand o (null ∷ cs) h = bools_stand o cs h.1
 bools_stand o (leaf (bool b) ∷ cs) h = (refl, bools_stand o cs h.1)
@@ -78,7 +78,7 @@ bools_stand o (list xs ∷ cs) h = let wrong = h.0 in cc
 bools_stand o (struct xs ∷ cs) h = let wrong = h.0 in cc
 bools_stand o (pairs ps ∷ cs) h = let wrong = h.0 in cc
 
-pub number_bytes_stand : (o : List ℕ) (cs : List Cell) → RowsFit (scalar kind.Byte o) cs → AllStand IsByte (number_bytes_in cs) (values cs)
+pub number_bytes_stand : (o : List ℕ) (cs : List Cell) → RowsFit (scalar kind.Byte o) cs → AllZip IsByte (number_bytes_in cs) (values cs)
 number_bytes_stand o [] h = tt
 number_bytes_stand o (null ∷ cs) h = number_bytes_stand o cs h.1
 number_bytes_stand o (leaf (bool b) ∷ cs) h = let wrong = h.0 in cc
@@ -90,7 +90,7 @@ number_bytes_stand o (list xs ∷ cs) h = let wrong = h.0 in cc
 number_bytes_stand o (struct xs ∷ cs) h = let wrong = h.0 in cc
 number_bytes_stand o (pairs ps ∷ cs) h = let wrong = h.0 in cc
 
-pub dates_stand : (o : List ℕ) (cs : List Cell) → RowsFit (scalar kind.Date o) cs → AllStand IsDate (ints_in cs) (values cs)
+pub dates_stand : (o : List ℕ) (cs : List Cell) → RowsFit (scalar kind.Date o) cs → AllZip IsDate (ints_in cs) (values cs)
 dates_stand o [] h = tt
 dates_stand o (null ∷ cs) h = dates_stand o cs h.1
 dates_stand o (leaf (bool b) ∷ cs) h = let wrong = h.0 in cc
@@ -102,7 +102,7 @@ dates_stand o (list xs ∷ cs) h = let wrong = h.0 in cc
 dates_stand o (struct xs ∷ cs) h = let wrong = h.0 in cc
 dates_stand o (pairs ps ∷ cs) h = let wrong = h.0 in cc
 
-pub texts_stand : (o : List ℕ) (cs : List Cell) → RowsFit (scalar kind.String o) cs → AllStand IsText (all_bytes_in cs) (values cs)
+pub texts_stand : (o : List ℕ) (cs : List Cell) → RowsFit (scalar kind.String o) cs → AllZip IsText (all_bytes_in cs) (values cs)
 texts_stand o [] h = tt
 texts_stand o (null ∷ cs) h = texts_stand o cs h.1
 texts_stand o (leaf (bool b) ∷ cs) h = let wrong = h.0 in cc
@@ -114,7 +114,7 @@ texts_stand o (list xs ∷ cs) h = let wrong = h.0 in cc
 texts_stand o (struct xs ∷ cs) h = let wrong = h.0 in cc
 texts_stand o (pairs ps ∷ cs) h = let wrong = h.0 in cc
 
-pub binaries_stand : (o : List ℕ) (cs : List Cell) → RowsFit (scalar kind.Binary o) cs → AllStand IsBinary (all_bytes_in cs) (values cs)
+pub binaries_stand : (o : List ℕ) (cs : List Cell) → RowsFit (scalar kind.Binary o) cs → AllZip IsBinary (all_bytes_in cs) (values cs)
 binaries_stand o [] h = tt
 binaries_stand o (null ∷ cs) h = binaries_stand o cs h.1
 binaries_stand o (leaf (bool b) ∷ cs) h = let wrong = h.0 in cc

@@ -1,6 +1,6 @@
 -- Of cells at most one column is written, and of rows at most one list of columns.
 use Rattle.std.proofs.Common.{◌≡◌, ℕ, ℤ, pos, negsuc, zero, suc, ◌-◌, ◌<◌, nat_lt, if◌then◌else◌, Bool, true, false, Some, List, [], ◌∷◌, map, length, slice_get, refl, sym, ap, ◌∙◌, subst, arith}
-use Rattle.std.specs.List.{Contains, list_all}
+use Rattle.std.specs.List.{Contains, list_all, AllZip}
 use Rattle.std.specs.List.Sorted.{IsStrictlySortedBy}
 use Rattle.std.specs.Ordering.{nat_cmp}
 use Rattle.std.specs.Cmp.Lexicographic.{slice_cmp}
@@ -19,7 +19,7 @@ use Rattle.orc_values.specs.declared.kind.Scalar.TheVariants as kind
 use Rattle.orc_values.specs.Shapes.{Shape, scalar, list_of, map_of, struct_of, shape_at}
 use Rattle.orc_values.specs.Cells.{Cell, leaf, int, is_value, parts, pairs_in, values}
 use Rattle.orc_values.specs.Columns.{cells}
-use Rattle.orc_column_reader.specs.Spellings.{AllStand, size, joined}
+use Rattle.orc_column_reader.specs.Spellings.{size, joined}
 use Rattle.orc_column_reader.specs.Columns.{IsBool, IsByte, IsInt, IsDate, IsText, IsBinary, signed_byte}
 use Rattle.orc_column_reader.specs.Stripe.{plain}
 use Rattle.orc_stripe_writer.specs.Dictionary.{entry_at, AreNamed, is_worth}
@@ -40,7 +40,7 @@ marks_if false ms a b p q = one_bit_text ms a b p q
 
 -- ---- one list of things for the values that they stand for
 
-one_stood : {X : Type 0} (stands : X → Cell → Type 0) → ((x y : X) (c : Cell) → stands x c → stands y c → x ≡ y) → (xs ys : List X) (cs : List Cell) → AllStand stands xs cs → AllStand stands ys cs → xs ≡ ys
+one_stood : {X : Type 0} (stands : X → Cell → Type 0) → ((x y : X) (c : Cell) → stands x c → stands y c → x ≡ y) → (xs ys : List X) (cs : List Cell) → AllZip stands xs cs → AllZip stands ys cs → xs ≡ ys
 one_stood stands one [] [] [] p q = refl
 one_stood stands one [] [] (c ∷ cs) p q = absurd p
 one_stood stands one [] (y ∷ ys) [] p q = absurd q

@@ -1,6 +1,6 @@
 -- What is written is read: a written column spells its cells, a written stripe is a stripe of its rows.
 use Rattle.std.proofs.Common.{◌≡◌, ℕ, ℤ, pos, negsuc, zero, suc, ◌+◌, ◌-◌, ◌<◌, ◌≤◌, ◌^◌, ◌&&◌, Bool, true, false, Some, None, List, [], ◌∷◌, ◌++◌, map, length, replicate, slice_get, refl, sym, ap, ◌∙◌, subst, arith, inl, inr}
-use Rattle.std.specs.List.{list_all}
+use Rattle.std.specs.List.{list_all, AllZip}
 use Rattle.std.proofs.lemmas.Bool.Decides.{leb_tells}
 use Rattle.orc_rle.specs.declared.sign.Rle.{Rle}
 use Rattle.orc_rle.specs.declared.sign.Rle.TheVariants.{One, Two}
@@ -26,7 +26,7 @@ use Rattle.orc_values.specs.Types.{types, fields_types}
 use Rattle.orc_values.specs.Cells.{Cell, is_value, parts, pairs_in, values}
 use Rattle.orc_values.specs.Columns.{cells}
 use Rattle.orc_types.proofs.Trees.{length-types}
-use Rattle.orc_column_reader.specs.Spellings.{AllStand, Standing, size, Sized}
+use Rattle.orc_column_reader.specs.Spellings.{Standing, size, Sized}
 use Rattle.orc_column_reader.specs.Numbers.{AreNumbers}
 use Rattle.orc_column_reader.specs.Bytes.{AreBytes}
 use Rattle.orc_column_reader.specs.Columns.{IsBool, IsByte, IsText, IsEntry}
@@ -115,7 +115,7 @@ word_at : (entries : List (List ℕ)) (n : ℤ) (t : List ℕ) (c : Cell) → en
 word_at entries (pos i) t c e h = (t, e, h)
 word_at entries (negsuc i) t c e h = cc
 
-words_stand : (entries : List (List ℕ)) (places : List ℤ) (texts : List (List ℕ)) (vs : List Cell) → AreNamed entries places texts → AllStand IsText texts vs → AllStand (IsEntry entries) places vs
+words_stand : (entries : List (List ℕ)) (places : List ℤ) (texts : List (List ℕ)) (vs : List Cell) → AreNamed entries places texts → AllZip IsText texts vs → AllZip (IsEntry entries) places vs
 words_stand entries [] [] [] n h = tt
 words_stand entries [] [] (v ∷ vs) n h = absurd h
 words_stand entries [] (t ∷ ts) vs n h = cc
@@ -126,7 +126,7 @@ words_stand entries (p ∷ ps) (t ∷ ts) (v ∷ vs) n h =
     let later : map (entry_at entries) ps ≡ map Some ts = cc in
     (word_at entries p t v first h.0, words_stand entries ps ts vs later h.1)
 
-texts_if : (t : Bool) (rle : Rle) (x : Streams) (w : Written) (vs : List Cell) (entries texts : List (List ℕ)) → AreRead x w → AllStand IsText texts vs → HasTextsIf t rle w entries texts → SpellsTexts x (is_dictionary x.encoding.kind) vs
+texts_if : (t : Bool) (rle : Rle) (x : Streams) (w : Written) (vs : List Cell) (entries texts : List (List ℕ)) → AreRead x w → AllZip IsText texts vs → HasTextsIf t rle w entries texts → SpellsTexts x (is_dictionary x.encoding.kind) vs
 texts_if true rle x w vs entries texts r stand h =
     let e : x.encoding ≡ dictionary rle (length entries) = r.encoded ∙ h.encoded in
     let uses : is_dictionary x.encoding.kind ≡ true = ap (λ (n : Encoding). is_dictionary n.kind) e ∙ dictionary_uses rle (length entries) in

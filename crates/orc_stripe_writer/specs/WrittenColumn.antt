@@ -54,10 +54,10 @@ pub record HasNumbers (rle : Rle) (w : Written) (numbers : List ℤ) : Type 0 wh
   pub others : w
       ≡ record { encoding = direct rle; marks = w.marks; content = w.content; lengths = []; dictionary_data = [] }
 
--- DATA has the groups one after the other, LENGTH their lengths
-pub record HasStrings (rle : Rle) (w : Written) (groups : List (List ℕ)) : Type 0 where
-  pub content_is : w.content ≡ joined groups
-  pub lengths_are : AreWrittenInts rle Unsigned (map size groups) w.lengths
+-- DATA has the byte strings one after the other, LENGTH their lengths
+pub record HasStrings (rle : Rle) (w : Written) (strings : List (List ℕ)) : Type 0 where
+  pub content_is : w.content ≡ joined strings
+  pub lengths_are : AreWrittenInts rle Unsigned (map size strings) w.lengths
   pub others : w ≡ record {
     encoding = direct rle;
     marks = w.marks;

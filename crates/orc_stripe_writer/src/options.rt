@@ -6,7 +6,7 @@ use orc_column_reader::CELL_LIMIT;
 use orc_rle::Rle;
 
 /// How stripes are written: the version of integer run lengths, after how many rows a group of the row index
-/// begins, and after how many rows a stripe is closed.
+/// begins, and after how many rows a stripe ends.
 #[derive(Clone, Copy, Debug, PartialEq, Eq)]
 pub struct Options {
     rle: Rle,
@@ -57,9 +57,9 @@ impl Options {
         self.stride
     }
 
-    /// After how many rows a stripe is closed.
+    /// After how many rows a stripe ends.
     pub fn stripe_rows(self) -> u32
-        // The answer is after how many rows a stripe is closed by the options.
+        // The answer is after how many rows a stripe ends by the options.
         ensures rows { result ≡ self.stripe_rows }
         // A stripe's rows are 1 to 2,147,483,647 then.
         ensures some { 0 < result }

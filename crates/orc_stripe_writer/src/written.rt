@@ -10,7 +10,7 @@ ghost use Rattle.orc_stripe_writer.specs.WrittenStripe.{AreFew, HasRightIndex, I
 
 /// Laws of stripes as they are written: what is written of rows that fit and are few is a stripe of
 /// those rows, so it is read; of rows at most one stripe is written; and where there is a stride, each
-/// column has an index, whose places and statistics are right for a reader of the stripe.
+/// column has an index, whose positions and statistics are right for a reader of the stripe.
 pub fn writing_laws()
     // Where rows fit and are few, whatever is written of them by the writer's rules is a stripe of
     // them.
@@ -20,7 +20,7 @@ pub fn writing_laws()
     ensures one_text { (rle : Rle) (stride : ℕ) (s : Shape) (rows : List Cell) (i j : StripeInfo) (a b : List ℕ)
         → IsWrittenStripe rle stride s rows i a → IsWrittenStripe rle stride s rows j b → (i ≡ j) × (a ≡ b) }
     // Where rows fit and are few, and there is a stride, the directory lists an index of each
-    // column, right for a reader: for each group places from which it goes on, and its statistic.
+    // column, right for a reader: for each group positions from which it goes on, and its statistic.
     ensures right { (rle : Rle) (stride : ℕ) (s : Shape) (rows : List Cell) (info : StripeInfo) (bytes : List ℕ)
         (h : IsWrittenStripe rle stride s rows info bytes) → 0 < stride → RowsFit s rows → AreFew s rows
         → (c : ℕ) → c < width s → HasRightIndex stride s rows h.footer bytes c }

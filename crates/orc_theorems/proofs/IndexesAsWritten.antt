@@ -96,7 +96,7 @@ index_same s x y cs bounds text e p a b h = record {
   entries = h.entries;
   are = record {
     counted = h.are.counted;
-    each = λ g d at. record { places = places_same s x y (before_group cs bounds g) d.positions e p a b (h.are.each g d at).places; statistics = (h.are.each g d at).statistics };
+    each = λ g d at. record { positions = places_same s x y (before_group cs bounds g) d.positions e p a b (h.are.each g d at).positions; statistics = (h.are.each g d at).statistics };
   };
   text_is = h.text_is;
   spelled = h.spelled;

@@ -125,4 +125,4 @@ file_reads_one bytes tail rows is has = λ some n lt footer opens c below messag
     let bounds : List ℕ = bounds_of s c mine (starts tail.stride (length mine)) in
     let k : ℕ = bound_at (length cs) bounds g in
     column_one (shape_at s c) (columns_of footer own c) cs (before_group cs bounds g) (drop k cs) entry.positions (sym (take-append-drop k cs))
-    ((by_footer s info own footer mine opens stripe).column c below) (x.are.each g entry there).places
+    ((by_footer s info own footer mine opens stripe).column c below) (x.are.each g entry there).positions

@@ -1,5 +1,6 @@
 -- Files of which nothing is found, and what is found of a file (own).
-use Rattle.std.specs.Prelude.{ℕ, List, [], ◌∷◌}
+use Rattle.std.specs.Prelude.{ℕ, List, []}
+use Rattle.std.specs.List.{AllZip}
 use Rattle.orc_values.specs.Cells.{Cell}
 use Rattle.orc_file.specs.FileRows.{FileIs}
 use Rattle.orc_tail.specs.declared.tail.Tail.{Tail}
@@ -8,11 +9,8 @@ use Rattle.orc_check.specs.declared.finding.Finding.{Finding}
 
 -- each input is a file of these rows, of which nothing is found
 abbrev pub AreWithoutFinding : List (List ℕ) → List (List Cell) → Type 0
-AreWithoutFinding [] [] = Unit {0}
-AreWithoutFinding [] (rows ∷ parts) = ⊥
-AreWithoutFinding (b ∷ bs) [] = ⊥
-AreWithoutFinding (b ∷ bs) (rows ∷ parts) =
-    ((tail : Tail) × FileIs b tail rows × Findings b tail rows []) × AreWithoutFinding bs parts
+AreWithoutFinding =
+    AllZip (λ (bytes : List ℕ) (rows : List Cell). (tail : Tail) × FileIs bytes tail rows × Findings bytes tail rows [])
 
 -- the bytes are a file of some rows, and this is found of it
 abbrev pub AreFound : List ℕ → List Finding → Type 0

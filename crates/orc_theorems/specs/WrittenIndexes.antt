@@ -1,5 +1,6 @@
 -- Files whose row indexes are as a writer writes them (ORC specification, "Row Group Index").
 use Rattle.std.specs.Prelude.{◌≡◌, ℕ, ◌<◌, true, Option, List, [], ◌∷◌, length}
+use Rattle.std.specs.List.{AllZip}
 use Rattle.orc_wire.specs.declared.stripe_footer.StripeFooter.{StripeFooter}
 use Rattle.orc_wire.specs.declared.stripe_info.StripeInfo.{StripeInfo}
 use Rattle.orc_wire.specs.StreamKinds.{ROW_INDEX}
@@ -59,7 +60,4 @@ pub record WasWritten (bytes : List ℕ) (rows : List Cell) : Type 0 where
 
 -- each input was written so
 abbrev pub WereWritten : List (List ℕ) → List (List Cell) → Type 0
-WereWritten [] [] = Unit {0}
-WereWritten [] (rows ∷ parts) = ⊥
-WereWritten (b ∷ bs) [] = ⊥
-WereWritten (b ∷ bs) (rows ∷ parts) = WasWritten b rows × WereWritten bs parts
+WereWritten = AllZip WasWritten

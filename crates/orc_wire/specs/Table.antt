@@ -1,8 +1,8 @@
 -- What the fields of a message say, in the words of its table (Protocol Buffers encoding, "Message
 -- Structure", "Last One Wins", "Repeated Elements"). A list of fields has its last field first.
-use Rattle.std.specs.Prelude.{◌≡◌, ℕ, ◌<◌, ◌^◌, List, [], ◌∷◌, ◌++◌, Option, Some, None, cond, nat_le, ⊤}
+use Rattle.std.specs.Prelude.{◌≡◌, ℕ, ◌<◌, ◌^◌, List, [], ◌∷◌, ◌++◌, Option, Some, None, cond, nat_le}
 use Rattle.std.specs.Option.{option_or, option_map, option_to_list, IfSome}
-use Rattle.std.specs.List.{AllByRecursion}
+use Rattle.std.specs.List.{AllByRecursion, AllZip}
 use Rattle.orc_wire.specs.Fields.{Item}
 use Rattle.orc_wire.specs.Members.{Member}
 use Rattle.orc_wire.specs.Spells.{number_in, bytes_in, Spells}
@@ -34,10 +34,7 @@ joined_parts (part ∷ before) = joined_parts before ++ part
 
 -- each field gives its part
 abbrev pub GivesParts : {P : Type 0} → (Item → P → Type 0) → List Item → List P → Type 0
-GivesParts gives [] [] = ⊤
-GivesParts gives [] (part ∷ parts) = ⊥
-GivesParts gives (item ∷ before) [] = ⊥
-GivesParts gives (item ∷ before) (part ∷ parts) = gives item part × GivesParts gives before parts
+GivesParts gives = AllZip gives
 
 -- all parts of a list are joined in order
 pub record JoinsParts {V : Type 0} (gives : Item → List V → Type 0)

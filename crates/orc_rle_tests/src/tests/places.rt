@@ -28,9 +28,9 @@ fn sought_place<C: RunCodec>(bytes: &[u8], sign: Sign, n: usize) -> Result<Pos, 
     requires there { HasValues (C.is_run sign) bytes.now n }
     requires start { IsRunStart (C.is_run sign) bytes.now start_of_stream }
 {
-    let pos = run_start_at::<C>(bytes, sign, RunStart::start(), n).place(n);
+    let pos = run_start_at::<C>(bytes, sign, RunStart::start(), n).position(n);
     let mut run = Run::new();
-    seek_place::<C>(bytes, sign, pos, &mut run)?;
+    seek_position::<C>(bytes, sign, pos, &mut run)?;
     Ok(pos)
 }
 
@@ -62,9 +62,9 @@ fn sought_byte(bytes: &[u8], n: usize) -> Result<Pos, RunFault>
     requires there { HasValues IsByteRun bytes.now n }
     requires start { IsRunStart IsByteRun bytes.now start_of_stream }
 {
-    let pos = byte_run_start_at(bytes, RunStart::start(), n).place(n);
+    let pos = byte_run_start_at(bytes, RunStart::start(), n).position(n);
     let mut run = RunU8::new();
-    byte_seek_place(bytes, pos, &mut run)?;
+    byte_seek_position(bytes, pos, &mut run)?;
     Ok(pos)
 }
 
@@ -87,9 +87,9 @@ fn bit_place_of(alloc: Global, bytes: &[u8], total: usize, n: usize) -> Result<B
     if n > values.len() {
         return Err(RunFault::TooFew(n));
     }
-    let pos = byte_run_start_at(bytes, RunStart::start(), n / 8).bit_place(n);
+    let pos = byte_run_start_at(bytes, RunStart::start(), n / 8).bit_position(n);
     let mut run = RunU8::new();
-    bit_seek_place(bytes, pos, &mut run)?;
+    bit_seek_position(bytes, pos, &mut run)?;
     Ok(pos)
 }
 

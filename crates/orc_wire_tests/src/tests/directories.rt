@@ -2,7 +2,7 @@
 use super::*;
 
 /// The end of a file without rows, of one stripe, and of two.
-static SCRIPTS: [[u8; 19]; 3] = [
+static POSTSCRIPTS: [[u8; 19]; 3] = [
     [
         0x08, 0x24, 0x10, 0x00, 0x22, 0x02, 0x00, 0x0b, 0x28, 0x00, 0x30, 0x06, 0x82, 0xf4, 0x03,
         0x03, b'O', b'R', b'C',
@@ -112,7 +112,7 @@ fn check_postscript(
 #[test]
 fn postscripts(rt: HostRuntime) -> Result<(), Fail> {
     let lengths = [(36, 0), (56, 22), (68, 44)];
-    for (text, lengths) in SCRIPTS.iter().zip(lengths) {
+    for (text, lengths) in POSTSCRIPTS.iter().zip(lengths) {
         check_postscript(&rt, rt.alloc(), text, lengths)?;
     }
     Ok(())

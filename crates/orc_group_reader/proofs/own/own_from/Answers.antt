@@ -39,8 +39,8 @@ returns-clause-left c = λ x y before after last are turns e.
 pub returns-in-Err-clause-fault : goal.returns-in-Err-clause-fault
 returns-in-Err-clause-fault c = λ memory x are.
     let s = shape c.args.tree.now in
-    runs_refused s x c.placed_streams-placed.result c.args.column c.args.positions.now c.in-Some.cut.rest.now c.in-Some.cut.positions.now c.own_kind-kind.result c.in-Err.fault c.entering_fault.result
-    (c.placed_streams-placed.ensures x are) (c.own_kind-kind.ensures ∙ ap (kind_of_values s) are.dictionary_is) c.in-Some.ensures.found c.in-Err.ensures.fault c.entering_fault.ensures
+    runs_refused s x c.placed_streams-placed.result c.args.column c.args.positions.now c.in-Some.cut.rest.now c.in-Some.cut.positions.now c.values_kind-kind.result c.in-Err.fault c.entering_fault.result
+    (c.placed_streams-placed.ensures x are) (c.values_kind-kind.ensures ∙ ap (kind_of_values s) are.dictionary_is) c.in-Some.ensures.found c.in-Err.ensures.fault c.entering_fault.ensures
 
 pub returns-in-Ok-column_entries-clause-at : goal.returns-in-Ok-column_entries-clause-at
 returns-in-Ok-column_entries-clause-at c = λ x are.

@@ -21,7 +21,7 @@ returns-in-Err-clause-right c = λ x cells bounds is column rises counted.
 pub returns-in-Err-clause-fault : goal.returns-in-Err-clause-fault
 returns-in-Err-clause-fault c = λ memory x is.
     let s = shape c.args.tree.now in
-    fails_in s x c.placed_streams-placed.result c.args.column c.own_kind-kind.result c.in-Err.fault (c.placed_streams-placed.ensures x is) (c.own_kind-kind.ensures ∙ ap (kind_of_values s) is.dictionary_is)
+    fails_in s x c.placed_streams-placed.result c.args.column c.values_kind-kind.result c.in-Err.fault (c.placed_streams-placed.ensures x is) (c.values_kind-kind.ensures ∙ ap (kind_of_values s) is.dictionary_is)
     (c.in-Err.ensures.fault memory)
 
 pub loop-group-preserved : goal.loop-group-preserved

@@ -7,7 +7,7 @@ use Rattle.orc_rle.specs.Seeking.{CountsRuns, bytes_needed}
 use Rattle.orc_positions.specs.BitPosition.{BeginsBits}
 use Rattle.orc_positions.proofs.PositionLemmas.{counts_exact}
 use Rattle.orc_positions.proofs.BitPositionLemmas.{bit_place_run, bit_place_begins, bits_sought}
-use Rattle.orc_positions.proofs.laws.bit_seek_place.Goals as goal
+use Rattle.orc_positions.proofs.laws.bit_seek_position.Goals as goal
 
 pub returns-clause-count : goal.returns-clause-count
 returns-clause-count c =

@@ -5,7 +5,7 @@ use Rattle.orc_column_reader.specs.Faults.{StringsFail, lengths_of}
 use Rattle.orc_column_reader.specs.RunFaults.{Integers}
 use Rattle.orc_column_reader.specs.Stripe.{version}
 use Rattle.orc_column_reader.proofs.StartFaults.{integers_from}
-use Rattle.orc_column_reader.proofs.starting.word_source.Goals as goal
+use Rattle.orc_column_reader.proofs.starting.dictionary_source.Goals as goal
 
 pub returns-in-Err-clause-fault : goal.returns-in-Err-clause-fault
 returns-in-Err-clause-fault c = λ memory x are.

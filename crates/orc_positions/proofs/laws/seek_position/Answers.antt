@@ -3,7 +3,7 @@ use Rattle.std.specs.Prelude.{IfOk}
 use Rattle.orc_rle.specs.declared.fault.RunFault.{RunFault}
 use Rattle.orc_rle.specs.Seeking.{CountsRuns}
 use Rattle.orc_positions.proofs.PositionLemmas.{place_run, place_found, counts_exact}
-use Rattle.orc_positions.proofs.laws.seek_place.Goals as goal
+use Rattle.orc_positions.proofs.laws.seek_position.Goals as goal
 
 pub returns-clause-count : goal.returns-clause-count
 returns-clause-count g c =

@@ -5,7 +5,7 @@ use Rattle.orc_rle.specs.ByteRun.{IsByteRun}
 use Rattle.orc_rle.specs.ByteLaws.{byte_run_some}
 use Rattle.orc_rle.specs.Seeking.{CountsRuns}
 use Rattle.orc_positions.proofs.PositionLemmas.{place_run, place_found, counts_exact}
-use Rattle.orc_positions.proofs.laws.byte_seek_place.Goals as goal
+use Rattle.orc_positions.proofs.laws.byte_seek_position.Goals as goal
 
 pub returns-clause-count : goal.returns-clause-count
 returns-clause-count c =
