@@ -25,11 +25,7 @@ pub struct Bits<'a> {
 pub(crate) fn bits_of(bytes: &[u8]) -> Bits<'_>
     ensures { BitsStart bytes.now result }
 {
-    Bits {
-        bytes: bytes_of(bytes),
-        held: 0,
-        left: 0,
-    }
+    Bits::behind(bytes_of(bytes), 0, 0)
 }
 
 /// Whether the digit of the byte with so many lower ones is 1. A byte has eight digits.
@@ -40,6 +36,16 @@ fn digit_at(byte: u8, lower: u32) -> bool
 }
 
 impl<'a> Bits<'a> {
+    /// A stream of booleans of which the byte `held` was read last. So many of its lowest digits are left, and the bytes
+    /// after it.
+    #[inline(always)]
+    pub fn behind(bytes: RunLengthBytes<'a>, held: u8, left: u32) -> Bits<'a>
+        // The reader has each part as it is given.
+        ensures { result ≡ record { bytes = bytes.entry; held = held; left = left } }
+    {
+        Bits { bytes, held, left }
+    }
+
     /// The next boolean.
     pub fn next(&mut self) -> Result<bool, RunFault>
         // What is answered is the first of the booleans that are left, and the others are left

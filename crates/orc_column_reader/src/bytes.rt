@@ -1,6 +1,6 @@
 //! Bytes in runs.
 
-ghost use Rattle.std.specs.Prelude.{◌≢◌, ◌<◌, ◌∷◌, [], ℕ, suc, length, IfOk, IfErr, OnOk, OnErr, MatchBool};
+ghost use Rattle.std.specs.Prelude.{◌≡◌, ◌≢◌, ◌<◌, ◌∷◌, [], ℕ, suc, length, IfOk, IfErr, OnOk, OnErr, MatchBool};
 ghost use Rattle.orc_column_reader.specs.Fronts.{Leaves, Precedes, Lacks};
 ghost use Rattle.orc_column_reader.specs.Bytes.{BytesLeft, BytesFirst};
 ghost use Rattle.orc_column_reader.specs.RunsMet.{BytesMeet};
@@ -26,16 +26,32 @@ pub struct RunLengthBytes<'a> {
 pub(crate) fn bytes_of(bytes: &[u8]) -> RunLengthBytes<'_>
     ensures { BytesStart bytes.now result }
 {
-    RunLengthBytes {
-        bytes,
-        at: 0,
-        start: 0,
-        run: RunU8::new(),
-        used: 0,
-    }
+    RunLengthBytes::behind(bytes, 0, 0, RunU8::new(), 0)
 }
 
 impl<'a> RunLengthBytes<'a> {
+    /// A stream of bytes in runs of which the run that begins at `start` was read last, and the bytes from `at` on come
+    /// next. What is left of that run is in `run`, but for the first `used` values.
+    #[inline(always)]
+    pub fn behind(
+        bytes: &'a [u8],
+        at: usize,
+        start: usize,
+        run: RunU8,
+        used: usize,
+    ) -> RunLengthBytes<'a>
+        // The reader has each part as it is given.
+        ensures { result ≡ record { bytes = bytes.entry; at = at; start = start; run = run; used = used } }
+    {
+        RunLengthBytes {
+            bytes,
+            at,
+            start,
+            run,
+            used,
+        }
+    }
+
     /// Reads runs until a byte is there.
     fn fill(&mut self) -> Result<(), RunFault>
         ensures found { OnOk result (Leaves (BytesLeft self.old) (BytesLeft self.new) []) }

@@ -62,6 +62,17 @@ pub struct ColumnReader<'a> {
     pub source: ValueSource<'a>,
 }
 
+impl<'a> ColumnReader<'a> {
+    /// The reader of a column: PRESENT, where the column has it, and its other streams.
+    #[inline(always)]
+    pub fn of(present: Option<Bits<'a>>, source: ValueSource<'a>) -> ColumnReader<'a>
+        // The reader has each part as it is given.
+        ensures { result ≡ record { present = present.entry; source = source.entry } }
+    {
+        ColumnReader { present, source }
+    }
+}
+
 /// Whether the column's next cell is not null.
 pub fn next_present(reader: &mut ColumnReader<'_>) -> Result<bool, StripeFault>
     // What is answered says whether the column's next cell is not null, and the marks behind are

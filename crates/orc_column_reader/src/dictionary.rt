@@ -49,7 +49,7 @@ pub fn entries_of<'a>(
         true size bytes.now column cause) }
 {
     let mut numbers = numbers_of(version, Sign::Unsigned, lengths);
-    let mut octets = Octets { rest: bytes };
+    let mut octets = Octets::of(bytes);
     let mut entries = Vec::new(alloc);
     for taken in 0..size {
         match next_string(

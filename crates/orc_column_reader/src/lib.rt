@@ -17,6 +17,7 @@ mod numbers;
 mod octets;
 mod reader;
 mod starting;
+mod value_source;
 mod version;
 mod whole_numbers;
 

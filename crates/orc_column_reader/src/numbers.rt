@@ -1,6 +1,6 @@
 //! Integers in runs.
 
-ghost use Rattle.std.specs.Prelude.{◌≢◌, ◌<◌, ◌∷◌, [], ℕ, suc, length, IfOk, IfErr, OnOk, OnErr, MatchBool};
+ghost use Rattle.std.specs.Prelude.{◌≡◌, ◌≢◌, ◌<◌, ◌∷◌, [], ℕ, suc, length, IfOk, IfErr, OnOk, OnErr, MatchBool};
 ghost use Rattle.orc_column_reader.specs.Fronts.{Leaves, Precedes, Lacks};
 ghost use Rattle.orc_column_reader.specs.Numbers.{NumbersLeft, NumbersFirst};
 ghost use Rattle.orc_column_reader.specs.RunsMet.{NumbersMeet};
@@ -30,18 +30,44 @@ pub fn numbers_of(version: Rle, sign: Sign, bytes: &[u8]) -> Numbers<'_>
     // The reader stands at the start of the stream's bytes, with their version and sign.
     ensures { NumbersStart version sign bytes.now result }
 {
-    Numbers {
-        version,
-        sign,
-        bytes,
-        at: 0,
-        start: 0,
-        run: Run::new(),
-        used: 0,
-    }
+    Numbers::behind(version, sign, bytes, 0, 0, Run::new(), 0)
 }
 
 impl<'a> Numbers<'a> {
+    /// A stream of integers of which the run that begins at `start` was read last, and the bytes from `at` on come
+    /// next. What is left of that run is in `run`, but for the first `used` values.
+    #[inline(always)]
+    pub fn behind(
+        version: Rle,
+        sign: Sign,
+        bytes: &'a [u8],
+        at: usize,
+        start: usize,
+        run: Run,
+        used: usize,
+    ) -> Numbers<'a>
+        // The reader has each part as it is given.
+        ensures { result ≡ record {
+          version = version;
+          sign = sign;
+          bytes = bytes.entry;
+          at = at;
+          start = start;
+          run = run;
+          used = used;
+        } }
+    {
+        Numbers {
+            version,
+            sign,
+            bytes,
+            at,
+            start,
+            run,
+            used,
+        }
+    }
+
     /// Reads runs until a value is there.
     #[inline(never)]
     fn fill(&mut self) -> Result<(), RunFault>

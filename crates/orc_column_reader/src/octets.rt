@@ -11,6 +11,14 @@ pub struct Octets<'a> {
 }
 
 impl<'a> Octets<'a> {
+    /// Bytes of which all are left.
+    #[inline(always)]
+    pub(crate) fn of(rest: &'a [u8]) -> Octets<'a>
+        ensures { result ≡ record { rest = rest.entry } }
+    {
+        Octets { rest }
+    }
+
     /// The next bytes, so many.
     pub fn take(&mut self, count: u64) -> Option<&'a [u8]>
         // What is answered are the first of the bytes that are left, so many, and the others are

@@ -13,13 +13,12 @@ ghost use Rattle.orc_column_reader.specs.declared.fault.StreamKind.TheVariants.{
 
 use crate::bits::bits_of;
 use crate::bytes::bytes_of;
-use crate::column::{ColumnReader, MOST_CELLS, ValueSource};
+use crate::column::{ColumnReader, ValueSource};
 use crate::dictionary::entries_of;
 use crate::fault::StripeFault;
 use crate::located::Located;
 use crate::marks::marks_of;
 use crate::numbers::numbers_of;
-use crate::octets::Octets;
 use crate::version::version_of;
 use orc_rle::{Rle, Sign};
 use orc_values::{Field, Scalar, Tree};
@@ -76,15 +75,14 @@ fn data_source<'a>(column: usize, streams: &ColumnStreams<'a>) -> ValueSource<'a
     ensures start { (x : Streams) → AreStreams x streams.now → DataStart x result }
     ensures column { result.column ≡ column }
 {
-    ValueSource {
+    ValueSource::of_streams(
         column,
-        numbers: numbers_of(streams.version, Sign::Signed, streams.data),
-        bytes: bytes_of(streams.data),
-        bits: bits_of(streams.data),
-        octets: Octets { rest: streams.data },
-        entries: None,
-        room: MOST_CELLS,
-    }
+        numbers_of(streams.version, Sign::Signed, streams.data),
+        bytes_of(streams.data),
+        bits_of(streams.data),
+        streams.data,
+        None,
+    )
 }
 
 /// The source of a column whose values have sizes in LENGTH.
@@ -94,15 +92,8 @@ fn sized_source<'a>(column: usize, streams: &ColumnStreams<'a>) -> ValueSource<'
     ensures room { result.room ≡ most_cells }
     ensures column { result.column ≡ column }
 {
-    ValueSource {
-        column,
-        numbers: numbers_of(streams.version, Sign::Unsigned, streams.lengths),
-        bytes: bytes_of(streams.data),
-        bits: bits_of(streams.data),
-        octets: Octets { rest: streams.data },
-        entries: None,
-        room: MOST_CELLS,
-    }
+    let numbers = numbers_of(streams.version, Sign::Unsigned, streams.lengths);
+    ValueSource::of_numbers(column, numbers, streams.data, None)
 }
 
 /// The source of a column with a dictionary.
@@ -130,15 +121,10 @@ fn dictionary_source<'a>(
         streams.dictionary_data,
         streams.dictionary_size,
     ) {
-        Ok(entries) => Ok(ValueSource {
-            column,
-            numbers: numbers_of(streams.version, Sign::Unsigned, streams.data),
-            bytes: bytes_of(streams.data),
-            bits: bits_of(streams.data),
-            octets: Octets { rest: streams.data },
-            entries: Some(entries),
-            room: MOST_CELLS,
-        }),
+        Ok(entries) => {
+            let numbers = numbers_of(streams.version, Sign::Unsigned, streams.data);
+            Ok(ValueSource::of_numbers(column, numbers, streams.data, Some(entries)))
+        }
         Err(fault) => Err(fault),
     }
 }
@@ -254,10 +240,7 @@ pub fn reader_of<'a>(
 {
     let streams = streams_of(column, footer, located);
     match source_of(alloc, tree, column, &streams) {
-        Ok(source) => Ok(ColumnReader {
-            present: marks_of(streams.present),
-            source,
-        }),
+        Ok(source) => Ok(ColumnReader::of(marks_of(streams.present), source)),
         Err(fault) => Err(fault),
     }
 }

@@ -6,6 +6,7 @@ use Rattle.orc_column_reader.specs.Octets.{OctetsLeft}
 use Rattle.orc_column_reader.specs.Spellings.{Sized}
 use Rattle.orc_column_reader.specs.Stripe.{Is}
 use Rattle.orc_column_reader.specs.Columns.{entry_bytes}
+use Rattle.orc_column_reader.specs.declared.octets.Octets.{Octets}
 use Rattle.orc_column_reader.specs.declared.fault.StreamKind.TheVariants.{DictionaryData}
 use Rattle.orc_column_reader.proofs.StartFaults.{integers_from, groups_start, groups_all}
 use Rattle.orc_column_reader.specs.Faults.{StringsFail}
@@ -15,7 +16,8 @@ use Rattle.orc_column_reader.proofs.dictionary.entries_of.Goals as goal
 pub loop-taken-init : goal.loop-taken-init
 loop-taken-init c =
     let e = c.new-entries.ensures.items in
-    (rw e (begun c.args.version c.args.lengths.now c.args.bytes.now c.numbers_of-numbers.result c.numbers_of-numbers.ensures), ap length e, λ all n f h. let z : n ≡ 0 + n = omega arith in subst (λ k. StringsFail DictionaryData (integers_from c.args.version Unsigned c.args.lengths.now) all k c.args.bytes.now c.args.column f) z (groups_start DictionaryData c.args.version c.args.lengths.now c.args.bytes.now c.numbers_of-numbers.result (record { rest = c.args.bytes }) c.args.column c.args.column all n f c.numbers_of-numbers.ensures refl refl h))
+    let rest = ap (λ (o : Octets). o.rest.now) c.of-octets.ensures in
+    (rw e (rw c.of-octets.ensures (begun c.args.version c.args.lengths.now c.args.bytes.now c.numbers_of-numbers.result c.numbers_of-numbers.ensures)), ap length e, λ all n f h. let z : n ≡ 0 + n = omega arith in subst (λ k. StringsFail DictionaryData (integers_from c.args.version Unsigned c.args.lengths.now) all k c.args.bytes.now c.args.column f) z (groups_start DictionaryData c.args.version c.args.lengths.now c.args.bytes.now c.numbers_of-numbers.result c.of-octets.result c.args.column c.args.column all n f c.numbers_of-numbers.ensures rest refl h))
 
 pub loop-taken-preserved : goal.loop-taken-preserved
 loop-taken-preserved c = (
