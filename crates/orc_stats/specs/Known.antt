@@ -1,6 +1,6 @@
 -- What several statistics know of children (ORC specification, "Column Statistics": each part of CollectionStatistics,
 -- field 12 of ColumnStatistics, may be missing, and files of before the field have none; own: what is known together).
-use Rattle.std.specs.Prelude.{◌≡◌, ℕ, if◌then◌else◌, List, [], ◌∷◌, map, Option, Some, None}
+use Rattle.std.specs.Prelude.{◌≡◌, ℕ, if◌then◌else◌, List, [], ◌∷◌, map, filter, Option, Some, None}
 use Rattle.std.specs.List.{list_all, AllZip}
 use Rattle.std.specs.Option.{is_some}
 use Rattle.orc_values.specs.Cells.{Cell}
@@ -48,22 +48,34 @@ abbrev pub told_body : Option Stat → Body
 told_body None = body.Plain
 told_body (Some s) = s.body
 
--- of what is told of each part, that of the parts that have a value; of one of which nothing is told no more is known
-abbrev pub told_of : StatKind → List (Option Stat) → List (List Cell) → List Body
-told_of k told [] = []
-told_of k [] (p ∷ ps) = if has_values (stat k p) then body.Plain ∷ told_of k [] ps else told_of k [] ps
-told_of k (t ∷ ts) (p ∷ ps) = if has_values (stat k p) then told_body t ∷ told_of k ts ps else told_of k ts ps
+-- a part of a column, as a stripe is: what is told of it, if anything, and its cells
+pub record Part : Type 0 where
+  pub told : Option Stat
+  pub cells : List Cell
 
--- the statistic of all the cells, of which some parts tell theirs: as `whole`, but of children no more than each of
--- them knows
-abbrev pub known_whole : StatKind → List (Option Stat) → List (List Cell) → Stat
-known_whole k told parts = let all = whole k parts in record all { body = known_in (told_of k told parts) all.body }
+-- the cells of each part
+abbrev pub part_cells : List Part → List (List Cell)
+part_cells parts = map (λ (part : Part). part.cells) parts
 
--- the parts' statistics, each with no more of children than is told
-abbrev pub known_stats : StatKind → List (Option Stat) → List (List Cell) → List Stat
-known_stats k told [] = []
-known_stats k [] (p ∷ ps) = known_as body.Plain (stat k p) ∷ known_stats k [] ps
-known_stats k (t ∷ ts) (p ∷ ps) = known_as (told_body t) (stat k p) ∷ known_stats k ts ps
+-- each part's cells with what is told of it; where fewer are told than there are parts, nothing is told of the last ones
+abbrev pub parts_of : List (Option Stat) → List (List Cell) → List Part
+parts_of told [] = []
+parts_of [] (p ∷ ps) = record { told = None; cells = p } ∷ parts_of [] ps
+parts_of (t ∷ ts) (p ∷ ps) = record { told = t; cells = p } ∷ parts_of ts ps
+
+-- what is told of the parts that have a value
+abbrev pub told_of : StatKind → List Part → List Body
+told_of k parts =
+    map (λ (part : Part). told_body part.told) (filter (λ (part : Part). has_values (stat k part.cells)) parts)
+
+-- the statistic of all the cells, as `whole`, but of children no more than is told of each part that has a value
+abbrev pub known_whole : StatKind → List Part → Stat
+known_whole k parts =
+    let all = whole k (part_cells parts) in record all { body = known_in (told_of k parts) all.body }
+
+-- the parts' statistics, each with no more of children than is told of it
+abbrev pub known_stats : StatKind → List Part → List Stat
+known_stats k parts = map (λ (part : Part). known_as (told_body part.told) (stat k part.cells)) parts
 
 -- each statistic agrees with that of its part
 abbrev pub AllAgree : StatKind → List Stat → List (List Cell) → Type 0

@@ -16,7 +16,7 @@ ghost use Rattle.orc_stats.specs.Kinds.{is_of, kind_of, body_is_of};
 ghost use Rattle.orc_stats.specs.Statistics.{reduce, bit, least, greatest, text_cmp, exact_total, stat};
 ghost use Rattle.orc_stats.specs.Joining.{sum_of, joined};
 ghost use Rattle.orc_stats.specs.Whole.{whole};
-ghost use Rattle.orc_stats.specs.Known.{known_as, IsPart, Agrees, known_whole, known_stats, AllAgree};
+ghost use Rattle.orc_stats.specs.Known.{known_as, IsPart, Agrees, Part, part_cells, parts_of, known_whole, known_stats, AllAgree};
 ghost use Rattle.orc_stats.specs.Messages.{IsStat, stat_read, message_of};
 ghost use Rattle.orc_stats.specs.Tallies.{Kept, none_kept, together, cells_kept, stats_kept, stat_of_kept};
 
@@ -83,22 +83,22 @@ pub fn join_laws()
         → joined k (map (stat k) parts) ≡ whole k parts }
     // Of as many, the parts' statistics, each less what isn't told of its children, join to what is
     // known of the whole.
-    ensures known { (k : StatKind) (told : List (Option Stat)) (parts : List (List Cell))
-        → AllByRecursion (AllByRecursion (λ c. is_of k c ≡ true)) parts
-        → length (flat_map (λ p. p) parts) ≤ 2 ^ 62
-        → joined k (known_stats k told parts) ≡ known_whole k told parts }
+    ensures known { (k : StatKind) (parts : List Part)
+        → AllByRecursion (AllByRecursion (λ c. is_of k c ≡ true)) (part_cells parts)
+        → length (flat_map (λ p. p) (part_cells parts)) ≤ 2 ^ 62
+        → joined k (known_stats k parts) ≡ known_whole k parts }
     // So do statistics that agree with those of the parts' cells, to what they know of the whole.
     ensures agreed { (k : StatKind) (ss : List Stat) (parts : List (List Cell))
         → AllByRecursion (AllByRecursion (λ c. is_of k c ≡ true)) parts
         → length (flat_map (λ p. p) parts) ≤ 2 ^ 62
         → AllAgree k ss parts
-        → joined k ss ≡ known_whole k (map (λ s. Some s) ss) parts }
+        → joined k ss ≡ known_whole k (parts_of (map (λ s. Some s) ss) parts) }
     // Where each part tells its own statistic, what is known of the whole is that of all cells, but
     // for a sum that a part has lost.
     ensures all_told { (k : StatKind) (parts : List (List Cell))
         → AllByRecursion (AllByRecursion (λ c. is_of k c ≡ true)) parts
         → length (flat_map (λ p. p) parts) ≤ 2 ^ 62
-        → known_whole k (map (λ p. Some (stat k p)) parts) parts ≡ whole k parts }
+        → known_whole k (parts_of (map (λ p. Some (stat k p)) parts) parts) ≡ whole k parts }
     // Of 2^62 values at most, a joined statistic is of its kind and within the limits, and where it
     // counts no values it knows nothing of them.
     ensures normal { (k : StatKind) (ss : List Stat) → sum_by (λ s. s.count) ss ≤ 2 ^ 62 → IsStat k (joined k ss) }
