@@ -11,6 +11,7 @@ use Rattle.orc_positions.proofs.BitPositionLemmas.{bits_go_on, bits_sought, bit_
 use Rattle.orc_positions.proofs.PositionLemmas.{offset_within, rest_alone}
 use Rattle.orc_column_reader.specs.Bits.{BitsLeft}
 use Rattle.orc_column_reader.specs.declared.bits.Bits.{Bits}
+use Rattle.orc_column_reader.specs.declared.bytes.RunLengthBytes.{RunLengthBytes}
 use Rattle.orc_column_reader.proofs.BitsLemmas.{no_digit}
 use Rattle.orc_group_reader.specs.Entering.{AgreeFrom}
 use Rattle.orc_group_reader.specs.ReadersAt.{HoldsFirst}
@@ -77,6 +78,10 @@ pub holds_first : (left : List ℕ) (passed : ℕ) (r : Bits) → 0 < passed →
 holds_first left zero r some first many pending = absurd (omega (arith, some))
 holds_first [] (suc passed) r some first many pending = absurd cc
 holds_first (f ∷ more) (suc passed) r some first many pending = (cc, many, pending)
+
+-- a reader of booleans that was made of a reader of bytes, by what this one was made of
+pub made_of : (r : Bits) (after parts : RunLengthBytes) (held left : ℕ) → r ≡ record { bytes = after; held = held; left = left } → after ≡ parts → r ≡ record { bytes = parts; held = held; left = left }
+made_of r after parts held left is same = subst (λ (p : RunLengthBytes). r ≡ record { bytes = p; held = held; left = left }) same is
 
 -- where no byte is held, no digit is passed
 pub none_passed : (bytes left : List ℕ) (offset skip passed at : ℕ) → (passed ≡ 0) ⊎ (left ≡ []) → SeeksBits bytes offset skip passed at left → passed ≡ 0

@@ -60,27 +60,13 @@ pub fn bits_at(bytes: &[u8], pos: BitPos) -> Result<Bits<'_>, RunFault>
     let start = last_byte_start(bytes, pos.offset, at);
     // the byte of which digits are passed is held, without these digits
     match held_byte(&run, pos.bits) {
-        Some(byte) => Ok(Bits {
-            bytes: RunLengthBytes {
-                bytes,
-                at,
-                start,
-                run,
-                used: 1,
-            },
-            held: byte,
-            left: 8 - pos.bits as u32,
-        }),
-        None => Ok(Bits {
-            bytes: RunLengthBytes {
-                bytes,
-                at,
-                start,
-                run,
-                used: 0,
-            },
-            held: 0,
-            left: 0,
-        }),
+        Some(byte) => {
+            let after = RunLengthBytes::behind(bytes, at, start, run, 1);
+            Ok(Bits::behind(after, byte, 8 - pos.bits as u32))
+        }
+        None => {
+            let after = RunLengthBytes::behind(bytes, at, start, run, 0);
+            Ok(Bits::behind(after, 0, 0))
+        }
     }
 }

@@ -32,13 +32,10 @@ pub fn bytes_at(bytes: &[u8], pos: Pos) -> Result<RunLengthBytes<'_>, RunFault>
 {
     let mut run = RunU8::new();
     match ByteRuns::seek(bytes, pos, &mut run) {
-        Ok(at) => Ok(RunLengthBytes {
-            bytes,
-            at,
-            start: last_byte_start(bytes, pos.offset, at),
-            run,
-            used: 0,
-        }),
+        Ok(at) => {
+            let start = last_byte_start(bytes, pos.offset, at);
+            Ok(RunLengthBytes::behind(bytes, at, start, run, 0))
+        }
         Err(fault) => Err(fault),
     }
 }

@@ -53,15 +53,10 @@ pub fn numbers_at<'a>(
 {
     let mut run = Run::new();
     match seek(version, bytes, sign, pos, &mut run) {
-        Ok(at) => Ok(Numbers {
-            version,
-            sign,
-            bytes,
-            at,
-            start: last_start(version, sign, bytes, pos.offset, at),
-            run,
-            used: 0,
-        }),
+        Ok(at) => {
+            let start = last_start(version, sign, bytes, pos.offset, at);
+            Ok(Numbers::behind(version, sign, bytes, at, start, run, 0))
+        }
         Err(fault) => Err(fault),
     }
 }

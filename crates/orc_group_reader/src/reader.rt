@@ -69,7 +69,7 @@ pub(crate) fn reader_at<'a>(
         Err(fault) => return Err(entering_fault(column, StreamKind::Present, fault)),
     };
     match own_from(alloc, tree, column, streams, last) {
-        Ok(source) => Ok(ColumnReader { present, source }),
+        Ok(source) => Ok(ColumnReader::of(present, source)),
         Err(fault) => Err(fault),
     }
 }

@@ -4,35 +4,7 @@ ghost use Rattle.orc_column_reader.specs.Stripe.{most_cells};
 ghost use Rattle.orc_group_reader.specs.Columns.{IsSource};
 
 use crate::entered::Entered;
-use orc_column_reader::{
-    Bits, Entry, MOST_CELLS, Numbers, Octets, RunLengthBytes, ValueSource, numbers_of,
-};
-use orc_rle::{Rle, RunU8, Sign};
-
-/// A stream of integers that has none, for columns without one.
-fn no_numbers() -> Numbers<'static> {
-    numbers_of(Rle::One, Sign::Signed, &[])
-}
-
-/// A stream of bytes that has none.
-fn no_bytes() -> RunLengthBytes<'static> {
-    RunLengthBytes {
-        bytes: &[],
-        at: 0,
-        start: 0,
-        run: RunU8::new(),
-        used: 0,
-    }
-}
-
-/// A stream of booleans that has none.
-fn no_bits() -> Bits<'static> {
-    Bits {
-        bytes: no_bytes(),
-        held: 0,
-        left: 0,
-    }
-}
+use orc_column_reader::{Entry, ValueSource};
 
 /// The source of a column whose streams were entered.
 pub(crate) fn source_from<'a>(
@@ -46,44 +18,10 @@ pub(crate) fn source_from<'a>(
     ensures room { result.room ≡ most_cells }
     ensures column { result.column ≡ column }
 {
-    let octets = Octets { rest: octets };
-    let room = MOST_CELLS;
     match own {
-        Entered::Nothing => ValueSource {
-            column,
-            numbers: no_numbers(),
-            bytes: no_bytes(),
-            bits: no_bits(),
-            octets,
-            entries,
-            room,
-        },
-        Entered::Bits(bits) => ValueSource {
-            column,
-            numbers: no_numbers(),
-            bytes: no_bytes(),
-            bits,
-            octets,
-            entries,
-            room,
-        },
-        Entered::Bytes(bytes) => ValueSource {
-            column,
-            numbers: no_numbers(),
-            bytes,
-            bits: no_bits(),
-            octets,
-            entries,
-            room,
-        },
-        Entered::Numbers(numbers) => ValueSource {
-            column,
-            numbers,
-            bytes: no_bytes(),
-            bits: no_bits(),
-            octets,
-            entries,
-            room,
-        },
+        Entered::Nothing => ValueSource::without_runs(column, octets, entries),
+        Entered::Bits(bits) => ValueSource::of_bits(column, bits, octets, entries),
+        Entered::Bytes(bytes) => ValueSource::of_bytes(column, bytes, octets, entries),
+        Entered::Numbers(numbers) => ValueSource::of_numbers(column, numbers, octets, entries),
     }
 }
