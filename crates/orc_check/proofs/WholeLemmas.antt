@@ -1,5 +1,5 @@
 -- The statistics of the whole file are joined of those of the stripes' rows, as far as they are told.
-use Rattle.std.proofs.Common.{◌≡◌, ◌∙◌, ℕ, zero, suc, ◌+◌, ◌*◌, ◌<◌, ◌≤◌, ◌^◌, ◌⊎◌, inl, inr, true, List, [], ◌∷◌, ◌++◌, length, map, take, drop, slice_get, Some, refl, sym, ap, subst, arith, length-append, Option}
+use Rattle.std.proofs.Common.{◌≡◌, ◌∙◌, ℕ, zero, suc, ◌+◌, ◌*◌, ◌<◌, ◌≤◌, ◌^◌, ◌⊎◌, inl, inr, true, List, [], ◌∷◌, ◌++◌, length, map, take, drop, slice_get, Some, refl, sym, ap, subst, arith, length-append}
 use Rattle.std.specs.Prelude.{All, sum_by}
 use Rattle.std.specs.List.{AllByRecursion, flat_map}
 use Rattle.std.proofs.lemmas.List.Concat.{flat_map-cons}
@@ -19,11 +19,11 @@ use Rattle.orc_stats.specs.declared.stat.Body.TheVariants as body
 use Rattle.orc_stats.specs.Kinds.{is_of, body_is_of}
 use Rattle.orc_stats.specs.Statistics.{stat, values_body}
 use Rattle.orc_stats.specs.Joining.{joined}
-use Rattle.orc_stats.specs.Known.{known_in, known_as, told_body, known_stats}
-use Rattle.orc_stats.proofs.KnownParts.{joined-known}
+use Rattle.orc_stats.specs.Known.{known_in, known_as, told_body, Part, part_cells, known_stats}
+use Rattle.orc_stats.proofs.KnownParts.{joined-told, part_cells-parts_of}
 use Rattle.orc_stripe_writer.specs.WrittenStripe.{column_stat}
 use Rattle.orc_tail.specs.Statistics.{kind_at, column_stats, of_columns, file_stats}
-use Rattle.orc_file.specs.Honest.{AreWhole, told_at, known_whole_of}
+use Rattle.orc_file.specs.Honest.{AreWhole, told_at, column_parts, known_whole_of}
 use Rattle.orc_file.proofs.StatTests.{are_of_kind, values_few}
 use Rattle.orc_check.specs.Checking.{AreKnown, AreOfSchema, AreOwn}
 
@@ -33,7 +33,7 @@ some_take (y ∷ ys) zero x e = let same : y ≡ x = cc in ap (λ (z : Stat). z 
 some_take (y ∷ ys) (suc c) x e = some_take ys c x e
 
 pub column_is : (s : Shape) (c : ℕ) (told : List (List Stat)) (parts : List (List Cell)) (own : List (List Stat)) → c < width s → AreKnown s told parts own
-    → column_stats c own ≡ known_stats (kind_at s c) (told_at told c) (map (cells s c) parts)
+    → column_stats c own ≡ known_stats (kind_at s c) (column_parts s told parts c)
 column_is s c told [] [] lt h = refl
 column_is s c told [] (x ∷ own) lt h = absurd h
 column_is s c told (p ∷ parts) [] lt h = absurd h
@@ -80,7 +80,7 @@ whole_column s told parts own c lt h =
     at_column (λ d. joined (kind_at s d) (column_stats d own)) 0 (width s) c lt
     ∙ ap (λ d. Some (joined (kind_at s d) (column_stats d own))) z
     ∙ ap (λ (xs : List Stat). Some (joined k xs)) (column_is s c told parts own lt h.known)
-    ∙ ap Some (joined-known k (told_at told c) (map (cells s c) parts) (kinds_are s c parts lt h.fit) most)
+    ∙ ap Some (joined-told k (told_at told c) (map (cells s c) parts) (kinds_are s c parts lt h.fit) most)
 
 pub whole_is : (s : Shape) (told : List (List Stat)) (parts : List (List Cell)) (own : List (List Stat)) (whole : List Stat) → whole ≡ file_stats s own → AreOwn s told parts own → AreWhole s told parts whole
 whole_is s told parts own whole e h = subst (λ (xs : List Stat). AreWhole s told parts xs) (sym e) (record {
@@ -97,40 +97,34 @@ body_is kind.Texts o cs = refl
 body_is kind.Bins o cs = refl
 body_is kind.Children o cs = refl
 
-bodies_are : (k : StatKind) (told : List (Option Stat)) (parts : List (List Cell)) → AllByRecursion (λ (x : Stat). body_is_of k x.body ≡ true) (known_stats k told parts)
-bodies_are k told [] = tt
-bodies_are k [] (p ∷ parts) = (body_is k body.Plain p, bodies_are k [] parts)
-bodies_are k (t ∷ told) (p ∷ parts) = (body_is k (told_body t) p, bodies_are k told parts)
+bodies_are : (k : StatKind) (parts : List Part) → AllByRecursion (λ (x : Stat). body_is_of k x.body ≡ true) (known_stats k parts)
+bodies_are k [] = tt
+bodies_are k (p ∷ parts) = (body_is k (told_body p.told) p.cells, bodies_are k parts)
 
 pub own_kinds : (s : Shape) (told : List (List Stat)) (parts : List (List Cell)) (own : List (List Stat)) (c : ℕ) → c < width s → AreOwn s told parts own
     → All (λ (x : Stat). body_is_of (kind_at s c) x.body ≡ true) (column_stats c own)
 own_kinds s told parts own c lt h =
     let k : StatKind = kind_at s c in
     subst (λ (xs : List Stat). All (λ (x : Stat). body_is_of k x.body ≡ true) xs) (sym (column_is s c told parts own lt h.known))
-    (All-from_recursion (λ (x : Stat). body_is_of k x.body ≡ true) (known_stats k (told_at told c) (map (cells s c) parts)) (bodies_are k (told_at told c) (map (cells s c) parts)))
+    (All-from_recursion (λ (x : Stat). body_is_of k x.body ≡ true) (known_stats k (column_parts s told parts c)) (bodies_are k (column_parts s told parts c)))
 
 -- ---- a column has too few values to be refused
 
-counts_few : (k : StatKind) (told : List (Option Stat)) (parts : List (List Cell)) → sum_by (λ (x : Stat). x.count) (known_stats k told parts) ≤ length (flat_map (λ p. p) parts)
-counts_few k told [] = omega arith
-counts_few k [] (p ∷ parts) =
-    let sum = sum_by-cons (λ (x : Stat). x.count) (known_as body.Plain (stat k p)) (known_stats k [] parts) in
-    let all = flat_map-cons (λ (x : List Cell). x) p parts in
-    let len = length-append p (flat_map (λ (x : List Cell). x) parts) in
-    omega (arith, sum, ap length all, len, values_few p, counts_few k [] parts)
-counts_few k (t ∷ told) (p ∷ parts) =
-    let sum = sum_by-cons (λ (x : Stat). x.count) (known_as (told_body t) (stat k p)) (known_stats k told parts) in
-    let all = flat_map-cons (λ (x : List Cell). x) p parts in
-    let len = length-append p (flat_map (λ (x : List Cell). x) parts) in
-    omega (arith, sum, ap length all, len, values_few p, counts_few k told parts)
+counts_few : (k : StatKind) (parts : List Part) → sum_by (λ (x : Stat). x.count) (known_stats k parts) ≤ length (flat_map (λ p. p) (part_cells parts))
+counts_few k [] = omega arith
+counts_few k (p ∷ parts) =
+    let sum = sum_by-cons (λ (x : Stat). x.count) (known_as (told_body p.told) (stat k p.cells)) (known_stats k parts) in
+    let all = flat_map-cons (λ (x : List Cell). x) p.cells (part_cells parts) in
+    let len = length-append p.cells (flat_map (λ (x : List Cell). x) (part_cells parts)) in
+    omega (arith, sum, ap length all, len, values_few p.cells, counts_few k parts)
 
 pub own_few : (s : Shape) (told : List (List Stat)) (parts : List (List Cell)) (own : List (List Stat)) (c : ℕ) → c < width s → AreOwn s told parts own
     → sum_by (λ (x : Stat). x.count) (column_stats c own) ≤ 2 ^ 62
 own_few s told parts own c lt h =
-    let cells_of : List (List Cell) = map (cells s c) parts in
+    let same = ap (λ (cs : List (List Cell)). length (flat_map (λ p. p) cs)) (part_cells-parts_of (told_at told c) (map (cells s c) parts)) in
     let count = cells_few s c parts lt h.fit in
     let few = h.few in
-    subst (λ (xs : List Stat). sum_by (λ (x : Stat). x.count) xs ≤ 2 ^ 62) (sym (column_is s c told parts own lt h.known)) (omega (arith, counts_few (kind_at s c) (told_at told c) cells_of, count, few))
+    subst (λ (xs : List Stat). sum_by (λ (x : Stat). x.count) xs ≤ 2 ^ 62) (sym (column_is s c told parts own lt h.known)) (omega (arith, counts_few (kind_at s c) (column_parts s told parts c), same, count, few))
 
 pub never_large : (s : Shape) (told : List (List Stat)) (parts : List (List Cell)) (own : List (List Stat)) (e : StatFault) → AreOwn s told parts own → e ≡ fault.CountTooLarge
     → (e ≡ fault.OutOfMemory) ⊎ ((e ≡ fault.CountTooLarge) × (c : ℕ) × (c < width s) × (2 ^ 62 < sum_by (λ (x : Stat). x.count) (column_stats c own))) → ⊥

@@ -21,6 +21,7 @@ use Rattle.orc_stats.specs.Joining as joining
 use Rattle.orc_stats.proofs.Parts.{joined-parts}
 use Rattle.orc_stats.proofs.KnownParts.{all-told}
 use Rattle.orc_stats.proofs.Agreed.{same_agrees}
+use Rattle.orc_stats.specs.Known as known
 use Rattle.orc_stats.specs.Known.{known_whole}
 use Rattle.orc_stats.specs.declared.kind.StatKind.TheVariants as kind
 use Rattle.std.proofs.lemmas.List.Sums.{sum_by-append}
@@ -172,7 +173,7 @@ module _ (options : Options) (s : Shape) (k : ℕ) (lt : k < width s) where
   known_stat : (at : ℕ) (cs : List WrittenStripe) → AreWrittenStripes options s at cs → length cs ≤ most_stripes → known_whole_of s (stats_of cs) (parts_of cs) k ≡ whole_of s (parts_of cs) k
   known_stat at cs h most =
       let few = cells_few at cs h in
-      ap (λ (t : List (Option Stat)). known_whole (kind_at s k) t (map (cells s k) (parts_of cs))) (told_is at cs h)
+      ap (λ (t : List (Option Stat)). known_whole (kind_at s k) (known.parts_of t (map (cells s k) (parts_of cs)))) (told_is at cs h)
       ∙ all-told (kind_at s k) (map (cells s k) (parts_of cs)) (of_kind at cs h) (omega (arith, few, most))
 
   -- joined, they are that of the whole file

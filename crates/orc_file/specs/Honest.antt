@@ -8,7 +8,7 @@ use Rattle.orc_values.specs.Columns.{cells}
 use Rattle.orc_stats.specs.declared.stat.Stat.{Stat}
 use Rattle.orc_stats.specs.Statistics.{stat}
 use Rattle.orc_stats.specs.Whole.{keeps_sum, without_sum, whole}
-use Rattle.orc_stats.specs.Known.{Agrees, known_whole}
+use Rattle.orc_stats.specs.Known.{Agrees, Part, parts_of, known_whole}
 use Rattle.orc_stripe_writer.specs.WrittenStripe.{column_stat}
 use Rattle.orc_tail.specs.Statistics.{kind_at}
 use Rattle.orc_file.specs.FileRows.{cut_rows}
@@ -44,9 +44,13 @@ less_sum all = record all { body = without_sum all.body }
 abbrev pub told_at : List (List Stat) → ℕ → List (Option Stat)
 told_at stats column = map (λ (xs : List Stat). slice_get xs column) stats
 
+-- the stripes' parts of a column: its cells in the rows of each, with what is told of them
+abbrev pub column_parts : Shape → List (List Stat) → List (List Cell) → ℕ → List Part
+column_parts s told parts column = parts_of (told_at told column) (map (cells s column) parts)
+
 -- a column's statistic of all stripes' rows, as `whole_of`, but of children no more than each stripe with a value tells
 abbrev pub known_whole_of : Shape → List (List Stat) → List (List Cell) → ℕ → Stat
-known_whole_of s told parts column = known_whole (kind_at s column) (told_at told column) (map (cells s column) parts)
+known_whole_of s told parts column = known_whole (kind_at s column) (column_parts s told parts column)
 
 -- one for each type
 pub record AreWhole (s : Shape) (told : List (List Stat)) (parts : List (List Cell)) (stats : List Stat) : Type 0 where

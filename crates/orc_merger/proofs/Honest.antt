@@ -19,7 +19,7 @@ use Rattle.orc_stats.specs.Statistics.{stat}
 use Rattle.orc_stats.specs.Joining.{joined}
 use Rattle.orc_stats.specs.Whole.{has_sum, without_sum, keeps_sum, whole}
 use Rattle.orc_stats.proofs.KnownParts.{joined-agreed}
-use Rattle.orc_stats.specs.Known.{AllAgree, known_in, told_of, known_whole}
+use Rattle.orc_stats.specs.Known.{AllAgree, known_in, Part, part_cells, parts_of, told_of, known_whole}
 use Rattle.orc_tail.specs.Stripes.{most_stripes}
 use Rattle.orc_tail.specs.Statistics.{kind_at, column_stats, of_columns, file_stats}
 use Rattle.orc_file.specs.FileRows.{HasRows, FileIs, cut_rows}
@@ -149,7 +149,7 @@ whole_column s is bs stats parts c lt few stripes honest =
     at_column (λ d. joined (kind_at s d) (column_stats d stats)) 0 (width s) c lt
     ∙ ap (λ d. Some (joined (kind_at s d) (column_stats d stats))) z
     ∙ ap Some (joined-agreed k (column_stats c stats) (map (cells s c) parts) (kinds_are s c is bs parts lt stripes) most own.0)
-    ∙ ap (λ (told : List (Option Stat)). Some (known_whole k told (map (cells s c) parts))) (sym own.1)
+    ∙ ap (λ (told : List (Option Stat)). Some (known_whole k (parts_of told (map (cells s c) parts)))) (sym own.1)
 
 -- ---- the merged file
 
@@ -214,8 +214,8 @@ has_sum-known bs (body.Texts l g s) = refl
 has_sum-known bs (body.Bins s) = refl
 has_sum-known bs (body.Children l g t) = refl
 
-pub sum_known : (k : StatKind) (told : List (Option Stat)) (parts : List (List Cell)) → has_sum (known_whole k told parts).body ≡ has_sum (whole k parts).body
-sum_known k told parts = has_sum-known (told_of k told parts) (whole k parts).body
+pub sum_known : (k : StatKind) (parts : List Part) → has_sum (known_whole k parts).body ≡ has_sum (whole k (part_cells parts)).body
+sum_known k parts = has_sum-known (told_of k parts) (whole k (part_cells parts)).body
 
 -- a body of another kind tells nothing of children, with its sum or without
 kept_if : (bs : List Body) (b : Bool) (x : Body) → known_in bs x ≡ x → known_in bs (without_sum x) ≡ without_sum x
@@ -223,19 +223,19 @@ kept_if : (bs : List Body) (b : Bool) (x : Body) → known_in bs x ≡ x → kno
 kept_if bs true x e f = e
 kept_if bs false x e f = f
 
-kept_whole : (k : StatKind) (told : List (Option Stat)) (parts : List (List Cell))
-    → known_in (told_of k told parts) (stat k (flat_map (λ p. p) parts)).body ≡ (stat k (flat_map (λ p. p) parts)).body
-    → known_in (told_of k told parts) (without_sum (stat k (flat_map (λ p. p) parts)).body) ≡ without_sum (stat k (flat_map (λ p. p) parts)).body
-    → known_whole k told parts ≡ whole k parts
-kept_whole k told parts e f =
-    ap (λ (x : Body). record (whole k parts) { body = x })
-    (kept_if (told_of k told parts) (list_all (λ p. keeps_sum (stat k p)) parts) (stat k (flat_map (λ p. p) parts)).body e f)
+kept_whole : (k : StatKind) (parts : List Part)
+    → known_in (told_of k parts) (stat k (flat_map (λ p. p) (part_cells parts))).body ≡ (stat k (flat_map (λ p. p) (part_cells parts))).body
+    → known_in (told_of k parts) (without_sum (stat k (flat_map (λ p. p) (part_cells parts))).body) ≡ without_sum (stat k (flat_map (λ p. p) (part_cells parts))).body
+    → known_whole k parts ≡ whole k (part_cells parts)
+kept_whole k parts e f =
+    ap (λ (x : Body). record (whole k (part_cells parts)) { body = x })
+    (kept_if (told_of k parts) (list_all (λ p. keeps_sum (stat k p)) (part_cells parts)) (stat k (flat_map (λ p. p) (part_cells parts))).body e f)
 
-pub known_else : (k : StatKind) (told : List (Option Stat)) (parts : List (List Cell)) → (k ≡ kind.Children → ⊥) → known_whole k told parts ≡ whole k parts
-known_else kind.Plain told parts other = kept_whole kind.Plain told parts refl refl
-known_else kind.Ints told parts other = kept_whole kind.Ints told parts refl refl
-known_else kind.Bools told parts other = kept_whole kind.Bools told parts refl refl
-known_else kind.Dates told parts other = kept_whole kind.Dates told parts refl refl
-known_else kind.Texts told parts other = kept_whole kind.Texts told parts refl refl
-known_else kind.Bins told parts other = kept_whole kind.Bins told parts refl refl
-known_else kind.Children told parts other = absurd (other refl)
+pub known_else : (k : StatKind) (parts : List Part) → (k ≡ kind.Children → ⊥) → known_whole k parts ≡ whole k (part_cells parts)
+known_else kind.Plain parts other = kept_whole kind.Plain parts refl refl
+known_else kind.Ints parts other = kept_whole kind.Ints parts refl refl
+known_else kind.Bools parts other = kept_whole kind.Bools parts refl refl
+known_else kind.Dates parts other = kept_whole kind.Dates parts refl refl
+known_else kind.Texts parts other = kept_whole kind.Texts parts refl refl
+known_else kind.Bins parts other = kept_whole kind.Bins parts refl refl
+known_else kind.Children parts other = absurd (other refl)

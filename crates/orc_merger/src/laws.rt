@@ -10,7 +10,7 @@ ghost use Rattle.orc_stats.specs.declared.stat.Stat.{Stat};
 ghost use Rattle.orc_stats.specs.Statistics.{stat};
 ghost use Rattle.orc_stats.specs.Joining.{joined};
 ghost use Rattle.orc_stats.specs.Whole.{has_sum, keeps_sum, whole};
-ghost use Rattle.orc_stats.specs.Known.{known_whole};
+ghost use Rattle.orc_stats.specs.Known.{Part, part_cells, known_whole};
 ghost use Rattle.orc_io.specs.Devices.{appended};
 ghost use Rattle.orc_file.specs.FileRows.{FileIs};
 ghost use Rattle.orc_file.specs.FileRows as rows;
@@ -116,12 +116,12 @@ pub fn orders()
         && has_sum (stat k (flat_map (λ rows. rows) stripes)).body) }
     // However little of children the stripes tell, a sum stands there just where it does where they
     // tell all.
-    ensures known { (k : StatKind) (told : List (Option Stat)) (stripes : List (List Cell))
-        → has_sum (known_whole k told stripes).body ≡ has_sum (whole k stripes).body }
+    ensures known { (k : StatKind) (stripes : List Part)
+        → has_sum (known_whole k stripes).body ≡ has_sum (whole k (part_cells stripes)).body }
     // Of a column of another kind than lists and maps the statistic is the same, whatever the
     // stripes tell.
-    ensures known_else { (k : StatKind) (told : List (Option Stat)) (stripes : List (List Cell))
-        → (k ≡ Children → ⊥) → known_whole k told stripes ≡ whole k stripes }
+    ensures known_else { (k : StatKind) (stripes : List Part)
+        → (k ≡ Children → ⊥) → known_whole k stripes ≡ whole k (part_cells stripes) }
 {}
 
 /// Inputs of bytes have a merged file or are refused. They have one merged file at most, and none where they are

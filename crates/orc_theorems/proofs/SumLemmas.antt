@@ -10,12 +10,13 @@ use Rattle.orc_stats.specs.declared.stat.Stat.{Stat}
 use Rattle.orc_stats.specs.declared.stat.Body.{Body}
 use Rattle.orc_stats.specs.declared.stat.Body.TheVariants as body
 use Rattle.orc_stats.specs.Statistics.{stat}
-use Rattle.orc_stats.specs.Known.{known_in, told_of}
+use Rattle.orc_stats.specs.Known.{known_in, part_cells, told_of}
+use Rattle.orc_stats.proofs.KnownParts.{part_cells-parts_of}
 use Rattle.orc_stats.specs.Whole.{has_sum, keeps_sum, whole}
 use Rattle.orc_stripe_writer.specs.WrittenStripe.{column_stat}
 use Rattle.orc_tail.specs.Statistics.{kind_at}
 use Rattle.orc_file.specs.FileRows.{joined, cut_rows}
-use Rattle.orc_file.specs.Honest.{HasWholeStats, each_fits, told_at, whole_of, known_whole_of}
+use Rattle.orc_file.specs.Honest.{HasWholeStats, each_fits, told_at, column_parts, known_whole_of}
 use Rattle.orc_tail.specs.declared.tail.Tail.{Tail}
 use Rattle.orc_file.proofs.HonestLemmas.{all_cells}
 use Rattle.orc_merger.specs.Grouping.{HaveRows, AreHonestFiles}
@@ -52,10 +53,12 @@ pub sum_told : SumLaw → (tail : Tail) (rows : List Cell) → joined (cut_rows 
     × (has_sum told.body ≡ (each_fits tail.schema (cut_rows tail.stripes rows) column && has_sum (column_stat tail.schema rows column).body))
 sum_told law tail rows cut whole_stats column lt =
     let k : StatKind = kind_at tail.schema column in
-    let parts : List (List Cell) = cut_rows tail.stripes rows in (
+    let parts : List (List Cell) = cut_rows tail.stripes rows in
+    let told = column_parts tail.schema tail.stripe_stats parts column in (
       known_whole_of tail.schema tail.stripe_stats (cut_rows tail.stripes rows) column,
       whole_stats.each column lt,
-      has_sum-known_in (told_of k (told_at tail.stripe_stats column) (map (cells tail.schema column) parts)) (whole_of tail.schema parts column).body
+      has_sum-known_in (told_of k told) (whole k (part_cells told)).body
+          ∙ ap (λ (cs : List (List Cell)). has_sum (whole k cs).body) (part_cells-parts_of (told_at tail.stripe_stats column) (map (cells tail.schema column) parts))
           ∙ law k (map (cells tail.schema column) parts)
           ∙ ap (λ (b : Bool). b && has_sum (stat k (flat_map (λ p. p) (map (cells tail.schema column) parts))).body)
           (all_map (λ (p : List Cell). keeps_sum (stat k p)) (cells tail.schema column) parts)
