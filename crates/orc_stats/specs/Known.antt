@@ -57,7 +57,7 @@ pub record Part : Type 0 where
 abbrev pub part_cells : List Part → List (List Cell)
 part_cells parts = map (λ (part : Part). part.cells) parts
 
--- each part's cells with what is told of it, where of the last ones nothing may be told
+-- each part's cells with what is told of it; where fewer are told than there are parts, nothing is told of the last ones
 abbrev pub parts_of : List (Option Stat) → List (List Cell) → List Part
 parts_of told [] = []
 parts_of [] (p ∷ ps) = record { told = None; cells = p } ∷ parts_of [] ps
