@@ -59,14 +59,10 @@ impl<'a> Bits<'a> {
         ensures fault { IfErr result (λ fault. (n : ℕ) → BitsMeet self.old (suc n) fault) }
     {
         if self.left == 0 {
-            match self.bytes.next() {
-                Ok(byte) => {
-                    self.held = byte;
-                    self.left = 7;
-                    Ok(digit_at(byte, 7))
-                }
-                Err(fault) => Err(fault),
-            }
+            let byte = self.bytes.next()?;
+            self.held = byte;
+            self.left = 7;
+            Ok(digit_at(byte, 7))
         } else {
             self.left -= 1;
             Ok(digit_at(self.held, self.left))

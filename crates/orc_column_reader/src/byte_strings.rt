@@ -46,17 +46,13 @@ pub fn next_string<'a>(
     ensures fault { IfErr result (λ cause. cause ≢ fault.OutOfMemory
         → (n : ℕ) → StringsMeet kind numbers.old octets.old false (suc n) column cause) }
 {
-    match next_number(column, StreamKind::Length, numbers) {
-        Ok(number) => {
-            let Ok(size) = u64::try_from(number) else {
-                return Err(StripeFault::LengthSum(column, kind));
-            };
-            match octets.take(size) {
-                Some(bytes) => Ok(bytes),
-                None => Err(StripeFault::LengthSum(column, kind)),
-            }
-        }
-        Err(fault) => Err(fault),
+    let number = next_number(column, StreamKind::Length, numbers)?;
+    let Ok(size) = u64::try_from(number) else {
+        return Err(StripeFault::LengthSum(column, kind));
+    };
+    match octets.take(size) {
+        Some(bytes) => Ok(bytes),
+        None => Err(StripeFault::LengthSum(column, kind)),
     }
 }
 
@@ -111,12 +107,10 @@ pub(crate) fn next_text<'a>(
     ensures fault { IfErr result (λ cause. cause ≢ fault.OutOfMemory
         → (n : ℕ) → TextMeets numbers.old octets.old false (suc n) column cause) }
 {
-    match next_string(column, StreamKind::Data, numbers, octets) {
-        Ok(bytes) => match std::str::from_utf8(bytes) {
-            Ok(text) => Ok(Own::Text(text)),
-            Err(_) => Err(StripeFault::NotUtf8(column, StreamKind::Data)),
-        },
-        Err(fault) => Err(fault),
+    let bytes = next_string(column, StreamKind::Data, numbers, octets)?;
+    match std::str::from_utf8(bytes) {
+        Ok(text) => Ok(Own::Text(text)),
+        Err(_) => Err(StripeFault::NotUtf8(column, StreamKind::Data)),
     }
 }
 
@@ -145,8 +139,6 @@ pub(crate) fn next_binary<'a>(
     ensures fault { IfErr result (λ cause. cause ≢ fault.OutOfMemory
         → (n : ℕ) → StringsMeet stream.Data numbers.old octets.old false (suc n) column cause) }
 {
-    match next_string(column, StreamKind::Data, numbers, octets) {
-        Ok(bytes) => Ok(value_of(bytes)),
-        Err(fault) => Err(fault),
-    }
+    let bytes = next_string(column, StreamKind::Data, numbers, octets)?;
+    Ok(value_of(bytes))
 }

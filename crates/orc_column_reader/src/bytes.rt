@@ -90,14 +90,10 @@ impl<'a> RunLengthBytes<'a> {
         ensures before { OnOk result ((n : ℕ) (f : Fault) → BytesMeet self.new n f → BytesMeet self.old (suc n) f) }
         ensures fault { IfErr result (λ fault. (n : ℕ) → BytesMeet self.old (suc n) fault) }
     {
-        match self.fill() {
-            Ok(()) => {
-                let byte = self.run.values()[self.used];
-                self.used += 1;
-                Ok(byte)
-            }
-            Err(fault) => Err(fault),
-        }
+        self.fill()?;
+        let byte = self.run.values()[self.used];
+        self.used += 1;
+        Ok(byte)
     }
 }
 

@@ -93,10 +93,7 @@ pub fn next_present(reader: &mut ColumnReader<'_>) -> Result<bool, StripeFault>
     ensures fault { IfErr result (λ cause. cause ≢ fault.OutOfMemory
         → (n : ℕ) → PresentMeets reader.old false (suc n) cause) }
 {
-    match next_mark(reader.source.column, &mut reader.present) {
-        Ok(mark) => Ok(mark),
-        Err(fault) => Err(fault),
-    }
+    next_mark(reader.source.column, &mut reader.present)
 }
 
 /// The next value of a column of booleans.
@@ -179,19 +176,15 @@ pub fn next_size(source: &mut ValueSource<'_>) -> Result<u64, StripeFault>
     ensures fault { IfErr result (λ cause. cause ≢ fault.OutOfMemory
         → (n : ℕ) → ListsMeet source.old false (suc n) cause) }
 {
-    match next_number(source.column, StreamKind::Length, &mut source.numbers) {
-        Ok(number) => {
-            let Ok(size) = u64::try_from(number) else {
-                return Err(StripeFault::TooMany(source.column));
-            };
-            if size > source.room {
-                return Err(StripeFault::TooMany(source.column));
-            }
-            source.room -= size;
-            Ok(size)
-        }
-        Err(fault) => Err(fault),
+    let number = next_number(source.column, StreamKind::Length, &mut source.numbers)?;
+    let Ok(size) = u64::try_from(number) else {
+        return Err(StripeFault::TooMany(source.column));
+    };
+    if size > source.room {
+        return Err(StripeFault::TooMany(source.column));
     }
+    source.room -= size;
+    Ok(size)
 }
 
 /// Whether no value is left of a column of a kind that contains no other.

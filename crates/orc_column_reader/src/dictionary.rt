@@ -52,15 +52,13 @@ pub fn entries_of<'a>(
     let mut octets = Octets::of(bytes);
     let mut entries = Vec::new(alloc);
     for taken in 0..size {
-        match next_string(
+        let text = next_string(
             column,
             StreamKind::DictionaryData,
             &mut numbers,
             &mut octets,
-        ) {
-            Ok(bytes) => entries.push(Entry::of(bytes))?,
-            Err(fault) => return Err(fault),
-        }
+        )?;
+        entries.push(Entry::of(text))?;
     }
     if !strings_end(&numbers, &octets) {
         return Err(strings_left(column, StreamKind::DictionaryData, &numbers, &octets));
@@ -111,11 +109,6 @@ pub(crate) fn next_entry<'a>(
     ensures fault { IfErr result (λ cause. cause ≢ fault.OutOfMemory
         → (n : ℕ) → IndexesMeet (map entry_bytes entries.now) numbers.old false (suc n) column cause) }
 {
-    match next_number(column, StreamKind::Data, numbers) {
-        Ok(number) => match entry_value(column, entries, number) {
-            Ok(value) => Ok(value),
-            Err(fault) => Err(fault),
-        },
-        Err(fault) => Err(fault),
-    }
+    let number = next_number(column, StreamKind::Data, numbers)?;
+    entry_value(column, entries, number)
 }

@@ -81,11 +81,10 @@ pub fn check_directory(
     if !have_columns(width, streams) {
         return Err(StripeFault::BadDirectory);
     }
-    match names_once(alloc, streams) {
-        Ok(true) => Ok(()),
-        Ok(false) => Err(StripeFault::BadDirectory),
-        Err(fault) => Err(fault),
+    if !names_once(alloc, streams)? {
+        return Err(StripeFault::BadDirectory);
     }
+    Ok(())
 }
 
 /// Whether a column of the type may have the encoding.

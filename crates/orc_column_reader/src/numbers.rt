@@ -128,14 +128,10 @@ impl<'a> Numbers<'a> {
         // No refusal is want of memory.
         ensures no_memory { IfErr result (λ fault. fault ≢ OutOfMemory) }
     {
-        match self.ready() {
-            Ok(()) => {
-                let number = self.run.values()[self.used];
-                self.used += 1;
-                Ok(number)
-            }
-            Err(fault) => Err(fault),
-        }
+        self.ready()?;
+        let number = self.run.values()[self.used];
+        self.used += 1;
+        Ok(number)
     }
 }
 

@@ -65,15 +65,11 @@ pub(crate) fn next_int<'a>(
     ensures fault { IfErr result (λ cause. cause ≢ fault.OutOfMemory
         → (n : ℕ) → IntsMeet (fits kind) numbers.old false (suc n) column cause) }
 {
-    match next_number(column, StreamKind::Data, numbers) {
-        Ok(number) => {
-            if !int_fits(kind, number) {
-                return Err(StripeFault::OutOfRange(column));
-            }
-            Ok(Own::Int(number))
-        }
-        Err(fault) => Err(fault),
+    let number = next_number(column, StreamKind::Data, numbers)?;
+    if !int_fits(kind, number) {
+        return Err(StripeFault::OutOfRange(column));
     }
+    Ok(Own::Int(number))
 }
 
 /// The next value of a column of numbers of 64 bits. Each is in range.
@@ -92,10 +88,8 @@ pub(crate) fn next_long<'a>(
     ensures fault { IfErr result (λ cause. cause ≢ fault.OutOfMemory
         → (n : ℕ) → RunsFail stream.Data column (Always false (suc n) (NumbersMeet numbers.old)) cause) }
 {
-    match next_number(column, StreamKind::Data, numbers) {
-        Ok(number) => Ok(Own::Int(number)),
-        Err(fault) => Err(fault),
-    }
+    let number = next_number(column, StreamKind::Data, numbers)?;
+    Ok(Own::Int(number))
 }
 
 /// The next value of a column of dates.
@@ -113,12 +107,10 @@ pub(crate) fn next_date<'a>(
     ensures fault { IfErr result (λ cause. cause ≢ fault.OutOfMemory
         → (n : ℕ) → IntsMeet (signed_fits 31) numbers.old false (suc n) column cause) }
 {
-    match next_number(column, StreamKind::Data, numbers) {
-        Ok(number) => match i32::try_from(number) {
-            Ok(day) => Ok(Own::Date(day)),
-            Err(_) => Err(StripeFault::OutOfRange(column)),
-        },
-        Err(fault) => Err(fault),
+    let number = next_number(column, StreamKind::Data, numbers)?;
+    match i32::try_from(number) {
+        Ok(day) => Ok(Own::Date(day)),
+        Err(_) => Err(StripeFault::OutOfRange(column)),
     }
 }
 

@@ -1,5 +1,6 @@
 use Rattle.std.proofs.Common.{◌≡◌, refl, rules, w64, to_z, of_z}
 use Rattle.std.proofs.lemmas.Int.{to_z-of_z}
+use Rattle.std.proofs.lemmas.Result.{err_from_is_err_and}
 use Rattle.orc_values.specs.declared.kind.Scalar.TheVariants as kind
 use Rattle.orc_column_reader.specs.Numbers.{NumbersLeft}
 use Rattle.orc_column_reader.specs.Columns.{IsInt}
@@ -12,18 +13,21 @@ use Rattle.orc_column_reader.proofs.Sizes.{fits_long}
 use Rattle.orc_column_reader.proofs.OwnKinds.{int_kind}
 use Rattle.orc_column_reader.proofs.whole_numbers.next_long.Goals as goal
 
-pub returns-in-Ok-clause-found : goal.returns-in-Ok-clause-found
-returns-in-Ok-clause-found c =
-    let z : to_z w64 (of_z w64 c.in-Ok.number) ≡ c.in-Ok.number = to_z-of_z w64 c.in-Ok.number (search rules) in
-    rw z (one_stands (IsInt kind.Long) (one_int kind.Long) (NumbersLeft c.args.numbers.now) (NumbersLeft c.next_number.new.numbers) c.in-Ok.number _ (fits_long c.in-Ok.number (search rules), refl) c.in-Ok.ensures.found)
+pub returns-clause-found : goal.returns-clause-found
+returns-clause-found c =
+    let z : to_z w64 (of_z w64 c.in_ok-number.number) ≡ c.in_ok-number.number = to_z-of_z w64 c.in_ok-number.number (search rules) in
+    rw z (one_stands (IsInt kind.Long) (one_int kind.Long) (NumbersLeft c.args.numbers.now) (NumbersLeft c.next_number.new.numbers) c.in_ok-number.number _ (fits_long c.in_ok-number.number (search rules), refl) c.in_ok-number.ensures.found)
 
-pub returns-in-Err-clause-none : goal.returns-in-Err-clause-none
-returns-in-Err-clause-none c = standing_lacks (IsInt kind.Long) (NumbersLeft c.args.numbers.now) 1 c.in-Err.ensures.none
+pub returns-in_err-number-clause-none : goal.returns-in_err-number-clause-none
+returns-in_err-number-clause-none c =
+    let p = err_from_is_err_and c.from_residual.result c.from_residual.ensures.1 in
+    rw p.1 (standing_lacks (IsInt kind.Long) (NumbersLeft c.args.numbers.now) 1 c.in_err-number.ensures.none)
 
-pub returns-in-Ok-clause-before : goal.returns-in-Ok-clause-before
-returns-in-Ok-clause-before c = λ all n f. runs_more stream.Data c.args.column all n (NumbersMeet c.next_number.new.numbers) (NumbersMeet c.args.numbers.now) f c.in-Ok.ensures.before
+pub returns-clause-before : goal.returns-clause-before
+returns-clause-before c =
+    λ all n f. runs_more stream.Data c.args.column all n (NumbersMeet c.next_number.new.numbers) (NumbersMeet c.args.numbers.now) f c.in_ok-number.ensures.before
 
-pub returns-in-Ok-clause-kind : goal.returns-in-Ok-clause-kind
-returns-in-Ok-clause-kind c =
-    let z : to_z w64 (of_z w64 c.in-Ok.number) ≡ c.in-Ok.number = to_z-of_z w64 c.in-Ok.number (search rules) in
-    rw z (int_kind kind.Long c.in-Ok.number _ (fits_long c.in-Ok.number (search rules), refl))
+pub returns-clause-kind : goal.returns-clause-kind
+returns-clause-kind c =
+    let z : to_z w64 (of_z w64 c.in_ok-number.number) ≡ c.in_ok-number.number = to_z-of_z w64 c.in_ok-number.number (search rules) in
+    rw z (int_kind kind.Long c.in_ok-number.number _ (fits_long c.in_ok-number.number (search rules), refl))
