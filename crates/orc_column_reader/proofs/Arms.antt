@@ -6,6 +6,7 @@ use Rattle.std.proofs.Math.Seq.{take-append_seam, drop-append_seam, take-length}
 use Rattle.orc_values.specs.Cells.{Cell, null, list, struct, pairs, cells_of, pairs_of, is_value}
 use Rattle.orc_values.specs.Shapes.{Shape, scalar, list_of, map_of, struct_of, Fields, no_field, field, width, widths}
 use Rattle.orc_values.specs.Views.{cell_of_value, cell_step, view, views, paired, shape, fields}
+use Rattle.orc_values.specs.declared.kind.Scalar.{Scalar}
 use Rattle.orc_values.specs.declared.tree.Field.{Field}
 use Rattle.orc_values.proofs.Listed.{fields_from}
 use Rattle.orc_values.specs.declared.value.Value.{Value, the_lemmas}
@@ -15,7 +16,7 @@ use Rattle.orc_column_reader.specs.declared.column.ColumnReader.{ColumnReader}
 use Rattle.orc_column_reader.specs.Fronts.{Leaves, Lacks}
 use Rattle.orc_column_reader.specs.Spellings.{Nullable, Sized, Within}
 use Rattle.orc_column_reader.specs.Numbers.{NumbersLeft}
-use Rattle.orc_column_reader.specs.Columns.{IsList, IsMap, IsRecord, MarksLeft, CellsLeft, ValuesLeft, FieldsLeft, ListsLeft, OwnLeft, ListsOf, PairsLeft, MapsLeft, MapsOf, marks_of}
+use Rattle.orc_column_reader.specs.Columns.{IsList, IsMap, IsRecord, MarksLeft, CellsLeft, ScalarLeft, ValuesLeft, FieldsLeft, ListsLeft, OwnLeft, ListsOf, PairsLeft, MapsLeft, MapsOf, marks_of}
 use Rattle.orc_column_reader.proofs.Fronts.{one_after_other, lacks_after, lacks_more, standing_lacks, fielded_leaves, fielded_lacks_first, fielded_lacks_others, paired_leaves, within_leaves, within_lacks}
 use Rattle.orc_column_reader.proofs.ReaderLemmas.{one_stands, one_list, one_map, one_record, group_leaves, group_lacks, null_leaves, value_leaves, value_lacks, no_field_leaves}
 
@@ -130,6 +131,11 @@ struct_value s fs o source below below' cells v is w p =
 pub struct_lacks : (s : Shape) (fs : Fields) (o : List ℕ) (source : ValueSource) (below : List ColumnReader)
     → s ≡ struct_of fs o → Lacks (FieldsLeft fs below) 1 → Lacks (ValuesLeft s source below) 1
 struct_lacks s fs o source below is p = rw is (standing_lacks IsRecord (FieldsLeft fs below) 1 p)
+
+pub own_scalar : (s : Shape) (k : Scalar) (o : List ℕ) (before : List ColumnReader) (own' d : ColumnReader) (u v : Cell) → s ≡ scalar k o → v ≡ u → 1 ≤ length before
+    → Leaves (ScalarLeft k (get_or before 0 d).source) (ScalarLeft k own'.source) (u ∷ []) → Leaves (OwnLeft s before) (OwnLeft s (slice_set before 0 own')) (v ∷ [])
+own_scalar s k o [] own' d u v is w some p = absurd (omega (arith, some))
+own_scalar s k o (own ∷ below) own' d u v is w some p = rw (is, w) p
 
 pub own_list : (s e : Shape) (o : List ℕ) (before after : List ColumnReader) (cells : List Cell) (v : Cell) → s ≡ list_of e o → v ≡ list (cells_of cells) → 1 ≤ length before → length after ≡ length before
     → Leaves (ListsOf e before) (ListsOf e after) (cells ∷ []) → Leaves (OwnLeft s before) (OwnLeft s after) (v ∷ [])
@@ -251,6 +257,10 @@ pair_next k v before after own own' rest rest' p eo er ea n first second =
     let first' : Leaves (CellsLeft k (take (width k) before)) (CellsLeft k (take (width k) after)) (p.0 ∷ []) = subst (λ t. Leaves (CellsLeft k t) (CellsLeft k (take (width k) after)) (p.0 ∷ [])) eo (subst (λ t. Leaves (CellsLeft k own) (CellsLeft k t) (p.0 ∷ [])) (sym to) first) in
     let second' : Leaves (CellsLeft v (drop (width k) before)) (CellsLeft v (drop (width k) after)) (p.1 ∷ []) = subst (λ t. Leaves (CellsLeft v t) (CellsLeft v (drop (width k) after)) (p.1 ∷ [])) er (subst (λ t. Leaves (CellsLeft v rest) (CellsLeft v t) (p.1 ∷ [])) (sym tr) second) in
     paired_leaves (CellsLeft k (take (width k) before)) (CellsLeft k (take (width k) after)) (CellsLeft v (drop (width k) before)) (CellsLeft v (drop (width k) after)) (p ∷ []) first' second'
+
+pub pair_lacks : (k v : Shape) (before rest : List ColumnReader) → rest ≡ drop (width k) before → Lacks (CellsLeft v rest) 1 → Lacks (PairsLeft k v before) 1
+pair_lacks k v before rest e none = λ ps h some.
+    subst (λ t. Lacks (CellsLeft v t) 1) e none (map (λ p. p.1) ps) h.1 (omega (arith, some, length-map ps (λ p. p.1)))
 
 -- the readers of a first field or of the keys, after they gave one cell
 pub first_counted : (w more : ℕ) (before own' : List ColumnReader) → length before ≡ w + more → length own' ≡ length (take w before) → length own' ≡ w

@@ -1,4 +1,5 @@
 pub mod Fronts
+pub mod Handed
 pub mod RunsLemmas
 pub mod RunsMetLemmas
 pub mod NumbersLemmas

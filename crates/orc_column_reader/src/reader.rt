@@ -51,14 +51,11 @@ pub fn next_cell<'a>(
     ensures fault { IfErr result (λ cause. cause ≢ OutOfMemory
         → (n : ℕ) → CellsMeet (shape tree.now) readers.old false (suc n) cause) }
 {
-    match next_present(&mut readers[0]) {
-        Ok(true) => match next_value(alloc, tree, readers) {
-            Ok(value) => Ok(Some(value)),
-            Err(fault) => Err(fault),
-        },
-        Ok(false) => Ok(None),
-        Err(fault) => Err(fault),
+    if !next_present(&mut readers[0])? {
+        return Ok(None);
     }
+    let value = next_value(alloc, tree, readers)?;
+    Ok(Some(value))
 }
 
 /// The next value of a column. Its marks stay as they are.
@@ -86,24 +83,13 @@ pub fn next_value<'a>(
         → (n : ℕ) → OwnMeet (shape tree.now) readers.old false (suc n) cause) }
 {
     match tree {
-        Tree::Scalar(kind, _) => match readers[0].source.next_scalar(*kind) {
-            Ok(own) => Ok(value_of(own)),
-            Err(fault) => Err(fault),
-        },
-        Tree::List(element, _) => match next_list(alloc, element, readers) {
-            Ok(elements) => Ok(Value::List(elements)),
-            Err(fault) => Err(fault),
-        },
-        Tree::Map(key, value, _) => match next_map(alloc, key, value, readers) {
-            Ok(pairs) => Ok(Value::Map(pairs)),
-            Err(fault) => Err(fault),
-        },
+        Tree::Scalar(kind, _) => Ok(value_of(readers[0].source.next_scalar(*kind)?)),
+        Tree::List(element, _) => Ok(Value::List(next_list(alloc, element, readers)?)),
+        Tree::Map(key, value, _) => Ok(Value::Map(next_map(alloc, key, value, readers)?)),
         Tree::Struct(fields, _) => {
             let mut cells = Vec::with_capacity(alloc, fields.len())?;
-            match next_fields(alloc, fields, &mut readers[1..], &mut cells) {
-                Ok(()) => Ok(Value::Struct(cells)),
-                Err(fault) => Err(fault),
-            }
+            next_fields(alloc, fields, &mut readers[1..], &mut cells)?;
+            Ok(Value::Struct(cells))
         }
     }
 }
@@ -126,13 +112,8 @@ fn next_list<'a>(
     ensures fault { IfErr result (λ cause. cause ≢ OutOfMemory
         → (n : ℕ) → ListsOfMeet (shape element.now) readers.old false (suc n) cause) }
 {
-    match next_size(&mut readers[0].source) {
-        Ok(size) => match next_cells(alloc, element, &mut readers[1..], size) {
-            Ok(rows) => Ok(rows),
-            Err(fault) => Err(fault),
-        },
-        Err(fault) => Err(fault),
-    }
+    let size = next_size(&mut readers[0].source)?;
+    next_cells(alloc, element, &mut readers[1..], size)
 }
 
 /// The pairs of the next map.
@@ -156,13 +137,8 @@ fn next_map<'a>(
     ensures fault { IfErr result (λ cause. cause ≢ OutOfMemory
         → (n : ℕ) → MapsOfMeet (shape key.now) (shape value.now) readers.old false (suc n) cause) }
 {
-    match next_size(&mut readers[0].source) {
-        Ok(size) => match next_pairs(alloc, key, value, &mut readers[1..], size) {
-            Ok(pairs) => Ok(pairs),
-            Err(fault) => Err(fault),
-        },
-        Err(fault) => Err(fault),
-    }
+    let size = next_size(&mut readers[0].source)?;
+    next_pairs(alloc, key, value, &mut readers[1..], size)
 }
 
 /// The next pairs of a map's columns, so many.
@@ -188,10 +164,8 @@ fn next_pairs<'a>(
 {
     let mut pairs = Vec::new(alloc);
     for taken in 0..count {
-        match next_pair(alloc, key, value, readers) {
-            Ok(pair) => pairs.push(pair)?,
-            Err(fault) => return Err(fault),
-        }
+        let pair = next_pair(alloc, key, value, readers)?;
+        pairs.push(pair)?;
     }
     Ok(pairs)
 }
@@ -216,16 +190,12 @@ fn next_pair<'a>(
         → (n : ℕ) → PairsMeet (shape key.now) (shape value.now) readers.old false (suc n) cause) }
 {
     let own = width_of(key);
-    match next_cell(alloc, key, &mut readers[..own]) {
-        Ok(first) => match next_cell(alloc, value, &mut readers[own..]) {
-            Ok(second) => Ok(MapPair {
-                key: first,
-                value: second,
-            }),
-            Err(fault) => Err(fault),
-        },
-        Err(fault) => Err(fault),
-    }
+    let first = next_cell(alloc, key, &mut readers[..own])?;
+    let second = next_cell(alloc, value, &mut readers[own..])?;
+    Ok(MapPair {
+        key: first,
+        value: second,
+    })
 }
 
 /// The next cells of a column, so many.
@@ -252,10 +222,8 @@ pub fn next_cells<'a>(
 {
     let mut rows = Vec::new(alloc);
     for taken in 0..count {
-        match next_cell(alloc, tree, readers) {
-            Ok(row) => rows.push(row)?,
-            Err(fault) => return Err(fault),
-        }
+        let row = next_cell(alloc, tree, readers)?;
+        rows.push(row)?;
     }
     Ok(rows)
 }
@@ -284,16 +252,9 @@ fn next_fields<'a>(
         [] => Ok(()),
         [first, others @ ..] => {
             let own = width_of(&first.tree);
-            match next_cell(alloc, &first.tree, &mut readers[..own]) {
-                Ok(cell) => {
-                    cells.push(cell)?;
-                    match next_fields(alloc, others, &mut readers[own..], cells) {
-                        Ok(()) => Ok(()),
-                        Err(fault) => Err(fault),
-                    }
-                }
-                Err(fault) => Err(fault),
-            }
+            let cell = next_cell(alloc, &first.tree, &mut readers[..own])?;
+            cells.push(cell)?;
+            next_fields(alloc, others, &mut readers[own..], cells)
         }
     }
 }
