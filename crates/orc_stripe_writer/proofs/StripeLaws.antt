@@ -119,7 +119,7 @@ right_in s y w cs bounds text e f h = record {
   message = h.message;
   spelled = h.spelled;
   counted = h.counted;
-  places = λ g d at. places_same s (streams_written w) y (before_group cs bounds g) d.positions (sym e) (sym f.marks) (sym f.content) (sym f.lengths) (h.places g d at);
+  positions = λ g d at. places_same s (streams_written w) y (before_group cs bounds g) d.positions (sym e) (sym f.marks) (sym f.content) (sym f.lengths) (h.positions g d at);
   statistics = h.statistics;
 }
 
