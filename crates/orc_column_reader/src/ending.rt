@@ -31,10 +31,7 @@ pub fn cells_end(tree: &Tree, readers: &[ColumnReader<'_>]) -> Result<(), Stripe
             marks_left(&own.present),
         ));
     }
-    match values_end(tree, readers) {
-        Ok(()) => Ok(()),
-        Err(fault) => Err(fault),
-    }
+    values_end(tree, readers)
 }
 
 /// Tests that no value of a column is left, nor a cell of the columns below it.
@@ -61,10 +58,7 @@ fn values_end(tree: &Tree, readers: &[ColumnReader<'_>]) -> Result<(), StripeFau
                     numbers_left(&own.source.numbers),
                 ));
             }
-            match cells_end(element, &readers[1..]) {
-                Ok(()) => Ok(()),
-                Err(fault) => Err(fault),
-            }
+            cells_end(element, &readers[1..])
         }
         Tree::Map(key, value, _) => {
             if !numbers_end(&own.source.numbers) {
@@ -74,15 +68,9 @@ fn values_end(tree: &Tree, readers: &[ColumnReader<'_>]) -> Result<(), StripeFau
                     numbers_left(&own.source.numbers),
                 ));
             }
-            match pairs_end(key, value, &readers[1..]) {
-                Ok(()) => Ok(()),
-                Err(fault) => Err(fault),
-            }
+            pairs_end(key, value, &readers[1..])
         }
-        Tree::Struct(fields, _) => match fields_end(fields, &readers[1..]) {
-            Ok(()) => Ok(()),
-            Err(fault) => Err(fault),
-        },
+        Tree::Struct(fields, _) => fields_end(fields, &readers[1..]),
     }
 }
 
@@ -95,13 +83,8 @@ fn pairs_end(key: &Tree, value: &Tree, readers: &[ColumnReader<'_>]) -> Result<(
     ensures fault { IfErr result (PairsMeet (shape key.now) (shape value.now) readers.now true 0) }
 {
     let own = width_of(key);
-    match cells_end(key, &readers[..own]) {
-        Ok(()) => match cells_end(value, &readers[own..]) {
-            Ok(()) => Ok(()),
-            Err(fault) => Err(fault),
-        },
-        Err(fault) => Err(fault),
-    }
+    cells_end(key, &readers[..own])?;
+    cells_end(value, &readers[own..])
 }
 
 /// Tests that no cell of the fields is left.
@@ -116,13 +99,8 @@ fn fields_end(fields: &[Field], readers: &[ColumnReader<'_>]) -> Result<(), Stri
         [] => Ok(()),
         [first, others @ ..] => {
             let own = width_of(&first.tree);
-            match cells_end(&first.tree, &readers[..own]) {
-                Ok(()) => match fields_end(others, &readers[own..]) {
-                    Ok(()) => Ok(()),
-                    Err(fault) => Err(fault),
-                },
-                Err(fault) => Err(fault),
-            }
+            cells_end(&first.tree, &readers[..own])?;
+            fields_end(others, &readers[own..])
         }
     }
 }

@@ -113,20 +113,16 @@ fn dictionary_source<'a>(
     ensures fault { IfErr result (λ cause. cause ≢ OutOfMemory → (x : Streams) → AreStreams x streams.now
         → StringsFail DictionaryData (lengths_of x) true x.encoding.dictionary_size (in_dictionary x) column cause) }
 {
-    match entries_of(
+    let entries = entries_of(
         alloc,
         column,
         streams.version,
         streams.lengths,
         streams.dictionary_data,
         streams.dictionary_size,
-    ) {
-        Ok(entries) => {
-            let numbers = numbers_of(streams.version, Sign::Unsigned, streams.data);
-            Ok(ValueSource::of_numbers(column, numbers, streams.data, Some(entries)))
-        }
-        Err(fault) => Err(fault),
-    }
+    )?;
+    let numbers = numbers_of(streams.version, Sign::Unsigned, streams.data);
+    Ok(ValueSource::of_numbers(column, numbers, streams.data, Some(entries)))
 }
 
 /// The source of a column of texts.
@@ -146,10 +142,7 @@ fn text_source<'a>(
         → EntriesFail streams.now.has_dictionary x column cause) }
 {
     if streams.has_dictionary {
-        match dictionary_source(alloc, column, streams) {
-            Ok(source) => Ok(source),
-            Err(fault) => Err(fault),
-        }
+        dictionary_source(alloc, column, streams)
     } else {
         Ok(sized_source(column, streams))
     }
@@ -172,10 +165,7 @@ fn scalar_source<'a>(
         → ScalarEntriesFail kind x column cause) }
 {
     match kind {
-        Scalar::String => match text_source(alloc, column, streams) {
-            Ok(source) => Ok(source),
-            Err(fault) => Err(fault),
-        },
+        Scalar::String => text_source(alloc, column, streams),
         Scalar::Binary => Ok(sized_source(column, streams)),
         Scalar::Boolean => Ok(data_source(column, streams)),
         Scalar::Byte => Ok(data_source(column, streams)),
@@ -205,10 +195,7 @@ fn source_of<'a>(
         → DictionaryFails (shape tree.now) x column cause) }
 {
     match tree {
-        Tree::Scalar(kind, _) => match scalar_source(alloc, *kind, column, streams) {
-            Ok(source) => Ok(source),
-            Err(fault) => Err(fault),
-        },
+        Tree::Scalar(kind, _) => scalar_source(alloc, *kind, column, streams),
         Tree::List(_, _) | Tree::Map(_, _, _) => Ok(sized_source(column, streams)),
         Tree::Struct(_, _) => Ok(data_source(column, streams)),
     }
@@ -239,10 +226,8 @@ pub fn reader_of<'a>(
         → DictionaryFails (shape tree.now) (columns_of footer.now located.now.bytes.now column) column cause) }
 {
     let streams = streams_of(column, footer, located);
-    match source_of(alloc, tree, column, &streams) {
-        Ok(source) => Ok(ColumnReader::of(marks_of(streams.present), source)),
-        Err(fault) => Err(fault),
-    }
+    let source = source_of(alloc, tree, column, &streams)?;
+    Ok(ColumnReader::of(marks_of(streams.present), source))
 }
 
 /// The readers of a column and of those below it, at the end of those of the columns before.
@@ -270,27 +255,16 @@ pub fn put_tree<'a>(
         → (count : ℕ) → FaultDown (shape tree.now) (columns_of footer.now located.now.bytes.now)
         (length readers.old.items) false count cause) }
 {
-    match reader_of(alloc, tree, readers.len(), footer, located) {
-        Ok(own) => readers.push(own)?,
-        Err(fault) => return Err(fault),
-    }
+    let own = reader_of(alloc, tree, readers.len(), footer, located)?;
+    readers.push(own)?;
     match tree {
         Tree::Scalar(_, _) => Ok(()),
-        Tree::List(element, _) => match put_tree(alloc, element, footer, located, readers) {
-            Ok(()) => Ok(()),
-            Err(fault) => Err(fault),
-        },
-        Tree::Map(key, value, _) => match put_tree(alloc, key, footer, located, readers) {
-            Ok(()) => match put_tree(alloc, value, footer, located, readers) {
-                Ok(()) => Ok(()),
-                Err(fault) => Err(fault),
-            },
-            Err(fault) => Err(fault),
-        },
-        Tree::Struct(fields, _) => match put_fields(alloc, fields, footer, located, readers) {
-            Ok(()) => Ok(()),
-            Err(fault) => Err(fault),
-        },
+        Tree::List(element, _) => put_tree(alloc, element, footer, located, readers),
+        Tree::Map(key, value, _) => {
+            put_tree(alloc, key, footer, located, readers)?;
+            put_tree(alloc, value, footer, located, readers)
+        }
+        Tree::Struct(fields, _) => put_fields(alloc, fields, footer, located, readers),
     }
 }
 
@@ -318,12 +292,9 @@ fn put_fields<'a>(
 {
     match fields {
         [] => Ok(()),
-        [first, others @ ..] => match put_tree(alloc, &first.tree, footer, located, readers) {
-            Ok(()) => match put_fields(alloc, others, footer, located, readers) {
-                Ok(()) => Ok(()),
-                Err(fault) => Err(fault),
-            },
-            Err(fault) => Err(fault),
-        },
+        [first, others @ ..] => {
+            put_tree(alloc, &first.tree, footer, located, readers)?;
+            put_fields(alloc, others, footer, located, readers)
+        }
     }
 }

@@ -21,8 +21,7 @@ loop-taken-init c =
     (rw e (rw c.of-octets.ensures (begun c.args.version c.args.lengths.now c.args.bytes.now c.numbers_of-numbers.result c.numbers_of-numbers.ensures)), ap length e, λ all n f h. let z : n ≡ 0 + n = omega arith in subst (λ k. StringsFail DictionaryData (integers_from c.args.version Unsigned c.args.lengths.now) all k c.args.bytes.now c.args.column f) z (groups_start DictionaryData c.args.version c.args.lengths.now c.args.bytes.now c.numbers_of-numbers.result c.of-octets.result c.args.column c.args.column all n f c.numbers_of-numbers.ensures rest refl h))
 
 pub loop-taken-preserved : goal.loop-taken-preserved
-loop-taken-preserved c =
-    (
+loop-taken-preserved c = (
   entries_more (Sized (AreNumbers c.args.version Unsigned c.args.lengths.now) (Is c.args.bytes.now)) (Sized (NumbersLeft c.loop-taken.numbers) (OctetsLeft c.loop-taken.octets)) (Sized (NumbersLeft c.next_string.new.numbers) (OctetsLeft c.next_string.new.octets)) c.loop-taken.entries.items c.push.new.self.items _ c.in_ok-text.text.now c.of.ensures c.in_ok-push.ensures.items c.loop-taken.invariant.0 c.in_ok-text.ensures.found,
   ap length c.in_ok-push.ensures.items ∙ length-append c.loop-taken.entries.items _ ∙ ap (λ n. n + 1) c.loop-taken.invariant.1,
   λ all n f h.

@@ -11,14 +11,12 @@ use Rattle.orc_values.proofs.Views.{shape-Scalar, shape-List, shape-Map, shape-S
 use Rattle.orc_column_reader.specs.Columns.{CellsLeft, PairsLeft}
 use Rattle.orc_column_reader.proofs.Handed.{if_ok_both, if_err, on_ok}
 use Rattle.orc_column_reader.proofs.Arms.{value_is, some_width, own_scalar, pair_lacks, fields_put, fields_behind, cell_value, cell_null, cell_lacks, own_list, own_list_lacks, own_map, own_map_lacks, own_struct, own_struct_lacks, list_taken, list_lacking, map_taken, map_lacking, cells_more, cells_counted, pairs_more, pairs_counted, cells_lacking, pair_next, first_counted, no_fields, first_field, fields_none, fields_next, fields_lack_first, fields_lack_others, fields_counted, cells_joined}
-use Rattle.orc_column_reader.specs.declared.column.ColumnReader.{ColumnReader}
 use Rattle.orc_column_reader.specs.ReaderFaults.{CellsMeet, PairsMeet}
 use Rattle.orc_column_reader.proofs.FaultLemmas.{scalar_before, cell_before, null_before, cell_now, cell_mark, list_before, lists_own, own_lists, struct_before, own_struct_meets, fields_before, lists_size, lists_elements, map_before, maps_own, own_maps, maps_size, maps_pairs, pair_before, fields_first_fault, fields_others_fault}
 use Rattle.orc_column_reader.proofs.reader.+reader.Goals as goal
 
 pub next_cells-loop-taken-preserved : goal.next_cells-loop-taken-preserved
-next_cells-loop-taken-preserved t c =
-    (
+next_cells-loop-taken-preserved t c = (
   cells_more (CellsLeft (shape c.args.tree.now) c.args.readers.now) (CellsLeft (shape c.args.tree.now) c.loop-taken.readers) (CellsLeft (shape c.args.tree.now) c.next_cell.new.readers)
       c.loop-taken.rows.items c.push.new.self.items c.in_ok-row.row c.in_ok-push.ensures.items c.loop-taken.invariant.0 c.in_ok-row.ensures.found,
   cells_counted c.loop-taken.rows.items c.push.new.self.items c.in_ok-row.row c.loop-taken.taken c.in_ok-push.ensures.items c.loop-taken.invariant.1,
@@ -266,6 +264,8 @@ next_fields-returns-in_ok-push-in-len1-up-clause-before t c =
     fields_before (fields_view c.args.fields.now) (string_bytes c.first-item.result.name) (shape c.first-item.result.tree) (fields_view (take (length c.args.fields.now - 1) (drop 1 c.args.fields.now))) c.args.readers.now _ (take c.width_of-own.result c.args.readers.now) c.next_cell.new.readers _ c.next_fields.new.readers all n f
     e (ap (λ k. take k c.args.readers.now) we) (fields_behind c.width_of-own.result c.args.readers.now c.next_cell.new.readers l ∙ ap (λ k. drop k c.args.readers.now) we)
     (fields_put c.width_of-own.result c.args.readers.now c.next_cell.new.readers c.next_fields.new.readers l) (l ∙ we) (c.in_ok-cell-in-len1-up.ensures.before all n f) (met all n f) h)
+
+-- ---- maps
 
 pub next_pairs-loop-taken-preserved : goal.next_pairs-loop-taken-preserved
 next_pairs-loop-taken-preserved t c =
