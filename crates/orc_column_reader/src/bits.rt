@@ -36,8 +36,8 @@ fn digit_at(byte: u8, lower: u32) -> bool
 }
 
 impl<'a> Bits<'a> {
-    /// A stream of booleans of which the byte `held` was read last. Its lowest digits come next, so many as `left` says,
-    /// and then those of `bytes`.
+    /// A stream of booleans of which the byte `held` was read last. Its lowest digits come next, so many as `left`
+    /// says, and then those of `bytes`.
     #[inline(always)]
     pub fn behind(bytes: RunLengthBytes<'a>, held: u8, left: u32) -> Bits<'a>
         // The reader has each part as it is given.
