@@ -6,6 +6,7 @@ ghost use Rattle.orc_values.specs.Fits.{RowsFit};
 ghost use Rattle.orc_values.specs.Views.{views};
 ghost use Rattle.orc_column_reader.specs.declared.fault.StripeFault.{StripeFault as Why};
 ghost use Rattle.orc_column_reader.specs.declared.fault.StripeFault.TheVariants as stripe;
+ghost use Rattle.orc_io.specs.Leaves.{LeavesSource};
 ghost use Rattle.orc_tail.specs.Caps.{no_cap};
 ghost use Rattle.orc_file.specs.FileRows.{stripe_bytes};
 ghost use Rattle.orc_tail.specs.Stripes.{stripe_at};
@@ -81,18 +82,15 @@ pub(crate) fn print_group<S: Source, W: Write>(
     requires uncapped { file.old.cap ≡ no_cap }
     ensures tail { file.new.tail ≡ file.old.tail }
     ensures cap { file.new.cap ≡ file.old.cap }
-    ensures told { S.told file.new.source ≡ S.told file.old.source }
     ensures written { OnOk result (IfSome (S.told file.old.source) (λ all. (own : List ℕ)
         × AreLinesFrom file.old.tail start.stripe
         (stripe_bytes (stripe_at file.old.tail.stripes start.stripe) all) start.group own
         × Appends (W.contents out.old) (W.contents out.new) own)) }
-    ensures kept { OnOk result (S.failures file.new.source ≡ S.failures file.old.source) }
 
     ensures refused { IfErr result (λ fault. IfSome (S.told file.old.source) (λ all.
         EndsAtGroup all file.old.tail start.stripe start.group (W.contents out.old) (W.contents out.new) fault)) }
-    ensures failed { result ≡ Err (File SourceFailed) → S.failures file.old.source < S.failures file.new.source }
-    ensures memory { IfErr result (λ fault. IsWantOfMemory fault
-        → S.failures file.new.source ≡ S.failures file.old.source) }
+    ensures source { LeavesSource S.told S.size S.failures (File SourceFailed) IsWantOfMemory
+        file.old.source file.new.source result }
     ensures layer { IfErr result IsOfRows }
 {
     let number = start.stripe as usize;

@@ -2,6 +2,7 @@
 ghost use Rattle.std.specs.Prelude.{◌≡◌, ◌<◌, ℕ, List, Option, MatchResult, None, IfOk, OnOk, IfErr, IfSome, Err};
 ghost use Rattle.std.specs.Io.KnownBytes.{Appends, Keeps};
 ghost use Rattle.orc_values.specs.Cells.{Cell};
+ghost use Rattle.orc_io.specs.Leaves.{LeavesSource, HandsBackSource};
 ghost use Rattle.orc_tail.specs.Caps.{no_cap};
 ghost use Rattle.orc_file.specs.FileRows.{FileIs};
 ghost use Rattle.orc_tail.specs.declared.fault.FileFault.TheVariants.{SourceFailed};
@@ -48,17 +49,14 @@ fn print_from<S: Source, W: Write>(
 ) -> Result<(), CliFault>
     requires of_schema { printer.now ≡ file.old.tail.schema }
     requires uncapped { file.old.cap ≡ no_cap }
-    ensures told { S.told file.new.source ≡ S.told file.old.source }
     ensures written { OnOk result (IfSome (S.told file.old.source) (λ all. (lines : List ℕ)
         × AreFrom all file.old.tail start.stripe start.group lines
         × Appends (W.contents out.old) (W.contents out.new) lines)) }
-    ensures kept { OnOk result (S.failures file.new.source ≡ S.failures file.old.source) }
 
     ensures refused { IfErr result (λ fault. IfSome (S.told file.old.source) (λ all.
         EndsFrom all file.old.tail start.stripe start.group (W.contents out.old) (W.contents out.new) fault)) }
-    ensures failed { result ≡ Err (File SourceFailed) → S.failures file.old.source < S.failures file.new.source }
-    ensures memory { IfErr result (λ fault. IsWantOfMemory fault
-        → S.failures file.new.source ≡ S.failures file.old.source) }
+    ensures source { LeavesSource S.told S.size S.failures (File SourceFailed) IsWantOfMemory
+        file.old.source file.new.source result }
     ensures layer { IfErr result IsOfRows }
 {
     let number = start.stripe as usize;
@@ -79,17 +77,14 @@ fn print_lines<S: Source, W: Write>(
 ) -> Result<(), CliFault>
     requires of_schema { printer.now ≡ file.old.tail.schema }
     requires uncapped { file.old.cap ≡ no_cap }
-    ensures told { S.told file.new.source ≡ S.told file.old.source }
     ensures written { OnOk result (IfSome (S.told file.old.source) (λ all. (lines : List ℕ)
         × AreLines all file.old.tail start lines
         × Appends (W.contents out.old) (W.contents out.new) lines)) }
-    ensures kept { OnOk result (S.failures file.new.source ≡ S.failures file.old.source) }
 
     ensures refused { IfErr result (λ fault. IfSome (S.told file.old.source) (λ all.
         Ends all file.old.tail start (W.contents out.old) (W.contents out.new) fault)) }
-    ensures failed { result ≡ Err (File SourceFailed) → S.failures file.old.source < S.failures file.new.source }
-    ensures memory { IfErr result (λ fault. IsWantOfMemory fault
-        → S.failures file.new.source ≡ S.failures file.old.source) }
+    ensures source { LeavesSource S.told S.size S.failures (File SourceFailed) IsWantOfMemory
+        file.old.source file.new.source result }
     ensures layer { IfErr result IsOfRows }
 {
     match start {
@@ -106,17 +101,14 @@ fn print_opened<S: Source, W: Write>(
     out: &mut W,
 ) -> Result<(), CliFault>
     requires { file.old.cap ≡ no_cap }
-    ensures told { S.told file.new.source ≡ S.told file.old.source }
     ensures written { OnOk result (IfSome (S.told file.old.source) (λ all. (lines : List ℕ)
         × AreLines all file.old.tail start lines
         × Appends (W.contents out.old) (W.contents out.new) lines)) }
-    ensures kept { OnOk result (S.failures file.new.source ≡ S.failures file.old.source) }
 
     ensures refused { IfErr result (λ fault. IfSome (S.told file.old.source) (λ all.
         Stops all file.old.tail start (W.contents out.old) (W.contents out.new) fault)) }
-    ensures failed { result ≡ Err (File SourceFailed) → S.failures file.old.source < S.failures file.new.source }
-    ensures memory { IfErr result (λ fault. IsWantOfMemory fault
-        → S.failures file.new.source ≡ S.failures file.old.source) }
+    ensures source { LeavesSource S.told S.size S.failures (File SourceFailed) IsWantOfMemory
+        file.old.source file.new.source result }
     ensures layer { IfErr result IsOfRows }
 {
     let printer = RowPrinter::new(alloc, file.schema())?;
@@ -132,14 +124,11 @@ fn print_file<S: Source, W: Write>(
 ) -> Result<S, (CliFault, S)>
     ensures written { OnOk result (IfSome (S.told source)
         (λ bytes. ArePrinted bytes start (W.contents out.old) (W.contents out.new))) }
-    ensures same { IfOk result (λ back. S.told back ≡ S.told source) }
-    ensures kept { IfOk result (λ back. S.failures back ≡ S.failures source) }
 
     ensures refused { IfErr result (λ e. IfSome (S.told source)
         (λ bytes. RefusesFile bytes start (W.contents out.old) (W.contents out.new) e.0)) }
-    ensures failed { IfErr result (λ e. e.0 ≡ File SourceFailed → S.failures source < S.failures e.1) }
-    ensures memory { IfErr result (λ e. IsWantOfMemory e.0 → S.failures e.1 ≡ S.failures source) }
-    ensures back { IfErr result (λ e. S.told e.1 ≡ S.told source) }
+    ensures source { HandsBackSource S.told S.size S.failures (File SourceFailed) IsWantOfMemory (λ back. back)
+        source result }
     ensures layer { IfErr result (λ e. IsOfRows e.0) }
 {
     match OrcFile::open(alloc, source) {
@@ -201,10 +190,6 @@ pub fn rows_to<S: Source, W: Write>(
     ensures only { from.entry ≡ None → IfSome (S.told source) (λ bytes. (tail : Tail) (rows : List Cell)
         → FileIs bytes tail rows → HaveJson tail.schema rows
         → IfErr result (λ e. IsOutsideFile e.0)) }
-    // After success the source that is handed back tells what it told, and its count of failures
-    // didn't rise.
-    ensures same { IfOk result (λ back. S.told back ≡ S.told source) }
-    ensures kept { IfOk result (λ back. S.failures back ≡ S.failures source) }
 
     // Where the source and the output tell their bytes, a refusal stands; out are the lines of the
     // stripes before the one that is refused, and of its own a part only for the output or memory.
@@ -216,12 +201,11 @@ pub fn rows_to<S: Source, W: Write>(
         → MatchResult result (λ _. ⊥) (λ e. IsNotAsked from.entry e.0
         × (S.failures e.1 ≡ S.failures source)
         × Keeps (W.contents out.old) (W.contents out.new)) }
-    // Where the refusal is SourceFailed, the source's count of failures rose.
-    ensures failed { IfErr result (λ e. e.0 ≡ File SourceFailed → S.failures source < S.failures e.1) }
-    // Where memory ran out, that count didn't rise.
-    ensures memory { IfErr result (λ e. IsWantOfMemory e.0 → S.failures e.1 ≡ S.failures source) }
-    // After a refusal, too, the source that is handed back tells what it told.
-    ensures back { IfErr result (λ e. S.told e.1 ≡ S.told source) }
+    // After success and after a refusal the source that is handed back tells what it told, and is
+    // as long. Its count of failures rose where the refusal is SourceFailed, and didn't where the
+    // call succeeds or memory ran out.
+    ensures source { HandsBackSource S.told S.size S.failures (File SourceFailed) IsWantOfMemory (λ back. back)
+        source result }
     // Want of memory is that of the layer of JSON, for a row's text, or of that of files.
     ensures layer { IfErr result (λ e. IsWantOfMemory e.0 → IsWantOfRows e.0) }
 {

@@ -6,6 +6,7 @@ ghost use Rattle.orc_types.specs.FieldNames.{is_distinct};
 ghost use Rattle.orc_json.specs.Layouts.{text_by};
 ghost use Rattle.orc_json.specs.Texts.{Prints};
 ghost use Rattle.orc_column_reader.specs.Stripe.{IsStripe};
+ghost use Rattle.orc_io.specs.Leaves.{LeavesSource};
 ghost use Rattle.orc_tail.specs.Caps.{no_cap};
 ghost use Rattle.orc_file.specs.FileRows.{stripe_bytes};
 ghost use Rattle.orc_tail.specs.Stripes.{stripe_at};
@@ -127,19 +128,16 @@ fn print_stripe<S: Source, W: Write>(
     requires uncapped { file.old.cap ≡ no_cap }
     ensures tail { file.new.tail ≡ file.old.tail }
     ensures cap { file.new.cap ≡ file.old.cap }
-    ensures told { S.told file.new.source ≡ S.told file.old.source }
     ensures written { OnOk result (IfSome (S.told file.old.source) (λ all. (own : List ℕ)
         × AreOfStripe file.old.tail.schema (stripe_at file.old.tail.stripes number)
         (stripe_bytes (stripe_at file.old.tail.stripes number) all) own
         × Appends (W.contents out.old) (W.contents out.new) own)) }
-    ensures kept { OnOk result (S.failures file.new.source ≡ S.failures file.old.source) }
 
     ensures refused { IfErr result (λ fault. IfSome (S.told file.old.source) (λ all.
         EndsAt file.old.tail.schema all number (stripe_at file.old.tail.stripes number) []
         (W.contents out.old) (W.contents out.new) fault)) }
-    ensures failed { result ≡ Err (File SourceFailed) → S.failures file.old.source < S.failures file.new.source }
-    ensures memory { IfErr result (λ fault. IsWantOfMemory fault
-        → S.failures file.new.source ≡ S.failures file.old.source) }
+    ensures source { LeavesSource S.told S.size S.failures (File SourceFailed) IsWantOfMemory
+        file.old.source file.new.source result }
     ensures layer { IfErr result IsOfRows }
 {
     file.load(number, bytes)?;
@@ -157,17 +155,14 @@ pub(crate) fn print_rows<S: Source, W: Write>(
     requires some { first ≤ length file.old.tail.stripes }
     requires of_schema { printer.now ≡ file.old.tail.schema }
     requires uncapped { file.old.cap ≡ no_cap }
-    ensures told { S.told file.new.source ≡ S.told file.old.source }
     ensures written { OnOk result (IfSome (S.told file.old.source) (λ all. (lines : List ℕ)
         × AreOfStripes file.old.tail.schema all (drop first file.old.tail.stripes) lines
         × Appends (W.contents out.old) (W.contents out.new) lines)) }
-    ensures kept { OnOk result (S.failures file.new.source ≡ S.failures file.old.source) }
 
     ensures refused { IfErr result (λ fault. IfSome (S.told file.old.source) (λ all.
         EndsIn all file.old.tail first (W.contents out.old) (W.contents out.new) fault)) }
-    ensures failed { result ≡ Err (File SourceFailed) → S.failures file.old.source < S.failures file.new.source }
-    ensures memory { IfErr result (λ fault. IsWantOfMemory fault
-        → S.failures file.new.source ≡ S.failures file.old.source) }
+    ensures source { LeavesSource S.told S.size S.failures (File SourceFailed) IsWantOfMemory
+        file.old.source file.new.source result }
     ensures layer { IfErr result IsOfRows }
 {
     let mut bytes = Vec::new(alloc);

@@ -1,3 +1,4 @@
 pub mod Devices
 pub mod Failures
+pub mod Leaves
 pub mod Ranges

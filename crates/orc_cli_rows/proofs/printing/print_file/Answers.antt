@@ -1,3 +1,4 @@
+use Rattle.std.proofs.Common.{rules}
 use Rattle.orc_cli_output.proofs.OutputLemmas.{file_want}
 use Rattle.orc_cli_rows.proofs.RowsLemmas.{printed_file, refused_file, refused_open}
 use Rattle.orc_cli_rows.proofs.printing.print_file.Goals as goal
@@ -23,5 +24,11 @@ returns-in-Err-printed-clause-refused g c =
 pub returns-in-Err-clause-refused : goal.returns-in-Err-clause-refused
 returns-in-Err-clause-refused g c = refused_open (g.S.Source.told c.args.source) c.args.start (g.W.Write.contents c.args.out.now) c.in-Err.fault c.in-Err.ensures.fault
 
-pub returns-in-Err-clause-memory : goal.returns-in-Err-clause-memory
-returns-in-Err-clause-memory g c = λ want. c.in-Err.ensures.memory (file_want c.in-Err.fault want)
+pub returns-in-Err-clause-source : goal.returns-in-Err-clause-source
+returns-in-Err-clause-source g c = record {
+  told = search rules;
+  size = search rules;
+  kept = search rules;
+  failed = search rules;
+  memory = λ want. c.in-Err.ensures.memory (file_want c.in-Err.fault want);
+}

@@ -13,12 +13,12 @@ pub returns-clause-written : goal.returns-clause-written
 returns-clause-written g c =
     let told = g.S.Source.told c.args.file.now.source in
     let lt = rw (c.as_slice.ensures, c.tail.ensures) at c.if-number-as_slice.false in
-    let later = rw (c.in_ok-print_group.ensures.tail, c.in_ok-print_group.ensures.told) at c.print_rows.ensures.written in
+    let later = rw (c.in_ok-print_group.ensures.tail, c.in_ok-print_group.ensures.source.told) at c.print_rows.ensures.written in
     from_both told c.args.file.now.tail c.args.start.stripe c.args.start.group _ (g.W.Write.contents c.print_group.new.out) _ c.print_rows.result lt c.in_ok-print_group.ensures.written later
 
 pub returns-clause-refused : goal.returns-clause-refused
 returns-clause-refused g c =
     let told = g.S.Source.told c.args.file.now.source in
     let lt = rw (c.as_slice.ensures, c.tail.ensures) at c.if-number-as_slice.false in
-    let ends = rw (c.in_ok-print_group.ensures.tail, c.in_ok-print_group.ensures.told) at c.print_rows.ensures.refused in
+    let ends = rw (c.in_ok-print_group.ensures.tail, c.in_ok-print_group.ensures.source.told) at c.print_rows.ensures.refused in
     ends_later told c.args.file.now.tail c.args.start.stripe c.args.start.group _ (g.W.Write.contents c.print_group.new.out) _ c.print_rows.result lt c.in_ok-print_group.ensures.written ends
