@@ -1,7 +1,8 @@
 //! `orcm check`: what a file says of itself and is not so.
-ghost use Rattle.std.specs.Prelude.{◌≡◌, ◌≢◌, ◌<◌, ◌⊎◌, List, length, IfOk, OnOk, IfErr, IfSome, string_bytes};
+ghost use Rattle.std.specs.Prelude.{◌≡◌, ◌≢◌, ◌⊎◌, List, length, IfOk, OnOk, IfErr, IfSome, string_bytes};
 ghost use Rattle.std.specs.Io.KnownBytes.{Appends, Keeps};
 ghost use Rattle.orc_values.specs.Cells.{Cell};
+ghost use Rattle.orc_io.specs.Leaves.{HandsBackSource};
 ghost use Rattle.orc_file.specs.FileRows.{FileIs};
 ghost use Rattle.orc_tail.specs.declared.fault.FileFault.TheVariants.{SourceFailed, OutOfMemory};
 ghost use Rattle.orc_tail.specs.declared.tail.Tail.{Tail};
@@ -55,10 +56,6 @@ pub fn check_to<S: Source, W: Write>(
     // the source or memory alone, named as a fault of the layer of files.
     ensures only { IfSome (S.told source) (λ bytes. (tail : Tail) (rows : List Cell) → FileIs bytes tail rows
         → IfErr result (λ e. (e.0 ≡ write_failed) ⊎ IsSourceOrMemory e.0)) }
-    // After success the source that is handed back tells what it told, and its count of failures
-    // didn't rise.
-    ensures same { IfOk result (λ done. S.told done.1 ≡ S.told source) }
-    ensures kept { IfOk result (λ done. S.failures done.1 ≡ S.failures source) }
 
     // Where the source tells its bytes, a refusal but WriteFailed stands: they are no file, a
     // stripe has no rows, or the source or memory refused.
@@ -70,14 +67,15 @@ pub fn check_to<S: Source, W: Write>(
     // out, and not all of them.
     ensures part { IfErr result (λ e. e.0 ≡ write_failed → IfSome (S.told source) (λ bytes. IsFoundOf bytes
         (λ found. AppendsPart (W.contents out.old) (W.contents out.new) (finding_lines found)))) }
-    // After a refusal the source's count of failures rose just where it is SourceFailed.
-    ensures failed { IfErr result (λ e. e.0 ≡ File SourceFailed → S.failures source < S.failures e.1) }
+    // After success and after a refusal the source that is handed back tells what it told, and is
+    // as long. Its count of failures rose where the refusal is SourceFailed, and didn't where the
+    // call succeeds or memory ran out.
+    ensures source { HandsBackSource S.told S.size S.failures (File SourceFailed) IsWantOfMemory (λ done. done.1)
+        source result }
+    // After a refusal that count rose just where it is SourceFailed.
     ensures unfailed { IfErr result (λ e. (e.0 ≡ File SourceFailed) ⊎ (S.failures e.1 ≡ S.failures source)) }
-    ensures memory { IfErr result (λ e. IsWantOfMemory e.0 → S.failures e.1 ≡ S.failures source) }
     // Want of memory is that of the layer of files.
     ensures layer { IfErr result (λ e. IsWantOfMemory e.0 → IsWantOfCheck e.0) }
-    // After a refusal, too, the source that is handed back tells what it told.
-    ensures back { IfErr result (λ e. S.told e.1 ≡ S.told source) }
 {
     let mut source = source;
     match check(alloc, &mut source) {

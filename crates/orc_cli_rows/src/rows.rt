@@ -1,5 +1,5 @@
 //! The rows of a file's stripes as lines of JSON.
-ghost use Rattle.std.specs.Prelude.{◌≡◌, ◌<◌, ◌≤◌, ℕ, true, false, None, List, [], length, drop, OnOk, IfErr, IfSome, Err, MatchResult};
+ghost use Rattle.std.specs.Prelude.{◌≡◌, ◌<◌, ◌≤◌, ℕ, true, false, None, List, [], length, drop, OnOk, IfErr, IfSome, MatchResult};
 ghost use Rattle.std.specs.Io.KnownBytes.{Appends};
 ghost use Rattle.orc_values.specs.Cells.{Cell};
 ghost use Rattle.orc_types.specs.FieldNames.{is_distinct};

@@ -1,9 +1,10 @@
 //! `orcm show`: what a file says of itself.
-ghost use Rattle.std.specs.Prelude.{◌≡◌, ◌≢◌, ◌<◌, ◌++◌, ◌⊎◌, IfOk, OnOk, IfErr, IfSome, string_bytes, decimal, codes};
+ghost use Rattle.std.specs.Prelude.{◌≡◌, ◌≢◌, ◌++◌, ◌⊎◌, IfOk, OnOk, IfErr, IfSome, string_bytes, decimal, codes};
 ghost use Rattle.std.specs.List.{flat_map};
 ghost use Rattle.std.specs.Fmt.{signed_decimal};
 ghost use Rattle.std.specs.Io.KnownBytes.{Appends, Keeps};
 ghost use Rattle.orc_types.specs.Days.{date_text as date_day};
+ghost use Rattle.orc_io.specs.Leaves.{HandsBackSource};
 ghost use Rattle.orc_tail.specs.Tails.{IsTail};
 ghost use Rattle.orc_tail.specs.declared.fault.FileFault.TheVariants.{SourceFailed};
 ghost use Rattle.orc_tail.specs.declared.tail.Tail.{Tail};
@@ -302,10 +303,6 @@ pub fn show_to<S: Source, W: Write>(
     // source or memory alone.
     ensures only { IfSome (S.told source) (λ bytes. (tail : Tail) → IsTail bytes tail
         → IfErr result (λ e. IsOutsideFile e.0)) }
-    // After success the source that is handed back tells what it told, and its count of failures
-    // didn't rise.
-    ensures same { IfOk result (λ back. S.told back ≡ S.told source) }
-    ensures kept { IfOk result (λ back. S.failures back ≡ S.failures source) }
 
     // Where the source tells its bytes, a refusal but WriteFailed stands: the bytes have the fault
     // of the first test that fails, or the source or memory refused.
@@ -317,14 +314,13 @@ pub fn show_to<S: Source, W: Write>(
     ensures part { IfErr result (λ e. e.0 ≡ write_failed → IfSome (S.told source)
         (λ bytes. (tail : Tail) × IsTail bytes tail
         × AppendsPart (W.contents out.old) (W.contents out.new) (spec.show_lines tail))) }
-    // Where the refusal is SourceFailed, the source's count of failures rose.
-    ensures failed { IfErr result (λ e. e.0 ≡ File SourceFailed → S.failures source < S.failures e.1) }
-    // Where memory ran out, that count didn't rise.
-    ensures memory { IfErr result (λ e. IsWantOfMemory e.0 → S.failures e.1 ≡ S.failures source) }
+    // After success and after a refusal the source that is handed back tells what it told, and is
+    // as long. Its count of failures rose where the refusal is SourceFailed, and didn't where the
+    // call succeeds or memory ran out.
+    ensures source { HandsBackSource S.told S.size S.failures (File SourceFailed) IsWantOfMemory (λ back. back)
+        source result }
     // Want of memory is that of the layer of types, for the schema's text, or of that of files.
     ensures layer { IfErr result (λ e. IsWantOfMemory e.0 → spec.IsWantOfShow e.0) }
-    // After a refusal, too, the source that is handed back tells what it told.
-    ensures back { IfErr result (λ e. S.told e.1 ≡ S.told source) }
 {
     match OrcFile::open(alloc, source) {
         Ok(file) => {

@@ -1,4 +1,4 @@
-use Rattle.std.proofs.Common.{List, ℕ, ap, inr}
+use Rattle.std.proofs.Common.{List, ℕ, ap, inr, rules}
 use Rattle.orc_tail.specs.declared.tail.Tail.{Tail}
 use Rattle.std.specs.Io.KnownBytes.{Appends}
 use Rattle.orc_tail.specs.Tails.{IsTail}
@@ -35,8 +35,14 @@ returns-in-Err-clause-part g c = λ failed.
     let known = g.W.Write.contents c.args.out.now in
     no_output (g.S.Source.told c.args.source) c.in-Err.fault (λ (bytes : List ℕ). (tail : Tail) × IsTail bytes tail × AppendsPart known known (show_lines tail)) c.in-Err.ensures.fault failed
 
-pub returns-in-Err-clause-memory : goal.returns-in-Err-clause-memory
-returns-in-Err-clause-memory g c = λ want. c.in-Err.ensures.memory (file_want c.in-Err.fault want)
+pub returns-in-Err-clause-source : goal.returns-in-Err-clause-source
+returns-in-Err-clause-source g c = record {
+  told = search rules;
+  size = search rules;
+  kept = search rules;
+  failed = search rules;
+  memory = λ want. c.in-Err.ensures.memory (file_want c.in-Err.fault want);
+}
 
 pub returns-in-Err-clause-layer : goal.returns-in-Err-clause-layer
 returns-in-Err-clause-layer g c = λ want. inr (ap File (file_want c.in-Err.fault want))
