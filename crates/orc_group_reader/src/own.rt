@@ -17,7 +17,7 @@ use crate::faults::entering_fault;
 use crate::octets::octets_from;
 use crate::value_source::source_from;
 use orc_column_reader::{ColumnStreams, Spot, StreamKind, StripeFault, ValueSource};
-use orc_row_index::{values_kind, placed_streams};
+use orc_row_index::{placed_streams, values_kind};
 use orc_values::Tree;
 use std::alloc::Global;
 

@@ -21,7 +21,7 @@ pub use counting::counts_after;
 pub use counts::Counts;
 pub use entry_text::put_entry;
 pub use laws::index_laws;
-pub use placed::{PlacedStreams, values_kind, placed_streams};
+pub use placed::{PlacedStreams, placed_streams, values_kind};
 pub use row_index::put_index;
 pub use run_bytes::RunBytes;
 pub use walk::Walk;
