@@ -10,7 +10,7 @@ use Rattle.orc_row_index.proofs.entry_text.put_entry.Goals as goal
 pub returns-in-Ok-clause-entry : goal.returns-in-Ok-clause-entry
 returns-in-Ok-clause-entry c = λ before counted there.
     let placed = c.args.placed.now in
-    let put = c.in_ok-walk.ensures.positions before counted there in
+    let put = c.in_ok-walk.ensures.places before counted there in
     let positions : c.from_vec.result ≡ put.0 = c.from_vec.ensures ∙ ap (λ (v : Vec ℕ Global). v.items) c.replace.ensures.value ∙ put.2 ∙ ap (λ (ps : List ℕ). ps ++ put.0) c.clear.ensures.items in
     let entry : RowIndexEntry = record { positions = c.from_vec.result; statistics = Some c.in_ok-message_of.field-0 } in
     let field = sized_text 1 (row_index_entry_text.text entry) in (
