@@ -1,29 +1,22 @@
 -- A finding is in the list exactly where what it says of the file is so.
 use Rattle.std.proofs.Common.{◌≡◌, ℕ, zero, suc, ◌<◌, ◌⊎◌, inl, inr, List, [], ◌∷◌, ◌++◌, length, refl, sym, subst, arith}
 use Rattle.std.specs.Prelude.{Contains}
-use Rattle.orc_wire.specs.declared.row_index.RowIndexEntry.{RowIndexEntry}
-use Rattle.orc_wire.specs.declared.row_index.RowIndexMsg.{RowIndexMsg}
 use Rattle.orc_wire.specs.declared.stripe_footer.StripeFooter.{StripeFooter}
 use Rattle.orc_values.specs.Cells.{Cell}
-use Rattle.orc_values.specs.Columns.{cells}
-use Rattle.orc_values.specs.Shapes.{width, shape_at}
+use Rattle.orc_values.specs.Shapes.{width}
 use Rattle.orc_stats.specs.declared.stat.Stat.{Stat}
-use Rattle.orc_column_reader.specs.Stripe.{HasFooter, columns_of}
-use Rattle.orc_row_index.specs.Bounds.{before_group, group_of}
-use Rattle.orc_row_index.specs.Positions.{AreReadPositions}
-use Rattle.orc_stripe_writer.specs.Groups.{starts, bounds_of}
+use Rattle.orc_column_reader.specs.Stripe.{HasFooter}
 use Rattle.orc_stripe.specs.Opened.{Opened}
-use Rattle.orc_stripe.specs.RowIndexes.{HasIndex, IsWhole}
 use Rattle.orc_stripe.proofs.OneStripe.{one_footer}
 use Rattle.orc_tail.specs.Stripes.{stripe_at}
 use Rattle.orc_file.specs.FileRows.{opened_stripe, cut_rows, FileIs}
 use Rattle.orc_tail.specs.declared.tail.Tail.{Tail}
 use Rattle.orc_check.specs.declared.finding.Finding.{Finding}
 use Rattle.orc_check.specs.declared.finding.Finding.TheVariants.{StripeStatistic, IndexEntries, IndexStatistic, IndexPosition, FileStatistic}
-use Rattle.orc_check.specs.Findings.{Unless, Both, OfEach, OfGroup, OfIndex, OfColumn, OfStripe, OfStripes, OfFile, Findings, TellsStripe, TellsFile, TellsGroup, entry_at, stripe_told, rows_at}
-use Rattle.orc_check.specs.Meanings.{text_of, IsColumnOf, HasGroupEntry, IsSo}
+use Rattle.orc_check.specs.Findings.{Unless, Both, OfEach, IndexedColumn, HasRightStatistic, HasRightPositions, OfGroup, IsIndexedColumn, OfIndex, OfColumn, OfStripe, OfStripes, OfFile, Findings, TellsStripe, TellsFile, stripe_told, rows_at}
+use Rattle.orc_check.specs.Meanings.{text_of, HasColumn, IsColumnOf, IsSo}
 use Rattle.orc_check.proofs.CheckLemmas.{below_or}
-use Rattle.orc_check.proofs.OneList.{one_index}
+use Rattle.orc_check.proofs.OneList.{one_column}
 use Rattle.orc_check.proofs.NoFinding.{stripe_is}
 
 -- ---- a finding in a list
@@ -101,49 +94,36 @@ each_says F W (suc n) s found h f =
 -- ---- a column
 
 module _ (view : Opened) (n : ℕ) (rows : List Cell) (c : ℕ) where
-  abbrev own : List Cell
-  own = cells view.schema c rows
-
-  abbrev bounds : List ℕ
-  bounds = bounds_of view.schema c rows (starts view.stride (length rows))
-
-  -- of a group, whose entry is one of these
-  abbrev GroupSays : List RowIndexEntry → ℕ → Finding → Type 0
-  GroupSays entries g f =
-      ((f ≡ IndexStatistic n c g) × (TellsGroup (shape_at view.schema c) (group_of own bounds g) (entry_at entries g) → ⊥))
-      ⊎ ((f ≡ IndexPosition n c g) × (AreReadPositions (shape_at view.schema c) (columns_of view.footer view.bytes c) (before_group own bounds g) (entry_at entries g).positions → ⊥))
+  -- of a group of the column
+  abbrev GroupSays : IndexedColumn → ℕ → Finding → Type 0
+  GroupSays x g f = ((f ≡ IndexStatistic n c g) × (HasRightStatistic x g → ⊥)) ⊎ ((f ≡ IndexPosition n c g) × (HasRightPositions x g → ⊥))
 
   record GroupsSay (f : Finding) : Type 0 where
-    message : RowIndexMsg
-    has_index : HasIndex view.footer view.bytes c message
-    whole : IsWhole view (length rows) message
-    one : OneBelow (GroupSays message.entries) (length message.entries) f
+    x : IndexedColumn
+    is : IsIndexedColumn view rows c x
+    one : OneBelow (GroupSays x) (length x.entries) f
 
   abbrev IndexSays : Finding → Type 0
-  IndexSays f = (0 < view.stride) × (((f ≡ IndexEntries n c) × ((message : RowIndexMsg) → HasIndex view.footer view.bytes c message → IsWhole view (length rows) message → ⊥)) ⊎ GroupsSay f)
+  IndexSays f = (0 < view.stride) × (((f ≡ IndexEntries n c) × ((x : IndexedColumn) → IsIndexedColumn view rows c x → ⊥)) ⊎ GroupsSay f)
 
-  groups_say : (entries : List RowIndexEntry) (g : ℕ) → Says (OfGroup (shape_at view.schema c) (columns_of view.footer view.bytes c) own bounds n c entries g) (GroupSays entries g)
-  groups_say entries g =
-      both_says (Unless (TellsGroup (shape_at view.schema c) (group_of own bounds g) (entry_at entries g)) (IndexStatistic n c g))
-      (Unless (AreReadPositions (shape_at view.schema c) (columns_of view.footer view.bytes c) (before_group own bounds g) (entry_at entries g).positions) (IndexPosition n c g))
-      (λ f. (f ≡ IndexStatistic n c g) × (TellsGroup (shape_at view.schema c) (group_of own bounds g) (entry_at entries g) → ⊥))
-      (λ f. (f ≡ IndexPosition n c g) × (AreReadPositions (shape_at view.schema c) (columns_of view.footer view.bytes c) (before_group own bounds g) (entry_at entries g).positions → ⊥))
-      (unless_says (TellsGroup (shape_at view.schema c) (group_of own bounds g) (entry_at entries g)) (IndexStatistic n c g))
-      (unless_says (AreReadPositions (shape_at view.schema c) (columns_of view.footer view.bytes c) (before_group own bounds g) (entry_at entries g).positions) (IndexPosition n c g))
+  groups_say : (x : IndexedColumn) (g : ℕ) → Says (OfGroup x n c g) (GroupSays x g)
+  groups_say x g =
+      both_says (Unless (HasRightStatistic x g) (IndexStatistic n c g)) (Unless (HasRightPositions x g) (IndexPosition n c g))
+      (λ f. (f ≡ IndexStatistic n c g) × (HasRightStatistic x g → ⊥)) (λ f. (f ≡ IndexPosition n c g) × (HasRightPositions x g → ⊥))
+      (unless_says (HasRightStatistic x g) (IndexStatistic n c g)) (unless_says (HasRightPositions x g) (IndexPosition n c g))
 
   index_says : Says (OfIndex view n rows c) IndexSays
   index_says found (inl h) f = (λ x. absurd (subst (λ (xs : List Finding). In f xs) h.1 x), λ w. let some = w.0 in let none = h.0 in absurd (omega (arith, some, none)))
   index_says found (inr (some, inl h)) f = (
     λ x. (some, inl (elim (subst (λ (xs : List Finding). In f xs) h.1 x) [ inl e ↦ (e, h.0) | inr n ↦ absurd n ])),
-    λ w. elim w.1 [ inl y ↦ subst (λ (xs : List Finding). In f xs) (sym h.1) (inl y.0) | inr y ↦ absurd (h.0 y.message y.has_index y.whole) ],
+    λ w. elim w.1 [ inl y ↦ subst (λ (xs : List Finding). In f xs) (sym h.1) (inl y.0) | inr y ↦ absurd (h.0 y.x y.is) ],
   )
   index_says found (inr (some, inr h)) f =
-      let entries : List RowIndexEntry = h.0.entries in
-      let g = each_says (OfGroup (shape_at view.schema c) (columns_of view.footer view.bytes c) own bounds n c entries) (GroupSays entries) (length entries) (λ k lt. groups_say entries k) found h.3 f in (
-        λ x. (some, inr (record { message = h.0; has_index = h.1; whole = h.2; one = g.0 x })),
+      let g = each_says (OfGroup h.0 n c) (GroupSays h.0) (length h.0.entries) (λ k lt. groups_say h.0 k) found h.2 f in (
+        λ x. (some, inr (record { x = h.0; is = h.1; one = g.0 x })),
         λ w. elim w.1 [
-          | inl y ↦ absurd (y.1 h.0 h.1 h.2)
-          | inr y ↦ g.1 (subst (λ (m : RowIndexMsg). OneBelow (GroupSays m.entries) (length m.entries) f) (one_index view.footer view.bytes c y.message h.0 y.has_index h.1) y.one)
+          | inl y ↦ absurd (y.1 h.0 h.1)
+          | inr y ↦ g.1 (subst (λ (z : IndexedColumn). OneBelow (GroupSays z) (length z.entries) f) (one_column view rows c y.x h.0 y.is h.1) y.one)
         ],
       )
 
@@ -195,30 +175,32 @@ module _ (bytes : List ℕ) (tail : Tail) (rows : List Cell) (is : FileIs bytes 
 
   -- ---- from what is said to what is so
 
-  group_so : (n c : ℕ) (f : Finding) (footer : StripeFooter) → IsColumnOf tail n c → HasFooter tail.schema (stripe_at tail.stripes n) (text_of bytes tail n) footer → 0 < tail.stride
-      → (h : GroupsSay (view_of n footer) n (rows_at parts n) c f) → GroupSays (view_of n footer) n (rows_at parts n) c h.message.entries h.one.k f → IsSo bytes tail parts f
-  group_so n c f footer column has some h (inl w) = subst (IsSo bytes tail parts) (sym w.0) (
-    h.message.entries,
-    record { column = column; indexed = some; has = record { footer = footer; has_footer = has; message = h.message; has_index = h.has_index; whole = h.whole; entries_are = refl }; there = h.one.below },
+  group_so : (n c : ℕ) (f : Finding) (footer : StripeFooter) → HasColumn tail n c → HasFooter tail.schema (stripe_at tail.stripes n) (text_of bytes tail n) footer → 0 < tail.stride
+      → (h : GroupsSay (view_of n footer) n (rows_at parts n) c f) → GroupSays (view_of n footer) n (rows_at parts n) c h.x h.one.k f → IsSo bytes tail parts f
+  group_so n c f footer there has some h (inl w) = subst (IsSo bytes tail parts) (sym w.0) (
+    h.x,
+    record { there = there; stride = some; footer = footer; has_footer = has; column = h.is },
+    h.one.below,
     w.1,
   )
-  group_so n c f footer column has some h (inr w) = subst (IsSo bytes tail parts) (sym w.0) (
-    h.message.entries,
-    record { column = column; indexed = some; has = record { footer = footer; has_footer = has; message = h.message; has_index = h.has_index; whole = h.whole; entries_are = refl }; there = h.one.below },
+  group_so n c f footer there has some h (inr w) = subst (IsSo bytes tail parts) (sym w.0) (
+    h.x,
+    record { there = there; stride = some; footer = footer; has_footer = has; column = h.is },
+    h.one.below,
     w.1,
   )
 
-  column_so : (n c : ℕ) (f : Finding) (footer : StripeFooter) → IsColumnOf tail n c → HasFooter tail.schema (stripe_at tail.stripes n) (text_of bytes tail n) footer
+  column_so : (n c : ℕ) (f : Finding) (footer : StripeFooter) → HasColumn tail n c → HasFooter tail.schema (stripe_at tail.stripes n) (text_of bytes tail n) footer
       → ColumnSays (view_of n footer) n (rows_at parts n) c (stripe_told tail n) f → IsSo bytes tail parts f
-  column_so n c f footer column has (inl w) = subst (IsSo bytes tail parts) (sym w.0) (column, w.1)
-  column_so n c f footer column has (inr (some, inl w)) = subst (IsSo bytes tail parts) (sym w.0) (
-    column,
+  column_so n c f footer there has (inl w) = subst (IsSo bytes tail parts) (sym w.0) (there, w.1)
+  column_so n c f footer there has (inr (some, inl w)) = subst (IsSo bytes tail parts) (sym w.0) (
+    there,
     some,
-    λ entries h.
+    λ x h.
         let same = one_footer tail.schema (stripe_at tail.stripes n) (text_of bytes tail n) h.footer footer h.has_footer has in
-        w.1 h.message (subst (λ (t : StripeFooter). HasIndex t (text_of bytes tail n) c h.message) same h.has_index) (subst (λ (t : StripeFooter). IsWhole (view_of n t) (length (rows_at parts n)) h.message) same h.whole),
+        w.1 x (subst (λ (t : StripeFooter). IsIndexedColumn (view_of n t) (rows_at parts n) c x) same h.column),
   )
-  column_so n c f footer column has (inr (some, inr h)) = group_so n c f footer column has some h h.one.holds
+  column_so n c f footer there has (inr (some, inr h)) = group_so n c f footer there has some h h.one.holds
 
   said_so : (f : Finding) → FindingsSay f → IsSo bytes tail parts f
   said_so f (inl w) =
@@ -229,28 +211,14 @@ module _ (bytes : List ℕ) (tail : Tail) (rows : List Cell) (is : FileIs bytes 
 
   -- ---- and back
 
-  column_said : (n c : ℕ) (f : Finding) (footer : StripeFooter) → IsColumnOf tail n c → HasFooter tail.schema (stripe_at tail.stripes n) (text_of bytes tail n) footer
+  column_said : (n c : ℕ) (f : Finding) (footer : StripeFooter) → HasColumn tail n c → HasFooter tail.schema (stripe_at tail.stripes n) (text_of bytes tail n) footer
       → ColumnSays (view_of n footer) n (rows_at parts n) c (stripe_told tail n) f → FindingsSay f
-  column_said n c f footer column has says =
-      inl (record { k = n; below = column.stripe; holds = record { footer = footer; has_footer = has; one = record { k = c; below = column.column; holds = says } } })
+  column_said n c f footer there has says =
+      inl (record { k = n; below = there.stripe; holds = record { footer = footer; has_footer = has; one = record { k = c; below = there.column; holds = says } } })
 
-  group_said : (n c g : ℕ) (f : Finding) (entries : List RowIndexEntry) (h : HasGroupEntry bytes tail parts n c g entries) → GroupSays (view_of n h.has.footer) n (rows_at parts n) c entries g f → FindingsSay f
-  group_said n c g f entries h says =
-      let own = h.has in
-      let there = h.there in
-      column_said n c f own.footer h.column own.has_footer (inr (
-        h.indexed,
-        inr (record {
-          message = own.message;
-          has_index = own.has_index;
-          whole = own.whole;
-          one = record {
-            k = g;
-            below = subst (λ (es : List RowIndexEntry). g < length es) own.entries_are there;
-            holds = subst (λ (es : List RowIndexEntry). GroupSays (view_of n own.footer) n (rows_at parts n) c es g f) own.entries_are says;
-          };
-        }),
-      ))
+  group_said : (n c g : ℕ) (f : Finding) (x : IndexedColumn) (h : IsColumnOf bytes tail parts n c x) → g < length x.entries → GroupSays (view_of n h.footer) n (rows_at parts n) c x g f → FindingsSay f
+  group_said n c g f x h below says =
+      column_said n c f h.footer h.there h.has_footer (inr (h.stride, inr (record { x = x; is = h.column; one = record { k = g; below = below; holds = says } })))
 
   so_said : (f : Finding) → IsSo bytes tail parts f → FindingsSay f
   so_said (StripeStatistic n c) h =
@@ -260,14 +228,10 @@ module _ (bytes : List ℕ) (tail : Tail) (rows : List Cell) (is : FileIs bytes 
       let s = stripe_is bytes tail rows is n h.0.stripe in
       column_said n c (IndexEntries n c) s.footer h.0 s.has_footer (inr (
         h.1,
-        inl (
-          refl,
-          λ message has whole.
-              h.2 message.entries (record { footer = s.footer; has_footer = s.has_footer; message = message; has_index = has; whole = whole; entries_are = refl }),
-        ),
+        inl (refl, λ x own. h.2 x (record { there = h.0; stride = h.1; footer = s.footer; has_footer = s.has_footer; column = own })),
       ))
-  so_said (IndexStatistic n c g) h = group_said n c g (IndexStatistic n c g) h.0 h.1 (inl (refl, h.2))
-  so_said (IndexPosition n c g) h = group_said n c g (IndexPosition n c g) h.0 h.1 (inr (refl, h.2))
+  so_said (IndexStatistic n c g) h = group_said n c g (IndexStatistic n c g) h.0 h.1 h.2 (inl (refl, h.3))
+  so_said (IndexPosition n c g) h = group_said n c g (IndexPosition n c g) h.0 h.1 h.2 (inr (refl, h.3))
   so_said (FileStatistic c) h = inr (record { k = c; below = h.0; holds = (refl, h.1) })
 
   pub each_found : (found : List Finding) (f : Finding) → Findings bytes tail rows found → (Contains found f → IsSo bytes tail parts f) × (IsSo bytes tail parts f → Contains found f)

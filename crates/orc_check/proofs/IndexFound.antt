@@ -28,24 +28,25 @@ use Rattle.orc_stripe.specs.RowIndexes.{HasIndex, IsWhole}
 use Rattle.orc_check.specs.declared.finding.Finding.{Finding}
 use Rattle.orc_check.specs.declared.finding.Finding.TheVariants.{IndexEntries}
 use Rattle.orc_check.specs.declared.open_stripe.OpenStripe.{OpenStripe}
-use Rattle.orc_check.specs.Findings.{Adds, OfEach, OfGroup, OfGroups, OfIndex}
+use Rattle.orc_check.specs.Findings.{Adds, IndexedColumn, OfGroups, column_with, OfIndex}
 use Rattle.orc_check.specs.Needed.{MayBeWhole}
 use Rattle.orc_check.specs.Walking.{IsLaidOut, AreGroups, AreGroupsFound}
 use Rattle.orc_check.proofs.EntryBytes.{whole_has_room}
 use Rattle.orc_check.proofs.GroupBounds.{get_or_any, bounds_long}
 
 pub groups_found : (view : Opened) (n : ℕ) (rows : List Cell) (c : ℕ) (message : RowIndexMsg) (a b : List Finding) → 0 < view.stride → HasIndex view.footer view.bytes c message → IsWhole view (length rows) message
-    → Adds (OfGroups view n rows c message.entries) a b → Adds (OfIndex view n rows c) a b
-groups_found view n rows c message a b some has whole h = (h.0, inr (some, inr (message, has, whole, h.1)), h.2)
+    → Adds (OfGroups (column_with view rows c message.entries) n c) a b → Adds (OfIndex view n rows c) a b
+groups_found view n rows c message a b some has whole h =
+    (h.0, inr (some, inr (column_with view rows c message.entries, record { message = message; has_index = has; whole = whole; column_is = refl }, h.1)), h.2)
 
--- the same groups by other names
+-- the same column by another type and other entries
+abbrev typed : Opened → List Cell → ℕ → Shape → List RowIndexEntry → IndexedColumn
+typed view rows c t es = record (column_with view rows c es) { shape = t }
+
 pub groups_here : (view : Opened) (n : ℕ) (rows : List Cell) (c : ℕ) (t : Shape) (es fs : List RowIndexEntry) (a b : List Finding) → shape_at view.schema c ≡ t → es ≡ fs
-    → Adds (OfEach (OfGroup t (columns_of view.footer view.bytes c) (cells view.schema c rows) (bounds_of view.schema c rows (starts view.stride (length rows))) n c es) (length es)) a b → Adds (OfGroups view n rows c fs) a b
+    → Adds (OfGroups (typed view rows c t es) n c) a b → Adds (OfGroups (column_with view rows c fs) n c) a b
 groups_here view n rows c t es fs a b type same h =
-    let x = columns_of view.footer view.bytes c in
-    let cs = cells view.schema c rows in
-    let bs = bounds_of view.schema c rows (starts view.stride (length rows)) in
-    subst (λ (u : Shape). Adds (OfEach (OfGroup u x cs bs n c fs) (length fs)) a b) (sym type) (subst (λ (xs : List RowIndexEntry). Adds (OfEach (OfGroup t x cs bs n c xs) (length xs)) a b) same h)
+    subst (λ (u : Shape). Adds (OfGroups (typed view rows c u fs) n c) a b) (sym type) (subst (λ (xs : List RowIndexEntry). Adds (OfGroups (typed view rows c t xs) n c) a b) same h)
 
 -- ---- the message of an index
 
@@ -102,7 +103,7 @@ pub too_short : (stripe : OpenStripe) (rows : List Cell) (c : ℕ) (a b : List F
     → Adds (OfIndex stripe.view.now stripe.number rows c) a b
 too_short stripe rows c a b short e some all = (
   IndexEntries stripe.number c ∷ [],
-  inr (some, inl ((λ message has whole. short (whole_has_room stripe.view.now c (length rows) message some all has whole)), refl)),
+  inr (some, inl ((λ x is. short (whole_has_room stripe.view.now c (length rows) is.message some all is.has_index is.whole)), refl)),
   e,
 )
 
@@ -111,7 +112,7 @@ pub none_there : (stripe : OpenStripe) (rows : List Cell) (c : ℕ) (text : Inde
     → ((message : RowIndexMsg) → IsMessage text message → ⊥) → b ≡ a ++ IndexEntries stripe.number c ∷ [] → 0 < stripe.view.now.stride → Adds (OfIndex stripe.view.now stripe.number rows c) a b
 none_there stripe rows c text a b out lt at none e some = (
   IndexEntries stripe.number c ∷ [],
-  inr (some, inl ((λ message has whole. none message (is_message stripe c text message out lt at has)), refl)),
+  inr (some, inl ((λ x is. none is.message (is_message stripe c text is.message out lt at is.has_index)), refl)),
   e,
 )
 
@@ -126,9 +127,9 @@ other_number stripe rows c t groups text message es a b out lt at is same other 
       inr (
         some,
         inl (
-          (λ m has whole.
-              let one : message ≡ m = one_index v.footer v.bytes c message m own has in
-              other (ap length same ∙ ap (λ (k : RowIndexMsg). length k.entries) one ∙ whole ∙ sym (bounds_long v.schema c v.stride rows) ∙ sym h.counted)),
+          (λ x has.
+              let one : message ≡ has.message = one_index v.footer v.bytes c message has.message own has.has_index in
+              other (ap length same ∙ ap (λ (k : RowIndexMsg). length k.entries) one ∙ has.whole ∙ sym (bounds_long v.schema c v.stride rows) ∙ sym h.counted)),
           refl,
         ),
       ),
@@ -141,7 +142,8 @@ pub index_found : (stripe : OpenStripe) (rows : List Cell) (c : ℕ) (t : Shape)
     → AreStreams (columns_of stripe.view.now.footer stripe.view.now.bytes c) streams
     → ((y : Streams) (cs : List Cell) (bs : List ℕ) → AreStreams y streams → IsColumn t y cs → AreBounds (length cs) bs → length counts ≡ length es → ((g : ℕ) (k : Counts) → slice_get counts g ≡ Some k → AreCounted k (before_group cs bs g))
     → AreDecided t y cs bs es right)
-    → ((y : Streams) (cs : List Cell) (bs : List ℕ) → RowsFit t cs → length cs < cell_limit → AreGroups t cs bs groups → AreDecided t y cs bs es right → Adds (OfEach (OfGroup t y cs bs stripe.number c es) (length es)) a b)
+    → ((y : Streams) (cs : List Cell) (bs : List ℕ) → RowsFit t cs → length cs < cell_limit → AreGroups t cs bs groups → AreDecided t y cs bs es right
+    → Adds (OfGroups (record { shape = t; streams = y; cells = cs; bounds = bs; entries = es }) stripe.number c) a b)
     → 0 < stripe.view.now.stride → AreGroupsFound stripe.view.now rows c t groups → Adds (OfIndex stripe.view.now stripe.number rows c) a b
 index_found stripe rows c t groups text message es right counts streams a b out lt at is same many counted streams_are placed each some h =
     let v = stripe.view.now in

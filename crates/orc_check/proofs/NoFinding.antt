@@ -14,7 +14,7 @@ use Rattle.orc_stats.specs.Known.{Agrees}
 use Rattle.orc_stats.specs.Messages.{stat_read}
 use Rattle.orc_stats.specs.Statistics.{stat}
 use Rattle.orc_stats.proofs.Agreed.{same_agrees}
-use Rattle.orc_column_reader.specs.Stripe.{Streams, HasFooter, IsStripe, columns_of}
+use Rattle.orc_column_reader.specs.Stripe.{HasFooter, IsStripe}
 use Rattle.orc_row_index.specs.Bounds.{before_group, group_of}
 use Rattle.orc_row_index.specs.Positions.{AreReadPositions}
 use Rattle.orc_row_index.specs.RowIndex.{SaysStat}
@@ -29,7 +29,7 @@ use Rattle.orc_file.proofs.RowLemmas.{rows_cut}
 use Rattle.orc_check.specs.declared.finding.Finding.{Finding}
 use Rattle.orc_check.specs.declared.finding.Finding.TheVariants.{StripeStatistic, IndexStatistic, IndexPosition, FileStatistic}
 use Rattle.orc_check.specs.Agreeing.{Tells}
-use Rattle.orc_check.specs.Findings.{Unless, Both, OfEach, OfGroup, OfIndex, OfColumn, OfStripe, OfStripes, OfFile, Findings, TellsStripe, TellsFile, TellsWhole, TellsGroup, entry_at, stripe_told, rows_at}
+use Rattle.orc_check.specs.Findings.{Unless, Both, OfEach, IndexedColumn, HasRightStatistic, HasRightPositions, OfGroup, OfGroups, column_with, OfIndex, OfColumn, OfStripe, OfStripes, OfFile, Findings, TellsStripe, TellsFile, TellsWhole, TellsGroup, entry_at, stripe_told, rows_at}
 use Rattle.orc_check.specs.RightIndexes.{HasAgreeingIndex, HasIndexes}
 use Rattle.orc_check.proofs.CheckLemmas.{below_or}
 use Rattle.orc_check.proofs.GroupBounds.{bounds_long}
@@ -119,32 +119,26 @@ module _ (view : Opened) (n : ℕ) (rows : List Cell) (c : ℕ) (some : 0 < view
   abbrev s : Shape
   s = shape_at view.schema c
 
-  abbrev x : Streams
-  x = columns_of view.footer view.bytes c
-
-  abbrev cs : List Cell
-  cs = cells view.schema c rows
-
-  abbrev bounds : List ℕ
-  bounds = bounds_of view.schema c rows (starts view.stride (length rows))
-
   index_right : OfIndex view n rows c [] → HasAgreeingIndex view.stride view.schema rows view.footer view.bytes c
   index_right (inl z) = absurd (omega (arith, z.0, some))
   index_right (inr (k, inl h)) = let wrong = h.1 in cc
   index_right (inr (k, inr h)) =
-      let es : List RowIndexEntry = h.0.entries in
-      let at : (g : ℕ) → g < length es → OfGroup s x cs bounds n c es g [] = λ g lt. each_at (OfGroup s x cs bounds n c es) (length es) h.3 g lt in
-      let tells : (g : ℕ) → g < length es → TellsGroup s (group_of cs bounds g) (entry_at es g) = λ g lt.
-      holds_of (TellsGroup s (group_of cs bounds g) (entry_at es g)) (IndexStatistic n c g) (first_none (Unless (TellsGroup s (group_of cs bounds g) (entry_at es g)) (IndexStatistic n c g)) (Unless (AreReadPositions s x (before_group cs bounds g) (entry_at es g).positions) (IndexPosition n c g)) (at g lt)) in
-      let places : (g : ℕ) → g < length es → AreReadPositions s x (before_group cs bounds g) (entry_at es g).positions = λ g lt.
-      holds_of (AreReadPositions s x (before_group cs bounds g) (entry_at es g).positions) (IndexPosition n c g) (second_none (Unless (TellsGroup s (group_of cs bounds g) (entry_at es g)) (IndexStatistic n c g)) (Unless (AreReadPositions s x (before_group cs bounds g) (entry_at es g).positions) (IndexPosition n c g)) (at g lt)) in (
-        h.1.0,
+      let is = h.1 in
+      let es : List RowIndexEntry = is.message.entries in
+      let x : IndexedColumn = column_with view rows c es in
+      let groups : OfGroups x n c [] = subst (λ (y : IndexedColumn). OfGroups y n c []) is.column_is h.2 in
+      let at : (g : ℕ) → g < length es → OfGroup x n c g [] = λ g lt. each_at (OfGroup x n c) (length es) groups g lt in
+      let tells : (g : ℕ) → g < length es → HasRightStatistic x g = λ g lt.
+      holds_of (HasRightStatistic x g) (IndexStatistic n c g) (first_none (Unless (HasRightStatistic x g) (IndexStatistic n c g)) (Unless (HasRightPositions x g) (IndexPosition n c g)) (at g lt)) in
+      let places : (g : ℕ) → g < length es → HasRightPositions x g = λ g lt.
+      holds_of (HasRightPositions x g) (IndexPosition n c g) (second_none (Unless (HasRightStatistic x g) (IndexStatistic n c g)) (Unless (HasRightPositions x g) (IndexPosition n c g)) (at g lt)) in (
+        is.has_index.0,
         record {
-          message = h.0;
-          spelled = h.1.1;
-          counted = h.2 ∙ sym (bounds_long view.schema c view.stride rows);
-          positions = λ g e got. let b = entry_below es g e got in subst (λ (y : RowIndexEntry). AreReadPositions s x (before_group cs bounds g) y.positions) b.1 (places g b.0);
-          statistics = λ g e got. let b = entry_below es g e got in subst (λ (y : RowIndexEntry). TellsGroup s (group_of cs bounds g) y) b.1 (tells g b.0);
+          message = is.message;
+          spelled = is.has_index.1;
+          counted = is.whole ∙ sym (bounds_long view.schema c view.stride rows);
+          positions = λ g e got. let b = entry_below es g e got in subst (λ (y : RowIndexEntry). AreReadPositions s x.streams (before_group x.cells x.bounds g) y.positions) b.1 (places g b.0);
+          statistics = λ g e got. let b = entry_below es g e got in subst (λ (y : RowIndexEntry). TellsGroup s (group_of x.cells x.bounds g) y) b.1 (tells g b.0);
         },
       )
 
@@ -155,10 +149,9 @@ module _ (view : Opened) (n : ℕ) (rows : List Cell) (c : ℕ) (some : 0 < view
       inr (
         some,
         inr (
-          r.message,
-          (h.0, r.spelled),
-          r.counted ∙ bounds_long view.schema c view.stride rows,
-          none_each (OfGroup s x cs bounds n c es) (length es)
+          column_with view rows c es,
+          record { message = r.message; has_index = (h.0, r.spelled); whole = r.counted ∙ bounds_long view.schema c view.stride rows; column_is = refl },
+          none_each (OfGroup (column_with view rows c es) n c) (length es)
               (λ g lt. let got = entry_there es g lt in ([], [], inl (r.statistics g (entry_at es g) got, refl), inl (r.positions g (entry_at es g) got, refl), refl)),
         ),
       )

@@ -1,18 +1,12 @@
 -- What is found of a file is one list.
-use Rattle.std.proofs.Common.{◌≡◌, ◌∙◌, ℕ, zero, suc, inl, inr, List, ◌++◌, length, sym, subst, arith}
+use Rattle.std.proofs.Common.{◌≡◌, ◌∙◌, ℕ, zero, suc, inl, inr, List, ◌++◌, length, sym, ap, subst, arith}
 use Rattle.orc_wire.specs.Messages.{row_index}
 use Rattle.orc_wire.specs.SpellsLaws.{one_spelled}
-use Rattle.orc_wire.specs.declared.row_index.RowIndexEntry.{RowIndexEntry}
 use Rattle.orc_wire.specs.declared.row_index.RowIndexMsg.{RowIndexMsg}
 use Rattle.orc_wire.specs.declared.stripe_footer.StripeFooter.{StripeFooter}
 use Rattle.orc_values.specs.Cells.{Cell}
-use Rattle.orc_values.specs.Columns.{cells}
-use Rattle.orc_values.specs.Shapes.{Shape, width, shape_at}
+use Rattle.orc_values.specs.Shapes.{width}
 use Rattle.orc_stats.specs.declared.stat.Stat.{Stat}
-use Rattle.orc_column_reader.specs.Stripe.{Streams, columns_of}
-use Rattle.orc_row_index.specs.Bounds.{before_group, group_of}
-use Rattle.orc_row_index.specs.Positions.{AreReadPositions}
-use Rattle.orc_stripe_writer.specs.Groups.{starts, bounds_of}
 use Rattle.orc_stripe.specs.Opened.{Opened}
 use Rattle.orc_stripe.specs.RowIndexes.{HasIndex, index_text}
 use Rattle.orc_stripe.proofs.OneStripe.{one_footer}
@@ -21,7 +15,7 @@ use Rattle.orc_file.specs.FileRows.{stripe_bytes, opened_stripe, cut_rows}
 use Rattle.orc_tail.specs.declared.tail.Tail.{Tail}
 use Rattle.orc_check.specs.declared.finding.Finding.{Finding}
 use Rattle.orc_check.specs.declared.finding.Finding.TheVariants.{StripeStatistic, IndexStatistic, IndexPosition, FileStatistic}
-use Rattle.orc_check.specs.Findings.{Unless, Both, OfEach, OfGroup, OfGroups, OfIndex, OfColumn, OfStripe, OfStripes, OfFile, Findings, TellsStripe, TellsFile, TellsGroup, entry_at, stripe_told, rows_at}
+use Rattle.orc_check.specs.Findings.{Unless, Both, OfEach, IndexedColumn, HasRightStatistic, HasRightPositions, OfGroup, OfGroups, column_with, IsIndexedColumn, OfIndex, OfColumn, OfStripe, OfStripes, OfFile, Findings, TellsStripe, TellsFile, stripe_told, rows_at}
 
 unless_one : (P : Type 0) (f : Finding) (a b : List Finding) → Unless P f a → Unless P f b → a ≡ b
 unless_one P f a b (inl p) (inl q) = p.1 ∙ sym q.1
@@ -36,26 +30,29 @@ each_one : (F : ℕ → List Finding → Type 0) → ((k : ℕ) (a b : List Find
 each_one F one zero a b x y = x ∙ sym y
 each_one F one (suc n) a b x y = both_one (OfEach F n) (F n) (each_one F one n) (one n) a b x y
 
-group_one : (s : Shape) (x : Streams) (cs : List Cell) (bounds : List ℕ) (n c : ℕ) (es : List RowIndexEntry) (g : ℕ) (a b : List Finding) → OfGroup s x cs bounds n c es g a → OfGroup s x cs bounds n c es g b → a ≡ b
-group_one s x cs bounds n c es g =
-    both_one (Unless (TellsGroup s (group_of cs bounds g) (entry_at es g)) (IndexStatistic n c g)) (Unless (AreReadPositions s x (before_group cs bounds g) (entry_at es g).positions) (IndexPosition n c g))
-    (unless_one (TellsGroup s (group_of cs bounds g) (entry_at es g)) (IndexStatistic n c g)) (unless_one (AreReadPositions s x (before_group cs bounds g) (entry_at es g).positions) (IndexPosition n c g))
+group_one : (x : IndexedColumn) (n c g : ℕ) (a b : List Finding) → OfGroup x n c g a → OfGroup x n c g b → a ≡ b
+group_one x n c g =
+    both_one (Unless (HasRightStatistic x g) (IndexStatistic n c g)) (Unless (HasRightPositions x g) (IndexPosition n c g))
+    (unless_one (HasRightStatistic x g) (IndexStatistic n c g)) (unless_one (HasRightPositions x g) (IndexPosition n c g))
 
 -- a column has one index at most
 pub one_index : (footer : StripeFooter) (bytes : List ℕ) (c : ℕ) (a b : RowIndexMsg) → HasIndex footer bytes c a → HasIndex footer bytes c b → a ≡ b
 one_index footer bytes c a b p q = one_spelled row_index 0 0 (index_text footer bytes c) a b p.1 q.1
+
+pub one_column : (view : Opened) (rows : List Cell) (c : ℕ) (x y : IndexedColumn) → IsIndexedColumn view rows c x → IsIndexedColumn view rows c y → x ≡ y
+one_column view rows c x y p q =
+    p.column_is ∙ ap (λ (m : RowIndexMsg). column_with view rows c m.entries) (one_index view.footer view.bytes c p.message q.message p.has_index q.has_index) ∙ sym q.column_is
 
 index_one : (view : Opened) (n : ℕ) (rows : List Cell) (c : ℕ) (a b : List Finding) → OfIndex view n rows c a → OfIndex view n rows c b → a ≡ b
 index_one view n rows c a b (inl x) (inl y) = x.1 ∙ sym y.1
 index_one view n rows c a b (inl x) (inr y) = absurd (omega (arith, x.0, y.0))
 index_one view n rows c a b (inr x) (inl y) = absurd (omega (arith, x.0, y.0))
 index_one view n rows c a b (inr (s, inl x)) (inr (t, inl y)) = x.1 ∙ sym y.1
-index_one view n rows c a b (inr (s, inl x)) (inr (t, inr y)) = absurd (x.0 y.0 y.1 y.2)
-index_one view n rows c a b (inr (s, inr x)) (inr (t, inl y)) = absurd (y.0 x.0 x.1 x.2)
+index_one view n rows c a b (inr (s, inl x)) (inr (t, inr y)) = absurd (x.0 y.0 y.1)
+index_one view n rows c a b (inr (s, inr x)) (inr (t, inl y)) = absurd (y.0 x.0 x.1)
 index_one view n rows c a b (inr (s, inr x)) (inr (t, inr y)) =
-    let same : y.0 ≡ x.0 = one_index view.footer view.bytes c y.0 x.0 y.1 x.1 in
-    each_one _ (group_one (shape_at view.schema c) (columns_of view.footer view.bytes c) (cells view.schema c rows) (bounds_of view.schema c rows (starts view.stride (length rows))) n c x.0.entries) (length x.0.entries) a b x.3
-    (subst (λ (m : RowIndexMsg). OfGroups view n rows c m.entries b) same y.3)
+    let same : y.0 ≡ x.0 = one_column view rows c y.0 x.0 y.1 x.1 in
+    each_one (OfGroup x.0 n c) (group_one x.0 n c) (length x.0.entries) a b x.2 (subst (λ (z : IndexedColumn). OfGroups z n c b) same y.2)
 
 column_one : (view : Opened) (told : List Stat) (n : ℕ) (rows : List Cell) (c : ℕ) (a b : List Finding) → OfColumn view told n rows c a → OfColumn view told n rows c b → a ≡ b
 column_one view told n rows c =

@@ -54,6 +54,15 @@ Adds Of before after = (own : List Finding) × Of own × (after ≡ before ++ ow
 
 -- ---- the row index
 
+-- A column with a row index: the shape of its type, its streams and its cells, how many of these come before each
+-- group, and the entries of the index.
+pub record IndexedColumn : Type 0 where
+  pub shape : Shape
+  pub streams : Streams
+  pub cells : List Cell
+  pub bounds : List ℕ
+  pub entries : List RowIndexEntry
+
 -- the entry of a group
 abbrev pub entry_at : List RowIndexEntry → ℕ → RowIndexEntry
 entry_at entries group = get_or entries group (record { positions = []; statistics = None })
@@ -62,30 +71,48 @@ entry_at entries group = get_or entries group (record { positions = []; statisti
 abbrev pub TellsGroup : Shape → List Cell → RowIndexEntry → Type 0
 TellsGroup s group entry = Tells (option_map (stat_read (kind_of s)) entry.statistics) (stat (kind_of s) group)
 
--- What is found of a group of column c of stripe n, whose shape is s and whose streams are x: its statistic,
--- then its positions.
-abbrev pub OfGroup : Shape → Streams → List Cell → List ℕ → ℕ → ℕ → List RowIndexEntry → ℕ → List Finding → Type 0
-OfGroup s x cells bounds n c entries g =
-    Both (Unless (TellsGroup s (group_of cells bounds g) (entry_at entries g)) (IndexStatistic n c g))
-    (Unless (AreReadPositions s x (before_group cells bounds g) (entry_at entries g).positions) (IndexPosition n c g))
+-- the group's entry tells the statistic of the group
+abbrev pub HasRightStatistic : IndexedColumn → ℕ → Type 0
+HasRightStatistic x g = TellsGroup x.shape (group_of x.cells x.bounds g) (entry_at x.entries g)
+
+-- from the positions in the group's entry a reader goes on with the group
+abbrev pub HasRightPositions : IndexedColumn → ℕ → Type 0
+HasRightPositions x g =
+    AreReadPositions x.shape x.streams (before_group x.cells x.bounds g) (entry_at x.entries g).positions
+
+-- What is found of a group: its statistic, then its positions.
+abbrev pub OfGroup : IndexedColumn → ℕ → ℕ → ℕ → List Finding → Type 0
+OfGroup x stripe column g =
+    Both (Unless (HasRightStatistic x g) (IndexStatistic stripe column g))
+    (Unless (HasRightPositions x g) (IndexPosition stripe column g))
 
 -- what is found of the column's groups, of which each has an entry
-abbrev pub OfGroups : Opened → ℕ → List Cell → ℕ → List RowIndexEntry → List Finding → Type 0
-OfGroups view n rows c entries =
-    OfEach (OfGroup (shape_at view.schema c) (columns_of view.footer view.bytes c) (cells view.schema c rows)
-    (bounds_of view.schema c rows (starts view.stride (length rows))) n c entries)
-    (length entries)
+abbrev pub OfGroups : IndexedColumn → ℕ → ℕ → List Finding → Type 0
+OfGroups x stripe column = OfEach (OfGroup x stripe column) (length x.entries)
+
+-- a column of an open stripe with these rows, and with these entries
+abbrev pub column_with : Opened → List Cell → ℕ → List RowIndexEntry → IndexedColumn
+column_with view rows c entries = record {
+  shape = shape_at view.schema c;
+  streams = columns_of view.footer view.bytes c;
+  cells = cells view.schema c rows;
+  bounds = bounds_of view.schema c rows (starts view.stride (length rows));
+  entries = entries;
+}
+
+-- This is the column with its index, which the directory lists, and which has an entry for each group of the rows.
+pub record IsIndexedColumn (view : Opened) (rows : List Cell) (c : ℕ) (x : IndexedColumn) : Type 0 where
+  pub message : RowIndexMsg
+  pub has_index : HasIndex view.footer view.bytes c message
+  pub whole : IsWhole view (length rows) message
+  pub column_is : x ≡ column_with view rows c message.entries
 
 -- The one finding of entries where no index of the column has one for each group of the rows; else what is
 -- found of each group.
 abbrev pub OfEntries : Opened → ℕ → List Cell → ℕ → List Finding → Type 0
 OfEntries view n rows c found =
-    (((message : RowIndexMsg) → HasIndex view.footer view.bytes c message → IsWhole view (length rows) message → ⊥)
-    × (found ≡ IndexEntries n c ∷ []))
-    ⊎ ((message : RowIndexMsg)
-    × HasIndex view.footer view.bytes c message
-    × IsWhole view (length rows) message
-    × OfGroups view n rows c message.entries found)
+    (((x : IndexedColumn) → IsIndexedColumn view rows c x → ⊥) × (found ≡ IndexEntries n c ∷ []))
+    ⊎ ((x : IndexedColumn) × IsIndexedColumn view rows c x × OfGroups x n c found)
 
 -- Where the stride is 0, nothing is found of indexes, whatever the directory lists.
 abbrev pub OfIndex : Opened → ℕ → List Cell → ℕ → List Finding → Type 0

@@ -7,7 +7,7 @@ ghost use Rattle.orc_values.specs.Views.{shape};
 ghost use Rattle.orc_column_reader.specs.Stripe.{Streams, cell_limit, columns_of};
 ghost use Rattle.orc_column_walk.specs.declared.found.GroupFound.{GroupFound as Group};
 ghost use Rattle.orc_row_index_check.specs.Decided.{AreDecided};
-ghost use Rattle.orc_check.specs.Findings.{Adds, OfEach, OfGroup, OfIndex};
+ghost use Rattle.orc_check.specs.Findings.{Adds, IndexedColumn, OfGroups, OfIndex};
 ghost use Rattle.orc_check.specs.Needed.{MayBeWhole};
 ghost use Rattle.orc_check.specs.OwnGroups.{HaveCells};
 ghost use Rattle.orc_check.specs.Walking.{IsLaidOut, AreGroups, AreGroupsFound};
@@ -59,12 +59,18 @@ fn check_groups(
     found: &mut Vec<Finding>,
 ) -> Result<(), AllocError>
     requires many { length entries.now ≡ length groups.now }
-    ensures { OnOk result ((x : Streams) (cells : List Cell) (bounds : List ℕ)
-        → RowsFit (shape tree.now) cells → length cells < cell_limit
-        → AreGroups (shape tree.now) cells bounds groups.now
-        → AreDecided (shape tree.now) x cells bounds entries.now right.now
-        → Adds (OfEach (OfGroup (shape tree.now) x cells bounds number column entries.now) (length entries.now))
-        found.old.items found.new.items) }
+    ensures { OnOk result ((streams : Streams) (cells : List Cell) (bounds : List ℕ) →
+        let x : IndexedColumn = record {
+          shape = shape tree.now;
+          streams = streams;
+          cells = cells;
+          bounds = bounds;
+          entries = entries.now;
+        } in
+        RowsFit x.shape cells → length cells < cell_limit
+        → AreGroups x.shape cells bounds groups.now
+        → AreDecided x.shape streams cells bounds entries.now right.now
+        → Adds (OfGroups x number column) found.old.items found.new.items) }
 {
     for group in 0..entries.len() {
         let tells = entry_tells(tree, &entries[group], &groups[group].stat);

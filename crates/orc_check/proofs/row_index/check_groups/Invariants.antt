@@ -4,12 +4,14 @@ use Rattle.orc_values.specs.Fits.{RowsFit}
 use Rattle.orc_values.specs.Views.{shape}
 use Rattle.orc_column_reader.specs.Stripe.{Streams, cell_limit}
 use Rattle.orc_row_index_check.specs.Decided.{AreDecided}
-use Rattle.orc_check.specs.Findings.{Adds, OfEach, OfGroup}
+use Rattle.orc_check.specs.Findings.{Adds, IndexedColumn, OfEach, OfGroup}
 use Rattle.orc_check.specs.Walking.{AreGroups}
 use Rattle.orc_check.proofs.row_index.check_groups.Given as goal
 
 -- the groups so far
 abbrev pub invariant-loop-group : goal.invariant-loop-group
 invariant-loop-group l =
-    (x : Streams) (cells : List Cell) (bounds : List ℕ) → RowsFit (shape l.tree) cells → length cells < cell_limit → AreGroups (shape l.tree) cells bounds l.groups → AreDecided (shape l.tree) x cells bounds l.entries l.right
-    → Adds (OfEach (OfGroup (shape l.tree) x cells bounds l.number l.column l.entries) l.group) l.initial.found.items l.found.items
+    (streams : Streams) (cells : List Cell) (bounds : List ℕ) →
+    let x : IndexedColumn = record { shape = shape l.tree; streams = streams; cells = cells; bounds = bounds; entries = l.entries } in
+    RowsFit x.shape cells → length cells < cell_limit → AreGroups x.shape cells bounds l.groups → AreDecided x.shape streams cells bounds l.entries l.right
+    → Adds (OfEach (OfGroup x l.number l.column) l.group) l.initial.found.items l.found.items
