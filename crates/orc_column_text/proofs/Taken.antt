@@ -1,12 +1,14 @@
 -- What is taken from the readers of columns, with its text.
-use Rattle.std.proofs.Common.{◌≡◌, ℕ, ◌+◌, ◌≤◌, ◌-◌, List, [], ◌∷◌, ◌++◌, Bool, true, false, length, take, drop, get_or, slice_set, Vec, Box, Global, refl, sym, ap, ◌∙◌, arith, append_assoc, append-nil, length-append}
+use Rattle.std.proofs.Common.{◌≡◌, ℕ, ◌+◌, ◌≤◌, ◌-◌, List, [], ◌∷◌, ◌++◌, Bool, true, false, length, take, drop, get_or, slice_set, Vec, Box, Global, refl, sym, subst, inl, ap, ◌∙◌, arith, append_assoc, append-nil, length-append}
 use borrow.Rule.Slice.PartMut.{put_mid}
 use Rattle.serde_json.specs.Written.{comma_if}
 use Rattle.orc_values.specs.Cells.{Cell, list, struct, pairs, cells_of, pairs_of}
 use Rattle.orc_values.specs.Shapes.{Shape, scalar, list_of, map_of, struct_of, Fields, width}
 use Rattle.orc_values.specs.declared.kind.Scalar.{Scalar}
-use Rattle.orc_column_reader.specs.Fronts.{Leaves}
+use Rattle.orc_column_reader.specs.Fronts.{Leaves, Lacks}
 use Rattle.orc_column_reader.specs.Columns.{CellsLeft, OwnLeft, ScalarLeft, ListsOf, MapsOf, PairsLeft, FieldsLeft, MarksLeft, marks_of}
+use Rattle.orc_column_reader.specs.ReaderFaults.{ScalarMeets, OwnMeet}
+use Rattle.orc_column_reader.specs.declared.fault.StripeFault.{StripeFault}
 use Rattle.orc_column_reader.specs.declared.column.ColumnReader.{ColumnReader}
 use Rattle.orc_column_reader.specs.declared.column.ValueSource.{ValueSource}
 use Rattle.orc_column_reader.proofs.Arms.{cell_value, own_list, own_map, own_struct, pair_next}
@@ -59,6 +61,16 @@ pub scalar_taken : (s : Shape) (k : Scalar) (o : List ℕ) (l : Layout) (before 
 scalar_taken s k o l [] d source old new is leaf some p = absurd (omega (arith, some))
 scalar_taken s k o l (own ∷ below) d source old new is leaf some p =
     rw (is, leaf, text_by-Leaf) (record { one = p.one; some = p.some; taken = p.taken; put = p.put })
+
+pub scalar_lacking : (s : Shape) (k : Scalar) (o : List ℕ) (before : List ColumnReader) (d : ColumnReader) → s ≡ scalar k o → 1 ≤ length before
+    → Lacks (ScalarLeft k (get_or before 0 d).source) 1 → Lacks (OwnLeft s before) 1
+scalar_lacking s k o [] d is some p = absurd (omega (arith, some))
+scalar_lacking s k o (own ∷ below) d is some p = rw is p
+
+pub scalar_meets : (s : Shape) (k : Scalar) (o : List ℕ) (before : List ColumnReader) (d : ColumnReader) (all : Bool) (n : ℕ) (f : StripeFault) → s ≡ scalar k o → 1 ≤ length before
+    → ScalarMeets k (get_or before 0 d).source all n f → OwnMeet s before all n f
+scalar_meets s k o [] d all n f is some p = absurd (omega (arith, some))
+scalar_meets s k o (own ∷ below) d all n f is some p = subst (λ z. OwnMeet z (own ∷ below) all n f) (sym is) (inl p)
 
 -- ---- a cell
 

@@ -45,17 +45,11 @@ pub fn push_cell(
     ensures fault { IfErr result (λ cause. cause ≢ OutOfMemory
         → (n : ℕ) → CellsMeet (shape tree.now) readers.old false (suc n) cause) }
 {
-    match next_present(&mut readers[0]) {
-        Ok(true) => match push_value(alloc, tree, layout, readers, out) {
-            Ok(()) => Ok(()),
-            Err(fault) => Err(fault),
-        },
-        Ok(false) => {
-            out.extend_from_slice(b"null")?;
-            Ok(())
-        }
-        Err(fault) => Err(fault),
+    if !next_present(&mut readers[0])? {
+        out.extend_from_slice(b"null")?;
+        return Ok(());
     }
+    push_value(alloc, tree, layout, readers, out)
 }
 
 /// Appends the text of a column's next value. Its marks stay as they are.
@@ -80,34 +74,22 @@ fn push_value(
 {
     match tree {
         Tree::Scalar(kind, _) => match layout {
-            Layout::Leaf => match push_scalar(alloc, &mut readers[0].source, *kind, out) {
-                Ok(()) => Ok(()),
-                Err(fault) => Err(fault),
-            },
+            Layout::Leaf => push_scalar(alloc, &mut readers[0].source, *kind, out),
             _ => push_held(alloc, tree, layout, readers, out),
         },
         Tree::List(element, _) => match layout {
-            Layout::List(inner) => match push_list(alloc, element, inner, readers, out) {
-                Ok(()) => Ok(()),
-                Err(fault) => Err(fault),
-            },
+            Layout::List(inner) => push_list(alloc, element, inner, readers, out),
             _ => push_held(alloc, tree, layout, readers, out),
         },
         Tree::Map(key, value, _) => match layout {
-            Layout::Map(layouts) => match push_map(alloc, key, value, layouts, readers, out) {
-                Ok(()) => Ok(()),
-                Err(fault) => Err(fault),
-            },
+            Layout::Map(layouts) => push_map(alloc, key, value, layouts, readers, out),
             _ => push_held(alloc, tree, layout, readers, out),
         },
         Tree::Struct(fields, _) => match layout {
             Layout::Struct(members, columns) => {
                 if are_laid_out(fields, members, columns) {
                     out.push(b'{')?;
-                    match push_members(alloc, fields, members, columns, &mut readers[1..], out) {
-                        Ok(()) => Ok(()),
-                        Err(fault) => Err(fault),
-                    }
+                    push_members(alloc, fields, members, columns, &mut readers[1..], out)
                 } else {
                     push_held(alloc, tree, layout, readers, out)
                 }
@@ -136,13 +118,9 @@ fn push_held(
     ensures fault { IfErr result (λ cause. cause ≢ OutOfMemory
         → (n : ℕ) → OwnMeet (shape tree.now) readers.old false (suc n) cause) }
 {
-    match next_value(alloc, tree, readers) {
-        Ok(value) => {
-            push_text(alloc, layout, &Some(value), out)?;
-            Ok(())
-        }
-        Err(fault) => Err(fault),
-    }
+    let value = next_value(alloc, tree, readers)?;
+    push_text(alloc, layout, &Some(value), out)?;
+    Ok(())
 }
 
 /// Appends the text of the next value of a column of a kind that contains no other.
@@ -161,13 +139,9 @@ fn push_scalar(
     ensures fault { IfErr result (λ cause. cause ≢ OutOfMemory
         → (n : ℕ) → ScalarMeets kind source.old false (suc n) cause) }
 {
-    match source.next_scalar(kind) {
-        Ok(own) => {
-            push_own(alloc, own, out)?;
-            Ok(())
-        }
-        Err(fault) => Err(fault),
-    }
+    let own = source.next_scalar(kind)?;
+    push_own(alloc, own, out)?;
+    Ok(())
 }
 
 /// Appends the elements of the next list, in brackets.
@@ -191,19 +165,11 @@ fn push_list(
     ensures fault { IfErr result (λ cause. cause ≢ OutOfMemory
         → (n : ℕ) → ListsOfMeet (shape element.now) readers.old false (suc n) cause) }
 {
-    match next_size(&mut readers[0].source) {
-        Ok(size) => {
-            out.push(b'[')?;
-            match push_cells(alloc, element, layout, &mut readers[1..], size, out) {
-                Ok(()) => {
-                    out.push(b']')?;
-                    Ok(())
-                }
-                Err(fault) => Err(fault),
-            }
-        }
-        Err(fault) => Err(fault),
-    }
+    let size = next_size(&mut readers[0].source)?;
+    out.push(b'[')?;
+    push_cells(alloc, element, layout, &mut readers[1..], size, out)?;
+    out.push(b']')?;
+    Ok(())
 }
 
 /// Appends the text of the next cells of a column, so many, with commas between them.
@@ -228,10 +194,8 @@ fn push_cells(
     let mut later = false;
     for taken in 0..count {
         push_comma_if(later, out)?;
-        match push_cell(alloc, tree, layout, readers, out) {
-            Ok(()) => later = true,
-            Err(fault) => return Err(fault),
-        }
+        push_cell(alloc, tree, layout, readers, out)?;
+        later = true;
     }
     Ok(())
 }
@@ -261,19 +225,11 @@ fn push_map(
     ensures fault { IfErr result (λ cause. cause ≢ OutOfMemory
         → (n : ℕ) → MapsOfMeet (shape key.now) (shape value.now) readers.old false (suc n) cause) }
 {
-    match next_size(&mut readers[0].source) {
-        Ok(size) => {
-            out.push(b'[')?;
-            match push_pairs(alloc, key, value, layouts, &mut readers[1..], size, out) {
-                Ok(()) => {
-                    out.push(b']')?;
-                    Ok(())
-                }
-                Err(fault) => Err(fault),
-            }
-        }
-        Err(fault) => Err(fault),
-    }
+    let size = next_size(&mut readers[0].source)?;
+    out.push(b'[')?;
+    push_pairs(alloc, key, value, layouts, &mut readers[1..], size, out)?;
+    out.push(b']')?;
+    Ok(())
 }
 
 /// Appends the text of the next pairs of a map's columns, so many, with commas between them.
@@ -302,10 +258,8 @@ fn push_pairs(
     let mut later = false;
     for taken in 0..count {
         push_comma_if(later, out)?;
-        match push_pair(alloc, key, value, layouts, readers, out) {
-            Ok(()) => later = true,
-            Err(fault) => return Err(fault),
-        }
+        push_pair(alloc, key, value, layouts, readers, out)?;
+        later = true;
     }
     Ok(())
 }
@@ -334,19 +288,11 @@ fn push_pair(
 {
     let own = own_width(key);
     out.push(b'[')?;
-    match push_cell(alloc, key, &layouts.key, &mut readers[..own], out) {
-        Ok(()) => {
-            out.extend_from_slice(b",")?;
-            match push_cell(alloc, value, &layouts.value, &mut readers[own..], out) {
-                Ok(()) => {
-                    out.extend_from_slice(b"]")?;
-                    Ok(())
-                }
-                Err(fault) => Err(fault),
-            }
-        }
-        Err(fault) => Err(fault),
-    }
+    push_cell(alloc, key, &layouts.key, &mut readers[..own], out)?;
+    out.extend_from_slice(b",")?;
+    push_cell(alloc, value, &layouts.value, &mut readers[own..], out)?;
+    out.extend_from_slice(b"]")?;
+    Ok(())
 }
 
 /// Appends the members of the next struct, in the order of their names, and the closing brace. Columns don't depend on
@@ -377,10 +323,7 @@ fn push_members(
 {
     for member in members {
         let own = columns[member.place];
-        match push_member(alloc, fields, member, own, readers, out) {
-            Ok(()) => {}
-            Err(fault) => return Err(fault),
-        }
+        push_member(alloc, fields, member, own, readers, out)?;
     }
     out.push(b'}')?;
     Ok(())
@@ -412,14 +355,11 @@ fn push_member(
 {
     let tree = &fields[member.place].tree;
     out.extend_from_slice(&member.key)?;
-    match push_cell(
+    push_cell(
         alloc,
         tree,
         &member.layout,
         &mut readers[own.first..own.first + own.count],
         out,
-    ) {
-        Ok(()) => Ok(()),
-        Err(fault) => Err(fault),
-    }
+    )
 }

@@ -49,16 +49,10 @@ pub fn push_next(
         → (all : Bool) × CellsMeet (shape tree.now) readers.old all left.old cause) }
 {
     if *left == 0 {
-        return match cells_end(tree, readers) {
-            Ok(()) => Ok(false),
-            Err(fault) => Err(fault),
-        };
+        cells_end(tree, readers)?;
+        return Ok(false);
     }
-    match push_cell(alloc, tree, layout, readers, out) {
-        Ok(()) => {
-            *left -= 1;
-            Ok(true)
-        }
-        Err(fault) => Err(fault),
-    }
+    push_cell(alloc, tree, layout, readers, out)?;
+    *left -= 1;
+    Ok(true)
 }

@@ -1,42 +1,47 @@
-use Rattle.std.proofs.Common.{rules, ◌≡◌, ℕ, suc, ◌+◌, ◌<◌, false, subst, length, take, drop, ◌-◌, ◌++◌, get_or, sym, ap, ◌∙◌, arith}
+use Rattle.std.proofs.Common.{rules, ◌≡◌, ℕ, suc, ◌+◌, ◌<◌, false, inr, subst, length, take, drop, ◌-◌, ◌++◌, get_or, sym, ap, ◌∙◌, arith}
 use Rattle.orc_values.specs.Cells.{null}
 use Rattle.orc_values.specs.Shapes.{width}
 use Rattle.orc_values.specs.Views.{shape}
 use Rattle.orc_values.specs.Views.{fields as fields_view}
-use Rattle.orc_values.proofs.Views.{shape-List, shape-Map, shape-Struct}
+use Rattle.orc_values.proofs.Views.{shape-Scalar, shape-List, shape-Map, shape-Struct}
 use Rattle.orc_column_reader.specs.Columns.{CellsLeft, PairsLeft}
-use Rattle.orc_column_reader.proofs.Arms.{some_width, fields_put, fields_behind, cell_null, cell_lacks, own_list_lacks, own_map_lacks, own_struct_lacks, list_taken, list_lacking, map_taken, map_lacking, cells_lacking, first_counted}
+use Rattle.orc_column_reader.proofs.Handed.{if_err, on_ok}
+use Rattle.orc_column_text.proofs.Handed.{on_ok_both, on_ok_three}
+use Rattle.orc_column_reader.proofs.Arms.{some_width, pair_lacks, fields_put, fields_behind, cell_null, cell_lacks, own_list_lacks, own_map_lacks, own_struct_lacks, list_taken, list_lacking, map_taken, map_lacking, cells_lacking, first_counted}
 use Rattle.orc_column_reader.specs.declared.column.ColumnReader.{ColumnReader}
 use Rattle.orc_column_reader.specs.ReaderFaults.{CellsMeet, PairsMeet}
-use Rattle.orc_column_reader.proofs.FaultLemmas.{cell_before, null_before, cell_now, cell_mark, list_before, lists_own, own_lists, struct_before, own_struct_meets, lists_size, lists_elements, map_before, maps_own, own_maps, maps_size, maps_pairs, pair_before}
+use Rattle.orc_column_reader.proofs.FaultLemmas.{scalar_before, cell_before, null_before, cell_now, cell_mark, list_before, lists_own, own_lists, struct_before, own_struct_meets, lists_size, lists_elements, map_before, maps_own, own_maps, maps_size, maps_pairs, pair_before}
 use Rattle.orc_json.specs.Layouts.{text_by, part, member_parts, pair_text, pair_texts}
 use Rattle.orc_column_text.proofs.AnyOrder.{columns_told, reading_first, reading_last, reading_last_meet}
 use Rattle.orc_column_text.proofs.Members.{many-fields, field_at-is, own_within, own_less, region_length, place_told, others_told, members_next, members_lack, members_meet, member_printed, member_lacks, member_meets}
 use Rattle.std.proofs.lemmas.List.{length-map, drop_all}
+use Rattle.std.proofs.lemmas.Result.{err_from_is_err_and}
 use borrow.Rule.Slice.PartMut.{put_mid}
 use Rattle.orc_json.specs.declared.layout.FieldColumns.{FieldColumns}
 use Rattle.orc_column_text.specs.Regions.{field_at, columns_before}
 use Rattle.orc_column_text.specs.Texts.{texts}
 use Rattle.orc_column_text.proofs.Texts.{null_text_by}
-use Rattle.orc_column_text.proofs.Taken.{bracketed, passed_next, passed_all, value_taken, list_taken_text, map_taken_text, pair_taken, struct_taken_text}
+use Rattle.orc_column_text.proofs.Taken.{scalar_taken, scalar_lacking, scalar_meets, bracketed, passed_next, passed_all, value_taken, list_taken_text, map_taken_text, pair_taken, struct_taken_text}
 use Rattle.orc_column_text.proofs.cells.+cells.Goals as goal
 
 -- ---- so many cells
 
 pub push_cells-loop-taken-preserved : goal.push_cells-loop-taken-preserved
-push_cells-loop-taken-preserved t c = record {
-  passed = passed_next (CellsLeft (shape c.args.tree.now) c.args.readers.now) (CellsLeft (shape c.args.tree.now) c.loop-taken.readers) (CellsLeft (shape c.args.tree.now) c.push_cell.new.readers) (text_by c.args.layout.now)
-      c.loop-taken.later c.loop-taken.taken c.args.out.now.items c.loop-taken.out.items c.push_comma_if.new.out.items c.push_cell.new.out.items c.in_ok-push_comma_if.ensures.found c.in-Ok.ensures.found c.loop-taken.invariant.passed;
-  counted = search rules;
-  before = λ all n f h.
-      let e : c.loop-taken.taken + suc n ≡ c.loop-taken.taken + 1 + n = omega arith in
-      subst (λ k. CellsMeet (shape c.args.tree.now) c.args.readers.now all k f) e (c.loop-taken.invariant.before all (suc n) f (c.in-Ok.ensures.before all n f h));
-}
+push_cells-loop-taken-preserved t c =
+    record {
+      passed = passed_next (CellsLeft (shape c.args.tree.now) c.args.readers.now) (CellsLeft (shape c.args.tree.now) c.loop-taken.readers) (CellsLeft (shape c.args.tree.now) c.push_cell.new.readers) (text_by c.args.layout.now)
+          c.loop-taken.later c.loop-taken.taken c.args.out.now.items c.loop-taken.out.items c.push_comma_if.new.out.items c.push_cell.new.out.items c.in_ok-push_comma_if.ensures.found c.in_ok-push_cell.ensures.found c.loop-taken.invariant.passed;
+      counted = search rules;
+      before = λ all n f h.
+          let e : c.loop-taken.taken + suc n ≡ c.loop-taken.taken + 1 + n = omega arith in
+          subst (λ k. CellsMeet (shape c.args.tree.now) c.args.readers.now all k f) e (c.loop-taken.invariant.before all (suc n) f (c.in_ok-push_cell.ensures.before all n f h));
+    }
 
-pub push_cells-returns-in-Err-clause-none : goal.push_cells-returns-in-Err-clause-none
-push_cells-returns-in-Err-clause-none t c =
-    λ memory. cells_lacking (CellsLeft (shape c.args.tree.now) c.args.readers.now) (CellsLeft (shape c.args.tree.now) c.loop-taken.readers) c.loop-taken.invariant.passed.all c.loop-taken.taken c.args.count
-    c.loop-taken.invariant.passed.counted c.loop-taken-test.true c.loop-taken.invariant.passed.taken (c.in-Err.ensures.none memory)
+pub push_cells-returns-in_err-push_cell-clause-none : goal.push_cells-returns-in_err-push_cell-clause-none
+push_cells-returns-in_err-push_cell-clause-none t c =
+    let p = err_from_is_err_and c.from_residual-in_err-push_cell.result c.from_residual-in_err-push_cell.ensures.1 in
+    rw (p.1, p.2) (λ memory. cells_lacking (CellsLeft (shape c.args.tree.now) c.args.readers.now) (CellsLeft (shape c.args.tree.now) c.loop-taken.readers) c.loop-taken.invariant.passed.all c.loop-taken.taken c.args.count
+    c.loop-taken.invariant.passed.counted c.loop-taken-test.true c.loop-taken.invariant.passed.taken (c.in_err-push_cell.ensures.none memory))
 
 pub push_cells-returns-clause-found : goal.push_cells-returns-clause-found
 push_cells-returns-clause-found t c =
@@ -44,126 +49,171 @@ push_cells-returns-clause-found t c =
     passed_all (CellsLeft (shape c.args.tree.now) c.args.readers.now) (CellsLeft (shape c.args.tree.now) c.loop-taken.readers) (text_by c.args.layout.now) c.loop-taken.later c.loop-taken.taken c.args.count
     c.args.out.now.items c.loop-taken.out.items e c.loop-taken.invariant.passed
 
-pub push_cells-returns-in-Err-clause-fault : goal.push_cells-returns-in-Err-clause-fault
-push_cells-returns-in-Err-clause-fault t c = λ memory n.
+pub push_cells-returns-in_err-push_cell-clause-fault : goal.push_cells-returns-in_err-push_cell-clause-fault
+push_cells-returns-in_err-push_cell-clause-fault t c =
+    let p = err_from_is_err_and c.from_residual-in_err-push_cell.result c.from_residual-in_err-push_cell.ensures.1 in
+    rw (p.1, p.2) (λ memory n.
     let more : ℕ = c.args.count + n - c.loop-taken.taken - 1 in
     let e : c.loop-taken.taken + suc more ≡ c.args.count + n = omega (arith, c.loop-taken-test.true) in
-    subst (λ k. CellsMeet (shape c.args.tree.now) c.args.readers.now false k c.in-Err.fault) e (c.loop-taken.invariant.before false (suc more) c.in-Err.fault (c.in-Err.ensures.fault memory more))
+    subst (λ k. CellsMeet (shape c.args.tree.now) c.args.readers.now false k c.in_err-push_cell.field-0.0) e (c.loop-taken.invariant.before false (suc more) c.in_err-push_cell.field-0.0 (c.in_err-push_cell.ensures.fault memory more)))
 
 pub push_cells-returns-clause-before : goal.push_cells-returns-clause-before
-push_cells-returns-clause-before t c = λ all n f h.
+push_cells-returns-clause-before t c =
+    λ all n f h.
     let e : c.loop-taken.taken + n ≡ c.args.count + n = omega (arith, c.loop-taken.auto.taken-end, c.loop-taken-test.false) in
     subst (λ k. CellsMeet (shape c.args.tree.now) c.args.readers.now all k f) e (c.loop-taken.invariant.before all n f h)
 
 -- ---- a cell
 
-pub push_cell-returns-in-Ok-clause-found : goal.push_cell-returns-in-Ok-clause-found
-push_cell-returns-in-Ok-clause-found t c =
+pub push_cell-returns-clause-found : goal.push_cell-returns-clause-found
+push_cell-returns-clause-found t c =
     let w = some_width (shape c.args.tree.now) in
-    let f = c.in-Ok-true.ensures.found in
+    let f = c.in_ok-next_present.ensures.found in
+    on_ok_both c.push_value.result c.push_value.ensures.found c.push_value.ensures.marks (λ found marks.
     value_taken (shape c.args.tree.now) (text_by c.args.layout.now) c.args.readers.now c.push_value.new.readers c.next_present.new.reader c.index-readers-0.result c.args.out.now.items c.push_value.new.out.items
-    (omega (arith, c.requires, w)) c.push_value.auto.readers c.in-Ok-true.ensures.source (rw c.in-Ok-true.field-0-test at f) c.in-Ok.ensures.found c.in-Ok.ensures.marks
+    (omega (arith, c.requires, w)) c.push_value.auto.readers c.in_ok-next_present.ensures.source (rw c.if-not-branch.false at f) found marks)
 
-pub push_cell-returns-in-Err-push_value-clause-none : goal.push_cell-returns-in-Err-push_value-clause-none
-push_cell-returns-in-Err-push_value-clause-none t c = λ memory.
+pub push_cell-returns-clause-none : goal.push_cell-returns-clause-none
+push_cell-returns-clause-none t c =
+    if_err c.push_value.result c.push_value.ensures.none (λ cause given memory.
     let w = some_width (shape c.args.tree.now) in
-    let f = c.in-Ok-true.ensures.found in
+    let f = c.in_ok-next_present.ensures.found in
     cell_lacks (shape c.args.tree.now) c.args.readers.now c.next_present.new.reader c.index-readers-0.result (omega (arith, c.requires, w))
-    c.in-Ok-true.ensures.source (rw c.in-Ok-true.field-0-test at f) (c.in-Err-push_value.ensures.none memory)
+    c.in_ok-next_present.ensures.source (rw c.if-not-branch.false at f) (given memory))
 
-pub push_cell-returns-in_ok-extend_from_slice-in-Ok-false-clause-found : goal.push_cell-returns-in_ok-extend_from_slice-in-Ok-false-clause-found
-push_cell-returns-in_ok-extend_from_slice-in-Ok-false-clause-found t c =
+pub push_cell-returns-then-not-branch-clause-found : goal.push_cell-returns-then-not-branch-clause-found
+push_cell-returns-then-not-branch-clause-found t c =
     let w = some_width (shape c.args.tree.now) in
-    let f = c.in-Ok-false.ensures.found in
+    let f = c.in_ok-next_present.ensures.found in
     record {
       one = null;
       taken = cell_null (shape c.args.tree.now) c.args.readers.now c.next_present.new.reader c.index-readers-0.result (omega (arith, c.requires, w))
-          c.in-Ok-false.ensures.source (rw c.in-Ok-false.field-0-test at f);
-      put = c.in_ok-extend_from_slice-in-Ok-false.ensures.items ∙ ap (λ t. c.args.out.now.items ++ t) (sym (null_text_by c.args.layout.now));
+          c.in_ok-next_present.ensures.source (rw c.if-not-branch.true at f);
+      put = c.in_ok-extend_from_slice.ensures.items ∙ ap (λ t. c.args.out.now.items ++ t) (sym (null_text_by c.args.layout.now));
     }
 
-pub push_cell-returns-in-Err-push_value-clause-fault : goal.push_cell-returns-in-Err-push_value-clause-fault
-push_cell-returns-in-Err-push_value-clause-fault t c = λ memory n.
+pub push_cell-returns-clause-fault : goal.push_cell-returns-clause-fault
+push_cell-returns-clause-fault t c =
+    if_err c.push_value.result c.push_value.ensures.fault (λ cause given memory n.
     let w = some_width (shape c.args.tree.now) in
-    let f = c.in-Ok-true.ensures.first in
-    cell_now (shape c.args.tree.now) c.args.readers.now c.next_present.new.reader c.index-readers-0.result n c.in-Err-push_value.fault (omega (arith, c.requires, w)) c.in-Ok-true.ensures.source (rw c.in-Ok-true.field-0-test at f) (c.in-Err-push_value.ensures.fault memory 0)
+    let f = c.in_ok-next_present.ensures.first in
+    cell_now (shape c.args.tree.now) c.args.readers.now c.next_present.new.reader c.index-readers-0.result n cause (omega (arith, c.requires, w)) c.in_ok-next_present.ensures.source (rw c.if-not-branch.false at f) (given memory 0))
 
-pub push_cell-returns-in-Err-clause-fault : goal.push_cell-returns-in-Err-clause-fault
-push_cell-returns-in-Err-clause-fault t c = λ memory n.
+pub push_cell-returns-in_err-next_present-clause-fault : goal.push_cell-returns-in_err-next_present-clause-fault
+push_cell-returns-in_err-next_present-clause-fault t c =
+    let p = err_from_is_err_and c.from_residual.result c.from_residual.ensures.1 in
+    rw (p.1, p.2) (λ memory n.
     let w = some_width (shape c.args.tree.now) in
-    cell_mark (shape c.args.tree.now) c.args.readers.now c.index-readers-0.result false (suc n) c.in-Err.fault (omega (arith, c.requires, w)) (c.in-Err.ensures.fault memory n)
+    cell_mark (shape c.args.tree.now) c.args.readers.now c.index-readers-0.result false (suc n) c.in_err-next_present.field-0.0 (omega (arith, c.requires, w)) (c.in_err-next_present.ensures.fault memory n))
 
-pub push_cell-returns-in-Ok-clause-before : goal.push_cell-returns-in-Ok-clause-before
-push_cell-returns-in-Ok-clause-before t c = λ all n f h.
+pub push_cell-returns-clause-before : goal.push_cell-returns-clause-before
+push_cell-returns-clause-before t c =
     let w = some_width (shape c.args.tree.now) in
-    let first = c.in-Ok-true.ensures.first in
+    let first = c.in_ok-next_present.ensures.first in
+    on_ok_three c.push_value.result c.push_value.ensures.column c.push_value.ensures.marks c.push_value.ensures.before (λ column marks before all n f h.
     cell_before (shape c.args.tree.now) c.args.readers.now c.push_value.new.readers c.next_present.new.reader c.index-readers-0.result all n f (omega (arith, c.requires, w)) c.push_value.auto.readers
-    c.in-Ok-true.ensures.source (rw c.in-Ok-true.field-0-test at first) c.in-Ok-true.ensures.before c.in-Ok.ensures.column c.in-Ok.ensures.marks (λ v. c.in-Ok.ensures.before all v f) h
+    c.in_ok-next_present.ensures.source (rw c.if-not-branch.false at first) c.in_ok-next_present.ensures.before column marks (λ v. before all v f) h)
 
-pub push_cell-returns-in_ok-extend_from_slice-in-Ok-false-clause-before : goal.push_cell-returns-in_ok-extend_from_slice-in-Ok-false-clause-before
-push_cell-returns-in_ok-extend_from_slice-in-Ok-false-clause-before t c = λ all n f h.
+pub push_cell-returns-then-not-branch-clause-before : goal.push_cell-returns-then-not-branch-clause-before
+push_cell-returns-then-not-branch-clause-before t c =
+    λ all n f h.
     let w = some_width (shape c.args.tree.now) in
-    let first = c.in-Ok-false.ensures.first in
-    null_before (shape c.args.tree.now) c.args.readers.now c.next_present.new.reader c.index-readers-0.result all n f (omega (arith, c.requires, w)) c.in-Ok-false.ensures.source (rw c.in-Ok-false.field-0-test at first) c.in-Ok-false.ensures.before h
+    let first = c.in_ok-next_present.ensures.first in
+    null_before (shape c.args.tree.now) c.args.readers.now c.next_present.new.reader c.index-readers-0.result all n f (omega (arith, c.requires, w)) c.in_ok-next_present.ensures.source (rw c.if-not-branch.true at first) c.in_ok-next_present.ensures.before h
 
 -- ---- a list
 
-pub push_list-returns-in_ok-push-in-Ok-push_cells-clause-found : goal.push_list-returns-in_ok-push-in-Ok-push_cells-clause-found
-push_list-returns-in_ok-push-in-Ok-push_cells-clause-found t c =
-    let f = c.in-Ok-push_cells.ensures.found in
+pub push_list-returns-clause-found : goal.push_list-returns-clause-found
+push_list-returns-clause-found t c =
+    let f = c.in_ok-push_cells.ensures.found in
     record {
       one = f.all;
-      taken = list_taken (shape c.args.element.now) c.args.readers.now c.push_cells.new.readers (record { present = (get_or c.args.readers.now 0 c.index-readers-0.result).present; source = c.next_size.new.source }) c.index-readers-0.result c.in-Ok.size f.all (omega (arith, c.requires))
-          c.in-Ok.ensures.found c.in-Ok.ensures.room.0 c.in-Ok.ensures.room.1 f.counted f.taken;
-      put = bracketed c.args.out.now.items c.push.new.self.items c.push_cells.new.out.items c.push-in-Ok-push_cells.new.self.items (texts (text_by c.args.layout.now) false f.all) c.in_ok-push-in-Ok.ensures.items f.put c.in_ok-push-in-Ok-push_cells.ensures.items;
+      taken = list_taken (shape c.args.element.now) c.args.readers.now c.push_cells.new.readers (record { present = (get_or c.args.readers.now 0 c.index-readers-0.result).present; source = c.next_size.new.source }) c.index-readers-0.result c.in_ok-size.size f.all (omega (arith, c.requires))
+          c.in_ok-size.ensures.found c.in_ok-size.ensures.room.0 c.in_ok-size.ensures.room.1 f.counted f.taken;
+      put = bracketed c.args.out.now.items c.push.new.self.items c.push_cells.new.out.items c.push-2.new.self.items (texts (text_by c.args.layout.now) false f.all) c.in_ok-push.ensures.items f.put c.in_ok-push-2.ensures.items;
     }
 
-pub push_list-returns-in-Err-push_cells-clause-none : goal.push_list-returns-in-Err-push_cells-clause-none
-push_list-returns-in-Err-push_cells-clause-none t c = λ memory.
-    list_lacking (shape c.args.element.now) c.args.readers.now (record { present = (get_or c.args.readers.now 0 c.index-readers-0.result).present; source = c.next_size.new.source }) c.index-readers-0.result c.in-Ok.size
-    c.in-Ok.ensures.found (c.in-Err-push_cells.ensures.none memory)
+pub push_list-returns-in_err-push_cells-clause-none : goal.push_list-returns-in_err-push_cells-clause-none
+push_list-returns-in_err-push_cells-clause-none t c =
+    let p = err_from_is_err_and c.from_residual-in_err-push_cells.result c.from_residual-in_err-push_cells.ensures.1 in
+    rw (p.1, p.2) (λ memory.
+    list_lacking (shape c.args.element.now) c.args.readers.now (record { present = (get_or c.args.readers.now 0 c.index-readers-0.result).present; source = c.next_size.new.source }) c.index-readers-0.result c.in_ok-size.size
+    c.in_ok-size.ensures.found (c.in_err-push_cells.ensures.none memory))
 
-pub push_list-returns-in-Err-push_cells-clause-fault : goal.push_list-returns-in-Err-push_cells-clause-fault
-push_list-returns-in-Err-push_cells-clause-fault t c = λ memory n.
+pub push_list-returns-in_err-push_cells-clause-fault : goal.push_list-returns-in_err-push_cells-clause-fault
+push_list-returns-in_err-push_cells-clause-fault t c =
+    let p = err_from_is_err_and c.from_residual-in_err-push_cells.result c.from_residual-in_err-push_cells.ensures.1 in
+    rw (p.1, p.2) (λ memory n.
     let own : ColumnReader = record { present = (get_or c.args.readers.now 0 c.index-readers-0.result).present; source = c.next_size.new.source } in
-    lists_elements (shape c.args.element.now) c.args.readers.now c.index-readers-0.result own n c.in-Ok.size c.in-Err-push_cells.fault (omega (arith, c.requires)) c.in-Ok.ensures.first (c.in-Err-push_cells.ensures.fault memory 0)
+    lists_elements (shape c.args.element.now) c.args.readers.now c.index-readers-0.result own n c.in_ok-size.size c.in_err-push_cells.field-0.0 (omega (arith, c.requires)) c.in_ok-size.ensures.first (c.in_err-push_cells.ensures.fault memory 0))
 
-pub push_list-returns-in-Err-clause-fault : goal.push_list-returns-in-Err-clause-fault
-push_list-returns-in-Err-clause-fault t c = λ memory n.
-    lists_size (shape c.args.element.now) c.args.readers.now c.index-readers-0.result false (suc n) c.in-Err.fault (omega (arith, c.requires)) (c.in-Err.ensures.fault memory n)
+pub push_list-returns-in_err-size-clause-fault : goal.push_list-returns-in_err-size-clause-fault
+push_list-returns-in_err-size-clause-fault t c =
+    let p = err_from_is_err_and c.from_residual.result c.from_residual.ensures.1 in
+    rw (p.1, p.2) (λ memory n.
+    lists_size (shape c.args.element.now) c.args.readers.now c.index-readers-0.result false (suc n) c.in_err-size.field-0.0 (omega (arith, c.requires)) (c.in_err-size.ensures.fault memory n))
 
-pub push_list-returns-in_ok-push-in-Ok-push_cells-clause-before : goal.push_list-returns-in_ok-push-in-Ok-push_cells-clause-before
-push_list-returns-in_ok-push-in-Ok-push_cells-clause-before t c = λ all n f h.
+pub push_list-returns-clause-before : goal.push_list-returns-clause-before
+push_list-returns-clause-before t c =
+    λ all n f h.
     let own : ColumnReader = record { present = (get_or c.args.readers.now 0 c.index-readers-0.result).present; source = c.next_size.new.source } in
-    list_before (shape c.args.element.now) c.args.readers.now c.push_cells.new.readers c.index-readers-0.result own all n c.in-Ok.size f (omega (arith, c.requires)) c.in-Ok.ensures.first (c.in-Ok.ensures.before all n f)
-    (λ m. c.in-Ok-push_cells.ensures.before all m f) h
+    list_before (shape c.args.element.now) c.args.readers.now c.push_cells.new.readers c.index-readers-0.result own all n c.in_ok-size.size f (omega (arith, c.requires)) c.in_ok-size.ensures.first (c.in_ok-size.ensures.before all n f)
+    (λ m. c.in_ok-push_cells.ensures.before all m f) h
 
 -- ---- a value
 
-pub push_value-returns-in-Ok-push_list-clause-found : goal.push_value-returns-in-Ok-push_list-clause-found
-push_value-returns-in-Ok-push_list-clause-found t c =
+pub push_value-returns-in-Leaf-clause-found : goal.push_value-returns-in-Leaf-clause-found
+push_value-returns-in-Leaf-clause-found t c =
     let w = some_width (shape c.args.tree.now) in
-    let f = c.in-Ok-push_list.ensures.found in
+    on_ok c.push_scalar.result c.push_scalar.ensures.found (λ given.
+    scalar_taken (shape c.args.tree.now) c.in-Scalar.kind c.in-Scalar.field-1.items c.args.layout.now c.args.readers.now c.index-readers-0.result c.push_scalar.new.source c.args.out.now.items c.push_scalar.new.out.items (ap shape c.in-Scalar.is ∙ shape-Scalar c.in-Scalar.kind c.in-Scalar.field-1) c.in-Leaf.is (omega (arith, c.requires, w)) given)
+
+pub push_value-returns-in-Leaf-clause-none : goal.push_value-returns-in-Leaf-clause-none
+push_value-returns-in-Leaf-clause-none t c =
+    let w = some_width (shape c.args.tree.now) in
+    if_err c.push_scalar.result c.push_scalar.ensures.none (λ cause given memory.
+    scalar_lacking (shape c.args.tree.now) c.in-Scalar.kind c.in-Scalar.field-1.items c.args.readers.now c.index-readers-0.result (ap shape c.in-Scalar.is ∙ shape-Scalar c.in-Scalar.kind c.in-Scalar.field-1) (omega (arith, c.requires, w)) (given memory))
+
+pub push_value-returns-in-Leaf-clause-fault : goal.push_value-returns-in-Leaf-clause-fault
+push_value-returns-in-Leaf-clause-fault t c =
+    let w = some_width (shape c.args.tree.now) in
+    if_err c.push_scalar.result c.push_scalar.ensures.fault (λ cause given memory n.
+    scalar_meets (shape c.args.tree.now) c.in-Scalar.kind c.in-Scalar.field-1.items c.args.readers.now c.index-readers-0.result false (suc n) cause (ap shape c.in-Scalar.is ∙ shape-Scalar c.in-Scalar.kind c.in-Scalar.field-1) (omega (arith, c.requires, w)) (given memory n))
+
+pub push_value-returns-in-Leaf-clause-before : goal.push_value-returns-in-Leaf-clause-before
+push_value-returns-in-Leaf-clause-before t c =
+    let w = some_width (shape c.args.tree.now) in
+    on_ok c.push_scalar.result c.push_scalar.ensures.before (λ given all n f h.
+    scalar_before (shape c.args.tree.now) c.in-Scalar.kind c.in-Scalar.field-1.items c.args.readers.now c.index-readers-0.result c.push_scalar.new.source all n f (ap shape c.in-Scalar.is ∙ shape-Scalar c.in-Scalar.kind c.in-Scalar.field-1) (omega (arith, c.requires, w)) (given all n f) h)
+
+pub push_value-returns-in-List-layout-clause-found : goal.push_value-returns-in-List-layout-clause-found
+push_value-returns-in-List-layout-clause-found t c =
+    on_ok c.push_list.result c.push_list.ensures.found (λ given.
+    let w = some_width (shape c.args.tree.now) in
+    let f = given in
     list_taken_text (shape c.args.tree.now) (shape c.in-List.element.value) c.in-List.field-1.items c.args.layout.now c.in-List-layout.inner c.args.readers.now c.push_list.new.readers c.args.out.now.items c.push_list.new.out.items
-    (ap shape c.in-List.is ∙ shape-List c.in-List.element c.in-List.field-1) c.in-List-layout.is (omega (arith, c.requires, w)) c.push_list.auto.readers (rw (c.deref.ensures, c.deref-in-List-layout.ensures) at f)
+    (ap shape c.in-List.is ∙ shape-List c.in-List.element c.in-List.field-1) c.in-List-layout.is (omega (arith, c.requires, w)) c.push_list.auto.readers (rw (c.deref.ensures, c.deref-in-List-layout.ensures) at f))
 
-pub push_value-returns-in-Err-push_list-clause-none : goal.push_value-returns-in-Err-push_list-clause-none
-push_value-returns-in-Err-push_list-clause-none t c = λ memory.
-    let f = c.in-Err-push_list.ensures.none memory in
+pub push_value-returns-in-List-layout-clause-none : goal.push_value-returns-in-List-layout-clause-none
+push_value-returns-in-List-layout-clause-none t c =
+    if_err c.push_list.result c.push_list.ensures.none (λ cause given memory.
+    let f = given memory in
     own_list_lacks (shape c.args.tree.now) (shape c.in-List.element.value) c.in-List.field-1.items c.args.readers.now
-    (ap shape c.in-List.is ∙ shape-List c.in-List.element c.in-List.field-1) (rw c.deref.ensures at f)
+    (ap shape c.in-List.is ∙ shape-List c.in-List.element c.in-List.field-1) (rw c.deref.ensures at f))
 
-pub push_value-returns-in-Err-push_list-clause-fault : goal.push_value-returns-in-Err-push_list-clause-fault
-push_value-returns-in-Err-push_list-clause-fault t c = λ memory n.
-    let f = c.in-Err-push_list.ensures.fault memory n in
-    lists_own (shape c.args.tree.now) (shape c.in-List.element.value) c.in-List.field-1.items c.args.readers.now false (suc n) c.in-Err-push_list.fault (ap shape c.in-List.is ∙ shape-List c.in-List.element c.in-List.field-1) (rw c.deref.ensures at f)
+pub push_value-returns-in-List-layout-clause-fault : goal.push_value-returns-in-List-layout-clause-fault
+push_value-returns-in-List-layout-clause-fault t c =
+    if_err c.push_list.result c.push_list.ensures.fault (λ cause given memory n.
+    let f = given memory n in
+    lists_own (shape c.args.tree.now) (shape c.in-List.element.value) c.in-List.field-1.items c.args.readers.now false (suc n) cause (ap shape c.in-List.is ∙ shape-List c.in-List.element c.in-List.field-1) (rw c.deref.ensures at f))
 
-pub push_value-returns-in-Ok-push_list-clause-before : goal.push_value-returns-in-Ok-push_list-clause-before
-push_value-returns-in-Ok-push_list-clause-before t c = λ all n f h.
-    let b = c.in-Ok-push_list.ensures.before all n f in
+pub push_value-returns-in-List-layout-clause-before : goal.push_value-returns-in-List-layout-clause-before
+push_value-returns-in-List-layout-clause-before t c =
+    on_ok c.push_list.result c.push_list.ensures.before (λ given all n f h.
+    let b = given all n f in
     let k = rw c.deref.ensures at b in
     lists_own (shape c.args.tree.now) (shape c.in-List.element.value) c.in-List.field-1.items c.args.readers.now all (suc n) f (ap shape c.in-List.is ∙ shape-List c.in-List.element c.in-List.field-1)
-    (k (own_lists (shape c.args.tree.now) (shape c.in-List.element.value) c.in-List.field-1.items c.push_list.new.readers all n f (ap shape c.in-List.is ∙ shape-List c.in-List.element c.in-List.field-1) h))
+    (k (own_lists (shape c.args.tree.now) (shape c.in-List.element.value) c.in-List.field-1.items c.push_list.new.readers all n f (ap shape c.in-List.is ∙ shape-List c.in-List.element c.in-List.field-1) h)))
 
 -- ---- members
 
@@ -203,19 +253,23 @@ push_members-loop-member-preserved t c =
     let xs = c.args.columns.now.items in
     record {
       reading = members_next fs c.args.readers.now c.loop-member.readers c.push_member.new.readers ms c.loop-member.member-index c.member-item.result xs c.args.out.now.items c.loop-member.out.items c.push_member.new.out.items
-          c.loop-member-test.true c.member-item.is c.requires.columns c.loop-member.invariant.own c.push_member.auto.readers c.in-Ok.ensures.found c.loop-member.invariant.reading;
+          c.loop-member-test.true c.member-item.is c.requires.columns c.loop-member.invariant.own c.push_member.auto.readers c.in_ok-push_member.ensures.found c.loop-member.invariant.reading;
       own = others_told xs ms c.loop-member.member-index c.member-item.result c.loop-member-test.true c.member-item.is c.loop-member.invariant.own;
     }
 
-pub push_members-returns-in-Err-clause-none : goal.push_members-returns-in-Err-clause-none
-push_members-returns-in-Err-clause-none t c = λ memory.
+pub push_members-returns-in_err-push_member-clause-none : goal.push_members-returns-in_err-push_member-clause-none
+push_members-returns-in_err-push_member-clause-none t c =
+    let p = err_from_is_err_and c.from_residual.result c.from_residual.ensures.1 in
+    rw (p.1, p.2) (λ memory.
     members_lack (fields_view c.args.fields.now.items) c.args.readers.now c.loop-member.readers c.args.members.now c.loop-member.member-index c.member-item.result c.args.columns.now.items c.args.out.now.items c.loop-member.out.items
-    c.loop-member-test.true c.member-item.is c.requires.columns c.loop-member.invariant.own c.loop-member.invariant.reading (c.in-Err.ensures.none memory)
+    c.loop-member-test.true c.member-item.is c.requires.columns c.loop-member.invariant.own c.loop-member.invariant.reading (c.in_err-push_member.ensures.none memory))
 
-pub push_members-returns-in-Err-clause-fault : goal.push_members-returns-in-Err-clause-fault
-push_members-returns-in-Err-clause-fault t c = λ memory n.
-    members_meet (fields_view c.args.fields.now.items) c.args.readers.now c.loop-member.readers c.args.members.now c.loop-member.member-index c.member-item.result c.args.columns.now.items c.args.out.now.items c.loop-member.out.items false (suc n) c.in-Err.fault
-    c.loop-member-test.true c.member-item.is c.requires.columns c.loop-member.invariant.own c.loop-member.invariant.reading (c.in-Err.ensures.fault memory n)
+pub push_members-returns-in_err-push_member-clause-fault : goal.push_members-returns-in_err-push_member-clause-fault
+push_members-returns-in_err-push_member-clause-fault t c =
+    let p = err_from_is_err_and c.from_residual.result c.from_residual.ensures.1 in
+    rw (p.1, p.2) (λ memory n.
+    members_meet (fields_view c.args.fields.now.items) c.args.readers.now c.loop-member.readers c.args.members.now c.loop-member.member-index c.member-item.result c.args.columns.now.items c.args.out.now.items c.loop-member.out.items false (suc n) c.in_err-push_member.field-0.0
+    c.loop-member-test.true c.member-item.is c.requires.columns c.loop-member.invariant.own c.loop-member.invariant.reading (c.in_err-push_member.ensures.fault memory n))
 
 pub push_members-returns-clause-found : goal.push_members-returns-clause-found
 push_members-returns-clause-found t c =
@@ -224,15 +278,16 @@ push_members-returns-clause-found t c =
     (ap member_parts (drop_all c.loop-member.member-index ms (omega (arith, c.loop-member-test.false)))) c.in_ok-push.ensures.items c.loop-member.invariant.reading
 
 pub push_members-returns-clause-before : goal.push_members-returns-clause-before
-push_members-returns-clause-before t c = λ all n f h.
+push_members-returns-clause-before t c =
+    λ all n f h.
     let ms = c.args.members.now in
     reading_last_meet (fields_view c.args.fields.now.items) c.args.readers.now c.loop-member.readers (member_parts ms) (member_parts (drop c.loop-member.member-index ms)) c.args.out.now.items c.loop-member.out.items all n f
     (ap member_parts (drop_all c.loop-member.member-index ms (omega (arith, c.loop-member-test.false)))) c.loop-member.invariant.reading h
 
 -- ---- a member
 
-pub push_member-returns-in-Ok-clause-found : goal.push_member-returns-in-Ok-clause-found
-push_member-returns-in-Ok-clause-found t c =
+pub push_member-returns-clause-found : goal.push_member-returns-clause-found
+push_member-returns-clause-found t c =
     let m = c.args.member.now in
     let rs = c.args.readers.now in
     let first = c.args.own.first in
@@ -240,9 +295,10 @@ push_member-returns-in-Ok-clause-found t c =
     let k : first + count - first ≡ count = omega arith in
     let region = take (first + count - first) (drop first rs) in
     let n : length c.push_cell.new.readers ≡ count = omega (arith, c.push_cell.auto.readers, region_length rs first count c.requires.within) in
+    on_ok_both c.push_cell.result c.push_cell.ensures.found c.push_cell.ensures.before (λ found before.
     member_printed c.args.fields.now.items c.index.result.now m rs region c.push_cell.new.readers (put_mid first (first + count - first) rs c.push_cell.new.readers) first count c.args.out.now.items c.extend_from_slice.new.self.items c.push_cell.new.out.items
     c.requires.there c.index.ensures c.requires.first c.requires.count (ap (λ (i : ℕ). take i (drop first rs)) k) n (ap (λ (i : ℕ). put_mid first i rs c.push_cell.new.readers) k)
-    (c.in_ok-extend_from_slice.ensures.items ∙ ap (λ t. c.args.out.now.items ++ t) c.deref.ensures.value) c.in-Ok.ensures.found c.in-Ok.ensures.before
+    (c.in_ok-extend_from_slice.ensures.items ∙ ap (λ t. c.args.out.now.items ++ t) c.deref.ensures.value) found before)
 
 pub push_member-push_cell-requires : goal.push_member-push_cell-requires
 push_member-push_cell-requires t c =
@@ -253,50 +309,56 @@ push_member-push_cell-requires t c =
       region_length c.args.readers.now c.args.own.first c.args.own.count c.requires.within ∙ c.requires.count ∙ ap width (field_at-is fs place c.index.result.now c.requires.there c.index.ensures),
     )
 
-pub push_member-returns-in-Err-clause-none : goal.push_member-returns-in-Err-clause-none
-push_member-returns-in-Err-clause-none t c = λ memory.
+pub push_member-returns-clause-none : goal.push_member-returns-clause-none
+push_member-returns-clause-none t c =
+    if_err c.push_cell.result c.push_cell.ensures.none (λ cause given memory.
     let rs = c.args.readers.now in
     let first = c.args.own.first in
     let count = c.args.own.count in
     let k : first + count - first ≡ count = omega arith in
     member_lacks c.args.fields.now.items c.index.result.now c.args.member.now.place rs (take (first + count - first) (drop first rs)) first count c.requires.there c.index.ensures c.requires.first c.requires.count
-    (ap (λ (i : ℕ). take i (drop first rs)) k) (c.in-Err.ensures.none memory)
+    (ap (λ (i : ℕ). take i (drop first rs)) k) (given memory))
 
-pub push_member-returns-in-Err-clause-fault : goal.push_member-returns-in-Err-clause-fault
-push_member-returns-in-Err-clause-fault t c = λ memory n.
+pub push_member-returns-clause-fault : goal.push_member-returns-clause-fault
+push_member-returns-clause-fault t c =
+    if_err c.push_cell.result c.push_cell.ensures.fault (λ cause given memory n.
     let rs = c.args.readers.now in
     let first = c.args.own.first in
     let count = c.args.own.count in
     let k : first + count - first ≡ count = omega arith in
-    member_meets c.args.fields.now.items c.index.result.now c.args.member.now.place rs (take (first + count - first) (drop first rs)) first count false (suc n) c.in-Err.fault c.requires.there c.index.ensures c.requires.first c.requires.count
-    (ap (λ (i : ℕ). take i (drop first rs)) k) (c.in-Err.ensures.fault memory n)
+    member_meets c.args.fields.now.items c.index.result.now c.args.member.now.place rs (take (first + count - first) (drop first rs)) first count false (suc n) cause c.requires.there c.index.ensures c.requires.first c.requires.count
+    (ap (λ (i : ℕ). take i (drop first rs)) k) (given memory n))
 
 -- ---- a struct
 
-pub push_value-returns-in-Ok-push_members-clause-found : goal.push_value-returns-in-Ok-push_members-clause-found
-push_value-returns-in-Ok-push_members-clause-found t c =
+pub push_value-returns-in_ok-push-in-Struct-layout-clause-found : goal.push_value-returns-in_ok-push-in-Struct-layout-clause-found
+push_value-returns-in_ok-push-in-Struct-layout-clause-found t c =
+    on_ok c.push_members.result c.push_members.ensures.found (λ given.
     let w = some_width (shape c.args.tree.now) in
-    let f = c.in-Ok-push_members.ensures.found in
+    let f = given in
     struct_taken_text (shape c.args.tree.now) (fields_view c.in-Struct.fields.items) c.in-Struct.field-1.items c.args.layout.now c.in-Struct-layout.members c.in-Struct-layout.columns c.args.readers.now c.push_members.new.readers c.args.out.now.items c.push.new.self.items c.push_members.new.out.items
-    (ap shape c.in-Struct.is ∙ shape-Struct c.in-Struct.fields c.in-Struct.field-1) c.in-Struct-layout.is (omega (arith, c.requires, w)) c.in_ok-push-in-Struct-layout.ensures.items (rw c.deref-then-are_laid_out.ensures.value at f)
+    (ap shape c.in-Struct.is ∙ shape-Struct c.in-Struct.fields c.in-Struct.field-1) c.in-Struct-layout.is (omega (arith, c.requires, w)) c.in_ok-push-in-Struct-layout.ensures.items (rw c.deref-then-are_laid_out.ensures.value at f))
 
-pub push_value-returns-in-Err-push_members-clause-none : goal.push_value-returns-in-Err-push_members-clause-none
-push_value-returns-in-Err-push_members-clause-none t c = λ memory.
-    let f = c.in-Err-push_members.ensures.none memory in
+pub push_value-returns-in_ok-push-in-Struct-layout-clause-none : goal.push_value-returns-in_ok-push-in-Struct-layout-clause-none
+push_value-returns-in_ok-push-in-Struct-layout-clause-none t c =
+    if_err c.push_members.result c.push_members.ensures.none (λ cause given memory.
+    let f = given memory in
     own_struct_lacks (shape c.args.tree.now) (fields_view c.in-Struct.fields.items) c.in-Struct.field-1.items c.args.readers.now
-    (ap shape c.in-Struct.is ∙ shape-Struct c.in-Struct.fields c.in-Struct.field-1) f
+    (ap shape c.in-Struct.is ∙ shape-Struct c.in-Struct.fields c.in-Struct.field-1) f)
 
-pub push_value-returns-in-Err-push_members-clause-fault : goal.push_value-returns-in-Err-push_members-clause-fault
-push_value-returns-in-Err-push_members-clause-fault t c = λ memory n.
+pub push_value-returns-in_ok-push-in-Struct-layout-clause-fault : goal.push_value-returns-in_ok-push-in-Struct-layout-clause-fault
+push_value-returns-in_ok-push-in-Struct-layout-clause-fault t c =
+    if_err c.push_members.result c.push_members.ensures.fault (λ cause given memory n.
     let w = some_width (shape c.args.tree.now) in
-    let f = c.in-Err-push_members.ensures.fault memory n in
-    own_struct_meets (shape c.args.tree.now) (fields_view c.in-Struct.fields.items) c.in-Struct.field-1.items c.args.readers.now false (suc n) c.in-Err-push_members.fault (ap shape c.in-Struct.is ∙ shape-Struct c.in-Struct.fields c.in-Struct.field-1) (omega (arith, c.requires, w)) f
+    let f = given memory n in
+    own_struct_meets (shape c.args.tree.now) (fields_view c.in-Struct.fields.items) c.in-Struct.field-1.items c.args.readers.now false (suc n) cause (ap shape c.in-Struct.is ∙ shape-Struct c.in-Struct.fields c.in-Struct.field-1) (omega (arith, c.requires, w)) f)
 
-pub push_value-returns-in-Ok-push_members-clause-before : goal.push_value-returns-in-Ok-push_members-clause-before
-push_value-returns-in-Ok-push_members-clause-before t c = λ all n f h.
+pub push_value-returns-in_ok-push-in-Struct-layout-clause-before : goal.push_value-returns-in_ok-push-in-Struct-layout-clause-before
+push_value-returns-in_ok-push-in-Struct-layout-clause-before t c =
+    on_ok c.push_members.result c.push_members.ensures.before (λ given all n f h.
     let w = some_width (shape c.args.tree.now) in
-    let b = c.in-Ok-push_members.ensures.before all n f in
-    struct_before (shape c.args.tree.now) (fields_view c.in-Struct.fields.items) c.in-Struct.field-1.items c.args.readers.now c.push_members.new.readers all n f (ap shape c.in-Struct.is ∙ shape-Struct c.in-Struct.fields c.in-Struct.field-1) (omega (arith, c.requires, w)) b h
+    let b = given all n f in
+    struct_before (shape c.args.tree.now) (fields_view c.in-Struct.fields.items) c.in-Struct.field-1.items c.args.readers.now c.push_members.new.readers all n f (ap shape c.in-Struct.is ∙ shape-Struct c.in-Struct.fields c.in-Struct.field-1) (omega (arith, c.requires, w)) b h)
 
 -- ---- a map
 
@@ -306,17 +368,18 @@ push_pairs-loop-taken-preserved t c =
     let v = shape c.args.value.now in
     record {
       passed = passed_next (PairsLeft k v c.args.readers.now) (PairsLeft k v c.loop-taken.readers) (PairsLeft k v c.push_pair.new.readers) (pair_text (pair_texts c.args.layouts.now))
-          c.loop-taken.later c.loop-taken.taken c.args.out.now.items c.loop-taken.out.items c.push_comma_if.new.out.items c.push_pair.new.out.items c.in_ok-push_comma_if.ensures.found c.in-Ok.ensures.found c.loop-taken.invariant.passed;
+          c.loop-taken.later c.loop-taken.taken c.args.out.now.items c.loop-taken.out.items c.push_comma_if.new.out.items c.push_pair.new.out.items c.in_ok-push_comma_if.ensures.found c.in_ok-push_pair.ensures.found c.loop-taken.invariant.passed;
       counted = search rules;
       before = λ all n f h.
           let e : c.loop-taken.taken + suc n ≡ c.loop-taken.taken + 1 + n = omega arith in
-          subst (λ m. PairsMeet k v c.args.readers.now all m f) e (c.loop-taken.invariant.before all (suc n) f (c.in-Ok.ensures.before all n f h));
+          subst (λ m. PairsMeet k v c.args.readers.now all m f) e (c.loop-taken.invariant.before all (suc n) f (c.in_ok-push_pair.ensures.before all n f h));
     }
 
-pub push_pairs-returns-in-Err-clause-none : goal.push_pairs-returns-in-Err-clause-none
-push_pairs-returns-in-Err-clause-none t c =
-    λ memory. cells_lacking (PairsLeft (shape c.args.key.now) (shape c.args.value.now) c.args.readers.now) (PairsLeft (shape c.args.key.now) (shape c.args.value.now) c.loop-taken.readers) c.loop-taken.invariant.passed.all c.loop-taken.taken c.args.count
-    c.loop-taken.invariant.passed.counted c.loop-taken-test.true c.loop-taken.invariant.passed.taken (c.in-Err.ensures.none memory)
+pub push_pairs-returns-in_err-push_pair-clause-none : goal.push_pairs-returns-in_err-push_pair-clause-none
+push_pairs-returns-in_err-push_pair-clause-none t c =
+    let p = err_from_is_err_and c.from_residual-in_err-push_pair.result c.from_residual-in_err-push_pair.ensures.1 in
+    rw (p.1, p.2) (λ memory. cells_lacking (PairsLeft (shape c.args.key.now) (shape c.args.value.now) c.args.readers.now) (PairsLeft (shape c.args.key.now) (shape c.args.value.now) c.loop-taken.readers) c.loop-taken.invariant.passed.all c.loop-taken.taken c.args.count
+    c.loop-taken.invariant.passed.counted c.loop-taken-test.true c.loop-taken.invariant.passed.taken (c.in_err-push_pair.ensures.none memory))
 
 pub push_pairs-returns-clause-found : goal.push_pairs-returns-clause-found
 push_pairs-returns-clause-found t c =
@@ -324,89 +387,122 @@ push_pairs-returns-clause-found t c =
     passed_all (PairsLeft (shape c.args.key.now) (shape c.args.value.now) c.args.readers.now) (PairsLeft (shape c.args.key.now) (shape c.args.value.now) c.loop-taken.readers) (pair_text (pair_texts c.args.layouts.now)) c.loop-taken.later c.loop-taken.taken c.args.count
     c.args.out.now.items c.loop-taken.out.items e c.loop-taken.invariant.passed
 
-pub push_pairs-returns-in-Err-clause-fault : goal.push_pairs-returns-in-Err-clause-fault
-push_pairs-returns-in-Err-clause-fault t c = λ memory n.
+pub push_pairs-returns-in_err-push_pair-clause-fault : goal.push_pairs-returns-in_err-push_pair-clause-fault
+push_pairs-returns-in_err-push_pair-clause-fault t c =
+    let p = err_from_is_err_and c.from_residual-in_err-push_pair.result c.from_residual-in_err-push_pair.ensures.1 in
+    rw (p.1, p.2) (λ memory n.
     let more : ℕ = c.args.count + n - c.loop-taken.taken - 1 in
     let e : c.loop-taken.taken + suc more ≡ c.args.count + n = omega (arith, c.loop-taken-test.true) in
-    subst (λ m. PairsMeet (shape c.args.key.now) (shape c.args.value.now) c.args.readers.now false m c.in-Err.fault) e (c.loop-taken.invariant.before false (suc more) c.in-Err.fault (c.in-Err.ensures.fault memory more))
+    subst (λ m. PairsMeet (shape c.args.key.now) (shape c.args.value.now) c.args.readers.now false m c.in_err-push_pair.field-0.0) e (c.loop-taken.invariant.before false (suc more) c.in_err-push_pair.field-0.0 (c.in_err-push_pair.ensures.fault memory more)))
 
 pub push_pairs-returns-clause-before : goal.push_pairs-returns-clause-before
-push_pairs-returns-clause-before t c = λ all n f h.
+push_pairs-returns-clause-before t c =
+    λ all n f h.
     let e : c.loop-taken.taken + n ≡ c.args.count + n = omega (arith, c.loop-taken.auto.taken-end, c.loop-taken-test.false) in
     subst (λ m. PairsMeet (shape c.args.key.now) (shape c.args.value.now) c.args.readers.now all m f) e (c.loop-taken.invariant.before all n f h)
 
-pub push_map-returns-in_ok-push-in-Ok-push_pairs-clause-found : goal.push_map-returns-in_ok-push-in-Ok-push_pairs-clause-found
-push_map-returns-in_ok-push-in-Ok-push_pairs-clause-found t c =
-    let f = c.in-Ok-push_pairs.ensures.found in
+pub push_map-returns-clause-found : goal.push_map-returns-clause-found
+push_map-returns-clause-found t c =
+    let f = c.in_ok-push_pairs.ensures.found in
     record {
       one = f.all;
-      taken = map_taken (shape c.args.key.now) (shape c.args.value.now) c.args.readers.now c.push_pairs.new.readers (record { present = (get_or c.args.readers.now 0 c.index-readers-0.result).present; source = c.next_size.new.source }) c.index-readers-0.result c.in-Ok.size f.all (omega (arith, c.requires))
-          c.in-Ok.ensures.found c.in-Ok.ensures.room.0 c.in-Ok.ensures.room.1 f.counted f.taken;
-      put = bracketed c.args.out.now.items c.push.new.self.items c.push_pairs.new.out.items c.push-in-Ok-push_pairs.new.self.items (texts (pair_text (pair_texts c.args.layouts.now)) false f.all) c.in_ok-push-in-Ok.ensures.items f.put c.in_ok-push-in-Ok-push_pairs.ensures.items;
+      taken = map_taken (shape c.args.key.now) (shape c.args.value.now) c.args.readers.now c.push_pairs.new.readers (record { present = (get_or c.args.readers.now 0 c.index-readers-0.result).present; source = c.next_size.new.source }) c.index-readers-0.result c.in_ok-size.size f.all (omega (arith, c.requires))
+          c.in_ok-size.ensures.found c.in_ok-size.ensures.room.0 c.in_ok-size.ensures.room.1 f.counted f.taken;
+      put = bracketed c.args.out.now.items c.push.new.self.items c.push_pairs.new.out.items c.push-2.new.self.items (texts (pair_text (pair_texts c.args.layouts.now)) false f.all) c.in_ok-push.ensures.items f.put c.in_ok-push-2.ensures.items;
     }
 
-pub push_map-returns-in-Err-push_pairs-clause-none : goal.push_map-returns-in-Err-push_pairs-clause-none
-push_map-returns-in-Err-push_pairs-clause-none t c = λ memory.
-    map_lacking (shape c.args.key.now) (shape c.args.value.now) c.args.readers.now (record { present = (get_or c.args.readers.now 0 c.index-readers-0.result).present; source = c.next_size.new.source }) c.index-readers-0.result c.in-Ok.size
-    c.in-Ok.ensures.found (c.in-Err-push_pairs.ensures.none memory)
+pub push_map-returns-in_err-push_pairs-clause-none : goal.push_map-returns-in_err-push_pairs-clause-none
+push_map-returns-in_err-push_pairs-clause-none t c =
+    let p = err_from_is_err_and c.from_residual-in_err-push_pairs.result c.from_residual-in_err-push_pairs.ensures.1 in
+    rw (p.1, p.2) (λ memory.
+    map_lacking (shape c.args.key.now) (shape c.args.value.now) c.args.readers.now (record { present = (get_or c.args.readers.now 0 c.index-readers-0.result).present; source = c.next_size.new.source }) c.index-readers-0.result c.in_ok-size.size
+    c.in_ok-size.ensures.found (c.in_err-push_pairs.ensures.none memory))
 
-pub push_map-returns-in-Err-push_pairs-clause-fault : goal.push_map-returns-in-Err-push_pairs-clause-fault
-push_map-returns-in-Err-push_pairs-clause-fault t c = λ memory n.
+pub push_map-returns-in_err-push_pairs-clause-fault : goal.push_map-returns-in_err-push_pairs-clause-fault
+push_map-returns-in_err-push_pairs-clause-fault t c =
+    let p = err_from_is_err_and c.from_residual-in_err-push_pairs.result c.from_residual-in_err-push_pairs.ensures.1 in
+    rw (p.1, p.2) (λ memory n.
     let own : ColumnReader = record { present = (get_or c.args.readers.now 0 c.index-readers-0.result).present; source = c.next_size.new.source } in
-    maps_pairs (shape c.args.key.now) (shape c.args.value.now) c.args.readers.now c.index-readers-0.result own n c.in-Ok.size c.in-Err-push_pairs.fault (omega (arith, c.requires)) c.in-Ok.ensures.first (c.in-Err-push_pairs.ensures.fault memory 0)
+    maps_pairs (shape c.args.key.now) (shape c.args.value.now) c.args.readers.now c.index-readers-0.result own n c.in_ok-size.size c.in_err-push_pairs.field-0.0 (omega (arith, c.requires)) c.in_ok-size.ensures.first (c.in_err-push_pairs.ensures.fault memory 0))
 
-pub push_map-returns-in-Err-clause-fault : goal.push_map-returns-in-Err-clause-fault
-push_map-returns-in-Err-clause-fault t c = λ memory n.
-    maps_size (shape c.args.key.now) (shape c.args.value.now) c.args.readers.now c.index-readers-0.result false (suc n) c.in-Err.fault (omega (arith, c.requires)) (c.in-Err.ensures.fault memory n)
+pub push_map-returns-in_err-size-clause-fault : goal.push_map-returns-in_err-size-clause-fault
+push_map-returns-in_err-size-clause-fault t c =
+    let p = err_from_is_err_and c.from_residual.result c.from_residual.ensures.1 in
+    rw (p.1, p.2) (λ memory n.
+    maps_size (shape c.args.key.now) (shape c.args.value.now) c.args.readers.now c.index-readers-0.result false (suc n) c.in_err-size.field-0.0 (omega (arith, c.requires)) (c.in_err-size.ensures.fault memory n))
 
-pub push_map-returns-in_ok-push-in-Ok-push_pairs-clause-before : goal.push_map-returns-in_ok-push-in-Ok-push_pairs-clause-before
-push_map-returns-in_ok-push-in-Ok-push_pairs-clause-before t c = λ all n f h.
+pub push_map-returns-clause-before : goal.push_map-returns-clause-before
+push_map-returns-clause-before t c =
+    λ all n f h.
     let own : ColumnReader = record { present = (get_or c.args.readers.now 0 c.index-readers-0.result).present; source = c.next_size.new.source } in
-    map_before (shape c.args.key.now) (shape c.args.value.now) c.args.readers.now c.push_pairs.new.readers c.index-readers-0.result own all n c.in-Ok.size f (omega (arith, c.requires)) c.in-Ok.ensures.first (c.in-Ok.ensures.before all n f)
-    (λ m. c.in-Ok-push_pairs.ensures.before all m f) h
+    map_before (shape c.args.key.now) (shape c.args.value.now) c.args.readers.now c.push_pairs.new.readers c.index-readers-0.result own all n c.in_ok-size.size f (omega (arith, c.requires)) c.in_ok-size.ensures.first (c.in_ok-size.ensures.before all n f)
+    (λ m. c.in_ok-push_pairs.ensures.before all m f) h
 
-pub push_pair-returns-in_ok-extend_from_slice-in-Ok-push_cell-clause-found : goal.push_pair-returns-in_ok-extend_from_slice-in-Ok-push_cell-clause-found
-push_pair-returns-in_ok-extend_from_slice-in-Ok-push_cell-clause-found t c =
+pub push_pair-returns-clause-found : goal.push_pair-returns-clause-found
+push_pair-returns-clause-found t c =
     let k = shape c.args.key.now in
     let v = shape c.args.value.now in
     let w = c.own_width-own.ensures in
     let n : length c.push_cell.new.readers ≡ c.own_width-own.result = first_counted c.own_width-own.result (width v) c.args.readers.now c.push_cell.new.readers (omega (arith, c.requires, w)) c.push_cell.auto.readers in
-    pair_taken k v c.args.layouts.now c.args.readers.now _ (take c.own_width-own.result c.args.readers.now) c.push_cell.new.readers _ c.push_cell-in-Ok.new.readers
-    c.args.out.now.items c.push.new.self.items c.push_cell.new.out.items c.extend_from_slice.new.self.items c.push_cell-in-Ok.new.out.items c.extend_from_slice-in-Ok-push_cell.new.self.items
+    pair_taken k v c.args.layouts.now c.args.readers.now _ (take c.own_width-own.result c.args.readers.now) c.push_cell.new.readers _ c.push_cell-2.new.readers
+    c.args.out.now.items c.push.new.self.items c.push_cell.new.out.items c.extend_from_slice.new.self.items c.push_cell-2.new.out.items c.extend_from_slice-2.new.self.items
     (ap (λ m. take m c.args.readers.now) w) (fields_behind c.own_width-own.result c.args.readers.now c.push_cell.new.readers n ∙ ap (λ m. drop m c.args.readers.now) w)
-    (fields_put c.own_width-own.result c.args.readers.now c.push_cell.new.readers c.push_cell-in-Ok.new.readers n) (n ∙ w)
-    c.in_ok-push.ensures.items c.in-Ok.ensures.found c.in_ok-extend_from_slice-in-Ok.ensures.items c.in-Ok-push_cell.ensures.found c.in_ok-extend_from_slice-in-Ok-push_cell.ensures.items
+    (fields_put c.own_width-own.result c.args.readers.now c.push_cell.new.readers c.push_cell-2.new.readers n) (n ∙ w)
+    c.in_ok-push.ensures.items c.in_ok-push_cell.ensures.found c.in_ok-extend_from_slice.ensures.items c.in_ok-push_cell-2.ensures.found c.in_ok-extend_from_slice-2.ensures.items
 
-pub push_pair-returns-in_ok-extend_from_slice-in-Ok-push_cell-clause-before : goal.push_pair-returns-in_ok-extend_from_slice-in-Ok-push_cell-clause-before
-push_pair-returns-in_ok-extend_from_slice-in-Ok-push_cell-clause-before t c = λ all n f h.
+pub push_pair-returns-clause-before : goal.push_pair-returns-clause-before
+push_pair-returns-clause-before t c =
+    λ all n f h.
     let w = c.own_width-own.ensures in
     let l : length c.push_cell.new.readers ≡ c.own_width-own.result = first_counted c.own_width-own.result (width (shape c.args.value.now)) c.args.readers.now c.push_cell.new.readers (omega (arith, c.requires, w)) c.push_cell.auto.readers in
-    pair_before (shape c.args.key.now) (shape c.args.value.now) c.args.readers.now _ (take c.own_width-own.result c.args.readers.now) c.push_cell.new.readers _ c.push_cell-in-Ok.new.readers all n f
+    pair_before (shape c.args.key.now) (shape c.args.value.now) c.args.readers.now _ (take c.own_width-own.result c.args.readers.now) c.push_cell.new.readers _ c.push_cell-2.new.readers all n f
     (ap (λ m. take m c.args.readers.now) w) (fields_behind c.own_width-own.result c.args.readers.now c.push_cell.new.readers l ∙ ap (λ m. drop m c.args.readers.now) w)
-    (fields_put c.own_width-own.result c.args.readers.now c.push_cell.new.readers c.push_cell-in-Ok.new.readers l) (l ∙ w) (c.in-Ok.ensures.before all n f) (c.in-Ok-push_cell.ensures.before all n f) h
+    (fields_put c.own_width-own.result c.args.readers.now c.push_cell.new.readers c.push_cell-2.new.readers l) (l ∙ w) (c.in_ok-push_cell.ensures.before all n f) (c.in_ok-push_cell-2.ensures.before all n f) h
 
-pub push_value-returns-in-Ok-push_map-clause-found : goal.push_value-returns-in-Ok-push_map-clause-found
-push_value-returns-in-Ok-push_map-clause-found t c =
+pub push_value-returns-in-Map-layout-clause-found : goal.push_value-returns-in-Map-layout-clause-found
+push_value-returns-in-Map-layout-clause-found t c =
+    on_ok c.push_map.result c.push_map.ensures.found (λ given.
     let w = some_width (shape c.args.tree.now) in
-    let f = c.in-Ok-push_map.ensures.found in
+    let f = given in
     map_taken_text (shape c.args.tree.now) (shape c.in-Map.key.value) (shape c.in-Map.value.value) c.in-Map.field-2.items c.args.layout.now c.in-Map-layout.layouts c.args.readers.now c.push_map.new.readers c.args.out.now.items c.push_map.new.out.items
-    (ap shape c.in-Map.is ∙ shape-Map c.in-Map.key c.in-Map.value c.in-Map.field-2) c.in-Map-layout.is (omega (arith, c.requires, w)) c.push_map.auto.readers (rw (c.deref-in-Map-layout.ensures, c.deref-in-Map-layout-2.ensures, c.deref-in-Map-layout-3.ensures) at f)
+    (ap shape c.in-Map.is ∙ shape-Map c.in-Map.key c.in-Map.value c.in-Map.field-2) c.in-Map-layout.is (omega (arith, c.requires, w)) c.push_map.auto.readers (rw (c.deref-in-Map-layout.ensures, c.deref-in-Map-layout-2.ensures, c.deref-in-Map-layout-3.ensures) at f))
 
-pub push_value-returns-in-Err-push_map-clause-none : goal.push_value-returns-in-Err-push_map-clause-none
-push_value-returns-in-Err-push_map-clause-none t c = λ memory.
-    let f = c.in-Err-push_map.ensures.none memory in
+pub push_value-returns-in-Map-layout-clause-none : goal.push_value-returns-in-Map-layout-clause-none
+push_value-returns-in-Map-layout-clause-none t c =
+    if_err c.push_map.result c.push_map.ensures.none (λ cause given memory.
+    let f = given memory in
     own_map_lacks (shape c.args.tree.now) (shape c.in-Map.key.value) (shape c.in-Map.value.value) c.in-Map.field-2.items c.args.readers.now
-    (ap shape c.in-Map.is ∙ shape-Map c.in-Map.key c.in-Map.value c.in-Map.field-2) (rw (c.deref-in-Map-layout.ensures, c.deref-in-Map-layout-2.ensures) at f)
+    (ap shape c.in-Map.is ∙ shape-Map c.in-Map.key c.in-Map.value c.in-Map.field-2) (rw (c.deref-in-Map-layout.ensures, c.deref-in-Map-layout-2.ensures) at f))
 
-pub push_value-returns-in-Err-push_map-clause-fault : goal.push_value-returns-in-Err-push_map-clause-fault
-push_value-returns-in-Err-push_map-clause-fault t c = λ memory n.
-    let f = c.in-Err-push_map.ensures.fault memory n in
-    maps_own (shape c.args.tree.now) (shape c.in-Map.key.value) (shape c.in-Map.value.value) c.in-Map.field-2.items c.args.readers.now false (suc n) c.in-Err-push_map.fault (ap shape c.in-Map.is ∙ shape-Map c.in-Map.key c.in-Map.value c.in-Map.field-2) (rw (c.deref-in-Map-layout.ensures, c.deref-in-Map-layout-2.ensures) at f)
+pub push_value-returns-in-Map-layout-clause-fault : goal.push_value-returns-in-Map-layout-clause-fault
+push_value-returns-in-Map-layout-clause-fault t c =
+    if_err c.push_map.result c.push_map.ensures.fault (λ cause given memory n.
+    let f = given memory n in
+    maps_own (shape c.args.tree.now) (shape c.in-Map.key.value) (shape c.in-Map.value.value) c.in-Map.field-2.items c.args.readers.now false (suc n) cause (ap shape c.in-Map.is ∙ shape-Map c.in-Map.key c.in-Map.value c.in-Map.field-2) (rw (c.deref-in-Map-layout.ensures, c.deref-in-Map-layout-2.ensures) at f))
 
-pub push_value-returns-in-Ok-push_map-clause-before : goal.push_value-returns-in-Ok-push_map-clause-before
-push_value-returns-in-Ok-push_map-clause-before t c = λ all n f h.
+pub push_value-returns-in-Map-layout-clause-before : goal.push_value-returns-in-Map-layout-clause-before
+push_value-returns-in-Map-layout-clause-before t c =
+    on_ok c.push_map.result c.push_map.ensures.before (λ given all n f h.
     let is = ap shape c.in-Map.is ∙ shape-Map c.in-Map.key c.in-Map.value c.in-Map.field-2 in
-    let b = c.in-Ok-push_map.ensures.before all n f in
+    let b = given all n f in
     let r = rw (c.deref-in-Map-layout.ensures, c.deref-in-Map-layout-2.ensures) at b in
     maps_own (shape c.args.tree.now) (shape c.in-Map.key.value) (shape c.in-Map.value.value) c.in-Map.field-2.items c.args.readers.now all (suc n) f is
-    (r (own_maps (shape c.args.tree.now) (shape c.in-Map.key.value) (shape c.in-Map.value.value) c.in-Map.field-2.items c.push_map.new.readers all n f is h))
+    (r (own_maps (shape c.args.tree.now) (shape c.in-Map.key.value) (shape c.in-Map.value.value) c.in-Map.field-2.items c.push_map.new.readers all n f is h)))
+
+pub push_pair-returns-in_err-push_cell-2-clause-none : goal.push_pair-returns-in_err-push_cell-2-clause-none
+push_pair-returns-in_err-push_cell-2-clause-none t c =
+    let k = shape c.args.key.now in
+    let v = shape c.args.value.now in
+    let w = c.own_width-own.ensures in
+    let l : length c.push_cell.new.readers ≡ c.own_width-own.result = first_counted c.own_width-own.result (width v) c.args.readers.now c.push_cell.new.readers (omega (arith, c.requires, w)) c.push_cell.auto.readers in
+    let p = err_from_is_err_and c.from_residual-in_err-push_cell-2.result c.from_residual-in_err-push_cell-2.ensures.1 in
+    rw (p.1, p.2) (λ memory. pair_lacks k v c.args.readers.now _ (fields_behind c.own_width-own.result c.args.readers.now c.push_cell.new.readers l ∙ ap (λ m. drop m c.args.readers.now) w) (c.in_err-push_cell-2.ensures.none memory))
+
+pub push_pair-returns-in_err-push_cell-2-clause-fault : goal.push_pair-returns-in_err-push_cell-2-clause-fault
+push_pair-returns-in_err-push_cell-2-clause-fault t c =
+    let k = shape c.args.key.now in
+    let v = shape c.args.value.now in
+    let w = c.own_width-own.ensures in
+    let l : length c.push_cell.new.readers ≡ c.own_width-own.result = first_counted c.own_width-own.result (width v) c.args.readers.now c.push_cell.new.readers (omega (arith, c.requires, w)) c.push_cell.auto.readers in
+    let p = err_from_is_err_and c.from_residual-in_err-push_cell-2.result c.from_residual-in_err-push_cell-2.ensures.1 in
+    rw (p.1, p.2) (λ memory n. inr (subst (λ xs. CellsMeet v xs false (suc n) c.in_err-push_cell-2.field-0.0) (fields_behind c.own_width-own.result c.args.readers.now c.push_cell.new.readers l ∙ ap (λ m. drop m c.args.readers.now) w) (c.in_err-push_cell-2.ensures.fault memory n)))
