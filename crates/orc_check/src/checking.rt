@@ -1,6 +1,7 @@
 //! A file, checked stripe by stripe.
-ghost use Rattle.std.specs.Prelude.{◌≡◌, ◌<◌, ◌⊎◌, ℕ, List, length, OnOk, IfOk, IfErr, IfSome, IsErrOf, MatchResult};
+ghost use Rattle.std.specs.Prelude.{◌≡◌, ◌⊎◌, List, length, IfOk, IfErr, IfSome, MatchResult};
 ghost use Rattle.orc_values.specs.Cells.{Cell};
+ghost use Rattle.orc_io.specs.Leaves.{LeavesSource};
 ghost use Rattle.orc_file.specs.FileRows.{FileIs, FirstRefused};
 ghost use Rattle.orc_tail.specs.Images.{IsWithinLimits};
 ghost use Rattle.orc_tail.specs.Stripes.{AllBefore};
@@ -42,18 +43,15 @@ fn check_tail<S: Source>(
     requires limits { IsWithinLimits tail.now }
     ensures found { IfOk result (λ found. IfSome (S.told source.old) (λ bytes. IsTail bytes tail.now
         → (rows : List Cell) × FileIs bytes tail.now rows × Findings bytes tail.now rows found.items)) }
-    ensures size { S.size source.new ≡ S.size source.old }
-    ensures told { S.told source.new ≡ S.told source.old }
 
     ensures fault { IfErr result (λ fault. ReadFault (S.told source.old) fault
         (λ bytes. FirstRefused tail.now.schema bytes 0 tail.now.stripes fault)) }
     ensures named { IfErr result (λ fault. (fault ≡ OutOfMemory)
         ⊎ ((fault ≡ SourceFailed) ⊎ IsOfStripes (length tail.now.stripes) fault)) }
-    ensures kept { OnOk result (S.failures source.new ≡ S.failures source.old) }
-    ensures failed { IsErrOf result SourceFailed → S.failures source.old < S.failures source.new }
+    ensures source { LeavesSource S.told S.size S.failures SourceFailed (λ fault. fault ≡ OutOfMemory)
+        source.old source.new result }
     ensures unfailed { IfErr result (λ fault. (fault ≡ SourceFailed)
         ⊎ (S.failures source.new ≡ S.failures source.old)) }
-    ensures memory { IsErrOf result OutOfMemory → S.failures source.new ≡ S.failures source.old }
 {
     let mut found = Vec::new(alloc);
     let mut own = Vec::new(alloc);
@@ -86,21 +84,18 @@ pub fn check<S: Source>(alloc: Global, source: &mut S) -> Result<Vec<Finding>, F
         → MatchResult result
         (λ answered. Findings bytes tail rows answered.items)
         (λ fault. (fault ≡ OutOfMemory) ⊎ (fault ≡ SourceFailed))) }
-    // The source tells afterwards what it told, and is as long.
-    ensures size { S.size source.new ≡ S.size source.old }
-    ensures told { S.told source.new ≡ S.told source.old }
     // Where the source tells its bytes, a refusal is SourceFailed, want of memory, or stands: that
     // of opening, or of the first stripe that has no rows, with its number and why.
     ensures fault { IfErr result (λ fault. ReadFault (S.told source.old) fault (λ bytes. CheckFault bytes fault)) }
     // Whatever is told, a refusal is SourceFailed, one that a tail may have, want of memory, or
     // Stripe with a number below 65,536 and a reason for which bytes are no stripe.
     ensures named { IfErr result (λ fault. (fault ≡ SourceFailed) ⊎ IsOfCheck fault) }
-    // The source's count of failures rose where the refusal is SourceFailed, and nowhere else.
-    ensures kept { OnOk result (S.failures source.new ≡ S.failures source.old) }
-    ensures failed { IsErrOf result SourceFailed → S.failures source.old < S.failures source.new }
+    // After each answer the source tells what it told, and is as long. Its count of failures rose
+    // where the refusal is SourceFailed, and nowhere else.
+    ensures source { LeavesSource S.told S.size S.failures SourceFailed (λ fault. fault ≡ OutOfMemory)
+        source.old source.new result }
     ensures unfailed { IfErr result (λ fault. (fault ≡ SourceFailed)
         ⊎ (S.failures source.new ≡ S.failures source.old)) }
-    ensures memory { IsErrOf result OutOfMemory → S.failures source.new ≡ S.failures source.old }
 {
     let tail = read_tail(alloc, source)?;
     check_tail(alloc, source, &tail)

@@ -1,5 +1,6 @@
 //! A stripe of a file.
-ghost use Rattle.std.specs.Prelude.{◌≡◌, ◌<◌, ◌≤◌, ◌⊎◌, length, OnOk, IfOk, IfErr, IfSome, IsErrOf};
+ghost use Rattle.std.specs.Prelude.{◌≡◌, ◌<◌, ◌≤◌, ◌⊎◌, length, OnOk, IfOk, IfErr, IfSome};
+ghost use Rattle.orc_io.specs.Leaves.{LeavesSource};
 ghost use Rattle.orc_tail.specs.Stripes.{AllBefore, most_bytes, stripe_at, stripes_length};
 ghost use Rattle.orc_file.specs.FileRows as rows;
 ghost use Rattle.orc_file.specs.FileRows.{StripeRefused};
@@ -44,17 +45,14 @@ pub(crate) fn check_stripe<S: Source>(
         (λ stats. IsChecked tail.now number bytes.new.items found.old.items found.new.items stats) }
     ensures bytes { OnOk result (IfSome (S.told source.old)
         (λ all. bytes.new.items ≡ rows.stripe_bytes (stripe_at tail.now.stripes number) all)) }
-    ensures told { S.told source.new ≡ S.told source.old }
-    ensures size { S.size source.new ≡ S.size source.old }
     ensures fault { IfErr result (λ fault. ReadFault (S.told source.old) fault
         (λ all. StripeRefused tail.now.schema all number (stripe_at tail.now.stripes number) fault)) }
     ensures named { IfErr result (λ fault. (fault ≡ OutOfMemory)
         ⊎ ((fault ≡ SourceFailed) ⊎ IsOfStripe number fault)) }
-    ensures kept { OnOk result (S.failures source.new ≡ S.failures source.old) }
-    ensures failed { IsErrOf result SourceFailed → S.failures source.old < S.failures source.new }
+    ensures source { LeavesSource S.told S.size S.failures SourceFailed (λ fault. fault ≡ OutOfMemory)
+        source.old source.new result }
     ensures unfailed { IfErr result (λ fault. (fault ≡ SourceFailed)
         ⊎ (S.failures source.new ≡ S.failures source.old)) }
-    ensures memory { IsErrOf result OutOfMemory → S.failures source.new ≡ S.failures source.old }
 {
     load_stripe(source, tail, number, bytes)?;
     let view = view_stripe(alloc, tail, number, bytes)?;

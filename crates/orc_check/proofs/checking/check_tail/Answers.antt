@@ -33,9 +33,9 @@ loop-number-preserved g c =
     let bytes = c.check_stripe.new.bytes.items in
     let d = inv.checked in
     record {
-      told = e.told ∙ inv.told;
-      size = e.size ∙ inv.size;
-      kept = c.in_ok-stats.ensures.kept ∙ inv.kept;
+      told = e.source.told ∙ inv.told;
+      size = e.source.size ∙ inv.size;
+      kept = c.in_ok-stats.ensures.source.kept ∙ inv.kept;
       checked = (
         d.0 ++ bytes ∷ [],
         d.1 ++ found.rows ∷ [],
