@@ -1,5 +1,6 @@
 //! All inputs' tails are read and tested before the first byte is written.
 ghost use Rattle.std.specs.Prelude.{◌≡◌, ◌+◌, ◌<◌, ◌≤◌, ◌⊎◌, ◌++◌, ℕ, List, Some, length, map, slice_index, All, IfOk, IfErr, OnOk, IfSome, IsErrOf};
+ghost use Rattle.orc_io.specs.Leaves.{LeavesSource};
 ghost use Rattle.orc_tail.specs.Layout.{magic};
 ghost use Rattle.orc_tail.specs.Stripes.{IsLaid, AllBefore};
 ghost use Rattle.orc_tail.specs.Tails.{IsTail, OpenFault, IsOfTail};
@@ -21,8 +22,6 @@ use std::alloc::Global;
 
 /// The tail of the input with this number, which rests then.
 fn tail_of<S: Source>(alloc: Global, number: usize, input: &mut S) -> Result<Tail, MergeFault>
-    ensures size { S.size input.new ≡ S.size input.old }
-    ensures told { S.told input.new ≡ S.told input.old }
     ensures found { IfOk result (λ tail. IfSome (S.told input.old) (λ bytes. IsTail bytes tail)) }
     ensures limits { IfOk result (λ tail. IsWithinLimits tail) }
     ensures within { IfOk result (λ tail. AllBefore (S.size input.old) tail.stripes) }
@@ -33,9 +32,8 @@ fn tail_of<S: Source>(alloc: Global, number: usize, input: &mut S) -> Result<Tai
         × (e ≡ fault.File number why)
         × IfSome (S.told input.old) (λ bytes. OpenFault bytes why)
         × IsOfBytes why × IsOfTail why))) }
-    ensures kept { OnOk result (S.failures input.new ≡ S.failures input.old) }
-    ensures failed { IsErrOf result (fault.SourceFailed number) → S.failures input.old < S.failures input.new }
-    ensures memory { IsErrOf result fault.OutOfMemory → S.failures input.new ≡ S.failures input.old }
+    ensures source { LeavesSource S.told S.size S.failures (fault.SourceFailed number) (λ e. e ≡ fault.OutOfMemory)
+        input.old input.new result }
 {
     let read = read_tail(alloc, input);
     input.rest();

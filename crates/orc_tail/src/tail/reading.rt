@@ -1,7 +1,8 @@
 //! Reading a file's tail: at most five ranges, in this order, and none that is empty: the first 3 bytes, the last
 //! byte, the postscript, the footer, the metadata. A test that fails ends the reading.
-ghost use Rattle.std.specs.Prelude.{◌≡◌, ◌+◌, ◌<◌, ◌≤◌, ◌⊎◌, length, OnOk, IfOk, IfErr, IfSome, IsErrOf};
+ghost use Rattle.std.specs.Prelude.{◌≡◌, ◌+◌, ◌<◌, ◌≤◌, ◌⊎◌, length, OnOk, IfOk, IfErr, IfSome};
 ghost use Rattle.orc_io.specs.Devices.{bytes_at};
+ghost use Rattle.orc_io.specs.Leaves.{LeavesSource};
 ghost use Rattle.std.specs.Bool.{OnTrue, OnFalse};
 ghost use Rattle.orc_tail.specs.Layout.{magic, postscript_length, postscript_place};
 ghost use Rattle.orc_tail.specs.Stripes.{AllBefore};
@@ -31,14 +32,12 @@ struct End {
 /// Fills the slice from a place on.
 fn read_into<S: Source>(source: &mut S, at: u64, into: &mut [u8]) -> Result<(), FileFault>
     requires { at + length into.old ≤ S.size source.old }
-    ensures size { S.size source.new ≡ S.size source.old }
-    ensures told { S.told source.new ≡ S.told source.old }
     ensures bytes { OnOk result (IfSome (S.told source.old) (λ bytes. into.new ≡ bytes_at at (length into.old) bytes)) }
     ensures length { length into.new ≡ length into.old }
 
     ensures fault { IfErr result (λ fault. fault ≡ SourceFailed) }
-    ensures kept { OnOk result (S.failures source.new ≡ S.failures source.old) }
-    ensures failed { IsErrOf result SourceFailed → S.failures source.old < S.failures source.new }
+    ensures source { LeavesSource S.told S.size S.failures SourceFailed (λ fault. fault ≡ OutOfMemory)
+        source.old source.new result }
 {
     match source.read_at(at, into) {
         Ok(()) => Ok(()),
@@ -54,14 +53,11 @@ fn range_of<S: Source>(
     len: u64,
 ) -> Result<Vec<u8>, FileFault>
     requires { at + len ≤ S.size source.old }
-    ensures size { S.size source.new ≡ S.size source.old }
-    ensures told { S.told source.new ≡ S.told source.old }
     ensures bytes { IfOk result (λ read. IfSome (S.told source.old) (λ bytes. read.items ≡ bytes_at at len bytes)) }
 
     ensures fault { IfErr result (λ fault. (fault ≡ OutOfMemory) ⊎ (fault ≡ SourceFailed)) }
-    ensures kept { OnOk result (S.failures source.new ≡ S.failures source.old) }
-    ensures failed { IsErrOf result SourceFailed → S.failures source.old < S.failures source.new }
-    ensures memory { IsErrOf result OutOfMemory → S.failures source.new ≡ S.failures source.old }
+    ensures source { LeavesSource S.told S.size S.failures SourceFailed (λ fault. fault ≡ OutOfMemory)
+        source.old source.new result }
 {
     match read_range(alloc, source, at, len) {
         Ok(read) => Ok(read),
@@ -80,8 +76,6 @@ fn is_orc(front: &[u8]) -> bool
 
 /// The postscript of a file with these two ends.
 fn read_end<S: Source>(alloc: Global, source: &mut S) -> Result<End, FileFault>
-    ensures size { S.size source.new ≡ S.size source.old }
-    ensures told { S.told source.new ≡ S.told source.old }
     ensures sized { S.size source.old ≤ no_cap }
     ensures found { IfOk result (λ end. IfSome (S.told source.old)
         (λ bytes. (end_tests bytes).finds end.postscript × (end.place ≡ postscript_place bytes))) }
@@ -94,9 +88,8 @@ fn read_end<S: Source>(alloc: Global, source: &mut S) -> Result<End, FileFault>
         (λ bytes. (end_tests bytes).fails fault)) }
     ensures unfailed { IfErr result (λ fault. (fault ≡ SourceFailed)
         ⊎ (IsOfTail fault × (S.failures source.new ≡ S.failures source.old))) }
-    ensures kept { OnOk result (S.failures source.new ≡ S.failures source.old) }
-    ensures failed { IsErrOf result SourceFailed → S.failures source.old < S.failures source.new }
-    ensures memory { IsErrOf result OutOfMemory → S.failures source.new ≡ S.failures source.old }
+    ensures source { LeavesSource S.told S.size S.failures SourceFailed (λ fault. fault ≡ OutOfMemory)
+        source.old source.new result }
 {
     let len = source.len();
     if len < 4 {
@@ -146,9 +139,6 @@ pub fn read_capped_tail<S: Source>(
 ) -> Result<Tail, FileFault>
     // The source has at most 2^64 - 1 bytes.
     ensures sized { S.size source.old ≤ no_cap }
-    // After each answer the source has the length that it had, and tells what it told.
-    ensures size { S.size source.new ≡ S.size source.old }
-    ensures told { S.told source.new ≡ S.told source.old }
     // Where the source tells its bytes, the tail that is answered is the one that they have, and
     // metadata, footer and postscript have together no more bytes than the cap.
     ensures found { IfOk result (λ tail. IfSome (S.told source.old) (λ bytes. IsCappedTail cap bytes tail)) }
@@ -164,11 +154,10 @@ pub fn read_capped_tail<S: Source>(
     // failed.
     ensures unfailed { IfErr result (λ fault. (fault ≡ SourceFailed)
         ⊎ (IsOfTail fault × (S.failures source.new ≡ S.failures source.old))) }
-    // The source's count of failures rises with SourceFailed, and stands where a tail is answered
-    // or memory is refused.
-    ensures kept { OnOk result (S.failures source.new ≡ S.failures source.old) }
-    ensures failed { IsErrOf result SourceFailed → S.failures source.old < S.failures source.new }
-    ensures memory { IsErrOf result OutOfMemory → S.failures source.new ≡ S.failures source.old }
+    // After each answer the source has the length that it had, and tells what it told. Its count of
+    // failures rises with SourceFailed, and stands where a tail is answered or memory is refused.
+    ensures source { LeavesSource S.told S.size S.failures SourceFailed (λ fault. fault ≡ OutOfMemory)
+        source.old source.new result }
 {
     let End {
         postscript,
@@ -210,9 +199,6 @@ pub fn read_capped_tail<S: Source>(
 /// The tests come in this order, and the fault is the first one's that fails: both ends and the postscript, the
 /// footer, the metadata, the limits and the stripes' places. `SourceFailed` and `OutOfMemory` may come instead.
 pub fn read_tail<S: Source>(alloc: Global, source: &mut S) -> Result<Tail, FileFault>
-    // After each answer the source has the length that it had, and tells what it told.
-    ensures size { S.size source.new ≡ S.size source.old }
-    ensures told { S.told source.new ≡ S.told source.old }
     // Where the source tells its bytes, the tail that is answered is the one that they have.
     ensures found { IfOk result (λ tail. IfSome (S.told source.old) (λ bytes. IsTail bytes tail)) }
     // The tail is within the limits and its stripes end within the source, also where this tells
@@ -227,11 +213,10 @@ pub fn read_tail<S: Source>(alloc: Global, source: &mut S) -> Result<Tail, FileF
     // failed.
     ensures unfailed { IfErr result (λ fault. (fault ≡ SourceFailed)
         ⊎ (IsOfTail fault × (S.failures source.new ≡ S.failures source.old))) }
-    // The source's count of failures rises with SourceFailed, and stands where a tail is answered
-    // or memory is refused.
-    ensures kept { OnOk result (S.failures source.new ≡ S.failures source.old) }
-    ensures failed { IsErrOf result SourceFailed → S.failures source.old < S.failures source.new }
-    ensures memory { IsErrOf result OutOfMemory → S.failures source.new ≡ S.failures source.old }
+    // After each answer the source has the length that it had, and tells what it told. Its count of
+    // failures rises with SourceFailed, and stands where a tail is answered or memory is refused.
+    ensures source { LeavesSource S.told S.size S.failures SourceFailed (λ fault. fault ≡ OutOfMemory)
+        source.old source.new result }
 {
     read_capped_tail(alloc, source, u64::MAX)
 }

@@ -10,35 +10,35 @@ use Rattle.orc_merger.proofs.gathering.gather_next.Goals as goal
 
 pub returns-in_err-tail-clause-told : goal.returns-in_err-tail-clause-told
 returns-in_err-tail-clause-told g c =
-    map-set_same g.S.Source.told c.args.inputs.now c.args.number c.tail_of.new.input c.index-inputs-number.result c.tail_of.ensures.told
+    map-set_same g.S.Source.told c.args.inputs.now c.args.number c.tail_of.new.input c.index-inputs-number.result c.tail_of.ensures.source.told
 
 pub returns-in_err-tail-clause-sizes : goal.returns-in_err-tail-clause-sizes
 returns-in_err-tail-clause-sizes g c =
-    map-set_same g.S.Source.size c.args.inputs.now c.args.number c.tail_of.new.input c.index-inputs-number.result c.tail_of.ensures.size
+    map-set_same g.S.Source.size c.args.inputs.now c.args.number c.tail_of.new.input c.index-inputs-number.result c.tail_of.ensures.source.size
 
 pub returns-in_err-compare-clause-told : goal.returns-in_err-compare-clause-told
 returns-in_err-compare-clause-told g c =
-    map-set_same g.S.Source.told c.args.inputs.now c.args.number c.tail_of.new.input c.index-inputs-number.result c.tail_of.ensures.told
+    map-set_same g.S.Source.told c.args.inputs.now c.args.number c.tail_of.new.input c.index-inputs-number.result c.tail_of.ensures.source.told
 
 pub returns-in_err-compare-clause-sizes : goal.returns-in_err-compare-clause-sizes
 returns-in_err-compare-clause-sizes g c =
-    map-set_same g.S.Source.size c.args.inputs.now c.args.number c.tail_of.new.input c.index-inputs-number.result c.tail_of.ensures.size
+    map-set_same g.S.Source.size c.args.inputs.now c.args.number c.tail_of.new.input c.index-inputs-number.result c.tail_of.ensures.source.size
 
 pub returns-in_err-add-clause-told : goal.returns-in_err-add-clause-told
 returns-in_err-add-clause-told g c =
-    map-set_same g.S.Source.told c.args.inputs.now c.args.number c.tail_of.new.input c.index-inputs-number.result c.tail_of.ensures.told
+    map-set_same g.S.Source.told c.args.inputs.now c.args.number c.tail_of.new.input c.index-inputs-number.result c.tail_of.ensures.source.told
 
 pub returns-in_err-add-clause-sizes : goal.returns-in_err-add-clause-sizes
 returns-in_err-add-clause-sizes g c =
-    map-set_same g.S.Source.size c.args.inputs.now c.args.number c.tail_of.new.input c.index-inputs-number.result c.tail_of.ensures.size
+    map-set_same g.S.Source.size c.args.inputs.now c.args.number c.tail_of.new.input c.index-inputs-number.result c.tail_of.ensures.source.size
 
 pub returns-clause-told : goal.returns-clause-told
 returns-clause-told g c =
-    map-set_same g.S.Source.told c.args.inputs.now c.args.number c.tail_of.new.input c.index-inputs-number.result c.tail_of.ensures.told
+    map-set_same g.S.Source.told c.args.inputs.now c.args.number c.tail_of.new.input c.index-inputs-number.result c.tail_of.ensures.source.told
 
 pub returns-clause-sizes : goal.returns-clause-sizes
 returns-clause-sizes g c =
-    map-set_same g.S.Source.size c.args.inputs.now c.args.number c.tail_of.new.input c.index-inputs-number.result c.tail_of.ensures.size
+    map-set_same g.S.Source.size c.args.inputs.now c.args.number c.tail_of.new.input c.index-inputs-number.result c.tail_of.ensures.source.size
 
 pub returns-in_err-tail-clause-refused : goal.returns-in_err-tail-clause-refused
 returns-in_err-tail-clause-refused g c =
@@ -49,7 +49,7 @@ returns-in_err-tail-clause-refused g c =
 pub returns-in_err-tail-clause-counted : goal.returns-in_err-tail-clause-counted
 returns-in_err-tail-clause-counted g c =
     let p = err_from_is_err_and c.from_residual.result c.from_residual.ensures.1 in
-    rw (p.1, p.2) (open_counted g.S.Source.failures c.args.inputs.now c.args.number c.index-inputs-number.result c.tail_of.new.input _ _ c.requires.number c.in_err-tail.ensures.fault (λ is. c.in_err-tail.ensures.failed (ap Err is)))
+    rw (p.1, p.2) (open_counted g.S.Source.failures c.args.inputs.now c.args.number c.index-inputs-number.result c.tail_of.new.input _ _ c.requires.number c.in_err-tail.ensures.fault (λ is. c.in_err-tail.ensures.source.failed (ap Err is)))
 
 pub returns-in_err-compare-clause-refused : goal.returns-in_err-compare-clause-refused
 returns-in_err-compare-clause-refused g c =
@@ -127,16 +127,16 @@ returns-clause-found g c =
 
 pub returns-clause-kept : goal.returns-clause-kept
 returns-clause-kept g c =
-    map-set_same g.S.Source.failures c.args.inputs.now c.args.number c.tail_of.new.input c.index-inputs-number.result c.in_ok-tail.ensures.kept
+    map-set_same g.S.Source.failures c.args.inputs.now c.args.number c.tail_of.new.input c.index-inputs-number.result c.in_ok-tail.ensures.source.kept
 
 pub returns-in_err-tail-clause-memory : goal.returns-in_err-tail-clause-memory
 returns-in_err-tail-clause-memory g c =
     let p = err_from_is_err_and c.from_residual.result c.from_residual.ensures.1 in
-    rw (p.1, p.2) (λ e. map-set_same g.S.Source.failures c.args.inputs.now c.args.number c.tail_of.new.input c.index-inputs-number.result (c.in_err-tail.ensures.memory (ap Err (IfErr-at_err (λ (x : MergeFault). c.in_err-tail.field-0.0 ≡ x) e refl))))
+    rw (p.1, p.2) (λ e. map-set_same g.S.Source.failures c.args.inputs.now c.args.number c.tail_of.new.input c.index-inputs-number.result (c.in_err-tail.ensures.source.memory (IfErr-at_err (λ (x : MergeFault). c.in_err-tail.field-0.0 ≡ x) e refl)))
 
 pub returns-in_err-add-clause-memory : goal.returns-in_err-add-clause-memory
 returns-in_err-add-clause-memory g c = λ e.
-    map-set_same g.S.Source.failures c.args.inputs.now c.args.number c.tail_of.new.input c.index-inputs-number.result c.in_ok-tail.ensures.kept
+    map-set_same g.S.Source.failures c.args.inputs.now c.args.number c.tail_of.new.input c.index-inputs-number.result c.in_ok-tail.ensures.source.kept
 
 pub returns-in_err-tail-clause-named : goal.returns-in_err-tail-clause-named
 returns-in_err-tail-clause-named g c =

@@ -23,7 +23,7 @@ returns-in_err-footer-clause-fault g c =
     let end = c.in_ok-postscript.field-0 in
     let told = g.S.Source.told c.args.source.now in
     let ends = ends_with told end.postscript end.place end.length c.in_ok-postscript.ensures.found c.in_ok-postscript.ensures.length in
-    let footer_at = rw c.read_end.ensures.told at c.in_ok-text.ensures.bytes in
+    let footer_at = rw c.read_end.ensures.source.told at c.in_ok-text.ensures.bytes in
     rw (p.1, p.2) (elim c.in_err-footer.ensures.fault [
       | inl memory ↦ inl memory
       | inr fails ↦ inr (inr (fails_within told c.args.cap end.postscript end.place end.length c.in_err-footer.field-0.0 ends c.if-is_above.ensures.no (footer_fails c.in_ok-postscript.field-0.postscript c.in_ok-postscript.field-0.place c.in_ok-text.text.items [] (g.S.Source.told c.args.source.now) c.in_err-footer.field-0.0 c.in_ok-postscript.ensures.found footer_at (rw c.deref.ensures.value at fails))))
@@ -35,8 +35,8 @@ returns-in_err-metadata-clause-fault g c =
     let end = c.in_ok-postscript.field-0 in
     let told = g.S.Source.told c.args.source.now in
     let ends = ends_with told end.postscript end.place end.length c.in_ok-postscript.ensures.found c.in_ok-postscript.ensures.length in
-    let footer_at = rw c.read_end.ensures.told at c.in_ok-text.ensures.bytes in
-    let metadata_at = rw (c.range_of.ensures.told, c.read_end.ensures.told) at c.in_ok-text-2.ensures.bytes in
+    let footer_at = rw c.read_end.ensures.source.told at c.in_ok-text.ensures.bytes in
+    let metadata_at = rw (c.range_of.ensures.source.told, c.read_end.ensures.source.told) at c.in_ok-text-2.ensures.bytes in
     rw (p.1, p.2) (elim c.in_err-metadata.ensures.fault [
       | inl memory ↦ inl memory
       | inr fails ↦ inr (inr (fails_within told c.args.cap end.postscript end.place end.length c.in_err-metadata.field-0.0 ends c.if-is_above.ensures.no (metadata_fails c.in_ok-postscript.field-0.postscript c.in_ok-postscript.field-0.place c.in_ok-text.text.items c.in_ok-text-2.text.items c.in_ok-footer.footer c.in_ok-footer.schema (rw c.deref.ensures.value at c.in_ok-footer.ensures.found)
@@ -49,8 +49,8 @@ returns-in_err-file_stats-clause-fault g c =
     let end = c.in_ok-postscript.field-0 in
     let told = g.S.Source.told c.args.source.now in
     let ends = ends_with told end.postscript end.place end.length c.in_ok-postscript.ensures.found c.in_ok-postscript.ensures.length in
-    let footer_at = rw c.read_end.ensures.told at c.in_ok-text.ensures.bytes in
-    let metadata_at = rw (c.range_of.ensures.told, c.read_end.ensures.told) at c.in_ok-text-2.ensures.bytes in
+    let footer_at = rw c.read_end.ensures.source.told at c.in_ok-text.ensures.bytes in
+    let metadata_at = rw (c.range_of.ensures.source.told, c.read_end.ensures.source.told) at c.in_ok-text-2.ensures.bytes in
     rw (p.1, p.2) (elim c.in_err-file_stats.ensures.fault [
       | inl memory ↦ inl memory
       | inr fails ↦ inr (inr (fails_within told c.args.cap end.postscript end.place end.length c.in_err-file_stats.field-0.0 ends c.if-is_above.ensures.no (limits_fail c.in_ok-postscript.field-0.postscript c.in_ok-postscript.field-0.place c.in_ok-text.text.items c.in_ok-text-2.text.items c.in_ok-footer.footer c.in_ok-footer.schema (rw c.deref.ensures.value at c.in_ok-footer.ensures.found)
@@ -68,8 +68,8 @@ returns-clause-found g c =
     let end = c.in_ok-postscript.field-0 in
     let told = g.S.Source.told c.args.source.now in
     let ends = ends_with told end.postscript end.place end.length c.in_ok-postscript.ensures.found c.in_ok-postscript.ensures.length in
-    let footer_at = rw c.read_end.ensures.told at c.in_ok-text.ensures.bytes in
-    let metadata_at = rw (c.range_of.ensures.told, c.read_end.ensures.told) at c.in_ok-text-2.ensures.bytes in
+    let footer_at = rw c.read_end.ensures.source.told at c.in_ok-text.ensures.bytes in
+    let metadata_at = rw (c.range_of.ensures.source.told, c.read_end.ensures.source.told) at c.in_ok-text-2.ensures.bytes in
     found_within told c.args.cap end.postscript end.place end.length _ ends c.if-is_above.ensures.no
     (tail_found c.in_ok-postscript.field-0.postscript c.in_ok-postscript.field-0.place c.in_ok-text.text.items c.in_ok-text-2.text.items c.in_ok-footer.footer c.in_ok-footer.schema (rw c.deref.ensures.value at c.in_ok-footer.ensures.found)
     c.in_ok-metadata.metadata (rw c.deref-2.ensures.value at c.in_ok-metadata.ensures.found) (c.in_ok-file_stats.file_stats, c.in_ok-file_stats.stripe_stats) (g.S.Source.told c.args.source.now) c.in_ok-postscript.ensures.found footer_at metadata_at c.in_ok-file_stats.ensures.found)
@@ -87,9 +87,9 @@ returns-clause-limits g c =
 pub returns-in_err-file_stats-clause-unfailed : goal.returns-in_err-file_stats-clause-unfailed
 returns-in_err-file_stats-clause-unfailed g c =
     let p = err_from_is_err_and c.from_residual-in_err-file_stats.result c.from_residual-in_err-file_stats.ensures.1 in
-    rw (p.1, p.2) (inr (c.in_err-file_stats.ensures.named, c.in_ok-text-2.ensures.kept ∙ (c.in_ok-text.ensures.kept ∙ c.in_ok-postscript.ensures.kept)))
+    rw (p.1, p.2) (inr (c.in_err-file_stats.ensures.named, c.in_ok-text-2.ensures.source.kept ∙ (c.in_ok-text.ensures.source.kept ∙ c.in_ok-postscript.ensures.source.kept)))
 
 pub returns-in_err-metadata-clause-unfailed : goal.returns-in_err-metadata-clause-unfailed
 returns-in_err-metadata-clause-unfailed g c =
     let p = err_from_is_err_and c.from_residual-in_err-metadata.result c.from_residual-in_err-metadata.ensures.1 in
-    rw (p.1, p.2) (inr (c.in_err-metadata.ensures.named, c.in_ok-text-2.ensures.kept ∙ (c.in_ok-text.ensures.kept ∙ c.in_ok-postscript.ensures.kept)))
+    rw (p.1, p.2) (inr (c.in_err-metadata.ensures.named, c.in_ok-text-2.ensures.source.kept ∙ (c.in_ok-text.ensures.source.kept ∙ c.in_ok-postscript.ensures.source.kept)))
