@@ -12,7 +12,6 @@ use Rattle.orc_column_reader.specs.Faults.{RunsFail, DictionaryFails}
 use Rattle.orc_column_reader.specs.ReaderFaults.{ValuesMeet}
 use Rattle.orc_column_reader.specs.RunFaults.{Always}
 use Rattle.orc_column_reader.specs.RunsMet.{MarksMeet}
-
 use Rattle.orc_column_reader.specs.Starting.{NumbersStart, SourceStart, OwnStart, LacksEntries, HasNoDictionary}
 use Rattle.orc_column_reader.specs.Stripe.{Streams, version, has_dictionary, Marks, SpellsScalar, SpellsTexts, most_cells, cell_limit}
 use Rattle.orc_column_reader.specs.declared.column.ColumnReader.{ColumnReader}

@@ -12,7 +12,7 @@ ghost use Rattle.orc_row_index_check.specs.Decided.{AreDecided};
 
 use crate::column_table::tables_of;
 use orc_column_reader::{ColumnStreams, StripeFault};
-use orc_row_index::{Counts, values_kind, placed_streams};
+use orc_row_index::{Counts, placed_streams, values_kind};
 use orc_values::Tree;
 use orc_wire::RowIndexEntry;
 use std::alloc::Global;
