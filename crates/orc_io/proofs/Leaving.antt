@@ -1,6 +1,6 @@
--- What calls leave of a source, one after another, and as another layer's faults say it.
-use Rattle.std.proofs.Common.{◌≡◌, ◌<◌, ℕ, List, Option, Result, Ok, Err, ◌∙◌, ap, arith}
-use Rattle.orc_io.specs.Leaves.{LeavesSource}
+-- What calls leave of a source or a sink, one after another, and as another layer's faults say it.
+use Rattle.std.proofs.Common.{◌≡◌, ◌<◌, ℕ, List, Option, Result, Ok, Err, OnOk, IfErr, ◌∙◌, ap, subst, arith}
+use Rattle.orc_io.specs.Leaves.{LeavesSource, LeavesSink}
 
 -- A call that succeeds and one after it leave what both leave.
 pub leaves_both : {S T U E : Type 0} {tells : S → Option (List ℕ)} {size_of failures_of : S → ℕ} {source_failed : E}
@@ -34,6 +34,32 @@ pub leaves_as : {S T U E F : Type 0} {tells : S → Option (List ℕ)} {size_of 
 leaves_as {source_failed = failed} {fault = fault} is_failed is_memory p = record {
   told = p.told;
   size = p.size;
+  kept = tt;
+  failed = λ e. let same : fault ≡ failed = cc in p.failed (ap Err (is_failed same));
+  memory = λ m. p.memory (is_memory m);
+}
+
+-- Of a sink that had not failed more often than at first, a call leaves what it leaves of the first.
+pub kept_then : {W T E : Type 0} {failures_of : W → ℕ} {sink_failed : E} {IsOfMemory : E → Type 0} {old mid new : W}
+    {result : Result T E} → failures_of mid ≡ failures_of old
+    → LeavesSink failures_of sink_failed IsOfMemory mid new result
+    → LeavesSink failures_of sink_failed IsOfMemory old new result
+kept_then {failures_of = f} {sink_failed = s} {IsOfMemory = M} {old = old} {new = new} {result = r} e p =
+    let P : ℕ → Type 0 = λ n. OnOk r (f new ≡ n) in
+    let Q : ℕ → Type 0 = λ n. IfErr r (λ fault. M fault → f new ≡ n) in
+    record {
+      kept = subst P e p.kept;
+      failed = λ is. let rose = p.failed is in omega (arith, rose, e);
+      memory = subst Q e p.memory;
+    }
+
+-- So does a call on a sink that another layer passes on under its own fault.
+pub sink_as : {W T U E F : Type 0} {failures_of : W → ℕ} {below_failed : E} {IsBelow : E → Type 0} {sink_failed : F}
+    {IsOfMemory : F → Type 0} {old new : W} {why : E} {fault : F}
+    → (fault ≡ sink_failed → why ≡ below_failed) → (IsOfMemory fault → IsBelow why)
+    → LeavesSink {T = T} failures_of below_failed IsBelow old new (Err why)
+    → LeavesSink {T = U} failures_of sink_failed IsOfMemory old new (Err fault)
+sink_as {sink_failed = failed} {fault = fault} is_failed is_memory p = record {
   kept = tt;
   failed = λ e. let same : fault ≡ failed = cc in p.failed (ap Err (is_failed same));
   memory = λ m. p.memory (is_memory m);
