@@ -5,9 +5,10 @@ ghost use Rattle.orc_values.specs.Views.{views};
 ghost use Rattle.orc_column_reader.specs.Stripe.{IsStripe};
 ghost use Rattle.orc_column_reader.specs.declared.fault.StripeFault.{StripeFault};
 ghost use Rattle.orc_column_reader.specs.declared.fault.StripeFault.TheVariants as stripe;
+ghost use Rattle.orc_io.specs.Leaves.{LeavesSource};
 ghost use Rattle.orc_tail.specs.Stripes.{stripe_at, stripe_length};
 ghost use Rattle.orc_tail.specs.Tails.{IsTail, ReadFault};
-ghost use Rattle.orc_file.specs.FileRows.{stripe_bytes, IsNoStripe, HasMore, FileIs};
+ghost use Rattle.orc_file.specs.FileRows.{IsNoStripe, HasMore, FileIs};
 ghost use Rattle.orc_tail.specs.Caps.{no_cap};
 ghost use Rattle.orc_file.specs.StripeCaps.{AllWithin, CappedRefused, FirstCapped};
 ghost use Rattle.orc_file.specs.RowFaults.{IsOfRows};
@@ -72,8 +73,6 @@ impl<S: Source> OrcFile<S> {
         ensures within { OnOk result (stripe_length (stripe_at self.old.tail.stripes number) ≤ self.old.cap) }
         ensures tail { self.new.tail ≡ self.old.tail }
         ensures cap { self.new.cap ≡ self.old.cap }
-        ensures told { S.told self.new.source ≡ S.told self.old.source }
-        ensures size { S.size self.new.source ≡ S.size self.old.source }
 
         ensures fault { IfErr result (λ fault. ReadFault (S.told self.old.source) fault
             (λ all. CappedRefused self.old.cap self.old.tail.schema all number
@@ -82,9 +81,8 @@ impl<S: Source> OrcFile<S> {
         ensures unfailed { IfErr result (λ fault. (fault ≡ SourceFailed)
             ⊎ (IsOfRows self.old.cap self.old.tail fault
             × (S.failures self.new.source ≡ S.failures self.old.source))) }
-        ensures kept { OnOk result (S.failures self.new.source ≡ S.failures self.old.source) }
-        ensures failed { IsErrOf result SourceFailed → S.failures self.old.source < S.failures self.new.source }
-        ensures memory { IsErrOf result OutOfMemory → S.failures self.new.source ≡ S.failures self.old.source }
+        ensures source { LeavesSource S.told S.size S.failures SourceFailed (λ fault. fault ≡ OutOfMemory)
+            self.old.source self.new.source result }
     {
         self.load(number, bytes)?;
         let own = self.stripe_rows(alloc, number, bytes)?;
@@ -111,12 +109,9 @@ impl<S: Source> OrcFile<S> {
             → IfSome (S.told self.old.source) (λ bytes. (rows : List Cell) → FileIs bytes self.old.tail rows
             → MatchResult result (λ answered. views answered.items ≡ rows)
             (λ fault. (fault ≡ OutOfMemory) ⊎ (fault ≡ SourceFailed))) }
-        // After each answer the file has the tail and the cap that it had, and its source tells
-        // what it told and has the length that it had.
+        // After each answer the file has the tail and the cap that it had.
         ensures tail { self.new.tail ≡ self.old.tail }
         ensures cap { self.new.cap ≡ self.old.cap }
-        ensures told { S.told self.new.source ≡ S.told self.old.source }
-        ensures size { S.size self.new.source ≡ S.size self.old.source }
 
         // Where the source tells its bytes, a refusal is of the first stripe that is longer than
         // the cap, by Limit, or has no rows, and why, or it is want of memory or SourceFailed.
@@ -132,11 +127,11 @@ impl<S: Source> OrcFile<S> {
             × (S.failures self.new.source ≡ S.failures self.old.source))) }
         // With the greatest cap, as `open` gives it, no stripe is longer than the cap.
         ensures uncapped { self.old.cap ≡ no_cap → AllWithin self.old.cap self.old.tail.stripes }
-        // The source's count of failures rises with SourceFailed, and stands where rows are
-        // answered or memory is refused.
-        ensures kept { OnOk result (S.failures self.new.source ≡ S.failures self.old.source) }
-        ensures failed { IsErrOf result SourceFailed → S.failures self.old.source < S.failures self.new.source }
-        ensures memory { IsErrOf result OutOfMemory → S.failures self.new.source ≡ S.failures self.old.source }
+        // After each answer the source tells what it told, and has the length that it had. Its
+        // count of failures rises with SourceFailed, and stands where rows are answered or memory
+        // is refused.
+        ensures source { LeavesSource S.told S.size S.failures SourceFailed (λ fault. fault ≡ OutOfMemory)
+            self.old.source self.new.source result }
     {
         let mut rows = Vec::new(alloc);
         let mut bytes = Vec::new(alloc);

@@ -1,4 +1,4 @@
-use Rattle.std.proofs.Common.{rules}
+use Rattle.orc_io.proofs.Leaving.{leaves_as}
 use Rattle.orc_cli_output.proofs.OutputLemmas.{file_want}
 use Rattle.orc_cli_rows.proofs.RowsLemmas.{printed_file, refused_file, refused_open}
 use Rattle.orc_cli_rows.proofs.printing.print_file.Goals as goal
@@ -8,7 +8,7 @@ returns-in-Ok-printed-clause-written g c =
     let told = g.S.Source.told c.args.source in
     let old = g.W.Write.contents c.args.out.now in
     let new = g.W.Write.contents c.print_opened-printed.new.out in
-    let same = c.in-Ok.ensures.same in
+    let same = c.in-Ok.ensures.source.told in
     let written = c.in-Ok-printed.ensures.written in
     printed_file told c.in-Ok.file.tail c.args.start old new c.in-Ok.ensures.found (rw same at written)
 
@@ -17,7 +17,7 @@ returns-in-Err-printed-clause-refused g c =
     let told = g.S.Source.told c.args.source in
     let old = g.W.Write.contents c.args.out.now in
     let new = g.W.Write.contents c.print_opened-printed.new.out in
-    let same = c.in-Ok.ensures.same in
+    let same = c.in-Ok.ensures.source.told in
     let ends = c.in-Err-printed.ensures.refused in
     refused_file told c.in-Ok.file.tail c.args.start old new c.in-Err-printed.fault c.in-Ok.ensures.found (rw same at ends)
 
@@ -25,10 +25,4 @@ pub returns-in-Err-clause-refused : goal.returns-in-Err-clause-refused
 returns-in-Err-clause-refused g c = refused_open (g.S.Source.told c.args.source) c.args.start (g.W.Write.contents c.args.out.now) c.in-Err.fault c.in-Err.ensures.fault
 
 pub returns-in-Err-clause-source : goal.returns-in-Err-clause-source
-returns-in-Err-clause-source g c = record {
-  told = search rules;
-  size = search rules;
-  kept = search rules;
-  failed = search rules;
-  memory = λ want. c.in-Err.ensures.memory (file_want c.in-Err.fault want);
-}
+returns-in-Err-clause-source g c = leaves_as (λ e. cc) (file_want c.in-Err.fault) c.in-Err.ensures.source

@@ -1,4 +1,5 @@
-use Rattle.std.proofs.Common.{List, ℕ, ap, inr, rules}
+use Rattle.std.proofs.Common.{List, ℕ, ap, inr}
+use Rattle.orc_io.proofs.Leaving.{leaves_as}
 use Rattle.orc_tail.specs.declared.tail.Tail.{Tail}
 use Rattle.std.specs.Io.KnownBytes.{Appends}
 use Rattle.orc_tail.specs.Tails.{IsTail}
@@ -36,13 +37,7 @@ returns-in-Err-clause-part g c = λ failed.
     no_output (g.S.Source.told c.args.source) c.in-Err.fault (λ (bytes : List ℕ). (tail : Tail) × IsTail bytes tail × AppendsPart known known (show_lines tail)) c.in-Err.ensures.fault failed
 
 pub returns-in-Err-clause-source : goal.returns-in-Err-clause-source
-returns-in-Err-clause-source g c = record {
-  told = search rules;
-  size = search rules;
-  kept = search rules;
-  failed = search rules;
-  memory = λ want. c.in-Err.ensures.memory (file_want c.in-Err.fault want);
-}
+returns-in-Err-clause-source g c = leaves_as (λ e. cc) (file_want c.in-Err.fault) c.in-Err.ensures.source
 
 pub returns-in-Err-clause-layer : goal.returns-in-Err-clause-layer
 returns-in-Err-clause-layer g c = λ want. inr (ap File (file_want c.in-Err.fault want))

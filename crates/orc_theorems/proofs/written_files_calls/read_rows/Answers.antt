@@ -9,4 +9,4 @@ pub returns-in-Ok : goal.returns-in-Ok
 returns-in-Ok c =
     let opened = at_told _ c.args.bytes.now (λ (b : List ℕ). IsTail b c.in-Ok.file.tail) c.new.ensures.told c.in-Ok.ensures.found in
     ok_more c.rows.result _ _ c.rows.ensures.found (λ rows read.
-    (c.in-Ok.file.tail, at_told _ c.args.bytes.now (λ (b : List ℕ). IsTail b c.in-Ok.file.tail → FileIs b c.in-Ok.file.tail (views rows.items)) (c.in-Ok.ensures.same ∙ c.new.ensures.told) read opened))
+    (c.in-Ok.file.tail, at_told _ c.args.bytes.now (λ (b : List ℕ). IsTail b c.in-Ok.file.tail → FileIs b c.in-Ok.file.tail (views rows.items)) (c.in-Ok.ensures.source.told ∙ c.new.ensures.told) read opened))

@@ -16,7 +16,7 @@ returns-in-Ok-seek_group c = λ tail rows is reads.
     let found : IsTail bytes file.tail = at_told _ bytes (λ (b : List ℕ). IsTail b file.tail) c.new.ensures.told c.in-Ok.ensures.found in
     let same : file.tail ≡ tail = c.tail_laws.ensures.one bytes file.tail tail found is.tail_is in
     let own : c.load.new.into.items ≡ stripe_bytes (stripe_at file.tail.stripes n) bytes =
-    at_told _ bytes (λ (b : List ℕ). c.load.new.into.items ≡ stripe_bytes (stripe_at file.tail.stripes n) b) (c.in-Ok.ensures.same ∙ c.new.ensures.told) c.in_ok-load.ensures.loaded.bytes in
+    at_told _ bytes (λ (b : List ℕ). c.load.new.into.items ≡ stripe_bytes (stripe_at file.tail.stripes n) b) (c.in-Ok.ensures.source.told ∙ c.new.ensures.told) c.in_ok-load.ensures.loaded.bytes in
     let opened = c.load.new.self.tail in
     let lasts : opened ≡ file.tail = c.in_ok-load.ensures.tail in
     let there : n < length opened.stripes = omega (arith, c.if-stripe-as_slice.false, ap length c.as_slice.ensures, ap (λ (t : Tail). length t.stripes) c.tail.ensures, ap (λ (t : Tail). length t.stripes) lasts) in

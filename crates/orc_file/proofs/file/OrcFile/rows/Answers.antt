@@ -40,9 +40,9 @@ loop-number-preserved g c =
       tail = e.tail ∙ inv.tail;
       cap = e.cap ∙ inv.cap;
       within = within_next c.args.self.now.cap c.args.self.now.tail.stripes c.loop-number.number (rw end at lt) within inv.within;
-      told = e.told ∙ inv.told;
-      size = e.size ∙ inv.size;
-      kept = c.in_ok-read_stripe.ensures.kept ∙ inv.kept;
+      told = e.source.told ∙ inv.told;
+      size = e.source.size ∙ inv.size;
+      kept = c.in_ok-read_stripe.ensures.source.kept ∙ inv.kept;
       front = front_next told c.args.self.now.cap c.args.self.now.tail.schema c.args.self.now.tail.stripes c.loop-number.number (views c.loop-number.rows.items) (views c.read_stripe.new.rows.items) (rw end at lt) within inv.front (rw (inv.told, inv.tail) at found);
     }
 
