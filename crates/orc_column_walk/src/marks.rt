@@ -44,10 +44,7 @@ fn read_marks(
 {
     let mut values = 0;
     for _ in 0..count {
-        match next_mark(column, present) {
-            Ok(mark) => values += value_count(mark),
-            Err(fault) => return Err(fault),
-        }
+        values += value_count(next_mark(column, present)?);
     }
     Ok(values)
 }
@@ -160,13 +157,9 @@ pub(crate) fn count_values(
     if present.is_none() {
         return Ok(count);
     }
-    match read_marks(column, present, count) {
-        Ok(values) => {
-            if !marks_end(present) {
-                return Err(run_fault(column, StreamKind::Present, marks_left(present)));
-            }
-            Ok(values)
-        }
-        Err(fault) => Err(fault),
+    let values = read_marks(column, present, count)?;
+    if !marks_end(present) {
+        return Err(run_fault(column, StreamKind::Present, marks_left(present)));
     }
+    Ok(values)
 }

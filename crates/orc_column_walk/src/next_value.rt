@@ -40,14 +40,8 @@ impl NextValue for AnyValues {
     fn next<'a>(tree: &Tree, source: &mut ValueSource<'a>) -> Result<Own<'a>, StripeFault> {
         match tree {
             Tree::Scalar(kind, _) => source.next_scalar(*kind),
-            Tree::List(_, _) => match next_size(source) {
-                Ok(size) => Ok(Own::List(size)),
-                Err(fault) => Err(fault),
-            },
-            Tree::Map(_, _, _) => match next_size(source) {
-                Ok(size) => Ok(Own::Map(size)),
-                Err(fault) => Err(fault),
-            },
+            Tree::List(_, _) => Ok(Own::List(next_size(source)?)),
+            Tree::Map(_, _, _) => Ok(Own::Map(next_size(source)?)),
             Tree::Struct(_, _) => Ok(Own::Struct),
         }
     }
@@ -90,10 +84,7 @@ impl NextValue for ListValues {
     #[inline(always)]
     fn next<'a>(tree: &Tree, source: &mut ValueSource<'a>) -> Result<Own<'a>, StripeFault> {
         match tree {
-            Tree::List(_, _) => match next_size(source) {
-                Ok(size) => Ok(Own::List(size)),
-                Err(fault) => Err(fault),
-            },
+            Tree::List(_, _) => Ok(Own::List(next_size(source)?)),
             _ => AnyValues::next(tree, source),
         }
     }

@@ -22,10 +22,7 @@ fn skip_scalars(source: &mut ValueSource<'_>, kind: Scalar, count: usize) -> Res
     ensures fault { IfErr result (λ cause. cause ≢ OutOfMemory → ScalarMeets kind source.old false count cause) }
 {
     for _ in 0..count {
-        match source.next_scalar(kind) {
-            Ok(_) => {}
-            Err(fault) => return Err(fault),
-        }
+        source.next_scalar(kind)?;
     }
     Ok(())
 }
@@ -42,13 +39,9 @@ pub(crate) fn read_scalars(
     ensures fault { IfErr result (λ cause. cause ≢ OutOfMemory
         → (all : Bool) × ScalarMeets kind source.old all count cause) }
 {
-    match skip_scalars(source, kind, count) {
-        Ok(()) => {
-            if !scalar_end(source, kind) {
-                return Err(scalar_left(source, kind));
-            }
-            Ok(())
-        }
-        Err(fault) => Err(fault),
+    skip_scalars(source, kind, count)?;
+    if !scalar_end(source, kind) {
+        return Err(scalar_left(source, kind));
     }
+    Ok(())
 }

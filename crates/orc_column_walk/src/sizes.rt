@@ -27,10 +27,8 @@ fn add_sizes(source: &mut ValueSource<'_>, count: usize) -> Result<usize, Stripe
     let _room = source.room;
     let mut together = 0;
     for _ in 0..count {
-        match next_size(source) {
-            Ok(size) => together += size as usize,
-            Err(fault) => return Err(fault),
-        }
+        let size = next_size(source)?;
+        together += size as usize;
     }
     Ok(together)
 }
@@ -45,17 +43,13 @@ pub(crate) fn sum_sizes(source: &mut ValueSource<'_>, count: usize) -> Result<us
         → (sizes : List ℕ) → SizesLeft source.old sizes → length sizes ≡ count → ⊥) }
     ensures fault { IfErr result (λ cause. cause ≢ OutOfMemory → (all : Bool) × ListsMeet source.old all count cause) }
 {
-    match add_sizes(source, count) {
-        Ok(together) => {
-            if !numbers_end(&source.numbers) {
-                return Err(run_fault(
-                    source.column,
-                    StreamKind::Length,
-                    numbers_left(&source.numbers),
-                ));
-            }
-            Ok(together)
-        }
-        Err(fault) => Err(fault),
+    let together = add_sizes(source, count)?;
+    if !numbers_end(&source.numbers) {
+        return Err(run_fault(
+            source.column,
+            StreamKind::Length,
+            numbers_left(&source.numbers),
+        ));
     }
+    Ok(together)
 }

@@ -28,18 +28,12 @@ pub(crate) fn read_values(
         → (all : Bool) × ValuesMeet (shape tree.now) source.old all count cause) }
 {
     match tree {
-        Tree::Scalar(kind, _) => match read_scalars(source, *kind, count) {
-            Ok(()) => Ok(0),
-            Err(fault) => Err(fault),
-        },
-        Tree::List(_, _) => match sum_sizes(source, count) {
-            Ok(elements) => Ok(elements),
-            Err(fault) => Err(fault),
-        },
-        Tree::Map(_, _, _) => match sum_sizes(source, count) {
-            Ok(pairs) => Ok(pairs),
-            Err(fault) => Err(fault),
-        },
+        Tree::Scalar(kind, _) => {
+            read_scalars(source, *kind, count)?;
+            Ok(0)
+        }
+        Tree::List(_, _) => sum_sizes(source, count),
+        Tree::Map(_, _, _) => sum_sizes(source, count),
         Tree::Struct(_, _) => Ok(count),
     }
 }

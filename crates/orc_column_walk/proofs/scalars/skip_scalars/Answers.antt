@@ -1,4 +1,5 @@
 use Rattle.std.proofs.Common.{arith, [], ◌∷◌, ◌++◌}
+use Rattle.std.proofs.lemmas.Result.{err_from_is_err_and}
 use Rattle.orc_values.specs.Own.{own_cell}
 use Rattle.orc_column_reader.specs.Columns.{ScalarLeft}
 use Rattle.orc_column_walk.proofs.ReadLemmas.{none_read, one_read, read_lacks, read_fault, read_on}
@@ -10,22 +11,25 @@ loop-init c = ([], none_read (ScalarLeft c.args.kind c.args.source.now) (ScalarM
 
 pub loop-preserved : goal.loop-preserved
 loop-preserved c =
-    let value = own_cell c.in-Ok.field-0 in
+    let value = own_cell c.in_ok-next_scalar.field-0 in
     let k = c.args.kind in (
       c.loop.invariant.0 ++ value ∷ [],
       one_read (ScalarLeft k c.args.source.now) (ScalarLeft k c.loop.source) (ScalarLeft k c.next_scalar.new.self) (ScalarMet k c.args.source.now) (ScalarMet k c.loop.source) (ScalarMet k c.next_scalar.new.self) c.loop.counter c.loop.invariant.0 value c.loop.invariant.1
-          c.in-Ok.ensures.found c.in-Ok.ensures.before,
+          c.in_ok-next_scalar.ensures.found c.in_ok-next_scalar.ensures.before,
     )
 
-pub returns-in-Err-clause-none : goal.returns-in-Err-clause-none
-returns-in-Err-clause-none c =
-    let k = c.args.kind in
-    read_lacks (ScalarLeft k c.args.source.now) (ScalarLeft k c.loop.source) (ScalarMet k c.args.source.now) (ScalarMet k c.loop.source) c.loop.counter c.args.count c.loop.invariant.0 c.loop.invariant.1 c.loop-test.true c.in-Err.ensures.none
+pub returns-in_err-next_scalar-clause-none : goal.returns-in_err-next_scalar-clause-none
+returns-in_err-next_scalar-clause-none c =
+    let p = err_from_is_err_and c.from_residual.result c.from_residual.ensures.1 in
+    rw p.1 (let k = c.args.kind in
+    read_lacks (ScalarLeft k c.args.source.now) (ScalarLeft k c.loop.source) (ScalarMet k c.args.source.now) (ScalarMet k c.loop.source) c.loop.counter c.args.count c.loop.invariant.0 c.loop.invariant.1 c.loop-test.true c.in_err-next_scalar.ensures.none)
 
-pub returns-in-Err-clause-fault : goal.returns-in-Err-clause-fault
-returns-in-Err-clause-fault c = λ memory.
+pub returns-in_err-next_scalar-clause-fault : goal.returns-in_err-next_scalar-clause-fault
+returns-in_err-next_scalar-clause-fault c =
+    let p = err_from_is_err_and c.from_residual.result c.from_residual.ensures.1 in
+    rw (p.1, p.2) (λ memory.
     let k = c.args.kind in
-    read_fault (ScalarLeft k c.args.source.now) (ScalarLeft k c.loop.source) (ScalarMet k c.args.source.now) (ScalarMet k c.loop.source) c.loop.counter c.args.count c.loop.invariant.0 c.in-Err.fault c.loop.invariant.1 c.loop-test.true (c.in-Err.ensures.fault memory)
+    read_fault (ScalarLeft k c.args.source.now) (ScalarLeft k c.loop.source) (ScalarMet k c.args.source.now) (ScalarMet k c.loop.source) c.loop.counter c.args.count c.loop.invariant.0 c.in_err-next_scalar.field-0.0 c.loop.invariant.1 c.loop-test.true (c.in_err-next_scalar.ensures.fault memory))
 
 pub returns-clause-found : goal.returns-clause-found
 returns-clause-found c =

@@ -1,4 +1,5 @@
 use Rattle.std.proofs.Common.{[], refl, arith}
+use Rattle.std.proofs.lemmas.Result.{err_from_is_err_and}
 use Rattle.orc_values.specs.Shapes.{struct_of, no_field}
 use Rattle.orc_column_reader.specs.ReaderFaults.{ListsMeet}
 use Rattle.orc_column_walk.specs.OwnLeft.{SizesLeft}
@@ -11,21 +12,24 @@ loop-init c = no_sizes_read c.args.source.now
 
 pub loop-preserved : goal.loop-preserved
 loop-preserved c =
-    size_read c.args.source.now c.loop.source c.next_size.new.source c.loop.counter c.loop.together c.in-Ok.size _ c.loop.invariant
-    c.in-Ok.ensures.found c.in-Ok.ensures.room.0 c.in-Ok.ensures.room.1 c.in-Ok.ensures.before refl
+    size_read c.args.source.now c.loop.source c.next_size.new.source c.loop.counter c.loop.together c.in_ok-size.size _ c.loop.invariant
+    c.in_ok-size.ensures.found c.in_ok-size.ensures.room.0 c.in_ok-size.ensures.room.1 c.in_ok-size.ensures.before refl
 
-pub returns-in-Err-clause-none : goal.returns-in-Err-clause-none
-returns-in-Err-clause-none c =
-    let a = c.args.source.now in
+pub returns-in_err-size-clause-none : goal.returns-in_err-size-clause-none
+returns-in_err-size-clause-none c =
+    let p = err_from_is_err_and c.from_residual.result c.from_residual.ensures.1 in
+    rw p.1 (let a = c.args.source.now in
     let b = c.loop.source in
     read_lacks (SizesLeft a) (SizesLeft b) (λ all n f. ListsMeet a all n f) (λ all n f. ListsMeet b all n f) c.loop.counter c.args.count c.loop.invariant.sizes c.loop.invariant.read c.loop-test.true
-    (sizes_lack b (λ below. c.in-Err.ensures.none (struct_of no_field []) below))
+    (sizes_lack b (λ below. c.in_err-size.ensures.none (struct_of no_field []) below)))
 
-pub returns-in-Err-clause-fault : goal.returns-in-Err-clause-fault
-returns-in-Err-clause-fault c = λ memory.
+pub returns-in_err-size-clause-fault : goal.returns-in_err-size-clause-fault
+returns-in_err-size-clause-fault c =
+    let p = err_from_is_err_and c.from_residual.result c.from_residual.ensures.1 in
+    rw (p.1, p.2) (λ memory.
     let a = c.args.source.now in
     let b = c.loop.source in
-    read_fault (SizesLeft a) (SizesLeft b) (λ all n f. ListsMeet a all n f) (λ all n f. ListsMeet b all n f) c.loop.counter c.args.count c.loop.invariant.sizes c.in-Err.fault c.loop.invariant.read c.loop-test.true (c.in-Err.ensures.fault memory)
+    read_fault (SizesLeft a) (SizesLeft b) (λ all n f. ListsMeet a all n f) (λ all n f. ListsMeet b all n f) c.loop.counter c.args.count c.loop.invariant.sizes c.in_err-size.field-0.0 c.loop.invariant.read c.loop-test.true (c.in_err-size.ensures.fault memory))
 
 pub returns-clause-before : goal.returns-clause-before
 returns-clause-before c =

@@ -1,53 +1,60 @@
 use Rattle.std.proofs.Common.{[], ap, ◌∙◌}
+use Rattle.std.proofs.lemmas.Result.{err_from_is_err_and}
 use Rattle.orc_values.specs.Shapes.{struct_of, no_field}
 use Rattle.orc_values.specs.Views.{shape, fields}
 use Rattle.orc_values.proofs.Views.{shape-List, shape-Map, shape-Struct}
 use Rattle.orc_column_walk.proofs.NextLemmas.{list_leave, map_leave, list_children, map_children, list_lack, map_lack, list_before, map_before, list_now, map_now, struct_leave}
 use Rattle.orc_column_walk.proofs.next_value.AnyValuesNextValue.next.Goals as goal
 
-pub returns-in-Ok-clause-found : goal.returns-in-Ok-clause-found
-returns-in-Ok-clause-found c =
-    list_leave (shape c.args.tree.now) (shape c.in-List.field-0.value) c.in-List.field-1.items c.args.source.now c.next_size.new.source c.in-Ok.size
-    (ap shape c.in-List.is ∙ shape-List c.in-List.field-0 c.in-List.field-1) c.in-Ok.ensures.found c.in-Ok.ensures.room.0 c.in-Ok.ensures.room.1
+pub returns-in_ok-next_size-in-List-clause-found : goal.returns-in_ok-next_size-in-List-clause-found
+returns-in_ok-next_size-in-List-clause-found c =
+    list_leave (shape c.args.tree.now) (shape c.in-List.field-0.value) c.in-List.field-1.items c.args.source.now c.next_size.new.source c.in_ok-next_size-in-List.field-0
+    (ap shape c.in-List.is ∙ shape-List c.in-List.field-0 c.in-List.field-1) c.in_ok-next_size-in-List.ensures.found c.in_ok-next_size-in-List.ensures.room.0 c.in_ok-next_size-in-List.ensures.room.1
 
-pub returns-in-Ok-clause-children : goal.returns-in-Ok-clause-children
-returns-in-Ok-clause-children c =
-    list_children (shape c.args.tree.now) (shape c.in-List.field-0.value) c.in-List.field-1.items c.in-Ok.size (ap shape c.in-List.is ∙ shape-List c.in-List.field-0 c.in-List.field-1)
+pub returns-in_ok-next_size-in-List-clause-children : goal.returns-in_ok-next_size-in-List-clause-children
+returns-in_ok-next_size-in-List-clause-children c =
+    list_children (shape c.args.tree.now) (shape c.in-List.field-0.value) c.in-List.field-1.items c.in_ok-next_size-in-List.field-0 (ap shape c.in-List.is ∙ shape-List c.in-List.field-0 c.in-List.field-1)
 
-pub returns-in-Ok-clause-before : goal.returns-in-Ok-clause-before
-returns-in-Ok-clause-before c =
-    list_before (shape c.args.tree.now) (shape c.in-List.field-0.value) c.in-List.field-1.items c.args.source.now c.next_size.new.source (ap shape c.in-List.is ∙ shape-List c.in-List.field-0 c.in-List.field-1) c.in-Ok.ensures.before
+pub returns-in_ok-next_size-in-List-clause-before : goal.returns-in_ok-next_size-in-List-clause-before
+returns-in_ok-next_size-in-List-clause-before c =
+    list_before (shape c.args.tree.now) (shape c.in-List.field-0.value) c.in-List.field-1.items c.args.source.now c.next_size.new.source (ap shape c.in-List.is ∙ shape-List c.in-List.field-0 c.in-List.field-1) c.in_ok-next_size-in-List.ensures.before
 
-pub returns-in-Err-clause-none : goal.returns-in-Err-clause-none
-returns-in-Err-clause-none c =
-    list_lack (shape c.args.tree.now) (shape c.in-List.field-0.value) c.in-List.field-1.items c.args.source.now (ap shape c.in-List.is ∙ shape-List c.in-List.field-0 c.in-List.field-1)
-    (λ below. c.in-Err.ensures.none (struct_of no_field []) below)
+pub returns-in_err-next_size-in-List-clause-none : goal.returns-in_err-next_size-in-List-clause-none
+returns-in_err-next_size-in-List-clause-none c =
+    let p = err_from_is_err_and c.from_residual.result c.from_residual.ensures.1 in
+    rw p.1 (list_lack (shape c.args.tree.now) (shape c.in-List.field-0.value) c.in-List.field-1.items c.args.source.now (ap shape c.in-List.is ∙ shape-List c.in-List.field-0 c.in-List.field-1)
+    (λ below. c.in_err-next_size-in-List.ensures.none (struct_of no_field []) below))
 
-pub returns-in-Err-clause-fault : goal.returns-in-Err-clause-fault
-returns-in-Err-clause-fault c = λ memory.
-    list_now (shape c.args.tree.now) (shape c.in-List.field-0.value) c.in-List.field-1.items c.args.source.now c.in-Err.fault (ap shape c.in-List.is ∙ shape-List c.in-List.field-0 c.in-List.field-1) (c.in-Err.ensures.fault memory)
+pub returns-in_err-next_size-in-List-clause-fault : goal.returns-in_err-next_size-in-List-clause-fault
+returns-in_err-next_size-in-List-clause-fault c =
+    let p = err_from_is_err_and c.from_residual.result c.from_residual.ensures.1 in
+    rw (p.1, p.2) (λ memory.
+    list_now (shape c.args.tree.now) (shape c.in-List.field-0.value) c.in-List.field-1.items c.args.source.now c.in_err-next_size-in-List.field-0.0 (ap shape c.in-List.is ∙ shape-List c.in-List.field-0 c.in-List.field-1) (c.in_err-next_size-in-List.ensures.fault memory))
 
-pub returns-in-Ok-next_size-clause-found : goal.returns-in-Ok-next_size-clause-found
-returns-in-Ok-next_size-clause-found c =
-    map_leave (shape c.args.tree.now) (shape c.in-Map.field-0.value) (shape c.in-Map.field-1.value) c.in-Map.field-2.items c.args.source.now c.next_size-in-Map.new.source c.in-Ok-next_size.size
-    (ap shape c.in-Map.is ∙ shape-Map c.in-Map.field-0 c.in-Map.field-1 c.in-Map.field-2) c.in-Ok-next_size.ensures.found c.in-Ok-next_size.ensures.room.0 c.in-Ok-next_size.ensures.room.1
+pub returns-in_ok-next_size-in-Map-clause-found : goal.returns-in_ok-next_size-in-Map-clause-found
+returns-in_ok-next_size-in-Map-clause-found c =
+    map_leave (shape c.args.tree.now) (shape c.in-Map.field-0.value) (shape c.in-Map.field-1.value) c.in-Map.field-2.items c.args.source.now c.next_size-in-Map.new.source c.in_ok-next_size-in-Map.field-0
+    (ap shape c.in-Map.is ∙ shape-Map c.in-Map.field-0 c.in-Map.field-1 c.in-Map.field-2) c.in_ok-next_size-in-Map.ensures.found c.in_ok-next_size-in-Map.ensures.room.0 c.in_ok-next_size-in-Map.ensures.room.1
 
-pub returns-in-Ok-next_size-clause-children : goal.returns-in-Ok-next_size-clause-children
-returns-in-Ok-next_size-clause-children c =
-    map_children (shape c.args.tree.now) (shape c.in-Map.field-0.value) (shape c.in-Map.field-1.value) c.in-Map.field-2.items c.in-Ok-next_size.size (ap shape c.in-Map.is ∙ shape-Map c.in-Map.field-0 c.in-Map.field-1 c.in-Map.field-2)
+pub returns-in_ok-next_size-in-Map-clause-children : goal.returns-in_ok-next_size-in-Map-clause-children
+returns-in_ok-next_size-in-Map-clause-children c =
+    map_children (shape c.args.tree.now) (shape c.in-Map.field-0.value) (shape c.in-Map.field-1.value) c.in-Map.field-2.items c.in_ok-next_size-in-Map.field-0 (ap shape c.in-Map.is ∙ shape-Map c.in-Map.field-0 c.in-Map.field-1 c.in-Map.field-2)
 
-pub returns-in-Ok-next_size-clause-before : goal.returns-in-Ok-next_size-clause-before
-returns-in-Ok-next_size-clause-before c =
-    map_before (shape c.args.tree.now) (shape c.in-Map.field-0.value) (shape c.in-Map.field-1.value) c.in-Map.field-2.items c.args.source.now c.next_size-in-Map.new.source (ap shape c.in-Map.is ∙ shape-Map c.in-Map.field-0 c.in-Map.field-1 c.in-Map.field-2) c.in-Ok-next_size.ensures.before
+pub returns-in_ok-next_size-in-Map-clause-before : goal.returns-in_ok-next_size-in-Map-clause-before
+returns-in_ok-next_size-in-Map-clause-before c =
+    map_before (shape c.args.tree.now) (shape c.in-Map.field-0.value) (shape c.in-Map.field-1.value) c.in-Map.field-2.items c.args.source.now c.next_size-in-Map.new.source (ap shape c.in-Map.is ∙ shape-Map c.in-Map.field-0 c.in-Map.field-1 c.in-Map.field-2) c.in_ok-next_size-in-Map.ensures.before
 
-pub returns-in-Err-next_size-clause-none : goal.returns-in-Err-next_size-clause-none
-returns-in-Err-next_size-clause-none c =
-    map_lack (shape c.args.tree.now) (shape c.in-Map.field-0.value) (shape c.in-Map.field-1.value) c.in-Map.field-2.items c.args.source.now (ap shape c.in-Map.is ∙ shape-Map c.in-Map.field-0 c.in-Map.field-1 c.in-Map.field-2)
-    (λ below. c.in-Err-next_size.ensures.none (struct_of no_field []) below)
+pub returns-in_err-next_size-in-Map-clause-none : goal.returns-in_err-next_size-in-Map-clause-none
+returns-in_err-next_size-in-Map-clause-none c =
+    let p = err_from_is_err_and c.from_residual-in_err-next_size-in-Map.result c.from_residual-in_err-next_size-in-Map.ensures.1 in
+    rw p.1 (map_lack (shape c.args.tree.now) (shape c.in-Map.field-0.value) (shape c.in-Map.field-1.value) c.in-Map.field-2.items c.args.source.now (ap shape c.in-Map.is ∙ shape-Map c.in-Map.field-0 c.in-Map.field-1 c.in-Map.field-2)
+    (λ below. c.in_err-next_size-in-Map.ensures.none (struct_of no_field []) below))
 
-pub returns-in-Err-next_size-clause-fault : goal.returns-in-Err-next_size-clause-fault
-returns-in-Err-next_size-clause-fault c = λ memory.
-    map_now (shape c.args.tree.now) (shape c.in-Map.field-0.value) (shape c.in-Map.field-1.value) c.in-Map.field-2.items c.args.source.now c.in-Err-next_size.fault (ap shape c.in-Map.is ∙ shape-Map c.in-Map.field-0 c.in-Map.field-1 c.in-Map.field-2) (c.in-Err-next_size.ensures.fault memory)
+pub returns-in_err-next_size-in-Map-clause-fault : goal.returns-in_err-next_size-in-Map-clause-fault
+returns-in_err-next_size-in-Map-clause-fault c =
+    let p = err_from_is_err_and c.from_residual-in_err-next_size-in-Map.result c.from_residual-in_err-next_size-in-Map.ensures.1 in
+    rw (p.1, p.2) (λ memory.
+    map_now (shape c.args.tree.now) (shape c.in-Map.field-0.value) (shape c.in-Map.field-1.value) c.in-Map.field-2.items c.args.source.now c.in_err-next_size-in-Map.field-0.0 (ap shape c.in-Map.is ∙ shape-Map c.in-Map.field-0 c.in-Map.field-1 c.in-Map.field-2) (c.in_err-next_size-in-Map.ensures.fault memory))
 
 pub returns-in-Struct-clause-found : goal.returns-in-Struct-clause-found
 returns-in-Struct-clause-found c =
