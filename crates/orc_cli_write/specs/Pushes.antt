@@ -1,5 +1,6 @@
 -- What pushing the rows of lines says of the writer, whatever the lines are.
-use Rattle.std.specs.Prelude.{◌≡◌, ◌<◌, ℕ, false, Result, IfErr, OnOk}
+use Rattle.std.specs.Prelude.{◌≡◌, ℕ, false, Result, OnOk}
+use Rattle.orc_io.specs.Leaves.{LeavesSink}
 use Rattle.orc_io.specs.declared.sink.Sink.{Ghosts}
 use Rattle.orc_file.specs.declared.writer.Writer.{Writer}
 use Rattle.orc_cli_output.specs.Output as output
@@ -14,6 +15,4 @@ pub record LeavesWriter {W : Type 0} {ghosts : Ghosts W} {T : Type 0} (failures 
   -- Where the call succeeds, it has not failed if it hadn't before.
   pub ready : OnOk result (old.failed ≡ false → new.failed ≡ false)
   -- Its output's count of failures rises with WriteFailed, and stands where the call succeeds or memory is refused.
-  pub no_failure : OnOk result (failures new.out ≡ failures old.out)
-  pub write_failed : IfErr result (λ fault. fault ≡ output.write_failed → failures old.out < failures new.out)
-  pub memory : IfErr result (λ fault. IsWantOfMemory fault → failures new.out ≡ failures old.out)
+  pub out : LeavesSink failures output.write_failed IsWantOfMemory old.out new.out result

@@ -1,8 +1,9 @@
 //! A file of the rows of lines that are read one after another: one line is held at a time.
-ghost use Rattle.std.specs.Prelude.{◌≡◌, ◌<◌, ◌+◌, ◌⊎◌, List, IfOk, IfErr, IfSome, OnOk, false};
+ghost use Rattle.std.specs.Prelude.{◌≡◌, ◌+◌, ◌⊎◌, List, IfOk, IfErr, IfSome, OnOk, false};
 ghost use Rattle.orc_values.specs.Cells.{Cell};
 ghost use Rattle.orc_values.specs.Shapes.{Shape};
 ghost use Rattle.orc_types.specs.SchemaText.{HasText};
+ghost use Rattle.orc_io.specs.Leaves.{HandsBackSink};
 ghost use Rattle.orc_file.specs.Progress.{progress};
 ghost use Rattle.orc_file.specs.Writing.{IsWhole};
 ghost use Rattle.orc_tail.specs.declared.fault.FileFault.TheVariants as file;
@@ -82,9 +83,8 @@ pub fn write_lines<L: LineReader, W: Sink>(
     // spells a row, a refusal is for a limit, the output, the input or memory alone.
     ensures only { IfSome (L.remaining lines.old) (λ bytes. (s : Shape) (rows : List Cell) → HasText s schema.now
         → AreRowsOf s bytes rows → IfErr result (λ e. IsOfWriter e.0 ⊎ (e.0 ≡ File file.SourceFailed))) }
-    // Where it succeeds, neither the input's count of failures rose nor the output's.
+    // Where it succeeds, the input's count of failures didn't rise.
     ensures kept { OnOk result (L.failures lines.new ≡ L.failures lines.old) }
-    ensures no_failure { IfOk result (λ done. W.failures done.1 ≡ W.failures out) }
 
     // Where the input tells its bytes, a refusal stands as one of `write_from`, or the next line
     // isn't read; what is out is as there, and after SourceFailed `ORC` and the full stripes alone.
@@ -97,10 +97,9 @@ pub fn write_lines<L: LineReader, W: Sink>(
     // After every other refusal the input's count didn't rise.
     ensures unfailed { IfErr result (λ e. (e.0 ≡ File file.SourceFailed)
         ⊎ (L.failures lines.new ≡ L.failures lines.old)) }
-    // Where the refusal is WriteFailed, the output's count of failures rose.
-    ensures failed { IfErr result (λ e. e.0 ≡ write_failed → W.failures out < W.failures e.1) }
-    // Where memory ran out, the output's count didn't rise.
-    ensures memory { IfErr result (λ e. IsWantOfMemory e.0 → W.failures e.1 ≡ W.failures out) }
+    // The output's count of failures rose where the refusal is WriteFailed, and didn't where the
+    // call succeeds or memory ran out.
+    ensures out { HandsBackSink W.failures write_failed IsWantOfMemory (λ done. done.1) out result }
     // Want of memory is that of the layer of types, and then nothing is out, of that of JSON, or of
     // that of files.
     ensures layer { IfErr result (λ e. IsWantOfMemory e.0 → IsWantOfWrite (W.told out) (W.told e.1) e.0) }

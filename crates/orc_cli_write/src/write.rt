@@ -1,8 +1,9 @@
 //! `orcm write`: a file of the rows that lines of JSON spell.
-ghost use Rattle.std.specs.Prelude.{◌≡◌, ◌≢◌, ◌<◌, List, [], IfOk, IfErr, OnOk, false};
+ghost use Rattle.std.specs.Prelude.{◌≡◌, ◌≢◌, List, [], IfOk, IfErr, OnOk, false};
 ghost use Rattle.orc_values.specs.Cells.{Cell};
 ghost use Rattle.orc_values.specs.Shapes.{Shape};
 ghost use Rattle.orc_types.specs.SchemaText.{HasText};
+ghost use Rattle.orc_io.specs.Leaves.{HandsBackSink};
 ghost use Rattle.orc_file.specs.Progress.{progress};
 ghost use Rattle.orc_file.specs.Writing.{IsWhole};
 ghost use Rattle.orc_cli_write.specs.Lines.{LineSpellsRows, AreRowsOf};
@@ -100,16 +101,13 @@ pub fn write_from<W: Sink>(
     // is for a limit, the output or memory alone.
     ensures only { (s : Shape) (rows : List Cell) → HasText s schema.now → AreRowsOf s input.now rows
         → IfErr result (λ e. IsOfWriter e.0) }
-    // Where it succeeds, the output's count of failures didn't rise.
-    ensures no_failure { IfOk result (λ done. W.failures done.1 ≡ W.failures out) }
 
     // A refusal stands: Types of the text, with nothing out; Json of a line, with `ORC` and the
     // full stripes before it out; or the writer's or memory's, with a front of a file out.
     ensures refused { IfErr result (λ e. RefusesWrite options schema.now input.now (W.told out) (W.told e.1) e.0) }
-    // Where the refusal is WriteFailed, the output's count of failures rose.
-    ensures failed { IfErr result (λ e. e.0 ≡ write_failed → W.failures out < W.failures e.1) }
-    // Where memory ran out, that count didn't rise.
-    ensures memory { IfErr result (λ e. IsWantOfMemory e.0 → W.failures e.1 ≡ W.failures out) }
+    // The output's count of failures rose where the refusal is WriteFailed, and didn't where the
+    // call succeeds or memory ran out.
+    ensures out { HandsBackSink W.failures write_failed IsWantOfMemory (λ done. done.1) out result }
     // Want of memory is that of the layer of types, and then nothing is out, of that of JSON, or of
     // that of files.
     ensures layer { IfErr result (λ e. IsWantOfMemory e.0 → IsWantOfWrite (W.told out) (W.told e.1) e.0) }

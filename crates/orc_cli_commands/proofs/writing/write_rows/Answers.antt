@@ -1,4 +1,4 @@
-use Rattle.std.proofs.Common.{arith}
+use Rattle.std.proofs.Common.{Err, ap, arith}
 use Rattle.orc_cli_commands.proofs.writing.write_rows.Goals as goal
 
 pub returns : goal.returns
@@ -9,5 +9,5 @@ returns g c =
       only = e.only;
       refused = e.refused;
       source = λ failed. (c.args.lines.now, c.write_lines.new.lines, let more = e.source failed in omega (arith, more));
-      output = λ failed. (c.args.out, c.in-Err.out, e.failed failed);
+      output = λ failed. (c.args.out, c.in-Err.out, e.out.failed (ap Err failed));
     }

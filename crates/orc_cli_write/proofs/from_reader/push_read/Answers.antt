@@ -8,6 +8,7 @@ use Rattle.orc_cli_write.specs.Writes.{EndsInLines}
 use Rattle.orc_cli_write.specs.Reads.{refusal_of, BeginWith}
 use Rattle.orc_cli_output.specs.Output.{IsOfSource}
 use Rattle.orc_cli_output.specs.declared.fault.CliFault.TheVariants.{File}
+use Rattle.orc_io.proofs.Leaving.{kept_then}
 use Rattle.orc_cli_write.proofs.WriteLemmas.{line_want, line_no_source, stands_open}
 use Rattle.orc_cli_write.proofs.LinesLemmas.{spells_same, ends_same, some_same}
 use Rattle.orc_cli_write.proofs.ReadLemmas.{ReadOf, led_none, led_line, led_all, led_ends, led_begun, source_no_limit, line_of_source, next_want, next_failed, next_kept}
@@ -37,7 +38,7 @@ loop-preserved g c =
       options = c.push_line.ensures.writer.same.1 ∙ inv.options;
       ready = λ r. c.in_ok-push_line.ensures.writer.ready (inv.ready r);
       read = c.in_ok-next_line.ensures.failures ∙ inv.read;
-      kept = c.in_ok-push_line.ensures.writer.no_failure ∙ inv.kept;
+      kept = c.in_ok-push_line.ensures.writer.out.kept ∙ inv.kept;
       pushed = (
         inv.pushed.0 ++ p.0,
         led_line s told _ _ line inv.pushed.0 p.0 inv.pushed.1 read spells,
@@ -103,9 +104,7 @@ returns-in_err-push_line-clause-writer g c =
     record {
       same = search rules;
       ready = search rules;
-      no_failure = search rules;
-      write_failed = rw (p.1, p.2) (λ q. rw c.loop.invariant.kept at (c.in_err-push_line.ensures.writer.write_failed q));
-      memory = rw (p.1, p.2) (λ want. c.in_err-push_line.ensures.writer.memory want ∙ c.loop.invariant.kept);
+      out = rw (p.1, p.2) (kept_then c.loop.invariant.kept c.in_err-push_line.ensures.writer.out);
     }
 
 pub returns-clause-refused : goal.returns-clause-refused

@@ -1,7 +1,8 @@
-use Rattle.std.proofs.Common.{◌≡◌, ◌<◌, [], length, refl, ap, ◌∙◌, arith, inl, inr, subst}
+use Rattle.std.proofs.Common.{◌≡◌, ◌<◌, [], length, refl, ap, ◌∙◌, arith, inl, inr, subst, rules}
 use Rattle.std.specs.Prelude.{◌⊎◌, IfSome}
 use Rattle.orc_values.specs.Shapes.{Shape}
 use Rattle.orc_row_batch.specs.Batch.{kept_rows}
+use Rattle.orc_io.proofs.Leaving.{kept_then, sink_as}
 use Rattle.orc_tail.specs.declared.fault.FileFault.TheVariants as file
 use Rattle.orc_cli_write.specs.Lines.{AreRowsOf}
 use Rattle.orc_cli_write.specs.Writes.{IsOfWriter, EndsInLines, LimitStands}
@@ -93,6 +94,23 @@ returns-in-Err-new-clause-source g c =
 
 pub returns-in-Err-finish-clause-source : goal.returns-in-Err-finish-clause-source
 returns-in-Err-finish-clause-source g c = λ q. finish_no_source c.in-Err-finish.fault c.in-Err-finish.ensures.refused q
+
+pub returns-in-Err-push_read-clause-out : goal.returns-in-Err-push_read-clause-out
+returns-in-Err-push_read-clause-out g c = rw c.into_out.ensures (sink_as (λ e. e) (λ want. want) (kept_then c.in-Ok-new.ensures.no_failure c.in-Err-push_read.ensures.writer.out))
+
+pub returns-in-Err-finish-clause-out : goal.returns-in-Err-finish-clause-out
+returns-in-Err-finish-clause-out g c = record {
+  kept = tt;
+  failed = search rules;
+  memory = λ want. c.in-Err-finish.ensures.memory (file_want c.in-Err-finish.fault want) ∙ c.in_default.ensures.writer.out.kept ∙ c.in-Ok-new.ensures.no_failure;
+}
+
+pub returns-in-Err-new-clause-out : goal.returns-in-Err-new-clause-out
+returns-in-Err-new-clause-out g c = record {
+  kept = tt;
+  failed = search rules;
+  memory = λ want. c.in-Err-new.ensures.memory (file_want c.in-Err-new.fault want);
+}
 
 pub returns-in-Err-clause-layer : goal.returns-in-Err-clause-layer
 returns-in-Err-clause-layer g c = λ want. inl (types_want c.in-Err.fault want, refl)

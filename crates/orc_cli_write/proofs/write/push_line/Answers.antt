@@ -87,9 +87,11 @@ returns-in_err-push_owned-clause-writer g c =
     record {
       same = search rules;
       ready = search rules;
-      no_failure = search rules;
-      write_failed = search rules;
-      memory = rw (p.1, p.2) (λ want. c.in_err-push_owned.ensures.takes.memory (ap Err (file_want c.in_err-push_owned.field-0.0 want)) ∙ ap g.W.Sink.failures c.spare_row-spare.ensures.stays.0);
+      out = record {
+        kept = search rules;
+        failed = search rules;
+        memory = rw (p.1, p.2) (λ want. c.in_err-push_owned.ensures.takes.memory (ap Err (file_want c.in_err-push_owned.field-0.0 want)) ∙ ap g.W.Sink.failures c.spare_row-spare.ensures.stays.0);
+      };
     }
 
 pub returns-in_err-row-clause-layer : goal.returns-in_err-row-clause-layer

@@ -1,5 +1,6 @@
 use Rattle.std.proofs.Common.{◌≡◌, ℕ, ◌+◌, ◌++◌, List, [], take, drop, refl, ap, ◌∙◌, append_assoc, append-nil, arith, rules}
 use Rattle.std.proofs.lemmas.Result.{err_from_is_err_and}
+use Rattle.orc_io.proofs.Leaving.{kept_then}
 use Rattle.orc_cli_write.proofs.LinesLemmas.{leads_none, leads_both, leads_ended, leads_rest, all_led, ends_behind, spells_same, ends_same, some_same}
 use Rattle.orc_cli_write.proofs.write.push_lines.Goals as goal
 
@@ -31,7 +32,7 @@ loop-at-preserved-then-at-input g c =
       schema = c.push_line.ensures.writer.same.0 ∙ inv.schema;
       options = c.push_line.ensures.writer.same.1 ∙ inv.options;
       ready = λ r. c.in_ok-push_line.ensures.writer.ready (inv.ready r);
-      kept = c.in_ok-push_line.ensures.writer.no_failure ∙ inv.kept;
+      kept = c.in_ok-push_line.ensures.writer.out.kept ∙ inv.kept;
       pushed = (
         inv.pushed.0 ++ p.0,
         leads_both s input (drop place input) (drop (place + len + 1) input) inv.pushed.0 p.0 inv.pushed.1 (leads_ended s input place len p.0 c.if-at-input.true end is spells),
@@ -59,7 +60,7 @@ loop-at-preserved g c =
       schema = c.push_line.ensures.writer.same.0 ∙ inv.schema;
       options = c.push_line.ensures.writer.same.1 ∙ inv.options;
       ready = λ r. c.in_ok-push_line.ensures.writer.ready (inv.ready r);
-      kept = c.in_ok-push_line.ensures.writer.no_failure ∙ inv.kept;
+      kept = c.in_ok-push_line.ensures.writer.out.kept ∙ inv.kept;
       pushed = (
         inv.pushed.0 ++ p.0,
         leads_both s input (drop place input) (drop (place + len) input) inv.pushed.0 p.0 inv.pushed.1 (leads_rest s input place len p.0 c.if-at-input.false is spells),
@@ -103,9 +104,7 @@ returns-in_err-push_line-clause-writer g c =
     record {
       same = search rules;
       ready = search rules;
-      no_failure = search rules;
-      write_failed = search rules;
-      memory = rw (p.1, p.2) (λ want. c.in_err-push_line.ensures.writer.memory want ∙ c.loop-at.invariant.kept);
+      out = rw (p.1, p.2) (kept_then c.loop-at.invariant.kept c.in_err-push_line.ensures.writer.out);
     }
 
 pub returns-in_err-push_line-clause-layer : goal.returns-in_err-push_line-clause-layer

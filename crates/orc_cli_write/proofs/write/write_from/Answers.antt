@@ -1,5 +1,6 @@
-use Rattle.std.proofs.Common.{◌≡◌, ◌<◌, [], length, false, subst, refl, ap, ◌∙◌, inl, inr, arith}
+use Rattle.std.proofs.Common.{◌≡◌, ◌<◌, [], length, false, subst, refl, ap, ◌∙◌, inl, inr, arith, rules}
 use Rattle.orc_values.specs.Shapes.{Shape}
+use Rattle.orc_io.proofs.Leaving.{kept_then, sink_as}
 use Rattle.orc_row_batch.specs.Batch.{kept_rows}
 use Rattle.orc_tail.specs.declared.fault.FileFault.TheVariants as file
 use Rattle.orc_cli_write.specs.Lines.{AreRowsOf}
@@ -67,16 +68,22 @@ returns-in-Err-new-clause-refused g c =
     let e = c.in-Err-new.ensures in
     inr (c.in-Ok.schema, [], c.in-Ok.ensures.found, inr (inl (refl, of_begin why e.refused)), (λ q. not_limit why e.refused q), e.cut, λ j q. cc)
 
-pub returns-in-Err-push_lines-clause-memory : goal.returns-in-Err-push_lines-clause-memory
-returns-in-Err-push_lines-clause-memory g c = λ want.
-    rw c.into_out.ensures (c.in-Err-push_lines.ensures.writer.memory want ∙ c.in-Ok-new.ensures.no_failure)
+pub returns-in-Err-push_lines-clause-out : goal.returns-in-Err-push_lines-clause-out
+returns-in-Err-push_lines-clause-out g c = rw c.into_out.ensures (sink_as (λ e. e) (λ want. want) (kept_then c.in-Ok-new.ensures.no_failure c.in-Err-push_lines.ensures.writer.out))
 
-pub returns-in-Err-finish-clause-memory : goal.returns-in-Err-finish-clause-memory
-returns-in-Err-finish-clause-memory g c = λ want.
-    c.in-Err-finish.ensures.memory (file_want c.in-Err-finish.fault want) ∙ c.in_default.ensures.writer.no_failure ∙ c.in-Ok-new.ensures.no_failure
+pub returns-in-Err-finish-clause-out : goal.returns-in-Err-finish-clause-out
+returns-in-Err-finish-clause-out g c = record {
+  kept = tt;
+  failed = search rules;
+  memory = λ want. c.in-Err-finish.ensures.memory (file_want c.in-Err-finish.fault want) ∙ c.in_default.ensures.writer.out.kept ∙ c.in-Ok-new.ensures.no_failure;
+}
 
-pub returns-in-Err-new-clause-memory : goal.returns-in-Err-new-clause-memory
-returns-in-Err-new-clause-memory g c = λ want. c.in-Err-new.ensures.memory (file_want c.in-Err-new.fault want)
+pub returns-in-Err-new-clause-out : goal.returns-in-Err-new-clause-out
+returns-in-Err-new-clause-out g c = record {
+  kept = tt;
+  failed = search rules;
+  memory = λ want. c.in-Err-new.ensures.memory (file_want c.in-Err-new.fault want);
+}
 
 pub returns-in-Err-clause-layer : goal.returns-in-Err-clause-layer
 returns-in-Err-clause-layer g c = λ want. inl (types_want c.in-Err.fault want, refl)
