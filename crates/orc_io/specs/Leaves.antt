@@ -1,8 +1,8 @@
 -- What a call that reads a source, or writes to a sink, leaves of it.
 use Rattle.std.specs.Prelude.{◌≡◌, ◌<◌, ℕ, List, Option, Result, Ok, Err, OnOk, IfErr, IsErrOf, MatchResult}
 
--- Of a source before and after the call, which tells so much, is so long and has failed so often; of the fault that says
--- that the source failed, and of those that say that memory was refused.
+-- Of a source before and after the call, which tells so much, is so long and has failed so often; of the fault that
+-- says that the source failed, and of those that say that memory was refused.
 pub record LeavesSource {S T E : Type 0} (tells : S → Option (List ℕ)) (size_of failures_of : S → ℕ)
     (source_failed : E) (IsOfMemory : E → Type 0) (old new : S) (result : Result T E) : Type 0 where
   -- After each answer the source tells what it told, and has the length that it had.
@@ -18,7 +18,8 @@ pub record LeavesSource {S T E : Type 0} (tells : S → Option (List ℕ)) (size
 abbrev pub HandsBackSource : {S T E : Type 0} → (S → Option (List ℕ)) → (S → ℕ) → (S → ℕ) → E → (E → Type 0) → (T → S)
     → S → Result T (E × S) → Type 0
 HandsBackSource {S} {T} {E} tells size_of failures_of source_failed IsOfMemory back_of source result = MatchResult result
-    (λ done. LeavesSource {T = T} {E = E} tells size_of failures_of source_failed IsOfMemory source (back_of done) (Ok done))
+    (λ done. LeavesSource {T = T} {E = E} tells size_of failures_of source_failed IsOfMemory source (back_of done)
+    (Ok done))
     (λ e. LeavesSource {T = T} {E = E} tells size_of failures_of source_failed IsOfMemory source e.1 (Err e.0))
 
 -- Of a sink before and after the call, which has failed so often; of the fault that says that the sink failed, and of
