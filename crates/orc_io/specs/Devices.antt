@@ -1,4 +1,4 @@
--- What sources and sinks tell of their bytes, and how they count failures.
+-- What sources and sinks tell of their bytes, and how they count failures (own).
 use Rattle.std.specs.Prelude.{ℕ, ◌+◌, List, ◌++◌, take, drop, Option, Result, Ok, Err, Bool, true, ◌==◌, ◌&&◌, nat_lt, if◌then◌else◌}
 use Rattle.std.specs.Option.{option_map}
 

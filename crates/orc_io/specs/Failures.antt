@@ -1,4 +1,4 @@
--- How often a device has failed: none, or one more than it was before.
+-- How often a device has failed: none, or one more than it was before (own).
 use Rattle.std.specs.Prelude.{ℕ, ◌+◌, Option, Some, None}
 use Rattle.std.specs.declared.snapshot.Snapshot.{Snapshot}
 

@@ -1,4 +1,4 @@
--- What a call that reads a source, or writes to a sink, leaves of it.
+-- What a call that reads a source, or writes to a sink, leaves of it (own).
 use Rattle.std.specs.Prelude.{◌≡◌, ◌<◌, ℕ, List, Option, Result, Ok, Err, OnOk, IfErr, IsErrOf, MatchResult}
 
 -- Of a source before and after the call, which tells so much, is so long and has failed so often; of the fault that

@@ -1,4 +1,4 @@
--- How reading a range counts in its source's failures.
+-- How reading a range counts in its source's failures (own).
 use Rattle.std.specs.Prelude.{ℕ, ◌+◌, Result, Ok, Err}
 use Rattle.orc_io.specs.declared.range_fault.RangeFault.{RangeFault}
 use Rattle.orc_io.specs.declared.range_fault.RangeFault.TheVariants.{SourceFailed, OutOfMemory}
