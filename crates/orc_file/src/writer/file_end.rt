@@ -1,7 +1,8 @@
 //! The end of a file that is written.
-ghost use Rattle.std.specs.Prelude.{◌≡◌, ◌<◌, ◌≤◌, ◌^◌, ◌⊎◌, ℕ, true, take, length, IfOk, IfErr, OnOk, OnErr, IsErrOf};
+ghost use Rattle.std.specs.Prelude.{◌≡◌, ◌<◌, ◌≤◌, ◌^◌, ◌⊎◌, ℕ, true, take, length, IfOk, IfErr, OnOk, OnErr};
 ghost use Rattle.orc_types.specs.Schemas.{IsSchema};
 ghost use Rattle.orc_io.specs.Devices.{appended};
+ghost use Rattle.orc_io.specs.Leaves.{LeavesSink};
 ghost use Rattle.orc_tail.specs.Stripes.{stripes_rows};
 ghost use Rattle.orc_tail.specs.Images.{tail_text};
 ghost use Rattle.orc_file.specs.Counts.{are_laid_with_few_rows, are_all_stats};
@@ -93,9 +94,7 @@ pub(crate) fn end_file<W: Sink>(
         × (W.told out.new ≡ appended (W.told out.old)
         (take n (tail_text (written_tail options schema stripes.infos.items stripes.stats.items))))) }
     ensures refused { IfErr result (λ e. (e ≡ WriteFailed) ⊎ (e ≡ OutOfMemory)) }
-    ensures write_failed { IsErrOf result WriteFailed → W.failures out.old < W.failures out.new }
-    ensures memory { IsErrOf result OutOfMemory → W.failures out.new ≡ W.failures out.old }
-    ensures no_failure { OnOk result (W.failures out.new ≡ W.failures out.old) }
+    ensures sink { LeavesSink W.failures WriteFailed (λ e. e ≡ OutOfMemory) out.old out.new result }
     ensures unfailed { IfErr result (λ e. (e ≡ WriteFailed) ⊎ (W.failures out.new ≡ W.failures out.old)) }
 {
     schema.limit_laws();

@@ -12,6 +12,7 @@ ghost use Rattle.orc_row_batch.specs.Batch.{kept_rows};
 ghost use Rattle.orc_column_reader.specs.Stripe.{IsStripe};
 ghost use Rattle.orc_stripe_writer.specs.WrittenStripe.{IsWrittenStripe, HaveStats};
 ghost use Rattle.orc_io.specs.Devices.{appended};
+ghost use Rattle.orc_io.specs.Leaves.{LeavesSink};
 ghost use Rattle.orc_tail.specs.Stripes.{stripe_length, stripes_length, stripes_rows, most_stripes, most_rows, most_bytes};
 ghost use Rattle.orc_file.specs.Counts.{are_laid_with_few_rows, are_few, are_all_stats, with_row, PassesLimit};
 ghost use Rattle.orc_file.specs.Writing.{HasTaken, HasKept, HasPushed, HasFilled, IsCutOff, IsWhole, PassesBytes};
@@ -161,9 +162,8 @@ impl<W: Sink> Writer<W> {
         ensures ok { OnOk result (self.new.failed ≡ false) }
         ensures failed { OnErr result (self.new.failed ≡ true) }
         ensures refused { IfErr result (λ e. (e ≡ fault.WriteFailed) ⊎ (e ≡ fault.OutOfMemory)) }
-        ensures write_failed { IsErrOf result fault.WriteFailed → W.failures self.old.out < W.failures self.new.out }
-        ensures memory { IsErrOf result fault.OutOfMemory → W.failures self.new.out ≡ W.failures self.old.out }
-        ensures no_failure { OnOk result (W.failures self.new.out ≡ W.failures self.old.out) }
+        ensures out { LeavesSink W.failures fault.WriteFailed (λ e. e ≡ fault.OutOfMemory)
+            self.old.out self.new.out result }
         ensures unfailed { IfErr result
             (λ e. (e ≡ fault.WriteFailed) ⊎ (W.failures self.new.out ≡ W.failures self.old.out)) }
     {
@@ -214,9 +214,8 @@ impl<W: Sink> Writer<W> {
             → PassesBytes self.old.options self.old.schema self.old.infos.items
             (kept_rows self.old.schema self.old.batch) }
         ensures refused { IfErr result (λ e. (e ≡ fault.WriteFailed) ⊎ ((e ≡ fault.Limit) ⊎ (e ≡ fault.OutOfMemory))) }
-        ensures write_failed { IsErrOf result fault.WriteFailed → W.failures self.old.out < W.failures self.new.out }
-        ensures memory { IsErrOf result fault.OutOfMemory → W.failures self.new.out ≡ W.failures self.old.out }
-        ensures no_failure { OnOk result (W.failures self.new.out ≡ W.failures self.old.out) }
+        ensures out { LeavesSink W.failures fault.WriteFailed (λ e. e ≡ fault.OutOfMemory)
+            self.old.out self.new.out result }
         ensures unfailed { IfErr result
             (λ e. (e ≡ fault.WriteFailed) ⊎ (W.failures self.new.out ≡ W.failures self.old.out)) }
     {
@@ -330,9 +329,8 @@ impl<W: Sink> Writer<W> {
         ensures refused { IfErr result (λ e. (e ≡ fault.Limit) ⊎ ((e ≡ fault.WriteFailed) ⊎ (e ≡ fault.OutOfMemory))) }
         ensures ok { OnOk result (self.new.failed ≡ false) }
         ensures failed { OnErr result (self.new.failed ≡ true) }
-        ensures write_failed { IsErrOf result fault.WriteFailed → W.failures self.old.out < W.failures self.new.out }
-        ensures memory { IsErrOf result fault.OutOfMemory → W.failures self.new.out ≡ W.failures self.old.out }
-        ensures no_failure { OnOk result (W.failures self.new.out ≡ W.failures self.old.out) }
+        ensures out { LeavesSink W.failures fault.WriteFailed (λ e. e ≡ fault.OutOfMemory)
+            self.old.out self.new.out result }
         ensures unfailed { IfErr result
             (λ e. (e ≡ fault.WriteFailed) ⊎ (W.failures self.new.out ≡ W.failures self.old.out)) }
     {
@@ -442,9 +440,8 @@ impl<W: Sink> Writer<W> {
             (kept_rows self.old.schema self.old.batch) }
         ensures begun { OnErr result (0 < length (kept_rows self.old.schema self.old.batch)) }
         ensures refused { IfErr result (λ e. (e ≡ fault.WriteFailed) ⊎ ((e ≡ fault.Limit) ⊎ (e ≡ fault.OutOfMemory))) }
-        ensures write_failed { IsErrOf result fault.WriteFailed → W.failures self.old.out < W.failures self.new.out }
-        ensures memory { IsErrOf result fault.OutOfMemory → W.failures self.new.out ≡ W.failures self.old.out }
-        ensures no_failure { OnOk result (W.failures self.new.out ≡ W.failures self.old.out) }
+        ensures out { LeavesSink W.failures fault.WriteFailed (λ e. e ≡ fault.OutOfMemory)
+            self.old.out self.new.out result }
         ensures unfailed { IfErr result
             (λ e. (e ≡ fault.WriteFailed) ⊎ (W.failures self.new.out ≡ W.failures self.old.out)) }
     {
