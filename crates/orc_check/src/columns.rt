@@ -163,7 +163,7 @@ fn add_column(
         × IsRefused (shape tree.now) (columns_of stripe.now.view.now.footer stripe.now.view.now.bytes column)
         column all cells.now.count cause) }
 {
-    let read = match read_groups(
+    let read = read_groups(
         alloc,
         tree,
         column,
@@ -171,10 +171,7 @@ fn add_column(
         &stripe.located,
         cells.count,
         group_bounds(stripe, tree, column, cells),
-    ) {
-        Ok(read) => read,
-        Err(fault) => return Err(fault),
-    };
+    )?;
     check_column(alloc, stripe, tree, column, &read, found)?;
     let below = put_stat(read, stripe.told, column, stats)?;
     Ok(below)
@@ -209,34 +206,19 @@ fn check_tree(
         × RefusedDown (shape tree.now) (columns_of stripe.now.view.now.footer stripe.now.view.now.bytes) column
         all cells.now.count cause) }
 {
-    match add_column(alloc, stripe, tree, column, cells, found, stats) {
-        Ok(below) => match tree {
-            Tree::Scalar(_, _) => Ok(column + 1),
-            Tree::List(element, _) => {
-                match check_tree(alloc, stripe, element, column + 1, &below, found, stats) {
-                    Ok(next) => Ok(next),
-                    Err(fault) => Err(fault),
-                }
-            }
-            Tree::Map(key, value, _) => {
-                match check_tree(alloc, stripe, key, column + 1, &below, found, stats) {
-                    Ok(second) => {
-                        match check_tree(alloc, stripe, value, second, &below, found, stats) {
-                            Ok(next) => Ok(next),
-                            Err(fault) => Err(fault),
-                        }
-                    }
-                    Err(fault) => Err(fault),
-                }
-            }
-            Tree::Struct(fields, _) => {
-                match check_fields(alloc, stripe, fields, column + 1, &below, found, stats) {
-                    Ok(next) => Ok(next),
-                    Err(fault) => Err(fault),
-                }
-            }
-        },
-        Err(fault) => Err(fault),
+    let below = add_column(alloc, stripe, tree, column, cells, found, stats)?;
+    match tree {
+        Tree::Scalar(_, _) => Ok(column + 1),
+        Tree::List(element, _) => {
+            check_tree(alloc, stripe, element, column + 1, &below, found, stats)
+        }
+        Tree::Map(key, value, _) => {
+            let second = check_tree(alloc, stripe, key, column + 1, &below, found, stats)?;
+            check_tree(alloc, stripe, value, second, &below, found, stats)
+        }
+        Tree::Struct(fields, _) => {
+            check_fields(alloc, stripe, fields, column + 1, &below, found, stats)
+        }
     }
 }
 
@@ -271,10 +253,7 @@ fn check_fields(
 {
     let mut next = column;
     for field in fields {
-        match check_tree(alloc, stripe, &field.tree, next, cells, found, stats) {
-            Ok(after) => next = after,
-            Err(fault) => return Err(fault),
-        }
+        next = check_tree(alloc, stripe, &field.tree, next, cells, found, stats)?;
     }
     Ok(next)
 }
@@ -318,8 +297,6 @@ pub(crate) fn check_columns(
     let cells = CellGroups { count, bounds };
     let columns = view.footer().columns.as_slice().len();
     let mut stats = Vec::with_capacity(alloc, columns)?;
-    match check_tree(alloc, &stripe, view.tree(), 0, &cells, found, &mut stats) {
-        Ok(_) => Ok(Items::from_vec(stats)),
-        Err(fault) => Err(fault),
-    }
+    check_tree(alloc, &stripe, view.tree(), 0, &cells, found, &mut stats)?;
+    Ok(Items::from_vec(stats))
 }
