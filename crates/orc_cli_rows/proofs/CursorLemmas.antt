@@ -1,5 +1,5 @@
--- Lines that are made as a cursor gives its rows.
-use Rattle.std.proofs.Common.{◌≡◌, ℕ, ◌+◌, ◌<◌, ◌≤◌, List, [], ◌∷◌, ◌++◌, ◌⊎◌, inl, inr, Bool, true, false, refl, sym, ap, ◌∙◌, subst, arith, append_assoc, append-nil}
+-- Lines that are put as a cursor gives its rows.
+use Rattle.std.proofs.Common.{◌≡◌, ℕ, List, [], ◌∷◌, ◌++◌, true, false, refl, sym, ap, ◌∙◌, subst, append_assoc, append-nil}
 use Rattle.std.proofs.lemmas.List.Concat.{flat_map-append}
 use Rattle.orc_values.specs.Cells.{Cell}
 use Rattle.orc_values.specs.Shapes.{Shape}
@@ -9,89 +9,95 @@ use Rattle.orc_column_text.specs.Taken.{GaveText, GivesText}
 use Rattle.orc_stripe.specs.Cursors.{StandsFor}
 use Rattle.orc_stripe.specs.declared.cursor.RowCursor.{RowCursor}
 use Rattle.orc_cli_rows.specs.Rows.{row_line, row_lines}
-use Rattle.orc_cli_rows.specs.Pieces.{text_line, text_lines, AreAllLines, GivesLines}
+use Rattle.orc_json.specs.Outputs.{Puts}
+use Rattle.orc_json.proofs.Outputs.{puts_then, puts_is, puts_none}
+use Rattle.orc_cli_rows.specs.Pieces.{text_line, text_lines, PutsAll}
 
--- the rows that a cursor gave so far, with their lines, and what it stands for behind them
-pub record Filling (text : Cell → List ℕ) (start now : RowCursor) (lines : List ℕ) : Type 0 where
-  pub rows : List Cell
-  pub stood : (rest : List Cell) → StandsFor now rest → StandsFor start (rows ++ rest)
-  pub lines_are : lines ≡ text_lines text rows
-  pub gives : (all : List Cell) → StandsFor start all → GivesLines text all now lines false
-  pub most : now.left ≤ start.left
-  pub fewer : (lines ≡ []) ⊎ (now.left < start.left)
+-- lines of rows that stand behind others
+pub both_lines : (text : Cell → List ℕ) (all front rest : List Cell) → all ≡ front ++ rest → text_lines text front ++ text_lines text rest ≡ text_lines text all
+both_lines text all front rest e = sym (flat_map-append (text_line text) front rest) ∙ ap (text_lines text) (sym e)
 
-pub filling_first : (text : Cell → List ℕ) (start : RowCursor) (lines : List ℕ) → lines ≡ [] → Filling text start start lines
-filling_first text start lines none = record {
-  rows = [];
-  stood = λ rest h. h;
-  lines_are = none;
-  gives = λ all h. record { front = []; rest = all; all_are = refl; stands = h; lines_are = none; none = λ e. absurd (cc) };
-  most = omega arith;
-  fewer = inl none;
-}
+module _ {T : Type 0} (holds : T → List ℕ → Type 0) (text : Cell → List ℕ) where
+  -- of these rows the lines of the first ones are put, and the cursor stands for the others
+  pub record Given (all : List Cell) (now : RowCursor) (old out : T) : Type 0 where
+    pub front : List Cell
+    pub rest : List Cell
+    pub all_are : all ≡ front ++ rest
+    pub stands : StandsFor now rest
+    pub put : Puts holds old out (text_lines text front)
 
--- one row more
-more_lines : (text : Cell → List ℕ) (rows : List Cell) (row : Cell) (lines mid more : List ℕ) → lines ≡ text_lines text rows → mid ≡ lines ++ text row → more ≡ mid ++ 10 ∷ []
-    → more ≡ text_lines text (rows ++ row ∷ [])
-more_lines text rows row lines mid more e put end =
-    end ∙ (ap (λ (t : List ℕ). t ++ 10 ∷ []) (put ∙ ap (λ (t : List ℕ). t ++ text row) e)
-    ∙ (append_assoc (text_lines text rows) (text row) (10 ∷ [])
-    ∙ (ap (λ (t : List ℕ). text_lines text rows ++ t) (sym (append-nil (text_line text row)))
-    ∙ sym (flat_map-append (text_line text) rows (row ∷ [])))))
+  -- the rows that a cursor gave so far, whose lines are put, and what it stands for behind them
+  pub record Filling (start now : RowCursor) (old out : T) : Type 0 where
+    pub rows : List Cell
+    pub stood : (rest : List Cell) → StandsFor now rest → StandsFor start (rows ++ rest)
+    pub put : Puts holds old out (text_lines text rows)
+    pub given : (all : List Cell) → StandsFor start all → Given all now old out
 
-gives_row : (text : Cell → List ℕ) (all : List Cell) (before after : RowCursor) (lines mid more : List ℕ) (g : GivesLines text all before lines false) (rest : List Cell) → g.rest ≡ rest
-    → GivesText rest (StandsFor after) text lines mid true → more ≡ mid ++ 10 ∷ [] → GivesLines text all after more false
-gives_row text all before after lines mid more g [] same h end = absurd h
-gives_row text all before after lines mid more g (row ∷ rest) same h end = record {
-  front = g.front ++ row ∷ [];
-  rest = rest;
-  all_are = g.all_are ∙ (ap (λ (t : List Cell). g.front ++ t) same ∙ sym (append_assoc g.front (row ∷ []) rest));
-  stands = h.1;
-  lines_are = more_lines text g.front row lines mid more g.lines_are h.0 end;
-  none = λ e. absurd (cc);
-}
+  pub filling_first : (start : RowCursor) (out : T) → Filling start start out out
+  filling_first start out = record {
+    rows = [];
+    stood = λ rest h. h;
+    put = puts_none holds out;
+    given = λ all h. record { front = []; rest = all; all_are = refl; stands = h; put = puts_none holds out };
+  }
 
-gives_more : (text : Cell → List ℕ) (all : List Cell) (before after : RowCursor) (lines mid more : List ℕ) → GivesLines text all before lines false
-    → ((rest : List Cell) → StandsFor before rest → GivesText rest (StandsFor after) text lines mid true) → more ≡ mid ++ 10 ∷ [] → GivesLines text all after more false
-gives_more text all before after lines mid more g next end = gives_row text all before after lines mid more g g.rest refl (next g.rest g.stands) end
+  -- one row more
+  more_put : (rows : List Cell) (row : Cell) (old out mid new : T) → Puts holds old out (text_lines text rows) → Puts holds out mid (text row) → Puts holds mid new (10 ∷ [])
+      → Puts holds old new (text_lines text (rows ++ row ∷ []))
+  more_put rows row old out mid new before own end =
+      let all = text_lines text rows in
+      let whole = puts_then holds old mid new (all ++ text row) (10 ∷ []) (puts_then holds old out mid all (text row) before own) end in
+      puts_is holds old new ((all ++ text row) ++ 10 ∷ []) (text_lines text (rows ++ row ∷ []))
+      (append_assoc all (text row) (10 ∷ []) ∙ ap (λ (t : List ℕ). all ++ t) (sym (append-nil (text_line text row))) ∙ sym (flat_map-append (text_line text) rows (row ∷ []))) whole
 
-pub filling_next : (text : Cell → List ℕ) (start before after : RowCursor) (lines mid more : List ℕ) → Filling text start before lines
-    → GaveText (StandsFor before) (StandsFor after) text lines mid true → ((rest : List Cell) → StandsFor before rest → GivesText rest (StandsFor after) text lines mid true)
-    → before.left ≡ after.left + 1 → more ≡ mid ++ 10 ∷ [] → Filling text start after more
-filling_next text start before after lines mid more f gave next down end =
-    let most = f.most in
-    record {
-      rows = f.rows ++ gave.0 ∷ [];
-      stood = λ rest h. subst (λ (t : List Cell). StandsFor start t) (sym (append_assoc f.rows (gave.0 ∷ []) rest)) (f.stood (gave.0 ∷ rest) (gave.2 rest h));
-      lines_are = more_lines text f.rows gave.0 lines mid more f.lines_are gave.1 end;
-      gives = λ all h. gives_more text all before after lines mid more (f.gives all h) next end;
-      most = omega (arith, most, down);
-      fewer = inr (omega (arith, most, down));
-    }
+  given_row : (all : List Cell) (before after : RowCursor) (old out mid new : T) (g : Given all before old out) (rest : List Cell) → g.rest ≡ rest
+      → GivesText holds rest (StandsFor after) text out mid true → Puts holds mid new (10 ∷ []) → Given all after old new
+  given_row all before after old out mid new g [] same h end = absurd h
+  given_row all before after old out mid new g (row ∷ rest) same h end = record {
+    front = g.front ++ row ∷ [];
+    rest = rest;
+    all_are = g.all_are ∙ (ap (λ (t : List Cell). g.front ++ t) same ∙ sym (append_assoc g.front (row ∷ []) rest));
+    stands = h.1;
+    put = more_put g.front row old out mid new g.put h.0 end;
+  }
 
--- at the end of the rows
-pub all_filled : (text : Cell → List ℕ) (start before : RowCursor) (lines last : List ℕ) → Filling text start before lines → last ≡ lines → StandsFor before [] → AreAllLines text start last
-all_filled text start before lines last f same none = record {
-  rows = f.rows;
-  stands = subst (λ (t : List Cell). StandsFor start t) (append-nil f.rows) (f.stood [] none);
-  lines_are = same ∙ f.lines_are;
-}
+  pub filling_next : (start before after : RowCursor) (old out mid new : T) → Filling start before old out
+      → GaveText holds (StandsFor before) (StandsFor after) text out mid true → ((rest : List Cell) → StandsFor before rest → GivesText holds rest (StandsFor after) text out mid true)
+      → Puts holds mid new (10 ∷ []) → Filling start after old new
+  filling_next start before after old out mid new f gave next end = record {
+    rows = f.rows ++ gave.0 ∷ [];
+    stood = λ rest h. subst (λ (t : List Cell). StandsFor start t) (sym (append_assoc f.rows (gave.0 ∷ []) rest)) (f.stood (gave.0 ∷ rest) (gave.2 rest h));
+    put = more_put f.rows gave.0 old out mid new f.put gave.1 end;
+    given = λ all h. (let g = f.given all h in given_row all before after old out mid new g g.rest refl (next g.rest g.stands) end);
+  }
 
-gives_none : (text : Cell → List ℕ) (all : List Cell) (before after : RowCursor) (lines last : List ℕ) (ended : Bool) (g : GivesLines text all before lines false) (rest : List Cell) → g.rest ≡ rest
-    → GivesText rest (StandsFor after) text lines last false → GivesLines text all after last ended
-gives_none text all before after lines last ended g [] same h = record {
-  front = g.front;
-  rest = [];
-  all_are = g.all_are ∙ ap (λ (t : List Cell). g.front ++ t) same;
-  stands = h.1;
-  lines_are = h.0 ∙ g.lines_are;
-  none = λ e. refl;
-}
-gives_none text all before after lines last ended g (row ∷ rest) same h = absurd h
+  -- at the end of the rows
+  pub all_filled : (start before : RowCursor) (old out last : T) → Filling start before old out → last ≡ out → StandsFor before [] → PutsAll holds text start old last
+  all_filled start before old out last f same none = record {
+    rows = f.rows;
+    stands = subst (λ (t : List Cell). StandsFor start t) (append-nil f.rows) (f.stood [] none);
+    put = subst (λ (t : T). Puts holds old t (text_lines text f.rows)) (sym same) f.put;
+  }
 
-pub gives_all : (text : Cell → List ℕ) (all : List Cell) (before after : RowCursor) (lines last : List ℕ) (ended : Bool) → GivesLines text all before lines false
-    → ((rest : List Cell) → StandsFor before rest → GivesText rest (StandsFor after) text lines last false) → GivesLines text all after last ended
-gives_all text all before after lines last ended g next = gives_none text all before after lines last ended g g.rest refl (next g.rest g.stands)
+  given_none : (all : List Cell) (before after : RowCursor) (old out last : T) (g : Given all before old out) (rest : List Cell) → g.rest ≡ rest
+      → GivesText holds rest (StandsFor after) text out last false → Puts holds old last (text_lines text all)
+  given_none all before after old out last g [] same h =
+      let whole = g.all_are ∙ (ap (λ (t : List Cell). g.front ++ t) same ∙ append-nil g.front) in
+      subst (λ (t : List Cell). Puts holds old last (text_lines text t)) (sym whole) (subst (λ (t : T). Puts holds old t (text_lines text g.front)) (sym h.0) g.put)
+  given_none all before after old out last g (row ∷ rest) same h = absurd h
+
+  pub given_all : (all : List Cell) (before after : RowCursor) (old out last : T) → Given all before old out
+      → ((rest : List Cell) → StandsFor before rest → GivesText holds rest (StandsFor after) text out last false) → Puts holds old last (text_lines text all)
+  given_all all before after old out last g next = given_none all before after old out last g g.rest refl (next g.rest g.stands)
+
+  -- on a device that has failed
+  pub given_dropped : (all : List Cell) (now : RowCursor) (old out : T) → Given all now old out → ((before more : List ℕ) → holds out before → holds out (before ++ more))
+      → Puts holds old out (text_lines text all)
+  given_dropped all now old out g dropped = λ before h.
+      let front = text_lines text g.front in
+      let rest = text_lines text g.rest in
+      let whole = append_assoc before front rest ∙ ap (λ (t : List ℕ). before ++ t) (both_lines text all g.front g.rest g.all_are) in
+      subst (λ (t : List ℕ). holds out t) whole (dropped (before ++ front) rest (g.put before h))
 
 -- ---- rows of a schema
 
@@ -100,7 +106,3 @@ lines_of_rows text s [] prints fit = refl
 lines_of_rows text s (row ∷ rows) prints fit =
     ap (λ (t : List ℕ). (t ++ 10 ∷ []) ++ text_lines text rows) (prints row fit.0)
     ∙ ap (λ (t : List ℕ). row_line s row ++ t) (lines_of_rows text s rows prints fit.1)
-
-pub fit_both : (s : Shape) (a b : List Cell) → RowsFit s (a ++ b) → RowsFit s a × RowsFit s b
-fit_both s [] b h = (tt, h)
-fit_both s (r ∷ a) b h = let t = fit_both s a b h.1 in ((h.0, t.0), t.1)

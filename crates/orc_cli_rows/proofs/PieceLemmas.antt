@@ -1,8 +1,8 @@
 -- A stripe's lines in pieces: what is out, and why no more of them.
-use Rattle.std.proofs.Common.{◌≡◌, ◌≢◌, ℕ, zero, suc, ◌+◌, ◌<◌, List, [], ◌∷◌, ◌++◌, length, take, ◌⊎◌, inl, inr, Bool, true, false, Option, Result, Ok, Err, refl, sym, ap, ◌∙◌, subst, arith, append_assoc, append-nil, length-append}
-use Rattle.std.specs.Prelude.{IfErr, OnOk, OnErr, MatchResult}
+use Rattle.std.proofs.Common.{◌≡◌, ◌≢◌, ℕ, zero, suc, ◌+◌, ◌<◌, List, [], ◌∷◌, ◌++◌, length, take, drop, get_or, ◌⊎◌, inl, inr, Bool, true, false, Option, Some, None, Result, Ok, Err, refl, sym, ap, ◌∙◌, subst, arith, append_assoc, append-nil, length-append}
+use Rattle.std.specs.Prelude.{IfErr, OnOk, OnErr, is_ok, is_err}
 use Rattle.std.specs.Io.KnownBytes.{Appends}
-use Rattle.std.proofs.lemmas.List.Concat.{flat_map-append}
+use Rattle.std.proofs.Math.Seq.{take-append_seam, drop-append_seam}
 use Rattle.orc_wire.specs.declared.stripe_info.StripeInfo.{StripeInfo}
 use Rattle.orc_values.specs.Cells.{Cell}
 use Rattle.orc_values.specs.Shapes.{Shape}
@@ -14,8 +14,6 @@ use Rattle.orc_column_reader.specs.Stripe.{HasFooter, IsStripe, SpellRows, colum
 use Rattle.orc_column_reader.specs.declared.fault.StripeFault.{StripeFault}
 use Rattle.orc_stripe.specs.Opening.{OpenFault}
 use Rattle.orc_stripe.proofs.OneStripe.{one_footer}
-use Rattle.orc_stripe.specs.Cursors.{StandsFor}
-use Rattle.orc_stripe.specs.declared.cursor.RowCursor.{RowCursor}
 use Rattle.orc_types.specs.declared.json_fault.JsonFault.TheVariants as json
 use Rattle.orc_column_reader.specs.declared.fault.StripeFault.TheVariants as stripe
 use Rattle.orc_file.specs.FileRows.{IsNoStripe}
@@ -26,14 +24,22 @@ use Rattle.orc_cli_output.specs.declared.fault.CliFault.TheVariants.{File, Json}
 use Rattle.orc_cli_output.specs.Output.{write_failed, AppendsPart, IsWantOfMemory}
 use Rattle.orc_cli_output.specs.declared.fault.CliFault.{CliFault}
 use Rattle.orc_cli_output.proofs.OutputLemmas.{appends_more}
-use Rattle.orc_cli_rows.specs.Rows.{row_lines, HaveJson, AreOfStripe}
-use Rattle.orc_cli_rows.specs.Pieces.{text_line, text_lines, GivesLines, StopsWithin, IsPrinted, HasNoLines, EndsWithin}
-use Rattle.orc_cli_rows.proofs.CursorLemmas.{lines_of_rows, fit_both}
+use Rattle.orc_cli_rows.specs.Rows.{AreOfStripe}
+use Rattle.orc_cli_rows.specs.Pieces.{text_lines, mark, IsSent, IsGiven, IsPrinted, HasNoLines, EndsWithin}
+use Rattle.orc_cli_rows.proofs.CursorLemmas.{lines_of_rows}
 use Rattle.orc_cli_rows.proofs.RowsLemmas.{appends_none}
 
 pub on_ok_so : {A E : Type 0} (r : Result A E) (P Q : Type 0) → (P → Q) → OnOk r P → OnOk r Q
 on_ok_so (Ok a) P Q so h = so h
 on_ok_so (Err e) P Q so h = tt
+
+pub ok_of : {A E P : Type 0} (r : Result A E) → is_ok r ≡ true → OnOk r P → P
+ok_of (Ok a) is h = h
+ok_of (Err e) is h = absurd (cc)
+
+pub err_of : {A E P : Type 0} (r : Result A E) → is_ok r ≡ false → OnErr r P → P
+err_of (Ok a) is h = absurd (cc)
+err_of (Err e) is h = h
 
 -- a part of lines behind which others stand is a part of all of them
 take_front : (n : ℕ) (a b : List ℕ) → n < length a → take n (a ++ b) ≡ take n a
@@ -59,50 +65,94 @@ part_behind old mid new a b out p =
     let lt = p.1 in
     (length a + p.0, omega (arith, long, lt), subst (λ (t : List ℕ). Appends old new t) (sym (take_behind p.0 a b)) (appends_more old mid new a (take p.0 b) out p.2))
 
--- lines of rows that stand behind others
-both_lines : (text : Cell → List ℕ) (all front rest : List Cell) → all ≡ front ++ rest → text_lines text front ++ text_lines text rest ≡ text_lines text all
-both_lines text all front rest e = sym (flat_map-append (text_line text) front rest) ∙ ap (text_lines text) (sym e)
+-- ---- text that goes out in pieces
 
--- ---- a cursor whose rows are printed piece by piece
+pub sent_first : (start : Option (List ℕ)) (waiting : List ℕ) → waiting ≡ [] → IsSent start start waiting false []
+sent_first start waiting none = ([], appends_none start, sym none)
 
--- of these rows the first ones are out, and the cursor stands for the others, of which there are none at its end
-pub record Printing (text : Cell → List ℕ) (all : List Cell) (now : RowCursor) (old out : Option (List ℕ)) (ended : Bool) : Type 0 where
-  pub front : List Cell
-  pub rest : List Cell
-  pub all_are : all ≡ front ++ rest
-  pub stands : StandsFor now rest
-  pub out_is : Appends old out (text_lines text front)
-  pub none : ended ≡ true → rest ≡ []
+pub sent_waits : (start now : Option (List ℕ)) (old new more : List ℕ) (failed : Bool) (bytes : List ℕ) → new ≡ old ++ more → IsSent start now old failed bytes → IsSent start now new failed (bytes ++ more)
+sent_waits start now old new more false bytes is h =
+    (h.0, h.1, ap (λ (t : List ℕ). t ++ more) h.2 ∙ append_assoc h.0 old more ∙ ap (λ (t : List ℕ). h.0 ++ t) (sym is))
+sent_waits start now old new more true bytes is h = part_of_front start now bytes more h
 
-pub printing_first : (text : Cell → List ℕ) (all : List Cell) (cursor : RowCursor) (out : Option (List ℕ)) (ended : Bool) → ended ≡ false → StandsFor cursor all → Printing text all cursor out out ended
-printing_first text all cursor out ended going h = record { front = []; rest = all; all_are = refl; stands = h; out_is = appends_none out; none = λ e. absurd (cc) }
+-- what waited is sent, or a part of it where the device fails
+pub sent_out : (answer : Result (Unit {0}) CliFault) (start now next : Option (List ℕ)) (waiting bytes : List ℕ) → OnOk answer (Appends now next waiting) → OnErr answer (AppendsPart now next waiting)
+    → IsSent start now waiting false bytes → IsSent start next [] (is_err answer) bytes
+sent_out (Ok _) start now next waiting bytes all part h =
+    (h.0 ++ waiting, appends_more start now next h.0 waiting h.1 all, h.2 ∙ sym (append-nil (h.0 ++ waiting)))
+sent_out (Err _) start now next waiting bytes all part h =
+    subst (λ (t : List ℕ). AppendsPart start next t) (sym h.2) (part_behind start now next h.0 waiting h.1 part)
 
-pub printing_next : (text : Cell → List ℕ) (all : List Cell) (before after : RowCursor) (old mid new : Option (List ℕ)) (lines : List ℕ) (was ended : Bool) → (p : Printing text all before old mid was)
-    → GivesLines text p.rest after lines ended → Appends mid new lines → Printing text all after old new ended
-printing_next text all before after old mid new lines was ended p g out = record {
-  front = p.front ++ g.front;
-  rest = g.rest;
-  all_are = p.all_are ∙ (ap (λ (t : List Cell). p.front ++ t) g.all_are ∙ sym (append_assoc p.front g.front g.rest));
-  stands = g.stands;
-  out_is = subst (λ (t : List ℕ). Appends old new t) (sym (flat_map-append (text_line text) p.front g.front))
-      (appends_more old mid new (text_lines text p.front) (text_lines text g.front) p.out_is (subst (λ (t : List ℕ). Appends mid new t) g.lines_are out));
-  none = g.none;
+-- these bytes are sent, before which nothing waited
+pub sent_more : (answer : Result (Unit {0}) CliFault) (start now next : Option (List ℕ)) (waiting bytes more : List ℕ) → waiting ≡ [] → OnOk answer (Appends now next more) → OnErr answer (AppendsPart now next more)
+    → IsSent start now waiting false bytes → IsSent start next waiting (is_err answer) (bytes ++ more)
+sent_more (Ok _) start now next waiting bytes more none all part h =
+    let own = h.2 ∙ ap (λ (t : List ℕ). h.0 ++ t) none ∙ append-nil h.0 in
+    (h.0 ++ more, appends_more start now next h.0 more h.1 all, ap (λ (t : List ℕ). t ++ more) own ∙ sym (append-nil (h.0 ++ more)) ∙ ap (λ (t : List ℕ). (h.0 ++ more) ++ t) (sym none))
+sent_more (Err _) start now next waiting bytes more none all part h =
+    let own = h.2 ∙ ap (λ (t : List ℕ). h.0 ++ t) none ∙ append-nil h.0 in
+    subst (λ (t : List ℕ). AppendsPart start next (t ++ more)) (sym own) (part_behind start now next h.0 more h.1 part)
+
+-- a failed device gets nothing more
+pub sent_dropped : (start now : Option (List ℕ)) (old new bytes more : List ℕ) (failed : Bool) → failed ≡ true → IsSent start now old failed bytes → IsSent start now new failed (bytes ++ more)
+sent_dropped start now old new bytes more true is h = part_of_front start now bytes more h
+sent_dropped start now old new bytes more false is h = absurd (cc)
+
+pub sent_kept : (start now : Option (List ℕ)) (old new bytes : List ℕ) (failed : Bool) → failed ≡ true → IsSent start now old failed bytes → IsSent start now new failed bytes
+sent_kept start now old new bytes true is h = h
+sent_kept start now old new bytes false is h = absurd (cc)
+
+-- at the end nothing waits
+pub sent_good : (start now : Option (List ℕ)) (bytes : List ℕ) (failed : Bool) → failed ≡ false → IsSent start now [] failed bytes → Appends start now bytes
+sent_good start now bytes false is h = subst (λ (t : List ℕ). Appends start now t) (sym (h.2 ∙ append-nil h.0)) h.1
+sent_good start now bytes true is h = absurd (cc)
+
+pub sent_part : (start now : Option (List ℕ)) (bytes : List ℕ) (failed : Bool) → failed ≡ true → IsSent start now [] failed bytes → AppendsPart start now bytes
+sent_part start now bytes true is h = h
+sent_part start now bytes false is h = absurd (cc)
+
+-- ---- behind what the device had at the start
+
+pub given_new : (name : ℕ) (now : Option (List ℕ)) (waiting : List ℕ) → waiting ≡ [] → IsGiven name now waiting false (mark name now)
+given_new name now waiting none = record { start = now; text = []; bytes_are = sym (append-nil (mark name now)); sent = sent_first now waiting none }
+
+pub given_more : (name : ℕ) (now next : Option (List ℕ)) (old new : List ℕ) (was failed : Bool) (bytes more : List ℕ) → ((start : Option (List ℕ)) (text : List ℕ) → IsSent start now old was text → IsSent start next new failed (text ++ more))
+    → IsGiven name now old was bytes → IsGiven name next new failed (bytes ++ more)
+given_more name now next old new was failed bytes more sent h = record {
+  start = h.start;
+  text = h.text ++ more;
+  bytes_are = ap (λ (t : List ℕ). t ++ more) h.bytes_are ∙ append_assoc (mark name h.start) h.text more;
+  sent = sent h.start h.text h.sent;
 }
 
-pub printing_done : (text : Cell → List ℕ) (all : List Cell) (now : RowCursor) (old out : Option (List ℕ)) (ended : Bool) → ended ≡ true → Printing text all now old out ended → Appends old out (text_lines text all)
-printing_done text all now old out ended end p =
-    subst (λ (t : List Cell). Appends old out (text_lines text t)) (sym (p.all_are ∙ (ap (λ (t : List Cell). p.front ++ t) (p.none end) ∙ append-nil p.front))) p.out_is
+pub given_same : (name : ℕ) (now next : Option (List ℕ)) (old new : List ℕ) (was failed : Bool) (bytes : List ℕ) → ((start : Option (List ℕ)) (text : List ℕ) → IsSent start now old was text → IsSent start next new failed text)
+    → IsGiven name now old was bytes → IsGiven name next new failed bytes
+given_same name now next old new was failed bytes sent h = record { start = h.start; text = h.text; bytes_are = h.bytes_are; sent = sent h.start h.text h.sent }
 
-pub printing_refused : (text : Cell → List ℕ) (all : List Cell) (now : RowCursor) (old out : Option (List ℕ)) (ended : Bool) (fault : CliFault) → IsWantOfMemory fault → Printing text all now old out ended
-    → StopsWithin text all old out fault
-printing_refused text all now old out ended fault want p = inr (want, (p.front, p.rest, p.all_are, p.out_is))
+pub given_waits : (name : ℕ) (now : Option (List ℕ)) (old new more : List ℕ) (failed : Bool) (bytes : List ℕ) → new ≡ old ++ more → IsGiven name now old failed bytes → IsGiven name now new failed (bytes ++ more)
+given_waits name now old new more failed bytes is h = given_more name now now old new failed failed bytes more (λ start text s. sent_waits start now old new more failed text is s) h
 
-pub printing_failed : (text : Cell → List ℕ) (all : List Cell) (before after : RowCursor) (old mid new : Option (List ℕ)) (lines : List ℕ) (was ended : Bool) (fault : CliFault) → (p : Printing text all before old mid was)
-    → GivesLines text p.rest after lines ended → fault ≡ write_failed → AppendsPart mid new lines → StopsWithin text all old new fault
-printing_failed text all before after old mid new lines was ended fault p g failed part =
-    let own = subst (λ (t : List ℕ). AppendsPart mid new t) (both_lines text p.rest g.front g.rest g.all_are)
-    (part_of_front mid new (text_lines text g.front) (text_lines text g.rest) (subst (λ (t : List ℕ). AppendsPart mid new t) g.lines_are part)) in
-    inl (failed, subst (λ (t : List ℕ). AppendsPart old new t) (both_lines text all p.front p.rest p.all_are) (part_behind old mid new (text_lines text p.front) (text_lines text p.rest) p.out_is own))
+pub given_dropped : (name : ℕ) (now : Option (List ℕ)) (waiting bytes more : List ℕ) (failed : Bool) → failed ≡ true → IsGiven name now waiting failed bytes → IsGiven name now waiting failed (bytes ++ more)
+given_dropped name now waiting bytes more failed is h = given_more name now now waiting waiting failed failed bytes more (λ start text s. sent_dropped start now waiting waiting text more failed is s) h
+
+-- behind marks that begin alike stands one text
+behind_mark : (m n : ℕ) (a b : Option (List ℕ)) (s t : List ℕ) → mark m a ++ s ≡ mark n b ++ t → (m ≡ n) × (a ≡ b) × (s ≡ t)
+behind_mark m n None None s t e = (ap (λ (l : List ℕ). get_or l 0 0) e, refl, ap (drop 2) e)
+behind_mark m n None (Some y) s t e = absurd (let k = ap (λ (l : List ℕ). get_or l 1 0) e in cc)
+behind_mark m n (Some x) None s t e = absurd (let k = ap (λ (l : List ℕ). get_or l 1 0) e in cc)
+behind_mark m n (Some x) (Some y) s t e =
+    let long : length x ≡ length y = (let k = ap (λ (l : List ℕ). get_or l 1 0) e in omega (arith, k)) in
+    let rest : x ++ s ≡ y ++ t = ap (drop 2) e in
+    let front : x ≡ y = sym (take-append_seam x s) ∙ ap (take (length x)) rest ∙ ap (λ (k : ℕ). take k (y ++ t)) long ∙ take-append_seam y t in
+    let back : s ≡ t = sym (drop-append_seam x s) ∙ ap (drop (length x)) rest ∙ ap (λ (k : ℕ). drop k (y ++ t)) long ∙ drop-append_seam y t in
+    (ap (λ (l : List ℕ). get_or l 0 0) e, ap (λ (l : List ℕ). Some l) front, back)
+
+-- the device is the one that was marked, and the text is what was put behind
+pub given_sent : (name other : ℕ) (start now : Option (List ℕ)) (waiting : List ℕ) (failed : Bool) (text : List ℕ) → IsGiven other now waiting failed (mark name start ++ text)
+    → (name ≡ other) × IsSent start now waiting failed text
+given_sent name other start now waiting failed text h =
+    let same = behind_mark name other start h.start text h.text h.bytes_are in
+    (same.0, subst (λ (o : Option (List ℕ)). IsSent o now waiting failed text) (sym same.1) (subst (λ (t : List ℕ). IsSent h.start now waiting failed t) (sym same.2) h.sent))
 
 -- ---- a stripe
 
@@ -116,63 +166,18 @@ module _ (text : Cell → List ℕ) (s : Shape) (info : StripeInfo) (bytes : Lis
 
   pub all_failed : (rows : List Cell) (lines : List ℕ) (old new : Option (List ℕ)) (fault : CliFault) → IsStripe s info bytes rows → lines ≡ text_lines text rows → fault ≡ write_failed → AppendsPart old new lines
       → EndsWithin s info bytes n old new fault
-  all_failed rows lines old new fault is e failed part = inr (inl (failed, (lines, subst (λ (t : List ℕ). AreOfStripe s info bytes t) (sym e) (of_stripe rows is), part)))
+  all_failed rows lines old new fault is e failed part = inr (failed, (lines, subst (λ (t : List ℕ). AreOfStripe s info bytes t) (sym e) (of_stripe rows is), part))
 
   -- and what is answered then
   pub all_answered : (answer : Result (Unit {0}) CliFault) (rows : List Cell) (lines : List ℕ) (old new : Option (List ℕ)) → IsStripe s info bytes rows → lines ≡ text_lines text rows
-      → OnOk answer (Appends old new lines) → IfErr answer (λ fault. fault ≡ write_failed) → OnErr answer (AppendsPart old new lines)
-      → MatchResult answer (λ _. IsPrinted s info bytes old new) (EndsWithin s info bytes n old new)
-  all_answered (Ok _) rows lines old new is e out failed part = all_printed rows lines old new is e out
-  all_answered (Err fault) rows lines old new is e out failed part = all_failed rows lines old new fault is e failed part
+      → OnOk answer (Appends old new lines) → OnOk answer (IsPrinted s info bytes old new)
+  all_answered (Ok _) rows lines old new is e out = all_printed rows lines old new is e out
+  all_answered (Err fault) rows lines old new is e out = tt
 
-  -- the first lines are at hand
-  module _ (rows : List Cell) (is : IsStripe s info bytes rows) (cursor : RowCursor) (lines : List ℕ) (ended : Bool) (g : GivesLines text rows cursor lines ended) where
-    pub front_failed : (old new : Option (List ℕ)) (fault : CliFault) → fault ≡ write_failed → AppendsPart old new lines → EndsWithin s info bytes n old new fault
-    front_failed old new fault failed part =
-        inr (inl (
-          failed,
-          (
-            text_lines text rows,
-            of_stripe rows is,
-            subst (λ (t : List ℕ). AppendsPart old new t) (both_lines text rows g.front g.rest g.all_are)
-                (part_of_front old new (text_lines text g.front) (text_lines text g.rest) (subst (λ (t : List ℕ). AppendsPart old new t) g.lines_are part)),
-          ),
-        ))
-
-    pub rest_printed : (old mid new : Option (List ℕ)) → Appends old mid lines → Appends mid new (text_lines text g.rest) → IsPrinted s info bytes old new
-    rest_printed old mid new first second = (
-      text_lines text rows,
-      of_stripe rows is,
-      subst (λ (t : List ℕ). Appends old new t) (both_lines text rows g.front g.rest g.all_are)
-          (appends_more old mid new (text_lines text g.front) (text_lines text g.rest) (subst (λ (t : List ℕ). Appends old mid t) g.lines_are first) second),
-    )
-
-    pub rest_stops : (old mid new : Option (List ℕ)) (fault : CliFault) → Appends old mid lines → StopsWithin text g.rest mid new fault → EndsWithin s info bytes n old new fault
-    rest_stops old mid new fault first (inl h) =
-        inr (inl (
-          h.0,
-          (
-            text_lines text rows,
-            of_stripe rows is,
-            subst (λ (t : List ℕ). AppendsPart old new t) (both_lines text rows g.front g.rest g.all_are)
-                (part_behind old mid new (text_lines text g.front) (text_lines text g.rest) (subst (λ (t : List ℕ). Appends old mid t) g.lines_are first) h.1),
-          ),
-        ))
-    rest_stops old mid new fault first (inr h) =
-        let front = g.front ++ h.1.0 in
-        let parts : rows ≡ front ++ h.1.1 = g.all_are ∙ (ap (λ (t : List Cell). g.front ++ t) h.1.2 ∙ sym (append_assoc g.front h.1.0 h.1.1)) in
-        let own = subst (λ (t : List Cell). IsStripe s info bytes t) parts is in
-        inr (inr (
-          h.0,
-          record {
-            front = front;
-            rest = h.1.1;
-            stripe = own;
-            distinct = distinct;
-            out = subst (λ (t : List ℕ). Appends old new t) (sym (flat_map-append (text_line text) g.front h.1.0) ∙ lines_of_rows text s front prints (fit_both s front h.1.1 own.spelled.fit).0)
-                (appends_more old mid new (text_lines text g.front) (text_lines text h.1.0) (subst (λ (t : List ℕ). Appends old mid t) g.lines_are first) h.1.3);
-          },
-        ))
+  pub all_refused : (answer : Result (Unit {0}) CliFault) (rows : List Cell) (lines : List ℕ) (old new : Option (List ℕ)) → IsStripe s info bytes rows → lines ≡ text_lines text rows
+      → IfErr answer (λ fault. fault ≡ write_failed) → OnErr answer (AppendsPart old new lines) → IfErr answer (EndsWithin s info bytes n old new)
+  all_refused (Ok _) rows lines old new is e failed part = tt
+  all_refused (Err fault) rows lines old new is e failed part = all_failed rows lines old new fault is e failed part
 
 -- why a stripe whose footer is read has no rows
 pub no_stripe : (s : Shape) (info : StripeInfo) (bytes : List ℕ) (footer : StripeFooter) (why : StripeFault) → HasFooter s info bytes footer → RowsFault s (columns_of footer bytes) info.number_of_rows why → IsNoStripe s info bytes why
@@ -192,6 +197,12 @@ none_printed s info bytes out is = ([], record { rows = []; stripe = is; have_js
 pub none_out : (s : Shape) (info : StripeInfo) (bytes : List ℕ) (n : ℕ) (out : Option (List ℕ)) (fault : CliFault) → HasNoLines s info bytes n fault → EndsWithin s info bytes n out out fault
 none_out s info bytes n out fault h = inl (h, appends_none out)
 
+-- no cursor was had, for want of memory alone
+pub no_cursor : (s : Shape) (info : StripeInfo) (bytes : List ℕ) (n : ℕ) (out : Option (List ℕ)) (why : StripeFault) (fault : FileFault) → why ≡ stripe.OutOfMemory
+    → ((why ≡ stripe.OutOfMemory) × (fault ≡ file.OutOfMemory)) ⊎ ((why ≢ stripe.OutOfMemory) × (fault ≡ Stripe n why)) → EndsWithin s info bytes n out out (File fault)
+no_cursor s info bytes n out why fault memory (inl h) = none_out s info bytes n out (File fault) (inl (inl (ap File h.1)))
+no_cursor s info bytes n out why fault memory (inr h) = absurd (h.0 memory)
+
 -- ---- refusals of the layer of files
 
 pub not_viewed : (s : Shape) (info : StripeInfo) (bytes : List ℕ) (n : ℕ) (fault : FileFault) → ((footer : StripeFooter) → HasFooter s info bytes footer → fault ≡ file.OutOfMemory)
@@ -210,10 +221,3 @@ pub not_printed : (s : Shape) (info : StripeInfo) (bytes : List ℕ) (n : ℕ) (
     → ((fault ≡ Json json.DuplicateField) × (rows ≢ []) × (is_distinct s ≡ false)) ⊎ IsWantOfMemory fault → HasNoLines s info bytes n fault
 not_printed s info bytes n rows fault is (inl h) = inr (inr (h.0, record { rows = rows; stripe = is; some = h.1; twice = h.2 }))
 not_printed s info bytes n rows fault is (inr want) = inl want
-
--- the lines of rows that were read all at once
-pub read_printed : (answer : Result (Unit {0}) CliFault) (s : Shape) (info : StripeInfo) (bytes : List ℕ) (n : ℕ) (rows : List Cell) (lines : List ℕ) (old new : Option (List ℕ)) → IsStripe s info bytes rows → HaveJson s rows → lines ≡ row_lines s rows
-    → OnOk answer (Appends old new lines) → IfErr answer (λ fault. fault ≡ write_failed) → OnErr answer (AppendsPart old new lines)
-    → MatchResult answer (λ _. IsPrinted s info bytes old new) (EndsWithin s info bytes n old new)
-read_printed (Ok _) s info bytes n rows lines old new is json e out failed part = (lines, record { rows = rows; stripe = is; have_json = json; lines_are = e }, out)
-read_printed (Err fault) s info bytes n rows lines old new is json e out failed part = inr (inl (failed, (lines, record { rows = rows; stripe = is; have_json = json; lines_are = e }, part)))

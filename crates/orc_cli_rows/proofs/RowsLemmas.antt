@@ -1,5 +1,5 @@
 -- Rows as lines, stripe by stripe: what the first stripes have printed, and why the next one stops it.
-use Rattle.std.proofs.Common.{◌≡◌, ◌⊎◌, ℕ, zero, suc, ◌+◌, ◌-◌, ◌<◌, ◌≤◌, List, [], ◌∷◌, ◌++◌, length, take, drop, refl, sym, ap, ◌∙◌, subst, arith, append-nil, length-drop, Option, Some, None, inl, inr}
+use Rattle.std.proofs.Common.{◌≡◌, ℕ, zero, suc, ◌+◌, ◌-◌, ◌<◌, ◌≤◌, List, [], ◌∷◌, ◌++◌, length, take, drop, refl, sym, ap, ◌∙◌, subst, arith, append-nil, length-drop, Option, Some, None, inl, inr}
 use Rattle.std.specs.Borrow.{Bor}
 use Rattle.std.specs.Option.{IfSome}
 use Rattle.std.specs.Prelude.{IfErr, Result, Ok, Err}
@@ -20,7 +20,7 @@ use Rattle.orc_file.specs.FileRows.{stripe_bytes, joined, HasRows, IsNoStripe, F
 use Rattle.orc_tail.specs.declared.tail.Tail.{Tail}
 use Rattle.orc_cli_output.specs.Output.{write_failed, IsOutsideFile, IsWantOfMemory}
 use Rattle.orc_cli_output.proofs.OutputLemmas.{appends_more}
-use Rattle.orc_cli_rows.specs.Rows.{row_line, row_lines, HaveJson, AreOfStripe, AreOfStripes, HasNoJson, IsFrontOut, StripeStops, EndsAt, EndsIn, IsOfRows, IsWantOfRows}
+use Rattle.orc_cli_rows.specs.Rows.{row_line, row_lines, HaveJson, AreOfStripe, AreOfStripes, HasNoJson, StripeStops, EndsAt, EndsIn, IsOfRows, IsWantOfRows}
 use Rattle.orc_cli_rows.specs.Pieces.{IsPrinted, EndsWithin}
 use Rattle.orc_cli_rows.specs.Printed.{IsAsked, IsNotAsked, AreLines, ArePrinted, Ends, Stops, RefusesFile}
 use Rattle.orc_cli_rows.specs.declared.start.Start.{Start}
@@ -111,32 +111,17 @@ printed_all (Some all) s infos first n old new e p =
 
 -- ---- where printing ends
 
--- a part of a stripe's lines is out, where the output failed, or a front of whole lines, where memory was refused
+-- a part of a stripe's lines is out, where the output failed
 abbrev pub EndsAmong : Shape → StripeInfo → List ℕ → List ℕ → Option (List ℕ) → Option (List ℕ) → CliFault → Type 0
 EndsAmong s info bytes before old new fault =
-    ((fault ≡ write_failed) × ((own : List ℕ) × AreOfStripe s info bytes own × ((count : ℕ) × (count < length own) × Appends old new (before ++ take count own))))
-    ⊎ (IsWantOfMemory fault × IsFrontOut s info bytes before old new)
-
-ends_own : (s : Shape) (info : StripeInfo) (bytes lines : List ℕ) (old mid new : Option (List ℕ)) (fault : CliFault) → Appends old mid lines → EndsAmong s info bytes [] mid new fault
-    → EndsAmong s info bytes lines old new fault
-ends_own s info bytes lines old mid new fault p (inl h) = inl (h.0, (h.1.0, h.1.1, (h.1.2.0, h.1.2.1, appends_more old mid new lines (take h.1.2.0 h.1.0) p h.1.2.2)))
-ends_own s info bytes lines old mid new fault p (inr h) = inr (
-  h.0,
-  record {
-    front = h.1.front;
-    rest = h.1.rest;
-    stripe = h.1.stripe;
-    distinct = h.1.distinct;
-    out = appends_more old mid new lines (row_lines s h.1.front) p h.1.out;
-  },
-)
+    (fault ≡ write_failed) × ((own : List ℕ) × AreOfStripe s info bytes own × ((count : ℕ) × (count < length own) × Appends old new (before ++ take count own)))
 
 ends_behind : (s : Shape) (bytes : List ℕ) (n : ℕ) (info : StripeInfo) (lines : List ℕ) (old mid new : Option (List ℕ)) (fault : CliFault) → Appends old mid lines
     → EndsAt s bytes n info [] mid new fault → EndsAt s bytes n info lines old new fault
 ends_behind s bytes n info lines old mid new fault p (inl h) =
     inl (h.0, subst (λ (t : List ℕ). Appends old new t) (append-nil lines) (appends_more old mid new lines [] p h.1))
 ends_behind s bytes n info lines old mid new fault p (inr h) =
-    inr (ends_own s info (stripe_bytes info bytes) lines old mid new fault p h)
+    inr (h.0, (h.1.0, h.1.1, (h.1.2.0, h.1.2.1, appends_more old mid new lines (take h.1.2.0 h.1.0) p h.1.2.2)))
 
 pub ends_in : (told : Option (List ℕ)) (tail : Tail) (first n : ℕ) (old mid new : Option (List ℕ)) (fault : CliFault) → first ≤ n → n < length tail.stripes → Printed told tail.schema tail.stripes first n old mid
     → IfSome told (λ all. EndsAt tail.schema all n (stripe_at tail.stripes n) [] mid new fault) → IfSome told (λ all. EndsIn all tail first old new fault)
@@ -243,8 +228,7 @@ ends_outside bytes tail first rows old new fault p have h (inl q) = elim q.0 [
   | inl stops ↦ absurd (stops_nowhere tail.schema bytes tail.stripes h.n rows fault h.some p have stops)
   | inr source ↦ inr source
 ]
-ends_outside bytes tail first rows old new fault p have h (inr (inl q)) = inl q.0
-ends_outside bytes tail first rows old new fault p have h (inr (inr q)) = inr (inr q.0)
+ends_outside bytes tail first rows old new fault p have h (inr q) = inl q.0
 
 refuses_outside : (bytes : List ℕ) (tail : Tail) (rows : List Cell) (old new : Option (List ℕ)) (fault : CliFault) → FileIs bytes tail rows → HaveJson tail.schema rows → RefusesFile bytes None old new fault
     → IsOutsideFile fault

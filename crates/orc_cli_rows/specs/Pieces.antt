@@ -1,5 +1,5 @@
--- The lines of a stripe's rows as a cursor gives them, some at a time (own).
-use Rattle.std.specs.Prelude.{◌≡◌, ◌≢◌, ℕ, List, [], ◌∷◌, ◌++◌, ◌⊎◌, Bool, true, Option}
+-- The lines of a stripe's rows as a cursor gives them, and how they go out (own).
+use Rattle.std.specs.Prelude.{◌≡◌, ◌≢◌, ℕ, List, [], ◌∷◌, ◌++◌, ◌⊎◌, Bool, true, false, Option, Some, None, suc, length}
 use Rattle.std.specs.List.{flat_map}
 use Rattle.std.specs.Io.KnownBytes.{Appends}
 use Rattle.orc_wire.specs.declared.stripe_info.StripeInfo.{StripeInfo}
@@ -8,6 +8,7 @@ use Rattle.orc_values.specs.Shapes.{Shape}
 use Rattle.orc_types.specs.declared.json_fault.JsonFault.TheVariants as json
 use Rattle.orc_column_reader.specs.declared.fault.StripeFault.{StripeFault}
 use Rattle.orc_column_reader.specs.declared.fault.StripeFault.TheVariants as stripe
+use Rattle.orc_json.specs.Outputs.{Puts}
 use Rattle.orc_stripe.specs.Cursors.{StandsFor}
 use Rattle.orc_stripe.specs.declared.cursor.RowCursor.{RowCursor}
 use Rattle.orc_file.specs.FileRows.{IsNoStripe}
@@ -15,7 +16,7 @@ use Rattle.orc_tail.specs.declared.fault.FileFault.TheVariants.{Stripe}
 use Rattle.orc_cli_output.specs.Output.{write_failed, AppendsPart, IsWantOfMemory}
 use Rattle.orc_cli_output.specs.declared.fault.CliFault.{CliFault}
 use Rattle.orc_cli_output.specs.declared.fault.CliFault.TheVariants.{Json, File}
-use Rattle.orc_cli_rows.specs.Rows.{AreOfStripe, IsFrontOut, HasNoJson}
+use Rattle.orc_cli_rows.specs.Rows.{AreOfStripe, HasNoJson}
 
 -- a row's text with a line end
 abbrev pub text_line : (Cell → List ℕ) → Cell → List ℕ
@@ -25,27 +26,31 @@ text_line text row = text row ++ 10 ∷ []
 abbrev pub text_lines : (Cell → List ℕ) → List Cell → List ℕ
 text_lines text rows = flat_map (text_line text) rows
 
--- a cursor stood for rows whose lines are these
-pub record AreAllLines (text : Cell → List ℕ) (cursor : RowCursor) (lines : List ℕ) : Type 0 where
+-- a cursor stood for rows whose lines are put
+pub record PutsAll {T : Type 0} (holds : T → List ℕ → Type 0) (text : Cell → List ℕ) (cursor : RowCursor)
+    (old new : T) : Type 0 where
   pub rows : List Cell
   pub stands : StandsFor cursor rows
-  pub lines_are : lines ≡ text_lines text rows
+  pub put : Puts holds old new (text_lines text rows)
 
--- Of all these rows a cursor gave the first ones, whose lines are these, and stands for the others, of which there are none
--- where it has come to its end.
-pub record GivesLines (text : Cell → List ℕ) (all : List Cell) (after : RowCursor) (lines : List ℕ) (ended : Bool) : Type 0 where
-  pub front : List Cell
-  pub rest : List Cell
-  pub all_are : all ≡ front ++ rest
-  pub stands : StandsFor after rest
-  pub lines_are : lines ≡ text_lines text front
-  pub none : ended ≡ true → rest ≡ []
+-- What a device has got of these bytes since it was as at the start: all but those that wait, or a part of them where it
+-- failed.
+abbrev pub IsSent : Option (List ℕ) → Option (List ℕ) → List ℕ → Bool → List ℕ → Type 0
+IsSent start now waiting false bytes = (sent : List ℕ) × Appends start now sent × (bytes ≡ sent ++ waiting)
+IsSent start now waiting true bytes = AppendsPart start now bytes
 
--- a front of the lines of these rows is out, of whole lines where memory was refused
-abbrev pub StopsWithin : (Cell → List ℕ) → List Cell → Option (List ℕ) → Option (List ℕ) → CliFault → Type 0
-StopsWithin text all old new fault =
-    ((fault ≡ write_failed) × AppendsPart old new (text_lines text all))
-    ⊎ (IsWantOfMemory fault × ((front rest : List Cell) × (all ≡ front ++ rest) × Appends old new (text_lines text front)))
+-- What stands in front of the text that a device is given, since an output's laws know one list: which device it is, how
+-- much it had at the start, if that is known, and this.
+abbrev pub mark : ℕ → Option (List ℕ) → List ℕ
+mark name None = name ∷ 0 ∷ []
+mark name (Some bytes) = name ∷ suc (length bytes) ∷ bytes
+
+-- a device of this name is given the text behind the mark, and all of it is sent but what waits, or a part where it failed
+pub record IsGiven (name : ℕ) (now : Option (List ℕ)) (waiting : List ℕ) (failed : Bool) (bytes : List ℕ) : Type 0 where
+  pub start : Option (List ℕ)
+  pub text : List ℕ
+  pub bytes_are : bytes ≡ mark name start ++ text
+  pub sent : IsSent start now waiting failed text
 
 -- the lines of a stripe with these bytes are out
 abbrev pub IsPrinted : Shape → StripeInfo → List ℕ → Option (List ℕ) → Option (List ℕ) → Type 0
@@ -58,10 +63,8 @@ HasNoLines s info bytes n fault =
     ⊎ (((why : StripeFault) × (fault ≡ File (Stripe n why)) × (why ≢ stripe.OutOfMemory) × IsNoStripe s info bytes why)
     ⊎ ((fault ≡ Json json.DuplicateField) × HasNoJson s info bytes))
 
--- Why the lines of a stripe with these bytes aren't out: none of them; or a part, where the output failed; or a front of
--- whole lines, where memory was refused.
+-- Why the lines of a stripe with these bytes aren't out: none of them; or a part, where the output failed.
 abbrev pub EndsWithin : Shape → StripeInfo → List ℕ → ℕ → Option (List ℕ) → Option (List ℕ) → CliFault → Type 0
 EndsWithin s info bytes n old new fault =
     (HasNoLines s info bytes n fault × Appends old new [])
-    ⊎ (((fault ≡ write_failed) × ((own : List ℕ) × AreOfStripe s info bytes own × AppendsPart old new own))
-    ⊎ (IsWantOfMemory fault × IsFrontOut s info bytes [] old new))
+    ⊎ ((fault ≡ write_failed) × ((own : List ℕ) × AreOfStripe s info bytes own × AppendsPart old new own))

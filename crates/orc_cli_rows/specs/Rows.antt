@@ -15,7 +15,7 @@ use Rattle.orc_file.specs.FileRows.{stripe_bytes, HasRows, StripeRefused}
 use Rattle.orc_tail.specs.declared.tail.Tail.{Tail}
 use Rattle.orc_tail.specs.declared.fault.FileFault.{FileFault}
 use Rattle.orc_tail.specs.declared.fault.FileFault.TheVariants as file
-use Rattle.orc_cli_output.specs.Output.{write_failed, IsOfSource, IsWantOfMemory}
+use Rattle.orc_cli_output.specs.Output.{write_failed, IsOfSource}
 use Rattle.orc_cli_output.specs.declared.fault.CliFault.{CliFault}
 use Rattle.orc_cli_output.specs.declared.fault.CliFault.TheVariants.{Run, Types, Json, File}
 
@@ -58,22 +58,13 @@ StripeStops s bytes n info fault =
     ((why : FileFault) × (fault ≡ File why) × StripeRefused s bytes n info why)
     ⊎ ((fault ≡ Json json.DuplicateField) × HasNoJson s info (stripe_bytes info bytes))
 
--- the lines of the first rows of a stripe with these bytes are out, behind these
-pub record IsFrontOut (s : Shape) (info : StripeInfo) (bytes before : List ℕ) (old new : Option (List ℕ)) : Type 0 where
-  pub front : List Cell
-  pub rest : List Cell
-  pub stripe : IsStripe s info bytes (front ++ rest)
-  pub distinct : is_distinct s ≡ true
-  pub out : Appends old new (before ++ row_lines s front)
-
 -- Why the lines of the stripe with this number aren't out, behind these that are; and of them a part is out where the
--- output failed, and perhaps a front of whole lines where memory was refused.
+-- output failed.
 abbrev pub EndsAt : Shape → List ℕ → ℕ → StripeInfo → List ℕ → Option (List ℕ) → Option (List ℕ) → CliFault → Type 0
 EndsAt s bytes n info before old new fault =
     ((StripeStops s bytes n info fault ⊎ IsOfSource fault) × Appends old new before)
-    ⊎ (((fault ≡ write_failed) × ((own : List ℕ) × AreOfStripe s info (stripe_bytes info bytes) own
+    ⊎ ((fault ≡ write_failed) × ((own : List ℕ) × AreOfStripe s info (stripe_bytes info bytes) own
     × ((count : ℕ) × (count < length own) × Appends old new (before ++ take count own))))
-    ⊎ (IsWantOfMemory fault × IsFrontOut s info (stripe_bytes info bytes) before old new))
 
 -- Why printing ends in a file with this tail, which began with the stripe of this number: the lines of some stripes
 -- from there on are out, all of them, and of the next one there is a reason why its lines aren't.

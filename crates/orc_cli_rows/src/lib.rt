@@ -2,6 +2,7 @@
 #![tactic(auto)]
 
 mod from_group;
+mod held;
 mod judging;
 mod lines;
 mod pieces;

@@ -1,25 +1,29 @@
-//! The lines of rows that are there.
-ghost use Rattle.std.specs.Prelude.{◌≡◌, ◌≢◌, ◌++◌, ◌⊎◌, [], IfOk, OnOk, IfErr, true, false};
+//! The lines of rows that are there, and of those that a cursor has still to give.
+ghost use Rattle.std.specs.Prelude.{◌≡◌, ◌≢◌, ◌++◌, ◌⊎◌, [], List, IfOk, OnOk, IfErr, MatchResult, true, false};
 ghost use Rattle.orc_types.specs.FieldNames.{is_distinct};
+ghost use Rattle.orc_values.specs.Cells.{Cell};
 ghost use Rattle.orc_values.specs.Fits.{RowsFit, fits};
 ghost use Rattle.orc_values.specs.Views.{view, views};
 ghost use Rattle.orc_types.specs.declared.json_fault.JsonFault.TheVariants as json;
 ghost use Rattle.orc_cli_output.specs.Output.{IsWantOfMemory};
 ghost use Rattle.orc_cli_output.specs.declared.fault.CliFault.TheVariants.{Json};
+ghost use Rattle.orc_column_reader.specs.declared.fault.StripeFault.TheVariants.{OutOfMemory};
+ghost use Rattle.orc_column_text.specs.LaidOut.{IsLaidOut};
+ghost use Rattle.orc_json.specs.Layouts.{text_by};
+ghost use Rattle.orc_json.specs.Outputs.{Puts};
+ghost use Rattle.orc_stripe.specs.Cursors.{row_type, StandsFor};
+ghost use Rattle.orc_cli_rows.specs.Pieces.{text_lines, PutsAll};
 ghost use Rattle.orc_cli_rows.specs.Rows.{row_line, row_lines, HaveJson, IsOfRows};
 
 use orc_cli_output::CliFault;
-use orc_json::RowPrinter;
+use orc_json::layout::Layout;
+use orc_json::{RowPrinter, TextOutput};
+use orc_stripe::{RowCursor, StripeFault};
 use orc_values::Row;
 use std::alloc::Global;
 
 /// Puts the line of a row behind others. What is put there of a row that isn't one of the schema is left open.
-fn push_line(
-    alloc: Global,
-    printer: &RowPrinter,
-    row: &Row<'_>,
-    lines: &mut Vec<u8>,
-) -> Result<(), CliFault>
+fn push_line(printer: &RowPrinter, row: &Row<'_>, lines: &mut Vec<u8>) -> Result<(), CliFault>
     ensures found { fits (view row.now) printer.now ≡ true
         → OnOk result (lines.new.items ≡ lines.old.items ++ row_line printer.now (view row.now)) }
     ensures distinct { OnOk result (is_distinct printer.now ≡ true) }
@@ -27,7 +31,7 @@ fn push_line(
         ⊎ IsWantOfMemory fault) }
     ensures layer { IfErr result IsOfRows }
 {
-    printer.push_row(alloc, row, lines)?;
+    printer.push_row(row, lines)?;
     lines.extend_from_slice(b"\n")?;
     Ok(())
 }
@@ -48,7 +52,30 @@ pub(crate) fn lines_of(
 {
     let mut lines = Vec::new(alloc);
     for row in rows {
-        push_line(alloc, printer, row, &mut lines)?;
+        push_line(printer, row, &mut lines)?;
     }
     Ok(lines)
+}
+
+/// Puts the lines of the rows that a cursor has still to give, as they are read.
+///
+/// Refusals: those of `RowCursor::push_next`.
+pub(crate) fn put_lines<T: TextOutput>(
+    cursor: &mut RowCursor<'_>,
+    layout: &Layout,
+    out: &mut T,
+) -> Result<(), StripeFault>
+    requires laid_out { IsLaidOut (row_type cursor.old) layout.now }
+    ensures found { T.grows ≡ true → OnOk result (PutsAll T.holds (text_by layout.now) cursor.old out.old out.new) }
+    ensures only { (rows : List Cell) → StandsFor cursor.old rows → MatchResult result
+        (λ _. Puts T.holds out.old out.new (text_lines (text_by layout.now) rows))
+        (λ fault. (fault ≡ OutOfMemory) × (T.grows ≡ true)) }
+{
+    while !out.has_failed() {
+        if !cursor.push_next(layout, out)? {
+            return Ok(());
+        }
+        out.put_byte(b'\n')?;
+    }
+    Ok(())
 }

@@ -1,73 +1,100 @@
-//! The lines of rows that a cursor has still to give, some at a time.
-ghost use Rattle.std.specs.Prelude.{◌≡◌, ◌<◌, true, false, List, IfOk, OnOk, IfErr, MatchResult};
-ghost use Rattle.std.specs.Io.KnownBytes.{Appends};
-ghost use Rattle.orc_values.specs.Cells.{Cell};
-ghost use Rattle.orc_column_reader.specs.declared.fault.StripeFault.TheVariants.{OutOfMemory};
-ghost use Rattle.orc_json.specs.Layouts.{text_by};
-ghost use Rattle.orc_stripe.specs.Cursors.{StandsFor};
-ghost use Rattle.orc_cli_rows.specs.Rows.{IsOfRows};
-ghost use Rattle.orc_cli_rows.specs.Pieces.{text_lines, AreAllLines, GivesLines, StopsWithin};
+//! Text that goes out in pieces.
+ghost use Rattle.std.specs.Prelude.{◌≡◌, List, ℕ, [], false};
+ghost use Rattle.orc_json.specs.Outputs.{Puts};
+ghost use Rattle.orc_cli_rows.specs.Pieces.{mark, IsGiven};
 
-use orc_cli_output::{CliFault, write_out};
-use orc_file::FileFault;
-use orc_json::layout::Layout;
-use orc_stripe::{RowCursor, StripeFault};
+use arrayvec::ArrayVec;
+use orc_cli_output::write_out;
+use orc_json::TextOutput;
+use std::alloc::AllocError;
 use std::io::Write;
 
-/// How many bytes of lines go out at once where a stripe's lines aren't held.
-const PIECE: usize = 1 << 16;
+/// How many bytes go out at once.
+const PIECE: usize = 1 << 14;
 
-/// Makes the lines of the next rows, in place of what `lines` held, until they have so many bytes or no row is left, and
-/// says whether none is.
-///
-/// Refusals: those of `RowCursor::push_next`.
-pub(crate) fn next_lines(
-    cursor: &mut RowCursor<'_>,
-    layout: &Layout,
-    most: usize,
-    lines: &mut Vec<u8>,
-) -> Result<bool, StripeFault>
-    ensures all { IfOk result (λ ended. ended ≡ true
-        → AreAllLines (text_by layout.now) cursor.old lines.new.items) }
-    ensures gives { (all : List Cell) → StandsFor cursor.old all → MatchResult result
-        (GivesLines (text_by layout.now) all cursor.new lines.new.items)
-        (λ fault. fault ≡ OutOfMemory) }
-    ensures fewer { IfOk result (λ ended. ended ≡ false → 0 < most → cursor.new.left < cursor.old.left) }
-{
-    lines.clear();
-    while lines.len() < most {
-        match cursor.push_next(layout, lines) {
-            Ok(true) => lines.extend_from_slice(b"\n")?,
-            Ok(false) => return Ok(true),
-            Err(fault) => return Err(fault),
-        }
-    }
-    Ok(false)
+/// A device that gets text in pieces, for which no memory is wanted. Once it has failed it gets nothing more, and what is
+/// put is dropped.
+#[derive(Drop)]
+pub(crate) struct Pieces<'a, W: Write> {
+    out: &'a mut W,
+    waiting: ArrayVec<u8, PIECE>,
+    failed: bool,
 }
 
-/// Prints the lines of the rows that a cursor of a good stripe has still to give, piece by piece. What `lines` held is
-/// gone.
-///
-/// Refusals: `File` with `WriteFailed` where the output failed, or with `OutOfMemory`.
-pub(crate) fn print_pieces<W: Write>(
-    cursor: &mut RowCursor<'_>,
-    layout: &Layout,
-    lines: &mut Vec<u8>,
-    out: &mut W,
-) -> Result<(), CliFault>
-    ensures written { (all : List Cell) → StandsFor cursor.old all
-        → OnOk result (Appends (W.contents out.old) (W.contents out.new) (text_lines (text_by layout.now) all)) }
-    ensures refused { (all : List Cell) → StandsFor cursor.old all
-        → IfErr result (StopsWithin (text_by layout.now) all (W.contents out.old) (W.contents out.new)) }
-    ensures layer { IfErr result IsOfRows }
-{
-    let mut ended = false;
-    while !ended {
-        match next_lines(cursor, layout, PIECE, lines) {
-            Ok(none_left) => ended = none_left,
-            Err(_) => return Err(CliFault::File(FileFault::OutOfMemory)),
+impl<'a, W: Write> Pieces<'a, W> {
+    /// A device that is to get text.
+    pub(crate) fn new(out: &'a mut W) -> Pieces<'a, W>
+        ensures { ⟦<Pieces<'a, W> as TextOutput>⟧.holds result (mark out.entry.ghost_name (W.contents out.old)) }
+    {
+        Pieces {
+            out,
+            waiting: ArrayVec::new(),
+            failed: false,
         }
-        write_out(out, lines)?;
     }
-    Ok(())
+
+    /// Sends what waits.
+    fn send_waiting(&mut self)
+        ensures sent { (bytes : List ℕ) → ⟦<Pieces<'a, W> as TextOutput>⟧.holds self.old bytes
+            → ⟦<Pieces<'a, W> as TextOutput>⟧.holds self.new bytes }
+        ensures none { self.new.waiting.items ≡ [] }
+    {
+        if !self.failed {
+            self.failed = write_out(self.out, self.waiting.as_slice()).is_err();
+        }
+        self.waiting.clear();
+    }
+
+    /// Sends bytes, before which nothing waits.
+    fn send(&mut self, bytes: &[u8])
+        requires none { self.old.waiting.items ≡ [] }
+        ensures { Puts ⟦<Pieces<'a, W> as TextOutput>⟧.holds self.old self.new bytes.now }
+    {
+        if !self.failed {
+            self.failed = write_out(self.out, bytes).is_err();
+        }
+    }
+
+    /// Sends the last piece. The device is handed back, with whether it failed, now or before.
+    pub(crate) fn finish(mut self) -> (&'a mut W, bool)
+        ensures { (bytes : List ℕ) → ⟦<Pieces<'a, W> as TextOutput>⟧.holds self.entry bytes
+            → IsGiven result.0.ghost_name (W.contents result.0.now) [] result.1 bytes }
+    {
+        self.send_waiting();
+        (self.out, self.failed)
+    }
+}
+
+impl<'a, W: Write> TextOutput for Pieces<'a, W> {
+    ghost holds = { λ pieces bytes. IsGiven pieces.out.ghost_name (W.contents pieces.out.now) pieces.waiting.items
+        pieces.failed bytes };
+
+    ghost grows = { false };
+
+    #[inline(always)]
+    fn put(&mut self, bytes: &[u8]) -> Result<(), AllocError> {
+        if self.waiting.try_extend_from_slice(bytes).is_ok() {
+            return Ok(());
+        }
+        self.send_waiting();
+        if self.waiting.try_extend_from_slice(bytes).is_ok() {
+            return Ok(());
+        }
+        self.send(bytes);
+        Ok(())
+    }
+
+    #[inline(always)]
+    fn put_byte(&mut self, byte: u8) -> Result<(), AllocError> {
+        if self.waiting.try_push(byte).is_ok() {
+            return Ok(());
+        }
+        self.send_waiting();
+        self.waiting.push(byte);
+        Ok(())
+    }
+
+    fn has_failed(&self) -> bool {
+        self.failed
+    }
 }

@@ -148,9 +148,9 @@ fn print_file<S: Source, W: Write>(
 /// `2:0`, two numbers of decimal digits alone with a colon between, each below 2^32, names a stripe
 /// and a group of it, from which on rows are printed: those of that stripe from the group's first
 /// row on, and those of all stripes behind it. What stands in the stripes before has no part in the
-/// answer. A stripe's lines are written once it is known to have rows: 8 MiB of them, and the line
-/// that passes these, are held until its end is seen; where it has more, all its columns are read
-/// first, and then its lines are written as they are made. So after a refusal in a stripe the lines
+/// answer. A stripe's lines are written once it is known to have rows: 8 MiB of them are held until
+/// its end is seen; where it has more, all its columns are read first, and then its lines are
+/// written as they are made, for which no memory is wanted. So after a refusal in a stripe the lines
 /// of those before it stand, and no others. The bytes of one stripe and so many of its lines are
 /// held at a time; of the stripe where reading begins at a group, all of them. The source is handed
 /// back.
@@ -166,8 +166,7 @@ fn print_file<S: Source, W: Write>(
 /// group, or isn't read from its positions on, and `Json` with `DuplicateField` where it has rows
 /// and a struct of the schema names a field twice. Beside these `File` with `WriteFailed` and a
 /// part of a stripe's lines written, `SourceFailed` where the source failed, or `OutOfMemory`,
-/// which may be `Json`'s too, for a row's text, and before which some whole lines of a good stripe
-/// may be out.
+/// which may be `Json`'s too, for a row's text.
 ///
 /// After a refusal from a group on nothing is out where the file isn't opened, the stripe isn't
 /// there or isn't read from the group on, its rows there have no JSON, or the source or memory
@@ -192,7 +191,7 @@ pub fn rows_to<S: Source, W: Write>(
         → IfErr result (λ e. IsOutsideFile e.0)) }
 
     // Where the source and the output tell their bytes, a refusal stands; out are the lines of the
-    // stripes before the one that is refused, and of its own a part only for the output or memory.
+    // stripes before the one that is refused, and of its own a part only where the output failed.
     ensures refused { IfErr result (λ e. IfSome (S.told source)
         (λ bytes. Refuses bytes from.entry (W.contents out.old) (W.contents out.new) e.0)) }
     // A text that names no stripe and group is refused as Syntax, whatever the source holds, whose

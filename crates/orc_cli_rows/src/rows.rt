@@ -1,5 +1,5 @@
 //! The rows of a file's stripes as lines of JSON.
-ghost use Rattle.std.specs.Prelude.{◌≡◌, ◌<◌, ◌≤◌, ℕ, true, false, None, List, [], length, drop, OnOk, IfErr, IfSome, MatchResult};
+ghost use Rattle.std.specs.Prelude.{◌≡◌, ◌<◌, ◌≤◌, ℕ, true, List, [], length, drop, IfOk, OnOk, IfErr, OnErr, IfSome};
 ghost use Rattle.std.specs.Io.KnownBytes.{Appends};
 ghost use Rattle.orc_values.specs.Cells.{Cell};
 ghost use Rattle.orc_types.specs.FieldNames.{is_distinct};
@@ -11,40 +11,84 @@ ghost use Rattle.orc_tail.specs.Caps.{no_cap};
 ghost use Rattle.orc_file.specs.FileRows.{stripe_bytes};
 ghost use Rattle.orc_tail.specs.Stripes.{stripe_at};
 ghost use Rattle.orc_tail.specs.declared.fault.FileFault.TheVariants.{SourceFailed};
-ghost use Rattle.orc_cli_output.specs.Output.{IsWantOfMemory};
+ghost use Rattle.orc_column_text.specs.LaidOut.{IsLaidOut};
+ghost use Rattle.orc_stripe.specs.Cursors.{row_type, StandsFor};
+ghost use Rattle.orc_cli_output.specs.Output.{write_failed, AppendsPart, IsWantOfMemory};
 ghost use Rattle.orc_cli_rows.specs.Rows.{AreOfStripe, AreOfStripes, EndsAt, EndsIn, IsOfRows};
-ghost use Rattle.orc_cli_rows.specs.Pieces.{GivesLines, IsPrinted, EndsWithin};
+ghost use Rattle.orc_cli_rows.specs.Pieces.{text_lines, IsPrinted, EndsWithin};
 ghost use Rattle.orc_cli_output.specs.declared.fault.CliFault.TheVariants.{File};
 
+use crate::held::Held;
 use crate::judging::{judge, refuse_names};
-use crate::lines::lines_of;
-use crate::pieces::{next_lines, print_pieces};
+use crate::lines::{lines_of, put_lines};
+use crate::pieces::Pieces;
 use orc_cli_output::{CliFault, write_out};
-use orc_file::{OrcFile, Source, Tail, stripe_rows, view_stripe};
+use orc_column_text::is_laid_out;
+use orc_file::{FileFault, OrcFile, Source, Tail, stripe_rows, view_stripe};
 use orc_json::RowPrinter;
 use orc_json::layout::Layout;
-use orc_stripe::{RowCursor, StripeView};
+use orc_stripe::{RowCursor, StripeFault, StripeView};
+use orc_tail::stripe_fault;
 use std::alloc::Global;
 use std::io::Write;
 
-/// How many bytes of a stripe's lines are held until its end is seen; the line that passes them is held too.
+/// How many bytes of a stripe's lines are held until its end is seen.
 const MOST_HELD: usize = 1 << 23;
 
-/// Prints the lines of a stripe that are more than may be held, of which the first are at hand: once all its columns were
-/// read and it is known to have rows, they are printed as they are read.
-fn print_long<W: Write>(
+/// The lines of a stripe, if they are no more than may be held and nothing refuses them. They are made as its rows are read.
+fn held_lines(alloc: Global, view: &StripeView<'_>, layout: &Layout) -> Result<Vec<u8>, StripeFault>
+    requires laid_out { IsLaidOut view.now.schema layout.now }
+    ensures { IfOk result (λ lines. (rows : List Cell) × IsStripe view.now.schema view.now.info view.now.bytes rows
+        × (lines.items ≡ text_lines (text_by layout.now) rows)) }
+{
+    let mut cursor = view.cursor(alloc)?;
+    let mut held = Held::new(alloc, MOST_HELD);
+    put_lines(&mut cursor, layout, &mut held)?;
+    Ok(held.into_text())
+}
+
+/// Prints the lines of the rows that a cursor has still to give, in pieces, as they are read.
+///
+/// Refusal: `File` with `WriteFailed`.
+fn print_pieces<W: Write>(
+    cursor: &mut RowCursor<'_>,
+    layout: &Layout,
+    out: &mut W,
+) -> Result<(), CliFault>
+    requires laid_out { IsLaidOut (row_type cursor.old) layout.now }
+    requires good { (rows : List Cell) × StandsFor cursor.old rows }
+    ensures written { (rows : List Cell) → StandsFor cursor.old rows
+        → OnOk result (Appends (W.contents out.old) (W.contents out.new) (text_lines (text_by layout.now) rows)) }
+    ensures part { (rows : List Cell) → StandsFor cursor.old rows
+        → OnErr result (AppendsPart (W.contents out.old) (W.contents out.new) (text_lines (text_by layout.now) rows)) }
+    ensures refused { IfErr result (λ fault. fault ≡ write_failed) }
+{
+    let mut pieces = Pieces::new(out);
+    match put_lines(cursor, layout, &mut pieces) {
+        Ok(()) => {}
+        Err(_) => unreachable!(),
+    }
+    let (back, failed) = pieces.finish();
+    // Nothing is done by it: it says that `out` is what `back` was last.
+    let _ = &*back;
+    if failed {
+        return Err(CliFault::File(FileFault::WriteFailed));
+    }
+    Ok(())
+}
+
+/// Prints the lines of the stripe with this number, of which more may be than are held: once all its columns were read and
+/// it is known to have rows, they go out as they are read. No memory is wanted then, so nothing but the output ends them.
+fn print_judged<W: Write>(
     alloc: Global,
     number: usize,
     view: &StripeView<'_>,
     layout: &Layout,
-    cursor: &mut RowCursor<'_>,
-    lines: &mut Vec<u8>,
     out: &mut W,
 ) -> Result<(), CliFault>
     requires distinct { is_distinct view.now.schema ≡ true }
     requires prints { Prints (text_by layout.now) view.now.schema }
-    requires first { (rows : List Cell) → IsStripe view.now.schema view.now.info view.now.bytes rows
-        → GivesLines (text_by layout.now) rows cursor.old lines.old.items false }
+    requires laid_out { IsLaidOut view.now.schema layout.now }
     ensures written { OnOk result
         (IsPrinted view.now.schema view.now.info view.now.bytes (W.contents out.old) (W.contents out.new)) }
     ensures refused { IfErr result (EndsWithin view.now.schema view.now.info view.now.bytes number
@@ -52,40 +96,36 @@ fn print_long<W: Write>(
     ensures layer { IfErr result IsOfRows }
 {
     judge(alloc, number, view)?;
-    write_out(out, lines)?;
-    print_pieces(cursor, layout, lines, out)
-}
-
-/// Prints the lines of the stripe with this number, over its bytes, as its rows are read: once all of them are there, or
-/// are too many to be held. None where anything refuses a row of those that are held.
-fn print_as_read<W: Write>(
-    alloc: Global,
-    number: usize,
-    view: &StripeView<'_>,
-    layout: &Layout,
-    out: &mut W,
-) -> Option<Result<(), CliFault>>
-    requires distinct { is_distinct view.now.schema ≡ true }
-    requires prints { Prints (text_by layout.now) view.now.schema }
-    ensures printed { IfSome result (λ printed. MatchResult printed
-        (λ _. IsPrinted view.now.schema view.now.info view.now.bytes (W.contents out.old) (W.contents out.new))
-        (EndsWithin view.now.schema view.now.info view.now.bytes number (W.contents out.old) (W.contents out.new))) }
-    ensures none { result ≡ None → W.contents out.new ≡ W.contents out.old }
-    ensures layer { IfSome result (λ printed. IfErr printed IsOfRows) }
-{
-    let Ok(mut cursor) = view.cursor(alloc) else {
-        return None;
-    };
-    let mut lines = Vec::new(alloc);
-    match next_lines(&mut cursor, layout, MOST_HELD, &mut lines) {
-        Ok(true) => Some(write_out(out, &lines)),
-        Ok(false) => { Some(print_long(alloc, number, view, layout, &mut cursor, &mut lines, out)) }
-        Err(_) => None,
+    match view.cursor(alloc) {
+        Ok(mut cursor) => print_pieces(&mut cursor, layout, out),
+        Err(why) => Err(CliFault::File(stripe_fault(number, why))),
     }
 }
 
-/// Prints the lines of the stripe with this number, over its bytes. Where anything refuses its first rows one by one, they are
-/// read all at once, which tells what it is.
+/// Prints the lines of the stripe with this number, over its bytes, whose rows are made first.
+fn print_made<W: Write>(
+    alloc: Global,
+    tail: &Tail,
+    printer: &RowPrinter,
+    number: usize,
+    bytes: &[u8],
+    out: &mut W,
+) -> Result<(), CliFault>
+    requires there { number < length tail.now.stripes }
+    requires of_schema { printer.now ≡ tail.now.schema }
+    ensures written { OnOk result (IsPrinted tail.now.schema (stripe_at tail.now.stripes number) bytes.now
+        (W.contents out.old) (W.contents out.new)) }
+    ensures refused { IfErr result (EndsWithin tail.now.schema (stripe_at tail.now.stripes number) bytes.now number
+        (W.contents out.old) (W.contents out.new)) }
+    ensures layer { IfErr result IsOfRows }
+{
+    let rows = stripe_rows(alloc, tail, number, bytes)?;
+    let lines = lines_of(alloc, printer, &rows)?;
+    write_out(out, &lines)
+}
+
+/// Prints the lines of the stripe with this number, over its bytes: they are held until its end is seen, or go out as they
+/// are read, once it is known to have rows.
 fn print_loaded<W: Write>(
     alloc: Global,
     tail: &Tail,
@@ -106,12 +146,13 @@ fn print_loaded<W: Write>(
     let Some(layout) = printer.layout() else {
         return refuse_names(alloc, number, &view);
     };
-    if let Some(printed) = print_as_read(alloc, number, &view, layout, out) {
-        return printed;
+    if !is_laid_out(tail.schema.tree(), layout) {
+        return print_made(alloc, tail, printer, number, bytes, out);
     }
-    let rows = stripe_rows(alloc, tail, number, bytes)?;
-    let lines = lines_of(alloc, printer, &rows)?;
-    write_out(out, &lines)
+    match held_lines(alloc, &view, layout) {
+        Ok(lines) => write_out(out, &lines),
+        Err(_) => print_judged(alloc, number, &view, layout, out),
+    }
 }
 
 /// Prints the lines of the stripe with this number, once it is known to have rows.

@@ -16,14 +16,12 @@ use Rattle.orc_column_reader.specs.declared.fault.StripeFault.{StripeFault}
 use Rattle.orc_column_reader.proofs.Arms.{fields_none, fields_lack_first, fields_lack_others}
 use Rattle.orc_column_reader.proofs.Fronts.{fielded_leaves}
 use Rattle.orc_json.specs.Layouts.{Part, parts_text}
+use Rattle.orc_json.specs.Outputs.{Puts}
+use Rattle.orc_json.proofs.Outputs.{puts_then, puts_is}
 use Rattle.orc_json.specs.declared.layout.FieldColumns.{FieldColumns}
+use Rattle.orc_column_text.specs.LaidOut.{count_of}
 use Rattle.orc_column_text.specs.Taken.{Printed}
 use Rattle.orc_column_text.specs.Regions.{field_at, columns_before, readers_at, AreColumnsOf, member_of, AreMembersOf, GaveCell, PrintedMember}
-
--- how many fields there are
-abbrev pub many : Fields → ℕ
-many no_field = 0
-many (field name s fs) = suc (many fs)
 
 -- ---- the columns of the fields
 
@@ -32,13 +30,13 @@ columns_within no_field i = omega arith
 columns_within (field name s fs) zero = omega arith
 columns_within (field name s fs) (suc i) = let l = columns_within fs i in omega (arith, l)
 
-pub region_within : (fs : Fields) (i : ℕ) → i < many fs → columns_before fs i + width (field_at fs i) ≤ widths fs
+pub region_within : (fs : Fields) (i : ℕ) → i < count_of fs → columns_before fs i + width (field_at fs i) ≤ widths fs
 region_within no_field i lt = absurd (omega (arith, lt))
 region_within (field name s fs) zero lt = omega arith
 region_within (field name s fs) (suc i) lt = let l = region_within fs i (omega (arith, lt)) in omega (arith, l)
 
 pub columns_told : (fs : Fields) (k : ℕ) (xs : List FieldColumns) (i : ℕ) (d : FieldColumns) → AreColumnsOf fs k xs → i < length xs
-    → ((get_or xs i d).first ≡ k + columns_before fs i) × ((get_or xs i d).count ≡ width (field_at fs i)) × (i < many fs)
+    → ((get_or xs i d).first ≡ k + columns_before fs i) × ((get_or xs i d).count ≡ width (field_at fs i)) × (i < count_of fs)
 columns_told no_field k [] i d h lt = absurd (omega (arith, lt))
 columns_told no_field k (x ∷ xs) i d h lt = absurd h
 columns_told (field name s fs) k [] i d h lt = absurd h
@@ -47,7 +45,7 @@ columns_told (field name s fs) k (x ∷ xs) (suc i) d h lt =
     let r = columns_told fs (k + width s) xs i d h.2 (omega (arith, lt)) in
     (omega (arith, r.0), r.1, omega (arith, r.2))
 
-pub columns_many : (fs : Fields) (k : ℕ) (xs : List FieldColumns) → AreColumnsOf fs k xs → length xs ≡ many fs
+pub columns_many : (fs : Fields) (k : ℕ) (xs : List FieldColumns) → AreColumnsOf fs k xs → length xs ≡ count_of fs
 columns_many no_field k [] h = refl
 columns_many no_field k (x ∷ xs) h = absurd h
 columns_many (field name s fs) k [] h = absurd h
@@ -75,7 +73,7 @@ fields_begin : (fs : Fields) (rs : List ColumnReader) → FieldsAre fs rs rs (no
 fields_begin no_field rs = tt
 fields_begin (field name s fs) rs = (refl, fields_begin fs (drop (width s) rs))
 
-fields_many : (fs : Fields) (before now : List ColumnReader) (cs : List (Option Cell)) → FieldsAre fs before now cs → length cs ≡ many fs
+fields_many : (fs : Fields) (before now : List ColumnReader) (cs : List (Option Cell)) → FieldsAre fs before now cs → length cs ≡ count_of fs
 fields_many no_field before now [] h = refl
 fields_many no_field before now (c ∷ cs) h = absurd h
 fields_many (field name s fs) before now [] h = absurd h
@@ -133,7 +131,7 @@ fields_free (field name s fs) before now (x ∷ cs) (suc i) lt free h =
     ap (take k) (sym (drop-drop a w now)) ∙ fields_free fs (drop w before) (drop w now) cs i (omega (arith, lt)) free h.1 ∙ ap (take k) (drop-drop a w before)
 
 -- where one lacks a cell, or meets a fault, so do all
-field_lacks : (fs : Fields) (rs : List ColumnReader) (i : ℕ) → i < many fs → Lacks (CellsLeft (field_at fs i) (readers_at fs i rs)) 1 → Lacks (FieldsLeft fs rs) 1
+field_lacks : (fs : Fields) (rs : List ColumnReader) (i : ℕ) → i < count_of fs → Lacks (CellsLeft (field_at fs i) (readers_at fs i rs)) 1 → Lacks (FieldsLeft fs rs) 1
 field_lacks no_field rs i lt p = absurd (omega (arith, lt))
 field_lacks (field name s fs) rs zero lt p = fields_lack_first (field name s fs) name s fs rs (take (width s) rs) refl refl p
 field_lacks (field name s fs) rs (suc i) lt p =
@@ -141,7 +139,7 @@ field_lacks (field name s fs) rs (suc i) lt p =
     fields_lack_others (field name s fs) name s fs rs (drop w rs) refl refl
     (field_lacks fs (drop w rs) i (omega (arith, lt)) (subst (λ z. Lacks (CellsLeft (field_at fs i) (take (width (field_at fs i)) z)) 1) (sym (drop-drop (columns_before fs i) w rs)) p))
 
-field_meets : (fs : Fields) (rs : List ColumnReader) (i : ℕ) (all : Bool) (n : ℕ) (f : StripeFault) → i < many fs → CellsMeet (field_at fs i) (readers_at fs i rs) all n f → FieldsMeet fs rs all n f
+field_meets : (fs : Fields) (rs : List ColumnReader) (i : ℕ) (all : Bool) (n : ℕ) (f : StripeFault) → i < count_of fs → CellsMeet (field_at fs i) (readers_at fs i rs) all n f → FieldsMeet fs rs all n f
 field_meets no_field rs i all n f lt p = absurd (omega (arith, lt))
 field_meets (field name s fs) rs zero all n f lt p = inl p
 field_meets (field name s fs) rs (suc i) all n f lt p =
@@ -160,7 +158,7 @@ cells_taken [] = []
 cells_taken (None ∷ cs) = null ∷ cells_taken cs
 cells_taken (Some c ∷ cs) = c ∷ cells_taken cs
 
-missing_begin : (fs : Fields) → missing (none_of fs) ≡ many fs
+missing_begin : (fs : Fields) → missing (none_of fs) ≡ count_of fs
 missing_begin no_field = refl
 missing_begin (field name s fs) = ap suc (missing_begin fs)
 
@@ -255,28 +253,28 @@ free_step xs k i place c cs (p ∷ ps) lt at own free =
 -- ---- members, one after the other
 
 -- some members are printed, and those that are left make the text whole, whatever the cells of their fields are
-pub record Reading (fs : Fields) (before now : List ColumnReader) (all left : List Part) (start out : List ℕ) : Type 0 where
+pub record Reading {T : Type 0} (holds : T → List ℕ → Type 0) (fs : Fields) (before now : List ColumnReader) (all left : List Part) (start out : T) : Type 0 where
   pub cells : List (Option Cell)
   pub are : FieldsAre fs before now cells
   pub counted : length now ≡ widths fs
   pub missing_is : missing cells ≡ length left
   pub free : AreFree cells left
-  pub text : (ds : List Cell) → Agrees cells ds → out ++ parts_text left ds ≡ start ++ parts_text all ds
+  pub text : (ds : List Cell) (new : T) → Agrees cells ds → Puts holds out new (parts_text left ds) → Puts holds start new (parts_text all ds)
 
-pub reading_first : (fs : Fields) (rs : List ColumnReader) (ps : List Part) (out : List ℕ) → length rs ≡ widths fs → length ps ≡ many fs → Reading fs rs rs ps ps out out
-reading_first fs rs ps out n m = record {
+pub reading_first : {T : Type 0} (holds : T → List ℕ → Type 0) (fs : Fields) (rs : List ColumnReader) (ps : List Part) (out : T) → length rs ≡ widths fs → length ps ≡ count_of fs → Reading holds fs rs rs ps ps out out
+reading_first holds fs rs ps out n m = record {
   cells = none_of fs;
   are = fields_begin fs rs;
   counted = n;
   missing_is = missing_begin fs ∙ sym m;
   free = free_begin fs ps;
-  text = λ ds a. refl;
+  text = λ ds new a p. p;
 }
 
-pub reading_next : (fs : Fields) (before now after : List ColumnReader) (all left rest : List Part) (p : Part) (start out new : List ℕ) (xs : List FieldColumns) (index : ℕ)
-    → left ≡ p ∷ rest → AreMembersOf xs index left → p.place < many fs → length after ≡ length now → PrintedMember fs p now after out new
-    → Reading fs before now all left start out → Reading fs before after all rest start new
-reading_next fs before now after all left rest p start out new xs index is own lt same m r =
+pub reading_next : {T : Type 0} (holds : T → List ℕ → Type 0) (fs : Fields) (before now after : List ColumnReader) (all left rest : List Part) (p : Part) (start out new : T) (xs : List FieldColumns) (index : ℕ)
+    → left ≡ p ∷ rest → AreMembersOf xs index left → p.place < count_of fs → length after ≡ length now → PrintedMember holds fs p now after out new
+    → Reading holds fs before now all left start out → Reading holds fs before after all rest start new
+reading_next holds fs before now after all left rest p start out new xs index is own lt same m r =
     let own' : AreMembersOf xs index (p ∷ rest) = subst (AreMembersOf xs index) is own in
     let free : AreFree r.cells (p ∷ rest) = subst (AreFree r.cells) is r.free in
     let n = fields_many fs before now r.cells r.are in
@@ -289,42 +287,43 @@ reading_next fs before now after all left rest p start out new xs index is own l
       counted = same ∙ r.counted;
       missing_is = omega (arith, fewer, r.missing_is, ap length is);
       free = free_step xs index (suc index) p.place m.one r.cells rest (omega arith) own'.0 own'.1 free.1;
-      text = λ ds a.
+      text = λ ds end a others.
           let known = agrees_at r.cells ds p.place m.one there a in
-          let others = parts_text rest ds in
-          ap (λ (t : List ℕ). t ++ others) m.put
-          ∙ append_assoc out (p.key ++ p.text m.one) others
-          ∙ ap (λ (t : List ℕ). out ++ t) (append_assoc p.key (p.text m.one) others)
-          ∙ ap (λ (c : Cell). out ++ (p.key ++ (p.text c ++ others))) (sym known)
-          ∙ ap (λ (ps : List Part). out ++ parts_text ps ds) (sym is)
-          ∙ r.text ds (agrees_before r.cells ds p.place m.one there free.0 a);
+          let tail = parts_text rest ds in
+          let one : (p.key ++ p.text m.one) ++ tail ≡ parts_text left ds =
+          append_assoc p.key (p.text m.one) tail
+          ∙ ap (λ (c : Cell). p.key ++ (p.text c ++ tail)) (sym known)
+          ∙ ap (λ (ps : List Part). parts_text ps ds) (sym is)
+          in
+          r.text ds end (agrees_before r.cells ds p.place m.one there free.0 a)
+          (puts_is holds out end ((p.key ++ p.text m.one) ++ tail) (parts_text left ds) one (puts_then holds out new end (p.key ++ p.text m.one) tail m.put others));
     }
 
-pub reading_last : (fs : Fields) (before now : List ColumnReader) (all left : List Part) (start out new : List ℕ) → left ≡ [] → new ≡ out ++ 125 ∷ [] → Reading fs before now all left start out
-    → Printed (FieldsLeft fs before) (FieldsLeft fs now) (parts_text all) start new
-reading_last fs before now all left start out new is n r =
+pub reading_last : {T : Type 0} (holds : T → List ℕ → Type 0) (fs : Fields) (before now : List ColumnReader) (all left : List Part) (start out new : T) → left ≡ [] → Puts holds out new (125 ∷ []) → Reading holds fs before now all left start out
+    → Printed holds (FieldsLeft fs before) (FieldsLeft fs now) (parts_text all) start new
+reading_last holds fs before now all left start out new is n r =
     let cs = cells_taken r.cells in
     record {
       one = cs;
       taken = fields_done fs before now r.cells (r.missing_is ∙ ap length is) r.are;
-      put = n ∙ ap (λ (ps : List Part). out ++ parts_text ps cs) (sym is) ∙ r.text cs (agrees_all r.cells);
+      put = r.text cs new (agrees_all r.cells) (puts_is holds out new (125 ∷ []) (parts_text left cs) (ap (λ (ps : List Part). parts_text ps cs) (sym is)) n);
     }
 
-pub reading_last_meet : (fs : Fields) (before now : List ColumnReader) (all left : List Part) (start out : List ℕ) (every : Bool) (n : ℕ) (f : StripeFault) → left ≡ [] → Reading fs before now all left start out
+pub reading_last_meet : {T : Type 0} (holds : T → List ℕ → Type 0) (fs : Fields) (before now : List ColumnReader) (all left : List Part) (start out : T) (every : Bool) (n : ℕ) (f : StripeFault) → left ≡ [] → Reading holds fs before now all left start out
     → FieldsMeet fs now every n f → FieldsMeet fs before every (suc n) f
-reading_last_meet fs before now all left start out every n f is r m = fields_done_meet fs before now r.cells every n f (r.missing_is ∙ ap length is) r.are m
+reading_last_meet holds fs before now all left start out every n f is r m = fields_done_meet fs before now r.cells every n f (r.missing_is ∙ ap length is) r.are m
 
-pub reading_lacks : (fs : Fields) (before now : List ColumnReader) (all left rest : List Part) (p : Part) (start out : List ℕ) → left ≡ p ∷ rest → p.place < many fs → Reading fs before now all left start out
+pub reading_lacks : {T : Type 0} (holds : T → List ℕ → Type 0) (fs : Fields) (before now : List ColumnReader) (all left rest : List Part) (p : Part) (start out : T) → left ≡ p ∷ rest → p.place < count_of fs → Reading holds fs before now all left start out
     → Lacks (CellsLeft (field_at fs p.place) (readers_at fs p.place now)) 1 → Lacks (FieldsLeft fs before) 1
-reading_lacks fs before now all left rest p start out is lt r h =
+reading_lacks holds fs before now all left rest p start out is lt r h =
     let free : AreFree r.cells (p ∷ rest) = subst (AreFree r.cells) is r.free in
     let n = fields_many fs before now r.cells r.are in
     field_lacks fs before p.place lt
     (subst (λ z. Lacks (CellsLeft (field_at fs p.place) z) 1) (fields_free fs before now r.cells p.place (omega (arith, n, lt)) free.0 r.are) h)
 
-pub reading_meets : (fs : Fields) (before now : List ColumnReader) (all left rest : List Part) (p : Part) (start out : List ℕ) (every : Bool) (n : ℕ) (f : StripeFault) → left ≡ p ∷ rest → p.place < many fs
-    → Reading fs before now all left start out → CellsMeet (field_at fs p.place) (readers_at fs p.place now) every n f → FieldsMeet fs before every n f
-reading_meets fs before now all left rest p start out every n f is lt r h =
+pub reading_meets : {T : Type 0} (holds : T → List ℕ → Type 0) (fs : Fields) (before now : List ColumnReader) (all left rest : List Part) (p : Part) (start out : T) (every : Bool) (n : ℕ) (f : StripeFault) → left ≡ p ∷ rest → p.place < count_of fs
+    → Reading holds fs before now all left start out → CellsMeet (field_at fs p.place) (readers_at fs p.place now) every n f → FieldsMeet fs before every n f
+reading_meets holds fs before now all left rest p start out every n f is lt r h =
     let free : AreFree r.cells (p ∷ rest) = subst (AreFree r.cells) is r.free in
     let m = fields_many fs before now r.cells r.are in
     field_meets fs before p.place every n f lt

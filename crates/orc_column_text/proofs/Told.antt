@@ -31,7 +31,7 @@ columns_more true all fs name s xs x before next count e h is first told w n oth
     let own : AreColumnsOf (field name s fs) before (x ∷ rest) = (first, told ∙ w, subst (λ m. AreColumnsOf fs m rest) k others) in
     subst (λ z. AreColumnsOf z before xs) (sym e) (subst (λ ys. AreColumnsOf (field name s fs) before ys) (sym (first_of xs x h is)) own)
 
-get_told : (xs : List FieldColumns) (i : ℕ) (own : FieldColumns) → i < length xs → own ≡ get_or xs i own → slice_get (map member_of xs) i ≡ Some own.member
+pub get_told : (xs : List FieldColumns) (i : ℕ) (own : FieldColumns) → i < length xs → own ≡ get_or xs i own → slice_get (map member_of xs) i ≡ Some own.member
 get_told [] i own lt is = absurd (omega (arith, lt))
 get_told (x ∷ xs) zero own lt is = ap (λ (y : FieldColumns). Some y.member) (sym is)
 get_told (x ∷ xs) (suc i) own lt is = get_told xs i own (omega (arith, lt)) is

@@ -10,6 +10,7 @@ use Rattle.orc_column_reader.specs.ReaderFaults.{CellsMeet}
 use Rattle.orc_column_reader.specs.declared.column.ColumnReader.{ColumnReader}
 use Rattle.orc_column_reader.specs.declared.fault.StripeFault.{StripeFault}
 use Rattle.orc_json.specs.Layouts.{Part}
+use Rattle.orc_json.specs.Outputs.{Puts}
 use Rattle.orc_json.specs.declared.layout.FieldColumns.{FieldColumns}
 use borrow.Rule.Slice.PartMut.{put_mid}
 
@@ -52,10 +53,11 @@ pub record GaveCell (s : Shape) (before after : List ColumnReader) (cell : Cell)
   pub faults : (all : Bool) (n : ℕ) (f : StripeFault) → CellsMeet s after all n f → CellsMeet s before all (suc n) f
 
 -- a member is printed: its key, and the cell of the field at its place, whose readers alone are others now
-pub record PrintedMember (fs : Fields) (p : Part) (before after : List ColumnReader) (old new : List ℕ) : Type 0 where
+pub record PrintedMember {T : Type 0} (holds : T → List ℕ → Type 0) (fs : Fields) (p : Part)
+    (before after : List ColumnReader) (old new : T) : Type 0 where
   pub one : Cell
   pub own : List ColumnReader
   pub counted : length own ≡ width (field_at fs p.place)
   pub gave : GaveCell (field_at fs p.place) (readers_at fs p.place before) own one
   pub readers : after ≡ put_mid (columns_before fs p.place) (width (field_at fs p.place)) before own
-  pub put : new ≡ old ++ (p.key ++ p.text one)
+  pub put : Puts holds old new (p.key ++ p.text one)

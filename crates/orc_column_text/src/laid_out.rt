@@ -1,12 +1,13 @@
-//! Whether a layout says of a struct's columns what is so.
+//! Whether a layout is one of a type, and says of each struct's columns what is so.
 ghost use Rattle.std.specs.Prelude.{◌≡◌, ◌<◌, ◌^◌, length};
 ghost use Rattle.std.specs.Bool.{OnTrue};
 ghost use Rattle.orc_values.specs.Shapes.{width, widths};
 ghost use Rattle.orc_values.specs.Views.{shape, fields as fields_view};
 ghost use Rattle.orc_json.specs.Layouts.{member_parts};
+ghost use Rattle.orc_column_text.specs.LaidOut.{HasMembers, IsLaidOut, AreFieldsLaidOut};
 ghost use Rattle.orc_column_text.specs.Regions.{AreColumnsOf, AreMembersOf};
 
-use orc_json::layout::{FieldColumns, Member};
+use orc_json::layout::{FieldColumns, Layout, Member};
 use orc_values::{Field, Tree, width_of};
 
 /// The number of columns of a type, which is one without a call where the type contains no other.
@@ -71,15 +72,9 @@ fn are_members(members: &[Member], columns: &[FieldColumns], index: usize) -> bo
 }
 
 /// Whether there are as many members as fields, each at its own field, and the columns are those of the fields.
-pub(crate) fn are_laid_out(
-    fields: &Vec<Field>,
-    members: &Vec<Member>,
-    columns: &Vec<FieldColumns>,
-) -> bool
-    requires { widths (fields_view fields.now.items) < 2 ^ 64 }
-    ensures counted { OnTrue result (length members.now.items ≡ length fields.now.items) }
-    ensures columns { OnTrue result (AreColumnsOf (fields_view fields.now.items) 0 columns.now.items) }
-    ensures members { OnTrue result (AreMembersOf columns.now.items 0 (member_parts members.now.items)) }
+fn has_members(fields: &[Field], members: &[Member], columns: &[FieldColumns]) -> bool
+    requires { widths (fields_view fields.now) < 2 ^ 64 }
+    ensures { OnTrue result (HasMembers (fields_view fields.now) members.now columns.now) }
 {
     if members.len() != fields.len() {
         return false;
@@ -88,4 +83,56 @@ pub(crate) fn are_laid_out(
         return false;
     }
     are_members(members, columns, 0)
+}
+
+/// Whether a layout is one of the type. It is found once for all rows of a schema.
+#[cycle(laying)]
+pub fn is_laid_out(tree: &Tree, layout: &Layout) -> bool
+    requires { width (shape tree.now) < 2 ^ 64 }
+    // A layout of which this is said is one of the type.
+    ensures { OnTrue result (IsLaidOut (shape tree.now) layout.now) }
+{
+    match tree {
+        Tree::Scalar(_, _) => match layout {
+            Layout::Leaf => true,
+            _ => false,
+        },
+        Tree::List(element, _) => match layout {
+            Layout::List(inner) => is_laid_out(element, inner),
+            _ => false,
+        },
+        Tree::Map(key, value, _) => match layout {
+            Layout::Map(layouts) => {
+                is_laid_out(key, &layouts.key) && is_laid_out(value, &layouts.value)
+            }
+            _ => false,
+        },
+        Tree::Struct(fields, _) => match layout {
+            Layout::Struct(members, columns) => {
+                has_members(fields, members, columns)
+                    && are_fields_laid_out(fields, columns, members)
+            }
+            _ => false,
+        },
+    }
+}
+
+/// Whether the member that is told of each field is laid out as the field's type.
+#[cycle(laying)]
+fn are_fields_laid_out(fields: &[Field], columns: &[FieldColumns], members: &[Member]) -> bool
+    requires { widths (fields_view fields.now) < 2 ^ 64 }
+    ensures { OnTrue result (AreFieldsLaidOut (fields_view fields.now) columns.now members.now) }
+{
+    for (i, field) in fields.iter().enumerate() {
+        let Some(own) = columns.get(i) else {
+            return false;
+        };
+        let Some(member) = members.get(own.member) else {
+            return false;
+        };
+        if !is_laid_out(&field.tree, &member.layout) {
+            return false;
+        }
+    }
+    true
 }

@@ -7,4 +7,5 @@ mod laid_out;
 mod rows;
 
 pub use cells::push_cell;
+pub use laid_out::is_laid_out;
 pub use rows::push_next;

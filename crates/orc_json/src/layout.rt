@@ -58,7 +58,7 @@ fn key_text(alloc: Global, name: &str, later: bool) -> Result<Vec<u8>, AllocErro
     if later {
         key.push(b',')?;
     }
-    push_quoted(alloc, name, &mut key)?;
+    push_quoted(name, &mut key)?;
     key.push(b':')?;
     Ok(key)
 }

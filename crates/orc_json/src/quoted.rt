@@ -1,11 +1,12 @@
-//! Texts as JSON has them: in quotes, with escapes.
-ghost use Rattle.std.specs.Prelude.{◌≡◌, ◌++◌, ◌∷◌, [], OnOk};
+//! Texts in quotes.
+ghost use Rattle.std.specs.Prelude.{◌≡◌, ◌<◌, ◌∷◌, [], true, OnOk, OnErr};
 ghost use Rattle.std.specs.Bool.{OnTrue};
+ghost use Rattle.std.specs.Char.{digit_char};
 ghost use Rattle.json.specs.Print.{quoted, escape, escape_byte};
-ghost use Rattle.orc_json.specs.Growth.{Grows};
+ghost use Rattle.orc_json.specs.Outputs.{Puts, PutsSome};
 
-use json::Writer;
-use std::alloc::{AllocError, Global};
+use crate::output::TextOutput;
+use std::alloc::AllocError;
 
 /// Whether a byte of a text stands for itself: it is no control character, no quote and no backslash.
 #[tactic(auto, using(json::proofs::Printed::Strings::escape_byte_plain))]
@@ -27,39 +28,68 @@ fn is_plain(bytes: &[u8]) -> bool
     plain
 }
 
-/// Appends a text in quotes, escaped as `serde_json` does it.
-pub(crate) fn push_quoted(alloc: Global, text: &str, out: &mut Vec<u8>) -> Result<(), AllocError>
-    ensures found { OnOk result (out.new.items ≡ out.old.items ++ quoted text.now) }
-    ensures front { Grows out.old.items out.new.items }
+/// A hexadecimal digit, in lower case.
+fn digit(value: u8) -> u8
+    requires { value < 16 }
+    ensures { result ≡ digit_char value }
 {
-    if is_plain(text.as_bytes()) {
-        push_plain(text.as_bytes(), out)
-    } else {
-        push_escaped(alloc, text, out)
+    match value {
+        0..=9 => b'0' + value,
+        _ => b'a' + (value - 10),
     }
 }
 
-/// Appends a text that needs no escape, in quotes.
-fn push_plain(bytes: &[u8], out: &mut Vec<u8>) -> Result<(), AllocError>
-    requires { escape bytes.now ≡ bytes.now }
-    ensures found { OnOk result (out.new.items ≡ out.old.items ++ quoted bytes.now) }
-    ensures front { Grows out.old.items out.new.items }
+/// Puts what stands in a text for a byte: the shortest escape, where it needs one (RFC 8259, section 7).
+fn push_byte<T: TextOutput>(byte: u8, out: &mut T) -> Result<(), AllocError>
+    ensures found { OnOk result (Puts T.holds out.old out.new (escape_byte byte)) }
+    ensures front { PutsSome T.holds out.old out.new }
+    ensures memory { OnErr result (T.grows ≡ true) }
 {
-    out.push(b'"')?;
-    out.extend_from_slice(bytes)?;
-    out.push(b'"')?;
+    match byte {
+        b'"' => out.put(b"\\\""),
+        b'\\' => out.put(b"\\\\"),
+        0x08 => out.put(b"\\b"),
+        b'\t' => out.put(b"\\t"),
+        b'\n' => out.put(b"\\n"),
+        0x0c => out.put(b"\\f"),
+        b'\r' => out.put(b"\\r"),
+        0..=0x1f => out.put(&[b'\\', b'u', b'0', b'0', digit(byte / 16), digit(byte % 16)]),
+        _ => out.put_byte(byte),
+    }
+}
+
+/// Puts each byte of a text, or what stands for it.
+fn push_bytes<T: TextOutput>(bytes: &[u8], out: &mut T) -> Result<(), AllocError>
+    ensures found { OnOk result (Puts T.holds out.old out.new (escape bytes.now)) }
+    ensures front { PutsSome T.holds out.old out.new }
+    ensures memory { OnErr result (T.grows ≡ true) }
+{
+    for byte in bytes {
+        push_byte(*byte, out)?;
+    }
     Ok(())
 }
 
-/// Appends a text in quotes, by way of a buffer: a writer of JSON fills what room its buffer has, up to
-/// 16 KiB, so it is given one of its own.
-fn push_escaped(alloc: Global, text: &str, out: &mut Vec<u8>) -> Result<(), AllocError>
-    ensures found { OnOk result (out.new.items ≡ out.old.items ++ quoted text.now) }
-    ensures front { Grows out.old.items out.new.items }
+/// Puts a text without quotes, escaped as `serde_json` does it.
+pub(crate) fn push_escaped<T: TextOutput>(bytes: &[u8], out: &mut T) -> Result<(), AllocError>
+    ensures found { OnOk result (Puts T.holds out.old out.new (escape bytes.now)) }
+    ensures front { PutsSome T.holds out.old out.new }
+    ensures memory { OnErr result (T.grows ≡ true) }
 {
-    let mut writer = Writer::new(Vec::new(alloc));
-    writer.string(text)?;
-    let escaped = writer.into_inner();
-    out.extend_from_slice(&escaped)?;
-    Ok(())
+    if is_plain(bytes) {
+        out.put(bytes)
+    } else {
+        push_bytes(bytes, out)
+    }
+}
+
+/// Puts a text in quotes, escaped as `serde_json` does it.
+pub(crate) fn push_quoted<T: TextOutput>(text: &str, out: &mut T) -> Result<(), AllocError>
+    ensures found { OnOk result (Puts T.holds out.old out.new (quoted text.now)) }
+    ensures front { PutsSome T.holds out.old out.new }
+    ensures memory { OnErr result (T.grows ≡ true) }
+{
+    out.put_byte(b'"')?;
+    push_escaped(text.as_bytes(), out)?;
+    out.put_byte(b'"')
 }

@@ -94,7 +94,7 @@ impl RowPrinter {
     ///
     /// Refusals, each of which leaves `out` as it was: `DuplicateField` where some struct of the schema
     /// names a field twice; `OutOfMemory`.
-    pub fn push_row(&self, alloc: Global, row: &Row<'_>, out: &mut Vec<u8>) -> Result<(), JsonFault>
+    pub fn push_row(&self, row: &Row<'_>, out: &mut Vec<u8>) -> Result<(), JsonFault>
         // Where the row fits and isn't refused, its JSON is appended without blanks, byte by byte
         // what `serde_json` prints of the value that `row_to_json` gives.
         ensures found { fits (view row.now) self.now ≡ true
@@ -115,7 +115,7 @@ impl RowPrinter {
             return Err(JsonFault::DuplicateField);
         }
         let start = out.len();
-        match push_text(alloc, &self.layout, row, out) {
+        match push_text(&self.layout, row, out) {
             Ok(()) => Ok(()),
             Err(_) => {
                 out.truncate(start);

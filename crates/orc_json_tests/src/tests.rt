@@ -36,13 +36,8 @@ fn schema_of(alloc: Global, text: &str) -> Result<Schema, JsonFault> {
 }
 
 /// Appends the text of a row. It has no contract, so that what the printer's says is no part of each caller's proof.
-fn append(
-    alloc: Global,
-    printer: &RowPrinter,
-    row: &Row<'_>,
-    out: &mut Vec<u8>,
-) -> Result<(), JsonFault> {
-    printer.push_row(alloc, row, out)
+fn append(printer: &RowPrinter, row: &Row<'_>, out: &mut Vec<u8>) -> Result<(), JsonFault> {
+    printer.push_row(row, out)
 }
 
 /// A row of borrowed values.
@@ -54,22 +49,17 @@ fn borrowed_row(alloc: Global) -> Result<Row<'static>, AllocError> {
 }
 
 /// Appends the row, null, and the row again.
-fn append_thrice(
-    alloc: Global,
-    printer: &RowPrinter,
-    row: &Row<'_>,
-    out: &mut Vec<u8>,
-) -> Result<(), JsonFault> {
-    append(alloc, printer, row, out)?;
-    append(alloc, printer, &None, out)?;
-    append(alloc, printer, row, out)
+fn append_thrice(printer: &RowPrinter, row: &Row<'_>, out: &mut Vec<u8>) -> Result<(), JsonFault> {
+    append(printer, row, out)?;
+    append(printer, &None, out)?;
+    append(printer, row, out)
 }
 
 /// What they are printed as, one behind another by the same printer.
 fn printed_thrice(alloc: Global, schema: &Schema, row: &Row<'_>) -> Result<Vec<u8>, JsonFault> {
     let printer = RowPrinter::new(alloc, schema)?;
     let mut out = Vec::new(alloc);
-    append_thrice(alloc, &printer, row, &mut out)?;
+    append_thrice(&printer, row, &mut out)?;
     Ok(out)
 }
 
@@ -102,7 +92,7 @@ fn refuses_twice(alloc: Global, schema: &str) -> Result<bool, JsonFault> {
     let schema = schema_of(alloc, schema)?;
     let printer = RowPrinter::new(alloc, &schema)?;
     let mut out = BEFORE.as_bytes().to_vec(alloc)?;
-    let refused = append(alloc, &printer, &None, &mut out);
+    let refused = append(&printer, &None, &mut out);
     Ok(matches!(refused, Err(JsonFault::DuplicateField)) && out.as_slice() == BEFORE.as_bytes())
 }
 
@@ -126,7 +116,7 @@ fn printed(
     let row = reader.read_row(alloc, schema, text.as_bytes())?;
     let printer = RowPrinter::new(alloc, schema)?;
     let mut out = Vec::new(alloc);
-    append(alloc, &printer, &row, &mut out)?;
+    append(&printer, &row, &mut out)?;
     Ok(out)
 }
 
@@ -230,7 +220,7 @@ fn is_printed(alloc: Global, case: &str, row: &Row<'_>) -> Result<bool, JsonFaul
     let schema = schema_of(alloc, schema)?;
     let printer = RowPrinter::new(alloc, &schema)?;
     let mut out = Vec::new(alloc);
-    append(alloc, &printer, row, &mut out)?;
+    append(&printer, row, &mut out)?;
     Ok(out.as_slice() == line.as_bytes())
 }
 

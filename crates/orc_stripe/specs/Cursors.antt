@@ -1,12 +1,17 @@
 -- Rows one after the other (ORC specification, "Stripes").
 use Rattle.std.specs.Prelude.{◌≡◌, ◌+◌, Bool, true, false, Option, Some, None, List, [], ◌∷◌, length}
 use Rattle.orc_values.specs.Cells.{Cell}
+use Rattle.orc_values.specs.Shapes.{Shape}
 use Rattle.orc_values.specs.Views.{view, shape}
 use Rattle.orc_values.specs.declared.value.Value.{Value}
 use Rattle.orc_column_reader.specs.Columns.{CellsLeft}
 use Rattle.orc_column_reader.specs.ReaderFaults.{CellsMeet}
 use Rattle.orc_column_reader.specs.declared.fault.StripeFault.{StripeFault}
 use Rattle.orc_stripe.specs.declared.cursor.RowCursor.{RowCursor}
+
+-- the type of its rows
+abbrev pub row_type : RowCursor → Shape
+row_type c = shape c.tree.now
 
 -- a cursor that was refused once, and one that never was
 abbrev pub HasRefused : RowCursor → Type 0
@@ -20,7 +25,7 @@ IsGoing c = c.failed ≡ false
 pub record StandsFor (c : RowCursor) (rows : List Cell) : Type 0 where
   pub going : IsGoing c
   pub counted : length rows ≡ c.left
-  pub spelled : CellsLeft (shape c.tree.now) c.readers.items rows
+  pub spelled : CellsLeft (row_type c) c.readers.items rows
 
 -- of such rows a cursor gave the first and stands for the others, or gave none where there are none
 abbrev pub Gives : List Cell → RowCursor → Option (Option Value) → Type 0
@@ -41,4 +46,4 @@ CountsDown before after (Some row) = before.left ≡ after.left + 1
 
 -- a fault of what is left of the columns' streams, which are to give as many rows as the cursor has left
 abbrev pub MeetsFault : RowCursor → StripeFault → Type 0
-MeetsFault c f = (all : Bool) × CellsMeet (shape c.tree.now) c.readers.items all c.left f
+MeetsFault c f = (all : Bool) × CellsMeet (row_type c) c.readers.items all c.left f

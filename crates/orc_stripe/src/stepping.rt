@@ -1,17 +1,20 @@
 //! The rows that a cursor has still to give: the next one, its text, or all of them.
-ghost use Rattle.std.specs.Prelude.{◌≡◌, ◌≢◌, List, Ok, Err, IfOk, IfErr, OnOk, OnErr, MatchResult};
+ghost use Rattle.std.specs.Prelude.{◌≡◌, ◌≢◌, List, true, Ok, Err, IfOk, IfErr, OnOk, OnErr, MatchResult};
+ghost use Rattle.std.specs.Bool.{OnTrue};
 ghost use Rattle.orc_values.specs.Cells.{Cell};
 ghost use Rattle.orc_values.specs.Views.{views};
 ghost use Rattle.orc_json.specs.Layouts.{text_by};
+ghost use Rattle.orc_column_text.specs.LaidOut.{IsLaidOut};
 ghost use Rattle.orc_column_text.specs.Taken.{GaveText, GivesText};
 ghost use Rattle.orc_column_reader.specs.declared.fault.StripeFault.{StripeFault as Fault};
 ghost use Rattle.orc_column_reader.specs.declared.fault.StripeFault.TheVariants.{OutOfMemory, Failed};
 ghost use Rattle.orc_stripe.specs.TextCursors.{CountsDownWhere};
-ghost use Rattle.orc_stripe.specs.Cursors.{HasRefused, IsGoing, StandsFor, Gives, Gave, CountsDown, MeetsFault};
+ghost use Rattle.orc_stripe.specs.Cursors.{row_type, HasRefused, IsGoing, StandsFor, Gives, Gave, CountsDown, MeetsFault};
 
 use crate::cursor::RowCursor;
 use orc_column_reader::{StripeFault, cells_end, next_cell, next_cells};
-use orc_column_text::push_next;
+use orc_column_text::{is_laid_out, push_next};
+use orc_json::TextOutput;
 use orc_json::layout::Layout;
 use orc_values::Row;
 
@@ -77,19 +80,35 @@ impl<'a> RowCursor<'a> {
         }
     }
 
-    /// Appends the text of the next row, by a layout, without the row being made, and says whether there was one. At the
-    /// end, once nothing is found left over in any stream, nothing is appended.
+    /// Whether a layout is one of the rows' type, as `push_next` wants it.
+    pub fn has_layout(&self, layout: &Layout) -> bool
+        // A layout of which this is said is one of the rows' type.
+        ensures { OnTrue result (IsLaidOut (row_type self.now) layout.now) }
+    {
+        is_laid_out(self.tree, layout)
+    }
+
+    /// Puts the text of the next row, by a layout of the rows' type, without the row being made, and says whether there was
+    /// one. At the end, once nothing is found left over in any stream, nothing is put.
     ///
-    /// Refusals: those of `next`. What is appended before one of them is left open.
-    pub fn push_next(&mut self, layout: &Layout, out: &mut Vec<u8>) -> Result<bool, StripeFault>
-        // The text of the first of the rows, by the layout, is appended, and true answered; or
-        // nothing, and false, where there are none, unless memory is refused.
-        ensures found { IfOk result (GaveText (StandsFor self.old) (StandsFor self.new) (text_by layout.now)
-            out.old.items out.new.items) }
+    /// Refusals: those of `next`, but that memory is wanted for the output alone. What is put before one of them is left
+    /// open.
+    pub fn push_next<T: TextOutput>(
+        &mut self,
+        layout: &Layout,
+        out: &mut T,
+    ) -> Result<bool, StripeFault>
+        requires laid_out { IsLaidOut (row_type self.old) layout.now }
+        // The text of the first of the rows, by the layout, is put, and true answered; or nothing,
+        // and false, where there are none, unless an output that grows is refused memory.
+        ensures found { IfOk result (GaveText T.holds (StandsFor self.old) (StandsFor self.new) (text_by layout.now)
+            out.old out.new) }
         ensures only { (rows : List Cell) → StandsFor self.old rows
-            → MatchResult result (GivesText rows (StandsFor self.new) (text_by layout.now) out.old.items out.new.items)
-            (λ fault. fault ≡ OutOfMemory) }
-        // A row whose text is appended is one fewer to come.
+            → MatchResult result (GivesText T.holds rows (StandsFor self.new) (text_by layout.now) out.old out.new)
+            (λ fault. (fault ≡ OutOfMemory) × (T.grows ≡ true)) }
+        // The rows' type stays.
+        ensures of_type { row_type self.new ≡ row_type self.old }
+        // A row whose text is put is one fewer to come.
         ensures fewer { IfOk result (CountsDownWhere self.old self.new) }
         // A fault that is met in the streams after an answer was met before it.
         ensures before { OnOk result ((f : Fault) → MeetsFault self.new f → MeetsFault self.old f) }
@@ -104,14 +123,7 @@ impl<'a> RowCursor<'a> {
         if self.failed {
             return Err(StripeFault::Failed);
         }
-        match push_next(
-            self.alloc,
-            self.tree,
-            layout,
-            &mut self.readers,
-            &mut self.left,
-            out,
-        ) {
+        match push_next(self.tree, layout, &mut self.readers, &mut self.left, out) {
             Ok(some) => Ok(some),
             Err(fault) => {
                 self.failed = true;

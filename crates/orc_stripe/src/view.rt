@@ -5,7 +5,7 @@ ghost use Rattle.orc_wire.specs.declared.stripe_footer.StripeFooter.{StripeFoote
 ghost use Rattle.orc_values.specs.Views.{views};
 ghost use Rattle.orc_column_reader.specs.Stripe.{HasFooter, IsStripe, columns_of};
 ghost use Rattle.orc_stripe.specs.Opening.{OpenFault};
-ghost use Rattle.orc_stripe.specs.Cursors.{IsGoing, StandsFor, MeetsFault};
+ghost use Rattle.orc_stripe.specs.Cursors.{row_type, IsGoing, StandsFor, MeetsFault};
 ghost use Rattle.orc_column_reader.specs.Faults.{HasFault, RowsFault};
 ghost use Rattle.orc_column_reader.specs.declared.fault.StripeFault.{StripeFault as Fault};
 ghost use Rattle.orc_column_reader.specs.declared.fault.StripeFault.TheVariants.{OutOfMemory};
@@ -186,6 +186,8 @@ impl<'a> StripeView<'a> {
         // refused.
         ensures only { (rows : List Cell) → IsStripe self.now.schema self.now.info self.now.bytes rows
             → MatchResult result (λ cursor. StandsFor cursor rows) (λ fault. fault ≡ OutOfMemory) }
+        // Its rows are of the schema.
+        ensures of_type { IfOk result (λ cursor. row_type cursor ≡ self.now.schema) }
         // A cursor wasn't refused yet.
         ensures going { IfOk result IsGoing }
         // What a cursor meets in its streams later is a fault of the stripe's columns.

@@ -52,12 +52,15 @@ pub fn next_row<'a>(cursor: &mut RowCursor<'a>) -> Result<Option<Row<'a>>, Strip
     cursor.next()
 }
 
-/// Appends the text of a cursor's next row; at the end `false`.
+/// Puts the text of a cursor's next row, of whose type the layout has to be; at the end `false`.
 pub fn next_text(
     cursor: &mut RowCursor<'_>,
     layout: &Layout,
     out: &mut Vec<u8>,
 ) -> Result<bool, StripeFault> {
+    if !cursor.has_layout(layout) {
+        return Err(StripeFault::Failed);
+    }
     cursor.push_next(layout, out)
 }
 

@@ -183,8 +183,7 @@ module _ (bytes : List ℕ) (tail : Tail) (rows : List Cell) (is : FileIs bytes 
       → EndsAt tail.schema other m (stripe_at tail.stripes m) lines old new fault → IsOutsideFile fault
   later_outside m lines old new fault behind lt have (inl (inl stops, out)) = absurd (no_later_stop m fault behind lt have stops)
   later_outside m lines old new fault behind lt have (inl (inr source, out)) = inr source
-  later_outside m lines old new fault behind lt have (inr (inl part)) = inl part.0
-  later_outside m lines old new fault behind lt have (inr (inr memory)) = inr (inr memory.0)
+  later_outside m lines old new fault behind lt have (inr part) = inl part.0
 
   pub ends_before : (old new : Option (List ℕ)) (fault : CliFault) → IsPlace tail n group → HaveJson tail.schema rows → EndsFrom other tail n group old new fault → IsOutsideFile fault
   ends_before old new fault place have (inl h) = absurd (omega (arith, h.0, place.there))

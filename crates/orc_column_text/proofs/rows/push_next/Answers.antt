@@ -5,7 +5,7 @@ use Rattle.orc_column_reader.specs.ReaderFaults.{CellsMeet}
 use Rattle.orc_column_text.proofs.rows.push_next.Goals as goal
 
 pub returns-in_err-push_cell-clause-fault : goal.returns-in_err-push_cell-clause-fault
-returns-in_err-push_cell-clause-fault c =
+returns-in_err-push_cell-clause-fault g c =
     let p = err_from_is_err_and c.from_residual-in_err-push_cell.result c.from_residual-in_err-push_cell.ensures.1 in
     rw (p.1, p.2) (λ memory.
     let e : suc (c.args.left.now - 1) ≡ c.args.left.now = omega (arith, c.if-left-eq0.false) in

@@ -1,5 +1,5 @@
 use Rattle.std.proofs.Common.{refl, get_or}
-use Rattle.orc_json.proofs.OneString.{plain_both, plain_end}
+use Rattle.orc_json.proofs.Escapes.{plain_both, plain_end}
 use Rattle.orc_json.proofs.quoted.is_plain.Goals as goal
 
 pub loop-byte-preserved : goal.loop-byte-preserved

@@ -1,5 +1,5 @@
 use Rattle.std.specs.Bool.{OnTrue}
-use Rattle.orc_json.proofs.OneString.{PlainTo}
+use Rattle.orc_json.proofs.Escapes.{PlainTo}
 use Rattle.orc_json.proofs.quoted.is_plain.Given as goal
 
 abbrev pub invariant-loop-byte : goal.invariant-loop-byte

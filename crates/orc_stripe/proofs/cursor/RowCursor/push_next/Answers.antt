@@ -8,21 +8,21 @@ use Rattle.orc_stripe.proofs.CursorTexts.{gave_text, gives_text}
 use Rattle.orc_stripe.proofs.cursor.RowCursor.push_next.Goals as goal
 
 pub returns-in-Ok-clause-found : goal.returns-in-Ok-clause-found
-returns-in-Ok-clause-found c =
+returns-in-Ok-clause-found g c =
     let l : length c.push_next.new.readers ≡ c.args.self.now.readers.len = omega (arith, c.push_next.auto.readers, c.deref_mut.ensures.len) in
     let v = with_items_is c.args.self.now.readers c.push_next.new.readers l in
-    gave_text c.args.self.now _ c.deref_mut.result.now c.push_next.new.readers c.push_next.new.left (text_by c.args.layout.now) c.args.out.now.items c.push_next.new.out.items c.in-Ok.some
+    gave_text c.args.self.now _ c.deref_mut.result.now c.push_next.new.readers c.push_next.new.left g.T.TextOutput.holds (text_by c.args.layout.now) c.args.out.now c.push_next.new.out c.in-Ok.some
     c.if-self.false c.deref_mut.ensures.value (sym v) refl c.in-Ok.ensures.found
 
 pub returns-in-Ok-clause-only : goal.returns-in-Ok-clause-only
-returns-in-Ok-clause-only c = λ rows stood.
+returns-in-Ok-clause-only g c = λ rows stood.
     let l : length c.push_next.new.readers ≡ c.args.self.now.readers.len = omega (arith, c.push_next.auto.readers, c.deref_mut.ensures.len) in
     let v = with_items_is c.args.self.now.readers c.push_next.new.readers l in
-    gives_text c.args.self.now _ c.deref_mut.result.now c.push_next.new.readers c.push_next.new.left (text_by c.args.layout.now) c.args.out.now.items c.push_next.new.out.items c.in-Ok.some rows
+    gives_text c.args.self.now _ c.deref_mut.result.now c.push_next.new.readers c.push_next.new.left g.T.TextOutput.holds (text_by c.args.layout.now) c.args.out.now c.push_next.new.out c.in-Ok.some rows
     c.if-self.false c.deref_mut.ensures.value (sym v) refl (c.in-Ok.ensures.only rows) stood
 
 pub returns-in-Err-clause-first : goal.returns-in-Err-clause-first
-returns-in-Err-clause-first c = λ e.
+returns-in-Err-clause-first g c = λ e.
     let s = shape c.args.self.now.tree.now in
     let met = c.in-Err.ensures.fault (λ o. let k = sym e ∙ o in cc) in
     absurd (never_failed s c.deref_mut.result.now met.0 c.args.self.now.left (subst (CellsMeet s c.deref_mut.result.now met.0 c.args.self.now.left) e met.1))
