@@ -25,7 +25,7 @@ use Rattle.orc_cli_output.specs.Output.{write_failed, AppendsPart, IsWantOfMemor
 use Rattle.orc_cli_output.specs.declared.fault.CliFault.{CliFault}
 use Rattle.orc_cli_output.proofs.OutputLemmas.{appends_more}
 use Rattle.orc_cli_rows.specs.Rows.{AreOfStripe}
-use Rattle.orc_cli_rows.specs.Pieces.{text_lines, mark, IsSent, IsGiven, IsPrinted, HasNoLines, EndsWithin}
+use Rattle.orc_cli_rows.specs.Pieces.{text_lines, spelled_start, IsSent, IsGiven, IsPrinted, HasNoLines, EndsWithin}
 use Rattle.orc_cli_rows.proofs.CursorLemmas.{lines_of_rows}
 use Rattle.orc_cli_rows.proofs.RowsLemmas.{appends_none}
 
@@ -113,15 +113,15 @@ sent_part start now bytes false is h = absurd (cc)
 
 -- ---- behind what the device had at the start
 
-pub given_new : (name : ℕ) (now : Option (List ℕ)) (waiting : List ℕ) → waiting ≡ [] → IsGiven name now waiting false (mark name now)
-given_new name now waiting none = record { start = now; text = []; bytes_are = sym (append-nil (mark name now)); sent = sent_first now waiting none }
+pub given_new : (name : ℕ) (now : Option (List ℕ)) (waiting : List ℕ) → waiting ≡ [] → IsGiven name now waiting false (spelled_start name now)
+given_new name now waiting none = record { start = now; text = []; bytes_are = sym (append-nil (spelled_start name now)); sent = sent_first now waiting none }
 
 pub given_more : (name : ℕ) (now next : Option (List ℕ)) (old new : List ℕ) (was failed : Bool) (bytes more : List ℕ) → ((start : Option (List ℕ)) (text : List ℕ) → IsSent start now old was text → IsSent start next new failed (text ++ more))
     → IsGiven name now old was bytes → IsGiven name next new failed (bytes ++ more)
 given_more name now next old new was failed bytes more sent h = record {
   start = h.start;
   text = h.text ++ more;
-  bytes_are = ap (λ (t : List ℕ). t ++ more) h.bytes_are ∙ append_assoc (mark name h.start) h.text more;
+  bytes_are = ap (λ (t : List ℕ). t ++ more) h.bytes_are ∙ append_assoc (spelled_start name h.start) h.text more;
   sent = sent h.start h.text h.sent;
 }
 
@@ -135,23 +135,23 @@ given_waits name now old new more failed bytes is h = given_more name now now ol
 pub given_dropped : (name : ℕ) (now : Option (List ℕ)) (waiting bytes more : List ℕ) (failed : Bool) → failed ≡ true → IsGiven name now waiting failed bytes → IsGiven name now waiting failed (bytes ++ more)
 given_dropped name now waiting bytes more failed is h = given_more name now now waiting waiting failed failed bytes more (λ start text s. sent_dropped start now waiting waiting text more failed is s) h
 
--- behind marks that begin alike stands one text
-behind_mark : (m n : ℕ) (a b : Option (List ℕ)) (s t : List ℕ) → mark m a ++ s ≡ mark n b ++ t → (m ≡ n) × (a ≡ b) × (s ≡ t)
-behind_mark m n None None s t e = (ap (λ (l : List ℕ). get_or l 0 0) e, refl, ap (drop 2) e)
-behind_mark m n None (Some y) s t e = absurd (let k = ap (λ (l : List ℕ). get_or l 1 0) e in cc)
-behind_mark m n (Some x) None s t e = absurd (let k = ap (λ (l : List ℕ). get_or l 1 0) e in cc)
-behind_mark m n (Some x) (Some y) s t e =
+-- what stands behind one start is one text
+behind_start : (m n : ℕ) (a b : Option (List ℕ)) (s t : List ℕ) → spelled_start m a ++ s ≡ spelled_start n b ++ t → (m ≡ n) × (a ≡ b) × (s ≡ t)
+behind_start m n None None s t e = (ap (λ (l : List ℕ). get_or l 0 0) e, refl, ap (drop 2) e)
+behind_start m n None (Some y) s t e = absurd (let k = ap (λ (l : List ℕ). get_or l 1 0) e in cc)
+behind_start m n (Some x) None s t e = absurd (let k = ap (λ (l : List ℕ). get_or l 1 0) e in cc)
+behind_start m n (Some x) (Some y) s t e =
     let long : length x ≡ length y = (let k = ap (λ (l : List ℕ). get_or l 1 0) e in omega (arith, k)) in
     let rest : x ++ s ≡ y ++ t = ap (drop 2) e in
     let front : x ≡ y = sym (take-append_seam x s) ∙ ap (take (length x)) rest ∙ ap (λ (k : ℕ). take k (y ++ t)) long ∙ take-append_seam y t in
     let back : s ≡ t = sym (drop-append_seam x s) ∙ ap (drop (length x)) rest ∙ ap (λ (k : ℕ). drop k (y ++ t)) long ∙ drop-append_seam y t in
     (ap (λ (l : List ℕ). get_or l 0 0) e, ap (λ (l : List ℕ). Some l) front, back)
 
--- the device is the one that was marked, and the text is what was put behind
-pub given_sent : (name other : ℕ) (start now : Option (List ℕ)) (waiting : List ℕ) (failed : Bool) (text : List ℕ) → IsGiven other now waiting failed (mark name start ++ text)
+-- the device is the one that was there at the start, and the text is what was put behind
+pub given_sent : (name other : ℕ) (start now : Option (List ℕ)) (waiting : List ℕ) (failed : Bool) (text : List ℕ) → IsGiven other now waiting failed (spelled_start name start ++ text)
     → (name ≡ other) × IsSent start now waiting failed text
 given_sent name other start now waiting failed text h =
-    let same = behind_mark name other start h.start text h.text h.bytes_are in
+    let same = behind_start name other start h.start text h.text h.bytes_are in
     (same.0, subst (λ (o : Option (List ℕ)). IsSent o now waiting failed text) (sym same.1) (subst (λ (t : List ℕ). IsSent h.start now waiting failed t) (sym same.2) h.sent))
 
 -- ---- a stripe

@@ -39,17 +39,18 @@ abbrev pub IsSent : Option (List ℕ) → Option (List ℕ) → List ℕ → Boo
 IsSent start now waiting false bytes = (sent : List ℕ) × Appends start now sent × (bytes ≡ sent ++ waiting)
 IsSent start now waiting true bytes = AppendsPart start now bytes
 
--- What stands in front of the text that a device is given, since an output's laws know one list: which device it is, how
--- much it had at the start, if that is known, and this.
-abbrev pub mark : ℕ → Option (List ℕ) → List ℕ
-mark name None = name ∷ 0 ∷ []
-mark name (Some bytes) = name ∷ suc (length bytes) ∷ bytes
+-- How it stood with a device before it got text, spelled in front of that text, as an output's clauses know one list of
+-- bytes alone: the device's name, then 0 where it doesn't tell its bytes, else one more than their number and they.
+abbrev pub spelled_start : ℕ → Option (List ℕ) → List ℕ
+spelled_start name None = name ∷ 0 ∷ []
+spelled_start name (Some bytes) = name ∷ suc (length bytes) ∷ bytes
 
--- a device of this name is given the text behind the mark, and all of it is sent but what waits, or a part where it failed
+-- a device of this name gets the text that stands behind its start, and all of it is sent but what waits, or a part where it
+-- failed
 pub record IsGiven (name : ℕ) (now : Option (List ℕ)) (waiting : List ℕ) (failed : Bool) (bytes : List ℕ) : Type 0 where
   pub start : Option (List ℕ)
   pub text : List ℕ
-  pub bytes_are : bytes ≡ mark name start ++ text
+  pub bytes_are : bytes ≡ spelled_start name start ++ text
   pub sent : IsSent start now waiting failed text
 
 -- the lines of a stripe with these bytes are out

@@ -57,7 +57,8 @@ pub(crate) fn lines_of(
     Ok(lines)
 }
 
-/// Puts the lines of the rows that a cursor has still to give, as they are read.
+/// Puts the lines of the rows that a cursor has still to give, as they are read. Once a device has failed, the rows behind
+/// are not read, as what is put is dropped.
 ///
 /// Refusals: those of `RowCursor::push_next`.
 pub(crate) fn put_lines<T: TextOutput>(

@@ -1,7 +1,7 @@
 //! Text that goes out in pieces.
 ghost use Rattle.std.specs.Prelude.{◌≡◌, List, ℕ, [], false};
 ghost use Rattle.orc_json.specs.Outputs.{Puts};
-ghost use Rattle.orc_cli_rows.specs.Pieces.{mark, IsGiven};
+ghost use Rattle.orc_cli_rows.specs.Pieces.{spelled_start, IsGiven};
 
 use arrayvec::ArrayVec;
 use orc_cli_output::write_out;
@@ -24,7 +24,7 @@ pub(crate) struct Pieces<'a, W: Write> {
 impl<'a, W: Write> Pieces<'a, W> {
     /// A device that is to get text.
     pub(crate) fn new(out: &'a mut W) -> Pieces<'a, W>
-        ensures { ⟦<Pieces<'a, W> as TextOutput>⟧.holds result (mark out.entry.ghost_name (W.contents out.old)) }
+        ensures { ⟦<Pieces<'a, W> as TextOutput>⟧.holds result (spelled_start out.entry.ghost_name (W.contents out.old)) }
     {
         Pieces {
             out,
