@@ -29,7 +29,7 @@ all-front P (x ∷ a) b h = let k = all-front P a b h.1 in ((h.0, k.0), k.1)
 null_fits : (s : Shape) → fits null s ≡ true
 null_fits s = refl
 
-fits_of_values : (s : Shape) (cs : List Cell) → RowsFit s (values cs) → RowsFit s cs
+pub fits_of_values : (s : Shape) (cs : List Cell) → RowsFit s (values cs) → RowsFit s cs
 fits_of_values s [] h = tt
 fits_of_values s (null ∷ cs) h = (null_fits s, fits_of_values s cs h)
 fits_of_values s (leaf x ∷ cs) h = (h.0, fits_of_values s cs h.1)
@@ -45,13 +45,13 @@ values_fit s (list x ∷ cs) h = (h.0, values_fit s cs h.1)
 values_fit s (struct x ∷ cs) h = (h.0, values_fit s cs h.1)
 values_fit s (pairs x ∷ cs) h = (h.0, values_fit s cs h.1)
 
-standing_fits : {X : Type 0} (stands : X → Cell → Type 0) (s : Shape) → ((x : X) (v : Cell) → stands x v → fits v s ≡ true) → (xs : List X) (vs : List Cell) → AllZip stands xs vs → RowsFit s vs
+pub standing_fits : {X : Type 0} (stands : X → Cell → Type 0) (s : Shape) → ((x : X) (v : Cell) → stands x v → fits v s ≡ true) → (xs : List X) (vs : List Cell) → AllZip stands xs vs → RowsFit s vs
 standing_fits stands s one [] [] h = tt
 standing_fits stands s one [] (v ∷ vs) h = absurd h
 standing_fits stands s one (x ∷ xs) [] h = absurd h
 standing_fits stands s one (x ∷ xs) (v ∷ vs) h = (one x v h.0, standing_fits stands s one xs vs h.1)
 
-int_value : (k : Scalar) (o : List ℕ) (n : ℤ) (v : Cell) → IsInt k n v → fits v (scalar k o) ≡ true
+pub int_value : (k : Scalar) (o : List ℕ) (n : ℤ) (v : Cell) → IsInt k n v → fits v (scalar k o) ≡ true
 int_value k o n v h = ap (λ c. fits c (scalar k o)) h.1 ∙ h.0
 
 pub byte_fits : (b : ℕ) → b < 256 → int_fits kind.Byte (signed_byte b) ≡ true
@@ -61,23 +61,23 @@ byte_fits b h =
       | inr ge ↦ rw (le-ltb b 128 ge) (lt-ltb (255 - b) (2 ^ 7) (omega (arith, h, ge)))
     ]
 
-byte_value : (o : List ℕ) (b : ℕ) (v : Cell) → IsByte b v → fits v (scalar kind.Byte o) ≡ true
+pub byte_value : (o : List ℕ) (b : ℕ) (v : Cell) → IsByte b v → fits v (scalar kind.Byte o) ≡ true
 byte_value o b v h = ap (λ c. fits c (scalar kind.Byte o)) h.1 ∙ byte_fits b h.0
 
-date_value : (o : List ℕ) (n : ℤ) (v : Cell) → IsDate n v → fits v (scalar kind.Date o) ≡ true
+pub date_value : (o : List ℕ) (n : ℤ) (v : Cell) → IsDate n v → fits v (scalar kind.Date o) ≡ true
 date_value o n v h = ap (λ c. fits c (scalar kind.Date o)) h.1 ∙ h.0
 
-text_value : (o : List ℕ) (bs : List ℕ) (v : Cell) → IsText bs v → fits v (scalar kind.String o) ≡ true
+pub text_value : (o : List ℕ) (bs : List ℕ) (v : Cell) → IsText bs v → fits v (scalar kind.String o) ≡ true
 text_value o bs v h = ap (λ c. fits c (scalar kind.String o)) h.1 ∙ h.0
 
-word_value : (entries : List (List ℕ)) (o : List ℕ) (n : ℤ) (v : Cell) → IsEntry entries n v → fits v (scalar kind.String o) ≡ true
+pub word_value : (entries : List (List ℕ)) (o : List ℕ) (n : ℤ) (v : Cell) → IsEntry entries n v → fits v (scalar kind.String o) ≡ true
 word_value entries o (pos i) v h = text_value o h.0 v h.2
 word_value entries o (negsuc i) v h = absurd h
 
-binary_value : (o : List ℕ) (bs : List ℕ) (v : Cell) → IsBinary bs v → fits v (scalar kind.Binary o) ≡ true
+pub binary_value : (o : List ℕ) (bs : List ℕ) (v : Cell) → IsBinary bs v → fits v (scalar kind.Binary o) ≡ true
 binary_value o bs v h = ap (λ c. fits c (scalar kind.Binary o)) h.1 ∙ h.0
 
-bool_value : (o : List ℕ) (b : Bool) (v : Cell) → IsBool b v → fits v (scalar kind.Boolean o) ≡ true
+pub bool_value : (o : List ℕ) (b : Bool) (v : Cell) → IsBool b v → fits v (scalar kind.Boolean o) ≡ true
 bool_value o b v h = ap (λ c. fits c (scalar kind.Boolean o)) h
 
 texts_fit : (o : List ℕ) (x : Streams) (dictionary : Bool) (vs : List Cell) → SpellsTexts x dictionary vs → RowsFit (scalar kind.String o) vs
@@ -110,7 +110,7 @@ pub record Lists (s : Shape) (o : List ℕ) (byte_strings : List (List Cell)) (v
   pub elements : flat_map parts vs ≡ joined byte_strings
   pub sizes : map (λ v. size (parts v)) vs ≡ map size byte_strings
 
-lists_of : (s : Shape) (o : List ℕ) (byte_strings : List (List Cell)) (vs : List Cell) → AllZip IsList byte_strings vs → RowsFit s (joined byte_strings) → Lists s o byte_strings vs
+pub lists_of : (s : Shape) (o : List ℕ) (byte_strings : List (List Cell)) (vs : List Cell) → AllZip IsList byte_strings vs → RowsFit s (joined byte_strings) → Lists s o byte_strings vs
 lists_of s o [] [] h f = record { fit = tt; elements = refl; sizes = refl }
 lists_of s o [] (v ∷ vs) h f = absurd h
 lists_of s o (g ∷ byte_strings) [] h f = absurd h
@@ -149,10 +149,10 @@ map_sizes (v ∷ vs) = ap (λ t. size (parts v) ∷ t) (map_sizes vs)
 
 -- ---- maps
 
-abbrev first_of : Cell × Cell → Cell
+abbrev pub first_of : Cell × Cell → Cell
 first_of p = p.0
 
-abbrev second_of : Cell × Cell → Cell
+abbrev pub second_of : Cell × Cell → Cell
 second_of p = p.1
 
 pairs_fit_of : (k v : Shape) (ps : List (Cell × Cell)) → RowsFit k (map first_of ps) → RowsFit v (map second_of ps) → pairs_fit (pairs_of ps) k v ≡ true
@@ -160,13 +160,13 @@ pairs_fit_of k v [] h f = refl
 pairs_fit_of k v (p ∷ ps) h f = rw (h.0, f.0, pairs_fit_of k v ps h.1 f.1) refl
 
 -- maps, their keys and values joined, and how many pairs they have
-record Maps (k v : Shape) (o : List ℕ) (byte_strings : List (List (Cell × Cell))) (vs : List Cell) : Type 0 where
-  fit : RowsFit (map_of k v o) vs
-  keys : flat_map keys_in vs ≡ map first_of (joined byte_strings)
-  seconds : flat_map values_in vs ≡ map second_of (joined byte_strings)
-  sizes : map (λ m. size (pairs_in m)) vs ≡ map size byte_strings
+pub record Maps (k v : Shape) (o : List ℕ) (byte_strings : List (List (Cell × Cell))) (vs : List Cell) : Type 0 where
+  pub fit : RowsFit (map_of k v o) vs
+  pub keys : flat_map keys_in vs ≡ map first_of (joined byte_strings)
+  pub seconds : flat_map values_in vs ≡ map second_of (joined byte_strings)
+  pub sizes : map (λ m. size (pairs_in m)) vs ≡ map size byte_strings
 
-maps_of : (k v : Shape) (o : List ℕ) (byte_strings : List (List (Cell × Cell))) (vs : List Cell) → AllZip IsMap byte_strings vs → RowsFit k (map first_of (joined byte_strings)) → RowsFit v (map second_of (joined byte_strings)) → Maps k v o byte_strings vs
+pub maps_of : (k v : Shape) (o : List ℕ) (byte_strings : List (List (Cell × Cell))) (vs : List Cell) → AllZip IsMap byte_strings vs → RowsFit k (map first_of (joined byte_strings)) → RowsFit v (map second_of (joined byte_strings)) → Maps k v o byte_strings vs
 maps_of k v o [] [] h f e = record { fit = tt; keys = refl; seconds = refl; sizes = refl }
 maps_of k v o [] (c ∷ vs) h f e = absurd h
 maps_of k v o (g ∷ byte_strings) [] h f e = absurd h
@@ -226,16 +226,16 @@ tails_zip [] (f ∷ t) l = absurd (omega (arith, l))
 tails_zip (c ∷ h) [] l = absurd (omega (arith, l))
 tails_zip (c ∷ h) (f ∷ t) l = ap (λ z. f ∷ z) (tails_zip h t (omega (arith, l)))
 
-zip_fit : (name : List ℕ) (s : Shape) (fs : Fields) (h : List Cell) (t : List (List Cell)) → length h ≡ length t → RowsFit s h → FieldsFit fs t → FieldsFit (field name s fs) (zip_cons h t)
+pub zip_fit : (name : List ℕ) (s : Shape) (fs : Fields) (h : List Cell) (t : List (List Cell)) → length h ≡ length t → RowsFit s h → FieldsFit fs t → FieldsFit (field name s fs) (zip_cons h t)
 zip_fit name s fs [] t l p q = tt
 zip_fit name s fs (c ∷ h) [] l p q = absurd (omega (arith, l))
 zip_fit name s fs (c ∷ h) (f ∷ t) l p q = (rw (p.0, q.0) refl, zip_fit name s fs h t (omega (arith, l)) p.1 q.1)
 
-record Records (fs : Fields) (o : List ℕ) (structs : List (List Cell)) (vs : List Cell) : Type 0 where
-  fit : RowsFit (struct_of fs o) vs
-  are : map parts vs ≡ structs
+pub record Records (fs : Fields) (o : List ℕ) (structs : List (List Cell)) (vs : List Cell) : Type 0 where
+  pub fit : RowsFit (struct_of fs o) vs
+  pub are : map parts vs ≡ structs
 
-records_of : (fs : Fields) (o : List ℕ) (structs : List (List Cell)) (vs : List Cell) → AllZip IsRecord structs vs → FieldsFit fs structs → Records fs o structs vs
+pub records_of : (fs : Fields) (o : List ℕ) (structs : List (List Cell)) (vs : List Cell) → AllZip IsRecord structs vs → FieldsFit fs structs → Records fs o structs vs
 records_of fs o [] [] h f = record { fit = tt; are = refl }
 records_of fs o [] (v ∷ vs) h f = absurd h
 records_of fs o (g ∷ structs) [] h f = absurd h
@@ -266,7 +266,7 @@ values_few (list x ∷ cs) = omega (arith, values_few cs)
 values_few (struct x ∷ cs) = omega (arith, values_few cs)
 values_few (pairs x ∷ cs) = omega (arith, values_few cs)
 
-empties_fit : (structs : List (List Cell)) → AllByRecursion (λ cs. cs ≡ []) structs → FieldsFit no_field structs
+pub empties_fit : (structs : List (List Cell)) → AllByRecursion (λ cs. cs ≡ []) structs → FieldsFit no_field structs
 empties_fit [] h = tt
 empties_fit (f ∷ structs) h = (ap (λ t. each_fits (cells_of t) no_field) h.0, empties_fit structs h.1)
 

@@ -6,6 +6,7 @@ pub mod NumbersLemmas
 pub mod BitsLemmas
 pub mod ReaderLemmas
 pub mod OneRows
+pub mod OneLeft
 pub mod StartLemmas
 pub mod Started
 pub mod Sizes
@@ -21,5 +22,6 @@ pub mod NeverFailed
 pub mod DirectoryLemmas
 pub mod LocatedLemmas
 pub mod ByNumber
+pub mod LeftFits
 pub mod OwnKinds
 pub mod TextLemmas

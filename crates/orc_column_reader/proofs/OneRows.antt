@@ -34,36 +34,36 @@ one_marks : (bytes : List ℕ) → One (Marks bytes)
 one_marks [] a b p q l = p ∙ (rw l refl ∙ sym q)
 one_marks (x ∷ bytes) a b p q l = one_bit_stream (x ∷ bytes) a b l p q
 
-one_nullable : (marks : List Bool → Type 0) (found : List Cell → Type 0) → One marks → One found → One (Nullable marks found)
+pub one_nullable : (marks : List Bool → Type 0) (found : List Cell → Type 0) → One marks → One found → One (Nullable marks found)
 one_nullable marks found m f a b p q l =
     let e = m (map is_value a) (map is_value b) p.0 q.0 (length-map a is_value ∙ l ∙ sym (length-map b is_value)) in
     same_cells a b e (f (values a) (values b) p.1 q.1 (length-values a ∙ ap trues e ∙ sym (length-values b)))
 
-one_standings : {X : Type 0} (stands : X → Cell → Type 0) (spelled : List X → Type 0) → ((x : X) (y z : Cell) → stands x y → stands x z → y ≡ z) → One spelled → One (Standing stands spelled)
+pub one_standings : {X : Type 0} (stands : X → Cell → Type 0) (spelled : List X → Type 0) → ((x : X) (y z : Cell) → stands x y → stands x z → y ≡ z) → One spelled → One (Standing stands spelled)
 one_standings stands spelled f one a b p q l =
     let e = one p.0 q.0 p.2 q.2 (stand_length stands p.0 a p.1 ∙ l ∙ sym (stand_length stands q.0 b q.1)) in
     one_standing stands f q.0 a b (subst (λ t. AllZip stands t a) e p.1) q.1
 
-one_grouped : {X : Type 0} (sizes : List ℤ → Type 0) (elements : List X → Type 0) → One sizes → One elements → One (Sized sizes elements)
+pub one_grouped : {X : Type 0} (sizes : List ℤ → Type 0) (elements : List X → Type 0) → One sizes → One elements → One (Sized sizes elements)
 one_grouped sizes elements s f a b p q l =
     let e = s (map size a) (map size b) p.0 q.0 (length-map a size ∙ l ∙ sym (length-map b size)) in
     let j = f (joined a) (joined b) p.1 q.1 (joined_length a b e) in
     (same_groups a b [] [] e (append-nil (joined a) ∙ j ∙ sym (append-nil (joined b)))).0
 
-one_fielded : {X : Type 0} (first : List X → Type 0) (others : List (List X) → Type 0) → One first → One others → ((h : List X) (t : List (List X)) → length h ≡ length t → length (zip_cons h t) ≡ length h) → One (Fielded first others)
+pub one_fielded : {X : Type 0} (first : List X → Type 0) (others : List (List X) → Type 0) → One first → One others → ((h : List X) (t : List (List X)) → length h ≡ length t → length (zip_cons h t) ≡ length h) → One (Fielded first others)
 one_fielded first others f o z a b p q l =
     let n = sym (z p.heads p.tails p.alike) ∙ sym (ap length p.parts) ∙ l ∙ ap length q.parts ∙ z q.heads q.tails q.alike in
     let h = f p.heads q.heads p.first_spelled q.first_spelled n in
     let t = o p.tails q.tails p.others_spelled q.others_spelled (sym p.alike ∙ n ∙ q.alike) in
     p.parts ∙ ap (λ s. zip_cons s p.tails) h ∙ ap (λ s. zip_cons q.heads s) t ∙ sym q.parts
 
-one_paired : {X Y : Type 0} (first : List X → Type 0) (second : List Y → Type 0) → One first → One second → One (Paired first second)
+pub one_paired : {X Y : Type 0} (first : List X → Type 0) (second : List Y → Type 0) → One first → One second → One (Paired first second)
 one_paired {X = X} {Y = Y} first second f g a b p q l =
     let h : X × Y → X = λ t. t.0 in
     let k : X × Y → Y = λ t. t.1 in
     same_pairs a b (f (map h a) (map h b) p.0 q.0 (length-map a h ∙ l ∙ sym (length-map b h))) (g (map k a) (map k b) p.1 q.1 (length-map a k ∙ l ∙ sym (length-map b k)))
 
-one_within : {X : Type 0} (room : ℕ) (elements : List X → Type 0) → One elements → One (Within room elements)
+pub one_within : {X : Type 0} (room : ℕ) (elements : List X → Type 0) → One elements → One (Within room elements)
 one_within room elements one a b p q l = one a b p.1 q.1 l
 
 one_is : (bytes : List ℕ) → One (Is bytes)
@@ -100,7 +100,7 @@ one_scalar kind.Date x = one_standings IsDate (AreNumbers (version x) Signed (x.
 one_scalar kind.Binary x = one_standings IsBinary (Sized (AreNumbers (version x) Unsigned (x.stream 2)) (Is (x.stream 1))) one_binary (one_groups x (x.stream 2) (x.stream 1))
 one_scalar kind.String x = one_texts x (has_dictionary x)
 
-one_empty : One {X = List Cell} (λ structs. AllByRecursion (λ cells. cells ≡ []) structs)
+pub one_empty : One {X = List Cell} (λ structs. AllByRecursion (λ cells. cells ≡ []) structs)
 one_empty [] [] p q l = refl
 one_empty [] (b ∷ bs) p q l = absurd (omega (arith, l))
 one_empty (a ∷ rest) [] p q l = absurd (omega (arith, l))

@@ -6,6 +6,7 @@ mod SomeValues
 mod OwnLemmas
 mod ColumnTurned
 mod ByColumn
+pub mod SameLeft
 mod AllColumns
 pub mod OnlyMemory
 mod Refused

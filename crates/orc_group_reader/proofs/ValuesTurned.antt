@@ -97,7 +97,7 @@ drop_exact : (a b : List ℕ) → drop (length a) (a ++ b) ≡ b
 drop_exact [] b = refl
 drop_exact (x ∷ a) b = drop_exact a b
 
-rest_of : (own : Entered) (rest : List ℕ) (source : ValueSource) → IsSource own rest source → source.octets.rest.now ≡ rest
+pub rest_of : (own : Entered) (rest : List ℕ) (source : ValueSource) → IsSource own rest source → source.octets.rest.now ≡ rest
 rest_of entered.Nothing rest source h = h
 rest_of (entered.Bits r) rest source h = h.1
 rest_of (entered.Bytes r) rest source h = h.1

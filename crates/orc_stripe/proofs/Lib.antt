@@ -8,5 +8,6 @@ mod ColumnsDown
 mod IndexFaults
 mod GroupTurned
 mod GroupStarts
+pub mod SpelledBehind
 mod FaultsBehind
 mod CursorTexts

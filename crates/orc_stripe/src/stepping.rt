@@ -40,6 +40,7 @@ impl<'a> RowCursor<'a> {
         ensures failed { HasRefused self.old → result ≡ Err Failed }
         ensures first { IfErr result (λ fault. fault ≡ Failed → HasRefused self.old) }
         ensures after { OnErr result (HasRefused self.new) }
+        ensures going { OnOk result (IsGoing self.new) }
     {
         if self.failed {
             return Err(StripeFault::Failed);
@@ -119,6 +120,7 @@ impl<'a> RowCursor<'a> {
         ensures failed { HasRefused self.old → result ≡ Err Failed }
         ensures first { IfErr result (λ fault. fault ≡ Failed → HasRefused self.old) }
         ensures after { OnErr result (HasRefused self.new) }
+        ensures going { OnOk result (IsGoing self.new) }
     {
         if self.failed {
             return Err(StripeFault::Failed);

@@ -6,7 +6,7 @@ ghost use Rattle.orc_wire.specs.declared.row_index.RowIndexEntry.{RowIndexEntry 
 ghost use Rattle.orc_column_reader.specs.Stripe.{Streams};
 ghost use Rattle.orc_column_reader.specs.declared.fault.StripeFault.{StripeFault as Fault};
 ghost use Rattle.orc_column_reader.specs.declared.fault.StripeFault.TheVariants.{OutOfMemory};
-ghost use Rattle.orc_stripe.specs.Cursors.{IsGoing, StandsFor, MeetsFault};
+ghost use Rattle.orc_stripe.specs.Cursors.{row_type, IsGoing, StandsFor, MeetsFault};
 ghost use Rattle.orc_stripe.specs.GroupCursors.{HasGroup, HasEntries, IsGroupEntry, EntryFault, EntriesFault, GroupFault, StartsGroup, IsEntered, SpellsFrom, MeetsFrom};
 
 use crate::cursor::RowCursor;
@@ -108,6 +108,11 @@ impl<'a> StripeView<'a> {
         // has from the group on.
         ensures found { IfOk result (λ cursor. (rows : List Cell) → StandsFor cursor rows
             → SpellsFrom self.now group rows) }
+        // Where rows stand behind these positions, it stands for them.
+        ensures stands { IfOk result (λ cursor. (rows : List Cell) → SpellsFrom self.now group rows
+            → StandsFor cursor rows) }
+        // Its rows are of the schema.
+        ensures of_type { IfOk result (λ cursor. row_type cursor ≡ self.now.schema) }
         // What it refuses later is a fault of the streams from these positions on.
         ensures meets { IfOk result (λ cursor. (f : Fault) → MeetsFault cursor f → MeetsFrom self.now group f) }
         // A refusal but want of memory stands: the stripe hasn't the group, a column hasn't its

@@ -1,5 +1,6 @@
 use Rattle.orc_stripe.proofs.GroupStarts.{starts_itself, right_entry}
 use Rattle.orc_stripe.proofs.FaultsBehind.{fault_behind}
+use Rattle.orc_stripe.proofs.SpelledBehind.{one_behind, fits_behind}
 use Rattle.orc_stripe.proofs.laws.group_laws.Goals as goal
 
 pub returns-clause-starts : goal.returns-clause-starts
@@ -10,3 +11,9 @@ returns-clause-right c = right_entry
 
 pub returns-clause-faults : goal.returns-clause-faults
 returns-clause-faults c = λ view before group f leads met. fault_behind view before group f leads met
+
+pub returns-clause-one_list : goal.returns-clause-one_list
+returns-clause-one_list c = one_behind
+
+pub returns-clause-fit : goal.returns-clause-fit
+returns-clause-fit c = fits_behind

@@ -6,11 +6,12 @@ use Rattle.orc_column_reader.specs.Columns.{CellsLeft}
 use Rattle.orc_column_reader.specs.ReaderFaults.{CellsMeet}
 use Rattle.orc_column_reader.specs.Stripe.{columns_of}
 use Rattle.orc_group_reader.specs.Rows.{RowsTurn}
-use Rattle.orc_stripe.specs.GroupCursors.{HasGroup, GroupRefused, EntersGroup}
+use Rattle.orc_stripe.specs.GroupCursors.{HasGroup, GroupRefused, EntersGroup, SpellsFrom}
 use Rattle.orc_stripe.specs.Opened.{Opened}
 use Rattle.orc_stripe.proofs.GroupTurned.{group_turns, all_there, group_refused, enters_group}
 use Rattle.orc_stripe.proofs.Opened.{footer_room, footer_columns}
 use Rattle.orc_stripe.proofs.RowsLemmas.{rows_too_many}
+use Rattle.orc_stripe.proofs.SpelledBehind.{gives_behind}
 use Rattle.orc_stripe.proofs.view.StripeView.cursor_at.Goals as goal
 
 pub returns-then-count-ge-CELL_LIMIT-clause-starts : goal.returns-then-count-ge-CELL_LIMIT-clause-starts
@@ -105,6 +106,21 @@ returns-in-Ok-readers_at-clause-found c = λ rows stands.
       counted = omega (arith, stands.counted, c.in-Some.ensures, c.if-first-count.false);
       spelled = subst (λ (s : Shape). CellsLeft s c.in-Ok-readers_at.readers.items rows) c.tree-tree.ensures.same stands.spelled;
     })
+
+pub returns-in-Ok-readers_at-clause-stands : goal.returns-in-Ok-readers_at-clause-stands
+returns-in-Ok-readers_at-clause-stands c = λ rows h.
+    let v = c.self.inside in
+    let view : Opened = record { schema = v.schema.now; info = v.info; stride = v.stride; bytes = v.bytes.now; footer = v.footer } in
+    let of_group = rw (← c.self.view_is) at c.in-Ok.ensures.found in
+    let counted = rw (← c.self.view_is) at c.in-Ok.ensures.counted in
+    let enters : EntersGroup view c.args.group c.in-Ok-readers_at.readers.items = enters_group view c.args.group (shape c.tree-tree.result.now) c.in_ok-located.located.bytes.now c.deref.result.now c.in-Ok.entries.items
+    c.in-Ok-readers_at.readers.items c.tree-tree.ensures.same c.in_ok-located.ensures.same c.deref.ensures.value counted of_group c.in-Ok-readers_at.ensures.at in
+    let behind : SpellsFrom view c.args.group rows = rw (← c.self.view_is) at h in
+    record {
+      going = refl;
+      counted = omega (arith, behind.counted, c.in-Some.ensures);
+      spelled = subst (λ (s : Shape). CellsLeft s c.in-Ok-readers_at.readers.items rows) (sym c.tree-tree.ensures.same) (gives_behind view c.args.group rows c.in-Ok-readers_at.readers.items enters behind);
+    }
 
 pub returns-in-Ok-readers_at-clause-meets : goal.returns-in-Ok-readers_at-clause-meets
 returns-in-Ok-readers_at-clause-meets c = λ f met.
