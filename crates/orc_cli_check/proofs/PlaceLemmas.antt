@@ -68,7 +68,7 @@ module _ (bytes : List ℕ) (tail : Tail) (rows : List Cell) (is : FileIs bytes 
   -- the rows that are read from the group on are the stripe's
   from_group : (n group : ℕ) (read : List Cell) → n < length tail.stripes → AreFromGroup tail n (stripe_bytes (stripe_at tail.stripes n) bytes) group read → read ≡ drop (group * tail.stride) (rows_at parts n)
   from_group n group read lt h =
-      h.rows_are (columns_of h.footer (stripe_bytes (stripe_at tail.stripes n) bytes)) (rows_at parts n) (starts n lt h.footer h.has_footer group h.has_group)
+      h.are.rows_are (columns_of h.footer (stripe_bytes (stripe_at tail.stripes n) bytes)) (rows_at parts n) (starts n lt h.footer h.has_footer group h.are.has_group)
 
   later_rows : (n : ℕ) (read : List Cell) → HasRows tail.schema bytes (drop (n + 1) tail.stripes) read → read ≡ joined (drop (n + 1) parts)
   later_rows n read h =
@@ -81,7 +81,7 @@ module _ (bytes : List ℕ) (tail : Tail) (rows : List Cell) (is : FileIs bytes 
       let first : own.rows ≡ drop (group * tail.stride) (rows_at parts n) = from_group n group own.rows h.there own.are in
       let rest : h.of_later.rows ≡ joined (drop (n + 1) parts) = later_rows n h.of_later.rows h.of_later.has_rows in
       let counted : length (rows_at parts n) ≡ (stripe_at tail.stripes n).number_of_rows = (let stripe = stripe_is bytes tail rows is n h.there in stripe.spelled.counted) in
-      let inner : group * tail.stride ≤ length (rows_at parts n) = (let begun = own.are.has_group.there in omega (arith, begun, counted)) in
+      let inner : group * tail.stride ≤ length (rows_at parts n) = (let begun = own.are.are.has_group.there in omega (arith, begun, counted)) in
       let all : own.rows ++ h.of_later.rows ≡ drop (rows_before tail n group) rows =
       (λ i. first i ++ rest i) ∙ sym (rows_behind tail.schema bytes tail.stripes parts n (group * tail.stride) h.there of_stripes inner) ∙ ap (drop (rows_before tail n group)) whole in
       h.lines_are ∙ (λ i. own.lines_are i ++ h.of_later.lines_are i) ∙ sym (flat_map-append (row_line tail.schema) own.rows h.of_later.rows) ∙ ap (row_lines tail.schema) all

@@ -6,32 +6,24 @@ use Rattle.orc_values.specs.Shapes.{Shape}
 use Rattle.orc_values.specs.Fits.{RowsFit}
 use Rattle.orc_json.specs.Texts.{Prints}
 use Rattle.orc_column_text.specs.Taken.{GaveText, GivesText}
-use Rattle.orc_stripe.specs.Cursors.{StandsFor}
+use Rattle.orc_stripe.specs.Cursors.{IsGoing, HasRefused, StandsFor}
 use Rattle.orc_stripe.specs.declared.cursor.RowCursor.{RowCursor}
 use Rattle.orc_cli_rows.specs.Rows.{row_line, row_lines}
 use Rattle.orc_json.specs.Outputs.{Puts}
 use Rattle.orc_json.proofs.Outputs.{puts_then, puts_is, puts_none}
-use Rattle.orc_cli_rows.specs.Pieces.{text_line, text_lines, PutsAll}
+use Rattle.orc_cli_rows.specs.Pieces.{text_line, text_lines, PutsAll, PutsFront}
 
 -- lines of rows that stand behind others
 pub both_lines : (text : Cell → List ℕ) (all front rest : List Cell) → all ≡ front ++ rest → text_lines text front ++ text_lines text rest ≡ text_lines text all
 both_lines text all front rest e = sym (flat_map-append (text_line text) front rest) ∙ ap (text_lines text) (sym e)
 
 module _ {T : Type 0} (holds : T → List ℕ → Type 0) (text : Cell → List ℕ) where
-  -- of these rows the lines of the first ones are put, and the cursor stands for the others
-  pub record Given (all : List Cell) (now : RowCursor) (old out : T) : Type 0 where
-    pub front : List Cell
-    pub rest : List Cell
-    pub all_are : all ≡ front ++ rest
-    pub stands : StandsFor now rest
-    pub put : Puts holds old out (text_lines text front)
-
   -- the rows that a cursor gave so far, whose lines are put, and what it stands for behind them
   pub record Filling (start now : RowCursor) (old out : T) : Type 0 where
     pub rows : List Cell
     pub stood : (rest : List Cell) → StandsFor now rest → StandsFor start (rows ++ rest)
     pub put : Puts holds old out (text_lines text rows)
-    pub given : (all : List Cell) → StandsFor start all → Given all now old out
+    pub given : (all : List Cell) → StandsFor start all → PutsFront holds text all now old out
 
   pub filling_first : (start : RowCursor) (out : T) → Filling start start out out
   filling_first start out = record {
@@ -50,8 +42,8 @@ module _ {T : Type 0} (holds : T → List ℕ → Type 0) (text : Cell → List 
       puts_is holds old new ((all ++ text row) ++ 10 ∷ []) (text_lines text (rows ++ row ∷ []))
       (append_assoc all (text row) (10 ∷ []) ∙ ap (λ (t : List ℕ). all ++ t) (sym (append-nil (text_line text row))) ∙ sym (flat_map-append (text_line text) rows (row ∷ []))) whole
 
-  given_row : (all : List Cell) (before after : RowCursor) (old out mid new : T) (g : Given all before old out) (rest : List Cell) → g.rest ≡ rest
-      → GivesText holds rest (StandsFor after) text out mid true → Puts holds mid new (10 ∷ []) → Given all after old new
+  given_row : (all : List Cell) (before after : RowCursor) (old out mid new : T) (g : PutsFront holds text all before old out) (rest : List Cell) → g.rest ≡ rest
+      → GivesText holds rest (StandsFor after) text out mid true → Puts holds mid new (10 ∷ []) → PutsFront holds text all after old new
   given_row all before after old out mid new g [] same h end = absurd h
   given_row all before after old out mid new g (row ∷ rest) same h end = record {
     front = g.front ++ row ∷ [];
@@ -79,19 +71,19 @@ module _ {T : Type 0} (holds : T → List ℕ → Type 0) (text : Cell → List 
     put = subst (λ (t : T). Puts holds old t (text_lines text f.rows)) (sym same) f.put;
   }
 
-  given_none : (all : List Cell) (before after : RowCursor) (old out last : T) (g : Given all before old out) (rest : List Cell) → g.rest ≡ rest
+  given_none : (all : List Cell) (before after : RowCursor) (old out last : T) (g : PutsFront holds text all before old out) (rest : List Cell) → g.rest ≡ rest
       → GivesText holds rest (StandsFor after) text out last false → Puts holds old last (text_lines text all)
   given_none all before after old out last g [] same h =
       let whole = g.all_are ∙ (ap (λ (t : List Cell). g.front ++ t) same ∙ append-nil g.front) in
       subst (λ (t : List Cell). Puts holds old last (text_lines text t)) (sym whole) (subst (λ (t : T). Puts holds old t (text_lines text g.front)) (sym h.0) g.put)
   given_none all before after old out last g (row ∷ rest) same h = absurd h
 
-  pub given_all : (all : List Cell) (before after : RowCursor) (old out last : T) → Given all before old out
+  pub given_all : (all : List Cell) (before after : RowCursor) (old out last : T) → PutsFront holds text all before old out
       → ((rest : List Cell) → StandsFor before rest → GivesText holds rest (StandsFor after) text out last false) → Puts holds old last (text_lines text all)
   given_all all before after old out last g next = given_none all before after old out last g g.rest refl (next g.rest g.stands)
 
   -- on a device that has failed
-  pub given_dropped : (all : List Cell) (now : RowCursor) (old out : T) → Given all now old out → ((before more : List ℕ) → holds out before → holds out (before ++ more))
+  pub given_dropped : (all : List Cell) (now : RowCursor) (old out : T) → PutsFront holds text all now old out → ((before more : List ℕ) → holds out before → holds out (before ++ more))
       → Puts holds old out (text_lines text all)
   given_dropped all now old out g dropped = λ before h.
       let front = text_lines text g.front in
@@ -106,3 +98,9 @@ lines_of_rows text s [] prints fit = refl
 lines_of_rows text s (row ∷ rows) prints fit =
     ap (λ (t : List ℕ). (t ++ 10 ∷ []) ++ text_lines text rows) (prints row fit.0)
     ∙ ap (λ (t : List ℕ). row_line s row ++ t) (lines_of_rows text s rows prints fit.1)
+
+-- ---- refusals
+
+-- a cursor that hasn't refused yet
+pub never_refused : (cursor : RowCursor) → IsGoing cursor → HasRefused cursor → ⊥
+never_refused cursor going refused = cc

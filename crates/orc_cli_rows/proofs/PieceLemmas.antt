@@ -1,32 +1,12 @@
 -- A stripe's lines in pieces: what is out, and why no more of them.
-use Rattle.std.proofs.Common.{◌≡◌, ◌≢◌, ℕ, zero, suc, ◌+◌, ◌<◌, List, [], ◌∷◌, ◌++◌, length, take, drop, get_or, ◌⊎◌, inl, inr, Bool, true, false, Option, Some, None, Result, Ok, Err, refl, sym, ap, ◌∙◌, subst, arith, append_assoc, append-nil, length-append}
-use Rattle.std.specs.Prelude.{IfErr, OnOk, OnErr, is_ok, is_err}
+use Rattle.std.proofs.Common.{◌≡◌, ℕ, zero, suc, ◌+◌, ◌<◌, List, [], ◌∷◌, ◌++◌, length, take, drop, get_or, Bool, true, false, Option, Some, None, Result, Ok, Err, refl, sym, ap, ◌∙◌, subst, arith, append_assoc, append-nil, length-append}
+use Rattle.std.specs.Prelude.{OnOk, OnErr, is_ok, is_err}
 use Rattle.std.specs.Io.KnownBytes.{Appends}
 use Rattle.std.proofs.Math.Seq.{take-append_seam, drop-append_seam}
-use Rattle.orc_wire.specs.declared.stripe_info.StripeInfo.{StripeInfo}
-use Rattle.orc_values.specs.Cells.{Cell}
-use Rattle.orc_values.specs.Shapes.{Shape}
-use Rattle.orc_types.specs.FieldNames.{is_distinct}
-use Rattle.orc_json.specs.Texts.{Prints}
-use Rattle.orc_wire.specs.declared.stripe_footer.StripeFooter.{StripeFooter}
-use Rattle.orc_column_reader.specs.Faults.{RowsFault}
-use Rattle.orc_column_reader.specs.Stripe.{HasFooter, IsStripe, SpellRows, columns_of}
-use Rattle.orc_column_reader.specs.declared.fault.StripeFault.{StripeFault}
-use Rattle.orc_stripe.specs.Opening.{OpenFault}
-use Rattle.orc_stripe.proofs.OneStripe.{one_footer}
-use Rattle.orc_types.specs.declared.json_fault.JsonFault.TheVariants as json
-use Rattle.orc_column_reader.specs.declared.fault.StripeFault.TheVariants as stripe
-use Rattle.orc_file.specs.FileRows.{IsNoStripe}
-use Rattle.orc_tail.specs.declared.fault.FileFault.{FileFault}
-use Rattle.orc_tail.specs.declared.fault.FileFault.TheVariants as file
-use Rattle.orc_tail.specs.declared.fault.FileFault.TheVariants.{Stripe}
-use Rattle.orc_cli_output.specs.declared.fault.CliFault.TheVariants.{File, Json}
-use Rattle.orc_cli_output.specs.Output.{write_failed, AppendsPart, IsWantOfMemory}
+use Rattle.orc_cli_output.specs.Output.{AppendsPart}
 use Rattle.orc_cli_output.specs.declared.fault.CliFault.{CliFault}
 use Rattle.orc_cli_output.proofs.OutputLemmas.{appends_more}
-use Rattle.orc_cli_rows.specs.Rows.{AreOfStripe}
-use Rattle.orc_cli_rows.specs.Pieces.{text_lines, spelled_start, IsSent, IsGiven, IsPrinted, HasNoLines, EndsWithin}
-use Rattle.orc_cli_rows.proofs.CursorLemmas.{lines_of_rows}
+use Rattle.orc_cli_rows.specs.Pieces.{spelled_start, IsSent, IsGiven}
 use Rattle.orc_cli_rows.proofs.RowsLemmas.{appends_none}
 
 pub on_ok_so : {A E : Type 0} (r : Result A E) (P Q : Type 0) → (P → Q) → OnOk r P → OnOk r Q
@@ -148,76 +128,14 @@ behind_start m n (Some x) (Some y) s t e =
     (ap (λ (l : List ℕ). get_or l 0 0) e, ap (λ (l : List ℕ). Some l) front, back)
 
 -- the device is the one that was there at the start, and the text is what was put behind
-pub given_sent : (name other : ℕ) (start now : Option (List ℕ)) (waiting : List ℕ) (failed : Bool) (text : List ℕ) → IsGiven other now waiting failed (spelled_start name start ++ text)
+given_sent : (name other : ℕ) (start now : Option (List ℕ)) (waiting : List ℕ) (failed : Bool) (text : List ℕ) → IsGiven other now waiting failed (spelled_start name start ++ text)
     → (name ≡ other) × IsSent start now waiting failed text
 given_sent name other start now waiting failed text h =
     let same = behind_start name other start h.start text h.text h.bytes_are in
     (same.0, subst (λ (o : Option (List ℕ)). IsSent o now waiting failed text) (sym same.1) (subst (λ (t : List ℕ). IsSent h.start now waiting failed t) (sym same.2) h.sent))
 
--- ---- a stripe
-
-module _ (text : Cell → List ℕ) (s : Shape) (info : StripeInfo) (bytes : List ℕ) (n : ℕ) (distinct : is_distinct s ≡ true) (prints : Prints text s) where
-  pub of_stripe : (rows : List Cell) → IsStripe s info bytes rows → AreOfStripe s info bytes (text_lines text rows)
-  of_stripe rows is = record { rows = rows; stripe = is; have_json = inr distinct; lines_are = lines_of_rows text s rows prints is.spelled.fit }
-
-  -- all lines are at hand, and are written
-  pub all_printed : (rows : List Cell) (lines : List ℕ) (old new : Option (List ℕ)) → IsStripe s info bytes rows → lines ≡ text_lines text rows → Appends old new lines → IsPrinted s info bytes old new
-  all_printed rows lines old new is e out = (lines, subst (λ (t : List ℕ). AreOfStripe s info bytes t) (sym e) (of_stripe rows is), out)
-
-  pub all_failed : (rows : List Cell) (lines : List ℕ) (old new : Option (List ℕ)) (fault : CliFault) → IsStripe s info bytes rows → lines ≡ text_lines text rows → fault ≡ write_failed → AppendsPart old new lines
-      → EndsWithin s info bytes n old new fault
-  all_failed rows lines old new fault is e failed part = inr (failed, (lines, subst (λ (t : List ℕ). AreOfStripe s info bytes t) (sym e) (of_stripe rows is), part))
-
-  -- and what is answered then
-  pub all_answered : (answer : Result (Unit {0}) CliFault) (rows : List Cell) (lines : List ℕ) (old new : Option (List ℕ)) → IsStripe s info bytes rows → lines ≡ text_lines text rows
-      → OnOk answer (Appends old new lines) → OnOk answer (IsPrinted s info bytes old new)
-  all_answered (Ok _) rows lines old new is e out = all_printed rows lines old new is e out
-  all_answered (Err fault) rows lines old new is e out = tt
-
-  pub all_refused : (answer : Result (Unit {0}) CliFault) (rows : List Cell) (lines : List ℕ) (old new : Option (List ℕ)) → IsStripe s info bytes rows → lines ≡ text_lines text rows
-      → IfErr answer (λ fault. fault ≡ write_failed) → OnErr answer (AppendsPart old new lines) → IfErr answer (EndsWithin s info bytes n old new)
-  all_refused (Ok _) rows lines old new is e failed part = tt
-  all_refused (Err fault) rows lines old new is e failed part = all_failed rows lines old new fault is e failed part
-
--- why a stripe whose footer is read has no rows
-pub no_stripe : (s : Shape) (info : StripeInfo) (bytes : List ℕ) (footer : StripeFooter) (why : StripeFault) → HasFooter s info bytes footer → RowsFault s (columns_of footer bytes) info.number_of_rows why → IsNoStripe s info bytes why
-no_stripe s info bytes footer why has fault = record {
-  none = λ rows is. fault.none rows (subst (λ (f : StripeFooter). SpellRows s (columns_of f bytes) info.number_of_rows rows) (one_footer s info bytes is.footer footer is.has_footer has) is.spelled);
-  reason = inr (footer, has, fault);
-}
-
--- .. or whose footer isn't
-pub no_footer : (s : Shape) (info : StripeInfo) (bytes : List ℕ) (why : StripeFault) → ((footer : StripeFooter) → HasFooter s info bytes footer → ⊥) → OpenFault s info bytes why → IsNoStripe s info bytes why
-no_footer s info bytes why none fault = record { none = λ rows is. none is.footer is.has_footer; reason = inl fault }
-
--- a stripe without rows has no lines, whatever its schema
-pub none_printed : (s : Shape) (info : StripeInfo) (bytes : List ℕ) (out : Option (List ℕ)) → IsStripe s info bytes [] → IsPrinted s info bytes out out
-none_printed s info bytes out is = ([], record { rows = []; stripe = is; have_json = inl refl; lines_are = refl }, appends_none out)
-
-pub none_out : (s : Shape) (info : StripeInfo) (bytes : List ℕ) (n : ℕ) (out : Option (List ℕ)) (fault : CliFault) → HasNoLines s info bytes n fault → EndsWithin s info bytes n out out fault
-none_out s info bytes n out fault h = inl (h, appends_none out)
-
--- no cursor was had, for want of memory alone
-pub no_cursor : (s : Shape) (info : StripeInfo) (bytes : List ℕ) (n : ℕ) (out : Option (List ℕ)) (why : StripeFault) (fault : FileFault) → why ≡ stripe.OutOfMemory
-    → ((why ≡ stripe.OutOfMemory) × (fault ≡ file.OutOfMemory)) ⊎ ((why ≢ stripe.OutOfMemory) × (fault ≡ Stripe n why)) → EndsWithin s info bytes n out out (File fault)
-no_cursor s info bytes n out why fault memory (inl h) = none_out s info bytes n out (File fault) (inl (inl (ap File h.1)))
-no_cursor s info bytes n out why fault memory (inr h) = absurd (h.0 memory)
-
--- ---- refusals of the layer of files
-
-pub not_viewed : (s : Shape) (info : StripeInfo) (bytes : List ℕ) (n : ℕ) (fault : FileFault) → ((footer : StripeFooter) → HasFooter s info bytes footer → fault ≡ file.OutOfMemory)
-    → (fault ≡ file.OutOfMemory) ⊎ ((why : StripeFault) × (fault ≡ Stripe n why) × (why ≢ stripe.OutOfMemory) × OpenFault s info bytes why) → HasNoLines s info bytes n (File fault)
-not_viewed s info bytes n fault only (inl memory) = inl (inl (ap File memory))
-not_viewed s info bytes n fault only (inr h) =
-    let none : (footer : StripeFooter) → HasFooter s info bytes footer → ⊥ = λ footer has. (let memory : Stripe n h.0 ≡ file.OutOfMemory = sym h.1 ∙ only footer has in absurd (cc)) in
-    inr (inl (h.0, ap File h.1, h.2, no_footer s info bytes h.0 none h.3))
-
-pub not_read : (s : Shape) (info : StripeInfo) (bytes : List ℕ) (n : ℕ) (fault : FileFault)
-    → (fault ≡ file.OutOfMemory) ⊎ ((why : StripeFault) × (fault ≡ Stripe n why) × (why ≢ stripe.OutOfMemory) × IsNoStripe s info bytes why) → HasNoLines s info bytes n (File fault)
-not_read s info bytes n fault (inl memory) = inl (inl (ap File memory))
-not_read s info bytes n fault (inr h) = inr (inl (h.0, ap File h.1, h.2, h.3))
-
-pub not_printed : (s : Shape) (info : StripeInfo) (bytes : List ℕ) (n : ℕ) (rows : List Cell) (fault : CliFault) → IsStripe s info bytes rows
-    → ((fault ≡ Json json.DuplicateField) × (rows ≢ []) × (is_distinct s ≡ false)) ⊎ IsWantOfMemory fault → HasNoLines s info bytes n fault
-not_printed s info bytes n rows fault is (inl h) = inr (inr (h.0, record { rows = rows; stripe = is; some = h.1; twice = h.2 }))
-not_printed s info bytes n rows fault is (inr want) = inl want
+-- the same of lines behind a front
+pub given_behind : (name other : ℕ) (start now : Option (List ℕ)) (waiting : List ℕ) (failed : Bool) (front lines : List ℕ) → IsGiven other now waiting failed ((spelled_start name start ++ front) ++ lines)
+    → (name ≡ other) × IsSent start now waiting failed (front ++ lines)
+given_behind name other start now waiting failed front lines h =
+    given_sent name other start now waiting failed (front ++ lines) (subst (λ (t : List ℕ). IsGiven other now waiting failed t) (append_assoc (spelled_start name start) front lines) h)

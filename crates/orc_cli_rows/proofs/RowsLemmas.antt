@@ -15,13 +15,11 @@ use Rattle.orc_stripe.proofs.OneStripe.{one_stripe}
 use Rattle.orc_tail.specs.Stripes.{stripe_at}
 use Rattle.orc_tail.specs.Tails.{IsTail, OpenFault, ReadFault, tail_tests}
 use Rattle.orc_tail.specs.declared.fault.FileFault.{FileFault}
-use Rattle.orc_tail.specs.declared.fault.FileFault.TheVariants.{Stripe}
-use Rattle.orc_file.specs.FileRows.{stripe_bytes, joined, HasRows, IsNoStripe, FileIs, AreOfStripes as RowsOfStripes}
+use Rattle.orc_file.specs.FileRows.{stripe_bytes, joined, HasRows, FileIs, AreOfStripes as RowsOfStripes}
 use Rattle.orc_tail.specs.declared.tail.Tail.{Tail}
 use Rattle.orc_cli_output.specs.Output.{write_failed, IsOutsideFile, IsWantOfMemory}
 use Rattle.orc_cli_output.proofs.OutputLemmas.{appends_more}
-use Rattle.orc_cli_rows.specs.Rows.{row_line, row_lines, HaveJson, AreOfStripe, AreOfStripes, HasNoJson, StripeStops, EndsAt, EndsIn, IsOfRows, IsWantOfRows}
-use Rattle.orc_cli_rows.specs.Pieces.{IsPrinted, EndsWithin}
+use Rattle.orc_cli_rows.specs.Rows.{row_line, row_lines, HaveJson, AreOfStripe, AreOfStripes, StripeStops, EndsAt, EndsIn, IsOfRows, IsWantOfRows}
 use Rattle.orc_cli_rows.specs.Printed.{IsAsked, IsNotAsked, AreLines, ArePrinted, Ends, Stops, RefusesFile}
 use Rattle.orc_cli_rows.specs.declared.start.Start.{Start}
 use Rattle.orc_cli_output.specs.declared.fault.CliFault.{CliFault}
@@ -134,22 +132,6 @@ ends_in (Some all) tail first n old mid new fault le lt p h = record {
   before = p.1;
   ends = ends_behind tail.schema all n (stripe_at tail.stripes n) p.0 old mid new fault p.2 h;
 }
-
--- printing ends at a stripe whose bytes are at hand
-pub ends_loaded : (told : Option (List ℕ)) (s : Shape) (n : ℕ) (info : StripeInfo) (bytes : List ℕ) (old new : Option (List ℕ)) (fault : CliFault)
-    → IfSome told (λ all. bytes ≡ stripe_bytes info all) → EndsWithin s info bytes n old new fault → IfSome told (λ all. EndsAt s all n info [] old new fault)
-ends_loaded None s n info bytes old new fault is h = tt
-ends_loaded (Some all) s n info bytes old new fault is (inl (inl memory, out)) = inl (inr (inr memory), out)
-ends_loaded (Some all) s n info bytes old new fault is (inl (inr (inl h), out)) =
-    inl (inl (inl (Stripe n h.0, h.1, (h.0, refl, h.2, subst (λ (b : List ℕ). IsNoStripe s info b h.0) is h.3))), out)
-ends_loaded (Some all) s n info bytes old new fault is (inl (inr (inr h), out)) =
-    inl (inl (inr (h.0, subst (λ (b : List ℕ). HasNoJson s info b) is h.1)), out)
-ends_loaded (Some all) s n info bytes old new fault is (inr h) = inr (subst (λ (b : List ℕ). EndsAmong s info b [] old new fault) is h)
-
-pub printed_loaded : (told : Option (List ℕ)) (s : Shape) (info : StripeInfo) (bytes : List ℕ) (old new : Option (List ℕ)) → IfSome told (λ all. bytes ≡ stripe_bytes info all) → IsPrinted s info bytes old new
-    → IfSome told (λ all. (own : List ℕ) × AreOfStripe s info (stripe_bytes info all) own × Appends old new own)
-printed_loaded None s info bytes old new is h = tt
-printed_loaded (Some all) s info bytes old new is h = (h.0, subst (λ (b : List ℕ). AreOfStripe s info b h.0) is h.1, h.2)
 
 -- ---- a file
 

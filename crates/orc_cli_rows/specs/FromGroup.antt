@@ -7,7 +7,6 @@ use Rattle.orc_types.specs.FieldNames.{is_distinct}
 use Rattle.orc_values.specs.Fits.{RowsFit}
 use Rattle.orc_types.specs.declared.json_fault.JsonFault.TheVariants as json
 use Rattle.orc_column_reader.specs.Stripe.{Streams, HasFooter}
-use Rattle.orc_column_reader.specs.declared.fault.Spot.TheVariants as spot
 use Rattle.orc_column_reader.specs.declared.fault.StripeFault.{StripeFault}
 use Rattle.orc_column_reader.specs.declared.fault.StripeFault.TheVariants as stripe
 use Rattle.orc_stripe.specs.Opened.{Opened}
@@ -35,18 +34,22 @@ pub record IsStart (text : List ℕ) (stripe group : ℕ) : Type 0 where
 
 -- ---- the first stripe
 
--- Rows that a stripe with these bytes is read as from a group on, which each column's index has an entry of: they are
--- rows of the schema, and what stands behind the group's positions. Where the stripe starts there in some streams, as
--- a reader enters it, they are these streams' rows from the group's first one on.
+-- Rows that an opened stripe is read as from a group on, which each column's index has an entry of: they are rows of the
+-- schema, and what stands behind the group's positions. Where the stripe starts there in some streams, as a reader
+-- enters it, they are these streams' rows from the group's first one on.
+pub record AreRowsFrom (view : Opened) (group : ℕ) (rows : List Cell) : Type 0 where
+  pub has_group : HasGroup view group
+  pub has_entries : HasEntries view group
+  pub fit : RowsFit view.schema rows
+  pub spelled : SpellsFrom view group rows
+  pub rows_are : (x : ℕ → Streams) (all : List Cell) → StartsGroup view x all group
+      → rows ≡ drop (group * view.stride) all
+
+-- the same of the stripe with this number, which has these bytes
 pub record AreFromGroup (tail : Tail) (n : ℕ) (bytes : List ℕ) (group : ℕ) (rows : List Cell) : Type 0 where
   pub footer : StripeFooter
   pub has_footer : HasFooter tail.schema (stripe_at tail.stripes n) bytes footer
-  pub has_group : HasGroup (opened_stripe tail n bytes footer) group
-  pub has_entries : HasEntries (opened_stripe tail n bytes footer) group
-  pub fit : RowsFit tail.schema rows
-  pub spelled : SpellsFrom (opened_stripe tail n bytes footer) group rows
-  pub rows_are : (x : ℕ → Streams) (all : List Cell) → StartsGroup (opened_stripe tail n bytes footer) x all group
-      → rows ≡ drop (group * tail.stride) all
+  pub are : AreRowsFrom (opened_stripe tail n bytes footer) group rows
 
 -- the lines of such rows, which have JSON
 pub record AreLinesFrom (tail : Tail) (n : ℕ) (bytes : List ℕ) (group : ℕ) (lines : List ℕ) : Type 0 where
@@ -55,30 +58,27 @@ pub record AreLinesFrom (tail : Tail) (n : ℕ) (bytes : List ℕ) (group : ℕ)
   pub have_json : HaveJson tail.schema rows
   pub lines_are : lines ≡ row_lines tail.schema rows
 
--- behind the group's positions stand rows that aren't those of the schema
-abbrev pub SpellsOther : Opened → ℕ → StripeFault → Type 0
-SpellsOther view group why =
-    (why ≡ stripe.BadPosition spot.Stripe)
-    × (rows : List Cell) × SpellsFrom view group rows × (RowsFit view.schema rows → ⊥)
-
--- the group is there, with an entry in each column's index, and what stands behind its positions has this fault, or is
--- no rows of the schema
+-- the group is there, with an entry in each column's index, and what stands behind its positions has this fault
 pub record IsRefusedBehind (view : Opened) (group : ℕ) (why : StripeFault) : Type 0 where
   pub has_group : HasGroup view group
   pub has_entries : HasEntries view group
   pub first : why ≢ stripe.Failed
-  pub reason : MeetsFrom view group why ⊎ SpellsOther view group why
+  pub meets : MeetsFrom view group why
 
--- Why a stripe isn't read from a group on: it doesn't start there, and it isn't opened, or there is no cursor at the
--- group, or there is one, and behind the group's positions stand no rows of the schema.
+-- Why an opened stripe isn't read from a group on: it doesn't start there, and there is no cursor at the group, or there
+-- is one, and what stands behind the group's positions has this fault.
+pub record StopsFrom (view : Opened) (group : ℕ) (why : StripeFault) : Type 0 where
+  pub none : (x : ℕ → Streams) (all : List Cell) → StartsGroup view x all group → ⊥
+  pub reason : GroupFault view group why ⊎ IsRefusedBehind view group why
+
+-- the same of the stripe with this number, which has these bytes, or it isn't opened
 pub record StopsAtGroup (tail : Tail) (n : ℕ) (bytes : List ℕ) (group : ℕ) (why : StripeFault) : Type 0 where
   pub none : (footer : StripeFooter) (x : ℕ → Streams) (all : List Cell)
       → HasFooter tail.schema (stripe_at tail.stripes n) bytes footer
       → StartsGroup (opened_stripe tail n bytes footer) x all group → ⊥
   pub reason : OpenFault tail.schema (stripe_at tail.stripes n) bytes why
       ⊎ ((footer : StripeFooter) × HasFooter tail.schema (stripe_at tail.stripes n) bytes footer
-      × (GroupFault (opened_stripe tail n bytes footer) group why
-      ⊎ IsRefusedBehind (opened_stripe tail n bytes footer) group why))
+      × StopsFrom (opened_stripe tail n bytes footer) group why)
 
 -- that, as a fault of the stripe with this number
 abbrev pub GroupStops : Tail → ℕ → List ℕ → ℕ → CliFault → Type 0

@@ -1,12 +1,15 @@
 //! A file's rows as lines of JSON.
 #![tactic(auto)]
 
-mod from_group;
 mod held;
 mod judging;
 mod lines;
+mod nowhere;
+mod one_stripe;
 mod pieces;
+mod plan;
 mod printing;
+mod reading;
 mod rows;
 mod start;
 

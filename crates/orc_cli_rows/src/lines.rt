@@ -7,14 +7,15 @@ ghost use Rattle.orc_values.specs.Views.{view, views};
 ghost use Rattle.orc_types.specs.declared.json_fault.JsonFault.TheVariants as json;
 ghost use Rattle.orc_cli_output.specs.Output.{IsWantOfMemory};
 ghost use Rattle.orc_cli_output.specs.declared.fault.CliFault.TheVariants.{Json};
-ghost use Rattle.orc_column_reader.specs.declared.fault.StripeFault.TheVariants.{OutOfMemory};
+ghost use Rattle.orc_column_reader.specs.declared.fault.StripeFault.TheVariants.{OutOfMemory, Failed};
 ghost use Rattle.orc_column_text.specs.LaidOut.{IsLaidOut};
 ghost use Rattle.orc_json.specs.Layouts.{text_by};
 ghost use Rattle.orc_json.specs.Outputs.{Puts};
-ghost use Rattle.orc_stripe.specs.Cursors.{row_type, StandsFor};
-ghost use Rattle.orc_cli_rows.specs.Pieces.{text_lines, PutsAll};
+ghost use Rattle.orc_stripe.specs.Cursors.{row_type, IsGoing, StandsFor, MeetsFault};
+ghost use Rattle.orc_cli_rows.specs.Pieces.{text_lines, IsHeld, PutsAll, PutsFront};
 ghost use Rattle.orc_cli_rows.specs.Rows.{row_line, row_lines, HaveJson, IsOfRows};
 
+use crate::held::Held;
 use orc_cli_output::CliFault;
 use orc_json::layout::Layout;
 use orc_json::{RowPrinter, TextOutput};
@@ -71,6 +72,8 @@ pub(crate) fn put_lines<T: TextOutput>(
     ensures only { (rows : List Cell) → StandsFor cursor.old rows → MatchResult result
         (λ _. Puts T.holds out.old out.new (text_lines (text_by layout.now) rows))
         (λ fault. (fault ≡ OutOfMemory) × (T.grows ≡ true)) }
+    ensures fault { IsGoing cursor.old → IfErr result (λ fault. fault ≢ OutOfMemory
+        → (fault ≢ Failed) × MeetsFault cursor.old fault) }
 {
     while !out.has_failed() {
         if !cursor.push_next(layout, out)? {
@@ -79,4 +82,29 @@ pub(crate) fn put_lines<T: TextOutput>(
         out.put_byte(b'\n')?;
     }
     Ok(())
+}
+
+/// Holds lines as their rows are read, and says whether they are those of all rows that the cursor had still to give. No
+/// row is begun once enough is held.
+///
+/// Refusals: those of `RowCursor::push_next`, as `OutOfMemory` where the lines are more than may be held, too.
+pub(crate) fn hold_lines(
+    cursor: &mut RowCursor<'_>,
+    layout: &Layout,
+    held: &mut Held,
+) -> Result<bool, StripeFault>
+    requires laid_out { IsLaidOut (row_type cursor.old) layout.now }
+    ensures all { IfOk result (λ ended. ended ≡ true
+        → PutsAll IsHeld (text_by layout.now) cursor.old held.old held.new) }
+    ensures front { IfOk result (λ ended. ended ≡ false → (rows : List Cell) → StandsFor cursor.old rows
+        → PutsFront IsHeld (text_by layout.now) rows cursor.new held.old held.new) }
+    ensures of_type { OnOk result (row_type cursor.new ≡ row_type cursor.old) }
+{
+    while !held.is_full() {
+        if !cursor.push_next(layout, held)? {
+            return Ok(true);
+        }
+        held.put_byte(b'\n')?;
+    }
+    Ok(false)
 }

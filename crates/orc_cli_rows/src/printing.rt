@@ -11,10 +11,11 @@ ghost use Rattle.orc_cli_output.specs.Output.{IsOutsideFile, IsWantOfMemory};
 ghost use Rattle.orc_cli_output.specs.declared.fault.CliFault.TheVariants.{File};
 ghost use Rattle.orc_cli_rows.specs.Rows.{HaveJson, IsOfRows, IsWantOfRows};
 ghost use Rattle.orc_cli_rows.specs.FromGroup.{AreFrom, EndsFrom};
+ghost use Rattle.orc_cli_rows.specs.Plans.{IsPlanOf};
 ghost use Rattle.orc_cli_rows.specs.Printed.{IsAsked, IsNotAsked, AreLines, ArePrinted, Ends, Stops, RefusesFile, Refuses};
 
-use crate::from_group::print_group;
-use crate::rows::print_rows;
+use crate::plan::{Plan, plan_of};
+use crate::rows::{print_rows, print_stripe};
 use crate::start::{Start, start_of};
 use orc_cli_output::CliFault;
 use orc_file::{FileFault, OrcFile, Source};
@@ -43,11 +44,11 @@ fn asked_of(from: Option<&str>) -> Result<Option<Start>, CliFault>
 fn print_from<S: Source, W: Write>(
     alloc: Global,
     file: &mut OrcFile<S>,
-    printer: &RowPrinter,
+    plan: Plan<'_>,
     start: Start,
     out: &mut W,
 ) -> Result<(), CliFault>
-    requires of_schema { printer.now ≡ file.old.tail.schema }
+    requires planned { IsPlanOf file.old.tail.schema plan }
     requires uncapped { file.old.cap ≡ no_cap }
     ensures written { OnOk result (IfSome (S.told file.old.source) (λ all. (lines : List ℕ)
         × AreFrom all file.old.tail start.stripe start.group lines
@@ -63,19 +64,28 @@ fn print_from<S: Source, W: Write>(
     if number >= file.tail().stripes.as_slice().len() {
         return Err(CliFault::File(FileFault::BadStripe(number)));
     }
-    print_group(alloc, file, printer, start, out)?;
-    print_rows(alloc, file, printer, number + 1, out)
+    let mut bytes = Vec::new(alloc);
+    print_stripe(
+        alloc,
+        file,
+        plan,
+        number,
+        Some(start.group),
+        &mut bytes,
+        out,
+    )?;
+    print_rows(alloc, file, plan, number + 1, &mut bytes, out)
 }
 
 /// Prints the lines of a file's rows from a place on, or all of them.
 fn print_lines<S: Source, W: Write>(
     alloc: Global,
     file: &mut OrcFile<S>,
-    printer: &RowPrinter,
+    plan: Plan<'_>,
     start: Option<Start>,
     out: &mut W,
 ) -> Result<(), CliFault>
-    requires of_schema { printer.now ≡ file.old.tail.schema }
+    requires planned { IsPlanOf file.old.tail.schema plan }
     requires uncapped { file.old.cap ≡ no_cap }
     ensures written { OnOk result (IfSome (S.told file.old.source) (λ all. (lines : List ℕ)
         × AreLines all file.old.tail start lines
@@ -88,8 +98,8 @@ fn print_lines<S: Source, W: Write>(
     ensures layer { IfErr result IsOfRows }
 {
     match start {
-        None => print_rows(alloc, file, printer, 0, out),
-        Some(start) => print_from(alloc, file, printer, start, out),
+        None => print_rows(alloc, file, plan, 0, &mut Vec::new(alloc), out),
+        Some(start) => print_from(alloc, file, plan, start, out),
     }
 }
 
@@ -112,7 +122,8 @@ fn print_opened<S: Source, W: Write>(
     ensures layer { IfErr result IsOfRows }
 {
     let printer = RowPrinter::new(alloc, file.schema())?;
-    print_lines(alloc, file, &printer, start, out)
+    let plan = plan_of(&printer, file.schema());
+    print_lines(alloc, file, plan, start, out)
 }
 
 /// What is printed of a file from a place on, or all of it.
@@ -148,17 +159,17 @@ fn print_file<S: Source, W: Write>(
 /// `2:0`, two numbers of decimal digits alone with a colon between, each below 2^32, names a stripe
 /// and a group of it, from which on rows are printed: those of that stripe from the group's first
 /// row on, and those of all stripes behind it. What stands in the stripes before has no part in the
-/// answer. A stripe's lines are written once it is known to have rows: 8 MiB of them are held until
-/// its end is seen; where it has more, all its columns are read first, and then its lines are
-/// written as they are made, for which no memory is wanted. So after a refusal in a stripe the lines
-/// of those before it stand, and no others. The bytes of one stripe and so many of its lines are
-/// held at a time; of the stripe where reading begins at a group, all of them. The source is handed
-/// back.
+/// answer. A stripe's lines are written once it is known to have rows, from the group on where one is
+/// asked for: 8 MiB of them are held until its end is seen; where it has more, it is read to its end
+/// first, and then its lines are written, those that were held and the others as they are made, for
+/// which no memory is wanted. So after a refusal in a stripe the lines of those before it stand, and
+/// no others. The bytes of one stripe and so many of its lines are held at a time; but where a
+/// struct of the schema names a field twice, the rows of the stripe where reading begins at a group.
+/// The source is handed back.
 ///
 /// Where the stripe doesn't start at the group, since positions of its entries are wrong, the lines
 /// are those of the rows of the schema that stand behind these positions, and a fault that is met
-/// there is one of the streams from them on, or `BadPosition` of the stripe where they aren't rows
-/// of the schema.
+/// there is one of the streams from them on.
 ///
 /// Refusals, in this order: `Json` with `Syntax` where the text names no place, before the source
 /// is read; `File` where the bytes are no file; `File` with `BadStripe` where the stripe isn't

@@ -129,8 +129,8 @@ module _ (bytes : List ℕ) (tail : Tail) (rows : List Cell) (is : FileIs bytes 
 
   from_group : (read : List Cell) → n < length tail.stripes → AreFromGroup tail n (its n) group read → read ≡ drop (group * tail.stride) (rows_at parts n)
   from_group read lt h =
-      h.rows_are (columns_of h.footer (mine n)) (rows_at parts n)
-      (starts_here lt h.footer (footer_there lt h.footer h.has_footer) (record { indexed = h.has_group.indexed; there = h.has_group.there }))
+      h.are.rows_are (columns_of h.footer (mine n)) (rows_at parts n)
+      (starts_here lt h.footer (footer_there lt h.footer h.has_footer) (record { indexed = h.are.has_group.indexed; there = h.are.has_group.there }))
 
   later_rows : (read : List Cell) → HasRows tail.schema other (drop (n + 1) tail.stripes) read → read ≡ joined (drop (n + 1) parts)
   later_rows read h =
@@ -144,7 +144,7 @@ module _ (bytes : List ℕ) (tail : Tail) (rows : List Cell) (is : FileIs bytes 
       let first : own.rows ≡ drop (group * tail.stride) (rows_at parts n) = from_group own.rows h.there own.are in
       let rest : h.of_later.rows ≡ joined (drop (n + 1) parts) = later_rows h.of_later.rows h.of_later.has_rows in
       let counted : length (rows_at parts n) ≡ (stripe_at tail.stripes n).number_of_rows = (let stripe = stripe_is bytes tail rows is n h.there in stripe.spelled.counted) in
-      let inner : group * tail.stride ≤ length (rows_at parts n) = (let begun = own.are.has_group.there in omega (arith, begun, counted)) in
+      let inner : group * tail.stride ≤ length (rows_at parts n) = (let begun = own.are.are.has_group.there in omega (arith, begun, counted)) in
       let whole : joined parts ≡ rows = cut_whole tail.stripes bytes tail.schema rows is.has_rows in
       let all : own.rows ++ h.of_later.rows ≡ drop (rows_before tail n group) rows =
       (λ i. first i ++ rest i) ∙ sym (rows_behind tail.schema bytes tail.stripes parts n (group * tail.stride) h.there of_stripes inner) ∙ ap (drop (rows_before tail n group)) whole in

@@ -1,38 +1,20 @@
-use Rattle.std.proofs.Common.{ap, Err, rules}
-use Rattle.std.proofs.lemmas.Result.{err_from_is_err_and, IfErr-weaker}
-use Rattle.orc_cli_output.proofs.OutputLemmas.{file_want}
-use Rattle.orc_cli_rows.proofs.PieceLemmas.{on_ok_so}
-use Rattle.orc_cli_rows.proofs.RowsLemmas.{ends_loaded, printed_loaded}
+use Rattle.std.proofs.lemmas.Result.{err_from_is_err_and}
+use Rattle.orc_cli_rows.proofs.StripeLemmas.{unopened_ends, view_ends}
 use Rattle.orc_cli_rows.proofs.rows.print_stripe.Goals as goal
 
-pub returns-in_err-load-clause-source : goal.returns-in_err-load-clause-source
-returns-in_err-load-clause-source g c =
-    let p = err_from_is_err_and c.from_residual.result c.from_residual.ensures.1 in
-    record {
-      told = search rules;
-      size = search rules;
-      kept = search rules;
-      failed = search rules;
-      memory = rw (p.1, p.2) (λ want. c.in_err-load.ensures.loaded.memory (ap Err (file_want c.in_err-load.field-0.0 want)));
-    }
-
-pub returns-clause-source : goal.returns-clause-source
-returns-clause-source g c = record {
-  told = search rules;
-  size = search rules;
-  kept = search rules;
-  failed = search rules;
-  memory = IfErr-weaker c.print_loaded.result _ _ (λ fault is want. c.in_ok-load.ensures.loaded.kept) c.print_loaded.ensures.refused;
-}
-
-pub returns-clause-written : goal.returns-clause-written
-returns-clause-written g c =
+pub returns-in_err-view-clause-refused : goal.returns-in_err-view-clause-refused
+returns-in_err-view-clause-refused g c =
+    let p = err_from_is_err_and c.from_residual-in_err-view.result c.from_residual-in_err-view.ensures.1 in
     let bytes = rw (← c.deref.ensures.value) at c.in_ok-load.ensures.loaded.bytes in
-    let written = rw (c.tail.ensures, c.in_ok-load.ensures.tail) at c.print_loaded.ensures.written in
-    on_ok_so c.print_loaded.result _ _ (printed_loaded _ _ _ _ _ _ bytes) written
+    let tail = c.in_ok-load.ensures.tail in
+    let only = rw (c.tail.ensures, tail) at c.in_err-view.ensures.only in
+    let fault = rw (c.tail.ensures, tail) at c.in_err-view.ensures.fault in
+    rw (p.1, p.2) (unopened_ends _ _ _ _ _ _ c.in_err-view.field-0.0 bytes only fault)
 
 pub returns-clause-refused : goal.returns-clause-refused
 returns-clause-refused g c =
     let bytes = rw (← c.deref.ensures.value) at c.in_ok-load.ensures.loaded.bytes in
-    let refused = rw (c.tail.ensures, c.in_ok-load.ensures.tail) at c.print_loaded.ensures.refused in
-    IfErr-weaker c.print_loaded.result _ _ (λ fault ends. ends_loaded _ _ _ _ _ _ _ fault bytes ends) refused
+    let tail = c.in_ok-load.ensures.tail in
+    let same = rw (c.tail.ensures, tail) at c.in_ok-view.ensures.same in
+    let found = rw (c.tail.ensures, tail) at c.in_ok-view.ensures.found in
+    view_ends _ _ _ _ same found c.print_view.result _ _ _ _ bytes c.print_view.ensures.refused

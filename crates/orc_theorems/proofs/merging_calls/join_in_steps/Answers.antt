@@ -28,3 +28,9 @@ returns-in-Ok-clause-step c = err_more c.join_two-in-Ok.result _ _ c.join_two-in
 
 pub returns-in-Err-clause-step : goal.returns-in-Err-clause-step
 returns-in-Err-clause-step c = first_step c.args.first.now c.args.second.now c.args.third.now c.in-Err.fault c.in-Err.ensures.refused
+
+pub returns-in-Err-clause-wrote : goal.returns-in-Err-clause-wrote
+returns-in-Err-clause-wrote c = tt
+
+pub returns-in-Err-clause-merged : goal.returns-in-Err-clause-merged
+returns-in-Err-clause-merged c = tt

@@ -1,7 +1,8 @@
-use Rattle.std.proofs.Common.{◌≡◌, ◌∙◌, ℕ, List, ap, subst}
+use Rattle.std.proofs.Common.{◌≡◌, ◌∙◌, ℕ, List, length, ap, sym, subst, arith}
 use Rattle.orc_wire.specs.declared.stripe_footer.StripeFooter.{StripeFooter}
-use Rattle.orc_values.specs.Shapes.{Shape, shape_at}
+use Rattle.orc_values.specs.Shapes.{Shape, shape_at, width}
 use Rattle.orc_values.specs.Views.{shape}
+use Rattle.orc_column_reader.specs.Located.{AreLocated}
 use Rattle.orc_column_reader.specs.Starting.{AreStreams}
 use Rattle.orc_column_reader.specs.Stripe.{columns_of}
 use Rattle.orc_row_index.specs.Walking.{ArePlaced}
@@ -17,3 +18,18 @@ returns-clause-placed c =
     subst (λ (f : StripeFooter). AreStreams (columns_of f v.bytes k) found) c.footer-footer.ensures.same
     (subst (λ (b : List ℕ). AreStreams (columns_of c.footer-footer.result.now b k) found) c.in_ok-located.ensures.same c.streams_of-streams.ensures) in
     subst (λ (s : Shape). ArePlaced s (columns_of v.footer v.bytes k) c.placed_streams.result) shapes (c.placed_streams.ensures (columns_of v.footer v.bytes k) streams)
+
+pub streams_of-streams-requires-clause-there : goal.streams_of-streams-requires-clause-there
+streams_of-streams-requires-clause-there c = omega (arith, c.if-column-as_slice.false, ap length c.as_slice.ensures)
+
+pub streams_of-streams-requires-clause-located : goal.streams_of-streams-requires-clause-located
+streams_of-streams-requires-clause-located c =
+    let v = c.args.view.now in
+    let slices = c.in_ok-located.located.slices.items in
+    let whole : AreLocated (length v.footer.columns) v.footer.streams c.in_ok-located.located.bytes.now slices =
+    subst (λ (b : List ℕ). AreLocated (length v.footer.columns) v.footer.streams b slices) (sym c.in_ok-located.ensures.same) c.in_ok-located.ensures.found in
+    subst (λ (f : StripeFooter). AreLocated (length f.columns) f.streams c.in_ok-located.located.bytes.now slices) (sym c.footer-footer.ensures.same) whole
+
+pub tree_at-requires-clause-there : goal.tree_at-requires-clause-there
+tree_at-requires-clause-there c =
+    omega (arith, c.if-column-as_slice.false, ap length c.as_slice.ensures, ap (λ (f : StripeFooter). length f.columns) c.footer-footer.ensures.same, c.in_ok-located.ensures.columns, ap width c.tree.ensures)
