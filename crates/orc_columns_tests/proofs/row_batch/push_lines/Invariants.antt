@@ -1,5 +1,5 @@
 use Rattle.std.proofs.Common.{◌≡◌, length}
-use Rattle.orc_row_batch_tests.proofs.nested.push_lines.Given as goal
+use Rattle.orc_columns_tests.proofs.row_batch.push_lines.Given as goal
 
 -- there are as many columns as before
 abbrev pub invariant-loop-line : goal.invariant-loop-line
