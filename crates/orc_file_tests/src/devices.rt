@@ -4,7 +4,7 @@ use crate::assertions::{check_list, check_same, demand};
 use orc_io::{
     FileSource, RangeFault, Sink, SliceSource, Source, StdSink, VecSink, read_range, write_all,
 };
-use orc_test_io::{FailSink, FailSource, Full, Narrow};
+use orc_test_kit::{FailSink, FailSource, Full, Narrow};
 use std::alloc::{AllocError, Global};
 use std::fs::File;
 use std::path::PathBuf;

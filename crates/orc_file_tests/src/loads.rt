@@ -5,7 +5,7 @@ use crate::calls::{load, opened, stripe_rows, view, viewed_rows};
 use crate::rows_of_files::have_numbers;
 use orc_file::{FileFault, OrcFile};
 use orc_stripe::{StripeFault, StripeView};
-use orc_test_io::{SeenSource, UPWARDS};
+use orc_test_kit::{SeenSource, UPWARDS};
 use std::alloc::Global;
 use std::process::Abort;
 

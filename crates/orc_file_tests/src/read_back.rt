@@ -10,7 +10,7 @@ ghost use Rattle.orc_tail.specs.declared.fault.FileFault.TheVariants.{OutOfMemor
 use crate::assertions::check_same;
 use crate::rows_of_files::have_numbers;
 use orc_file::{FileFault, OrcFile, SliceSource};
-use orc_test_io::UPWARDS;
+use orc_test_kit::UPWARDS;
 use orc_values::Row;
 use std::alloc::Global;
 

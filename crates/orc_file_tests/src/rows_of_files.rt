@@ -5,7 +5,7 @@ use crate::calls::{opened, rows};
 use orc_file::{FileFault, OrcFile, SliceSource, Source};
 use orc_rle::RunFault;
 use orc_stripe::{StreamKind, StripeFault};
-use orc_test_io::{FailSource, SEVENS, TWICE, UPWARDS};
+use orc_test_kit::{FailSource, SEVENS, TWICE, UPWARDS};
 use orc_values::{Row, Value};
 use std::alloc::Global;
 

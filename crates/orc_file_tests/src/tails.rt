@@ -7,7 +7,7 @@ mod reads;
 
 use crate::assertions::demand;
 use orc_file::{FileFault, SliceSource, Tail, read_tail};
-use orc_test_io::TWICE;
+use orc_test_kit::TWICE;
 use std::alloc::Global;
 
 fn tail_once(alloc: Global, bytes: &[u8]) -> Result<Tail, FileFault> {

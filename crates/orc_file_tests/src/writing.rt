@@ -5,7 +5,7 @@ use crate::calls::{finish, give, new_writer, push, spare_row};
 use orc_file::{FileFault, Sink, Tail, VecSink, Writer};
 use orc_rle::Rle;
 use orc_stripe::Options;
-use orc_test_io::{FailSink, Full, SEVENS};
+use orc_test_kit::{FailSink, Full, SEVENS};
 use orc_types::Schema;
 use orc_values::{Row, Value};
 use std::alloc::Global;

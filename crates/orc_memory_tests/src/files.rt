@@ -2,7 +2,7 @@
 use crate::assertions::{demand, same, same_bytes};
 use crate::sevens::have_numbers;
 use orc_file::{FileFault, OrcFile, SliceSource};
-use orc_test_io::SEVENS;
+use orc_test_kit::SEVENS;
 use std::alloc::Global;
 use std::process::Abort;
 

@@ -3,7 +3,7 @@ use crate::assertions::{demand, is_front, same, same_bytes};
 use crate::sevens::output;
 use orc_file::{FileFault, SliceSource};
 use orc_merge::{Finding, MergeFault, check, merge};
-use orc_test_io::{FailSink, SEVENS, TWICE, UPWARDS};
+use orc_test_kit::{FailSink, SEVENS, TWICE, UPWARDS};
 use std::alloc::Global;
 use std::process::Abort;
 

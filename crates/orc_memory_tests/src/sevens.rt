@@ -1,5 +1,5 @@
 //! What several tests hand to their calls.
-use orc_test_io::{FailSink, Full};
+use orc_test_kit::{FailSink, Full};
 use orc_types::{Schema, TypeFault};
 use orc_values::{Row, Value};
 use std::alloc::{AllocError, Global};

@@ -7,7 +7,7 @@ use crate::assertions::{demand, same, same_bytes};
 use crate::sevens::{has_number, have_numbers, schema_of};
 use orc_rle::Rle;
 use orc_stripe::{Options, RowCursor, StripeFault, StripeOut, StripeView, are_few, write_stripe};
-use orc_test_io::SEVENS;
+use orc_test_kit::SEVENS;
 use orc_types::{Schema, row_from_json};
 use orc_values::Row;
 use serde_json::Value as Json;

@@ -4,7 +4,7 @@ use crate::sevens::{output, schema_of};
 use orc_file::{FileFault, Writer};
 use orc_rle::Rle;
 use orc_stripe::Options;
-use orc_test_io::{FailSink, SEVENS};
+use orc_test_kit::{FailSink, SEVENS};
 use orc_types::Schema;
 use orc_values::{Row, Value};
 use std::alloc::{AllocError, Global};

@@ -3,7 +3,7 @@ use crate::assertions::{demand, passes, refusal, same_fault};
 use crate::writing::{STRIPE, written};
 use orc_rle::{Rle, RunFault};
 use orc_stripe::{RowCursor, Spot, StreamKind, StripeFault, StripeOut, StripeView};
-use orc_test_lines::schema_of;
+use orc_test_kit::schema_of;
 use orc_types::Schema;
 use orc_wire::StripeInfo;
 use std::alloc::Global;

@@ -4,12 +4,12 @@ ghost use Rattle.orc_values.specs.Fits.{RowsFit, fits};
 ghost use Rattle.orc_values.specs.Views.{view, views};
 
 use crate::assertions::{demand, passes};
+use orc_json_reader::RowReader;
 use orc_rle::Rle;
 use orc_stripe::{Options, StripeFault, StripeOut, are_few, write_stripe};
-use orc_test_lines::schema_of;
-use orc_types::{Schema, row_from_json};
+use orc_test_kit::schema_of;
+use orc_types::Schema;
 use orc_values::Row;
-use serde_json::Value as Json;
 use std::alloc::Global;
 use std::process::Abort;
 
@@ -33,10 +33,7 @@ static NO_ROWS: [u8; 24] = [
 fn row_of(alloc: Global, schema: &Schema, line: &str) -> Result<Row<'static>, StripeFault>
     ensures { IfOk result (λ row. fits (view row) schema.now ≡ true) }
 {
-    let Ok(json) = Json::from_str(alloc, line) else {
-        return Err(StripeFault::OutOfMemory);
-    };
-    match row_from_json(alloc, schema, &json) {
+    match RowReader::new(alloc).read_row(alloc, schema, line.as_bytes()) {
         Ok(row) => Ok(row),
         Err(_) => Err(StripeFault::OutOfMemory),
     }

@@ -1,5 +1,5 @@
 -- What calls of `merge` gave as steps of groupings.
-use Rattle.std.proofs.Common.{◌≡◌, ◌∙◌, ◌↔◌, ℕ, ◌<◌, List, [], ◌∷◌, ◌++◌, length, Option, Some, inl, inr, refl, sym, ap, subst}
+use Rattle.std.proofs.Common.{◌≡◌, ◌∙◌, ◌↔◌, ◌⊎◌, ℕ, ◌<◌, List, [], ◌∷◌, ◌++◌, length, Option, Some, inl, inr, refl, sym, ap, subst}
 use Rattle.std.specs.Prelude.{IsPermutation}
 use Rattle.std.proofs.lemmas.List.Sorted.{IsPermutation-append_comm}
 use Rattle.orc_tail.specs.declared.tail.Tail.{Tail}
@@ -197,10 +197,14 @@ pub last_two_wrote : (a b c back there right : List ℕ) (t u : Tail) → WroteM
     → Wrote (last_two a b c) right
 last_two_wrote a b c back there right t u x same y = wrote_last_two a b c back right t u x (subst (λ (l : List ℕ). WroteMerge (a ∷ l ∷ []) u (Some []) (Some right)) same y)
 
-pub last_two_same : AlikeLaw → (a b c back there right out : List ℕ) (t u v : Tail) → WroteMerge (b ∷ c ∷ []) t (Some []) (Some back) → there ≡ back
-    → WroteMerge (a ∷ there ∷ []) u (Some []) (Some right) → WroteMerge (a ∷ b ∷ c ∷ []) v (Some []) (Some out) → right ≡ out
-last_two_same alike a b c back there right out t u v x same y w =
-    alike (and (input a) (and (input b) (one (input c)))) (and (input a) (one (pair b c))) out right (wrote_at_once a b c v out w) (last_two_wrote a b c back there right t u x same y) refl
+pub last_two_same : AlikeLaw → (a b c right out : List ℕ) (t : Tail) → Wrote (last_two a b c) right → WroteMerge (a ∷ b ∷ c ∷ []) t (Some []) (Some out) → right ≡ out
+last_two_same alike a b c right out t v w =
+    alike (and (input a) (and (input b) (one (input c)))) (and (input a) (one (pair b c))) out right (wrote_at_once a b c t out w) v refl
+
+-- one of two is one of three
+pub either_more : {A B C : Type 0} → A ⊎ B → A ⊎ (B ⊎ C)
+either_more (inl a) = inl a
+either_more (inr b) = inr (inl b)
 
 -- what the theorem says of every grouping
 abbrev pub GivenLaw : Type 0

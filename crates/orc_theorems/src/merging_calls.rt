@@ -25,6 +25,22 @@ use orc_file::{Sink, SliceSource, Source, Tail, VecSink};
 use orc_merger::{MergeFault, merge};
 use std::alloc::Global;
 
+/// Merges files into memory.
+fn merge_in_memory<S: Source>(alloc: Global, inputs: &mut [S]) -> Result<Vec<u8>, MergeFault>
+    ensures merged { IfOk result (λ bytes. (xs : List (List ℕ))
+        → map S.told inputs.old ≡ map Some xs
+        → (tail : Tail) × WroteMerge xs tail (Some []) (Some bytes.items)) }
+    ensures refused { IfErr result (λ e. (xs : List (List ℕ))
+        → map S.told inputs.old ≡ map Some xs
+        → IsAnswer xs e) }
+{
+    let mut out = VecSink::new(alloc);
+    match merge(alloc, inputs, &mut out) {
+        Ok(_) => Ok(out.into_vec()),
+        Err(fault) => Err(fault),
+    }
+}
+
 /// Merges each of two lists of files into memory, and then the two that this gave. What goes out is the merged file
 /// of all of them, and its tail is answered, by the clause `answered`.
 ///
@@ -50,12 +66,8 @@ pub fn in_two_steps<S: Source, W: Sink>(
 {
     // for its contract alone: the last merge of a grouping is the merge of all its files
     merge_theorem();
-    let mut first = VecSink::new(alloc);
-    merge(alloc, left, &mut first)?;
-    let first = first.into_vec();
-    let mut second = VecSink::new(alloc);
-    merge(alloc, right, &mut second)?;
-    let second = second.into_vec();
+    let first = merge_in_memory(alloc, left)?;
+    let second = merge_in_memory(alloc, right)?;
     let mut both = [SliceSource::new(&first), SliceSource::new(&second)];
     merge(alloc, &mut both, out)
 }
@@ -91,6 +103,78 @@ pub fn join_in_steps(
         Ok(front) => join_two(alloc, &front.bytes, third),
         Err(fault) => Err(fault),
     }
+}
+
+/// Joins the last two of three files, and then the first with what that gave.
+fn join_from_the_last(
+    alloc: Global,
+    first: &[u8],
+    second: &[u8],
+    third: &[u8],
+) -> Result<FileInMemory, MergeFault>
+    ensures wrote { IfOk result (λ done. Wrote (last_two first.now second.now third.now) done.bytes.items) }
+    ensures step { IfErr result (IsStepAnswer (last_two first.now second.now third.now)) }
+{
+    match join_two(alloc, second, third) {
+        Ok(back) => join_two(alloc, first, &back.bytes),
+        Err(fault) => Err(fault),
+    }
+}
+
+/// Joins the first two of three files, and then what that gave with the third: whether this gave these bytes.
+fn first_two_gave(
+    alloc: Global,
+    first: &[u8],
+    second: &[u8],
+    third: &[u8],
+    bytes: &[u8],
+) -> Result<bool, MergeFault>
+    ensures gave { IfOk result (λ same. (out : List ℕ)
+        × Wrote (first_two first.now second.now third.now) out × (out ≡ bytes.now → IsTrue same)) }
+    ensures step { IfErr result (IsStepAnswer (first_two first.now second.now third.now)) }
+{
+    match join_in_steps(alloc, first, second, third) {
+        Ok(left) => Ok(is_same(&left.bytes, bytes)),
+        Err(fault) => Err(fault),
+    }
+}
+
+/// Joins the last two of three files, and then the first with what that gave: whether this gave these bytes.
+fn last_two_gave(
+    alloc: Global,
+    first: &[u8],
+    second: &[u8],
+    third: &[u8],
+    bytes: &[u8],
+) -> Result<bool, MergeFault>
+    ensures gave { IfOk result (λ same. (out : List ℕ)
+        × Wrote (last_two first.now second.now third.now) out × (out ≡ bytes.now → IsTrue same)) }
+    ensures step { IfErr result (IsStepAnswer (last_two first.now second.now third.now)) }
+{
+    match join_from_the_last(alloc, first, second, third) {
+        Ok(right) => Ok(is_same(&right.bytes, bytes)),
+        Err(fault) => Err(fault),
+    }
+}
+
+/// Joins three files in both groupings: whether each gave these bytes.
+fn both_gave(
+    alloc: Global,
+    first: &[u8],
+    second: &[u8],
+    third: &[u8],
+    bytes: &[u8],
+) -> Result<bool, MergeFault>
+    ensures gave { IfOk result (λ same. (left right : List ℕ)
+        × Wrote (first_two first.now second.now third.now) left
+        × Wrote (last_two first.now second.now third.now) right
+        × (left ≡ bytes.now → right ≡ bytes.now → IsTrue same)) }
+    ensures refused { IfErr result (λ e. IsStepAnswer (first_two first.now second.now third.now) e
+        ⊎ IsStepAnswer (last_two first.now second.now third.now) e) }
+{
+    let left = first_two_gave(alloc, first, second, third, bytes)?;
+    let right = last_two_gave(alloc, first, second, third, bytes)?;
+    Ok(left && right)
 }
 
 /// Joins three files at once and in both groupings: the first two and then the third, and the last two and then the
@@ -146,11 +230,8 @@ pub fn join_in_groupings(
 {
     // for its contract alone: in whatever groups files are joined, the same bytes are written
     merge_theorem();
-    let left = join_in_steps(alloc, first, second, third)?;
-    let back = join_two(alloc, second, third)?;
-    let right = join_two(alloc, first, &back.bytes)?;
     let joined = join_three(alloc, first, second, third)?;
-    let same = is_same(&left.bytes, &joined.bytes) && is_same(&right.bytes, &joined.bytes);
+    let same = both_gave(alloc, first, second, third, &joined.bytes)?;
     Ok((joined, same))
 }
 

@@ -1,11 +1,12 @@
 //! Callers over the theorem of positions: they go to where a group of rows begins in the streams of a column, in a
 //! file that was written of rows, and in one that two such files were joined into.
-ghost use Rattle.std.specs.Prelude.{◌≡◌, ◌<◌, ℕ, List, IfOk};
+ghost use Rattle.std.specs.Prelude.{◌≡◌, ◌<◌, ℕ, List, Some, IfOk};
 ghost use Rattle.orc_values.specs.Cells.{Cell};
 ghost use Rattle.orc_values.specs.Shapes.{width, shape_at};
 ghost use Rattle.orc_column_reader.specs.Stripe.{columns_of};
 ghost use Rattle.orc_row_index.specs.Walking.{ArePlaced};
 ghost use Rattle.orc_file.specs.FileRows.{FileIs};
+ghost use Rattle.orc_tail.specs.Tails.{IsTail};
 ghost use Rattle.orc_tail.specs.declared.tail.Tail.{Tail};
 ghost use Rattle.orc_theorems.specs.OneRunPositions.{ColumnReadsOneRun, ReadsOneRun};
 ghost use Rattle.orc_theorems.specs.RunsRead.{ReadOneEach};
@@ -17,7 +18,7 @@ use crate::seeking::{ColumnSought, seek_places};
 use crate::written_files_calls::write_rows;
 use crate::written_positions::writers_positions;
 use orc_column_reader::streams_of;
-use orc_file::{FileFault, OrcFile, SliceSource, tail_laws};
+use orc_file::{FileFault, OrcFile, SliceSource, Source, tail_laws};
 use orc_row_index::{PlacedStreams, placed_streams};
 use orc_stripe::{Options, Spot, StripeFault, StripeView};
 use orc_types::Schema;
@@ -69,7 +70,43 @@ fn seek_group(
     }
 }
 
-/// Goes to where a group of rows begins in the streams of a column, in a stripe of a file in memory.
+/// The file in memory.
+fn opened<'a>(alloc: Global, bytes: &'a [u8]) -> Result<OrcFile<SliceSource<'a>>, FileFault>
+    ensures found { IfOk result (λ file. IsTail bytes.now file.tail) }
+    ensures told { IfOk result (λ file. ⟦<SliceSource<'a> as Source>⟧.told file.source ≡ Some bytes.now) }
+{
+    match OrcFile::open(alloc, SliceSource::new(bytes)) {
+        Ok(file) => Ok(file),
+        Err((fault, _)) => Err(fault),
+    }
+}
+
+/// Goes to where a group of rows begins in the streams of a column, in a stripe of a file.
+fn seek_in_stripe<S: Source>(
+    alloc: Global,
+    file: &mut OrcFile<S>,
+    stripe: usize,
+    column: usize,
+    group: usize,
+) -> Result<ColumnSought, FileFault>
+    ensures { (bytes : List ℕ) (rows : List Cell)
+        → S.told file.old.source ≡ Some bytes
+        → ReadsOneRun bytes file.old.tail rows
+        → IfOk result ReadOneEach }
+{
+    if stripe >= file.tail().stripes.as_slice().len() {
+        return Err(FileFault::BadStripe(stripe));
+    }
+    let mut own = Vec::new(alloc);
+    file.load(stripe, &mut own)?;
+    let view = file.view(alloc, stripe, &own)?;
+    match seek_group(alloc, &view, column, group) {
+        Ok(sought) => Ok(sought),
+        Err(cause) => Err(FileFault::Stripe(stripe, cause)),
+    }
+}
+
+/// The same, of a file in memory.
 fn seek_in_file(
     alloc: Global,
     bytes: &[u8],
@@ -84,20 +121,8 @@ fn seek_in_file(
 {
     // for its contract alone: bytes have one tail
     tail_laws();
-    let mut file = match OrcFile::open(alloc, SliceSource::new(bytes)) {
-        Ok(file) => file,
-        Err((fault, _)) => return Err(fault),
-    };
-    if stripe >= file.tail().stripes.as_slice().len() {
-        return Err(FileFault::BadStripe(stripe));
-    }
-    let mut own = Vec::new(alloc);
-    file.load(stripe, &mut own)?;
-    let view = file.view(alloc, stripe, &own)?;
-    match seek_group(alloc, &view, column, group) {
-        Ok(sought) => Ok(sought),
-        Err(cause) => Err(FileFault::Stripe(stripe, cause)),
-    }
+    let mut file = opened(alloc, bytes)?;
+    seek_in_stripe(alloc, &mut file, stripe, column, group)
 }
 
 /// Writes a file of rows to memory, opens it, and goes to where a group of rows begins in the streams of a column of a
@@ -145,6 +170,11 @@ pub fn join_and_seek(
 {
     // for its contract alone: from a writer's positions one run is read at most, in a merged file too
     writers_positions();
-    let joined = join_two(alloc, first, second)?;
-    Ok(seek_in_file(alloc, &joined.bytes, stripe, column, group)?)
+    match join_two(alloc, first, second) {
+        Ok(joined) => match seek_in_file(alloc, &joined.bytes, stripe, column, group) {
+            Ok(sought) => Ok(sought),
+            Err(fault) => Err(CallFault::File(fault)),
+        },
+        Err(fault) => Err(CallFault::Merge(fault)),
+    }
 }

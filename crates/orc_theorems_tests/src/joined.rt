@@ -2,7 +2,7 @@
 use crate::assertions::{check_bytes, check_same};
 use crate::calls::{findings, groupings, orders, steps};
 use orc_merge::MergeFault;
-use orc_test_io::{EMPTY, SEVENS, TWICE, UPWARDS};
+use orc_test_kit::{EMPTY, SEVENS, TWICE, UPWARDS};
 use orc_theorems::CallFault;
 
 #[test]

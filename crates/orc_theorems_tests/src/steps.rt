@@ -3,7 +3,7 @@ use crate::assertions::{check_bytes, check_same};
 use crate::calls::two_steps;
 use orc_file::{SliceSource, VecSink};
 use orc_merge::MergeFault;
-use orc_test_io::{EMPTY, SEVENS, TWICE};
+use orc_test_kit::{EMPTY, SEVENS, TWICE};
 use std::alloc::Global;
 use std::process::Abort;
 

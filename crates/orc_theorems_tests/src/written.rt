@@ -5,7 +5,7 @@ use orc_cli_output::CliFault;
 use orc_file::FileFault;
 use orc_rle::Rle;
 use orc_stripe::Options;
-use orc_test_io::SEVENS;
+use orc_test_kit::SEVENS;
 use orc_theorems::CallFault;
 use orc_types::Schema;
 use orc_values::{Row, Value};

@@ -3,7 +3,7 @@
 use crate::assertions::{check_list, check_same, passes};
 use crate::calls::{load, open_capped, opened_capped, rows};
 use orc_file::{FileFault, OrcFile, Source};
-use orc_test_io::{EMPTY, NAMED, SEVENS, SeenSource, TWICE, UPWARDS};
+use orc_test_kit::{EMPTY, NAMED, SEVENS, SeenSource, TWICE, UPWARDS};
 use std::alloc::Global;
 use std::process::Abort;
 

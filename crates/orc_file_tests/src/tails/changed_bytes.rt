@@ -3,7 +3,7 @@
 use super::tail_of;
 use crate::assertions::demand;
 use orc_file::FileFault;
-use orc_test_io::SEVENS;
+use orc_test_kit::SEVENS;
 use std::alloc::Global;
 
 /// Whether a refusal is one of a file's bytes.

@@ -3,7 +3,7 @@
 use super::caps::read_capped;
 use crate::assertions::check_same;
 use orc_file::FileFault;
-use orc_test_io::SEVENS;
+use orc_test_kit::SEVENS;
 use orc_types::TypeFault;
 use std::alloc::Global;
 use std::process::Abort;

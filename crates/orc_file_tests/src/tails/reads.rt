@@ -3,7 +3,7 @@
 use crate::assertions::{check_list, check_same, passes};
 use crate::calls::open;
 use orc_file::{FileFault, Source, read_tail};
-use orc_test_io::{EMPTY, FailSource, SEVENS, SeenSource};
+use orc_test_kit::{EMPTY, FailSource, SEVENS, SeenSource};
 use std::alloc::Global;
 use std::process::Abort;
 

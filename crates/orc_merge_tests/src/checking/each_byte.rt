@@ -3,7 +3,7 @@ use crate::assertions::demand;
 use crate::calls::{count_rows, joined, refusal_of};
 use crate::tests::LISTS;
 use orc_file::{FileFault, SliceSource};
-use orc_test_io::SEVENS;
+use orc_test_kit::SEVENS;
 use std::alloc::Global;
 use std::process::Abort;
 

@@ -3,7 +3,7 @@ use crate::assertions::{check_same, demand};
 use crate::calls::{checked, refusal_of};
 use orc_file::FileFault;
 use orc_merge::Finding;
-use orc_test_io::{EMPTY, FailSource, SEVENS, UPWARDS};
+use orc_test_kit::{EMPTY, FailSource, SEVENS, UPWARDS};
 use std::alloc::Global;
 use std::process::Abort;
 

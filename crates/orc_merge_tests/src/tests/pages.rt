@@ -1,7 +1,7 @@
 //! What the pages of orc_file and orc_merge show, line by line: numbers are read of a file that two are joined into.
 use orc_file::{FileFault, OrcFile, SliceSource, Source, VecSink};
 use orc_merge::{MergeFault, merge};
-use orc_test_io::{SEVENS, UPWARDS};
+use orc_test_kit::{SEVENS, UPWARDS};
 use orc_values::Value;
 use std::alloc::Global;
 

@@ -5,7 +5,7 @@ use crate::assertions::{check_same, demand};
 use crate::calls::merged;
 use orc_file::{Failures, SliceSource, Source, SourceFault};
 use orc_merge::MergeFault;
-use orc_test_io::{EMPTY, FailSink, Full, SEVENS, TWICE, UPWARDS};
+use orc_test_kit::{EMPTY, FailSink, Full, SEVENS, TWICE, UPWARDS};
 use std::alloc::Global;
 use std::cell::Cell;
 use std::process::Abort;

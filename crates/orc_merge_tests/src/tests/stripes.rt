@@ -4,7 +4,7 @@ use crate::assertions::{check_same, demand};
 use crate::calls::merged;
 use orc_file::{SliceSource, VecSink};
 use orc_merge::MergeFault;
-use orc_test_io::{FailSink, FailSource, Full, SEVENS, SeenSource, TWICE};
+use orc_test_kit::{FailSink, FailSource, Full, SEVENS, SeenSource, TWICE};
 use std::alloc::Global;
 use std::process::Abort;
 

@@ -2,7 +2,7 @@
 use super::{ONE_BYTE, ONE_WORD, stripe_of};
 use crate::assertions::{demand, passes};
 use orc_stripe::StripeFault;
-use orc_test_lines::{rows_of, schema_of};
+use orc_test_kit::{rows_of, schema_of};
 use orc_values::{Row, Value};
 use std::alloc::Global;
 use std::borrow::{CowSlice, CowStr};

@@ -3,7 +3,7 @@ use super::{FOUR_BYTES, THREE_BYTES, stripe_of};
 use crate::assertions::{demand, passes, refusal, same_fault};
 use orc_rle::RunFault;
 use orc_stripe::{RowCursor, StreamKind, StripeFault};
-use orc_test_lines::{
+use orc_test_kit::{
     cursor_of, line_of, lines_one_by_one, lines_straight, next_row, rest_of, schema_of,
 };
 use orc_types::Schema;

@@ -6,7 +6,7 @@ use crate::assertions::{passes, refusal, same_fault};
 use crate::indexes::{cursor_from, view_of};
 use orc_rle::RunFault;
 use orc_stripe::{StreamKind, StripeFault};
-use orc_test_lines::schema_of;
+use orc_test_kit::schema_of;
 use orc_wire::StripeInfo;
 use std::alloc::Global;
 use std::process::Abort;

@@ -2,7 +2,7 @@
 use super::{THREE_BYTES, stripe_of};
 use crate::assertions::{demand, passes};
 use orc_stripe::{StripeFault, StripeView};
-use orc_test_lines::schema_of;
+use orc_test_kit::schema_of;
 use orc_types::Schema;
 use orc_values::{Row, Value};
 use orc_wire::StripeInfo;

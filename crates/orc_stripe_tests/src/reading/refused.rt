@@ -3,7 +3,7 @@ use super::{FOUR_BYTES, ONE_BYTE, ONE_WORD, THREE_BYTES, stripe_of};
 use crate::assertions::{passes, refusal, same_fault};
 use orc_rle::RunFault;
 use orc_stripe::{StreamKind, StripeFault};
-use orc_test_lines::{lines_one_by_one, lines_straight, schema_of};
+use orc_test_kit::{lines_one_by_one, lines_straight, schema_of};
 use std::alloc::Global;
 use std::process::Abort;
 

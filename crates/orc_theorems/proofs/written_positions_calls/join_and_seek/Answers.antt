@@ -5,14 +5,14 @@ use Rattle.orc_theorems.specs.OneRunPositions.{ReadsOneRun}
 use Rattle.orc_theorems.proofs.StepLemmas.{wrote_pair}
 use Rattle.orc_theorems.proofs.written_positions_calls.join_and_seek.Goals as goal
 
-pub returns : goal.returns
-returns c = record {
+pub returns-in-Ok-seek_in_file : goal.returns-in-Ok-seek_in_file
+returns-in-Ok-seek_in_file c = record {
   one_run = λ rows others first second.
       let a = c.args.first.now in
       let b = c.args.second.now in
-      let file = c.in_ok-joined.joined in
-      let wrote = wrote_pair a b file.tail file.bytes.items c.in_ok-joined.ensures.wrote in
+      let file = c.in-Ok.joined in
+      let wrote = wrote_pair a b file.tail file.bytes.items c.in-Ok.ensures.wrote in
       let is = c.writers_positions.ensures.in_merges (and (input a) (one (input b))) file.bytes.items (rows ∷ others ∷ []) wrote (first, (second, tt)) in
       let all = joined (rows ∷ others ∷ []) in
-      c.in_ok-seek_in_file.ensures is.0 all (subst (λ (x : List ℕ). FileIs x is.0 all) (sym c.deref.ensures.value) is.1) (subst (λ (x : List ℕ). ReadsOneRun x is.0 all) (sym c.deref.ensures.value) is.2);
+      c.in-Ok-seek_in_file.ensures is.0 all (subst (λ (x : List ℕ). FileIs x is.0 all) (sym c.deref.ensures.value) is.1) (subst (λ (x : List ℕ). ReadsOneRun x is.0 all) (sym c.deref.ensures.value) is.2);
 }

@@ -1,26 +1,11 @@
-use Rattle.std.proofs.Common.{◌≡◌, ◌∙◌, ℕ, ◌<◌, List, length, sym, ap, arith}
-use Rattle.orc_tail.specs.Stripes.{stripe_at}
-use Rattle.orc_file.specs.FileRows.{stripe_bytes, cut_rows}
-use Rattle.orc_tail.specs.Tails.{IsTail}
+use Rattle.std.proofs.Common.{◌≡◌, ℕ, List, sym, subst}
 use Rattle.orc_tail.specs.declared.tail.Tail.{Tail}
-use Rattle.orc_check.specs.Findings.{rows_at}
-use Rattle.orc_theorems.proofs.Told.{at_told}
-use Rattle.orc_theorems.proofs.SoughtLemmas.{view_reads}
+use Rattle.orc_theorems.specs.OneRunPositions.{ReadsOneRun}
 use Rattle.orc_theorems.proofs.written_positions_calls.seek_in_file.Goals as goal
 
-pub returns-in-Ok-seek_group : goal.returns-in-Ok-seek_group
-returns-in-Ok-seek_group c = λ tail rows is reads.
-    let file = c.in-Ok.file in
-    let n = c.args.stripe in
+pub returns : goal.returns
+returns c = λ tail rows is reads.
+    let file = c.in_ok-file.file in
     let bytes = c.args.bytes.now in
-    let found : IsTail bytes file.tail = at_told _ bytes (λ (b : List ℕ). IsTail b file.tail) c.new.ensures.told c.in-Ok.ensures.found in
-    let same : file.tail ≡ tail = c.tail_laws.ensures.one bytes file.tail tail found is.tail_is in
-    let own : c.load.new.into.items ≡ stripe_bytes (stripe_at file.tail.stripes n) bytes =
-    at_told _ bytes (λ (b : List ℕ). c.load.new.into.items ≡ stripe_bytes (stripe_at file.tail.stripes n) b) (c.in-Ok.ensures.source.told ∙ c.new.ensures.told) c.in_ok-load.ensures.loaded.bytes in
-    let opened = c.load.new.self.tail in
-    let lasts : opened ≡ file.tail = c.in_ok-load.ensures.tail in
-    let there : n < length opened.stripes = omega (arith, c.if-stripe-as_slice.false, ap length c.as_slice.ensures, ap (λ (t : Tail). length t.stripes) c.tail.ensures, ap (λ (t : Tail). length t.stripes) lasts) in
-    let view = c.in_ok-view.view in
-    let place = c.deref.ensures.value ∙ own ∙ ap (λ (t : Tail). stripe_bytes (stripe_at t.stripes n) bytes) (sym lasts) in
-    c.in-Ok-seek_group.ensures (rows_at (cut_rows tail.stripes rows) n)
-    (λ some below. view_reads bytes c.deref.result.now tail opened rows n view reads (lasts ∙ same) there place c.in_ok-view.ensures.found c.in_ok-view.ensures.same c.args.column some below)
+    let same : file.tail ≡ tail = c.tail_laws.ensures.one bytes file.tail tail c.in_ok-file.ensures.found is.tail_is in
+    c.seek_in_stripe.ensures bytes rows c.in_ok-file.ensures.told (subst (λ (t : Tail). ReadsOneRun bytes t rows) (sym same) reads)
