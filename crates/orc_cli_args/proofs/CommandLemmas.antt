@@ -1,6 +1,5 @@
 -- The program's command line is one of which the parser's walk gives the matches, and no argument has a rule on another.
-use Rattle.std.proofs.Common.{◌≡◌, ◌∙◌, ◌⊎◌, inl, inr, List, Result, Ok, Err, refl, sym, subst, true, false, ap, IfOk, IfErr, MatchResult}
-use Rattle.std.proofs.lemmas.Result.{IfErr-weaker, IfOk-weaker}
+use Rattle.std.proofs.Common.{◌≡◌, ◌∙◌, ◌⊎◌, inl, inr, List, Result, Ok, Err, refl, sym, subst, true, IfOk, IfErr}
 use Rattle.clap.specs.Walk.{Text}
 use Rattle.clap.specs.Simple.{App, HasMatchesOf, is_simple}
 use Rattle.clap.specs.Faults.{fault_of, is_simple_and_free}

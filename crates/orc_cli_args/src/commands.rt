@@ -1,8 +1,9 @@
 //! The parser's table: the commands of the program and their arguments, with what its help says of each.
-ghost use Rattle.std.specs.Prelude.{◌≡◌, IfOk, IfErr, false, codes};
+ghost use Rattle.std.specs.Prelude.{◌≡◌, Ok, IfOk, IfErr, false, codes};
 ghost use Rattle.clap.specs.Values.{kind_of};
 ghost use Rattle.clap.specs.Walk.{rule_of};
-ghost use Rattle.clap.specs.Simple.{app_of, shape_of};
+ghost use Rattle.clap.specs.Simple.{app_of, shape_of, with_subcommand};
+ghost use Rattle.clap.specs.declared.builder.command.Command.{Command};
 ghost use Rattle.clap.specs.declared.builder.command.Command.TheViews.{out-Command};
 ghost use Rattle.clap.specs.declared.error.kind.ErrorKind.TheVariants as kind;
 ghost use Rattle.orc_cli_args.specs.Commands as spec;
@@ -27,20 +28,32 @@ pub(crate) fn orcm<'a>(alloc: Global) -> Result<Command<'a>, Error>
     ensures table { IfOk result (λ command. (choices : Choices) × (app_of command ≡ spec.orcm choices)) }
     ensures memory { IfErr result (λ error. kind_of error ≡ kind.OutOfMemory) }
 {
-    Ok(
-        Command::new(alloc, "orcm")
-            .bin_name("orcm")?
-            .version(VERSION)
-            .about("Reads, writes, checks and joins Apache ORC files without compression")
-            .after_help(STATUSES)
-            .subcommand_required(true)
-            .subcommand(ints_command(alloc)?)?
-            .subcommand(rows_command(alloc)?)?
-            .subcommand(show_command(alloc)?)?
-            .subcommand(check_command(alloc)?)?
-            .subcommand(write_command(alloc)?)?
-            .subcommand(merge_command(alloc)?)?,
-    )
+    let program = Command::new(alloc, "orcm")
+        .bin_name("orcm")?
+        .version(VERSION)
+        .about("Reads, writes, checks and joins Apache ORC files without compression")
+        .after_help(STATUSES)
+        .subcommand_required(true);
+    let program = with_command(program, ints_command(alloc))?;
+    let program = with_command(program, rows_command(alloc))?;
+    let program = with_command(program, show_command(alloc))?;
+    let program = with_command(program, check_command(alloc))?;
+    let program = with_command(program, write_command(alloc))?;
+    with_command(program, merge_command(alloc))
+}
+
+/// The program with one more command, if there was memory for that one.
+fn with_command<'a>(
+    program: Command<'a>,
+    command: Result<Command<'a>, Error>,
+) -> Result<Command<'a>, Error>
+    ensures added { IfOk result (λ more. (line : Command) × (command.entry ≡ Ok line)
+        × ((out-Command line).has_globals ≡ false
+        → app_of more ≡ with_subcommand (app_of program.entry) (shape_of line))) }
+    ensures memory { IfErr command.entry (λ error. kind_of error ≡ kind.OutOfMemory)
+        → IfErr result (λ error. kind_of error ≡ kind.OutOfMemory) }
+{
+    Ok(program.subcommand(command?)?)
 }
 
 /// An argument that has to be there.
@@ -128,18 +141,17 @@ fn ints_command<'a>(alloc: Global) -> Result<Command<'a>, Error>
     ensures local { IfOk result (λ command. (out-Command command).has_globals ≡ false) }
     ensures memory { IfErr result (λ error. kind_of error ≡ kind.OutOfMemory) }
 {
-    let hex = needed_argument(
-        alloc,
-        "hex",
-        "HEX",
-        "The bytes of the stream as hexadecimal digits, in either case",
-    );
     Ok(
         Command::new(alloc, "ints")
             .about("Prints the numbers of an integer stream")
             .arg(version_option(alloc))?
             .arg(sign_option(alloc))?
-            .arg(hex)?,
+            .arg(needed_argument(
+                alloc,
+                "hex",
+                "HEX",
+                "The bytes of the stream as hexadecimal digits, in either case",
+            ))?,
     )
 }
 
@@ -151,21 +163,28 @@ fn file_word<'a>(alloc: Global) -> Arg<'a>
     needed_argument(alloc, "file", "FILE", "The ORC file")
 }
 
+/// Where to start to read.
+fn from_option<'a>(alloc: Global) -> Arg<'a>
+    ensures rule { rule_of result ≡ named (optional (codes "from")) }
+    ensures local { result.global ≡ false }
+{
+    Arg::new(alloc, "from")
+        .long("from")
+        .action(ArgAction::Set)
+        .value_name("STRIPE:GROUP")
+        .help("Where to start: a stripe and a group of its row index, both counted from 0")
+}
+
 fn rows_command<'a>(alloc: Global) -> Result<Command<'a>, Error>
     ensures shape { IfOk result (λ command. shape_of command ≡ spec.rows_line) }
     ensures local { IfOk result (λ command. (out-Command command).has_globals ≡ false) }
     ensures memory { IfErr result (λ error. kind_of error ≡ kind.OutOfMemory) }
 {
-    let from = Arg::new(alloc, "from")
-        .long("from")
-        .action(ArgAction::Set)
-        .value_name("STRIPE:GROUP")
-        .help("Where to start: a stripe and a group of its row index, both counted from 0");
     Ok(
         Command::new(alloc, "rows")
             .about("Prints the rows of a file, a row a line as compact JSON")
             .after_help(ROWS_HELP)
-            .arg(from)?
+            .arg(from_option(alloc))?
             .arg(file_word(alloc))?,
     )
 }

@@ -18,8 +18,8 @@ use Rattle.orc_values.specs.declared.kind.Scalar.{Scalar}
 use Rattle.orc_values.specs.declared.kind.Scalar.TheVariants as scalar_kind
 use Rattle.orc_values.specs.Kinds.{number, is_kind}
 use Rattle.orc_file.proofs.ChildrenRoom.{child_number}
-use Rattle.orc_values.specs.Shapes.{Shape, scalar, list_of, map_of, struct_of, Fields, no_field, field, width, widths, names_of}
-use Rattle.orc_values.specs.Types.{types, fields_types, starts}
+use Rattle.orc_values.specs.Shapes.{Shape, scalar, list_of, map_of, struct_of, Fields, no_field, field, width, widths, names_of, starts}
+use Rattle.orc_wire.specs.Types.{types, fields_types}
 use Rattle.orc_values.specs.Cells.{bool, int, date, text, bytes, Cell, null, leaf, list, struct, pairs, parts, pairs_in, values}
 use Rattle.orc_values.specs.Fits.{fits, signed_fits, int_fits, RowsFit}
 use Rattle.orc_stats.specs.declared.kind.StatKind.{StatKind}

@@ -1,15 +1,28 @@
-//! Tests of `orc_stripe` and of the crates below it by their public calls, of what no file shows that the program reads or
-//! writes: those stand in vectors/ and scripts/cases/. They stand apart from all these crates, so that none is proved again
-//! with them.
+//! Tests by public calls of `orc_stripe` and of the crates below it: of `orc_bits` (zigzag, varints, widths, packed numbers),
+//! of `orc_wire` (fields, numbers, directories, statistics), of `orc_rle` and `orc_positions` (runs, positions in streams of
+//! them), of `orc_types` and `orc_values`, of `orc_json` and `orc_json_reader`, of `orc_row_batch`, `orc_stats` and
+//! `orc_column_walk`, of what makes a stripe and reads it. They stand apart, so that none of these is proved again with
+//! them, and together, since a crate of tests takes more than a minute before its first test.
+//! What no file shows that the program reads or writes stands here; the rest stands in vectors/ and scripts/cases/. What a
+//! statistic says, how it joins and how it is written is told by what the program makes of files, but for a tally of both
+//! cells and statistics. So is that the columns of a stripe are read and counted, or refused; but no file can tell of more
+//! rows than a stripe may have.
 #![tactic(auto)]
 
-/// What a check answers, which is asked again where memory was refused once. A closure would be proved anew in each
-/// test.
+#[cfg(test)]
+mod bits;
+#[cfg(test)]
+mod messages;
+#[cfg(test)]
+mod runs;
+
+/// What a check answers, which is asked again where memory was refused once. Its answer is then demanded. A closure
+/// would be proved anew in each test.
 #[cfg(test)]
 macro_rules! with_memory {
     ($check:expr) => {
         match $check {
-            Err(StripeFault::OutOfMemory) => $check,
+            Err(_) => $check,
             answer => answer,
         }
     };
@@ -18,10 +31,20 @@ macro_rules! with_memory {
 #[cfg(test)]
 mod assertions;
 #[cfg(test)]
+mod column_walk;
+#[cfg(test)]
 mod entering;
 #[cfg(test)]
 mod indexes;
 #[cfg(test)]
+mod json;
+#[cfg(test)]
 mod reading;
+#[cfg(test)]
+mod row_batch;
+#[cfg(test)]
+mod stats;
+#[cfg(test)]
+mod types;
 #[cfg(test)]
 mod writing;

@@ -22,7 +22,7 @@ use Rattle.orc_values.specs.declared.kind.Scalar.{Scalar}
 use Rattle.orc_values.specs.declared.kind.Scalar.TheVariants as kind
 use Rattle.orc_values.specs.Kinds.{number}
 use Rattle.orc_values.specs.Shapes.{Shape, scalar, list_of, map_of, struct_of, Fields, no_field, field, width, widths, shape_at, shape_within}
-use Rattle.orc_values.specs.Types.{types, fields_types}
+use Rattle.orc_wire.specs.Types.{types, fields_types}
 use Rattle.orc_values.specs.Cells.{Cell, is_value, parts, pairs_in, values}
 use Rattle.orc_values.specs.Columns.{cells}
 use Rattle.orc_types.proofs.Trees.{length-types}

@@ -11,7 +11,7 @@ use Rattle.orc_wire.specs.declared.post_script.PostScript.{PostScript}
 use Rattle.orc_wire.specs.declared.footer.Footer.{Footer}
 use Rattle.orc_wire.specs.declared.column_stats.Metadata.{Metadata}
 use Rattle.orc_values.specs.Shapes.{Shape}
-use Rattle.orc_values.specs.Types.{types}
+use Rattle.orc_wire.specs.Types.{types}
 use Rattle.orc_types.specs.Schemas.{IsSchema}
 use Rattle.orc_stats.specs.Messages.{message_of}
 use Rattle.orc_tail.specs.Layout.{magic}

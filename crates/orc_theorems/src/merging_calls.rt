@@ -1,6 +1,6 @@
 //! Callers over the merge theorem. Each makes merges that the theorem speaks of, and its contract is what the theorem
 //! says of them.
-ghost use Rattle.std.specs.Prelude.{◌≡◌, ◌↔◌, ◌<◌, ◌⊎◌, ◌&&◌, ◌++◌, ◌∷◌, [], ℕ, List, Some, map, slice_get, IsTrue, IfOk, IfErr};
+ghost use Rattle.std.specs.Prelude.{◌≡◌, ◌↔◌, ◌<◌, ◌⊎◌, ◌&&◌, ◌++◌, ◌∷◌, [], ℕ, List, Some, Ok, Err, map, slice_get, IsTrue, IfOk, IfErr};
 ghost use Rattle.orc_values.specs.Cells.{Cell};
 ghost use Rattle.orc_values.specs.Shapes.{width};
 ghost use Rattle.orc_stats.specs.declared.stat.Stat.{Stat};
@@ -18,6 +18,7 @@ ghost use Rattle.orc_merger.specs.Outcomes.{WroteMerge, IsAnswer};
 ghost use Rattle.orc_merger.specs.Grouping as grouping;
 ghost use Rattle.orc_merger.specs.Grouping.{Groups, all_leaves, Gives, AllShort, HaveRows, AreHonestFiles, AreFellows, ComesOfJoining, Wrote};
 ghost use Rattle.orc_theorems.specs.Groupings.{at_once, first_two, last_two, Gave, IsStepAnswer};
+ghost use Rattle.orc_theorems.specs.declared.memory.FileInMemory.{FileInMemory};
 
 use crate::memory::{FileInMemory, is_same, join_three, join_two};
 use crate::merging::merge_theorem;
@@ -121,38 +122,14 @@ fn join_from_the_last(
     }
 }
 
-/// Joins the first two of three files, and then what that gave with the third: whether this gave these bytes.
-fn first_two_gave(
-    alloc: Global,
-    first: &[u8],
-    second: &[u8],
-    third: &[u8],
-    bytes: &[u8],
-) -> Result<bool, MergeFault>
-    ensures gave { IfOk result (λ same. (out : List ℕ)
-        × Wrote (first_two first.now second.now third.now) out × (out ≡ bytes.now → IsTrue same)) }
-    ensures step { IfErr result (IsStepAnswer (first_two first.now second.now third.now)) }
+/// Whether a join gave these bytes. A refusal is the join's.
+fn gave(joined: Result<FileInMemory, MergeFault>, bytes: &[u8]) -> Result<bool, MergeFault>
+    ensures gave { IfOk result (λ same. (done : FileInMemory) × (joined ≡ Ok done)
+        × (IsTrue same ↔ (done.bytes.items ≡ bytes.now))) }
+    ensures fault { IfErr result (λ e. joined ≡ Err e) }
 {
-    match join_in_steps(alloc, first, second, third) {
-        Ok(left) => Ok(is_same(&left.bytes, bytes)),
-        Err(fault) => Err(fault),
-    }
-}
-
-/// Joins the last two of three files, and then the first with what that gave: whether this gave these bytes.
-fn last_two_gave(
-    alloc: Global,
-    first: &[u8],
-    second: &[u8],
-    third: &[u8],
-    bytes: &[u8],
-) -> Result<bool, MergeFault>
-    ensures gave { IfOk result (λ same. (out : List ℕ)
-        × Wrote (last_two first.now second.now third.now) out × (out ≡ bytes.now → IsTrue same)) }
-    ensures step { IfErr result (IsStepAnswer (last_two first.now second.now third.now)) }
-{
-    match join_from_the_last(alloc, first, second, third) {
-        Ok(right) => Ok(is_same(&right.bytes, bytes)),
+    match joined {
+        Ok(done) => Ok(is_same(&done.bytes, bytes)),
         Err(fault) => Err(fault),
     }
 }
@@ -168,12 +145,12 @@ fn both_gave(
     ensures gave { IfOk result (λ same. (left right : List ℕ)
         × Wrote (first_two first.now second.now third.now) left
         × Wrote (last_two first.now second.now third.now) right
-        × (left ≡ bytes.now → right ≡ bytes.now → IsTrue same)) }
+        × (IsTrue same ↔ (left ≡ bytes.now) × (right ≡ bytes.now))) }
     ensures refused { IfErr result (λ e. IsStepAnswer (first_two first.now second.now third.now) e
         ⊎ IsStepAnswer (last_two first.now second.now third.now) e) }
 {
-    let left = first_two_gave(alloc, first, second, third, bytes)?;
-    let right = last_two_gave(alloc, first, second, third, bytes)?;
+    let left = gave(join_in_steps(alloc, first, second, third), bytes)?;
+    let right = gave(join_from_the_last(alloc, first, second, third), bytes)?;
     Ok(left && right)
 }
 

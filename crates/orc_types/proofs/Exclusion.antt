@@ -10,8 +10,8 @@ use Rattle.orc_wire.specs.declared.type_msg.TypeMsg.{TypeMsg}
 use Rattle.orc_types.specs.declared.fault.TypeFault.{TypeFault}
 use Rattle.orc_types.specs.declared.fault.TypeFault.TheVariants as fault
 use Rattle.orc_values.specs.Kinds.{IsKind}
-use Rattle.orc_values.specs.Types.{starts, types, fields_types}
-use Rattle.orc_values.specs.Shapes.{Shape, scalar, list_of, map_of, struct_of, Fields, no_field, field, width, depth, depths, HasTextNames, HaveTextNames, names_of, IsStruct}
+use Rattle.orc_wire.specs.Types.{types, fields_types}
+use Rattle.orc_values.specs.Shapes.{Shape, scalar, list_of, map_of, struct_of, Fields, no_field, field, width, depth, depths, HasTextNames, HaveTextNames, names_of, IsStruct, starts}
 use Rattle.orc_types.specs.Schemas.{HasTypes, same_node, same_types}
 use Rattle.orc_types.specs.Faults.{HasNoRoot, IsBelow, Descends, TypesFault}
 use Rattle.orc_values.proofs.Together.{all_append}

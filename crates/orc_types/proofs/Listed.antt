@@ -1,7 +1,7 @@
 -- The types of fields, one after the other.
 use Rattle.std.proofs.Common.{◌≡◌, ℕ, suc, ◌+◌, ◌<◌, List, [], ◌∷◌, ◌++◌, arith, length, get_or, drop, ap, ◌∙◌, append_assoc, length-append}
 use Rattle.orc_values.specs.Shapes.{Shape, map_of, width}
-use Rattle.orc_values.specs.Types.{types, fields_types}
+use Rattle.orc_wire.specs.Types.{types, fields_types}
 use Rattle.orc_values.specs.Views.{shape, fields}
 use Rattle.orc_values.specs.declared.tree.Field.{Field}
 use Rattle.orc_wire.specs.declared.type_msg.TypeMsg.{TypeMsg}

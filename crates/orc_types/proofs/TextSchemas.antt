@@ -7,7 +7,7 @@ use Rattle.orc_values.specs.declared.kind.Scalar.TheVariants as kind
 use Rattle.orc_types.specs.declared.fault.TypeFault.{TypeFault}
 use Rattle.orc_types.specs.declared.fault.TypeFault.TheVariants as fault
 use Rattle.orc_values.specs.Shapes.{Shape, scalar, list_of, map_of, struct_of, Fields, no_field, field, width, widths, IsStruct, HasTextNames, HaveTextNames}
-use Rattle.orc_values.specs.Types.{types, fields_types}
+use Rattle.orc_wire.specs.Types.{types, fields_types}
 use Rattle.orc_types.specs.Schemas.{AllKept}
 use Rattle.orc_types.specs.SchemaText.{kind_name, comma, colon, text, fields_text, IsPlain, ArePlain, HasText}
 use Rattle.orc_types.specs.TextFaults.{TextFault}

@@ -10,9 +10,9 @@ use Rattle.orc_values.specs.declared.kind.Scalar.TheVariants as kind
 use Rattle.orc_types.specs.declared.fault.TypeFault.{TypeFault}
 use Rattle.orc_types.specs.declared.fault.TypeFault.TheVariants as fault
 use Rattle.orc_values.specs.Kinds.{number, scalar_of, IsKind}
-use Rattle.orc_values.specs.Types.{starts, types, fields_types}
+use Rattle.orc_wire.specs.Types.{types, fields_types}
 use Rattle.orc_wire.specs.declared.type_msg.TypeMsg.{TypeMsg}
-use Rattle.orc_values.specs.Shapes.{Shape, scalar, list_of, map_of, struct_of, Fields, no_field, field, width, widths, names_of, IsStruct}
+use Rattle.orc_values.specs.Shapes.{Shape, scalar, list_of, map_of, struct_of, Fields, no_field, field, width, widths, names_of, IsStruct, starts}
 use Rattle.orc_types.specs.Schemas.{HasTypes, AllKept}
 use Rattle.orc_types.specs.Faults.{IsBelow, Descends, HasNoRoot, TypesFault}
 use Rattle.orc_types.specs.Preorder.{HasKeyAt, Found, FoundFields, NoneAt, NoFieldsAt, NameFault, PlaceFault, FieldsPlaceFault}

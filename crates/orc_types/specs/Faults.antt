@@ -5,7 +5,7 @@ use Rattle.std.specs.Str.{is_utf8}
 use Rattle.orc_wire.specs.declared.type_msg.TypeMsg.{TypeMsg}
 use Rattle.orc_values.specs.Kinds.{IsKind, list_number, map_number, struct_number}
 use Rattle.orc_values.specs.Shapes.{Shape}
-use Rattle.orc_values.specs.Types.{types}
+use Rattle.orc_wire.specs.Types.{types}
 use Rattle.orc_types.specs.declared.fault.TypeFault.{TypeFault}
 use Rattle.orc_types.specs.declared.fault.TypeFault.TheVariants as fault
 

@@ -2,8 +2,8 @@
 use Rattle.std.specs.Str.{is_utf8}
 use Rattle.std.specs.Prelude.{◌⊎◌, false, ℕ, ◌+◌, ◌<◌, ◌≤◌, ◌≡◌, length, ◌++◌, drop, List, [], slice_get, get_or, Some}
 use Rattle.orc_wire.specs.declared.type_msg.TypeMsg.{TypeMsg}
-use Rattle.orc_values.specs.Types.{types, fields_types, starts}
-use Rattle.orc_values.specs.Shapes.{Shape, Fields, width, widths, depth, depths, HasTextNames, HaveTextNames, names_of}
+use Rattle.orc_wire.specs.Types.{types, fields_types}
+use Rattle.orc_values.specs.Shapes.{Shape, Fields, width, widths, depth, depths, HasTextNames, HaveTextNames, names_of, starts}
 use Rattle.orc_types.specs.Faults.{HasForeignKind, HasBadName, Descends}
 use Rattle.orc_types.specs.declared.fault.TypeFault.{TypeFault}
 use Rattle.orc_types.specs.declared.fault.TypeFault.TheVariants as fault

@@ -7,7 +7,7 @@ use Rattle.std.specs.Cmp.Lexicographic.{pointwise}
 use Rattle.std.proofs.lemmas.Cmp.{on_equiv, and_equiv, lists_equiv, nat_eq_equiv, nat_list_eq_equiv}
 use Rattle.orc_wire.specs.declared.type_msg.TypeMsg.{TypeMsg}
 use Rattle.orc_values.specs.Shapes.{Shape, width, depth, IsStruct, HasTextNames}
-use Rattle.orc_values.specs.Types.{types}
+use Rattle.orc_wire.specs.Types.{types}
 use Rattle.orc_types.specs.FieldNames.{is_distinct}
 use Rattle.orc_wire.specs.CanonicalKinds.{AreKept}
 

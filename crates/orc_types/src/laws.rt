@@ -1,7 +1,7 @@
 //! Laws of schemas, texts, cells, days and JSON. Each function does nothing: its contract is what it is for.
 ghost use Rattle.std.specs.Prelude.{◌≡◌, ◌≢◌, ◌↔◌, ◌++◌, ◌+◌, ◌<◌, length, sum_by, slice_get, Some, ◌≤ℤ◌, ◌⊎◌, ℕ, ℤ, pos, List, true};
-ghost use Rattle.orc_values.specs.Shapes.{Shape, list_of, map_of, struct_of, Fields, width, shape_at};
-ghost use Rattle.orc_values.specs.Types.{types, starts};
+ghost use Rattle.orc_values.specs.Shapes.{Shape, list_of, map_of, struct_of, Fields, width, shape_at, starts};
+ghost use Rattle.orc_wire.specs.Types.{types};
 ghost use Rattle.orc_wire.specs.declared.type_msg.TypeMsg.{TypeMsg};
 ghost use Rattle.orc_types.specs.Schemas.{IsSchema, HasTypes, AllKept, same_types};
 ghost use Rattle.orc_types.specs.Faults.{TypesFault};

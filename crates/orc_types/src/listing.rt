@@ -1,7 +1,7 @@
 //! A schema's tree to the list of its types, in pre-order.
 ghost use Rattle.std.specs.Prelude.{◌≡◌, ◌+◌, ◌<◌, ◌^◌, ◌++◌, [], ◌∷◌, IfOk, OnOk, length};
-ghost use Rattle.orc_values.specs.Shapes.{map_of, width, widths, names_of as spec_names};
-ghost use Rattle.orc_values.specs.Types.{types as spec_types, fields_types, starts as spec_starts};
+ghost use Rattle.orc_values.specs.Shapes.{map_of, width, widths, names_of as spec_names, starts as spec_starts};
+ghost use Rattle.orc_wire.specs.Types.{types as spec_types, fields_types};
 ghost use Rattle.orc_values.specs.Views.{shape, fields as fields_view};
 
 use crate::copies::copy_bytes;

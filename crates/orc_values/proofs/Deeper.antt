@@ -6,8 +6,7 @@ use Rattle.std.proofs.lemmas.Bool.{lt-ltb, le-ltb}
 use Rattle.std.proofs.lemmas.Bool.Decides.{leb_tells}
 use Rattle.std.proofs.lemmas.List.{length-map}
 use Rattle.std.proofs.lemmas.List.Concat.{length-flat_map}
-use Rattle.orc_values.specs.Shapes.{Shape, scalar, list_of, map_of, struct_of, Fields, no_field, field, width, widths, shape_at, shape_within}
-use Rattle.orc_values.specs.Types.{starts}
+use Rattle.orc_values.specs.Shapes.{Shape, scalar, list_of, map_of, struct_of, Fields, no_field, field, width, widths, shape_at, shape_within, starts}
 use Rattle.orc_values.specs.Cells.{Cell, parts, values, pairs_in, keys_in, values_in}
 use Rattle.orc_values.specs.Columns.{cells, cells_within}
 use Rattle.orc_values.specs.Fits.{RowsFit}

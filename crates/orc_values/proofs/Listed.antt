@@ -1,7 +1,6 @@
 -- The fields from a place on.
 use Rattle.std.proofs.Common.{◌≡◌, ℕ, suc, ◌+◌, ◌<◌, List, ◌∷◌, length, get_or, drop, string_bytes, refl, ap, drop-cons}
-use Rattle.orc_values.specs.Shapes.{field, width, widths, names_of}
-use Rattle.orc_values.specs.Types.{starts}
+use Rattle.orc_values.specs.Shapes.{field, width, widths, names_of, starts}
 use Rattle.orc_values.specs.Views.{shape, fields}
 use Rattle.orc_values.specs.declared.tree.Field.{Field}
 use Rattle.orc_values.proofs.Views.{name_and_type-is}

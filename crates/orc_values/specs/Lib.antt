@@ -1,6 +1,5 @@
 pub mod Kinds
 pub mod Shapes
-pub mod Types
 pub mod Cells
 pub mod Fits
 pub mod Columns

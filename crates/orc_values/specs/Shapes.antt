@@ -64,6 +64,11 @@ abbrev pub names_of : Fields → List (List ℕ)
 names_of no_field = []
 names_of (field name s fs) = name ∷ names_of fs
 
+-- where the fields' types begin in pre-order, if the first begins at n
+abbrev pub starts : Fields → ℕ → List ℕ
+starts no_field n = []
+starts (field name s fs) n = n ∷ starts fs (n + width s)
+
 -- the type of a column, by the column's number in pre-order
 abbrev mutual
   pub shape_at : Shape → ℕ → Shape

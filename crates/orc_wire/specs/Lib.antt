@@ -21,3 +21,4 @@ pub mod CanonicalMessages
 pub mod EncodingKinds
 pub mod FieldsNext
 pub mod StreamKinds
+pub mod Types

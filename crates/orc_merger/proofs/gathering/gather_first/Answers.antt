@@ -1,15 +1,46 @@
-use Rattle.std.proofs.Common.{inl, inr, [], ◌∷◌, map, refl}
-use Rattle.std.proofs.lemmas.Result.{err_from_is_err_and}
+use Rattle.std.proofs.Common.{◌≡◌, inl, inr, Err, [], ◌∷◌, map, refl, ap}
+use Rattle.std.proofs.Math.Seq.{map-set_same}
+use Rattle.std.proofs.lemmas.Result.{err_from_is_err_and, IfErr-at_err}
 use Rattle.orc_tail.specs.declared.tail.Tail.{Tail}
+use Rattle.orc_merger.specs.declared.fault.MergeFault.{MergeFault}
 use Rattle.orc_merger.specs.SoFar.{IsNext}
-use Rattle.orc_merger.proofs.InputsRead.{no_tails, one_more, open_refused, next_refused, no_memory, no_memory_counted, open_named, no_memory_named}
+use Rattle.orc_merger.proofs.InputsRead.{no_tails, one_more, open_refused, open_counted, next_refused, no_memory, no_memory_counted, open_named, no_memory_named}
 use Rattle.orc_merger.proofs.NextTests.{own_kind, none_merge, end_few, rows_few, first_refused, join_counted, join_named}
 use Rattle.orc_merger.proofs.gathering.gather_first.Goals as goal
+
+pub returns-in_err-tail-clause-told : goal.returns-in_err-tail-clause-told
+returns-in_err-tail-clause-told g c =
+    map-set_same g.S.Source.told c.args.inputs.now 0 c.tail_of.new.input c.index-inputs-0.result c.tail_of.ensures.source.told
+
+pub returns-in_err-tail-clause-sizes : goal.returns-in_err-tail-clause-sizes
+returns-in_err-tail-clause-sizes g c =
+    map-set_same g.S.Source.size c.args.inputs.now 0 c.tail_of.new.input c.index-inputs-0.result c.tail_of.ensures.source.size
+
+pub returns-in_err-add-clause-told : goal.returns-in_err-add-clause-told
+returns-in_err-add-clause-told g c =
+    map-set_same g.S.Source.told c.args.inputs.now 0 c.tail_of.new.input c.index-inputs-0.result c.tail_of.ensures.source.told
+
+pub returns-in_err-add-clause-sizes : goal.returns-in_err-add-clause-sizes
+returns-in_err-add-clause-sizes g c =
+    map-set_same g.S.Source.size c.args.inputs.now 0 c.tail_of.new.input c.index-inputs-0.result c.tail_of.ensures.source.size
+
+pub returns-clause-told : goal.returns-clause-told
+returns-clause-told g c =
+    map-set_same g.S.Source.told c.args.inputs.now 0 c.tail_of.new.input c.index-inputs-0.result c.tail_of.ensures.source.told
+
+pub returns-clause-sizes : goal.returns-clause-sizes
+returns-clause-sizes g c =
+    map-set_same g.S.Source.size c.args.inputs.now 0 c.tail_of.new.input c.index-inputs-0.result c.tail_of.ensures.source.size
 
 pub returns-in_err-tail-clause-refused : goal.returns-in_err-tail-clause-refused
 returns-in_err-tail-clause-refused g c =
     let p = err_from_is_err_and c.from_residual.result c.from_residual.ensures.1 in
     rw (p.1, p.2) (open_refused g.S.Source.told (map g.S.Source.size c.args.inputs.now) c.args.inputs.now 0 c.index-inputs-0.result [] _ c.requires (no_tails _ _) tt c.in_err-tail.ensures.fault)
+
+pub returns-in_err-tail-clause-counted : goal.returns-in_err-tail-clause-counted
+returns-in_err-tail-clause-counted g c =
+    let p = err_from_is_err_and c.from_residual.result c.from_residual.ensures.1 in
+    rw (p.1, p.2) (open_counted g.S.Source.failures c.args.inputs.now 0 c.index-inputs-0.result c.tail_of.new.input _ _ c.requires c.in_err-tail.ensures.fault (λ is. c.in_err-tail.ensures.source.failed (ap Err is)))
 
 pub add-requires-clause-end : goal.add-requires-clause-end
 add-requires-clause-end g c =
@@ -80,6 +111,19 @@ returns-clause-found g c =
       merges = c.in_ok-add.ensures.merges t t [] next;
       gathered = c.in_ok-add.ensures.gathered t t [] next;
     }
+
+pub returns-clause-kept : goal.returns-clause-kept
+returns-clause-kept g c =
+    map-set_same g.S.Source.failures c.args.inputs.now 0 c.tail_of.new.input c.index-inputs-0.result c.in_ok-tail.ensures.source.kept
+
+pub returns-in_err-tail-clause-memory : goal.returns-in_err-tail-clause-memory
+returns-in_err-tail-clause-memory g c =
+    let p = err_from_is_err_and c.from_residual.result c.from_residual.ensures.1 in
+    rw (p.1, p.2) (λ e. map-set_same g.S.Source.failures c.args.inputs.now 0 c.tail_of.new.input c.index-inputs-0.result (c.in_err-tail.ensures.source.memory (IfErr-at_err (λ (x : MergeFault). c.in_err-tail.field-0.0 ≡ x) e refl)))
+
+pub returns-in_err-add-clause-memory : goal.returns-in_err-add-clause-memory
+returns-in_err-add-clause-memory g c = λ e.
+    map-set_same g.S.Source.failures c.args.inputs.now 0 c.tail_of.new.input c.index-inputs-0.result c.in_ok-tail.ensures.source.kept
 
 pub returns-in_err-tail-clause-named : goal.returns-in_err-tail-clause-named
 returns-in_err-tail-clause-named g c =

@@ -62,7 +62,7 @@ returns-clause-same c =
     let gave = c.in_ok-same.ensures.gave in
     let left = first_two_same c.merge_theorem.ensures.alike a b d gave.0 joined.bytes.items joined.tail gave.2 c.in_ok-joined.ensures.wrote in
     let right = last_two_same c.merge_theorem.ensures.alike a b d gave.1 joined.bytes.items joined.tail gave.3 c.in_ok-joined.ensures.wrote in
-    gave.4 (left ∙ sym c.deref.ensures.value) (right ∙ sym c.deref.ensures.value)
+    gave.4.1 (left ∙ sym c.deref.ensures.value, right ∙ sym c.deref.ensures.value)
 
 pub returns-in_err-joined-clause-refused : goal.returns-in_err-joined-clause-refused
 returns-in_err-joined-clause-refused c =

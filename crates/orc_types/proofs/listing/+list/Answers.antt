@@ -1,6 +1,6 @@
 use Rattle.std.proofs.Common.{◌≡◌, ◌+◌, ◌*◌, ◌<◌, ◌++◌, List, [], ◌∷◌, length, refl, sym, ap, ◌∙◌, arith, add-one, append_assoc, length-append}
-use Rattle.orc_values.specs.Shapes.{map_of, width, widths, names_of}
-use Rattle.orc_values.specs.Types.{types, fields_types, starts}
+use Rattle.orc_values.specs.Shapes.{map_of, width, widths, names_of, starts}
+use Rattle.orc_wire.specs.Types.{types, fields_types}
 use Rattle.orc_wire.specs.declared.type_msg.TypeMsg.{TypeMsg}
 use Rattle.orc_values.specs.Views.{shape, fields}
 use Rattle.orc_values.proofs.Views.{shape-Scalar, shape-List, shape-Map, shape-Struct}

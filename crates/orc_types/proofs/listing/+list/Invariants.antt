@@ -1,6 +1,6 @@
 use Rattle.std.proofs.Common.{◌≡◌, ◌+◌, ◌*◌, ◌++◌, drop, length}
 use Rattle.orc_values.specs.Shapes.{width, widths}
-use Rattle.orc_values.specs.Types.{fields_types}
+use Rattle.orc_wire.specs.Types.{fields_types}
 use Rattle.orc_values.specs.Views.{shape, fields}
 use Rattle.orc_types.proofs.listing.+list.Given as goal
 

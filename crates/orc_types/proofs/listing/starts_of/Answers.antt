@@ -1,5 +1,5 @@
 use Rattle.std.proofs.Common.{◌+◌, ◌++◌, [], ◌∷◌, drop, suc, sym, ap, ◌∙◌, arith, add-one, append_assoc}
-use Rattle.orc_values.specs.Types.{starts}
+use Rattle.orc_values.specs.Shapes.{starts}
 use Rattle.orc_values.specs.Views.{fields}
 use Rattle.orc_values.proofs.Listed.{widths_from, starts_from}
 use Rattle.orc_types.proofs.listing.starts_of.Goals as goal

@@ -1,6 +1,5 @@
 use Rattle.std.proofs.Common.{◌≡◌, ◌+◌, ◌++◌, drop}
-use Rattle.orc_values.specs.Shapes.{widths}
-use Rattle.orc_values.specs.Types.{starts}
+use Rattle.orc_values.specs.Shapes.{widths, starts}
 use Rattle.orc_values.specs.Views.{fields}
 use Rattle.orc_types.proofs.listing.starts_of.Given as goal
 

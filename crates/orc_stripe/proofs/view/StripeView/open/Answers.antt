@@ -1,6 +1,6 @@
 use Rattle.std.proofs.Common.{rules, ◌≡◌, ◌+◌, drop, Some, None, sym, ap, ◌∙◌, subst}
 use Rattle.orc_values.specs.Shapes.{width}
-use Rattle.orc_values.specs.Types.{types}
+use Rattle.orc_wire.specs.Types.{types}
 use Rattle.orc_wire.specs.declared.stripe_footer.StripeFooter.{StripeFooter}
 use Rattle.orc_wire.specs.Messages.{stripe_footer}
 use Rattle.orc_wire.specs.Spells.{Spells}
