@@ -12,7 +12,7 @@ use Rattle.orc_types.specs.declared.fault.TypeFault.TheVariants as fault
 use Rattle.orc_values.specs.Shapes.{Shape, scalar, list_of, map_of, struct_of, Fields, no_field, field, depth, depths}
 use Rattle.orc_types.specs.SchemaText.{kind_name, comma, colon, text, fields_text, is_word, AreWords, IsName, IsPlain, ArePlain}
 use Rattle.orc_types.specs.TextFaults.{is_empty, EntersField, Enters, element, key, value, member, Opens}
-use Rattle.orc_types.specs.TextFronts.{IsFront, IsFieldFront, IsFieldsFront, NoFront, NoFieldFront, NoFieldsFront, FrontFaultBy, FrontFault, FieldOpens, FieldFault, FieldsFault}
+use Rattle.orc_types.specs.TextFronts.{IsFront, IsFieldFront, IsFieldsFront, NoFront, NoFieldFront, NoFieldsFront, FrontFaultBy, FrontFault, NoSigned, SignedFault, FieldOpens, FieldFault, FieldsFault}
 use Rattle.orc_types.specs.Preorder.{NameFault}
 use Rattle.orc_values.specs.Views.{fields_of, fields}
 use Rattle.orc_values.specs.declared.tree.Field.{Field}
@@ -76,21 +76,21 @@ kinds_all bytes ks i h left = left (subst (AllByRecursion (NoKind bytes)) (sym (
 behind : (bytes front rest : List ℕ) → bytes ≡ front ++ rest → length rest ≤ length bytes
 behind bytes front rest h = omega (arith, ap length h ∙ length-append front rest)
 
-pub array_front : (bytes inner : List ℕ) (d : ℕ) (s : Shape) (left rest : List ℕ) → 0 < d → bytes ≡ codes "array<" ++ inner → IsFront inner (d - 1) s left → left ≡ codes ">" ++ rest → IsFront bytes d (list_of s []) rest
-array_front bytes inner d s left rest p h found closes =
+pub array_front : (bytes inner : List ℕ) (d : ℕ) (s : Shape) (rest : List ℕ) → 0 < d → bytes ≡ codes "array<" ++ inner → IsFront inner (d - 1) s (codes ">" ++ rest) → IsFront bytes d (list_of s []) rest
+array_front bytes inner d s rest p h found =
     record {
       plain = (refl, found.plain);
       depth = omega (arith, found.depth);
-      spelled = h ∙ ap (λ (r : List ℕ). codes "array<" ++ r) (found.spelled ∙ ap (λ (r : List ℕ). text s ++ r) closes) ∙ sym (array_text s [] rest);
+      spelled = h ∙ ap (λ (r : List ℕ). codes "array<" ++ r) found.spelled ∙ sym (array_text s [] rest);
     }
 
-pub map_front : (bytes inner : List ℕ) (d : ℕ) (s : Shape) (left second : List ℕ) (t : Shape) (last rest : List ℕ) → 0 < d → bytes ≡ codes "map<" ++ inner → IsFront inner (d - 1) s left → left ≡ codes "," ++ second
-    → IsFront second (d - 1) t last → last ≡ codes ">" ++ rest → IsFront bytes d (map_of s t []) rest
-map_front bytes inner d s left second t last rest p h found goes_on more closes =
+pub map_front : (bytes inner : List ℕ) (d : ℕ) (s : Shape) (second : List ℕ) (t : Shape) (rest : List ℕ) → 0 < d → bytes ≡ codes "map<" ++ inner → IsFront inner (d - 1) s (codes "," ++ second)
+    → IsFront second (d - 1) t (codes ">" ++ rest) → IsFront bytes d (map_of s t []) rest
+map_front bytes inner d s second t rest p h found more =
     record {
       plain = (refl, found.plain, more.plain);
       depth = omega (arith, found.depth, more.depth);
-      spelled = h ∙ ap (λ (r : List ℕ). codes "map<" ++ r) (found.spelled ∙ ap (λ (r : List ℕ). text s ++ r) (goes_on ∙ ap (λ (r : List ℕ). codes "," ++ r) (more.spelled ∙ ap (λ (r : List ℕ). text t ++ r) closes))) ∙ sym (map_text s t [] rest);
+      spelled = h ∙ ap (λ (r : List ℕ). codes "map<" ++ r) (found.spelled ∙ ap (λ (r : List ℕ). text s ++ (codes "," ++ r)) more.spelled) ∙ sym (map_text s t [] rest);
     }
 
 pub struct_front : (bytes inner : List ℕ) (d : ℕ) (fs : Fields) (rest : List ℕ) → 0 < d → bytes ≡ codes "struct<" ++ inner → IsFieldsFront inner (d - 1) fs rest → IsFront bytes d (struct_of fs []) rest
@@ -145,53 +145,44 @@ fault_turned a b D E N M fault.RootNotStruct h deep wrong bad = bad
 fault_turned a b D E N M (fault.BadText left) h deep wrong bad = (omega (arith, bad.0), wrong bad.1)
 fault_turned a b D E N M fault.OutOfMemory h deep wrong bad = tt
 
--- why an array is refused for its element
-pub array_fault : (bytes inner : List ℕ) (d : ℕ) (f : TypeFault) → 0 < d → bytes ≡ codes "array<" ++ inner → FrontFault inner (d - 1) f → FrontFault bytes d f
-array_fault bytes inner d f p h =
-    fault_turned inner bytes (Opens inner (d - 1)) (Opens bytes d) (NoFront inner) (NoFront bytes) f (behind bytes (codes "array<") inner h) (enters bytes inner d p (element h))
-    (λ none. no_array bytes inner h (λ s rest plain e. none s (codes ">" ++ rest) plain e))
+-- without a type at the front, there is no type with a sign after it
+pub sign_fault : (bytes sign : List ℕ) (d : ℕ) (f : TypeFault) → FrontFault bytes d f → SignedFault bytes sign d f
+sign_fault bytes sign d f =
+    fault_turned bytes bytes (Opens bytes d) (Opens bytes d) (NoFront bytes) (NoSigned bytes sign) f (omega arith) (λ deep. deep)
+    (λ none s rest plain e. none s (sign ++ rest) plain e)
 
--- no bracket closes the array
-pub open_array : (bytes inner : List ℕ) (levels : ℕ) (s : Shape) (left : List ℕ) → bytes ≡ codes "array<" ++ inner → IsFront inner levels s left → ((rest : List ℕ) → left ≢ codes ">" ++ rest) → (length left ≤ length bytes) × NoFront bytes
-open_array bytes inner levels s left h found goes_on = (
-  omega (arith, behind bytes (codes "array<") inner h, behind inner (text s) left found.spelled),
-  no_array bytes inner h (λ t rest plain e. goes_on rest (one_text s t left (codes ">" ++ rest) found.plain plain (sym found.spelled ∙ e)).1),
+-- the bytes after the type at the front don't begin with the sign
+pub no_sign : (bytes sign : List ℕ) (levels : ℕ) (s : Shape) (left : List ℕ) → IsFront bytes levels s left → ((rest : List ℕ) → left ≢ sign ++ rest) → (length left ≤ length bytes) × NoSigned bytes sign
+no_sign bytes sign levels s left found goes_on = (
+  behind bytes (text s) left found.spelled,
+  λ t rest plain e. goes_on rest (one_text s t left (sign ++ rest) found.plain plain (sym found.spelled ∙ e)).1,
 )
+
+-- why an array is refused for its element
+pub array_fault : (bytes inner : List ℕ) (d : ℕ) (f : TypeFault) → 0 < d → bytes ≡ codes "array<" ++ inner → SignedFault inner (codes ">") (d - 1) f → FrontFault bytes d f
+array_fault bytes inner d f p h =
+    fault_turned inner bytes (Opens inner (d - 1)) (Opens bytes d) (NoSigned inner (codes ">")) (NoFront bytes) f (behind bytes (codes "array<") inner h) (enters bytes inner d p (element h))
+    (no_array bytes inner h)
 
 -- why a map is refused for its key
-pub key_fault : (bytes inner : List ℕ) (d : ℕ) (f : TypeFault) → 0 < d → bytes ≡ codes "map<" ++ inner → FrontFault inner (d - 1) f → FrontFault bytes d f
+pub key_fault : (bytes inner : List ℕ) (d : ℕ) (f : TypeFault) → 0 < d → bytes ≡ codes "map<" ++ inner → SignedFault inner (codes ",") (d - 1) f → FrontFault bytes d f
 key_fault bytes inner d f p h =
-    fault_turned inner bytes (Opens inner (d - 1)) (Opens bytes d) (NoFront inner) (NoFront bytes) f (behind bytes (codes "map<") inner h) (enters bytes inner d p (key h))
-    (λ none. no_map bytes inner h (λ s t rest is_s is_t e. none s (codes "," ++ (text t ++ (codes ">" ++ rest))) is_s e))
-
--- no comma stands behind the key
-pub open_key : (bytes inner : List ℕ) (levels : ℕ) (s : Shape) (left : List ℕ) → bytes ≡ codes "map<" ++ inner → IsFront inner levels s left → ((rest : List ℕ) → left ≢ codes "," ++ rest) → (length left ≤ length bytes) × NoFront bytes
-open_key bytes inner levels s left h found goes_on = (
-  omega (arith, behind bytes (codes "map<") inner h, behind inner (text s) left found.spelled),
-  no_map bytes inner h (λ t u rest is_t is_u e. goes_on (text u ++ (codes ">" ++ rest)) (one_text s t left (codes "," ++ (text u ++ (codes ">" ++ rest))) found.plain is_t (sym found.spelled ∙ e)).1),
-)
+    fault_turned inner bytes (Opens inner (d - 1)) (Opens bytes d) (NoSigned inner (codes ",")) (NoFront bytes) f (behind bytes (codes "map<") inner h) (enters bytes inner d p (key h))
+    (λ none. no_map bytes inner h (λ s t rest is_s is_t e. none s (text t ++ (codes ">" ++ rest)) is_s e))
 
 -- what stands behind the comma is a map's, as the key is the map's
-second_same : (inner left second : List ℕ) (levels : ℕ) (s t u : Shape) (rest : List ℕ) → IsFront inner levels s left → left ≡ codes "," ++ second → IsPlain t → inner ≡ text t ++ (codes "," ++ (text u ++ (codes ">" ++ rest)))
+second_same : (inner second : List ℕ) (levels : ℕ) (s t u : Shape) (rest : List ℕ) → IsFront inner levels s (codes "," ++ second) → IsPlain t → inner ≡ text t ++ (codes "," ++ (text u ++ (codes ">" ++ rest)))
     → second ≡ text u ++ (codes ">" ++ rest)
-second_same inner left second levels s t u rest found e is_t h =
-    append_cancel_left (codes ",") second (text u ++ (codes ">" ++ rest)) (sym e ∙ (one_text s t left (codes "," ++ (text u ++ (codes ">" ++ rest))) found.plain is_t (sym found.spelled ∙ h)).1)
+second_same inner second levels s t u rest found is_t h =
+    append_cancel_left (codes ",") second (text u ++ (codes ">" ++ rest)) (one_text s t (codes "," ++ second) (codes "," ++ (text u ++ (codes ">" ++ rest))) found.plain is_t (sym found.spelled ∙ h)).1
 
 -- why a map is refused for its value
-pub value_fault : (bytes inner left second : List ℕ) (d : ℕ) (s : Shape) (f : TypeFault) → 0 < d → bytes ≡ codes "map<" ++ inner → IsFront inner (d - 1) s left → left ≡ codes "," ++ second → FrontFault second (d - 1) f → FrontFault bytes d f
-value_fault bytes inner left second d s f p h found e =
-    fault_turned second bytes (Opens second (d - 1)) (Opens bytes d) (NoFront second) (NoFront bytes) f
-    (omega (arith, behind bytes (codes "map<") inner h, behind inner (text s) left found.spelled, behind left (codes ",") second e))
-    (enters bytes second d p (value s found.plain (h ∙ ap (λ (r : List ℕ). codes "map<" ++ r) (found.spelled ∙ ap (λ (r : List ℕ). text s ++ r) e))))
-    (λ none. no_map bytes inner h (λ t u rest is_t is_u g. none u (codes ">" ++ rest) is_u (second_same inner left second (d - 1) s t u rest found e is_t g)))
-
--- no bracket closes the map
-pub open_map : (bytes inner left second : List ℕ) (levels : ℕ) (s v : Shape) (last : List ℕ) → bytes ≡ codes "map<" ++ inner → IsFront inner levels s left → left ≡ codes "," ++ second → IsFront second levels v last
-    → ((rest : List ℕ) → last ≢ codes ">" ++ rest) → (length last ≤ length bytes) × NoFront bytes
-open_map bytes inner left second levels s v last h found e more goes_on = (
-  omega (arith, behind bytes (codes "map<") inner h, behind inner (text s) left found.spelled, behind left (codes ",") second e, behind second (text v) last more.spelled),
-  no_map bytes inner h (λ t u rest is_t is_u g. goes_on rest (one_text v u last (codes ">" ++ rest) more.plain is_u (sym more.spelled ∙ second_same inner left second levels s t u rest found e is_t g)).1),
-)
+pub value_fault : (bytes inner second : List ℕ) (d : ℕ) (s : Shape) (f : TypeFault) → 0 < d → bytes ≡ codes "map<" ++ inner → IsFront inner (d - 1) s (codes "," ++ second) → SignedFault second (codes ">") (d - 1) f → FrontFault bytes d f
+value_fault bytes inner second d s f p h found =
+    fault_turned second bytes (Opens second (d - 1)) (Opens bytes d) (NoSigned second (codes ">")) (NoFront bytes) f
+    (omega (arith, behind bytes (codes "map<") inner h, behind inner (text s) (codes "," ++ second) found.spelled, behind (codes "," ++ second) (codes ",") second refl))
+    (enters bytes second d p (value s found.plain (h ∙ ap (λ (r : List ℕ). codes "map<" ++ r) found.spelled)))
+    (λ none. no_map bytes inner h (λ t u rest is_t is_u g. none u rest is_u (second_same inner second (d - 1) s t u rest found is_t g)))
 
 -- why a struct is refused for its fields
 pub struct_fault : (bytes inner : List ℕ) (d : ℕ) (f : TypeFault) → 0 < d → bytes ≡ codes "struct<" ++ inner → FieldsFault inner (d - 1) f → FrontFault bytes d f

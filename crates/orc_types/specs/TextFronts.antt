@@ -55,6 +55,14 @@ FrontFaultBy bytes deep wrong _ = ⊥
 abbrev pub FrontFault : List ℕ → ℕ → TypeFault → Type 0
 FrontFault bytes levels f = FrontFaultBy bytes (Opens bytes levels) (NoFront bytes) f
 
+-- the bytes don't begin with a type's text and this sign after it
+abbrev pub NoSigned : List ℕ → List ℕ → Type 0
+NoSigned bytes sign = (s : Shape) (rest : List ℕ) → IsPlain s → bytes ≡ text s ++ (sign ++ rest) → ⊥
+
+-- why the bytes don't begin with a type of at most this many levels and the sign after it
+abbrev pub SignedFault : List ℕ → List ℕ → ℕ → TypeFault → Type 0
+SignedFault bytes sign levels f = FrontFaultBy bytes (Opens bytes levels) (NoSigned bytes sign) f
+
 -- the name and the colon of a field, whose type goes deeper
 pub record FieldOpens (bytes : List ℕ) (first : Bool) (levels : ℕ) : Type 0 where
   pub name : List ℕ

@@ -65,31 +65,79 @@ fn map_msg(alloc: Global, next: usize, width: usize, kept: &[u8]) -> Result<Type
     type_msg(alloc, MAP, subtypes, Vec::new(alloc), kept)
 }
 
+/// Adds one type, made of these parts.
+fn push_type(
+    alloc: Global,
+    types: &mut Vec<TypeMsg>,
+    kind: u32,
+    subtypes: Vec<u32>,
+    names: Vec<Bytes>,
+    kept: &[u8],
+) -> Result<(), AllocError>
+    ensures { OnOk result (types.new.items ≡ types.old.items
+        ++ record { kind = kind; subtypes = subtypes.items; field_names = names.items; kept = kept.now } ∷ []) }
+{
+    types.push(type_msg(alloc, kind, subtypes, names, kept)?)?;
+    Ok(())
+}
+
+/// Adds a list's type. Its element's types follow it.
+fn push_list(alloc: Global, types: &mut Vec<TypeMsg>, kept: &[u8]) -> Result<(), AllocError>
+    requires { length types.old.items + 1 < 2 ^ 32 }
+    ensures { OnOk result (types.new.items ≡ types.old.items
+        ++ record { kind = 10; subtypes = (length types.old.items + 1) ∷ []; field_names = []; kept = kept.now } ∷ []) }
+{
+    let next = types.len() + 1;
+    let subtypes = [next as u32].to_vec(alloc)?;
+    push_type(alloc, types, LIST, subtypes, Vec::new(alloc), kept)
+}
+
+/// Adds a struct's type. Its fields' types follow it.
+fn push_struct(
+    alloc: Global,
+    types: &mut Vec<TypeMsg>,
+    fields: &[Field],
+    kept: &[u8],
+) -> Result<(), AllocError>
+    requires { length types.old.items + (1 + widths (fields_view fields.now)) < 2 ^ 32 }
+    ensures { OnOk result (types.new.items ≡ types.old.items
+        ++ record {
+          kind = 12;
+          subtypes = spec_starts (fields_view fields.now) (length types.old.items + 1);
+          field_names = spec_names (fields_view fields.now);
+          kept = kept.now;
+        } ∷ []) }
+{
+    let next = types.len() + 1;
+    let subtypes = starts_of(alloc, fields, next)?;
+    let names = names_of(alloc, fields)?;
+    push_type(alloc, types, STRUCT, subtypes, names, kept)
+}
+
 /// Adds the types of a tree, in pre-order.
 #[cycle(list)]
 fn list_tree(alloc: Global, types: &mut Vec<TypeMsg>, tree: &Tree) -> Result<(), AllocError>
     requires { length types.old.items + width (shape tree.now) < 2 ^ 32 }
     ensures { OnOk result (types.new.items ≡ types.old.items ++ spec_types (shape tree.now) (length types.old.items)) }
 {
-    let next = types.len() + 1;
     match tree {
         Tree::Scalar(kind, kept) => {
-            types.push(type_msg(alloc, kind.number(), Vec::new(alloc), Vec::new(alloc), kept)?)?;
-            Ok(())
+            push_type(
+                alloc,
+                types,
+                kind.number(),
+                Vec::new(alloc),
+                Vec::new(alloc),
+                kept,
+            )
         }
         Tree::List(element, kept) => {
-            let subtypes = [next as u32].to_vec(alloc)?;
-            types.push(type_msg(alloc, LIST, subtypes, Vec::new(alloc), kept)?)?;
+            push_list(alloc, types, kept)?;
             list_tree(alloc, types, element)
         }
-        Tree::Map(key, value, kept) => {
-            list_map(alloc, types, key, value, kept)?;
-            Ok(())
-        }
+        Tree::Map(key, value, kept) => list_map(alloc, types, key, value, kept),
         Tree::Struct(fields, kept) => {
-            let subtypes = starts_of(alloc, fields, next)?;
-            let names = names_of(alloc, fields)?;
-            types.push(type_msg(alloc, STRUCT, subtypes, names, kept)?)?;
+            push_struct(alloc, types, fields, kept)?;
             list_fields(alloc, types, fields)
         }
     }

@@ -90,32 +90,27 @@ fn subtree(
         return Err(TypeFault::TooDeep);
     }
     let next = at + 1;
+    let kept = copy_bytes(alloc, t.kept.as_slice())?;
     if t.kind == LIST {
         if !has_one_subtype(t, next) {
             return Err(TypeFault::BadTree);
         }
-        let (element, end) = subtree(alloc, types, next, levels - 1)?;
-        let kept = copy_bytes(alloc, t.kept.as_slice())?;
-        return Ok((Tree::List(Box::new(alloc, element)?, kept), end));
+        let (element, end) = boxed_subtree(alloc, types, next, levels - 1)?;
+        return Ok((Tree::List(element, kept), end));
     }
     if t.kind == MAP {
         if !has_key_at(t, next) {
             return Err(TypeFault::BadTree);
         }
-        let (key, middle) = subtree(alloc, types, next, levels - 1)?;
+        let (key, middle) = boxed_subtree(alloc, types, next, levels - 1)?;
         if !has_value_at(t, middle) {
             return Err(TypeFault::BadTree);
         }
-        let (value, end) = subtree(alloc, types, middle, levels - 1)?;
-        let kept = copy_bytes(alloc, t.kept.as_slice())?;
-        return Ok((
-            Tree::Map(Box::new(alloc, key)?, Box::new(alloc, value)?, kept),
-            end,
-        ));
+        let (value, end) = boxed_subtree(alloc, types, middle, levels - 1)?;
+        return Ok((Tree::Map(key, value, kept), end));
     }
     if t.kind == STRUCT {
         let (fields, end) = subtree_fields(alloc, types, t, next, levels - 1)?;
-        let kept = copy_bytes(alloc, t.kept.as_slice())?;
         return Ok((Tree::Struct(fields, kept), end));
     }
     let Some(kind) = Scalar::from_number(t.kind) else {
@@ -124,8 +119,22 @@ fn subtree(
     if !has_no_subtype(t) {
         return Err(TypeFault::BadTree);
     }
-    let kept = copy_bytes(alloc, t.kept.as_slice())?;
     Ok((Tree::Scalar(kind, kept), next))
+}
+
+/// Reads the tree whose types begin at a place. Returns it in a box, and the place after its types.
+#[cycle(subtree)]
+fn boxed_subtree(
+    alloc: Global,
+    types: &[TypeMsg],
+    at: usize,
+    levels: u32,
+) -> Result<(Box<Tree>, usize), TypeFault>
+    ensures found { IfOk result (λ found. Found types.now at levels (shape found.0.value) found.1) }
+    ensures fault { IfErr result (PlaceFault types.now at levels) }
+{
+    let (tree, end) = subtree(alloc, types, at, levels)?;
+    Ok((Box::new(alloc, tree)?, end))
 }
 
 /// The fields of a struct, whose types begin at a place, and where they end.

@@ -4,7 +4,7 @@ ghost use Rattle.orc_values.specs.Shapes.{Shape, IsStruct};
 ghost use Rattle.orc_types.specs.SchemaText as spec;
 ghost use Rattle.orc_types.specs.SchemaText.{HasText};
 ghost use Rattle.orc_types.specs.TextFaults.{TextFault};
-ghost use Rattle.orc_types.specs.TextFronts.{IsFront, IsFieldFront, IsFieldsFront, FrontFault, FieldFault, FieldsFault};
+ghost use Rattle.orc_types.specs.TextFronts.{IsFront, IsFieldFront, IsFieldsFront, FrontFault, SignedFault, FieldFault, FieldsFault};
 ghost use Rattle.orc_values.specs.declared.kind.Scalar.{Scalar};
 ghost use Rattle.orc_values.specs.Views.{shape, fields as fields_view};
 ghost use Rattle.orc_types.specs.declared.fault.TypeFault.TheVariants.{OutOfMemory};
@@ -104,29 +104,23 @@ fn put_tree(text: &mut String, tree: &Tree) -> Result<(), AllocError>
     ensures { OnOk result (string_bytes text.new ≡ string_bytes text.old ++ spec.text (shape tree.now)) }
 {
     match tree {
-        Tree::Scalar(kind, _) => {
-            add(text, kind_name(*kind))?;
-            Ok(())
-        }
+        Tree::Scalar(kind, _) => { add(text, kind_name(*kind)) }
         Tree::List(element, _) => {
             add(text, "array<")?;
             put_tree(text, element)?;
-            add(text, ">")?;
-            Ok(())
+            add(text, ">")
         }
         Tree::Map(key, value, _) => {
             add(text, "map<")?;
             put_tree(text, key)?;
             add(text, ",")?;
             put_tree(text, value)?;
-            add(text, ">")?;
-            Ok(())
+            add(text, ">")
         }
         Tree::Struct(fields, _) => {
             add(text, "struct<")?;
             put_fields(text, fields)?;
-            add(text, ">")?;
-            Ok(())
+            add(text, ">")
         }
     }
 }
@@ -145,8 +139,7 @@ fn put_field(text: &mut String, first: bool, field: &Field) -> Result<(), AllocE
     }
     add(text, field.name.as_str())?;
     add(text, ":")?;
-    put_tree(text, &field.tree)?;
-    Ok(())
+    put_tree(text, &field.tree)
 }
 
 /// Adds the text of the fields.
@@ -231,32 +224,13 @@ fn tree_from<'t>(alloc: Global, text: &'t [u8], levels: u32) -> Result<(Tree, &'
         return Err(TypeFault::TooDeep);
     }
     if let Some(inner) = text_behind(text, "array<") {
-        let (element, rest) = tree_from(alloc, inner, levels - 1)?;
-        let Some(outer) = text_behind(rest, ">") else {
-            return Err(TypeFault::BadText(rest.len()));
-        };
-        return Ok((
-            Tree::List(Box::new(alloc, element)?, Vec::new(alloc)),
-            outer,
-        ));
+        let (element, rest) = tree_before(alloc, inner, ">", levels - 1)?;
+        return Ok((Tree::List(element, Vec::new(alloc)), rest));
     }
     if let Some(inner) = text_behind(text, "map<") {
-        let (key, rest) = tree_from(alloc, inner, levels - 1)?;
-        let Some(second) = text_behind(rest, ",") else {
-            return Err(TypeFault::BadText(rest.len()));
-        };
-        let (value, rest) = tree_from(alloc, second, levels - 1)?;
-        let Some(outer) = text_behind(rest, ">") else {
-            return Err(TypeFault::BadText(rest.len()));
-        };
-        return Ok((
-            Tree::Map(
-                Box::new(alloc, key)?,
-                Box::new(alloc, value)?,
-                Vec::new(alloc),
-            ),
-            outer,
-        ));
+        let (key, second) = tree_before(alloc, inner, ",", levels - 1)?;
+        let (value, rest) = tree_before(alloc, second, ">", levels - 1)?;
+        return Ok((Tree::Map(key, value, Vec::new(alloc)), rest));
     }
     if let Some(inner) = text_behind(text, "struct<") {
         let (fields, rest) = fields_from(alloc, inner, levels - 1)?;
@@ -266,6 +240,25 @@ fn tree_from<'t>(alloc: Global, text: &'t [u8], levels: u32) -> Result<(Tree, &'
         return Err(TypeFault::BadText(text.len()));
     };
     Ok((Tree::Scalar(kind, Vec::new(alloc)), rest))
+}
+
+/// Reads the type at the front and the sign after it. Returns the type, in a box, and the bytes after the sign.
+#[cycle(front)]
+fn tree_before<'t>(
+    alloc: Global,
+    text: &'t [u8],
+    sign: &str,
+    levels: u32,
+) -> Result<(Box<Tree>, &'t [u8]), TypeFault>
+    ensures found { IfOk result (λ found. IsFront text.now levels (shape found.0.value) (sign.now ++ found.1.now)) }
+    ensures fault { IfErr result (SignedFault text.now sign.now levels) }
+{
+    let (tree, left) = tree_from(alloc, text, levels)?;
+    let tree = Box::new(alloc, tree)?;
+    match text_behind(left, sign) {
+        Some(rest) => Ok((tree, rest)),
+        None => Err(TypeFault::BadText(left.len())),
+    }
 }
 
 /// The field whose text stands in front, and the rest.
